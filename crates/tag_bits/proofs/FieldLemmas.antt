@@ -1,10 +1,9 @@
 -- A field of bytes, from the octets that it touches.
-use Rattle.std.proofs.Common.{◌≡◌, ℕ, suc, ◌+◌, ◌-◌, ◌*◌, ◌/◌, ◌%◌, ◌^◌, ◌<◌, ◌≤◌, Bool, List, [], ◌∷◌, ◌++◌, length, take, drop, refl, sym, ap, subst, ◌∙◌, arith, length-append, append_assoc, add-one, add-zero, bit_and, bit_or, get_or, set}
-use Rattle.std.proofs.Math.Nat.{pow-le-pow_right}
+use Rattle.std.proofs.Common.{◌≡◌, ℕ, suc, ◌+◌, ◌-◌, ◌*◌, ◌/◌, ◌%◌, ◌^◌, ◌<◌, ◌≤◌, Bool, List, ◌∷◌, ◌++◌, length, take, drop, sym, ap, subst, ◌∙◌, arith, length-append, append_assoc, add-one, add-zero, bit_and, bit_or, get_or, set}
 use Rattle.std.proofs.Math.Pow.{mod-mod-pow}
 use Rattle.std.proofs.Math.Seq.{take-add}
 use Rattle.std.proofs.lemmas.List.{length-take, length-drop, drop-take, drop-drop, set_split, get_or-drop}
-use Rattle.std.proofs.lemmas.Nat.{shr_below, mod_below, pow_pos, pow-add, and_mask, or_mod, or_shifted, shl_whole}
+use Rattle.std.proofs.lemmas.Nat.{shr_below, and_mask, or_mod, or_shifted, shl_whole}
 use Rattle.std.proofs.lemmas.Nat.Bits.{ones_shr}
 use Rattle.std.proofs.lemmas.Slice.{take-put_mid, drop-put_mid}
 use Rattle.tag_bits.specs.Digits.{value, digits, digits_of_bytes, field, with_field}

@@ -1,7 +1,6 @@
 -- Octets read into one number, and written from one.
 use Rattle.std.proofs.Common.{◌≡◌, ℕ, ◌+◌, ◌-◌, ◌*◌, ◌/◌, ◌%◌, ◌^◌, ◌<◌, ◌≤◌, Bool, List, [], ◌∷◌, ◌++◌, length, take, drop, refl, sym, ap, subst, ◌∙◌, arith, append-nil, bit_and, bit_or, get_or, set}
 use Rattle.std.proofs.Math.Nat.{pow-le-pow_right}
-use Rattle.std.proofs.Math.Seq.{take-add}
 use Rattle.std.proofs.lemmas.List.{length-take, take_more, take-append-drop, drop-drop, drop-set, drop_all}
 use Rattle.std.proofs.lemmas.Nat.{shr-shr, and_mask, or_shifted, shl_whole}
 use Rattle.tag_bits.specs.Digits.{value, digits, digits_of_bytes, field}

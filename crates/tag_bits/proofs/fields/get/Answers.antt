@@ -1,5 +1,4 @@
-use Rattle.std.proofs.Common.{◌≡◌, arith, sym, get_or, take, drop, ◌-◌, ◌∙◌, ap}
-use Rattle.tag_bits.specs.Digits.{value, digits_of_bytes, field}
+use Rattle.std.proofs.Common.{arith}
 use Rattle.tag_bits.proofs.FieldLemmas.{gathered, gathered_value, digits_of_field, field_below}
 use Rattle.tag_bits.proofs.fields.get.Goals as goal
 

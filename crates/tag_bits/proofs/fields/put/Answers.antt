@@ -1,7 +1,5 @@
-use Rattle.std.proofs.Common.{◌≡◌, ◌<◌, ◌-◌, ◌^◌, ◌*◌, ◌%◌, length, take, drop, get_or, arith, ◌∙◌, length-take, length-drop}
-use Rattle.tag_bits.specs.Digits.{digits, digits_of_bytes, with_field}
+use Rattle.std.proofs.Common.{◌≡◌, ◌<◌, ◌-◌, ◌^◌, length, take, drop, get_or, arith, ◌∙◌, length-take, length-drop}
 use Rattle.tag_bits.proofs.FieldLemmas.{put_in_octet, put_over_octets, upper, upper_fits}
-use Rattle.tag_bits.proofs.WordLemmas.{mask_is}
 use Rattle.tag_bits.proofs.fields.put.Goals as goal
 
 pub fill-requires : goal.fill-requires
