@@ -1,13 +1,13 @@
 -- A field of bytes, from the octets that it touches.
-use Rattle.std.proofs.Common.{◌≡◌, ℕ, suc, ◌+◌, ◌-◌, ◌*◌, ◌/◌, ◌%◌, ◌^◌, ◌<◌, ◌≤◌, Bool, List, ◌∷◌, ◌++◌, length, take, drop, sym, ap, subst, ◌∙◌, arith, length-append, append_assoc, add-one, add-zero, bit_and, bit_or, get_or, set}
+use Rattle.std.proofs.Common.{◌≡◌, ℕ, suc, ◌+◌, ◌-◌, ◌*◌, ◌/◌, ◌%◌, ◌^◌, ◌<◌, ◌≤◌, Bool, List, ◌∷◌, ◌++◌, length, take, drop, refl, sym, ap, subst, ◌∙◌, arith, length-append, append_assoc, add-one, add-zero, bit_and, bit_or, get_or, set}
 use Rattle.std.proofs.Math.Pow.{mod-mod-pow}
 use Rattle.std.proofs.Math.Seq.{take-add}
-use Rattle.std.proofs.lemmas.List.{length-take, length-drop, drop-take, drop-drop, set_split, get_or-drop}
+use Rattle.std.proofs.lemmas.List.{length-take, length-drop, drop-take, take-take, drop-drop, set_split, get_or-drop}
 use Rattle.std.proofs.lemmas.Nat.{shr_below, and_mask, or_mod, or_shifted, shl_whole}
 use Rattle.std.proofs.lemmas.Nat.Bits.{ones_shr}
 use Rattle.std.proofs.lemmas.Slice.{take-put_mid, drop-put_mid}
 use Rattle.tag_bits.specs.Digits.{value, digits, digits_of_bytes, field, with_field}
-use Rattle.tag_bits.proofs.ByteLemmas.{length-bytes, bytes-cons, bytes-append, take_within, drop_within}
+use Rattle.tag_bits.proofs.ByteLemmas.{length-bytes, bytes-cons, bytes-append, take-bytes, drop-bytes, take_within, drop_within}
 use Rattle.tag_bits.proofs.DigitLemmas.{length-digits, value-digits, value-below, value-append, digits_from, digits-join, digits-split, take-digits, value-drop, drop-seam}
 use Rattle.tag_bits.proofs.WordLemmas.{two_below, mask_is}
 use borrow.Rule.Slice.PartMut.{put_mid}
@@ -202,3 +202,26 @@ put_over_octets bs ys first before last kept place width value octet start end o
     ∙ ap (λ (x : List ℕ). (digits_of_bytes (take first bs) ++ (take before (digits 8 (get_or bs first 0)) ++ high)) ++ (digits 8 octet ++ digits_of_bytes x)) rest
     ∙ ap (λ (x : List Bool). (digits_of_bytes (take first bs) ++ (take before (digits 8 (get_or bs first 0)) ++ high)) ++ (x ++ digits_of_bytes (drop (last + 1) bs))) own
     ∙ rw (front, back, split) (simp append_assoc)
+
+-- a field that lies within some octets is theirs
+pub field_within : (bs : List ℕ) (first count before place width : ℕ) → 8 * first + before ≡ place → before + width ≤ 8 * count → first + count ≤ length bs
+    → field (digits_of_bytes (take count (drop first bs))) before width ≡ field (digits_of_bytes bs) place width
+field_within bs first count before place width start few room =
+    let rest = digits_of_bytes (drop first bs) in
+    let total : before + (8 * count - before) ≡ 8 * count = omega arith in
+    ap (λ (x : List Bool). field x before width) (sym (take-bytes count (drop first bs) (omega (arith, length-drop first bs))))
+    ∙ ap (λ (k : ℕ). take width (drop before (take k rest))) (sym total)
+    ∙ ap (λ (x : List Bool). take width x) (drop-take before (8 * count - before) rest)
+    ∙ take-take width (8 * count - before) (drop before rest) (omega arith)
+    ∙ ap (λ (x : List Bool). take width (drop before x)) (sym (drop-bytes first bs (omega arith)))
+    ∙ ap (λ (x : List Bool). take width x) (drop-drop before (8 * first) (digits_of_bytes bs))
+    ∙ ap (λ (k : ℕ). field (digits_of_bytes bs) k width) start
+
+-- eight octets spell a number of 64 bits, and it has their digits
+pub eight_below : (bs : List ℕ) → length bs ≡ 8 → value (digits_of_bytes bs) < 2 ^ 64
+eight_below bs l =
+    let long : length (digits_of_bytes bs) ≡ 64 = omega (arith, length-bytes bs) in
+    subst (λ (k : ℕ). value (digits_of_bytes bs) < 2 ^ k) long (value-below (digits_of_bytes bs))
+
+pub eight_digits : (bs : List ℕ) → length bs ≡ 8 → digits 64 (value (digits_of_bytes bs)) ≡ digits_of_bytes bs
+eight_digits bs l = digits_from 64 (value (digits_of_bytes bs)) (digits_of_bytes bs) (omega (arith, length-bytes bs)) refl

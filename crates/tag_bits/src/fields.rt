@@ -4,6 +4,7 @@ ghost use Rattle.std.specs.Prelude.{◌≡◌, ℕ, ◌+◌, ◌*◌, ◌^◌, �
 ghost use Rattle.tag_bits.specs.Digits.{value, digits, digits_of_bytes, field, with_field};
 
 use crate::octets::{fill, number_of};
+use crate::parts::{part_of, with_part};
 
 /// The octets of a field: it begins at bit `before` of the octet `first`, and the octet `last` has its
 /// last bits, up to its bit `kept`.
@@ -47,25 +48,26 @@ pub fn get(bytes: &[u8], place: usize, width: u32) -> u128
 {
     let Span {
         first,
+        before,
         last,
         kept,
-        ..
     } = span_of(place, width);
+    // Most fields lie within eight octets, which are read as one.
+    if width <= 56 && first + 8 <= bytes.len() {
+        return part_of(number_of(&bytes[first..first + 8]), 64, before, width);
+    }
     let whole = number_of(&bytes[first..last]);
     let part = bytes[last] as u128 >> (8 - kept);
     (whole << kept | part) & (u128::MAX >> (128 - width))
 }
 
 /// The octet with `value` over its `width` bits from bit `place` on.
-fn octet_with(octet: u8, place: u32, width: u32, value: u8) -> u8
+fn octet_with(octet: u8, place: u32, width: u32, value: u128) -> u8
     requires within { place + width ≤ 8 }
     requires fits { value < 2 ^ width }
     ensures { digits 8 result ≡ with_field (digits 8 octet) place (digits width value) }
 {
-    let rest = 8 - place - width;
-    let above = octet as u32 >> rest >> width;
-    let below = octet as u32 & ((1 << rest) - 1);
-    ((above << width | value as u32) << rest | below) as u8
+    with_part(octet as u128, 8, place, width, value) as u8
 }
 
 /// Makes the `width` bits from bit `place` on those of `value`, and leaves all others; bit 0 is the
@@ -84,14 +86,14 @@ pub fn put(bytes: &mut [u8], place: usize, width: u32, value: u128)
         kept,
     } = span_of(place, width);
     if first == last {
-        bytes[last] = octet_with(bytes[last], before, width, value as u8);
+        bytes[last] = octet_with(bytes[last], before, width, value);
     } else {
         let ahead = bytes[first] as u128 >> (8 - before);
         fill(
             &mut bytes[first..last],
             ahead << (width - kept) | value >> kept,
         );
-        bytes[last] = octet_with(bytes[last], 0, kept, (value & ((1 << kept) - 1)) as u8);
+        bytes[last] = octet_with(bytes[last], 0, kept, value & ((1 << kept) - 1));
     }
 }
 

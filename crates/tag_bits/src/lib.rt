@@ -4,6 +4,7 @@
 pub mod fields;
 pub mod laws;
 mod octets;
+mod parts;
 pub mod word;
 
 pub use fields::{get, put};
