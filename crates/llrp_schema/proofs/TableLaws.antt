@@ -2,15 +2,18 @@
 use Rattle.std.proofs.Common.{◌≡◌, ℕ, ◌<◌, ◌≤◌, ◌%◌, ◌^◌, ◌-◌, ◌↔◌, Bool, true, false, not, ◌&&◌, ◌||◌, List, [], ◌∷◌, Option, Some, None, IfSome, cond, length, find, filter, nat_eq, nat_lt, nat_le, ◌==◌, refl, sym, ap, ◌∙◌, eq-eqb, eqb-true, codes}
 use Rattle.std.proofs.lemmas.Option.{same_Some, none-some}
 use Rattle.std.proofs.lemmas.Bool.{and_parts, ltb-true, leb-true}
+use Rattle.std.proofs.lemmas.List.Elements.{All-contains}
 use Rattle.std.specs.List.{list_all, All, AllPairs, Contains}
 use Rattle.std.specs.Cmp.Lexicographic.{pointwise, same_text}
 use Rattle.llrp_schema.specs.declared.kinds.MsgKind.{MsgKind}
 use Rattle.llrp_schema.specs.declared.kinds.MsgKind.TheVariants.{SetReaderConfig}
 use Rattle.llrp_schema.specs.declared.kinds.ParamKind.{ParamKind}
-use Rattle.llrp_schema.specs.declared.kinds.ParamKind.TheVariants.{AntennaId}
+use Rattle.llrp_schema.specs.declared.kinds.ParamKind.TheVariants.{AntennaId, EpcData}
+use Rattle.llrp_schema.specs.declared.kinds.Tail.{Tail}
+use Rattle.llrp_schema.specs.declared.kinds.Tail.TheVariants.{Absent, Words, Text, Bits}
 use Rattle.llrp_schema.specs.declared.kinds.Kind.{Kind}
 use Rattle.llrp_schema.specs.declared.kinds.Kind.TheVariants.{Message, Parameter}
-use Rattle.llrp_schema.specs.Schema.{FieldRule, KindRule, number_of, name_of, fields_of, tail_of, groups_of, rule_of, message_rule, param_rule, message_kinds, param_kinds, is_tv, message_with_number, tlv_with_number, tv_with_number, message_with_name, param_with_name, bits_of, plain_fields_of}
+use Rattle.llrp_schema.specs.Schema.{FieldRule, GroupRule, KindRule, field, number_of, name_of, fields_of, tail_of, groups_of, rule_of, message_rule, param_rule, message_kinds, param_kinds, is_tv, message_with_number, tlv_with_number, tv_with_number, message_with_name, param_with_name, bits_of, plain_fields_of}
 use Rattle.llrp_schema.proofs.SchemaLemmas.{find-all, find-passes, list_all-filter, not_true, implied, same_split, All-from_list_all, AllPairs-from_pairs_all, pairs_all}
 
 -- a message is found at its number
@@ -194,3 +197,108 @@ signed_fields = every_field (λ field. not field.signed || (not field.reserved &
         let parts = and_parts (not field.reserved) (nat_eq field.width 8 && nat_eq field.greatest 255) all in
         let numbers = and_parts (nat_eq field.width 8) (nat_eq field.greatest 255) parts.1 in
         (not_true field.reserved parts.0, eqb-true field.width 8 numbers.0, eqb-true field.greatest 255 numbers.1)
+
+-- whether the fields are one alone, which is plain and of which every value is lawful
+abbrev is_one_plain : List FieldRule → Bool
+is_one_plain [] = false
+is_one_plain (field ∷ []) = not field.reserved && nat_eq field.greatest (2 ^ field.width - 1)
+is_one_plain (field ∷ other ∷ more) = false
+
+one_plain : (fields : List FieldRule) → is_one_plain fields ≡ true → (field : FieldRule) × (fields ≡ field ∷ []) × (field.reserved ≡ false) × (field.greatest ≡ 2 ^ field.width - 1)
+one_plain [] test = cc test
+one_plain (field ∷ []) test = let parts = and_parts (not field.reserved) (nat_eq field.greatest (2 ^ field.width - 1)) test in (field, refl, not_true field.reserved parts.0, eqb-true field.greatest (2 ^ field.width - 1) parts.1)
+one_plain (field ∷ other ∷ more) test = cc test
+
+-- a parameter with a type and a value alone has one field, which is plain, and whose values are all lawful
+pub tv_field : (kind : ParamKind) → is_tv kind ≡ true → (field : FieldRule) × (fields_of (Parameter kind) ≡ field ∷ []) × (field.reserved ≡ false) × (field.greatest ≡ 2 ^ field.width - 1)
+unfolding is_tv number_of fields_of rule_of param_rule param_kinds
+tv_field kind short = one_plain (fields_of (Parameter kind)) (implied (nat_lt (number_of (Parameter kind)) 128) (is_one_plain (fields_of (Parameter kind))) (every_parameter (λ row. not (nat_lt row.number 128) || is_one_plain row.fields) refl kind) short)
+
+-- whether a kind has no tail
+abbrev is_absent : Tail → Bool
+is_absent Absent = true
+is_absent Words = false
+is_absent Text = false
+is_absent Bits = false
+
+absent : (tail : Tail) → is_absent tail ≡ true → tail ≡ Absent
+absent Absent test = refl
+absent Words test = cc test
+absent Text test = cc test
+absent Bits test = cc test
+
+-- it has no tail
+pub tv_tail : (kind : ParamKind) → is_tv kind ≡ true → tail_of (Parameter kind) ≡ Absent
+unfolding is_tv number_of tail_of rule_of param_rule param_kinds
+tv_tail kind short = absent (tail_of (Parameter kind)) (implied (nat_lt (number_of (Parameter kind)) 128) (is_absent (tail_of (Parameter kind))) (every_parameter (λ row. not (nat_lt row.number 128) || is_absent row.tail) refl kind) short)
+
+abbrev is_empty : {X : Type 0} → List X → Bool
+is_empty [] = true
+is_empty (x ∷ xs) = false
+
+empty : {X : Type 0} (xs : List X) → is_empty xs ≡ true → xs ≡ []
+empty [] test = refl
+empty (x ∷ xs) test = cc test
+
+-- and no group
+pub tv_groups : (kind : ParamKind) → is_tv kind ≡ true → groups_of (Parameter kind) ≡ []
+unfolding is_tv number_of groups_of rule_of param_rule param_kinds
+tv_groups kind short = empty (groups_of (Parameter kind)) (implied (nat_lt (number_of (Parameter kind)) 128) (is_empty (groups_of (Parameter kind))) (every_parameter (λ row. not (nat_lt row.number 128) || is_empty row.groups) refl kind) short)
+
+-- a message has no tail
+pub message_tail : (kind : MsgKind) → tail_of (Message kind) ≡ Absent
+unfolding tail_of rule_of message_rule message_kinds
+message_tail kind = absent (tail_of (Message kind)) (every_message (λ row. is_absent row.tail) refl kind)
+
+-- bits are counted by a field
+pub bits_field : (kind : ParamKind) → tail_of (Parameter kind) ≡ Bits → fields_of (Parameter kind) ≡ field "BitCount" 16 ∷ []
+unfolding tail_of fields_of rule_of param_rule
+bits_field EpcData same = refl
+bits_field _ same = cc same
+
+-- a test of groups that passes at every row, and what it tells
+every_group : (test : GroupRule → Bool) (P : GroupRule → Type 0) → ((group : GroupRule) → test group ≡ true → P group) → ((kind : Kind) → list_all test (rule_of kind).groups ≡ true) → (kind : Kind) → All P (groups_of kind)
+unfolding groups_of
+every_group test P tells pass kind = All-from_list_all test P tells (groups_of kind) (pass kind)
+
+-- whether a least number is at most the greatest, where there is one
+abbrev is_within : ℕ → Option ℕ → Bool
+is_within least None = true
+is_within least (Some most) = nat_le least most
+
+within : (least : ℕ) (most : Option ℕ) → is_within least most ≡ true → IfSome most (λ most. least ≤ most)
+within least None test = tt
+within least (Some most) test = leb-true least most test
+
+-- the least number of a group is at most its greatest
+pub group_bounds : (kind : Kind) → All (λ group. IfSome group.most (λ most. group.least ≤ most)) (groups_of kind)
+unfolding rule_of message_rule param_rule message_kinds param_kinds
+group_bounds = every_group (λ group. is_within group.least group.most) (λ group. IfSome group.most (λ most. group.least ≤ most)) (λ group. within group.least group.most) (every_rule (λ row. list_all (λ group. is_within group.least group.most) row.groups) refl refl)
+
+-- a group has members
+pub group_members : (kind : Kind) → All (λ group. 1 ≤ length group.members) (groups_of kind)
+unfolding rule_of message_rule param_rule message_kinds param_kinds
+group_members = every_group (λ group. nat_le 1 (length group.members)) (λ group. 1 ≤ length group.members) (λ group. leb-true 1 (length group.members)) (every_rule (λ row. list_all (λ group. nat_le 1 (length group.members)) row.groups) refl refl)
+
+-- whether two parameters have two numbers
+abbrev has_other_number : ParamKind → ParamKind → Bool
+has_other_number a b = not (nat_eq (number_of (Parameter a)) (number_of (Parameter b)))
+
+-- whether two groups share no number
+abbrev is_apart : GroupRule → GroupRule → Bool
+is_apart g h = list_all (λ a. list_all (has_other_number a) h.members) g.members
+
+apart : (g h : GroupRule) → is_apart g h ≡ true → (child : ParamKind) → Contains g.members child → Contains h.members child → ⊥
+apart g h test child left right =
+    let in_left = All-from_list_all (λ a. list_all (has_other_number a) h.members) (λ a. list_all (has_other_number a) h.members ≡ true) (λ a passes. passes) g.members test in
+    let row = All-contains (λ a. list_all (has_other_number a) h.members ≡ true) g.members child in_left left in
+    let in_right = All-from_list_all (has_other_number child) (λ b. has_other_number child b ≡ true) (λ b passes. passes) h.members row in
+    other_than_itself child (All-contains (λ b. has_other_number child b ≡ true) h.members child in_right right)
+  where
+    other_than_itself : (a : ParamKind) → has_other_number a a ≡ true → ⊥
+    other_than_itself a test = cc (not_true (nat_eq (number_of (Parameter a)) (number_of (Parameter a))) test, eq-eqb (number_of (Parameter a)) (number_of (Parameter a)) refl)
+
+-- no kind of child stands in two groups of one parent
+pub groups_apart : (kind : Kind) → AllPairs (λ g h. (child : ParamKind) → Contains g.members child → Contains h.members child → ⊥) (groups_of kind)
+unfolding groups_of rule_of message_rule param_rule message_kinds param_kinds number_of
+groups_apart kind = AllPairs-from_pairs_all is_apart (λ g h. (child : ParamKind) → Contains g.members child → Contains h.members child → ⊥) apart (groups_of kind) (every_rule (λ row. pairs_all is_apart row.groups) refl refl kind)

@@ -97,3 +97,43 @@ pub fn fields_are_sound()
             (fields_of kind)
     }
 {}
+
+/// A parameter with a type and a value alone has one plain field, all of whose values are lawful, no
+/// tail and no children.
+#[tactic(auto, using(crate::proofs::TableLaws::tv_field, crate::proofs::TableLaws::tv_tail, crate::proofs::TableLaws::tv_groups))]
+pub fn tv_is_one_field()
+    ensures field {
+        (kind : ParamKind) → is_tv kind ≡ true →
+        (field : FieldRule) × (fields_of (Parameter kind) ≡ field ∷ []) ×
+        (field.reserved ≡ false) × (field.greatest ≡ 2 ^ field.width - 1)
+    }
+    ensures tail { (kind : ParamKind) → is_tv kind ≡ true → tail_of (Parameter kind) ≡ Absent }
+    ensures groups { (kind : ParamKind) → is_tv kind ≡ true → groups_of (Parameter kind) ≡ [] }
+{}
+
+/// A message has no tail. A parameter whose tail is bits has one field, which counts them.
+#[tactic(auto, using(crate::proofs::TableLaws::message_tail, crate::proofs::TableLaws::bits_field))]
+pub fn tails_are_of_parameters()
+    ensures message { (kind : MsgKind) → tail_of (Message kind) ≡ Absent }
+    ensures bits {
+        (kind : ParamKind) → tail_of (Parameter kind) ≡ Bits →
+        fields_of (Parameter kind) ≡ field "BitCount" 16 ∷ []
+    }
+{}
+
+/// A group has members, and its least number is at most its greatest. No kind stands in two groups of
+/// one parent.
+#[tactic(auto, using(crate::proofs::TableLaws::group_members, crate::proofs::TableLaws::group_bounds))]
+pub fn groups_are_sound()
+    ensures members { (kind : Kind) → All (λ group. 1 ≤ length group.members) (groups_of kind) }
+    ensures bounds {
+        (kind : Kind) →
+        All (λ group. IfSome group.most (λ most. group.least ≤ most)) (groups_of kind)
+    }
+    ensures apart {
+        (kind : Kind) →
+        AllPairs
+            (λ g h. (child : ParamKind) → Contains g.members child → Contains h.members child → ⊥)
+            (groups_of kind)
+    }
+{}
