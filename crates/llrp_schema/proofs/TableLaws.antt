@@ -70,35 +70,44 @@ every_rule test messages parameters (Parameter kind) = every_parameter test para
 -- what the look-ups find is exactly the kind with the number or the name
 pub message_found : (number : ℕ) (kind : MsgKind) → (message_with_number number ≡ Some kind) ↔ (number_of (Message kind) ≡ number)
 unfolding message_with_number
-message_found number kind =
-    ( (λ found. eqb-true (number_of (Message kind)) number (find-passes (λ other. number_of (Message other) == number) message_kinds kind found))
-    , (λ same. ap message_with_number (sym same) ∙ message_at_number kind) )
+message_found number kind = (
+  (λ found. eqb-true (number_of (Message kind)) number (find-passes (λ other. number_of (Message other) == number) message_kinds kind found)),
+  (λ same. ap message_with_number (sym same) ∙ message_at_number kind),
+)
 
 pub tlv_found : (number : ℕ) (kind : ParamKind) → (tlv_with_number number ≡ Some kind) ↔ ((is_tv kind ≡ false) × (number_of (Parameter kind) ≡ number))
 unfolding tlv_with_number
-tlv_found number kind =
-    ( (λ found. ( not_true (is_tv kind) (find-all (λ other. number_of (Parameter other) == number) (λ other. not (is_tv other)) (filter (λ other. not (is_tv other)) param_kinds) kind (list_all-filter (λ other. not (is_tv other)) param_kinds) found)
-                , eqb-true (number_of (Parameter kind)) number (find-passes (λ other. number_of (Parameter other) == number) (filter (λ other. not (is_tv other)) param_kinds) kind found) ))
-    , (λ (long, same). ap tlv_with_number (sym same) ∙ tlv_at_number kind ∙ ap (λ b. cond b None (Some kind)) long) )
+tlv_found number kind = (
+  (λ found. (
+    not_true (is_tv kind) (find-all (λ other. number_of (Parameter other) == number) (λ other. not (is_tv other)) (filter (λ other. not (is_tv other)) param_kinds) kind (list_all-filter (λ other. not (is_tv other)) param_kinds) found),
+    eqb-true (number_of (Parameter kind)) number (find-passes (λ other. number_of (Parameter other) == number) (filter (λ other. not (is_tv other)) param_kinds) kind found),
+  )),
+  (λ (long, same). ap tlv_with_number (sym same) ∙ tlv_at_number kind ∙ ap (λ b. cond b None (Some kind)) long),
+)
 
 pub tv_found : (number : ℕ) (kind : ParamKind) → (tv_with_number number ≡ Some kind) ↔ ((is_tv kind ≡ true) × (number_of (Parameter kind) ≡ number))
 unfolding tv_with_number
-tv_found number kind =
-    ( (λ found. ( find-all (λ other. number_of (Parameter other) == number) is_tv (filter is_tv param_kinds) kind (list_all-filter is_tv param_kinds) found
-                , eqb-true (number_of (Parameter kind)) number (find-passes (λ other. number_of (Parameter other) == number) (filter is_tv param_kinds) kind found) ))
-    , (λ (short, same). ap tv_with_number (sym same) ∙ tv_at_number kind ∙ ap (λ b. cond b (Some kind) None) short) )
+tv_found number kind = (
+  (λ found. (
+    find-all (λ other. number_of (Parameter other) == number) is_tv (filter is_tv param_kinds) kind (list_all-filter is_tv param_kinds) found,
+    eqb-true (number_of (Parameter kind)) number (find-passes (λ other. number_of (Parameter other) == number) (filter is_tv param_kinds) kind found),
+  )),
+  (λ (short, same). ap tv_with_number (sym same) ∙ tv_at_number kind ∙ ap (λ b. cond b (Some kind) None) short),
+)
 
 pub message_name_found : (name : List ℕ) (kind : MsgKind) → (message_with_name name ≡ Some kind) ↔ (name_of (Message kind) ≡ name)
 unfolding message_with_name
-message_name_found name kind =
-    ( (λ found. same_text (name_of (Message kind)) name (sym (find-passes (λ other. pointwise nat_eq (name_of (Message other)) name) message_kinds kind found)))
-    , (λ same. ap message_with_name (sym same) ∙ message_at_name kind) )
+message_name_found name kind = (
+  (λ found. same_text (name_of (Message kind)) name (sym (find-passes (λ other. pointwise nat_eq (name_of (Message other)) name) message_kinds kind found))),
+  (λ same. ap message_with_name (sym same) ∙ message_at_name kind),
+)
 
 pub param_name_found : (name : List ℕ) (kind : ParamKind) → (param_with_name name ≡ Some kind) ↔ (name_of (Parameter kind) ≡ name)
 unfolding param_with_name
-param_name_found name kind =
-    ( (λ found. same_text (name_of (Parameter kind)) name (sym (find-passes (λ other. pointwise nat_eq (name_of (Parameter other)) name) param_kinds kind found)))
-    , (λ same. ap param_with_name (sym same) ∙ param_at_name kind) )
+param_name_found name kind = (
+  (λ found. same_text (name_of (Parameter kind)) name (sym (find-passes (λ other. pointwise nat_eq (name_of (Parameter other)) name) param_kinds kind found))),
+  (λ same. ap param_with_name (sym same) ∙ param_at_name kind),
+)
 
 -- no two messages have one number
 pub message_numbers : (a b : MsgKind) → number_of (Message a) ≡ number_of (Message b) → a ≡ b

@@ -24,33 +24,23 @@ pub fn names_are_distinct()
 /// A search by number finds exactly the kind with this number.
 #[tactic(auto, using(crate::proofs::TableLaws::message_found))]
 pub fn numbers_are_found()
-    ensures message {
-        (number : ℕ) (kind : MsgKind) →
-        (message_with_number number ≡ Some kind) ↔ (number_of (Message kind) ≡ number)
-    }
-    ensures tlv {
-        (number : ℕ) (kind : ParamKind) →
+    ensures message { (number : ℕ) (kind : MsgKind) →
+        (message_with_number number ≡ Some kind) ↔ (number_of (Message kind) ≡ number) }
+    ensures tlv { (number : ℕ) (kind : ParamKind) →
         (tlv_with_number number ≡ Some kind) ↔
-        ((is_tv kind ≡ false) × (number_of (Parameter kind) ≡ number))
-    }
-    ensures tv {
-        (number : ℕ) (kind : ParamKind) →
+        ((is_tv kind ≡ false) × (number_of (Parameter kind) ≡ number)) }
+    ensures tv { (number : ℕ) (kind : ParamKind) →
         (tv_with_number number ≡ Some kind) ↔
-        ((is_tv kind ≡ true) × (number_of (Parameter kind) ≡ number))
-    }
+        ((is_tv kind ≡ true) × (number_of (Parameter kind) ≡ number)) }
 {}
 
 /// A search by name finds exactly the kind with this name.
 #[tactic(auto, using(crate::proofs::TableLaws::message_name_found, crate::proofs::TableLaws::param_name_found))]
 pub fn names_are_found()
-    ensures message {
-        (name : List ℕ) (kind : MsgKind) →
-        (message_with_name name ≡ Some kind) ↔ (name_of (Message kind) ≡ name)
-    }
-    ensures parameter {
-        (name : List ℕ) (kind : ParamKind) →
-        (param_with_name name ≡ Some kind) ↔ (name_of (Parameter kind) ≡ name)
-    }
+    ensures message { (name : List ℕ) (kind : MsgKind) →
+        (message_with_name name ≡ Some kind) ↔ (name_of (Message kind) ≡ name) }
+    ensures parameter { (name : List ℕ) (kind : ParamKind) →
+        (param_with_name name ≡ Some kind) ↔ (name_of (Parameter kind) ≡ name) }
 {}
 
 /// The number of a message, or of a parameter with a length, fits the 10 bits of its header; that of
@@ -64,10 +54,8 @@ pub fn numbers_fit_headers()
 /// A name begins with a capital letter, has no space and no control character, and is short.
 #[tactic(auto, using(crate::proofs::TableLaws::name_begins, crate::proofs::TableLaws::name_visible, crate::proofs::TableLaws::name_short))]
 pub fn names_are_words()
-    ensures begins {
-        (kind : Kind) →
-        (first : ℕ) × (rest : List ℕ) × (name_of kind ≡ first ∷ rest) × (65 ≤ first) × (first ≤ 90)
-    }
+    ensures begins { (kind : Kind) →
+        (first : ℕ) × (rest : List ℕ) × (name_of kind ≡ first ∷ rest) × (65 ≤ first) × (first ≤ 90) }
     ensures visible { (kind : Kind) → All (λ c. (33 ≤ c) × (c ≤ 126)) (name_of kind) }
     ensures short { (kind : Kind) → length (name_of kind) ≤ 32 }
 {}
@@ -86,27 +74,21 @@ pub fn fields_fill_octets()
 pub fn fields_are_sound()
     ensures width { (kind : Kind) → All (λ field. (1 ≤ field.width) × (field.width ≤ 96)) (fields_of kind) }
     ensures value { (kind : Kind) → All (λ field. field.greatest < 2 ^ field.width) (fields_of kind) }
-    ensures reserved {
-        (kind : Kind) → All (λ field. field.reserved ≡ true → field.greatest ≡ 0) (fields_of kind)
-    }
-    ensures signed {
-        (kind : Kind) →
+    ensures reserved { (kind : Kind) → All (λ field. field.reserved ≡ true → field.greatest ≡ 0) (fields_of kind) }
+    ensures signed { (kind : Kind) →
         All
-            (λ field. field.signed ≡ true →
-                (field.reserved ≡ false) × (field.width ≡ 8) × (field.greatest ≡ 255))
-            (fields_of kind)
-    }
+        (λ field. field.signed ≡ true →
+        (field.reserved ≡ false) × (field.width ≡ 8) × (field.greatest ≡ 255))
+        (fields_of kind) }
 {}
 
 /// A parameter with a type and a value alone has one plain field, all of whose values are lawful, no
 /// tail and no children.
 #[tactic(auto, using(crate::proofs::TableLaws::tv_field, crate::proofs::TableLaws::tv_tail, crate::proofs::TableLaws::tv_groups))]
 pub fn tv_is_one_field()
-    ensures field {
-        (kind : ParamKind) → is_tv kind ≡ true →
+    ensures field { (kind : ParamKind) → is_tv kind ≡ true →
         (field : FieldRule) × (fields_of (Parameter kind) ≡ field ∷ []) ×
-        (field.reserved ≡ false) × (field.greatest ≡ 2 ^ field.width - 1)
-    }
+        (field.reserved ≡ false) × (field.greatest ≡ 2 ^ field.width - 1) }
     ensures tail { (kind : ParamKind) → is_tv kind ≡ true → tail_of (Parameter kind) ≡ Absent }
     ensures groups { (kind : ParamKind) → is_tv kind ≡ true → groups_of (Parameter kind) ≡ [] }
 {}
@@ -115,10 +97,8 @@ pub fn tv_is_one_field()
 #[tactic(auto, using(crate::proofs::TableLaws::message_tail, crate::proofs::TableLaws::bits_field))]
 pub fn tails_are_of_parameters()
     ensures message { (kind : MsgKind) → tail_of (Message kind) ≡ Absent }
-    ensures bits {
-        (kind : ParamKind) → tail_of (Parameter kind) ≡ Bits →
-        fields_of (Parameter kind) ≡ field "BitCount" 16 ∷ []
-    }
+    ensures bits { (kind : ParamKind) → tail_of (Parameter kind) ≡ Bits →
+        fields_of (Parameter kind) ≡ field "BitCount" 16 ∷ [] }
 {}
 
 /// A group has members, and its least number is at most its greatest. No kind stands in two groups of
@@ -126,14 +106,10 @@ pub fn tails_are_of_parameters()
 #[tactic(auto, using(crate::proofs::TableLaws::group_members, crate::proofs::TableLaws::group_bounds))]
 pub fn groups_are_sound()
     ensures members { (kind : Kind) → All (λ group. 1 ≤ length group.members) (groups_of kind) }
-    ensures bounds {
-        (kind : Kind) →
-        All (λ group. IfSome group.most (λ most. group.least ≤ most)) (groups_of kind)
-    }
-    ensures apart {
-        (kind : Kind) →
+    ensures bounds { (kind : Kind) →
+        All (λ group. IfSome group.most (λ most. group.least ≤ most)) (groups_of kind) }
+    ensures apart { (kind : Kind) →
         AllPairs
-            (λ g h. (child : ParamKind) → Contains g.members child → Contains h.members child → ⊥)
-            (groups_of kind)
-    }
+        (λ g h. (child : ParamKind) → Contains g.members child → Contains h.members child → ⊥)
+        (groups_of kind) }
 {}
