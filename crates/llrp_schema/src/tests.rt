@@ -4,9 +4,12 @@ use super::*;
 use std::process::Abort;
 
 /// A field's name, width, whether it is reserved, its greatest value, and whether it is signed.
-type Written = (&'static str, u32, bool, u128, bool);
+type WrittenField = (&'static str, u32, bool, u128, bool);
 
-fn expect_fields(rt: &impl Abort, kind: Kind, wanted: &[Written]) {
+/// A group's members, its least number and its greatest.
+type WrittenGroup = (&'static [ParamKind], u32, Option<u32>);
+
+fn expect_fields(rt: &impl Abort, kind: Kind, wanted: &[WrittenField]) {
     assert_eq!(rt; fields(kind).len(), wanted.len());
     for (field, want) in fields(kind).iter().zip(wanted) {
         let found = (
@@ -20,89 +23,128 @@ fn expect_fields(rt: &impl Abort, kind: Kind, wanted: &[Written]) {
     }
 }
 
-fn expect_groups(rt: &impl Abort, kind: Kind, wanted: &[(&[ParamKind], u32, Option<u32>)]) {
+fn expect_groups(rt: &impl Abort, kind: Kind, wanted: &[WrittenGroup]) {
     assert_eq!(rt; groups(kind).len(), wanted.len());
     for (group, want) in groups(kind).iter().zip(wanted) {
         assert_eq!(rt; (group.members, group.least, group.most), *want);
     }
 }
 
+static NUMBERS_AND_NAMES: [(Kind, u16, &str); 8] = [
+    (
+        Kind::Message(MsgKind::SetReaderConfig),
+        3,
+        "SET_READER_CONFIG",
+    ),
+    (Kind::Message(MsgKind::AddRoSpec), 20, "ADD_ROSPEC"),
+    (Kind::Message(MsgKind::Keepalive), 62, "KEEPALIVE"),
+    (Kind::Message(MsgKind::ErrorMessage), 100, "ERROR_MESSAGE"),
+    (Kind::Parameter(ParamKind::C1G2Pc), 12, "C1G2-PC"),
+    (Kind::Parameter(ParamKind::Epc96), 13, "EPC-96"),
+    (
+        Kind::Parameter(ParamKind::TagReportData),
+        240,
+        "TagReportData",
+    ),
+    (
+        Kind::Parameter(ParamKind::C1G2EpcMemorySelector),
+        348,
+        "C1G2EPCMemorySelector",
+    ),
+];
+
 #[test]
 fn kinds_have_their_numbers_and_names(rt: HostRuntime) {
-    let written: [(Kind, u16, &str); 8] = [
-        (MsgKind::SetReaderConfig.into(), 3, "SET_READER_CONFIG"),
-        (MsgKind::AddRoSpec.into(), 20, "ADD_ROSPEC"),
-        (MsgKind::Keepalive.into(), 62, "KEEPALIVE"),
-        (MsgKind::ErrorMessage.into(), 100, "ERROR_MESSAGE"),
-        (ParamKind::C1G2Pc.into(), 12, "C1G2-PC"),
-        (ParamKind::Epc96.into(), 13, "EPC-96"),
-        (ParamKind::TagReportData.into(), 240, "TagReportData"),
-        (
-            ParamKind::C1G2EpcMemorySelector.into(),
-            348,
-            "C1G2EPCMemorySelector",
-        ),
-    ];
-    for (kind, wanted_number, wanted_name) in written {
-        assert_eq!(rt; number(kind), wanted_number);
-        assert_eq!(rt; name(kind), wanted_name);
+    for (kind, wanted_number, wanted_name) in NUMBERS_AND_NAMES {
+        assert_eq!(rt; (number(kind), name(kind)), (wanted_number, wanted_name));
     }
 }
 
-#[test]
-fn kinds_are_found_by_number(rt: HostRuntime) {
-    assert_eq!(rt; msg_of(20), Some(MsgKind::AddRoSpec));
-    assert_eq!(rt; msg_of(100), Some(MsgKind::ErrorMessage));
-    assert_eq!(rt; param_of_tv(6), Some(ParamKind::PeakRssi));
-    assert_eq!(rt; param_of_tv(16), Some(ParamKind::AccessSpecId));
-    assert_eq!(rt; param_of_tlv(177), Some(ParamKind::RoSpec));
-    assert_eq!(rt; param_of_tlv(348), Some(ParamKind::C1G2EpcMemorySelector));
-}
+static MESSAGES_BY_NUMBER: [(u16, Option<MsgKind>); 8] = [
+    (20, Some(MsgKind::AddRoSpec)),
+    (100, Some(MsgKind::ErrorMessage)),
+    (0, None),
+    (1, None),
+    (26, None),
+    (36, None),
+    (1023, None),
+    (65535, None),
+];
 
 #[test]
-fn unlisted_numbers_are_no_kind(rt: HostRuntime) {
-    for unlisted in [0, 1, 26, 36, 1023, 65535] {
-        assert_eq!(rt; msg_of(unlisted), None);
-    }
-    for unlisted in [0, 15, 17, 127, 128, 241] {
-        assert_eq!(rt; param_of_tv(unlisted), None);
-    }
-    for unlisted in [0, 1, 13, 16, 187, 219, 1023, 65535] {
-        assert_eq!(rt; param_of_tlv(unlisted), None);
+fn messages_are_found_by_number(rt: HostRuntime) {
+    for (number, wanted) in MESSAGES_BY_NUMBER {
+        assert_eq!(rt; msg_of(number), wanted);
     }
 }
+
+static TLV_BY_NUMBER: [(u16, Option<ParamKind>); 8] = [
+    (177, Some(ParamKind::RoSpec)),
+    (348, Some(ParamKind::C1G2EpcMemorySelector)),
+    (0, None),
+    (1, None),
+    (16, None),
+    (187, None),
+    (1023, None),
+    (65535, None),
+];
+
+static TV_BY_NUMBER: [(u8, Option<ParamKind>); 8] = [
+    (1, Some(ParamKind::AntennaId)),
+    (6, Some(ParamKind::PeakRssi)),
+    (16, Some(ParamKind::AccessSpecId)),
+    (0, None),
+    (15, None),
+    (17, None),
+    (127, None),
+    (177, None),
+];
+
+#[test]
+fn parameters_are_found_by_number(rt: HostRuntime) {
+    for (number, wanted) in TLV_BY_NUMBER {
+        assert_eq!(rt; param_of_tlv(number), wanted);
+        assert!(rt; wanted.is_none_or(|kind| !is_tv(kind)));
+    }
+    for (number, wanted) in TV_BY_NUMBER {
+        assert_eq!(rt; param_of_tv(number), wanted);
+        assert!(rt; wanted.is_none_or(is_tv));
+    }
+}
+
+static MESSAGES_BY_NAME: [(&str, Option<MsgKind>); 7] = [
+    ("KEEPALIVE", Some(MsgKind::Keepalive)),
+    (
+        "ENABLE_ROSPEC_RESPONSE",
+        Some(MsgKind::EnableRoSpecResponse),
+    ),
+    ("", None),
+    ("keepalive", None),
+    ("KEEPALIVE ", None),
+    ("GET_ROSPECS", None),
+    ("ROSpec", None),
+];
+
+static PARAMETERS_BY_NAME: [(&str, Option<ParamKind>); 9] = [
+    ("ROSpec", Some(ParamKind::RoSpec)),
+    ("ROSpecID", Some(ParamKind::RoSpecId)),
+    ("EPC-96", Some(ParamKind::Epc96)),
+    ("", None),
+    ("rospec", None),
+    ("ROSpecI", None),
+    ("ROSpecIDs", None),
+    ("Custom", None),
+    ("KEEPALIVE", None),
+];
 
 #[test]
 fn kinds_are_found_by_name(rt: HostRuntime) {
-    assert_eq!(rt; msg_named("KEEPALIVE"), Some(MsgKind::Keepalive));
-    assert_eq!(rt;
-        msg_named("ENABLE_ROSPEC_RESPONSE"),
-        Some(MsgKind::EnableRoSpecResponse)
-    );
-    assert_eq!(rt; param_named("ROSpecID"), Some(ParamKind::RoSpecId));
-    assert_eq!(rt; param_named("ROSpec"), Some(ParamKind::RoSpec));
-    assert_eq!(rt; param_named("EPC-96"), Some(ParamKind::Epc96));
-    for unlisted in ["", "keepalive", "KEEPALIVE ", "ROSpec", "GET_ROSPECS", "!"] {
-        assert_eq!(rt; msg_named(unlisted), None);
+    for (name, wanted) in MESSAGES_BY_NAME {
+        assert_eq!(rt; msg_named(name), wanted);
     }
-    for unlisted in [
-        "",
-        "rospec",
-        "ROSpecI",
-        "ROSpecIDs",
-        "KEEPALIVE",
-        "Custom",
-        "?",
-    ] {
-        assert_eq!(rt; param_named(unlisted), None);
+    for (name, wanted) in PARAMETERS_BY_NAME {
+        assert_eq!(rt; param_named(name), wanted);
     }
-}
-
-#[test]
-fn a_number_below_128_is_a_type_and_a_value(rt: HostRuntime) {
-    assert!(rt; is_tv(ParamKind::AntennaId));
-    assert!(rt; is_tv(ParamKind::AccessSpecId));
-    assert!(rt; !is_tv(ParamKind::UtcTimestamp));
 }
 
 #[test]
@@ -125,42 +167,57 @@ fn fields_of_each_sort(rt: HostRuntime) {
     expect_fields(&rt, MsgKind::Keepalive.into(), &[]);
 }
 
+static TAILS: [(Kind, Tail); 5] = [
+    (Kind::Parameter(ParamKind::AiSpec), Tail::Words),
+    (Kind::Parameter(ParamKind::LlrpStatus), Tail::Text),
+    (Kind::Parameter(ParamKind::EpcData), Tail::Bits),
+    (Kind::Parameter(ParamKind::Epc96), Tail::Absent),
+    (Kind::Message(MsgKind::RoAccessReport), Tail::Absent),
+];
+
 #[test]
 fn tails_of_each_sort(rt: HostRuntime) {
-    assert_eq!(rt; tail(ParamKind::AiSpec.into()), Tail::Words);
-    assert_eq!(rt; tail(ParamKind::LlrpStatus.into()), Tail::Text);
-    assert_eq!(rt; tail(ParamKind::EpcData.into()), Tail::Bits);
-    assert_eq!(rt; tail(ParamKind::Epc96.into()), Tail::Absent);
-    assert_eq!(rt; tail(MsgKind::RoAccessReport.into()), Tail::Absent);
+    for (kind, wanted) in TAILS {
+        assert_eq!(rt; tail(kind), wanted);
+    }
 }
 
 #[test]
 fn groups_of_each_sort(rt: HostRuntime) {
-    let rospec: [(&[ParamKind], u32, Option<u32>); 3] = [
+    let rospec: [WrittenGroup; 3] = [
         (&[ParamKind::RoBoundarySpec], 1, Some(1)),
         (&[ParamKind::AiSpec], 1, None),
         (&[ParamKind::RoReportSpec], 0, Some(1)),
     ];
     expect_groups(&rt, ParamKind::RoSpec.into(), &rospec);
-    let report: [(&[ParamKind], u32, Option<u32>); 1] = [(&[ParamKind::TagReportData], 0, None)];
+    let report: [WrittenGroup; 1] = [(&[ParamKind::TagReportData], 0, None)];
     expect_groups(&rt, MsgKind::RoAccessReport.into(), &report);
     expect_groups(&rt, ParamKind::Epc96.into(), &[]);
 }
 
+static ONE_OF_TWO: [(ParamKind, usize, WrittenGroup); 2] = [
+    (
+        ParamKind::TagReportData,
+        15,
+        (&[ParamKind::Epc96, ParamKind::EpcData], 1, Some(1)),
+    ),
+    (
+        ParamKind::ReaderEventNotificationData,
+        9,
+        (&[ParamKind::UtcTimestamp, ParamKind::Uptime], 1, Some(1)),
+    ),
+];
+
 #[test]
 fn one_child_of_several_kinds(rt: HostRuntime) {
-    let tag = groups(ParamKind::TagReportData.into());
-    assert_eq!(rt; tag.len(), 15);
-    assert_eq!(rt;
-        tag[0].members,
-        [ParamKind::Epc96, ParamKind::EpcData].as_slice()
-    );
-    assert_eq!(rt; (tag[0].least, tag[0].most), (1, Some(1)));
-    let event = groups(ParamKind::ReaderEventNotificationData.into());
-    assert_eq!(rt; event.len(), 9);
-    assert_eq!(rt;
-        event[0].members,
-        [ParamKind::UtcTimestamp, ParamKind::Uptime].as_slice()
-    );
-    assert_eq!(rt; (event[0].least, event[0].most), (1, Some(1)));
+    for (parent, count, wanted) in ONE_OF_TWO {
+        let groups = groups(parent.into());
+        assert_eq!(rt; groups.len(), count);
+        assert_eq!(rt;
+            groups
+                .first()
+                .map(|group| (group.members, group.least, group.most)),
+            Some(wanted)
+        );
+    }
 }
