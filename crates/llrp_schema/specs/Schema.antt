@@ -36,13 +36,15 @@ pub record KindRule : Type 0 where
   pub tail : Tail
   pub groups : List GroupRule
 
--- what the program's field, group and row say, with no place in memory
+-- what a field of the program says
 abbrev pub field_rule : Field → FieldRule
 field_rule field = record { name = field.name.now; width = field.width; reserved = field.reserved; greatest = field.greatest; signed = field.signed }
 
+-- what a group of the program says
 abbrev pub group_rule : Group → GroupRule
 group_rule group = record { members = group.members.now; least = group.least; most = group.most }
 
+-- what a row of the program says
 abbrev pub kind_rule : Definition → KindRule
 kind_rule row = record { number = row.number; name = row.name.now; fields = map field_rule row.fields.now; tail = row.tail; groups = map group_rule row.groups.now }
 
@@ -94,7 +96,7 @@ message number name fields groups = tlv number name fields Absent groups
 abbrev tv : ℕ → String → ℕ → KindRule
 tv number name width = tlv number name (field name width ∷ []) Absent []
 
--- one whose field is signed
+-- a parameter with type and value whose field is signed
 abbrev signed_tv : ℕ → String → ℕ → KindRule
 signed_tv number name width = tlv number name (signed name width ∷ []) Absent []
 

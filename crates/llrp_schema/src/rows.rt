@@ -1,5 +1,6 @@
 //! The words in which the rows are written.
 
+/// A field by its name and its width in bits, and where not every value is lawful the greatest one.
 macro_rules! field {
     ($name:literal, $width:literal) => {
         field!($name, $width, (1 << $width) - 1)
@@ -15,6 +16,7 @@ macro_rules! field {
     };
 }
 
+/// A field whose bits are a number in two's complement.
 macro_rules! signed {
     ($name:literal, $width:literal) => {
         Field {
@@ -27,6 +29,7 @@ macro_rules! signed {
     };
 }
 
+/// Reserved bits.
 macro_rules! reserved {
     ($width:literal) => {
         Field {
@@ -39,6 +42,7 @@ macro_rules! reserved {
     };
 }
 
+/// Exactly one child, of one of the kinds.
 macro_rules! one {
     ($($kind:ident),+) => {
         Group {
@@ -49,6 +53,7 @@ macro_rules! one {
     };
 }
 
+/// One child of the kind or more.
 macro_rules! one_or_more {
     ($kind:ident) => {
         Group {
@@ -59,6 +64,7 @@ macro_rules! one_or_more {
     };
 }
 
+/// One child of the kind or none.
 macro_rules! at_most_one {
     ($kind:ident) => {
         Group {
@@ -69,6 +75,7 @@ macro_rules! at_most_one {
     };
 }
 
+/// Children of the kind in any number.
 macro_rules! any_number {
     ($kind:ident) => {
         Group {
@@ -79,6 +86,7 @@ macro_rules! any_number {
     };
 }
 
+/// A parameter with a type and a value alone, by its number, its name and its one field.
 macro_rules! tv {
     ($number:literal, $name:literal, $field:expr) => {
         Definition {
