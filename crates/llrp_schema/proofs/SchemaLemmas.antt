@@ -1,10 +1,9 @@
 -- Lemmas on searches and tests over lists, for the tables.
-use Rattle.std.proofs.Common.{◌≡◌, ℕ, ◌<◌, Bool, true, false, not, ◌&&◌, ◌||◌, List, [], ◌∷◌, Option, Some, None, filter, find, cond, length, ◌==◌, nat_eq, refl, sym, ap, ◌∙◌, eq-eqb, eqb-true, subst, arith, slice_index_or}
+use Rattle.std.proofs.Common.{◌≡◌, ℕ, ◌<◌, Bool, true, false, not, ◌&&◌, ◌||◌, List, [], ◌∷◌, Option, Some, None, filter, find, cond, length, ◌==◌, nat_eq, refl, sym, ap, ◌∙◌, eq-eqb, subst, arith, slice_index_or}
 use Rattle.std.proofs.lemmas.Option.{same_Some, none-some}
 use Rattle.std.proofs.lemmas.Bool.{and_parts}
-use Rattle.std.specs.List.{list_all, All, AllPairs, Contains}
+use Rattle.std.specs.List.{list_all, All, AllPairs}
 use Rattle.std.proofs.lemmas.List.Sums.{AllPass-from_list_all}
-use Rattle.std.proofs.lemmas.List.Elements.{All-contains}
 use Rattle.std.proofs.lemmas.List.Kept.{AllPairs-cons}
 use Rattle.std.specs.Cmp.Lexicographic.{pointwise, same_text}
 
@@ -46,11 +45,12 @@ pub find-all : {X : Type 0} (test all : X → Bool) (xs : List X) (y : X) → li
 find-all test all [] y pass found = absurd (none-some y found)
 find-all test all (x ∷ xs) y pass found = let parts = and_parts (all x) (list_all all xs) pass in found_first (λ z. all z ≡ true) (test x) x y (find test xs) (λ _. parts.0) (find-all test all xs y parts.1) found
 
--- a thinned list has only elements that pass
+-- one element, kept where it passes
 list_all-cond : {X : Type 0} (test : X → Bool) (passes : Bool) (x : X) (xs : List X) → (passes ≡ true → test x ≡ true) → list_all test xs ≡ true → list_all test (cond passes (x ∷ xs) xs) ≡ true
 list_all-cond test true x xs head tail = ap (λ b. b && list_all test xs) (head refl) ∙ tail
 list_all-cond test false x xs head tail = tail
 
+-- every element of a thinned list passes the test that thinned it
 pub list_all-filter : {X : Type 0} (test : X → Bool) (xs : List X) → list_all test (filter test xs) ≡ true
 list_all-filter test [] = refl
 list_all-filter test (x ∷ xs) = list_all-cond test (test x) x (filter test xs) (λ passes. passes) (list_all-filter test xs)

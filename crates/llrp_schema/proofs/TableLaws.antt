@@ -1,5 +1,5 @@
 -- The laws of the tables: each is a test that the checker computes at every row, and the fact that the test tells.
-use Rattle.std.proofs.Common.{◌≡◌, ℕ, ◌<◌, ◌≤◌, ◌%◌, ◌^◌, ◌-◌, ◌↔◌, Bool, true, false, not, ◌&&◌, ◌||◌, List, [], ◌∷◌, Option, Some, None, IfSome, cond, length, find, filter, nat_eq, nat_lt, nat_le, ◌==◌, refl, sym, ap, ◌∙◌, eq-eqb, eqb-true, codes}
+use Rattle.std.proofs.Common.{◌≡◌, ℕ, ◌<◌, ◌≤◌, ◌%◌, ◌^◌, ◌-◌, ◌↔◌, Bool, true, false, not, ◌&&◌, ◌||◌, List, [], ◌∷◌, Option, Some, None, IfSome, cond, length, filter, nat_eq, nat_lt, nat_le, ◌==◌, refl, sym, ap, ◌∙◌, eq-eqb, eqb-true}
 use Rattle.std.proofs.lemmas.Option.{same_Some, none-some}
 use Rattle.std.proofs.lemmas.Bool.{and_parts, ltb-true, leb-true}
 use Rattle.std.proofs.lemmas.List.Elements.{All-contains}
@@ -62,12 +62,12 @@ pub every_parameter : (test : KindRule → Bool) → list_all (λ kind. test (ru
 unfolding param_with_name
 every_parameter test pass kind = find-all (λ other. pointwise nat_eq (name_of (Parameter other)) (name_of (Parameter kind))) (λ other. test (rule_of (Parameter other))) param_kinds kind pass (param_at_name kind)
 
--- both
+-- a test of rows that passes at every listed kind passes at every kind
 pub every_rule : (test : KindRule → Bool) → list_all (λ kind. test (rule_of (Message kind))) message_kinds ≡ true → list_all (λ kind. test (rule_of (Parameter kind))) param_kinds ≡ true → (kind : Kind) → test (rule_of kind) ≡ true
 every_rule test messages parameters (Message kind) = every_message test messages kind
 every_rule test messages parameters (Parameter kind) = every_parameter test parameters kind
 
--- what the look-ups find is exactly the kind with the number or the name
+-- a search by number finds exactly the message with the number
 pub message_found : (number : ℕ) (kind : MsgKind) → (message_with_number number ≡ Some kind) ↔ (number_of (Message kind) ≡ number)
 unfolding message_with_number
 message_found number kind = (
@@ -75,6 +75,7 @@ message_found number kind = (
   (λ same. ap message_with_number (sym same) ∙ message_at_number kind),
 )
 
+-- and among the parameters with a length exactly the one with the number
 pub tlv_found : (number : ℕ) (kind : ParamKind) → (tlv_with_number number ≡ Some kind) ↔ ((is_tv kind ≡ false) × (number_of (Parameter kind) ≡ number))
 unfolding tlv_with_number
 tlv_found number kind = (
@@ -85,6 +86,7 @@ tlv_found number kind = (
   (λ (long, same). ap tlv_with_number (sym same) ∙ tlv_at_number kind ∙ ap (λ b. cond b None (Some kind)) long),
 )
 
+-- and among those with a type and a value alone exactly the one with the number
 pub tv_found : (number : ℕ) (kind : ParamKind) → (tv_with_number number ≡ Some kind) ↔ ((is_tv kind ≡ true) × (number_of (Parameter kind) ≡ number))
 unfolding tv_with_number
 tv_found number kind = (
@@ -95,6 +97,7 @@ tv_found number kind = (
   (λ (short, same). ap tv_with_number (sym same) ∙ tv_at_number kind ∙ ap (λ b. cond b (Some kind) None) short),
 )
 
+-- a search by name finds exactly the message with the name
 pub message_name_found : (name : List ℕ) (kind : MsgKind) → (message_with_name name ≡ Some kind) ↔ (name_of (Message kind) ≡ name)
 unfolding message_with_name
 message_name_found name kind = (
@@ -102,6 +105,7 @@ message_name_found name kind = (
   (λ same. ap message_with_name (sym same) ∙ message_at_name kind),
 )
 
+-- and exactly the parameter with the name
 pub param_name_found : (name : List ℕ) (kind : ParamKind) → (param_with_name name ≡ Some kind) ↔ (name_of (Parameter kind) ≡ name)
 unfolding param_with_name
 param_name_found name kind = (
@@ -124,11 +128,12 @@ names (Message a) (Parameter b) same = absurd (none-some a (sym (no_message_at_n
 names (Parameter a) (Message b) same = absurd (none-some b (sym (no_message_at_name a) ∙ ap message_with_name same ∙ message_at_name b))
 names (Parameter a) (Parameter b) same = ap (λ kind. Parameter kind) (same_Some a b (sym (param_at_name a) ∙ ap param_with_name same ∙ param_at_name b))
 
--- the numbers fit a header
+-- the number of a message fits its header
 pub message_number_fits : (kind : MsgKind) → number_of (Message kind) < 2 ^ 10
 unfolding number_of rule_of message_rule message_kinds
 message_number_fits kind = ltb-true (number_of (Message kind)) (2 ^ 10) (every_message (λ row. nat_lt row.number (2 ^ 10)) refl kind)
 
+-- the number of a parameter fits its header
 pub param_number_fits : (kind : ParamKind) → number_of (Parameter kind) < 2 ^ 10
 unfolding number_of rule_of param_rule param_kinds
 param_number_fits kind = ltb-true (number_of (Parameter kind)) (2 ^ 10) (every_parameter (λ row. nat_lt row.number (2 ^ 10)) refl kind)
@@ -138,6 +143,7 @@ abbrev begins_with_capital : List ℕ → Bool
 begins_with_capital [] = false
 begins_with_capital (c ∷ cs) = nat_le 65 c && nat_le c 90
 
+-- what that test tells
 capital : (name : List ℕ) → begins_with_capital name ≡ true → (first : ℕ) × (rest : List ℕ) × (name ≡ first ∷ rest) × (65 ≤ first) × (first ≤ 90)
 capital [] test = cc test
 capital (c ∷ cs) test = let parts = and_parts (nat_le 65 c) (nat_le c 90) test in (c, cs, refl, leb-true 65 c parts.0, leb-true c 90 parts.1)
@@ -147,6 +153,7 @@ pub name_begins : (kind : Kind) → (first : ℕ) × (rest : List ℕ) × (name_
 unfolding name_of rule_of message_rule param_rule message_kinds param_kinds
 name_begins kind = capital (name_of kind) (every_rule (λ row. begins_with_capital row.name) refl refl kind)
 
+-- what the test of a visible character tells
 visible : (c : ℕ) → (nat_le 33 c && nat_le c 126) ≡ true → (33 ≤ c) × (c ≤ 126)
 visible c test = let parts = and_parts (nat_le 33 c) (nat_le c 126) test in (leb-true 33 c parts.0, leb-true c 126 parts.1)
 
@@ -213,6 +220,7 @@ is_one_plain [] = false
 is_one_plain (field ∷ []) = not field.reserved && nat_eq field.greatest (2 ^ field.width - 1)
 is_one_plain (field ∷ other ∷ more) = false
 
+-- what that test tells
 one_plain : (fields : List FieldRule) → is_one_plain fields ≡ true → (field : FieldRule) × (fields ≡ field ∷ []) × (field.reserved ≡ false) × (field.greatest ≡ 2 ^ field.width - 1)
 one_plain [] test = cc test
 one_plain (field ∷ []) test = let parts = and_parts (not field.reserved) (nat_eq field.greatest (2 ^ field.width - 1)) test in (field, refl, not_true field.reserved parts.0, eqb-true field.greatest (2 ^ field.width - 1) parts.1)
@@ -230,26 +238,29 @@ is_absent Words = false
 is_absent Text = false
 is_absent Bits = false
 
+-- what that test tells
 absent : (tail : Tail) → is_absent tail ≡ true → tail ≡ Absent
 absent Absent test = refl
 absent Words test = cc test
 absent Text test = cc test
 absent Bits test = cc test
 
--- it has no tail
+-- a parameter with a type and a value alone has no tail
 pub tv_tail : (kind : ParamKind) → is_tv kind ≡ true → tail_of (Parameter kind) ≡ Absent
 unfolding is_tv number_of tail_of rule_of param_rule param_kinds
 tv_tail kind short = absent (tail_of (Parameter kind)) (implied (nat_lt (number_of (Parameter kind)) 128) (is_absent (tail_of (Parameter kind))) (every_parameter (λ row. not (nat_lt row.number 128) || is_absent row.tail) refl kind) short)
 
+-- whether a list is empty
 abbrev is_empty : {X : Type 0} → List X → Bool
 is_empty [] = true
 is_empty (x ∷ xs) = false
 
+-- what that test tells
 empty : {X : Type 0} (xs : List X) → is_empty xs ≡ true → xs ≡ []
 empty [] test = refl
 empty (x ∷ xs) test = cc test
 
--- and no group
+-- a parameter with a type and a value alone has no group
 pub tv_groups : (kind : ParamKind) → is_tv kind ≡ true → groups_of (Parameter kind) ≡ []
 unfolding is_tv number_of groups_of rule_of param_rule param_kinds
 tv_groups kind short = empty (groups_of (Parameter kind)) (implied (nat_lt (number_of (Parameter kind)) 128) (is_empty (groups_of (Parameter kind))) (every_parameter (λ row. not (nat_lt row.number 128) || is_empty row.groups) refl kind) short)
@@ -259,7 +270,7 @@ pub message_tail : (kind : MsgKind) → tail_of (Message kind) ≡ Absent
 unfolding tail_of rule_of message_rule message_kinds
 message_tail kind = absent (tail_of (Message kind)) (every_message (λ row. is_absent row.tail) refl kind)
 
--- bits are counted by a field
+-- the bits of a tail are counted by the one field
 pub bits_field : (kind : ParamKind) → tail_of (Parameter kind) ≡ Bits → fields_of (Parameter kind) ≡ field "BitCount" 16 ∷ []
 unfolding tail_of fields_of rule_of param_rule
 bits_field EpcData same = refl
@@ -275,6 +286,7 @@ abbrev is_within : ℕ → Option ℕ → Bool
 is_within least None = true
 is_within least (Some most) = nat_le least most
 
+-- what that test tells
 within : (least : ℕ) (most : Option ℕ) → is_within least most ≡ true → IfSome most (λ most. least ≤ most)
 within least None test = tt
 within least (Some most) test = leb-true least most test
@@ -297,6 +309,7 @@ has_other_number a b = not (nat_eq (number_of (Parameter a)) (number_of (Paramet
 abbrev is_apart : GroupRule → GroupRule → Bool
 is_apart g h = list_all (λ a. list_all (has_other_number a) h.members) g.members
 
+-- what that test tells
 apart : (g h : GroupRule) → is_apart g h ≡ true → (child : ParamKind) → Contains g.members child → Contains h.members child → ⊥
 apart g h test child left right =
     let in_left = All-from_list_all (λ a. list_all (has_other_number a) h.members) (λ a. list_all (has_other_number a) h.members ≡ true) (λ a passes. passes) g.members test in

@@ -1,6 +1,6 @@
 -- The messages and parameters of LLRP 1.1 in this profile: each kind's number, name, fields, tail and groups of children, one row a kind.
 use Prim.Native.String.{String}
-use Rattle.std.specs.Prelude.{ℕ, Bool, true, false, not, List, [], ◌∷◌, codes, Option, Some, None, map, filter, find, sum_by, ◌^◌, ◌-◌, ◌&&◌, ◌==◌, nat_lt, nat_eq}
+use Rattle.std.specs.Prelude.{ℕ, Bool, true, false, not, List, [], ◌∷◌, codes, Option, Some, None, map, filter, find, sum_by, ◌^◌, ◌-◌, ◌==◌, nat_lt, nat_eq}
 use Rattle.std.specs.Cmp.Lexicographic.{pointwise}
 use Rattle.llrp_schema.specs.declared.kinds.MsgKind.{MsgKind}
 use Rattle.llrp_schema.specs.declared.kinds.MsgKind.TheVariants.{SetReaderConfig, CloseConnectionResponse, SetReaderConfigResponse, CloseConnection, AddRoSpec, DeleteRoSpec, StartRoSpec, StopRoSpec, EnableRoSpec, DisableRoSpec, AddRoSpecResponse, DeleteRoSpecResponse, StartRoSpecResponse, StopRoSpecResponse, EnableRoSpecResponse, DisableRoSpecResponse, GetReport, RoAccessReport, Keepalive, ReaderEventNotification, EnableEventsAndReports, KeepaliveAck, ErrorMessage}
