@@ -1,5 +1,5 @@
 -- A word, and numbers, have an EPC or one fault.
-use Rattle.std.proofs.Common.{◌≡◌, ℕ, ◌+◌, ◌^◌, ◌<◌, ◌≤◌, Bool, List, [], ◌∷◌, ◌++◌, length, take, drop, Option, Some, None, ◌⊎◌, inl, inr, refl, sym, ap, subst, ◌∙◌, arith, length-append}
+use Rattle.std.proofs.Common.{◌≡◌, ℕ, zero, suc, ◌+◌, ◌^◌, ◌<◌, ◌≤◌, Bool, List, [], ◌∷◌, ◌++◌, length, take, drop, Option, Some, None, ◌⊎◌, inl, inr, refl, sym, ap, subst, ◌∙◌, arith, length-append}
 use Rattle.std.proofs.lemmas.List.{append-nil}
 use Rattle.std.specs.Prelude.{◌≢◌, ◌==◌, cond}
 use Rattle.tag_bits.specs.Digits.{digits, word_digits}
@@ -128,3 +128,85 @@ lawful_or_failure ds r i fs gs xs ys a x y d e (inr (inr b)) =
 pub lawful_or_fault : (w : ℕ) (f : WordFault) → IsLawfulWord w → HasWordFault w f → ⊥
 lawful_or_fault w f a b =
     lawful_or_failure (word_digits w) f.reason a.0 a.1.lawful.fields b.fields [] b.rest a.1.lawful.has a.1.lawful.fit b.read (a.1.spelled ∙ sym (append-nil (spell a.1.lawful.fields))) b.spelled (outcome f.reason b.fields b.fails)
+
+-- numbers have one first that does not fit
+unfit_place : (e : Parts) (m n : ℕ) → HasUnfit e m → HasUnfit e n → m ≡ n
+unfit_place e m n a b =
+    let fields : a.fields ≡ b.fields = one_fields e a.fields b.fields a.has b.has in
+    one_unfit b.fields m n (subst (λ (z : List Field). FirstUnfit z m) fields a.first) b.first
+
+-- an EPC's numbers all fit
+lawful_or_unfit : (e : Parts) (n : ℕ) → IsLawful e → HasUnfit e n → ⊥
+lawful_or_unfit e n a b =
+    let fields : b.fields ≡ a.fields = one_fields e b.fields a.fields b.has a.has in
+    fit_or_unfit a.fields n a.fit (subst (λ (z : List Field). FirstUnfit z n) fields b.first)
+
+-- the digits of a company prefix that has a row
+counted : (k : Kind) (f d c t n : ℕ) (fs : List Field) → HasPartition k f d c t n fs → (6 ≤ d) × (d ≤ 12)
+counted k f d c t n fs a =
+    let s = (layout_sound k a.layout a.scheme).rows a.partition a.row a.placed in
+    (omega (arith, a.counted, s.partition), omega (arith, a.counted))
+
+-- a filter value before a number that does not fit
+filter_fits : (k : Kind) (f d c t n m : ℕ) → HasUnfit (Partitioned k f d c t n) (suc (suc (suc m))) → f < 8
+filter_fits k f d c t n m a =
+    let before = subst (λ (z : List Field). AllFit (take (suc (suc (suc m))) z)) a.has.filled a.first.before in
+    before.1.0.bits
+
+-- the fault of a number by its place behind the partition value, or behind the header of GID-96
+abbrev number_fault : ℕ → EpcFault
+number_fault m = cond (m == 0) epc.Prefix (cond (m == 1) epc.Reference epc.Last)
+
+-- the ways in which numbers fail
+abbrev Failure : Parts → EpcFault → Type 0
+Failure (Partitioned k f d c t n) e = ((epc.Filter ≡ e) × (8 ≤ f)) ⊎ (((epc.Digits ≡ e) × (f < 8) × ¬ ((6 ≤ d) × (d ≤ 12)))
+    ⊎ ((m : ℕ) × (number_fault m ≡ e) × HasUnfit (Partitioned k f d c t n) (suc (suc (suc m)))))
+Failure (General m o s) e = (n : ℕ) × (number_fault n ≡ e) × HasUnfit (General m o s) (suc n)
+
+-- each fault is one of them
+failure : (e : Parts) (f : EpcFault) → HasEpcFault e f → Failure e f
+failure (Partitioned k f d c t n) epc.Filter a = inl (refl, a)
+failure (Partitioned k f d c t n) epc.Digits a = inr (inl (refl, a.0, a.1))
+failure (Partitioned k f d c t n) epc.Prefix a = inr (inr (0, refl, a))
+failure (Partitioned k f d c t n) epc.Reference a = inr (inr (1, refl, a))
+failure (Partitioned k f d c t n) epc.Last a = inr (inr (2, refl, a))
+failure (General m o s) epc.Filter a = absurd a
+failure (General m o s) epc.Digits a = absurd a
+failure (General m o s) epc.Prefix a = (0, refl, a)
+failure (General m o s) epc.Reference a = (1, refl, a)
+failure (General m o s) epc.Last a = (2, refl, a)
+
+-- two failures of the same numbers are one fault
+one_check : (e : Parts) (f g : EpcFault) → Failure e f → Failure e g → f ≡ g
+one_check (General m o s) f g a b =
+    let place : a.0 ≡ b.0 = let up = unfit_place (General m o s) (suc a.0) (suc b.0) a.2 b.2 in omega arith in
+    sym a.1 ∙ ap number_fault place ∙ b.1
+one_check (Partitioned k f d c t n) e g (inl a) (inl b) = sym a.0 ∙ b.0
+one_check (Partitioned k f d c t n) e g (inl a) (inr (inl b)) = absurd (omega (arith, a.1, b.1))
+one_check (Partitioned k f d c t n) e g (inl a) (inr (inr b)) = absurd (omega (arith, a.1, filter_fits k f d c t n b.0 b.2))
+one_check (Partitioned k f d c t n) e g (inr (inl a)) (inl b) = absurd (omega (arith, b.1, a.1))
+one_check (Partitioned k f d c t n) e g (inr (inl a)) (inr (inl b)) = sym a.0 ∙ b.0
+one_check (Partitioned k f d c t n) e g (inr (inl a)) (inr (inr b)) = absurd (a.2 (counted k f d c t n b.2.fields b.2.has))
+one_check (Partitioned k f d c t n) e g (inr (inr a)) (inl b) = absurd (omega (arith, b.1, filter_fits k f d c t n a.0 a.2))
+one_check (Partitioned k f d c t n) e g (inr (inr a)) (inr (inl b)) = absurd (b.2 (counted k f d c t n a.2.fields a.2.has))
+one_check (Partitioned k f d c t n) e g (inr (inr a)) (inr (inr b)) =
+    let place : a.0 ≡ b.0 = let up = unfit_place (Partitioned k f d c t n) (suc (suc (suc a.0))) (suc (suc (suc b.0))) a.2 b.2 in omega arith in
+    sym a.1 ∙ ap number_fault place ∙ b.1
+
+-- numbers have one fault
+pub one_epc_fault : (e : Parts) (f g : EpcFault) → HasEpcFault e f → HasEpcFault e g → f ≡ g
+one_epc_fault e f g a b = one_check e f g (failure e f a) (failure e g b)
+
+-- an EPC's numbers do not fail
+lawful_or_check : (e : Parts) (f : EpcFault) → IsLawful e → Failure e f → ⊥
+lawful_or_check (General m o s) f a b = lawful_or_unfit (General m o s) (suc b.0) a b.2
+lawful_or_check (Partitioned k f d c t n) e a (inl b) =
+    let fit = subst (λ (z : List Field). AllFit z) a.has.filled a.fit in
+    let small : f < 2 ^ 3 = fit.1.0.bits in
+    omega (arith, b.1)
+lawful_or_check (Partitioned k f d c t n) e a (inr (inl b)) = b.2 (counted k f d c t n a.fields a.has)
+lawful_or_check (Partitioned k f d c t n) e a (inr (inr b)) = lawful_or_unfit (Partitioned k f d c t n) (suc (suc (suc b.0))) a b.2
+
+-- an EPC's numbers have no fault
+pub lawful_or_epc_fault : (e : Parts) (f : EpcFault) → IsLawful e → HasEpcFault e f → ⊥
+lawful_or_epc_fault e f a b = lawful_or_check e f a (failure e f b)
