@@ -5,3 +5,4 @@ pub mod FieldLemmas
 pub mod UnfitLemmas
 pub mod OneReading
 pub mod OneFault
+pub mod EpcFields

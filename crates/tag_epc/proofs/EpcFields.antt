@@ -1,0 +1,194 @@
+-- The fields of numbers that are checked or read.
+use Rattle.std.proofs.Common.{◌≡◌, ℕ, zero, suc, ◌+◌, ◌-◌, ◌/◌, ◌^◌, ◌<◌, ◌≤◌, Bool, List, [], ◌∷◌, ◌++◌, length, Option, Some, None, true, refl, sym, ap, subst, ◌∙◌, arith, length-append}
+use Rattle.std.proofs.lemmas.List.{append_assoc, append-nil}
+use Rattle.tag_bits.specs.Digits.{digits, word_digits}
+use Rattle.tag_bits.proofs.DigitLemmas.{length-digits}
+use Rattle.tag_epc.specs.declared.scheme.Row.{Row}
+use Rattle.tag_epc.specs.declared.kind.Kind.{Kind}
+use Rattle.tag_epc.specs.declared.check.Number.{Number}
+use Rattle.tag_epc.specs.declared.check.Number.TheVariants.{Company, Reference, Last}
+use Rattle.tag_epc.specs.declared.epc.Parts.{Parts}
+use Rattle.tag_epc.specs.declared.epc.Parts.TheVariants.{Partitioned, General}
+use Rattle.tag_epc.specs.declared.fault.WordReason.TheVariants as word
+use Rattle.tag_epc.specs.declared.fault.WordFault.{WordFault}
+use Rattle.tag_epc.specs.Layout.{Layout, is_sound, layout_of, header_of, row_at, plain, last_segment, leading_segments, gid_header, gid_segments}
+use Rattle.tag_epc.specs.LawfulWord.{Field, fill, Fits, AllFit, spell, HasPartition, HasFields, IsLawful, Spells, HasWord}
+use Rattle.tag_epc.specs.Faults.{FirstUnfit, HasUnfit, HasFault, AllRead}
+use Rattle.tag_epc.specs.Numbers.{place_of_number}
+use Rattle.tag_epc.proofs.Soundness.{FitsRow, IsSound, sound}
+use Rattle.tag_epc.proofs.UnfitLemmas.{numbers, fits_plain}
+use Rattle.tag_epc.proofs.FieldLemmas.{all_read}
+use Rattle.tag_epc.proofs.OneReading.{row_fields, one_fields}
+
+-- a scheme, a row of it and a filter value
+pub record Placed (k : Kind) (l : Layout) (r : Row) (f p : ℕ) : Type 0 where
+  pub scheme : layout_of k ≡ Some l
+  pub sound : IsSound l
+  pub row : row_at l p ≡ Some r
+  pub filter : f < 8
+
+-- a row that was found
+pub placed : (k : Kind) (l : Layout) (r : Row) (f p : ℕ) (found : Option Row) → layout_of k ≡ Some l → is_sound l ≡ true → found ≡ row_at l p → found ≡ Some r → f < 8 → Placed k l r f p
+placed k l r f p found scheme s at is filter = record { scheme = scheme; sound = sound l s; row = sym at ∙ is; filter = filter }
+
+-- the fields of a row are those of its EPC
+row_has : (k : Kind) (l : Layout) (r : Row) (f p d c t n : ℕ) → Placed k l r f p → p + d ≡ 12 → HasPartition k f d c t n (row_fields l r f p c t n)
+row_has k l r f p d c t n a e = record { layout = l; row = r; partition = p; scheme = a.scheme; placed = a.row; counted = e; filled = refl }
+
+-- the three leading fields fit
+leading_fit : (k : Kind) (l : Layout) (r : Row) (f p : ℕ) → Placed k l r f p
+    → Fits (record { segment = plain 8; number = l.header }) × Fits (record { segment = plain 3; number = f }) × Fits (record { segment = plain 3; number = p })
+leading_fit k l r f p a = let s = a.sound.rows p r a.row in (fits_plain 8 l.header a.sound.header, fits_plain 3 f a.filter, fits_plain 3 p (omega (arith, s.partition)))
+
+-- a number behind the partition value that does not fit, among all fields
+behind_leading : (k : Kind) (l : Layout) (r : Row) (f p c t n m : ℕ) → Placed k l r f p → FirstUnfit (numbers l r c t n) m → FirstUnfit (row_fields l r f p c t n) (suc (suc (suc m)))
+behind_leading k l r f p c t n m a u =
+    let front = leading_fit k l r f p a in
+    record { unfit = u.unfit; stands = u.stands; before = (front.0, (front.1, (front.2, u.before))); fails = u.fails }
+
+-- numbers of which one does not fit
+pub epc_unfit : (k : Kind) (l : Layout) (r : Row) (f p d c t n : ℕ) (told m : Number) → Placed k l r f p → p + d ≡ 12 → told ≡ m → FirstUnfit (numbers l r c t n) (place_of_number told)
+    → HasUnfit (Partitioned k f d c t n) (suc (suc (suc (place_of_number m))))
+epc_unfit k l r f p d c t n told m a e is u =
+    let first : FirstUnfit (numbers l r c t n) (place_of_number m) = subst (λ (x : Number). FirstUnfit (numbers l r c t n) (place_of_number x)) is u in
+    record { fields = row_fields l r f p c t n; has = row_has k l r f p d c t n a e; first = behind_leading k l r f p c t n (place_of_number m) a first }
+
+-- numbers that all fit
+pub epc_lawful : (k : Kind) (l : Layout) (r : Row) (f p d c t n : ℕ) → Placed k l r f p → p + d ≡ 12 → AllFit (numbers l r c t n) → IsLawful (Partitioned k f d c t n)
+epc_lawful k l r f p d c t n a e fit =
+    let front = leading_fit k l r f p a in
+    record { fields = row_fields l r f p c t n; has = row_has k l r f p d c t n a e; fit = (front.0, (front.1, (front.2, fit))) }
+
+-- a lawful EPC's fields are those of its row
+pub lawful_fields : (k : Kind) (l : Layout) (r : Row) (f p d c t n : ℕ) → layout_of k ≡ Some l → row_at l p ≡ Some r → p + d ≡ 12 → (a : IsLawful (Partitioned k f d c t n)) → a.fields ≡ row_fields l r f p c t n
+lawful_fields k l r f p d c t n scheme row e a =
+    one_fields (Partitioned k f d c t n) a.fields (row_fields l r f p c t n) a.has (record { layout = l; row = r; partition = p; scheme = scheme; placed = row; counted = e; filled = refl })
+
+-- the numbers of GID-96 that fit
+pub gid_lawful : (m o s : ℕ) → m < 2 ^ 28 → o < 2 ^ 24 → s < 2 ^ 36 → IsLawful (General m o s)
+gid_lawful m o s a b d = record {
+  fields = fill gid_segments (gid_header ∷ m ∷ o ∷ s ∷ []);
+  has = refl;
+  fit = (fits_plain 8 gid_header (omega arith), (fits_plain 28 m a, (fits_plain 24 o b, (fits_plain 36 s d, tt))));
+}
+
+-- a manager number of GID-96 that does not fit
+pub manager_unfit : (m o s : ℕ) → 2 ^ 28 ≤ m → HasUnfit (General m o s) 1
+manager_unfit m o s h = record {
+  fields = fill gid_segments (gid_header ∷ m ∷ o ∷ s ∷ []);
+  has = refl;
+  first = record { unfit = record { segment = plain 28; number = m }; stands = refl; before = (fits_plain 8 gid_header (omega arith), tt); fails = λ f. let b : m < 2 ^ 28 = f.bits in omega arith };
+}
+
+-- an object class of GID-96 that does not fit
+pub class_unfit : (m o s : ℕ) → m < 2 ^ 28 → 2 ^ 24 ≤ o → HasUnfit (General m o s) 2
+class_unfit m o s a h = record {
+  fields = fill gid_segments (gid_header ∷ m ∷ o ∷ s ∷ []);
+  has = refl;
+  first = record { unfit = record { segment = plain 24; number = o }; stands = refl; before = (fits_plain 8 gid_header (omega arith), (fits_plain 28 m a, tt)); fails = λ f. let b : o < 2 ^ 24 = f.bits in omega arith };
+}
+
+-- a serial number of GID-96 that does not fit
+pub serial_unfit : (m o s : ℕ) → m < 2 ^ 28 → o < 2 ^ 24 → 2 ^ 36 ≤ s → HasUnfit (General m o s) 3
+serial_unfit m o s a b h = record {
+  fields = fill gid_segments (gid_header ∷ m ∷ o ∷ s ∷ []);
+  has = refl;
+  first = record { unfit = record { segment = plain 36; number = s }; stands = refl; before = (fits_plain 8 gid_header (omega arith), (fits_plain 28 m a, (fits_plain 24 o b, tt))); fails = λ f. let d : s < 2 ^ 36 = f.bits in omega arith };
+}
+
+-- what is read behind a header: filter value, partition value, and the numbers of the row
+pub record Cut (l : Layout) (r : Row) (f p c t n : ℕ) (ds : List Bool) : Type 0 where
+  pub partition : p < 2 ^ 3
+  pub company : c < 2 ^ r.company_bits
+  pub reference : t < 2 ^ r.reference_bits
+  pub last : n < 2 ^ l.last_bits
+  pub digits_are : ds ≡ digits 3 f ++ (digits 3 p ++ (digits r.company_bits c ++ (digits r.reference_bits t ++ (digits l.last_bits n ++ []))))
+
+-- digits that have all been read
+no_digits : (ds : List Bool) → length ds ≡ 0 → ds ≡ []
+no_digits [] h = refl
+no_digits (d ∷ ds) h = absurd (omega arith)
+
+-- the reads one after another
+pub cut : (l : Layout) (r : Row) (f p c t n : ℕ) (r0 r1 r2 r3 r4 r5 : List Bool) → p < 2 ^ 3 → c < 2 ^ r.company_bits → t < 2 ^ r.reference_bits → n < 2 ^ l.last_bits
+    → r0 ≡ digits 3 f ++ r1 → r1 ≡ digits 3 p ++ r2 → r2 ≡ digits r.company_bits c ++ r3 → r3 ≡ digits r.reference_bits t ++ r4 → r4 ≡ digits l.last_bits n ++ r5 → length r5 ≡ 0
+    → Cut l r f p c t n r0
+cut l r f p c t n r0 r1 r2 r3 r4 r5 a b d e x0 x1 x2 x3 x4 done = record {
+  partition = a;
+  company = b;
+  reference = d;
+  last = e;
+  digits_are = let empty : r5 ≡ [] = no_digits r5 done in rw (x0, x1, x2, x3, x4, empty) refl;
+}
+
+-- the digits of a word behind a scheme's header
+cut_spelled : (l : Layout) (r : Row) (f p c t n : ℕ) (ds : List Bool) → Cut l r f p c t n ds → digits 8 l.header ++ ds ≡ spell (row_fields l r f p c t n)
+cut_spelled l r f p c t n ds a = ap (λ (x : List Bool). digits 8 l.header ++ x) a.digits_are
+
+-- a word that is read whole, and whose numbers all fit
+pub cut_lawful : (k : Kind) (l : Layout) (r : Row) (f p c t n : ℕ) (ds : List Bool) → Placed k l r f p → Cut l r f p c t n ds → AllFit (numbers l r c t n)
+    → Spells (Partitioned k f r.company_digits c t n) (digits 8 l.header ++ ds)
+cut_lawful k l r f p c t n ds a x fit =
+    let s = a.sound.rows p r a.row in
+    let front = leading_fit k l r f p a in
+    record {
+      lawful = record { fields = row_fields l r f p c t n; has = row_has k l r f p r.company_digits c t n a (omega (arith, s.digits)); fit = (front.0, (front.1, (front.2, fit))) };
+      spelled = cut_spelled l r f p c t n ds x;
+    }
+
+-- the fault of the number that does not fit
+abbrev pub fault_of : Number → Row → WordFault
+fault_of Company r = record { bit = 14; reason = word.Prefix }
+fault_of Reference r = record { bit = 14 + r.company_bits; reason = word.Reference }
+fault_of Last r = record { bit = 14 + r.company_bits + r.reference_bits; reason = word.Zeros }
+
+-- a word that is read whole, and of whose numbers one does not fit
+pub cut_fault : (k : Kind) (l : Layout) (r : Row) (f p c t n : ℕ) (ds : List Bool) (m : Number) → Placed k l r f p → Cut l r f p c t n ds → FirstUnfit (numbers l r c t n) (place_of_number m)
+    → HasFault (digits 8 l.header ++ ds) (fault_of m r)
+cut_fault k l r f p c t n ds Company a x u = let s = a.sound.rows p r a.row in record {
+  fields = row_fields l r f p c t n;
+  rest = [];
+  spelled = cut_spelled l r f p c t n ds x ∙ sym (append-nil (spell (row_fields l r f p c t n)));
+  read = (a.sound.header, (a.filter, (x.partition, (x.company, (x.reference, (x.last, tt))))));
+  fails = record { epc = Partitioned k f r.company_digits c t n; has = row_has k l r f p r.company_digits c t n a (omega (arith, s.digits)); first = behind_leading k l r f p c t n 0 a u };
+  bit = simp (length-append, length-digits) refl;
+}
+cut_fault k l r f p c t n ds Reference a x u = let s = a.sound.rows p r a.row in record {
+  fields = row_fields l r f p c t n;
+  rest = [];
+  spelled = cut_spelled l r f p c t n ds x ∙ sym (append-nil (spell (row_fields l r f p c t n)));
+  read = (a.sound.header, (a.filter, (x.partition, (x.company, (x.reference, (x.last, tt))))));
+  fails = record { epc = Partitioned k f r.company_digits c t n; has = row_has k l r f p r.company_digits c t n a (omega (arith, s.digits)); first = behind_leading k l r f p c t n 1 a u };
+  bit = simp (length-append, length-digits) (omega arith);
+}
+cut_fault k l r f p c t n ds Last a x u = let s = a.sound.rows p r a.row in record {
+  fields = row_fields l r f p c t n;
+  rest = [];
+  spelled = cut_spelled l r f p c t n ds x ∙ sym (append-nil (spell (row_fields l r f p c t n)));
+  read = (a.sound.header, (a.filter, (x.partition, (x.company, (x.reference, (x.last, tt))))));
+  fails = record { epc = Partitioned k f r.company_digits c t n; has = row_has k l r f p r.company_digits c t n a (omega (arith, s.digits)); first = behind_leading k l r f p c t n 2 a u };
+  bit = simp (length-append, length-digits) (omega arith);
+}
+
+-- a word whose partition value has no row
+pub row_fault : (k : Kind) (l : Layout) (f p : ℕ) (r0 r1 r2 : List Bool) → layout_of k ≡ Some l → IsSound l → f < 2 ^ 3 → p < 2 ^ 3 → r0 ≡ digits 3 f ++ r1 → r1 ≡ digits 3 p ++ r2 → row_at l p ≡ None
+    → HasFault (digits 8 l.header ++ r0) (record { bit = 11; reason = word.Partition })
+row_fault k l f p r0 r1 r2 scheme s a b x0 x1 none = record {
+  fields = fill leading_segments (l.header ∷ f ∷ p ∷ []);
+  rest = r2;
+  spelled = rw (x0, x1) (simp append_assoc refl);
+  read = (s.header, (a, (b, tt)));
+  fails = record { kind = k; layout = l; filter = f; partition = p; scheme = scheme; none = none; filled = refl };
+  bit = simp (length-append, length-digits) refl;
+}
+
+-- a word whose header is no scheme's
+pub header_fault : (w h : ℕ) (r0 r1 : List Bool) → r0 ≡ word_digits w → r0 ≡ digits 8 h ++ r1 → h < 2 ^ 8 → ((k : Kind) → header_of k ≡ h → ⊥) → HasFault (word_digits w) (record { bit = 0; reason = word.Header })
+header_fault w h r0 r1 e x below none = record {
+  fields = fill (plain 8 ∷ []) (h ∷ []);
+  rest = r1;
+  spelled = sym e ∙ x ∙ ap (λ (ds : List Bool). ds ++ r1) (sym (append-nil (digits 8 h)));
+  read = (below, tt);
+  fails = record { header = h; filled = refl; unknown = none };
+  bit = refl;
+}

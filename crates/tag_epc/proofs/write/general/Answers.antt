@@ -1,0 +1,9 @@
+use Rattle.std.proofs.Common.{rules, ◌≡◌, ℕ, [], ◌∷◌, ◌++◌, Some, ◌+◌, ◌-◌, ◌*◌, ◌<◌, ◌≤◌, length, ◌/◌, ◌%◌, Bool, true, false, nat_eq, nat_lt, List, slice_index_or, slice_set, bit_and, bit_or, Fits, w8, w32, w64, Bor, MutBor}
+use Rattle.tag_bits.specs.Digits.{word_digits}
+use Rattle.tag_epc.specs.Layout.{layout_of, row_at, gid_header, leading_segments, number_segments}
+use Rattle.tag_epc.specs.LawfulWord.{IsLawful, HasWord, AllFit, fill, spell}
+use Rattle.tag_epc.proofs.write.general.Goals as goal
+
+-- src/write.rt:69:1
+pub returns : goal.returns
+returns c = ?
