@@ -1,5 +1,5 @@
 -- The fields of numbers that are checked or read.
-use Rattle.std.proofs.Common.{◌≡◌, ℕ, zero, suc, ◌+◌, ◌-◌, ◌/◌, ◌^◌, ◌<◌, ◌≤◌, Bool, List, [], ◌∷◌, ◌++◌, length, Option, Some, None, true, refl, sym, ap, subst, ◌∙◌, arith, length-append}
+use Rattle.std.proofs.Common.{◌≡◌, ℕ, zero, suc, ◌+◌, ◌-◌, ◌/◌, ◌^◌, ◌<◌, ◌≤◌, Bool, List, [], ◌∷◌, ◌++◌, length, take, Option, Some, None, true, refl, sym, ap, subst, ◌∙◌, arith, length-append}
 use Rattle.std.proofs.lemmas.List.{append_assoc, append-nil}
 use Rattle.tag_bits.specs.Digits.{digits, word_digits}
 use Rattle.tag_bits.proofs.DigitLemmas.{length-digits}
@@ -13,7 +13,7 @@ use Rattle.tag_epc.specs.declared.fault.WordReason.TheVariants as word
 use Rattle.tag_epc.specs.declared.fault.WordFault.{WordFault}
 use Rattle.tag_epc.specs.Layout.{Layout, is_sound, layout_of, header_of, row_at, plain, last_segment, leading_segments, gid_header, gid_segments}
 use Rattle.tag_epc.specs.LawfulWord.{Field, fill, Fits, AllFit, spell, HasPartition, HasFields, IsLawful, Spells, HasWord}
-use Rattle.tag_epc.specs.Faults.{FirstUnfit, HasUnfit, HasFault, AllRead}
+use Rattle.tag_epc.specs.Faults.{FirstUnfit, HasUnfit, HasUnfitAt, HasFault, Fails, place_of}
 use Rattle.tag_epc.specs.Numbers.{place_of_number}
 use Rattle.tag_epc.proofs.Soundness.{FitsRow, IsSound, sound}
 use Rattle.tag_epc.proofs.UnfitLemmas.{numbers, fits_plain}
@@ -110,15 +110,15 @@ no_digits [] h = refl
 no_digits (d ∷ ds) h = absurd (omega arith)
 
 -- the reads one after another
-pub cut : (l : Layout) (r : Row) (f p c t n : ℕ) (r0 r1 r2 r3 r4 r5 : List Bool) → p < 2 ^ 3 → c < 2 ^ r.company_bits → t < 2 ^ r.reference_bits → n < 2 ^ l.last_bits
-    → r0 ≡ digits 3 f ++ r1 → r1 ≡ digits 3 p ++ r2 → r2 ≡ digits r.company_bits c ++ r3 → r3 ≡ digits r.reference_bits t ++ r4 → r4 ≡ digits l.last_bits n ++ r5 → length r5 ≡ 0
+pub cut : (l : Layout) (r : Row) (f p c t n w : ℕ) (r0 r1 r2 r3 r4 r5 : List Bool) → w ≡ l.last_bits → p < 2 ^ 3 → c < 2 ^ r.company_bits → t < 2 ^ r.reference_bits → n < 2 ^ w
+    → r0 ≡ digits 3 f ++ r1 → r1 ≡ digits 3 p ++ r2 → r2 ≡ digits r.company_bits c ++ r3 → r3 ≡ digits r.reference_bits t ++ r4 → r4 ≡ digits w n ++ r5 → length r5 ≡ 0
     → Cut l r f p c t n r0
-cut l r f p c t n r0 r1 r2 r3 r4 r5 a b d e x0 x1 x2 x3 x4 done = record {
+cut l r f p c t n w r0 r1 r2 r3 r4 r5 bits a b d e x0 x1 x2 x3 x4 done = record {
   partition = a;
   company = b;
   reference = d;
-  last = e;
-  digits_are = let empty : r5 ≡ [] = no_digits r5 done in rw (x0, x1, x2, x3, x4, empty) refl;
+  last = subst (λ (k : ℕ). n < 2 ^ k) bits e;
+  digits_are = let empty : r5 ≡ [] = no_digits r5 done in rw (x0, x1, x2, x3, x4, empty, bits) refl;
 }
 
 -- the digits of a word behind a scheme's header
@@ -142,53 +142,66 @@ fault_of Company r = record { bit = 14; reason = word.Prefix }
 fault_of Reference r = record { bit = 14 + r.company_bits; reason = word.Reference }
 fault_of Last r = record { bit = 14 + r.company_bits + r.reference_bits; reason = word.Zeros }
 
+-- the reason of a number that does not fit
+reason_fails : (m : Number) (l : Layout) (r : Row) (f p c t n : ℕ) → HasUnfitAt (suc (suc (suc (place_of_number m)))) (row_fields l r f p c t n) → Fails (fault_of m r).reason (row_fields l r f p c t n)
+reason_fails Company l r f p c t n a = a
+reason_fails Reference l r f p c t n a = a
+reason_fails Last l r f p c t n a = a
+
+-- the first bit of a number
+number_bit : (m : Number) (l : Layout) (r : Row) (f p c t n : ℕ) → (fault_of m r).bit ≡ length (spell (take (place_of (fault_of m r).reason) (row_fields l r f p c t n)))
+number_bit Company l r f p c t n = simp (length-append, length-digits) refl
+number_bit Reference l r f p c t n = simp (length-append, length-digits) (omega arith)
+number_bit Last l r f p c t n = simp (length-append, length-digits) (omega arith)
+
 -- a word that is read whole, and of whose numbers one does not fit
-pub cut_fault : (k : Kind) (l : Layout) (r : Row) (f p c t n : ℕ) (ds : List Bool) (m : Number) → Placed k l r f p → Cut l r f p c t n ds → FirstUnfit (numbers l r c t n) (place_of_number m)
+cut_unfit : (k : Kind) (l : Layout) (r : Row) (f p c t n : ℕ) (ds : List Bool) (m : Number) → Placed k l r f p → Cut l r f p c t n ds → FirstUnfit (numbers l r c t n) (place_of_number m)
     → HasFault (digits 8 l.header ++ ds) (fault_of m r)
-cut_fault k l r f p c t n ds Company a x u = let s = a.sound.rows p r a.row in record {
+cut_unfit k l r f p c t n ds m a x u = let s = a.sound.rows p r a.row in record {
   fields = row_fields l r f p c t n;
   rest = [];
   spelled = cut_spelled l r f p c t n ds x ∙ sym (append-nil (spell (row_fields l r f p c t n)));
   read = (a.sound.header, (a.filter, (x.partition, (x.company, (x.reference, (x.last, tt))))));
-  fails = record { epc = Partitioned k f r.company_digits c t n; has = row_has k l r f p r.company_digits c t n a (omega (arith, s.digits)); first = behind_leading k l r f p c t n 0 a u };
-  bit = simp (length-append, length-digits) refl;
-}
-cut_fault k l r f p c t n ds Reference a x u = let s = a.sound.rows p r a.row in record {
-  fields = row_fields l r f p c t n;
-  rest = [];
-  spelled = cut_spelled l r f p c t n ds x ∙ sym (append-nil (spell (row_fields l r f p c t n)));
-  read = (a.sound.header, (a.filter, (x.partition, (x.company, (x.reference, (x.last, tt))))));
-  fails = record { epc = Partitioned k f r.company_digits c t n; has = row_has k l r f p r.company_digits c t n a (omega (arith, s.digits)); first = behind_leading k l r f p c t n 1 a u };
-  bit = simp (length-append, length-digits) (omega arith);
-}
-cut_fault k l r f p c t n ds Last a x u = let s = a.sound.rows p r a.row in record {
-  fields = row_fields l r f p c t n;
-  rest = [];
-  spelled = cut_spelled l r f p c t n ds x ∙ sym (append-nil (spell (row_fields l r f p c t n)));
-  read = (a.sound.header, (a.filter, (x.partition, (x.company, (x.reference, (x.last, tt))))));
-  fails = record { epc = Partitioned k f r.company_digits c t n; has = row_has k l r f p r.company_digits c t n a (omega (arith, s.digits)); first = behind_leading k l r f p c t n 2 a u };
-  bit = simp (length-append, length-digits) (omega arith);
+  fails = reason_fails m l r f p c t n (record { epc = Partitioned k f r.company_digits c t n; has = row_has k l r f p r.company_digits c t n a (omega (arith, s.digits)); first = behind_leading k l r f p c t n (place_of_number m) a u });
+  bit = number_bit m l r f p c t n;
 }
 
+-- the same, where the fault and its number are told
+pub cut_fault : (k : Kind) (l : Layout) (r : Row) (f p c t n : ℕ) (ds : List Bool) (told m : Number) (fault : WordFault) → Placed k l r f p → Cut l r f p c t n ds → told ≡ m → fault ≡ fault_of m r
+    → FirstUnfit (numbers l r c t n) (place_of_number told) → HasFault (digits 8 l.header ++ ds) fault
+cut_fault k l r f p c t n ds told m fault a x is same u =
+    subst (λ (z : WordFault). HasFault (digits 8 l.header ++ ds) z) (sym same)
+    (cut_unfit k l r f p c t n ds m a x (subst (λ (z : Number). FirstUnfit (numbers l r c t n) (place_of_number z)) is u))
+
 -- a word whose partition value has no row
-pub row_fault : (k : Kind) (l : Layout) (f p : ℕ) (r0 r1 r2 : List Bool) → layout_of k ≡ Some l → IsSound l → f < 2 ^ 3 → p < 2 ^ 3 → r0 ≡ digits 3 f ++ r1 → r1 ≡ digits 3 p ++ r2 → row_at l p ≡ None
-    → HasFault (digits 8 l.header ++ r0) (record { bit = 11; reason = word.Partition })
-row_fault k l f p r0 r1 r2 scheme s a b x0 x1 none = record {
+pub row_fault : (k : Kind) (l : Layout) (f p : ℕ) (r0 r1 r2 : List Bool) (fault : WordFault) (found : Option Row) → layout_of k ≡ Some l → is_sound l ≡ true → f < 2 ^ 3 → p < 2 ^ 3
+    → r0 ≡ digits 3 f ++ r1 → r1 ≡ digits 3 p ++ r2 → found ≡ row_at l p → found ≡ None → fault ≡ record { bit = 11; reason = word.Partition }
+    → HasFault (digits 8 l.header ++ r0) fault
+row_fault k l f p r0 r1 r2 fault found scheme s a b x0 x1 at none same = subst (λ (z : WordFault). HasFault (digits 8 l.header ++ r0) z) (sym same) (record {
   fields = fill leading_segments (l.header ∷ f ∷ p ∷ []);
   rest = r2;
   spelled = rw (x0, x1) (simp append_assoc refl);
-  read = (s.header, (a, (b, tt)));
-  fails = record { kind = k; layout = l; filter = f; partition = p; scheme = scheme; none = none; filled = refl };
+  read = ((sound l s).header, (a, (b, tt)));
+  fails = record { kind = k; layout = l; filter = f; partition = p; scheme = scheme; none = sym at ∙ none; filled = refl };
   bit = simp (length-append, length-digits) refl;
-}
+})
 
 -- a word whose header is no scheme's
-pub header_fault : (w h : ℕ) (r0 r1 : List Bool) → r0 ≡ word_digits w → r0 ≡ digits 8 h ++ r1 → h < 2 ^ 8 → ((k : Kind) → header_of k ≡ h → ⊥) → HasFault (word_digits w) (record { bit = 0; reason = word.Header })
-header_fault w h r0 r1 e x below none = record {
+pub header_fault : (w h : ℕ) (r0 r1 : List Bool) (fault : WordFault) → r0 ≡ word_digits w → r0 ≡ digits 8 h ++ r1 → h < 2 ^ 8 → ((k : Kind) → header_of k ≡ h → ⊥)
+    → fault ≡ record { bit = 0; reason = word.Header } → HasFault (word_digits w) fault
+header_fault w h r0 r1 fault e x below none same = subst (λ (z : WordFault). HasFault (word_digits w) z) (sym same) (record {
   fields = fill (plain 8 ∷ []) (h ∷ []);
   rest = r1;
   spelled = sym e ∙ x ∙ ap (λ (ds : List Bool). ds ++ r1) (sym (append-nil (digits 8 h)));
   read = (below, tt);
   fails = record { header = h; filled = refl; unknown = none };
   bit = refl;
+})
+
+-- a word of GID-96 that is read whole
+pub gid_spelled : (m o s : ℕ) (r0 r1 r2 r3 : List Bool) → m < 2 ^ 28 → o < 2 ^ 24 → s < 2 ^ 36 → r0 ≡ digits 28 m ++ r1 → r1 ≡ digits 24 o ++ r2 → r2 ≡ digits 36 s ++ r3 → length r3 ≡ 0
+    → Spells (General m o s) (digits 8 gid_header ++ r0)
+gid_spelled m o s r0 r1 r2 r3 a b d x0 x1 x2 done = record {
+  lawful = record { fields = fill gid_segments (gid_header ∷ m ∷ o ∷ s ∷ []); has = refl; fit = (fits_plain 8 gid_header (omega arith), (fits_plain 28 m a, (fits_plain 24 o b, (fits_plain 36 s d, tt)))) };
+  spelled = let empty : r3 ≡ [] = no_digits r3 done in rw (x0, x1, x2, empty) refl;
 }

@@ -1,10 +1,8 @@
-use Rattle.std.proofs.Common.{rules, ◌≡◌, ℕ, [], ◌++◌, Some, length, IfOk, IfErr, ◌+◌, ◌-◌, ◌*◌, ◌<◌, ◌≤◌, ◌/◌, ◌%◌, Bool, true, false, nat_eq, nat_lt, List, ◌∷◌, slice_index_or, slice_set, bit_and, bit_or, Fits, w8, w32, w64, Bor, MutBor}
-use Rattle.tag_bits.specs.Digits.{digits}
-use Rattle.tag_epc.specs.Layout.{layout_of, gid_header}
-use Rattle.tag_epc.specs.LawfulWord.{Spells, HasWord}
-use Rattle.tag_epc.specs.Faults.{HasFault, HasWordFault}
+use Rattle.std.proofs.Common.{◌≡◌, ℕ, ◌+◌, arith}
+use Rattle.tag_epc.proofs.EpcFields.{gid_spelled}
 use Rattle.tag_epc.proofs.read.general.Goals as goal
 
--- src/read.rt:65:1
 pub returns : goal.returns
-returns c = ?
+returns c =
+    gid_spelled c.take-manager.result c.take-object_class.result c.take-serial.result c.args.reader c.take-manager.new.self c.take-object_class.new.self c.take-serial.new.self
+    c.take-manager.ensures.below c.take-object_class.ensures.below c.take-serial.ensures.below c.take-manager.ensures.read c.take-object_class.ensures.read c.take-serial.ensures.read (omega arith)
