@@ -205,3 +205,21 @@ gid_spelled m o s r0 r1 r2 r3 a b d x0 x1 x2 done = record {
   lawful = record { fields = fill gid_segments (gid_header ∷ m ∷ o ∷ s ∷ []); has = refl; fit = (fits_plain 8 gid_header (omega arith), (fits_plain 28 m a, (fits_plain 24 o b, (fits_plain 36 s d, tt)))) };
   spelled = let empty : r3 ≡ [] = no_digits r3 done in rw (x0, x1, x2, empty) refl;
 }
+
+-- the fields of a row written one after another
+pub written : (l : Layout) (r : Row) (f p c t n h w : ℕ) (d0 d1 d2 d3 d4 d5 d6 : List Bool) → h ≡ l.header → w ≡ l.last_bits → d0 ≡ [] → d1 ≡ d0 ++ digits 8 h → d2 ≡ d1 ++ digits 3 f → d3 ≡ d2 ++ digits 3 p
+    → d4 ≡ d3 ++ digits r.company_bits c → d5 ≡ d4 ++ digits r.reference_bits t → d6 ≡ d5 ++ digits w n → d6 ≡ spell (row_fields l r f p c t n)
+written l r f p c t n h w d0 d1 d2 d3 d4 d5 d6 header bits e0 e1 e2 e3 e4 e5 e6 = rw (e6, e5, e4, e3, e2, e1, e0, header, bits) (simp (append_assoc, append-nil) refl)
+
+-- the word of an EPC with a company prefix
+pub written_word : (k : Kind) (l : Layout) (r : Row) (f p d c t n : ℕ) (found : Option Row) (ds : List Bool) → layout_of k ≡ Some l → found ≡ row_at l p → found ≡ Some r → p + d ≡ 12 → IsLawful (Partitioned k f d c t n)
+    → ds ≡ spell (row_fields l r f p c t n) → Spells (Partitioned k f d c t n) ds
+written_word k l r f p d c t n found ds scheme at is e a x = record { lawful = a; spelled = x ∙ ap spell (sym (lawful_fields k l r f p d c t n scheme (sym at ∙ is) e a)) }
+
+-- the word of an EPC of GID-96
+pub written_gid : (m o s : ℕ) (d0 d1 d2 d3 d4 ds : List Bool) → d0 ≡ [] → d1 ≡ d0 ++ digits 8 gid_header → d2 ≡ d1 ++ digits 28 m → d3 ≡ d2 ++ digits 24 o → d4 ≡ d3 ++ digits 36 s → ds ≡ d4
+    → IsLawful (General m o s) → Spells (General m o s) ds
+written_gid m o s d0 d1 d2 d3 d4 ds e0 e1 e2 e3 e4 e a = record {
+  lawful = a;
+  spelled = let all : ds ≡ spell (fill gid_segments (gid_header ∷ m ∷ o ∷ s ∷ [])) = rw (e, e4, e3, e2, e1, e0) (simp (append_assoc, append-nil) refl) in all ∙ ap spell (sym a.has);
+}

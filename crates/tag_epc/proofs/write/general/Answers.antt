@@ -1,9 +1,7 @@
-use Rattle.std.proofs.Common.{rules, ◌≡◌, ℕ, [], ◌∷◌, ◌++◌, Some, ◌+◌, ◌-◌, ◌*◌, ◌<◌, ◌≤◌, length, ◌/◌, ◌%◌, Bool, true, false, nat_eq, nat_lt, List, slice_index_or, slice_set, bit_and, bit_or, Fits, w8, w32, w64, Bor, MutBor}
-use Rattle.tag_bits.specs.Digits.{word_digits}
-use Rattle.tag_epc.specs.Layout.{layout_of, row_at, gid_header, leading_segments, number_segments}
-use Rattle.tag_epc.specs.LawfulWord.{IsLawful, HasWord, AllFit, fill, spell}
+use Rattle.tag_epc.proofs.EpcFields.{written_gid}
 use Rattle.tag_epc.proofs.write.general.Goals as goal
 
--- src/write.rt:69:1
 pub returns : goal.returns
-returns c = ?
+returns c =
+    written_gid c.args.manager c.args.object_class c.args.serial c.new-writer.result c.push.new.self c.push-2.new.self c.push-3.new.self c.push-4.new.self _
+    c.new-writer.ensures c.push.ensures.pushed c.push-2.ensures.pushed c.push-3.ensures.pushed c.push-4.ensures.pushed c.word.ensures c.requires
