@@ -1,9 +1,8 @@
 -- Digits pushed behind others, and taken from the front.
-use Rattle.std.proofs.Common.{◌≡◌, ℕ, ◌+◌, ◌-◌, ◌*◌, ◌/◌, ◌%◌, ◌^◌, ◌<◌, ◌≤◌, Bool, List, [], ◌++◌, length, drop, refl, sym, ap, subst, ◌∙◌, arith, bit_and, bit_or}
+use Rattle.std.proofs.Common.{◌≡◌, ℕ, ◌+◌, ◌-◌, ◌*◌, ◌/◌, ◌%◌, ◌^◌, ◌<◌, ◌≤◌, Bool, List, [], ◌++◌, length, refl, sym, ap, subst, ◌∙◌, arith, bit_and, bit_or}
 use Rattle.std.proofs.lemmas.Nat.{shr_below, mod_below, pow_pos, or_shifted, shl_whole}
-use Rattle.std.proofs.lemmas.List.{take_all, drop_all, append-nil}
 use Rattle.std.proofs.Math.Nat.{pow-le-pow_right}
-use Rattle.tag_bits.specs.Digits.{digits, word_digits, field, with_field}
+use Rattle.tag_bits.specs.Digits.{digits, word_digits}
 use Rattle.tag_bits.proofs.DigitLemmas.{length-digits, digits-join, digits-split}
 use Rattle.tag_bits.proofs.WordLemmas.{mask_is, two_below}
 

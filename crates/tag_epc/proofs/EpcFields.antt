@@ -1,5 +1,5 @@
 -- The fields of numbers that are checked or read.
-use Rattle.std.proofs.Common.{◌≡◌, ℕ, zero, suc, ◌+◌, ◌-◌, ◌/◌, ◌^◌, ◌<◌, ◌≤◌, Bool, List, [], ◌∷◌, ◌++◌, length, take, Option, Some, None, true, refl, sym, ap, subst, ◌∙◌, arith, length-append}
+use Rattle.std.proofs.Common.{◌≡◌, ℕ, suc, ◌+◌, ◌^◌, ◌<◌, ◌≤◌, Bool, List, [], ◌∷◌, ◌++◌, length, take, Option, Some, None, true, refl, sym, ap, subst, ◌∙◌, arith, length-append}
 use Rattle.std.proofs.lemmas.List.{append_assoc, append-nil}
 use Rattle.tag_bits.specs.Digits.{digits, word_digits}
 use Rattle.tag_bits.proofs.DigitLemmas.{length-digits}
@@ -7,17 +7,15 @@ use Rattle.tag_epc.specs.declared.scheme.Row.{Row}
 use Rattle.tag_epc.specs.declared.kind.Kind.{Kind}
 use Rattle.tag_epc.specs.declared.check.Number.{Number}
 use Rattle.tag_epc.specs.declared.check.Number.TheVariants.{Company, Reference, Last}
-use Rattle.tag_epc.specs.declared.epc.Parts.{Parts}
 use Rattle.tag_epc.specs.declared.epc.Parts.TheVariants.{Partitioned, General}
 use Rattle.tag_epc.specs.declared.fault.WordReason.TheVariants as word
 use Rattle.tag_epc.specs.declared.fault.WordFault.{WordFault}
-use Rattle.tag_epc.specs.Layout.{Layout, is_sound, layout_of, header_of, row_at, plain, last_segment, leading_segments, gid_header, gid_segments}
-use Rattle.tag_epc.specs.LawfulWord.{Field, fill, Fits, AllFit, spell, HasPartition, HasFields, IsLawful, Spells, HasWord}
+use Rattle.tag_epc.specs.Layout.{Layout, is_sound, layout_of, header_of, row_at, plain, leading_segments, gid_header, gid_segments}
+use Rattle.tag_epc.specs.LawfulWord.{fill, Fits, AllFit, spell, HasPartition, IsLawful, Spells}
 use Rattle.tag_epc.specs.Faults.{FirstUnfit, HasUnfit, HasUnfitAt, HasFault, Fails, place_of}
 use Rattle.tag_epc.specs.Numbers.{place_of_number}
-use Rattle.tag_epc.proofs.Soundness.{FitsRow, IsSound, sound}
+use Rattle.tag_epc.proofs.Soundness.{IsSound, sound}
 use Rattle.tag_epc.proofs.UnfitLemmas.{numbers, fits_plain}
-use Rattle.tag_epc.proofs.FieldLemmas.{all_read}
 use Rattle.tag_epc.proofs.OneReading.{row_fields, one_fields}
 
 -- a scheme, a row of it and a filter value

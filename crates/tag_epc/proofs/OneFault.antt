@@ -1,7 +1,7 @@
 -- A word, and numbers, have an EPC or one fault.
-use Rattle.std.proofs.Common.{◌≡◌, ℕ, zero, suc, ◌+◌, ◌^◌, ◌<◌, ◌≤◌, Bool, List, [], ◌∷◌, ◌++◌, length, take, drop, Option, Some, None, ◌⊎◌, inl, inr, refl, sym, ap, subst, ◌∙◌, arith, length-append}
+use Rattle.std.proofs.Common.{◌≡◌, ℕ, suc, ◌^◌, ◌<◌, ◌≤◌, Bool, List, [], ◌∷◌, ◌++◌, length, take, drop, Some, None, ◌⊎◌, inl, inr, refl, sym, ap, subst, ◌∙◌, arith, length-append}
 use Rattle.std.proofs.lemmas.List.{append-nil}
-use Rattle.std.specs.Prelude.{◌≢◌, ◌==◌, cond}
+use Rattle.std.specs.Prelude.{◌==◌, cond}
 use Rattle.tag_bits.specs.Digits.{digits, word_digits}
 use Rattle.tag_bits.proofs.DigitLemmas.{length-digits}
 use Rattle.tag_epc.specs.declared.kind.Kind.{Kind}
@@ -14,11 +14,11 @@ use Rattle.tag_epc.specs.declared.fault.WordReason.{WordReason}
 use Rattle.tag_epc.specs.declared.fault.WordReason.TheVariants as word
 use Rattle.tag_epc.specs.declared.fault.WordFault.{WordFault}
 use Rattle.tag_epc.specs.Layout.{Layout, layout_of, header_of, row_at, plain, leading_segments, number_segments}
-use Rattle.tag_epc.specs.LawfulWord.{Field, fill, spell, Fits, AllFit, HasPartition, HasFields, IsLawful, IsLawfulWord, kind_of}
-use Rattle.tag_epc.specs.Faults.{FirstUnfit, HasUnfit, HasEpcFault, HasNoScheme, HasNoRow, HasUnfitAt, Fails, place_of, AllRead, HasFault, HasWordFault}
+use Rattle.tag_epc.specs.LawfulWord.{Field, fill, spell, AllFit, HasPartition, HasFields, IsLawful, IsLawfulWord, kind_of}
+use Rattle.tag_epc.specs.Faults.{FirstUnfit, HasUnfit, HasEpcFault, HasNoScheme, HasNoRow, HasUnfitAt, Fails, place_of, AllRead, HasWordFault}
 use Rattle.tag_epc.proofs.Soundness.{layout_sound}
 use Rattle.tag_epc.proofs.FieldLemmas.{all_read, fit_or_unfit, one_unfit, same_part, same_numbers}
-use Rattle.tag_epc.proofs.OneReading.{row_fields, header_below, header_is, Begins, header_first, fields_begin, spell-append, one_beginning, one_fields, one_reading}
+use Rattle.tag_epc.proofs.OneReading.{header_below, header_is, Begins, header_first, fields_begin, spell-append, one_beginning, one_fields, one_reading}
 
 some_same : {A : Type 0} (a b : A) → Some a ≡ Some b → a ≡ b
 some_same a b e = cc
@@ -49,7 +49,7 @@ row_or_not ds (Partitioned k f d' c t n) fs gs xs ys a b x y d e =
     let reads = subst (λ (z : List Field). AllRead z) filled y in
     let numbers = fill (number_segments a.layout a.row) (c ∷ t ∷ n ∷ []) in
     let split : spell (fill leading_segments (a.layout.header ∷ f ∷ a.partition ∷ [])) ++ (spell numbers ++ xs) ≡ spell (fill leading_segments (a.layout.header ∷ b.filter ∷ b.partition ∷ [])) ++ ys
-          = sym (spell-append (fill leading_segments (a.layout.header ∷ f ∷ a.partition ∷ [])) numbers xs) ∙ ap (λ (z : List Field). spell z ++ xs) (sym a.filled) ∙ sym d ∙ e ∙ ap (λ (z : List Field). spell z ++ ys) filled in
+    = sym (spell-append (fill leading_segments (a.layout.header ∷ f ∷ a.partition ∷ [])) numbers xs) ∙ ap (λ (z : List Field). spell z ++ xs) (sym a.filled) ∙ sym d ∙ e ∙ ap (λ (z : List Field). spell z ++ ys) filled in
     let same = same_numbers leading_segments (a.layout.header ∷ f ∷ a.partition ∷ []) (a.layout.header ∷ b.filter ∷ b.partition ∷ []) (spell numbers ++ xs) ys refl refl (read.0, (read.1.0, (read.1.1.0, tt))) reads split in
     let partition : a.partition ≡ b.partition = cc in
     let placed : row_at a.layout b.partition ≡ Some a.row = ap (λ (z : ℕ). row_at a.layout z) (sym partition) ∙ a.placed in

@@ -1,19 +1,19 @@
 -- The fields of an EPC, and that a word is read in one way.
-use Rattle.std.proofs.Common.{◌≡◌, ℕ, ◌+◌, ◌^◌, ◌<◌, ◌≤◌, Bool, true, List, [], ◌∷◌, ◌++◌, length, drop, Option, Some, None, refl, sym, ap, subst, ◌∙◌, arith, length-append}
+use Rattle.std.proofs.Common.{◌≡◌, ℕ, ◌^◌, ◌<◌, Bool, true, List, [], ◌∷◌, ◌++◌, length, drop, Option, Some, None, refl, sym, ap, subst, ◌∙◌, arith, length-append}
 use Rattle.std.specs.Prelude.{nat_lt, option_map, unwrap_or}
 use Rattle.std.proofs.lemmas.Bool.{ltb-true}
 use Rattle.std.proofs.lemmas.List.{append_assoc}
 use Rattle.tag_bits.specs.Digits.{digits, value, word_digits}
-use Rattle.tag_bits.proofs.DigitLemmas.{length-digits, digits-value, digits_from, digits-injective, value-below}
+use Rattle.tag_bits.proofs.DigitLemmas.{length-digits, digits_from, digits-injective, value-below}
 use Rattle.tag_epc.specs.declared.scheme.Row.{Row}
 use Rattle.tag_epc.specs.declared.kind.Kind.{Kind}
 use Rattle.tag_epc.specs.declared.kind.Kind.TheVariants.{Sgtin, Sscc, Sgln, Grai, Gid}
 use Rattle.tag_epc.specs.declared.epc.Parts.{Parts}
 use Rattle.tag_epc.specs.declared.epc.Parts.TheVariants.{Partitioned, General}
 use Rattle.tag_epc.specs.Layout.{Layout, layout_of, header_of, row_at, leading_segments, number_segments, gid_segments, gid_header}
-use Rattle.tag_epc.specs.LawfulWord.{Field, fill, spell, AllFit, HasPartition, HasFields, IsLawful, Spells, HasWord, kind_of}
+use Rattle.tag_epc.specs.LawfulWord.{Field, fill, spell, HasFields, IsLawful, Spells, HasWord, kind_of}
 use Rattle.tag_epc.specs.Faults.{AllRead}
-use Rattle.tag_epc.proofs.Soundness.{FitsRow, IsSound, layout_sound}
+use Rattle.tag_epc.proofs.Soundness.{layout_sound}
 use Rattle.tag_epc.proofs.FieldLemmas.{all_read, same_part, same_numbers}
 
 some_same : {A : Type 0} (a b : A) → Some a ≡ Some b → a ≡ b
@@ -101,7 +101,7 @@ same_rows l r s f p c t n g q d u o xs ys x y a b e =
     let numbers = fill (number_segments l r) (c ∷ t ∷ n ∷ []) in
     let others = fill (number_segments l s) (d ∷ u ∷ o ∷ []) in
     let split : spell (fill leading_segments (l.header ∷ f ∷ p ∷ [])) ++ (spell numbers ++ xs) ≡ spell (fill leading_segments (l.header ∷ g ∷ q ∷ [])) ++ (spell others ++ ys)
-          = sym (spell-append (fill leading_segments (l.header ∷ f ∷ p ∷ [])) numbers xs) ∙ e ∙ spell-append (fill leading_segments (l.header ∷ g ∷ q ∷ [])) others ys in
+    = sym (spell-append (fill leading_segments (l.header ∷ f ∷ p ∷ [])) numbers xs) ∙ e ∙ spell-append (fill leading_segments (l.header ∷ g ∷ q ∷ [])) others ys in
     let first = same_numbers leading_segments (l.header ∷ f ∷ p ∷ []) (l.header ∷ g ∷ q ∷ []) (spell numbers ++ xs) (spell others ++ ys) refl refl (a.0, (a.1.0, (a.1.1.0, tt))) (b.0, (b.1.0, (b.1.1.0, tt))) split in
     let filter : f ≡ g = cc in
     let partition : p ≡ q = cc in

@@ -1,5 +1,5 @@
 -- A row by its place.
-use Rattle.std.proofs.Common.{◌≡◌, ℕ, zero, suc, ◌+◌, ◌<◌, ◌≤◌, List, [], ◌∷◌, length, get_or, Some, None, refl, sym, arith, ◌-◌, ◌^◌}
+use Rattle.std.proofs.Common.{◌≡◌, ℕ, zero, suc, ◌+◌, ◌<◌, ◌≤◌, List, [], ◌∷◌, length, get_or, Some, None, refl, sym, arith, ◌-◌}
 use Rattle.std.specs.Prelude.{slice_get}
 use Rattle.tag_epc.specs.Layout.{rows_of, partition_table}
 
@@ -38,4 +38,3 @@ pub row_is : (p : ℕ) (bits digits : List ℕ) → p < 7 → length bits ≡ 7 
 row_is p bits digits h l k =
     let d : 12 - p ≡ get_or (12 ∷ 11 ∷ 10 ∷ 9 ∷ 8 ∷ 7 ∷ 6 ∷ []) p 0 = omega (arith, company_digits_at p h) in
     rw d (sym (row_inside (40 ∷ 37 ∷ 34 ∷ 30 ∷ 27 ∷ 24 ∷ 20 ∷ []) (12 ∷ 11 ∷ 10 ∷ 9 ∷ 8 ∷ 7 ∷ 6 ∷ []) bits digits p h h (omega arith) (omega arith)))
-

@@ -1,11 +1,11 @@
 -- The first of the numbers behind a partition value that does not fit.
-use Rattle.std.proofs.Common.{◌≡◌, ℕ, ◌+◌, ◌-◌, ◌*◌, ◌/◌, ◌%◌, ◌^◌, ◌<◌, ◌≤◌, Bool, true, false, List, [], ◌∷◌, Some, ◌⊎◌, inl, inr, refl, sym, ◌∙◌, arith}
+use Rattle.std.proofs.Common.{◌≡◌, ℕ, ◌+◌, ◌*◌, ◌/◌, ◌%◌, ◌^◌, ◌<◌, ◌≤◌, Bool, true, false, List, [], ◌∷◌, refl, arith}
 use Rattle.std.specs.Prelude.{nat_eq}
 use Rattle.std.proofs.lemmas.Bool.{eqb-true, eq-eqb}
 use Rattle.std.proofs.Math.Nat.{div-eq_of_lt}
 use Rattle.std.proofs.lemmas.Nat.{pow_pos, shr_split, mod_below}
 use Rattle.tag_epc.specs.declared.scheme.Row.{Row}
-use Rattle.tag_epc.specs.Layout.{Layout, Segment, fixed, plain, last_decimals, last_segment, number_segments}
+use Rattle.tag_epc.specs.Layout.{Layout, fixed, plain, last_decimals, last_segment, number_segments}
 use Rattle.tag_epc.specs.LawfulWord.{Field, HasDecimals, Fits, AllFit, fill}
 use Rattle.tag_epc.specs.Faults.{FirstUnfit}
 use Rattle.tag_epc.proofs.Soundness.{FitsRow}

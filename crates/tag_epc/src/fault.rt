@@ -44,9 +44,6 @@ impl WordReason {
     pub(crate) fn at(self, bit: u32) -> WordFault
         ensures { result ≡ record { bit = bit; reason = self } }
     {
-        WordFault {
-            bit,
-            reason: self,
-        }
+        WordFault { bit, reason: self }
     }
 }

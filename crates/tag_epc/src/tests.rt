@@ -34,12 +34,7 @@ fn assert_word(rt: &impl Abort, number: u128, parts: Parts) -> Result<(), Fail> 
 }
 
 /// The number is no EPC's word, and fails there.
-fn assert_fault(
-    rt: &impl Abort,
-    number: u128,
-    bit: u32,
-    reason: WordReason,
-) -> Result<(), Fail> {
+fn assert_fault(rt: &impl Abort, number: u128, bit: u32, reason: WordReason) -> Result<(), Fail> {
     let word = Word::new(number).ok_or("more than 96 bits")?;
     assert_eq!(rt; Epc::from_word(word), Err(WordFault { bit, reason }));
     Ok(())
@@ -70,12 +65,7 @@ fn sgtin_of_seven_digits(rt: HostRuntime) -> Result<(), Fail> {
 fn sscc_zero_tail(rt: HostRuntime) -> Result<(), Fail> {
     let parts = partitioned(Kind::Sscc, 0, 7, 614_141, 1, 0);
     assert_word(&rt, 0x3114_257B_F400_0000_0100_0000, parts)?;
-    assert_fault(
-        &rt,
-        0x3114_257B_F400_0000_0100_0001,
-        72,
-        WordReason::Zeros,
-    )
+    assert_fault(&rt, 0x3114_257B_F400_0000_0100_0001, 72, WordReason::Zeros)
 }
 
 #[test]
@@ -112,12 +102,7 @@ fn gid_greatest(rt: HostRuntime) -> Result<(), Fail> {
 
 #[test]
 fn sgtin_prefix_out_of_range(rt: HostRuntime) -> Result<(), Fail> {
-    assert_fault(
-        &rt,
-        0x3003_A352_9440_0000_0000_0000,
-        14,
-        WordReason::Prefix,
-    )
+    assert_fault(&rt, 0x3003_A352_9440_0000_0000_0000, 14, WordReason::Prefix)
 }
 
 #[test]

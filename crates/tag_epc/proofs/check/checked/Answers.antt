@@ -1,4 +1,4 @@
-use Rattle.std.proofs.Common.{◌≡◌, ℕ, ◌+◌, ◌-◌, ◌<◌, arith}
+use Rattle.std.proofs.Common.{◌-◌, arith}
 use Rattle.tag_epc.specs.declared.check.Number.TheVariants.{Company, Reference, Last}
 use Rattle.tag_epc.proofs.EpcFields.{placed, epc_unfit, epc_lawful}
 use Rattle.tag_epc.proofs.check.checked.Goals as goal

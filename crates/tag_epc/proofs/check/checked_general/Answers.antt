@@ -1,5 +1,5 @@
-use Rattle.std.proofs.Common.{◌≡◌, ℕ, ◌+◌, ◌/◌, ◌<◌, ◌≤◌, ◌^◌, arith}
-use Rattle.tag_epc.proofs.EpcFields.{manager_unfit, class_unfit, serial_unfit, gid_lawful}
+use Rattle.std.proofs.Common.{arith}
+use Rattle.tag_epc.proofs.EpcFields.{manager_unfit, class_unfit, serial_unfit}
 use Rattle.tag_epc.proofs.check.checked_general.Goals as goal
 
 pub returns-then-manager-ne0-clause-err : goal.returns-then-manager-ne0-clause-err

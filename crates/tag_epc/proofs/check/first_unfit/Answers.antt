@@ -1,4 +1,4 @@
-use Rattle.std.proofs.Common.{◌≡◌, ℕ, ◌<◌, ◌≤◌, ◌^◌, arith, rules}
+use Rattle.std.proofs.Common.{arith, rules}
 use Rattle.tag_epc.proofs.Soundness.{sound}
 use Rattle.tag_epc.proofs.UnfitLemmas.{company_unfit, reference_unfit, last_unfit, all_fit}
 use Rattle.tag_epc.proofs.check.first_unfit.Goals as goal

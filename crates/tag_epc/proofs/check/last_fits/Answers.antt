@@ -1,4 +1,4 @@
-use Rattle.std.proofs.Common.{◌≡◌, ℕ, false, sym, subst, ◌∙◌}
+use Rattle.std.proofs.Common.{◌≡◌, false, sym, ◌∙◌}
 use Rattle.tag_epc.proofs.UnfitLemmas.{shift_tells}
 use Rattle.tag_epc.proofs.check.last_fits.Goals as goal
 

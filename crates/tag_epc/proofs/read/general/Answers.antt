@@ -1,4 +1,4 @@
-use Rattle.std.proofs.Common.{◌≡◌, ℕ, ◌+◌, arith}
+use Rattle.std.proofs.Common.{arith}
 use Rattle.tag_epc.proofs.EpcFields.{gid_spelled}
 use Rattle.tag_epc.proofs.read.general.Goals as goal
 

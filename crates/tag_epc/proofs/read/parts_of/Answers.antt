@@ -1,4 +1,3 @@
-use Rattle.std.proofs.Common.{◌≡◌}
 use Rattle.tag_epc.proofs.EpcFields.{header_fault}
 use Rattle.tag_epc.proofs.read.parts_of.Goals as goal
 

@@ -1,4 +1,3 @@
-use Rattle.std.proofs.Common.{refl}
 use Rattle.tag_bits.proofs.DigitLemmas.{length-digits}
 use Rattle.tag_epc.proofs.DigitMoves.{whole}
 use Rattle.tag_epc.proofs.bits.WordReader.new.Goals as goal
