@@ -97,8 +97,8 @@ impl Scheme for Sgtin96 {
     fn row(partition: u8) -> Option<Row> {
         row_of(
             partition,
-            &[4, 7, 10, 14, 17, 20, 24],
-            &[1, 2, 3, 4, 5, 6, 7],
+            &[4, 7, 10, 14, 17, 20, 24], // bits of the item reference
+            &[1, 2, 3, 4, 5, 6, 7], // digits of the item reference
         )
     }
 
@@ -138,8 +138,8 @@ impl Scheme for Sscc96 {
     fn row(partition: u8) -> Option<Row> {
         row_of(
             partition,
-            &[18, 21, 24, 28, 31, 34, 38],
-            &[5, 6, 7, 8, 9, 10, 11],
+            &[18, 21, 24, 28, 31, 34, 38], // bits of the serial reference
+            &[5, 6, 7, 8, 9, 10, 11], // digits of the serial reference
         )
     }
 
@@ -179,8 +179,8 @@ impl Scheme for Sgln96 {
     fn row(partition: u8) -> Option<Row> {
         row_of(
             partition,
-            &[1, 4, 7, 11, 14, 17, 21],
-            &[0, 1, 2, 3, 4, 5, 6],
+            &[1, 4, 7, 11, 14, 17, 21], // bits of the location reference
+            &[0, 1, 2, 3, 4, 5, 6], // digits of the location reference
         )
     }
 
@@ -220,8 +220,8 @@ impl Scheme for Grai96 {
     fn row(partition: u8) -> Option<Row> {
         row_of(
             partition,
-            &[4, 7, 10, 14, 17, 20, 24],
-            &[0, 1, 2, 3, 4, 5, 6],
+            &[4, 7, 10, 14, 17, 20, 24], // bits of the asset type
+            &[0, 1, 2, 3, 4, 5, 6], // digits of the asset type
         )
     }
 
