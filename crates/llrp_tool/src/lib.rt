@@ -1,0 +1,12 @@
+//! The commands of `llrp` over bytes and texts: the listing of a stream of LLRP messages, and the
+//! stream of a listing. Sockets, files and the command line's process are not in here.
+#![tactic(auto)]
+
+mod copying;
+pub mod device;
+mod fault;
+pub mod message;
+
+pub use device::{Input, Output, Sink, Source};
+pub use fault::{Refusal, ToolErr, Verdict};
+pub use message::{Message, MsgKind, msg_of};
