@@ -1,1 +1,7 @@
 pub mod DeviceLemmas
+pub mod HeaderLemmas
+pub mod FramingLemmas
+pub mod TextLemmas
+pub mod Apart
+pub mod Unique
+pub mod ShowLemmas

@@ -1,6 +1,10 @@
 pub mod Copying
+pub mod Cuts
 pub mod Device
 pub mod Frame
+pub mod Framing
+pub mod Items
 pub mod Listing
 pub mod Refused
 pub mod Schema
+pub mod Show

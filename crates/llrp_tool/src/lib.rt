@@ -5,8 +5,11 @@
 mod copying;
 pub mod device;
 mod fault;
+pub mod frame;
 pub mod message;
+mod show;
 
 pub use device::{Input, Output, Sink, Source};
 pub use fault::{Refusal, ToolErr, Verdict};
 pub use message::{Message, MsgKind, msg_of};
+pub use show::run_show;
