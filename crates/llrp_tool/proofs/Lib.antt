@@ -5,3 +5,4 @@ pub mod TextLemmas
 pub mod Apart
 pub mod Unique
 pub mod ShowLemmas
+pub mod Telling

@@ -6,6 +6,7 @@ mod copying;
 pub mod device;
 mod fault;
 pub mod frame;
+pub mod laws;
 pub mod message;
 mod show;
 
