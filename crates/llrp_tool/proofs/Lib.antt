@@ -6,3 +6,4 @@ pub mod Apart
 pub mod Unique
 pub mod ShowLemmas
 pub mod Telling
+pub mod HexadecimalLemmas

@@ -3,6 +3,7 @@ pub mod Cuts
 pub mod Device
 pub mod Frame
 pub mod Framing
+pub mod Hexadecimal
 pub mod ItemLaws
 pub mod Items
 pub mod Listing

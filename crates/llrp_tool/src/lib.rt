@@ -6,11 +6,13 @@ mod copying;
 pub mod device;
 mod fault;
 pub mod frame;
+mod hexadecimal;
 pub mod laws;
 pub mod message;
 mod show;
 
 pub use device::{Input, Output, Sink, Source};
 pub use fault::{Refusal, ToolErr, Verdict};
+pub use hexadecimal::bytes_of_hex;
 pub use message::{Message, MsgKind, msg_of};
 pub use show::run_show;
