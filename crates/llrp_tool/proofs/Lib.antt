@@ -5,5 +5,5 @@ pub mod TextLemmas
 pub mod Apart
 pub mod Unique
 pub mod ShowLemmas
-pub mod Telling
+pub mod ItemLemmas
 pub mod HexadecimalLemmas

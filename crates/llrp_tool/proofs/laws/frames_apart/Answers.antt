@@ -1,4 +1,4 @@
-use Rattle.llrp_tool.proofs.Telling.{has_one_item}
+use Rattle.llrp_tool.proofs.ItemLemmas.{has_one_item}
 use Rattle.llrp_tool.proofs.laws.frames_apart.Goals as goal
 
 pub returns : goal.returns
