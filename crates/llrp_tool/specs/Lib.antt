@@ -4,3 +4,12 @@ pub mod Frame
 pub mod Listing
 pub mod Refused
 pub mod Schema
+pub mod Checks
+pub mod Encoder
+pub mod Encoding
+pub mod FirstRefusal
+pub mod Lines
+pub mod ListingLaws
+pub mod MessageLine
+pub mod OpenText
+pub mod Reading

@@ -4,9 +4,12 @@
 
 mod copying;
 pub mod device;
+mod encode;
 mod fault;
+mod line;
 pub mod message;
 
 pub use device::{Input, Output, Sink, Source};
+pub use encode::run_encode;
 pub use fault::{Refusal, ToolErr, Verdict};
 pub use message::{Message, MsgKind, msg_of};
