@@ -1,3 +1,9 @@
 pub mod DeviceLemmas
 pub mod Cutting
 pub mod Numerals
+pub mod WordLemmas
+pub mod Growing
+pub mod Telling
+pub mod DecimalWords
+pub mod MessageWords
+pub mod LineReading

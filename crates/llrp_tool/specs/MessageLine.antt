@@ -54,15 +54,20 @@ HasFields ws = length ws ≡ 4
 abbrev pub HasNumbers : List (List ℕ) → Type 0
 HasNumbers ws = ((word ws 2 ≡ decimal 1) ⊎ (word ws 2 ≡ decimal 2)) × ((id : ℕ) × (word ws 3 ≡ decimal id) × (id < 2 ^ 32))
 
--- the checks of an ended line, where so many lines are open, in the order in which they are made
+-- the checks of a line's words, where so many lines are open, in the order in which they are made
+abbrev pub word_checks : ℕ → List (List ℕ) → List (Check Refusal)
+word_checks depth ws =
+    record { Holds = HasLevel depth ws; reason = Level }
+    ∷ record { Holds = HasName ws; reason = Name }
+    ∷ record { Holds = HasFields ws; reason = Fields }
+    ∷ record { Holds = HasNumbers ws; reason = Number }
+    ∷ []
+
+-- the checks of an ended line: first its length and its bytes, and then its words
 abbrev pub line_checks : ℕ → List ℕ → List (Check Refusal)
 line_checks depth bytes =
     record { Holds = (length bytes ≤ LONGEST_LINE) × IsTrue (is_printed bytes); reason = Line }
-    ∷ record { Holds = HasLevel depth (words bytes); reason = Level }
-    ∷ record { Holds = HasName (words bytes); reason = Name }
-    ∷ record { Holds = HasFields (words bytes); reason = Fields }
-    ∷ record { Holds = HasNumbers (words bytes); reason = Number }
-    ∷ []
+    ∷ word_checks depth (words bytes)
 
 -- the line is refused by itself, where so many lines are open
 abbrev pub RefusesBytes : ℕ → TextLine → Refusal → Type 0

@@ -6,6 +6,7 @@ mod copying;
 pub mod device;
 mod encode;
 mod fault;
+pub mod laws;
 mod line;
 pub mod message;
 

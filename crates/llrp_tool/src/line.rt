@@ -106,13 +106,15 @@ fn numbered(kind: MsgKind, version: &[u8], id: &[u8]) -> Result<Message, Refusal
 fn with_fields(kind: MsgKind, fields: &[u8]) -> Result<Message, Refusal>
     ensures { result ≡ of_fields kind (words fields.now) }
 {
-    let (version, Some(rest)) = first_word(fields) else {
+    let (version, rest) = first_word(fields);
+    let Some(rest) = rest else {
         return Err(Refusal::Fields);
     };
-    let (id, None) = first_word(rest) else {
-        return Err(Refusal::Fields);
-    };
-    numbered(kind, version, id)
+    let (id, more) = first_word(rest);
+    match more {
+        None => numbered(kind, version, id),
+        Some(_) => Err(Refusal::Fields),
+    }
 }
 
 /// The message of the words after a level.
