@@ -7,3 +7,4 @@ pub mod Telling
 pub mod DecimalWords
 pub mod MessageWords
 pub mod LineReading
+pub mod FrameBytes
