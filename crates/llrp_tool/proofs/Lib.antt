@@ -8,3 +8,5 @@ pub mod DecimalWords
 pub mod MessageWords
 pub mod LineReading
 pub mod FrameBytes
+pub mod Rows
+pub mod Listed

@@ -41,20 +41,25 @@ abbrev pub Started : List Message → Option Message → Type 0
 Started done None = done ≡ []
 Started done (Some message) = Unit {0}
 
--- Where an encoder stands after a front of a text: these messages are closed, and their bytes were handed on or are gathered.
-pub record Stands (start now : SinkLog) (text : List ℕ) (encoder : Encoder) : Type 0 where
+-- Where an encoder stands after a front of a text: these messages are closed, and their bytes were handed on or are gathered in out.
+pub record StandsAt (start now : SinkLog) (text : List ℕ) (pending : Option Message) (number : ℕ) (line out : List ℕ) : Type 0 where
   pub done : List Message
   pub front : List TextLine
-  pub cuts : (more : List ℕ) → lines_of (text ++ more) ≡ front ++ lines_of (encoder.line.items ++ more)
-  pub no_lf : NoLf encoder.line.items
-  pub says : AllZip SaysMessage front (covers (open_of done encoder.pending))
-  pub counted : encoder.number ≡ length front
-  pub started : Started done encoder.pending
+  pub cuts : (more : List ℕ) → lines_of (text ++ more) ≡ front ++ lines_of (line ++ more)
+  pub no_lf : NoLf line
+  pub says : AllZip SaysMessage front (covers (open_of done pending))
+  pub counted : number ≡ length front
+  pub started : Started done pending
+  pub lawful : AllByRecursion IsLawful (those pending)
   pub spellings : List ℕ
   pub spelled : AreSpelled 10 done spellings
   pub handed : List ℕ
-  pub gathered : spellings ≡ handed ++ encoder.out.items
+  pub gathered : spellings ≡ handed ++ out
   pub log : Wrote start now handed
+
+-- where an encoder stands after a front of a text
+abbrev pub Stands : SinkLog → SinkLog → List ℕ → Encoder → Type 0
+Stands start now text encoder = StandsAt start now text encoder.pending encoder.number encoder.line.items encoder.out.items
 
 -- the encoder stopped after this front of a text
 abbrev pub Stopped : ℕ → SinkLog → SinkLog → List ℕ → ToolErr → Type 0
