@@ -4,14 +4,17 @@
 
 mod copying;
 pub mod device;
+mod encode;
 mod fault;
 pub mod frame;
 mod hexadecimal;
 pub mod laws;
+mod line;
 pub mod message;
 mod show;
 
 pub use device::{Input, Output, Sink, Source};
+pub use encode::run_encode;
 pub use fault::{Refusal, ToolErr, Verdict};
 pub use hexadecimal::bytes_of_hex;
 pub use message::{Message, MsgKind, msg_of};
