@@ -18,3 +18,5 @@ pub mod Telling
 pub mod TextLemmas
 pub mod Unique
 pub mod WordLemmas
+pub mod CommandLemmas
+pub mod AnswerLemmas

@@ -1,4 +1,5 @@
 pub mod Checks
+pub mod Command
 pub mod Copying
 pub mod Cuts
 pub mod Device
@@ -19,3 +20,4 @@ pub mod Reading
 pub mod Refused
 pub mod Schema
 pub mod Show
+pub mod Words

@@ -2,6 +2,7 @@
 //! stream of a listing. Sockets, files and the command line's process are not in here.
 #![tactic(auto)]
 
+mod command;
 mod copying;
 pub mod device;
 mod encode;
@@ -12,7 +13,9 @@ pub mod laws;
 mod line;
 pub mod message;
 mod show;
+mod words;
 
+pub use command::run_command;
 pub use device::{Input, Output, Sink, Source};
 pub use encode::run_encode;
 pub use fault::{Refusal, ToolErr, Verdict};
