@@ -10,3 +10,4 @@ pub mod LineReading
 pub mod FrameBytes
 pub mod Rows
 pub mod Listed
+pub mod Standing
