@@ -306,3 +306,14 @@ nothing_begun d (b ∷ line) part r none m = absurd (omega arith)
 pub frame_appended : {E : Type 0} (pending : Option Message) (m : Message) (frame old new : List ℕ) (r : Result (Unit {0}) E) → pending ≡ Some m → (IsLawful m → Spells 10 m frame) → new ≡ (if is_ok r then old ++ frame else old) → OnOk r (AppendsFrame pending old new)
 frame_appended pending m frame old new (Err e) is spells ok = tt
 frame_appended pending m frame old new (Ok u) is spells ok = subst (λ (p : Option Message). AppendsFrame p old new) (sym is) (λ lawful. (frame, record { frames = frame ∷ []; each = (spells lawful.0, tt); bytes_are = sym (append-nil frame) }, ok))
+
+-- a piece is what was taken of it, a line, and what is left
+pub piece_parts : (text taken part after rest piece : List ℕ) → piece ≡ taken ++ rest → rest ≡ part ++ (10 ∷ after) → ((text ++ taken) ++ (part ++ (10 ∷ []))) ++ after ≡ text ++ piece
+piece_parts text taken part after rest piece p q =
+    append_assoc (text ++ taken) (part ++ (10 ∷ [])) after
+    ∙ ap (λ (z : List ℕ). (text ++ taken) ++ z) (append_assoc part (10 ∷ []) after ∙ sym q)
+    ∙ append_assoc text taken rest
+    ∙ ap (λ (z : List ℕ). text ++ z) (sym p)
+
+pub piece_left : (taken part after rest piece : List ℕ) → piece ≡ taken ++ rest → rest ≡ part ++ (10 ∷ after) → piece ≡ (taken ++ (part ++ (10 ∷ []))) ++ after
+piece_left taken part after rest piece p q = p ∙ ap (λ (z : List ℕ). taken ++ z) (q ∙ sym (append_assoc part (10 ∷ []) after)) ∙ sym (append_assoc taken (part ++ (10 ∷ [])) after)
