@@ -11,3 +11,4 @@ pub mod FrameBytes
 pub mod Rows
 pub mod Listed
 pub mod Standing
+pub mod Running

@@ -242,8 +242,9 @@ pub fn run_encode<R: Source, W: Sink>(
     let mut encoder = Encoder::new(alloc);
     let mut buffer = [0u8; READ_SIZE];
     for _ in 0..MOST_READS {
-        let Ok(n) = r.read(&mut buffer) else {
-            return Err(ToolErr::Read);
+        let n = match r.read(&mut buffer) {
+            Ok(n) => n,
+            Err(_) => return Err(ToolErr::Read),
         };
         if n == 0 {
             return encoder.finish(w);

@@ -39,4 +39,4 @@ returns-clause-stands g c =
     let same : (text : List ℕ) → (text ++ taken) ++ rest ≡ text ++ c.args.piece.now = λ text. append_assoc text taken rest ∙ ap (λ (z : List ℕ). text ++ z) (sym c.lines.invariant.parts) in
     λ limit start text le s.
     subst (λ (z : List ℕ). MatchResult c.go_on.result (λ _. Stands start (g.W.Sink.log c.go_on.new.w) z c.go_on.new.self) (Stopped limit start (g.W.Sink.log c.go_on.new.w) z)) (same text)
-    (c.go_on.ensures.stands limit start (text ++ taken) le c.in-None.ensures (c.lines.invariant.stands start text s))
+    (c.go_on.ensures.stands limit start (text ++ taken) le c.in_default.ensures (c.lines.invariant.stands start text s))
