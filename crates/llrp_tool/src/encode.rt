@@ -253,3 +253,6 @@ pub fn run_encode<R: Source, W: Sink>(
     }
     Err(ToolErr::Bound)
 }
+
+#[cfg(test)]
+mod tests;
