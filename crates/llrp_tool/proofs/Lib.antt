@@ -1,4 +1,6 @@
+pub mod AnswerLemmas
 pub mod Apart
+pub mod CommandLemmas
 pub mod Cutting
 pub mod DecimalWords
 pub mod DeviceLemmas
@@ -13,10 +15,10 @@ pub mod Listed
 pub mod MessageWords
 pub mod Numerals
 pub mod Rows
+pub mod Running
 pub mod ShowLemmas
+pub mod Standing
 pub mod Telling
 pub mod TextLemmas
 pub mod Unique
 pub mod WordLemmas
-pub mod CommandLemmas
-pub mod AnswerLemmas

@@ -83,14 +83,14 @@ StoppedAtEnd limit w0 w1 text Hex = ⊥
 abbrev pub WroteEncoding : ℕ → SinkLog → SinkLog → List ℕ → Type 0
 WroteEncoding limit w0 w1 text = (bytes : List ℕ) × Encodes limit text bytes × Wrote w0 w1 bytes
 
--- the next line is refused with this error: all that was gathered was written, or a front of it
-abbrev pub Refusing : Encoder → Refusal → SinkLog → SinkLog → ToolErr → Type 0
-Refusing encoder why w0 w1 (Listing line reason) = (line ≡ encoder.number + 1) × (reason ≡ why) × Wrote w0 w1 encoder.out.items
-Refusing encoder why w0 w1 Write = (front : List ℕ) × IsPrefix front encoder.out.items × WroteAndFailed w0 w1 front
-Refusing encoder why w0 w1 Memory = ⊥
-Refusing encoder why w0 w1 Read = ⊥
-Refusing encoder why w0 w1 Bound = ⊥
-Refusing encoder why w0 w1 Hex = ⊥
+-- the line after so many is refused with this error: all that was gathered was written, or a front of it
+abbrev pub Refusing : ℕ → List ℕ → Refusal → SinkLog → SinkLog → ToolErr → Type 0
+Refusing number out why w0 w1 (Listing line reason) = (line ≡ number + 1) × (reason ≡ why) × Wrote w0 w1 out
+Refusing number out why w0 w1 Write = (front : List ℕ) × IsPrefix front out × WroteAndFailed w0 w1 front
+Refusing number out why w0 w1 Memory = ⊥
+Refusing number out why w0 w1 Read = ⊥
+Refusing number out why w0 w1 Bound = ⊥
+Refusing number out why w0 w1 Hex = ⊥
 
 -- the frame of the message, if there is one, was appended
 abbrev pub AppendsFrame : Option Message → List ℕ → List ℕ → Type 0

@@ -1,6 +1,6 @@
 //! The bytes of a listing.
 
-ghost use Rattle.std.specs.Prelude.{◌++◌, ◌+◌, ◌<◌, ◌≡◌, ◌≤◌, ◌^◌, ◌∷◌, IfErr, IfOk, IsErr, List, MatchResult, OnErr, OnOk, [], length, ℕ};
+ghost use Rattle.std.specs.Prelude.{◌++◌, ◌+◌, ◌<◌, ◌≡◌, ◌≤◌, ◌^◌, ◌∷◌, IfErr, IfOk, IsErrAnd, IsTrue, List, MatchResult, OnErr, OnOk, [], length, ℕ};
 ghost use Rattle.llrp_tool.specs.Checks.{FirstFailing};
 ghost use Rattle.llrp_tool.specs.Copying.{Writes};
 ghost use Rattle.llrp_tool.specs.Device.{IsFreshSource, SinkLog};
@@ -99,6 +99,13 @@ impl Encoder {
         }
     }
 
+    /// Whether the begun line is too long with this part of it.
+    fn is_too_long(&self, part: &[u8]) -> bool
+        ensures { IsTrue result → LONGEST_LINE < length self.now.line.items + length part.now }
+    {
+        part.len() > LONGEST_LINE.saturating_sub(self.line.len())
+    }
+
     /// The message that the begun line says, ended by this part of it, or why it is refused.
     fn read(&mut self, part: &[u8]) -> Result<Result<Message, Refusal>, AllocError>
         ensures read { IfOk result (λ reading. MatchResult reading
@@ -112,7 +119,7 @@ impl Encoder {
         if self.line.is_empty() {
             return Ok(read_line(part, depth));
         }
-        if part.len() > LONGEST_LINE || self.line.len() > LONGEST_LINE - part.len() {
+        if self.is_too_long(part) {
             return Ok(Err(Refusal::Line));
         }
         self.line.extend_from_slice(part)?;
@@ -123,7 +130,7 @@ impl Encoder {
     fn refuse<W: Sink>(&mut self, reason: Refusal, w: &mut W) -> Result<(), ToolErr>
         requires sink { (W.log w.old).failures + 1 < 2 ^ 64 }
         requires number { self.old.number + 1 < 2 ^ 64 }
-        ensures { IfErr result (λ e. Refusing self.old reason (W.log w.old) (W.log w.new) e) × IsErr result }
+        ensures { IsErrAnd result (λ e. Refusing self.old.number self.old.out.items reason (W.log w.old) (W.log w.new) e) }
     {
         hand_on(&mut self.out, w)?;
         Err(ToolErr::Listing {
@@ -140,7 +147,7 @@ impl Encoder {
             → MatchResult result
             (λ _. Stands start (W.log w.new) (text ++ (part.now ++ (10 ∷ []))) self.new)
             (Stopped limit start (W.log w.new) (text ++ (part.now ++ (10 ∷ [])))) }
-        ensures number { self.new.number ≤ self.old.number + 1 }
+        ensures number { OnOk result (self.new.number ≤ self.old.number + 1) }
         ensures sink { OnOk result ((W.log w.new).failures ≡ (W.log w.old).failures) }
     {
         match self.read(part)? {
@@ -164,10 +171,10 @@ impl Encoder {
             → MatchResult result
             (λ _. Stands start (W.log w.new) (text ++ part.now) self.new)
             (Stopped limit start (W.log w.new) (text ++ part.now)) }
-        ensures number { self.new.number ≡ self.old.number }
+        ensures number { OnOk result (self.new.number ≡ self.old.number) }
         ensures sink { OnOk result ((W.log w.new).failures ≡ (W.log w.old).failures) }
     {
-        if part.len() > LONGEST_LINE || self.line.len() > LONGEST_LINE - part.len() {
+        if self.is_too_long(part) {
             return self.refuse(Refusal::Line, w);
         }
         self.line.extend_from_slice(part)?;
@@ -182,11 +189,11 @@ impl Encoder {
             → MatchResult result
             (λ _. Stands start (W.log w.new) (text ++ piece.now) self.new)
             (Stopped limit start (W.log w.new) (text ++ piece.now)) }
-        ensures number { self.new.number ≤ self.old.number + length piece.now }
+        ensures number { OnOk result (self.new.number ≤ self.old.number + length piece.now) }
         ensures sink { OnOk result ((W.log w.new).failures ≡ (W.log w.old).failures) }
     {
         let mut rest = piece;
-        while let Some((part, after)) = split_once(rest, b'\n') {
+        'lines: while let Some((part, after)) = split_once(rest, b'\n') {
             self.end_line(part, w)?;
             rest = after;
         }
@@ -235,8 +242,9 @@ pub fn run_encode<R: Source, W: Sink>(
     let mut encoder = Encoder::new(alloc);
     let mut buffer = [0u8; READ_SIZE];
     for _ in 0..MOST_READS {
-        let Ok(n) = r.read(&mut buffer) else {
-            return Err(ToolErr::Read);
+        let n = match r.read(&mut buffer) {
+            Ok(n) => n,
+            Err(_) => return Err(ToolErr::Read),
         };
         if n == 0 {
             return encoder.finish(w);
@@ -245,3 +253,6 @@ pub fn run_encode<R: Source, W: Sink>(
     }
     Err(ToolErr::Bound)
 }
+
+#[cfg(test)]
+mod tests;

@@ -22,3 +22,6 @@ pub use fault::{Refusal, ToolErr, Verdict};
 pub use hexadecimal::bytes_of_hex;
 pub use message::{Message, MsgKind, msg_of};
 pub use show::run_show;
+
+#[cfg(test)]
+mod tests;
