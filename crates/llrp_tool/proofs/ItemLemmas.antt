@@ -76,8 +76,10 @@ of_known limit frame octets is zeros version kind =
       | inl above ↦ (bad frame 16 MessageLength, (refl, (refl, zeros, version, kind, above)))
       | inr within ↦ elim (below_or_not 10 (length frame)) [
         | inl more ↦ (bad frame 80 Extra, (refl, (refl, zeros, version, kind, within, more)))
-        | inr ten ↦ (Msg (record { kind = kind.0; version = version_field frame; id = id_field frame }),
-          header_spells limit (record { kind = kind.0; version = version_field frame; id = id_field frame }) frame octets is (omega arith) within (record { version = version; id = id_field-below frame header }) zeros refl kind.1 refl)
+        | inr ten ↦ (
+          Msg (record { kind = kind.0; version = version_field frame; id = id_field frame }),
+          header_spells limit (record { kind = kind.0; version = version_field frame; id = id_field frame }) frame octets is (omega arith) within (record { version = version; id = id_field-below frame header }) zeros refl kind.1 refl,
+        )
       ]
     ]
 
@@ -151,11 +153,11 @@ told (suc size) limit stream le octets =
     elim (front stream) [
       | inr last ↦ ended limit stream last.0 last.1
       | inl found ↦
-        let n = found.0 in
-        let ten = found.1 in
-        let shorter : length (drop n stream) ≤ size = omega (arith, length-drop n stream) in
-        begun limit (take n stream) (drop n stream) stream (All-take (λ b. b < 2 ^ 8) n stream octets) (is_frame n stream found.1 found.2 found.3) (sym (take-append-drop n stream))
-        (told size limit (drop n stream) shorter (All-drop (λ b. b < 2 ^ 8) n stream octets))
+          let n = found.0 in
+          let ten = found.1 in
+          let shorter : length (drop n stream) ≤ size = omega (arith, length-drop n stream) in
+          begun limit (take n stream) (drop n stream) stream (All-take (λ b. b < 2 ^ 8) n stream octets) (is_frame n stream found.1 found.2 found.3) (sym (take-append-drop n stream))
+          (told size limit (drop n stream) shorter (All-drop (λ b. b < 2 ^ 8) n stream octets))
     ]
 
 -- two lists of items of one stream are one

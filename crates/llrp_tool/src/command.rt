@@ -90,11 +90,7 @@ fn answer<E: Sink>(outcome: Result<u8, ToolErr>, e: &mut E) -> Result<u8, ToolEr
 }
 
 /// The listing of a stream of hexadecimal digits, which are read whole and checked first.
-fn show_digits<R: Source, W: Sink>(
-    alloc: Global,
-    r: &mut R,
-    w: &mut W,
-) -> Result<Verdict, ToolErr>
+fn show_digits<R: Source, W: Sink>(alloc: Global, r: &mut R, w: &mut W) -> Result<Verdict, ToolErr>
     requires source { IsFreshSource (R.log r.old) }
     requires sink { (W.log w.old).failures < 2 ^ 63 }
     ensures { ShowsDigits (R.log r.old) (R.log r.new) (W.log w.old) (W.log w.new) result }
@@ -170,12 +166,7 @@ fn encode_digits<R: Source, W: Sink>(alloc: Global, r: &mut R, w: &mut W) -> Res
 }
 
 /// The command encode.
-fn encode<R: Source, W: Sink>(
-    alloc: Global,
-    hex: bool,
-    r: &mut R,
-    w: &mut W,
-) -> Result<(), ToolErr>
+fn encode<R: Source, W: Sink>(alloc: Global, hex: bool, r: &mut R, w: &mut W) -> Result<(), ToolErr>
     requires source { IsFreshSource (R.log r.old) }
     requires sink { (W.log w.old).failures < 2 ^ 63 }
     ensures { DoesEncode hex (R.log r.old) (R.log r.new) (W.log w.old) (W.log w.new) result }

@@ -3,7 +3,20 @@
 use crate::{Input, Output, ToolErr, run_command};
 use std::test::*;
 
-const SHOW_HELP: &str = "List the messages of a stream of bytes
+const HELP: &[u8] = b"Reads and writes streams of LLRP 1.1 messages
+
+Usage: llrp <COMMAND>
+
+Commands:
+  show    List the messages of a stream of bytes
+  encode  Write the bytes of a listing of messages
+  help    Print this message or the help of the given subcommand(s)
+
+Options:
+  -h, --help  Print help
+";
+
+const SHOW_HELP: &[u8] = b"List the messages of a stream of bytes
 
 Usage: llrp show [OPTIONS]
 
@@ -11,21 +24,71 @@ Options:
       --hex   Read hexadecimal digits in place of bytes
   -h, --help  Print help
 
+Reads a stream of LLRP messages on standard input, and prints a line for each on standard output:
+  0 NAME VERSION ID   a message
+  ! ID BIT REASON     a frame that is no message: its id, its first fault, and the bit of the fault
+  ? N                 N bytes at the end that are no whole frame
+  ! BROKEN            a length below 10, at which the stream breaks off
+The status is 0 where all lines are messages, and 1 where some are not.
+
+Example:
+  $ echo 083E0000000A00000007 | llrp show --hex
+  0 KEEPALIVE 2 7
+";
+
+const ENCODE_HELP: &[u8] = b"Write the bytes of a listing of messages
+
+Usage: llrp encode [OPTIONS]
+
+Options:
+      --hex   Write hexadecimal digits in place of bytes
+  -h, --help  Print help
+
+Reads a listing on standard input, a line 0 NAME VERSION ID for each message, and writes the bytes of
+the messages on standard output. A line that is refused ends the command with status 1, and is named
+on standard error with the reason.
+
+Example:
+  $ echo 0 KEEPALIVE 2 7 | llrp encode --hex
+  083E0000000A00000007
+";
+
+const NO_COMMAND: &[u8] = b"error: 'llrp' requires a subcommand but one was not provided
+  [subcommands: show, encode, help]
+
+Usage: llrp <COMMAND>
+
+For more information, try '--help'.
+";
+
+const NO_SUCH_COMMAND: &[u8] = b"error: unrecognized subcommand 'sim'
+
+Usage: llrp <COMMAND>
+
+For more information, try '--help'.
+";
+
+const NO_SUCH_FLAG: &[u8] = b"error: unexpected argument '--bytes' found
+
+Usage: llrp show [OPTIONS]
+
+For more information, try '--help'.
 ";
 
 /// What a command answers, and what it writes to its output and for errors.
-struct Ran {
+#[derive(Drop)]
+struct Outcome {
     status: u8,
     output: Vec<u8>,
     errors: Vec<u8>,
 }
 
-fn ran(rt: &HostRuntime, words: &[&str], input: &[u8]) -> Result<Ran, ToolErr> {
+fn run(rt: &HostRuntime, words: &[&str], input: &[u8]) -> Result<Outcome, ToolErr> {
     let mut r = Input::new(input);
     let mut w = Output::new(Vec::new(rt.alloc()));
     let mut e = Output::new(Vec::new(rt.alloc()));
     let status = run_command(rt.alloc(), words, &mut r, &mut w, &mut e)?;
-    Ok(Ran {
+    Ok(Outcome {
         status,
         output: w.into_inner(),
         errors: e.into_inner(),
@@ -79,10 +142,10 @@ fn commands_with_ample_memory(rt: HostRuntime) -> Result<(), Fail> {
         ),
         (
             ["encode"].as_slice(),
-            b"0 KEEPALIVE 2 7\n0 KEEPALIVE 3 7\n".as_slice(),
+            b"0 KEEPALIVE 2 7\n0 KEEPALIVE 2 8\n0 KEEPALIVE 3 9\n".as_slice(),
             1,
             b"\x08\x3e\0\0\0\x0a\0\0\0\x07".as_slice(),
-            b"llrp: line 2: Number\n".as_slice(),
+            b"llrp: line 3: Number\n".as_slice(),
         ),
         (
             ["encode", "--hex"].as_slice(),
@@ -100,7 +163,7 @@ fn commands_with_ample_memory(rt: HostRuntime) -> Result<(), Fail> {
         ),
     ];
     for (words, input, status, output, errors) in rows {
-        let found = ran(&rt, words, input)?;
+        let found = run(&rt, words, input)?;
         assert!(rt; found.status == status);
         assert!(rt; found.output.as_slice() == output);
         assert!(rt; found.errors.as_slice() == errors);
@@ -109,18 +172,48 @@ fn commands_with_ample_memory(rt: HostRuntime) -> Result<(), Fail> {
 }
 
 #[test]
-fn other_words_are_usage_faults(rt: HostRuntime) -> Result<(), Fail> {
+fn help_goes_to_the_output(rt: HostRuntime) -> Result<(), Fail> {
     let rows = [
-        [].as_slice(),
+        (["--help"].as_slice(), HELP),
+        (["help"].as_slice(), HELP),
+        (["show", "--help"].as_slice(), SHOW_HELP),
+        (["encode", "-h"].as_slice(), ENCODE_HELP),
+    ];
+    for (words, text) in rows {
+        let found = run(&rt, words, b"")?;
+        assert!(rt; found.status == 0);
+        assert!(rt; found.output.as_slice() == text);
+        assert!(rt; found.errors.is_empty());
+    }
+    Ok(())
+}
+
+#[test]
+fn usage_faults_go_to_the_errors(rt: HostRuntime) -> Result<(), Fail> {
+    let rows = [
+        ([].as_slice(), NO_COMMAND),
+        (["sim", "5084"].as_slice(), NO_SUCH_COMMAND),
+        (["show", "--bytes"].as_slice(), NO_SUCH_FLAG),
+    ];
+    for (words, text) in rows {
+        let found = run(&rt, words, b"")?;
+        assert!(rt; found.status == 2);
+        assert!(rt; found.output.is_empty());
+        assert!(rt; found.errors.as_slice() == text);
+    }
+    Ok(())
+}
+
+#[test]
+fn commands_to_come_are_usage_faults(rt: HostRuntime) -> Result<(), Fail> {
+    let rows = [
         ["epc", "3"].as_slice(),
-        ["sim", "5084"].as_slice(),
         ["inventory", "localhost", "5084"].as_slice(),
         ["loop"].as_slice(),
-        ["show", "--bytes"].as_slice(),
         ["encode", "listing"].as_slice(),
     ];
     for words in rows {
-        let found = ran(&rt, words, b"")?;
+        let found = run(&rt, words, b"")?;
         assert!(rt; found.status == 2);
         assert!(rt; found.output.is_empty());
         assert!(rt; found.errors.as_slice().starts_with(b"error: "));

@@ -46,6 +46,7 @@ fn a_write_that_fails_stops_the_listing(rt: HostRuntime) {
 }
 
 /// Gives a byte a call, and fails in the call after so many, if there is such a call.
+#[derive(Drop)]
 struct Dripping {
     reads: u64,
     failures: u64,

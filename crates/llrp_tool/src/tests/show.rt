@@ -89,8 +89,10 @@ fn over_limit_then_keepalive(rt: HostRuntime) -> Result<(), Fail> {
 
 #[test]
 fn each_kind_by_its_name(rt: HostRuntime) -> Result<(), Fail> {
-    let stream = b"\x04\x0e\0\0\0\x0a\0\0\0\0\x08\x3c\0\0\0\x0a\xff\xff\xff\xff\x08\x40\0\0\0\x0a\0\0\x01\0\x04\x48\0\0\0\x0a\0\0\0\x0a";
-    let listing = b"0 CLOSE_CONNECTION 1 0\n0 GET_REPORT 2 4294967295\n0 ENABLE_EVENTS_AND_REPORTS 2 256\n0 KEEPALIVE_ACK 1 10\n";
+    let stream =
+        b"\x04\x0e\0\0\0\x0a\0\0\0\0\x08\x3c\0\0\0\x0a\xff\xff\xff\xff\x08\x40\0\0\0\x0a\0\0\x01\0\x04\x48\0\0\0\x0a\0\0\0\x0a";
+    let listing =
+        b"0 CLOSE_CONNECTION 1 0\n0 GET_REPORT 2 4294967295\n0 ENABLE_EVENTS_AND_REPORTS 2 256\n0 KEEPALIVE_ACK 1 10\n";
     let (verdict, text) = shown(&rt, stream)?;
     assert!(rt; verdict == Verdict::Lawful);
     assert!(rt; text.as_slice() == listing.as_slice());

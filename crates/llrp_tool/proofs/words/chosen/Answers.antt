@@ -10,7 +10,7 @@ returns-then-eq c =
     let named : c.in-Some.name.now ≡ codes "show" = search rules in (
       name_found (subcommand_rows_of c.args.matches.now) c.in-Some.name.now (codes "show") (c.in-Some.ensures.name ∙ names_are _ _ _) named,
       flag_found (subcommand_rows_of c.args.matches.now) (rows_of (found_of c.in-Some.inner.now)) c.get_flag-hex.result c.in-Some.ensures.rows
-      (λ h. c.get_flag-hex.ensures.none (rows ∙ h)) (λ h. c.get_flag-hex.ensures.value (rows ∙ h)) (λ h. c.get_flag-hex.ensures.other (rows ∙ h)),
+          (λ h. c.get_flag-hex.ensures.none (rows ∙ h)) (λ h. c.get_flag-hex.ensures.value (rows ∙ h)) (λ h. c.get_flag-hex.ensures.other (rows ∙ h)),
     )
 
 pub returns-then-eq-2 : goal.returns-then-eq-2
@@ -19,5 +19,5 @@ returns-then-eq-2 c =
     let named : c.in-Some.name.now ≡ codes "encode" = search rules in (
       name_found (subcommand_rows_of c.args.matches.now) c.in-Some.name.now (codes "encode") (c.in-Some.ensures.name ∙ names_are _ _ _) named,
       flag_found (subcommand_rows_of c.args.matches.now) (rows_of (found_of c.in-Some.inner.now)) c.get_flag-hex.result c.in-Some.ensures.rows
-      (λ h. c.get_flag-hex.ensures.none (rows ∙ h)) (λ h. c.get_flag-hex.ensures.value (rows ∙ h)) (λ h. c.get_flag-hex.ensures.other (rows ∙ h)),
+          (λ h. c.get_flag-hex.ensures.none (rows ∙ h)) (λ h. c.get_flag-hex.ensures.value (rows ∙ h)) (λ h. c.get_flag-hex.ensures.other (rows ∙ h)),
     )
