@@ -78,7 +78,13 @@ fn listing_refusals(rt: HostRuntime) -> Result<(), Fail> {
 fn refused_line_after_messages(rt: HostRuntime) {
     let listing = b"0 KEEPALIVE 2 7\n0 KEEPALIVE 2 8\n1 KEEPALIVE 2 9\n0 KEEPALIVE 2 9\n";
     let (answer, bytes) = encoded(&rt, listing);
-    assert_eq!(rt; answer, Err(ToolErr::Listing { line: 3, reason: Refusal::Name }));
+    assert_eq!(rt;
+        answer,
+        Err(ToolErr::Listing {
+            line: 3,
+            reason: Refusal::Name
+        })
+    );
     assert!(rt; bytes.as_slice() == b"\x08\x3e\0\0\0\x0a\0\0\0\x07".as_slice());
 }
 
