@@ -1,6 +1,5 @@
 -- Texts cut into lines.
-use Rattle.std.proofs.Common.{◌≡◌, ℕ, ◌==◌, Bool, true, false, List, [], ◌∷◌, ◌++◌, refl, sym, ap, ◌∙◌, append_assoc}
-use Rattle.std.specs.List.{AllByRecursion, flat_map}
+use Rattle.std.proofs.Common.{◌≡◌, ℕ, List, [], ◌∷◌, ◌++◌, refl, ap}
 use Rattle.llrp_tool.specs.Lines.{TextLine, Ended, Unended, onto_line, lines_of, NoLf}
 
 pub ended : (x bs : List ℕ) → NoLf x → lines_of (x ++ (10 ∷ bs)) ≡ Ended x ∷ lines_of bs

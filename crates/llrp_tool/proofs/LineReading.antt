@@ -1,6 +1,6 @@
 -- What is read of a line is what it says, or why it is refused.
 use Rattle.std.proofs.Common.{◌≡◌, ℕ, ◌^◌, ◌<◌, ◌≤◌, Bool, true, false, List, [], ◌∷◌, ◌++◌, length, refl, sym, ap, subst, ◌∙◌, arith, Ok, Err, Option, Some, None, inl, inr, ◌⊎◌, decimal}
-use Rattle.std.specs.Prelude.{Result, nat_le, nat_lt, ◌==◌, ◌&&◌, ◌||◌, cond, MatchResult, IsTrue}
+use Rattle.std.specs.Prelude.{Result, nat_le, nat_lt, ◌==◌, ◌&&◌, ◌||◌, cond, MatchResult}
 use Rattle.std.specs.List.{join_with_byte}
 use Rattle.std.proofs.lemmas.List.Splits.{join_with_byte-slice_split}
 use Rattle.std.proofs.lemmas.Fmt.{decimal_digit, decimal_nonempty}
@@ -12,8 +12,7 @@ use Rattle.llrp_tool.specs.Checks.{Check, FirstFailing, AllHold}
 use Rattle.llrp_tool.specs.FirstRefusal.{AreClear}
 use Rattle.llrp_tool.specs.Frame.{IsLawful}
 use Rattle.llrp_tool.specs.Lines.{TextLine, Ended, Unended}
-use Rattle.llrp_tool.specs.Listing.{message_text}
-use Rattle.llrp_tool.specs.MessageLine.{MAX_LEVEL, LONGEST_LINE, SaysMessage, is_printed, words, word, HasLevel, HasName, HasFields, HasNumbers, word_checks, line_checks, RefusesBytes, rules_for}
+use Rattle.llrp_tool.specs.MessageLine.{MAX_LEVEL, LONGEST_LINE, SaysMessage, is_printed, words, HasName, HasFields, HasNumbers, word_checks, line_checks, RefusesBytes, rules_for}
 use Rattle.llrp_tool.specs.Reading.{numeral, kind_named, message_of, numbered, of_fields, of_kind, of_name, at_level, of_words, read_bytes}
 use Rattle.llrp_tool.specs.Schema.{name_of}
 use Rattle.llrp_tool.proofs.DecimalWords.{numeral_is, numeral_back}
@@ -272,11 +271,10 @@ says_holds : (d : ℕ) (x : List ℕ) (m : Message) → SaysMessage (Ended x) (0
 says_holds d x m s =
     let is : x ≡ line_text m = ended_is x m s.2 in
     let ws : words x ≡ (48 ∷ []) ∷ name_of m.kind ∷ decimal m.version ∷ decimal m.id ∷ [] = ap words is ∙ line_words m s.1 in
-    let zero_text : 48 ∷ [] ≡ decimal 0 = sym (decimal_digit 0 (omega arith)) in
-    (
+    let zero_text : 48 ∷ [] ≡ decimal 0 = sym (decimal_digit 0 (omega arith)) in (
       (omega (arith, ap length is, line_short m s.1), ap is_printed is ∙ line_printed m s.1),
       subst (λ (z : List (List ℕ)). AllHold (word_checks d z)) (sym ws)
-      ((0, zero_text, omega arith, omega arith), ((zero_text, (m.kind, refl)), (refl, (((version, (m.id, refl, s.1.id)), tt))))),
+          ((0, zero_text, omega arith, omega arith), ((zero_text, (m.kind, refl)), (refl, (((version, (m.id, refl, s.1.id)), tt))))),
     )
   where
     version : (decimal m.version ≡ decimal 1) ⊎ (decimal m.version ≡ decimal 2)

@@ -1,18 +1,17 @@
 -- Each text is the listing of one list of messages or has one first refusal.
-use Rattle.std.proofs.Common.{◌≡◌, ℕ, zero, suc, ◌+◌, ◌<◌, ◌≤◌, Bool, true, false, List, [], ◌∷◌, ◌++◌, length, refl, sym, ap, subst, ◌∙◌, arith, Ok, Err, Option, Some, None, inl, inr, ◌⊎◌, append_assoc}
+use Rattle.std.proofs.Common.{◌≡◌, ℕ, ◌+◌, ◌≤◌, Bool, true, false, List, [], ◌∷◌, ◌++◌, length, refl, sym, ap, subst, ◌∙◌, arith, Ok, Err, Option, Some, None, inl, inr, ◌⊎◌, append_assoc}
 use Rattle.std.specs.Prelude.{Result, ◌==◌, cond}
-use Rattle.std.specs.List.{AllZip, AllByRecursion, flat_map}
+use Rattle.std.specs.List.{AllZip, AllByRecursion}
 use Rattle.std.proofs.lemmas.List.{append-nil}
 use Rattle.llrp_tool.specs.declared.message.Message.{Message}
 use Rattle.llrp_tool.specs.declared.fault.Refusal.{Refusal}
 use Rattle.llrp_tool.specs.declared.fault.Refusal.TheVariants.{Line}
-use Rattle.llrp_tool.specs.Checks.{FirstFailing}
 use Rattle.llrp_tool.specs.OpenText.{nodes, covers}
 use Rattle.llrp_tool.specs.FirstRefusal.{Lists, Refused}
 use Rattle.llrp_tool.specs.Frame.{IsLawful}
 use Rattle.llrp_tool.specs.Lines.{TextLine, Ended, Unended, onto_line, lines_of}
 use Rattle.llrp_tool.specs.Listing.{message_text, messages_text}
-use Rattle.llrp_tool.specs.ListingLaws.{IsListing, IsRefused, ListedOrRefused}
+use Rattle.llrp_tool.specs.ListingLaws.{IsListing, ListedOrRefused}
 use Rattle.llrp_tool.specs.MessageLine.{SaysMessage, RefusesBytes, rules_for}
 use Rattle.llrp_tool.specs.Encoding.{row}
 use Rattle.llrp_tool.specs.Encoder.{those, chain_of, open_of, Started}

@@ -1,15 +1,15 @@
 -- Rows of messages, and what they spell.
-use Rattle.std.proofs.Common.{◌≡◌, ℕ, zero, suc, ◌+◌, ◌<◌, ◌≤◌, Bool, List, [], ◌∷◌, ◌++◌, length, refl, sym, ap, subst, ◌∙◌, arith, Option, Some, None, append_assoc}
-use Rattle.std.specs.List.{AllZip, AllByRecursion, flat_map}
+use Rattle.std.proofs.Common.{◌≡◌, ℕ, suc, ◌≤◌, List, [], ◌∷◌, ◌++◌, length, refl, sym, ap, ◌∙◌, arith, Option, Some, None}
+use Rattle.std.specs.List.{AllZip, AllByRecursion}
 use Rattle.std.proofs.lemmas.List.{append-nil}
 use Rattle.std.proofs.lemmas.List.Concat.{flat_map-append}
 use Rattle.llrp_tool.specs.declared.message.Message.{Message}
-use Rattle.llrp_tool.specs.OpenText.{Forest, end, node, nodes, OpenText, covers}
+use Rattle.llrp_tool.specs.OpenText.{Forest, end, node, nodes, covers}
 use Rattle.llrp_tool.specs.FirstRefusal.{AllClose, Sound, IsLastOpen}
 use Rattle.llrp_tool.specs.Frame.{IsLawful, length_of, Spells}
 use Rattle.llrp_tool.specs.MessageLine.{closing}
 use Rattle.llrp_tool.specs.Encoding.{row, AreSpelled}
-use Rattle.llrp_tool.specs.Encoder.{those, chain_of, open_of, Started}
+use Rattle.llrp_tool.specs.Encoder.{those, open_of, Started}
 use Rattle.llrp_tool.proofs.FrameBytes.{frame_bytes, spelled}
 
 -- lists of pairs

@@ -1,12 +1,12 @@
 -- How encode ends.
-use Rattle.std.proofs.Common.{◌≡◌, ℕ, ◌+◌, ◌<◌, ◌≤◌, List, [], ◌∷◌, ◌++◌, length, Option, Some, None, Result, Ok, Err, refl, sym, ap, subst, ◌∙◌, arith, inl, inr}
+use Rattle.std.proofs.Common.{◌≡◌, ℕ, ◌+◌, ◌<◌, ◌≤◌, List, [], Option, Some, None, Result, Ok, Err, sym, ap, subst, ◌∙◌, inl, inr}
 use Rattle.std.specs.Prelude.{MatchResult, OnOk, IfErr}
 use Rattle.std.proofs.lemmas.List.{append-nil}
-use Rattle.std.specs.Io.KnownBytes.{Consumes, Keeps, IsAtEnd}
+use Rattle.std.specs.Io.KnownBytes.{Consumes, Keeps}
 use Rattle.llrp_tool.specs.declared.message.Message.{Message}
 use Rattle.llrp_tool.specs.declared.fault.ToolErr.{ToolErr}
 use Rattle.llrp_tool.specs.declared.fault.ToolErr.TheVariants.{Listing, Hex, Read, Write, Bound, Memory}
-use Rattle.llrp_tool.specs.Copying.{MOST_READS, ReadAll, GaveAndFailed}
+use Rattle.llrp_tool.specs.Copying.{MOST_READS, ReadAll}
 use Rattle.llrp_tool.specs.Device.{SourceLog, SinkLog, Gave, Took}
 use Rattle.llrp_tool.specs.Encoder.{StandsAt, Stopped, StoppedAtEnd, WroteEncoding}
 use Rattle.llrp_tool.specs.Encoding.{EncodeStopped, Encoded}

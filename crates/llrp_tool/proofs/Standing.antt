@@ -1,8 +1,8 @@
 -- How an encoder goes on.
-use Rattle.std.proofs.Common.{◌≡◌, ℕ, zero, suc, ◌+◌, ◌<◌, ◌≤◌, Bool, true, false, List, [], ◌∷◌, ◌++◌, length, refl, sym, ap, subst, ◌∙◌, arith, Ok, Err, Option, Some, None, append_assoc, length-append, inl, inr}
-use Rattle.std.specs.Prelude.{Result, MatchResult, IsErrAnd, OnOk, is_ok, if◌then◌else◌, ◌==◌}
+use Rattle.std.proofs.Common.{◌≡◌, ℕ, ◌+◌, ◌<◌, ◌≤◌, List, [], ◌∷◌, ◌++◌, length, refl, sym, ap, subst, ◌∙◌, arith, Ok, Err, Option, Some, None, append_assoc, length-append, inl, inr}
+use Rattle.std.specs.Prelude.{Result, MatchResult, IsErrAnd, OnOk, is_ok, if◌then◌else◌}
 use Rattle.llrp_tool.specs.Frame.{IsLawful, Spells}
-use Rattle.std.specs.List.{AllZip, AllByRecursion}
+use Rattle.std.specs.List.{AllZip}
 use Rattle.std.proofs.lemmas.List.{append-nil}
 use Rattle.llrp_tool.specs.declared.message.Message.{Message}
 use Rattle.llrp_tool.specs.declared.fault.Refusal.{Refusal}
@@ -11,14 +11,14 @@ use Rattle.llrp_tool.specs.declared.fault.ToolErr.{ToolErr}
 use Rattle.llrp_tool.specs.declared.fault.ToolErr.TheVariants.{Listing, Hex, Read, Write, Bound, Memory}
 use Rattle.llrp_tool.specs.Checks.{FirstFailing}
 use Rattle.llrp_tool.specs.Copying.{Writes}
-use Rattle.llrp_tool.specs.Device.{SinkLog, Wrote, WroteAndFailed}
+use Rattle.llrp_tool.specs.Device.{SinkLog, Wrote}
 use Rattle.llrp_tool.specs.Encoder.{Lacks, those, chain_of, open_of, StandsAt, Stopped, StoppedAtEnd, WroteEncoding, Refusing, AppendsFrame, HandsOn}
 use Rattle.llrp_tool.specs.Encoding.{AreSpelled, AreClosed, BeginsEncoding, Encodes, Refuses, row}
 use Rattle.llrp_tool.specs.FirstRefusal.{Refused}
 use Rattle.llrp_tool.specs.Lines.{TextLine, Ended, Unended, lines_of, NoLf}
 use Rattle.llrp_tool.specs.MessageLine.{LONGEST_LINE, SaysMessage, RefusesBytes, line_checks, rules_for}
-use Rattle.llrp_tool.specs.OpenText.{nodes, covers}
-use Rattle.llrp_tool.proofs.Cutting.{ended, unended, Begins, as_ended, as_unended, begins}
+use Rattle.llrp_tool.specs.OpenText.{nodes}
+use Rattle.llrp_tool.proofs.Cutting.{ended, unended, as_ended, as_unended, begins}
 use Rattle.llrp_tool.proofs.DeviceLemmas.{wrote_nothing, wrote_more, wrote_then_failed}
 use Rattle.llrp_tool.proofs.Listed.{line_refused, says_more, says_text}
 use Rattle.llrp_tool.proofs.Rows.{closed_nodes, sound, spells_nothing, spells_more, spells_within}

@@ -1,11 +1,11 @@
 -- A text has one listing or one first refusal.
-use Rattle.std.proofs.Common.{◌≡◌, ℕ, zero, suc, ◌+◌, ◌-◌, ◌<◌, ◌≤◌, ◌⊎◌, inl, inr, List, [], ◌∷◌, ◌++◌, length, Option, Some, None, Result, Ok, Err, refl, sym, ap, subst, ◌∙◌, arith, append_assoc, length-append}
+use Rattle.std.proofs.Common.{◌≡◌, ℕ, zero, suc, ◌-◌, ◌<◌, ◌≤◌, ◌⊎◌, inl, inr, List, [], ◌∷◌, ◌++◌, length, Option, Some, None, refl, sym, ap, subst, ◌∙◌, arith}
 use Rattle.std.specs.List.{AllZip}
 use Rattle.std.proofs.lemmas.List.{append-nil}
 use Rattle.std.proofs.lemmas.Bool.{cases_order}
-use Rattle.llrp_tool.specs.OpenText.{Forest, end, node, nodes, Begun, OpenText, chain_nodes, covers}
-use Rattle.llrp_tool.specs.FirstRefusal.{Rules, AreClear, AllClose, ChainCloses, Sound, LastOpen, IsLastOpen, ClosesAt, RefusesLine, RefusesClosing, Opens, Lists, Refused, HasOneAnswer}
-use Rattle.llrp_tool.proofs.Growing.{join, text_of, begin, add_to, add, close_in, close, pop, depth, cut, push, put, run, empty, run_append, Fits, fits_middle, depth_cut, cut_cut, cut_all, Made, made, last_open, pop_pop}
+use Rattle.llrp_tool.specs.OpenText.{Forest, end, node, nodes, Begun, OpenText, covers}
+use Rattle.llrp_tool.specs.FirstRefusal.{Rules, AreClear, AllClose, Sound, RefusesLine, RefusesClosing, Opens, Lists, Refused, HasOneAnswer}
+use Rattle.llrp_tool.proofs.Growing.{join, text_of, add_to, close_in, close, pop, depth, cut, put, run, empty, run_append, Fits, fits_middle, cut_cut, made, last_open}
 
 module _ {H R : Type 0} (closing : H → Forest H → Option R) where
   pub close_parts : (f g : Forest H) → AllClose closing (join f g) → AllClose closing f × AllClose closing g

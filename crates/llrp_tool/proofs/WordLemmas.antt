@@ -1,6 +1,6 @@
 -- The words of a line.
-use Rattle.std.proofs.Common.{◌≡◌, ℕ, ◌==◌, Bool, true, false, cond, Err, List, [], ◌∷◌, ◌++◌, refl, sym, ap, subst, ◌∙◌}
-use Rattle.std.specs.List.{AllByRecursion, onto_first}
+use Rattle.std.proofs.Common.{◌≡◌, ℕ, ◌==◌, Bool, true, false, cond, Err, List, [], ◌∷◌, ◌++◌, refl, ap, ◌∙◌}
+use Rattle.std.specs.List.{onto_first}
 use Rattle.llrp_tool.specs.Encoder.{Lacks, IsSplit}
 use Rattle.llrp_tool.specs.MessageLine.{words}
 use Rattle.llrp_tool.specs.declared.message.MsgKind.{MsgKind}

@@ -1,5 +1,5 @@
 -- The law of listings.
-use Rattle.std.specs.Prelude.{◌≡◌, ℕ, ◌≤◌, ◌⊎◌, List}
+use Rattle.std.specs.Prelude.{◌≡◌, ℕ, ◌⊎◌, List}
 use Rattle.llrp_tool.specs.declared.message.Message.{Message}
 use Rattle.llrp_tool.specs.declared.fault.Refusal.{Refusal}
 use Rattle.llrp_tool.specs.Encoding.{AreSpelled, row}

@@ -1,4 +1,5 @@
-//! The bytes of a listing.
+//! The bytes of a listing: it is read in pieces, line by line, and what its messages spell is
+//! gathered and handed on in large pieces.
 
 ghost use Rattle.std.specs.Prelude.{◌++◌, ◌+◌, ◌<◌, ◌≡◌, ◌≤◌, ◌^◌, ◌∷◌, IfErr, IfOk, IsErrAnd, IsTrue, List, MatchResult, OnErr, OnOk, [], length, ℕ};
 ghost use Rattle.llrp_tool.specs.Checks.{FirstFailing};
@@ -215,13 +216,14 @@ impl Encoder {
     }
 }
 
-/// Writes the bytes of the messages whose listing the source gives, each message once the line
-/// after its own was read. The limit, in octets, is that of each message.
+/// Writes the octets of the messages whose listing the source gives (LLRP 1.1, section 16.1). The
+/// limit, in octets, is that of each message: each kind that this crate knows spells ten.
 ///
-/// The errors are `Listing` with the first line that is refused and the first reason that applies
+/// A message is closed once the line after its own was read, or at the end. The errors are
+/// `Listing` with the first line that is refused, counted from 1, and the first reason that applies
 /// to it, once the messages closed before it were written; `Read`, `Write` and `Memory`; and
-/// `Bound` after the greatest number of reads. After them a front of what the listing spells was
-/// written.
+/// `Bound` after the greatest number of reads. After the last four a front of what the listing
+/// spells was written.
 pub fn run_encode<R: Source, W: Sink>(
     alloc: Global,
     r: &mut R,

@@ -1,4 +1,4 @@
-use Rattle.std.proofs.Common.{◌≡◌, ◌+◌, suc, take, true, arith, rules, tests, add-one, ap, subst, ℕ, get_or, false}
+use Rattle.std.proofs.Common.{◌≡◌, ◌+◌, suc, take, true, arith, rules, tests, subst, ℕ, get_or, false}
 use Rattle.std.specs.Char.{is_ascii_digit}
 use Rattle.std.specs.Str.{all_ascii_digits}
 use Rattle.llrp_tool.proofs.Numerals.{no_number, digits_more, value_more, below_more, digit_small}

@@ -1,4 +1,4 @@
-use Rattle.std.proofs.Common.{◌∷◌, ◌++◌, [], length, List, ℕ}
+use Rattle.std.proofs.Common.{◌∷◌, ◌++◌, [], length}
 use Rattle.std.specs.Prelude.{IsErrAnd}
 use Rattle.std.proofs.lemmas.Result.{err_from_is_err_and}
 use Rattle.llrp_tool.specs.Checks.{FirstFailing}

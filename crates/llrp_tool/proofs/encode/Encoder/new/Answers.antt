@@ -1,4 +1,3 @@
-use Rattle.std.proofs.Common.{sym}
 use Rattle.llrp_tool.proofs.Standing.{stands_new}
 use Rattle.llrp_tool.proofs.encode.Encoder.new.Goals as goal
 
