@@ -1,0 +1,34 @@
+use Rattle.std.proofs.Common.{◌≡◌, ℕ, List, ◌++◌, ap₂, subst, ◌∙◌, codes, decimal}
+use Rattle.llrp_tool.specs.Command.{error_line}
+use Rattle.llrp_tool.specs.Copying.{Writes}
+use Rattle.llrp_tool.specs.Refused.{refusal_name}
+use Rattle.llrp_tool.proofs.command.write_error.Goals as goal
+
+pub returns-in-Listing : goal.returns-in-Listing
+unfolding error_line
+returns-in-Listing g c =
+    let number : c.as_bytes-number.result.now ≡ decimal c.in-Listing.line = c.as_bytes-number.ensures.value ∙ c.format.ensures.text in
+    let word : c.as_bytes-word.result.now ≡ refusal_name c.in-Listing.reason = c.as_bytes-word.ensures.value ∙ c.name.ensures in
+    rw c.in-Listing.is
+    (subst (λ (text : List ℕ). Writes text (g.E.Sink.log c.args.e.now) (g.E.Sink.log c.write_parts.new.w) c.write_parts.result)
+    (ap₂ (λ (n w : List ℕ). codes "llrp: line " ++ (n ++ (codes ": " ++ (w ++ codes "\n")))) number word) c.write_parts.ensures)
+
+pub returns-in-Hex : goal.returns-in-Hex
+unfolding error_line
+returns-in-Hex g c = rw c.in-Hex.is c.write_all.ensures
+
+pub returns-in-Read : goal.returns-in-Read
+unfolding error_line
+returns-in-Read g c = rw c.in-Read.is c.write_all-in-Read.ensures
+
+pub returns-in-Write : goal.returns-in-Write
+unfolding error_line
+returns-in-Write g c = rw c.in-Write.is c.write_all-in-Write.ensures
+
+pub returns-in-Bound : goal.returns-in-Bound
+unfolding error_line
+returns-in-Bound g c = rw c.in-Bound.is c.write_all-in-Bound.ensures
+
+pub returns-in-Memory : goal.returns-in-Memory
+unfolding error_line
+returns-in-Memory g c = rw c.in-Memory.is c.write_all-in-Memory.ensures

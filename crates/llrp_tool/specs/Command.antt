@@ -1,0 +1,150 @@
+-- What a command does, and how it is answered: its exit status, and its line for an error.
+use Rattle.std.specs.Prelude.{◌≡◌, ℕ, ◌⊎◌, List, [], ◌∷◌, ◌++◌, Bool, true, false, Result, Ok, Err, codes, decimal}
+use Rattle.hex.specs.Hex.{encode_upper}
+use Rattle.llrp_tool.specs.declared.fault.Refusal.{Refusal}
+use Rattle.llrp_tool.specs.declared.fault.ToolErr.{ToolErr}
+use Rattle.llrp_tool.specs.declared.fault.ToolErr.TheVariants.{Listing, Hex, Read, Write, Bound, Memory}
+use Rattle.llrp_tool.specs.declared.fault.Verdict.{Verdict}
+use Rattle.llrp_tool.specs.declared.fault.Verdict.TheVariants.{Lawful, Faulty}
+use Rattle.llrp_tool.specs.Copying.{MOST_READS, GaveAndFailed, IsPrefix, ReadAll, ReadStopped}
+use Rattle.llrp_tool.specs.Device.{SourceLog, SinkLog, Gave, Wrote, WroteAndFailed}
+use Rattle.llrp_tool.specs.Encoding.{Encoded, Encodes, EncodeStopped, ListingRefused, WasRead}
+use Rattle.llrp_tool.specs.Hexadecimal.{IsHexOf, IsNoHex}
+use Rattle.llrp_tool.specs.Refused.{refusal_name}
+use Rattle.llrp_tool.specs.Show.{Listed, Shows, Stopped}
+
+-- the greatest message in octets that a command takes
+abbrev pub LIMIT : ℕ
+LIMIT = 65536
+
+-- the exit status of a verdict
+abbrev pub status_of : Verdict → ℕ
+status_of Lawful = 0
+status_of Faulty = 1
+
+-- the exit status of an error
+abbrev pub error_status : ToolErr → ℕ
+error_status (Listing line reason) = 1
+error_status Hex = 1
+error_status Read = 3
+error_status Write = 3
+error_status Bound = 3
+error_status Memory = 3
+
+-- the line of an error
+unfoldable pub error_line : ToolErr → List ℕ
+error_line (Listing line reason) = codes "llrp: line " ++ (decimal line ++ (codes ": " ++ (refusal_name reason ++ codes "\n")))
+error_line Hex = codes "llrp: hex\n"
+error_line Read = codes "llrp: read\n"
+error_line Write = codes "llrp: write\n"
+error_line Bound = codes "llrp: bound\n"
+error_line Memory = codes "llrp: memory\n"
+
+-- What a command that ended so answered, and wrote to the sink for errors: its status alone, or its
+-- error's line and status, or the Write that stopped that line.
+abbrev pub Answers : Result ℕ ToolErr → SinkLog → SinkLog → Result ℕ ToolErr → Type 0
+Answers (Ok status) e0 e1 answer = (answer ≡ Ok status) × (e1 ≡ e0)
+Answers (Err error) e0 e1 (Ok status) = (status ≡ error_status error) × Wrote e0 e1 (error_line error)
+Answers (Err error) e0 e1 (Err fault) = (fault ≡ Write) × (front : List ℕ) × IsPrefix front (error_line error) × WroteAndFailed e0 e1 front
+
+-- Show of hexadecimal digits stopped: while it read, in what it had read, or while it listed the bytes.
+abbrev pub ShowDigitsStopped : SourceLog → SourceLog → SinkLog → SinkLog → List ℕ → ToolErr → Type 0
+ShowDigitsStopped r0 r1 w0 w1 text error =
+    (ReadStopped r0 r1 text error × (w1 ≡ w0))
+    ⊎ (ReadAll r0 r1 text × (w1 ≡ w0) × ((error ≡ Memory) ⊎ ((error ≡ Hex) × IsNoHex text)))
+    ⊎ (ReadAll r0 r1 text × (bytes : List ℕ) × IsHexOf text bytes × Stopped LIMIT bytes w0 w1 error)
+
+-- What show of hexadecimal digits did, by its answer.
+abbrev pub ShowsDigits : SourceLog → SourceLog → SinkLog → SinkLog → Result Verdict ToolErr → Type 0
+ShowsDigits r0 r1 w0 w1 (Ok verdict) = (text bytes : List ℕ) × ReadAll r0 r1 text × IsHexOf text bytes × Listed LIMIT bytes w0 w1 verdict
+ShowsDigits r0 r1 w0 w1 (Err error) = (text : List ℕ) × ShowDigitsStopped r0 r1 w0 w1 text error
+
+-- What show did, with --hex or without, by its verdict.
+abbrev pub DoesShow : Bool → SourceLog → SourceLog → SinkLog → SinkLog → Result Verdict ToolErr → Type 0
+DoesShow false r0 r1 w0 w1 outcome = Shows LIMIT r0 r1 w0 w1 outcome
+DoesShow true r0 r1 w0 w1 outcome = ShowsDigits r0 r1 w0 w1 outcome
+
+-- bytes as one line of upper-case digits, and no bytes as nothing
+abbrev pub digit_line : List ℕ → List ℕ
+digit_line [] = []
+digit_line (byte ∷ bytes) = encode_upper (byte ∷ bytes) ++ codes "\n"
+
+-- No encoding was made of what was read, for this reason.
+abbrev pub NotEncoded : SourceLog → SourceLog → ToolErr → Type 0
+NotEncoded r0 r1 (Listing line reason) = (bytes : List ℕ) × ListingRefused LIMIT r0 r1 line reason bytes
+NotEncoded r0 r1 Read = (n : ℕ) × (front : List ℕ) × GaveAndFailed r0 r1 n front
+NotEncoded r0 r1 Bound = (front : List ℕ) × Gave r0 r1 MOST_READS front
+NotEncoded r0 r1 Memory = (front : List ℕ) × WasRead r0 r1 front
+NotEncoded r0 r1 Write = ⊥
+NotEncoded r0 r1 Hex = ⊥
+
+-- the encoding of all that was read, or why there is none
+abbrev pub Gathers : SourceLog → SourceLog → Result (List ℕ) ToolErr → Type 0
+Gathers r0 r1 (Ok bytes) = (text : List ℕ) × ReadAll r0 r1 text × Encodes LIMIT text bytes
+Gathers r0 r1 (Err error) = NotEncoded r0 r1 error
+
+-- a front of the digits of the encoding was written, and then a write failed
+abbrev pub DigitsUnwritten : SourceLog → SourceLog → SinkLog → SinkLog → Type 0
+DigitsUnwritten r0 r1 w0 w1 = (text bytes front : List ℕ) × ReadAll r0 r1 text × Encodes LIMIT text bytes × IsPrefix front (digit_line bytes) × WroteAndFailed w0 w1 front
+
+-- What encode to hexadecimal digits did, by its answer.
+abbrev pub EncodesDigits : SourceLog → SourceLog → SinkLog → SinkLog → Result (Unit {0}) ToolErr → Type 0
+EncodesDigits r0 r1 w0 w1 (Ok u) = (text bytes : List ℕ) × ReadAll r0 r1 text × Encodes LIMIT text bytes × Wrote w0 w1 (digit_line bytes)
+EncodesDigits r0 r1 w0 w1 (Err error) = ((w1 ≡ w0) × NotEncoded r0 r1 error) ⊎ ((error ≡ Write) × DigitsUnwritten r0 r1 w0 w1)
+
+-- What encode did, by its answer.
+abbrev pub EncodesBytes : SourceLog → SourceLog → SinkLog → SinkLog → Result (Unit {0}) ToolErr → Type 0
+EncodesBytes r0 r1 w0 w1 (Ok u) = Encoded LIMIT r0 r1 w0 w1
+EncodesBytes r0 r1 w0 w1 (Err error) = EncodeStopped LIMIT r0 r1 w0 w1 error
+
+-- What encode did, with --hex or without.
+abbrev pub DoesEncode : Bool → SourceLog → SourceLog → SinkLog → SinkLog → Result (Unit {0}) ToolErr → Type 0
+DoesEncode false r0 r1 w0 w1 outcome = EncodesBytes r0 r1 w0 w1 outcome
+DoesEncode true r0 r1 w0 w1 outcome = EncodesDigits r0 r1 w0 w1 outcome
+
+-- Memory ran out before a command began: nothing was read or written.
+pub record IsNotBegun (r0 r1 : SourceLog) (w0 w1 e0 e1 : SinkLog) (answer : Result ℕ ToolErr) : Type 0 where
+  pub answer_is : answer ≡ Err Memory
+  pub unread : r1 ≡ r0
+  pub unwritten : w1 ≡ w0
+  pub untold : e1 ≡ e0
+
+-- the status of a verdict, or the error
+abbrev pub verdict_status : Result Verdict ToolErr → Result ℕ ToolErr
+verdict_status (Ok verdict) = Ok (status_of verdict)
+verdict_status (Err error) = Err error
+
+-- status 0, or the error
+abbrev pub fine_status : Result (Unit {0}) ToolErr → Result ℕ ToolErr
+fine_status (Ok u) = Ok 0
+fine_status (Err error) = Err error
+
+-- Show ran to this answer.
+abbrev pub RanShow : Bool → SourceLog → SourceLog → SinkLog → SinkLog → SinkLog → SinkLog → Result ℕ ToolErr → Type 0
+RanShow hex r0 r1 w0 w1 e0 e1 answer =
+    IsNotBegun r0 r1 w0 w1 e0 e1 answer
+    ⊎ ((outcome : Result Verdict ToolErr) × DoesShow hex r0 r1 w0 w1 outcome × Answers (verdict_status outcome) e0 e1 answer)
+
+-- Encode ran to this answer.
+abbrev pub RanEncode : Bool → SourceLog → SourceLog → SinkLog → SinkLog → SinkLog → SinkLog → Result ℕ ToolErr → Type 0
+RanEncode hex r0 r1 w0 w1 e0 e1 answer =
+    IsNotBegun r0 r1 w0 w1 e0 e1 answer
+    ⊎ ((outcome : Result (Unit {0}) ToolErr) × DoesEncode hex r0 r1 w0 w1 outcome × Answers (fine_status outcome) e0 e1 answer)
+
+-- The command is left to the program: nothing was read or written.
+abbrev pub LeftAlone : SourceLog → SourceLog → SinkLog → SinkLog → SinkLog → SinkLog → Result ℕ ToolErr → Type 0
+LeftAlone r0 r1 w0 w1 e0 e1 answer =
+    IsNotBegun r0 r1 w0 w1 e0 e1 answer ⊎ ((answer ≡ Ok 2) × (r1 ≡ r0) × (w1 ≡ w0) × (e1 ≡ e0))
+
+-- an error is that of memory, or of the sink for errors
+abbrev pub FailsAsTold : SinkLog → SinkLog → ToolErr → Type 0
+FailsAsTold e0 e1 error = (error ≡ Memory) ⊎ ((error ≡ Write) × (front : List ℕ) × WroteAndFailed e0 e1 front)
+
+-- where memory takes what is written, a failed write is that of memory
+abbrev pub memory_error : ToolErr → ToolErr
+memory_error Write = Memory
+memory_error (Listing line reason) = Listing line reason
+memory_error Hex = Hex
+memory_error Read = Read
+memory_error Bound = Bound
+memory_error Memory = Memory

@@ -1,0 +1,247 @@
+//! The command line: the commands that its words name, their exit statuses, and their errors' lines.
+
+ghost use Rattle.std.specs.Prelude.{◌+◌, ◌<◌, ◌^◌, ◌≡◌, Bool, IfErr, IfOk, MatchResult, codes, map, string_bytes};
+ghost use Rattle.std.specs.List.{flat_map};
+ghost use Rattle.llrp_tool.specs.Command.{Answers, DoesEncode, DoesShow, EncodesDigits, FailsAsTold, Gathers, LeftAlone, RanEncode, RanShow, ShowsDigits, digit_line, error_line, error_status, fine_status, memory_error, status_of, verdict_status};
+ghost use Rattle.llrp_tool.specs.Copying.{Writes};
+ghost use Rattle.llrp_tool.specs.Device.{IsFreshSource};
+ghost use Rattle.llrp_tool.specs.Words.{Asks, AsksElsewhere};
+
+use crate::copying::{read_all, write_all};
+use crate::device::{Output, Sink, Source};
+use crate::encode::run_encode;
+use crate::fault::{ToolErr, Verdict};
+use crate::hexadecimal::bytes_of_hex;
+use crate::show::{list_stream, run_show};
+use crate::words::{Request, request_of};
+use itoa::Buffer;
+use std::alloc::{AllocError, Global};
+use std::convert::AsStr;
+
+/// The greatest message in octets that a command takes.
+const LIMIT: u32 = 65_536;
+
+/// The exit status where no command was understood, or where the program runs it itself.
+const USAGE: u8 = 2;
+
+/// The exit status of a verdict.
+fn status_of(verdict: Verdict) -> u8
+    ensures { result ≡ status_of verdict }
+{
+    match verdict {
+        Verdict::Lawful => 0,
+        Verdict::Faulty => 1,
+    }
+}
+
+/// The exit status of an error: 1 where the input is at fault, 3 where a device or memory is.
+fn error_status(error: ToolErr) -> u8
+    ensures { result ≡ error_status error }
+{
+    match error {
+        ToolErr::Listing { .. } | ToolErr::Hex => 1,
+        ToolErr::Read | ToolErr::Write | ToolErr::Bound | ToolErr::Memory => 3,
+    }
+}
+
+/// Writes the parts of a text in order.
+fn write_parts<W: Sink>(w: &mut W, parts: &[&[u8]]) -> Result<(), ToolErr>
+    requires { (W.log w.old).failures + 1 < 2 ^ 64 }
+    ensures { Writes (flat_map (λ part. part.now) parts.now) (W.log w.old) (W.log w.new) result }
+{
+    for part in parts {
+        write_all(w, part)?;
+    }
+    Ok(())
+}
+
+/// Writes the line of an error.
+fn write_error<E: Sink>(e: &mut E, error: ToolErr) -> Result<(), ToolErr>
+    requires { (E.log e.old).failures + 1 < 2 ^ 64 }
+    ensures { Writes (error_line error) (E.log e.old) (E.log e.new) result }
+{
+    match error {
+        ToolErr::Listing { line, reason } => {
+            let mut digits = Buffer::new();
+            let number = digits.format(line).as_bytes();
+            let word = reason.name().as_bytes();
+            write_parts(e, &[b"llrp: line ", number, b": ", word, b"\n"])
+        }
+        ToolErr::Hex => write_all(e, b"llrp: hex\n"),
+        ToolErr::Read => write_all(e, b"llrp: read\n"),
+        ToolErr::Write => write_all(e, b"llrp: write\n"),
+        ToolErr::Bound => write_all(e, b"llrp: bound\n"),
+        ToolErr::Memory => write_all(e, b"llrp: memory\n"),
+    }
+}
+
+/// The exit status of a command that ended so, once the line of its error was written.
+fn answer<E: Sink>(outcome: Result<u8, ToolErr>, e: &mut E) -> Result<u8, ToolErr>
+    requires { (E.log e.old).failures + 1 < 2 ^ 64 }
+    ensures { Answers outcome (E.log e.old) (E.log e.new) result }
+{
+    match outcome {
+        Ok(status) => Ok(status),
+        Err(error) => {
+            write_error(e, error)?;
+            Ok(error_status(error))
+        }
+    }
+}
+
+/// The listing of a stream of hexadecimal digits, which are read whole and checked first.
+fn show_digits<R: Source, W: Sink>(alloc: Global, r: &mut R, w: &mut W) -> Result<Verdict, ToolErr>
+    requires source { IsFreshSource (R.log r.old) }
+    requires sink { (W.log w.old).failures < 2 ^ 63 }
+    ensures { ShowsDigits (R.log r.old) (R.log r.new) (W.log w.old) (W.log w.new) result }
+{
+    let text = read_all(alloc, r)?;
+    let stream = bytes_of_hex(alloc, text.as_slice())?;
+    list_stream(alloc, stream.as_slice(), w, LIMIT)
+}
+
+/// The command show.
+fn show<R: Source, W: Sink>(
+    alloc: Global,
+    hex: bool,
+    r: &mut R,
+    w: &mut W,
+) -> Result<Verdict, ToolErr>
+    requires source { IsFreshSource (R.log r.old) }
+    requires sink { (W.log w.old).failures < 2 ^ 63 }
+    ensures { DoesShow hex (R.log r.old) (R.log r.new) (W.log w.old) (W.log w.new) result }
+{
+    if hex {
+        show_digits(alloc, r, w)
+    } else {
+        run_show(alloc, r, w, LIMIT)
+    }
+}
+
+/// The error of writing to memory, which fails only where memory does.
+fn memory_error(error: ToolErr) -> ToolErr
+    ensures { result ≡ memory_error error }
+{
+    match error {
+        ToolErr::Write => ToolErr::Memory,
+        error => error,
+    }
+}
+
+/// The bytes of a listing, gathered in memory.
+fn encoded<R: Source>(alloc: Global, r: &mut R) -> Result<Vec<u8>, ToolErr>
+    requires { IsFreshSource (R.log r.old) }
+    ensures { MatchResult result
+        (λ bytes. Gathers (R.log r.old) (R.log r.new) (Ok bytes.items))
+        (λ e. Gathers (R.log r.old) (R.log r.new) (Err e)) }
+{
+    let mut gathered = Output::new(Vec::new(alloc));
+    match run_encode(alloc, r, &mut gathered, LIMIT) {
+        Ok(()) => Ok(gathered.into_inner()),
+        Err(error) => Err(memory_error(error)),
+    }
+}
+
+/// Bytes as one line of upper-case digits, and no bytes as nothing.
+fn digit_line(alloc: Global, bytes: &[u8]) -> Result<String, AllocError>
+    ensures { IfOk result (λ line. string_bytes line ≡ digit_line bytes.now) }
+{
+    if bytes.is_empty() {
+        return Ok(String::new(alloc));
+    }
+    let mut line = hex::encode_upper(alloc, bytes)?;
+    line.push('\n')?;
+    Ok(line)
+}
+
+/// The bytes of a listing as hexadecimal digits, written once the whole listing was read.
+fn encode_digits<R: Source, W: Sink>(alloc: Global, r: &mut R, w: &mut W) -> Result<(), ToolErr>
+    requires source { IsFreshSource (R.log r.old) }
+    requires sink { (W.log w.old).failures < 2 ^ 63 }
+    ensures { EncodesDigits (R.log r.old) (R.log r.new) (W.log w.old) (W.log w.new) result }
+{
+    let bytes = encoded(alloc, r)?;
+    let line = digit_line(alloc, bytes.as_slice())?;
+    write_all(w, line.as_bytes())
+}
+
+/// The command encode.
+fn encode<R: Source, W: Sink>(alloc: Global, hex: bool, r: &mut R, w: &mut W) -> Result<(), ToolErr>
+    requires source { IsFreshSource (R.log r.old) }
+    requires sink { (W.log w.old).failures < 2 ^ 63 }
+    ensures { DoesEncode hex (R.log r.old) (R.log r.new) (W.log w.old) (W.log w.new) result }
+{
+    if hex {
+        encode_digits(alloc, r, w)
+    } else {
+        run_encode(alloc, r, w, LIMIT)
+    }
+}
+
+/// The status of a verdict, or the error.
+fn verdict_status(outcome: Result<Verdict, ToolErr>) -> Result<u8, ToolErr>
+    ensures { result ≡ verdict_status outcome }
+{
+    match outcome {
+        Ok(verdict) => Ok(status_of(verdict)),
+        Err(error) => Err(error),
+    }
+}
+
+/// Status 0, or the error.
+fn fine_status(outcome: Result<(), ToolErr>) -> Result<u8, ToolErr>
+    ensures { result ≡ fine_status outcome }
+{
+    match outcome {
+        Ok(()) => Ok(0),
+        Err(error) => Err(error),
+    }
+}
+
+/// Runs the command that the words after the program's name ask for, and gives its exit status: 0
+/// where all is fine, 1 where the input has a fault, 2 where no command was understood, and 3 where
+/// a device or memory failed. An error is written to `e` as a line. For a command that the program
+/// runs itself the status is 2, and nothing is read or written. The only errors are `Memory`, and
+/// `Write` where writing to `e` failed.
+pub fn run_command<S: AsStr, R: Source, W: Sink, E: Sink>(
+    alloc: Global,
+    words: &[S],
+    r: &mut R,
+    w: &mut W,
+    e: &mut E,
+) -> Result<u8, ToolErr>
+    requires source { IsFreshSource (R.log r.old) }
+    requires sink { (W.log w.old).failures < 2 ^ 63 }
+    requires errors { (E.log e.old).failures < 2 ^ 63 }
+
+    // Where the words ask for show or encode, it does what that command does.
+    ensures show { (hex : Bool) → Asks (map S.text words.entry.now) (codes "show") hex
+        → RanShow hex (R.log r.old) (R.log r.new) (W.log w.old) (W.log w.new) (E.log e.old) (E.log e.new) result }
+    ensures encode { (hex : Bool) → Asks (map S.text words.entry.now) (codes "encode") hex
+        → RanEncode hex (R.log r.old) (R.log r.new) (W.log w.old) (W.log w.new) (E.log e.old) (E.log e.new) result }
+
+    // The other commands are left to the program.
+    ensures elsewhere { AsksElsewhere (map S.text words.entry.now)
+        → LeftAlone (R.log r.old) (R.log r.new) (W.log w.old) (W.log w.new) (E.log e.old) (E.log e.new) result }
+    ensures errors { IfErr result (λ error. FailsAsTold (E.log e.old) (E.log e.new) error) }
+{
+    match request_of(alloc, words)? {
+        Request::Show { hex } => {
+            let outcome = show(alloc, hex, r, w);
+            answer(verdict_status(outcome), e)
+        }
+        Request::Encode { hex } => {
+            let outcome = encode(alloc, hex, r, w);
+            answer(fine_status(outcome), e)
+        }
+        Request::Elsewhere => Ok(USAGE),
+        Request::Help(text) => {
+            let outcome = write_all(w, text.as_bytes());
+            answer(fine_status(outcome), e)
+        }
+        Request::Usage(text) => {
+            write_all(e, text.as_bytes())?;
+            Ok(USAGE)
+        }
+    }
+}

@@ -1,0 +1,98 @@
+//! How a command ends: what it found, or why it stopped.
+
+ghost use Rattle.std.specs.Prelude.{◌≡◌, Some};
+ghost use Rattle.llrp_tool.specs.declared.fault.ToolErr.TheVariants.{Memory};
+ghost use Rattle.llrp_tool.specs.Refused.{refusal_name};
+
+use std::alloc::{AllocError, AllocFailed};
+use std::fmt;
+use thiserror::Error;
+
+/// What a command that read its whole input found.
+#[derive(Clone, Copy, Debug, PartialEq, Eq)]
+pub enum Verdict {
+    /// Each frame is a message, and the stream ends where a frame ends.
+    Lawful,
+    /// Some frame has a fault, or the stream ends otherwise.
+    Faulty,
+}
+
+/// Why a line of a listing is refused, in the order in which the reasons are looked for.
+#[derive(Clone, Copy, Debug, PartialEq, Eq)]
+pub enum Refusal {
+    /// It isn't ended by LF, is too long, or holds a byte that is not printed.
+    Line,
+    /// Its first word is no level that may stand here.
+    Level,
+    /// Its second word is no name that may stand at this level.
+    Name,
+    /// It has another number of words than its kind has.
+    Fields,
+    /// A word is no number that may stand at its place.
+    Number,
+    /// The message that it begins is longer than the limit.
+    OverLimit,
+}
+
+impl Refusal {
+    /// The word for it in an error line.
+    pub fn name(self) -> &'static str
+        ensures { result.now ≡ refusal_name self }
+    {
+        match self {
+            Refusal::Line => "Line",
+            Refusal::Level => "Level",
+            Refusal::Name => "Name",
+            Refusal::Fields => "Fields",
+            Refusal::Number => "Number",
+            Refusal::OverLimit => "OverLimit",
+        }
+    }
+}
+
+impl fmt::Display for Refusal {
+    ghost output = { λ refusal. Some (refusal_name refusal) };
+
+    fn fmt<W: fmt::Write>(&self, f: &mut fmt::Formatter<W>) -> fmt::Result {
+        f.write_str(self.name())
+    }
+}
+
+/// Why a command stopped.
+#[derive(Clone, Copy, Debug, PartialEq, Eq, Error)]
+pub enum ToolErr {
+    /// A line of a listing, counted from 1, is refused.
+    #[error("line {line} of the listing is refused: {reason}")]
+    Listing { line: u64, reason: Refusal },
+    /// A text is no hexadecimal digits in pairs.
+    #[error("the input is no pairs of hexadecimal digits")]
+    Hex,
+    /// A read failed.
+    #[error("reading failed")]
+    Read,
+    /// A write failed or took nothing.
+    #[error("writing failed")]
+    Write,
+    /// The source gave bytes in more reads than a command makes.
+    #[error("the input is too long")]
+    Bound,
+    /// A growth was refused.
+    #[error("out of memory")]
+    Memory,
+}
+
+impl From<AllocError> for ToolErr {
+    ghost from_gives = { λ _ e. e ≡ Memory };
+
+    fn from(_e: AllocError) -> ToolErr {
+        ToolErr::Memory
+    }
+}
+
+impl<T: Drop> From<AllocFailed<T>> for ToolErr {
+    ghost from_gives = { λ _ e. e ≡ Memory };
+
+    fn from(_e: AllocFailed<T>) -> ToolErr {
+        ToolErr::Memory
+    }
+}

@@ -1,0 +1,27 @@
+//! The commands of `llrp` over bytes and texts: the listing of a stream of LLRP messages, and the
+//! stream of a listing. Sockets, files and the command line's process are not in here.
+#![tactic(auto)]
+
+mod command;
+mod copying;
+pub mod device;
+mod encode;
+mod fault;
+pub mod frame;
+mod hexadecimal;
+pub mod laws;
+mod line;
+pub mod message;
+mod show;
+mod words;
+
+pub use command::run_command;
+pub use device::{Input, Output, Sink, Source};
+pub use encode::run_encode;
+pub use fault::{Refusal, ToolErr, Verdict};
+pub use hexadecimal::bytes_of_hex;
+pub use message::{Message, MsgKind, msg_of};
+pub use show::run_show;
+
+#[cfg(test)]
+mod tests;

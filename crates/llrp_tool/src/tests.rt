@@ -1,0 +1,4 @@
+mod commands;
+mod devices;
+mod hexadecimal;
+mod show;

@@ -1,0 +1,103 @@
+//! Sources and sinks that fail in mid-stream, or don't end.
+
+ghost use Rattle.std.specs.Prelude.{None, Some};
+
+use crate::{Input, Sink, Source, ToolErr, run_show};
+use std::io;
+use std::test::*;
+
+const KEEPALIVE: &[u8] = b"\x08\x3e\0\0\0\x0a\0\0\0\x07";
+
+/// Takes one byte a call, and fails in the call after so many.
+#[derive(Drop)]
+struct Failing {
+    bytes: Vec<u8>,
+    left: u32,
+    failures: u64,
+}
+
+impl Sink for Failing {
+    ghost log = { λ s. record { failures = s.failures; taken = Some s.bytes.items } };
+
+    fn write(&mut self, buf: &[u8]) -> io::Result<usize> {
+        if self.left == 0 || self.bytes.push(buf[0]).is_err() {
+            self.failures += 1;
+            return Err(io::Error::from(io::ErrorKind::BrokenPipe));
+        }
+        self.left -= 1;
+        Ok(1)
+    }
+}
+
+#[test]
+fn a_write_that_fails_stops_the_listing(rt: HostRuntime) {
+    for left in 0..16u32 {
+        let mut source = Input::new(KEEPALIVE);
+        let mut sink = Failing {
+            bytes: Vec::new(rt.alloc()),
+            left,
+            failures: 0,
+        };
+        let found = run_show(rt.alloc(), &mut source, &mut sink, 65_536);
+        assert!(rt; found == Err(ToolErr::Write));
+        assert!(rt; b"0 KEEPALIVE 2 7\n".starts_with(sink.bytes.as_slice()));
+        assert!(rt; sink.bytes.len() == left as usize);
+    }
+}
+
+/// Gives a byte a call, and fails in the call after so many, if there is such a call.
+#[derive(Drop)]
+struct Dripping {
+    reads: u64,
+    failures: u64,
+    left: Option<u64>,
+}
+
+impl Source for Dripping {
+    ghost log = { λ s. record { reads = s.reads; ends = 0; failures = s.failures; left = None } };
+
+    fn read(&mut self, buf: &mut [u8]) -> io::Result<usize> {
+        if self.left == Some(0) {
+            self.failures += 1;
+            return Err(io::Error::from(io::ErrorKind::Other));
+        }
+        self.left = self.left.map(|left| left.saturating_sub(1));
+        self.reads += 1;
+        buf[0] = 0;
+        Ok(1)
+    }
+}
+
+#[test]
+fn a_read_that_fails_stops_before_the_listing(rt: HostRuntime) {
+    let mut source = Dripping {
+        reads: 0,
+        failures: 0,
+        left: Some(20),
+    };
+    let mut sink = Failing {
+        bytes: Vec::new(rt.alloc()),
+        left: 1000,
+        failures: 0,
+    };
+    let found = run_show(rt.alloc(), &mut source, &mut sink, 65_536);
+    assert!(rt; found == Err(ToolErr::Read));
+    assert!(rt; sink.bytes.is_empty());
+}
+
+#[test]
+fn a_source_that_does_not_end_is_bound(rt: HostRuntime) {
+    let mut source = Dripping {
+        reads: 0,
+        failures: 0,
+        left: None,
+    };
+    let mut sink = Failing {
+        bytes: Vec::new(rt.alloc()),
+        left: 1000,
+        failures: 0,
+    };
+    let found = run_show(rt.alloc(), &mut source, &mut sink, 65_536);
+    assert!(rt; found == Err(ToolErr::Bound));
+    assert!(rt; source.reads == 1_000_000);
+}

@@ -1,0 +1,133 @@
+//! What the words of the command line ask for.
+
+ghost use Rattle.std.specs.Prelude.{◌≡◌, IfOk, false, map, true};
+ghost use Rattle.clap.specs.Words.{app_of, subcommand_rows_of};
+ghost use Rattle.clap.specs.declared.builder.command.Command.TheViews.{out-Command};
+ghost use Rattle.llrp_tool.specs.Words.{IsRequest, command_in, hex_app, llrp_app, parses};
+
+use clap::error::ErrorKind;
+use clap::{Arg, ArgAction, ArgMatches, Command};
+use std::alloc::{AllocError, Global};
+use std::convert::AsStr;
+
+const SHOW_HELP: &str = "\
+Reads a stream of LLRP messages on standard input, and prints a line for each on standard output:
+  0 NAME VERSION ID   a message
+  ! ID BIT REASON     a frame that is no message: its id, its first fault, and the bit of the fault
+  ? N                 N bytes at the end that are no whole frame
+  ! BROKEN            a length below 10, at which the stream breaks off
+The status is 0 where all lines are messages, and 1 where some are not.
+
+Example:
+  $ echo 083E0000000A00000007 | llrp show --hex
+  0 KEEPALIVE 2 7";
+
+const ENCODE_HELP: &str = "\
+Reads a listing on standard input, a line 0 NAME VERSION ID for each message, and writes the bytes of
+the messages on standard output. A line that is refused ends the command with status 1, and is named
+on standard error with the reason.
+
+Example:
+  $ echo 0 KEEPALIVE 2 7 | llrp encode --hex
+  083E0000000A00000007";
+
+/// What the words ask for.
+#[derive(Drop)]
+pub enum Request {
+    /// The listing of a stream of bytes, or of hexadecimal digits.
+    Show { hex: bool },
+    /// The bytes of a listing, or their hexadecimal digits.
+    Encode { hex: bool },
+    /// A command that the program runs itself.
+    Elsewhere,
+    /// This text of help.
+    Help(String),
+    /// No command: this text says why.
+    Usage(String),
+}
+
+/// A command whose one argument is the flag --hex.
+fn hex_command<'a>(
+    alloc: Global,
+    name: &'a str,
+    about: &'a str,
+    flag: &'a str,
+    help: &'a str,
+) -> Result<Command<'a>, AllocError>
+    ensures app { IfOk result (λ c. app_of c ≡ hex_app name.entry.now) }
+    ensures local { IfOk result (λ c. (out-Command c).has_globals ≡ false) }
+{
+    let hex = Arg::new(alloc, "hex")
+        .long("hex")
+        .action(ArgAction::SetTrue)
+        .help(flag);
+    Command::new(alloc, name)
+        .about(about)
+        .after_help(help)
+        .arg(hex)
+}
+
+/// The words that the program takes.
+fn llrp_command<'a>(alloc: Global) -> Result<Command<'a>, AllocError>
+    ensures { IfOk result (λ c. app_of c ≡ llrp_app) }
+{
+    let show = hex_command(
+        alloc,
+        "show",
+        "List the messages of a stream of bytes",
+        "Read hexadecimal digits in place of bytes",
+        SHOW_HELP,
+    )?;
+    let encode = hex_command(
+        alloc,
+        "encode",
+        "Write the bytes of a listing of messages",
+        "Write hexadecimal digits in place of bytes",
+        ENCODE_HELP,
+    )?;
+    let top = Command::new(alloc, "llrp").bin_name("llrp")?;
+    top.about("Reads and writes streams of LLRP 1.1 messages")
+        .no_binary_name(true)
+        .subcommand_required(true)
+        .subcommand(show)?
+        .subcommand(encode)
+}
+
+/// The command that the words named.
+fn chosen(matches: &ArgMatches<'_>) -> Request
+    ensures { IsRequest (subcommand_rows_of matches.now) result }
+{
+    let Some((name, inner)) = matches.subcommand() else {
+        return Request::Elsewhere;
+    };
+    let hex = inner.get_flag("hex");
+    if name == "show" {
+        Request::Show { hex }
+    } else if name == "encode" {
+        Request::Encode { hex }
+    } else {
+        Request::Elsewhere
+    }
+}
+
+/// What the words after the program's name ask for. The only error is that of memory.
+pub fn request_of<'a, S: AsStr>(alloc: Global, words: &'a [S]) -> Result<Request, AllocError>
+    ensures { IfOk result (λ request. parses (map S.text words.entry.now) ≡ true
+        → IsRequest (command_in (map S.text words.entry.now)) request) }
+{
+    let command = llrp_command(alloc)?;
+    match command.try_get_matches_from(words) {
+        Ok(matches) => Ok(chosen(&matches)),
+        Err(error) => {
+            if let ErrorKind::OutOfMemory = error.kind() {
+                return Err(AllocError);
+            }
+            let text = error.to_string(alloc)?;
+            if error.use_stderr() {
+                Ok(Request::Usage(text))
+            } else {
+                Ok(Request::Help(text))
+            }
+        }
+    }
+}
