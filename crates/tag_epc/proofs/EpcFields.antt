@@ -62,14 +62,6 @@ pub lawful_fields : (k : Kind) (l : Layout) (r : Row) (f p d c t n : ℕ) → la
 lawful_fields k l r f p d c t n scheme row e a =
     one_fields (Partitioned k f d c t n) a.fields (row_fields l r f p c t n) a.has (record { layout = l; row = r; partition = p; scheme = scheme; placed = row; counted = e; filled = refl })
 
--- the numbers of GID-96 that fit
-pub gid_lawful : (m o s : ℕ) → m < 2 ^ 28 → o < 2 ^ 24 → s < 2 ^ 36 → IsLawful (General m o s)
-gid_lawful m o s a b d = record {
-  fields = fill gid_segments (gid_header ∷ m ∷ o ∷ s ∷ []);
-  has = refl;
-  fit = (fits_plain 8 gid_header (omega arith), (fits_plain 28 m a, (fits_plain 24 o b, (fits_plain 36 s d, tt))));
-}
-
 -- a manager number of GID-96 that does not fit
 pub manager_unfit : (m o s : ℕ) → 2 ^ 28 ≤ m → HasUnfit (General m o s) 1
 manager_unfit m o s h = record {

@@ -20,6 +20,7 @@ use Rattle.tag_epc.proofs.Soundness.{layout_sound}
 use Rattle.tag_epc.proofs.FieldLemmas.{all_read, fit_or_unfit, one_unfit, same_part, same_numbers}
 use Rattle.tag_epc.proofs.OneReading.{header_below, header_is, Begins, header_first, fields_begin, spell-append, one_beginning, one_fields, one_reading}
 
+-- what two equal options hold
 some_same : {A : Type 0} (a b : A) → Some a ≡ Some b → a ≡ b
 some_same a b e = cc
 

@@ -16,6 +16,7 @@ use Rattle.tag_epc.specs.Faults.{AllRead}
 use Rattle.tag_epc.proofs.Soundness.{layout_sound}
 use Rattle.tag_epc.proofs.FieldLemmas.{all_read, same_part, same_numbers}
 
+-- what two equal options hold
 some_same : {A : Type 0} (a b : A) → Some a ≡ Some b → a ≡ b
 some_same a b e = cc
 
@@ -111,6 +112,7 @@ same_rows l r s f p c t n g q d u o xs ys x y a b e =
     let last = same_numbers (number_segments l r) (c ∷ t ∷ n ∷ []) (d ∷ u ∷ o ∷ []) xs ys refl refl a.1.1.1 read behind in
     record { filter = filter; partition = partition; row = row; company = cc; reference = cc; last = cc }
 
+-- GID-96 has no layout
 no_layout : (k : Kind) (l : Layout) → layout_of k ≡ Some l → k ≡ Gid → ⊥
 no_layout k l e h = let none : layout_of k ≡ None = ap layout_of h in cc
 
