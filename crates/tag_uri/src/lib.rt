@@ -2,4 +2,7 @@
 #![tactic(auto)]
 
 mod decimal;
+mod fault;
 pub mod laws;
+
+pub use fault::UriFault;
