@@ -89,10 +89,8 @@ is_strange text = not (all_ascii_digits text)
 
 -- whether a component has a character other than 0 to 9, or is empty; the reference may be empty
 abbrev pub is_stray : Form → List ℕ → Bool
-is_stray Filter text = is_strange text || (length text == 0)
-is_stray Company text = is_strange text || (length text == 0)
 is_stray Reference text = is_strange text
-is_stray (Number width) text = is_strange text || (length text == 0)
+is_stray form text = is_strange text || (length text == 0)
 
 -- whether a text has two or more digits and begins with 0
 abbrev pub is_zero_led : List ℕ → Bool
@@ -100,10 +98,8 @@ is_zero_led text = nat_lt 1 (length text) && (slice_index text 0 == 48)
 
 -- whether a number without fixed digits has a leading zero
 abbrev pub has_leading_zero : Form → List ℕ → Bool
-has_leading_zero Filter text = false
-has_leading_zero Company text = false
-has_leading_zero Reference text = false
 has_leading_zero (Number width) text = is_zero_led text
+has_leading_zero form text = false
 
 -- whether a text is not one digit 0 to 7
 abbrev pub is_no_filter : List ℕ → Bool
@@ -112,9 +108,7 @@ is_no_filter text = not (length text == 1) || nat_lt 55 (slice_index text 0)
 -- whether a filter value is not one digit 0 to 7
 abbrev pub is_wrong_filter : Form → List ℕ → Bool
 is_wrong_filter Filter text = is_no_filter text
-is_wrong_filter Company text = false
-is_wrong_filter Reference text = false
-is_wrong_filter (Number width) text = false
+is_wrong_filter form text = false
 
 -- whether the partition table has no row of so many digits of the company prefix and of the reference
 abbrev pub is_no_row : List Row → ℕ → ℕ → Bool
@@ -123,17 +117,12 @@ is_no_row rows company_digits digits = not (unwrap_or (option_map (λ k. k == di
 -- whether company prefix and reference, the second and third component, have wrong digits
 abbrev pub has_wrong_digits : Option Layout → List (List ℕ) → Bool
 has_wrong_digits (Some l) (filter ∷ company ∷ reference ∷ texts) = is_no_row l.rows (length company) (length reference)
-has_wrong_digits (Some l) (filter ∷ company ∷ []) = false
-has_wrong_digits (Some l) (filter ∷ []) = false
-has_wrong_digits (Some l) [] = false
-has_wrong_digits None texts = false
+has_wrong_digits l texts = false
 
 -- whether a number has more than its bits
 abbrev pub is_over : Form → List ℕ → Bool
-is_over Filter text = false
-is_over Company text = false
-is_over Reference text = false
 is_over (Number width) text = nat_le (2 ^ width) (decimal_value text)
+is_over form text = false
 
 -- the rules that refuse components, in their order: each a test and what it tells
 abbrev pub rules_of : Option Layout → List (List ℕ) → List (Bool × UriFault)
@@ -162,14 +151,7 @@ pub record HasWrongComponents (text : List ℕ) (fault : UriFault) : Type 0 wher
 abbrev pub HasTagFault : List ℕ → UriFault → Type 0
 HasTagFault text fault.Start = (rest : List ℕ) → text ≡ tag_start ++ rest → ⊥
 HasTagFault text fault.Scheme = (rest : List ℕ) × (text ≡ tag_start ++ rest) × ((kind : Kind) (more : List ℕ) → rest ≡ scheme_text kind more → ⊥)
-HasTagFault text fault.Parts = HasWrongComponents text fault.Parts
-HasTagFault text fault.Digit = HasWrongComponents text fault.Digit
-HasTagFault text fault.LeadingZero = HasWrongComponents text fault.LeadingZero
-HasTagFault text fault.Filter = HasWrongComponents text fault.Filter
-HasTagFault text fault.Digits = HasWrongComponents text fault.Digits
-HasTagFault text fault.Range = HasWrongComponents text fault.Range
-HasTagFault text fault.RawForm = ⊥
-HasTagFault text fault.RawOfLawful = ⊥
+HasTagFault text fault = HasWrongComponents text fault
 
 -- 24 characters 0 to 9 and A to F
 pub record AreWordDigits (text : List ℕ) : Type 0 where
@@ -180,14 +162,7 @@ pub record AreWordDigits (text : List ℕ) : Type 0 where
 abbrev pub HasRawFault : List ℕ → UriFault → Type 0
 HasRawFault text fault.RawForm = (digits : List ℕ) → text ≡ raw_start ++ (raw_length ++ digits) → AreWordDigits digits → ⊥
 HasRawFault text fault.RawOfLawful = (word : ℕ) × (word < 2 ^ 96) × (text ≡ raw_uri word) × (epc : Parts) × HasWord epc word
-HasRawFault text fault.Start = ⊥
-HasRawFault text fault.Scheme = ⊥
-HasRawFault text fault.Parts = ⊥
-HasRawFault text fault.Digit = ⊥
-HasRawFault text fault.LeadingZero = ⊥
-HasRawFault text fault.Filter = ⊥
-HasRawFault text fault.Digits = ⊥
-HasRawFault text fault.Range = ⊥
+HasRawFault text fault = ⊥
 
 -- the first rule that refuses a text as a word's: those of raw URIs where it begins as one, else those of tag URIs
 abbrev pub HasFault : List ℕ → UriFault → Type 0

@@ -1,8 +1,10 @@
 //! The texts of EPCs and of 96-bit words: tag URIs and raw URIs.
 #![tactic(auto)]
 
+mod components;
 mod decimal;
 mod fault;
 pub mod laws;
+mod rules;
 
 pub use fault::UriFault;
