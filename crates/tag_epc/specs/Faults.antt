@@ -1,0 +1,95 @@
+-- The first fault of a word that no EPC has, and of numbers that are no EPC's.
+use Rattle.std.specs.Prelude.{◌≡◌, ◌≢◌, ℕ, ◌^◌, ◌<◌, ◌≤◌, List, Bool, [], ◌∷◌, ◌++◌, length, take, Some, None, slice_get}
+use Rattle.tag_bits.specs.Digits.{digits, word_digits}
+use Rattle.tag_epc.specs.declared.kind.Kind.{Kind}
+use Rattle.tag_epc.specs.declared.epc.Parts.{Parts}
+use Rattle.tag_epc.specs.declared.epc.Parts.TheVariants.{Partitioned, General}
+use Rattle.tag_epc.specs.declared.fault.EpcFault.{EpcFault}
+use Rattle.tag_epc.specs.declared.fault.EpcFault.TheVariants as epc
+use Rattle.tag_epc.specs.declared.fault.WordReason.{WordReason}
+use Rattle.tag_epc.specs.declared.fault.WordReason.TheVariants as word
+use Rattle.tag_epc.specs.declared.fault.WordFault.{WordFault}
+use Rattle.tag_epc.specs.Layout.{Layout, layout_of, header_of, row_at, plain, leading_segments}
+use Rattle.tag_epc.specs.LawfulWord.{Field, fill, Fits, AllFit, spell, HasFields}
+
+-- the fields before the one at `place` fit, and that one does not
+pub record FirstUnfit (fields : List Field) (place : ℕ) : Type 0 where
+  pub unfit : Field
+  pub stands : slice_get fields place ≡ Some unfit
+  pub before : AllFit (take place fields)
+  pub fails : ¬ Fits unfit
+
+-- the first number of an EPC that does not fit is the one at `place` of its fields
+pub record HasUnfit (epc : Parts) (place : ℕ) : Type 0 where
+  pub fields : List Field
+  pub has : HasFields epc fields
+  pub first : FirstUnfit fields place
+
+-- the first check that numbers fail: filter value, digits of the company prefix, company prefix, reference, last segment
+abbrev pub HasEpcFault : Parts → EpcFault → Type 0
+HasEpcFault (Partitioned kind filter company_digits company reference last) epc.Filter = 8 ≤ filter
+HasEpcFault (Partitioned kind filter company_digits company reference last) epc.Digits = (filter < 8) × ¬ ((6 ≤ company_digits) × (company_digits ≤ 12))
+HasEpcFault (Partitioned kind filter company_digits company reference last) epc.Prefix = HasUnfit (Partitioned kind filter company_digits company reference last) 3
+HasEpcFault (Partitioned kind filter company_digits company reference last) epc.Reference = HasUnfit (Partitioned kind filter company_digits company reference last) 4
+HasEpcFault (Partitioned kind filter company_digits company reference last) epc.Last = HasUnfit (Partitioned kind filter company_digits company reference last) 5
+HasEpcFault (General manager object_class serial) epc.Filter = ⊥
+HasEpcFault (General manager object_class serial) epc.Digits = ⊥
+HasEpcFault (General manager object_class serial) epc.Prefix = HasUnfit (General manager object_class serial) 1
+HasEpcFault (General manager object_class serial) epc.Reference = HasUnfit (General manager object_class serial) 2
+HasEpcFault (General manager object_class serial) epc.Last = HasUnfit (General manager object_class serial) 3
+
+-- the fields behind the header of a word are a filter value and a partition value that has no row
+pub record HasNoRow (fields : List Field) : Type 0 where
+  pub kind : Kind
+  pub layout : Layout
+  pub filter : ℕ
+  pub partition : ℕ
+  pub scheme : layout_of kind ≡ Some layout
+  pub none : row_at layout partition ≡ None
+  pub filled : fields ≡ fill leading_segments (layout.header ∷ filter ∷ partition ∷ [])
+
+-- the fields have the header of no scheme
+pub record HasNoScheme (fields : List Field) : Type 0 where
+  pub header : ℕ
+  pub filled : fields ≡ fill (plain 8 ∷ []) (header ∷ [])
+  pub unknown : (kind : Kind) → header_of kind ≢ header
+
+-- the fields are those of an EPC, but for the one at `place`, the first that does not fit
+pub record HasUnfitAt (place : ℕ) (fields : List Field) : Type 0 where
+  pub epc : Parts
+  pub has : HasFields epc fields
+  pub first : FirstUnfit fields place
+
+-- why the fields of a word fail
+abbrev pub Fails : WordReason → List Field → Type 0
+Fails word.Header fields = HasNoScheme fields
+Fails word.Partition fields = HasNoRow fields
+Fails word.Prefix fields = HasUnfitAt 3 fields
+Fails word.Reference fields = HasUnfitAt 4 fields
+Fails word.Zeros fields = HasUnfitAt 5 fields
+
+-- how many fields stand before the one that fails
+abbrev pub place_of : WordReason → ℕ
+place_of word.Header = 0
+place_of word.Partition = 2
+place_of word.Prefix = 3
+place_of word.Reference = 4
+place_of word.Zeros = 5
+
+-- each number has no more than the binary digits of its segment
+abbrev pub AllRead : List Field → Type 0
+AllRead [] = Unit {0}
+AllRead (f ∷ fs) = (f.number < 2 ^ f.segment.width) × AllRead fs
+
+-- the first field that fails of the digits of a word, and its first bit
+pub record HasFault (ds : List Bool) (fault : WordFault) : Type 0 where
+  pub fields : List Field
+  pub rest : List Bool
+  pub spelled : ds ≡ spell fields ++ rest
+  pub read : AllRead fields
+  pub fails : Fails fault.reason fields
+  pub bit : fault.bit ≡ length (spell (take (place_of fault.reason) fields))
+
+-- the first part of a word that fails, and its first bit
+abbrev pub HasWordFault : ℕ → WordFault → Type 0
+HasWordFault word fault = HasFault (word_digits word) fault

@@ -1,0 +1,4 @@
+pub mod Layout
+pub mod LawfulWord
+pub mod Faults
+pub mod Numbers

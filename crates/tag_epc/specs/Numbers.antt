@@ -1,0 +1,10 @@
+-- The numbers behind a partition value.
+use Rattle.std.specs.Prelude.{ℕ}
+use Rattle.tag_epc.specs.declared.check.Number.{Number}
+use Rattle.tag_epc.specs.declared.check.Number.TheVariants.{Company, Reference, Last}
+
+-- how many of them stand before one
+abbrev pub place_of_number : Number → ℕ
+place_of_number Company = 0
+place_of_number Reference = 1
+place_of_number Last = 2

@@ -1,0 +1,95 @@
+//! Which numbers are an EPC's, and the first that is not.
+
+ghost use Rattle.std.specs.Prelude.{◌≡◌, ℕ, [], ◌∷◌, Some, IfOk, IfErr, MatchOption};
+ghost use Rattle.tag_epc.specs.Layout.{layout_of, row_at, number_segments};
+ghost use Rattle.tag_epc.specs.LawfulWord.{fill, AllFit, IsLawful};
+ghost use Rattle.tag_epc.specs.Faults.{FirstUnfit, HasEpcFault};
+ghost use Rattle.tag_epc.specs.Numbers.{place_of_number};
+
+use crate::epc::Parts;
+use crate::fault::EpcFault;
+use crate::kind::Kind;
+use crate::scheme::{Row, Scheme, power};
+
+/// The numbers behind a partition value.
+#[derive(Clone, Copy, PartialEq, Eq)]
+pub enum Number {
+    Company,
+    Reference,
+    Last,
+}
+
+/// The first number that does not fit its segment.
+pub fn first_unfit<S: Scheme>(row: Row, company: u64, reference: u64, last: u64) -> Option<Number>
+    requires { (p : ℕ) × (row_at S.layout p ≡ Some row) }
+    ensures { let fields = fill (number_segments S.layout row) (company ∷ reference ∷ last ∷ []) in MatchOption result (AllFit fields) (λ n. FirstUnfit fields (place_of_number n)) }
+{
+    if company >= power(row.company_digits) {
+        Some(Number::Company)
+    } else if reference >= power(row.reference_digits) {
+        Some(Number::Reference)
+    } else if last >> S::LAST_BITS != 0 || S::ZERO_TAIL && last != 0 {
+        Some(Number::Last)
+    } else {
+        None
+    }
+}
+
+/// The parts of numbers that are an EPC's, or the first check that they fail.
+pub fn checked<S: Scheme>(
+    kind: Kind,
+    filter: u8,
+    company_digits: u8,
+    company: u64,
+    reference: u64,
+    last: u64,
+) -> Result<Parts, EpcFault>
+    requires { layout_of kind ≡ Some S.layout }
+    ensures ok { IfOk result (λ parts. parts ≡ Parts.Partitioned kind filter company_digits company reference last) }
+    ensures lawful { IfOk result (λ parts. IsLawful parts) }
+    ensures err { IfErr result (λ f. HasEpcFault (Parts.Partitioned kind filter company_digits company reference last) f) }
+{
+    if filter > 7 {
+        return Err(EpcFault::Filter);
+    }
+    if company_digits < 6 || company_digits > 12 {
+        return Err(EpcFault::Digits);
+    }
+    let Some(row) = S::row(12 - company_digits) else {
+        unreachable!()
+    };
+    match first_unfit::<S>(row, company, reference, last) {
+        Some(Number::Company) => Err(EpcFault::Prefix),
+        Some(Number::Reference) => Err(EpcFault::Reference),
+        Some(Number::Last) => Err(EpcFault::Last),
+        None => Ok(Parts::Partitioned {
+            kind,
+            filter,
+            company_digits,
+            company,
+            reference,
+            last,
+        }),
+    }
+}
+
+/// The parts of numbers that are an EPC's of GID-96, or the first that does not fit.
+pub fn checked_general(manager: u64, object_class: u64, serial: u64) -> Result<Parts, EpcFault>
+    ensures ok { IfOk result (λ parts. parts ≡ Parts.General manager object_class serial) }
+    ensures lawful { IfOk result (λ parts. IsLawful parts) }
+    ensures err { IfErr result (λ f. HasEpcFault (Parts.General manager object_class serial) f) }
+{
+    if manager >> 28 != 0 {
+        Err(EpcFault::Prefix)
+    } else if object_class >> 24 != 0 {
+        Err(EpcFault::Reference)
+    } else if serial >> 36 != 0 {
+        Err(EpcFault::Last)
+    } else {
+        Ok(Parts::General {
+            manager,
+            object_class,
+            serial,
+        })
+    }
+}

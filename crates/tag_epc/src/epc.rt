@@ -1,0 +1,129 @@
+//! EPCs that a 96-bit word can carry, and their words.
+
+ghost use Rattle.std.specs.Prelude.{◌≡◌, ◌≢◌, ◌↔◌, ℕ, IsOk, IfOk, IfErr};
+
+use crate::at_scheme;
+use crate::check::{checked, checked_general};
+use crate::fault::{EpcFault, WordFault};
+use crate::kind::Kind;
+use crate::read::parts_of;
+use crate::write::word_of;
+use std::marker::Model;
+use tag_bits::Word;
+
+/// The parts of an EPC.
+#[derive(Clone, Copy, PartialEq, Eq, Hash, Debug)]
+pub enum Parts {
+    /// Of a scheme with a company prefix: the reference is the part behind the prefix, and `last` the
+    /// serial number, the extension, or 0 where the word ends in zeros.
+    Partitioned {
+        kind: Kind,
+        filter: u8,
+        company_digits: u8,
+        company: u64,
+        reference: u64,
+        last: u64,
+    },
+    /// Of GID-96.
+    General {
+        manager: u64,
+        object_class: u64,
+        serial: u64,
+    },
+}
+
+/// An EPC that a 96-bit word can carry.
+#[derive(Clone, Copy, PartialEq, Eq, Hash, Debug)]
+pub struct Epc {
+    parts: Parts,
+}
+
+impl Model for Epc {
+    ghost use Rattle.tag_epc.specs.declared.epc.Parts.{Parts};
+    ghost use Rattle.tag_epc.specs.LawfulWord.{IsLawful};
+
+    ghost Value = { Parts };
+
+    ghost view = { λ a. a.parts };
+
+    ghost invariant = { λ a. IsLawful a.parts };
+
+    ghost inverse = { λ parts. record { parts = parts } };
+}
+
+impl Epc {
+    ghost use Rattle.tag_epc.specs.LawfulWord.{IsLawful, IsLawfulWord, HasWord, kind_of};
+    ghost use Rattle.tag_epc.specs.Faults.{HasEpcFault, HasWordFault};
+
+    /// The EPC of a scheme with a company prefix of that many digits. `reference` is the part behind the
+    /// prefix, and `last` the serial number or extension, or 0 where the word ends in zeros.
+    ///
+    /// The error is the first part that fails (EPC Tag Data Standard 1.13, section 14.5).
+    pub fn partitioned(
+        kind: Kind,
+        filter: u8,
+        company_digits: u8,
+        company: u64,
+        reference: u64,
+        last: u64,
+    ) -> Result<Epc, EpcFault>
+        requires has_company_prefix { kind ≢ Kind.Gid }
+        ensures exactly { IsOk result ↔ IsLawful (Parts.Partitioned kind filter company_digits company reference last) }
+        ensures ok { IfOk result (λ e. e ≡ Parts.Partitioned kind filter company_digits company reference last) }
+        ensures err { IfErr result (λ f. HasEpcFault (Parts.Partitioned kind filter company_digits company reference last) f) }
+    {
+        let parts = at_scheme!(
+            kind,
+            checked(kind, filter, company_digits, company, reference, last),
+            unreachable!()
+        )?;
+        Ok(Epc { parts })
+    }
+
+    /// The EPC of GID-96 with these numbers. The error is the first that is too large: the manager number is
+    /// told as `Prefix`, the object class as `Reference`, the serial number as `Last`.
+    pub fn gid(manager: u64, object_class: u64, serial: u64) -> Result<Epc, EpcFault>
+        ensures exactly { IsOk result ↔ IsLawful (Parts.General manager object_class serial) }
+        ensures ok { IfOk result (λ e. e ≡ Parts.General manager object_class serial) }
+        ensures err { IfErr result (λ f. HasEpcFault (Parts.General manager object_class serial) f) }
+    {
+        let parts = checked_general(manager, object_class, serial)?;
+        Ok(Epc { parts })
+    }
+
+    /// The EPC that a word carries, or the word's first part that fails and its bit
+    /// (EPC Tag Data Standard 1.13, section 14).
+    pub fn from_word(word: Word) -> Result<Epc, WordFault>
+        ensures exactly { IsOk result ↔ IsLawfulWord word }
+        ensures ok { IfOk result (λ e. HasWord e word) }
+        ensures err { IfErr result (λ f. HasWordFault word f) }
+    {
+        let parts = parts_of(word)?;
+        Ok(Epc { parts })
+    }
+
+    /// The word that carries the EPC (EPC Tag Data Standard 1.13, section 14).
+    pub fn to_word(&self) -> Word
+        ensures { HasWord self.now result }
+    {
+        word_of(self.parts)
+    }
+
+    /// The scheme.
+    pub fn kind(&self) -> Kind
+        ensures { result ≡ kind_of self.now }
+    {
+        match self.parts {
+            Parts::Partitioned { kind, .. } => kind,
+            Parts::General { .. } => Kind::Gid,
+        }
+    }
+
+    /// The parts.
+    pub fn parts(&self) -> Parts
+        ensures parts { result ≡ self.now }
+        ensures lawful { IsLawful result }
+    {
+        self.parts
+    }
+}

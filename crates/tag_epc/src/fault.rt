@@ -1,0 +1,38 @@
+//! Why numbers are no EPC, and why a word has none.
+
+/// The first check that the numbers of an EPC fail, in this order.
+#[derive(Clone, Copy, PartialEq, Eq, Hash, Debug)]
+pub enum EpcFault {
+    /// The filter value is above 7.
+    Filter,
+    /// The company prefix has not 6 to 12 digits.
+    Digits,
+    /// The company prefix has more digits than told, or the manager number more than 28 bits.
+    Prefix,
+    /// The reference has more digits than the partition table gives it, or the object class more than 24 bits.
+    Reference,
+    /// The last part has more bits than its segment, or is not 0 where the segment is all zeros.
+    Last,
+}
+
+/// The part of a word that no EPC has.
+#[derive(Clone, Copy, PartialEq, Eq, Hash, Debug)]
+pub enum WordReason {
+    /// The header is no scheme's.
+    Header,
+    /// The partition value has no row.
+    Partition,
+    /// The company prefix has more digits than the partition value tells.
+    Prefix,
+    /// The reference has more digits than the partition value tells.
+    Reference,
+    /// The last segment is not all zeros.
+    Zeros,
+}
+
+/// The first part of a word that fails, and its first bit; bit 0 is the most significant of 96.
+#[derive(Clone, Copy, PartialEq, Eq, Hash, Debug)]
+pub struct WordFault {
+    pub bit: u32,
+    pub reason: WordReason,
+}

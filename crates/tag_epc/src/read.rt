@@ -1,0 +1,98 @@
+//! The parts that a word carries.
+
+ghost use Rattle.std.specs.Prelude.{◌≡◌, ℕ, [], ◌++◌, Some, length, IfOk, IfErr};
+ghost use Rattle.tag_bits.specs.Digits.{digits};
+ghost use Rattle.tag_epc.specs.Layout.{layout_of, gid_header};
+ghost use Rattle.tag_epc.specs.LawfulWord.{Spells, HasWord};
+ghost use Rattle.tag_epc.specs.Faults.{HasFault, HasWordFault};
+
+use crate::at_scheme;
+use crate::bits::WordReader;
+use crate::check::{Number, first_unfit};
+use crate::epc::Parts;
+use crate::fault::{WordFault, WordReason};
+use crate::kind::Kind;
+use crate::scheme::{Row, Scheme};
+use tag_bits::Word;
+
+/// The parts that a word carries, or its first part that fails.
+pub fn parts_of(word: Word) -> Result<Parts, WordFault>
+    ensures ok { IfOk result (λ parts. HasWord parts word) }
+    ensures err { IfErr result (λ f. HasWordFault word f) }
+{
+    let mut reader = WordReader::new(word);
+    let header = reader.take(8) as u8;
+    let Some(kind) = Kind::of_header(header) else {
+        return Err(WordFault {
+            bit: 0,
+            reason: WordReason::Header,
+        });
+    };
+    at_scheme!(kind, partitioned(kind, reader), Ok(general(reader)))
+}
+
+/// The parts behind the header of a scheme with a company prefix.
+fn partitioned<S: Scheme>(kind: Kind, reader: WordReader) -> Result<Parts, WordFault>
+    requires known { layout_of kind ≡ Some S.layout }
+    requires whole { length reader ≡ 88 }
+    ensures ok { IfOk result (λ parts. Spells parts (digits 8 S.layout.header ++ reader)) }
+    ensures err { IfErr result (λ f. HasFault (digits 8 S.layout.header ++ reader) f) }
+{
+    let mut reader = reader;
+    let filter = reader.take(3) as u8;
+    let partition = reader.take(3) as u8;
+    let Some(row) = S::row(partition) else {
+        return Err(WordFault {
+            bit: 11,
+            reason: WordReason::Partition,
+        });
+    };
+    let company = reader.take(row.company_bits);
+    let reference = reader.take(row.reference_bits);
+    let last = reader.take(S::LAST_BITS);
+    match first_unfit::<S>(row, company, reference, last) {
+        Some(number) => Err(fault_at(number, row)),
+        None => Ok(Parts::Partitioned {
+            kind,
+            filter,
+            company_digits: row.company_digits as u8,
+            company,
+            reference,
+            last,
+        }),
+    }
+}
+
+/// The fault of a word whose number does not fit, and the number's first bit.
+fn fault_at(number: Number, row: Row) -> WordFault {
+    match number {
+        Number::Company => WordFault {
+            bit: 14,
+            reason: WordReason::Prefix,
+        },
+        Number::Reference => WordFault {
+            bit: 14 + row.company_bits,
+            reason: WordReason::Reference,
+        },
+        Number::Last => WordFault {
+            bit: 14 + row.company_bits + row.reference_bits,
+            reason: WordReason::Zeros,
+        },
+    }
+}
+
+/// The parts behind the header of GID-96.
+fn general(reader: WordReader) -> Parts
+    requires { length reader ≡ 88 }
+    ensures { Spells result (digits 8 gid_header ++ reader) }
+{
+    let mut reader = reader;
+    let manager = reader.take(28);
+    let object_class = reader.take(24);
+    let serial = reader.take(36);
+    Parts::General {
+        manager,
+        object_class,
+        serial,
+    }
+}

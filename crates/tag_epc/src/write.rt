@@ -1,0 +1,79 @@
+//! The word that carries the parts of an EPC.
+
+ghost use Rattle.std.specs.Prelude.{◌≡◌, ℕ, [], ◌∷◌, ◌++◌, Some};
+ghost use Rattle.tag_bits.specs.Digits.{word_digits};
+ghost use Rattle.tag_epc.specs.Layout.{layout_of, row_at, gid_header, leading_segments, number_segments};
+ghost use Rattle.tag_epc.specs.LawfulWord.{IsLawful, HasWord, AllFit, fill, spell};
+
+use crate::at_scheme;
+use crate::bits::WordWriter;
+use crate::epc::Parts;
+use crate::kind::{GID_HEADER, Kind};
+use crate::scheme::{Row, Scheme};
+use tag_bits::Word;
+
+/// The word of the parts of an EPC.
+pub fn word_of(parts: Parts) -> Word
+    requires { IsLawful parts }
+    ensures { HasWord parts result }
+{
+    match parts {
+        Parts::Partitioned {
+            kind,
+            filter,
+            company_digits,
+            company,
+            reference,
+            last,
+        } => at_scheme!(
+            kind,
+            partitioned(kind, filter, company_digits, company, reference, last),
+            unreachable!()
+        ),
+        Parts::General {
+            manager,
+            object_class,
+            serial,
+        } => general(manager, object_class, serial),
+    }
+}
+
+/// The word of an EPC of a scheme with a company prefix.
+fn partitioned<S: Scheme>(
+    kind: Kind,
+    filter: u8,
+    company_digits: u8,
+    company: u64,
+    reference: u64,
+    last: u64,
+) -> Word
+    requires known { layout_of kind ≡ Some S.layout }
+    requires lawful { IsLawful (Parts.Partitioned kind filter company_digits company reference last) }
+    ensures { HasWord (Parts.Partitioned kind filter company_digits company reference last) result }
+{
+    let partition = 12 - company_digits;
+    let Some(row) = S::row(partition) else {
+        unreachable!()
+    };
+    let mut writer = WordWriter::new();
+    writer.push(8, S::HEADER as u64);
+    writer.push(3, filter as u64);
+    writer.push(3, partition as u64);
+    writer.push(row.company_bits, company);
+    writer.push(row.reference_bits, reference);
+    writer.push(S::LAST_BITS, last);
+    writer.word()
+}
+
+/// The word of an EPC of GID-96.
+fn general(manager: u64, object_class: u64, serial: u64) -> Word
+    requires { IsLawful (Parts.General manager object_class serial) }
+    ensures { HasWord (Parts.General manager object_class serial) result }
+{
+    let mut writer = WordWriter::new();
+    writer.push(8, GID_HEADER as u64);
+    writer.push(28, manager);
+    writer.push(24, object_class);
+    writer.push(36, serial);
+    writer.word()
+}
