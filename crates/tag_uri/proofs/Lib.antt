@@ -1,2 +1,3 @@
 pub mod ComponentLemmas
 pub mod DecimalLemmas
+pub mod RowDigits

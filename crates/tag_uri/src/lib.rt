@@ -5,6 +5,7 @@ mod components;
 mod decimal;
 mod fault;
 pub mod laws;
+mod partitioned;
 mod rules;
 
 pub use fault::UriFault;

@@ -42,7 +42,7 @@ pub fn is_no_filter(text: &str) -> bool
 pub fn is_no_row<S: Scheme>(company_digits: usize, reference_digits: usize) -> bool
     ensures { result ≡ no_row S.layout.rows company_digits reference_digits }
 {
-    if company_digits < 6 || company_digits > 12 {
+    if company_digits > 12 {
         return true;
     }
     match S::row(12 - company_digits as u8) {
