@@ -7,10 +7,11 @@ use Rattle.std.proofs.lemmas.Nat.{same_from_place, shr_split, mod_below, pow_pos
 use Rattle.std.proofs.lemmas.Fmt.{digits_decimal, digits_value-decimal, decimal-digits_value, length-decimal-le, decimal_nonempty}
 use Rattle.std.proofs.lemmas.Str.Parse.{IsDigitsTest, IsNumeralModel, WeighsDigits, numerals_by_weight, digits_value_short, parse_digits}
 use Rattle.std.specs.Str.Parse.{ParsesUnsigned}
-use Rattle.std.proofs.lemmas.Bool.{cases_lt}
-use Rattle.std.specs.Prelude.{replicate}
+use Rattle.std.proofs.lemmas.Bool.{cases_lt, lt-ltb, eq-eqb}
+use Rattle.std.specs.Prelude.{replicate, true, false, nat_lt, ◌==◌}
 use Rattle.std.proofs.lemmas.List.{length-replicate, replicate-append-replicate, append-nil}
 use Rattle.tag_uri.specs.Decimal.{AreDigits, decimal_value, padded, IsPadded, IsPlain}
+use Rattle.tag_uri.specs.TagText.{is_zero_led}
 
 weighs : WeighsDigits decimal_value
 unfolding decimal_value
@@ -176,3 +177,17 @@ pub only_padded : (k n : ℕ) (text : List ℕ) → n < 10 ^ k → IsPadded k n 
 only_padded k n text below p =
     let q = padded_is k n below in
     one_padded text (padded k n) p.digits q.digits (p.count ∙ sym q.count) (p.number ∙ sym q.number)
+
+single : (text : List ℕ) → 0 < length text → is_zero_led text ≡ false → get_or text 0 0 ≡ 48 → length text ≡ 1
+single [] some led e = absurd (omega arith)
+single (c ∷ []) some led e = refl
+single (c ∷ d ∷ cs) some led e =
+    let two : nat_lt 1 (length (c ∷ d ∷ cs)) ≡ true = lt-ltb 1 (length (c ∷ d ∷ cs)) (omega arith) in
+    let zero_first : (c == 48) ≡ true = eq-eqb c 48 e in
+    let no : true ≡ false = rw (two, zero_first) at led in
+    cc
+
+-- digits that are not led by a zero are the plain text of their number
+pub plain_text : (text : List ℕ) (n : ℕ) → AreDigits text → 0 < length text → is_zero_led text ≡ false → n < 2 ^ 64 → n ≡ decimal_value text → text ≡ decimal n
+plain_text text n h some led small e =
+    sym (decimal-digits_value own text h some (single text some led) (rw (← e) small)) ∙ ap (λ (k : ℕ). decimal k) (sym e)

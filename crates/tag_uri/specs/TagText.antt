@@ -140,12 +140,16 @@ abbrev pub first_rule : List (Bool × UriFault) → Option UriFault
 first_rule [] = None
 first_rule (rule ∷ rules) = if rule.0 then Some rule.1 else first_rule rules
 
+-- the first rule that refuses components
+unfoldable pub refusal : Option Layout → List (List ℕ) → Option UriFault
+refusal l texts = first_rule (rules_of l texts)
+
 -- a text of a scheme whose components a rule refuses
 pub record HasWrongComponents (text : List ℕ) (fault : UriFault) : Type 0 where
   pub kind : Kind
   pub rest : List ℕ
   pub named : text ≡ tag_start ++ scheme_text kind rest
-  pub refused : first_rule (rules_of (layout_of kind) (components rest)) ≡ Some fault
+  pub refused : refusal (layout_of kind) (components rest) ≡ Some fault
 
 -- the first rule that refuses a text as a tag URI
 abbrev pub HasTagFault : List ℕ → UriFault → Type 0

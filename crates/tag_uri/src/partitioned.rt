@@ -1,10 +1,10 @@
 //! The texts of EPCs with a company prefix, behind the scheme's colon.
 
-ghost use Rattle.std.specs.Prelude.{◌≡◌, ◌≢◌, if◌then◌else◌, ℕ, ◌+◌, ◌^◌, ◌<◌, ◌≤◌, not, Some, None, length, is_some, MatchOption, IfOk, IfErr, IfSome, IfNone};
+ghost use Rattle.std.specs.Prelude.{◌≡◌, ◌≢◌, if◌then◌else◌, ℕ, ◌+◌, ◌^◌, ◌<◌, ◌≤◌, not, Some, None, length, false, is_some, is_none, MatchOption, IfOk, IfErr, IfSome, IfNone};
 ghost use Rattle.tag_epc.specs.Layout.{layout_of};
 ghost use Rattle.tag_epc.specs.LawfulWord.{IsLawful, kind_of};
-ghost use Rattle.tag_uri.specs.TagText.{components, components_of, rules_of, first_rule, some_component, is_stray as stray, has_leading_zero as leading_zero, is_over as over};
-ghost use Rattle.tag_uri.specs.ComponentForms.{texts_of, forms_with};
+ghost use Rattle.tag_uri.specs.TagText.{components, components_of, refusal, some_component, is_stray as stray, has_leading_zero as leading_zero, is_over as over};
+ghost use Rattle.tag_uri.specs.ComponentForms.{texts_of, forms_with, LastIs};
 
 use crate::components::{four, three};
 use crate::decimal::{number_below, number_of};
@@ -68,6 +68,20 @@ impl Components<'_> {
             None => false,
         }
     }
+
+    /// The number of the last component, where it has at most `width` bits; 0 where there is none.
+    fn last_below(&self, width: u32) -> Option<u64>
+        requires digits { some_component stray (forms_with self.now width) (texts_of self.now) ≡ false }
+        requires plain { some_component leading_zero (forms_with self.now width) (texts_of self.now) ≡ false }
+        requires narrow { width < 64 }
+        ensures over { is_none result ≡ some_component over (forms_with self.now width) (texts_of self.now) }
+        ensures last { IfSome result (λ n. LastIs self.now.last width n) }
+    {
+        match self.last {
+            Some(last) => number_below(last, width),
+            None => Some(0),
+        }
+    }
 }
 
 /// The parts of an EPC of a scheme with a company prefix by its components, or the first rule that refuses them.
@@ -76,7 +90,7 @@ pub fn read<S: Scheme>(kind: Kind, text: &str) -> Result<Parts, UriFault>
     ensures kind { IfOk result (λ parts. kind_of parts ≡ kind) }
     ensures lawful { IfOk result (λ parts. IsLawful parts) }
     ensures ok { IfOk result (λ parts. components text.now ≡ components_of parts) }
-    ensures err { IfErr result (λ f. first_rule (rules_of (layout_of kind) (components text.now)) ≡ Some f) }
+    ensures err { IfErr result (λ f. refusal (layout_of kind) (components text.now) ≡ Some f) }
 {
     let Some(texts) = split(text, S::ZERO_TAIL) else {
         return Err(UriFault::Parts);
@@ -93,9 +107,8 @@ pub fn read<S: Scheme>(kind: Kind, text: &str) -> Result<Parts, UriFault>
     if is_no_row::<S>(texts.company.len(), texts.reference.len()) {
         return Err(UriFault::Digits);
     }
-    let last = match texts.last {
-        Some(last) => number_below(last, S::LAST_BITS).ok_or(UriFault::Range)?,
-        None => 0,
+    let Some(last) = texts.last_below(S::LAST_BITS) else {
+        return Err(UriFault::Range);
     };
     Ok(Parts::Partitioned {
         kind,
