@@ -1,5 +1,7 @@
 pub mod ComponentLemmas
 pub mod DecimalLemmas
+pub mod GeneralLemmas
+pub mod HexadecimalLemmas
 pub mod ReadLemmas
 pub mod RowDigits
 pub mod RuleLemmas

@@ -19,7 +19,7 @@ use Rattle.tag_uri.proofs.ComponentLemmas.{digits_of_not_strange}
 use Rattle.tag_uri.proofs.DecimalLemmas.{plain_text}
 use Rattle.tag_uri.proofs.RowDigits.{RowOf, row_of_digits, reference_digits-at}
 
-or_false : (a b : Bool) → (a || b) ≡ false → (a ≡ false) × (b ≡ false)
+pub or_false : (a b : Bool) → (a || b) ≡ false → (a ≡ false) × (b ≡ false)
 or_false true b h = cc
 or_false false b h = (refl, h)
 
@@ -32,7 +32,7 @@ pub record SomeDigits (text : List ℕ) : Type 0 where
   pub digits : AreDigits text
   pub some : 0 < length text
 
-not_stray : (text : List ℕ) → (is_strange text || (length text == 0)) ≡ false → SomeDigits text
+pub not_stray : (text : List ℕ) → (is_strange text || (length text == 0)) ≡ false → SomeDigits text
 not_stray [] h = cc
 not_stray (c ∷ cs) h = record { digits = digits_of_not_strange (c ∷ cs) (or_false _ _ h).0; some = omega arith }
 

@@ -4,8 +4,11 @@
 mod components;
 mod decimal;
 mod fault;
+mod general;
 pub mod laws;
 mod partitioned;
+mod raw;
 mod rules;
+mod scheme;
 
 pub use fault::UriFault;

@@ -85,7 +85,7 @@ impl Components<'_> {
 }
 
 /// The parts of an EPC of a scheme with a company prefix by its components, or the first rule that refuses them.
-pub fn read<S: Scheme>(kind: Kind, text: &str) -> Result<Parts, UriFault>
+pub fn read_partitioned<S: Scheme>(kind: Kind, text: &str) -> Result<Parts, UriFault>
     requires { layout_of kind ≡ Some S.layout }
     ensures kind { IfOk result (λ parts. kind_of parts ≡ kind) }
     ensures lawful { IfOk result (λ parts. IsLawful parts) }

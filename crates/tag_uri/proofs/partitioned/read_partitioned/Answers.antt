@@ -5,7 +5,7 @@ use Rattle.tag_uri.specs.ComponentForms.{forms_with, texts_of, LastIs}
 use Rattle.tag_uri.proofs.RuleLemmas.{refused, wrong_count, digit_first, zero_first, filter_first, digits_first, range_first}
 use Rattle.tag_uri.proofs.ReadLemmas.{no_stray, filter_below, fits_last, lawful, same_components}
 use Rattle.tag_uri.proofs.RowDigits.{row_of_digits}
-use Rattle.tag_uri.proofs.partitioned.read.Goals as goal
+use Rattle.tag_uri.proofs.partitioned.read_partitioned.Goals as goal
 
 pub returns-in_default-clause-err : goal.returns-in_default-clause-err
 returns-in_default-clause-err g c = wrong_count c.args.kind g.S.Scheme.layout _ c.ZERO_TAIL.result c.requires (c.ZERO_TAIL.ensures ∙ g.met.S.Scheme.zero_tail_is) c.in_default.ensures.none
