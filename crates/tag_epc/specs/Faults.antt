@@ -1,6 +1,6 @@
 -- The first fault of a word that no EPC has, and of numbers that are no EPC's.
 use Rattle.std.specs.Prelude.{◌≡◌, ◌≢◌, ℕ, ◌^◌, ◌<◌, ◌≤◌, List, Bool, [], ◌∷◌, ◌++◌, length, take, Some, None, slice_get}
-use Rattle.tag_bits.specs.Digits.{digits, word_digits}
+use Rattle.tag_bits.specs.Digits.{word_digits}
 use Rattle.tag_epc.specs.declared.kind.Kind.{Kind}
 use Rattle.tag_epc.specs.declared.epc.Parts.{Parts}
 use Rattle.tag_epc.specs.declared.epc.Parts.TheVariants.{Partitioned, General}

@@ -93,13 +93,18 @@ row_at l p = slice_get l.rows p
 abbrev pub leading_segments : List Segment
 leading_segments = plain 8 ∷ plain 3 ∷ plain 3 ∷ []
 
--- company prefix, reference and last segment: the last has no decimal digits where it is all zeros
+-- a last segment that is all zeros has no decimal digits
+abbrev pub last_decimals : Bool → Option ℕ
+last_decimals true = Some 0
+last_decimals false = None
+
+-- serial number, extension or zeros
+abbrev pub last_segment : Layout → Segment
+last_segment l = record { width = l.last_bits; decimals = last_decimals l.zero_tail }
+
+-- company prefix, reference and last segment
 abbrev pub number_segments : Layout → Row → List Segment
-number_segments l r = fixed r.company_bits r.company_digits ∷ fixed r.reference_bits r.reference_digits ∷ last_segment l.last_bits l.zero_tail ∷ []
-  where
-    last_segment : ℕ → Bool → Segment
-    last_segment w true = fixed w 0
-    last_segment w false = plain w
+number_segments l r = fixed r.company_bits r.company_digits ∷ fixed r.reference_bits r.reference_digits ∷ last_segment l ∷ []
 
 -- GID-96: header, manager number, object class and serial number (14.5.7)
 abbrev pub gid_segments : List Segment

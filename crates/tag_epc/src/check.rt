@@ -1,8 +1,8 @@
 //! Which numbers are an EPC's, and the first that is not.
 
-ghost use Rattle.std.specs.Prelude.{◌≡◌, ℕ, [], ◌∷◌, Some, IfOk, IfErr, MatchOption};
-ghost use Rattle.tag_epc.specs.Layout.{layout_of, row_at, number_segments};
-ghost use Rattle.tag_epc.specs.LawfulWord.{fill, AllFit, IsLawful};
+ghost use Rattle.std.specs.Prelude.{◌≡◌, ◌↔◌, ℕ, [], ◌∷◌, Some, IsTrue, IfOk, IfErr, MatchOption};
+ghost use Rattle.tag_epc.specs.Layout.{layout_of, row_at, last_segment, number_segments};
+ghost use Rattle.tag_epc.specs.LawfulWord.{fill, Fits, AllFit, IsLawful};
 ghost use Rattle.tag_epc.specs.Faults.{FirstUnfit, HasEpcFault};
 ghost use Rattle.tag_epc.specs.Numbers.{place_of_number};
 
@@ -28,10 +28,21 @@ pub fn first_unfit<S: Scheme>(row: Row, company: u64, reference: u64, last: u64)
         Some(Number::Company)
     } else if reference >= power(row.reference_digits) {
         Some(Number::Reference)
-    } else if last >> S::LAST_BITS != 0 || S::ZERO_TAIL && last != 0 {
+    } else if !last_fits::<S>(last) {
         Some(Number::Last)
     } else {
         None
+    }
+}
+
+/// Whether a last part fits: 0 where the segment is all zeros, else any number of its bits.
+fn last_fits<S: Scheme>(last: u64) -> bool
+    ensures { IsTrue result ↔ Fits (record { segment = last_segment S.layout; number = last }) }
+{
+    if S::ZERO_TAIL {
+        last == 0
+    } else {
+        last >> S::LAST_BITS == 0
     }
 }
 

@@ -1,5 +1,7 @@
 //! Why numbers are no EPC, and why a word has none.
 
+ghost use Rattle.std.specs.Prelude.{◌≡◌};
+
 /// The first check that the numbers of an EPC fail, in this order.
 #[derive(Clone, Copy, PartialEq, Eq, Hash, Debug)]
 pub enum EpcFault {
@@ -35,4 +37,13 @@ pub enum WordReason {
 pub struct WordFault {
     pub bit: u32,
     pub reason: WordReason,
+}
+
+impl WordReason {
+    /// The fault for this reason at that bit.
+    pub(crate) fn at(self, bit: u32) -> WordFault
+        ensures { result ≡ record { bit = bit; reason = self } }
+    {
+        WordFault { bit, reason: self }
+    }
 }

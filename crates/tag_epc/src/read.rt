@@ -12,7 +12,7 @@ use crate::check::{Number, first_unfit};
 use crate::epc::Parts;
 use crate::fault::{WordFault, WordReason};
 use crate::kind::Kind;
-use crate::scheme::{Row, Scheme};
+use crate::scheme::Scheme;
 use tag_bits::Word;
 
 /// The parts that a word carries, or its first part that fails.
@@ -23,10 +23,7 @@ pub fn parts_of(word: Word) -> Result<Parts, WordFault>
     let mut reader = WordReader::new(word);
     let header = reader.take(8) as u8;
     let Some(kind) = Kind::of_header(header) else {
-        return Err(WordFault {
-            bit: 0,
-            reason: WordReason::Header,
-        });
+        return Err(WordReason::Header.at(0));
     };
     at_scheme!(kind, partitioned(kind, reader), Ok(general(reader)))
 }
@@ -42,16 +39,17 @@ fn partitioned<S: Scheme>(kind: Kind, reader: WordReader) -> Result<Parts, WordF
     let filter = reader.take(3) as u8;
     let partition = reader.take(3) as u8;
     let Some(row) = S::row(partition) else {
-        return Err(WordFault {
-            bit: 11,
-            reason: WordReason::Partition,
-        });
+        return Err(WordReason::Partition.at(11));
     };
     let company = reader.take(row.company_bits);
     let reference = reader.take(row.reference_bits);
     let last = reader.take(S::LAST_BITS);
     match first_unfit::<S>(row, company, reference, last) {
-        Some(number) => Err(fault_at(number, row)),
+        Some(Number::Company) => Err(WordReason::Prefix.at(14)),
+        Some(Number::Reference) => Err(WordReason::Reference.at(14 + row.company_bits)),
+        Some(Number::Last) => {
+            Err(WordReason::Zeros.at(14 + row.company_bits + row.reference_bits))
+        }
         None => Ok(Parts::Partitioned {
             kind,
             filter,
@@ -60,24 +58,6 @@ fn partitioned<S: Scheme>(kind: Kind, reader: WordReader) -> Result<Parts, WordF
             reference,
             last,
         }),
-    }
-}
-
-/// The fault of a word whose number does not fit, and the number's first bit.
-fn fault_at(number: Number, row: Row) -> WordFault {
-    match number {
-        Number::Company => WordFault {
-            bit: 14,
-            reason: WordReason::Prefix,
-        },
-        Number::Reference => WordFault {
-            bit: 14 + row.company_bits,
-            reason: WordReason::Reference,
-        },
-        Number::Last => WordFault {
-            bit: 14 + row.company_bits + row.reference_bits,
-            reason: WordReason::Zeros,
-        },
     }
 }
 

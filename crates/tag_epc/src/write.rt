@@ -9,7 +9,7 @@ use crate::at_scheme;
 use crate::bits::WordWriter;
 use crate::epc::Parts;
 use crate::kind::{GID_HEADER, Kind};
-use crate::scheme::{Row, Scheme};
+use crate::scheme::Scheme;
 use tag_bits::Word;
 
 /// The word of the parts of an EPC.

@@ -1,0 +1,31 @@
+//! Parts of a number of fewer than 128 bits; bit 0 is its most significant.
+
+ghost use Rattle.std.specs.Prelude.{◌≡◌, ℕ, ◌+◌, ◌*◌, ◌^◌, ◌<◌, ◌≤◌};
+ghost use Rattle.tag_bits.specs.Digits.{value, digits, field, with_field};
+
+/// The number of the `width` bits from bit `place` on, out of `total` bits.
+pub fn part_of(number: u128, total: u32, place: u32, width: u32) -> u128
+    requires room { total < 128 }
+    requires whole { number < 2 ^ total }
+    requires within { place + width ≤ total }
+    ensures digits { digits width result ≡ field (digits total number) place width }
+    ensures value { result ≡ value (field (digits total number) place width) }
+    ensures below { result < 2 ^ width }
+{
+    (number >> (total - place - width)) & ((1 << width) - 1)
+}
+
+/// The number whose `width` bits from bit `place` on, out of `total` bits, are those of `value`.
+pub fn with_part(number: u128, total: u32, place: u32, width: u32, value: u128) -> u128
+    requires room { total < 128 }
+    requires whole { number < 2 ^ total }
+    requires within { place + width ≤ total }
+    requires fits { value < 2 ^ width }
+    ensures digits { digits total result ≡ with_field (digits total number) place (digits width value) }
+    ensures below { result < 2 ^ total }
+{
+    let rest = total - place - width;
+    let above = number >> rest >> width;
+    let below = number & ((1 << rest) - 1);
+    (above << width | value) << rest | below
+}
