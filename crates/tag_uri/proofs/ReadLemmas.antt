@@ -10,20 +10,20 @@ use Rattle.tag_epc.specs.declared.scheme.Row.{Row}
 use Rattle.tag_epc.specs.declared.epc.Parts.TheVariants.{Partitioned}
 use Rattle.tag_epc.specs.Layout.{Layout, layout_of, row_at, is_sound, number_segments}
 use Rattle.tag_epc.specs.LawfulWord.{IsLawful, Fits, fill, AllFit}
-use Rattle.tag_epc.proofs.Soundness.{row_fits, header_below, last_below}
+use Rattle.tag_epc.proofs.Soundness.{sound as is_sound_layout}
 use Rattle.tag_uri.specs.declared.partitioned.Components.{Components}
 use Rattle.tag_uri.specs.Decimal.{AreDigits, decimal_value, padded, plain}
 use Rattle.tag_uri.specs.TagText.{Form, Filter, Company, Reference, Number, some_component, is_stray, has_leading_zero, is_strange, is_zero_led, is_no_filter, is_no_row, reference_digits, partitioned_components}
 use Rattle.tag_uri.specs.ComponentForms.{texts_of, forms_with, LastIs}
 use Rattle.tag_uri.proofs.ComponentLemmas.{digits_of_not_strange}
 use Rattle.tag_uri.proofs.DecimalLemmas.{plain_text}
-use Rattle.tag_uri.proofs.RowDigits.{RowOf, row_of_digits, reference_digits-at}
+use Rattle.tag_uri.proofs.RowDigits.{RowOf, row_fits, reference_digits-at}
 
 pub or_false : (a b : Bool) → (a || b) ≡ false → (a ≡ false) × (b ≡ false)
 or_false true b h = cc
 or_false false b h = (refl, h)
 
-bool_cases : (b : Bool) → (b ≡ true) ⊎ (b ≡ false)
+pub bool_cases : (b : Bool) → (b ≡ true) ⊎ (b ≡ false)
 bool_cases true = inl refl
 bool_cases false = inr refl
 
@@ -129,7 +129,7 @@ lawful kind l f k m company reference last known sound r small below_company bel
     record {
       fields = _;
       has = record { layout = l; row = r.row; partition = 12 - k; scheme = known; placed = r.placed; counted = omega arith; filled = refl };
-      fit = (record { bits = header_below l sound; decimals = tt }, (record { bits = omega arith; decimals = tt }, (record { bits = omega (arith, fits.partition); decimals = tt },
+      fit = (record { bits = (is_sound_layout l sound).header; decimals = tt }, (record { bits = omega arith; decimals = tt }, (record { bits = omega (arith, fits.partition); decimals = tt },
         all_fit l r.row company reference last (omega (arith, company_fits, fits.company)) company_fits (omega (arith, reference_fits, fits.reference)) reference_fits h)));
     }
 

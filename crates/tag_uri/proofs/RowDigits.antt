@@ -4,13 +4,17 @@ use Rattle.std.specs.Prelude.{◌==◌, ◌⊎◌, slice_get, option_map, unwrap
 use Rattle.std.proofs.lemmas.Bool.{eqb-true, eqb-false, ne_eqb, eq-eqb, cases_lt}
 use Rattle.tag_epc.specs.declared.scheme.Row.{Row}
 use Rattle.tag_epc.specs.Layout.{Layout, row_at, is_sound}
-use Rattle.tag_epc.proofs.Soundness.{row_fits}
+use Rattle.tag_epc.proofs.Soundness.{FitsRow, sound as is_sound_layout}
 use Rattle.tag_uri.specs.TagText.{reference_digits, is_no_row}
 
 -- an option is empty or not
 pub option_cases : {A : Type 0} (o : Option A) → (o ≡ None) ⊎ ((x : A) × (o ≡ Some x))
 option_cases None = inl refl
 option_cases (Some x) = inr (x, refl)
+
+-- each row of a sound layout
+pub row_fits : (l : Layout) → is_sound l ≡ true → (p : ℕ) (r : Row) → row_at l p ≡ Some r → FitsRow l p r
+row_fits l h = (is_sound_layout l h).rows
 
 -- from the row at q on, company digits and place make 12
 abbrev CountDown : ℕ → List Row → Type 0
