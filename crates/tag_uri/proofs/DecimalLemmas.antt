@@ -47,7 +47,7 @@ unfolding padded decimal_value
 value-padded zero n = omega arith
 value-padded (suc k) n = rw (length-padded k n, value-padded k n, last_part k n) (let d : 48 + n / 10 ^ k % 10 - 48 ≡ n / 10 ^ k % 10 = omega arith in rw d refl)
 
-mod_small : (n m : ℕ) → n < m → n % m ≡ n
+pub mod_small : (n m : ℕ) → n < m → n % m ≡ n
 mod_small n m h = mod-eq_of_lt h
 
 pub padded_is : (k n : ℕ) → n < 10 ^ k → IsPadded k n (padded k n)
@@ -78,7 +78,7 @@ plain_is n h = record {
   least = λ k one below. length-decimal-le k n one below h;
 }
 
-no_zero : (n : ℕ) (cs : List ℕ) → IsPlain n cs → get_or cs 0 0 ≡ 48 → length cs ≡ 1
+pub no_zero : (n : ℕ) (cs : List ℕ) → IsPlain n cs → get_or cs 0 0 ≡ 48 → length cs ≡ 1
 unfolding decimal_value
 no_zero n [] p e = absurd (omega (arith, p.some))
 no_zero n (c ∷ []) p e = refl

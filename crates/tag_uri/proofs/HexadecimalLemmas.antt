@@ -1,7 +1,7 @@
 -- Hexadecimal text and the bytes that it spells.
 use Rattle.std.proofs.Common.{◌≡◌, ℕ, zero, suc, ◌+◌, ◌-◌, ◌*◌, ◌/◌, ◌%◌, ◌^◌, ◌<◌, ◌≤◌, Bool, true, false, List, [], ◌∷◌, ◌++◌, length, take, get_or, refl, sym, ap, ◌∙◌, arith, inl, inr, Ok, Err, Some, Result, subst, length-append}
-use Rattle.std.proofs.Math.Nat.{pow-suc, one-le-pow, mul-add-div_right, div-div-eq-div-mul}
-use Rattle.std.proofs.lemmas.Nat.{pow-add, div-mul-add}
+use Rattle.std.proofs.Math.Nat.{pow-suc, one-le-pow, mul-add-div_right, div-div-eq-div-mul, div-lt_iff_lt-mul}
+use Rattle.std.proofs.lemmas.Nat.{pow-add, div-mul-add, div-add-mod', mod_below}
 use Rattle.std.specs.Result.{result_ok}
 use Rattle.std.specs.Str.{IsAscii, IsUtf8}
 use Rattle.std.proofs.lemmas.Str.{IsUtf8-from_ascii}
@@ -255,3 +255,39 @@ decoded s bytes w below h e d =
 pub some_ok : (r : Result (List ℕ) FromHexError) (bytes : List ℕ) → Some bytes ≡ result_ok r → r ≡ Ok bytes
 some_ok (Ok b) bytes e = cc
 some_ok (Err x) bytes e = cc
+
+-- ---- one number
+
+glyph_back : (d : ℕ) → d < 16 → digit (slice_index upper_digits d) ≡ d
+unfolding digit
+glyph_back d h = eqb-true _ _ (below-at (λ e. cond (nat_lt (slice_index upper_digits e) 58) (slice_index upper_digits e - 48) (slice_index upper_digits e - 55) == e) 16 d refl h)
+
+low_digits : (k n : ℕ) → hexadecimal k n ≡ hexadecimal k (n % 16 ^ k)
+low_digits k n = ap (hexadecimal k) (sym (div-add-mod' n (16 ^ k))) ∙ above k (n / 16 ^ k) (n % 16 ^ k)
+
+same_number : (k m n : ℕ) → m < 16 ^ k → n < 16 ^ k → hexadecimal k m ≡ hexadecimal k n → m ≡ n
+unfolding hexadecimal
+same_number zero m n p q e = omega arith
+same_number (suc k) m n p q e =
+    let s : 16 ^ suc k ≡ 16 * 16 ^ k = rw (pow-suc 16 k) (omega arith) in
+    let pm : m / 16 ^ k < 16 = (div-lt_iff_lt-mul {k = 16 ^ k} {x = m} {y = 16} (one-le-pow k 16 (omega arith))).1 (rw s at p) in
+    let pn : n / 16 ^ k < 16 = (div-lt_iff_lt-mul {k = 16 ^ k} {x = n} {y = 16} (one-le-pow k 16 (omega arith))).1 (rw s at q) in
+    let head : slice_index upper_digits (m / 16 ^ k % 16) ≡ slice_index upper_digits (n / 16 ^ k % 16) = cc in
+    let tail : hexadecimal k m ≡ hexadecimal k n = cc in
+    let first : m / 16 ^ k % 16 ≡ n / 16 ^ k % 16 = sym (glyph_back (m / 16 ^ k % 16) (omega arith)) ∙ ap digit head ∙ glyph_back (n / 16 ^ k % 16) (omega arith) in
+    let high : m / 16 ^ k ≡ n / 16 ^ k = omega (arith, first, pm, pn) in
+    let low : m % 16 ^ k ≡ n % 16 ^ k = same_number k (m % 16 ^ k) (n % 16 ^ k) (mod_below m (16 ^ k) (one-le-pow k 16 (omega arith))) (mod_below n (16 ^ k) (one-le-pow k 16 (omega arith))) (sym (low_digits k m) ∙ tail ∙ low_digits k n) in
+    sym (div-add-mod' m (16 ^ k)) ∙ rw (high, low) (div-add-mod' n (16 ^ k))
+
+-- two words have different digits
+pub one_number : (v w : ℕ) → v < 2 ^ 96 → w < 2 ^ 96 → hexadecimal 24 v ≡ hexadecimal 24 w → v ≡ w
+one_number v w p q e = same_number 24 v w p q e
+
+all_digits : (k n i d : ℕ) → i < length (hexadecimal k n) → is_upper_digit (get_or (hexadecimal k n) i d) ≡ true
+unfolding hexadecimal
+all_digits zero n i d h = absurd (omega arith)
+all_digits (suc k) n zero d h = upper_digit (n / 16 ^ k % 16) (omega arith)
+all_digits (suc k) n (suc i) d h = all_digits k n i d (omega arith)
+
+pub word_digits_of : (w : ℕ) → AreWordDigits (hexadecimal 24 w)
+word_digits_of w = record { count = length-hexadecimal 24 w; digits = λ i d h. all_digits 24 w i d h }

@@ -9,11 +9,12 @@ use Rattle.std.proofs.Math.Nat.{pow-le-pow_right, one-le-pow, mul-le-mul}
 use Rattle.tag_epc.specs.declared.kind.Kind.{Kind}
 use Rattle.tag_epc.specs.declared.kind.Kind.TheVariants.{Sgtin, Sscc, Sgln, Grai, Gid}
 use Rattle.tag_epc.specs.declared.scheme.Row.{Row}
+use Rattle.tag_epc.specs.declared.epc.Parts.{Parts}
 use Rattle.tag_epc.specs.declared.epc.Parts.TheVariants.{Partitioned, General}
 use Rattle.tag_epc.specs.Layout.{Layout, layout_of, name_of, row_at, is_sound, number_segments, last_segment}
-use Rattle.tag_epc.specs.LawfulWord.{IsLawful, HasPartition, Fits, fill, AllFit}
+use Rattle.tag_epc.specs.LawfulWord.{IsLawful, kind_of, Fits}
 use Rattle.tag_uri.specs.Decimal.{padded, plain}
-use Rattle.tag_uri.specs.TagText.{reference_digits, partitioned_components}
+use Rattle.tag_uri.specs.TagText.{tag_uri, tag_start, components_of, reference_digits, partitioned_components}
 use Rattle.tag_uri.proofs.DecimalLemmas.{plain_is, ten_pos}
 use Rattle.tag_uri.proofs.ReadLemmas.{FitsLast, bool_cases}
 use Rattle.tag_uri.proofs.RowDigits.{row_fits, reference_digits-at}
@@ -46,7 +47,7 @@ fits_last l n f = record { zero = λ e. let d = f.decimals in let z : n < 10 ^ 0
 same_some : {A : Type 0} (a b : A) → ◌≡◌ {A = Option A} (Some a) (Some b) → a ≡ b
 same_some a b e = cc
 
-at_row : (kind : Kind) (l : Layout) (f k c r last : ℕ) → layout_of kind ≡ Some l → is_sound l ≡ true → IsLawful (Partitioned kind f k c r last) → AtRow l f k c r last
+pub at_row : (kind : Kind) (l : Layout) (f k c r last : ℕ) → layout_of kind ≡ Some l → is_sound l ≡ true → IsLawful (Partitioned kind f k c r last) → AtRow l f k c r last
 at_row kind l f k c r last known sound h =
     let p = h.has in
     let same : p.layout ≡ l = same_some p.layout l (sym p.scheme ∙ known) in
@@ -156,6 +157,13 @@ four_parts l row old t1 t2 t3 t4 t5 t6 f k c r last b sound short placed tail e1
     ∙ ap (λ (d : ℕ). shape old f k c d r last b) (sym digits)
     ∙ ap (λ (z : Bool). shape old f k c (unwrap_or (reference_digits l.rows k) 0) r last z) tail
 
+-- the numbers of GID-96
+pub general_below : (m o s : ℕ) → IsLawful (General m o s) → (m < 2 ^ 28) × (o < 2 ^ 24) × (s < 2 ^ 36)
+general_below m o s h =
+    let fit = h.fit in let filled = h.has in
+    let all = rw filled at fit in
+    (all.1.0.bits, all.1.1.0.bits, all.1.1.1.0.bits)
+
 -- a number of GID-96 has at most so many digits
 pub general_room : (m o s : ℕ) → IsLawful (General m o s) → (length (plain m) ≤ 9) × (length (plain o) ≤ 8) × (length (plain s) ≤ 11)
 general_room m o s h =
@@ -173,3 +181,12 @@ three_parts old t1 t2 t3 t4 t5 m o s e1 e2 e3 e4 e5 = joined_three old t1 t2 t3 
 -- GID-96 has no company prefix
 pub no_prefix : (f k c r last : ℕ) → IsLawful (Partitioned Gid f k c r last) → ⊥
 no_prefix f k c r last h = let s = h.has.scheme in cc
+
+-- the parts of a tag URI, appended in turn
+pub whole_uri : (epc : Parts) (t0 t1 t2 t3 t4 name : List ℕ) → t0 ≡ [] → t1 ≡ t0 ++ tag_start → t2 ≡ t1 ++ name → name ≡ name_of (kind_of epc) → t3 ≡ t2 ++ 58 ∷ [] → t4 ≡ t3 ++ join_with_byte 46 (components_of epc)
+    → t4 ≡ tag_uri epc
+unfolding tag_uri
+whole_uri epc t0 t1 t2 t3 t4 name e0 e1 e2 e3 e4 e5 =
+    let tail : List ℕ = join_with_byte 46 (components_of epc) in
+    e5 ∙ ap (λ (x : List ℕ). x ++ tail) e4 ∙ append_assoc t2 (58 ∷ []) tail ∙ ap (λ (x : List ℕ). x ++ 58 ∷ tail) (e2 ∙ ap (λ (x : List ℕ). t1 ++ x) e3)
+    ∙ append_assoc t1 (name_of (kind_of epc)) (58 ∷ tail) ∙ ap (λ (x : List ℕ). x ++ (name_of (kind_of epc) ++ 58 ∷ tail)) (e1 ∙ ap (λ (x : List ℕ). x ++ tag_start) e0)

@@ -1,14 +1,15 @@
 -- The rules at the components of a text of a scheme with a company prefix.
-use Rattle.std.proofs.Common.{◌≡◌, ℕ, Bool, true, false, not, cond, List, [], ◌∷◌, Option, Some, None, refl, sym, ap, ◌∙◌, length}
+use Rattle.std.proofs.Common.{◌≡◌, ℕ, ◌^◌, Bool, true, false, not, cond, List, [], ◌∷◌, Option, Some, None, refl, sym, ap, ◌∙◌, length}
 use Rattle.std.proofs.lemmas.Bool.{ne_eqb}
 use Rattle.std.specs.Borrow.{Bor}
-use Rattle.std.specs.Prelude.{◌==◌, ◌||◌, is_some, option_copied, option_to_list}
+use Rattle.std.specs.Prelude.{◌==◌, ◌||◌, nat_le, is_some, option_copied, option_to_list}
 use Rattle.tag_epc.specs.declared.kind.Kind.{Kind}
 use Rattle.tag_epc.specs.Layout.{Layout, layout_of}
 use Rattle.tag_uri.specs.declared.fault.UriFault.{UriFault}
 use Rattle.tag_uri.specs.declared.fault.UriFault.TheVariants as fault
 use Rattle.tag_uri.specs.declared.partitioned.Components.{Components}
-use Rattle.tag_uri.specs.TagText.{Form, Filter, Company, Reference, Number, forms_of, rules_of, refusal, first_rule, some_component, is_stray, has_leading_zero, is_wrong_filter, has_wrong_digits, is_over, is_no_filter, is_no_row}
+use Rattle.tag_uri.specs.TagText.{Form, Filter, Company, Reference, Number, forms_of, rules_of, refusal, first_rule, some_component, is_stray, has_leading_zero, is_wrong_filter, has_wrong_digits, is_over, is_no_filter, is_no_row, is_strange, is_zero_led}
+use Rattle.tag_uri.specs.Decimal.{decimal_value}
 use Rattle.tag_uri.specs.ComponentForms.{texts_of, forms_with}
 
 abbrev Last : Type 0
@@ -34,7 +35,7 @@ abbrev pub rules_with : Layout → Components → List (Bool × UriFault)
 rules_with l x = rules_at l x.filter.now x.company.now x.reference.now x.last
 
 -- all rules, at given forms
-on : List Form → Layout → List (List ℕ) → List (Bool × UriFault)
+pub on : List Form → Layout → List (List ℕ) → List (Bool × UriFault)
 on fs l cs =
     (not (length cs == length fs), fault.Parts)
     ∷ (some_component is_stray fs cs, fault.Digit)
@@ -59,7 +60,7 @@ unfolding on
 flat l f c r None = rw (or_false (is_no_filter f)) refl
 flat l f c r (Some last) = rw (or_false (is_no_filter f)) refl
 
-same : (l : Layout) (cs : List (List ℕ)) → refusal (Some l) cs ≡ first_rule (on (forms_of (Some l)) l cs)
+pub same : (l : Layout) (cs : List (List ℕ)) → refusal (Some l) cs ≡ first_rule (on (forms_of (Some l)) l cs)
 unfolding on refusal
 same l cs = refl
 
@@ -96,3 +97,14 @@ wrong_count kind l cs b known ends other =
     let count : (z : Bool) → length (forms_of (Some (record l { zero_tail = z }))) ≡ cond z 3 4 = λ z. elim z as (λ (y : Bool). length (forms_of (Some (record l { zero_tail = y }))) ≡ cond y 3 4) [ true ↦ refl | false ↦ refl ] in
     let fails : (length cs == length (forms_of (Some l))) ≡ false = ne_eqb (length cs) (length (forms_of (Some l))) (λ e. other (e ∙ count l.zero_tail ∙ ap (λ (z : Bool). cond z 3 4) (sym ends))) in
     rw (known, fails) refl
+
+pub at_three : (l : Layout) (f c r : List ℕ) → (is_strange f || (length f == 0)) ≡ false → (is_strange c || (length c == 0)) ≡ false → is_strange r ≡ false → is_no_filter f ≡ false → is_no_row l.rows (length c) (length r) ≡ false
+    → first_rule (on (Filter ∷ Company ∷ Reference ∷ []) l (f ∷ c ∷ r ∷ [])) ≡ None
+unfolding on
+at_three l f c r a b d g h = rw (a, b, d, g, h) refl
+
+pub at_four : (l : Layout) (f c r x : List ℕ) → (is_strange f || (length f == 0)) ≡ false → (is_strange c || (length c == 0)) ≡ false → is_strange r ≡ false → is_no_filter f ≡ false → is_no_row l.rows (length c) (length r) ≡ false
+    → (is_strange x || (length x == 0)) ≡ false → is_zero_led x ≡ false → nat_le (2 ^ l.last_bits) (decimal_value x) ≡ false
+    → first_rule (on (Filter ∷ Company ∷ Reference ∷ Number l.last_bits ∷ []) l (f ∷ c ∷ r ∷ x ∷ [])) ≡ None
+unfolding on
+at_four l f c r x a b d g h s t u = rw (a, b, d, s, t, g, h, u) refl

@@ -1,7 +1,11 @@
 //! Laws of the definitions.
 
 ghost use Rattle.std.specs.Prelude.{◌≡◌, ℕ, ◌^◌, ◌<◌, ◌≤◌, List};
+ghost use Rattle.tag_epc.specs.declared.epc.Parts.{Parts};
+ghost use Rattle.tag_epc.specs.LawfulWord.{IsLawful};
+ghost use Rattle.tag_uri.specs.declared.fault.UriFault.{UriFault};
 ghost use Rattle.tag_uri.specs.Decimal.{padded, plain, IsPadded, IsPlain};
+ghost use Rattle.tag_uri.specs.TagText.{tag_uri, HasTagFault, HasFault, IsTextOf};
 
 /// A number below 10 ^ k has exactly one text of k digits, the sum of whose digits times their
 /// powers of ten it is.
@@ -14,4 +18,16 @@ pub fn one_padded_text()
 pub fn one_plain_text()
     ensures is { (n : ℕ) → n < 2 ^ 64 → IsPlain n (plain n) }
     ensures only { (n : ℕ) (text : List ℕ) → n < 2 ^ 64 → IsPlain n text → text ≡ plain n }
+{}
+
+/// A lawful EPC's tag URI is no other lawful EPC's, and no rule refuses it.
+pub fn one_tag_uri()
+    ensures one { (d e : Parts) → IsLawful d → IsLawful e → tag_uri d ≡ tag_uri e → d ≡ e }
+    ensures no_fault { (epc : Parts) (fault : UriFault) → IsLawful epc → HasTagFault (tag_uri epc) fault → ⊥ }
+{}
+
+/// Two words never share a text, and no rule refuses the text of a word.
+pub fn one_text()
+    ensures one { (v w : ℕ) (text : List ℕ) → v < 2 ^ 96 → w < 2 ^ 96 → IsTextOf v text → IsTextOf w text → v ≡ w }
+    ensures no_fault { (w : ℕ) (text : List ℕ) (fault : UriFault) → w < 2 ^ 96 → IsTextOf w text → HasFault text fault → ⊥ }
 {}

@@ -32,9 +32,26 @@ pub fn word_of_text(text: &str) -> Result<Word, UriFault>
     ensures accepts { (word : ℕ) → word < 2 ^ 96 → IsTextOf word text.now → result ≡ Ok word }
     ensures err { IfErr result (λ fault. HasFault text.now fault) }
 {
-    match text.strip_prefix("urn:epc:raw:") {
-        Some(rest) => raw_word(rest),
-        None => Ok(parse(text)?.to_word()),
+    match read(text) {
+        Ok(word) => Ok(word),
+        Err(fault) => Err(fault),
+    }
+}
+
+/// The word of a text, or the first rule that refuses it.
+fn read(text: &str) -> Result<Word, UriFault>
+    ensures ok { IfOk result (λ word. IsTextOf word text.now) }
+    ensures err { IfErr result (λ fault. HasFault text.now fault) }
+{
+    if let Some(rest) = text.strip_prefix("urn:epc:raw:") {
+        return match raw_word(rest) {
+            Ok(word) => Ok(word),
+            Err(fault) => Err(fault),
+        };
+    }
+    match parse(text) {
+        Ok(epc) => Ok(epc.to_word()),
+        Err(fault) => Err(fault),
     }
 }
 
