@@ -147,7 +147,7 @@ padded-zeros k n below one small =
     let m : ℕ = k - length (decimal n) in
     let len : length (replicate m 48 ++ decimal n) ≡ k = omega (arith, length-append (replicate m 48) (decimal n), length-replicate {A = ℕ} m 48) in
     one_padded (padded k n) (replicate m 48 ++ decimal n) p.digits (digits-zeros m (decimal n) q.padded.digits) (p.count ∙ sym len)
-      (p.number ∙ sym q.padded.number ∙ sym (value-zeros m (decimal n)))
+    (p.number ∙ sym q.padded.number ∙ sym (value-zeros m (decimal n)))
 
 -- the zeros and the plain text, appended in turn
 pub zeros_then_plain : (old front new text : List ℕ) (k n : ℕ) → n < 10 ^ k → (k ≡ 0 → ⊥) → n < 2 ^ 64 → text ≡ decimal n

@@ -105,7 +105,7 @@ spelled (b ∷ bs) h =
     let wide : 2 ^ length (digits_of_bytes bs) ≡ 16 ^ twice (length bs) = ap (λ (k : ℕ). 2 ^ k) (length-bytes bs) ∙ pow_twice (length bs) in
     let below : n < 16 ^ twice (length bs) = rw (← wide) (value-below (digits_of_bytes bs)) in
     let v : value (digits_of_bytes (b ∷ bs)) ≡ b * 16 ^ twice (length bs) + n =
-      ap value (bytes-cons b bs) ∙ value-append (digits 8 b) (digits_of_bytes bs) ∙ rw (value-digits 8 b byte, wide) refl in
+    ap value (bytes-cons b bs) ∙ value-append (digits 8 b) (digits_of_bytes bs) ∙ rw (value-digits 8 b byte, wide) refl in
     let ih = spelled bs (λ i. h (suc i)) in
     ap (λ (x : ℕ). hexadecimal (suc (suc (twice (length bs)))) x) v ∙ byte_in_front (twice (length bs)) b n byte below
     ∙ ap (λ (x : List ℕ). slice_index upper_digits (b / 16) ∷ slice_index upper_digits (b % 16) ∷ x) ih

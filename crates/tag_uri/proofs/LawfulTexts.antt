@@ -185,6 +185,7 @@ same_parts l f k c r last g m d s late sound a b e =
     one_plain : (b : Bool) (x y : List ℕ) → b ≡ false → cond b [] (x ∷ []) ≡ cond b [] (y ∷ []) → x ≡ y
     one_plain true x y h e = cc
     one_plain false x y h e = cc
+
     found : (l : Layout) (f k c r last : ℕ) → is_sound l ≡ true → (a : AtRow l f k c r last) → unwrap_or (reference_digits l.rows k) 0 ≡ a.row.reference_digits
     found l f k c r last sound a = let short = a.short in ap (λ (o : Option ℕ). unwrap_or o 0) (reference_digits-at l k (12 - k) sound (omega arith) ∙ ap (option_map (λ x. x.reference_digits)) a.placed)
 

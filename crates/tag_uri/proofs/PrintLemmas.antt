@@ -151,8 +151,8 @@ pub four_parts : (l : Layout) (row : Row) (old t1 t2 t3 t4 t5 t6 : List ℕ) (f 
     → t6 ≡ old ++ join_with_byte 46 (partitioned_components (Some l) f k c r last)
 four_parts l row old t1 t2 t3 t4 t5 t6 f k c r last b sound short placed tail e1 e2 e3 e4 e5 e6 =
     let digits : unwrap_or (reference_digits l.rows k) 0 ≡ row.reference_digits =
-      ap (λ (o : Option ℕ). unwrap_or o 0) (reference_digits-at l k (12 - k) sound (omega arith))
-      ∙ ap (λ (o : Option Row). unwrap_or (option_map (λ x. x.reference_digits) o) 0) placed in
+    ap (λ (o : Option ℕ). unwrap_or o 0) (reference_digits-at l k (12 - k) sound (omega arith))
+    ∙ ap (λ (o : Option Row). unwrap_or (option_map (λ x. x.reference_digits) o) 0) placed in
     shaped old t1 t2 t3 t4 t5 t6 f k c row.reference_digits r last b e1 e2 e3 e4 e5 e6
     ∙ ap (λ (d : ℕ). shape old f k c d r last b) (sym digits)
     ∙ ap (λ (z : Bool). shape old f k c (unwrap_or (reference_digits l.rows k) 0) r last z) tail

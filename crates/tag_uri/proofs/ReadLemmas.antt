@@ -110,11 +110,19 @@ fits_last l (Some last) n ends h = record { zero = λ e. let no : true ≡ not t
 -- the numbers behind the partition value fit their segments
 all_fit : (l : Layout) (r : Row) (company reference last : ℕ) → company < 2 ^ r.company_bits → company < 10 ^ r.company_digits → reference < 2 ^ r.reference_bits → reference < 10 ^ r.reference_digits → FitsLast l last
     → AllFit (fill (number_segments l r) (company ∷ reference ∷ last ∷ []))
-all_fit l r company reference last a b c d h =
-    (record { bits = a; decimals = b }, (record { bits = c; decimals = d }, (elim (bool_cases l.zero_tail) [
-      | inl e ↦ let z : last ≡ 0 = h.zero e in rw (e, z) (record { bits = pow_pos l.last_bits; decimals = lit< tt })
-      | inr e ↦ rw e (record { bits = h.bits e; decimals = tt })
-    ], tt)))
+all_fit l r company reference last a b c d h = (
+  record { bits = a; decimals = b },
+  (
+    record { bits = c; decimals = d },
+    (
+      elim (bool_cases l.zero_tail) [
+        | inl e ↦ let z : last ≡ 0 = h.zero e in rw (e, z) (record { bits = pow_pos l.last_bits; decimals = lit< tt })
+        | inr e ↦ rw e (record { bits = h.bits e; decimals = tt })
+      ],
+      tt,
+    ),
+  ),
+)
 
 -- numbers that fit are those of a lawful EPC
 pub lawful : (kind : Kind) (l : Layout) (f k m company reference last : ℕ) → layout_of kind ≡ Some l → is_sound l ≡ true → RowOf l k m → f < 8 → company < 10 ^ k → reference < 10 ^ m → FitsLast l last
@@ -129,8 +137,16 @@ lawful kind l f k m company reference last known sound r small below_company bel
     record {
       fields = _;
       has = record { layout = l; row = r.row; partition = 12 - k; scheme = known; placed = r.placed; counted = omega arith; filled = refl };
-      fit = (record { bits = (is_sound_layout l sound).header; decimals = tt }, (record { bits = omega arith; decimals = tt }, (record { bits = omega (arith, fits.partition); decimals = tt },
-        all_fit l r.row company reference last (omega (arith, company_fits, fits.company)) company_fits (omega (arith, reference_fits, fits.reference)) reference_fits h)));
+      fit = (
+        record { bits = (is_sound_layout l sound).header; decimals = tt },
+        (
+          record { bits = omega arith; decimals = tt },
+          (
+            record { bits = omega (arith, fits.partition); decimals = tt },
+            all_fit l r.row company reference last (omega (arith, company_fits, fits.company)) company_fits (omega (arith, reference_fits, fits.reference)) reference_fits h,
+          ),
+        ),
+      );
     }
 
 ending : (l : Layout) (o : Option (Bor (List ℕ))) (n : ℕ) → is_some o ≡ not l.zero_tail → LastIs o l.last_bits n → option_to_list (option_copied o) ≡ cond l.zero_tail [] (plain n ∷ [])
@@ -145,11 +161,11 @@ pub same_components : (kind : Kind) (l : Layout) (x : Components) (cs : List (Li
 same_components kind l x cs f company reference last known sound is ends r one ef ec er h =
     let short = r.short in
     let digits : unwrap_or (reference_digits l.rows (length x.company.now)) 0 ≡ length x.reference.now =
-      ap (λ (o : Option ℕ). unwrap_or o 0) (reference_digits-at l (length x.company.now) (12 - length x.company.now) sound (omega arith))
-      ∙ ap (λ (o : Option Row). unwrap_or (option_map (λ r. r.reference_digits) o) 0) r.placed ∙ r.digits in
+    ap (λ (o : Option ℕ). unwrap_or o 0) (reference_digits-at l (length x.company.now) (12 - length x.company.now) sound (omega arith))
+    ∙ ap (λ (o : Option Row). unwrap_or (option_map (λ r. r.reference_digits) o) 0) r.placed ∙ r.digits in
     let first : x.filter.now ≡ padded 1 f = ef ∙ ap (λ (k : ℕ). padded k f) one in
     let last_text = ending l x.last last ends h in
     is ∙ rw (known, digits) (ap (λ (t : List ℕ). t ∷ x.company.now ∷ x.reference.now ∷ option_to_list (option_copied x.last)) first
-      ∙ ap (λ (t : List ℕ). padded 1 f ∷ t ∷ x.reference.now ∷ option_to_list (option_copied x.last)) ec
-      ∙ ap (λ (t : List ℕ). padded 1 f ∷ padded (length x.company.now) company ∷ t ∷ option_to_list (option_copied x.last)) er
-      ∙ ap (λ (ts : List (List ℕ)). padded 1 f ∷ padded (length x.company.now) company ∷ padded (length x.reference.now) reference ∷ ts) last_text)
+    ∙ ap (λ (t : List ℕ). padded 1 f ∷ t ∷ x.reference.now ∷ option_to_list (option_copied x.last)) ec
+    ∙ ap (λ (t : List ℕ). padded 1 f ∷ padded (length x.company.now) company ∷ t ∷ option_to_list (option_copied x.last)) er
+    ∙ ap (λ (ts : List (List ℕ)). padded 1 f ∷ padded (length x.company.now) company ∷ padded (length x.reference.now) reference ∷ ts) last_text)

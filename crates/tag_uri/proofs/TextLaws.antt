@@ -165,7 +165,7 @@ same_epc (Partitioned kind f k c r last) (Partitioned other g m d s late) h i sa
     let to : (j : Kind) → Parts = λ j. Partitioned j g m d s late in
     let here : IsLawful (Partitioned kind g m d s late) = subst (λ (j : Kind). IsLawful (to j)) (sym same) i in
     let list : partitioned_components (Some l) f k c r last ≡ partitioned_components (Some l) g m d s late =
-      ap (λ (o : Option Layout). partitioned_components o f k c r last) (sym known) ∙ cs ∙ ap (λ (j : Kind). partitioned_components (layout_of j) g m d s late) (sym same) ∙ ap (λ (o : Option Layout). partitioned_components o g m d s late) known in
+    ap (λ (o : Option Layout). partitioned_components o f k c r last) (sym known) ∙ cs ∙ ap (λ (j : Kind). partitioned_components (layout_of j) g m d s late) (sym same) ∙ ap (λ (o : Option Layout). partitioned_components o g m d s late) known in
     one_partitioned kind l f k c r last g m d s late known (sound_of kind l known) h here list ∙ ap to same
 same_epc (Partitioned kind f k c r last) (General n p t) h i same cs = absurd (no_prefix f k c r last (subst (λ (j : Kind). IsLawful (Partitioned j f k c r last)) same h))
 same_epc (General m o s) (Partitioned kind f k c r last) h i same cs = absurd (no_prefix f k c r last (subst (λ (j : Kind). IsLawful (Partitioned j f k c r last)) (sym same) i))

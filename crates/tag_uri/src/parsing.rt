@@ -50,11 +50,7 @@ fn read_components(kind: Kind, text: &str) -> Result<Parts, UriFault>
     ensures ok { IfOk result (λ parts. components text.now ≡ components_of parts) }
     ensures err { IfErr result (λ fault. refusal (layout_of kind) (components text.now) ≡ Some fault) }
 {
-    at_scheme!(
-        kind,
-        read_partitioned(kind, text),
-        read_general(text)
-    )
+    at_scheme!(kind, read_partitioned(kind, text), read_general(text))
 }
 
 /// The EPC of lawful parts.

@@ -7,13 +7,7 @@ ghost use Rattle.tag_uri.specs.TagText.{scheme_text};
 use tag_epc::Kind;
 
 /// Each scheme once.
-const KINDS: [Kind; 5] = [
-    Kind::Sgtin,
-    Kind::Sscc,
-    Kind::Sgln,
-    Kind::Grai,
-    Kind::Gid,
-];
+const KINDS: [Kind; 5] = [Kind::Sgtin, Kind::Sscc, Kind::Sgln, Kind::Grai, Kind::Gid];
 
 /// The scheme of a name.
 fn kind_named(name: &str) -> Option<Kind>
