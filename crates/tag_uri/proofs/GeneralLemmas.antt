@@ -1,14 +1,13 @@
 -- The rules at the three numbers of GID-96.
-use Rattle.std.proofs.Common.{◌≡◌, ℕ, ◌^◌, ◌<◌, ◌≤◌, Bool, true, false, not, List, [], ◌∷◌, Some, None, refl, sym, ap, ◌∙◌, length, arith, lit<}
-use Rattle.std.specs.Prelude.{◌==◌, ◌||◌, nat_le}
+use Rattle.std.proofs.Common.{◌≡◌, ℕ, ◌^◌, ◌<◌, ◌≤◌, Bool, true, false, List, [], ◌∷◌, Some, None, refl, sym, length, arith, lit<}
+use Rattle.std.specs.Prelude.{◌==◌, nat_le}
 use Rattle.std.proofs.lemmas.Bool.{ne_eqb, le-leb, lt-leb}
 use Rattle.std.proofs.Math.Nat.{pow-le-pow_right}
 use Rattle.tag_epc.specs.declared.epc.Parts.TheVariants.{General}
 use Rattle.tag_epc.specs.LawfulWord.{IsLawful}
-use Rattle.tag_uri.specs.declared.fault.UriFault.{UriFault}
 use Rattle.tag_uri.specs.declared.fault.UriFault.TheVariants as fault
-use Rattle.tag_uri.specs.Decimal.{AreDigits, decimal_value, plain}
-use Rattle.tag_uri.specs.TagText.{refusal, forms_of, some_component, is_stray, has_leading_zero, is_over, is_strange, is_zero_led, components_of}
+use Rattle.tag_uri.specs.Decimal.{decimal_value, plain}
+use Rattle.tag_uri.specs.TagText.{refusal, forms_of, some_component, is_stray, has_leading_zero, is_over, is_zero_led}
 use Rattle.tag_uri.proofs.DecimalLemmas.{plain_text}
 use Rattle.tag_uri.proofs.ReadLemmas.{SomeDigits, not_stray, or_false}
 

@@ -1,12 +1,12 @@
 -- Hexadecimal text and the bytes that it spells.
-use Rattle.std.proofs.Common.{◌≡◌, ℕ, zero, suc, ◌+◌, ◌-◌, ◌*◌, ◌/◌, ◌%◌, ◌^◌, ◌<◌, ◌≤◌, Bool, true, false, List, [], ◌∷◌, ◌++◌, length, take, get_or, refl, sym, ap, ◌∙◌, arith, inl, inr, Ok, Err, Some, Result, subst, length-append}
+use Rattle.std.proofs.Common.{◌≡◌, ℕ, zero, suc, ◌+◌, ◌-◌, ◌*◌, ◌/◌, ◌%◌, ◌^◌, ◌<◌, ◌≤◌, Bool, true, false, List, [], ◌∷◌, ◌++◌, length, get_or, refl, sym, ap, ◌∙◌, arith, inl, inr, Ok, Err, Some, Result, subst, length-append}
 use Rattle.std.proofs.Math.Nat.{pow-suc, one-le-pow, mul-add-div_right, div-div-eq-div-mul, div-lt_iff_lt-mul}
 use Rattle.std.proofs.lemmas.Nat.{pow-add, div-mul-add, div-add-mod', mod_below}
 use Rattle.std.specs.Result.{result_ok}
 use Rattle.std.specs.Str.{IsAscii, IsUtf8}
 use Rattle.std.proofs.lemmas.Str.{IsUtf8-from_ascii}
 use Rattle.std.proofs.lemmas.Str.Ascii.{IsAscii-nil, IsAscii-cons}
-use Rattle.std.specs.Prelude.{◌==◌, ◌&&◌, ◌||◌, ◌⊎◌, nat_lt, nat_le, cond, map, codes, slice_index}
+use Rattle.std.specs.Prelude.{◌==◌, ◌&&◌, ◌||◌, ◌⊎◌, nat_lt, nat_le, cond, map, slice_index}
 use Rattle.std.specs.List.{AllPass, list_all}
 use Rattle.std.specs.Char.{to_ascii_uppercase}
 use Rattle.std.proofs.lemmas.Bool.{cases_lt, eqb-true, leb-true, ltb-true, lt-ltb, le-ltb}
@@ -14,7 +14,7 @@ use Rattle.tag_bits.specs.Digits.{value, digits, digits_of_bytes, word_digits}
 use Rattle.tag_bits.proofs.DigitLemmas.{length-digits, value-digits, value-append, value-below}
 use Rattle.hex.specs.Hex.{encode_with, encode_lower, encode_upper, lower_digits, upper_digits, decode_of, decode_sized, IsBytes}
 use Rattle.hex.specs.declared.error.FromHexError.{FromHexError}
-use Rattle.hex.proofs.HexLemmas.{decode_of-encode_upper, decode_of-same, decode_sized-twice, length-encode_with, IsAscii-encode_with, decode_sized-ok}
+use Rattle.hex.proofs.HexLemmas.{decode_of-encode_upper, decode_sized-twice, IsAscii-encode_with, decode_sized-ok}
 use Rattle.tag_uri.specs.Hexadecimal.{hexadecimal, is_upper_digit}
 use Rattle.tag_uri.specs.TagText.{AreWordDigits}
 

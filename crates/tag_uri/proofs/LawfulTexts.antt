@@ -1,23 +1,19 @@
 -- No rule refuses the components of a lawful EPC.
-use Rattle.std.proofs.Common.{◌≡◌, ℕ, zero, suc, ◌+◌, ◌-◌, ◌*◌, ◌/◌, ◌%◌, ◌^◌, ◌<◌, ◌≤◌, Bool, true, false, not, cond, List, [], ◌∷◌, ◌++◌, Option, Some, None, refl, sym, ap, ◌∙◌, subst, arith, length, get_or, inl, inr}
-use Rattle.std.specs.Prelude.{◌⊎◌, ◌==◌, ◌||◌, ◌&&◌, nat_lt, nat_le, option_map, unwrap_or, slice_index}
+use Rattle.std.proofs.Common.{◌≡◌, ℕ, ◌+◌, ◌-◌, ◌/◌, ◌%◌, ◌^◌, ◌<◌, ◌≤◌, Bool, true, false, not, cond, List, [], ◌∷◌, Option, Some, None, refl, sym, ap, ◌∙◌, arith, length, inl, inr}
+use Rattle.std.specs.Prelude.{◌==◌, ◌||◌, ◌&&◌, nat_lt, nat_le, option_map, unwrap_or}
 use Rattle.std.specs.Str.{all_ascii_digits}
-use Rattle.std.proofs.lemmas.Bool.{eq-eqb, ne_eqb, lt-leb, le-ltb, cases_lt}
+use Rattle.std.proofs.lemmas.Bool.{eq-eqb, ne_eqb, lt-leb, le-ltb}
 use Rattle.std.proofs.lemmas.Str.Parse.{tells_all_ascii_digits}
 use Rattle.std.proofs.lemmas.Fmt.{decimal_injective}
-use Rattle.std.proofs.Math.Nat.{pow-le-pow_right, one-le-pow}
+use Rattle.std.proofs.Math.Nat.{pow-le-pow_right}
 use Rattle.tag_epc.specs.declared.kind.Kind.{Kind}
-use Rattle.tag_epc.specs.declared.kind.Kind.TheVariants.{Gid}
 use Rattle.tag_epc.specs.declared.scheme.Row.{Row}
-use Rattle.tag_epc.specs.declared.epc.Parts.{Parts}
 use Rattle.tag_epc.specs.declared.epc.Parts.TheVariants.{Partitioned, General}
-use Rattle.tag_epc.specs.Layout.{Layout, layout_of, row_at, is_sound}
-use Rattle.tag_epc.specs.LawfulWord.{IsLawful, kind_of}
+use Rattle.tag_epc.specs.Layout.{Layout, layout_of, is_sound}
+use Rattle.tag_epc.specs.LawfulWord.{IsLawful}
 use Rattle.tag_epc.proofs.Soundness.{sound as is_sound_layout}
-use Rattle.tag_uri.specs.declared.fault.UriFault.{UriFault}
-use Rattle.tag_uri.specs.declared.fault.UriFault.TheVariants as fault
 use Rattle.tag_uri.specs.Decimal.{AreDigits, decimal_value, padded, plain}
-use Rattle.tag_uri.specs.TagText.{Form, Filter, Company, Reference, Number, refusal, first_rule, forms_of, is_strange, is_zero_led, is_no_filter, is_no_row, reference_digits, partitioned_components, components_of}
+use Rattle.tag_uri.specs.TagText.{Form, Filter, Company, Reference, Number, refusal, first_rule, forms_of, is_strange, is_zero_led, is_no_filter, is_no_row, reference_digits, partitioned_components}
 use Rattle.tag_uri.proofs.DecimalLemmas.{digits-padded, length-padded, value-padded, mod_small, plain_is, no_zero}
 use Rattle.tag_uri.proofs.ReadLemmas.{FitsLast, bool_cases}
 use Rattle.tag_uri.proofs.RowDigits.{row_fits, reference_digits-at}

@@ -1,6 +1,6 @@
 -- What a lawful EPC's numbers need for their text.
-use Rattle.std.proofs.Common.{◌≡◌, ℕ, zero, suc, ◌+◌, ◌-◌, ◌*◌, ◌^◌, ◌<◌, ◌≤◌, Bool, true, false, cond, List, [], ◌∷◌, ◌++◌, Option, Some, None, refl, sym, ap, ◌∙◌, subst, arith, length, append_assoc, length-append, inl, inr, lit≤}
-use Rattle.std.specs.Prelude.{◌⊎◌, option_map, unwrap_or}
+use Rattle.std.proofs.Common.{◌≡◌, ℕ, ◌+◌, ◌-◌, ◌*◌, ◌^◌, ◌<◌, ◌≤◌, Bool, true, false, cond, List, [], ◌∷◌, ◌++◌, Option, Some, None, refl, sym, ap, ◌∙◌, subst, arith, length, append_assoc, inl, inr, lit≤}
+use Rattle.std.specs.Prelude.{option_map, unwrap_or}
 use Rattle.std.specs.List.{join_with_byte}
 use Rattle.std.proofs.lemmas.Bool.{cases_lt}
 use Rattle.std.proofs.lemmas.List.{append-nil}
@@ -11,11 +11,11 @@ use Rattle.tag_epc.specs.declared.kind.Kind.TheVariants.{Sgtin, Sscc, Sgln, Grai
 use Rattle.tag_epc.specs.declared.scheme.Row.{Row}
 use Rattle.tag_epc.specs.declared.epc.Parts.{Parts}
 use Rattle.tag_epc.specs.declared.epc.Parts.TheVariants.{Partitioned, General}
-use Rattle.tag_epc.specs.Layout.{Layout, layout_of, name_of, row_at, is_sound, number_segments, last_segment}
+use Rattle.tag_epc.specs.Layout.{Layout, layout_of, name_of, row_at, is_sound, last_segment}
 use Rattle.tag_epc.specs.LawfulWord.{IsLawful, kind_of, Fits}
 use Rattle.tag_uri.specs.Decimal.{padded, plain}
 use Rattle.tag_uri.specs.TagText.{tag_uri, tag_start, components_of, reference_digits, partitioned_components}
-use Rattle.tag_uri.proofs.DecimalLemmas.{plain_is, ten_pos}
+use Rattle.tag_uri.proofs.DecimalLemmas.{plain_is}
 use Rattle.tag_uri.proofs.ReadLemmas.{FitsLast, bool_cases}
 use Rattle.tag_uri.proofs.RowDigits.{row_fits, reference_digits-at}
 

@@ -1,19 +1,19 @@
 -- What components that no rule refuses say.
-use Rattle.std.proofs.Common.{◌≡◌, ℕ, zero, suc, ◌+◌, ◌-◌, ◌/◌, ◌%◌, ◌^◌, ◌<◌, ◌≤◌, Bool, true, false, not, cond, List, [], ◌∷◌, ◌++◌, Option, Some, None, refl, sym, ap, ◌∙◌, subst, arith, length, inl, inr, lit<}
+use Rattle.std.proofs.Common.{◌≡◌, ℕ, ◌+◌, ◌-◌, ◌/◌, ◌%◌, ◌^◌, ◌<◌, ◌≤◌, Bool, true, false, not, cond, List, [], ◌∷◌, Option, Some, None, refl, ap, ◌∙◌, subst, arith, length, inl, inr, lit<}
 use Rattle.std.specs.Borrow.{Bor}
-use Rattle.std.specs.Prelude.{◌==◌, ◌||◌, ◌⊎◌, nat_lt, is_some, option_copied, option_to_list, option_map, unwrap_or, IfSome, MatchOption}
+use Rattle.std.specs.Prelude.{◌==◌, ◌||◌, ◌⊎◌, is_some, option_copied, option_to_list, option_map, unwrap_or, IfSome, MatchOption}
 use Rattle.std.proofs.lemmas.Bool.{ne_eqb, ltb-false}
 use Rattle.std.proofs.Math.Nat.{pow-le-pow_right}
 use Rattle.std.proofs.lemmas.Nat.{pow_pos}
 use Rattle.tag_epc.specs.declared.kind.Kind.{Kind}
 use Rattle.tag_epc.specs.declared.scheme.Row.{Row}
 use Rattle.tag_epc.specs.declared.epc.Parts.TheVariants.{Partitioned}
-use Rattle.tag_epc.specs.Layout.{Layout, layout_of, row_at, is_sound, number_segments}
-use Rattle.tag_epc.specs.LawfulWord.{IsLawful, Fits, fill, AllFit}
+use Rattle.tag_epc.specs.Layout.{Layout, layout_of, is_sound, number_segments}
+use Rattle.tag_epc.specs.LawfulWord.{IsLawful, fill, AllFit}
 use Rattle.tag_epc.proofs.Soundness.{sound as is_sound_layout}
 use Rattle.tag_uri.specs.declared.partitioned.Components.{Components}
 use Rattle.tag_uri.specs.Decimal.{AreDigits, decimal_value, padded, plain}
-use Rattle.tag_uri.specs.TagText.{Form, Filter, Company, Reference, Number, some_component, is_stray, has_leading_zero, is_strange, is_zero_led, is_no_filter, is_no_row, reference_digits, partitioned_components}
+use Rattle.tag_uri.specs.TagText.{Number, some_component, is_stray, has_leading_zero, is_strange, is_zero_led, is_no_filter, reference_digits, partitioned_components}
 use Rattle.tag_uri.specs.ComponentForms.{texts_of, forms_with, LastIs}
 use Rattle.tag_uri.proofs.ComponentLemmas.{digits_of_not_strange}
 use Rattle.tag_uri.proofs.DecimalLemmas.{plain_text}

@@ -1,14 +1,11 @@
 -- Each EPC has one tag URI, and each tag URI is one EPC's.
-use Rattle.std.proofs.Common.{◌≡◌, ℕ, zero, suc, ◌+◌, ◌-◌, ◌*◌, ◌/◌, ◌%◌, ◌^◌, ◌<◌, ◌≤◌, Bool, true, false, not, cond, List, [], ◌∷◌, ◌++◌, Option, Some, None, refl, sym, ap, ◌∙◌, subst, arith, length, drop, get_or, inl, inr}
-use Rattle.std.specs.Prelude.{◌⊎◌, ◌==◌, ◌||◌, ◌&&◌, nat_lt, nat_le, sum, unwrap_or}
+use Rattle.std.proofs.Common.{◌≡◌, ℕ, ◌+◌, ◌^◌, ◌<◌, Bool, true, false, not, cond, List, [], ◌∷◌, ◌++◌, Option, Some, None, refl, sym, ap, ◌∙◌, subst, arith, length, drop, get_or, inl, inr}
+use Rattle.std.specs.Prelude.{◌==◌, ◌&&◌, sum, unwrap_or}
 use Rattle.std.specs.List.{All, list_all, slice_split, join_with_byte, find}
 use Rattle.std.specs.Str.{IsCharBoundary}
-use Rattle.std.proofs.lemmas.Bool.{eqb-true, ne_eqb, eq-eqb, lt-leb, le-ltb, lt-ltb, cases_eq, cases_lt}
+use Rattle.std.proofs.lemmas.Bool.{ne_eqb}
 use Rattle.std.proofs.lemmas.List.Elements.{All-nil, All-cons}
 use Rattle.std.proofs.lemmas.List.Splits.{slice_split_none, slice_split_at}
-use Rattle.std.proofs.lemmas.Str.Parse.{tells_all_ascii_digits}
-use Rattle.std.proofs.lemmas.Fmt.{decimal_injective}
-use Rattle.std.proofs.Math.Nat.{pow-le-pow_right}
 use Rattle.tag_epc.specs.declared.kind.Kind.{Kind}
 use Rattle.tag_epc.specs.declared.kind.Kind.TheVariants.{Sgtin, Sscc, Sgln, Grai, Gid}
 use Rattle.tag_epc.specs.declared.epc.Parts.{Parts}
@@ -18,13 +15,13 @@ use Rattle.tag_epc.specs.LawfulWord.{IsLawful, HasWord, kind_of}
 use Rattle.tag_epc.proofs.OneReading.{one_word}
 use Rattle.tag_uri.specs.declared.fault.UriFault.{UriFault}
 use Rattle.tag_uri.specs.declared.fault.UriFault.TheVariants as fault
-use Rattle.tag_uri.specs.Decimal.{AreDigits, decimal_value, padded, plain}
+use Rattle.tag_uri.specs.Decimal.{AreDigits, padded, plain}
 use Rattle.tag_uri.specs.Hexadecimal.{hexadecimal}
 use Rattle.tag_uri.specs.TagText.{tag_uri, tag_start, scheme_text, components, components_of, partitioned_components, reference_digits, refusal, first_rule, HasTagFault, HasWrongComponents, raw_uri, raw_start, raw_length, IsTextOf, HasRawFault, HasFault}
 use Rattle.tag_uri.proofs.ComponentLemmas.{joined}
 use Rattle.tag_uri.proofs.DecimalLemmas.{digits-padded}
 use Rattle.tag_uri.proofs.HexadecimalLemmas.{one_number, word_digits_of}
-use Rattle.tag_uri.proofs.PrintLemmas.{AtRow, at_row, general_below, no_prefix}
+use Rattle.tag_uri.proofs.PrintLemmas.{at_row, general_below, no_prefix}
 use Rattle.tag_uri.proofs.LawfulTexts.{one_partitioned, one_general, lawful_fine, general_lawful_fine, digits_of_plain, last_small}
 
 -- ---- the scheme's name

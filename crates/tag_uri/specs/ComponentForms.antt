@@ -1,5 +1,5 @@
 -- The components of a text of a scheme with a company prefix.
-use Rattle.std.specs.Prelude.{◌≡◌, ℕ, ◌+◌, ◌^◌, ◌<◌, Bool, if◌then◌else◌, List, [], ◌∷◌, Option, Some, None, option_copied, option_to_list, is_some}
+use Rattle.std.specs.Prelude.{◌≡◌, ℕ, ◌^◌, ◌<◌, if◌then◌else◌, List, [], ◌∷◌, Option, Some, None, option_copied, option_to_list, is_some}
 use Rattle.std.specs.Borrow.{Bor}
 use Rattle.tag_uri.specs.declared.partitioned.Components.{Components}
 use Rattle.tag_uri.specs.Decimal.{plain}

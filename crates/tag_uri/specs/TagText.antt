@@ -1,6 +1,6 @@
 -- Tag URIs and raw URIs, and the first rule that refuses a text. Texts are lists of their characters' codes.
 -- Source: EPC Tag Data Standard 1.13, section 12, and for the segments section 14.5.
-use Rattle.std.specs.Prelude.{◌≡◌, ℕ, ◌+◌, ◌-◌, ◌^◌, ◌<◌, ◌==◌, ◌||◌, ◌&&◌, not, nat_lt, nat_le, Bool, true, false, if◌then◌else◌, List, [], ◌∷◌, ◌++◌, length, map, drop, slice_index, codes, Option, Some, None, option_map, unwrap_or, ◌⊎◌}
+use Rattle.std.specs.Prelude.{◌≡◌, ℕ, ◌^◌, ◌<◌, ◌==◌, ◌||◌, ◌&&◌, not, nat_lt, nat_le, Bool, false, if◌then◌else◌, List, [], ◌∷◌, ◌++◌, length, map, drop, slice_index, codes, Option, Some, None, option_map, unwrap_or, ◌⊎◌}
 use Rattle.std.specs.List.{slice_split, join_with_byte, AllPass}
 use Rattle.std.specs.Str.{all_ascii_digits}
 use Rattle.tag_epc.specs.declared.kind.Kind.{Kind}
@@ -8,7 +8,7 @@ use Rattle.tag_epc.specs.declared.scheme.Row.{Row}
 use Rattle.tag_epc.specs.declared.epc.Parts.{Parts}
 use Rattle.tag_epc.specs.declared.epc.Parts.TheVariants.{Partitioned, General}
 use Rattle.tag_epc.specs.Layout.{Layout, layout_of, name_of, gid_segments}
-use Rattle.tag_epc.specs.LawfulWord.{kind_of, IsLawful, HasWord}
+use Rattle.tag_epc.specs.LawfulWord.{kind_of, HasWord}
 use Rattle.tag_uri.specs.declared.fault.UriFault.{UriFault}
 use Rattle.tag_uri.specs.declared.fault.UriFault.TheVariants as fault
 use Rattle.tag_uri.specs.Decimal.{decimal_value, padded, plain}

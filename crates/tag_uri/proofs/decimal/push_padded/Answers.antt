@@ -1,7 +1,4 @@
-use Rattle.std.proofs.Common.{◌≡◌, ◌++◌, ◌≤◌, length, arith, sym, ap, ◌∙◌, append_assoc}
-use Rattle.std.specs.Prelude.{decimal}
-use Rattle.arrayvec.specs.ArrayString.{array_string_len}
-use Rattle.tag_uri.specs.Decimal.{padded}
+use Rattle.std.proofs.Common.{◌≤◌, length, arith}
 use Rattle.tag_uri.proofs.DecimalLemmas.{padded_none, plain_short, zeros_then_plain}
 use Rattle.tag_uri.proofs.decimal.push_padded.Goals as goal
 

@@ -1,4 +1,4 @@
-use Rattle.std.proofs.Common.{◌≡◌, List, [], ◌∷◌, ℕ, ap, ◌∙◌, arith}
+use Rattle.std.proofs.Common.{List, [], ◌∷◌, ℕ, ap, ◌∙◌, arith}
 use Rattle.tag_uri.specs.Decimal.{plain}
 use Rattle.tag_uri.proofs.GeneralLemmas.{plain_digits, as_plain}
 use Rattle.tag_uri.proofs.general.parts_of.Goals as goal

@@ -1,6 +1,6 @@
-use Rattle.std.proofs.Common.{◌≡◌, not, true, arith, sym, ap, subst, ◌∙◌}
+use Rattle.std.proofs.Common.{◌≡◌, not, true, sym, ap, ◌∙◌}
 use Rattle.tag_uri.specs.declared.fault.UriFault.TheVariants as fault
-use Rattle.tag_uri.specs.TagText.{some_component, is_stray, has_leading_zero, is_over}
+use Rattle.tag_uri.specs.TagText.{some_component, is_over}
 use Rattle.tag_uri.specs.ComponentForms.{forms_with, texts_of, LastIs}
 use Rattle.tag_uri.proofs.RuleLemmas.{refused, wrong_count, digit_first, zero_first, filter_first, digits_first, range_first}
 use Rattle.tag_uri.proofs.ReadLemmas.{no_stray, filter_below, fits_last, lawful, same_components}

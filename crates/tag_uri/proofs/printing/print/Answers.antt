@@ -1,7 +1,6 @@
-use Rattle.std.proofs.Common.{◌++◌, sym, ap, ◌∙◌}
+use Rattle.std.proofs.Common.{◌++◌, ap, ◌∙◌}
 use Rattle.tag_epc.specs.declared.epc.Parts.{Parts}
 use Rattle.tag_epc.specs.Layout.{name_of}
-use Rattle.tag_epc.specs.LawfulWord.{kind_of}
 use Rattle.tag_uri.specs.TagText.{components_of}
 use Rattle.std.specs.List.{join_with_byte}
 use Rattle.tag_uri.proofs.PrintLemmas.{whole_uri}

@@ -1,4 +1,4 @@
-use Rattle.std.proofs.Common.{◌≡◌, ◌++◌, List, ℕ, ap, ◌∙◌}
+use Rattle.std.proofs.Common.{◌++◌, List, ℕ, ap, ◌∙◌}
 use Rattle.hex.specs.Hex.{IsBytes}
 use Rattle.tag_uri.proofs.HexadecimalLemmas.{raised_utf8, raised_word}
 use Rattle.tag_uri.proofs.raw.push_bytes.Goals as goal

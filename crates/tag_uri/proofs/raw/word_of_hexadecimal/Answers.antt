@@ -1,4 +1,4 @@
-use Rattle.std.proofs.Common.{◌≡◌, ◌<◌, ◌^◌, ap, sym, ◌∙◌, rules}
+use Rattle.std.proofs.Common.{◌<◌, ◌^◌, ap, sym, ◌∙◌, rules}
 use Rattle.std.specs.Result.{result_ok}
 use Rattle.tag_uri.specs.TagText.{AreWordDigits}
 use Rattle.tag_uri.proofs.HexadecimalLemmas.{decodes, decoded, some_ok}

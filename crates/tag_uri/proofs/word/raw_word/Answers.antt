@@ -1,5 +1,4 @@
 use Rattle.std.proofs.Common.{◌<◌, ◌^◌, ◌++◌, refl, rules, inr}
-use Rattle.tag_epc.specs.LawfulWord.{HasWord}
 use Rattle.tag_uri.specs.TagText.{raw_start, raw_length}
 use Rattle.tag_uri.proofs.TextLaws.{begins, right_digits}
 use Rattle.tag_uri.proofs.word.raw_word.Goals as goal

@@ -1,4 +1,4 @@
-use Rattle.std.proofs.Common.{◌<◌, ◌^◌, ℕ, Ok, sym, ap, ◌∙◌, rules}
+use Rattle.std.proofs.Common.{◌<◌, ◌^◌, Ok, ap, rules}
 use Rattle.tag_uri.proofs.TextLaws.{words_apart, text_or_fault}
 use Rattle.tag_uri.proofs.word.word_of_text.Goals as goal
 
