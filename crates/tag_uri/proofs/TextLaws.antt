@@ -12,12 +12,13 @@ use Rattle.tag_epc.specs.declared.epc.Parts.{Parts}
 use Rattle.tag_epc.specs.declared.epc.Parts.TheVariants.{Partitioned, General}
 use Rattle.tag_epc.specs.Layout.{Layout, layout_of, name_of, is_sound}
 use Rattle.tag_epc.specs.LawfulWord.{IsLawful, HasWord, kind_of}
-use Rattle.tag_epc.proofs.OneReading.{one_word}
+use Rattle.tag_bits.specs.Digits.{word_digits}
+use Rattle.tag_epc.proofs.OneReading.{one_word, one_epc}
 use Rattle.tag_uri.specs.declared.fault.UriFault.{UriFault}
 use Rattle.tag_uri.specs.declared.fault.UriFault.TheVariants as fault
 use Rattle.tag_uri.specs.Decimal.{AreDigits, padded, plain}
 use Rattle.tag_uri.specs.Hexadecimal.{hexadecimal}
-use Rattle.tag_uri.specs.TagText.{tag_uri, tag_start, scheme_text, components, components_of, partitioned_components, reference_digits, refusal, first_rule, HasTagFault, HasWrongComponents, raw_uri, raw_start, raw_length, IsTextOf, HasRawFault, HasFault}
+use Rattle.tag_uri.specs.TagText.{tag_uri, tag_start, scheme_text, components, components_of, partitioned_components, reference_digits, refusal, first_rule, HasTagFault, HasWrongComponents, raw_uri, raw_start, raw_length, IsTextOf, AreWordDigits, HasRawFault, HasFault}
 use Rattle.tag_uri.proofs.ComponentLemmas.{joined}
 use Rattle.tag_uri.proofs.DecimalLemmas.{digits-padded}
 use Rattle.tag_uri.proofs.HexadecimalLemmas.{one_number, word_digits_of}
@@ -304,3 +305,79 @@ right_digits text rest digits w e r d = e ∙ ap (λ (x : List ℕ). raw_start +
 
 pub raw_appended : (t0 t1 t2 : List ℕ) (w : ℕ) → t0 ≡ [] → t1 ≡ t0 ++ (raw_start ++ raw_length) → t2 ≡ t1 ++ hexadecimal 24 w → t2 ≡ raw_uri w
 raw_appended t0 t1 t2 w e0 e1 e2 = e2 ∙ ap (λ (x : List ℕ). x ++ hexadecimal 24 w) (e1 ∙ ap (λ (x : List ℕ). x ++ (raw_start ++ raw_length)) e0) ∙ sym (raw_is w)
+
+-- a word has one text
+pub texts_same : (w : ℕ) (s t : List ℕ) → IsTextOf w s → IsTextOf w t → s ≡ t
+texts_same w s t (inl a) (inl b) = a.2 ∙ ap tag_uri (one_epc a.0 b.0 (word_digits w) a.1 b.1) ∙ sym b.2
+texts_same w s t (inl a) (inr b) = absurd (b.0 a.0 a.1)
+texts_same w s t (inr a) (inl b) = absurd (a.0 b.0 b.1)
+texts_same w s t (inr a) (inr b) = a.1 ∙ sym b.1
+
+-- ---- one fault a text
+
+-- where a rule on tag URIs applies: at the start, at the scheme or at the components
+data Told (text : List ℕ) (f : UriFault) : Type 0 where
+  start : f ≡ fault.Start → ((rest : List ℕ) → text ≡ tag_start ++ rest → ⊥) → Told text f
+  scheme : f ≡ fault.Scheme → (rest : List ℕ) → text ≡ tag_start ++ rest → ((kind : Kind) (more : List ℕ) → rest ≡ scheme_text kind more → ⊥) → Told text f
+  wrong : HasWrongComponents text f → Told text f
+
+told_by : (text : List ℕ) (f : UriFault) → HasTagFault text f → Told text f
+told_by text fault.Start h = start refl h
+told_by text fault.Scheme h = scheme refl h.0 h.1 h.2
+told_by text fault.Parts h = wrong h
+told_by text fault.Digit h = wrong h
+told_by text fault.LeadingZero h = wrong h
+told_by text fault.Filter h = wrong h
+told_by text fault.Digits h = wrong h
+told_by text fault.Range h = wrong h
+told_by text fault.RawForm h = wrong h
+told_by text fault.RawOfLawful h = wrong h
+
+one_wrong : (text : List ℕ) (f g : UriFault) → HasWrongComponents text f → HasWrongComponents text g → f ≡ g
+one_wrong text f g a b =
+    let p = one_scheme a.kind b.kind a.rest b.rest (cancel_start _ _ (sym a.named ∙ b.named)) in
+    let r : Some f ≡ Some g = sym a.refused ∙ ap (λ (k : Kind). refusal (layout_of k) (components a.rest)) p.0 ∙ ap (λ (x : List ℕ). refusal (layout_of b.kind) (components x)) p.1 ∙ b.refused in
+    cc
+
+one_told : (text : List ℕ) (f g : UriFault) → Told text f → Told text g → f ≡ g
+one_told text f g (start e h) (start d i) = e ∙ sym d
+one_told text f g (start e h) (scheme d rest i j) = absurd (h rest i)
+one_told text f g (start e h) (wrong b) = absurd (h _ b.named)
+one_told text f g (scheme e rest h k) (start d i) = absurd (i rest h)
+one_told text f g (scheme e rest h k) (scheme d more i j) = e ∙ sym d
+one_told text f g (scheme e rest h k) (wrong b) = absurd (k b.kind b.rest (cancel_start _ _ (sym h ∙ b.named)))
+one_told text f g (wrong a) (start d i) = absurd (i _ a.named)
+one_told text f g (wrong a) (scheme d more i j) = absurd (j a.kind a.rest (cancel_start _ _ (sym i ∙ a.named)))
+one_told text f g (wrong a) (wrong b) = one_wrong text f g a b
+
+pub one_tag_fault : (text : List ℕ) (f g : UriFault) → HasTagFault text f → HasTagFault text g → f ≡ g
+one_tag_fault text f g a b = one_told text f g (told_by text f a) (told_by text g b)
+
+-- the two rules on raw URIs
+data ToldRaw (text : List ℕ) (f : UriFault) : Type 0 where
+  form : f ≡ fault.RawForm → ((digits : List ℕ) → text ≡ raw_start ++ (raw_length ++ digits) → AreWordDigits digits → ⊥) → ToldRaw text f
+  of_lawful : f ≡ fault.RawOfLawful → (w : ℕ) → text ≡ raw_uri w → ToldRaw text f
+
+told_raw : (text : List ℕ) (f : UriFault) → HasRawFault text f → ToldRaw text f
+told_raw text fault.RawForm h = form refl h
+told_raw text fault.RawOfLawful h = of_lawful refl h.0 h.2
+told_raw text fault.Start h = absurd h
+told_raw text fault.Scheme h = absurd h
+told_raw text fault.Parts h = absurd h
+told_raw text fault.Digit h = absurd h
+told_raw text fault.LeadingZero h = absurd h
+told_raw text fault.Filter h = absurd h
+told_raw text fault.Digits h = absurd h
+told_raw text fault.Range h = absurd h
+
+one_raw_fault : (text : List ℕ) (f g : UriFault) → ToldRaw text f → ToldRaw text g → f ≡ g
+one_raw_fault text f g (form e h) (form d i) = e ∙ sym d
+one_raw_fault text f g (form e h) (of_lawful d w i) = absurd (h (hexadecimal 24 w) (i ∙ raw_is w) (word_digits_of w))
+one_raw_fault text f g (of_lawful e w h) (form d i) = absurd (i (hexadecimal 24 w) (h ∙ raw_is w) (word_digits_of w))
+one_raw_fault text f g (of_lawful e w h) (of_lawful d v i) = e ∙ sym d
+
+pub one_fault : (text : List ℕ) (f g : UriFault) → HasFault text f → HasFault text g → f ≡ g
+one_fault text f g (inl a) (inl b) = one_raw_fault text f g (told_raw text f a.2) (told_raw text g b.2)
+one_fault text f g (inl a) (inr b) = absurd (b.0 a.0 a.1)
+one_fault text f g (inr a) (inl b) = absurd (a.0 b.0 b.1)
+one_fault text f g (inr a) (inr b) = one_tag_fault text f g a.1 b.1
