@@ -1,0 +1,10 @@
+pub mod ComponentLemmas
+pub mod DecimalLemmas
+pub mod GeneralLemmas
+pub mod HexadecimalLemmas
+pub mod LawfulTexts
+pub mod PrintLemmas
+pub mod ReadLemmas
+pub mod RowDigits
+pub mod RuleLemmas
+pub mod TextLaws

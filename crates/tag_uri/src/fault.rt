@@ -1,0 +1,62 @@
+//! Why a text is refused.
+
+use std::fmt;
+
+/// The rules that refuse a text, in their order: the first that applies is told.
+#[derive(Clone, Copy, PartialEq, Eq, Debug)]
+pub enum UriFault {
+    /// The text begins neither with `urn:epc:tag:` nor, where a raw URI is looked for, with `urn:epc:raw:`.
+    Start,
+    /// No name of a scheme with its colon follows.
+    Scheme,
+    /// The number of components between dots is not the scheme's.
+    Parts,
+    /// A character other than 0 to 9, or an empty component other than the reference.
+    Digit,
+    /// A number without fixed digits has two or more digits and begins with 0.
+    LeadingZero,
+    /// The filter value is not one digit 0 to 7.
+    Filter,
+    /// The company prefix has not 6 to 12 digits, or the reference not the table's number for it.
+    Digits,
+    /// A number without fixed digits has more bits than its segment.
+    Range,
+    /// Not `96.x` and exactly 24 digits 0 to 9, A to F behind `urn:epc:raw:`.
+    RawForm,
+    /// The word of a raw URI has a tag URI.
+    RawOfLawful,
+}
+
+impl UriFault {
+    ghost use Rattle.std.specs.Prelude.{◌≡◌};
+    ghost use Rattle.tag_uri.specs.TagText.{fault_name};
+
+    /// The name of the rule.
+    pub fn name(self) -> &'static str
+        ensures { result.now ≡ fault_name self }
+    {
+        match self {
+            UriFault::Start => "Start",
+            UriFault::Scheme => "Scheme",
+            UriFault::Parts => "Parts",
+            UriFault::Digit => "Digit",
+            UriFault::LeadingZero => "LeadingZero",
+            UriFault::Filter => "Filter",
+            UriFault::Digits => "Digits",
+            UriFault::Range => "Range",
+            UriFault::RawForm => "RawForm",
+            UriFault::RawOfLawful => "RawOfLawful",
+        }
+    }
+}
+
+impl fmt::Display for UriFault {
+    ghost use Rattle.std.specs.Prelude.{Some};
+    ghost use Rattle.tag_uri.specs.TagText.{fault_name};
+
+    ghost output = { λ f. Some (fault_name f) };
+
+    fn fmt<W: fmt::Write>(&self, f: &mut fmt::Formatter<W>) -> fmt::Result {
+        f.pad(self.name())
+    }
+}

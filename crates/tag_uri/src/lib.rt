@@ -1,0 +1,23 @@
+//! The texts of EPCs and of 96-bit words: tag URIs and raw URIs (EPC Tag Data Standard 1.13, section 12).
+#![tactic(auto)]
+
+mod components;
+mod decimal;
+mod fault;
+mod general;
+pub mod laws;
+mod parsing;
+mod partitioned;
+mod printing;
+mod raw;
+mod rules;
+mod scheme;
+mod word;
+
+pub use fault::UriFault;
+pub use parsing::parse;
+pub use printing::print;
+pub use word::{text_of_word, word_of_text};
+
+#[cfg(test)]
+mod tests;

@@ -1,0 +1,32 @@
+//! The scheme that a text names.
+
+ghost use Rattle.std.specs.Prelude.{◌≡◌, ℕ, List, MatchOption, IfSome, IfNone};
+ghost use Rattle.tag_epc.specs.Layout.{name_of};
+ghost use Rattle.tag_uri.specs.TagText.{scheme_text};
+
+use tag_epc::Kind;
+
+/// Each scheme once.
+const KINDS: [Kind; 5] = [Kind::Sgtin, Kind::Sscc, Kind::Sgln, Kind::Grai, Kind::Gid];
+
+/// The scheme of a name.
+fn kind_named(name: &str) -> Option<Kind>
+    ensures { MatchOption result ((kind : Kind) → name.now ≡ name_of kind → ⊥) (λ kind. name.now ≡ name_of kind) }
+{
+    for kind in KINDS {
+        if kind.name() == name {
+            return Some(kind);
+        }
+    }
+    None
+}
+
+/// The scheme whose name and colon a text begins with, and the text behind them.
+pub fn scheme_of<'a>(text: &'a str) -> Option<(Kind, &'a str)>
+    ensures some { IfSome result (λ x. text.now ≡ scheme_text x.0 x.1.now) }
+    ensures none { IfNone result ((kind : Kind) (rest : List ℕ) → text.now ≡ scheme_text kind rest → ⊥) }
+{
+    let (name, rest) = text.split_once(':')?;
+    let kind = kind_named(name)?;
+    Some((kind, rest))
+}

@@ -1,0 +1,136 @@
+//! Worked texts of EPCs and words.
+
+use crate::{UriFault, parse, print, text_of_word, word_of_text};
+use std::test::Fail;
+use tag_bits::Word;
+
+/// Words and their texts.
+const TEXTS: [(u128, &str); 10] = [
+    (
+        0x3200_0000_0000_0400_0000_0000,
+        "urn:epc:tag:sgln-96:0.000000000001..0",
+    ),
+    (
+        0x3200_0000_0000_0600_0000_0000,
+        "urn:epc:raw:96.x320000000000060000000000",
+    ),
+    (
+        0x3003_A352_9440_0000_0000_0000,
+        "urn:epc:raw:96.x3003A3529440000000000000",
+    ),
+    (
+        0x35FF_FFFF_FFFF_FFFF_FFFF_FFFF,
+        "urn:epc:tag:gid-96:268435455.16777215.68719476735",
+    ),
+    (
+        0x3114_257B_F400_0000_0100_0000,
+        "urn:epc:tag:sscc-96:0.0614141.0000000001",
+    ),
+    (
+        0x3300_0000_0000_0000_0000_0000,
+        "urn:epc:tag:grai-96:0.000000000000..0",
+    ),
+    (
+        0x2C00_0000_0000_0000_0000_0000,
+        "urn:epc:raw:96.x2C0000000000000000000000",
+    ),
+    (
+        0x30E3_A352_943F_FE7F_FFFF_FFFF,
+        "urn:epc:tag:sgtin-96:7.999999999999.9.274877906943",
+    ),
+    (
+        0x3018_0000_0000_0000_0000_0000,
+        "urn:epc:tag:sgtin-96:0.000000.0000000.0",
+    ),
+    (
+        0x3074_257B_F719_4E7F_FFFF_FFFF,
+        "urn:epc:tag:sgtin-96:3.0614141.812345.274877906943",
+    ),
+];
+
+/// Texts that are no word's, with the first rule that refuses each.
+const REFUSED: [(&str, UriFault, &str); 12] = [
+    ("", UriFault::Start, "Start"),
+    (
+        "urn:epc:tag:SGTIN-96:3.0614141.812345.1",
+        UriFault::Scheme,
+        "Scheme",
+    ),
+    (
+        "urn:epc:tag:sgtin-96:3.0614141.812345",
+        UriFault::Parts,
+        "Parts",
+    ),
+    (
+        "urn:epc:tag:sgtin-96:3.061414a.812345.1",
+        UriFault::Digit,
+        "Digit",
+    ),
+    (
+        "urn:epc:tag:sgtin-96:3.0614141.812345.007",
+        UriFault::LeadingZero,
+        "LeadingZero",
+    ),
+    (
+        "urn:epc:tag:sgtin-96:8.0614141.812345.1",
+        UriFault::Filter,
+        "Filter",
+    ),
+    (
+        "urn:epc:tag:sgtin-96:3.0614141.81234.1",
+        UriFault::Digits,
+        "Digits",
+    ),
+    (
+        "urn:epc:tag:sgtin-96:3.0614141.812345.274877906944",
+        UriFault::Range,
+        "Range",
+    ),
+    (
+        "urn:epc:tag:sgtin-96:3.0614141.812345.1000000000000000000000000000000000000000000000000000000000000",
+        UriFault::Range,
+        "Range",
+    ),
+    ("urn:epc:raw:96.x30", UriFault::RawForm, "RawForm"),
+    (
+        "urn:epc:raw:96.x3003a3529440000000000000",
+        UriFault::RawForm,
+        "RawForm",
+    ),
+    (
+        "urn:epc:raw:96.x3074257BF7194E4000001A85",
+        UriFault::RawOfLawful,
+        "RawOfLawful",
+    ),
+];
+
+#[test]
+fn words_and_texts(rt: HostRuntime) -> Result<(), Fail> {
+    for (number, text) in TEXTS {
+        let word = Word::new(number).ok_or("below 2 ^ 96")?;
+        assert_eq!(rt; text_of_word(word).as_str(), text);
+        assert_eq!(rt; word_of_text(text).ok(), Some(word));
+    }
+    Ok(())
+}
+
+#[test]
+fn uri_refusals(rt: HostRuntime) {
+    for (text, fault, name) in REFUSED {
+        assert_eq!(rt; word_of_text(text).err(), Some(fault), "{text}");
+        assert_eq!(rt; fault.name(), name);
+    }
+}
+
+#[test]
+fn one_sgtin(rt: HostRuntime) -> Result<(), Fail> {
+    let text = "urn:epc:tag:sgtin-96:3.0614141.812345.6789";
+    let epc = parse(text).ok().ok_or("an EPC")?;
+    assert_eq!(rt; epc.to_word().number(), 0x3074_257B_F719_4E40_0000_1A85);
+    assert_eq!(rt; print(&epc).as_str(), text);
+    assert_eq!(rt;
+        parse("urn:epc:raw:96.x320000000000060000000000").err(),
+        Some(UriFault::Start)
+    );
+    Ok(())
+}
