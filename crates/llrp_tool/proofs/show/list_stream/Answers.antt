@@ -1,7 +1,6 @@
 use Rattle.std.proofs.lemmas.Result.{err_from_is_err_and}
 use Rattle.std.proofs.Common.{refl, ◌∙◌}
 use Rattle.llrp_tool.specs.Cuts.{IsFrame}
-use Rattle.llrp_tool.specs.Listing.{end_text}
 use Rattle.llrp_tool.proofs.ShowLemmas.{so_far_none, so_far_more, so_far_sent, listed, stopped_growing, stopped_sending, stopped_at_end, parted}
 use Rattle.llrp_tool.proofs.show.list_stream.Goals as goal
 
