@@ -1,21 +1,15 @@
 -- What commands answer.
-use Rattle.std.proofs.Common.{◌≡◌, ℕ, ◌+◌, Bool, true, false, List, [], ◌∷◌, ◌++◌, ◌<◌, length, take, drop, get_or, append_assoc, Option, Some, None, Result, Ok, Err, refl, sym, ap, subst, ◌∙◌, arith, inl, inr, codes}
-use Rattle.std.specs.Prelude.{IfErr}
+use Rattle.std.proofs.Common.{◌≡◌, ℕ, ◌+◌, List, ◌∷◌, ◌++◌, ◌<◌, length, take, drop, get_or, append_assoc, Err, sym, ap, ◌∙◌, inl, inr}
 use Rattle.std.specs.List.{flat_map}
-use Rattle.std.proofs.lemmas.List.{take_more, drop_more, take-append-drop, append-nil}
+use Rattle.std.proofs.lemmas.List.{drop_more, take-append-drop}
 use Rattle.std.proofs.lemmas.List.Concat.{flat_map-append}
-use Rattle.clap.specs.Words.{Row, Text}
 use Rattle.llrp_tool.specs.declared.fault.ToolErr.{ToolErr}
 use Rattle.llrp_tool.specs.declared.fault.ToolErr.TheVariants.{Listing, Hex, Read, Write, Bound, Memory}
-use Rattle.llrp_tool.specs.declared.fault.Verdict.{Verdict}
-use Rattle.llrp_tool.specs.declared.words.Request.{Request}
-use Rattle.llrp_tool.specs.declared.words.Request.TheVariants.{Show, Encode}
-use Rattle.llrp_tool.specs.Command.{LIMIT, Answers, FailsAsTold, DoesShow, DoesEncode, RanShow, RanEncode, verdict_status, fine_status, NotEncoded, Gathers, EncodesDigits, DigitsUnwritten, digit_line, memory_error}
-use Rattle.llrp_tool.specs.Copying.{ReadAll, Writes}
+use Rattle.llrp_tool.specs.Command.{LIMIT, NotEncoded, memory_error}
+use Rattle.llrp_tool.specs.Copying.{Writes}
 use Rattle.llrp_tool.specs.Device.{SourceLog, SinkLog, Wrote}
-use Rattle.llrp_tool.specs.Encoding.{Encoded, Encodes, EncodeStopped}
-use Rattle.llrp_tool.proofs.DeviceLemmas.{wrote_more, wrote_then_failed}
-use Rattle.llrp_tool.specs.Words.{parses, command_in, Asks, AsksElsewhere, IsRequest, name_in}
+use Rattle.llrp_tool.specs.Encoding.{EncodeStopped}
+use Rattle.llrp_tool.proofs.DeviceLemmas.{wrote_then_failed}
 
 -- a write stopped in a part of a text
 writes_stop : (old mid new : SinkLog) (done part rest text : List ℕ) (e : ToolErr) → Wrote old mid done → text ≡ done ++ (part ++ rest) → Writes part mid new (Err e) → Writes text old new (Err e)

@@ -1,5 +1,5 @@
 -- A frame has one item: one message, or one first fault, never both.
-use Rattle.std.proofs.Common.{◌≡◌, ℕ, ◌+◌, ◌*◌, ◌^◌, ◌<◌, ◌≤◌, Bool, List, ◌++◌, length, take, drop, refl, sym, ap, ◌∙◌, arith, inl, inr, length-append}
+use Rattle.std.proofs.Common.{◌≡◌, ℕ, ◌^◌, ◌<◌, Bool, List, ◌++◌, length, take, drop, refl, sym, ap, ◌∙◌, arith, inl, inr, length-append}
 use Rattle.std.proofs.lemmas.List.{drop-drop, take_all}
 use Rattle.tag_bits.specs.Digits.{value, digits, digits_of_bytes}
 use Rattle.tag_bits.proofs.DigitLemmas.{length-digits, value-digits, take-seam, drop-seam}

@@ -4,7 +4,7 @@ use Rattle.std.specs.Prelude.{option_map, ◌&&◌}
 use Rattle.clap.specs.Words.{App, Row, Text, subcommand_of, is_simple, takes}
 use Rattle.clap.specs.Walk.{one_of}
 use Rattle.llrp_tool.specs.declared.words.Request.{Request}
-use Rattle.llrp_tool.specs.Words.{llrp_app, parses, command_in, name_in, hex_in, HasFlag, IsHexFlag, IsRequest}
+use Rattle.llrp_tool.specs.Words.{llrp_app, parses, command_in, name_in, hex_in, HasFlag, IsRequest}
 
 and_left : (a b : Bool) → (a && b) ≡ true → a ≡ true
 and_left true b e = refl

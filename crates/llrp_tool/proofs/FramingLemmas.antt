@@ -1,6 +1,5 @@
 -- Frames at the front of a stream, and the digits of a header alone.
-use Rattle.std.proofs.Common.{◌≡◌, ℕ, ◌+◌, ◌*◌, ◌<◌, ◌≤◌, Bool, List, ◌++◌, length, take, drop, get_or, refl, sym, ap, ◌∙◌, arith}
-use Rattle.std.specs.List.{All}
+use Rattle.std.proofs.Common.{◌≡◌, ℕ, ◌+◌, ◌≤◌, Bool, List, ◌++◌, length, take, drop, refl, sym, ap, ◌∙◌, arith}
 use Rattle.std.proofs.lemmas.List.{take-append-drop, drop-drop, take_all, length-take, length-drop}
 use Rattle.tag_bits.specs.Digits.{value, digits, digits_of_bytes, field}
 use Rattle.tag_bits.proofs.DigitLemmas.{digits_from}

@@ -1,13 +1,11 @@
 -- Each frame has an item, and each stream its items.
-use Rattle.std.proofs.Common.{◌≡◌, ◌≢◌, ℕ, zero, suc, ◌+◌, ◌-◌, ◌^◌, ◌<◌, ◌≤◌, ◌⊎◌, leb, true, false, List, [], ◌∷◌, ◌++◌, length, take, drop, refl, sym, ap, subst, ◌∙◌, arith, inl, inr}
-use Rattle.std.specs.List.{All}
+use Rattle.std.proofs.Common.{◌≡◌, ◌≢◌, ℕ, zero, suc, ◌^◌, ◌<◌, ◌≤◌, ◌⊎◌, leb, true, false, List, [], ◌∷◌, ◌++◌, length, take, drop, refl, sym, ap, ◌∙◌, arith, inl, inr}
 use Rattle.std.proofs.lemmas.Bool.{leb-true, leb-false}
 use Rattle.std.proofs.lemmas.Bool.Decides.{eqb_tells}
 use Rattle.std.proofs.lemmas.List.Elements.{All-take, All-drop}
-use Rattle.std.proofs.lemmas.List.{take-append-drop, length-drop, length-take, append_assoc, append-nil}
+use Rattle.std.proofs.lemmas.List.{take-append-drop, length-drop, append_assoc, append-nil}
 use Rattle.llrp_tool.specs.declared.message.MsgKind.{MsgKind}
 use Rattle.llrp_tool.specs.declared.message.MsgKind.TheVariants.{CloseConnection, GetReport, Keepalive, EnableEventsAndReports, KeepaliveAck}
-use Rattle.llrp_tool.specs.declared.message.Message.{Message}
 use Rattle.llrp_tool.specs.declared.frame.Reason.{Reason}
 use Rattle.llrp_tool.specs.declared.frame.Reason.TheVariants.{Reserved, Version, MessageType, MessageLength, Extra}
 use Rattle.llrp_tool.specs.declared.frame.Item.{Item}
@@ -17,7 +15,7 @@ use Rattle.llrp_tool.specs.declared.frame.End.TheVariants.{Clean, Rest, Broken}
 use Rattle.llrp_tool.specs.Schema.{number_of, IsNoNumber}
 use Rattle.llrp_tool.specs.Frame.{AreOctets}
 use Rattle.llrp_tool.specs.Cuts.{length_field, IsFrame, Ends, joined}
-use Rattle.llrp_tool.specs.Items.{reserved_field, version_field, type_field, id_field, KnownVersion, KnownType, FirstFault, IsItemOf, Items}
+use Rattle.llrp_tool.specs.Items.{reserved_field, version_field, type_field, id_field, KnownVersion, KnownType, IsItemOf, Items}
 use Rattle.llrp_tool.specs.ItemLaws.{HasOneItem, HasOneListing}
 use Rattle.llrp_tool.proofs.HeaderLemmas.{id_field-below}
 use Rattle.llrp_tool.proofs.FramingLemmas.{header_spells, is_frame}

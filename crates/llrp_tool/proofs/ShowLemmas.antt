@@ -1,5 +1,5 @@
 -- The loop over the frames of a stream.
-use Rattle.std.proofs.Common.{◌≡◌, ℕ, Bool, true, false, List, [], ◌∷◌, ◌++◌, take, drop, refl, sym, ap, ◌∙◌, append_assoc, Ok, Err}
+use Rattle.std.proofs.Common.{◌≡◌, ℕ, Bool, true, false, List, [], ◌∷◌, ◌++◌, take, drop, refl, sym, ap, ◌∙◌, append_assoc, Err}
 use Rattle.std.specs.Prelude.{◌&&◌}
 use Rattle.std.specs.List.{flat_map, AllByRecursion, AllZip, list_all}
 use Rattle.std.proofs.lemmas.List.{append-nil, take-append-drop}
@@ -10,11 +10,11 @@ use Rattle.llrp_tool.specs.declared.fault.ToolErr.{ToolErr}
 use Rattle.llrp_tool.specs.declared.fault.ToolErr.TheVariants.{Listing, Read, Write, Bound, Memory, Hex}
 use Rattle.llrp_tool.specs.declared.fault.Verdict.{Verdict}
 use Rattle.llrp_tool.specs.Device.{SinkLog, Wrote}
-use Rattle.llrp_tool.specs.Copying.{IsPrefix, Writes, WriteStopped}
+use Rattle.llrp_tool.specs.Copying.{HandsOn, IsPrefix, Writes, WriteStopped}
 use Rattle.llrp_tool.specs.Cuts.{IsFrame, Ends, joined}
 use Rattle.llrp_tool.specs.Items.{IsItemOf, Items}
 use Rattle.llrp_tool.specs.Listing.{item_text, end_text, is_message, is_clean, listing, is_lawful}
-use Rattle.llrp_tool.specs.Show.{verdict_of, Listed, BeginsListing, ListStopped, Sends, Stopped}
+use Rattle.llrp_tool.specs.Show.{verdict_of, Listed, BeginsListing, ListStopped, Stopped}
 use Rattle.llrp_tool.proofs.DeviceLemmas.{wrote_nothing, wrote_more, wrote_then_failed}
 use Rattle.llrp_tool.proofs.Unique.{after_front, none_left}
 
@@ -80,7 +80,7 @@ so_far_more limit stream rest after frame old now lawful more kept text item so 
 
 -- a front of what was kept back was sent
 pub so_far_sent : (limit : ℕ) (stream rest : List ℕ) (old mid new : SinkLog) (lawful : Bool) (gathered kept : List ℕ) → SoFar limit stream rest old mid lawful gathered
-    → Sends gathered kept mid new (Ok tt) → SoFar limit stream rest old new lawful kept
+    → HandsOn gathered kept mid new → SoFar limit stream rest old new lawful kept
 so_far_sent limit stream rest old mid new lawful gathered kept so sends = record {
   frames = so.frames;
   items = so.items;

@@ -10,9 +10,9 @@ use Rattle.llrp_tool.specs.declared.fault.Refusal.TheVariants.{Line}
 use Rattle.llrp_tool.specs.declared.fault.ToolErr.{ToolErr}
 use Rattle.llrp_tool.specs.declared.fault.ToolErr.TheVariants.{Listing, Hex, Read, Write, Bound, Memory}
 use Rattle.llrp_tool.specs.Checks.{FirstFailing}
-use Rattle.llrp_tool.specs.Copying.{Writes}
+use Rattle.llrp_tool.specs.Copying.{Writes, HandsOn}
 use Rattle.llrp_tool.specs.Device.{SinkLog, Wrote}
-use Rattle.llrp_tool.specs.Encoder.{Lacks, those, chain_of, open_of, StandsAt, Stopped, StoppedAtEnd, WroteEncoding, Refusing, AppendsFrame, HandsOn}
+use Rattle.llrp_tool.specs.Encoder.{Lacks, those, chain_of, open_of, StandsAt, Stopped, StoppedAtEnd, WroteEncoding, Refusing, AppendsFrame}
 use Rattle.llrp_tool.specs.Encoding.{AreSpelled, AreClosed, BeginsEncoding, Encodes, Refuses, row}
 use Rattle.llrp_tool.specs.FirstRefusal.{Refused}
 use Rattle.llrp_tool.specs.Lines.{TextLine, Ended, Unended, lines_of, NoLf}

@@ -1,7 +1,7 @@
 -- A stream has one list of items, and one end.
-use Rattle.std.proofs.Common.{◌≡◌, ℕ, ◌<◌, List, [], ◌∷◌, ◌++◌, length, take, drop, refl, sym, ap, subst, ◌∙◌, arith, inl, inr, append_assoc}
+use Rattle.std.proofs.Common.{◌≡◌, ℕ, List, [], ◌∷◌, ◌++◌, length, take, drop, refl, sym, ap, subst, ◌∙◌, arith, inl, inr, append_assoc}
 use Rattle.std.specs.List.{AllByRecursion, AllZip}
-use Rattle.std.proofs.lemmas.List.{take_at, drop_at, length-append, append-nil}
+use Rattle.std.proofs.lemmas.List.{take_at, drop_at, length-append}
 use Rattle.llrp_tool.specs.declared.frame.Item.{Item}
 use Rattle.llrp_tool.specs.declared.frame.End.{End}
 use Rattle.llrp_tool.specs.declared.frame.End.TheVariants.{Clean, Rest, Broken}

@@ -48,3 +48,7 @@ WriteStopped old new front (Listing line reason) = ⊥
 abbrev pub Writes : List ℕ → SinkLog → SinkLog → Result (Unit {0}) ToolErr → Type 0
 Writes bytes old new (Ok u) = Wrote old new bytes
 Writes bytes old new (Err e) = (front : List ℕ) × IsPrefix front bytes × WriteStopped old new front e
+
+-- a front of the bytes was written, and the others are left
+abbrev pub HandsOn : List ℕ → List ℕ → SinkLog → SinkLog → Type 0
+HandsOn old new w0 w1 = (front : List ℕ) × (old ≡ front ++ new) × Wrote w0 w1 front

@@ -95,7 +95,3 @@ Refusing number out why w0 w1 Hex = ⊥
 -- the frame of the message, if there is one, was appended
 abbrev pub AppendsFrame : Option Message → List ℕ → List ℕ → Type 0
 AppendsFrame pending old new = AllByRecursion IsLawful (those pending) → (bytes : List ℕ) × AreSpelled 10 (those pending) bytes × (new ≡ old ++ bytes)
-
--- a front of the bytes was written, and the others are left
-abbrev pub HandsOn : List ℕ → List ℕ → SinkLog → SinkLog → Type 0
-HandsOn old new w0 w1 = (front : List ℕ) × (old ≡ front ++ new) × Wrote w0 w1 front

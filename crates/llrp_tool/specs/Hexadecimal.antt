@@ -1,6 +1,5 @@
 -- Bytes as hexadecimal digits.
-use Rattle.std.specs.Prelude.{◌≡◌, ℕ, ◌+◌, ◌*◌, ◌<◌, ◌≤◌, ◌⊎◌, ◌==◌, ◌||◌, not, Bool, List, [], ◌∷◌, ◌++◌, filter, codes}
-use Rattle.hex.specs.Hex.{encode_upper}
+use Rattle.std.specs.Prelude.{◌≡◌, ℕ, ◌+◌, ◌*◌, ◌<◌, ◌≤◌, ◌⊎◌, ◌==◌, ◌||◌, not, Bool, List, [], ◌∷◌, filter}
 
 -- space, tab, LF and CR may stand anywhere
 abbrev pub is_space : ℕ → Bool

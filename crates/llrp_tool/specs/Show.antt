@@ -1,5 +1,5 @@
 -- What show reads and writes.
-use Rattle.std.specs.Prelude.{◌≡◌, ℕ, ◌⊎◌, List, ◌++◌, Bool, true, false, Result, Ok, Err}
+use Rattle.std.specs.Prelude.{◌≡◌, ℕ, ◌⊎◌, List, Bool, true, false, Result, Ok, Err}
 use Rattle.llrp_tool.specs.declared.frame.Item.{Item}
 use Rattle.llrp_tool.specs.declared.frame.End.{End}
 use Rattle.llrp_tool.specs.declared.fault.ToolErr.{ToolErr}
@@ -7,7 +7,7 @@ use Rattle.llrp_tool.specs.declared.fault.ToolErr.TheVariants.{Listing, Hex, Rea
 use Rattle.llrp_tool.specs.declared.fault.Verdict.{Verdict}
 use Rattle.llrp_tool.specs.declared.fault.Verdict.TheVariants.{Lawful, Faulty}
 use Rattle.llrp_tool.specs.Device.{SourceLog, SinkLog, Wrote, WroteAndFailed}
-use Rattle.llrp_tool.specs.Copying.{ReadAll, ReadStopped, IsPrefix, Writes}
+use Rattle.llrp_tool.specs.Copying.{ReadAll, ReadStopped, IsPrefix}
 use Rattle.llrp_tool.specs.Items.{Items}
 use Rattle.llrp_tool.specs.Listing.{listing, is_lawful}
 
@@ -42,11 +42,6 @@ pub record Stopped (limit : ℕ) (bytes : List ℕ) (old new : SinkLog) (error :
   pub front : List ℕ
   pub begins : BeginsListing limit bytes front
   pub log : ListStopped old new front error
-
--- Of the text gathered so far a front was sent, and the rest is kept; or writing stopped in it.
-abbrev pub Sends : List ℕ → List ℕ → SinkLog → SinkLog → Result (Unit {0}) ToolErr → Type 0
-Sends gathered kept old new (Ok u) = (sent : List ℕ) × (gathered ≡ sent ++ kept) × Wrote old new sent
-Sends gathered kept old new (Err error) = Writes gathered old new (Err error)
 
 -- Show stopped: while it read these bytes, with nothing written, or while it listed them all.
 abbrev pub ShowStopped : ℕ → List ℕ → SourceLog → SourceLog → SinkLog → SinkLog → ToolErr → Type 0

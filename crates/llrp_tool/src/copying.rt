@@ -1,7 +1,7 @@
 //! Loops over sources and sinks.
 
-ghost use Rattle.std.specs.Prelude.{◌+◌, ◌^◌, ◌<◌, IfErr, IfOk, List, ℕ};
-ghost use Rattle.llrp_tool.specs.Copying.{ReadAll, ReadStopped, Writes};
+ghost use Rattle.std.specs.Prelude.{◌+◌, ◌<◌, ◌≡◌, ◌^◌, IfErr, IfOk, List, OnOk, [], ℕ};
+ghost use Rattle.llrp_tool.specs.Copying.{HandsOn, ReadAll, ReadStopped, Writes};
 ghost use Rattle.llrp_tool.specs.Device.{IsFreshSource};
 
 use crate::device::{Sink, Source};
@@ -13,6 +13,9 @@ pub const MOST_READS: u32 = 1_000_000;
 
 /// How many bytes a read asks for.
 pub const READ_SIZE: usize = 4096;
+
+/// How many bytes are gathered before they are handed to a sink.
+pub const PIECE_SIZE: usize = 65_536;
 
 /// All that the source gives, until a read meets its end. The errors are `Read`, `Memory`, and
 /// `Bound` after the greatest number of reads.
@@ -50,4 +53,27 @@ pub fn write_all<W: Sink>(w: &mut W, bytes: &[u8]) -> Result<(), ToolErr>
         }
     }
     Ok(())
+}
+
+/// What was gathered is handed on.
+pub fn hand_on<W: Sink>(gathered: &mut Vec<u8>, w: &mut W) -> Result<(), ToolErr>
+    requires { (W.log w.old).failures + 1 < 2 ^ 64 }
+    ensures written { Writes gathered.old.items (W.log w.old) (W.log w.new) result }
+    ensures emptied { OnOk result (gathered.new.items ≡ []) }
+{
+    write_all(w, gathered.as_slice())?;
+    gathered.clear();
+    Ok(())
+}
+
+/// What was gathered is handed on, once it is a large piece.
+pub fn hand_on_pieces<W: Sink>(gathered: &mut Vec<u8>, w: &mut W) -> Result<(), ToolErr>
+    requires { (W.log w.old).failures + 1 < 2 ^ 64 }
+    ensures handed { OnOk result (HandsOn gathered.old.items gathered.new.items (W.log w.old) (W.log w.new)) }
+    ensures failed { IfErr result (λ e. Writes gathered.old.items (W.log w.old) (W.log w.new) result) }
+{
+    if gathered.len() < PIECE_SIZE {
+        return Ok(());
+    }
+    hand_on(gathered, w)
 }

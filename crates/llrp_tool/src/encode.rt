@@ -3,15 +3,14 @@
 
 ghost use Rattle.std.specs.Prelude.{◌++◌, ◌+◌, ◌<◌, ◌≡◌, ◌≤◌, ◌^◌, ◌∷◌, IfErr, IfOk, IsErrAnd, IsTrue, List, MatchResult, OnErr, OnOk, [], length, ℕ};
 ghost use Rattle.llrp_tool.specs.Checks.{FirstFailing};
-ghost use Rattle.llrp_tool.specs.Copying.{Writes};
 ghost use Rattle.llrp_tool.specs.Device.{IsFreshSource, SinkLog};
-ghost use Rattle.llrp_tool.specs.Encoder.{AppendsFrame, HandsOn, Lacks, Refusing, Stands, Stopped, StoppedAtEnd, WroteEncoding, chain_of};
+ghost use Rattle.llrp_tool.specs.Encoder.{AppendsFrame, Lacks, Refusing, Stands, Stopped, StoppedAtEnd, WroteEncoding, chain_of};
 ghost use Rattle.llrp_tool.specs.Encoding.{EncodeStopped, Encoded};
 ghost use Rattle.llrp_tool.specs.Frame.{IsLawful, Spells};
 ghost use Rattle.llrp_tool.specs.Lines.{Ended, NoLf};
 ghost use Rattle.llrp_tool.specs.MessageLine.{SaysMessage, line_checks};
 
-use crate::copying::{MOST_READS, READ_SIZE, write_all};
+use crate::copying::{MOST_READS, READ_SIZE, hand_on, hand_on_pieces};
 use crate::device::{Sink, Source};
 use crate::fault::{Refusal, ToolErr};
 use crate::line::{LONGEST_LINE, read_line, split_once};
@@ -20,9 +19,6 @@ use std::alloc::{AllocError, Global};
 
 /// How many octets each message that this crate knows spells: those of a header.
 const FRAME_SIZE: usize = 10;
-
-/// How many bytes are gathered before they are handed to the sink.
-const PIECE_SIZE: usize = 65_536;
 
 /// The frame of a message.
 fn frame_of(message: Message) -> [u8; FRAME_SIZE]
@@ -42,29 +38,6 @@ fn append_frame(out: &mut Vec<u8>, pending: Option<Message>) -> Result<(), Alloc
         None => Ok(()),
         Some(message) => out.extend_from_slice(&frame_of(message)),
     }
-}
-
-/// What was gathered is handed on.
-fn hand_on<W: Sink>(out: &mut Vec<u8>, w: &mut W) -> Result<(), ToolErr>
-    requires { (W.log w.old).failures + 1 < 2 ^ 64 }
-    ensures written { Writes out.old.items (W.log w.old) (W.log w.new) result }
-    ensures emptied { OnOk result (out.new.items ≡ []) }
-{
-    write_all(w, out.as_slice())?;
-    out.clear();
-    Ok(())
-}
-
-/// What was gathered is handed on, once it is a large piece.
-fn hand_on_pieces<W: Sink>(out: &mut Vec<u8>, w: &mut W) -> Result<(), ToolErr>
-    requires { (W.log w.old).failures + 1 < 2 ^ 64 }
-    ensures handed { OnOk result (HandsOn out.old.items out.new.items (W.log w.old) (W.log w.new)) }
-    ensures failed { IfErr result (λ e. Writes out.old.items (W.log w.old) (W.log w.new) result) }
-{
-    if out.len() < PIECE_SIZE {
-        return Ok(());
-    }
-    hand_on(out, w)
 }
 
 /// What was read of a listing and is still held: the line that isn't ended, the message whose line

@@ -7,11 +7,11 @@ mod copying;
 pub mod device;
 mod encode;
 mod fault;
-pub mod frame;
+mod frame;
 mod hexadecimal;
 pub mod laws;
 mod line;
-pub mod message;
+mod message;
 mod show;
 mod words;
 
@@ -20,7 +20,6 @@ pub use device::{Input, Output, Sink, Source};
 pub use encode::run_encode;
 pub use fault::{Refusal, ToolErr, Verdict};
 pub use hexadecimal::bytes_of_hex;
-pub use message::{Message, MsgKind, msg_of};
 pub use show::run_show;
 
 #[cfg(test)]

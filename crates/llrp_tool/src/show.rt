@@ -3,9 +3,9 @@
 ghost use Rattle.std.specs.Prelude.{◌&&◌, ◌+◌, ◌++◌, ◌<◌, ◌^◌, ◌≡◌, ◌≤◌, IfErr, IfOk, OnOk};
 ghost use Rattle.llrp_tool.specs.Device.{IsFreshSource};
 ghost use Rattle.llrp_tool.specs.Listing.{end_text, is_clean, item_text, message_text};
-ghost use Rattle.llrp_tool.specs.Show.{Listed, Sends, Shows, Stopped, verdict_of};
+ghost use Rattle.llrp_tool.specs.Show.{Listed, Shows, Stopped, verdict_of};
 
-use crate::copying::{read_all, write_all};
+use crate::copying::{PIECE_SIZE, hand_on_pieces, read_all, write_all};
 use crate::device::{Sink, Source};
 use crate::fault::{ToolErr, Verdict};
 use crate::frame::{End, Fault, Front, Item, front_of, item_of};
@@ -13,8 +13,8 @@ use crate::message::Message;
 use itoa::Buffer;
 use std::alloc::{AllocError, Global};
 
-/// How much text is gathered before it is handed on.
-const PIECE: usize = 65_536;
+/// The room for a line of text past a whole piece.
+const LINE_SIZE: usize = 64;
 
 /// Appends the line of a message.
 fn push_message(text: &mut Vec<u8>, message: &Message) -> Result<(), AllocError>
@@ -76,18 +76,6 @@ fn push_end(text: &mut Vec<u8>, end: End) -> Result<(), AllocError>
     }
 }
 
-/// Hands the gathered text on once it is a whole piece.
-fn send_pieces<W: Sink>(text: &mut Vec<u8>, w: &mut W) -> Result<(), ToolErr>
-    requires { (W.log w.old).failures + 1 < 2 ^ 64 }
-    ensures { Sends text.old.items text.new.items (W.log w.old) (W.log w.new) result }
-{
-    if text.len() >= PIECE {
-        write_all(w, text.as_slice())?;
-        text.clear();
-    }
-    Ok(())
-}
-
 fn verdict(lawful: bool, end: End) -> Verdict
     ensures { result ≡ verdict_of (lawful && is_clean end) }
 {
@@ -110,7 +98,7 @@ pub(crate) fn list_stream<W: Sink>(
     ensures ok { IfOk result (λ verdict. Listed limit stream.now (W.log w.old) (W.log w.new) verdict) }
     ensures err { IfErr result (λ e. Stopped limit stream.now (W.log w.old) (W.log w.new) e) }
 {
-    let mut text = Vec::with_capacity(alloc, PIECE + 64)?;
+    let mut text = Vec::with_capacity(alloc, PIECE_SIZE + LINE_SIZE)?;
     let mut rest = stream;
     let mut lawful = true;
     'frames: loop {
@@ -119,7 +107,7 @@ pub(crate) fn list_stream<W: Sink>(
                 let (frame, after) = rest.split_at(n);
                 let item = item_of(frame, limit);
                 push_item(&mut text, &item)?;
-                send_pieces(&mut text, w)?;
+                hand_on_pieces(&mut text, w)?;
                 lawful &= item.is_message();
                 rest = after;
             }

@@ -1,4 +1,4 @@
-use Rattle.std.proofs.Common.{◌≡◌, arith, refl, inr}
+use Rattle.std.proofs.Common.{arith, refl, inr}
 use Rattle.llrp_tool.specs.Cuts.{length_field}
 use Rattle.llrp_tool.proofs.FramingLemmas.{is_frame}
 use Rattle.llrp_tool.proofs.frame.front_of.Goals as goal

@@ -1,4 +1,4 @@
-use Rattle.std.proofs.Common.{rules, ◌≡◌, ℕ, List, refl, inl, inr, ◌∙◌}
+use Rattle.std.proofs.Common.{rules, ◌≡◌, refl, inl, inr, ◌∙◌}
 use Rattle.std.specs.Prelude.{filter, not}
 use Rattle.llrp_tool.specs.Hexadecimal.{is_space}
 use Rattle.llrp_tool.proofs.HexadecimalLemmas.{is_hex, is_no_hex}

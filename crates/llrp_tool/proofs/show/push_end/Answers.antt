@@ -1,4 +1,4 @@
-use Rattle.std.proofs.Common.{codes, decimal, ◌∙◌, sym, ap, ◌++◌, ℕ, List}
+use Rattle.std.proofs.Common.{codes, decimal, ◌∙◌, sym}
 use Rattle.std.proofs.lemmas.List.{append-nil}
 use Rattle.llrp_tool.specs.Listing.{end_text}
 use Rattle.llrp_tool.proofs.TextLemmas.{grown_thrice, with_part}

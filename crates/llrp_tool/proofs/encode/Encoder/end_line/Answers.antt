@@ -35,4 +35,4 @@ pub returns-in_ok-hand_on_pieces-in-Ok-clause-stands : goal.returns-in_ok-hand_o
 returns-in_ok-hand_on_pieces-in-Ok-clause-stands g c =
     let says : SaysMessage (Ended (c.args.self.now.line.items ++ c.args.part.now)) (0, c.in-Ok.message) = rw c.in-Ok.is at c.in_ok-reason.ensures.read in
     let appends : AppendsFrame c.args.self.now.pending c.args.self.now.out.items c.append_frame.new.out.items = rw (c.in_ok-reason.ensures.pending, c.in_ok-reason.ensures.out) at c.in_ok-append_frame-in-Ok.ensures.appended in
-    λ limit start text le n s. rw (c.in_ok-reason.ensures.number, c.clear.ensures.items) (line_more c.args.part.now c.in-Ok.message c.append_frame.new.out.items c.hand_on_pieces.new.out.items s n says appends c.in_ok-hand_on_pieces-in-Ok.ensures.handed)
+    λ limit start text le n s. rw (c.in_ok-reason.ensures.number, c.clear.ensures.items) (line_more c.args.part.now c.in-Ok.message c.append_frame.new.out.items c.hand_on_pieces.new.gathered.items s n says appends c.in_ok-hand_on_pieces-in-Ok.ensures.handed)

@@ -1,4 +1,4 @@
-use Rattle.std.proofs.Common.{◌≡◌, ◌*◌, ◌+◌, ◌/◌, ◌%◌, ◌^◌, ◌<◌, get_or, bit_and, arith, refl, ap, sym, ◌∙◌}
+use Rattle.std.proofs.Common.{◌≡◌, ◌*◌, ◌+◌, ◌/◌, ◌^◌, ◌<◌, get_or, arith, refl, ◌∙◌}
 use Rattle.std.proofs.lemmas.Nat.{and_mask}
 use Rattle.llrp_tool.specs.Items.{reserved_field, version_field, type_field, id_field}
 use Rattle.llrp_tool.proofs.HeaderLemmas.{AllOctets, value-two_octets}
