@@ -1,4 +1,4 @@
--- How a stream of bytes is cut into frames by their length fields (LLRP 1.1, section 16.1).
+-- How a stream of bytes is cut into frames by their length fields (LLRP 1.1, section 17).
 use Rattle.std.specs.Prelude.{◌≡◌, ℕ, ◌<◌, ◌≤◌, ◌⊎◌, List, [], ◌++◌, length}
 use Rattle.std.specs.List.{flat_map, AllByRecursion}
 use Rattle.tag_bits.specs.Digits.{value, digits_of_bytes, field}

@@ -1,4 +1,4 @@
--- The frame of a message: the octets that it spells (LLRP 1.1, section 16.1).
+-- The frame of a message: the octets that it spells (LLRP 1.1, section 17).
 use Rattle.std.specs.Prelude.{◌≡◌, ℕ, ◌^◌, ◌<◌, ◌≤◌, ◌⊎◌, Bool, List, ◌++◌, length}
 use Rattle.std.specs.List.{All}
 use Rattle.tag_bits.specs.Digits.{digits, digits_of_bytes}

@@ -1,4 +1,4 @@
--- The kinds of message: their types and names (LLRP 1.1, section 16).
+-- The kinds of message: their types and names (LLRP 1.1, section 17).
 use Rattle.std.specs.Prelude.{◌≢◌, ℕ, List, codes}
 use Rattle.llrp_tool.specs.declared.message.MsgKind.{MsgKind}
 use Rattle.llrp_tool.specs.declared.message.MsgKind.TheVariants.{CloseConnection, GetReport, Keepalive, EnableEventsAndReports, KeepaliveAck}

@@ -189,7 +189,7 @@ impl Encoder {
     }
 }
 
-/// Writes the octets of the messages whose listing the source gives (LLRP 1.1, section 16.1). The
+/// Writes the octets of the messages whose listing the source gives (LLRP 1.1, section 17). The
 /// limit, in octets, is that of each message: each kind that this crate knows spells ten.
 ///
 /// A message is closed once the line after its own was read, or at the end. The errors are

@@ -41,7 +41,7 @@ pub fn msg_of(number: u16) -> Option<MsgKind>
 }
 
 impl MsgKind {
-    /// The message type in a frame's header (LLRP 1.1, section 16.1).
+    /// The message type in a frame's header (LLRP 1.1, section 17).
     #[tactic(auto, unfolding(crate::specs::Schema::number_of))]
     pub fn number(self) -> u16
         ensures { result ≡ number_of self }
