@@ -4,7 +4,7 @@ ghost use Rattle.std.specs.Prelude.{◌≡◌, IfNone, IfSome};
 ghost use Rattle.llrp_tool.specs.Schema.{IsNoNumber, name_of, number_of};
 
 /// The kinds of message that this crate knows: those without fields or parameters (LLRP 1.1,
-/// section 16).
+/// section 17).
 #[derive(Clone, Copy, Debug, PartialEq, Eq)]
 pub enum MsgKind {
     CloseConnection,
