@@ -1,0 +1,229 @@
+//! The rows of the messages (LLRP 1.1, section 17.1).
+
+ghost use Rattle.std.specs.Prelude.{◌≡◌};
+ghost use Rattle.llrp_schema.specs.Schema.{kind_rule, message_rule};
+
+use crate::kinds::{Definition, Field, Group, MsgKind, ParamKind, Tail};
+use crate::rows::{any_number, at_most_one, field, one, reserved};
+
+static SET_READER_CONFIG: Definition = Definition {
+    number: 3,
+    name: "SET_READER_CONFIG",
+    fields: &[field!("ResetToFactoryDefault", 1), reserved!(7)],
+    tail: Tail::Absent,
+    groups: &[
+        at_most_one!(KeepaliveSpec),
+        at_most_one!(EventsAndReports),
+        at_most_one!(RoReportSpec),
+        at_most_one!(ReaderEventNotificationSpec),
+        any_number!(AntennaConfiguration),
+    ],
+};
+
+static CLOSE_CONNECTION_RESPONSE: Definition = Definition {
+    number: 4,
+    name: "CLOSE_CONNECTION_RESPONSE",
+    fields: &[],
+    tail: Tail::Absent,
+    groups: &[one!(LlrpStatus)],
+};
+
+static SET_READER_CONFIG_RESPONSE: Definition = Definition {
+    number: 13,
+    name: "SET_READER_CONFIG_RESPONSE",
+    fields: &[],
+    tail: Tail::Absent,
+    groups: &[one!(LlrpStatus)],
+};
+
+static CLOSE_CONNECTION: Definition = Definition {
+    number: 14,
+    name: "CLOSE_CONNECTION",
+    fields: &[],
+    tail: Tail::Absent,
+    groups: &[],
+};
+
+static ADD_RO_SPEC: Definition = Definition {
+    number: 20,
+    name: "ADD_ROSPEC",
+    fields: &[],
+    tail: Tail::Absent,
+    groups: &[one!(RoSpec)],
+};
+
+static DELETE_RO_SPEC: Definition = Definition {
+    number: 21,
+    name: "DELETE_ROSPEC",
+    fields: &[field!("ROSpecID", 32)],
+    tail: Tail::Absent,
+    groups: &[],
+};
+
+static START_RO_SPEC: Definition = Definition {
+    number: 22,
+    name: "START_ROSPEC",
+    fields: &[field!("ROSpecID", 32)],
+    tail: Tail::Absent,
+    groups: &[],
+};
+
+static STOP_RO_SPEC: Definition = Definition {
+    number: 23,
+    name: "STOP_ROSPEC",
+    fields: &[field!("ROSpecID", 32)],
+    tail: Tail::Absent,
+    groups: &[],
+};
+
+static ENABLE_RO_SPEC: Definition = Definition {
+    number: 24,
+    name: "ENABLE_ROSPEC",
+    fields: &[field!("ROSpecID", 32)],
+    tail: Tail::Absent,
+    groups: &[],
+};
+
+static DISABLE_RO_SPEC: Definition = Definition {
+    number: 25,
+    name: "DISABLE_ROSPEC",
+    fields: &[field!("ROSpecID", 32)],
+    tail: Tail::Absent,
+    groups: &[],
+};
+
+static ADD_RO_SPEC_RESPONSE: Definition = Definition {
+    number: 30,
+    name: "ADD_ROSPEC_RESPONSE",
+    fields: &[],
+    tail: Tail::Absent,
+    groups: &[one!(LlrpStatus)],
+};
+
+static DELETE_RO_SPEC_RESPONSE: Definition = Definition {
+    number: 31,
+    name: "DELETE_ROSPEC_RESPONSE",
+    fields: &[],
+    tail: Tail::Absent,
+    groups: &[one!(LlrpStatus)],
+};
+
+static START_RO_SPEC_RESPONSE: Definition = Definition {
+    number: 32,
+    name: "START_ROSPEC_RESPONSE",
+    fields: &[],
+    tail: Tail::Absent,
+    groups: &[one!(LlrpStatus)],
+};
+
+static STOP_RO_SPEC_RESPONSE: Definition = Definition {
+    number: 33,
+    name: "STOP_ROSPEC_RESPONSE",
+    fields: &[],
+    tail: Tail::Absent,
+    groups: &[one!(LlrpStatus)],
+};
+
+static ENABLE_RO_SPEC_RESPONSE: Definition = Definition {
+    number: 34,
+    name: "ENABLE_ROSPEC_RESPONSE",
+    fields: &[],
+    tail: Tail::Absent,
+    groups: &[one!(LlrpStatus)],
+};
+
+static DISABLE_RO_SPEC_RESPONSE: Definition = Definition {
+    number: 35,
+    name: "DISABLE_ROSPEC_RESPONSE",
+    fields: &[],
+    tail: Tail::Absent,
+    groups: &[one!(LlrpStatus)],
+};
+
+static GET_REPORT: Definition = Definition {
+    number: 60,
+    name: "GET_REPORT",
+    fields: &[],
+    tail: Tail::Absent,
+    groups: &[],
+};
+
+static RO_ACCESS_REPORT: Definition = Definition {
+    number: 61,
+    name: "RO_ACCESS_REPORT",
+    fields: &[],
+    tail: Tail::Absent,
+    groups: &[any_number!(TagReportData)],
+};
+
+static KEEPALIVE: Definition = Definition {
+    number: 62,
+    name: "KEEPALIVE",
+    fields: &[],
+    tail: Tail::Absent,
+    groups: &[],
+};
+
+static READER_EVENT_NOTIFICATION: Definition = Definition {
+    number: 63,
+    name: "READER_EVENT_NOTIFICATION",
+    fields: &[],
+    tail: Tail::Absent,
+    groups: &[one!(ReaderEventNotificationData)],
+};
+
+static ENABLE_EVENTS_AND_REPORTS: Definition = Definition {
+    number: 64,
+    name: "ENABLE_EVENTS_AND_REPORTS",
+    fields: &[],
+    tail: Tail::Absent,
+    groups: &[],
+};
+
+static KEEPALIVE_ACK: Definition = Definition {
+    number: 72,
+    name: "KEEPALIVE_ACK",
+    fields: &[],
+    tail: Tail::Absent,
+    groups: &[],
+};
+
+static ERROR_MESSAGE: Definition = Definition {
+    number: 100,
+    name: "ERROR_MESSAGE",
+    fields: &[],
+    tail: Tail::Absent,
+    groups: &[one!(LlrpStatus)],
+};
+
+/// The row of a message.
+#[tactic(auto, unfolding(crate::specs::Schema::message_rule))]
+pub fn message(kind: MsgKind) -> &'static Definition
+    ensures { kind_rule result.now ≡ message_rule kind }
+{
+    match kind {
+        MsgKind::SetReaderConfig => &SET_READER_CONFIG,
+        MsgKind::CloseConnectionResponse => &CLOSE_CONNECTION_RESPONSE,
+        MsgKind::SetReaderConfigResponse => &SET_READER_CONFIG_RESPONSE,
+        MsgKind::CloseConnection => &CLOSE_CONNECTION,
+        MsgKind::AddRoSpec => &ADD_RO_SPEC,
+        MsgKind::DeleteRoSpec => &DELETE_RO_SPEC,
+        MsgKind::StartRoSpec => &START_RO_SPEC,
+        MsgKind::StopRoSpec => &STOP_RO_SPEC,
+        MsgKind::EnableRoSpec => &ENABLE_RO_SPEC,
+        MsgKind::DisableRoSpec => &DISABLE_RO_SPEC,
+        MsgKind::AddRoSpecResponse => &ADD_RO_SPEC_RESPONSE,
+        MsgKind::DeleteRoSpecResponse => &DELETE_RO_SPEC_RESPONSE,
+        MsgKind::StartRoSpecResponse => &START_RO_SPEC_RESPONSE,
+        MsgKind::StopRoSpecResponse => &STOP_RO_SPEC_RESPONSE,
+        MsgKind::EnableRoSpecResponse => &ENABLE_RO_SPEC_RESPONSE,
+        MsgKind::DisableRoSpecResponse => &DISABLE_RO_SPEC_RESPONSE,
+        MsgKind::GetReport => &GET_REPORT,
+        MsgKind::RoAccessReport => &RO_ACCESS_REPORT,
+        MsgKind::Keepalive => &KEEPALIVE,
+        MsgKind::ReaderEventNotification => &READER_EVENT_NOTIFICATION,
+        MsgKind::EnableEventsAndReports => &ENABLE_EVENTS_AND_REPORTS,
+        MsgKind::KeepaliveAck => &KEEPALIVE_ACK,
+        MsgKind::ErrorMessage => &ERROR_MESSAGE,
+    }
+}
