@@ -1,5 +1,5 @@
 -- Lemmas on searches and tests over lists, for the tables.
-use Rattle.std.proofs.Common.{◌≡◌, ℕ, ◌<◌, Bool, true, false, not, ◌&&◌, List, [], ◌∷◌, Option, Some, None, filter, find, cond, length, ◌==◌, nat_eq, refl, sym, ap, ◌∙◌, eq-eqb, eqb-true, subst, arith, slice_index_or}
+use Rattle.std.proofs.Common.{◌≡◌, ℕ, ◌<◌, Bool, true, false, not, ◌&&◌, ◌||◌, List, [], ◌∷◌, Option, Some, None, filter, find, cond, length, ◌==◌, nat_eq, refl, sym, ap, ◌∙◌, eq-eqb, eqb-true, subst, arith, slice_index_or}
 use Rattle.std.proofs.lemmas.Option.{same_Some, none-some}
 use Rattle.std.proofs.lemmas.Bool.{and_parts}
 use Rattle.std.specs.List.{list_all, All, AllPairs, Contains}
@@ -72,3 +72,20 @@ not_below_zero place below = omega arith
 pub AllPairs-from_pairs_all : {X : Type 0} (test : X → X → Bool) (R : X → X → Type 0) → ((x y : X) → test x y ≡ true → R x y) → (xs : List X) → pairs_all test xs ≡ true → AllPairs R xs
 AllPairs-from_pairs_all test R tells [] pass = λ i j d before below. absurd (not_below_zero j below)
 AllPairs-from_pairs_all test R tells (x ∷ xs) pass = let parts = and_parts (list_all (test x) xs) (pairs_all test xs) pass in AllPairs-cons R x xs (All-from_list_all (test x) (R x) (tells x) xs parts.0) (AllPairs-from_pairs_all test R tells xs parts.1)
+
+-- a negation that holds
+pub not_true : (b : Bool) → not b ≡ true → b ≡ false
+not_true true fails = sym fails
+not_true false fails = refl
+
+-- what follows where a condition holds
+pub implied : (a b : Bool) → (not a || b) ≡ true → a ≡ true → b ≡ true
+implied true b test holds = test
+implied false b test holds = cc holds
+
+-- two values that are equal on each side of a test
+pub same_split : {X : Type 0} (p q : Bool) (x y : X) → cond p None (Some x) ≡ cond q None (Some y) → cond p (Some x) None ≡ cond q (Some y) None → x ≡ y
+same_split true true x y left right = same_Some x y right
+same_split true false x y left right = absurd (none-some y left)
+same_split false true x y left right = absurd (none-some x (sym left))
+same_split false false x y left right = same_Some x y left

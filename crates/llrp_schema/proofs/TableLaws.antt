@@ -1,16 +1,20 @@
 -- The laws of the tables: each is a test that the checker computes at every row, and the fact that the test tells.
-use Rattle.std.proofs.Common.{◌≡◌, ℕ, ◌<◌, ◌≤◌, ◌%◌, ◌^◌, ◌-◌, ◌↔◌, Bool, true, false, not, ◌&&◌, ◌||◌, List, [], ◌∷◌, Option, Some, None, IfSome, cond, length, find, filter, nat_eq, nat_lt, nat_le, refl, sym, ap, ◌∙◌, eq-eqb, eqb-true, codes}
+use Rattle.std.proofs.Common.{◌≡◌, ℕ, ◌<◌, ◌≤◌, ◌%◌, ◌^◌, ◌-◌, ◌↔◌, Bool, true, false, not, ◌&&◌, ◌||◌, List, [], ◌∷◌, Option, Some, None, IfSome, cond, length, find, filter, nat_eq, nat_lt, nat_le, ◌==◌, refl, sym, ap, ◌∙◌, eq-eqb, eqb-true, codes}
 use Rattle.std.proofs.lemmas.Option.{same_Some, none-some}
+use Rattle.std.proofs.lemmas.Bool.{and_parts, ltb-true, leb-true}
+use Rattle.std.proofs.lemmas.List.Elements.{All-contains}
 use Rattle.std.specs.List.{list_all, All, AllPairs, Contains}
-use Rattle.std.specs.Cmp.Lexicographic.{pointwise}
+use Rattle.std.specs.Cmp.Lexicographic.{pointwise, same_text}
 use Rattle.llrp_schema.specs.declared.kinds.MsgKind.{MsgKind}
 use Rattle.llrp_schema.specs.declared.kinds.MsgKind.TheVariants.{SetReaderConfig}
 use Rattle.llrp_schema.specs.declared.kinds.ParamKind.{ParamKind}
-use Rattle.llrp_schema.specs.declared.kinds.ParamKind.TheVariants.{AntennaId}
+use Rattle.llrp_schema.specs.declared.kinds.ParamKind.TheVariants.{AntennaId, EpcData}
+use Rattle.llrp_schema.specs.declared.kinds.Tail.{Tail}
+use Rattle.llrp_schema.specs.declared.kinds.Tail.TheVariants.{Absent, Words, Text, Bits}
 use Rattle.llrp_schema.specs.declared.kinds.Kind.{Kind}
 use Rattle.llrp_schema.specs.declared.kinds.Kind.TheVariants.{Message, Parameter}
-use Rattle.llrp_schema.specs.Schema.{FieldRule, KindRule, number_of, name_of, fields_of, tail_of, groups_of, rule_of, message_rule, param_rule, message_kinds, param_kinds, is_tv, message_with_number, tlv_with_number, tv_with_number, message_with_name, param_with_name, bits_of, plain_fields_of}
-use Rattle.llrp_schema.proofs.SchemaLemmas.{find-all}
+use Rattle.llrp_schema.specs.Schema.{FieldRule, GroupRule, KindRule, field, number_of, name_of, fields_of, tail_of, groups_of, rule_of, message_rule, param_rule, message_kinds, param_kinds, is_tv, message_with_number, tlv_with_number, tv_with_number, message_with_name, param_with_name, bits_of, plain_fields_of}
+use Rattle.llrp_schema.proofs.SchemaLemmas.{find-all, find-passes, list_all-filter, not_true, implied, same_split, All-from_list_all, AllPairs-from_pairs_all, pairs_all}
 
 -- a message is found at its number
 pub message_at_number : (kind : MsgKind) → message_with_number (number_of (Message kind)) ≡ Some kind
@@ -48,13 +52,253 @@ unfolding name_of rule_of message_rule param_rule message_kinds message_with_nam
 no_message_at_name AntennaId = refl
 no_message_at_name _ = refl
 
--- a test of rows that passes at every listed kind passes at every kind
+-- a test of rows that passes at every listed message passes at every message
+pub every_message : (test : KindRule → Bool) → list_all (λ kind. test (rule_of (Message kind))) message_kinds ≡ true → (kind : MsgKind) → test (rule_of (Message kind)) ≡ true
+unfolding message_with_number
+every_message test pass kind = find-all (λ other. number_of (Message other) == number_of (Message kind)) (λ other. test (rule_of (Message other))) message_kinds kind pass (message_at_number kind)
+
+-- and one that passes at every listed parameter at every parameter
+pub every_parameter : (test : KindRule → Bool) → list_all (λ kind. test (rule_of (Parameter kind))) param_kinds ≡ true → (kind : ParamKind) → test (rule_of (Parameter kind)) ≡ true
+unfolding param_with_name
+every_parameter test pass kind = find-all (λ other. pointwise nat_eq (name_of (Parameter other)) (name_of (Parameter kind))) (λ other. test (rule_of (Parameter other))) param_kinds kind pass (param_at_name kind)
+
+-- both
 pub every_rule : (test : KindRule → Bool) → list_all (λ kind. test (rule_of (Message kind))) message_kinds ≡ true → list_all (λ kind. test (rule_of (Parameter kind))) param_kinds ≡ true → (kind : Kind) → test (rule_of kind) ≡ true
-unfolding message_with_number param_with_name
-every_rule test messages parameters (Message kind) = find-all (λ other. nat_eq (number_of (Message other)) (number_of (Message kind))) (λ other. test (rule_of (Message other))) message_kinds kind messages (message_at_number kind)
-every_rule test messages parameters (Parameter kind) = find-all (λ other. pointwise nat_eq (name_of (Parameter other)) (name_of (Parameter kind))) (λ other. test (rule_of (Parameter other))) param_kinds kind parameters (param_at_name kind)
+every_rule test messages parameters (Message kind) = every_message test messages kind
+every_rule test messages parameters (Parameter kind) = every_parameter test parameters kind
+
+-- what the look-ups find is exactly the kind with the number or the name
+pub message_found : (number : ℕ) (kind : MsgKind) → (message_with_number number ≡ Some kind) ↔ (number_of (Message kind) ≡ number)
+unfolding message_with_number
+message_found number kind =
+    ( (λ found. eqb-true (number_of (Message kind)) number (find-passes (λ other. number_of (Message other) == number) message_kinds kind found))
+    , (λ same. ap message_with_number (sym same) ∙ message_at_number kind) )
+
+pub tlv_found : (number : ℕ) (kind : ParamKind) → (tlv_with_number number ≡ Some kind) ↔ ((is_tv kind ≡ false) × (number_of (Parameter kind) ≡ number))
+unfolding tlv_with_number
+tlv_found number kind =
+    ( (λ found. ( not_true (is_tv kind) (find-all (λ other. number_of (Parameter other) == number) (λ other. not (is_tv other)) (filter (λ other. not (is_tv other)) param_kinds) kind (list_all-filter (λ other. not (is_tv other)) param_kinds) found)
+                , eqb-true (number_of (Parameter kind)) number (find-passes (λ other. number_of (Parameter other) == number) (filter (λ other. not (is_tv other)) param_kinds) kind found) ))
+    , (λ (long, same). ap tlv_with_number (sym same) ∙ tlv_at_number kind ∙ ap (λ b. cond b None (Some kind)) long) )
+
+pub tv_found : (number : ℕ) (kind : ParamKind) → (tv_with_number number ≡ Some kind) ↔ ((is_tv kind ≡ true) × (number_of (Parameter kind) ≡ number))
+unfolding tv_with_number
+tv_found number kind =
+    ( (λ found. ( find-all (λ other. number_of (Parameter other) == number) is_tv (filter is_tv param_kinds) kind (list_all-filter is_tv param_kinds) found
+                , eqb-true (number_of (Parameter kind)) number (find-passes (λ other. number_of (Parameter other) == number) (filter is_tv param_kinds) kind found) ))
+    , (λ (short, same). ap tv_with_number (sym same) ∙ tv_at_number kind ∙ ap (λ b. cond b (Some kind) None) short) )
+
+pub message_name_found : (name : List ℕ) (kind : MsgKind) → (message_with_name name ≡ Some kind) ↔ (name_of (Message kind) ≡ name)
+unfolding message_with_name
+message_name_found name kind =
+    ( (λ found. same_text (name_of (Message kind)) name (sym (find-passes (λ other. pointwise nat_eq (name_of (Message other)) name) message_kinds kind found)))
+    , (λ same. ap message_with_name (sym same) ∙ message_at_name kind) )
+
+pub param_name_found : (name : List ℕ) (kind : ParamKind) → (param_with_name name ≡ Some kind) ↔ (name_of (Parameter kind) ≡ name)
+unfolding param_with_name
+param_name_found name kind =
+    ( (λ found. same_text (name_of (Parameter kind)) name (sym (find-passes (λ other. pointwise nat_eq (name_of (Parameter other)) name) param_kinds kind found)))
+    , (λ same. ap param_with_name (sym same) ∙ param_at_name kind) )
+
+-- no two messages have one number
+pub message_numbers : (a b : MsgKind) → number_of (Message a) ≡ number_of (Message b) → a ≡ b
+message_numbers a b same = same_Some a b (sym (message_at_number a) ∙ ap message_with_number same ∙ message_at_number b)
+
+-- no two parameters have one number
+pub param_numbers : (a b : ParamKind) → number_of (Parameter a) ≡ number_of (Parameter b) → a ≡ b
+param_numbers a b same = same_split (is_tv a) (is_tv b) a b (sym (tlv_at_number a) ∙ ap tlv_with_number same ∙ tlv_at_number b) (sym (tv_at_number a) ∙ ap tv_with_number same ∙ tv_at_number b)
+
+-- no two kinds have one name
+pub names : (a b : Kind) → name_of a ≡ name_of b → a ≡ b
+names (Message a) (Message b) same = ap (λ kind. Message kind) (same_Some a b (sym (message_at_name a) ∙ ap message_with_name same ∙ message_at_name b))
+names (Message a) (Parameter b) same = absurd (none-some a (sym (no_message_at_name b) ∙ ap message_with_name (sym same) ∙ message_at_name a))
+names (Parameter a) (Message b) same = absurd (none-some b (sym (no_message_at_name a) ∙ ap message_with_name same ∙ message_at_name b))
+names (Parameter a) (Parameter b) same = ap (λ kind. Parameter kind) (same_Some a b (sym (param_at_name a) ∙ ap param_with_name same ∙ param_at_name b))
+
+-- the numbers fit a header
+pub message_number_fits : (kind : MsgKind) → number_of (Message kind) < 2 ^ 10
+unfolding number_of rule_of message_rule message_kinds
+message_number_fits kind = ltb-true (number_of (Message kind)) (2 ^ 10) (every_message (λ row. nat_lt row.number (2 ^ 10)) refl kind)
+
+pub param_number_fits : (kind : ParamKind) → number_of (Parameter kind) < 2 ^ 10
+unfolding number_of rule_of param_rule param_kinds
+param_number_fits kind = ltb-true (number_of (Parameter kind)) (2 ^ 10) (every_parameter (λ row. nat_lt row.number (2 ^ 10)) refl kind)
+
+-- whether a name begins with a capital letter
+abbrev begins_with_capital : List ℕ → Bool
+begins_with_capital [] = false
+begins_with_capital (c ∷ cs) = nat_le 65 c && nat_le c 90
+
+capital : (name : List ℕ) → begins_with_capital name ≡ true → (first : ℕ) × (rest : List ℕ) × (name ≡ first ∷ rest) × (65 ≤ first) × (first ≤ 90)
+capital [] test = cc test
+capital (c ∷ cs) test = let parts = and_parts (nat_le 65 c) (nat_le c 90) test in (c, cs, refl, leb-true 65 c parts.0, leb-true c 90 parts.1)
+
+-- names begin with a capital letter
+pub name_begins : (kind : Kind) → (first : ℕ) × (rest : List ℕ) × (name_of kind ≡ first ∷ rest) × (65 ≤ first) × (first ≤ 90)
+unfolding name_of rule_of message_rule param_rule message_kinds param_kinds
+name_begins kind = capital (name_of kind) (every_rule (λ row. begins_with_capital row.name) refl refl kind)
+
+visible : (c : ℕ) → (nat_le 33 c && nat_le c 126) ≡ true → (33 ≤ c) × (c ≤ 126)
+visible c test = let parts = and_parts (nat_le 33 c) (nat_le c 126) test in (leb-true 33 c parts.0, leb-true c 126 parts.1)
+
+-- names are of visible characters alone
+pub name_visible : (kind : Kind) → All (λ c. (33 ≤ c) × (c ≤ 126)) (name_of kind)
+unfolding name_of rule_of message_rule param_rule message_kinds param_kinds
+name_visible kind = All-from_list_all (λ c. nat_le 33 c && nat_le c 126) (λ c. (33 ≤ c) × (c ≤ 126)) visible (name_of kind) (every_rule (λ row. list_all (λ c. nat_le 33 c && nat_le c 126) row.name) refl refl kind)
+
+-- names have 32 characters at most
+pub name_short : (kind : Kind) → length (name_of kind) ≤ 32
+unfolding name_of rule_of message_rule param_rule message_kinds param_kinds
+name_short kind = leb-true (length (name_of kind)) 32 (every_rule (λ row. nat_le (length row.name) 32) refl refl kind)
 
 -- the fields of a kind fill whole octets
 pub whole_octets : (kind : Kind) → bits_of (fields_of kind) % 8 ≡ 0
 unfolding fields_of rule_of message_rule param_rule message_kinds param_kinds
 whole_octets kind = eqb-true (bits_of (fields_of kind) % 8) 0 (every_rule (λ row. nat_eq (bits_of row.fields % 8) 0) refl refl kind)
+
+-- the fields of a kind have 96 bits together at most
+pub few_bits : (kind : Kind) → bits_of (fields_of kind) ≤ 96
+unfolding fields_of rule_of message_rule param_rule message_kinds param_kinds
+few_bits kind = leb-true (bits_of (fields_of kind)) 96 (every_rule (λ row. nat_le (bits_of row.fields) 96) refl refl kind)
+
+-- a kind has twelve plain fields at most
+pub few_plain_fields : (kind : Kind) → length (plain_fields_of kind) ≤ 12
+unfolding fields_of rule_of message_rule param_rule message_kinds param_kinds
+few_plain_fields kind = leb-true (length (plain_fields_of kind)) 12 (every_rule (λ row. nat_le (length (filter (λ field. not field.reserved) row.fields)) 12) refl refl kind)
+
+-- a test of fields that passes at every row, and what it tells
+every_field : (test : FieldRule → Bool) (P : FieldRule → Type 0) → ((field : FieldRule) → test field ≡ true → P field) → ((kind : Kind) → list_all test (rule_of kind).fields ≡ true) → (kind : Kind) → All P (fields_of kind)
+unfolding fields_of
+every_field test P tells pass kind = All-from_list_all test P tells (fields_of kind) (pass kind)
+
+-- a field has 1 to 96 bits
+pub field_widths : (kind : Kind) → All (λ field. (1 ≤ field.width) × (field.width ≤ 96)) (fields_of kind)
+unfolding rule_of message_rule param_rule message_kinds param_kinds
+field_widths = every_field (λ field. nat_le 1 field.width && nat_le field.width 96) (λ field. (1 ≤ field.width) × (field.width ≤ 96)) (λ field test. let parts = and_parts (nat_le 1 field.width) (nat_le field.width 96) test in (leb-true 1 field.width parts.0, leb-true field.width 96 parts.1)) (every_rule (λ row. list_all (λ field. nat_le 1 field.width && nat_le field.width 96) row.fields) refl refl)
+
+-- the greatest value of a field fits its bits
+pub field_values : (kind : Kind) → All (λ field. field.greatest < 2 ^ field.width) (fields_of kind)
+unfolding rule_of message_rule param_rule message_kinds param_kinds
+field_values = every_field (λ field. nat_lt field.greatest (2 ^ field.width)) (λ field. field.greatest < 2 ^ field.width) (λ field. ltb-true field.greatest (2 ^ field.width)) (every_rule (λ row. list_all (λ field. nat_lt field.greatest (2 ^ field.width)) row.fields) refl refl)
+
+-- a reserved field holds zero alone
+pub reserved_fields : (kind : Kind) → All (λ field. field.reserved ≡ true → field.greatest ≡ 0) (fields_of kind)
+unfolding rule_of message_rule param_rule message_kinds param_kinds
+reserved_fields = every_field (λ field. not field.reserved || nat_eq field.greatest 0) (λ field. field.reserved ≡ true → field.greatest ≡ 0) (λ field test is_reserved. eqb-true field.greatest 0 (implied field.reserved (nat_eq field.greatest 0) test is_reserved)) (every_rule (λ row. list_all (λ field. not field.reserved || nat_eq field.greatest 0) row.fields) refl refl)
+
+-- a signed field is plain, of 8 bits, and each of its values is lawful
+pub signed_fields : (kind : Kind) → All (λ field. field.signed ≡ true → (field.reserved ≡ false) × (field.width ≡ 8) × (field.greatest ≡ 255)) (fields_of kind)
+unfolding rule_of message_rule param_rule message_kinds param_kinds
+signed_fields = every_field (λ field. not field.signed || (not field.reserved && (nat_eq field.width 8 && nat_eq field.greatest 255))) (λ field. field.signed ≡ true → (field.reserved ≡ false) × (field.width ≡ 8) × (field.greatest ≡ 255)) tells (every_rule (λ row. list_all (λ field. not field.signed || (not field.reserved && (nat_eq field.width 8 && nat_eq field.greatest 255))) row.fields) refl refl)
+  where
+    tells : (field : FieldRule) → (not field.signed || (not field.reserved && (nat_eq field.width 8 && nat_eq field.greatest 255))) ≡ true → field.signed ≡ true → (field.reserved ≡ false) × (field.width ≡ 8) × (field.greatest ≡ 255)
+    tells field test is_signed =
+        let all = implied field.signed (not field.reserved && (nat_eq field.width 8 && nat_eq field.greatest 255)) test is_signed in
+        let parts = and_parts (not field.reserved) (nat_eq field.width 8 && nat_eq field.greatest 255) all in
+        let numbers = and_parts (nat_eq field.width 8) (nat_eq field.greatest 255) parts.1 in
+        (not_true field.reserved parts.0, eqb-true field.width 8 numbers.0, eqb-true field.greatest 255 numbers.1)
+
+-- whether the fields are one alone, which is plain and of which every value is lawful
+abbrev is_one_plain : List FieldRule → Bool
+is_one_plain [] = false
+is_one_plain (field ∷ []) = not field.reserved && nat_eq field.greatest (2 ^ field.width - 1)
+is_one_plain (field ∷ other ∷ more) = false
+
+one_plain : (fields : List FieldRule) → is_one_plain fields ≡ true → (field : FieldRule) × (fields ≡ field ∷ []) × (field.reserved ≡ false) × (field.greatest ≡ 2 ^ field.width - 1)
+one_plain [] test = cc test
+one_plain (field ∷ []) test = let parts = and_parts (not field.reserved) (nat_eq field.greatest (2 ^ field.width - 1)) test in (field, refl, not_true field.reserved parts.0, eqb-true field.greatest (2 ^ field.width - 1) parts.1)
+one_plain (field ∷ other ∷ more) test = cc test
+
+-- a parameter with a type and a value alone has one field, which is plain, and whose values are all lawful
+pub tv_field : (kind : ParamKind) → is_tv kind ≡ true → (field : FieldRule) × (fields_of (Parameter kind) ≡ field ∷ []) × (field.reserved ≡ false) × (field.greatest ≡ 2 ^ field.width - 1)
+unfolding is_tv number_of fields_of rule_of param_rule param_kinds
+tv_field kind short = one_plain (fields_of (Parameter kind)) (implied (nat_lt (number_of (Parameter kind)) 128) (is_one_plain (fields_of (Parameter kind))) (every_parameter (λ row. not (nat_lt row.number 128) || is_one_plain row.fields) refl kind) short)
+
+-- whether a kind has no tail
+abbrev is_absent : Tail → Bool
+is_absent Absent = true
+is_absent Words = false
+is_absent Text = false
+is_absent Bits = false
+
+absent : (tail : Tail) → is_absent tail ≡ true → tail ≡ Absent
+absent Absent test = refl
+absent Words test = cc test
+absent Text test = cc test
+absent Bits test = cc test
+
+-- it has no tail
+pub tv_tail : (kind : ParamKind) → is_tv kind ≡ true → tail_of (Parameter kind) ≡ Absent
+unfolding is_tv number_of tail_of rule_of param_rule param_kinds
+tv_tail kind short = absent (tail_of (Parameter kind)) (implied (nat_lt (number_of (Parameter kind)) 128) (is_absent (tail_of (Parameter kind))) (every_parameter (λ row. not (nat_lt row.number 128) || is_absent row.tail) refl kind) short)
+
+abbrev is_empty : {X : Type 0} → List X → Bool
+is_empty [] = true
+is_empty (x ∷ xs) = false
+
+empty : {X : Type 0} (xs : List X) → is_empty xs ≡ true → xs ≡ []
+empty [] test = refl
+empty (x ∷ xs) test = cc test
+
+-- and no group
+pub tv_groups : (kind : ParamKind) → is_tv kind ≡ true → groups_of (Parameter kind) ≡ []
+unfolding is_tv number_of groups_of rule_of param_rule param_kinds
+tv_groups kind short = empty (groups_of (Parameter kind)) (implied (nat_lt (number_of (Parameter kind)) 128) (is_empty (groups_of (Parameter kind))) (every_parameter (λ row. not (nat_lt row.number 128) || is_empty row.groups) refl kind) short)
+
+-- a message has no tail
+pub message_tail : (kind : MsgKind) → tail_of (Message kind) ≡ Absent
+unfolding tail_of rule_of message_rule message_kinds
+message_tail kind = absent (tail_of (Message kind)) (every_message (λ row. is_absent row.tail) refl kind)
+
+-- bits are counted by a field
+pub bits_field : (kind : ParamKind) → tail_of (Parameter kind) ≡ Bits → fields_of (Parameter kind) ≡ field "BitCount" 16 ∷ []
+unfolding tail_of fields_of rule_of param_rule
+bits_field EpcData same = refl
+bits_field _ same = cc same
+
+-- a test of groups that passes at every row, and what it tells
+every_group : (test : GroupRule → Bool) (P : GroupRule → Type 0) → ((group : GroupRule) → test group ≡ true → P group) → ((kind : Kind) → list_all test (rule_of kind).groups ≡ true) → (kind : Kind) → All P (groups_of kind)
+unfolding groups_of
+every_group test P tells pass kind = All-from_list_all test P tells (groups_of kind) (pass kind)
+
+-- whether a least number is at most the greatest, where there is one
+abbrev is_within : ℕ → Option ℕ → Bool
+is_within least None = true
+is_within least (Some most) = nat_le least most
+
+within : (least : ℕ) (most : Option ℕ) → is_within least most ≡ true → IfSome most (λ most. least ≤ most)
+within least None test = tt
+within least (Some most) test = leb-true least most test
+
+-- the least number of a group is at most its greatest
+pub group_bounds : (kind : Kind) → All (λ group. IfSome group.most (λ most. group.least ≤ most)) (groups_of kind)
+unfolding rule_of message_rule param_rule message_kinds param_kinds
+group_bounds = every_group (λ group. is_within group.least group.most) (λ group. IfSome group.most (λ most. group.least ≤ most)) (λ group. within group.least group.most) (every_rule (λ row. list_all (λ group. is_within group.least group.most) row.groups) refl refl)
+
+-- a group has members
+pub group_members : (kind : Kind) → All (λ group. 1 ≤ length group.members) (groups_of kind)
+unfolding rule_of message_rule param_rule message_kinds param_kinds
+group_members = every_group (λ group. nat_le 1 (length group.members)) (λ group. 1 ≤ length group.members) (λ group. leb-true 1 (length group.members)) (every_rule (λ row. list_all (λ group. nat_le 1 (length group.members)) row.groups) refl refl)
+
+-- whether two parameters have two numbers
+abbrev has_other_number : ParamKind → ParamKind → Bool
+has_other_number a b = not (nat_eq (number_of (Parameter a)) (number_of (Parameter b)))
+
+-- whether two groups share no number
+abbrev is_apart : GroupRule → GroupRule → Bool
+is_apart g h = list_all (λ a. list_all (has_other_number a) h.members) g.members
+
+apart : (g h : GroupRule) → is_apart g h ≡ true → (child : ParamKind) → Contains g.members child → Contains h.members child → ⊥
+apart g h test child left right =
+    let in_left = All-from_list_all (λ a. list_all (has_other_number a) h.members) (λ a. list_all (has_other_number a) h.members ≡ true) (λ a passes. passes) g.members test in
+    let row = All-contains (λ a. list_all (has_other_number a) h.members ≡ true) g.members child in_left left in
+    let in_right = All-from_list_all (has_other_number child) (λ b. has_other_number child b ≡ true) (λ b passes. passes) h.members row in
+    other_than_itself child (All-contains (λ b. has_other_number child b ≡ true) h.members child in_right right)
+  where
+    other_than_itself : (a : ParamKind) → has_other_number a a ≡ true → ⊥
+    other_than_itself a test = cc (not_true (nat_eq (number_of (Parameter a)) (number_of (Parameter a))) test, eq-eqb (number_of (Parameter a)) (number_of (Parameter a)) refl)
+
+-- no kind of child stands in two groups of one parent
+pub groups_apart : (kind : Kind) → AllPairs (λ g h. (child : ParamKind) → Contains g.members child → Contains h.members child → ⊥) (groups_of kind)
+unfolding groups_of rule_of message_rule param_rule message_kinds param_kinds number_of
+groups_apart kind = AllPairs-from_pairs_all is_apart (λ g h. (child : ParamKind) → Contains g.members child → Contains h.members child → ⊥) apart (groups_of kind) (every_rule (λ row. pairs_all is_apart row.groups) refl refl kind)

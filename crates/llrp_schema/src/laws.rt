@@ -1,0 +1,139 @@
+//! Laws of the tables, over every kind.
+
+ghost use Rattle.std.specs.Prelude.{◌≡◌, ◌↔◌, ◌≤◌, ◌<◌, ◌%◌, ◌^◌, ◌-◌, ℕ, List, [], ◌∷◌, true, false, length, IfSome, All, AllPairs, Contains};
+ghost use Rattle.llrp_schema.specs.declared.kinds.MsgKind.{MsgKind};
+ghost use Rattle.llrp_schema.specs.declared.kinds.ParamKind.{ParamKind};
+ghost use Rattle.llrp_schema.specs.declared.kinds.Kind.{Kind};
+ghost use Rattle.llrp_schema.specs.declared.kinds.Kind.TheVariants.{Message, Parameter};
+ghost use Rattle.llrp_schema.specs.declared.kinds.Tail.TheVariants.{Absent, Bits};
+ghost use Rattle.llrp_schema.specs.Schema.{FieldRule, number_of, name_of, fields_of, plain_fields_of, bits_of, tail_of, groups_of, is_tv, field, message_with_number, tlv_with_number, tv_with_number, message_with_name, param_with_name};
+
+/// No two messages have one number, and no two parameters.
+#[tactic(auto, using(crate::proofs::TableLaws::message_numbers, crate::proofs::TableLaws::param_numbers))]
+pub fn numbers_are_distinct()
+    ensures message { (a b : MsgKind) → number_of (Message a) ≡ number_of (Message b) → a ≡ b }
+    ensures parameter { (a b : ParamKind) → number_of (Parameter a) ≡ number_of (Parameter b) → a ≡ b }
+{}
+
+/// No two kinds have one name.
+#[tactic(auto, using(crate::proofs::TableLaws::names))]
+pub fn names_are_distinct()
+    ensures { (a b : Kind) → name_of a ≡ name_of b → a ≡ b }
+{}
+
+/// A search by number finds exactly the kind with this number.
+#[tactic(auto, using(crate::proofs::TableLaws::message_found))]
+pub fn numbers_are_found()
+    ensures message {
+        (number : ℕ) (kind : MsgKind) →
+        (message_with_number number ≡ Some kind) ↔ (number_of (Message kind) ≡ number)
+    }
+    ensures tlv {
+        (number : ℕ) (kind : ParamKind) →
+        (tlv_with_number number ≡ Some kind) ↔
+        ((is_tv kind ≡ false) × (number_of (Parameter kind) ≡ number))
+    }
+    ensures tv {
+        (number : ℕ) (kind : ParamKind) →
+        (tv_with_number number ≡ Some kind) ↔
+        ((is_tv kind ≡ true) × (number_of (Parameter kind) ≡ number))
+    }
+{}
+
+/// A search by name finds exactly the kind with this name.
+#[tactic(auto, using(crate::proofs::TableLaws::message_name_found, crate::proofs::TableLaws::param_name_found))]
+pub fn names_are_found()
+    ensures message {
+        (name : List ℕ) (kind : MsgKind) →
+        (message_with_name name ≡ Some kind) ↔ (name_of (Message kind) ≡ name)
+    }
+    ensures parameter {
+        (name : List ℕ) (kind : ParamKind) →
+        (param_with_name name ≡ Some kind) ↔ (name_of (Parameter kind) ≡ name)
+    }
+{}
+
+/// The number of a message, or of a parameter with a length, fits the 10 bits of its header; that of
+/// a parameter with a type and a value alone is below 128 by definition, and so fits its 7.
+#[tactic(auto, using(crate::proofs::TableLaws::message_number_fits, crate::proofs::TableLaws::param_number_fits))]
+pub fn numbers_fit_headers()
+    ensures message { (kind : MsgKind) → number_of (Message kind) < 2 ^ 10 }
+    ensures parameter { (kind : ParamKind) → number_of (Parameter kind) < 2 ^ 10 }
+{}
+
+/// A name begins with a capital letter, has no space and no control character, and is short.
+#[tactic(auto, using(crate::proofs::TableLaws::name_begins, crate::proofs::TableLaws::name_visible, crate::proofs::TableLaws::name_short))]
+pub fn names_are_words()
+    ensures begins {
+        (kind : Kind) →
+        (first : ℕ) × (rest : List ℕ) × (name_of kind ≡ first ∷ rest) × (65 ≤ first) × (first ≤ 90)
+    }
+    ensures visible { (kind : Kind) → All (λ c. (33 ≤ c) × (c ≤ 126)) (name_of kind) }
+    ensures short { (kind : Kind) → length (name_of kind) ≤ 32 }
+{}
+
+/// The fields of a kind fill whole octets, twelve at most; a kind has at most twelve plain fields.
+#[tactic(auto, using(crate::proofs::TableLaws::whole_octets, crate::proofs::TableLaws::few_bits, crate::proofs::TableLaws::few_plain_fields))]
+pub fn fields_fill_octets()
+    ensures whole { (kind : Kind) → bits_of (fields_of kind) % 8 ≡ 0 }
+    ensures few { (kind : Kind) → bits_of (fields_of kind) ≤ 96 }
+    ensures plain { (kind : Kind) → length (plain_fields_of kind) ≤ 12 }
+{}
+
+/// A field has 1 to 96 bits, and its greatest value fits them. A reserved field holds zero alone. A
+/// signed field is plain and has 8 bits, all of whose values are lawful.
+#[tactic(auto, using(crate::proofs::TableLaws::field_widths, crate::proofs::TableLaws::field_values, crate::proofs::TableLaws::reserved_fields, crate::proofs::TableLaws::signed_fields))]
+pub fn fields_are_sound()
+    ensures width { (kind : Kind) → All (λ field. (1 ≤ field.width) × (field.width ≤ 96)) (fields_of kind) }
+    ensures value { (kind : Kind) → All (λ field. field.greatest < 2 ^ field.width) (fields_of kind) }
+    ensures reserved {
+        (kind : Kind) → All (λ field. field.reserved ≡ true → field.greatest ≡ 0) (fields_of kind)
+    }
+    ensures signed {
+        (kind : Kind) →
+        All
+            (λ field. field.signed ≡ true →
+                (field.reserved ≡ false) × (field.width ≡ 8) × (field.greatest ≡ 255))
+            (fields_of kind)
+    }
+{}
+
+/// A parameter with a type and a value alone has one plain field, all of whose values are lawful, no
+/// tail and no children.
+#[tactic(auto, using(crate::proofs::TableLaws::tv_field, crate::proofs::TableLaws::tv_tail, crate::proofs::TableLaws::tv_groups))]
+pub fn tv_is_one_field()
+    ensures field {
+        (kind : ParamKind) → is_tv kind ≡ true →
+        (field : FieldRule) × (fields_of (Parameter kind) ≡ field ∷ []) ×
+        (field.reserved ≡ false) × (field.greatest ≡ 2 ^ field.width - 1)
+    }
+    ensures tail { (kind : ParamKind) → is_tv kind ≡ true → tail_of (Parameter kind) ≡ Absent }
+    ensures groups { (kind : ParamKind) → is_tv kind ≡ true → groups_of (Parameter kind) ≡ [] }
+{}
+
+/// A message has no tail. A parameter whose tail is bits has one field, which counts them.
+#[tactic(auto, using(crate::proofs::TableLaws::message_tail, crate::proofs::TableLaws::bits_field))]
+pub fn tails_are_of_parameters()
+    ensures message { (kind : MsgKind) → tail_of (Message kind) ≡ Absent }
+    ensures bits {
+        (kind : ParamKind) → tail_of (Parameter kind) ≡ Bits →
+        fields_of (Parameter kind) ≡ field "BitCount" 16 ∷ []
+    }
+{}
+
+/// A group has members, and its least number is at most its greatest. No kind stands in two groups of
+/// one parent.
+#[tactic(auto, using(crate::proofs::TableLaws::group_members, crate::proofs::TableLaws::group_bounds))]
+pub fn groups_are_sound()
+    ensures members { (kind : Kind) → All (λ group. 1 ≤ length group.members) (groups_of kind) }
+    ensures bounds {
+        (kind : Kind) →
+        All (λ group. IfSome group.most (λ most. group.least ≤ most)) (groups_of kind)
+    }
+    ensures apart {
+        (kind : Kind) →
+        AllPairs
+            (λ g h. (child : ParamKind) → Contains g.members child → Contains h.members child → ⊥)
+            (groups_of kind)
+    }
+{}

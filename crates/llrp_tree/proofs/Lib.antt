@@ -1,0 +1,4 @@
+pub mod TreeLemmas
+pub mod OctetLemmas
+pub mod TestLemmas
+pub mod LawLemmas

@@ -1,0 +1,6 @@
+pub mod Tree
+pub mod Stored
+pub mod Lawful
+pub mod Checks
+pub mod Spelling
+pub mod Frame

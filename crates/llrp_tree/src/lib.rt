@@ -1,0 +1,17 @@
+//! Lawful LLRP messages and parameters as trees, and the bytes that each spells.
+#![tactic(auto)]
+
+mod check;
+pub mod node;
+
+pub use llrp_schema::{Kind, MsgKind, ParamKind, msg_of};
+pub use node::{Node, NodeFault, NodeRefusal, Nodes, Octets};
+
+/// The greatest number of levels of parameters in a message.
+pub const MAX_DEPTH: u8 = 8;
+
+/// The greatest number of octets of a message.
+pub const MAX_LIMIT: u32 = 65536;
+
+/// The greatest number of octets of a parameter.
+pub const MAX_OCTETS: u32 = 65535;
