@@ -2,3 +2,8 @@ pub mod TreeLemmas
 pub mod OctetLemmas
 pub mod TestLemmas
 pub mod LawLemmas
+pub mod Leading
+pub mod ReadDigits
+pub mod Steps
+pub mod GroupLemmas
+pub mod WholeNodes

@@ -4,3 +4,6 @@ pub mod Lawful
 pub mod Checks
 pub mod Spelling
 pub mod Frame
+pub mod OpenTree
+pub mod FirstFault
+pub mod FrameLaws

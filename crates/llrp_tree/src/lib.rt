@@ -2,9 +2,12 @@
 #![tactic(auto)]
 
 mod check;
+pub mod fault;
+pub mod laws;
 pub mod node;
 
 pub use llrp_schema::{Kind, MsgKind, ParamKind, msg_of};
+pub use fault::{Fault, FrameErr, Reason};
 pub use node::{Node, NodeFault, NodeRefusal, Nodes, Octets};
 
 /// The greatest number of levels of parameters in a message.

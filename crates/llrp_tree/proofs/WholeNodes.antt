@@ -1,0 +1,133 @@
+-- Whole nodes as begun ones of which all is read, and how long their digits are.
+use Rattle.std.proofs.Common.{◌≡◌, ℕ, zero, suc, ◌+◌, ◌*◌, ◌/◌, ◌%◌, ◌^◌, ◌<◌, ◌≤◌, Bool, true, false, cond, ◌&&◌, List, [], ◌∷◌, ◌++◌, length, take, drop, Option, Some, None, refl, sym, ap, subst, ◌∙◌, arith, append_assoc, length-append}
+use Rattle.std.specs.Prelude.{nat_le, nat_lt, if◌then◌else◌, unwrap_or}
+use Rattle.std.proofs.lemmas.Bool.{ltb-true}
+use Rattle.tag_bits.specs.Digits.{digits, digits_of_bytes}
+use Rattle.tag_bits.proofs.DigitLemmas.{length-digits}
+use Rattle.tag_bits.proofs.ByteLemmas.{length-bytes, bytes-nil}
+use Rattle.llrp_schema.specs.declared.kinds.ParamKind.{ParamKind}
+use Rattle.llrp_schema.specs.declared.kinds.MsgKind.{MsgKind}
+use Rattle.llrp_schema.specs.declared.kinds.Kind.{Kind}
+use Rattle.llrp_schema.specs.declared.kinds.Kind.TheVariants.{Message, Parameter}
+use Rattle.llrp_schema.specs.declared.kinds.Tail.{Tail}
+use Rattle.llrp_schema.specs.declared.kinds.Tail.TheVariants.{Absent, Words, Text, Bits}
+use Rattle.llrp_schema.specs.Schema.{FieldRule, bits_of, fields_of, tail_of, number_of, rule_of, message_rule, param_rule, message_kinds, param_kinds, is_tv}
+use Rattle.llrp_schema.proofs.TableLaws.{every_rule, whole_octets}
+use Rattle.llrp_tree.specs.Tree.{Forest, none, and}
+use Rattle.llrp_tree.specs.Lawful.{count_octets, body_octets, head_octets, octets, AreInRange, AreOctets, IsTail}
+use Rattle.llrp_tree.specs.Spelling.{Head, message, tlv, tv, head_digits, head_of, spread, field_digits, tail_digits, body_digits, spell}
+use Rattle.llrp_tree.specs.OpenTree.{has_tail, tail_due, field_due, Due, ATail, Rest, read_digits, leading_digits, AreLeading, plain_values, IsReadTail, as_read, tail_parts}
+use Rattle.llrp_tree.proofs.LawLemmas.{both}
+use Rattle.llrp_tree.proofs.Leading.{plain, AreRules, length-spread, length-fields, spread-plain}
+
+-- ---- the tables
+
+abbrev rules_test : List FieldRule → Bool
+rules_test [] = true
+rules_test (r ∷ rules) = nat_lt 0 r.width && (nat_lt r.greatest (2 ^ r.width) && rules_test rules)
+
+rules_pass : (rules : List FieldRule) → rules_test rules ≡ true → AreRules rules
+rules_pass [] e = tt
+rules_pass (r ∷ rules) e =
+    let p = both (nat_lt 0 r.width) (nat_lt r.greatest (2 ^ r.width) && rules_test rules) e in
+    let q = both (nat_lt r.greatest (2 ^ r.width)) (rules_test rules) p.1 in
+    (ltb-true 0 r.width p.0, ltb-true r.greatest (2 ^ r.width) q.0, rules_pass rules q.1)
+
+-- each field of the tables has some bits, and its values fit them
+pub are_rules : (kind : Kind) → AreRules (fields_of kind)
+unfolding fields_of rule_of message_rule param_rule message_kinds param_kinds
+are_rules kind = rules_pass (fields_of kind) (every_rule (λ row. rules_test row.fields) refl refl kind)
+
+pub tv_number : (kind : ParamKind) → is_tv kind ≡ true → number_of (Parameter kind) < 2 ^ 7
+unfolding is_tv
+tv_number kind e = ltb-true (number_of (Parameter kind)) 128 e
+
+-- ---- how long digits are
+
+pub length-message : (v : ℕ) (k : MsgKind) (n id : ℕ) → length (head_digits (message v k n id)) ≡ 80
+unfolding head_digits
+length-message v k n id = simp (length-append, length-digits) refl
+
+pub length-tlv : (k : ParamKind) (n : ℕ) → length (head_digits (tlv k n)) ≡ 32
+unfolding head_digits
+length-tlv k n = simp (length-append, length-digits) refl
+
+pub length-tv : (k : ParamKind) → length (head_digits (tv k)) ≡ 8
+unfolding head_digits
+length-tv k = simp (length-append, length-digits) refl
+
+length-head : (k : ParamKind) (n : ℕ) → length (head_digits (head_of k n)) ≡ 8 * head_octets k
+length-head k n =
+    elim (is_tv k) as (λ b. length (head_digits (if b then tv k else tlv k n)) ≡ 8 * (if b then 1 else 4))
+      [ true ↦ length-tv k | false ↦ length-tlv k n ]
+
+pub length-tail : (form : Tail) (os : List ℕ) → length (tail_digits form os) ≡ 8 * (count_octets form + length os)
+length-tail Absent os = omega (arith, length-bytes os)
+length-tail Words os = omega (arith, length-bytes os, length-digits 16 (length os / 2), length-append (digits 16 (length os / 2)) (digits_of_bytes os))
+length-tail Text os = omega (arith, length-bytes os, length-digits 16 (length os), length-append (digits 16 (length os)) (digits_of_bytes os))
+length-tail Bits os = omega (arith, length-bytes os)
+
+pub length-body : (kind : Kind) (fields tail : List ℕ) → length (body_digits kind fields tail) ≡ 8 * body_octets kind tail
+unfolding body_digits body_octets
+length-body kind fields tail =
+    let rules = fields_of kind in
+    let values = spread rules fields in
+    omega (arith, length-append (field_digits rules values) (tail_digits (tail_of kind) tail), length-fields rules values (length-spread rules fields), length-tail (tail_of kind) tail, whole_octets kind)
+
+pub length-spell : (f : Forest) → length (spell f) ≡ 8 * octets f
+unfolding spell
+length-spell none = refl
+length-spell (and before k vs tail cs) =
+    let head = head_digits (head_of k (head_octets k + body_octets (Parameter k) tail + octets cs)) in
+    let body = body_digits (Parameter k) vs tail in
+    let ih = length-spell before in
+    let ih2 = length-spell cs in
+    let a = length-append (spell before) (head ++ (body ++ spell cs)) in
+    let b = length-append head (body ++ spell cs) in
+    let c = length-append body (spell cs) in
+    omega (arith, ih, ih2, a, b, c, length-head k (head_octets k + body_octets (Parameter k) tail + octets cs), length-body (Parameter k) vs tail)
+
+-- ---- from begun nodes of which all is read to whole ones
+
+pub no_field_due : (rules : List FieldRule) (after : Due) → field_due rules after ≡ Rest → (rules ≡ []) × (after ≡ Rest)
+no_field_due [] after e = (refl, e)
+no_field_due (r ∷ rules) after e = absurd cc
+
+read_tail_digits : (form : Tail) (tail : Option (List ℕ)) → tail_due form tail ≡ Rest → read_digits form tail ≡ tail_digits form (unwrap_or tail [])
+read_tail_digits Absent None e = sym bytes-nil
+read_tail_digits Words None e = absurd cc
+read_tail_digits Text None e = absurd cc
+read_tail_digits Bits None e = absurd cc
+read_tail_digits form (Some os) e = refl
+
+pub closed_digits : (kind : Kind) (fields : List ℕ) (tail : Option (List ℕ)) → AreLeading (fields_of kind) fields → drop (length fields) (fields_of kind) ≡ [] → tail_due (tail_of kind) tail ≡ Rest
+    → leading_digits kind fields tail ≡ body_digits kind (plain_values (fields_of kind) fields) (unwrap_or tail [])
+unfolding leading_digits body_digits
+closed_digits kind fields tail h e d = rw (spread-plain (fields_of kind) fields h e, read_tail_digits (tail_of kind) tail d) refl
+
+pub whole_tail : (form : Tail) (fields : List ℕ) (tail : Option (List ℕ)) → IsReadTail form fields tail → tail_due form tail ≡ Rest → IsTail form fields (unwrap_or tail []) × AreOctets (unwrap_or tail [])
+whole_tail Absent fields None h e = (refl, tt)
+whole_tail Words fields None h e = absurd cc
+whole_tail Text fields None h e = absurd cc
+whole_tail Bits fields None h e = absurd cc
+whole_tail form fields (Some os) h e = (h.1, h.2)
+
+-- ---- and back
+
+pub read_is_rest : (form : Tail) (os : List ℕ) → tail_due form (as_read form os) ≡ Rest
+read_is_rest Absent os = refl
+read_is_rest Words os = refl
+read_is_rest Text os = refl
+read_is_rest Bits os = refl
+
+pub read_again : (form : Tail) (fields os : List ℕ) → IsTail form fields os → unwrap_or (as_read form os) [] ≡ os
+read_again Absent fields os h = sym h
+read_again Words fields os h = refl
+read_again Text fields os h = refl
+read_again Bits fields os h = refl
+
+pub is_read_tail : (form : Tail) (fields os : List ℕ) → IsTail form fields os → AreOctets os → IsReadTail form fields (as_read form os)
+is_read_tail Absent fields os h o = tt
+is_read_tail Words fields os h o = (refl, h, o)
+is_read_tail Text fields os h o = (refl, h, o)
+is_read_tail Bits fields os h o = (refl, h, o)
