@@ -7,3 +7,6 @@ pub mod ReadDigits
 pub mod Steps
 pub mod GroupLemmas
 pub mod WholeNodes
+pub mod LastPart
+pub mod Openings
+pub mod Agreement

@@ -131,3 +131,14 @@ is_read_tail Absent fields os h o = tt
 is_read_tail Words fields os h o = (refl, h, o)
 is_read_tail Text fields os h o = (refl, h, o)
 is_read_tail Bits fields os h o = (refl, h, o)
+
+as_read_digits : (form : Tail) (fields os : List ℕ) → IsTail form fields os → read_digits form (as_read form os) ≡ tail_digits form os
+as_read_digits Absent fields os h = sym (ap digits_of_bytes h ∙ bytes-nil)
+as_read_digits Words fields os h = refl
+as_read_digits Text fields os h = refl
+as_read_digits Bits fields os h = refl
+
+-- all that is read of a whole node spells its own digits
+pub read_body : (kind : Kind) (fields tail : List ℕ) → IsTail (tail_of kind) fields tail → leading_digits kind (spread (fields_of kind) fields) (as_read (tail_of kind) tail) ≡ body_digits kind fields tail
+unfolding leading_digits body_digits
+read_body kind fields tail h = ap (λ (x : List Bool). field_digits (fields_of kind) (spread (fields_of kind) fields) ++ x) (as_read_digits (tail_of kind) fields tail h)
