@@ -164,6 +164,22 @@ pub closing_passes : (b : Begun) (level at : ℕ) (ds : List Bool) → is_enough
 unfolding checks
 closing_passes b level at ds e = rw e refl
 
+-- a parameter of so many octets
+abbrev pub size : ParamKind → List ℕ → Forest → ℕ
+size k tail cs = head_octets k + body_octets (Parameter k) tail + octets cs
+
+-- a child that is read covers what it does once it is closed
+pub closed_covered : (h : Head) (stop : ℕ) (fs : List ℕ) (tl : Option (List ℕ)) (before : Forest) (outer : List Begun) (hb : Head) (stop_b : ℕ) (read : List ℕ) (read_tail : Option (List ℕ)) (k : ParamKind) (vs tail : List ℕ) (cs : Forest)
+    → hb ≡ head_of k (size k tail cs) → leading_digits (kind_of hb) read read_tail ≡ body_digits (Parameter k) vs tail
+    → covers (record { head = hb; stop = stop_b; fields = read; tail = read_tail; children = cs } ∷ record { head = h; stop = stop; fields = fs; tail = tl; children = before } ∷ outer)
+      ≡ covers (record { head = h; stop = stop; fields = fs; tail = tl; children = and before k vs tail cs } ∷ outer)
+unfolding covers part spell
+closed_covered h stop fs tl before outer hb stop_b read read_tail k vs tail cs e b =
+    let x = leading_digits (kind_of h) fs tl in
+    let l = leading_digits (kind_of hb) read read_tail in
+    regroup (covers outer) (head_digits h) x (spell before) (head_digits hb ++ (l ++ spell cs))
+    ∙ ap (λ (y : List Bool). covers outer ++ (head_digits h ++ (x ++ (spell before ++ y)))) (ap (λ (y : Head). head_digits y ++ (l ++ spell cs)) e ∙ ap (λ (y : List Bool). head_digits (head_of k (size k tail cs)) ++ (y ++ spell cs)) b)
+
 module _ (h : Head) (stop : ℕ) (fs : List ℕ) (tl : Option (List ℕ)) (before : Forest) (k : ParamKind) (vs tail : List ℕ) (cs : Forest) (outer : List Begun) (rest : List Bool) where
   abbrev pub parent : Forest → Begun
   parent ns = record { head = h; stop = stop; fields = fs; tail = tl; children = ns }
@@ -171,18 +187,6 @@ module _ (h : Head) (stop : ℕ) (fs : List ℕ) (tl : Option (List ℕ)) (befor
   -- the last child as it was when all of it was read
   abbrev pub child : Head → ℕ → Begun
   child hb stop_b = record { head = hb; stop = stop_b; fields = spread (fields_of (kind_of hb)) vs; tail = as_read (tail_of (kind_of hb)) tail; children = cs }
-
-  abbrev size : ℕ
-  size = head_octets k + body_octets (Parameter k) tail + octets cs
-
-  pub closed_covered : (hb : Head) (stop_b : ℕ) → hb ≡ head_of k size → leading_digits (kind_of hb) (spread (fields_of (kind_of hb)) vs) (as_read (tail_of (kind_of hb)) tail) ≡ body_digits (Parameter k) vs tail
-      → covers (child hb stop_b ∷ parent before ∷ outer) ≡ covers (parent (and before k vs tail cs) ∷ outer)
-  unfolding covers part spell
-  closed_covered hb stop_b e b =
-    let x = leading_digits (kind_of h) fs tl in
-    let l = leading_digits (kind_of hb) (spread (fields_of (kind_of hb)) vs) (as_read (tail_of (kind_of hb)) tail) in
-    regroup (covers outer) (head_digits h) x (spell before) (head_digits hb ++ (l ++ spell cs))
-    ∙ ap (λ (y : List Bool). covers outer ++ (head_digits h ++ (x ++ (spell before ++ y)))) (ap (λ (y : Head). head_digits y ++ (l ++ spell cs)) e ∙ ap (λ (y : List Bool). head_digits (head_of k size) ++ (y ++ spell cs)) b)
 
   child_due : (hb : Head) (stop_b : ℕ) → due (child hb stop_b) ≡ Rest
   unfolding due
@@ -231,17 +235,17 @@ module _ (h : Head) (stop : ℕ) (fs : List ℕ) (tl : Option (List ℕ)) (befor
     let inner_long : length inner ≡ 8 * (body_octets (Parameter k) tail + octets cs) = ap (λ (x : List Bool). length (x ++ spell cs)) body ∙ (let a = length-append (body_digits (Parameter k) vs tail) (spell cs) in let b = length-body (Parameter k) vs tail in let c = length-spell cs in omega arith) in
     (elim (is_tv k) as (λ b. is_tv k ≡ b → Before (parent (and before k vs tail cs) ∷ outer) rest (parts outer + (1 + length fs + tail_parts tl + whole_parts before) + (1 + length (fields_of (Parameter k)) + tail_parts (as_read (tail_of (Parameter k)) tail) + whole_parts cs))) [
       true ↦ λ f.
-        let is_head : tv k ≡ head_of k size = rw f refl in
-        let c = closed_covered (tv k) stop is_head body in
+        let is_head : tv k ≡ head_of k (size k tail cs) = rw f refl in
+        let c = closed_covered h stop fs tl before outer (tv k) stop (spread (fields_of (Parameter k)) vs) (as_read (tail_of (Parameter k)) tail) k vs tail cs is_head body in
         let total : length (covers (child (tv k) stop ∷ parent before ∷ outer)) ≡ length (covers (parent (and before k vs tail cs) ∷ outer)) = ap (λ (x : List Bool). length x) c in
         let longer = length-append (covers (parent before ∷ outer)) (head_digits (tv k) ++ inner) in
         closing_before (tv k) stop w.obeys s.lawful.2 s outer_open ready c (record { kind_is_tv = f; stops = refl; deep = omega (arith, deep); may_begin = may }) refl (omega (arith, s.inside, total)) (omega (arith, longer)) again
     | false ↦ λ f.
         let four : head_octets k ≡ 4 = rw f refl in
-        let n : ℕ = size in
+        let n : ℕ = size k tail cs in
         let stop_b : ℕ = here + 8 * n in
-        let is_head : tlv k n ≡ head_of k size = rw f refl in
-        let c = closed_covered (tlv k n) stop_b is_head body in
+        let is_head : tlv k n ≡ head_of k (size k tail cs) = rw f refl in
+        let c = closed_covered h stop fs tl before outer (tlv k n) stop_b (spread (fields_of (Parameter k)) vs) (as_read (tail_of (Parameter k)) tail) k vs tail cs is_head body in
         let total : length (covers (child (tlv k n) stop_b ∷ parent before ∷ outer)) ≡ length (covers (parent (and before k vs tail cs) ∷ outer)) = ap (λ (x : List Bool). length x) c in
         let longer = length-append (covers (parent before ∷ outer)) (head_digits (tlv k n) ++ inner) in
         let own = length-append (head_digits (tlv k n)) inner in

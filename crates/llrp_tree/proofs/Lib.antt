@@ -10,3 +10,4 @@ pub mod WholeNodes
 pub mod LastPart
 pub mod Openings
 pub mod Agreement
+pub mod Growing

@@ -7,3 +7,4 @@ pub mod Frame
 pub mod OpenTree
 pub mod FirstFault
 pub mod FrameLaws
+pub mod Standing
