@@ -11,3 +11,6 @@ pub mod LastPart
 pub mod Openings
 pub mod Agreement
 pub mod Growing
+pub mod Telling
+pub mod Frames
+pub mod Totality

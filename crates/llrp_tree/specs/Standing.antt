@@ -1,10 +1,12 @@
 -- Where a reader stands in the digits of a frame, and what the functions that read it promise.
 use Rattle.std.specs.Prelude.{◌≡◌, ℕ, ◌≤◌, Bool, true, nat_le, List, [], ◌∷◌, length, take, drop, Option, Some, None}
+use Rattle.llrp_schema.specs.declared.kinds.MsgKind.{MsgKind}
+use Rattle.llrp_schema.specs.Schema.{message_with_number}
 use Rattle.llrp_tree.specs.declared.fault.Reason.{Reason}
 use Rattle.llrp_tree.specs.Tree.{Forest, none}
 use Rattle.llrp_tree.specs.Spelling.{Head}
 use Rattle.llrp_tree.specs.OpenTree.{Begun, groups, covers, due, Rest, is_enough, IsOpenTree}
-use Rattle.llrp_tree.specs.FirstFault.{next_fault, is_over}
+use Rattle.llrp_tree.specs.FirstFault.{number, first_failing, next_fault, is_over, header_checks}
 
 -- the bit at which the message ends
 unfoldable pub end_of : List Begun → ℕ
@@ -40,3 +42,11 @@ begun h stop fields tail children = record { head = h; stop = stop; fields = fie
 -- a node of which some fields are read
 abbrev pub leading : Head → ℕ → List ℕ → Begun
 leading h stop fields = begun h stop fields None none
+
+-- The header passes its checks, and says these numbers.
+pub record HeaderSays (limit : ℕ) (ds : List Bool) (version : ℕ) (kind : MsgKind) (octets id : ℕ) : Type 0 where
+  pub passes : first_failing (header_checks limit ds) ≡ None
+  pub version_is : version ≡ number ds 3 3
+  pub kind_is : message_with_number (number ds 6 10) ≡ Some kind
+  pub octets_is : octets ≡ number ds 16 32
+  pub id_is : id ≡ number ds 48 32
