@@ -2,3 +2,4 @@ pub mod TreeLemmas
 pub mod OctetLemmas
 pub mod TestLemmas
 pub mod LawLemmas
+pub mod SpellingLemmas

@@ -4,3 +4,4 @@ pub mod Lawful
 pub mod Checks
 pub mod Spelling
 pub mod Frame
+pub mod Writing

@@ -2,10 +2,14 @@
 #![tactic(auto)]
 
 mod check;
+pub mod message;
 pub mod node;
+pub mod spelling;
 
 pub use llrp_schema::{Kind, MsgKind, ParamKind, msg_of};
+pub use message::{Message, MsgRefusal};
 pub use node::{Node, NodeFault, NodeRefusal, Nodes, Octets};
+pub use spelling::{EncodeErr, encode_into};
 
 /// The greatest number of levels of parameters in a message.
 pub const MAX_DEPTH: u8 = 8;
