@@ -1,6 +1,6 @@
 -- Parts are lawful exactly where no test fails.
 use Rattle.std.proofs.Common.{◌≡◌, ℕ, zero, suc, ◌+◌, ◌*◌, ◌/◌, ◌%◌, ◌<◌, ◌≤◌, ◌^◌, List, [], ◌∷◌, ◌++◌, Bool, true, false, cond, refl, sym, ap, ◌∙◌, subst, arith, length}
-use Rattle.std.specs.Prelude.{Option, None, Some, nat_le, if◌then◌else◌, ◌&&◌, ◌==◌, ◌||◌, ◌⊎◌, filter, not}
+use Rattle.std.specs.Prelude.{Option, None, Some, nat_le, if◌then◌else◌, ◌&&◌, ◌==◌, ◌||◌, ◌⊎◌, ◌↔◌, filter, not}
 use Rattle.std.proofs.Common.{inl, inr}
 use Rattle.std.proofs.lemmas.Bool.{le-leb, leb-true, eqb-true, eq-eqb}
 use Rattle.std.proofs.lemmas.List.Folds.{list_all-append}
@@ -200,3 +200,9 @@ pub message_parts : (v id : ℕ) (kind : MsgKind) (values : List ℕ) (f row : F
     → IsLawfulMessage (record { version = v; id = id; kind = kind; fields = values; children = f })
 message_parts v id kind values f row same small cs e =
     subst (λ (x : Forest). IsLawfulMessage (record { version = v; id = id; kind = kind; fields = values; children = x })) same (message_from v id kind values row small cs (sym e))
+
+pub lawful_exactly : (kind : ParamKind) (values tail : List ℕ) (f : Forest) → AreOctets tail → AreLawful kind values tail f ↔ (first_fault kind values tail f ≡ None)
+lawful_exactly kind values tail f os = (lawful_to kind values tail f, lawful_from kind values tail f os)
+
+pub message_exactly : (m : MessageTree) → m.id < 2 ^ 32 → AllLawful m.children → IsLawfulMessage m ↔ (first_message_fault m.version m.kind m.fields m.children ≡ None)
+message_exactly m small cs = (message_to m, message_from m.version m.id m.kind m.fields m.children small cs)

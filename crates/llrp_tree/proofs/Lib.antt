@@ -3,3 +3,4 @@ pub mod OctetLemmas
 pub mod TestLemmas
 pub mod LawLemmas
 pub mod SpellingLemmas
+pub mod LengthLemmas

@@ -14,8 +14,11 @@ use Rattle.llrp_schema.specs.declared.kinds.Kind.{Kind}
 use Rattle.llrp_schema.specs.declared.kinds.Kind.TheVariants.{Message, Parameter}
 use Rattle.llrp_schema.specs.Schema.{FieldRule, number_of, fields_of, is_tv}
 use Rattle.llrp_schema.proofs.TableLaws.{param_number_fits, message_number_fits, field_values}
-use Rattle.llrp_tree.specs.Lawful.{AreOctets}
-use Rattle.llrp_tree.specs.Spelling.{Head, tv, tlv, message, head_of, head_digits}
+use Rattle.std.specs.Prelude.{Result, Ok, Err, OnOk}
+use Rattle.llrp_tree.specs.Tree.{Tree, MessageTree, trees, forest}
+use Rattle.llrp_tree.proofs.TreeLemmas.{forest-trees}
+use Rattle.llrp_tree.specs.Lawful.{AreOctets, message_octets}
+use Rattle.llrp_tree.specs.Spelling.{Head, tv, tlv, message, head_of, head_digits, body_digits, spell, message_digits}
 use Rattle.llrp_tree.specs.Writing.{Appends, Grows, is_sound}
 use Rattle.llrp_tree.proofs.OctetLemmas.{octets-append}
 
@@ -79,7 +82,9 @@ joined_fits w b v m h g f = let p = small_power (w + b) f in let q = below_joine
 
 pub sound_rules : (rules : List FieldRule) → All (λ field. field.greatest < 2 ^ field.width) rules → is_sound rules ≡ true
 sound_rules [] h = refl
-sound_rules (r ∷ rules) h = rw (lt-ltb r.greatest (2 ^ r.width) h.0, sound_rules rules h.1) refl
+sound_rules (r ∷ rules) h =
+    let here : r.greatest < 2 ^ r.width = h 0 r (omega arith) in
+    rw (lt-ltb r.greatest (2 ^ r.width) here, sound_rules rules (λ k d lt. h (suc k) d (omega arith))) refl
 
 pub sound_fields : (k : Kind) → is_sound (fields_of k) ≡ true
 sound_fields k = sound_rules (fields_of k) (field_values k)
@@ -112,3 +117,29 @@ message_start v k lt =
     ap (λ (x : ℕ). digits 16 x) same ∙ digits-join 3 13 0 (v * 2 ^ 10 + n) (lit< tt) wide
     ∙ ap (λ (x : List Bool). digits 3 0 ++ x) (digits-join 3 10 v n lt small)
     ∙ sym (append_assoc (digits 3 0) (digits 3 v) (digits 10 n))
+
+pub none_below : {A : Type 0} (xs : List A) → length xs < 1 → xs ≡ []
+none_below [] h = refl
+none_below (x ∷ xs) h = absurd (omega arith)
+
+-- the digits of fields fill octets
+pub whole_number : (n bits : ℕ) → bits % 8 ≡ 0 → n < 2 ^ bits → n < 2 ^ (8 * (bits / 8))
+whole_number n bits e lt = let same : bits ≡ 8 * (bits / 8) = omega arith in subst (λ (x : ℕ). n < 2 ^ x) same lt
+
+pub whole_digits : (n bits : ℕ) → bits % 8 ≡ 0 → digits (8 * (bits / 8)) n ≡ digits bits n
+whole_digits n bits e = let same : 8 * (bits / 8) ≡ bits = omega arith in ap (λ (x : ℕ). digits x n) same
+
+pub appends_from : (a b c : List ℕ) (ds : List Bool) → a ≡ b → Appends a c ds → Appends b c ds
+appends_from a b c ds e p = record { more = p.more; whole = p.whole ∙ ap (λ (x : List ℕ). x ++ p.more) e; octets = p.octets; spelled = p.spelled }
+
+-- what is appended behind another part, where it is
+pub then_appends : {T E : Type 0} (r : Result T E) (a b c : List ℕ) (ds es : List Bool) → Appends a b ds → OnOk r (Appends b c es) → OnOk r (Appends a c (ds ++ es))
+then_appends (Ok x) a b c ds es p q = appends_both a b c ds es p q
+then_appends (Err e) a b c ds es p q = q
+
+-- the parts of a message, as they are read
+pub message_digits_are : (m : MessageTree) (v : ℕ) (k : MsgKind) (n id : ℕ) (k2 : MsgKind) (fields : List ℕ) (row : List Tree)
+    → v ≡ m.version → k ≡ m.kind → n ≡ message_octets m → id ≡ m.id → k2 ≡ m.kind → fields ≡ m.fields → row ≡ trees m.children
+    → head_digits (message v k n id) ++ (body_digits (Message k2) fields [] ++ spell (forest row)) ≡ message_digits m
+message_digits_are m v k n id k2 fields row ev ek en ei ek2 ef er =
+    rw (ev, ek, en, ei, ek2, ef, er, forest-trees m.children) refl

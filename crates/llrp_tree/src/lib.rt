@@ -2,9 +2,12 @@
 #![tactic(auto)]
 
 mod check;
+pub mod laws;
 pub mod message;
 pub mod node;
 pub mod spelling;
+#[cfg(test)]
+mod tests;
 
 pub use llrp_schema::{Kind, MsgKind, ParamKind, msg_of};
 pub use message::{Message, MsgRefusal};

@@ -13,7 +13,6 @@ ghost use Rattle.llrp_tree.specs.Frame.{Frame};
 ghost use Rattle.llrp_tree.specs.declared.spelling.EncodeErr.TheVariants.{OverLimit};
 
 use crate::message::Message;
-use crate::node::{Node, Nodes};
 use llrp_schema::{Field, Kind, MsgKind, ParamKind, Tail};
 use std::alloc::{AllocError, Global};
 
@@ -45,7 +44,8 @@ fn put_octets(octets: &[u8], out: &mut Vec<u8>) -> Result<(), AllocError>
     ensures ok { OnOk result (Appends out.old.items out.new.items (digits_of_bytes octets.now)) }
     ensures grows { Grows out.old.items out.new.items }
 {
-    out.extend_from_slice(octets)
+    out.extend_from_slice(octets)?;
+    Ok(())
 }
 
 /// The number of the digits of fields, and how many there are.
@@ -98,17 +98,19 @@ fn joined(width: u32, value: u128, rest: Packed) -> Packed
 }
 
 /// Appends the head of a parameter of so many octets.
-fn put_head(kind: ParamKind, octets: u32, out: &mut Vec<u8>) -> Result<(), AllocError>
+pub(crate) fn put_head(kind: ParamKind, octets: u32, out: &mut Vec<u8>) -> Result<(), AllocError>
     requires { octets ≤ 65535 }
     ensures ok { OnOk result (Appends out.old.items out.new.items (head_digits (head_of kind octets))) }
     ensures grows { Grows out.old.items out.new.items }
 {
     let number = llrp_schema::number(Kind::Parameter(kind)) as u128;
     if llrp_schema::is_tv(kind) {
-        return put_number(128 + number, 1, out);
+        put_number(128 + number, 1, out)?;
+        return Ok(());
     }
     put_number(number, 2, out)?;
-    put_number(octets as u128, 2, out)
+    put_number(octets as u128, 2, out)?;
+    Ok(())
 }
 
 /// Appends the fields of a kind, the reserved ones zero.
@@ -118,7 +120,8 @@ fn put_fields(kind: Kind, values: &[u128], out: &mut Vec<u8>) -> Result<(), Allo
     ensures grows { Grows out.old.items out.new.items }
 {
     let row = pack(llrp_schema::fields(kind), values);
-    put_number(row.number, (row.bits / 8) as u8, out)
+    put_number(row.number, (row.bits / 8) as u8, out)?;
+    Ok(())
 }
 
 /// Appends the tail of a parameter, behind its count where it has one.
@@ -141,43 +144,15 @@ fn put_tail(form: Tail, tail: &[u8], out: &mut Vec<u8>) -> Result<(), AllocError
 }
 
 /// Appends the fields and the tail of a node.
-#[tactic(auto, unfolding(crate::specs::Spelling::body_digits))]
-fn put_body(kind: Kind, values: &[u128], tail: &[u8], out: &mut Vec<u8>) -> Result<(), AllocError>
+pub(crate) fn put_body(kind: Kind, values: &[u128], tail: &[u8], out: &mut Vec<u8>) -> Result<(), AllocError>
     requires values { values_fit (fields_of kind) values.now ≡ true }
     requires short { length tail.now ≤ 65535 }
     ensures ok { OnOk result (Appends out.old.items out.new.items (body_digits kind values.now tail.now)) }
     ensures grows { Grows out.old.items out.new.items }
 {
     put_fields(kind, values, out)?;
-    put_tail(llrp_schema::tail(kind), tail, out)
-}
-
-impl Nodes {
-    /// Appends the parameters one after another.
-    #[cycle(spell)]
-    fn append_to(&self, out: &mut Vec<u8>) -> Result<(), AllocError>
-        ensures ok { OnOk result (Appends out.old.items out.new.items (spell (forest self.now))) }
-        ensures grows { Grows out.old.items out.new.items }
-    {
-        for node in self.as_slice() {
-            node.append_to(out)?;
-        }
-        Ok(())
-    }
-}
-
-impl Node {
-    /// Appends the parameter.
-    #[cycle(spell)]
-    fn append_to(&self, out: &mut Vec<u8>) -> Result<(), AllocError>
-        ensures ok { OnOk result (Appends out.old.items out.new.items (tree_digits self.now)) }
-        ensures grows { Grows out.old.items out.new.items }
-    {
-        self.lawful();
-        put_head(self.kind(), self.length(), out)?;
-        put_body(Kind::Parameter(self.kind()), self.fields(), self.tail().as_slice(), out)?;
-        self.children().append_to(out)
-    }
+    put_tail(llrp_schema::tail(kind), tail, out)?;
+    Ok(())
 }
 
 /// Appends a message's header: its version, kind, length and identifier.
@@ -189,7 +164,8 @@ fn put_header(version: u8, kind: MsgKind, octets: u32, id: u32, out: &mut Vec<u8
     let number = llrp_schema::number(Kind::Message(kind)) as u128;
     put_number(version as u128 * 1024 + number, 2, out)?;
     put_number(octets as u128, 4, out)?;
-    put_number(id as u128, 4, out)
+    put_number(id as u128, 4, out)?;
+    Ok(())
 }
 
 /// Appends the message.
@@ -201,7 +177,8 @@ fn append_message(message: &Message, out: &mut Vec<u8>) -> Result<(), AllocError
     out.reserve(message.length() as usize)?;
     put_header(message.version(), message.kind(), message.length(), message.id(), out)?;
     put_body(Kind::Message(message.kind()), message.fields(), &[], out)?;
-    message.children().append_to(out)
+    message.children().append_to(out)?;
+    Ok(())
 }
 
 /// Appends the frame of a message (LLRP 1.1, section 17.1).
@@ -212,6 +189,7 @@ pub fn encode_into(_alloc: Global, message: &Message, out: &mut Vec<u8>, limit: 
     ensures over { IsErrOf result OverLimit ↔ (limit < message_octets message.now) }
     ensures err { OnErr result (out.new.items ≡ out.old.items) }
 {
+    message.lawful();
     if message.length() > limit {
         return Err(EncodeErr::OverLimit);
     }
