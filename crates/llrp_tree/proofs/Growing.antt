@@ -16,7 +16,7 @@ use Rattle.llrp_schema.specs.Schema.{FieldRule, GroupRule, bits_of, fields_of, t
 use Rattle.llrp_schema.proofs.TableLaws.{tlv_found, tv_found, tv_groups, tv_tail, few_bits}
 use Rattle.llrp_tree.specs.declared.TheConstants.{MAX_DEPTH, MAX_OCTETS}
 use Rattle.llrp_tree.specs.Tree.{Forest, none, and}
-use Rattle.llrp_tree.specs.Lawful.{levels, octets, head_octets, body_octets, count_octets, bit_count, AreOctets, IsTail, has_place, ArePlaced, NoneTooMany, Obeys, AreLawful, AllLawful}
+use Rattle.llrp_tree.specs.Lawful.{levels, octets, head_octets, body_octets, count_octets, first, AreOctets, IsTail, has_place, ArePlaced, NoneTooMany, Obeys, AreLawful, AllLawful}
 use Rattle.llrp_tree.specs.Spelling.{Head, message, tlv, tv, head_digits, head_of, field_digits, count_digits, tail_digits, body_digits, spell}
 use Rattle.llrp_tree.specs.OpenTree.{Begun, kind_of, leading_digits, part, covers, Due, Rest, has_tail, tail_due, field_due, due, in_range, AreLeading, plain_values, IsReadTail, takes_more, is_enough, MayBegin, IsTlvHead, IsTvHead, IsHead, IsOpenNode, IsOpenTree}
 use Rattle.llrp_tree.specs.FirstFault.{number, octets_at, tail_length, tail_at, tail_end, tv_kind, tlv_kind, tlv_octets, first_digit}
@@ -75,7 +75,7 @@ pub tail_is : (form : Tail) (fields : List ℕ) (xs : List Bool) → has_tail fo
 tail_is Absent fields xs e le u = absurd cc
 tail_is Words fields xs e le u = (number xs 0 16, (let a = value_at 0 16 xs (omega arith) in omega arith), length-octets_at (2 * number xs 0 16) (drop 16 xs))
 tail_is Text fields xs e le u = ((let a = value_at 0 16 xs (omega arith) in let b = length-octets_at (number xs 0 16) (drop 16 xs) in omega arith), IsUtf8-from_is_utf8 (tail_at Text fields xs) (u refl))
-tail_is Bits fields xs e le u = length-octets_at ((bit_count fields + 7) / 8) (drop 0 xs)
+tail_is Bits fields xs e le u = length-octets_at ((first fields + 7) / 8) (drop 0 xs)
 
 count_spelled : (form : Tail) (fields : List ℕ) (xs : List Bool) → 8 * (count_octets form + tail_length form fields xs) ≤ length xs → count_digits form (tail_at form fields xs) ≡ take (8 * count_octets form) xs
 count_spelled Absent fields xs le = refl

@@ -1,6 +1,6 @@
 -- Parts are lawful exactly where no test fails.
 use Rattle.std.proofs.Common.{◌≡◌, ℕ, zero, suc, ◌+◌, ◌*◌, ◌/◌, ◌%◌, ◌<◌, ◌≤◌, ◌^◌, List, [], ◌∷◌, ◌++◌, Bool, true, false, cond, refl, sym, ap, ◌∙◌, subst, arith, length}
-use Rattle.std.specs.Prelude.{Option, None, Some, nat_le, if◌then◌else◌, ◌&&◌, ◌==◌, ◌||◌, ◌⊎◌, filter, not}
+use Rattle.std.specs.Prelude.{Option, None, Some, nat_le, if◌then◌else◌, ◌&&◌, ◌==◌, ◌||◌, ◌⊎◌, ◌↔◌, filter, not}
 use Rattle.std.proofs.Common.{inl, inr}
 use Rattle.std.proofs.lemmas.Bool.{le-leb, leb-true, eqb-true, eq-eqb}
 use Rattle.std.proofs.lemmas.List.Folds.{list_all-append}
@@ -17,7 +17,7 @@ use Rattle.llrp_schema.specs.Schema.{FieldRule, GroupRule, fields_of, plain_fiel
 use Rattle.llrp_tree.specs.declared.TheConstants.{MAX_DEPTH, MAX_LIMIT, MAX_OCTETS}
 use Rattle.llrp_tree.specs.declared.node.NodeFault.{NodeFault}
 use Rattle.llrp_tree.specs.Tree.{Forest, none, and, Tree, MessageTree, trees, forest}
-use Rattle.llrp_tree.specs.Lawful.{levels, octets, head_octets, body_octets, message_octets, AreInRange, AreOctets, bit_count, IsTail, is_member, has_place, count, ArePlaced, IsAtMost, NoneTooMany, NoneMissing, Obeys, AreLawful, AllLawful, IsLawful, IsLawfulMessage}
+use Rattle.llrp_tree.specs.Lawful.{levels, octets, head_octets, body_octets, message_octets, AreInRange, AreOctets, first, IsTail, is_member, has_place, count, ArePlaced, IsAtMost, NoneTooMany, NoneMissing, Obeys, AreLawful, AllLawful, IsLawful, IsLawfulMessage}
 use Rattle.llrp_tree.specs.Checks.{count_fits, values_fit, tail_fits, members, at_most, all_placed, none_too_many, none_missing, first_failed, table_tests, first_fault, first_message_fault}
 use Rattle.llrp_tree.proofs.TreeLemmas.{forest-trees}
 use Rattle.llrp_tree.proofs.TestLemmas.{AllPass, all_pass, none_fails}
@@ -67,13 +67,13 @@ tail_from Absent values (o ∷ os) e = absurd (let z = eqb-true (suc (length os)
 tail_from Words values tail e = let p = both (length tail % 2 == 0) (nat_le (length tail / 2) 65535) e in
     (length tail / 2, leb-true (length tail / 2) 65535 p.1, (let z = eqb-true (length tail % 2) 0 p.0 in omega arith))
 tail_from Text values tail e = let p = both (nat_le (length tail) 65535) _ e in (leb-true (length tail) 65535 p.0, IsUtf8-from_is_utf8 tail p.1)
-tail_from Bits values tail e = eqb-true (length tail) ((bit_count values + 7) / 8) e
+tail_from Bits values tail e = eqb-true (length tail) ((first values + 7) / 8) e
 
 tail_to : (form : Tail) (values tail : List ℕ) → IsTail form values tail → tail_fits form values tail ≡ true
 tail_to Absent values tail h = rw h refl
 tail_to Words values tail h = both_true (length tail % 2 == 0) (nat_le (length tail / 2) 65535) (same_number (length tail % 2) 0 (omega (arith, h.2))) (le-leb (length tail / 2) 65535 (omega (arith, h.1, h.2)))
 tail_to Text values tail h = both_true (nat_le (length tail) 65535) _ (le-leb (length tail) 65535 h.0) (is_utf8-from_IsUtf8 tail h.1)
-tail_to Bits values tail h = same_number (length tail) ((bit_count values + 7) / 8) h
+tail_to Bits values tail h = same_number (length tail) ((first values + 7) / 8) h
 
 -- ---- groups
 
@@ -166,9 +166,9 @@ unfolding first_fault
 lawful_to kind values tail f h =
     none_fails _ (all_pass_both (table_tests (Parameter kind) true values tail (trees f)) _ (obeys_to (Parameter kind) true values tail f refl h.obeys) (le-leb _ _ h.deep, (le-leb _ _ h.long, tt)))
 
-version_test : (m : MessageTree) → AllPass (table_tests (Message m.kind) ((m.version == 1) || (m.version == 2)) m.fields [] (trees m.children)) → ((m.version == 1) || (m.version == 2)) ≡ true
+version_test : (version : Bool) (kind : MsgKind) (values : List ℕ) (f : Forest) → AllPass (table_tests (Message kind) version values [] (trees f)) → version ≡ true
 unfolding table_tests
-version_test m p = (both ((m.version == 1) || (m.version == 2)) (values_fit (fields_of (Message m.kind)) m.fields) p.1.0).0
+version_test version kind values f p = (both version (values_fit (fields_of (Message kind)) values) p.1.0).0
 
 version_from : (v : ℕ) → ((v == 1) || (v == 2)) ≡ true → (v ≡ 1) ⊎ (v ≡ 2)
 version_from v e =
@@ -178,18 +178,31 @@ version_to : (v : ℕ) → (v ≡ 1) ⊎ (v ≡ 2) → ((v == 1) || (v == 2)) �
 version_to v (inl e) = rw e refl
 version_to v (inr e) = rw e refl
 
-pub message_from : (m : MessageTree) → m.id < 2 ^ 32 → AllLawful m.children → first_message_fault m ≡ None → IsLawfulMessage m
+pub message_from : (v id : ℕ) (kind : MsgKind) (values : List ℕ) (f : Forest) → id < 2 ^ 32 → AllLawful f → first_message_fault v kind values f ≡ None
+    → IsLawfulMessage (record { version = v; id = id; kind = kind; fields = values; children = f })
 unfolding first_message_fault
-message_from m small cs e =
-    let p = all_pass_append (table_tests (Message m.kind) ((m.version == 1) || (m.version == 2)) m.fields [] (trees m.children)) _ (all_pass _ e) in
-    record { version = version_from m.version (version_test m p.0); id = small; obeys = obeys_from (Message m.kind) _ m.fields [] m.children tt p.0; children = cs; long = leb-true _ _ p.1.0 }
+message_from v id kind values f small cs e =
+    let p = all_pass_append (table_tests (Message kind) ((v == 1) || (v == 2)) values [] (trees f)) _ (all_pass _ e) in
+    record { version = version_from v (version_test ((v == 1) || (v == 2)) kind values f p.0); id = small; obeys = obeys_from (Message kind) ((v == 1) || (v == 2)) values [] f tt p.0; children = cs; long = leb-true _ _ p.1.0 }
 
-pub message_to : (m : MessageTree) → IsLawfulMessage m → first_message_fault m ≡ None
+pub message_to : (m : MessageTree) → IsLawfulMessage m → first_message_fault m.version m.kind m.fields m.children ≡ None
 unfolding first_message_fault
 message_to m h =
-    none_fails _ (all_pass_both (table_tests (Message m.kind) ((m.version == 1) || (m.version == 2)) m.fields [] (trees m.children)) _ (obeys_to (Message m.kind) _ m.fields [] m.children (version_to m.version h.version) h.obeys) (le-leb _ _ h.long, tt))
+    none_fails _ (all_pass_both (table_tests (Message m.kind) ((m.version == 1) || (m.version == 2)) m.fields [] (trees m.children)) _ (obeys_to (Message m.kind) ((m.version == 1) || (m.version == 2)) m.fields [] m.children (version_to m.version h.version) h.obeys) (le-leb _ _ h.long, tt))
 
 -- the same, as `Node::new` has it
 pub lawful_parts : (kind : ParamKind) (values tail : List ℕ) (f : Forest) (lent : List ℕ) (row : Forest) → lent ≡ tail → row ≡ f → AreOctets lent → None ≡ first_fault kind values lent row → AreLawful kind values tail f
 lawful_parts kind values tail f lent row same same_row os e =
     subst (λ (x : List ℕ). AreLawful kind values x f) same (subst (λ (x : Forest). AreLawful kind values lent x) same_row (lawful_from kind values lent row os (sym e)))
+
+-- the same, as `Message::new` has it
+pub message_parts : (v id : ℕ) (kind : MsgKind) (values : List ℕ) (f row : Forest) → row ≡ f → id < 2 ^ 32 → AllLawful row → None ≡ first_message_fault v kind values row
+    → IsLawfulMessage (record { version = v; id = id; kind = kind; fields = values; children = f })
+message_parts v id kind values f row same small cs e =
+    subst (λ (x : Forest). IsLawfulMessage (record { version = v; id = id; kind = kind; fields = values; children = x })) same (message_from v id kind values row small cs (sym e))
+
+pub lawful_exactly : (kind : ParamKind) (values tail : List ℕ) (f : Forest) → AreOctets tail → AreLawful kind values tail f ↔ (first_fault kind values tail f ≡ None)
+lawful_exactly kind values tail f os = (lawful_to kind values tail f, lawful_from kind values tail f os)
+
+pub message_exactly : (m : MessageTree) → m.id < 2 ^ 32 → AllLawful m.children → IsLawfulMessage m ↔ (first_message_fault m.version m.kind m.fields m.children ≡ None)
+message_exactly m small cs = (message_to m, message_from m.version m.id m.kind m.fields m.children small cs)

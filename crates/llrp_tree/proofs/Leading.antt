@@ -8,7 +8,7 @@ use Rattle.std.proofs.lemmas.List.Sums.{sum_by-cons}
 use Rattle.tag_bits.specs.Digits.{value, digits}
 use Rattle.tag_bits.proofs.DigitLemmas.{length-digits}
 use Rattle.llrp_schema.specs.Schema.{FieldRule, bits_of}
-use Rattle.llrp_tree.specs.Lawful.{AreInRange}
+use Rattle.llrp_tree.specs.Lawful.{AreInRange, first, others}
 use Rattle.llrp_tree.specs.Spelling.{spread, field_digits}
 use Rattle.llrp_tree.specs.OpenTree.{in_range, AreLeading, plain_values}
 
@@ -21,15 +21,13 @@ AreRules [] = Unit {0}
 AreRules (r ∷ rules) = (0 < r.width) × (r.greatest < 2 ^ r.width) × AreRules rules
 
 spread_reserved : (r : FieldRule) (rules : List FieldRule) (ws : List ℕ) → r.reserved ≡ true → spread (r ∷ rules) ws ≡ 0 ∷ spread rules ws
-spread_reserved r rules [] e = refl
-spread_reserved r rules (w ∷ ws) e = rw e refl
+spread_reserved r rules ws e = rw e refl
 
 pub length-spread : (rules : List FieldRule) (ws : List ℕ) → length (spread rules ws) ≡ length rules
 length-spread [] ws = refl
-length-spread (r ∷ rules) [] = ap suc (length-spread rules [])
-length-spread (r ∷ rules) (w ∷ ws) =
-    elim r.reserved as (λ b. length (if b then 0 ∷ spread rules (w ∷ ws) else w ∷ spread rules ws) ≡ suc (length rules))
-      [ true ↦ ap suc (length-spread rules (w ∷ ws)) | false ↦ ap suc (length-spread rules ws) ]
+length-spread (r ∷ rules) ws =
+    elim r.reserved as (λ b. length (if b then 0 ∷ spread rules ws else first ws ∷ spread rules (others ws)) ≡ suc (length rules))
+      [ true ↦ ap suc (length-spread rules ws) | false ↦ ap suc (length-spread rules (others ws)) ]
 
 -- all fields of a kind are as many digits as their widths say
 pub length-fields : (rules : List FieldRule) (vs : List ℕ) → length vs ≡ length rules → length (field_digits rules vs) ≡ bits_of rules
@@ -59,7 +57,7 @@ spread-plain (r ∷ rules) (v ∷ vs) h e =
 pub leading_spread : (rules : List FieldRule) (ws : List ℕ) → AreRules rules → AreInRange (plain rules) ws → AreLeading rules (spread rules ws)
 leading_spread [] ws t h = tt
 leading_spread (r ∷ rules) [] t h =
-    (elim r.reserved as (λ b. r.reserved ≡ b → AreInRange (cond (not b) (r ∷ plain rules) (plain rules)) [] → AreLeading (r ∷ rules) (0 ∷ spread rules []))
+    (elim r.reserved as (λ b. r.reserved ≡ b → AreInRange (cond (not b) (r ∷ plain rules) (plain rules)) [] → AreLeading (r ∷ rules) (if b then 0 ∷ spread rules [] else 0 ∷ spread rules []))
       [ true ↦ λ f g. (omega (arith, t.1), (rw f refl), leading_spread rules [] t.2 g) | false ↦ λ f g. absurd g ]) refl h
 leading_spread (r ∷ rules) (w ∷ ws) t h =
     (elim r.reserved as (λ b. r.reserved ≡ b → AreInRange (cond (not b) (r ∷ plain rules) (plain rules)) (w ∷ ws) → AreLeading (r ∷ rules) (if b then 0 ∷ spread rules (w ∷ ws) else w ∷ spread rules ws))
@@ -70,8 +68,8 @@ pub plain-spread : (rules : List FieldRule) (ws : List ℕ) → AreInRange (plai
 plain-spread [] [] h = refl
 plain-spread [] (w ∷ ws) h = absurd h
 plain-spread (r ∷ rules) [] h =
-    (elim r.reserved as (λ b. AreInRange (cond (not b) (r ∷ plain rules) (plain rules)) [] → (if b then plain_values rules (spread rules []) else 0 ∷ plain_values rules (spread rules [])) ≡ [])
-      [ true ↦ λ g. plain-spread rules [] g | false ↦ λ g. absurd g ]) h
+    (elim r.reserved as (λ b. r.reserved ≡ b → AreInRange (cond (not b) (r ∷ plain rules) (plain rules)) [] → plain_values (r ∷ rules) (if b then 0 ∷ spread rules [] else 0 ∷ spread rules []) ≡ [])
+      [ true ↦ λ f g. rw f (plain-spread rules [] g) | false ↦ λ f g. absurd g ]) refl h
 plain-spread (r ∷ rules) (w ∷ ws) h =
     (elim r.reserved as (λ b. r.reserved ≡ b → AreInRange (cond (not b) (r ∷ plain rules) (plain rules)) (w ∷ ws) → plain_values (r ∷ rules) (if b then 0 ∷ spread rules (w ∷ ws) else w ∷ spread rules ws) ≡ w ∷ ws)
       [ true ↦ λ f g. rw f (plain-spread rules (w ∷ ws) g)

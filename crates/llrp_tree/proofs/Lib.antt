@@ -2,6 +2,8 @@ pub mod TreeLemmas
 pub mod OctetLemmas
 pub mod TestLemmas
 pub mod LawLemmas
+pub mod SpellingLemmas
+pub mod LengthLemmas
 pub mod Leading
 pub mod ReadDigits
 pub mod Steps

@@ -1,15 +1,16 @@
 -- The ordered tests.
 use Rattle.std.proofs.Common.{◌≡◌, ℕ, ◌+◌, ◌*◌, ◌/◌, ◌%◌, ◌<◌, ◌≤◌, List, [], ◌∷◌, ◌++◌, Bool, true, false, not, refl, sym, ap, ◌∙◌, arith, length}
-use Rattle.std.specs.Prelude.{Option, None, Some, count_by, nat_le, if◌then◌else◌, ◌&&◌, ◌==◌}
+use Rattle.std.specs.Prelude.{Option, None, Some, count_by, nat_le, if◌then◌else◌, ◌&&◌, ◌||◌, ◌==◌}
 use Rattle.std.proofs.lemmas.Bool.{le-leb, lt-leb}
 use Rattle.llrp_schema.specs.declared.kinds.ParamKind.{ParamKind}
-use Rattle.llrp_schema.specs.declared.kinds.Kind.TheVariants.{Parameter}
-use Rattle.llrp_tree.specs.declared.TheConstants.{MAX_DEPTH, MAX_OCTETS}
+use Rattle.llrp_schema.specs.declared.kinds.Kind.TheVariants.{Message, Parameter}
+use Rattle.llrp_schema.specs.declared.kinds.MsgKind.{MsgKind}
+use Rattle.llrp_tree.specs.declared.TheConstants.{MAX_DEPTH, MAX_LIMIT, MAX_OCTETS}
 use Rattle.llrp_tree.specs.declared.node.NodeFault.{NodeFault}
 use Rattle.llrp_tree.specs.declared.node.NodeFault.TheVariants.{TooDeep, TooLong}
 use Rattle.llrp_tree.specs.Tree.{Tree, forest}
 use Rattle.llrp_tree.specs.Lawful.{levels, octets, head_octets, body_octets}
-use Rattle.llrp_tree.specs.Checks.{first_failed, table_tests, first_fault}
+use Rattle.llrp_tree.specs.Checks.{first_failed, table_tests, first_fault, first_message_fault}
 use Rattle.llrp_tree.proofs.TreeLemmas.{trees-forest}
 
 -- what fails among the first tests
@@ -67,3 +68,24 @@ module _ (kind : ParamKind) (values tail : List ℕ) (nodes : List Tree) where
 
   pub no_fault : None ≡ first_failed table → levels (forest nodes) < MAX_DEPTH → whole ≤ MAX_OCTETS → None ≡ first_fault kind values tail (forest nodes)
   no_fault e lt le = behind_table None e (rw (le-leb (levels (forest nodes) + 1) MAX_DEPTH (omega arith), le-leb whole MAX_OCTETS le) refl)
+
+-- what a message's tests tell
+module _ (version : ℕ) (kind : MsgKind) (values : List ℕ) (nodes : List Tree) (known : Bool) (is : known ≡ ((version == 1) || (version == 2))) where
+  abbrev message_table : List (Bool × NodeFault)
+  message_table = table_tests (Message kind) known values [] nodes
+
+  abbrev message_length : ℕ
+  message_length = 10 + body_octets (Message kind) [] + octets (forest nodes)
+
+  told_message : (f : Option NodeFault) → f ≡ first_failed (message_table ++ (nat_le message_length MAX_LIMIT, TooLong) ∷ []) → f ≡ first_message_fault version kind values (forest nodes)
+  unfolding first_message_fault
+  told_message f e = rw (trees-forest nodes, ← is) e
+
+  pub by_message_table : (f : NodeFault) → Some f ≡ first_failed message_table → Some f ≡ first_message_fault version kind values (forest nodes)
+  by_message_table f e = told_message (Some f) (sym (failed_before message_table _ f (sym e)))
+
+  pub by_message_length : None ≡ first_failed message_table → MAX_LIMIT < message_length → Some TooLong ≡ first_message_fault version kind values (forest nodes)
+  by_message_length e le = told_message (Some TooLong) (ap (λ (b : Bool). first_failed ((b, TooLong) ∷ [])) (sym (lt-leb message_length MAX_LIMIT le)) ∙ sym (passed_before message_table _ (sym e)))
+
+  pub no_message_fault : None ≡ first_failed message_table → message_length ≤ MAX_LIMIT → None ≡ first_message_fault version kind values (forest nodes)
+  no_message_fault e le = told_message None (ap (λ (b : Bool). first_failed ((b, TooLong) ∷ [])) (sym (le-leb message_length MAX_LIMIT le)) ∙ sym (passed_before message_table _ (sym e)))

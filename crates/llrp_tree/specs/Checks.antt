@@ -3,6 +3,7 @@ use Rattle.std.specs.Prelude.{◌≡◌, ℕ, ◌+◌, ◌/◌, ◌%◌, ◌==�
 use Rattle.std.specs.List.{list_all}
 use Rattle.std.specs.Str.{is_utf8}
 use Rattle.llrp_schema.specs.declared.kinds.ParamKind.{ParamKind}
+use Rattle.llrp_schema.specs.declared.kinds.MsgKind.{MsgKind}
 use Rattle.llrp_schema.specs.declared.kinds.Kind.{Kind}
 use Rattle.llrp_schema.specs.declared.kinds.Kind.TheVariants.{Message, Parameter}
 use Rattle.llrp_schema.specs.declared.kinds.Tail.{Tail}
@@ -11,8 +12,8 @@ use Rattle.llrp_schema.specs.Schema.{FieldRule, GroupRule, fields_of, groups_of,
 use Rattle.llrp_tree.specs.declared.TheConstants.{MAX_DEPTH, MAX_LIMIT, MAX_OCTETS}
 use Rattle.llrp_tree.specs.declared.node.NodeFault.{NodeFault}
 use Rattle.llrp_tree.specs.declared.node.NodeFault.TheVariants.{FieldCount, Value, Tail as BadTail, Misplaced, TooMany, Missing, TooDeep, TooLong}
-use Rattle.llrp_tree.specs.Tree.{Forest, Tree, MessageTree, trees}
-use Rattle.llrp_tree.specs.Lawful.{levels, head_octets, body_octets, octets, message_octets, bit_count, is_member, has_place}
+use Rattle.llrp_tree.specs.Tree.{Forest, Tree, trees}
+use Rattle.llrp_tree.specs.Lawful.{levels, head_octets, body_octets, octets, first, is_member, has_place}
 
 abbrev pub count_fits : List FieldRule → List ℕ → Bool
 count_fits rules values = length values == length (filter (λ r. not r.reserved) rules)
@@ -27,7 +28,7 @@ abbrev pub tail_fits : Tail → List ℕ → List ℕ → Bool
 tail_fits Absent values tail = length tail == 0
 tail_fits Words values tail = (length tail % 2 == 0) && nat_le (length tail / 2) 65535
 tail_fits Text values tail = nat_le (length tail) 65535 && is_utf8 tail
-tail_fits Bits values tail = length tail == (bit_count values + 7) / 8
+tail_fits Bits values tail = length tail == (first values + 7) / 8
 
 abbrev pub members : GroupRule → List Tree → ℕ
 members g ts = count_by (λ t. is_member g t.kind) ts
@@ -70,8 +71,8 @@ first_fault kind values tail children =
       ∷ [])
 
 -- the first fault of these parts of a message, whose children are lawful
-unfoldable pub first_message_fault : MessageTree → Option NodeFault
-first_message_fault m =
-    first_failed (table_tests (Message m.kind) ((m.version == 1) || (m.version == 2)) m.fields [] (trees m.children)
-      ++ (nat_le (message_octets m) MAX_LIMIT, TooLong)
+unfoldable pub first_message_fault : ℕ → MsgKind → List ℕ → Forest → Option NodeFault
+first_message_fault version kind values children =
+    first_failed (table_tests (Message kind) ((version == 1) || (version == 2)) values [] (trees children)
+      ++ (nat_le (10 + body_octets (Message kind) [] + octets children) MAX_LIMIT, TooLong)
       ∷ [])

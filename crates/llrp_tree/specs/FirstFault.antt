@@ -11,7 +11,7 @@ use Rattle.llrp_tree.specs.declared.TheConstants.{MAX_DEPTH}
 use Rattle.llrp_tree.specs.declared.fault.Reason.{Reason}
 use Rattle.llrp_tree.specs.declared.fault.Reason.TheVariants.{Reserved, Version, MessageType, MessageLength, Short, Value, Count, Utf8, ParamType, Misplaced, TooMany, TooDeep, ParamLength, Extra, Missing}
 use Rattle.llrp_tree.specs.Tree.{Forest}
-use Rattle.llrp_tree.specs.Lawful.{bit_count, count_octets, has_place}
+use Rattle.llrp_tree.specs.Lawful.{first, count_octets, has_place}
 use Rattle.llrp_tree.specs.Spelling.{Head, message, tlv, tv}
 use Rattle.llrp_tree.specs.OpenTree.{Begun, rules, form, groups, covers, Due, AField, ATail, Rest, due, in_range, plain_values, takes_more, is_enough, IsOpenTree}
 
@@ -31,7 +31,7 @@ abbrev pub tail_length : Tail → List ℕ → List Bool → ℕ
 tail_length Absent fields rest = 0
 tail_length Words fields rest = 2 * number rest 0 16
 tail_length Text fields rest = number rest 0 16
-tail_length Bits fields rest = (bit_count fields + 7) / 8
+tail_length Bits fields rest = (first fields + 7) / 8
 
 abbrev pub tail_at : Tail → List ℕ → List Bool → List ℕ
 tail_at form fields rest = octets_at (tail_length form fields rest) (drop (8 * count_octets form) rest)

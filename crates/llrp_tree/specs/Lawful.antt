@@ -58,17 +58,21 @@ abbrev pub AreOctets : List ℕ → Type 0
 AreOctets [] = Unit {0}
 AreOctets (o ∷ os) = (o < 256) × AreOctets os
 
--- the number of bits that the first field tells
-abbrev pub bit_count : List ℕ → ℕ
-bit_count [] = 0
-bit_count (bits ∷ values) = bits
+-- the first of some values, and those behind it
+abbrev pub first : List ℕ → ℕ
+first [] = 0
+first (v ∷ values) = v
 
--- the tail has its form
+abbrev pub others : List ℕ → List ℕ
+others [] = []
+others (v ∷ values) = values
+
+-- The tail has its form. That of bits is filled up to whole octets; the first field counts them.
 abbrev pub IsTail : Tail → List ℕ → List ℕ → Type 0
 IsTail Absent fields tail = tail ≡ []
 IsTail Words fields tail = (words : ℕ) × (words ≤ 65535) × (length tail ≡ 2 * words)
 IsTail Text fields tail = (length tail ≤ 65535) × IsUtf8 tail
-IsTail Bits fields tail = length tail ≡ (bit_count fields + 7) / 8
+IsTail Bits fields tail = length tail ≡ (first fields + 7) / 8
 
 -- the kind is one of the group's
 abbrev pub is_member : GroupRule → ParamKind → Bool

@@ -4,6 +4,7 @@ pub mod Lawful
 pub mod Checks
 pub mod Spelling
 pub mod Frame
+pub mod Writing
 pub mod OpenTree
 pub mod FirstFault
 pub mod FrameLaws

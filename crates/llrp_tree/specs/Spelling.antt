@@ -9,7 +9,7 @@ use Rattle.llrp_schema.specs.declared.kinds.Tail.{Tail}
 use Rattle.llrp_schema.specs.declared.kinds.Tail.TheVariants.{Absent, Words, Text, Bits}
 use Rattle.llrp_schema.specs.Schema.{FieldRule, fields_of, tail_of, number_of, is_tv}
 use Rattle.llrp_tree.specs.Tree.{Forest, none, and, Tree, MessageTree}
-use Rattle.llrp_tree.specs.Lawful.{head_octets, body_octets, octets, message_octets, AreOctets, IsLawfulMessage}
+use Rattle.llrp_tree.specs.Lawful.{head_octets, body_octets, octets, message_octets, first, others}
 
 -- The start of a node: of a message, of a TLV of so many octets, of a TV.
 pub data Head : Type 0 where
@@ -29,8 +29,7 @@ head_of kind octets = if is_tv kind then tv kind else tlv kind octets
 -- the values of all fields: the plain ones as given, the reserved ones zero
 abbrev pub spread : List FieldRule → List ℕ → List ℕ
 spread [] values = []
-spread (r ∷ rules) [] = 0 ∷ spread rules []
-spread (r ∷ rules) (v ∷ values) = if r.reserved then 0 ∷ spread rules (v ∷ values) else v ∷ spread rules values
+spread (r ∷ rules) values = if r.reserved then 0 ∷ spread rules values else first values ∷ spread rules (others values)
 
 -- the digits of leading fields
 abbrev pub field_digits : List FieldRule → List ℕ → List Bool

@@ -1,16 +1,16 @@
 //! The tests of a parameter's and a message's parts, one by one.
 
-ghost use Rattle.std.specs.Prelude.{◌≡◌, ◌≤◌, ◌<◌, ◌+◌, ◌*◌, ◌^◌, length, map, List, [], ◌∷◌, None, true};
+ghost use Rattle.std.specs.Prelude.{◌≡◌, ◌≤◌, ◌<◌, ◌+◌, ◌*◌, ◌^◌, ◌==◌, ◌||◌, length, map, List, [], ◌∷◌, None, true};
 ghost use Rattle.std.specs.Str.{is_utf8};
 ghost use Rattle.llrp_schema.specs.Schema.{field_rule, group_rule, fields_of, groups_of, tail_of, bits_of};
-ghost use Rattle.llrp_schema.specs.declared.kinds.Kind.TheVariants.{Parameter};
+ghost use Rattle.llrp_schema.specs.declared.kinds.Kind.TheVariants.{Message, Parameter};
 ghost use Rattle.llrp_tree.specs.Tree.{forest};
 ghost use Rattle.llrp_tree.specs.Lawful as law;
 ghost use Rattle.llrp_tree.specs.Checks as checks;
 
-use crate::{MAX_DEPTH, MAX_OCTETS, Node, NodeFault};
+use crate::{MAX_DEPTH, MAX_LIMIT, MAX_OCTETS, Node, NodeFault};
 use arrayvec::ArrayVec;
-use llrp_schema::{Field, Group, Kind, ParamKind, Tail};
+use llrp_schema::{Field, Group, Kind, MsgKind, ParamKind, Tail};
 
 /// The fields, in place.
 pub(crate) fn kept(fields: &[u128]) -> ArrayVec<u128, 12>
@@ -259,6 +259,34 @@ pub(crate) fn first_fault(
         return Some(NodeFault::TooDeep);
     }
     if octets > MAX_OCTETS as u128 {
+        return Some(NodeFault::TooLong);
+    }
+    None
+}
+
+/// Whether a version is that of LLRP 1.0.1 or that of LLRP 1.1.
+pub(crate) fn is_known_version(version: u8) -> bool
+    ensures { result ≡ ((version == 1) || (version == 2)) }
+{
+    version == 1 || version == 2
+}
+
+/// The first fault of the parts of a message of so many octets.
+pub(crate) fn first_message_fault(
+    version: u8,
+    kind: MsgKind,
+    values: &[u128],
+    nodes: &[Node],
+    octets: u128,
+) -> Option<NodeFault>
+    requires { octets ≡ 10 + law.body_octets (Message kind) [] + law.octets (forest nodes.now) }
+    ensures { result ≡ checks.first_message_fault version kind values.now (forest nodes.now) }
+{
+    let known = is_known_version(version);
+    if let Some(fault) = table_fault(Kind::Message(kind), known, values, &[], nodes) {
+        return Some(fault);
+    }
+    if octets > MAX_LIMIT as u128 {
         return Some(NodeFault::TooLong);
     }
     None

@@ -1,11 +1,13 @@
 //! Lawful parameters, with all below them.
 
-ghost use Rattle.std.specs.Prelude.{◌≡◌, ◌≤◌, ◌<◌, ◌+◌, length, IfOk, IfErr, slice_index, Some};
+ghost use Rattle.std.specs.Prelude.{◌≡◌, ◌≤◌, ◌<◌, ◌+◌, length, IfOk, IfErr, OnOk, slice_index, Some};
 ghost use Rattle.llrp_tree.specs.Tree.{Tree, forest, trees};
 ghost use Rattle.llrp_tree.specs.Lawful.{tree_octets, levels, AreOctets, IsLawful};
 ghost use Rattle.llrp_tree.specs.Checks.{first_fault};
+ghost use Rattle.llrp_tree.specs.Spelling.{spell, tree_digits};
+ghost use Rattle.llrp_tree.specs.Writing.{Appends, Grows};
 
-use crate::check;
+use crate::{check, spelling};
 use arrayvec::ArrayVec;
 use llrp_schema::{Kind, ParamKind};
 use std::alloc::{AllocError, Global};
@@ -257,6 +259,39 @@ impl Node {
         ensures { IsLawful self.now }
     {
         let _ = &self.levels;
+    }
+}
+
+impl Nodes {
+    /// Appends the octets of the parameters, one after another.
+    #[cycle(spell)]
+    pub(crate) fn append_to(&self, out: &mut Vec<u8>) -> Result<(), AllocError>
+        ensures ok { OnOk result (Appends out.old.items out.new.items (spell (forest self.now))) }
+        ensures grows { Grows out.old.items out.new.items }
+    {
+        for node in self.items.iter() {
+            node.append_to(out)?;
+        }
+        Ok(())
+    }
+}
+
+impl Node {
+    /// Appends the octets of the parameter.
+    #[cycle(spell)]
+    pub(crate) fn append_to(&self, out: &mut Vec<u8>) -> Result<(), AllocError>
+        ensures ok { OnOk result (Appends out.old.items out.new.items (tree_digits self.now)) }
+        ensures grows { Grows out.old.items out.new.items }
+    {
+        spelling::put_head(self.kind, self.octets, out)?;
+        spelling::put_body(
+            Kind::Parameter(self.kind),
+            self.fields.as_slice(),
+            self.tail.as_slice(),
+            out,
+        )?;
+        self.children.append_to(out)?;
+        Ok(())
     }
 }
 
