@@ -134,7 +134,8 @@ fn tail_fits(form: Tail, values: &[u128], tail: &[u8]) -> bool
     }
 }
 
-fn is_member(group: &Group, kind: ParamKind) -> bool
+/// Whether a kind is one of a group's.
+pub(crate) fn is_member(group: &Group, kind: ParamKind) -> bool
     ensures { result ≡ law.is_member (group_rule group.now) kind }
 {
     group
@@ -166,7 +167,8 @@ fn all_placed(groups: &[Group], nodes: &[Node]) -> bool
     true
 }
 
-fn members(group: &Group, nodes: &[Node]) -> usize
+/// How many nodes are of a group.
+pub(crate) fn members(group: &Group, nodes: &[Node]) -> usize
     ensures value { result ≡ checks.members (group_rule group.now) nodes.now }
 {
     let mut count: usize = 0;
@@ -192,8 +194,9 @@ fn none_too_many(groups: &[Group], nodes: &[Node]) -> bool
     true
 }
 
+/// Whether no group has fewer nodes than its least.
 #[tactic(auto, unfolding(crate::specs::Checks::none_missing))]
-fn none_missing(groups: &[Group], nodes: &[Node]) -> bool
+pub(crate) fn none_missing(groups: &[Group], nodes: &[Node]) -> bool
     ensures { result ≡ checks.none_missing (map group_rule groups.now) nodes.now }
 {
     for group in groups {

@@ -1,7 +1,7 @@
 //! Why a frame is no message's.
 
 ghost use Rattle.std.specs.Prelude.{◌≡◌};
-ghost use Rattle.llrp_tree.specs.declared.fault.FrameErr.TheVariants.{Memory};
+ghost use Rattle.llrp_tree.specs.declared.fault.FrameErr.TheVariants.{Memory, Bad};
 
 use std::alloc::{AllocError, AllocFailed};
 
@@ -55,6 +55,16 @@ pub enum FrameErr {
     Bad(Fault),
     /// Memory ran out.
     Memory,
+}
+
+/// The error that tells a fault.
+pub(crate) fn bad(bit: usize, reason: Reason) -> FrameErr
+    ensures { result ≡ Bad (record { bit = bit; reason = reason }) }
+{
+    FrameErr::Bad(Fault {
+        bit: bit as u64,
+        reason,
+    })
 }
 
 impl From<AllocError> for FrameErr {

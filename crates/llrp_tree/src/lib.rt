@@ -2,19 +2,20 @@
 #![tactic(auto)]
 
 mod check;
-pub mod laws;
-pub mod message;
 pub mod fault;
 pub mod laws;
+pub mod message;
 pub mod node;
+pub mod reading;
 pub mod spelling;
 #[cfg(test)]
 mod tests;
 
+pub use fault::{Fault, FrameErr, Reason};
 pub use llrp_schema::{Kind, MsgKind, ParamKind, msg_of};
 pub use message::{Message, MsgRefusal};
-pub use fault::{Fault, FrameErr, Reason};
 pub use node::{Node, NodeFault, NodeRefusal, Nodes, Octets};
+pub use reading::decode_frame;
 pub use spelling::{EncodeErr, encode_into};
 
 /// The greatest number of levels of parameters in a message.

@@ -127,6 +127,29 @@ pub struct MsgRefusal {
 }
 
 impl Message {
+    /// The message of parts that are known to be lawful.
+    pub(crate) fn of_lawful(
+        version: u8,
+        id: u32,
+        kind: MsgKind,
+        fields: ArrayVec<u128, 12>,
+        children: Nodes,
+    ) -> Message
+        requires { IsLawfulMessage (record { version = version; id = id; kind = kind; fields = fields.items; children = forest children }) }
+        ensures { result ≡ record { version = version; id = id; kind = kind; fields = fields.items; children = forest children } }
+    {
+        let extent = check::extent_of(children.as_slice());
+        let octets = 10 + check::body_octets(Kind::Message(kind), &[]) + extent.octets;
+        Message {
+            version,
+            id,
+            kind,
+            fields,
+            children,
+            octets: octets as u32,
+        }
+    }
+
     /// The message of these parts, or the first test that they fail.
     pub fn new(
         version: u8,
