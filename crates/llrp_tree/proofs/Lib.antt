@@ -16,3 +16,6 @@ pub mod Growing
 pub mod Telling
 pub mod Frames
 pub mod Totality
+pub mod ReadingLemmas
+pub mod ChildLemmas
+pub mod BodyLemmas

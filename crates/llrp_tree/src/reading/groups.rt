@@ -25,6 +25,7 @@ pub(crate) fn is_full(group: &Group, nodes: &[Node]) -> bool
 }
 
 /// Whether no group of a kind is full.
+#[tactic(auto, unfolding(crate::specs::OpenTree::takes_more))]
 pub(crate) fn takes_more(groups: &[Group], kind: ParamKind, nodes: &[Node]) -> bool
     ensures { result ≡ takes_more (map group_rule groups.now) kind (forest nodes.now) }
 {
