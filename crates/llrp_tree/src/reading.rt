@@ -13,6 +13,8 @@ mod fields;
 mod groups;
 mod header;
 mod tail;
+#[cfg(test)]
+mod tests;
 
 use crate::{FrameErr, MAX_LIMIT, Message};
 use llrp_schema::Kind;
