@@ -1,11 +1,10 @@
 -- Parts are lawful exactly where no test fails.
-use Rattle.std.proofs.Common.{◌≡◌, ℕ, zero, suc, ◌+◌, ◌*◌, ◌/◌, ◌%◌, ◌<◌, ◌≤◌, ◌^◌, List, [], ◌∷◌, ◌++◌, Bool, true, false, cond, refl, sym, ap, ◌∙◌, subst, arith, length}
+use Rattle.std.proofs.Common.{◌≡◌, ℕ, suc, ◌+◌, ◌/◌, ◌%◌, ◌<◌, ◌^◌, List, [], ◌∷◌, ◌++◌, Bool, true, false, cond, refl, sym, ap, ◌∙◌, subst, arith, length}
 use Rattle.std.specs.Prelude.{Option, None, Some, nat_le, if◌then◌else◌, ◌&&◌, ◌==◌, ◌||◌, ◌⊎◌, ◌↔◌, filter, not}
 use Rattle.std.proofs.Common.{inl, inr}
 use Rattle.std.proofs.lemmas.Bool.{le-leb, leb-true, eqb-true, eq-eqb}
 use Rattle.std.proofs.lemmas.List.Folds.{list_all-append}
 use Rattle.std.proofs.lemmas.List.Sums.{sum_by-append, sum_by-cons}
-use Rattle.std.specs.List.{list_all}
 use Rattle.std.proofs.lemmas.Str.{is_utf8-from_IsUtf8, IsUtf8-from_is_utf8}
 use Rattle.llrp_schema.specs.declared.kinds.ParamKind.{ParamKind}
 use Rattle.llrp_schema.specs.declared.kinds.MsgKind.{MsgKind}
@@ -14,12 +13,10 @@ use Rattle.llrp_schema.specs.declared.kinds.Kind.TheVariants.{Message, Parameter
 use Rattle.llrp_schema.specs.declared.kinds.Tail.{Tail}
 use Rattle.llrp_schema.specs.declared.kinds.Tail.TheVariants.{Absent, Words, Text, Bits}
 use Rattle.llrp_schema.specs.Schema.{FieldRule, GroupRule, fields_of, plain_fields_of, groups_of, tail_of}
-use Rattle.llrp_tree.specs.declared.TheConstants.{MAX_DEPTH, MAX_LIMIT, MAX_OCTETS}
 use Rattle.llrp_tree.specs.declared.node.NodeFault.{NodeFault}
-use Rattle.llrp_tree.specs.Tree.{Forest, none, and, Tree, MessageTree, trees, forest}
-use Rattle.llrp_tree.specs.Lawful.{levels, octets, head_octets, body_octets, message_octets, AreInRange, AreOctets, first, IsTail, is_member, has_place, count, ArePlaced, IsAtMost, NoneTooMany, NoneMissing, Obeys, AreLawful, AllLawful, IsLawful, IsLawfulMessage}
-use Rattle.llrp_tree.specs.Checks.{count_fits, values_fit, tail_fits, members, at_most, all_placed, none_too_many, none_missing, first_failed, table_tests, first_fault, first_message_fault}
-use Rattle.llrp_tree.proofs.TreeLemmas.{forest-trees}
+use Rattle.llrp_tree.specs.Tree.{Forest, none, and, Tree, MessageTree, trees}
+use Rattle.llrp_tree.specs.Lawful.{AreInRange, AreOctets, first, IsTail, is_member, has_place, count, ArePlaced, IsAtMost, NoneTooMany, NoneMissing, Obeys, AreLawful, AllLawful, IsLawfulMessage}
+use Rattle.llrp_tree.specs.Checks.{values_fit, tail_fits, members, at_most, all_placed, none_too_many, none_missing, table_tests, first_fault, first_message_fault}
 use Rattle.llrp_tree.proofs.TestLemmas.{AllPass, all_pass, none_fails}
 
 pub both : (a b : Bool) → (a && b) ≡ true → (a ≡ true) × (b ≡ true)
@@ -39,10 +36,10 @@ range_from [] [] l e = tt
 range_from [] (v ∷ values) l e = absurd (omega (arith, l))
 range_from (r ∷ rules) [] l e =
     (elim r.reserved as (λ b. 0 ≡ length (cond (not b) (r ∷ filter (λ x. not x.reserved) rules) (filter (λ x. not x.reserved) rules)) → (if b then values_fit rules [] else false) ≡ true → AreInRange (cond (not b) (r ∷ filter (λ x. not x.reserved) rules) (filter (λ x. not x.reserved) rules)) [])
-      [ true ↦ λ h g. range_from rules [] h g | false ↦ λ h g. absurd cc ]) l e
+    [ true ↦ λ h g. range_from rules [] h g | false ↦ λ h g. absurd cc ]) l e
 range_from (r ∷ rules) (v ∷ values) l e =
     (elim r.reserved as (λ b. suc (length values) ≡ length (cond (not b) (r ∷ filter (λ x. not x.reserved) rules) (filter (λ x. not x.reserved) rules)) → (if b then values_fit rules (v ∷ values) else (nat_le v r.greatest && values_fit rules values)) ≡ true → AreInRange (cond (not b) (r ∷ filter (λ x. not x.reserved) rules) (filter (λ x. not x.reserved) rules)) (v ∷ values))
-      [ true ↦ λ h g. range_from rules (v ∷ values) h g | false ↦ λ h g. let p = both (nat_le v r.greatest) (values_fit rules values) g in (leb-true v r.greatest p.0, range_from rules values (omega (arith, h)) p.1) ]) l e
+    [ true ↦ λ h g. range_from rules (v ∷ values) h g | false ↦ λ h g. let p = both (nat_le v r.greatest) (values_fit rules values) g in (leb-true v r.greatest p.0, range_from rules values (omega (arith, h)) p.1) ]) l e
 
 pub range_length : (rules : List FieldRule) (values : List ℕ) → AreInRange rules values → length values ≡ length rules
 range_length [] [] h = refl
@@ -54,10 +51,10 @@ pub range_fits : (rules : List FieldRule) (values : List ℕ) → AreInRange (fi
 range_fits [] values h = refl
 range_fits (r ∷ rules) [] h =
     (elim r.reserved as (λ b. AreInRange (cond (not b) (r ∷ filter (λ x. not x.reserved) rules) (filter (λ x. not x.reserved) rules)) [] → (if b then values_fit rules [] else false) ≡ true)
-      [ true ↦ λ g. range_fits rules [] g | false ↦ λ g. absurd g ]) h
+    [ true ↦ λ g. range_fits rules [] g | false ↦ λ g. absurd g ]) h
 range_fits (r ∷ rules) (v ∷ values) h =
     (elim r.reserved as (λ b. AreInRange (cond (not b) (r ∷ filter (λ x. not x.reserved) rules) (filter (λ x. not x.reserved) rules)) (v ∷ values) → (if b then values_fit rules (v ∷ values) else (nat_le v r.greatest && values_fit rules values)) ≡ true)
-      [ true ↦ λ g. range_fits rules (v ∷ values) g | false ↦ λ g. both_true (nat_le v r.greatest) (values_fit rules values) (le-leb v r.greatest g.0) (range_fits rules values g.1) ]) h
+    [ true ↦ λ g. range_fits rules (v ∷ values) g | false ↦ λ g. both_true (nat_le v r.greatest) (values_fit rules values) (le-leb v r.greatest g.0) (range_fits rules values g.1) ]) h
 
 -- ---- the tail
 
@@ -133,13 +130,13 @@ missing_to (g ∷ gs) f h = both_true _ _ (le-leb g.least (members g (trees f)) 
 obeys_from : (kind : Kind) (version : Bool) (values tail : List ℕ) (f : Forest) → AreOctets tail → AllPass (table_tests kind version values tail (trees f)) → Obeys kind values tail f
 unfolding table_tests
 obeys_from kind version values tail f os p = record {
-    ranges = range_from (fields_of kind) values (eqb-true _ _ p.0) (both version (values_fit (fields_of kind) values) p.1.0).1;
-    form = tail_from (tail_of kind) values tail p.1.1.0;
-    bytes = os;
-    placed = placed_from (groups_of kind) f p.1.1.1.0;
-    most = too_many_from (groups_of kind) f p.1.1.1.1.0;
-    least = missing_from (groups_of kind) f p.1.1.1.1.1.0;
-  }
+  ranges = range_from (fields_of kind) values (eqb-true _ _ p.0) (both version (values_fit (fields_of kind) values) p.1.0).1;
+  form = tail_from (tail_of kind) values tail p.1.1.0;
+  bytes = os;
+  placed = placed_from (groups_of kind) f p.1.1.1.0;
+  most = too_many_from (groups_of kind) f p.1.1.1.1.0;
+  least = missing_from (groups_of kind) f p.1.1.1.1.1.0;
+}
 
 obeys_to : (kind : Kind) (version : Bool) (values tail : List ℕ) (f : Forest) → version ≡ true → Obeys kind values tail f → AllPass (table_tests kind version values tail (trees f))
 unfolding table_tests

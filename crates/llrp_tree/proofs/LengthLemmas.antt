@@ -1,5 +1,5 @@
 -- How many digits messages and parameters spell.
-use Rattle.std.proofs.Common.{◌≡◌, ℕ, zero, suc, ◌+◌, ◌*◌, ◌/◌, ◌%◌, ◌≤◌, List, [], ◌∷◌, ◌++◌, Bool, true, false, refl, ap, ◌∙◌, sym, arith, length, length-append}
+use Rattle.std.proofs.Common.{◌≡◌, ℕ, ◌+◌, ◌*◌, ◌/◌, ◌≤◌, List, [], ◌∷◌, ◌++◌, Bool, true, false, refl, ap, ◌∙◌, sym, arith, length, length-append}
 use Rattle.std.proofs.lemmas.List.Sums.{sum_by-cons}
 use Rattle.std.specs.Prelude.{if◌then◌else◌}
 use Rattle.tag_bits.specs.Digits.{digits, digits_of_bytes}
@@ -16,7 +16,7 @@ use Rattle.llrp_schema.proofs.TableLaws.{whole_octets}
 use Rattle.llrp_tree.specs.Tree.{Forest, none, and, Tree, MessageTree}
 use Rattle.llrp_tree.specs.Lawful.{head_octets, count_octets, body_octets, octets, tree_octets, message_octets, first, others}
 use Rattle.llrp_tree.specs.Frame.{Frame}
-use Rattle.llrp_tree.specs.Spelling.{Head, message, tlv, tv, head_of, head_digits, spread, field_digits, count_digits, tail_digits, body_digits, spell, tree_digits, message_digits}
+use Rattle.llrp_tree.specs.Spelling.{message, tlv, tv, head_of, head_digits, spread, field_digits, tail_digits, body_digits, spell, tree_digits, message_digits}
 
 length-step : (r : FieldRule) (rules : List FieldRule) (v : ℕ) (ds : List Bool) → length ds ≡ bits_of rules → length (digits r.width v ++ ds) ≡ bits_of (r ∷ rules)
 length-step r rules v ds h =
@@ -27,8 +27,9 @@ length-field_digits : (rules : List FieldRule) (values : List ℕ) → length (f
 length-field_digits [] values = refl
 length-field_digits (r ∷ rules) values =
     elim r.reserved as (λ b. length (field_digits (r ∷ rules) (if b then 0 ∷ spread rules values else first values ∷ spread rules (others values))) ≡ bits_of (r ∷ rules)) [
-      true ↦ length-step r rules 0 (field_digits rules (spread rules values)) (length-field_digits rules values)
-    | false ↦ length-step r rules (first values) (field_digits rules (spread rules (others values))) (length-field_digits rules (others values)) ]
+      | true ↦ length-step r rules 0 (field_digits rules (spread rules values)) (length-field_digits rules values)
+      | false ↦ length-step r rules (first values) (field_digits rules (spread rules (others values))) (length-field_digits rules (others values))
+    ]
 
 pub length-tail_digits : (form : Tail) (tail : List ℕ) → length (tail_digits form tail) ≡ 8 * (count_octets form + length tail)
 length-tail_digits Absent tail = length-bytes tail ∙ omega arith

@@ -1,12 +1,11 @@
 -- Octets that are appended, and the digits that they spell.
-use Rattle.std.proofs.Common.{◌≡◌, ◌≢◌, ◌-◌, ℕ, zero, suc, ◌+◌, ◌*◌, ◌/◌, ◌%◌, ◌^◌, ◌<◌, ◌≤◌, List, [], ◌∷◌, ◌++◌, Bool, true, false, cond, refl, ap, ◌∙◌, sym, arith, append_assoc, length, length-append, append-nil, lit<, subst}
-use Rattle.std.proofs.lemmas.Nat.{div_below, mod_below, pow-add}
-use Rattle.std.proofs.Math.Nat.{pow-suc, add-suc, mul-le-mul_right, pow-le-pow_right}
+use Rattle.std.proofs.Common.{◌≡◌, ◌≢◌, ◌-◌, ℕ, suc, ◌+◌, ◌*◌, ◌/◌, ◌%◌, ◌^◌, ◌<◌, ◌≤◌, List, [], ◌∷◌, ◌++◌, Bool, true, false, refl, ap, ◌∙◌, sym, arith, append_assoc, length, append-nil, lit<, subst}
+use Rattle.std.proofs.lemmas.Nat.{div_below, pow-add}
+use Rattle.std.proofs.Math.Nat.{mul-le-mul_right, pow-le-pow_right}
 use Rattle.std.proofs.lemmas.Bool.{lt-ltb, ltb-true}
-use Rattle.std.specs.Prelude.{nat_lt, All, ◌&&◌}
-use Rattle.std.specs.List.{list_all}
+use Rattle.std.specs.Prelude.{All}
 use Rattle.tag_bits.specs.Digits.{digits, digits_of_bytes}
-use Rattle.tag_bits.proofs.DigitLemmas.{length-digits, digits-join, digits-split}
+use Rattle.tag_bits.proofs.DigitLemmas.{digits-join, digits-split}
 use Rattle.tag_bits.proofs.ByteLemmas.{bytes-nil, bytes-cons, bytes-append}
 use Rattle.llrp_schema.specs.declared.kinds.ParamKind.{ParamKind}
 use Rattle.llrp_schema.specs.declared.kinds.MsgKind.{MsgKind}
@@ -18,7 +17,7 @@ use Rattle.std.specs.Prelude.{Result, Ok, Err, OnOk}
 use Rattle.llrp_tree.specs.Tree.{Tree, MessageTree, trees, forest}
 use Rattle.llrp_tree.proofs.TreeLemmas.{forest-trees}
 use Rattle.llrp_tree.specs.Lawful.{AreOctets, message_octets}
-use Rattle.llrp_tree.specs.Spelling.{Head, tv, tlv, message, head_of, head_digits, body_digits, spell, message_digits}
+use Rattle.llrp_tree.specs.Spelling.{message, head_of, head_digits, body_digits, spell, message_digits}
 use Rattle.llrp_tree.specs.Writing.{Appends, Grows, is_sound}
 use Rattle.llrp_tree.proofs.OctetLemmas.{octets-append}
 
@@ -56,10 +55,11 @@ pub one_octet : (n k : ℕ) → k ≢ 0 → n < 2 ^ (8 * k) → (n / 256 < 2 ^ (
 one_octet n k h lt =
     let w : 8 * k ≡ 8 * (k - 1) + 8 = omega arith in
     let below : n < 2 ^ (8 * (k - 1) + 8) = subst (λ (x : ℕ). n < 2 ^ x) w lt in
-    let split = digits-split (8 * (k - 1)) 8 n below in
-    (div_below n 256 (2 ^ (8 * (k - 1))) (lit< tt) (omega (arith, pow-add 2 (8 * (k - 1)) 8)),
-     ap (λ (x : List Bool). digits (8 * (k - 1)) (n / 256) ++ x) (bytes-cons (n % 256) [] ∙ ap (λ (x : List Bool). digits 8 (n % 256) ++ x) bytes-nil ∙ append-nil (digits 8 (n % 256)))
-     ∙ sym split ∙ ap (λ (x : ℕ). digits x n) (sym w))
+    let split = digits-split (8 * (k - 1)) 8 n below in (
+      div_below n 256 (2 ^ (8 * (k - 1))) (lit< tt) (omega (arith, pow-add 2 (8 * (k - 1)) 8)),
+      ap (λ (x : List Bool). digits (8 * (k - 1)) (n / 256) ++ x) (bytes-cons (n % 256) [] ∙ ap (λ (x : List Bool). digits 8 (n % 256) ++ x) bytes-nil ∙ append-nil (digits 8 (n % 256)))
+          ∙ sym split ∙ ap (λ (x : ℕ). digits x n) (sym w),
+    )
 
 pub octet : (n : ℕ) → AreOctets (n % 256 ∷ [])
 octet n = (omega arith, tt)

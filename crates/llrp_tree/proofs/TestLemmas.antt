@@ -1,6 +1,6 @@
 -- The ordered tests.
-use Rattle.std.proofs.Common.{◌≡◌, ℕ, ◌+◌, ◌*◌, ◌/◌, ◌%◌, ◌<◌, ◌≤◌, List, [], ◌∷◌, ◌++◌, Bool, true, false, not, refl, sym, ap, ◌∙◌, arith, length}
-use Rattle.std.specs.Prelude.{Option, None, Some, count_by, nat_le, if◌then◌else◌, ◌&&◌, ◌||◌, ◌==◌}
+use Rattle.std.proofs.Common.{◌≡◌, ℕ, ◌+◌, ◌<◌, ◌≤◌, List, [], ◌∷◌, ◌++◌, Bool, true, false, refl, sym, ap, ◌∙◌, arith}
+use Rattle.std.specs.Prelude.{Option, None, Some, nat_le, if◌then◌else◌, ◌||◌, ◌==◌}
 use Rattle.std.proofs.lemmas.Bool.{le-leb, lt-leb}
 use Rattle.llrp_schema.specs.declared.kinds.ParamKind.{ParamKind}
 use Rattle.llrp_schema.specs.declared.kinds.Kind.TheVariants.{Message, Parameter}
@@ -18,14 +18,14 @@ pub failed_before : (xs ys : List (Bool × NodeFault)) (f : NodeFault) → first
 failed_before [] ys f e = absurd cc
 failed_before (x ∷ xs) ys f e =
     (elim x.0 as (λ b. (if b then first_failed xs else Some x.1) ≡ Some f → (if b then first_failed (xs ++ ys) else Some x.1) ≡ Some f)
-      [ true ↦ λ h. failed_before xs ys f h | false ↦ λ h. h ]) e
+    [ true ↦ λ h. failed_before xs ys f h | false ↦ λ h. h ]) e
 
 -- the first tests pass
 pub passed_before : (xs ys : List (Bool × NodeFault)) → first_failed xs ≡ None → first_failed (xs ++ ys) ≡ first_failed ys
 passed_before [] ys e = refl
 passed_before (x ∷ xs) ys e =
     (elim x.0 as (λ b. (if b then first_failed xs else Some x.1) ≡ None → (if b then first_failed (xs ++ ys) else Some x.1) ≡ first_failed ys)
-      [ true ↦ λ h. passed_before xs ys h | false ↦ λ h. absurd cc ]) e
+    [ true ↦ λ h. passed_before xs ys h | false ↦ λ h. absurd cc ]) e
 
 -- each test passes
 abbrev pub AllPass : List (Bool × NodeFault) → Type 0
@@ -36,7 +36,7 @@ pub all_pass : (ts : List (Bool × NodeFault)) → first_failed ts ≡ None → 
 all_pass [] e = tt
 all_pass (t ∷ ts) e =
     (elim t.0 as (λ b. (if b then first_failed ts else Some t.1) ≡ None → (b ≡ true) × AllPass ts)
-      [ true ↦ λ h. (refl, all_pass ts h) | false ↦ λ h. absurd cc ]) e
+    [ true ↦ λ h. (refl, all_pass ts h) | false ↦ λ h. absurd cc ]) e
 
 pub none_fails : (ts : List (Bool × NodeFault)) → AllPass ts → first_failed ts ≡ None
 none_fails [] h = refl

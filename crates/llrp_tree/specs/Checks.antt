@@ -1,5 +1,5 @@
 -- The tests that a parameter or a message meets, in their order, each with the fault that is told where it fails.
-use Rattle.std.specs.Prelude.{◌≡◌, ℕ, ◌+◌, ◌/◌, ◌%◌, ◌==◌, List, [], ◌∷◌, ◌++◌, length, Bool, true, false, not, ◌&&◌, ◌||◌, if◌then◌else◌, nat_le, Option, None, Some, count_by, filter}
+use Rattle.std.specs.Prelude.{ℕ, ◌+◌, ◌/◌, ◌%◌, ◌==◌, List, [], ◌∷◌, ◌++◌, length, Bool, true, false, not, ◌&&◌, ◌||◌, if◌then◌else◌, nat_le, Option, None, Some, count_by, filter}
 use Rattle.std.specs.List.{list_all}
 use Rattle.std.specs.Str.{is_utf8}
 use Rattle.llrp_schema.specs.declared.kinds.ParamKind.{ParamKind}
@@ -66,13 +66,13 @@ table_tests kind version values tail children =
 unfoldable pub first_fault : ParamKind → List ℕ → List ℕ → Forest → Option NodeFault
 first_fault kind values tail children =
     first_failed (table_tests (Parameter kind) true values tail (trees children)
-      ++ (nat_le (levels children + 1) MAX_DEPTH, TooDeep)
-      ∷ (nat_le (head_octets kind + body_octets (Parameter kind) tail + octets children) MAX_OCTETS, TooLong)
-      ∷ [])
+    ++ (nat_le (levels children + 1) MAX_DEPTH, TooDeep)
+    ∷ (nat_le (head_octets kind + body_octets (Parameter kind) tail + octets children) MAX_OCTETS, TooLong)
+    ∷ [])
 
 -- the first fault of these parts of a message, whose children are lawful
 unfoldable pub first_message_fault : ℕ → MsgKind → List ℕ → Forest → Option NodeFault
 first_message_fault version kind values children =
     first_failed (table_tests (Message kind) ((version == 1) || (version == 2)) values [] (trees children)
-      ++ (nat_le (10 + body_octets (Message kind) [] + octets children) MAX_LIMIT, TooLong)
-      ∷ [])
+    ++ (nat_le (10 + body_octets (Message kind) [] + octets children) MAX_LIMIT, TooLong)
+    ∷ [])

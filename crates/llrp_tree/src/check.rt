@@ -138,10 +138,8 @@ fn tail_fits(form: Tail, values: &[u128], tail: &[u8]) -> bool
 pub(crate) fn is_member(group: &Group, kind: ParamKind) -> bool
     ensures { result ≡ law.is_member (group_rule group.now) kind }
 {
-    group
-        .members
-        .iter()
-        .any(|member| llrp_schema::number(Kind::Parameter(*member)) == llrp_schema::number(Kind::Parameter(kind)))
+    group.members.iter().any(|member| llrp_schema::number(Kind::Parameter(*member))
+        == llrp_schema::number(Kind::Parameter(kind)))
 }
 
 pub(crate) fn has_place(groups: &[Group], kind: ParamKind) -> bool

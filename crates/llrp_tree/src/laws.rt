@@ -14,14 +14,10 @@ ghost use Rattle.llrp_tree.specs.FrameLaws.{OpenTreesAgree, FramesApart};
 /// Parts are lawful exactly where none of the ordered tests fails.
 #[tactic(auto, using(crate::proofs::LawLemmas::lawful_exactly, crate::proofs::LawLemmas::message_exactly))]
 pub fn lawful_where_no_test_fails()
-    ensures parameter {
-        (kind : ParamKind) (fields tail : List ℕ) (children : Forest) → AreOctets tail →
-        AreLawful kind fields tail children ↔ (first_fault kind fields tail children ≡ None)
-    }
-    ensures message {
-        (m : MessageTree) → m.id < 2 ^ 32 → AllLawful m.children →
-        IsLawfulMessage m ↔ (first_message_fault m.version m.kind m.fields m.children ≡ None)
-    }
+    ensures parameter { (kind : ParamKind) (fields tail : List ℕ) (children : Forest) → AreOctets tail →
+        AreLawful kind fields tail children ↔ (first_fault kind fields tail children ≡ None) }
+    ensures message { (m : MessageTree) → m.id < 2 ^ 32 → AllLawful m.children →
+        IsLawfulMessage m ↔ (first_message_fault m.version m.kind m.fields m.children ≡ None) }
 {}
 
 /// What is spelled has as many octets as the length says.

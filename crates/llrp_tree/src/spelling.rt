@@ -144,7 +144,12 @@ fn put_tail(form: Tail, tail: &[u8], out: &mut Vec<u8>) -> Result<(), AllocError
 }
 
 /// Appends the fields and the tail of a node.
-pub(crate) fn put_body(kind: Kind, values: &[u128], tail: &[u8], out: &mut Vec<u8>) -> Result<(), AllocError>
+pub(crate) fn put_body(
+    kind: Kind,
+    values: &[u128],
+    tail: &[u8],
+    out: &mut Vec<u8>,
+) -> Result<(), AllocError>
     requires values { values_fit (fields_of kind) values.now ≡ true }
     requires short { length tail.now ≤ 65535 }
     ensures ok { OnOk result (Appends out.old.items out.new.items (body_digits kind values.now tail.now)) }
@@ -156,7 +161,13 @@ pub(crate) fn put_body(kind: Kind, values: &[u128], tail: &[u8], out: &mut Vec<u
 }
 
 /// Appends a message's header: its version, kind, length and identifier.
-fn put_header(version: u8, kind: MsgKind, octets: u32, id: u32, out: &mut Vec<u8>) -> Result<(), AllocError>
+fn put_header(
+    version: u8,
+    kind: MsgKind,
+    octets: u32,
+    id: u32,
+    out: &mut Vec<u8>,
+) -> Result<(), AllocError>
     requires { version < 8 }
     ensures ok { OnOk result (Appends out.old.items out.new.items (head_digits (message_head version kind octets id))) }
     ensures grows { Grows out.old.items out.new.items }
@@ -175,7 +186,13 @@ fn append_message(message: &Message, out: &mut Vec<u8>) -> Result<(), AllocError
 {
     message.lawful();
     out.reserve(message.length() as usize)?;
-    put_header(message.version(), message.kind(), message.length(), message.id(), out)?;
+    put_header(
+        message.version(),
+        message.kind(),
+        message.length(),
+        message.id(),
+        out,
+    )?;
     put_body(Kind::Message(message.kind()), message.fields(), &[], out)?;
     message.children().append_to(out)?;
     Ok(())
@@ -184,7 +201,12 @@ fn append_message(message: &Message, out: &mut Vec<u8>) -> Result<(), AllocError
 /// Appends the frame of a message (LLRP 1.1, section 17.1).
 ///
 /// `OverLimit` where the message is longer than the limit; `out` is unchanged on an error.
-pub fn encode_into(_alloc: Global, message: &Message, out: &mut Vec<u8>, limit: u32) -> Result<(), EncodeErr>
+pub fn encode_into(
+    _alloc: Global,
+    message: &Message,
+    out: &mut Vec<u8>,
+    limit: u32,
+) -> Result<(), EncodeErr>
     ensures ok { OnOk result ((bytes : List ℕ) × Frame message.now bytes limit × (out.new.items ≡ out.old.items ++ bytes)) }
     ensures over { IsErrOf result OverLimit ↔ (limit < message_octets message.now) }
     ensures err { OnErr result (out.new.items ≡ out.old.items) }

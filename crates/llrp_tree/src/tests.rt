@@ -28,7 +28,12 @@ fn leaf(alloc: Global, kind: ParamKind, fields: &[u128]) -> Result<Node, Fail> {
 }
 
 /// A parameter over one child.
-fn over(alloc: Global, kind: ParamKind, fields: &[u128], child: Node) -> Result<Result<Node, NodeFault>, Fail> {
+fn over(
+    alloc: Global,
+    kind: ParamKind,
+    fields: &[u128],
+    child: Node,
+) -> Result<Result<Node, NodeFault>, Fail> {
     let mut children = Vec::new(alloc);
     children.push(child)?;
     node_of(alloc, kind, fields, &[], children)
@@ -46,7 +51,13 @@ fn faults_of_fields_and_tails(rt: HostRuntime) -> Result<(), Fail> {
     let alloc = rt.alloc();
     let none = node_of(alloc, ParamKind::UtcTimestamp, &[], &[], Vec::new(alloc))?;
     assert_eq!(rt; fault_of(none), Some(NodeFault::FieldCount));
-    let three = node_of(alloc, ParamKind::RoSpecEvent, &[3, 1, 0], &[], Vec::new(alloc))?;
+    let three = node_of(
+        alloc,
+        ParamKind::RoSpecEvent,
+        &[3, 1, 0],
+        &[],
+        Vec::new(alloc),
+    )?;
     assert_eq!(rt; fault_of(three), Some(NodeFault::Value));
     let odd = node_of(alloc, ParamKind::AiSpec, &[], &[1], Vec::new(alloc))?;
     assert_eq!(rt; fault_of(odd), Some(NodeFault::Tail));
@@ -106,7 +117,10 @@ fn longest_report(rt: HostRuntime) -> Result<(), Fail> {
         Ok(node) => assert_eq!(rt; node.length(), 65_534),
         Err(fault) => return Err(Fail::from(fault)),
     }
-    assert_eq!(rt; fault_of(long_report(rt.alloc(), 21_840)?), Some(NodeFault::TooLong));
+    assert_eq!(rt;
+        fault_of(long_report(rt.alloc(), 21_840)?),
+        Some(NodeFault::TooLong)
+    );
     Ok(())
 }
 
@@ -135,7 +149,10 @@ fn one_sgtin_report(rt: HostRuntime) -> Result<(), Fail> {
     let alloc = rt.alloc();
     let message = sgtin_report(alloc)?;
     let mut out = [9].to_vec(alloc)?;
-    assert_eq!(rt; encode_into(alloc, &message, &mut out, 26), Err(EncodeErr::OverLimit));
+    assert_eq!(rt;
+        encode_into(alloc, &message, &mut out, 26),
+        Err(EncodeErr::OverLimit)
+    );
     assert_eq!(rt; out.as_slice(), [9].as_slice());
     out.clear();
     assert_eq!(rt; encode_into(alloc, &message, &mut out, 27), Ok(()));
@@ -168,7 +185,13 @@ fn versions_of_messages(rt: HostRuntime) -> Result<(), Fail> {
         Ok(_) => return Err(Fail::from("version 3")),
         Err(refusal) => assert_eq!(rt; refusal.fault, NodeFault::Value),
     }
-    match Message::new(2, 7, MsgKind::StartRoSpec, &[9], Nodes::new(Vec::new(alloc))) {
+    match Message::new(
+        2,
+        7,
+        MsgKind::StartRoSpec,
+        &[9],
+        Nodes::new(Vec::new(alloc)),
+    ) {
         Ok(message) => assert_eq!(rt; message.length(), 14),
         Err(refusal) => return Err(Fail::from(refusal.fault)),
     }

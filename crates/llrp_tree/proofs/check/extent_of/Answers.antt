@@ -1,4 +1,4 @@
-use Rattle.std.proofs.Common.{◌≡◌, ◌+◌, take, arith, List, sym, ◌∙◌, ap}
+use Rattle.std.proofs.Common.{◌≡◌, ◌+◌, take, arith}
 use Rattle.llrp_tree.specs.Tree.{Tree, add, forest}
 use Rattle.llrp_tree.proofs.TreeLemmas.{forest-take_more}
 use Rattle.llrp_tree.proofs.check.extent_of.Goals as goal

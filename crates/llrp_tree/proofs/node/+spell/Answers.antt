@@ -1,4 +1,4 @@
-use Rattle.std.proofs.Common.{refl, [], ◌≡◌, ◌+◌, ℕ, List, ◌∷◌, ◌++◌, take, sym, ap, ◌∙◌, arith}
+use Rattle.std.proofs.Common.{refl, [], ◌≡◌, ◌+◌, ℕ, List, ◌++◌, take, sym, ap, ◌∙◌, arith}
 use Rattle.llrp_schema.specs.declared.kinds.Kind.TheVariants.{Parameter}
 use Rattle.llrp_schema.specs.Schema.{fields_of}
 use Rattle.llrp_tree.specs.Tree.{Tree, Forest, none, forest, add}

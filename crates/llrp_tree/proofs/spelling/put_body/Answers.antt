@@ -1,4 +1,4 @@
-use Rattle.std.proofs.Common.{◌≡◌, ap}
+use Rattle.std.proofs.Common.{ap}
 use Rattle.llrp_tree.specs.Spelling.{body_digits, tail_digits}
 use Rattle.llrp_tree.proofs.SpellingLemmas.{appends_both, appends_same}
 use Rattle.llrp_tree.proofs.spelling.put_body.Goals as goal

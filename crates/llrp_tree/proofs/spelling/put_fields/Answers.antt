@@ -1,4 +1,4 @@
-use Rattle.std.proofs.Common.{◌≡◌, ◌∙◌, arith, ap}
+use Rattle.std.proofs.Common.{◌∙◌, arith}
 use Rattle.llrp_schema.proofs.TableLaws.{few_bits, whole_octets}
 use Rattle.llrp_tree.proofs.SpellingLemmas.{appends_same, sound_fields, whole_number, whole_digits}
 use Rattle.llrp_tree.proofs.spelling.put_fields.Goals as goal

@@ -1,5 +1,4 @@
-use Rattle.std.proofs.Common.{◌≡◌, ◌+◌, ◌*◌, ◌++◌, true, false, arith}
-use Rattle.tag_bits.specs.Digits.{digits}
+use Rattle.std.proofs.Common.{◌≡◌, true, false, arith}
 use Rattle.llrp_schema.specs.Schema.{is_tv}
 use Rattle.llrp_schema.proofs.TableLaws.{param_number_fits}
 use Rattle.llrp_tree.proofs.SpellingLemmas.{appends_both, appends_same, tv_number, tv_head, tlv_head}

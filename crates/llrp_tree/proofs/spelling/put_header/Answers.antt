@@ -1,4 +1,4 @@
-use Rattle.std.proofs.Common.{◌≡◌, ◌++◌, arith, ap, List, Bool}
+use Rattle.std.proofs.Common.{◌++◌, arith, ap, List, Bool}
 use Rattle.tag_bits.specs.Digits.{digits}
 use Rattle.llrp_schema.proofs.TableLaws.{message_number_fits}
 use Rattle.llrp_tree.specs.Spelling.{head_digits}

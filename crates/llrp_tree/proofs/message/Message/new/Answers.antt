@@ -1,4 +1,4 @@
-use Rattle.std.proofs.Common.{◌≡◌, arith, sym, ◌∙◌, ap, length}
+use Rattle.std.proofs.Common.{arith, ap}
 use Rattle.llrp_schema.specs.declared.kinds.Kind.TheVariants.{Message}
 use Rattle.llrp_schema.proofs.TableLaws.{few_plain_fields}
 use Rattle.llrp_tree.specs.Tree.{forest}
