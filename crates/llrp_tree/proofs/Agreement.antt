@@ -47,11 +47,12 @@ unfolding parts whole_parts
 shrinks_at h stop fields tail (and before k vs os cs) outer rest n s o e =
     let ready : due (record { head = h; stop = stop; fields = fields; tail = tail; children = before }) ≡ Rest = ready_before h stop fields tail before k vs os cs s.children_after in
     subst (λ (m : ℕ). Before (record { head = h; stop = stop; fields = fields; tail = tail; children = and before k vs os cs } ∷ outer) rest m) (omega arith)
-      (child_before h stop fields tail before k vs os cs outer rest s o ready)
+    (child_before h stop fields tail before k vs os cs outer rest s o ready)
 shrinks_at h stop fields (Some os) none outer rest n s o e =
     elim s.tail_after [
-      inl bad ↦ absurd cc
-    | inr all ↦ subst (λ (m : ℕ). Before (record { head = h; stop = stop; fields = fields; tail = Some os; children = none } ∷ outer) rest m) (omega arith) (tail_before h stop fields os outer rest s o all) ]
+      | inl bad ↦ absurd cc
+      | inr all ↦ subst (λ (m : ℕ). Before (record { head = h; stop = stop; fields = fields; tail = Some os; children = none } ∷ outer) rest m) (omega arith) (tail_before h stop fields os outer rest s o all)
+    ]
 shrinks_at h stop (v ∷ vs) None none outer rest n s o e =
     let r = last_split v vs in
     let count : suc (length vs) ≡ length r.0 + 1 = ap (λ (x : List ℕ). length x) r.2 ∙ length-last r.0 r.1 in
@@ -74,9 +75,10 @@ shrinks (b ∷ outer) rest n s e = shrinks_at b.head b.stop b.fields b.tail b.ch
 
 -- the first w digits of x, and those behind them
 same_number : (w m n : ℕ) (x y : List Bool) → m < 2 ^ w → n < 2 ^ w → digits w m ++ x ≡ digits w n ++ y → (m ≡ n) × (x ≡ y)
-same_number w m n x y lm ln e =
-    (sym (number_own w m x lm) ∙ ap (λ (z : List Bool). value (take w z)) e ∙ number_own w n y ln,
-     sym (drop_own w m x) ∙ ap (λ (z : List Bool). drop w z) e ∙ drop_own w n y)
+same_number w m n x y lm ln e = (
+  sym (number_own w m x lm) ∙ ap (λ (z : List Bool). value (take w z)) e ∙ number_own w n y ln,
+  sym (drop_own w m x) ∙ ap (λ (z : List Bool). drop w z) e ∙ drop_own w n y,
+)
 
 regroup : (v : ℕ) (t : MsgKind) (n id : ℕ) (x : List Bool) → head_digits (message v t n id) ++ x ≡ digits 3 0 ++ (digits 3 v ++ (digits 10 (number_of (Message t)) ++ (digits 32 n ++ (digits 32 id ++ x))))
 unfolding head_digits
@@ -137,7 +139,7 @@ agree zero t u r s st su pt pu e =
     let ct : covers t ≡ head_digits (message a.version a.kind a.octets a.id) = ap covers a.is ∙ head_covered (message a.version a.kind a.octets a.id) (8 * a.octets) in
     let cu : covers u ≡ head_digits (message b.version b.kind b.octets b.id) = ap covers b.is ∙ head_covered (message b.version b.kind b.octets b.id) (8 * b.octets) in
     let heads = same_message a.version a.kind a.octets a.id b.version b.kind b.octets b.id r s (version_small a.version a.header.known_version) a.header.octets_fit a.header.id_fits (version_small b.version b.header.known_version) b.header.octets_fit b.header.id_fits
-      (sym (ap (λ (x : List Bool). x ++ r) ct) ∙ e ∙ ap (λ (x : List Bool). x ++ s) cu) in
+    (sym (ap (λ (x : List Bool). x ++ r) ct) ∙ e ∙ ap (λ (x : List Bool). x ++ s) cu) in
     let same : t ≡ u = a.is ∙ (ap (λ (h : Head). begin h (8 * a.octets) ∷ []) heads.0 ∙ ap (λ (n : ℕ). begin (message b.version b.kind b.octets b.id) (8 * n) ∷ []) heads.1) ∙ sym b.is in
     (same, append_cancel_left (covers u) r s (sym (ap (λ (x : List Begun). covers x ++ r) same) ∙ e))
 agree (suc n) t u r s st su pt pu e =
@@ -191,6 +193,7 @@ not_both t u r s st su e end lt =
 pub one_end : (t u : List Begun) (r s : List Bool) → IsOpenTree t → IsOpenTree u → covers t ++ r ≡ covers u ++ s → IsEnd (next t r) → IsEnd (next u s) → (t ≡ u) × (r ≡ s)
 one_end t u r s st su e et eu =
     elim (cases_order (parts t) (parts u)) [
-      inl same ↦ (let n = has_part t r et in agree n.0 t u r s st su n.1 (sym same ∙ n.1) e)
-    | inr (inl lt) ↦ absurd (not_both t u r s st su e et lt)
-    | inr (inr gt) ↦ absurd (not_both u t s r su st (sym e) eu gt) ]
+      | inl same ↦ (let n = has_part t r et in agree n.0 t u r s st su n.1 (sym same ∙ n.1) e)
+      | inr (inl lt) ↦ absurd (not_both t u r s st su e et lt)
+      | inr (inr gt) ↦ absurd (not_both u t s r su st (sym e) eu gt)
+    ]

@@ -54,7 +54,7 @@ module _ (bs : List ℕ) (fields : List ℕ) (at stop n : ℕ) (o : AreOctets bs
       let room : 8 * at + 16 ≤ 8 * stop = omega (arith, fit) in
       let ends : tail_end Text fields (8 * at) rest ≤ 8 * stop = omega (arith, fit, is) in
       subst (FailsFirst (tail_checks Text fields (8 * at) (8 * stop) rest)) (sym told)
-        (rw (le-leb (8 * at + 16) (8 * stop) room, le-leb (tail_end Text fields (8 * at) rest) (8 * stop) ends, bad) (ap (λ (m : ℕ). let p : Option (ℕ × Reason) = Some (m, Utf8) in p) bit))
+      (rw (le-leb (8 * at + 16) (8 * stop) room, le-leb (tail_end Text fields (8 * at) rest) (8 * stop) ends, bad) (ap (λ (m : ℕ). let p : Option (ℕ × Reason) = Some (m, Utf8) in p) bit))
 
 -- ---- the checks of a head with a length
 
@@ -62,7 +62,7 @@ first_before : (xs ys : List Check) (f : ℕ × Reason) → first_failing xs ≡
 first_before [] ys f e = absurd cc
 first_before (x ∷ xs) ys f e =
     (elim x.holds as (λ b. (if b then first_failing xs else Some (x.bit, x.reason)) ≡ Some f → (if b then first_failing (xs ++ ys) else Some (x.bit, x.reason)) ≡ Some f)
-      [ true ↦ λ h. first_before xs ys f h | false ↦ λ h. h ]) e
+    [ true ↦ λ h. first_before xs ys f h | false ↦ λ h. h ]) e
 
 and_not : (b : Bool) → (b && false) ≡ false
 and_not true = refl

@@ -26,7 +26,8 @@ use Rattle.llrp_tree.proofs.Steps.{Step, Fails, Grows, Ends, next}
 use Rattle.llrp_tree.proofs.Leading.{plain-spread, leading_spread, length-spread, drop_all, plain_in_range}
 use Rattle.llrp_tree.proofs.ReadDigits.{number_own, number_behind, length_covered, value_at, digits_take}
 use Rattle.llrp_tree.proofs.GroupLemmas.{most_none, enough_from, enough_to}
-use Rattle.llrp_tree.proofs.WholeNodes.{are_rules, length-message, length-body, length-spell, read_body, closed_digits, no_field_due, whole_tail}
+use Rattle.llrp_tree.proofs.LengthLemmas.{length-message_head, length-body_digits, length-spell, length-message_digits}
+use Rattle.llrp_tree.proofs.WholeNodes.{are_rules, read_body, closed_digits, no_field_due, whole_tail}
 use Rattle.llrp_tree.proofs.LastPart.{next_is, closing_turn, closing_passes}
 use Rattle.llrp_tree.proofs.Agreement.{IsEnd, one_end, version_small}
 use Rattle.llrp_tree.proofs.Telling.{AllHold, all_hold}
@@ -60,7 +61,7 @@ header_passes limit v k n id x lv ln fit =
     let r2 : number ds 6 10 ≡ t = number_behind 3 0 3 10 b ∙ number_behind 3 v 0 10 c ∙ number_own 10 t d (message_number_fits k) in
     let r3 : number ds 16 32 ≡ n = number_behind 3 0 13 32 b ∙ number_behind 3 v 10 32 c ∙ number_behind 10 t 0 32 d ∙ number_own 32 n e ln in
     subst (λ (y : List Bool). first_failing (header_checks limit y) ≡ None) (sym (header_spread v k n id x))
-      (passes limit ds (ap (λ (m : ℕ). m == 0) r0) (ap (λ (m : ℕ). (m == 1) || (m == 2)) r1 ∙ version_known v lv) (ap is_some (ap message_with_number r2 ∙ message_at_number k)) (ap (λ (m : ℕ). nat_le m limit) r3 ∙ le-leb n limit fit))
+    (passes limit ds (ap (λ (m : ℕ). m == 0) r0) (ap (λ (m : ℕ). (m == 1) || (m == 2)) r1 ∙ version_known v lv) (ap is_some (ap message_with_number r2 ∙ message_at_number k)) (ap (λ (m : ℕ). nat_le m limit) r3 ∙ le-leb n limit fit))
 
 -- ---- a message's frame as an open tree that is at its end
 
@@ -68,14 +69,6 @@ message_body : (m : MessageTree) → IsLawfulMessage m → leading_digits (Messa
 message_body m l =
     let no_tail : as_read (tail_of (Message m.kind)) [] ≡ None = ap (λ (f : Tail). as_read f []) (message_tail m.kind) in
     ap (λ (o : Option (List ℕ)). leading_digits (Message m.kind) (spread (fields_of (Message m.kind)) m.fields) o) (sym no_tail) ∙ read_body (Message m.kind) m.fields [] l.obeys.form
-
-length-message_digits : (m : MessageTree) → length (message_digits m) ≡ 8 * message_octets m
-length-message_digits m =
-    let head = head_digits (message m.version m.kind (message_octets m) m.id) in
-    let body = body_digits (Message m.kind) m.fields [] in
-    let a = length-append head (body ++ spell m.children) in
-    let b = length-append body (spell m.children) in
-    omega (arith, a, b, length-message m.version m.kind (message_octets m) m.id, length-body (Message m.kind) m.fields [], length-spell m.children)
 
 few_levels : (f : Forest) → AllLawful f → levels f ≤ MAX_DEPTH
 few_levels none l = omega arith
@@ -240,10 +233,10 @@ closes_frame limit bytes v k n id vs tail cs at le os own fit c =
     let all : take at ds ≡ ds = (let e : at ≡ length ds = omega (arith, c.stands.within, long, end) in ap (λ (j : ℕ). take j ds) e ∙ take-length ds) in
     let read : ds ≡ head_digits (message v k n id) ++ (body_digits (Message k) plain [] ++ spell cs) = sym all ∙ sym c.stands.covered ∙ ap (λ (x : List Bool). head_digits (message v k n id) ++ (x ++ spell cs)) body in
     let is_size : n ≡ message_octets m =
-      (let a = length-append (head_digits (message v k n id)) (body_digits (Message k) plain [] ++ spell cs) in
-       let b = length-append (body_digits (Message k) plain []) (spell cs) in
-       let total = ap (λ (x : List Bool). length x) read in
-       omega (arith, a, b, total, long, length-message v k n id, length-body (Message k) plain [], length-spell cs)) in
+    (let a = length-append (head_digits (message v k n id)) (body_digits (Message k) plain [] ++ spell cs) in
+    let b = length-append (body_digits (Message k) plain []) (spell cs) in
+    let total = ap (λ (x : List Bool). length x) read in
+    omega (arith, a, b, total, long, length-message_head v k n id, length-body_digits (Message k) plain [], length-spell cs)) in
     record {
       lawful = record {
         version = f.known_version;

@@ -25,7 +25,8 @@ use Rattle.llrp_tree.proofs.Steps.{begin, with_child}
 use Rattle.llrp_tree.proofs.Leading.{more_leading, plain_in_range}
 use Rattle.llrp_tree.proofs.ReadDigits.{covers_more, length_covered, digits_at, value_at, digits_take, length-more, length-octets_at, are_octets_at, octets_spelled}
 use Rattle.llrp_tree.proofs.GroupLemmas.{most_none, most_after, enough_from}
-use Rattle.llrp_tree.proofs.WholeNodes.{length-tlv, length-tv, length-body, length-spell, closed_digits, no_field_due, whole_tail}
+use Rattle.llrp_tree.proofs.LengthLemmas.{length-tlv, length-tv, length-body_digits, length-spell}
+use Rattle.llrp_tree.proofs.WholeNodes.{closed_digits, no_field_due, whole_tail}
 use Rattle.llrp_tree.proofs.LastPart.{field_covered, tail_covered, closed_covered, size}
 use Rattle.llrp_tree.proofs.Openings.{begun_covered}
 
@@ -277,7 +278,7 @@ module _ (h : Head) (stop : ℕ) (fs : List ℕ) (tl : Option (List ℕ)) (befor
       let os : List ℕ = unwrap_or tail [] in
       let own = closed_digits (Parameter k) vs tail s.fields r.0 r.1 in
       let body : List Bool = leading_digits (Parameter k) vs tail ++ spell cs in
-      let body_long : length body ≡ 8 * (body_octets (Parameter k) os + octets cs) = ap (λ (x : List Bool). length (x ++ spell cs)) own ∙ (let a = length-append (body_digits (Parameter k) (plain_values (fields_of (Parameter k)) vs) os) (spell cs) in let b = length-body (Parameter k) (plain_values (fields_of (Parameter k)) vs) os in let c = length-spell cs in omega arith) in
+      let body_long : length body ≡ 8 * (body_octets (Parameter k) os + octets cs) = ap (λ (x : List Bool). length (x ++ spell cs)) own ∙ (let a = length-append (body_digits (Parameter k) (plain_values (fields_of (Parameter k)) vs) os) (spell cs) in let b = length-body_digits (Parameter k) (plain_values (fields_of (Parameter k)) vs) os in let c = length-spell cs in omega arith) in
       let grown = length-append (covers (over before ∷ outer)) (head_digits (tlv k n) ++ body) in
       let both = length-append (head_digits (tlv k n)) body in
       let was : length (covers (under (tlv k n) stop_b ∷ over before ∷ outer)) ≡ at = length_covered (covers (under (tlv k n) stop_b ∷ over before ∷ outer)) at ds st.covered st.within in
@@ -285,9 +286,9 @@ module _ (h : Head) (stop : ℕ) (fs : List ℕ) (tl : Option (List ℕ)) (befor
       let is_size : n ≡ size k os cs = omega (arith, f.stops, grown, both, was, body_long, length-tlv k n, four) in
       let is_head : tlv k n ≡ head_of k (size k os cs) = (let g = f.kind_is_tlv in ap (λ (m : ℕ). tlv k m) is_size ∙ rw g refl) in
       closed_stands (tlv k n) stop_b k st
-        (closed_covered h stop fs tl before outer (tlv k n) stop_b vs tail k (plain_values (fields_of (Parameter k)) vs) os cs is_head own)
-        (lawful_child k vs tail cs s.fields s.tail s.placed s.most r.0 r.1 enough (omega (arith, s.deep)) (omega (arith, f.most, is_size)))
-        f.may_begin (omega (arith, f.within))
+      (closed_covered h stop fs tl before outer (tlv k n) stop_b vs tail k (plain_values (fields_of (Parameter k)) vs) os cs is_head own)
+      (lawful_child k vs tail cs s.fields s.tail s.placed s.most r.0 r.1 enough (omega (arith, s.deep)) (omega (arith, f.most, is_size)))
+      f.may_begin (omega (arith, f.within))
 
   pub close_tv : (k : ParamKind) (stop_b : ℕ) → Stands ds (under (tv k) stop_b ∷ over before ∷ outer) at → due (under (tv k) stop_b) ≡ Rest → is_enough (groups_of (Parameter k)) cs ≡ true
       → Stands ds (over (with_child before k vs tail cs) ∷ outer) at
@@ -301,6 +302,6 @@ module _ (h : Head) (stop : ℕ) (fs : List ℕ) (tl : Option (List ℕ)) (befor
       let was = length_covered (covers (under (tv k) stop_b ∷ over before ∷ outer)) at ds st.covered st.within in
       let is_head : tv k ≡ head_of k (size k os cs) = (let g = f.kind_is_tv in rw g refl) in
       closed_stands (tv k) stop_b k st
-        (closed_covered h stop fs tl before outer (tv k) stop_b vs tail k (plain_values (fields_of (Parameter k)) vs) os cs is_head own)
-        (lawful_child k vs tail cs s.fields s.tail s.placed s.most r.0 r.1 enough (omega (arith, s.deep)) (tv_short k (plain_values (fields_of (Parameter k)) vs) tail cs f.kind_is_tv s.tail s.placed))
-        f.may_begin (omega (arith, s.inside, f.stops))
+      (closed_covered h stop fs tl before outer (tv k) stop_b vs tail k (plain_values (fields_of (Parameter k)) vs) os cs is_head own)
+      (lawful_child k vs tail cs s.fields s.tail s.placed s.most r.0 r.1 enough (omega (arith, s.deep)) (tv_short k (plain_values (fields_of (Parameter k)) vs) tail cs f.kind_is_tv s.tail s.placed))
+      f.may_begin (omega (arith, s.inside, f.stops))

@@ -23,7 +23,9 @@ use Rattle.llrp_tree.specs.FirstFault.{number, octets_at, tail_length, tail_at, 
 use Rattle.llrp_tree.proofs.Leading.{last_field, drop_all, length-spread, plain-spread, leading_spread}
 use Rattle.llrp_tree.proofs.ReadDigits.{take_own, drop_own, number_own, number_behind, length-more, octets_again}
 use Rattle.llrp_tree.proofs.GroupLemmas.{most_before, takes_one_more, enough_to}
-use Rattle.llrp_tree.proofs.WholeNodes.{are_rules, tv_number, length-tlv, length-tv, length-tail, length-body, length-spell, read_is_rest, read_again, is_read_tail, read_body}
+use Rattle.llrp_tree.proofs.LengthLemmas.{length-tlv, length-tv, length-tail_digits, length-body_digits, length-spell}
+use Rattle.llrp_tree.proofs.SpellingLemmas.{tv_number}
+use Rattle.llrp_tree.proofs.WholeNodes.{are_rules, read_is_rest, read_again, is_read_tail, read_body}
 use Rattle.llrp_tree.proofs.Steps.{Step, Fails, Grows, Ends, begin, closed, unless_failed, grown, grown_chain, next}
 
 -- the tree with a part less
@@ -67,21 +69,21 @@ module _ (h : Head) (stop : ℕ) (init : List ℕ) (v : ℕ) (outer : List Begun
   pub field_before : IsOpenNode (with_fields (init ++ v ∷ [])) outer → IsOpenTree outer → Before (with_fields (init ++ v ∷ []) ∷ outer) rest (parts outer + (1 + length init))
   unfolding IsOpenTree parts whole_parts
   field_before s outer_open =
-    let l = last_field (fields_of (kind_of h)) init v s.fields in
-    let w : ℕ = l.rule.width in
-    let c : covers (with_fields (init ++ v ∷ []) ∷ outer) ≡ covers (with_fields init ∷ outer) ++ digits w v = field_covered w l.spelled in
-    let long : length (covers (with_fields (init ++ v ∷ []) ∷ outer)) ≡ length (covers (with_fields init ∷ outer)) + w = ap (λ (x : List Bool). length x) c ∙ length-more (covers (with_fields init ∷ outer)) (digits w v) w (length-digits w v) in
-    let in_time : length (covers (with_fields init ∷ outer)) + w ≤ stop = omega (arith, s.inside, long) in
-    let read : number (digits w v ++ rest) 0 w ≡ v = number_own w v rest l.below in
-    record {
-      tree = with_fields init ∷ outer;
-      left = digits w v ++ rest;
-      is_open = (record { head = s.head; fields = l.leading; tail = tt; tail_after = inl refl; children_after = inl refl; lawful = s.lawful; placed = s.placed; most = s.most; deep = s.deep; inside = omega arith }, outer_open);
-      same = rw c (sym (append_assoc (covers (with_fields init ∷ outer)) (digits w v) rest));
-      step = next_is (with_fields init) outer (digits w v ++ rest) (ReadField l.rule) (field_turn l.rule l.after l.at (length (covers (with_fields init ∷ outer))) (digits w v ++ rest)) (field_passes l.rule (length (covers (with_fields init ∷ outer))) (digits w v ++ rest) in_time (ap (in_range l.rule) read ∙ l.fit))
-        ∙ ap (λ (u : ℕ). Grows (with_fields (init ++ u ∷ []) ∷ outer)) read;
-      fewer = omega arith;
-    }
+      let l = last_field (fields_of (kind_of h)) init v s.fields in
+      let w : ℕ = l.rule.width in
+      let c : covers (with_fields (init ++ v ∷ []) ∷ outer) ≡ covers (with_fields init ∷ outer) ++ digits w v = field_covered w l.spelled in
+      let long : length (covers (with_fields (init ++ v ∷ []) ∷ outer)) ≡ length (covers (with_fields init ∷ outer)) + w = ap (λ (x : List Bool). length x) c ∙ length-more (covers (with_fields init ∷ outer)) (digits w v) w (length-digits w v) in
+      let in_time : length (covers (with_fields init ∷ outer)) + w ≤ stop = omega (arith, s.inside, long) in
+      let read : number (digits w v ++ rest) 0 w ≡ v = number_own w v rest l.below in
+      record {
+        tree = with_fields init ∷ outer;
+        left = digits w v ++ rest;
+        is_open = (record { head = s.head; fields = l.leading; tail = tt; tail_after = inl refl; children_after = inl refl; lawful = s.lawful; placed = s.placed; most = s.most; deep = s.deep; inside = omega arith }, outer_open);
+        same = rw c (sym (append_assoc (covers (with_fields init ∷ outer)) (digits w v) rest));
+        step = next_is (with_fields init) outer (digits w v ++ rest) (ReadField l.rule) (field_turn l.rule l.after l.at (length (covers (with_fields init ∷ outer))) (digits w v ++ rest)) (field_passes l.rule (length (covers (with_fields init ∷ outer))) (digits w v ++ rest) in_time (ap (in_range l.rule) read ∙ l.fit))
+            ∙ ap (λ (u : ℕ). Grows (with_fields (init ++ u ∷ []) ∷ outer)) read;
+        fewer = omega arith;
+      }
 
 -- ---- the last part is a tail
 
@@ -132,24 +134,24 @@ module _ (h : Head) (stop : ℕ) (vs : List ℕ) (os : List ℕ) (outer : List B
       → Before (with_tail (Some os) ∷ outer) rest (parts outer + (1 + length vs))
   unfolding IsOpenTree parts whole_parts
   tail_before s outer_open all_fields =
-    let t = s.tail in
-    let f : Tail = tail_of (kind_of h) in
-    let plain : List ℕ = plain_values (fields_of (kind_of h)) vs in
-    let at : ℕ = length (covers (with_tail None ∷ outer)) in
-    let ds : List Bool = tail_digits f os ++ rest in
-    let long : length (covers (with_tail (Some os) ∷ outer)) ≡ at + 8 * (count_octets f + length os) = ap (λ (x : List Bool). length x) tail_covered ∙ length-more (covers (with_tail None ∷ outer)) (tail_digits f os) (8 * (count_octets f + length os)) (length-tail f os) in
-    let many = tail_length_again f plain os rest t.1 in
-    let again = tail_again f plain os rest t.1 t.2 in
-    let in_time : tail_end f plain at ds ≤ stop = omega (arith, s.inside, long, many) in
-    record {
-      tree = with_tail None ∷ outer;
-      left = ds;
-      is_open = (record { head = s.head; fields = s.fields; tail = tt; tail_after = inl refl; children_after = inl refl; lawful = s.lawful; placed = s.placed; most = s.most; deep = s.deep; inside = omega (arith, s.inside, long) }, outer_open);
-      same = rw tail_covered (sym (append_assoc (covers (with_tail None ∷ outer)) (tail_digits f os) rest));
-      step = next_is (with_tail None) outer ds ReadTail (tail_turn at ds (drop_all (fields_of (kind_of h)) (length vs) all_fields) t.0) (tail_passes_here at ds (tail_passes f plain at stop ds t.0 in_time (subst (λ (x : List ℕ). IsTail f plain x) (sym again) t.1)))
-        ∙ ap (λ (u : List ℕ). Grows (with_tail (Some u) ∷ outer)) again;
-      fewer = omega arith;
-    }
+      let t = s.tail in
+      let f : Tail = tail_of (kind_of h) in
+      let plain : List ℕ = plain_values (fields_of (kind_of h)) vs in
+      let at : ℕ = length (covers (with_tail None ∷ outer)) in
+      let ds : List Bool = tail_digits f os ++ rest in
+      let long : length (covers (with_tail (Some os) ∷ outer)) ≡ at + 8 * (count_octets f + length os) = ap (λ (x : List Bool). length x) tail_covered ∙ length-more (covers (with_tail None ∷ outer)) (tail_digits f os) (8 * (count_octets f + length os)) (length-tail_digits f os) in
+      let many = tail_length_again f plain os rest t.1 in
+      let again = tail_again f plain os rest t.1 t.2 in
+      let in_time : tail_end f plain at ds ≤ stop = omega (arith, s.inside, long, many) in
+      record {
+        tree = with_tail None ∷ outer;
+        left = ds;
+        is_open = (record { head = s.head; fields = s.fields; tail = tt; tail_after = inl refl; children_after = inl refl; lawful = s.lawful; placed = s.placed; most = s.most; deep = s.deep; inside = omega (arith, s.inside, long) }, outer_open);
+        same = rw tail_covered (sym (append_assoc (covers (with_tail None ∷ outer)) (tail_digits f os) rest));
+        step = next_is (with_tail None) outer ds ReadTail (tail_turn at ds (drop_all (fields_of (kind_of h)) (length vs) all_fields) t.0) (tail_passes_here at ds (tail_passes f plain at stop ds t.0 in_time (subst (λ (x : List ℕ). IsTail f plain x) (sym again) t.1)))
+            ∙ ap (λ (u : List ℕ). Grows (with_tail (Some u) ∷ outer)) again;
+        fewer = omega arith;
+      }
 
 -- ---- the last part is the closing of the last child
 
@@ -172,7 +174,7 @@ size k tail cs = head_octets k + body_octets (Parameter k) tail + octets cs
 pub closed_covered : (h : Head) (stop : ℕ) (fs : List ℕ) (tl : Option (List ℕ)) (before : Forest) (outer : List Begun) (hb : Head) (stop_b : ℕ) (read : List ℕ) (read_tail : Option (List ℕ)) (k : ParamKind) (vs tail : List ℕ) (cs : Forest)
     → hb ≡ head_of k (size k tail cs) → leading_digits (kind_of hb) read read_tail ≡ body_digits (Parameter k) vs tail
     → covers (record { head = hb; stop = stop_b; fields = read; tail = read_tail; children = cs } ∷ record { head = h; stop = stop; fields = fs; tail = tl; children = before } ∷ outer)
-      ≡ covers (record { head = h; stop = stop; fields = fs; tail = tl; children = and before k vs tail cs } ∷ outer)
+    ≡ covers (record { head = h; stop = stop; fields = fs; tail = tl; children = and before k vs tail cs } ∷ outer)
 unfolding covers part spell
 closed_covered h stop fs tl before outer hb stop_b read read_tail k vs tail cs e b =
     let x = leading_digits (kind_of h) fs tl in
@@ -203,52 +205,57 @@ module _ (h : Head) (stop : ℕ) (fs : List ℕ) (tl : Option (List ℕ)) (befor
       → Before (parent (and before k vs tail cs) ∷ outer) rest (parts outer + (1 + length fs + tail_parts tl + whole_parts before) + (1 + length (fields_of (kind_of hb)) + tail_parts (as_read (tail_of (kind_of hb)) tail) + whole_parts cs))
   unfolding IsOpenTree parts ArePlaced
   closing_before hb stop_b w cs_lawful s outer_open ready c head over inside longer is =
-    let at : ℕ = length (covers (child hb stop_b ∷ parent before ∷ outer)) in
-    let kind : Kind = kind_of hb in
-    let total : at ≡ length (covers (parent (and before k vs tail cs) ∷ outer)) = ap (λ (x : List Bool). length x) c in
-    let deep : length outer + max (levels before) (levels cs + 1) ≤ MAX_DEPTH = s.deep in
-    let values : IsTail (tail_of kind) (plain_values (fields_of kind) (spread (fields_of kind) vs)) tail = subst (λ (x : List ℕ). IsTail (tail_of kind) x tail) (sym (plain-spread (fields_of kind) vs w.ranges)) w.form in
-    let many = length-spread (fields_of kind) vs in
-    record {
-      tree = child hb stop_b ∷ parent before ∷ outer;
-      left = rest;
-      is_open = (record { head = head; fields = leading_spread (fields_of kind) vs (are_rules kind) w.ranges; tail = is_read_tail (tail_of kind) (plain_values (fields_of kind) (spread (fields_of kind) vs)) tail values w.bytes; tail_after = inr many; children_after = inr (child_due hb stop_b); lawful = cs_lawful; placed = w.placed; most = w.most; deep = omega (arith, deep); inside = inside },
-        (record { head = s.head; fields = s.fields; tail = s.tail; tail_after = s.tail_after; children_after = inr ready; lawful = s.lawful.0; placed = s.placed.0; most = most_before (groups_of (kind_of h)) before k vs tail cs s.most; deep = omega (arith, deep); inside = omega (arith, s.inside, total, longer) },
-        outer_open));
-      same = rw c refl;
-      step = next_is (child hb stop_b) (parent before ∷ outer) rest Close (closing_turn (child hb stop_b) at rest (child_due hb stop_b) over) (closing_passes (child hb stop_b) (length (child hb stop_b ∷ parent before ∷ outer)) at rest (enough_to (groups_of kind) cs w.least))
-        ∙ ap (λ (x : Forest). Grows (parent x ∷ outer)) is;
-      fewer = omega (arith, many);
-    }
+      let at : ℕ = length (covers (child hb stop_b ∷ parent before ∷ outer)) in
+      let kind : Kind = kind_of hb in
+      let total : at ≡ length (covers (parent (and before k vs tail cs) ∷ outer)) = ap (λ (x : List Bool). length x) c in
+      let deep : length outer + max (levels before) (levels cs + 1) ≤ MAX_DEPTH = s.deep in
+      let values : IsTail (tail_of kind) (plain_values (fields_of kind) (spread (fields_of kind) vs)) tail = subst (λ (x : List ℕ). IsTail (tail_of kind) x tail) (sym (plain-spread (fields_of kind) vs w.ranges)) w.form in
+      let many = length-spread (fields_of kind) vs in
+      record {
+        tree = child hb stop_b ∷ parent before ∷ outer;
+        left = rest;
+        is_open = (
+          record { head = head; fields = leading_spread (fields_of kind) vs (are_rules kind) w.ranges; tail = is_read_tail (tail_of kind) (plain_values (fields_of kind) (spread (fields_of kind) vs)) tail values w.bytes; tail_after = inr many; children_after = inr (child_due hb stop_b); lawful = cs_lawful; placed = w.placed; most = w.most; deep = omega (arith, deep); inside = inside },
+          (
+            record { head = s.head; fields = s.fields; tail = s.tail; tail_after = s.tail_after; children_after = inr ready; lawful = s.lawful.0; placed = s.placed.0; most = most_before (groups_of (kind_of h)) before k vs tail cs s.most; deep = omega (arith, deep); inside = omega (arith, s.inside, total, longer) },
+            outer_open,
+          ),
+        );
+        same = rw c refl;
+        step = next_is (child hb stop_b) (parent before ∷ outer) rest Close (closing_turn (child hb stop_b) at rest (child_due hb stop_b) over) (closing_passes (child hb stop_b) (length (child hb stop_b ∷ parent before ∷ outer)) at rest (enough_to (groups_of kind) cs w.least))
+            ∙ ap (λ (x : Forest). Grows (parent x ∷ outer)) is;
+        fewer = omega (arith, many);
+      }
 
   pub child_before : IsOpenNode (parent (and before k vs tail cs)) outer → IsOpenTree outer → due (parent before) ≡ Rest
       → Before (parent (and before k vs tail cs) ∷ outer) rest (parts outer + (1 + length fs + tail_parts tl + whole_parts before) + (1 + length (fields_of (Parameter k)) + tail_parts (as_read (tail_of (Parameter k)) tail) + whole_parts cs))
   unfolding ArePlaced covers part
   child_before s outer_open ready =
-    let w : AreLawful k vs tail cs = s.lawful.1 in
-    let again : and before k (plain_values (fields_of (Parameter k)) (spread (fields_of (Parameter k)) vs)) (unwrap_or (as_read (tail_of (Parameter k)) tail) []) cs ≡ and before k vs tail cs = rw (plain-spread (fields_of (Parameter k)) vs w.obeys.ranges, read_again (tail_of (Parameter k)) vs tail w.obeys.form) refl in
-    let body = read_body (Parameter k) vs tail w.obeys.form in
-    let may : MayBegin (parent before) k = record { ready = ready; has = s.placed.1; more = takes_one_more (groups_of (kind_of h)) before k vs tail cs s.most } in
-    let deep : length outer + max (levels before) (levels cs + 1) ≤ MAX_DEPTH = s.deep in
-    let here : ℕ = length (covers (parent before ∷ outer)) in
-    let inner : List Bool = leading_digits (Parameter k) (spread (fields_of (Parameter k)) vs) (as_read (tail_of (Parameter k)) tail) ++ spell cs in
-    let inner_long : length inner ≡ 8 * (body_octets (Parameter k) tail + octets cs) = ap (λ (x : List Bool). length (x ++ spell cs)) body ∙ (let a = length-append (body_digits (Parameter k) vs tail) (spell cs) in let b = length-body (Parameter k) vs tail in let c = length-spell cs in omega arith) in
-    (elim (is_tv k) as (λ b. is_tv k ≡ b → Before (parent (and before k vs tail cs) ∷ outer) rest (parts outer + (1 + length fs + tail_parts tl + whole_parts before) + (1 + length (fields_of (Parameter k)) + tail_parts (as_read (tail_of (Parameter k)) tail) + whole_parts cs))) [
-      true ↦ λ f.
-        let is_head : tv k ≡ head_of k (size k tail cs) = rw f refl in
-        let c = closed_covered h stop fs tl before outer (tv k) stop (spread (fields_of (Parameter k)) vs) (as_read (tail_of (Parameter k)) tail) k vs tail cs is_head body in
-        let total : length (covers (child (tv k) stop ∷ parent before ∷ outer)) ≡ length (covers (parent (and before k vs tail cs) ∷ outer)) = ap (λ (x : List Bool). length x) c in
-        let longer = length-append (covers (parent before ∷ outer)) (head_digits (tv k) ++ inner) in
-        closing_before (tv k) stop w.obeys s.lawful.2 s outer_open ready c (record { kind_is_tv = f; stops = refl; deep = omega (arith, deep); may_begin = may }) refl (omega (arith, s.inside, total)) (omega (arith, longer)) again
-    | false ↦ λ f.
-        let four : head_octets k ≡ 4 = rw f refl in
-        let n : ℕ = size k tail cs in
-        let stop_b : ℕ = here + 8 * n in
-        let is_head : tlv k n ≡ head_of k (size k tail cs) = rw f refl in
-        let c = closed_covered h stop fs tl before outer (tlv k n) stop_b (spread (fields_of (Parameter k)) vs) (as_read (tail_of (Parameter k)) tail) k vs tail cs is_head body in
-        let total : length (covers (child (tlv k n) stop_b ∷ parent before ∷ outer)) ≡ length (covers (parent (and before k vs tail cs) ∷ outer)) = ap (λ (x : List Bool). length x) c in
-        let longer = length-append (covers (parent before ∷ outer)) (head_digits (tlv k n) ++ inner) in
-        let own = length-append (head_digits (tlv k n)) inner in
-        let long : length (covers (child (tlv k n) stop_b ∷ parent before ∷ outer)) ≡ stop_b = omega (arith, longer, own, inner_long, length-tlv k n, four) in
-        closing_before (tlv k n) stop_b w.obeys s.lawful.2 s outer_open ready c (record { kind_is_tlv = f; least = omega (arith, four); most = omega (arith, w.long); stops = refl; within = omega (arith, s.inside, total, long); deep = omega (arith, deep); may_begin = may })
-          (le-leb stop_b (length (covers (child (tlv k n) stop_b ∷ parent before ∷ outer))) (omega (arith, long))) (omega (arith, long)) (omega (arith, long)) again ]) refl
+      let w : AreLawful k vs tail cs = s.lawful.1 in
+      let again : and before k (plain_values (fields_of (Parameter k)) (spread (fields_of (Parameter k)) vs)) (unwrap_or (as_read (tail_of (Parameter k)) tail) []) cs ≡ and before k vs tail cs = rw (plain-spread (fields_of (Parameter k)) vs w.obeys.ranges, read_again (tail_of (Parameter k)) vs tail w.obeys.form) refl in
+      let body = read_body (Parameter k) vs tail w.obeys.form in
+      let may : MayBegin (parent before) k = record { ready = ready; has = s.placed.1; more = takes_one_more (groups_of (kind_of h)) before k vs tail cs s.most } in
+      let deep : length outer + max (levels before) (levels cs + 1) ≤ MAX_DEPTH = s.deep in
+      let here : ℕ = length (covers (parent before ∷ outer)) in
+      let inner : List Bool = leading_digits (Parameter k) (spread (fields_of (Parameter k)) vs) (as_read (tail_of (Parameter k)) tail) ++ spell cs in
+      let inner_long : length inner ≡ 8 * (body_octets (Parameter k) tail + octets cs) = ap (λ (x : List Bool). length (x ++ spell cs)) body ∙ (let a = length-append (body_digits (Parameter k) vs tail) (spell cs) in let b = length-body_digits (Parameter k) vs tail in let c = length-spell cs in omega arith) in
+      (elim (is_tv k) as (λ b. is_tv k ≡ b → Before (parent (and before k vs tail cs) ∷ outer) rest (parts outer + (1 + length fs + tail_parts tl + whole_parts before) + (1 + length (fields_of (Parameter k)) + tail_parts (as_read (tail_of (Parameter k)) tail) + whole_parts cs))) [
+        | true ↦ λ f.
+            let is_head : tv k ≡ head_of k (size k tail cs) = rw f refl in
+            let c = closed_covered h stop fs tl before outer (tv k) stop (spread (fields_of (Parameter k)) vs) (as_read (tail_of (Parameter k)) tail) k vs tail cs is_head body in
+            let total : length (covers (child (tv k) stop ∷ parent before ∷ outer)) ≡ length (covers (parent (and before k vs tail cs) ∷ outer)) = ap (λ (x : List Bool). length x) c in
+            let longer = length-append (covers (parent before ∷ outer)) (head_digits (tv k) ++ inner) in
+            closing_before (tv k) stop w.obeys s.lawful.2 s outer_open ready c (record { kind_is_tv = f; stops = refl; deep = omega (arith, deep); may_begin = may }) refl (omega (arith, s.inside, total)) (omega (arith, longer)) again
+        | false ↦ λ f.
+            let four : head_octets k ≡ 4 = rw f refl in
+            let n : ℕ = size k tail cs in
+            let stop_b : ℕ = here + 8 * n in
+            let is_head : tlv k n ≡ head_of k (size k tail cs) = rw f refl in
+            let c = closed_covered h stop fs tl before outer (tlv k n) stop_b (spread (fields_of (Parameter k)) vs) (as_read (tail_of (Parameter k)) tail) k vs tail cs is_head body in
+            let total : length (covers (child (tlv k n) stop_b ∷ parent before ∷ outer)) ≡ length (covers (parent (and before k vs tail cs) ∷ outer)) = ap (λ (x : List Bool). length x) c in
+            let longer = length-append (covers (parent before ∷ outer)) (head_digits (tlv k n) ++ inner) in
+            let own = length-append (head_digits (tlv k n)) inner in
+            let long : length (covers (child (tlv k n) stop_b ∷ parent before ∷ outer)) ≡ stop_b = omega (arith, longer, own, inner_long, length-tlv k n, four) in
+            closing_before (tlv k n) stop_b w.obeys s.lawful.2 s outer_open ready c (record { kind_is_tlv = f; least = omega (arith, four); most = omega (arith, w.long); stops = refl; within = omega (arith, s.inside, total, long); deep = omega (arith, deep); may_begin = may })
+            (le-leb stop_b (length (covers (child (tlv k n) stop_b ∷ parent before ∷ outer))) (omega (arith, long))) (omega (arith, long)) (omega (arith, long)) again
+      ]) refl

@@ -27,7 +27,7 @@ pub length-spread : (rules : List FieldRule) (ws : List ℕ) → length (spread 
 length-spread [] ws = refl
 length-spread (r ∷ rules) ws =
     elim r.reserved as (λ b. length (if b then 0 ∷ spread rules ws else first ws ∷ spread rules (others ws)) ≡ suc (length rules))
-      [ true ↦ ap suc (length-spread rules ws) | false ↦ ap suc (length-spread rules (others ws)) ]
+    [ true ↦ ap suc (length-spread rules ws) | false ↦ ap suc (length-spread rules (others ws)) ]
 
 -- all fields of a kind are as many digits as their widths say
 pub length-fields : (rules : List FieldRule) (vs : List ℕ) → length vs ≡ length rules → length (field_digits rules vs) ≡ bits_of rules
@@ -50,30 +50,33 @@ spread-plain (r ∷ rules) (v ∷ vs) h e =
     let ih = spread-plain rules vs h.2 e in
     let M : Bool → Type 0 = λ b. r.reserved ≡ b → (if b then v == 0 else nat_le v r.greatest) ≡ true → spread (r ∷ rules) (if b then plain_values rules vs else v ∷ plain_values rules vs) ≡ v ∷ vs in
     (elim r.reserved as M [
-      true ↦ λ f g. spread_reserved r rules (plain_values rules vs) f ∙ (let z = eqb-true v 0 g in rw (z, ih) refl)
-    | false ↦ λ f g. rw (f, ih) refl ]) refl h.1
+      | true ↦ λ f g. spread_reserved r rules (plain_values rules vs) f ∙ (let z = eqb-true v 0 g in rw (z, ih) refl)
+      | false ↦ λ f g. rw (f, ih) refl
+    ]) refl h.1
 
 -- plain values, spread, are leading values
 pub leading_spread : (rules : List FieldRule) (ws : List ℕ) → AreRules rules → AreInRange (plain rules) ws → AreLeading rules (spread rules ws)
 leading_spread [] ws t h = tt
 leading_spread (r ∷ rules) [] t h =
     (elim r.reserved as (λ b. r.reserved ≡ b → AreInRange (cond (not b) (r ∷ plain rules) (plain rules)) [] → AreLeading (r ∷ rules) (if b then 0 ∷ spread rules [] else 0 ∷ spread rules []))
-      [ true ↦ λ f g. (omega (arith, t.1), (rw f refl), leading_spread rules [] t.2 g) | false ↦ λ f g. absurd g ]) refl h
+    [ true ↦ λ f g. (omega (arith, t.1), (rw f refl), leading_spread rules [] t.2 g) | false ↦ λ f g. absurd g ]) refl h
 leading_spread (r ∷ rules) (w ∷ ws) t h =
-    (elim r.reserved as (λ b. r.reserved ≡ b → AreInRange (cond (not b) (r ∷ plain rules) (plain rules)) (w ∷ ws) → AreLeading (r ∷ rules) (if b then 0 ∷ spread rules (w ∷ ws) else w ∷ spread rules ws))
-      [ true ↦ λ f g. (omega (arith, t.1), (rw f refl), leading_spread rules (w ∷ ws) t.2 g)
-      | false ↦ λ f g. (omega (arith, t.1, g.0), (rw f (le-leb w r.greatest g.0)), leading_spread rules ws t.2 g.1) ]) refl h
+    (elim r.reserved as (λ b. r.reserved ≡ b → AreInRange (cond (not b) (r ∷ plain rules) (plain rules)) (w ∷ ws) → AreLeading (r ∷ rules) (if b then 0 ∷ spread rules (w ∷ ws) else w ∷ spread rules ws)) [
+      | true ↦ λ f g. (omega (arith, t.1), (rw f refl), leading_spread rules (w ∷ ws) t.2 g)
+      | false ↦ λ f g. (omega (arith, t.1, g.0), (rw f (le-leb w r.greatest g.0)), leading_spread rules ws t.2 g.1)
+    ]) refl h
 
 pub plain-spread : (rules : List FieldRule) (ws : List ℕ) → AreInRange (plain rules) ws → plain_values rules (spread rules ws) ≡ ws
 plain-spread [] [] h = refl
 plain-spread [] (w ∷ ws) h = absurd h
 plain-spread (r ∷ rules) [] h =
     (elim r.reserved as (λ b. r.reserved ≡ b → AreInRange (cond (not b) (r ∷ plain rules) (plain rules)) [] → plain_values (r ∷ rules) (if b then 0 ∷ spread rules [] else 0 ∷ spread rules []) ≡ [])
-      [ true ↦ λ f g. rw f (plain-spread rules [] g) | false ↦ λ f g. absurd g ]) refl h
+    [ true ↦ λ f g. rw f (plain-spread rules [] g) | false ↦ λ f g. absurd g ]) refl h
 plain-spread (r ∷ rules) (w ∷ ws) h =
-    (elim r.reserved as (λ b. r.reserved ≡ b → AreInRange (cond (not b) (r ∷ plain rules) (plain rules)) (w ∷ ws) → plain_values (r ∷ rules) (if b then 0 ∷ spread rules (w ∷ ws) else w ∷ spread rules ws) ≡ w ∷ ws)
-      [ true ↦ λ f g. rw f (plain-spread rules (w ∷ ws) g)
-      | false ↦ λ f g. rw f (ap (λ (x : List ℕ). w ∷ x) (plain-spread rules ws g.1)) ]) refl h
+    (elim r.reserved as (λ b. r.reserved ≡ b → AreInRange (cond (not b) (r ∷ plain rules) (plain rules)) (w ∷ ws) → plain_values (r ∷ rules) (if b then 0 ∷ spread rules (w ∷ ws) else w ∷ spread rules ws) ≡ w ∷ ws) [
+      | true ↦ λ f g. rw f (plain-spread rules (w ∷ ws) g)
+      | false ↦ λ f g. rw f (ap (λ (x : List ℕ). w ∷ x) (plain-spread rules ws g.1))
+    ]) refl h
 
 -- the plain values of all fields are in their ranges
 pub plain_in_range : (rules : List FieldRule) (vs : List ℕ) → AreLeading rules vs → drop (length vs) rules ≡ [] → AreInRange (plain rules) (plain_values rules vs)
@@ -83,7 +86,7 @@ plain_in_range (r ∷ rules) [] h e = absurd cc
 plain_in_range (r ∷ rules) (v ∷ vs) h e =
     let ih = plain_in_range rules vs h.2 e in
     (elim r.reserved as (λ b. (if b then v == 0 else nat_le v r.greatest) ≡ true → AreInRange (cond (not b) (r ∷ plain rules) (plain rules)) (if b then plain_values rules vs else v ∷ plain_values rules vs))
-      [ true ↦ λ g. ih | false ↦ λ g. (leb-true v r.greatest g, ih) ]) h.1
+    [ true ↦ λ g. ih | false ↦ λ g. (leb-true v r.greatest g, ih) ]) h.1
 
 -- one more leading field
 pub more_leading : (rules : List FieldRule) (vs : List ℕ) (r : FieldRule) (after : List FieldRule) (v : ℕ) → drop (length vs) rules ≡ r ∷ after → AreLeading rules vs → v < 2 ^ r.width → in_range r v ≡ true
@@ -113,8 +116,15 @@ last_field [] (u ∷ us) v h = absurd h
 last_field (r ∷ rules) [] v h = record { rule = r; after = rules; at = refl; leading = tt; below = h.0; fit = h.1; spelled = append-nil (digits r.width v) }
 last_field (r ∷ rules) (u ∷ us) v h =
     let l = last_field rules us v h.2 in
-    record { rule = l.rule; after = l.after; at = l.at; leading = (h.0, h.1, l.leading); below = l.below; fit = l.fit;
-      spelled = rw (l.spelled) (sym (append_assoc (digits r.width u) (field_digits rules us) (digits l.rule.width v))) }
+    record {
+      rule = l.rule;
+      after = l.after;
+      at = l.at;
+      leading = (h.0, h.1, l.leading);
+      below = l.below;
+      fit = l.fit;
+      spelled = rw (l.spelled) (sym (append_assoc (digits r.width u) (field_digits rules us) (digits l.rule.width v)));
+    }
 
 -- all fields are read where none is left
 pub drop_all : {A : Type 0} (xs : List A) (n : ℕ) → n ≡ length xs → drop n xs ≡ []

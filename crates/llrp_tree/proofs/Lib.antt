@@ -19,3 +19,4 @@ pub mod Totality
 pub mod ReadingLemmas
 pub mod ChildLemmas
 pub mod BodyLemmas
+pub mod WeightLemmas

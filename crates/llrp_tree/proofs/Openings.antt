@@ -15,7 +15,8 @@ use Rattle.llrp_tree.specs.Spelling.{Head, message, tlv, tv, head_digits, spell,
 use Rattle.llrp_tree.specs.OpenTree.{Begun, kind_of, groups, leading_digits, part, covers, Rest, due, takes_more, MayBegin, IsTlvHead, IsTvHead, IsHead, IsOpenNode, IsOpenTree, parts, whole_parts}
 use Rattle.llrp_tree.specs.FirstFault.{number, tv_kind, tlv_kind, tlv_octets, first_digit, first_failing, checks, Turn, BeginTv, BeginTlv, turn, turn_of, is_over, has_none}
 use Rattle.llrp_tree.proofs.ReadDigits.{take_own, drop_own, number_own, number_behind, length-more}
-use Rattle.llrp_tree.proofs.WholeNodes.{tv_number, length-tlv, length-tv}
+use Rattle.llrp_tree.proofs.LengthLemmas.{length-tlv, length-tv}
+use Rattle.llrp_tree.proofs.SpellingLemmas.{tv_number}
 use Rattle.llrp_tree.proofs.Steps.{Step, Grows, begin, begun_tv, begun_tlv}
 use Rattle.llrp_tree.proofs.LastPart.{Before, next_is}
 
@@ -101,35 +102,35 @@ module _ (p : Begun) (outer : List Begun) (rest : List Bool) where
 
   pub opened_tlv : (k : ParamKind) (n stop_b : ℕ) → IsTlvHead k n stop_b p outer → IsHead p.head p.stop outer → IsOpenTree (p ∷ outer) → Before (begin (tlv k n) stop_b ∷ p ∷ outer) rest (parts (p ∷ outer))
   opened_tlv k n stop_b f i outer_open =
-    let at : ℕ = length (covers (p ∷ outer)) in
-    let ds : List Bool = head_digits (tlv k n) ++ rest in
-    let r = reads_tlv k n rest f.kind_is_tlv f.most in
-    let c = begun_covered (tlv k n) stop_b in
-    let four = f.least in
-    let fit : at + 8 * n ≤ p.stop = omega (arith, f.stops, f.within) in
-    record {
-      tree = p ∷ outer;
-      left = ds;
-      is_open = outer_open;
-      same = rw c (sym (append_assoc (covers (p ∷ outer)) (head_digits (tlv k n)) rest));
-      step = next_is p outer ds BeginTlv (opening_turn k at ds false i f.may_begin (omega (arith, four)) r.first) (tlv_passes k n at ds r f.may_begin f.least fit f.deep)
-        ∙ rw (r.type, r.octets, f.stops) refl;
-      fewer = refl;
-    }
+      let at : ℕ = length (covers (p ∷ outer)) in
+      let ds : List Bool = head_digits (tlv k n) ++ rest in
+      let r = reads_tlv k n rest f.kind_is_tlv f.most in
+      let c = begun_covered (tlv k n) stop_b in
+      let four = f.least in
+      let fit : at + 8 * n ≤ p.stop = omega (arith, f.stops, f.within) in
+      record {
+        tree = p ∷ outer;
+        left = ds;
+        is_open = outer_open;
+        same = rw c (sym (append_assoc (covers (p ∷ outer)) (head_digits (tlv k n)) rest));
+        step = next_is p outer ds BeginTlv (opening_turn k at ds false i f.may_begin (omega (arith, four)) r.first) (tlv_passes k n at ds r f.may_begin f.least fit f.deep)
+            ∙ rw (r.type, r.octets, f.stops) refl;
+        fewer = refl;
+      }
 
   pub opened_tv : (k : ParamKind) (stop_b : ℕ) → IsTvHead k stop_b p outer → length (covers (begin (tv k) stop_b ∷ p ∷ outer)) ≤ stop_b → IsHead p.head p.stop outer → IsOpenTree (p ∷ outer) → Before (begin (tv k) stop_b ∷ p ∷ outer) rest (parts (p ∷ outer))
   opened_tv k stop_b f inside i outer_open =
-    let at : ℕ = length (covers (p ∷ outer)) in
-    let ds : List Bool = head_digits (tv k) ++ rest in
-    let r = reads_tv k rest f.kind_is_tv in
-    let c = begun_covered (tv k) stop_b in
-    let long : length (covers (begin (tv k) stop_b ∷ p ∷ outer)) ≡ at + 8 = ap (λ (x : List Bool). length x) c ∙ length-more (covers (p ∷ outer)) (head_digits (tv k)) 8 (length-tv k) in
-    record {
-      tree = p ∷ outer;
-      left = ds;
-      is_open = outer_open;
-      same = rw c (sym (append_assoc (covers (p ∷ outer)) (head_digits (tv k)) rest));
-      step = next_is p outer ds BeginTv (opening_turn k at ds true i f.may_begin (omega (arith, f.stops, inside, long)) r.first) (tv_passes k at ds r f.may_begin f.deep)
-        ∙ rw (r.type, f.stops) refl;
-      fewer = refl;
-    }
+      let at : ℕ = length (covers (p ∷ outer)) in
+      let ds : List Bool = head_digits (tv k) ++ rest in
+      let r = reads_tv k rest f.kind_is_tv in
+      let c = begun_covered (tv k) stop_b in
+      let long : length (covers (begin (tv k) stop_b ∷ p ∷ outer)) ≡ at + 8 = ap (λ (x : List Bool). length x) c ∙ length-more (covers (p ∷ outer)) (head_digits (tv k)) 8 (length-tv k) in
+      record {
+        tree = p ∷ outer;
+        left = ds;
+        is_open = outer_open;
+        same = rw c (sym (append_assoc (covers (p ∷ outer)) (head_digits (tv k)) rest));
+        step = next_is p outer ds BeginTv (opening_turn k at ds true i f.may_begin (omega (arith, f.stops, inside, long)) r.first) (tv_passes k at ds r f.may_begin f.deep)
+            ∙ rw (r.type, f.stops) refl;
+        fewer = refl;
+      }

@@ -46,8 +46,9 @@ use Rattle.llrp_tree.proofs.Totality.{octet_left, child_closes}
 not_below : (m n : ℕ) → nat_le m n ≡ not (nat_le (n + 1) m)
 not_below m n =
     (elim (nat_le m n) as (λ b. nat_le m n ≡ b → b ≡ not (nat_le (n + 1) m)) [
-      true ↦ λ e. let le = leb-true m n e in sym (ap not (lt-leb (n + 1) m (omega arith)))
-    | false ↦ λ e. let lt = leb-false m n e in sym (ap not (le-leb (n + 1) m (omega arith))) ]) refl
+      | true ↦ λ e. let le = leb-true m n e in sym (ap not (lt-leb (n + 1) m (omega arith)))
+      | false ↦ λ e. let lt = leb-false m n e in sym (ap not (le-leb (n + 1) m (omega arith)))
+    ]) refl
 
 counted : (g : GroupRule) (ts : List Tree) → members g ts ≡ count g (forest ts)
 counted g ts = sym (count-members g (forest ts) ∙ ap (members g) (trees-forest ts))
@@ -89,16 +90,16 @@ spread-plain_more [] r [] v e l = rw e refl
 spread-plain_more [] r (w ∷ ws) v e l = absurd (omega (arith, l))
 spread-plain_more (d ∷ done) r [] v e l =
     (elim d.reserved as (λ b. d.reserved ≡ b → 0 ≡ length (cond (not b) (d ∷ plain done) (plain done)) → (if b then 0 ∷ spread (done ++ r ∷ []) (v ∷ []) else v ∷ spread (done ++ r ∷ []) []) ≡ (if b then 0 ∷ spread done [] else 0 ∷ spread done []) ++ v ∷ [])
-      [ true ↦ λ f g. ap (λ (x : List ℕ). 0 ∷ x) (spread-plain_more done r [] v e g) | false ↦ λ f g. absurd (omega (arith, g)) ]) refl l
+    [ true ↦ λ f g. ap (λ (x : List ℕ). 0 ∷ x) (spread-plain_more done r [] v e g) | false ↦ λ f g. absurd (omega (arith, g)) ]) refl l
 spread-plain_more (d ∷ done) r (w ∷ ws) v e l =
     (elim d.reserved as (λ b. d.reserved ≡ b → suc (length ws) ≡ length (cond (not b) (d ∷ plain done) (plain done)) → (if b then 0 ∷ spread (done ++ r ∷ []) (w ∷ ws ++ v ∷ []) else w ∷ spread (done ++ r ∷ []) (ws ++ v ∷ [])) ≡ (if b then 0 ∷ spread done (w ∷ ws) else w ∷ spread done ws) ++ v ∷ [])
-      [ true ↦ λ f g. ap (λ (x : List ℕ). 0 ∷ x) (spread-plain_more done r (w ∷ ws) v e g) | false ↦ λ f g. ap (λ (x : List ℕ). w ∷ x) (spread-plain_more done r ws v e (omega (arith, g))) ]) refl l
+    [ true ↦ λ f g. ap (λ (x : List ℕ). 0 ∷ x) (spread-plain_more done r (w ∷ ws) v e g) | false ↦ λ f g. ap (λ (x : List ℕ). w ∷ x) (spread-plain_more done r ws v e (omega (arith, g))) ]) refl l
 
 pub spread-reserved_more : (done : List FieldRule) (r : FieldRule) (ws : List ℕ) → r.reserved ≡ true → spread (done ++ r ∷ []) ws ≡ spread done ws ++ 0 ∷ []
 spread-reserved_more [] r ws e = rw e refl
 spread-reserved_more (d ∷ done) r ws e =
     elim d.reserved as (λ b. (if b then 0 ∷ spread (done ++ r ∷ []) ws else first ws ∷ spread (done ++ r ∷ []) (Rattle.llrp_tree.specs.Lawful.others ws)) ≡ (if b then 0 ∷ spread done ws else first ws ∷ spread done (Rattle.llrp_tree.specs.Lawful.others ws)) ++ 0 ∷ [])
-      [ true ↦ ap (λ (x : List ℕ). 0 ∷ x) (spread-reserved_more done r ws e) | false ↦ ap (λ (x : List ℕ). first ws ∷ x) (spread-reserved_more done r (Rattle.llrp_tree.specs.Lawful.others ws) e) ]
+    [ true ↦ ap (λ (x : List ℕ). 0 ∷ x) (spread-reserved_more done r ws e) | false ↦ ap (λ (x : List ℕ). first ws ∷ x) (spread-reserved_more done r (Rattle.llrp_tree.specs.Lawful.others ws) e) ]
 
 -- plain values of all rules come back
 pub plain-spread_all : (rules : List FieldRule) (ws : List ℕ) → length ws ≡ length (plain rules) → plain_values rules (spread rules ws) ≡ ws
@@ -106,11 +107,12 @@ plain-spread_all [] [] l = refl
 plain-spread_all [] (w ∷ ws) l = absurd (omega (arith, l))
 plain-spread_all (r ∷ rules) [] l =
     (elim r.reserved as (λ b. r.reserved ≡ b → 0 ≡ length (cond (not b) (r ∷ plain rules) (plain rules)) → plain_values (r ∷ rules) (if b then 0 ∷ spread rules [] else 0 ∷ spread rules []) ≡ [])
-      [ true ↦ λ f g. rw f (plain-spread_all rules [] g) | false ↦ λ f g. absurd (omega (arith, g)) ]) refl l
+    [ true ↦ λ f g. rw f (plain-spread_all rules [] g) | false ↦ λ f g. absurd (omega (arith, g)) ]) refl l
 plain-spread_all (r ∷ rules) (w ∷ ws) l =
-    (elim r.reserved as (λ b. r.reserved ≡ b → suc (length ws) ≡ length (cond (not b) (r ∷ plain rules) (plain rules)) → plain_values (r ∷ rules) (if b then 0 ∷ spread rules (w ∷ ws) else w ∷ spread rules ws) ≡ w ∷ ws)
-      [ true ↦ λ f g. rw f (plain-spread_all rules (w ∷ ws) g)
-      | false ↦ λ f g. rw f (ap (λ (x : List ℕ). w ∷ x) (plain-spread_all rules ws (omega (arith, g)))) ]) refl l
+    (elim r.reserved as (λ b. r.reserved ≡ b → suc (length ws) ≡ length (cond (not b) (r ∷ plain rules) (plain rules)) → plain_values (r ∷ rules) (if b then 0 ∷ spread rules (w ∷ ws) else w ∷ spread rules ws) ≡ w ∷ ws) [
+      | true ↦ λ f g. rw f (plain-spread_all rules (w ∷ ws) g)
+      | false ↦ λ f g. rw f (ap (λ (x : List ℕ). w ∷ x) (plain-spread_all rules ws (omega (arith, g))))
+    ]) refl l
 
 -- ---- tails
 
@@ -168,8 +170,8 @@ tail_tells ds kind h stop ws outer at e k l st f =
     let has = fails_with_tail (tail_of kind) ws at stop (drop at ds) e f in
     let P : Kind → Type 0 = λ j. FailsFirst (tail_checks (tail_of j) (plain_values (fields_of j) vs) at stop (drop at ds)) e in
     tells ds (leading h stop vs) outer at ReadTail e st
-      (tail_turn h stop vs [] outer [] at (drop at ds) (ap (λ (j : Kind). drop (length vs) (fields_of j)) k ∙ all_spread rules ws) (ap (λ (j : Kind). has_tail (tail_of j)) k ∙ has))
-      (subst P (sym k) (subst (λ (x : List ℕ). FailsFirst (tail_checks (tail_of kind) x at stop (drop at ds)) e) (sym back) f))
+    (tail_turn h stop vs [] outer [] at (drop at ds) (ap (λ (j : Kind). drop (length vs) (fields_of j)) k ∙ all_spread rules ws) (ap (λ (j : Kind). has_tail (tail_of j)) k ∙ has))
+    (subst P (sym k) (subst (λ (x : List ℕ). FailsFirst (tail_checks (tail_of kind) x at stop (drop at ds)) e) (sym back) f))
 
 pub tail_grows : (bs : List ℕ) (h : Head) (stop : ℕ) (ws : List ℕ) (outer : List Begun) (at from to : ℕ) (os : List ℕ) → length ws ≡ length (plain (fields_of (kind_of h))) → AreOctets bs → stop ≤ length bs
     → TailSpans (tail_of (kind_of h)) ws (8 * at) (8 * stop) (drop (8 * at) (digits_of_bytes bs)) (8 * from) (8 * to) → os ≡ take (to - from) (drop from bs)
@@ -183,16 +185,17 @@ tail_grows bs h stop ws outer at from to os l o le s is st =
     let rest : List Bool = drop (8 * at) ds in
     let back = plain-spread_all rules ws l in
     (elim (has_tail form) as (λ b. has_tail form ≡ b → Stands ds (begun h (8 * stop) vs (if b then Some os else None) none ∷ outer) (8 * to)) [
-      true ↦ λ has.
-        let again : tail_at form (plain_values rules vs) rest ≡ os = ap (λ (x : List ℕ). tail_at form x rest) back ∙ tail_octets_are form ws bs at from to stop o le s ∙ sym is in
-        let end : tail_end form (plain_values rules vs) (8 * at) rest ≡ 8 * to = ap (λ (x : List ℕ). tail_end form x (8 * at) rest) back ∙ sym s.ends in
-        let within = s.within in
-        let g = grow_tail h (8 * stop) vs outer ds (8 * at) st (length-spread rules ws) has (omega (arith, end)) (λ t. ap (λ (x : List ℕ). is_utf8 (tail_at form x rest)) back ∙ s.text t) in
-        subst (λ (x : List ℕ). Stands ds (begun h (8 * stop) vs (Some x) none ∷ outer) (8 * to)) again (subst (λ (n : ℕ). Stands ds (begun h (8 * stop) vs (Some (tail_at form (plain_values rules vs) rest)) none ∷ outer) n) end g)
-    | false ↦ λ has.
-        let absent = is_absent form has in
-        let end : 8 * to ≡ 8 * at = s.ends ∙ ap (λ (f : Tail). tail_end f ws (8 * at) rest) absent ∙ omega arith in
-        subst (λ (n : ℕ). Stands ds (begun h (8 * stop) vs None none ∷ outer) n) (sym end) st ]) refl
+      | true ↦ λ has.
+          let again : tail_at form (plain_values rules vs) rest ≡ os = ap (λ (x : List ℕ). tail_at form x rest) back ∙ tail_octets_are form ws bs at from to stop o le s ∙ sym is in
+          let end : tail_end form (plain_values rules vs) (8 * at) rest ≡ 8 * to = ap (λ (x : List ℕ). tail_end form x (8 * at) rest) back ∙ sym s.ends in
+          let within = s.within in
+          let g = grow_tail h (8 * stop) vs outer ds (8 * at) st (length-spread rules ws) has (omega (arith, end)) (λ t. ap (λ (x : List ℕ). is_utf8 (tail_at form x rest)) back ∙ s.text t) in
+          subst (λ (x : List ℕ). Stands ds (begun h (8 * stop) vs (Some x) none ∷ outer) (8 * to)) again (subst (λ (n : ℕ). Stands ds (begun h (8 * stop) vs (Some (tail_at form (plain_values rules vs) rest)) none ∷ outer) n) end g)
+      | false ↦ λ has.
+          let absent = is_absent form has in
+          let end : 8 * to ≡ 8 * at = s.ends ∙ ap (λ (f : Tail). tail_end f ws (8 * at) rest) absent ∙ omega arith in
+          subst (λ (n : ℕ). Stands ds (begun h (8 * stop) vs None none ∷ outer) n) (sym end) st
+    ]) refl
 
 pub tail_grown : (bs : List ℕ) (kind : Kind) (h : Head) (stop : ℕ) (ws : List ℕ) (outer : List Begun) (at from to : ℕ) (os : List ℕ) → kind_of h ≡ kind → length ws ≡ length (plain (fields_of kind)) → AreOctets bs → stop ≤ length bs
     → TailSpans (tail_of kind) ws (8 * at) (8 * stop) (drop (8 * at) (digits_of_bytes bs)) (8 * from) (8 * to) → os ≡ take (to - from) (drop from bs)
@@ -200,9 +203,9 @@ pub tail_grown : (bs : List ℕ) (kind : Kind) (h : Head) (stop : ℕ) (ws : Lis
     → Stands (digits_of_bytes bs) (begun h (8 * stop) (spread (fields_of kind) ws) (as_read (tail_of kind) os) none ∷ outer) (8 * to)
 tail_grown bs kind h stop ws outer at from to os k =
     let P : Kind → Type 0 = λ j. length ws ≡ length (plain (fields_of j)) → AreOctets bs → stop ≤ length bs
-      → TailSpans (tail_of j) ws (8 * at) (8 * stop) (drop (8 * at) (digits_of_bytes bs)) (8 * from) (8 * to) → os ≡ take (to - from) (drop from bs)
-      → Stands (digits_of_bytes bs) (leading h (8 * stop) (spread (fields_of j) ws) ∷ outer) (8 * at)
-      → Stands (digits_of_bytes bs) (begun h (8 * stop) (spread (fields_of j) ws) (as_read (tail_of j) os) none ∷ outer) (8 * to) in
+    → TailSpans (tail_of j) ws (8 * at) (8 * stop) (drop (8 * at) (digits_of_bytes bs)) (8 * from) (8 * to) → os ≡ take (to - from) (drop from bs)
+    → Stands (digits_of_bytes bs) (leading h (8 * stop) (spread (fields_of j) ws) ∷ outer) (8 * at)
+    → Stands (digits_of_bytes bs) (begun h (8 * stop) (spread (fields_of j) ws) (as_read (tail_of j) os) none ∷ outer) (8 * to) in
     subst P k (tail_grows bs h stop ws outer at from to os)
 
 -- ---- the rules of a kind, as the code has them

@@ -25,7 +25,7 @@ pub all_hold : (cs : List Check) → first_failing cs ≡ None → AllHold cs
 all_hold [] e = tt
 all_hold (c ∷ cs) e =
     (let M : Bool → Type 0 = λ b. c.holds ≡ b → (if b then first_failing cs else Some (c.bit, c.reason)) ≡ None → (c.holds ≡ true) × AllHold cs in
-     elim c.holds as M [ true ↦ λ h f. (h, all_hold cs f) | false ↦ λ h f. absurd cc ]) refl e
+    elim c.holds as M [ true ↦ λ h f. (h, all_hold cs f) | false ↦ λ h f. absurd cc ]) refl e
 
 -- what the checks of a tail say where they hold
 pub tail_checked : (form : Tail) (fields : List ℕ) (at stop : ℕ) (ds : List Bool) → has_tail form ≡ true → AllHold (tail_checks form fields at stop ds) → (tail_end form fields at ds ≤ stop) × (form ≡ Text → is_utf8 (tail_at form fields ds) ≡ true)

@@ -25,7 +25,8 @@ use Rattle.llrp_tree.specs.FrameLaws.{IsWhole}
 use Rattle.llrp_tree.proofs.Steps.{begin, closed, with_child}
 use Rattle.llrp_tree.proofs.Leading.{drop_all, leading_length, wide_at}
 use Rattle.llrp_tree.proofs.ReadDigits.{length_covered}
-use Rattle.llrp_tree.proofs.WholeNodes.{are_rules, length-message, length-tlv, length-tv, length-body, length-spell, closed_digits, no_field_due}
+use Rattle.llrp_tree.proofs.LengthLemmas.{length-message_head, length-tlv, length-tv, length-body_digits, length-spell}
+use Rattle.llrp_tree.proofs.WholeNodes.{are_rules, closed_digits, no_field_due}
 use Rattle.llrp_tree.proofs.LawLemmas.{both}
 use Rattle.llrp_tree.proofs.Growing.{grow_field, grow_tail, grow_tv, grow_tlv, close_tlv, close_tv}
 use Rattle.llrp_tree.proofs.Telling.{AllHold, all_hold, tail_checked, kind_checked, fault_is}
@@ -41,7 +42,7 @@ append_octets : (x y : List Bool) → IsOctets (length x) → IsOctets (length y
 append_octets x y a b = (a.0 + b.0, omega (arith, length-append x y, a.1, b.1))
 
 head_octets_are : (h : Head) → IsOctets (length (head_digits h))
-head_octets_are (message v k n id) = (10, length-message v k n id)
+head_octets_are (message v k n id) = (10, length-message_head v k n id)
 head_octets_are (tlv k n) = (4, length-tlv k n)
 head_octets_are (tv k) = (1, length-tv k)
 
@@ -53,9 +54,9 @@ part_octets b outer s d =
     let r = no_field_due (drop (length b.fields) (fields_of kind)) _ d in
     let plain : List ℕ = plain_values (fields_of kind) b.fields in
     let os : List ℕ = unwrap_or b.tail [] in
-    let body : IsOctets (length (leading_digits kind b.fields b.tail)) = (body_octets kind os, ap (λ (x : List Bool). length x) (closed_digits kind b.fields b.tail s.fields r.0 r.1) ∙ length-body kind plain os) in
+    let body : IsOctets (length (leading_digits kind b.fields b.tail)) = (body_octets kind os, ap (λ (x : List Bool). length x) (closed_digits kind b.fields b.tail s.fields r.0 r.1) ∙ length-body_digits kind plain os) in
     append_octets (head_digits b.head) (leading_digits kind b.fields b.tail ++ spell b.children) (head_octets_are b.head)
-      (append_octets (leading_digits kind b.fields b.tail) (spell b.children) body (octets b.children, length-spell b.children))
+    (append_octets (leading_digits kind b.fields b.tail) (spell b.children) body (octets b.children, length-spell b.children))
 
 parent_ready : (h : Head) (stop : ℕ) (p : Begun) (outer : List Begun) → IsHead h stop (p ∷ outer) → due p ≡ Rest
 parent_ready (message v k n id) stop p outer f = absurd f
@@ -238,9 +239,10 @@ module _ (ds : List Bool) where
   decides zero b outer at st lt = absurd (omega arith)
   decides (suc fuel) b outer at st lt =
       (let M : Option (ℕ × Reason) → Type 0 = λ x. first_failing (checks (turn b at (drop at ds)) (length (b ∷ outer)) b at (drop at ds)) ≡ x → Ended ds ⊎ SomeFault ds in
-       elim (first_failing (checks (turn b at (drop at ds)) (length (b ∷ outer)) b at (drop at ds))) as M [
-         Some f ↦ λ e. inr (f.0, f.1, fault_is ds b outer at (turn b at (drop at ds)) f.0 f.1 st refl e)
-       | None ↦ λ e. by_turn fuel (decides fuel) b outer at st lt (due b) (is_over b.head (nat_le b.stop at)) (has_none (groups b)) (first_digit (drop at ds)) refl refl refl (all_hold (checks (turn b at (drop at ds)) (length (b ∷ outer)) b at (drop at ds)) e) ]) refl
+      elim (first_failing (checks (turn b at (drop at ds)) (length (b ∷ outer)) b at (drop at ds))) as M [
+        | Some f ↦ λ e. inr (f.0, f.1, fault_is ds b outer at (turn b at (drop at ds)) f.0 f.1 st refl e)
+        | None ↦ λ e. by_turn fuel (decides fuel) b outer at st lt (due b) (is_over b.head (nat_le b.stop at)) (has_none (groups b)) (first_digit (drop at ds)) refl refl refl (all_hold (checks (turn b at (drop at ds)) (length (b ∷ outer)) b at (drop at ds)) e)
+      ]) refl
 
 -- ---- every frame is a message's or faulty
 
@@ -274,11 +276,13 @@ behind_header limit bytes le w passes =
     let b : Begun = leading (message (number ds 3 3) found.0 (number ds 16 32) (number ds 48 32)) (8 * number ds 16 32) [] in
     let st : Stands ds (b ∷ []) 80 = header_stands limit ds (number ds 3 3) found.0 (number ds 16 32) (number ds 48 32) h long (omega (arith, w.own_length, w.header)) in
     elim (decides ds (3 * (length ds - 80) + 3) b [] 80 st (omega arith)) [
-      inl e ↦ inl (ended_frame limit bytes e.0.head e.0.stop e.0.fields e.0.tail e.0.children e.1 le w fit e.2)
-    | inr f ↦ inr (f.0, f.1, fault_of_frame limit bytes f.0 f.1 passes f.2) ]
+      | inl e ↦ inl (ended_frame limit bytes e.0.head e.0.stop e.0.fields e.0.tail e.0.children e.1 le w fit e.2)
+      | inr f ↦ inr (f.0, f.1, fault_of_frame limit bytes f.0 f.1 passes f.2)
+    ]
 
 pub either : (limit : ℕ) → limit ≤ MAX_LIMIT → (bytes : List ℕ) → IsWhole bytes → ((m : MessageTree) × Frame m bytes limit) ⊎ ((bit : ℕ) × (reason : Reason) × FirstFault bytes limit bit reason)
 either limit le bytes w =
     (elim (first_failing (header_checks limit (digits_of_bytes bytes))) as (λ x. first_failing (header_checks limit (digits_of_bytes bytes)) ≡ x → Outcome limit bytes) [
-      None ↦ λ e. behind_header limit bytes le w e
-    | Some f ↦ λ e. inr (f.0, f.1, inl e) ]) refl
+      | None ↦ λ e. behind_header limit bytes le w e
+      | Some f ↦ λ e. inr (f.0, f.1, inl e)
+    ]) refl

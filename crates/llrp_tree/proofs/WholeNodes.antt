@@ -38,55 +38,6 @@ pub are_rules : (kind : Kind) → AreRules (fields_of kind)
 unfolding fields_of rule_of message_rule param_rule message_kinds param_kinds
 are_rules kind = rules_pass (fields_of kind) (every_rule (λ row. rules_test row.fields) refl refl kind)
 
-pub tv_number : (kind : ParamKind) → is_tv kind ≡ true → number_of (Parameter kind) < 2 ^ 7
-unfolding is_tv
-tv_number kind e = ltb-true (number_of (Parameter kind)) 128 e
-
--- ---- how long digits are
-
-pub length-message : (v : ℕ) (k : MsgKind) (n id : ℕ) → length (head_digits (message v k n id)) ≡ 80
-unfolding head_digits
-length-message v k n id = simp (length-append, length-digits) refl
-
-pub length-tlv : (k : ParamKind) (n : ℕ) → length (head_digits (tlv k n)) ≡ 32
-unfolding head_digits
-length-tlv k n = simp (length-append, length-digits) refl
-
-pub length-tv : (k : ParamKind) → length (head_digits (tv k)) ≡ 8
-unfolding head_digits
-length-tv k = simp (length-append, length-digits) refl
-
-length-head : (k : ParamKind) (n : ℕ) → length (head_digits (head_of k n)) ≡ 8 * head_octets k
-length-head k n =
-    elim (is_tv k) as (λ b. length (head_digits (if b then tv k else tlv k n)) ≡ 8 * (if b then 1 else 4))
-      [ true ↦ length-tv k | false ↦ length-tlv k n ]
-
-pub length-tail : (form : Tail) (os : List ℕ) → length (tail_digits form os) ≡ 8 * (count_octets form + length os)
-length-tail Absent os = omega (arith, length-bytes os)
-length-tail Words os = omega (arith, length-bytes os, length-digits 16 (length os / 2), length-append (digits 16 (length os / 2)) (digits_of_bytes os))
-length-tail Text os = omega (arith, length-bytes os, length-digits 16 (length os), length-append (digits 16 (length os)) (digits_of_bytes os))
-length-tail Bits os = omega (arith, length-bytes os)
-
-pub length-body : (kind : Kind) (fields tail : List ℕ) → length (body_digits kind fields tail) ≡ 8 * body_octets kind tail
-unfolding body_digits body_octets
-length-body kind fields tail =
-    let rules = fields_of kind in
-    let values = spread rules fields in
-    omega (arith, length-append (field_digits rules values) (tail_digits (tail_of kind) tail), length-fields rules values (length-spread rules fields), length-tail (tail_of kind) tail, whole_octets kind)
-
-pub length-spell : (f : Forest) → length (spell f) ≡ 8 * octets f
-unfolding spell
-length-spell none = refl
-length-spell (and before k vs tail cs) =
-    let head = head_digits (head_of k (head_octets k + body_octets (Parameter k) tail + octets cs)) in
-    let body = body_digits (Parameter k) vs tail in
-    let ih = length-spell before in
-    let ih2 = length-spell cs in
-    let a = length-append (spell before) (head ++ (body ++ spell cs)) in
-    let b = length-append head (body ++ spell cs) in
-    let c = length-append body (spell cs) in
-    omega (arith, ih, ih2, a, b, c, length-head k (head_octets k + body_octets (Parameter k) tail + octets cs), length-body (Parameter k) vs tail)
-
 -- ---- from begun nodes of which all is read to whole ones
 
 pub no_field_due : (rules : List FieldRule) (after : Due) → field_due rules after ≡ Rest → (rules ≡ []) × (after ≡ Rest)

@@ -106,7 +106,7 @@ tlv_checks groups children level at stop rest =
     check (nat_le (at + 32) stop) at Short
     ∷ check (number rest 0 6 == 0) at Reserved
     ∷ (kind_checks (tlv_kind rest) groups children level at (at + 6)
-      ++ check (nat_le 4 (tlv_octets rest) && nat_le (at + 8 * tlv_octets rest) stop) (at + 16) ParamLength ∷ [])
+    ++ check (nat_le 4 (tlv_octets rest) && nat_le (at + 8 * tlv_octets rest) stop) (at + 16) ParamLength ∷ [])
 
 -- ---- what is done next in a node
 

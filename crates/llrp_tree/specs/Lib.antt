@@ -9,3 +9,4 @@ pub mod OpenTree
 pub mod FirstFault
 pub mod FrameLaws
 pub mod Standing
+pub mod Weight

@@ -9,6 +9,7 @@ ghost use Rattle.llrp_tree.specs.Checks.{first_fault, first_message_fault};
 ghost use Rattle.llrp_tree.specs.Spelling.{tree_digits};
 ghost use Rattle.llrp_tree.specs.Frame.{Frame};
 ghost use Rattle.llrp_tree.specs.declared.TheConstants.{MAX_LIMIT};
+ghost use Rattle.llrp_tree.specs.Weight.{message_weight};
 ghost use Rattle.llrp_tree.specs.FrameLaws.{OpenTreesAgree, FramesApart};
 
 /// Parts are lawful exactly where none of the ordered tests fails.
@@ -35,4 +36,9 @@ pub fn open_trees_agree()
 /// A frame has one message or one first fault, and no message's bytes begin those of another.
 pub fn frames_apart()
     ensures { (limit : ℕ) → limit ≤ MAX_LIMIT → FramesApart limit }
+{}
+
+/// What is kept of a message weighs no more than its frame has octets.
+pub fn weights_are_within()
+    ensures { (m : MessageTree) (bytes : List ℕ) (limit : ℕ) → Frame m bytes limit → message_weight m ≤ length bytes }
 {}

@@ -139,14 +139,14 @@ impl Message {
         ensures { result ≡ record { version = version; id = id; kind = kind; fields = fields.items; children = forest children } }
     {
         let extent = check::extent_of(children.as_slice());
-        let octets = 10 + check::body_octets(Kind::Message(kind), &[]) + extent.octets;
+        let body = check::body_octets(Kind::Message(kind), &[]);
         Message {
             version,
             id,
             kind,
             fields,
             children,
-            octets: octets as u32,
+            octets: (10 + body + extent.octets) as u32,
         }
     }
 

@@ -39,7 +39,14 @@ fn is_tv(kind: Kind) -> bool
 
 /// What stands behind the head of a node of a kind, from one octet to another, so many levels below
 /// the message.
-pub(crate) fn read_body(alloc: Global, frame: &[u8], level: u8, from: usize, stop: usize, kind: Kind) -> Result<Body, FrameErr>
+pub(crate) fn read_body(
+    alloc: Global,
+    frame: &[u8],
+    level: u8,
+    from: usize,
+    stop: usize,
+    kind: Kind,
+) -> Result<Body, FrameErr>
     requires behind { 2 ≤ from }
     requires before { from ≤ stop }
     requires small { length frame.now ≤ 65536 }
@@ -53,7 +60,14 @@ pub(crate) fn read_body(alloc: Global, frame: &[u8], level: u8, from: usize, sto
         → MatchResult result (λ x. Closes (digits_of_bytes frame.now) (begun h (8 * stop) (spread (fields_of kind) x.fields.items) (as_read (tail_of kind) x.tail) (forest x.children)) outer (8 * x.at)) (Tells (digits_of_bytes frame.now)) }
 {
     let fields = read_fields(frame, from, stop, kind)?;
-    let tail = read_tail(alloc, frame, fields.at, stop, kind, fields.values.as_slice())?;
+    let tail = read_tail(
+        alloc,
+        frame,
+        fields.at,
+        stop,
+        kind,
+        fields.values.as_slice(),
+    )?;
     let mut children = Vec::new(alloc);
     let mut at = tail.at;
     'children: while !is_tv(kind) && at < stop {
@@ -67,12 +81,7 @@ pub(crate) fn read_body(alloc: Global, frame: &[u8], level: u8, from: usize, sto
             Kind::Parameter(child.kind),
         )?;
         at = body.at;
-        children.push(Node::of_lawful(
-            child.kind,
-            body.fields,
-            body.tail,
-            body.children,
-        ))?;
+        children.push(Node::of_lawful(child.kind, body.fields, body.tail, body.children))?;
     }
     let enough = none_missing(llrp_schema::groups(kind), children.as_slice());
     if !enough {

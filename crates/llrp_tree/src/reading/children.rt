@@ -28,7 +28,14 @@ pub(crate) struct Child {
 }
 
 /// The kind and the length of the child with type, length and value at an octet.
-fn tlv_head(frame: &[u8], level: u8, at: usize, stop: usize, parent: Kind, siblings: &[Node]) -> Result<(ParamKind, usize), FrameErr>
+fn tlv_head(
+    frame: &[u8],
+    level: u8,
+    at: usize,
+    stop: usize,
+    parent: Kind,
+    siblings: &[Node],
+) -> Result<(ParamKind, usize), FrameErr>
     requires before { at < stop }
     requires small { length frame.now ≤ 65536 }
     requires inside { stop ≤ length frame.now }
@@ -55,7 +62,14 @@ fn tlv_head(frame: &[u8], level: u8, at: usize, stop: usize, parent: Kind, sibli
 }
 
 /// The child that begins at an octet of a node at a level.
-pub(crate) fn begin_child(frame: &[u8], level: u8, at: usize, stop: usize, parent: Kind, siblings: &[Node]) -> Result<Child, FrameErr>
+pub(crate) fn begin_child(
+    frame: &[u8],
+    level: u8,
+    at: usize,
+    stop: usize,
+    parent: Kind,
+    siblings: &[Node],
+) -> Result<Child, FrameErr>
     requires before { at < stop }
     requires small { length frame.now ≤ 65536 }
     requires inside { stop ≤ length frame.now }
@@ -72,7 +86,14 @@ pub(crate) fn begin_child(frame: &[u8], level: u8, at: usize, stop: usize, paren
     let first = get(frame, bit, 1);
     if first != 0 {
         let number = get(frame, bit + 1, 7) as u8;
-        let kind = child_kind(param_of_tv(number), parent, siblings, level + 1, bit, bit + 1)?;
+        let kind = child_kind(
+            param_of_tv(number),
+            parent,
+            siblings,
+            level + 1,
+            bit,
+            bit + 1,
+        )?;
         return Ok(Child {
             kind,
             at: at + 1,

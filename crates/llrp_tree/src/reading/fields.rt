@@ -45,7 +45,12 @@ pub(crate) struct Fields {
 }
 
 /// The fields of a node of a kind, from one octet to another.
-pub(crate) fn read_fields(frame: &[u8], from: usize, stop: usize, kind: Kind) -> Result<Fields, FrameErr>
+pub(crate) fn read_fields(
+    frame: &[u8],
+    from: usize,
+    stop: usize,
+    kind: Kind,
+) -> Result<Fields, FrameErr>
     requires before { from ≤ stop }
     requires small { length frame.now ≤ 65536 }
     requires inside { stop ≤ length frame.now }

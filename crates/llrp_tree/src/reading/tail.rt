@@ -54,15 +54,15 @@ pub(crate) fn text_at(frame: &[u8], at: usize, stop: usize) -> Result<Span, Fram
     if stop - at < 2 {
         return Err(bad(8 * at, Reason::Short));
     }
-    let octets = get(frame, 8 * at, 16) as usize;
-    if stop - at - 2 < octets {
+    let length = get(frame, 8 * at, 16) as usize;
+    if stop - at - 2 < length {
         return Err(bad(8 * at, Reason::Count));
     }
     let from = at + 2;
-    match std::str::from_utf8(&frame[from..from + octets]) {
+    match std::str::from_utf8(&frame[from..from + length]) {
         Ok(_) => Ok(Span {
             from,
-            to: from + octets,
+            to: from + length,
         }),
         Err(error) => Err(bad(8 * (from + error.valid_up_to()), Reason::Utf8)),
     }
@@ -90,7 +90,13 @@ pub(crate) fn bits_at(at: usize, stop: usize, fields: &[u128]) -> Result<Span, F
 }
 
 /// The octets of the tail of a kind at an octet.
-pub(crate) fn tail_at(frame: &[u8], at: usize, stop: usize, form: Tail, fields: &[u128]) -> Result<Span, FrameErr>
+pub(crate) fn tail_at(
+    frame: &[u8],
+    at: usize,
+    stop: usize,
+    form: Tail,
+    fields: &[u128],
+) -> Result<Span, FrameErr>
     requires behind { 2 ≤ at }
     requires before { at ≤ stop }
     requires small { length frame.now ≤ 65536 }
@@ -113,7 +119,14 @@ pub(crate) struct ReadTail {
 }
 
 /// The tail of a node of a kind behind its fields.
-pub(crate) fn read_tail(alloc: Global, frame: &[u8], at: usize, stop: usize, kind: Kind, fields: &[u128]) -> Result<ReadTail, FrameErr>
+pub(crate) fn read_tail(
+    alloc: Global,
+    frame: &[u8],
+    at: usize,
+    stop: usize,
+    kind: Kind,
+    fields: &[u128],
+) -> Result<ReadTail, FrameErr>
     requires behind { 2 ≤ at }
     requires before { at ≤ stop }
     requires small { length frame.now ≤ 65536 }

@@ -32,23 +32,25 @@ push-requires c = (lit< tt, plain_has_room c.fields-rules.result.now c.args.kind
 
 pub loop-rule-preserved : goal.loop-rule-preserved
 loop-rule-preserved c = record {
-    after = omega (arith, c.loop-rule.invariant.after);
-    before = c.in_ok-value.ensures.0;
-    width = omega (arith, c.loop-rule.invariant.width, width_more c.fields-rules.result.now c.loop-rule.rule-index blank (omega (arith, c.loop-rule-test.true)));
-    count = elim c.if-not-rule.branch [
-        then-not-rule w ↦ (let pushed : c.if-not-rule.values.items ≡ c.loop-rule.values.items ++ c.in_ok-value.value ∷ [] = ap (λ (x : ArrayVec ℕ). x.items) w.values-is ∙ w.push.ensures.items in
-          let long = ap (λ (x : List ℕ). length x) pushed ∙ length-append c.loop-rule.values.items (c.in_ok-value.value ∷ []) in
-          omega (arith, long, c.loop-rule.invariant.count, count_plain c.fields-rules.result.now c.loop-rule.rule-index blank (omega (arith, c.loop-rule-test.true)) w.if-not-rule.true))
-      | else-not-rule w ↦ (let kept : c.if-not-rule.values.items ≡ c.loop-rule.values.items = ap (λ (x : ArrayVec ℕ). x.items) w.values-is in
-          let long = ap (λ (x : List ℕ). length x) kept in
-          omega (arith, long, c.loop-rule.invariant.count, count_reserved c.fields-rules.result.now c.loop-rule.rule-index blank (omega (arith, c.loop-rule-test.true)) w.if-not-rule.false)) ];
-    read = λ h outer k st. elim c.if-not-rule.branch [
-        then-not-rule w ↦ (let pushed : c.if-not-rule.values.items ≡ c.loop-rule.values.items ++ c.in_ok-value.value ∷ [] = ap (λ (x : ArrayVec ℕ). x.items) w.values-is ∙ w.push.ensures.items in
-          plain_grows (digits_of_bytes c.args.frame.now) c.fields-rules.result.now c.args.kind c.loop-rule.rule-index blank h (8 * c.args.stop) c.loop-rule.values.items outer c.loop-rule.at c.in_ok-value.value c.fields-rules.ensures (omega (arith, c.loop-rule-test.true)) k (c.loop-rule.invariant.read h outer k st) c.in_ok-value.ensures.0 c.in_ok-value.ensures.1 c.in_ok-value.ensures.2 c.if-not-rule.values.items w.if-not-rule.true c.loop-rule.invariant.count pushed)
-      | else-not-rule w ↦ (let kept : c.if-not-rule.values.items ≡ c.loop-rule.values.items = ap (λ (x : ArrayVec ℕ). x.items) w.values-is in
-          subst (λ (vs : List ℕ). Stands (digits_of_bytes c.args.frame.now) (leading h (8 * c.args.stop) (spread (take (c.loop-rule.rule-index + 1) (map field_rule c.fields-rules.result.now)) vs) ∷ outer) (c.loop-rule.at + (get_or c.fields-rules.result.now c.loop-rule.rule-index blank).width)) (sym kept)
-            (reserved_grows (digits_of_bytes c.args.frame.now) c.fields-rules.result.now c.args.kind c.loop-rule.rule-index blank h (8 * c.args.stop) c.loop-rule.values.items outer c.loop-rule.at c.in_ok-value.value c.fields-rules.ensures (omega (arith, c.loop-rule-test.true)) k (c.loop-rule.invariant.read h outer k st) c.in_ok-value.ensures.0 c.in_ok-value.ensures.1 c.in_ok-value.ensures.2 w.if-not-rule.false)) ];
-  }
+  after = omega (arith, c.loop-rule.invariant.after);
+  before = c.in_ok-value.ensures.0;
+  width = omega (arith, c.loop-rule.invariant.width, width_more c.fields-rules.result.now c.loop-rule.rule-index blank (omega (arith, c.loop-rule-test.true)));
+  count = elim c.if-not-rule.branch [
+    | then-not-rule w ↦ (let pushed : c.if-not-rule.values.items ≡ c.loop-rule.values.items ++ c.in_ok-value.value ∷ [] = ap (λ (x : ArrayVec ℕ). x.items) w.values-is ∙ w.push.ensures.items in
+        let long = ap (λ (x : List ℕ). length x) pushed ∙ length-append c.loop-rule.values.items (c.in_ok-value.value ∷ []) in
+        omega (arith, long, c.loop-rule.invariant.count, count_plain c.fields-rules.result.now c.loop-rule.rule-index blank (omega (arith, c.loop-rule-test.true)) w.if-not-rule.true))
+    | else-not-rule w ↦ (let kept : c.if-not-rule.values.items ≡ c.loop-rule.values.items = ap (λ (x : ArrayVec ℕ). x.items) w.values-is in
+        let long = ap (λ (x : List ℕ). length x) kept in
+        omega (arith, long, c.loop-rule.invariant.count, count_reserved c.fields-rules.result.now c.loop-rule.rule-index blank (omega (arith, c.loop-rule-test.true)) w.if-not-rule.false))
+  ];
+  read = λ h outer k st. elim c.if-not-rule.branch [
+    | then-not-rule w ↦ (let pushed : c.if-not-rule.values.items ≡ c.loop-rule.values.items ++ c.in_ok-value.value ∷ [] = ap (λ (x : ArrayVec ℕ). x.items) w.values-is ∙ w.push.ensures.items in
+        plain_grows (digits_of_bytes c.args.frame.now) c.fields-rules.result.now c.args.kind c.loop-rule.rule-index blank h (8 * c.args.stop) c.loop-rule.values.items outer c.loop-rule.at c.in_ok-value.value c.fields-rules.ensures (omega (arith, c.loop-rule-test.true)) k (c.loop-rule.invariant.read h outer k st) c.in_ok-value.ensures.0 c.in_ok-value.ensures.1 c.in_ok-value.ensures.2 c.if-not-rule.values.items w.if-not-rule.true c.loop-rule.invariant.count pushed)
+    | else-not-rule w ↦ (let kept : c.if-not-rule.values.items ≡ c.loop-rule.values.items = ap (λ (x : ArrayVec ℕ). x.items) w.values-is in
+        subst (λ (vs : List ℕ). Stands (digits_of_bytes c.args.frame.now) (leading h (8 * c.args.stop) (spread (take (c.loop-rule.rule-index + 1) (map field_rule c.fields-rules.result.now)) vs) ∷ outer) (c.loop-rule.at + (get_or c.fields-rules.result.now c.loop-rule.rule-index blank).width)) (sym kept)
+        (reserved_grows (digits_of_bytes c.args.frame.now) c.fields-rules.result.now c.args.kind c.loop-rule.rule-index blank h (8 * c.args.stop) c.loop-rule.values.items outer c.loop-rule.at c.in_ok-value.value c.fields-rules.ensures (omega (arith, c.loop-rule-test.true)) k (c.loop-rule.invariant.read h outer k st) c.in_ok-value.ensures.0 c.in_ok-value.ensures.1 c.in_ok-value.ensures.2 w.if-not-rule.false))
+  ];
+}
 
 pub returns-clause-width : goal.returns-clause-width
 returns-clause-width c =
@@ -60,4 +62,4 @@ returns-clause-read c = λ h outer k st.
     let all = all_taken c.fields-rules.result.now c.args.kind c.loop-rule.rule-index c.fields-rules.ensures (omega (arith, c.loop-rule-test.false)) in
     let place : c.loop-rule.at ≡ 8 * (c.loop-rule.at / 8) = (let w = ap bits_of all in omega (arith, w, c.loop-rule.invariant.width, whole_octets c.args.kind)) in
     subst (λ (rules : List FieldRule). Stands (digits_of_bytes c.args.frame.now) (leading h (8 * c.args.stop) (spread rules c.loop-rule.values.items) ∷ outer) (8 * (c.loop-rule.at / 8))) all
-      (subst (λ (n : ℕ). Stands (digits_of_bytes c.args.frame.now) (leading h (8 * c.args.stop) (spread (take c.loop-rule.rule-index (map field_rule c.fields-rules.result.now)) c.loop-rule.values.items) ∷ outer) n) place (c.loop-rule.invariant.read h outer k st))
+    (subst (λ (n : ℕ). Stands (digits_of_bytes c.args.frame.now) (leading h (8 * c.args.stop) (spread (take c.loop-rule.rule-index (map field_rule c.fields-rules.result.now)) c.loop-rule.values.items) ∷ outer) n) place (c.loop-rule.invariant.read h outer k st))

@@ -14,5 +14,5 @@ invariant-loop-rule l = record {
   width : l.at ≡ 8 * l.from + bits_of (take l.rule-index (map field_rule l.rules));
   count : length l.values.items ≡ length (plain (take l.rule-index (map field_rule l.rules)));
   read : (h : Head) (outer : List Begun) → kind_of h ≡ l.fn.kind → Stands (digits_of_bytes l.frame) (leading h (8 * l.stop) [] ∷ outer) (8 * l.from)
-    → Stands (digits_of_bytes l.frame) (leading h (8 * l.stop) (spread (take l.rule-index (map field_rule l.rules)) l.values.items) ∷ outer) l.at;
+      → Stands (digits_of_bytes l.frame) (leading h (8 * l.stop) (spread (take l.rule-index (map field_rule l.rules)) l.values.items) ∷ outer) l.at;
 }
