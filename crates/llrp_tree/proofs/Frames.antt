@@ -1,0 +1,251 @@
+-- A frame's header and its end, and what two frames cannot share.
+use Rattle.std.proofs.Common.{◌≡◌, ℕ, zero, suc, ◌+◌, ◌-◌, ◌*◌, ◌/◌, ◌^◌, ◌<◌, ◌≤◌, max, Bool, true, false, cond, ◌||◌, ◌⊎◌, inl, inr, List, [], ◌∷◌, ◌++◌, length, take, drop, Option, Some, None, refl, sym, ap, subst, ◌∙◌, arith, append_assoc, length-append, length-drop}
+use Rattle.std.specs.Prelude.{nat_le, if◌then◌else◌, ◌==◌, is_some, unwrap_or}
+use Rattle.std.proofs.lemmas.List.{append-nil, take-append-drop}
+use Rattle.std.proofs.Math.Seq.{take-add, take-length}
+use Rattle.std.proofs.lemmas.Bool.{le-leb, leb-true, eqb-true}
+use Rattle.tag_bits.specs.Digits.{value, digits, digits_of_bytes}
+use Rattle.tag_bits.proofs.ByteLemmas.{length-bytes, bytes-append}
+use Rattle.llrp_schema.specs.declared.kinds.MsgKind.{MsgKind}
+use Rattle.llrp_schema.specs.declared.kinds.Kind.TheVariants.{Message}
+use Rattle.llrp_schema.specs.declared.kinds.Tail.{Tail}
+use Rattle.llrp_schema.specs.declared.kinds.Tail.TheVariants.{Absent}
+use Rattle.llrp_schema.specs.Schema.{fields_of, tail_of, groups_of, number_of, message_with_number}
+use Rattle.llrp_schema.proofs.TableLaws.{message_at_number, message_found, message_tail, message_number_fits}
+use Rattle.llrp_tree.specs.declared.TheConstants.{MAX_DEPTH, MAX_LIMIT}
+use Rattle.llrp_tree.specs.declared.fault.Reason.{Reason}
+use Rattle.llrp_tree.specs.declared.fault.Reason.TheVariants.{Reserved}
+use Rattle.llrp_tree.specs.Tree.{Forest, none, and, MessageTree}
+use Rattle.llrp_tree.specs.Lawful.{levels, octets, body_octets, message_octets, AreOctets, IsTail, ArePlaced, Obeys, AllLawful, IsLawfulMessage}
+use Rattle.llrp_tree.specs.Spelling.{Head, message, tlv, tv, head_digits, spread, body_digits, spell, message_digits}
+use Rattle.llrp_tree.specs.Frame.{Frame}
+use Rattle.llrp_tree.specs.OpenTree.{Begun, kind_of, leading_digits, part, covers, Rest, tail_due, due, plain_values, IsReadTail, as_read, IsHeader, IsOpenNode, IsOpenTree}
+use Rattle.llrp_tree.specs.FirstFault.{number, first_failing, checks, Close, turn, next_fault, header_checks, BodyFault, FirstFault}
+use Rattle.llrp_tree.specs.Standing.{end_of, Stands, HasFault, Closes, begun, leading, HeaderSays}
+use Rattle.llrp_tree.proofs.Steps.{Step, Fails, Grows, Ends, next}
+use Rattle.llrp_tree.proofs.Leading.{plain-spread, leading_spread, length-spread, drop_all, plain_in_range}
+use Rattle.llrp_tree.proofs.ReadDigits.{number_own, number_behind, length_covered, value_at, digits_take}
+use Rattle.llrp_tree.proofs.GroupLemmas.{most_none, enough_from, enough_to}
+use Rattle.llrp_tree.proofs.LengthLemmas.{length-message_head, length-body_digits, length-spell, length-message_digits}
+use Rattle.llrp_tree.proofs.WholeNodes.{are_rules, read_body, closed_digits, no_field_due, whole_tail}
+use Rattle.llrp_tree.proofs.LastPart.{next_is, closing_turn, closing_passes}
+use Rattle.llrp_tree.proofs.Agreement.{IsEnd, one_end, version_small}
+use Rattle.llrp_tree.proofs.Telling.{AllHold, all_hold}
+
+-- ---- headers
+
+passes : (limit : ℕ) (ds : List Bool) → (number ds 0 3 == 0) ≡ true → ((number ds 3 3 == 1) || (number ds 3 3 == 2)) ≡ true → is_some (message_with_number (number ds 6 10)) ≡ true → nat_le (number ds 16 32) limit ≡ true
+    → first_failing (header_checks limit ds) ≡ None
+passes limit ds a b c d = rw (a, b, c, d) refl
+
+version_known : (v : ℕ) → (v ≡ 1) ⊎ (v ≡ 2) → ((v == 1) || (v == 2)) ≡ true
+version_known v (inl e) = rw e refl
+version_known v (inr e) = rw e refl
+
+header_spread : (v : ℕ) (k : MsgKind) (n id : ℕ) (x : List Bool) → head_digits (message v k n id) ++ x ≡ digits 3 0 ++ (digits 3 v ++ (digits 10 (number_of (Message k)) ++ (digits 32 n ++ (digits 32 id ++ x))))
+unfolding head_digits
+header_spread v k n id x = simp append_assoc
+
+-- a message's header passes
+header_passes : (limit v : ℕ) (k : MsgKind) (n id : ℕ) (x : List Bool) → (v ≡ 1) ⊎ (v ≡ 2) → n < 2 ^ 32 → n ≤ limit → first_failing (header_checks limit (head_digits (message v k n id) ++ x)) ≡ None
+header_passes limit v k n id x lv ln fit =
+    let t : ℕ = number_of (Message k) in
+    let e : List Bool = digits 32 id ++ x in
+    let d : List Bool = digits 32 n ++ e in
+    let c : List Bool = digits 10 t ++ d in
+    let b : List Bool = digits 3 v ++ c in
+    let ds : List Bool = digits 3 0 ++ b in
+    let small = version_small v lv in
+    let r0 : number ds 0 3 ≡ 0 = number_own 3 0 b (omega arith) in
+    let r1 : number ds 3 3 ≡ v = number_behind 3 0 0 3 b ∙ number_own 3 v c small in
+    let r2 : number ds 6 10 ≡ t = number_behind 3 0 3 10 b ∙ number_behind 3 v 0 10 c ∙ number_own 10 t d (message_number_fits k) in
+    let r3 : number ds 16 32 ≡ n = number_behind 3 0 13 32 b ∙ number_behind 3 v 10 32 c ∙ number_behind 10 t 0 32 d ∙ number_own 32 n e ln in
+    subst (λ (y : List Bool). first_failing (header_checks limit y) ≡ None) (sym (header_spread v k n id x))
+    (passes limit ds (ap (λ (m : ℕ). m == 0) r0) (ap (λ (m : ℕ). (m == 1) || (m == 2)) r1 ∙ version_known v lv) (ap is_some (ap message_with_number r2 ∙ message_at_number k)) (ap (λ (m : ℕ). nat_le m limit) r3 ∙ le-leb n limit fit))
+
+-- ---- a message's frame as an open tree that is at its end
+
+message_body : (m : MessageTree) → IsLawfulMessage m → leading_digits (Message m.kind) (spread (fields_of (Message m.kind)) m.fields) None ≡ body_digits (Message m.kind) m.fields []
+message_body m l =
+    let no_tail : as_read (tail_of (Message m.kind)) [] ≡ None = ap (λ (f : Tail). as_read f []) (message_tail m.kind) in
+    ap (λ (o : Option (List ℕ)). leading_digits (Message m.kind) (spread (fields_of (Message m.kind)) m.fields) o) (sym no_tail) ∙ read_body (Message m.kind) m.fields [] l.obeys.form
+
+few_levels : (f : Forest) → AllLawful f → levels f ≤ MAX_DEPTH
+few_levels none l = omega arith
+few_levels (and before k vs tail cs) l = let ih = few_levels before l.0 in omega (arith, l.1.deep)
+
+abbrev pub whole : MessageTree → Begun
+whole m = begun (message m.version m.kind (message_octets m) m.id) (8 * message_octets m) (spread (fields_of (Message m.kind)) m.fields) None m.children
+
+whole_covers : (m : MessageTree) → IsLawfulMessage m → covers (whole m ∷ []) ≡ message_digits m
+unfolding covers part
+whole_covers m l = ap (λ (x : List Bool). head_digits (message m.version m.kind (message_octets m) m.id) ++ (x ++ spell m.children)) (message_body m l)
+
+whole_due : (m : MessageTree) → due (whole m) ≡ Rest
+unfolding due
+whole_due m = rw (drop_all (fields_of (Message m.kind)) (length (spread (fields_of (Message m.kind)) m.fields)) (length-spread (fields_of (Message m.kind)) m.fields), message_tail m.kind) refl
+
+record Ending (b : Begun) (ds x : List Bool) : Type 0 where
+  pub is_open : IsOpenTree (b ∷ [])
+  pub covered : covers (b ∷ []) ≡ ds
+  pub ends : next (b ∷ []) x ≡ Ends b
+
+frame_ends : (m : MessageTree) (bytes : List ℕ) (limit : ℕ) (x : List Bool) → Frame m bytes limit → Ending (whole m) (digits_of_bytes bytes) x
+unfolding IsOpenTree
+frame_ends m bytes limit x f =
+    let l = f.lawful in
+    let n : ℕ = message_octets m in
+    let c = whole_covers m l in
+    let at : ℕ = length (covers (whole m ∷ [])) in
+    let long : at ≡ 8 * n = ap (λ (y : List Bool). length y) c ∙ length-message_digits m in
+    record {
+      is_open = (record { head = record { known_version = l.version; octets_fit = omega (arith, l.long); id_fits = l.id; stops = refl }; fields = leading_spread (fields_of (Message m.kind)) m.fields (are_rules (Message m.kind)) l.obeys.ranges; tail = tt; tail_after = inl refl; children_after = inr (whole_due m); lawful = l.children; placed = l.obeys.placed; most = l.obeys.most; deep = omega (arith, few_levels m.children l.children); inside = omega (arith, long) }, tt);
+      covered = c ∙ sym f.spelled;
+      ends = next_is (whole m) [] x Close (closing_turn (whole m) at x (whole_due m) (le-leb (8 * n) at (omega (arith, long)))) (closing_passes (whole m) 1 at x (enough_to (groups_of (Message m.kind)) m.children l.obeys.least));
+    }
+
+-- ---- what two frames cannot share
+
+-- the message of a begun one, or another where a parameter is begun
+abbrev message_from : MessageTree → Head → List ℕ → Forest → MessageTree
+message_from other (message v k n id) fields cs = record { version = v; id = id; kind = k; fields = plain_values (fields_of (Message k)) fields; children = cs }
+message_from other (tlv k n) fields cs = other
+message_from other (tv k) fields cs = other
+
+abbrev message_in : MessageTree → List Begun → MessageTree
+message_in other [] = other
+message_in other (b ∷ outer) = message_from other b.head b.fields b.children
+
+message_back : (other m : MessageTree) → IsLawfulMessage m → message_in other (whole m ∷ []) ≡ m
+message_back other m l = ap (λ (fields : List ℕ). let r : MessageTree = record { version = m.version; id = m.id; kind = m.kind; fields = fields; children = m.children } in r) (plain-spread (fields_of (Message m.kind)) m.fields l.obeys.ranges)
+
+no_bytes : (bytes : List ℕ) → digits_of_bytes bytes ≡ [] → bytes ≡ []
+no_bytes [] e = refl
+no_bytes (b ∷ bytes) e = absurd (let a = length-bytes (b ∷ bytes) in let z = ap (λ (x : List Bool). length x) e in omega arith)
+
+pub no_prefix : (limit : ℕ) (bytes more : List ℕ) (m k : MessageTree) → Frame m bytes limit → Frame k (bytes ++ more) limit → (m ≡ k) × (more ≡ [])
+no_prefix limit bytes more m k f g =
+    let x : List Bool = digits_of_bytes more in
+    let a = frame_ends m bytes limit x f in
+    let b = frame_ends k (bytes ++ more) limit [] g in
+    let same = one_end (whole m ∷ []) (whole k ∷ []) x [] a.is_open b.is_open (ap (λ (y : List Bool). y ++ x) a.covered ∙ sym (bytes-append bytes more) ∙ sym b.covered ∙ sym (append-nil (covers (whole k ∷ [])))) (subst IsEnd (sym a.ends) tt) (subst IsEnd (sym b.ends) tt) in
+    (sym (message_back m m f.lawful) ∙ ap (message_in m) same.0 ∙ message_back m k g.lawful, no_bytes more same.1)
+
+fails_next : (t : List Begun) (r : List Bool) (bit : ℕ) (reason : Reason) → next_fault t r ≡ Some (bit, reason) → next t r ≡ Fails bit reason
+unfolding next
+fails_next t r bit reason e = rw e refl
+
+abbrev fault_in : Option (ℕ × Reason) → ℕ × Reason
+fault_in (Some f) = f
+fault_in None = (0, Reserved)
+
+same_fault : (a b : Option (ℕ × Reason)) (bit bit2 : ℕ) (reason reason2 : Reason) → a ≡ b → a ≡ Some (bit, reason) → b ≡ Some (bit2, reason2) → (bit ≡ bit2) × (reason ≡ reason2)
+same_fault a b bit bit2 reason reason2 e x y =
+    let z : ◌≡◌ {A = Option (ℕ × Reason)} (Some (bit, reason)) (Some (bit2, reason2)) = sym x ∙ e ∙ y in
+    (ap (λ (o : Option (ℕ × Reason)). (fault_in o).0) z, ap (λ (o : Option (ℕ × Reason)). (fault_in o).1) z)
+
+pub one_fault : (limit : ℕ) (bytes : List ℕ) (bit bit2 : ℕ) (reason reason2 : Reason) → FirstFault bytes limit bit reason → FirstFault bytes limit bit2 reason2 → (bit ≡ bit2) × (reason ≡ reason2)
+one_fault limit bytes bit bit2 reason reason2 (inl a) (inl b) = same_fault _ _ bit bit2 reason reason2 refl a b
+one_fault limit bytes bit bit2 reason reason2 (inl a) (inr b) = absurd (let h = b.header in cc)
+one_fault limit bytes bit bit2 reason reason2 (inr a) (inl b) = absurd (let h = a.header in cc)
+one_fault limit bytes bit bit2 reason reason2 (inr a) (inr b) =
+    let x = fails_next a.tree a.rest bit reason a.fails in
+    let y = fails_next b.tree b.rest bit2 reason2 b.fails in
+    let same = one_end a.tree b.tree a.rest b.rest a.is_open b.is_open (a.covered ∙ sym b.covered) (subst IsEnd (sym x) tt) (subst IsEnd (sym y) tt) in
+    same_fault (next_fault a.tree a.rest) (next_fault b.tree b.rest) bit bit2 reason reason2 (ap (λ (t : List Begun). next_fault t a.rest) same.0 ∙ ap (λ (r : List Bool). next_fault b.tree r) same.1) a.fails b.fails
+
+pub not_both : (limit : ℕ) (bytes : List ℕ) (m : MessageTree) (bit : ℕ) (reason : Reason) → Frame m bytes limit → FirstFault bytes limit bit reason → ⊥
+not_both limit bytes m bit reason f (inl a) =
+    let l = f.lawful in
+    let long : length bytes ≡ message_octets m = (let x = length-bytes bytes in let y = ap (λ (x : List Bool). length x) f.spelled in let z = length-message_digits m in omega arith) in
+    let h : first_failing (header_checks limit (digits_of_bytes bytes)) ≡ None = subst (λ (y : List Bool). first_failing (header_checks limit y) ≡ None) (sym f.spelled) (header_passes limit m.version m.kind (message_octets m) m.id (body_digits (Message m.kind) m.fields [] ++ spell m.children) l.version (omega (arith, l.long)) (omega (arith, f.short, long))) in
+    absurd (let z : ◌≡◌ {A = Option (ℕ × Reason)} None (Some (bit, reason)) = sym h ∙ a in cc)
+not_both limit bytes m bit reason f (inr a) =
+    let b = frame_ends m bytes limit [] f in
+    let x = fails_next a.tree a.rest bit reason a.fails in
+    let same = one_end a.tree (whole m ∷ []) a.rest [] a.is_open b.is_open (a.covered ∙ sym b.covered ∙ sym (append-nil (covers (whole m ∷ [])))) (subst IsEnd (sym x) tt) (subst IsEnd (sym b.ends) tt) in
+    let z : Fails bit reason ≡ Ends (whole m) = sym x ∙ (ap (λ (t : List Begun). next t a.rest) same.0 ∙ ap (λ (r : List Bool). next (whole m ∷ []) r) same.1) ∙ b.ends in
+    absurd cc
+
+-- ---- where a reader begins and ends
+
+-- the header is the first 80 digits
+header_is : (ds : List Bool) (k : MsgKind) → 80 ≤ length ds → number ds 0 3 ≡ 0 → number_of (Message k) ≡ number ds 6 10 → head_digits (message (number ds 3 3) k (number ds 16 32) (number ds 48 32)) ≡ take 80 ds
+unfolding head_digits
+header_is ds k le z t =
+    let a : digits 3 0 ≡ take 3 ds = ap (λ (n : ℕ). digits 3 n) (sym z) ∙ digits_take 3 ds (omega arith) in
+    let b = digits_take 3 (drop 3 ds) (omega (arith, length-drop 3 ds)) in
+    let c : digits 10 (number_of (Message k)) ≡ take 10 (drop 6 ds) = ap (λ (n : ℕ). digits 10 n) t ∙ digits_take 10 (drop 6 ds) (omega (arith, length-drop 6 ds)) in
+    let d = digits_take 32 (drop 16 ds) (omega (arith, length-drop 16 ds)) in
+    let e = digits_take 32 (drop 48 ds) (omega (arith, length-drop 48 ds)) in
+    rw (a, b, c, d, e) (sym (take-add 48 32 ds ∙ ap (λ (x : List Bool). x ++ take 32 (drop 48 ds)) (take-add 16 32 ds ∙ ap (λ (x : List Bool). x ++ take 32 (drop 16 ds)) (take-add 6 10 ds ∙ ap (λ (x : List Bool). x ++ take 10 (drop 6 ds)) (take-add 3 3 ds)))))
+
+which_version : (v : ℕ) → ((v == 1) || (v == 2)) ≡ true → (v ≡ 1) ⊎ (v ≡ 2)
+which_version v e =
+    (elim (v == 1) as (λ b. (v == 1) ≡ b → (b || (v == 2)) ≡ true → (v ≡ 1) ⊎ (v ≡ 2)) [ true ↦ λ f g. inl (eqb-true v 1 f) | false ↦ λ f g. inr (eqb-true v 2 g) ]) refl e
+
+module _ (limit : ℕ) (ds : List Bool) (v : ℕ) (k : MsgKind) (n id : ℕ) (h : HeaderSays limit ds v k n id) (long : length ds ≡ 8 * n) (ten : 10 ≤ n) where
+  held : AllHold (header_checks limit ds)
+  held = all_hold (header_checks limit ds) h.passes
+
+  start_covers : covers (leading (message v k n id) (8 * n) [] ∷ []) ≡ take 80 ds
+  unfolding covers part leading_digits spell
+  start_covers = append-nil (head_digits (message v k n id)) ∙ rw (h.version_is, h.octets_is, h.id_is) (header_is ds k (omega arith) (eqb-true (number ds 0 3) 0 held.0) ((message_found (number ds 6 10) k).0 h.kind_is))
+
+  pub header_stands : Stands ds (leading (message v k n id) (8 * n) [] ∷ []) 80
+  unfolding IsOpenTree ArePlaced end_of
+  header_stands =
+      let ln : n < 2 ^ 32 = (let a = value_at 16 32 ds (omega arith) in omega (arith, h.octets_is)) in
+      let li : id < 2 ^ 32 = (let a = value_at 48 32 ds (omega arith) in omega (arith, h.id_is)) in
+      let l = length_covered (covers (leading (message v k n id) (8 * n) [] ∷ [])) 80 ds start_covers (omega arith) in
+      let lv : (v ≡ 1) ⊎ (v ≡ 2) = subst (λ (x : ℕ). (x ≡ 1) ⊎ (x ≡ 2)) (sym h.version_is) (which_version (number ds 3 3) held.1.0) in
+      record {
+        is_open = (record { head = record { known_version = lv; octets_fit = ln; id_fits = li; stops = refl }; fields = tt; tail = tt; tail_after = inl refl; children_after = inl refl; lawful = tt; placed = tt; most = most_none (groups_of (Message k)); deep = omega arith; inside = omega arith }, tt);
+        covered = start_covers;
+        within = omega arith;
+        ends = sym long;
+      }
+
+pub fault_of_frame : (limit : ℕ) (bytes : List ℕ) (bit : ℕ) (reason : Reason) → first_failing (header_checks limit (digits_of_bytes bytes)) ≡ None → HasFault (digits_of_bytes bytes) bit reason → FirstFault bytes limit bit reason
+fault_of_frame limit bytes bit reason h x =
+    inr (record { header = h; tree = x.tree; rest = drop x.at (digits_of_bytes bytes); is_open = x.stands.is_open; covered = ap (λ (y : List Bool). y ++ drop x.at (digits_of_bytes bytes)) x.stands.covered ∙ take-append-drop x.at (digits_of_bytes bytes); fails = x.fails })
+
+no_message_tail : (form : Tail) (fields : List ℕ) (tail : Option (List ℕ)) → form ≡ Absent → IsReadTail form fields tail → unwrap_or tail [] ≡ []
+no_message_tail form fields None e x = refl
+no_message_tail form fields (Some os) e x = absurd (let z : Rattle.llrp_tree.specs.OpenTree.has_tail Absent ≡ true = ap Rattle.llrp_tree.specs.OpenTree.has_tail (sym e) ∙ x.0 in cc)
+
+-- a message of which all is read, where the digits end
+pub closes_frame : (limit : ℕ) (bytes : List ℕ) (v : ℕ) (k : MsgKind) (n id : ℕ) (vs : List ℕ) (tail : Option (List ℕ)) (cs : Forest) (at : ℕ) → limit ≤ MAX_LIMIT → AreOctets bytes → length bytes ≡ n → n ≤ limit
+    → Closes (digits_of_bytes bytes) (begun (message v k n id) (8 * n) vs tail cs) [] at → Frame (record { version = v; id = id; kind = k; fields = plain_values (fields_of (Message k)) vs; children = cs }) bytes limit
+unfolding IsOpenTree covers part due
+closes_frame limit bytes v k n id vs tail cs at le os own fit c =
+    let ds : List Bool = digits_of_bytes bytes in
+    let s = c.stands.is_open.0 in
+    let plain : List ℕ = plain_values (fields_of (Message k)) vs in
+    let m : MessageTree = record { version = v; id = id; kind = k; fields = plain; children = cs } in
+    let f : IsHeader v n id (8 * n) = s.head in
+    let r = no_field_due (drop (length vs) (fields_of (Message k))) _ c.ready in
+    let nt = no_message_tail (tail_of (Message k)) plain tail (message_tail k) s.tail in
+    let w = whole_tail (tail_of (Message k)) plain tail s.tail r.1 in
+    let body : leading_digits (Message k) vs tail ≡ body_digits (Message k) plain [] = closed_digits (Message k) vs tail s.fields r.0 r.1 ∙ ap (λ (x : List ℕ). body_digits (Message k) plain x) nt in
+    let long : length ds ≡ 8 * n = length-bytes bytes ∙ ap (λ (x : ℕ). 8 * x) own in
+    let end : 8 * n ≤ at = leb-true (8 * n) at c.over in
+    let all : take at ds ≡ ds = (let e : at ≡ length ds = omega (arith, c.stands.within, long, end) in ap (λ (j : ℕ). take j ds) e ∙ take-length ds) in
+    let read : ds ≡ head_digits (message v k n id) ++ (body_digits (Message k) plain [] ++ spell cs) = sym all ∙ sym c.stands.covered ∙ ap (λ (x : List Bool). head_digits (message v k n id) ++ (x ++ spell cs)) body in
+    let is_size : n ≡ message_octets m =
+    (let a = length-append (head_digits (message v k n id)) (body_digits (Message k) plain [] ++ spell cs) in
+    let b = length-append (body_digits (Message k) plain []) (spell cs) in
+    let total = ap (λ (x : List Bool). length x) read in
+    omega (arith, a, b, total, long, length-message_head v k n id, length-body_digits (Message k) plain [], length-spell cs)) in
+    record {
+      lawful = record {
+        version = f.known_version;
+        id = f.id_fits;
+        obeys = record { ranges = plain_in_range (fields_of (Message k)) vs s.fields r.0; form = subst (λ (x : List ℕ). IsTail (tail_of (Message k)) plain x) nt w.0; bytes = tt; placed = s.placed; most = s.most; least = enough_from (groups_of (Message k)) cs c.enough };
+        children = s.lawful;
+        long = omega (arith, is_size, fit, le);
+      };
+      octets = os;
+      spelled = read ∙ ap (λ (j : ℕ). head_digits (message v k j id) ++ (body_digits (Message k) plain [] ++ spell cs)) is_size;
+      short = omega (arith, own, fit);
+    }

@@ -1,0 +1,23 @@
+use Rattle.std.proofs.Common.{◌≡◌, ◌+◌, ◌*◌, ◌≤◌, ℕ, List, [], ◌∷◌, length, ◌-◌}
+use Rattle.tag_bits.specs.Digits.{digits_of_bytes}
+use Rattle.llrp_schema.specs.Schema.{fields_of, tail_of}
+use Rattle.llrp_tree.specs.Tree.{forest}
+use Rattle.llrp_tree.specs.Spelling.{Head, spread}
+use Rattle.llrp_tree.specs.OpenTree.{Begun, kind_of, as_read, due, Rest}
+use Rattle.llrp_tree.specs.declared.TheConstants.{MAX_DEPTH}
+use Rattle.llrp_tree.specs.Standing.{Stands, begun, leading}
+use Rattle.llrp_tree.proofs.reading.body.+read_body.Given as goal
+
+abbrev pub decreases-read_body : goal.decreases-read_body
+decreases-read_body l = MAX_DEPTH - l.level
+
+abbrev pub invariant-children : goal.invariant-children
+invariant-children l = record {
+  after : l.from ≤ l.at;
+  before : l.at ≤ l.stop;
+  read : (h : Head) (outer : List Begun) → kind_of h ≡ l.kind → length outer ≡ l.level → Stands (digits_of_bytes l.frame) (leading h (8 * l.stop) [] ∷ outer) (8 * l.from)
+      → Stands (digits_of_bytes l.frame) (begun h (8 * l.stop) (spread (fields_of l.kind) l.fields.values.items) (as_read (tail_of l.kind) l.tail.octets) (forest l.children.items) ∷ outer) (8 * l.at);
+}
+
+abbrev pub decreases-children : goal.decreases-children
+decreases-children l = l.stop - l.at

@@ -1,0 +1,10 @@
+use Rattle.llrp_tree.proofs.reading.tail.tail_at.Goals as goal
+
+pub returns-in-Words : goal.returns-in-Words
+returns-in-Words c = rw c.in-Words.is (c.words_at.ensures c.args.fields.now)
+
+pub returns-in-Text : goal.returns-in-Text
+returns-in-Text c = rw c.in-Text.is (c.text_at.ensures c.args.fields.now)
+
+pub returns-in-Bits : goal.returns-in-Bits
+returns-in-Bits c = rw c.in-Bits.is (c.bits_at.ensures _)

@@ -1,0 +1,12 @@
+pub mod Tree
+pub mod Stored
+pub mod Lawful
+pub mod Checks
+pub mod Spelling
+pub mod Frame
+pub mod Writing
+pub mod OpenTree
+pub mod FirstFault
+pub mod FrameLaws
+pub mod Standing
+pub mod Weight

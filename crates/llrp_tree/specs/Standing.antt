@@ -1,0 +1,114 @@
+-- Where a reader stands in the digits of a frame, and what the functions that read it promise.
+use Rattle.std.specs.Prelude.{◌≡◌, ℕ, ◌+◌, ◌*◌, ◌≤◌, Bool, true, false, nat_le, List, [], ◌∷◌, length, take, drop, Option, Some, None}
+use Rattle.std.specs.Str.{is_utf8}
+use Rattle.tag_bits.specs.Digits.{digits_of_bytes}
+use Rattle.llrp_schema.specs.declared.kinds.MsgKind.{MsgKind}
+use Rattle.llrp_schema.specs.declared.kinds.ParamKind.{ParamKind}
+use Rattle.llrp_schema.specs.declared.kinds.Kind.{Kind}
+use Rattle.llrp_schema.specs.declared.kinds.Kind.TheVariants.{Message, Parameter}
+use Rattle.llrp_schema.specs.declared.kinds.Tail.{Tail}
+use Rattle.llrp_schema.specs.declared.kinds.Tail.TheVariants.{Text}
+use Rattle.llrp_schema.specs.Schema.{GroupRule, is_tv, message_with_number}
+use Rattle.llrp_tree.specs.declared.TheConstants.{MAX_DEPTH}
+use Rattle.llrp_tree.specs.declared.fault.Reason.{Reason}
+use Rattle.llrp_tree.specs.declared.fault.FrameErr.{FrameErr}
+use Rattle.llrp_tree.specs.declared.fault.FrameErr.TheVariants.{Memory, Bad}
+use Rattle.llrp_tree.specs.Tree.{Forest, none}
+use Rattle.llrp_tree.specs.Lawful.{has_place, count_octets}
+use Rattle.llrp_tree.specs.Spelling.{Head}
+use Rattle.llrp_tree.specs.OpenTree.{Begun, kind_of, groups, covers, due, Rest, takes_more, is_enough, IsOpenTree}
+use Rattle.llrp_tree.specs.FirstFault.{number, tail_at, tail_end, tlv_kind, tlv_octets, Check, first_failing, next_fault, is_over, header_checks, FirstFault}
+
+-- the bit at which the message ends
+unfoldable pub end_of : List Begun → ℕ
+end_of [] = 0
+end_of (b ∷ []) = b.stop
+end_of (b ∷ p ∷ outer) = end_of (p ∷ outer)
+
+-- An open tree covers the digits up to a place, and its message ends where they do.
+pub record Stands (ds : List Bool) (t : List Begun) (at : ℕ) : Type 0 where
+  pub is_open : IsOpenTree t
+  pub covered : covers t ≡ take at ds
+  pub within : at ≤ length ds
+  pub ends : end_of t ≡ length ds
+
+-- Somewhere in the digits the next checks of an open tree fail, first so.
+pub record HasFault (ds : List Bool) (bit : ℕ) (reason : Reason) : Type 0 where
+  pub tree : List Begun
+  pub at : ℕ
+  pub stands : Stands ds tree at
+  pub fails : next_fault tree (drop at ds) ≡ Some (bit, reason)
+
+-- The innermost node has all its parts, and is at its stop.
+pub record Closes (ds : List Bool) (b : Begun) (outer : List Begun) (at : ℕ) : Type 0 where
+  pub stands : Stands ds (b ∷ outer) at
+  pub ready : due b ≡ Rest
+  pub over : is_over b.head (nat_le b.stop at) ≡ true
+  pub enough : is_enough (groups b) b.children ≡ true
+
+-- a begun node
+abbrev pub begun : Head → ℕ → List ℕ → Option (List ℕ) → Forest → Begun
+begun h stop fields tail children = record { head = h; stop = stop; fields = fields; tail = tail; children = children }
+
+-- a node of which some fields are read
+abbrev pub leading : Head → ℕ → List ℕ → Begun
+leading h stop fields = begun h stop fields None none
+
+-- The header passes its checks, and says these numbers.
+pub record HeaderSays (limit : ℕ) (ds : List Bool) (version : ℕ) (kind : MsgKind) (octets id : ℕ) : Type 0 where
+  pub passes : first_failing (header_checks limit ds) ≡ None
+  pub version_is : version ≡ number ds 3 3
+  pub kind_is : message_with_number (number ds 6 10) ≡ Some kind
+  pub octets_is : octets ≡ number ds 16 32
+  pub id_is : id ≡ number ds 48 32
+
+-- the error tells the first of the checks to fail
+abbrev pub FailsFirst : List Check → FrameErr → Type 0
+FailsFirst checks Memory = ⊥
+FailsFirst checks (Bad fault) = first_failing checks ≡ Some (fault.bit, fault.reason)
+
+-- the error tells the fault of the digits, or that memory ran out
+abbrev pub Tells : List Bool → FrameErr → Type 0
+Tells ds Memory = Unit {0}
+Tells ds (Bad fault) = HasFault ds fault.bit fault.reason
+
+-- the error tells the first fault of a frame, or that memory ran out
+abbrev pub IsFirst : List ℕ → ℕ → FrameErr → Type 0
+IsFirst bytes limit Memory = Unit {0}
+IsFirst bytes limit (Bad fault) = FirstFault bytes limit fault.bit fault.reason
+
+-- A node of the kind begins at the octet, so many levels below the message.
+pub record Begins (bytes : List ℕ) (kind : Kind) (level from stop : ℕ) : Type 0 where
+  pub head : Head
+  pub outer : List Begun
+  pub of_kind : kind_of head ≡ kind
+  pub at_level : length outer ≡ level
+  pub stands : Stands (digits_of_bytes bytes) (leading head (8 * stop) [] ∷ outer) (8 * from)
+
+-- A child's kind passes its checks.
+pub record KindPasses (found : Option ParamKind) (groups : List GroupRule) (children : Forest) (level : ℕ) (kind : ParamKind) : Type 0 where
+  pub is : found ≡ Some kind
+  pub has : has_place groups kind ≡ true
+  pub takes : takes_more groups kind children ≡ true
+  pub deep : level ≤ MAX_DEPTH
+
+-- A head of a child with type, length and value passes its checks.
+pub record TlvPasses (groups : List GroupRule) (children : Forest) (level at stop : ℕ) (rest : List Bool) (kind : ParamKind) (octets : ℕ) : Type 0 where
+  pub room : at + 32 ≤ stop
+  pub zeros : number rest 0 6 ≡ 0
+  pub placed : KindPasses (tlv_kind rest) groups children level kind
+  pub octets_are : octets ≡ tlv_octets rest
+  pub least : 4 ≤ octets
+  pub most : at + 8 * octets ≤ stop
+
+-- whether a node ends behind its field
+abbrev pub is_tv_kind : Kind → Bool
+is_tv_kind (Message kind) = false
+is_tv_kind (Parameter kind) = is_tv kind
+
+-- A tail's octets go from one bit to another, and it passes its checks.
+pub record TailSpans (form : Tail) (fields : List ℕ) (at stop : ℕ) (rest : List Bool) (from to : ℕ) : Type 0 where
+  pub begins : from ≡ at + 8 * count_octets form
+  pub ends : to ≡ tail_end form fields at rest
+  pub within : to ≤ stop
+  pub text : form ≡ Text → is_utf8 (tail_at form fields rest) ≡ true

@@ -1,0 +1,294 @@
+//! The tests of a parameter's and a message's parts, one by one.
+
+ghost use Rattle.std.specs.Prelude.{◌≡◌, ◌≤◌, ◌<◌, ◌+◌, ◌*◌, ◌^◌, ◌==◌, ◌||◌, length, map, List, [], ◌∷◌, None, true};
+ghost use Rattle.std.specs.Str.{is_utf8};
+ghost use Rattle.llrp_schema.specs.Schema.{field_rule, group_rule, fields_of, groups_of, tail_of, bits_of};
+ghost use Rattle.llrp_schema.specs.declared.kinds.Kind.TheVariants.{Message, Parameter};
+ghost use Rattle.llrp_tree.specs.Tree.{forest};
+ghost use Rattle.llrp_tree.specs.Lawful as law;
+ghost use Rattle.llrp_tree.specs.Checks as checks;
+
+use crate::{MAX_DEPTH, MAX_LIMIT, MAX_OCTETS, Node, NodeFault};
+use arrayvec::ArrayVec;
+use llrp_schema::{Field, Group, Kind, MsgKind, ParamKind, Tail};
+
+/// The fields, in place.
+pub(crate) fn kept(fields: &[u128]) -> ArrayVec<u128, 12>
+    requires { length fields.now ≤ 12 }
+    ensures { result.items ≡ fields.now }
+{
+    let mut kept = ArrayVec::new();
+    for field in fields {
+        kept.push(*field);
+    }
+    kept
+}
+
+/// How large nodes in a row are.
+#[derive(Clone, Copy, Debug)]
+pub(crate) struct Extent {
+    pub octets: u128,
+    pub levels: u8,
+}
+
+/// The octets and the levels of nodes, which are all lawful.
+pub(crate) fn extent_of(nodes: &[Node]) -> Extent
+    ensures octets { result.octets ≡ law.octets (forest nodes.now) }
+    ensures bound { result.octets ≤ 65535 * length nodes.now }
+    ensures levels { result.levels ≡ law.levels (forest nodes.now) }
+    ensures few { result.levels ≤ MAX_DEPTH }
+    ensures lawful { law.AllLawful (forest nodes.now) }
+{
+    let mut octets: u128 = 0;
+    let mut levels: u8 = 0;
+    for node in nodes {
+        node.lawful();
+        octets += node.length() as u128;
+        levels = levels.max(node.levels());
+    }
+    Extent { octets, levels }
+}
+
+fn field_bits(rules: &[Field]) -> u128
+    ensures value { result ≡ bits_of (map field_rule rules.now) }
+    ensures bound { result ≤ 4294967295 * length rules.now }
+{
+    let mut bits: u128 = 0;
+    for rule in rules {
+        bits += rule.width as u128;
+    }
+    bits
+}
+
+/// The octets of the fields and the tail of a kind.
+#[tactic(auto, unfolding(crate::specs::Lawful::body_octets))]
+pub(crate) fn body_octets(kind: Kind, tail: &[u8]) -> u128
+    ensures value { result ≡ law.body_octets kind tail.now }
+    ensures bound { result < 2 ^ 100 }
+{
+    let count: u128 = match llrp_schema::tail(kind) {
+        Tail::Words | Tail::Text => 2,
+        Tail::Absent | Tail::Bits => 0,
+    };
+    field_bits(llrp_schema::fields(kind)) / 8 + count + tail.len() as u128
+}
+
+/// The octets of a parameter's head.
+pub(crate) fn head_octets(kind: ParamKind) -> u128
+    ensures value { result ≡ law.head_octets kind }
+    ensures few { result ≤ 4 }
+{
+    if llrp_schema::is_tv(kind) { 1 } else { 4 }
+}
+
+fn count_fits(rules: &[Field], values: &[u128]) -> bool
+    ensures { result ≡ checks.count_fits (map field_rule rules.now) values.now }
+{
+    let mut count: usize = 0;
+    for rule in rules {
+        if !rule.reserved {
+            count += 1;
+        }
+    }
+    values.len() == count
+}
+
+fn values_fit(rules: &[Field], values: &[u128]) -> bool
+    ensures { result ≡ checks.values_fit (map field_rule rules.now) values.now }
+{
+    match rules {
+        [] => true,
+        [rule, rules @ ..] => {
+            if rule.reserved {
+                return values_fit(rules, values);
+            }
+            match values {
+                [] => false,
+                [value, values @ ..] => *value <= rule.greatest && values_fit(rules, values),
+            }
+        }
+    }
+}
+
+/// Whether octets are well-formed UTF-8.
+fn is_utf8(octets: &[u8]) -> bool
+    ensures { result ≡ is_utf8 octets.now }
+{
+    match std::str::from_utf8(octets) {
+        Ok(_) => true,
+        Err(_) => false,
+    }
+}
+
+fn tail_fits(form: Tail, values: &[u128], tail: &[u8]) -> bool
+    ensures { result ≡ checks.tail_fits form values.now tail.now }
+{
+    match form {
+        Tail::Absent => tail.len() == 0,
+        Tail::Words => tail.len() % 2 == 0 && tail.len() / 2 <= 65535,
+        Tail::Text => tail.len() <= 65535 && is_utf8(tail),
+        Tail::Bits => match values {
+            [] => tail.len() == 0,
+            [bits, ..] => tail.len() as u128 == bits / 8 + (bits % 8 + 7) / 8,
+        },
+    }
+}
+
+/// Whether a kind is one of a group's.
+pub(crate) fn is_member(group: &Group, kind: ParamKind) -> bool
+    ensures { result ≡ law.is_member (group_rule group.now) kind }
+{
+    group.members.iter().any(|member| llrp_schema::number(Kind::Parameter(*member))
+        == llrp_schema::number(Kind::Parameter(kind)))
+}
+
+pub(crate) fn has_place(groups: &[Group], kind: ParamKind) -> bool
+    ensures { result ≡ law.has_place (map group_rule groups.now) kind }
+{
+    for group in groups {
+        if is_member(group, kind) {
+            return true;
+        }
+    }
+    false
+}
+
+#[tactic(auto, unfolding(crate::specs::Checks::all_placed))]
+fn all_placed(groups: &[Group], nodes: &[Node]) -> bool
+    ensures { result ≡ checks.all_placed (map group_rule groups.now) nodes.now }
+{
+    for node in nodes {
+        if !has_place(groups, node.kind()) {
+            return false;
+        }
+    }
+    true
+}
+
+/// How many nodes are of a group.
+pub(crate) fn members(group: &Group, nodes: &[Node]) -> usize
+    ensures value { result ≡ checks.members (group_rule group.now) nodes.now }
+{
+    let mut count: usize = 0;
+    for node in nodes {
+        if is_member(group, node.kind()) {
+            count += 1;
+        }
+    }
+    count
+}
+
+#[tactic(auto, unfolding(crate::specs::Checks::none_too_many))]
+fn none_too_many(groups: &[Group], nodes: &[Node]) -> bool
+    ensures { result ≡ checks.none_too_many (map group_rule groups.now) nodes.now }
+{
+    for group in groups {
+        if let Some(most) = group.most {
+            if members(group, nodes) > most as usize {
+                return false;
+            }
+        }
+    }
+    true
+}
+
+/// Whether no group has fewer nodes than its least.
+#[tactic(auto, unfolding(crate::specs::Checks::none_missing))]
+pub(crate) fn none_missing(groups: &[Group], nodes: &[Node]) -> bool
+    ensures { result ≡ checks.none_missing (map group_rule groups.now) nodes.now }
+{
+    for group in groups {
+        if members(group, nodes) < group.least as usize {
+            return false;
+        }
+    }
+    true
+}
+
+/// The first fault of the parts by the table of their kind.
+#[tactic(auto, unfolding(crate::specs::Checks::table_tests))]
+fn table_fault(
+    kind: Kind,
+    version: bool,
+    values: &[u128],
+    tail: &[u8],
+    nodes: &[Node],
+) -> Option<NodeFault>
+    ensures { result ≡ checks.first_failed (checks.table_tests kind version values.now tail.now nodes.now) }
+{
+    let rules = llrp_schema::fields(kind);
+    let groups = llrp_schema::groups(kind);
+    if !count_fits(rules, values) {
+        return Some(NodeFault::FieldCount);
+    }
+    if !version || !values_fit(rules, values) {
+        return Some(NodeFault::Value);
+    }
+    if !tail_fits(llrp_schema::tail(kind), values, tail) {
+        return Some(NodeFault::Tail);
+    }
+    if !all_placed(groups, nodes) {
+        return Some(NodeFault::Misplaced);
+    }
+    if !none_too_many(groups, nodes) {
+        return Some(NodeFault::TooMany);
+    }
+    if !none_missing(groups, nodes) {
+        return Some(NodeFault::Missing);
+    }
+    None
+}
+
+/// The first fault of the parts of a parameter, whose children have these levels.
+#[tactic(auto, unfolding(crate::specs::Checks::first_fault))]
+pub(crate) fn first_fault(
+    kind: ParamKind,
+    values: &[u128],
+    tail: &[u8],
+    nodes: &[Node],
+    levels: u8,
+    octets: u128,
+) -> Option<NodeFault>
+    requires few { levels ≡ law.levels (forest nodes.now) }
+    requires long { octets ≡ law.head_octets kind + law.body_octets (Parameter kind) tail.now + law.octets (forest nodes.now) }
+    ensures { result ≡ checks.first_fault kind values.now tail.now (forest nodes.now) }
+{
+    if let Some(fault) = table_fault(Kind::Parameter(kind), true, values, tail, nodes) {
+        return Some(fault);
+    }
+    if levels >= MAX_DEPTH {
+        return Some(NodeFault::TooDeep);
+    }
+    if octets > MAX_OCTETS as u128 {
+        return Some(NodeFault::TooLong);
+    }
+    None
+}
+
+/// Whether a version is that of LLRP 1.0.1 or that of LLRP 1.1.
+pub(crate) fn is_known_version(version: u8) -> bool
+    ensures { result ≡ ((version == 1) || (version == 2)) }
+{
+    version == 1 || version == 2
+}
+
+/// The first fault of the parts of a message of so many octets.
+pub(crate) fn first_message_fault(
+    version: u8,
+    kind: MsgKind,
+    values: &[u128],
+    nodes: &[Node],
+    octets: u128,
+) -> Option<NodeFault>
+    requires { octets ≡ 10 + law.body_octets (Message kind) [] + law.octets (forest nodes.now) }
+    ensures { result ≡ checks.first_message_fault version kind values.now (forest nodes.now) }
+{
+    let known = is_known_version(version);
+    if let Some(fault) = table_fault(Kind::Message(kind), known, values, &[], nodes) {
+        return Some(fault);
+    }
+    if octets > MAX_LIMIT as u128 {
+        return Some(NodeFault::TooLong);
+    }
+    None
+}

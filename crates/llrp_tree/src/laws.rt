@@ -1,0 +1,44 @@
+//! Laws of lawful parameters and messages, and of what they spell.
+
+ghost use Rattle.std.specs.Prelude.{◌≡◌, ◌↔◌, ◌^◌, ◌<◌, ◌≤◌, ◌+◌, ◌*◌, ℕ, List, None, length};
+ghost use Rattle.llrp_schema.specs.declared.kinds.ParamKind.{ParamKind};
+ghost use Rattle.llrp_schema.specs.declared.kinds.MsgKind.{MsgKind};
+ghost use Rattle.llrp_tree.specs.Tree.{Forest, Tree, MessageTree};
+ghost use Rattle.llrp_tree.specs.Lawful.{AreOctets, AreLawful, AllLawful, IsLawfulMessage, tree_octets, message_octets};
+ghost use Rattle.llrp_tree.specs.Checks.{first_fault, first_message_fault};
+ghost use Rattle.llrp_tree.specs.Spelling.{tree_digits};
+ghost use Rattle.llrp_tree.specs.Frame.{Frame};
+ghost use Rattle.llrp_tree.specs.declared.TheConstants.{MAX_LIMIT};
+ghost use Rattle.llrp_tree.specs.Weight.{message_weight};
+ghost use Rattle.llrp_tree.specs.FrameLaws.{OpenTreesAgree, FramesApart};
+
+/// Parts are lawful exactly where none of the ordered tests fails.
+#[tactic(auto, using(crate::proofs::LawLemmas::lawful_exactly, crate::proofs::LawLemmas::message_exactly))]
+pub fn lawful_where_no_test_fails()
+    ensures parameter { (kind : ParamKind) (fields tail : List ℕ) (children : Forest) → AreOctets tail →
+        AreLawful kind fields tail children ↔ (first_fault kind fields tail children ≡ None) }
+    ensures message { (m : MessageTree) → m.id < 2 ^ 32 → AllLawful m.children →
+        IsLawfulMessage m ↔ (first_message_fault m.version m.kind m.fields m.children ≡ None) }
+{}
+
+/// What is spelled has as many octets as the length says.
+#[tactic(auto, using(crate::proofs::LengthLemmas::tree_length, crate::proofs::LengthLemmas::frame_length))]
+pub fn lengths_are_spelled()
+    ensures parameter { (t : Tree) → length (tree_digits t) ≡ 8 * tree_octets t }
+    ensures message { (m : MessageTree) (bytes : List ℕ) (limit : ℕ) → Frame m bytes limit → length bytes ≡ message_octets m }
+{}
+
+/// Two open trees with equally many parts over the same digits are equal.
+pub fn open_trees_agree()
+    ensures { OpenTreesAgree }
+{}
+
+/// A frame has one message or one first fault, and no message's bytes begin those of another.
+pub fn frames_apart()
+    ensures { (limit : ℕ) → limit ≤ MAX_LIMIT → FramesApart limit }
+{}
+
+/// What is kept of a message weighs no more than its frame has octets.
+pub fn weights_are_within()
+    ensures { (m : MessageTree) (bytes : List ℕ) (limit : ℕ) → Frame m bytes limit → message_weight m ≤ length bytes }
+{}

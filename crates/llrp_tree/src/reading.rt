@@ -1,0 +1,41 @@
+//! Frames, read from left to right.
+
+ghost use Rattle.std.specs.Prelude.{◌≡◌, ◌≤◌, length, MatchResult};
+ghost use Rattle.tag_bits.specs.Digits.{digits_of_bytes};
+ghost use Rattle.llrp_tree.specs.declared.TheConstants.{MAX_LIMIT};
+ghost use Rattle.llrp_tree.specs.Frame.{Frame};
+ghost use Rattle.llrp_tree.specs.FirstFault.{number};
+ghost use Rattle.llrp_tree.specs.Standing.{IsFirst};
+
+mod body;
+mod children;
+mod fields;
+mod groups;
+mod header;
+mod tail;
+#[cfg(test)]
+mod tests;
+
+use crate::{FrameErr, MAX_LIMIT, Message};
+use llrp_schema::Kind;
+use std::alloc::Global;
+
+/// The message that has the frame (LLRP 1.1, section 17), or the frame's first fault; an error where
+/// memory runs out.
+pub fn decode_frame(alloc: Global, frame: &[u8], limit: u32) -> Result<Message, FrameErr>
+    requires header { 10 ≤ length frame.now }
+    requires own_length { number (digits_of_bytes frame.now) 16 32 ≡ length frame.now }
+    requires least { 10 ≤ limit }
+    requires most { limit ≤ MAX_LIMIT }
+    ensures { MatchResult result (λ m. Frame m frame.now limit) (IsFirst frame.now limit) }
+{
+    let header = header::read_header(frame, limit)?;
+    let body = body::read_body(alloc, frame, 0, 10, frame.len(), Kind::Message(header.kind))?;
+    Ok(Message::of_lawful(
+        header.version,
+        header.id,
+        header.kind,
+        body.fields,
+        body.children,
+    ))
+}

@@ -1,0 +1,96 @@
+//! What stands behind the head of a node.
+
+ghost use Rattle.std.specs.Prelude.{◌≡◌, ◌*◌, ◌≤◌, ℕ, List, [], ◌∷◌, length, MatchResult, unwrap_or};
+ghost use Rattle.tag_bits.specs.Digits.{digits_of_bytes};
+ghost use Rattle.llrp_schema.specs.Schema.{fields_of, plain_fields_of, tail_of};
+ghost use Rattle.llrp_tree.specs.declared.TheConstants.{MAX_DEPTH};
+ghost use Rattle.llrp_tree.specs.Tree.{forest};
+ghost use Rattle.llrp_tree.specs.Spelling.{Head, spread};
+ghost use Rattle.llrp_tree.specs.OpenTree.{Begun, kind_of, as_read};
+ghost use Rattle.llrp_tree.specs.Standing.{Stands, Closes, begun, leading, Begins, Tells, is_tv_kind};
+
+use super::children::begin_child;
+use super::fields::read_fields;
+use super::tail::read_tail;
+use crate::check::none_missing;
+use crate::fault::bad;
+use crate::{FrameErr, Kind, Node, Nodes, Octets, Reason};
+use arrayvec::ArrayVec;
+use std::alloc::Global;
+
+/// All of a node behind its head, and the octet behind it.
+#[derive(Drop)]
+pub(crate) struct Body {
+    pub fields: ArrayVec<u128, 12>,
+    pub tail: Octets,
+    pub children: Nodes,
+    pub at: usize,
+}
+
+/// Whether a node ends behind its field.
+fn is_tv(kind: Kind) -> bool
+    ensures { result ≡ is_tv_kind kind }
+{
+    match kind {
+        Kind::Message(_) => false,
+        Kind::Parameter(kind) => llrp_schema::is_tv(kind),
+    }
+}
+
+/// What stands behind the head of a node of a kind, from one octet to another, so many levels below
+/// the message.
+pub(crate) fn read_body(
+    alloc: Global,
+    frame: &[u8],
+    level: u8,
+    from: usize,
+    stop: usize,
+    kind: Kind,
+) -> Result<Body, FrameErr>
+    requires behind { 2 ≤ from }
+    requires before { from ≤ stop }
+    requires small { length frame.now ≤ 65536 }
+    requires inside { stop ≤ length frame.now }
+    requires shallow { level ≤ MAX_DEPTH }
+    requires begins { Begins frame.now kind level from stop }
+    ensures within { MatchResult result (λ x. (from ≤ x.at) × (x.at ≤ stop)) (λ _. Unit {0}) }
+    ensures count { MatchResult result (λ x. length x.fields.items ≡ length (plain_fields_of kind)) (λ _. Unit {0}) }
+    ensures whole { MatchResult result (λ x. unwrap_or (as_read (tail_of kind) x.tail) [] ≡ x.tail) (λ _. Unit {0}) }
+    ensures read { (h : Head) (outer : List Begun) → kind_of h ≡ kind → length outer ≡ level → Stands (digits_of_bytes frame.now) (leading h (8 * stop) [] ∷ outer) (8 * from)
+        → MatchResult result (λ x. Closes (digits_of_bytes frame.now) (begun h (8 * stop) (spread (fields_of kind) x.fields.items) (as_read (tail_of kind) x.tail) (forest x.children)) outer (8 * x.at)) (Tells (digits_of_bytes frame.now)) }
+{
+    let fields = read_fields(frame, from, stop, kind)?;
+    let tail = read_tail(
+        alloc,
+        frame,
+        fields.at,
+        stop,
+        kind,
+        fields.values.as_slice(),
+    )?;
+    let mut children = Vec::new(alloc);
+    let mut at = tail.at;
+    'children: while !is_tv(kind) && at < stop {
+        let child = begin_child(frame, level, at, stop, kind, children.as_slice())?;
+        let body = read_body(
+            alloc,
+            frame,
+            level + 1,
+            child.at,
+            child.stop,
+            Kind::Parameter(child.kind),
+        )?;
+        at = body.at;
+        children.push(Node::of_lawful(child.kind, body.fields, body.tail, body.children))?;
+    }
+    let enough = none_missing(llrp_schema::groups(kind), children.as_slice());
+    if !enough {
+        return Err(bad(8 * stop, Reason::Missing));
+    }
+    Ok(Body {
+        fields: fields.values,
+        tail: tail.octets,
+        children: Nodes::new(children),
+        at,
+    })
+}

@@ -1,0 +1,109 @@
+//! The heads of children.
+
+ghost use Rattle.std.specs.Prelude.{◌≡◌, suc, ◌+◌, ◌*◌, ◌≤◌, ◌<◌, ℕ, List, [], ◌∷◌, length, drop, false, Option, MatchResult};
+ghost use Rattle.tag_bits.specs.Digits.{digits_of_bytes};
+ghost use Rattle.llrp_schema.specs.declared.kinds.Kind.TheVariants.{Parameter};
+ghost use Rattle.llrp_schema.specs.Schema.{groups_of};
+ghost use Rattle.llrp_tree.specs.Tree.{forest};
+ghost use Rattle.llrp_tree.specs.Spelling.{Head};
+ghost use Rattle.llrp_tree.specs.OpenTree.{Begun, kind_of, due, Rest};
+ghost use Rattle.llrp_tree.specs.declared.TheConstants.{MAX_DEPTH};
+ghost use Rattle.llrp_tree.specs.FirstFault.{tlv_checks};
+ghost use Rattle.llrp_tree.specs.Standing.{Stands, begun, leading, FailsFirst, Tells, TlvPasses, is_tv_kind};
+
+use super::groups::child_kind;
+use crate::fault::bad;
+use crate::{FrameErr, Kind, MAX_DEPTH, Node, ParamKind, Reason};
+use llrp_schema::{param_of_tlv, param_of_tv};
+use tag_bits::get;
+
+/// A child of which the head is read.
+#[derive(Clone, Copy, Debug)]
+pub(crate) struct Child {
+    pub kind: ParamKind,
+    /// The octet behind its head.
+    pub at: usize,
+    /// The octet at which it stops.
+    pub stop: usize,
+}
+
+/// The kind and the length of the child with type, length and value at an octet.
+fn tlv_head(
+    frame: &[u8],
+    level: u8,
+    at: usize,
+    stop: usize,
+    parent: Kind,
+    siblings: &[Node],
+) -> Result<(ParamKind, usize), FrameErr>
+    requires before { at < stop }
+    requires small { length frame.now ≤ 65536 }
+    requires inside { stop ≤ length frame.now }
+    ensures { MatchResult result (λ x. TlvPasses (groups_of parent) (forest siblings.now) level (8 * at) (8 * stop) (drop (8 * at) (digits_of_bytes frame.now)) x.0 x.1) (FailsFirst (tlv_checks (groups_of parent) (forest siblings.now) level (8 * at) (8 * stop) (drop (8 * at) (digits_of_bytes frame.now)))) }
+{
+    let bit = 8 * at;
+    if stop - at < 4 {
+        return Err(bad(bit, Reason::Short));
+    }
+    let reserved = get(frame, bit, 6);
+    if reserved != 0 {
+        return Err(bad(bit, Reason::Reserved));
+    }
+    let number = get(frame, bit + 6, 10) as u16;
+    let kind = child_kind(param_of_tlv(number), parent, siblings, level, bit, bit + 6)?;
+    let octets = get(frame, bit + 16, 16) as usize;
+    if octets < 4 {
+        return Err(bad(bit + 16, Reason::ParamLength));
+    }
+    if stop - at < octets {
+        return Err(bad(bit + 16, Reason::ParamLength));
+    }
+    Ok((kind, octets))
+}
+
+/// The child that begins at an octet of a node at a level.
+pub(crate) fn begin_child(
+    frame: &[u8],
+    level: u8,
+    at: usize,
+    stop: usize,
+    parent: Kind,
+    siblings: &[Node],
+) -> Result<Child, FrameErr>
+    requires before { at < stop }
+    requires small { length frame.now ≤ 65536 }
+    requires inside { stop ≤ length frame.now }
+    requires shallow { level ≤ MAX_DEPTH }
+    requires has_length { is_tv_kind parent ≡ false }
+    ensures within { MatchResult result (λ c. (at < c.at) × (c.at ≤ c.stop) × (c.stop ≤ stop) × (level < MAX_DEPTH)) (λ _. Unit {0}) }
+    ensures begun { (h : Head) (outer : List Begun) (fields : List ℕ) (tail : Option (List ℕ)) → kind_of h ≡ parent → length outer ≡ level → due (begun h (8 * stop) fields tail (forest siblings.now)) ≡ Rest → Stands (digits_of_bytes frame.now) (begun h (8 * stop) fields tail (forest siblings.now) ∷ outer) (8 * at)
+        → MatchResult result (λ c. (hb : Head) × (kind_of hb ≡ Parameter c.kind) × Stands (digits_of_bytes frame.now) (leading hb (8 * c.stop) [] ∷ begun h (8 * stop) fields tail (forest siblings.now) ∷ outer) (8 * c.at)) (Tells (digits_of_bytes frame.now)) }
+{
+    let bit = 8 * at;
+    if llrp_schema::groups(parent).len() == 0 {
+        return Err(bad(bit, Reason::Extra));
+    }
+    let first = get(frame, bit, 1);
+    if first != 0 {
+        let number = get(frame, bit + 1, 7) as u8;
+        let kind = child_kind(
+            param_of_tv(number),
+            parent,
+            siblings,
+            level + 1,
+            bit,
+            bit + 1,
+        )?;
+        return Ok(Child {
+            kind,
+            at: at + 1,
+            stop,
+        });
+    }
+    let (kind, octets) = tlv_head(frame, level + 1, at, stop, parent, siblings)?;
+    Ok(Child {
+        kind,
+        at: at + 4,
+        stop: at + octets,
+    })
+}

@@ -1,0 +1,74 @@
+//! The fields of a node.
+
+ghost use Rattle.std.specs.Prelude.{◌≡◌, ◌+◌, ◌*◌, ◌≤◌, ℕ, List, [], ◌∷◌, length, drop, true, MatchResult};
+ghost use Rattle.tag_bits.specs.Digits.{digits_of_bytes};
+ghost use Rattle.llrp_schema.specs.Schema.{field_rule, fields_of, plain_fields_of, bits_of};
+ghost use Rattle.llrp_tree.specs.Spelling.{Head, spread};
+ghost use Rattle.llrp_tree.specs.OpenTree.{Begun, kind_of, in_range};
+ghost use Rattle.llrp_tree.specs.FirstFault.{number, field_checks};
+ghost use Rattle.llrp_tree.specs.Standing.{Stands, leading, FailsFirst, Tells};
+
+use crate::fault::bad;
+use crate::{FrameErr, Kind, Reason};
+use arrayvec::ArrayVec;
+use llrp_schema::Field;
+use tag_bits::get;
+
+/// The value of a field at a bit of a node that stops at another bit.
+pub(crate) fn field_at(frame: &[u8], at: usize, stop: usize, rule: &Field) -> Result<u128, FrameErr>
+    requires before { at ≤ stop }
+    requires small { length frame.now ≤ 65536 }
+    requires inside { stop ≤ 8 * length frame.now }
+    requires some { 1 ≤ rule.now.width }
+    requires narrow { rule.now.width ≤ 96 }
+    ensures { MatchResult result (λ v. (at + rule.now.width ≤ stop) × (v ≡ number (drop at (digits_of_bytes frame.now)) 0 rule.now.width) × (in_range (field_rule rule.now) v ≡ true)) (FailsFirst (field_checks (field_rule rule.now) at stop (drop at (digits_of_bytes frame.now)))) }
+{
+    if stop - at < rule.width as usize {
+        return Err(bad(at, Reason::Short));
+    }
+    let value = get(frame, at, rule.width);
+    if rule.reserved {
+        if value != 0 {
+            return Err(bad(at, Reason::Reserved));
+        }
+    } else if value > rule.greatest {
+        return Err(bad(at, Reason::Value));
+    }
+    Ok(value)
+}
+
+/// The plain fields of a node, and the octet behind its fields.
+#[derive(Drop)]
+pub(crate) struct Fields {
+    pub values: ArrayVec<u128, 12>,
+    pub at: usize,
+}
+
+/// The fields of a node of a kind, from one octet to another.
+pub(crate) fn read_fields(
+    frame: &[u8],
+    from: usize,
+    stop: usize,
+    kind: Kind,
+) -> Result<Fields, FrameErr>
+    requires before { from ≤ stop }
+    requires small { length frame.now ≤ 65536 }
+    requires inside { stop ≤ length frame.now }
+    ensures within { MatchResult result (λ x. (from ≤ x.at) × (x.at ≤ stop)) (λ _. Unit {0}) }
+    ensures width { MatchResult result (λ x. 8 * x.at ≡ 8 * from + bits_of (fields_of kind)) (λ _. Unit {0}) }
+    ensures count { MatchResult result (λ x. length x.values.items ≡ length (plain_fields_of kind)) (λ _. Unit {0}) }
+    ensures read { (h : Head) (outer : List Begun) → kind_of h ≡ kind → Stands (digits_of_bytes frame.now) (leading h (8 * stop) [] ∷ outer) (8 * from)
+        → MatchResult result (λ x. Stands (digits_of_bytes frame.now) (leading h (8 * stop) (spread (fields_of kind) x.values.items) ∷ outer) (8 * x.at)) (Tells (digits_of_bytes frame.now)) }
+{
+    let rules = llrp_schema::fields(kind);
+    let mut values = ArrayVec::new();
+    let mut at = 8 * from;
+    for rule in rules {
+        let value = field_at(frame, at, 8 * stop, rule)?;
+        if !rule.reserved {
+            values.push(value);
+        }
+        at += rule.width as usize;
+    }
+    Ok(Fields { values, at: at / 8 })
+}

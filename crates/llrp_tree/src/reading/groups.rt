@@ -1,0 +1,68 @@
+//! Whether a child may begin in a node.
+
+ghost use Rattle.std.specs.Prelude.{◌≡◌, ◌+◌, map, not, Option, MatchResult};
+ghost use Rattle.llrp_schema.specs.Schema.{group_rule, groups_of};
+ghost use Rattle.llrp_tree.specs.Tree.{forest};
+ghost use Rattle.llrp_tree.specs.Lawful.{count};
+ghost use Rattle.llrp_tree.specs.Checks.{at_most};
+ghost use Rattle.llrp_tree.specs.OpenTree.{takes_more};
+ghost use Rattle.llrp_tree.specs.FirstFault.{kind_checks};
+ghost use Rattle.llrp_tree.specs.Standing.{FailsFirst, KindPasses};
+
+use crate::check::{has_place, is_member, members};
+use crate::fault::bad;
+use crate::{FrameErr, MAX_DEPTH, Node, ParamKind, Reason};
+use llrp_schema::{Group, Kind};
+
+/// Whether a group takes no more nodes.
+pub(crate) fn is_full(group: &Group, nodes: &[Node]) -> bool
+    ensures { result ≡ not (at_most group.now.most (count (group_rule group.now) (forest nodes.now) + 1)) }
+{
+    match group.most {
+        Some(most) => members(group, nodes) >= most as usize,
+        None => false,
+    }
+}
+
+/// Whether no group of a kind is full.
+#[tactic(auto, unfolding(crate::specs::OpenTree::takes_more))]
+pub(crate) fn takes_more(groups: &[Group], kind: ParamKind, nodes: &[Node]) -> bool
+    ensures { result ≡ takes_more (map group_rule groups.now) kind (forest nodes.now) }
+{
+    for group in groups {
+        if is_member(group, kind) && is_full(group, nodes) {
+            return false;
+        }
+    }
+    true
+}
+
+/// The kind of a child at a bit, so many levels below the message, whose type stands at another bit;
+/// or the first check that it fails.
+pub(crate) fn child_kind(
+    found: Option<ParamKind>,
+    parent: Kind,
+    siblings: &[Node],
+    level: u8,
+    at: usize,
+    type_at: usize,
+) -> Result<ParamKind, FrameErr>
+    ensures { MatchResult result (KindPasses found (groups_of parent) (forest siblings.now) level) (FailsFirst (kind_checks found (groups_of parent) (forest siblings.now) level at type_at)) }
+{
+    let groups = llrp_schema::groups(parent);
+    let Some(kind) = found else {
+        return Err(bad(type_at, Reason::ParamType));
+    };
+    let placed = has_place(groups, kind);
+    if !placed {
+        return Err(bad(at, Reason::Misplaced));
+    }
+    let taken = takes_more(groups, kind, siblings);
+    if !taken {
+        return Err(bad(at, Reason::TooMany));
+    }
+    if level > MAX_DEPTH {
+        return Err(bad(at, Reason::TooDeep));
+    }
+    Ok(kind)
+}

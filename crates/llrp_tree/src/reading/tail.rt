@@ -1,0 +1,146 @@
+//! The tail of a node.
+
+ghost use Rattle.std.specs.Prelude.{◌≡◌, ◌+◌, ◌*◌, ◌≤◌, ℕ, Bool, List, [], ◌∷◌, length, drop, Some, MatchResult, unwrap_or};
+ghost use Rattle.tag_bits.specs.Digits.{digits_of_bytes};
+ghost use Rattle.llrp_schema.specs.declared.kinds.Tail.TheVariants.{Words, Text, Bits};
+ghost use Rattle.llrp_schema.specs.Schema.{fields_of, plain_fields_of, bits_of, tail_of};
+ghost use Rattle.llrp_tree.specs.Tree.{none};
+ghost use Rattle.llrp_tree.specs.Lawful.{AreOctets};
+ghost use Rattle.llrp_tree.specs.Spelling.{Head, spread};
+ghost use Rattle.llrp_tree.specs.OpenTree.{Begun, kind_of, due, Rest, as_read};
+ghost use Rattle.llrp_tree.specs.FirstFault.{tail_checks};
+ghost use Rattle.llrp_tree.specs.Standing.{Stands, begun, leading, FailsFirst, Tells, TailSpans};
+
+use crate::fault::bad;
+use crate::{FrameErr, Kind, Octets, Reason};
+use llrp_schema::Tail;
+use std::alloc::Global;
+use tag_bits::get;
+
+/// From one octet to another.
+#[derive(Clone, Copy, Debug)]
+pub(crate) struct Span {
+    pub from: usize,
+    pub to: usize,
+}
+
+/// The octets of a tail of words behind its count at an octet.
+pub(crate) fn words_at(frame: &[u8], at: usize, stop: usize) -> Result<Span, FrameErr>
+    requires before { at ≤ stop }
+    requires small { length frame.now ≤ 65536 }
+    requires inside { stop ≤ length frame.now }
+    ensures { (fields : List ℕ) → MatchResult result (λ s. TailSpans Words fields (8 * at) (8 * stop) (drop (8 * at) (digits_of_bytes frame.now)) (8 * s.from) (8 * s.to)) (FailsFirst (tail_checks Words fields (8 * at) (8 * stop) (drop (8 * at) (digits_of_bytes frame.now)))) }
+{
+    if stop - at < 2 {
+        return Err(bad(8 * at, Reason::Short));
+    }
+    let octets = 2 * get(frame, 8 * at, 16) as usize;
+    if stop - at - 2 < octets {
+        return Err(bad(8 * at, Reason::Count));
+    }
+    Ok(Span {
+        from: at + 2,
+        to: at + 2 + octets,
+    })
+}
+
+/// The octets of a tail of text behind its count at an octet.
+pub(crate) fn text_at(frame: &[u8], at: usize, stop: usize) -> Result<Span, FrameErr>
+    requires before { at ≤ stop }
+    requires small { length frame.now ≤ 65536 }
+    requires inside { stop ≤ length frame.now }
+    ensures { (fields : List ℕ) → MatchResult result (λ s. TailSpans Text fields (8 * at) (8 * stop) (drop (8 * at) (digits_of_bytes frame.now)) (8 * s.from) (8 * s.to)) (FailsFirst (tail_checks Text fields (8 * at) (8 * stop) (drop (8 * at) (digits_of_bytes frame.now)))) }
+{
+    if stop - at < 2 {
+        return Err(bad(8 * at, Reason::Short));
+    }
+    let length = get(frame, 8 * at, 16) as usize;
+    if stop - at - 2 < length {
+        return Err(bad(8 * at, Reason::Count));
+    }
+    let from = at + 2;
+    match std::str::from_utf8(&frame[from..from + length]) {
+        Ok(_) => Ok(Span {
+            from,
+            to: from + length,
+        }),
+        Err(error) => Err(bad(8 * (from + error.valid_up_to()), Reason::Utf8)),
+    }
+}
+
+/// The octets of a tail of bits at an octet, which the first of the fields counts.
+pub(crate) fn bits_at(at: usize, stop: usize, fields: &[u128]) -> Result<Span, FrameErr>
+    requires behind { 2 ≤ at }
+    requires before { at ≤ stop }
+    requires small { stop ≤ 65536 }
+    ensures { (rest : List Bool) → MatchResult result (λ s. TailSpans Bits fields.now (8 * at) (8 * stop) rest (8 * s.from) (8 * s.to)) (FailsFirst (tail_checks Bits fields.now (8 * at) (8 * stop) rest)) }
+{
+    let bits = match fields {
+        [] => 0,
+        [bits, ..] => *bits,
+    };
+    let octets = bits / 8 + (bits % 8 + 7) / 8;
+    if ((stop - at) as u128) < octets {
+        return Err(bad(8 * at - 16, Reason::Count));
+    }
+    Ok(Span {
+        from: at,
+        to: at + octets as usize,
+    })
+}
+
+/// The octets of the tail of a kind at an octet.
+pub(crate) fn tail_at(
+    frame: &[u8],
+    at: usize,
+    stop: usize,
+    form: Tail,
+    fields: &[u128],
+) -> Result<Span, FrameErr>
+    requires behind { 2 ≤ at }
+    requires before { at ≤ stop }
+    requires small { length frame.now ≤ 65536 }
+    requires inside { stop ≤ length frame.now }
+    ensures { MatchResult result (λ s. TailSpans form fields.now (8 * at) (8 * stop) (drop (8 * at) (digits_of_bytes frame.now)) (8 * s.from) (8 * s.to)) (FailsFirst (tail_checks form fields.now (8 * at) (8 * stop) (drop (8 * at) (digits_of_bytes frame.now)))) }
+{
+    match form {
+        Tail::Absent => Ok(Span { from: at, to: at }),
+        Tail::Words => words_at(frame, at, stop),
+        Tail::Text => text_at(frame, at, stop),
+        Tail::Bits => bits_at(at, stop, fields),
+    }
+}
+
+/// The tail of a node, and the octet behind it.
+#[derive(Drop)]
+pub(crate) struct ReadTail {
+    pub octets: Octets,
+    pub at: usize,
+}
+
+/// The tail of a node of a kind behind its fields.
+pub(crate) fn read_tail(
+    alloc: Global,
+    frame: &[u8],
+    at: usize,
+    stop: usize,
+    kind: Kind,
+    fields: &[u128],
+) -> Result<ReadTail, FrameErr>
+    requires behind { 2 ≤ at }
+    requires before { at ≤ stop }
+    requires small { length frame.now ≤ 65536 }
+    requires inside { stop ≤ length frame.now }
+    requires count { length fields.now ≡ length (plain_fields_of kind) }
+    ensures within { MatchResult result (λ x. (at ≤ x.at) × (x.at ≤ stop)) (λ _. Unit {0}) }
+    ensures read { (h : Head) (outer : List Begun) → kind_of h ≡ kind → Stands (digits_of_bytes frame.now) (leading h (8 * stop) (spread (fields_of kind) fields.now) ∷ outer) (8 * at)
+        → MatchResult result (λ x. Stands (digits_of_bytes frame.now) (begun h (8 * stop) (spread (fields_of kind) fields.now) (as_read (tail_of kind) x.octets) none ∷ outer) (8 * x.at)) (Tells (digits_of_bytes frame.now)) }
+    ensures whole { MatchResult result (λ x. unwrap_or (as_read (tail_of kind) x.octets) [] ≡ x.octets) (λ _. Unit {0}) }
+{
+    let span = tail_at(frame, at, stop, llrp_schema::tail(kind), fields)?;
+    let octets = frame[span.from..span.to].to_vec(alloc)?;
+    Ok(ReadTail {
+        octets: Octets::new(octets),
+        at: span.to,
+    })
+}
