@@ -46,8 +46,16 @@ fn encode_often(alloc: Global, message: &Message, times: u32) -> Result<Vec<u8>>
 fn main(rt: HostRuntime) -> Result<()> {
     let alloc = rt.alloc();
     let mut words = env::args(&rt)?.skip(1);
-    let decodes: u32 = words.next().context("no number of decodes")?.as_str().parse()?;
-    let encodes: u32 = words.next().context("no number of encodes")?.as_str().parse()?;
+    let decodes: u32 = words
+        .next()
+        .context("no number of decodes")?
+        .as_str()
+        .parse()?;
+    let encodes: u32 = words
+        .next()
+        .context("no number of encodes")?
+        .as_str()
+        .parse()?;
     let line = rt.lines(alloc).next().context("no frame")??;
     let frame = hex::decode(alloc, line.as_str())?;
     let message = decode_often(alloc, frame.as_slice(), decodes)?;
