@@ -1,4 +1,4 @@
--- Kinds are compared by what they are; that is by their numbers.
+-- Kinds are the same where their numbers are, and no two groups of one parent share a kind.
 use Rattle.std.proofs.Common.{◌≡◌, ◌+◌, ◌==◌, ◌||◌, ◌&&◌, Bool, true, false, not, List, [], ◌∷◌, refl, sym, ap, ◌∙◌}
 use Rattle.std.specs.Bool.{Decides}
 use Rattle.std.specs.List.{list_any, list_all}
