@@ -1,8 +1,9 @@
 //! Loops over sources and sinks.
 
-ghost use Rattle.std.specs.Prelude.{◌+◌, ◌<◌, ◌≡◌, ◌^◌, IfErr, IfOk, List, OnOk, [], ℕ};
+ghost use Rattle.std.specs.Prelude.{◌+◌, ◌<◌, ◌≡◌, ◌^◌, IfErr, IfOk, List, OnOk, [], length, ℕ};
 ghost use Rattle.llrp_tool.specs.Copying.{HandsOn, ReadAll, ReadStopped, Writes};
 ghost use Rattle.llrp_tool.specs.Device.{IsFreshSource};
+ghost use Rattle.llrp_tool.specs.declared.copying.TheConstants.{PIECE_SIZE};
 
 use crate::device::{Sink, Source};
 use crate::fault::ToolErr;
@@ -70,6 +71,7 @@ pub fn hand_on<W: Sink>(gathered: &mut Vec<u8>, w: &mut W) -> Result<(), ToolErr
 pub fn hand_on_pieces<W: Sink>(gathered: &mut Vec<u8>, w: &mut W) -> Result<(), ToolErr>
     requires { (W.log w.old).failures + 1 < 2 ^ 64 }
     ensures handed { OnOk result (HandsOn gathered.old.items gathered.new.items (W.log w.old) (W.log w.new)) }
+    ensures below_a_piece { OnOk result (length gathered.new.items < PIECE_SIZE) }
     ensures failed { IfErr result (λ e. Writes gathered.old.items (W.log w.old) (W.log w.new) result) }
 {
     if gathered.len() < PIECE_SIZE {

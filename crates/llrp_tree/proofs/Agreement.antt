@@ -1,18 +1,16 @@
 -- Open trees over the same digits: with equally many parts they are equal, and at most one of them is at an end.
-use Rattle.std.proofs.Common.{◌≡◌, ℕ, zero, suc, ◌+◌, ◌-◌, ◌*◌, ◌/◌, ◌^◌, ◌<◌, ◌≤◌, max, Bool, true, false, cond, ◌⊎◌, inl, inr, List, [], ◌∷◌, ◌++◌, length, take, drop, Option, Some, None, refl, sym, ap, subst, ◌∙◌, arith, append_assoc, length-append}
+use Rattle.std.proofs.Common.{◌≡◌, ℕ, zero, suc, ◌+◌, ◌-◌, ◌*◌, ◌^◌, ◌<◌, Bool, ◌⊎◌, inl, inr, List, [], ◌∷◌, ◌++◌, length, take, drop, Option, Some, None, refl, sym, ap, subst, ◌∙◌, arith, append_assoc, length-append}
 use Rattle.std.proofs.lemmas.List.{append-nil, append_cancel_left}
 use Rattle.std.proofs.lemmas.Bool.{cases_order}
 use Rattle.tag_bits.specs.Digits.{value, digits}
 use Rattle.llrp_schema.specs.declared.kinds.MsgKind.{MsgKind}
 use Rattle.llrp_schema.specs.declared.kinds.ParamKind.{ParamKind}
-use Rattle.llrp_schema.specs.declared.kinds.Kind.TheVariants.{Message, Parameter}
-use Rattle.llrp_schema.specs.Schema.{fields_of, tail_of, number_of}
+use Rattle.llrp_schema.specs.declared.kinds.Kind.TheVariants.{Message}
+use Rattle.llrp_schema.specs.Schema.{number_of}
 use Rattle.llrp_schema.proofs.TableLaws.{message_number_fits, message_numbers}
-use Rattle.llrp_tree.specs.declared.fault.Reason.{Reason}
 use Rattle.llrp_tree.specs.Tree.{Forest, none, and}
-use Rattle.llrp_tree.specs.Lawful.{AllLawful}
 use Rattle.llrp_tree.specs.Spelling.{Head, message, tlv, tv, head_digits, spell}
-use Rattle.llrp_tree.specs.OpenTree.{Begun, kind_of, leading_digits, part, covers, due, Due, Rest, IsHeader, IsHead, IsOpenNode, IsOpenTree, parts, whole_parts, tail_parts, as_read}
+use Rattle.llrp_tree.specs.OpenTree.{Begun, leading_digits, part, covers, due, Rest, IsHeader, IsHead, IsOpenNode, IsOpenTree, parts, whole_parts, tail_parts}
 use Rattle.llrp_tree.specs.FirstFault.{next_fault}
 use Rattle.llrp_tree.proofs.ReadDigits.{drop_own, number_own}
 use Rattle.llrp_tree.proofs.Steps.{Step, Fails, Grows, Ends, next, begin}

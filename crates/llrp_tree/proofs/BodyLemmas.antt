@@ -1,6 +1,6 @@
 -- A node with its children, and the whole frame, as open trees.
-use Rattle.std.proofs.Common.{◌≡◌, ℕ, zero, suc, ◌+◌, ◌*◌, ◌<◌, ◌≤◌, Bool, true, false, ◌⊎◌, inl, inr, List, [], ◌∷◌, ◌++◌, length, take, drop, Option, Some, None, refl, sym, ap, subst, ◌∙◌, arith}
-use Rattle.std.specs.Prelude.{nat_le, if◌then◌else◌, unwrap_or}
+use Rattle.std.proofs.Common.{◌≡◌, ℕ, ◌*◌, ◌≤◌, Bool, true, false, ◌⊎◌, inl, inr, List, [], ◌∷◌, ◌++◌, length, drop, Option, Some, refl, sym, ap, subst, ◌∙◌, arith}
+use Rattle.std.specs.Prelude.{nat_le, unwrap_or}
 use Rattle.std.proofs.lemmas.Bool.{le-leb, leb-true}
 use Rattle.tag_bits.specs.Digits.{digits_of_bytes}
 use Rattle.tag_bits.proofs.ByteLemmas.{length-bytes}
@@ -8,18 +8,17 @@ use Rattle.llrp_schema.specs.declared.kinds.ParamKind.{ParamKind}
 use Rattle.llrp_schema.specs.declared.kinds.MsgKind.{MsgKind}
 use Rattle.llrp_schema.specs.declared.kinds.Kind.{Kind}
 use Rattle.llrp_schema.specs.declared.kinds.Kind.TheVariants.{Message, Parameter}
-use Rattle.llrp_schema.specs.Schema.{GroupRule, fields_of, tail_of, groups_of, is_tv}
+use Rattle.llrp_schema.specs.Schema.{fields_of, tail_of, groups_of, is_tv}
 use Rattle.llrp_tree.specs.declared.TheConstants.{MAX_LIMIT}
-use Rattle.llrp_tree.specs.declared.fault.Reason.{Reason}
 use Rattle.llrp_tree.specs.declared.fault.Reason.TheVariants.{Missing}
 use Rattle.llrp_tree.specs.declared.fault.FrameErr.{FrameErr}
 use Rattle.llrp_tree.specs.declared.fault.FrameErr.TheVariants.{Memory, Bad}
-use Rattle.llrp_tree.specs.Tree.{Forest, none, and, Tree, MessageTree, forest, add}
-use Rattle.llrp_tree.specs.Lawful.{AreOctets, AllLawful, IsLawful, IsLawfulMessage}
+use Rattle.llrp_tree.specs.Tree.{Forest, and, Tree, forest, add}
+use Rattle.llrp_tree.specs.Lawful.{AreOctets, IsLawful}
 use Rattle.llrp_tree.specs.Checks.{none_missing}
 use Rattle.llrp_tree.specs.Spelling.{Head, message, tlv, tv, spread}
 use Rattle.llrp_tree.specs.Frame.{Frame}
-use Rattle.llrp_tree.specs.OpenTree.{Begun, kind_of, groups, due, Rest, plain_values, as_read, is_enough, IsHead, IsOpenTree}
+use Rattle.llrp_tree.specs.OpenTree.{Begun, kind_of, groups, due, Rest, as_read, is_enough, IsHead, IsOpenTree}
 use Rattle.llrp_tree.specs.FirstFault.{number, first_failing, checks, Close, is_over, header_checks}
 use Rattle.llrp_tree.specs.Standing.{Stands, Closes, begun, leading, FailsFirst, Tells, IsFirst, Begins, HeaderSays, is_tv_kind}
 use Rattle.llrp_tree.proofs.TreeLemmas.{forest-push}

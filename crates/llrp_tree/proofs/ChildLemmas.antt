@@ -1,29 +1,28 @@
 -- The head of a child, as a step of an open tree.
-use Rattle.std.proofs.Common.{◌≡◌, ℕ, zero, suc, ◌+◌, ◌-◌, ◌*◌, ◌/◌, ◌^◌, ◌<◌, ◌≤◌, Bool, true, false, cond, not, ◌&&◌, ◌⊎◌, inl, inr, List, [], ◌∷◌, ◌++◌, length, take, drop, map, Option, Some, None, refl, sym, ap, subst, ◌∙◌, arith, append_assoc, length-append, length-drop}
-use Rattle.std.specs.Prelude.{nat_le, if◌then◌else◌, ◌==◌, Result, Ok, Err, MatchResult}
+use Rattle.std.proofs.Common.{◌≡◌, ℕ, ◌+◌, ◌*◌, ◌<◌, ◌≤◌, Bool, true, false, ◌&&◌, ◌⊎◌, inl, inr, List, [], ◌∷◌, ◌++◌, length, take, drop, map, Option, Some, refl, sym, ap, subst, ◌∙◌, arith}
+use Rattle.std.specs.Prelude.{nat_le, if◌then◌else◌}
 use Rattle.std.specs.Str.{is_utf8, IsUtf8}
 use Rattle.std.specs.Str.Lossy.{utf8_valid_len}
 use Rattle.std.proofs.lemmas.Str.{is_utf8-from_IsUtf8}
-use Rattle.std.proofs.lemmas.Bool.{le-leb, lt-leb, leb-true}
-use Rattle.std.proofs.lemmas.List.{append-nil, drop-drop}
+use Rattle.std.proofs.lemmas.Bool.{le-leb, lt-leb}
+use Rattle.std.proofs.lemmas.List.{drop-drop}
 use Rattle.tag_bits.specs.Digits.{value, digits_of_bytes, field}
 use Rattle.llrp_schema.specs.declared.kinds.ParamKind.{ParamKind}
 use Rattle.llrp_schema.specs.declared.kinds.Kind.{Kind}
-use Rattle.llrp_schema.specs.declared.kinds.Kind.TheVariants.{Message, Parameter}
 use Rattle.llrp_schema.specs.declared.kinds.Tail.TheVariants.{Text}
 use Rattle.llrp_schema.specs.declared.kinds.Group.{Group}
 use Rattle.llrp_schema.specs.Schema.{GroupRule, group_rule, groups_of, is_tv}
 use Rattle.llrp_tree.specs.declared.TheConstants.{MAX_DEPTH}
 use Rattle.llrp_tree.specs.declared.fault.Reason.{Reason}
-use Rattle.llrp_tree.specs.declared.fault.Reason.TheVariants.{Extra, Missing, ParamLength, Utf8}
+use Rattle.llrp_tree.specs.declared.fault.Reason.TheVariants.{Extra, ParamLength, Utf8}
 use Rattle.llrp_tree.specs.declared.fault.FrameErr.{FrameErr}
 use Rattle.llrp_tree.specs.declared.fault.FrameErr.TheVariants.{Memory, Bad}
-use Rattle.llrp_tree.specs.Tree.{Forest, none, and, Tree, forest}
+use Rattle.llrp_tree.specs.Tree.{Forest}
 use Rattle.llrp_tree.specs.Lawful.{AreOctets, has_place}
 use Rattle.llrp_tree.specs.Spelling.{Head, message, tlv, tv}
-use Rattle.llrp_tree.specs.OpenTree.{Begun, kind_of, groups, due, Rest, takes_more, is_enough, MayBegin, IsHead, IsOpenTree}
+use Rattle.llrp_tree.specs.OpenTree.{Begun, kind_of, due, Rest, takes_more, MayBegin, IsHead, IsOpenTree}
 use Rattle.llrp_tree.specs.FirstFault.{number, tail_at, tail_end, tv_kind, tlv_kind, tlv_octets, first_digit, Check, first_failing, tail_checks, kind_checks, tlv_checks, checks, Turn, Close, NoChild, BeginTv, BeginTlv, turn, is_over, has_none}
-use Rattle.llrp_tree.specs.Standing.{Stands, HasFault, begun, leading, FailsFirst, Tells, KindPasses, TlvPasses, TailSpans, is_tv_kind}
+use Rattle.llrp_tree.specs.Standing.{Stands, begun, leading, FailsFirst, Tells, KindPasses, TlvPasses, TailSpans, is_tv_kind}
 use Rattle.llrp_tree.proofs.OctetLemmas.{not_utf8}
 use Rattle.llrp_tree.proofs.Growing.{grow_tlv, grow_tv}
 use Rattle.llrp_tree.proofs.Telling.{fault_is}

@@ -1,10 +1,10 @@
 -- A frame's header and its end, and what two frames cannot share.
-use Rattle.std.proofs.Common.{◌≡◌, ℕ, zero, suc, ◌+◌, ◌-◌, ◌*◌, ◌/◌, ◌^◌, ◌<◌, ◌≤◌, max, Bool, true, false, cond, ◌||◌, ◌⊎◌, inl, inr, List, [], ◌∷◌, ◌++◌, length, take, drop, Option, Some, None, refl, sym, ap, subst, ◌∙◌, arith, append_assoc, length-append, length-drop}
-use Rattle.std.specs.Prelude.{nat_le, if◌then◌else◌, ◌==◌, is_some, unwrap_or}
+use Rattle.std.proofs.Common.{◌≡◌, ℕ, ◌*◌, ◌^◌, ◌<◌, ◌≤◌, Bool, true, false, ◌||◌, ◌⊎◌, inl, inr, List, [], ◌∷◌, ◌++◌, length, take, drop, Option, Some, None, refl, sym, ap, subst, ◌∙◌, arith, append_assoc, length-append, length-drop}
+use Rattle.std.specs.Prelude.{nat_le, ◌==◌, is_some, unwrap_or}
 use Rattle.std.proofs.lemmas.List.{append-nil, take-append-drop}
 use Rattle.std.proofs.Math.Seq.{take-add, take-length}
 use Rattle.std.proofs.lemmas.Bool.{le-leb, leb-true, eqb-true}
-use Rattle.tag_bits.specs.Digits.{value, digits, digits_of_bytes}
+use Rattle.tag_bits.specs.Digits.{digits, digits_of_bytes}
 use Rattle.tag_bits.proofs.ByteLemmas.{length-bytes, bytes-append}
 use Rattle.llrp_schema.specs.declared.kinds.MsgKind.{MsgKind}
 use Rattle.llrp_schema.specs.declared.kinds.Kind.TheVariants.{Message}
@@ -16,13 +16,13 @@ use Rattle.llrp_tree.specs.declared.TheConstants.{MAX_DEPTH, MAX_LIMIT}
 use Rattle.llrp_tree.specs.declared.fault.Reason.{Reason}
 use Rattle.llrp_tree.specs.declared.fault.Reason.TheVariants.{Reserved}
 use Rattle.llrp_tree.specs.Tree.{Forest, none, and, MessageTree}
-use Rattle.llrp_tree.specs.Lawful.{levels, octets, body_octets, message_octets, AreOctets, IsTail, ArePlaced, Obeys, AllLawful, IsLawfulMessage}
+use Rattle.llrp_tree.specs.Lawful.{levels, message_octets, AreOctets, IsTail, ArePlaced, AllLawful, IsLawfulMessage}
 use Rattle.llrp_tree.specs.Spelling.{Head, message, tlv, tv, head_digits, spread, body_digits, spell, message_digits}
 use Rattle.llrp_tree.specs.Frame.{Frame}
 use Rattle.llrp_tree.specs.OpenTree.{Begun, kind_of, leading_digits, part, covers, Rest, tail_due, due, plain_values, IsReadTail, as_read, IsHeader, IsOpenNode, IsOpenTree}
-use Rattle.llrp_tree.specs.FirstFault.{number, first_failing, checks, Close, turn, next_fault, header_checks, BodyFault, FirstFault}
+use Rattle.llrp_tree.specs.FirstFault.{number, first_failing, Close, next_fault, header_checks, FirstFault}
 use Rattle.llrp_tree.specs.Standing.{end_of, Stands, HasFault, Closes, begun, leading, HeaderSays}
-use Rattle.llrp_tree.proofs.Steps.{Step, Fails, Grows, Ends, next}
+use Rattle.llrp_tree.proofs.Steps.{Fails, Ends, next}
 use Rattle.llrp_tree.proofs.Leading.{plain-spread, leading_spread, length-spread, drop_all, plain_in_range}
 use Rattle.llrp_tree.proofs.ReadDigits.{number_own, number_behind, length_covered, value_at, digits_take}
 use Rattle.llrp_tree.proofs.GroupLemmas.{most_none, enough_from, enough_to}

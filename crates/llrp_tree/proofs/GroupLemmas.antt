@@ -1,12 +1,11 @@
 -- Groups before and after one more child.
-use Rattle.std.proofs.Common.{◌≡◌, ℕ, zero, suc, ◌+◌, ◌*◌, ◌^◌, ◌<◌, ◌≤◌, not, Bool, true, false, cond, ◌&&◌, ◌||◌, List, [], ◌∷◌, Option, Some, None, refl, sym, ap, ◌∙◌, arith}
+use Rattle.std.proofs.Common.{◌≡◌, ℕ, ◌+◌, not, true, false, ◌||◌, List, [], ◌∷◌, Option, Some, None, refl, arith}
 use Rattle.std.specs.Prelude.{nat_le, if◌then◌else◌}
-use Rattle.std.specs.List.{list_all}
 use Rattle.std.proofs.lemmas.Bool.{le-leb, leb-true}
 use Rattle.llrp_schema.specs.declared.kinds.ParamKind.{ParamKind}
 use Rattle.llrp_schema.specs.Schema.{GroupRule}
 use Rattle.llrp_tree.specs.Tree.{Forest, none, and}
-use Rattle.llrp_tree.specs.Lawful.{is_member, has_place, count, IsAtMost, NoneTooMany, NoneMissing}
+use Rattle.llrp_tree.specs.Lawful.{is_member, count, IsAtMost, NoneTooMany, NoneMissing}
 use Rattle.llrp_tree.specs.Checks.{at_most}
 use Rattle.llrp_tree.specs.OpenTree.{takes_more, is_enough}
 use Rattle.llrp_tree.proofs.LawLemmas.{both, both_true}

@@ -1,31 +1,28 @@
 -- How an open tree grows by one part, where the part passes its checks.
-use Rattle.std.proofs.Common.{◌≡◌, ℕ, zero, suc, ◌+◌, ◌-◌, ◌*◌, ◌/◌, ◌^◌, ◌<◌, ◌≤◌, min, max, Bool, true, false, cond, ◌⊎◌, inl, inr, List, [], ◌∷◌, ◌++◌, length, take, drop, Option, Some, None, refl, sym, ap, subst, ◌∙◌, arith, append_assoc, length-append, length-take, length-drop}
-use Rattle.std.specs.Prelude.{nat_le, if◌then◌else◌, unwrap_or}
-use Rattle.std.specs.Str.{is_utf8, IsUtf8}
+use Rattle.std.proofs.Common.{◌≡◌, ℕ, ◌+◌, ◌*◌, ◌/◌, ◌^◌, ◌<◌, ◌≤◌, Bool, true, false, inl, inr, List, [], ◌∷◌, ◌++◌, length, take, drop, Option, Some, None, refl, sym, ap, ◌∙◌, arith, length-append, length-drop}
+use Rattle.std.specs.Prelude.{unwrap_or}
+use Rattle.std.specs.Str.{is_utf8}
 use Rattle.std.proofs.lemmas.Str.{IsUtf8-from_is_utf8}
-use Rattle.std.proofs.lemmas.List.{append-nil, length-take-le}
 use Rattle.std.proofs.Math.Seq.{take-add}
-use Rattle.tag_bits.specs.Digits.{value, digits, digits_of_bytes}
-use Rattle.tag_bits.proofs.DigitLemmas.{length-digits}
+use Rattle.tag_bits.specs.Digits.{digits, digits_of_bytes}
 use Rattle.llrp_schema.specs.declared.kinds.ParamKind.{ParamKind}
-use Rattle.llrp_schema.specs.declared.kinds.Kind.{Kind}
-use Rattle.llrp_schema.specs.declared.kinds.Kind.TheVariants.{Message, Parameter}
+use Rattle.llrp_schema.specs.declared.kinds.Kind.TheVariants.{Parameter}
 use Rattle.llrp_schema.specs.declared.kinds.Tail.{Tail}
 use Rattle.llrp_schema.specs.declared.kinds.Tail.TheVariants.{Absent, Words, Text, Bits}
-use Rattle.llrp_schema.specs.Schema.{FieldRule, GroupRule, bits_of, fields_of, tail_of, groups_of, number_of, is_tv}
+use Rattle.llrp_schema.specs.Schema.{FieldRule, GroupRule, fields_of, tail_of, groups_of, number_of, is_tv}
 use Rattle.llrp_schema.proofs.TableLaws.{tlv_found, tv_found, tv_groups, tv_tail, few_bits}
 use Rattle.llrp_tree.specs.declared.TheConstants.{MAX_DEPTH, MAX_OCTETS}
 use Rattle.llrp_tree.specs.Tree.{Forest, none, and}
-use Rattle.llrp_tree.specs.Lawful.{levels, octets, head_octets, body_octets, count_octets, first, AreOctets, IsTail, has_place, ArePlaced, NoneTooMany, Obeys, AreLawful, AllLawful}
-use Rattle.llrp_tree.specs.Spelling.{Head, message, tlv, tv, head_digits, head_of, field_digits, count_digits, tail_digits, body_digits, spell}
-use Rattle.llrp_tree.specs.OpenTree.{Begun, kind_of, leading_digits, part, covers, Due, Rest, has_tail, tail_due, field_due, due, in_range, AreLeading, plain_values, IsReadTail, takes_more, is_enough, MayBegin, IsTlvHead, IsTvHead, IsHead, IsOpenNode, IsOpenTree}
-use Rattle.llrp_tree.specs.FirstFault.{number, octets_at, tail_length, tail_at, tail_end, tv_kind, tlv_kind, tlv_octets, first_digit}
+use Rattle.llrp_tree.specs.Lawful.{levels, octets, head_octets, body_octets, count_octets, first, IsTail, has_place, ArePlaced, NoneTooMany, AreLawful}
+use Rattle.llrp_tree.specs.Spelling.{Head, message, tlv, tv, head_digits, head_of, count_digits, tail_digits, body_digits, spell}
+use Rattle.llrp_tree.specs.OpenTree.{Begun, kind_of, leading_digits, part, covers, Rest, has_tail, tail_due, due, in_range, AreLeading, plain_values, IsReadTail, is_enough, MayBegin, IsTlvHead, IsTvHead, IsHead, IsOpenTree}
+use Rattle.llrp_tree.specs.FirstFault.{number, tail_length, tail_at, tail_end, tv_kind, tlv_kind, tlv_octets, first_digit}
 use Rattle.llrp_tree.specs.Standing.{end_of, Stands, begun, leading}
 use Rattle.llrp_tree.proofs.Steps.{begin, with_child}
 use Rattle.llrp_tree.proofs.Leading.{more_leading, plain_in_range}
-use Rattle.llrp_tree.proofs.ReadDigits.{covers_more, length_covered, digits_at, value_at, digits_take, length-more, length-octets_at, are_octets_at, octets_spelled}
+use Rattle.llrp_tree.proofs.ReadDigits.{covers_more, length_covered, digits_at, value_at, digits_take, length-octets_at, are_octets_at, octets_spelled}
 use Rattle.llrp_tree.proofs.GroupLemmas.{most_none, most_after, enough_from}
-use Rattle.llrp_tree.proofs.LengthLemmas.{length-tlv, length-tv, length-body_digits, length-spell}
+use Rattle.llrp_tree.proofs.LengthLemmas.{length-tlv, length-body_digits, length-spell}
 use Rattle.llrp_tree.proofs.WholeNodes.{closed_digits, no_field_due, whole_tail}
 use Rattle.llrp_tree.proofs.LastPart.{field_covered, tail_covered, closed_covered, size}
 use Rattle.llrp_tree.proofs.Openings.{begun_covered}

@@ -1,32 +1,30 @@
 -- An open tree that has more than its first head came by one step from one with a part less.
-use Rattle.std.proofs.Common.{◌≡◌, ℕ, zero, suc, ◌+◌, ◌-◌, ◌*◌, ◌/◌, ◌^◌, ◌<◌, ◌≤◌, max, Bool, true, false, cond, ◌⊎◌, ◌&&◌, inl, inr, List, [], ◌∷◌, ◌++◌, length, take, drop, Option, Some, None, refl, sym, ap, subst, ◌∙◌, arith, append_assoc, length-append}
-use Rattle.std.specs.Prelude.{nat_le, if◌then◌else◌, unwrap_or}
+use Rattle.std.proofs.Common.{◌≡◌, ℕ, ◌+◌, ◌*◌, ◌/◌, ◌≤◌, max, Bool, true, false, inl, inr, List, [], ◌∷◌, ◌++◌, length, take, drop, Option, Some, None, refl, sym, ap, subst, ◌∙◌, arith, append_assoc, length-append}
+use Rattle.std.specs.Prelude.{nat_le, unwrap_or}
 use Rattle.std.proofs.lemmas.List.{append-nil}
-use Rattle.std.proofs.lemmas.Bool.{le-leb, lt-leb}
+use Rattle.std.proofs.lemmas.Bool.{le-leb}
 use Rattle.std.proofs.lemmas.Str.{is_utf8-from_IsUtf8}
 use Rattle.tag_bits.specs.Digits.{value, digits, digits_of_bytes}
-use Rattle.tag_bits.proofs.DigitLemmas.{length-digits, value-digits}
+use Rattle.tag_bits.proofs.DigitLemmas.{length-digits}
 use Rattle.llrp_schema.specs.declared.kinds.ParamKind.{ParamKind}
 use Rattle.llrp_schema.specs.declared.kinds.Kind.{Kind}
-use Rattle.llrp_schema.specs.declared.kinds.Kind.TheVariants.{Message, Parameter}
+use Rattle.llrp_schema.specs.declared.kinds.Kind.TheVariants.{Parameter}
 use Rattle.llrp_schema.specs.declared.kinds.Tail.{Tail}
 use Rattle.llrp_schema.specs.declared.kinds.Tail.TheVariants.{Absent, Words, Text, Bits}
-use Rattle.llrp_schema.specs.Schema.{FieldRule, GroupRule, fields_of, tail_of, groups_of, number_of, is_tv, tlv_with_number, tv_with_number}
-use Rattle.llrp_schema.proofs.TableLaws.{tlv_at_number, tv_at_number, tv_groups, param_number_fits}
-use Rattle.llrp_tree.specs.declared.TheConstants.{MAX_DEPTH, MAX_OCTETS}
+use Rattle.llrp_schema.specs.Schema.{FieldRule, fields_of, tail_of, groups_of, is_tv}
+use Rattle.llrp_tree.specs.declared.TheConstants.{MAX_DEPTH}
 use Rattle.llrp_tree.specs.declared.fault.Reason.{Reason}
 use Rattle.llrp_tree.specs.Tree.{Forest, none, and}
-use Rattle.llrp_tree.specs.Lawful.{levels, octets, head_octets, body_octets, count_octets, AreOctets, IsTail, has_place, ArePlaced, NoneTooMany, Obeys, AreLawful, AllLawful}
-use Rattle.llrp_tree.specs.Spelling.{Head, message, tlv, tv, head_digits, head_of, spread, field_digits, tail_digits, body_digits, spell}
-use Rattle.llrp_tree.specs.OpenTree.{Begun, kind_of, rules, form, groups, read_digits, leading_digits, part, covers, Due, AField, ATail, Rest, has_tail, tail_due, field_due, due, in_range, AreLeading, plain_values, IsReadTail, takes_more, is_enough, MayBegin, IsTlvHead, IsTvHead, IsHead, IsOpenNode, IsOpenTree, tail_parts, as_read, whole_parts, parts}
-use Rattle.llrp_tree.specs.FirstFault.{number, octets_at, tail_length, tail_at, tail_end, tv_kind, tlv_kind, tlv_octets, first_digit, first_failing, tail_checks, checks, Turn, ReadField, ReadTail, Close, NoChild, BeginTv, BeginTlv, turn, turn_of, is_over, has_none, next_fault}
+use Rattle.llrp_tree.specs.Lawful.{levels, octets, head_octets, body_octets, count_octets, AreOctets, IsTail, ArePlaced, Obeys, AreLawful, AllLawful}
+use Rattle.llrp_tree.specs.Spelling.{Head, tlv, tv, head_digits, head_of, spread, field_digits, tail_digits, body_digits, spell}
+use Rattle.llrp_tree.specs.OpenTree.{Begun, kind_of, form, groups, leading_digits, part, covers, Rest, has_tail, due, in_range, plain_values, is_enough, MayBegin, IsHead, IsOpenNode, IsOpenTree, tail_parts, as_read, whole_parts, parts}
+use Rattle.llrp_tree.specs.FirstFault.{number, octets_at, tail_length, tail_at, tail_end, first_failing, tail_checks, checks, Turn, ReadField, ReadTail, Close, turn, is_over, next_fault}
 use Rattle.llrp_tree.proofs.Leading.{last_field, drop_all, length-spread, plain-spread, leading_spread}
-use Rattle.llrp_tree.proofs.ReadDigits.{take_own, drop_own, number_own, number_behind, length-more, octets_again}
+use Rattle.llrp_tree.proofs.ReadDigits.{drop_own, number_own, length-more, octets_again}
 use Rattle.llrp_tree.proofs.GroupLemmas.{most_before, takes_one_more, enough_to}
-use Rattle.llrp_tree.proofs.LengthLemmas.{length-tlv, length-tv, length-tail_digits, length-body_digits, length-spell}
-use Rattle.llrp_tree.proofs.SpellingLemmas.{tv_number}
+use Rattle.llrp_tree.proofs.LengthLemmas.{length-tlv, length-tail_digits, length-body_digits, length-spell}
 use Rattle.llrp_tree.proofs.WholeNodes.{are_rules, read_is_rest, read_again, is_read_tail, read_body}
-use Rattle.llrp_tree.proofs.Steps.{Step, Fails, Grows, Ends, begin, closed, unless_failed, grown, grown_chain, next}
+use Rattle.llrp_tree.proofs.Steps.{Grows, closed, unless_failed, grown, next}
 
 -- the tree with a part less
 pub record Before (t : List Begun) (rest : List Bool) (n : ℕ) : Type 0 where

@@ -1,11 +1,10 @@
 -- Leading fields with the reserved ones, and the values of the plain ones.
-use Rattle.std.proofs.Common.{◌≡◌, ℕ, zero, suc, ◌+◌, ◌-◌, ◌*◌, ◌/◌, ◌%◌, ◌<◌, ◌≤◌, ◌^◌, List, [], ◌∷◌, ◌++◌, Bool, true, false, cond, refl, sym, ap, ◌∙◌, subst, arith, length, take, drop, append_assoc, length-append}
-use Rattle.std.specs.Prelude.{Option, None, Some, nat_le, if◌then◌else◌, ◌==◌, filter, not, sum_by}
-use Rattle.std.specs.List.{All}
-use Rattle.std.proofs.lemmas.Bool.{le-leb, leb-true, eqb-true, eq-eqb}
+use Rattle.std.proofs.Common.{◌≡◌, ℕ, zero, suc, ◌<◌, ◌^◌, List, [], ◌∷◌, ◌++◌, Bool, true, false, cond, refl, sym, ap, ◌∙◌, subst, arith, length, drop, append_assoc, length-append}
+use Rattle.std.specs.Prelude.{nat_le, if◌then◌else◌, ◌==◌, filter, not}
+use Rattle.std.proofs.lemmas.Bool.{le-leb, leb-true, eqb-true}
 use Rattle.std.proofs.lemmas.List.{append-nil}
 use Rattle.std.proofs.lemmas.List.Sums.{sum_by-cons}
-use Rattle.tag_bits.specs.Digits.{value, digits}
+use Rattle.tag_bits.specs.Digits.{digits}
 use Rattle.tag_bits.proofs.DigitLemmas.{length-digits}
 use Rattle.llrp_schema.specs.Schema.{FieldRule, bits_of}
 use Rattle.llrp_tree.specs.Lawful.{AreInRange, first, others}

@@ -9,6 +9,7 @@ pub mod ReadDigits
 pub mod Steps
 pub mod GroupLemmas
 pub mod WholeNodes
+pub mod KindLemmas
 pub mod LastPart
 pub mod Openings
 pub mod Agreement

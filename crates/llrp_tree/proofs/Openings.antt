@@ -1,23 +1,22 @@
 -- The last part of an open tree is the head of its innermost node.
-use Rattle.std.proofs.Common.{◌≡◌, ℕ, zero, suc, ◌+◌, ◌-◌, ◌*◌, ◌/◌, ◌^◌, ◌<◌, ◌≤◌, max, Bool, true, false, cond, ◌⊎◌, ◌&&◌, inl, inr, List, [], ◌∷◌, ◌++◌, length, take, drop, Option, Some, None, refl, sym, ap, subst, ◌∙◌, arith, append_assoc, length-append}
+use Rattle.std.proofs.Common.{◌≡◌, ℕ, ◌+◌, ◌*◌, ◌<◌, ◌≤◌, Bool, true, false, List, [], ◌∷◌, ◌++◌, length, Some, None, refl, sym, ap, subst, ◌∙◌, arith, append_assoc}
 use Rattle.std.specs.Prelude.{nat_le, if◌then◌else◌}
 use Rattle.std.proofs.lemmas.List.{append-nil}
 use Rattle.std.proofs.lemmas.Bool.{le-leb, lt-leb}
-use Rattle.tag_bits.specs.Digits.{value, digits}
+use Rattle.tag_bits.specs.Digits.{digits}
 use Rattle.llrp_schema.specs.declared.kinds.ParamKind.{ParamKind}
-use Rattle.llrp_schema.specs.declared.kinds.Kind.TheVariants.{Message, Parameter}
+use Rattle.llrp_schema.specs.declared.kinds.Kind.TheVariants.{Parameter}
 use Rattle.llrp_schema.specs.Schema.{GroupRule, groups_of, number_of, is_tv, tlv_with_number, tv_with_number}
 use Rattle.llrp_schema.proofs.TableLaws.{tlv_at_number, tv_at_number, tv_groups, param_number_fits}
 use Rattle.llrp_tree.specs.declared.TheConstants.{MAX_DEPTH}
-use Rattle.llrp_tree.specs.Tree.{Forest, none, and}
 use Rattle.llrp_tree.specs.Lawful.{has_place}
-use Rattle.llrp_tree.specs.Spelling.{Head, message, tlv, tv, head_digits, spell, field_digits}
-use Rattle.llrp_tree.specs.OpenTree.{Begun, kind_of, groups, leading_digits, part, covers, Rest, due, takes_more, MayBegin, IsTlvHead, IsTvHead, IsHead, IsOpenNode, IsOpenTree, parts, whole_parts}
-use Rattle.llrp_tree.specs.FirstFault.{number, tv_kind, tlv_kind, tlv_octets, first_digit, first_failing, checks, Turn, BeginTv, BeginTlv, turn, turn_of, is_over, has_none}
-use Rattle.llrp_tree.proofs.ReadDigits.{take_own, drop_own, number_own, number_behind, length-more}
-use Rattle.llrp_tree.proofs.LengthLemmas.{length-tlv, length-tv}
+use Rattle.llrp_tree.specs.Spelling.{Head, message, tlv, tv, head_digits, spell}
+use Rattle.llrp_tree.specs.OpenTree.{Begun, kind_of, leading_digits, part, covers, MayBegin, IsTlvHead, IsTvHead, IsHead, IsOpenTree, parts}
+use Rattle.llrp_tree.specs.FirstFault.{number, tv_kind, tlv_kind, tlv_octets, first_digit, first_failing, checks, BeginTv, BeginTlv, turn, is_over, has_none}
+use Rattle.llrp_tree.proofs.ReadDigits.{number_own, number_behind, length-more}
+use Rattle.llrp_tree.proofs.LengthLemmas.{length-tv}
 use Rattle.llrp_tree.proofs.SpellingLemmas.{tv_number}
-use Rattle.llrp_tree.proofs.Steps.{Step, Grows, begin, begun_tv, begun_tlv}
+use Rattle.llrp_tree.proofs.Steps.{begin}
 use Rattle.llrp_tree.proofs.LastPart.{Before, next_is}
 
 starts_zero : (x : List Bool) → first_digit (digits 6 0 ++ x) ≡ false

@@ -1,10 +1,10 @@
 -- Digits are read as they are spelled.
-use Rattle.std.proofs.Common.{◌≡◌, ℕ, zero, suc, ◌+◌, ◌*◌, ◌/◌, ◌%◌, ◌^◌, ◌<◌, ◌≤◌, Bool, true, false, List, [], ◌∷◌, ◌++◌, length, take, drop, refl, sym, ap, subst, ◌∙◌, arith, append_assoc, length-append, length-take, length-drop}
-use Rattle.std.proofs.lemmas.List.{append-nil, length-take-le, drop-drop}
+use Rattle.std.proofs.Common.{◌≡◌, ℕ, zero, suc, ◌+◌, ◌*◌, ◌^◌, ◌<◌, ◌≤◌, Bool, List, [], ◌∷◌, ◌++◌, length, take, drop, refl, sym, ap, subst, ◌∙◌, arith, append_assoc, length-append, length-drop}
+use Rattle.std.proofs.lemmas.List.{length-take-le, drop-drop}
 use Rattle.std.proofs.Math.Seq.{take-add}
 use Rattle.tag_bits.specs.Digits.{value, digits, digits_of_bytes}
 use Rattle.tag_bits.proofs.DigitLemmas.{length-digits, value-digits, value-below, digits-value, take-seam, drop-seam}
-use Rattle.tag_bits.proofs.ByteLemmas.{length-bytes, bytes-cons, bytes-nil}
+use Rattle.tag_bits.proofs.ByteLemmas.{bytes-cons, bytes-nil}
 use Rattle.llrp_tree.specs.Lawful.{AreOctets}
 use Rattle.llrp_tree.specs.FirstFault.{number, octets_at}
 

@@ -1,45 +1,36 @@
 -- What the functions that read a frame find, as steps of an open tree.
-use Rattle.std.proofs.Common.{◌≡◌, ℕ, zero, suc, ◌+◌, ◌-◌, ◌*◌, ◌/◌, ◌^◌, ◌<◌, ◌≤◌, Bool, true, false, cond, not, ◌&&◌, ◌⊎◌, inl, inr, List, [], ◌∷◌, ◌++◌, length, take, drop, Option, Some, None, refl, sym, ap, subst, ◌∙◌, arith, append_assoc, length-append, length-drop, map, get_or}
-use Rattle.std.specs.Prelude.{nat_le, if◌then◌else◌, ◌==◌, unwrap_or, Result, Ok, Err, MatchResult}
+use Rattle.std.proofs.Common.{◌≡◌, ℕ, zero, suc, ◌+◌, ◌-◌, ◌*◌, ◌<◌, ◌≤◌, Bool, true, false, cond, not, List, [], ◌∷◌, ◌++◌, length, take, drop, Option, Some, None, refl, sym, ap, subst, ◌∙◌, arith, length-append, length-drop, map, get_or}
+use Rattle.std.specs.Prelude.{nat_le, if◌then◌else◌, ◌==◌}
 use Rattle.std.specs.Str.{is_utf8}
 use Rattle.std.proofs.lemmas.Bool.{le-leb, lt-leb, leb-true, leb-false, eqb-true}
-use Rattle.std.proofs.lemmas.List.{append-nil, drop-drop, length-take-le, take_more, take_all, take-append-drop, length-map}
+use Rattle.std.proofs.lemmas.List.{drop-drop, length-take-le, take_more, take_all, take-append-drop, length-map}
 use Rattle.std.proofs.lemmas.List.Elements.{filter-append}
 use Rattle.std.proofs.lemmas.List.Sums.{sum_by_push}
 use Rattle.std.proofs.Math.Seq.{drop-cons}
 use Rattle.std.proofs.Math.ListN.{get_or-map}
-use Rattle.tag_bits.specs.Digits.{value, digits, digits_of_bytes}
-use Rattle.tag_bits.proofs.ByteLemmas.{length-bytes, bytes-cons, bytes-nil, drop-bytes}
-use Rattle.llrp_schema.specs.declared.kinds.ParamKind.{ParamKind}
-use Rattle.llrp_schema.specs.declared.kinds.MsgKind.{MsgKind}
+use Rattle.tag_bits.specs.Digits.{digits_of_bytes}
+use Rattle.tag_bits.proofs.ByteLemmas.{bytes-cons, drop-bytes}
 use Rattle.llrp_schema.specs.declared.kinds.Kind.{Kind}
-use Rattle.llrp_schema.specs.declared.kinds.Kind.TheVariants.{Message, Parameter}
 use Rattle.llrp_schema.specs.declared.kinds.Tail.{Tail}
 use Rattle.llrp_schema.specs.declared.kinds.Tail.TheVariants.{Absent, Words, Text, Bits}
 use Rattle.llrp_schema.specs.declared.kinds.Field.{Field}
-use Rattle.llrp_schema.specs.Schema.{FieldRule, GroupRule, field_rule, bits_of, fields_of, tail_of, groups_of, is_tv}
+use Rattle.llrp_schema.specs.Schema.{FieldRule, GroupRule, field_rule, bits_of, fields_of, tail_of}
 use Rattle.llrp_schema.proofs.TableLaws.{field_widths, few_plain_fields}
-use Rattle.llrp_tree.specs.declared.TheConstants.{MAX_DEPTH, MAX_LIMIT}
-use Rattle.llrp_tree.specs.declared.fault.Reason.{Reason}
-use Rattle.llrp_tree.specs.declared.fault.Reason.TheVariants.{Extra, Missing, ParamLength}
 use Rattle.llrp_tree.specs.declared.fault.FrameErr.{FrameErr}
 use Rattle.llrp_tree.specs.declared.fault.FrameErr.TheVariants.{Memory, Bad}
-use Rattle.llrp_tree.specs.Tree.{Forest, none, and, Tree, MessageTree, forest, trees, add}
+use Rattle.llrp_tree.specs.Tree.{none, Tree, forest}
 use Rattle.llrp_tree.specs.Lawful.{first, count_octets, AreOctets, is_member, has_place, count, AllLawful, IsLawful, IsLawfulMessage}
 use Rattle.llrp_tree.specs.Checks.{members, at_most, none_missing}
-use Rattle.llrp_tree.specs.Spelling.{Head, message, tlv, tv, spread}
-use Rattle.llrp_tree.specs.Frame.{Frame}
-use Rattle.llrp_tree.specs.OpenTree.{Begun, kind_of, groups, covers, due, Rest, has_tail, tail_due, field_due, in_range, plain_values, as_read, takes_more, is_enough, MayBegin, IsHead, IsOpenNode, IsOpenTree}
-use Rattle.llrp_tree.specs.FirstFault.{number, octets_at, tail_length, tail_at, tail_end, tv_kind, tlv_kind, tlv_octets, first_digit, Check, check, first_failing, field_checks, tail_checks, kind_checks, tv_checks, tlv_checks, checks, Turn, ReadField, ReadTail, Close, NoChild, BeginTv, BeginTlv, turn, is_over, has_none}
-use Rattle.llrp_tree.specs.Standing.{Stands, HasFault, Closes, begun, leading, FailsFirst, Tells, Begins, KindPasses, TlvPasses, TailSpans, is_tv_kind}
-use Rattle.llrp_tree.proofs.TreeLemmas.{trees-forest, forest-push}
+use Rattle.llrp_tree.specs.Spelling.{Head, spread}
+use Rattle.llrp_tree.specs.OpenTree.{Begun, kind_of, has_tail, in_range, plain_values, as_read, is_enough}
+use Rattle.llrp_tree.specs.FirstFault.{number, octets_at, tail_length, tail_at, tail_end, field_checks, tail_checks, checks, Turn, ReadField, ReadTail, turn}
+use Rattle.llrp_tree.specs.Standing.{Stands, begun, leading, FailsFirst, Tells, TailSpans}
+use Rattle.llrp_tree.proofs.TreeLemmas.{trees-forest}
 use Rattle.llrp_tree.proofs.LawLemmas.{count-members}
-use Rattle.llrp_tree.proofs.Steps.{closed}
 use Rattle.llrp_tree.proofs.Leading.{plain, length-spread, drop_all}
-use Rattle.llrp_tree.proofs.LastPart.{field_turn, tail_turn, closing_turn}
-use Rattle.llrp_tree.proofs.Growing.{grow_field, grow_tail, grow_tlv, grow_tv}
+use Rattle.llrp_tree.proofs.LastPart.{field_turn, tail_turn}
+use Rattle.llrp_tree.proofs.Growing.{grow_field, grow_tail}
 use Rattle.llrp_tree.proofs.Telling.{fault_is}
-use Rattle.llrp_tree.proofs.Totality.{octet_left, child_closes}
 
 -- ---- groups
 

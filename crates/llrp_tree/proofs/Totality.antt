@@ -1,28 +1,26 @@
 -- Where a reader stands there is a fault further on, or the frame is a message's.
-use Rattle.std.proofs.Common.{◌≡◌, ℕ, zero, suc, ◌+◌, ◌-◌, ◌*◌, ◌/◌, ◌%◌, ◌^◌, ◌≤◌, ◌<◌, ◌&&◌, ◌⊎◌, inl, inr, Bool, true, false, cond, List, [], ◌∷◌, ◌++◌, length, take, drop, Option, Some, None, refl, sym, ap, subst, ◌∙◌, arith, length-append}
-use Rattle.std.specs.Prelude.{nat_le, if◌then◌else◌, ◌==◌, is_some, unwrap_or}
+use Rattle.std.proofs.Common.{◌≡◌, ℕ, zero, suc, ◌+◌, ◌-◌, ◌*◌, ◌≤◌, ◌<◌, ◌⊎◌, inl, inr, Bool, true, false, List, [], ◌∷◌, ◌++◌, length, drop, Option, Some, None, refl, sym, ap, subst, ◌∙◌, arith, length-append}
+use Rattle.std.specs.Prelude.{nat_le, is_some, unwrap_or}
 use Rattle.std.proofs.lemmas.Bool.{leb-true, leb-false, eqb-true}
 use Rattle.std.proofs.lemmas.List.{append-nil}
-use Rattle.tag_bits.specs.Digits.{value, digits, digits_of_bytes}
+use Rattle.tag_bits.specs.Digits.{digits_of_bytes}
 use Rattle.tag_bits.proofs.ByteLemmas.{length-bytes}
 use Rattle.llrp_schema.specs.declared.kinds.MsgKind.{MsgKind}
-use Rattle.llrp_schema.specs.declared.kinds.ParamKind.{ParamKind}
 use Rattle.llrp_schema.specs.declared.kinds.Kind.{Kind}
-use Rattle.llrp_schema.specs.declared.kinds.Kind.TheVariants.{Message, Parameter}
 use Rattle.llrp_schema.specs.declared.kinds.Tail.{Tail}
 use Rattle.llrp_schema.specs.declared.kinds.Tail.TheVariants.{Absent, Words, Text, Bits}
-use Rattle.llrp_schema.specs.Schema.{FieldRule, GroupRule, fields_of, tail_of, groups_of, message_with_number}
-use Rattle.llrp_tree.specs.declared.TheConstants.{MAX_DEPTH, MAX_LIMIT}
+use Rattle.llrp_schema.specs.Schema.{FieldRule, fields_of, tail_of, message_with_number}
+use Rattle.llrp_tree.specs.declared.TheConstants.{MAX_LIMIT}
 use Rattle.llrp_tree.specs.declared.fault.Reason.{Reason}
-use Rattle.llrp_tree.specs.Tree.{Forest, none, and, MessageTree}
+use Rattle.llrp_tree.specs.Tree.{Forest, none, MessageTree}
 use Rattle.llrp_tree.specs.Lawful.{octets, body_octets}
-use Rattle.llrp_tree.specs.Spelling.{Head, message, tlv, tv, head_digits, body_digits, spell}
+use Rattle.llrp_tree.specs.Spelling.{Head, message, tlv, tv, head_digits, spell}
 use Rattle.llrp_tree.specs.Frame.{Frame}
-use Rattle.llrp_tree.specs.OpenTree.{Begun, kind_of, groups, leading_digits, part, covers, Due, AField, ATail, Rest, has_tail, tail_due, field_due, due, plain_values, takes_more, is_enough, MayBegin, IsTlvHead, IsTvHead, IsHead, IsOpenNode, IsOpenTree}
-use Rattle.llrp_tree.specs.FirstFault.{number, tail_at, tail_end, tv_kind, tlv_kind, tlv_octets, first_digit, Check, first_failing, kind_checks, checks, Turn, ReadField, ReadTail, Close, NoChild, BeginTv, BeginTlv, turn, turn_of, is_over, has_none, header_checks, FirstFault}
+use Rattle.llrp_tree.specs.OpenTree.{Begun, kind_of, groups, leading_digits, part, covers, Due, AField, ATail, Rest, has_tail, tail_due, field_due, due, plain_values, IsHead, IsOpenNode, IsOpenTree}
+use Rattle.llrp_tree.specs.FirstFault.{number, tail_at, tail_end, tv_kind, tlv_kind, tlv_octets, first_digit, Check, first_failing, kind_checks, checks, ReadField, ReadTail, Close, NoChild, BeginTv, BeginTlv, turn, turn_of, is_over, has_none, header_checks, FirstFault}
 use Rattle.llrp_tree.specs.Standing.{Stands, HasFault, Closes, begun, leading, HeaderSays}
 use Rattle.llrp_tree.specs.FrameLaws.{IsWhole}
-use Rattle.llrp_tree.proofs.Steps.{begin, closed, with_child}
+use Rattle.llrp_tree.proofs.Steps.{begin, closed}
 use Rattle.llrp_tree.proofs.Leading.{drop_all, leading_length, wide_at}
 use Rattle.llrp_tree.proofs.ReadDigits.{length_covered}
 use Rattle.llrp_tree.proofs.LengthLemmas.{length-message_head, length-tlv, length-tv, length-body_digits, length-spell}

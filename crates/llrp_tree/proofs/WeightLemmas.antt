@@ -1,13 +1,12 @@
 -- What is held weighs no more than its octets.
-use Rattle.std.proofs.Common.{◌≡◌, ℕ, ◌+◌, ◌*◌, ◌/◌, ◌%◌, ◌<◌, ◌≤◌, Bool, true, false, List, [], ◌∷◌, length, refl, ap, ◌∙◌, sym, arith}
-use Rattle.std.specs.Prelude.{if◌then◌else◌}
+use Rattle.std.proofs.Common.{◌≡◌, ℕ, ◌+◌, ◌≤◌, true, false, List, [], ◌∷◌, length, refl, arith}
 use Rattle.std.proofs.lemmas.List.Sums.{sum_by-cons}
 use Rattle.llrp_schema.specs.declared.kinds.ParamKind.{ParamKind}
 use Rattle.llrp_schema.specs.declared.kinds.Kind.TheVariants.{Parameter}
 use Rattle.llrp_schema.specs.Schema.{FieldRule, bits_of, fields_of, is_tv}
 use Rattle.llrp_schema.proofs.TableLaws.{tv_field, whole_octets}
 use Rattle.llrp_tree.specs.Tree.{Forest, none, and, MessageTree}
-use Rattle.llrp_tree.specs.Lawful.{octets, head_octets, body_octets, message_octets}
+use Rattle.llrp_tree.specs.Lawful.{octets, head_octets, body_octets}
 use Rattle.llrp_tree.specs.Frame.{Frame}
 use Rattle.llrp_tree.specs.Weight.{weight, message_weight}
 use Rattle.llrp_tree.proofs.LengthLemmas.{frame_length}

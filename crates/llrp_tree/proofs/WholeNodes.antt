@@ -1,24 +1,19 @@
 -- Whole nodes as begun ones of which all is read, and how long their digits are.
-use Rattle.std.proofs.Common.{◌≡◌, ℕ, zero, suc, ◌+◌, ◌*◌, ◌/◌, ◌%◌, ◌^◌, ◌<◌, ◌≤◌, Bool, true, false, cond, ◌&&◌, List, [], ◌∷◌, ◌++◌, length, take, drop, Option, Some, None, refl, sym, ap, subst, ◌∙◌, arith, append_assoc, length-append}
-use Rattle.std.specs.Prelude.{nat_le, nat_lt, if◌then◌else◌, unwrap_or}
+use Rattle.std.proofs.Common.{◌≡◌, ℕ, ◌^◌, Bool, true, ◌&&◌, List, [], ◌∷◌, ◌++◌, length, drop, Option, Some, None, refl, sym, ap, ◌∙◌}
+use Rattle.std.specs.Prelude.{nat_lt, unwrap_or}
 use Rattle.std.proofs.lemmas.Bool.{ltb-true}
-use Rattle.tag_bits.specs.Digits.{digits, digits_of_bytes}
-use Rattle.tag_bits.proofs.DigitLemmas.{length-digits}
-use Rattle.tag_bits.proofs.ByteLemmas.{length-bytes, bytes-nil}
-use Rattle.llrp_schema.specs.declared.kinds.ParamKind.{ParamKind}
-use Rattle.llrp_schema.specs.declared.kinds.MsgKind.{MsgKind}
+use Rattle.tag_bits.specs.Digits.{digits_of_bytes}
+use Rattle.tag_bits.proofs.ByteLemmas.{bytes-nil}
 use Rattle.llrp_schema.specs.declared.kinds.Kind.{Kind}
-use Rattle.llrp_schema.specs.declared.kinds.Kind.TheVariants.{Message, Parameter}
 use Rattle.llrp_schema.specs.declared.kinds.Tail.{Tail}
 use Rattle.llrp_schema.specs.declared.kinds.Tail.TheVariants.{Absent, Words, Text, Bits}
-use Rattle.llrp_schema.specs.Schema.{FieldRule, bits_of, fields_of, tail_of, number_of, rule_of, message_rule, param_rule, message_kinds, param_kinds, is_tv}
-use Rattle.llrp_schema.proofs.TableLaws.{every_rule, whole_octets}
-use Rattle.llrp_tree.specs.Tree.{Forest, none, and}
-use Rattle.llrp_tree.specs.Lawful.{count_octets, body_octets, head_octets, octets, AreInRange, AreOctets, IsTail}
-use Rattle.llrp_tree.specs.Spelling.{Head, message, tlv, tv, head_digits, head_of, spread, field_digits, tail_digits, body_digits, spell}
-use Rattle.llrp_tree.specs.OpenTree.{has_tail, tail_due, field_due, Due, ATail, Rest, read_digits, leading_digits, AreLeading, plain_values, IsReadTail, as_read, tail_parts}
+use Rattle.llrp_schema.specs.Schema.{FieldRule, fields_of, tail_of, rule_of, message_rule, param_rule, message_kinds, param_kinds}
+use Rattle.llrp_schema.proofs.TableLaws.{every_rule}
+use Rattle.llrp_tree.specs.Lawful.{AreOctets, IsTail}
+use Rattle.llrp_tree.specs.Spelling.{spread, field_digits, tail_digits, body_digits}
+use Rattle.llrp_tree.specs.OpenTree.{tail_due, field_due, Due, Rest, read_digits, leading_digits, AreLeading, plain_values, IsReadTail, as_read}
 use Rattle.llrp_tree.proofs.LawLemmas.{both}
-use Rattle.llrp_tree.proofs.Leading.{plain, AreRules, length-spread, length-fields, spread-plain}
+use Rattle.llrp_tree.proofs.Leading.{AreRules, spread-plain}
 
 -- ---- the tables
 

@@ -138,8 +138,7 @@ fn tail_fits(form: Tail, values: &[u128], tail: &[u8]) -> bool
 pub(crate) fn is_member(group: &Group, kind: ParamKind) -> bool
     ensures { result ≡ law.is_member (group_rule group.now) kind }
 {
-    group.members.iter().any(|member| llrp_schema::number(Kind::Parameter(*member))
-        == llrp_schema::number(Kind::Parameter(kind)))
+    group.members.contains(&kind)
 }
 
 pub(crate) fn has_place(groups: &[Group], kind: ParamKind) -> bool
@@ -198,7 +197,7 @@ pub(crate) fn none_missing(groups: &[Group], nodes: &[Node]) -> bool
     ensures { result ≡ checks.none_missing (map group_rule groups.now) nodes.now }
 {
     for group in groups {
-        if members(group, nodes) < group.least as usize {
+        if group.least > 0 && members(group, nodes) < group.least as usize {
             return false;
         }
     }

@@ -1,15 +1,15 @@
 //! Whether a child may begin in a node.
 
-ghost use Rattle.std.specs.Prelude.{◌≡◌, ◌+◌, map, not, Option, MatchResult};
+ghost use Rattle.std.specs.Prelude.{◌≡◌, ◌+◌, ◌↔◌, false, not, IsNone, IfSome, Option, MatchResult};
 ghost use Rattle.llrp_schema.specs.Schema.{group_rule, groups_of};
-ghost use Rattle.llrp_tree.specs.Tree.{forest};
-ghost use Rattle.llrp_tree.specs.Lawful.{count};
+ghost use Rattle.llrp_tree.specs.Tree.{Forest, forest};
+ghost use Rattle.llrp_tree.specs.Lawful.{count, has_place};
 ghost use Rattle.llrp_tree.specs.Checks.{at_most};
 ghost use Rattle.llrp_tree.specs.OpenTree.{takes_more};
 ghost use Rattle.llrp_tree.specs.FirstFault.{kind_checks};
 ghost use Rattle.llrp_tree.specs.Standing.{FailsFirst, KindPasses};
 
-use crate::check::{has_place, is_member, members};
+use crate::check::{is_member, members};
 use crate::fault::bad;
 use crate::{FrameErr, MAX_DEPTH, Node, ParamKind, Reason};
 use llrp_schema::{Group, Kind};
@@ -24,17 +24,19 @@ pub(crate) fn is_full(group: &Group, nodes: &[Node]) -> bool
     }
 }
 
-/// Whether no group of a kind is full.
+/// The group of a parent that has a kind; there is no other.
 #[tactic(auto, unfolding(crate::specs::OpenTree::takes_more))]
-pub(crate) fn takes_more(groups: &[Group], kind: ParamKind, nodes: &[Node]) -> bool
-    ensures { result ≡ takes_more (map group_rule groups.now) kind (forest nodes.now) }
+fn group_of(parent: Kind, kind: ParamKind) -> Option<&'static Group>
+    ensures none { IsNone result ↔ (has_place (groups_of parent) kind ≡ false) }
+    ensures some { IfSome result (λ group. (children : Forest) → takes_more (groups_of parent) kind children ≡ at_most group.now.most (count (group_rule group.now) children + 1)) }
 {
+    let groups = llrp_schema::groups(parent);
     for group in groups {
-        if is_member(group, kind) && is_full(group, nodes) {
-            return false;
+        if is_member(group, kind) {
+            return Some(group);
         }
     }
-    true
+    None
 }
 
 /// The kind of a child at a bit, so many levels below the message, whose type stands at another bit;
@@ -49,16 +51,13 @@ pub(crate) fn child_kind(
 ) -> Result<ParamKind, FrameErr>
     ensures { MatchResult result (KindPasses found (groups_of parent) (forest siblings.now) level) (FailsFirst (kind_checks found (groups_of parent) (forest siblings.now) level at type_at)) }
 {
-    let groups = llrp_schema::groups(parent);
     let Some(kind) = found else {
         return Err(bad(type_at, Reason::ParamType));
     };
-    let placed = has_place(groups, kind);
-    if !placed {
+    let Some(group) = group_of(parent, kind) else {
         return Err(bad(at, Reason::Misplaced));
-    }
-    let taken = takes_more(groups, kind, siblings);
-    if !taken {
+    };
+    if is_full(group, siblings) {
         return Err(bad(at, Reason::TooMany));
     }
     if level > MAX_DEPTH {

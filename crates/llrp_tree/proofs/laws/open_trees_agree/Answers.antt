@@ -1,5 +1,5 @@
 -- Equally many parts, so the same open tree.
-use Rattle.std.proofs.Common.{sym, refl}
+use Rattle.std.proofs.Common.{refl}
 use Rattle.llrp_tree.specs.OpenTree.{parts}
 use Rattle.llrp_tree.proofs.Agreement.{agree_at}
 use Rattle.llrp_tree.proofs.laws.open_trees_agree.Goals as goal

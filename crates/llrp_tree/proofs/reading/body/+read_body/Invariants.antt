@@ -1,9 +1,9 @@
-use Rattle.std.proofs.Common.{◌≡◌, ◌+◌, ◌*◌, ◌≤◌, ℕ, List, [], ◌∷◌, length, ◌-◌}
+use Rattle.std.proofs.Common.{◌≡◌, ◌*◌, ◌≤◌, List, [], ◌∷◌, length, ◌-◌}
 use Rattle.tag_bits.specs.Digits.{digits_of_bytes}
 use Rattle.llrp_schema.specs.Schema.{fields_of, tail_of}
 use Rattle.llrp_tree.specs.Tree.{forest}
 use Rattle.llrp_tree.specs.Spelling.{Head, spread}
-use Rattle.llrp_tree.specs.OpenTree.{Begun, kind_of, as_read, due, Rest}
+use Rattle.llrp_tree.specs.OpenTree.{Begun, kind_of, as_read}
 use Rattle.llrp_tree.specs.declared.TheConstants.{MAX_DEPTH}
 use Rattle.llrp_tree.specs.Standing.{Stands, begun, leading}
 use Rattle.llrp_tree.proofs.reading.body.+read_body.Given as goal

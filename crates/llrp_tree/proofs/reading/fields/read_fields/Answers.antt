@@ -1,10 +1,10 @@
 -- Each rule is read as a field of the open trees that stand here.
-use Rattle.std.proofs.Common.{◌≡◌, ◌+◌, ◌*◌, ◌≤◌, ◌/◌, ℕ, List, [], ◌∷◌, ◌++◌, false, length, length-append, take, map, get_or, lit<, arith, sym, ap, ◌∙◌, subst}
+use Rattle.std.proofs.Common.{◌≡◌, ◌+◌, ◌*◌, ◌/◌, ℕ, List, [], ◌∷◌, ◌++◌, false, length, length-append, take, map, get_or, lit<, arith, sym, ap, ◌∙◌, subst}
 use Rattle.std.proofs.lemmas.Result.{err_from_is_err_and}
 use Rattle.arrayvec.specs.ArrayVec.{ArrayVec}
 use Rattle.tag_bits.specs.Digits.{digits_of_bytes}
 use Rattle.llrp_schema.specs.declared.kinds.Field.{Field}
-use Rattle.llrp_schema.specs.Schema.{FieldRule, field_rule, fields_of, bits_of}
+use Rattle.llrp_schema.specs.Schema.{FieldRule, field_rule, bits_of}
 use Rattle.llrp_schema.proofs.TableLaws.{whole_octets}
 use Rattle.llrp_tree.specs.Spelling.{spread}
 use Rattle.llrp_tree.specs.Standing.{Stands, leading}

@@ -1,5 +1,5 @@
 -- The tail's checks are those of an open tree that has all fields.
-use Rattle.std.proofs.Common.{rules, ◌≡◌, ℕ, ◌*◌, List, ◌∷◌, sym, ap, ◌∙◌, subst, take, drop, ◌-◌, arith}
+use Rattle.std.proofs.Common.{rules, ◌≡◌, ◌*◌, ◌∙◌, subst, take, drop, ◌-◌}
 use Rattle.std.proofs.lemmas.Result.{err_from_is_err_and}
 use Rattle.tag_bits.specs.Digits.{digits_of_bytes}
 use Rattle.llrp_schema.specs.declared.kinds.Tail.{Tail}

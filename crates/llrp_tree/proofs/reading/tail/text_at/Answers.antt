@@ -1,5 +1,5 @@
 -- The octets behind the count are text, or the first that are not tell the fault.
-use Rattle.std.proofs.Common.{◌≡◌, ℕ, ◌+◌, ◌-◌, ap, ◌∙◌, take, drop, arith}
+use Rattle.std.proofs.Common.{ℕ, ◌+◌, ◌-◌, ap, ◌∙◌, take, drop, arith}
 use Rattle.llrp_tree.proofs.OctetLemmas.{are_octets}
 use Rattle.llrp_tree.proofs.ChildLemmas.{text_spans, text_fails}
 use Rattle.llrp_tree.proofs.reading.tail.text_at.Goals as goal
