@@ -4,6 +4,7 @@ pub mod CommandLemmas
 pub mod Cutting
 pub mod DecimalWords
 pub mod DeviceLemmas
+pub mod EpcLemmas
 pub mod FrameBytes
 pub mod FramingLemmas
 pub mod Growing
