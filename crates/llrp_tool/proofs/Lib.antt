@@ -15,6 +15,7 @@ pub mod LineReading
 pub mod Listed
 pub mod MessageWords
 pub mod Numerals
+pub mod OneEpcAnswer
 pub mod Rows
 pub mod Running
 pub mod ShowLemmas
