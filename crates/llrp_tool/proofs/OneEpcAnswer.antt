@@ -1,8 +1,6 @@
 -- Of each text one thing is printed.
-use Rattle.std.proofs.Common.{◌≡◌, ℕ, List, [], ◌++◌, refl, sym, ap, ◌∙◌, subst, inl, inr}
-use Rattle.tag_epc.specs.declared.fault.WordFault.{WordFault}
+use Rattle.std.proofs.Common.{◌≡◌, ℕ, List, ◌++◌, refl, sym, ap, ◌∙◌, subst, inl, inr}
 use Rattle.tag_epc.proofs.OneFault.{lawful_or_fault, one_word_fault}
-use Rattle.tag_uri.specs.declared.fault.UriFault.{UriFault}
 use Rattle.tag_uri.specs.Hexadecimal.{hexadecimal}
 use Rattle.tag_uri.proofs.HexadecimalLemmas.{one_number}
 use Rattle.tag_uri.proofs.TextLaws.{one_fault, text_or_fault, texts_same, words_apart}

@@ -1,6 +1,6 @@
 -- What `llrp epc` prints of a text. Texts are lists of their characters' codes.
 -- Source: EPC Tag Data Standard 1.13, section 12, for the texts of words; the lines are this project's own.
-use Rattle.std.specs.Prelude.{◌≡◌, ℕ, ◌+◌, ◌^◌, ◌<◌, ◌⊎◌, List, [], ◌++◌, map, codes, decimal, Result, Ok, Err}
+use Rattle.std.specs.Prelude.{◌≡◌, ℕ, ◌^◌, ◌<◌, ◌⊎◌, List, [], ◌++◌, map, codes, decimal, Result, Ok, Err}
 use Rattle.std.specs.Char.{to_ascii_uppercase}
 use Rattle.tag_epc.specs.declared.fault.WordFault.{WordFault}
 use Rattle.tag_epc.specs.LawfulWord.{IsLawfulWord}

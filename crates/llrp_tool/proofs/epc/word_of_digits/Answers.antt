@@ -1,4 +1,4 @@
-use Rattle.std.proofs.Common.{◌≡◌, ◌<◌, ◌^◌, ℕ, rules, ap, sym, ◌∙◌}
+use Rattle.std.proofs.Common.{◌<◌, ◌^◌, ℕ, rules, ap, sym, ◌∙◌}
 use Rattle.std.specs.Result.{result_ok}
 use Rattle.llrp_tool.specs.EpcLines.{AreDigitsOf}
 use Rattle.tag_uri.proofs.HexadecimalLemmas.{some_ok}

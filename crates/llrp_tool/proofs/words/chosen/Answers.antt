@@ -1,7 +1,6 @@
-use Rattle.std.proofs.Common.{rules, ap, ap₂, ◌≡◌, ◌∙◌, Bool, false, codes, sym}
+use Rattle.std.proofs.Common.{rules, ◌≡◌, ◌∙◌, codes, sym}
 use Rattle.clap.specs.Words.{subcommand_rows_of, found_of, rows_of}
 use Rattle.clap.proofs.WalkLemmas.{first_value-rows, one_text-rows}
-use Rattle.llrp_tool.specs.Words.{name_in}
 use Rattle.llrp_tool.proofs.CommandLemmas.{names_are, name_found, other_name, flag_found, text_is}
 use Rattle.llrp_tool.proofs.words.chosen.Goals as goal
 
