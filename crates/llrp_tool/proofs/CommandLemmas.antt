@@ -2,9 +2,9 @@
 use Rattle.std.proofs.Common.{◌≡◌, Bool, true, false, List, Option, Some, None, refl, sym, ap, subst, ◌∙◌, codes, inl, inr}
 use Rattle.std.specs.Prelude.{option_map, ◌&&◌}
 use Rattle.clap.specs.Words.{App, Row, Text, subcommand_of, is_simple, takes}
-use Rattle.clap.specs.Walk.{one_of}
+use Rattle.clap.specs.Walk.{first_of, one_of}
 use Rattle.llrp_tool.specs.declared.words.Request.{Request}
-use Rattle.llrp_tool.specs.Words.{llrp_app, parses, command_in, name_in, hex_in, HasFlag, IsRequest}
+use Rattle.llrp_tool.specs.Words.{llrp_app, parses, command_in, name_in, hex_in, text_in, HasFlag, IsRequest}
 
 and_left : (a b : Bool) → (a && b) ≡ true → a ≡ true
 and_left true b e = refl
@@ -31,6 +31,10 @@ pub hex_is : (found : Option (Text × List Row)) (rows : List Row) → Some rows
 hex_is None rows e = cc
 hex_is (Some p) rows e = let same : rows ≡ p.1 = cc in ap (one_of (codes "hex")) (sym same)
 
+pub text_is : (found : Option (Text × List Row)) (rows : List Row) → Some rows ≡ option_map (λ p. p.1) found → text_in found ≡ first_of (codes "TEXT") rows
+text_is None rows e = cc
+text_is (Some p) rows e = let same : rows ≡ p.1 = cc in ap (first_of (codes "TEXT")) (sym same)
+
 -- a flag that reads each value that it may have
 pub has_flag : (found : Option Text) (hex : Bool) → (found ≡ None → hex ≡ false) → (found ≡ Some (codes "true") → hex ≡ true) → (found ≡ Some (codes "false") → hex ≡ false) → HasFlag found hex
 has_flag found hex none set unset true is = set is
@@ -45,3 +49,7 @@ flag_found found rows hex r none set unset = has_flag (hex_in found) hex (λ h. 
 -- the name of the command that was found
 pub name_found : (found : Option (Text × List Row)) (name text : Text) → Some name ≡ name_in found → name ≡ text → name_in found ≡ Some text
 name_found found name text e n = sym e ∙ ap (λ (x : Text). Some x) n
+
+-- one command's name is no other's
+pub other_name : (found : Option (Text × List Row)) (name other : Text) → name_in found ≡ Some name → (name ≡ other → ⊥) → name_in found ≡ Some other → ⊥
+other_name found name other e differs is = differs (let same : Some name ≡ Some other = sym e ∙ is in cc)

@@ -74,11 +74,15 @@ even (a ∷ []) bytes h = absurd h
 even (a ∷ (b ∷ rest)) [] h = absurd h
 even (a ∷ (b ∷ rest)) (byte ∷ bytes) (high, low, p, q, sum, more) = let ih = even rest bytes more in omega arith
 
-spelled_if_ok : (s bytes : List ℕ) → decode_of s ≡ Ok bytes → SpellBytes s bytes
+-- what was decoded is spelled, and what is spelled is decoded
+pub spelled_if_ok : (s bytes : List ℕ) → decode_of s ≡ Ok bytes → SpellBytes s bytes
 spelled_if_ok s bytes h = spelled 0 s bytes (sym (decode_of-even s (decode_of-ok s bytes h).0) ∙ h)
 
+pub ok_if_spelled : (s bytes : List ℕ) → SpellBytes s bytes → decode_of s ≡ Ok bytes
+ok_if_spelled s bytes h = decode_of-even s (even s bytes h) ∙ decoded 0 s bytes h
+
 none_if_err : (s : List ℕ) (e : FromHexError) → decode_of s ≡ Err e → (bytes : List ℕ) → ¬ SpellBytes s bytes
-none_if_err s e h bytes spell = cc (sym h ∙ decode_of-even s (even s bytes spell) ∙ decoded 0 s bytes spell)
+none_if_err s e h bytes spell = cc (sym h ∙ ok_if_spelled s bytes spell)
 
 -- a text whose digits were decoded
 pub is_hex : (text digits bytes : List ℕ) → digits ≡ filter (λ byte. not (is_space byte)) text → decode_of digits ≡ Ok bytes → IsHexOf text bytes

@@ -4,6 +4,7 @@ pub mod CommandLemmas
 pub mod Cutting
 pub mod DecimalWords
 pub mod DeviceLemmas
+pub mod EpcLemmas
 pub mod FrameBytes
 pub mod FramingLemmas
 pub mod Growing
@@ -14,6 +15,7 @@ pub mod LineReading
 pub mod Listed
 pub mod MessageWords
 pub mod Numerals
+pub mod OneEpcAnswer
 pub mod Rows
 pub mod Running
 pub mod ShowLemmas

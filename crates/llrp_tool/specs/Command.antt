@@ -8,6 +8,7 @@ use Rattle.llrp_tool.specs.declared.fault.Verdict.TheVariants.{Lawful, Faulty}
 use Rattle.llrp_tool.specs.Copying.{MOST_READS, GaveAndFailed, IsPrefix, ReadAll, ReadStopped}
 use Rattle.llrp_tool.specs.Device.{SourceLog, SinkLog, Gave, Wrote, WroteAndFailed}
 use Rattle.llrp_tool.specs.Encoding.{Encoded, Encodes, EncodeStopped, ListingRefused, WasRead}
+use Rattle.llrp_tool.specs.EpcLines.{PrintsEpc}
 use Rattle.llrp_tool.specs.Hexadecimal.{IsHexOf, IsNoHex}
 use Rattle.llrp_tool.specs.Refused.{refusal_name}
 use Rattle.llrp_tool.specs.Show.{Listed, Shows, Stopped}
@@ -129,6 +130,12 @@ abbrev pub RanEncode : Bool → SourceLog → SourceLog → SinkLog → SinkLog 
 RanEncode hex r0 r1 w0 w1 e0 e1 answer =
     IsNotBegun r0 r1 w0 w1 e0 e1 answer
     ⊎ ((outcome : Result (Unit {0}) ToolErr) × DoesEncode hex r0 r1 w0 w1 outcome × Answers (fine_status outcome) e0 e1 answer)
+
+-- Epc ran to this answer. It reads nothing.
+abbrev pub RanEpc : List ℕ → SourceLog → SourceLog → SinkLog → SinkLog → SinkLog → SinkLog → Result ℕ ToolErr → Type 0
+RanEpc text r0 r1 w0 w1 e0 e1 answer =
+    IsNotBegun r0 r1 w0 w1 e0 e1 answer
+    ⊎ ((outcome : Result Verdict ToolErr) × (r1 ≡ r0) × PrintsEpc text w0 w1 outcome × Answers (verdict_status outcome) e0 e1 answer)
 
 -- The command is left to the program: nothing was read or written.
 abbrev pub LeftAlone : SourceLog → SourceLog → SinkLog → SinkLog → SinkLog → SinkLog → Result ℕ ToolErr → Type 0

@@ -5,6 +5,7 @@ pub mod Cuts
 pub mod Device
 pub mod Encoder
 pub mod Encoding
+pub mod EpcLines
 pub mod FirstRefusal
 pub mod Frame
 pub mod Framing

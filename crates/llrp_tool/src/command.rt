@@ -1,15 +1,16 @@
 //! The command line: the commands that its words name, their exit statuses, and their errors' lines.
 
-ghost use Rattle.std.specs.Prelude.{◌+◌, ◌<◌, ◌^◌, ◌≡◌, Bool, IfErr, IfOk, MatchResult, codes, map, string_bytes};
+ghost use Rattle.std.specs.Prelude.{◌+◌, ◌<◌, ◌^◌, ◌≡◌, Bool, IfErr, IfOk, List, MatchResult, codes, map, string_bytes, ℕ};
 ghost use Rattle.std.specs.List.{flat_map};
-ghost use Rattle.llrp_tool.specs.Command.{Answers, DoesEncode, DoesShow, EncodesDigits, FailsAsTold, Gathers, LeftAlone, RanEncode, RanShow, ShowsDigits, digit_line, error_line, error_status, fine_status, memory_error, status_of, verdict_status};
+ghost use Rattle.llrp_tool.specs.Command.{Answers, DoesEncode, DoesShow, EncodesDigits, FailsAsTold, Gathers, LeftAlone, RanEncode, RanEpc, RanShow, ShowsDigits, digit_line, error_line, error_status, fine_status, memory_error, status_of, verdict_status};
 ghost use Rattle.llrp_tool.specs.Copying.{Writes};
 ghost use Rattle.llrp_tool.specs.Device.{IsFreshSource};
-ghost use Rattle.llrp_tool.specs.Words.{Asks, AsksElsewhere};
+ghost use Rattle.llrp_tool.specs.Words.{Asks, AsksElsewhere, AsksEpc};
 
 use crate::copying::{read_all, write_all};
 use crate::device::{Output, Sink, Source};
 use crate::encode::run_encode;
+use crate::epc::run_epc;
 use crate::fault::{ToolErr, Verdict};
 use crate::hexadecimal::bytes_of_hex;
 use crate::show::{list_stream, run_show};
@@ -220,6 +221,10 @@ pub fn run_command<S: AsStr, R: Source, W: Sink, E: Sink>(
     ensures encode { (hex : Bool) → Asks (map S.text words.entry.now) (codes "encode") hex
         → RanEncode hex (R.log r.old) (R.log r.new) (W.log w.old) (W.log w.new) (E.log e.old) (E.log e.new) result }
 
+    // Where they ask for epc, it does what epc does with the text.
+    ensures epc { (text : List ℕ) → AsksEpc (map S.text words.entry.now) text
+        → RanEpc text (R.log r.old) (R.log r.new) (W.log w.old) (W.log w.new) (E.log e.old) (E.log e.new) result }
+
     // The other commands are left to the program.
     ensures elsewhere { AsksElsewhere (map S.text words.entry.now)
         → LeftAlone (R.log r.old) (R.log r.new) (W.log w.old) (W.log w.new) (E.log e.old) (E.log e.new) result }
@@ -233,6 +238,10 @@ pub fn run_command<S: AsStr, R: Source, W: Sink, E: Sink>(
         Request::Encode { hex } => {
             let outcome = encode(alloc, hex, r, w);
             answer(fine_status(outcome), e)
+        }
+        Request::Epc { text } => {
+            let outcome = run_epc(alloc, text, w);
+            answer(verdict_status(outcome), e)
         }
         Request::Elsewhere => Ok(USAGE),
         Request::Help(text) => {

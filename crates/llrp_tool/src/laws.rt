@@ -1,7 +1,9 @@
 //! What holds of every frame, every stream and every text.
 
-ghost use Rattle.std.specs.Prelude.{List, ◌≤◌, ℕ};
+ghost use Rattle.std.specs.Prelude.{List, ◌≡◌, ◌≤◌, ℕ};
 ghost use Rattle.llrp_tool.specs.Cuts.{IsFrame};
+ghost use Rattle.llrp_tool.specs.declared.fault.Verdict.{Verdict};
+ghost use Rattle.llrp_tool.specs.EpcLines.{Prints};
 ghost use Rattle.llrp_tool.specs.Frame.{AreOctets};
 ghost use Rattle.llrp_tool.specs.ItemLaws.{HasOneItem, HasOneListing};
 ghost use Rattle.llrp_tool.specs.ListingLaws.{ListedOrRefused};
@@ -20,4 +22,10 @@ pub fn one_listing()
 /// and never both.
 pub fn listed_or_refused()
     ensures { (limit : ℕ) (text : List ℕ) → 10 ≤ limit → ListedOrRefused limit text }
+{}
+
+/// Of each text epc prints the same lines, with the same verdict.
+pub fn one_epc_answer()
+    ensures verdict { (text a b : List ℕ) (v w : Verdict) → Prints text v a → Prints text w b → v ≡ w }
+    ensures lines { (text a b : List ℕ) (v w : Verdict) → Prints text v a → Prints text w b → a ≡ b }
 {}

@@ -1,4 +1,5 @@
 mod commands;
 mod devices;
+mod epc;
 mod hexadecimal;
 mod show;

@@ -3,7 +3,7 @@
 ghost use Rattle.std.specs.Prelude.{◌≡◌, IfOk, false, map, true};
 ghost use Rattle.clap.specs.Words.{app_of, subcommand_rows_of};
 ghost use Rattle.clap.specs.declared.builder.command.Command.TheViews.{out-Command};
-ghost use Rattle.llrp_tool.specs.Words.{IsRequest, command_in, hex_app, llrp_app, parses};
+ghost use Rattle.llrp_tool.specs.Words.{IsRequest, command_in, hex_app, llrp_app, parses, text_app};
 
 use clap::error::ErrorKind;
 use clap::{Arg, ArgAction, ArgMatches, Command};
@@ -31,13 +31,28 @@ Example:
   $ echo 0 KEEPALIVE 2 7 | llrp encode --hex
   083E0000000A00000007";
 
+const EPC_HELP: &str = "\
+Prints the text of a tag's 96-bit word, or the word of a text:
+  24 hexadecimal digits   the word's tag URI; or its raw URI, and # REASON BIT, which is why it has no
+                          tag URI, and the first bit of the part that fails
+  any other text          the 24 digits of its word; or ! REASON, which is why it is the text of none
+The status is 1 for a text of no word, and 0 for every other.
+
+Examples:
+  $ llrp epc 3074257BF7194E4000001A85
+  urn:epc:tag:sgtin-96:3.0614141.812345.6789
+  $ llrp epc urn:epc:tag:sgtin-96:3.0614141.812345.6789
+  3074257BF7194E4000001A85";
+
 /// What the words ask for.
 #[derive(Drop)]
-pub enum Request {
+pub enum Request<'a> {
     /// The listing of a stream of bytes, or of hexadecimal digits.
     Show { hex: bool },
     /// The bytes of a listing, or their hexadecimal digits.
     Encode { hex: bool },
+    /// The text of a word's digits, or the digits of a word's text.
+    Epc { text: &'a str },
     /// A command that the program runs itself.
     Elsewhere,
     /// This text of help.
@@ -67,6 +82,24 @@ fn hex_command<'a>(
         .arg(hex)
 }
 
+/// A command whose one argument is TEXT, which must be given.
+fn text_command<'a>(
+    alloc: Global,
+    name: &'a str,
+    about: &'a str,
+    text: &'a str,
+    help: &'a str,
+) -> Result<Command<'a>, AllocError>
+    ensures app { IfOk result (λ c. app_of c ≡ text_app name.entry.now) }
+    ensures local { IfOk result (λ c. (out-Command c).has_globals ≡ false) }
+{
+    let text = Arg::new(alloc, "TEXT").required(true).help(text);
+    Command::new(alloc, name)
+        .about(about)
+        .after_help(help)
+        .arg(text)
+}
+
 /// The words that the program takes.
 fn llrp_command<'a>(alloc: Global) -> Result<Command<'a>, AllocError>
     ensures { IfOk result (λ c. app_of c ≡ llrp_app) }
@@ -85,21 +118,35 @@ fn llrp_command<'a>(alloc: Global) -> Result<Command<'a>, AllocError>
         "Write hexadecimal digits in place of bytes",
         ENCODE_HELP,
     )?;
+    let epc = text_command(
+        alloc,
+        "epc",
+        "Print the text of a tag's word, or the word of a text",
+        "24 hexadecimal digits, a tag URI or a raw URI",
+        EPC_HELP,
+    )?;
     let top = Command::new(alloc, "llrp").bin_name("llrp")?;
     top.about("Reads and writes streams of LLRP 1.1 messages")
         .no_binary_name(true)
         .subcommand_required(true)
         .subcommand(show)?
-        .subcommand(encode)
+        .subcommand(encode)?
+        .subcommand(epc)
 }
 
 /// The command that the words named.
-fn chosen(matches: &ArgMatches<'_>) -> Request
+fn chosen<'a>(matches: &ArgMatches<'a>) -> Request<'a>
     ensures { IsRequest (subcommand_rows_of matches.now) result }
 {
     let Some((name, inner)) = matches.subcommand() else {
         return Request::Elsewhere;
     };
+    if name == "epc" {
+        return match inner.get_str("TEXT") {
+            Some(text) => Request::Epc { text },
+            None => Request::Elsewhere,
+        };
+    }
     let hex = inner.get_flag("hex");
     if name == "show" {
         Request::Show { hex }
@@ -111,7 +158,7 @@ fn chosen(matches: &ArgMatches<'_>) -> Request
 }
 
 /// What the words after the program's name ask for. The only error is that of memory.
-pub fn request_of<'a, S: AsStr>(alloc: Global, words: &'a [S]) -> Result<Request, AllocError>
+pub fn request_of<'a, S: AsStr>(alloc: Global, words: &'a [S]) -> Result<Request<'a>, AllocError>
     ensures { IfOk result (λ request. parses (map S.text words.entry.now) ≡ true
         → IsRequest (command_in (map S.text words.entry.now)) request) }
 {

@@ -1,5 +1,5 @@
 -- The first fault of a word that no EPC has, and of numbers that are no EPC's.
-use Rattle.std.specs.Prelude.{◌≡◌, ◌≢◌, ℕ, ◌^◌, ◌<◌, ◌≤◌, List, Bool, [], ◌∷◌, ◌++◌, length, take, Some, None, slice_get}
+use Rattle.std.specs.Prelude.{◌≡◌, ◌≢◌, ℕ, ◌^◌, ◌<◌, ◌≤◌, List, Bool, [], ◌∷◌, ◌++◌, length, take, Some, None, slice_get, codes}
 use Rattle.tag_bits.specs.Digits.{word_digits}
 use Rattle.tag_epc.specs.declared.kind.Kind.{Kind}
 use Rattle.tag_epc.specs.declared.epc.Parts.{Parts}
@@ -67,6 +67,14 @@ Fails word.Partition fields = HasNoRow fields
 Fails word.Prefix fields = HasUnfitAt 3 fields
 Fails word.Reference fields = HasUnfitAt 4 fields
 Fails word.Zeros fields = HasUnfitAt 5 fields
+
+-- the name of the part that fails
+abbrev pub reason_name : WordReason → List ℕ
+reason_name word.Header = codes "Header"
+reason_name word.Partition = codes "Partition"
+reason_name word.Prefix = codes "Prefix"
+reason_name word.Reference = codes "Reference"
+reason_name word.Zeros = codes "Zeros"
 
 -- how many fields stand before the one that fails
 abbrev pub place_of : WordReason → ℕ

@@ -40,6 +40,21 @@ pub struct WordFault {
 }
 
 impl WordReason {
+    ghost use Rattle.tag_epc.specs.Faults.{reason_name};
+
+    /// The name of the part.
+    pub fn name(self) -> &'static str
+        ensures { result.now ≡ reason_name self }
+    {
+        match self {
+            WordReason::Header => "Header",
+            WordReason::Partition => "Partition",
+            WordReason::Prefix => "Prefix",
+            WordReason::Reference => "Reference",
+            WordReason::Zeros => "Zeros",
+        }
+    }
+
     /// The fault for this reason at that bit.
     pub(crate) fn at(self, bit: u32) -> WordFault
         ensures { result ≡ record { bit = bit; reason = self } }

@@ -172,3 +172,17 @@ fn scheme_names(rt: HostRuntime) {
         assert_eq!(rt; kind.name(), name);
     }
 }
+
+#[test]
+fn reason_names(rt: HostRuntime) {
+    let rows = [
+        (WordReason::Header, "Header"),
+        (WordReason::Partition, "Partition"),
+        (WordReason::Prefix, "Prefix"),
+        (WordReason::Reference, "Reference"),
+        (WordReason::Zeros, "Zeros"),
+    ];
+    for (reason, name) in rows {
+        assert_eq!(rt; reason.name(), name);
+    }
+}

@@ -41,7 +41,7 @@ below-at p (suc n) k h lt =
     ]
 
 -- the glyph of a digit
-glyph : (d : ℕ) → d < 16 → slice_index upper_digits d ≡ cond (nat_lt d 10) (48 + d) (55 + d)
+pub glyph : (d : ℕ) → d < 16 → slice_index upper_digits d ≡ cond (nat_lt d 10) (48 + d) (55 + d)
 glyph d h = eqb-true _ _ (below-at (λ e. slice_index upper_digits e == cond (nat_lt e 10) (48 + e) (55 + e)) 16 d refl h)
 
 -- a lower-case digit in upper case
@@ -119,7 +119,7 @@ word_text bs w h len bytes e =
     ap (λ (k : ℕ). hexadecimal k w) (sym t) ∙ ap (λ (x : ℕ). hexadecimal (twice (length bs)) x) (sym n) ∙ spelled bs bytes
 
 -- the bytes of a word are twelve
-twelve : (bs : List ℕ) (w : ℕ) → word_digits w ≡ digits_of_bytes bs → length bs ≡ 12
+pub twelve : (bs : List ℕ) (w : ℕ) → word_digits w ≡ digits_of_bytes bs → length bs ≡ 12
 unfolding word_digits
 twelve bs w e = omega (arith, ap length e, length-digits 96 w, length-bytes bs)
 
@@ -237,6 +237,10 @@ pub decodes : (s : List ℕ) → AreWordDigits s → decode_sized s 12 ≡ Ok (b
 decodes s h =
     let p = spells s 12 h.count (all_upper s h.digits) in
     decode_sized-twice s 12 h.count ∙ ap decode_of (sym p.text) ∙ decode_of-encode_upper (bytes_of s) p.bytes
+
+-- 24 upper-case digits are those of some bytes
+pub bytes_spelled : (s : List ℕ) → AreWordDigits s → (bytes : List ℕ) × IsBytes bytes × (encode_upper bytes ≡ s)
+bytes_spelled s h = let p = spells s 12 h.count (all_upper s h.digits) in (bytes_of s, p.bytes, p.text)
 
 -- what they decode to spells them
 pub decoded : (s bytes : List ℕ) (w : ℕ) → w < 2 ^ 96 → AllPass is_upper_digit s → decode_sized s 12 ≡ Ok bytes → word_digits w ≡ digits_of_bytes bytes → s ≡ hexadecimal 24 w

@@ -5,7 +5,7 @@ use std::test::Fail;
 use tag_bits::Word;
 
 /// Words and their texts.
-const TEXTS: [(u128, &str); 10] = [
+const TEXTS: [(u128, &str); 11] = [
     (
         0x3200_0000_0000_0400_0000_0000,
         "urn:epc:tag:sgln-96:0.000000000001..0",
@@ -33,6 +33,10 @@ const TEXTS: [(u128, &str); 10] = [
     (
         0x2C00_0000_0000_0000_0000_0000,
         "urn:epc:raw:96.x2C0000000000000000000000",
+    ),
+    (
+        0x2D00_0000_0000_0000_0000_0000,
+        "urn:epc:raw:96.x2D0000000000000000000000",
     ),
     (
         0x30E3_A352_943F_FE7F_FFFF_FFFF,

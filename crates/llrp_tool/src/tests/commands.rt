@@ -10,6 +10,7 @@ Usage: llrp <COMMAND>
 Commands:
   show    List the messages of a stream of bytes
   encode  Write the bytes of a listing of messages
+  epc     Print the text of a tag's word, or the word of a text
   help    Print this message or the help of the given subcommand(s)
 
 Options:
@@ -53,8 +54,31 @@ Example:
   083E0000000A00000007
 ";
 
+const EPC_HELP: &[u8] = b"Print the text of a tag's word, or the word of a text
+
+Usage: llrp epc <TEXT>
+
+Arguments:
+  <TEXT>  24 hexadecimal digits, a tag URI or a raw URI
+
+Options:
+  -h, --help  Print help
+
+Prints the text of a tag's 96-bit word, or the word of a text:
+  24 hexadecimal digits   the word's tag URI; or its raw URI, and # REASON BIT, which is why it has no
+                          tag URI, and the first bit of the part that fails
+  any other text          the 24 digits of its word; or ! REASON, which is why it is the text of none
+The status is 1 for a text of no word, and 0 for every other.
+
+Examples:
+  $ llrp epc 3074257BF7194E4000001A85
+  urn:epc:tag:sgtin-96:3.0614141.812345.6789
+  $ llrp epc urn:epc:tag:sgtin-96:3.0614141.812345.6789
+  3074257BF7194E4000001A85
+";
+
 const NO_COMMAND: &[u8] = b"error: 'llrp' requires a subcommand but one was not provided
-  [subcommands: show, encode, help]
+  [subcommands: show, encode, epc, help]
 
 Usage: llrp <COMMAND>
 
@@ -64,6 +88,14 @@ For more information, try '--help'.
 const NO_SUCH_COMMAND: &[u8] = b"error: unrecognized subcommand 'sim'
 
 Usage: llrp <COMMAND>
+
+For more information, try '--help'.
+";
+
+const NO_TEXT: &[u8] = b"error: the following required arguments were not provided:
+  <TEXT>
+
+Usage: llrp epc <TEXT>
 
 For more information, try '--help'.
 ";
@@ -161,6 +193,20 @@ fn commands_with_ample_memory(rt: HostRuntime) -> Result<(), Fail> {
             b"".as_slice(),
             b"llrp: line 1: Line\n".as_slice(),
         ),
+        (
+            ["epc", "3003A3529440000000000000"].as_slice(),
+            b"".as_slice(),
+            0,
+            b"urn:epc:raw:96.x3003A3529440000000000000\n# Prefix 14\n".as_slice(),
+            b"".as_slice(),
+        ),
+        (
+            ["epc", ""].as_slice(),
+            b"".as_slice(),
+            1,
+            b"! Start\n".as_slice(),
+            b"".as_slice(),
+        ),
     ];
     for (words, input, status, output, errors) in rows {
         let found = run(&rt, words, input)?;
@@ -178,6 +224,7 @@ fn help_goes_to_the_output(rt: HostRuntime) -> Result<(), Fail> {
         (["help"].as_slice(), HELP),
         (["show", "--help"].as_slice(), SHOW_HELP),
         (["encode", "-h"].as_slice(), ENCODE_HELP),
+        (["epc", "--help"].as_slice(), EPC_HELP),
     ];
     for (words, text) in rows {
         let found = run(&rt, words, b"")?;
@@ -194,6 +241,7 @@ fn usage_faults_go_to_the_errors(rt: HostRuntime) -> Result<(), Fail> {
         ([].as_slice(), NO_COMMAND),
         (["sim", "5084"].as_slice(), NO_SUCH_COMMAND),
         (["show", "--bytes"].as_slice(), NO_SUCH_FLAG),
+        (["epc"].as_slice(), NO_TEXT),
     ];
     for (words, text) in rows {
         let found = run(&rt, words, b"")?;
@@ -207,7 +255,6 @@ fn usage_faults_go_to_the_errors(rt: HostRuntime) -> Result<(), Fail> {
 #[test]
 fn commands_to_come_are_usage_faults(rt: HostRuntime) -> Result<(), Fail> {
     let rows = [
-        ["epc", "3"].as_slice(),
         ["inventory", "localhost", "5084"].as_slice(),
         ["loop"].as_slice(),
         ["encode", "listing"].as_slice(),

@@ -16,4 +16,6 @@ returns c =
     ∙ ap (λ (f : Command-F Command). app_of_fields (record f { no_binary_name = true; subcommand_required = true })) c.about.ensures
     ∙ ap (λ (f : Command-F Command). app_of_fields (record f { no_binary_name = true; subcommand_required = true })) c.in_ok-top.ensures.0
     ∙ ap (λ (a : App). record a { top = record a.top { no_binary_name = true; subcommand_required = true } }) c.new.ensures.app in
-    IfOk-weaker c.subcommand-2.result _ _ (λ r h. h.shape c.in_ok-encode.ensures.local ∙ ap₂ with_subcommand (c.in_ok-subcommand.ensures.shape c.in_ok-show.ensures.local ∙ ap₂ with_subcommand top_is (ap (λ (a : App). a.top) c.in_ok-show.ensures.app)) (ap (λ (a : App). a.top) c.in_ok-encode.ensures.app)) c.subcommand-2.ensures
+    let with_show = c.in_ok-subcommand.ensures.shape c.in_ok-show.ensures.local ∙ ap₂ with_subcommand top_is (ap (λ (a : App). a.top) c.in_ok-show.ensures.app) in
+    let with_encode = c.in_ok-subcommand-2.ensures.shape c.in_ok-encode.ensures.local ∙ ap₂ with_subcommand with_show (ap (λ (a : App). a.top) c.in_ok-encode.ensures.app) in
+    IfOk-weaker c.subcommand-3.result _ _ (λ r h. h.shape c.in_ok-epc.ensures.local ∙ ap₂ with_subcommand with_encode (ap (λ (a : App). a.top) c.in_ok-epc.ensures.app)) c.subcommand-3.ensures
