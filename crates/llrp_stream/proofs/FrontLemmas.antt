@@ -1,9 +1,8 @@
 -- The front of a frame, and what stays of it when more bytes come.
-use Rattle.std.proofs.Common.{◌≡◌, ℕ, ◌+◌, ◌-◌, ◌*◌, ◌<◌, ◌≤◌, ◌⊎◌, List, [], ◌++◌, length, take, drop, Option, Some, None, refl, sym, ap, subst, ◌∙◌, arith, inl, inr, length-append, append_assoc}
-use Rattle.std.proofs.lemmas.List.{take-append-drop, length-take-le, length-drop}
-use Rattle.tag_bits.specs.Digits.{digits_of_bytes}
+use Rattle.std.proofs.Common.{◌≡◌, ℕ, ◌+◌, ◌<◌, ◌≤◌, List, ◌++◌, length, take, refl, sym, subst, ◌∙◌, arith, inl, inr, length-append, append_assoc}
+use Rattle.std.proofs.lemmas.List.{length-take-le}
 use Rattle.llrp_tree.specs.declared.fault.Fault.{Fault}
-use Rattle.llrp_tree.specs.FirstFault.{number, header_checks, FirstFault}
+use Rattle.llrp_tree.specs.FirstFault.{FirstFault}
 use Rattle.llrp_stream.specs.declared.header.FaultyHeader.{FaultyHeader}
 use Rattle.llrp_stream.specs.Cuts.{length_field, IsFrame, IsPartial, Breaks}
 use Rattle.llrp_stream.specs.Items.{id_field}

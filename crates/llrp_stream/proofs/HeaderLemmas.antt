@@ -1,9 +1,9 @@
 -- The numbers of a header, from its octets and from its digits.
-use Rattle.std.proofs.Common.{◌≡◌, ℕ, zero, suc, ◌+◌, ◌-◌, ◌*◌, ◌/◌, ◌%◌, ◌^◌, ◌<◌, ◌≤◌, Bool, true, false, List, [], ◌∷◌, ◌++◌, length, take, drop, bit_and, ◌⊎◌, inl, inr, None, refl, sym, ap, subst, ◌∙◌, arith, length-append}
+use Rattle.std.proofs.Common.{◌≡◌, ℕ, zero, suc, ◌+◌, ◌-◌, ◌*◌, ◌/◌, ◌%◌, ◌^◌, ◌<◌, ◌≤◌, Bool, true, false, List, [], ◌∷◌, ◌++◌, length, take, drop, bit_and, ◌⊎◌, inl, inr, None, refl, sym, ap, ◌∙◌, arith}
 use Rattle.std.specs.Prelude.{◌==◌, ◌||◌}
 use Rattle.std.proofs.Math.Nat.{pow-suc}
 use Rattle.std.proofs.Math.Seq.{take-append-add}
-use Rattle.std.proofs.lemmas.List.{take-append-drop, take-append-le, drop-append-le, length-take, length-take-le, length-drop, take_all}
+use Rattle.std.proofs.lemmas.List.{take-append-drop, take-append-le, drop-append-le, length-take-le, length-drop, take_all}
 use Rattle.std.proofs.lemmas.Nat.{mod_below, pow_pos, pow-add, and_mask}
 use Rattle.std.proofs.lemmas.Bool.{eqb-true, leb-true}
 use Rattle.byteorder.specs.Endian.{big_from, big_number}
@@ -42,7 +42,7 @@ big_value (suc n) (b ∷ bytes) os le =
     ap (λ (x : ℕ). b * 256 ^ n + x) (big_from-cons 0 n b bytes ∙ big_value n bytes os.1 (omega arith))
     ∙ sym (ap value cut ∙ value-append (digits 8 b) rest ∙ ap (λ (x : ℕ). x * 2 ^ length rest + value rest) own ∙ ap (λ (x : ℕ). b * x + value rest) power)
 
-octets-drop : (k : ℕ) (bytes : List ℕ) → AreOctets bytes → AreOctets (drop k bytes)
+pub octets-drop : (k : ℕ) (bytes : List ℕ) → AreOctets bytes → AreOctets (drop k bytes)
 octets-drop zero bytes os = os
 octets-drop (suc k) [] os = tt
 octets-drop (suc k) (b ∷ bytes) os = octets-drop k bytes os.1

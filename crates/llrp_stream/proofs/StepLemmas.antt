@@ -1,15 +1,14 @@
 -- What the steps of a decoder make of a front.
-use Rattle.std.proofs.Common.{◌≡◌, ℕ, ◌+◌, ◌-◌, ◌*◌, ◌<◌, ◌≤◌, ◌⊎◌, List, [], ◌++◌, length, take, drop, Option, Some, None, refl, sym, ap, subst, ◌∙◌, arith, inl, inr, length-append, append_assoc}
+use Rattle.std.proofs.Common.{◌≡◌, ℕ, ◌+◌, ◌-◌, ◌<◌, ◌≤◌, List, [], ◌++◌, length, take, drop, Option, Some, None, refl, sym, ap, subst, ◌∙◌, arith, inl, length-append, append_assoc}
 use Rattle.std.specs.Prelude.{IsSome}
 use Rattle.std.proofs.Math.Seq.{take-add}
 use Rattle.std.proofs.lemmas.List.{take-append-drop, take_all, length-take-le, length-drop}
 use Rattle.llrp_stream.specs.declared.header.FaultyHeader.{FaultyHeader}
 use Rattle.llrp_stream.specs.declared.item.Item.{Item}
 use Rattle.llrp_stream.specs.declared.item.Item.TheVariants.{Bad}
-use Rattle.llrp_stream.specs.declared.state.State.{State}
-use Rattle.llrp_stream.specs.declared.state.State.TheVariants.{Between, Header, Body, Skipping}
+use Rattle.llrp_stream.specs.declared.state.State.TheVariants.{Between, Body, Skipping}
 use Rattle.llrp_stream.specs.declared.steps.Step.{Step}
-use Rattle.llrp_stream.specs.Cuts.{length_field, IsFrame, IsPartial}
+use Rattle.llrp_stream.specs.Cuts.{length_field, IsFrame}
 use Rattle.llrp_stream.specs.Items.{IsItemOf}
 use Rattle.llrp_stream.specs.Headers.{IsFaulty, IsSound}
 use Rattle.llrp_stream.specs.Decoding.{IsSkipped, DecoderState, Stands}

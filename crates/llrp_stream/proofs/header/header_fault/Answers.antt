@@ -1,13 +1,10 @@
 -- The checks in their order, by the first two octets and the length.
-use Rattle.std.proofs.Common.{◌≡◌, ◌/◌, ◌<◌, ◌≤◌, ℕ, bit_and, refl, arith}
-use Rattle.std.specs.Prelude.{◌==◌, ◌||◌, nat_le}
+use Rattle.std.proofs.Common.{◌/◌, bit_and, refl, arith}
 use Rattle.std.proofs.lemmas.Bool.{le-leb, lt-leb}
-use Rattle.tag_bits.specs.Digits.{digits_of_bytes}
-use Rattle.llrp_tree.specs.FirstFault.{number}
 use Rattle.llrp_tree.proofs.OctetLemmas.{are_octets}
 use Rattle.llrp_stream.specs.Cuts.{length_field}
 use Rattle.llrp_stream.specs.Headers.{header_fault}
-use Rattle.llrp_stream.proofs.HeaderLemmas.{HeadIs, head_is, not_equal, known_version, unknown_version}
+use Rattle.llrp_stream.proofs.HeaderLemmas.{head_is, not_equal, known_version, unknown_version}
 use Rattle.llrp_stream.proofs.header.header_fault.Goals as goal
 
 pub returns-then-head-ne0 : goal.returns-then-head-ne0

@@ -1,5 +1,5 @@
 -- The length and the id by their octets.
-use Rattle.std.proofs.Common.{◌≡◌, ◌<◌, ◌≤◌, ℕ, length, refl, sym, ap, ◌∙◌, arith, inl, inr}
+use Rattle.std.proofs.Common.{sym, arith, inr}
 use Rattle.llrp_tree.proofs.OctetLemmas.{are_octets}
 use Rattle.llrp_stream.specs.Cuts.{length_field}
 use Rattle.llrp_stream.specs.Items.{id_field}

@@ -1,5 +1,4 @@
 -- A frame that is skipped needs no buffer.
-use Rattle.llrp_stream.specs.Keeping.{Fits}
 use Rattle.llrp_stream.proofs.StepLemmas.{skip_steps}
 use Rattle.llrp_stream.proofs.steps.advance.Goals as goal
 

@@ -1,5 +1,5 @@
 -- A frame begins with the piece.
-use Rattle.std.proofs.Common.{◌≡◌, ◌++◌, List, ℕ, [], length, take, refl, sym, subst, ◌∙◌, arith}
+use Rattle.std.proofs.Common.{[], refl}
 use Rattle.llrp_stream.proofs.StepLemmas.{begun_frame, fill_end, skip_begins}
 use Rattle.llrp_stream.proofs.steps.begin.Goals as goal
 

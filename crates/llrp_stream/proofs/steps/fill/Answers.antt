@@ -1,6 +1,5 @@
 -- A frame goes on past the piece, or ends in it.
-use Rattle.std.proofs.Common.{◌≡◌, ◌-◌, ◌++◌, List, ℕ, length, take, refl, sym, subst, ◌∙◌, arith}
-use Rattle.llrp_stream.specs.Cuts.{IsFrame}
+use Rattle.std.proofs.Common.{List, ℕ, refl, subst, ◌∙◌, arith}
 use Rattle.llrp_stream.specs.Items.{IsItemOf}
 use Rattle.llrp_stream.proofs.StepLemmas.{fill_more, fill_frame, fill_end}
 use Rattle.llrp_stream.proofs.steps.fill.Goals as goal

@@ -1,8 +1,7 @@
 -- The piece goes on in a header.
-use Rattle.std.proofs.Common.{◌≡◌, ◌++◌, List, ℕ, length, take, drop, refl, sym, ap, subst, ◌∙◌, arith, length-append, append_assoc}
+use Rattle.std.proofs.Common.{◌≡◌, ◌++◌, List, ℕ, length, take, drop, ap, subst, ◌∙◌, arith, length-append, append_assoc}
 use Rattle.std.proofs.lemmas.List.{take-append-drop, length-take-le}
 use Rattle.llrp_stream.specs.Cuts.{Breaks}
-use Rattle.llrp_stream.specs.Headers.{IsFaulty}
 use Rattle.llrp_stream.proofs.FrontLemmas.{no_frame_breaks}
 use Rattle.llrp_stream.proofs.StepLemmas.{goes_behind, skip_goes}
 use Rattle.llrp_stream.proofs.steps.go_on.Goals as goal

@@ -1,4 +1,3 @@
-use Rattle.std.proofs.Common.{◌≡◌, ℕ, length, refl, arith}
 use Rattle.llrp_tree.proofs.OctetLemmas.{are_octets}
 use Rattle.llrp_stream.specs.Cuts.{length_field}
 use Rattle.llrp_stream.specs.Items.{id_field}
