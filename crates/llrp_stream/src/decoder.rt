@@ -37,7 +37,7 @@ impl Decoder {
     ghost use Rattle.llrp_stream.specs.Cuts.{Ends};
     ghost use Rattle.llrp_stream.specs.Decoding.{IsBroken, IsDead, Stands, weight};
     ghost use Rattle.llrp_stream.specs.Feeding.{Feeds};
-    ghost use Rattle.llrp_stream.specs.Headers.{HasHeaderFault};
+    ghost use Rattle.llrp_stream.specs.Items.{HasHeaderFault};
 
     /// A decoder that was fed nothing; it takes no memory. A frame of more than `limit` octets is faulty.
     pub fn new(alloc: Global, limit: u32) -> Decoder
