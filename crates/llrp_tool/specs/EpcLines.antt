@@ -13,7 +13,7 @@ use Rattle.llrp_tool.specs.declared.fault.ToolErr.TheVariants.{Listing, Hex, Rea
 use Rattle.llrp_tool.specs.declared.fault.Verdict.{Verdict}
 use Rattle.llrp_tool.specs.declared.fault.Verdict.TheVariants.{Lawful, Faulty}
 use Rattle.llrp_tool.specs.Copying.{IsPrefix}
-use Rattle.llrp_tool.specs.Device.{SinkLog, Wrote, WroteAndFailed}
+use Rattle.llrp_stream.specs.Device.{SinkLog, Wrote, WroteAndFailed}
 
 -- the text is the 24 hexadecimal digits of the word, in either case
 pub record AreDigitsOf (text : List ℕ) (word : ℕ) : Type 0 where

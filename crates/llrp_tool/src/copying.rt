@@ -2,11 +2,11 @@
 
 ghost use Rattle.std.specs.Prelude.{◌+◌, ◌<◌, ◌≡◌, ◌^◌, IfErr, IfOk, List, OnOk, [], length, ℕ};
 ghost use Rattle.llrp_tool.specs.Copying.{HandsOn, ReadAll, ReadStopped, Writes};
-ghost use Rattle.llrp_tool.specs.Device.{IsFreshSource};
+ghost use Rattle.llrp_stream.specs.Device.{IsFreshSource};
 ghost use Rattle.llrp_tool.specs.declared.copying.TheConstants.{PIECE_SIZE};
 
-use crate::device::{Sink, Source};
 use crate::fault::ToolErr;
+use llrp_stream::{Sink, Source};
 use std::alloc::Global;
 
 /// The most reads of one source that give bytes.

@@ -6,10 +6,10 @@ ghost use Rattle.tag_uri.specs.Hexadecimal.{hexadecimal};
 ghost use Rattle.llrp_tool.specs.EpcLines.{AreDigitsOf, AreWordLines, IsRemark, IsTextLine, Prints, PrintsEpc, line, refusal_line, remark_line};
 
 use crate::copying::write_all;
-use crate::device::Sink;
 use crate::fault::{ToolErr, Verdict};
 use hex::FromHex;
 use itoa::Buffer;
+use llrp_stream::Sink;
 use std::alloc::{AllocError, Global};
 use tag_bits::Word;
 use tag_epc::{Epc, WordFault};

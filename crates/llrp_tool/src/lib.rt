@@ -4,7 +4,6 @@
 
 mod command;
 mod copying;
-pub mod device;
 mod encode;
 mod epc;
 mod fault;
@@ -17,11 +16,11 @@ mod show;
 mod words;
 
 pub use command::run_command;
-pub use device::{Input, Output, Sink, Source};
 pub use encode::run_encode;
 pub use epc::run_epc;
 pub use fault::{Refusal, ToolErr, Verdict};
 pub use hexadecimal::bytes_of_hex;
+pub use llrp_stream::{Input, Output, Sink, Source};
 pub use show::run_show;
 
 #[cfg(test)]
