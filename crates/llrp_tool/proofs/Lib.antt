@@ -16,9 +16,14 @@ pub mod MessageWords
 pub mod Numerals
 pub mod Rows
 pub mod Running
+pub mod ScriptEntries
+pub mod ScriptLines
+pub mod ScriptTexts
+pub mod ScriptWords
 pub mod ShowLemmas
 pub mod Standing
 pub mod Telling
 pub mod TextLemmas
 pub mod Unique
 pub mod WordLemmas
+pub mod WordTexts

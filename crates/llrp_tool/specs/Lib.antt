@@ -19,5 +19,6 @@ pub mod OpenText
 pub mod Reading
 pub mod Refused
 pub mod Schema
+pub mod Script
 pub mod Show
 pub mod Words

@@ -4,6 +4,7 @@
 
 mod command;
 mod copying;
+mod decimal;
 pub mod device;
 mod encode;
 mod fault;
@@ -12,7 +13,9 @@ mod hexadecimal;
 pub mod laws;
 mod line;
 mod message;
+pub mod script;
 mod show;
+pub mod sighting;
 mod words;
 
 pub use command::run_command;
@@ -20,7 +23,9 @@ pub use device::{Input, Output, Sink, Source};
 pub use encode::run_encode;
 pub use fault::{Refusal, ToolErr, Verdict};
 pub use hexadecimal::bytes_of_hex;
+pub use script::{Action, Entry, Script};
 pub use show::run_show;
+pub use sighting::Sighting;
 
 #[cfg(test)]
 mod tests;
