@@ -16,9 +16,11 @@ pub mod MessageWords
 pub mod Numerals
 pub mod Rows
 pub mod Running
+pub mod ScriptDeciding
 pub mod ScriptEntries
 pub mod ScriptLines
 pub mod ScriptTexts
+pub mod ScriptUnique
 pub mod ScriptWords
 pub mod ShowLemmas
 pub mod Standing

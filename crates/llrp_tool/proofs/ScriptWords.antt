@@ -12,6 +12,15 @@ use Rattle.llrp_tool.specs.Encoder.{Lacks, IsSplit}
 use Rattle.llrp_tool.specs.Reading.{numeral}
 use Rattle.llrp_tool.proofs.DecimalWords.{own, numeral_back}
 
+-- both of two tests
+pub left : (a b : Bool) → (a && b) ≡ true → a ≡ true
+left true b e = refl
+left false b e = cc
+
+pub right : (a b : Bool) → (a && b) ≡ true → b ≡ true
+right true b e = e
+right false b e = cc
+
 -- what holds where there is nothing
 pub at_none : {A : Type 0} (o : Option A) (P : Type 0) (Q : A → Type 0) → o ≡ None → P → MatchOption o P Q
 at_none None P Q e p = p
@@ -19,6 +28,7 @@ at_none (Some a) P Q e p = cc
 
 -- ---- bytes before the first of a kind
 
+-- a byte that stands there isn't lacked
 lacks_all : (byte : ℕ) (w rest : List ℕ) → Lacks byte (w ++ (byte ∷ rest)) → ⊥
 lacks_all byte [] rest h = let t : (byte == byte) ≡ true = eq-eqb byte byte refl in let f = h.0 in cc
 lacks_all byte (c ∷ w) rest h = lacks_all byte w rest h.1
@@ -37,33 +47,28 @@ one_split byte (c ∷ a) (d ∷ b) x y h k e =
     let more = one_split byte a b x y h.1 k.1 cc in
     (rw (first, more.0) refl, more.1)
 
+-- what both parts lack
 pub lacks_append : (byte : ℕ) (a b : List ℕ) → Lacks byte a → Lacks byte b → Lacks byte (a ++ b)
 lacks_append byte [] b h k = k
 lacks_append byte (c ∷ a) b h k = (h.0, lacks_append byte a b h.1 k)
 
 -- ---- decimal words
 
+-- no digit is below 0
 digits_lack : (byte : ℕ) (w : List ℕ) → byte < 48 → all_ascii_digits w ≡ true → Lacks byte w
 digits_lack byte [] low h = tt
-digits_lack byte (c ∷ w) low h = (ne_eqb c byte (λ e. digit_high c (left (is_ascii_digit c) _ h) e), digits_lack byte w low (right (is_ascii_digit c) _ h))
+digits_lack byte (c ∷ w) low h = (ne_eqb c byte (λ e. apart c (left (is_ascii_digit c) _ h) e), digits_lack byte w low (right (is_ascii_digit c) _ h))
   where
-    left : (a b : Bool) → (a && b) ≡ true → a ≡ true
-    left true b e = refl
-    left false b e = cc
-
-    right : (a b : Bool) → (a && b) ≡ true → b ≡ true
-    right true b e = e
-    right false b e = cc
-
     high : (c : ℕ) → is_ascii_digit c ≡ true → 48 ≤ c
     high c e = grind arith
 
-    digit_high : (c : ℕ) → is_ascii_digit c ≡ true → c ≡ byte → ⊥
-    digit_high c d e = let t = high c d in omega (arith, t, e)
+    apart : (c : ℕ) → is_ascii_digit c ≡ true → c ≡ byte → ⊥
+    apart c d e = let t = high c d in omega (arith, t, e)
 
 pub decimal_lacks : (byte n : ℕ) → byte < 48 → n < 2 ^ 64 → Lacks byte (decimal n)
 decimal_lacks byte n low lt = digits_lack byte (decimal n) low (digits_decimal own n lt)
 
+-- nor is the sign below -
 pub signed_lacks : (byte : ℕ) (z : ℤ) → byte < 45 → FitsSigned w8 z → Lacks byte (signed_decimal z)
 signed_lacks byte (pos n) low f = let t = f.sfits in decimal_lacks byte n (omega arith) (omega (arith, t))
 signed_lacks byte (negsuc n) low f = let t = f.sfits in (ne_eqb 45 byte (λ e. omega (arith, e)), decimal_lacks byte (suc n) (omega arith) (omega (arith, t)))
@@ -98,10 +103,6 @@ pub no_second : (line a rest x y z : List ℕ) → IsSplit 32 line a rest → La
 no_second line a rest x y z p none lx e =
     let first = one_split 32 a x rest (y ++ (32 ∷ z)) p.0 lx (sym p.1 ∙ e) in
     lacks_not 32 rest y z none first.1
-
--- a line of two words and what follows them
-pub of_two : (line a rest b more x y : List ℕ) → IsSplit 32 line a rest → IsSplit 32 rest b more → a ≡ x → b ≡ y → line ≡ x ++ (32 ∷ (y ++ (32 ∷ more)))
-of_two line a rest b more x y p q ex ey = p.1 ∙ ap (λ (t : List ℕ). a ++ (32 ∷ t)) q.1 ∙ ap (λ (t : List ℕ). t ++ (32 ∷ (b ++ (32 ∷ more)))) ex ∙ ap (λ (t : List ℕ). x ++ (32 ∷ (t ++ (32 ∷ more)))) ey
 
 -- bytes that were compared and found different
 pub not_equal : (xs ys zs : List ℕ) → ys ≡ zs → false ≡ bytes_eq xs ys → xs ≡ zs → ⊥

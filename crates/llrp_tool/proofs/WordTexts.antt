@@ -12,15 +12,9 @@ use Rattle.std.specs.Borrow.{Bor}
 use Rattle.tag_uri.specs.TagText.{IsTextOf}
 use Rattle.tag_uri.proofs.TextBytes.{is_visible, visible, text_visible}
 use Rattle.llrp_tool.specs.Encoder.{Lacks}
+use Rattle.llrp_tool.proofs.ScriptWords.{left, right}
 
-left : (a b : Bool) → (a && b) ≡ true → a ≡ true
-left true b e = refl
-left false b e = cc
-
-right : (a b : Bool) → (a && b) ≡ true → b ≡ true
-right true b e = e
-right false b e = cc
-
+-- visible characters are ASCII
 visible_low : (text : List ℕ) → visible text ≡ true → All (λ b. b < 128) text
 visible_low [] h = All-nil (λ b. b < 128)
 visible_low (c ∷ text) h = All-cons (λ b. b < 128) c text (low c (left (is_visible c) _ h)) (visible_low text (right (is_visible c) _ h))
@@ -28,15 +22,16 @@ visible_low (c ∷ text) h = All-cons (λ b. b < 128) c text (low c (left (is_vi
     low : (c : ℕ) → is_visible c ≡ true → c < 128
     low c h = grind arith
 
+-- and neither spaces nor line ends
 visible_lacks : (byte : ℕ) (text : List ℕ) → byte < 33 → visible text ≡ true → Lacks byte text
 visible_lacks byte [] low h = tt
-visible_lacks byte (c ∷ text) low h = (ne_eqb c byte (λ e. high c (left (is_visible c) _ h) e), visible_lacks byte text low (right (is_visible c) _ h))
+visible_lacks byte (c ∷ text) low h = (ne_eqb c byte (λ e. apart c (left (is_visible c) _ h) e), visible_lacks byte text low (right (is_visible c) _ h))
   where
     above : (c : ℕ) → is_visible c ≡ true → 33 ≤ c
     above c h = grind arith
 
-    high : (c : ℕ) → is_visible c ≡ true → c ≡ byte → ⊥
-    high c h e = let t = above c h in omega (arith, t, e)
+    apart : (c : ℕ) → is_visible c ≡ true → c ≡ byte → ⊥
+    apart c h e = let t = above c h in omega (arith, t, e)
 
 -- a word's text is text
 pub utf8_text : (w : ℕ) (text : List ℕ) → IsTextOf w text → IsUtf8 text

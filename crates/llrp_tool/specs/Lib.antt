@@ -20,5 +20,6 @@ pub mod Reading
 pub mod Refused
 pub mod Schema
 pub mod Script
+pub mod ScriptLaws
 pub mod Show
 pub mod Words

@@ -42,5 +42,6 @@ fn negative_of(digits: &[u8]) -> Option<i8>
     if n == 0 {
         return None;
     }
+    // An i8 holds -128, but not 128.
     Some(-1 - (n - 1) as i8)
 }

@@ -13,9 +13,9 @@ mod hexadecimal;
 pub mod laws;
 mod line;
 mod message;
-pub mod script;
+mod script;
 mod show;
-pub mod sighting;
+mod sighting;
 mod words;
 
 pub use command::run_command;

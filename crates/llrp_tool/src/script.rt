@@ -2,6 +2,7 @@
 
 ghost use Rattle.std.specs.Prelude.{◌++◌, ◌<◌, ◌^◌, ◌∷◌, ◌≡◌, ◌↔◌, IfErr, IfOk, IsTrue, MatchOption, [], ℕ};
 ghost use Rattle.tag_uri.specs.TagText.{IsTextOf};
+ghost use Rattle.llrp_tool.specs.Script.{Continues, IsActionInRange, IsActionLine, IsEntryLine, IsInRange, IsLawful, IsScript, IsSightingInRange, IsSightingLine, MayFollow, NoneContinues, ParseStopped};
 
 use crate::decimal::{number_of, signed_byte_of};
 use crate::fault::ToolErr;
@@ -54,10 +55,10 @@ impl Model for Script {
 }
 
 impl Script {
-    ghost use Rattle.llrp_tool.specs.Script.{IsLawful, IsScript, ParseStopped};
-
-    /// The script of a text: lines `AFTER NOW seen ANTENNA RSSI TEXT` or `AFTER NOW tick`, each ended
-    /// by LF, at most 10,000, in which neither AFTER nor NOW falls. TEXT is a tag URI or a raw URI.
+    /// The script of a text: at most 10,000 lines `AFTER NOW seen ANTENNA RSSI TEXT` or `AFTER NOW tick`
+    /// in which neither AFTER nor NOW falls, with single spaces and each ended by LF. The numbers are in
+    /// decimal without leading zeros; RSSI, in dBm, has a `-` where it is negative. TEXT is a tag URI or
+    /// a raw URI (EPC Tag Data Standard 1.13, section 12).
     ///
     /// The errors are `Script` with the first line that is refused, counted from 1, and `Memory`.
     pub fn parse(alloc: Global, text: &[u8]) -> Result<Script, ToolErr>
@@ -87,9 +88,7 @@ impl Script {
     }
 }
 
-ghost use Rattle.llrp_tool.specs.Script.{Continues, IsActionLine, IsActionInRange, IsEntryLine, IsInRange, IsLawful, IsSightingInRange, IsSightingLine, MayFollow, NoneContinues};
-
-/// The entry of a text's first line, where it may follow these, and the text after that line.
+/// The entry that a text's first line says, where it may follow these, and the text after that line.
 fn next_entry<'a>(entries: &[Entry], text: &'a [u8]) -> Option<(Entry, &'a [u8])>
     requires { IsLawful entries.now }
     ensures { MatchOption result
