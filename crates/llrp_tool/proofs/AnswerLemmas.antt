@@ -4,7 +4,7 @@ use Rattle.std.specs.List.{flat_map}
 use Rattle.std.proofs.lemmas.List.{drop_more, take-append-drop}
 use Rattle.std.proofs.lemmas.List.Concat.{flat_map-append}
 use Rattle.llrp_tool.specs.declared.fault.ToolErr.{ToolErr}
-use Rattle.llrp_tool.specs.declared.fault.ToolErr.TheVariants.{Listing, Hex, Read, Write, Bound, Memory}
+use Rattle.llrp_tool.specs.declared.fault.ToolErr.TheVariants.{Listing, Script, Hex, Read, Write, Bound, Memory}
 use Rattle.llrp_tool.specs.Command.{LIMIT, NotEncoded, memory_error}
 use Rattle.llrp_tool.specs.Copying.{Writes}
 use Rattle.llrp_stream.specs.Device.{SourceLog, SinkLog, Wrote}
@@ -20,6 +20,7 @@ writes_stop old mid new done part rest text Write so is stop =
 writes_stop old mid new done part rest text Read so is stop = absurd stop.2
 writes_stop old mid new done part rest text Bound so is stop = absurd stop.2
 writes_stop old mid new done part rest text Memory so is stop = absurd stop.2
+writes_stop old mid new done part rest text (Script at) so is stop = absurd stop.2
 writes_stop old mid new done part rest text Hex so is stop = absurd stop.2
 writes_stop old mid new done part rest text (Listing line reason) so is stop = absurd stop.2
 
@@ -37,4 +38,5 @@ not_encoded r0 r1 m0 m1 Read s = (s.0, s.1, s.3)
 not_encoded r0 r1 m0 m1 Bound s = (s.0, s.2)
 not_encoded r0 r1 m0 m1 Memory s = (s.0, s.2)
 not_encoded r0 r1 m0 m1 Write s = elim s.2 [ inl begun ↦ (begun.0, begun.1) | inr all ↦ (all.0, inr all.2) ]
+not_encoded r0 r1 m0 m1 (Script at) s = s
 not_encoded r0 r1 m0 m1 Hex s = s

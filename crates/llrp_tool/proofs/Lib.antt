@@ -18,9 +18,16 @@ pub mod Numerals
 pub mod OneEpcAnswer
 pub mod Rows
 pub mod Running
+pub mod ScriptDeciding
+pub mod ScriptEntries
+pub mod ScriptLines
+pub mod ScriptTexts
+pub mod ScriptUnique
+pub mod ScriptWords
 pub mod ShowLemmas
 pub mod Standing
 pub mod Telling
 pub mod TextLemmas
 pub mod Unique
 pub mod WordLemmas
+pub mod WordTexts

@@ -5,7 +5,7 @@ use Rattle.std.proofs.lemmas.List.{append-nil}
 use Rattle.std.specs.Io.KnownBytes.{Consumes, Keeps}
 use Rattle.llrp_tool.specs.declared.message.Message.{Message}
 use Rattle.llrp_tool.specs.declared.fault.ToolErr.{ToolErr}
-use Rattle.llrp_tool.specs.declared.fault.ToolErr.TheVariants.{Listing, Hex, Read, Write, Bound, Memory}
+use Rattle.llrp_tool.specs.declared.fault.ToolErr.TheVariants.{Listing, Script, Hex, Read, Write, Bound, Memory}
 use Rattle.llrp_tool.specs.Copying.{MOST_READS, ReadAll}
 use Rattle.llrp_stream.specs.Device.{SourceLog, SinkLog, Gave, Took}
 use Rattle.llrp_tool.specs.Encoder.{StandsAt, Stopped, StoppedAtEnd, WroteEncoding}
@@ -53,6 +53,7 @@ stop_end limit r0 r1 w0 w1 text Write all s = (s.0, s.1, elim s.2 [ inl b ↦ in
 stop_end limit r0 r1 w0 w1 text Memory all s = (text, s.0, inr all, s.1, s.2)
 stop_end limit r0 r1 w0 w1 text Read all s = absurd s
 stop_end limit r0 r1 w0 w1 text Bound all s = absurd s
+stop_end limit r0 r1 w0 w1 text (Script at) all s = absurd s
 stop_end limit r0 r1 w0 w1 text Hex all s = absurd s
 
 -- the encoder stopped before the end
@@ -62,6 +63,7 @@ stop_while limit k r0 r1 w0 w1 text Write gave s = (s.0, s.1, inl (text, inl (k,
 stop_while limit k r0 r1 w0 w1 text Memory gave s = (text, s.0, inl (k, gave), s.1, s.2)
 stop_while limit k r0 r1 w0 w1 text Read gave s = absurd s
 stop_while limit k r0 r1 w0 w1 text Bound gave s = absurd s
+stop_while limit k r0 r1 w0 w1 text (Script at) gave s = absurd s
 stop_while limit k r0 r1 w0 w1 text Hex gave s = absurd s
 
 -- the text ended

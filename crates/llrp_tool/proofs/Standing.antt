@@ -8,7 +8,7 @@ use Rattle.llrp_tool.specs.declared.message.Message.{Message}
 use Rattle.llrp_tool.specs.declared.fault.Refusal.{Refusal}
 use Rattle.llrp_tool.specs.declared.fault.Refusal.TheVariants.{Line}
 use Rattle.llrp_tool.specs.declared.fault.ToolErr.{ToolErr}
-use Rattle.llrp_tool.specs.declared.fault.ToolErr.TheVariants.{Listing, Hex, Read, Write, Bound, Memory}
+use Rattle.llrp_tool.specs.declared.fault.ToolErr.TheVariants.{Listing, Script, Hex, Read, Write, Bound, Memory}
 use Rattle.llrp_tool.specs.Checks.{FirstFailing}
 use Rattle.llrp_tool.specs.Copying.{Writes, HandsOn}
 use Rattle.llrp_stream.specs.Device.{SinkLog, Wrote}
@@ -190,6 +190,7 @@ refusal_stops limit now {start} {mid} later why Write le s bad w = (s.handed ++ 
 refusal_stops limit now later why Memory le s bad w = absurd w
 refusal_stops limit now later why Read le s bad w = absurd w
 refusal_stops limit now later why Bound le s bad w = absurd w
+refusal_stops limit now later why (Script at) le s bad w = absurd w
 refusal_stops limit now later why Hex le s bad w = absurd w
 
 pub refusal_result : (limit : ℕ) (now : SinkLog) {start mid : SinkLog} {text : List ℕ} {pending : Option Message} {number : ℕ} {line out : List ℕ} (later : List ℕ) (why : Refusal) (A : Unit {0} → Type 0) (r : Result (Unit {0}) ToolErr) → 10 ≤ limit → (s : StandsAt start mid text pending number line out)
@@ -212,6 +213,7 @@ refusal_ends limit now {start} {mid} {text} why Write le s bad w = (s.handed ++ 
 refusal_ends limit now why Memory le s bad w = absurd w
 refusal_ends limit now why Read le s bad w = absurd w
 refusal_ends limit now why Bound le s bad w = absurd w
+refusal_ends limit now why (Script at) le s bad w = absurd w
 refusal_ends limit now why Hex le s bad w = absurd w
 
 pub refusal_end : (limit : ℕ) (now : SinkLog) {start mid : SinkLog} {text : List ℕ} {pending : Option Message} {number : ℕ} {line out : List ℕ} (why : Refusal) (A : Unit {0} → Type 0) (r : Result (Unit {0}) ToolErr) → 10 ≤ limit → (s : StandsAt start mid text pending number line out)
@@ -245,6 +247,7 @@ pieces_stop limit now part m out1 (Listing line reason) le s n ok appends w = ab
 pieces_stop limit now part m out1 Memory le s n ok appends w = absurd w.2
 pieces_stop limit now part m out1 Read le s n ok appends w = absurd w.2
 pieces_stop limit now part m out1 Bound le s n ok appends w = absurd w.2
+pieces_stop limit now part m out1 (Script at) le s n ok appends w = absurd w.2
 pieces_stop limit now part m out1 Hex le s n ok appends w = absurd w.2
 
 -- stopped is stopped, whatever follows
@@ -257,6 +260,7 @@ stopped_more limit start now text later Write s = (s.0, s.1, begins_more limit t
 stopped_more limit start now text later Memory s = (s.0, s.1, begins_more limit text later s.0 s.2)
 stopped_more limit start now text later Read s = s
 stopped_more limit start now text later Bound s = s
+stopped_more limit start now text later (Script at) s = s
 stopped_more limit start now text later Hex s = s
 
 -- the text ends
@@ -294,6 +298,7 @@ text_ends limit now line out1 le s none appends (Err (Listing n r)) w = absurd w
 text_ends limit now line out1 le s none appends (Err Memory) w = absurd w.2
 text_ends limit now line out1 le s none appends (Err Read) w = absurd w.2
 text_ends limit now line out1 le s none appends (Err Bound) w = absurd w.2
+text_ends limit now line out1 le s none appends (Err (Script at)) w = absurd w.2
 text_ends limit now line out1 le s none appends (Err Hex) w = absurd w.2
 
 -- one step of the code

@@ -2,7 +2,7 @@
 use Rattle.std.specs.Prelude.{◌≡◌, ℕ, ◌⊎◌, List, [], ◌∷◌, ◌++◌, Bool, true, false, Result, Ok, Err, codes, decimal}
 use Rattle.hex.specs.Hex.{encode_upper}
 use Rattle.llrp_tool.specs.declared.fault.ToolErr.{ToolErr}
-use Rattle.llrp_tool.specs.declared.fault.ToolErr.TheVariants.{Listing, Hex, Read, Write, Bound, Memory}
+use Rattle.llrp_tool.specs.declared.fault.ToolErr.TheVariants.{Listing, Script, Hex, Read, Write, Bound, Memory}
 use Rattle.llrp_tool.specs.declared.fault.Verdict.{Verdict}
 use Rattle.llrp_tool.specs.declared.fault.Verdict.TheVariants.{Lawful, Faulty}
 use Rattle.llrp_tool.specs.Copying.{MOST_READS, GaveAndFailed, IsPrefix, ReadAll, ReadStopped}
@@ -25,6 +25,7 @@ status_of Faulty = 1
 -- the exit status of an error
 abbrev pub error_status : ToolErr → ℕ
 error_status (Listing line reason) = 1
+error_status (Script line) = 1
 error_status Hex = 1
 error_status Read = 3
 error_status Write = 3
@@ -34,6 +35,7 @@ error_status Memory = 3
 -- the line of an error
 unfoldable pub error_line : ToolErr → List ℕ
 error_line (Listing line reason) = codes "llrp: line " ++ (decimal line ++ (codes ": " ++ (refusal_name reason ++ codes "\n")))
+error_line (Script line) = codes "llrp: script line " ++ (decimal line ++ codes "\n")
 error_line Hex = codes "llrp: hex\n"
 error_line Read = codes "llrp: read\n"
 error_line Write = codes "llrp: write\n"
@@ -76,6 +78,7 @@ NotEncoded r0 r1 Read = (n : ℕ) × (front : List ℕ) × GaveAndFailed r0 r1 n
 NotEncoded r0 r1 Bound = (front : List ℕ) × Gave r0 r1 MOST_READS front
 NotEncoded r0 r1 Memory = (front : List ℕ) × WasRead r0 r1 front
 NotEncoded r0 r1 Write = ⊥
+NotEncoded r0 r1 (Script line) = ⊥
 NotEncoded r0 r1 Hex = ⊥
 
 -- the encoding of all that was read, or why there is none
@@ -150,6 +153,7 @@ FailsAsTold e0 e1 error = (error ≡ Memory) ⊎ ((error ≡ Write) × (front : 
 abbrev pub memory_error : ToolErr → ToolErr
 memory_error Write = Memory
 memory_error (Listing line reason) = Listing line reason
+memory_error (Script line) = Script line
 memory_error Hex = Hex
 memory_error Read = Read
 memory_error Bound = Bound

@@ -5,7 +5,7 @@ use Rattle.llrp_tool.specs.declared.message.Message.{Message}
 use Rattle.llrp_tool.specs.declared.encode.Encoder.{Encoder}
 use Rattle.llrp_tool.specs.declared.fault.Refusal.{Refusal}
 use Rattle.llrp_tool.specs.declared.fault.ToolErr.{ToolErr}
-use Rattle.llrp_tool.specs.declared.fault.ToolErr.TheVariants.{Listing, Hex, Read, Write, Bound, Memory}
+use Rattle.llrp_tool.specs.declared.fault.ToolErr.TheVariants.{Listing, Script, Hex, Read, Write, Bound, Memory}
 use Rattle.llrp_tool.specs.Copying.{IsPrefix}
 use Rattle.llrp_stream.specs.Device.{SinkLog, Wrote, WroteAndFailed}
 use Rattle.llrp_tool.specs.Encoding.{AreSpelled, BeginsEncoding, Encodes, Refuses, row}
@@ -68,6 +68,7 @@ Stopped limit w0 w1 front Write = (bytes : List ℕ) × WroteAndFailed w0 w1 byt
 Stopped limit w0 w1 front Memory = (bytes : List ℕ) × Wrote w0 w1 bytes × BeginsEncoding limit front bytes
 Stopped limit w0 w1 front Read = ⊥
 Stopped limit w0 w1 front Bound = ⊥
+Stopped limit w0 w1 front (Script line) = ⊥
 Stopped limit w0 w1 front Hex = ⊥
 
 -- the encoder stopped at the end of this text
@@ -77,6 +78,7 @@ StoppedAtEnd limit w0 w1 text Write = (bytes : List ℕ) × WroteAndFailed w0 w1
 StoppedAtEnd limit w0 w1 text Memory = (bytes : List ℕ) × Wrote w0 w1 bytes × BeginsEncoding limit text bytes
 StoppedAtEnd limit w0 w1 text Read = ⊥
 StoppedAtEnd limit w0 w1 text Bound = ⊥
+StoppedAtEnd limit w0 w1 text (Script line) = ⊥
 StoppedAtEnd limit w0 w1 text Hex = ⊥
 
 -- the encoding of the text was written
@@ -90,6 +92,7 @@ Refusing number out why w0 w1 Write = (front : List ℕ) × IsPrefix front out �
 Refusing number out why w0 w1 Memory = ⊥
 Refusing number out why w0 w1 Read = ⊥
 Refusing number out why w0 w1 Bound = ⊥
+Refusing number out why w0 w1 (Script line) = ⊥
 Refusing number out why w0 w1 Hex = ⊥
 
 -- the frame of the message, if there is one, was appended

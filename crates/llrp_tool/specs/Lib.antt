@@ -19,5 +19,7 @@ pub mod OpenText
 pub mod Reading
 pub mod Refused
 pub mod Schema
+pub mod Script
+pub mod ScriptLaws
 pub mod Show
 pub mod Words

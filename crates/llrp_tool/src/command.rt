@@ -40,7 +40,7 @@ fn error_status(error: ToolErr) -> u8
     ensures { result ≡ error_status error }
 {
     match error {
-        ToolErr::Listing { .. } | ToolErr::Hex => 1,
+        ToolErr::Listing { .. } | ToolErr::Script { .. } | ToolErr::Hex => 1,
         ToolErr::Read | ToolErr::Write | ToolErr::Bound | ToolErr::Memory => 3,
     }
 }
@@ -67,6 +67,11 @@ fn write_error<E: Sink>(e: &mut E, error: ToolErr) -> Result<(), ToolErr>
             let number = digits.format(line).as_bytes();
             let word = reason.name().as_bytes();
             write_parts(e, &[b"llrp: line ", number, b": ", word, b"\n"])
+        }
+        ToolErr::Script { line } => {
+            let mut digits = Buffer::new();
+            let number = digits.format(line).as_bytes();
+            write_parts(e, &[b"llrp: script line ", number, b"\n"])
         }
         ToolErr::Hex => write_all(e, b"llrp: hex\n"),
         ToolErr::Read => write_all(e, b"llrp: read\n"),

@@ -64,6 +64,9 @@ pub enum ToolErr {
     /// A line of a listing, counted from 1, is refused.
     #[error("line {line} of the listing is refused: {reason}")]
     Listing { line: u64, reason: Refusal },
+    /// A line of a script, counted from 1, is refused.
+    #[error("line {line} of the script is refused")]
+    Script { line: u64 },
     /// A text is no hexadecimal digits in pairs.
     #[error("the input is no pairs of hexadecimal digits")]
     Hex,

@@ -7,6 +7,9 @@ ghost use Rattle.llrp_tool.specs.EpcLines.{Prints};
 ghost use Rattle.llrp_tool.specs.Frame.{AreOctets};
 ghost use Rattle.llrp_tool.specs.ItemLaws.{HasOneItem, HasOneListing};
 ghost use Rattle.llrp_tool.specs.ListingLaws.{ListedOrRefused};
+ghost use Rattle.llrp_tool.specs.Script.{IsLawful, IsScript};
+ghost use Rattle.llrp_tool.specs.ScriptLaws.{ScriptOrRefused};
+ghost use Rattle.llrp_tool.specs.declared.script.Entry.{Entry};
 
 /// Each frame has one message or exactly one first fault, and never both.
 pub fn frames_apart()
@@ -28,4 +31,16 @@ pub fn listed_or_refused()
 pub fn one_epc_answer()
     ensures verdict { (text a b : List ℕ) (v w : Verdict) → Prints text v a → Prints text w b → v ≡ w }
     ensures lines { (text a b : List ℕ) (v w : Verdict) → Prints text v a → Prints text w b → a ≡ b }
+{}
+
+/// Lawful entries have exactly one script, and a text is the script of one list of entries at most.
+pub fn one_script()
+    ensures is { (entries : List Entry) → IsLawful entries → (text : List ℕ) × IsScript entries text }
+    ensures one_text { (entries : List Entry) (s t : List ℕ) → IsScript entries s → IsScript entries t → s ≡ t }
+    ensures one_list { (a b : List Entry) (text : List ℕ) → IsScript a text → IsScript b text → a ≡ b }
+{}
+
+/// A text is a script or has exactly one first refused line, and never both.
+pub fn script_or_refused()
+    ensures { (text : List ℕ) → ScriptOrRefused text }
 {}

@@ -4,6 +4,7 @@
 
 mod command;
 mod copying;
+mod decimal;
 mod encode;
 mod epc;
 mod fault;
@@ -12,7 +13,9 @@ mod hexadecimal;
 pub mod laws;
 mod line;
 mod message;
+mod script;
 mod show;
+mod sighting;
 mod words;
 
 pub use command::run_command;
@@ -21,7 +24,9 @@ pub use epc::run_epc;
 pub use fault::{Refusal, ToolErr, Verdict};
 pub use hexadecimal::bytes_of_hex;
 pub use llrp_stream::{Input, Output, Sink, Source};
+pub use script::{Action, Entry, Script};
 pub use show::run_show;
+pub use sighting::Sighting;
 
 #[cfg(test)]
 mod tests;

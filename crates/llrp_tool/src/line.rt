@@ -46,7 +46,7 @@ fn first_word(line: &[u8]) -> (&[u8], Option<&[u8]>)
 
 /// The number whose decimal text of at most 20 digits the word is.
 #[tactic(auto, unfolding(crate::specs::Reading::numeral))]
-fn numeral(word: &[u8]) -> Option<u128>
+pub fn numeral(word: &[u8]) -> Option<u128>
     ensures { result ≡ numeral word.now }
 {
     if word.is_empty() || word.len() > 20 || (word.len() > 1 && word[0] == b'0') {

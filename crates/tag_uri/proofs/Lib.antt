@@ -1,4 +1,5 @@
 pub mod ComponentLemmas
+pub mod Deciding
 pub mod DecimalLemmas
 pub mod GeneralLemmas
 pub mod HexadecimalLemmas
@@ -7,4 +8,5 @@ pub mod PrintLemmas
 pub mod ReadLemmas
 pub mod RowDigits
 pub mod RuleLemmas
+pub mod TextBytes
 pub mod TextLaws

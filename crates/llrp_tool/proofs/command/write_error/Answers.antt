@@ -1,4 +1,4 @@
-use Rattle.std.proofs.Common.{◌≡◌, ℕ, List, ◌++◌, ap₂, subst, ◌∙◌, codes, decimal}
+use Rattle.std.proofs.Common.{◌≡◌, ℕ, List, ◌++◌, ap, ap₂, subst, ◌∙◌, codes, decimal}
 use Rattle.llrp_tool.specs.Command.{error_line}
 use Rattle.llrp_tool.specs.Copying.{Writes}
 use Rattle.llrp_tool.specs.Refused.{refusal_name}
@@ -12,6 +12,14 @@ returns-in-Listing g c =
     rw c.in-Listing.is
     (subst (λ (text : List ℕ). Writes text (g.E.Sink.log c.args.e.now) (g.E.Sink.log c.write_parts.new.w) c.write_parts.result)
     (ap₂ (λ (n w : List ℕ). codes "llrp: line " ++ (n ++ (codes ": " ++ (w ++ codes "\n")))) number word) c.write_parts.ensures)
+
+pub returns-in-Script : goal.returns-in-Script
+unfolding error_line
+returns-in-Script g c =
+    let number : c.as_bytes-number-in-Script.result.now ≡ decimal c.in-Script.line = c.as_bytes-number-in-Script.ensures.value ∙ c.format-in-Script.ensures.text in
+    rw c.in-Script.is
+    (subst (λ (text : List ℕ). Writes text (g.E.Sink.log c.args.e.now) (g.E.Sink.log c.write_parts-in-Script.new.w) c.write_parts-in-Script.result)
+    (ap (λ (n : List ℕ). codes "llrp: script line " ++ (n ++ codes "\n")) number) c.write_parts-in-Script.ensures)
 
 pub returns-in-Hex : goal.returns-in-Hex
 unfolding error_line

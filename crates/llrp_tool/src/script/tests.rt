@@ -1,0 +1,117 @@
+use super::*;
+use std::test::Fail;
+
+/// The line of the refusal.
+fn refused(alloc: Global, text: &[u8]) -> Option<u64> {
+    match Script::parse(alloc, text) {
+        Err(ToolErr::Script { line }) => Some(line),
+        _ => None,
+    }
+}
+
+fn seen(now: u64, antenna: u16, rssi: i8, word: u128) -> Option<Entry> {
+    let epc = Word::new(word)?;
+    Some(Entry {
+        after: 3,
+        now,
+        action: Action::Seen(Sighting { antenna, rssi, epc }),
+    })
+}
+
+#[test]
+fn three_sightings_with_ample_memory(rt: HostRuntime) -> Result<(), Fail> {
+    let text = b"3 1000 seen 1 -60 urn:epc:tag:sgtin-96:3.0614141.812345.6789\n\
+        3 2000 seen 1 -61 urn:epc:tag:sscc-96:0.0614141.0000000001\n\
+        3 3000 seen 2 -62 urn:epc:tag:gid-96:1.2.3\n";
+    let script = Script::parse(rt.alloc(), text)?;
+    let entries = [
+        seen(1000, 1, -60, 0x3074_257B_F719_4E40_0000_1A85).ok_or("no word")?,
+        seen(2000, 1, -61, 0x3114_257B_F400_0000_0100_0000).ok_or("no word")?,
+        seen(3000, 2, -62, 0x3500_0000_1000_0020_0000_0003).ok_or("no word")?,
+    ];
+    assert_eq!(rt; script.entries(), entries.as_slice());
+    Ok(())
+}
+
+#[test]
+fn ticks_and_the_greatest_numbers(rt: HostRuntime) -> Result<(), Fail> {
+    let text = b"0 5 tick\n\
+        3 5 seen 0 127 urn:epc:raw:96.x000000000000000000000001\n\
+        3 5 seen 65535 -128 urn:epc:raw:96.x000000000000000000000001\n\
+        18446744073709551615 18446744073709551615 tick\n";
+    let script = Script::parse(rt.alloc(), text)?;
+    let entries = [
+        Entry {
+            after: 0,
+            now: 5,
+            action: Action::Tick,
+        },
+        seen(5, 0, 127, 1).ok_or("no word")?,
+        seen(5, 65535, -128, 1).ok_or("no word")?,
+        Entry {
+            after: u64::MAX,
+            now: u64::MAX,
+            action: Action::Tick,
+        },
+    ];
+    assert_eq!(rt; script.entries(), entries.as_slice());
+    Ok(())
+}
+
+#[test]
+fn empty(rt: HostRuntime) -> Result<(), Fail> {
+    let script = Script::parse(rt.alloc(), b"")?;
+    assert!(rt; script.entries().is_empty());
+    Ok(())
+}
+
+#[test]
+fn refused_lines(rt: HostRuntime) {
+    let rows: [(&[u8], u64); 23] = [
+        (b"0 5 tick\n0 4 tick\n", 2),
+        (b"1 5 tick\n0 5 tick\n", 2),
+        (b"0 0 seen 1 -129 urn:epc:tag:gid-96:1.2.3\n", 1),
+        (b"0 0 seen 1 128 urn:epc:tag:gid-96:1.2.3\n", 1),
+        (b"0 0 seen 1 -0 urn:epc:tag:gid-96:1.2.3\n", 1),
+        (b"0 0 seen 1 -01 urn:epc:tag:gid-96:1.2.3\n", 1),
+        (b"0 0 seen 1 +1 urn:epc:tag:gid-96:1.2.3\n", 1),
+        (b"0 0 seen 65536 1 urn:epc:tag:gid-96:1.2.3\n", 1),
+        (b"0 0 seen -1 1 urn:epc:tag:gid-96:1.2.3\n", 1),
+        (b"0 0 seen 1 1 urn:epc:tag:gid-96:1.2\n", 1),
+        (b"0 0 seen 1 1 urn:epc:tag:gid-96:1.2.3 \n", 1),
+        (b"0 0 seen 1 1\n", 1),
+        (b"0 0 Seen 1 1 urn:epc:tag:gid-96:1.2.3\n", 1),
+        (b"0 5 tick", 1),
+        (b"0 5 tick\n0 5 tick", 2),
+        (b"0 5 tick\r\n", 1),
+        (b"0 5  tick\n", 1),
+        (b" 0 5 tick\n", 1),
+        (b"00 5 tick\n", 1),
+        (b"0 05 tick\n", 1),
+        (b"0 18446744073709551616 tick\n", 1),
+        (b"0 5 tock\n", 1),
+        (b"0 5 tick\n\n", 2),
+    ];
+    for (text, line) in rows {
+        assert_eq!(rt; refused(rt.alloc(), text), Some(line));
+    }
+}
+
+#[test]
+fn raw_uri_of_an_epc(rt: HostRuntime) {
+    let text = b"0 0 seen 1 1 urn:epc:raw:96.x3074257BF7194E4000001A85\n";
+    assert_eq!(rt; refused(rt.alloc(), text), Some(1));
+}
+
+#[test]
+fn at_most_ten_thousand_lines(rt: HostRuntime) -> Result<(), Fail> {
+    let mut text = Vec::new(rt.alloc());
+    for _ in 0..10_000 {
+        text.extend_from_slice(b"0 0 tick\n")?;
+    }
+    let script = Script::parse(rt.alloc(), text.as_slice())?;
+    assert_eq!(rt; script.entries().len(), 10_000);
+    text.extend_from_slice(b"0 0 tick\n")?;
+    assert_eq!(rt; refused(rt.alloc(), text.as_slice()), Some(10_001));
+    Ok(())
+}
