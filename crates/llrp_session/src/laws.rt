@@ -1,0 +1,25 @@
+//! Laws of the two machines, over every list of events.
+
+ghost use Rattle.llrp_session.specs.Sightings.{AfterAllEvents, ReportsInOrder, OverflowsTold, HoldsFewEnough, OneActive as OneIsActive};
+ghost use Rattle.llrp_session.specs.Agreement.{AfterAll, ViewCatchesUp, ViewIsTable, ReportsArrive, ReportsAreKept, OneActive, NothingIsUnexpected, PendingIsOnTheWay, NothingIsPending};
+
+/// Whatever happens to a reader, no sighting that counts is lost but those of which an overflow event tells, and none is
+/// reported twice.
+pub fn sightings_kept()
+    ensures reports_in_order { AfterAllEvents ReportsInOrder }
+    ensures overflows_told { AfterAllEvents OverflowsTold }
+    ensures holds_few_enough { AfterAllEvents HoldsFewEnough }
+    ensures one_active { AfterAllEvents OneIsActive }
+{}
+
+/// Whatever happens to a client and a reader with whole messages on the way between them, the two ends agree.
+pub fn ends_agree_whole()
+    ensures view_catches_up { AfterAll ViewCatchesUp }
+    ensures view_is_table { AfterAll ViewIsTable }
+    ensures reports_arrive { AfterAll ReportsArrive }
+    ensures reports_are_kept { AfterAll ReportsAreKept }
+    ensures one_active { AfterAll OneActive }
+    ensures nothing_is_unexpected { AfterAll NothingIsUnexpected }
+    ensures pending_is_on_the_way { AfterAll PendingIsOnTheWay }
+    ensures nothing_is_pending { AfterAll NothingIsPending }
+{}
