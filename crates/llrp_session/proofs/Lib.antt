@@ -1,4 +1,3 @@
-pub mod ReaderRows
 pub mod States
 pub mod Orderly
 pub mod Following
@@ -6,3 +5,7 @@ pub mod TakingIn
 pub mod StandingTogether
 pub mod Keeping
 pub mod Worlds
+pub mod Examples
+pub mod ReaderExchanges
+pub mod ClientExchanges
+pub mod WorldExchange
