@@ -5,12 +5,12 @@ use Rattle.llrp_tree.specs.Tree.{Tree}
 use Rattle.llrp_session.specs.Table.{IsOrderly, IsRising, active_count, states}
 use Rattle.llrp_session.specs.Words.{ReaderMessage, ClientMessage, heard, request}
 use Rattle.llrp_session.specs.Refusal.{Refusal}
-use Rattle.llrp_session.specs.ReaderMachine.{Turn, ReaderEvent, Connect, Take, Seen, Tick, next}
-use Rattle.llrp_session.specs.Sightings.{tags_of, kept_by, dropped_by}
+use Rattle.llrp_session.specs.ReaderMachine.{Reader, Turn, ReaderEvent, Connect, Take, Seen, Tick, next}
+use Rattle.llrp_session.specs.Sightings.{tags_of, kept_by, dropped_by, History, history, goes_on, extended, no_history}
 use Rattle.llrp_session.specs.ClientMachine.{Client, Pending, Sending, Taking, take, command}
 use Rattle.llrp_session.specs.World.{World, WorldEvent, Connects, Commands, DeliversUp, DeliversDown, Sees, Ticks, happens, run, opening, stepped, commanded, took, delivered_up, delivered_down, reader_does}
-use Rattle.llrp_session.specs.Agreement.{AfterAll, ViewCatchesUp, ViewIsTable, ReportsArrive, ReportsAreKept, OneActive, NothingIsUnexpected, PendingIsOnTheWay, NothingIsPending, IsTaken, AreTaken, taken_in, and_then, requests, responses, IsOnTheWay}
-use Rattle.llrp_session.proofs.StandingTogether.{StandsTogether, together-run, together-opening, on_the_way}
+use Rattle.llrp_session.specs.Agreement.{AfterAll, ViewCatchesUp, ViewIsTable, ReportsArrive, ReportsAreKept, ReaderHasHistory, OneActive, NothingIsUnexpected, PendingIsOnTheWay, NothingIsPending, IsTaken, AreTaken, taken_in, and_then, requests, responses, IsOnTheWay}
+use Rattle.llrp_session.proofs.StandingTogether.{StandsTogether, together-run, together-opening, on_the_way, tags_of-append}
 use Rattle.llrp_session.proofs.Keeping.{KeptNext, kept-next}
 
 -- ---- the reader's side
@@ -67,6 +67,76 @@ keeps_always limit r c es = keeps-run es (opening limit r c) (record { reports =
 together : (limit reader_first client_first : ℕ) (es : List WorldEvent) → StandsTogether (run es (opening limit reader_first client_first))
 together limit r c es = together-run es (opening limit r c) (together-opening limit r c)
 
+-- ---- the reader's history
+
+history-one_more : (es : List (ℕ × ReaderEvent)) (e : ℕ × ReaderEvent) (h : History) → history (es ++ e ∷ []) h ≡ goes_on (history es h) e
+history-one_more [] e h = refl
+history-one_more (x ∷ es) e h = history-one_more es e (goes_on h x)
+
+-- this history ends with the reader of the world, and with its reports
+record IsHistoryOf (w : World) (h : History) : Type 0 where
+  pub reader : h.reader ≡ w.reader
+  pub reported : tags_of h.sent ≡ w.reported
+  pub kept : h.kept ≡ w.kept
+
+history-stepped : (w : World) (h : History) (n : Result Turn Refusal) (tags : List Tree) (d : ℕ) → IsHistoryOf w h → IsHistoryOf (stepped n tags w) (extended n tags d h)
+history-stepped w h (Err refusal) tags d a = a
+history-stepped w h (Ok t) tags d a =
+    record {
+      reader = refl;
+      reported = tags_of-append h.sent t.sent ∙ ap (λ ts. ts ++ tags_of t.sent) a.reported;
+      kept = ap (λ ts. ts ++ tags) a.kept;
+    }
+
+history-reader : (w : World) (now : ℕ) (e : ReaderEvent) → ReaderHasHistory w → ReaderHasHistory (reader_does now e w)
+history-reader w now e a =
+    let h : History = history a.events (no_history a.limit a.first_id) in
+    let more : IsHistoryOf (reader_does now e w) (goes_on h (now, e)) =
+    subst (λ (r : Reader). IsHistoryOf (stepped (next now e r) (kept_by now e r) w) (goes_on h (now, e))) a.reader
+    (history-stepped w h (next now e h.reader) (kept_by now e h.reader) (dropped_by now e h.reader) (record { reader = a.reader; reported = a.reported; kept = a.kept })) in
+    let same = history-one_more a.events (now, e) (no_history a.limit a.first_id) in
+    record {
+      limit = a.limit;
+      first_id = a.first_id;
+      events = a.events ++ (now, e) ∷ [];
+      reader = ap (λ (x : History). x.reader) same ∙ more.reader;
+      reported = ap (λ (x : History). tags_of x.sent) same ∙ more.reported;
+      kept = ap (λ (x : History). x.kept) same ∙ more.kept;
+    }
+
+-- a world with the same reader and the same reports
+history-same : (w v : World) → v.reader ≡ w.reader → v.reported ≡ w.reported → v.kept ≡ w.kept → ReaderHasHistory w → ReaderHasHistory v
+history-same w v r s k a =
+    record { limit = a.limit; first_id = a.first_id; events = a.events; reader = a.reader ∙ sym r; reported = a.reported ∙ sym s; kept = a.kept ∙ sym k }
+
+history-commanded : (w : World) (r : Result Sending Refusal) → ReaderHasHistory w → ReaderHasHistory (commanded r w)
+history-commanded w (Ok s) a = history-same w (commanded (Ok s) w) refl refl refl a
+history-commanded w (Err refusal) a = a
+
+history-took : (w : World) (r : Result Taking Refusal) → ReaderHasHistory w → ReaderHasHistory (took r w)
+history-took w (Ok k) a = history-same w (took (Ok k) w) refl refl refl a
+history-took w (Err refusal) a = a
+
+history-down : (w : World) (ms : List ReaderMessage) → ReaderHasHistory w → ReaderHasHistory (delivered_down ms w)
+history-down w [] a = a
+history-down w (m ∷ ms) a = history-took (record w { down = ms }) (take w.client m.id (heard m.word)) (history-same w (record w { down = ms }) refl refl refl a)
+
+history-up : (w : World) (now : ℕ) (ms : List ClientMessage) → ReaderHasHistory w → ReaderHasHistory (delivered_up now ms w)
+history-up w now [] a = a
+history-up w now (m ∷ ms) a = history-reader (record w { up = ms }) now (Take 1 m.id (request m.word)) (history-same w (record w { up = ms }) refl refl refl a)
+
+history-happens : (w : World) (e : WorldEvent) → ReaderHasHistory w → ReaderHasHistory (happens w e)
+history-happens w (Connects now) a = history-reader w now Connect a
+history-happens w (Commands k) a = history-commanded w (command w.client k) a
+history-happens w (DeliversUp now) a = history-up w now w.up a
+history-happens w DeliversDown a = history-down w w.down a
+history-happens w (Sees now g) a = history-reader w now (Seen g) a
+history-happens w (Ticks now) a = history-reader w now Tick a
+
+history-run : (es : List WorldEvent) (w : World) → ReaderHasHistory w → ReaderHasHistory (run es w)
+history-run [] w a = a
+history-run (e ∷ es) w a = history-run es (happens w e) (history-happens w e a)
+
 -- ---- the clauses
 
 pub view_catches_up : AfterAll ViewCatchesUp
@@ -89,6 +159,11 @@ pub reports_are_kept : AfterAll ReportsAreKept
 reports_are_kept limit r c es =
     let w = run es (opening limit r c) in
     ap (λ ts. ts ++ w.reader.held) (reports_arrive limit r c es) ∙ (keeps_always limit r c es).reports
+
+pub reader_has_history : AfterAll ReaderHasHistory
+unfolding tags_of
+reader_has_history limit r c es =
+    history-run es (opening limit r c) (record { limit = limit; first_id = r; events = []; reader = refl; reported = refl; kept = refl })
 
 pub one_active : AfterAll OneActive
 one_active limit r c es = (keeps_always limit r c es).table.one_active

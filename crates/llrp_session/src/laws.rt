@@ -1,7 +1,7 @@
 //! Laws of the two machines, over every list of events.
 
 ghost use Rattle.llrp_session.specs.Sightings.{AfterAllEvents, ReportsInOrder, OverflowsTold, HoldsFewEnough, OneActive as OneIsActive};
-ghost use Rattle.llrp_session.specs.Agreement.{AfterAll, ViewCatchesUp, ViewIsTable, ReportsArrive, ReportsAreKept, OneActive, NothingIsUnexpected, PendingIsOnTheWay, NothingIsPending};
+ghost use Rattle.llrp_session.specs.Agreement.{AfterAll, ViewCatchesUp, ViewIsTable, ReportsArrive, ReportsAreKept, ReaderHasHistory, OneActive, NothingIsUnexpected, PendingIsOnTheWay, NothingIsPending};
 
 /// Whatever happens to a reader, no sighting that counts is lost but those of which an overflow event tells, and none is
 /// reported twice.
@@ -18,6 +18,7 @@ pub fn ends_agree_whole()
     ensures view_is_table { AfterAll ViewIsTable }
     ensures reports_arrive { AfterAll ReportsArrive }
     ensures reports_are_kept { AfterAll ReportsAreKept }
+    ensures reader_has_history { AfterAll ReaderHasHistory }
     ensures one_active { AfterAll OneActive }
     ensures nothing_is_unexpected { AfterAll NothingIsUnexpected }
     ensures pending_is_on_the_way { AfterAll PendingIsOnTheWay }

@@ -1,4 +1,4 @@
-use Rattle.llrp_session.proofs.Worlds.{view_catches_up, view_is_table, reports_arrive, reports_are_kept, one_active, nothing_is_unexpected, pending_is_on_the_way, nothing_is_pending}
+use Rattle.llrp_session.proofs.Worlds.{view_catches_up, view_is_table, reports_arrive, reports_are_kept, reader_has_history, one_active, nothing_is_unexpected, pending_is_on_the_way, nothing_is_pending}
 use Rattle.llrp_session.proofs.laws.ends_agree_whole.Goals as goal
 
 pub returns : goal.returns
@@ -7,6 +7,7 @@ returns c = record {
   view_is_table = view_is_table;
   reports_arrive = reports_arrive;
   reports_are_kept = reports_are_kept;
+  reader_has_history = reader_has_history;
   one_active = one_active;
   nothing_is_unexpected = nothing_is_unexpected;
   pending_is_on_the_way = pending_is_on_the_way;
