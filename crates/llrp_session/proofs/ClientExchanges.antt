@@ -1,13 +1,13 @@
 -- Worked exchanges of the client, computed on the machine: limit 65,536, first id 1 where no other is named.
-use Rattle.std.proofs.Common.{◌≡◌, ℕ, refl, List, [], ◌∷◌, ◌++◌}
-use Rattle.std.specs.Prelude.{Option, None, Some, true, false, Result, Ok, Err}
+use Rattle.std.proofs.Common.{◌≡◌, ℕ, refl, List, [], ◌∷◌}
+use Rattle.std.specs.Prelude.{Option, None, Some, false, Result, Ok, Err}
 use Rattle.llrp_schema.specs.Schema.{number_of, rule_of, param_rule, fields_of, tail_of, is_tv}
 use Rattle.llrp_tree.specs.Lawful.{body_octets}
 use Rattle.llrp_session.specs.RoSpec.{rospec_of, report_spec_of}
-use Rattle.llrp_session.specs.Table.{RoState, Disabled, Inactive, Active, change_view, view_without, enter_view, viewed_state}
-use Rattle.llrp_session.specs.Words.{Adding, Enabling, Closing, Accepted, Started, Response, Error, KeepaliveSent, ReaderWord, heard, Heard, HeardNotification, HeardOther, HeardResponse, HeardError, HeardKeepalive, Command, Add, Enable, GetReport, Close, Asks, Acknowledges, ClientMessage}
+use Rattle.llrp_session.specs.Table.{Disabled, Active, change_view, view_without, enter_view, viewed_state}
+use Rattle.llrp_session.specs.Words.{Adding, Enabling, Closing, Accepted, Started, Response, KeepaliveSent, heard, Heard, HeardNotification, HeardKeepalive, Command, Add, Enable, GetReport, Close, Asks, Acknowledges, ClientMessage}
 use Rattle.llrp_session.specs.Refusal.{Refusal, Closed as ClosedRefusal, NotReady, Busy, OverLimit, IdsSpent, Unexpected}
-use Rattle.llrp_session.specs.ClientMachine.{Client, Fresh, Ready, Closed, Pending, Taken, Connected, Refused, Reply, Tags, Event, Note, Kept, ConnectionEnded, Taking, Sending, new_client, take, command}
+use Rattle.llrp_session.specs.ClientMachine.{Client, Closed, Taken, Connected, Refused, Reply, Event, Note, Kept, ConnectionEnded, Taking, Sending, new_client, take, command}
 use Rattle.llrp_session.proofs.Examples.{rospec}
 
 -- ---- the exchanges' steps

@@ -2,7 +2,7 @@
 use Rattle.std.specs.Prelude.{ℕ, ℤ, negsuc, List, [], ◌∷◌, ◌++◌}
 use Rattle.llrp_schema.specs.declared.kinds.ParamKind.{ParamKind}
 use Rattle.llrp_schema.specs.declared.kinds.ParamKind.TheVariants.{RoSpec, RoBoundarySpec, RoSpecStartTrigger, RoSpecStopTrigger, AiSpec, AiSpecStopTrigger, InventoryParameterSpec, RoReportSpec, TagReportContentSelector, TagReportData, Epc96, AntennaId, PeakRssi}
-use Rattle.llrp_tree.specs.Tree.{Tree, none, forest}
+use Rattle.llrp_tree.specs.Tree.{Tree, forest}
 use Rattle.llrp_session.specs.TagReport.{Sighting}
 
 -- a parameter without a tail

@@ -1,12 +1,12 @@
 -- No report is lost unsaid, and none is sent twice.
-use Rattle.std.proofs.Common.{◌≡◌, ℕ, suc, ◌<◌, ◌≤◌, refl, sym, ◌∙◌, ap, subst, Bool, true, false, cond, List, [], ◌∷◌, ◌++◌, length, ◌⊎◌, ◌+◌, arith, append_assoc, append-nil, length-append}
-use Rattle.std.specs.Prelude.{◌==◌, ◌&&◌, ◌||◌, not, nat_lt, nat_le, Option, None, Some, is_none, Result, Ok, Err}
+use Rattle.std.proofs.Common.{◌≡◌, ℕ, suc, ◌<◌, ◌≤◌, refl, sym, ◌∙◌, ap, subst, Bool, true, false, cond, List, [], ◌∷◌, ◌++◌, length, ◌+◌, arith, append_assoc, append-nil, length-append}
+use Rattle.std.specs.Prelude.{◌==◌, ◌&&◌, ◌||◌, nat_le, Option, None, Some, is_none, Result, Ok, Err}
 use Rattle.std.proofs.lemmas.Bool.Decides.{nat_tests}
 use Rattle.llrp_tree.specs.Tree.{Tree}
 use Rattle.llrp_session.specs.RoSpec.{RoSpec, rospec_of}
 use Rattle.llrp_session.specs.Table.{RoState, Entry, Inactive, Active, change, without, enter, names, setting, enabling, disabling, active, first_immediate, is_active, is_inactive, state_of, active_count, IsRising, IsOrderly}
 use Rattle.llrp_session.specs.TagReport.{Sighting, tag_report}
-use Rattle.llrp_session.specs.Words.{ReaderWord, Response, Error, Report, KeepaliveSent, Overflowed, Ended, ReaderMessage, Adding, Deleting, Starting, Stopping, Enabling, Disabling, Configuring, Closing, Config, Request, AddRoSpec, DeleteRoSpec, StartRoSpec, StopRoSpec, EnableRoSpec, DisableRoSpec, SetReaderConfig, GetReports, CloseConnection, NoRequest, Unsupported}
+use Rattle.llrp_session.specs.Words.{Response, KeepaliveSent, Overflowed, Ended, ReaderMessage, Adding, Deleting, Starting, Stopping, Enabling, Disabling, Configuring, Request, AddRoSpec, DeleteRoSpec, StartRoSpec, StopRoSpec, EnableRoSpec, DisableRoSpec, SetReaderConfig, GetReports, CloseConnection, NoRequest, Unsupported}
 use Rattle.llrp_session.specs.Refusal.{Refusal}
 use Rattle.llrp_session.specs.ReaderMachine.{Reader, Turn, Keepalive, ReaderPhase, Waiting, Up, Down, tell, reply, with_reader, with_table, send_held, set_state, start, end, end_if, start_if_idle, serve, see, tick, keep_alive, keepalive_from, configured, begun, is_known, add_status, effective_report, sends_at_end, has_state, is_bad_report, is_bad_keepalive, hold, send_if_enough, is_enough, is_over, is_full, counting, ReaderEvent, Connect, Take, TakeBad, Seen, Tick, next, next_in, connect}
 use Rattle.llrp_session.specs.Sightings.{tags_in, tags_of, is_overflow, overflows, report_by, counted_in, kept_by, dropped_by, History, history, goes_on, extended, no_history, AfterAllEvents, ReportsInOrder, OverflowsTold, HoldsFewEnough, OneActive}

@@ -1,9 +1,9 @@
 -- A reader's table stays in order, with one active ROSpec at most.
-use Rattle.std.proofs.Common.{◌≡◌, ℕ, suc, ◌<◌, ◌≤◌, refl, sym, ◌∙◌, ap, subst, Bool, true, false, cond, List, [], ◌∷◌, ◌++◌, length, ◌⊎◌, ◌+◌, arith, append_assoc, append-nil, length-append}
-use Rattle.std.specs.Prelude.{◌==◌, ◌&&◌, ◌||◌, not, nat_lt, nat_le, Option, None, Some}
+use Rattle.std.proofs.Common.{◌≡◌, ℕ, suc, ◌<◌, ◌≤◌, refl, sym, subst, Bool, true, false, cond, List, [], ◌∷◌, arith}
+use Rattle.std.specs.Prelude.{◌==◌, nat_lt, None, Some}
 use Rattle.std.proofs.lemmas.Bool.Decides.{nat_tests}
 use Rattle.llrp_session.specs.RoSpec.{RoSpec}
-use Rattle.llrp_session.specs.Table.{RoState, Entry, Disabled, Inactive, Active, change, without, enter, names, setting, enabling, enabled, disabling, active, first_immediate, is_active, is_inactive, state_of, active_count, AllAbove, IsRising, IsOrderly}
+use Rattle.llrp_session.specs.Table.{RoState, Entry, Disabled, Inactive, Active, change, without, enter, names, setting, enabling, enabled, disabling, active, is_active, active_count, AllAbove, IsRising}
 
 -- ---- order
 

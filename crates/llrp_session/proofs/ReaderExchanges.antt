@@ -1,16 +1,16 @@
 -- Worked exchanges of the reader, computed on the machine: limit 65,536, first own id 1.
-use Rattle.std.proofs.Common.{◌≡◌, ℕ, refl, List, [], ◌∷◌, ◌++◌, length}
-use Rattle.std.specs.Prelude.{Option, None, Some, true, false, replicate, Result, Ok, Err}
+use Rattle.std.proofs.Common.{◌≡◌, ℕ, refl, List, [], ◌∷◌, ◌++◌}
+use Rattle.std.specs.Prelude.{None, Some, false, replicate, Err}
 use Rattle.llrp_schema.specs.Schema.{number_of, rule_of, param_rule, fields_of, tail_of, is_tv}
 use Rattle.llrp_tree.specs.Lawful.{body_octets}
 use Rattle.llrp_tree.specs.declared.fault.Reason.TheVariants.{Version, MessageType}
 use Rattle.llrp_session.specs.RoSpec.{rospec_of, report_spec_of}
-use Rattle.llrp_session.specs.Table.{RoState, Disabled, Inactive, Active, change, without, enter, state_of, octets_of, active, first_immediate}
+use Rattle.llrp_session.specs.Table.{Disabled, Inactive, Active, change, without, enter, state_of, octets_of, active, first_immediate}
 use Rattle.llrp_session.specs.TagReport.{tag_report}
-use Rattle.llrp_session.specs.Words.{Adding, Starting, Stopping, Enabling, Disabling, Configuring, Closing, AddRoSpec, StartRoSpec, StopRoSpec, EnableRoSpec, DisableRoSpec, SetReaderConfig, GetReports, CloseConnection, NoRequest, Unsupported, Response, Error, Report, KeepaliveSent, Accepted, Started, Ended, Overflowed, ReaderWord, ReaderMessage}
+use Rattle.llrp_session.specs.Words.{Adding, Starting, Stopping, Enabling, Disabling, Configuring, Closing, AddRoSpec, StartRoSpec, StopRoSpec, EnableRoSpec, DisableRoSpec, SetReaderConfig, GetReports, CloseConnection, Unsupported, Response, Error, Report, KeepaliveSent, Accepted, Started, Ended, Overflowed, ReaderWord, ReaderMessage}
 use Rattle.llrp_session.specs.Refusal.{Closed, NotConnected, AlreadyUp}
 use Rattle.llrp_session.specs.ReaderMachine.{Reader, ReaderEvent, Connect, Take, TakeBad, Seen, Tick, new_reader, next, serve, end, configured, see, tick}
-use Rattle.llrp_session.specs.Sightings.{History, history, no_history}
+use Rattle.llrp_session.specs.Sightings.{history, no_history}
 use Rattle.llrp_session.proofs.Examples.{rospec, immediate_rospec, reporting_rospec, first_sighting, first_report}
 
 -- ---- the exchanges' events and messages

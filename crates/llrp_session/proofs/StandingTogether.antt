@@ -1,17 +1,16 @@
 -- After every event the client that took all that is on the way stands where the reader stands.
-use Rattle.std.proofs.Common.{◌≡◌, ℕ, refl, sym, ◌∙◌, ap, subst, Bool, true, false, cond, List, [], ◌∷◌, ◌++◌, ◌⊎◌, inl, inr, arith, append_assoc, append-nil}
-use Rattle.std.specs.Prelude.{◌+◌, ◌==◌, nat_lt, Option, None, Some, is_some, Result, Ok, Err}
+use Rattle.std.proofs.Common.{◌≡◌, ℕ, refl, sym, ◌∙◌, ap, subst, true, false, cond, List, [], ◌∷◌, ◌++◌, inl, inr, append_assoc, append-nil}
+use Rattle.std.specs.Prelude.{◌+◌, Option, None, Some, is_some, Ok, Err}
 use Rattle.llrp_tree.specs.Tree.{Tree}
-use Rattle.llrp_tree.specs.declared.fault.Reason.{Reason}
 use Rattle.llrp_session.specs.Table.{states, active}
 use Rattle.llrp_session.specs.TagReport.{Sighting}
-use Rattle.llrp_session.specs.Words.{Report, Response, Accepted, ReaderMessage, heard, Command, Add, Delete, Start, Stop, Enable, Disable, SetKeepalive, GetReport, Close, requested, request, ClientWord, Asks, Acknowledges, ClientMessage, Closing}
+use Rattle.llrp_session.specs.Words.{Accepted, ReaderMessage, heard, Command, Add, Delete, Start, Stop, Enable, Disable, SetKeepalive, GetReport, Close, request, ClientWord, Asks, Acknowledges, ClientMessage, Closing}
 use Rattle.llrp_session.specs.Refusal.{Refusal, Busy, OverLimit, IdsSpent}
 use Rattle.llrp_session.specs.ReaderMachine.{Reader, Turn, ReaderPhase, Waiting, Up, Down, ReaderEvent, Connect, Take, Seen, Tick, next, next_in, connect, serve, counting, begun}
 use Rattle.llrp_session.specs.Sightings.{tags_of, tags_in, kept_by}
-use Rattle.llrp_session.specs.ClientMachine.{Client, ClientPhase, Fresh, Ready, Closed, Pending, Sending, Taking, sending, command, sent_unless, refused_in, awaited, take, take_in, is_over_limit, are_spent, closed, cleared}
-use Rattle.llrp_session.specs.World.{World, WorldEvent, Connects, Commands, DeliversUp, DeliversDown, Sees, Ticks, happens, run, opening, stepped, reader_does, commanded, took, delivered_up, delivered_down, tags_handed_out}
-use Rattle.llrp_session.specs.Agreement.{taken_in, and_then, requests, responses, as_list, awaited_by, IsOnTheWay}
+use Rattle.llrp_session.specs.ClientMachine.{Client, ClientPhase, Fresh, Ready, Closed, Pending, sending, command, sent_unless, refused_in, awaited, take, take_in, is_over_limit, are_spent, closed, cleared}
+use Rattle.llrp_session.specs.World.{World, WorldEvent, Connects, Commands, DeliversUp, DeliversDown, Sees, Ticks, happens, run, opening, stepped, commanded, took, delivered_up, delivered_down, tags_handed_out}
+use Rattle.llrp_session.specs.Agreement.{taken_in, and_then, requests, as_list, awaited_by, IsOnTheWay}
 use Rattle.llrp_session.proofs.Following.{Follows, taken_in-append, follows-serve, follows-see, follows-tick, follows-send_held, ClosesNot, awaited_response, request_with}
 use Rattle.llrp_session.proofs.TakingIn.{with_pending, settled, awaited_once, hands_out}
 

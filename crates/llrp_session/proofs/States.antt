@@ -1,5 +1,5 @@
 -- What a change of the table is to its states.
-use Rattle.std.proofs.Common.{◌≡◌, ℕ, refl, sym, ◌∙◌, ap, Bool, true, false, cond, List, [], ◌∷◌}
+use Rattle.std.proofs.Common.{◌≡◌, ℕ, refl, ap, true, false, cond, List, [], ◌∷◌}
 use Rattle.std.specs.Prelude.{◌==◌, nat_lt}
 use Rattle.llrp_session.specs.RoSpec.{RoSpec}
 use Rattle.llrp_session.specs.Table.{RoState, Entry, Viewed, Disabled, states, change, change_view, without, view_without, enter, enter_view, names}

@@ -1,12 +1,12 @@
 -- What a client makes of what a reader sends.
-use Rattle.std.proofs.Common.{◌≡◌, ℕ, refl, sym, ◌∙◌, ap, subst, Bool, true, false, cond, List, [], ◌∷◌, ◌++◌, ◌⊎◌, inl, inr, ◌+◌, arith, append_assoc}
-use Rattle.std.specs.Prelude.{◌==◌, ◌&&◌, Option, None, Some, Result, Ok, Err}
+use Rattle.std.proofs.Common.{◌≡◌, ℕ, refl, sym, ◌∙◌, ap, true, false, cond, List, [], ◌∷◌, ◌⊎◌, inl, inr, arith}
+use Rattle.std.specs.Prelude.{◌==◌, Option, None, Some, Result, Ok, Err}
 use Rattle.std.proofs.lemmas.Bool.Decides.{nat_tests}
 use Rattle.llrp_session.specs.Table.{RoState}
 use Rattle.llrp_session.specs.Words.{ReaderWord, Response, Error, Report, KeepaliveSent, Accepted, Started, Ended, Overflowed, ReaderMessage, heard, Operation, Adding, Deleting, Starting, Stopping, Enabling, Disabling, Configuring, Closing, RoSpecChange}
 use Rattle.llrp_session.specs.Refusal.{Refusal}
 use Rattle.llrp_session.specs.Sightings.{tags_in}
-use Rattle.llrp_session.specs.ClientMachine.{Client, ClientPhase, Fresh, Ready, Closed, Pending, Taking, Taken, Reply, take, take_in, granted, take_response, replied, takes, unexpected, is_response_to, cleared, closed, answered, failed, event_of}
+use Rattle.llrp_session.specs.ClientMachine.{Client, ClientPhase, Fresh, Ready, Closed, Pending, Taking, Reply, take, take_in, granted, take_response, replied, takes, unexpected, is_response_to, cleared, answered, failed, event_of}
 use Rattle.llrp_session.specs.World.{tags_handed_out}
 use Rattle.llrp_session.specs.Agreement.{taken_in, and_then, requests, responses, is_response}
 

@@ -1,5 +1,5 @@
 -- The two ends agree.
-use Rattle.std.specs.Prelude.{◌≡◌, ◌≤◌, ◌⊎◌, ℕ, Bool, true, false, List, [], ◌∷◌, ◌++◌, Option, None, Some, Result, Ok, Err, IsOk, if◌then◌else◌}
+use Rattle.std.specs.Prelude.{◌≡◌, ◌≤◌, ◌⊎◌, ℕ, Bool, true, false, List, [], ◌∷◌, ◌++◌, Option, None, Some, Result, Ok, Err, if◌then◌else◌}
 use Rattle.llrp_session.specs.Table.{states, active_count}
 use Rattle.llrp_session.specs.Words.{ReaderWord, Response, Error, ReaderMessage, ClientWord, Asks, Acknowledges, ClientMessage, heard}
 use Rattle.llrp_session.specs.Refusal.{Refusal}
