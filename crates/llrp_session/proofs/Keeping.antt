@@ -1,18 +1,19 @@
 -- No report is lost unsaid, and none is sent twice.
 use Rattle.std.proofs.Common.{◌≡◌, ℕ, suc, ◌<◌, ◌≤◌, refl, sym, ◌∙◌, ap, subst, Bool, true, false, cond, List, [], ◌∷◌, ◌++◌, length, ◌+◌, arith, append_assoc, append-nil, length-append}
-use Rattle.std.specs.Prelude.{◌==◌, ◌&&◌, ◌||◌, nat_le, Option, None, Some, is_none, Result, Ok, Err}
+use Rattle.std.specs.Prelude.{◌==◌, ◌&&◌, ◌||◌, not, nat_le, Option, None, Some, is_none, is_some, Result, Ok, Err}
 use Rattle.std.proofs.lemmas.Bool.Decides.{nat_tests}
 use Rattle.llrp_tree.specs.Tree.{Tree}
 use Rattle.llrp_session.specs.RoSpec.{RoSpec, rospec_of}
-use Rattle.llrp_session.specs.Table.{RoState, Entry, Inactive, Active, change, without, enter, names, setting, enabling, disabling, active, first_immediate, is_active, is_inactive, state_of, active_count, IsRising, IsOrderly}
+use Rattle.llrp_session.specs.Table.{RoState, Entry, Inactive, Active, change, without, enter, names, setting, enabling, disabling, active, first_immediate, is_active, is_inactive, state_of, active_count, IsRising, AllAbove}
 use Rattle.llrp_session.specs.TagReport.{Sighting, tag_report}
 use Rattle.llrp_session.specs.Words.{Response, KeepaliveSent, Overflowed, Ended, ReaderMessage, Adding, Deleting, Starting, Stopping, Enabling, Disabling, Configuring, Request, AddRoSpec, DeleteRoSpec, StartRoSpec, StopRoSpec, EnableRoSpec, DisableRoSpec, SetReaderConfig, GetReports, CloseConnection, NoRequest, Unsupported}
 use Rattle.llrp_session.specs.Refusal.{Refusal}
-use Rattle.llrp_session.specs.ReaderMachine.{Reader, Turn, Keepalive, ReaderPhase, Waiting, Up, Down, tell, reply, with_reader, with_table, send_held, set_state, start, end, end_if, start_if_idle, serve, see, tick, keep_alive, keepalive_from, configured, begun, is_known, add_status, effective_report, sends_at_end, has_state, is_bad_report, is_bad_keepalive, hold, send_if_enough, is_enough, is_over, is_full, counting, ReaderEvent, Connect, Take, TakeBad, Seen, Tick, next, next_in, connect}
+use Rattle.llrp_session.specs.ReaderMachine.{Reader, Turn, Keepalive, ReaderPhase, Waiting, Up, Down, tell, reply, with_reader, with_table, send_held, set_state, start, end, end_if, start_if_idle, serve, see, tick, keep_alive, keepalive_from, configured, begun, is_known, add_status, is_too_long, effective_report, sends_at_end, has_state, is_bad_report, is_bad_keepalive, hold, send_if_enough, is_enough, is_over, is_full, counting, ReaderEvent, Connect, Take, TakeBad, Seen, Tick, next, next_in, connect}
 use Rattle.llrp_session.specs.Sightings.{tags_in, tags_of, is_overflow, overflows, report_by, counted_in, kept_by, dropped_by, History, history, goes_on, extended, no_history, AfterAllEvents, ReportsInOrder, OverflowsTold, HoldsFewEnough, OneActive}
+use Rattle.llrp_session.specs.TableLaws.{EachOnce}
 use Rattle.llrp_session.proofs.Following.{same-configured}
 use Rattle.llrp_session.proofs.StandingTogether.{tags_of-append}
-use Rattle.llrp_session.proofs.Orderly.{IsRising-change, IsRising-without, IsRising-enter, active_count-change, active_count-without, active_count-enter, Calms, calms-off, calms-enabling, calms-disabling, no_active, active_count-start}
+use Rattle.llrp_session.proofs.Orderly.{IsOrderly, AllAbove-change, AllAbove-without, AllAbove-enter, IsRising-change, IsRising-without, IsRising-enter, active_count-change, active_count-without, active_count-enter, Calms, calms-off, calms-enabling, calms-disabling, no_active, active_count-start}
 
 -- The reports sent, followed by those held, are these; so many overflows were told; at most 64 are held, and the table is in order.
 pub record IsKept (kept : List Tree) (drops : ℕ) (t : Turn) : Type 0 where
@@ -61,13 +62,16 @@ kept-send_held reports d t s =
 -- ---- tables
 
 orderly-calm : (f : ℕ → RoState → RoState) (t : List Entry) → Calms f → IsOrderly t → IsOrderly (change f t)
-orderly-calm f t calm o = record { rising = IsRising-change f t o.rising; one_active = let le = active_count-change f t calm in let one = o.one_active in omega arith }
+orderly-calm f t calm o = record { rising = IsRising-change f t o.rising; no_zero = AllAbove-change f 0 t o.no_zero; one_active = let le = active_count-change f t calm in let one = o.one_active in omega arith }
 
 orderly-without : (n : ℕ) (t : List Entry) → IsOrderly t → IsOrderly (without n t)
-orderly-without n t o = record { rising = IsRising-without n t o.rising; one_active = let le = active_count-without n t in let one = o.one_active in omega arith }
+orderly-without n t o = record { rising = IsRising-without n t o.rising; no_zero = AllAbove-without n 0 t o.no_zero; one_active = let le = active_count-without n t in let one = o.one_active in omega arith }
 
-orderly-enter : (s : RoSpec) (t : List Entry) → IsOrderly t → IsOrderly (enter s t)
-orderly-enter s t o = record { rising = IsRising-enter s t o.rising; one_active = let le = active_count-enter s t in let one = o.one_active in omega arith }
+above_zero : (n : ℕ) → (n == 0) ≡ false → 0 < n
+above_zero n h = grind (arith, nat_tests)
+
+orderly-enter : (s : RoSpec) (t : List Entry) → (s.id == 0) ≡ false → IsOrderly t → IsOrderly (enter s t)
+orderly-enter s t some o = record { rising = IsRising-enter s t o.rising; no_zero = AllAbove-enter s 0 t (above_zero s.id some) o.no_zero; one_active = let le = active_count-enter s t in let one = o.one_active in omega arith }
 
 none_where : (o : Option RoSpec) → is_none o ≡ true → o ≡ None
 none_where None h = refl
@@ -81,7 +85,7 @@ and-right false b h = cc
 
 kept-start : (reports : List Tree) (d now id : ℕ) (t : Turn) → active_count t.reader.table ≡ 0 → IsKept reports d t → IsKept reports d (start now id t)
 kept-start reports d now id t idle s =
-    kept-say reports d t _ _ refl refl refl (record { rising = IsRising-change (setting id Active) t.reader.table s.table.rising; one_active = active_count-start id t.reader.table s.table.rising idle }) s
+    kept-say reports d t _ _ refl refl refl (record { rising = IsRising-change (setting id Active) t.reader.table s.table.rising; no_zero = AllAbove-change (setting id Active) 0 t.reader.table s.table.no_zero; one_active = active_count-start id t.reader.table s.table.rising idle }) s
 
 kept-ended : (reports : List Tree) (d now id : ℕ) (t : Turn) → IsKept reports d t → IsKept reports d (tell (Ended now id) (set_state id Inactive t))
 kept-ended reports d now id t s = kept-say reports d t _ _ refl refl refl (orderly-calm (setting id Inactive) t.reader.table (calms-off Inactive id refl) s.table) s
@@ -103,16 +107,30 @@ kept-start_if_idle reports d now None idle t h s = s
 kept-start_if_idle reports d now (Some p) true t h s = kept-start reports d now p.id t (h refl) s
 kept-start_if_idle reports d now (Some p) false t h s = s
 
+-- the test of the fields, by whether the id is 0
+abbrev bad_where : List Entry → RoSpec → Bool → Bool
+bad_where table p zero =
+    zero || is_some (state_of p.id table) || not (p.current_state == 0)
+    || (p.start_trigger == 2) || (p.start_trigger == 3) || (p.stop_trigger == 2) || p.has_ai_stop || is_bad_report p.report
+
+-- a ROSpec that is added has an id other than 0
+added_id : (limit : ℕ) (table : List Entry) (p : RoSpec) → (add_status limit table p == 0) ≡ true → (p.id == 0) ≡ false
+added_id limit table p h =
+    elim (p.id == 0) as (λ b. (cond (bad_where table p b) 101 (cond (is_too_long limit table p) 100 0) == 0) ≡ true → b ≡ false) [
+      | true ↦ λ g. cc
+      | false ↦ λ g. refl
+    ] h
+
 -- each request
 pub kept-serve : (reports : List Tree) (d now v id : ℕ) (q : Request) (t : Turn) → IsKept reports d t → IsKept reports d (serve now v id q t)
 unfolding serve
 kept-serve reports d now v id (AddRoSpec spec) t s =
     let p = rospec_of spec in
     let status = add_status t.reader.limit t.reader.table p in
-    elim (status == 0) as (λ b. IsKept reports d (reply v id (Response Adding status) (cond b (with_table (enter p t.reader.table) t) t))) [
-      | true ↦ kept-say reports d t _ _ refl refl refl (orderly-enter p t.reader.table s.table) s
-      | false ↦ kept-say reports d t _ _ refl refl refl s.table s
-    ]
+    elim (status == 0) as (λ b. (status == 0) ≡ b → IsKept reports d (reply v id (Response Adding status) (cond b (with_table (enter p t.reader.table) t) t))) [
+      | true ↦ λ e. kept-say reports d t _ _ refl refl refl (orderly-enter p t.reader.table (added_id t.reader.limit t.reader.table p e) s.table) s
+      | false ↦ λ e. kept-say reports d t _ _ refl refl refl s.table s
+    ] refl
 kept-serve reports d now v id (DeleteRoSpec n) t s =
     let ended = end_if (λ p. names n p.id) now (active t.reader.table) t in
     let g : IsKept reports d ended = kept-end_if reports d (λ p. names n p.id) now (active t.reader.table) t s in
@@ -278,9 +296,9 @@ kept-history (e ∷ es) h k =
     kept-history es (goes_on h e) (kept-extended h (next e.0 e.1 h.reader) (kept_by e.0 e.1 h.reader) (dropped_by e.0 e.1 h.reader) (kept-next e.0 e.1 h.reader k.most k.table) k)
 
 kept_always : (limit first_id : ℕ) (es : List (ℕ × ReaderEvent)) → IsKeptHistory (history es (no_history limit first_id))
-unfolding tags_of overflows active_count IsRising
+unfolding tags_of overflows active_count IsRising AllAbove
 kept_always limit first_id es =
-    kept-history es (no_history limit first_id) (record { reports = refl; dropped = refl; most = omega arith; table = record { rising = tt; one_active = omega arith } })
+    kept-history es (no_history limit first_id) (record { reports = refl; dropped = refl; most = omega arith; table = record { rising = tt; one_active = omega arith; no_zero = tt } })
 
 -- ---- the clauses
 
@@ -292,6 +310,9 @@ overflows_told limit first_id es = (kept_always limit first_id es).dropped
 
 pub holds_few_enough : AfterAllEvents HoldsFewEnough
 holds_few_enough limit first_id es = (kept_always limit first_id es).most
+
+pub each_once : AfterAllEvents EachOnce
+each_once limit first_id es = let table = (kept_always limit first_id es).table in (table.rising, table.no_zero)
 
 pub one_is_active : AfterAllEvents OneActive
 one_is_active limit first_id es = (kept_always limit first_id es).table.one_active

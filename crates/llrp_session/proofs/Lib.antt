@@ -9,3 +9,5 @@ pub mod Examples
 pub mod ReaderExchanges
 pub mod ClientExchanges
 pub mod WorldExchange
+pub mod TableLemmas
+pub mod ThreeAtMost

@@ -5,9 +5,15 @@ use Rattle.std.proofs.lemmas.Bool.Decides.{nat_tests}
 use Rattle.llrp_session.specs.RoSpec.{RoSpec}
 use Rattle.llrp_session.specs.Table.{RoState, Entry, Disabled, Inactive, Active, change, without, enter, names, setting, enabling, enabled, disabling, active, is_active, active_count, AllAbove, IsRising}
 
+-- Each id is there once and above 0, and one entry at most is active.
+pub record IsOrderly (table : List Entry) : Type 0 where
+  pub rising : IsRising table
+  pub no_zero : AllAbove 0 table
+  pub one_active : active_count table ≤ 1
+
 -- ---- order
 
-AllAbove-change : (f : ℕ → RoState → RoState) (n : ℕ) (t : List Entry) → AllAbove n t → AllAbove n (change f t)
+pub AllAbove-change : (f : ℕ → RoState → RoState) (n : ℕ) (t : List Entry) → AllAbove n t → AllAbove n (change f t)
 unfolding AllAbove change
 AllAbove-change f n [] h = tt
 AllAbove-change f n (e ∷ es) h = (h.0, AllAbove-change f n es h.1)
@@ -17,7 +23,7 @@ unfolding IsRising change
 IsRising-change f [] h = tt
 IsRising-change f (e ∷ es) h = (AllAbove-change f e.spec.id es h.0, IsRising-change f es h.1)
 
-AllAbove-without : (m n : ℕ) (t : List Entry) → AllAbove n t → AllAbove n (without m t)
+pub AllAbove-without : (m n : ℕ) (t : List Entry) → AllAbove n t → AllAbove n (without m t)
 unfolding AllAbove without
 AllAbove-without m n [] h = tt
 AllAbove-without m n (e ∷ es) h =
@@ -43,7 +49,7 @@ lt-greater a b h g = grind (arith, nat_tests)
 eq-true : (a b : ℕ) → (a == b) ≡ true → a ≡ b
 eq-true a b h = grind (arith, nat_tests)
 
-AllAbove-enter : (s : RoSpec) (n : ℕ) (t : List Entry) → n < s.id → AllAbove n t → AllAbove n (enter s t)
+pub AllAbove-enter : (s : RoSpec) (n : ℕ) (t : List Entry) → n < s.id → AllAbove n t → AllAbove n (enter s t)
 unfolding AllAbove enter
 AllAbove-enter s n [] h a = (h, tt)
 AllAbove-enter s n (e ∷ es) h a =

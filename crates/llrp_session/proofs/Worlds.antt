@@ -2,7 +2,7 @@
 use Rattle.std.proofs.Common.{◌≡◌, ℕ, ◌≤◌, refl, sym, ◌∙◌, ap, subst, List, [], ◌∷◌, ◌++◌, length, inl, inr, arith, append_assoc}
 use Rattle.std.specs.Prelude.{Option, None, Some, Result, Ok, Err}
 use Rattle.llrp_tree.specs.Tree.{Tree}
-use Rattle.llrp_session.specs.Table.{IsOrderly, IsRising, active_count}
+use Rattle.llrp_session.specs.Table.{IsRising, AllAbove, active_count}
 use Rattle.llrp_session.specs.Words.{ReaderMessage, ClientMessage, heard, request}
 use Rattle.llrp_session.specs.Refusal.{Refusal}
 use Rattle.llrp_session.specs.ReaderMachine.{Reader, Turn, ReaderEvent, Connect, Take, Seen, Tick, next}
@@ -11,6 +11,7 @@ use Rattle.llrp_session.specs.ClientMachine.{Client, Pending, Sending, Taking, t
 use Rattle.llrp_session.specs.World.{World, WorldEvent, Connects, Commands, DeliversUp, DeliversDown, Sees, Ticks, happens, run, opening, stepped, commanded, took, delivered_up, delivered_down, reader_does}
 use Rattle.llrp_session.specs.Agreement.{AfterAll, ViewCatchesUp, ViewIsTable, ReportsArrive, ReportsAreKept, ReaderHasHistory, OneActive, NothingIsUnexpected, PendingIsOnTheWay, NothingIsPending, IsTaken, AreTaken, taken_in, and_then, requests, responses, IsOnTheWay}
 use Rattle.llrp_session.proofs.StandingTogether.{StandsTogether, together-run, together-opening, on_the_way, tags_of-append}
+use Rattle.llrp_session.proofs.Orderly.{IsOrderly}
 use Rattle.llrp_session.proofs.Keeping.{KeptNext, kept-next}
 
 -- ---- the reader's side
@@ -61,8 +62,8 @@ keeps-run [] w h = h
 keeps-run (e ∷ es) w h = keeps-run es (happens w e) (keeps-happens w e h)
 
 keeps_always : (limit reader_first client_first : ℕ) (es : List WorldEvent) → KeepsReports (run es (opening limit reader_first client_first))
-unfolding active_count IsRising
-keeps_always limit r c es = keeps-run es (opening limit r c) (record { reports = refl; most = omega arith; table = record { rising = tt; one_active = omega arith } })
+unfolding active_count IsRising AllAbove
+keeps_always limit r c es = keeps-run es (opening limit r c) (record { reports = refl; most = omega arith; table = record { rising = tt; one_active = omega arith; no_zero = tt } })
 
 together : (limit reader_first client_first : ℕ) (es : List WorldEvent) → StandsTogether (run es (opening limit reader_first client_first))
 together limit r c es = together-run es (opening limit r c) (together-opening limit r c)

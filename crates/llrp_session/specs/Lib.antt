@@ -8,3 +8,4 @@ pub mod Sightings
 pub mod ClientMachine
 pub mod World
 pub mod Agreement
+pub mod TableLaws
