@@ -118,6 +118,13 @@ pub disable_reports_and_ends : (sent_by (connected (running ++ (6, Seen first_si
 unfolding next serve end configured see tick change without enter state_of octets_of active first_immediate rospec_of report_spec_of tag_report number_of rule_of param_rule fields_of tail_of is_tv body_octets
 disable_reports_and_ends = (refl, refl)
 
+-- one exchange from the connection to STOP_ROSPEC
+pub whole_exchange : sent_by (connected (added ++ added ++ (0, Take 2 3 (StartRoSpec 1)) ∷ (0, Take 2 3 (EnableRoSpec 1)) ∷ (5, Take 2 4 (StartRoSpec 1)) ∷ (6, Seen first_sighting) ∷ (7, Take 2 5 (StopRoSpec 1)) ∷ []))
+    ≡ accepted ∷ message 2 2 (Response Adding 0) ∷ message 2 2 (Response Adding 101) ∷ message 2 3 (Response Starting 101) ∷ message 2 3 (Response Enabling 0)
+    ∷ message 2 4 (Response Starting 0) ∷ message 2 2 (Started 5 1) ∷ message 2 3 (Report (first_report ∷ [])) ∷ message 2 4 (Ended 7 1) ∷ message 2 5 (Response Stopping 0) ∷ []
+unfolding next serve end configured see tick change without enter state_of octets_of active first_immediate rospec_of report_spec_of tag_report number_of rule_of param_rule fields_of tail_of is_tv body_octets
+whole_exchange = refl
+
 -- a frame of a kind that is not known: the last version, 1 before any message, and the frame's id
 pub capabilities_unsupported : sent_by (connected ((0, TakeBad 5 MessageType) ∷ [])) ≡ accepted ∷ message 1 5 (Error 109) ∷ []
 unfolding next serve end configured see tick change without enter state_of octets_of active first_immediate rospec_of report_spec_of tag_report number_of rule_of param_rule fields_of tail_of is_tv body_octets
