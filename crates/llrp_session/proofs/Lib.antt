@@ -1,0 +1,13 @@
+pub mod States
+pub mod Orderly
+pub mod Following
+pub mod TakingIn
+pub mod StandingTogether
+pub mod Keeping
+pub mod Worlds
+pub mod Examples
+pub mod ReaderExchanges
+pub mod ClientExchanges
+pub mod WorldExchange
+pub mod TableLemmas
+pub mod ThreeAtMost

@@ -1,0 +1,11 @@
+pub mod RoSpec
+pub mod Table
+pub mod TagReport
+pub mod Words
+pub mod Refusal
+pub mod ReaderMachine
+pub mod Sightings
+pub mod ClientMachine
+pub mod World
+pub mod Agreement
+pub mod TableLaws

@@ -1,0 +1,8 @@
+//! A simulated LLRP reader and a client, as machines without sockets and without a clock: moments and messages are handed
+//! in, and messages come out.
+#![tactic(auto)]
+
+pub mod laws;
+mod words;
+
+pub use words::{Command, RoState, Sighting, Taken};
