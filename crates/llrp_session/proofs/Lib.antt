@@ -11,3 +11,4 @@ pub mod ClientExchanges
 pub mod WorldExchange
 pub mod TableLemmas
 pub mod ThreeAtMost
+pub mod LawfulReaders
