@@ -12,3 +12,4 @@ pub mod WorldExchange
 pub mod TableLemmas
 pub mod ThreeAtMost
 pub mod LawfulReaders
+pub mod ReportLemmas
