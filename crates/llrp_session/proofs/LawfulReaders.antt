@@ -1,6 +1,6 @@
 -- A reader whose numbers fit says what fits, and stays so.
-use Rattle.std.proofs.Common.{◌≡◌, ℕ, ◌+◌, ◌^◌, ◌<◌, ◌≤◌, ◌⊎◌, inl, inr, refl, sym, ◌∙◌, ap, subst, Bool, true, false, cond, List, [], ◌∷◌, ◌++◌, length, arith, length-append, lit<}
-use Rattle.std.specs.Prelude.{◌&&◌, ◌||◌, ◌==◌, nat_le, nat_lt, Option, None, Some, is_none, Result, Ok, Err, IfOk}
+use Rattle.std.proofs.Common.{◌≡◌, ℕ, ◌+◌, ◌^◌, ◌<◌, ◌≤◌, ◌⊎◌, inl, refl, Bool, true, false, cond, List, [], ◌∷◌, ◌++◌, length, arith, length-append}
+use Rattle.std.specs.Prelude.{◌&&◌, ◌||◌, ◌==◌, nat_le, nat_lt, Option, None, Some, is_none, Result, IfOk}
 use Rattle.std.proofs.lemmas.Bool.Decides.{nat_tests}
 use Rattle.llrp_tree.specs.Tree.{Tree}
 use Rattle.llrp_tree.specs.declared.fault.Reason.{Reason}
@@ -8,9 +8,11 @@ use Rattle.llrp_tree.specs.declared.fault.Reason.TheVariants.{Reserved, Version,
 use Rattle.llrp_session.specs.RoSpec.{RoSpec, ReportSpec, ContentSelector, rospec_of}
 use Rattle.llrp_session.specs.Table.{RoState, Entry, Disabled, Inactive, Active, change, without, enter, names, setting, enabling, disabling, active, first_immediate, is_active, is_inactive, is_disabled, state_of}
 use Rattle.llrp_session.specs.TagReport.{Sighting, tag_report}
-use Rattle.llrp_session.specs.Words.{Operation, ReaderWord, Response, Error, Report, KeepaliveSent, Accepted, Started, Ended, Overflowed, ReaderMessage, Adding, Deleting, Starting, Stopping, Enabling, Disabling, Configuring, Closing, Config, KeepaliveSpec, Request, AddRoSpec, DeleteRoSpec, StartRoSpec, StopRoSpec, EnableRoSpec, DisableRoSpec, SetReaderConfig, GetReports, CloseConnection, NoRequest, Unsupported}
-use Rattle.llrp_session.specs.ReaderMachine.{Reader, Turn, Keepalive, ReaderPhase, Waiting, Up, Down, tell, reply, with_reader, with_table, send_held, set_state, start, end, end_if, start_if_idle, serve, see, tick, keep_alive, keepalive_from, configured, begun, is_known, add_status, has_bad_field, is_too_long, effective_report, sends_at_end, has_state, is_bad_report, is_bad_keepalive, hold, send_if_enough, is_enough, is_over, is_full, counting, lists_antenna, following, fault_status, set_keepalive, set_report, reset_if, ReaderEvent, Connect, Take, TakeBad, Seen, Tick, next, next_in}
+use Rattle.llrp_session.specs.Words.{ReaderWord, Response, Error, Report, KeepaliveSent, Accepted, Started, Ended, Overflowed, ReaderMessage, Adding, Deleting, Starting, Stopping, Enabling, Disabling, Configuring, Closing, Config, KeepaliveSpec, Request, AddRoSpec, DeleteRoSpec, StartRoSpec, StopRoSpec, EnableRoSpec, DisableRoSpec, SetReaderConfig, GetReports, CloseConnection, NoRequest, Unsupported}
+use Rattle.llrp_session.specs.ReaderMachine.{Reader, Turn, Keepalive, ReaderPhase, Waiting, Up, Down, tell, reply, with_reader, with_table, send_held, set_state, start, end, end_if, start_if_idle, serve, see, tick, keep_alive, keepalive_from, configured, begun, is_known, add_status, has_bad_field, is_too_long, effective_report, sends_at_end, has_state, is_bad_report, is_bad_keepalive, hold, send_if_enough, is_enough, is_over, is_full, counting, lists_antenna, following, fault_status, set_keepalive, set_report, reset_if, ReaderEvent, Connect, Take, TakeBad, Seen, Tick, new_reader, next, next_in}
 use Rattle.llrp_session.specs.Refusal.{Refusal}
+use Rattle.llrp_session.proofs.ToldOfLawful.{told_of_lawful}
+use Rattle.llrp_session.proofs.ReportLemmas.{report_of_sighting}
 use Rattle.llrp_session.specs.LawfulWords.{IsReport, AreReports, IsLawfulReaderWord, IsLawfulReaderMessage}
 use Rattle.llrp_session.specs.LawfulStates.{IsToldOf, AreToldOf, IsLawfulReader, IsLawfulSighting, IsLawfulRequest, IsLawfulReaderEvent, AreLawfulReaderMessages}
 
@@ -246,15 +248,16 @@ lawful-see reports now g (Some s) t moment l told h =
       | true ↦ λ e. lawful-tell (Overflowed now) t moment h
       | false ↦ λ e.
           let held : IsLawfulTurn more =
-                record {
-                  sent = h.sent;
-                  reader = record {
-                    next_id = r.next_id; version = r.version;
-                    held = reports-append t.reader.held tag r.held (reports now s report_spec.selector g moment told l);
-                    few = let one = room (length t.reader.held) e in omega (arith, length-append t.reader.held (tag ∷ []));
-                    table = r.table;
-                  };
-                } in
+          record {
+            sent = h.sent;
+            reader = record {
+              next_id = r.next_id;
+              version = r.version;
+              held = reports-append t.reader.held tag r.held (reports now s report_spec.selector g moment told l);
+              few = let one = room (length t.reader.held) e in omega (arith, length-append t.reader.held (tag ∷ []));
+              table = r.table;
+            };
+          } in
           elim (is_enough report_spec (length more.reader.held)) as (λ b. IsLawfulTurn (cond b (send_held more) more)) [ true ↦ lawful-send_held more held | false ↦ held ]
     ] refl
 
@@ -282,12 +285,13 @@ LawfulStep step = IfOk step (λ t. AreLawfulReaderMessages t.sent × IsLawfulRea
 done : (t : Turn) → IsLawfulTurn t → AreLawfulReaderMessages t.sent × IsLawfulReader t.reader
 done t h = (h.sent, h.reader)
 
-pub lawful-next : RoSpecsAreTold → SightingsAreReports → (now : ℕ) (e : ReaderEvent) (r : Reader) → now < 2 ^ 64 → IsLawfulReaderEvent e → IsLawfulReader r → LawfulStep (next now e r)
+lawful-next : RoSpecsAreTold → SightingsAreReports → (now : ℕ) (e : ReaderEvent) (r : Reader) → now < 2 ^ 64 → IsLawfulReaderEvent e → IsLawfulReader r → LawfulStep (next now e r)
 unfolding next
 lawful-next told reports now e r moment l h = in_phase r.phase e l
   where
     begin : (r : Reader) → IsLawfulReader r → IsLawfulTurn (begun r)
     begin r h = record { sent = tt; reader = h }
+
     in_phase : (ph : ReaderPhase) (e : ReaderEvent) → IsLawfulReaderEvent e → LawfulStep (next_in ph now e r)
     in_phase Down e l = tt
     in_phase Waiting Connect l =
@@ -303,3 +307,10 @@ lawful-next told reports now e r moment l h = in_phase r.phase e l
     in_phase Up (TakeBad id reason) l = done _ (lawful-reply r.version id (Error (fault_status reason)) (begun r) h.version l (fault_status-fits reason) (begin r h))
     in_phase Up (Seen g) l = done _ (lawful-see reports now g (counting g (active r.table)) (begun r) moment l (told-counting g (active r.table) (told-active r.table h.table)) (begin r h))
     in_phase Up Tick l = done _ (lawful-tick now (begun r) moment (begin r h))
+
+pub reader_says_lawful : (now : ℕ) (e : ReaderEvent) (r : Reader) → now < 2 ^ 64 → IsLawfulReaderEvent e → IsLawfulReader r
+    → IfOk (next now e r) (λ t. AreLawfulReaderMessages t.sent × IsLawfulReader t.reader)
+reader_says_lawful now e r moment l h = lawful-next told_of_lawful report_of_sighting now e r moment l h
+
+pub reader_as_new : (limit first_id : ℕ) → first_id < 2 ^ 32 → IsLawfulReader (new_reader limit first_id)
+reader_as_new limit first_id h = record { next_id = h; version = inl refl; held = tt; few = omega arith; table = tt }

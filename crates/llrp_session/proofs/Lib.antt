@@ -13,3 +13,5 @@ pub mod TableLemmas
 pub mod ThreeAtMost
 pub mod LawfulReaders
 pub mod ReportLemmas
+pub mod ToldOfLawful
+pub mod LawfulClients

@@ -1,11 +1,11 @@
 -- The report of a sighting is a TagReportData that may be sent.
-use Rattle.std.proofs.Common.{◌≡◌, ℕ, ◌+◌, ◌^◌, ◌<◌, ◌≤◌, max, refl, sym, ◌∙◌, ap, subst, Bool, true, false, cond, List, [], ◌∷◌, ◌++◌, length, arith, lit≤}
+use Rattle.std.proofs.Common.{◌≡◌, ℕ, ◌+◌, ◌^◌, ◌<◌, ◌≤◌, refl, Bool, true, false, cond, List, [], ◌∷◌, ◌++◌, arith, lit≤}
 use Rattle.llrp_schema.specs.declared.kinds.ParamKind.{ParamKind}
 use Rattle.llrp_schema.specs.declared.kinds.ParamKind.TheVariants.{TagReportData, Epc96, RoSpecId, SpecIndex, InventoryParameterSpecId, AntennaId, ChannelIndex, PeakRssi, FirstSeenTimestampUtc, LastSeenTimestampUtc, TagSeenCount}
 use Rattle.llrp_schema.specs.declared.kinds.Kind.TheVariants.{Parameter}
 use Rattle.llrp_schema.specs.Schema.{GroupRule, rule_of, param_rule, number_of, fields_of, tail_of, groups_of, is_tv}
-use Rattle.llrp_tree.specs.Tree.{Forest, none, and, Tree, add, add_all, forest}
-use Rattle.llrp_tree.specs.Lawful.{levels, octets, tree_octets, head_octets, body_octets, is_member, count, has_place, ArePlaced, NoneTooMany, NoneMissing, AllLawful, IsLawful}
+use Rattle.llrp_tree.specs.Tree.{Forest, none, Tree, add, add_all, forest}
+use Rattle.llrp_tree.specs.Lawful.{levels, octets, tree_octets, body_octets, is_member, count, has_place, ArePlaced, NoneTooMany, NoneMissing, AllLawful, IsLawful}
 use Rattle.llrp_session.specs.RoSpec.{RoSpec, ContentSelector}
 use Rattle.llrp_session.specs.TagReport.{Sighting, value_parameter, if_selected, report_parts, signed_octet, tag_report}
 use Rattle.llrp_session.specs.LawfulWords.{IsReport}
@@ -119,18 +119,19 @@ count-add_all group before (t ∷ ts) = omega (arith, count-add_all group (add b
 -- ---- a report's parts
 
 are_parts : (now : ℕ) (s : RoSpec) (c : ContentSelector) (g : Sighting) → now < 2 ^ 64 → IsToldOf s → IsLawfulSighting g → AreParts (report_parts now s c g)
-are_parts now s c g moment told l =
-    (epc_part g.epc l.epc,
-      parts-append _ _ (parts-append _ _ (parts-append _ _ (parts-append _ _ (parts-append _ _ (parts-append _ _ (parts-append _ _ (parts-append _ _
-        (parts-selected c.rospec_id RoSpecId s.id (rospec_id_part s.id told.id))
-        (parts-selected c.spec_index SpecIndex 1 (spec_index_part 1 (omega arith))))
-        (parts-selected c.inventory_parameter_spec_id InventoryParameterSpecId s.inventory (inventory_part s.inventory told.inventory)))
-        (parts-selected c.antenna_id AntennaId g.antenna (antenna_part g.antenna l.antenna)))
-        (parts-selected c.channel_index ChannelIndex 1 (channel_part 1 (omega arith))))
-        (parts-selected c.peak_rssi PeakRssi (signed_octet g.rssi) (rssi_part (signed_octet g.rssi) l.rssi)))
-        (parts-selected c.first_seen FirstSeenTimestampUtc now (first_seen_part now moment)))
-        (parts-selected c.last_seen LastSeenTimestampUtc now (last_seen_part now moment)))
-        (parts-selected c.tag_seen_count TagSeenCount 1 (seen_count_part 1 (omega arith))))
+are_parts now s c g moment told l = (
+  epc_part g.epc l.epc,
+  parts-append _ _ (parts-append _ _ (parts-append _ _ (parts-append _ _ (parts-append _ _ (parts-append _ _ (parts-append _ _ (parts-append _ _
+      (parts-selected c.rospec_id RoSpecId s.id (rospec_id_part s.id told.id))
+      (parts-selected c.spec_index SpecIndex 1 (spec_index_part 1 (omega arith))))
+      (parts-selected c.inventory_parameter_spec_id InventoryParameterSpecId s.inventory (inventory_part s.inventory told.inventory)))
+      (parts-selected c.antenna_id AntennaId g.antenna (antenna_part g.antenna l.antenna)))
+      (parts-selected c.channel_index ChannelIndex 1 (channel_part 1 (omega arith))))
+      (parts-selected c.peak_rssi PeakRssi (signed_octet g.rssi) (rssi_part (signed_octet g.rssi) l.rssi)))
+      (parts-selected c.first_seen FirstSeenTimestampUtc now (first_seen_part now moment)))
+      (parts-selected c.last_seen LastSeenTimestampUtc now (last_seen_part now moment)))
+      (parts-selected c.tag_seen_count TagSeenCount 1 (seen_count_part 1 (omega arith))),
+)
 
 -- a sum over the parts, against the sum over all ten
 abbrev over_ten : (Tree → ℕ) → ℕ → RoSpec → Sighting → ℕ
@@ -177,15 +178,20 @@ report_of_sighting now s c g moment told l =
     let few_of : (group : GroupRule) → over_ten (is_of group) now s g ≤ 1 → count group (forest parts) ≤ 1 = few now s c g in
     record {
       kind = refl;
-      lawful = (record {
-        obeys = record {
-          ranges = tt; form = refl; bytes = tt;
-          placed = placed-add_all none parts tt are;
-          most = (few_of _ (lit≤ tt), (few_of _ (lit≤ tt), (few_of _ (lit≤ tt), (few_of _ (lit≤ tt), (few_of _ (lit≤ tt), (few_of _ (lit≤ tt), (few_of _ (lit≤ tt), (few_of _ (lit≤ tt), (few_of _ (lit≤ tt), (few_of _ (lit≤ tt), (few_of _ (lit≤ tt), (few_of _ (lit≤ tt), (few_of _ (lit≤ tt), (tt, (tt, tt)))))))))))))));
-          least = (enough now s c g _ (lit≤ tt), (omega arith, (omega arith, (omega arith, (omega arith, (omega arith, (omega arith, (omega arith, (omega arith, (omega arith, (omega arith, (omega arith, (omega arith, (omega arith, (omega arith, tt)))))))))))))));
-        };
-        deep = omega (arith, deep);
-        long = omega (arith, long);
-      }, lawful-add_all none parts tt are);
+      lawful = (
+        record {
+          obeys = record {
+            ranges = tt;
+            form = refl;
+            bytes = tt;
+            placed = placed-add_all none parts tt are;
+            most = (few_of _ (lit≤ tt), (few_of _ (lit≤ tt), (few_of _ (lit≤ tt), (few_of _ (lit≤ tt), (few_of _ (lit≤ tt), (few_of _ (lit≤ tt), (few_of _ (lit≤ tt), (few_of _ (lit≤ tt), (few_of _ (lit≤ tt), (few_of _ (lit≤ tt), (few_of _ (lit≤ tt), (few_of _ (lit≤ tt), (few_of _ (lit≤ tt), (tt, (tt, tt)))))))))))))));
+            least = (enough now s c g _ (lit≤ tt), (omega arith, (omega arith, (omega arith, (omega arith, (omega arith, (omega arith, (omega arith, (omega arith, (omega arith, (omega arith, (omega arith, (omega arith, (omega arith, (omega arith, tt)))))))))))))));
+          };
+          deep = omega (arith, deep);
+          long = omega (arith, long);
+        },
+        lawful-add_all none parts tt are,
+      );
       short = omega (arith, long);
     }

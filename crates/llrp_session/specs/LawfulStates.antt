@@ -1,5 +1,5 @@
 -- Machines whose numbers are those that their types hold, and whose reports may be sent; and the same of what happens to them.
-use Rattle.std.specs.Prelude.{◌≡◌, ◌^◌, ◌<◌, ◌≤◌, ◌⊎◌, ℕ, List, [], ◌∷◌, length, Option, None, Some}
+use Rattle.std.specs.Prelude.{◌≡◌, ◌^◌, ◌<◌, ◌≤◌, ◌⊎◌, ℕ, List, [], ◌∷◌, length}
 use Rattle.llrp_schema.specs.declared.kinds.ParamKind.TheVariants.{RoSpec as RoSpecKind}
 use Rattle.llrp_tree.specs.Lawful.{IsLawful}
 use Rattle.llrp_session.specs.RoSpec.{RoSpec}
