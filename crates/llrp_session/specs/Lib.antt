@@ -9,3 +9,5 @@ pub mod ClientMachine
 pub mod World
 pub mod Agreement
 pub mod TableLaws
+pub mod LawfulWords
+pub mod LawfulStates
