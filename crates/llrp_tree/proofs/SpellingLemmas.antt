@@ -1,9 +1,11 @@
 -- Octets that are appended, and the digits that they spell.
-use Rattle.std.proofs.Common.{◌≡◌, ◌≢◌, ◌-◌, ℕ, suc, ◌+◌, ◌*◌, ◌/◌, ◌%◌, ◌^◌, ◌<◌, ◌≤◌, List, [], ◌∷◌, ◌++◌, Bool, true, false, refl, ap, ◌∙◌, sym, arith, append_assoc, length, append-nil, lit<, subst}
+use Rattle.std.proofs.Common.{◌≡◌, ◌-◌, ℕ, suc, ◌+◌, ◌*◌, ◌/◌, ◌%◌, ◌^◌, ◌<◌, ◌≤◌, List, [], ◌∷◌, ◌++◌, Bool, true, false, refl, ap, ◌∙◌, sym, arith, append_assoc, length, append-nil, lit<, subst}
 use Rattle.std.proofs.lemmas.Nat.{div_below, pow-add}
 use Rattle.std.proofs.Math.Nat.{mul-le-mul_right, pow-le-pow_right}
 use Rattle.std.proofs.lemmas.Bool.{lt-ltb, ltb-true}
-use Rattle.std.specs.Prelude.{All}
+use Rattle.std.specs.Prelude.{All, zero, take, drop}
+use Rattle.std.specs.Int.{byte_at, bytes_high_first}
+use Rattle.std.proofs.Math.Nat.{div-div-eq-div-mul}
 use Rattle.tag_bits.specs.Digits.{digits, digits_of_bytes}
 use Rattle.tag_bits.proofs.DigitLemmas.{digits-join, digits-split}
 use Rattle.tag_bits.proofs.ByteLemmas.{bytes-nil, bytes-cons, bytes-append}
@@ -46,23 +48,60 @@ grows_both a b c p q = (p.0 ++ q.0, q.1 ∙ ap (λ (x : List ℕ). x ++ q.0) p.1
 
 -- ---- numbers
 
-pub digits_none : (k n : ℕ) → k ≡ 0 → [] ≡ digits (8 * k) n
-unfolding digits
-digits_none k n e = rw e refl
-
 -- one octet more of a number
-pub one_octet : (n k : ℕ) → k ≢ 0 → n < 2 ^ (8 * k) → (n / 256 < 2 ^ (8 * (k - 1))) × (digits (8 * (k - 1)) (n / 256) ++ digits_of_bytes (n % 256 ∷ []) ≡ digits (8 * k) n)
-one_octet n k h lt =
-    let w : 8 * k ≡ 8 * (k - 1) + 8 = omega arith in
-    let below : n < 2 ^ (8 * (k - 1) + 8) = subst (λ (x : ℕ). n < 2 ^ x) w lt in
-    let split = digits-split (8 * (k - 1)) 8 n below in (
-      div_below n 256 (2 ^ (8 * (k - 1))) (lit< tt) (omega (arith, pow-add 2 (8 * (k - 1)) 8)),
-      ap (λ (x : List Bool). digits (8 * (k - 1)) (n / 256) ++ x) (bytes-cons (n % 256) [] ∙ ap (λ (x : List Bool). digits 8 (n % 256) ++ x) bytes-nil ∙ append-nil (digits 8 (n % 256)))
+one_octet : (n k : ℕ) → n < 2 ^ (8 * suc k) → (n / 256 < 2 ^ (8 * k)) × (digits (8 * k) (n / 256) ++ digits_of_bytes (n % 256 ∷ []) ≡ digits (8 * suc k) n)
+one_octet n k lt =
+    let w : 8 * suc k ≡ 8 * k + 8 = omega arith in
+    let below : n < 2 ^ (8 * k + 8) = subst (λ (x : ℕ). n < 2 ^ x) w lt in
+    let split = digits-split (8 * k) 8 n below in (
+      div_below n 256 (2 ^ (8 * k)) (lit< tt) (omega (arith, pow-add 2 (8 * k) 8)),
+      ap (λ (x : List Bool). digits (8 * k) (n / 256) ++ x) (bytes-cons (n % 256) [] ∙ ap (λ (x : List Bool). digits 8 (n % 256) ++ x) bytes-nil ∙ append-nil (digits 8 (n % 256)))
           ∙ sym split ∙ ap (λ (x : ℕ). digits x n) (sym w),
     )
 
-pub octet : (n : ℕ) → AreOctets (n % 256 ∷ [])
-octet n = (omega arith, tt)
+byte_next : (k n : ℕ) → byte_at (suc k) n ≡ byte_at k (n / 256)
+byte_next zero n = refl
+byte_next (suc k) n =
+    let e : 256 ^ suc (suc k) ≡ 256 * 256 ^ suc k = ap (λ (x : ℕ). 256 ^ x) (omega arith) ∙ pow-add 256 1 (suc k) in
+    ap (λ (x : ℕ). n / x % 256) e ∙ ap (λ (x : ℕ). x % 256) (sym (div-div-eq-div-mul n 256 (256 ^ suc k)))
+
+-- the lowest octet stands last
+bytes_last : (k n : ℕ) → bytes_high_first (suc k) n ≡ bytes_high_first k (n / 256) ++ n % 256 ∷ []
+bytes_last zero n = refl
+bytes_last (suc k) n = rw (byte_next k n, bytes_last k n) refl
+
+-- a number's octets spell its digits
+bytes_spell : (k n : ℕ) → n < 2 ^ (8 * k) → digits_of_bytes (bytes_high_first k n) ≡ digits (8 * k) n
+unfolding digits
+bytes_spell zero n h = bytes-nil
+bytes_spell (suc k) n h =
+    let p = one_octet n k h in
+    ap digits_of_bytes (bytes_last k n) ∙ bytes-append (bytes_high_first k (n / 256)) (n % 256 ∷ [])
+    ∙ ap (λ (x : List Bool). x ++ digits_of_bytes (n % 256 ∷ [])) (bytes_spell k (n / 256) p.0) ∙ p.1
+
+bytes_are_octets : (k n : ℕ) → AreOctets (bytes_high_first k n)
+bytes_are_octets zero n = tt
+bytes_are_octets (suc zero) n = (omega arith, tt)
+bytes_are_octets (suc (suc k)) n = (omega arith, bytes_are_octets (suc k) n)
+
+bytes_dropped : (j k n : ℕ) → drop j (bytes_high_first (j + k) n) ≡ bytes_high_first k n
+bytes_dropped zero k n = ap (λ (x : ℕ). bytes_high_first x n) (omega arith)
+bytes_dropped (suc j) k n =
+    let e : suc j + k ≡ suc (j + k) = omega arith in
+    ap (λ (x : ℕ). drop (suc j) (bytes_high_first x n)) e ∙ bytes_dropped j k n
+
+bytes_taken : (k n : ℕ) → take k (bytes_high_first k n) ≡ bytes_high_first k n
+bytes_taken zero n = refl
+bytes_taken (suc k) n = ap (λ (x : List ℕ). byte_at k n ∷ x) (bytes_taken k n)
+
+-- the last octets of the sixteen of a number
+pub appends_number : (old new bytes : List ℕ) (k n : ℕ) → k ≤ 16 → n < 2 ^ (8 * k) → bytes ≡ bytes_high_first 16 n → new ≡ old ++ take (16 - (16 - k)) (drop (16 - k) bytes) → Appends old new (digits (8 * k) n)
+appends_number old new bytes k n few h are e =
+    let all : 16 ≡ 16 - k + k = omega arith in
+    let count : 16 - (16 - k) ≡ k = omega arith in
+    let last : drop (16 - k) bytes ≡ bytes_high_first k n = ap (λ (x : List ℕ). drop (16 - k) x) are ∙ ap (λ (x : ℕ). drop (16 - k) (bytes_high_first x n)) all ∙ bytes_dropped (16 - k) k n in
+    let whole : take (16 - (16 - k)) (drop (16 - k) bytes) ≡ bytes_high_first k n = ap (λ (x : ℕ). take x (drop (16 - k) bytes)) count ∙ ap (λ (x : List ℕ). take k x) last ∙ bytes_taken k n in
+    record { more = bytes_high_first k n; whole = e ∙ ap (λ (x : List ℕ). old ++ x) whole; octets = bytes_are_octets k n; spelled = bytes_spell k n h }
 
 -- ---- fields
 

@@ -27,15 +27,12 @@ pub enum EncodeErr {
 
 /// Appends a number in so many octets, the most significant first.
 fn put_number(number: u128, octets: u8, out: &mut Vec<u8>) -> Result<(), AllocError>
+    requires few { octets ≤ 16 }
     requires fits { number < 2 ^ (8 * octets) }
     ensures ok { OnOk result (Appends out.old.items out.new.items (digits (8 * octets) number)) }
     ensures grows { Grows out.old.items out.new.items }
 {
-    if octets == 0 {
-        return Ok(());
-    }
-    put_number(number / 256, octets - 1, out)?;
-    out.push((number % 256) as u8)?;
+    out.extend_from_slice(&number.to_be_bytes()[16 - octets as usize..])?;
     Ok(())
 }
 

@@ -12,8 +12,11 @@ pack-row-requires-clause-small c = rw c.fields.ensures (omega (arith, few_bits c
 pub overflow_cast-row : goal.overflow_cast-row
 overflow_cast-row c = omega (arith, few_bits c.args.kind, rw c.fields.ensures at c.pack-row.ensures.bits)
 
-pub put_number-requires : goal.put_number-requires
-put_number-requires c = record { fits = whole_number c.pack-row.result.number c.pack-row.result.bits (rw (c.pack-row.ensures.bits, c.fields.ensures) (whole_octets c.args.kind)) c.pack-row.ensures.below }
+pub put_number-requires-clause-few : goal.put_number-requires-clause-few
+put_number-requires-clause-few c = omega (arith, few_bits c.args.kind, rw c.fields.ensures at c.pack-row.ensures.bits)
+
+pub put_number-requires-clause-fits : goal.put_number-requires-clause-fits
+put_number-requires-clause-fits c = whole_number c.pack-row.result.number c.pack-row.result.bits (rw (c.pack-row.ensures.bits, c.fields.ensures) (whole_octets c.args.kind)) c.pack-row.ensures.below
 
 pub returns-clause-ok : goal.returns-clause-ok
 returns-clause-ok c =

@@ -5,8 +5,8 @@ use Rattle.llrp_tree.specs.Spelling.{head_digits}
 use Rattle.llrp_tree.proofs.SpellingLemmas.{appends_both, appends_same, message_start}
 use Rattle.llrp_tree.proofs.spelling.put_header.Goals as goal
 
-pub put_number-requires : goal.put_number-requires
-put_number-requires c = record { fits = omega (arith, message_number_fits c.args.kind, c.number-number.ensures, c.requires) }
+pub put_number-requires-clause-fits : goal.put_number-requires-clause-fits
+put_number-requires-clause-fits c = omega (arith, message_number_fits c.args.kind, c.number-number.ensures, c.requires)
 
 pub returns-clause-ok : goal.returns-clause-ok
 unfolding head_digits
