@@ -1,6 +1,6 @@
 -- Each text is a script or has a first refused line, and each lawful list of entries has a script.
 use Rattle.std.proofs.Common.{◌≡◌, ℕ, zero, suc, ◌+◌, ◌^◌, ◌<◌, ◌≤◌, List, [], ◌∷◌, ◌++◌, length, ◌⊎◌, inl, inr, refl, sym, ap, subst, ◌∙◌, arith, codes, decimal, ℤ, pos, negsuc, append_assoc}
-use Rattle.std.specs.Prelude.{◌==◌, All, FitsSigned, Bool, true, false}
+use Rattle.std.specs.Prelude.{◌==◌, All, FitsSigned, false}
 use Rattle.std.specs.Fmt.{signed_decimal}
 use Rattle.std.specs.Int.{w8}
 use Rattle.std.proofs.lemmas.Bool.{eqb-true, cases_lt}

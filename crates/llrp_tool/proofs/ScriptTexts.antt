@@ -1,8 +1,8 @@
 -- How a text begins with the script of some entries.
-use Rattle.std.proofs.Common.{◌≡◌, ℕ, zero, suc, ◌+◌, ◌<◌, ◌≤◌, List, [], ◌∷◌, ◌++◌, length, refl, sym, ap, subst, ◌∙◌, arith, append_assoc, length-append}
+use Rattle.std.proofs.Common.{◌≡◌, ℕ, ◌+◌, ◌<◌, List, [], ◌∷◌, ◌++◌, length, refl, sym, ap, subst, ◌∙◌, arith, append_assoc, length-append}
 use Rattle.std.proofs.lemmas.List.{append-nil}
 use Rattle.llrp_tool.specs.declared.script.Entry.{Entry}
-use Rattle.llrp_tool.specs.Script.{IsEntryLine, IsTextOfAll, IsLawful, IsScript, Begins, Continues, NoneContinues, IsRefusedAt}
+use Rattle.llrp_tool.specs.Script.{IsEntryLine, IsTextOfAll, IsScript, Begins, Continues, NoneContinues, IsRefusedAt}
 use Rattle.llrp_tool.proofs.ScriptEntries.{no_entries}
 
 -- no entries have no text

@@ -1,10 +1,10 @@
 -- A text has one script at most, or one first refused line at most, and never both.
-use Rattle.std.proofs.Common.{◌≡◌, ℕ, ◌+◌, ◌<◌, List, [], ◌∷◌, ◌++◌, length, refl, sym, ap, subst, ◌∙◌, arith, append_assoc, length-append}
+use Rattle.std.proofs.Common.{◌≡◌, ℕ, ◌+◌, List, [], ◌∷◌, ◌++◌, length, refl, sym, ap, subst, ◌∙◌, arith, append_assoc, length-append}
 use Rattle.std.specs.Prelude.{All}
 use Rattle.std.proofs.lemmas.List.{append-nil}
 use Rattle.std.proofs.lemmas.List.Elements.{All-head, All-tail}
 use Rattle.llrp_tool.specs.declared.script.Entry.{Entry}
-use Rattle.llrp_tool.specs.Script.{IsEntryLine, IsInRange, IsTextOfAll, IsLawful, IsScript, Begins, Continues, NoneContinues, IsRefusedAt}
+use Rattle.llrp_tool.specs.Script.{IsEntryLine, IsInRange, IsTextOfAll, IsLawful, IsScript, Begins, NoneContinues, IsRefusedAt}
 use Rattle.llrp_tool.proofs.ScriptWords.{one_split}
 use Rattle.llrp_tool.proofs.ScriptEntries.{lawful_front, one_entry, line_lacks}
 

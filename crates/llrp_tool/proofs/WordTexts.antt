@@ -1,7 +1,7 @@
 -- Bytes as the text of a word.
-use Rattle.std.proofs.Common.{◌≡◌, ℕ, ◌^◌, ◌<◌, ◌≤◌, Bool, true, false, List, [], ◌∷◌, Option, Some, None, Ok, Err, refl, sym, ap, ◌∙◌, subst, arith}
-use Rattle.std.specs.Prelude.{Result, IfOk, MatchOption, MatchResult, ◌&&◌, nat_le, ◌==◌}
-use Rattle.std.specs.List.{All, list_all}
+use Rattle.std.proofs.Common.{◌≡◌, ℕ, ◌<◌, ◌≤◌, true, List, [], ◌∷◌, Some, None, Ok, Err, ap, ◌∙◌, arith}
+use Rattle.std.specs.Prelude.{Result, MatchResult}
+use Rattle.std.specs.List.{All}
 use Rattle.std.specs.Result.{result_ok}
 use Rattle.std.specs.Str.{IsUtf8}
 use Rattle.std.proofs.lemmas.Bool.{ne_eqb}

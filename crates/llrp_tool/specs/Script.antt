@@ -11,16 +11,16 @@ use Rattle.llrp_tool.specs.declared.script.Action.{Action}
 use Rattle.llrp_tool.specs.declared.script.Action.TheVariants.{Seen, Tick}
 use Rattle.llrp_tool.specs.declared.script.Entry.{Entry}
 
--- antenna, RSSI and the text of the word
+-- the text of a sighting: antenna, RSSI, and the one text of its word
 abbrev pub IsSightingLine : Sighting → List ℕ → Type 0
 IsSightingLine s text = (epc : List ℕ) × IsTextOf s.epc epc × (text ≡ decimal s.antenna ++ (codes " " ++ (signed_decimal s.rssi ++ (codes " " ++ epc))))
 
--- the action, behind a line's two numbers
+-- the text of an action
 abbrev pub IsActionLine : Action → List ℕ → Type 0
 IsActionLine (Seen s) text = (sighting : List ℕ) × IsSightingLine s sighting × (text ≡ codes "seen " ++ sighting)
 IsActionLine Tick text = text ≡ codes "tick"
 
--- the line of an entry, without its LF
+-- the line of an entry without its LF: AFTER, NOW and the action
 abbrev pub IsEntryLine : Entry → List ℕ → Type 0
 IsEntryLine e line = (action : List ℕ) × IsActionLine e.action action × (line ≡ decimal e.after ++ (codes " " ++ (decimal e.now ++ (codes " " ++ action))))
 
@@ -29,17 +29,18 @@ abbrev pub IsTextOfAll : List Entry → List ℕ → Type 0
 IsTextOfAll [] text = text ≡ []
 IsTextOfAll (e ∷ entries) text = (line rest : List ℕ) × IsEntryLine e line × (text ≡ line ++ (codes "\n" ++ rest)) × IsTextOfAll entries rest
 
--- the numbers of a sighting
+-- The numbers of a sighting are in range: an AntennaID of 16 bits, a PeakRSSI of one signed octet (LLRP 1.1, section 17), and a word.
 pub record IsSightingInRange (s : Sighting) : Type 0 where
   pub antenna : s.antenna < 2 ^ 16
   pub rssi : FitsSigned w8 s.rssi
   pub epc : s.epc < 2 ^ 96
 
+-- those of an action are
 abbrev pub IsActionInRange : Action → Type 0
 IsActionInRange (Seen s) = IsSightingInRange s
 IsActionInRange Tick = Unit {0}
 
--- the numbers of an entry
+-- The numbers of an entry are in range.
 pub record IsInRange (e : Entry) : Type 0 where
   pub after : e.after < 2 ^ 64
   pub now : e.now < 2 ^ 64

@@ -33,6 +33,7 @@ pub struct Entry {
     pub after: u64,
     /// The moment, in microseconds.
     pub now: u64,
+    /// What happens then.
     pub action: Action,
 }
 

@@ -1,5 +1,5 @@
 -- Each text is the text of a word or of none, and each word has a text.
-use Rattle.std.proofs.Common.{◌≡◌, ℕ, zero, suc, ◌+◌, ◌-◌, ◌^◌, ◌<◌, ◌≤◌, Bool, true, false, cond, List, [], ◌∷◌, Option, Some, None, ◌⊎◌, inl, inr, refl, sym, ap, subst, ◌∙◌, arith}
+use Rattle.std.proofs.Common.{◌≡◌, ℕ, zero, suc, ◌-◌, ◌^◌, ◌<◌, ◌≤◌, Bool, true, false, cond, List, [], ◌∷◌, Option, Some, None, ◌⊎◌, inl, inr, refl, sym, ap, subst, ◌∙◌, arith}
 use Rattle.std.specs.Str.{bytes_eq}
 use Rattle.std.proofs.lemmas.Bool.{cases_lt}
 use Rattle.std.proofs.lemmas.Slice.Eq.{bytes_eq-Decides}
@@ -96,18 +96,18 @@ module _ (P : Parts → Type 0) (decide : (epc : Parts) → IsLawful epc → Dec
 
   at_a_row : (kind : Kind) (l : Layout) (f k : ℕ) (row : Row) → layout_of kind ≡ Some l → is_sound l ≡ true → f < 8 → k ≤ 12 → row_at l (12 - k) ≡ Some row → Decided (Numbers kind f k)
   at_a_row kind l f k row known sound small short placed = elim (below
-    (λ c. Below (10 ^ row.reference_digits) (λ r. Below (last_bound l) (λ n. Here (Partitioned kind f k c r n))))
-    (10 ^ k)
-    (λ c lc. below (λ r. Below (last_bound l) (λ n. Here (Partitioned kind f k c r n))) (10 ^ row.reference_digits)
+      (λ c. Below (10 ^ row.reference_digits) (λ r. Below (last_bound l) (λ n. Here (Partitioned kind f k c r n))))
+      (10 ^ k)
+      (λ c lc. below (λ r. Below (last_bound l) (λ n. Here (Partitioned kind f k c r n))) (10 ^ row.reference_digits)
       (λ r lr. below (λ n. Here (Partitioned kind f k c r n)) (last_bound l)
-        (λ n ln. here (Partitioned kind f k c r n)
-          (lawful_partitioned kind l f k row.reference_digits c r n known sound (record { row = row; short = short; placed = placed; digits = refl }) small lc lr (fits_below l n ln)))))) [
-    | inl h ↦ inl (h.0, h.2.0, h.2.2.0, h.2.2.2)
-    | inr never ↦ inr (λ h.
-        let a = at_row kind l f k h.0 h.1 h.2 known sound h.3.0 in
-        let same : a.row ≡ row = same_some a.row row (sym a.placed ∙ placed) in
-        never (h.0, a.company_fits, (h.1, subst (λ (x : Row). h.1 < 10 ^ x.reference_digits) same a.reference_fits, (h.2, below_fits l h.2 a.last_fits, h.3))))
-  ]
+      (λ n ln. here (Partitioned kind f k c r n)
+      (lawful_partitioned kind l f k row.reference_digits c r n known sound (record { row = row; short = short; placed = placed; digits = refl }) small lc lr (fits_below l n ln)))))) [
+        | inl h ↦ inl (h.0, h.2.0, h.2.2.0, h.2.2.2)
+        | inr never ↦ inr (λ h.
+            let a = at_row kind l f k h.0 h.1 h.2 known sound h.3.0 in
+            let same : a.row ≡ row = same_some a.row row (sym a.placed ∙ placed) in
+            never (h.0, a.company_fits, (h.1, subst (λ (x : Row). h.1 < 10 ^ x.reference_digits) same a.reference_fits, (h.2, below_fits l h.2 a.last_fits, h.3))))
+      ]
 
   of_digits : (kind : Kind) (l : Layout) (f k : ℕ) → layout_of kind ≡ Some l → is_sound l ≡ true → f < 8 → k ≤ 12 → Decided (Numbers kind f k)
   of_digits kind l f k known sound small short = elim (option_cases (row_at l (12 - k))) [
@@ -142,11 +142,11 @@ module _ (P : Parts → Type 0) (decide : (epc : Parts) → IsLawful epc → Dec
 
   of_general : Decided OfGeneral
   of_general = elim (below (λ m. Below (2 ^ 24) (λ o. Below (2 ^ 36) (λ s. Here (General m o s)))) (2 ^ 28)
-    (λ m lm. below (λ o. Below (2 ^ 36) (λ s. Here (General m o s))) (2 ^ 24)
+      (λ m lm. below (λ o. Below (2 ^ 36) (λ s. Here (General m o s))) (2 ^ 24)
       (λ o lo. below (λ s. Here (General m o s)) (2 ^ 36) (λ s ls. here (General m o s) (lawful_general m o s lm lo ls))))) [
-    | inl h ↦ inl (h.0, h.2.0, h.2.2.0, h.2.2.2)
-    | inr never ↦ inr (λ h. let b = general_below h.0 h.1 h.2 h.3.0 in never (h.0, b.0, (h.1, b.1, (h.2, b.2, h.3))))
-  ]
+        | inl h ↦ inl (h.0, h.2.0, h.2.2.0, h.2.2.2)
+        | inr never ↦ inr (λ h. let b = general_below h.0 h.1 h.2 h.3.0 in never (h.0, b.0, (h.1, b.1, (h.2, b.2, h.3))))
+      ]
 
   pub some_epc : Decided ((epc : Parts) × IsLawful epc × P epc)
   some_epc = elim (kinds OfKind of_kind) [

@@ -1,4 +1,4 @@
-use Rattle.std.proofs.Common.{◌≡◌, ◌<◌, ◌≤◌, ◌^◌, None, rules, arith, sym, ◌∙◌, suc, ℕ}
+use Rattle.std.proofs.Common.{◌≡◌, None, rules, arith, sym, ◌∙◌, suc}
 use Rattle.std.proofs.lemmas.Fmt.{decimal_injective}
 use Rattle.llrp_tool.proofs.ScriptWords.{at_none, behind_sign}
 use Rattle.llrp_tool.proofs.decimal.negative_of.Goals as goal

@@ -1,4 +1,4 @@
-use Rattle.std.proofs.Common.{◌≡◌, ◌<◌, ◌≤◌, ◌^◌, None, rules, arith, sym}
+use Rattle.std.proofs.Common.{◌≡◌, None, rules, arith, sym}
 use Rattle.llrp_tool.proofs.DecimalWords.{numeral_is}
 use Rattle.llrp_tool.proofs.ScriptWords.{at_none, no_number, that_number}
 use Rattle.llrp_tool.proofs.decimal.number_of.Goals as goal

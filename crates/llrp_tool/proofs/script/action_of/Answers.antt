@@ -1,6 +1,6 @@
-use Rattle.std.proofs.Common.{◌≡◌, codes}
+use Rattle.std.proofs.Common.{codes}
 use Rattle.llrp_tool.proofs.ScriptWords.{not_equal}
-use Rattle.llrp_tool.proofs.ScriptLines.{no_action, no_sighting}
+use Rattle.llrp_tool.proofs.ScriptLines.{no_action}
 use Rattle.llrp_tool.proofs.script.action_of.Goals as goal
 
 pub returns-else-eq-2 : goal.returns-else-eq-2

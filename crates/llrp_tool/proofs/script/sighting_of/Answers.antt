@@ -1,4 +1,4 @@
-use Rattle.std.proofs.Common.{◌≤◌, arith}
+use Rattle.std.proofs.Common.{arith}
 use Rattle.llrp_tool.proofs.ScriptWords.{at_none}
 use Rattle.llrp_tool.proofs.ScriptLines.{sighting_first, sighting_second, sighting_parts}
 use Rattle.llrp_tool.proofs.script.sighting_of.Goals as goal

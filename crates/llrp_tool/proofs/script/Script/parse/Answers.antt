@@ -1,4 +1,4 @@
-use Rattle.std.proofs.Common.{◌≡◌, ℕ, ◌+◌, ◌<◌, List, length, ap, subst, sym, ◌++◌, ◌∷◌, [], arith, rules, tests, ◌∙◌}
+use Rattle.std.proofs.Common.{◌≡◌, ℕ, ◌+◌, ◌<◌, List, length, subst, sym, rules, tests}
 use Rattle.llrp_tool.specs.declared.script.Entry.{Entry}
 use Rattle.llrp_tool.specs.Script.{Begins, Continues, NoneContinues, IsRefusedAt}
 use Rattle.llrp_tool.proofs.ScriptTexts.{begins_more, refused_at}
