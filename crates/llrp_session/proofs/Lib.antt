@@ -1,1 +1,3 @@
 pub mod ReaderRows
+pub mod MessageReading
+pub mod MessageWorlds

@@ -8,3 +8,8 @@ pub mod Sightings
 pub mod ClientMachine
 pub mod World
 pub mod Agreement
+pub mod ReaderMessages
+pub mod ClientMessages
+pub mod Reading
+pub mod LawfulWords
+pub mod MessageWorld

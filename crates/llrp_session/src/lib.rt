@@ -2,6 +2,7 @@
 //! in, and messages come out.
 #![tactic(auto)]
 
+pub mod laws;
 mod words;
 
 pub use words::{Command, RoState, Sighting, Taken};
