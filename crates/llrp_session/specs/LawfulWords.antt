@@ -1,6 +1,7 @@
 -- Which words have a message: each number is one that its type holds, a ROSpec is lawful, and reports are few and short.
 use Rattle.std.specs.Prelude.{◌≡◌, ℕ, ◌+◌, ◌^◌, ◌<◌, ◌≤◌, ◌⊎◌, List, [], ◌∷◌, length}
 use Rattle.llrp_schema.specs.declared.kinds.ParamKind.TheVariants.{RoSpec, TagReportData}
+use Rattle.llrp_tree.specs.declared.TheConstants.{MAX_LIMIT}
 use Rattle.llrp_tree.specs.Tree.{Tree, MessageTree}
 use Rattle.llrp_tree.specs.Lawful.{IsLawful, IsLawfulMessage, tree_octets, message_octets}
 use Rattle.llrp_session.specs.Words.{Command, Add, Delete, Start, Stop, Enable, Disable, SetKeepalive, GetReport, Close, ReaderWord, Response, Error, Report, KeepaliveSent, Accepted, Started, Ended, Overflowed, ReaderMessage, ClientWord, Asks, Acknowledges, ClientMessage}
@@ -76,3 +77,8 @@ AddsRoSpec _ = Unit {0}
 abbrev pub SaysRoSpec : ClientWord → Type 0
 SaysRoSpec (Asks k) = AddsRoSpec k
 SaysRoSpec Acknowledges = Unit {0}
+
+-- what the code has to know of a command before it makes its message: a ROSpec is one, and not too long for any message
+abbrev pub FitsMessage : Command → Type 0
+FitsMessage (Add spec) = (spec.kind ≡ RoSpec) × (10 + tree_octets spec ≤ MAX_LIMIT)
+FitsMessage _ = Unit {0}

@@ -13,3 +13,4 @@ pub mod ClientMessages
 pub mod Reading
 pub mod LawfulWords
 pub mod MessageWorld
+pub mod ReadWords

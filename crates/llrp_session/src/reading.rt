@@ -1,0 +1,7 @@
+//! What the two machines read in a message. It takes no memory.
+
+pub(crate) mod find;
+pub(crate) mod hearing;
+pub(crate) mod request;
+pub(crate) mod rospec;
+pub(crate) mod words;
