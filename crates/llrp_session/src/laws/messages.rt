@@ -25,6 +25,7 @@ pub fn messages_are_lawful()
 
 /// The world in which messages are on the way runs exactly as the world in which words are, with the message of each word in
 /// its place.
+#[tactic(auto, using(crate::proofs::MessageWorlds::runs_alike))]
 pub fn worlds_agree()
     ensures { (limit reader_first client_first : ℕ) (events : List WorldEvent) → AreOfRoSpecs events →
         run_messages events (message_opening limit reader_first client_first) ≡ in_messages (run events (opening limit reader_first client_first)) }
