@@ -1,3 +1,4 @@
 pub mod ReaderRows
 pub mod MessageReading
 pub mod MessageWorlds
+pub mod LawfulMessages
