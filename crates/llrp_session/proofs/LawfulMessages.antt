@@ -22,31 +22,31 @@ use Rattle.llrp_session.specs.LawfulWords.{IsSendable, IsReport, AreReports, IsL
 
 -- ---- parameters
 
-status_lawful : (status : ℕ) → status < 2 ^ 16 → AreLawful LlrpStatus (status ∷ []) [] none
+pub status_lawful : (status : ℕ) → status < 2 ^ 16 → AreLawful LlrpStatus (status ∷ []) [] none
 unfolding first_fault table_tests all_placed none_too_many none_missing rule_of param_rule number_of fields_of tail_of groups_of is_tv body_octets
 status_lawful status h =
     let e = le-leb status 65535 (omega arith) in let u : is_utf8 [] ≡ true = is_utf8-from_IsUtf8 [] IsUtf8-nil in
     lawful_from LlrpStatus (status ∷ []) [] none tt (rw (e, u) refl)
 
-time_lawful : (now : ℕ) → now < 2 ^ 64 → AreLawful UtcTimestamp (now ∷ []) [] none
+pub time_lawful : (now : ℕ) → now < 2 ^ 64 → AreLawful UtcTimestamp (now ∷ []) [] none
 unfolding first_fault table_tests all_placed none_too_many none_missing rule_of param_rule number_of fields_of tail_of groups_of is_tv body_octets
 time_lawful now h = let e = le-leb now 18446744073709551615 (omega arith) in lawful_from UtcTimestamp (now ∷ []) [] none tt (rw e refl)
 
-attempt_lawful : AreLawful ConnectionAttemptEvent (0 ∷ []) [] none
+pub attempt_lawful : AreLawful ConnectionAttemptEvent (0 ∷ []) [] none
 unfolding first_fault table_tests all_placed none_too_many none_missing rule_of param_rule number_of fields_of tail_of groups_of is_tv body_octets
 attempt_lawful = lawful_from ConnectionAttemptEvent (0 ∷ []) [] none tt refl
 
-overflow_lawful : AreLawful ReportBufferOverflowErrorEvent [] [] none
+pub overflow_lawful : AreLawful ReportBufferOverflowErrorEvent [] [] none
 unfolding first_fault table_tests all_placed none_too_many none_missing rule_of param_rule number_of fields_of tail_of groups_of is_tv body_octets
 overflow_lawful = lawful_from ReportBufferOverflowErrorEvent [] [] none tt refl
 
-change_lawful : (event id : ℕ) → event ≤ 2 → id < 2 ^ 32 → AreLawful RoSpecEvent (event ∷ id ∷ 0 ∷ []) [] none
+pub change_lawful : (event id : ℕ) → event ≤ 2 → id < 2 ^ 32 → AreLawful RoSpecEvent (event ∷ id ∷ 0 ∷ []) [] none
 unfolding first_fault table_tests all_placed none_too_many none_missing rule_of param_rule number_of fields_of tail_of groups_of is_tv body_octets
 change_lawful event id h g =
     let e = le-leb event 2 h in let i = le-leb id 4294967295 (omega arith) in
     lawful_from RoSpecEvent (event ∷ id ∷ 0 ∷ []) [] none tt (rw (e, i) refl)
 
-keepalive_lawful : (trigger period : ℕ) → trigger ≤ 1 → period < 2 ^ 32 → AreLawful KeepaliveSpecParameter (trigger ∷ period ∷ []) [] none
+pub keepalive_lawful : (trigger period : ℕ) → trigger ≤ 1 → period < 2 ^ 32 → AreLawful KeepaliveSpecParameter (trigger ∷ period ∷ []) [] none
 unfolding first_fault table_tests all_placed none_too_many none_missing rule_of param_rule number_of fields_of tail_of groups_of is_tv body_octets
 keepalive_lawful trigger period h g =
     let e = le-leb trigger 1 h in let i = le-leb period 4294967295 (omega arith) in
@@ -160,7 +160,7 @@ reader_sends limit m l h = word_sends m.version m.id m.word limit l h.version h.
 
 -- ---- the words of a client
 
-keepalive_fits : (ms : ℕ) → ms < 2 ^ 32 → ((keepalive_each ms).trigger ≤ 1) × ((keepalive_each ms).period < 2 ^ 32)
+pub keepalive_fits : (ms : ℕ) → ms < 2 ^ 32 → ((keepalive_each ms).trigger ≤ 1) × ((keepalive_each ms).period < 2 ^ 32)
 keepalive_fits ms h =
     let off : KeepaliveSpec = record { trigger = 0; period = 0 } in
     let on : KeepaliveSpec = record { trigger = 1; period = ms } in

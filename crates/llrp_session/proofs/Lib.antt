@@ -2,3 +2,5 @@ pub mod ReaderRows
 pub mod MessageReading
 pub mod MessageWorlds
 pub mod LawfulMessages
+pub mod LawfulParts
+pub mod ToldMessages
