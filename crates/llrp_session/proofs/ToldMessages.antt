@@ -5,8 +5,9 @@ use Rattle.llrp_schema.specs.declared.kinds.MsgKind.{MsgKind}
 use Rattle.llrp_tree.specs.declared.TheConstants.{MAX_LIMIT}
 use Rattle.llrp_tree.specs.Tree.{Tree, MessageTree, forest}
 use Rattle.llrp_tree.specs.Lawful.{IsLawfulMessage}
-use Rattle.llrp_session.specs.Words.{ReaderWord, ReaderMessage, ClientWord, ClientMessage}
-use Rattle.llrp_session.specs.ReaderMessages.{reader_kind, reader_parameters, reader_message}
+use Rattle.llrp_schema.specs.declared.kinds.ParamKind.TheVariants.{KeepaliveSpec as KeepaliveSpecParameter}
+use Rattle.llrp_session.specs.Words.{SetKeepalive, Asks, ReaderWord, ReaderMessage, ClientWord, ClientMessage, keepalive_each}
+use Rattle.llrp_session.specs.ReaderMessages.{parameter, reader_kind, reader_parameters, reader_message}
 use Rattle.llrp_session.specs.ClientMessages.{client_kind, client_fields, client_parameters, client_message}
 use Rattle.llrp_session.specs.LawfulWords.{IsLawfulReaderWord, IsLawfulClientWord}
 use Rattle.llrp_session.proofs.LawfulMessages.{reader_sends, client_sends}
@@ -34,3 +35,11 @@ pub client_lawful : (id : ℕ) (kind : MsgKind) (fields : List ℕ) (items : Lis
 client_lawful id kind fields items word k f p small h =
     let m : ClientMessage = record { id = id; word = word } in
     rw (client_told id kind fields items word k f p) (client_sends MAX_LIMIT m (lit≤ tt) (lit≤ tt) (record { id = small; word = h })).lawful
+
+-- a KeepaliveSpec by its type and period
+pub keepalive_told : (ms trigger : ℕ) (items : List Tree) (node : Tree) → items ≡ node ∷ [] → node ≡ parameter KeepaliveSpecParameter (trigger ∷ ms ∷ []) []
+    → trigger ≡ (keepalive_each ms).trigger → ms ≡ (keepalive_each ms).period → items ≡ client_parameters (Asks (SetKeepalive ms))
+keepalive_told ms trigger items node i n t p =
+    i ∙ ap (λ (x : Tree). x ∷ []) n
+    ∙ ap (λ (x : ℕ). parameter KeepaliveSpecParameter (x ∷ ms ∷ []) [] ∷ []) t
+    ∙ ap (λ (x : ℕ). parameter KeepaliveSpecParameter ((keepalive_each ms).trigger ∷ x ∷ []) [] ∷ []) p

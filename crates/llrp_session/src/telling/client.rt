@@ -3,7 +3,7 @@
 ghost use Rattle.std.specs.Prelude.{◌≡◌, IfOk, IfErr, [], ◌∷◌};
 ghost use Rattle.llrp_tree.specs.Tree.{forest};
 ghost use Rattle.llrp_tree.specs.Lawful.{IsLawfulMessage};
-ghost use Rattle.llrp_session.specs.Words.{Asks, Acknowledges};
+ghost use Rattle.llrp_session.specs.Words.{Asks, Acknowledges, keepalive_each};
 ghost use Rattle.llrp_session.specs.ClientMessages.{client_message};
 ghost use Rattle.llrp_session.specs.LawfulWords.{FitsMessage};
 
@@ -25,6 +25,7 @@ fn add(alloc: Global, id: u32, spec: Node) -> Result<Message, Command>
     ensures ok { IfOk result (λ m. m ≡ client_message (record { id = id; word = Asks (Command.Add spec) })) }
     ensures handed_back { IfErr result (λ k. k ≡ Command.Add spec) }
 {
+    spec.lawful();
     let Ok(mut children) = Vec::with_capacity(alloc, 1) else {
         return Err(Command::Add { spec });
     };
@@ -42,13 +43,21 @@ fn about(alloc: Global, id: u32, kind: MsgKind, rospec: u32) -> Message
     message(1, id, kind, &[rospec as u128], Vec::new(alloc))
 }
 
+/// The type of a KeepaliveSpec: 1 for a period, 0 for none.
+fn keepalive_type(ms: u32) -> u128
+    ensures trigger { result ≡ (keepalive_each ms).trigger }
+    ensures period { ms ≡ (keepalive_each ms).period }
+{
+    if ms == 0 { 0 } else { 1 }
+}
+
 /// SET_READER_CONFIG with a keepalive each `ms` milliseconds, or none for 0.
 fn set_keepalive(alloc: Global, id: u32, ms: u32) -> Result<Message, Command>
     ensures ok { IfOk result (λ m. m ≡ client_message (record { id = id; word = Asks (Command.SetKeepalive ms) })) }
     ensures handed_back { IfErr result (λ k. k ≡ Command.SetKeepalive ms) }
 {
-    let trigger: u128 = if ms == 0 { 0 } else { 1 };
-    let spec = leaf(alloc, ParamKind::KeepaliveSpec, &[trigger, ms as u128]);
+    let fields = [keepalive_type(ms), ms as u128];
+    let spec = leaf(alloc, ParamKind::KeepaliveSpec, &fields);
     match only(alloc, spec) {
         Ok(children) => Ok(message(1, id, MsgKind::SetReaderConfig, &[0], children)),
         Err(_) => Err(Command::SetKeepalive { ms }),
