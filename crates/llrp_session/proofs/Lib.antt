@@ -4,3 +4,5 @@ pub mod MessageWorlds
 pub mod LawfulMessages
 pub mod LawfulParts
 pub mod ToldMessages
+pub mod ReadFields
+pub mod OnlyRoSpec

@@ -11,6 +11,7 @@ use crate::words::Operation;
 use llrp_tree::{Message, MsgKind, Node, Nodes, ParamKind};
 
 /// The status in a response or in ERROR_MESSAGE.
+#[tactic(auto, unfolding(llrp_schema::specs::Schema::fields_of, llrp_schema::specs::Schema::rule_of, llrp_schema::specs::Schema::param_rule))]
 fn status(nodes: &Nodes) -> u16
     ensures { result ≡ the_field 0 (find_first (is_kind ParamKind.LlrpStatus) nodes.now) }
 {
@@ -19,6 +20,7 @@ fn status(nodes: &Nodes) -> u16
 }
 
 /// The status of a ConnectionAttemptEvent.
+#[tactic(auto, unfolding(llrp_schema::specs::Schema::fields_of, llrp_schema::specs::Schema::rule_of, llrp_schema::specs::Schema::param_rule))]
 fn attempt(event: Option<&Node>) -> Option<u16>
     requires { IsOfKind ParamKind.ConnectionAttemptEvent (behind event) }
     ensures { result ≡ reading.attempt_where (behind event.entry) }
@@ -28,6 +30,7 @@ fn attempt(event: Option<&Node>) -> Option<u16>
 }
 
 /// What a ROSpecEvent tells.
+#[tactic(auto, unfolding(llrp_schema::specs::Schema::fields_of, llrp_schema::specs::Schema::rule_of, llrp_schema::specs::Schema::param_rule))]
 fn change(event: Option<&Node>) -> Option<RoSpecChange>
     requires { IsOfKind ParamKind.RoSpecEvent (behind event) }
     ensures { change_by result ≡ reading.change_where (behind event.entry) }
@@ -53,6 +56,7 @@ fn notification(nodes: &Nodes) -> Notification
 }
 
 /// What a client reads in a message.
+#[tactic(auto, unfolding(crate::specs::Reading::heard_of))]
 pub(crate) fn heard_of(message: &Message) -> Heard
     ensures { reading.heard_of message.now ≡ heard_by message.now result }
 {

@@ -2,10 +2,8 @@
 
 ghost use Rattle.std.specs.Prelude.{◌≡◌, ◌<◌, ◌^◌, [], ◌∷◌, find as find_first, slice_index};
 ghost use Rattle.llrp_session.specs.RoSpec.{is_kind};
-ghost use Rattle.llrp_schema.specs.declared.kinds.MsgKind.TheVariants as kinds;
 ghost use Rattle.llrp_schema.specs.declared.kinds.Kind.TheVariants.{Message as MessageOf};
 ghost use Rattle.llrp_schema.specs.Schema.{plain_fields_of, field as field_rule};
-ghost use Rattle.llrp_tree.specs.Tree.{forest};
 ghost use Rattle.llrp_session.specs.Reading as reading;
 ghost use Rattle.llrp_session.specs.ReadWords.{IsRequest, config_by, keepalive_by};
 
@@ -15,6 +13,7 @@ use super::words::{Config, KeepaliveSpec, Request};
 use llrp_tree::{Message, MsgKind, Nodes, ParamKind};
 
 /// What the first KeepaliveSpec of a row says.
+#[tactic(auto, unfolding(llrp_schema::specs::Schema::fields_of, llrp_schema::specs::Schema::rule_of, llrp_schema::specs::Schema::param_rule))]
 fn keepalive(nodes: &Nodes) -> Option<KeepaliveSpec>
     ensures { keepalive_by result ≡ reading.keepalive_where (find_first (is_kind ParamKind.KeepaliveSpec) nodes.now) }
 {
@@ -41,7 +40,7 @@ fn config(message: &Message) -> Config
 
 /// ADD_ROSPEC.
 fn addition(nodes: &Nodes) -> Request
-    ensures { IsRequest result (reading.request_in kinds.AddRoSpec [] (forest nodes.now)) }
+    ensures { IsRequest result (reading.adding (find_first (is_kind ParamKind.RoSpec) nodes.now)) }
 {
     match first(ParamKind::RoSpec, nodes) {
         Some(rospec) => Request::AddRoSpec(settings(rospec)),
@@ -59,6 +58,7 @@ fn rospec_id(message: &Message) -> u32
 }
 
 /// What a reader reads in a message.
+#[tactic(auto, unfolding(crate::specs::Reading::request_of, llrp_schema::specs::Schema::fields_of, llrp_schema::specs::Schema::rule_of, llrp_schema::specs::Schema::message_rule))]
 pub(crate) fn request_of(message: &Message) -> Request
     ensures { IsRequest result (reading.request_of message.now) }
 {

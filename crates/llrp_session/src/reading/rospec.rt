@@ -35,6 +35,7 @@ fn selector(node: Option<&Node>) -> ContentSelector
 }
 
 /// What the first ROReportSpec of a row says.
+#[tactic(auto, unfolding(crate::specs::RoSpec::report_spec_of, llrp_schema::specs::Schema::fields_of, llrp_schema::specs::Schema::rule_of, llrp_schema::specs::Schema::param_rule))]
 pub(crate) fn report_spec(nodes: &Nodes) -> Option<ReportSpec>
     ensures { result ≡ spec.report_spec_where (find_first (spec.is_kind ParamKind.RoReportSpec) nodes.now) }
 {
@@ -69,6 +70,7 @@ fn has_ai_stop(nodes: &Nodes) -> bool
 }
 
 /// What is read in a ROSpec, all but its antennas.
+#[tactic(auto, unfolding(crate::specs::RoSpec::rospec_of, llrp_schema::specs::Schema::fields_of, llrp_schema::specs::Schema::rule_of, llrp_schema::specs::Schema::param_rule))]
 pub(crate) fn settings(node: &Node) -> Settings
     requires { node.now.kind ≡ ParamKind.RoSpec }
     ensures { result ≡ settings_of (spec.rospec_of node.now) }
@@ -118,6 +120,7 @@ impl RoSpec {
         requires { (rospec : Tree) × (request_of message ≡ AddRoSpec rospec) }
         ensures { (rospec : Tree) → request_of message ≡ AddRoSpec rospec → result ≡ spec.rospec_of rospec }
     {
+        message.lawful();
         let mut children = message.into_children().into_vec();
         match children.pop() {
             Some(spec) => {
@@ -136,6 +139,7 @@ impl RoSpec {
     }
 
     /// Whether its first AISpec lists an antenna, or 0.
+    #[tactic(auto, unfolding(crate::specs::RoSpec::rospec_of))]
     pub(crate) fn lists_antenna(&self, antenna: u16) -> bool
         ensures { result ≡ the_test antenna self.now.antennas }
     {
