@@ -6,3 +6,4 @@ pub mod LawfulParts
 pub mod ToldMessages
 pub mod ReadFields
 pub mod OnlyRoSpec
+pub mod ReportParts
