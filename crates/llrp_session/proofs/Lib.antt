@@ -15,3 +15,11 @@ pub mod LawfulReaders
 pub mod ReportLemmas
 pub mod ToldOfLawful
 pub mod LawfulClients
+pub mod MessageReading
+pub mod MessageWorlds
+pub mod LawfulMessages
+pub mod LawfulParts
+pub mod ToldMessages
+pub mod ReadFields
+pub mod OnlyRoSpec
+pub mod ReportParts

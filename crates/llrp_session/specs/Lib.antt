@@ -11,3 +11,8 @@ pub mod Agreement
 pub mod TableLaws
 pub mod LawfulWords
 pub mod LawfulStates
+pub mod ReaderMessages
+pub mod ClientMessages
+pub mod Reading
+pub mod MessageWorld
+pub mod ReadWords

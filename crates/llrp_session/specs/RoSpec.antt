@@ -52,7 +52,7 @@ words_in (Some t) = words t.tail
 
 -- ---- ROReportSpec
 
-abbrev selector_in : Option Tree → ContentSelector
+abbrev pub selector_in : Option Tree → ContentSelector
 selector_in o = record {
   rospec_id = flag 0 o;
   spec_index = flag 1 o;
@@ -95,7 +95,7 @@ pub record RoSpec : Type 0 where
   pub report : Option ReportSpec
   pub octets : ℕ
 
-abbrev stops_by_itself : Tree → Bool
+abbrev pub stops_by_itself : Tree → Bool
 stops_by_itself ai_spec = not (field 0 (first_of AiSpecStopTrigger ai_spec) == 0)
 
 unfoldable pub rospec_of : Tree → RoSpec

@@ -1,4 +1,6 @@
-//! Laws of the two machines, over every list of events.
+//! Laws of the two machines, over every list of events, and of their messages.
+
+mod messages;
 
 ghost use Rattle.std.specs.Prelude.{ℕ, ◌^◌, ◌<◌, ◌≤◌, length, IfOk};
 ghost use Rattle.llrp_session.specs.Sightings.{AfterAllEvents, ReportsInOrder, OverflowsTold, HoldsFewEnough, OneActive as OneIsActive};
@@ -9,6 +11,8 @@ ghost use Rattle.llrp_session.specs.LawfulWords.{IsLawfulClientMessage};
 ghost use Rattle.llrp_session.specs.LawfulStates.{IsLawfulReader, IsLawfulReaderEvent, AreLawfulReaderMessages, IsGivenCommand, AreLawfulClientMessages};
 ghost use Rattle.llrp_session.specs.TableLaws.{EntersOne, ChangesEach, RemovesThoseNamed, EntersOneInView, ChangesEachInView, RemovesThoseNamedInView, SeesEach, EachOnce};
 ghost use Rattle.llrp_session.specs.Agreement.{AfterAll, ViewCatchesUp, ViewIsTable, ReportsArrive, ReportsAreKept, ReaderHasHistory, OneActive, NothingIsUnexpected, PendingIsOnTheWay, NothingIsPending};
+
+pub use messages::{messages_are_lawful, messages_read_back, worlds_agree};
 
 /// Whatever happens to a reader, no sighting that counts is lost but those of which an overflow event tells, and none is
 /// reported twice.

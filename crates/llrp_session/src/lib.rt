@@ -3,6 +3,8 @@
 #![tactic(auto)]
 
 pub mod laws;
+mod reading;
+mod telling;
 mod words;
 
 pub use words::{Command, RoState, Sighting, Taken};

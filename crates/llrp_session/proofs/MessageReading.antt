@@ -1,0 +1,49 @@
+-- What is read in the message of a word is that word.
+use Rattle.std.proofs.Common.{◌≡◌, ℕ, refl, ap}
+use Rattle.llrp_schema.specs.Schema.{number_of, rule_of, param_rule}
+use Rattle.llrp_tree.proofs.TreeLemmas.{trees-forest}
+use Rattle.std.specs.Prelude.{true}
+use Rattle.llrp_schema.specs.declared.kinds.ParamKind.TheVariants.{RoSpec}
+use Rattle.llrp_session.specs.RoSpec.{is_kind}
+use Rattle.llrp_session.specs.Words.{Operation, Adding, Deleting, Starting, Stopping, Enabling, Disabling, Configuring, Closing, Command, Add, Delete, Start, Stop, Enable, Disable, SetKeepalive, GetReport, Close, ReaderWord, Response, Error, Report, KeepaliveSent, Accepted, Started, Ended, Overflowed, ReaderMessage, HeardReport, ClientWord, Asks, Acknowledges, ClientMessage, heard, request}
+use Rattle.llrp_session.specs.ReaderMessages.{reader_message}
+use Rattle.llrp_session.specs.ClientMessages.{client_message}
+use Rattle.llrp_session.specs.Reading.{request_of, heard_of}
+use Rattle.llrp_session.specs.LawfulWords.{SaysRoSpec}
+
+word_back : (version id : ℕ) (word : ReaderWord) → heard_of (reader_message (record { version = version; id = id; word = word })) ≡ heard word
+unfolding heard_of reader_message number_of rule_of param_rule
+word_back version id (Response Adding status) = refl
+word_back version id (Response Deleting status) = refl
+word_back version id (Response Starting status) = refl
+word_back version id (Response Stopping status) = refl
+word_back version id (Response Enabling status) = refl
+word_back version id (Response Disabling status) = refl
+word_back version id (Response Configuring status) = refl
+word_back version id (Response Closing status) = refl
+word_back version id (Error status) = refl
+word_back version id (Report tags) = ap HeardReport (trees-forest tags)
+word_back version id KeepaliveSent = refl
+word_back version id (Accepted now) = refl
+word_back version id (Started now k) = refl
+word_back version id (Ended now k) = refl
+word_back version id (Overflowed now) = refl
+
+pub heard_back : (m : ReaderMessage) → heard_of (reader_message m) ≡ heard m.word
+heard_back m = word_back m.version m.id m.word
+
+command_back : (id : ℕ) (word : ClientWord) → SaysRoSpec word → request_of (client_message (record { id = id; word = word })) ≡ request word
+unfolding request_of client_message number_of rule_of param_rule
+command_back id (Asks (Add spec)) h = let is : is_kind RoSpec spec ≡ true = rw h refl in rw is refl
+command_back id (Asks (Delete n)) h = refl
+command_back id (Asks (Start n)) h = refl
+command_back id (Asks (Stop n)) h = refl
+command_back id (Asks (Enable n)) h = refl
+command_back id (Asks (Disable n)) h = refl
+command_back id (Asks (SetKeepalive ms)) h = refl
+command_back id (Asks GetReport) h = refl
+command_back id (Asks Close) h = refl
+command_back id Acknowledges h = refl
+
+pub request_back : (m : ClientMessage) → SaysRoSpec m.word → request_of (client_message m) ≡ request m.word
+request_back m h = command_back m.id m.word h

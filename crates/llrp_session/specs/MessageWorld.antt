@@ -1,0 +1,107 @@
+-- The world of both ends in which messages are on the way, and are read where they arrive.
+use Rattle.std.specs.Prelude.{ℕ, List, [], ◌∷◌, ◌++◌, map, Result, Ok, Err}
+use Rattle.llrp_tree.specs.Tree.{Tree, MessageTree}
+use Rattle.llrp_session.specs.Words.{Command, Heard, HeardReport}
+use Rattle.llrp_session.specs.Refusal.{Refusal}
+use Rattle.llrp_session.specs.ReaderMachine.{Reader, Turn, ReaderEvent, Connect, Take, Seen, Tick, next, new_reader}
+use Rattle.llrp_session.specs.Sightings.{kept_by}
+use Rattle.llrp_session.specs.ClientMachine.{Client, Sending, Taking, command, take, new_client}
+use Rattle.llrp_session.specs.World.{World, WorldEvent, Connects, Commands, DeliversUp, DeliversDown, Sees, Ticks, tags_handed_out}
+use Rattle.llrp_session.specs.ReaderMessages.{reader_message}
+use Rattle.llrp_session.specs.ClientMessages.{client_message}
+use Rattle.llrp_session.specs.Reading.{request_of, heard_of}
+use Rattle.llrp_session.specs.LawfulWords.{AddsRoSpec}
+
+pub record MessageWorld : Type 0 where
+  pub reader : Reader
+  pub client : Client
+  pub up : List MessageTree  -- on the way to the reader
+  pub down : List MessageTree  -- on the way to the client
+  pub handed_out : List Tree  -- the TagReportData that the client handed out
+  pub reported : List Tree  -- those in the messages that the reader sent
+  pub kept : List Tree  -- those of the sightings that counted and were not dropped
+
+abbrev pub tags_heard : Heard → List Tree
+tags_heard (HeardReport tags) = tags
+tags_heard _ = []
+
+-- the TagReportData in messages, in order
+unfoldable pub tags_in_messages : List MessageTree → List Tree
+tags_in_messages [] = []
+tags_in_messages (m ∷ ms) = tags_heard (heard_of m) ++ tags_in_messages ms
+
+-- a refused event changes no end
+abbrev pub stepped : Result Turn Refusal → List Tree → MessageWorld → MessageWorld
+stepped (Err refusal) kept w = w
+stepped (Ok t) kept w = record w {
+  reader = t.reader;
+  down = w.down ++ map reader_message t.sent;
+  reported = w.reported ++ tags_in_messages (map reader_message t.sent);
+  kept = w.kept ++ kept;
+}
+
+abbrev pub reader_does : ℕ → ReaderEvent → MessageWorld → MessageWorld
+reader_does now e w = stepped (next now e w.reader) (kept_by now e w.reader) w
+
+abbrev pub commanded : Result Sending Refusal → MessageWorld → MessageWorld
+commanded (Err refusal) w = w
+commanded (Ok s) w = record w { client = s.client; up = w.up ++ client_message s.message ∷ [] }
+
+abbrev pub took : Result Taking Refusal → MessageWorld → MessageWorld
+took (Err refusal) w = w
+took (Ok k) w = record w { client = k.client; up = w.up ++ map client_message k.sent; handed_out = w.handed_out ++ tags_handed_out k.taken }
+
+abbrev pub delivered_up : ℕ → List MessageTree → MessageWorld → MessageWorld
+delivered_up now [] w = w
+delivered_up now (m ∷ ms) w = reader_does now (Take m.version m.id (request_of m)) (record w { up = ms })
+
+abbrev pub delivered_down : List MessageTree → MessageWorld → MessageWorld
+delivered_down [] w = w
+delivered_down (m ∷ ms) w = took (take w.client m.id (heard_of m)) (record w { down = ms })
+
+abbrev pub message_happens : MessageWorld → WorldEvent → MessageWorld
+message_happens w (Connects now) = reader_does now Connect w
+message_happens w (Commands k) = commanded (command w.client k) w
+message_happens w (DeliversUp now) = delivered_up now w.up w
+message_happens w DeliversDown = delivered_down w.down w
+message_happens w (Sees now g) = reader_does now (Seen g) w
+message_happens w (Ticks now) = reader_does now Tick w
+
+abbrev pub run_messages : List WorldEvent → MessageWorld → MessageWorld
+run_messages [] w = w
+run_messages (e ∷ es) w = run_messages es (message_happens w e)
+
+-- a reader and a client as new, with one limit
+abbrev pub message_opening : ℕ → ℕ → ℕ → MessageWorld
+message_opening limit reader_first client_first = record {
+  reader = new_reader limit reader_first;
+  client = new_client limit client_first;
+  up = [];
+  down = [];
+  handed_out = [];
+  reported = [];
+  kept = [];
+}
+
+-- ---- the law
+
+-- a world over words, with the message of each word on the way
+abbrev pub in_messages : World → MessageWorld
+in_messages w = record {
+  reader = w.reader;
+  client = w.client;
+  up = map client_message w.up;
+  down = map reader_message w.down;
+  handed_out = w.handed_out;
+  reported = w.reported;
+  kept = w.kept;
+}
+
+abbrev pub IsOfRoSpecs : WorldEvent → Type 0
+IsOfRoSpecs (Commands k) = AddsRoSpec k
+IsOfRoSpecs _ = Unit {0}
+
+-- each ROSpec that is added is a ROSpec
+abbrev pub AreOfRoSpecs : List WorldEvent → Type 0
+AreOfRoSpecs [] = Unit {0}
+AreOfRoSpecs (e ∷ es) = IsOfRoSpecs e × AreOfRoSpecs es

@@ -1,0 +1,97 @@
+-- What the code reads in a message, as the definitions have it.
+use Rattle.std.specs.Prelude.{◌≡◌, ℕ, zero, suc, Option, None, Some, List, [], ◌∷◌}
+use Rattle.std.proofs.Common.{Bor}
+use Rattle.llrp_schema.specs.declared.kinds.ParamKind.{ParamKind}
+use Rattle.llrp_schema.specs.declared.kinds.Kind.TheVariants.{Parameter}
+use Rattle.llrp_schema.specs.Schema.{FieldRule, plain_fields_of}
+use Rattle.llrp_tree.specs.Tree.{Tree, MessageTree, trees}
+use Rattle.llrp_tree.specs.Lawful.{IsLawful}
+use Rattle.llrp_session.specs.RoSpec.{RoSpec, rospec_of}
+use Rattle.llrp_session.specs.Words as words
+use Rattle.llrp_session.specs.declared.reading.words.Settings.{Settings}
+use Rattle.llrp_session.specs.declared.reading.words.KeepaliveSpec.{KeepaliveSpec}
+use Rattle.llrp_session.specs.declared.reading.words.Config.{Config}
+use Rattle.llrp_session.specs.declared.reading.words.RoSpecChange.{RoSpecChange}
+use Rattle.llrp_session.specs.declared.reading.words.Notification.{Notification}
+use Rattle.llrp_session.specs.declared.reading.words.Request.{Request}
+use Rattle.llrp_session.specs.declared.reading.words.Request.TheVariants.{AddRoSpec, DeleteRoSpec, StartRoSpec, StopRoSpec, EnableRoSpec, DisableRoSpec, SetReaderConfig, GetReports, CloseConnection, NoRequest, Unsupported}
+use Rattle.llrp_session.specs.declared.reading.words.Heard.{Heard}
+use Rattle.llrp_session.specs.declared.reading.words.Heard.TheVariants.{Response, Error, Report, Keepalive, Notified, Other}
+
+-- ---- ROSpecs
+
+-- what is read in a ROSpec, all but its antennas
+abbrev pub settings_of : RoSpec → Settings
+settings_of s = record {
+  id = s.id;
+  current_state = s.current_state;
+  start_trigger = s.start_trigger;
+  stop_trigger = s.stop_trigger;
+  duration = s.duration;
+  has_ai_stop = s.has_ai_stop;
+  inventory = s.inventory;
+  report = s.report;
+  octets = s.octets;
+}
+
+-- ---- requests
+
+abbrev pub keepalive_by : Option KeepaliveSpec → Option words.KeepaliveSpec
+keepalive_by None = None
+keepalive_by (Some k) = Some (record { trigger = k.trigger; period = k.period })
+
+abbrev pub config_by : Config → words.Config
+config_by k = record { reset = k.reset; keepalive = keepalive_by k.keepalive; report = k.report }
+
+-- the code's request is this one; of ADD_ROSPEC it has the settings
+abbrev pub IsRequest : Request → words.Request → Type 0
+IsRequest (AddRoSpec settings) q = (rospec : Tree) × (q ≡ words.AddRoSpec rospec) × (settings ≡ settings_of (rospec_of rospec))
+IsRequest (DeleteRoSpec id) q = q ≡ words.DeleteRoSpec id
+IsRequest (StartRoSpec id) q = q ≡ words.StartRoSpec id
+IsRequest (StopRoSpec id) q = q ≡ words.StopRoSpec id
+IsRequest (EnableRoSpec id) q = q ≡ words.EnableRoSpec id
+IsRequest (DisableRoSpec id) q = q ≡ words.DisableRoSpec id
+IsRequest (SetReaderConfig k) q = q ≡ words.SetReaderConfig (config_by k)
+IsRequest GetReports q = q ≡ words.GetReports
+IsRequest CloseConnection q = q ≡ words.CloseConnection
+IsRequest NoRequest q = q ≡ words.NoRequest
+IsRequest Unsupported q = q ≡ words.Unsupported
+
+-- ---- what a client hears
+
+abbrev pub change_by : Option RoSpecChange → Option words.RoSpecChange
+change_by None = None
+change_by (Some e) = Some (record { event = e.event; id = e.id })
+
+abbrev pub notification_by : Notification → words.Notification
+notification_by n = record { attempt = n.attempt; closes = n.closes; rospec = change_by n.rospec }
+
+-- what the code hears in a message; the TagReportData stay in it
+abbrev pub heard_by : MessageTree → Heard → words.Heard
+heard_by m (Response operation status) = words.HeardResponse operation status
+heard_by m (Error status) = words.HeardError status
+heard_by m Report = words.HeardReport (trees m.children)
+heard_by m Keepalive = words.HeardKeepalive
+heard_by m (Notified n) = words.HeardNotification (notification_by n)
+heard_by m Other = words.HeardOther
+
+-- ---- parameters that are looked for
+
+-- the parameter behind a reference
+abbrev pub behind : Option (Bor Tree) → Option Tree
+behind None = None
+behind (Some b) = Some b.now
+
+-- a lawful parameter of the kind, if there is one
+abbrev pub IsOfKind : ParamKind → Option Tree → Type 0
+IsOfKind kind None = Unit {0}
+IsOfKind kind (Some t) = (t.kind ≡ kind) × IsLawful t
+
+abbrev pub greatest_at : List FieldRule → ℕ → ℕ
+greatest_at [] i = 0
+greatest_at (r ∷ rules) zero = r.greatest
+greatest_at (r ∷ rules) (suc i) = greatest_at rules i
+
+-- the greatest value of a plain field
+abbrev pub greatest : ParamKind → ℕ → ℕ
+greatest kind i = greatest_at (plain_fields_of (Parameter kind)) i

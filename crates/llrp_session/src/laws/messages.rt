@@ -1,0 +1,32 @@
+//! Laws of the messages that the words of the machines are.
+
+ghost use Rattle.std.specs.Prelude.{◌≡◌, ◌≤◌, ℕ, List};
+ghost use Rattle.llrp_tree.specs.declared.TheConstants.{MAX_LIMIT};
+ghost use Rattle.llrp_session.specs.Words.{ReaderMessage, ClientMessage, heard, request};
+ghost use Rattle.llrp_session.specs.ReaderMessages.{reader_message};
+ghost use Rattle.llrp_session.specs.ClientMessages.{client_message};
+ghost use Rattle.llrp_session.specs.Reading.{request_of, heard_of};
+ghost use Rattle.llrp_session.specs.LawfulWords.{IsSendable, IsLawfulReaderMessage, IsLawfulClientMessage, SaysRoSpec};
+ghost use Rattle.llrp_session.specs.World.{WorldEvent, run, opening};
+ghost use Rattle.llrp_session.specs.MessageWorld.{run_messages, message_opening, in_messages, AreOfRoSpecs};
+
+/// What is read in the message of a word is that word.
+#[tactic(auto, using(crate::proofs::MessageReading::heard_back, crate::proofs::MessageReading::request_back))]
+pub fn messages_read_back()
+    ensures down { (m : ReaderMessage) → heard_of (reader_message m) ≡ heard m.word }
+    ensures up { (m : ClientMessage) → SaysRoSpec m.word → request_of (client_message m) ≡ request m.word }
+{}
+
+/// The message of a lawful word is lawful, and within every limit of at least 4,096 octets.
+pub fn messages_are_lawful()
+    ensures down { (limit : ℕ) (m : ReaderMessage) → 4096 ≤ limit → IsLawfulReaderMessage m → IsSendable limit (reader_message m) }
+    ensures up { (limit : ℕ) (m : ClientMessage) → 4096 ≤ limit → limit ≤ MAX_LIMIT → IsLawfulClientMessage limit m → IsSendable limit (client_message m) }
+{}
+
+/// The world in which messages are on the way runs exactly as the world in which words are, with the message of each word in
+/// its place.
+#[tactic(auto, using(crate::proofs::MessageWorlds::runs_alike))]
+pub fn worlds_agree()
+    ensures { (limit reader_first client_first : ℕ) (events : List WorldEvent) → AreOfRoSpecs events →
+        run_messages events (message_opening limit reader_first client_first) ≡ in_messages (run events (opening limit reader_first client_first)) }
+{}

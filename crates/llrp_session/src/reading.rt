@@ -1,0 +1,9 @@
+//! What the two machines read in a message. It takes no memory.
+
+pub(crate) mod find;
+pub(crate) mod hearing;
+pub(crate) mod request;
+pub(crate) mod rospec;
+#[cfg(test)]
+mod tests;
+pub(crate) mod words;

@@ -1,0 +1,52 @@
+//! Parameters that are looked for in a row, by their kind.
+
+ghost use Rattle.std.specs.Prelude.{◌≡◌, ◌≤◌, find as find_first};
+ghost use Rattle.llrp_session.specs.RoSpec.{is_kind as the_test, first_below as the_first_below, field as the_field};
+ghost use Rattle.llrp_session.specs.ReadWords.{behind, IsOfKind, greatest};
+
+use llrp_schema::Kind;
+use llrp_tree::{Node, Nodes, ParamKind};
+
+/// Whether a parameter is of a kind.
+pub(crate) fn is_kind(kind: ParamKind, node: &Node) -> bool
+    ensures { result ≡ the_test kind node.now }
+{
+    llrp_schema::number(Kind::Parameter(kind)) == llrp_schema::number(Kind::Parameter(node.kind()))
+}
+
+/// The first parameter of a kind.
+pub(crate) fn first(kind: ParamKind, nodes: &Nodes) -> Option<&Node>
+    ensures first { behind result ≡ find_first (the_test kind) nodes.now }
+    ensures lawful { IsOfKind kind (behind result) }
+{
+    for node in nodes.as_slice() {
+        if is_kind(kind, node) {
+            node.lawful();
+            return Some(node);
+        }
+    }
+    None
+}
+
+/// The first child of a kind, below a parameter that may be absent.
+pub(crate) fn first_below<'a>(kind: ParamKind, parent: Option<&'a Node>) -> Option<&'a Node>
+    ensures first { behind result ≡ the_first_below kind (behind parent.entry) }
+    ensures lawful { IsOfKind kind (behind result) }
+{
+    match parent {
+        Some(node) => first(kind, node.children()),
+        None => None,
+    }
+}
+
+/// The plain field at a place of a parameter of a kind; 0 where it is absent.
+pub(crate) fn field(kind: ParamKind, node: Option<&Node>, i: usize) -> u128
+    requires { IsOfKind kind (behind node) }
+    ensures value { result ≡ the_field i (behind node.entry) }
+    ensures fits { result ≤ greatest kind i }
+{
+    match node {
+        Some(node) => node.fields().get(i).copied().unwrap_or(0),
+        None => 0,
+    }
+}

@@ -1,0 +1,164 @@
+//! ROSpecs and ROReportSpecs (LLRP 1.1, sections 11 and 14).
+
+ghost use Rattle.std.specs.Prelude.{◌≡◌, find as find_first, filter};
+ghost use Rattle.std.specs.List.{list_any};
+ghost use Rattle.llrp_tree.specs.Tree.{Tree};
+ghost use Rattle.llrp_session.specs.RoSpec as spec;
+ghost use Rattle.llrp_session.specs.ReadWords.{behind, IsOfKind, settings_of};
+ghost use Rattle.llrp_session.specs.Words.{AddRoSpec};
+ghost use Rattle.llrp_session.specs.Reading.{request_of};
+ghost use Rattle.llrp_session.specs.ReaderMachine.{lists_antenna as the_test};
+
+use super::find::{field, first, first_below, is_kind};
+use super::words::Settings;
+use crate::words::{ContentSelector, ReportSpec};
+use llrp_tree::{Message, Node, Nodes, ParamKind};
+use std::marker::Model;
+
+/// What a TagReportContentSelector selects.
+fn selector(node: Option<&Node>) -> ContentSelector
+    requires { IsOfKind ParamKind.TagReportContentSelector (behind node) }
+    ensures { result ≡ spec.selector_in (behind node.entry) }
+{
+    let kind = ParamKind::TagReportContentSelector;
+    ContentSelector {
+        rospec_id: field(kind, node, 0) == 1,
+        spec_index: field(kind, node, 1) == 1,
+        inventory_parameter_spec_id: field(kind, node, 2) == 1,
+        antenna_id: field(kind, node, 3) == 1,
+        channel_index: field(kind, node, 4) == 1,
+        peak_rssi: field(kind, node, 5) == 1,
+        first_seen: field(kind, node, 6) == 1,
+        last_seen: field(kind, node, 7) == 1,
+        tag_seen_count: field(kind, node, 8) == 1,
+    }
+}
+
+/// What the first ROReportSpec of a row says.
+#[tactic(auto, unfolding(crate::specs::RoSpec::report_spec_of, llrp_schema::specs::Schema::fields_of, llrp_schema::specs::Schema::rule_of, llrp_schema::specs::Schema::param_rule))]
+pub(crate) fn report_spec(nodes: &Nodes) -> Option<ReportSpec>
+    ensures { result ≡ spec.report_spec_where (find_first (spec.is_kind ParamKind.RoReportSpec) nodes.now) }
+{
+    let kind = ParamKind::RoReportSpec;
+    let node = first(kind, nodes)?;
+    let chosen = first(ParamKind::TagReportContentSelector, node.children());
+    Some(ReportSpec {
+        trigger: field(kind, Some(node), 0) as u8,
+        n: field(kind, Some(node), 1) as u16,
+        selector: selector(chosen),
+    })
+}
+
+/// An AISpec has a stop trigger other than 0.
+fn stops_by_itself(ai_spec: &Node) -> bool
+    ensures { result ≡ spec.stops_by_itself ai_spec.now }
+{
+    let kind = ParamKind::AiSpecStopTrigger;
+    field(kind, first(kind, ai_spec.children()), 0) != 0
+}
+
+/// One of the AISpecs of a row has a stop trigger other than 0.
+fn has_ai_stop(nodes: &Nodes) -> bool
+    ensures { result ≡ list_any spec.stops_by_itself (filter (spec.is_kind ParamKind.AiSpec) nodes.now) }
+{
+    for node in nodes.as_slice() {
+        if is_kind(ParamKind::AiSpec, node) && stops_by_itself(node) {
+            return true;
+        }
+    }
+    false
+}
+
+/// What is read in a ROSpec, all but its antennas.
+#[tactic(auto, unfolding(crate::specs::RoSpec::rospec_of, llrp_schema::specs::Schema::fields_of, llrp_schema::specs::Schema::rule_of, llrp_schema::specs::Schema::param_rule))]
+pub(crate) fn settings(node: &Node) -> Settings
+    requires { node.now.kind ≡ ParamKind.RoSpec }
+    ensures { result ≡ settings_of (spec.rospec_of node.now) }
+{
+    node.lawful();
+    let boundary = first(ParamKind::RoBoundarySpec, node.children());
+    let start = first_below(ParamKind::RoSpecStartTrigger, boundary);
+    let stop = first_below(ParamKind::RoSpecStopTrigger, boundary);
+    let ai_spec = first(ParamKind::AiSpec, node.children());
+    let inventory = first_below(ParamKind::InventoryParameterSpec, ai_spec);
+    Settings {
+        id: field(ParamKind::RoSpec, Some(node), 0) as u32,
+        current_state: field(ParamKind::RoSpec, Some(node), 2) as u8,
+        start_trigger: field(ParamKind::RoSpecStartTrigger, start, 0) as u8,
+        stop_trigger: field(ParamKind::RoSpecStopTrigger, stop, 0) as u8,
+        duration: field(ParamKind::RoSpecStopTrigger, stop, 1) as u32,
+        has_ai_stop: has_ai_stop(node.children()),
+        inventory: field(ParamKind::InventoryParameterSpec, inventory, 0) as u16,
+        report: report_spec(node.children()),
+        octets: node.length(),
+    }
+}
+
+/// A ROSpec, with what is read in it. Contracts see what the definitions read in it.
+#[derive(Drop)]
+pub(crate) struct RoSpec {
+    spec: Node,
+    settings: Settings,
+}
+
+impl Model for RoSpec {
+    ghost use Rattle.std.specs.Prelude.{◌≡◌};
+    ghost use Rattle.llrp_schema.specs.declared.kinds.ParamKind.TheVariants as kinds;
+    ghost use Rattle.llrp_session.specs.RoSpec.{RoSpec as RoSpecValue, rospec_of};
+    ghost use Rattle.llrp_session.specs.ReadWords.{settings_of};
+
+    ghost Value = { RoSpecValue };
+
+    ghost view = { λ a. rospec_of a.spec };
+
+    ghost invariant = { λ a. (a.spec.kind ≡ kinds.RoSpec) × (a.settings ≡ settings_of (rospec_of a.spec)) };
+}
+
+impl RoSpec {
+    /// The ROSpec of an ADD_ROSPEC. It takes no memory.
+    pub(crate) fn taken(message: Message) -> RoSpec
+        requires { (rospec : Tree) × (request_of message ≡ AddRoSpec rospec) }
+        ensures { (rospec : Tree) → request_of message ≡ AddRoSpec rospec → result ≡ spec.rospec_of rospec }
+    {
+        message.lawful();
+        let mut children = message.into_children().into_vec();
+        match children.pop() {
+            Some(spec) => {
+                let settings = settings(&spec);
+                RoSpec { spec, settings }
+            }
+            None => unreachable!(),
+        }
+    }
+
+    /// What is read in it, all but its antennas.
+    pub(crate) fn settings(&self) -> &Settings
+        ensures { result.now ≡ settings_of self.now }
+    {
+        &self.settings
+    }
+
+    /// Whether its first AISpec lists an antenna, or 0.
+    #[tactic(auto, unfolding(crate::specs::RoSpec::rospec_of))]
+    pub(crate) fn lists_antenna(&self, antenna: u16) -> bool
+        ensures { result ≡ the_test antenna self.now.antennas }
+    {
+        match first(ParamKind::AiSpec, self.spec.children()) {
+            Some(ai_spec) => lists(ai_spec.tail().as_slice(), antenna),
+            None => false,
+        }
+    }
+}
+
+/// Whether the words of 16 bits in octets hold a number, or 0.
+fn lists(octets: &[u8], antenna: u16) -> bool
+    ensures { result ≡ the_test antenna (spec.words octets.now) }
+{
+    match octets {
+        [high, low, rest @ ..] => {
+            let listed = *high as u16 * 256 + *low as u16;
+            listed == 0 || listed == antenna || lists(rest, antenna)
+        }
+        _ => false,
+    }
+}

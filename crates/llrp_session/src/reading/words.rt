@@ -1,0 +1,95 @@
+//! What is read in a message.
+
+use crate::words::{Operation, ReportSpec};
+
+/// What is read in a ROSpec, all but its antennas (LLRP 1.1, section 11).
+#[derive(Clone, Copy, Debug, PartialEq, Eq)]
+pub(crate) struct Settings {
+    pub id: u32,
+    /// 0 for Disabled.
+    pub current_state: u8,
+    /// 0 for none, 1 for at once, 2 for periodic, 3 for a GPI.
+    pub start_trigger: u8,
+    /// 0 for none, 1 for a duration, 2 for a GPI.
+    pub stop_trigger: u8,
+    /// Of the stop trigger, in milliseconds.
+    pub duration: u32,
+    /// An AISpec has a stop trigger other than 0.
+    pub has_ai_stop: bool,
+    /// The InventoryParameterSpecID of the first AISpec's first InventoryParameterSpec.
+    pub inventory: u16,
+    /// Its own ROReportSpec.
+    pub report: Option<ReportSpec>,
+    /// The ROSpec's length.
+    pub octets: u32,
+}
+
+/// A KeepaliveSpec (LLRP 1.1, section 13).
+#[derive(Clone, Copy, Debug, PartialEq, Eq)]
+pub(crate) struct KeepaliveSpec {
+    /// 0 for none, 1 for a period.
+    pub trigger: u8,
+    /// In milliseconds.
+    pub period: u32,
+}
+
+/// What is read in SET_READER_CONFIG.
+#[derive(Clone, Copy, Debug, PartialEq, Eq)]
+pub(crate) struct Config {
+    /// To the factory default first.
+    pub reset: bool,
+    pub keepalive: Option<KeepaliveSpec>,
+    pub report: Option<ReportSpec>,
+}
+
+/// What a reader reads in a message.
+#[derive(Clone, Copy, Debug, PartialEq, Eq)]
+pub(crate) enum Request {
+    /// ADD_ROSPEC, with what is read in its ROSpec.
+    AddRoSpec(Settings),
+    DeleteRoSpec(u32),
+    StartRoSpec(u32),
+    StopRoSpec(u32),
+    EnableRoSpec(u32),
+    DisableRoSpec(u32),
+    SetReaderConfig(Config),
+    GetReports,
+    CloseConnection,
+    /// KEEPALIVE_ACK, ENABLE_EVENTS_AND_REPORTS or ERROR_MESSAGE.
+    NoRequest,
+    /// Any other kind of message.
+    Unsupported,
+}
+
+/// What is read in a ROSpecEvent.
+#[derive(Clone, Copy, Debug, PartialEq, Eq)]
+pub(crate) struct RoSpecChange {
+    /// 0 for a start, 1 and 2 for an end.
+    pub event: u8,
+    pub id: u32,
+}
+
+/// What is read in READER_EVENT_NOTIFICATION.
+#[derive(Clone, Copy, Debug, PartialEq, Eq)]
+pub(crate) struct Notification {
+    /// The status of a ConnectionAttemptEvent.
+    pub attempt: Option<u16>,
+    /// There is a ConnectionCloseEvent.
+    pub closes: bool,
+    pub rospec: Option<RoSpecChange>,
+}
+
+/// What a client reads in a message.
+#[derive(Clone, Copy, Debug, PartialEq, Eq)]
+pub(crate) enum Heard {
+    /// The response of an operation, with its status.
+    Response(Operation, u16),
+    /// ERROR_MESSAGE, with its status.
+    Error(u16),
+    /// RO_ACCESS_REPORT; its TagReportData are the message's children.
+    Report,
+    Keepalive,
+    Notified(Notification),
+    /// Any other kind of message.
+    Other,
+}

@@ -1,0 +1,55 @@
+//! The messages that the words of the two machines are.
+
+ghost use Rattle.std.specs.Prelude.{◌≡◌, IfOk, [], ◌∷◌};
+ghost use Rattle.llrp_tree.specs.Tree.{forest};
+ghost use Rattle.llrp_tree.specs.Lawful.{AreLawful, IsLawfulMessage};
+ghost use Rattle.llrp_session.specs.ReaderMessages.{parameter as the_parameter};
+
+pub(crate) mod client;
+pub(crate) mod reader;
+pub(crate) mod report;
+#[cfg(test)]
+mod tests;
+
+use llrp_tree::{Message, MsgKind, Node, Nodes, Octets, ParamKind};
+use std::alloc::{AllocError, Global};
+
+/// A parameter of these fields and children, with an empty tail.
+fn parameter(alloc: Global, kind: ParamKind, fields: &[u128], children: Vec<Node>) -> Node
+    requires { AreLawful kind fields.now [] (forest children.items) }
+    ensures { result ≡ the_parameter kind fields.now children.items }
+{
+    let tail = Octets::new(Vec::new(alloc));
+    match Node::new(kind, fields, tail, Nodes::new(children)) {
+        Ok(node) => node,
+        Err(_) => unreachable!(),
+    }
+}
+
+/// A parameter of these fields, with an empty tail and without children.
+fn leaf(alloc: Global, kind: ParamKind, fields: &[u128]) -> Node
+    requires { AreLawful kind fields.now [] (forest []) }
+    ensures { result ≡ the_parameter kind fields.now [] }
+{
+    parameter(alloc, kind, fields, Vec::new(alloc))
+}
+
+/// A vector of one parameter.
+fn only(alloc: Global, node: Node) -> Result<Vec<Node>, AllocError>
+    ensures { IfOk result (λ nodes. nodes.items ≡ node ∷ []) }
+{
+    let mut nodes = Vec::with_capacity(alloc, 1)?;
+    nodes.push(node)?;
+    Ok(nodes)
+}
+
+/// The message of these parts.
+fn message(version: u8, id: u32, kind: MsgKind, fields: &[u128], children: Vec<Node>) -> Message
+    requires { IsLawfulMessage (record { version = version; id = id; kind = kind; fields = fields.now; children = forest children.items }) }
+    ensures { result ≡ record { version = version; id = id; kind = kind; fields = fields.now; children = forest children.items } }
+{
+    match Message::new(version, id, kind, fields, Nodes::new(children)) {
+        Ok(message) => message,
+        Err(_) => unreachable!(),
+    }
+}

@@ -1,0 +1,146 @@
+//! The messages of a reader. Each carries the version and the id that are handed in; an error is want of memory.
+
+ghost use Rattle.std.specs.Prelude.{◌≡◌, ◌≤◌, ◌⊎◌, IfOk, length, [], ◌∷◌};
+ghost use Rattle.llrp_tree.specs.Lawful.{IsLawfulMessage};
+ghost use Rattle.llrp_tree.specs.Tree.{forest};
+ghost use Rattle.llrp_session.specs.ReaderMachine.{most_held};
+ghost use Rattle.llrp_session.specs.Words.{Response, Error, Report, KeepaliveSent, Accepted, Started, Ended, Overflowed};
+ghost use Rattle.llrp_session.specs.ReaderMessages.{response_kind as the_response_kind, notification_data, reader_message};
+ghost use Rattle.llrp_session.specs.LawfulWords.{AreReports};
+
+use super::{leaf, message, only, parameter};
+use crate::words::Operation;
+use llrp_tree::{Message, MsgKind, Node, ParamKind};
+use std::alloc::{AllocError, Global};
+
+/// The kind of the response of an operation.
+fn response_kind(operation: Operation) -> MsgKind
+    ensures { result ≡ the_response_kind operation }
+{
+    match operation {
+        Operation::Adding => MsgKind::AddRoSpecResponse,
+        Operation::Deleting => MsgKind::DeleteRoSpecResponse,
+        Operation::Starting => MsgKind::StartRoSpecResponse,
+        Operation::Stopping => MsgKind::StopRoSpecResponse,
+        Operation::Enabling => MsgKind::EnableRoSpecResponse,
+        Operation::Disabling => MsgKind::DisableRoSpecResponse,
+        Operation::Configuring => MsgKind::SetReaderConfigResponse,
+        Operation::Closing => MsgKind::CloseConnectionResponse,
+    }
+}
+
+/// The response of an operation, with a status.
+pub(crate) fn response(
+    alloc: Global,
+    version: u8,
+    id: u32,
+    operation: Operation,
+    status: u16,
+) -> Result<Message, AllocError>
+    requires { (version ≡ 1) ⊎ (version ≡ 2) }
+    ensures { IfOk result (λ m. m ≡ reader_message (record { version = version; id = id; word = Response operation status })) }
+{
+    let status = leaf(alloc, ParamKind::LlrpStatus, &[status as u128]);
+    let children = only(alloc, status)?;
+    Ok(message(version, id, response_kind(operation), &[], children))
+}
+
+/// ERROR_MESSAGE, with a status.
+pub(crate) fn error(alloc: Global, version: u8, id: u32, status: u16) -> Result<Message, AllocError>
+    requires { (version ≡ 1) ⊎ (version ≡ 2) }
+    ensures { IfOk result (λ m. m ≡ reader_message (record { version = version; id = id; word = Error status })) }
+{
+    let status = leaf(alloc, ParamKind::LlrpStatus, &[status as u128]);
+    let children = only(alloc, status)?;
+    Ok(message(version, id, MsgKind::ErrorMessage, &[], children))
+}
+
+/// RO_ACCESS_REPORT of these TagReportData. It takes no memory.
+pub(crate) fn report(version: u8, id: u32, tags: Vec<Node>) -> Message
+    requires version { (version ≡ 1) ⊎ (version ≡ 2) }
+    requires reports { AreReports tags.items }
+    requires few { length tags.items ≤ most_held }
+    ensures { result ≡ reader_message (record { version = version; id = id; word = Report tags.items }) }
+{
+    message(version, id, MsgKind::RoAccessReport, &[], tags)
+}
+
+/// KEEPALIVE. It takes no memory.
+pub(crate) fn keepalive(alloc: Global, version: u8, id: u32) -> Message
+    requires { (version ≡ 1) ⊎ (version ≡ 2) }
+    ensures { result ≡ reader_message (record { version = version; id = id; word = KeepaliveSent }) }
+{
+    message(version, id, MsgKind::Keepalive, &[], Vec::new(alloc))
+}
+
+/// READER_EVENT_NOTIFICATION of an event at a moment.
+fn notification(
+    alloc: Global,
+    version: u8,
+    id: u32,
+    now: u64,
+    event: Node,
+) -> Result<Message, AllocError>
+    requires { IsLawfulMessage (record { version = version; id = id; kind = MsgKind.ReaderEventNotification; fields = []; children = forest (notification_data now event ∷ []) }) }
+    ensures { IfOk result (λ m. m ≡ record { version = version; id = id; kind = MsgKind.ReaderEventNotification; fields = []; children = forest (notification_data now event ∷ []) }) }
+{
+    let mut told = Vec::with_capacity(alloc, 2)?;
+    told.push(leaf(alloc, ParamKind::UtcTimestamp, &[now as u128]))?;
+    told.push(event)?;
+    let told = parameter(alloc, ParamKind::ReaderEventNotificationData, &[], told);
+    let children = only(alloc, told)?;
+    Ok(message(version, id, MsgKind::ReaderEventNotification, &[], children))
+}
+
+/// The connection is accepted.
+pub(crate) fn accepted(alloc: Global, version: u8, id: u32, now: u64) -> Result<Message, AllocError>
+    requires { (version ≡ 1) ⊎ (version ≡ 2) }
+    ensures { IfOk result (λ m. m ≡ reader_message (record { version = version; id = id; word = Accepted now })) }
+{
+    let event = leaf(alloc, ParamKind::ConnectionAttemptEvent, &[0]);
+    notification(alloc, version, id, now, event)
+}
+
+/// A ROSpec was started.
+pub(crate) fn started(
+    alloc: Global,
+    version: u8,
+    id: u32,
+    now: u64,
+    rospec: u32,
+) -> Result<Message, AllocError>
+    requires { (version ≡ 1) ⊎ (version ≡ 2) }
+    ensures { IfOk result (λ m. m ≡ reader_message (record { version = version; id = id; word = Started now rospec })) }
+{
+    let event = leaf(alloc, ParamKind::RoSpecEvent, &[0, rospec as u128, 0]);
+    notification(alloc, version, id, now, event)
+}
+
+/// A ROSpec was ended.
+pub(crate) fn ended(
+    alloc: Global,
+    version: u8,
+    id: u32,
+    now: u64,
+    rospec: u32,
+) -> Result<Message, AllocError>
+    requires { (version ≡ 1) ⊎ (version ≡ 2) }
+    ensures { IfOk result (λ m. m ≡ reader_message (record { version = version; id = id; word = Ended now rospec })) }
+{
+    let event = leaf(alloc, ParamKind::RoSpecEvent, &[1, rospec as u128, 0]);
+    notification(alloc, version, id, now, event)
+}
+
+/// A sighting was dropped, for want of room.
+pub(crate) fn overflowed(
+    alloc: Global,
+    version: u8,
+    id: u32,
+    now: u64,
+) -> Result<Message, AllocError>
+    requires { (version ≡ 1) ⊎ (version ≡ 2) }
+    ensures { IfOk result (λ m. m ≡ reader_message (record { version = version; id = id; word = Overflowed now })) }
+{
+    let event = leaf(alloc, ParamKind::ReportBufferOverflowErrorEvent, &[]);
+    notification(alloc, version, id, now, event)
+}
