@@ -1,12 +1,13 @@
 //! What holds of every frame, every stream and every text.
 
-ghost use Rattle.std.specs.Prelude.{List, ◌≡◌, ◌≤◌, ℕ};
+ghost use Rattle.std.specs.Prelude.{List, Some, codes, true, ◌≡◌, ◌≤◌, ℕ};
 ghost use Rattle.llrp_tool.specs.Cuts.{IsFrame};
 ghost use Rattle.llrp_tool.specs.declared.fault.Verdict.{Verdict};
 ghost use Rattle.llrp_tool.specs.EpcLines.{Prints};
 ghost use Rattle.llrp_tool.specs.Frame.{AreOctets};
 ghost use Rattle.llrp_tool.specs.ItemLaws.{HasOneItem, HasOneListing};
 ghost use Rattle.llrp_tool.specs.ListingLaws.{ListedOrRefused};
+ghost use Rattle.llrp_tool.specs.Words.{AsksEpc, command_in, name_in, parses};
 
 /// Each frame has one message or exactly one first fault, and never both.
 pub fn frames_apart()
@@ -28,4 +29,9 @@ pub fn listed_or_refused()
 pub fn one_epc_answer()
     ensures verdict { (text a b : List ℕ) (v w : Verdict) → Prints text v a → Prints text w b → v ≡ w }
     ensures lines { (text a b : List ℕ) (v w : Verdict) → Prints text v a → Prints text w b → a ≡ b }
+{}
+
+/// Where the parse of the words succeeds and names epc, its text is there.
+pub fn epc_has_text()
+    ensures { (words : List (List ℕ)) → parses words ≡ true → name_in (command_in words) ≡ Some (codes "epc") → (text : List ℕ) × AsksEpc words text }
 {}
