@@ -5,6 +5,7 @@ pub mod Cutting
 pub mod DecimalWords
 pub mod DeviceLemmas
 pub mod EpcLemmas
+pub mod EpcText
 pub mod FrameBytes
 pub mod FramingLemmas
 pub mod Growing

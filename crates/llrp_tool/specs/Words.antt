@@ -67,12 +67,12 @@ pub record AsksEpc (words : List Text) (text : Text) : Type 0 where
   pub named : name_in (command_in words) ≡ Some (codes "epc")
   pub given : text_in (command_in words) ≡ Some text
 
--- The words name a command that the program runs itself; an epc without its text would count as one.
+-- The words name a command that the program runs itself.
 pub record AsksElsewhere (words : List Text) : Type 0 where
   pub parsed : parses words ≡ true
   pub no_show : name_in (command_in words) ≢ Some (codes "show")
   pub no_encode : name_in (command_in words) ≢ Some (codes "encode")
-  pub no_epc : name_in (command_in words) ≡ Some (codes "epc") → text_in (command_in words) ≡ None
+  pub no_epc : name_in (command_in words) ≢ Some (codes "epc")
 
 -- the flag is this one, if it says what a flag may say
 abbrev pub HasFlag : Option Text → Bool → Type 0

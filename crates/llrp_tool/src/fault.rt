@@ -11,9 +11,9 @@ use thiserror::Error;
 /// What a command that read its whole input found.
 #[derive(Clone, Copy, Debug, PartialEq, Eq)]
 pub enum Verdict {
-    /// Each frame is a message, and the stream ends where a frame ends.
+    /// Each frame is a message, and the stream ends where a frame ends; or the text is a word's.
     Lawful,
-    /// Some frame has a fault, or the stream ends otherwise.
+    /// Some frame has a fault, or the stream ends otherwise; or the text is no word's.
     Faulty,
 }
 

@@ -1,6 +1,6 @@
 //! What holds of every frame, every stream and every text.
 
-ghost use Rattle.std.specs.Prelude.{List, ◌≡◌, ◌≤◌, ℕ};
+ghost use Rattle.std.specs.Prelude.{List, Some, codes, true, ◌≡◌, ◌≤◌, ℕ};
 ghost use Rattle.llrp_tool.specs.Cuts.{IsFrame};
 ghost use Rattle.llrp_tool.specs.declared.fault.Verdict.{Verdict};
 ghost use Rattle.llrp_tool.specs.EpcLines.{Prints};
@@ -10,6 +10,7 @@ ghost use Rattle.llrp_tool.specs.ListingLaws.{ListedOrRefused};
 ghost use Rattle.llrp_tool.specs.Script.{IsLawful, IsScript};
 ghost use Rattle.llrp_tool.specs.ScriptLaws.{ScriptOrRefused};
 ghost use Rattle.llrp_tool.specs.declared.script.Entry.{Entry};
+ghost use Rattle.llrp_tool.specs.Words.{AsksEpc, command_in, name_in, parses};
 
 /// Each frame has one message or exactly one first fault, and never both.
 pub fn frames_apart()
@@ -43,4 +44,9 @@ pub fn one_script()
 /// A text is a script or has exactly one first refused line, and never both.
 pub fn script_or_refused()
     ensures { (text : List ℕ) → ScriptOrRefused text }
+{}
+
+/// Where the parse of the words succeeds and names epc, its text is there.
+pub fn epc_has_text()
+    ensures { (words : List (List ℕ)) → parses words ≡ true → name_in (command_in words) ≡ Some (codes "epc") → (text : List ℕ) × AsksEpc words text }
 {}

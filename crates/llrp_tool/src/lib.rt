@@ -1,5 +1,5 @@
-//! The commands of `llrp` over bytes and texts: the listing of a stream of LLRP messages, and the
-//! stream of a listing. Sockets, files and the command line's process are not in here.
+//! The commands of `llrp` over bytes and texts: the listing of a stream of LLRP messages, the
+//! stream of a listing, and the texts of EPC words. Sockets, files and the command line's process are not in here.
 #![tactic(auto)]
 
 mod command;
