@@ -1,5 +1,69 @@
-//! Laws of the machines and of their messages.
+//! Laws of the two machines, over every list of events, and of their messages.
 
 mod messages;
 
+ghost use Rattle.std.specs.Prelude.{ℕ, ◌^◌, ◌<◌, ◌≤◌, length, IfOk};
+ghost use Rattle.llrp_session.specs.Sightings.{AfterAllEvents, ReportsInOrder, OverflowsTold, HoldsFewEnough, OneActive as OneIsActive};
+ghost use Rattle.llrp_session.specs.Words.{Command, Heard};
+ghost use Rattle.llrp_session.specs.ReaderMachine.{Reader, ReaderEvent, new_reader, next};
+ghost use Rattle.llrp_session.specs.ClientMachine.{Client, command, take};
+ghost use Rattle.llrp_session.specs.LawfulWords.{IsLawfulClientMessage};
+ghost use Rattle.llrp_session.specs.LawfulStates.{IsLawfulReader, IsLawfulReaderEvent, AreLawfulReaderMessages, IsGivenCommand, AreLawfulClientMessages};
+ghost use Rattle.llrp_session.specs.TableLaws.{EntersOne, ChangesEach, RemovesThoseNamed, EntersOneInView, ChangesEachInView, RemovesThoseNamedInView, SeesEach, EachOnce};
+ghost use Rattle.llrp_session.specs.Agreement.{AfterAll, ViewCatchesUp, ViewIsTable, ReportsArrive, ReportsAreKept, ReaderHasHistory, OneActive, NothingIsUnexpected, PendingIsOnTheWay, NothingIsPending};
+
 pub use messages::{messages_are_lawful, messages_read_back, worlds_agree};
+
+/// Whatever happens to a reader, no sighting that counts is lost but those of which an overflow event tells, and none is
+/// reported twice.
+pub fn sightings_kept()
+    ensures reports_in_order { AfterAllEvents ReportsInOrder }
+    ensures overflows_told { AfterAllEvents OverflowsTold }
+    ensures holds_few_enough { AfterAllEvents HoldsFewEnough }
+    ensures one_active { AfterAllEvents OneIsActive }
+{}
+
+/// Whatever happens to a client and a reader with whole messages on the way between them, the two ends agree.
+pub fn ends_agree_whole()
+    ensures view_catches_up { AfterAll ViewCatchesUp }
+    ensures view_is_table { AfterAll ViewIsTable }
+    ensures reports_arrive { AfterAll ReportsArrive }
+    ensures reports_are_kept { AfterAll ReportsAreKept }
+    ensures reader_has_history { AfterAll ReaderHasHistory }
+    ensures one_active { AfterAll OneActive }
+    ensures nothing_is_unexpected { AfterAll NothingIsUnexpected }
+    ensures pending_is_on_the_way { AfterAll PendingIsOnTheWay }
+    ensures nothing_is_pending { AfterAll NothingIsPending }
+{}
+
+/// A table of ROSpecs, and a client's view of one, is a finite map from ids to states; a reader's has each id once and
+/// never 0.
+pub fn tables_are_maps()
+    ensures enter { EntersOne }
+    ensures change { ChangesEach }
+    ensures remove { RemovesThoseNamed }
+    ensures enter_in_view { EntersOneInView }
+    ensures change_in_view { ChangesEachInView }
+    ensures remove_in_view { RemovesThoseNamedInView }
+    ensures seen { SeesEach }
+    ensures each_once { AfterAllEvents EachOnce }
+{}
+
+/// A step of a reader sends at most three messages.
+#[tactic(auto, using(crate::proofs::ThreeAtMost::three_at_most))]
+pub fn three_messages_at_most()
+    ensures { (now : ℕ) (event : ReaderEvent) (reader : Reader) → IfOk (next now event reader) (λ turn. length turn.sent ≤ 3) }
+{}
+
+/// A reader or a client whose numbers are those that their types hold, and which is given such, says only what has a lawful
+/// message within the limit.
+#[tactic(auto, using(crate::proofs::LawfulReaders::reader_as_new, crate::proofs::LawfulReaders::reader_says_lawful, crate::proofs::LawfulClients::command_is_lawful, crate::proofs::LawfulClients::answer_is_lawful))]
+pub fn machines_say_what_is_lawful()
+    ensures reader_as_new { (limit first_id : ℕ) → first_id < 2 ^ 32 → IsLawfulReader (new_reader limit first_id) }
+    ensures reader { (now : ℕ) (event : ReaderEvent) (reader : Reader) → now < 2 ^ 64 → IsLawfulReaderEvent event → IsLawfulReader reader →
+        IfOk (next now event reader) (λ turn. AreLawfulReaderMessages turn.sent × IsLawfulReader turn.reader) }
+    ensures command { (client : Client) (asked : Command) → IsGivenCommand asked →
+        IfOk (command client asked) (λ sending. IsLawfulClientMessage client.limit sending.message) }
+    ensures answer { (client : Client) (id : ℕ) (heard : Heard) → id < 2 ^ 32 →
+        IfOk (take client id heard) (λ taking. AreLawfulClientMessages client.limit taking.sent) }
+{}
