@@ -22,4 +22,3 @@ pub mod LawfulParts
 pub mod ToldMessages
 pub mod ReadFields
 pub mod OnlyRoSpec
-pub mod ReportParts
