@@ -22,4 +22,4 @@ pub mod LawfulParts
 pub mod ToldMessages
 pub mod ReadFields
 pub mod OnlyRoSpec
-pub mod ReportParts
+pub mod SendableWorlds

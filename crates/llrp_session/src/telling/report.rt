@@ -4,6 +4,7 @@ ghost use Rattle.std.specs.Prelude.{◌≡◌, ◌≤◌, [], ◌∷◌, ◌++�
 ghost use Rattle.llrp_tree.specs.Lawful.{IsLawful};
 ghost use Rattle.llrp_session.specs.TagReport.{signed_octet as the_octet, value_parameter, if_selected, report_parts as the_parts, tag_report as the_report};
 ghost use Rattle.llrp_session.specs.LawfulWords.{IsReport};
+ghost use Rattle.llrp_session.specs.LawfulStates.{IsToldOf, IsLawfulSighting};
 
 use super::{leaf, parameter};
 use crate::reading::rospec::RoSpec;
@@ -73,6 +74,19 @@ fn report_parts(
     Ok(parts.nodes)
 }
 
+/// The numbers of a ROSpec and of a sighting fit the fields in which they are told; this changes nothing.
+fn known_to_fit(rospec: &RoSpec, sighting: &Sighting)
+    ensures rospec { IsToldOf rospec.now }
+    ensures sighting { IsLawfulSighting sighting.now }
+{
+    let told = rospec.settings();
+    let _id = told.id;
+    let _inventory = told.inventory;
+    let _epc = sighting.epc.number();
+    let _rssi = signed_octet(sighting.rssi);
+    let _antenna = sighting.antenna;
+}
+
 /// The TagReportData of what was sighted at a moment while a ROSpec was active; an error is want of memory.
 pub(crate) fn tag_report(
     alloc: Global,
@@ -84,8 +98,7 @@ pub(crate) fn tag_report(
     ensures report { IfOk result (λ n. n ≡ the_report now rospec.now selector.now sighting.now) }
     ensures short { IfOk result (λ n. IsReport n) }
 {
+    known_to_fit(rospec, sighting);
     let parts = report_parts(alloc, now, rospec, selector, sighting)?;
-    let report = parameter(alloc, ParamKind::TagReportData, &[], parts);
-    report.lawful();
-    Ok(report)
+    Ok(parameter(alloc, ParamKind::TagReportData, &[], parts))
 }
