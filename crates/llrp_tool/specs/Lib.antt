@@ -15,6 +15,8 @@ pub mod Lines
 pub mod Listing
 pub mod ListingLaws
 pub mod MessageLine
+pub mod MessageListing
+pub mod NodeLine
 pub mod OpenText
 pub mod Reading
 pub mod Refused
