@@ -14,6 +14,7 @@ pub mod LineReading
 pub mod Listed
 pub mod MessageWords
 pub mod Numerals
+pub mod PrintingLemmas
 pub mod Rows
 pub mod Running
 pub mod ShowLemmas

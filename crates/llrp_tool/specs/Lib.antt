@@ -18,6 +18,7 @@ pub mod MessageLine
 pub mod MessageListing
 pub mod NodeLine
 pub mod OpenText
+pub mod Printing
 pub mod Reading
 pub mod Refused
 pub mod Schema

@@ -11,6 +11,7 @@ mod frame;
 mod hexadecimal;
 pub mod laws;
 mod line;
+mod listing;
 mod message;
 mod show;
 mod words;
