@@ -7,7 +7,7 @@ use Rattle.llrp_tool.specs.declared.fault.ToolErr.{ToolErr}
 use Rattle.llrp_tool.specs.declared.fault.ToolErr.TheVariants.{Listing, Hex, Read, Write, Bound, Memory}
 use Rattle.llrp_tool.specs.Command.{LIMIT, NotEncoded, memory_error}
 use Rattle.llrp_tool.specs.Copying.{Writes}
-use Rattle.llrp_tool.specs.Device.{SourceLog, SinkLog, Wrote}
+use Rattle.llrp_stream.specs.Device.{SourceLog, SinkLog, Wrote}
 use Rattle.llrp_tool.specs.Encoding.{EncodeStopped}
 use Rattle.llrp_tool.proofs.DeviceLemmas.{wrote_then_failed}
 

@@ -7,7 +7,7 @@ use Rattle.llrp_tool.specs.declared.message.Message.{Message}
 use Rattle.llrp_tool.specs.declared.fault.ToolErr.{ToolErr}
 use Rattle.llrp_tool.specs.declared.fault.ToolErr.TheVariants.{Listing, Hex, Read, Write, Bound, Memory}
 use Rattle.llrp_tool.specs.Copying.{MOST_READS, ReadAll}
-use Rattle.llrp_tool.specs.Device.{SourceLog, SinkLog, Gave, Took}
+use Rattle.llrp_stream.specs.Device.{SourceLog, SinkLog, Gave, Took}
 use Rattle.llrp_tool.specs.Encoder.{StandsAt, Stopped, StoppedAtEnd, WroteEncoding}
 use Rattle.llrp_tool.specs.Encoding.{EncodeStopped, Encoded}
 use Rattle.llrp_tool.proofs.DeviceLemmas.{consumes_more}

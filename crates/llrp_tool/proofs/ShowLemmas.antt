@@ -9,7 +9,7 @@ use Rattle.llrp_tool.specs.declared.frame.End.{End}
 use Rattle.llrp_tool.specs.declared.fault.ToolErr.{ToolErr}
 use Rattle.llrp_tool.specs.declared.fault.ToolErr.TheVariants.{Listing, Read, Write, Bound, Memory, Hex}
 use Rattle.llrp_tool.specs.declared.fault.Verdict.{Verdict}
-use Rattle.llrp_tool.specs.Device.{SinkLog, Wrote}
+use Rattle.llrp_stream.specs.Device.{SinkLog, Wrote}
 use Rattle.llrp_tool.specs.Copying.{HandsOn, IsPrefix, Writes, WriteStopped}
 use Rattle.llrp_tool.specs.Cuts.{IsFrame, Ends, joined}
 use Rattle.llrp_tool.specs.Items.{IsItemOf, Items}

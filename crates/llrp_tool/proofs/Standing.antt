@@ -11,7 +11,7 @@ use Rattle.llrp_tool.specs.declared.fault.ToolErr.{ToolErr}
 use Rattle.llrp_tool.specs.declared.fault.ToolErr.TheVariants.{Listing, Hex, Read, Write, Bound, Memory}
 use Rattle.llrp_tool.specs.Checks.{FirstFailing}
 use Rattle.llrp_tool.specs.Copying.{Writes, HandsOn}
-use Rattle.llrp_tool.specs.Device.{SinkLog, Wrote}
+use Rattle.llrp_stream.specs.Device.{SinkLog, Wrote}
 use Rattle.llrp_tool.specs.Encoder.{Lacks, those, chain_of, open_of, StandsAt, Stopped, StoppedAtEnd, WroteEncoding, Refusing, AppendsFrame}
 use Rattle.llrp_tool.specs.Encoding.{AreSpelled, AreClosed, BeginsEncoding, Encodes, Refuses, row}
 use Rattle.llrp_tool.specs.FirstRefusal.{Refused}

@@ -6,7 +6,7 @@ use Rattle.llrp_tool.specs.declared.fault.ToolErr.TheVariants.{Listing, Hex, Rea
 use Rattle.llrp_tool.specs.declared.fault.Verdict.{Verdict}
 use Rattle.llrp_tool.specs.declared.fault.Verdict.TheVariants.{Lawful, Faulty}
 use Rattle.llrp_tool.specs.Copying.{MOST_READS, GaveAndFailed, IsPrefix, ReadAll, ReadStopped}
-use Rattle.llrp_tool.specs.Device.{SourceLog, SinkLog, Gave, Wrote, WroteAndFailed}
+use Rattle.llrp_stream.specs.Device.{SourceLog, SinkLog, Gave, Wrote, WroteAndFailed}
 use Rattle.llrp_tool.specs.Encoding.{Encoded, Encodes, EncodeStopped, ListingRefused, WasRead}
 use Rattle.llrp_tool.specs.Hexadecimal.{IsHexOf, IsNoHex}
 use Rattle.llrp_tool.specs.Refused.{refusal_name}

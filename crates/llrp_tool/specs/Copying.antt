@@ -3,7 +3,7 @@ use Rattle.std.specs.Prelude.{◌≡◌, ℕ, ◌+◌, ◌<◌, List, ◌++◌, 
 use Rattle.std.specs.Io.KnownBytes.{IsAtEnd, Consumes}
 use Rattle.llrp_tool.specs.declared.fault.ToolErr.{ToolErr}
 use Rattle.llrp_tool.specs.declared.fault.ToolErr.TheVariants.{Listing, Hex, Read, Write, Bound, Memory}
-use Rattle.llrp_tool.specs.Device.{SourceLog, SinkLog, Gave, Wrote, WroteAndFailed}
+use Rattle.llrp_stream.specs.Device.{SourceLog, SinkLog, Gave, Wrote, WroteAndFailed}
 
 -- the most reads of one source that give bytes
 abbrev pub MOST_READS : ℕ

@@ -7,7 +7,7 @@ use Rattle.llrp_tool.specs.declared.fault.Refusal.{Refusal}
 use Rattle.llrp_tool.specs.declared.fault.ToolErr.{ToolErr}
 use Rattle.llrp_tool.specs.declared.fault.ToolErr.TheVariants.{Listing, Hex, Read, Write, Bound, Memory}
 use Rattle.llrp_tool.specs.Copying.{IsPrefix}
-use Rattle.llrp_tool.specs.Device.{SinkLog, Wrote, WroteAndFailed}
+use Rattle.llrp_stream.specs.Device.{SinkLog, Wrote, WroteAndFailed}
 use Rattle.llrp_tool.specs.Encoding.{AreSpelled, BeginsEncoding, Encodes, Refuses, row}
 use Rattle.llrp_tool.specs.Frame.{IsLawful}
 use Rattle.llrp_tool.specs.Lines.{TextLine, lines_of, NoLf}

@@ -6,7 +6,7 @@ use Rattle.llrp_tool.specs.declared.fault.Refusal.{Refusal}
 use Rattle.llrp_tool.specs.declared.fault.ToolErr.{ToolErr}
 use Rattle.llrp_tool.specs.declared.fault.ToolErr.TheVariants.{Listing, Hex, Read, Write, Bound, Memory}
 use Rattle.llrp_tool.specs.Copying.{MOST_READS, ReadAll, GaveAndFailed, IsPrefix}
-use Rattle.llrp_tool.specs.Device.{SourceLog, SinkLog, Gave, Wrote, WroteAndFailed}
+use Rattle.llrp_stream.specs.Device.{SourceLog, SinkLog, Gave, Wrote, WroteAndFailed}
 use Rattle.llrp_tool.specs.FirstRefusal.{Opens, Refused}
 use Rattle.llrp_tool.specs.Frame.{Spells}
 use Rattle.llrp_tool.specs.Lines.{TextLine, lines_of}

@@ -2,7 +2,6 @@ pub mod Checks
 pub mod Command
 pub mod Copying
 pub mod Cuts
-pub mod Device
 pub mod Encoder
 pub mod Encoding
 pub mod FirstRefusal

@@ -6,7 +6,7 @@ use Rattle.llrp_tool.specs.declared.fault.ToolErr.{ToolErr}
 use Rattle.llrp_tool.specs.declared.fault.ToolErr.TheVariants.{Listing, Hex, Read, Write, Bound, Memory}
 use Rattle.llrp_tool.specs.declared.fault.Verdict.{Verdict}
 use Rattle.llrp_tool.specs.declared.fault.Verdict.TheVariants.{Lawful, Faulty}
-use Rattle.llrp_tool.specs.Device.{SourceLog, SinkLog, Wrote, WroteAndFailed}
+use Rattle.llrp_stream.specs.Device.{SourceLog, SinkLog, Wrote, WroteAndFailed}
 use Rattle.llrp_tool.specs.Copying.{ReadAll, ReadStopped, IsPrefix}
 use Rattle.llrp_tool.specs.Items.{Items}
 use Rattle.llrp_tool.specs.Listing.{listing, is_lawful}

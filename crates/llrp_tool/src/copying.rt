@@ -2,10 +2,10 @@
 
 ghost use Rattle.std.specs.Prelude.{◌+◌, ◌<◌, ◌≡◌, ◌^◌, IfErr, IfOk, List, OnOk, [], ℕ};
 ghost use Rattle.llrp_tool.specs.Copying.{HandsOn, ReadAll, ReadStopped, Writes};
-ghost use Rattle.llrp_tool.specs.Device.{IsFreshSource};
+ghost use Rattle.llrp_stream.specs.Device.{IsFreshSource};
 
-use crate::device::{Sink, Source};
 use crate::fault::ToolErr;
+use llrp_stream::{Sink, Source};
 use std::alloc::Global;
 
 /// The most reads of one source that give bytes.

@@ -3,7 +3,7 @@
 
 ghost use Rattle.std.specs.Prelude.{◌++◌, ◌+◌, ◌<◌, ◌≡◌, ◌≤◌, ◌^◌, ◌∷◌, IfErr, IfOk, IsErrAnd, IsTrue, List, MatchResult, OnErr, OnOk, [], length, ℕ};
 ghost use Rattle.llrp_tool.specs.Checks.{FirstFailing};
-ghost use Rattle.llrp_tool.specs.Device.{IsFreshSource, SinkLog};
+ghost use Rattle.llrp_stream.specs.Device.{IsFreshSource, SinkLog};
 ghost use Rattle.llrp_tool.specs.Encoder.{AppendsFrame, Lacks, Refusing, Stands, Stopped, StoppedAtEnd, WroteEncoding, chain_of};
 ghost use Rattle.llrp_tool.specs.Encoding.{EncodeStopped, Encoded};
 ghost use Rattle.llrp_tool.specs.Frame.{IsLawful, Spells};
@@ -11,10 +11,10 @@ ghost use Rattle.llrp_tool.specs.Lines.{Ended, NoLf};
 ghost use Rattle.llrp_tool.specs.MessageLine.{SaysMessage, line_checks};
 
 use crate::copying::{MOST_READS, READ_SIZE, hand_on, hand_on_pieces};
-use crate::device::{Sink, Source};
 use crate::fault::{Refusal, ToolErr};
 use crate::line::{LONGEST_LINE, read_line, split_once};
 use crate::message::Message;
+use llrp_stream::{Sink, Source};
 use std::alloc::{AllocError, Global};
 
 /// How many octets each message that this crate knows spells: those of a header.

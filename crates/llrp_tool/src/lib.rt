@@ -4,7 +4,6 @@
 
 mod command;
 mod copying;
-pub mod device;
 mod encode;
 mod fault;
 mod frame;
@@ -17,10 +16,10 @@ mod show;
 mod words;
 
 pub use command::run_command;
-pub use device::{Input, Output, Sink, Source};
 pub use encode::run_encode;
 pub use fault::{Refusal, ToolErr, Verdict};
 pub use hexadecimal::bytes_of_hex;
+pub use llrp_stream::{Input, Output, Sink, Source};
 pub use show::run_show;
 
 #[cfg(test)]

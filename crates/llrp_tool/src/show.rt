@@ -1,16 +1,16 @@
 //! The listing of a stream.
 
 ghost use Rattle.std.specs.Prelude.{◌&&◌, ◌+◌, ◌++◌, ◌<◌, ◌^◌, ◌≡◌, ◌≤◌, IfErr, IfOk, OnOk};
-ghost use Rattle.llrp_tool.specs.Device.{IsFreshSource};
+ghost use Rattle.llrp_stream.specs.Device.{IsFreshSource};
 ghost use Rattle.llrp_tool.specs.Listing.{end_text, is_clean, item_text, message_text};
 ghost use Rattle.llrp_tool.specs.Show.{Listed, Shows, Stopped, verdict_of};
 
 use crate::copying::{PIECE_SIZE, hand_on_pieces, read_all, write_all};
-use crate::device::{Sink, Source};
 use crate::fault::{ToolErr, Verdict};
 use crate::frame::{End, Fault, Front, Item, front_of, item_of};
 use crate::message::Message;
 use itoa::Buffer;
+use llrp_stream::{Sink, Source};
 use std::alloc::{AllocError, Global};
 
 /// The room for a line of text past a whole piece.

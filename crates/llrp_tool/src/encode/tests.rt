@@ -2,9 +2,9 @@
 
 ghost use Rattle.std.specs.Prelude.{Some};
 
-use crate::device::{Input, Output, Sink};
 use crate::encode::run_encode;
 use crate::fault::{Refusal, ToolErr};
+use llrp_stream::{Input, Output, Sink};
 use std::io;
 use std::test::Fail;
 

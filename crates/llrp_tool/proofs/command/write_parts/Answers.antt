@@ -1,6 +1,6 @@
 use Rattle.std.proofs.Common.{arith, ap}
 use Rattle.std.proofs.lemmas.Result.{err_from_is_err_and}
-use Rattle.llrp_tool.specs.Device.{SinkLog}
+use Rattle.llrp_stream.specs.Device.{SinkLog}
 use Rattle.llrp_tool.proofs.AnswerLemmas.{parts_stop}
 use Rattle.llrp_tool.proofs.command.write_parts.Goals as goal
 

@@ -1,6 +1,6 @@
 use Rattle.std.proofs.Common.{take}
 use Rattle.std.specs.List.{flat_map}
-use Rattle.llrp_tool.specs.Device.{Wrote}
+use Rattle.llrp_stream.specs.Device.{Wrote}
 use Rattle.llrp_tool.proofs.command.write_parts.Given as goal
 
 abbrev pub invariant-loop-part : goal.invariant-loop-part

@@ -2,7 +2,7 @@ use Rattle.std.proofs.Common.{◌+◌, ◌++◌, ◌<◌, length, take, arith, [
 use Rattle.std.proofs.lemmas.List.{length-take}
 use Rattle.std.proofs.lemmas.Result.{err_from_is_err_and}
 use Rattle.llrp_tool.specs.Copying.{ReadAll}
-use Rattle.llrp_tool.specs.Device.{Took, Gave}
+use Rattle.llrp_stream.specs.Device.{Took, Gave}
 use Rattle.llrp_tool.proofs.DeviceLemmas.{read_more}
 use Rattle.llrp_tool.proofs.Running.{read_failed, read_bound, read_end, stop_while, ends_ok, ends_err}
 use Rattle.llrp_tool.proofs.encode.run_encode.Goals as goal

@@ -1,5 +1,5 @@
 use Rattle.std.proofs.Common.{◌≡◌, ◌≤◌, ◌*◌, ℕ, List}
-use Rattle.llrp_tool.specs.Device.{Gave}
+use Rattle.llrp_stream.specs.Device.{Gave}
 use Rattle.llrp_tool.specs.Encoder.{Stands}
 use Rattle.llrp_tool.proofs.encode.run_encode.Given as goal
 

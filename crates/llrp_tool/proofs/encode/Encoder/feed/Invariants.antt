@@ -1,5 +1,5 @@
 use Rattle.std.proofs.Common.{◌≡◌, ◌≤◌, ◌+◌, ◌++◌, ℕ, List, length}
-use Rattle.llrp_tool.specs.Device.{SinkLog}
+use Rattle.llrp_stream.specs.Device.{SinkLog}
 use Rattle.llrp_tool.specs.Encoder.{Stands}
 use Rattle.llrp_tool.proofs.encode.Encoder.feed.Given as goal
 

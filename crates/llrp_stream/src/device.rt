@@ -1,7 +1,7 @@
 //! Where bytes come from and go to: sources and sinks that count what happened to them.
 
 ghost use Rattle.std.specs.Prelude.{◌≡◌, ◌+◌, ◌^◌, ◌<◌, length};
-ghost use Rattle.llrp_tool.specs.Device.{CanRead, ReadStep, SinkLog, SourceLog, WriteStep, new_sink, new_source};
+ghost use Rattle.llrp_stream.specs.Device.{CanRead, ReadStep, SinkLog, SourceLog, WriteStep, new_sink, new_source};
 
 use std::io;
 use std::io::{Read, Write};

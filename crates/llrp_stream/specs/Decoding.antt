@@ -1,0 +1,63 @@
+-- What a decoder stands for, whatever it keeps.
+use Rattle.std.specs.Prelude.{◌≡◌, ℕ, Bool, true, false, List, [], ◌++◌, length}
+use Rattle.llrp_tree.specs.declared.fault.Fault.{Fault}
+use Rattle.llrp_tree.specs.FirstFault.{FirstFault}
+use Rattle.llrp_stream.specs.Cuts.{length_field, IsFrame, IsPartial}
+use Rattle.llrp_stream.specs.Items.{id_field}
+
+-- what a decoder keeps: nothing, where no frame is begun; the raw bytes of one; of a frame that it skips, how many bytes were taken, its length field, its id and its fault; nothing after a break, or after a refused growth
+pub data Kept : Type 0 where
+  between : Kept
+  raw : (bytes : List ℕ) → Kept
+  skipping : (count octets id : ℕ) (fault : Fault) → Kept
+  broken : Kept
+  dead : Kept
+
+pub record DecoderState : Type 0 where
+  pub limit : ℕ
+  pub kept : Kept
+
+-- The front has the kept count, length field and id, and every frame that begins with it has the kept fault.
+pub record IsSkipped (limit count octets id : ℕ) (fault : Fault) (front : List ℕ) : Type 0 where
+  pub count_is : count ≡ length front
+  pub octets_are : octets ≡ length_field front
+  pub id_is : id ≡ id_field front
+  pub faulty : (more : List ℕ) → IsFrame (front ++ more) → FirstFault (front ++ more) limit fault.bit fault.reason
+
+-- what is kept is of this front
+abbrev pub Keeps : ℕ → Kept → List ℕ → Type 0
+Keeps limit between front = front ≡ []
+Keeps limit (raw bytes) front = front ≡ bytes
+Keeps limit (skipping count octets id fault) front = IsSkipped limit count octets id fault front
+Keeps limit broken front = ⊥
+Keeps limit dead front = ⊥
+
+-- The decoder stands for the bytes of an unfinished frame.
+pub record Stands (decoder : DecoderState) (front : List ℕ) : Type 0 where
+  pub unfinished : IsPartial front
+  pub keeps : Keeps decoder.limit decoder.kept front
+
+-- the number of raw bytes
+abbrev pub raw_octets : Kept → ℕ
+raw_octets between = 0
+raw_octets (raw bytes) = length bytes
+raw_octets (skipping count octets id fault) = 0
+raw_octets broken = 0
+raw_octets dead = 0
+
+abbrev pub weight : DecoderState → ℕ
+weight decoder = raw_octets decoder.kept
+
+abbrev pub is_skipping : Kept → Bool
+is_skipping between = false
+is_skipping (raw bytes) = false
+is_skipping (skipping count octets id fault) = true
+is_skipping broken = false
+is_skipping dead = false
+
+-- after a break, and after a refused growth
+abbrev pub IsBroken : DecoderState → Type 0
+IsBroken decoder = decoder.kept ≡ broken
+
+abbrev pub IsDead : DecoderState → Type 0
+IsDead decoder = decoder.kept ≡ dead

@@ -1,0 +1,55 @@
+-- What a decoder answers to pieces, and what becomes of it.
+use Rattle.std.specs.Prelude.{◌≡◌, ℕ, ◌≤◌, false, List, [], ◌∷◌, ◌++◌, length, take, drop, Option, Some, None, Result, Ok, Err}
+use Rattle.llrp_stream.specs.declared.item.Item.{Item}
+use Rattle.llrp_stream.specs.declared.item.End.{End}
+use Rattle.llrp_stream.specs.declared.item.End.TheVariants as at_end
+use Rattle.llrp_stream.specs.declared.item.Fed.{Fed}
+use Rattle.llrp_stream.specs.declared.item.FeedErr.{FeedErr}
+use Rattle.llrp_stream.specs.declared.item.FeedErr.TheVariants.{Broken, Memory, Dead}
+use Rattle.llrp_stream.specs.Cuts.{IsFrame, Breaks, Ends}
+use Rattle.llrp_stream.specs.Items.{IsItemOf}
+use Rattle.llrp_stream.specs.Decoding.{DecoderState, Stands, IsBroken, IsDead, is_skipping}
+
+-- without an item the whole piece was taken, and belongs to the front; with one the bytes up to the frame's end
+abbrev pub Takes : (limit : ℕ) → (front piece : List ℕ) → DecoderState → (used : ℕ) → Option Item → Type 0
+Takes limit front piece new used None = (used ≡ length piece) × Stands new (front ++ piece)
+Takes limit front piece new used (Some item) = (used ≤ length piece) × IsFrame (front ++ take used piece) × IsItemOf limit (front ++ take used piece) item × Stands new []
+
+-- a feed of a decoder that stands for a front
+abbrev pub Feeds : DecoderState → (front piece : List ℕ) → DecoderState → Result Fed FeedErr → Type 0
+Feeds old front piece new (Ok fed) = Takes old.limit front piece new fed.used fed.item
+Feeds old front piece new (Err Broken) = Breaks (front ++ piece) × IsBroken new
+Feeds old front piece new (Err Memory) = (is_skipping old.kept ≡ false) × IsDead new
+Feeds old front piece new (Err Dead) = ⊥
+
+-- A feed of a decoder, in the words of its contract.
+pub record Feed (old : DecoderState) (piece : List ℕ) (new : DecoderState) (answer : Result Fed FeedErr) : Type 0 where
+  pub limit : new.limit ≡ old.limit
+  pub stands : (front : List ℕ) → Stands old front → Feeds old front piece new answer
+  pub broken : IsBroken old → (answer ≡ Err Broken) × IsBroken new
+  pub dead : IsDead old → (answer ≡ Err Dead) × IsDead new
+
+-- an answer that gives no item, and leaves a decoder that tells the stream's end
+abbrev pub GivesNone : Result Fed FeedErr → Type 0
+GivesNone (Ok fed) = fed.item ≡ None
+GivesNone (Err Broken) = Unit {0}
+GivesNone (Err Memory) = ⊥
+GivesNone (Err Dead) = ⊥
+
+-- a piece is fed, after each item what is left of it, and these items come
+abbrev pub TakesPiece : DecoderState → List ℕ → List Item → DecoderState → Type 0
+TakesPiece old piece [] new = (answer : Result Fed FeedErr) × (GivesNone answer × Feed old piece new answer)
+TakesPiece old piece (item ∷ items) new =
+    (used : ℕ) × ((mid : DecoderState) × (Feed old piece mid (Ok (record { used = used; item = Some item })) × TakesPiece mid (drop used piece) items new))
+
+-- pieces are fed one after another, and these items come
+abbrev pub TakesPieces : DecoderState → List (List ℕ) → List Item → DecoderState → Type 0
+TakesPieces old [] items new = (items ≡ []) × (new ≡ old)
+TakesPieces old (piece ∷ pieces) items new =
+    (first later : List Item) × ((mid : DecoderState) × ((items ≡ first ++ later) × (TakesPiece old piece first mid × TakesPieces mid pieces later new)))
+
+-- What the decoder tells where the stream ends, in the words of its contract.
+pub record Finishes (decoder : DecoderState) (end : End) : Type 0 where
+  pub stands : (front : List ℕ) → Stands decoder front → Ends front end
+  pub broken : IsBroken decoder → end ≡ at_end.Broken
+  pub dead : IsDead decoder → end ≡ at_end.Dead

@@ -1,0 +1,32 @@
+-- What a stream holds: each frame's message or fault, and the end.
+use Rattle.std.specs.Prelude.{◌≡◌, ℕ, List, ◌++◌}
+use Rattle.std.specs.List.{AllByRecursion, AllZip}
+use Rattle.tag_bits.specs.Digits.{digits_of_bytes}
+use Rattle.llrp_tree.specs.Frame.{Frame}
+use Rattle.llrp_tree.specs.FirstFault.{number, FirstFault}
+use Rattle.llrp_stream.specs.declared.item.Item.{Item}
+use Rattle.llrp_stream.specs.declared.item.Item.TheVariants.{Msg, Bad}
+use Rattle.llrp_stream.specs.declared.item.End.{End}
+use Rattle.llrp_stream.specs.Cuts.{IsFrame, joined, Cuts}
+
+-- the id that stands at bit 48 of a frame
+unfoldable pub id_field : List ℕ → ℕ
+id_field frame = number (digits_of_bytes frame) 48 32
+
+-- the item of a frame: the message that it spells, or its id and its first fault
+abbrev pub IsItemOf : ℕ → List ℕ → Item → Type 0
+IsItemOf limit frame (Msg message) = Frame message frame limit
+IsItemOf limit frame (Bad id fault) = (id ≡ id_field frame) × FirstFault frame limit fault.bit fault.reason
+
+-- the items of a stream, one a frame, and its end
+pub record Items (limit : ℕ) (stream : List ℕ) (items : List Item) (end : End) : Type 0 where
+  pub frames : List (List ℕ)
+  pub cut : Cuts stream frames end
+  pub each : AllZip (IsItemOf limit) frames items
+
+-- Bytes so far: frames that have these items, and then a front, which may be that of one more.
+pub record ItemsSoFar (limit : ℕ) (bytes : List ℕ) (items : List Item) (front : List ℕ) : Type 0 where
+  pub frames : List (List ℕ)
+  pub whole : bytes ≡ joined frames ++ front
+  pub each : AllByRecursion IsFrame frames
+  pub are : AllZip (IsItemOf limit) frames items

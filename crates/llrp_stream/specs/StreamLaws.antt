@@ -1,0 +1,34 @@
+-- What holds of the items of every frame and of every stream.
+use Rattle.std.specs.Prelude.{◌≡◌, ℕ, List, [], ◌∷◌, ◌++◌}
+use Rattle.llrp_stream.specs.declared.item.Item.{Item}
+use Rattle.llrp_stream.specs.declared.item.End.{End}
+use Rattle.llrp_stream.specs.Cuts.{IsFrame, Ends, joined}
+use Rattle.llrp_stream.specs.Items.{IsItemOf, Items, ItemsSoFar}
+use Rattle.llrp_stream.specs.Decoding.{DecoderState, Stands}
+use Rattle.llrp_stream.specs.Feeding.{TakesPieces, Finishes}
+
+-- The frame has one message or one first fault, and never both.
+pub record HasOneItem (limit : ℕ) (frame : List ℕ) : Type 0 where
+  pub item : Item
+  pub is : IsItemOf limit frame item
+  pub only : (other : Item) → IsItemOf limit frame other → other ≡ item
+
+-- The stream has one list of items, and one end.
+pub record HasOneListing (limit : ℕ) (stream : List ℕ) : Type 0 where
+  pub items : List Item
+  pub end : End
+  pub are : Items limit stream items end
+  pub only_items : (others : List Item) (last : End) → Items limit stream others last → others ≡ items
+  pub only_end : (others : List Item) (last : End) → Items limit stream others last → last ≡ end
+
+-- the items of pieces, however they are cut, are those of the stream that the pieces are
+abbrev pub PiecesAreTheStream : Type 0
+PiecesAreTheStream = (old new : DecoderState) (pieces : List (List ℕ)) (items : List Item) (end : End) → Stands old [] → TakesPieces old pieces items new → Finishes new end → Items old.limit (joined pieces) items end
+
+-- How the items of bytes so far grow, what becomes of them at the end, and that whatever follows they come first.
+pub record ItemsGrow (limit : ℕ) : Type 0 where
+  pub none : ItemsSoFar limit [] [] []
+  pub by_bytes : (bytes : List ℕ) (items : List Item) (front more : List ℕ) → ItemsSoFar limit bytes items front → ItemsSoFar limit (bytes ++ more) items (front ++ more)
+  pub by_a_frame : (bytes : List ℕ) (items : List Item) (front : List ℕ) (item : Item) → ItemsSoFar limit bytes items front → IsFrame front → IsItemOf limit front item → ItemsSoFar limit bytes (items ++ item ∷ []) []
+  pub at_the_end : (bytes : List ℕ) (items : List Item) (front : List ℕ) (end : End) → ItemsSoFar limit bytes items front → Ends front end → Items limit bytes items end
+  pub come_first : (bytes more : List ℕ) (items others : List Item) (front : List ℕ) (end : End) → ItemsSoFar limit bytes items front → Items limit (bytes ++ more) others end → (later : List Item) × (others ≡ items ++ later)

@@ -1,0 +1,27 @@
+//! What holds of every frame and every stream, and of every decoder that is fed one.
+
+ghost use Rattle.std.specs.Prelude.{List, ◌≤◌, ℕ};
+ghost use Rattle.llrp_tree.specs.Lawful.{AreOctets};
+ghost use Rattle.llrp_tree.specs.declared.TheConstants.{MAX_LIMIT};
+ghost use Rattle.llrp_stream.specs.Cuts.{IsFrame};
+ghost use Rattle.llrp_stream.specs.StreamLaws.{HasOneItem, HasOneListing, ItemsGrow, PiecesAreTheStream};
+
+/// Each frame has one message or exactly one first fault, and never both.
+pub fn one_item()
+    ensures { (limit : ℕ) (frame : List ℕ) → limit ≤ MAX_LIMIT → AreOctets frame → IsFrame frame → HasOneItem limit frame }
+{}
+
+/// Each stream of octets is cut in one way, and has one list of items and one end.
+pub fn one_listing()
+    ensures { (limit : ℕ) (stream : List ℕ) → limit ≤ MAX_LIMIT → AreOctets stream → HasOneListing limit stream }
+{}
+
+/// Whatever the pieces of a stream are, the items that a new decoder gives are those of the stream.
+pub fn pieces_are_the_stream()
+    ensures { PiecesAreTheStream }
+{}
+
+/// The items of bytes so far, for a caller that feeds them as they come.
+pub fn items_grow()
+    ensures { (limit : ℕ) → ItemsGrow limit }
+{}
