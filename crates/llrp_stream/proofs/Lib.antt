@@ -1,0 +1,6 @@
+pub mod FrontLemmas
+pub mod HeaderLemmas
+pub mod ItemLemmas
+pub mod RunLemmas
+pub mod StepLemmas
+pub mod Unique

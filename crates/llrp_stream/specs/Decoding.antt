@@ -5,14 +5,19 @@ use Rattle.llrp_tree.specs.FirstFault.{FirstFault}
 use Rattle.llrp_stream.specs.Cuts.{length_field, IsFrame, IsPartial}
 use Rattle.llrp_stream.specs.Items.{id_field}
 
--- what a decoder keeps: nothing, where no frame is begun; the raw bytes of one; of a frame that it skips, how many bytes were taken, its length field, its id and its fault; nothing after a break, or after a refused growth
+-- what a decoder keeps
 pub data Kept : Type 0 where
+  -- nothing, where no frame is begun
   between : Kept
+  -- the raw bytes of a frame
   raw : (bytes : List ℕ) → Kept
+  -- of a frame that it skips, how many bytes were taken, its length field, its id and its fault
   skipping : (count octets id : ℕ) (fault : Fault) → Kept
+  -- nothing, after a break and after a refused growth
   broken : Kept
   dead : Kept
 
+-- a decoder, and the most octets that a frame may have
 pub record DecoderState : Type 0 where
   pub limit : ℕ
   pub kept : Kept
@@ -32,12 +37,12 @@ Keeps limit (skipping count octets id fault) front = IsSkipped limit count octet
 Keeps limit broken front = ⊥
 Keeps limit dead front = ⊥
 
--- The decoder stands for the bytes of an unfinished frame.
+-- The decoder stands for the bytes of an unfinished frame: it goes on from them, whatever pieces they came in.
 pub record Stands (decoder : DecoderState) (front : List ℕ) : Type 0 where
   pub unfinished : IsPartial front
   pub keeps : Keeps decoder.limit decoder.kept front
 
--- the number of raw bytes
+-- how many raw bytes
 abbrev pub raw_octets : Kept → ℕ
 raw_octets between = 0
 raw_octets (raw bytes) = length bytes
@@ -45,6 +50,7 @@ raw_octets (skipping count octets id fault) = 0
 raw_octets broken = 0
 raw_octets dead = 0
 
+-- what a decoder weighs: its raw bytes
 abbrev pub weight : DecoderState → ℕ
 weight decoder = raw_octets decoder.kept
 
@@ -55,9 +61,10 @@ is_skipping (skipping count octets id fault) = true
 is_skipping broken = false
 is_skipping dead = false
 
--- after a break, and after a refused growth
+-- the stream broke
 abbrev pub IsBroken : DecoderState → Type 0
 IsBroken decoder = decoder.kept ≡ broken
 
+-- a growth was refused
 abbrev pub IsDead : DecoderState → Type 0
 IsDead decoder = decoder.kept ≡ dead

@@ -10,12 +10,12 @@ use Rattle.llrp_stream.specs.Cuts.{IsFrame, Breaks, Ends}
 use Rattle.llrp_stream.specs.Items.{IsItemOf}
 use Rattle.llrp_stream.specs.Decoding.{DecoderState, Stands, IsBroken, IsDead, is_skipping}
 
--- without an item the whole piece was taken, and belongs to the front; with one the bytes up to the frame's end
+-- What a feed took: without an item the whole piece, which now belongs to the front; with an item the bytes up to the frame's end, and it is that frame's.
 abbrev pub Takes : (limit : ℕ) → (front piece : List ℕ) → DecoderState → (used : ℕ) → Option Item → Type 0
 Takes limit front piece new used None = (used ≡ length piece) × Stands new (front ++ piece)
 Takes limit front piece new used (Some item) = (used ≤ length piece) × IsFrame (front ++ take used piece) × IsItemOf limit (front ++ take used piece) item × Stands new []
 
--- a feed of a decoder that stands for a front
+-- What a feed does where the decoder stood for a front: it takes bytes, or the front with the piece is no front of a frame, or a growth was refused (never while it skips).
 abbrev pub Feeds : DecoderState → (front piece : List ℕ) → DecoderState → Result Fed FeedErr → Type 0
 Feeds old front piece new (Ok fed) = Takes old.limit front piece new fed.used fed.item
 Feeds old front piece new (Err Broken) = Breaks (front ++ piece) × IsBroken new
@@ -36,7 +36,7 @@ GivesNone (Err Broken) = Unit {0}
 GivesNone (Err Memory) = ⊥
 GivesNone (Err Dead) = ⊥
 
--- a piece is fed, after each item what is left of it, and these items come
+-- a piece is fed, and after each item what is left of it; these items come
 abbrev pub TakesPiece : DecoderState → List ℕ → List Item → DecoderState → Type 0
 TakesPiece old piece [] new = (answer : Result Fed FeedErr) × (GivesNone answer × Feed old piece new answer)
 TakesPiece old piece (item ∷ items) new =

@@ -7,16 +7,19 @@ ghost use Rattle.llrp_stream.specs.Cuts.{IsFrame};
 ghost use Rattle.llrp_stream.specs.StreamLaws.{HasOneItem, HasOneListing, ItemsGrow, PiecesAreTheStream};
 
 /// Each frame has one message or exactly one first fault, and never both.
+#[tactic(auto, using(crate::proofs::ItemLemmas::has_one_item))]
 pub fn one_item()
     ensures { (limit : ℕ) (frame : List ℕ) → limit ≤ MAX_LIMIT → AreOctets frame → IsFrame frame → HasOneItem limit frame }
 {}
 
 /// Each stream of octets is cut in one way, and has one list of items and one end.
+#[tactic(auto, using(crate::proofs::ItemLemmas::has_one_listing))]
 pub fn one_listing()
     ensures { (limit : ℕ) (stream : List ℕ) → limit ≤ MAX_LIMIT → AreOctets stream → HasOneListing limit stream }
 {}
 
 /// Whatever the pieces of a stream are, the items that a new decoder gives are those of the stream.
+#[tactic(auto, using(crate::proofs::RunLemmas::of_the_stream))]
 pub fn pieces_are_the_stream()
     ensures { PiecesAreTheStream }
 {}

@@ -1,0 +1,78 @@
+-- The front of a frame, and what stays of it when more bytes come.
+use Rattle.std.proofs.Common.{◌≡◌, ℕ, ◌+◌, ◌<◌, ◌≤◌, List, ◌++◌, length, take, refl, sym, subst, ◌∙◌, arith, inl, inr, length-append, append_assoc}
+use Rattle.std.proofs.lemmas.List.{length-take-le}
+use Rattle.llrp_tree.specs.declared.fault.Fault.{Fault}
+use Rattle.llrp_tree.specs.FirstFault.{FirstFault}
+use Rattle.llrp_stream.specs.declared.header.FaultyHeader.{FaultyHeader}
+use Rattle.llrp_stream.specs.Cuts.{length_field, IsFrame, IsPartial, Breaks}
+use Rattle.llrp_stream.specs.Items.{id_field}
+use Rattle.llrp_stream.specs.Headers.{header_fault, IsFaulty, IsSound}
+use Rattle.llrp_stream.specs.Decoding.{IsSkipped}
+use Rattle.llrp_stream.proofs.HeaderLemmas.{number-append}
+
+pub length_field-append : (xs ys : List ℕ) → 6 ≤ length xs → length_field (xs ++ ys) ≡ length_field xs
+unfolding length_field
+length_field-append xs ys le = number-append xs ys 16 32 (omega arith)
+
+pub id_field-append : (xs ys : List ℕ) → 10 ≤ length xs → id_field (xs ++ ys) ≡ id_field xs
+unfolding id_field
+id_field-append xs ys le = number-append xs ys 48 32 (omega arith)
+
+pub header_fault-append : (limit : ℕ) (xs ys : List ℕ) → 10 ≤ length xs → header_fault limit (xs ++ ys) ≡ header_fault limit xs
+unfolding header_fault
+header_fault-append limit xs ys le =
+    rw (number-append xs ys 0 3 (omega arith), number-append xs ys 3 3 (omega arith), number-append xs ys 6 10 (omega arith), number-append xs ys 16 32 (omega arith)) refl
+
+pub no_frame_breaks : (bytes more : List ℕ) → Breaks bytes → Breaks (bytes ++ more)
+no_frame_breaks bytes more b = (omega (arith, b.0, length-append bytes more), omega (arith, b.1, length_field-append bytes more b.0))
+
+-- the bytes up to the length that the front says are a frame
+pub frame_ends : (front piece : List ℕ) (octets left : ℕ) → 6 ≤ length front → 10 ≤ octets → octets ≡ length_field front → length front + left ≡ octets → left ≤ length piece → IsFrame (front ++ take left piece)
+frame_ends front piece octets left six ten is long le =
+    let all : length (front ++ take left piece) ≡ octets = omega (arith, length-append front (take left piece), length-take-le left piece le) in
+    record { header = omega arith; whole = length_field-append front (take left piece) six ∙ sym is ∙ sym all }
+
+-- fewer bytes than the front says are less than a frame
+pub still_partial : (front piece : List ℕ) (octets : ℕ) → 6 ≤ length front → 10 ≤ octets → octets ≡ length_field front → length front + length piece < octets → IsPartial (front ++ piece)
+still_partial front piece octets six ten is lt =
+    let same = length_field-append front piece six in
+    inr (omega (arith, same), omega (arith, same, length-append front piece))
+
+pub sound-append : (limit octets : ℕ) (xs ys : List ℕ) → IsSound limit xs octets → IsSound limit (xs ++ ys) octets
+sound-append limit octets xs ys s = record {
+  long = omega (arith, s.long, length-append xs ys);
+  least = s.least;
+  most = s.most;
+  octets_are = s.octets_are ∙ sym (length_field-append xs ys (omega (arith, s.long)));
+  passes = header_fault-append limit xs ys s.long ∙ s.passes;
+}
+
+-- a faulty header has its fault in its first ten bytes
+pub faulty_front : (limit : ℕ) (header : FaultyHeader) (xs ys : List ℕ) → 10 ≤ length xs → IsFaulty limit (xs ++ ys) header → IsFaulty limit xs header
+faulty_front limit header xs ys ten f = record {
+  long = ten;
+  least = f.least;
+  octets_are = f.octets_are ∙ length_field-append xs ys (omega arith);
+  id_is = f.id_is ∙ id_field-append xs ys ten;
+  fault_is = sym (header_fault-append limit xs ys ten) ∙ f.fault_is;
+}
+
+-- a frame with a fault in its header is skipped
+pub faulty_is_skipped : (limit : ℕ) (header : FaultyHeader) (front : List ℕ) (count : ℕ) → count ≡ length front → IsFaulty limit front header → IsSkipped limit count header.octets header.id header.fault front
+unfolding header_fault
+faulty_is_skipped limit header front count e f = record {
+  count_is = e;
+  octets_are = f.octets_are;
+  id_is = f.id_is;
+  faulty = λ more is. inl (header_fault-append limit front more f.long ∙ f.fault_is);
+}
+
+pub skipped-append : (limit count octets id n : ℕ) (fault : Fault) (front piece : List ℕ) → 10 ≤ count → n ≡ length piece → IsSkipped limit count octets id fault front → IsSkipped limit (count + n) octets id fault (front ++ piece)
+skipped-append limit count octets id n fault front piece ten e s = record {
+  count_is = omega (arith, e, s.count_is, length-append front piece);
+  octets_are = s.octets_are ∙ sym (length_field-append front piece (omega (arith, s.count_is)));
+  id_is = s.id_is ∙ sym (id_field-append front piece (omega (arith, s.count_is)));
+  faulty = λ more is.
+      let e2 = append_assoc front piece more in
+      subst (λ (x : List ℕ). FirstFault x limit fault.bit fault.reason) (sym e2) (s.faulty (piece ++ more) (subst (λ (x : List ℕ). IsFrame x) e2 is));
+}
