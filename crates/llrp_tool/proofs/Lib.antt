@@ -1,19 +1,16 @@
 pub mod AnswerLemmas
-pub mod Apart
 pub mod CommandLemmas
 pub mod Cutting
 pub mod DecimalWords
 pub mod DeviceLemmas
 pub mod FrameBytes
-pub mod FramingLemmas
 pub mod Growing
-pub mod HeaderLemmas
 pub mod HexadecimalLemmas
-pub mod ItemLemmas
 pub mod LineReading
 pub mod Listed
 pub mod MessageWords
 pub mod Numerals
+pub mod OneText
 pub mod PrintingLemmas
 pub mod Rows
 pub mod Running
@@ -21,5 +18,4 @@ pub mod ShowLemmas
 pub mod Standing
 pub mod Telling
 pub mod TextLemmas
-pub mod Unique
 pub mod WordLemmas

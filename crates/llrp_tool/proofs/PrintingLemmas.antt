@@ -1,25 +1,23 @@
 -- Lines that are appended to a text.
 use Rattle.std.proofs.Common.{◌≡◌, ℕ, zero, suc, ◌+◌, ◌-◌, ◌*◌, ◌<◌, ◌≤◌, ◌^◌, Bool, true, false, cond, List, [], ◌∷◌, ◌++◌, length, take, drop, get_or, map, filter, refl, sym, ap, subst, ◌∙◌, append_assoc, arith}
-use Rattle.std.specs.Prelude.{decimal, ◌&&◌, not, nat_lt, nat_le, ◌==◌, if◌then◌else◌, max}
+use Rattle.std.specs.Prelude.{decimal, ◌&&◌, not, nat_lt, ◌==◌, if◌then◌else◌}
 use Rattle.std.specs.List.{flat_map, join_with_byte, AllZip}
 use Rattle.std.proofs.lemmas.List.{append-nil, take_more, take_all}
 use Rattle.std.proofs.lemmas.List.Concat.{flat_map-append}
-use Rattle.std.proofs.lemmas.Bool.{ltb-true, leb-true}
+use Rattle.std.proofs.lemmas.Bool.{ltb-true}
 use Rattle.hex.specs.Hex.{encode_with, encode_lower, lower_digits}
 use Rattle.llrp_schema.specs.declared.kinds.Field.{Field}
 use Rattle.llrp_schema.specs.declared.kinds.Kind.{Kind}
 use Rattle.llrp_schema.specs.declared.kinds.Kind.TheVariants.{Message, Parameter}
-use Rattle.llrp_schema.specs.declared.kinds.MsgKind.{MsgKind}
-use Rattle.llrp_schema.specs.declared.kinds.ParamKind.{ParamKind}
 use Rattle.llrp_schema.specs.Schema.{FieldRule, field_rule, fields_of, plain_fields_of, tail_of, name_of, rule_of, message_rule, param_rule, message_kinds, param_kinds}
 use Rattle.llrp_schema.proofs.TableLaws.{every_rule, message_tail}
 use Rattle.llrp_tree.specs.Tree.{Forest, none, and, Tree, MessageTree, forest, trees, add, add_all}
-use Rattle.llrp_tree.specs.Stored.{size, tree_size}
+use Rattle.llrp_tree.specs.Stored.{size}
 use Rattle.llrp_tree.specs.Lawful.{levels, AllLawful, AreInRange}
 use Rattle.llrp_tree.specs.declared.TheConstants.{MAX_DEPTH}
-use Rattle.llrp_tree.proofs.TreeLemmas.{forest-push, forest-trees, forest-take_more}
+use Rattle.llrp_tree.proofs.TreeLemmas.{forest-trees, forest-take_more}
 use Rattle.llrp_tree.proofs.LawLemmas.{both}
-use Rattle.llrp_tool.specs.NodeLine.{NodeLine, NumberForm, Version, Id, Unsigned, Signed, Epc, number_forms, field_form, IsNumberText, AreNumberTexts, words_of, tail_texts, spaced, IsLine, message_line, parameter_line}
+use Rattle.llrp_tool.specs.NodeLine.{NodeLine, Unsigned, Signed, Epc, number_forms, field_form, IsNumberText, AreNumberTexts, words_of, tail_texts, spaced, IsLine, message_line, parameter_line}
 use Rattle.llrp_tool.specs.MessageListing.{AreLines, parameter_lines, message_lines}
 use Rattle.llrp_tool.proofs.TextLemmas.{grown, grown_thrice}
 use Rattle.llrp_tool.specs.Printing.{forms_of, AreInForm, IsInForm, AppendsNumbers, AppendsLines}

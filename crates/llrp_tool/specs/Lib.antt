@@ -1,16 +1,13 @@
 pub mod Checks
 pub mod Command
 pub mod Copying
-pub mod Cuts
 pub mod Encoder
 pub mod Encoding
 pub mod FirstRefusal
 pub mod Frame
-pub mod Framing
 pub mod Hexadecimal
-pub mod ItemLaws
-pub mod Items
 pub mod Lines
+pub mod Lister
 pub mod Listing
 pub mod ListingLaws
 pub mod MessageLine
@@ -22,4 +19,5 @@ pub mod Reading
 pub mod Refused
 pub mod Schema
 pub mod Show
+pub mod StreamListing
 pub mod Words

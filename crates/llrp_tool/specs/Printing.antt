@@ -1,8 +1,10 @@
 -- What the functions that print lines append to a text.
-use Rattle.std.specs.Prelude.{◌≡◌, ℕ, ◌^◌, ◌<◌, ◌*◌, ◌+◌, List, [], ◌∷◌, ◌++◌, map, filter, not}
+use Rattle.std.specs.Prelude.{◌≡◌, ℕ, ◌^◌, ◌<◌, List, [], ◌∷◌, ◌++◌, map, filter, not}
 use Rattle.llrp_schema.specs.Schema.{FieldRule}
 use Rattle.llrp_tool.specs.NodeLine.{NodeLine, NumberForm, Version, Id, Unsigned, Signed, Epc, field_form, AreNumberTexts, spaced}
+use Rattle.llrp_stream.specs.declared.item.Item.{Item}
 use Rattle.llrp_tool.specs.MessageListing.{AreLines}
+use Rattle.llrp_tool.specs.StreamListing.{IsItemText}
 
 -- what the numbers of plain fields are
 abbrev pub forms_of : List FieldRule → List NumberForm
@@ -30,3 +32,7 @@ AppendsNumbers forms ns old new = (words : List (List ℕ)) × AreNumberTexts fo
 -- lines are appended
 abbrev pub AppendsLines : List (ℕ × NodeLine) → List ℕ → List ℕ → Type 0
 AppendsLines lines old new = (text : List ℕ) × (new ≡ old ++ text) × AreLines lines text
+
+-- the text of an item is appended
+abbrev pub AppendsItem : Item → List ℕ → List ℕ → Type 0
+AppendsItem item old new = (text : List ℕ) × (new ≡ old ++ text) × IsItemText item text

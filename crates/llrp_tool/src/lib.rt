@@ -6,7 +6,6 @@ mod command;
 mod copying;
 mod encode;
 mod fault;
-mod frame;
 mod hexadecimal;
 pub mod laws;
 mod line;

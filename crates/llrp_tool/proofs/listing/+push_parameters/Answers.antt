@@ -1,5 +1,5 @@
 use Rattle.std.proofs.Common.{arith, ◌∙◌}
-use Rattle.llrp_tool.proofs.PrintingLemmas.{child_levels, child_size, row_more, row_whole, some_levels}
+use Rattle.llrp_tool.proofs.PrintingLemmas.{child_levels, child_size, row_more, some_levels}
 use Rattle.llrp_tool.proofs.listing.+push_parameters.Goals as goal
 
 pub overflow_add-level : goal.overflow_add-level

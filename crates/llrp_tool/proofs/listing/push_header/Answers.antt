@@ -1,6 +1,4 @@
-use Rattle.std.proofs.Common.{◌≡◌, ◌∙◌, List, ℕ, ap, subst, sym}
 use Rattle.llrp_schema.specs.declared.kinds.Kind.TheVariants.{Message}
-use Rattle.llrp_tool.specs.Printing.{forms_of}
 use Rattle.llrp_tool.proofs.PrintingLemmas.{fields_in_form, header_appended}
 use Rattle.llrp_tool.proofs.listing.push_header.Goals as goal
 

@@ -1,4 +1,3 @@
-use Rattle.std.proofs.Common.{◌∙◌}
 use Rattle.llrp_schema.specs.declared.kinds.Kind.TheVariants.{Parameter}
 use Rattle.llrp_tool.proofs.PrintingLemmas.{fields_in_form, parameter_appended}
 use Rattle.llrp_tool.proofs.listing.push_parameter.Goals as goal

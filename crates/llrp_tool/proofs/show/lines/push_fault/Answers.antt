@@ -1,10 +1,10 @@
 use Rattle.std.proofs.Common.{codes, decimal, ◌∙◌}
-use Rattle.llrp_tool.specs.Listing.{item_text, reason_name}
+use Rattle.llrp_tool.specs.StreamListing.{fault_text, reason_name}
 use Rattle.llrp_tool.proofs.TextLemmas.{grown_by_seven, with_part}
-use Rattle.llrp_tool.proofs.show.push_fault.Goals as goal
+use Rattle.llrp_tool.proofs.show.lines.push_fault.Goals as goal
 
 pub returns : goal.returns
-unfolding item_text
+unfolding fault_text
 returns c =
     grown_by_seven _ _ _ _ _ _ _ _ (codes "! ") (decimal c.args.id) (codes " ") (decimal c.args.fault.bit) (codes " ") (reason_name c.args.fault.reason) (codes "\n")
     c.in_ok-extend_from_slice.ensures.items
@@ -12,5 +12,5 @@ returns c =
     c.in_ok-extend_from_slice-3.ensures.items
     (with_part _ _ _ _ c.in_ok-extend_from_slice-4.ensures.items (c.as_bytes-2.ensures.value ∙ c.format-2.ensures.text))
     c.in_ok-extend_from_slice-5.ensures.items
-    (with_part _ _ _ _ c.in_ok-extend_from_slice-6.ensures.items (c.as_bytes-3.ensures.value ∙ c.name.ensures))
+    (with_part _ _ _ _ c.in_ok-extend_from_slice-6.ensures.items (c.as_bytes-3.ensures.value ∙ c.name_of.ensures))
     c.in_ok-extend_from_slice-7.ensures.items

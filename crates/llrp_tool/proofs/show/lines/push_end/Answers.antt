@@ -1,8 +1,8 @@
 use Rattle.std.proofs.Common.{codes, decimal, ◌∙◌, sym}
 use Rattle.std.proofs.lemmas.List.{append-nil}
-use Rattle.llrp_tool.specs.Listing.{end_text}
+use Rattle.llrp_tool.specs.StreamListing.{end_text}
 use Rattle.llrp_tool.proofs.TextLemmas.{grown_thrice, with_part}
-use Rattle.llrp_tool.proofs.show.push_end.Goals as goal
+use Rattle.llrp_tool.proofs.show.lines.push_end.Goals as goal
 
 pub returns-in-Clean : goal.returns-in-Clean
 unfolding end_text
@@ -22,3 +22,7 @@ pub returns-in_ok-extend_from_slice-in-Broken :
     goal.returns-in_ok-extend_from_slice-in-Broken
 unfolding end_text
 returns-in_ok-extend_from_slice-in-Broken c = rw c.in-Broken.is c.in_ok-extend_from_slice-in-Broken.ensures.items
+
+pub returns-in-Dead : goal.returns-in-Dead
+unfolding end_text
+returns-in-Dead c = rw c.in-Dead.is (sym (append-nil c.args.text.now.items))
