@@ -12,6 +12,7 @@ pub mod MessageWords
 pub mod Numerals
 pub mod OneText
 pub mod PrintingLemmas
+pub mod PrintsBack
 pub mod Rows
 pub mod Running
 pub mod ShowLemmas

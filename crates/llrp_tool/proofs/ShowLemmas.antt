@@ -21,9 +21,9 @@ use Rattle.llrp_tool.specs.declared.fault.Verdict.{Verdict}
 use Rattle.llrp_tool.specs.declared.show.Lister.{Lister}
 use Rattle.llrp_tool.specs.Copying.{HandsOn, IsPrefix, Writes, ReadAll}
 use Rattle.llrp_tool.specs.Encoding.{WasRead}
-use Rattle.llrp_tool.specs.Lister.{ListedSoFar, GoesOn, IsBrokenOff, Finishes, Feeds, Lists}
+use Rattle.llrp_tool.specs.Lister.{ListedSoFar, GoesOn, IsBrokenOff, Begins, Finishes, Feeds, Lists, KeepsNothing}
 use Rattle.llrp_tool.specs.Printing.{AppendsItem}
-use Rattle.llrp_tool.specs.Show.{verdict_of, Listed, BeginsListing, Stopped, WroteFront, ShowStopped, Shows}
+use Rattle.llrp_tool.specs.Show.{verdict_of, Listed, BeginsListing, Stopped, WroteFrames, ShowStopped, Shows}
 use Rattle.llrp_tool.specs.StreamListing.{IsItemText, AreItemTexts, IsStreamListing, end_text, is_message, is_clean, is_lawful}
 use Rattle.llrp_tool.proofs.DeviceLemmas.{wrote_nothing, wrote_more, wrote_then_failed, same_failures}
 use Rattle.llrp_tool.proofs.OneText.{begins_listing, one_stream_listing}
@@ -70,12 +70,12 @@ begins_so_far limit bytes more front text part items so are part_of others end w
 
 -- ---- a lister takes a piece
 
-pub begun : (limit : ℕ) (log : SinkLog) (lister : Lister) → Stands lister.decoder [] → lister.decoder.limit ≡ limit → lister.text.items ≡ [] → lister.lawful ≡ true → GoesOn limit [] log log lister
-begun limit log lister stands limit_is empty lawful = (
+pub begun : (limit : ℕ) (log : SinkLog) (lister : Lister) → Stands lister.decoder [] → lister.decoder.limit ≡ limit → lister.text.items ≡ [] → lister.lawful ≡ true → Begins limit log lister
+begun limit log lister stands limit_is empty lawful = ((
   [],
   record { items = []; sent = []; so_far = (items_grow limit).none; texts = subst (λ (x : List ℕ). AreItemTexts [] x) (sym empty) no_items; log = wrote_nothing log; limit_is = limit_is; lawful_is = lawful },
   stands,
-)
+), empty)
 
 -- one item more, whose text is gathered
 item_gathered : (limit : ℕ) (bytes piece front text : List ℕ) (used : ℕ) (item : Item) (old now : SinkLog) (lister : Lister) (decoder : DecoderState)
@@ -270,14 +270,21 @@ end_stopped limit bytes text old now after lister end e finishes told grown fail
 
 -- ---- while it reads
 
--- what was written so far begins the listing of what was read
-pub front_written : (limit : ℕ) (bytes : List ℕ) (old now : SinkLog) (lister : Lister) → GoesOn limit bytes old now lister → WroteFront limit bytes old now
-front_written limit bytes old now lister goes =
-    let so = goes.1 in (
-      so.sent,
-      subst (λ (x : List ℕ). BeginsListing limit x so.sent) (append-nil bytes) (begins_so_far limit bytes [] goes.0 (so.sent ++ lister.text.items) so.sent so.items so.so_far so.texts (lister.text.items, refl)),
-      so.log,
-    )
+-- the text of each frame that is whole in what was read was written
+pub frames_written : (limit : ℕ) (bytes : List ℕ) (old now : SinkLog) (lister : Lister) → GoesOn limit bytes old now lister → KeepsNothing lister → WroteFrames limit bytes old now
+frames_written limit bytes old now lister goes empty =
+    let so = goes.1 in
+    let texts : AreItemTexts so.items so.sent = subst (AreItemTexts so.items) (ap (λ (x : List ℕ). so.sent ++ x) empty ∙ append-nil so.sent) so.texts in
+    record {
+      items = so.items;
+      front = goes.0;
+      text = so.sent;
+      are = so.so_far;
+      unfinished = goes.2.unfinished;
+      lines = texts;
+      written = so.log;
+      begins = subst (λ (x : List ℕ). BeginsListing limit x so.sent) (append-nil bytes) (begins_so_far limit bytes [] goes.0 so.sent so.sent so.items so.so_far texts ([], sym (append-nil so.sent)));
+    }
 
 -- ---- a piece, as far as it has come
 
@@ -309,7 +316,7 @@ lists_handed item old new text w0 w1 message (Err e) appends is handed failed la
 
 -- after a piece all may be finished
 pub fed_finishes : (limit : ℕ) (bytes : List ℕ) (old now : SinkLog) (lister : Lister) (goes_on : Bool) → Feeds limit bytes old now lister (Ok goes_on) → Finishes limit bytes old now lister
-fed_finishes limit bytes old now lister true fed = inl fed
+fed_finishes limit bytes old now lister true fed = inl fed.0
 fed_finishes limit bytes old now lister false fed = inr fed
 
 pub finishes_failures : (limit : ℕ) (bytes : List ℕ) (old now : SinkLog) (lister : Lister) → Finishes limit bytes old now lister → now.failures ≡ old.failures

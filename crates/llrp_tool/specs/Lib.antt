@@ -15,6 +15,7 @@ pub mod MessageListing
 pub mod NodeLine
 pub mod OpenText
 pub mod Printing
+pub mod PrintingLaws
 pub mod Reading
 pub mod Refused
 pub mod Schema

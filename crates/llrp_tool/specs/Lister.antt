@@ -32,13 +32,17 @@ GoesOn limit bytes old now lister = (front : List ℕ) × ListedSoFar limit byte
 abbrev pub IsBrokenOff : ℕ → List ℕ → SinkLog → SinkLog → Lister → Type 0
 IsBrokenOff limit bytes old now lister = (front : List ℕ) × ListedSoFar limit bytes front old now lister × Breaks front × IsBroken lister.decoder
 
+-- all text was handed on
+abbrev pub KeepsNothing : Lister → Type 0
+KeepsNothing lister = lister.text.items ≡ []
+
 -- nothing was listed yet
 abbrev pub Begins : ℕ → SinkLog → Lister → Type 0
-Begins limit log lister = GoesOn limit [] log log lister
+Begins limit log lister = GoesOn limit [] log log lister × KeepsNothing lister
 
--- a lister took the last of these bytes
+-- a lister took the last of these bytes, and the text of each frame that is whole in them was written
 abbrev pub Feeds : ℕ → List ℕ → SinkLog → SinkLog → Lister → Result Bool ToolErr → Type 0
-Feeds limit bytes old new lister (Ok true) = GoesOn limit bytes old new lister
+Feeds limit bytes old new lister (Ok true) = GoesOn limit bytes old new lister × KeepsNothing lister
 Feeds limit bytes old new lister (Ok false) = IsBrokenOff limit bytes old new lister
 Feeds limit bytes old new lister (Err error) = Stopped limit bytes old new error
 

@@ -3,14 +3,15 @@ use Rattle.std.specs.Prelude.{◌≡◌, ℕ, ◌⊎◌, List, ◌++◌, Bool, t
 use Rattle.llrp_stream.specs.declared.item.Item.{Item}
 use Rattle.llrp_stream.specs.declared.item.End.{End}
 use Rattle.llrp_stream.specs.Device.{SourceLog, SinkLog, Gave, Wrote, WroteAndFailed}
-use Rattle.llrp_stream.specs.Items.{Items}
+use Rattle.llrp_stream.specs.Cuts.{IsPartial}
+use Rattle.llrp_stream.specs.Items.{Items, ItemsSoFar}
 use Rattle.llrp_tool.specs.declared.fault.ToolErr.{ToolErr}
 use Rattle.llrp_tool.specs.declared.fault.ToolErr.TheVariants.{Listing, Hex, Read, Write, Bound, Memory}
 use Rattle.llrp_tool.specs.declared.fault.Verdict.{Verdict}
 use Rattle.llrp_tool.specs.declared.fault.Verdict.TheVariants.{Lawful, Faulty}
 use Rattle.llrp_tool.specs.Copying.{MOST_READS, ReadAll, GaveAndFailed, IsPrefix}
 use Rattle.llrp_tool.specs.Encoding.{WasRead}
-use Rattle.llrp_tool.specs.StreamListing.{IsStreamListing, is_lawful}
+use Rattle.llrp_tool.specs.StreamListing.{AreItemTexts, IsStreamListing, is_lawful}
 
 -- the verdict on a stream that is lawful, or isn't
 abbrev pub verdict_of : Bool → Verdict
@@ -46,14 +47,21 @@ pub record Stopped (limit : ℕ) (bytes : List ℕ) (old new : SinkLog) (error :
   pub begins : BeginsListing limit bytes front
   pub log : ListStopped old new front error
 
--- a front of the listing of the bytes was written, and no write failed
-abbrev pub WroteFront : ℕ → List ℕ → SinkLog → SinkLog → Type 0
-WroteFront limit bytes old new = (front : List ℕ) × BeginsListing limit bytes front × Wrote old new front
+-- The text of each frame that is whole in the bytes was written, which begins their listing.
+pub record WroteFrames (limit : ℕ) (bytes : List ℕ) (old new : SinkLog) : Type 0 where
+  pub items : List Item
+  pub front : List ℕ
+  pub text : List ℕ
+  pub are : ItemsSoFar limit bytes items front
+  pub unfinished : IsPartial front
+  pub lines : AreItemTexts items text
+  pub written : Wrote old new text
+  pub begins : BeginsListing limit bytes text
 
 -- Show stopped with this error: what it had read, and what it had written.
 abbrev pub ShowStopped : ℕ → SourceLog → SourceLog → SinkLog → SinkLog → ToolErr → Type 0
-ShowStopped limit r0 r1 w0 w1 Read = (n : ℕ) × (bytes : List ℕ) × GaveAndFailed r0 r1 n bytes × WroteFront limit bytes w0 w1
-ShowStopped limit r0 r1 w0 w1 Bound = (bytes : List ℕ) × Gave r0 r1 MOST_READS bytes × WroteFront limit bytes w0 w1
+ShowStopped limit r0 r1 w0 w1 Read = (n : ℕ) × (bytes : List ℕ) × GaveAndFailed r0 r1 n bytes × WroteFrames limit bytes w0 w1
+ShowStopped limit r0 r1 w0 w1 Bound = (bytes : List ℕ) × Gave r0 r1 MOST_READS bytes × WroteFrames limit bytes w0 w1
 ShowStopped limit r0 r1 w0 w1 Write = (bytes : List ℕ) × WasRead r0 r1 bytes × Stopped limit bytes w0 w1 Write
 ShowStopped limit r0 r1 w0 w1 Memory = (bytes : List ℕ) × WasRead r0 r1 bytes × Stopped limit bytes w0 w1 Memory
 ShowStopped limit r0 r1 w0 w1 Hex = ⊥
