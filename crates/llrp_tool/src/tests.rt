@@ -2,3 +2,4 @@ mod commands;
 mod devices;
 mod hexadecimal;
 mod show;
+mod vectors;
