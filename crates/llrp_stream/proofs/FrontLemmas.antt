@@ -5,8 +5,8 @@ use Rattle.llrp_tree.specs.declared.fault.Fault.{Fault}
 use Rattle.llrp_tree.specs.FirstFault.{FirstFault}
 use Rattle.llrp_stream.specs.declared.header.FaultyHeader.{FaultyHeader}
 use Rattle.llrp_stream.specs.Cuts.{length_field, IsFrame, IsPartial, Breaks}
-use Rattle.llrp_stream.specs.Items.{id_field}
-use Rattle.llrp_stream.specs.Headers.{header_fault, IsFaulty, IsSound}
+use Rattle.llrp_stream.specs.Items.{id_field, header_fault}
+use Rattle.llrp_stream.specs.Headers.{IsFaulty, IsSound}
 use Rattle.llrp_stream.specs.Decoding.{IsSkipped}
 use Rattle.llrp_stream.proofs.HeaderLemmas.{number-append}
 

@@ -15,7 +15,7 @@ use Rattle.tag_bits.proofs.WordLemmas.{field-digits}
 use Rattle.llrp_tree.specs.Lawful.{AreOctets}
 use Rattle.llrp_tree.specs.FirstFault.{number, header_checks}
 use Rattle.llrp_tree.proofs.Telling.{all_hold}
-use Rattle.llrp_stream.specs.Headers.{header_fault}
+use Rattle.llrp_stream.specs.Items.{header_fault}
 
 pow_octets : (n : ℕ) → 2 ^ (8 * n) ≡ 256 ^ n
 pow_octets zero = refl

@@ -1,5 +1,5 @@
 -- Bytes that come in pieces.
-use Rattle.std.proofs.Common.{◌≡◌, ℕ, List, [], ◌∷◌, ◌++◌, take, drop, Option, Some, None, Result, Ok, Err, refl, sym, ap, subst, ◌∙◌, append_assoc}
+use Rattle.std.proofs.Common.{◌≡◌, ℕ, List, [], ◌∷◌, ◌++◌, take, drop, Option, Some, None, Result, Ok, Err, refl, sym, ap, subst, ◌∙◌, append_assoc, inl, inr}
 use Rattle.std.specs.List.{AllByRecursion, AllZip}
 use Rattle.std.proofs.lemmas.List.{append-nil, take-append-drop}
 use Rattle.llrp_stream.specs.declared.item.Item.{Item}
@@ -78,10 +78,11 @@ by_answer old new front piece bytes items (Err Memory) same so none feeds = absu
 by_answer old new front piece bytes items (Err Dead) same so none feeds = absurd none
 
 by_piece : (old new : DecoderState) (piece bytes : List ℕ) (items first : List Item) → At old bytes items → TakesPiece old piece first new → At new (bytes ++ piece) (items ++ first) × (new.limit ≡ old.limit)
-by_piece old new piece bytes items [] (going front stands so) t =
+by_piece old new piece bytes items [] at (inl none) = (rw (none.0, none.1, append-nil bytes, append-nil items) at, ap (λ (d : DecoderState). d.limit) none.1)
+by_piece old new piece bytes items [] (going front stands so) (inr t) =
     let feed : Feed old piece new t.0 = t.1.1 in
     (rw append-nil (by_answer old new front piece bytes items t.0 feed.limit so t.1.0 (feed.stands front stands)), feed.limit)
-by_piece old new piece bytes items [] (over tail broken breaks so) t =
+by_piece old new piece bytes items [] (over tail broken breaks so) (inr t) =
     let feed : Feed old piece new t.0 = t.1.1 in
     (rw append-nil (over (tail ++ piece) (feed.broken broken).1 (no_frame_breaks tail piece breaks) (rw feed.limit (by_bytes old.limit bytes items tail piece so))), feed.limit)
 by_piece old new piece bytes items (item ∷ first) (going front stands so) t =

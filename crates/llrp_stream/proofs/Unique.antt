@@ -12,6 +12,7 @@ use Rattle.llrp_stream.specs.declared.item.End.{End}
 use Rattle.llrp_stream.specs.declared.item.End.TheVariants.{Clean, Rest, Broken, Dead}
 use Rattle.llrp_stream.specs.Cuts.{length_field, IsFrame, Ends, joined}
 use Rattle.llrp_stream.specs.Items.{IsItemOf, Items}
+use Rattle.llrp_stream.specs.StreamLaws.{IsCutInOneWay}
 use Rattle.llrp_stream.proofs.FrontLemmas.{length_field-append}
 
 -- a frame has one item
@@ -59,6 +60,23 @@ same_front f g s t p q e =
     let fronts : f ≡ g = sym (take_at f s (length f) refl) ∙ ap (take (length f)) e ∙ take_at g t (length f) len in
     let backs : s ≡ t = sym (drop_at f s (length f) refl) ∙ ap (drop (length f)) e ∙ drop_at g t (length f) len in
     (fronts, backs)
+
+cut_once : (frames others : List (List ℕ)) (rest tail : List ℕ) (end last : End) → AllByRecursion IsFrame frames → AllByRecursion IsFrame others → joined frames ++ rest ≡ joined others ++ tail → Ends rest end → Ends tail last → (frames ≡ others) × (end ≡ last)
+cut_once [] [] rest tail end last p q e a b = (refl, same_end tail end last (subst (λ (t : List ℕ). Ends t end) e a) b)
+cut_once [] (g ∷ others) rest tail end last p q e a b =
+    let whole : rest ≡ g ++ (joined others ++ tail) = e ∙ append_assoc g (joined others) tail in
+    absurd (no_end g (joined others ++ tail) end q.0 (subst (λ (t : List ℕ). Ends t end) whole a))
+cut_once (f ∷ frames) [] rest tail end last p q e a b =
+    let whole : tail ≡ f ++ (joined frames ++ rest) = sym e ∙ append_assoc f (joined frames) rest in
+    absurd (no_end f (joined frames ++ rest) last p.0 (subst (λ (t : List ℕ). Ends t last) whole b))
+cut_once (f ∷ frames) (g ∷ others) rest tail end last p q e a b =
+    let whole : f ++ (joined frames ++ rest) ≡ g ++ (joined others ++ tail) = sym (append_assoc f (joined frames) rest) ∙ e ∙ append_assoc g (joined others) tail in
+    let same = same_front f g (joined frames ++ rest) (joined others ++ tail) p.0 q.0 whole in
+    let ih = cut_once frames others rest tail end last p.1 q.1 same.1 a b in
+    (ap (λ (x : List ℕ). x ∷ frames) same.0 ∙ ap (λ (xs : List (List ℕ)). g ∷ xs) ih.0, ih.1)
+
+pub one_cut : (stream : List ℕ) → IsCutInOneWay stream
+one_cut stream frames others end last p q = cut_once frames others p.tail q.tail end last p.each q.each (sym p.whole ∙ q.whole) p.ends q.ends
 
 -- what another reading of the same stream has after the frames that were read
 pub record After (limit : ℕ) (rest : List ℕ) (items others : List Item) (end : End) : Type 0 where

@@ -1,5 +1,5 @@
 -- What a decoder answers to pieces, and what becomes of it.
-use Rattle.std.specs.Prelude.{◌≡◌, ℕ, ◌≤◌, false, List, [], ◌∷◌, ◌++◌, length, take, drop, Option, Some, None, Result, Ok, Err}
+use Rattle.std.specs.Prelude.{◌≡◌, ℕ, ◌≤◌, ◌⊎◌, false, List, [], ◌∷◌, ◌++◌, length, take, drop, Option, Some, None, Result, Ok, Err}
 use Rattle.llrp_stream.specs.declared.item.Item.{Item}
 use Rattle.llrp_stream.specs.declared.item.End.{End}
 use Rattle.llrp_stream.specs.declared.item.End.TheVariants as at_end
@@ -36,9 +36,9 @@ GivesNone (Err Broken) = Unit {0}
 GivesNone (Err Memory) = ⊥
 GivesNone (Err Dead) = ⊥
 
--- a piece is fed, and after each item what is left of it; these items come
+-- A piece is fed, and after each item what is left of it, until nothing is left or a feed gives no item; these items come.
 abbrev pub TakesPiece : DecoderState → List ℕ → List Item → DecoderState → Type 0
-TakesPiece old piece [] new = (answer : Result Fed FeedErr) × (GivesNone answer × Feed old piece new answer)
+TakesPiece old piece [] new = ((piece ≡ []) × (new ≡ old)) ⊎ ((answer : Result Fed FeedErr) × (GivesNone answer × Feed old piece new answer))
 TakesPiece old piece (item ∷ items) new =
     (used : ℕ) × ((mid : DecoderState) × (Feed old piece mid (Ok (record { used = used; item = Some item })) × TakesPiece mid (drop used piece) items new))
 

@@ -1,18 +1,12 @@
--- What the first bytes of a frame say.
-use Rattle.std.specs.Prelude.{◌≡◌, ◌≢◌, ℕ, ◌<◌, ◌≤◌, List, length, Option, Some, None}
-use Rattle.tag_bits.specs.Digits.{digits_of_bytes}
+-- What the decoder reads in the first bytes of a frame.
+use Rattle.std.specs.Prelude.{◌≡◌, ℕ, ◌<◌, ◌≤◌, List, length, Option, Some, None}
 use Rattle.llrp_tree.specs.declared.fault.Fault.{Fault}
 use Rattle.llrp_tree.specs.declared.fault.Reason.{Reason}
-use Rattle.llrp_tree.specs.FirstFault.{first_failing, header_checks}
 use Rattle.llrp_stream.specs.declared.header.FaultyHeader.{FaultyHeader}
 use Rattle.llrp_stream.specs.declared.header.Start.{Start}
 use Rattle.llrp_stream.specs.declared.header.Start.TheVariants.{Short, Breaking, Faulty, Sound}
 use Rattle.llrp_stream.specs.Cuts.{length_field, IsPartial, Breaks}
-use Rattle.llrp_stream.specs.Items.{id_field}
-
--- the first check that the header fails, and its bit
-unfoldable pub header_fault : ℕ → List ℕ → Option (ℕ × Reason)
-header_fault limit bytes = first_failing (header_checks limit (digits_of_bytes bytes))
+use Rattle.llrp_stream.specs.Items.{id_field, header_fault}
 
 -- a fault, as a check tells it
 abbrev pub told : Option Fault → Option (ℕ × Reason)
@@ -41,7 +35,3 @@ Starts limit bytes Short = (length bytes < 10) × IsPartial bytes
 Starts limit bytes Breaking = Breaks bytes
 Starts limit bytes (Faulty header) = IsFaulty limit bytes header
 Starts limit bytes (Sound octets) = IsSound limit bytes octets
-
--- a whole header that fails a check
-abbrev pub HasHeaderFault : ℕ → List ℕ → Type 0
-HasHeaderFault limit front = (10 ≤ length front) × (header_fault limit front ≢ None)

@@ -1,9 +1,10 @@
 -- What a stream holds: each frame's message or fault, and the end.
-use Rattle.std.specs.Prelude.{◌≡◌, ℕ, List, ◌++◌}
+use Rattle.std.specs.Prelude.{◌≡◌, ◌≢◌, ℕ, ◌≤◌, List, ◌++◌, length, Option, None}
 use Rattle.std.specs.List.{AllByRecursion, AllZip}
 use Rattle.tag_bits.specs.Digits.{digits_of_bytes}
 use Rattle.llrp_tree.specs.Frame.{Frame}
-use Rattle.llrp_tree.specs.FirstFault.{number, FirstFault}
+use Rattle.llrp_tree.specs.declared.fault.Reason.{Reason}
+use Rattle.llrp_tree.specs.FirstFault.{number, first_failing, header_checks, FirstFault}
 use Rattle.llrp_stream.specs.declared.item.Item.{Item}
 use Rattle.llrp_stream.specs.declared.item.Item.TheVariants.{Msg, Bad}
 use Rattle.llrp_stream.specs.declared.item.End.{End}
@@ -17,6 +18,14 @@ id_field frame = number (digits_of_bytes frame) 48 32
 abbrev pub IsItemOf : ℕ → List ℕ → Item → Type 0
 IsItemOf limit frame (Msg message) = Frame message frame limit
 IsItemOf limit frame (Bad id fault) = (id ≡ id_field frame) × FirstFault frame limit fault.bit fault.reason
+
+-- the first check that a frame's header fails, and its bit
+unfoldable pub header_fault : ℕ → List ℕ → Option (ℕ × Reason)
+header_fault limit bytes = first_failing (header_checks limit (digits_of_bytes bytes))
+
+-- a whole header that fails a check
+abbrev pub HasHeaderFault : ℕ → List ℕ → Type 0
+HasHeaderFault limit front = (10 ≤ length front) × (header_fault limit front ≢ None)
 
 -- the items of a stream, one a frame, and its end
 pub record Items (limit : ℕ) (stream : List ℕ) (items : List Item) (end : End) : Type 0 where

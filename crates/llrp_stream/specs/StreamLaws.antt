@@ -2,7 +2,7 @@
 use Rattle.std.specs.Prelude.{◌≡◌, ℕ, List, [], ◌∷◌, ◌++◌}
 use Rattle.llrp_stream.specs.declared.item.Item.{Item}
 use Rattle.llrp_stream.specs.declared.item.End.{End}
-use Rattle.llrp_stream.specs.Cuts.{IsFrame, Ends, joined}
+use Rattle.llrp_stream.specs.Cuts.{IsFrame, Ends, joined, Cuts}
 use Rattle.llrp_stream.specs.Items.{IsItemOf, Items, ItemsSoFar}
 use Rattle.llrp_stream.specs.Decoding.{DecoderState, Stands}
 use Rattle.llrp_stream.specs.Feeding.{TakesPieces, Finishes}
@@ -12,6 +12,10 @@ pub record HasOneItem (limit : ℕ) (frame : List ℕ) : Type 0 where
   pub item : Item
   pub is : IsItemOf limit frame item
   pub only : (other : Item) → IsItemOf limit frame other → other ≡ item
+
+-- a stream is cut in one way
+abbrev pub IsCutInOneWay : List ℕ → Type 0
+IsCutInOneWay stream = (frames others : List (List ℕ)) (end last : End) → Cuts stream frames end → Cuts stream others last → (frames ≡ others) × (end ≡ last)
 
 -- The stream has one list of items, and one end.
 pub record HasOneListing (limit : ℕ) (stream : List ℕ) : Type 0 where

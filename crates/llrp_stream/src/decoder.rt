@@ -37,9 +37,9 @@ impl Decoder {
     ghost use Rattle.llrp_stream.specs.Cuts.{Ends};
     ghost use Rattle.llrp_stream.specs.Decoding.{IsBroken, IsDead, Stands, weight};
     ghost use Rattle.llrp_stream.specs.Feeding.{Feeds};
-    ghost use Rattle.llrp_stream.specs.Headers.{HasHeaderFault};
+    ghost use Rattle.llrp_stream.specs.Items.{HasHeaderFault};
 
-    /// A decoder that was fed nothing. A frame of more than `limit` octets is faulty.
+    /// A decoder that was fed nothing; it takes no memory. A frame of more than `limit` octets is faulty.
     pub fn new(alloc: Global, limit: u32) -> Decoder
         requires least { 10 ≤ limit }
         requires most { limit ≤ MAX_LIMIT }
@@ -55,7 +55,9 @@ impl Decoder {
     }
 
     /// Takes the bytes of a piece up to the end of the next frame, and gives that frame's item; without
-    /// an item it took the whole piece. After `Broken` it answers `Broken`, and after `Memory` `Dead`.
+    /// an item it took the whole piece. `Broken` comes with the sixth byte of a frame whose length field
+    /// is below 10, and from each later call; `Memory` where a growth was refused, and `Dead` from each
+    /// later call.
     pub fn feed(&mut self, piece: &[u8]) -> Result<Fed, FeedErr>
         // Whatever bytes of an unfinished frame it stands for, it goes on from them.
         ensures stands { (front : List ℕ) → Stands self.old front → Feeds self.old front piece.now self.new result }

@@ -2,7 +2,8 @@
 
 ghost use Rattle.std.specs.Prelude.{◌≡◌, ◌≤◌, length};
 ghost use Rattle.llrp_stream.specs.Cuts.{length_field};
-ghost use Rattle.llrp_stream.specs.Headers.{Starts, header_fault, told};
+ghost use Rattle.llrp_stream.specs.Headers.{Starts, told};
+ghost use Rattle.llrp_stream.specs.Items.{header_fault};
 
 use byteorder::{BigEndian, ByteOrder};
 use llrp_tree::{Fault, Reason, msg_of};

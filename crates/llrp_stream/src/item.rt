@@ -24,7 +24,7 @@ pub enum End {
     Rest(u64),
     /// At a length field below 10, which no frame has.
     Broken,
-    /// Nobody knows: memory ran out before.
+    /// Nobody can tell: a growth was refused.
     Dead,
 }
 

@@ -4,7 +4,7 @@ ghost use Rattle.std.specs.Prelude.{List, ◌≤◌, ℕ};
 ghost use Rattle.llrp_tree.specs.Lawful.{AreOctets};
 ghost use Rattle.llrp_tree.specs.declared.TheConstants.{MAX_LIMIT};
 ghost use Rattle.llrp_stream.specs.Cuts.{IsFrame};
-ghost use Rattle.llrp_stream.specs.StreamLaws.{HasOneItem, HasOneListing, ItemsGrow, PiecesAreTheStream};
+ghost use Rattle.llrp_stream.specs.StreamLaws.{HasOneItem, HasOneListing, IsCutInOneWay, ItemsGrow, PiecesAreTheStream};
 
 /// Each frame has one message or exactly one first fault, and never both.
 #[tactic(auto, using(crate::proofs::ItemLemmas::has_one_item))]
@@ -12,7 +12,12 @@ pub fn one_item()
     ensures { (limit : ℕ) (frame : List ℕ) → limit ≤ MAX_LIMIT → AreOctets frame → IsFrame frame → HasOneItem limit frame }
 {}
 
-/// Each stream of octets is cut in one way, and has one list of items and one end.
+/// Each stream is cut in one way.
+pub fn one_cut()
+    ensures { (stream : List ℕ) → IsCutInOneWay stream }
+{}
+
+/// Each stream of octets has one list of items, and one end.
 #[tactic(auto, using(crate::proofs::ItemLemmas::has_one_listing))]
 pub fn one_listing()
     ensures { (limit : ℕ) (stream : List ℕ) → limit ≤ MAX_LIMIT → AreOctets stream → HasOneListing limit stream }

@@ -27,7 +27,7 @@ pub(crate) struct Step {
 }
 
 impl Step {
-    /// The same step after so many bytes of the piece.
+    /// The same step, where so many bytes of the piece were taken before it.
     fn behind(self, taken: usize) -> Step
         requires { self.used + taken < 2 ^ 64 }
         ensures { result ≡ record self { used = self.used + taken } }

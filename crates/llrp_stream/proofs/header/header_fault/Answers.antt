@@ -3,7 +3,7 @@ use Rattle.std.proofs.Common.{◌/◌, bit_and, refl, arith}
 use Rattle.std.proofs.lemmas.Bool.{le-leb, lt-leb}
 use Rattle.llrp_tree.proofs.OctetLemmas.{are_octets}
 use Rattle.llrp_stream.specs.Cuts.{length_field}
-use Rattle.llrp_stream.specs.Headers.{header_fault}
+use Rattle.llrp_stream.specs.Items.{header_fault}
 use Rattle.llrp_stream.proofs.HeaderLemmas.{head_is, not_equal, known_version, unknown_version}
 use Rattle.llrp_stream.proofs.header.header_fault.Goals as goal
 
