@@ -1,16 +1,15 @@
 -- The listing of messages is that of their spellings.
-use Rattle.std.proofs.Common.{◌≡◌, ℕ, ◌+◌, ◌≤◌, ◌<◌, ◌^◌, Bool, List, [], ◌∷◌, ◌++◌, length, refl, sym, ap, subst, ◌∙◌, append_assoc, arith}
+use Rattle.std.proofs.Common.{◌≡◌, ℕ, ◌≤◌, ◌<◌, ◌^◌, Bool, List, [], ◌∷◌, ◌++◌, refl, sym, ap, subst, ◌∙◌, arith}
 use Rattle.std.specs.List.{flat_map, AllZip, AllByRecursion}
 use Rattle.std.proofs.lemmas.List.{append-nil}
 use Rattle.std.proofs.lemmas.List.Concat.{flat_map-append}
-use Rattle.tag_bits.specs.Digits.{digits, digits_of_bytes}
+use Rattle.tag_bits.specs.Digits.{digits}
 use Rattle.llrp_schema.specs.declared.kinds.Kind.TheVariants.{Message}
-use Rattle.llrp_schema.specs.Schema.{number_of, fields_of}
-use Rattle.llrp_schema.proofs.TableLaws.{message_number_fits}
+use Rattle.llrp_schema.specs.Schema.{number_of}
 use Rattle.llrp_tree.specs.declared.TheConstants.{MAX_LIMIT}
 use Rattle.llrp_tree.specs.Tree.{MessageTree}
-use Rattle.llrp_tree.specs.Lawful.{message_octets, IsLawfulMessage}
-use Rattle.llrp_tree.specs.Spelling.{message, head_digits, body_digits, spell, message_digits}
+use Rattle.llrp_tree.specs.Lawful.{message_octets}
+use Rattle.llrp_tree.specs.Spelling.{body_digits, spell, message_digits}
 use Rattle.llrp_tree.specs.Frame.{Frame}
 use Rattle.llrp_tree.specs.FirstFault.{number}
 use Rattle.llrp_tree.proofs.Frames.{header_spread}
@@ -26,8 +25,8 @@ use Rattle.llrp_stream.proofs.Unique.{same_items}
 use Rattle.llrp_tool.specs.NodeLine.{NodeLine, IsLine}
 use Rattle.llrp_tool.specs.MessageListing.{AreLines, IsListingOf, messages_lines, message_lines}
 use Rattle.llrp_tool.specs.PrintingLaws.{AreSpellings, IsOnlyListing}
-use Rattle.llrp_tool.specs.StreamListing.{IsItemText, AreItemTexts, IsStreamListing, end_text}
-use Rattle.llrp_tool.proofs.OneText.{one_stream_listing, one_text_of_lines}
+use Rattle.llrp_tool.specs.StreamListing.{AreItemTexts, IsStreamListing, end_text}
+use Rattle.llrp_tool.proofs.OneText.{one_stream_listing}
 
 -- ---- a message's spelling is a frame
 
@@ -135,6 +134,6 @@ prints_back limit messages text frames listing spelled =
       are = items;
       is = is;
       only = λ others last other all it.
-        let same = same_items limit (joined frames) (as_items messages) others Clean last items all in
-        one_stream_listing (as_items messages) Clean other text (subst (λ (e : End). IsStreamListing (as_items messages) e other) same.1 (subst (λ (xs : List Item). IsStreamListing xs last other) same.0 it)) is;
+          let same = same_items limit (joined frames) (as_items messages) others Clean last items all in
+          one_stream_listing (as_items messages) Clean other text (subst (λ (e : End). IsStreamListing (as_items messages) e other) same.1 (subst (λ (xs : List Item). IsStreamListing xs last other) same.0 it)) is;
     }

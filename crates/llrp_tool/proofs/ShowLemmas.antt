@@ -71,11 +71,14 @@ begins_so_far limit bytes more front text part items so are part_of others end w
 -- ---- a lister takes a piece
 
 pub begun : (limit : ℕ) (log : SinkLog) (lister : Lister) → Stands lister.decoder [] → lister.decoder.limit ≡ limit → lister.text.items ≡ [] → lister.lawful ≡ true → Begins limit log lister
-begun limit log lister stands limit_is empty lawful = ((
-  [],
-  record { items = []; sent = []; so_far = (items_grow limit).none; texts = subst (λ (x : List ℕ). AreItemTexts [] x) (sym empty) no_items; log = wrote_nothing log; limit_is = limit_is; lawful_is = lawful },
-  stands,
-), empty)
+begun limit log lister stands limit_is empty lawful = (
+  (
+    [],
+    record { items = []; sent = []; so_far = (items_grow limit).none; texts = subst (λ (x : List ℕ). AreItemTexts [] x) (sym empty) no_items; log = wrote_nothing log; limit_is = limit_is; lawful_is = lawful },
+    stands,
+  ),
+  empty,
+)
 
 -- one item more, whose text is gathered
 item_gathered : (limit : ℕ) (bytes piece front text : List ℕ) (used : ℕ) (item : Item) (old now : SinkLog) (lister : Lister) (decoder : DecoderState)

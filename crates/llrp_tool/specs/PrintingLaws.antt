@@ -1,5 +1,5 @@
 -- What holds of every listing.
-use Rattle.std.specs.Prelude.{◌≡◌, ℕ, ◌≤◌, List}
+use Rattle.std.specs.Prelude.{◌≡◌, ℕ, List}
 use Rattle.std.specs.List.{AllZip}
 use Rattle.llrp_tree.specs.Frame.{Frame}
 use Rattle.llrp_tree.specs.Tree.{MessageTree}

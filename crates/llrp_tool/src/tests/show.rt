@@ -67,7 +67,10 @@ fn report_cut_anywhere(rt: HostRuntime) -> Result<(), Fail> {
             let mut sink = Output::new(Vec::new(rt.alloc()));
             let found = run_show(rt.alloc(), &mut source, &mut sink, 65_536);
             assert!(rt; found == Ok(Verdict::Lawful), "{first} {later}");
-            assert!(rt; sink.into_inner().as_slice() == REPORT_LINES, "{first} {later}");
+            assert!(rt;
+                sink.into_inner().as_slice() == REPORT_LINES,
+                "{first} {later}"
+            );
         }
     }
     Ok(())

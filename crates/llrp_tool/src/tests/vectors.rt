@@ -393,8 +393,9 @@ fn words_in_reports(rt: HostRuntime) -> Result<(), Fail> {
     for (name, word, text) in WORDS.iter() {
         let mut stream = bytes(rt.alloc(), "043D0000001B00000001 00F00011 8D")?;
         stream.extend_from_slice(bytes(rt.alloc(), word)?.as_slice())?;
-        let listing =
-            format!(in rt.alloc(); "0 RO_ACCESS_REPORT 1 1\n1 TagReportData\n2 EPC-96 {text}\n")?;
+        let listing = format!(in rt.alloc();
+            "0 RO_ACCESS_REPORT 1 1\n1 TagReportData\n2 EPC-96 {text}\n"
+        )?;
         lists(
             &rt,
             name,

@@ -28,12 +28,13 @@ returns-in_err-hand_on g c = λ limit bytes log goes.
 
 pub returns-in_default : goal.returns-in_default
 returns-in_default g c = λ limit bytes log goes.
-    let done = c.items.invariant.done in
-    (subst (λ (x : List ℕ). GoesOn limit x log (g.W.Sink.log c.hand_on.new.w) (record { decoder = c.feed.new.self; text = c.hand_on.new.gathered; lawful = c.items.self.lawful })) (as_far bytes done c.items.rest.now c.args.piece.now c.items.invariant.parts)
-    (piece_listed limit (bytes ++ done) c.items.rest.now c.in-Ok.fed.used log _ _ c.items.self _ (c.items.invariant.goes limit bytes log goes)
-    (λ front stands. takes_none c.items.self.decoder.limit front c.items.rest.now c.feed.new.self c.in-Ok.fed.used c.in-Ok.fed.item c.in_default.not-Some (c.in-Ok.ensures.stands front stands))
-    c.in-Ok.ensures.limit c.in_ok-hand_on.ensures.written c.in_ok-hand_on.ensures.emptied refl),
-    c.in_ok-hand_on.ensures.emptied)
+    let done = c.items.invariant.done in (
+      subst (λ (x : List ℕ). GoesOn limit x log (g.W.Sink.log c.hand_on.new.w) (record { decoder = c.feed.new.self; text = c.hand_on.new.gathered; lawful = c.items.self.lawful })) (as_far bytes done c.items.rest.now c.args.piece.now c.items.invariant.parts)
+          (piece_listed limit (bytes ++ done) c.items.rest.now c.in-Ok.fed.used log _ _ c.items.self _ (c.items.invariant.goes limit bytes log goes)
+          (λ front stands. takes_none c.items.self.decoder.limit front c.items.rest.now c.feed.new.self c.in-Ok.fed.used c.in-Ok.fed.item c.in_default.not-Some (c.in-Ok.ensures.stands front stands))
+          c.in-Ok.ensures.limit c.in_ok-hand_on.ensures.written c.in_ok-hand_on.ensures.emptied refl),
+      c.in_ok-hand_on.ensures.emptied,
+    )
 
 pub returns-in_err-list : goal.returns-in_err-list
 returns-in_err-list g c = λ limit bytes log goes.
