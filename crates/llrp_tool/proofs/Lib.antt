@@ -1,5 +1,4 @@
 pub mod AnswerLemmas
-pub mod Apart
 pub mod CommandLemmas
 pub mod Cutting
 pub mod DecimalWords
@@ -7,16 +6,16 @@ pub mod DeviceLemmas
 pub mod EpcLemmas
 pub mod EpcText
 pub mod FrameBytes
-pub mod FramingLemmas
 pub mod Growing
-pub mod HeaderLemmas
 pub mod HexadecimalLemmas
-pub mod ItemLemmas
 pub mod LineReading
 pub mod Listed
 pub mod MessageWords
 pub mod Numerals
 pub mod OneEpcAnswer
+pub mod OneText
+pub mod PrintingLemmas
+pub mod PrintsBack
 pub mod Rows
 pub mod Running
 pub mod ScriptDeciding
@@ -29,6 +28,5 @@ pub mod ShowLemmas
 pub mod Standing
 pub mod Telling
 pub mod TextLemmas
-pub mod Unique
 pub mod WordLemmas
 pub mod WordTexts

@@ -1,54 +1,50 @@
--- The loop over the frames of a stream.
-use Rattle.std.proofs.Common.{◌≡◌, ℕ, Bool, true, false, List, [], ◌∷◌, ◌++◌, take, drop, refl, sym, ap, ◌∙◌, append_assoc, Err}
-use Rattle.std.specs.Prelude.{◌&&◌}
-use Rattle.std.specs.List.{flat_map, AllByRecursion, AllZip, list_all}
+-- The listing of a stream as it comes.
+use Rattle.std.proofs.Common.{◌≡◌, ℕ, Bool, true, false, List, [], ◌∷◌, ◌++◌, take, drop, refl, sym, ap, subst, ◌∙◌, append_assoc, Err, Ok, inl, inr, Some, None}
+use Rattle.std.specs.Prelude.{◌&&◌, Option, Result, OnOk, IfErr, IfOk, MatchResult}
+use Rattle.std.specs.List.{flat_map, AllZip, list_all}
 use Rattle.std.proofs.lemmas.List.{append-nil, take-append-drop}
 use Rattle.std.proofs.lemmas.List.Concat.{flat_map-append}
-use Rattle.llrp_tool.specs.declared.frame.Item.{Item}
-use Rattle.llrp_tool.specs.declared.frame.End.{End}
+use Rattle.llrp_stream.specs.declared.item.Item.{Item}
+use Rattle.llrp_stream.specs.declared.item.End.{End}
+use Rattle.llrp_stream.specs.declared.item.End.TheVariants as at_end
+use Rattle.llrp_stream.specs.Cuts.{Breaks, Ends}
+use Rattle.llrp_stream.specs.Decoding.{DecoderState, Stands, IsBroken}
+use Rattle.llrp_stream.specs.Device.{SourceLog, SinkLog, Gave, Wrote}
+use Rattle.llrp_stream.specs.Feeding.{Takes}
+use Rattle.llrp_stream.specs.Items.{IsItemOf, Items, ItemsSoFar}
+use Rattle.llrp_stream.proofs.FrontLemmas.{no_frame_breaks}
+use Rattle.llrp_stream.proofs.RunLemmas.{items_grow}
+use Rattle.llrp_stream.proofs.Unique.{same_items}
 use Rattle.llrp_tool.specs.declared.fault.ToolErr.{ToolErr}
 use Rattle.llrp_tool.specs.declared.fault.ToolErr.TheVariants.{Listing, Script, Read, Write, Bound, Memory, Hex}
 use Rattle.llrp_tool.specs.declared.fault.Verdict.{Verdict}
-use Rattle.llrp_stream.specs.Device.{SinkLog, Wrote}
-use Rattle.llrp_tool.specs.Copying.{HandsOn, IsPrefix, Writes, WriteStopped}
-use Rattle.llrp_tool.specs.Cuts.{IsFrame, Ends, joined}
-use Rattle.llrp_tool.specs.Items.{IsItemOf, Items}
-use Rattle.llrp_tool.specs.Listing.{item_text, end_text, is_message, is_clean, listing, is_lawful}
-use Rattle.llrp_tool.specs.Show.{verdict_of, Listed, BeginsListing, ListStopped, Stopped}
-use Rattle.llrp_tool.proofs.DeviceLemmas.{wrote_nothing, wrote_more, wrote_then_failed}
-use Rattle.llrp_tool.proofs.Unique.{after_front, none_left}
+use Rattle.llrp_tool.specs.declared.show.Lister.{Lister}
+use Rattle.llrp_tool.specs.Copying.{HandsOn, IsPrefix, Writes, ReadAll}
+use Rattle.llrp_tool.specs.Encoding.{WasRead}
+use Rattle.llrp_tool.specs.Lister.{ListedSoFar, GoesOn, IsBrokenOff, Begins, Finishes, Feeds, Lists, KeepsNothing}
+use Rattle.llrp_tool.specs.Printing.{AppendsItem}
+use Rattle.llrp_tool.specs.Show.{verdict_of, Listed, BeginsListing, Stopped, WroteFrames, ShowStopped, Shows}
+use Rattle.llrp_tool.specs.StreamListing.{IsItemText, AreItemTexts, IsStreamListing, end_text, is_message, is_clean, is_lawful}
+use Rattle.llrp_tool.proofs.DeviceLemmas.{wrote_nothing, wrote_more, wrote_then_failed, same_failures}
+use Rattle.llrp_tool.proofs.OneText.{begins_listing, one_stream_listing}
 
--- the frames that were listed so far, and the text of them that is kept back
-pub record SoFar (limit : ℕ) (stream rest : List ℕ) (old now : SinkLog) (lawful : Bool) (kept : List ℕ) : Type 0 where
-  pub frames : List (List ℕ)
-  pub items : List Item
-  pub sent : List ℕ
-  pub whole : stream ≡ joined frames ++ rest
-  pub each : AllByRecursion IsFrame frames
-  pub are : AllZip (IsItemOf limit) frames items
-  pub texts : flat_map item_text items ≡ sent ++ kept
-  pub log : Wrote old now sent
-  pub lawful_is : lawful ≡ list_all is_message items
+-- ---- texts of items
 
-pub so_far_none : (limit : ℕ) (stream : List ℕ) (log : SinkLog) (kept : List ℕ) → kept ≡ [] → SoFar limit stream stream log log true kept
-so_far_none limit stream log kept none = record { frames = []; items = []; sent = []; whole = refl; each = tt; are = tt; texts = sym none; log = wrote_nothing log; lawful_is = refl }
+no_items : AreItemTexts [] []
+no_items = record { texts = []; each = tt; text_is = refl }
 
-each_push : (P : List ℕ → Type 0) (xs : List (List ℕ)) (x : List ℕ) → AllByRecursion P xs → P x → AllByRecursion P (xs ++ (x ∷ []))
-each_push P [] x h p = (p, tt)
-each_push P (y ∷ xs) x h p = (h.0, each_push P xs x h.1 p)
-
-zip_push : (R : List ℕ → Item → Type 0) (xs : List (List ℕ)) (ys : List Item) (x : List ℕ) (y : Item) → AllZip R xs ys → R x y → AllZip R (xs ++ (x ∷ [])) (ys ++ (y ∷ []))
+zip_push : (R : Item → List ℕ → Type 0) (xs : List Item) (ys : List (List ℕ)) (x : Item) (y : List ℕ) → AllZip R xs ys → R x y → AllZip R (xs ++ (x ∷ [])) (ys ++ (y ∷ []))
 zip_push R [] [] x y h p = (p, tt)
 zip_push R [] (b ∷ ys) x y h p = absurd h
 zip_push R (a ∷ xs) [] x y h p = absurd h
 zip_push R (a ∷ xs) (b ∷ ys) x y h p = (h.0, zip_push R xs ys x y h.1 p)
 
-joined_push : (frames : List (List ℕ)) (frame rest : List ℕ) → joined (frames ++ (frame ∷ [])) ++ rest ≡ joined frames ++ (frame ++ rest)
-joined_push [] frame rest = ap (λ (x : List ℕ). x ++ rest) (append-nil frame)
-joined_push (f ∷ frames) frame rest = append_assoc f (joined (frames ++ (frame ∷ []))) rest ∙ ap (λ (x : List ℕ). f ++ x) (joined_push frames frame rest) ∙ sym (append_assoc f (joined frames) (frame ++ rest))
-
-texts_push : (items : List Item) (item : Item) → flat_map item_text (items ++ (item ∷ [])) ≡ flat_map item_text items ++ item_text item
-texts_push items item = flat_map-append item_text items (item ∷ []) ∙ ap (λ (x : List ℕ). flat_map item_text items ++ x) (append-nil (item_text item))
+one_item_more : (items : List Item) (item : Item) (text more : List ℕ) → AreItemTexts items text → IsItemText item more → AreItemTexts (items ++ (item ∷ [])) (text ++ more)
+one_item_more items item text more are is = record {
+  texts = are.texts ++ (more ∷ []);
+  each = zip_push IsItemText items are.texts item more are.each is;
+  text_is = ap (λ (x : List ℕ). x ++ more) are.text_is ∙ ap (λ (x : List ℕ). flat_map (λ t. t) are.texts ++ x) (sym (append-nil more)) ∙ sym (flat_map-append (λ t. t) are.texts (more ∷ []));
+}
 
 and_true : (b : Bool) → (b && true) ≡ b
 and_true true = refl
@@ -62,117 +58,306 @@ lawful_push : (items : List Item) (item : Item) → list_all is_message (items +
 lawful_push [] item = and_true (is_message item)
 lawful_push (i ∷ items) item = ap (λ (b : Bool). is_message i && b) (lawful_push items item) ∙ and_assoc (is_message i) (list_all is_message items) (is_message item)
 
--- one more frame, whose line is kept back
-pub so_far_more : (limit : ℕ) (stream rest after frame : List ℕ) (old now : SinkLog) (lawful more : Bool) (kept text : List ℕ) (item : Item) → SoFar limit stream rest old now lawful kept
-    → rest ≡ frame ++ after → IsFrame frame → IsItemOf limit frame item → text ≡ kept ++ item_text item → more ≡ (lawful && is_message item)
-    → SoFar limit stream after old now more text
-so_far_more limit stream rest after frame old now lawful more kept text item so whole is_frame is_item grown more_is = record {
-  frames = so.frames ++ (frame ∷ []);
-  items = so.items ++ (item ∷ []);
-  sent = so.sent;
-  whole = so.whole ∙ ap (λ (x : List ℕ). joined so.frames ++ x) whole ∙ sym (joined_push so.frames frame after);
-  each = each_push IsFrame so.frames frame so.each is_frame;
-  are = zip_push (IsItemOf limit) so.frames so.items frame item so.are is_item;
-  texts = texts_push so.items item ∙ ap (λ (x : List ℕ). x ++ item_text item) so.texts ∙ append_assoc so.sent kept (item_text item) ∙ ap (λ (x : List ℕ). so.sent ++ x) (sym grown);
-  log = so.log;
-  lawful_is = more_is ∙ ap (λ (b : Bool). b && is_message item) so.lawful_is ∙ sym (lawful_push so.items item);
+-- ---- fronts of a listing
+
+-- the text of the items so far begins each listing of more bytes, and so does a front of that text
+begins_so_far : (limit : ℕ) (bytes more front text part : List ℕ) (items : List Item) → ItemsSoFar limit bytes items front → AreItemTexts items text → IsPrefix part text → BeginsListing limit (bytes ++ more) part
+begins_so_far limit bytes more front text part items so are part_of others end whole all is =
+    let first = (items_grow limit).come_first bytes more items others front end so all in
+    let listing : IsStreamListing (items ++ first.0) end whole = subst (λ (xs : List Item). IsStreamListing xs end whole) first.1 is in
+    let begins = begins_listing items first.0 end text whole are listing in
+    (part_of.0 ++ begins.0, begins.1 ∙ ap (λ (x : List ℕ). x ++ begins.0) part_of.1 ∙ append_assoc part part_of.0 begins.0)
+
+-- ---- a lister takes a piece
+
+pub begun : (limit : ℕ) (log : SinkLog) (lister : Lister) → Stands lister.decoder [] → lister.decoder.limit ≡ limit → lister.text.items ≡ [] → lister.lawful ≡ true → Begins limit log lister
+begun limit log lister stands limit_is empty lawful = (
+  (
+    [],
+    record { items = []; sent = []; so_far = (items_grow limit).none; texts = subst (λ (x : List ℕ). AreItemTexts [] x) (sym empty) no_items; log = wrote_nothing log; limit_is = limit_is; lawful_is = lawful },
+    stands,
+  ),
+  empty,
+)
+
+-- one item more, whose text is gathered
+item_gathered : (limit : ℕ) (bytes piece front text : List ℕ) (used : ℕ) (item : Item) (old now : SinkLog) (lister : Lister) (decoder : DecoderState)
+    → (so : ListedSoFar limit bytes front old now lister) → Takes lister.decoder.limit front piece decoder used (Some item) → AppendsItem item lister.text.items text
+    → ItemsSoFar limit (bytes ++ take used piece) (so.items ++ (item ∷ [])) [] × AreItemTexts (so.items ++ (item ∷ [])) (so.sent ++ text)
+item_gathered limit bytes piece front text used item old now lister decoder so takes appends =
+    let grow = items_grow limit in
+    let is_item : IsItemOf limit (front ++ take used piece) item = subst (λ (n : ℕ). IsItemOf n (front ++ take used piece) item) so.limit_is takes.2 in (
+      grow.by_a_frame (bytes ++ take used piece) so.items (front ++ take used piece) item (grow.by_bytes bytes so.items front (take used piece) so.so_far) takes.1 is_item,
+      subst (AreItemTexts (so.items ++ (item ∷ []))) (append_assoc so.sent lister.text.items appends.0 ∙ ap (λ (x : List ℕ). so.sent ++ x) (sym appends.1)) (one_item_more so.items item (so.sent ++ lister.text.items) appends.0 so.texts appends.2),
+    )
+
+-- and handed on with the others, where they are a large piece
+pub item_listed : (limit : ℕ) (bytes piece : List ℕ) (used : ℕ) (item : Item) (old now after : SinkLog) (lister new : Lister) (decoder : DecoderState) → GoesOn limit bytes old now lister
+    → ((front : List ℕ) → Stands lister.decoder front → Takes lister.decoder.limit front piece decoder used (Some item)) → decoder.limit ≡ lister.decoder.limit
+    → Lists item (record { decoder = decoder; text = lister.text; lawful = lister.lawful }) new now after (Ok tt) → GoesOn limit (bytes ++ take used piece) old after new
+item_listed limit bytes piece used item old now after lister new decoder goes takes limit_is lists =
+    let front = goes.0 in
+    let so = goes.1 in
+    let fed = takes front goes.2 in
+    let text = lists.0 in
+    let hands = lists.2 in
+    let same : new.decoder ≡ decoder = lists.4 in
+    let more = item_gathered limit bytes piece front text used item old now lister decoder so fed lists.1 in (
+      [],
+      record {
+        items = so.items ++ (item ∷ []);
+        sent = so.sent ++ hands.0;
+        so_far = more.0;
+        texts = subst (AreItemTexts (so.items ++ (item ∷ []))) (ap (λ (x : List ℕ). so.sent ++ x) hands.1 ∙ sym (append_assoc so.sent hands.0 new.text.items)) more.1;
+        log = wrote_more old now after so.sent hands.0 so.log hands.2;
+        limit_is = ap (λ (d : DecoderState). d.limit) same ∙ limit_is ∙ so.limit_is;
+        lawful_is = lists.3 ∙ ap (λ (b : Bool). b && is_message item) so.lawful_is ∙ sym (lawful_push so.items item);
+      },
+      subst (λ (d : DecoderState). Stands d []) (sym same) fed.3,
+    )
+
+-- a write of gathered text failed
+write_stopped : (limit : ℕ) (bytes sent text : List ℕ) (old now after : SinkLog) (e : ToolErr) → Wrote old now sent → ((part : List ℕ) → IsPrefix part (sent ++ text) → BeginsListing limit bytes part)
+    → Writes text now after (Err e) → Stopped limit bytes old after e
+write_stopped limit bytes sent text old now after Write log begins failed = record {
+  front = sent ++ failed.0;
+  begins = begins (sent ++ failed.0) (failed.1.0, ap (λ (x : List ℕ). sent ++ x) failed.1.1 ∙ sym (append_assoc sent failed.0 failed.1.0));
+  log = wrote_then_failed old now after sent failed.0 log failed.2;
 }
+write_stopped limit bytes sent text old now after Memory log begins failed = absurd failed.2
+write_stopped limit bytes sent text old now after Read log begins failed = absurd failed.2
+write_stopped limit bytes sent text old now after Bound log begins failed = absurd failed.2
+write_stopped limit bytes sent text old now after Hex log begins failed = absurd failed.2
+write_stopped limit bytes sent text old now after (Script line) log begins failed = absurd failed.2
+write_stopped limit bytes sent text old now after (Listing line reason) log begins failed = absurd failed.2
 
--- a front of what was kept back was sent
-pub so_far_sent : (limit : ℕ) (stream rest : List ℕ) (old mid new : SinkLog) (lawful : Bool) (gathered kept : List ℕ) → SoFar limit stream rest old mid lawful gathered
-    → HandsOn gathered kept mid new → SoFar limit stream rest old new lawful kept
-so_far_sent limit stream rest old mid new lawful gathered kept so sends = record {
-  frames = so.frames;
-  items = so.items;
-  sent = so.sent ++ sends.0;
-  whole = so.whole;
-  each = so.each;
-  are = so.are;
-  texts = so.texts ∙ ap (λ (x : List ℕ). so.sent ++ x) sends.1 ∙ sym (append_assoc so.sent sends.0 kept);
-  log = wrote_more old mid new so.sent sends.0 so.log sends.2;
-  lawful_is = so.lawful_is;
-}
+-- what was written, before more bytes were listed
+pub memory_stopped : (limit : ℕ) (bytes piece : List ℕ) (old now : SinkLog) (lister : Lister) → GoesOn limit bytes old now lister → Stopped limit (bytes ++ piece) old now Memory
+memory_stopped limit bytes piece old now lister goes =
+    let so = goes.1 in
+    record {
+      front = so.sent;
+      begins = begins_so_far limit bytes piece goes.0 (so.sent ++ lister.text.items) so.sent so.items so.so_far so.texts (lister.text.items, refl);
+      log = so.log;
+    }
 
-items_of : (limit : ℕ) (stream rest : List ℕ) (old now : SinkLog) (lawful : Bool) (kept : List ℕ) (end : End) → (so : SoFar limit stream rest old now lawful kept) → Ends rest end → Items limit stream so.items end
-items_of limit stream rest old now lawful kept end so ends = record {
-  frames = so.frames;
-  cut = record { tail = rest; whole = so.whole; each = so.each; ends = ends };
-  each = so.are;
-}
+-- an item's text was not gathered, or not handed on
+pub item_stopped : (limit : ℕ) (bytes piece : List ℕ) (used : ℕ) (item : Item) (old now after : SinkLog) (lister new : Lister) (decoder : DecoderState) (e : ToolErr) → GoesOn limit bytes old now lister
+    → ((front : List ℕ) → Stands lister.decoder front → Takes lister.decoder.limit front piece decoder used (Some item))
+    → Lists item (record { decoder = decoder; text = lister.text; lawful = lister.lawful }) new now after (Err e) → Stopped limit (bytes ++ piece) old after e
+item_stopped limit bytes piece used item old now after lister new decoder e goes takes lists =
+    let so = goes.1 in
+    let whole : (bytes ++ take used piece) ++ drop used piece ≡ bytes ++ piece = append_assoc bytes (take used piece) (drop used piece) ∙ ap (λ (x : List ℕ). bytes ++ x) (take-append-drop used piece) in
+    elim lists [
+      | inl memory ↦ subst (λ (x : ToolErr). Stopped limit (bytes ++ piece) old after x) (sym memory.0) (subst (λ (x : SinkLog). Stopped limit (bytes ++ piece) old x Memory) (sym memory.1) (memory_stopped limit bytes piece old now lister goes))
+      | inr failed ↦ (
+          let more = item_gathered limit bytes piece goes.0 failed.0 used item old now lister decoder so (takes goes.0 goes.2) failed.1 in
+          write_stopped limit (bytes ++ piece) so.sent failed.0 old now after e so.log
+          (λ part is. subst (λ (x : List ℕ). BeginsListing limit x part) whole (begins_so_far limit (bytes ++ take used piece) (drop used piece) [] (so.sent ++ failed.0) part (so.items ++ (item ∷ [])) more.0 more.1 is))
+          failed.2)
+    ]
 
--- the whole listing is what was sent, and then what was kept back with the end's line
-whole_listing : (items : List Item) (end : End) (sent kept text : List ℕ) → flat_map item_text items ≡ sent ++ kept → text ≡ kept ++ end_text end → listing items end ≡ sent ++ text
-unfolding listing
-whole_listing items end sent kept text texts grown = ap (λ (x : List ℕ). x ++ end_text end) texts ∙ append_assoc sent kept (end_text end) ∙ ap (λ (x : List ℕ). sent ++ x) (sym grown)
+-- the piece ends in a frame, and all text is handed on
+pub piece_listed : (limit : ℕ) (bytes piece : List ℕ) (used : ℕ) (old now after : SinkLog) (lister new : Lister) → GoesOn limit bytes old now lister
+    → ((front : List ℕ) → Stands lister.decoder front → Takes lister.decoder.limit front piece new.decoder used None) → new.decoder.limit ≡ lister.decoder.limit
+    → Wrote now after lister.text.items → new.text.items ≡ [] → new.lawful ≡ lister.lawful → GoesOn limit (bytes ++ piece) old after new
+piece_listed limit bytes piece used old now after lister new goes takes limit_is written emptied lawful =
+    let so = goes.1 in (
+      goes.0 ++ piece,
+      record {
+        items = so.items;
+        sent = so.sent ++ lister.text.items;
+        so_far = (items_grow limit).by_bytes bytes so.items goes.0 piece so.so_far;
+        texts = subst (AreItemTexts so.items) (sym (append-nil (so.sent ++ lister.text.items)) ∙ ap (λ (x : List ℕ). (so.sent ++ lister.text.items) ++ x) (sym emptied)) so.texts;
+        log = wrote_more old now after so.sent lister.text.items so.log written;
+        limit_is = limit_is ∙ so.limit_is;
+        lawful_is = lawful ∙ so.lawful_is;
+      },
+      (takes goes.0 goes.2).1,
+    )
 
--- all was listed
-pub listed : (limit : ℕ) (stream rest : List ℕ) (old mid new : SinkLog) (lawful : Bool) (kept text : List ℕ) (end : End) (verdict : Verdict) → SoFar limit stream rest old mid lawful kept → Ends rest end
-    → text ≡ kept ++ end_text end → Wrote mid new text → verdict ≡ verdict_of (lawful && is_clean end) → Listed limit stream old new verdict
+-- the piece ends in a frame, and handing on failed
+pub piece_stopped : (limit : ℕ) (bytes piece : List ℕ) (old now after : SinkLog) (lister : Lister) (e : ToolErr) → GoesOn limit bytes old now lister → Writes lister.text.items now after (Err e)
+    → Stopped limit (bytes ++ piece) old after e
+piece_stopped limit bytes piece old now after lister e goes failed =
+    let so = goes.1 in
+    write_stopped limit (bytes ++ piece) so.sent lister.text.items old now after e so.log
+    (λ part is. begins_so_far limit bytes piece goes.0 (so.sent ++ lister.text.items) part so.items so.so_far so.texts is)
+    failed
+
+-- the piece breaks the stream
+pub piece_breaks : (limit : ℕ) (bytes piece : List ℕ) (old now : SinkLog) (lister new : Lister) → GoesOn limit bytes old now lister
+    → ((front : List ℕ) → Stands lister.decoder front → Breaks (front ++ piece) × IsBroken new.decoder) → new.decoder.limit ≡ lister.decoder.limit → new.text.items ≡ lister.text.items → new.lawful ≡ lister.lawful
+    → IsBrokenOff limit (bytes ++ piece) old now new
+piece_breaks limit bytes piece old now lister new goes breaks limit_is same lawful =
+    let so = goes.1 in
+    let broken = breaks goes.0 goes.2 in (
+      goes.0 ++ piece,
+      record {
+        items = so.items;
+        sent = so.sent;
+        so_far = (items_grow limit).by_bytes bytes so.items goes.0 piece so.so_far;
+        texts = subst (AreItemTexts so.items) (ap (λ (x : List ℕ). so.sent ++ x) (sym same)) so.texts;
+        log = so.log;
+        limit_is = limit_is ∙ so.limit_is;
+        lawful_is = lawful ∙ so.lawful_is;
+      },
+      broken.0,
+      broken.1,
+    )
+
+-- a broken stream stays so, whatever follows
+pub broken_off : (limit : ℕ) (bytes more : List ℕ) (old now : SinkLog) (lister : Lister) → IsBrokenOff limit bytes old now lister → IsBrokenOff limit (bytes ++ more) old now lister
+broken_off limit bytes more old now lister broken =
+    let so = broken.1 in (
+      broken.0 ++ more,
+      record { items = so.items; sent = so.sent; so_far = (items_grow limit).by_bytes bytes so.items broken.0 more so.so_far; texts = so.texts; log = so.log; limit_is = so.limit_is; lawful_is = so.lawful_is },
+      no_frame_breaks broken.0 more broken.2,
+      broken.3,
+    )
+
+-- ---- the end
+
+-- what the decoder tells of the end
+abbrev pub Told : DecoderState → End → Type 0
+Told decoder end = ((front : List ℕ) → Stands decoder front → Ends front end) × (IsBroken decoder → end ≡ at_end.Broken)
+
+ended : (limit : ℕ) (bytes : List ℕ) (old now : SinkLog) (lister : Lister) (end : End) → Finishes limit bytes old now lister → Told lister.decoder end
+    → (front : List ℕ) × ListedSoFar limit bytes front old now lister × Ends front end
+ended limit bytes old now lister end finishes told = elim finishes [
+  | inl goes ↦ (goes.0, goes.1, told.0 goes.0 goes.2)
+  | inr broken ↦ (broken.0, broken.1, subst (λ (e : End). Ends broken.0 e) (sym (told.1 broken.3)) broken.2)
+]
+
+-- the end's line was written behind all that was kept
+pub end_listed : (limit : ℕ) (bytes text : List ℕ) (old now after : SinkLog) (lister : Lister) (end : End) (verdict : Verdict) → Finishes limit bytes old now lister → Told lister.decoder end
+    → text ≡ lister.text.items ++ end_text end → Wrote now after text → verdict ≡ verdict_of (lister.lawful && is_clean end) → Listed limit bytes old after verdict
 unfolding is_lawful
-listed limit stream rest old mid new lawful kept text end verdict so ends grown log is = record {
-  items = so.items;
-  end = end;
-  are = items_of limit stream rest old mid lawful kept end so ends;
-  text = rw (whole_listing so.items end so.sent kept text so.texts grown) (wrote_more old mid new so.sent text so.log log);
-  verdict_is = is ∙ ap (λ (b : Bool). verdict_of (b && is_clean end)) so.lawful_is;
-}
+end_listed limit bytes text old now after lister end verdict finishes told grown written verdict_is =
+    let e = ended limit bytes old now lister end finishes told in
+    let so = e.1 in
+    record {
+      items = so.items;
+      end = end;
+      text = so.sent ++ text;
+      are = (items_grow limit).at_the_end bytes so.items e.0 end so.so_far e.2;
+      is = record { front = so.sent ++ lister.text.items; lines = so.texts; text_is = ap (λ (x : List ℕ). so.sent ++ x) grown ∙ sym (append_assoc so.sent lister.text.items (end_text end)) };
+      written = wrote_more old now after so.sent text so.log written;
+      verdict_is = verdict_is ∙ ap (λ (b : Bool). verdict_of (b && is_clean end)) so.lawful_is;
+    }
 
-prefix_of : (others : List Item) (end : End) (front back more : List ℕ) → flat_map item_text others ≡ (front ++ back) ++ more → IsPrefix front (listing others end)
-unfolding listing
-prefix_of others end front back more e =
-    (back ++ (more ++ end_text end), ap (λ (x : List ℕ). x ++ end_text end) e ∙ append_assoc (front ++ back) more (end_text end) ∙ append_assoc front back (more ++ end_text end))
+-- the end's line was not gathered
+pub end_not_gathered : (limit : ℕ) (bytes : List ℕ) (old now : SinkLog) (lister : Lister) (end : End) → Finishes limit bytes old now lister → Told lister.decoder end → Stopped limit bytes old now Memory
+end_not_gathered limit bytes old now lister end finishes told =
+    let e = ended limit bytes old now lister end finishes told in
+    let so = e.1 in
+    record {
+      front = so.sent;
+      begins = subst (λ (x : List ℕ). BeginsListing limit x so.sent) (append-nil bytes) (begins_so_far limit bytes [] e.0 (so.sent ++ lister.text.items) so.sent so.items so.so_far so.texts (lister.text.items, refl));
+      log = so.log;
+    }
 
--- each listing of the stream begins with a front of the lines so far
-begins_so_far : (limit : ℕ) (stream rest : List ℕ) (old now : SinkLog) (lawful : Bool) (kept front back : List ℕ) → (so : SoFar limit stream rest old now lawful kept) → kept ≡ front ++ back → BeginsListing limit stream (so.sent ++ front)
-begins_so_far limit stream rest old now lawful kept front back so parts = λ others end are.
-    let a = after_front limit so.frames so.items rest are.frames others are.cut.tail end so.each so.are (sym so.whole ∙ are.cut.whole) are.cut.ends are.cut.each are.each in
-    let text : flat_map item_text others ≡ ((so.sent ++ front) ++ back) ++ flat_map item_text a.more =
-    ap (flat_map item_text) a.are ∙ flat_map-append item_text so.items a.more
-    ∙ ap (λ (x : List ℕ). x ++ flat_map item_text a.more) (so.texts ∙ ap (λ (x : List ℕ). so.sent ++ x) parts ∙ sym (append_assoc so.sent front back)) in
-    prefix_of others end (so.sent ++ front) back (flat_map item_text a.more) text
+-- the end's line was gathered, and a write failed
+pub end_stopped : (limit : ℕ) (bytes text : List ℕ) (old now after : SinkLog) (lister : Lister) (end : End) (e : ToolErr) → Finishes limit bytes old now lister → Told lister.decoder end
+    → text ≡ lister.text.items ++ end_text end → Writes text now after (Err e) → Stopped limit bytes old after e
+end_stopped limit bytes text old now after lister end e finishes told grown failed =
+    let d = ended limit bytes old now lister end finishes told in
+    let so = d.1 in
+    let items : Items limit bytes so.items end = (items_grow limit).at_the_end bytes so.items d.0 end so.so_far d.2 in
+    let listing : IsStreamListing so.items end (so.sent ++ text) = record { front = so.sent ++ lister.text.items; lines = so.texts; text_is = ap (λ (x : List ℕ). so.sent ++ x) grown ∙ sym (append_assoc so.sent lister.text.items (end_text end)) } in
+    write_stopped limit bytes so.sent text old now after e so.log
+    (λ part is others last whole all other.
+    let same = same_items limit bytes so.items others end last items all in
+    let text_same : so.sent ++ text ≡ whole = one_stream_listing so.items end (so.sent ++ text) whole listing (subst (λ (e : End). IsStreamListing so.items e whole) same.1 (subst (λ (xs : List Item). IsStreamListing xs last whole) same.0 other)) in
+    (is.0, sym text_same ∙ is.1))
+    failed
 
-stop_log : (old mid new : SinkLog) (done front : List ℕ) (e : ToolErr) → Wrote old mid done → WriteStopped mid new front e → ListStopped old new (done ++ front) e
-stop_log old mid new done front Read so stop = stop
-stop_log old mid new done front Bound so stop = stop
-stop_log old mid new done front (Script at) so stop = stop
-stop_log old mid new done front Hex so stop = stop
-stop_log old mid new done front (Listing line reason) so stop = stop
-stop_log old mid new done front Memory so stop = absurd stop
-stop_log old mid new done front Write so stop = wrote_then_failed old mid new done front so stop
+-- ---- while it reads
 
--- a growth was refused: what was sent stands
-pub stopped_growing : (limit : ℕ) (stream rest : List ℕ) (old now : SinkLog) (lawful : Bool) (kept : List ℕ) → SoFar limit stream rest old now lawful kept → Stopped limit stream old now Memory
-stopped_growing limit stream rest old now lawful kept so = record {
-  front = so.sent;
-  begins = rw (sym (append-nil so.sent)) (begins_so_far limit stream rest old now lawful kept [] kept so refl);
-  log = so.log;
-}
+-- the text of each frame that is whole in what was read was written
+pub frames_written : (limit : ℕ) (bytes : List ℕ) (old now : SinkLog) (lister : Lister) → GoesOn limit bytes old now lister → KeepsNothing lister → WroteFrames limit bytes old now
+frames_written limit bytes old now lister goes empty =
+    let so = goes.1 in
+    let texts : AreItemTexts so.items so.sent = subst (AreItemTexts so.items) (ap (λ (x : List ℕ). so.sent ++ x) empty ∙ append-nil so.sent) so.texts in
+    record {
+      items = so.items;
+      front = goes.0;
+      text = so.sent;
+      are = so.so_far;
+      unfinished = goes.2.unfinished;
+      lines = texts;
+      written = so.log;
+      begins = subst (λ (x : List ℕ). BeginsListing limit x so.sent) (append-nil bytes) (begins_so_far limit bytes [] goes.0 so.sent so.sent so.items so.so_far texts ([], sym (append-nil so.sent)));
+    }
 
--- a write of the gathered lines failed
-pub stopped_sending : (limit : ℕ) (stream rest : List ℕ) (old mid new : SinkLog) (lawful : Bool) (kept : List ℕ) (e : ToolErr) → SoFar limit stream rest old mid lawful kept → Writes kept mid new (Err e) → Stopped limit stream old new e
-stopped_sending limit stream rest old mid new lawful kept e so writes = record {
-  front = so.sent ++ writes.0;
-  begins = begins_so_far limit stream rest old mid lawful kept writes.0 writes.1.0 so writes.1.1;
-  log = stop_log old mid new so.sent writes.0 e so.log writes.2;
-}
+-- ---- a piece, as far as it has come
 
-end_prefix : (others items : List Item) (last end : End) (sent kept text front back : List ℕ) → others ≡ items → last ≡ end → flat_map item_text items ≡ sent ++ kept → text ≡ kept ++ end_text end → text ≡ front ++ back → IsPrefix (sent ++ front) (listing others last)
-end_prefix others items last end sent kept text front back same ends texts grown parts =
-    (back, rw (same, ends) (whole_listing items end sent kept text texts grown) ∙ ap (λ (x : List ℕ). sent ++ x) parts ∙ sym (append_assoc sent front back))
+-- bytes, what was taken of a piece, and its rest
+pub as_far : (bytes done rest piece : List ℕ) → piece ≡ done ++ rest → (bytes ++ done) ++ rest ≡ bytes ++ piece
+as_far bytes done rest piece e = append_assoc bytes done rest ∙ ap (λ (x : List ℕ). bytes ++ x) (sym e)
 
--- a write of the last lines failed
-pub stopped_at_end : (limit : ℕ) (stream rest : List ℕ) (old mid new : SinkLog) (lawful : Bool) (kept text : List ℕ) (end : End) (e : ToolErr) → SoFar limit stream rest old mid lawful kept
-    → Ends rest end → text ≡ kept ++ end_text end → Writes text mid new (Err e) → Stopped limit stream old new e
-stopped_at_end limit stream rest old mid new lawful kept text end e so ends grown writes = record {
-  front = so.sent ++ writes.0;
-  begins = λ others last are.
-      let a = after_front limit so.frames so.items rest are.frames others are.cut.tail last so.each so.are (sym so.whole ∙ are.cut.whole) are.cut.ends are.cut.each are.each in
-      let none = none_left limit rest a.more last end a.next ends in
-      let same : others ≡ so.items = a.are ∙ ap (λ (x : List Item). so.items ++ x) none.0 ∙ append-nil so.items in
-      end_prefix others so.items last end so.sent kept text writes.0 writes.1.0 same none.1 so.texts grown writes.1.1;
-  log = stop_log old mid new so.sent writes.0 e so.log writes.2;
-}
+-- a little more was taken of the piece
+pub further : (done rest piece after : List ℕ) (used : ℕ) → piece ≡ done ++ rest → after ≡ drop used rest → piece ≡ (done ++ take used rest) ++ after
+further done rest piece after used e d =
+    e ∙ ap (λ (x : List ℕ). done ++ x) (sym (take-append-drop used rest)) ∙ sym (append_assoc done (take used rest) (drop used rest)) ∙ ap (λ (x : List ℕ). (done ++ take used rest) ++ x) (sym d)
 
--- the two parts of a split list
-pub parted : (rest : List ℕ) (n : ℕ) (front back : List ℕ) → front ≡ take n rest → back ≡ drop n rest → rest ≡ front ++ back
-parted rest n front back e f = rw (e, f) (sym (take-append-drop n rest))
+-- where there is no item, the whole piece was taken
+pub takes_none : (limit : ℕ) (front piece : List ℕ) (decoder : DecoderState) (used : ℕ) (item : Option Item) → ((x : Item) → item ≡ Some x → ⊥) → Takes limit front piece decoder used item → Takes limit front piece decoder used None
+takes_none limit front piece decoder used None none takes = takes
+takes_none limit front piece decoder used (Some item) none takes = absurd (none item refl)
+
+-- a piece stopped listing, as a part of a longer one
+pub stopped_there : (limit : ℕ) (bytes done rest piece : List ℕ) (old after : SinkLog) (e : ToolErr) → piece ≡ done ++ rest → Stopped limit ((bytes ++ done) ++ rest) old after e → Stopped limit (bytes ++ piece) old after e
+stopped_there limit bytes done rest piece old after e parts stopped = subst (λ (x : List ℕ). Stopped limit x old after e) (as_far bytes done rest piece parts) stopped
+
+-- an item's text was gathered, and handed on or not
+pub lists_handed : (item : Item) (old new : Lister) (text : List ℕ) (w0 w1 : SinkLog) (message : Bool) (answer : Result (Unit {0}) ToolErr) → AppendsItem item old.text.items text → message ≡ is_message item
+    → OnOk answer (HandsOn text new.text.items w0 w1) → IfErr answer (λ e. Writes text w0 w1 answer) → new.lawful ≡ (old.lawful && message) → new.decoder ≡ old.decoder → Lists item old new w0 w1 answer
+lists_handed item old new text w0 w1 message (Ok u) appends is handed failed lawful same = (text, appends, handed, lawful ∙ ap (λ (b : Bool). old.lawful && b) is, same)
+lists_handed item old new text w0 w1 message (Err e) appends is handed failed lawful same = inr (text, appends, failed)
+
+-- ---- a command
+
+-- after a piece all may be finished
+pub fed_finishes : (limit : ℕ) (bytes : List ℕ) (old now : SinkLog) (lister : Lister) (goes_on : Bool) → Feeds limit bytes old now lister (Ok goes_on) → Finishes limit bytes old now lister
+fed_finishes limit bytes old now lister true fed = inl fed.0
+fed_finishes limit bytes old now lister false fed = inr fed
+
+pub finishes_failures : (limit : ℕ) (bytes : List ℕ) (old now : SinkLog) (lister : Lister) → Finishes limit bytes old now lister → now.failures ≡ old.failures
+finishes_failures limit bytes old now lister finishes = elim finishes [
+  | inl goes ↦ same_failures old now goes.1.sent goes.1.log
+  | inr broken ↦ same_failures old now broken.1.sent broken.1.log
+]
+
+stopped_reading : (limit : ℕ) (r0 r1 : SourceLog) (w0 w1 : SinkLog) (bytes : List ℕ) (e : ToolErr) → WasRead r0 r1 bytes → Stopped limit bytes w0 w1 e → ShowStopped limit r0 r1 w0 w1 e
+stopped_reading limit r0 r1 w0 w1 bytes Write read stopped = (bytes, read, stopped)
+stopped_reading limit r0 r1 w0 w1 bytes Memory read stopped = (bytes, read, stopped)
+stopped_reading limit r0 r1 w0 w1 bytes Read read stopped = absurd stopped.log
+stopped_reading limit r0 r1 w0 w1 bytes Bound read stopped = absurd stopped.log
+stopped_reading limit r0 r1 w0 w1 bytes Hex read stopped = absurd stopped.log
+stopped_reading limit r0 r1 w0 w1 bytes (Script line) read stopped = absurd stopped.log
+stopped_reading limit r0 r1 w0 w1 bytes (Listing line reason) read stopped = absurd stopped.log
+
+-- listing stopped while it read
+pub shows_stopped : (limit k : ℕ) (r0 r1 : SourceLog) (w0 w1 : SinkLog) (bytes : List ℕ) (e : ToolErr) → Gave r0 r1 k bytes → Stopped limit bytes w0 w1 e → ShowStopped limit r0 r1 w0 w1 e
+shows_stopped limit k r0 r1 w0 w1 bytes e gave stopped = stopped_reading limit r0 r1 w0 w1 bytes e (inl (k, gave)) stopped
+
+-- all was read
+pub shows_all : (limit : ℕ) (r0 r1 : SourceLog) (w0 w1 : SinkLog) (bytes : List ℕ) (answer : Result Verdict ToolErr) → ReadAll r0 r1 bytes
+    → MatchResult answer (λ verdict. Listed limit bytes w0 w1 verdict) (λ e. Stopped limit bytes w0 w1 e) → Shows limit r0 r1 w0 w1 answer
+shows_all limit r0 r1 w0 w1 bytes (Ok verdict) all listed = inl (bytes, all, listed)
+shows_all limit r0 r1 w0 w1 bytes (Err e) all stopped = stopped_reading limit r0 r1 w0 w1 bytes e (inr all) stopped
+
+-- the stream broke
+pub shows_broken : (limit k : ℕ) (r0 r1 : SourceLog) (w0 w1 : SinkLog) (bytes : List ℕ) (answer : Result Verdict ToolErr) → Gave r0 r1 k bytes
+    → ((more : List ℕ) → MatchResult answer (λ verdict. Listed limit (bytes ++ more) w0 w1 verdict) (λ e. Stopped limit (bytes ++ more) w0 w1 e)) → Shows limit r0 r1 w0 w1 answer
+shows_broken limit k r0 r1 w0 w1 bytes (Ok verdict) gave listed = inr (k, bytes, gave, listed)
+shows_broken limit k r0 r1 w0 w1 bytes (Err e) gave stopped = shows_stopped limit k r0 r1 w0 w1 bytes e gave (subst (λ (x : List ℕ). Stopped limit x w0 w1 e) (append-nil bytes) (stopped []))
+
+pub listed_of : (limit : ℕ) (bytes : List ℕ) (w0 w1 : SinkLog) (answer : Result Verdict ToolErr) → MatchResult answer (λ verdict. Listed limit bytes w0 w1 verdict) (λ e. Stopped limit bytes w0 w1 e) → IfOk answer (λ verdict. Listed limit bytes w0 w1 verdict)
+listed_of limit bytes w0 w1 (Ok verdict) m = m
+listed_of limit bytes w0 w1 (Err e) m = tt
+
+pub stopped_of : (limit : ℕ) (bytes : List ℕ) (w0 w1 : SinkLog) (answer : Result Verdict ToolErr) → MatchResult answer (λ verdict. Listed limit bytes w0 w1 verdict) (λ e. Stopped limit bytes w0 w1 e) → IfErr answer (λ e. Stopped limit bytes w0 w1 e)
+stopped_of limit bytes w0 w1 (Ok verdict) m = tt
+stopped_of limit bytes w0 w1 (Err e) m = m

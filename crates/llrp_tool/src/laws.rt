@@ -1,31 +1,35 @@
-//! What holds of every frame, every stream and every text.
+//! What holds of every listing.
 
 ghost use Rattle.std.specs.Prelude.{List, Some, codes, true, ◌≡◌, ◌≤◌, ℕ};
-ghost use Rattle.llrp_tool.specs.Cuts.{IsFrame};
 ghost use Rattle.llrp_tool.specs.declared.fault.Verdict.{Verdict};
 ghost use Rattle.llrp_tool.specs.EpcLines.{Prints};
-ghost use Rattle.llrp_tool.specs.Frame.{AreOctets};
-ghost use Rattle.llrp_tool.specs.ItemLaws.{HasOneItem, HasOneListing};
 ghost use Rattle.llrp_tool.specs.ListingLaws.{ListedOrRefused};
+ghost use Rattle.llrp_tool.specs.PrintingLaws.{OneTextOfItems, OneTextOfMessages, PrintsBack};
 ghost use Rattle.llrp_tool.specs.Script.{IsLawful, IsScript};
 ghost use Rattle.llrp_tool.specs.ScriptLaws.{ScriptOrRefused};
 ghost use Rattle.llrp_tool.specs.declared.script.Entry.{Entry};
 ghost use Rattle.llrp_tool.specs.Words.{AsksEpc, command_in, name_in, parses};
 
-/// Each frame has one message or exactly one first fault, and never both.
-pub fn frames_apart()
-    ensures { (limit : ℕ) (frame : List ℕ) → AreOctets frame → IsFrame frame → HasOneItem limit frame }
-{}
-
-/// Each stream of octets is cut in one way, and so has one listing.
-pub fn one_listing()
-    ensures { (limit : ℕ) (stream : List ℕ) → AreOctets stream → HasOneListing limit stream }
-{}
-
 /// A text is the listing of one list of messages, each within the limit, or has one first refusal,
 /// and never both.
 pub fn listed_or_refused()
     ensures { (limit : ℕ) (text : List ℕ) → 10 ≤ limit → ListedOrRefused limit text }
+{}
+
+/// Messages have one listing.
+pub fn one_text_of_messages()
+    ensures { OneTextOfMessages }
+{}
+
+/// What a stream holds has one listing.
+pub fn one_text_of_items()
+    ensures { OneTextOfItems }
+{}
+
+/// Where a text is the listing of messages, the stream of their spellings has that text for its
+/// listing, and no other.
+pub fn prints_back()
+    ensures { PrintsBack }
 {}
 
 /// Of each text epc prints the same lines, with the same verdict.

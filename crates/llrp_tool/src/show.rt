@@ -1,88 +1,97 @@
 //! The listing of a stream.
 
-ghost use Rattle.std.specs.Prelude.{◌&&◌, ◌+◌, ◌++◌, ◌<◌, ◌^◌, ◌≡◌, ◌≤◌, IfErr, IfOk, OnOk};
-ghost use Rattle.llrp_stream.specs.Device.{IsFreshSource};
-ghost use Rattle.llrp_tool.specs.Listing.{end_text, is_clean, item_text, message_text};
+ghost use Rattle.std.specs.Prelude.{◌&&◌, ◌+◌, ◌++◌, ◌<◌, ◌^◌, ◌≡◌, ◌≤◌, IfErr, IfOk, List, MatchResult, ℕ};
+ghost use Rattle.llrp_stream.specs.Device.{IsFreshSource, SinkLog};
 ghost use Rattle.llrp_tool.specs.Show.{Listed, Shows, Stopped, verdict_of};
+ghost use Rattle.llrp_tool.specs.StreamListing.{is_clean};
 
-use crate::copying::{PIECE_SIZE, hand_on_pieces, read_all, write_all};
+mod lines;
+
+use crate::copying::{MOST_READS, READ_SIZE, hand_on, hand_on_pieces, write_all};
 use crate::fault::{ToolErr, Verdict};
-use crate::frame::{End, Fault, Front, Item, front_of, item_of};
-use crate::message::Message;
-use itoa::Buffer;
-use llrp_stream::{Sink, Source};
-use std::alloc::{AllocError, Global};
-
-/// The room for a line of text past a whole piece.
-const LINE_SIZE: usize = 64;
-
-/// Appends the line of a message.
-fn push_message(text: &mut Vec<u8>, message: &Message) -> Result<(), AllocError>
-    ensures { OnOk result (text.new.items ≡ text.old.items ++ message_text message.now) }
-{
-    let mut digits = Buffer::new();
-    text.extend_from_slice(b"0 ")?;
-    text.extend_from_slice(message.kind.name().as_bytes())?;
-    text.extend_from_slice(b" ")?;
-    text.extend_from_slice(digits.format(message.version).as_bytes())?;
-    text.extend_from_slice(b" ")?;
-    text.extend_from_slice(digits.format(message.id).as_bytes())?;
-    text.extend_from_slice(b"\n")?;
-    Ok(())
-}
-
-/// Appends the line of a frame's fault.
-fn push_fault(text: &mut Vec<u8>, id: u32, fault: Fault) -> Result<(), AllocError>
-    ensures { OnOk result (text.new.items ≡ text.old.items ++ item_text (Item.Bad id fault)) }
-{
-    let mut digits = Buffer::new();
-    text.extend_from_slice(b"! ")?;
-    text.extend_from_slice(digits.format(id).as_bytes())?;
-    text.extend_from_slice(b" ")?;
-    text.extend_from_slice(digits.format(fault.bit).as_bytes())?;
-    text.extend_from_slice(b" ")?;
-    text.extend_from_slice(fault.reason.name().as_bytes())?;
-    text.extend_from_slice(b"\n")?;
-    Ok(())
-}
-
-/// Appends the line of an item.
-fn push_item(text: &mut Vec<u8>, item: &Item) -> Result<(), AllocError>
-    ensures { OnOk result (text.new.items ≡ text.old.items ++ item_text item.now) }
-{
-    match item {
-        Item::Msg(message) => push_message(text, message),
-        Item::Bad { id, fault } => push_fault(text, *id, *fault),
-    }
-}
-
-/// Appends the line of an end, if it has one.
-fn push_end(text: &mut Vec<u8>, end: End) -> Result<(), AllocError>
-    ensures { OnOk result (text.new.items ≡ text.old.items ++ end_text end) }
-{
-    match end {
-        End::Clean => Ok(()),
-        End::Rest(n) => {
-            let mut digits = Buffer::new();
-            text.extend_from_slice(b"? ")?;
-            text.extend_from_slice(digits.format(n).as_bytes())?;
-            text.extend_from_slice(b"\n")?;
-            Ok(())
-        }
-        End::Broken => {
-            text.extend_from_slice(b"! BROKEN\n")?;
-            Ok(())
-        }
-    }
-}
+use lines::{is_message, push_end, push_item};
+use llrp_stream::{Decoder, End, Fed, FeedErr, Item, Sink, Source};
+use std::alloc::Global;
 
 fn verdict(lawful: bool, end: End) -> Verdict
     ensures { result ≡ verdict_of (lawful && is_clean end) }
 {
-    if lawful && end.is_clean() {
+    if lawful && end == End::Clean {
         Verdict::Lawful
     } else {
         Verdict::Faulty
+    }
+}
+
+/// Lists a stream that comes in pieces.
+#[derive(Drop)]
+pub(crate) struct Lister {
+    decoder: Decoder,
+    /// What is not yet handed on.
+    text: Vec<u8>,
+    /// Each item so far is a message.
+    lawful: bool,
+}
+
+impl Lister {
+    ghost use Rattle.llrp_tool.specs.Lister.{Begins, Feeds, Finishes, GoesOn, Lists};
+
+    /// Frames longer than `limit` octets are faulty.
+    fn new(alloc: Global, limit: u32) -> Lister
+        requires least { 10 ≤ limit }
+        requires most { limit ≤ 65536 }
+        ensures { (log : SinkLog) → Begins limit log result }
+    {
+        Lister {
+            decoder: Decoder::new(alloc, limit),
+            text: Vec::new(alloc),
+            lawful: true,
+        }
+    }
+
+    /// Gathers the text of an item, and hands it on with the others once they are a large piece.
+    fn list<W: Sink>(&mut self, item: &Item, w: &mut W) -> Result<(), ToolErr>
+        requires { (W.log w.old).failures + 1 < 2 ^ 64 }
+        ensures { Lists item.now self.old self.new (W.log w.old) (W.log w.new) result }
+    {
+        push_item(&mut self.text, item)?;
+        self.lawful &= is_message(item);
+        hand_on_pieces(&mut self.text, w)
+    }
+
+    /// Writes the text of the items that a piece of the stream ends, and tells whether the stream goes
+    /// on: it does unless it is broken.
+    fn feed<W: Sink>(&mut self, piece: &[u8], w: &mut W) -> Result<bool, ToolErr>
+        requires { (W.log w.old).failures + 1 < 2 ^ 64 }
+        ensures { (limit : ℕ) (bytes : List ℕ) (log : SinkLog) → GoesOn limit bytes log (W.log w.old) self.old
+            → Feeds limit (bytes ++ piece.now) log (W.log w.new) self.new result }
+    {
+        let mut rest = piece;
+        'items: loop {
+            let Fed { used, item } = match self.decoder.feed(rest) {
+                Ok(fed) => fed,
+                Err(FeedErr::Broken) => return Ok(false),
+                Err(FeedErr::Memory | FeedErr::Dead) => return Err(ToolErr::Memory),
+            };
+            let Some(item) = item else {
+                hand_on(&mut self.text, w)?;
+                return Ok(true);
+            };
+            self.list(&item, w)?;
+            rest = rest.split_at(used).1;
+        }
+    }
+
+    /// Writes what is left of the text, and the line of the stream's end.
+    fn finish<W: Sink>(&mut self, w: &mut W) -> Result<Verdict, ToolErr>
+        requires { (W.log w.old).failures + 1 < 2 ^ 64 }
+        ensures { (limit : ℕ) (bytes : List ℕ) (log : SinkLog) → Finishes limit bytes log (W.log w.old) self.old
+            → MatchResult result (λ verdict. Listed limit bytes log (W.log w.new) verdict) (λ e. Stopped limit bytes log (W.log w.new) e) }
+    {
+        let end = self.decoder.finish();
+        push_end(&mut self.text, end)?;
+        write_all(w, self.text.as_slice())?;
+        Ok(verdict(self.lawful, end))
     }
 }
 
@@ -94,35 +103,21 @@ pub(crate) fn list_stream<W: Sink>(
     w: &mut W,
     limit: u32,
 ) -> Result<Verdict, ToolErr>
-    requires { (W.log w.old).failures + 1 < 2 ^ 64 }
+    requires sink { (W.log w.old).failures + 1 < 2 ^ 64 }
+    requires least { 10 ≤ limit }
+    requires most { limit ≤ 65536 }
     ensures ok { IfOk result (λ verdict. Listed limit stream.now (W.log w.old) (W.log w.new) verdict) }
     ensures err { IfErr result (λ e. Stopped limit stream.now (W.log w.old) (W.log w.new) e) }
 {
-    let mut text = Vec::with_capacity(alloc, PIECE_SIZE + LINE_SIZE)?;
-    let mut rest = stream;
-    let mut lawful = true;
-    'frames: loop {
-        match front_of(rest) {
-            Front::Frame(n) => {
-                let (frame, after) = rest.split_at(n);
-                let item = item_of(frame, limit);
-                push_item(&mut text, &item)?;
-                hand_on_pieces(&mut text, w)?;
-                lawful &= item.is_message();
-                rest = after;
-            }
-            Front::End(end) => {
-                push_end(&mut text, end)?;
-                write_all(w, text.as_slice())?;
-                return Ok(verdict(lawful, end));
-            }
-        }
-    }
+    let mut lister = Lister::new(alloc, limit);
+    let _goes_on = lister.feed(stream, w)?;
+    lister.finish(w)
 }
 
 /// Writes the listing of all that the source gives, and tells whether all of it is lawful. Frames
-/// longer than `limit` octets are faulty. After `Read`, `Write`, `Bound` or `Memory` a front of the
-/// listing was written.
+/// longer than `limit` octets are faulty. What belongs to the bytes of a read is written before the
+/// next read; none follows a break of the stream. After `Read`, `Write`, `Bound` or `Memory` a front
+/// of the listing was written.
 pub fn run_show<R: Source, W: Sink>(
     alloc: Global,
     r: &mut R,
@@ -136,6 +131,20 @@ pub fn run_show<R: Source, W: Sink>(
     // On Ok all was read and its listing written, on Err a front of it, and the error says why.
     ensures { Shows limit (R.log r.old) (R.log r.new) (W.log w.old) (W.log w.new) result }
 {
-    let stream = read_all(alloc, r)?;
-    list_stream(alloc, stream.as_slice(), w, limit)
+    let mut lister = Lister::new(alloc, limit);
+    let mut buffer = [0u8; READ_SIZE];
+    for _ in 0..MOST_READS {
+        let n = match r.read(&mut buffer) {
+            Ok(n) => n,
+            Err(_) => return Err(ToolErr::Read),
+        };
+        if n == 0 {
+            return lister.finish(w);
+        }
+        let goes_on = lister.feed(&buffer[..n], w)?;
+        if !goes_on {
+            return lister.finish(w);
+        }
+    }
+    Err(ToolErr::Bound)
 }

@@ -3,3 +3,4 @@ mod devices;
 mod epc;
 mod hexadecimal;
 mod show;
+mod vectors;

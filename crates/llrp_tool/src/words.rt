@@ -11,12 +11,13 @@ use std::alloc::{AllocError, Global};
 use std::convert::AsStr;
 
 const SHOW_HELP: &str = "\
-Reads a stream of LLRP messages on standard input, and prints a line for each on standard output:
-  0 NAME VERSION ID   a message
-  ! ID BIT REASON     a frame that is no message: its id, its first fault, and the bit of the fault
-  ? N                 N bytes at the end that are no whole frame
-  ! BROKEN            a length below 10, at which the stream breaks off
-The status is 0 where all lines are messages, and 1 where some are not.
+Reads a stream of LLRP messages on standard input, and prints its listing on standard output:
+  0 NAME VERSION ID FIELDS   a message
+  LEVEL NAME FIELDS TAIL     a parameter, one level below its parent
+  ! ID BIT REASON            a frame that is no message: its id, its first fault and the fault's bit
+  ? N                        N bytes at the end that are no whole frame
+  ! BROKEN                   a length below 10, at which the stream breaks off
+The status is 0 where all frames are messages, and 1 where some are not.
 
 Example:
   $ echo 083E0000000A00000007 | llrp show --hex

@@ -42,7 +42,7 @@ version_known : (v : ℕ) → (v ≡ 1) ⊎ (v ≡ 2) → ((v == 1) || (v == 2))
 version_known v (inl e) = rw e refl
 version_known v (inr e) = rw e refl
 
-header_spread : (v : ℕ) (k : MsgKind) (n id : ℕ) (x : List Bool) → head_digits (message v k n id) ++ x ≡ digits 3 0 ++ (digits 3 v ++ (digits 10 (number_of (Message k)) ++ (digits 32 n ++ (digits 32 id ++ x))))
+pub header_spread : (v : ℕ) (k : MsgKind) (n id : ℕ) (x : List Bool) → head_digits (message v k n id) ++ x ≡ digits 3 0 ++ (digits 3 v ++ (digits 10 (number_of (Message k)) ++ (digits 32 n ++ (digits 32 id ++ x))))
 unfolding head_digits
 header_spread v k n id x = simp append_assoc
 

@@ -2,7 +2,7 @@
 
 ghost use Rattle.std.specs.Prelude.{None, Some};
 
-use crate::{Input, Sink, Source, ToolErr, run_show};
+use crate::{Input, Output, Sink, Source, ToolErr, run_show};
 use std::io;
 use std::test::*;
 
@@ -45,7 +45,8 @@ fn a_write_that_fails_stops_the_listing(rt: HostRuntime) {
     }
 }
 
-/// Gives a byte a call, and fails in the call after so many, if there is such a call.
+/// Gives KEEPALIVE over and over, a byte a call, and fails in the call after so many, if there is such
+/// a call.
 #[derive(Drop)]
 struct Dripping {
     reads: u64,
@@ -62,27 +63,25 @@ impl Source for Dripping {
             return Err(io::Error::from(io::ErrorKind::Other));
         }
         self.left = self.left.map(|left| left.saturating_sub(1));
+        let place = self.reads % 10;
+        buf[0] = KEEPALIVE.get(place as usize).copied().unwrap_or(0);
         self.reads += 1;
-        buf[0] = 0;
         Ok(1)
     }
 }
 
 #[test]
-fn a_read_that_fails_stops_before_the_listing(rt: HostRuntime) {
+fn a_read_that_fails_comes_after_the_text_so_far(rt: HostRuntime) {
     let mut source = Dripping {
         reads: 0,
         failures: 0,
-        left: Some(20),
+        left: Some(25),
     };
-    let mut sink = Failing {
-        bytes: Vec::new(rt.alloc()),
-        left: 1000,
-        failures: 0,
-    };
+    let mut sink = Output::new(Vec::new(rt.alloc()));
     let found = run_show(rt.alloc(), &mut source, &mut sink, 65_536);
     assert!(rt; found == Err(ToolErr::Read));
-    assert!(rt; sink.bytes.is_empty());
+    let text = sink.into_inner();
+    assert!(rt; text.as_slice() == b"0 KEEPALIVE 2 7\n0 KEEPALIVE 2 7\n".as_slice());
 }
 
 #[test]
@@ -92,12 +91,9 @@ fn a_source_that_does_not_end_is_bound(rt: HostRuntime) {
         failures: 0,
         left: None,
     };
-    let mut sink = Failing {
-        bytes: Vec::new(rt.alloc()),
-        left: 1000,
-        failures: 0,
-    };
+    let mut sink = Output::new(Vec::new(rt.alloc()));
     let found = run_show(rt.alloc(), &mut source, &mut sink, 65_536);
     assert!(rt; found == Err(ToolErr::Bound));
     assert!(rt; source.reads == 1_000_000);
+    assert!(rt; sink.into_inner().len() == 1_600_000);
 }

@@ -1,9 +1,18 @@
-//! Listings of streams.
+//! Listings of long streams, and of streams cut anywhere.
 
-use crate::{Input, Output, ToolErr, Verdict, run_show};
+use super::vectors::bytes;
+use crate::{Input, Output, Source, ToolErr, Verdict, run_show};
+use std::io;
 use std::test::*;
 
 const KEEPALIVE: &[u8] = b"\x08\x3e\0\0\0\x0a\0\0\0\x07";
+
+const REPORT: &str = "043D0000001B00000001 00F00011 8D3074257BF7194E4000001A85";
+
+const REPORT_LINES: &[u8] = b"0 RO_ACCESS_REPORT 1 1
+1 TagReportData
+2 EPC-96 urn:epc:tag:sgtin-96:3.0614141.812345.6789
+";
 
 /// The verdict and the listing of a stream.
 fn shown(rt: &HostRuntime, stream: &[u8]) -> Result<(Verdict, Vec<u8>), ToolErr> {
@@ -13,65 +22,56 @@ fn shown(rt: &HostRuntime, stream: &[u8]) -> Result<(Verdict, Vec<u8>), ToolErr>
     Ok((verdict, sink.into_inner()))
 }
 
-#[test]
-fn keepalive_with_ample_memory(rt: HostRuntime) -> Result<(), Fail> {
-    let (verdict, text) = shown(&rt, KEEPALIVE)?;
-    assert!(rt; verdict == Verdict::Lawful);
-    assert!(rt; text.as_slice() == b"0 KEEPALIVE 2 7\n".as_slice());
-    Ok(())
+/// Gives a first piece, and then pieces of another size.
+#[derive(Drop)]
+struct Pieces<'a> {
+    rest: &'a [u8],
+    first: usize,
+    later: usize,
+    reads: u64,
+    ends: u64,
+}
+
+impl Source for Pieces<'_> {
+    ghost use Rattle.std.specs.Prelude.{None};
+
+    ghost log = { λ s. record { reads = s.reads; ends = s.ends; failures = 0; left = None } };
+
+    fn read(&mut self, buf: &mut [u8]) -> io::Result<usize> {
+        let n = self.first.min(self.rest.len()).min(buf.len());
+        let (piece, rest) = self.rest.split_at(n);
+        buf[..n].copy_from_slice(piece);
+        self.rest = rest;
+        self.first = self.later;
+        if n == 0 {
+            self.ends += 1;
+        } else {
+            self.reads += 1;
+        }
+        Ok(n)
+    }
 }
 
 #[test]
-fn empty(rt: HostRuntime) -> Result<(), Fail> {
-    let (verdict, text) = shown(&rt, b"")?;
-    assert!(rt; verdict == Verdict::Lawful);
-    assert!(rt; text.is_empty());
-    Ok(())
-}
-
-#[test]
-fn faulty_streams(rt: HostRuntime) -> Result<(), Fail> {
-    let rows = [
-        (
-            "reserved_header_bits",
-            b"\x28\x3e\0\0\0\x0a\0\0\0\x07".as_slice(),
-            b"! 7 0 Reserved\n".as_slice(),
-        ),
-        (
-            "version_three",
-            b"\x0c\x3e\0\0\0\x0a\0\0\0\x07".as_slice(),
-            b"! 7 3 Version\n".as_slice(),
-        ),
-        (
-            "long_keepalive_then_keepalive",
-            b"\x08\x3e\0\0\0\x0b\0\0\0\x07\0\x08\x3e\0\0\0\x0a\0\0\0\x07".as_slice(),
-            b"! 7 80 Extra\n0 KEEPALIVE 2 7\n".as_slice(),
-        ),
-        (
-            "broken_length",
-            b"\x08\x3e\0\0\0\x09".as_slice(),
-            b"! BROKEN\n".as_slice(),
-        ),
-        (
-            "broken_length_then_keepalive",
-            b"\x08\x3e\0\0\0\x09\x08\x3e\0\0\0\x0a\0\0\0\x07".as_slice(),
-            b"! BROKEN\n".as_slice(),
-        ),
-        (
-            "rest_of_five_octets",
-            b"\x08\x3e\0\0\0".as_slice(),
-            b"? 5\n".as_slice(),
-        ),
-        (
-            "unknown_message_type",
-            b"\x04\x01\0\0\0\x0b\0\0\0\x05\0".as_slice(),
-            b"! 5 6 MessageType\n".as_slice(),
-        ),
-    ];
-    for (name, stream, listing) in rows {
-        let (verdict, text) = shown(&rt, stream)?;
-        assert!(rt; verdict == Verdict::Faulty, "{name}");
-        assert!(rt; text.as_slice() == listing, "{name}");
+fn report_cut_anywhere(rt: HostRuntime) -> Result<(), Fail> {
+    let stream = bytes(rt.alloc(), REPORT)?;
+    for first in 1..27usize {
+        for later in [1usize, 4096] {
+            let mut source = Pieces {
+                rest: stream.as_slice(),
+                first,
+                later,
+                reads: 0,
+                ends: 0,
+            };
+            let mut sink = Output::new(Vec::new(rt.alloc()));
+            let found = run_show(rt.alloc(), &mut source, &mut sink, 65_536);
+            assert!(rt; found == Ok(Verdict::Lawful), "{first} {later}");
+            assert!(rt;
+                sink.into_inner().as_slice() == REPORT_LINES,
+                "{first} {later}"
+            );
+        }
     }
     Ok(())
 }
@@ -88,14 +88,22 @@ fn over_limit_then_keepalive(rt: HostRuntime) -> Result<(), Fail> {
 }
 
 #[test]
-fn each_kind_by_its_name(rt: HostRuntime) -> Result<(), Fail> {
-    let stream =
-        b"\x04\x0e\0\0\0\x0a\0\0\0\0\x08\x3c\0\0\0\x0a\xff\xff\xff\xff\x08\x40\0\0\0\x0a\0\0\x01\0\x04\x48\0\0\0\x0a\0\0\0\x0a";
-    let listing =
-        b"0 CLOSE_CONNECTION 1 0\n0 GET_REPORT 2 4294967295\n0 ENABLE_EVENTS_AND_REPORTS 2 256\n0 KEEPALIVE_ACK 1 10\n";
-    let (verdict, text) = shown(&rt, stream)?;
+fn largest_report(rt: HostRuntime) -> Result<(), Fail> {
+    let mut stream = bytes(rt.alloc(), "043D0001000000000001")?;
+    let tag = bytes(rt.alloc(), "00F00011 8D3074257BF7194E4000001A85")?;
+    for _ in 0..3_850u32 {
+        stream.extend_from_slice(tag.as_slice())?;
+    }
+    let loud = bytes(rt.alloc(), "00F00013 8D3074257BF7194E4000001A85 86C4")?;
+    for _ in 0..4u32 {
+        stream.extend_from_slice(loud.as_slice())?;
+    }
+    assert!(rt; stream.len() == 65_536);
+    let (verdict, text) = shown(&rt, stream.as_slice())?;
     assert!(rt; verdict == Verdict::Lawful);
-    assert!(rt; text.as_slice() == listing.as_slice());
+    // 23 bytes, then 16 and 52 a tag, and 15 for each signal strength
+    assert!(rt; text.len() == 23 + 3_854 * (16 + 52) + 4 * 15);
+    assert!(rt; text.as_slice().ends_with(b"6789\n2 PeakRSSI -60\n"));
     Ok(())
 }
 

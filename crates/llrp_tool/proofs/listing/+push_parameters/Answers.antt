@@ -1,0 +1,18 @@
+use Rattle.std.proofs.Common.{arith, ◌∙◌}
+use Rattle.llrp_tool.proofs.PrintingLemmas.{child_levels, child_size, row_more, some_levels}
+use Rattle.llrp_tool.proofs.listing.+push_parameters.Goals as goal
+
+pub overflow_add-level : goal.overflow_add-level
+overflow_add-level t c = omega (arith, c.requires, some_levels c.args.nodes.now c.loop-node.node-index c.node-item.result c.loop-node-test.true)
+
+pub push_parameters-requires : goal.push_parameters-requires
+push_parameters-requires t c =
+    let cs = c.as_slice.ensures ∙ c.children.ensures in
+    let fewer = child_levels c.args.nodes.now c.as_slice.result.now c.loop-node.node-index c.node-item.result c.loop-node-test.true c.node-item.is cs in
+    let smaller = child_size c.args.nodes.now c.as_slice.result.now c.loop-node.node-index c.node-item.result c.loop-node-test.true c.node-item.is cs in
+    (omega (arith, c.decreases, smaller), omega (arith, c.requires, fewer))
+
+pub loop-node-preserved : goal.loop-node-preserved
+loop-node-preserved t c =
+    row_more c.args.level c.args.nodes.now c.as_slice.result.now c.loop-node.node-index c.node-item.result _ _ _ _ c.loop-node-test.true c.node-item.is (c.as_slice.ensures ∙ c.children.ensures)
+    c.loop-node.invariant c.in_ok-push_parameter.ensures c.in_ok-push_parameters.ensures
