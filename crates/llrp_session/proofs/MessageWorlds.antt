@@ -1,10 +1,9 @@
 -- The world in which messages are on the way runs as the world in which words are.
-use Rattle.std.proofs.Common.{◌≡◌, ℕ, List, [], ◌∷◌, ◌++◌, refl, sym, ap, ◌∙◌}
+use Rattle.std.proofs.Common.{◌≡◌, ℕ, List, [], ◌∷◌, ◌++◌, refl, ap, ◌∙◌}
 use Rattle.std.specs.Prelude.{map, Result, Ok, Err, Option, None, Some, if◌then◌else◌, Bool, true, false, ◌==◌}
 use Rattle.std.proofs.lemmas.List.{map-append}
-use Rattle.llrp_tree.specs.Tree.{Tree, MessageTree}
-use Rattle.llrp_tree.proofs.TreeLemmas.{trees-forest}
-use Rattle.llrp_session.specs.Words.{Operation, Adding, Deleting, Starting, Stopping, Enabling, Disabling, Configuring, Closing, Request, RoSpecChange, Command, Response, Error, Report, KeepaliveSent, Accepted, Started, Ended, Overflowed, ReaderWord, ReaderMessage, ClientMessage, ClientWord, Asks, Acknowledges, heard, request, Heard, HeardResponse, HeardError, HeardReport, HeardKeepalive, HeardNotification, HeardOther}
+use Rattle.llrp_tree.specs.Tree.{Tree}
+use Rattle.llrp_session.specs.Words.{Operation, Adding, Deleting, Starting, Stopping, Enabling, Disabling, Configuring, Closing, Request, RoSpecChange, Command, Response, Error, Report, KeepaliveSent, Accepted, Started, Ended, Overflowed, ReaderWord, ReaderMessage, ClientMessage, heard, request, Heard, HeardResponse, HeardError, HeardReport, HeardKeepalive, HeardNotification, HeardOther}
 use Rattle.llrp_session.specs.Refusal.{Refusal}
 use Rattle.llrp_session.specs.ReaderMachine.{Turn, ReaderEvent, Connect, Take, Seen, Tick, next}
 use Rattle.llrp_session.specs.Sightings.{tags_in, tags_of, kept_by}
@@ -13,9 +12,9 @@ use Rattle.llrp_session.specs.World as words
 use Rattle.llrp_session.specs.World.{World, WorldEvent, Connects, Commands, DeliversUp, DeliversDown, Sees, Ticks, run, opening}
 use Rattle.llrp_session.specs.ReaderMessages.{reader_message}
 use Rattle.llrp_session.specs.ClientMessages.{client_message}
-use Rattle.llrp_session.specs.Reading.{request_of, heard_of}
+use Rattle.llrp_session.specs.Reading.{heard_of}
 use Rattle.llrp_session.specs.LawfulWords.{AddsRoSpec, SaysRoSpec}
-use Rattle.llrp_session.specs.MessageWorld.{MessageWorld, tags_heard, tags_in_messages, stepped, reader_does, commanded, took, delivered_up, delivered_down, message_happens, run_messages, message_opening, in_messages, IsOfRoSpecs, AreOfRoSpecs}
+use Rattle.llrp_session.specs.MessageWorld.{tags_heard, tags_in_messages, stepped, reader_does, commanded, took, delivered_up, delivered_down, message_happens, run_messages, message_opening, in_messages, IsOfRoSpecs, AreOfRoSpecs}
 use Rattle.llrp_session.proofs.MessageReading.{heard_back, request_back}
 
 -- ---- the TagReportData in messages are those of the words

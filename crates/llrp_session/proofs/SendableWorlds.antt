@@ -1,8 +1,8 @@
 -- What is on its way may be sent.
-use Rattle.std.proofs.Common.{◌≡◌, ℕ, ◌<◌, ◌≤◌, ◌^◌, List, [], ◌∷◌, ◌++◌, refl, sym, ap, ◌∙◌, subst, inl}
+use Rattle.std.proofs.Common.{◌≡◌, ℕ, ◌<◌, ◌≤◌, ◌^◌, List, [], ◌∷◌, ◌++◌, refl, ◌∙◌, subst, inl}
 use Rattle.std.specs.Prelude.{map, Result, Ok, Err, Option, None, Some, IfOk}
 use Rattle.llrp_tree.specs.declared.TheConstants.{MAX_LIMIT}
-use Rattle.llrp_tree.specs.Tree.{Tree, MessageTree}
+use Rattle.llrp_tree.specs.Tree.{Tree}
 use Rattle.llrp_session.specs.Words.{Command, Add, Delete, Start, Stop, Enable, Disable, SetKeepalive, GetReport, Close, ReaderMessage, ClientMessage, ClientWord, Asks, Acknowledges, heard, request}
 use Rattle.llrp_session.specs.Refusal.{Refusal}
 use Rattle.llrp_session.specs.ReaderMachine.{Turn, ReaderEvent, Connect, Take, Seen, Tick, next}
@@ -11,9 +11,9 @@ use Rattle.llrp_session.specs.ClientMachine.{Client, Sending, Taking, command, t
 use Rattle.llrp_session.specs.World.{World, WorldEvent, Connects, Commands, DeliversUp, DeliversDown, Sees, Ticks, stepped, reader_does, commanded, took, delivered_up, delivered_down, happens, run, opening}
 use Rattle.llrp_session.specs.ReaderMessages.{reader_message}
 use Rattle.llrp_session.specs.ClientMessages.{client_message}
-use Rattle.llrp_session.specs.LawfulWords.{IsSendable, IsLawfulClientWord, IsLawfulClientMessage, AddsRoSpec}
+use Rattle.llrp_session.specs.LawfulWords.{IsLawfulClientWord, IsLawfulClientMessage, AddsRoSpec}
 use Rattle.llrp_session.specs.LawfulStates.{IsLawfulReader, IsLawfulRequest, IsLawfulReaderEvent, AreLawfulReaderMessages, IsGivenCommand, AreLawfulClientMessages}
-use Rattle.llrp_session.specs.MessageWorld.{MessageWorld, run_messages, message_opening, in_messages, IsOfRoSpecs, AreOfRoSpecs, IsGiven, AreGiven, AreSendable}
+use Rattle.llrp_session.specs.MessageWorld.{run_messages, message_opening, IsOfRoSpecs, AreOfRoSpecs, IsGiven, AreGiven, AreSendable}
 use Rattle.llrp_session.proofs.LawfulMessages.{reader_sends, client_sends}
 use Rattle.llrp_session.proofs.LawfulReaders.{reader_as_new, reader_says_lawful}
 use Rattle.llrp_session.proofs.LawfulClients.{command_is_lawful, answer_is_lawful}

@@ -1,7 +1,7 @@
 -- The world of both ends in which messages are on the way, and are read where they arrive.
 use Rattle.std.specs.Prelude.{ℕ, ◌<◌, ◌^◌, List, [], ◌∷◌, ◌++◌, map, Result, Ok, Err}
 use Rattle.llrp_tree.specs.Tree.{Tree, MessageTree}
-use Rattle.llrp_session.specs.Words.{Command, Heard, HeardReport}
+use Rattle.llrp_session.specs.Words.{Heard, HeardReport}
 use Rattle.llrp_session.specs.Refusal.{Refusal}
 use Rattle.llrp_session.specs.ReaderMachine.{Reader, Turn, ReaderEvent, Connect, Take, Seen, Tick, next, new_reader}
 use Rattle.llrp_session.specs.Sightings.{kept_by}
