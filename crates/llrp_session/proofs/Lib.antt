@@ -23,3 +23,4 @@ pub mod ToldMessages
 pub mod ReadFields
 pub mod OnlyRoSpec
 pub mod SendableWorlds
+pub mod MessagesAgree

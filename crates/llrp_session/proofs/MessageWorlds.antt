@@ -29,7 +29,7 @@ word_tags (Started now id) = refl
 word_tags (Ended now id) = refl
 word_tags (Overflowed now) = refl
 
-same_tags : (ms : List ReaderMessage) → tags_in_messages (map reader_message ms) ≡ tags_of ms
+pub same_tags : (ms : List ReaderMessage) → tags_in_messages (map reader_message ms) ≡ tags_of ms
 unfolding tags_in_messages tags_of
 same_tags [] = refl
 same_tags (m ∷ ms) =
@@ -193,6 +193,13 @@ run_alike : (events : List WorldEvent) (w : World) → AreOfRoSpecs events → A
 run_alike [] w a h = refl
 run_alike (e ∷ es) w a h =
     ap (run_messages es) (event_alike e w h) ∙ run_alike es (words.happens w e) a.1 (event_says e w a.0 h)
+
+run_keeps : (events : List WorldEvent) (w : World) → AreOfRoSpecs events → AllSay w.up → AllSay (run events w).up
+run_keeps [] w a h = h
+run_keeps (e ∷ es) w a h = run_keeps es (words.happens w e) a.1 (event_says e w a.0 h)
+
+pub run_says : (limit reader_first client_first : ℕ) (events : List WorldEvent) → AreOfRoSpecs events → AllSay (run events (opening limit reader_first client_first)).up
+run_says limit reader_first client_first events a = run_keeps events (opening limit reader_first client_first) a tt
 
 pub runs_alike : (limit reader_first client_first : ℕ) (events : List WorldEvent) → AreOfRoSpecs events
     → run_messages events (message_opening limit reader_first client_first) ≡ in_messages (run events (opening limit reader_first client_first))

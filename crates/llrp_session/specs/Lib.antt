@@ -16,3 +16,4 @@ pub mod ClientMessages
 pub mod Reading
 pub mod MessageWorld
 pub mod ReadWords
+pub mod MessageAgreement
