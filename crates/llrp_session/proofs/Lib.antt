@@ -1,4 +1,3 @@
-pub mod ReaderRows
 pub mod MessageReading
 pub mod MessageWorlds
 pub mod LawfulMessages
@@ -6,3 +5,16 @@ pub mod LawfulParts
 pub mod ToldMessages
 pub mod ReadFields
 pub mod OnlyRoSpec
+pub mod States
+pub mod Orderly
+pub mod Following
+pub mod TakingIn
+pub mod StandingTogether
+pub mod Keeping
+pub mod Worlds
+pub mod Examples
+pub mod ReaderExchanges
+pub mod ClientExchanges
+pub mod WorldExchange
+pub mod TableLemmas
+pub mod ThreeAtMost

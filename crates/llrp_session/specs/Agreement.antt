@@ -1,9 +1,10 @@
 -- The two ends agree.
-use Rattle.std.specs.Prelude.{◌≡◌, ◌≤◌, ◌⊎◌, ℕ, Bool, true, false, List, [], ◌∷◌, ◌++◌, Option, None, Some, Result, Ok, Err, IsOk, if◌then◌else◌}
+use Rattle.std.specs.Prelude.{◌≡◌, ◌≤◌, ◌⊎◌, ℕ, Bool, true, false, List, [], ◌∷◌, ◌++◌, Option, None, Some, Result, Ok, Err, if◌then◌else◌}
 use Rattle.llrp_session.specs.Table.{states, active_count}
 use Rattle.llrp_session.specs.Words.{ReaderWord, Response, Error, ReaderMessage, ClientWord, Asks, Acknowledges, ClientMessage, heard}
 use Rattle.llrp_session.specs.Refusal.{Refusal}
-use Rattle.llrp_session.specs.Sightings.{tags_of}
+use Rattle.llrp_session.specs.ReaderMachine.{ReaderEvent}
+use Rattle.llrp_session.specs.Sightings.{tags_of, history, no_history}
 use Rattle.llrp_session.specs.ClientMachine.{Client, Pending, Taking, take, awaited}
 use Rattle.llrp_session.specs.World.{World, WorldEvent, run, opening}
 
@@ -37,6 +38,15 @@ ReportsArrive w = w.handed_out ++ tags_of w.down ≡ w.reported
 -- with those held they are the reports of the sightings that counted and were not dropped
 abbrev pub ReportsAreKept : World → Type 0
 ReportsAreKept w = (w.handed_out ++ tags_of w.down) ++ w.reader.held ≡ w.kept
+
+-- these are the reports of `sightings_kept`: some history of a reader as new ends with this reader, sent these reports, and kept these
+pub record ReaderHasHistory (w : World) : Type 0 where
+  pub limit : ℕ
+  pub first_id : ℕ
+  pub events : List (ℕ × ReaderEvent)
+  pub reader : (history events (no_history limit first_id)).reader ≡ w.reader
+  pub reported : tags_of (history events (no_history limit first_id)).sent ≡ w.reported
+  pub kept : (history events (no_history limit first_id)).kept ≡ w.kept
 
 -- (c) at most one ROSpec is active
 abbrev pub OneActive : World → Type 0

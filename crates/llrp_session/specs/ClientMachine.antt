@@ -1,9 +1,8 @@
 -- The client.
 use Rattle.std.specs.Prelude.{ℕ, ◌+◌, ◌==◌, nat_lt, Bool, true, false, ◌&&◌, List, [], ◌∷◌, Option, None, Some, is_some, Result, Ok, Err, if◌then◌else◌}
-use Rattle.llrp_tree.specs.Tree.{Tree}
 use Rattle.llrp_session.specs.RoSpec.{rospec_of}
-use Rattle.llrp_session.specs.Table.{Viewed, RoState, Disabled, Inactive, Active, enabling, disabling, setting, change_view, view_without, enter_view, viewed_state}
-use Rattle.llrp_session.specs.Words.{Operation, Adding, Deleting, Starting, Stopping, Enabling, Disabling, Configuring, Closing, Command, Add, Delete, Start, Stop, Enable, Disable, SetKeepalive, GetReport, Close, RoSpecChange, Notification, Heard, HeardResponse, HeardError, HeardReport, HeardKeepalive, HeardNotification, HeardOther, Asks, Acknowledges, ClientMessage}
+use Rattle.llrp_session.specs.Table.{Viewed, RoState, Inactive, Active, enabling, disabling, setting, change_view, view_without, enter_view, viewed_state}
+use Rattle.llrp_session.specs.Words.{Operation, Adding, Deleting, Starting, Stopping, Enabling, Disabling, Configuring, Closing, Command, Add, Delete, Start, Stop, Enable, Disable, SetKeepalive, GetReport, Close, RoSpecChange, Heard, HeardResponse, HeardError, HeardReport, HeardKeepalive, HeardNotification, HeardOther, Asks, Acknowledges, ClientMessage}
 use Rattle.llrp_session.specs.Refusal.{Refusal, Closed as ClosedRefusal, NotReady, Busy, OverLimit, IdsSpent, Unexpected}
 pub use Rattle.llrp_session.specs.declared.words.ClientPhase.{ClientPhase}
 pub use Rattle.llrp_session.specs.declared.words.ClientPhase.TheVariants.{Fresh, Ready, Closed}

@@ -14,3 +14,4 @@ pub mod Reading
 pub mod LawfulWords
 pub mod MessageWorld
 pub mod ReadWords
+pub mod TableLaws

@@ -4,10 +4,10 @@ use Rattle.std.specs.List.{list_any}
 use Rattle.llrp_tree.specs.Tree.{Tree}
 use Rattle.llrp_tree.specs.declared.fault.Reason.{Reason}
 use Rattle.llrp_tree.specs.declared.fault.Reason.TheVariants.{Reserved, Version, MessageType, MessageLength, Short, Value, Count, Utf8, ParamType, Misplaced, TooMany, TooDeep, ParamLength, Extra, Missing}
-use Rattle.llrp_session.specs.RoSpec.{RoSpec, ReportSpec, ContentSelector, rospec_of}
-use Rattle.llrp_session.specs.Table.{Entry, RoState, Disabled, Inactive, Active, is_inactive, is_active, names, enabling, disabling, setting, change, without, enter, state_of, octets_of, active, first_immediate}
+use Rattle.llrp_session.specs.RoSpec.{RoSpec, ReportSpec, rospec_of}
+use Rattle.llrp_session.specs.Table.{Entry, RoState, Inactive, Active, is_inactive, is_active, names, enabling, disabling, setting, change, without, enter, state_of, octets_of, active, first_immediate}
 use Rattle.llrp_session.specs.TagReport.{Sighting, tag_report}
-use Rattle.llrp_session.specs.Words.{Operation, Adding, Deleting, Starting, Stopping, Enabling, Disabling, Configuring, Closing, KeepaliveSpec, Config, Request, AddRoSpec, DeleteRoSpec, StartRoSpec, StopRoSpec, EnableRoSpec, DisableRoSpec, SetReaderConfig, GetReports, CloseConnection, NoRequest, Unsupported, ReaderWord, Response, Error, Report, KeepaliveSent, Accepted, Started, Ended, Overflowed, ReaderMessage}
+use Rattle.llrp_session.specs.Words.{Adding, Deleting, Starting, Stopping, Enabling, Disabling, Configuring, Closing, KeepaliveSpec, Config, Request, AddRoSpec, DeleteRoSpec, StartRoSpec, StopRoSpec, EnableRoSpec, DisableRoSpec, SetReaderConfig, GetReports, CloseConnection, NoRequest, Unsupported, ReaderWord, Response, Error, Report, KeepaliveSent, Accepted, Started, Ended, Overflowed, ReaderMessage}
 use Rattle.llrp_session.specs.Refusal.{Refusal, Closed, NotConnected, AlreadyUp}
 pub use Rattle.llrp_session.specs.declared.words.ReaderPhase.{ReaderPhase}
 pub use Rattle.llrp_session.specs.declared.words.ReaderPhase.TheVariants.{Waiting, Up, Down}

@@ -1,5 +1,5 @@
 -- ROSpecs with their states, in rising order of their ids: a reader's table, and a client's view of it.
-use Rattle.std.specs.Prelude.{ℕ, ◌<◌, ◌≤◌, suc, ◌+◌, ◌==◌, nat_lt, Bool, true, false, ◌||◌, ◌&&◌, List, [], ◌∷◌, Option, None, Some, if◌then◌else◌}
+use Rattle.std.specs.Prelude.{ℕ, ◌<◌, suc, ◌+◌, ◌==◌, nat_lt, Bool, true, false, ◌||◌, ◌&&◌, List, [], ◌∷◌, Option, None, Some, if◌then◌else◌}
 use Rattle.llrp_session.specs.RoSpec.{RoSpec}
 pub use Rattle.llrp_session.specs.declared.words.RoState.{RoState}
 pub use Rattle.llrp_session.specs.declared.words.RoState.TheVariants.{Disabled, Inactive, Active}
@@ -118,20 +118,18 @@ unfoldable pub viewed_state : ℕ → List Viewed → Option RoState
 viewed_state id [] = None
 viewed_state id (v ∷ vs) = if id == v.id then Some v.state else viewed_state id vs
 
--- ---- a table is in order, and one entry at most is active
+-- ---- order, and how many are active
 
 unfoldable pub active_count : List Entry → ℕ
 active_count [] = 0
 active_count (e ∷ es) = if is_active e.state then suc (active_count es) else active_count es
 
+-- each id is above this one
 unfoldable pub AllAbove : ℕ → List Entry → Type 0
 AllAbove n [] = Unit {0}
 AllAbove n (e ∷ es) = (n < e.spec.id) × AllAbove n es
 
+-- the ids rise, so each is there once
 unfoldable pub IsRising : List Entry → Type 0
 IsRising [] = Unit {0}
 IsRising (e ∷ es) = AllAbove e.spec.id es × IsRising es
-
-pub record IsOrderly (table : List Entry) : Type 0 where
-  pub rising : IsRising table
-  pub one_active : active_count table ≤ 1

@@ -1,5 +1,5 @@
 -- What a client and a reader say to each other, and what each reads in a message.
-use Rattle.std.specs.Prelude.{ℕ, ◌==◌, Bool, true, false, List, [], Option, None, Some, if◌then◌else◌}
+use Rattle.std.specs.Prelude.{ℕ, ◌==◌, Bool, false, List, Option, None, Some, if◌then◌else◌}
 use Rattle.llrp_tree.specs.Tree.{Tree}
 use Rattle.llrp_session.specs.RoSpec.{ReportSpec}
 pub use Rattle.llrp_session.specs.declared.words.Operation.{Operation}
