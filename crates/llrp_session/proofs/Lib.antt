@@ -18,3 +18,4 @@ pub mod ClientExchanges
 pub mod WorldExchange
 pub mod TableLemmas
 pub mod ThreeAtMost
+pub mod ReportParts

@@ -128,5 +128,7 @@ pub(crate) fn tag_report(
     ensures short { IfOk result (λ n. IsReport n) }
 {
     let parts = report_parts(alloc, now, rospec, selector, sighting)?;
-    Ok(parameter(alloc, ParamKind::TagReportData, &[], parts))
+    let report = parameter(alloc, ParamKind::TagReportData, &[], parts);
+    report.lawful();
+    Ok(report)
 }
