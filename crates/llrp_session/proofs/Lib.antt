@@ -19,3 +19,5 @@ pub mod WorldExchange
 pub mod TableLemmas
 pub mod ThreeAtMost
 pub mod ReportParts
+pub mod TableChanges
+pub mod Adding

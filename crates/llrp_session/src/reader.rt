@@ -126,6 +126,7 @@ impl Reader {
     /// What an event does at the moment `now`, in microseconds: the messages that the reader sends, three at most, are
     /// appended to `out`. A refused step changes nothing and hands the event back: `Closed` once the connection was closed,
     /// `NotConnected` for all but a connect before it, `AlreadyUp` for a second connect, else `Memory`.
+    #[tactic(auto, unfolding(crate::specs::ReaderMachine::next))]
     pub fn step(
         &mut self,
         now: u64,
@@ -149,6 +150,7 @@ impl Reader {
     }
 
     /// A step before the connection.
+    #[tactic(auto, unfolding(crate::specs::ReaderMachine::next))]
     fn step_waiting(
         &mut self,
         now: u64,
@@ -178,6 +180,7 @@ impl Reader {
     }
 
     /// A step while a client is connected.
+    #[tactic(auto, unfolding(crate::specs::ReaderMachine::next))]
     fn step_up(
         &mut self,
         now: u64,
@@ -239,7 +242,7 @@ impl Reader {
                 Ok(()) => Ok(()),
                 Err(_) => Err(ReaderIn::TakeBad { id, reason }),
             },
-            ReaderIn::Seen(sighting) => match self.seen(now, sighting, out) {
+            ReaderIn::Seen(sighting) => match self.seen(now, &sighting, out) {
                 Ok(()) => Ok(()),
                 Err(_) => Err(ReaderIn::Seen(sighting)),
             },

@@ -100,6 +100,7 @@ impl Reader {
     }
 
     /// A ROSpec ends.
+    #[tactic(auto, unfolding(crate::specs::ReaderMachine::end))]
     fn end(&mut self, ending: Ending, out: &mut Vec<Message>)
         requires { vec_len out.old + 2 ≤ vec_capacity out.old }
         ensures stands { (now : ℕ) (s : TheRoSpec) → IsEnding now s self.old ending → Stands out.old.items (end_of now (Option.Some s) (begun self.old)) out.new.items self.new }

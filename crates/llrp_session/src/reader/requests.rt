@@ -466,6 +466,7 @@ impl Reader {
     }
 
     /// A request other than ADD_ROSPEC.
+    #[tactic(auto, unfolding(crate::specs::ReaderMachine::serve))]
     fn serve(
         &mut self,
         head: Head,
@@ -502,6 +503,7 @@ impl Reader {
     }
 
     /// A message is taken; it is handed back where memory runs out.
+    #[tactic(auto, unfolding(crate::specs::ReaderMachine::serve))]
     pub(crate) fn take(
         &mut self,
         now: u64,

@@ -78,25 +78,26 @@ impl Reader {
     }
 
     /// A tag is sighted.
+    #[tactic(auto, unfolding(crate::specs::ReaderMachine::see))]
     pub(crate) fn seen(
         &mut self,
         now: u64,
-        sighting: Sighting,
+        sighting: &Sighting,
         out: &mut Vec<Message>,
     ) -> Result<(), AllocError>
         requires { vec_len out.old + 3 ≤ vec_capacity out.old }
-        ensures ok { OnOk result (Stands out.old.items (see now sighting (the_counting sighting (the_active self.old.table)) (begun self.old)) out.new.items self.new) }
+        ensures ok { OnOk result (Stands out.old.items (see now sighting.now (the_counting sighting.now (the_active self.old.table)) (begun self.old)) out.new.items self.new) }
         ensures reader_unchanged { OnErr result (self.new ≡ self.old) }
         ensures out_unchanged { OnErr result (out.new.items ≡ out.old.items) }
     {
-        let Some(rospec) = self.counting(&sighting) else {
+        let Some(rospec) = self.counting(sighting) else {
             return Ok(());
         };
         if self.is_full() {
             return self.overflow(now, out);
         }
         let report = self.effective_report(rospec.settings());
-        let tag = tag_report(self.alloc(), now, rospec, &report.selector, &sighting)?;
+        let tag = tag_report(self.alloc(), now, rospec, &report.selector, sighting)?;
         self.hold(tag)?;
         self.send_if_enough(&report, out);
         Ok(())

@@ -59,13 +59,20 @@ fn changed(change: StateChange, id: u32, state: RoState) -> RoState
     }
 }
 
-/// Each state is changed.
-pub(crate) fn change(table: &mut [Entry], change: StateChange)
+/// Each state of a slice is changed.
+fn change_each(table: &mut [Entry], change: StateChange)
     ensures { table.new ≡ the_change (changing change) table.old }
 {
     for entry in table.iter_mut() {
         entry.state = changed(change, entry.spec.settings().id, entry.state);
     }
+}
+
+/// Each state is changed.
+pub(crate) fn change(table: &mut Vec<Entry>, change: StateChange)
+    ensures { table.new.items ≡ the_change (changing change) table.old.items }
+{
+    change_each(table.as_mut_slice(), change);
 }
 
 /// The state of a ROSpec, if it is in the table.

@@ -67,6 +67,7 @@ impl Reader {
     }
 
     /// Time has passed.
+    #[tactic(auto, unfolding(crate::specs::ReaderMachine::tick))]
     pub(crate) fn tick(&mut self, now: u64, out: &mut Vec<Message>) -> Result<(), AllocError>
         requires { vec_len out.old + 3 ≤ vec_capacity out.old }
         ensures ok { OnOk result (Stands out.old.items (the_tick now (begun self.old)) out.new.items self.new) }
