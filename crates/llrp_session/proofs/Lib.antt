@@ -24,3 +24,5 @@ pub mod ReadFields
 pub mod OnlyRoSpec
 pub mod SendableWorlds
 pub mod MessagesAgree
+pub mod TableChanges
+pub mod Adding

@@ -17,3 +17,5 @@ pub mod Reading
 pub mod MessageWorld
 pub mod ReadWords
 pub mod MessageAgreement
+pub mod ReaderSteps
+pub mod ReaderParts
