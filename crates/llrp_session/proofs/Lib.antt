@@ -18,3 +18,7 @@ pub mod ClientExchanges
 pub mod WorldExchange
 pub mod TableLemmas
 pub mod ThreeAtMost
+pub mod LawfulReaders
+pub mod ReportLemmas
+pub mod ToldOfLawful
+pub mod LawfulClients

@@ -15,3 +15,5 @@ pub mod LawfulWords
 pub mod MessageWorld
 pub mod ReadWords
 pub mod TableLaws
+pub mod LawfulWords
+pub mod LawfulStates

@@ -1,0 +1,316 @@
+-- A reader whose numbers fit says what fits, and stays so.
+use Rattle.std.proofs.Common.{◌≡◌, ℕ, ◌+◌, ◌^◌, ◌<◌, ◌≤◌, ◌⊎◌, inl, refl, Bool, true, false, cond, List, [], ◌∷◌, ◌++◌, length, arith, length-append}
+use Rattle.std.specs.Prelude.{◌&&◌, ◌||◌, ◌==◌, nat_le, nat_lt, Option, None, Some, is_none, Result, IfOk}
+use Rattle.std.proofs.lemmas.Bool.Decides.{nat_tests}
+use Rattle.llrp_tree.specs.Tree.{Tree}
+use Rattle.llrp_tree.specs.declared.fault.Reason.{Reason}
+use Rattle.llrp_tree.specs.declared.fault.Reason.TheVariants.{Reserved, Version, MessageType, MessageLength, Short, Value, Count, Utf8, ParamType, Misplaced, TooMany, TooDeep, ParamLength, Extra, Missing}
+use Rattle.llrp_session.specs.RoSpec.{RoSpec, ReportSpec, ContentSelector, rospec_of}
+use Rattle.llrp_session.specs.Table.{RoState, Entry, Disabled, Inactive, Active, change, without, enter, names, setting, enabling, disabling, active, first_immediate, is_active, is_inactive, is_disabled, state_of}
+use Rattle.llrp_session.specs.TagReport.{Sighting, tag_report}
+use Rattle.llrp_session.specs.Words.{ReaderWord, Response, Error, Report, KeepaliveSent, Accepted, Started, Ended, Overflowed, ReaderMessage, Adding, Deleting, Starting, Stopping, Enabling, Disabling, Configuring, Closing, Config, KeepaliveSpec, Request, AddRoSpec, DeleteRoSpec, StartRoSpec, StopRoSpec, EnableRoSpec, DisableRoSpec, SetReaderConfig, GetReports, CloseConnection, NoRequest, Unsupported}
+use Rattle.llrp_session.specs.ReaderMachine.{Reader, Turn, Keepalive, ReaderPhase, Waiting, Up, Down, tell, reply, with_reader, with_table, send_held, set_state, start, end, end_if, start_if_idle, serve, see, tick, keep_alive, keepalive_from, configured, begun, is_known, add_status, has_bad_field, is_too_long, effective_report, sends_at_end, has_state, is_bad_report, is_bad_keepalive, hold, send_if_enough, is_enough, is_over, is_full, counting, lists_antenna, following, fault_status, set_keepalive, set_report, reset_if, ReaderEvent, Connect, Take, TakeBad, Seen, Tick, new_reader, next, next_in}
+use Rattle.llrp_session.specs.Refusal.{Refusal}
+use Rattle.llrp_session.proofs.ToldOfLawful.{told_of_lawful}
+use Rattle.llrp_session.proofs.ReportLemmas.{report_of_sighting}
+use Rattle.llrp_session.specs.LawfulWords.{IsReport, AreReports, IsLawfulReaderWord, IsLawfulReaderMessage}
+use Rattle.llrp_session.specs.LawfulStates.{IsToldOf, AreToldOf, IsLawfulReader, IsLawfulSighting, IsLawfulRequest, IsLawfulReaderEvent, AreLawfulReaderMessages}
+
+-- ---- lists
+
+reports-append : (xs : List Tree) (t : Tree) → AreReports xs → IsReport t → AreReports (xs ++ t ∷ [])
+reports-append [] t h g = (g, tt)
+reports-append (x ∷ xs) t h g = (h.0, reports-append xs t h.1 g)
+
+messages-append : (xs : List ReaderMessage) (m : ReaderMessage) → AreLawfulReaderMessages xs → IsLawfulReaderMessage m → AreLawfulReaderMessages (xs ++ m ∷ [])
+messages-append [] m h g = (g, tt)
+messages-append (x ∷ xs) m h g = (h.0, messages-append xs m h.1 g)
+
+-- ---- tables
+
+told-change : (f : ℕ → RoState → RoState) (t : List Entry) → AreToldOf t → AreToldOf (change f t)
+unfolding change
+told-change f [] h = tt
+told-change f (e ∷ es) h = (h.0, told-change f es h.1)
+
+told-without : (n : ℕ) (t : List Entry) → AreToldOf t → AreToldOf (without n t)
+unfolding without
+told-without n [] h = tt
+told-without n (e ∷ es) h = elim (names n e.spec.id) as (λ b. AreToldOf (cond b (without n es) (e ∷ without n es))) [ true ↦ told-without n es h.1 | false ↦ (h.0, told-without n es h.1) ]
+
+told-enter : (s : RoSpec) (t : List Entry) → IsToldOf s → AreToldOf t → AreToldOf (enter s t)
+unfolding enter
+told-enter s [] g h = (g, tt)
+told-enter s (e ∷ es) g h =
+    let new : Entry = record { spec = s; state = Disabled } in
+    elim (s.id == e.spec.id) as (λ a. AreToldOf (cond a (new ∷ es) (cond (nat_lt s.id e.spec.id) (new ∷ e ∷ es) (e ∷ enter s es)))) [
+      | true ↦ (g, h.1)
+      | false ↦ elim (nat_lt s.id e.spec.id) as (λ b. AreToldOf (cond b (new ∷ e ∷ es) (e ∷ enter s es))) [ true ↦ (g, h) | false ↦ (h.0, told-enter s es g h.1) ]
+    ]
+
+abbrev IfToldOf : Option RoSpec → Type 0
+IfToldOf None = Unit {0}
+IfToldOf (Some s) = IsToldOf s
+
+told-active : (t : List Entry) → AreToldOf t → IfToldOf (active t)
+unfolding active
+told-active [] h = tt
+told-active (e ∷ es) h = elim (is_active e.state) as (λ b. IfToldOf (cond b (Some e.spec) (active es))) [ true ↦ h.0 | false ↦ told-active es h.1 ]
+
+told-first_immediate : (n : ℕ) (t : List Entry) → AreToldOf t → IfToldOf (first_immediate n t)
+unfolding first_immediate
+told-first_immediate n [] h = tt
+told-first_immediate n (e ∷ es) h =
+    elim (names n e.spec.id && (is_disabled e.state && (e.spec.start_trigger == 1))) as (λ b. IfToldOf (cond b (Some e.spec) (first_immediate n es))) [ true ↦ h.0 | false ↦ told-first_immediate n es h.1 ]
+
+told-counting : (g : Sighting) (o : Option RoSpec) → IfToldOf o → IfToldOf (counting g o)
+told-counting g None h = tt
+told-counting g (Some s) h = elim (lists_antenna g.antenna s.antennas) as (λ b. IfToldOf (cond b (Some s) None)) [ true ↦ h | false ↦ tt ]
+
+-- ---- turns
+
+pub record IsLawfulTurn (t : Turn) : Type 0 where
+  pub sent : AreLawfulReaderMessages t.sent
+  pub reader : IsLawfulReader t.reader
+
+following-fits : (id : ℕ) → id < 2 ^ 32 → following id < 2 ^ 32
+following-fits id h = elim (id == 4294967295) as (λ b. (id == 4294967295) ≡ b → cond b 1 (id + 1) < 2 ^ 32) [ true ↦ λ e. omega arith | false ↦ λ e. below_top id h e ] refl
+  where
+    below_top : (id : ℕ) → id < 2 ^ 32 → (id == 4294967295) ≡ false → id + 1 < 2 ^ 32
+    below_top id h e = grind (arith, nat_tests)
+
+lawful-tell : (w : ReaderWord) (t : Turn) → IsLawfulReaderWord w → IsLawfulTurn t → IsLawfulTurn (tell w t)
+lawful-tell w t l h =
+    let r = h.reader in
+    record {
+      sent = messages-append t.sent _ h.sent (record { version = r.version; id = r.next_id; word = l });
+      reader = record { next_id = following-fits t.reader.next_id r.next_id; version = r.version; held = r.held; few = r.few; table = r.table };
+    }
+
+lawful-reply : (v id : ℕ) (w : ReaderWord) (t : Turn) → (v ≡ 1) ⊎ (v ≡ 2) → id < 2 ^ 32 → IsLawfulReaderWord w → IsLawfulTurn t → IsLawfulTurn (reply v id w t)
+lawful-reply v id w t version fits l h = record { sent = messages-append t.sent _ h.sent (record { version = version; id = fits; word = l }); reader = h.reader }
+
+lawful-with_table : (table : List Entry) (t : Turn) → AreToldOf table → IsLawfulTurn t → IsLawfulTurn (with_table table t)
+lawful-with_table table t told h = let r = h.reader in record { sent = h.sent; reader = record { next_id = r.next_id; version = r.version; held = r.held; few = r.few; table = told } }
+
+lawful-send_held : (t : Turn) → IsLawfulTurn t → IsLawfulTurn (send_held t)
+lawful-send_held t h =
+    let told = lawful-tell (Report t.reader.held) t (h.reader.held, h.reader.few) h in
+    let r = told.reader in
+    record { sent = told.sent; reader = record { next_id = r.next_id; version = r.version; held = tt; few = omega arith; table = r.table } }
+
+lawful-start : (now id : ℕ) (t : Turn) → now < 2 ^ 64 → id < 2 ^ 32 → IsLawfulTurn t → IsLawfulTurn (start now id t)
+lawful-start now id t moment fits h =
+    let active_now = lawful-with_table (change (setting id Active) t.reader.table) t (told-change (setting id Active) t.reader.table h.reader.table) h in
+    let r = active_now.reader in
+    lawful-tell (Started now id) _ (moment, fits) (record { sent = h.sent; reader = record { next_id = r.next_id; version = r.version; held = r.held; few = r.few; table = r.table } })
+
+lawful-ended : (now id : ℕ) (t : Turn) → now < 2 ^ 64 → id < 2 ^ 32 → IsLawfulTurn t → IsLawfulTurn (tell (Ended now id) (set_state id Inactive t))
+lawful-ended now id t moment fits h = lawful-tell (Ended now id) _ (moment, fits) (lawful-with_table _ t (told-change (setting id Inactive) t.reader.table h.reader.table) h)
+
+lawful-end : (now : ℕ) (s : RoSpec) (t : Turn) → now < 2 ^ 64 → IsToldOf s → IsLawfulTurn t → IsLawfulTurn (end now s t)
+unfolding end
+lawful-end now s t moment told h =
+    elim (sends_at_end t.reader s) as (λ b. IsLawfulTurn (tell (Ended now s.id) (set_state s.id Inactive (cond b (send_held t) t)))) [
+      | true ↦ lawful-ended now s.id (send_held t) moment told.id (lawful-send_held t h)
+      | false ↦ lawful-ended now s.id t moment told.id h
+    ]
+
+lawful-end_if : (test : RoSpec → Bool) (now : ℕ) (o : Option RoSpec) (t : Turn) → now < 2 ^ 64 → IfToldOf o → IsLawfulTurn t → IsLawfulTurn (end_if test now o t)
+lawful-end_if test now None t moment told h = h
+lawful-end_if test now (Some s) t moment told h = elim (test s) as (λ b. IsLawfulTurn (cond b (end now s t) t)) [ true ↦ lawful-end now s t moment told h | false ↦ h ]
+
+lawful-start_if_idle : (now : ℕ) (o : Option RoSpec) (idle : Bool) (t : Turn) → now < 2 ^ 64 → IfToldOf o → IsLawfulTurn t → IsLawfulTurn (start_if_idle now o idle t)
+lawful-start_if_idle now None idle t moment told h = h
+lawful-start_if_idle now (Some s) true t moment told h = lawful-start now s.id t moment told.id h
+lawful-start_if_idle now (Some s) false t moment told h = h
+
+add_status-fits : (limit : ℕ) (table : List Entry) (s : RoSpec) → add_status limit table s < 2 ^ 16
+add_status-fits limit table s =
+    elim (has_bad_field table s) as (λ b. cond b 101 (cond (is_too_long limit table s) 100 0) < 2 ^ 16) [
+      | true ↦ omega arith
+      | false ↦ elim (is_too_long limit table s) as (λ b. cond b 100 0 < 2 ^ 16) [ true ↦ omega arith | false ↦ omega arith ]
+    ]
+
+fault_status-fits : (reason : Reason) → fault_status reason < 2 ^ 16
+fault_status-fits Version = omega arith
+fault_status-fits MessageType = omega arith
+fault_status-fits Reserved = omega arith
+fault_status-fits Value = omega arith
+fault_status-fits Count = omega arith
+fault_status-fits Utf8 = omega arith
+fault_status-fits MessageLength = omega arith
+fault_status-fits Short = omega arith
+fault_status-fits ParamType = omega arith
+fault_status-fits Misplaced = omega arith
+fault_status-fits TooMany = omega arith
+fault_status-fits TooDeep = omega arith
+fault_status-fits ParamLength = omega arith
+fault_status-fits Extra = omega arith
+fault_status-fits Missing = omega arith
+
+-- settings leave what is told
+lawful-set_keepalive : (now : ℕ) (o : Option KeepaliveSpec) (r : Reader) → IsLawfulReader r → IsLawfulReader (set_keepalive now o r)
+lawful-set_keepalive now None r h = h
+lawful-set_keepalive now (Some k) r h = record { next_id = h.next_id; version = h.version; held = h.held; few = h.few; table = h.table }
+
+lawful-set_report : (o : Option ReportSpec) (r : Reader) → IsLawfulReader r → IsLawfulReader (set_report o r)
+lawful-set_report None r h = h
+lawful-set_report (Some p) r h = record { next_id = h.next_id; version = h.version; held = h.held; few = h.few; table = h.table }
+
+lawful-reset_if : (b : Bool) (r : Reader) → IsLawfulReader r → IsLawfulReader (reset_if b r)
+lawful-reset_if true r h = record { next_id = h.next_id; version = h.version; held = h.held; few = h.few; table = h.table }
+lawful-reset_if false r h = h
+
+lawful-configured : (now : ℕ) (k : Config) (r : Reader) → IsLawfulReader r → IsLawfulReader (configured now k r)
+unfolding configured
+lawful-configured now k r h = lawful-set_report k.report _ (lawful-set_keepalive now k.keepalive _ (lawful-reset_if k.reset r h))
+
+-- ---- requests
+
+-- what is read in a lawful ROSpec may be told
+abbrev RoSpecsAreTold : Type 0
+RoSpecsAreTold = (rospec : Tree) → IsLawfulRequest (AddRoSpec rospec) → IsToldOf (rospec_of rospec)
+
+lawful-serve : RoSpecsAreTold → (now v id : ℕ) (q : Request) (t : Turn) → now < 2 ^ 64 → (v ≡ 1) ⊎ (v ≡ 2) → id < 2 ^ 32 → IsLawfulRequest q → IsLawfulTurn t → IsLawfulTurn (serve now v id q t)
+unfolding serve
+lawful-serve told now v id (AddRoSpec spec) t moment version fits l h =
+    let p = rospec_of spec in
+    let status = add_status t.reader.limit t.reader.table p in
+    let small = add_status-fits t.reader.limit t.reader.table p in
+    elim (status == 0) as (λ b. IsLawfulTurn (reply v id (Response Adding status) (cond b (with_table (enter p t.reader.table) t) t))) [
+      | true ↦ lawful-reply v id (Response Adding status) _ version fits small (lawful-with_table _ t (told-enter p t.reader.table (told spec l) h.reader.table) h)
+      | false ↦ lawful-reply v id (Response Adding status) t version fits small h
+    ]
+lawful-serve told now v id (DeleteRoSpec n) t moment version fits l h =
+    let ended = end_if (λ s. names n s.id) now (active t.reader.table) t in
+    let g : IsLawfulTurn ended = lawful-end_if (λ s. names n s.id) now (active t.reader.table) t moment (told-active t.reader.table h.reader.table) h in
+    elim (is_known n t.reader.table) as (λ b. IsLawfulTurn (cond b (reply v id (Response Deleting 0) (with_table (without n ended.reader.table) ended)) (reply v id (Response Deleting 101) t))) [
+      | true ↦ lawful-reply v id (Response Deleting 0) _ version fits (omega arith) (lawful-with_table _ ended (told-without n ended.reader.table g.reader.table) g)
+      | false ↦ lawful-reply v id (Response Deleting 101) t version fits (omega arith) h
+    ]
+lawful-serve told now v id (DisableRoSpec n) t moment version fits l h =
+    let ended = end_if (λ s. names n s.id) now (active t.reader.table) t in
+    let g : IsLawfulTurn ended = lawful-end_if (λ s. names n s.id) now (active t.reader.table) t moment (told-active t.reader.table h.reader.table) h in
+    elim (is_known n t.reader.table) as (λ b. IsLawfulTurn (cond b (reply v id (Response Disabling 0) (with_table (change (disabling n) ended.reader.table) ended)) (reply v id (Response Disabling 101) t))) [
+      | true ↦ lawful-reply v id (Response Disabling 0) _ version fits (omega arith) (lawful-with_table _ ended (told-change (disabling n) ended.reader.table g.reader.table) g)
+      | false ↦ lawful-reply v id (Response Disabling 101) t version fits (omega arith) h
+    ]
+lawful-serve told now v id (EnableRoSpec n) t moment version fits l h =
+    let enabled = reply v id (Response Enabling 0) (with_table (change (enabling n) t.reader.table) t) in
+    let g : IsLawfulTurn enabled = lawful-reply v id (Response Enabling 0) _ version fits (omega arith) (lawful-with_table _ t (told-change (enabling n) t.reader.table h.reader.table) h) in
+    elim (is_known n t.reader.table) as (λ b. IsLawfulTurn (cond b (start_if_idle now (first_immediate n t.reader.table) (is_none (active t.reader.table)) enabled) (reply v id (Response Enabling 101) t))) [
+      | true ↦ lawful-start_if_idle now (first_immediate n t.reader.table) (is_none (active t.reader.table)) enabled moment (told-first_immediate n t.reader.table h.reader.table) g
+      | false ↦ lawful-reply v id (Response Enabling 101) t version fits (omega arith) h
+    ]
+lawful-serve told now v id (StartRoSpec n) t moment version fits l h =
+    elim (has_state is_inactive (state_of n t.reader.table) && is_none (active t.reader.table)) as (λ b. IsLawfulTurn (cond b (start now n (reply v id (Response Starting 0) t)) (reply v id (Response Starting 101) t))) [
+      | true ↦ lawful-start now n _ moment l (lawful-reply v id (Response Starting 0) t version fits (omega arith) h)
+      | false ↦ lawful-reply v id (Response Starting 101) t version fits (omega arith) h
+    ]
+lawful-serve told now v id (StopRoSpec n) t moment version fits l h =
+    let ended = end_if (λ s. s.id == n) now (active t.reader.table) t in
+    let g : IsLawfulTurn ended = lawful-end_if (λ s. s.id == n) now (active t.reader.table) t moment (told-active t.reader.table h.reader.table) h in
+    elim (has_state is_active (state_of n t.reader.table)) as (λ b. IsLawfulTurn (cond b (reply v id (Response Stopping 0) ended) (reply v id (Response Stopping 101) t))) [
+      | true ↦ lawful-reply v id (Response Stopping 0) ended version fits (omega arith) g
+      | false ↦ lawful-reply v id (Response Stopping 101) t version fits (omega arith) h
+    ]
+lawful-serve told now v id (SetReaderConfig k) t moment version fits l h =
+    elim (is_bad_report k.report || is_bad_keepalive k.keepalive) as (λ b. IsLawfulTurn (cond b (reply v id (Response Configuring 101) t) (reply v id (Response Configuring 0) (with_reader (configured now k t.reader) t)))) [
+      | true ↦ lawful-reply v id (Response Configuring 101) t version fits (omega arith) h
+      | false ↦ lawful-reply v id (Response Configuring 0) _ version fits (omega arith) (record { sent = h.sent; reader = lawful-configured now k t.reader h.reader })
+    ]
+lawful-serve told now v id GetReports t moment version fits l h = lawful-send_held t h
+lawful-serve told now v id CloseConnection t moment version fits l h =
+    let r = h.reader in
+    lawful-reply v id (Response Closing 0) _ version fits (omega arith) (record { sent = h.sent; reader = record { next_id = r.next_id; version = r.version; held = r.held; few = r.few; table = r.table } })
+lawful-serve told now v id NoRequest t moment version fits l h = h
+lawful-serve told now v id Unsupported t moment version fits l h = lawful-reply v id (Error 109) t version fits (omega arith) h
+
+-- ---- sightings and time
+
+-- the report of a sighting may be sent
+abbrev SightingsAreReports : Type 0
+SightingsAreReports = (now : ℕ) (s : RoSpec) (c : ContentSelector) (g : Sighting) → now < 2 ^ 64 → IsToldOf s → IsLawfulSighting g → IsReport (tag_report now s c g)
+
+room : (n : ℕ) → nat_le 64 n ≡ false → n + 1 ≤ 64
+room n h = grind (arith, nat_tests)
+
+lawful-see : SightingsAreReports → (now : ℕ) (g : Sighting) (o : Option RoSpec) (t : Turn) → now < 2 ^ 64 → IsLawfulSighting g → IfToldOf o → IsLawfulTurn t → IsLawfulTurn (see now g o t)
+unfolding see
+lawful-see reports now g None t moment l told h = h
+lawful-see reports now g (Some s) t moment l told h =
+    let report_spec = effective_report t.reader s in
+    let tag = tag_report now s report_spec.selector g in
+    let more = hold tag t in
+    let r = h.reader in
+    elim (is_full t.reader) as (λ b. is_full t.reader ≡ b → IsLawfulTurn (cond b (tell (Overflowed now) t) (send_if_enough report_spec more))) [
+      | true ↦ λ e. lawful-tell (Overflowed now) t moment h
+      | false ↦ λ e.
+          let held : IsLawfulTurn more =
+          record {
+            sent = h.sent;
+            reader = record {
+              next_id = r.next_id;
+              version = r.version;
+              held = reports-append t.reader.held tag r.held (reports now s report_spec.selector g moment told l);
+              few = let one = room (length t.reader.held) e in omega (arith, length-append t.reader.held (tag ∷ []));
+              table = r.table;
+            };
+          } in
+          elim (is_enough report_spec (length more.reader.held)) as (λ b. IsLawfulTurn (cond b (send_held more) more)) [ true ↦ lawful-send_held more held | false ↦ held ]
+    ] refl
+
+lawful-keep_alive : (now : ℕ) (o : Option Keepalive) (t : Turn) → IsLawfulTurn t → IsLawfulTurn (keep_alive now o t)
+lawful-keep_alive now None t h = h
+lawful-keep_alive now (Some k) t h =
+    let told = lawful-tell KeepaliveSent t tt h in
+    let r = told.reader in
+    elim (nat_le k.due now) as (λ b. IsLawfulTurn (cond b (with_reader (record (tell KeepaliveSent t).reader { keepalive = Some (keepalive_from now k.period) }) (tell KeepaliveSent t)) t)) [
+      | true ↦ record { sent = told.sent; reader = record { next_id = r.next_id; version = r.version; held = r.held; few = r.few; table = r.table } }
+      | false ↦ h
+    ]
+
+lawful-tick : (now : ℕ) (t : Turn) → now < 2 ^ 64 → IsLawfulTurn t → IsLawfulTurn (tick now t)
+unfolding tick
+lawful-tick now t moment h =
+    let ended = end_if (is_over now t.reader.started) now (active t.reader.table) t in
+    lawful-keep_alive now ended.reader.keepalive ended (lawful-end_if (is_over now t.reader.started) now (active t.reader.table) t moment (told-active t.reader.table h.reader.table) h)
+
+-- ---- a step
+
+abbrev LawfulStep : Result Turn Refusal → Type 0
+LawfulStep step = IfOk step (λ t. AreLawfulReaderMessages t.sent × IsLawfulReader t.reader)
+
+done : (t : Turn) → IsLawfulTurn t → AreLawfulReaderMessages t.sent × IsLawfulReader t.reader
+done t h = (h.sent, h.reader)
+
+lawful-next : RoSpecsAreTold → SightingsAreReports → (now : ℕ) (e : ReaderEvent) (r : Reader) → now < 2 ^ 64 → IsLawfulReaderEvent e → IsLawfulReader r → LawfulStep (next now e r)
+unfolding next
+lawful-next told reports now e r moment l h = in_phase r.phase e l
+  where
+    begin : (r : Reader) → IsLawfulReader r → IsLawfulTurn (begun r)
+    begin r h = record { sent = tt; reader = h }
+
+    in_phase : (ph : ReaderPhase) (e : ReaderEvent) → IsLawfulReaderEvent e → LawfulStep (next_in ph now e r)
+    in_phase Down e l = tt
+    in_phase Waiting Connect l =
+        done _ (lawful-tell (Accepted now) (begun (record r { phase = Up })) moment (begin (record r { phase = Up }) (record { next_id = h.next_id; version = h.version; held = h.held; few = h.few; table = h.table })))
+    in_phase Waiting (Take v id q) l = tt
+    in_phase Waiting (TakeBad id reason) l = tt
+    in_phase Waiting (Seen g) l = tt
+    in_phase Waiting Tick l = tt
+    in_phase Up Connect l = tt
+    in_phase Up (Take v id q) l =
+        let taken : IsLawfulReader (record r { version = v }) = record { next_id = h.next_id; version = l.0; held = h.held; few = h.few; table = h.table } in
+        done _ (lawful-serve told now v id q (begun (record r { version = v })) moment l.0 l.1 l.2 (begin (record r { version = v }) taken))
+    in_phase Up (TakeBad id reason) l = done _ (lawful-reply r.version id (Error (fault_status reason)) (begun r) h.version l (fault_status-fits reason) (begin r h))
+    in_phase Up (Seen g) l = done _ (lawful-see reports now g (counting g (active r.table)) (begun r) moment l (told-counting g (active r.table) (told-active r.table h.table)) (begin r h))
+    in_phase Up Tick l = done _ (lawful-tick now (begun r) moment (begin r h))
+
+pub reader_says_lawful : (now : ℕ) (e : ReaderEvent) (r : Reader) → now < 2 ^ 64 → IsLawfulReaderEvent e → IsLawfulReader r
+    → IfOk (next now e r) (λ t. AreLawfulReaderMessages t.sent × IsLawfulReader t.reader)
+reader_says_lawful now e r moment l h = lawful-next told_of_lawful report_of_sighting now e r moment l h
+
+pub reader_as_new : (limit first_id : ℕ) → first_id < 2 ^ 32 → IsLawfulReader (new_reader limit first_id)
+reader_as_new limit first_id h = record { next_id = h; version = inl refl; held = tt; few = omega arith; table = tt }

@@ -1,0 +1,74 @@
+-- Machines whose numbers are those that their types hold, and whose reports may be sent; and the same of what happens to them.
+use Rattle.std.specs.Prelude.{◌≡◌, ◌^◌, ◌<◌, ◌≤◌, ◌⊎◌, ℕ, List, [], ◌∷◌, length}
+use Rattle.llrp_schema.specs.declared.kinds.ParamKind.TheVariants.{RoSpec as RoSpecKind}
+use Rattle.llrp_tree.specs.Lawful.{IsLawful}
+use Rattle.llrp_session.specs.RoSpec.{RoSpec}
+use Rattle.llrp_session.specs.Table.{Entry}
+use Rattle.llrp_session.specs.TagReport.{Sighting, signed_octet}
+use Rattle.llrp_session.specs.Words.{Request, AddRoSpec, DeleteRoSpec, StartRoSpec, StopRoSpec, EnableRoSpec, DisableRoSpec, SetReaderConfig, GetReports, CloseConnection, NoRequest, Unsupported, Command, Add, Delete, Start, Stop, Enable, Disable, SetKeepalive, GetReport, Close, ReaderMessage, ClientMessage}
+use Rattle.llrp_session.specs.ReaderMachine.{Reader, ReaderEvent, Connect, Take, TakeBad, Seen, Tick, most_held}
+use Rattle.llrp_session.specs.LawfulWords.{AreReports, IsLawfulReaderMessage, IsLawfulClientMessage}
+
+-- ---- the reader
+
+-- the numbers of a ROSpec that are told of it
+pub record IsToldOf (s : RoSpec) : Type 0 where
+  pub id : s.id < 2 ^ 32
+  pub inventory : s.inventory < 2 ^ 16
+
+abbrev pub AreToldOf : List Entry → Type 0
+AreToldOf [] = Unit {0}
+AreToldOf (e ∷ es) = IsToldOf e.spec × AreToldOf es
+
+pub record IsLawfulReader (r : Reader) : Type 0 where
+  pub next_id : r.next_id < 2 ^ 32
+  pub version : (r.version ≡ 1) ⊎ (r.version ≡ 2)
+  pub held : AreReports r.held
+  pub few : length r.held ≤ most_held
+  pub table : AreToldOf r.table
+
+pub record IsLawfulSighting (g : Sighting) : Type 0 where
+  pub antenna : g.antenna < 2 ^ 16
+  pub rssi : signed_octet g.rssi < 2 ^ 8
+  pub epc : g.epc < 2 ^ 96
+
+abbrev pub IsLawfulRequest : Request → Type 0
+IsLawfulRequest (AddRoSpec rospec) = (rospec.kind ≡ RoSpecKind) × IsLawful rospec
+IsLawfulRequest (DeleteRoSpec id) = id < 2 ^ 32
+IsLawfulRequest (StartRoSpec id) = id < 2 ^ 32
+IsLawfulRequest (StopRoSpec id) = id < 2 ^ 32
+IsLawfulRequest (EnableRoSpec id) = id < 2 ^ 32
+IsLawfulRequest (DisableRoSpec id) = id < 2 ^ 32
+IsLawfulRequest (SetReaderConfig config) = Unit {0}
+IsLawfulRequest GetReports = Unit {0}
+IsLawfulRequest CloseConnection = Unit {0}
+IsLawfulRequest NoRequest = Unit {0}
+IsLawfulRequest Unsupported = Unit {0}
+
+abbrev pub IsLawfulReaderEvent : ReaderEvent → Type 0
+IsLawfulReaderEvent Connect = Unit {0}
+IsLawfulReaderEvent (Take version id request) = ((version ≡ 1) ⊎ (version ≡ 2)) × (id < 2 ^ 32) × IsLawfulRequest request
+IsLawfulReaderEvent (TakeBad id reason) = id < 2 ^ 32
+IsLawfulReaderEvent (Seen g) = IsLawfulSighting g
+IsLawfulReaderEvent Tick = Unit {0}
+
+abbrev pub AreLawfulReaderMessages : List ReaderMessage → Type 0
+AreLawfulReaderMessages [] = Unit {0}
+AreLawfulReaderMessages (m ∷ ms) = IsLawfulReaderMessage m × AreLawfulReaderMessages ms
+
+-- ---- the client
+
+abbrev pub IsGivenCommand : Command → Type 0
+IsGivenCommand (Add spec) = (spec.kind ≡ RoSpecKind) × IsLawful spec
+IsGivenCommand (Delete id) = id < 2 ^ 32
+IsGivenCommand (Start id) = id < 2 ^ 32
+IsGivenCommand (Stop id) = id < 2 ^ 32
+IsGivenCommand (Enable id) = id < 2 ^ 32
+IsGivenCommand (Disable id) = id < 2 ^ 32
+IsGivenCommand (SetKeepalive ms) = ms < 2 ^ 32
+IsGivenCommand GetReport = Unit {0}
+IsGivenCommand Close = Unit {0}
+
+abbrev pub AreLawfulClientMessages : ℕ → List ClientMessage → Type 0
+AreLawfulClientMessages limit [] = Unit {0}
+AreLawfulClientMessages limit (m ∷ ms) = IsLawfulClientMessage limit m × AreLawfulClientMessages limit ms
