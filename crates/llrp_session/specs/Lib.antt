@@ -15,5 +15,4 @@ pub mod LawfulWords
 pub mod MessageWorld
 pub mod ReadWords
 pub mod TableLaws
-pub mod LawfulWords
 pub mod LawfulStates
