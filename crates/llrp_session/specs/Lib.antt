@@ -14,5 +14,6 @@ pub mod Reading
 pub mod LawfulWords
 pub mod MessageWorld
 pub mod ReadWords
+pub mod ClientSteps
 pub mod TableLaws
 pub mod LawfulStates

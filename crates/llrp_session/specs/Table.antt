@@ -3,15 +3,11 @@ use Rattle.std.specs.Prelude.{ℕ, ◌<◌, suc, ◌+◌, ◌==◌, nat_lt, Bool
 use Rattle.llrp_session.specs.RoSpec.{RoSpec}
 pub use Rattle.llrp_session.specs.declared.words.RoState.{RoState}
 pub use Rattle.llrp_session.specs.declared.words.RoState.TheVariants.{Disabled, Inactive, Active}
+pub use Rattle.llrp_session.specs.declared.words.Viewed.{Viewed}
 
 -- an entry of a reader's table
 pub record Entry : Type 0 where
   pub spec : RoSpec
-  pub state : RoState
-
--- an entry of a client's view
-pub record Viewed : Type 0 where
-  pub id : ℕ
   pub state : RoState
 
 -- the states of a table, as a client sees them

@@ -2,9 +2,11 @@
 //! in, and messages come out.
 #![tactic(auto)]
 
+mod client;
 pub mod laws;
 mod reading;
 mod telling;
 mod words;
 
+pub use client::{Client, CmdFault, CmdRefusal, TakeFault, TakeRefusal};
 pub use words::{Command, RoState, Sighting, Taken};
