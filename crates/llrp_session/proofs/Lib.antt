@@ -22,3 +22,5 @@ pub mod LawfulReaders
 pub mod ReportLemmas
 pub mod ToldOfLawful
 pub mod LawfulClients
+pub mod ViewLemmas
+pub mod CommandLemmas

@@ -102,7 +102,7 @@ unfoldable pub view_without : ℕ → List Viewed → List Viewed
 view_without n [] = []
 view_without n (v ∷ vs) = if names n v.id then view_without n vs else v ∷ view_without n vs
 
-abbrev new_viewed : ℕ → Viewed
+abbrev pub new_viewed : ℕ → Viewed
 new_viewed id = record { id = id; state = Disabled }
 
 unfoldable pub enter_view : ℕ → List Viewed → List Viewed

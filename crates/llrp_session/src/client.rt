@@ -87,6 +87,7 @@ impl Client {
 
     /// Takes a message of the reader. What answers it is appended to `out`. A message that is refused is handed back, and nothing
     /// changes.
+    #[tactic(auto, unfolding(crate::specs::ClientMachine::take))]
     pub fn take(&mut self, message: Message, out: &mut Vec<Message>) -> Result<Taken, TakeRefusal>
         // The machine's step, with the messages that it sends.
         ensures step { IfOk result (λ taken. let step = machine.take self.old message.id (heard_of message) in

@@ -1,6 +1,7 @@
 //! A client's view: the ROSpecs that it added with their states, in rising order of ids.
 
-ghost use Rattle.std.specs.Prelude.{◌≡◌, OnOk, OnErr};
+ghost use Rattle.std.specs.Prelude.{◌≡◌, ◌<◌, ◌≤◌, length, slice_set, IfOk, IfErr, OnOk, OnErr};
+ghost use Rattle.std.specs.List.{insert};
 ghost use Rattle.llrp_session.specs.Table as table;
 
 use crate::words::{RoState, Viewed};
@@ -14,6 +15,7 @@ fn names(n: u32, id: u32) -> bool
 }
 
 /// The state of a ROSpec.
+#[tactic(auto, unfolding(crate::specs::Table::viewed_state))]
 pub(super) fn state(view: &[Viewed], id: u32) -> Option<RoState>
     ensures { result ≡ table.viewed_state id view.now }
 {
@@ -34,23 +36,30 @@ pub(super) fn enter(view: &mut Vec<Viewed>, id: u32) -> Result<(), AllocError>
         id,
         state: RoState::Disabled,
     };
-    let place = place(view.as_slice(), id);
-    if place < view.len() && view[place].id == id {
-        view[place] = entered;
-    } else {
-        view.insert(place, entered)?;
+    match place(view.as_slice(), id) {
+        Ok(i) => view[i] = entered,
+        Err(i) => view.insert(i, entered)?,
     }
     Ok(())
 }
 
-/// Where a ROSpec stands or would stand: before the first one whose id is not below its own.
-fn place(view: &[Viewed], id: u32) -> usize {
+/// Where a ROSpec stands, or else where it is to be inserted.
+#[tactic(auto, using(crate::proofs::ViewLemmas::entering))]
+fn place(view: &[Viewed], id: u32) -> Result<usize, usize>
+    ensures there { IfOk result (λ i. i < length view.now) }
+    ensures replaced { IfOk result (λ i. table.enter_view id view.now ≡ slice_set view.now i (table.new_viewed id)) }
+    ensures within { IfErr result (λ i. i ≤ length view.now) }
+    ensures inserted { IfErr result (λ i. table.enter_view id view.now ≡ insert view.now i (table.new_viewed id)) }
+{
     for (i, viewed) in view.iter().enumerate() {
-        if id <= viewed.id {
-            return i;
+        if id == viewed.id {
+            return Ok(i);
+        }
+        if id < viewed.id {
+            return Err(i);
         }
     }
-    view.len()
+    Err(view.len())
 }
 
 /// Removes a ROSpec, or all for 0.
@@ -60,46 +69,60 @@ pub(super) fn remove(view: &mut Vec<Viewed>, n: u32)
     view.retain(|viewed| !names(n, viewed.id));
 }
 
-/// Makes a ROSpec Inactive where it is Disabled, or all that are for 0.
+/// Enables a ROSpec, or all for 0.
+#[tactic(auto, using(crate::proofs::ViewLemmas::changing))]
 pub(super) fn enable(view: &mut Vec<Viewed>, n: u32)
     ensures { view.new.items ≡ table.change_view (table.enabling n) view.old.items }
 {
     for viewed in view.iter_mut() {
-        if names(n, viewed.id) {
-            viewed.state = enabled(viewed.state);
-        }
+        viewed.state = enabled(n, *viewed);
     }
 }
 
-/// The state after a ROSpec is enabled.
-fn enabled(state: RoState) -> RoState
-    ensures { result ≡ table.enabled state }
+/// The state of a ROSpec after one, or all for 0, was enabled: a Disabled one becomes Inactive.
+fn enabled(n: u32, viewed: Viewed) -> RoState
+    ensures { result ≡ table.enabling n viewed.id viewed.state }
 {
-    match state {
-        RoState::Disabled => RoState::Inactive,
-        RoState::Inactive => RoState::Inactive,
-        RoState::Active => RoState::Active,
+    match viewed.state {
+        RoState::Disabled if names(n, viewed.id) => RoState::Inactive,
+        state => state,
     }
 }
 
-/// Makes a ROSpec Disabled, or all for 0.
+/// Disables a ROSpec, or all for 0.
+#[tactic(auto, using(crate::proofs::ViewLemmas::changing))]
 pub(super) fn disable(view: &mut Vec<Viewed>, n: u32)
     ensures { view.new.items ≡ table.change_view (table.disabling n) view.old.items }
 {
     for viewed in view.iter_mut() {
-        if names(n, viewed.id) {
-            viewed.state = RoState::Disabled;
-        }
+        viewed.state = disabled(n, *viewed);
     }
 }
 
-/// Sets the state of a ROSpec that is there.
+/// The state of a ROSpec after one, or all for 0, was disabled.
+fn disabled(n: u32, viewed: Viewed) -> RoState
+    ensures { result ≡ table.disabling n viewed.id viewed.state }
+{
+    if names(n, viewed.id) {
+        RoState::Disabled
+    } else {
+        viewed.state
+    }
+}
+
+/// Sets the state of a ROSpec, where it is there.
+#[tactic(auto, using(crate::proofs::ViewLemmas::changing))]
 pub(super) fn set(view: &mut Vec<Viewed>, id: u32, to: RoState)
     ensures { view.new.items ≡ table.change_view (table.setting id to) view.old.items }
 {
     for viewed in view.iter_mut() {
-        if id == viewed.id {
-            viewed.state = to;
-        }
+        viewed.state = moved(id, to, *viewed);
     }
+}
+
+/// The state of a ROSpec after that of an id was set.
+fn moved(id: u32, to: RoState, viewed: Viewed) -> RoState
+    ensures { result ≡ table.setting id to viewed.id viewed.state }
+{
+    if id == viewed.id { to } else { viewed.state }
 }
