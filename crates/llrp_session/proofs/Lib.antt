@@ -1,10 +1,3 @@
-pub mod MessageReading
-pub mod MessageWorlds
-pub mod LawfulMessages
-pub mod LawfulParts
-pub mod ToldMessages
-pub mod ReadFields
-pub mod OnlyRoSpec
 pub mod States
 pub mod Orderly
 pub mod Following
@@ -22,5 +15,13 @@ pub mod LawfulReaders
 pub mod ReportLemmas
 pub mod ToldOfLawful
 pub mod LawfulClients
+pub mod MessageReading
+pub mod MessageWorlds
+pub mod LawfulMessages
+pub mod LawfulParts
+pub mod ToldMessages
+pub mod ReadFields
+pub mod OnlyRoSpec
+pub mod SendableWorlds
 pub mod ViewLemmas
 pub mod CommandLemmas

@@ -8,12 +8,12 @@ pub mod Sightings
 pub mod ClientMachine
 pub mod World
 pub mod Agreement
+pub mod TableLaws
+pub mod LawfulWords
+pub mod LawfulStates
 pub mod ReaderMessages
 pub mod ClientMessages
 pub mod Reading
-pub mod LawfulWords
 pub mod MessageWorld
 pub mod ReadWords
 pub mod ClientSteps
-pub mod TableLaws
-pub mod LawfulStates

@@ -4,4 +4,6 @@ pub(crate) mod find;
 pub(crate) mod hearing;
 pub(crate) mod request;
 pub(crate) mod rospec;
+#[cfg(test)]
+mod tests;
 pub(crate) mod words;

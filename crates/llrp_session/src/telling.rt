@@ -8,6 +8,8 @@ ghost use Rattle.llrp_session.specs.ReaderMessages.{parameter as the_parameter};
 pub(crate) mod client;
 pub(crate) mod reader;
 pub(crate) mod report;
+#[cfg(test)]
+mod tests;
 
 use llrp_tree::{Message, MsgKind, Node, Nodes, Octets, ParamKind};
 use std::alloc::{AllocError, Global};

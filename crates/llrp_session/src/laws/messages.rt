@@ -1,6 +1,6 @@
 //! Laws of the messages that the words of the machines are.
 
-ghost use Rattle.std.specs.Prelude.{◌≡◌, ◌≤◌, ℕ, List};
+ghost use Rattle.std.specs.Prelude.{◌≡◌, ◌<◌, ◌≤◌, ◌^◌, ℕ, List};
 ghost use Rattle.llrp_tree.specs.declared.TheConstants.{MAX_LIMIT};
 ghost use Rattle.llrp_session.specs.Words.{ReaderMessage, ClientMessage, heard, request};
 ghost use Rattle.llrp_session.specs.ReaderMessages.{reader_message};
@@ -8,7 +8,7 @@ ghost use Rattle.llrp_session.specs.ClientMessages.{client_message};
 ghost use Rattle.llrp_session.specs.Reading.{request_of, heard_of};
 ghost use Rattle.llrp_session.specs.LawfulWords.{IsSendable, IsLawfulReaderMessage, IsLawfulClientMessage, SaysRoSpec};
 ghost use Rattle.llrp_session.specs.World.{WorldEvent, run, opening};
-ghost use Rattle.llrp_session.specs.MessageWorld.{run_messages, message_opening, in_messages, AreOfRoSpecs};
+ghost use Rattle.llrp_session.specs.MessageWorld.{run_messages, message_opening, in_messages, AreOfRoSpecs, AreGiven, AreSendable};
 
 /// What is read in the message of a word is that word.
 #[tactic(auto, using(crate::proofs::MessageReading::heard_back, crate::proofs::MessageReading::request_back))]
@@ -29,4 +29,13 @@ pub fn messages_are_lawful()
 pub fn worlds_agree()
     ensures { (limit reader_first client_first : ℕ) (events : List WorldEvent) → AreOfRoSpecs events →
         run_messages events (message_opening limit reader_first client_first) ≡ in_messages (run events (opening limit reader_first client_first)) }
+{}
+
+/// Whatever happens to a client and a reader, each message on its way is lawful and within the limit, so that making it is
+/// never refused but for memory.
+pub fn messages_sent_are_lawful()
+    ensures up { (limit reader_first client_first : ℕ) (events : List WorldEvent) → 4096 ≤ limit → limit ≤ MAX_LIMIT → reader_first < 2 ^ 32 → AreGiven events →
+        AreSendable limit (run_messages events (message_opening limit reader_first client_first)).up }
+    ensures down { (limit reader_first client_first : ℕ) (events : List WorldEvent) → 4096 ≤ limit → limit ≤ MAX_LIMIT → reader_first < 2 ^ 32 → AreGiven events →
+        AreSendable limit (run_messages events (message_opening limit reader_first client_first)).down }
 {}
