@@ -26,3 +26,5 @@ pub mod SendableWorlds
 pub mod MessagesAgree
 pub mod TableChanges
 pub mod Adding
+pub mod ViewLemmas
+pub mod CommandLemmas

@@ -19,3 +19,4 @@ pub mod ReadWords
 pub mod MessageAgreement
 pub mod ReaderSteps
 pub mod ReaderParts
+pub mod ClientSteps

@@ -4,11 +4,7 @@ use Rattle.llrp_session.specs.RoSpec.{RoSpec}
 pub use Rattle.llrp_session.specs.declared.reader.table.Entry.{Entry}  -- an entry of a reader's table: a ROSpec and its state
 pub use Rattle.llrp_session.specs.declared.words.RoState.{RoState}
 pub use Rattle.llrp_session.specs.declared.words.RoState.TheVariants.{Disabled, Inactive, Active}
-
--- an entry of a client's view
-pub record Viewed : Type 0 where
-  pub id : ℕ
-  pub state : RoState
+pub use Rattle.llrp_session.specs.declared.words.Viewed.{Viewed}  -- an entry of a client's view
 
 -- the states of a table, as a client sees them
 abbrev pub states : List Entry → List Viewed
@@ -102,7 +98,7 @@ unfoldable pub view_without : ℕ → List Viewed → List Viewed
 view_without n [] = []
 view_without n (v ∷ vs) = if names n v.id then view_without n vs else v ∷ view_without n vs
 
-abbrev new_viewed : ℕ → Viewed
+abbrev pub new_viewed : ℕ → Viewed
 new_viewed id = record { id = id; state = Disabled }
 
 unfoldable pub enter_view : ℕ → List Viewed → List Viewed

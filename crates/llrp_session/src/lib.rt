@@ -2,12 +2,14 @@
 //! in, and messages come out.
 #![tactic(auto)]
 
+mod client;
 pub mod laws;
 mod reader;
 mod reading;
 mod telling;
 mod words;
 
+pub use client::{Client, CmdFault, CmdRefusal, TakeFault, TakeRefusal};
 pub use reader::Reader;
 pub use reader::events::{ReaderIn, StepFault, StepRefusal};
 pub use words::{Command, RoState, Sighting, Taken};

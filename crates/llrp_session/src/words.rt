@@ -111,6 +111,14 @@ pub(crate) struct Pending {
     pub rospec: u32,
 }
 
+/// A ROSpec of a client's view.
+#[derive(Clone, Copy, Debug, PartialEq, Eq)]
+pub(crate) struct Viewed {
+    /// Its ROSpecID.
+    pub id: u32,
+    pub state: RoState,
+}
+
 /// Which parts of a TagReportData are reported (LLRP 1.1, section 14).
 #[derive(Clone, Copy, Debug, PartialEq, Eq)]
 pub(crate) struct ContentSelector {

@@ -1,0 +1,7 @@
+use Rattle.std.proofs.Common.{◌≡◌}
+use Rattle.llrp_session.specs.Table.{setting}
+use Rattle.llrp_session.proofs.ViewLemmas.{changed_below}
+use Rattle.llrp_session.proofs.client.view.set.Given as goal
+
+abbrev pub invariant-loop-viewed : goal.invariant-loop-viewed
+invariant-loop-viewed l = l.viewed-items ≡ changed_below (setting l.id l.to) l.viewed-index l.initial.viewed-items

@@ -1,0 +1,119 @@
+//! The client: the requests that it sends, and the messages of its reader that it takes.
+
+ghost use Rattle.std.specs.Prelude.{◌≡◌, ◌≤◌, ◌++◌, ◌∷◌, [], map, Ok, OnOk, OnErr, IfOk, IfErr};
+ghost use Rattle.llrp_session.specs.Words.{Asks};
+ghost use Rattle.llrp_session.specs.Table.{viewed_state};
+ghost use Rattle.llrp_session.specs.LawfulWords.{AddsRoSpec};
+ghost use Rattle.llrp_session.specs.ClientMessages.{client_message};
+ghost use Rattle.llrp_session.specs.Reading.{heard_of};
+ghost use Rattle.llrp_session.specs.ClientMachine as machine;
+ghost use Rattle.llrp_session.specs.ClientSteps.{IsCmdFault, IsTakeFault, sent_by};
+
+mod commands;
+mod refusal;
+mod taking;
+mod view;
+
+use crate::words::{ClientPhase, Command, Pending, RoState, Taken, Viewed};
+use llrp_tree::{MAX_LIMIT, Message};
+pub use refusal::{CmdFault, CmdRefusal, TakeFault, TakeRefusal};
+use std::alloc::Global;
+use std::marker::Model;
+
+/// A client of one reader. Contracts see it as the written machine.
+#[derive(Drop)]
+pub struct Client {
+    alloc: Global,
+    /// The greatest length of a message, in octets.
+    limit: u32,
+    phase: ClientPhase,
+    pending: Option<Pending>,
+    /// The ROSpecs that it added, in rising order of ids.
+    view: Vec<Viewed>,
+    /// The next message id; above 4,294,967,295 where they are spent.
+    next_id: u64,
+}
+
+impl Model for Client {
+    ghost use Rattle.std.specs.Prelude.{◌≤◌};
+    ghost use Rattle.llrp_tree.specs.declared.TheConstants.{MAX_LIMIT};
+    ghost use Rattle.llrp_session.specs.ClientMachine.{Client as ClientValue};
+
+    ghost Value = { ClientValue };
+
+    ghost view = { λ a. record { limit = a.limit; phase = a.phase; pending = a.pending; view = a.view.items; next_id = a.next_id } };
+
+    ghost invariant = { λ a. a.limit ≤ MAX_LIMIT };
+}
+
+impl Client {
+    /// A client as new, which waits for its reader to accept the connection. It takes no memory. No message that it sends is
+    /// longer than `limit` octets, and the ids of its requests rise from `first_id`.
+    pub fn new(alloc: Global, limit: u32, first_id: u32) -> Client
+        requires least { 4096 ≤ limit }
+        requires greatest { limit ≤ MAX_LIMIT }
+        requires first { 1 ≤ first_id }
+        ensures { result ≡ machine.new_client limit first_id }
+    {
+        Client {
+            alloc,
+            limit,
+            phase: ClientPhase::Fresh,
+            pending: None,
+            view: Vec::new(alloc),
+            next_id: first_id as u64,
+        }
+    }
+
+    /// Sends the request of a command, appended to `out`. A command that is refused is handed back, and nothing changes.
+    pub fn command(&mut self, command: Command, out: &mut Vec<Message>) -> Result<(), CmdRefusal>
+        requires { AddsRoSpec command }
+
+        // The machine's step: the message with the next id is sent.
+        ensures step { OnOk result (machine.command self.old command ≡ Ok (record { message = record { id = self.old.next_id; word = Asks command }; client = self.new })) }
+        ensures sent { OnOk result (out.new.items ≡ out.old.items ++ client_message (record { id = self.old.next_id; word = Asks command }) ∷ []) }
+
+        // The machine's refusal, or want of memory: all is as it was.
+        ensures refused { IfErr result (λ e. IsCmdFault (machine.command self.old command) e.fault) }
+        ensures handed_back { IfErr result (λ e. e.command ≡ command) }
+        ensures unchanged { OnErr result (self.new ≡ self.old) }
+        ensures unsent { OnErr result (out.new.items ≡ out.old.items) }
+    {
+        match self.refusal(&command) {
+            Some(fault) => Err(CmdRefusal { fault, command }),
+            None => self.send(command, out),
+        }
+    }
+
+    /// Takes a message of the reader. What answers it is appended to `out`. A message that is refused is handed back, and nothing
+    /// changes.
+    #[tactic(auto, unfolding(crate::specs::ClientMachine::take))]
+    pub fn take(&mut self, message: Message, out: &mut Vec<Message>) -> Result<Taken, TakeRefusal>
+        // The machine's step, with the messages that it sends.
+        ensures step { IfOk result (λ taken. let step = machine.take self.old message.id (heard_of message) in
+            step ≡ Ok (record { taken = taken; sent = sent_by step; client = self.new })) }
+        ensures sent { OnOk result (out.new.items ≡ out.old.items ++ map client_message (sent_by (machine.take self.old message.id (heard_of message)))) }
+
+        // The machine's refusal, or want of memory: all is as it was.
+        ensures refused { IfErr result (λ e. IsTakeFault (machine.take self.old message.id (heard_of message)) e.fault) }
+        ensures handed_back { IfErr result (λ e. e.message ≡ message) }
+        ensures unchanged { OnErr result (self.new ≡ self.old) }
+        ensures unsent { OnErr result (out.new.items ≡ out.old.items) }
+    {
+        match self.phase {
+            ClientPhase::Fresh => self.take_first(message),
+            ClientPhase::Ready => self.take_next(message, out),
+            ClientPhase::Closed => Err(TakeRefusal {
+                fault: TakeFault::Closed,
+                message,
+            }),
+        }
+    }
+
+    /// The state of a ROSpec that this client added, by its ROSpecID.
+    pub fn view(&self, id: u32) -> Option<RoState>
+        ensures { result ≡ viewed_state id self.now.view }
+    {
+        view::state(self.view.as_slice(), id)
+    }
+}

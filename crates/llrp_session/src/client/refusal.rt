@@ -1,0 +1,46 @@
+//! Why a client refuses a command or a message.
+
+use crate::words::Command;
+use llrp_tree::Message;
+
+/// Why a client refuses a command; where several hold, the first of these.
+#[derive(Clone, Copy, Debug, PartialEq, Eq)]
+pub enum CmdFault {
+    /// The connection is closed.
+    Closed,
+    /// The reader has not accepted the connection yet.
+    NotReady,
+    /// A request waits for its response.
+    Busy,
+    /// The message would be longer than the limit.
+    OverLimit,
+    /// The message ids are used up.
+    IdsSpent,
+    /// Memory ran out.
+    Memory,
+}
+
+/// A command that was refused, handed back.
+#[derive(Drop)]
+pub struct CmdRefusal {
+    pub fault: CmdFault,
+    pub command: Command,
+}
+
+/// Why a client refuses a message; where several hold, the first of these.
+#[derive(Clone, Copy, Debug, PartialEq, Eq)]
+pub enum TakeFault {
+    /// The connection is closed.
+    Closed,
+    /// A reader sends no such message now.
+    Unexpected,
+    /// Memory ran out.
+    Memory,
+}
+
+/// A message that was refused, handed back.
+#[derive(Drop)]
+pub struct TakeRefusal {
+    pub fault: TakeFault,
+    pub message: Message,
+}
