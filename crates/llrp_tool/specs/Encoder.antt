@@ -1,10 +1,12 @@
 -- Where an encoder stands after a front of a text, and how it stops.
-use Rattle.std.specs.Prelude.{◌≡◌, ℕ, ◌⊎◌, List, [], ◌∷◌, ◌++◌, length}
+use Rattle.std.specs.Prelude.{◌≡◌, ℕ, ◌≤◌, ◌⊎◌, List, [], ◌∷◌, ◌++◌, length}
 use Rattle.std.specs.List.{AllZip}
 use Rattle.llrp_tree.specs.Tree.{MessageTree}
 use Rattle.llrp_tool.specs.declared.encode.Encoder.{Encoder}
 use Rattle.llrp_tool.specs.declared.line.Line.{Line}
 use Rattle.llrp_tool.specs.declared.line.Line.TheVariants as said
+use Rattle.llrp_tool.specs.declared.line.LineErr.{LineErr}
+use Rattle.llrp_tool.specs.declared.line.LineErr.TheVariants as unread
 use Rattle.llrp_tool.specs.declared.fault.Refusal.{Refusal}
 use Rattle.llrp_tool.specs.declared.fault.ToolErr.{ToolErr}
 use Rattle.llrp_tool.specs.declared.fault.ToolErr.TheVariants.{Listing, Hex, Read, Write, Bound, Memory}
@@ -31,6 +33,11 @@ said_level (said.Parameter line) = line.level
 abbrev pub said_node : Line → NodeLine
 said_node (said.Message line) = message_node line
 said_node (said.Parameter line) = parameter_node line
+
+-- the line can stand where so many lines are open: a message's can anywhere
+abbrev pub CanStand : ℕ → Line → Type 0
+CanStand depth (said.Message line) = Unit {0}
+CanStand depth (said.Parameter line) = (1 ≤ line.level) × (line.level ≤ depth)
 
 -- Where an encoder stands after a front of a text: these messages are closed, and their bytes were handed on or are gathered in out.
 pub record StandsAt (limit : ℕ) (start now : SinkLog) (text : List ℕ) (entries : List Entry) (number : ℕ) (line out : List ℕ) : Type 0 where
@@ -83,6 +90,11 @@ Refusing number out why w0 w1 Memory = ⊥
 Refusing number out why w0 w1 Read = ⊥
 Refusing number out why w0 w1 Bound = ⊥
 Refusing number out why w0 w1 Hex = ⊥
+
+-- what is told where a line is not read
+abbrev pub RefusingLine : LineErr → ℕ → List ℕ → SinkLog → SinkLog → ToolErr → Type 0
+RefusingLine (unread.Refused reason) number out w0 w1 e = Refusing number out reason w0 w1 e
+RefusingLine unread.Memory number out w0 w1 e = (e ≡ Memory) × (w1 ≡ w0)
 
 -- what is told where a line can't be closed
 abbrev pub RefusingClose : CloseErr → List ℕ → SinkLog → SinkLog → ToolErr → Type 0

@@ -1,9 +1,10 @@
 -- Lines that are open, as the encoder holds them, and how they are closed and begun.
-use Rattle.std.specs.Prelude.{◌≡◌, ℕ, suc, ◌+◌, ◌≤◌, List, [], ◌∷◌, ◌++◌, length, map, Option, Some, None}
+use Rattle.std.specs.Prelude.{◌≡◌, ℕ, suc, ◌+◌, ◌<◌, ◌≤◌, List, [], ◌∷◌, ◌++◌, length, map, Option, Some, None}
 use Rattle.llrp_tree.specs.Tree as tree
 use Rattle.llrp_tree.specs.Tree.{MessageTree}
 use Rattle.llrp_tree.specs.Frame.{Frame}
 use Rattle.llrp_tool.specs.declared.fault.Refusal.{Refusal}
+use Rattle.llrp_tool.specs.declared.fault.Refusal.TheVariants.{OverLimit}
 use Rattle.llrp_tool.specs.declared.line.MessageLine.{MessageLine}
 use Rattle.llrp_tool.specs.declared.open_lines.OpenParameter.{OpenParameter}
 use Rattle.llrp_tool.specs.declared.open_lines.OpenMessage.{OpenMessage}
@@ -103,6 +104,10 @@ CannotClose limit e (Refused number reason) = (number ≡ e.number) × (closing 
 -- the line can be closed
 abbrev pub CanClose : ℕ → Entry → Type 0
 CanClose limit e = closing limit e.begun.head e.begun.below ≡ None
+
+-- a message's line with no fault can be closed, unless the message is longer than the limit
+abbrev pub ClosesWithin : ℕ → Entry → ℕ → Type 0
+ClosesWithin limit e octets = (octets ≤ limit → CanClose limit e) × (limit < octets → closing limit e.begun.head e.begun.below ≡ Some OverLimit)
 
 -- closing lines until so many are open stopped
 abbrev pub ClosingStops : ℕ → ℕ → List Entry → CloseErr → Type 0

@@ -3,9 +3,9 @@
 
 ghost use Rattle.std.specs.Prelude.{◌++◌, ◌+◌, ◌<◌, ◌≡◌, ◌≤◌, ◌^◌, ◌∷◌, IfErr, IsErrAnd, IsTrue, List, MatchResult, OnErr, OnOk, [], length, ℕ};
 ghost use Rattle.llrp_tool.specs.Device.{IsFreshSource, SinkLog};
-ghost use Rattle.llrp_tool.specs.Encoder.{Finished, Opened, Refusing, RefusingClose, Stands, Stopped, StoppedAtEnd, WroteEncoding, said_level};
+ghost use Rattle.llrp_tool.specs.Encoder.{CanStand, Finished, Opened, Refusing, RefusingClose, RefusingLine, Stands, StandsAt, Stopped, StoppedAtEnd, WroteEncoding, said_level};
 ghost use Rattle.llrp_tool.specs.Encoding.{EncodeStopped, Encoded};
-ghost use Rattle.llrp_tool.specs.LineReading.{ReadsLine};
+ghost use Rattle.llrp_tool.specs.LineReading.{ReadsLine, SaidIs};
 ghost use Rattle.llrp_tool.specs.OpenLines.{ClosingStops, entries_in};
 ghost use Rattle.llrp_tool.specs.LineChecks.{LONGEST_LINE};
 ghost use Rattle.llrp_tool.specs.Splits.{Lacks};
@@ -98,7 +98,7 @@ impl Encoder {
     /// The next line is open, once the open lines of its level or deeper are closed.
     fn open_line(&mut self, alloc: Global, line: Line) -> Result<(), CloseErr>
         requires number { self.old.number + 1 < 2 ^ 64 }
-        requires level { said_level line ≤ length (entries_in self.old.pending) }
+        requires level { CanStand (length (entries_in self.old.pending)) line }
         ensures opened { OnOk result (Opened self.old.limit (entries_in self.old.pending) (entries_in self.new.pending) line (self.old.number + 1) self.old.out.items self.new.out.items) }
         ensures stopped { IfErr result (ClosingStops self.old.limit (said_level line) (entries_in self.old.pending)) }
         ensures kept { OnErr result (self.new.out.items ≡ self.old.out.items) }
@@ -132,6 +132,18 @@ impl Encoder {
         Err(ToolErr::Listing { line, reason })
     }
 
+    /// What is told where the next line is not read.
+    fn refuse_line<W: Sink>(&mut self, error: LineErr, w: &mut W) -> Result<(), ToolErr>
+        requires sink { (W.log w.old).failures + 1 < 2 ^ 64 }
+        requires number { self.old.number + 1 < 2 ^ 64 }
+        ensures { IsErrAnd result (λ e. RefusingLine error (self.old.number + 1) self.old.out.items (W.log w.old) (W.log w.new) e) }
+    {
+        match error {
+            LineErr::Refused(reason) => self.refuse(self.number + 1, reason, w),
+            LineErr::Memory => Err(ToolErr::Memory),
+        }
+    }
+
     /// What is told where a line can't be closed.
     fn refuse_closing<W: Sink>(&mut self, error: CloseErr, w: &mut W) -> Result<(), ToolErr>
         requires sink { (W.log w.old).failures + 1 < 2 ^ 64 }
@@ -140,6 +152,31 @@ impl Encoder {
         match error {
             CloseErr::Refused { number, reason } => self.refuse(number, reason, w),
             CloseErr::Memory => Err(ToolErr::Memory),
+        }
+    }
+
+    /// The begun line, ended by this part of it, says this. The next line begins.
+    fn take_line<W: Sink>(&mut self, alloc: Global, line: Line, w: &mut W) -> Result<(), ToolErr>
+        requires sink { (W.log w.old).failures + 1 < 2 ^ 64 }
+        requires number { self.old.number + 1 < 2 ^ 64 }
+        requires level { CanStand (length (entries_in self.old.pending)) line }
+        ensures stands { (start : SinkLog) (text begun part : List ℕ) → StandsAt self.old.limit start (W.log w.old) text (entries_in self.old.pending) self.old.number begun self.old.out.items
+            → Lacks 10 part → SaidIs (length (entries_in self.old.pending)) (begun ++ part) line
+            → MatchResult result
+            (λ _. Stands start (W.log w.new) (text ++ (part ++ (10 ∷ []))) self.new)
+            (Stopped self.old.limit start (W.log w.new) (text ++ (part ++ (10 ∷ [])))) }
+        ensures number { OnOk result (self.new.number ≤ self.old.number + 1) }
+        ensures limit { OnOk result (self.new.limit ≡ self.old.limit) }
+        ensures sink { OnOk result ((W.log w.new).failures ≡ (W.log w.old).failures) }
+    {
+        match self.open_line(alloc, line) {
+            Err(error) => self.refuse_closing(error, w),
+            Ok(()) => {
+                hand_on_pieces(&mut self.out, w)?;
+                self.number += 1;
+                self.line.clear();
+                Ok(())
+            }
         }
     }
 
@@ -155,26 +192,10 @@ impl Encoder {
         ensures limit { OnOk result (self.new.limit ≡ self.old.limit) }
         ensures sink { OnOk result ((W.log w.new).failures ≡ (W.log w.old).failures) }
     {
-        let line = match self.read(alloc, part) {
-            Ok(line) => line,
-            Err(LineErr::Refused(reason)) => return self.refuse(self.number + 1, reason, w),
-            Err(LineErr::Memory) => return Err(ToolErr::Memory),
-        };
-        match self.open_line(alloc, line) {
-            Ok(()) => self.go_past_line(w),
-            Err(error) => self.refuse_closing(error, w),
+        match self.read(alloc, part) {
+            Ok(line) => self.take_line(alloc, line, w),
+            Err(error) => self.refuse_line(error, w),
         }
-    }
-
-    /// The line was opened: the next one begins.
-    fn go_past_line<W: Sink>(&mut self, w: &mut W) -> Result<(), ToolErr>
-        requires sink { (W.log w.old).failures + 1 < 2 ^ 64 }
-        requires number { self.old.number + 1 < 2 ^ 64 }
-    {
-        hand_on_pieces(&mut self.out, w)?;
-        self.number += 1;
-        self.line.clear();
-        Ok(())
     }
 
     /// The begun line goes on with this part of it, and isn't ended yet.
@@ -223,8 +244,9 @@ impl Encoder {
         ensures { (start : SinkLog) (text : List ℕ) → Stands start (W.log w.old) text self
             → MatchResult result (λ _. WroteEncoding self.limit start (W.log w.new) text) (StoppedAtEnd self.limit start (W.log w.new) text) }
     {
+        let number = self.number + 1;
         if !self.line.is_empty() {
-            return self.refuse(self.number + 1, Refusal::Line, w);
+            return self.refuse(number, Refusal::Line, w);
         }
         match self.close_all(alloc) {
             Ok(()) => hand_on(&mut self.out, w),

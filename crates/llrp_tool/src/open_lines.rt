@@ -1,11 +1,11 @@
 //! Lines that are open: those below which the next line may stand. Closing one makes its parameter or
 //! its message of it and of what stands below it.
 
-ghost use Rattle.std.specs.Prelude.{◌≡◌, ◌↔◌, ◌≤◌, [], ◌∷◌, length, IfErr, IfOk, OnErr, OnOk, ℕ};
+ghost use Rattle.std.specs.Prelude.{◌≡◌, ◌≤◌, [], ◌∷◌, length, IfErr, IfOk, OnErr, OnOk, ℕ};
 ghost use Rattle.llrp_tree.specs.Lawful.{message_octets};
 ghost use Rattle.llrp_tool.specs.LineReading.{message_node, parameter_node};
 ghost use Rattle.llrp_tool.specs.Encoder.{Finished};
-ghost use Rattle.llrp_tool.specs.OpenLines.{Begins, CanClose, CannotClose, Closed, ClosingStops, added, entries_of, entry, lines_below, message_entry, message_tree, parameter_entry, tree_of};
+ghost use Rattle.llrp_tool.specs.OpenLines.{Begins, CanClose, CannotClose, Closed, ClosesWithin, ClosingStops, added, entries_of, entry, lines_below, message_entry, message_tree, parameter_entry, tree_of};
 
 use crate::fault::Refusal;
 use crate::line::{MessageLine, ParameterLine};
@@ -61,7 +61,10 @@ fn parameter_of(top: OpenParameter) -> Result<Node, CloseErr>
         children,
     } = top;
     let ParameterLine {
-        kind, fields, tail, ..
+        kind,
+        fields,
+        tail,
+        ..
     } = line;
     match Node::new(kind, fields.as_slice(), tail, Nodes::new(children)) {
         Ok(node) => Ok(node),
@@ -75,7 +78,7 @@ fn parameter_of(top: OpenParameter) -> Result<Node, CloseErr>
 /// The message of a line and of the parameters below it.
 fn message_of(line: MessageLine, number: u64, children: Vec<Node>) -> Result<Message, CloseErr>
     ensures value { IfOk result (λ message. message ≡ message_tree line children.items) }
-    ensures closes { OnOk result ((limit : ℕ) → CanClose limit (entry (message_node line) (lines_below children.items) number) ↔ (message_octets (message_tree line children.items) ≤ limit)) }
+    ensures closes { OnOk result ((limit : ℕ) → ClosesWithin limit (entry (message_node line) (lines_below children.items) number) (message_octets (message_tree line children.items))) }
     ensures stopped { IfErr result (λ e. (limit : ℕ) → CannotClose limit (entry (message_node line) (lines_below children.items) number) e) }
 {
     let MessageLine {
@@ -84,13 +87,7 @@ fn message_of(line: MessageLine, number: u64, children: Vec<Node>) -> Result<Mes
         kind,
         fields,
     } = line;
-    match Message::new(
-        version,
-        id,
-        kind,
-        fields.as_slice(),
-        Nodes::new(children),
-    ) {
+    match Message::new(version, id, kind, fields.as_slice(), Nodes::new(children)) {
         Ok(message) => Ok(message),
         Err(refusal) => Err(CloseErr::Refused {
             number,
@@ -102,13 +99,13 @@ fn message_of(line: MessageLine, number: u64, children: Vec<Node>) -> Result<Mes
 /// Appends the octets of a message whose line alone is open, at most `limit`.
 fn append_message(
     alloc: Global,
-    open: OpenMessage,
+    alone: OpenMessage,
     out: &mut Vec<u8>,
     limit: u32,
 ) -> Result<(), CloseErr>
-    requires { open.lines.items ≡ [] }
-    ensures finished { OnOk result (Finished limit (entries_of open) out.old.items out.new.items) }
-    ensures stopped { IfErr result (ClosingStops limit 0 (entries_of open)) }
+    requires { alone.lines.items ≡ [] }
+    ensures finished { OnOk result (Finished limit (entries_of alone) out.old.items out.new.items) }
+    ensures stopped { IfErr result (ClosingStops limit 0 (entries_of alone)) }
     ensures kept { OnErr result (out.new.items ≡ out.old.items) }
 {
     let OpenMessage {
@@ -116,7 +113,7 @@ fn append_message(
         number,
         children,
         ..
-    } = open;
+    } = alone;
     let message = message_of(line, number, children)?;
     match encode_into(alloc, &message, out, limit) {
         Ok(()) => Ok(()),
@@ -150,7 +147,8 @@ impl OpenMessage {
 
     /// A parameter stands last below the innermost open line.
     fn add(&mut self, node: Node) -> Result<(), CloseErr>
-        ensures { OnOk result (entries_of self.new ≡ added node (entries_of self.old)) }
+        ensures added { OnOk result (entries_of self.new ≡ added node (entries_of self.old)) }
+        ensures memory { IfErr result (λ e. e ≡ CloseErr.Memory) }
     {
         match self.lines.pop() {
             Some(mut parent) => {
@@ -201,12 +199,7 @@ impl OpenMessage {
     }
 
     /// Closes all lines, and appends the octets of the message, at most `limit`.
-    pub fn finish(
-        mut self,
-        alloc: Global,
-        out: &mut Vec<u8>,
-        limit: u32,
-    ) -> Result<(), CloseErr>
+    pub fn finish(mut self, alloc: Global, out: &mut Vec<u8>, limit: u32) -> Result<(), CloseErr>
         ensures finished { OnOk result (Finished limit (entries_of self) out.old.items out.new.items) }
         ensures stopped { IfErr result (ClosingStops limit 0 (entries_of self)) }
         ensures kept { OnErr result (out.new.items ≡ out.old.items) }
