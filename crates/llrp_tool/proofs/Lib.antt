@@ -1,6 +1,7 @@
 pub mod AnswerLemmas
 pub mod Apart
 pub mod BodyWords
+pub mod Clear
 pub mod Closings
 pub mod CommandLemmas
 pub mod Cutting
@@ -25,6 +26,7 @@ pub mod TreeLines
 pub mod Unique
 pub mod DecimalWords
 pub mod LineSays
+pub mod LineShape
 pub mod LineWords
 pub mod Listed
 pub mod NumberWords

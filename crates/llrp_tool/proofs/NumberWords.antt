@@ -71,14 +71,14 @@ pub negative_read : (w : List ℕ) (n : ℕ) → numeral w ≡ Some n → 1 ≤ 
 negative_read w n is some few = let e : 256 - (256 - n) ≡ n = omega arith in (omega arith, omega arith, (numeral_is w n is).text ∙ ap decimal (sym e))
 
 -- a text of eight bits begins with a minus, or is that of a number from 0 to 127
-signed_positive : (n : ℕ) → n < 128 → signed_text n ≡ decimal n
+pub signed_positive : (n : ℕ) → n < 128 → signed_text n ≡ decimal n
 signed_positive n lt = let t : nat_lt n 128 ≡ true = grind arith in rw t refl
 
-signed_negative : (n : ℕ) → 128 ≤ n → signed_text n ≡ 45 ∷ decimal (256 - n)
+pub signed_negative : (n : ℕ) → 128 ≤ n → signed_text n ≡ 45 ∷ decimal (256 - n)
 signed_negative n le = let t : nat_lt n 128 ≡ false = grind arith in rw t refl
 
 -- no digits begin with a minus
-no_minus : (n : ℕ) → n < 128 → (ds : List ℕ) → 45 ∷ ds ≡ decimal n → ⊥
+pub no_minus : (n : ℕ) → n < 128 → (ds : List ℕ) → 45 ∷ ds ≡ decimal n → ⊥
 no_minus n lt ds e =
     let d = digits_of n (omega arith) in
     let t : all_ascii_digits (45 ∷ ds) ≡ true = ap all_ascii_digits e ∙ d.digits in

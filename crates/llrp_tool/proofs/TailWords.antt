@@ -29,11 +29,11 @@ or_false false b h = (refl, h)
 or_false true b h = cc
 
 -- a test of all numbers below a bound
-abbrev below : (ℕ → Bool) → ℕ → Bool
+abbrev pub below : (ℕ → Bool) → ℕ → Bool
 below test zero = true
 below test (suc n) = test n && below test n
 
-below-at : (test : ℕ → Bool) (n k : ℕ) → below test n ≡ true → k < n → test k ≡ true
+pub below-at : (test : ℕ → Bool) (n k : ℕ) → below test n ≡ true → k < n → test k ≡ true
 below-at test zero k h lt = absurd (omega arith)
 below-at test (suc n) k h lt = elim (cases_lt k n) [
   | inl less ↦ below-at test n k (right _ _ h) less
@@ -85,7 +85,7 @@ low (b ∷ bytes) h =
     let y : (nat_le 65 (get_or lower_digits (b % 16) 0) && nat_le (get_or lower_digits (b % 16) 0) 90) ≡ false = no_capital (b % 16) (omega arith) in
     rw (x, y) (low bytes h.1)
 
-bytes_fit : (bytes : List ℕ) → AreOctets bytes → IsBytes bytes
+pub bytes_fit : (bytes : List ℕ) → AreOctets bytes → IsBytes bytes
 bytes_fit [] h k = omega arith
 bytes_fit (b ∷ bytes) h zero = h.0
 bytes_fit (b ∷ bytes) h (suc k) = bytes_fit bytes h.1 k
@@ -154,11 +154,11 @@ all_read list octets rest new r lacks a =
     )
 
 -- numbers of 16 bits
-abbrev AreSmall : List ℕ → Type 0
+abbrev pub AreSmall : List ℕ → Type 0
 AreSmall [] = Unit {0}
 AreSmall (n ∷ ns) = (n < 2 ^ 16) × AreSmall ns
 
-words_small : (octets : List ℕ) → AreOctets octets → AreSmall (words_of octets)
+pub words_small : (octets : List ℕ) → AreOctets octets → AreSmall (words_of octets)
 words_small [] h = tt
 words_small (a ∷ []) h = tt
 words_small (a ∷ b ∷ octets) h = (omega (arith, h.0, h.1.0), words_small octets h.1.1)
