@@ -3,7 +3,9 @@ use Rattle.std.proofs.Common.{◌≡◌, ℕ, zero, suc, ◌+◌, ◌-◌, ◌<�
 use Rattle.std.proofs.lemmas.List.{append-nil}
 use Rattle.llrp_tree.specs.Tree as tree
 use Rattle.llrp_tree.specs.Tree.{MessageTree}
-use Rattle.llrp_tool.specs.ListingRules.{parameters_onto, parameters_of, lines_onto, row}
+use Rattle.llrp_schema.specs.declared.kinds.Kind.{Kind}
+use Rattle.llrp_schema.specs.declared.kinds.Kind.TheVariants.{Message, Parameter}
+use Rattle.llrp_tool.specs.ListingRules.{parameters_onto, parameters_of, message_of, lines_onto, row}
 use Rattle.llrp_tool.specs.MessageListing.{parameter_lines, message_lines, messages_lines}
 use Rattle.llrp_tool.specs.NodeLine.{NodeLine, parameter_line, message_line}
 use Rattle.llrp_tool.specs.OpenLines.{lines_below}
@@ -59,3 +61,20 @@ nodes_row [] = refl
 nodes_row (m ∷ ms) =
     ap (λ (z : List (ℕ × NodeLine)). ((0, message_line m) ∷ z) ++ nodes 0 (row ms)) (nodes_lines 1 m.children end ∙ append-nil (parameter_lines 1 m.children))
     ∙ ap (λ (z : List (ℕ × NodeLine)). message_lines m ++ z) (nodes_row ms)
+
+-- the messages of lines in a row
+abbrev messages_of : Forest NodeLine → List MessageTree
+messages_of end = []
+messages_of (node line below after) = one line.kind line.numbers below (messages_of after)
+  where
+    one : Kind → List ℕ → Forest NodeLine → List MessageTree → List MessageTree
+    one (Message kind) numbers below ms = message_of kind numbers below ∷ ms
+    one (Parameter kind) numbers below ms = ms
+
+messages_back : (ms : List MessageTree) → messages_of (row ms) ≡ ms
+messages_back [] = refl
+messages_back (m ∷ ms) = rw (messages_back ms) (ap (λ (z : tree.Forest). record m { children = z } ∷ ms) (parameters_back m.children))
+
+-- messages with the same lines are the same
+pub row_same : (ms ns : List MessageTree) → row ms ≡ row ns → ms ≡ ns
+row_same ms ns e = sym (messages_back ms) ∙ ap messages_of e ∙ messages_back ns

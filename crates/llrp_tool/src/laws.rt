@@ -1,6 +1,6 @@
 //! What holds of every frame, every stream and every text.
 
-ghost use Rattle.std.specs.Prelude.{List, ◌≤◌, ℕ};
+ghost use Rattle.std.specs.Prelude.{List, ℕ};
 ghost use Rattle.llrp_tool.specs.Cuts.{IsFrame};
 ghost use Rattle.llrp_tool.specs.Frame.{AreOctets};
 ghost use Rattle.llrp_tool.specs.ItemLaws.{HasOneItem, HasOneListing};
@@ -16,8 +16,8 @@ pub fn one_listing()
     ensures { (limit : ℕ) (stream : List ℕ) → AreOctets stream → HasOneListing limit stream }
 {}
 
-/// A text is the listing of one list of messages, each within the limit, or has one first refusal,
-/// and never both.
+/// A text is the listing of one row of messages' lines at most, each with those below it, or has one
+/// first refusal at most, and never both.
 pub fn listed_or_refused()
-    ensures { (limit : ℕ) (text : List ℕ) → 10 ≤ limit → ListedOrRefused limit text }
+    ensures { (limit : ℕ) (text : List ℕ) → ListedOrRefused limit text }
 {}
