@@ -14,7 +14,7 @@ use Rattle.llrp_tool.specs.declared.sighting.Sighting.{Sighting}
 use Rattle.llrp_tool.specs.declared.script.Action.{Action}
 use Rattle.llrp_tool.specs.declared.script.Action.TheVariants.{Seen, Tick}
 use Rattle.llrp_tool.specs.declared.script.Entry.{Entry}
-use Rattle.llrp_tool.specs.Encoder.{Lacks, IsSplit}
+use Rattle.llrp_tool.specs.Splits.{Lacks, IsSplit}
 use Rattle.llrp_tool.specs.Script.{IsSightingLine, IsActionLine, IsEntryLine, IsSightingInRange, IsActionInRange, IsInRange, IsLawful, MOST_ENTRIES, MayFollow, Continues, NoneContinues}
 use Rattle.llrp_tool.proofs.ScriptWords.{one_split, lacks_not, lacks_append, decimal_lacks, signed_lacks}
 use Rattle.llrp_tool.proofs.WordTexts.{text_lacks}

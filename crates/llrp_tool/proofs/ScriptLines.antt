@@ -6,7 +6,7 @@ use Rattle.llrp_tool.specs.declared.sighting.Sighting.{Sighting}
 use Rattle.llrp_tool.specs.declared.script.Action.{Action}
 use Rattle.llrp_tool.specs.declared.script.Action.TheVariants.{Seen, Tick}
 use Rattle.llrp_tool.specs.declared.script.Entry.{Entry}
-use Rattle.llrp_tool.specs.Encoder.{Lacks, IsSplit}
+use Rattle.llrp_tool.specs.Splits.{Lacks, IsSplit}
 use Rattle.llrp_tool.specs.Script.{IsSightingLine, IsActionLine, IsEntryLine, IsSightingInRange, IsActionInRange, IsInRange}
 use Rattle.llrp_tool.proofs.ScriptWords.{lacks_not, one_split, decimal_lacks, signed_lacks, two_words, no_second}
 

@@ -8,9 +8,9 @@ use Rattle.std.specs.Str.{all_ascii_digits, bytes_eq}
 use Rattle.std.proofs.lemmas.Bool.{eq-eqb, ne_eqb}
 use Rattle.std.proofs.lemmas.Fmt.{digits_decimal}
 use Rattle.std.proofs.lemmas.Slice.Eq.{bytes_eq-Decides}
-use Rattle.llrp_tool.specs.Encoder.{Lacks, IsSplit}
-use Rattle.llrp_tool.specs.Reading.{numeral}
-use Rattle.llrp_tool.proofs.DecimalWords.{own, numeral_back}
+use Rattle.llrp_tool.specs.Splits.{Lacks, IsSplit}
+use Rattle.llrp_tool.specs.Numeral.{numeral}
+use Rattle.llrp_tool.proofs.DecimalWords.{digits_of, numeral_back}
 
 -- both of two tests
 pub left : (a b : Bool) → (a && b) ≡ true → a ≡ true
@@ -66,7 +66,7 @@ digits_lack byte (c ∷ w) low h = (ne_eqb c byte (λ e. apart c (left (is_ascii
     apart c d e = let t = high c d in omega (arith, t, e)
 
 pub decimal_lacks : (byte n : ℕ) → byte < 48 → n < 2 ^ 64 → Lacks byte (decimal n)
-decimal_lacks byte n low lt = digits_lack byte (decimal n) low (digits_decimal own n lt)
+decimal_lacks byte n low lt = digits_lack byte (decimal n) low (digits_of n (omega arith)).digits
 
 -- nor is the sign below -
 pub signed_lacks : (byte : ℕ) (z : ℤ) → byte < 45 → FitsSigned w8 z → Lacks byte (signed_decimal z)
@@ -75,11 +75,11 @@ signed_lacks byte (negsuc n) low f = let t = f.sfits in (ne_eqb 45 byte (λ e. o
 
 -- a word that is no numeral is no number's
 pub no_number : (w : List ℕ) (n : ℕ) → None ≡ numeral w → n < 2 ^ 64 → w ≡ decimal n → ⊥
-no_number w n none lt e = let some : numeral w ≡ Some n = ap numeral e ∙ numeral_back n lt in cc
+no_number w n none lt e = let some : numeral w ≡ Some n = ap numeral e ∙ numeral_back n (omega arith) in cc
 
 -- a numeral is the number's word
 pub that_number : (w : List ℕ) (m n : ℕ) → Some m ≡ numeral w → n < 2 ^ 64 → w ≡ decimal n → m ≡ n
-that_number w m n some lt e = let same : numeral w ≡ Some n = ap numeral e ∙ numeral_back n lt in cc
+that_number w m n some lt e = let same : numeral w ≡ Some n = ap numeral e ∙ numeral_back n (omega arith) in cc
 
 -- behind - stands the number's magnitude
 pub behind_sign : (digits : List ℕ) (z : ℤ) → FitsSigned w8 z → 45 ∷ digits ≡ signed_decimal z → (n : ℕ) × (z ≡ negsuc n) × (n < 128) × (digits ≡ decimal (suc n))

@@ -4,7 +4,7 @@ ghost use Rattle.std.specs.Prelude.{◌∷◌, ◌≡◌, ◌≤◌, FitsSigned,
 ghost use Rattle.std.specs.Fmt.{signed_decimal};
 ghost use Rattle.std.specs.Int.{w8};
 
-use crate::line::numeral;
+use crate::number::numeral;
 
 /// The number of at most `most` whose decimal text the word is.
 pub fn number_of(word: &[u8], most: u64) -> Option<u64>

@@ -10,10 +10,10 @@ ghost use Rattle.llrp_tool.specs.ScriptLaws.{ScriptOrRefused};
 ghost use Rattle.llrp_tool.specs.declared.script.Entry.{Entry};
 ghost use Rattle.llrp_tool.specs.Words.{AsksEpc, command_in, name_in, parses};
 
-/// A text is the listing of one list of messages, each within the limit, or has one first refusal,
-/// and never both.
+/// A text is the listing of one row of messages' lines at most, each with those below it, or has one
+/// first refusal at most, and never both.
 pub fn listed_or_refused()
-    ensures { (limit : ℕ) (text : List ℕ) → 10 ≤ limit → ListedOrRefused limit text }
+    ensures { (limit : ℕ) (text : List ℕ) → ListedOrRefused limit text }
 {}
 
 /// Messages have one listing.

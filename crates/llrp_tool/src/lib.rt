@@ -12,10 +12,13 @@ mod hexadecimal;
 pub mod laws;
 mod line;
 mod listing;
-mod message;
+mod number;
+mod open_lines;
 mod script;
 mod show;
 mod sighting;
+mod spaced;
+mod tail;
 mod words;
 
 pub use command::run_command;

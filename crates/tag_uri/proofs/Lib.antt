@@ -10,3 +10,4 @@ pub mod RowDigits
 pub mod RuleLemmas
 pub mod TextBytes
 pub mod TextLaws
+pub mod TextShape
