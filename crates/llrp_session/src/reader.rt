@@ -8,6 +8,8 @@ mod requests;
 mod sending;
 mod sightings;
 pub(crate) mod table;
+#[cfg(test)]
+mod tests;
 mod time;
 
 ghost use Rattle.std.specs.Prelude.{◌≡◌, ◌≤◌, ◌<◌, OnOk, OnErr, IfErr, vec_len, vec_capacity};
