@@ -5,7 +5,9 @@
 mod ending;
 pub(crate) mod events;
 mod requests;
+mod rospecs;
 mod sending;
+mod settings;
 mod sightings;
 pub(crate) mod table;
 #[cfg(test)]
