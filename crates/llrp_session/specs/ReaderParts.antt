@@ -6,7 +6,7 @@ use Rattle.llrp_session.specs.RoSpec.{RoSpec}
 use Rattle.llrp_session.specs.Table.{Entry, RoState, is_disabled, names, enabling, disabling, setting, octets_of, active, first_immediate}
 use Rattle.llrp_session.specs.LawfulWords.{AreReports}
 use Rattle.llrp_session.specs.Words.{ReaderMessage, Ended}
-use Rattle.llrp_session.specs.ReaderMachine.{Reader, Turn, most_held, following, sends_at_end, end}
+use Rattle.llrp_session.specs.ReaderMachine.{Reader, Turn, most_held, following, sends_at_end, begun, end}
 use Rattle.llrp_session.specs.ReaderMessages.{reader_message}
 use Rattle.llrp_session.specs.declared.reader.table.StateChange.{StateChange}
 use Rattle.llrp_session.specs.declared.reader.table.StateChange.TheVariants.{Enable, Disable, Set}
@@ -78,6 +78,10 @@ IsEndingOf now (Some s) r (Some e) = IsEnding now s r e
 IsEndingOf now _ r _ = ⊥
 
 -- ---- requests
+
+-- a turn begins as a message of this version is taken
+abbrev pub taken : ℕ → Reader → Turn
+taken version r = begun (record r { version = version })
 
 -- the ROSpec that an enabling starts: none while one is active
 abbrev pub started_by_enabling : ℕ → List Entry → Option RoSpec

@@ -5,9 +5,13 @@
 mod ending;
 pub(crate) mod events;
 mod requests;
+mod rospecs;
 mod sending;
+mod settings;
 mod sightings;
 pub(crate) mod table;
+#[cfg(test)]
+mod tests;
 mod time;
 
 ghost use Rattle.std.specs.Prelude.{◌≡◌, ◌≤◌, ◌<◌, OnOk, OnErr, IfErr, vec_len, vec_capacity};
