@@ -1,5 +1,5 @@
 -- A client's view, as far as the code has gone over it.
-use Rattle.std.proofs.Common.{◌≡◌, ℕ, ◌+◌, ◌<◌, ◌≤◌, suc, refl, sym, ◌∙◌, ap, true, false, cond, List, [], ◌∷◌, ◌++◌, length, map, take, drop, get_or, add-one, arith, append_assoc}
+use Rattle.std.proofs.Common.{◌≡◌, ℕ, ◌+◌, ◌<◌, ◌≤◌, refl, sym, ◌∙◌, ap, true, false, cond, List, [], ◌∷◌, ◌++◌, length, map, take, drop, get_or, add-one, arith, append_assoc}
 use Rattle.std.specs.Prelude.{◌==◌, nat_lt, slice_index_or, slice_set, filter, not}
 use Rattle.std.specs.List.{insert}
 use Rattle.std.proofs.lemmas.List.{append-nil, drop_all, drop_more, get_or_default, set_split, take-append-le, take_all, take_more}

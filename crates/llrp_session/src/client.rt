@@ -12,6 +12,8 @@ ghost use Rattle.llrp_session.specs.ClientSteps.{IsCmdFault, IsTakeFault, sent_b
 mod commands;
 mod refusal;
 mod taking;
+#[cfg(test)]
+mod tests;
 mod view;
 
 use crate::words::{ClientPhase, Command, Pending, RoState, Taken, Viewed};
@@ -48,7 +50,7 @@ impl Model for Client {
 
 impl Client {
     /// A client as new, which waits for its reader to accept the connection. It takes no memory. No message that it sends is
-    /// longer than `limit` octets, and the ids of its requests rise from `first_id`.
+    /// longer than `limit` octets, 4,096 to 65,536, and the ids of its requests rise from `first_id`, at least 1.
     pub fn new(alloc: Global, limit: u32, first_id: u32) -> Client
         requires least { 4096 ≤ limit }
         requires greatest { limit ≤ MAX_LIMIT }
@@ -65,7 +67,8 @@ impl Client {
         }
     }
 
-    /// Sends the request of a command, appended to `out`. A command that is refused is handed back, and nothing changes.
+    /// Sends the request of a command, appended to `out`; what Add adds is a ROSpec. A command that is refused is handed back,
+    /// and nothing changes (LLRP 1.1, sections 11, 13 and 14).
     pub fn command(&mut self, command: Command, out: &mut Vec<Message>) -> Result<(), CmdRefusal>
         requires { AddsRoSpec command }
 
@@ -85,8 +88,8 @@ impl Client {
         }
     }
 
-    /// Takes a message of the reader. What answers it is appended to `out`. A message that is refused is handed back, and nothing
-    /// changes.
+    /// Takes a message of the reader; what answers it is appended to `out`. A message that is refused is handed back, and
+    /// nothing changes (LLRP 1.1, sections 11 and 13 to 15).
     #[tactic(auto, unfolding(crate::specs::ClientMachine::take))]
     pub fn take(&mut self, message: Message, out: &mut Vec<Message>) -> Result<Taken, TakeRefusal>
         // The machine's step, with the messages that it sends.

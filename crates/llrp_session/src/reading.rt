@@ -5,5 +5,5 @@ pub(crate) mod hearing;
 pub(crate) mod request;
 pub(crate) mod rospec;
 #[cfg(test)]
-mod tests;
+pub(crate) mod tests;
 pub(crate) mod words;

@@ -9,7 +9,7 @@ pub(crate) mod client;
 pub(crate) mod reader;
 pub(crate) mod report;
 #[cfg(test)]
-mod tests;
+pub(crate) mod tests;
 
 use llrp_tree::{Message, MsgKind, Node, Nodes, Octets, ParamKind};
 use std::alloc::{AllocError, Global};

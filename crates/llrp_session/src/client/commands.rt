@@ -32,6 +32,7 @@ impl Client {
     }
 
     /// Why a command is refused once the reader takes requests.
+    #[tactic(auto, using(crate::proofs::CommandLemmas::fits_within))]
     fn refusal_when_ready(&self, command: &Command) -> Option<CmdFault>
         requires { AddsRoSpec command.now }
         ensures refused { IfSome result (λ fault. IsCmdFault (machine.sent_unless (machine.refused_when_ready self.now command.now) self.now command.now) fault) }
