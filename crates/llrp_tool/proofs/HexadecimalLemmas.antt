@@ -74,7 +74,7 @@ even (a ∷ []) bytes h = absurd h
 even (a ∷ (b ∷ rest)) [] h = absurd h
 even (a ∷ (b ∷ rest)) (byte ∷ bytes) (high, low, p, q, sum, more) = let ih = even rest bytes more in omega arith
 
-spelled_if_ok : (s bytes : List ℕ) → decode_of s ≡ Ok bytes → SpellBytes s bytes
+pub spelled_if_ok : (s bytes : List ℕ) → decode_of s ≡ Ok bytes → SpellBytes s bytes
 spelled_if_ok s bytes h = spelled 0 s bytes (sym (decode_of-even s (decode_of-ok s bytes h).0) ∙ h)
 
 none_if_err : (s : List ℕ) (e : FromHexError) → decode_of s ≡ Err e → (bytes : List ℕ) → ¬ SpellBytes s bytes

@@ -6,7 +6,7 @@ use Rattle.std.specs.Str.{all_ascii_digits}
 use Rattle.std.specs.Str.Parse.{digits_value}
 use Rattle.std.proofs.lemmas.Int.Digits.{digits_value_more}
 use Rattle.std.proofs.Math.Nat.{pow-suc}
-use Rattle.llrp_tool.specs.Reading.{numeral}
+use Rattle.llrp_tool.specs.Numeral.{numeral}
 
 and_false : (b : Bool) → (b && false) ≡ false
 and_false true = refl

@@ -1,32 +1,45 @@
 -- How an encoder goes on.
-use Rattle.std.proofs.Common.{◌≡◌, ℕ, ◌+◌, ◌<◌, ◌≤◌, List, [], ◌∷◌, ◌++◌, length, refl, sym, ap, subst, ◌∙◌, arith, Ok, Err, Option, Some, None, append_assoc, length-append, inl, inr}
-use Rattle.std.specs.Prelude.{Result, MatchResult, IsErrAnd, OnOk, is_ok, if◌then◌else◌}
-use Rattle.llrp_tool.specs.Frame.{IsLawful, Spells}
+use Rattle.std.proofs.Common.{◌≡◌, ℕ, suc, ◌+◌, ◌-◌, ◌<◌, ◌≤◌, List, [], ◌∷◌, ◌++◌, length, refl, sym, ap, subst, ◌∙◌, arith, Ok, Err, Option, Some, None, append_assoc, length-append, inl, inr}
+use Rattle.std.specs.Prelude.{Result, MatchResult, IsErrAnd}
 use Rattle.std.specs.List.{AllZip}
 use Rattle.std.proofs.lemmas.List.{append-nil}
-use Rattle.llrp_tool.specs.declared.message.Message.{Message}
+use Rattle.llrp_tree.specs.Tree.{MessageTree}
 use Rattle.llrp_tool.specs.declared.fault.Refusal.{Refusal}
-use Rattle.llrp_tool.specs.declared.fault.Refusal.TheVariants.{Line}
+use Rattle.llrp_tool.specs.declared.fault.Refusal.TheVariants as refusal
 use Rattle.llrp_tool.specs.declared.fault.ToolErr.{ToolErr}
 use Rattle.llrp_tool.specs.declared.fault.ToolErr.TheVariants.{Listing, Hex, Read, Write, Bound, Memory}
-use Rattle.llrp_tool.specs.Checks.{FirstFailing}
+use Rattle.llrp_tool.specs.declared.line.Line.{Line}
+use Rattle.llrp_tool.specs.declared.line.Line.TheVariants as said
+use Rattle.llrp_tool.specs.declared.line.LineErr.{LineErr}
+use Rattle.llrp_tool.specs.declared.line.LineErr.TheVariants as unread
+use Rattle.llrp_tool.specs.declared.open_lines.CloseErr.{CloseErr}
+use Rattle.llrp_tool.specs.declared.open_lines.CloseErr.TheVariants as close
 use Rattle.llrp_tool.specs.Copying.{Writes, HandsOn}
 use Rattle.llrp_stream.specs.Device.{SinkLog, Wrote}
-use Rattle.llrp_tool.specs.Encoder.{Lacks, those, chain_of, open_of, StandsAt, Stopped, StoppedAtEnd, WroteEncoding, Refusing, AppendsFrame}
-use Rattle.llrp_tool.specs.Encoding.{AreSpelled, AreClosed, BeginsEncoding, Encodes, Refuses, row}
-use Rattle.llrp_tool.specs.FirstRefusal.{Refused}
+use Rattle.llrp_tool.specs.Encoder.{CanStand, StandsAt, Stopped, StoppedAtEnd, WroteEncoding, Refusing, RefusingClose, RefusingLine, Appended, Opened, Finished, said_level, said_node}
+use Rattle.llrp_tool.specs.Encoding.{AreSpelled, AreClosed, BeginsEncoding, Encodes, Refuses}
+use Rattle.llrp_tool.specs.FirstRefusal.{ClosesAt, IsLastOpen, Opens, Refused}
+use Rattle.llrp_tool.specs.LineChecks.{LONGEST_LINE, RefusesLineItself, SaysLine}
+use Rattle.llrp_tool.specs.LineReading.{ReadsLine, SaidIs}
 use Rattle.llrp_tool.specs.Lines.{TextLine, Ended, Unended, lines_of, NoLf}
-use Rattle.llrp_tool.specs.MessageLine.{LONGEST_LINE, SaysMessage, RefusesBytes, line_checks, rules_for}
-use Rattle.llrp_tool.specs.OpenText.{nodes}
+use Rattle.llrp_tool.specs.ListingRules.{row, rules_for}
+use Rattle.llrp_tool.specs.NodeLine.{NodeLine}
+use Rattle.llrp_tool.specs.OpenLines.{Entry, chain, open_over, open_of, AreNumbered, IsSound, Closed, ClosingFails, ClosingStops, Begins, AllClosed}
+use Rattle.llrp_tool.specs.OpenText.{OpenText, covers, nodes}
+use Rattle.llrp_tool.specs.OpenTextSteps.{cut, depth, put}
+use Rattle.llrp_tool.specs.Splits.{Lacks}
+use Rattle.llrp_tool.proofs.Closings.{length_chain}
 use Rattle.llrp_tool.proofs.Cutting.{ended, unended, as_ended, as_unended, begins}
 use Rattle.llrp_tool.proofs.DeviceLemmas.{wrote_nothing, wrote_more, wrote_then_failed}
-use Rattle.llrp_tool.proofs.Listed.{line_refused, says_more, says_text}
-use Rattle.llrp_tool.proofs.Rows.{closed_nodes, sound, spells_nothing, spells_more, spells_within}
+use Rattle.llrp_tool.proofs.Growing.{covers_pop, covers_put}
+use Rattle.llrp_tool.proofs.LineSays.{line_long}
+use Rattle.llrp_tool.proofs.Listed.{says_text}
+use Rattle.llrp_tool.proofs.Rows.{spells_nothing, spells_more, zip_append, zip_length}
 
-pub stands_new : (log : SinkLog) → StandsAt log log [] None 0 [] []
-stands_new log = record { done = []; front = []; cuts = λ more. refl; no_lf = tt; says = tt; counted = refl; started = refl; lawful = tt; spellings = []; spelled = spells_nothing 10; handed = []; gathered = refl; log = wrote_nothing log }
+pub stands_new : (limit : ℕ) (log : SinkLog) → StandsAt limit log log [] [] 0 [] []
+stands_new limit log = record { done = []; front = []; cuts = λ more. refl; no_lf = tt; says = tt; counted = refl; last = refl; sound = (tt, tt); numbered = tt; spellings = []; spelled = spells_nothing limit; handed = []; gathered = refl; log = wrote_nothing log }
 
--- the text and the line go on
+-- ---- the text and the line go on
 
 lacks_append : (c : ℕ) (x y : List ℕ) → Lacks c x → Lacks c y → Lacks c (x ++ y)
 lacks_append c [] y p q = q
@@ -46,7 +59,7 @@ cuts_line front text line part more cuts n =
     ∙ ap (λ (z : List TextLine). front ++ z) (ended (line ++ part) more n)
 
 -- the begun line goes on
-pub goes_on : {start now : SinkLog} {text : List ℕ} {pending : Option Message} {number : ℕ} {line out : List ℕ} (part : List ℕ) → StandsAt start now text pending number line out → Lacks 10 part → StandsAt start now (text ++ part) pending number (line ++ part) out
+pub goes_on : {limit : ℕ} {start now : SinkLog} {text : List ℕ} {es : List Entry} {number : ℕ} {line out : List ℕ} (part : List ℕ) → StandsAt limit start now text es number line out → Lacks 10 part → StandsAt limit start now (text ++ part) es number (line ++ part) out
 goes_on {text} {line} part s n = record {
   done = s.done;
   front = s.front;
@@ -54,8 +67,9 @@ goes_on {text} {line} part s n = record {
   no_lf = lacks_append 10 line part s.no_lf n;
   says = s.says;
   counted = s.counted;
-  started = s.started;
-  lawful = s.lawful;
+  last = s.last;
+  sound = s.sound;
+  numbered = s.numbered;
   spellings = s.spellings;
   spelled = s.spelled;
   handed = s.handed;
@@ -63,7 +77,7 @@ goes_on {text} {line} part s n = record {
   log = s.log;
 }
 
--- what was gathered, with one frame more
+-- what was gathered, with frames more
 gathered_more : (spellings handed out bytes out1 : List ℕ) → spellings ≡ handed ++ out → out1 ≡ out ++ bytes → spellings ++ bytes ≡ handed ++ out1
 gathered_more spellings handed out bytes out1 p q = ap (λ (z : List ℕ). z ++ bytes) p ∙ append_assoc handed out bytes ∙ ap (λ (z : List ℕ). handed ++ z) (sym q)
 
@@ -71,181 +85,284 @@ gathered_more spellings handed out bytes out1 p q = ap (λ (z : List ℕ). z ++ 
 front_more : (all handed out front back : List ℕ) → all ≡ handed ++ out → out ≡ front ++ back → all ≡ (handed ++ front) ++ back
 front_more all handed out front back p q = p ∙ ap (λ (z : List ℕ). handed ++ z) q ∙ sym (append_assoc handed front back)
 
--- the begun line ends and says a message
-pub line_more : {start mid now : SinkLog} {text : List ℕ} {pending : Option Message} {number : ℕ} {line out : List ℕ} (part : List ℕ) (m : Message) (out1 out2 : List ℕ) → StandsAt start mid text pending number line out → Lacks 10 part → SaysMessage (Ended (line ++ part)) (0, m)
-    → AppendsFrame pending out out1 → HandsOn out1 out2 mid now → StandsAt start now (text ++ (part ++ (10 ∷ []))) (Some m) (number + 1) [] out2
-line_more {start} {mid} {now} {text} {pending} {number} {line} {out} part m out1 out2 s n ok appends hands =
-    let f = appends s.lawful in
-    let lf : NoLf (line ++ part) = lacks_append 10 line part s.no_lf n in
+-- ---- a line that is said
+
+-- what is read of a line is what it says
+said_says : (n : ℕ) (bytes : List ℕ) (line : Line) → SaidIs n bytes line → SaysLine (Ended bytes) (said_level line, said_node line)
+said_says n bytes (said.Message line) h = h
+said_says n bytes (said.Parameter line) h = h.0
+
+pub said_within : (n : ℕ) (bytes : List ℕ) (line : Line) → SaidIs n bytes line → said_level line ≤ n
+said_within n bytes (said.Message line) h = omega arith
+said_within n bytes (said.Parameter line) h = h.1
+
+pub said_stands : (n : ℕ) (bytes : List ℕ) (line : Line) → SaidIs n bytes line → CanStand n line
+said_stands n bytes (said.Message line) h = tt
+said_stands n bytes (said.Parameter line) h = (h.0.placed, h.1)
+
+counted_line : {limit : ℕ} {start now : SinkLog} {text : List ℕ} {es : List Entry} {number : ℕ} {line out : List ℕ} → (s : StandsAt limit start now text es number line out) → number + 1 ≡ suc (length (covers (open_of s.done es)))
+counted_line {es} s = let n = zip_length SaysLine s.front (covers (open_of s.done es)) s.says in omega (arith, n, s.counted)
+
+-- what stands after the next line
+record Next (limit : ℕ) (done : List MessageTree) (front : List TextLine) (es : List Entry) (number : ℕ) : Type 0 where
+  says : AllZip SaysLine front (covers (open_of done es))
+  counted : number ≡ length front
+  last : IsLastOpen (open_of done es)
+  sound : IsSound limit (open_of done es)
+  numbered : AreNumbered (row done) es
+
+next_line : {limit : ℕ} {start now : SinkLog} {text : List ℕ} {es : List Entry} {number : ℕ} {line out : List ℕ} (x : TextLine) (level : ℕ) (node : NodeLine) (new : List Entry) (messages : List MessageTree) → (s : StandsAt limit start now text es number line out) → SaysLine x (level, node) → level ≤ length es
+    → Begins limit es new level node (number + 1) messages → Next limit (s.done ++ messages) (s.front ++ (x ∷ [])) new (number + 1)
+next_line {limit} {es} {number} x level node new messages s says within b =
+    let o = open_of s.done es in
+    let le : level ≤ depth o = omega (arith, within, length_chain es) in
+    let all : covers (open_of (s.done ++ messages) new) ≡ covers o ++ ((level, node) ∷ []) = ap covers (b.is s.done) ∙ covers_put o (level, node) le in
     record {
-      done = s.done ++ those pending;
-      front = s.front ++ (Ended (line ++ part) ∷ []);
-      cuts = λ more. cuts_line s.front text line part more s.cuts lf ∙ sym (append_assoc s.front (Ended (line ++ part) ∷ []) (lines_of more));
+      says = subst (AllZip SaysLine (s.front ++ (x ∷ []))) (sym all) (zip_append SaysLine s.front (x ∷ []) (covers o) ((level, node) ∷ []) s.says (says, tt));
+      counted = omega (arith, s.counted, length-append s.front (x ∷ []));
+      last = subst IsLastOpen (sym (b.is s.done)) refl;
+      sound = b.sound s.done s.sound;
+      numbered = b.numbered s.done s.numbered (counted_line s);
+    }
+
+-- the begun line ends, and is open
+pub line_more : {limit : ℕ} {start mid now : SinkLog} {text : List ℕ} {es : List Entry} {number : ℕ} {begun out : List ℕ} (part : List ℕ) (line : Line) (new : List Entry) (out1 out2 : List ℕ) → StandsAt limit start mid text es number begun out → Lacks 10 part → SaidIs (length es) (begun ++ part) line
+    → Opened limit es new line (number + 1) out out1 → HandsOn out1 out2 mid now → StandsAt limit start now (text ++ (part ++ (10 ∷ []))) new (number + 1) [] out2
+line_more {limit} {start} {mid} {now} {text} {es} {number} {begun} {out} part line new out1 out2 s n ok o hands =
+    let lf : NoLf (begun ++ part) = lacks_append 10 begun part s.no_lf n in
+    let x = next_line (Ended (begun ++ part)) (said_level line) (said_node line) new o.messages s (said_says (length es) (begun ++ part) line ok) (said_within (length es) (begun ++ part) line ok) o.begins in
+    let f = o.appended in
+    record {
+      done = s.done ++ o.messages;
+      front = s.front ++ (Ended (begun ++ part) ∷ []);
+      cuts = λ more. cuts_line s.front text begun part more s.cuts lf ∙ sym (append_assoc s.front (Ended (begun ++ part) ∷ []) (lines_of more));
       no_lf = tt;
-      says = says_more s.front (Ended (line ++ part)) s.done pending m s.says ok;
-      counted = omega (arith, s.counted, length-append s.front (Ended (line ++ part) ∷ []));
-      started = tt;
-      lawful = (ok.1, tt);
-      spellings = s.spellings ++ f.0;
-      spelled = spells_more 10 s.done (those pending) s.spellings f.0 s.spelled f.1;
+      says = x.says;
+      counted = x.counted;
+      last = x.last;
+      sound = x.sound;
+      numbered = x.numbered;
+      spellings = s.spellings ++ f.bytes;
+      spelled = spells_more limit s.done o.messages s.spellings f.bytes s.spelled f.spelled;
       handed = s.handed ++ hands.0;
-      gathered = front_more (s.spellings ++ f.0) s.handed out1 hands.0 out2 (gathered_more s.spellings s.handed out f.0 out1 s.gathered f.2) hands.1;
+      gathered = front_more (s.spellings ++ f.bytes) s.handed out1 hands.0 out2 (gathered_more s.spellings s.handed out f.bytes out1 s.gathered f.more) hands.1;
       log = wrote_more start mid now s.handed hands.0 s.log hands.2;
     }
 
--- messages that are closed whatever follows
+-- ---- messages that are closed whatever follows
 
-pub whole_now : (limit : ℕ) {start now : SinkLog} {text : List ℕ} {pending : Option Message} {number : ℕ} {line out : List ℕ} → 10 ≤ limit → (s : StandsAt start now text pending number line out) → (more : List ℕ) → AreClosed limit (text ++ more) s.done
-whole_now limit {pending} {line} le s more = (open_of s.done pending, lines_of (line ++ more), record { front = s.front; lines_are = s.cuts more; says = s.says; sound = sound limit s.done pending le }, refl)
+whole_now : {limit : ℕ} {start now : SinkLog} {text : List ℕ} {es : List Entry} {number : ℕ} {line out : List ℕ} → (s : StandsAt limit start now text es number line out) → (more : List ℕ) → AreClosed limit (text ++ more) s.done
+whole_now {es} {line} s more = (open_of s.done es, lines_of (line ++ more), record { front = s.front; lines_are = s.cuts more; says = s.says; sound = s.sound }, refl)
 
-closed_more : (limit : ℕ) (text later : List ℕ) (ms : List Message) → ((more : List ℕ) → AreClosed limit (text ++ more) ms) → (more : List ℕ) → AreClosed limit ((text ++ later) ++ more) ms
+closed_more : (limit : ℕ) (text later : List ℕ) (ms : List MessageTree) → ((more : List ℕ) → AreClosed limit (text ++ more) ms) → (more : List ℕ) → AreClosed limit ((text ++ later) ++ more) ms
 closed_more limit text later ms w more = subst (λ (z : List ℕ). AreClosed limit z ms) (sym (append_assoc text later more)) (w (later ++ more))
 
-line_whole : (limit : ℕ) {start now : SinkLog} {text : List ℕ} {pending : Option Message} {number : ℕ} {line out : List ℕ} (part : List ℕ) (m : Message) → 10 ≤ limit → (s : StandsAt start now text pending number line out) → Lacks 10 part → SaysMessage (Ended (line ++ part)) (0, m)
-    → (more : List ℕ) → AreClosed limit ((text ++ (part ++ (10 ∷ []))) ++ more) (s.done ++ those pending)
-line_whole limit {text} {pending} {line} part m le s n ok more = (
-  open_of (s.done ++ those pending) (Some m),
-  lines_of more,
-  record {
-    front = s.front ++ (Ended (line ++ part) ∷ []);
-    lines_are = cuts_line s.front text line part more s.cuts (lacks_append 10 line part s.no_lf n) ∙ sym (append_assoc s.front (Ended (line ++ part) ∷ []) (lines_of more));
-    says = says_more s.front (Ended (line ++ part)) s.done pending m s.says ok;
-    sound = sound limit (s.done ++ those pending) (Some m) le;
-  },
-  refl,
-)
-
 -- what was handed on begins the encoding
-begins_now : (limit : ℕ) {start now : SinkLog} {text : List ℕ} {pending : Option Message} {number : ℕ} {line out : List ℕ} (later front back : List ℕ) → 10 ≤ limit → (s : StandsAt start now text pending number line out) → out ≡ front ++ back → BeginsEncoding limit (text ++ later) (s.handed ++ front)
-begins_now limit {text} {out} later front back le s e = record {
+begins_now : {limit : ℕ} {start now : SinkLog} {text : List ℕ} {es : List Entry} {number : ℕ} {line out : List ℕ} (later front back : List ℕ) → (s : StandsAt limit start now text es number line out) → out ≡ front ++ back → BeginsEncoding limit (text ++ later) (s.handed ++ front)
+begins_now {limit} {text} {out} later front back s e = record {
   messages = s.done;
   spellings = s.spellings;
-  closed = closed_more limit text later s.done (whole_now limit le s);
-  spelled = spells_within limit s.done s.spellings le s.spelled;
+  closed = closed_more limit text later s.done (whole_now s);
+  spelled = s.spelled;
   begins = (back, front_more s.spellings s.handed out front back s.gathered e);
 }
 
-handed_now : (limit : ℕ) {start now : SinkLog} {text : List ℕ} {pending : Option Message} {number : ℕ} {line out : List ℕ} (later : List ℕ) → 10 ≤ limit → (s : StandsAt start now text pending number line out) → BeginsEncoding limit (text ++ later) s.handed
-handed_now limit {text} {out} later le s = subst (λ (z : List ℕ). BeginsEncoding limit (text ++ later) z) (append-nil s.handed) (begins_now limit later [] out le s refl)
+handed_now : {limit : ℕ} {start now : SinkLog} {text : List ℕ} {es : List Entry} {number : ℕ} {line out : List ℕ} (later : List ℕ) → (s : StandsAt limit start now text es number line out) → BeginsEncoding limit (text ++ later) s.handed
+handed_now {limit} {text} {out} later s = subst (λ (z : List ℕ). BeginsEncoding limit (text ++ later) z) (append-nil s.handed) (begins_now later [] out s refl)
 
 -- the same at the end of what was read
-pub handed_all : (limit : ℕ) {start now : SinkLog} {text : List ℕ} {pending : Option Message} {number : ℕ} {line out : List ℕ} → 10 ≤ limit → (s : StandsAt start now text pending number line out) → BeginsEncoding limit text s.handed
-handed_all limit {text} le s = subst (λ (z : List ℕ). BeginsEncoding limit z s.handed) (append-nil text) (handed_now limit [] le s)
+pub handed_all : {limit : ℕ} {start now : SinkLog} {text : List ℕ} {es : List Entry} {number : ℕ} {line out : List ℕ} → (s : StandsAt limit start now text es number line out) → BeginsEncoding limit text s.handed
+handed_all {limit} {text} s = subst (λ (z : List ℕ). BeginsEncoding limit z s.handed) (append-nil text) (handed_now [] s)
 
--- refused lines
+-- ---- refusals
 
-abbrev RefusedAfter : ℕ → List ℕ → ℕ → Refusal → List Message → Type 0
-RefusedAfter limit text number reason done = (more : List ℕ) → Refused (rules_for limit) (lines_of (text ++ more)) (number + 1) reason (row done)
+abbrev pub RefusedAfter : ℕ → List ℕ → ℕ → Refusal → List MessageTree → Type 0
+RefusedAfter limit text number reason done = (more : List ℕ) → Refused (rules_for limit) (lines_of (text ++ more)) number reason (row done)
 
-refused_at : (limit : ℕ) {start now : SinkLog} {text : List ℕ} {pending : Option Message} {number : ℕ} {line out : List ℕ} (whole : List ℕ) (x : TextLine) (rest : List TextLine) (reason : Refusal) → 10 ≤ limit → (s : StandsAt start now text pending number line out) → lines_of whole ≡ s.front ++ (x ∷ rest)
-    → RefusesBytes (length (chain_of pending)) x reason → Refused (rules_for limit) (lines_of whole) (number + 1) reason (row s.done)
-refused_at limit {pending} whole x rest reason le s is bad =
-    subst (λ (n : ℕ). Refused (rules_for limit) (lines_of whole) (n + 1) reason (row s.done)) (sym s.counted) (line_refused limit (lines_of whole) s.front x rest s.done pending reason le is s.says s.started bad)
+-- the next line is refused by itself
+refused_at : {limit : ℕ} {start now : SinkLog} {text : List ℕ} {es : List Entry} {number : ℕ} {line out : List ℕ} (whole : List ℕ) (x : TextLine) (rest : List TextLine) (reason : Refusal) → (s : StandsAt limit start now text es number line out) → lines_of whole ≡ s.front ++ (x ∷ rest)
+    → RefusesLineItself (length es) x reason → Refused (rules_for limit) (lines_of whole) (number + 1) reason (row s.done)
+refused_at {limit} {es} whole x rest reason s is bad = record {
+  opened = open_of s.done es;
+  rest = x ∷ rest;
+  opens = record { front = s.front; lines_are = is; says = s.says; sound = s.sound };
+  whole = refl;
+  refuses = inl (s.last, subst (λ (n : ℕ). RefusesLineItself n x reason) (sym (length_chain es)) bad, counted_line s);
+}
 
 -- the begun line ends and is refused
-pub line_bad : (limit : ℕ) {start now : SinkLog} {text : List ℕ} {pending : Option Message} {number : ℕ} {line out : List ℕ} (part : List ℕ) (reason : Refusal) → 10 ≤ limit → (s : StandsAt start now text pending number line out) → Lacks 10 part
-    → FirstFailing (line_checks (length (chain_of pending)) (line ++ part)) reason → RefusedAfter limit (text ++ (part ++ (10 ∷ []))) number reason s.done
-line_bad limit {text} {line} part reason le s n bad more =
-    refused_at limit ((text ++ (part ++ (10 ∷ []))) ++ more) (Ended (line ++ part)) (lines_of more) reason le s (cuts_line s.front text line part more s.cuts (lacks_append 10 line part s.no_lf n)) bad
-
--- a line is too long
-pub too_long : (d : ℕ) (x : List ℕ) → LONGEST_LINE < length x → FirstFailing (line_checks d x) Line
-too_long d x lt = inl (λ has. absurd (omega (arith, has.0)), refl)
+pub line_bad : {limit : ℕ} {start now : SinkLog} {text : List ℕ} {es : List Entry} {number : ℕ} {line out : List ℕ} (part : List ℕ) (reason : Refusal) → (s : StandsAt limit start now text es number line out) → Lacks 10 part
+    → RefusesLineItself (length es) (Ended (line ++ part)) reason → RefusedAfter limit (text ++ (part ++ (10 ∷ []))) (number + 1) reason s.done
+line_bad {text} {line} part reason s n bad more =
+    refused_at ((text ++ (part ++ (10 ∷ []))) ++ more) (Ended (line ++ part)) (lines_of more) reason s (cuts_line s.front text line part more s.cuts (lacks_append 10 line part s.no_lf n)) bad
 
 -- the begun line is too long, whatever follows
-pub long_bad : (limit : ℕ) {start now : SinkLog} {text : List ℕ} {pending : Option Message} {number : ℕ} {line out : List ℕ} (part : List ℕ) → 10 ≤ limit → (s : StandsAt start now text pending number line out) → Lacks 10 part
-    → LONGEST_LINE < length line + length part → RefusedAfter limit (text ++ part) number Line s.done
-long_bad limit {text} {pending} {number} {line} part le s n long more = on (line ++ part) (omega (arith, length-append line part)) (lacks_append 10 line part s.no_lf n) (cuts_more s.front text line part s.cuts more)
+pub long_bad : {limit : ℕ} {start now : SinkLog} {text : List ℕ} {es : List Entry} {number : ℕ} {line out : List ℕ} (part : List ℕ) → (s : StandsAt limit start now text es number line out) → Lacks 10 part
+    → LONGEST_LINE < length line + length part → RefusedAfter limit (text ++ part) (number + 1) refusal.Line s.done
+long_bad {limit} {text} {es} {number} {line} part s n long more = on (line ++ part) (omega (arith, length-append line part)) (lacks_append 10 line part s.no_lf n) (cuts_more s.front text line part s.cuts more)
   where
-    on : (l : List ℕ) → LONGEST_LINE < length l → NoLf l → lines_of ((text ++ part) ++ more) ≡ s.front ++ lines_of (l ++ more) → Refused (rules_for limit) (lines_of ((text ++ part) ++ more)) (number + 1) Line (row s.done)
+    on : (l : List ℕ) → LONGEST_LINE < length l → NoLf l → lines_of ((text ++ part) ++ more) ≡ s.front ++ lines_of (l ++ more) → Refused (rules_for limit) (lines_of ((text ++ part) ++ more)) (number + 1) refusal.Line (row s.done)
     on [] lt n e = absurd (omega arith)
     on (c ∷ l) lt n e = elim (begins c l more n) [
-      | as_ended y rest f ↦ refused_at limit ((text ++ part) ++ more) (Ended ((c ∷ l) ++ y)) rest Line le s (e ∙ ap (λ (z : List TextLine). s.front ++ z) f) (too_long (length (chain_of pending)) ((c ∷ l) ++ y) (omega (arith, length-append (c ∷ l) y)))
-      | as_unended y rest f ↦ refused_at limit ((text ++ part) ++ more) (Unended ((c ∷ l) ++ y)) rest Line le s (e ∙ ap (λ (z : List TextLine). s.front ++ z) f) refl
+      | as_ended y rest f ↦ refused_at ((text ++ part) ++ more) (Ended ((c ∷ l) ++ y)) rest refusal.Line s (e ∙ ap (λ (z : List TextLine). s.front ++ z) f) (line_long (length es) ((c ∷ l) ++ y) (omega (arith, length-append (c ∷ l) y)))
+      | as_unended y rest f ↦ refused_at ((text ++ part) ++ more) (Unended ((c ∷ l) ++ y)) rest refusal.Line s (e ∙ ap (λ (z : List TextLine). s.front ++ z) f) refl
     ]
 
 -- the last line isn't ended
-pub unended_bad : (limit : ℕ) {start now : SinkLog} {text : List ℕ} {pending : Option Message} {number : ℕ} {out : List ℕ} (line : List ℕ) → 10 ≤ limit → (s : StandsAt start now text pending number line out) → 0 < length line → Refused (rules_for limit) (lines_of text) (number + 1) Line (row s.done)
-unended_bad limit [] le s some = absurd (omega arith)
-unended_bad limit {text} (b ∷ x) le s some =
-    refused_at limit text (Unended (b ∷ x)) [] Line le s
+pub unended_bad : {limit : ℕ} {start now : SinkLog} {text : List ℕ} {es : List Entry} {number : ℕ} {out : List ℕ} (line : List ℕ) → (s : StandsAt limit start now text es number line out) → 0 < length line → Refused (rules_for limit) (lines_of text) (number + 1) refusal.Line (row s.done)
+unended_bad [] s some = absurd (omega arith)
+unended_bad {text} (b ∷ x) s some =
+    refused_at text (Unended (b ∷ x)) [] refusal.Line s
     (ap lines_of (sym (append-nil text)) ∙ s.cuts [] ∙ ap (λ (z : List ℕ). s.front ++ lines_of z) (append-nil (b ∷ x)) ∙ ap (λ (z : List TextLine). s.front ++ z) (unended b x s.no_lf)) refl
 
--- what was written before a refusal is told
-wrote_all : {start mid now : SinkLog} {text : List ℕ} {pending : Option Message} {number : ℕ} {line out : List ℕ} → (s : StandsAt start mid text pending number line out) → Wrote mid now out → Wrote start now s.spellings
+-- a line that comes to its close can't be closed
+closing_at : {limit : ℕ} {start now : SinkLog} {text : List ℕ} {es : List Entry} {number : ℕ} {line out : List ℕ} (whole : List ℕ) (rest : List TextLine) (level told : ℕ) (reason : Refusal) → (s : StandsAt limit start now text es number line out) → lines_of whole ≡ s.front ++ rest
+    → ((outer : List Entry) → level ≤ length outer → ClosesAt (rules_for limit) (length outer) rest) → ClosingFails limit level es told reason → Refused (rules_for limit) (lines_of whole) told reason (row s.done)
+closing_at {limit} {es} whole rest level told reason s is closes f =
+    let new = f.top ∷ f.outer in
+    let o = open_of s.done es in
+    let same : covers (open_of s.done new) ≡ covers o = sym (ap covers (f.closed.is (row s.done))) ∙ covers_pop (depth o - length new) o in
+    record {
+      opened = open_of s.done new;
+      rest = rest;
+      opens = record { front = s.front; lines_are = is; says = subst (AllZip SaysLine s.front) (sym same) s.says; sound = f.closed.sound limit (row s.done) s.sound };
+      whole = refl;
+      refuses = inr (subst (λ (n : ℕ). ClosesAt (rules_for limit) n rest) (sym (length_chain f.outer)) (closes f.outer f.reached), f.refused, f.number_is ∙ (f.closed.numbered (row s.done) s.numbered).0);
+    }
+
+-- the begun line ends, and a line that it closes can't be closed
+pub closing_bad : {limit : ℕ} {start now : SinkLog} {text : List ℕ} {es : List Entry} {number : ℕ} {begun out : List ℕ} (part : List ℕ) (line : Line) (told : ℕ) (reason : Refusal) → (s : StandsAt limit start now text es number begun out) → Lacks 10 part → SaidIs (length es) (begun ++ part) line
+    → ClosingFails limit (said_level line) es told reason → RefusedAfter limit (text ++ (part ++ (10 ∷ []))) told reason s.done
+closing_bad {text} {es} {begun} part line told reason s n ok f more =
+    closing_at ((text ++ (part ++ (10 ∷ []))) ++ more) (Ended (begun ++ part) ∷ lines_of more) (said_level line) told reason s (cuts_line s.front text begun part more s.cuts (lacks_append 10 begun part s.no_lf n))
+    (λ outer le. ((said_level line, said_node line), said_says (length es) (begun ++ part) line ok, le)) f
+
+-- all lines are in front at the end
+all_lines : {limit : ℕ} {start now : SinkLog} {text : List ℕ} {es : List Entry} {number : ℕ} {out : List ℕ} (line : List ℕ) → (s : StandsAt limit start now text es number line out) → length line ≡ 0 → lines_of text ≡ s.front
+unfolding lines_of
+all_lines {text} [] s none = ap lines_of (sym (append-nil text)) ∙ s.cuts [] ∙ append-nil s.front
+all_lines (b ∷ line) s none = absurd (omega arith)
+
+-- the text ends, and a line can't be closed
+pub closing_ends : {limit : ℕ} {start now : SinkLog} {text : List ℕ} {es : List Entry} {number : ℕ} {out : List ℕ} (line : List ℕ) (told : ℕ) (reason : Refusal) → (s : StandsAt limit start now text es number line out) → length line ≡ 0 → ClosingFails limit 0 es told reason → Refused (rules_for limit) (lines_of text) told reason (row s.done)
+closing_ends {text} line told reason s none f = closing_at text [] 0 told reason s (all_lines line s none ∙ sym (append-nil s.front)) (λ outer le. tt) f
+
+-- ---- what was written before a refusal is told
+
+wrote_all : {limit : ℕ} {start mid now : SinkLog} {text : List ℕ} {es : List Entry} {number : ℕ} {line out : List ℕ} → (s : StandsAt limit start mid text es number line out) → Wrote mid now out → Wrote start now s.spellings
 wrote_all {start} {mid} {now} {out} s w = subst (Wrote start now) (sym s.gathered) (wrote_more start mid now s.handed out s.log w)
 
-pub refusal_stops : (limit : ℕ) (now : SinkLog) {start mid : SinkLog} {text : List ℕ} {pending : Option Message} {number : ℕ} {line out : List ℕ} (later : List ℕ) (why : Refusal) (e : ToolErr) → 10 ≤ limit → (s : StandsAt start mid text pending number line out)
-    → RefusedAfter limit (text ++ later) number why s.done → Refusing number out why mid now e → Stopped limit start now (text ++ later) e
-refusal_stops limit now {text} {number} later why (Listing n r) le s bad w = (
+refusal_stops : {limit : ℕ} (now : SinkLog) {start mid : SinkLog} {text : List ℕ} {es : List Entry} {number : ℕ} {line out : List ℕ} (later : List ℕ) (told : ℕ) (why : Refusal) (e : ToolErr) → (s : StandsAt limit start mid text es number line out)
+    → RefusedAfter limit (text ++ later) told why s.done → Refusing told out why mid now e → Stopped limit start now (text ++ later) e
+refusal_stops {limit} now {text} later told why (Listing n r) s bad w = (
   s.spellings,
   wrote_all s w.2,
   λ more. record {
     messages = s.done;
-    refused = subst (λ (k : ℕ). Refused (rules_for limit) (lines_of ((text ++ later) ++ more)) k r (row s.done)) (sym w.0) (subst (λ (a : Refusal). Refused (rules_for limit) (lines_of ((text ++ later) ++ more)) (number + 1) a (row s.done)) (sym w.1) (bad more));
-    spelled = spells_within limit s.done s.spellings le s.spelled;
+    refused = subst (λ (k : ℕ). Refused (rules_for limit) (lines_of ((text ++ later) ++ more)) k r (row s.done)) (sym w.0) (subst (λ (a : Refusal). Refused (rules_for limit) (lines_of ((text ++ later) ++ more)) told a (row s.done)) (sym w.1) (bad more));
+    spelled = s.spelled;
   },
 )
-refusal_stops limit now {start} {mid} later why Write le s bad w = (s.handed ++ w.0, wrote_then_failed start mid now s.handed w.0 s.log w.2, begins_now limit later w.0 w.1.0 le s w.1.1)
-refusal_stops limit now later why Memory le s bad w = absurd w
-refusal_stops limit now later why Read le s bad w = absurd w
-refusal_stops limit now later why Bound le s bad w = absurd w
-refusal_stops limit now later why Hex le s bad w = absurd w
+refusal_stops now {start} {mid} later told why Write s bad w = (s.handed ++ w.0, wrote_then_failed start mid now s.handed w.0 s.log w.2, begins_now later w.0 w.1.0 s w.1.1)
+refusal_stops now later told why Memory s bad w = absurd w
+refusal_stops now later told why Read s bad w = absurd w
+refusal_stops now later told why Bound s bad w = absurd w
+refusal_stops now later told why Hex s bad w = absurd w
 
-pub refusal_result : (limit : ℕ) (now : SinkLog) {start mid : SinkLog} {text : List ℕ} {pending : Option Message} {number : ℕ} {line out : List ℕ} (later : List ℕ) (why : Refusal) (A : Unit {0} → Type 0) (r : Result (Unit {0}) ToolErr) → 10 ≤ limit → (s : StandsAt start mid text pending number line out)
-    → RefusedAfter limit (text ++ later) number why s.done → IsErrAnd r (λ e. Refusing number out why mid now e) → MatchResult r A (Stopped limit start now (text ++ later))
-refusal_result limit now later why A (Ok u) le s bad w = absurd w
-refusal_result limit now later why A (Err e) le s bad w = refusal_stops limit now later why e le s bad w
+pub refusal_result : {limit : ℕ} (now : SinkLog) {start mid : SinkLog} {text : List ℕ} {es : List Entry} {number : ℕ} {line out : List ℕ} (later : List ℕ) (told : ℕ) (why : Refusal) (A : Unit {0} → Type 0) (r : Result (Unit {0}) ToolErr) → (s : StandsAt limit start mid text es number line out)
+    → RefusedAfter limit (text ++ later) told why s.done → IsErrAnd r (λ e. Refusing told out why mid now e) → MatchResult r A (Stopped limit start now (text ++ later))
+refusal_result now later told why A (Ok u) s bad w = absurd w
+refusal_result now later told why A (Err e) s bad w = refusal_stops now later told why e s bad w
 
-pub refusal_ends : (limit : ℕ) (now : SinkLog) {start mid : SinkLog} {text : List ℕ} {pending : Option Message} {number : ℕ} {line out : List ℕ} (why : Refusal) (e : ToolErr) → 10 ≤ limit → (s : StandsAt start mid text pending number line out)
-    → Refused (rules_for limit) (lines_of text) (number + 1) why (row s.done) → Refusing number out why mid now e → StoppedAtEnd limit start now text e
-refusal_ends limit now {text} {number} why (Listing n r) le s bad w = (
+refusal_ends : {limit : ℕ} (now : SinkLog) {start mid : SinkLog} {text : List ℕ} {es : List Entry} {number : ℕ} {line out : List ℕ} (told : ℕ) (why : Refusal) (e : ToolErr) → (s : StandsAt limit start mid text es number line out)
+    → Refused (rules_for limit) (lines_of text) told why (row s.done) → Refusing told out why mid now e → StoppedAtEnd limit start now text e
+refusal_ends {limit} now {text} told why (Listing n r) s bad w = (
   s.spellings,
   wrote_all s w.2,
   record {
     messages = s.done;
-    refused = subst (λ (k : ℕ). Refused (rules_for limit) (lines_of text) k r (row s.done)) (sym w.0) (subst (λ (a : Refusal). Refused (rules_for limit) (lines_of text) (number + 1) a (row s.done)) (sym w.1) bad);
-    spelled = spells_within limit s.done s.spellings le s.spelled;
+    refused = subst (λ (k : ℕ). Refused (rules_for limit) (lines_of text) k r (row s.done)) (sym w.0) (subst (λ (a : Refusal). Refused (rules_for limit) (lines_of text) told a (row s.done)) (sym w.1) bad);
+    spelled = s.spelled;
   },
 )
-refusal_ends limit now {start} {mid} {text} why Write le s bad w = (s.handed ++ w.0, wrote_then_failed start mid now s.handed w.0 s.log w.2, inl (subst (λ (z : List ℕ). BeginsEncoding limit z (s.handed ++ w.0)) (append-nil text) (begins_now limit [] w.0 w.1.0 le s w.1.1)))
-refusal_ends limit now why Memory le s bad w = absurd w
-refusal_ends limit now why Read le s bad w = absurd w
-refusal_ends limit now why Bound le s bad w = absurd w
-refusal_ends limit now why Hex le s bad w = absurd w
+refusal_ends {limit} now {start} {mid} {text} told why Write s bad w = (s.handed ++ w.0, wrote_then_failed start mid now s.handed w.0 s.log w.2, inl (subst (λ (z : List ℕ). BeginsEncoding limit z (s.handed ++ w.0)) (append-nil text) (begins_now [] w.0 w.1.0 s w.1.1)))
+refusal_ends now told why Memory s bad w = absurd w
+refusal_ends now told why Read s bad w = absurd w
+refusal_ends now told why Bound s bad w = absurd w
+refusal_ends now told why Hex s bad w = absurd w
 
-pub refusal_end : (limit : ℕ) (now : SinkLog) {start mid : SinkLog} {text : List ℕ} {pending : Option Message} {number : ℕ} {line out : List ℕ} (why : Refusal) (A : Unit {0} → Type 0) (r : Result (Unit {0}) ToolErr) → 10 ≤ limit → (s : StandsAt start mid text pending number line out)
-    → Refused (rules_for limit) (lines_of text) (number + 1) why (row s.done) → IsErrAnd r (λ e. Refusing number out why mid now e) → MatchResult r A (StoppedAtEnd limit start now text)
-refusal_end limit now why A (Ok u) le s bad w = absurd w
-refusal_end limit now why A (Err e) le s bad w = refusal_ends limit now why e le s bad w
+pub refusal_end : {limit : ℕ} (now : SinkLog) {start mid : SinkLog} {text : List ℕ} {es : List Entry} {number : ℕ} {line out : List ℕ} (told : ℕ) (why : Refusal) (A : Unit {0} → Type 0) (r : Result (Unit {0}) ToolErr) → (s : StandsAt limit start mid text es number line out)
+    → Refused (rules_for limit) (lines_of text) told why (row s.done) → IsErrAnd r (λ e. Refusing told out why mid now e) → MatchResult r A (StoppedAtEnd limit start now text)
+refusal_end now told why A (Ok u) s bad w = absurd w
+refusal_end now told why A (Err e) s bad w = refusal_ends now told why e s bad w
 
 -- a growth was refused
-pub memory_stops : (limit : ℕ) {start now : SinkLog} {text : List ℕ} {pending : Option Message} {number : ℕ} {line out : List ℕ} (later : List ℕ) → 10 ≤ limit → StandsAt start now text pending number line out → Stopped limit start now (text ++ later) Memory
-memory_stops limit later le s = (s.handed, s.log, handed_now limit later le s)
+pub memory_stops : {limit : ℕ} {start now : SinkLog} {text : List ℕ} {es : List Entry} {number : ℕ} {line out : List ℕ} (later : List ℕ) → StandsAt limit start now text es number line out → Stopped limit start now (text ++ later) Memory
+memory_stops later s = (s.handed, s.log, handed_now later s)
 
-pub memory_ends : (limit : ℕ) {start now : SinkLog} {text : List ℕ} {pending : Option Message} {number : ℕ} {line out : List ℕ} → 10 ≤ limit → StandsAt start now text pending number line out → StoppedAtEnd limit start now text Memory
-memory_ends limit le s = (s.handed, s.log, handed_all limit le s)
+memory_ends : {limit : ℕ} {start now : SinkLog} {text : List ℕ} {es : List Entry} {number : ℕ} {line out : List ℕ} → StandsAt limit start now text es number line out → StoppedAtEnd limit start now text Memory
+memory_ends s = (s.handed, s.log, handed_all s)
 
--- a write failed once the next line was read
-pub pieces_stop : (limit : ℕ) {start mid : SinkLog} {text : List ℕ} {pending : Option Message} {number : ℕ} {line out : List ℕ} (now : SinkLog) (part : List ℕ) (m : Message) (out1 : List ℕ) (e : ToolErr) → 10 ≤ limit → StandsAt start mid text pending number line out → Lacks 10 part
-    → SaysMessage (Ended (line ++ part)) (0, m) → AppendsFrame pending out out1 → Writes out1 mid now (Err e) → Stopped limit start now (text ++ (part ++ (10 ∷ []))) e
-pieces_stop limit {start} {mid} {pending} {out} now part m out1 Write le s n ok appends w =
-    let f = appends s.lawful in (
+-- the next line is not read
+pub line_result : {limit : ℕ} (now : SinkLog) {start mid : SinkLog} {text : List ℕ} {es : List Entry} {number : ℕ} {begun out : List ℕ} (part : List ℕ) (error : LineErr) (A : Unit {0} → Type 0) (r : Result (Unit {0}) ToolErr) → (s : StandsAt limit start mid text es number begun out) → Lacks 10 part
+    → ReadsLine (length es) (begun ++ part) (Err error) → IsErrAnd r (λ e. RefusingLine error (number + 1) out mid now e) → MatchResult r A (Stopped limit start now (text ++ (part ++ (10 ∷ []))))
+line_result now {number} part (unread.Refused reason) A r s n bad w = refusal_result now (part ++ (10 ∷ [])) (number + 1) reason A r s (line_bad part reason s n bad) w
+line_result now part unread.Memory A (Ok u) s n bad w = absurd w
+line_result {limit} now {start} {text} part unread.Memory A (Err e) s n bad w =
+    subst (λ (x : ToolErr). Stopped limit start now (text ++ (part ++ (10 ∷ []))) x) (sym w.0) (subst (λ (l : SinkLog). Stopped limit start l (text ++ (part ++ (10 ∷ []))) Memory) (sym w.1) (memory_stops (part ++ (10 ∷ [])) s))
+
+-- a line can't be closed where the next line closes it
+pub close_result : {limit : ℕ} (now : SinkLog) {start mid : SinkLog} {text : List ℕ} {es : List Entry} {number : ℕ} {begun out out1 : List ℕ} (part : List ℕ) (line : Line) (error : CloseErr) (A : Unit {0} → Type 0) (r : Result (Unit {0}) ToolErr) → (s : StandsAt limit start mid text es number begun out) → Lacks 10 part → SaidIs (length es) (begun ++ part) line
+    → out1 ≡ out → ClosingStops limit (said_level line) es error → IsErrAnd r (λ e. RefusingClose error out1 mid now e) → MatchResult r A (Stopped limit start now (text ++ (part ++ (10 ∷ []))))
+close_result now {mid} part line (close.Refused told reason) A r s n ok kept f w = refusal_result now (part ++ (10 ∷ [])) told reason A r s (closing_bad part line told reason s n ok f) (subst (λ (o : List ℕ). IsErrAnd r (λ e. Refusing told o reason mid now e)) kept w)
+close_result now part line close.Memory A (Ok u) s n ok kept f w = absurd w
+close_result {limit} now {start} {text} part line close.Memory A (Err e) s n ok kept f w =
+    subst (λ (x : ToolErr). Stopped limit start now (text ++ (part ++ (10 ∷ []))) x) (sym w.0) (subst (λ (l : SinkLog). Stopped limit start l (text ++ (part ++ (10 ∷ []))) Memory) (sym w.1) (memory_stops (part ++ (10 ∷ [])) s))
+
+-- a line can't be closed at the end
+pub close_end : {limit : ℕ} (now : SinkLog) {start mid : SinkLog} {text : List ℕ} {es : List Entry} {number : ℕ} {out out1 : List ℕ} (line : List ℕ) (error : CloseErr) (A : Unit {0} → Type 0) (r : Result (Unit {0}) ToolErr) → (s : StandsAt limit start mid text es number line out) → length line ≡ 0
+    → out1 ≡ out → ClosingStops limit 0 es error → IsErrAnd r (λ e. RefusingClose error out1 mid now e) → MatchResult r A (StoppedAtEnd limit start now text)
+close_end now {mid} line (close.Refused told reason) A r s none kept f w = refusal_end now told reason A r s (closing_ends line told reason s none f) (subst (λ (o : List ℕ). IsErrAnd r (λ e. Refusing told o reason mid now e)) kept w)
+close_end now line close.Memory A (Ok u) s none kept f w = absurd w
+close_end {limit} now {start} {text} line close.Memory A (Err e) s none kept f w =
+    subst (λ (x : ToolErr). StoppedAtEnd limit start now text x) (sym w.0) (subst (λ (l : SinkLog). StoppedAtEnd limit start l text Memory) (sym w.1) (memory_ends s))
+
+-- ---- a write failed once the next line was read
+
+line_whole : {limit : ℕ} {start now : SinkLog} {text : List ℕ} {es : List Entry} {number : ℕ} {begun out : List ℕ} (part : List ℕ) (line : Line) (new : List Entry) (messages : List MessageTree) → (s : StandsAt limit start now text es number begun out) → Lacks 10 part → SaidIs (length es) (begun ++ part) line
+    → Begins limit es new (said_level line) (said_node line) (number + 1) messages → (more : List ℕ) → AreClosed limit ((text ++ (part ++ (10 ∷ []))) ++ more) (s.done ++ messages)
+line_whole {text} {es} {begun} part line new messages s n ok b more =
+    let x = next_line (Ended (begun ++ part)) (said_level line) (said_node line) new messages s (said_says (length es) (begun ++ part) line ok) (said_within (length es) (begun ++ part) line ok) b in (
+      open_of (s.done ++ messages) new,
+      lines_of more,
+      record {
+        front = s.front ++ (Ended (begun ++ part) ∷ []);
+        lines_are = cuts_line s.front text begun part more s.cuts (lacks_append 10 begun part s.no_lf n) ∙ sym (append_assoc s.front (Ended (begun ++ part) ∷ []) (lines_of more));
+        says = x.says;
+        sound = x.sound;
+      },
+      refl,
+    )
+
+pub pieces_stop : {limit : ℕ} {start mid : SinkLog} {text : List ℕ} {es : List Entry} {number : ℕ} {begun out : List ℕ} (now : SinkLog) (part : List ℕ) (line : Line) (new : List Entry) (out1 : List ℕ) (e : ToolErr) → StandsAt limit start mid text es number begun out → Lacks 10 part → SaidIs (length es) (begun ++ part) line
+    → Opened limit es new line (number + 1) out out1 → Writes out1 mid now (Err e) → Stopped limit start now (text ++ (part ++ (10 ∷ []))) e
+pieces_stop {limit} {start} {mid} {out} now part line new out1 Write s n ok o w =
+    let f = o.appended in (
       s.handed ++ w.0,
       wrote_then_failed start mid now s.handed w.0 s.log w.2,
       record {
-        messages = s.done ++ those pending;
-        spellings = s.spellings ++ f.0;
-        closed = line_whole limit part m le s n ok;
-        spelled = spells_within limit (s.done ++ those pending) (s.spellings ++ f.0) le (spells_more 10 s.done (those pending) s.spellings f.0 s.spelled f.1);
-        begins = (w.1.0, front_more (s.spellings ++ f.0) s.handed out1 w.0 w.1.0 (gathered_more s.spellings s.handed out f.0 out1 s.gathered f.2) w.1.1);
+        messages = s.done ++ o.messages;
+        spellings = s.spellings ++ f.bytes;
+        closed = line_whole part line new o.messages s n ok o.begins;
+        spelled = spells_more limit s.done o.messages s.spellings f.bytes s.spelled f.spelled;
+        begins = (w.1.0, front_more (s.spellings ++ f.bytes) s.handed out1 w.0 w.1.0 (gathered_more s.spellings s.handed out f.bytes out1 s.gathered f.more) w.1.1);
       },
     )
-pieces_stop limit now part m out1 (Listing line reason) le s n ok appends w = absurd w.2
-pieces_stop limit now part m out1 Memory le s n ok appends w = absurd w.2
-pieces_stop limit now part m out1 Read le s n ok appends w = absurd w.2
-pieces_stop limit now part m out1 Bound le s n ok appends w = absurd w.2
-pieces_stop limit now part m out1 Hex le s n ok appends w = absurd w.2
+pieces_stop now part line new out1 (Listing number reason) s n ok o w = absurd w.2
+pieces_stop now part line new out1 Memory s n ok o w = absurd w.2
+pieces_stop now part line new out1 Read s n ok o w = absurd w.2
+pieces_stop now part line new out1 Bound s n ok o w = absurd w.2
+pieces_stop now part line new out1 Hex s n ok o w = absurd w.2
 
 -- stopped is stopped, whatever follows
 begins_more : (limit : ℕ) (text later bytes : List ℕ) → BeginsEncoding limit text bytes → BeginsEncoding limit (text ++ later) bytes
@@ -259,53 +376,32 @@ stopped_more limit start now text later Read s = s
 stopped_more limit start now text later Bound s = s
 stopped_more limit start now text later Hex s = s
 
--- the text ends
+-- ---- the text ends
 
-none_left : (front : List TextLine) → front ++ lines_of ([] ++ []) ≡ front
-unfolding lines_of
-none_left front = append-nil front
+ends_encodes : {limit : ℕ} {start now : SinkLog} {text : List ℕ} {es : List Entry} {number : ℕ} {out out1 : List ℕ} (line : List ℕ) → (s : StandsAt limit start now text es number line out) → length line ≡ 0 → (f : Finished limit es out out1) → Encodes limit text (s.spellings ++ f.appended.bytes)
+ends_encodes {limit} {text} {es} line s none f =
+    let o = open_of s.done es in
+    let ms = s.done ++ f.messages in
+    let same : nodes 0 (row ms) ≡ covers o = sym (append-nil (nodes 0 (row ms))) ∙ sym (ap covers (f.closed.is s.done)) ∙ covers_pop (depth o - 0) o in
+    let says : AllZip SaysLine (lines_of text) (nodes 0 (row ms)) = subst (λ (z : List TextLine). AllZip SaysLine z (nodes 0 (row ms))) (sym (all_lines line s none)) (subst (AllZip SaysLine s.front) (sym same) s.says) in
+    record { messages = ms; listing = says_text text ms says; spelled = spells_more limit s.done f.messages s.spellings f.appended.bytes s.spelled f.appended.spelled }
 
-ends_encodes : (limit : ℕ) {start now : SinkLog} {text : List ℕ} {pending : Option Message} {number : ℕ} {out : List ℕ} (line bytes : List ℕ) → 10 ≤ limit → (s : StandsAt start now text pending number line out) → length line ≡ 0 → AreSpelled 10 (those pending) bytes → Encodes limit text (s.spellings ++ bytes)
-ends_encodes limit {text} {pending} [] bytes le s none f =
-    let all : lines_of text ≡ s.front = ap lines_of (sym (append-nil text)) ∙ s.cuts [] ∙ none_left s.front in
-    let says : AllZip SaysMessage (lines_of text) (nodes 0 (row (s.done ++ those pending))) =
-    subst (λ (z : List TextLine). AllZip SaysMessage z (nodes 0 (row (s.done ++ those pending)))) (sym all) (subst (λ (z : List (ℕ × Message)). AllZip SaysMessage s.front z) (sym (closed_nodes s.done pending)) s.says) in
-    record {
-      messages = s.done ++ those pending;
-      text_is = (says_text text (s.done ++ those pending) says).0;
-      spelled = spells_within limit (s.done ++ those pending) (s.spellings ++ bytes) le (spells_more 10 s.done (those pending) s.spellings bytes s.spelled f);
-    }
-ends_encodes limit (b ∷ line) bytes le s none f = absurd (omega arith)
-
-pub text_ends : (limit : ℕ) {start mid : SinkLog} {text : List ℕ} {pending : Option Message} {number : ℕ} {out : List ℕ} (now : SinkLog) (line out1 : List ℕ) → 10 ≤ limit → StandsAt start mid text pending number line out → length line ≡ 0 → AppendsFrame pending out out1
+pub text_ends : {limit : ℕ} {start mid : SinkLog} {text : List ℕ} {es : List Entry} {number : ℕ} {out : List ℕ} (now : SinkLog) (line out1 : List ℕ) → StandsAt limit start mid text es number line out → length line ≡ 0 → Finished limit es out out1
     → (r : Result (Unit {0}) ToolErr) → Writes out1 mid now r → MatchResult r (λ _. WroteEncoding limit start now text) (StoppedAtEnd limit start now text)
-text_ends limit {start} {mid} {out} now line out1 le s none appends (Ok u) w =
-    let f = appends s.lawful in
-    let all = gathered_more s.spellings s.handed out f.0 out1 s.gathered f.2 in
-    (s.spellings ++ f.0, ends_encodes limit line f.0 le s none f.1, subst (Wrote start now) (sym all) (wrote_more start mid now s.handed out1 s.log w))
-text_ends limit {start} {mid} {out} now line out1 le s none appends (Err Write) w =
-    let f = appends s.lawful in
-    let all = gathered_more s.spellings s.handed out f.0 out1 s.gathered f.2 in (
+text_ends {start} {mid} {out} now line out1 s none f (Ok u) w =
+    let all = gathered_more s.spellings s.handed out f.appended.bytes out1 s.gathered f.appended.more in
+    (s.spellings ++ f.appended.bytes, ends_encodes line s none f, subst (Wrote start now) (sym all) (wrote_more start mid now s.handed out1 s.log w))
+text_ends {start} {mid} {out} now line out1 s none f (Err Write) w =
+    let all = gathered_more s.spellings s.handed out f.appended.bytes out1 s.gathered f.appended.more in (
       s.handed ++ w.0,
       wrote_then_failed start mid now s.handed w.0 s.log w.2,
-      inr (s.spellings ++ f.0, ends_encodes limit line f.0 le s none f.1, (w.1.0, front_more (s.spellings ++ f.0) s.handed out1 w.0 w.1.0 all w.1.1)),
+      inr (s.spellings ++ f.appended.bytes, ends_encodes line s none f, (w.1.0, front_more (s.spellings ++ f.appended.bytes) s.handed out1 w.0 w.1.0 all w.1.1)),
     )
-text_ends limit now line out1 le s none appends (Err (Listing n r)) w = absurd w.2
-text_ends limit now line out1 le s none appends (Err Memory) w = absurd w.2
-text_ends limit now line out1 le s none appends (Err Read) w = absurd w.2
-text_ends limit now line out1 le s none appends (Err Bound) w = absurd w.2
-text_ends limit now line out1 le s none appends (Err Hex) w = absurd w.2
-
--- one step of the code
-
--- where no line is begun, the part is the line
-pub nothing_begun : (d : ℕ) (line part : List ℕ) (r : Result Message Refusal) → length line ≡ 0 → MatchResult r (λ m. SaysMessage (Ended part) (0, m)) (λ e. FirstFailing (line_checks d part) e) → MatchResult r (λ m. SaysMessage (Ended (line ++ part)) (0, m)) (λ e. FirstFailing (line_checks d (line ++ part)) e)
-nothing_begun d [] part r none m = m
-nothing_begun d (b ∷ line) part r none m = absurd (omega arith)
-
-pub frame_appended : {E : Type 0} (pending : Option Message) (m : Message) (frame old new : List ℕ) (r : Result (Unit {0}) E) → pending ≡ Some m → (IsLawful m → Spells 10 m frame) → new ≡ (if is_ok r then old ++ frame else old) → OnOk r (AppendsFrame pending old new)
-frame_appended pending m frame old new (Err e) is spells ok = tt
-frame_appended pending m frame old new (Ok u) is spells ok = subst (λ (p : Option Message). AppendsFrame p old new) (sym is) (λ lawful. (frame, record { frames = frame ∷ []; each = (spells lawful.0, tt); bytes_are = sym (append-nil frame) }, ok))
+text_ends now line out1 s none f (Err (Listing n r)) w = absurd w.2
+text_ends now line out1 s none f (Err Memory) w = absurd w.2
+text_ends now line out1 s none f (Err Read) w = absurd w.2
+text_ends now line out1 s none f (Err Bound) w = absurd w.2
+text_ends now line out1 s none f (Err Hex) w = absurd w.2
 
 -- a piece is what was taken of it, a line, and what is left
 pub piece_parts : (text taken part after rest piece : List ℕ) → piece ≡ taken ++ rest → rest ≡ part ++ (10 ∷ after) → ((text ++ taken) ++ (part ++ (10 ∷ []))) ++ after ≡ text ++ piece

@@ -5,7 +5,8 @@ use Rattle.std.proofs.lemmas.List.{append-nil}
 use Rattle.std.proofs.lemmas.Bool.{cases_order}
 use Rattle.llrp_tool.specs.OpenText.{Forest, end, node, nodes, Begun, OpenText, covers}
 use Rattle.llrp_tool.specs.FirstRefusal.{Rules, AreClear, AllClose, Sound, RefusesLine, RefusesClosing, Opens, Lists, Refused, HasOneAnswer}
-use Rattle.llrp_tool.proofs.Growing.{join, text_of, add_to, close_in, close, pop, depth, cut, put, run, empty, run_append, Fits, fits_middle, cut_cut, made, last_open}
+use Rattle.llrp_tool.specs.OpenTextSteps.{join, text_of, add_to, close_in, close, pop, depth, cut, put}
+use Rattle.llrp_tool.proofs.Growing.{run, empty, run_append, Fits, fits_middle, cut_cut, made, last_open}
 
 module _ {H R : Type 0} (closing : H → Forest H → Option R) where
   pub close_parts : (f g : Forest H) → AllClose closing (join f g) → AllClose closing f × AllClose closing g

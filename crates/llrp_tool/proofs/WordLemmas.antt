@@ -1,43 +1,47 @@
 -- The words of a line.
-use Rattle.std.proofs.Common.{◌≡◌, ℕ, ◌==◌, Bool, true, false, cond, Err, List, [], ◌∷◌, ◌++◌, refl, ap, ◌∙◌}
-use Rattle.std.specs.List.{onto_first}
-use Rattle.llrp_tool.specs.Encoder.{Lacks, IsSplit}
-use Rattle.llrp_tool.specs.MessageLine.{words}
-use Rattle.llrp_tool.specs.declared.message.MsgKind.{MsgKind}
-use Rattle.llrp_tool.specs.declared.fault.Refusal.TheVariants.{Fields}
-use Rattle.llrp_tool.specs.Reading.{of_fields}
+use Rattle.std.proofs.Common.{◌≡◌, ℕ, zero, suc, ◌+◌, ◌<◌, ◌≤◌, Bool, true, false, not, cond, List, [], ◌∷◌, ◌++◌, length, refl, sym, ap, ◌∙◌, arith}
+use Rattle.std.specs.Prelude.{◌==◌}
+use Rattle.std.specs.List.{slice_split, onto_first, position_or_len, before_first, after_first, join_with_byte}
+use Rattle.std.proofs.lemmas.List.Splits.{slice_split_first, length-slice_split, join_with_byte-slice_split}
+use Rattle.llrp_tool.specs.Splits.{Lacks, IsSplit, words}
+
+module _ (p : ℕ → Bool) where
+  alone : (xs : List ℕ) → position_or_len p xs ≡ length xs → slice_split p xs ≡ xs ∷ []
+  alone [] h = refl
+  alone (x ∷ xs) h =
+      let M : Bool → Type 0 = λ b. cond (not b) (1 + position_or_len p xs) 0 ≡ suc (length xs) → cond b ([] ∷ slice_split p xs) (onto_first x (slice_split p xs)) ≡ (x ∷ xs) ∷ [] in
+      (elim (p x) as M [
+        | true ↦ λ e. absurd (omega arith)
+        | false ↦ λ e. let rest = alone xs (omega arith) in ap (onto_first x) rest
+      ]) h
 
 -- a line without spaces is one word
-pub one_word : (w : List ℕ) → Lacks 32 w → words w ≡ w ∷ []
-one_word [] h = refl
-one_word (c ∷ w) h = rw h.0 (ap (onto_first c) (one_word w h.1))
+pub one_word : (line : List ℕ) → position_or_len (λ b. b == 32) line ≡ length line → words line ≡ line ∷ []
+one_word line h = alone (λ b. b == 32) line h
 
 -- the first word stands before the first space
-pub first_word : (w rest : List ℕ) → Lacks 32 w → words (w ++ (32 ∷ rest)) ≡ w ∷ words rest
-first_word [] rest h = refl
-first_word (c ∷ w) rest h = rw h.0 (ap (onto_first c) (first_word w rest h.1))
+pub first_word : (line first rest : List ℕ) → (first ≡ before_first (λ b. b == 32) line) × (rest ≡ after_first (λ b. b == 32) line) × (position_or_len (λ b. b == 32) line < length line) → words line ≡ first ∷ words rest
+first_word line first rest h = rw (h.0, h.1) (slice_split_first (λ b. b == 32) line 0 h.2)
 
--- a line with a space begins with the word before it
-pub split_word : (line w rest : List ℕ) → IsSplit 32 line w rest → words line ≡ w ∷ words rest
-split_word line w rest h = ap words h.1 ∙ first_word w rest h.0
+-- at any byte: a list that lacks it is one part
+pub one_part : (c : ℕ) (w : List ℕ) → Lacks c w → slice_split (λ b. b == c) w ≡ w ∷ []
+one_part c [] h = refl
+one_part c (b ∷ w) h = rw h.0 (ap (onto_first b) (one_part c w h.1))
 
--- what a line's words are
-pub data HasWord (ws : List (List ℕ)) : Type 0 where
-  a_word : (w : List ℕ) (more : List (List ℕ)) → ws ≡ w ∷ more → HasWord ws
+pub first_part : (c : ℕ) (w rest : List ℕ) → Lacks c w → slice_split (λ b. b == c) (w ++ (c ∷ rest)) ≡ w ∷ slice_split (λ b. b == c) rest
+first_part c [] rest h = let t : (c == c) ≡ true = same c in rw t refl
+  where
+    same : (c : ℕ) → (c == c) ≡ true
+    same c = grind arith
+first_part c (b ∷ w) rest h = rw h.0 (ap (onto_first b) (first_part c w rest h.1))
 
-onto_word : (c : ℕ) (ws : List (List ℕ)) → HasWord (onto_first c ws)
-onto_word c [] = a_word (c ∷ []) [] refl
-onto_word c (w ∷ ws) = a_word (c ∷ w) ws refl
+pub split_part : (c : ℕ) (line w rest : List ℕ) → IsSplit c line w rest → slice_split (λ b. b == c) line ≡ w ∷ slice_split (λ b. b == c) rest
+split_part c line w rest h = ap (slice_split (λ b. b == c)) h.1 ∙ first_part c w rest h.0
 
 -- each line has a word
-pub has_word : (line : List ℕ) → HasWord (words line)
-has_word [] = a_word [] [] refl
-has_word (c ∷ line) = on (c == 32)
-  where
-    on : (b : Bool) → HasWord (cond b ([] ∷ words line) (onto_first c (words line)))
-    on true = a_word [] (words line) refl
-    on false = onto_word c (words line)
+pub some_word : (line : List ℕ) → 0 < length (words line)
+some_word line = omega (arith, length-slice_split (λ b. b == 32) line)
 
--- three words or more are too many for a message without fields
-pub too_many : (kind : MsgKind) (version id rest : List ℕ) → Err Fields ≡ of_fields kind (version ∷ id ∷ words rest)
-too_many kind version id rest = elim (has_word rest) [ a_word w more e ↦ rw e refl ]
+-- a line that is one word is that word
+pub only_word : (line w : List ℕ) → words line ≡ w ∷ [] → line ≡ w
+only_word line w h = sym (join_with_byte-slice_split 32 line) ∙ ap (join_with_byte 32) h

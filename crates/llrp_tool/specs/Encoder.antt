@@ -1,65 +1,64 @@
 -- Where an encoder stands after a front of a text, and how it stops.
-use Rattle.std.specs.Prelude.{◌≡◌, ℕ, ◌+◌, ◌==◌, false, ◌⊎◌, List, [], ◌∷◌, ◌++◌, length, Option, Some, None}
-use Rattle.std.specs.List.{AllZip, AllByRecursion}
-use Rattle.llrp_tool.specs.declared.message.Message.{Message}
+use Rattle.std.specs.Prelude.{◌≡◌, ℕ, ◌≤◌, ◌⊎◌, List, [], ◌∷◌, ◌++◌, length}
+use Rattle.std.specs.List.{AllZip}
+use Rattle.llrp_tree.specs.Tree.{MessageTree}
 use Rattle.llrp_tool.specs.declared.encode.Encoder.{Encoder}
+use Rattle.llrp_tool.specs.declared.line.Line.{Line}
+use Rattle.llrp_tool.specs.declared.line.Line.TheVariants as said
+use Rattle.llrp_tool.specs.declared.line.LineErr.{LineErr}
+use Rattle.llrp_tool.specs.declared.line.LineErr.TheVariants as unread
 use Rattle.llrp_tool.specs.declared.fault.Refusal.{Refusal}
 use Rattle.llrp_tool.specs.declared.fault.ToolErr.{ToolErr}
 use Rattle.llrp_tool.specs.declared.fault.ToolErr.TheVariants.{Listing, Hex, Read, Write, Bound, Memory}
+use Rattle.llrp_tool.specs.declared.open_lines.OpenMessage.{OpenMessage}
+use Rattle.llrp_tool.specs.declared.open_lines.CloseErr.{CloseErr}
+use Rattle.llrp_tool.specs.declared.open_lines.CloseErr.TheVariants as close
 use Rattle.llrp_tool.specs.Copying.{IsPrefix}
 use Rattle.llrp_stream.specs.Device.{SinkLog, Wrote, WroteAndFailed}
-use Rattle.llrp_tool.specs.Encoding.{AreSpelled, BeginsEncoding, Encodes, Refuses, row}
-use Rattle.llrp_tool.specs.Frame.{IsLawful}
+use Rattle.llrp_tool.specs.Encoding.{AreSpelled, BeginsEncoding, Encodes, Refuses}
+use Rattle.llrp_tool.specs.FirstRefusal.{IsLastOpen}
+use Rattle.llrp_tool.specs.LineChecks.{SaysLine}
+use Rattle.llrp_tool.specs.LineReading.{message_node, parameter_node}
 use Rattle.llrp_tool.specs.Lines.{TextLine, lines_of, NoLf}
-use Rattle.llrp_tool.specs.MessageLine.{SaysMessage}
-use Rattle.llrp_tool.specs.OpenText.{Begun, OpenText, end, covers}
+use Rattle.llrp_tool.specs.ListingRules.{row}
+use Rattle.llrp_tool.specs.NodeLine.{NodeLine}
+use Rattle.llrp_tool.specs.OpenLines.{Entry, entries_in, open_of, AreNumbered, IsSound, Begins, AllClosed}
+use Rattle.llrp_tool.specs.OpenText.{covers}
 
--- the bytes have no such byte
-abbrev pub Lacks : ℕ → List ℕ → Type 0
-Lacks byte bytes = AllByRecursion (λ b. (b == byte) ≡ false) bytes
+-- the level of what a line says, and what it says
+abbrev pub said_level : Line → ℕ
+said_level (said.Message line) = 0
+said_level (said.Parameter line) = line.level
 
--- the first such byte stands between the two parts
-abbrev pub IsSplit : ℕ → List ℕ → List ℕ → List ℕ → Type 0
-IsSplit byte bytes before after = Lacks byte before × (bytes ≡ before ++ (byte ∷ after))
+abbrev pub said_node : Line → NodeLine
+said_node (said.Message line) = message_node line
+said_node (said.Parameter line) = parameter_node line
 
--- the message, if there is one, in a list
-abbrev pub those : Option Message → List Message
-those None = []
-those (Some message) = message ∷ []
-
--- the message's line is open, if there is one
-abbrev pub chain_of : Option Message → List (Begun Message)
-chain_of None = []
-chain_of (Some message) = record { head = message; below = end } ∷ []
-
--- whole messages, and one that may be open
-abbrev pub open_of : List Message → Option Message → OpenText Message
-open_of done pending = record { whole = row done; chain = chain_of pending }
-
--- no message is whole before the first is open
-abbrev pub Started : List Message → Option Message → Type 0
-Started done None = done ≡ []
-Started done (Some message) = Unit {0}
+-- the line can stand where so many lines are open: a message's can anywhere
+abbrev pub CanStand : ℕ → Line → Type 0
+CanStand depth (said.Message line) = Unit {0}
+CanStand depth (said.Parameter line) = (1 ≤ line.level) × (line.level ≤ depth)
 
 -- Where an encoder stands after a front of a text: these messages are closed, and their bytes were handed on or are gathered in out.
-pub record StandsAt (start now : SinkLog) (text : List ℕ) (pending : Option Message) (number : ℕ) (line out : List ℕ) : Type 0 where
-  pub done : List Message
+pub record StandsAt (limit : ℕ) (start now : SinkLog) (text : List ℕ) (entries : List Entry) (number : ℕ) (line out : List ℕ) : Type 0 where
+  pub done : List MessageTree
   pub front : List TextLine
   pub cuts : (more : List ℕ) → lines_of (text ++ more) ≡ front ++ lines_of (line ++ more)
   pub no_lf : NoLf line
-  pub says : AllZip SaysMessage front (covers (open_of done pending))
+  pub says : AllZip SaysLine front (covers (open_of done entries))
   pub counted : number ≡ length front
-  pub started : Started done pending
-  pub lawful : AllByRecursion IsLawful (those pending)
+  pub last : IsLastOpen (open_of done entries)
+  pub sound : IsSound limit (open_of done entries)
+  pub numbered : AreNumbered (row done) entries
   pub spellings : List ℕ
-  pub spelled : AreSpelled 10 done spellings
+  pub spelled : AreSpelled limit done spellings
   pub handed : List ℕ
   pub gathered : spellings ≡ handed ++ out
   pub log : Wrote start now handed
 
 -- where an encoder stands after a front of a text
 abbrev pub Stands : SinkLog → SinkLog → List ℕ → Encoder → Type 0
-Stands start now text encoder = StandsAt start now text encoder.pending encoder.number encoder.line.items encoder.out.items
+Stands start now text encoder = StandsAt encoder.limit start now text (entries_in encoder.pending) encoder.number encoder.line.items encoder.out.items
 
 -- the encoder stopped after this front of a text
 abbrev pub Stopped : ℕ → SinkLog → SinkLog → List ℕ → ToolErr → Type 0
@@ -83,15 +82,39 @@ StoppedAtEnd limit w0 w1 text Hex = ⊥
 abbrev pub WroteEncoding : ℕ → SinkLog → SinkLog → List ℕ → Type 0
 WroteEncoding limit w0 w1 text = (bytes : List ℕ) × Encodes limit text bytes × Wrote w0 w1 bytes
 
--- the line after so many is refused with this error: all that was gathered was written, or a front of it
+-- a refusal of this line is told: all that was gathered was written, or a front of it
 abbrev pub Refusing : ℕ → List ℕ → Refusal → SinkLog → SinkLog → ToolErr → Type 0
-Refusing number out why w0 w1 (Listing line reason) = (line ≡ number + 1) × (reason ≡ why) × Wrote w0 w1 out
+Refusing number out why w0 w1 (Listing line reason) = (line ≡ number) × (reason ≡ why) × Wrote w0 w1 out
 Refusing number out why w0 w1 Write = (front : List ℕ) × IsPrefix front out × WroteAndFailed w0 w1 front
 Refusing number out why w0 w1 Memory = ⊥
 Refusing number out why w0 w1 Read = ⊥
 Refusing number out why w0 w1 Bound = ⊥
 Refusing number out why w0 w1 Hex = ⊥
 
--- the frame of the message, if there is one, was appended
-abbrev pub AppendsFrame : Option Message → List ℕ → List ℕ → Type 0
-AppendsFrame pending old new = AllByRecursion IsLawful (those pending) → (bytes : List ℕ) × AreSpelled 10 (those pending) bytes × (new ≡ old ++ bytes)
+-- what is told where a line is not read
+abbrev pub RefusingLine : LineErr → ℕ → List ℕ → SinkLog → SinkLog → ToolErr → Type 0
+RefusingLine (unread.Refused reason) number out w0 w1 e = Refusing number out reason w0 w1 e
+RefusingLine unread.Memory number out w0 w1 e = (e ≡ Memory) × (w1 ≡ w0)
+
+-- what is told where a line can't be closed
+abbrev pub RefusingClose : CloseErr → List ℕ → SinkLog → SinkLog → ToolErr → Type 0
+RefusingClose (close.Refused number reason) out w0 w1 e = Refusing number out reason w0 w1 e
+RefusingClose close.Memory out w0 w1 e = (e ≡ Memory) × (w1 ≡ w0)
+
+-- messages' frames were appended
+pub record Appended (limit : ℕ) (messages : List MessageTree) (old new : List ℕ) : Type 0 where
+  pub bytes : List ℕ
+  pub spelled : AreSpelled limit messages bytes
+  pub more : new ≡ old ++ bytes
+
+-- The next line is open, and the messages closed before it are appended.
+pub record Opened (limit : ℕ) (old new : List Entry) (line : Line) (number : ℕ) (out0 out1 : List ℕ) : Type 0 where
+  pub messages : List MessageTree
+  pub begins : Begins limit old new (said_level line) (said_node line) number messages
+  pub appended : Appended limit messages out0 out1
+
+-- All lines are closed, and the messages are appended.
+pub record Finished (limit : ℕ) (old : List Entry) (out0 out1 : List ℕ) : Type 0 where
+  pub messages : List MessageTree
+  pub closed : AllClosed limit old messages
+  pub appended : Appended limit messages out0 out1

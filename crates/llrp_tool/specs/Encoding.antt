@@ -1,49 +1,45 @@
 -- What encode writes for a listing.
 use Rattle.std.specs.Prelude.{◌≡◌, ℕ, ◌⊎◌, List, [], ◌∷◌, ◌++◌}
 use Rattle.std.specs.List.{flat_map, AllZip}
-use Rattle.llrp_tool.specs.declared.message.Message.{Message}
+use Rattle.llrp_tree.specs.Tree.{MessageTree}
+use Rattle.llrp_tree.specs.Frame.{Frame}
 use Rattle.llrp_tool.specs.declared.fault.Refusal.{Refusal}
 use Rattle.llrp_tool.specs.declared.fault.ToolErr.{ToolErr}
 use Rattle.llrp_tool.specs.declared.fault.ToolErr.TheVariants.{Listing, Hex, Read, Write, Bound, Memory}
 use Rattle.llrp_tool.specs.Copying.{MOST_READS, ReadAll, GaveAndFailed, IsPrefix}
 use Rattle.llrp_stream.specs.Device.{SourceLog, SinkLog, Gave, Wrote, WroteAndFailed}
 use Rattle.llrp_tool.specs.FirstRefusal.{Opens, Refused}
-use Rattle.llrp_tool.specs.Frame.{Spells}
 use Rattle.llrp_tool.specs.Lines.{TextLine, lines_of}
-use Rattle.llrp_tool.specs.Listing.{messages_text}
-use Rattle.llrp_tool.specs.MessageLine.{rules_for}
-use Rattle.llrp_tool.specs.OpenText.{Forest, end, node, OpenText}
+use Rattle.llrp_tool.specs.ListingRules.{rules_for, row}
+use Rattle.llrp_tool.specs.MessageListing.{IsListingOf}
+use Rattle.llrp_tool.specs.NodeLine.{NodeLine}
+use Rattle.llrp_tool.specs.OpenText.{OpenText}
 
--- messages in a row, with nothing below them
-abbrev pub row : List Message → Forest Message
-row [] = end
-row (message ∷ messages) = node message end (row messages)
-
--- The bytes are the spellings of these messages in order, each within the limit.
-pub record AreSpelled (limit : ℕ) (messages : List Message) (bytes : List ℕ) : Type 0 where
+-- The bytes are the spellings of these lawful messages in order, each within the limit.
+pub record AreSpelled (limit : ℕ) (messages : List MessageTree) (bytes : List ℕ) : Type 0 where
   pub frames : List (List ℕ)
-  pub each : AllZip (Spells limit) messages frames
+  pub each : AllZip (λ m frame. Frame m frame limit) messages frames
   pub bytes_are : bytes ≡ flat_map (λ frame. frame) frames
 
 -- The text is the listing of messages, and the bytes are their spellings.
 pub record Encodes (limit : ℕ) (text bytes : List ℕ) : Type 0 where
-  pub messages : List Message
-  pub text_is : text ≡ messages_text messages
+  pub messages : List MessageTree
+  pub listing : IsListingOf messages text
   pub spelled : AreSpelled limit messages bytes
 
 -- The text has this first refusal, and the bytes are the spellings of the messages closed before it.
 pub record Refuses (limit : ℕ) (text : List ℕ) (line : ℕ) (reason : Refusal) (bytes : List ℕ) : Type 0 where
-  pub messages : List Message
+  pub messages : List MessageTree
   pub refused : Refused (rules_for limit) (lines_of text) line reason (row messages)
   pub spelled : AreSpelled limit messages bytes
 
 -- these messages are closed in a text
-abbrev pub AreClosed : ℕ → List ℕ → List Message → Type 0
-AreClosed limit text messages = (o : OpenText Message) × (rest : List TextLine) × Opens (rules_for limit) (lines_of text) o rest × (o.whole ≡ row messages)
+abbrev pub AreClosed : ℕ → List ℕ → List MessageTree → Type 0
+AreClosed limit text messages = (o : OpenText NodeLine) × (rest : List TextLine) × Opens (rules_for limit) (lines_of text) o rest × (o.whole ≡ row messages)
 
 -- The bytes begin the spellings of messages that are closed in each text that begins so.
 pub record BeginsEncoding (limit : ℕ) (front bytes : List ℕ) : Type 0 where
-  pub messages : List Message
+  pub messages : List MessageTree
   pub spellings : List ℕ
   pub closed : (more : List ℕ) → AreClosed limit (front ++ more) messages
   pub spelled : AreSpelled limit messages spellings

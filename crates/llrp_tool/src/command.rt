@@ -64,8 +64,18 @@ fn write_error<E: Sink>(e: &mut E, error: ToolErr) -> Result<(), ToolErr>
         ToolErr::Listing { line, reason } => {
             let mut digits = Buffer::new();
             let number = digits.format(line).as_bytes();
-            let word = reason.name().as_bytes();
-            write_parts(e, &[b"llrp: line ", number, b": ", word, b"\n"])
+            let (name, inner) = reason.names();
+            write_parts(
+                e,
+                &[
+                    b"llrp: line ",
+                    number,
+                    b": ",
+                    name.as_bytes(),
+                    inner.as_bytes(),
+                    b"\n",
+                ],
+            )
         }
         ToolErr::Hex => write_all(e, b"llrp: hex\n"),
         ToolErr::Read => write_all(e, b"llrp: read\n"),

@@ -1,75 +1,56 @@
 //! The bytes of a listing: it is read in pieces, line by line, and what its messages spell is
 //! gathered and handed on in large pieces.
 
-ghost use Rattle.std.specs.Prelude.{◌++◌, ◌+◌, ◌<◌, ◌≡◌, ◌≤◌, ◌^◌, ◌∷◌, IfErr, IfOk, IsErrAnd, IsTrue, List, MatchResult, OnErr, OnOk, [], length, ℕ};
-ghost use Rattle.llrp_tool.specs.Checks.{FirstFailing};
+ghost use Rattle.std.specs.Prelude.{◌++◌, ◌+◌, ◌<◌, ◌≡◌, ◌≤◌, ◌^◌, ◌∷◌, IfErr, IsErrAnd, IsTrue, List, MatchResult, OnErr, OnOk, [], length, ℕ};
 ghost use Rattle.llrp_stream.specs.Device.{IsFreshSource, SinkLog};
-ghost use Rattle.llrp_tool.specs.Encoder.{AppendsFrame, Lacks, Refusing, Stands, Stopped, StoppedAtEnd, WroteEncoding, chain_of};
+ghost use Rattle.llrp_tool.specs.Encoder.{CanStand, Finished, Opened, Refusing, RefusingClose, RefusingLine, Stands, StandsAt, Stopped, StoppedAtEnd, WroteEncoding, said_level};
 ghost use Rattle.llrp_tool.specs.Encoding.{EncodeStopped, Encoded};
-ghost use Rattle.llrp_tool.specs.Frame.{IsLawful, Spells};
-ghost use Rattle.llrp_tool.specs.Lines.{Ended, NoLf};
-ghost use Rattle.llrp_tool.specs.MessageLine.{SaysMessage, line_checks};
+ghost use Rattle.llrp_tool.specs.LineReading.{ReadsLine, SaidIs};
+ghost use Rattle.llrp_tool.specs.OpenLines.{ClosingStops, entries_in};
+ghost use Rattle.llrp_tool.specs.LineChecks.{LONGEST_LINE};
+ghost use Rattle.llrp_tool.specs.Splits.{Lacks};
 
 use crate::copying::{MOST_READS, READ_SIZE, hand_on, hand_on_pieces};
-use crate::fault::{Refusal, ToolErr};
-use crate::line::{LONGEST_LINE, read_line, split_once};
-use crate::message::Message;
 use llrp_stream::{Sink, Source};
-use std::alloc::{AllocError, Global};
+use crate::fault::{Refusal, ToolErr};
+use crate::line::{LONGEST_LINE, Line, LineErr, read_line};
+use crate::open_lines::{CloseErr, OpenMessage, OpenParameter};
+use crate::spaced::split_once;
+use std::alloc::Global;
 
-/// How many octets each message that this crate knows spells: those of a header.
-const FRAME_SIZE: usize = 10;
-
-/// The frame of a message.
-fn frame_of(message: Message) -> [u8; FRAME_SIZE]
-    ensures { IsLawful message → Spells 10 message result }
-{
-    let [high, low] = message.kind.number().to_be_bytes();
-    let [a, b, c, d] = message.id.to_be_bytes();
-    [message.version << 2 | high, low, 0, 0, 0, 10, a, b, c, d]
-}
-
-/// The message, if there is one, is closed: its frame is appended.
-fn append_frame(out: &mut Vec<u8>, pending: Option<Message>) -> Result<(), AllocError>
-    ensures appended { OnOk result (AppendsFrame pending out.old.items out.new.items) }
-    ensures kept { OnErr result (out.new.items ≡ out.old.items) }
-{
-    match pending {
-        None => Ok(()),
-        Some(message) => out.extend_from_slice(&frame_of(message)),
-    }
-}
-
-/// What was read of a listing and is still held: the line that isn't ended, the message whose line
-/// was the last, and the frames that the sink hasn't got yet.
+/// What was read of a listing and is still held: the line that isn't ended, the message whose line is
+/// open with all below it, and the frames that the sink hasn't got yet.
 #[derive(Drop)]
 struct Encoder {
     line: Vec<u8>,
-    pending: Option<Message>,
+    pending: Option<OpenMessage>,
     number: u64,
     out: Vec<u8>,
+    limit: u32,
 }
 
 impl Encoder {
-    fn new(alloc: Global) -> Encoder
+    fn new(alloc: Global, limit: u32) -> Encoder
         ensures stands { (log : SinkLog) → Stands log log [] result }
         ensures number { result.number ≡ 0 }
+        ensures limit { result.limit ≡ limit }
     {
         Encoder {
             line: Vec::new(alloc),
             pending: None,
             number: 0,
             out: Vec::new(alloc),
+            limit,
         }
     }
 
     /// How many lines are open.
     fn depth(&self) -> usize
-        ensures { result ≡ length (chain_of self.now.pending) }
+        ensures { result ≡ length (entries_in self.now.pending) }
     {
-        match self.pending {
+        match &self.pending {
             None => 0,
-            Some(_) => 1,
+            Some(message) => message.depth(),
         }
     }
 
@@ -80,56 +61,118 @@ impl Encoder {
         part.len() > LONGEST_LINE.saturating_sub(self.line.len())
     }
 
-    /// The message that the begun line says, ended by this part of it, or why it is refused.
-    fn read(&mut self, part: &[u8]) -> Result<Result<Message, Refusal>, AllocError>
-        ensures read { IfOk result (λ reading. MatchResult reading
-            (λ message. SaysMessage (Ended (self.old.line.items ++ part.now)) (0, message))
-            (λ reason. FirstFailing (line_checks (length (chain_of self.old.pending)) (self.old.line.items ++ part.now)) reason)) }
+    /// What the begun line says, ended by this part of it, or why it is refused.
+    fn read(&mut self, alloc: Global, part: &[u8]) -> Result<Line, LineErr>
+        ensures read { ReadsLine (length (entries_in self.old.pending)) (self.old.line.items ++ part.now) result }
         ensures pending { self.new.pending ≡ self.old.pending }
         ensures number { self.new.number ≡ self.old.number }
         ensures out { self.new.out.items ≡ self.old.out.items }
+        ensures limit { self.new.limit ≡ self.old.limit }
     {
         let depth = self.depth();
         if self.line.is_empty() {
-            return Ok(read_line(part, depth));
+            return read_line(alloc, part, depth);
         }
         if self.is_too_long(part) {
-            return Ok(Err(Refusal::Line));
+            return Err(LineErr::Refused(Refusal::Line));
         }
         self.line.extend_from_slice(part)?;
-        Ok(read_line(self.line.as_slice(), depth))
+        read_line(alloc, self.line.as_slice(), depth)
     }
 
-    /// The next line is refused: that is told once the frames of all closed messages were written.
-    fn refuse<W: Sink>(&mut self, reason: Refusal, w: &mut W) -> Result<(), ToolErr>
-        requires sink { (W.log w.old).failures + 1 < 2 ^ 64 }
+    /// Closes all lines that are open, and appends what their message spells.
+    fn close_all(&mut self, alloc: Global) -> Result<(), CloseErr>
+        ensures finished { OnOk result (Finished self.old.limit (entries_in self.old.pending) self.old.out.items self.new.out.items) }
+        ensures stopped { IfErr result (ClosingStops self.old.limit 0 (entries_in self.old.pending)) }
+        ensures kept { OnErr result (self.new.out.items ≡ self.old.out.items) }
+        ensures line { self.new.line.items ≡ self.old.line.items }
+        ensures number { self.new.number ≡ self.old.number }
+        ensures limit { self.new.limit ≡ self.old.limit }
+    {
+        match self.pending.take() {
+            None => Ok(()),
+            Some(message) => message.finish(alloc, &mut self.out, self.limit),
+        }
+    }
+
+    /// The next line is open, once the open lines of its level or deeper are closed.
+    fn open_line(&mut self, alloc: Global, line: Line) -> Result<(), CloseErr>
         requires number { self.old.number + 1 < 2 ^ 64 }
-        ensures { IsErrAnd result (λ e. Refusing self.old.number self.old.out.items reason (W.log w.old) (W.log w.new) e) }
+        requires level { CanStand (length (entries_in self.old.pending)) line }
+        ensures opened { OnOk result (Opened self.old.limit (entries_in self.old.pending) (entries_in self.new.pending) line (self.old.number + 1) self.old.out.items self.new.out.items) }
+        ensures stopped { IfErr result (ClosingStops self.old.limit (said_level line) (entries_in self.old.pending)) }
+        ensures kept { OnErr result (self.new.out.items ≡ self.old.out.items) }
+        ensures line { self.new.line.items ≡ self.old.line.items }
+        ensures number { self.new.number ≡ self.old.number }
+        ensures limit { self.new.limit ≡ self.old.limit }
+    {
+        let number = self.number + 1;
+        match line {
+            Line::Message(line) => {
+                self.close_all(alloc)?;
+                self.pending = Some(OpenMessage::new(alloc, line, number));
+            }
+            Line::Parameter(line) => {
+                let Some(mut message) = self.pending.take() else {
+                    unreachable!()
+                };
+                message.open_parameter(alloc, line, number)?;
+                self.pending = Some(message);
+            }
+        }
+        Ok(())
+    }
+
+    /// This line is refused: that is told once the frames of all closed messages were written.
+    fn refuse<W: Sink>(&mut self, line: u64, reason: Refusal, w: &mut W) -> Result<(), ToolErr>
+        requires sink { (W.log w.old).failures + 1 < 2 ^ 64 }
+        ensures { IsErrAnd result (λ e. Refusing line self.old.out.items reason (W.log w.old) (W.log w.new) e) }
     {
         hand_on(&mut self.out, w)?;
-        Err(ToolErr::Listing {
-            line: self.number + 1,
-            reason,
-        })
+        Err(ToolErr::Listing { line, reason })
     }
 
-    /// The begun line is ended, by this part of it.
-    fn end_line<W: Sink>(&mut self, part: &[u8], w: &mut W) -> Result<(), ToolErr>
+    /// What is told where the next line is not read.
+    fn refuse_line<W: Sink>(&mut self, error: LineErr, w: &mut W) -> Result<(), ToolErr>
         requires sink { (W.log w.old).failures + 1 < 2 ^ 64 }
         requires number { self.old.number + 1 < 2 ^ 64 }
-        ensures stands { (limit : ℕ) (start : SinkLog) (text : List ℕ) → 10 ≤ limit → Lacks 10 part.now → Stands start (W.log w.old) text self.old
+        ensures { IsErrAnd result (λ e. RefusingLine error (self.old.number + 1) self.old.out.items (W.log w.old) (W.log w.new) e) }
+    {
+        match error {
+            LineErr::Refused(reason) => self.refuse(self.number + 1, reason, w),
+            LineErr::Memory => Err(ToolErr::Memory),
+        }
+    }
+
+    /// What is told where a line can't be closed.
+    fn refuse_closing<W: Sink>(&mut self, error: CloseErr, w: &mut W) -> Result<(), ToolErr>
+        requires sink { (W.log w.old).failures + 1 < 2 ^ 64 }
+        ensures { IsErrAnd result (λ e. RefusingClose error self.old.out.items (W.log w.old) (W.log w.new) e) }
+    {
+        match error {
+            CloseErr::Refused { number, reason } => self.refuse(number, reason, w),
+            CloseErr::Memory => Err(ToolErr::Memory),
+        }
+    }
+
+    /// The begun line, ended by this part of it, says this. The next line begins.
+    fn take_line<W: Sink>(&mut self, alloc: Global, line: Line, w: &mut W) -> Result<(), ToolErr>
+        requires sink { (W.log w.old).failures + 1 < 2 ^ 64 }
+        requires number { self.old.number + 1 < 2 ^ 64 }
+        requires level { CanStand (length (entries_in self.old.pending)) line }
+        ensures stands { (start : SinkLog) (text begun part : List ℕ) → StandsAt self.old.limit start (W.log w.old) text (entries_in self.old.pending) self.old.number begun self.old.out.items
+            → Lacks 10 part → SaidIs (length (entries_in self.old.pending)) (begun ++ part) line
             → MatchResult result
-            (λ _. Stands start (W.log w.new) (text ++ (part.now ++ (10 ∷ []))) self.new)
-            (Stopped limit start (W.log w.new) (text ++ (part.now ++ (10 ∷ [])))) }
+            (λ _. Stands start (W.log w.new) (text ++ (part ++ (10 ∷ []))) self.new)
+            (Stopped self.old.limit start (W.log w.new) (text ++ (part ++ (10 ∷ [])))) }
         ensures number { OnOk result (self.new.number ≤ self.old.number + 1) }
+        ensures limit { OnOk result (self.new.limit ≡ self.old.limit) }
         ensures sink { OnOk result ((W.log w.new).failures ≡ (W.log w.old).failures) }
     {
-        match self.read(part)? {
-            Err(reason) => self.refuse(reason, w),
-            Ok(message) => {
-                append_frame(&mut self.out, self.pending)?;
+        match self.open_line(alloc, line) {
+            Err(error) => self.refuse_closing(error, w),
+            Ok(()) => {
                 hand_on_pieces(&mut self.out, w)?;
-                self.pending = Some(message);
                 self.number += 1;
                 self.line.clear();
                 Ok(())
@@ -137,62 +180,85 @@ impl Encoder {
         }
     }
 
+    /// The begun line is ended, by this part of it.
+    fn end_line<W: Sink>(&mut self, alloc: Global, part: &[u8], w: &mut W) -> Result<(), ToolErr>
+        requires sink { (W.log w.old).failures + 1 < 2 ^ 64 }
+        requires number { self.old.number + 1 < 2 ^ 64 }
+        ensures stands { (start : SinkLog) (text : List ℕ) → Lacks 10 part.now → Stands start (W.log w.old) text self.old
+            → MatchResult result
+            (λ _. Stands start (W.log w.new) (text ++ (part.now ++ (10 ∷ []))) self.new)
+            (Stopped self.old.limit start (W.log w.new) (text ++ (part.now ++ (10 ∷ [])))) }
+        ensures number { OnOk result (self.new.number ≤ self.old.number + 1) }
+        ensures limit { OnOk result (self.new.limit ≡ self.old.limit) }
+        ensures sink { OnOk result ((W.log w.new).failures ≡ (W.log w.old).failures) }
+    {
+        match self.read(alloc, part) {
+            Ok(line) => self.take_line(alloc, line, w),
+            Err(error) => self.refuse_line(error, w),
+        }
+    }
+
     /// The begun line goes on with this part of it, and isn't ended yet.
     fn go_on<W: Sink>(&mut self, part: &[u8], w: &mut W) -> Result<(), ToolErr>
         requires sink { (W.log w.old).failures + 1 < 2 ^ 64 }
         requires number { self.old.number + 1 < 2 ^ 64 }
-        ensures stands { (limit : ℕ) (start : SinkLog) (text : List ℕ) → 10 ≤ limit → Lacks 10 part.now → Stands start (W.log w.old) text self.old
+        ensures stands { (start : SinkLog) (text : List ℕ) → Lacks 10 part.now → Stands start (W.log w.old) text self.old
             → MatchResult result
             (λ _. Stands start (W.log w.new) (text ++ part.now) self.new)
-            (Stopped limit start (W.log w.new) (text ++ part.now)) }
+            (Stopped self.old.limit start (W.log w.new) (text ++ part.now)) }
         ensures number { OnOk result (self.new.number ≡ self.old.number) }
+        ensures limit { OnOk result (self.new.limit ≡ self.old.limit) }
         ensures sink { OnOk result ((W.log w.new).failures ≡ (W.log w.old).failures) }
     {
         if self.is_too_long(part) {
-            return self.refuse(Refusal::Line, w);
+            return self.refuse(self.number + 1, Refusal::Line, w);
         }
         self.line.extend_from_slice(part)?;
         Ok(())
     }
 
     /// Takes the next piece of the text.
-    fn feed<W: Sink>(&mut self, piece: &[u8], w: &mut W) -> Result<(), ToolErr>
+    fn feed<W: Sink>(&mut self, alloc: Global, piece: &[u8], w: &mut W) -> Result<(), ToolErr>
         requires sink { (W.log w.old).failures + 1 < 2 ^ 64 }
         requires number { self.old.number + length piece.now + 1 < 2 ^ 64 }
-        ensures stands { (limit : ℕ) (start : SinkLog) (text : List ℕ) → 10 ≤ limit → Stands start (W.log w.old) text self.old
+        ensures stands { (start : SinkLog) (text : List ℕ) → Stands start (W.log w.old) text self.old
             → MatchResult result
             (λ _. Stands start (W.log w.new) (text ++ piece.now) self.new)
-            (Stopped limit start (W.log w.new) (text ++ piece.now)) }
+            (Stopped self.old.limit start (W.log w.new) (text ++ piece.now)) }
         ensures number { OnOk result (self.new.number ≤ self.old.number + length piece.now) }
+        ensures limit { OnOk result (self.new.limit ≡ self.old.limit) }
         ensures sink { OnOk result ((W.log w.new).failures ≡ (W.log w.old).failures) }
     {
         let mut rest = piece;
         'lines: while let Some((part, after)) = split_once(rest, b'\n') {
-            self.end_line(part, w)?;
+            self.end_line(alloc, part, w)?;
             rest = after;
         }
         self.go_on(rest, w)
     }
 
     /// The text ends.
-    fn finish<W: Sink>(mut self, w: &mut W) -> Result<(), ToolErr>
+    fn finish<W: Sink>(mut self, alloc: Global, w: &mut W) -> Result<(), ToolErr>
         requires sink { (W.log w.old).failures + 1 < 2 ^ 64 }
         requires number { self.number + 1 < 2 ^ 64 }
-        ensures { (limit : ℕ) (start : SinkLog) (text : List ℕ) → 10 ≤ limit → Stands start (W.log w.old) text self
-            → MatchResult result (λ _. WroteEncoding limit start (W.log w.new) text) (StoppedAtEnd limit start (W.log w.new) text) }
+        ensures { (start : SinkLog) (text : List ℕ) → Stands start (W.log w.old) text self
+            → MatchResult result (λ _. WroteEncoding self.limit start (W.log w.new) text) (StoppedAtEnd self.limit start (W.log w.new) text) }
     {
+        let number = self.number + 1;
         if !self.line.is_empty() {
-            return self.refuse(Refusal::Line, w);
+            return self.refuse(number, Refusal::Line, w);
         }
-        append_frame(&mut self.out, self.pending)?;
-        hand_on(&mut self.out, w)
+        match self.close_all(alloc) {
+            Ok(()) => hand_on(&mut self.out, w),
+            Err(error) => self.refuse_closing(error, w),
+        }
     }
 }
 
-/// Writes the octets of the messages whose listing the source gives (LLRP 1.1, section 17). The
-/// limit, in octets, is that of each message: each kind that this crate knows spells ten.
+/// Writes the octets of the messages whose listing the source gives (LLRP 1.1, section 17), each of
+/// `limit` octets at most.
 ///
-/// A message is closed once the line after its own was read, or at the end. The errors are
+/// A message is closed once the next message's line was read, or at the end. The errors are
 /// `Listing` with the first line that is refused, counted from 1, and the first reason that applies
 /// to it, once the messages closed before it were written; `Read`, `Write` and `Memory`; and
 /// `Bound` after the greatest number of reads. After the last four a front of what the listing
@@ -214,7 +280,7 @@ pub fn run_encode<R: Source, W: Sink>(
     // The text has its first refusal there, or a device or memory failed.
     ensures stopped { IfErr result (λ e. EncodeStopped limit (R.log r.old) (R.log r.new) (W.log w.old) (W.log w.new) e) }
 {
-    let mut encoder = Encoder::new(alloc);
+    let mut encoder = Encoder::new(alloc, limit);
     let mut buffer = [0u8; READ_SIZE];
     for _ in 0..MOST_READS {
         let n = match r.read(&mut buffer) {
@@ -222,9 +288,9 @@ pub fn run_encode<R: Source, W: Sink>(
             Err(_) => return Err(ToolErr::Read),
         };
         if n == 0 {
-            return encoder.finish(w);
+            return encoder.finish(alloc, w);
         }
-        encoder.feed(&buffer[..n], w)?;
+        encoder.feed(alloc, &buffer[..n], w)?;
     }
     Err(ToolErr::Bound)
 }

@@ -1,11 +1,13 @@
 //! How a command ends: what it found, or why it stopped.
 
-ghost use Rattle.std.specs.Prelude.{◌≡◌, Some};
+ghost use Rattle.std.specs.Prelude.{◌≡◌, ◌++◌, Some};
 ghost use Rattle.llrp_tool.specs.declared.fault.ToolErr.TheVariants.{Memory};
-ghost use Rattle.llrp_tool.specs.Refused.{refusal_name};
+ghost use Rattle.llrp_tool.specs.Refused.{node_fault_name, refusal_name};
 
+use llrp_tree::NodeFault;
 use std::alloc::{AllocError, AllocFailed};
 use std::fmt;
+use tag_uri::UriFault;
 use thiserror::Error;
 
 /// What a command that read its whole input found.
@@ -30,22 +32,48 @@ pub enum Refusal {
     Fields,
     /// A word is no number that may stand at its place.
     Number,
+    /// Its last word is no tail of its kind.
+    Tail,
+    /// A word is the text of no EPC's word, for this rule.
+    Epc(UriFault),
+    /// With the lines below it, it is no lawful message or parameter.
+    Node(NodeFault),
     /// The message that it begins is longer than the limit.
     OverLimit,
 }
 
+/// The name of a fault.
+fn node_fault_name(fault: NodeFault) -> &'static str
+    ensures { result.now ≡ node_fault_name fault }
+{
+    match fault {
+        NodeFault::FieldCount => "FieldCount",
+        NodeFault::Value => "Value",
+        NodeFault::Tail => "Tail",
+        NodeFault::Misplaced => "Misplaced",
+        NodeFault::TooMany => "TooMany",
+        NodeFault::Missing => "Missing",
+        NodeFault::TooDeep => "TooDeep",
+        NodeFault::TooLong => "TooLong",
+    }
+}
+
 impl Refusal {
-    /// The word for it in an error line.
-    pub fn name(self) -> &'static str
-        ensures { result.now ≡ refusal_name self }
+    /// The words for it in an error line: its own, and behind it that for the fault inside it, if
+    /// there is one.
+    pub fn names(self) -> (&'static str, &'static str)
+        ensures { result.0.now ++ result.1.now ≡ refusal_name self }
     {
         match self {
-            Refusal::Line => "Line",
-            Refusal::Level => "Level",
-            Refusal::Name => "Name",
-            Refusal::Fields => "Fields",
-            Refusal::Number => "Number",
-            Refusal::OverLimit => "OverLimit",
+            Refusal::Line => ("Line", ""),
+            Refusal::Level => ("Level", ""),
+            Refusal::Name => ("Name", ""),
+            Refusal::Fields => ("Fields", ""),
+            Refusal::Number => ("Number", ""),
+            Refusal::Tail => ("Tail", ""),
+            Refusal::Epc(fault) => ("Epc ", fault.name()),
+            Refusal::Node(fault) => ("Node ", node_fault_name(fault)),
+            Refusal::OverLimit => ("OverLimit", ""),
         }
     }
 }
@@ -54,7 +82,9 @@ impl fmt::Display for Refusal {
     ghost output = { λ refusal. Some (refusal_name refusal) };
 
     fn fmt<W: fmt::Write>(&self, f: &mut fmt::Formatter<W>) -> fmt::Result {
-        f.write_str(self.name())
+        let (name, inner) = self.names();
+        f.write_str(name)?;
+        f.write_str(inner)
     }
 }
 

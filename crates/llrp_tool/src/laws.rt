@@ -1,13 +1,13 @@
 //! What holds of every listing.
 
-ghost use Rattle.std.specs.Prelude.{List, ◌≤◌, ℕ};
+ghost use Rattle.std.specs.Prelude.{List, ℕ};
 ghost use Rattle.llrp_tool.specs.ListingLaws.{ListedOrRefused};
 ghost use Rattle.llrp_tool.specs.PrintingLaws.{OneTextOfItems, OneTextOfMessages, PrintsBack};
 
-/// A text is the listing of one list of messages, each within the limit, or has one first refusal,
-/// and never both.
+/// A text is the listing of one row of messages' lines at most, each with those below it, or has one
+/// first refusal at most, and never both.
 pub fn listed_or_refused()
-    ensures { (limit : ℕ) (text : List ℕ) → 10 ≤ limit → ListedOrRefused limit text }
+    ensures { (limit : ℕ) (text : List ℕ) → ListedOrRefused limit text }
 {}
 
 /// Messages have one listing.

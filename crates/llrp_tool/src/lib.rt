@@ -10,8 +10,11 @@ mod hexadecimal;
 pub mod laws;
 mod line;
 mod listing;
-mod message;
+mod number;
+mod open_lines;
 mod show;
+mod spaced;
+mod tail;
 mod words;
 
 pub use command::run_command;

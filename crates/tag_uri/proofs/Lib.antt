@@ -8,3 +8,4 @@ pub mod ReadLemmas
 pub mod RowDigits
 pub mod RuleLemmas
 pub mod TextLaws
+pub mod TextShape

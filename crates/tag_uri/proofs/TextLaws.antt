@@ -82,7 +82,7 @@ digits_dotless : (c : List ℕ) → AreDigits c → All (λ x. (x == 46) ≡ fal
 digits_dotless [] h = All-nil (λ x. (x == 46) ≡ false)
 digits_dotless (d ∷ ds) h = let r = h.0 in All-cons (λ x. (x == 46) ≡ false) d ds (ne_eqb d 46 (λ e. omega (arith, r, e))) (digits_dotless ds h.1)
 
-abbrev AllOfDigits : List (List ℕ) → Type 0
+abbrev pub AllOfDigits : List (List ℕ) → Type 0
 AllOfDigits [] = Unit {0}
 AllOfDigits (c ∷ cs) = AreDigits c × AllOfDigits cs
 
@@ -111,11 +111,11 @@ kind_sound : (k : Kind) → sound_if_any (layout_of k) ≡ true
 kind_sound Gid = refl
 kind_sound _ = refl
 
-sound_of : (k : Kind) (l : Layout) → layout_of k ≡ Some l → is_sound l ≡ true
+pub sound_of : (k : Kind) (l : Layout) → layout_of k ≡ Some l → is_sound l ≡ true
 sound_of k l e = ap sound_if_any (sym e) ∙ kind_sound k
 
 -- what is known of components
-record Written (cs : List (List ℕ)) : Type 0 where
+pub record Written (cs : List (List ℕ)) : Type 0 where
   pub digits : AllOfDigits cs
   pub some : 0 < length cs
 
@@ -123,7 +123,7 @@ written_at : (l : Layout) (f k c r last : ℕ) (b : Bool) → (b ≡ false → l
 written_at l f k c r last true small = record { digits = (digits-padded 1 f, (digits-padded k c, (digits-padded (unwrap_or (reference_digits l.rows k) 0) r, tt))); some = omega arith }
 written_at l f k c r last false small = record { digits = (digits-padded 1 f, (digits-padded k c, (digits-padded (unwrap_or (reference_digits l.rows k) 0) r, (digits_of_plain last (small refl), tt)))); some = omega arith }
 
-written : (epc : Parts) → IsLawful epc → Written (components_of epc)
+pub written : (epc : Parts) → IsLawful epc → Written (components_of epc)
 written (Partitioned kind f k c r last) h =
     let l : Layout = h.has.layout in
     let known : layout_of kind ≡ Some l = h.has.scheme in

@@ -1,4 +1,4 @@
-use Rattle.std.proofs.Common.{◌≡◌, ℕ, List, ◌++◌, ap₂, subst, ◌∙◌, codes, decimal}
+use Rattle.std.proofs.Common.{◌≡◌, ℕ, List, ◌++◌, ap, ap₂, sym, subst, ◌∙◌, append_assoc, codes, decimal}
 use Rattle.llrp_tool.specs.Command.{error_line}
 use Rattle.llrp_tool.specs.Copying.{Writes}
 use Rattle.llrp_tool.specs.Refused.{refusal_name}
@@ -8,10 +8,13 @@ pub returns-in-Listing : goal.returns-in-Listing
 unfolding error_line
 returns-in-Listing g c =
     let number : c.as_bytes-number.result.now ≡ decimal c.in-Listing.line = c.as_bytes-number.ensures.value ∙ c.format.ensures.text in
-    let word : c.as_bytes-word.result.now ≡ refusal_name c.in-Listing.reason = c.as_bytes-word.ensures.value ∙ c.name.ensures in
+    let name : c.as_bytes.result.now ≡ c.names.result.0.now = c.as_bytes.ensures.value in
+    let inner : c.as_bytes-in-Listing.result.now ≡ c.names.result.1.now = c.as_bytes-in-Listing.ensures.value in
+    let words : c.as_bytes.result.now ++ (c.as_bytes-in-Listing.result.now ++ codes "\n") ≡ refusal_name c.in-Listing.reason ++ codes "\n" =
+    ap₂ (λ (n i : List ℕ). n ++ (i ++ codes "\n")) name inner ∙ sym (append_assoc c.names.result.0.now c.names.result.1.now (codes "\n")) ∙ ap (λ (w : List ℕ). w ++ codes "\n") c.names.ensures in
     rw c.in-Listing.is
     (subst (λ (text : List ℕ). Writes text (g.E.Sink.log c.args.e.now) (g.E.Sink.log c.write_parts.new.w) c.write_parts.result)
-    (ap₂ (λ (n w : List ℕ). codes "llrp: line " ++ (n ++ (codes ": " ++ (w ++ codes "\n")))) number word) c.write_parts.ensures)
+    (ap₂ (λ (n w : List ℕ). codes "llrp: line " ++ (n ++ (codes ": " ++ w))) number words) c.write_parts.ensures)
 
 pub returns-in-Hex : goal.returns-in-Hex
 unfolding error_line

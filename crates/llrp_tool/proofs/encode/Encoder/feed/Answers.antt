@@ -13,8 +13,9 @@ returns-in_err-end_line-clause-stands g c =
     let after = c.in-Some.after.now in
     let now = g.W.Sink.log c.end_line.new.w in
     let e = c.in_err-end_line.field-0.0 in
-    rw (p.1, p.2) (λ limit start text le s.
-    let stop : Stopped limit start now ((text ++ taken) ++ (part ++ (10 ∷ []))) e = c.in_err-end_line.ensures.stands limit start (text ++ taken) le c.in-Some.ensures.0 (c.lines.invariant.stands start text s) in
+    let limit = c.args.self.now.limit in
+    rw (p.1, p.2) (λ start text s.
+    let stop : Stopped limit start now ((text ++ taken) ++ (part ++ (10 ∷ []))) e = subst (λ (l : ℕ). Stopped l start now ((text ++ taken) ++ (part ++ (10 ∷ []))) e) c.lines.invariant.limit (c.in_err-end_line.ensures.stands start (text ++ taken) c.in-Some.ensures.0 (c.lines.invariant.stands start text s)) in
     subst (λ (z : List ℕ). Stopped limit start now z e) (piece_parts text taken part after c.lines.rest.now c.args.piece.now c.lines.invariant.parts c.in-Some.ensures.1) (stopped_more limit start now ((text ++ taken) ++ (part ++ (10 ∷ []))) after e stop))
 
 pub lines-preserved : goal.lines-preserved
@@ -27,8 +28,9 @@ lines-preserved g c =
       parts = piece_left taken part after c.lines.rest.now c.args.piece.now c.lines.invariant.parts c.in-Some.ensures.1;
       stands = λ start text s.
           subst (λ (z : List ℕ). Stands start (g.W.Sink.log c.end_line.new.w) z c.end_line.new.self) (append_assoc text taken (part ++ (10 ∷ [])))
-          (c.in_ok-end_line.ensures.stands 10 start (text ++ taken) (omega arith) c.in-Some.ensures.0 (c.lines.invariant.stands start text s));
+          (c.in_ok-end_line.ensures.stands start (text ++ taken) c.in-Some.ensures.0 (c.lines.invariant.stands start text s));
       number = omega (arith, c.in_ok-end_line.ensures.number, c.lines.invariant.number, length-append taken (part ++ (10 ∷ [])), length-append part (10 ∷ []));
+      limit = c.in_ok-end_line.ensures.limit ∙ c.lines.invariant.limit;
       sink = c.in_ok-end_line.ensures.sink ∙ c.lines.invariant.sink;
     }
 
@@ -36,7 +38,9 @@ pub returns-clause-stands : goal.returns-clause-stands
 returns-clause-stands g c =
     let taken = c.lines.invariant.taken in
     let rest = c.lines.rest.now in
+    let limit = c.args.self.now.limit in
     let same : (text : List ℕ) → (text ++ taken) ++ rest ≡ text ++ c.args.piece.now = λ text. append_assoc text taken rest ∙ ap (λ (z : List ℕ). text ++ z) (sym c.lines.invariant.parts) in
-    λ limit start text le s.
+    λ start text s.
     subst (λ (z : List ℕ). MatchResult c.go_on.result (λ _. Stands start (g.W.Sink.log c.go_on.new.w) z c.go_on.new.self) (Stopped limit start (g.W.Sink.log c.go_on.new.w) z)) (same text)
-    (c.go_on.ensures.stands limit start (text ++ taken) le c.in_default.ensures (c.lines.invariant.stands start text s))
+    (subst (λ (l : ℕ). MatchResult c.go_on.result (λ _. Stands start (g.W.Sink.log c.go_on.new.w) ((text ++ taken) ++ rest) c.go_on.new.self) (Stopped l start (g.W.Sink.log c.go_on.new.w) ((text ++ taken) ++ rest))) c.lines.invariant.limit
+    (c.go_on.ensures.stands start (text ++ taken) c.in_default.ensures (c.lines.invariant.stands start text s)))

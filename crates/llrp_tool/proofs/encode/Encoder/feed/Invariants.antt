@@ -9,6 +9,7 @@ invariant-lines g l = record {
   parts : l.piece ≡ taken ++ l.rest;
   stands : (start : SinkLog) (text : List ℕ) → Stands start (g.W.Sink.log l.fn.w) text l.fn.self → Stands start (g.W.Sink.log l.w) (text ++ taken) l.self;
   number : l.self.number ≤ l.fn.self.number + length taken;
+  limit : l.self.limit ≡ l.fn.self.limit;
   sink : (g.W.Sink.log l.w).failures ≡ (g.W.Sink.log l.fn.w).failures;
 }
 
