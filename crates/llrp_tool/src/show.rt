@@ -2,6 +2,7 @@
 
 ghost use Rattle.std.specs.Prelude.{◌&&◌, ◌+◌, ◌++◌, ◌<◌, ◌^◌, ◌≡◌, ◌≤◌, IfErr, IfOk, List, MatchResult, ℕ};
 ghost use Rattle.llrp_stream.specs.Device.{IsFreshSource, SinkLog};
+ghost use Rattle.llrp_tree.specs.declared.TheConstants.{MAX_LIMIT};
 ghost use Rattle.llrp_tool.specs.Show.{Listed, Shows, Stopped, verdict_of};
 ghost use Rattle.llrp_tool.specs.StreamListing.{is_clean};
 
@@ -34,12 +35,13 @@ pub(crate) struct Lister {
 }
 
 impl Lister {
+    ghost use Rattle.llrp_tree.specs.declared.TheConstants.{MAX_LIMIT};
     ghost use Rattle.llrp_tool.specs.Lister.{Begins, Feeds, Finishes, GoesOn, Lists};
 
     /// Frames longer than `limit` octets are faulty.
     fn new(alloc: Global, limit: u32) -> Lister
         requires least { 10 ≤ limit }
-        requires most { limit ≤ 65536 }
+        requires most { limit ≤ MAX_LIMIT }
         ensures { (log : SinkLog) → Begins limit log result }
     {
         Lister {
@@ -105,7 +107,7 @@ pub(crate) fn list_stream<W: Sink>(
 ) -> Result<Verdict, ToolErr>
     requires sink { (W.log w.old).failures + 1 < 2 ^ 64 }
     requires least { 10 ≤ limit }
-    requires most { limit ≤ 65536 }
+    requires most { limit ≤ MAX_LIMIT }
     ensures ok { IfOk result (λ verdict. Listed limit stream.now (W.log w.old) (W.log w.new) verdict) }
     ensures err { IfErr result (λ e. Stopped limit stream.now (W.log w.old) (W.log w.new) e) }
 {
@@ -116,8 +118,8 @@ pub(crate) fn list_stream<W: Sink>(
 
 /// Writes the listing of all that the source gives, and tells whether all of it is lawful. Frames
 /// longer than `limit` octets are faulty. What belongs to the bytes of a read is written before the
-/// next read; none follows a break of the stream. After `Read`, `Write`, `Bound` or `Memory` a front
-/// of the listing was written.
+/// next read; none follows a break of the stream. After `Read` or `Bound` the lines of each frame that
+/// is whole in what was read were written, after `Write` or `Memory` a front of its listing.
 pub fn run_show<R: Source, W: Sink>(
     alloc: Global,
     r: &mut R,
@@ -127,8 +129,8 @@ pub fn run_show<R: Source, W: Sink>(
     requires source { IsFreshSource (R.log r.old) }
     requires sink { (W.log w.old).failures < 2 ^ 63 }
     requires least { 10 ≤ limit }
-    requires most { limit ≤ 65536 }
-    // On Ok all was read and its listing written, on Err a front of it, and the error says why.
+    requires most { limit ≤ MAX_LIMIT }
+    // On Ok all was read, or up to a break, and its listing written; on Err a front of it.
     ensures { Shows limit (R.log r.old) (R.log r.new) (W.log w.old) (W.log w.new) result }
 {
     let mut lister = Lister::new(alloc, limit);
