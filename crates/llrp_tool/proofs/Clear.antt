@@ -1,6 +1,6 @@
 -- Each line says one thing or is refused for one reason, and never both.
-use Rattle.std.proofs.Common.{◌≡◌, ◌≢◌, ℕ, zero, suc, ◌+◌, ◌-◌, ◌*◌, ◌^◌, ◌<◌, ◌≤◌, ◌⊎◌, inl, inr, Bool, true, false, cond, List, [], ◌∷◌, ◌++◌, map, length, drop, get_or, Option, Some, None, Result, Ok, Err, refl, sym, ap, subst, ◌∙◌, arith, decimal, length-append}
-use Rattle.std.specs.Prelude.{nat_lt, ◌==◌}
+use Rattle.std.proofs.Common.{◌≡◌, ℕ, ◌+◌, ◌-◌, ◌*◌, ◌^◌, ◌<◌, ◌≤◌, inl, inr, List, [], ◌∷◌, ◌++◌, map, length, drop, get_or, Result, Ok, refl, sym, ap, subst, ◌∙◌, arith, decimal, length-append}
+use Rattle.std.specs.Prelude.{◌==◌}
 use Rattle.std.specs.List.{slice_split, join_with_byte}
 use Rattle.hex.specs.Hex.{encode_lower, decode_of}
 use Rattle.hex.specs.declared.error.FromHexError.{FromHexError}
@@ -11,15 +11,13 @@ use Rattle.llrp_schema.specs.declared.kinds.Tail.{Tail}
 use Rattle.llrp_schema.specs.declared.kinds.Tail.TheVariants.{Absent, Words, Text, Bits}
 use Rattle.llrp_schema.specs.Schema.{name_of, tail_of}
 use Rattle.llrp_schema.proofs.TableLaws.{names}
-use Rattle.llrp_tree.specs.declared.TheConstants.{MAX_DEPTH}
 use Rattle.llrp_tree.specs.Lawful.{AreOctets}
-use Rattle.tag_uri.specs.declared.fault.UriFault.{UriFault}
 use Rattle.tag_uri.proofs.TextLaws.{one_fault, words_apart}
 use Rattle.llrp_tool.specs.declared.fault.Refusal.{Refusal}
 use Rattle.llrp_tool.specs.declared.fault.Refusal.TheVariants as refusal
 use Rattle.llrp_tool.specs.Checks.{Check, FirstFailing, AllHold}
 use Rattle.llrp_tool.specs.FirstRefusal.{AreClear}
-use Rattle.llrp_tool.specs.LineChecks.{word, IsPlaced, IsInForm, AreInForm, IsTailOf, SaysNode, SaysLine, HasLevel, IsNamed, start_checks, tail_count, word_count, TellsNumber, tail_checks, body_checks, kind_checks, RefusesBody, RefusesLineItself}
+use Rattle.llrp_tool.specs.LineChecks.{word, IsInForm, AreInForm, IsTailOf, SaysNode, SaysLine, IsNamed, start_checks, tail_count, word_count, TellsNumber, tail_checks, body_checks, kind_checks, RefusesLineItself}
 use Rattle.llrp_tool.specs.Lines.{TextLine, Ended, Unended}
 use Rattle.llrp_tool.specs.ListingRules.{rules_for}
 use Rattle.llrp_tool.specs.NodeLine.{NodeLine, NumberForm, Version, Id, Unsigned, Signed, Epc, number_forms, signed_text, IsNumberText, AreNumberTexts, words_of, tail_texts}
@@ -129,10 +127,10 @@ one_reason d (Unended bytes) a b p q = p ∙ sym q
 one_reason d (Ended bytes) a b p q = elim p [
   | inl f ↦ elim q [ inl g ↦ one_failing (start_checks d bytes) a b (start_tells d bytes) f g | inr g ↦ absurd (none_failing (start_checks d bytes) a g.starts f) ]
   | inr f ↦ elim q [
-      | inl g ↦ absurd (none_failing (start_checks d bytes) b f.starts g)
-      | inr g ↦ (let same : g.kind ≡ f.kind = one_kind (words bytes) g.kind f.kind g.named f.named in
-          one_failing (kind_checks f.kind (words bytes)) a b (one_told refusal.Fields, body_tells (number_forms f.kind) (tail_of f.kind) (drop 2 (words bytes))) f.fails (subst (λ (k : Kind). FirstFailing (kind_checks k (words bytes)) b) same g.fails))
-    ]
+    | inl g ↦ absurd (none_failing (start_checks d bytes) b f.starts g)
+    | inr g ↦ (let same : g.kind ≡ f.kind = one_kind (words bytes) g.kind f.kind g.named f.named in
+        one_failing (kind_checks f.kind (words bytes)) a b (one_told refusal.Fields, body_tells (number_forms f.kind) (tail_of f.kind) (drop 2 (words bytes))) f.fails (subst (λ (k : Kind). FirstFailing (kind_checks k (words bytes)) b) same g.fails))
+  ]
 ]
 
 -- ---- one thing is said
@@ -140,14 +138,14 @@ one_reason d (Ended bytes) a b p q = elim p [
 signed_same : (m n : ℕ) → m < 2 ^ 8 → n < 2 ^ 8 → signed_text m ≡ signed_text n → m ≡ n
 signed_same m n p q e = elim (sides m) [
   | inl a ↦ elim (sides n) [
-      | inl b ↦ one_number m n (omega arith) (omega arith) (sym (signed_positive m a) ∙ e ∙ signed_positive n b)
-      | inr b ↦ absurd (no_minus m a (decimal (256 - n)) (sym (signed_negative n b) ∙ sym e ∙ signed_positive m a))
-    ]
+    | inl b ↦ one_number m n (omega arith) (omega arith) (sym (signed_positive m a) ∙ e ∙ signed_positive n b)
+    | inr b ↦ absurd (no_minus m a (decimal (256 - n)) (sym (signed_negative n b) ∙ sym e ∙ signed_positive m a))
+  ]
   | inr a ↦ elim (sides n) [
-      | inl b ↦ absurd (no_minus n b (decimal (256 - m)) (sym (signed_negative m a) ∙ e ∙ signed_positive n b))
-      | inr b ↦ (let t : 45 ∷ decimal (256 - m) ≡ 45 ∷ decimal (256 - n) = sym (signed_negative m a) ∙ e ∙ signed_negative n b in
-          let u : 256 - m ≡ 256 - n = one_number (256 - m) (256 - n) (omega arith) (omega arith) (ap (drop 1) t) in omega arith)
-    ]
+    | inl b ↦ absurd (no_minus n b (decimal (256 - m)) (sym (signed_negative m a) ∙ e ∙ signed_positive n b))
+    | inr b ↦ (let t : 45 ∷ decimal (256 - m) ≡ 45 ∷ decimal (256 - n) = sym (signed_negative m a) ∙ e ∙ signed_negative n b in
+        let u : 256 - m ≡ 256 - n = one_number (256 - m) (256 - n) (omega arith) (omega arith) (ap (drop 1) t) in omega arith)
+  ]
 ]
 
 version_small : (n : ℕ) → IsInForm Version n → n < 10 ^ 20

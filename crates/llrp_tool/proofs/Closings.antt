@@ -1,9 +1,8 @@
 -- Lines that are closed, one after the other.
-use Rattle.std.proofs.Common.{◌≡◌, ℕ, zero, suc, ◌+◌, ◌-◌, ◌<◌, ◌≤◌, List, [], ◌∷◌, ◌++◌, length, map, Option, None, Some, refl, sym, ap, subst, ◌∙◌, arith, append_assoc}
+use Rattle.std.proofs.Common.{◌≡◌, ℕ, suc, ◌+◌, ◌-◌, ◌<◌, ◌≤◌, List, [], ◌∷◌, ◌++◌, length, None, refl, sym, ap, subst, ◌∙◌, arith}
 use Rattle.std.proofs.lemmas.List.{append-nil, length-map}
 use Rattle.llrp_tree.specs.Tree as tree
 use Rattle.llrp_tree.specs.Tree.{MessageTree}
-use Rattle.llrp_tool.specs.declared.fault.Refusal.{Refusal}
 use Rattle.llrp_tool.specs.declared.open_lines.OpenParameter.{OpenParameter}
 use Rattle.llrp_tool.specs.declared.open_lines.OpenMessage.{OpenMessage}
 use Rattle.llrp_tool.specs.declared.open_lines.CloseErr.{CloseErr}
@@ -12,9 +11,9 @@ use Rattle.llrp_tool.specs.FirstRefusal.{AllClose, Sound}
 use Rattle.llrp_tool.specs.LineReading.{message_node, parameter_node}
 use Rattle.llrp_tool.specs.ListingRules.{closing, lines_onto, row}
 use Rattle.llrp_tool.specs.NodeLine.{NodeLine, message_line}
-use Rattle.llrp_tool.specs.OpenLines.{Entry, entry, parameter_entry, message_entry, entries_onto, entries_of, lines_below, chain, open_over, open_of, added, tree_of, AreNumbered, IsSound, Closed, CanClose, CannotClose, ClosingFails, ClosingStops, Begins, AllClosed}
+use Rattle.llrp_tool.specs.OpenLines.{Entry, entry, parameter_entry, message_entry, entries_onto, entries_of, lines_below, chain, open_over, open_of, added, tree_of, AreNumbered, IsSound, Closed, CanClose, CannotClose, ClosingStops, Begins, AllClosed}
 use Rattle.llrp_tool.specs.OpenText.{Forest, end, node, Begun, OpenText, covers}
-use Rattle.llrp_tool.specs.OpenTextSteps.{join, text_of, add_to, close_in, cut, depth, put}
+use Rattle.llrp_tool.specs.OpenTextSteps.{join, text_of, add_to, close_in, cut, depth}
 use Rattle.llrp_tool.proofs.Growing.{cut_all, cut_cut, cut_one, covers_pop}
 use Rattle.llrp_tool.proofs.TreeLines.{lines_more, row_more}
 

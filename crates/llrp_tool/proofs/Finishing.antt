@@ -1,19 +1,17 @@
 -- How all lines of a message are closed.
-use Rattle.std.proofs.Common.{◌≡◌, ℕ, ◌<◌, ◌≤◌, List, [], ◌∷◌, ◌++◌, Option, None, Some, Result, Ok, Err, refl, sym, ap, subst, ◌∙◌, arith, inl, inr}
+use Rattle.std.proofs.Common.{◌≡◌, ℕ, ◌<◌, ◌≤◌, List, [], ◌∷◌, ◌++◌, Result, Ok, Err, refl, sym, subst, arith, inl, inr}
 use Rattle.std.specs.Prelude.{OnOk, IfErr}
 use Rattle.std.proofs.lemmas.List.{append-nil}
 use Rattle.std.proofs.lemmas.Bool.{cases_lt}
-use Rattle.llrp_tree.specs.Tree as tree
 use Rattle.llrp_tree.specs.Tree.{MessageTree}
 use Rattle.llrp_tree.specs.Frame.{Frame}
 use Rattle.llrp_tree.specs.Lawful.{message_octets}
-use Rattle.llrp_tool.specs.declared.fault.Refusal.TheVariants.{OverLimit}
 use Rattle.llrp_tool.specs.declared.open_lines.OpenMessage.{OpenMessage}
 use Rattle.llrp_tool.specs.declared.open_lines.CloseErr.{CloseErr}
 use Rattle.llrp_tool.specs.declared.open_lines.CloseErr.TheVariants.{Refused, Memory}
-use Rattle.llrp_tool.specs.Encoder.{Appended, Finished}
+use Rattle.llrp_tool.specs.Encoder.{Finished}
 use Rattle.llrp_tool.specs.Encoding.{AreSpelled}
-use Rattle.llrp_tool.specs.OpenLines.{Entry, AllClosed, message_entry, entries_of, lines_below, message_tree, CannotClose, ClosesWithin, Closed, ClosingFails, ClosingStops}
+use Rattle.llrp_tool.specs.OpenLines.{Entry, AllClosed, message_entry, entries_of, message_tree, CannotClose, ClosesWithin, Closed, ClosingStops}
 use Rattle.llrp_tool.proofs.Closings.{all_closed_one, all_closed_more, closed_none, entries_alone, stops_later}
 
 pub finished_later : {E : Type 0} (limit : ℕ) (a b : List Entry) (out0 out1 : List ℕ) (r : Result (Unit {0}) E) → Closed a b → OnOk r (Finished limit b out0 out1) → OnOk r (Finished limit a out0 out1)

@@ -1,5 +1,5 @@
 -- What a line that is read says, or why it is refused by itself.
-use Rattle.std.proofs.Common.{◌≡◌, ◌≢◌, ℕ, zero, suc, ◌+◌, ◌-◌, ◌^◌, ◌<◌, ◌≤◌, ◌⊎◌, inl, inr, Bool, true, false, List, [], ◌∷◌, ◌++◌, length, drop, Option, Some, None, Result, Ok, Err, refl, sym, ap, subst, ◌∙◌, arith, decimal, append_assoc, IsTrue}
+use Rattle.std.proofs.Common.{◌≡◌, ℕ, ◌+◌, ◌<◌, ◌≤◌, inl, inr, true, false, List, [], ◌∷◌, ◌++◌, length, drop, Ok, Err, refl, sym, ap, subst, ◌∙◌, arith, decimal, append_assoc}
 use Rattle.std.specs.Prelude.{nat_le, ◌&&◌}
 use Rattle.std.specs.List.{join_with_byte}
 use Rattle.std.specs.Str.{IsUtf8, IsAscii}
@@ -15,7 +15,6 @@ use Rattle.llrp_schema.specs.declared.kinds.Tail.{Tail}
 use Rattle.llrp_schema.specs.declared.kinds.Tail.TheVariants.{Absent}
 use Rattle.llrp_schema.specs.Schema.{name_of, tail_of}
 use Rattle.llrp_schema.proofs.TableLaws.{message_tail}
-use Rattle.llrp_tree.specs.declared.TheConstants.{MAX_DEPTH}
 use Rattle.llrp_tool.specs.declared.fault.Refusal.{Refusal}
 use Rattle.llrp_tool.specs.declared.fault.Refusal.TheVariants as refusal
 use Rattle.llrp_tool.specs.declared.line.Line.TheVariants as said
@@ -25,10 +24,9 @@ use Rattle.llrp_tool.specs.declared.line.MessageLine.{MessageLine}
 use Rattle.llrp_tool.specs.declared.line.ParameterLine.{ParameterLine}
 use Rattle.llrp_tool.specs.declared.line.Start.{Start}
 use Rattle.llrp_tool.specs.Checks.{FirstFailing, AllHold}
-use Rattle.llrp_tool.specs.LineChecks.{LONGEST_LINE, is_printed, word, body_checks, IsPlaced, IsNamed, IsTailOf, SaysNode, RefusesBody, RefusesLineItself, start_checks, kind_checks, tail_count, word_count}
-use Rattle.llrp_tool.specs.LineReading.{AreRead, IsParameterRead, ReadsLine, ReadsMessage, ReadsParameter, ReadsStart, Starts, message_node, parameter_node}
-use Rattle.llrp_tool.specs.Lines.{Ended}
-use Rattle.llrp_tool.specs.NodeLine.{NodeLine, number_forms, tail_texts, spaced, IsLine}
+use Rattle.llrp_tool.specs.LineChecks.{LONGEST_LINE, is_printed, word, body_checks, IsPlaced, IsNamed, IsTailOf, start_checks, tail_count, word_count}
+use Rattle.llrp_tool.specs.LineReading.{AreRead, ReadsLine, ReadsMessage, ReadsParameter, ReadsStart, Starts}
+use Rattle.llrp_tool.specs.NodeLine.{number_forms, tail_texts, spaced}
 use Rattle.llrp_tool.specs.Splits.{words, words_in}
 use Rattle.llrp_tool.proofs.DecimalWords.{left, right}
 use Rattle.llrp_tool.proofs.LineWords.{named_name}

@@ -1,8 +1,8 @@
 -- The words of a line's text.
-use Rattle.std.proofs.Common.{◌≡◌, ℕ, zero, suc, ◌+◌, ◌-◌, ◌*◌, ◌/◌, ◌%◌, ◌^◌, ◌<◌, ◌≤◌, ◌⊎◌, inl, inr, Bool, true, false, cond, List, [], ◌∷◌, ◌++◌, map, length, get_or, take, drop, Option, Some, None, refl, sym, ap, subst, ◌∙◌, arith, decimal, append_assoc, length-append}
+use Rattle.std.proofs.Common.{◌≡◌, ℕ, ◌-◌, ◌/◌, ◌%◌, ◌^◌, ◌<◌, ◌≤◌, inl, inr, Bool, true, false, cond, List, [], ◌∷◌, ◌++◌, map, get_or, refl, sym, ap, ◌∙◌, arith, decimal, append_assoc}
 use Rattle.std.specs.Prelude.{nat_le, nat_lt, ◌==◌, ◌&&◌}
 use Rattle.std.specs.Char.{is_ascii_digit}
-use Rattle.std.specs.List.{All, list_all, join_with_byte}
+use Rattle.std.specs.List.{All, join_with_byte}
 use Rattle.std.specs.Str.{all_ascii_digits}
 use Rattle.std.proofs.lemmas.List.{append-nil, append_cancel_right}
 use Rattle.std.proofs.lemmas.List.Elements.{All-head, All-tail}
@@ -18,10 +18,10 @@ use Rattle.llrp_tree.specs.Lawful.{AreOctets}
 use Rattle.tag_uri.proofs.TextShape.{is_visible, are_visible, text_visible}
 use Rattle.llrp_tool.specs.LineChecks.{is_printed, IsInForm, AreInForm, IsTailOf, SaysNode}
 use Rattle.llrp_tool.specs.Lines.{NoLf}
-use Rattle.llrp_tool.specs.NodeLine.{NodeLine, NumberForm, Version, Id, Unsigned, Signed, Epc, number_forms, signed_text, IsNumberText, AreNumberTexts, words_of, word_list_text, octets_text, tail_texts, spaced, IsLine}
+use Rattle.llrp_tool.specs.NodeLine.{NodeLine, NumberForm, Version, Id, Unsigned, Signed, Epc, number_forms, signed_text, IsNumberText, AreNumberTexts, words_of, tail_texts, spaced}
 use Rattle.llrp_tool.specs.Splits.{Lacks, words}
 use Rattle.llrp_tool.proofs.DecimalWords.{digits_of, left, right}
-use Rattle.llrp_tool.proofs.TailWords.{below, below-at, AreSmall, words_small}
+use Rattle.llrp_tool.proofs.TailWords.{below-at, AreSmall, words_small}
 use Rattle.llrp_tool.proofs.WordLemmas.{one_part, first_part}
 
 -- each of the words is of visible characters

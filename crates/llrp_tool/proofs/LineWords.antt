@@ -1,17 +1,15 @@
 -- What the words of a line say.
-use Rattle.std.proofs.Common.{◌≡◌, ◌≢◌, ℕ, zero, suc, ◌+◌, ◌-◌, ◌^◌, ◌<◌, ◌≤◌, ◌⊎◌, inl, inr, min, Bool, true, false, List, [], ◌∷◌, ◌++◌, map, length, get_or, Option, Some, None, Ok, Err, refl, sym, ap, subst, ◌∙◌, arith, decimal}
-use Rattle.std.specs.Prelude.{filter, not}
+use Rattle.std.proofs.Common.{◌≡◌, ℕ, zero, suc, ◌+◌, ◌^◌, ◌<◌, ◌≤◌, inl, inr, min, List, [], ◌∷◌, length, Option, Some, None, Err, refl, sym, ap, subst, ◌∙◌, arith, decimal}
 use Rattle.std.proofs.lemmas.List.{length-map}
 use Rattle.llrp_schema.specs.declared.kinds.MsgKind.{MsgKind}
 use Rattle.llrp_schema.specs.declared.kinds.ParamKind.{ParamKind}
 use Rattle.llrp_schema.specs.declared.kinds.Kind.{Kind}
 use Rattle.llrp_schema.specs.declared.kinds.Kind.TheVariants.{Message, Parameter}
-use Rattle.llrp_schema.specs.Schema.{FieldRule, name_of, fields_of, plain_fields_of, message_with_name, param_with_name}
+use Rattle.llrp_schema.specs.Schema.{name_of, fields_of, plain_fields_of, message_with_name, param_with_name}
 use Rattle.llrp_schema.proofs.TableLaws.{message_name_found, param_name_found, few_plain_fields, name_begins}
 use Rattle.llrp_tree.specs.declared.TheConstants.{MAX_DEPTH}
-use Rattle.llrp_tool.specs.declared.fault.Refusal.{Refusal}
 use Rattle.llrp_tool.specs.declared.fault.Refusal.TheVariants as refusal
-use Rattle.llrp_tool.specs.LineChecks.{word, IsPlaced, HasLevel, IsNamed, HasName}
+use Rattle.llrp_tool.specs.LineChecks.{word, IsPlaced, HasLevel, IsNamed}
 use Rattle.llrp_tool.specs.LineReading.{IsLevel, IsKindNamed, ReadsStart, forms_of}
 use Rattle.llrp_tool.specs.NodeLine.{number_forms, field_form}
 use Rattle.llrp_tool.specs.Numeral.{numeral}

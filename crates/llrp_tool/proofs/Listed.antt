@@ -1,13 +1,13 @@
 -- Lines that say messages and parameters are those of a listing.
 use Rattle.std.proofs.Common.{◌≡◌, ℕ, Bool, true, false, List, [], ◌∷◌, ◌++◌, refl, sym, ap, subst, ◌∙◌, arith}
 use Rattle.std.specs.Prelude.{◌==◌, cond}
-use Rattle.std.specs.List.{AllZip, flat_map}
+use Rattle.std.specs.List.{AllZip}
 use Rattle.llrp_tree.specs.Tree.{MessageTree}
 use Rattle.llrp_tool.specs.LineChecks.{SaysLine}
 use Rattle.llrp_tool.specs.Lines.{TextLine, Ended, Unended, onto_line, lines_of}
 use Rattle.llrp_tool.specs.ListingRules.{row}
 use Rattle.llrp_tool.specs.MessageListing.{AreLines, IsListingOf, messages_lines}
-use Rattle.llrp_tool.specs.NodeLine.{NodeLine, IsLine}
+use Rattle.llrp_tool.specs.NodeLine.{NodeLine}
 use Rattle.llrp_tool.specs.OpenText.{nodes}
 use Rattle.llrp_tool.proofs.TreeLines.{nodes_row}
 

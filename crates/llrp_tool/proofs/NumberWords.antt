@@ -1,13 +1,13 @@
 -- What the words of numbers say.
-use Rattle.std.proofs.Common.{◌≡◌, ℕ, ◌+◌, ◌-◌, ◌^◌, ◌<◌, ◌≤◌, ◌⊎◌, inl, inr, Bool, true, false, cond, List, [], ◌∷◌, Option, Some, None, Result, Ok, Err, refl, sym, ap, ◌∙◌, arith, decimal, get_or, length}
+use Rattle.std.proofs.Common.{◌≡◌, ℕ, ◌-◌, ◌^◌, ◌<◌, ◌≤◌, ◌⊎◌, inl, inr, Bool, true, false, List, ◌∷◌, Some, None, Result, Ok, Err, refl, sym, ap, ◌∙◌, arith, decimal}
 use Rattle.std.specs.Prelude.{nat_lt, ◌&&◌}
 use Rattle.std.specs.Char.{is_ascii_digit}
 use Rattle.std.specs.Str.{all_ascii_digits}
 use Rattle.llrp_tool.specs.declared.fault.Refusal.{Refusal}
 use Rattle.llrp_tool.specs.declared.fault.Refusal.TheVariants as refusal
-use Rattle.llrp_tool.specs.LineChecks.{IsInForm, HasNumber, ReadsNumber}
+use Rattle.llrp_tool.specs.LineChecks.{IsInForm, ReadsNumber}
 use Rattle.llrp_tool.specs.LineReading.{ReadsNegative, ReadsPositive}
-use Rattle.llrp_tool.specs.NodeLine.{NumberForm, Version, Id, Unsigned, Signed, Epc, IsNumberText, signed_text}
+use Rattle.llrp_tool.specs.NodeLine.{Version, Id, Unsigned, Signed, signed_text}
 use Rattle.llrp_tool.specs.Numeral.{numeral}
 use Rattle.llrp_tool.proofs.DecimalWords.{digits_of, numeral_is, no_text, same_number}
 

@@ -1,5 +1,5 @@
 -- How the next line is opened.
-use Rattle.std.proofs.Common.{◌≡◌, ℕ, suc, ◌+◌, ◌-◌, ◌≤◌, List, [], ◌∷◌, ◌++◌, length, Option, Some, None, refl, sym, ap, subst, ◌∙◌, arith}
+use Rattle.std.proofs.Common.{◌≡◌, ℕ, suc, ◌-◌, List, [], ◌∷◌, length, Option, None, sym, ap, subst, ◌∙◌}
 use Rattle.std.proofs.lemmas.List.{append-nil}
 use Rattle.llrp_tree.specs.Tree.{MessageTree}
 use Rattle.llrp_tool.specs.declared.line.Line.{Line}
@@ -9,11 +9,10 @@ use Rattle.llrp_tool.specs.declared.line.ParameterLine.{ParameterLine}
 use Rattle.llrp_tool.specs.declared.open_lines.OpenMessage.{OpenMessage}
 use Rattle.llrp_tool.specs.Encoder.{Appended, Finished, Opened}
 use Rattle.llrp_tool.specs.LineReading.{message_node, parameter_node}
-use Rattle.llrp_tool.specs.ListingRules.{row}
 use Rattle.llrp_tool.specs.NodeLine.{NodeLine}
-use Rattle.llrp_tool.specs.OpenLines.{Entry, entry, entries_in, entries_of, lines_below, open_of, AllClosed, Begins, IsSound}
-use Rattle.llrp_tool.specs.OpenText.{OpenText, covers}
-use Rattle.llrp_tool.specs.OpenTextSteps.{cut, depth, push}
+use Rattle.llrp_tool.specs.OpenLines.{Entry, entry, entries_in, lines_below, open_of, AllClosed, Begins, IsSound}
+use Rattle.llrp_tool.specs.OpenText.{covers}
+use Rattle.llrp_tool.specs.OpenTextSteps.{depth, push}
 use Rattle.llrp_tool.proofs.Growing.{covers_pop}
 use Rattle.llrp_tool.proofs.Rows.{spells_nothing}
 

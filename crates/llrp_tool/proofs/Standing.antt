@@ -1,5 +1,5 @@
 -- How an encoder goes on.
-use Rattle.std.proofs.Common.{◌≡◌, ℕ, suc, ◌+◌, ◌-◌, ◌<◌, ◌≤◌, List, [], ◌∷◌, ◌++◌, length, refl, sym, ap, subst, ◌∙◌, arith, Ok, Err, Option, Some, None, append_assoc, length-append, inl, inr}
+use Rattle.std.proofs.Common.{◌≡◌, ℕ, suc, ◌+◌, ◌-◌, ◌<◌, ◌≤◌, List, [], ◌∷◌, ◌++◌, length, refl, sym, ap, subst, ◌∙◌, arith, Ok, Err, append_assoc, length-append, inl, inr}
 use Rattle.std.specs.Prelude.{Result, MatchResult, IsErrAnd}
 use Rattle.std.specs.List.{AllZip}
 use Rattle.std.proofs.lemmas.List.{append-nil}
@@ -16,17 +16,17 @@ use Rattle.llrp_tool.specs.declared.open_lines.CloseErr.{CloseErr}
 use Rattle.llrp_tool.specs.declared.open_lines.CloseErr.TheVariants as close
 use Rattle.llrp_tool.specs.Copying.{Writes, HandsOn}
 use Rattle.llrp_stream.specs.Device.{SinkLog, Wrote}
-use Rattle.llrp_tool.specs.Encoder.{CanStand, StandsAt, Stopped, StoppedAtEnd, WroteEncoding, Refusing, RefusingClose, RefusingLine, Appended, Opened, Finished, said_level, said_node}
-use Rattle.llrp_tool.specs.Encoding.{AreSpelled, AreClosed, BeginsEncoding, Encodes, Refuses}
-use Rattle.llrp_tool.specs.FirstRefusal.{ClosesAt, IsLastOpen, Opens, Refused}
+use Rattle.llrp_tool.specs.Encoder.{CanStand, StandsAt, Stopped, StoppedAtEnd, WroteEncoding, Refusing, RefusingClose, RefusingLine, Opened, Finished, said_level, said_node}
+use Rattle.llrp_tool.specs.Encoding.{AreClosed, BeginsEncoding, Encodes, Refuses}
+use Rattle.llrp_tool.specs.FirstRefusal.{ClosesAt, IsLastOpen, Refused}
 use Rattle.llrp_tool.specs.LineChecks.{LONGEST_LINE, RefusesLineItself, SaysLine}
 use Rattle.llrp_tool.specs.LineReading.{ReadsLine, SaidIs}
 use Rattle.llrp_tool.specs.Lines.{TextLine, Ended, Unended, lines_of, NoLf}
 use Rattle.llrp_tool.specs.ListingRules.{row, rules_for}
 use Rattle.llrp_tool.specs.NodeLine.{NodeLine}
-use Rattle.llrp_tool.specs.OpenLines.{Entry, chain, open_over, open_of, AreNumbered, IsSound, Closed, ClosingFails, ClosingStops, Begins, AllClosed}
-use Rattle.llrp_tool.specs.OpenText.{OpenText, covers, nodes}
-use Rattle.llrp_tool.specs.OpenTextSteps.{cut, depth, put}
+use Rattle.llrp_tool.specs.OpenLines.{Entry, open_of, AreNumbered, IsSound, ClosingFails, ClosingStops, Begins}
+use Rattle.llrp_tool.specs.OpenText.{covers, nodes}
+use Rattle.llrp_tool.specs.OpenTextSteps.{depth}
 use Rattle.llrp_tool.specs.Splits.{Lacks}
 use Rattle.llrp_tool.proofs.Closings.{length_chain}
 use Rattle.llrp_tool.proofs.Cutting.{ended, unended, as_ended, as_unended, begins}

@@ -1,5 +1,5 @@
 -- Parameters as lines, and lines as parameters.
-use Rattle.std.proofs.Common.{◌≡◌, ℕ, zero, suc, ◌+◌, ◌-◌, ◌<◌, ◌≤◌, List, [], ◌∷◌, ◌++◌, length, map, Option, None, Some, refl, sym, ap, subst, ◌∙◌, append_assoc}
+use Rattle.std.proofs.Common.{◌≡◌, ℕ, suc, List, [], ◌∷◌, ◌++◌, refl, sym, ap, ◌∙◌, append_assoc}
 use Rattle.std.proofs.lemmas.List.{append-nil}
 use Rattle.llrp_tree.specs.Tree as tree
 use Rattle.llrp_tree.specs.Tree.{MessageTree}
@@ -11,7 +11,6 @@ use Rattle.llrp_tool.specs.NodeLine.{NodeLine, parameter_line, message_line}
 use Rattle.llrp_tool.specs.OpenLines.{lines_below}
 use Rattle.llrp_tool.specs.OpenText.{Forest, end, node, nodes}
 use Rattle.llrp_tool.specs.OpenTextSteps.{join}
-use Rattle.llrp_tool.proofs.Growing.{join_end}
 
 -- parameters in a row, and then others
 abbrev both : tree.Forest → tree.Forest → tree.Forest

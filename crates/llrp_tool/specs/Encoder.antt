@@ -1,5 +1,5 @@
 -- Where an encoder stands after a front of a text, and how it stops.
-use Rattle.std.specs.Prelude.{◌≡◌, ℕ, ◌≤◌, ◌⊎◌, List, [], ◌∷◌, ◌++◌, length}
+use Rattle.std.specs.Prelude.{◌≡◌, ℕ, ◌≤◌, ◌⊎◌, List, ◌++◌, length}
 use Rattle.std.specs.List.{AllZip}
 use Rattle.llrp_tree.specs.Tree.{MessageTree}
 use Rattle.llrp_tool.specs.declared.encode.Encoder.{Encoder}
@@ -10,7 +10,6 @@ use Rattle.llrp_tool.specs.declared.line.LineErr.TheVariants as unread
 use Rattle.llrp_tool.specs.declared.fault.Refusal.{Refusal}
 use Rattle.llrp_tool.specs.declared.fault.ToolErr.{ToolErr}
 use Rattle.llrp_tool.specs.declared.fault.ToolErr.TheVariants.{Listing, Hex, Read, Write, Bound, Memory}
-use Rattle.llrp_tool.specs.declared.open_lines.OpenMessage.{OpenMessage}
 use Rattle.llrp_tool.specs.declared.open_lines.CloseErr.{CloseErr}
 use Rattle.llrp_tool.specs.declared.open_lines.CloseErr.TheVariants as close
 use Rattle.llrp_tool.specs.Copying.{IsPrefix}

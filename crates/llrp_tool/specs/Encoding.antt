@@ -1,5 +1,5 @@
 -- What encode writes for a listing.
-use Rattle.std.specs.Prelude.{◌≡◌, ℕ, ◌⊎◌, List, [], ◌∷◌, ◌++◌}
+use Rattle.std.specs.Prelude.{◌≡◌, ℕ, ◌⊎◌, List, ◌++◌}
 use Rattle.std.specs.List.{flat_map, AllZip}
 use Rattle.llrp_tree.specs.Tree.{MessageTree}
 use Rattle.llrp_tree.specs.Frame.{Frame}

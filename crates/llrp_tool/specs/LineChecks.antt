@@ -1,5 +1,5 @@
 -- What a line of a listing says, and why one is refused by itself.
-use Rattle.std.specs.Prelude.{◌≡◌, ◌≢◌, ◌⊎◌, ◌<◌, ◌≤◌, ℕ, ◌+◌, ◌*◌, ◌^◌, ◌==◌, nat_le, ◌&&◌, IsTrue, Bool, List, [], ◌∷◌, ◌++◌, length, drop, get_or, decimal, Result, Ok, Err}
+use Rattle.std.specs.Prelude.{◌≡◌, ◌≢◌, ◌⊎◌, ◌<◌, ◌≤◌, ℕ, ◌+◌, ◌*◌, ◌^◌, nat_le, ◌&&◌, IsTrue, Bool, List, [], ◌∷◌, ◌++◌, length, drop, get_or, decimal, Result, Ok, Err}
 use Rattle.std.specs.List.{list_all}
 use Rattle.llrp_schema.specs.declared.kinds.Kind.{Kind}
 use Rattle.llrp_schema.specs.declared.kinds.Kind.TheVariants.{Message, Parameter}

@@ -1,5 +1,5 @@
 -- What the functions that read a line promise.
-use Rattle.std.specs.Prelude.{◌≡◌, ℕ, ◌+◌, ◌-◌, ◌*◌, ◌^◌, ◌<◌, ◌≤◌, ◌⊎◌, ◌&&◌, nat_le, Bool, List, [], ◌∷◌, ◌++◌, length, map, filter, not, decimal, Option, Some, None, Result, Ok, Err}
+use Rattle.std.specs.Prelude.{◌≡◌, ℕ, ◌+◌, ◌-◌, ◌*◌, ◌^◌, ◌<◌, ◌≤◌, ◌⊎◌, ◌&&◌, nat_le, Bool, List, [], ◌∷◌, ◌++◌, map, filter, not, decimal, Option, Some, None, Result, Ok, Err}
 use Rattle.std.specs.Borrow.{Bor}
 use Rattle.std.specs.List.{join_with_byte, list_any}
 use Rattle.hex.specs.Hex.{encode_lower}
@@ -8,7 +8,7 @@ use Rattle.llrp_schema.specs.declared.kinds.ParamKind.{ParamKind}
 use Rattle.llrp_schema.specs.declared.kinds.Kind.{Kind}
 use Rattle.llrp_schema.specs.declared.kinds.Kind.TheVariants.{Message, Parameter}
 use Rattle.llrp_schema.specs.declared.kinds.Tail.{Tail}
-use Rattle.llrp_schema.specs.declared.kinds.Tail.TheVariants.{Words, Text}
+use Rattle.llrp_schema.specs.declared.kinds.Tail.TheVariants.{Words}
 use Rattle.llrp_schema.specs.Schema.{FieldRule, name_of, tail_of}
 use Rattle.llrp_tree.specs.declared.TheConstants.{MAX_DEPTH}
 use Rattle.llrp_tree.specs.Lawful.{AreOctets}
@@ -22,10 +22,10 @@ use Rattle.llrp_tool.specs.declared.line.MessageLine.{MessageLine}
 use Rattle.llrp_tool.specs.declared.line.ParameterLine.{ParameterLine}
 use Rattle.llrp_tool.specs.declared.line.Start.{Start}
 use Rattle.llrp_tool.specs.Checks.{FirstFailing}
-use Rattle.llrp_tool.specs.LineChecks.{SaysNode, IsPlaced, AreInForm, IsTailOf, HasTail, HasLevel, HasName, start_checks, tail_checks, body_checks, RefusesLineItself}
+use Rattle.llrp_tool.specs.LineChecks.{SaysNode, IsPlaced, AreInForm, IsTailOf, HasLevel, HasName, tail_checks, body_checks, RefusesLineItself}
 use Rattle.llrp_tool.specs.Lines.{Ended}
 use Rattle.llrp_tool.specs.Splits.{words, words_in}
-use Rattle.llrp_tool.specs.NodeLine.{NodeLine, NumberForm, field_form, number_forms, AreNumberTexts, words_of, tail_texts, word_list_text, octets_text, parameter_line}
+use Rattle.llrp_tool.specs.NodeLine.{NodeLine, NumberForm, field_form, number_forms, AreNumberTexts, words_of, tail_texts, parameter_line}
 
 -- what the plain ones of some fields are
 abbrev pub forms_of : List FieldRule → List NumberForm

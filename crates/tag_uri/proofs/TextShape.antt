@@ -1,5 +1,5 @@
 -- The characters of a word's text.
-use Rattle.std.proofs.Common.{◌≡◌, ℕ, ◌+◌, ◌^◌, ◌<◌, ◌≤◌, Bool, true, false, List, [], ◌∷◌, ◌++◌, cond, length, Option, Some, None, refl, sym, ap, subst, ◌∙◌, arith, inl, inr, length-append}
+use Rattle.std.proofs.Common.{◌≡◌, ℕ, ◌+◌, ◌^◌, ◌<◌, ◌≤◌, Bool, true, false, List, [], ◌∷◌, ◌++◌, cond, length, Option, Some, None, refl, sym, ap, ◌∙◌, arith, inl, inr, length-append}
 use Rattle.std.specs.Prelude.{◌==◌, ◌&&◌, nat_le, unwrap_or}
 use Rattle.std.specs.List.{list_all, join_with_byte, AllPass}
 use Rattle.std.proofs.lemmas.Fmt.{length-decimal-le}
@@ -11,10 +11,10 @@ use Rattle.tag_epc.specs.declared.epc.Parts.{Parts}
 use Rattle.tag_epc.specs.declared.scheme.Row.{Row}
 use Rattle.tag_epc.specs.declared.epc.Parts.TheVariants.{Partitioned, General}
 use Rattle.tag_epc.specs.Layout.{Layout, layout_of, name_of}
-use Rattle.tag_epc.specs.LawfulWord.{IsLawful, HasWord, kind_of}
+use Rattle.tag_epc.specs.LawfulWord.{IsLawful, kind_of}
 use Rattle.tag_uri.specs.Decimal.{AreDigits, padded, plain}
 use Rattle.tag_uri.specs.Hexadecimal.{hexadecimal, is_upper_digit}
-use Rattle.tag_uri.specs.TagText.{IsTextOf, tag_uri, tag_start, raw_uri, raw_start, raw_length, scheme_text, components_of, reference_digits}
+use Rattle.tag_uri.specs.TagText.{IsTextOf, tag_uri, raw_uri, components_of, reference_digits}
 use Rattle.tag_uri.proofs.DecimalLemmas.{length-padded}
 use Rattle.tag_uri.proofs.HexadecimalLemmas.{length-hexadecimal, word_digits_of}
 use Rattle.tag_uri.proofs.LawfulTexts.{last_small}

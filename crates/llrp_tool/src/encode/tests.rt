@@ -74,11 +74,11 @@ fn listings_of_parameters(rt: HostRuntime) -> Result<(), Fail> {
     Ok(())
 }
 
-/// A listing of LLRPStatus over so many nested parameters.
-fn nested(rt: &HostRuntime, depth: u8) -> Result<Vec<u8>, Fail> {
+/// A listing of LLRPStatus over nested parameters at these levels.
+fn nested(rt: &HostRuntime, levels: &[u8]) -> Result<Vec<u8>, Fail> {
     let mut listing = Vec::from_slice(rt.alloc(), b"0 ERROR_MESSAGE 1 9\n1 LLRPStatus 0 x\n")?;
-    for level in 0..depth {
-        listing.push(b'2' + level)?;
+    for level in levels {
+        listing.push(*level)?;
         listing.extend_from_slice(b" ParameterError 0 0\n")?;
     }
     Ok(listing)
@@ -86,10 +86,10 @@ fn nested(rt: &HostRuntime, depth: u8) -> Result<Vec<u8>, Fail> {
 
 #[test]
 fn levels_of_parameters(rt: HostRuntime) -> Result<(), Fail> {
-    let (answer, bytes) = encoded(&rt, nested(&rt, 7)?.as_slice());
+    let (answer, bytes) = encoded(&rt, nested(&rt, b"2345678")?.as_slice());
     assert_eq!(rt; answer, Ok(()));
     assert_eq!(rt; bytes.len(), 74);
-    let (answer, _) = encoded(&rt, nested(&rt, 8)?.as_slice());
+    let (answer, _) = encoded(&rt, nested(&rt, b"23456789")?.as_slice());
     let (line, reason) = (10, Refusal::Level);
     assert_eq!(rt; answer, Err(ToolErr::Listing { line, reason }));
     Ok(())

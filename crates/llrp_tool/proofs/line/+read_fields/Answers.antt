@@ -1,4 +1,4 @@
-use Rattle.std.proofs.Common.{◌≡◌, ◌∷◌, List, ℕ, ap, ◌∙◌}
+use Rattle.std.proofs.Common.{◌≡◌, ◌∷◌, ap, ◌∙◌}
 use Rattle.llrp_tool.specs.Splits.{words_in}
 use Rattle.llrp_tool.proofs.BodyWords.{fields_more}
 use Rattle.llrp_tool.proofs.line.+read_fields.Goals as goal

@@ -1,4 +1,4 @@
-use Rattle.std.proofs.Common.{◌≡◌, ◌≤◌, ◌+◌, List, ℕ, sym, ◌∙◌, ap, arith, length}
+use Rattle.std.proofs.Common.{◌+◌, List, ℕ, sym, ◌∙◌, ap, arith, length}
 use Rattle.llrp_schema.specs.declared.kinds.Kind.{Kind}
 use Rattle.llrp_schema.specs.Schema.{FieldRule, fields_of}
 use Rattle.llrp_tool.specs.LineReading.{forms_of}

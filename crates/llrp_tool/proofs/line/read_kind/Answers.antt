@@ -1,4 +1,4 @@
-use Rattle.std.proofs.Common.{◌≡◌, sym, arith}
+use Rattle.std.proofs.Common.{arith}
 use Rattle.llrp_tool.proofs.LineWords.{message_named, parameter_named, no_message, no_parameter}
 use Rattle.llrp_tool.proofs.line.read_kind.Goals as goal
 

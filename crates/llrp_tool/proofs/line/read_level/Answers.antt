@@ -1,4 +1,4 @@
-use Rattle.std.proofs.Common.{◌≡◌, ◌≤◌, ◌<◌, sym, ap, ◌∙◌, arith, min}
+use Rattle.std.proofs.Common.{sym, ap, ◌∙◌, arith}
 use Rattle.llrp_tool.specs.Numeral.{numeral}
 use Rattle.llrp_tool.proofs.LineWords.{no_level, other_level, level_is}
 use Rattle.llrp_tool.proofs.line.read_level.Goals as goal

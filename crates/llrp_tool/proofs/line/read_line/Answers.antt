@@ -1,13 +1,8 @@
-use Rattle.std.proofs.Common.{◌≡◌, ◌≤◌, ◌+◌, List, ℕ, Ok, Err, Result, length, true, ap, refl, sym, ◌∙◌, subst, arith}
+use Rattle.std.proofs.Common.{◌≡◌, List, ℕ, Err, true, sym, ◌∙◌, subst, arith}
 use Rattle.std.proofs.lemmas.Result.{err_from_is_err_and}
-use Rattle.llrp_schema.specs.declared.kinds.Kind.{Kind}
-use Rattle.llrp_schema.specs.declared.kinds.Kind.TheVariants.{Message, Parameter}
-use Rattle.llrp_tool.specs.declared.fault.Refusal.{Refusal}
-use Rattle.llrp_tool.specs.declared.line.Start.{Start}
-use Rattle.llrp_tool.specs.LineChecks.{LONGEST_LINE, is_printed, word_count}
+use Rattle.llrp_tool.specs.LineChecks.{is_printed}
 use Rattle.llrp_tool.specs.LineReading.{ReadsStart, Starts}
-use Rattle.llrp_tool.specs.Splits.{words}
-use Rattle.llrp_tool.proofs.LineSays.{printed_utf8, start_bad, rest_length, count_bad, message_bad, parameter_bad, message_said, parameter_said, message_count, parameter_count}
+use Rattle.llrp_tool.proofs.LineSays.{printed_utf8, start_bad, count_bad, message_bad, parameter_bad, message_said, parameter_said, message_count}
 use Rattle.llrp_tool.proofs.line.read_line.Goals as goal
 
 pub unreachable-requires : goal.unreachable-requires

@@ -1,7 +1,7 @@
-use Rattle.std.proofs.Common.{◌≡◌, ◌∷◌, [], ◌+◌, ◌≤◌, List, ℕ, Ok, Err, length, map, ap, sym, ◌∙◌, subst, arith, refl}
+use Rattle.std.proofs.Common.{◌≡◌, List, length, map, ap, arith, refl}
 use Rattle.std.proofs.lemmas.Result.{err_from_is_err_and}
 use Rattle.llrp_schema.specs.declared.kinds.Kind.TheVariants.{Parameter}
-use Rattle.llrp_schema.specs.Schema.{FieldRule, field_rule, fields_of}
+use Rattle.llrp_schema.specs.Schema.{FieldRule, field_rule}
 use Rattle.llrp_tool.specs.Splits.{words_in}
 use Rattle.llrp_tool.specs.LineReading.{forms_of}
 use Rattle.llrp_tool.proofs.BodyWords.{parameter_fields_bad, rest_count, parameter_tail_bad, parameter_read}

@@ -1,5 +1,4 @@
-use Rattle.std.proofs.Common.{◌≡◌, ◌∷◌, [], List, ℕ, Ok, Some, None, Option, length, ap, sym, ◌∙◌, subst}
-use Rattle.std.specs.Borrow.{Bor}
+use Rattle.std.proofs.Common.{◌≡◌, [], List, ℕ, Ok, length, ap, sym, ◌∙◌, subst}
 use Rattle.llrp_tool.specs.Splits.{words_in, words}
 use Rattle.llrp_tool.specs.LineReading.{ReadsRest}
 use Rattle.llrp_tool.proofs.BodyWords.{nothing_left, word_left}

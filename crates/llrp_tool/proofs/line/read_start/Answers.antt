@@ -1,4 +1,4 @@
-use Rattle.std.proofs.Common.{◌≡◌, ◌∷◌, [], List, ℕ}
+use Rattle.std.proofs.Common.{◌≡◌, ◌∷◌, []}
 use Rattle.llrp_tool.specs.Splits.{words}
 use Rattle.llrp_tool.proofs.LineWords.{start_no_word, start_no_kind}
 use Rattle.llrp_tool.proofs.line.read_start.Goals as goal

@@ -1,4 +1,4 @@
-use Rattle.std.proofs.Common.{◌≡◌, ◌≤◌, sym, arith}
+use Rattle.std.proofs.Common.{sym, arith}
 use Rattle.llrp_tool.proofs.NumberWords.{negative_none, negative_other, negative_read}
 use Rattle.llrp_tool.proofs.number.below_zero.Goals as goal
 

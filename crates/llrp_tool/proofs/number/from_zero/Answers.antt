@@ -1,4 +1,4 @@
-use Rattle.std.proofs.Common.{◌≡◌, sym, arith}
+use Rattle.std.proofs.Common.{sym, arith}
 use Rattle.llrp_tool.proofs.NumberWords.{positive_none, positive_other, positive_read}
 use Rattle.llrp_tool.proofs.number.from_zero.Goals as goal
 

@@ -1,4 +1,4 @@
-use Rattle.std.proofs.Common.{◌≡◌, ◌<◌, ◌^◌, ℕ, refl, sym, ap, ◌∙◌, subst}
+use Rattle.std.proofs.Common.{ℕ, refl, sym, subst}
 use Rattle.tag_uri.specs.TagText.{IsTextOf}
 use Rattle.tag_uri.proofs.TextLaws.{text_or_fault}
 use Rattle.llrp_tool.proofs.number.read_epc.Goals as goal

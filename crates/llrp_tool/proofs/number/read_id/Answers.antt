@@ -1,4 +1,4 @@
-use Rattle.std.proofs.Common.{◌≡◌, sym, ap, ◌∙◌, arith}
+use Rattle.std.proofs.Common.{sym, ap, ◌∙◌, arith}
 use Rattle.llrp_tool.specs.Numeral.{numeral}
 use Rattle.llrp_tool.proofs.NumberWords.{id_none, id_other, id_read}
 use Rattle.llrp_tool.proofs.number.read_id.Goals as goal

@@ -1,4 +1,4 @@
-use Rattle.std.proofs.Common.{◌≡◌, sym, ap, ◌∙◌}
+use Rattle.std.proofs.Common.{sym, ap, ◌∙◌}
 use Rattle.llrp_tool.specs.Numeral.{numeral}
 use Rattle.llrp_tool.proofs.NumberWords.{unsigned_none, unsigned_read}
 use Rattle.llrp_tool.proofs.number.read_unsigned.Goals as goal

@@ -1,4 +1,4 @@
-use Rattle.std.proofs.Common.{◌≡◌, sym, ap, ◌∙◌, arith}
+use Rattle.std.proofs.Common.{sym, ap, ◌∙◌, arith}
 use Rattle.llrp_tool.specs.Numeral.{numeral}
 use Rattle.llrp_tool.proofs.NumberWords.{version_none, version_other, version_read}
 use Rattle.llrp_tool.proofs.number.read_version.Goals as goal

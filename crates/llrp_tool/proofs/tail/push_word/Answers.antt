@@ -1,4 +1,4 @@
-use Rattle.std.proofs.Common.{◌≡◌, ◌<◌, ◌+◌, ◌*◌, ◌/◌, ◌%◌, ℕ, refl, sym, ap, ◌∙◌, arith, decimal}
+use Rattle.std.proofs.Common.{◌≡◌, ◌+◌, ◌*◌, ◌/◌, ◌%◌, refl, sym, ap, ◌∙◌, arith, decimal}
 use Rattle.llrp_tool.proofs.DecimalWords.{numeral_is, no_text, same_number}
 use Rattle.llrp_tool.proofs.tail.push_word.Goals as goal
 

@@ -1,4 +1,4 @@
-use Rattle.std.proofs.Common.{◌≡◌, refl, sym, ◌∙◌, true, false, inl, inr}
+use Rattle.std.proofs.Common.{refl, sym, ◌∙◌, inl, inr}
 use Rattle.llrp_tool.proofs.TailWords.{digits_read, digits_refused, capital_refused}
 use Rattle.llrp_tool.proofs.tail.read_digits.Goals as goal
 

@@ -1,4 +1,4 @@
-use Rattle.std.proofs.Common.{◌≡◌, ◌∷◌, List, ℕ, Some, None, lit<}
+use Rattle.std.proofs.Common.{None, lit<}
 use Rattle.std.proofs.lemmas.Str.Pattern.{strip_prefix_char}
 use Rattle.llrp_tool.proofs.TailWords.{no_letter_x}
 use Rattle.llrp_tool.proofs.tail.read_octets.Goals as goal

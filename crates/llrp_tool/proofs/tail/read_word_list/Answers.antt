@@ -1,8 +1,6 @@
-use Rattle.std.proofs.Common.{◌≡◌, ◌<◌, ◌∷◌, [], List, ℕ, length, sym, ap, ◌∙◌, arith}
-use Rattle.std.specs.List.{slice_split}
-use Rattle.std.specs.Prelude.{◌==◌}
+use Rattle.std.proofs.Common.{◌<◌, [], length, arith}
 use Rattle.std.proofs.lemmas.Result.{err_from_is_err_and}
-use Rattle.llrp_tool.proofs.TailWords.{none_read, one_more, all_read, list_stops, no_words}
+use Rattle.llrp_tool.proofs.TailWords.{one_more, all_read, list_stops}
 use Rattle.llrp_tool.proofs.WordLemmas.{one_part, split_part}
 use Rattle.llrp_tool.proofs.tail.read_word_list.Goals as goal
 

@@ -1,4 +1,4 @@
-use Rattle.std.proofs.Common.{◌≡◌, ◌∷◌, ◌++◌, ◌+◌, [], length, subst, sym, ℕ}
+use Rattle.std.proofs.Common.{◌++◌, ◌+◌, length}
 use Rattle.std.specs.Prelude.{IsErrAnd}
 use Rattle.llrp_tool.specs.Encoder.{RefusingLine}
 use Rattle.llrp_tool.specs.OpenLines.{entries_in}

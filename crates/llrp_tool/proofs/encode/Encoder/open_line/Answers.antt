@@ -1,9 +1,9 @@
-use Rattle.std.proofs.Common.{◌≡◌, ◌≤◌, ◌+◌, ℕ, List, Option, None, Some, length, refl, sym, ap, ◌∙◌, subst, arith}
+use Rattle.std.proofs.Common.{◌≡◌, ◌≤◌, ◌+◌, Option, None, Some, length, sym, ap, ◌∙◌, subst, arith}
 use Rattle.std.proofs.lemmas.Result.{err_from_is_err_and}
 use Rattle.llrp_tool.specs.declared.line.Line.{Line}
 use Rattle.llrp_tool.specs.declared.open_lines.OpenMessage.{OpenMessage}
 use Rattle.llrp_tool.specs.Encoder.{CanStand, Opened, said_level}
-use Rattle.llrp_tool.specs.OpenLines.{Entry, ClosingStops, entries_in, entries_of}
+use Rattle.llrp_tool.specs.OpenLines.{ClosingStops, entries_in, entries_of}
 use Rattle.llrp_tool.proofs.Opening.{opened_message, opened_parameter}
 use Rattle.llrp_tool.proofs.encode.Encoder.open_line.Goals as goal
 

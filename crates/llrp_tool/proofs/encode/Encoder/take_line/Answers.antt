@@ -1,4 +1,3 @@
-use Rattle.std.proofs.Common.{◌∷◌, ◌++◌, []}
 use Rattle.std.proofs.lemmas.Result.{err_from_is_err_and}
 use Rattle.llrp_tool.specs.OpenLines.{entries_in}
 use Rattle.llrp_tool.proofs.Standing.{close_result, line_more, pieces_stop}

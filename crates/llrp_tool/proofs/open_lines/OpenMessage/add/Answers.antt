@@ -1,11 +1,8 @@
-use Rattle.std.proofs.Common.{◌≡◌, ◌∷◌, ◌++◌, [], List, ℕ, refl, sym, ap, ◌∙◌, arith}
-use Rattle.llrp_tree.specs.Tree as tree
+use Rattle.std.proofs.Common.{◌≡◌, ◌∷◌, [], List, refl, sym, ap, ◌∙◌, arith}
 use Rattle.llrp_tool.specs.declared.open_lines.OpenParameter.{OpenParameter}
-use Rattle.llrp_tool.specs.OpenLines.{Entry, added, entries_onto, message_entry, entry, lines_below}
-use Rattle.llrp_tool.specs.LineReading.{message_node}
+use Rattle.llrp_tool.specs.OpenLines.{Entry, added, entries_onto, message_entry}
 use Rattle.std.proofs.lemmas.List.{append-nil}
 use Rattle.llrp_tool.proofs.Closings.{added_parameter, added_message, none_items}
-use Rattle.llrp_tool.proofs.TreeLines.{lines_more}
 use Rattle.llrp_tool.proofs.open_lines.OpenMessage.add.Goals as goal
 
 pub returns-in_ok-push-in-Some-2-clause-added : goal.returns-in_ok-push-in-Some-2-clause-added

@@ -1,8 +1,7 @@
-use Rattle.std.proofs.Common.{◌≡◌, ◌≤◌, ◌<◌, ◌∷◌, ◌++◌, [], List, ℕ, length, refl, sym, ap, ◌∙◌, subst, arith}
+use Rattle.std.proofs.Common.{◌≡◌, ◌≤◌, ◌<◌, ◌∷◌, [], List, length, sym, ap, ◌∙◌, subst, arith}
 use Rattle.std.proofs.lemmas.Result.{err_from_is_err_and}
-use Rattle.llrp_tool.specs.declared.open_lines.OpenMessage.{OpenMessage}
 use Rattle.llrp_tool.specs.OpenLines.{Entry, Closed, ClosingStops, added, entries_of, entries_onto, message_entry, parameter_entry, tree_of}
-use Rattle.llrp_tool.proofs.Closings.{closed_none, closed_more, added_length, entries_pop, entries_count, stops_at}
+use Rattle.llrp_tool.proofs.Closings.{closed_none, closed_more, added_length, entries_pop, stops_at}
 use Rattle.llrp_tool.proofs.open_lines.OpenMessage.close_to.Goals as goal
 
 pub lines-init : goal.lines-init

@@ -1,4 +1,4 @@
-use Rattle.std.proofs.Common.{◌≡◌, ◌+◌, arith}
+use Rattle.std.proofs.Common.{arith}
 use Rattle.llrp_tool.proofs.Closings.{entries_count}
 use Rattle.llrp_tool.proofs.open_lines.OpenMessage.depth.Goals as goal
 

@@ -1,6 +1,5 @@
-use Rattle.std.proofs.Common.{◌≡◌, ◌≤◌, List, ℕ, length, refl, sym, ap, ◌∙◌, subst, arith}
 use Rattle.std.proofs.lemmas.Result.{err_from_is_err_and}
-use Rattle.llrp_tool.specs.OpenLines.{Closed, entries_of}
+use Rattle.llrp_tool.specs.OpenLines.{entries_of}
 use Rattle.llrp_tool.proofs.Closings.{alone, some_entries, stops_lower}
 use Rattle.llrp_tool.proofs.Finishing.{finished_later, stopped_later}
 use Rattle.llrp_tool.proofs.open_lines.OpenMessage.finish.Goals as goal

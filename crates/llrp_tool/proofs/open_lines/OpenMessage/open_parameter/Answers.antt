@@ -1,4 +1,4 @@
-use Rattle.std.proofs.Common.{◌≡◌, ◌∷◌, ◌++◌, [], List, ℕ, refl, sym, ap, ◌∙◌, subst}
+use Rattle.std.proofs.Common.{◌≡◌, ◌∷◌, [], List, sym, ap, ◌∙◌, subst}
 use Rattle.llrp_tree.specs.Tree as tree
 use Rattle.llrp_tool.specs.LineReading.{parameter_node}
 use Rattle.llrp_tool.specs.OpenLines.{Entry, Begins, entries_of, entries_onto, message_entry, entry, lines_below}
