@@ -1,6 +1,6 @@
 //! Conformance vectors: streams as hexadecimal digits, and the listing of each.
 
-use crate::{Input, Output, Verdict, bytes_of_hex, run_show};
+use crate::{Input, Output, Verdict, bytes_of_hex, run_encode, run_show};
 use std::alloc::Global;
 use std::process::Abort;
 use std::test::*;
@@ -403,6 +403,20 @@ fn words_in_reports(rt: HostRuntime) -> Result<(), Fail> {
             listing.as_bytes(),
             Verdict::Lawful,
         );
+    }
+    Ok(())
+}
+
+#[test]
+fn lawful_listings_back(rt: HostRuntime) -> Result<(), Fail> {
+    for vector in LAWFUL.iter() {
+        let stream = bytes(rt.alloc(), vector.stream)?;
+        let mut source = Input::new(vector.listing.as_bytes());
+        let mut sink = Output::new(Vec::new(rt.alloc()));
+        let done = run_encode(rt.alloc(), &mut source, &mut sink, 65_536);
+        let name = vector.name;
+        assert!(rt; done == Ok(()), "{name}");
+        assert!(rt; sink.into_inner().as_slice() == stream.as_slice(), "{name}");
     }
     Ok(())
 }
