@@ -1,6 +1,5 @@
 -- What the parts of the reader's code have to do with the machine.
 use Rattle.std.specs.Prelude.{◌≡◌, ℕ, ◌≤◌, ◌+◌, ◌==◌, nat_lt, ◌⊎◌, Bool, ◌&&◌, List, [], ◌∷◌, length, Option, None, Some, is_none, if◌then◌else◌}
-use Rattle.std.proofs.Common.{Bor}
 use Rattle.llrp_tree.specs.Tree.{Tree}
 use Rattle.llrp_session.specs.RoSpec.{RoSpec}
 use Rattle.llrp_session.specs.Table.{Entry, RoState, is_disabled, names, enabling, disabling, setting, octets_of, active, first_immediate}
@@ -25,11 +24,6 @@ pub record IsKept (v most : ℕ) (table : List Entry) (held : List Tree) : Type 
   pub few : length held ≤ most_held
 
 -- ---- the table
-
--- the ROSpec behind a reference
-abbrev pub behind : Option (Bor RoSpec) → Option RoSpec
-behind None = None
-behind (Some b) = Some b.now
 
 -- what a change makes of a state, by the id of the ROSpec
 abbrev pub changing : StateChange → ℕ → RoState → RoState

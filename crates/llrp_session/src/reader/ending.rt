@@ -1,11 +1,12 @@
 //! The end of a ROSpec: what is held is sent if its reports are, then the End event, and it is Inactive.
 
 ghost use Rattle.std.specs.Prelude.{◌≡◌, ℕ, ◌≤◌, ◌+◌, ◌⊎◌, ◌==◌, Option, IfOk, vec_len, vec_capacity};
+ghost use Rattle.std.specs.Option.{option_copied};
 ghost use Rattle.llrp_session.specs.RoSpec.{RoSpec as TheRoSpec};
 ghost use Rattle.llrp_session.specs.Table.{names as the_names, active as the_active};
 ghost use Rattle.llrp_session.specs.ReadWords.{settings_of};
 ghost use Rattle.llrp_session.specs.ReaderMachine.{begun, sends_at_end as the_test};
-ghost use Rattle.llrp_session.specs.ReaderParts.{behind, chosen, end_of, IsEnding, IsEndingOf};
+ghost use Rattle.llrp_session.specs.ReaderParts.{chosen, end_of, IsEnding, IsEndingOf};
 ghost use Rattle.llrp_session.specs.ReaderSteps.{Stands};
 
 use super::Reader;
@@ -32,7 +33,7 @@ pub(crate) struct Ending {
 impl Reader {
     /// The active ROSpec, if an id names it.
     pub(crate) fn active_named(&self, n: u32) -> Option<&RoSpec>
-        ensures { behind result ≡ chosen (λ s. the_names n s.id) (the_active self.now.table) }
+        ensures { option_copied result ≡ chosen (λ s. the_names n s.id) (the_active self.now.table) }
     {
         match table::active(self.table()) {
             Some(rospec) if table::names(n, rospec.settings().id) => Some(rospec),
@@ -42,7 +43,7 @@ impl Reader {
 
     /// The active ROSpec, if it has this ROSpecID.
     pub(crate) fn active_of(&self, id: u32) -> Option<&RoSpec>
-        ensures { behind result ≡ chosen (λ s. s.id == id) (the_active self.now.table) }
+        ensures { option_copied result ≡ chosen (λ s. s.id == id) (the_active self.now.table) }
     {
         match table::active(self.table()) {
             Some(rospec) if rospec.settings().id == id => Some(rospec),
@@ -88,7 +89,7 @@ impl Reader {
         rospec: Option<&RoSpec>,
     ) -> Result<Option<Ending>, AllocError>
         requires { (version ≡ 1) ⊎ (version ≡ 2) }
-        ensures { IfOk result (λ e. IsEndingOf now (behind rospec.entry) (record self.now { version = version }) e) }
+        ensures { IfOk result (λ e. IsEndingOf now (option_copied rospec.entry) (record self.now { version = version }) e) }
     {
         match rospec {
             Some(rospec) => {

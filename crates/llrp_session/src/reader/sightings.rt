@@ -1,11 +1,11 @@
 //! What a reader does when a tag is sighted.
 
 ghost use Rattle.std.specs.Prelude.{◌≡◌, ◌<◌, ◌≤◌, ◌+◌, ◌⊎◌, OnOk, OnErr, length, vec_len, vec_capacity};
+ghost use Rattle.std.specs.Option.{option_copied};
 ghost use Rattle.llrp_session.specs.LawfulWords.{IsReport};
 ghost use Rattle.llrp_session.specs.Table.{active as the_active};
 ghost use Rattle.llrp_session.specs.Words.{Overflowed};
 ghost use Rattle.llrp_session.specs.ReaderMachine.{begun, tell as the_tell, see, counting as the_counting, is_enough as the_test, most_held, is_full as the_is_full, send_if_enough as the_sending, hold as the_hold};
-ghost use Rattle.llrp_session.specs.ReaderParts.{behind};
 ghost use Rattle.llrp_session.specs.ReaderSteps.{Stands};
 
 use super::{Reader, table};
@@ -29,7 +29,7 @@ fn is_enough(report: &ReportSpec, count: usize) -> bool
 impl Reader {
     /// The active ROSpec, if it lists the antenna of a sighting, or 0.
     fn counting(&self, sighting: &Sighting) -> Option<&RoSpec>
-        ensures { behind result ≡ the_counting sighting.now (the_active self.now.table) }
+        ensures { option_copied result ≡ the_counting sighting.now (the_active self.now.table) }
     {
         match table::active(self.table()) {
             Some(rospec) if rospec.lists_antenna(sighting.antenna) => Some(rospec),

@@ -1,9 +1,9 @@
 //! The table of a reader: ROSpecs with their states, in rising order of their ids.
 
 ghost use Rattle.std.specs.Prelude.{◌≡◌, ◌<◌, ◌^◌, Option, None, Some, vec_len, vec_capacity};
-ghost use Rattle.std.specs.Option.{option_map};
+ghost use Rattle.std.specs.Option.{option_copied, option_map};
 ghost use Rattle.llrp_session.specs.ReaderMachine.{is_known as the_is_known};
-ghost use Rattle.llrp_session.specs.ReaderParts.{behind, changing, is_immediate as the_is_immediate, place_of as the_place};
+ghost use Rattle.llrp_session.specs.ReaderParts.{changing, is_immediate as the_is_immediate, place_of as the_place};
 ghost use Rattle.llrp_session.specs.Table.{names as the_names, enabled as the_enabled, state_of as the_state_of, active as the_active, first_immediate as the_first_immediate, octets_of as the_octets, change as the_change, without as the_without, enter as the_enter};
 
 use crate::reading::rospec::RoSpec;
@@ -98,7 +98,7 @@ pub(crate) fn is_known(table: &[Entry], n: u32) -> bool
 /// The active ROSpec.
 #[tactic(auto, unfolding(crate::specs::Table::active))]
 pub(crate) fn active(table: &[Entry]) -> Option<&RoSpec>
-    ensures { behind result ≡ the_active table.now }
+    ensures { option_copied result ≡ the_active table.now }
 {
     for entry in table {
         if entry.state == RoState::Active {

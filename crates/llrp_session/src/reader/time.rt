@@ -1,12 +1,13 @@
 //! What a reader does as time passes.
 
 ghost use Rattle.std.specs.Prelude.{◌≡◌, ℕ, ◌<◌, ◌≤◌, ◌+◌, OnOk, OnErr, List, vec_len, vec_capacity};
+ghost use Rattle.std.specs.Option.{option_copied};
 ghost use Rattle.llrp_tree.specs.Tree.{MessageTree};
 ghost use Rattle.llrp_session.specs.RoSpec.{RoSpec as TheRoSpec};
 ghost use Rattle.llrp_session.specs.Table.{active as the_active};
 ghost use Rattle.llrp_session.specs.ReadWords.{settings_of};
 ghost use Rattle.llrp_session.specs.ReaderMachine.{Turn, begun, later as the_moment, keepalive_from as the_keepalive, is_over as the_test, keep_alive as the_keeping, tick as the_tick};
-ghost use Rattle.llrp_session.specs.ReaderParts.{behind, chosen};
+ghost use Rattle.llrp_session.specs.ReaderParts.{chosen};
 ghost use Rattle.llrp_session.specs.ReaderSteps.{Stands};
 
 use super::{Reader, table};
@@ -44,7 +45,7 @@ impl Reader {
 
     /// The active ROSpec, if it has run as long as its stop trigger says.
     fn active_over(&self, now: u64) -> Option<&RoSpec>
-        ensures { behind result ≡ chosen (the_test now self.now.started) (the_active self.now.table) }
+        ensures { option_copied result ≡ chosen (the_test now self.now.started) (the_active self.now.table) }
     {
         match table::active(self.table()) {
             Some(rospec) if self.is_over(now, rospec.settings()) => Some(rospec),
