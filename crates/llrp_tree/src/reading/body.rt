@@ -18,10 +18,9 @@ use crate::{FrameErr, Kind, Node, Nodes, Octets, Reason};
 use arrayvec::ArrayVec;
 use std::alloc::Global;
 
-/// All of a node behind its head, and the octet behind it.
+/// All of a node behind its fields, and the octet behind it.
 #[derive(Drop)]
 pub(crate) struct Body {
-    pub fields: ArrayVec<u128, 12>,
     pub tail: Octets,
     pub children: Nodes,
     pub at: usize,
@@ -38,7 +37,7 @@ fn is_tv(kind: Kind) -> bool
 }
 
 /// What stands behind the head of a node of a kind, from one octet to another, so many levels below
-/// the message.
+/// the message; the plain fields are put into `fields`.
 pub(crate) fn read_body(
     alloc: Global,
     frame: &[u8],
@@ -46,32 +45,28 @@ pub(crate) fn read_body(
     from: usize,
     stop: usize,
     kind: Kind,
+    fields: &mut ArrayVec<u128, 12>,
 ) -> Result<Body, FrameErr>
     requires behind { 2 ≤ from }
     requires before { from ≤ stop }
     requires small { length frame.now ≤ 65536 }
     requires inside { stop ≤ length frame.now }
     requires shallow { level ≤ MAX_DEPTH }
+    requires fresh { fields.old.items ≡ [] }
     requires begins { Begins frame.now kind level from stop }
     ensures within { MatchResult result (λ x. (from ≤ x.at) × (x.at ≤ stop)) (λ _. Unit {0}) }
-    ensures count { MatchResult result (λ x. length x.fields.items ≡ length (plain_fields_of kind)) (λ _. Unit {0}) }
+    ensures count { MatchResult result (λ _. length fields.new.items ≡ length (plain_fields_of kind)) (λ _. Unit {0}) }
     ensures whole { MatchResult result (λ x. unwrap_or (as_read (tail_of kind) x.tail) [] ≡ x.tail) (λ _. Unit {0}) }
     ensures read { (h : Head) (outer : List Begun) → kind_of h ≡ kind → length outer ≡ level → Stands (digits_of_bytes frame.now) (leading h (8 * stop) [] ∷ outer) (8 * from)
-        → MatchResult result (λ x. Closes (digits_of_bytes frame.now) (begun h (8 * stop) (spread (fields_of kind) x.fields.items) (as_read (tail_of kind) x.tail) (forest x.children)) outer (8 * x.at)) (Tells (digits_of_bytes frame.now)) }
+        → MatchResult result (λ x. Closes (digits_of_bytes frame.now) (begun h (8 * stop) (spread (fields_of kind) fields.new.items) (as_read (tail_of kind) x.tail) (forest x.children)) outer (8 * x.at)) (Tells (digits_of_bytes frame.now)) }
 {
-    let fields = read_fields(frame, from, stop, kind)?;
-    let tail = read_tail(
-        alloc,
-        frame,
-        fields.at,
-        stop,
-        kind,
-        fields.values.as_slice(),
-    )?;
+    let behind = read_fields(frame, from, stop, kind, fields)?;
+    let tail = read_tail(alloc, frame, behind, stop, kind, fields.as_slice())?;
     let mut children = Vec::new(alloc);
     let mut at = tail.at;
     'children: while !is_tv(kind) && at < stop {
         let child = begin_child(frame, level, at, stop, kind, children.as_slice())?;
+        let mut values = ArrayVec::new();
         let body = read_body(
             alloc,
             frame,
@@ -79,16 +74,16 @@ pub(crate) fn read_body(
             child.at,
             child.stop,
             Kind::Parameter(child.kind),
+            &mut values,
         )?;
         at = body.at;
-        children.push(Node::of_lawful(child.kind, body.fields, body.tail, body.children))?;
+        children.push(Node::of_lawful(child.kind, values, body.tail, body.children))?;
     }
     let enough = none_missing(llrp_schema::groups(kind), children.as_slice());
     if !enough {
         return Err(bad(8 * stop, Reason::Missing));
     }
     Ok(Body {
-        fields: fields.values,
         tail: tail.octets,
         children: Nodes::new(children),
         at,

@@ -16,7 +16,7 @@ invariant-children l = record {
   after : l.from ≤ l.at;
   before : l.at ≤ l.stop;
   read : (h : Head) (outer : List Begun) → kind_of h ≡ l.kind → length outer ≡ l.level → Stands (digits_of_bytes l.frame) (leading h (8 * l.stop) [] ∷ outer) (8 * l.from)
-      → Stands (digits_of_bytes l.frame) (begun h (8 * l.stop) (spread (fields_of l.kind) l.fields.values.items) (as_read (tail_of l.kind) l.tail.octets) (forest l.children.items) ∷ outer) (8 * l.at);
+      → Stands (digits_of_bytes l.frame) (begun h (8 * l.stop) (spread (fields_of l.kind) l.fields.items) (as_read (tail_of l.kind) l.tail.octets) (forest l.children.items) ∷ outer) (8 * l.at);
 }
 
 abbrev pub decreases-children : goal.decreases-children
