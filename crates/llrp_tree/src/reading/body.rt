@@ -1,15 +1,16 @@
 //! What stands behind the head of a node.
 
-ghost use Rattle.std.specs.Prelude.{◌≡◌, ◌*◌, ◌≤◌, ℕ, List, [], ◌∷◌, length, MatchResult, unwrap_or};
+ghost use Rattle.std.specs.Prelude.{◌≡◌, ◌*◌, ◌≤◌, ℕ, List, [], ◌∷◌, length, false, true, MatchResult, unwrap_or};
 ghost use Rattle.tag_bits.specs.Digits.{digits_of_bytes};
-ghost use Rattle.llrp_schema.specs.Schema.{fields_of, plain_fields_of, tail_of};
+ghost use Rattle.llrp_schema.specs.declared.kinds.Kind.TheVariants.{Parameter};
+ghost use Rattle.llrp_schema.specs.Schema.{fields_of, plain_fields_of, tail_of, is_tv};
 ghost use Rattle.llrp_tree.specs.declared.TheConstants.{MAX_DEPTH};
 ghost use Rattle.llrp_tree.specs.Tree.{forest};
 ghost use Rattle.llrp_tree.specs.Spelling.{Head, spread};
 ghost use Rattle.llrp_tree.specs.OpenTree.{Begun, kind_of, as_read};
-ghost use Rattle.llrp_tree.specs.Standing.{Stands, Closes, begun, leading, Begins, Tells, is_tv_kind};
+ghost use Rattle.llrp_tree.specs.Standing.{Stands, Closes, begun, leading, Begins, BeginsBehind, Tells, is_tv_kind};
 
-use super::children::begin_child;
+use super::children::{Child, begin_child};
 use super::fields::read_fields;
 use super::tail::read_tail;
 use crate::check::none_missing;
@@ -26,18 +27,66 @@ pub(crate) struct Body {
     pub at: usize,
 }
 
-/// Whether a node ends behind its field.
-fn is_tv(kind: Kind) -> bool
-    ensures { result ≡ is_tv_kind kind }
+/// Reads a child that ends behind its field, and appends it to its siblings; the octet behind it.
+fn read_tv(
+    alloc: Global,
+    frame: &[u8],
+    level: u8,
+    child: Child,
+    siblings: &mut Vec<Node>,
+) -> Result<usize, FrameErr>
+    requires short { is_tv child.kind ≡ true }
+    requires before { child.at ≤ child.stop }
+    requires small { length frame.now ≤ 65536 }
+    requires inside { child.stop ≤ length frame.now }
+    requires begins { BeginsBehind frame.now child.kind (forest siblings.old.items) level child.at child.stop }
+    ensures within { MatchResult result (λ at. (child.at ≤ at) × (at ≤ child.stop)) (λ _. Unit {0}) }
+    ensures read { (h : Head) (parent : Begun) (outer : List Begun) → kind_of h ≡ Parameter child.kind → parent.children ≡ forest siblings.old.items → length (parent ∷ outer) ≡ level → Stands (digits_of_bytes frame.now) (leading h (8 * child.stop) [] ∷ parent ∷ outer) (8 * child.at)
+        → MatchResult result (λ at. Stands (digits_of_bytes frame.now) (begun parent.head parent.stop parent.fields parent.tail (forest siblings.new.items) ∷ outer) (8 * at)) (Tells (digits_of_bytes frame.now)) }
 {
-    match kind {
-        Kind::Message(_) => false,
-        Kind::Parameter(kind) => llrp_schema::is_tv(kind),
+    let mut fields = ArrayVec::new();
+    let kind = Kind::Parameter(child.kind);
+    let at = read_fields(frame, child.at, child.stop, kind, &mut fields)?;
+    let tail = Octets::new(Vec::new(alloc));
+    let children = Nodes::new(Vec::new(alloc));
+    siblings.push(Node::of_lawful(child.kind, fields, tail, children))?;
+    Ok(at)
+}
+
+/// Reads a child, so many levels below the message, and appends it to its siblings; the octet behind
+/// it.
+#[cycle(read)]
+fn read_child(
+    alloc: Global,
+    frame: &[u8],
+    level: u8,
+    child: Child,
+    siblings: &mut Vec<Node>,
+) -> Result<usize, FrameErr>
+    requires behind { 2 ≤ child.at }
+    requires before { child.at ≤ child.stop }
+    requires small { length frame.now ≤ 65536 }
+    requires inside { child.stop ≤ length frame.now }
+    requires shallow { level ≤ MAX_DEPTH }
+    requires begins { BeginsBehind frame.now child.kind (forest siblings.old.items) level child.at child.stop }
+    ensures within { MatchResult result (λ at. (child.at ≤ at) × (at ≤ child.stop)) (λ _. Unit {0}) }
+    ensures read { (h : Head) (parent : Begun) (outer : List Begun) → kind_of h ≡ Parameter child.kind → parent.children ≡ forest siblings.old.items → length (parent ∷ outer) ≡ level → Stands (digits_of_bytes frame.now) (leading h (8 * child.stop) [] ∷ parent ∷ outer) (8 * child.at)
+        → MatchResult result (λ at. Stands (digits_of_bytes frame.now) (begun parent.head parent.stop parent.fields parent.tail (forest siblings.new.items) ∷ outer) (8 * at)) (Tells (digits_of_bytes frame.now)) }
+{
+    if llrp_schema::is_tv(child.kind) {
+        return read_tv(alloc, frame, level, child, siblings);
     }
+    let mut fields = ArrayVec::new();
+    let kind = Kind::Parameter(child.kind);
+    let body = read_body(alloc, frame, level, child.at, child.stop, kind, &mut fields)?;
+    let at = body.at;
+    siblings.push(Node::of_lawful(child.kind, fields, body.tail, body.children))?;
+    Ok(at)
 }
 
 /// What stands behind the head of a node of a kind, from one octet to another, so many levels below
 /// the message; the plain fields are put into `fields`.
+#[cycle(read)]
 pub(crate) fn read_body(
     alloc: Global,
     frame: &[u8],
@@ -52,6 +101,7 @@ pub(crate) fn read_body(
     requires small { length frame.now ≤ 65536 }
     requires inside { stop ≤ length frame.now }
     requires shallow { level ≤ MAX_DEPTH }
+    requires has_length { is_tv_kind kind ≡ false }
     requires fresh { fields.old.items ≡ [] }
     requires begins { Begins frame.now kind level from stop }
     ensures within { MatchResult result (λ x. (from ≤ x.at) × (x.at ≤ stop)) (λ _. Unit {0}) }
@@ -64,20 +114,9 @@ pub(crate) fn read_body(
     let tail = read_tail(alloc, frame, behind, stop, kind, fields.as_slice())?;
     let mut children = Vec::new(alloc);
     let mut at = tail.at;
-    'children: while !is_tv(kind) && at < stop {
+    'children: while at < stop {
         let child = begin_child(frame, level, at, stop, kind, children.as_slice())?;
-        let mut values = ArrayVec::new();
-        let body = read_body(
-            alloc,
-            frame,
-            level + 1,
-            child.at,
-            child.stop,
-            Kind::Parameter(child.kind),
-            &mut values,
-        )?;
-        at = body.at;
-        children.push(Node::of_lawful(child.kind, values, body.tail, body.children))?;
+        at = read_child(alloc, frame, level + 1, child, &mut children)?;
     }
     let enough = none_missing(llrp_schema::groups(kind), children.as_slice());
     if !enough {
