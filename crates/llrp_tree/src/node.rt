@@ -96,12 +96,12 @@ pub enum NodeFault {
 #[cycle(node)]
 #[derive(Drop)]
 pub struct Node {
-    kind: ParamKind,
     fields: ArrayVec<u128, 12>,
     tail: Octets,
     children: Nodes,
     octets: u32,
     levels: u8,
+    kind: ParamKind,
 }
 
 /// Lawful parameters in a row, which contracts see as a list.
@@ -307,6 +307,7 @@ impl Node {
     ghost use Rattle.llrp_tree.specs.Tree.{Tree};
 
     /// The parameter of parts that are known to be lawful.
+    #[inline(always)]
     pub(crate) fn of_lawful(
         kind: ParamKind,
         fields: ArrayVec<u128, 12>,

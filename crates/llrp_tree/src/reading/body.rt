@@ -31,7 +31,6 @@ pub(crate) struct Body {
 fn read_tv(
     alloc: Global,
     frame: &[u8],
-    level: u8,
     child: Child,
     siblings: &mut Vec<Node>,
 ) -> Result<usize, FrameErr>
@@ -39,9 +38,9 @@ fn read_tv(
     requires before { child.at ≤ child.stop }
     requires small { length frame.now ≤ 65536 }
     requires inside { child.stop ≤ length frame.now }
-    requires begins { BeginsBehind frame.now child.kind (forest siblings.old.items) level child.at child.stop }
+    requires begins { (level : ℕ) × BeginsBehind frame.now child.kind (forest siblings.old.items) level child.at child.stop }
     ensures within { MatchResult result (λ at. (child.at ≤ at) × (at ≤ child.stop)) (λ _. Unit {0}) }
-    ensures read { (h : Head) (parent : Begun) (outer : List Begun) → kind_of h ≡ Parameter child.kind → parent.children ≡ forest siblings.old.items → length (parent ∷ outer) ≡ level → Stands (digits_of_bytes frame.now) (leading h (8 * child.stop) [] ∷ parent ∷ outer) (8 * child.at)
+    ensures read { (h : Head) (parent : Begun) (outer : List Begun) → kind_of h ≡ Parameter child.kind → parent.children ≡ forest siblings.old.items → Stands (digits_of_bytes frame.now) (leading h (8 * child.stop) [] ∷ parent ∷ outer) (8 * child.at)
         → MatchResult result (λ at. Stands (digits_of_bytes frame.now) (begun parent.head parent.stop parent.fields parent.tail (forest siblings.new.items) ∷ outer) (8 * at)) (Tells (digits_of_bytes frame.now)) }
 {
     let mut fields = ArrayVec::new();
@@ -49,20 +48,22 @@ fn read_tv(
     let at = read_fields(frame, child.at, child.stop, kind, &mut fields)?;
     let tail = Octets::new(Vec::new(alloc));
     let children = Nodes::new(Vec::new(alloc));
-    siblings.push(Node::of_lawful(child.kind, fields, tail, children))?;
+    siblings.reserve(1)?;
+    siblings.push_reserved(Node::of_lawful(child.kind, fields, tail, children));
     Ok(at)
 }
 
-/// Reads a child, so many levels below the message, and appends it to its siblings; the octet behind
-/// it.
+/// Reads a child with a length, so many levels below the message, and appends it to its siblings; the
+/// octet behind it.
 #[cycle(read)]
-fn read_child(
+fn read_tlv(
     alloc: Global,
     frame: &[u8],
     level: u8,
     child: Child,
     siblings: &mut Vec<Node>,
 ) -> Result<usize, FrameErr>
+    requires long { is_tv child.kind ≡ false }
     requires behind { 2 ≤ child.at }
     requires before { child.at ≤ child.stop }
     requires small { length frame.now ≤ 65536 }
@@ -73,15 +74,19 @@ fn read_child(
     ensures read { (h : Head) (parent : Begun) (outer : List Begun) → kind_of h ≡ Parameter child.kind → parent.children ≡ forest siblings.old.items → length (parent ∷ outer) ≡ level → Stands (digits_of_bytes frame.now) (leading h (8 * child.stop) [] ∷ parent ∷ outer) (8 * child.at)
         → MatchResult result (λ at. Stands (digits_of_bytes frame.now) (begun parent.head parent.stop parent.fields parent.tail (forest siblings.new.items) ∷ outer) (8 * at)) (Tells (digits_of_bytes frame.now)) }
 {
-    if llrp_schema::is_tv(child.kind) {
-        return read_tv(alloc, frame, level, child, siblings);
-    }
     let mut fields = ArrayVec::new();
     let kind = Kind::Parameter(child.kind);
     let body = read_body(alloc, frame, level, child.at, child.stop, kind, &mut fields)?;
     let at = body.at;
     siblings.push(Node::of_lawful(child.kind, fields, body.tail, body.children))?;
     Ok(at)
+}
+
+/// The children for which room is made at first: one for each four octets, and 16 at most.
+fn room_for(octets: usize) -> usize
+    ensures { result ≤ 16 }
+{
+    (octets / 4).min(16)
 }
 
 /// What stands behind the head of a node of a kind, from one octet to another, so many levels below
@@ -112,11 +117,15 @@ pub(crate) fn read_body(
 {
     let behind = read_fields(frame, from, stop, kind, fields)?;
     let tail = read_tail(alloc, frame, behind, stop, kind, fields.as_slice())?;
-    let mut children = Vec::new(alloc);
+    let mut children = Vec::with_capacity(alloc, room_for(stop - tail.at))?;
     let mut at = tail.at;
     'children: while at < stop {
         let child = begin_child(frame, level, at, stop, kind, children.as_slice())?;
-        at = read_child(alloc, frame, level + 1, child, &mut children)?;
+        at = if llrp_schema::is_tv(child.kind) {
+            read_tv(alloc, frame, child, &mut children)?
+        } else {
+            read_tlv(alloc, frame, level + 1, child, &mut children)?
+        };
     }
     let enough = none_missing(llrp_schema::groups(kind), children.as_slice());
     if !enough {

@@ -11,8 +11,8 @@ use Rattle.llrp_tree.proofs.reading.body.+read.Given as goal
 abbrev pub decreases-read_body : goal.decreases-read_body
 decreases-read_body l = 2 * (MAX_DEPTH - l.level)
 
-abbrev pub decreases-read_child : goal.decreases-read_child
-decreases-read_child l = 2 * (MAX_DEPTH - l.level) + 1
+abbrev pub decreases-read_tlv : goal.decreases-read_tlv
+decreases-read_tlv l = 2 * (MAX_DEPTH - l.level) + 1
 
 abbrev pub invariant-read_body-children : goal.invariant-read_body-children
 invariant-read_body-children l = record {
