@@ -135,6 +135,7 @@ fn tail_fits(form: Tail, values: &[u128], tail: &[u8]) -> bool
 }
 
 /// Whether a kind is one of a group's.
+#[inline(always)]
 pub(crate) fn is_member(group: &Group, kind: ParamKind) -> bool
     ensures { result ≡ law.is_member (group_rule group.now) kind }
 {

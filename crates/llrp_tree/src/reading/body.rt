@@ -48,8 +48,9 @@ fn read_tv(
     let at = read_fields(frame, child.at, child.stop, kind, &mut fields)?;
     let tail = Octets::new(Vec::new(alloc));
     let children = Nodes::new(Vec::new(alloc));
+    let octets = (1 + at - child.at) as u32;
     siblings.reserve(1)?;
-    siblings.push_reserved(Node::of_lawful(child.kind, fields, tail, children));
+    siblings.push_reserved(Node::of_lawful(child.kind, fields, tail, children, octets));
     Ok(at)
 }
 
@@ -78,7 +79,8 @@ fn read_tlv(
     let kind = Kind::Parameter(child.kind);
     let body = read_body(alloc, frame, level, child.at, child.stop, kind, &mut fields)?;
     let at = body.at;
-    siblings.push(Node::of_lawful(child.kind, fields, body.tail, body.children))?;
+    let octets = (4 + at - child.at) as u32;
+    siblings.push(Node::of_lawful(child.kind, fields, body.tail, body.children, octets))?;
     Ok(at)
 }
 

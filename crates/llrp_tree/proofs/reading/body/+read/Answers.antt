@@ -1,5 +1,5 @@
 -- Each child is a step of the open trees that stand here.
-use Rattle.std.proofs.Common.{rules, ◌+◌, ◌*◌, inr, List, ◌∷◌, map, arith, sym, ap, ◌∙◌, subst}
+use Rattle.std.proofs.Common.{rules, ◌≡◌, Bool, ◌+◌, ◌*◌, inr, List, ◌∷◌, map, arith, sym, ap, ◌∙◌, subst}
 use Rattle.std.proofs.lemmas.Result.{err_from_is_err_and}
 use Rattle.tag_bits.specs.Digits.{digits_of_bytes}
 use Rattle.llrp_schema.specs.Schema.{GroupRule, group_rule, fields_of, tail_of}
@@ -8,6 +8,9 @@ use Rattle.llrp_tree.specs.Checks.{none_missing}
 use Rattle.llrp_tree.specs.Spelling.{spread}
 use Rattle.llrp_tree.specs.OpenTree.{Begun, as_read}
 use Rattle.llrp_tree.specs.Standing.{BeginsBehind, Closes, begun}
+use Rattle.std.specs.Prelude.{if◌then◌else◌}
+use Rattle.llrp_tree.specs.Lawful.{head_octets}
+use Rattle.llrp_tree.proofs.ChildOctets.{child_octets}
 use Rattle.llrp_tree.proofs.BodyLemmas.{open_body, rest_due, with_siblings, child_stands, child_lawful, child_pushed, missing_tells, closes_here}
 use Rattle.llrp_tree.proofs.reading.body.+read.Goals as goal
 
@@ -80,12 +83,21 @@ read_body-returns-clause-read t c = λ h outer k l st.
     (inr (omega (arith, c.children-test.false)))
     (ap (λ (gs : List GroupRule). none_missing gs c.children.children.items) (sym c.groups.ensures) ∙ ap (λ (ts : List Tree). none_missing (map group_rule c.groups.result.now) ts) (sym c.as_slice-2.ensures.value) ∙ sym c.none_missing-enough.ensures ∙ (cc (c.if-not-enough.false))))
 
-pub read_tlv-of_lawful-requires : goal.read_tlv-of_lawful-requires
-read_tlv-of_lawful-requires t c =
+pub read_tlv-of_lawful-requires-clause-lawful : goal.read_tlv-of_lawful-requires-clause-lawful
+read_tlv-of_lawful-requires-clause-lawful t c =
     let w = c.requires.begins in
     let b = c.in_ok-body.body in
     child_lawful (digits_of_bytes c.args.frame.now) w.parent.head w.parent.stop w.parent.fields w.parent.tail w.parent.children w.outer (8 * b.at) c.args.child.kind c.read_body.new.fields.items b.tail (forest b.children)
     (child_stands (digits_of_bytes c.args.frame.now) w.parent w.outer (8 * b.at) w.head (8 * c.args.child.stop) c.args.child.kind c.read_body.new.fields.items b.tail (forest b.children) w.of_kind c.in_ok-body.ensures.count c.in_ok-body.ensures.whole (c.in_ok-body.ensures.read w.head (w.parent ∷ w.outer) w.of_kind w.at_level w.stands))
+
+pub read_tlv-of_lawful-requires-clause-long : goal.read_tlv-of_lawful-requires-clause-long
+read_tlv-of_lawful-requires-clause-long t c =
+    let w = c.requires.begins in
+    let b = c.in_ok-body.body in
+    let four : head_octets c.args.child.kind ≡ 4 = ap (λ (x : Bool). if x then 1 else 4) c.requires.long in
+    let all = child_octets (digits_of_bytes c.args.frame.now) w.parent w.outer (8 * c.args.child.at) (8 * b.at) w.head (8 * c.args.child.stop) c.args.child.kind c.read_body.new.fields.items b.tail (forest b.children) w.of_kind w.stands
+    (child_stands (digits_of_bytes c.args.frame.now) w.parent w.outer (8 * b.at) w.head (8 * c.args.child.stop) c.args.child.kind c.read_body.new.fields.items b.tail (forest b.children) w.of_kind c.in_ok-body.ensures.count c.in_ok-body.ensures.whole (c.in_ok-body.ensures.read w.head (w.parent ∷ w.outer) w.of_kind w.at_level w.stands)) in
+    omega (arith, all, four, c.in_ok-body.ensures.within)
 
 pub read_tlv-returns-clause-read : goal.read_tlv-returns-clause-read
 read_tlv-returns-clause-read t c = λ h parent outer k s l st.
