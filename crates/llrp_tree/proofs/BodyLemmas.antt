@@ -1,5 +1,5 @@
 -- A node with its children, and the whole frame, as open trees.
-use Rattle.std.proofs.Common.{◌≡◌, ℕ, ◌*◌, ◌≤◌, Bool, true, false, ◌⊎◌, inl, inr, List, [], ◌∷◌, ◌++◌, length, drop, Option, Some, refl, sym, ap, subst, ◌∙◌, arith}
+use Rattle.std.proofs.Common.{◌≡◌, ℕ, ◌*◌, ◌≤◌, Bool, true, false, ◌⊎◌, inl, inr, List, [], ◌∷◌, ◌++◌, length, drop, Option, Some, None, refl, sym, ap, subst, ◌∙◌, arith}
 use Rattle.std.specs.Prelude.{nat_le, unwrap_or}
 use Rattle.std.proofs.lemmas.Bool.{le-leb, leb-true}
 use Rattle.tag_bits.specs.Digits.{digits_of_bytes}
@@ -8,12 +8,14 @@ use Rattle.llrp_schema.specs.declared.kinds.ParamKind.{ParamKind}
 use Rattle.llrp_schema.specs.declared.kinds.MsgKind.{MsgKind}
 use Rattle.llrp_schema.specs.declared.kinds.Kind.{Kind}
 use Rattle.llrp_schema.specs.declared.kinds.Kind.TheVariants.{Message, Parameter}
-use Rattle.llrp_schema.specs.Schema.{fields_of, tail_of, groups_of, is_tv}
+use Rattle.llrp_schema.specs.declared.kinds.Tail.{Tail}
+use Rattle.llrp_schema.proofs.TableLaws.{tv_tail, tv_groups}
+use Rattle.llrp_schema.specs.Schema.{GroupRule, fields_of, tail_of, groups_of, is_tv}
 use Rattle.llrp_tree.specs.declared.TheConstants.{MAX_LIMIT}
 use Rattle.llrp_tree.specs.declared.fault.Reason.TheVariants.{Missing}
 use Rattle.llrp_tree.specs.declared.fault.FrameErr.{FrameErr}
 use Rattle.llrp_tree.specs.declared.fault.FrameErr.TheVariants.{Memory, Bad}
-use Rattle.llrp_tree.specs.Tree.{Forest, and, Tree, forest, add}
+use Rattle.llrp_tree.specs.Tree.{Forest, none, and, Tree, forest, add}
 use Rattle.llrp_tree.specs.Lawful.{AreOctets, IsLawful}
 use Rattle.llrp_tree.specs.Checks.{none_missing}
 use Rattle.llrp_tree.specs.Spelling.{Head, message, tlv, tv, spread}
@@ -62,12 +64,13 @@ pub child_lawful : (ds : List Bool) (h : Head) (stop : ℕ) (fs : List ℕ) (tl 
 unfolding IsOpenTree
 child_lawful ds h stop fs tl before outer at k ws os cs st = (st.is_open.0.lawful.1, st.is_open.0.lawful.2)
 
-pub child_pushed : (ds : List Bool) (h : Head) (stop : ℕ) (fs : List ℕ) (tl : Option (List ℕ)) (olds sibs news : List Tree) (n : Tree) (outer : List Begun) (at : ℕ) (k : ParamKind) (ws os : List ℕ) (cs : Forest)
-    → sibs ≡ olds → n ≡ record { kind = k; fields = ws; tail = os; children = cs } → news ≡ olds ++ n ∷ []
-    → Stands ds (begun h stop fs tl (and (forest sibs) k ws os cs) ∷ outer) at → Stands ds (begun h stop fs tl (forest news) ∷ outer) at
-child_pushed ds h stop fs tl olds sibs news n outer at k ws os cs e is push st =
-    let same : forest news ≡ and (forest sibs) k ws os cs = ap forest push ∙ forest-push olds n ∙ ap (λ (x : Tree). add (forest olds) x) is ∙ ap (λ (x : List Tree). and (forest x) k ws os cs) (sym e) in
-    subst (λ (x : Forest). Stands ds (begun h stop fs tl x ∷ outer) at) (sym same) st
+-- the node that is pushed behind its siblings is that child
+pub child_pushed : (ds : List Bool) (p : Begun) (outer : List Begun) (olds news : List Tree) (n : Tree) (at : ℕ) (k : ParamKind) (ws os : List ℕ) (cs : Forest)
+    → p.children ≡ forest olds → n ≡ record { kind = k; fields = ws; tail = os; children = cs } → news ≡ olds ++ n ∷ []
+    → Stands ds (begun p.head p.stop p.fields p.tail (and p.children k ws os cs) ∷ outer) at → Stands ds (begun p.head p.stop p.fields p.tail (forest news) ∷ outer) at
+child_pushed ds p outer olds news n at k ws os cs e is push st =
+    let same : forest news ≡ and p.children k ws os cs = ap forest push ∙ forest-push olds n ∙ ap (λ (x : Tree). add (forest olds) x) is ∙ ap (λ (x : Forest). and x k ws os cs) (sym e) in
+    subst (λ (x : Forest). Stands ds (begun p.head p.stop p.fields p.tail x ∷ outer) at) (sym same) st
 
 -- the same with the children as they are lent
 pub with_siblings : (ds : List Bool) (h : Head) (stop : ℕ) (kind : Kind) (ws os : List ℕ) (olds sibs : List Tree) (outer : List Begun) (at : ℕ) → sibs ≡ olds
@@ -108,6 +111,20 @@ module _ (ds : List Bool) (h : Head) (stop : ℕ) (kind : Kind) (ws os : List �
   pub closes_here : none_missing (groups_of kind) children ≡ true → Closes ds here outer at
   closes_here enough =
       record { stands = st; ready = rest_due h stop kind ws os (forest children) e; over = over; enough = ap (λ (j : Kind). is_enough (groups_of j) (forest children)) e ∙ sym (enough_is (groups_of kind) children) ∙ enough }
+
+-- ---- a child that ends behind its field
+
+no_tail : (k : ParamKind) → is_tv k ≡ true → as_read (tail_of (Parameter k)) [] ≡ None
+no_tail k short = ap (λ (f : Tail). as_read f []) (tv_tail k short)
+
+pub tv_stands : (ds : List Bool) (p : Begun) (outer : List Begun) (at : ℕ) (hb : Head) (stop : ℕ) (k : ParamKind) (ws os : List ℕ) (cs : List Tree) → os ≡ [] → cs ≡ []
+    → kind_of hb ≡ Parameter k → is_tv k ≡ true → length ws ≡ length (plain (fields_of (Parameter k)))
+    → Stands ds (leading hb stop (spread (fields_of (Parameter k)) ws) ∷ p ∷ outer) at → Stands ds (begun p.head p.stop p.fields p.tail (and p.children k ws os (forest cs)) ∷ outer) at
+unfolding none_missing
+tv_stands ds p outer at hb stop k ws os cs no_octets no_child e short l st =
+    let here = subst (λ (t : Option (List ℕ)). Stands ds (begun hb stop (spread (fields_of (Parameter k)) ws) t none ∷ p ∷ outer) at) (sym (no_tail k short)) st in
+    let closes = closes_here ds hb stop (Parameter k) ws [] [] (p ∷ outer) at e here (inl short) (ap (λ (gs : List GroupRule). none_missing gs []) (tv_groups k short)) in
+    rw (no_octets, no_child) (child_stands ds p outer at hb stop k ws [] none e l (ap (λ (t : Option (List ℕ)). unwrap_or t []) (no_tail k short)) closes)
 
 -- ---- the frame
 

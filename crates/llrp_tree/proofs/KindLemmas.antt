@@ -1,5 +1,5 @@
 -- Kinds are the same where their numbers are, and no two groups of one parent share a kind.
-use Rattle.std.proofs.Common.{◌≡◌, ◌+◌, ◌==◌, ◌||◌, ◌&&◌, Bool, true, false, not, List, [], ◌∷◌, refl, sym, ap, ◌∙◌}
+use Rattle.std.proofs.Common.{◌≡◌, ◌+◌, ◌<◌, ◌≤◌, ◌==◌, ◌||◌, ◌&&◌, Bool, true, false, not, List, [], ◌∷◌, length, get_or, refl, sym, ap, ◌∙◌, arith}
 use Rattle.std.specs.Bool.{Decides}
 use Rattle.std.specs.List.{list_any, list_all}
 use Rattle.std.proofs.lemmas.Bool.Decides.{Decides-eqb, Decides-like, same_from_decides}
@@ -30,6 +30,12 @@ same_by_number a b =
 pub found_by_number : (kinds : List ParamKind) (kind : ParamKind) → list_any (λ k. sameb the_type k kind) kinds ≡ list_any (λ k. number_of (Parameter k) == number_of (Parameter kind)) kinds
 found_by_number [] kind = refl
 found_by_number (k ∷ kinds) kind = rw (same_by_number k kind, found_by_number kinds kind) refl
+
+-- of one kind alone, that one decides
+pub only_decides : (kinds : List ParamKind) (kind other : ParamKind) → 1 ≤ length kinds → length kinds < 2 → sameb the_type (get_or kinds 0 other) kind ≡ list_any (λ k. sameb the_type k kind) kinds
+only_decides [] kind other some few = absurd (omega arith)
+only_decides (k ∷ []) kind other some few = elim (sameb the_type k kind) as (λ b. b ≡ (b || false)) [ true ↦ refl | false ↦ refl ]
+only_decides (k ∷ j ∷ kinds) kind other some few = absurd (omega arith)
 
 -- two groups share no kind
 abbrev pub share_none : GroupRule → GroupRule → Bool

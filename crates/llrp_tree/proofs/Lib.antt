@@ -19,5 +19,6 @@ pub mod Frames
 pub mod Totality
 pub mod ReadingLemmas
 pub mod ChildLemmas
+pub mod ChildOctets
 pub mod BodyLemmas
 pub mod WeightLemmas

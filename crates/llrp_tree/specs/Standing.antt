@@ -85,6 +85,16 @@ pub record Begins (bytes : List ℕ) (kind : Kind) (level from stop : ℕ) : Typ
   pub at_level : length outer ≡ level
   pub stands : Stands (digits_of_bytes bytes) (leading head (8 * stop) [] ∷ outer) (8 * from)
 
+-- A child of the kind begins at the octet behind these siblings, so many levels below the message.
+pub record BeginsBehind (bytes : List ℕ) (kind : ParamKind) (siblings : Forest) (level from stop : ℕ) : Type 0 where
+  pub head : Head
+  pub parent : Begun
+  pub outer : List Begun
+  pub of_kind : kind_of head ≡ Parameter kind
+  pub behind : parent.children ≡ siblings
+  pub at_level : length (parent ∷ outer) ≡ level
+  pub stands : Stands (digits_of_bytes bytes) (leading head (8 * stop) [] ∷ parent ∷ outer) (8 * from)
+
 -- A child's kind passes its checks.
 pub record KindPasses (found : Option ParamKind) (groups : List GroupRule) (children : Forest) (level : ℕ) (kind : ParamKind) : Type 0 where
   pub is : found ≡ Some kind

@@ -135,10 +135,14 @@ fn tail_fits(form: Tail, values: &[u128], tail: &[u8]) -> bool
 }
 
 /// Whether a kind is one of a group's.
+#[inline(always)]
 pub(crate) fn is_member(group: &Group, kind: ParamKind) -> bool
     ensures { result ≡ law.is_member (group_rule group.now) kind }
 {
-    group.members.contains(&kind)
+    match group.members {
+        [member] => *member == kind,
+        members => members.contains(&kind),
+    }
 }
 
 pub(crate) fn has_place(groups: &[Group], kind: ParamKind) -> bool

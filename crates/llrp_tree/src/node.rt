@@ -96,12 +96,12 @@ pub enum NodeFault {
 #[cycle(node)]
 #[derive(Drop)]
 pub struct Node {
-    kind: ParamKind,
     fields: ArrayVec<u128, 12>,
     tail: Octets,
     children: Nodes,
     octets: u32,
     levels: u8,
+    kind: ParamKind,
 }
 
 /// Lawful parameters in a row, which contracts see as a list.
@@ -306,26 +306,26 @@ pub struct NodeRefusal {
 impl Node {
     ghost use Rattle.llrp_tree.specs.Tree.{Tree};
 
-    /// The parameter of parts that are known to be lawful.
+    /// The parameter of parts that are known to be lawful, and of so many octets.
+    #[inline(always)]
     pub(crate) fn of_lawful(
         kind: ParamKind,
         fields: ArrayVec<u128, 12>,
         tail: Octets,
         children: Nodes,
+        octets: u32,
     ) -> Node
-        requires { IsLawful (record { kind = kind; fields = fields.items; tail = tail; children = forest children }) }
+        requires lawful { IsLawful (record { kind = kind; fields = fields.items; tail = tail; children = forest children }) }
+        requires long { octets ≡ tree_octets (record { kind = kind; fields = fields.items; tail = tail; children = forest children }) }
         ensures { result ≡ record { kind = kind; fields = fields.items; tail = tail; children = forest children } }
     {
         let extent = check::extent_of(children.as_slice());
-        let octets = check::head_octets(kind)
-            + check::body_octets(Kind::Parameter(kind), tail.as_slice())
-            + extent.octets;
         Node {
             kind,
             fields,
             tail,
             children,
-            octets: octets as u32,
+            octets,
             levels: extent.levels + 1,
         }
     }

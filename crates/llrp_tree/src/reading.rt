@@ -17,6 +17,7 @@ mod tail;
 mod tests;
 
 use crate::{FrameErr, MAX_LIMIT, Message};
+use arrayvec::ArrayVec;
 use llrp_schema::Kind;
 use std::alloc::Global;
 
@@ -30,12 +31,21 @@ pub fn decode_frame(alloc: Global, frame: &[u8], limit: u32) -> Result<Message, 
     ensures { MatchResult result (λ m. Frame m frame.now limit) (IsFirst frame.now limit) }
 {
     let header = header::read_header(frame, limit)?;
-    let body = body::read_body(alloc, frame, 0, 10, frame.len(), Kind::Message(header.kind))?;
+    let mut fields = ArrayVec::new();
+    let body = body::read_body(
+        alloc,
+        frame,
+        0,
+        10,
+        frame.len(),
+        Kind::Message(header.kind),
+        &mut fields,
+    )?;
     Ok(Message::of_lawful(
         header.version,
         header.id,
         header.kind,
-        body.fields,
+        fields,
         body.children,
     ))
 }

@@ -1,15 +1,16 @@
 //! What stands behind the head of a node.
 
-ghost use Rattle.std.specs.Prelude.{◌≡◌, ◌*◌, ◌≤◌, ℕ, List, [], ◌∷◌, length, MatchResult, unwrap_or};
+ghost use Rattle.std.specs.Prelude.{◌≡◌, ◌*◌, ◌≤◌, ℕ, List, [], ◌∷◌, length, false, true, MatchResult, unwrap_or};
 ghost use Rattle.tag_bits.specs.Digits.{digits_of_bytes};
-ghost use Rattle.llrp_schema.specs.Schema.{fields_of, plain_fields_of, tail_of};
+ghost use Rattle.llrp_schema.specs.declared.kinds.Kind.TheVariants.{Parameter};
+ghost use Rattle.llrp_schema.specs.Schema.{fields_of, plain_fields_of, tail_of, is_tv};
 ghost use Rattle.llrp_tree.specs.declared.TheConstants.{MAX_DEPTH};
 ghost use Rattle.llrp_tree.specs.Tree.{forest};
 ghost use Rattle.llrp_tree.specs.Spelling.{Head, spread};
 ghost use Rattle.llrp_tree.specs.OpenTree.{Begun, kind_of, as_read};
-ghost use Rattle.llrp_tree.specs.Standing.{Stands, Closes, begun, leading, Begins, Tells, is_tv_kind};
+ghost use Rattle.llrp_tree.specs.Standing.{Stands, Closes, begun, leading, Begins, BeginsBehind, Tells, is_tv_kind};
 
-use super::children::begin_child;
+use super::children::{Child, begin_child};
 use super::fields::read_fields;
 use super::tail::read_tail;
 use crate::check::none_missing;
@@ -18,27 +19,81 @@ use crate::{FrameErr, Kind, Node, Nodes, Octets, Reason};
 use arrayvec::ArrayVec;
 use std::alloc::Global;
 
-/// All of a node behind its head, and the octet behind it.
+/// All of a node behind its fields, and the octet behind it.
 #[derive(Drop)]
 pub(crate) struct Body {
-    pub fields: ArrayVec<u128, 12>,
     pub tail: Octets,
     pub children: Nodes,
     pub at: usize,
 }
 
-/// Whether a node ends behind its field.
-fn is_tv(kind: Kind) -> bool
-    ensures { result ≡ is_tv_kind kind }
+/// Reads a child that ends behind its field, and appends it to its siblings; the octet behind it.
+fn read_tv(
+    alloc: Global,
+    frame: &[u8],
+    child: Child,
+    siblings: &mut Vec<Node>,
+) -> Result<usize, FrameErr>
+    requires short { is_tv child.kind ≡ true }
+    requires before { child.at ≤ child.stop }
+    requires small { length frame.now ≤ 65536 }
+    requires inside { child.stop ≤ length frame.now }
+    requires begins { (level : ℕ) × BeginsBehind frame.now child.kind (forest siblings.old.items) level child.at child.stop }
+    ensures within { MatchResult result (λ at. (child.at ≤ at) × (at ≤ child.stop)) (λ _. Unit {0}) }
+    ensures read { (h : Head) (parent : Begun) (outer : List Begun) → kind_of h ≡ Parameter child.kind → parent.children ≡ forest siblings.old.items → Stands (digits_of_bytes frame.now) (leading h (8 * child.stop) [] ∷ parent ∷ outer) (8 * child.at)
+        → MatchResult result (λ at. Stands (digits_of_bytes frame.now) (begun parent.head parent.stop parent.fields parent.tail (forest siblings.new.items) ∷ outer) (8 * at)) (Tells (digits_of_bytes frame.now)) }
 {
-    match kind {
-        Kind::Message(_) => false,
-        Kind::Parameter(kind) => llrp_schema::is_tv(kind),
-    }
+    let mut fields = ArrayVec::new();
+    let kind = Kind::Parameter(child.kind);
+    let at = read_fields(frame, child.at, child.stop, kind, &mut fields)?;
+    let tail = Octets::new(Vec::new(alloc));
+    let children = Nodes::new(Vec::new(alloc));
+    let octets = (1 + at - child.at) as u32;
+    siblings.reserve(1)?;
+    siblings.push_reserved(Node::of_lawful(child.kind, fields, tail, children, octets));
+    Ok(at)
+}
+
+/// Reads a child with a length, so many levels below the message, and appends it to its siblings; the
+/// octet behind it.
+#[cycle(read)]
+fn read_tlv(
+    alloc: Global,
+    frame: &[u8],
+    level: u8,
+    child: Child,
+    siblings: &mut Vec<Node>,
+) -> Result<usize, FrameErr>
+    requires long { is_tv child.kind ≡ false }
+    requires behind { 2 ≤ child.at }
+    requires before { child.at ≤ child.stop }
+    requires small { length frame.now ≤ 65536 }
+    requires inside { child.stop ≤ length frame.now }
+    requires shallow { level ≤ MAX_DEPTH }
+    requires begins { BeginsBehind frame.now child.kind (forest siblings.old.items) level child.at child.stop }
+    ensures within { MatchResult result (λ at. (child.at ≤ at) × (at ≤ child.stop)) (λ _. Unit {0}) }
+    ensures read { (h : Head) (parent : Begun) (outer : List Begun) → kind_of h ≡ Parameter child.kind → parent.children ≡ forest siblings.old.items → length (parent ∷ outer) ≡ level → Stands (digits_of_bytes frame.now) (leading h (8 * child.stop) [] ∷ parent ∷ outer) (8 * child.at)
+        → MatchResult result (λ at. Stands (digits_of_bytes frame.now) (begun parent.head parent.stop parent.fields parent.tail (forest siblings.new.items) ∷ outer) (8 * at)) (Tells (digits_of_bytes frame.now)) }
+{
+    let mut fields = ArrayVec::new();
+    let kind = Kind::Parameter(child.kind);
+    let body = read_body(alloc, frame, level, child.at, child.stop, kind, &mut fields)?;
+    let at = body.at;
+    let octets = (4 + at - child.at) as u32;
+    siblings.push(Node::of_lawful(child.kind, fields, body.tail, body.children, octets))?;
+    Ok(at)
+}
+
+/// The children for which room is made at first: one for each four octets, and 16 at most.
+fn room_for(octets: usize) -> usize
+    ensures { result ≤ 16 }
+{
+    (octets / 4).min(16)
 }
 
 /// What stands behind the head of a node of a kind, from one octet to another, so many levels below
-/// the message.
+/// the message; the plain fields are put into `fields`.
+#[cycle(read)]
 pub(crate) fn read_body(
     alloc: Global,
     frame: &[u8],
@@ -46,49 +101,39 @@ pub(crate) fn read_body(
     from: usize,
     stop: usize,
     kind: Kind,
+    fields: &mut ArrayVec<u128, 12>,
 ) -> Result<Body, FrameErr>
     requires behind { 2 ≤ from }
     requires before { from ≤ stop }
     requires small { length frame.now ≤ 65536 }
     requires inside { stop ≤ length frame.now }
     requires shallow { level ≤ MAX_DEPTH }
+    requires has_length { is_tv_kind kind ≡ false }
+    requires fresh { fields.old.items ≡ [] }
     requires begins { Begins frame.now kind level from stop }
     ensures within { MatchResult result (λ x. (from ≤ x.at) × (x.at ≤ stop)) (λ _. Unit {0}) }
-    ensures count { MatchResult result (λ x. length x.fields.items ≡ length (plain_fields_of kind)) (λ _. Unit {0}) }
+    ensures count { MatchResult result (λ _. length fields.new.items ≡ length (plain_fields_of kind)) (λ _. Unit {0}) }
     ensures whole { MatchResult result (λ x. unwrap_or (as_read (tail_of kind) x.tail) [] ≡ x.tail) (λ _. Unit {0}) }
     ensures read { (h : Head) (outer : List Begun) → kind_of h ≡ kind → length outer ≡ level → Stands (digits_of_bytes frame.now) (leading h (8 * stop) [] ∷ outer) (8 * from)
-        → MatchResult result (λ x. Closes (digits_of_bytes frame.now) (begun h (8 * stop) (spread (fields_of kind) x.fields.items) (as_read (tail_of kind) x.tail) (forest x.children)) outer (8 * x.at)) (Tells (digits_of_bytes frame.now)) }
+        → MatchResult result (λ x. Closes (digits_of_bytes frame.now) (begun h (8 * stop) (spread (fields_of kind) fields.new.items) (as_read (tail_of kind) x.tail) (forest x.children)) outer (8 * x.at)) (Tells (digits_of_bytes frame.now)) }
 {
-    let fields = read_fields(frame, from, stop, kind)?;
-    let tail = read_tail(
-        alloc,
-        frame,
-        fields.at,
-        stop,
-        kind,
-        fields.values.as_slice(),
-    )?;
-    let mut children = Vec::new(alloc);
+    let behind = read_fields(frame, from, stop, kind, fields)?;
+    let tail = read_tail(alloc, frame, behind, stop, kind, fields.as_slice())?;
+    let mut children = Vec::with_capacity(alloc, room_for(stop - tail.at))?;
     let mut at = tail.at;
-    'children: while !is_tv(kind) && at < stop {
+    'children: while at < stop {
         let child = begin_child(frame, level, at, stop, kind, children.as_slice())?;
-        let body = read_body(
-            alloc,
-            frame,
-            level + 1,
-            child.at,
-            child.stop,
-            Kind::Parameter(child.kind),
-        )?;
-        at = body.at;
-        children.push(Node::of_lawful(child.kind, body.fields, body.tail, body.children))?;
+        at = if llrp_schema::is_tv(child.kind) {
+            read_tv(alloc, frame, child, &mut children)?
+        } else {
+            read_tlv(alloc, frame, level + 1, child, &mut children)?
+        };
     }
     let enough = none_missing(llrp_schema::groups(kind), children.as_slice());
     if !enough {
         return Err(bad(8 * stop, Reason::Missing));
     }
     Ok(Body {
-        fields: fields.values,
         tail: tail.octets,
         children: Nodes::new(children),
         at,

@@ -37,31 +37,26 @@ pub(crate) fn field_at(frame: &[u8], at: usize, stop: usize, rule: &Field) -> Re
     Ok(value)
 }
 
-/// The plain fields of a node, and the octet behind its fields.
-#[derive(Drop)]
-pub(crate) struct Fields {
-    pub values: ArrayVec<u128, 12>,
-    pub at: usize,
-}
-
-/// The fields of a node of a kind, from one octet to another.
+/// Reads the fields of a node of a kind, from one octet to another, and keeps the plain ones; the
+/// octet behind them.
 pub(crate) fn read_fields(
     frame: &[u8],
     from: usize,
     stop: usize,
     kind: Kind,
-) -> Result<Fields, FrameErr>
+    values: &mut ArrayVec<u128, 12>,
+) -> Result<usize, FrameErr>
     requires before { from ≤ stop }
     requires small { length frame.now ≤ 65536 }
     requires inside { stop ≤ length frame.now }
-    ensures within { MatchResult result (λ x. (from ≤ x.at) × (x.at ≤ stop)) (λ _. Unit {0}) }
-    ensures width { MatchResult result (λ x. 8 * x.at ≡ 8 * from + bits_of (fields_of kind)) (λ _. Unit {0}) }
-    ensures count { MatchResult result (λ x. length x.values.items ≡ length (plain_fields_of kind)) (λ _. Unit {0}) }
+    requires fresh { values.old.items ≡ [] }
+    ensures within { MatchResult result (λ at. (from ≤ at) × (at ≤ stop)) (λ _. Unit {0}) }
+    ensures width { MatchResult result (λ at. 8 * at ≡ 8 * from + bits_of (fields_of kind)) (λ _. Unit {0}) }
+    ensures count { MatchResult result (λ _. length values.new.items ≡ length (plain_fields_of kind)) (λ _. Unit {0}) }
     ensures read { (h : Head) (outer : List Begun) → kind_of h ≡ kind → Stands (digits_of_bytes frame.now) (leading h (8 * stop) [] ∷ outer) (8 * from)
-        → MatchResult result (λ x. Stands (digits_of_bytes frame.now) (leading h (8 * stop) (spread (fields_of kind) x.values.items) ∷ outer) (8 * x.at)) (Tells (digits_of_bytes frame.now)) }
+        → MatchResult result (λ at. Stands (digits_of_bytes frame.now) (leading h (8 * stop) (spread (fields_of kind) values.new.items) ∷ outer) (8 * at)) (Tells (digits_of_bytes frame.now)) }
 {
     let rules = llrp_schema::fields(kind);
-    let mut values = ArrayVec::new();
     let mut at = 8 * from;
     for rule in rules {
         let value = field_at(frame, at, 8 * stop, rule)?;
@@ -70,5 +65,5 @@ pub(crate) fn read_fields(
         }
         at += rule.width as usize;
     }
-    Ok(Fields { values, at: at / 8 })
+    Ok(at / 8)
 }
