@@ -1,27 +1,31 @@
 #!/usr/bin/env bash
-# Prints how many MB/s `llrp_tree::decode_frame` reads and `encode_into` writes: one RO_ACCESS_REPORT
-# of 963 tag reports, 65,494 octets, 1,000 times each, or as often as the first argument says. The
-# first rate is by the processor's seconds in the program, the second with those in the kernel.
+# Prints how many MB/s `llrp_tree::decode_frame` reads and `encode_into` writes, for two frames of an
+# RO_ACCESS_REPORT: one of 963 tag reports with 13 parameters each, 65,494 octets, 1,000 times, or as
+# often as the first argument says, and one of 100 tag reports with 5, 3,410 octets, 20 times as often.
+# The first rate is by the processor's seconds in the program, the second with those in the kernel.
 set -eu
 top="$(cd "$(dirname "$0")/.." && pwd)"
 times="${1:-1000}"
-reports=963
-octets=$((10 + 68 * reports))
 work="$(mktemp -d)"
 trap 'rm -rf "$work"' EXIT
 
 # A tag report of 68 octets: EPC-96, then each parameter with a type and a value that goes with it.
-make_report() {
+full_report() {
     printf '00F00044 8D3074257BF7194E40%08X 8900000001 8E0001 8A0001 810001 86C4 870001' "$1"
     printf '82000000000000%04X 84000000000000%04X 880001 8B1D0F 8C3000 9000000000' "$1" "$1"
 }
 
-# The report's frame in hexadecimal digits, on one line.
+# A tag report of 34 octets: EPC-96, AntennaID, PeakRSSI, FirstSeenTimestampUTC and TagSeenCount.
+short_report() {
+    printf '00F00022 8D3074257BF7194E40%08X 810001 86C4 82000000000000%04X 880001' "$1" "$1"
+}
+
+# The frame of so many reports, made by a function, of so many octets, on one line of digits.
 make_frame() {
     {
-        printf '043D%08X00000001' "$octets"
-        for ((report = 0; report < reports; report++)); do
-            make_report "$report"
+        printf '043D%08X00000001' "$3"
+        for ((report = 0; report < $2; report++)); do
+            "$1" "$report"
         done
     } | tr -d ' '
     echo
@@ -42,8 +46,17 @@ print_rates() {
     }'
 }
 
-make_frame > "$work/frame"
+# The rates for a frame of so many reports, made by a function, of so many octets each; how often.
+measure() {
+    local octets=$((10 + $2 * $3)) base
+    echo "$2 reports, $octets octets, $4 times"
+    make_frame "$1" "$2" "$octets" > "$work/frame"
+    base="$(seconds 1 1)"
+    print_rates decode_frame "$((octets * ($4 - 1)))" "$(seconds "$4" 1)" "$base"
+    print_rates encode_into "$((octets * ($4 - 1)))" "$(seconds 1 "$4")" "$base"
+}
+
+make_frame short_report 1 44 > "$work/frame"
 (cd "$top/crates/tree_bench" && rt run -- 1 1 < "$work/frame" > "$work/output" 2>&1)
-base="$(seconds 1 1)"
-print_rates decode_frame "$((octets * (times - 1)))" "$(seconds "$times" 1)" "$base"
-print_rates encode_into "$((octets * (times - 1)))" "$(seconds 1 "$times")" "$base"
+measure full_report 963 68 "$times"
+measure short_report 100 34 "$((20 * times))"

@@ -9,6 +9,7 @@ mod rospecs;
 mod sending;
 mod settings;
 mod sightings;
+mod status;
 pub(crate) mod table;
 #[cfg(test)]
 mod tests;
@@ -26,6 +27,7 @@ use crate::words::{ContentSelector, Keepalive, ReaderPhase, ReportSpec, RoState}
 use events::{ReaderIn, StepFault, StepRefusal};
 use llrp_tree::{Message, Node, Reason};
 use sending::push_within;
+use status::fault_status;
 use std::alloc::{AllocError, Global};
 use std::marker::Model;
 use table::Entry;
@@ -77,18 +79,6 @@ const FACTORY_REPORT: ReportSpec = ReportSpec {
         tag_seen_count: false,
     },
 };
-
-/// The status that is told of a frame by the reason of its fault.
-fn fault_status(reason: Reason) -> u16
-    ensures { result ≡ the_fault_status reason }
-{
-    match reason {
-        Reason::Version => 110,
-        Reason::MessageType => 109,
-        Reason::Reserved | Reason::Value | Reason::Count | Reason::Utf8 => 101,
-        _ => 100,
-    }
-}
 
 impl Reader {
     /// A reader as new, for messages of at most `limit` octets, whose own message ids go upward from `first_id`. It takes no

@@ -3,7 +3,6 @@ use Rattle.std.proofs.Common.{◌≡◌, ℕ, ◌+◌, ◌*◌, Bool, List, [], 
 use Rattle.std.specs.Prelude.{if◌then◌else◌}
 use Rattle.llrp_schema.specs.declared.kinds.ParamKind.{ParamKind}
 use Rattle.llrp_schema.specs.declared.kinds.Kind.TheVariants.{Parameter}
-use Rattle.llrp_schema.specs.Schema.{is_tv}
 use Rattle.llrp_tree.specs.Tree.{Forest, and}
 use Rattle.llrp_tree.specs.Lawful.{head_octets, tree_octets}
 use Rattle.llrp_tree.specs.Spelling.{Head, message, tlv, tv, head_digits}

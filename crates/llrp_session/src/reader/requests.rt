@@ -14,24 +14,13 @@ ghost use Rattle.llrp_session.specs.ReaderSteps.{Stands};
 use super::Reader;
 use super::ending::Ending;
 use super::sending::push_within;
+use super::status::{SUCCESS, UNSUPPORTED_MESSAGE};
 use crate::reading::request::request_of;
 use crate::reading::words::Request;
 use crate::telling::reader as telling;
 use crate::words::{Operation, ReaderPhase};
 use llrp_tree::Message;
 use std::alloc::AllocError;
-
-/// All is well.
-pub(crate) const SUCCESS: u16 = 0;
-
-/// A parameter is not as it has to be.
-pub(crate) const PARAMETER_ERROR: u16 = 100;
-
-/// A field is not as it has to be.
-pub(crate) const FIELD_ERROR: u16 = 101;
-
-/// A message of this kind is not supported.
-pub(crate) const UNSUPPORTED_MESSAGE: u16 = 109;
 
 /// When a request is taken, and its message's version and id.
 #[derive(Clone, Copy)]
@@ -54,7 +43,7 @@ impl Reader {
         requires version { (head.version ≡ 1) ⊎ (head.version ≡ 2) }
         requires room { vec_len out.old + 3 ≤ vec_capacity out.old }
         ensures ok { OnOk result (Stands out.old.items (reply head.version head.id (Response operation status) (taken head.version self.old)) out.new.items self.new) }
-        ensures room_left { OnOk result (vec_len out.new ≡ vec_len out.old + 1) }
+        ensures len { OnOk result (vec_len out.new ≡ vec_len out.old + 1) }
         ensures capacity { vec_capacity out.old ≤ vec_capacity out.new }
         ensures reader_unchanged { OnErr result (self.new ≡ self.old) }
         ensures out_unchanged { OnErr result (out.new.items ≡ out.old.items) }

@@ -16,9 +16,10 @@ ghost use Rattle.llrp_session.specs.ReaderParts.{started_by_enabling, taken};
 ghost use Rattle.llrp_session.specs.ReaderSteps.{Stands};
 
 use super::Reader;
-use super::requests::{FIELD_ERROR, Head, PARAMETER_ERROR, SUCCESS};
+use super::requests::Head;
 use super::sending::push_within;
 use super::settings::is_bad_report;
+use super::status::{FIELD_ERROR, PARAMETER_ERROR, SUCCESS};
 use super::table::{self, Entry, StateChange};
 use crate::reading::rospec::RoSpec;
 use crate::reading::words::Settings;

@@ -6,7 +6,8 @@ ghost use Rattle.llrp_session.specs.ReaderMachine as machine;
 ghost use Rattle.llrp_session.specs.ReaderParts.{taken};
 ghost use Rattle.llrp_session.specs.ReaderSteps.{Stands};
 
-use super::requests::{FIELD_ERROR, Head, SUCCESS};
+use super::requests::Head;
+use super::status::{FIELD_ERROR, SUCCESS};
 use super::time::keepalive_from;
 use super::{FACTORY_REPORT, Reader};
 use crate::reading::words::{Config, KeepaliveSpec};

@@ -143,6 +143,11 @@ const ADD_IMMEDIATE: Does = Does::Take(
     "08140000003E00000002 00B10034000000010000 00B20012 00B3000501 00B600090000000000 00B7001800010000 00B800090000000000 00BA0007000101",
 );
 
+/// The same, of a ROSpec that ends after a millisecond.
+const ADD_BRIEF: Does = Does::Take(
+    "08140000003E00000002 00B10034000000010000 00B20012 00B3000500 00B600090100000001 00B7001800010000 00B800090000000000 00BA0007000101",
+);
+
 /// The same without triggers, of a ROSpec whose reports are sent on request alone.
 const ADD_POLLED: Does = Does::Take(
     "08140000004B00000002 00B10041000000010000 00B20012 00B3000500 00B600090000000000 00B7001800010000 00B800090000000000 00BA0007000101 00ED000D000000 00EE00061400",
@@ -235,6 +240,23 @@ fn rospecs_start_by_themselves(rt: HostRuntime) -> Result<(), Fail> {
     disabled.push_str("08230000001200000005 011F000800000000")?;
     happens(&rt, alloc, &mut reader, 7, DISABLE, disabled.as_str())?;
     assert_eq!(rt; reader.state_of(1), Some(RoState::Disabled));
+    Ok(())
+}
+
+#[test]
+fn rospecs_end_by_themselves(rt: HostRuntime) -> Result<(), Fail> {
+    let alloc = rt.alloc();
+    let ended = "083F0000002700000003 00F6001D 0080000C00000000000003ED 00F9000D010000000100000000";
+    let steps = [
+        (0, Does::Connect, ACCEPTED),
+        (1, ADD_BRIEF, ADDED),
+        (4, ENABLE, ENABLED),
+        (5, START, STARTED),
+        (1004, Does::Tick, ""),
+        (1005, Does::Tick, ended),
+    ];
+    let reader = reader_after(&rt, alloc, &steps)?;
+    assert_eq!(rt; reader.state_of(1), Some(RoState::Inactive));
     Ok(())
 }
 
