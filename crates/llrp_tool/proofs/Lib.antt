@@ -32,3 +32,5 @@ pub mod Listed
 pub mod NumberWords
 pub mod Numerals
 pub mod WordLemmas
+pub mod ShortLines
+pub mod LawfulLines
