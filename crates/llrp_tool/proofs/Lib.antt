@@ -39,3 +39,5 @@ pub mod TextLemmas
 pub mod TreeLines
 pub mod WordLemmas
 pub mod WordTexts
+pub mod ShortLines
+pub mod LawfulLines

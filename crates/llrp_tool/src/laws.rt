@@ -1,19 +1,25 @@
 //! What holds of every listing.
 
 ghost use Rattle.std.specs.Prelude.{List, Some, codes, true, ◌≡◌, ◌≤◌, ℕ};
+ghost use Rattle.llrp_tree.specs.Tree.{MessageTree};
 ghost use Rattle.llrp_tool.specs.declared.fault.Verdict.{Verdict};
 ghost use Rattle.llrp_tool.specs.EpcLines.{Prints};
-ghost use Rattle.llrp_tool.specs.ListingLaws.{ListedOrRefused};
+ghost use Rattle.llrp_tool.specs.ListingLaws.{HasShortLines, ListedOrRefused};
 ghost use Rattle.llrp_tool.specs.PrintingLaws.{OneTextOfItems, OneTextOfMessages, PrintsBack};
 ghost use Rattle.llrp_tool.specs.Script.{IsLawful, IsScript};
 ghost use Rattle.llrp_tool.specs.ScriptLaws.{ScriptOrRefused};
 ghost use Rattle.llrp_tool.specs.declared.script.Entry.{Entry};
 ghost use Rattle.llrp_tool.specs.Words.{AsksEpc, command_in, name_in, parses};
 
-/// A text is the listing of one row of messages' lines at most, each with those below it, or has one
-/// first refusal at most, and never both.
+/// A text is the listing of one list of messages at most, each within the limit, or has one first
+/// refusal at most, and never both.
 pub fn listed_or_refused()
     ensures { (limit : ℕ) (text : List ℕ) → ListedOrRefused limit text }
+{}
+
+/// No line of a lawful message is longer than a line may be.
+pub fn lines_are_short()
+    ensures { (m : MessageTree) → HasShortLines m }
 {}
 
 /// Messages have one listing.
