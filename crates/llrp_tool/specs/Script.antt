@@ -6,7 +6,7 @@ use Rattle.std.specs.List.Sorted.{IsNonDecreasingBy}
 use Rattle.tag_uri.specs.TagText.{IsTextOf}
 use Rattle.llrp_tool.specs.declared.fault.ToolErr.{ToolErr}
 use Rattle.llrp_tool.specs.declared.fault.ToolErr.TheVariants.{Listing, Script, Hex, Read, Write, Bound, Memory}
-use Rattle.llrp_tool.specs.declared.sighting.Sighting.{Sighting}
+use Rattle.llrp_session.specs.declared.words.Sighting.{Sighting}
 use Rattle.llrp_tool.specs.declared.script.Action.{Action}
 use Rattle.llrp_tool.specs.declared.script.Action.TheVariants.{Seen, Tick}
 use Rattle.llrp_tool.specs.declared.script.Entry.{Entry}

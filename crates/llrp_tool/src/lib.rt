@@ -15,7 +15,6 @@ mod line;
 mod message;
 mod script;
 mod show;
-mod sighting;
 mod words;
 
 pub use command::run_command;
@@ -26,7 +25,7 @@ pub use hexadecimal::bytes_of_hex;
 pub use llrp_stream::{Input, Output, Sink, Source};
 pub use script::{Action, Entry, Script};
 pub use show::run_show;
-pub use sighting::Sighting;
+pub use llrp_session::Sighting;
 
 #[cfg(test)]
 mod tests;

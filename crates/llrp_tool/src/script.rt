@@ -7,7 +7,7 @@ ghost use Rattle.llrp_tool.specs.Script.{Continues, IsActionInRange, IsActionLin
 use crate::decimal::{number_of, signed_byte_of};
 use crate::fault::ToolErr;
 use crate::line::split_once;
-use crate::sighting::Sighting;
+use llrp_session::Sighting;
 use std::alloc::Global;
 use std::marker::Model;
 use std::str;
