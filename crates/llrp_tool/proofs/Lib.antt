@@ -1,3 +1,4 @@
+pub mod ActingLemmas
 pub mod AnswerLemmas
 pub mod Apart
 pub mod CommandLemmas

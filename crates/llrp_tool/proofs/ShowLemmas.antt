@@ -7,7 +7,7 @@ use Rattle.std.proofs.lemmas.List.Concat.{flat_map-append}
 use Rattle.llrp_tool.specs.declared.frame.Item.{Item}
 use Rattle.llrp_tool.specs.declared.frame.End.{End}
 use Rattle.llrp_tool.specs.declared.fault.ToolErr.{ToolErr}
-use Rattle.llrp_tool.specs.declared.fault.ToolErr.TheVariants.{Listing, Script, Read, Write, Bound, Memory, Hex}
+use Rattle.llrp_tool.specs.declared.fault.ToolErr.TheVariants.{Listing, Script, Read, Write, Bound, Memory, Hex, Broken, Early}
 use Rattle.llrp_tool.specs.declared.fault.Verdict.{Verdict}
 use Rattle.llrp_stream.specs.Device.{SinkLog, Wrote}
 use Rattle.llrp_tool.specs.Copying.{HandsOn, IsPrefix, Writes, WriteStopped}
@@ -136,6 +136,8 @@ stop_log old mid new done front Read so stop = stop
 stop_log old mid new done front Bound so stop = stop
 stop_log old mid new done front (Script at) so stop = stop
 stop_log old mid new done front Hex so stop = stop
+stop_log old mid new done front Broken so stop = stop
+stop_log old mid new done front Early so stop = stop
 stop_log old mid new done front (Listing line reason) so stop = stop
 stop_log old mid new done front Memory so stop = absurd stop
 stop_log old mid new done front Write so stop = wrote_then_failed old mid new done front so stop

@@ -5,7 +5,7 @@ use Rattle.llrp_tool.specs.declared.message.Message.{Message}
 use Rattle.llrp_tool.specs.declared.encode.Encoder.{Encoder}
 use Rattle.llrp_tool.specs.declared.fault.Refusal.{Refusal}
 use Rattle.llrp_tool.specs.declared.fault.ToolErr.{ToolErr}
-use Rattle.llrp_tool.specs.declared.fault.ToolErr.TheVariants.{Listing, Script, Hex, Read, Write, Bound, Memory}
+use Rattle.llrp_tool.specs.declared.fault.ToolErr.TheVariants.{Listing, Script, Hex, Read, Write, Bound, Broken, Memory, Early}
 use Rattle.llrp_tool.specs.Copying.{IsPrefix}
 use Rattle.llrp_stream.specs.Device.{SinkLog, Wrote, WroteAndFailed}
 use Rattle.llrp_tool.specs.Encoding.{AreSpelled, BeginsEncoding, Encodes, Refuses, row}
@@ -69,6 +69,8 @@ Stopped limit w0 w1 front Memory = (bytes : List ℕ) × Wrote w0 w1 bytes × Be
 Stopped limit w0 w1 front Read = ⊥
 Stopped limit w0 w1 front Bound = ⊥
 Stopped limit w0 w1 front (Script line) = ⊥
+Stopped limit w0 w1 front Broken = ⊥
+Stopped limit w0 w1 front Early = ⊥
 Stopped limit w0 w1 front Hex = ⊥
 
 -- the encoder stopped at the end of this text
@@ -79,6 +81,8 @@ StoppedAtEnd limit w0 w1 text Memory = (bytes : List ℕ) × Wrote w0 w1 bytes �
 StoppedAtEnd limit w0 w1 text Read = ⊥
 StoppedAtEnd limit w0 w1 text Bound = ⊥
 StoppedAtEnd limit w0 w1 text (Script line) = ⊥
+StoppedAtEnd limit w0 w1 text Broken = ⊥
+StoppedAtEnd limit w0 w1 text Early = ⊥
 StoppedAtEnd limit w0 w1 text Hex = ⊥
 
 -- the encoding of the text was written
@@ -93,6 +97,8 @@ Refusing number out why w0 w1 Memory = ⊥
 Refusing number out why w0 w1 Read = ⊥
 Refusing number out why w0 w1 Bound = ⊥
 Refusing number out why w0 w1 (Script line) = ⊥
+Refusing number out why w0 w1 Broken = ⊥
+Refusing number out why w0 w1 Early = ⊥
 Refusing number out why w0 w1 Hex = ⊥
 
 -- the frame of the message, if there is one, was appended

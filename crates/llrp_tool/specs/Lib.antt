@@ -21,5 +21,8 @@ pub mod Refused
 pub mod Schema
 pub mod Script
 pub mod ScriptLaws
+pub mod Acting
+pub mod Serving
+pub mod ServingStands
 pub mod Show
 pub mod Words

@@ -3,7 +3,7 @@ use Rattle.std.specs.Prelude.{◌≡◌, ℕ, ◌⊎◌, List, Bool, true, false
 use Rattle.llrp_tool.specs.declared.frame.Item.{Item}
 use Rattle.llrp_tool.specs.declared.frame.End.{End}
 use Rattle.llrp_tool.specs.declared.fault.ToolErr.{ToolErr}
-use Rattle.llrp_tool.specs.declared.fault.ToolErr.TheVariants.{Listing, Script, Hex, Read, Write, Bound, Memory}
+use Rattle.llrp_tool.specs.declared.fault.ToolErr.TheVariants.{Listing, Script, Hex, Read, Write, Bound, Broken, Memory, Early}
 use Rattle.llrp_tool.specs.declared.fault.Verdict.{Verdict}
 use Rattle.llrp_tool.specs.declared.fault.Verdict.TheVariants.{Lawful, Faulty}
 use Rattle.llrp_stream.specs.Device.{SourceLog, SinkLog, Wrote, WroteAndFailed}
@@ -35,6 +35,8 @@ ListStopped old new front Memory = Wrote old new front
 ListStopped old new front Read = ⊥
 ListStopped old new front Bound = ⊥
 ListStopped old new front (Script line) = ⊥
+ListStopped old new front Broken = ⊥
+ListStopped old new front Early = ⊥
 ListStopped old new front Hex = ⊥
 ListStopped old new front (Listing line reason) = ⊥
 

@@ -14,6 +14,7 @@ pub mod laws;
 mod line;
 mod message;
 mod script;
+mod serving;
 mod show;
 mod words;
 
@@ -24,6 +25,7 @@ pub use fault::{Refusal, ToolErr, Verdict};
 pub use hexadecimal::bytes_of_hex;
 pub use llrp_stream::{Input, Output, Sink, Source};
 pub use script::{Action, Entry, Script};
+pub use serving::Serving;
 pub use show::run_show;
 pub use llrp_session::Sighting;
 
