@@ -25,6 +25,9 @@ pub mod ScriptLines
 pub mod ScriptTexts
 pub mod ScriptUnique
 pub mod ScriptWords
+pub mod ServingEvents
+pub mod ServingPieces
+pub mod ServingSteps
 pub mod ShowLemmas
 pub mod Standing
 pub mod Telling

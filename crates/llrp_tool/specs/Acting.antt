@@ -1,5 +1,5 @@
 -- What the code that lets a reader act promises.
-use Rattle.std.specs.Prelude.{◌≡◌, ℕ, ◌+◌, ◌<◌, ◌≤◌, ◌++◌, List, [], ◌∷◌, length, min, Result, Ok, Err, true, false}
+use Rattle.std.specs.Prelude.{◌≡◌, ℕ, ◌+◌, ◌<◌, ◌≤◌, ◌++◌, List, [], ◌∷◌, length, min, Result, Ok, Err, Bool, true, false}
 use Rattle.std.specs.List.{AllByRecursion}
 use Rattle.llrp_tree.specs.Tree.{MessageTree}
 use Rattle.llrp_stream.specs.declared.item.FeedErr.{FeedErr}
@@ -8,6 +8,8 @@ use Rattle.llrp_session.specs.ReaderMachine.{Reader}
 use Rattle.llrp_tool.specs.declared.fault.ToolErr.{ToolErr}
 use Rattle.llrp_tool.specs.declared.fault.ToolErr.TheVariants.{Broken, Memory}
 use Rattle.llrp_tool.specs.declared.script.Entry.{Entry}
+use Rattle.llrp_tool.specs.declared.serving.Phase.{Phase}
+use Rattle.llrp_tool.specs.declared.serving.Phase.TheVariants.{Open, Closed, Failed}
 use Rattle.llrp_tool.specs.Serving.{Happening, run, said, AreFrames}
 
 -- new is old with the frames of these messages at its end
@@ -47,3 +49,9 @@ abbrev pub error_by : FeedErr → ToolErr
 error_by decoder.Broken = Broken
 error_by decoder.Memory = Memory
 error_by decoder.Dead = Memory
+
+-- the phase that an answer of `feed` leaves
+abbrev pub phase_after : Result Bool ToolErr → Phase
+phase_after (Ok false) = Open
+phase_after (Ok true) = Closed
+phase_after (Err error) = Failed error

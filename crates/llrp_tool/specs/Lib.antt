@@ -18,6 +18,7 @@ pub mod MessageLine
 pub mod OpenText
 pub mod Reading
 pub mod Refused
+pub mod RunServe
 pub mod Schema
 pub mod Script
 pub mod ScriptLaws

@@ -1,6 +1,7 @@
 //! Serving a client: a simulated reader takes what comes in pieces of a stream, and acts by a script.
 
 mod acting;
+mod scripted;
 
 ghost use Rattle.std.specs.Prelude.{◌≡◌, ◌≢◌, ◌≤◌, ◌+◌, ◌↔◌, ◌++◌, [], IfErr, IsTrue, List, OnOk, Ok, Err, length, map, min, true, ℕ};
 ghost use Rattle.llrp_tree.specs.Tree.{MessageTree};
@@ -9,14 +10,13 @@ ghost use Rattle.llrp_tool.specs.Serving.{BeginsServing, Closes, IsNewReader};
 ghost use Rattle.llrp_tool.specs.declared.script.Entry.{Entry};
 ghost use Rattle.llrp_tool.specs.declared.fault.ToolErr.{ToolErr as Error};
 ghost use Rattle.llrp_tool.specs.declared.fault.ToolErr.TheVariants.{Memory};
-ghost use Rattle.llrp_tool.specs.Acting.{error_by};
+ghost use Rattle.llrp_tool.specs.Acting.{error_by, phase_after as the_phase_after};
 
 use crate::fault::ToolErr;
 use crate::script::Script;
-use acting::{due, event_of, happen, happen_all};
-use llrp_session::{Reader, ReaderIn};
-use llrp_stream::{Decoder, End, FeedErr, Item};
-use llrp_tree::MsgKind;
+use llrp_session::Reader;
+use llrp_stream::{Decoder, End, Fed, FeedErr};
+use scripted::ScriptedReader;
 use std::alloc::Global;
 
 /// How serving stands.
@@ -36,28 +36,9 @@ pub(crate) enum Phase {
 /// come, and appends the bytes that the reader sends.
 #[derive(Drop)]
 pub struct Serving {
-    alloc: Global,
-    core: Reader,
-    script: Script,
-    /// How many entries are done.
-    done: usize,
-    /// How many items were taken; it stops at the greatest number, where no entry is left.
-    taken: u64,
-    /// The moment of the last entry done.
-    moment: u64,
+    reader: ScriptedReader,
     decoder: Decoder,
     phase: Phase,
-    ghost within: { done ≤ length script },
-}
-
-/// Whether an item is CLOSE_CONNECTION.
-fn closes(item: &Item) -> bool
-    ensures { IsTrue result ↔ Closes item.now }
-{
-    match item {
-        Item::Msg(message) => matches!(message.kind(), MsgKind::CloseConnection),
-        Item::Bad { .. } => false,
-    }
 }
 
 /// The error of a decoder that takes nothing more.
@@ -70,11 +51,20 @@ fn error_of(error: FeedErr) -> ToolErr
     }
 }
 
+/// The phase after an answer of `feed`.
+fn phase_after(answer: Result<bool, ToolErr>) -> Phase
+    ensures { result ≡ the_phase_after answer }
+{
+    match answer {
+        Ok(true) => Phase::Closed,
+        Ok(false) => Phase::Open,
+        Err(error) => Phase::Failed(error),
+    }
+}
+
 impl Serving {
-    ghost use Rattle.llrp_tool.specs.ServingStands.{DoesEntries, Feeds, Goes, HasDone, HasFailed, HasTaken, IsClosed, IsFresh, IsOpen, KeepsOthers, StandsFor, Starts, TakesItem, greatest_count};
-    ghost use Rattle.llrp_tool.specs.Acting.{Adds, DidSome};
-    ghost use Rattle.llrp_tool.specs.Serving.{entries_at, happening};
-    ghost use Rattle.llrp_stream.specs.declared.item.Item.{Item};
+    ghost use Rattle.llrp_tool.specs.Acting.{Adds};
+    ghost use Rattle.llrp_tool.specs.ServingStands.{Feeds, Finishes, Goes, HasFailed, IsClosed, IsFresh, IsOpen, StandsFor, Starts};
 
     /// A reader as `Reader::new` made it, and its script. It takes no memory.
     pub fn new(alloc: Global, core: Reader, script: Script) -> Serving
@@ -83,12 +73,7 @@ impl Serving {
     {
         let decoder = Decoder::new(alloc, core.limit());
         Serving {
-            alloc,
-            core,
-            script,
-            done: 0,
-            taken: 0,
-            moment: 0,
+            reader: ScriptedReader::new(alloc, core, script),
             decoder,
             phase: Phase::New,
         }
@@ -102,55 +87,12 @@ impl Serving {
             → Starts reader entries self.new out.old.items out.new.items result }
         ensures started { self.new.phase ≢ Phase.New }
     {
-        let outcome = self.connect(out);
+        let outcome = self.reader.connect(out);
         self.phase = match outcome {
             Ok(()) => Phase::Open,
             Err(error) => Phase::Failed(error),
         };
         outcome
-    }
-
-    /// Connects, and does the entries that happen before any item.
-    fn connect(&mut self, out: &mut Vec<u8>) -> Result<(), ToolErr>
-        ensures ok { OnOk result ((reader : Machine) (entries : List Entry) → IsFresh reader entries self.old
-            → (messages : List MessageTree) × Adds messages out.old.items out.new.items × StandsFor reader entries [] messages self.new) }
-        ensures err { IfErr result (λ e. (reader : Machine) (entries : List Entry) → IsFresh reader entries self.old
-            → (e ≡ Memory) × (messages : List MessageTree) × Adds messages out.old.items out.new.items × BeginsServing reader entries [] messages) }
-    {
-        happen(self.alloc, &mut self.core, 0, ReaderIn::Connect, out)?;
-        self.happen_due(out)
-    }
-
-    /// Does the entries that are due after the items taken.
-    fn happen_due(&mut self, out: &mut Vec<u8>) -> Result<(), ToolErr>
-        ensures ok { OnOk result ((count : ℕ) (entries : List Entry) → HasDone count entries self.old → self.old.taken ≡ min count greatest_count
-            → DoesEntries count entries self.old self.new out.old.items out.new.items) }
-        ensures err { IfErr result (λ e. (count : ℕ) (entries : List Entry) → HasDone count entries self.old → self.old.taken ≡ min count greatest_count
-            → DidSome self.old.core (map happening (entries_at count entries)) e out.old.items out.new.items) }
-        ensures others { KeepsOthers self.old self.new }
-    {
-        let left = &self.script.entries()[self.done..];
-        let count = due(left, self.taken);
-        self.moment = happen_all(self.alloc, &mut self.core, self.moment, &left[..count], out)?;
-        self.done += count;
-        Ok(())
-    }
-
-    /// Takes an item, and does the entries that are due after it, or none where the item closes the
-    /// connection; the answer is whether it does.
-    fn take(&mut self, item: Item, out: &mut Vec<u8>) -> Result<bool, ToolErr>
-        ensures takes { (reader : Machine) (entries : List Entry) (items : List Item) → HasTaken reader entries items self.old
-            → TakesItem reader entries items item self.new out.old.items out.new.items result }
-        ensures decoder { self.new.decoder ≡ self.old.decoder }
-    {
-        let closing = closes(&item);
-        happen(self.alloc, &mut self.core, self.moment, event_of(item), out)?;
-        if closing {
-            return Ok(true);
-        }
-        self.taken = self.taken.saturating_add(1);
-        self.happen_due(out)?;
-        Ok(false)
     }
 
     /// Takes the items of a piece; the answer is whether one of them closed the connection.
@@ -160,14 +102,17 @@ impl Serving {
     {
         let mut rest = piece;
         while !rest.is_empty() {
-            let fed = self.decoder.feed(rest).map_err(error_of)?;
-            let Some(item) = fed.item else {
+            let Fed { used, item } = match self.decoder.feed(rest) {
+                Ok(fed) => fed,
+                Err(error) => return Err(error_of(error)),
+            };
+            let Some(item) = item else {
                 return Ok(false);
             };
-            if self.take(item, out)? {
+            if self.reader.take(item, out)? {
                 return Ok(true);
             }
-            rest = rest.split_at(fed.used).1;
+            rest = rest.split_at(used).1;
         }
         Ok(false)
     }
@@ -190,16 +135,15 @@ impl Serving {
             Phase::Failed(error) => return Err(error),
         }
         let outcome = self.take_all(piece, out);
-        self.phase = match outcome {
-            Ok(true) => Phase::Closed,
-            Ok(false) => Phase::Open,
-            Err(error) => Phase::Failed(error),
-        };
+        self.phase = phase_after(outcome);
         outcome
     }
 
-    /// How serving ends where the input does: fine where a frame ends, else `Early`.
-    pub(crate) fn finish(&self) -> Result<(), ToolErr> {
+    /// How the input ends if nothing follows: fine where a frame ends, else `Early`.
+    pub(crate) fn finish(&self) -> Result<(), ToolErr>
+        ensures { (reader : Machine) (entries : List Entry) (bytes : List ℕ) (messages : List MessageTree) → IsOpen reader entries bytes messages self.now
+            → Finishes reader entries bytes messages result }
+    {
         match self.decoder.finish() {
             End::Clean => Ok(()),
             End::Rest(_) => Err(ToolErr::Early),
