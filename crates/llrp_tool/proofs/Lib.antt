@@ -25,6 +25,7 @@ pub mod ScriptLines
 pub mod ScriptTexts
 pub mod ScriptUnique
 pub mod ScriptWords
+pub mod ServeLemmas
 pub mod ServingEvents
 pub mod ServingPieces
 pub mod ServingSteps
