@@ -1,24 +1,23 @@
 -- The message of a lawful word is lawful, and short.
-use Rattle.std.proofs.Common.{◌≡◌, ℕ, ◌+◌, ◌*◌, ◌<◌, ◌≤◌, ◌^◌, List, [], ◌∷◌, Bool, true, false, refl, arith, length, inl, inr, lit≤}
-use Rattle.std.specs.Prelude.{Option, None, nat_le, if◌then◌else◌, ◌==◌, ◌⊎◌}
+use Rattle.std.proofs.Common.{◌≡◌, ℕ, ◌+◌, ◌*◌, ◌<◌, ◌≤◌, ◌^◌, List, [], ◌∷◌, true, false, refl, arith, length, inl, inr, lit≤}
+use Rattle.std.specs.Prelude.{None, if◌then◌else◌, ◌==◌, ◌⊎◌}
 use Rattle.std.specs.Str.{is_utf8}
 use Rattle.std.proofs.lemmas.Bool.{le-leb}
 use Rattle.std.proofs.lemmas.Str.{IsUtf8-nil, is_utf8-from_IsUtf8}
 use Rattle.llrp_schema.specs.declared.kinds.MsgKind.{MsgKind}
 use Rattle.llrp_schema.specs.declared.kinds.MsgKind.TheVariants.{RoAccessReport, Keepalive, ReaderEventNotification, ErrorMessage, AddRoSpec, DeleteRoSpec, StartRoSpec, StopRoSpec, EnableRoSpec, DisableRoSpec, SetReaderConfig, GetReport as GetReportMessage, CloseConnection, KeepaliveAck}
-use Rattle.llrp_schema.specs.declared.kinds.ParamKind.{ParamKind}
-use Rattle.llrp_schema.specs.declared.kinds.ParamKind.TheVariants.{LlrpStatus, ReaderEventNotificationData, UtcTimestamp, RoSpecEvent, ReportBufferOverflowErrorEvent, ConnectionAttemptEvent, RoSpec, KeepaliveSpec as KeepaliveSpecParameter}
-use Rattle.llrp_schema.specs.declared.kinds.Kind.TheVariants.{Message, Parameter}
-use Rattle.llrp_schema.specs.Schema.{GroupRule, number_of, rule_of, message_rule, param_rule, fields_of, tail_of, groups_of, is_tv}
+use Rattle.llrp_schema.specs.declared.kinds.ParamKind.TheVariants.{LlrpStatus, ReaderEventNotificationData, UtcTimestamp, RoSpecEvent, ReportBufferOverflowErrorEvent, ConnectionAttemptEvent, KeepaliveSpec as KeepaliveSpecParameter}
+use Rattle.llrp_schema.specs.declared.kinds.Kind.TheVariants.{Message}
+use Rattle.llrp_schema.specs.Schema.{number_of, rule_of, message_rule, param_rule, fields_of, tail_of, groups_of, is_tv}
 use Rattle.llrp_tree.specs.declared.TheConstants.{MAX_LIMIT}
-use Rattle.llrp_tree.specs.Tree.{Forest, none, Tree, MessageTree, add, add_all, forest}
-use Rattle.llrp_tree.specs.Lawful.{octets, tree_octets, body_octets, message_octets, has_place, count, ArePlaced, NoneTooMany, NoneMissing, Obeys, AreLawful, AllLawful, IsLawful, IsLawfulMessage}
+use Rattle.llrp_tree.specs.Tree.{Forest, none, Tree, add, add_all, forest}
+use Rattle.llrp_tree.specs.Lawful.{octets, body_octets, message_octets, has_place, count, ArePlaced, NoneTooMany, NoneMissing, AreLawful, AllLawful}
 use Rattle.llrp_tree.specs.Checks.{all_placed, none_too_many, none_missing, table_tests, first_fault, first_message_fault}
 use Rattle.llrp_tree.proofs.LawLemmas.{lawful_from, message_from}
-use Rattle.llrp_session.specs.Words.{Operation, Adding, Deleting, Starting, Stopping, Enabling, Disabling, Configuring, Closing, Command, Add, Delete, Start, Stop, Enable, Disable, SetKeepalive, GetReport, Close, ReaderWord, Response, Error, Report, KeepaliveSent, Accepted, Started, Ended, Overflowed, ReaderMessage, ClientWord, Asks, Acknowledges, ClientMessage, KeepaliveSpec, keepalive_each}
+use Rattle.llrp_session.specs.Words.{Operation, Adding, Deleting, Starting, Stopping, Enabling, Disabling, Configuring, Closing, Add, Delete, Start, Stop, Enable, Disable, SetKeepalive, GetReport, Close, ReaderWord, Response, Error, Report, KeepaliveSent, Accepted, Started, Ended, Overflowed, ReaderMessage, ClientWord, Asks, Acknowledges, ClientMessage, KeepaliveSpec, keepalive_each}
 use Rattle.llrp_session.specs.ReaderMessages.{parameter, status_parameter, notification_data, rospec_event, response_kind, reader_message}
 use Rattle.llrp_session.specs.ClientMessages.{client_message}
-use Rattle.llrp_session.specs.LawfulWords.{IsSendable, IsReport, AreReports, IsLawfulReaderWord, IsLawfulReaderMessage, IsLawfulRoSpec, IsLawfulClientWord, IsLawfulClientMessage}
+use Rattle.llrp_session.specs.LawfulWords.{IsSendable, AreReports, IsLawfulReaderWord, IsLawfulReaderMessage, IsLawfulRoSpec, IsLawfulClientWord, IsLawfulClientMessage}
 
 -- ---- parameters
 

@@ -22,4 +22,7 @@ pub mod LawfulParts
 pub mod ToldMessages
 pub mod ReadFields
 pub mod OnlyRoSpec
-pub mod ReportParts
+pub mod SendableWorlds
+pub mod MessagesAgree
+pub mod TableChanges
+pub mod Adding

@@ -5,7 +5,7 @@ use Rattle.llrp_tree.proofs.TreeLemmas.{trees-forest}
 use Rattle.std.specs.Prelude.{true}
 use Rattle.llrp_schema.specs.declared.kinds.ParamKind.TheVariants.{RoSpec}
 use Rattle.llrp_session.specs.RoSpec.{is_kind}
-use Rattle.llrp_session.specs.Words.{Operation, Adding, Deleting, Starting, Stopping, Enabling, Disabling, Configuring, Closing, Command, Add, Delete, Start, Stop, Enable, Disable, SetKeepalive, GetReport, Close, ReaderWord, Response, Error, Report, KeepaliveSent, Accepted, Started, Ended, Overflowed, ReaderMessage, HeardReport, ClientWord, Asks, Acknowledges, ClientMessage, heard, request}
+use Rattle.llrp_session.specs.Words.{Adding, Deleting, Starting, Stopping, Enabling, Disabling, Configuring, Closing, Add, Delete, Start, Stop, Enable, Disable, SetKeepalive, GetReport, Close, ReaderWord, Response, Error, Report, KeepaliveSent, Accepted, Started, Ended, Overflowed, ReaderMessage, HeardReport, ClientWord, Asks, Acknowledges, ClientMessage, heard, request}
 use Rattle.llrp_session.specs.ReaderMessages.{reader_message}
 use Rattle.llrp_session.specs.ClientMessages.{client_message}
 use Rattle.llrp_session.specs.Reading.{request_of, heard_of}

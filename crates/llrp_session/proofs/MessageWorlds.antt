@@ -1,21 +1,20 @@
 -- The world in which messages are on the way runs as the world in which words are.
-use Rattle.std.proofs.Common.{◌≡◌, ℕ, List, [], ◌∷◌, ◌++◌, refl, sym, ap, ◌∙◌}
+use Rattle.std.proofs.Common.{◌≡◌, ℕ, List, [], ◌∷◌, ◌++◌, refl, ap, ◌∙◌}
 use Rattle.std.specs.Prelude.{map, Result, Ok, Err, Option, None, Some, if◌then◌else◌, Bool, true, false, ◌==◌}
 use Rattle.std.proofs.lemmas.List.{map-append}
-use Rattle.llrp_tree.specs.Tree.{Tree, MessageTree}
-use Rattle.llrp_tree.proofs.TreeLemmas.{trees-forest}
-use Rattle.llrp_session.specs.Words.{Operation, Adding, Deleting, Starting, Stopping, Enabling, Disabling, Configuring, Closing, Request, RoSpecChange, Command, Response, Error, Report, KeepaliveSent, Accepted, Started, Ended, Overflowed, ReaderWord, ReaderMessage, ClientMessage, ClientWord, Asks, Acknowledges, heard, request, Heard, HeardResponse, HeardError, HeardReport, HeardKeepalive, HeardNotification, HeardOther}
+use Rattle.llrp_tree.specs.Tree.{Tree}
+use Rattle.llrp_session.specs.Words.{Operation, Adding, Deleting, Starting, Stopping, Enabling, Disabling, Configuring, Closing, Request, RoSpecChange, Command, Response, Error, Report, KeepaliveSent, Accepted, Started, Ended, Overflowed, ReaderWord, ReaderMessage, ClientMessage, heard, request, Heard, HeardResponse, HeardError, HeardReport, HeardKeepalive, HeardNotification, HeardOther}
 use Rattle.llrp_session.specs.Refusal.{Refusal}
 use Rattle.llrp_session.specs.ReaderMachine.{Turn, ReaderEvent, Connect, Take, Seen, Tick, next}
 use Rattle.llrp_session.specs.Sightings.{tags_in, tags_of, kept_by}
-use Rattle.llrp_session.specs.ClientMachine.{Client, ClientPhase, Fresh, Ready, Closed, Pending, Connected, Refused, Reply, Sending, Taking, command, take, sent_unless, refused_in, take_response, answered, unexpected, is_response_to, failed, takes, cleared, closed, notified, attempted, take_in}
+use Rattle.llrp_session.specs.ClientMachine.{Client, ClientPhase, Fresh, Ready, Closed, Pending, Connected, Refused, Reply, Sending, Taking, command, take, sent_unless, refused_in, take_response, replied, granted, answered, unexpected, is_response_to, failed, takes, cleared, closed, notified, attempted, take_in}
 use Rattle.llrp_session.specs.World as words
 use Rattle.llrp_session.specs.World.{World, WorldEvent, Connects, Commands, DeliversUp, DeliversDown, Sees, Ticks, run, opening}
 use Rattle.llrp_session.specs.ReaderMessages.{reader_message}
 use Rattle.llrp_session.specs.ClientMessages.{client_message}
-use Rattle.llrp_session.specs.Reading.{request_of, heard_of}
+use Rattle.llrp_session.specs.Reading.{heard_of}
 use Rattle.llrp_session.specs.LawfulWords.{AddsRoSpec, SaysRoSpec}
-use Rattle.llrp_session.specs.MessageWorld.{MessageWorld, tags_heard, tags_in_messages, stepped, reader_does, commanded, took, delivered_up, delivered_down, message_happens, run_messages, message_opening, in_messages, IsOfRoSpecs, AreOfRoSpecs}
+use Rattle.llrp_session.specs.MessageWorld.{tags_heard, tags_in_messages, stepped, reader_does, commanded, took, delivered_up, delivered_down, message_happens, run_messages, message_opening, in_messages, IsOfRoSpecs, AreOfRoSpecs}
 use Rattle.llrp_session.proofs.MessageReading.{heard_back, request_back}
 
 -- ---- the TagReportData in messages are those of the words
@@ -30,7 +29,7 @@ word_tags (Started now id) = refl
 word_tags (Ended now id) = refl
 word_tags (Overflowed now) = refl
 
-same_tags : (ms : List ReaderMessage) → tags_in_messages (map reader_message ms) ≡ tags_of ms
+pub same_tags : (ms : List ReaderMessage) → tags_in_messages (map reader_message ms) ≡ tags_of ms
 unfolding tags_in_messages tags_of
 same_tags [] = refl
 same_tags (m ∷ ms) =
@@ -59,7 +58,7 @@ took_alike (Ok k) w = rw (map-append client_message w.up k.sent) refl
 -- ---- the words on the way up
 
 -- each ROSpec that is added is a ROSpec
-abbrev AllSay : List ClientMessage → Type 0
+abbrev pub AllSay : List ClientMessage → Type 0
 AllSay [] = Unit {0}
 AllSay (m ∷ ms) = SaysRoSpec m.word × AllSay ms
 
@@ -82,60 +81,71 @@ commanded_says : (k : Command) (w : World) → AddsRoSpec k → AllSay w.up → 
 unfolding command
 commanded_says k w a h = sent_says (refused_in w.client.phase w.client k) k w a h
 
--- what a client sends when it takes a message
-abbrev Says : Result Taking Refusal → Type 0
-Says (Err refusal) = Unit {0}
-Says (Ok k) = AllSay k.sent
+-- a client that takes a message adds no ROSpec, and keeps its limit
+abbrev pub Says : Client → Result Taking Refusal → Type 0
+Says c (Err refusal) = Unit {0}
+Says c (Ok k) = AllSay k.sent × (k.client.limit ≡ c.limit)
 
-says_if : (b : Bool) (x y : Result Taking Refusal) → Says x → Says y → Says (if b then x else y)
-says_if true x y h g = h
-says_if false x y h g = g
+says_if : (c : Client) (b : Bool) (x y : Result Taking Refusal) → Says c x → Says c y → Says c (if b then x else y)
+says_if c true x y h g = h
+says_if c false x y h g = g
 
-says_response : (operation : Operation) (c : Client) (p : Pending) (status : ℕ) → Says (take_response operation c p status)
-says_response Adding c p status = tt
-says_response Deleting c p status = tt
-says_response Starting c p status = tt
-says_response Stopping c p status = tt
-says_response Enabling c p status = tt
-says_response Disabling c p status = tt
-says_response Configuring c p status = tt
-says_response Closing c p status = tt
+same_limit : (limit : ℕ) (b : Bool) (x y : Client) → x.limit ≡ limit → y.limit ≡ limit → (if b then x else y).limit ≡ limit
+same_limit limit true x y h g = h
+same_limit limit false x y h g = g
 
-says_answered : (pending : Option Pending) (c : Client) (id : ℕ) (operation : Operation) (status : ℕ) → Says (answered pending c id operation status)
+says_replied : (c : Client) (p : Pending) (status : ℕ) → Says c (replied c p status)
+says_replied c p status = (tt, same_limit c.limit (status == 0) (record c { pending = None; view = granted p.operation p.rospec c.view }) (cleared c) refl refl)
+
+says_response : (operation : Operation) (c : Client) (p : Pending) (status : ℕ) → Says c (take_response operation c p status)
+says_response Adding c p status = says_replied c p status
+says_response Deleting c p status = says_replied c p status
+says_response Starting c p status = says_replied c p status
+says_response Stopping c p status = says_replied c p status
+says_response Enabling c p status = says_replied c p status
+says_response Disabling c p status = says_replied c p status
+says_response Configuring c p status = says_replied c p status
+says_response Closing c p status = (tt, refl)
+
+says_answered : (pending : Option Pending) (c : Client) (id : ℕ) (operation : Operation) (status : ℕ) → Says c (answered pending c id operation status)
 says_answered None c id operation status = tt
-says_answered (Some p) c id operation status = says_if (is_response_to p id operation) (take_response operation c p status) unexpected (says_response operation c p status) tt
+says_answered (Some p) c id operation status = says_if c (is_response_to p id operation) (take_response operation c p status) unexpected (says_response operation c p status) tt
 
-says_failed : (pending : Option Pending) (c : Client) (id status : ℕ) → Says (failed pending c id status)
+says_failed : (pending : Option Pending) (c : Client) (id status : ℕ) → Says c (failed pending c id status)
 says_failed None c id status = tt
-says_failed (Some p) c id status = says_if (p.id == id) (takes (Reply status) (cleared c)) unexpected tt tt
+says_failed (Some p) c id status = says_if c (p.id == id) (takes (Reply status) (cleared c)) unexpected (tt, refl) tt
 
-says_notified : (c : Client) (closes : Bool) (e : Option RoSpecChange) → Says (notified c closes e)
-says_notified c true e = tt
-says_notified c false None = tt
-says_notified c false (Some e) = tt
+says_notified : (c : Client) (closes : Bool) (e : Option RoSpecChange) → Says c (notified c closes e)
+says_notified c true e = (tt, refl)
+says_notified c false None = (tt, refl)
+says_notified c false (Some e) = (tt, refl)
 
-says_attempted : (c : Client) (status : Option ℕ) → Says (attempted c status)
+says_attempted : (c : Client) (status : Option ℕ) → Says c (attempted c status)
 says_attempted c None = tt
-says_attempted c (Some status) = says_if (status == 0) (takes Connected (record c { phase = Ready })) (takes (Refused status) (closed c)) tt tt
+says_attempted c (Some status) = says_if c (status == 0) (takes Connected (record c { phase = Ready })) (takes (Refused status) (closed c)) (tt, refl) (tt, refl)
 
-says_taken : (phase : ClientPhase) (c : Client) (id : ℕ) (h : Heard) → Says (take_in phase c id h)
-says_taken Closed c id h = tt
-says_taken Fresh c id (HeardResponse operation status) = tt
-says_taken Fresh c id (HeardError status) = tt
-says_taken Fresh c id (HeardReport tags) = tt
-says_taken Fresh c id HeardKeepalive = tt
-says_taken Fresh c id (HeardNotification n) = says_attempted c n.attempt
-says_taken Fresh c id HeardOther = tt
-says_taken Ready c id (HeardResponse operation status) = says_answered c.pending c id operation status
-says_taken Ready c id (HeardError status) = says_failed c.pending c id status
-says_taken Ready c id (HeardReport tags) = tt
-says_taken Ready c id HeardKeepalive = (tt, tt)
-says_taken Ready c id (HeardNotification n) = says_notified c n.closes n.rospec
-says_taken Ready c id HeardOther = tt
+says_in : (phase : ClientPhase) (c : Client) (id : ℕ) (h : Heard) → Says c (take_in phase c id h)
+says_in Closed c id h = tt
+says_in Fresh c id (HeardResponse operation status) = tt
+says_in Fresh c id (HeardError status) = tt
+says_in Fresh c id (HeardReport tags) = tt
+says_in Fresh c id HeardKeepalive = tt
+says_in Fresh c id (HeardNotification n) = says_attempted c n.attempt
+says_in Fresh c id HeardOther = tt
+says_in Ready c id (HeardResponse operation status) = says_answered c.pending c id operation status
+says_in Ready c id (HeardError status) = says_failed c.pending c id status
+says_in Ready c id (HeardReport tags) = (tt, refl)
+says_in Ready c id HeardKeepalive = ((tt, tt), refl)
+says_in Ready c id (HeardNotification n) = says_notified c n.closes n.rospec
+says_in Ready c id HeardOther = tt
 
-took_says : (r : Result Taking Refusal) (w : World) → Says r → AllSay w.up → AllSay (words.took r w).up
-took_says (Err refusal) w s h = h
-took_says (Ok k) w s h = all_say-append w.up k.sent h s
+pub says_taken : (c : Client) (id : ℕ) (h : Heard) → Says c (take c id h)
+unfolding take
+says_taken c id h = says_in c.phase c id h
+
+took_says : (c : Client) (r : Result Taking Refusal) (w : World) → Says c r → AllSay w.up → AllSay (words.took r w).up
+took_says c (Err refusal) w s h = h
+took_says c (Ok k) w s h = all_say-append w.up k.sent h s.0
 
 -- ---- a delivery
 
@@ -158,9 +168,8 @@ down_alike (m ∷ ms) w =
     ap (λ (h : Heard). took (take w.client m.id h) (in_messages left)) (heard_back m) ∙ took_alike (take w.client m.id (heard m.word)) left
 
 down_says : (downs : List ReaderMessage) (w : World) → AllSay w.up → AllSay (words.delivered_down downs w).up
-unfolding take
 down_says [] w h = h
-down_says (m ∷ ms) w h = took_says (take w.client m.id (heard m.word)) (record w { down = ms }) (says_taken w.client.phase w.client m.id (heard m.word)) h
+down_says (m ∷ ms) w h = took_says w.client (take w.client m.id (heard m.word)) (record w { down = ms }) (says_taken w.client m.id (heard m.word)) h
 
 -- ---- events
 
@@ -184,6 +193,13 @@ run_alike : (events : List WorldEvent) (w : World) → AreOfRoSpecs events → A
 run_alike [] w a h = refl
 run_alike (e ∷ es) w a h =
     ap (run_messages es) (event_alike e w h) ∙ run_alike es (words.happens w e) a.1 (event_says e w a.0 h)
+
+run_keeps : (events : List WorldEvent) (w : World) → AreOfRoSpecs events → AllSay w.up → AllSay (run events w).up
+run_keeps [] w a h = h
+run_keeps (e ∷ es) w a h = run_keeps es (words.happens w e) a.1 (event_says e w a.0 h)
+
+pub run_says : (limit reader_first client_first : ℕ) (events : List WorldEvent) → AreOfRoSpecs events → AllSay (run events (opening limit reader_first client_first)).up
+run_says limit reader_first client_first events a = run_keeps events (opening limit reader_first client_first) a tt
 
 pub runs_alike : (limit reader_first client_first : ℕ) (events : List WorldEvent) → AreOfRoSpecs events
     → run_messages events (message_opening limit reader_first client_first) ≡ in_messages (run events (opening limit reader_first client_first))

@@ -1,6 +1,6 @@
 -- A lawful ADD_ROSPEC has one parameter, its ROSpec.
-use Rattle.std.proofs.Common.{◌≡◌, ℕ, zero, suc, ◌+◌, ◌≤◌, List, [], ◌∷◌, ◌++◌, length, Bool, true, false, refl, sym, ap, ◌∙◌, subst, arith, length-append}
-use Rattle.std.specs.Prelude.{Option, None, Some, ◌||◌, if◌then◌else◌, find, cond}
+use Rattle.std.proofs.Common.{◌≡◌, ℕ, ◌≤◌, List, [], ◌∷◌, ◌++◌, length, Bool, true, false, refl, sym, ap, ◌∙◌, arith, length-append}
+use Rattle.std.specs.Prelude.{None, Some, ◌||◌, find, cond}
 use Rattle.llrp_schema.specs.declared.kinds.MsgKind.{MsgKind}
 use Rattle.llrp_schema.specs.declared.kinds.MsgKind.TheVariants as kinds
 use Rattle.llrp_schema.specs.declared.kinds.ParamKind.{ParamKind}
@@ -8,7 +8,7 @@ use Rattle.llrp_schema.specs.declared.kinds.ParamKind.TheVariants.{RoSpec}
 use Rattle.llrp_schema.specs.declared.kinds.Kind.TheVariants.{Message, Parameter}
 use Rattle.llrp_schema.specs.Schema.{GroupRule, one, number_of, rule_of, message_rule, groups_of, fields_of, plain_fields_of}
 use Rattle.llrp_tree.specs.Tree.{Forest, none, and, Tree, MessageTree, trees}
-use Rattle.llrp_tree.specs.Lawful.{is_member, has_place, count, ArePlaced, NoneTooMany, NoneMissing, IsLawfulMessage}
+use Rattle.llrp_tree.specs.Lawful.{is_member, count, ArePlaced, NoneTooMany, NoneMissing, IsLawfulMessage}
 use Rattle.llrp_tree.proofs.LawLemmas.{range_length, same_number}
 use Rattle.llrp_session.specs.Words.{AddRoSpec}
 use Rattle.llrp_session.specs.Reading.{adding, request_in, request_of}

@@ -13,7 +13,7 @@ use Rattle.llrp_session.specs.LawfulStates.{IsToldOf, IsLawfulSighting}
 
 -- ---- parts of a TagReportData
 
-record IsPart (t : Tree) : Type 0 where
+pub record IsPart (t : Tree) : Type 0 where
   pub lawful : IsLawful t
   pub placed : has_place (groups_of (Parameter TagReportData)) t.kind ≡ true
   pub leaf : levels t.children ≡ 0
@@ -24,43 +24,43 @@ AreParts (t ∷ ts) = IsPart t × AreParts ts
 
 -- ---- the parts one by one
 
-epc_part : (v : ℕ) → v < 2 ^ 96 → IsPart (value_parameter Epc96 v)
+pub epc_part : (v : ℕ) → v < 2 ^ 96 → IsPart (value_parameter Epc96 v)
 unfolding rule_of param_rule number_of fields_of tail_of groups_of body_octets is_tv ArePlaced NoneTooMany NoneMissing
 epc_part v h = record { lawful = (record { obeys = record { ranges = (omega arith, tt); form = refl; bytes = tt; placed = tt; most = tt; least = tt }; deep = lit≤ tt; long = lit≤ tt }, tt); placed = refl; leaf = refl }
 
-rospec_id_part : (v : ℕ) → v < 2 ^ 32 → IsPart (value_parameter RoSpecId v)
+pub rospec_id_part : (v : ℕ) → v < 2 ^ 32 → IsPart (value_parameter RoSpecId v)
 unfolding rule_of param_rule number_of fields_of tail_of groups_of body_octets is_tv ArePlaced NoneTooMany NoneMissing
 rospec_id_part v h = record { lawful = (record { obeys = record { ranges = (omega arith, tt); form = refl; bytes = tt; placed = tt; most = tt; least = tt }; deep = lit≤ tt; long = lit≤ tt }, tt); placed = refl; leaf = refl }
 
-spec_index_part : (v : ℕ) → v < 2 ^ 16 → IsPart (value_parameter SpecIndex v)
+pub spec_index_part : (v : ℕ) → v < 2 ^ 16 → IsPart (value_parameter SpecIndex v)
 unfolding rule_of param_rule number_of fields_of tail_of groups_of body_octets is_tv ArePlaced NoneTooMany NoneMissing
 spec_index_part v h = record { lawful = (record { obeys = record { ranges = (omega arith, tt); form = refl; bytes = tt; placed = tt; most = tt; least = tt }; deep = lit≤ tt; long = lit≤ tt }, tt); placed = refl; leaf = refl }
 
-inventory_part : (v : ℕ) → v < 2 ^ 16 → IsPart (value_parameter InventoryParameterSpecId v)
+pub inventory_part : (v : ℕ) → v < 2 ^ 16 → IsPart (value_parameter InventoryParameterSpecId v)
 unfolding rule_of param_rule number_of fields_of tail_of groups_of body_octets is_tv ArePlaced NoneTooMany NoneMissing
 inventory_part v h = record { lawful = (record { obeys = record { ranges = (omega arith, tt); form = refl; bytes = tt; placed = tt; most = tt; least = tt }; deep = lit≤ tt; long = lit≤ tt }, tt); placed = refl; leaf = refl }
 
-antenna_part : (v : ℕ) → v < 2 ^ 16 → IsPart (value_parameter AntennaId v)
+pub antenna_part : (v : ℕ) → v < 2 ^ 16 → IsPart (value_parameter AntennaId v)
 unfolding rule_of param_rule number_of fields_of tail_of groups_of body_octets is_tv ArePlaced NoneTooMany NoneMissing
 antenna_part v h = record { lawful = (record { obeys = record { ranges = (omega arith, tt); form = refl; bytes = tt; placed = tt; most = tt; least = tt }; deep = lit≤ tt; long = lit≤ tt }, tt); placed = refl; leaf = refl }
 
-channel_part : (v : ℕ) → v < 2 ^ 16 → IsPart (value_parameter ChannelIndex v)
+pub channel_part : (v : ℕ) → v < 2 ^ 16 → IsPart (value_parameter ChannelIndex v)
 unfolding rule_of param_rule number_of fields_of tail_of groups_of body_octets is_tv ArePlaced NoneTooMany NoneMissing
 channel_part v h = record { lawful = (record { obeys = record { ranges = (omega arith, tt); form = refl; bytes = tt; placed = tt; most = tt; least = tt }; deep = lit≤ tt; long = lit≤ tt }, tt); placed = refl; leaf = refl }
 
-rssi_part : (v : ℕ) → v < 2 ^ 8 → IsPart (value_parameter PeakRssi v)
+pub rssi_part : (v : ℕ) → v < 2 ^ 8 → IsPart (value_parameter PeakRssi v)
 unfolding rule_of param_rule number_of fields_of tail_of groups_of body_octets is_tv ArePlaced NoneTooMany NoneMissing
 rssi_part v h = record { lawful = (record { obeys = record { ranges = (omega arith, tt); form = refl; bytes = tt; placed = tt; most = tt; least = tt }; deep = lit≤ tt; long = lit≤ tt }, tt); placed = refl; leaf = refl }
 
-first_seen_part : (v : ℕ) → v < 2 ^ 64 → IsPart (value_parameter FirstSeenTimestampUtc v)
+pub first_seen_part : (v : ℕ) → v < 2 ^ 64 → IsPart (value_parameter FirstSeenTimestampUtc v)
 unfolding rule_of param_rule number_of fields_of tail_of groups_of body_octets is_tv ArePlaced NoneTooMany NoneMissing
 first_seen_part v h = record { lawful = (record { obeys = record { ranges = (omega arith, tt); form = refl; bytes = tt; placed = tt; most = tt; least = tt }; deep = lit≤ tt; long = lit≤ tt }, tt); placed = refl; leaf = refl }
 
-last_seen_part : (v : ℕ) → v < 2 ^ 64 → IsPart (value_parameter LastSeenTimestampUtc v)
+pub last_seen_part : (v : ℕ) → v < 2 ^ 64 → IsPart (value_parameter LastSeenTimestampUtc v)
 unfolding rule_of param_rule number_of fields_of tail_of groups_of body_octets is_tv ArePlaced NoneTooMany NoneMissing
 last_seen_part v h = record { lawful = (record { obeys = record { ranges = (omega arith, tt); form = refl; bytes = tt; placed = tt; most = tt; least = tt }; deep = lit≤ tt; long = lit≤ tt }, tt); placed = refl; leaf = refl }
 
-seen_count_part : (v : ℕ) → v < 2 ^ 16 → IsPart (value_parameter TagSeenCount v)
+pub seen_count_part : (v : ℕ) → v < 2 ^ 16 → IsPart (value_parameter TagSeenCount v)
 unfolding rule_of param_rule number_of fields_of tail_of groups_of body_octets is_tv ArePlaced NoneTooMany NoneMissing
 seen_count_part v h = record { lawful = (record { obeys = record { ranges = (omega arith, tt); form = refl; bytes = tt; placed = tt; most = tt; least = tt }; deep = lit≤ tt; long = lit≤ tt }, tt); placed = refl; leaf = refl }
 

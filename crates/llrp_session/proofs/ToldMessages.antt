@@ -1,9 +1,9 @@
 -- Messages of the right kind and parameters are those of their words.
-use Rattle.std.proofs.Common.{◌≡◌, ℕ, ◌<◌, ◌≤◌, ◌^◌, List, [], ◌∷◌, refl, sym, ap, ◌∙◌, lit≤, inl}
+use Rattle.std.proofs.Common.{◌≡◌, ℕ, ◌<◌, ◌^◌, List, [], ◌∷◌, refl, ap, ◌∙◌, lit≤}
 use Rattle.std.specs.Prelude.{◌⊎◌}
 use Rattle.llrp_schema.specs.declared.kinds.MsgKind.{MsgKind}
 use Rattle.llrp_tree.specs.declared.TheConstants.{MAX_LIMIT}
-use Rattle.llrp_tree.specs.Tree.{Tree, MessageTree, forest}
+use Rattle.llrp_tree.specs.Tree.{Tree, forest}
 use Rattle.llrp_tree.specs.Lawful.{IsLawfulMessage}
 use Rattle.llrp_schema.specs.declared.kinds.ParamKind.TheVariants.{KeepaliveSpec as KeepaliveSpecParameter}
 use Rattle.llrp_session.specs.Words.{SetKeepalive, Asks, ReaderWord, ReaderMessage, ClientWord, ClientMessage, keepalive_each}

@@ -23,7 +23,7 @@ new_client limit first_id = record { limit = limit; phase = Fresh; pending = Non
 
 -- ---- commands
 
-abbrev waits_for : ℕ → Operation → ℕ → Option Pending
+abbrev pub waits_for : ℕ → Operation → ℕ → Option Pending
 waits_for id operation rospec = Some (record { id = id; operation = operation; rospec = rospec })
 
 -- what waits for a response once the command is sent under an id

@@ -16,3 +16,6 @@ pub mod ClientMessages
 pub mod Reading
 pub mod MessageWorld
 pub mod ReadWords
+pub mod MessageAgreement
+pub mod ReaderSteps
+pub mod ReaderParts

@@ -1,7 +1,7 @@
 -- The world of both ends in which messages are on the way, and are read where they arrive.
-use Rattle.std.specs.Prelude.{ℕ, List, [], ◌∷◌, ◌++◌, map, Result, Ok, Err}
+use Rattle.std.specs.Prelude.{ℕ, ◌<◌, ◌^◌, List, [], ◌∷◌, ◌++◌, map, Result, Ok, Err}
 use Rattle.llrp_tree.specs.Tree.{Tree, MessageTree}
-use Rattle.llrp_session.specs.Words.{Command, Heard, HeardReport}
+use Rattle.llrp_session.specs.Words.{Heard, HeardReport}
 use Rattle.llrp_session.specs.Refusal.{Refusal}
 use Rattle.llrp_session.specs.ReaderMachine.{Reader, Turn, ReaderEvent, Connect, Take, Seen, Tick, next, new_reader}
 use Rattle.llrp_session.specs.Sightings.{kept_by}
@@ -10,7 +10,8 @@ use Rattle.llrp_session.specs.World.{World, WorldEvent, Connects, Commands, Deli
 use Rattle.llrp_session.specs.ReaderMessages.{reader_message}
 use Rattle.llrp_session.specs.ClientMessages.{client_message}
 use Rattle.llrp_session.specs.Reading.{request_of, heard_of}
-use Rattle.llrp_session.specs.LawfulWords.{AddsRoSpec}
+use Rattle.llrp_session.specs.LawfulWords.{IsSendable, AddsRoSpec}
+use Rattle.llrp_session.specs.LawfulStates.{IsGivenCommand, IsLawfulSighting}
 
 pub record MessageWorld : Type 0 where
   pub reader : Reader
@@ -105,3 +106,22 @@ IsOfRoSpecs _ = Unit {0}
 abbrev pub AreOfRoSpecs : List WorldEvent → Type 0
 AreOfRoSpecs [] = Unit {0}
 AreOfRoSpecs (e ∷ es) = IsOfRoSpecs e × AreOfRoSpecs es
+
+-- ---- what is on its way may be sent
+
+-- an event whose numbers are those that their types hold, and whose ROSpec is lawful
+abbrev pub IsGiven : WorldEvent → Type 0
+IsGiven (Connects now) = now < 2 ^ 64
+IsGiven (Commands k) = IsGivenCommand k
+IsGiven (DeliversUp now) = now < 2 ^ 64
+IsGiven DeliversDown = Unit {0}
+IsGiven (Sees now g) = (now < 2 ^ 64) × IsLawfulSighting g
+IsGiven (Ticks now) = now < 2 ^ 64
+
+abbrev pub AreGiven : List WorldEvent → Type 0
+AreGiven [] = Unit {0}
+AreGiven (e ∷ es) = IsGiven e × AreGiven es
+
+abbrev pub AreSendable : ℕ → List MessageTree → Type 0
+AreSendable limit [] = Unit {0}
+AreSendable limit (m ∷ ms) = IsSendable limit m × AreSendable limit ms

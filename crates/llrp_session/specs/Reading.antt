@@ -5,7 +5,7 @@ use Rattle.llrp_schema.specs.declared.kinds.MsgKind.TheVariants as kinds
 use Rattle.llrp_schema.specs.declared.kinds.ParamKind.TheVariants.{RoSpec, KeepaliveSpec as KeepaliveSpecParameter, LlrpStatus, ReaderEventNotificationData, ConnectionAttemptEvent, ConnectionCloseEvent, RoSpecEvent}
 use Rattle.llrp_tree.specs.Tree.{Tree, Forest, MessageTree, trees}
 use Rattle.llrp_session.specs.RoSpec.{first_in, first_below, field, report_spec_in}
-use Rattle.llrp_session.specs.Words.{Operation, Adding, Deleting, Starting, Stopping, Enabling, Disabling, Configuring, Closing, KeepaliveSpec, Config, Request, AddRoSpec, DeleteRoSpec, StartRoSpec, StopRoSpec, EnableRoSpec, DisableRoSpec, SetReaderConfig, GetReports, CloseConnection, NoRequest, Unsupported, RoSpecChange, Notification, Heard, HeardResponse, HeardError, HeardReport, HeardKeepalive, HeardNotification, HeardOther}
+use Rattle.llrp_session.specs.Words.{Adding, Deleting, Starting, Stopping, Enabling, Disabling, Configuring, Closing, KeepaliveSpec, Config, Request, AddRoSpec, DeleteRoSpec, StartRoSpec, StopRoSpec, EnableRoSpec, DisableRoSpec, SetReaderConfig, GetReports, CloseConnection, NoRequest, Unsupported, RoSpecChange, Notification, Heard, HeardResponse, HeardError, HeardReport, HeardKeepalive, HeardNotification, HeardOther}
 
 -- ---- what a reader reads
 

@@ -1,13 +1,9 @@
 -- ROSpecs with their states, in rising order of their ids: a reader's table, and a client's view of it.
 use Rattle.std.specs.Prelude.{ℕ, ◌<◌, suc, ◌+◌, ◌==◌, nat_lt, Bool, true, false, ◌||◌, ◌&&◌, List, [], ◌∷◌, Option, None, Some, if◌then◌else◌}
 use Rattle.llrp_session.specs.RoSpec.{RoSpec}
+pub use Rattle.llrp_session.specs.declared.reader.table.Entry.{Entry}  -- an entry of a reader's table: a ROSpec and its state
 pub use Rattle.llrp_session.specs.declared.words.RoState.{RoState}
 pub use Rattle.llrp_session.specs.declared.words.RoState.TheVariants.{Disabled, Inactive, Active}
-
--- an entry of a reader's table
-pub record Entry : Type 0 where
-  pub spec : RoSpec
-  pub state : RoState
 
 -- an entry of a client's view
 pub record Viewed : Type 0 where

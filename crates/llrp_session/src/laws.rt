@@ -12,7 +12,10 @@ ghost use Rattle.llrp_session.specs.LawfulStates.{IsLawfulReader, IsLawfulReader
 ghost use Rattle.llrp_session.specs.TableLaws.{EntersOne, ChangesEach, RemovesThoseNamed, EntersOneInView, ChangesEachInView, RemovesThoseNamedInView, SeesEach, EachOnce};
 ghost use Rattle.llrp_session.specs.Agreement.{AfterAll, ViewCatchesUp, ViewIsTable, ReportsArrive, ReportsAreKept, ReaderHasHistory, OneActive, NothingIsUnexpected, PendingIsOnTheWay, NothingIsPending};
 
-pub use messages::{messages_are_lawful, messages_read_back, worlds_agree};
+pub use messages::{
+    ends_agree_in_messages, messages_are_lawful, messages_read_back, messages_sent_are_lawful,
+    worlds_agree,
+};
 
 /// Whatever happens to a reader, no sighting that counts is lost but those of which an overflow event tells, and none is
 /// reported twice.

@@ -3,8 +3,11 @@
 #![tactic(auto)]
 
 pub mod laws;
+mod reader;
 mod reading;
 mod telling;
 mod words;
 
+pub use reader::Reader;
+pub use reader::events::{ReaderIn, StepFault, StepRefusal};
 pub use words::{Command, RoState, Sighting, Taken};

@@ -1,6 +1,6 @@
 //! Laws of the messages that the words of the machines are.
 
-ghost use Rattle.std.specs.Prelude.{◌≡◌, ◌≤◌, ℕ, List};
+ghost use Rattle.std.specs.Prelude.{◌≡◌, ◌<◌, ◌≤◌, ◌^◌, ℕ, List};
 ghost use Rattle.llrp_tree.specs.declared.TheConstants.{MAX_LIMIT};
 ghost use Rattle.llrp_session.specs.Words.{ReaderMessage, ClientMessage, heard, request};
 ghost use Rattle.llrp_session.specs.ReaderMessages.{reader_message};
@@ -8,7 +8,8 @@ ghost use Rattle.llrp_session.specs.ClientMessages.{client_message};
 ghost use Rattle.llrp_session.specs.Reading.{request_of, heard_of};
 ghost use Rattle.llrp_session.specs.LawfulWords.{IsSendable, IsLawfulReaderMessage, IsLawfulClientMessage, SaysRoSpec};
 ghost use Rattle.llrp_session.specs.World.{WorldEvent, run, opening};
-ghost use Rattle.llrp_session.specs.MessageWorld.{run_messages, message_opening, in_messages, AreOfRoSpecs};
+ghost use Rattle.llrp_session.specs.MessageWorld.{run_messages, message_opening, in_messages, AreOfRoSpecs, AreGiven, AreSendable};
+ghost use Rattle.llrp_session.specs.MessageAgreement.{AfterAllMessages, ViewCatchesUp, ViewIsTable, ReportsArrive, ReportsAreKept, ReaderHasHistory, OneActive, NothingIsUnexpected, PendingIsOnTheWay, NothingIsPending};
 
 /// What is read in the message of a word is that word.
 #[tactic(auto, using(crate::proofs::MessageReading::heard_back, crate::proofs::MessageReading::request_back))]
@@ -29,4 +30,27 @@ pub fn messages_are_lawful()
 pub fn worlds_agree()
     ensures { (limit reader_first client_first : ℕ) (events : List WorldEvent) → AreOfRoSpecs events →
         run_messages events (message_opening limit reader_first client_first) ≡ in_messages (run events (opening limit reader_first client_first)) }
+{}
+
+/// Whatever happens to a client and a reader, each message on its way is lawful and within the limit, so that making it is
+/// never refused but for memory.
+pub fn messages_sent_are_lawful()
+    ensures up { (limit reader_first client_first : ℕ) (events : List WorldEvent) → 4096 ≤ limit → limit ≤ MAX_LIMIT → reader_first < 2 ^ 32 → AreGiven events →
+        AreSendable limit (run_messages events (message_opening limit reader_first client_first)).up }
+    ensures down { (limit reader_first client_first : ℕ) (events : List WorldEvent) → 4096 ≤ limit → limit ≤ MAX_LIMIT → reader_first < 2 ^ 32 → AreGiven events →
+        AreSendable limit (run_messages events (message_opening limit reader_first client_first)).down }
+{}
+
+/// Whatever happens to a client and a reader with whole messages on the way between them, the two ends agree; said of the
+/// messages that are sent.
+pub fn ends_agree_in_messages()
+    ensures view_catches_up { AfterAllMessages ViewCatchesUp }
+    ensures view_is_table { AfterAllMessages ViewIsTable }
+    ensures reports_arrive { AfterAllMessages ReportsArrive }
+    ensures reports_are_kept { AfterAllMessages ReportsAreKept }
+    ensures reader_has_history { AfterAllMessages ReaderHasHistory }
+    ensures one_active { AfterAllMessages OneActive }
+    ensures nothing_is_unexpected { AfterAllMessages NothingIsUnexpected }
+    ensures pending_is_on_the_way { AfterAllMessages PendingIsOnTheWay }
+    ensures nothing_is_pending { AfterAllMessages NothingIsPending }
 {}

@@ -4,6 +4,7 @@ ghost use Rattle.std.specs.Prelude.{◌≡◌, ◌≤◌, [], ◌∷◌, ◌++�
 ghost use Rattle.llrp_tree.specs.Lawful.{IsLawful};
 ghost use Rattle.llrp_session.specs.TagReport.{signed_octet as the_octet, value_parameter, if_selected, report_parts as the_parts, tag_report as the_report};
 ghost use Rattle.llrp_session.specs.LawfulWords.{IsReport};
+ghost use Rattle.llrp_session.specs.LawfulStates.{IsToldOf, IsLawfulSighting};
 
 use super::{leaf, parameter};
 use crate::reading::rospec::RoSpec;
@@ -18,21 +19,24 @@ fn signed_octet(number: i8) -> u8
     number.cast_unsigned()
 }
 
-/// One more parameter of one value, if it is selected.
-fn push_if(
+/// Parts of a report.
+#[derive(Drop)]
+struct Parts {
     alloc: Global,
-    chosen: bool,
-    kind: ParamKind,
-    value: u128,
-    parts: &mut Vec<Node>,
-) -> Result<(), AllocError>
-    requires { IsLawful (value_parameter kind value) }
-    ensures { OnOk result (parts.new.items ≡ parts.old.items ++ if_selected chosen kind value) }
-{
-    if chosen {
-        parts.push(leaf(alloc, kind, &[value]))?;
+    nodes: Vec<Node>,
+}
+
+impl Parts {
+    /// One more parameter of one value, if it is selected.
+    fn push_if(&mut self, chosen: bool, kind: ParamKind, value: u128) -> Result<(), AllocError>
+        requires { IsLawful (value_parameter kind value) }
+        ensures { OnOk result (self.new.nodes.items ≡ self.old.nodes.items ++ if_selected chosen kind value) }
+    {
+        if chosen {
+            self.nodes.push(leaf(self.alloc, kind, &[value]))?;
+        }
+        Ok(())
     }
-    Ok(())
 }
 
 /// The parts of a report: EPC-96, and then those that are selected, in the selector's order.
@@ -45,75 +49,42 @@ fn report_parts(
 ) -> Result<Vec<Node>, AllocError>
     ensures { IfOk result (λ parts. parts.items ≡ the_parts now rospec.now selector.now sighting.now) }
 {
+    let now = now as u128;
+    let id = rospec.settings().id as u128;
     let inventory = rospec.settings().inventory as u128;
-    let mut parts = Vec::with_capacity(alloc, 10)?;
-    parts.push(leaf(alloc, ParamKind::Epc96, &[sighting.epc.number()]))?;
-    let rospec_id = rospec.settings().id as u128;
-    push_if(
-        alloc,
-        selector.rospec_id,
-        ParamKind::RoSpecId,
-        rospec_id,
-        &mut parts,
-    )?;
-    push_if(
-        alloc,
-        selector.spec_index,
-        ParamKind::SpecIndex,
-        1,
-        &mut parts,
-    )?;
-    push_if(
-        alloc,
-        selector.inventory_parameter_spec_id,
+    let inventory_is_told = selector.inventory_parameter_spec_id;
+    let antenna = sighting.antenna as u128;
+    let rssi = signed_octet(sighting.rssi) as u128;
+    let nodes = Vec::with_capacity(alloc, 10)?;
+    let mut parts = Parts { alloc, nodes };
+    parts.push_if(true, ParamKind::Epc96, sighting.epc.number())?;
+    parts.push_if(selector.rospec_id, ParamKind::RoSpecId, id)?;
+    parts.push_if(selector.spec_index, ParamKind::SpecIndex, 1)?;
+    parts.push_if(
+        inventory_is_told,
         ParamKind::InventoryParameterSpecId,
         inventory,
-        &mut parts,
     )?;
-    push_if(
-        alloc,
-        selector.antenna_id,
-        ParamKind::AntennaId,
-        sighting.antenna as u128,
-        &mut parts,
-    )?;
-    push_if(
-        alloc,
-        selector.channel_index,
-        ParamKind::ChannelIndex,
-        1,
-        &mut parts,
-    )?;
-    let rssi = signed_octet(sighting.rssi) as u128;
-    push_if(
-        alloc,
-        selector.peak_rssi,
-        ParamKind::PeakRssi,
-        rssi,
-        &mut parts,
-    )?;
-    push_if(
-        alloc,
-        selector.first_seen,
-        ParamKind::FirstSeenTimestampUtc,
-        now as u128,
-        &mut parts,
-    )?;
-    push_if(
-        alloc,
-        selector.last_seen,
-        ParamKind::LastSeenTimestampUtc,
-        now as u128,
-        &mut parts,
-    )?;
-    push_if(
-        alloc,
-        selector.tag_seen_count,
-        ParamKind::TagSeenCount,
-        1,
-        &mut parts,
-    )?;
-    Ok(parts)
+    parts.push_if(selector.antenna_id, ParamKind::AntennaId, antenna)?;
+    parts.push_if(selector.channel_index, ParamKind::ChannelIndex, 1)?;
+    parts.push_if(selector.peak_rssi, ParamKind::PeakRssi, rssi)?;
+    parts.push_if(selector.first_seen, ParamKind::FirstSeenTimestampUtc, now)?;
+    parts.push_if(selector.last_seen, ParamKind::LastSeenTimestampUtc, now)?;
+    parts.push_if(selector.tag_seen_count, ParamKind::TagSeenCount, 1)?;
+    Ok(parts.nodes)
+}
+
+/// The numbers of a ROSpec and of a sighting fit the fields in which they are told; this changes nothing.
+fn known_to_fit(rospec: &RoSpec, sighting: &Sighting)
+    ensures rospec { IsToldOf rospec.now }
+    ensures sighting { IsLawfulSighting sighting.now }
+{
+    let told = rospec.settings();
+    let _id = told.id;
+    let _inventory = told.inventory;
+    let _epc = sighting.epc.number();
+    let _rssi = signed_octet(sighting.rssi);
+    let _antenna = sighting.antenna;
 }
 
 /// The TagReportData of what was sighted at a moment while a ROSpec was active; an error is want of memory.
@@ -127,8 +98,7 @@ pub(crate) fn tag_report(
     ensures report { IfOk result (λ n. n ≡ the_report now rospec.now selector.now sighting.now) }
     ensures short { IfOk result (λ n. IsReport n) }
 {
+    known_to_fit(rospec, sighting);
     let parts = report_parts(alloc, now, rospec, selector, sighting)?;
-    let report = parameter(alloc, ParamKind::TagReportData, &[], parts);
-    report.lawful();
-    Ok(report)
+    Ok(parameter(alloc, ParamKind::TagReportData, &[], parts))
 }

@@ -1,7 +1,6 @@
-use Rattle.std.proofs.Common.{[], ◌∷◌, List, ◌∙◌, refl, ap, arith}
+use Rattle.std.proofs.Common.{[], ◌∷◌, ◌∙◌, refl, ap, arith}
 use Rattle.llrp_tree.specs.Tree.{Tree}
 use Rattle.llrp_session.specs.Words.{Error}
-use Rattle.llrp_session.specs.ReaderMessages.{status_parameter, reader_parameters}
 use Rattle.llrp_session.proofs.LawfulMessages.{status_lawful}
 use Rattle.llrp_session.proofs.ToldMessages.{reader_told, reader_lawful}
 use Rattle.llrp_session.proofs.telling.reader.error.Goals as goal

@@ -1,5 +1,4 @@
 use Rattle.std.proofs.Common.{◌≡◌, ◌∷◌, [], ◌∙◌, ap, sym, length, arith}
-use Rattle.llrp_tree.specs.Tree.{Tree}
 use Rattle.llrp_session.specs.RoSpec.{rospec_of}
 use Rattle.llrp_session.proofs.OnlyRoSpec.{adds_one, last_of}
 use Rattle.llrp_session.proofs.reading.rospec.RoSpec.taken.Goals as goal

@@ -1,0 +1,104 @@
+-- The two ends agree, in the messages that are sent.
+use Rattle.std.specs.Prelude.{◌≡◌, ◌≤◌, ◌⊎◌, ℕ, Bool, true, false, List, [], ◌∷◌, ◌++◌, Option, None, Some, if◌then◌else◌}
+use Rattle.llrp_tree.specs.Tree.{MessageTree}
+use Rattle.llrp_session.specs.RoSpec.{rospec_of}
+use Rattle.llrp_session.specs.Table.{states, active_count}
+use Rattle.llrp_session.specs.Words.{Adding, Deleting, Starting, Stopping, Enabling, Disabling, Configuring, Closing, Request, AddRoSpec, DeleteRoSpec, StartRoSpec, StopRoSpec, EnableRoSpec, DisableRoSpec, SetReaderConfig, GetReports, CloseConnection, NoRequest, Unsupported, Heard, HeardResponse, HeardError}
+use Rattle.llrp_session.specs.ReaderMachine.{ReaderEvent}
+use Rattle.llrp_session.specs.Sightings.{tags_of, history, no_history}
+use Rattle.llrp_session.specs.ClientMachine.{Client, Pending, take, waits_for}
+use Rattle.llrp_session.specs.World.{WorldEvent}
+use Rattle.llrp_session.specs.Agreement.{and_then, IsTaken, as_list}
+use Rattle.llrp_session.specs.Reading.{request_of, heard_of}
+use Rattle.llrp_session.specs.MessageWorld.{MessageWorld, tags_in_messages, run_messages, message_opening, AreOfRoSpecs}
+
+-- what holds after every list of events, from two ends as new, if what a client adds is always a ROSpec
+abbrev pub AfterAllMessages : (MessageWorld → Type 0) → Type 0
+AfterAllMessages P = (limit reader_first client_first : ℕ) (events : List WorldEvent) → AreOfRoSpecs events → P (run_messages events (message_opening limit reader_first client_first))
+
+-- the client once it took these messages; none where it refuses one of them
+abbrev pub messages_taken_in : List MessageTree → Client → Option Client
+messages_taken_in [] c = Some c
+messages_taken_in (m ∷ ms) c = and_then (take c m.id (heard_of m)) (messages_taken_in ms)
+
+-- (a) taking in what is on the way down makes the client's view the reader's table of states
+abbrev pub ViewCatchesUp : MessageWorld → Type 0
+ViewCatchesUp w = (c : Client) × (messages_taken_in w.down w.client ≡ Some c) × (c.view ≡ states w.reader.table)
+
+-- with nothing on the way down they are equal
+abbrev pub ViewIsTable : MessageWorld → Type 0
+ViewIsTable w = w.down ≡ [] → w.client.view ≡ states w.reader.table
+
+-- (b) the reports handed out, followed by those on the way down, are the reports sent, in order, each once
+abbrev pub ReportsArrive : MessageWorld → Type 0
+ReportsArrive w = w.handed_out ++ tags_in_messages w.down ≡ w.reported
+
+-- with those held they are the reports of the sightings that counted and were not dropped
+abbrev pub ReportsAreKept : MessageWorld → Type 0
+ReportsAreKept w = (w.handed_out ++ tags_in_messages w.down) ++ w.reader.held ≡ w.kept
+
+-- these are the reports of `sightings_kept`: some history of a reader as new ends with this reader, sent these reports, and kept these
+pub record ReaderHasHistory (w : MessageWorld) : Type 0 where
+  pub limit : ℕ
+  pub first_id : ℕ
+  pub events : List (ℕ × ReaderEvent)
+  pub reader : (history events (no_history limit first_id)).reader ≡ w.reader
+  pub reported : tags_of (history events (no_history limit first_id)).sent ≡ w.reported
+  pub kept : (history events (no_history limit first_id)).kept ≡ w.kept
+
+-- (c) at most one ROSpec is active
+abbrev pub OneActive : MessageWorld → Type 0
+OneActive w = active_count w.reader.table ≤ 1
+
+-- each of these messages is taken, one after another
+abbrev pub MessagesAreTaken : List MessageTree → Client → Type 0
+MessagesAreTaken [] c = Unit {0}
+MessagesAreTaken (m ∷ ms) c = IsTaken (take c m.id (heard_of m)) (MessagesAreTaken ms)
+
+-- (d) the client never meets an unexpected message, nor one after its closing
+abbrev pub NothingIsUnexpected : MessageWorld → Type 0
+NothingIsUnexpected w = MessagesAreTaken w.down w.client
+
+-- ---- the pending request
+
+-- what waits for the response to a request under an id
+abbrev pub awaited_of : ℕ → Request → Option Pending
+awaited_of id (AddRoSpec rospec) = waits_for id Adding (rospec_of rospec).id
+awaited_of id (DeleteRoSpec n) = waits_for id Deleting n
+awaited_of id (StartRoSpec n) = waits_for id Starting n
+awaited_of id (StopRoSpec n) = waits_for id Stopping n
+awaited_of id (EnableRoSpec n) = waits_for id Enabling n
+awaited_of id (DisableRoSpec n) = waits_for id Disabling n
+awaited_of id (SetReaderConfig config) = waits_for id Configuring 0
+awaited_of id GetReports = None
+awaited_of id CloseConnection = waits_for id Closing 0
+awaited_of id NoRequest = None
+awaited_of id Unsupported = None
+
+-- the requests on the way up that wait for a response
+unfoldable pub requests_in : List MessageTree → List Pending
+requests_in [] = []
+requests_in (m ∷ ms) = as_list (awaited_of m.id (request_of m)) ++ requests_in ms
+
+abbrev pub hears_response : Heard → Bool
+hears_response (HeardResponse operation status) = true
+hears_response (HeardError status) = true
+hears_response _ = false
+
+-- the ids of the requests whose response is on the way down
+unfoldable pub responses_in : List MessageTree → List ℕ
+responses_in [] = []
+responses_in (m ∷ ms) = if hears_response (heard_of m) then m.id ∷ responses_in ms else responses_in ms
+
+abbrev pub IsOnTheWay : Option Pending → List MessageTree → List MessageTree → Type 0
+IsOnTheWay None up down = (requests_in up ≡ []) × (responses_in down ≡ [])
+IsOnTheWay (Some p) up down =
+    ((requests_in up ≡ p ∷ []) × (responses_in down ≡ [])) ⊎ ((requests_in up ≡ []) × (responses_in down ≡ p.id ∷ []))
+
+-- (e) the pending request stands on the way up, or its one response on the way down, never both; without one neither does any
+abbrev pub PendingIsOnTheWay : MessageWorld → Type 0
+PendingIsOnTheWay w = IsOnTheWay w.client.pending w.up w.down
+
+-- with nothing on the way nothing is pending
+abbrev pub NothingIsPending : MessageWorld → Type 0
+NothingIsPending w = w.up ≡ [] → w.down ≡ [] → w.client.pending ≡ None

@@ -1,0 +1,266 @@
+//! The simulated reader: it is handed what happens at a moment, and tells the messages that it sends.
+//!
+//! Moments are in microseconds. Everything that wants memory is made before anything changes.
+
+mod ending;
+pub(crate) mod events;
+mod requests;
+mod rospecs;
+mod sending;
+mod settings;
+mod sightings;
+mod status;
+pub(crate) mod table;
+#[cfg(test)]
+mod tests;
+mod time;
+
+ghost use Rattle.std.specs.Prelude.{◌≡◌, ◌≤◌, ◌<◌, OnOk, OnErr, IfErr, vec_len, vec_capacity};
+ghost use Rattle.llrp_tree.specs.declared.TheConstants.{MAX_LIMIT};
+ghost use Rattle.llrp_session.specs.Table.{state_of as the_state_of};
+ghost use Rattle.llrp_session.specs.ReaderMachine.{new_reader, next, happen as the_happening, connect as the_connect, begun, reply, fault_status as the_fault_status};
+ghost use Rattle.llrp_session.specs.Words.{Error};
+ghost use Rattle.llrp_session.specs.ReaderSteps.{event_of, Stands, Turns, IsFault};
+
+use crate::telling::reader as telling;
+use crate::words::{ContentSelector, Keepalive, ReaderPhase, ReportSpec, RoState};
+use events::{ReaderIn, StepFault, StepRefusal};
+use llrp_tree::{Message, Node, Reason};
+use sending::push_within;
+use status::fault_status;
+use std::alloc::{AllocError, Global};
+use std::marker::Model;
+use table::Entry;
+
+/// A reader that serves one client.
+#[derive(Drop)]
+pub struct Reader {
+    alloc: Global,
+    limit: u32,
+    phase: ReaderPhase,
+    table: Vec<Entry>,
+    held: Vec<Node>,
+    started: u64,
+    keepalive: Option<Keepalive>,
+    report: ReportSpec,
+    next_id: u32,
+    version: u8,
+}
+
+impl Model for Reader {
+    ghost use Rattle.std.specs.Coded.{codes};
+    ghost use Rattle.llrp_tree.specs.Stored.{tree_code};
+    ghost use Rattle.llrp_session.specs.ReaderMachine.{Reader as Machine};
+
+    ghost Value = { Machine };
+
+    ghost coded = { Prim.hlevel (codes, tree_code) };
+
+    ghost use Rattle.llrp_session.specs.ReaderParts.{IsKept};
+
+    ghost view = { λ a. record { limit = a.limit; phase = a.phase; table = a.table.items; held = a.held.items; started = a.started; keepalive = a.keepalive; report = a.report; next_id = a.next_id; version = a.version } };
+
+    ghost invariant = { λ a. IsKept a.version a.limit a.table.items a.held.items };
+}
+
+/// The ROReportSpec that is in force where none was set: trigger 2, N 0, AntennaID and PeakRSSI.
+const FACTORY_REPORT: ReportSpec = ReportSpec {
+    trigger: 2,
+    n: 0,
+    selector: ContentSelector {
+        rospec_id: false,
+        spec_index: false,
+        inventory_parameter_spec_id: false,
+        antenna_id: true,
+        channel_index: false,
+        peak_rssi: true,
+        first_seen: false,
+        last_seen: false,
+        tag_seen_count: false,
+    },
+};
+
+impl Reader {
+    /// A reader as new, for messages of at most `limit` octets, whose own message ids go upward from `first_id`. It takes no
+    /// memory.
+    pub fn new(alloc: Global, limit: u32, first_id: u32) -> Reader
+        requires least { 4096 ≤ limit }
+        requires greatest { limit ≤ MAX_LIMIT }
+        requires id { 1 ≤ first_id }
+        ensures { result ≡ new_reader limit first_id }
+    {
+        Reader {
+            alloc,
+            limit,
+            phase: ReaderPhase::Waiting,
+            table: Vec::new(alloc),
+            held: Vec::new(alloc),
+            started: 0,
+            keepalive: None,
+            report: FACTORY_REPORT,
+            next_id: first_id,
+            version: 1,
+        }
+    }
+
+    /// The state of a ROSpec; `None` if there is none of this ROSpecID.
+    pub fn state_of(&self, id: u32) -> Option<RoState>
+        ensures { result ≡ the_state_of id self.now.table }
+    {
+        table::state_of(self.table.as_slice(), id)
+    }
+
+    /// The greatest length of a message, in octets.
+    pub fn limit(&self) -> u32
+        ensures { result ≡ self.now.limit }
+    {
+        self.limit
+    }
+
+    /// What an event does at the moment `now`, in microseconds: the messages that the reader sends, three at most, are
+    /// appended to `out`. A refused step changes nothing and hands the event back: `Closed` once the connection was closed,
+    /// `NotConnected` for all but a connect before it, `AlreadyUp` for a second connect, else `Memory`.
+    #[tactic(auto, unfolding(crate::specs::ReaderMachine::next))]
+    pub fn step(
+        &mut self,
+        now: u64,
+        event: ReaderIn,
+        out: &mut Vec<Message>,
+    ) -> Result<(), StepRefusal>
+        ensures ok { OnOk result (Turns (next now (event_of event) self.old) out.old.items out.new.items self.new) }
+        ensures fault { IfErr result (λ refusal. IsFault (next now (event_of event) self.old) refusal.fault) }
+        ensures handed_back { IfErr result (λ refusal. refusal.event ≡ event) }
+        ensures reader_unchanged { OnErr result (self.new ≡ self.old) }
+        ensures out_unchanged { OnErr result (out.new.items ≡ out.old.items) }
+    {
+        match self.phase() {
+            ReaderPhase::Down => Err(StepRefusal {
+                fault: StepFault::Closed,
+                event,
+            }),
+            ReaderPhase::Waiting => self.step_waiting(now, event, out),
+            ReaderPhase::Up => self.step_up(now, event, out),
+        }
+    }
+
+    /// A step before the connection.
+    #[tactic(auto, unfolding(crate::specs::ReaderMachine::next))]
+    fn step_waiting(
+        &mut self,
+        now: u64,
+        event: ReaderIn,
+        out: &mut Vec<Message>,
+    ) -> Result<(), StepRefusal>
+        requires { self.old.phase ≡ ReaderPhase.Waiting }
+        ensures ok { OnOk result (Turns (next now (event_of event) self.old) out.old.items out.new.items self.new) }
+        ensures fault { IfErr result (λ refusal. IsFault (next now (event_of event) self.old) refusal.fault) }
+        ensures handed_back { IfErr result (λ refusal. refusal.event ≡ event) }
+        ensures reader_unchanged { OnErr result (self.new ≡ self.old) }
+        ensures out_unchanged { OnErr result (out.new.items ≡ out.old.items) }
+    {
+        match event {
+            ReaderIn::Connect => match self.connect(now, out) {
+                Ok(()) => Ok(()),
+                Err(_) => Err(StepRefusal {
+                    fault: StepFault::Memory,
+                    event: ReaderIn::Connect,
+                }),
+            },
+            event => Err(StepRefusal {
+                fault: StepFault::NotConnected,
+                event,
+            }),
+        }
+    }
+
+    /// A step while a client is connected.
+    #[tactic(auto, unfolding(crate::specs::ReaderMachine::next))]
+    fn step_up(
+        &mut self,
+        now: u64,
+        event: ReaderIn,
+        out: &mut Vec<Message>,
+    ) -> Result<(), StepRefusal>
+        requires { self.old.phase ≡ ReaderPhase.Up }
+        ensures ok { OnOk result (Turns (next now (event_of event) self.old) out.old.items out.new.items self.new) }
+        ensures fault { IfErr result (λ refusal. IsFault (next now (event_of event) self.old) refusal.fault) }
+        ensures handed_back { IfErr result (λ refusal. refusal.event ≡ event) }
+        ensures reader_unchanged { OnErr result (self.new ≡ self.old) }
+        ensures out_unchanged { OnErr result (out.new.items ≡ out.old.items) }
+    {
+        if let ReaderIn::Connect = &event {
+            return Err(StepRefusal {
+                fault: StepFault::AlreadyUp,
+                event,
+            });
+        }
+        match self.happen(now, event, out) {
+            Ok(()) => Ok(()),
+            Err(event) => Err(StepRefusal {
+                fault: StepFault::Memory,
+                event,
+            }),
+        }
+    }
+
+    /// A client connects.
+    fn connect(&mut self, now: u64, out: &mut Vec<Message>) -> Result<(), AllocError>
+        ensures ok { OnOk result (Stands out.old.items (the_connect now self.old) out.new.items self.new) }
+        ensures reader_unchanged { OnErr result (self.new ≡ self.old) }
+        ensures out_unchanged { OnErr result (out.new.items ≡ out.old.items) }
+    {
+        out.reserve(1)?;
+        let event = telling::accepted(self.alloc, self.version, self.next_id, now)?;
+        self.phase = ReaderPhase::Up;
+        self.tell(event, out);
+        Ok(())
+    }
+
+    /// What an event does while a client is connected; where memory runs out it is handed back.
+    fn happen(&mut self, now: u64, event: ReaderIn, out: &mut Vec<Message>) -> Result<(), ReaderIn>
+        ensures ok { OnOk result (Stands out.old.items (the_happening now (event_of event) self.old) out.new.items self.new) }
+        ensures handed_back { IfErr result (λ e. e ≡ event) }
+        ensures reader_unchanged { OnErr result (self.new ≡ self.old) }
+        ensures out_unchanged { OnErr result (out.new.items ≡ out.old.items) }
+    {
+        if out.reserve(3).is_err() {
+            return Err(event);
+        }
+        match event {
+            ReaderIn::Connect => Ok(()),
+            ReaderIn::Take(message) => match self.take(now, message, out) {
+                Ok(()) => Ok(()),
+                Err(message) => Err(ReaderIn::Take(message)),
+            },
+            ReaderIn::TakeBad { id, reason } => match self.take_bad(id, reason, out) {
+                Ok(()) => Ok(()),
+                Err(_) => Err(ReaderIn::TakeBad { id, reason }),
+            },
+            ReaderIn::Seen(sighting) => match self.seen(now, &sighting, out) {
+                Ok(()) => Ok(()),
+                Err(_) => Err(ReaderIn::Seen(sighting)),
+            },
+            ReaderIn::Tick => match self.tick(now, out) {
+                Ok(()) => Ok(()),
+                Err(_) => Err(ReaderIn::Tick),
+            },
+        }
+    }
+
+    /// A frame that is no message.
+    fn take_bad(
+        &mut self,
+        id: u32,
+        reason: Reason,
+        out: &mut Vec<Message>,
+    ) -> Result<(), AllocError>
+        requires { vec_len out.old < vec_capacity out.old }
+        ensures ok { OnOk result (Stands out.old.items (reply self.old.version id (Error (the_fault_status reason)) (begun self.old)) out.new.items self.new) }
+        ensures reader_unchanged { OnErr result (self.new ≡ self.old) }
+        ensures out_unchanged { OnErr result (out.new.items ≡ out.old.items) }
+    {
+        let message = telling::error(self.alloc, self.version, id, fault_status(reason))?;
+        push_within(out, message);
+        Ok(())
+    }
+}

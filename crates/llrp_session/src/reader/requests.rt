@@ -1,0 +1,170 @@
+//! What a reader does for the requests of its client.
+
+ghost use Rattle.std.specs.Prelude.{◌≡◌, ◌≤◌, ◌+◌, ◌⊎◌, Option, OnOk, OnErr, IfErr, vec_len, vec_capacity};
+ghost use Rattle.llrp_session.specs.RoSpec.{RoSpec as TheRoSpec};
+ghost use Rattle.llrp_session.specs.Words as words;
+ghost use Rattle.llrp_session.specs.Words.{Response, Error};
+ghost use Rattle.llrp_session.specs.Reading.{request_of as the_request};
+ghost use Rattle.llrp_session.specs.ReadWords.{IsRequest};
+ghost use Rattle.llrp_session.specs.ReaderMachine as machine;
+ghost use Rattle.llrp_session.specs.ReaderMachine.{reply};
+ghost use Rattle.llrp_session.specs.ReaderParts.{IsEndingOf, IsOther, end_of, taken};
+ghost use Rattle.llrp_session.specs.ReaderSteps.{Stands};
+
+use super::Reader;
+use super::ending::Ending;
+use super::sending::push_within;
+use super::status::{SUCCESS, UNSUPPORTED_MESSAGE};
+use crate::reading::request::request_of;
+use crate::reading::words::Request;
+use crate::telling::reader as telling;
+use crate::words::{Operation, ReaderPhase};
+use llrp_tree::Message;
+use std::alloc::AllocError;
+
+/// When a request is taken, and its message's version and id.
+#[derive(Clone, Copy)]
+pub(crate) struct Head {
+    /// In microseconds.
+    pub moment: u64,
+    pub version: u8,
+    pub id: u32,
+}
+
+impl Reader {
+    /// A response with a status, and nothing else.
+    pub(crate) fn respond(
+        &mut self,
+        head: Head,
+        operation: Operation,
+        status: u16,
+        out: &mut Vec<Message>,
+    ) -> Result<(), AllocError>
+        requires version { (head.version ≡ 1) ⊎ (head.version ≡ 2) }
+        requires room { vec_len out.old + 3 ≤ vec_capacity out.old }
+        ensures ok { OnOk result (Stands out.old.items (reply head.version head.id (Response operation status) (taken head.version self.old)) out.new.items self.new) }
+        ensures len { OnOk result (vec_len out.new ≡ vec_len out.old + 1) }
+        ensures capacity { vec_capacity out.old ≤ vec_capacity out.new }
+        ensures reader_unchanged { OnErr result (self.new ≡ self.old) }
+        ensures out_unchanged { OnErr result (out.new.items ≡ out.old.items) }
+    {
+        let message = telling::response(self.alloc(), head.version, head.id, operation, status)?;
+        self.take_version(head.version);
+        push_within(out, message);
+        Ok(())
+    }
+
+    /// A ROSpec ends, if there is one, and then the response goes out: all is well.
+    pub(crate) fn end_and_respond(
+        &mut self,
+        head: Head,
+        operation: Operation,
+        ending: Option<Ending>,
+        out: &mut Vec<Message>,
+    ) -> Result<(), AllocError>
+        requires version { (head.version ≡ 1) ⊎ (head.version ≡ 2) }
+        requires room { vec_len out.old + 3 ≤ vec_capacity out.old }
+        ensures ok { (o : Option TheRoSpec) → IsEndingOf head.moment o (record self.old { version = head.version }) ending → OnOk result (Stands out.old.items (reply head.version head.id (Response operation machine.success) (end_of head.moment o (taken head.version self.old))) out.new.items self.new) }
+        ensures reader_unchanged { OnErr result (self.new ≡ self.old) }
+        ensures out_unchanged { OnErr result (out.new.items ≡ out.old.items) }
+    {
+        let answer = telling::response(self.alloc(), head.version, head.id, operation, SUCCESS)?;
+        self.take_version(head.version);
+        self.end_maybe(ending, out);
+        push_within(out, answer);
+        Ok(())
+    }
+
+    /// CLOSE_CONNECTION: the table stays, and no end is told.
+    fn close(&mut self, head: Head, out: &mut Vec<Message>) -> Result<(), AllocError>
+        requires version { (head.version ≡ 1) ⊎ (head.version ≡ 2) }
+        requires room { vec_len out.old + 3 ≤ vec_capacity out.old }
+        ensures ok { OnOk result (Stands out.old.items (machine.close_connection head.version head.id (taken head.version self.old)) out.new.items self.new) }
+        ensures reader_unchanged { OnErr result (self.new ≡ self.old) }
+        ensures out_unchanged { OnErr result (out.new.items ≡ out.old.items) }
+    {
+        self.respond(head, Operation::Closing, SUCCESS, out)?;
+        self.phase = ReaderPhase::Down;
+        Ok(())
+    }
+
+    /// A request that is not supported.
+    fn refuse(&mut self, head: Head, out: &mut Vec<Message>) -> Result<(), AllocError>
+        requires version { (head.version ≡ 1) ⊎ (head.version ≡ 2) }
+        requires room { vec_len out.old + 3 ≤ vec_capacity out.old }
+        ensures ok { OnOk result (Stands out.old.items (reply head.version head.id (Error machine.unsupported_message) (taken head.version self.old)) out.new.items self.new) }
+        ensures reader_unchanged { OnErr result (self.new ≡ self.old) }
+        ensures out_unchanged { OnErr result (out.new.items ≡ out.old.items) }
+    {
+        let message = telling::error(self.alloc(), head.version, head.id, UNSUPPORTED_MESSAGE)?;
+        self.take_version(head.version);
+        push_within(out, message);
+        Ok(())
+    }
+
+    /// A request other than ADD_ROSPEC.
+    #[tactic(auto, unfolding(crate::specs::ReaderMachine::serve))]
+    fn serve(
+        &mut self,
+        head: Head,
+        request: Request,
+        out: &mut Vec<Message>,
+    ) -> Result<(), AllocError>
+        requires version { (head.version ≡ 1) ⊎ (head.version ≡ 2) }
+        requires room { vec_len out.old + 3 ≤ vec_capacity out.old }
+        requires other { IsOther request }
+        ensures ok { (q : words.Request) → IsRequest request q → OnOk result (Stands out.old.items (machine.serve head.moment head.version head.id q (taken head.version self.old)) out.new.items self.new) }
+        ensures reader_unchanged { OnErr result (self.new ≡ self.old) }
+        ensures out_unchanged { OnErr result (out.new.items ≡ out.old.items) }
+    {
+        match request {
+            Request::AddRoSpec(_) => unreachable!(),
+            Request::DeleteRoSpec(n) => self.delete(head, n, out),
+            Request::StartRoSpec(n) => self.start_rospec(head, n, out),
+            Request::StopRoSpec(n) => self.stop(head, n, out),
+            Request::EnableRoSpec(n) => self.enable(head, n, out),
+            Request::DisableRoSpec(n) => self.disable(head, n, out),
+            Request::SetReaderConfig(config) => self.configure(head, config, out),
+            Request::GetReports => {
+                self.take_version(head.version);
+                self.send_held(out);
+                Ok(())
+            }
+            Request::CloseConnection => self.close(head, out),
+            Request::NoRequest => {
+                self.take_version(head.version);
+                Ok(())
+            }
+            Request::Unsupported => self.refuse(head, out),
+        }
+    }
+
+    /// A message is taken; it is handed back where memory runs out.
+    #[tactic(auto, unfolding(crate::specs::ReaderMachine::serve))]
+    pub(crate) fn take(
+        &mut self,
+        now: u64,
+        message: Message,
+        out: &mut Vec<Message>,
+    ) -> Result<(), Message>
+        requires { vec_len out.old + 3 ≤ vec_capacity out.old }
+        ensures ok { OnOk result (Stands out.old.items (machine.serve now message.version message.id (the_request message) (taken message.version self.old)) out.new.items self.new) }
+        ensures handed_back { IfErr result (λ m. m ≡ message) }
+        ensures reader_unchanged { OnErr result (self.new ≡ self.old) }
+        ensures out_unchanged { OnErr result (out.new.items ≡ out.old.items) }
+    {
+        message.lawful();
+        let head = Head {
+            moment: now,
+            version: message.version(),
+            id: message.id(),
+        };
+        match request_of(&message) {
+            Request::AddRoSpec(settings) => self.add(head, message, &settings, out),
+            request => match self.serve(head, request, out) {
+                Ok(()) => Ok(()),
+                Err(_) => Err(message),
+            },
+        }
+    }
+}

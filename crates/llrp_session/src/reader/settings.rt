@@ -1,0 +1,101 @@
+//! What a reader does for SET_READER_CONFIG.
+
+ghost use Rattle.std.specs.Prelude.{◌≡◌, ◌≤◌, ◌+◌, ◌⊎◌, OnOk, OnErr, vec_len, vec_capacity};
+ghost use Rattle.llrp_session.specs.ReadWords.{keepalive_by, config_by};
+ghost use Rattle.llrp_session.specs.ReaderMachine as machine;
+ghost use Rattle.llrp_session.specs.ReaderParts.{taken};
+ghost use Rattle.llrp_session.specs.ReaderSteps.{Stands};
+
+use super::requests::Head;
+use super::status::{FIELD_ERROR, SUCCESS};
+use super::time::keepalive_from;
+use super::{FACTORY_REPORT, Reader};
+use crate::reading::words::{Config, KeepaliveSpec};
+use crate::words::{Operation, ReportSpec};
+use llrp_tree::Message;
+use std::alloc::AllocError;
+
+/// No such ROReportTrigger: it is above 2.
+pub(crate) fn is_bad_report(report: Option<ReportSpec>) -> bool
+    ensures { result ≡ machine.is_bad_report report }
+{
+    match report {
+        Some(report) => report.trigger > 2,
+        None => false,
+    }
+}
+
+/// A period of 0.
+fn is_bad_keepalive(config: Config) -> bool
+    ensures { result ≡ machine.is_bad_keepalive (config_by config).keepalive }
+{
+    match config.keepalive {
+        Some(spec) => spec.trigger == 1 && spec.period == 0,
+        None => false,
+    }
+}
+
+impl Reader {
+    /// No keepalive, and the factory default.
+    fn reset_if(&mut self, chosen: bool)
+        ensures { self.new ≡ machine.reset_if chosen self.old }
+    {
+        if chosen {
+            self.keepalive = None;
+            self.report = FACTORY_REPORT;
+        }
+    }
+
+    /// A KeepaliveSpec is taken over.
+    fn set_keepalive(&mut self, now: u64, spec: Option<KeepaliveSpec>)
+        ensures { self.new ≡ machine.set_keepalive now (keepalive_by spec) self.old }
+    {
+        if let Some(spec) = spec {
+            self.keepalive = if spec.trigger == 0 {
+                None
+            } else {
+                Some(keepalive_from(now, spec.period))
+            };
+        }
+    }
+
+    /// A ROReportSpec is taken over.
+    fn set_report(&mut self, report: Option<ReportSpec>)
+        ensures { self.new ≡ machine.set_report report self.old }
+    {
+        if let Some(report) = report {
+            self.report = report;
+        }
+    }
+
+    /// Settings are taken over.
+    #[tactic(auto, unfolding(crate::specs::ReaderMachine::configured))]
+    fn set_config(&mut self, now: u64, config: Config)
+        ensures { self.new ≡ machine.configured now (config_by config) self.old }
+    {
+        self.reset_if(config.reset);
+        self.set_keepalive(now, config.keepalive);
+        self.set_report(config.report);
+    }
+
+    /// SET_READER_CONFIG: the table stays.
+    pub(crate) fn configure(
+        &mut self,
+        head: Head,
+        config: Config,
+        out: &mut Vec<Message>,
+    ) -> Result<(), AllocError>
+        requires version { (head.version ≡ 1) ⊎ (head.version ≡ 2) }
+        requires room { vec_len out.old + 3 ≤ vec_capacity out.old }
+        ensures ok { OnOk result (Stands out.old.items (machine.set_reader_config head.moment head.version head.id (config_by config) (taken head.version self.old)) out.new.items self.new) }
+        ensures reader_unchanged { OnErr result (self.new ≡ self.old) }
+        ensures out_unchanged { OnErr result (out.new.items ≡ out.old.items) }
+    {
+        if is_bad_report(config.report) || is_bad_keepalive(config) {
+            return self.respond(head, Operation::Configuring, FIELD_ERROR, out);
+        }
+        self.respond(head, Operation::Configuring, SUCCESS, out)?;
+        self.set_config(head.moment, config);
+        Ok(())
+    }
+}
