@@ -149,7 +149,7 @@ due_at entries taken i e within is above so = record {
   count_is = omega (arith, length-take i entries);
   due_are = so;
   later_begin = λ (a : Entry) (es : List Entry) (p : drop i entries ≡ a ∷ es).
-    let here : drop i entries ≡ get_or entries i e ∷ drop (suc i) entries = drop-cons entries i e within in
-    let same : a ≡ e = cc in
-    rw same above;
+      let here : drop i entries ≡ get_or entries i e ∷ drop (suc i) entries = drop-cons entries i e within in
+      let same : a ≡ e = cc in
+      rw same above;
 }

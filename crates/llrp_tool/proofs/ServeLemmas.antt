@@ -159,22 +159,27 @@ given_piece reader entries r0 r1 r2 w0 w1 n s new old out answer p = let few = p
 
 pub piece_unwritten : (reader : Reader) (entries : List Entry) (r0 r1 r2 : SourceLog) (w0 w1 w2 : SinkLog) (n : ℕ) (s new : Serving) (old out : List ℕ) (answer : Result Bool ToolErr) (error : ToolErr) → Piece reader entries r0 r1 r2 w0 w1 n s new old out answer
     → Writes out w1 w2 (Err error) → (bytes : List ℕ) × RunsServe reader entries r0 r2 w0 w2 bytes (Err error)
-piece_unwritten reader entries r0 r1 r2 w0 w1 w2 n s new old out answer error p w =
-    (p.before.bytes ++ p.bytes, write_fails reader entries r0 r2 w0 w1 w2 (p.before.bytes ++ p.bytes) p.before.text out error
-      (given_piece reader entries r0 r1 r2 w0 w1 n s new old out answer p) (begins_piece reader entries r0 r1 r2 w0 w1 n s new old out answer p) p.before.wrote w)
+piece_unwritten reader entries r0 r1 r2 w0 w1 w2 n s new old out answer error p w = (
+  p.before.bytes ++ p.bytes,
+  write_fails reader entries r0 r2 w0 w1 w2 (p.before.bytes ++ p.bytes) p.before.text out error
+      (given_piece reader entries r0 r1 r2 w0 w1 n s new old out answer p) (begins_piece reader entries r0 r1 r2 w0 w1 n s new old out answer p) p.before.wrote w,
+)
 
 pub piece_failed : (reader : Reader) (entries : List Entry) (r0 r1 r2 : SourceLog) (w0 w1 w2 : SinkLog) (n : ℕ) (s new : Serving) (old out : List ℕ) (error : ToolErr) → Piece reader entries r0 r1 r2 w0 w1 n s new old out (Err error)
     → Wrote w1 w2 out → (bytes : List ℕ) × RunsServe reader entries r0 r2 w0 w2 bytes (Err error)
 piece_failed reader entries r0 r1 r2 w0 w1 w2 n s new old out error p w = (p.before.bytes ++ p.bytes, by_error error p)
   where
     by_error : (error : ToolErr) (p : Piece reader entries r0 r1 r2 w0 w1 n s new old out (Err error)) → RunsServe reader entries r0 r2 w0 w2 (p.before.bytes ++ p.bytes) (Err error)
-    by_error Broken p = (given_piece reader entries r0 r1 r2 w0 w1 n s new old out (Err Broken) p, record {
-      messages = p.before.messages ++ p.feeds.0;
-      text = p.before.text ++ out;
-      serves = p.feeds.2;
-      frames = all_frames reader entries r0 r1 r2 w0 w1 n s new old out (Err Broken) p;
-      wrote = wrote_more w0 w1 w2 p.before.text out p.before.wrote w;
-    })
+    by_error Broken p = (
+      given_piece reader entries r0 r1 r2 w0 w1 n s new old out (Err Broken) p,
+      record {
+        messages = p.before.messages ++ p.feeds.0;
+        text = p.before.text ++ out;
+        serves = p.feeds.2;
+        frames = all_frames reader entries r0 r1 r2 w0 w1 n s new old out (Err Broken) p;
+        wrote = wrote_more w0 w1 w2 p.before.text out p.before.wrote w;
+      },
+    )
     by_error Memory p = (given_piece reader entries r0 r1 r2 w0 w1 n s new old out (Err Memory) p, p.before.text ++ out, begins_piece reader entries r0 r1 r2 w0 w1 n s new old out (Err Memory) p, wrote_more w0 w1 w2 p.before.text out p.before.wrote w)
     by_error (Listing line reason) p = absurd p.feeds.2
     by_error (Script line) p = absurd p.feeds.2
@@ -187,14 +192,19 @@ piece_failed reader entries r0 r1 r2 w0 w1 w2 n s new old out error p w = (p.bef
 pub piece_closed : (reader : Reader) (entries : List Entry) (r0 r1 r2 : SourceLog) (w0 w1 w2 : SinkLog) (n : ℕ) (s new : Serving) (old out : List ℕ) (answer : Bool) (u : Unit {0}) → Piece reader entries r0 r1 r2 w0 w1 n s new old out (Ok answer) → answer ≡ true
     → Wrote w1 w2 out → (bytes : List ℕ) × RunsServe reader entries r0 r2 w0 w2 bytes (Ok u)
 piece_closed reader entries r0 r1 r2 w0 w1 w2 n s new old out false u p is w = absurd cc
-piece_closed reader entries r0 r1 r2 w0 w1 w2 n s new old out true u p is w =
-    (p.before.bytes ++ p.bytes, inl (given_piece reader entries r0 r1 r2 w0 w1 n s new old out (Ok true) p, record {
+piece_closed reader entries r0 r1 r2 w0 w1 w2 n s new old out true u p is w = (
+  p.before.bytes ++ p.bytes,
+  inl (
+    given_piece reader entries r0 r1 r2 w0 w1 n s new old out (Ok true) p,
+    record {
       messages = p.before.messages ++ p.feeds.0;
       text = p.before.text ++ out;
       serves = p.feeds.2;
       frames = all_frames reader entries r0 r1 r2 w0 w1 n s new old out (Ok true) p;
       wrote = wrote_more w0 w1 w2 p.before.text out p.before.wrote w;
-    }))
+    },
+  ),
+)
 
 pub piece_open : (reader : Reader) (entries : List Entry) (r0 r1 r2 : SourceLog) (w0 w1 w2 : SinkLog) (n : ℕ) (s new : Serving) (old out left : List ℕ) (answer : Bool) → Piece reader entries r0 r1 r2 w0 w1 n s new old out (Ok answer) → answer ≡ false
     → Wrote w1 w2 out → left ≡ [] → SoFar reader entries r0 r2 w0 w2 (n + 1) new left

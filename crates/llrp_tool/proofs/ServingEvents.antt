@@ -75,7 +75,7 @@ events-snoc entries items item =
     events_from-snoc 0 entries items item ∙ ap (λ (n : ℕ). events_from 0 entries items ++ last n) (zero_more (length items)) in
     ap (λ (hs : List Happening). record { now = 0; event = Connect } ∷ (first ++ hs)) step
     ∙ ap (λ (hs : List Happening). record { now = 0; event = Connect } ∷ hs)
-        (sym (append_assoc first (events_from 0 entries items) (taken ∷ due)) ∙ sym (append_assoc (first ++ events_from 0 entries items) (taken ∷ []) due))
+    (sym (append_assoc first (events_from 0 entries items) (taken ∷ due)) ∙ sym (append_assoc (first ++ events_from 0 entries items) (taken ∷ []) due))
 
 pub events-none : (entries : List Entry) → events entries [] ≡ (record { now = 0; event = Connect } ∷ []) ++ map happening (entries_at 0 entries)
 unfolding events

@@ -44,10 +44,12 @@ Taken reader entries bytes messages piece new out0 out1 answer = (more : List Me
 pub taken_behind : (reader : Reader) (entries : List Entry) (bytes : List ℕ) (messages : List MessageTree) (piece rest out0 out1 out2 : List ℕ) (s new : Serving) (answer : Result Bool ToolErr) (f : SoFar reader entries bytes messages piece rest out0 out1 s)
     → Taken reader entries (bytes ++ f.done) (messages ++ f.more) rest new out1 out2 answer → Taken reader entries bytes messages piece new out0 out2 answer
 taken_behind reader entries bytes messages piece rest out0 out1 out2 s new answer f t =
-    let whole : (bytes ++ f.done) ++ rest ≡ bytes ++ piece = append_assoc bytes f.done rest ∙ ap (λ (x : List ℕ). bytes ++ x) (sym f.parts) in
-    (f.more ++ t.0, adds_more f.more t.0 out0 out1 out2 f.adds t.1,
+    let whole : (bytes ++ f.done) ++ rest ≡ bytes ++ piece = append_assoc bytes f.done rest ∙ ap (λ (x : List ℕ). bytes ++ x) (sym f.parts) in (
+      f.more ++ t.0,
+      adds_more f.more t.0 out0 out1 out2 f.adds t.1,
       subst (λ (x : List ℕ). Goes reader entries x (messages ++ (f.more ++ t.0)) new answer) whole
-      (subst (λ (x : List MessageTree). Goes reader entries ((bytes ++ f.done) ++ rest) x new answer) (append_assoc messages f.more t.0) t.2))
+          (subst (λ (x : List MessageTree). Goes reader entries ((bytes ++ f.done) ++ rest) x new answer) (append_assoc messages f.more t.0) t.2),
+    )
 
 -- ---- the decoder fails
 
@@ -69,13 +71,16 @@ failed reader entries bytes messages s new d piece out error answer h feeds is =
 pub went_on : (reader : Reader) (entries : List Entry) (bytes : List ℕ) (messages : List MessageTree) (s new : Serving) (piece out : List ℕ) (used : ℕ) → StandsFor reader entries bytes messages s
     → ((front : List ℕ) → Stands s.decoder front → Takes s.decoder.limit front piece new.decoder used None) → new.decoder.limit ≡ s.decoder.limit → new.reader ≡ s.reader → Taken reader entries bytes messages piece new out out (Ok false)
 went_on reader entries bytes messages s new piece out used h feeds limit same =
-    let t = feeds h.stays.rest h.decoder in
-    ([], adds_none out, rw append-nil record {
-      stays = record { items = h.stays.items; rest = h.stays.rest ++ piece; are = (items_grow reader.limit).by_bytes bytes h.stays.items h.stays.rest piece h.stays.are; none_closes = h.stays.none_closes; messages_are = h.stays.messages_are; stands = t.1.unfinished };
-      taken = rw same h.taken;
-      decoder = t.1;
-      limit = limit ∙ h.limit;
-    })
+    let t = feeds h.stays.rest h.decoder in (
+      [],
+      adds_none out,
+      rw append-nil record {
+        stays = record { items = h.stays.items; rest = h.stays.rest ++ piece; are = (items_grow reader.limit).by_bytes bytes h.stays.items h.stays.rest piece h.stays.are; none_closes = h.stays.none_closes; messages_are = h.stays.messages_are; stands = t.1.unfinished };
+        taken = rw same h.taken;
+        decoder = t.1;
+        limit = limit ∙ h.limit;
+      },
+    )
 
 -- ---- a frame ends
 
@@ -117,28 +122,34 @@ takes_in reader entries bytes messages s d piece used item h g = subst (λ (n : 
 pub took_closing : (reader : Reader) (entries : List Entry) (bytes : List ℕ) (messages : List MessageTree) (s new : Serving) (d : DecoderState) (piece out0 out1 : List ℕ) (used : ℕ) (item : Item) → StandsFor reader entries bytes messages s → GaveItem s.decoder d piece used item
     → TakesIt s.reader item new.reader out0 out1 (Ok true) → Taken reader entries bytes messages piece new out0 out1 (Ok true)
 took_closing reader entries bytes messages s new d piece out0 out1 used item h g takes =
-    let t = takes reader entries h.stays.items h.taken in
-    (t.1, t.2, record {
-      items = h.stays.items;
-      last = item;
-      rest = drop used piece;
-      are = more_items_behind reader.limit bytes h.stays.items h.stays.rest piece used item d h.stays.are (takes_in reader entries bytes messages s d piece used item h g);
-      none_closes = h.stays.none_closes;
-      closes = t.0;
-      messages_are = ap (λ (x : List MessageTree). x ++ t.1) h.stays.messages_are ∙ sym t.3;
-    })
+    let t = takes reader entries h.stays.items h.taken in (
+      t.1,
+      t.2,
+      record {
+        items = h.stays.items;
+        last = item;
+        rest = drop used piece;
+        are = more_items_behind reader.limit bytes h.stays.items h.stays.rest piece used item d h.stays.are (takes_in reader entries bytes messages s d piece used item h g);
+        none_closes = h.stays.none_closes;
+        closes = t.0;
+        messages_are = ap (λ (x : List MessageTree). x ++ t.1) h.stays.messages_are ∙ sym t.3;
+      },
+    )
 
 pub took_in_part : (reader : Reader) (entries : List Entry) (bytes : List ℕ) (messages : List MessageTree) (s new : Serving) (d : DecoderState) (piece out0 out1 : List ℕ) (used : ℕ) (item : Item) (error : ToolErr) → StandsFor reader entries bytes messages s → GaveItem s.decoder d piece used item
     → TakesIt s.reader item new.reader out0 out1 (Err error) → Taken reader entries bytes messages piece new out0 out1 (Err error)
 took_in_part reader entries bytes messages s new d piece out0 out1 used item error h g takes =
-    let t = takes reader entries h.stays.items h.taken in
-    (t.1, t.3, rw t.0 record {
-      items = h.stays.items ++ item ∷ [];
-      rest = drop used piece;
-      later = t.2;
-      are = more_items_behind reader.limit bytes h.stays.items h.stays.rest piece used item d h.stays.are (takes_in reader entries bytes messages s d piece used item h g);
-      messages_are = t.4 ∙ ap (λ (x : List MessageTree). (x ++ t.1) ++ t.2) (sym h.stays.messages_are);
-    })
+    let t = takes reader entries h.stays.items h.taken in (
+      t.1,
+      t.3,
+      rw t.0 record {
+        items = h.stays.items ++ item ∷ [];
+        rest = drop used piece;
+        later = t.2;
+        are = more_items_behind reader.limit bytes h.stays.items h.stays.rest piece used item d h.stays.are (takes_in reader entries bytes messages s d piece used item h g);
+        messages_are = t.4 ∙ ap (λ (x : List MessageTree). (x ++ t.1) ++ t.2) (sym h.stays.messages_are);
+      },
+    )
 
 pub so_far_more : (reader : Reader) (entries : List Entry) (bytes : List ℕ) (messages : List MessageTree) (s new : Serving) (d : DecoderState) (piece rest rest2 old out0 out1 : List ℕ) (used : ℕ) (item : Item) → SoFar reader entries bytes messages piece rest old out0 s → GaveItem s.decoder d rest used item
     → TakesIt s.reader item new.reader out0 out1 (Ok false) → new.decoder ≡ d → rest2 ≡ drop used rest
@@ -180,16 +191,19 @@ all_taken reader entries bytes messages piece rest old new s f empty =
 -- ---- the start
 
 pub started : (reader : Reader) (entries : List Entry) (s new : Serving) (out0 out1 : List ℕ) → IsFresh reader entries s → Connects reader entries new.reader out0 out1 → new.decoder ≡ s.decoder → new.phase ≡ Open → Starts reader entries new out0 out1 (Ok tt)
-started reader entries s new out0 out1 f c same phase =
-    (said (run reader (events entries [])), c.adds, record {
-      stands = record {
-        stays = record { items = []; rest = []; are = (items_grow reader.limit).none; none_closes = tt; messages_are = refl; stands = inl (omega arith) };
-        taken = c.taken;
-        decoder = rw same f.decoder;
-        limit = rw same f.limit;
-      };
-      phase = phase;
-    })
+started reader entries s new out0 out1 f c same phase = (
+  said (run reader (events entries [])),
+  c.adds,
+  record {
+    stands = record {
+      stays = record { items = []; rest = []; are = (items_grow reader.limit).none; none_closes = tt; messages_are = refl; stands = inl (omega arith) };
+      taken = c.taken;
+      decoder = rw same f.decoder;
+      limit = rw same f.limit;
+    };
+    phase = phase;
+  },
+)
 
 pub not_started : (reader : Reader) (entries : List Entry) (new : Serving) (error : ToolErr) (out0 out1 : List ℕ) → DidSome reader (events entries []) error out0 out1 → HasFailed error new → Starts reader entries new out0 out1 (Err error)
 not_started reader entries new error out0 out1 d failed =

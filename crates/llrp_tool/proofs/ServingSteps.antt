@@ -130,9 +130,12 @@ pub closes : (reader : Reader) (entries : List Entry) (items : List Item) (item 
     → Did s.core (record { now = s.moment; event = event } ∷ []) after x y → Closes item → TakesItem reader entries items item new x y (Ok true)
 closes reader entries items item s new event after x y h by did c =
     let h0 = taken_at entries items item in
-    let here : Did s.core (h0 ∷ []) after x y = subst (λ (a : Happening). Did s.core (a ∷ []) after x y) (same_event reader entries items item s event h by) did in
-    (c, said (run s.core (h0 ∷ [])), here.adds,
-      ap (λ (hs : List Happening). said (run reader hs)) (closing entries items item) ∙ said-append reader (events entries items) (h0 ∷ []) ∙ ap (λ (r : Reader). said (run reader (events entries items)) ++ said (run r (h0 ∷ []))) (sym h.reader_is))
+    let here : Did s.core (h0 ∷ []) after x y = subst (λ (a : Happening). Did s.core (a ∷ []) after x y) (same_event reader entries items item s event h by) did in (
+      c,
+      said (run s.core (h0 ∷ [])),
+      here.adds,
+      ap (λ (hs : List Happening). said (run reader hs)) (closing entries items item) ∙ said-append reader (events entries items) (h0 ∷ []) ∙ ap (λ (r : Reader). said (run reader (events entries items)) ++ said (run r (h0 ∷ []))) (sym h.reader_is),
+    )
 
 -- the number of items taken, which stops at the greatest
 pub counted : (n t m : ℕ) → t ≡ min n greatest_count → m ≡ min (t + 1) greatest_count → m ≡ min (n + 1) greatest_count
@@ -146,24 +149,30 @@ stays_open reader entries items item s mid new event x y z h by did c taken does
     let due : List Happening = map happening (entries_at (length items + 1) entries) in
     let here : Did s.core (h0 ∷ []) mid.core x y = subst (λ (a : Happening). Did s.core (a ∷ []) mid.core x y) (same_event reader entries items item s event h by) did in
     let both : Did s.core (h0 ∷ due) new.core x z = did_more s.core mid.core new.core (h0 ∷ []) due x y z here does.did in
-    let more : length (items ++ item ∷ []) ≡ length items + 1 = length-append items (item ∷ []) in
-    (c,
+    let more : length (items ++ item ∷ []) ≡ length items + 1 = length-append items (item ∷ []) in (
+      c,
       record {
         reader_is = both.reader ∙ ap (λ (r : Reader). (run r (h0 ∷ due)).reader) h.reader_is ∙ sym (reader-append reader (events entries items) (h0 ∷ due)) ∙ ap (λ (hs : List Happening). (run reader hs).reader) (sym (all_events entries items item));
         done = subst (λ (n : ℕ). HasDone (n + 1) entries new) (sym more) does.done;
         taken_is = keeps ∙ taken ∙ ap (λ (n : ℕ). min n greatest_count) (sym more);
       },
-      said (run s.core (h0 ∷ due)), both.adds,
-      ap (λ (hs : List Happening). said (run reader hs)) (all_events entries items item) ∙ said-append reader (events entries items) (h0 ∷ due) ∙ ap (λ (r : Reader). said (run reader (events entries items)) ++ said (run r (h0 ∷ due))) (sym h.reader_is))
+      said (run s.core (h0 ∷ due)),
+      both.adds,
+      ap (λ (hs : List Happening). said (run reader hs)) (all_events entries items item) ∙ said-append reader (events entries items) (h0 ∷ due) ∙ ap (λ (r : Reader). said (run reader (events entries items)) ++ said (run r (h0 ∷ due))) (sym h.reader_is),
+    )
 
 takes_some : (reader : Reader) (entries : List Entry) (items : List Item) (item : Item) (s new : ScriptedReader) (error : ToolErr) (x y : List ℕ) → HasTaken reader entries items s
     → DidSome s.core (taken_at entries items item ∷ map happening (entries_at (length items + 1) entries)) error x y → TakesItem reader entries items item new x y (Err error)
 takes_some reader entries items item s new error x y h d =
     let hs : List Happening = taken_at entries items item ∷ map happening (entries_at (length items + 1) entries) in
-    let before : List MessageTree = said (run reader (events entries items)) in
-    (d.memory, d.adds.first, d.adds.later, d.adds.adds,
+    let before : List MessageTree = said (run reader (events entries items)) in (
+      d.memory,
+      d.adds.first,
+      d.adds.later,
+      d.adds.adds,
       ap (λ (ks : List Happening). said (run reader ks)) (all_events entries items item) ∙ said-append reader (events entries items) hs ∙ ap (λ (r : Reader). before ++ said (run r hs)) (sym h.reader_is)
-      ∙ ap (λ (ms : List MessageTree). before ++ ms) d.adds.parts ∙ sym (append_assoc before d.adds.first d.adds.later))
+          ∙ ap (λ (ms : List MessageTree). before ++ ms) d.adds.parts ∙ sym (append_assoc before d.adds.first d.adds.later),
+    )
 
 pub not_taken : (reader : Reader) (entries : List Entry) (items : List Item) (item : Item) (s new : ScriptedReader) (event : ReaderEvent) (error : ToolErr) (x y : List ℕ) → HasTaken reader entries items s → event ≡ taking item
     → DidSome s.core (record { now = s.moment; event = event } ∷ []) error x y → TakesItem reader entries items item new x y (Err error)

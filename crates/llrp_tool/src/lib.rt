@@ -24,12 +24,12 @@ pub use encode::run_encode;
 pub use epc::run_epc;
 pub use fault::{Refusal, ToolErr, Verdict};
 pub use hexadecimal::bytes_of_hex;
+pub use llrp_session::Sighting;
 pub use llrp_stream::{Input, Output, Sink, Source};
 pub use script::{Action, Entry, Script};
 pub use serve::run_serve;
 pub use serving::Serving;
 pub use show::run_show;
-pub use llrp_session::Sighting;
 
 #[cfg(test)]
 mod tests;

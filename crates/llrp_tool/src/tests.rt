@@ -2,4 +2,5 @@ mod commands;
 mod devices;
 mod epc;
 mod hexadecimal;
+mod serve;
 mod show;

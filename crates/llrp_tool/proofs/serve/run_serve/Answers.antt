@@ -28,27 +28,27 @@ returns-in_err-hand_on-2 g c =
     let p = err_from_is_err_and c.from_residual-in_err-hand_on-2.result c.from_residual-in_err-hand_on-2.ensures.1 in
     let got = take c.in-Ok.n c.read.new.buf in
     rw (p.1, p.2) (piece_unwritten c.args.core c.args.script _ _ _ _ _ _ c.loop.counter c.loop.serving c.feed-fed.new.self c.loop.out.items c.feed-fed.new.out.items c.feed-fed.result c.in_err-hand_on-2.field-0.0
-      (piece c.args.core c.args.script _ _ _ _ _ c.loop.counter c.loop.serving c.feed-fed.new.self c.loop.out.items c.feed-fed.new.out.items got c.feed-fed.result c.loop.invariant c.loop-test.true c.in-Ok.ensures.1 (omega (arith, c.in-Ok.ensures.0, length-take c.in-Ok.n c.read.new.buf)) c.feed-fed.ensures.feeds)
-      c.in_err-hand_on-2.ensures.written)
+    (piece c.args.core c.args.script _ _ _ _ _ c.loop.counter c.loop.serving c.feed-fed.new.self c.loop.out.items c.feed-fed.new.out.items got c.feed-fed.result c.loop.invariant c.loop-test.true c.in-Ok.ensures.1 (omega (arith, c.in-Ok.ensures.0, length-take c.in-Ok.n c.read.new.buf)) c.feed-fed.ensures.feeds)
+    c.in_err-hand_on-2.ensures.written)
 
 pub returns-in_err-fed : goal.returns-in_err-fed
 returns-in_err-fed g c =
     let p = err_from_is_err_and c.from_residual-in_err-fed.result c.from_residual-in_err-fed.ensures.1 in
     let got = take c.in-Ok.n c.read.new.buf in
     rw (p.1, p.2) (piece_failed c.args.core c.args.script _ _ _ _ _ _ c.loop.counter c.loop.serving c.feed-fed.new.self c.loop.out.items c.feed-fed.new.out.items c.in_err-fed.field-0.0
-      (piece c.args.core c.args.script _ _ _ _ _ c.loop.counter c.loop.serving c.feed-fed.new.self c.loop.out.items c.feed-fed.new.out.items got (Err c.in_err-fed.field-0.0) c.loop.invariant c.loop-test.true c.in-Ok.ensures.1 (omega (arith, c.in-Ok.ensures.0, length-take c.in-Ok.n c.read.new.buf)) c.in_err-fed.ensures.feeds)
-      c.in_ok-hand_on-2.ensures.written)
+    (piece c.args.core c.args.script _ _ _ _ _ c.loop.counter c.loop.serving c.feed-fed.new.self c.loop.out.items c.feed-fed.new.out.items got (Err c.in_err-fed.field-0.0) c.loop.invariant c.loop-test.true c.in-Ok.ensures.1 (omega (arith, c.in-Ok.ensures.0, length-take c.in-Ok.n c.read.new.buf)) c.in_err-fed.ensures.feeds)
+    c.in_ok-hand_on-2.ensures.written)
 
 pub returns-then-branch : goal.returns-then-branch
 returns-then-branch g c =
     let got = take c.in-Ok.n c.read.new.buf in
     piece_closed c.args.core c.args.script _ _ _ _ _ _ c.loop.counter c.loop.serving c.feed-fed.new.self c.loop.out.items c.feed-fed.new.out.items c.in_ok-fed.field-0 tt
-      (piece c.args.core c.args.script _ _ _ _ _ c.loop.counter c.loop.serving c.feed-fed.new.self c.loop.out.items c.feed-fed.new.out.items got (Ok c.in_ok-fed.field-0) c.loop.invariant c.loop-test.true c.in-Ok.ensures.1 (omega (arith, c.in-Ok.ensures.0, length-take c.in-Ok.n c.read.new.buf)) c.in_ok-fed.ensures.feeds)
-      c.if-branch.true c.in_ok-hand_on-2.ensures.written
+    (piece c.args.core c.args.script _ _ _ _ _ c.loop.counter c.loop.serving c.feed-fed.new.self c.loop.out.items c.feed-fed.new.out.items got (Ok c.in_ok-fed.field-0) c.loop.invariant c.loop-test.true c.in-Ok.ensures.1 (omega (arith, c.in-Ok.ensures.0, length-take c.in-Ok.n c.read.new.buf)) c.in_ok-fed.ensures.feeds)
+    c.if-branch.true c.in_ok-hand_on-2.ensures.written
 
 pub loop-preserved : goal.loop-preserved
 loop-preserved g c =
     let got = take c.in-Ok.n c.read.new.buf in
     piece_open c.args.core c.args.script _ _ _ _ _ _ c.loop.counter c.loop.serving c.feed-fed.new.self c.loop.out.items c.feed-fed.new.out.items c.hand_on-in-loop.new.gathered.items c.in_ok-fed.field-0
-      (piece c.args.core c.args.script _ _ _ _ _ c.loop.counter c.loop.serving c.feed-fed.new.self c.loop.out.items c.feed-fed.new.out.items got (Ok c.in_ok-fed.field-0) c.loop.invariant c.loop-test.true c.in-Ok.ensures.1 (omega (arith, c.in-Ok.ensures.0, length-take c.in-Ok.n c.read.new.buf)) c.in_ok-fed.ensures.feeds)
-      c.if-branch.false c.in_ok-hand_on-2.ensures.written c.in_ok-hand_on-2.ensures.emptied
+    (piece c.args.core c.args.script _ _ _ _ _ c.loop.counter c.loop.serving c.feed-fed.new.self c.loop.out.items c.feed-fed.new.out.items got (Ok c.in_ok-fed.field-0) c.loop.invariant c.loop-test.true c.in-Ok.ensures.1 (omega (arith, c.in-Ok.ensures.0, length-take c.in-Ok.n c.read.new.buf)) c.in_ok-fed.ensures.feeds)
+    c.if-branch.false c.in_ok-hand_on-2.ensures.written c.in_ok-hand_on-2.ensures.emptied
