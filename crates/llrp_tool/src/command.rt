@@ -85,7 +85,7 @@ fn write_error<E: Sink>(e: &mut E, error: ToolErr) -> Result<(), ToolErr>
 }
 
 /// The exit status of a command that ended so, once the line of its error was written.
-fn answer<E: Sink>(outcome: Result<u8, ToolErr>, e: &mut E) -> Result<u8, ToolErr>
+pub fn answer<E: Sink>(outcome: Result<u8, ToolErr>, e: &mut E) -> Result<u8, ToolErr>
     requires { (E.log e.old).failures + 1 < 2 ^ 64 }
     ensures { Answers outcome (E.log e.old) (E.log e.new) result }
 {

@@ -19,7 +19,8 @@ mod serving;
 mod show;
 mod words;
 
-pub use command::run_command;
+pub use command::{answer, run_command};
+pub use copying::{read_all, write_all};
 pub use encode::run_encode;
 pub use epc::run_epc;
 pub use fault::{Refusal, ToolErr, Verdict};
@@ -30,6 +31,7 @@ pub use script::{Action, Entry, Script};
 pub use serve::run_serve;
 pub use serving::Serving;
 pub use show::run_show;
+pub use words::sim_port;
 
 #[cfg(test)]
 mod tests;
