@@ -1,6 +1,6 @@
 -- What a parse of the words says of the command.
 use Rattle.std.proofs.Common.{◌≡◌, Bool, true, false, List, Option, Some, None, refl, sym, ap, subst, ◌∙◌, codes, inl, inr}
-use Rattle.std.specs.Prelude.{option_map, ◌&&◌}
+use Rattle.std.specs.Prelude.{ℕ, IfSome, option_map, ◌&&◌}
 use Rattle.clap.specs.Words.{App, Row, Text, subcommand_of, is_simple, takes}
 use Rattle.clap.specs.Walk.{first_of, one_of}
 use Rattle.llrp_tool.specs.declared.words.Request.{Request}
@@ -53,3 +53,8 @@ name_found found name text e n = sym e ∙ ap (λ (x : Text). Some x) n
 -- one command's name is no other's
 pub other_name : (found : Option (Text × List Row)) (name other : Text) → name_in found ≡ Some name → (name ≡ other → ⊥) → name_in found ≡ Some other → ⊥
 other_name found name other e differs is = differs (let same : Some name ≡ Some other = sym e ∙ is in cc)
+
+-- the name of the command that was found in the parse is the one that the words name
+pub named_in : (a : App) (words : List Text) (found : Option (Text × List Row)) (port : Option ℕ) (name : Text) → a ≡ llrp_app → found ≡ subcommand_of a words → IfSome port (λ p. name_in found ≡ Some name) → IfSome port (λ p. name_in (command_in words) ≡ Some name)
+unfolding command_in
+named_in a words found port name e f is = subst (λ (x : Option (Text × List Row)). IfSome port (λ p. name_in x ≡ Some name)) (f ∙ ap (λ (x : App). subcommand_of x words) e) is

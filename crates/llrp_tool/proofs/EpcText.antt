@@ -317,7 +317,7 @@ all_give = (
         two_sound the_text the_help (set_sound the_text refl refl) (help_sound the_help refl),
         λ rows valid. (both (is_given (codes "TEXT") rows) _ valid).0,
       ),
-      (λ e. cc, tt),
+      (λ e. cc, (λ e. cc, tt)),
     ),
   ),
 )

@@ -1,3 +1,4 @@
+pub mod ActingLemmas
 pub mod AnswerLemmas
 pub mod BodyWords
 pub mod Clear
@@ -31,6 +32,10 @@ pub mod ScriptLines
 pub mod ScriptTexts
 pub mod ScriptUnique
 pub mod ScriptWords
+pub mod ServeLemmas
+pub mod ServingEvents
+pub mod ServingPieces
+pub mod ServingSteps
 pub mod ShowLemmas
 pub mod Standing
 pub mod TailWords

@@ -10,7 +10,7 @@ use Rattle.tag_uri.specs.TagText.{IsTextOf}
 use Rattle.tag_uri.proofs.Deciding.{Decided, Below, below, same_text, text_decided, has_text}
 use Rattle.tag_uri.proofs.ReadLemmas.{bool_cases}
 use Rattle.tag_uri.proofs.TextLaws.{texts_same}
-use Rattle.llrp_tool.specs.declared.sighting.Sighting.{Sighting}
+use Rattle.llrp_session.specs.declared.words.Sighting.{Sighting}
 use Rattle.llrp_tool.specs.declared.script.Action.{Action}
 use Rattle.llrp_tool.specs.declared.script.Action.TheVariants.{Seen, Tick}
 use Rattle.llrp_tool.specs.declared.script.Entry.{Entry}

@@ -2,7 +2,7 @@
 use Rattle.std.specs.Prelude.{◌≡◌, ℕ, ◌⊎◌, List, [], ◌∷◌, ◌++◌, Bool, true, false, Result, Ok, Err, codes, decimal}
 use Rattle.hex.specs.Hex.{encode_upper}
 use Rattle.llrp_tool.specs.declared.fault.ToolErr.{ToolErr}
-use Rattle.llrp_tool.specs.declared.fault.ToolErr.TheVariants.{Listing, Script, Hex, Read, Write, Bound, Memory}
+use Rattle.llrp_tool.specs.declared.fault.ToolErr.TheVariants.{Listing, Script, Hex, Read, Write, Bound, Broken, Memory, Early}
 use Rattle.llrp_tool.specs.declared.fault.Verdict.{Verdict}
 use Rattle.llrp_tool.specs.declared.fault.Verdict.TheVariants.{Lawful, Faulty}
 use Rattle.llrp_tool.specs.Copying.{MOST_READS, GaveAndFailed, IsPrefix, ReadAll, ReadStopped}
@@ -30,6 +30,8 @@ error_status Hex = 1
 error_status Read = 3
 error_status Write = 3
 error_status Bound = 3
+error_status Broken = 1
+error_status Early = 1
 error_status Memory = 3
 
 -- the line of an error
@@ -40,6 +42,8 @@ error_line Hex = codes "llrp: hex\n"
 error_line Read = codes "llrp: read\n"
 error_line Write = codes "llrp: write\n"
 error_line Bound = codes "llrp: bound\n"
+error_line Broken = codes "llrp: broken\n"
+error_line Early = codes "llrp: early\n"
 error_line Memory = codes "llrp: memory\n"
 
 -- What a command that ended so answered, and wrote to the sink for errors: its status alone, or its
@@ -79,6 +83,8 @@ NotEncoded r0 r1 Bound = (front : List ℕ) × Gave r0 r1 MOST_READS front
 NotEncoded r0 r1 Memory = (front : List ℕ) × WasRead r0 r1 front
 NotEncoded r0 r1 Write = ⊥
 NotEncoded r0 r1 (Script line) = ⊥
+NotEncoded r0 r1 Broken = ⊥
+NotEncoded r0 r1 Early = ⊥
 NotEncoded r0 r1 Hex = ⊥
 
 -- the encoding of all that was read, or why there is none
@@ -157,4 +163,6 @@ memory_error (Script line) = Script line
 memory_error Hex = Hex
 memory_error Read = Read
 memory_error Bound = Bound
+memory_error Broken = Broken
+memory_error Early = Early
 memory_error Memory = Memory

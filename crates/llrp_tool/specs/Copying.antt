@@ -2,7 +2,7 @@
 use Rattle.std.specs.Prelude.{◌≡◌, ℕ, ◌+◌, ◌<◌, List, ◌++◌, Result, Ok, Err}
 use Rattle.std.specs.Io.KnownBytes.{IsAtEnd, Consumes}
 use Rattle.llrp_tool.specs.declared.fault.ToolErr.{ToolErr}
-use Rattle.llrp_tool.specs.declared.fault.ToolErr.TheVariants.{Listing, Script, Hex, Read, Write, Bound, Memory}
+use Rattle.llrp_tool.specs.declared.fault.ToolErr.TheVariants.{Listing, Script, Hex, Read, Write, Bound, Broken, Memory, Early}
 use Rattle.llrp_stream.specs.Device.{SourceLog, SinkLog, Gave, Wrote, WroteAndFailed}
 
 -- the most reads of one source that give bytes
@@ -29,6 +29,8 @@ ReadStopped old new bytes Bound = Gave old new MOST_READS bytes
 ReadStopped old new bytes Memory = (n : ℕ) × Gave old new n bytes
 ReadStopped old new bytes Write = ⊥
 ReadStopped old new bytes (Script line) = ⊥
+ReadStopped old new bytes Broken = ⊥
+ReadStopped old new bytes Early = ⊥
 ReadStopped old new bytes Hex = ⊥
 ReadStopped old new bytes (Listing line reason) = ⊥
 
@@ -43,6 +45,8 @@ WriteStopped old new front Memory = ⊥
 WriteStopped old new front Read = ⊥
 WriteStopped old new front Bound = ⊥
 WriteStopped old new front (Script line) = ⊥
+WriteStopped old new front Broken = ⊥
+WriteStopped old new front Early = ⊥
 WriteStopped old new front Hex = ⊥
 WriteStopped old new front (Listing line reason) = ⊥
 

@@ -9,7 +9,7 @@ use Rattle.llrp_tool.specs.declared.line.LineErr.{LineErr}
 use Rattle.llrp_tool.specs.declared.line.LineErr.TheVariants as unread
 use Rattle.llrp_tool.specs.declared.fault.Refusal.{Refusal}
 use Rattle.llrp_tool.specs.declared.fault.ToolErr.{ToolErr}
-use Rattle.llrp_tool.specs.declared.fault.ToolErr.TheVariants.{Listing, Script, Hex, Read, Write, Bound, Memory}
+use Rattle.llrp_tool.specs.declared.fault.ToolErr.TheVariants.{Listing, Script, Broken, Early, Hex, Read, Write, Bound, Memory}
 use Rattle.llrp_tool.specs.declared.open_lines.CloseErr.{CloseErr}
 use Rattle.llrp_tool.specs.declared.open_lines.CloseErr.TheVariants as close
 use Rattle.llrp_tool.specs.Copying.{IsPrefix}
@@ -68,6 +68,8 @@ Stopped limit w0 w1 front Read = ⊥
 Stopped limit w0 w1 front Bound = ⊥
 Stopped limit w0 w1 front Hex = ⊥
 Stopped limit w0 w1 front (Script line) = ⊥
+Stopped limit w0 w1 front Broken = ⊥
+Stopped limit w0 w1 front Early = ⊥
 
 -- the encoder stopped at the end of this text
 abbrev pub StoppedAtEnd : ℕ → SinkLog → SinkLog → List ℕ → ToolErr → Type 0
@@ -78,6 +80,8 @@ StoppedAtEnd limit w0 w1 text Read = ⊥
 StoppedAtEnd limit w0 w1 text Bound = ⊥
 StoppedAtEnd limit w0 w1 text Hex = ⊥
 StoppedAtEnd limit w0 w1 text (Script line) = ⊥
+StoppedAtEnd limit w0 w1 text Broken = ⊥
+StoppedAtEnd limit w0 w1 text Early = ⊥
 
 -- the encoding of the text was written
 abbrev pub WroteEncoding : ℕ → SinkLog → SinkLog → List ℕ → Type 0
@@ -92,6 +96,8 @@ Refusing number out why w0 w1 Read = ⊥
 Refusing number out why w0 w1 Bound = ⊥
 Refusing number out why w0 w1 Hex = ⊥
 Refusing number out why w0 w1 (Script line) = ⊥
+Refusing number out why w0 w1 Broken = ⊥
+Refusing number out why w0 w1 Early = ⊥
 
 -- what is told where a line is not read
 abbrev pub RefusingLine : LineErr → ℕ → List ℕ → SinkLog → SinkLog → ToolErr → Type 0

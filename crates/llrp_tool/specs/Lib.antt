@@ -21,8 +21,12 @@ pub mod OpenTextSteps
 pub mod Printing
 pub mod PrintingLaws
 pub mod Refused
+pub mod RunServe
 pub mod Script
 pub mod ScriptLaws
+pub mod Acting
+pub mod Serving
+pub mod ServingStands
 pub mod Show
 pub mod Splits
 pub mod StreamListing

@@ -5,8 +5,8 @@ use Rattle.std.specs.Int.{w8}
 use Rattle.std.specs.List.Sorted.{IsNonDecreasingBy}
 use Rattle.tag_uri.specs.TagText.{IsTextOf}
 use Rattle.llrp_tool.specs.declared.fault.ToolErr.{ToolErr}
-use Rattle.llrp_tool.specs.declared.fault.ToolErr.TheVariants.{Listing, Script, Hex, Read, Write, Bound, Memory}
-use Rattle.llrp_tool.specs.declared.sighting.Sighting.{Sighting}
+use Rattle.llrp_tool.specs.declared.fault.ToolErr.TheVariants.{Listing, Script, Hex, Read, Write, Bound, Broken, Memory, Early}
+use Rattle.llrp_session.specs.declared.words.Sighting.{Sighting}
 use Rattle.llrp_tool.specs.declared.script.Action.{Action}
 use Rattle.llrp_tool.specs.declared.script.Action.TheVariants.{Seen, Tick}
 use Rattle.llrp_tool.specs.declared.script.Entry.{Entry}
@@ -97,6 +97,8 @@ ParseStopped text Hex = ⊥
 ParseStopped text Read = ⊥
 ParseStopped text Write = ⊥
 ParseStopped text Bound = ⊥
+ParseStopped text Broken = ⊥
+ParseStopped text Early = ⊥
 
 -- there is room for an entry behind these, and these AFTER and NOW do not fall
 pub record MayFollow (entries : List Entry) (after now : ℕ) : Type 0 where

@@ -1,8 +1,9 @@
 -- The words that the program takes after its name, and the command that they name.
-use Rattle.std.specs.Prelude.{◌≡◌, ◌≢◌, ◌⊎◌, List, Option, Some, None, Bool, true, false, codes, option_map, option_and_then}
+use Rattle.std.specs.Prelude.{◌≡◌, ◌≢◌, ◌⊎◌, pos, List, Option, Some, None, Bool, true, false, codes, option_map, option_and_then}
 use Rattle.clap.specs.Words.{App, Rule, Row, Text, new_app, new_rule, with_rule, with_subcommand, subcommand_of, first_of, takes}
 use Rattle.clap.specs.Walk.{one_of}
 use Rattle.clap.specs.declared.builder.ArgAction.TheVariants.{SetTrue}
+use Rattle.clap.specs.declared.builder.value_parser.ValueParser.TheVariants.{Signed}
 use Rattle.llrp_tool.specs.declared.words.Request.{Request}
 use Rattle.llrp_tool.specs.declared.words.Request.TheVariants.{Show, Encode, Epc, Elsewhere, Help, Usage}
 
@@ -22,13 +23,21 @@ text_rule = record (new_rule (codes "TEXT")) { required = true }
 abbrev pub text_app : Text → App
 text_app name = with_rule (new_app name) text_rule
 
+-- the argument PORT, a number from 1 to 65,535, which must be given
+abbrev pub port_rule : Rule
+port_rule = record (new_rule (codes "PORT")) { required = true; parser = Some (Signed (pos 1) (pos 65535)) }
+
+-- a command that has only that argument
+abbrev pub port_app : Text → App
+port_app name = with_rule (new_app name) port_rule
+
 -- the program before its commands
 abbrev pub top_app : App
 top_app = let a = new_app (codes "llrp") in record a { top = record a.top { no_binary_name = true; subcommand_required = true } }
 
--- the program: a command is wanted, and there are show, encode and epc
+-- the program: a command is wanted, and there are show, encode, epc and sim
 unfoldable pub llrp_app : App
-llrp_app = with_subcommand (with_subcommand (with_subcommand top_app (hex_app (codes "show")).top) (hex_app (codes "encode")).top) (text_app (codes "epc")).top
+llrp_app = with_subcommand (with_subcommand (with_subcommand (with_subcommand top_app (hex_app (codes "show")).top) (hex_app (codes "encode")).top) (text_app (codes "epc")).top) (port_app (codes "sim")).top
 
 -- the parse of the words succeeds
 unfoldable pub parses : List Text → Bool

@@ -41,6 +41,7 @@ fn error_status(error: ToolErr) -> u8
 {
     match error {
         ToolErr::Listing { .. } | ToolErr::Script { .. } | ToolErr::Hex => 1,
+        ToolErr::Broken | ToolErr::Early => 1,
         ToolErr::Read | ToolErr::Write | ToolErr::Bound | ToolErr::Memory => 3,
     }
 }
@@ -87,12 +88,14 @@ fn write_error<E: Sink>(e: &mut E, error: ToolErr) -> Result<(), ToolErr>
         ToolErr::Read => write_all(e, b"llrp: read\n"),
         ToolErr::Write => write_all(e, b"llrp: write\n"),
         ToolErr::Bound => write_all(e, b"llrp: bound\n"),
+        ToolErr::Broken => write_all(e, b"llrp: broken\n"),
         ToolErr::Memory => write_all(e, b"llrp: memory\n"),
+        ToolErr::Early => write_all(e, b"llrp: early\n"),
     }
 }
 
 /// The exit status of a command that ended so, once the line of its error was written.
-fn answer<E: Sink>(outcome: Result<u8, ToolErr>, e: &mut E) -> Result<u8, ToolErr>
+pub fn answer<E: Sink>(outcome: Result<u8, ToolErr>, e: &mut E) -> Result<u8, ToolErr>
     requires { (E.log e.old).failures + 1 < 2 ^ 64 }
     ensures { Answers outcome (E.log e.old) (E.log e.new) result }
 {

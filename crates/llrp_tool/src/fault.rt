@@ -109,9 +109,15 @@ pub enum ToolErr {
     /// The source gave bytes in more reads than a command makes.
     #[error("the input is too long")]
     Bound,
+    /// A length field below 10, which no frame has.
+    #[error("the stream of messages breaks off")]
+    Broken,
     /// A growth was refused.
     #[error("out of memory")]
     Memory,
+    /// The input ended within a frame.
+    #[error("the input ended too early")]
+    Early,
 }
 
 impl From<AllocError> for ToolErr {

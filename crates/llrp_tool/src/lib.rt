@@ -15,21 +15,26 @@ mod listing;
 mod number;
 mod open_lines;
 mod script;
+mod serve;
+mod serving;
 mod show;
-mod sighting;
 mod spaced;
 mod tail;
 mod words;
 
-pub use command::run_command;
+pub use command::{answer, run_command};
+pub use copying::{read_all, write_all};
 pub use encode::run_encode;
 pub use epc::run_epc;
 pub use fault::{Refusal, ToolErr, Verdict};
 pub use hexadecimal::bytes_of_hex;
+pub use llrp_session::Sighting;
 pub use llrp_stream::{Input, Output, Sink, Source};
 pub use script::{Action, Entry, Script};
+pub use serve::run_serve;
+pub use serving::Serving;
 pub use show::run_show;
-pub use sighting::Sighting;
+pub use words::sim_port;
 
 #[cfg(test)]
 mod tests;

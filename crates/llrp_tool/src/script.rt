@@ -6,8 +6,8 @@ ghost use Rattle.llrp_tool.specs.Script.{Continues, IsActionInRange, IsActionLin
 
 use crate::decimal::{number_of, signed_byte_of};
 use crate::fault::ToolErr;
-use crate::sighting::Sighting;
 use crate::spaced::split_once;
+use llrp_session::Sighting;
 use std::alloc::Global;
 use std::marker::Model;
 use std::str;

@@ -2,5 +2,6 @@ mod commands;
 mod devices;
 mod epc;
 mod hexadecimal;
+mod serve;
 mod show;
 mod vectors;

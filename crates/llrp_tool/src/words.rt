@@ -1,12 +1,12 @@
 //! What the words of the command line ask for.
 
-ghost use Rattle.std.specs.Prelude.{◌≡◌, IfOk, false, map, true};
+ghost use Rattle.std.specs.Prelude.{◌≡◌, IfOk, IfSome, Some, codes, false, map, true};
 ghost use Rattle.clap.specs.Words.{app_of, subcommand_rows_of};
 ghost use Rattle.clap.specs.declared.builder.command.Command.TheViews.{out-Command};
-ghost use Rattle.llrp_tool.specs.Words.{IsRequest, command_in, hex_app, llrp_app, parses, text_app};
+ghost use Rattle.llrp_tool.specs.Words.{IsRequest, command_in, hex_app, llrp_app, name_in, parses, port_app, text_app};
 
 use clap::error::ErrorKind;
-use clap::{Arg, ArgAction, ArgMatches, Command};
+use clap::{Arg, ArgAction, ArgMatches, Command, value_parser};
 use std::alloc::{AllocError, Global};
 use std::convert::AsStr;
 
@@ -44,6 +44,16 @@ Examples:
   urn:epc:tag:sgtin-96:3.0614141.812345.6789
   $ llrp epc urn:epc:tag:sgtin-96:3.0614141.812345.6789
   3074257BF7194E4000001A85";
+
+const SIM_HELP: &str = "\
+Reads a script of what the reader's antennas see on standard input, to its end. Then it listens on
+127.0.0.1 and serves one client as an LLRP reader. The lines of a script:
+  AFTER NOW seen ANTENNA RSSI TEXT   directly after AFTER messages, at the moment NOW in microseconds,
+                                     an antenna sees the tag with this tag URI or raw URI
+  AFTER NOW tick                     time goes on to NOW
+
+Example:
+  $ printf '2 5 tick\\n' | llrp sim 5084";
 
 /// What the words ask for.
 #[derive(Drop)]
@@ -101,6 +111,27 @@ fn text_command<'a>(
         .arg(text)
 }
 
+/// A command whose one argument is PORT, from 1 to 65,535, which must be given.
+fn port_command<'a>(
+    alloc: Global,
+    name: &'a str,
+    about: &'a str,
+    port: &'a str,
+    help: &'a str,
+) -> Result<Command<'a>, AllocError>
+    ensures app { IfOk result (λ c. app_of c ≡ port_app name.entry.now) }
+    ensures local { IfOk result (λ c. (out-Command c).has_globals ≡ false) }
+{
+    let port = Arg::new(alloc, "PORT")
+        .required(true)
+        .value_parser(value_parser!(u16).range(1..))
+        .help(port);
+    Command::new(alloc, name)
+        .about(about)
+        .after_help(help)
+        .arg(port)
+}
+
 /// The words that the program takes.
 fn llrp_command<'a>(alloc: Global) -> Result<Command<'a>, AllocError>
     ensures { IfOk result (λ c. app_of c ≡ llrp_app) }
@@ -126,13 +157,21 @@ fn llrp_command<'a>(alloc: Global) -> Result<Command<'a>, AllocError>
         "24 hexadecimal digits, a tag URI or a raw URI",
         EPC_HELP,
     )?;
+    let sim = port_command(
+        alloc,
+        "sim",
+        "Serve one client as a simulated reader, by a script",
+        "The port to listen on",
+        SIM_HELP,
+    )?;
     let top = Command::new(alloc, "llrp").bin_name("llrp")?;
     top.about("Reads and writes streams of LLRP 1.1 messages")
         .no_binary_name(true)
         .subcommand_required(true)
         .subcommand(show)?
         .subcommand(encode)?
-        .subcommand(epc)
+        .subcommand(epc)?
+        .subcommand(sim)
 }
 
 /// The command that the words named.
@@ -177,5 +216,35 @@ pub fn request_of<'a, S: AsStr>(alloc: Global, words: &'a [S]) -> Result<Request
                 Ok(Request::Help(text))
             }
         }
+    }
+}
+
+/// The port of the command sim, where the words after the program's name ask for it. The only error is
+/// that of memory.
+pub fn sim_port<S: AsStr>(alloc: Global, words: &[S]) -> Result<Option<u16>, AllocError>
+    ensures { IfOk result (λ port. parses (map S.text words.entry.now) ≡ true
+        → IfSome port (λ p. name_in (command_in (map S.text words.entry.now)) ≡ Some (codes "sim"))) }
+{
+    let command = llrp_command(alloc)?;
+    match command.try_get_matches_from(words) {
+        Ok(matches) => Ok(port_in(&matches)),
+        Err(error) => {
+            if let ErrorKind::OutOfMemory = error.kind() {
+                return Err(AllocError);
+            }
+            Ok(None)
+        }
+    }
+}
+
+/// The port of the command sim, if it was named.
+fn port_in(matches: &ArgMatches<'_>) -> Option<u16>
+    ensures { IfSome result (λ p. name_in (subcommand_rows_of matches.now) ≡ Some (codes "sim")) }
+{
+    let (name, inner) = matches.subcommand()?;
+    if name == "sim" {
+        inner.get_one::<u16>("PORT")
+    } else {
+        None
     }
 }

@@ -240,7 +240,7 @@ fn help_goes_to_the_output(rt: HostRuntime) -> Result<(), Fail> {
 fn usage_faults_go_to_the_errors(rt: HostRuntime) -> Result<(), Fail> {
     let rows = [
         ([].as_slice(), NO_COMMAND),
-        (["sim", "5084"].as_slice(), NO_SUCH_COMMAND),
+        (["inventory"].as_slice(), NO_SUCH_COMMAND),
         (["show", "--bytes"].as_slice(), NO_SUCH_FLAG),
         (["epc"].as_slice(), NO_TEXT),
     ];

@@ -43,3 +43,11 @@ returns-in-Bound g c = rw c.in-Bound.is c.write_all-in-Bound.ensures
 pub returns-in-Memory : goal.returns-in-Memory
 unfolding error_line
 returns-in-Memory g c = rw c.in-Memory.is c.write_all-in-Memory.ensures
+
+pub returns-in-Broken : goal.returns-in-Broken
+unfolding error_line
+returns-in-Broken g c = rw c.in-Broken.is c.write_all-in-Broken.ensures
+
+pub returns-in-Early : goal.returns-in-Early
+unfolding error_line
+returns-in-Early g c = rw c.in-Early.is c.write_all-in-Early.ensures

@@ -18,4 +18,5 @@ returns c =
     ∙ ap (λ (a : App). record a { top = record a.top { no_binary_name = true; subcommand_required = true } }) c.new.ensures.app in
     let with_show = c.in_ok-subcommand.ensures.shape c.in_ok-show.ensures.local ∙ ap₂ with_subcommand top_is (ap (λ (a : App). a.top) c.in_ok-show.ensures.app) in
     let with_encode = c.in_ok-subcommand-2.ensures.shape c.in_ok-encode.ensures.local ∙ ap₂ with_subcommand with_show (ap (λ (a : App). a.top) c.in_ok-encode.ensures.app) in
-    IfOk-weaker c.subcommand-3.result _ _ (λ r h. h.shape c.in_ok-epc.ensures.local ∙ ap₂ with_subcommand with_encode (ap (λ (a : App). a.top) c.in_ok-epc.ensures.app)) c.subcommand-3.ensures
+    let with_epc = c.in_ok-subcommand-3.ensures.shape c.in_ok-epc.ensures.local ∙ ap₂ with_subcommand with_encode (ap (λ (a : App). a.top) c.in_ok-epc.ensures.app) in
+    IfOk-weaker c.subcommand-4.result _ _ (λ r h. h.shape c.in_ok-sim.ensures.local ∙ ap₂ with_subcommand with_epc (ap (λ (a : App). a.top) c.in_ok-sim.ensures.app)) c.subcommand-4.ensures
