@@ -8,8 +8,7 @@ use Rattle.std.proofs.lemmas.List.{map-append}
 use Rattle.llrp_tree.specs.declared.TheConstants.{MAX_LIMIT}
 use Rattle.llrp_tree.specs.Tree.{MessageTree}
 use Rattle.llrp_tree.specs.Frame.{Frame}
-use Rattle.llrp_stream.specs.Cuts.{joined}
-use Rattle.llrp_session.specs.ReaderMachine.{Reader, ReaderEvent, Turn, next}
+use Rattle.llrp_session.specs.ReaderMachine.{Reader, ReaderEvent, next}
 use Rattle.llrp_session.specs.ReaderMessages.{reader_message}
 use Rattle.llrp_tool.specs.Serving.{Happening, event_in, happening, last_moment, turn_or_none, run, said, AreFrames}
 use Rattle.llrp_tool.specs.declared.script.Entry.{Entry}

@@ -1,20 +1,20 @@
 -- Serving a client over a source and a sink.
-use Rattle.std.proofs.Common.{◌≡◌, ℕ, ◌+◌, ◌<◌, ◌≤◌, Bool, true, false, List, [], ◌∷◌, ◌++◌, length, map, Result, Ok, Err, refl, sym, ap, subst, ◌∙◌, append_assoc, inl, inr, arith}
+use Rattle.std.proofs.Common.{◌≡◌, ℕ, ◌+◌, ◌<◌, ◌≤◌, Bool, true, false, List, [], ◌∷◌, ◌++◌, length, map, Result, Ok, Err, sym, ap, subst, ◌∙◌, append_assoc, inl, inr, arith}
 use Rattle.std.proofs.lemmas.List.{append-nil}
 use Rattle.std.specs.Io.KnownBytes.{Consumes}
 use Rattle.llrp_tree.specs.Tree.{MessageTree}
-use Rattle.llrp_stream.specs.Device.{SourceLog, SinkLog, Took, Gave, Wrote, WroteAndFailed}
+use Rattle.llrp_stream.specs.Device.{SourceLog, SinkLog, Took, Gave, Wrote}
 use Rattle.llrp_session.specs.ReaderMachine.{Reader}
 use Rattle.llrp_tool.specs.declared.fault.ToolErr.{ToolErr}
 use Rattle.llrp_tool.specs.declared.fault.ToolErr.TheVariants.{Listing, Script, Hex, Read, Write, Bound, Broken, Memory, Early}
 use Rattle.llrp_tool.specs.declared.script.Entry.{Entry}
 use Rattle.llrp_tool.specs.declared.serving.Serving.{Serving}
-use Rattle.llrp_tool.specs.Copying.{MOST_READS, ReadAll, GaveAndFailed, IsPrefix, Writes}
-use Rattle.llrp_tool.specs.Serving.{Happening, happening, entries_at, closing_events, run, said, AreFrames, waiting, closed, ended, early, broken, Serves, StaysOpen, HasClosed, BeginsServing}
+use Rattle.llrp_tool.specs.Copying.{MOST_READS, ReadAll, Writes}
+use Rattle.llrp_tool.specs.Serving.{Happening, happening, entries_at, closing_events, run, said, AreFrames, waiting, broken, StaysOpen, HasClosed, BeginsServing}
 use Rattle.llrp_tool.proofs.ServingEvents.{events-snoc}
 use Rattle.llrp_tool.specs.Acting.{Adds}
 use Rattle.llrp_tool.specs.ServingStands.{IsOpen, Starts, Feeds, Goes, Finishes}
-use Rattle.llrp_tool.specs.RunServe.{WroteAll, BeginsFrames, WasGiven, RunsServe}
+use Rattle.llrp_tool.specs.RunServe.{BeginsFrames, WasGiven, RunsServe}
 use Rattle.llrp_tool.proofs.ActingLemmas.{frames_append, said-append}
 use Rattle.llrp_tool.proofs.DeviceLemmas.{consumes_more, gave_nothing, read_more, wrote_nothing, wrote_more, wrote_then_failed}
 

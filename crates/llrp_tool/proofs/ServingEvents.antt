@@ -1,6 +1,6 @@
 -- The events that one more item makes, and the entries that are due.
-use Rattle.std.proofs.Common.{◌≡◌, ℕ, suc, ◌+◌, ◌<◌, ◌≤◌, ◌==◌, nat_le, min, Bool, true, false, List, [], ◌∷◌, ◌++◌, length, map, drop, get_or, refl, sym, ap, subst, ◌∙◌, append_assoc, arith}
-use Rattle.std.specs.List.{filter, All, AllByRecursion}
+use Rattle.std.proofs.Common.{◌≡◌, ℕ, ◌+◌, ◌<◌, ◌≤◌, ◌==◌, nat_le, min, Bool, true, false, List, [], ◌∷◌, ◌++◌, length, map, drop, get_or, refl, sym, ap, subst, ◌∙◌, append_assoc, arith}
+use Rattle.std.specs.List.{filter, AllByRecursion}
 use Rattle.std.specs.List.Sorted.{IsNonDecreasingBy}
 use Rattle.std.proofs.lemmas.Bool.Decides.{nat_tests}
 use Rattle.std.proofs.lemmas.List.{append-nil, length-append}
@@ -10,9 +10,8 @@ use Rattle.llrp_stream.specs.declared.item.Item.{Item}
 use Rattle.llrp_session.specs.ReaderMachine.{Connect}
 use Rattle.llrp_tool.specs.declared.script.Entry.{Entry}
 use Rattle.llrp_tool.specs.declared.serving.scripted.ScriptedReader.{ScriptedReader}
-use Rattle.llrp_tool.specs.Script.{IsLawful, IsInRange}
+use Rattle.llrp_tool.specs.Script.{IsInRange}
 use Rattle.llrp_tool.specs.Serving.{Happening, happening, taking, entries_at, moment_after, last_moment, events_from, events, closing_events}
-use Rattle.llrp_tool.specs.Acting.{IsDue}
 use Rattle.llrp_tool.specs.ServingStands.{HasDone, greatest_count}
 use Rattle.llrp_tool.proofs.ActingLemmas.{last_moment-append}
 

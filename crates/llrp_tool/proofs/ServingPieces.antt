@@ -1,5 +1,5 @@
 -- What serving makes of pieces of a stream.
-use Rattle.std.proofs.Common.{◌≡◌, ℕ, ◌≤◌, Bool, true, false, List, [], ◌∷◌, ◌++◌, length, take, drop, Option, Some, None, Result, Ok, Err, refl, sym, ap, subst, ◌∙◌, append_assoc, inl, arith}
+use Rattle.std.proofs.Common.{◌≡◌, ℕ, Bool, true, false, List, [], ◌∷◌, ◌++◌, length, take, drop, Option, Some, None, Result, Ok, Err, refl, sym, ap, subst, ◌∙◌, append_assoc, inl, arith}
 use Rattle.std.specs.List.{AllByRecursion}
 use Rattle.std.proofs.lemmas.List.{append-nil, take-append-drop}
 use Rattle.llrp_tree.specs.Tree.{MessageTree}
@@ -16,7 +16,7 @@ use Rattle.llrp_tool.specs.declared.fault.ToolErr.{ToolErr}
 use Rattle.llrp_tool.specs.declared.script.Entry.{Entry}
 use Rattle.llrp_tool.specs.declared.serving.scripted.ScriptedReader.{ScriptedReader}
 use Rattle.llrp_tool.specs.declared.serving.Serving.{Serving}
-use Rattle.llrp_tool.specs.Serving.{events, closing_events, run, said, Closes, HasClosed, BeginsServing, StaysOpen, waiting}
+use Rattle.llrp_tool.specs.Serving.{events, run, said, Closes}
 use Rattle.llrp_tool.specs.Acting.{Adds, DidSome, error_by, phase_after}
 use Rattle.llrp_tool.specs.ServingStands.{HasTaken, StandsFor, IsFresh, HasFailed, Connects, Starts, TakesItem, Goes, Fails, Feeds as FeedsOn}
 use Rattle.llrp_tool.specs.declared.serving.Phase.TheVariants.{Open}

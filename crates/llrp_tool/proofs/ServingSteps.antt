@@ -1,7 +1,7 @@
 -- The steps of serving.
-use Rattle.std.proofs.Common.{◌≡◌, ℕ, ◌+◌, ◌<◌, ◌≤◌, min, Bool, IsTrue, true, false, List, [], ◌∷◌, ◌++◌, length, map, take, drop, Result, Ok, Err, OnOk, IfErr, refl, ◌-◌, sym, ap, subst, ◌∙◌, append_assoc, arith}
+use Rattle.std.proofs.Common.{◌≡◌, ℕ, ◌+◌, ◌≤◌, min, Bool, IsTrue, true, false, List, [], ◌∷◌, ◌++◌, length, map, take, drop, Result, Ok, Err, OnOk, IfErr, refl, ◌-◌, sym, ap, subst, ◌∙◌, append_assoc, arith}
 use Rattle.std.specs.List.{AllByRecursion}
-use Rattle.std.proofs.lemmas.List.{append-nil, length-append, length-drop}
+use Rattle.std.proofs.lemmas.List.{length-append, length-drop}
 use Rattle.std.proofs.Math.Seq.{take-length}
 use Rattle.llrp_tree.specs.Tree.{MessageTree}
 use Rattle.llrp_stream.specs.declared.item.Item.{Item}
@@ -9,9 +9,8 @@ use Rattle.llrp_session.specs.ReaderMachine.{Reader, ReaderEvent, Connect}
 use Rattle.llrp_tool.specs.declared.fault.ToolErr.{ToolErr}
 use Rattle.llrp_tool.specs.declared.script.Entry.{Entry}
 use Rattle.llrp_tool.specs.declared.serving.scripted.ScriptedReader.{ScriptedReader}
-use Rattle.llrp_tool.specs.declared.fault.ToolErr.TheVariants.{Memory}
 use Rattle.llrp_tool.specs.Serving.{Happening, happening, taking, entries_at, moment_after, last_moment, events, closing_events, run, said, Closes}
-use Rattle.llrp_tool.specs.Acting.{Adds, AddsSome, Did, DidSome, IsDue}
+use Rattle.llrp_tool.specs.Acting.{Did, DidSome, IsDue}
 use Rattle.llrp_tool.specs.ServingStands.{HasDone, HasTaken, IsNew, Connects, TakesItem, DoesEntries, greatest_count}
 use Rattle.llrp_tool.proofs.ActingLemmas.{said-append, reader-append, did_more, some_more, some_first}
 use Rattle.llrp_tool.proofs.ServingEvents.{events-snoc, events-none, moment_of_done, DueNow, due_now, done_more, left_of}

@@ -1,5 +1,5 @@
 -- What the items of a client and the entries of a script make of the simulated reader.
-use Rattle.std.specs.Prelude.{◌≡◌, ℕ, ◌+◌, ◌≤◌, ◌==◌, nat_le, ◌⊎◌, List, [], ◌∷◌, ◌++◌, length, map, Result, Ok, Err}
+use Rattle.std.specs.Prelude.{◌≡◌, ℕ, ◌+◌, ◌≤◌, ◌==◌, nat_le, List, [], ◌∷◌, ◌++◌, length, map, Result, Ok, Err}
 use Rattle.std.specs.List.{filter, AllByRecursion, AllZip}
 use Rattle.llrp_schema.specs.declared.kinds.MsgKind.TheVariants.{CloseConnection}
 use Rattle.llrp_tree.specs.declared.TheConstants.{MAX_LIMIT}

@@ -1,4 +1,4 @@
-use Rattle.std.proofs.Common.{◌<◌, ◌≡◌, List, ℕ, [], length, take, Ok, Err, subst, sym, ap, arith}
+use Rattle.std.proofs.Common.{◌≡◌, List, ℕ, [], take, Ok, Err, subst, ap, arith}
 use Rattle.std.proofs.lemmas.List.{length-take}
 use Rattle.std.proofs.lemmas.Result.{err_from_is_err_and}
 use Rattle.llrp_stream.specs.Device.{Took}

@@ -1,4 +1,3 @@
-use Rattle.std.proofs.Common.{◌≡◌, ℕ, List, [], ◌++◌}
 use Rattle.llrp_tool.proofs.ServeLemmas.{SoFar}
 use Rattle.llrp_tool.proofs.serve.run_serve.Given as goal
 

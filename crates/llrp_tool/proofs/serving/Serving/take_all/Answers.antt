@@ -1,4 +1,4 @@
-use Rattle.std.proofs.Common.{Ok, Err, false, true, refl, sym, arith}
+use Rattle.std.proofs.Common.{Ok, Err, false, true, refl, arith}
 use Rattle.std.proofs.lemmas.Bool.Decides.{nat_tests}
 use Rattle.std.proofs.lemmas.Result.{err_from_is_err_and}
 use Rattle.llrp_tool.proofs.ServingPieces.{so_far_none, so_far_more, taken_behind, all_taken, failed, went_on, took_closing, took_in_part, gave, gave_none, at_answer}
