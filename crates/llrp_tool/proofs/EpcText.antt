@@ -1,5 +1,5 @@
 -- An epc that the parse lets pass has its text.
-use Rattle.std.proofs.Common.{◌≡◌, ℕ, zero, suc, ◌<◌, ◌&&◌, ◌||◌, Bool, true, false, cond, not, List, [], ◌∷◌, ◌++◌, length, is_some, Option, Some, None, refl, sym, subst, arith, codes, length-append}
+use Rattle.std.proofs.Common.{◌≡◌, ℕ, zero, suc, ◌<◌, ◌&&◌, ◌||◌, Bool, true, false, cond, not, List, [], ◌∷◌, ◌++◌, length, is_some, Option, Some, None, refl, sym, ap, subst, get_or, arith, codes, length-append}
 use Rattle.std.specs.Prelude.{find, fold, slice_get, option_map, option_and_then, drop, encode_utf8, nat_le}
 use Rattle.std.specs.List.{list_all}
 use Rattle.std.specs.Option.{option_map_or}
@@ -306,6 +306,9 @@ the_text = with_index 1 (filled text_rule)
 abbrev the_help : Rule
 the_help = with_index 2 (filled help_rule)
 
+sim_is_not_epc : codes "sim" ≡ codes "epc" → ⊥
+sim_is_not_epc e = let first : 115 ≡ 101 = ap (λ (text : List ℕ). get_or text 0 0) e in omega (arith, first)
+
 all_give : AllGive (built llrp_app).subs
 unfolding llrp_app
 all_give = (
@@ -317,7 +320,7 @@ all_give = (
         two_sound the_text the_help (set_sound the_text refl refl) (help_sound the_help refl),
         λ rows valid. (both (is_given (codes "TEXT") rows) _ valid).0,
       ),
-      (λ e. cc, (λ e. cc, tt)),
+      (λ e. absurd (sim_is_not_epc e), (λ e. cc, tt)),
     ),
   ),
 )
