@@ -6,6 +6,9 @@ pub mod DeviceLemmas
 pub mod EpcLemmas
 pub mod EpcText
 pub mod FrameBytes
+pub mod GatheringFeeds
+pub mod GatheringLemmas
+pub mod GatheringSteps
 pub mod Growing
 pub mod HexadecimalLemmas
 pub mod LineReading
@@ -14,6 +17,7 @@ pub mod MessageWords
 pub mod Numerals
 pub mod OneEpcAnswer
 pub mod OneText
+pub mod PlanLemmas
 pub mod PrintingLemmas
 pub mod PrintsBack
 pub mod Rows
@@ -24,8 +28,10 @@ pub mod ScriptLines
 pub mod ScriptTexts
 pub mod ScriptUnique
 pub mod ScriptWords
+pub mod SendingLemmas
 pub mod ShowLemmas
 pub mod Standing
+pub mod TagLineLemmas
 pub mod Telling
 pub mod TextLemmas
 pub mod WordLemmas

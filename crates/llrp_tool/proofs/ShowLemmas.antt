@@ -16,7 +16,7 @@ use Rattle.llrp_stream.proofs.FrontLemmas.{no_frame_breaks}
 use Rattle.llrp_stream.proofs.RunLemmas.{items_grow}
 use Rattle.llrp_stream.proofs.Unique.{same_items}
 use Rattle.llrp_tool.specs.declared.fault.ToolErr.{ToolErr}
-use Rattle.llrp_tool.specs.declared.fault.ToolErr.TheVariants.{Listing, Script, Read, Write, Bound, Memory, Hex}
+use Rattle.llrp_tool.specs.declared.fault.ToolErr.TheVariants.{Listing, Script, Read, Write, Bound, Memory, Broken, Peer, Strange, Early, Hex}
 use Rattle.llrp_tool.specs.declared.fault.Verdict.{Verdict}
 use Rattle.llrp_tool.specs.declared.show.Lister.{Lister}
 use Rattle.llrp_tool.specs.Copying.{HandsOn, IsPrefix, Writes, ReadAll}
@@ -128,6 +128,10 @@ write_stopped limit bytes sent text old now after Memory log begins failed = abs
 write_stopped limit bytes sent text old now after Read log begins failed = absurd failed.2
 write_stopped limit bytes sent text old now after Bound log begins failed = absurd failed.2
 write_stopped limit bytes sent text old now after Hex log begins failed = absurd failed.2
+write_stopped limit bytes sent text old now after Broken log begins failed = absurd failed.2
+write_stopped limit bytes sent text old now after (Peer status) log begins failed = absurd failed.2
+write_stopped limit bytes sent text old now after Strange log begins failed = absurd failed.2
+write_stopped limit bytes sent text old now after Early log begins failed = absurd failed.2
 write_stopped limit bytes sent text old now after (Script line) log begins failed = absurd failed.2
 write_stopped limit bytes sent text old now after (Listing line reason) log begins failed = absurd failed.2
 
@@ -335,6 +339,10 @@ stopped_reading limit r0 r1 w0 w1 bytes Memory read stopped = (bytes, read, stop
 stopped_reading limit r0 r1 w0 w1 bytes Read read stopped = absurd stopped.log
 stopped_reading limit r0 r1 w0 w1 bytes Bound read stopped = absurd stopped.log
 stopped_reading limit r0 r1 w0 w1 bytes Hex read stopped = absurd stopped.log
+stopped_reading limit r0 r1 w0 w1 bytes Broken read stopped = absurd stopped.log
+stopped_reading limit r0 r1 w0 w1 bytes (Peer status) read stopped = absurd stopped.log
+stopped_reading limit r0 r1 w0 w1 bytes Strange read stopped = absurd stopped.log
+stopped_reading limit r0 r1 w0 w1 bytes Early read stopped = absurd stopped.log
 stopped_reading limit r0 r1 w0 w1 bytes (Script line) read stopped = absurd stopped.log
 stopped_reading limit r0 r1 w0 w1 bytes (Listing line reason) read stopped = absurd stopped.log
 

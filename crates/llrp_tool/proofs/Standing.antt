@@ -8,7 +8,7 @@ use Rattle.llrp_tool.specs.declared.message.Message.{Message}
 use Rattle.llrp_tool.specs.declared.fault.Refusal.{Refusal}
 use Rattle.llrp_tool.specs.declared.fault.Refusal.TheVariants.{Line}
 use Rattle.llrp_tool.specs.declared.fault.ToolErr.{ToolErr}
-use Rattle.llrp_tool.specs.declared.fault.ToolErr.TheVariants.{Listing, Script, Hex, Read, Write, Bound, Memory}
+use Rattle.llrp_tool.specs.declared.fault.ToolErr.TheVariants.{Listing, Script, Hex, Read, Write, Bound, Memory, Broken, Peer, Strange, Early}
 use Rattle.llrp_tool.specs.Checks.{FirstFailing}
 use Rattle.llrp_tool.specs.Copying.{Writes, HandsOn}
 use Rattle.llrp_stream.specs.Device.{SinkLog, Wrote}
@@ -192,6 +192,10 @@ refusal_stops limit now later why Read le s bad w = absurd w
 refusal_stops limit now later why Bound le s bad w = absurd w
 refusal_stops limit now later why (Script at) le s bad w = absurd w
 refusal_stops limit now later why Hex le s bad w = absurd w
+refusal_stops limit now later why Broken le s bad w = absurd w
+refusal_stops limit now later why (Peer status) le s bad w = absurd w
+refusal_stops limit now later why Strange le s bad w = absurd w
+refusal_stops limit now later why Early le s bad w = absurd w
 
 pub refusal_result : (limit : ℕ) (now : SinkLog) {start mid : SinkLog} {text : List ℕ} {pending : Option Message} {number : ℕ} {line out : List ℕ} (later : List ℕ) (why : Refusal) (A : Unit {0} → Type 0) (r : Result (Unit {0}) ToolErr) → 10 ≤ limit → (s : StandsAt start mid text pending number line out)
     → RefusedAfter limit (text ++ later) number why s.done → IsErrAnd r (λ e. Refusing number out why mid now e) → MatchResult r A (Stopped limit start now (text ++ later))
@@ -215,6 +219,10 @@ refusal_ends limit now why Read le s bad w = absurd w
 refusal_ends limit now why Bound le s bad w = absurd w
 refusal_ends limit now why (Script at) le s bad w = absurd w
 refusal_ends limit now why Hex le s bad w = absurd w
+refusal_ends limit now why Broken le s bad w = absurd w
+refusal_ends limit now why (Peer status) le s bad w = absurd w
+refusal_ends limit now why Strange le s bad w = absurd w
+refusal_ends limit now why Early le s bad w = absurd w
 
 pub refusal_end : (limit : ℕ) (now : SinkLog) {start mid : SinkLog} {text : List ℕ} {pending : Option Message} {number : ℕ} {line out : List ℕ} (why : Refusal) (A : Unit {0} → Type 0) (r : Result (Unit {0}) ToolErr) → 10 ≤ limit → (s : StandsAt start mid text pending number line out)
     → Refused (rules_for limit) (lines_of text) (number + 1) why (row s.done) → IsErrAnd r (λ e. Refusing number out why mid now e) → MatchResult r A (StoppedAtEnd limit start now text)
@@ -249,6 +257,10 @@ pieces_stop limit now part m out1 Read le s n ok appends w = absurd w.2
 pieces_stop limit now part m out1 Bound le s n ok appends w = absurd w.2
 pieces_stop limit now part m out1 (Script at) le s n ok appends w = absurd w.2
 pieces_stop limit now part m out1 Hex le s n ok appends w = absurd w.2
+pieces_stop limit now part m out1 Broken le s n ok appends w = absurd w.2
+pieces_stop limit now part m out1 (Peer status) le s n ok appends w = absurd w.2
+pieces_stop limit now part m out1 Strange le s n ok appends w = absurd w.2
+pieces_stop limit now part m out1 Early le s n ok appends w = absurd w.2
 
 -- stopped is stopped, whatever follows
 begins_more : (limit : ℕ) (text later bytes : List ℕ) → BeginsEncoding limit text bytes → BeginsEncoding limit (text ++ later) bytes
@@ -262,6 +274,10 @@ stopped_more limit start now text later Read s = s
 stopped_more limit start now text later Bound s = s
 stopped_more limit start now text later (Script at) s = s
 stopped_more limit start now text later Hex s = s
+stopped_more limit start now text later Broken s = s
+stopped_more limit start now text later (Peer status) s = s
+stopped_more limit start now text later Strange s = s
+stopped_more limit start now text later Early s = s
 
 -- the text ends
 
@@ -300,6 +316,10 @@ text_ends limit now line out1 le s none appends (Err Read) w = absurd w.2
 text_ends limit now line out1 le s none appends (Err Bound) w = absurd w.2
 text_ends limit now line out1 le s none appends (Err (Script at)) w = absurd w.2
 text_ends limit now line out1 le s none appends (Err Hex) w = absurd w.2
+text_ends limit now line out1 le s none appends (Err Broken) w = absurd w.2
+text_ends limit now line out1 le s none appends (Err (Peer status)) w = absurd w.2
+text_ends limit now line out1 le s none appends (Err Strange) w = absurd w.2
+text_ends limit now line out1 le s none appends (Err Early) w = absurd w.2
 
 -- one step of the code
 

@@ -5,7 +5,7 @@ use Rattle.llrp_tool.specs.declared.message.Message.{Message}
 use Rattle.llrp_tool.specs.declared.encode.Encoder.{Encoder}
 use Rattle.llrp_tool.specs.declared.fault.Refusal.{Refusal}
 use Rattle.llrp_tool.specs.declared.fault.ToolErr.{ToolErr}
-use Rattle.llrp_tool.specs.declared.fault.ToolErr.TheVariants.{Listing, Script, Hex, Read, Write, Bound, Memory}
+use Rattle.llrp_tool.specs.declared.fault.ToolErr.TheVariants.{Listing, Script, Hex, Read, Write, Bound, Memory, Broken, Peer, Strange, Early}
 use Rattle.llrp_tool.specs.Copying.{IsPrefix}
 use Rattle.llrp_stream.specs.Device.{SinkLog, Wrote, WroteAndFailed}
 use Rattle.llrp_tool.specs.Encoding.{AreSpelled, BeginsEncoding, Encodes, Refuses, row}
@@ -70,6 +70,10 @@ Stopped limit w0 w1 front Read = ⊥
 Stopped limit w0 w1 front Bound = ⊥
 Stopped limit w0 w1 front (Script line) = ⊥
 Stopped limit w0 w1 front Hex = ⊥
+Stopped limit w0 w1 front Broken = ⊥
+Stopped limit w0 w1 front (Peer status) = ⊥
+Stopped limit w0 w1 front Strange = ⊥
+Stopped limit w0 w1 front Early = ⊥
 
 -- the encoder stopped at the end of this text
 abbrev pub StoppedAtEnd : ℕ → SinkLog → SinkLog → List ℕ → ToolErr → Type 0
@@ -80,6 +84,10 @@ StoppedAtEnd limit w0 w1 text Read = ⊥
 StoppedAtEnd limit w0 w1 text Bound = ⊥
 StoppedAtEnd limit w0 w1 text (Script line) = ⊥
 StoppedAtEnd limit w0 w1 text Hex = ⊥
+StoppedAtEnd limit w0 w1 text Broken = ⊥
+StoppedAtEnd limit w0 w1 text (Peer status) = ⊥
+StoppedAtEnd limit w0 w1 text Strange = ⊥
+StoppedAtEnd limit w0 w1 text Early = ⊥
 
 -- the encoding of the text was written
 abbrev pub WroteEncoding : ℕ → SinkLog → SinkLog → List ℕ → Type 0
@@ -94,6 +102,10 @@ Refusing number out why w0 w1 Read = ⊥
 Refusing number out why w0 w1 Bound = ⊥
 Refusing number out why w0 w1 (Script line) = ⊥
 Refusing number out why w0 w1 Hex = ⊥
+Refusing number out why w0 w1 Broken = ⊥
+Refusing number out why w0 w1 (Peer status) = ⊥
+Refusing number out why w0 w1 Strange = ⊥
+Refusing number out why w0 w1 Early = ⊥
 
 -- the frame of the message, if there is one, was appended
 abbrev pub AppendsFrame : Option Message → List ℕ → List ℕ → Type 0

@@ -4,7 +4,7 @@ use Rattle.std.specs.List.{flat_map, AllZip}
 use Rattle.llrp_tool.specs.declared.message.Message.{Message}
 use Rattle.llrp_tool.specs.declared.fault.Refusal.{Refusal}
 use Rattle.llrp_tool.specs.declared.fault.ToolErr.{ToolErr}
-use Rattle.llrp_tool.specs.declared.fault.ToolErr.TheVariants.{Listing, Script, Hex, Read, Write, Bound, Memory}
+use Rattle.llrp_tool.specs.declared.fault.ToolErr.TheVariants.{Listing, Script, Hex, Read, Write, Bound, Memory, Broken, Peer, Strange, Early}
 use Rattle.llrp_tool.specs.Copying.{MOST_READS, ReadAll, GaveAndFailed, IsPrefix}
 use Rattle.llrp_stream.specs.Device.{SourceLog, SinkLog, Gave, Wrote, WroteAndFailed}
 use Rattle.llrp_tool.specs.FirstRefusal.{Opens, Refused}
@@ -74,6 +74,10 @@ EncodeStopped limit r0 r1 w0 w1 Bound = (front bytes : List ℕ) × Gave r0 r1 M
 EncodeStopped limit r0 r1 w0 w1 Memory = (front bytes : List ℕ) × WasRead r0 r1 front × Wrote w0 w1 bytes × BeginsEncoding limit front bytes
 EncodeStopped limit r0 r1 w0 w1 (Script line) = ⊥
 EncodeStopped limit r0 r1 w0 w1 Hex = ⊥
+EncodeStopped limit r0 r1 w0 w1 Broken = ⊥
+EncodeStopped limit r0 r1 w0 w1 (Peer status) = ⊥
+EncodeStopped limit r0 r1 w0 w1 Strange = ⊥
+EncodeStopped limit r0 r1 w0 w1 Early = ⊥
 
 -- All was read until a read met the end, and the encoding of the text was written.
 pub record Encoded (limit : ℕ) (r0 r1 : SourceLog) (w0 w1 : SinkLog) : Type 0 where

@@ -6,6 +6,8 @@ pub mod Encoding
 pub mod EpcLines
 pub mod FirstRefusal
 pub mod Frame
+pub mod Gathering
+pub mod GatheringStands
 pub mod Hexadecimal
 pub mod Lines
 pub mod Lister
@@ -15,6 +17,7 @@ pub mod MessageLine
 pub mod MessageListing
 pub mod NodeLine
 pub mod OpenText
+pub mod Plan
 pub mod Printing
 pub mod PrintingLaws
 pub mod Reading
@@ -22,6 +25,8 @@ pub mod Refused
 pub mod Schema
 pub mod Script
 pub mod ScriptLaws
+pub mod Sending
 pub mod Show
 pub mod StreamListing
+pub mod TagLines
 pub mod Words

@@ -5,7 +5,7 @@ use Rattle.std.specs.Int.{w8}
 use Rattle.std.specs.List.Sorted.{IsNonDecreasingBy}
 use Rattle.tag_uri.specs.TagText.{IsTextOf}
 use Rattle.llrp_tool.specs.declared.fault.ToolErr.{ToolErr}
-use Rattle.llrp_tool.specs.declared.fault.ToolErr.TheVariants.{Listing, Script, Hex, Read, Write, Bound, Memory}
+use Rattle.llrp_tool.specs.declared.fault.ToolErr.TheVariants.{Listing, Script, Hex, Read, Write, Bound, Memory, Broken, Peer, Strange, Early}
 use Rattle.llrp_tool.specs.declared.sighting.Sighting.{Sighting}
 use Rattle.llrp_tool.specs.declared.script.Action.{Action}
 use Rattle.llrp_tool.specs.declared.script.Action.TheVariants.{Seen, Tick}
@@ -94,6 +94,10 @@ ParseStopped text (Script line) = IsRefusedAt text line
 ParseStopped text Memory = Unit {0}
 ParseStopped text (Listing line reason) = ⊥
 ParseStopped text Hex = ⊥
+ParseStopped text Broken = ⊥
+ParseStopped text (Peer status) = ⊥
+ParseStopped text Strange = ⊥
+ParseStopped text Early = ⊥
 ParseStopped text Read = ⊥
 ParseStopped text Write = ⊥
 ParseStopped text Bound = ⊥

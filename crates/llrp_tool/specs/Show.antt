@@ -6,7 +6,7 @@ use Rattle.llrp_stream.specs.Device.{SourceLog, SinkLog, Gave, Wrote, WroteAndFa
 use Rattle.llrp_stream.specs.Cuts.{IsPartial}
 use Rattle.llrp_stream.specs.Items.{Items, ItemsSoFar}
 use Rattle.llrp_tool.specs.declared.fault.ToolErr.{ToolErr}
-use Rattle.llrp_tool.specs.declared.fault.ToolErr.TheVariants.{Listing, Script, Hex, Read, Write, Bound, Memory}
+use Rattle.llrp_tool.specs.declared.fault.ToolErr.TheVariants.{Listing, Script, Hex, Read, Write, Bound, Memory, Broken, Peer, Strange, Early}
 use Rattle.llrp_tool.specs.declared.fault.Verdict.{Verdict}
 use Rattle.llrp_tool.specs.declared.fault.Verdict.TheVariants.{Lawful, Faulty}
 use Rattle.llrp_tool.specs.Copying.{MOST_READS, ReadAll, GaveAndFailed, IsPrefix}
@@ -40,6 +40,10 @@ ListStopped old new front Read = ⊥
 ListStopped old new front Bound = ⊥
 ListStopped old new front (Script line) = ⊥
 ListStopped old new front Hex = ⊥
+ListStopped old new front Broken = ⊥
+ListStopped old new front (Peer status) = ⊥
+ListStopped old new front Strange = ⊥
+ListStopped old new front Early = ⊥
 ListStopped old new front (Listing line reason) = ⊥
 
 -- A front of the listing of the bytes was written.
@@ -66,6 +70,10 @@ ShowStopped limit r0 r1 w0 w1 Bound = (bytes : List ℕ) × Gave r0 r1 MOST_READ
 ShowStopped limit r0 r1 w0 w1 Write = (bytes : List ℕ) × WasRead r0 r1 bytes × Stopped limit bytes w0 w1 Write
 ShowStopped limit r0 r1 w0 w1 Memory = (bytes : List ℕ) × WasRead r0 r1 bytes × Stopped limit bytes w0 w1 Memory
 ShowStopped limit r0 r1 w0 w1 Hex = ⊥
+ShowStopped limit r0 r1 w0 w1 Broken = ⊥
+ShowStopped limit r0 r1 w0 w1 (Peer status) = ⊥
+ShowStopped limit r0 r1 w0 w1 Strange = ⊥
+ShowStopped limit r0 r1 w0 w1 Early = ⊥
 ShowStopped limit r0 r1 w0 w1 (Script line) = ⊥
 ShowStopped limit r0 r1 w0 w1 (Listing line reason) = ⊥
 

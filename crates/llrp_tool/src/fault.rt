@@ -79,9 +79,21 @@ pub enum ToolErr {
     /// The source gave bytes in more reads than a command makes.
     #[error("the input is too long")]
     Bound,
+    /// A length field below 10, which no frame has.
+    #[error("the stream of messages breaks off")]
+    Broken,
     /// A growth was refused.
     #[error("out of memory")]
     Memory,
+    /// The reader answered with this status, which is not 0.
+    #[error("the reader answered with status {0}")]
+    Peer(u16),
+    /// The reader sent what no reader sends there.
+    #[error("the reader sent something strange")]
+    Strange,
+    /// The input or the connection ended before the work was done.
+    #[error("the input ended too early")]
+    Early,
 }
 
 impl From<AllocError> for ToolErr {
