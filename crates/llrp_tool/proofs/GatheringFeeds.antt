@@ -1,5 +1,5 @@
 -- What the items of a piece make of a client that follows a plan.
-use Rattle.std.proofs.Common.{◌≡◌, ℕ, ◌==◌, ◌≤◌, Bool, true, false, List, [], ◌∷◌, ◌++◌, length, map, take, drop, refl, sym, ap, subst, ◌∙◌, append_assoc, Err, Ok, arith}
+use Rattle.std.proofs.Common.{◌≡◌, ℕ, ◌==◌, Bool, true, false, List, [], ◌∷◌, ◌++◌, length, map, take, drop, refl, sym, ap, subst, ◌∙◌, append_assoc, Err, Ok, arith}
 use Rattle.std.specs.Prelude.{Result, Some, None}
 use Rattle.std.proofs.lemmas.Bool.{ne_eqb}
 use Rattle.std.proofs.lemmas.List.{append-nil, take-append-drop}
@@ -16,11 +16,10 @@ use Rattle.llrp_tool.specs.declared.fault.ToolErr.{ToolErr}
 use Rattle.llrp_tool.specs.declared.fault.ToolErr.TheVariants.{Listing, Script, Hex, Read, Write, Bound, Broken, Memory, Peer, Strange, Early}
 use Rattle.llrp_tool.specs.declared.gathering.Gathering.{Gathering}
 use Rattle.llrp_tool.specs.declared.gathering.Phase.{Phase}
-use Rattle.llrp_tool.specs.declared.gathering.Phase.TheVariants.{Open}
 use Rattle.llrp_tool.specs.Plan.{Plan}
 use Rattle.llrp_tool.specs.Gathering.{Course, begun, after_item, goes, follow, Gathers}
-use Rattle.llrp_tool.specs.GatheringStands.{Holds, StandsFor, Moves, MovesSome, Stops, Does, Fails, Feeds, error_by}
-use Rattle.llrp_tool.proofs.GatheringLemmas.{open_text, some_all, still, moves_on, moves_some, stops_after}
+use Rattle.llrp_tool.specs.GatheringStands.{Holds, StandsFor, Stops, Does, Fails, Feeds, error_by}
+use Rattle.llrp_tool.proofs.GatheringLemmas.{open_text, some_all, still, moves_on, stops_after}
 
 -- ---- items
 
@@ -55,15 +54,18 @@ went_nowhere limit plan bytes rest c g o r s =
 pub piece_kept : (limit : ℕ) (plan : Plan) (bytes piece : List ℕ) (c : Course) (g : Gathering) (new : DecoderState) (used : ℕ) (o0 o1 r0 r1 : List ℕ) (w : Feeds limit plan bytes c g o0 o1 r0 r1 (Ok false))
     → new.limit ≡ g.decoder.limit → Takes g.decoder.limit w.0 piece new used None → Feeds limit plan (bytes ++ piece) c (record g { decoder = new }) o0 o1 r0 r1 (Ok false)
 piece_kept limit plan bytes piece c g new used o0 o1 r0 r1 w l t =
-    let s = w.2 in
-    (w.0 ++ piece, w.1,
-    record {
-      gathers = gathers_more limit plan bytes w.0 piece w.1 s.gathers;
-      open_is = s.open_is;
-      holds = record { client_is = s.holds.client_is; left_is = s.holds.left_is; awaits_is = s.holds.awaits_is; tags_is = s.holds.tags_is; reports_is = s.holds.reports_is };
-      decoder = t.1;
-      limit_is = l ∙ s.limit_is;
-    }, w.3)
+    let s = w.2 in (
+      w.0 ++ piece,
+      w.1,
+      record {
+        gathers = gathers_more limit plan bytes w.0 piece w.1 s.gathers;
+        open_is = s.open_is;
+        holds = record { client_is = s.holds.client_is; left_is = s.holds.left_is; awaits_is = s.holds.awaits_is; tags_is = s.holds.tags_is; reports_is = s.holds.reports_is };
+        decoder = t.1;
+        limit_is = l ∙ s.limit_is;
+      },
+      w.3,
+    )
 
 -- the stream breaks off
 pub piece_breaks : (limit : ℕ) (plan : Plan) (bytes piece : List ℕ) (c : Course) (g : Gathering) (o0 o1 r0 r1 : List ℕ) (w : Feeds limit plan bytes c g o0 o1 r0 r1 (Ok false)) → Breaks (w.0 ++ piece)
@@ -73,19 +75,22 @@ piece_breaks limit plan bytes piece c g o0 o1 r0 r1 w b = (w.0 ++ piece, w.1, ga
 -- memory ran out in the decoder
 pub piece_lost : (limit : ℕ) (plan : Plan) (bytes piece : List ℕ) (c : Course) (g : Gathering) (o0 o1 r0 r1 : List ℕ) → Feeds limit plan bytes c g o0 o1 r0 r1 (Ok false) → Fails limit plan (bytes ++ piece) c o0 o1 r0 r1 Memory
 piece_lost limit plan bytes piece c g o0 o1 r0 r1 w =
-    let m = w.3 in
-    (w.0 ++ piece, w.1, gathers_more limit plan bytes w.0 piece w.1 w.2.gathers,
-    record {
-      messages = m.messages;
-      reports = m.reports;
-      later = [];
-      lines = m.lines;
-      sent_are = m.sent_are;
-      reports_are = m.reports_are ∙ ap (λ (x : List (List Tree)). c.reports ++ x) (sym (append-nil m.reports));
-      frames = some_all (map client_message m.messages) o0 o1 m.frames;
-      are = m.are;
-      printed = m.printed ∙ ap (λ (x : List ℕ). r0 ++ (m.lines ++ x)) (open_text w.1.phase w.1.reports w.2.open_is) ∙ ap (λ (x : List ℕ). r0 ++ x) (append-nil m.lines);
-    })
+    let m = w.3 in (
+      w.0 ++ piece,
+      w.1,
+      gathers_more limit plan bytes w.0 piece w.1 w.2.gathers,
+      record {
+        messages = m.messages;
+        reports = m.reports;
+        later = [];
+        lines = m.lines;
+        sent_are = m.sent_are;
+        reports_are = m.reports_are ∙ ap (λ (x : List (List Tree)). c.reports ++ x) (sym (append-nil m.reports));
+        frames = some_all (map client_message m.messages) o0 o1 m.frames;
+        are = m.are;
+        printed = m.printed ∙ ap (λ (x : List ℕ). r0 ++ (m.lines ++ x)) (open_text w.1.phase w.1.reports w.2.open_is) ∙ ap (λ (x : List ℕ). r0 ++ x) (append-nil m.lines);
+      },
+    )
 
 -- what stopped it
 fails_by : (limit : ℕ) (plan : Plan) (bytes rest : List ℕ) (c d : Course) (o0 o1 r0 r1 : List ℕ) (error : ToolErr) → Gathers limit plan bytes rest d → Stops c d o0 o1 r0 r1 error → Fails limit plan bytes c o0 o1 r0 r1 error
@@ -131,16 +136,18 @@ pub item_goes : (limit : ℕ) (plan : Plan) (bytes piece : List ℕ) (c : Course
     → new.limit ≡ g.decoder.limit → Takes g.decoder.limit w.0 piece new used (Some item) → h.decoder ≡ new → Does w.1 (after_item item w.1) h o1 o2 r1 r2 (Ok false) → Feeds limit plan (bytes ++ take used piece) c h o0 o2 r0 r2 (Ok false)
 item_goes limit plan bytes piece c g h new used item o0 o1 o2 r0 r1 r2 w l t kept s =
     let d = after_item item w.1 in
-    let takes : Takes limit w.0 piece new used (Some item) = subst (λ (n : ℕ). Takes n w.0 piece new used (Some item)) w.2.limit_is t in
-    ([], d,
-    record {
-      gathers = gathers_item limit plan bytes w.0 piece w.1 g new used item w.2 takes;
-      open_is = s.0;
-      holds = s.1;
-      decoder = subst (λ (k : DecoderState). Stands k []) (sym kept) takes.3;
-      limit_is = ap (λ (k : DecoderState). k.limit) kept ∙ l ∙ w.2.limit_is;
-    },
-    moves_on c w.1 d o0 o1 o2 r0 r1 r2 w.3 w.2.open_is s.2)
+    let takes : Takes limit w.0 piece new used (Some item) = subst (λ (n : ℕ). Takes n w.0 piece new used (Some item)) w.2.limit_is t in (
+      [],
+      d,
+      record {
+        gathers = gathers_item limit plan bytes w.0 piece w.1 g new used item w.2 takes;
+        open_is = s.0;
+        holds = s.1;
+        decoder = subst (λ (k : DecoderState). Stands k []) (sym kept) takes.3;
+        limit_is = ap (λ (k : DecoderState). k.limit) kept ∙ l ∙ w.2.limit_is;
+      },
+      moves_on c w.1 d o0 o1 o2 r0 r1 r2 w.3 w.2.open_is s.2,
+    )
 
 -- the same with its decoder fed
 pub holds_fed : (c : Course) (g : Gathering) (new : DecoderState) → Holds c g → Holds c (record g { decoder = new })
@@ -169,12 +176,15 @@ pub feeds_phase : (limit : ℕ) (plan : Plan) (bytes : List ℕ) (c : Course) (g
 feeds_phase limit plan bytes c g p o0 o1 r0 r1 (Ok true) f = f
 feeds_phase limit plan bytes c g p o0 o1 r0 r1 (Err error) f = f
 feeds_phase limit plan bytes c g p o0 o1 r0 r1 (Ok false) f =
-    let s = f.2 in
-    (f.0, f.1,
-    record {
-      gathers = s.gathers;
-      open_is = s.open_is;
-      holds = record { client_is = s.holds.client_is; left_is = s.holds.left_is; awaits_is = s.holds.awaits_is; tags_is = s.holds.tags_is; reports_is = s.holds.reports_is };
-      decoder = s.decoder;
-      limit_is = s.limit_is;
-    }, f.3)
+    let s = f.2 in (
+      f.0,
+      f.1,
+      record {
+        gathers = s.gathers;
+        open_is = s.open_is;
+        holds = record { client_is = s.holds.client_is; left_is = s.holds.left_is; awaits_is = s.holds.awaits_is; tags_is = s.holds.tags_is; reports_is = s.holds.reports_is };
+        decoder = s.decoder;
+        limit_is = s.limit_is;
+      },
+      f.3,
+    )

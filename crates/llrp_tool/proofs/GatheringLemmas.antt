@@ -1,34 +1,27 @@
 -- How a client goes on with its plan.
-use Rattle.std.proofs.Common.{◌≡◌, ℕ, ◌+◌, ◌==◌, ◌≤◌, Bool, true, false, cond, eqb, List, [], ◌∷◌, ◌++◌, length, map, min, take, drop, get_or, refl, sym, ap, subst, ◌∙◌, append_assoc, arith, ◌<◌, Err, Ok}
-use Rattle.std.specs.Prelude.{Result, IsOk, Option, Some, None}
-use Rattle.std.specs.List.{flat_map, AllZip}
-use Rattle.std.proofs.lemmas.List.{append-nil, map-append, take_more, length-append, take-append-drop}
+use Rattle.std.proofs.Common.{◌≡◌, ℕ, Bool, true, false, List, [], ◌∷◌, ◌++◌, map, refl, sym, ap, subst, ◌∙◌, append_assoc, Err, Ok}
+use Rattle.std.specs.Prelude.{Result}
+use Rattle.std.proofs.lemmas.List.{append-nil, map-append}
 use Rattle.std.proofs.lemmas.List.Concat.{flat_map-append}
 use Rattle.llrp_tree.specs.Tree.{Tree, MessageTree}
 use Rattle.llrp_session.specs.declared.words.Command.{Command}
-use Rattle.llrp_session.specs.declared.words.Taken.{Taken}
-use Rattle.llrp_session.specs.declared.words.Taken.TheVariants.{Connected, Refused, Reply, Tags, Event, Note, Kept, Closed as ConnectionEnded}
 use Rattle.llrp_session.specs.declared.client.refusal.CmdFault.{CmdFault}
 use Rattle.llrp_session.specs.declared.client.refusal.CmdFault.TheVariants as cmd
-use Rattle.llrp_session.specs.declared.client.refusal.TakeFault.{TakeFault}
-use Rattle.llrp_session.specs.declared.client.refusal.TakeFault.TheVariants as tf
-use Rattle.llrp_session.specs.ClientSteps.{IsCmdFault, IsTakeFault}
-use Rattle.llrp_session.specs.ClientMachine.{Client, Sending, Taking, command}
+use Rattle.llrp_session.specs.ClientSteps.{IsCmdFault}
+use Rattle.llrp_session.specs.ClientMachine.{Client, Sending, command}
 use Rattle.llrp_session.specs.ClientMessages.{client_message}
 use Rattle.llrp_session.specs.Refusal.{Refusal}
 use Rattle.llrp_session.specs.Words.{ClientMessage}
 use Rattle.llrp_tool.specs.declared.fault.ToolErr.{ToolErr}
 use Rattle.llrp_tool.specs.declared.fault.ToolErr.TheVariants.{Listing, Script, Hex, Read, Write, Bound, Broken, Memory, Peer, Strange, Early}
-use Rattle.llrp_tool.specs.declared.gathering.Awaits.{Awaits}
-use Rattle.llrp_tool.specs.declared.gathering.Awaits.TheVariants.{Answer, Report, End}
 use Rattle.llrp_tool.specs.declared.gathering.Gathering.{Gathering}
 use Rattle.llrp_tool.specs.declared.gathering.left.Left.{Left}
 use Rattle.llrp_tool.specs.declared.gathering.Phase.{Phase}
-use Rattle.llrp_tool.specs.declared.gathering.Phase.TheVariants.{Open, Closed, Failed}
+use Rattle.llrp_tool.specs.declared.gathering.Phase.TheVariants.{Open, Failed}
 use Rattle.llrp_tool.specs.Sending.{Adds, AddsSome}
-use Rattle.llrp_tool.specs.TagLines.{AreReports, AreReportLines, tags_in, tag_count, report_count, greatest_count, total_line}
-use Rattle.llrp_tool.specs.Gathering.{Course, ends, ended, awaited_after, sends_by, sends, goes_on, reported, after, after_taking}
-use Rattle.llrp_tool.specs.GatheringStands.{commands_left, Holds, closing_text, Moves, MovesSome, Stops, Does, error_by_command, error_by_message}
+use Rattle.llrp_tool.specs.TagLines.{AreReports, AreReportLines}
+use Rattle.llrp_tool.specs.Gathering.{Course, ends, awaited_after, sends_by, sends, goes_on}
+use Rattle.llrp_tool.specs.GatheringStands.{commands_left, Holds, closing_text, Moves, MovesSome, Stops, Does, error_by_command}
 use Rattle.llrp_tool.proofs.SendingLemmas.{zip_append, adds_none, adds_more}
 
 -- ---- reports one after another
@@ -105,7 +98,7 @@ moves_some c d e o0 o1 o2 r0 r1 r2 p opened q =
       lines = p.lines ++ q.lines;
       sent_are = q.sent_are ∙ ap (λ (x : List ClientMessage). x ++ q.messages) p.sent_are ∙ append_assoc c.sent p.messages q.messages;
       reports_are = q.reports_are ∙ ap (λ (x : List (List Tree)). x ++ (q.reports ++ q.later)) p.reports_are ∙ append_assoc c.reports p.reports (q.reports ++ q.later)
-      ∙ ap (λ (x : List (List Tree)). c.reports ++ x) (sym (append_assoc p.reports q.reports q.later));
+          ∙ ap (λ (x : List (List Tree)). c.reports ++ x) (sym (append_assoc p.reports q.reports q.later));
       frames = rw (map-append client_message p.messages q.messages) (some_more (map client_message p.messages) (map client_message q.messages) o0 o1 o2 p.frames q.frames);
       are = reports_append p.reports q.reports p.lines q.lines p.are q.are;
       printed = q.printed ∙ ap (λ (x : List ℕ). x ++ q.lines) before ∙ append_assoc r0 p.lines q.lines;
@@ -205,15 +198,17 @@ pub sent_all : (c : Course) (old : Gathering) (new : Left) (k : Command) (sendin
     → Does c (goes_on c) (record old { left = new; client = sending.client; awaits = awaited_after k }) o0 o1 r r (Ok false)
 sent_all c old new k sending messages o0 o1 r h opened l e m a =
     let g = record old { left = new; client = sending.client; awaits = awaited_after k } in
-    subst (λ (d : Course). Does c d (record old { left = new; client = sending.client; awaits = awaited_after k }) o0 o1 r r (Ok false)) (sent_one c old k (commands_left new) sending h l e)
-    (opened, record { client_is = refl; left_is = refl; awaits_is = refl; tags_is = h.tags_is; reports_is = h.reports_is },
-    record {
-      messages = sending.message ∷ [];
-      reports = [];
-      lines = [];
-      sent_are = refl;
-      reports_are = sym (append-nil c.reports);
-      frames = subst (λ (ms : List MessageTree). Adds ms o0 o1) m a;
-      are = reports_none;
-      printed = sym (append-nil r) ∙ ap (λ (x : List ℕ). r ++ x) (sym (open_text c.phase c.reports opened));
-    })
+    subst (λ (d : Course). Does c d (record old { left = new; client = sending.client; awaits = awaited_after k }) o0 o1 r r (Ok false)) (sent_one c old k (commands_left new) sending h l e) (
+      opened,
+      record { client_is = refl; left_is = refl; awaits_is = refl; tags_is = h.tags_is; reports_is = h.reports_is },
+      record {
+        messages = sending.message ∷ [];
+        reports = [];
+        lines = [];
+        sent_are = refl;
+        reports_are = sym (append-nil c.reports);
+        frames = subst (λ (ms : List MessageTree). Adds ms o0 o1) m a;
+        are = reports_none;
+        printed = sym (append-nil r) ∙ ap (λ (x : List ℕ). r ++ x) (sym (open_text c.phase c.reports opened));
+      },
+    )

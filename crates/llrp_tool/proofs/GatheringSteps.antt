@@ -1,9 +1,7 @@
 -- What a client that follows a plan makes of a message.
-use Rattle.std.proofs.Common.{◌≡◌, ℕ, ◌+◌, ◌==◌, ◌≤◌, Bool, true, false, cond, eqb, List, [], ◌∷◌, ◌++◌, length, map, min, take, drop, get_or, refl, inl, inr, sym, ap, subst, ◌∙◌, append_assoc, arith, ◌<◌, Err, Ok}
-use Rattle.std.specs.Prelude.{Result, IsOk, Option, Some, None, ◌⊎◌, if◌then◌else◌}
-use Rattle.std.specs.List.{flat_map, AllZip}
-use Rattle.std.proofs.lemmas.List.{append-nil, map-append, take_more, length-append, take-append-drop}
-use Rattle.std.proofs.lemmas.List.Concat.{flat_map-append}
+use Rattle.std.proofs.Common.{◌≡◌, ℕ, ◌+◌, ◌==◌, Bool, true, false, List, [], ◌∷◌, ◌++◌, length, map, min, refl, inl, inr, sym, ap, subst, ◌∙◌, append_assoc, arith, Err, Ok}
+use Rattle.std.specs.Prelude.{Result, ◌⊎◌, if◌then◌else◌}
+use Rattle.std.proofs.lemmas.List.{append-nil, map-append, length-append}
 use Rattle.llrp_tree.specs.Tree.{Tree, MessageTree}
 use Rattle.llrp_tree.specs.declared.fault.Reason.{Reason}
 use Rattle.llrp_tree.specs.declared.fault.Reason.TheVariants.{Reserved, Version, MessageType, MessageLength, Short, Value, Count, Utf8, ParamType, Misplaced, TooMany, TooDeep, ParamLength, Extra, Missing}
@@ -11,29 +9,26 @@ use Rattle.llrp_session.specs.declared.words.Command.{Command}
 use Rattle.llrp_session.specs.declared.words.RoState.{RoState}
 use Rattle.llrp_session.specs.declared.words.Taken.{Taken}
 use Rattle.llrp_session.specs.declared.words.Taken.TheVariants.{Connected, Refused, Reply, Tags, Event, Note, Kept, Closed as ConnectionEnded}
-use Rattle.llrp_session.specs.declared.client.refusal.CmdFault.{CmdFault}
-use Rattle.llrp_session.specs.declared.client.refusal.CmdFault.TheVariants as cmd
 use Rattle.llrp_session.specs.declared.client.refusal.TakeFault.{TakeFault}
 use Rattle.llrp_session.specs.declared.client.refusal.TakeFault.TheVariants as tf
-use Rattle.llrp_session.specs.ClientSteps.{IsCmdFault, IsTakeFault}
-use Rattle.llrp_session.specs.ClientMachine.{Client, Sending, Taking, command}
+use Rattle.llrp_session.specs.ClientSteps.{IsTakeFault}
+use Rattle.llrp_session.specs.ClientMachine.{Sending, Taking, command}
 use Rattle.llrp_session.specs.ClientMessages.{client_message}
 use Rattle.llrp_session.specs.Refusal.{Refusal}
 use Rattle.llrp_session.specs.Words.{ClientMessage}
 use Rattle.llrp_tool.specs.declared.fault.ToolErr.{ToolErr}
-use Rattle.llrp_tool.specs.declared.fault.ToolErr.TheVariants.{Listing, Script, Hex, Read, Write, Bound, Broken, Memory, Peer, Strange, Early}
+use Rattle.llrp_tool.specs.declared.fault.ToolErr.TheVariants.{Memory, Peer, Strange, Early}
 use Rattle.llrp_tool.specs.declared.gathering.Awaits.{Awaits}
 use Rattle.llrp_tool.specs.declared.gathering.Awaits.TheVariants.{Answer, Report, End}
 use Rattle.llrp_tool.specs.declared.gathering.Gathering.{Gathering}
-use Rattle.llrp_tool.specs.declared.gathering.left.Left.{Left}
 use Rattle.llrp_tool.specs.declared.gathering.Phase.{Phase}
 use Rattle.llrp_tool.specs.declared.gathering.Phase.TheVariants.{Open, Closed, Failed}
 use Rattle.llrp_tool.specs.Sending.{Adds, AddsSome}
-use Rattle.llrp_tool.specs.TagLines.{AreReports, AreReportLines, tags_in, tag_count, report_count, greatest_count, total_line}
-use Rattle.llrp_tool.specs.Gathering.{Course, ends, ended, awaited_after, sends_by, sends, goes_on, reported, after, after_taking, after_bad}
-use Rattle.llrp_tool.specs.GatheringStands.{commands_left, Holds, closing_text, Moves, MovesSome, Stops, Does, error_by_command, error_by_message}
+use Rattle.llrp_tool.specs.TagLines.{AreReportLines, tags_in, tag_count, report_count, greatest_count, total_line}
+use Rattle.llrp_tool.specs.Gathering.{Course, ends, ended, sends_by, sends, goes_on, reported, after, after_taking, after_bad}
+use Rattle.llrp_tool.specs.GatheringStands.{Holds, closing_text, Moves, MovesSome, Does, error_by_message}
 use Rattle.llrp_tool.proofs.SendingLemmas.{adds_none}
-use Rattle.llrp_tool.proofs.GatheringLemmas.{reports_none, reports_one, some_more, open_text, still, none_moved, does_after}
+use Rattle.llrp_tool.proofs.GatheringLemmas.{reports_none, reports_one, open_text, still, none_moved, does_after}
 
 -- ---- how much is added at least
 
@@ -163,17 +158,19 @@ ended_early c g o r h w =
 
 pub ended_fine : (c : Course) (g : Gathering) (text o r0 r1 : List ℕ) → Holds c g → g.awaits ≡ End → text ≡ total_line c.reports → r1 ≡ r0 ++ text → Does c (after ConnectionEnded c) g o o r0 r1 (Ok true)
 ended_fine c g text o r0 r1 h w line printed =
-    let e : ended c.awaits ≡ Closed = ap ended (sym h.awaits_is ∙ w) in
-    (e, record {
-      messages = [];
-      reports = [];
-      lines = [];
-      sent_are = sym (append-nil c.sent);
-      reports_are = sym (append-nil c.reports);
-      frames = adds_none o;
-      are = reports_none;
-      printed = printed ∙ ap (λ (x : List ℕ). r0 ++ x) (line ∙ ap (λ (p : Phase). closing_text p c.reports) (sym e));
-    })
+    let e : ended c.awaits ≡ Closed = ap ended (sym h.awaits_is ∙ w) in (
+      e,
+      record {
+        messages = [];
+        reports = [];
+        lines = [];
+        sent_are = sym (append-nil c.sent);
+        reports_are = sym (append-nil c.reports);
+        frames = adds_none o;
+        are = reports_none;
+        printed = printed ∙ ap (λ (x : List ℕ). r0 ++ x) (line ∙ ap (λ (p : Phase). closing_text p c.reports) (sym e));
+      },
+    )
 
 pub no_last_line : (c : Course) (g : Gathering) (o r : List ℕ) → Does c (after ConnectionEnded c) g o o r r (Err Memory)
 no_last_line c g o r = out_of_memory c (after ConnectionEnded c) o r (after_more ConnectionEnded c)

@@ -10,7 +10,7 @@ use Rattle.llrp_session.specs.declared.client.refusal.CmdFault.TheVariants as co
 use Rattle.llrp_session.specs.declared.client.refusal.TakeFault.{TakeFault}
 use Rattle.llrp_session.specs.declared.client.refusal.TakeFault.TheVariants as message
 use Rattle.llrp_session.specs.declared.words.Command.{Command}
-use Rattle.llrp_session.specs.declared.words.Command.TheVariants.{Add, Enable, Start, GetReport, Stop, Delete, Close}
+use Rattle.llrp_session.specs.declared.words.Command.TheVariants.{Enable, Start, GetReport, Stop, Delete, Close}
 use Rattle.llrp_session.specs.Words.{ClientMessage}
 use Rattle.llrp_session.specs.ClientMessages.{client_message}
 use Rattle.llrp_session.specs.LawfulWords.{AddsRoSpec}
@@ -19,7 +19,7 @@ use Rattle.llrp_tool.specs.declared.fault.ToolErr.TheVariants.{Listing, Script, 
 use Rattle.llrp_tool.specs.declared.gathering.Gathering.{Gathering}
 use Rattle.llrp_tool.specs.declared.gathering.left.Left.{Left}
 use Rattle.llrp_tool.specs.declared.gathering.left.Left.TheVariants.{Adding, Enabling, Starting, Polling, Deleting, Closing, Nothing}
-use Rattle.llrp_tool.specs.Plan.{Plan, commands, rospec}
+use Rattle.llrp_tool.specs.Plan.{Plan, commands}
 use Rattle.llrp_tool.specs.Sending.{Adds, AddsSome}
 use Rattle.llrp_tool.specs.TagLines.{AreReports, tag_count, report_count, total_line}
 use Rattle.llrp_tool.specs.declared.gathering.Phase.{Phase}

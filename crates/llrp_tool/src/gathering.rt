@@ -203,12 +203,7 @@ impl Gathering {
     }
 
     /// Takes an item.
-    fn take(
-        &mut self,
-        item: Item,
-        out: &mut Vec<u8>,
-        report: &mut Vec<u8>,
-    ) -> Result<bool, ToolErr>
+    fn take(&mut self, item: Item, out: &mut Vec<u8>, report: &mut Vec<u8>) -> Result<bool, ToolErr>
         ensures does { (c : Course) → Holds c self.old → c.phase ≡ Open
             → Does c (after_item item c) self.new out.old.items out.new.items report.old.items report.new.items result }
         ensures others { KeepsOthers self.old self.new }

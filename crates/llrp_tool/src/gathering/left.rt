@@ -48,7 +48,10 @@ impl Left {
                 Some((Command::Start { id: ROSPEC_ID }, Left::Polling { polls }))
             }
             Left::Polling { polls: 0 } => Some((Command::Stop { id: ROSPEC_ID }, Left::Deleting)),
-            Left::Polling { polls } => Some((Command::GetReport, Left::Polling { polls: polls - 1 })),
+            Left::Polling { polls } => Some((
+                Command::GetReport,
+                Left::Polling { polls: polls - 1 },
+            )),
             Left::Deleting => Some((Command::Delete { id: ROSPEC_ID }, Left::Closing)),
             Left::Closing => Some((Command::Close, Left::Nothing)),
             Left::Nothing => None,

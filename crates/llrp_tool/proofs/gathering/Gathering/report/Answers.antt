@@ -30,13 +30,13 @@ returns-in-Report-clause-does c = λ d h opened.
 pub returns : goal.returns
 returns c = record {
   does = λ d h opened.
-    let g = c.args.self.now in
-    let tags = c.args.tags.now in
-    let lines = c.in_ok-lines.lines.items in
-    let are : AreReportLines tags lines = subst (λ (ts : List Tree). AreReportLines ts lines) c.as_slice.ensures c.in_ok-lines.ensures in
-    let printed = c.in_ok-extend_from_slice.ensures.items ∙ ap (λ (x : List ℕ). c.args.report.now.items ++ x) c.as_slice-2.ensures.value in
-    let told : c.saturating_add-self.result ≡ min (g.tags + length tags) greatest_count = c.saturating_add-self.ensures ∙ ap (λ (ts : List Tree). min (g.tags + length ts) greatest_count) c.as_slice-3.ensures in
-    report_passes d g _ tags lines c.args.out.now.items c.args.report.now.items c.extend_from_slice.new.self.items h opened c.in-Answer.is are printed
-    (counted d g tags c.saturating_add-self.result c.saturating_add-self-2.result h told c.saturating_add-self-2.ensures);
+      let g = c.args.self.now in
+      let tags = c.args.tags.now in
+      let lines = c.in_ok-lines.lines.items in
+      let are : AreReportLines tags lines = subst (λ (ts : List Tree). AreReportLines ts lines) c.as_slice.ensures c.in_ok-lines.ensures in
+      let printed = c.in_ok-extend_from_slice.ensures.items ∙ ap (λ (x : List ℕ). c.args.report.now.items ++ x) c.as_slice-2.ensures.value in
+      let told : c.saturating_add-self.result ≡ min (g.tags + length tags) greatest_count = c.saturating_add-self.ensures ∙ ap (λ (ts : List Tree). min (g.tags + length ts) greatest_count) c.as_slice-3.ensures in
+      report_passes d g _ tags lines c.args.out.now.items c.args.report.now.items c.extend_from_slice.new.self.items h opened c.in-Answer.is are printed
+      (counted d g tags c.saturating_add-self.result c.saturating_add-self-2.result h told c.saturating_add-self-2.ensures);
   others = search rules;
 }

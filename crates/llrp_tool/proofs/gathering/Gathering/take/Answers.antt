@@ -15,9 +15,9 @@ returns-in-MessageType-clause-does c = λ d h opened.
 pub returns-in_default : goal.returns-in_default
 returns-in_default c = record {
   does = λ d h opened.
-    let g = c.args.self.now in
-    let o = c.args.out.now.items in
-    let r = c.args.report.now.items in
-    rw c.in-Bad.is (subst (λ (e : Course). Does d e g o o r r (Err Strange)) (bad_is_strange c.in-Bad.fault.reason d c.in_default.not-MessageType c.in_default.not-ParamType) (strange d g o r));
+      let g = c.args.self.now in
+      let o = c.args.out.now.items in
+      let r = c.args.report.now.items in
+      rw c.in-Bad.is (subst (λ (e : Course). Does d e g o o r r (Err Strange)) (bad_is_strange c.in-Bad.fault.reason d c.in_default.not-MessageType c.in_default.not-ParamType) (strange d g o r));
   others = search rules;
 }

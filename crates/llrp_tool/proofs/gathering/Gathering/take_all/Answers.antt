@@ -1,4 +1,4 @@
-use Rattle.std.proofs.Common.{◌≡◌, ◌++◌, ◌∙◌, [], true, false, Bool, List, ℕ, Ok, Err, refl, sym, ap, subst, take, drop, append_assoc, arith}
+use Rattle.std.proofs.Common.{◌≡◌, ◌++◌, ◌∙◌, [], true, false, Bool, List, ℕ, Ok, refl, sym, ap, subst, take, drop, append_assoc}
 use Rattle.std.specs.Prelude.{Option, Some, None}
 use Rattle.std.proofs.lemmas.List.{append-nil, take-append-drop}
 use Rattle.std.proofs.lemmas.Result.{err_from_is_err_and}
@@ -83,18 +83,18 @@ loop-rest-preserved c =
       done = so.done ++ take used rest_is;
       parts = so.parts ∙ ap (λ (x : List ℕ). so.done ++ x) (sym (take-append-drop used rest_is)) ∙ sym (append_assoc so.done (take used rest_is) (drop used rest_is)) ∙ ap (λ (x : List ℕ). (so.done ++ take used rest_is) ++ x) (sym c.split_at.ensures.back);
       went = λ limit plan bytes rest d s.
-        let w = so.went limit plan bytes rest d s in
-        let takes : Takes c.loop-rest.self.decoder.limit w.0 rest_is c.feed.new.self used (Some c.in-Some.item) =
-        subst (λ (i : Option Item). Takes c.loop-rest.self.decoder.limit w.0 rest_is c.feed.new.self used i) c.in-Some.is (c.in-Ok.ensures.stands w.0 w.2.decoder) in
-        let o0 = c.args.out.now.items in
-        let r0 = c.args.report.now.items in
-        let o1 = c.loop-rest.out.items in
-        let r1 = c.loop-rest.report.items in
-        let does : Does w.1 (after_item c.in-Some.item w.1) c.take.new.self o1 c.take.new.out.items r1 c.take.new.report.items (Ok false) =
-        subst (λ (b : Bool). Does w.1 (after_item c.in-Some.item w.1) c.take.new.self o1 c.take.new.out.items r1 c.take.new.report.items (Ok b)) c.if-closed.false
-        (c.in_ok-closed.ensures.does w.1 (holds_fed w.1 c.loop-rest.self c.feed.new.self w.2.holds) w.2.open_is) in
-        subst (λ (b : List ℕ). Feeds limit plan b d c.take.new.self o0 c.take.new.out.items r0 c.take.new.report.items (Ok false)) (append_assoc bytes so.done (take used rest_is))
-        (item_goes limit plan (bytes ++ so.done) rest_is d c.loop-rest.self c.take.new.self c.feed.new.self used c.in-Some.item o0 o1 c.take.new.out.items r0 r1 c.take.new.report.items w c.in-Ok.ensures.limit takes c.in_ok-closed.ensures.others.decoder does);
+          let w = so.went limit plan bytes rest d s in
+          let takes : Takes c.loop-rest.self.decoder.limit w.0 rest_is c.feed.new.self used (Some c.in-Some.item) =
+          subst (λ (i : Option Item). Takes c.loop-rest.self.decoder.limit w.0 rest_is c.feed.new.self used i) c.in-Some.is (c.in-Ok.ensures.stands w.0 w.2.decoder) in
+          let o0 = c.args.out.now.items in
+          let r0 = c.args.report.now.items in
+          let o1 = c.loop-rest.out.items in
+          let r1 = c.loop-rest.report.items in
+          let does : Does w.1 (after_item c.in-Some.item w.1) c.take.new.self o1 c.take.new.out.items r1 c.take.new.report.items (Ok false) =
+          subst (λ (b : Bool). Does w.1 (after_item c.in-Some.item w.1) c.take.new.self o1 c.take.new.out.items r1 c.take.new.report.items (Ok b)) c.if-closed.false
+          (c.in_ok-closed.ensures.does w.1 (holds_fed w.1 c.loop-rest.self c.feed.new.self w.2.holds) w.2.open_is) in
+          subst (λ (b : List ℕ). Feeds limit plan b d c.take.new.self o0 c.take.new.out.items r0 c.take.new.report.items (Ok false)) (append_assoc bytes so.done (take used rest_is))
+          (item_goes limit plan (bytes ++ so.done) rest_is d c.loop-rest.self c.take.new.self c.feed.new.self used c.in-Some.item o0 o1 c.take.new.out.items r0 r1 c.take.new.report.items w c.in-Ok.ensures.limit takes c.in_ok-closed.ensures.others.decoder does);
     }
 
 pub returns : goal.returns

@@ -1,4 +1,4 @@
-use Rattle.std.proofs.Common.{[], ◌++◌, ◌∙◌, ap, sym, map, List}
+use Rattle.std.proofs.Common.{◌++◌, ◌∙◌, ap, sym, map, List}
 use Rattle.std.proofs.lemmas.Result.{err_from_is_err_and}
 use Rattle.llrp_tree.specs.Tree.{MessageTree}
 use Rattle.llrp_session.specs.ClientMachine.{Client, Taking, take}

@@ -1,4 +1,4 @@
-use Rattle.std.proofs.Common.{◌≡◌, ◌∙◌, ◌<◌, ◌^◌, ap, subst, arith, ℕ, sym}
+use Rattle.std.proofs.Common.{◌≡◌, ◌∙◌, ◌<◌, ◌^◌, subst, arith, ℕ}
 use Rattle.tag_uri.specs.TagText.{IsTextOf}
 use Rattle.llrp_schema.specs.Schema.{fields_of, rule_of, param_rule}
 use Rattle.llrp_tool.proofs.gathering.lines.push_word.Goals as goal
@@ -12,7 +12,8 @@ unreachable-requires c =
 
 pub returns : goal.returns
 returns c =
-    let word : c.in-Some.word ≡ c.field.result = c.in-Some.ensures.number in
-    (c.as_bytes.result.now,
-    rw (c.as_bytes.ensures.value, c.as_str.ensures.value) (subst (λ (n : ℕ). IsTextOf n c.text_of_word.result.bytes) (word ∙ c.field.ensures.value) c.text_of_word.ensures),
-    c.in_ok-extend_from_slice.ensures.items)
+    let word : c.in-Some.word ≡ c.field.result = c.in-Some.ensures.number in (
+      c.as_bytes.result.now,
+      rw (c.as_bytes.ensures.value, c.as_str.ensures.value) (subst (λ (n : ℕ). IsTextOf n c.text_of_word.result.bytes) (word ∙ c.field.ensures.value) c.text_of_word.ensures),
+      c.in_ok-extend_from_slice.ensures.items,
+    )
