@@ -193,12 +193,12 @@ impl Gathering {
             → Does c (after_item (Item.Msg message) c) self.new out.old.items out.new.items report.old.items report.new.items result }
         ensures others { KeepsOthers self.old self.new }
     {
-        let mut messages = Vec::new(self.alloc);
-        let taken = match self.client.take(message, &mut messages) {
+        let mut answers = Vec::new(self.alloc);
+        let taken = match self.client.take(message, &mut answers) {
             Ok(taken) => taken,
             Err(refusal) => return Err(message_error(refusal.fault)),
         };
-        append_frames(self.alloc, messages.as_slice(), out)?;
+        append_frames(self.alloc, answers.as_slice(), out)?;
         self.follow(taken, out, report)
     }
 
