@@ -12,4 +12,5 @@ mod words;
 pub use client::{Client, CmdFault, CmdRefusal, TakeFault, TakeRefusal};
 pub use reader::Reader;
 pub use reader::events::{ReaderIn, StepFault, StepRefusal};
+pub use reading::find::{field, first};
 pub use words::{Command, RoState, Sighting, Taken};

@@ -4,7 +4,7 @@ use Rattle.std.specs.List.{flat_map}
 use Rattle.std.proofs.lemmas.List.{drop_more, take-append-drop}
 use Rattle.std.proofs.lemmas.List.Concat.{flat_map-append}
 use Rattle.llrp_tool.specs.declared.fault.ToolErr.{ToolErr}
-use Rattle.llrp_tool.specs.declared.fault.ToolErr.TheVariants.{Listing, Script, Hex, Read, Write, Bound, Memory, Broken, Early}
+use Rattle.llrp_tool.specs.declared.fault.ToolErr.TheVariants.{Listing, Script, Hex, Read, Write, Bound, Memory, Broken, Peer, Strange, Early}
 use Rattle.llrp_tool.specs.Command.{LIMIT, NotEncoded, memory_error}
 use Rattle.llrp_tool.specs.Copying.{Writes}
 use Rattle.llrp_stream.specs.Device.{SourceLog, SinkLog, Wrote}
@@ -24,6 +24,8 @@ writes_stop old mid new done part rest text (Script at) so is stop = absurd stop
 writes_stop old mid new done part rest text Hex so is stop = absurd stop.2
 writes_stop old mid new done part rest text Broken so is stop = absurd stop.2
 writes_stop old mid new done part rest text Early so is stop = absurd stop.2
+writes_stop old mid new done part rest text (Peer status) so is stop = absurd stop.2
+writes_stop old mid new done part rest text Strange so is stop = absurd stop.2
 writes_stop old mid new done part rest text (Listing line reason) so is stop = absurd stop.2
 
 pub parts_stop : {X : Type 0} (f : X → List ℕ) (parts : List X) (i : ℕ) (d : X) (old mid new : SinkLog) (e : ToolErr) → i < length parts → Wrote old mid (flat_map f (take i parts)) → Writes (f (get_or parts i d)) mid new (Err e) → Writes (flat_map f parts) old new (Err e)
@@ -44,3 +46,5 @@ not_encoded r0 r1 m0 m1 (Script at) s = s
 not_encoded r0 r1 m0 m1 Hex s = s
 not_encoded r0 r1 m0 m1 Broken s = s
 not_encoded r0 r1 m0 m1 Early s = s
+not_encoded r0 r1 m0 m1 (Peer status) s = s
+not_encoded r0 r1 m0 m1 Strange s = s

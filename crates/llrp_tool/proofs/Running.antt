@@ -4,7 +4,7 @@ use Rattle.std.specs.Prelude.{MatchResult, OnOk, IfErr}
 use Rattle.std.proofs.lemmas.List.{append-nil}
 use Rattle.std.specs.Io.KnownBytes.{Consumes, Keeps}
 use Rattle.llrp_tool.specs.declared.fault.ToolErr.{ToolErr}
-use Rattle.llrp_tool.specs.declared.fault.ToolErr.TheVariants.{Listing, Script, Hex, Read, Write, Bound, Memory, Broken, Early}
+use Rattle.llrp_tool.specs.declared.fault.ToolErr.TheVariants.{Listing, Script, Hex, Read, Write, Bound, Memory, Broken, Peer, Strange, Early}
 use Rattle.llrp_tool.specs.Copying.{MOST_READS, ReadAll}
 use Rattle.llrp_stream.specs.Device.{SourceLog, SinkLog, Gave, Took}
 use Rattle.llrp_tool.specs.Encoder.{StandsAt, Stopped, StoppedAtEnd, WroteEncoding}
@@ -57,6 +57,8 @@ stop_end limit r0 r1 w0 w1 text (Script at) all s = absurd s
 stop_end limit r0 r1 w0 w1 text Hex all s = absurd s
 stop_end limit r0 r1 w0 w1 text Broken all s = absurd s
 stop_end limit r0 r1 w0 w1 text Early all s = absurd s
+stop_end limit r0 r1 w0 w1 text (Peer status) all s = absurd s
+stop_end limit r0 r1 w0 w1 text Strange all s = absurd s
 
 -- the encoder stopped before the end
 pub stop_while : (limit k : ℕ) (r0 r1 : SourceLog) (w0 w1 : SinkLog) (text : List ℕ) (e : ToolErr) → Gave r0 r1 k text → Stopped limit w0 w1 text e → EncodeStopped limit r0 r1 w0 w1 e
@@ -69,6 +71,8 @@ stop_while limit k r0 r1 w0 w1 text (Script at) gave s = absurd s
 stop_while limit k r0 r1 w0 w1 text Hex gave s = absurd s
 stop_while limit k r0 r1 w0 w1 text Broken gave s = absurd s
 stop_while limit k r0 r1 w0 w1 text Early gave s = absurd s
+stop_while limit k r0 r1 w0 w1 text (Peer status) gave s = absurd s
+stop_while limit k r0 r1 w0 w1 text Strange gave s = absurd s
 
 -- the text ended
 pub ends_ok : (limit : ℕ) (r0 r1 : SourceLog) (w0 w1 : SinkLog) (text : List ℕ) (r : Result (Unit {0}) ToolErr) → ReadAll r0 r1 text → MatchResult r (λ _. WroteEncoding limit w0 w1 text) (StoppedAtEnd limit w0 w1 text) → OnOk r (Encoded limit r0 r1 w0 w1)

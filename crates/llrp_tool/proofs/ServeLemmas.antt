@@ -6,7 +6,7 @@ use Rattle.llrp_tree.specs.Tree.{MessageTree}
 use Rattle.llrp_stream.specs.Device.{SourceLog, SinkLog, Took, Gave, Wrote}
 use Rattle.llrp_session.specs.ReaderMachine.{Reader}
 use Rattle.llrp_tool.specs.declared.fault.ToolErr.{ToolErr}
-use Rattle.llrp_tool.specs.declared.fault.ToolErr.TheVariants.{Listing, Script, Hex, Read, Write, Bound, Broken, Memory, Early}
+use Rattle.llrp_tool.specs.declared.fault.ToolErr.TheVariants.{Listing, Script, Hex, Read, Write, Bound, Broken, Memory, Peer, Strange, Early}
 use Rattle.llrp_tool.specs.declared.script.Entry.{Entry}
 use Rattle.llrp_tool.specs.declared.serving.Serving.{Serving}
 use Rattle.llrp_tool.specs.Copying.{MOST_READS, ReadAll, Writes}
@@ -79,6 +79,8 @@ begins_goes reader entries bytes messages s (Err Read) h = absurd h
 begins_goes reader entries bytes messages s (Err Write) h = absurd h
 begins_goes reader entries bytes messages s (Err Bound) h = absurd h
 begins_goes reader entries bytes messages s (Err Early) h = absurd h
+begins_goes reader entries bytes messages s (Err (Peer status)) h = absurd h
+begins_goes reader entries bytes messages s (Err Strange) h = absurd h
 
 -- ---- a write that fails
 
@@ -93,6 +95,8 @@ write_fails reader entries r0 r1 w0 w1 w2 bytes before out (Script line) given b
 write_fails reader entries r0 r1 w0 w1 w2 bytes before out Hex given begins wrote w = absurd w.2
 write_fails reader entries r0 r1 w0 w1 w2 bytes before out Broken given begins wrote w = absurd w.2
 write_fails reader entries r0 r1 w0 w1 w2 bytes before out Early given begins wrote w = absurd w.2
+write_fails reader entries r0 r1 w0 w1 w2 bytes before out (Peer status) given begins wrote w = absurd w.2
+write_fails reader entries r0 r1 w0 w1 w2 bytes before out Strange given begins wrote w = absurd w.2
 write_fails reader entries r0 r1 w0 w1 w2 bytes before out (Listing line reason) given begins wrote w = absurd w.2
 
 -- ---- the start
@@ -188,6 +192,8 @@ piece_failed reader entries r0 r1 r2 w0 w1 w2 n s new old out error p w = (p.bef
     by_error Write p = absurd p.feeds.2
     by_error Bound p = absurd p.feeds.2
     by_error Early p = absurd p.feeds.2
+    by_error (Peer status) p = absurd p.feeds.2
+    by_error Strange p = absurd p.feeds.2
 
 pub piece_closed : (reader : Reader) (entries : List Entry) (r0 r1 r2 : SourceLog) (w0 w1 w2 : SinkLog) (n : ℕ) (s new : Serving) (old out : List ℕ) (answer : Bool) (u : Unit {0}) → Piece reader entries r0 r1 r2 w0 w1 n s new old out (Ok answer) → answer ≡ true
     → Wrote w1 w2 out → (bytes : List ℕ) × RunsServe reader entries r0 r2 w0 w2 bytes (Ok u)
@@ -234,6 +240,8 @@ at_the_end reader entries r0 r1 r2 w0 w1 n s out answer f few took finishes = (f
     by_answer (Ok u) h = inr (all, record { messages = f.messages; text = f.text; serves = h; frames = f.frames; wrote = f.wrote })
     by_answer (Err Early) h = (all, record { messages = f.messages; text = f.text; serves = h; frames = f.frames; wrote = f.wrote })
     by_answer (Err Broken) h = absurd h
+    by_answer (Err (Peer status)) h = absurd h
+    by_answer (Err Strange) h = absurd h
     by_answer (Err Memory) h = absurd h
     by_answer (Err (Listing line reason)) h = absurd h
     by_answer (Err (Script line)) h = absurd h

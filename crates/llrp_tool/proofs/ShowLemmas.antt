@@ -16,7 +16,7 @@ use Rattle.llrp_stream.proofs.FrontLemmas.{no_frame_breaks}
 use Rattle.llrp_stream.proofs.RunLemmas.{items_grow}
 use Rattle.llrp_stream.proofs.Unique.{same_items}
 use Rattle.llrp_tool.specs.declared.fault.ToolErr.{ToolErr}
-use Rattle.llrp_tool.specs.declared.fault.ToolErr.TheVariants.{Listing, Script, Read, Write, Bound, Memory, Hex, Broken, Early}
+use Rattle.llrp_tool.specs.declared.fault.ToolErr.TheVariants.{Listing, Script, Read, Write, Bound, Memory, Hex, Broken, Peer, Strange, Early}
 use Rattle.llrp_tool.specs.declared.fault.Verdict.{Verdict}
 use Rattle.llrp_tool.specs.declared.show.Lister.{Lister}
 use Rattle.llrp_tool.specs.Copying.{HandsOn, IsPrefix, Writes, ReadAll}
@@ -131,6 +131,8 @@ write_stopped limit bytes sent text old now after Hex log begins failed = absurd
 write_stopped limit bytes sent text old now after (Script line) log begins failed = absurd failed.2
 write_stopped limit bytes sent text old now after Broken log begins failed = absurd failed.2
 write_stopped limit bytes sent text old now after Early log begins failed = absurd failed.2
+write_stopped limit bytes sent text old now after (Peer status) log begins failed = absurd failed.2
+write_stopped limit bytes sent text old now after Strange log begins failed = absurd failed.2
 write_stopped limit bytes sent text old now after (Listing line reason) log begins failed = absurd failed.2
 
 -- what was written, before more bytes were listed
@@ -340,6 +342,8 @@ stopped_reading limit r0 r1 w0 w1 bytes Hex read stopped = absurd stopped.log
 stopped_reading limit r0 r1 w0 w1 bytes (Script line) read stopped = absurd stopped.log
 stopped_reading limit r0 r1 w0 w1 bytes Broken read stopped = absurd stopped.log
 stopped_reading limit r0 r1 w0 w1 bytes Early read stopped = absurd stopped.log
+stopped_reading limit r0 r1 w0 w1 bytes (Peer status) read stopped = absurd stopped.log
+stopped_reading limit r0 r1 w0 w1 bytes Strange read stopped = absurd stopped.log
 stopped_reading limit r0 r1 w0 w1 bytes (Listing line reason) read stopped = absurd stopped.log
 
 -- listing stopped while it read

@@ -7,7 +7,7 @@ use Rattle.llrp_tree.specs.Tree.{MessageTree}
 use Rattle.llrp_tool.specs.declared.fault.Refusal.{Refusal}
 use Rattle.llrp_tool.specs.declared.fault.Refusal.TheVariants as refusal
 use Rattle.llrp_tool.specs.declared.fault.ToolErr.{ToolErr}
-use Rattle.llrp_tool.specs.declared.fault.ToolErr.TheVariants.{Listing, Script, Broken, Early, Hex, Read, Write, Bound, Memory}
+use Rattle.llrp_tool.specs.declared.fault.ToolErr.TheVariants.{Listing, Script, Broken, Peer, Strange, Early, Hex, Read, Write, Bound, Memory}
 use Rattle.llrp_tool.specs.declared.line.Line.{Line}
 use Rattle.llrp_tool.specs.declared.line.Line.TheVariants as said
 use Rattle.llrp_tool.specs.declared.line.LineErr.{LineErr}
@@ -271,6 +271,8 @@ refusal_stops now later told why Hex s bad w = absurd w
 refusal_stops now later told why (Script at) s bad w = absurd w
 refusal_stops now later told why Broken s bad w = absurd w
 refusal_stops now later told why Early s bad w = absurd w
+refusal_stops now later told why (Peer status) s bad w = absurd w
+refusal_stops now later told why Strange s bad w = absurd w
 
 pub refusal_result : {limit : ℕ} (now : SinkLog) {start mid : SinkLog} {text : List ℕ} {es : List Entry} {number : ℕ} {line out : List ℕ} (later : List ℕ) (told : ℕ) (why : Refusal) (A : Unit {0} → Type 0) (r : Result (Unit {0}) ToolErr) → (s : StandsAt limit start mid text es number line out)
     → RefusedAfter limit (text ++ later) told why s.done → IsErrAnd r (λ e. Refusing told out why mid now e) → MatchResult r A (Stopped limit start now (text ++ later))
@@ -296,6 +298,8 @@ refusal_ends now told why Hex s bad w = absurd w
 refusal_ends now told why (Script at) s bad w = absurd w
 refusal_ends now told why Broken s bad w = absurd w
 refusal_ends now told why Early s bad w = absurd w
+refusal_ends now told why (Peer status) s bad w = absurd w
+refusal_ends now told why Strange s bad w = absurd w
 
 pub refusal_end : {limit : ℕ} (now : SinkLog) {start mid : SinkLog} {text : List ℕ} {es : List Entry} {number : ℕ} {line out : List ℕ} (told : ℕ) (why : Refusal) (A : Unit {0} → Type 0) (r : Result (Unit {0}) ToolErr) → (s : StandsAt limit start mid text es number line out)
     → Refused (rules_for limit) (lines_of text) told why (row s.done) → IsErrAnd r (λ e. Refusing told out why mid now e) → MatchResult r A (StoppedAtEnd limit start now text)
@@ -372,6 +376,8 @@ pieces_stop now part line new out1 Hex s n ok o w = absurd w.2
 pieces_stop now part line new out1 (Script at) s n ok o w = absurd w.2
 pieces_stop now part line new out1 Broken s n ok o w = absurd w.2
 pieces_stop now part line new out1 Early s n ok o w = absurd w.2
+pieces_stop now part line new out1 (Peer status) s n ok o w = absurd w.2
+pieces_stop now part line new out1 Strange s n ok o w = absurd w.2
 
 -- stopped is stopped, whatever follows
 begins_more : (limit : ℕ) (text later bytes : List ℕ) → BeginsEncoding limit text bytes → BeginsEncoding limit (text ++ later) bytes
@@ -387,6 +393,8 @@ stopped_more limit start now text later Hex s = s
 stopped_more limit start now text later (Script at) s = s
 stopped_more limit start now text later Broken s = s
 stopped_more limit start now text later Early s = s
+stopped_more limit start now text later (Peer status) s = s
+stopped_more limit start now text later Strange s = s
 
 -- ---- the text ends
 
@@ -417,6 +425,8 @@ text_ends now line out1 s none f (Err Hex) w = absurd w.2
 text_ends now line out1 s none f (Err (Script at)) w = absurd w.2
 text_ends now line out1 s none f (Err Broken) w = absurd w.2
 text_ends now line out1 s none f (Err Early) w = absurd w.2
+text_ends now line out1 s none f (Err (Peer status)) w = absurd w.2
+text_ends now line out1 s none f (Err Strange) w = absurd w.2
 
 -- a piece is what was taken of it, a line, and what is left
 pub piece_parts : (text taken part after rest piece : List ℕ) → piece ≡ taken ++ rest → rest ≡ part ++ (10 ∷ after) → ((text ++ taken) ++ (part ++ (10 ∷ []))) ++ after ≡ text ++ piece

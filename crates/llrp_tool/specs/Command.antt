@@ -2,7 +2,7 @@
 use Rattle.std.specs.Prelude.{◌≡◌, ℕ, ◌⊎◌, List, [], ◌∷◌, ◌++◌, Bool, true, false, Result, Ok, Err, codes, decimal}
 use Rattle.hex.specs.Hex.{encode_upper}
 use Rattle.llrp_tool.specs.declared.fault.ToolErr.{ToolErr}
-use Rattle.llrp_tool.specs.declared.fault.ToolErr.TheVariants.{Listing, Script, Hex, Read, Write, Bound, Broken, Memory, Early}
+use Rattle.llrp_tool.specs.declared.fault.ToolErr.TheVariants.{Listing, Script, Hex, Read, Write, Bound, Memory, Broken, Peer, Strange, Early}
 use Rattle.llrp_tool.specs.declared.fault.Verdict.{Verdict}
 use Rattle.llrp_tool.specs.declared.fault.Verdict.TheVariants.{Lawful, Faulty}
 use Rattle.llrp_tool.specs.Copying.{MOST_READS, GaveAndFailed, IsPrefix, ReadAll, ReadStopped}
@@ -27,11 +27,13 @@ abbrev pub error_status : ToolErr → ℕ
 error_status (Listing line reason) = 1
 error_status (Script line) = 1
 error_status Hex = 1
+error_status Broken = 1
+error_status (Peer status) = 1
+error_status Strange = 1
+error_status Early = 1
 error_status Read = 3
 error_status Write = 3
 error_status Bound = 3
-error_status Broken = 1
-error_status Early = 1
 error_status Memory = 3
 
 -- the line of an error
@@ -43,8 +45,10 @@ error_line Read = codes "llrp: read\n"
 error_line Write = codes "llrp: write\n"
 error_line Bound = codes "llrp: bound\n"
 error_line Broken = codes "llrp: broken\n"
-error_line Early = codes "llrp: early\n"
 error_line Memory = codes "llrp: memory\n"
+error_line (Peer status) = codes "llrp: status " ++ (decimal status ++ codes "\n")
+error_line Strange = codes "llrp: strange\n"
+error_line Early = codes "llrp: early\n"
 
 -- What a command that ended so answered, and wrote to the sink for errors: its status alone, or its
 -- error's line and status, or the Write that stopped that line.
@@ -86,6 +90,8 @@ NotEncoded r0 r1 (Script line) = ⊥
 NotEncoded r0 r1 Broken = ⊥
 NotEncoded r0 r1 Early = ⊥
 NotEncoded r0 r1 Hex = ⊥
+NotEncoded r0 r1 (Peer status) = ⊥
+NotEncoded r0 r1 Strange = ⊥
 
 -- the encoding of all that was read, or why there is none
 abbrev pub Gathers : SourceLog → SourceLog → Result (List ℕ) ToolErr → Type 0
@@ -161,8 +167,10 @@ memory_error Write = Memory
 memory_error (Listing line reason) = Listing line reason
 memory_error (Script line) = Script line
 memory_error Hex = Hex
+memory_error Broken = Broken
+memory_error (Peer status) = Peer status
+memory_error Strange = Strange
+memory_error Early = Early
 memory_error Read = Read
 memory_error Bound = Bound
-memory_error Broken = Broken
-memory_error Early = Early
 memory_error Memory = Memory

@@ -2,7 +2,7 @@
 use Rattle.std.specs.Prelude.{◌≡◌, ℕ, ◌+◌, ◌<◌, List, ◌++◌, Result, Ok, Err}
 use Rattle.std.specs.Io.KnownBytes.{IsAtEnd, Consumes}
 use Rattle.llrp_tool.specs.declared.fault.ToolErr.{ToolErr}
-use Rattle.llrp_tool.specs.declared.fault.ToolErr.TheVariants.{Listing, Script, Hex, Read, Write, Bound, Broken, Memory, Early}
+use Rattle.llrp_tool.specs.declared.fault.ToolErr.TheVariants.{Listing, Script, Hex, Read, Write, Bound, Broken, Memory, Peer, Strange, Early}
 use Rattle.llrp_stream.specs.Device.{SourceLog, SinkLog, Gave, Wrote, WroteAndFailed}
 
 -- the most reads of one source that give bytes
@@ -31,6 +31,8 @@ ReadStopped old new bytes Write = ⊥
 ReadStopped old new bytes (Script line) = ⊥
 ReadStopped old new bytes Broken = ⊥
 ReadStopped old new bytes Early = ⊥
+ReadStopped old new bytes (Peer status) = ⊥
+ReadStopped old new bytes Strange = ⊥
 ReadStopped old new bytes Hex = ⊥
 ReadStopped old new bytes (Listing line reason) = ⊥
 
@@ -47,6 +49,8 @@ WriteStopped old new front Bound = ⊥
 WriteStopped old new front (Script line) = ⊥
 WriteStopped old new front Broken = ⊥
 WriteStopped old new front Early = ⊥
+WriteStopped old new front (Peer status) = ⊥
+WriteStopped old new front Strange = ⊥
 WriteStopped old new front Hex = ⊥
 WriteStopped old new front (Listing line reason) = ⊥
 

@@ -9,7 +9,7 @@ use Rattle.llrp_tool.specs.declared.line.LineErr.{LineErr}
 use Rattle.llrp_tool.specs.declared.line.LineErr.TheVariants as unread
 use Rattle.llrp_tool.specs.declared.fault.Refusal.{Refusal}
 use Rattle.llrp_tool.specs.declared.fault.ToolErr.{ToolErr}
-use Rattle.llrp_tool.specs.declared.fault.ToolErr.TheVariants.{Listing, Script, Broken, Early, Hex, Read, Write, Bound, Memory}
+use Rattle.llrp_tool.specs.declared.fault.ToolErr.TheVariants.{Listing, Script, Broken, Peer, Strange, Early, Hex, Read, Write, Bound, Memory}
 use Rattle.llrp_tool.specs.declared.open_lines.CloseErr.{CloseErr}
 use Rattle.llrp_tool.specs.declared.open_lines.CloseErr.TheVariants as close
 use Rattle.llrp_tool.specs.Copying.{IsPrefix}
@@ -70,6 +70,8 @@ Stopped limit w0 w1 front Hex = ⊥
 Stopped limit w0 w1 front (Script line) = ⊥
 Stopped limit w0 w1 front Broken = ⊥
 Stopped limit w0 w1 front Early = ⊥
+Stopped limit w0 w1 front (Peer status) = ⊥
+Stopped limit w0 w1 front Strange = ⊥
 
 -- the encoder stopped at the end of this text
 abbrev pub StoppedAtEnd : ℕ → SinkLog → SinkLog → List ℕ → ToolErr → Type 0
@@ -82,6 +84,8 @@ StoppedAtEnd limit w0 w1 text Hex = ⊥
 StoppedAtEnd limit w0 w1 text (Script line) = ⊥
 StoppedAtEnd limit w0 w1 text Broken = ⊥
 StoppedAtEnd limit w0 w1 text Early = ⊥
+StoppedAtEnd limit w0 w1 text (Peer status) = ⊥
+StoppedAtEnd limit w0 w1 text Strange = ⊥
 
 -- the encoding of the text was written
 abbrev pub WroteEncoding : ℕ → SinkLog → SinkLog → List ℕ → Type 0
@@ -98,6 +102,8 @@ Refusing number out why w0 w1 Hex = ⊥
 Refusing number out why w0 w1 (Script line) = ⊥
 Refusing number out why w0 w1 Broken = ⊥
 Refusing number out why w0 w1 Early = ⊥
+Refusing number out why w0 w1 (Peer status) = ⊥
+Refusing number out why w0 w1 Strange = ⊥
 
 -- what is told where a line is not read
 abbrev pub RefusingLine : LineErr → ℕ → List ℕ → SinkLog → SinkLog → ToolErr → Type 0

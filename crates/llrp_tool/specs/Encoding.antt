@@ -5,7 +5,7 @@ use Rattle.llrp_tree.specs.Tree.{MessageTree}
 use Rattle.llrp_tree.specs.Frame.{Frame}
 use Rattle.llrp_tool.specs.declared.fault.Refusal.{Refusal}
 use Rattle.llrp_tool.specs.declared.fault.ToolErr.{ToolErr}
-use Rattle.llrp_tool.specs.declared.fault.ToolErr.TheVariants.{Listing, Script, Hex, Read, Write, Bound, Broken, Memory, Early}
+use Rattle.llrp_tool.specs.declared.fault.ToolErr.TheVariants.{Listing, Script, Hex, Read, Write, Bound, Broken, Memory, Peer, Strange, Early}
 use Rattle.llrp_tool.specs.Copying.{MOST_READS, ReadAll, GaveAndFailed, IsPrefix}
 use Rattle.llrp_stream.specs.Device.{SourceLog, SinkLog, Gave, Wrote, WroteAndFailed}
 use Rattle.llrp_tool.specs.FirstRefusal.{Opens, Refused}
@@ -71,6 +71,8 @@ EncodeStopped limit r0 r1 w0 w1 Memory = (front bytes : List ℕ) × WasRead r0 
 EncodeStopped limit r0 r1 w0 w1 (Script line) = ⊥
 EncodeStopped limit r0 r1 w0 w1 Broken = ⊥
 EncodeStopped limit r0 r1 w0 w1 Early = ⊥
+EncodeStopped limit r0 r1 w0 w1 (Peer status) = ⊥
+EncodeStopped limit r0 r1 w0 w1 Strange = ⊥
 EncodeStopped limit r0 r1 w0 w1 Hex = ⊥
 
 -- All was read until a read met the end, and the encoding of the text was written.

@@ -9,7 +9,7 @@ use Rattle.tag_uri.specs.declared.fault.UriFault.{UriFault}
 use Rattle.tag_uri.specs.Hexadecimal.{hexadecimal}
 use Rattle.tag_uri.specs.TagText.{IsTextOf, HasFault, fault_name}
 use Rattle.llrp_tool.specs.declared.fault.ToolErr.{ToolErr}
-use Rattle.llrp_tool.specs.declared.fault.ToolErr.TheVariants.{Listing, Script, Hex, Read, Write, Bound, Broken, Memory, Early}
+use Rattle.llrp_tool.specs.declared.fault.ToolErr.TheVariants.{Listing, Script, Hex, Read, Write, Bound, Broken, Memory, Peer, Strange, Early}
 use Rattle.llrp_tool.specs.declared.fault.Verdict.{Verdict}
 use Rattle.llrp_tool.specs.declared.fault.Verdict.TheVariants.{Lawful, Faulty}
 use Rattle.llrp_tool.specs.Copying.{IsPrefix}
@@ -67,3 +67,5 @@ PrintsEpc text w0 w1 (Err (Listing line reason)) = ⊥
 PrintsEpc text w0 w1 (Err (Script line)) = ⊥
 PrintsEpc text w0 w1 (Err Broken) = ⊥
 PrintsEpc text w0 w1 (Err Early) = ⊥
+PrintsEpc text w0 w1 (Err (Peer status)) = ⊥
+PrintsEpc text w0 w1 (Err Strange) = ⊥

@@ -1,3 +1,4 @@
+pub mod Acting
 pub mod Checks
 pub mod Command
 pub mod Copying
@@ -5,6 +6,8 @@ pub mod Encoder
 pub mod Encoding
 pub mod EpcLines
 pub mod FirstRefusal
+pub mod Gathering
+pub mod GatheringStands
 pub mod Hexadecimal
 pub mod LineChecks
 pub mod LineReading
@@ -18,16 +21,18 @@ pub mod Numeral
 pub mod OpenLines
 pub mod OpenText
 pub mod OpenTextSteps
+pub mod Plan
 pub mod Printing
 pub mod PrintingLaws
 pub mod Refused
 pub mod RunServe
 pub mod Script
 pub mod ScriptLaws
-pub mod Acting
+pub mod Sending
 pub mod Serving
 pub mod ServingStands
 pub mod Show
 pub mod Splits
 pub mod StreamListing
+pub mod TagLines
 pub mod Words

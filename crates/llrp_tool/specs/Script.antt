@@ -5,7 +5,7 @@ use Rattle.std.specs.Int.{w8}
 use Rattle.std.specs.List.Sorted.{IsNonDecreasingBy}
 use Rattle.tag_uri.specs.TagText.{IsTextOf}
 use Rattle.llrp_tool.specs.declared.fault.ToolErr.{ToolErr}
-use Rattle.llrp_tool.specs.declared.fault.ToolErr.TheVariants.{Listing, Script, Hex, Read, Write, Bound, Broken, Memory, Early}
+use Rattle.llrp_tool.specs.declared.fault.ToolErr.TheVariants.{Listing, Script, Hex, Read, Write, Bound, Broken, Memory, Peer, Strange, Early}
 use Rattle.llrp_session.specs.declared.words.Sighting.{Sighting}
 use Rattle.llrp_tool.specs.declared.script.Action.{Action}
 use Rattle.llrp_tool.specs.declared.script.Action.TheVariants.{Seen, Tick}
@@ -99,6 +99,8 @@ ParseStopped text Write = ⊥
 ParseStopped text Bound = ⊥
 ParseStopped text Broken = ⊥
 ParseStopped text Early = ⊥
+ParseStopped text (Peer status) = ⊥
+ParseStopped text Strange = ⊥
 
 -- there is room for an entry behind these, and these AFTER and NOW do not fall
 pub record MayFollow (entries : List Entry) (after now : ℕ) : Type 0 where

@@ -6,7 +6,7 @@ use Rattle.llrp_stream.specs.Decoding.{Stands}
 use Rattle.llrp_stream.specs.declared.item.Item.{Item}
 use Rattle.llrp_session.specs.ReaderMachine.{Reader}
 use Rattle.llrp_tool.specs.declared.fault.ToolErr.{ToolErr}
-use Rattle.llrp_tool.specs.declared.fault.ToolErr.TheVariants.{Listing, Script, Hex, Read, Write, Bound, Broken, Memory, Early}
+use Rattle.llrp_tool.specs.declared.fault.ToolErr.TheVariants.{Listing, Script, Hex, Read, Write, Bound, Broken, Memory, Peer, Strange, Early}
 use Rattle.llrp_tool.specs.declared.script.Entry.{Entry}
 use Rattle.llrp_tool.specs.declared.serving.scripted.ScriptedReader.{ScriptedReader}
 use Rattle.llrp_tool.specs.declared.serving.Serving.{Serving}
@@ -89,6 +89,8 @@ Fails reader entries bytes messages Read = ⊥
 Fails reader entries bytes messages Write = ⊥
 Fails reader entries bytes messages Bound = ⊥
 Fails reader entries bytes messages Early = ⊥
+Fails reader entries bytes messages (Peer status) = ⊥
+Fails reader entries bytes messages Strange = ⊥
 
 -- What a feed makes of it: it goes on, the client closed the connection, or it ended by an error.
 abbrev pub Goes : Reader → List Entry → List ℕ → List MessageTree → Serving → Result Bool ToolErr → Type 0
@@ -105,6 +107,8 @@ Feeds reader entries bytes messages piece new out0 out1 answer =
 abbrev pub Finishes : Reader → List Entry → List ℕ → List MessageTree → Result (Unit {0}) ToolErr → Type 0
 Finishes reader entries bytes messages (Ok u) = Serves reader entries bytes messages ended
 Finishes reader entries bytes messages (Err Early) = Serves reader entries bytes messages early
+Finishes reader entries bytes messages (Err (Peer status)) = ⊥
+Finishes reader entries bytes messages (Err Strange) = ⊥
 Finishes reader entries bytes messages (Err Broken) = ⊥
 Finishes reader entries bytes messages (Err Memory) = ⊥
 Finishes reader entries bytes messages (Err (Listing line reason)) = ⊥

@@ -6,7 +6,7 @@ use Rattle.llrp_stream.specs.Device.{SourceLog, SinkLog, Gave, Wrote, WroteAndFa
 use Rattle.llrp_stream.specs.Cuts.{IsPartial}
 use Rattle.llrp_stream.specs.Items.{Items, ItemsSoFar}
 use Rattle.llrp_tool.specs.declared.fault.ToolErr.{ToolErr}
-use Rattle.llrp_tool.specs.declared.fault.ToolErr.TheVariants.{Listing, Script, Hex, Read, Write, Bound, Broken, Memory, Early}
+use Rattle.llrp_tool.specs.declared.fault.ToolErr.TheVariants.{Listing, Script, Hex, Read, Write, Bound, Broken, Memory, Peer, Strange, Early}
 use Rattle.llrp_tool.specs.declared.fault.Verdict.{Verdict}
 use Rattle.llrp_tool.specs.declared.fault.Verdict.TheVariants.{Lawful, Faulty}
 use Rattle.llrp_tool.specs.Copying.{MOST_READS, ReadAll, GaveAndFailed, IsPrefix}
@@ -41,6 +41,8 @@ ListStopped old new front Bound = ⊥
 ListStopped old new front (Script line) = ⊥
 ListStopped old new front Broken = ⊥
 ListStopped old new front Early = ⊥
+ListStopped old new front (Peer status) = ⊥
+ListStopped old new front Strange = ⊥
 ListStopped old new front Hex = ⊥
 ListStopped old new front (Listing line reason) = ⊥
 
@@ -71,6 +73,8 @@ ShowStopped limit r0 r1 w0 w1 Hex = ⊥
 ShowStopped limit r0 r1 w0 w1 (Script line) = ⊥
 ShowStopped limit r0 r1 w0 w1 Broken = ⊥
 ShowStopped limit r0 r1 w0 w1 Early = ⊥
+ShowStopped limit r0 r1 w0 w1 (Peer status) = ⊥
+ShowStopped limit r0 r1 w0 w1 Strange = ⊥
 ShowStopped limit r0 r1 w0 w1 (Listing line reason) = ⊥
 
 -- all was read, or a front in which the stream breaks: whatever follows, the listing is the same

@@ -41,7 +41,7 @@ fn error_status(error: ToolErr) -> u8
 {
     match error {
         ToolErr::Listing { .. } | ToolErr::Script { .. } | ToolErr::Hex => 1,
-        ToolErr::Broken | ToolErr::Early => 1,
+        ToolErr::Broken | ToolErr::Peer(_) | ToolErr::Strange | ToolErr::Early => 1,
         ToolErr::Read | ToolErr::Write | ToolErr::Bound | ToolErr::Memory => 3,
     }
 }
@@ -90,6 +90,12 @@ fn write_error<E: Sink>(e: &mut E, error: ToolErr) -> Result<(), ToolErr>
         ToolErr::Bound => write_all(e, b"llrp: bound\n"),
         ToolErr::Broken => write_all(e, b"llrp: broken\n"),
         ToolErr::Memory => write_all(e, b"llrp: memory\n"),
+        ToolErr::Peer(status) => {
+            let mut digits = Buffer::new();
+            let number = digits.format(status).as_bytes();
+            write_parts(e, &[b"llrp: status ", number, b"\n"])
+        }
+        ToolErr::Strange => write_all(e, b"llrp: strange\n"),
         ToolErr::Early => write_all(e, b"llrp: early\n"),
     }
 }

@@ -115,7 +115,13 @@ pub enum ToolErr {
     /// A growth was refused.
     #[error("out of memory")]
     Memory,
-    /// The input ended within a frame.
+    /// The reader answered with this status, which is not 0.
+    #[error("the reader answered with status {0}")]
+    Peer(u16),
+    /// The reader sent what no reader sends there.
+    #[error("the reader sent something strange")]
+    Strange,
+    /// The input or the connection ended before the work was done.
     #[error("the input ended too early")]
     Early,
 }

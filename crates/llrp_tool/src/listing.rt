@@ -15,9 +15,10 @@ mod tails;
 use itoa::Buffer;
 use llrp_schema::{Kind, fields, name, tail};
 use llrp_tree::{Message, Node};
-use numbers::{push_fields, push_number};
+use numbers::push_fields;
+pub(crate) use numbers::{push_number, push_signed};
 use std::alloc::AllocError;
-use tails::push_tail;
+pub(crate) use tails::push_tail;
 
 /// Appends the first two words of a line: the level and the kind's name.
 fn push_start(text: &mut Vec<u8>, level: u8, kind: Kind) -> Result<(), AllocError>

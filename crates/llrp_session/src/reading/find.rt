@@ -15,7 +15,7 @@ pub(crate) fn is_kind(kind: ParamKind, node: &Node) -> bool
 }
 
 /// The first parameter of a kind.
-pub(crate) fn first(kind: ParamKind, nodes: &Nodes) -> Option<&Node>
+pub fn first(kind: ParamKind, nodes: &Nodes) -> Option<&Node>
     ensures first { behind result ≡ find_first (the_test kind) nodes.now }
     ensures lawful { IsOfKind kind (behind result) }
 {
@@ -40,7 +40,7 @@ pub(crate) fn first_below<'a>(kind: ParamKind, parent: Option<&'a Node>) -> Opti
 }
 
 /// The plain field at a place of a parameter of a kind; 0 where it is absent.
-pub(crate) fn field(kind: ParamKind, node: Option<&Node>, i: usize) -> u128
+pub fn field(kind: ParamKind, node: Option<&Node>, i: usize) -> u128
     requires { IsOfKind kind (behind node) }
     ensures value { result ≡ the_field i (behind node.entry) }
     ensures fits { result ≤ greatest kind i }

@@ -26,7 +26,7 @@ pub fn push_number(text: &mut Vec<u8>, number: u128) -> Result<(), AllocError>
 }
 
 /// Appends a space and eight bits as the number that they are in two's complement.
-fn push_signed(text: &mut Vec<u8>, bits: u128) -> Result<(), AllocError>
+pub fn push_signed(text: &mut Vec<u8>, bits: u128) -> Result<(), AllocError>
     requires { bits < 256 }
     ensures { OnOk result (text.new.items ≡ text.old.items ++ (32 ∷ signed_text bits)) }
 {

@@ -48,6 +48,18 @@ pub returns-in-Broken : goal.returns-in-Broken
 unfolding error_line
 returns-in-Broken g c = rw c.in-Broken.is c.write_all-in-Broken.ensures
 
+pub returns-in-Peer : goal.returns-in-Peer
+unfolding error_line
+returns-in-Peer g c =
+    let number : c.as_bytes-number-in-Peer.result.now ≡ decimal c.in-Peer.status = c.as_bytes-number-in-Peer.ensures.value ∙ c.format-in-Peer.ensures.text in
+    rw c.in-Peer.is
+    (subst (λ (text : List ℕ). Writes text (g.E.Sink.log c.args.e.now) (g.E.Sink.log c.write_parts-in-Peer.new.w) c.write_parts-in-Peer.result)
+    (ap (λ (n : List ℕ). codes "llrp: status " ++ (n ++ codes "\n")) number) c.write_parts-in-Peer.ensures)
+
+pub returns-in-Strange : goal.returns-in-Strange
+unfolding error_line
+returns-in-Strange g c = rw c.in-Strange.is c.write_all-in-Strange.ensures
+
 pub returns-in-Early : goal.returns-in-Early
 unfolding error_line
 returns-in-Early g c = rw c.in-Early.is c.write_all-in-Early.ensures
