@@ -46,7 +46,7 @@ awaited_after GetReport = Report
 awaited_after Close = End
 awaited_after _ = Answer
 
--- the client sends a command; it refuses none of a plan, and one that it refused would be strange
+-- the client sends a command; one that it refused would be strange
 abbrev pub sends_by : Result Sending Refusal → Command → List Command → Course → Course
 sends_by (Ok sending) k left c = record c { client = sending.client; left = left; awaits = awaited_after k; sent = c.sent ++ sending.message ∷ [] }
 sends_by (Err refusal) k left c = ends (Failed Strange) c
