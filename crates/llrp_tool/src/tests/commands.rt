@@ -11,6 +11,7 @@ Commands:
   show    List the messages of a stream of bytes
   encode  Write the bytes of a listing of messages
   epc     Print the text of a tag's word, or the word of a text
+  sim     Serve one client as a simulated reader, by a script
   help    Print this message or the help of the given subcommand(s)
 
 Options:
@@ -79,14 +80,14 @@ Examples:
 ";
 
 const NO_COMMAND: &[u8] = b"error: 'llrp' requires a subcommand but one was not provided
-  [subcommands: show, encode, epc, help]
+  [subcommands: show, encode, epc, sim, help]
 
 Usage: llrp <COMMAND>
 
 For more information, try '--help'.
 ";
 
-const NO_SUCH_COMMAND: &[u8] = b"error: unrecognized subcommand 'sim'
+const NO_SUCH_COMMAND: &[u8] = b"error: unrecognized subcommand 'inventory'
 
 Usage: llrp <COMMAND>
 
