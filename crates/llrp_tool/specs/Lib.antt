@@ -5,6 +5,7 @@ pub mod Copying
 pub mod Encoder
 pub mod Encoding
 pub mod EpcLines
+pub mod Fault
 pub mod FirstRefusal
 pub mod Gathering
 pub mod GatheringStands

@@ -5,19 +5,19 @@ ghost use Rattle.std.specs.Prelude.{◌≡◌, ◌≤◌, ◌++◌, List, Ok, Er
 ghost use Rattle.llrp_tree.specs.declared.TheConstants.{MAX_LIMIT};
 ghost use Rattle.llrp_tool.specs.declared.fault.ToolErr.{ToolErr as Error};
 ghost use Rattle.llrp_tool.specs.Gathering.{Course};
-ghost use Rattle.llrp_tool.specs.GatheringStands.{error_by, error_by_command, error_by_message, phase_left};
+ghost use Rattle.llrp_tool.specs.GatheringStands.{error_by_command, error_by_message, phase_left};
 ghost use Rattle.llrp_tool.specs.Plan.{Plan as ThePlan};
 
 mod left;
 mod lines;
 
-use crate::fault::ToolErr;
+use crate::fault::{ToolErr, error_of};
 use crate::plan::Plan;
 use crate::sending::append_frames;
 use left::{Left, awaited_after};
 use lines::{report_lines, total_line};
 use llrp_session::{Client, CmdFault, TakeFault, Taken};
-use llrp_stream::{Decoder, Fed, FeedErr, Item};
+use llrp_stream::{Decoder, Fed, Item};
 use llrp_tree::{Message, Nodes, Reason};
 use std::alloc::Global;
 
@@ -57,16 +57,6 @@ pub struct Gathering {
     /// How many reports came; it stops at the greatest number.
     reports: u64,
     phase: Phase,
-}
-
-/// The error of a decoder that takes nothing more.
-fn error_of(error: FeedErr) -> ToolErr
-    ensures { result ≡ error_by error }
-{
-    match error {
-        FeedErr::Broken => ToolErr::Broken,
-        FeedErr::Memory | FeedErr::Dead => ToolErr::Memory,
-    }
 }
 
 impl Gathering {
