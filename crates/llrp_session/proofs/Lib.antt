@@ -12,6 +12,7 @@ pub mod WorldExchange
 pub mod TableLemmas
 pub mod ThreeAtMost
 pub mod LawfulReaders
+pub mod LawfulRequests
 pub mod ReportLemmas
 pub mod ToldOfLawful
 pub mod LawfulClients

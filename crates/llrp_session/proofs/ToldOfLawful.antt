@@ -13,11 +13,11 @@ use Rattle.llrp_session.specs.RoSpec.{is_kind, first_in, first_below, field, ros
 use Rattle.llrp_session.specs.LawfulStates.{IsToldOf}
 
 -- the greatest value of the first field
-abbrev first_greatest : List FieldRule → ℕ
+abbrev pub first_greatest : List FieldRule → ℕ
 first_greatest [] = 0
 first_greatest (rule ∷ rules) = rule.greatest
 
-first_in_range : (rules : List FieldRule) (values : List ℕ) → AreInRange rules values → get_or values 0 0 ≤ first_greatest rules
+pub first_in_range : (rules : List FieldRule) (values : List ℕ) → AreInRange rules values → get_or values 0 0 ≤ first_greatest rules
 first_in_range [] [] h = omega arith
 first_in_range [] (v ∷ values) h = absurd h
 first_in_range (rule ∷ rules) [] h = absurd h
@@ -36,7 +36,7 @@ lawful-trees none h = tt
 lawful-trees (and before kind fields tail children) h = lawful-append (trees before) _ (lawful-trees before h.0) ((h.1, h.2), tt)
 
 -- what is found is lawful and of the kind
-abbrev IsFound : ParamKind → Option Tree → Type 0
+abbrev pub IsFound : ParamKind → Option Tree → Type 0
 IsFound kind None = Unit {0}
 IsFound kind (Some t) = (t.kind ≡ kind) × IsLawful t
 
@@ -48,7 +48,7 @@ found-find kind (t ∷ ts) h =
       | false ↦ λ e. found-find kind ts h.1
     ] refl
 
-found-first_in : (kind : ParamKind) (row : Forest) → AllLawful row → IsFound kind (first_in kind row)
+pub found-first_in : (kind : ParamKind) (row : Forest) → AllLawful row → IsFound kind (first_in kind row)
 found-first_in kind row h = found-find kind (trees row) (lawful-trees row h)
 
 found-first_below : (outer kind : ParamKind) (o : Option Tree) → IsFound outer o → IsFound kind (first_below kind o)

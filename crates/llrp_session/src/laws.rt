@@ -8,7 +8,10 @@ ghost use Rattle.llrp_session.specs.Words.{Command, Heard};
 ghost use Rattle.llrp_session.specs.ReaderMachine.{Reader, ReaderEvent, new_reader, next};
 ghost use Rattle.llrp_session.specs.ClientMachine.{Client, command, take};
 ghost use Rattle.llrp_session.specs.LawfulWords.{IsLawfulClientMessage};
-ghost use Rattle.llrp_session.specs.LawfulStates.{IsLawfulReader, IsLawfulReaderEvent, AreLawfulReaderMessages, IsGivenCommand, AreLawfulClientMessages};
+ghost use Rattle.llrp_tree.specs.Lawful.{IsLawfulMessage};
+ghost use Rattle.llrp_tree.specs.Tree.{MessageTree};
+ghost use Rattle.llrp_session.specs.Reading.{request_of};
+ghost use Rattle.llrp_session.specs.LawfulStates.{IsLawfulReader, IsLawfulReaderEvent, IsLawfulRequest, AreLawfulReaderMessages, IsGivenCommand, AreLawfulClientMessages};
 ghost use Rattle.llrp_session.specs.TableLaws.{EntersOne, ChangesEach, RemovesThoseNamed, EntersOneInView, ChangesEachInView, RemovesThoseNamedInView, SeesEach, EachOnce};
 ghost use Rattle.llrp_session.specs.Agreement.{AfterAll, ViewCatchesUp, ViewIsTable, ReportsArrive, ReportsAreKept, ReaderHasHistory, OneActive, NothingIsUnexpected, PendingIsOnTheWay, NothingIsPending};
 
@@ -59,12 +62,13 @@ pub fn three_messages_at_most()
 {}
 
 /// A reader or a client whose numbers are those that their types hold, and which is given such, says only what has a lawful
-/// message within the limit.
-#[tactic(auto, using(crate::proofs::LawfulReaders::reader_as_new, crate::proofs::LawfulReaders::reader_says_lawful, crate::proofs::LawfulClients::command_is_lawful, crate::proofs::LawfulClients::answer_is_lawful))]
+/// message within the limit; and what a reader reads in a lawful message is such.
+#[tactic(auto, using(crate::proofs::LawfulReaders::reader_as_new, crate::proofs::LawfulReaders::reader_says_lawful, crate::proofs::LawfulRequests::lawful_request, crate::proofs::LawfulClients::command_is_lawful, crate::proofs::LawfulClients::answer_is_lawful))]
 pub fn machines_say_what_is_lawful()
     ensures reader_as_new { (limit first_id : ℕ) → first_id < 2 ^ 32 → IsLawfulReader (new_reader limit first_id) }
     ensures reader { (now : ℕ) (event : ReaderEvent) (reader : Reader) → now < 2 ^ 64 → IsLawfulReaderEvent event → IsLawfulReader reader →
         IfOk (next now event reader) (λ turn. AreLawfulReaderMessages turn.sent × IsLawfulReader turn.reader) }
+    ensures request { (m : MessageTree) → IsLawfulMessage m → IsLawfulRequest (request_of m) }
     ensures command { (client : Client) (asked : Command) → IsGivenCommand asked →
         IfOk (command client asked) (λ sending. IsLawfulClientMessage client.limit sending.message) }
     ensures answer { (client : Client) (id : ℕ) (heard : Heard) → id < 2 ^ 32 →

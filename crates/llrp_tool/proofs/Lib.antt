@@ -24,6 +24,7 @@ pub mod Listed
 pub mod NumberWords
 pub mod Numerals
 pub mod OneEpcAnswer
+pub mod OneServing
 pub mod OneText
 pub mod Opening
 pub mod PlanLemmas
@@ -51,4 +52,5 @@ pub mod Telling
 pub mod TextLemmas
 pub mod TreeLines
 pub mod WordLemmas
+pub mod WithinLimit
 pub mod WordTexts

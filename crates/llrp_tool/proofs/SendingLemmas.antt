@@ -1,11 +1,16 @@
 -- Frames one after another.
-use Rattle.std.proofs.Common.{◌≡◌, ℕ, ◌+◌, ◌<◌, List, [], ◌∷◌, ◌++◌, length, take, drop, get_or, refl, sym, ap, ◌∙◌, append_assoc}
+use Rattle.std.proofs.Common.{◌≡◌, ℕ, ◌+◌, ◌<◌, Bool, List, [], ◌∷◌, ◌++◌, length, take, drop, get_or, refl, sym, ap, ◌∙◌, append_assoc}
 use Rattle.std.specs.List.{AllZip}
 use Rattle.std.proofs.lemmas.List.{append-nil, take_more, take-append-drop}
 use Rattle.std.proofs.lemmas.List.Concat.{flat_map-append}
+use Rattle.tag_bits.specs.Digits.{digits_of_bytes}
 use Rattle.llrp_tree.specs.declared.TheConstants.{MAX_LIMIT}
 use Rattle.llrp_tree.specs.Tree.{MessageTree}
 use Rattle.llrp_tree.specs.Frame.{Frame}
+use Rattle.llrp_tree.specs.FirstFault.{octets_at}
+use Rattle.llrp_tree.proofs.LengthLemmas.{spelled_length}
+use Rattle.llrp_tree.proofs.ReadDigits.{octets_again}
+use Rattle.llrp_stream.specs.Cuts.{joined}
 use Rattle.llrp_tool.specs.Sending.{AreFrames, Adds, AddsSome}
 
 pub zip_append : {A B : Type 0} (R : A → B → Type 0) (a b : List A) (x y : List B) → AllZip R a x → AllZip R b y → AllZip R (a ++ b) (x ++ y)
@@ -46,3 +51,21 @@ adds_step ms i m old mid new within is so one =
 
 pub some_at : (ms : List MessageTree) (i : ℕ) (old mid new : List ℕ) → Adds (take i ms) old mid → new ≡ mid → AddsSome ms old new
 some_at ms i old mid new so same = record { first = take i ms; later = drop i ms; parts = sym (take-append-drop i ms); adds = rw same so }
+
+-- ---- messages have one list of frames
+
+one_frame : (m : MessageTree) (x y : List ℕ) (limit : ℕ) → Frame m x limit → Frame m y limit → x ≡ y
+one_frame m x y limit f g =
+    let long : length x ≡ length y = spelled_length m x f.spelled ∙ sym (spelled_length m y g.spelled) in
+    sym (octets_again x [] f.octets) ∙ ap (λ (n : ℕ). octets_at n (digits_of_bytes x ++ [])) long ∙ ap (λ (ds : List Bool). octets_at (length y) (ds ++ [])) (f.spelled ∙ sym g.spelled) ∙ octets_again y [] g.octets
+
+same_frames : (messages : List MessageTree) (xs ys : List (List ℕ)) → AllZip (λ m frame. Frame m frame MAX_LIMIT) messages xs → AllZip (λ m frame. Frame m frame MAX_LIMIT) messages ys → xs ≡ ys
+same_frames [] [] [] p q = refl
+same_frames [] [] (y ∷ ys) p q = absurd q
+same_frames [] (x ∷ xs) ys p q = absurd p
+same_frames (m ∷ messages) [] ys p q = absurd p
+same_frames (m ∷ messages) (x ∷ xs) [] p q = absurd q
+same_frames (m ∷ messages) (x ∷ xs) (y ∷ ys) p q = ap (λ (frame : List ℕ). frame ∷ xs) (one_frame m x y MAX_LIMIT p.0 q.0) ∙ ap (λ (frames : List (List ℕ)). y ∷ frames) (same_frames messages xs ys p.1 q.1)
+
+pub one_text_of_frames : (messages : List MessageTree) (s t : List ℕ) → AreFrames messages s → AreFrames messages t → s ≡ t
+one_text_of_frames messages s t p q = p.whole ∙ ap joined (same_frames messages p.frames q.frames p.each q.each) ∙ sym q.whole

@@ -31,6 +31,7 @@ pub mod Script
 pub mod ScriptLaws
 pub mod Sending
 pub mod Serving
+pub mod ServingLaws
 pub mod ServingStands
 pub mod Show
 pub mod Splits

@@ -1,13 +1,17 @@
-//! What holds of every listing.
+//! What holds of every listing, of every script, and of every serving.
 
 ghost use Rattle.std.specs.Prelude.{List, Some, codes, true, ◌≡◌, ◌≤◌, ℕ};
 ghost use Rattle.llrp_tree.specs.Tree.{MessageTree};
+ghost use Rattle.llrp_tree.specs.Lawful.{AreOctets};
+ghost use Rattle.llrp_tree.specs.declared.TheConstants.{MAX_LIMIT};
+ghost use Rattle.llrp_session.specs.ReaderMachine.{Reader};
 ghost use Rattle.llrp_tool.specs.declared.fault.Verdict.{Verdict};
 ghost use Rattle.llrp_tool.specs.EpcLines.{Prints};
 ghost use Rattle.llrp_tool.specs.ListingLaws.{HasShortLines, ListedOrRefused};
 ghost use Rattle.llrp_tool.specs.PrintingLaws.{OneTextOfItems, OneTextOfMessages, PrintsBack};
 ghost use Rattle.llrp_tool.specs.Script.{IsLawful, IsScript};
 ghost use Rattle.llrp_tool.specs.ScriptLaws.{ScriptOrRefused};
+ghost use Rattle.llrp_tool.specs.ServingLaws.{IsServedInOneWay, OneTextOfFrames, SaysWithinLimit};
 ghost use Rattle.llrp_tool.specs.declared.script.Entry.{Entry};
 ghost use Rattle.llrp_tool.specs.Words.{AsksEpc, command_in, name_in, parses};
 
@@ -59,4 +63,20 @@ pub fn script_or_refused()
 /// Where the parse of the words succeeds and names epc, its text is there.
 pub fn epc_has_text()
     ensures { (words : List (List ℕ)) → parses words ≡ true → name_in (command_in words) ≡ Some (codes "epc") → (text : List ℕ) × AsksEpc words text }
+{}
+
+/// Given a reader, a script and a client's bytes, serving says one list of messages and stands in one way.
+#[tactic(auto, using(crate::proofs::OneServing::served_in_one_way))]
+pub fn one_serving()
+    ensures { (reader : Reader) (entries : List Entry) (bytes : List ℕ) → reader.limit ≤ MAX_LIMIT → AreOctets bytes → IsServedInOneWay reader entries bytes }
+{}
+
+/// Messages have one list of frames, so the bytes that serving sends are determined with its messages.
+pub fn one_text_of_frames()
+    ensures { OneTextOfFrames }
+{}
+
+/// What serving says is lawful, and no message is longer than the reader's own limit.
+pub fn served_within_limit()
+    ensures { SaysWithinLimit }
 {}

@@ -3,6 +3,7 @@
 ghost use Rattle.std.specs.Prelude.{None, Some};
 
 use crate::{Input, Output, Sink, Source, ToolErr, run_show};
+use std::alloc::Global;
 use std::io;
 use std::test::*;
 
@@ -10,10 +11,26 @@ const KEEPALIVE: &[u8] = b"\x08\x3e\0\0\0\x0a\0\0\0\x07";
 
 /// Takes one byte a call, and fails in the call after so many.
 #[derive(Drop)]
-struct Failing {
+pub(super) struct Failing {
     bytes: Vec<u8>,
     left: u32,
     failures: u64,
+}
+
+impl Failing {
+    /// Fails in the call after so many.
+    pub(super) fn after(alloc: Global, left: u32) -> Failing {
+        Failing {
+            bytes: Vec::new(alloc),
+            left,
+            failures: 0,
+        }
+    }
+
+    /// The bytes that it took.
+    pub(super) fn taken(&self) -> &[u8] {
+        self.bytes.as_slice()
+    }
 }
 
 impl Sink for Failing {
@@ -33,15 +50,10 @@ impl Sink for Failing {
 fn a_write_that_fails_stops_the_listing(rt: HostRuntime) {
     for left in 0..16u32 {
         let mut source = Input::new(KEEPALIVE);
-        let mut sink = Failing {
-            bytes: Vec::new(rt.alloc()),
-            left,
-            failures: 0,
-        };
+        let mut sink = Failing::after(rt.alloc(), left);
         let found = run_show(rt.alloc(), &mut source, &mut sink, 65_536);
         assert!(rt; found == Err(ToolErr::Write));
-        assert!(rt; b"0 KEEPALIVE 2 7\n".starts_with(sink.bytes.as_slice()));
-        assert!(rt; sink.bytes.len() == left as usize);
+        assert!(rt; sink.taken() == &b"0 KEEPALIVE 2 7\n"[..left as usize]);
     }
 }
 

@@ -6,17 +6,18 @@ use std::alloc::Global;
 use std::test::*;
 
 /// What a connected reader says first: READER_EVENT_NOTIFICATION at moment 0 with ConnectionAttemptEvent 0.
-const CONNECTED: &str = "043F0000002000000001 00F60016 0080000C0000000000000000 010000060000";
+pub(super) const CONNECTED: &str =
+    "043F0000002000000001 00F60016 0080000C0000000000000000 010000060000";
 
 /// ADD_ROSPEC of 62 octets.
-const ADD: &str =
+pub(super) const ADD: &str =
     "08140000003E00000002 00B10034000000010000 00B20012 00B3000500 00B600090000000000 00B7001800010000 00B800090000000000 00BA0007000101";
 
 /// ADD_ROSPEC_RESPONSE with status 0.
-const ADDED: &str = "081E0000001200000002 011F000800000000";
+pub(super) const ADDED: &str = "081E0000001200000002 011F000800000000";
 
 /// ENABLE_ROSPEC, START_ROSPEC and STOP_ROSPEC of ROSpec 1.
-const ENABLE: &str = "08180000000E0000000300000001";
+pub(super) const ENABLE: &str = "08180000000E0000000300000001";
 
 const START: &str = "08160000000E0000000400000001";
 
@@ -24,7 +25,7 @@ const STOP: &str = "08170000000E0000000500000001";
 
 /// What is said to them: the Start event at moment 5 follows START's response; the report and the End event
 /// at moment 7 come before STOP's.
-const ENABLED: &str = "08220000001200000003 011F000800000000";
+pub(super) const ENABLED: &str = "08220000001200000003 011F000800000000";
 
 const STARTED: &str =
     "08200000001200000004 011F000800000000 083F0000002700000002 00F6001D 0080000C0000000000000005 00F9000D000000000100000000";
@@ -38,7 +39,7 @@ const CLOSE: &str = "080E0000000A00000009";
 const CLOSED: &str = "08040000001200000009 011F000800000000";
 
 /// The bytes of hexadecimal texts in a row, whose spaces are passed over.
-fn bytes(alloc: Global, texts: &[&str]) -> Result<Vec<u8>, ToolErr> {
+pub(super) fn bytes(alloc: Global, texts: &[&str]) -> Result<Vec<u8>, ToolErr> {
     let mut digits = Vec::new(alloc);
     for text in texts {
         digits.extend_from_slice(text.as_bytes())?;

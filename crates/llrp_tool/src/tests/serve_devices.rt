@@ -1,0 +1,100 @@
+//! Serving over sources and sinks that fail in mid-stream.
+
+ghost use Rattle.std.specs.Prelude.{None};
+
+use super::devices::Failing;
+use super::serve::{ADD, ADDED, CONNECTED, ENABLE, ENABLED, bytes};
+use crate::{Input, Script, Source, ToolErr, run_serve};
+use llrp_session::Reader;
+use llrp_stream::Output;
+use std::alloc::Global;
+use std::io;
+use std::test::*;
+
+/// Gives a byte a call, and fails in the call after the last.
+#[derive(Drop)]
+struct BreakingOff<'a> {
+    rest: &'a [u8],
+    reads: u64,
+    failures: u64,
+}
+
+impl Source for BreakingOff<'_> {
+    ghost log = { λ s. record { reads = s.reads; ends = 0; failures = s.failures; left = None } };
+
+    fn read(&mut self, buf: &mut [u8]) -> io::Result<usize> {
+        let Some((byte, rest)) = self.rest.split_first() else {
+            self.failures += 1;
+            return Err(io::Error::from(io::ErrorKind::ConnectionReset));
+        };
+        buf[0] = *byte;
+        self.rest = rest;
+        self.reads += 1;
+        Ok(1)
+    }
+}
+
+/// What is written where reading fails after these bytes.
+fn written_before(alloc: Global, stream: &[u8]) -> Result<(Result<(), ToolErr>, Vec<u8>), ToolErr> {
+    let mut source = BreakingOff {
+        rest: stream,
+        reads: 0,
+        failures: 0,
+    };
+    let mut sink = Output::new(Vec::new(alloc));
+    let script = Script::parse(alloc, b"")?;
+    let end = run_serve(
+        alloc,
+        Reader::new(alloc, 65_536, 1),
+        script,
+        &mut source,
+        &mut sink,
+    );
+    Ok((end, sink.into_inner()))
+}
+
+#[test]
+fn a_read_that_fails_comes_after_the_answers_so_far(rt: HostRuntime) -> Result<(), Fail> {
+    let alloc = rt.alloc();
+    let stream = bytes(alloc, &[ADD, ENABLE])?;
+    let wanted = bytes(alloc, &[CONNECTED, ADDED, ENABLED])?;
+    for count in 0..stream.len() + 1 {
+        // CONNECTED has 32 octets, ADDED and ENABLED 18 each; ADD has 62, and ENABLE 14.
+        let said = if count < 62 {
+            32
+        } else if count < 76 {
+            50
+        } else {
+            68
+        };
+        let (end, written) = written_before(alloc, &stream.as_slice()[..count])?;
+        assert!(rt; end == Err(ToolErr::Read), "{count}");
+        assert!(rt; written.as_slice() == &wanted.as_slice()[..said], "{count}");
+    }
+    Ok(())
+}
+
+#[test]
+fn a_write_that_fails_stops_serving(rt: HostRuntime) -> Result<(), Fail> {
+    let alloc = rt.alloc();
+    let stream = bytes(alloc, &[ADD, ENABLE])?;
+    let wanted = bytes(alloc, &[CONNECTED, ADDED, ENABLED])?;
+    for left in 0..68u32 {
+        let mut source = Input::new(stream.as_slice());
+        let mut sink = Failing::after(alloc, left);
+        let script = Script::parse(alloc, b"")?;
+        let end = run_serve(
+            alloc,
+            Reader::new(alloc, 65_536, 1),
+            script,
+            &mut source,
+            &mut sink,
+        );
+        assert!(rt; end == Err(ToolErr::Write), "{left}");
+        assert!(rt;
+            sink.taken() == &wanted.as_slice()[..left as usize],
+            "{left}"
+        );
+    }
+    Ok(())
+}
