@@ -215,7 +215,8 @@ sent_in_part limit plan r0 r1 r2 w0 w1 w2 t0 t1 n g new out0 out1 lines0 lines1 
     let is : error ≡ Write = only_write out1 w1 w2 error w in
     let w_is : Writes out1 w1 w2 (Err Write) = subst (λ (e : ToolErr). Writes out1 w1 w2 (Err e)) is w in
     rw is (
-      f.bytes ++ p.bytes, (
+      f.bytes ++ p.bytes,
+      (
         given_piece limit plan r0 r1 r2 w0 w1 t0 t1 n g new out0 out1 lines0 lines1 answer p,
         f.frames ++ out1,
         f.text ++ lines1,
@@ -231,7 +232,8 @@ told_in_part limit plan r0 r1 r2 w0 w1 w2 t0 t1 t2 n g new out0 out1 lines0 line
     let is : error ≡ Write = only_write lines1 t1 t2 error w in
     let w_is : Writes lines1 t1 t2 (Err Write) = subst (λ (e : ToolErr). Writes lines1 t1 t2 (Err e)) is w in
     rw is (
-      f.bytes ++ p.bytes, (
+      f.bytes ++ p.bytes,
+      (
         given_piece limit plan r0 r1 r2 w0 w1 t0 t1 n g new out0 out1 lines0 lines1 answer p,
         f.frames ++ out1,
         f.text ++ lines1,
