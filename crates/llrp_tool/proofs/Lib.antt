@@ -16,6 +16,7 @@ pub mod GatheringLemmas
 pub mod GatheringSteps
 pub mod Growing
 pub mod HexadecimalLemmas
+pub mod InventoryLemmas
 pub mod LawfulLines
 pub mod LineSays
 pub mod LineShape

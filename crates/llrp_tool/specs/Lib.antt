@@ -26,6 +26,7 @@ pub mod Plan
 pub mod Printing
 pub mod PrintingLaws
 pub mod Refused
+pub mod RunInventory
 pub mod RunServe
 pub mod Script
 pub mod ScriptLaws

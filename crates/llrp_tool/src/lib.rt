@@ -10,6 +10,7 @@ mod epc;
 mod fault;
 mod gathering;
 mod hexadecimal;
+mod inventory;
 pub mod laws;
 mod line;
 mod listing;
@@ -22,6 +23,7 @@ mod serve;
 mod serving;
 mod show;
 mod spaced;
+mod summary;
 mod tail;
 mod words;
 
@@ -32,6 +34,7 @@ pub use epc::run_epc;
 pub use fault::{Refusal, ToolErr, Verdict};
 pub use gathering::Gathering;
 pub use hexadecimal::bytes_of_hex;
+pub use inventory::run_inventory;
 pub use llrp_session::Sighting;
 pub use llrp_stream::{Input, Output, Sink, Source};
 pub use plan::{Plan, standard_plan};
@@ -39,6 +42,7 @@ pub use script::{Action, Entry, Script};
 pub use serve::run_serve;
 pub use serving::Serving;
 pub use show::run_show;
+pub use summary::Summary;
 pub use words::sim_port;
 
 #[cfg(test)]

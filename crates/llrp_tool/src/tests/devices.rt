@@ -1,6 +1,6 @@
 //! Sources and sinks that fail in mid-stream, or don't end.
 
-ghost use Rattle.std.specs.Prelude.{None, Some};
+ghost use Rattle.std.specs.Prelude.{◌≡◌, None, Some};
 
 use crate::{Input, Output, Sink, Source, ToolErr, run_show};
 use std::alloc::Global;
@@ -19,7 +19,9 @@ pub(super) struct Failing {
 
 impl Failing {
     /// Fails in the call after so many.
-    pub(super) fn after(alloc: Global, left: u32) -> Failing {
+    pub(super) fn after(alloc: Global, left: u32) -> Failing
+        ensures { result.failures ≡ 0 }
+    {
         Failing {
             bytes: Vec::new(alloc),
             left,
