@@ -26,6 +26,7 @@ pub mod Numerals
 pub mod OneEpcAnswer
 pub mod OneText
 pub mod Opening
+pub mod PlanClients
 pub mod PlanLemmas
 pub mod PrintingLemmas
 pub mod PrintsBack

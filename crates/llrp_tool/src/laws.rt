@@ -1,10 +1,16 @@
-//! What holds of every listing.
+//! What holds of every listing, of every script, and of every client that follows a plan.
 
-ghost use Rattle.std.specs.Prelude.{List, Some, codes, true, ◌≡◌, ◌≤◌, ℕ};
+ghost use Rattle.std.specs.Prelude.{List, Some, codes, true, ◌<◌, ◌≡◌, ◌≤◌, ◌^◌, ℕ};
+ghost use Rattle.llrp_tree.specs.declared.TheConstants.{MAX_LIMIT};
+ghost use Rattle.llrp_tree.specs.Lawful.{AreOctets};
 ghost use Rattle.llrp_tree.specs.Tree.{MessageTree};
+ghost use Rattle.llrp_stream.specs.declared.item.Item.{Item};
 ghost use Rattle.llrp_tool.specs.declared.fault.Verdict.{Verdict};
 ghost use Rattle.llrp_tool.specs.EpcLines.{Prints};
 ghost use Rattle.llrp_tool.specs.ListingLaws.{HasShortLines, ListedOrRefused};
+ghost use Rattle.llrp_tool.specs.declared.gathering.Phase.TheVariants.{Closed};
+ghost use Rattle.llrp_tool.specs.Plan.{Plan};
+ghost use Rattle.llrp_tool.specs.PlanLaws.{course_of, TakesEachCommand, StrangeIsTheReaders, HasOneCourse, CoursesGoOn, SendsInOrder, IsDone, SendsOneByOne};
 ghost use Rattle.llrp_tool.specs.PrintingLaws.{OneTextOfItems, OneTextOfMessages, PrintsBack};
 ghost use Rattle.llrp_tool.specs.Script.{IsLawful, IsScript};
 ghost use Rattle.llrp_tool.specs.ScriptLaws.{ScriptOrRefused};
@@ -59,4 +65,27 @@ pub fn script_or_refused()
 /// Where the parse of the words succeeds and names epc, its text is there.
 pub fn epc_has_text()
     ensures { (words : List (List ℕ)) → parses words ≡ true → name_in (command_in words) ≡ Some (codes "epc") → (text : List ℕ) × AsksEpc words text }
+{}
+
+/// Whatever a reader sends, a client that follows a plan takes each of its commands, and ends as Strange exactly where
+/// the reader sent what it did not expect, or a frame with a fault other than a type that no kind has.
+pub fn plan_is_never_refused()
+    ensures each_command_is_taken { (limit : ℕ) (plan : Plan) → 4096 ≤ limit → plan.polls < 2 ^ 16 → TakesEachCommand limit plan }
+    ensures strange_is_the_readers { (limit : ℕ) (plan : Plan) → 4096 ≤ limit → plan.polls < 2 ^ 16 → StrangeIsTheReaders limit plan }
+{}
+
+/// Bytes have one course of all their whole frames; as more bytes come, what was sent and reported stands, and an end
+/// stays.
+pub fn course_is_determined()
+    ensures one_course { (limit : ℕ) (plan : Plan) (bytes : List ℕ) → limit ≤ MAX_LIMIT → AreOctets bytes → HasOneCourse limit plan bytes }
+    ensures goes_on { (limit : ℕ) (plan : Plan) → CoursesGoOn limit plan }
+{}
+
+/// A client that follows a plan sends its commands in order, with ids from 1 on, each at the message that lets it be
+/// sent: the first at the connection, one behind GET_REPORT at a report that comes after that, any other at the response
+/// to the command before. Where it is closed all were sent, and there was a report for each poll.
+pub fn plan_sends_its_commands()
+    ensures in_order { (limit : ℕ) (plan : Plan) (items : List Item) → SendsInOrder plan (course_of limit plan items) }
+    ensures one_by_one { (limit : ℕ) (plan : Plan) → SendsOneByOne limit plan }
+    ensures done { (limit : ℕ) (plan : Plan) (items : List Item) → (course_of limit plan items).phase ≡ Closed → IsDone plan (course_of limit plan items) }
 {}

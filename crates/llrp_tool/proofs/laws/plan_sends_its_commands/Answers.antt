@@ -1,0 +1,11 @@
+use Rattle.llrp_tool.proofs.PlanClients.{takes_or}
+use Rattle.llrp_tool.proofs.laws.plan_sends_its_commands.Goals as goal
+
+pub returns-clause-in_order : goal.returns-clause-in_order
+returns-clause-in_order c = ?
+
+pub returns-clause-one_by_one : goal.returns-clause-one_by_one
+returns-clause-one_by_one c = ?
+
+pub returns-clause-done : goal.returns-clause-done
+returns-clause-done c = ?
