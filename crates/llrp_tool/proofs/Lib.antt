@@ -27,7 +27,10 @@ pub mod OneEpcAnswer
 pub mod OneText
 pub mod Opening
 pub mod PlanClients
+pub mod PlanCommands
 pub mod PlanLemmas
+pub mod PlanSteps
+pub mod PlanTakings
 pub mod PrintingLemmas
 pub mod PrintsBack
 pub mod Rows

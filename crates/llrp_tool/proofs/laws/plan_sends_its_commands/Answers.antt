@@ -1,4 +1,4 @@
-use Rattle.llrp_tool.proofs.PlanClients.{takes_or}
+use Rattle.llrp_tool.proofs.PlanTakings.{taking_so}
 use Rattle.llrp_tool.proofs.laws.plan_sends_its_commands.Goals as goal
 
 pub returns-clause-in_order : goal.returns-clause-in_order
