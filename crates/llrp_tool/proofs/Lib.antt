@@ -28,6 +28,7 @@ pub mod OneText
 pub mod Opening
 pub mod PlanClients
 pub mod PlanCommands
+pub mod PlanFollowing
 pub mod PlanLemmas
 pub mod PlanSteps
 pub mod PlanTakings

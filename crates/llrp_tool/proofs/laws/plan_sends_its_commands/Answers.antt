@@ -1,11 +1,11 @@
-use Rattle.llrp_tool.proofs.PlanTakings.{taking_so}
+use Rattle.llrp_tool.proofs.PlanFollowing.{in_order, one_by_one, done}
 use Rattle.llrp_tool.proofs.laws.plan_sends_its_commands.Goals as goal
 
 pub returns-clause-in_order : goal.returns-clause-in_order
-returns-clause-in_order c = ?
+returns-clause-in_order c = in_order
 
 pub returns-clause-one_by_one : goal.returns-clause-one_by_one
-returns-clause-one_by_one c = ?
+returns-clause-one_by_one c = one_by_one
 
 pub returns-clause-done : goal.returns-clause-done
-returns-clause-done c = ?
+returns-clause-done c = done

@@ -1,0 +1,98 @@
+-- What items make of a course that follows a plan.
+use Rattle.std.proofs.Common.{◌≡◌, ℕ, List, [], ◌∷◌, ◌++◌, refl, sym, ap, subst, ◌∙◌, inl, inr}
+use Rattle.std.specs.Prelude.{◌⊎◌}
+use Rattle.llrp_tree.specs.declared.fault.Reason.{Reason}
+use Rattle.llrp_tree.specs.declared.fault.Reason.TheVariants.{Reserved, Version, MessageType, MessageLength, Short, Value, Count, Utf8, ParamType, Misplaced, TooMany, TooDeep, ParamLength, Extra, Missing}
+use Rattle.llrp_stream.specs.declared.item.Item.{Item}
+use Rattle.llrp_stream.specs.declared.item.Item.TheVariants.{Msg, Bad}
+use Rattle.llrp_session.specs.declared.words.ClientPhase.TheVariants.{Fresh, Ready}
+use Rattle.llrp_session.specs.ClientMachine.{Client, take}
+use Rattle.llrp_session.specs.Words.{Heard}
+use Rattle.llrp_session.specs.Reading.{heard_of}
+use Rattle.llrp_tool.specs.declared.fault.ToolErr.TheVariants.{Strange}
+use Rattle.llrp_tool.specs.declared.gathering.Phase.{Phase}
+use Rattle.llrp_tool.specs.declared.gathering.Phase.TheVariants.{Open, Closed, Failed}
+use Rattle.llrp_tool.specs.Plan.{Plan}
+use Rattle.llrp_tool.specs.Gathering.{Course, begun, ends, after_bad, after_item, goes, follow}
+use Rattle.llrp_tool.specs.PlanLaws.{course_of, asked, SendsInOrder, IsDone, SendsOne, SendsOneByOne}
+use Rattle.llrp_tool.proofs.PlanClients.{TakesOr, takes_or}
+use Rattle.llrp_tool.proofs.PlanSteps.{Begins, Waits, Standing, StandsIn, order_in, begins, in_phase, failed_order}
+use Rattle.llrp_tool.proofs.PlanTakings.{LetOne, Follows, taking_so}
+
+-- ---- one item
+
+-- a standing client takes a message, or does not expect it
+pub takes_so : (limit : ℕ) (plan : Plan) (c : Course) (id : ℕ) (h : Heard) → Standing limit plan c → TakesOr c.client id h (take c.client id h)
+takes_so limit plan c id h s =
+    elim (s.at) as (λ x. TakesOr c.client id h (take c.client id h)) [
+      | inl b ↦ takes_or c.client id h (inl b.fresh)
+      | inr w ↦ takes_or c.client id h (inr w.ready)
+    ]
+
+-- from the one to the other one command was sent at most, and the item let it
+record Steps (limit : ℕ) (plan : Plan) (c d : Course) (item : Item) : Type 0 where
+  stands : StandsIn d.phase limit plan d
+  sends : (asked d ≡ asked c) ⊎ SendsOne c d item
+
+bad_so : (reason : Reason) (limit : ℕ) (plan : Plan) (c : Course) (item : Item) → Standing limit plan c → c.phase ≡ Open → Steps limit plan c (after_bad reason c) item
+bad_so MessageType limit plan c item s opened = record { stands = in_phase c.phase Open limit plan c opened s; sends = inl refl }
+bad_so ParamType limit plan c item s opened = record { stands = in_phase c.phase Open limit plan c opened s; sends = inl refl }
+bad_so Reserved limit plan c item s opened = record { stands = failed_order plan c (Failed Strange) s.order; sends = inl refl }
+bad_so Version limit plan c item s opened = record { stands = failed_order plan c (Failed Strange) s.order; sends = inl refl }
+bad_so MessageLength limit plan c item s opened = record { stands = failed_order plan c (Failed Strange) s.order; sends = inl refl }
+bad_so Short limit plan c item s opened = record { stands = failed_order plan c (Failed Strange) s.order; sends = inl refl }
+bad_so Value limit plan c item s opened = record { stands = failed_order plan c (Failed Strange) s.order; sends = inl refl }
+bad_so Count limit plan c item s opened = record { stands = failed_order plan c (Failed Strange) s.order; sends = inl refl }
+bad_so Utf8 limit plan c item s opened = record { stands = failed_order plan c (Failed Strange) s.order; sends = inl refl }
+bad_so Misplaced limit plan c item s opened = record { stands = failed_order plan c (Failed Strange) s.order; sends = inl refl }
+bad_so TooMany limit plan c item s opened = record { stands = failed_order plan c (Failed Strange) s.order; sends = inl refl }
+bad_so TooDeep limit plan c item s opened = record { stands = failed_order plan c (Failed Strange) s.order; sends = inl refl }
+bad_so ParamLength limit plan c item s opened = record { stands = failed_order plan c (Failed Strange) s.order; sends = inl refl }
+bad_so Extra limit plan c item s opened = record { stands = failed_order plan c (Failed Strange) s.order; sends = inl refl }
+bad_so Missing limit plan c item s opened = record { stands = failed_order plan c (Failed Strange) s.order; sends = inl refl }
+
+item_so : (limit : ℕ) (plan : Plan) (c : Course) (item : Item) → Standing limit plan c → c.phase ≡ Open → Steps limit plan c (after_item item c) item
+item_so limit plan c (Bad id fault) s opened = bad_so fault.reason limit plan c (Bad id fault) s opened
+item_so limit plan c (Msg m) s opened =
+    let d : Course = after_item (Msg m) c in
+    let f : Follows limit plan c d m.id (heard_of m) = taking_so limit plan c m.id (heard_of m) (take c.client m.id (heard_of m)) s opened (takes_so limit plan c m.id (heard_of m) s) in
+    record {
+      stands = f.stands;
+      sends = elim (f.sends) as (λ x. (asked d ≡ asked c) ⊎ SendsOne c d (Msg m)) [
+        | inl none ↦ inl none
+        | inr one ↦ inr (record { next = one.next; sent_are = one.sent_are; message = m; item_is = refl; lets = one.lets })
+      ];
+    }
+
+-- the same in any phase: nothing follows an end
+goes_so : (p : Phase) (limit : ℕ) (plan : Plan) (c : Course) (item : Item) → c.phase ≡ p → StandsIn p limit plan c → Steps limit plan c (goes p item c) item
+goes_so Open limit plan c item e s = item_so limit plan c item s e
+goes_so Closed limit plan c item e s = record { stands = in_phase c.phase Closed limit plan c e s; sends = inl refl }
+goes_so (Failed error) limit plan c item e s = record { stands = in_phase c.phase (Failed error) limit plan c e s; sends = inl refl }
+
+-- ---- lists of items
+
+follow_so : (items : List Item) (limit : ℕ) (plan : Plan) (c : Course) → StandsIn c.phase limit plan c → StandsIn (follow items c).phase limit plan (follow items c)
+follow_so [] limit plan c s = s
+follow_so (item ∷ items) limit plan c s = follow_so items limit plan (goes c.phase item c) (goes_so c.phase limit plan c item refl s).stands
+
+pub stands_so : (limit : ℕ) (plan : Plan) (items : List Item) → StandsIn (course_of limit plan items).phase limit plan (course_of limit plan items)
+stands_so limit plan items = follow_so items limit plan (begun limit plan) (begins limit plan)
+
+pub follow-append : (a b : List Item) (c : Course) → follow (a ++ b) c ≡ follow b (follow a c)
+follow-append [] b c = refl
+follow-append (item ∷ a) b c = follow-append a b (goes c.phase item c)
+
+-- ---- the laws
+
+pub in_order : (limit : ℕ) (plan : Plan) (items : List Item) → SendsInOrder plan (course_of limit plan items)
+in_order limit plan items = order_in (course_of limit plan items).phase limit plan (course_of limit plan items) (stands_so limit plan items)
+
+pub done : (limit : ℕ) (plan : Plan) (items : List Item) → (course_of limit plan items).phase ≡ Closed → IsDone plan (course_of limit plan items)
+done limit plan items closed = (subst (λ (p : Phase). StandsIn p limit plan (course_of limit plan items)) closed (stands_so limit plan items)).1
+
+pub one_by_one : (limit : ℕ) (plan : Plan) → SendsOneByOne limit plan
+one_by_one limit plan items item =
+    let c : Course = course_of limit plan items in
+    let steps = goes_so c.phase limit plan c item refl (stands_so limit plan items) in
+    subst (λ (d : Course). (asked d ≡ asked c) ⊎ SendsOne c d item) (sym (follow-append items (item ∷ []) (begun limit plan))) steps.sends
