@@ -30,6 +30,7 @@ pub mod PlanClients
 pub mod PlanCommands
 pub mod PlanFollowing
 pub mod PlanLemmas
+pub mod PlanRefusals
 pub mod PlanSteps
 pub mod PlanTakings
 pub mod PrintingLemmas
