@@ -28,10 +28,12 @@ pub mod OneText
 pub mod Opening
 pub mod PlanClients
 pub mod PlanCommands
+pub mod PlanCourses
 pub mod PlanFollowing
 pub mod PlanLemmas
 pub mod PlanRefusals
 pub mod PlanSteps
+pub mod PlanStrange
 pub mod PlanTakings
 pub mod PrintingLemmas
 pub mod PrintsBack

@@ -1,6 +1,6 @@
 -- What items make of a course that follows a plan.
 use Rattle.std.proofs.Common.{◌≡◌, ℕ, List, [], ◌∷◌, ◌++◌, refl, sym, ap, subst, ◌∙◌, inl, inr}
-use Rattle.std.specs.Prelude.{◌⊎◌}
+use Rattle.std.specs.Prelude.{◌⊎◌, ◌≢◌}
 use Rattle.llrp_tree.specs.declared.fault.Reason.{Reason}
 use Rattle.llrp_tree.specs.declared.fault.Reason.TheVariants.{Reserved, Version, MessageType, MessageLength, Short, Value, Count, Utf8, ParamType, Misplaced, TooMany, TooDeep, ParamLength, Extra, Missing}
 use Rattle.llrp_stream.specs.declared.item.Item.{Item}
@@ -30,9 +30,9 @@ takes_so limit plan c id h s =
     ]
 
 -- from the one to the other one command was sent at most, and the item let it
-record Steps (limit : ℕ) (plan : Plan) (c d : Course) (item : Item) : Type 0 where
-  stands : StandsIn d.phase limit plan d
-  sends : (asked d ≡ asked c) ⊎ SendsOne c d item
+pub record Steps (limit : ℕ) (plan : Plan) (c d : Course) (item : Item) : Type 0 where
+  pub stands : StandsIn d.phase limit plan d
+  pub sends : (asked d ≡ asked c) ⊎ SendsOne c d item
 
 bad_so : (reason : Reason) (limit : ℕ) (plan : Plan) (c : Course) (item : Item) → Standing limit plan c → c.phase ≡ Open → Steps limit plan c (after_bad reason c) item
 bad_so MessageType limit plan c item s opened = record { stands = in_phase c.phase Open limit plan c opened s; sends = inl refl }
@@ -51,7 +51,7 @@ bad_so ParamLength limit plan c item s opened = record { stands = failed_order p
 bad_so Extra limit plan c item s opened = record { stands = failed_order plan c (Failed Strange) s.order; sends = inl refl }
 bad_so Missing limit plan c item s opened = record { stands = failed_order plan c (Failed Strange) s.order; sends = inl refl }
 
-item_so : (limit : ℕ) (plan : Plan) (c : Course) (item : Item) → Standing limit plan c → c.phase ≡ Open → Steps limit plan c (after_item item c) item
+pub item_so : (limit : ℕ) (plan : Plan) (c : Course) (item : Item) → Standing limit plan c → c.phase ≡ Open → Steps limit plan c (after_item item c) item
 item_so limit plan c (Bad id fault) s opened = bad_so fault.reason limit plan c (Bad id fault) s opened
 item_so limit plan c (Msg m) s opened =
     let d : Course = after_item (Msg m) c in
@@ -82,6 +82,16 @@ stands_so limit plan items = follow_so items limit plan (begun limit plan) (begi
 pub follow-append : (a b : List Item) (c : Course) → follow (a ++ b) c ≡ follow b (follow a c)
 follow-append [] b c = refl
 follow-append (item ∷ a) b c = follow-append a b (goes c.phase item c)
+
+-- nothing follows an end
+goes_ended : (p : Phase) (item : Item) (c : Course) → p ≢ Open → goes p item c ≡ c
+goes_ended Open item c e = absurd (e refl)
+goes_ended Closed item c e = refl
+goes_ended (Failed error) item c e = refl
+
+pub stays : (items : List Item) (c : Course) → c.phase ≢ Open → follow items c ≡ c
+stays [] c e = refl
+stays (item ∷ items) c e = ap (follow items) (goes_ended c.phase item c e) ∙ stays items c e
 
 -- ---- the laws
 

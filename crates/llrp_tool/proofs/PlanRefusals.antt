@@ -190,7 +190,7 @@ strange_message limit plan c id h (Ok t) least fits s opened k z =
     let e : Course = record c { client = t.client; sent = c.sent ++ t.sent } in
     absurd (not_taking t.taken e opened (λ k' later leads next. takes_next limit plan c id h t k' later least fits s k leads next) z)
 
-strange_item : (limit : ℕ) (plan : Plan) (c : Course) (item : Item) → 4096 ≤ limit → plan.polls < 2 ^ 16 → Standing limit plan c → c.phase ≡ Open → (after_item item c).phase ≡ Failed Strange → IsStrangeTo c.client item
+pub strange_item : (limit : ℕ) (plan : Plan) (c : Course) (item : Item) → 4096 ≤ limit → plan.polls < 2 ^ 16 → Standing limit plan c → c.phase ≡ Open → (after_item item c).phase ≡ Failed Strange → IsStrangeTo c.client item
 strange_item limit plan c (Msg m) least fits s opened z =
     strange_message limit plan c m.id (heard_of m) (take c.client m.id (heard_of m)) least fits s opened (takes_so limit plan c m.id (heard_of m) s) z
 strange_item limit plan c (Bad id fault) least fits s opened z = (

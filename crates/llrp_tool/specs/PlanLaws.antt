@@ -84,14 +84,12 @@ pub record HasOneCourse (limit : ℕ) (plan : Plan) (bytes : List ℕ) : Type 0 
   pub all : HasNoFrame rest
   pub only : (tail : List ℕ) (other : Course) → Gathers limit plan bytes tail other → HasNoFrame tail → (tail ≡ rest) × (other ≡ course)
 
--- One course went on to another: what was sent and reported stands, commands of what was left were sent, and an end stays.
+-- One course went on to another: what was sent and reported stands, and an end stays.
 pub record GoesOn (old new : Course) : Type 0 where
   pub messages : List ClientMessage
   pub reports : List (List Tree)
-  pub gone : List Command
   pub sent_are : new.sent ≡ old.sent ++ messages
   pub reports_are : new.reports ≡ old.reports ++ reports
-  pub left_are : old.left ≡ gone ++ new.left
   pub end_stays : old.phase ≢ Open → new ≡ old
 
 -- with more bytes the course of all frames goes on from each that there was
