@@ -1,7 +1,7 @@
 -- The commands of a plan: how many there are, how many of them poll, and that only the last closes.
-use Rattle.std.proofs.Common.{◌≡◌, ℕ, zero, suc, ◌+◌, ◌≤◌, List, [], ◌∷◌, ◌++◌, length, refl, sym, ap, ◌∙◌, append_assoc, arith}
+use Rattle.std.proofs.Common.{◌≡◌, ℕ, zero, suc, ◌+◌, ◌≤◌, List, [], ◌∷◌, ◌++◌, length, refl, ap, ◌∙◌, append_assoc, arith}
 use Rattle.std.specs.Prelude.{replicate, ◌≢◌}
-use Rattle.std.proofs.lemmas.List.{length-append, length-replicate}
+use Rattle.std.proofs.lemmas.List.{append-nil, length-append, length-replicate}
 use Rattle.llrp_session.specs.declared.words.Command.{Command}
 use Rattle.llrp_session.specs.declared.words.Command.TheVariants.{Add, Delete, Start, Stop, Enable, Disable, SetKeepalive, GetReport, Close}
 use Rattle.llrp_session.specs.Words.{Asks, ClientMessage}
@@ -87,6 +87,24 @@ last_closes plan before left e =
     only_last (Add (rospec plan.every) ∷ Enable 1 ∷ Start 1 ∷ but_last plan.polls) before left
     (λ a. cc, (λ b. cc, (λ d. cc, none_closes plan.polls)))
     (ap (λ (ks : List Command). Add (rospec plan.every) ∷ Enable 1 ∷ Start 1 ∷ ks) parts ∙ e)
+
+no_last : (ys : List Command) (y : Command) → [] ≡ ys ++ y ∷ [] → ⊥
+no_last [] y e = cc
+no_last (b ∷ ys) y e = cc
+
+same_last : (xs ys : List Command) (x y : Command) → xs ++ x ∷ [] ≡ ys ++ y ∷ [] → y ≡ x
+same_last [] [] x y e = cc
+same_last [] (b ∷ ys) x y e = let none : [] ≡ ys ++ y ∷ [] = cc in absurd (no_last ys y none)
+same_last (a ∷ xs) [] x y e = let none : xs ++ x ∷ [] ≡ [] = cc in absurd (no_last xs x (sym none))
+same_last (a ∷ xs) (b ∷ ys) x y e = let tails : xs ++ x ∷ [] ≡ ys ++ y ∷ [] = cc in same_last xs ys x y tails
+
+-- the last command of a plan closes
+pub closes_last : (plan : Plan) (before : List Command) (k : Command) → commands plan ≡ (before ++ k ∷ []) ++ [] → k ≡ Close
+unfolding commands but_last
+closes_last plan before k e =
+    let parts : but_last plan.polls ++ Close ∷ [] ≡ replicate plan.polls GetReport ++ Stop 1 ∷ Delete 1 ∷ Close ∷ [] = append_assoc (replicate plan.polls GetReport) (Stop 1 ∷ Delete 1 ∷ []) (Close ∷ []) in
+    same_last (Add (rospec plan.every) ∷ Enable 1 ∷ Start 1 ∷ but_last plan.polls) before Close k
+    (ap (λ (ks : List Command). Add (rospec plan.every) ∷ Enable 1 ∷ Start 1 ∷ ks) parts ∙ e ∙ append-nil (before ++ k ∷ []))
 
 -- ---- their messages
 

@@ -1,6 +1,6 @@
 -- Bytes have one course, which goes on as more bytes come.
-use Rattle.std.proofs.Common.{◌≡◌, ℕ, ◌<◌, ◌≤◌, List, [], ◌∷◌, ◌++◌, length, refl, sym, ap, subst, ◌∙◌, inl, inr, arith}
-use Rattle.std.specs.Prelude.{◌⊎◌, ◌≢◌, Result, Ok, Err}
+use Rattle.std.proofs.Common.{◌≡◌, ℕ, ◌≤◌, List, [], ◌∷◌, ◌++◌, length, refl, sym, ap, subst, ◌∙◌, inl, inr, arith}
+use Rattle.std.specs.Prelude.{Result, Ok, Err}
 use Rattle.std.proofs.lemmas.List.{append-nil, append_cancel_left}
 use Rattle.llrp_tree.specs.declared.TheConstants.{MAX_LIMIT}
 use Rattle.llrp_tree.specs.Lawful.{AreOctets}
@@ -10,8 +10,7 @@ use Rattle.llrp_stream.specs.declared.item.Item.{Item}
 use Rattle.llrp_stream.specs.declared.item.Item.TheVariants.{Msg, Bad}
 use Rattle.llrp_stream.specs.declared.item.End.{End}
 use Rattle.llrp_stream.specs.declared.item.End.TheVariants.{Clean, Rest, Broken, Dead}
-use Rattle.llrp_stream.specs.Cuts.{IsPartial, Breaks, Ends, joined, Cuts}
-use Rattle.llrp_stream.specs.Items.{Items, ItemsSoFar}
+use Rattle.llrp_stream.specs.Cuts.{Ends, joined, Cuts}
 use Rattle.llrp_stream.specs.StreamLaws.{HasOneListing, ItemsGrow}
 use Rattle.llrp_stream.proofs.ItemLemmas.{has_one_listing}
 use Rattle.llrp_stream.proofs.RunLemmas.{items_grow}
@@ -23,7 +22,7 @@ use Rattle.llrp_tool.specs.declared.fault.ToolErr.TheVariants.{Strange}
 use Rattle.llrp_tool.specs.declared.gathering.Phase.{Phase}
 use Rattle.llrp_tool.specs.declared.gathering.Phase.TheVariants.{Open, Closed, Failed}
 use Rattle.llrp_tool.specs.Plan.{Plan}
-use Rattle.llrp_tool.specs.Gathering.{Course, begun, ends, after, after_taking, after_bad, after_item, goes, follow, Gathers}
+use Rattle.llrp_tool.specs.Gathering.{Course, begun, ends, after, after_taking, after_bad, after_item, goes, follow}
 use Rattle.llrp_tool.specs.PlanLaws.{course_of, HasNoFrame, HasOneCourse, GoesOn, CoursesGoOn}
 use Rattle.llrp_tool.proofs.GatheringSteps.{More, no_more, more_more, after_more}
 use Rattle.llrp_tool.proofs.PlanFollowing.{follow-append, stays}

@@ -5,19 +5,18 @@ use Rattle.llrp_tree.specs.declared.fault.Reason.{Reason}
 use Rattle.llrp_tree.specs.declared.fault.Reason.TheVariants.{Reserved, Version, MessageType, MessageLength, Short, Value, Count, Utf8, ParamType, Misplaced, TooMany, TooDeep, ParamLength, Extra, Missing}
 use Rattle.llrp_stream.specs.declared.item.Item.{Item}
 use Rattle.llrp_stream.specs.declared.item.Item.TheVariants.{Msg, Bad}
-use Rattle.llrp_session.specs.declared.words.ClientPhase.TheVariants.{Fresh, Ready}
-use Rattle.llrp_session.specs.ClientMachine.{Client, take}
+use Rattle.llrp_session.specs.ClientMachine.{take}
 use Rattle.llrp_session.specs.Words.{Heard}
 use Rattle.llrp_session.specs.Reading.{heard_of}
 use Rattle.llrp_tool.specs.declared.fault.ToolErr.TheVariants.{Strange}
 use Rattle.llrp_tool.specs.declared.gathering.Phase.{Phase}
 use Rattle.llrp_tool.specs.declared.gathering.Phase.TheVariants.{Open, Closed, Failed}
 use Rattle.llrp_tool.specs.Plan.{Plan}
-use Rattle.llrp_tool.specs.Gathering.{Course, begun, ends, after_bad, after_item, goes, follow}
+use Rattle.llrp_tool.specs.Gathering.{Course, begun, after_bad, after_item, goes, follow}
 use Rattle.llrp_tool.specs.PlanLaws.{course_of, asked, SendsInOrder, IsDone, SendsOne, SendsOneByOne}
 use Rattle.llrp_tool.proofs.PlanClients.{TakesOr, takes_or}
-use Rattle.llrp_tool.proofs.PlanSteps.{Begins, Waits, Standing, StandsIn, order_in, begins, in_phase, failed_order}
-use Rattle.llrp_tool.proofs.PlanTakings.{LetOne, Follows, taking_so}
+use Rattle.llrp_tool.proofs.PlanSteps.{Standing, StandsIn, order_in, begins, in_phase, failed_order}
+use Rattle.llrp_tool.proofs.PlanTakings.{Follows, taking_so}
 
 -- ---- one item
 

@@ -1,20 +1,19 @@
 -- The client of a plan takes each of its commands.
 use Rattle.std.proofs.Common.{◌≡◌, ℕ, zero, suc, ◌+◌, ◌^◌, ◌<◌, ◌≤◌, ◌==◌, Bool, true, false, cond, List, [], ◌∷◌, ◌++◌, length, refl, sym, ap, subst, ◌∙◌, inl, inr, arith}
-use Rattle.std.specs.Prelude.{◌⊎◌, nat_lt, replicate, Option, None, Some, is_some, Result, Ok, Err}
+use Rattle.std.specs.Prelude.{nat_lt, replicate, Option, None, Some, is_some, Result, Ok, Err}
 use Rattle.std.specs.List.{AllByRecursion}
 use Rattle.std.proofs.lemmas.Bool.Decides.{nat_tests}
 use Rattle.std.proofs.lemmas.List.{length-append}
 use Rattle.llrp_schema.specs.Schema.{number_of, rule_of, param_rule, fields_of, is_tv, tail_of}
-use Rattle.llrp_tree.specs.Tree.{Tree, MessageTree}
+use Rattle.llrp_tree.specs.Tree.{Tree}
 use Rattle.llrp_tree.specs.Lawful.{body_octets}
 use Rattle.llrp_tree.specs.declared.fault.Reason.{Reason}
-use Rattle.llrp_tree.specs.declared.fault.Reason.TheVariants.{MessageType, ParamType}
 use Rattle.llrp_stream.specs.declared.item.Item.{Item}
 use Rattle.llrp_stream.specs.declared.item.Item.TheVariants.{Msg, Bad}
 use Rattle.llrp_session.specs.declared.words.ClientPhase.{ClientPhase}
 use Rattle.llrp_session.specs.declared.words.ClientPhase.TheVariants.{Fresh, Ready}
 use Rattle.llrp_session.specs.declared.words.Command.{Command}
-use Rattle.llrp_session.specs.declared.words.Command.TheVariants.{Add, Delete, Start, Stop, Enable, GetReport, Close}
+use Rattle.llrp_session.specs.declared.words.Command.TheVariants.{Add, Delete, Stop, GetReport, Close}
 use Rattle.llrp_session.specs.declared.words.Pending.{Pending}
 use Rattle.llrp_session.specs.declared.words.Taken.{Taken}
 use Rattle.llrp_session.specs.declared.words.Taken.TheVariants.{Connected, Refused, Reply, Tags, Event, Note, Kept, Closed as ConnectionEnded}
@@ -23,20 +22,19 @@ use Rattle.llrp_session.specs.RoSpec.{rospec_of}
 use Rattle.llrp_session.specs.Words.{Heard}
 use Rattle.llrp_session.specs.ClientMachine.{Client, Sending, Taking, take, command, sending, sent_unless, refused_in, is_over_limit, are_spent, awaited}
 use Rattle.llrp_session.specs.Reading.{heard_of}
-use Rattle.llrp_tool.specs.declared.fault.ToolErr.TheVariants.{Peer, Strange, Early}
+use Rattle.llrp_tool.specs.declared.fault.ToolErr.TheVariants.{Peer, Strange}
 use Rattle.llrp_tool.specs.declared.gathering.Awaits.{Awaits}
 use Rattle.llrp_tool.specs.declared.gathering.Awaits.TheVariants.{Answer, Report, End}
 use Rattle.llrp_tool.specs.declared.gathering.Phase.{Phase}
-use Rattle.llrp_tool.specs.declared.gathering.Phase.TheVariants.{Open, Closed, Failed}
+use Rattle.llrp_tool.specs.declared.gathering.Phase.TheVariants.{Open, Failed}
 use Rattle.llrp_tool.specs.Plan.{Plan, rospec, commands}
-use Rattle.llrp_tool.specs.Gathering.{Course, begun, ends, ended, sends_by, sends, goes_on, reported, after, after_taking, after_bad, after_item, goes, follow}
-use Rattle.llrp_tool.specs.PlanLaws.{course_of, LeadsOn, LeadsTo, TakesEachCommand, IsStrangeTo, MetStrange, StrangeIsTheReaders}
-use Rattle.llrp_tool.proofs.GatheringSteps.{bad_is_strange}
+use Rattle.llrp_tool.specs.Gathering.{Course, ends, ended, sends_by, sends, goes_on, reported, after, after_taking, after_bad, after_item}
+use Rattle.llrp_tool.specs.PlanLaws.{course_of, LeadsOn, TakesEachCommand, IsStrangeTo}
 use Rattle.llrp_tool.proofs.PlanClients.{TakesFor, Takes, TakesOr}
 use Rattle.llrp_tool.proofs.PlanCommands.{length-commands}
-use Rattle.llrp_tool.proofs.PlanSteps.{Begins, Waits, Standing, StandsIn, begins}
+use Rattle.llrp_tool.proofs.PlanSteps.{Standing, StandsIn}
 use Rattle.llrp_tool.proofs.PlanTakings.{is_poll}
-use Rattle.llrp_tool.proofs.PlanFollowing.{takes_so, stands_so, follow-append}
+use Rattle.llrp_tool.proofs.PlanFollowing.{takes_so, stands_so}
 
 -- ---- each command is within the limit
 

@@ -1,31 +1,22 @@
 -- What an item makes of a course that follows a plan.
-use Rattle.std.proofs.Common.{◌≡◌, ℕ, ◌+◌, ◌≤◌, ◌==◌, Bool, true, false, cond, List, [], ◌∷◌, ◌++◌, length, refl, sym, ap, subst, ◌∙◌, append_assoc, inl, inr, arith}
+use Rattle.std.proofs.Common.{◌≡◌, ℕ, ◌+◌, ◌≤◌, Bool, true, cond, List, [], ◌∷◌, ◌++◌, length, refl, sym, ap, subst, ◌∙◌, append_assoc, inl, inr, arith}
 use Rattle.std.specs.Prelude.{◌⊎◌, Option, None, Some, Result, Ok, Err}
 use Rattle.std.specs.List.{filter}
-use Rattle.std.proofs.lemmas.Bool.Decides.{nat_tests}
-use Rattle.std.proofs.lemmas.List.{append-nil, length-append}
+use Rattle.std.proofs.lemmas.List.{length-append}
 use Rattle.std.proofs.lemmas.List.Elements.{filter-append}
-use Rattle.llrp_tree.specs.Tree.{Tree}
-use Rattle.llrp_session.specs.declared.words.ClientPhase.{ClientPhase}
 use Rattle.llrp_session.specs.declared.words.ClientPhase.TheVariants.{Fresh, Ready}
 use Rattle.llrp_session.specs.declared.words.Command.{Command}
-use Rattle.llrp_session.specs.declared.words.Command.TheVariants.{Add, Delete, Start, Stop, Enable, Disable, SetKeepalive, GetReport, Close}
-use Rattle.llrp_session.specs.declared.words.Pending.{Pending}
-use Rattle.llrp_session.specs.declared.words.Taken.{Taken}
-use Rattle.llrp_session.specs.declared.words.Taken.TheVariants.{Connected, Refused, Reply, Tags, Event, Note, Kept, Closed as ConnectionEnded}
 use Rattle.llrp_session.specs.Refusal.{Refusal}
-use Rattle.llrp_session.specs.Words.{Asks, ClientMessage, Heard}
-use Rattle.llrp_session.specs.ClientMachine.{Client, Sending, Taking, command, sending, sent_unless, refused_in, awaited, new_client}
-use Rattle.llrp_tool.specs.declared.fault.ToolErr.TheVariants.{Peer, Strange, Early}
-use Rattle.llrp_tool.specs.declared.gathering.Awaits.{Awaits}
-use Rattle.llrp_tool.specs.declared.gathering.Awaits.TheVariants.{Answer, Report, End}
+use Rattle.llrp_session.specs.Words.{Asks, ClientMessage}
+use Rattle.llrp_session.specs.ClientMachine.{Client, Sending, command, sending, sent_unless, refused_in, awaited}
+use Rattle.llrp_tool.specs.declared.fault.ToolErr.TheVariants.{Strange}
+use Rattle.llrp_tool.specs.declared.gathering.Awaits.TheVariants.{Answer}
 use Rattle.llrp_tool.specs.declared.gathering.Phase.{Phase}
 use Rattle.llrp_tool.specs.declared.gathering.Phase.TheVariants.{Open, Closed, Failed}
-use Rattle.llrp_tool.specs.Plan.{Plan, rospec, commands}
-use Rattle.llrp_tool.specs.Gathering.{Course, begun, ends, ended, awaited_after, sends_by, sends, goes_on, reported, after, after_taking}
-use Rattle.llrp_tool.specs.PlanLaws.{is_command, asked, numbered, SendsInOrder, IsDone, Answers, LetsNextBeSent}
-use Rattle.llrp_tool.proofs.PlanClients.{Replies, Joins, IsAnswered, HandsOut, Stays, TakesFor, Takes, TakesOr}
-use Rattle.llrp_tool.proofs.PlanCommands.{poll_of, polls_in, polls_in-append, polls_in-commands, one_at_most, last_closes, numbered-last}
+use Rattle.llrp_tool.specs.Plan.{Plan, commands}
+use Rattle.llrp_tool.specs.Gathering.{Course, begun, ends, awaited_after, sends_by, sends, goes_on}
+use Rattle.llrp_tool.specs.PlanLaws.{is_command, asked, numbered, SendsInOrder, IsDone}
+use Rattle.llrp_tool.proofs.PlanCommands.{polls_in, numbered-last}
 
 -- ---- an open course
 

@@ -1,12 +1,11 @@
 -- What a message makes of a course that follows a plan.
-use Rattle.std.proofs.Common.{◌≡◌, ℕ, ◌+◌, ◌≤◌, ◌==◌, Bool, true, false, cond, List, [], ◌∷◌, ◌++◌, length, refl, sym, ap, subst, ◌∙◌, append_assoc, inl, inr, arith}
+use Rattle.std.proofs.Common.{◌≡◌, ℕ, ◌+◌, ◌≤◌, ◌==◌, true, false, cond, List, [], ◌∷◌, ◌++◌, length, refl, sym, ap, subst, ◌∙◌, inl, inr, arith}
 use Rattle.std.specs.Prelude.{◌⊎◌, Option, None, Some, Result, Ok, Err}
 use Rattle.std.specs.List.{filter}
 use Rattle.std.proofs.lemmas.Bool.Decides.{nat_tests}
 use Rattle.std.proofs.lemmas.List.{append-nil, length-append}
 use Rattle.std.proofs.lemmas.List.Elements.{filter-append}
 use Rattle.llrp_tree.specs.Tree.{Tree}
-use Rattle.llrp_session.specs.declared.words.ClientPhase.{ClientPhase}
 use Rattle.llrp_session.specs.declared.words.ClientPhase.TheVariants.{Fresh, Ready}
 use Rattle.llrp_session.specs.declared.words.Command.{Command}
 use Rattle.llrp_session.specs.declared.words.Command.TheVariants.{Add, Delete, Start, Stop, Enable, Disable, SetKeepalive, GetReport, Close}
@@ -14,7 +13,7 @@ use Rattle.llrp_session.specs.declared.words.Pending.{Pending}
 use Rattle.llrp_session.specs.declared.words.Taken.{Taken}
 use Rattle.llrp_session.specs.declared.words.Taken.TheVariants.{Connected, Refused, Reply, Tags, Event, Note, Kept, Closed as ConnectionEnded}
 use Rattle.llrp_session.specs.Refusal.{Refusal}
-use Rattle.llrp_session.specs.Words.{Asks, ClientMessage, Heard, HeardReport}
+use Rattle.llrp_session.specs.Words.{Asks, ClientMessage, Heard}
 use Rattle.llrp_session.specs.ClientMachine.{Client, Taking, awaited}
 use Rattle.llrp_tool.specs.declared.fault.ToolErr.TheVariants.{Peer, Strange, Early}
 use Rattle.llrp_tool.specs.declared.gathering.Awaits.{Awaits}
@@ -22,11 +21,11 @@ use Rattle.llrp_tool.specs.declared.gathering.Awaits.TheVariants.{Answer, Report
 use Rattle.llrp_tool.specs.declared.gathering.Phase.{Phase}
 use Rattle.llrp_tool.specs.declared.gathering.Phase.TheVariants.{Open, Closed, Failed}
 use Rattle.llrp_tool.specs.Plan.{Plan, rospec, commands}
-use Rattle.llrp_tool.specs.Gathering.{Course, ends, ended, awaited_after, sends, goes_on, reported, after, after_taking}
+use Rattle.llrp_tool.specs.Gathering.{Course, ends, ended, awaited_after, goes_on, reported, after, after_taking}
 use Rattle.llrp_tool.specs.PlanLaws.{is_command, asked, numbered, SendsInOrder, IsDone, Answers, LetsNextBeSent}
-use Rattle.llrp_tool.proofs.PlanClients.{Replies, Joins, IsAnswered, HandsOut, Stays, TakesFor, Takes, TakesOr}
+use Rattle.llrp_tool.proofs.PlanClients.{Replies, Joins, IsAnswered, HandsOut, Stays, TakesFor, TakesOr}
 use Rattle.llrp_tool.proofs.PlanCommands.{poll_of, polls_in, polls_in-append, polls_in-commands, one_at_most, last_closes, numbered-last}
-use Rattle.llrp_tool.proofs.PlanSteps.{Begins, Last, Waits, Standing, StandsIn, MaySend, AsksOne, Goes, in_phase, same_order, failed_order, sent_next, goes}
+use Rattle.llrp_tool.proofs.PlanSteps.{Begins, Last, Waits, Standing, StandsIn, MaySend, Goes, in_phase, same_order, failed_order, sent_next, goes}
 
 -- ---- commands
 

@@ -18,7 +18,7 @@ use Rattle.llrp_session.specs.Reading.{heard_of}
 use Rattle.llrp_tool.specs.declared.fault.ToolErr.TheVariants.{Strange}
 use Rattle.llrp_tool.specs.declared.gathering.Awaits.{Awaits}
 use Rattle.llrp_tool.specs.declared.gathering.Awaits.TheVariants.{Report}
-use Rattle.llrp_tool.specs.declared.gathering.Phase.TheVariants.{Open, Closed, Failed}
+use Rattle.llrp_tool.specs.declared.gathering.Phase.TheVariants.{Open, Failed}
 use Rattle.llrp_tool.specs.Plan.{Plan, commands}
 use Rattle.llrp_tool.specs.Gathering.{Course, begun, follow, Gathers}
 
