@@ -29,6 +29,7 @@ pub mod Opening
 pub mod PlanClients
 pub mod PlanCommands
 pub mod PlanCourses
+pub mod PlanEnding
 pub mod PlanFollowing
 pub mod PlanLemmas
 pub mod PlanRefusals

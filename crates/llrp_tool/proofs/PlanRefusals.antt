@@ -119,7 +119,7 @@ unspent limit plan c s k later fits next =
     let id = s.next_id in
     not_above 4294967295 c.client.next_id (omega (arith, length-commands plan))
 
-takes_next : (limit : ℕ) (plan : Plan) (c : Course) (id : ℕ) (h : Heard) (t : Taking) (k : Command) (later : List Command) → 4096 ≤ limit → plan.polls < 2 ^ 16 → Standing limit plan c
+pub takes_next : (limit : ℕ) (plan : Plan) (c : Course) (id : ℕ) (h : Heard) (t : Taking) (k : Command) (later : List Command) → 4096 ≤ limit → plan.polls < 2 ^ 16 → Standing limit plan c
     → Takes c.client id h t → LeadsOn t.taken c.awaits → c.left ≡ k ∷ later → command t.client k ≡ Ok (sending t.client k)
 takes_next limit plan c id h t k later least fits s takes leads next =
     let free = is_free t.taken limit plan c t.client id h s takes.by leads in

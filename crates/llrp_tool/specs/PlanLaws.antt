@@ -1,5 +1,5 @@
 -- What holds of a client that follows a plan, whatever its reader sends.
-use Rattle.std.specs.Prelude.{◌≡◌, ◌≢◌, ◌↔◌, ℕ, ◌+◌, ◌≤◌, ◌⊎◌, Bool, true, false, List, [], ◌∷◌, ◌++◌, length, Option, None, Some, Ok, Err}
+use Rattle.std.specs.Prelude.{◌≡◌, ◌≢◌, ◌↔◌, ℕ, ◌+◌, ◌≤◌, ◌⊎◌, Bool, true, false, List, [], ◌∷◌, ◌++◌, length, map, Option, None, Some, Ok, Err}
 use Rattle.std.specs.List.{filter}
 use Rattle.llrp_tree.specs.Tree.{Tree, MessageTree}
 use Rattle.llrp_tree.specs.declared.fault.Reason.TheVariants.{MessageType, ParamType}
@@ -12,13 +12,14 @@ use Rattle.llrp_session.specs.declared.words.Operation.{Operation}
 use Rattle.llrp_session.specs.declared.words.Pending.{Pending}
 use Rattle.llrp_session.specs.declared.words.Taken.{Taken}
 use Rattle.llrp_session.specs.declared.words.Taken.TheVariants.{Connected, Refused, Reply, Tags, Event, Note, Kept, Closed as ConnectionEnded}
-use Rattle.llrp_session.specs.Words.{ClientWord, Asks, Acknowledges, ClientMessage, Notification, Heard, HeardResponse, HeardError, HeardReport, HeardNotification}
+use Rattle.llrp_session.specs.Words.{ClientWord, Asks, Acknowledges, ClientMessage, ReaderMessage, Notification, Heard, HeardResponse, HeardError, HeardReport, HeardNotification}
 use Rattle.llrp_session.specs.ClientMachine.{Client, Taking, take, command, sending, awaited, is_response_to}
 use Rattle.llrp_session.specs.Reading.{heard_of}
+use Rattle.llrp_session.specs.ReaderMessages.{reader_message}
 use Rattle.llrp_tool.specs.declared.fault.ToolErr.TheVariants.{Strange}
 use Rattle.llrp_tool.specs.declared.gathering.Awaits.{Awaits}
 use Rattle.llrp_tool.specs.declared.gathering.Awaits.TheVariants.{Report}
-use Rattle.llrp_tool.specs.declared.gathering.Phase.TheVariants.{Open, Failed}
+use Rattle.llrp_tool.specs.declared.gathering.Phase.TheVariants.{Open, Closed, Failed}
 use Rattle.llrp_tool.specs.Plan.{Plan, commands}
 use Rattle.llrp_tool.specs.Gathering.{Course, begun, follow, Gathers}
 
@@ -155,3 +156,9 @@ pub record SendsOne (old new : Course) (item : Item) : Type 0 where
 abbrev pub SendsOneByOne : ℕ → Plan → Type 0
 SendsOneByOne limit plan = (items : List Item) (item : Item) →
     (asked (course_of limit plan (items ++ item ∷ [])) ≡ asked (course_of limit plan items)) ⊎ SendsOne (course_of limit plan items) (course_of limit plan (items ++ item ∷ [])) item
+
+-- ---- a fine end
+
+-- there is what a reader can say so that the plan comes to its fine end
+abbrev pub CanEnd : ℕ → Plan → Type 0
+CanEnd limit plan = (messages : List ReaderMessage) × ((course_of limit plan (map (λ (m : ReaderMessage). Msg (reader_message m)) messages)).phase ≡ Closed)
