@@ -26,11 +26,13 @@ pub mod Numerals
 pub mod OneEpcAnswer
 pub mod OneText
 pub mod Opening
+pub mod PlanAnswers
 pub mod PlanClients
 pub mod PlanCommands
 pub mod PlanCourses
 pub mod PlanEnding
 pub mod PlanFollowing
+pub mod PlanLeads
 pub mod PlanLemmas
 pub mod PlanRefusals
 pub mod PlanSteps

@@ -88,25 +88,29 @@ last_closes plan before left e =
     (λ a. cc, (λ b. cc, (λ d. cc, none_closes plan.polls)))
     (ap (λ (ks : List Command). Add (rospec plan.every) ∷ Enable 1 ∷ Start 1 ∷ ks) parts ∙ e)
 
-no_last : (ys : List Command) (y : Command) → [] ≡ ys ++ y ∷ [] → ⊥
+no_last : {A : Type 0} (ys : List A) (y : A) → [] ≡ ys ++ y ∷ [] → ⊥
 no_last [] y e = cc
 no_last (b ∷ ys) y e = cc
 
-same_last : (xs ys : List Command) (x y : Command) → xs ++ x ∷ [] ≡ ys ++ y ∷ [] → y ≡ x
+pub same_last : {A : Type 0} (xs ys : List A) (x y : A) → xs ++ x ∷ [] ≡ ys ++ y ∷ [] → x ≡ y
 same_last [] [] x y e = cc
-same_last [] (b ∷ ys) x y e = let none : [] ≡ ys ++ y ∷ [] = cc in absurd (no_last ys y none)
-same_last (a ∷ xs) [] x y e = let none : xs ++ x ∷ [] ≡ [] = cc in absurd (no_last xs x (sym none))
-same_last (a ∷ xs) (b ∷ ys) x y e = let tails : xs ++ x ∷ [] ≡ ys ++ y ∷ [] = cc in same_last xs ys x y tails
+same_last {A} [] (b ∷ ys) x y e = let none : [] ≡ ys ++ y ∷ [] = cc in absurd (no_last ys y none)
+same_last {A} (a ∷ xs) [] x y e = let none : xs ++ x ∷ [] ≡ [] = cc in absurd (no_last xs x (sym none))
+same_last {A} (a ∷ xs) (b ∷ ys) x y e = let tails : xs ++ x ∷ [] ≡ ys ++ y ∷ [] = cc in same_last xs ys x y tails
 
 -- the last command of a plan closes
 pub closes_last : (plan : Plan) (before : List Command) (k : Command) → commands plan ≡ (before ++ k ∷ []) ++ [] → k ≡ Close
 unfolding commands but_last
 closes_last plan before k e =
     let parts : but_last plan.polls ++ Close ∷ [] ≡ replicate plan.polls GetReport ++ Stop 1 ∷ Delete 1 ∷ Close ∷ [] = append_assoc (replicate plan.polls GetReport) (Stop 1 ∷ Delete 1 ∷ []) (Close ∷ []) in
-    same_last (Add (rospec plan.every) ∷ Enable 1 ∷ Start 1 ∷ but_last plan.polls) before Close k
-    (ap (λ (ks : List Command). Add (rospec plan.every) ∷ Enable 1 ∷ Start 1 ∷ ks) parts ∙ e ∙ append-nil (before ++ k ∷ []))
+    sym (same_last (Add (rospec plan.every) ∷ Enable 1 ∷ Start 1 ∷ but_last plan.polls) before Close k
+      (ap (λ (ks : List Command). Add (rospec plan.every) ∷ Enable 1 ∷ Start 1 ∷ ks) parts ∙ e ∙ append-nil (before ++ k ∷ [])))
 
 -- ---- their messages
+
+pub length-numbered : (id : ℕ) (ks : List Command) → length (numbered id ks) ≡ length ks
+length-numbered id [] = refl
+length-numbered id (k ∷ ks) = let ih = length-numbered (id + 1) ks in omega (arith, ih)
 
 pub numbered-last : (id : ℕ) (ks : List Command) (k : Command) → numbered id (ks ++ k ∷ []) ≡ numbered id ks ++ record { id = id + length ks; word = Asks k } ∷ []
 numbered-last id [] k = let e : id ≡ id + 0 = omega arith in ap (λ (n : ℕ). let m : ClientMessage = record { id = n; word = Asks k } in m ∷ []) e

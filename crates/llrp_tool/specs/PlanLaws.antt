@@ -157,6 +157,11 @@ abbrev pub SendsOneByOne : ℕ → Plan → Type 0
 SendsOneByOne limit plan = (items : List Item) (item : Item) →
     (asked (course_of limit plan (items ++ item ∷ [])) ≡ asked (course_of limit plan items)) ⊎ SendsOne (course_of limit plan items) (course_of limit plan (items ++ item ∷ [])) item
 
+-- wherever a message lets the next command be sent, and one is left, it is sent
+abbrev pub SendsWhereLet : ℕ → Plan → Type 0
+SendsWhereLet limit plan = (items : List Item) (m : MessageTree) → (course_of limit plan items).phase ≡ Open → (course_of limit plan items).left ≢ [] →
+    LetsNextBeSent (asked (course_of limit plan items)) m.id (heard_of m) → SendsOne (course_of limit plan items) (course_of limit plan (items ++ Msg m ∷ [])) (Msg m)
+
 -- ---- a fine end
 
 -- there is what a reader can say so that the plan comes to its fine end

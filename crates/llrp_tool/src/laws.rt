@@ -10,7 +10,7 @@ ghost use Rattle.llrp_tool.specs.EpcLines.{Prints};
 ghost use Rattle.llrp_tool.specs.ListingLaws.{HasShortLines, ListedOrRefused};
 ghost use Rattle.llrp_tool.specs.declared.gathering.Phase.TheVariants.{Closed};
 ghost use Rattle.llrp_tool.specs.Plan.{Plan};
-ghost use Rattle.llrp_tool.specs.PlanLaws.{course_of, TakesEachCommand, StrangeIsTheReaders, HasOneCourse, CoursesGoOn, SendsInOrder, IsDone, SendsOneByOne, CanEnd};
+ghost use Rattle.llrp_tool.specs.PlanLaws.{course_of, TakesEachCommand, StrangeIsTheReaders, HasOneCourse, CoursesGoOn, SendsInOrder, IsDone, SendsOneByOne, SendsWhereLet, CanEnd};
 ghost use Rattle.llrp_tool.specs.PrintingLaws.{OneTextOfItems, OneTextOfMessages, PrintsBack};
 ghost use Rattle.llrp_tool.specs.Script.{IsLawful, IsScript};
 ghost use Rattle.llrp_tool.specs.ScriptLaws.{ScriptOrRefused};
@@ -87,6 +87,7 @@ pub fn course_is_determined()
 pub fn plan_sends_its_commands()
     ensures in_order { (limit : ℕ) (plan : Plan) (items : List Item) → SendsInOrder plan (course_of limit plan items) }
     ensures one_by_one { (limit : ℕ) (plan : Plan) → SendsOneByOne limit plan }
+    ensures where_let { (limit : ℕ) (plan : Plan) → 4096 ≤ limit → plan.polls < 2 ^ 16 → SendsWhereLet limit plan }
     ensures done { (limit : ℕ) (plan : Plan) (items : List Item) → (course_of limit plan items).phase ≡ Closed → IsDone plan (course_of limit plan items) }
 {}
 

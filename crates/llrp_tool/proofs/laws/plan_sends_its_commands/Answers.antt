@@ -1,3 +1,4 @@
+use Rattle.llrp_tool.proofs.PlanAnswers.{sends_where_let}
 use Rattle.llrp_tool.proofs.PlanFollowing.{in_order, one_by_one, done}
 use Rattle.llrp_tool.proofs.laws.plan_sends_its_commands.Goals as goal
 
@@ -9,3 +10,6 @@ returns-clause-one_by_one c = one_by_one
 
 pub returns-clause-done : goal.returns-clause-done
 returns-clause-done c = done
+
+pub returns-clause-where_let : goal.returns-clause-where_let
+returns-clause-where_let c = sends_where_let
