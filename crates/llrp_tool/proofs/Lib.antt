@@ -30,13 +30,14 @@ pub mod PlanAnswers
 pub mod PlanClients
 pub mod PlanCommands
 pub mod PlanCourses
-pub mod PlanEnding
+pub mod PlanCanEnd
+pub mod PlanEarly
+pub mod PlanEnds
 pub mod PlanFollowing
 pub mod PlanLeads
 pub mod PlanLemmas
 pub mod PlanRefusals
 pub mod PlanSteps
-pub mod PlanStrange
 pub mod PlanTakings
 pub mod PrintingLemmas
 pub mod PrintsBack

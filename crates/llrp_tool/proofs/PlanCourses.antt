@@ -5,7 +5,6 @@ use Rattle.std.proofs.lemmas.List.{append-nil, append_cancel_left}
 use Rattle.llrp_tree.specs.declared.TheConstants.{MAX_LIMIT}
 use Rattle.llrp_tree.specs.Lawful.{AreOctets}
 use Rattle.llrp_tree.specs.declared.fault.Reason.{Reason}
-use Rattle.llrp_tree.specs.declared.fault.Reason.TheVariants.{Reserved, Version, MessageType, MessageLength, Short, Value, Count, Utf8, ParamType, Misplaced, TooMany, TooDeep, ParamLength, Extra, Missing}
 use Rattle.llrp_stream.specs.declared.item.Item.{Item}
 use Rattle.llrp_stream.specs.declared.item.Item.TheVariants.{Msg, Bad}
 use Rattle.llrp_stream.specs.declared.item.End.{End}
@@ -25,7 +24,7 @@ use Rattle.llrp_tool.specs.Plan.{Plan}
 use Rattle.llrp_tool.specs.Gathering.{Course, begun, ends, after, after_taking, after_bad, after_item, goes, follow}
 use Rattle.llrp_tool.specs.PlanLaws.{course_of, HasNoFrame, HasOneCourse, GoesOn, CoursesGoOn}
 use Rattle.llrp_tool.proofs.GatheringSteps.{More, no_more, more_more, after_more}
-use Rattle.llrp_tool.proofs.PlanFollowing.{follow-append, stays}
+use Rattle.llrp_tool.proofs.PlanFollowing.{bad_either, follow-append, stays}
 
 -- ---- the end of the whole frames
 
@@ -77,21 +76,11 @@ ended_more : (c : Course) → More c (ends (Failed Strange) c)
 ended_more c = record { messages = []; reports = []; sent_are = sym (append-nil c.sent); reports_are = sym (append-nil c.reports) }
 
 bad_more : (reason : Reason) (c : Course) → More c (after_bad reason c)
-bad_more MessageType c = no_more c
-bad_more ParamType c = no_more c
-bad_more Reserved c = ended_more c
-bad_more Version c = ended_more c
-bad_more MessageLength c = ended_more c
-bad_more Short c = ended_more c
-bad_more Value c = ended_more c
-bad_more Count c = ended_more c
-bad_more Utf8 c = ended_more c
-bad_more Misplaced c = ended_more c
-bad_more TooMany c = ended_more c
-bad_more TooDeep c = ended_more c
-bad_more ParamLength c = ended_more c
-bad_more Extra c = ended_more c
-bad_more Missing c = ended_more c
+bad_more reason c =
+    elim (bad_either reason c) as (λ x. More c (after_bad reason c)) [
+      | inl e ↦ subst (λ (d : Course). More c d) (sym e) (no_more c)
+      | inr e ↦ subst (λ (d : Course). More c d) (sym e) (ended_more c)
+    ]
 
 item_more : (item : Item) (c : Course) → More c (after_item item c)
 item_more (Msg m) c = taking_more (take c.client m.id (heard_of m)) c

@@ -12,7 +12,7 @@ use Rattle.llrp_tool.specs.declared.fault.ToolErr.TheVariants.{Strange}
 use Rattle.llrp_tool.specs.declared.gathering.Phase.{Phase}
 use Rattle.llrp_tool.specs.declared.gathering.Phase.TheVariants.{Open, Closed, Failed}
 use Rattle.llrp_tool.specs.Plan.{Plan}
-use Rattle.llrp_tool.specs.Gathering.{Course, begun, after_bad, after_item, goes, follow}
+use Rattle.llrp_tool.specs.Gathering.{Course, begun, ends, after_bad, after_item, goes, follow}
 use Rattle.llrp_tool.specs.PlanLaws.{course_of, asked, SendsInOrder, IsDone, SendsOne, SendsOneByOne}
 use Rattle.llrp_tool.proofs.PlanClients.{TakesOr, takes_or}
 use Rattle.llrp_tool.proofs.PlanSteps.{Standing, StandsIn, order_in, begins, in_phase, failed_order}
@@ -33,22 +33,30 @@ pub record Steps (limit : ℕ) (plan : Plan) (c d : Course) (item : Item) : Type
   pub stands : StandsIn d.phase limit plan d
   pub sends : (asked d ≡ asked c) ⊎ SendsOne c d item
 
+-- a frame that is no message is passed over, or ends it
+pub bad_either : (reason : Reason) (c : Course) → (after_bad reason c ≡ c) ⊎ (after_bad reason c ≡ ends (Failed Strange) c)
+bad_either Reserved c = inr refl
+bad_either Version c = inr refl
+bad_either MessageType c = inl refl
+bad_either MessageLength c = inr refl
+bad_either Short c = inr refl
+bad_either Value c = inr refl
+bad_either Count c = inr refl
+bad_either Utf8 c = inr refl
+bad_either ParamType c = inl refl
+bad_either Misplaced c = inr refl
+bad_either TooMany c = inr refl
+bad_either TooDeep c = inr refl
+bad_either ParamLength c = inr refl
+bad_either Extra c = inr refl
+bad_either Missing c = inr refl
+
 bad_so : (reason : Reason) (limit : ℕ) (plan : Plan) (c : Course) (item : Item) → Standing limit plan c → c.phase ≡ Open → Steps limit plan c (after_bad reason c) item
-bad_so MessageType limit plan c item s opened = record { stands = in_phase c.phase Open limit plan c opened s; sends = inl refl }
-bad_so ParamType limit plan c item s opened = record { stands = in_phase c.phase Open limit plan c opened s; sends = inl refl }
-bad_so Reserved limit plan c item s opened = record { stands = failed_order plan c (Failed Strange) s.order; sends = inl refl }
-bad_so Version limit plan c item s opened = record { stands = failed_order plan c (Failed Strange) s.order; sends = inl refl }
-bad_so MessageLength limit plan c item s opened = record { stands = failed_order plan c (Failed Strange) s.order; sends = inl refl }
-bad_so Short limit plan c item s opened = record { stands = failed_order plan c (Failed Strange) s.order; sends = inl refl }
-bad_so Value limit plan c item s opened = record { stands = failed_order plan c (Failed Strange) s.order; sends = inl refl }
-bad_so Count limit plan c item s opened = record { stands = failed_order plan c (Failed Strange) s.order; sends = inl refl }
-bad_so Utf8 limit plan c item s opened = record { stands = failed_order plan c (Failed Strange) s.order; sends = inl refl }
-bad_so Misplaced limit plan c item s opened = record { stands = failed_order plan c (Failed Strange) s.order; sends = inl refl }
-bad_so TooMany limit plan c item s opened = record { stands = failed_order plan c (Failed Strange) s.order; sends = inl refl }
-bad_so TooDeep limit plan c item s opened = record { stands = failed_order plan c (Failed Strange) s.order; sends = inl refl }
-bad_so ParamLength limit plan c item s opened = record { stands = failed_order plan c (Failed Strange) s.order; sends = inl refl }
-bad_so Extra limit plan c item s opened = record { stands = failed_order plan c (Failed Strange) s.order; sends = inl refl }
-bad_so Missing limit plan c item s opened = record { stands = failed_order plan c (Failed Strange) s.order; sends = inl refl }
+bad_so reason limit plan c item s opened =
+    elim (bad_either reason c) as (λ x. Steps limit plan c (after_bad reason c) item) [
+      | inl e ↦ subst (λ (d : Course). Steps limit plan c d item) (sym e) (record { stands = in_phase c.phase Open limit plan c opened s; sends = inl refl })
+      | inr e ↦ subst (λ (d : Course). Steps limit plan c d item) (sym e) (record { stands = failed_order plan c (Failed Strange) s.order; sends = inl refl })
+    ]
 
 pub item_so : (limit : ℕ) (plan : Plan) (c : Course) (item : Item) → Standing limit plan c → c.phase ≡ Open → Steps limit plan c (after_item item c) item
 item_so limit plan c (Bad id fault) s opened = bad_so fault.reason limit plan c (Bad id fault) s opened

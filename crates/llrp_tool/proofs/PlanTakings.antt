@@ -52,7 +52,7 @@ is_poll (Disable id) e = cc
 is_poll (SetKeepalive ms) e = cc
 is_poll Close e = cc
 
-is_closing : (k : Command) → awaited_after k ≡ End → k ≡ Close
+pub is_closing : (k : Command) → awaited_after k ≡ End → k ≡ Close
 is_closing Close e = refl
 is_closing (Add spec) e = cc
 is_closing (Delete id) e = cc

@@ -16,7 +16,7 @@ use Rattle.llrp_session.specs.Words.{ClientWord, Asks, Acknowledges, ClientMessa
 use Rattle.llrp_session.specs.ClientMachine.{Client, Taking, take, command, sending, awaited, is_response_to}
 use Rattle.llrp_session.specs.Reading.{heard_of}
 use Rattle.llrp_session.specs.ReaderMessages.{reader_message}
-use Rattle.llrp_tool.specs.declared.fault.ToolErr.TheVariants.{Strange}
+use Rattle.llrp_tool.specs.declared.fault.ToolErr.TheVariants.{Strange, Early}
 use Rattle.llrp_tool.specs.declared.gathering.Awaits.{Awaits}
 use Rattle.llrp_tool.specs.declared.gathering.Awaits.TheVariants.{Report}
 use Rattle.llrp_tool.specs.declared.gathering.Phase.TheVariants.{Open, Closed, Failed}
@@ -123,6 +123,10 @@ pub record SendsInOrder (plan : Plan) (c : Course) : Type 0 where
 pub record IsDone (plan : Plan) (c : Course) : Type 0 where
   pub sent_are : asked c ≡ numbered 1 (commands plan)
   pub polled : plan.polls ≤ length c.reports
+
+-- where the connection's end came too early, a command is left
+abbrev pub EarlyLeavesSome : ℕ → Plan → Type 0
+EarlyLeavesSome limit plan = (items : List Item) → (course_of limit plan items).phase ≡ Failed Early → (course_of limit plan items).left ≢ []
 
 -- ---- one after another
 

@@ -1,5 +1,5 @@
 use Rattle.llrp_tool.proofs.PlanRefusals.{each_is_taken}
-use Rattle.llrp_tool.proofs.PlanStrange.{strange_is_the_readers}
+use Rattle.llrp_tool.proofs.PlanEnds.{strange_is_the_readers}
 use Rattle.llrp_tool.proofs.laws.plan_is_never_refused.Goals as goal
 
 pub returns-clause-each_command_is_taken : goal.returns-clause-each_command_is_taken

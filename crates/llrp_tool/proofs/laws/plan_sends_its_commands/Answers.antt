@@ -1,5 +1,5 @@
 use Rattle.llrp_tool.proofs.PlanAnswers.{sends_where_let}
-use Rattle.llrp_tool.proofs.PlanFollowing.{in_order, one_by_one, done}
+use Rattle.llrp_tool.proofs.PlanFollowing.{in_order, one_by_one}
 use Rattle.llrp_tool.proofs.laws.plan_sends_its_commands.Goals as goal
 
 pub returns-clause-in_order : goal.returns-clause-in_order
@@ -7,9 +7,6 @@ returns-clause-in_order c = in_order
 
 pub returns-clause-one_by_one : goal.returns-clause-one_by_one
 returns-clause-one_by_one c = one_by_one
-
-pub returns-clause-done : goal.returns-clause-done
-returns-clause-done c = done
 
 pub returns-clause-where_let : goal.returns-clause-where_let
 returns-clause-where_let c = sends_where_let
