@@ -1,4 +1,4 @@
--- A message that lets the next command be sent leads on to it.
+-- A message that is awaited leads on to the next command.
 use Rattle.std.proofs.Common.{◌≡◌, ℕ, ◌+◌, ◌^◌, ◌<◌, ◌≤◌, ◌==◌, Bool, true, false, cond, List, [], ◌∷◌, ◌++◌, length, refl, sym, ap, subst, ◌∙◌, append_assoc, inl, inr, arith}
 use Rattle.std.specs.Prelude.{◌⊎◌, ◌≢◌, ◌&&◌, Option, None, Some, Result, Ok, Err}
 use Rattle.std.proofs.lemmas.Bool.{eq-eqb}
@@ -25,7 +25,7 @@ use Rattle.llrp_tool.specs.declared.gathering.Phase.{Phase}
 use Rattle.llrp_tool.specs.declared.gathering.Phase.TheVariants.{Open}
 use Rattle.llrp_tool.specs.Plan.{Plan, commands}
 use Rattle.llrp_tool.specs.Gathering.{Course, begun, awaited_after, after_item, goes, follow}
-use Rattle.llrp_tool.specs.PlanLaws.{course_of, asked, numbered, SendsInOrder, Accepts, Responds, Answers, LetsNextBeSent, SendsOne, SendsWhereLet, LeadsOn}
+use Rattle.llrp_tool.specs.PlanLaws.{course_of, asked, numbered, SendsInOrder, Accepts, Responds, Answers, IsAwaitedAfter, SendsOne, SendsWhereAwaited, LeadsOn}
 use Rattle.llrp_tool.proofs.PlanCommands.{last_closes, length-numbered, numbered-last, same_last}
 use Rattle.llrp_tool.proofs.PlanSteps.{Begins, Waits, Standing, StandsIn, order_in}
 use Rattle.llrp_tool.proofs.PlanFollowing.{Steps, item_so, stands_so, follow-append}
@@ -132,7 +132,7 @@ polls (Disable id) n e = cc
 polls (SetKeepalive ms) n e = cc
 polls Close n e = cc
 
--- ---- what lets the next command be sent
+-- ---- what is awaited
 
 answered_so : (o : Option Pending) (d : Client) (awaits : Awaits) (n : ℕ) (k : Command) (id : ℕ) (h : Heard) → d.phase ≡ Ready → d.pending ≡ o → awaited n k ≡ o → awaits ≡ awaited_after k → k ≢ Close → Answers o id h → Leads d awaits id h
 answered_so None d awaits n k id h ready waits e w still (tags, is) = reports d awaits id h tags ready (w ∙ polls k n e) is
@@ -173,9 +173,9 @@ at_last limit plan c id h before number k s left done a =
           ]
     ]
 
-leads_where_let : (limit : ℕ) (plan : Plan) (c : Course) (id : ℕ) (h : Heard) → Standing limit plan c → c.left ≢ [] → LetsNextBeSent (asked c) id h → Leads c.client c.awaits id h
-leads_where_let limit plan c id h s left (inl first) = at_first limit plan c id h s first.0 first.1
-leads_where_let limit plan c id h s left (inr last) = at_last limit plan c id h last.0 last.1 last.2 s left last.3 last.4
+leads_if_awaited : (limit : ℕ) (plan : Plan) (c : Course) (id : ℕ) (h : Heard) → Standing limit plan c → c.left ≢ [] → IsAwaitedAfter (asked c) id h → Leads c.client c.awaits id h
+leads_if_awaited limit plan c id h s left (inl first) = at_first limit plan c id h s first.0 first.1
+leads_if_awaited limit plan c id h s left (inr last) = at_last limit plan c id h last.before last.number last.k s left last.parts last.answers
 
 -- ---- it is sent
 
@@ -189,11 +189,11 @@ not_same plan c d k later p q l m same =
     let less : length d.left ≡ length later = ap (λ (ks : List Command). length ks) m in
     absurd (omega arith)
 
-sends_next : (left : List Command) (limit : ℕ) (plan : Plan) (c : Course) (m : MessageTree) → 4096 ≤ limit → plan.polls < 2 ^ 16 → Standing limit plan c → c.phase ≡ Open → c.left ≡ left → c.left ≢ [] → LetsNextBeSent (asked c) m.id (heard_of m)
+sends_next : (left : List Command) (limit : ℕ) (plan : Plan) (c : Course) (m : MessageTree) → 4096 ≤ limit → plan.polls < 2 ^ 16 → Standing limit plan c → c.phase ≡ Open → c.left ≡ left → c.left ≢ [] → IsAwaitedAfter (asked c) m.id (heard_of m)
     → SendsOne c (after_item (Msg m) c) (Msg m)
-sends_next [] limit plan c m least fits s opened l some lets = absurd (some l)
-sends_next (k ∷ later) limit plan c m least fits s opened l some lets =
-    let leads = leads_where_let limit plan c m.id (heard_of m) s some lets in
+sends_next [] limit plan c m least fits s opened l some due = absurd (some l)
+sends_next (k ∷ later) limit plan c m least fits s opened l some due =
+    let leads = leads_if_awaited limit plan c m.id (heard_of m) s some due in
     let d : Course = after_item (Msg m) c in
     let so : Led c leads.0.client k later d = led limit plan c m leads.0 k later least fits s opened (record { takes = leads.1; leads = leads.2 }) l in
     let steps : Steps limit plan c d (Msg m) = item_so limit plan c (Msg m) s opened in
@@ -202,11 +202,11 @@ sends_next (k ∷ later) limit plan c m least fits s opened l some lets =
       | inr one ↦ one
     ]
 
-pub sends_where_let : (limit : ℕ) (plan : Plan) → 4096 ≤ limit → plan.polls < 2 ^ 16 → SendsWhereLet limit plan
-sends_where_let limit plan least fits items m opened some lets =
+pub sends_where_awaited : (limit : ℕ) (plan : Plan) → 4096 ≤ limit → plan.polls < 2 ^ 16 → SendsWhereAwaited limit plan
+sends_where_awaited limit plan least fits items m opened some due =
     let c : Course = course_of limit plan items in
     let s : Standing limit plan c = subst (λ (p : Phase). StandsIn p limit plan c) opened (stands_so limit plan items) in
-    let one : SendsOne c (after_item (Msg m) c) (Msg m) = sends_next c.left limit plan c m least fits s opened refl some lets in
+    let one : SendsOne c (after_item (Msg m) c) (Msg m) = sends_next c.left limit plan c m least fits s opened refl some due in
     let step : after_item (Msg m) c ≡ course_of limit plan (items ++ Msg m ∷ []) =
     ap (λ (p : Phase). goes p (Msg m) c) (sym opened) ∙ sym (follow-append items (Msg m ∷ []) (begun limit plan)) in
     subst (λ (d : Course). SendsOne c d (Msg m)) step one

@@ -55,7 +55,7 @@ one_course limit plan bytes most octets =
       rest = cut.tail;
       course = course_of limit plan all.items;
       gathers = record { items = all.items; are = record { frames = all.are.frames; whole = cut.whole; each = cut.each; are = all.are.each }; course_is = refl };
-      all = ends_no_frame cut.tail all.end cut.ends;
+      no_frame = ends_no_frame cut.tail all.end cut.ends;
       only = λ tail other g none.
           let end = ends_some tail none in
           let same : g.items ≡ all.items = all.only_items g.items end.0 (grow.at_the_end bytes g.items tail end.0 g.are end.1) in

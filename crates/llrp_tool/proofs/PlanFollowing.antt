@@ -28,7 +28,7 @@ takes_so limit plan c id h s =
       | inr w ↦ takes_or c.client id h (inr w.ready)
     ]
 
--- from the one to the other one command was sent at most, and the item let it
+-- from the one to the other one command was sent at most, at an item that was awaited for it
 pub record Steps (limit : ℕ) (plan : Plan) (c d : Course) (item : Item) : Type 0 where
   pub stands : StandsIn d.phase limit plan d
   pub sends : (asked d ≡ asked c) ⊎ SendsOne c d item
@@ -67,7 +67,7 @@ item_so limit plan c (Msg m) s opened =
       stands = f.stands;
       sends = elim (f.sends) as (λ x. (asked d ≡ asked c) ⊎ SendsOne c d (Msg m)) [
         | inl none ↦ inl none
-        | inr one ↦ inr (record { next = one.next; sent_are = one.sent_are; message = m; item_is = refl; lets = one.lets })
+        | inr one ↦ inr (record { next = one.next; sent_are = one.sent_are; message = m; item_is = refl; awaits = one.awaits })
       ];
     }
 

@@ -22,7 +22,7 @@ use Rattle.llrp_tool.specs.declared.gathering.Phase.{Phase}
 use Rattle.llrp_tool.specs.declared.gathering.Phase.TheVariants.{Open, Closed, Failed}
 use Rattle.llrp_tool.specs.Plan.{Plan, rospec, commands}
 use Rattle.llrp_tool.specs.Gathering.{Course, ends, ended, awaited_after, goes_on, reported, after, after_taking}
-use Rattle.llrp_tool.specs.PlanLaws.{is_command, asked, numbered, SendsInOrder, IsDone, Answers, LetsNextBeSent}
+use Rattle.llrp_tool.specs.PlanLaws.{is_command, asked, numbered, SendsInOrder, IsDone, Answers, IsAwaitedAfter}
 use Rattle.llrp_tool.proofs.PlanClients.{Replies, Joins, IsAnswered, HandsOut, Stays, TakesFor, TakesOr}
 use Rattle.llrp_tool.proofs.PlanCommands.{poll_of, polls_in, polls_in-append, polls_in-commands, one_at_most, last_closes, numbered-last}
 use Rattle.llrp_tool.proofs.PlanSteps.{Begins, Last, Waits, Standing, StandsIn, MaySend, Goes, in_phase, same_order, failed_order, sent_next, goes}
@@ -79,26 +79,26 @@ pub record Moved (c e : Course) : Type 0 where
   pub limit_is : e.client.limit ≡ c.client.limit
   pub next_id : e.client.next_id ≡ c.client.next_id
 
-pub record LetOne (c d : Course) (id : ℕ) (h : Heard) : Type 0 where
+pub record AwaitedOne (c d : Course) (id : ℕ) (h : Heard) : Type 0 where
   pub next : ClientMessage
   pub sent_are : asked d ≡ asked c ++ next ∷ []
-  pub lets : LetsNextBeSent (asked c) id h
+  pub awaits : IsAwaitedAfter (asked c) id h
 
--- from the one to the other one command was sent at most, and it was let
+-- from the one to the other one command was sent at most, at what was awaited for it
 pub record Follows (limit : ℕ) (plan : Plan) (c d : Course) (id : ℕ) (h : Heard) : Type 0 where
   pub stands : StandsIn d.phase limit plan d
-  pub sends : (asked d ≡ asked c) ⊎ LetOne c d id h
+  pub sends : (asked d ≡ asked c) ⊎ AwaitedOne c d id h
 
 abbrev moved_order : (plan : Plan) (c e : Course) → Moved c e → SendsInOrder plan c → SendsInOrder plan e
 moved_order plan c e m s = same_order plan c e s m.left m.asked_are
 
--- the next command is let
-let_go : (limit : ℕ) (plan : Plan) (c e d : Course) (id : ℕ) (h : Heard) → asked e ≡ asked c → LetsNextBeSent (asked c) id h → Goes limit plan e d → Follows limit plan c d id h
-let_go limit plan c e d id h same lets g = record {
+-- the next command is sent at what was awaited for it
+goes_awaited : (limit : ℕ) (plan : Plan) (c e d : Course) (id : ℕ) (h : Heard) → asked e ≡ asked c → IsAwaitedAfter (asked c) id h → Goes limit plan e d → Follows limit plan c d id h
+goes_awaited limit plan c e d id h same due g = record {
   stands = g.stands;
-  sends = elim (g.sends) as (λ x. (asked d ≡ asked c) ⊎ LetOne c d id h) [
+  sends = elim (g.sends) as (λ x. (asked d ≡ asked c) ⊎ AwaitedOne c d id h) [
     | inl none ↦ inl (none ∙ same)
-    | inr one ↦ inr (record { next = one.next; sent_are = one.sent_are ∙ ap (λ (ms : List ClientMessage). ms ++ one.next ∷ []) same; lets = lets })
+    | inr one ↦ inr (record { next = one.next; sent_are = one.sent_are ∙ ap (λ (ms : List ClientMessage). ms ++ one.next ∷ []) same; awaits = due })
   ];
 }
 
@@ -106,12 +106,18 @@ let_go limit plan c e d id h same lets g = record {
 ended_so : (limit : ℕ) (plan : Plan) (c e : Course) (id : ℕ) (h : Heard) (p : Phase) → Moved c e → StandsIn p limit plan (ends p e) → Follows limit plan c (ends p e) id h
 ended_so limit plan c e id h p m s = record { stands = s; sends = inl m.asked_are }
 
--- its last command is let go by this
-last_let : (plan : Plan) (c : Course) (s : SendsInOrder plan c) (last : Last c s.first) (id : ℕ) (h : Heard) → Answers (awaited (length s.first) last.k) id h → LetsNextBeSent (asked c) id h
-last_let plan c s last id h a =
+-- its last command is answered
+answers_last : (plan : Plan) (c : Course) (s : SendsInOrder plan c) (last : Last c s.first) (id : ℕ) (h : Heard) → Answers (awaited (length s.first) last.k) id h → IsAwaitedAfter (asked c) id h
+answers_last plan c s last id h a =
     let long : 1 + length last.before ≡ length s.first = omega (arith, length-append last.before (last.k ∷ []), ap (λ (ks : List Command). length ks) last.parts) in
     let all : asked c ≡ numbered 1 last.before ++ record { id = 1 + length last.before; word = Asks last.k } ∷ [] = s.sent_are ∙ ap (numbered 1) last.parts ∙ numbered-last 1 last.before last.k in
-    inr (numbered 1 last.before, 1 + length last.before, last.k, all, subst (λ (n : ℕ). Answers (awaited n last.k) id h) (sym long) a)
+    inr (record {
+      before = numbered 1 last.before;
+      number = 1 + length last.before;
+      k = last.k;
+      parts = all;
+      answers = subst (λ (n : ℕ). Answers (awaited n last.k) id h) (sym long) a;
+    })
 
 -- ---- the connection
 
@@ -133,7 +139,7 @@ joined limit plan c e id h s opened m j =
           } in
           let whole : e.left ≡ commands plan = sym (order.parts ∙ ap (λ (ks : List Command). ks ++ e.left) b.none) in
           let empty : asked c ≡ [] = s.order.sent_are ∙ ap (numbered 1) b.none in
-          let_go limit plan c e (goes_on e) id h m.asked_are (inl (empty, j.accepts)) (sent_next limit plan e _ _ free (m.phase ∙ opened) whole)
+          goes_awaited limit plan c e (goes_on e) id h m.asked_are (inl (empty, j.accepts)) (sent_next limit plan e _ _ free (m.phase ∙ opened) whole)
     ]
 
 -- ---- a response
@@ -160,8 +166,8 @@ answered_so limit plan c e status id h s opened m a zero =
               polled = omega arith;
             } in
             let kept : Last e s.order.first = record { before = last.before; k = last.k; parts = last.parts; awaits = m.awaits ∙ last.awaits; polled = omega arith } in
-            let lets = last_let plan c s.order last id h (answers (awaited (length s.order.first) last.k) id h (subst (λ (n : ℕ). Replies (awaited (length s.order.first) last.k) n id h) zero replies)) in
-            let_go limit plan c e (goes_on e) id h m.asked_are lets (goes limit plan e e.left free kept (m.phase ∙ opened) refl)
+            let due = answers_last plan c s.order last id h (answers (awaited (length s.order.first) last.k) id h (subst (λ (n : ℕ). Replies (awaited (length s.order.first) last.k) n id h) zero replies)) in
+            goes_awaited limit plan c e (goes_on e) id h m.asked_are due (goes limit plan e e.left free kept (m.phase ∙ opened) refl)
       ]
     ]
 
@@ -222,8 +228,8 @@ by_report limit plan c e tags id h s opened m more o Report w =
             polled = omega arith;
           } in
           let kept : Last e s.order.first = record { before = last.before; k = last.k; parts = last.parts; awaits = m.awaits ∙ last.awaits; polled = omega arith } in
-          let lets = last_let plan c s.order last id h (subst (λ (x : Option Pending). Answers x id h) (sym none) (tags, o.report)) in
-          let_go limit plan c e (goes_on e) id h m.asked_are lets (goes limit plan e e.left free kept (m.phase ∙ opened) refl)
+          let due = answers_last plan c s.order last id h (subst (λ (x : Option Pending). Answers x id h) (sym none) (tags, o.report)) in
+          goes_awaited limit plan c e (goes_on e) id h m.asked_are due (goes limit plan e e.left free kept (m.phase ∙ opened) refl)
     ]
 
 -- ---- the end of the connection

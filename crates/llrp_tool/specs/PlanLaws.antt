@@ -82,7 +82,7 @@ pub record HasOneCourse (limit : ℕ) (plan : Plan) (bytes : List ℕ) : Type 0 
   pub rest : List ℕ
   pub course : Course
   pub gathers : Gathers limit plan bytes rest course
-  pub all : HasNoFrame rest
+  pub no_frame : HasNoFrame rest
   pub only : (tail : List ℕ) (other : Course) → Gathers limit plan bytes tail other → HasNoFrame tail → (tail ≡ rest) × (other ≡ course)
 
 -- One course went on to another: what was sent and reported stands, and an end stays.
@@ -119,6 +119,53 @@ pub record SendsInOrder (plan : Plan) (c : Course) : Type 0 where
   pub parts : commands plan ≡ first ++ c.left
   pub sent_are : asked c ≡ numbered 1 first
 
+-- ---- the next command
+
+-- it accepts the connection
+abbrev pub Accepts : Heard → Type 0
+Accepts heard = (n : Notification) × (heard ≡ HeardNotification n) × (n.attempt ≡ Some 0)
+
+-- it answers the pending request with this status: it is its response, or an ERROR_MESSAGE under its id
+abbrev pub Responds : Pending → ℕ → ℕ → Heard → Type 0
+Responds p status id heard = ((operation : Operation) × (heard ≡ HeardResponse operation status) × (is_response_to p id operation ≡ true)) ⊎ ((heard ≡ HeardError status) × (id ≡ p.id))
+
+-- it is what a command asks for: a response of status 0, or for GET_REPORT, which waits for none, a report
+abbrev pub Answers : Option Pending → ℕ → Heard → Type 0
+Answers None id heard = (tags : List Tree) × (heard ≡ HeardReport tags)
+Answers (Some p) id heard = Responds p 0 id heard
+
+-- The last of these messages is a command, which it answers.
+pub record AnswersLast (done : List ClientMessage) (id : ℕ) (heard : Heard) : Type 0 where
+  pub before : List ClientMessage
+  pub number : ℕ
+  pub k : Command
+  pub parts : done ≡ before ++ record { id = number; word = Asks k } ∷ []
+  pub answers : Answers (awaited number k) id heard
+
+-- After these commands the plan awaits this message: one that accepts the connection before the first, and after that one that answers the last.
+abbrev pub IsAwaitedAfter : List ClientMessage → ℕ → Heard → Type 0
+IsAwaitedAfter done id heard = ((done ≡ []) × Accepts heard) ⊎ AnswersLast done id heard
+
+-- From the one to the other one command was sent, at an item that was awaited for it.
+pub record SendsOne (old new : Course) (item : Item) : Type 0 where
+  pub next : ClientMessage
+  pub sent_are : asked new ≡ asked old ++ next ∷ []
+  pub message : MessageTree
+  pub item_is : item ≡ Msg message
+  pub awaits : IsAwaitedAfter (asked old) message.id (heard_of message)
+
+-- at each item no command is sent, or one, for which it was awaited
+abbrev pub SendsOneByOne : ℕ → Plan → Type 0
+SendsOneByOne limit plan = (items : List Item) (item : Item) →
+    (asked (course_of limit plan (items ++ item ∷ [])) ≡ asked (course_of limit plan items)) ⊎ SendsOne (course_of limit plan items) (course_of limit plan (items ++ item ∷ [])) item
+
+-- wherever an awaited message comes, and a command is left, one is sent
+abbrev pub SendsWhereAwaited : ℕ → Plan → Type 0
+SendsWhereAwaited limit plan = (items : List Item) (m : MessageTree) → (course_of limit plan items).phase ≡ Open → (course_of limit plan items).left ≢ [] →
+    IsAwaitedAfter (asked (course_of limit plan items)) m.id (heard_of m) → SendsOne (course_of limit plan items) (course_of limit plan (items ++ Msg m ∷ [])) (Msg m)
+
+-- ---- the end
+
 -- All of the plan's commands were sent, and there was a report for each poll.
 pub record IsDone (plan : Plan) (c : Course) : Type 0 where
   pub sent_are : asked c ≡ numbered 1 (commands plan)
@@ -127,46 +174,6 @@ pub record IsDone (plan : Plan) (c : Course) : Type 0 where
 -- where the connection's end came too early, a command is left
 abbrev pub EarlyLeavesSome : ℕ → Plan → Type 0
 EarlyLeavesSome limit plan = (items : List Item) → (course_of limit plan items).phase ≡ Failed Early → (course_of limit plan items).left ≢ []
-
--- ---- one after another
-
--- it accepts the connection
-abbrev pub Accepts : Heard → Type 0
-Accepts heard = (n : Notification) × (heard ≡ HeardNotification n) × (n.attempt ≡ Some 0)
-
--- it grants the request that is pending: its response, or an ERROR_MESSAGE under its id, of this status
-abbrev pub Responds : Pending → ℕ → ℕ → Heard → Type 0
-Responds p status id heard = ((operation : Operation) × (heard ≡ HeardResponse operation status) × (is_response_to p id operation ≡ true)) ⊎ ((heard ≡ HeardError status) × (id ≡ p.id))
-
--- it is what a command waits for: a response of status 0, or for GET_REPORT, which waits for none, a report
-abbrev pub Answers : Option Pending → ℕ → Heard → Type 0
-Answers None id heard = (tags : List Tree) × (heard ≡ HeardReport tags)
-Answers (Some p) id heard = Responds p 0 id heard
-
--- After these commands the message lets the next one be sent: it accepts the connection before the first, and answers the last one after that.
-abbrev pub LetsNextBeSent : List ClientMessage → ℕ → Heard → Type 0
-LetsNextBeSent done id heard = ((done ≡ []) × Accepts heard)
-    ⊎ ((before : List ClientMessage) × (number : ℕ) × (k : Command) × (done ≡ before ++ record { id = number; word = Asks k } ∷ []) × Answers (awaited number k) id heard)
-
--- from the one to the other one command was sent, at an item that lets it be sent
-pub record SendsOne (old new : Course) (item : Item) : Type 0 where
-  pub next : ClientMessage
-  pub sent_are : asked new ≡ asked old ++ next ∷ []
-  pub message : MessageTree
-  pub item_is : item ≡ Msg message
-  pub lets : LetsNextBeSent (asked old) message.id (heard_of message)
-
--- each item has no command sent, or one that it lets be sent
-abbrev pub SendsOneByOne : ℕ → Plan → Type 0
-SendsOneByOne limit plan = (items : List Item) (item : Item) →
-    (asked (course_of limit plan (items ++ item ∷ [])) ≡ asked (course_of limit plan items)) ⊎ SendsOne (course_of limit plan items) (course_of limit plan (items ++ item ∷ [])) item
-
--- wherever a message lets the next command be sent, and one is left, it is sent
-abbrev pub SendsWhereLet : ℕ → Plan → Type 0
-SendsWhereLet limit plan = (items : List Item) (m : MessageTree) → (course_of limit plan items).phase ≡ Open → (course_of limit plan items).left ≢ [] →
-    LetsNextBeSent (asked (course_of limit plan items)) m.id (heard_of m) → SendsOne (course_of limit plan items) (course_of limit plan (items ++ Msg m ∷ [])) (Msg m)
-
--- ---- a fine end
 
 -- there is what a reader can say so that the plan comes to its fine end
 abbrev pub CanEnd : ℕ → Plan → Type 0

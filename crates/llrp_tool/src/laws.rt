@@ -10,7 +10,7 @@ ghost use Rattle.llrp_tool.specs.EpcLines.{Prints};
 ghost use Rattle.llrp_tool.specs.ListingLaws.{HasShortLines, ListedOrRefused};
 ghost use Rattle.llrp_tool.specs.declared.gathering.Phase.TheVariants.{Closed};
 ghost use Rattle.llrp_tool.specs.Plan.{Plan};
-ghost use Rattle.llrp_tool.specs.PlanLaws.{course_of, TakesEachCommand, StrangeIsTheReaders, HasOneCourse, CoursesGoOn, SendsInOrder, IsDone, EarlyLeavesSome, SendsOneByOne, SendsWhereLet, CanEnd};
+ghost use Rattle.llrp_tool.specs.PlanLaws.{course_of, TakesEachCommand, StrangeIsTheReaders, HasOneCourse, CoursesGoOn, SendsInOrder, IsDone, EarlyLeavesSome, SendsOneByOne, SendsWhereAwaited, CanEnd};
 ghost use Rattle.llrp_tool.specs.PrintingLaws.{OneTextOfItems, OneTextOfMessages, PrintsBack};
 ghost use Rattle.llrp_tool.specs.Script.{IsLawful, IsScript};
 ghost use Rattle.llrp_tool.specs.ScriptLaws.{ScriptOrRefused};
@@ -81,13 +81,13 @@ pub fn course_is_determined()
     ensures goes_on { (limit : ℕ) (plan : Plan) → CoursesGoOn limit plan }
 {}
 
-/// A client that follows a plan sends its commands in order, with ids from 1 on, each at the message that lets it be
-/// sent, and wherever such a message comes: the first at the connection, one behind GET_REPORT at a report that comes
-/// after that, any other at the response to the command before.
+/// A client that follows a plan sends its commands in order, with ids from 1 on, each at the message that is awaited for
+/// it, and wherever such a message comes: the first at the connection, one behind GET_REPORT at a report that comes after
+/// that, any other at the response to the command before.
 pub fn plan_sends_its_commands()
     ensures in_order { (limit : ℕ) (plan : Plan) (items : List Item) → SendsInOrder plan (course_of limit plan items) }
     ensures one_by_one { (limit : ℕ) (plan : Plan) → SendsOneByOne limit plan }
-    ensures where_let { (limit : ℕ) (plan : Plan) → 4096 ≤ limit → plan.polls < 2 ^ 16 → SendsWhereLet limit plan }
+    ensures where_awaited { (limit : ℕ) (plan : Plan) → 4096 ≤ limit → plan.polls < 2 ^ 16 → SendsWhereAwaited limit plan }
 {}
 
 /// Where a client that follows a plan comes to its fine end, all commands were sent, and there was a report for each

@@ -1,4 +1,4 @@
-use Rattle.llrp_tool.proofs.PlanAnswers.{sends_where_let}
+use Rattle.llrp_tool.proofs.PlanAnswers.{sends_where_awaited}
 use Rattle.llrp_tool.proofs.PlanFollowing.{in_order, one_by_one}
 use Rattle.llrp_tool.proofs.laws.plan_sends_its_commands.Goals as goal
 
@@ -8,5 +8,5 @@ returns-clause-in_order c = in_order
 pub returns-clause-one_by_one : goal.returns-clause-one_by_one
 returns-clause-one_by_one c = one_by_one
 
-pub returns-clause-where_let : goal.returns-clause-where_let
-returns-clause-where_let c = sends_where_let
+pub returns-clause-where_awaited : goal.returns-clause-where_awaited
+returns-clause-where_awaited c = sends_where_awaited
