@@ -1,10 +1,9 @@
 -- A message that is awaited leads on to the next command.
-use Rattle.std.proofs.Common.{◌≡◌, ℕ, ◌+◌, ◌^◌, ◌<◌, ◌≤◌, ◌==◌, Bool, true, false, cond, List, [], ◌∷◌, ◌++◌, length, refl, sym, ap, subst, ◌∙◌, append_assoc, inl, inr, arith}
-use Rattle.std.specs.Prelude.{◌⊎◌, ◌≢◌, ◌&&◌, Option, None, Some, Result, Ok, Err}
+use Rattle.std.proofs.Common.{◌≡◌, ℕ, ◌+◌, ◌^◌, ◌<◌, ◌≤◌, ◌==◌, Bool, true, false, cond, List, [], ◌∷◌, ◌++◌, length, refl, sym, ap, subst, ◌∙◌, inl, inr, arith}
+use Rattle.std.specs.Prelude.{◌≢◌, ◌&&◌, Option, None, Some, Ok}
 use Rattle.std.proofs.lemmas.Bool.{eq-eqb}
-use Rattle.std.proofs.lemmas.List.{append-nil, length-append}
+use Rattle.std.proofs.lemmas.List.{length-append}
 use Rattle.llrp_tree.specs.Tree.{Tree, MessageTree}
-use Rattle.llrp_stream.specs.declared.item.Item.{Item}
 use Rattle.llrp_stream.specs.declared.item.Item.TheVariants.{Msg}
 use Rattle.llrp_session.specs.declared.words.ClientPhase.{ClientPhase}
 use Rattle.llrp_session.specs.declared.words.ClientPhase.TheVariants.{Fresh, Ready}
@@ -14,8 +13,7 @@ use Rattle.llrp_session.specs.declared.words.Operation.{Operation}
 use Rattle.llrp_session.specs.declared.words.Operation.TheVariants.{Adding, Deleting, Starting, Stopping, Enabling, Disabling, Configuring, Closing}
 use Rattle.llrp_session.specs.declared.words.Pending.{Pending}
 use Rattle.llrp_session.specs.declared.words.Taken.TheVariants.{Connected, Reply, Tags}
-use Rattle.llrp_session.specs.Refusal.{Refusal}
-use Rattle.llrp_session.specs.Words.{Asks, ClientWord, ClientMessage, Heard, HeardResponse, HeardError, HeardReport, HeardNotification}
+use Rattle.llrp_session.specs.Words.{Asks, ClientMessage, Heard, HeardResponse, HeardError, HeardReport}
 use Rattle.llrp_session.specs.ClientMachine.{Client, Taking, take, take_in, take_ready, take_response, answered, failed, attempted, takes, unexpected, granted, cleared, awaited, is_response_to}
 use Rattle.llrp_session.specs.Reading.{heard_of}
 use Rattle.llrp_session.proofs.Following.{LeavesOpen}
@@ -24,12 +22,12 @@ use Rattle.llrp_tool.specs.declared.gathering.Awaits.TheVariants.{Report}
 use Rattle.llrp_tool.specs.declared.gathering.Phase.{Phase}
 use Rattle.llrp_tool.specs.declared.gathering.Phase.TheVariants.{Open}
 use Rattle.llrp_tool.specs.Plan.{Plan, commands}
-use Rattle.llrp_tool.specs.Gathering.{Course, begun, awaited_after, after_item, goes, follow}
-use Rattle.llrp_tool.specs.PlanLaws.{course_of, asked, numbered, SendsInOrder, Accepts, Responds, Answers, IsAwaitedAfter, SendsOne, SendsWhereAwaited, LeadsOn}
+use Rattle.llrp_tool.specs.Gathering.{Course, begun, awaited_after, after_item, goes}
+use Rattle.llrp_tool.specs.PlanLaws.{course_of, asked, numbered, SendsInOrder, Accepts, Answers, IsAwaitedAfter, SendsOne, SendsWhereAwaited, LeadsOn}
 use Rattle.llrp_tool.proofs.PlanCommands.{last_closes, length-numbered, numbered-last, same_last}
-use Rattle.llrp_tool.proofs.PlanSteps.{Begins, Waits, Standing, StandsIn, order_in}
+use Rattle.llrp_tool.proofs.PlanSteps.{Standing, StandsIn, order_in}
 use Rattle.llrp_tool.proofs.PlanFollowing.{Steps, item_so, stands_so, follow-append}
-use Rattle.llrp_tool.proofs.PlanLeads.{Led, Meets, led, is_granted}
+use Rattle.llrp_tool.proofs.PlanLeads.{Led, led, is_granted}
 
 -- ---- how many were sent
 

@@ -1,34 +1,29 @@
 -- A reader can let a plan come to its fine end.
-use Rattle.std.proofs.Common.{◌≡◌, ℕ, ◌+◌, ◌^◌, ◌<◌, ◌≤◌, List, [], ◌∷◌, ◌++◌, length, map, refl, sym, ap, subst, ◌∙◌, append_assoc, inl, inr}
-use Rattle.std.specs.Prelude.{◌⊎◌, ◌≢◌, replicate, Option, None, Some, Result, Ok, Err}
-use Rattle.llrp_tree.specs.Tree.{Tree, MessageTree}
-use Rattle.llrp_stream.specs.declared.item.Item.{Item}
-use Rattle.llrp_stream.specs.declared.item.Item.TheVariants.{Msg, Bad}
+use Rattle.std.proofs.Common.{◌≡◌, ℕ, ◌^◌, ◌<◌, ◌≤◌, List, [], ◌∷◌, ◌++◌, map, refl, sym, ap, subst, ◌∙◌, append_assoc}
+use Rattle.std.specs.Prelude.{◌≢◌, replicate, None, Some, Result, Ok}
+use Rattle.llrp_stream.specs.declared.item.Item.TheVariants.{Msg}
 use Rattle.llrp_session.specs.declared.words.ClientPhase.TheVariants.{Ready}
 use Rattle.llrp_session.specs.declared.words.Command.{Command}
 use Rattle.llrp_session.specs.declared.words.Command.TheVariants.{Add, Delete, Start, Stop, Enable, Disable, SetKeepalive, GetReport, Close}
 use Rattle.llrp_session.specs.declared.words.Operation.{Operation}
 use Rattle.llrp_session.specs.declared.words.Operation.TheVariants.{Adding, Deleting, Starting, Stopping, Enabling, Disabling, Configuring, Closing}
-use Rattle.llrp_session.specs.declared.words.Pending.{Pending}
-use Rattle.llrp_session.specs.declared.words.Taken.{Taken}
-use Rattle.llrp_session.specs.declared.words.Taken.TheVariants.{Connected, Refused, Reply, Tags, Event, Note, Kept, Closed as ConnectionEnded}
+use Rattle.llrp_session.specs.declared.words.Taken.TheVariants.{Connected, Reply, Tags, Closed as ConnectionEnded}
 use Rattle.llrp_session.specs.Refusal.{Refusal}
 use Rattle.llrp_session.specs.RoSpec.{rospec_of}
-use Rattle.llrp_session.specs.Words.{Heard, ReaderWord, Response, Report as ReportSent, Accepted, ReaderMessage, heard}
-use Rattle.llrp_session.specs.ClientMachine.{Client, Sending, Taking, take, take_response, takes, command, sending, awaited, cleared, closed, granted, new_client}
+use Rattle.llrp_session.specs.Words.{ReaderWord, Response, Report as ReportSent, Accepted, ReaderMessage, heard}
+use Rattle.llrp_session.specs.ClientMachine.{Client, Taking, take, awaited, cleared, closed, granted, new_client}
 use Rattle.llrp_session.specs.Reading.{heard_of}
 use Rattle.llrp_session.specs.ReaderMessages.{reader_message}
 use Rattle.llrp_session.proofs.Following.{LeavesOpen, request_with, awaited_response, when_ready}
 use Rattle.llrp_session.proofs.MessageReading.{heard_back}
 use Rattle.llrp_tool.specs.declared.gathering.Awaits.{Awaits}
-use Rattle.llrp_tool.specs.declared.gathering.Awaits.TheVariants.{Answer, Report, End}
+use Rattle.llrp_tool.specs.declared.gathering.Awaits.TheVariants.{Report}
 use Rattle.llrp_tool.specs.declared.gathering.Phase.{Phase}
-use Rattle.llrp_tool.specs.declared.gathering.Phase.TheVariants.{Open, Closed, Failed}
+use Rattle.llrp_tool.specs.declared.gathering.Phase.TheVariants.{Open, Closed}
 use Rattle.llrp_tool.specs.Plan.{Plan, rospec, commands}
-use Rattle.llrp_tool.specs.Gathering.{Course, begun, ends, ended, awaited_after, sends_by, sends, goes_on, reported, after, after_taking, after_item, goes, follow}
-use Rattle.llrp_tool.specs.PlanLaws.{course_of, LeadsOn, CanEnd}
+use Rattle.llrp_tool.specs.Gathering.{Course, begun, ended, awaited_after, after_taking, after_item, goes, follow}
+use Rattle.llrp_tool.specs.PlanLaws.{CanEnd}
 use Rattle.llrp_tool.proofs.PlanCommands.{last_closes, closes_last}
-use Rattle.llrp_tool.proofs.PlanClients.{Takes, TakesOr}
 use Rattle.llrp_tool.proofs.PlanSteps.{Standing, StandsIn, begins}
 use Rattle.llrp_tool.proofs.PlanFollowing.{item_so}
 use Rattle.llrp_tool.proofs.PlanLeads.{Led, Meets, led, is_granted}

@@ -1,11 +1,9 @@
 -- Where the connection's end came too early, a command is left.
-use Rattle.std.proofs.Common.{◌≡◌, ℕ, ◌==◌, Bool, true, false, cond, List, [], ◌∷◌, ◌++◌, refl, sym, ap, subst, ◌∙◌, inl, inr}
+use Rattle.std.proofs.Common.{◌≡◌, ℕ, ◌==◌, Bool, true, false, cond, List, [], ◌∷◌, ◌++◌, refl, sym, ap, ◌∙◌, inl, inr}
 use Rattle.std.specs.Prelude.{◌≢◌, Result, Ok, Err}
-use Rattle.llrp_tree.specs.Tree.{Tree}
 use Rattle.llrp_stream.specs.declared.item.Item.{Item}
 use Rattle.llrp_stream.specs.declared.item.Item.TheVariants.{Msg, Bad}
 use Rattle.llrp_session.specs.declared.words.Command.{Command}
-use Rattle.llrp_session.specs.declared.words.Command.TheVariants.{Close}
 use Rattle.llrp_session.specs.declared.words.Taken.{Taken}
 use Rattle.llrp_session.specs.declared.words.Taken.TheVariants.{Connected, Refused, Reply, Tags, Event, Note, Kept, Closed as ConnectionEnded}
 use Rattle.llrp_session.specs.Refusal.{Refusal}
@@ -15,12 +13,12 @@ use Rattle.llrp_tool.specs.declared.fault.ToolErr.TheVariants.{Peer, Strange, Ea
 use Rattle.llrp_tool.specs.declared.gathering.Awaits.{Awaits}
 use Rattle.llrp_tool.specs.declared.gathering.Awaits.TheVariants.{Answer, Report, End}
 use Rattle.llrp_tool.specs.declared.gathering.Phase.{Phase}
-use Rattle.llrp_tool.specs.declared.gathering.Phase.TheVariants.{Open, Closed, Failed}
+use Rattle.llrp_tool.specs.declared.gathering.Phase.TheVariants.{Open, Failed}
 use Rattle.llrp_tool.specs.Plan.{Plan, commands}
 use Rattle.llrp_tool.specs.Gathering.{Course, ends, ended, awaited_after, sends_by, sends, goes_on, reported, after, after_taking, after_bad, after_item}
 use Rattle.llrp_tool.specs.PlanLaws.{course_of, EarlyLeavesSome}
 use Rattle.llrp_tool.proofs.PlanCommands.{closes_last}
-use Rattle.llrp_tool.proofs.PlanSteps.{Begins, Waits, Standing}
+use Rattle.llrp_tool.proofs.PlanSteps.{Standing}
 use Rattle.llrp_tool.proofs.PlanFollowing.{bad_either}
 use Rattle.llrp_tool.proofs.PlanEnds.{ended_at, standing}
 
