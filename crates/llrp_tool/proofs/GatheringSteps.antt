@@ -33,13 +33,13 @@ use Rattle.llrp_tool.proofs.GatheringLemmas.{reports_none, reports_one, open_tex
 
 -- ---- how much is added at least
 
-record More (c d : Course) : Type 0 where
-  messages : List ClientMessage
-  reports : List (List Tree)
-  sent_are : d.sent ≡ c.sent ++ messages
-  reports_are : d.reports ≡ c.reports ++ reports
+pub record More (c d : Course) : Type 0 where
+  pub messages : List ClientMessage
+  pub reports : List (List Tree)
+  pub sent_are : d.sent ≡ c.sent ++ messages
+  pub reports_are : d.reports ≡ c.reports ++ reports
 
-no_more : (c : Course) → More c c
+pub no_more : (c : Course) → More c c
 no_more c = record { messages = []; reports = []; sent_are = sym (append-nil c.sent); reports_are = sym (append-nil c.reports) }
 
 sends_by_more : (step : Result Sending Refusal) (k : Command) (left : List Command) (c : Course) → More c (sends_by step k left c)
@@ -55,7 +55,7 @@ reported_more Report c = sends_more c.left c
 reported_more Answer c = no_more c
 reported_more End c = no_more c
 
-more_more : (c d e : Course) → More c d → More d e → More c e
+pub more_more : (c d e : Course) → More c d → More d e → More c e
 more_more c d e p q = record {
   messages = p.messages ++ q.messages;
   reports = p.reports ++ q.reports;
@@ -72,7 +72,7 @@ status_more : (fine : Bool) (status : ℕ) (c : Course) → More c (if fine then
 status_more true status c = sends_more c.left c
 status_more false status c = record { messages = []; reports = []; sent_are = sym (append-nil c.sent); reports_are = sym (append-nil c.reports) }
 
-after_more : (taken : Taken) (c : Course) → More c (after taken c)
+pub after_more : (taken : Taken) (c : Course) → More c (after taken c)
 after_more Connected c = sends_more c.left c
 after_more (Refused status) c = record { messages = []; reports = []; sent_are = sym (append-nil c.sent); reports_are = sym (append-nil c.reports) }
 after_more (Reply status) c = status_more (status == 0) status c

@@ -23,6 +23,7 @@ pub mod OpenLines
 pub mod OpenText
 pub mod OpenTextSteps
 pub mod Plan
+pub mod PlanLaws
 pub mod Printing
 pub mod PrintingLaws
 pub mod Refused

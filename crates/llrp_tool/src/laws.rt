@@ -1,13 +1,17 @@
-//! What holds of every listing, of every script, and of every serving.
+//! What holds of every listing, of every script, of every serving, and of every client that follows a plan.
 
-ghost use Rattle.std.specs.Prelude.{List, Some, codes, true, ◌≡◌, ◌≤◌, ℕ};
-ghost use Rattle.llrp_tree.specs.Tree.{MessageTree};
-ghost use Rattle.llrp_tree.specs.Lawful.{AreOctets};
+ghost use Rattle.std.specs.Prelude.{List, Some, codes, true, ◌<◌, ◌≡◌, ◌≤◌, ◌^◌, ℕ};
 ghost use Rattle.llrp_tree.specs.declared.TheConstants.{MAX_LIMIT};
+ghost use Rattle.llrp_tree.specs.Lawful.{AreOctets};
+ghost use Rattle.llrp_tree.specs.Tree.{MessageTree};
 ghost use Rattle.llrp_session.specs.ReaderMachine.{Reader};
+ghost use Rattle.llrp_stream.specs.declared.item.Item.{Item};
 ghost use Rattle.llrp_tool.specs.declared.fault.Verdict.{Verdict};
 ghost use Rattle.llrp_tool.specs.EpcLines.{Prints};
 ghost use Rattle.llrp_tool.specs.ListingLaws.{HasShortLines, ListedOrRefused};
+ghost use Rattle.llrp_tool.specs.declared.gathering.Phase.TheVariants.{Closed};
+ghost use Rattle.llrp_tool.specs.Plan.{Plan};
+ghost use Rattle.llrp_tool.specs.PlanLaws.{course_of, TakesEachCommand, StrangeIsTheReaders, HasOneCourse, CoursesGoOn, SendsInOrder, IsDone, EarlyLeavesSome, SendsOneByOne, SendsWhereAwaited, CanEnd};
 ghost use Rattle.llrp_tool.specs.PrintingLaws.{OneTextOfItems, OneTextOfMessages, PrintsBack};
 ghost use Rattle.llrp_tool.specs.Script.{IsLawful, IsScript};
 ghost use Rattle.llrp_tool.specs.ScriptLaws.{ScriptOrRefused};
@@ -79,4 +83,35 @@ pub fn one_text_of_frames()
 /// What serving says is lawful, and no message is longer than the reader's own limit.
 pub fn served_within_limit()
     ensures { SaysWithinLimit }
+{}
+
+/// Whatever a reader sends, a client that follows a plan takes each of its commands, and ends as Strange exactly where
+/// the reader sent what it did not expect, or a frame with a fault other than a type that no kind has.
+pub fn plan_is_never_refused()
+    ensures each_command_is_taken { (limit : ℕ) (plan : Plan) → 4096 ≤ limit → plan.polls < 2 ^ 16 → TakesEachCommand limit plan }
+    ensures strange_is_the_readers { (limit : ℕ) (plan : Plan) → 4096 ≤ limit → plan.polls < 2 ^ 16 → StrangeIsTheReaders limit plan }
+{}
+
+/// Bytes have one course of all their whole frames; as more bytes come, what was sent and reported stands, and an end
+/// stays.
+pub fn course_is_determined()
+    ensures one_course { (limit : ℕ) (plan : Plan) (bytes : List ℕ) → limit ≤ MAX_LIMIT → AreOctets bytes → HasOneCourse limit plan bytes }
+    ensures goes_on { (limit : ℕ) (plan : Plan) → CoursesGoOn limit plan }
+{}
+
+/// A client that follows a plan sends its commands in order, with ids from 1 on, each at the message that is awaited for
+/// it, and wherever such a message comes: the first at the connection, one behind GET_REPORT at a report that comes after
+/// that, any other at the response to the command before.
+pub fn plan_sends_its_commands()
+    ensures in_order { (limit : ℕ) (plan : Plan) (items : List Item) → SendsInOrder plan (course_of limit plan items) }
+    ensures one_by_one { (limit : ℕ) (plan : Plan) → SendsOneByOne limit plan }
+    ensures where_awaited { (limit : ℕ) (plan : Plan) → 4096 ≤ limit → plan.polls < 2 ^ 16 → SendsWhereAwaited limit plan }
+{}
+
+/// Where a client that follows a plan comes to its fine end, all commands were sent, and there was a report for each
+/// poll; where the connection ended too early, a command is left; and each plan can come to its fine end.
+pub fn plan_ends()
+    ensures done { (limit : ℕ) (plan : Plan) (items : List Item) → (course_of limit plan items).phase ≡ Closed → IsDone plan (course_of limit plan items) }
+    ensures early { (limit : ℕ) (plan : Plan) → EarlyLeavesSome limit plan }
+    ensures can_end { (limit : ℕ) (plan : Plan) → 4096 ≤ limit → plan.polls < 2 ^ 16 → CanEnd limit plan }
 {}
