@@ -1,7 +1,7 @@
 -- What each end of a course that follows a plan means.
-use Rattle.std.proofs.Common.{◌≡◌, ℕ, ◌==◌, Bool, true, false, cond, List, [], ◌∷◌, ◌++◌, length, refl, sym, ap, subst, ◌∙◌, inl, inr, arith}
-use Rattle.std.specs.Prelude.{◌⊎◌, ◌≢◌, Option, None, Some, Result, Ok, Err}
-use Rattle.llrp_tree.specs.Tree.{Tree, MessageTree}
+use Rattle.std.proofs.Common.{◌≡◌, ℕ, ◌==◌, true, false, cond, List, [], ◌∷◌, ◌++◌, length, refl, sym, ap, subst, ◌∙◌, inl, inr}
+use Rattle.std.specs.Prelude.{◌≢◌, Option, None, Some, Result, Ok, Err}
+use Rattle.llrp_tree.specs.Tree.{MessageTree}
 use Rattle.llrp_stream.specs.declared.item.Item.{Item}
 use Rattle.llrp_stream.specs.declared.item.Item.TheVariants.{Msg, Bad}
 use Rattle.llrp_session.specs.declared.words.ClientPhase.TheVariants.{Fresh, Ready}
@@ -19,11 +19,11 @@ use Rattle.llrp_tool.specs.declared.gathering.Awaits.TheVariants.{Answer, Report
 use Rattle.llrp_tool.specs.declared.gathering.Phase.{Phase}
 use Rattle.llrp_tool.specs.declared.gathering.Phase.TheVariants.{Open, Closed, Failed}
 use Rattle.llrp_tool.specs.Plan.{Plan, commands}
-use Rattle.llrp_tool.specs.Gathering.{Course, begun, ends, ended, awaited_after, sends_by, sends, goes_on, reported, after, after_taking, after_bad, after_item}
+use Rattle.llrp_tool.specs.Gathering.{Course, ends, ended, awaited_after, sends_by, sends, goes_on, reported, after, after_taking, after_bad, after_item}
 use Rattle.llrp_tool.specs.PlanLaws.{course_of, asked, numbered, RespondsToLast, TellsStatus, TellsEnd, Told, IsDone, IsEarly, EndsMean}
 use Rattle.llrp_tool.proofs.PlanClients.{not_zero, Replies, TakesFor, Takes, TakesOr}
 use Rattle.llrp_tool.proofs.PlanCommands.{closes_last}
-use Rattle.llrp_tool.proofs.PlanSteps.{Begins, Last, Waits, Standing}
+use Rattle.llrp_tool.proofs.PlanSteps.{Standing}
 use Rattle.llrp_tool.proofs.PlanTakings.{last_asked}
 use Rattle.llrp_tool.proofs.PlanFollowing.{bad_either, takes_so, has_all}
 use Rattle.llrp_tool.proofs.PlanEnds.{ended_at, standing}
