@@ -29,15 +29,15 @@ pub mod OneServing
 pub mod OneText
 pub mod Opening
 pub mod PlanAnswers
+pub mod PlanCanEnd
 pub mod PlanClients
 pub mod PlanCommands
 pub mod PlanCourses
-pub mod PlanCanEnd
-pub mod PlanEarly
 pub mod PlanEnds
 pub mod PlanFollowing
 pub mod PlanLeads
 pub mod PlanLemmas
+pub mod PlanMeanings
 pub mod PlanRefusals
 pub mod PlanSteps
 pub mod PlanTakings

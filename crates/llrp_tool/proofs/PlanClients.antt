@@ -1,6 +1,6 @@
 -- What a client that follows a plan takes a message for.
 use Rattle.std.proofs.Common.{◌≡◌, ℕ, ◌==◌, Bool, true, false, cond, List, [], refl, sym, ap, subst, ◌∙◌, inl, inr, arith}
-use Rattle.std.specs.Prelude.{◌⊎◌, Option, None, Some, Result, Ok, Err}
+use Rattle.std.specs.Prelude.{◌⊎◌, ◌≢◌, Option, None, Some, Result, Ok, Err}
 use Rattle.std.specs.List.{filter}
 use Rattle.std.proofs.lemmas.Bool.Decides.{nat_tests}
 use Rattle.llrp_tree.specs.Tree.{Tree}
@@ -15,7 +15,7 @@ use Rattle.llrp_session.specs.declared.words.Taken.TheVariants.{Connected, Refus
 use Rattle.llrp_session.specs.Words.{RoSpecChange, Heard, HeardResponse, HeardError, HeardReport, HeardKeepalive, HeardNotification, HeardOther, Notification, ClientMessage}
 use Rattle.llrp_session.specs.ClientMachine.{Client, Taking, take, take_in, take_ready, take_fresh, attempted, answered, failed, notified, take_response, replied, takes, unexpected, cleared, closed, granted, is_response_to, event_of, moved}
 use Rattle.llrp_session.specs.Table.{viewed_state}
-use Rattle.llrp_tool.specs.PlanLaws.{is_command, Accepts, Responds}
+use Rattle.llrp_tool.specs.PlanLaws.{is_command, Accepts, Responds, Refuses, TellsEnd}
 
 -- ---- the client before and after
 
@@ -29,6 +29,11 @@ pub record Joins (c d : Client) (h : Heard) : Type 0 where
   pub is : d.phase ≡ Ready
   pub pending : d.pending ≡ c.pending
   pub accepts : Accepts h
+
+pub record IsRefused (c : Client) (status : ℕ) (h : Heard) : Type 0 where
+  pub was : c.phase ≡ Fresh
+  pub status_is : status ≢ 0
+  pub refuses : Refuses status h
 
 pub record IsAnswered (c d : Client) (status id : ℕ) (h : Heard) : Type 0 where
   pub was : c.phase ≡ Ready
@@ -48,13 +53,13 @@ pub record Stays (c d : Client) : Type 0 where
 -- from the one to the other a message was taken for this
 abbrev pub TakesFor : Taken → Client → Client → ℕ → Heard → Type 0
 TakesFor Connected c d id h = Joins c d h
-TakesFor (Refused status) c d id h = Unit {0}
+TakesFor (Refused status) c d id h = IsRefused c status h
 TakesFor (Reply status) c d id h = IsAnswered c d status id h
 TakesFor (Tags tags) c d id h = HandsOut c d tags h
 TakesFor (Event rospec state) c d id h = Stays c d
 TakesFor Note c d id h = Stays c d
 TakesFor Kept c d id h = Stays c d
-TakesFor ConnectionEnded c d id h = Unit {0}
+TakesFor ConnectionEnded c d id h = TellsEnd [] id h
 
 -- no command was sent, and no id used
 pub record Takes (c : Client) (id : ℕ) (h : Heard) (t : Taking) : Type 0 where
@@ -77,21 +82,21 @@ by_reply c p status id h ready waits responds =
       | false ↦ record { limit = refl; next_id = refl; silent = refl; by = record { was = ready; is = ready; pending = refl; replies = replies } }
     ]
 
-by_operation : (operation : Operation) (c : Client) (p : Pending) (status id : ℕ) (h : Heard) → c.phase ≡ Ready → c.pending ≡ Some p → Responds p status id h → TakesOr c id h (take_response operation c p status)
-by_operation Adding c p status id h ready waits responds = by_reply c p status id h ready waits responds
-by_operation Deleting c p status id h ready waits responds = by_reply c p status id h ready waits responds
-by_operation Starting c p status id h ready waits responds = by_reply c p status id h ready waits responds
-by_operation Stopping c p status id h ready waits responds = by_reply c p status id h ready waits responds
-by_operation Enabling c p status id h ready waits responds = by_reply c p status id h ready waits responds
-by_operation Disabling c p status id h ready waits responds = by_reply c p status id h ready waits responds
-by_operation Configuring c p status id h ready waits responds = by_reply c p status id h ready waits responds
-by_operation Closing c p status id h ready waits responds = record { limit = refl; next_id = refl; silent = refl; by = tt }
+by_operation : (operation : Operation) (c : Client) (p : Pending) (status id : ℕ) (h : Heard) → c.phase ≡ Ready → c.pending ≡ Some p → Responds p status id h → h ≡ HeardResponse operation status → TakesOr c id h (take_response operation c p status)
+by_operation Adding c p status id h ready waits responds is = by_reply c p status id h ready waits responds
+by_operation Deleting c p status id h ready waits responds is = by_reply c p status id h ready waits responds
+by_operation Starting c p status id h ready waits responds is = by_reply c p status id h ready waits responds
+by_operation Stopping c p status id h ready waits responds is = by_reply c p status id h ready waits responds
+by_operation Enabling c p status id h ready waits responds is = by_reply c p status id h ready waits responds
+by_operation Disabling c p status id h ready waits responds is = by_reply c p status id h ready waits responds
+by_operation Configuring c p status id h ready waits responds is = by_reply c p status id h ready waits responds
+by_operation Closing c p status id h ready waits responds is = record { limit = refl; next_id = refl; silent = refl; by = inr (status, is) }
 
 by_response : (o : Option Pending) (c : Client) (id : ℕ) (operation : Operation) (status : ℕ) → c.phase ≡ Ready → c.pending ≡ o → TakesOr c id (HeardResponse operation status) (answered o c id operation status)
 by_response None c id operation status ready waits = refl
 by_response (Some p) c id operation status ready waits =
     elim (is_response_to p id operation) as (λ b. is_response_to p id operation ≡ b → TakesOr c id (HeardResponse operation status) (cond b (take_response operation c p status) unexpected)) [
-      | true ↦ λ e. by_operation operation c p status id (HeardResponse operation status) ready waits (inl (operation, refl, e))
+      | true ↦ λ e. by_operation operation c p status id (HeardResponse operation status) ready waits (inl (operation, refl, e)) refl
       | false ↦ λ e. refl
     ] refl
 
@@ -124,9 +129,12 @@ by_event c (Some e) id h =
       | Some state ↦ record { limit = refl; next_id = refl; silent = refl; by = stays c (moved c e) refl refl }
     ]
 
-by_notification : (c : Client) (closes : Bool) (o : Option RoSpecChange) (id : ℕ) (h : Heard) → TakesOr c id h (notified c closes o)
-by_notification c true o id h = record { limit = refl; next_id = refl; silent = refl; by = tt }
-by_notification c false o id h = by_event c o id h
+by_notification : (c : Client) (n : Notification) (closes : Bool) (o : Option RoSpecChange) (id : ℕ) → n.closes ≡ closes → TakesOr c id (HeardNotification n) (notified c closes o)
+by_notification c n true o id e = record { limit = refl; next_id = refl; silent = refl; by = inl (n, refl, e) }
+by_notification c n false o id e = by_event c o id (HeardNotification n)
+
+pub not_zero : (status : ℕ) → (status == 0) ≡ false → status ≢ 0
+not_zero status h = grind (arith, nat_tests)
 
 by_attempt : (c : Client) (n : Notification) (o : Option ℕ) (id : ℕ) → c.phase ≡ Fresh → n.attempt ≡ o → TakesOr c id (HeardNotification n) (attempted c o)
 by_attempt c n None id fresh e = refl
@@ -138,7 +146,7 @@ by_attempt c n (Some status) id fresh e =
           silent = refl;
           by = record { was = fresh; is = refl; pending = refl; accepts = (n, refl, e ∙ ap Some (sym (same_number status 0 z))) };
         }
-      | false ↦ λ z. record { limit = refl; next_id = refl; silent = refl; by = tt }
+      | false ↦ λ z. record { limit = refl; next_id = refl; silent = refl; by = record { was = fresh; status_is = not_zero status z; refuses = (n, refl, e) } }
     ] refl
 
 -- ---- messages
@@ -156,7 +164,7 @@ in_ready c id (HeardResponse operation status) ready = by_response c.pending c i
 in_ready c id (HeardError status) ready = by_error c.pending c id status ready refl
 in_ready c id (HeardReport tags) ready = record { limit = refl; next_id = refl; silent = refl; by = record { was = ready; same = refl; report = refl } }
 in_ready c id HeardKeepalive ready = record { limit = refl; next_id = refl; silent = refl; by = stays c c refl refl }
-in_ready c id (HeardNotification n) ready = by_notification c n.closes n.rospec id (HeardNotification n)
+in_ready c id (HeardNotification n) ready = by_notification c n n.closes n.rospec id refl
 in_ready c id HeardOther ready = refl
 
 -- a client that is not closed takes a message so, or does not expect it

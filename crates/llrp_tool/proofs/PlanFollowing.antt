@@ -13,9 +13,9 @@ use Rattle.llrp_tool.specs.declared.gathering.Phase.{Phase}
 use Rattle.llrp_tool.specs.declared.gathering.Phase.TheVariants.{Open, Closed, Failed}
 use Rattle.llrp_tool.specs.Plan.{Plan}
 use Rattle.llrp_tool.specs.Gathering.{Course, begun, ends, after_bad, after_item, goes, follow}
-use Rattle.llrp_tool.specs.PlanLaws.{course_of, asked, SendsInOrder, IsDone, SendsOne, SendsOneByOne}
+use Rattle.llrp_tool.specs.PlanLaws.{course_of, asked, SendsInOrder, SendsOne, SendsOneByOne}
 use Rattle.llrp_tool.proofs.PlanClients.{TakesOr, takes_or}
-use Rattle.llrp_tool.proofs.PlanSteps.{Standing, StandsIn, order_in, begins, in_phase, failed_order}
+use Rattle.llrp_tool.proofs.PlanSteps.{HasAll, Standing, StandsIn, order_in, begins, in_phase, failed_order}
 use Rattle.llrp_tool.proofs.PlanTakings.{Follows, taking_so}
 
 -- ---- one item
@@ -105,8 +105,8 @@ stays (item ∷ items) c e = ap (follow items) (goes_ended c.phase item c e) ∙
 pub in_order : (limit : ℕ) (plan : Plan) (items : List Item) → SendsInOrder plan (course_of limit plan items)
 in_order limit plan items = order_in (course_of limit plan items).phase limit plan (course_of limit plan items) (stands_so limit plan items)
 
-pub done : (limit : ℕ) (plan : Plan) (items : List Item) → (course_of limit plan items).phase ≡ Closed → IsDone plan (course_of limit plan items)
-done limit plan items closed = (subst (λ (p : Phase). StandsIn p limit plan (course_of limit plan items)) closed (stands_so limit plan items)).1
+pub has_all : (limit : ℕ) (plan : Plan) (items : List Item) → (course_of limit plan items).phase ≡ Closed → HasAll plan (course_of limit plan items)
+has_all limit plan items closed = (subst (λ (p : Phase). StandsIn p limit plan (course_of limit plan items)) closed (stands_so limit plan items)).1
 
 pub one_by_one : (limit : ℕ) (plan : Plan) → SendsOneByOne limit plan
 one_by_one limit plan items item =

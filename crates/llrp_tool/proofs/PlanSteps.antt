@@ -15,7 +15,7 @@ use Rattle.llrp_tool.specs.declared.gathering.Phase.{Phase}
 use Rattle.llrp_tool.specs.declared.gathering.Phase.TheVariants.{Open, Closed, Failed}
 use Rattle.llrp_tool.specs.Plan.{Plan, commands}
 use Rattle.llrp_tool.specs.Gathering.{Course, begun, ends, awaited_after, sends_by, sends, goes_on}
-use Rattle.llrp_tool.specs.PlanLaws.{is_command, asked, numbered, SendsInOrder, IsDone}
+use Rattle.llrp_tool.specs.PlanLaws.{is_command, asked, numbered, SendsInOrder}
 use Rattle.llrp_tool.proofs.PlanCommands.{polls_in, numbered-last}
 
 -- ---- an open course
@@ -48,10 +48,15 @@ pub record Standing (limit : ℕ) (plan : Plan) (c : Course) : Type 0 where
   pub next_id : c.client.next_id ≡ length order.first + 1
   pub at : Begins c order.first ⊎ Waits c order.first
 
+-- all commands were sent, and there was a report for each poll
+pub record HasAll (plan : Plan) (c : Course) : Type 0 where
+  pub sent_are : asked c ≡ numbered 1 (commands plan)
+  pub polled : plan.polls ≤ length c.reports
+
 -- a course in this phase
 abbrev pub StandsIn : Phase → ℕ → Plan → Course → Type 0
 StandsIn Open limit plan c = Standing limit plan c
-StandsIn Closed limit plan c = SendsInOrder plan c × IsDone plan c
+StandsIn Closed limit plan c = SendsInOrder plan c × HasAll plan c
 StandsIn (Failed error) limit plan c = SendsInOrder plan c
 
 pub order_in : (p : Phase) (limit : ℕ) (plan : Plan) (c : Course) → StandsIn p limit plan c → SendsInOrder plan c

@@ -22,10 +22,10 @@ use Rattle.llrp_tool.specs.declared.gathering.Phase.{Phase}
 use Rattle.llrp_tool.specs.declared.gathering.Phase.TheVariants.{Open, Closed, Failed}
 use Rattle.llrp_tool.specs.Plan.{Plan, rospec, commands}
 use Rattle.llrp_tool.specs.Gathering.{Course, ends, ended, awaited_after, goes_on, reported, after, after_taking}
-use Rattle.llrp_tool.specs.PlanLaws.{is_command, asked, numbered, SendsInOrder, IsDone, Answers, IsAwaitedAfter}
+use Rattle.llrp_tool.specs.PlanLaws.{is_command, asked, numbered, SendsInOrder, Answers, IsAwaitedAfter}
 use Rattle.llrp_tool.proofs.PlanClients.{Replies, Joins, IsAnswered, HandsOut, Stays, TakesFor, TakesOr}
 use Rattle.llrp_tool.proofs.PlanCommands.{poll_of, polls_in, polls_in-append, polls_in-commands, one_at_most, last_closes, numbered-last}
-use Rattle.llrp_tool.proofs.PlanSteps.{Begins, Last, Waits, Standing, StandsIn, MaySend, Goes, in_phase, same_order, failed_order, sent_next, goes}
+use Rattle.llrp_tool.proofs.PlanSteps.{Begins, HasAll, Last, Waits, Standing, StandsIn, MaySend, Goes, in_phase, same_order, failed_order, sent_next, goes}
 
 -- ---- commands
 
@@ -106,18 +106,16 @@ goes_awaited limit plan c e d id h same due g = record {
 ended_so : (limit : ℕ) (plan : Plan) (c e : Course) (id : ℕ) (h : Heard) (p : Phase) → Moved c e → StandsIn p limit plan (ends p e) → Follows limit plan c (ends p e) id h
 ended_so limit plan c e id h p m s = record { stands = s; sends = inl m.asked_are }
 
+-- its last command, among those that were sent
+pub last_asked : (plan : Plan) (c : Course) (s : SendsInOrder plan c) (last : Last c s.first) → asked c ≡ numbered 1 last.before ++ record { id = length s.first; word = Asks last.k } ∷ []
+last_asked plan c s last =
+    let long : 1 + length last.before ≡ length s.first = omega (arith, length-append last.before (last.k ∷ []), ap (λ (ks : List Command). length ks) last.parts) in
+    s.sent_are ∙ ap (numbered 1) last.parts ∙ numbered-last 1 last.before last.k
+    ∙ ap (λ (n : ℕ). let m : ClientMessage = record { id = n; word = Asks last.k } in numbered 1 last.before ++ m ∷ []) long
+
 -- its last command is answered
 answers_last : (plan : Plan) (c : Course) (s : SendsInOrder plan c) (last : Last c s.first) (id : ℕ) (h : Heard) → Answers (awaited (length s.first) last.k) id h → IsAwaitedAfter (asked c) id h
-answers_last plan c s last id h a =
-    let long : 1 + length last.before ≡ length s.first = omega (arith, length-append last.before (last.k ∷ []), ap (λ (ks : List Command). length ks) last.parts) in
-    let all : asked c ≡ numbered 1 last.before ++ record { id = 1 + length last.before; word = Asks last.k } ∷ [] = s.sent_are ∙ ap (numbered 1) last.parts ∙ numbered-last 1 last.before last.k in
-    inr (record {
-      before = numbered 1 last.before;
-      number = 1 + length last.before;
-      k = last.k;
-      parts = all;
-      answers = subst (λ (n : ℕ). Answers (awaited n last.k) id h) (sym long) a;
-    })
+answers_last plan c s last id h a = inr (record { before = numbered 1 last.before; number = length s.first; k = last.k; parts = last_asked plan c s last; answers = a })
 
 -- ---- the connection
 
@@ -234,9 +232,9 @@ by_report limit plan c e tags id h s opened m more o Report w =
 
 -- ---- the end of the connection
 
-closed_so : (limit : ℕ) (plan : Plan) (c e : Course) → Standing limit plan c → Moved c e → c.awaits ≡ End → IsDone plan e
+closed_so : (limit : ℕ) (plan : Plan) (c e : Course) → Standing limit plan c → Moved c e → c.awaits ≡ End → HasAll plan e
 closed_so limit plan c e s m w =
-    elim (s.at) as (λ x. IsDone plan e) [
+    elim (s.at) as (λ x. HasAll plan e) [
       | inl b ↦ let x = b.awaits in let no : Answer ≡ End = cc in absurd cc
       | inr v ↦
           let last = v.last in

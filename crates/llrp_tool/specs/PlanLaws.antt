@@ -9,6 +9,7 @@ use Rattle.llrp_stream.specs.Cuts.{IsPartial, Breaks}
 use Rattle.llrp_session.specs.Refusal.{Unexpected}
 use Rattle.llrp_session.specs.declared.words.Command.{Command}
 use Rattle.llrp_session.specs.declared.words.Operation.{Operation}
+use Rattle.llrp_session.specs.declared.words.Operation.TheVariants.{Closing}
 use Rattle.llrp_session.specs.declared.words.Pending.{Pending}
 use Rattle.llrp_session.specs.declared.words.Taken.{Taken}
 use Rattle.llrp_session.specs.declared.words.Taken.TheVariants.{Connected, Refused, Reply, Tags, Event, Note, Kept, Closed as ConnectionEnded}
@@ -16,7 +17,7 @@ use Rattle.llrp_session.specs.Words.{ClientWord, Asks, Acknowledges, ClientMessa
 use Rattle.llrp_session.specs.ClientMachine.{Client, Taking, take, command, sending, awaited, is_response_to}
 use Rattle.llrp_session.specs.Reading.{heard_of}
 use Rattle.llrp_session.specs.ReaderMessages.{reader_message}
-use Rattle.llrp_tool.specs.declared.fault.ToolErr.TheVariants.{Strange, Early}
+use Rattle.llrp_tool.specs.declared.fault.ToolErr.TheVariants.{Peer, Strange, Early}
 use Rattle.llrp_tool.specs.declared.gathering.Awaits.{Awaits}
 use Rattle.llrp_tool.specs.declared.gathering.Awaits.TheVariants.{Report}
 use Rattle.llrp_tool.specs.declared.gathering.Phase.TheVariants.{Open, Closed, Failed}
@@ -166,14 +167,53 @@ SendsWhereAwaited limit plan = (items : List Item) (m : MessageTree) → (course
 
 -- ---- the end
 
--- All of the plan's commands were sent, and there was a report for each poll.
-pub record IsDone (plan : Plan) (c : Course) : Type 0 where
-  pub sent_are : asked c ≡ numbered 1 (commands plan)
-  pub polled : plan.polls ≤ length c.reports
+-- it refuses the connection, with this status
+abbrev pub Refuses : ℕ → Heard → Type 0
+Refuses status heard = (n : Notification) × (heard ≡ HeardNotification n) × (n.attempt ≡ Some status)
 
--- where the connection's end came too early, a command is left
-abbrev pub EarlyLeavesSome : ℕ → Plan → Type 0
-EarlyLeavesSome limit plan = (items : List Item) → (course_of limit plan items).phase ≡ Failed Early → (course_of limit plan items).left ≢ []
+-- The last of these messages is a command that waits for a response, and it is answered with this status.
+pub record RespondsToLast (done : List ClientMessage) (status id : ℕ) (heard : Heard) : Type 0 where
+  pub before : List ClientMessage
+  pub number : ℕ
+  pub k : Command
+  pub parts : done ≡ before ++ record { id = number; word = Asks k } ∷ []
+  pub pending : Pending
+  pub waits : awaited number k ≡ Some pending
+  pub responds : Responds pending status id heard
+
+-- after these commands it tells a status other than 0: the connection is refused, or the last command
+abbrev pub TellsStatus : ℕ → List ClientMessage → ℕ → Heard → Type 0
+TellsStatus status done id heard = (status ≢ 0) × (((done ≡ []) × Refuses status heard) ⊎ RespondsToLast done status id heard)
+
+-- it ends the connection: it has a ConnectionCloseEvent, or it is CLOSE_CONNECTION_RESPONSE
+abbrev pub TellsEnd : List ClientMessage → ℕ → Heard → Type 0
+TellsEnd done id heard = ((n : Notification) × (heard ≡ HeardNotification n) × (n.closes ≡ true)) ⊎ ((status : ℕ) × (heard ≡ HeardResponse Closing status))
+
+-- One of the items is a message that tells this, after the commands that were sent before it.
+pub record Told (Tells : List ClientMessage → ℕ → Heard → Type 0) (limit : ℕ) (plan : Plan) (items : List Item) : Type 0 where
+  pub before : List Item
+  pub message : MessageTree
+  pub later : List Item
+  pub parts : items ≡ before ++ Msg message ∷ later
+  pub open_is : (course_of limit plan before).phase ≡ Open
+  pub tells : Tells (asked (course_of limit plan before)) message.id (heard_of message)
+
+-- All of the plan's commands were sent, there was a report for each poll, and then the reader ended the connection.
+pub record IsDone (limit : ℕ) (plan : Plan) (items : List Item) : Type 0 where
+  pub sent_are : asked (course_of limit plan items) ≡ numbered 1 (commands plan)
+  pub polled : plan.polls ≤ length (course_of limit plan items).reports
+  pub ended : Told TellsEnd limit plan items
+
+-- A command is left, and the reader ended the connection.
+pub record IsEarly (limit : ℕ) (plan : Plan) (items : List Item) : Type 0 where
+  pub left : (course_of limit plan items).left ≢ []
+  pub ended : Told TellsEnd limit plan items
+
+-- what each end of a course means; the end as Strange is told above
+pub record EndsMean (limit : ℕ) (plan : Plan) (items : List Item) : Type 0 where
+  pub done : (course_of limit plan items).phase ≡ Closed → IsDone limit plan items
+  pub early : (course_of limit plan items).phase ≡ Failed Early → IsEarly limit plan items
+  pub peer : (status : ℕ) → (course_of limit plan items).phase ≡ Failed (Peer status) → Told (TellsStatus status) limit plan items
 
 -- there is what a reader can say so that the plan comes to its fine end
 abbrev pub CanEnd : ℕ → Plan → Type 0

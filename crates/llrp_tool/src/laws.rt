@@ -11,7 +11,7 @@ ghost use Rattle.llrp_tool.specs.EpcLines.{Prints};
 ghost use Rattle.llrp_tool.specs.ListingLaws.{HasShortLines, ListedOrRefused};
 ghost use Rattle.llrp_tool.specs.declared.gathering.Phase.TheVariants.{Closed};
 ghost use Rattle.llrp_tool.specs.Plan.{Plan};
-ghost use Rattle.llrp_tool.specs.PlanLaws.{course_of, TakesEachCommand, StrangeIsTheReaders, HasOneCourse, CoursesGoOn, SendsInOrder, IsDone, EarlyLeavesSome, SendsOneByOne, SendsWhereAwaited, CanEnd};
+ghost use Rattle.llrp_tool.specs.PlanLaws.{course_of, TakesEachCommand, StrangeIsTheReaders, HasOneCourse, CoursesGoOn, SendsInOrder, EndsMean, SendsOneByOne, SendsWhereAwaited, CanEnd};
 ghost use Rattle.llrp_tool.specs.PrintingLaws.{OneTextOfItems, OneTextOfMessages, PrintsBack};
 ghost use Rattle.llrp_tool.specs.Script.{IsLawful, IsScript};
 ghost use Rattle.llrp_tool.specs.ScriptLaws.{ScriptOrRefused};
@@ -108,10 +108,10 @@ pub fn plan_sends_its_commands()
     ensures where_awaited { (limit : ℕ) (plan : Plan) → 4096 ≤ limit → plan.polls < 2 ^ 16 → SendsWhereAwaited limit plan }
 {}
 
-/// Where a client that follows a plan comes to its fine end, all commands were sent, and there was a report for each
-/// poll; where the connection ended too early, a command is left; and each plan can come to its fine end.
+/// Where a client that follows a plan comes to its fine end, all commands were sent and there was a report for each poll;
+/// where it is Early a command is left; either came of a message that ends the connection, and Peer of one that tells
+/// that status. Each plan can come to its fine end.
 pub fn plan_ends()
-    ensures done { (limit : ℕ) (plan : Plan) (items : List Item) → (course_of limit plan items).phase ≡ Closed → IsDone plan (course_of limit plan items) }
-    ensures early { (limit : ℕ) (plan : Plan) → EarlyLeavesSome limit plan }
+    ensures mean { (limit : ℕ) (plan : Plan) (items : List Item) → EndsMean limit plan items }
     ensures can_end { (limit : ℕ) (plan : Plan) → 4096 ≤ limit → plan.polls < 2 ^ 16 → CanEnd limit plan }
 {}
