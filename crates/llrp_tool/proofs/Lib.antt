@@ -30,6 +30,7 @@ pub mod Opening
 pub mod PlanLemmas
 pub mod PrintingLemmas
 pub mod PrintsBack
+pub mod ReadBack
 pub mod Rows
 pub mod Running
 pub mod ScriptDeciding
