@@ -43,6 +43,7 @@ pub mod PlanSteps
 pub mod PlanTakings
 pub mod PrintingLemmas
 pub mod PrintsBack
+pub mod ReadBack
 pub mod Rows
 pub mod Running
 pub mod ScriptDeciding

@@ -1,5 +1,5 @@
 -- The listing of messages is that of their spellings.
-use Rattle.std.proofs.Common.{◌≡◌, ℕ, ◌≤◌, ◌<◌, ◌^◌, Bool, List, [], ◌∷◌, ◌++◌, refl, sym, ap, subst, ◌∙◌, arith}
+use Rattle.std.proofs.Common.{◌≡◌, ℕ, ◌≤◌, ◌<◌, ◌^◌, Bool, List, [], ◌∷◌, ◌++◌, map, refl, sym, ap, subst, ◌∙◌, arith}
 use Rattle.std.specs.List.{flat_map, AllZip, AllByRecursion}
 use Rattle.std.proofs.lemmas.List.{append-nil}
 use Rattle.std.proofs.lemmas.List.Concat.{flat_map-append}
@@ -54,17 +54,16 @@ is_frame limit m bytes f =
 
 -- ---- messages as items
 
-abbrev as_items : List MessageTree → List Item
-as_items [] = []
-as_items (m ∷ messages) = Msg m ∷ as_items messages
+abbrev pub as_items : List MessageTree → List Item
+as_items messages = map Msg messages
 
-are_frames : (limit : ℕ) (messages : List MessageTree) (frames : List (List ℕ)) → AreSpellings limit messages frames → AllByRecursion IsFrame frames
+pub are_frames : (limit : ℕ) (messages : List MessageTree) (frames : List (List ℕ)) → AreSpellings limit messages frames → AllByRecursion IsFrame frames
 are_frames limit [] [] h = tt
 are_frames limit [] (f ∷ frames) h = absurd h
 are_frames limit (m ∷ messages) [] h = absurd h
 are_frames limit (m ∷ messages) (f ∷ frames) h = (is_frame limit m f h.0, are_frames limit messages frames h.1)
 
-are_items : (limit : ℕ) (messages : List MessageTree) (frames : List (List ℕ)) → AreSpellings limit messages frames → AllZip (IsItemOf limit) frames (as_items messages)
+pub are_items : (limit : ℕ) (messages : List MessageTree) (frames : List (List ℕ)) → AreSpellings limit messages frames → AllZip (IsItemOf limit) frames (as_items messages)
 are_items limit [] [] h = tt
 are_items limit [] (f ∷ frames) h = absurd h
 are_items limit (m ∷ messages) [] h = absurd h

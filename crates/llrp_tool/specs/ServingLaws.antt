@@ -1,6 +1,8 @@
 -- What holds of every serving.
-use Rattle.std.specs.Prelude.{◌≡◌, ◌↔◌, ◌⊎◌, ◌^◌, ◌<◌, ℕ, List}
+use Rattle.std.specs.Prelude.{◌≡◌, ◌↔◌, ◌⊎◌, ◌^◌, ◌<◌, ℕ, List, [], map}
 use Rattle.llrp_tree.specs.Tree.{MessageTree}
+use Rattle.llrp_stream.specs.declared.item.Item.TheVariants.{Msg}
+use Rattle.llrp_stream.specs.Items.{ItemsSoFar}
 use Rattle.llrp_session.specs.ReaderMachine.{Reader}
 use Rattle.llrp_session.specs.MessageWorld.{AreSendable}
 use Rattle.llrp_tool.specs.declared.script.Entry.{Entry}
@@ -22,6 +24,10 @@ pub record IsServedInOneWay (reader : Reader) (entries : List Entry) (bytes : Li
 -- messages have one list of frames
 abbrev pub OneTextOfFrames : Type 0
 OneTextOfFrames = (messages : List MessageTree) (s t : List ℕ) → AreFrames messages s → AreFrames messages t → s ≡ t
+
+-- the frames of messages that may be sent at a limit are read, at that limit, as these messages
+abbrev pub FramesReadBack : Type 0
+FramesReadBack = (limit : ℕ) (messages : List MessageTree) (bytes : List ℕ) → AreSendable limit messages → AreFrames messages bytes → ItemsSoFar limit bytes (map Msg messages) []
 
 -- what a new reader says by a script is lawful, and no longer than the reader's own limit
 abbrev pub SaysWithinLimit : Type 0

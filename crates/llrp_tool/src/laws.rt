@@ -15,7 +15,7 @@ ghost use Rattle.llrp_tool.specs.PlanLaws.{course_of, TakesEachCommand, StrangeI
 ghost use Rattle.llrp_tool.specs.PrintingLaws.{OneTextOfItems, OneTextOfMessages, PrintsBack};
 ghost use Rattle.llrp_tool.specs.Script.{IsLawful, IsScript};
 ghost use Rattle.llrp_tool.specs.ScriptLaws.{ScriptOrRefused};
-ghost use Rattle.llrp_tool.specs.ServingLaws.{IsServedInOneWay, OneTextOfFrames, SaysWithinLimit};
+ghost use Rattle.llrp_tool.specs.ServingLaws.{FramesReadBack, IsServedInOneWay, OneTextOfFrames, SaysWithinLimit};
 ghost use Rattle.llrp_tool.specs.declared.script.Entry.{Entry};
 ghost use Rattle.llrp_tool.specs.Words.{AsksEpc, command_in, name_in, parses};
 
@@ -78,6 +78,11 @@ pub fn one_serving()
 /// Messages have one list of frames, so the bytes that serving sends are determined with its messages.
 pub fn one_text_of_frames()
     ensures { OneTextOfFrames }
+{}
+
+/// The frames of messages that may be sent at a limit are read, at that limit, as these messages.
+pub fn frames_read_back()
+    ensures { FramesReadBack }
 {}
 
 /// What serving says is lawful, and no message is longer than the reader's own limit.
