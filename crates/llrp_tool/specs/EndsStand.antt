@@ -5,11 +5,15 @@ use Rattle.llrp_stream.specs.Device.{SourceLog, SinkLog, Gave, Wrote}
 use Rattle.llrp_tool.specs.declared.fault.ToolErr.{ToolErr}
 use Rattle.llrp_tool.specs.declared.fault.ToolErr.TheVariants.{Listing, Script, Hex, Read, Write, Bound, Broken, Memory, Peer, Strange, Early}
 use Rattle.llrp_tool.specs.declared.gathering.Phase.TheVariants.{Closed, Failed}
+use Rattle.llrp_session.specs.ReaderMachine.{Reader}
 use Rattle.llrp_tool.specs.declared.both_ends.client_side.ClientSide.{ClientSide}
 use Rattle.llrp_tool.specs.declared.both_ends.reader_side.ReaderSide.{ReaderSide}
+use Rattle.llrp_tool.specs.declared.gathering.Gathering.{Gathering}
+use Rattle.llrp_tool.specs.declared.script.Entry.{Entry}
+use Rattle.llrp_tool.specs.declared.serving.Serving.{Serving}
 use Rattle.llrp_tool.specs.Copying.{MOST_READS, ReadAll}
 use Rattle.llrp_tool.specs.Gathering.{Course}
-use Rattle.llrp_tool.specs.GatheringStands.{IsOpen as IsOpenAt, Counts}
+use Rattle.llrp_tool.specs.GatheringStands.{IsOpen as Follows, Counts}
 use Rattle.llrp_tool.specs.RunInventory.{Says, Ended}
 use Rattle.llrp_tool.specs.RunServe.{WasGiven}
 use Rattle.llrp_tool.specs.RunLoop.{Ends, Traffic, GivenAndFailed, GivenByMost, ReaderSays, ReaderGoes, ReaderBegins, ClientAwaits, ClientBreaksOff, ClientEnded, ClientBegins, ReportFailed, SaidAll}
@@ -59,20 +63,24 @@ pub record HasRoom (log : SourceLog) (reads : ℕ) : Type 0 where
   pub ends_fit : log.ends < 2 ^ 63
   pub failures_fit : log.failures < 2 ^ 63
 
--- what was said, what of it was written, and what was read
-abbrev pub said : List ℕ → List ℕ → Traffic
-said written unwritten = record { written = written; unwritten = unwritten; read = [] }
+-- what one end said on a way, and what the other end read there
+abbrev pub spoken : List ℕ → List ℕ → Traffic
+spoken written unwritten = record { written = written; unwritten = unwritten; read = [] }
 
 abbrev pub heard : List ℕ → Traffic
 heard read = record { written = []; unwritten = []; read = read }
 
 -- ---- the reader's side
 
--- The reader read these bytes; of what it says to them this was written, and the others are left.
-pub record ReaderStands (e : Ends) (written read : List ℕ) (s : ReaderSide) : Type 0 where
+-- serving takes bytes, or the client has closed the connection
+abbrev pub IsServing : Reader → List Entry → List ℕ → List MessageTree → Serving → Type 0
+IsServing reader entries bytes messages s = IsOpen reader entries bytes messages s ⊎ (IsClosed s × Serves reader entries bytes messages closed)
+
+-- The reader read these bytes; of what it says to them this was written, and this is left.
+pub record ReaderStands (e : Ends) (written read : List ℕ) (s : Serving) (left : List ℕ) : Type 0 where
   pub messages : List MessageTree
-  pub serves : IsOpen e.reader e.entries read messages s.serving ⊎ (IsClosed s.serving × Serves e.reader e.entries read messages closed)
-  pub frames : AreFrames messages (written ++ s.said.items)
+  pub serving : IsServing e.reader e.entries read messages s
+  pub frames : AreFrames messages (written ++ left)
 
 -- it stopped with this error
 abbrev pub ReaderStops : Ends → SourceLog → SourceLog → Traffic → Traffic → ToolErr → Type 0
@@ -91,21 +99,21 @@ ReaderStops e r0 r1 down up Hex = ⊥
 -- It read so many bytes more, and took them; or it stopped before.
 abbrev pub ReaderHears : Ends → SourceLog → SourceLog → List ℕ → List ℕ → ℕ → ReaderSide → ReaderSide → Result (Unit {0}) ToolErr → Type 0
 ReaderHears e r0 r1 written read count old new (Ok u) =
-    (bytes : List ℕ) × (length bytes ≡ count) × Given r0 r1 new.reads (read ++ bytes) × ReaderStands e written (read ++ bytes) new × (0 < count → old.reads < new.reads)
+    (bytes : List ℕ) × (length bytes ≡ count) × Given r0 r1 new.reads (read ++ bytes) × ReaderStands e written (read ++ bytes) new.serving new.said.items × (0 < count → old.reads < new.reads)
 ReaderHears e r0 r1 written read count old new (Err error) =
-    (bytes : List ℕ) × (length bytes ≤ count) × ReaderStops e r0 r1 (said written new.said.items) (heard (read ++ bytes)) error
+    (bytes : List ℕ) × (length bytes ≤ count) × ReaderStops e r0 r1 (spoken written new.said.items) (heard (read ++ bytes)) error
 
 -- ---- the client's side
 
--- The client read these bytes and is so far; of what it says this was written, and the others are left; its lines were written.
-pub record ClientStands (e : Ends) (written read : List ℕ) (p0 p1 : SinkLog) (s : ClientSide) : Type 0 where
+-- The client read these bytes; of what it says to them this was written, and this is left; all its lines were written.
+pub record ClientStands (e : Ends) (written read : List ℕ) (p0 p1 : SinkLog) (g : Gathering) (left lines : List ℕ) : Type 0 where
   pub rest : List ℕ
   pub course : Course
-  pub open_still : IsOpenAt e.limit e.plan read rest course s.gathering
+  pub open_still : Follows e.limit e.plan read rest course g
   pub text : List ℕ
-  pub says : Says course (written ++ s.said.items) text
+  pub says : Says course (written ++ left) text
   pub wrote : Wrote p0 p1 text
-  pub handed_on : s.lines.items ≡ []
+  pub none_left : lines ≡ []
 
 -- it stopped with this error
 abbrev pub ClientStops : Ends → SourceLog → SourceLog → SinkLog → SinkLog → Traffic → Traffic → ToolErr → Type 0
@@ -124,9 +132,9 @@ ClientStops e r0 r1 p0 p1 down up Hex = ⊥
 -- It read so many bytes more, and took them; or the connection was closed as planned; or it stopped before.
 abbrev pub ClientHears : Ends → SourceLog → SourceLog → SinkLog → SinkLog → List ℕ → List ℕ → ℕ → ClientSide → ClientSide → Result Bool ToolErr → Type 0
 ClientHears e r0 r1 p0 p1 written read count old new (Ok false) =
-    (bytes : List ℕ) × (length bytes ≡ count) × Given r0 r1 new.reads (read ++ bytes) × ClientStands e written (read ++ bytes) p0 p1 new × (0 < count → old.reads < new.reads)
+    (bytes : List ℕ) × (length bytes ≡ count) × Given r0 r1 new.reads (read ++ bytes) × ClientStands e written (read ++ bytes) p0 p1 new.gathering new.said.items new.lines.items × (0 < count → old.reads < new.reads)
 ClientHears e r0 r1 p0 p1 written read count old new (Ok true) =
     (bytes : List ℕ) × (length bytes ≤ count) × WasGiven r0 r1 (read ++ bytes)
-    × (course : Course) × Ended Closed e.limit e.plan (read ++ bytes) course × SaidAll course (said written new.said.items) p0 p1 × Counts course.reports new.gathering
+    × (course : Course) × Ended Closed e.limit e.plan (read ++ bytes) course × SaidAll course (spoken written new.said.items) p0 p1 × Counts course.reports new.gathering
 ClientHears e r0 r1 p0 p1 written read count old new (Err error) =
-    (bytes : List ℕ) × (length bytes ≤ count) × ClientStops e r0 r1 p0 p1 (heard (read ++ bytes)) (said written new.said.items) error
+    (bytes : List ℕ) × (length bytes ≤ count) × ClientStops e r0 r1 p0 p1 (heard (read ++ bytes)) (spoken written new.said.items) error

@@ -1,6 +1,6 @@
 //! The client's side of a connection.
 
-ghost use Rattle.std.specs.Prelude.{◌≡◌, ◌≤◌, ◌<◌, ◌^◌, [], List, ℕ};
+ghost use Rattle.std.specs.Prelude.{◌≡◌, ◌≤◌, ◌<◌, ◌^◌, [], List, OnOk, ℕ};
 ghost use Rattle.llrp_stream.specs.Device.{SinkLog, SourceLog};
 ghost use Rattle.llrp_tree.specs.declared.TheConstants.{MAX_LIMIT};
 ghost use Rattle.llrp_tool.specs.EndsStand.{ClientHears, ClientStands, Given, HasRoom};
@@ -31,7 +31,7 @@ impl ClientSide {
     pub fn new(alloc: Global, plan: Plan, limit: u32) -> ClientSide
         requires least { 4096 ≤ limit }
         requires most { limit ≤ MAX_LIMIT }
-        ensures stands { (e : Ends) (log : SinkLog) → e.limit ≡ limit → e.plan ≡ plan → ClientStands e [] [] log log result }
+        ensures stands { (e : Ends) (log : SinkLog) → e.limit ≡ limit → e.plan ≡ plan → ClientStands e [] [] log log result.gathering result.said.items result.lines.items }
         ensures unread { result.reads ≡ 0 }
     {
         ClientSide {
@@ -52,8 +52,9 @@ impl ClientSide {
     ) -> Result<bool, ToolErr>
         requires a_piece { count ≤ 4096 }
         requires room { HasRoom (R.log r.old) self.old.reads }
-        requires report { (P.log report.old).failures + 1 < 2 ^ 64 }
-        ensures { (e : Ends) (r0 : SourceLog) (p0 : SinkLog) (written read : List ℕ) → ClientStands e written read p0 (P.log report.old) self.old → Given r0 (R.log r.old) self.old.reads read
+        requires report { (P.log report.old).failures < 2 ^ 63 }
+        ensures room { OnOk result (HasRoom (R.log r.new) self.new.reads) }
+        ensures hears { (e : Ends) (r0 : SourceLog) (p0 : SinkLog) (written read : List ℕ) → ClientStands e written read p0 (P.log report.old) self.old.gathering self.old.said.items self.old.lines.items → Given r0 (R.log r.old) self.old.reads read
             → ClientHears e r0 (R.log r.new) p0 (P.log report.new) written read count self.old self.new result }
     {
         let mut buffer = [0u8; READ_SIZE];

@@ -1,6 +1,6 @@
 //! One write and one read of a connection.
 
-ghost use Rattle.std.specs.Prelude.{◌≡◌, ◌<◌, ◌≤◌, ◌^◌, ◌+◌, IfErr, IfOk, List, drop, length, take, ℕ};
+ghost use Rattle.std.specs.Prelude.{◌≡◌, ◌<◌, ◌≤◌, ◌^◌, ◌+◌, ◌++◌, [], IfErr, IfOk, List, drop, length, take, ℕ};
 ghost use Rattle.llrp_stream.specs.Device.{SourceLog, WroteAndFailed};
 ghost use Rattle.llrp_tool.specs.EndsStand.{Given, HasRoom, ReadsNone, ReadsPiece, WritesPiece};
 ghost use Rattle.llrp_tool.specs.declared.fault.ToolErr.TheVariants.{Write};

@@ -1,6 +1,6 @@
 //! The reader's side of a connection.
 
-ghost use Rattle.std.specs.Prelude.{◌≡◌, ◌≤◌, [], IfErr, IfOk, List, ℕ};
+ghost use Rattle.std.specs.Prelude.{◌≡◌, ◌≢◌, ◌≤◌, [], IfErr, IfOk, List, OnOk, ℕ};
 ghost use Rattle.llrp_stream.specs.Device.{SourceLog};
 ghost use Rattle.llrp_tool.specs.EndsStand.{Given, HasRoom, ReaderHears, ReaderStands};
 ghost use Rattle.llrp_tool.specs.RunLoop.{Ends};
@@ -12,7 +12,7 @@ use super::pieces::read_piece;
 use crate::copying::READ_SIZE;
 use crate::fault::ToolErr;
 use crate::script::Script;
-use crate::serving::Serving;
+use crate::serving::{Phase, Serving};
 use llrp_session::Reader;
 use llrp_stream::Source;
 use std::alloc::Global;
@@ -31,7 +31,8 @@ impl ReaderSide {
     /// The client connects. The only error is `Memory`.
     pub fn new(alloc: Global, core: Reader, script: Script) -> Result<ReaderSide, ToolErr>
         requires { IsNewReader core }
-        ensures ok { IfOk result (λ s. (e : Ends) → e.reader ≡ core → e.entries ≡ script → ReaderStands e [] [] s) }
+        ensures ok { IfOk result (λ s. (e : Ends) → e.reader ≡ core → e.entries ≡ script → ReaderStands e [] [] s.serving s.said.items) }
+        ensures started { IfOk result (λ s. s.serving.phase ≢ Phase.New) }
         ensures unread { IfOk result (λ s. s.reads ≡ 0) }
         ensures err { IfErr result (λ error. (error ≡ Memory) × (text : List ℕ) × BeginsFrames core script [] text) }
     {
@@ -50,14 +51,18 @@ impl ReaderSide {
     pub fn hear<R: Source>(&mut self, count: usize, r: &mut R) -> Result<(), ToolErr>
         requires a_piece { count ≤ 4096 }
         requires room { HasRoom (R.log r.old) self.old.reads }
-        ensures { (e : Ends) (r0 : SourceLog) (written read : List ℕ) → ReaderStands e written read self.old → Given r0 (R.log r.old) self.old.reads read
+        requires started { self.old.serving.phase ≢ Phase.New }
+        ensures room { OnOk result (HasRoom (R.log r.new) self.new.reads) }
+        ensures started { self.new.serving.phase ≢ Phase.New }
+        ensures hears { (e : Ends) (r0 : SourceLog) (written read : List ℕ) → ReaderStands e written read self.old.serving self.old.said.items → Given r0 (R.log r.old) self.old.reads read
             → ReaderHears e r0 (R.log r.new) written read count self.old self.new result }
     {
         let mut buffer = [0u8; READ_SIZE];
         let mut left = count;
         while left > 0 {
-            let n = read_piece(r, &mut buffer[..left], &mut self.reads)?;
-            self.serving.feed(&buffer[..n], &mut self.said)?;
+            let piece = &mut buffer[..left];
+            let n = read_piece(r, piece, &mut self.reads)?;
+            let _closed = self.serving.feed(&piece[..n], &mut self.said)?;
             left -= n;
         }
         Ok(())
