@@ -15,6 +15,7 @@ pub mod GatheringFeeds
 pub mod GatheringLemmas
 pub mod GatheringSteps
 pub mod Growing
+pub mod HearingLemmas
 pub mod HexadecimalLemmas
 pub mod LawfulLines
 pub mod LineSays
@@ -29,6 +30,7 @@ pub mod Opening
 pub mod PlanLemmas
 pub mod PrintingLemmas
 pub mod PrintsBack
+pub mod ReaderSideLemmas
 pub mod Rows
 pub mod Running
 pub mod ScriptDeciding
