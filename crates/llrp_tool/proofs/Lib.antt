@@ -17,6 +17,7 @@ pub mod GatheringSteps
 pub mod Growing
 pub mod HearingLemmas
 pub mod HexadecimalLemmas
+pub mod InventoryLemmas
 pub mod LawfulLines
 pub mod LineSays
 pub mod LineShape

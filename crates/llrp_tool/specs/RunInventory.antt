@@ -1,9 +1,8 @@
 -- What a client that follows a plan reads and writes.
 use Rattle.std.specs.Prelude.{◌≡◌, ℕ, ◌⊎◌, List, ◌++◌, map, Result, Ok, Err}
-use Rattle.llrp_tree.specs.Tree.{Tree}
+use Rattle.llrp_tree.specs.Tree.{Tree, MessageTree}
 use Rattle.llrp_stream.specs.Cuts.{IsPartial, Breaks}
 use Rattle.llrp_stream.specs.Device.{SourceLog, SinkLog, Gave, Wrote, WroteAndFailed}
-use Rattle.llrp_session.specs.Words.{ClientMessage}
 use Rattle.llrp_session.specs.ClientMessages.{client_message}
 use Rattle.llrp_tool.specs.declared.fault.ToolErr.{ToolErr}
 use Rattle.llrp_tool.specs.declared.fault.ToolErr.TheVariants.{Listing, Script, Hex, Read, Write, Bound, Broken, Memory, Peer, Strange, Early}
@@ -29,10 +28,10 @@ pub record Says (course : Course) (frames text : List ℕ) : Type 0 where
 
 -- The frames of the first messages that were sent, and the lines of the first reports.
 pub record SaysSome (course : Course) (frames text : List ℕ) : Type 0 where
-  pub messages : List ClientMessage
-  pub later_messages : List ClientMessage
-  pub sent_are : course.sent ≡ messages ++ later_messages
-  pub frames_are : AreFrames (map client_message messages) frames
+  pub messages : List MessageTree
+  pub later_messages : List MessageTree
+  pub sent_are : map client_message course.sent ≡ messages ++ later_messages
+  pub frames_are : AreFrames messages frames
   pub reports : List (List Tree)
   pub later_reports : List (List Tree)
   pub reports_are : course.reports ≡ reports ++ later_reports
