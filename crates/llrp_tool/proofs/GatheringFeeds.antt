@@ -18,7 +18,8 @@ use Rattle.llrp_tool.specs.declared.gathering.Gathering.{Gathering}
 use Rattle.llrp_tool.specs.declared.gathering.Phase.{Phase}
 use Rattle.llrp_tool.specs.Plan.{Plan}
 use Rattle.llrp_tool.specs.Gathering.{Course, begun, after_item, goes, follow, Gathers}
-use Rattle.llrp_tool.specs.GatheringStands.{Holds, StandsFor, Stops, Does, Fails, Feeds, error_by}
+use Rattle.llrp_tool.specs.Fault.{error_by}
+use Rattle.llrp_tool.specs.GatheringStands.{Holds, StandsFor, Stops, Does, Fails, Feeds}
 use Rattle.llrp_tool.proofs.GatheringLemmas.{open_text, some_all, still, moves_on, stops_after}
 
 -- ---- items

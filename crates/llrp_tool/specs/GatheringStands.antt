@@ -3,8 +3,6 @@ use Rattle.std.specs.Prelude.{◌≡◌, ℕ, ◌++◌, List, [], ◌∷◌, map
 use Rattle.llrp_tree.specs.Tree.{Tree}
 use Rattle.llrp_stream.specs.Cuts.{Breaks}
 use Rattle.llrp_stream.specs.Decoding.{Stands}
-use Rattle.llrp_stream.specs.declared.item.FeedErr.{FeedErr}
-use Rattle.llrp_stream.specs.declared.item.FeedErr.TheVariants as decoder
 use Rattle.llrp_session.specs.declared.client.refusal.CmdFault.{CmdFault}
 use Rattle.llrp_session.specs.declared.client.refusal.CmdFault.TheVariants as command
 use Rattle.llrp_session.specs.declared.client.refusal.TakeFault.{TakeFault}
@@ -158,12 +156,6 @@ abbrev pub phase_left : Result Bool ToolErr → Phase
 phase_left (Ok false) = Open
 phase_left (Ok true) = Closed
 phase_left (Err error) = Failed error
-
--- the error of a decoder that takes nothing more
-abbrev pub error_by : FeedErr → ToolErr
-error_by decoder.Broken = Broken
-error_by decoder.Memory = Memory
-error_by decoder.Dead = Memory
 
 -- the errors of a client that refuses
 abbrev pub error_by_command : CmdFault → ToolErr

@@ -6,6 +6,7 @@ pub mod Encoder
 pub mod Encoding
 pub mod EndsStand
 pub mod EpcLines
+pub mod Fault
 pub mod FirstRefusal
 pub mod Gathering
 pub mod GatheringStands

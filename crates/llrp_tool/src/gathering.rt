@@ -6,20 +6,20 @@ ghost use Rattle.llrp_tree.specs.declared.TheConstants.{MAX_LIMIT};
 ghost use Rattle.llrp_tree.specs.Tree.{Tree};
 ghost use Rattle.llrp_tool.specs.declared.fault.ToolErr.{ToolErr as Error};
 ghost use Rattle.llrp_tool.specs.Gathering.{Course};
-ghost use Rattle.llrp_tool.specs.GatheringStands.{error_by, error_by_command, error_by_message, phase_left};
+ghost use Rattle.llrp_tool.specs.GatheringStands.{error_by_command, error_by_message, phase_left};
 ghost use Rattle.llrp_tool.specs.Plan.{Plan as ThePlan};
 
 mod left;
 mod lines;
 
-use crate::fault::ToolErr;
+use crate::fault::{ToolErr, error_of};
 use crate::plan::Plan;
 use crate::sending::append_frames;
 use crate::summary::Summary;
 use left::{Left, awaited_after};
 use lines::{report_lines, total_line};
 use llrp_session::{Client, CmdFault, TakeFault, Taken};
-use llrp_stream::{Decoder, Fed, FeedErr, Item};
+use llrp_stream::{Decoder, Fed, Item};
 use llrp_tree::{Message, Nodes, Reason};
 use std::alloc::Global;
 
@@ -56,16 +56,6 @@ pub struct Gathering {
     awaits: Awaits,
     summary: Summary,
     phase: Phase,
-}
-
-/// The error of a decoder that takes nothing more.
-fn error_of(error: FeedErr) -> ToolErr
-    ensures { result ≡ error_by error }
-{
-    match error {
-        FeedErr::Broken => ToolErr::Broken,
-        FeedErr::Memory | FeedErr::Dead => ToolErr::Memory,
-    }
 }
 
 impl Gathering {
