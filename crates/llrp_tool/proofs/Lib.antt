@@ -2,6 +2,7 @@ pub mod ActingLemmas
 pub mod AnswerLemmas
 pub mod BodyWords
 pub mod Clear
+pub mod ClientSideLemmas
 pub mod Closings
 pub mod CommandLemmas
 pub mod Cutting
@@ -23,6 +24,7 @@ pub mod LineSays
 pub mod LineShape
 pub mod LineWords
 pub mod Listed
+pub mod LoopLemmas
 pub mod NumberWords
 pub mod Numerals
 pub mod OneEpcAnswer

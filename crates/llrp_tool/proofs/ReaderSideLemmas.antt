@@ -9,14 +9,14 @@ use Rattle.llrp_tool.specs.declared.fault.ToolErr.{ToolErr}
 use Rattle.llrp_tool.specs.declared.fault.ToolErr.TheVariants.{Listing, Script, Hex, Read, Write, Bound, Broken, Memory, Peer, Strange, Early}
 use Rattle.llrp_tool.specs.declared.script.Entry.{Entry}
 use Rattle.llrp_tool.specs.declared.serving.Serving.{Serving}
-use Rattle.llrp_tool.specs.Acting.{Adds}
 use Rattle.llrp_tool.specs.EndsStand.{spoken, heard, IsServing, ReadsNone, ReadsPiece, Given, ReaderStands, ReaderStops}
-use Rattle.llrp_tool.specs.RunLoop.{Ends, ReaderGoes}
+use Rattle.llrp_tool.specs.RunLoop.{Ends, Traffic, ReaderGoes}
 use Rattle.llrp_tool.specs.RunServe.{WasGiven}
-use Rattle.llrp_tool.specs.Serving.{AreFrames, HasClosed}
+use Rattle.llrp_tool.specs.Sending.{AreFrames, Adds}
+use Rattle.llrp_tool.specs.Serving.{HasClosed}
 use Rattle.llrp_tool.specs.ServingStands.{IsOpen, IsClosed, Starts, Feeds}
-use Rattle.llrp_tool.proofs.ActingLemmas.{frames_append}
-use Rattle.llrp_tool.proofs.HearingLemmas.{Hearing, hearing_none, hearing_more}
+use Rattle.llrp_tool.proofs.HearingLemmas.{Hearing, hearing_none, hearing_more, was_given}
+use Rattle.llrp_tool.proofs.SendingLemmas.{frames_append}
 
 -- ---- what it says
 
@@ -24,10 +24,10 @@ frames_behind : (a b : List MessageTree) (written old new : List ℕ) → AreFra
 frames_behind a b written old new p q =
     subst (λ (x : List ℕ). AreFrames (a ++ b) x) (append_assoc written old q.text ∙ ap (λ (x : List ℕ). written ++ x) (sym q.whole)) (frames_append a b (written ++ old) q.text p q.frames)
 
-pub reader_goes : (e : Ends) (written read : List ℕ) (s : Serving) (left : List ℕ) → ReaderStands e written read s left → ReaderGoes e (spoken written left) (heard read)
-reader_goes e written read s left h = by_serving h.serving
+pub reader_goes : (e : Ends) (down up : Traffic) (s : Serving) → ReaderStands e down.written up.read s down.unwritten → ReaderGoes e down up
+reader_goes e down up s h = by_serving h.serving
   where
-    by_serving : IsServing e.reader e.entries read h.messages s → ReaderGoes e (spoken written left) (heard read)
+    by_serving : IsServing e.reader e.entries up.read h.messages s → ReaderGoes e down up
     by_serving (inl o) = inl (record { messages = h.messages; serves = o.stands.stays; frames = h.frames })
     by_serving (inr c) = inr (record { messages = h.messages; serves = c.1; frames = h.frames })
 
@@ -76,13 +76,13 @@ reader_takes e written read piece old out s new b h f = by_serving h.serving
         }
 
 -- a feed ends it
-pub reader_fails : (e : Ends) (r0 r1 : SourceLog) (written read piece old out : List ℕ) (s new : Serving) (error : ToolErr) → ReaderStands e written read s old → Fed s new piece old out (Err error) → WasGiven r0 r1 (read ++ piece)
-    → ReaderStops e r0 r1 (spoken written out) (heard (read ++ piece)) error
-reader_fails e r0 r1 written read piece old out s new error h f given = by_serving h.serving
+pub reader_fails : (e : Ends) (r0 r1 : SourceLog) (down up : Traffic) (read piece old out : List ℕ) (s new : Serving) (error : ToolErr) → ReaderStands e down.written read s old → Fed s new piece old out (Err error) → WasGiven r0 r1 (read ++ piece)
+    → ReaderStops e r0 r1 (spoken down out) (heard up (read ++ piece)) error
+reader_fails e r0 r1 down up read piece old out s new error h f given = by_serving h.serving
   where
-    by_error : (error : ToolErr) → Feeds e.reader e.entries read h.messages piece new old out (Err error) → ReaderStops e r0 r1 (spoken written out) (heard (read ++ piece)) error
-    by_error Broken w = (given, record { messages = h.messages ++ w.0; serves = w.2; frames = frames_behind h.messages w.0 written old out h.frames w.1 })
-    by_error Memory w = (given, h.messages ++ w.0, w.2, frames_behind h.messages w.0 written old out h.frames w.1)
+    by_error : (error : ToolErr) → Feeds e.reader e.entries read h.messages piece new old out (Err error) → ReaderStops e r0 r1 (spoken down out) (heard up (read ++ piece)) error
+    by_error Broken w = (given, record { messages = h.messages ++ w.0; serves = w.2; frames = frames_behind h.messages w.0 down.written old out h.frames w.1 })
+    by_error Memory w = (given, (h.messages ++ w.0, w.2, frames_behind h.messages w.0 down.written old out h.frames w.1))
     by_error (Listing line reason) w = absurd w.2
     by_error (Script line) w = absurd w.2
     by_error Hex w = absurd w.2
@@ -93,18 +93,18 @@ reader_fails e r0 r1 written read piece old out s new error h f given = by_servi
     by_error (Peer status) w = absurd w.2
     by_error Strange w = absurd w.2
 
-    by_serving : IsServing e.reader e.entries read h.messages s → ReaderStops e r0 r1 (spoken written out) (heard (read ++ piece)) error
+    by_serving : IsServing e.reader e.entries read h.messages s → ReaderStops e r0 r1 (spoken down out) (heard up (read ++ piece)) error
     by_serving (inl o) = by_error error (f.feeds e.reader e.entries read h.messages o)
     by_serving (inr c) = let never = (f.closed c.0).0 in absurd cc
 
 -- no read gives bytes
-pub reader_unread : (e : Ends) (r0 r1 : SourceLog) (written read left : List ℕ) (s : Serving) (error : ToolErr) → ReaderStands e written read s left → ReadsNone r0 r1 read error → ReaderStops e r0 r1 (spoken written left) (heard read) error
-reader_unread e r0 r1 written read left s error h n = by_error error n
+pub reader_unread : (e : Ends) (r0 r1 : SourceLog) (down up : Traffic) (s : Serving) (error : ToolErr) → ReaderStands e down.written up.read s down.unwritten → ReadsNone r0 r1 up.read error → ReaderStops e r0 r1 down up error
+reader_unread e r0 r1 down up s error h n = by_error error n
   where
-    by_error : (error : ToolErr) → ReadsNone r0 r1 read error → ReaderStops e r0 r1 (spoken written left) (heard read) error
-    by_error Read n = (n, reader_goes e written read s left h)
-    by_error Bound n = (n, reader_goes e written read s left h)
-    by_error Early n = (n, reader_goes e written read s left h)
+    by_error : (error : ToolErr) → ReadsNone r0 r1 up.read error → ReaderStops e r0 r1 down up error
+    by_error Read n = (n, reader_goes e down up s h)
+    by_error Bound n = (n, reader_goes e down up s h)
+    by_error Early n = (n, reader_goes e down up s h)
     by_error Write n = absurd n
     by_error Broken n = absurd n
     by_error Memory n = absurd n
@@ -133,3 +133,23 @@ reader_steps e r0 r1 r2 written read piece count left n reads0 reads1 reads2 s n
   hearing = hearing_more r0 r1 r2 read f.bytes piece count left n reads0 reads1 reads2 f.hearing (reads r0 (read ++ f.bytes) f.hearing.given) is within;
   stands = subst (λ (x : List ℕ). ReaderStands e written x new out) (append_assoc read f.bytes piece) (reader_takes e written (read ++ f.bytes) piece old out s new b f.stands fed);
 }
+
+-- it stopped in the loop
+pub reader_stops_unread : (e : Ends) (r0 r1 r2 : SourceLog) (down up : Traffic) (count left reads0 reads1 : ℕ) (s : Serving) (out : List ℕ) (error : ToolErr) → ReaderSoFar e r0 r1 down.written up.read count left reads0 reads1 s out
+    → ((r0 : SourceLog) (before : List ℕ) → Given r0 r1 reads1 before → ReadsNone r0 r2 before error) → (bytes : List ℕ) × (length bytes ≤ count) × ReaderStops e r0 r2 (spoken down out) (heard up (up.read ++ bytes)) error
+reader_stops_unread e r0 r1 r2 down up count left reads0 reads1 s out error f none =
+    let counted = f.hearing.counted in
+    (f.bytes, omega arith, reader_unread e r0 r2 (spoken down out) (heard up (up.read ++ f.bytes)) s error f.stands (none r0 (up.read ++ f.bytes) f.hearing.given))
+
+pub reader_stops_fed : (e : Ends) (r0 r1 r2 : SourceLog) (down up : Traffic) (piece : List ℕ) (count left n reads0 reads1 reads2 : ℕ) (s new : Serving) (old out : List ℕ) (error : ToolErr) → ReaderSoFar e r0 r1 down.written up.read count left reads0 reads1 s old
+    → ((r0 : SourceLog) (before : List ℕ) → Given r0 r1 reads1 before → ReadsPiece r0 r2 reads1 reads2 before piece) → length piece ≡ n → n ≤ left → Fed s new piece old out (Err error)
+    → (bytes : List ℕ) × (length bytes ≤ count) × ReaderStops e r0 r2 (spoken down out) (heard up (up.read ++ bytes)) error
+reader_stops_fed e r0 r1 r2 down up piece count left n reads0 reads1 reads2 s new old out error f reads is within fed =
+    let more = hearing_more r0 r1 r2 up.read f.bytes piece count left n reads0 reads1 reads2 f.hearing (reads r0 (up.read ++ f.bytes) f.hearing.given) is within in
+    let counted = more.counted in
+    let behind = append_assoc up.read f.bytes piece in (
+      f.bytes ++ piece,
+      omega arith,
+      subst (λ (x : List ℕ). ReaderStops e r0 r2 (spoken down out) (heard up x) error) behind
+          (reader_fails e r0 r2 down up (up.read ++ f.bytes) piece old out s new error f.stands fed (subst (λ (x : List ℕ). WasGiven r0 r2 x) (sym behind) (was_given r0 r2 reads2 (up.read ++ (f.bytes ++ piece)) more.given))),
+    )

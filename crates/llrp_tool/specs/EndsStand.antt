@@ -17,7 +17,8 @@ use Rattle.llrp_tool.specs.GatheringStands.{IsOpen as Follows, Counts}
 use Rattle.llrp_tool.specs.RunInventory.{Says, Ended}
 use Rattle.llrp_tool.specs.RunServe.{WasGiven}
 use Rattle.llrp_tool.specs.RunLoop.{Ends, Traffic, GivenAndFailed, GivenByMost, ReaderSays, ReaderGoes, ReaderBegins, ClientAwaits, ClientBreaksOff, ClientEnded, ClientBegins, ReportFailed, SaidAll}
-use Rattle.llrp_tool.specs.Serving.{AreFrames, broken, closed, Serves}
+use Rattle.llrp_tool.specs.Sending.{AreFrames}
+use Rattle.llrp_tool.specs.Serving.{broken, closed, Serves}
 use Rattle.llrp_tool.specs.ServingStands.{IsOpen, IsClosed}
 
 -- ---- pieces
@@ -63,12 +64,13 @@ pub record HasRoom (log : SourceLog) (reads : ℕ) : Type 0 where
   pub ends_fit : log.ends < 2 ^ 63
   pub failures_fit : log.failures < 2 ^ 63
 
--- what one end said on a way, and what the other end read there
-abbrev pub spoken : List ℕ → List ℕ → Traffic
-spoken written unwritten = record { written = written; unwritten = unwritten; read = [] }
+-- so much is left of what was said
+abbrev pub spoken : Traffic → List ℕ → Traffic
+spoken bytes left = record bytes { unwritten = left }
 
-abbrev pub heard : List ℕ → Traffic
-heard read = record { written = []; unwritten = []; read = read }
+-- so much was read
+abbrev pub heard : Traffic → List ℕ → Traffic
+heard bytes read = record bytes { read = read }
 
 -- ---- the reader's side
 
@@ -97,11 +99,11 @@ ReaderStops e r0 r1 down up (Script line) = ⊥
 ReaderStops e r0 r1 down up Hex = ⊥
 
 -- It read so many bytes more, and took them; or it stopped before.
-abbrev pub ReaderHears : Ends → SourceLog → SourceLog → List ℕ → List ℕ → ℕ → ReaderSide → ReaderSide → Result (Unit {0}) ToolErr → Type 0
-ReaderHears e r0 r1 written read count old new (Ok u) =
-    (bytes : List ℕ) × (length bytes ≡ count) × Given r0 r1 new.reads (read ++ bytes) × ReaderStands e written (read ++ bytes) new.serving new.said.items × (0 < count → old.reads < new.reads)
-ReaderHears e r0 r1 written read count old new (Err error) =
-    (bytes : List ℕ) × (length bytes ≤ count) × ReaderStops e r0 r1 (spoken written new.said.items) (heard (read ++ bytes)) error
+abbrev pub ReaderHears : Ends → SourceLog → SourceLog → Traffic → Traffic → ℕ → ReaderSide → ReaderSide → Result (Unit {0}) ToolErr → Type 0
+ReaderHears e r0 r1 down up count old new (Ok u) =
+    (bytes : List ℕ) × (length bytes ≡ count) × Given r0 r1 new.reads (up.read ++ bytes) × ReaderStands e down.written (up.read ++ bytes) new.serving new.said.items × (0 < count → old.reads < new.reads)
+ReaderHears e r0 r1 down up count old new (Err error) =
+    (bytes : List ℕ) × (length bytes ≤ count) × ReaderStops e r0 r1 (spoken down new.said.items) (heard up (up.read ++ bytes)) error
 
 -- ---- the client's side
 
@@ -130,11 +132,11 @@ ClientStops e r0 r1 p0 p1 down up (Script line) = ⊥
 ClientStops e r0 r1 p0 p1 down up Hex = ⊥
 
 -- It read so many bytes more, and took them; or the connection was closed as planned; or it stopped before.
-abbrev pub ClientHears : Ends → SourceLog → SourceLog → SinkLog → SinkLog → List ℕ → List ℕ → ℕ → ClientSide → ClientSide → Result Bool ToolErr → Type 0
-ClientHears e r0 r1 p0 p1 written read count old new (Ok false) =
-    (bytes : List ℕ) × (length bytes ≡ count) × Given r0 r1 new.reads (read ++ bytes) × ClientStands e written (read ++ bytes) p0 p1 new.gathering new.said.items new.lines.items × (0 < count → old.reads < new.reads)
-ClientHears e r0 r1 p0 p1 written read count old new (Ok true) =
-    (bytes : List ℕ) × (length bytes ≤ count) × WasGiven r0 r1 (read ++ bytes)
-    × (course : Course) × Ended Closed e.limit e.plan (read ++ bytes) course × SaidAll course (spoken written new.said.items) p0 p1 × Counts course.reports new.gathering
-ClientHears e r0 r1 p0 p1 written read count old new (Err error) =
-    (bytes : List ℕ) × (length bytes ≤ count) × ClientStops e r0 r1 p0 p1 (heard (read ++ bytes)) (spoken written new.said.items) error
+abbrev pub ClientHears : Ends → SourceLog → SourceLog → SinkLog → SinkLog → Traffic → Traffic → ℕ → ClientSide → ClientSide → Result Bool ToolErr → Type 0
+ClientHears e r0 r1 p0 p1 down up count old new (Ok false) =
+    (bytes : List ℕ) × (length bytes ≡ count) × Given r0 r1 new.reads (down.read ++ bytes) × ClientStands e up.written (down.read ++ bytes) p0 p1 new.gathering new.said.items new.lines.items × (0 < count → old.reads < new.reads)
+ClientHears e r0 r1 p0 p1 down up count old new (Ok true) =
+    (bytes : List ℕ) × (length bytes ≤ count) × WasGiven r0 r1 (down.read ++ bytes)
+    × (course : Course) × Ended Closed e.limit e.plan (down.read ++ bytes) course × SaidAll course (spoken up new.said.items) p0 p1 × Counts course.reports new.gathering
+ClientHears e r0 r1 p0 p1 down up count old new (Err error) =
+    (bytes : List ℕ) × (length bytes ≤ count) × ClientStops e r0 r1 p0 p1 (heard down (down.read ++ bytes)) (spoken up new.said.items) error

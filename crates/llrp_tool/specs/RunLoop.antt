@@ -14,7 +14,8 @@ use Rattle.llrp_tool.specs.Gathering.{Course}
 use Rattle.llrp_tool.specs.Plan.{Plan}
 use Rattle.llrp_tool.specs.RunInventory.{Says, Awaits, BreaksOff, Ended, BeginsSaying}
 use Rattle.llrp_tool.specs.RunServe.{BeginsFrames, WasGiven}
-use Rattle.llrp_tool.specs.Serving.{AreFrames, Standing, waiting, closed, broken, Serves}
+use Rattle.llrp_tool.specs.Sending.{AreFrames}
+use Rattle.llrp_tool.specs.Serving.{Standing, waiting, closed, broken, Serves}
 use Rattle.llrp_tool.specs.TagLines.{summary_of}
 
 -- ---- the connection

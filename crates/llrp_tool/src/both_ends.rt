@@ -1,6 +1,6 @@
 //! Both ends of one connection: a simulated reader that acts by a script, and a client that follows a plan.
 
-ghost use Rattle.std.specs.Prelude.{◌<◌, ◌≤◌, ◌^◌};
+ghost use Rattle.std.specs.Prelude.{◌<◌, ◌↔◌, ◌≡◌, ◌≤◌, ◌^◌, [], IsTrue};
 ghost use Rattle.llrp_tree.specs.declared.TheConstants.{MAX_LIMIT};
 ghost use Rattle.llrp_stream.specs.Device.{IsFreshSource};
 ghost use Rattle.llrp_tool.specs.RunLoop.{RunsLoop, Traffic};
@@ -28,6 +28,13 @@ pub struct Endpoint<R: Source, W: Sink> {
     pub source: R,
     /// What goes to the other end.
     pub sink: W,
+}
+
+/// Whether neither side has bytes to send.
+fn are_silent(reader: &ReaderSide, client: &ClientSide) -> bool
+    ensures { IsTrue result ↔ ((reader.now.said.items ≡ []) × (client.now.said.items ≡ [])) }
+{
+    reader.said.is_empty() && client.said.is_empty()
 }
 
 /// A simulated reader that acts by the script serves at `reader_end` the client that follows the plan at
@@ -71,9 +78,9 @@ pub fn run_loop<CR: Source, CW: Sink, RR: Source, RW: Sink, P: Sink>(
         })
         down up result }
 {
-    let mut reader = ReaderSide::new(alloc, core, script)?;
     let mut client = ClientSide::new(alloc, plan, limit);
-    while !(reader.said.is_empty() && client.said.is_empty()) {
+    let mut reader = ReaderSide::new(alloc, core, script)?;
+    while !are_silent(&reader, &client) {
         let down = write_piece(&mut reader.said, &mut reader_end.sink)?;
         let closed = client.hear(down, &mut client_end.source, report)?;
         if closed {

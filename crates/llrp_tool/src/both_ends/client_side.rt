@@ -4,7 +4,7 @@ ghost use Rattle.std.specs.Prelude.{◌≡◌, ◌≤◌, ◌<◌, ◌^◌, [], 
 ghost use Rattle.llrp_stream.specs.Device.{SinkLog, SourceLog};
 ghost use Rattle.llrp_tree.specs.declared.TheConstants.{MAX_LIMIT};
 ghost use Rattle.llrp_tool.specs.EndsStand.{ClientHears, ClientStands, Given, HasRoom};
-ghost use Rattle.llrp_tool.specs.RunLoop.{Ends};
+ghost use Rattle.llrp_tool.specs.RunLoop.{Ends, Traffic};
 
 use super::pieces::read_piece;
 use crate::copying::{READ_SIZE, hand_on};
@@ -54,16 +54,18 @@ impl ClientSide {
         requires room { HasRoom (R.log r.old) self.old.reads }
         requires report { (P.log report.old).failures < 2 ^ 63 }
         ensures room { OnOk result (HasRoom (R.log r.new) self.new.reads) }
-        ensures hears { (e : Ends) (r0 : SourceLog) (p0 : SinkLog) (written read : List ℕ) → ClientStands e written read p0 (P.log report.old) self.old.gathering self.old.said.items self.old.lines.items → Given r0 (R.log r.old) self.old.reads read
-            → ClientHears e r0 (R.log r.new) p0 (P.log report.new) written read count self.old self.new result }
+        ensures idle { count ≡ 0 → self.new ≡ self.old }
+        ensures hears { (e : Ends) (r0 : SourceLog) (p0 : SinkLog) (down up : Traffic) → ClientStands e up.written down.read p0 (P.log report.old) self.old.gathering self.old.said.items self.old.lines.items
+            → Given r0 (R.log r.old) self.old.reads down.read → ClientHears e r0 (R.log r.new) p0 (P.log report.new) down up count self.old self.new result }
     {
         let mut buffer = [0u8; READ_SIZE];
         let mut left = count;
         while left > 0 {
-            let n = read_piece(r, &mut buffer[..left], &mut self.reads)?;
+            let piece = &mut buffer[..left];
+            let n = read_piece(r, piece, &mut self.reads)?;
             let fed = self
                 .gathering
-                .feed(&buffer[..n], &mut self.said, &mut self.lines);
+                .feed(&piece[..n], &mut self.said, &mut self.lines);
             hand_on(&mut self.lines, report)?;
             let closed = fed?;
             if closed {

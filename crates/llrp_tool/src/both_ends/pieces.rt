@@ -50,6 +50,7 @@ pub(super) fn read_piece<R: Source>(
 ) -> Result<usize, ToolErr>
     requires room { HasRoom (R.log r.old) reads.old }
     requires buffer { 0 < length buffer.old }
+    ensures some { IfOk result (λ n. 0 < n) }
     ensures within { IfOk result (λ n. n ≤ length buffer.new) }
     ensures ok { IfOk result (λ n. (r0 : SourceLog) (before : List ℕ) → Given r0 (R.log r.old) reads.old before
         → ReadsPiece r0 (R.log r.new) reads.old reads.new before (take n buffer.new)) }

@@ -3,7 +3,7 @@
 ghost use Rattle.std.specs.Prelude.{◌≡◌, ◌≢◌, ◌≤◌, [], IfErr, IfOk, List, OnOk, ℕ};
 ghost use Rattle.llrp_stream.specs.Device.{SourceLog};
 ghost use Rattle.llrp_tool.specs.EndsStand.{Given, HasRoom, ReaderHears, ReaderStands};
-ghost use Rattle.llrp_tool.specs.RunLoop.{Ends};
+ghost use Rattle.llrp_tool.specs.RunLoop.{Ends, Traffic};
 ghost use Rattle.llrp_tool.specs.RunServe.{BeginsFrames};
 ghost use Rattle.llrp_tool.specs.Serving.{IsNewReader};
 ghost use Rattle.llrp_tool.specs.declared.fault.ToolErr.TheVariants.{Memory};
@@ -54,15 +54,16 @@ impl ReaderSide {
         requires started { self.old.serving.phase ≢ Phase.New }
         ensures room { OnOk result (HasRoom (R.log r.new) self.new.reads) }
         ensures started { self.new.serving.phase ≢ Phase.New }
-        ensures hears { (e : Ends) (r0 : SourceLog) (written read : List ℕ) → ReaderStands e written read self.old.serving self.old.said.items → Given r0 (R.log r.old) self.old.reads read
-            → ReaderHears e r0 (R.log r.new) written read count self.old self.new result }
+        ensures idle { count ≡ 0 → self.new ≡ self.old }
+        ensures hears { (e : Ends) (r0 : SourceLog) (down up : Traffic) → ReaderStands e down.written up.read self.old.serving self.old.said.items → Given r0 (R.log r.old) self.old.reads up.read
+            → ReaderHears e r0 (R.log r.new) down up count self.old self.new result }
     {
         let mut buffer = [0u8; READ_SIZE];
         let mut left = count;
         while left > 0 {
             let piece = &mut buffer[..left];
             let n = read_piece(r, piece, &mut self.reads)?;
-            let _closed = self.serving.feed(&piece[..n], &mut self.said)?;
+            self.serving.feed(&piece[..n], &mut self.said)?;
             left -= n;
         }
         Ok(())
