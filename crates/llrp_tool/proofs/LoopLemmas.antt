@@ -1,5 +1,5 @@
 -- Both ends of a connection in turn.
-use Rattle.std.proofs.Common.{◌≡◌, ℕ, ◌+◌, ◌<◌, ◌≤◌, true, false, List, [], ◌++◌, length, map, Bool, Result, Ok, Err, refl, sym, ap, subst, ◌∙◌, append_assoc, length-append, inl, inr, arith}
+use Rattle.std.proofs.Common.{◌≡◌, ℕ, zero, suc, ◌+◌, ◌-◌, ◌<◌, ◌≤◌, true, false, List, [], ◌++◌, length, map, Bool, IsTrue, Result, Ok, Err, refl, sym, ap, subst, ◌∙◌, append_assoc, length-append, inl, inr, arith}
 use Rattle.std.proofs.lemmas.List.{append-nil}
 use Rattle.llrp_tree.specs.Tree.{Tree}
 use Rattle.llrp_stream.specs.Device.{SourceLog, SinkLog, IsFreshSource, Wrote, WroteAndFailed}
@@ -352,3 +352,28 @@ reader_stopped e o down up report r r' c source n error s a_piece hears =
       reader_ends_loop e o (record { down = down; up = new; report = report }) below above error (fine o.down down c.reads below s.down_wrote s.down_given (omega arith) (omega arith)) (passed o.up new above s.up_wrote (omega arith) (omega arith))
           (client_awaits e below above o.report report c.gathering c.lines.items s.client) h.2,
     )
+
+-- ---- the loop ends
+
+-- a piece that was written down makes the client read
+pub down_counts : (e : Ends) (o : Devices) (down up : Way) (report report' : SinkLog) (r : ReaderSide) (c c' : ClientSide) (source : SourceLog) (n : ℕ) (b : Bool) → b ≡ false → (s : State e o down up report r c n 0)
+    → ((e : Ends) (s0 : SourceLog) (p0 : SinkLog) (below above : Traffic) → ClientStands e above.written below.read p0 report c.gathering c.said.items c.lines.items → Given s0 down.source c.reads below.read → ClientHears e s0 source p0 report' below above n c c' (Ok b))
+    → 0 < n → c.reads < c'.reads
+down_counts e o down up report report' r c c' source n true is s hears = absurd cc
+down_counts e o down up report report' r c c' source n false is s hears = (hears e o.down.source o.report (down_of e o down up report r c n 0 s) (up_of e o down up report r c n 0 s) s.client s.down_given).4
+
+-- a piece that was written up makes the reader read
+pub up_counts : (e : Ends) (o : Devices) (down up : Way) (report : SinkLog) (r r' : ReaderSide) (c : ClientSide) (source : SourceLog) (n : ℕ) (u : Unit {0}) (s : State e o down up report r c 0 n)
+    → ((e : Ends) (s0 : SourceLog) (below above : Traffic) → ReaderStands e below.written above.read r.serving r.said.items → Given s0 up.source r.reads above.read → ReaderHears e s0 source below above n r r' (Ok u)) → 0 < n → r.reads < r'.reads
+up_counts e o down up report r r' c source n u s hears = (hears e o.up.source (down_of e o down up report r c 0 n s) (up_of e o down up report r c 0 n s) s.reader s.up_given).4
+
+pub not_silent : (b : Bool) {P Q : Type 0} → (P × Q → IsTrue b) → b ≡ false → P → Q → ⊥
+not_silent b f is p q = let yes : b ≡ true = f (p, q) in absurd cc
+
+-- A turn makes a read of one end or of the other.
+pub fewer_left : (most a a' b b' down up : ℕ) {P Q : Type 0} → a' ≤ most → b' ≤ most → (down ≡ 0 → P) → (0 < down → a < a') → (down ≡ 0 → a' ≡ a) → (down ≡ 0 → up ≡ 0 → Q) → (0 < up → b < b') → (up ≡ 0 → b' ≡ b) → (P → Q → ⊥)
+    → most - a' + (most - b') < most - a + (most - b)
+fewer_left most a a' b b' zero zero few_a few_b p more_a same_a q more_b same_b never = absurd (never (p refl) (q refl refl))
+fewer_left most a a' b b' zero (suc u) few_a few_b p more_a same_a q more_b same_b never = let same = same_a refl in let more = more_b (omega arith) in omega arith
+fewer_left most a a' b b' (suc d) zero few_a few_b p more_a same_a q more_b same_b never = let more = more_a (omega arith) in let same = same_b refl in omega arith
+fewer_left most a a' b b' (suc d) (suc u) few_a few_b p more_a same_a q more_b same_b never = let more = more_a (omega arith) in let further = more_b (omega arith) in omega arith
