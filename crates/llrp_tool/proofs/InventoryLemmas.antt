@@ -34,7 +34,7 @@ frames_more : (a b : List ClientMessage) (x y : List ℕ) → AreFrames (map cli
 frames_more a b x y p q = rw (map-append client_message a b) (frames_append (map client_message a) (map client_message b) x y p q)
 
 -- a course that goes on says so much more
-goes_on_saying : (c d : Course) (frames text o0 o1 r0 r1 : List ℕ) → Says c frames text → c.phase ≡ Open → o0 ≡ [] → r0 ≡ [] → Moves c d o0 o1 r0 r1 → Says d (frames ++ o1) (text ++ r1)
+pub goes_on_saying : (c d : Course) (frames text o0 o1 r0 r1 : List ℕ) → Says c frames text → c.phase ≡ Open → o0 ≡ [] → r0 ≡ [] → Moves c d o0 o1 r0 r1 → Says d (frames ++ o1) (text ++ r1)
 goes_on_saying c d frames text o0 o1 r0 r1 s opened no_frames no_text m =
     let before : text ≡ s.lines = s.text_is ∙ ap (λ (x : List ℕ). s.lines ++ x) (open_text c.phase c.reports opened) ∙ append-nil s.lines in
     let last = closing_text d.phase d.reports in
@@ -64,7 +64,7 @@ goes_on_saying_some c d frames text o0 o1 r0 r1 s opened no_frames no_text m =
     }
 
 -- whatever a feed answers
-says_so_far : (limit : ℕ) (plan : Plan) (bytes : List ℕ) (c : Course) (g : Gathering) (frames text o0 o1 r0 r1 : List ℕ) (answer : Result Bool ToolErr) → Says c frames text → c.phase ≡ Open → o0 ≡ [] → r0 ≡ [] → Feeds limit plan bytes c g o0 o1 r0 r1 answer
+pub says_so_far : (limit : ℕ) (plan : Plan) (bytes : List ℕ) (c : Course) (g : Gathering) (frames text o0 o1 r0 r1 : List ℕ) (answer : Result Bool ToolErr) → Says c frames text → c.phase ≡ Open → o0 ≡ [] → r0 ≡ [] → Feeds limit plan bytes c g o0 o1 r0 r1 answer
     → BeginsSaying limit plan bytes (frames ++ o1) (text ++ r1)
 says_so_far limit plan bytes c g frames text o0 o1 r0 r1 answer s opened no_frames no_text feeds = by_answer answer feeds
   where
@@ -120,7 +120,7 @@ begins limit plan r w t g out lines opened no_frames no_text = record {
 }
 
 -- all frames of the bytes were taken
-awaits : (limit : ℕ) (plan : Plan) (bytes rest : List ℕ) (course : Course) (g : Gathering) → IsOpen limit plan bytes rest course g → Awaits limit plan bytes course
+pub awaits : (limit : ℕ) (plan : Plan) (bytes rest : List ℕ) (course : Course) (g : Gathering) → IsOpen limit plan bytes rest course g → Awaits limit plan bytes course
 awaits limit plan bytes rest course g h = (rest, h.stands.gathers, h.stands.open_is, h.stands.decoder.unfinished)
 
 wrote_so_far : (limit : ℕ) (plan : Plan) (r0 r1 : SourceLog) (w0 w1 t0 t1 : SinkLog) (n : ℕ) (g : Gathering) (out lines : List ℕ) (f : SoFar limit plan r0 r1 w0 w1 t0 t1 n g out lines) → WroteAll f.course w0 w1 t0 t1
@@ -191,7 +191,7 @@ wrote_piece limit plan r0 r1 r2 w0 w1 w2 t0 t1 t2 n g new out0 out1 lines0 lines
 
 -- ---- where writing stops
 
-only_write : (bytes : List ℕ) (old new : SinkLog) (error : ToolErr) → Writes bytes old new (Err error) → error ≡ Write
+pub only_write : (bytes : List ℕ) (old new : SinkLog) (error : ToolErr) → Writes bytes old new (Err error) → error ≡ Write
 only_write bytes old new Write w = refl
 only_write bytes old new Memory w = absurd w.2
 only_write bytes old new Read w = absurd w.2
@@ -205,7 +205,7 @@ only_write bytes old new Strange w = absurd w.2
 only_write bytes old new (Listing line reason) w = absurd w.2
 
 -- a front of what follows
-front_behind : (before front text : List ℕ) → IsPrefix front text → IsPrefix (before ++ front) (before ++ text)
+pub front_behind : (before front text : List ℕ) → IsPrefix front text → IsPrefix (before ++ front) (before ++ text)
 front_behind before front text p = (p.0, ap (λ (x : List ℕ). before ++ x) p.1 ∙ sym (append_assoc before front p.0))
 
 pub sent_in_part : (limit : ℕ) (plan : Plan) (r0 r1 r2 : SourceLog) (w0 w1 w2 t0 t1 : SinkLog) (n : ℕ) (g new : Gathering) (out0 out1 lines0 lines1 : List ℕ) (answer : Result Bool ToolErr) (error : ToolErr) → Piece limit plan r0 r1 r2 w0 w1 t0 t1 n g new out0 out1 lines0 lines1 answer

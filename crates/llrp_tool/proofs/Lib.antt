@@ -2,6 +2,7 @@ pub mod ActingLemmas
 pub mod AnswerLemmas
 pub mod BodyWords
 pub mod Clear
+pub mod ClientSideLemmas
 pub mod Closings
 pub mod CommandLemmas
 pub mod Cutting
@@ -15,6 +16,7 @@ pub mod GatheringFeeds
 pub mod GatheringLemmas
 pub mod GatheringSteps
 pub mod Growing
+pub mod HearingLemmas
 pub mod HexadecimalLemmas
 pub mod InventoryLemmas
 pub mod LawfulLines
@@ -22,6 +24,7 @@ pub mod LineSays
 pub mod LineShape
 pub mod LineWords
 pub mod Listed
+pub mod LoopLemmas
 pub mod NumberWords
 pub mod Numerals
 pub mod OneEpcAnswer
@@ -44,6 +47,7 @@ pub mod PlanTakings
 pub mod PrintingLemmas
 pub mod PrintsBack
 pub mod ReadBack
+pub mod ReaderSideLemmas
 pub mod Rows
 pub mod Running
 pub mod ScriptDeciding

@@ -102,7 +102,7 @@ write_fails reader entries r0 r1 w0 w1 w2 bytes before out (Listing line reason)
 
 -- ---- the start
 
-begins_start : (reader : Reader) (entries : List Entry) (s : Serving) (old out : List ℕ) (answer : Result (Unit {0}) ToolErr) → old ≡ [] → Starts reader entries s old out answer → BeginsFrames reader entries [] out
+pub begins_start : (reader : Reader) (entries : List Entry) (s : Serving) (old out : List ℕ) (answer : Result (Unit {0}) ToolErr) → old ≡ [] → Starts reader entries s old out answer → BeginsFrames reader entries [] out
 begins_start reader entries s old out (Ok u) none h = (h.0, begins_open reader entries [] h.0 waiting h.2.stands.stays, nothing_before h.0 old out none h.1)
 begins_start reader entries s old out (Err e) none h = (h.1, h.3, nothing_before h.1 old out none h.2)
 

@@ -4,6 +4,7 @@ pub mod Command
 pub mod Copying
 pub mod Encoder
 pub mod Encoding
+pub mod EndsStand
 pub mod EpcLines
 pub mod Fault
 pub mod FirstRefusal
@@ -28,6 +29,7 @@ pub mod Printing
 pub mod PrintingLaws
 pub mod Refused
 pub mod RunInventory
+pub mod RunLoop
 pub mod RunServe
 pub mod Script
 pub mod ScriptLaws

@@ -2,6 +2,7 @@
 //! stream of a listing, and the texts of EPC words. Sockets, files and the command line's process are not in here.
 #![tactic(auto)]
 
+mod both_ends;
 mod command;
 mod copying;
 mod decimal;
@@ -27,6 +28,7 @@ mod summary;
 mod tail;
 mod words;
 
+pub use both_ends::{Endpoint, run_loop};
 pub use command::{answer, run_command};
 pub use copying::{read_all, write_all};
 pub use encode::run_encode;
