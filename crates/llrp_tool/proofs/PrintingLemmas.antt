@@ -2,7 +2,8 @@
 use Rattle.std.proofs.Common.{◌≡◌, ℕ, zero, suc, ◌+◌, ◌-◌, ◌*◌, ◌<◌, ◌≤◌, ◌^◌, Bool, true, false, cond, List, [], ◌∷◌, ◌++◌, length, take, drop, get_or, map, filter, refl, sym, ap, subst, ◌∙◌, append_assoc, arith}
 use Rattle.std.specs.Prelude.{decimal, ◌&&◌, not, nat_lt, ◌==◌, if◌then◌else◌}
 use Rattle.std.specs.List.{flat_map, join_with_byte, AllZip}
-use Rattle.std.proofs.lemmas.List.{append-nil, take_more, take_all}
+use Rattle.std.proofs.lemmas.List.{append-nil, nil_from_length, take_more, take_all}
+use Rattle.std.proofs.lemmas.Fmt.{decimal_digit}
 use Rattle.std.proofs.lemmas.List.Concat.{flat_map-append}
 use Rattle.std.proofs.lemmas.Bool.{ltb-true}
 use Rattle.hex.specs.Hex.{encode_with, encode_lower, lower_digits}
@@ -192,9 +193,17 @@ lines_append a b s t p q = record {
   text_is = ap (λ (x : List ℕ). x ++ t) p.text_is ∙ ap (λ (x : List ℕ). flat_map (λ line. line) p.texts ++ x) q.text_is ∙ sym (flat_map-append (λ line. line) p.texts q.texts);
 }
 
+-- no line was appended
+pub no_lines : (text : List ℕ) → AppendsLines [] text text
+no_lines text = ([], sym (append-nil text), record { texts = []; each = tt; text_is = refl })
+
 -- lines were appended, and then others
 pub lines_more : (a b : List (ℕ × NodeLine)) (old mid new : List ℕ) → AppendsLines a old mid → AppendsLines b mid new → AppendsLines (a ++ b) old new
 lines_more a b old mid new p q = (p.0 ++ q.0, grown old mid new p.0 q.0 p.1 q.1, lines_append a b p.0 q.0 p.2 q.2)
+
+-- a line's first two words were appended
+pub start_appended : (level : ℕ) (name old mid new : List ℕ) → level < 10 → mid ≡ old ++ ((48 + level) ∷ 32 ∷ []) → new ≡ mid ++ name → new ≡ old ++ (decimal level ++ spaced (name ∷ []))
+start_appended level name old mid new small e f = rw (f, e, decimal_digit level small, append_assoc old ((48 + level) ∷ 32 ∷ []) name, append-nil name) refl
 
 -- ---- rows of parameters
 
@@ -248,12 +257,20 @@ row_more level ts cs i t old text mid new lt is e so here below =
 pub row_whole : (level : ℕ) (ts : List Tree) (i : ℕ) (old new : List ℕ) → length ts ≤ i → AppendsLines (parameter_lines level (forest (take i ts))) old new → AppendsLines (parameter_lines level (forest ts)) old new
 row_whole level ts i old new le h = rw (sym (take_all i ts le)) h
 
+-- of a parameter without children that is its line alone
+pub leaf_more : (level : ℕ) (ts cs : List Tree) (i : ℕ) (t : Tree) (old text new : List ℕ) → i < length ts → t ≡ get_or ts i t → cs ≡ trees t.children → length cs ≡ 0
+    → AppendsLines (parameter_lines level (forest (take i ts))) old text → AppendsLines ((level, parameter_line t.kind t.fields t.tail) ∷ []) text new
+    → AppendsLines (parameter_lines level (forest (take (i + 1) ts))) old new
+leaf_more level ts cs i t old text new lt is e few so here =
+    let empty : cs ≡ [] = nil_from_length cs few in
+    row_more level ts cs i t old text new new lt is e so here (subst (λ (x : List Tree). AppendsLines (parameter_lines (level + 1) (forest x)) new new) (sym empty) (no_lines new))
+
 few_levels : (f : Forest) → AllLawful f → levels f ≤ MAX_DEPTH
 few_levels none l = omega arith
 few_levels (and before kind fields tail children) l = let ih = few_levels before l.0 in omega (arith, l.1.deep)
 
 -- the parameters of a lawful message have few levels
-pub message_levels : (cs : List Tree) (m : MessageTree) → AllLawful m.children → cs ≡ trees m.children → 1 + levels (forest cs) < 256
+pub message_levels : (cs : List Tree) (m : MessageTree) → AllLawful m.children → cs ≡ trees m.children → 1 + levels (forest cs) ≤ 10
 message_levels cs m l e =
     let same : forest cs ≡ m.children = ap forest e ∙ forest-trees m.children in
     rw same (omega (arith, few_levels m.children l))

@@ -12,7 +12,6 @@ ghost use Rattle.llrp_tool.specs.Printing.{AppendsLines};
 mod numbers;
 mod tails;
 
-use itoa::Buffer;
 use llrp_schema::{Kind, fields, name, tail};
 use llrp_tree::{Message, Node};
 use numbers::push_fields;
@@ -22,17 +21,17 @@ pub(crate) use tails::push_tail;
 
 /// Appends the first two words of a line: the level and the kind's name.
 fn push_start(text: &mut Vec<u8>, level: u8, kind: Kind) -> Result<(), AllocError>
+    requires { level < 10 }
     ensures { OnOk result (text.new.items ≡ text.old.items ++ (decimal level ++ spaced (name_of kind ∷ []))) }
 {
-    let mut digits = Buffer::new();
-    text.extend_from_slice(digits.format(level).as_bytes())?;
-    text.extend_from_slice(b" ")?;
+    text.extend_from_slice(&[b'0' + level, b' '])?;
     text.extend_from_slice(name(kind).as_bytes())?;
     Ok(())
 }
 
 /// Appends the line of a parameter.
 fn push_parameter(text: &mut Vec<u8>, level: u8, node: &Node) -> Result<(), AllocError>
+    requires { level < 10 }
     ensures { OnOk result (AppendsLines ((level, parameter_line node.now.kind node.now.fields node.now.tail) ∷ []) text.old.items text.new.items) }
 {
     node.lawful();
@@ -46,12 +45,16 @@ fn push_parameter(text: &mut Vec<u8>, level: u8, node: &Node) -> Result<(), Allo
 
 /// Appends the lines of parameters in a row and of all below them.
 fn push_parameters(text: &mut Vec<u8>, level: u8, nodes: &[Node]) -> Result<(), AllocError>
-    requires { level + levels (forest nodes.now) < 256 }
+    requires { level + levels (forest nodes.now) ≤ 10 }
     ensures { OnOk result (AppendsLines (parameter_lines level (forest nodes.now)) text.old.items text.new.items) }
 {
     for node in nodes {
         push_parameter(text, level, node)?;
-        push_parameters(text, level + 1, node.children().as_slice())?;
+        let children = node.children().as_slice();
+        if children.is_empty() {
+            continue;
+        }
+        push_parameters(text, level + 1, children)?;
     }
     Ok(())
 }

@@ -1,8 +1,9 @@
 -- Kinds are the same where their numbers are, and no two groups of one parent share a kind.
-use Rattle.std.proofs.Common.{◌≡◌, ◌+◌, ◌<◌, ◌≤◌, ◌==◌, ◌||◌, ◌&&◌, Bool, true, false, not, List, [], ◌∷◌, length, get_or, refl, sym, ap, ◌∙◌, arith}
+use Rattle.std.proofs.Common.{◌≡◌, ℕ, ◌+◌, ◌<◌, ◌≤◌, ◌==◌, ◌||◌, ◌&&◌, Bool, true, false, not, List, [], ◌∷◌, length, drop, get_or, refl, sym, ap, ◌∙◌, arith}
 use Rattle.std.specs.Bool.{Decides}
 use Rattle.std.specs.List.{list_any, list_all}
 use Rattle.std.proofs.lemmas.Bool.Decides.{Decides-eqb, Decides-like, same_from_decides}
+use Rattle.std.proofs.lemmas.List.{drop_more, drop_all}
 use denote.Enum.Bare.{sameb, same_true, true_same}
 use Rattle.llrp_schema.specs.declared.kinds.ParamKind.{ParamKind}
 use Rattle.llrp_schema.specs.contracts.kinds.ParamKind.{the_type}
@@ -31,11 +32,16 @@ pub found_by_number : (kinds : List ParamKind) (kind : ParamKind) → list_any (
 found_by_number [] kind = refl
 found_by_number (k ∷ kinds) kind = rw (same_by_number k kind, found_by_number kinds kind) refl
 
--- of one kind alone, that one decides
-pub only_decides : (kinds : List ParamKind) (kind other : ParamKind) → 1 ≤ length kinds → length kinds < 2 → sameb the_type (get_or kinds 0 other) kind ≡ list_any (λ k. sameb the_type k kind) kinds
-only_decides [] kind other some few = absurd (omega arith)
-only_decides (k ∷ []) kind other some few = elim (sameb the_type k kind) as (λ b. b ≡ (b || false)) [ true ↦ refl | false ↦ refl ]
-only_decides (k ∷ j ∷ kinds) kind other some few = absurd (omega arith)
+-- from one place of a list on, where it is told whether the kind stands there
+pub found_here : (kinds : List ParamKind) (i : ℕ) (kind other : ParamKind) (here : Bool) → i < length kinds → here ≡ sameb the_type (get_or kinds i other) kind
+    → list_any (λ k. sameb the_type k kind) (drop i kinds) ≡ (here || list_any (λ k. sameb the_type k kind) (drop (i + 1) kinds))
+found_here kinds i kind other here room e =
+    ap (λ (ks : List ParamKind). list_any (λ k. sameb the_type k kind) ks) (drop_more kinds i other room)
+    ∙ ap (λ (b : Bool). b || list_any (λ k. sameb the_type k kind) (drop (i + 1) kinds)) (sym e)
+
+-- behind the last place
+pub found_nowhere : (kinds : List ParamKind) (i : ℕ) (kind : ParamKind) → length kinds ≤ i → list_any (λ k. sameb the_type k kind) (drop i kinds) ≡ false
+found_nowhere kinds i kind past = ap (λ (ks : List ParamKind). list_any (λ k. sameb the_type k kind) ks) (drop_all i kinds past)
 
 -- two groups share no kind
 abbrev pub share_none : GroupRule → GroupRule → Bool

@@ -139,10 +139,12 @@ fn tail_fits(form: Tail, values: &[u128], tail: &[u8]) -> bool
 pub(crate) fn is_member(group: &Group, kind: ParamKind) -> bool
     ensures { result ≡ law.is_member (group_rule group.now) kind }
 {
-    match group.members {
-        [member] => *member == kind,
-        members => members.contains(&kind),
+    for member in group.members {
+        if *member == kind {
+            return true;
+        }
     }
+    false
 }
 
 pub(crate) fn has_place(groups: &[Group], kind: ParamKind) -> bool

@@ -106,6 +106,26 @@ pub field_below : (bs : List ℕ) (place width n : ℕ) → place + width ≤ 8 
 field_below bs place width n h e =
     rw e (subst (λ (k : ℕ). value (field (digits_of_bytes bs) place width) < 2 ^ k) (length-field bs place width h) (value-below (field (digits_of_bytes bs) place width)))
 
+-- a field's upper digits, and its last 64
+pub halves_of_field : (bs : List ℕ) (place upper high low : ℕ) → upper ≤ 64 → place + (upper + 64) ≤ 8 * length bs
+    → high ≡ value (field (digits_of_bytes bs) place upper) → low ≡ value (field (digits_of_bytes bs) (place + upper) 64)
+    → bit_or (high * 2 ^ 64 % 2 ^ 128) low ≡ value (field (digits_of_bytes bs) place (upper + 64))
+halves_of_field bs place upper high low few within high_is low_is =
+    let ds = digits_of_bytes bs in
+    let high_fits : high < 2 ^ upper = field_below bs place upper high (omega arith) high_is in
+    let low_fits : low < 2 ^ 64 = field_below bs (place + upper) 64 low (omega arith) low_is in
+    let parts : field ds place (upper + 64) ≡ field ds place upper ++ field ds (place + upper) 64 =
+    take-add upper 64 (drop place ds) ∙ ap (λ (x : List Bool). field ds place upper ++ take 64 x) (drop-drop upper place ds) in
+    let spelled : value (field ds place (upper + 64)) ≡ value (field ds place upper) * 2 ^ 64 + value (field ds (place + upper) 64) =
+    ap value parts
+    ∙ value-append (field ds place upper) (field ds (place + upper) 64)
+    ∙ ap (λ (k : ℕ). value (field ds place upper) * 2 ^ k + value (field ds (place + upper) 64)) (length-field bs (place + upper) 64 (omega arith)) in
+    ap (λ (k : ℕ). bit_or k low) (shl_whole high upper 64 128 high_fits (omega arith))
+    ∙ or_shifted high 64 low low_fits
+    ∙ ap (λ (k : ℕ). k * 2 ^ 64 + low) high_is
+    ∙ ap (λ (k : ℕ). value (field ds place upper) * 2 ^ 64 + k) low_is
+    ∙ sym spelled
+
 -- the digits of bytes of which those of one octet are told
 bytes-set : (bs : List ℕ) (i octet : ℕ) → i < length bs → digits_of_bytes (set bs i octet) ≡ digits_of_bytes (take i bs) ++ (digits 8 octet ++ digits_of_bytes (drop (i + 1) bs))
 bytes-set bs i octet room =
@@ -217,11 +237,6 @@ field_within bs first count before place width start few room =
     ∙ ap (λ (x : List Bool). take width x) (drop-drop before (8 * first) (digits_of_bytes bs))
     ∙ ap (λ (k : ℕ). field (digits_of_bytes bs) k width) start
 
--- eight octets spell a number of 64 bits, and it has their digits
-pub eight_below : (bs : List ℕ) → length bs ≡ 8 → value (digits_of_bytes bs) < 2 ^ 64
-eight_below bs l =
-    let long : length (digits_of_bytes bs) ≡ 64 = omega (arith, length-bytes bs) in
-    subst (λ (k : ℕ). value (digits_of_bytes bs) < 2 ^ k) long (value-below (digits_of_bytes bs))
-
+-- the number that eight octets spell has their digits
 pub eight_digits : (bs : List ℕ) → length bs ≡ 8 → digits 64 (value (digits_of_bytes bs)) ≡ digits_of_bytes bs
 eight_digits bs l = digits_from 64 (value (digits_of_bytes bs)) (digits_of_bytes bs) (omega (arith, length-bytes bs)) refl

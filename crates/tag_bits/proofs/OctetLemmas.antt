@@ -15,14 +15,14 @@ none_read = sym (ap value bytes-nil)
 bytes_more : (bs : List ℕ) (b : ℕ) → digits_of_bytes (bs ++ b ∷ []) ≡ digits_of_bytes bs ++ digits 8 b
 bytes_more bs b = bytes-append bs (b ∷ []) ∙ ap (λ (x : List Bool). digits_of_bytes bs ++ x) (bytes-cons b [] ∙ ap (λ (x : List Bool). digits 8 b ++ x) bytes-nil ∙ append-nil (digits 8 b))
 
--- one more octet is read
-pub read_more : (bs : List ℕ) (i n : ℕ) → i < length bs → length bs ≤ 16 → get_or bs i 0 < 2 ^ 8 → n ≡ value (digits_of_bytes (take i bs))
-    → bit_or (n * 2 ^ 8 % 2 ^ 128) (get_or bs i 0) ≡ value (digits_of_bytes (take (i + 1) bs))
-read_more bs i n lt few small e =
+-- one more octet is read, at a type of `size` bits
+pub read_more : (size : ℕ) (bs : List ℕ) (i n : ℕ) → i < length bs → 8 * length bs ≤ size → get_or bs i 0 < 2 ^ 8 → n ≡ value (digits_of_bytes (take i bs))
+    → bit_or (n * 2 ^ 8 % 2 ^ size) (get_or bs i 0) ≡ value (digits_of_bytes (take (i + 1) bs))
+read_more size bs i n lt few small e =
     let front = take i bs in
-    let long : length (digits_of_bytes front) ≤ 120 = omega (arith, length-bytes front, length-take i bs) in
-    let below : n < 2 ^ 120 = omega (arith, e, value-below (digits_of_bytes front), pow-le-pow_right {n = 2} (omega arith) {i = length (digits_of_bytes front)} {j = 120} long) in
-    let whole : n * 2 ^ 8 % 2 ^ 128 ≡ n * 2 ^ 8 = shl_whole n 120 8 128 below (omega arith) in
+    let long : length (digits_of_bytes front) ≤ size - 8 = omega (arith, length-bytes front, length-take i bs) in
+    let below : n < 2 ^ (size - 8) = omega (arith, e, value-below (digits_of_bytes front), pow-le-pow_right {n = 2} (omega arith) {i = length (digits_of_bytes front)} {j = size - 8} long) in
+    let whole : n * 2 ^ 8 % 2 ^ size ≡ n * 2 ^ 8 = shl_whole n (size - 8) 8 size below (omega arith) in
     let spelled : value (digits_of_bytes (take (i + 1) bs)) ≡ value (digits_of_bytes front) * 2 ^ 8 + get_or bs i 0 =
     rw (take_more bs i 0 lt, bytes_more front (get_or bs i 0), value-append (digits_of_bytes front) (digits 8 (get_or bs i 0)), length-digits 8 (get_or bs i 0), value-digits 8 (get_or bs i 0) small) refl in
     rw (whole, or_shifted n 8 (get_or bs i 0) small, spelled, ← e) refl

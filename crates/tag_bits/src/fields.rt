@@ -3,8 +3,8 @@
 ghost use Rattle.std.specs.Prelude.{◌≡◌, ℕ, ◌+◌, ◌*◌, ◌^◌, ◌<◌, ◌≤◌, length};
 ghost use Rattle.tag_bits.specs.Digits.{value, digits, digits_of_bytes, field, with_field};
 
-use crate::octets::{fill, number_of};
-use crate::parts::{part_of, with_part};
+use crate::octets::{fill, number_of, number_of_eight};
+use crate::parts::{part_of_eight, with_part};
 
 /// The octets of a field: it begins at bit `before` of the octet `first`, and the octet `last` has its
 /// last bits, up to its bit `kept`.
@@ -36,6 +36,55 @@ fn span_of(place: usize, width: u32) -> Span
     }
 }
 
+/// The number of a field that begins at bit `before` of the octet `first`, from each of its octets.
+#[inline(never)]
+fn gather(bytes: &[u8], first: usize, before: u32, width: u32) -> u128
+    requires least { 1 ≤ width }
+    requires most { width ≤ 128 }
+    requires begun { before < 8 }
+    requires within { 8 * first + before + width ≤ 8 * length bytes.now }
+    ensures { result ≡ value (field (digits_of_bytes bytes.now) (8 * first + before) width) }
+{
+    let others = before + width - 1;
+    let last = first + (others / 8) as usize;
+    let kept = others % 8 + 1;
+    let whole = number_of(&bytes[first..last]);
+    let part = bytes[last] as u128 >> (8 - kept);
+    (whole << kept | part) & (u128::MAX >> (128 - width))
+}
+
+/// The number of a field of at most 64 bits that begins at bit `before` of the octet `first`. Most
+/// lie within eight octets, which are read as one.
+#[inline(always)]
+fn get_narrow(bytes: &[u8], first: usize, before: u32, width: u32) -> u128
+    requires least { 1 ≤ width }
+    requires most { width ≤ 64 }
+    requires begun { before < 8 }
+    requires within { 8 * first + before + width ≤ 8 * length bytes.now }
+    ensures { result ≡ value (field (digits_of_bytes bytes.now) (8 * first + before) width) }
+{
+    if before + width <= 64 && first + 8 <= bytes.len() {
+        let eight = number_of_eight(&bytes[first..first + 8]);
+        part_of_eight(eight, before, width) as u128
+    } else {
+        gather(bytes, first, before, width)
+    }
+}
+
+/// The number of a field of more than 64 bits that begins at bit `before` of the octet `first`.
+#[inline(never)]
+fn get_wide(bytes: &[u8], first: usize, before: u32, width: u32) -> u128
+    requires least { 65 ≤ width }
+    requires most { width ≤ 128 }
+    requires begun { before < 8 }
+    requires within { 8 * first + before + width ≤ 8 * length bytes.now }
+    ensures { result ≡ value (field (digits_of_bytes bytes.now) (8 * first + before) width) }
+{
+    let upper = get_narrow(bytes, first, before, width - 64);
+    let behind = before + width - 64;
+    upper << 64 | get_narrow(bytes, first + (behind / 8) as usize, behind % 8, 64)
+}
+
 /// The number of the `width` bits from bit `place` on, bit 0 being the most significant of the first
 /// byte (LLRP 1.1, binary encoding).
 pub fn get(bytes: &[u8], place: usize, width: u32) -> u128
@@ -46,19 +95,13 @@ pub fn get(bytes: &[u8], place: usize, width: u32) -> u128
     ensures value { result ≡ value (field (digits_of_bytes bytes.now) place width) }
     ensures below { result < 2 ^ width }
 {
-    let Span {
-        first,
-        before,
-        last,
-        kept,
-    } = span_of(place, width);
-    // Most fields lie within eight octets, which are read as one.
-    if width <= 56 && first + 8 <= bytes.len() {
-        return part_of(number_of(&bytes[first..first + 8]), 64, before, width);
+    let first = place / 8;
+    let before = (place % 8) as u32;
+    if width <= 64 {
+        get_narrow(bytes, first, before, width)
+    } else {
+        get_wide(bytes, first, before, width)
     }
-    let whole = number_of(&bytes[first..last]);
-    let part = bytes[last] as u128 >> (8 - kept);
-    (whole << kept | part) & (u128::MAX >> (128 - width))
 }
 
 /// The octet with `value` over its `width` bits from bit `place` on.

@@ -15,6 +15,18 @@ pub fn number_of(octets: &[u8]) -> u128
     number
 }
 
+/// The number that eight octets spell.
+pub fn number_of_eight(octets: &[u8]) -> u64
+    requires { length octets.now ≡ 8 }
+    ensures { result ≡ value (digits_of_bytes octets.now) }
+{
+    let mut number = 0u64;
+    for octet in octets {
+        number = number << 8 | *octet as u64;
+    }
+    number
+}
+
 /// Writes `number` over all the octets.
 pub fn fill(octets: &mut [u8], number: u128)
     requires fits { number < 2 ^ (8 * length octets.old) }

@@ -15,6 +15,15 @@ pub fn part_of(number: u128, total: u32, place: u32, width: u32) -> u128
     (number >> (total - place - width)) & ((1 << width) - 1)
 }
 
+/// The number of the `width` bits from bit `place` on, out of 64 bits.
+pub fn part_of_eight(number: u64, place: u32, width: u32) -> u64
+    requires some { 1 ≤ width }
+    requires within { place + width ≤ 64 }
+    ensures { result ≡ value (field (digits 64 number) place width) }
+{
+    (number >> (64 - place - width)) & (u64::MAX >> (64 - width))
+}
+
 /// The number whose `width` bits from bit `place` on, out of `total` bits, are those of `value`.
 pub fn with_part(number: u128, total: u32, place: u32, width: u32, value: u128) -> u128
     requires room { total < 128 }

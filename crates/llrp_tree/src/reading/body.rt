@@ -84,11 +84,13 @@ fn read_tlv(
     Ok(at)
 }
 
-/// The children for which room is made at first: one for each four octets, and 16 at most.
+/// The children for which room is made at first: for small children one for each four octets, and 16
+/// at most; in longer bodies one for each 32 octets.
 fn room_for(octets: usize) -> usize
-    ensures { result ≤ 16 }
+    requires { octets ≤ 65536 }
+    ensures { result ≤ 2048 }
 {
-    (octets / 4).min(16)
+    (octets / 4).min(16).max(octets / 32)
 }
 
 /// What stands behind the head of a node of a kind, from one octet to another, so many levels below

@@ -7,4 +7,4 @@ loop-octet-init c = none_read
 
 pub loop-octet-preserved : goal.loop-octet-preserved
 loop-octet-preserved c =
-    read_more c.args.octets.now c.loop-octet.octet-index c.loop-octet.number (omega arith) c.requires (c.type_inv.octets c.loop-octet.octet-index).fits c.loop-octet.invariant
+    read_more 128 c.args.octets.now c.loop-octet.octet-index c.loop-octet.number (omega arith) (omega (arith, c.requires)) (c.type_inv.octets c.loop-octet.octet-index).fits c.loop-octet.invariant
