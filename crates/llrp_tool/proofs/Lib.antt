@@ -1,5 +1,6 @@
 pub mod ActingLemmas
 pub mod AnswerLemmas
+pub mod ArgumentLemmas
 pub mod BodyWords
 pub mod Clear
 pub mod Closings
@@ -8,12 +9,12 @@ pub mod Cutting
 pub mod DecimalWords
 pub mod DeviceLemmas
 pub mod EpcLemmas
-pub mod EpcText
 pub mod Faults
 pub mod Finishing
 pub mod GatheringFeeds
 pub mod GatheringLemmas
 pub mod GatheringSteps
+pub mod GivenArguments
 pub mod Growing
 pub mod HexadecimalLemmas
 pub mod LawfulLines
@@ -29,6 +30,7 @@ pub mod Opening
 pub mod PlanLemmas
 pub mod PrintingLemmas
 pub mod PrintsBack
+pub mod ReadRows
 pub mod Rows
 pub mod Running
 pub mod ScriptDeciding

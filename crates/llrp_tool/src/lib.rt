@@ -39,7 +39,7 @@ pub use script::{Action, Entry, Script};
 pub use serve::run_serve;
 pub use serving::Serving;
 pub use show::run_show;
-pub use words::sim_port;
+pub use words::{NetworkCommand, network_command};
 
 #[cfg(test)]
 mod tests;
