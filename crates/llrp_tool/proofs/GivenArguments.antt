@@ -1,31 +1,27 @@
 -- A parse of the program's words that succeeds has found a command, with the arguments that it needs.
-use Rattle.std.proofs.Common.{◌≡◌, ◌∙◌, ℕ, ◌<◌, ◌≤◌, ◌&&◌, ◌||◌, ◌⊎◌, inl, inr, Bool, true, false, cond, not, List, [], ◌∷◌, is_some, Option, Some, None, refl, sym, ap, subst, arith, codes, length}
-use Rattle.std.specs.Prelude.{IfSome, find, fold, option_map, option_and_then, pos, ◌≤ℤ◌}
+use Rattle.std.proofs.Common.{◌≡◌, ◌∙◌, ℕ, ◌<◌, ◌&&◌, ◌||◌, inl, inr, Bool, true, false, cond, not, List, [], ◌∷◌, is_some, Option, Some, None, refl, sym, ap, arith, codes, length}
+use Rattle.std.specs.Prelude.{IfSome, find, fold, option_map, pos}
 use Rattle.std.specs.Option.{option_map_or}
 use Rattle.std.specs.Str.{bytes_eq}
-use Rattle.std.specs.Str.Parse.{signed_digits_value}
 use Rattle.std.proofs.lemmas.Int.{ints}
 use Rattle.std.proofs.lemmas.Slice.Eq.{bytes_eq-Decides}
 use Rattle.clap.specs.Lexer.{long_of, short_of}
-use Rattle.clap.specs.Values.{Accepts, IsSignedIn, read_as, reading_of}
-use Rattle.clap.specs.Facts.{parser_of_value, unwrap_or_range}
-use Rattle.clap.specs.declared.builder.ArgAction.TheVariants.{Set}
+use Rattle.clap.specs.Values.{IsSignedIn, read_as, reading_of}
+use Rattle.clap.specs.Facts.{parser_of_value}
 use Rattle.clap.specs.ValueTests.{accepts}
-use Rattle.clap.specs.declared.builder.value_parser.Reading.{Reading}
 use Rattle.clap.specs.declared.builder.value_parser.ValueParser.{ValueParser}
 use Rattle.clap.specs.declared.builder.value_parser.ValueParser.TheVariants.{Signed}
-use Rattle.clap.specs.Words.{without_minus}
 use Rattle.clap.specs.declared.error.kind.ErrorKind.{ErrorKind}
-use Rattle.clap.specs.Kinds.{Kinds, check_kinds, or_else}
-use Rattle.clap.specs.Faults.{fault_of, check_fault, defaults_fault, entered_fault, flag_word_fault, level_fault, other_fault, settle_fault, step_fault, turn_fault, walk_fault, word_fault}
+use Rattle.clap.specs.Kinds.{Kinds, or_else}
+use Rattle.clap.specs.Faults.{fault_of, defaults_fault, entered_fault, level_fault, other_fault, settle_fault, step_fault, turn_fault, walk_fault, word_fault}
 use Rattle.clap.specs.Simple.{Shape, argument_words, built, entered, label_of, names_of, rows_at, filled, help_rule, with_index, built_leaf, inherited}
-use Rattle.clap.specs.Walk.{Held, Names, Outcome, done, waits, plain, refused, Row, Rule, Step, next, trailing, subcommand, value, Text, Waiting, idle, option, positional, Walk, action_of, reading_by, answers_to, arg_by_id, first_of, one_of, nothing_held, rows_after}
+use Rattle.clap.specs.Walk.{Held, Names, Outcome, done, waits, plain, refused, Row, Rule, Step, next, trailing, subcommand, value, Text, Waiting, idle, option, positional, Walk, answers_to, arg_by_id, nothing_held, rows_after}
 use Rattle.clap.specs.Walk.{subcommand_met, subcommand_or_other, word_met, to_positional, after_step, walked, walked_from, walk, walk_from, arg_by_index, arg_by_long, bundle, long_met, settled, finished}
-use Rattle.clap.specs.Walk.{plain_word, option_word, after_flag, long_or_other, short_or_plain}
+use Rattle.clap.specs.Walk.{plain_word, after_flag, long_or_other, short_or_plain}
 use Rattle.clap.proofs.ValueTestLemmas.{accepts-Accepts}
-use Rattle.llrp_tool.specs.Parse.{HasNumberWord, HasPlan, HasWord, IsFound, IsParse}
+use Rattle.llrp_tool.specs.Parse.{HasNumberWord, HasWord, IsFound, IsParse}
 use Rattle.llrp_tool.specs.Words.{command_in, host_rule, inventory_app, llrp_app, loop_app, number_rule, port_app, port_rule, text_app, text_rule, top_app}
-use Rattle.llrp_tool.proofs.ReadRows.{AllFound, AllUsesPass, HasRead, HasRow, IsAmong, LevelPasses, both, subcommand_there, has_read, help_passes, level_passes, set_passes, uses_pass}
+use Rattle.llrp_tool.proofs.ReadRows.{AllFound, AllUsesPass, HasRead, IsAmong, LevelPasses, both, subcommand_there, has_read, help_passes, level_passes, set_passes, uses_pass}
 
 -- ---- a walk without a fault does not stop at help
 

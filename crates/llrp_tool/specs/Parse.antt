@@ -1,5 +1,5 @@
 -- What a parse that succeeds is sure to have found.
-use Rattle.std.specs.Prelude.{◌≡◌, ◌⊎◌, ℕ, pos, List, Option, Some, None, codes}
+use Rattle.std.specs.Prelude.{◌≡◌, ◌⊎◌, pos, List, Option, Some, None, codes}
 use Rattle.clap.specs.Words.{Row, Text, first_of, without_minus}
 use Rattle.clap.specs.Values.{IsSignedIn}
 use Rattle.clap.specs.Walk.{one_of}

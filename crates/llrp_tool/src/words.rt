@@ -8,9 +8,9 @@ ghost use Rattle.llrp_tool.specs.Words.{HasNumber, IsNetwork, IsRequest, Network
 
 mod help;
 
-use help::{ENCODE_HELP, EPC_HELP, INVENTORY_HELP, LOOP_HELP, SHOW_HELP, SIM_HELP};
 use clap::error::ErrorKind;
 use clap::{Arg, ArgAction, ArgMatches, Command, value_parser};
+use help::{ENCODE_HELP, EPC_HELP, INVENTORY_HELP, LOOP_HELP, SHOW_HELP, SIM_HELP};
 use std::alloc::{AllocError, Global};
 use std::convert::AsStr;
 
@@ -18,7 +18,9 @@ use std::convert::AsStr;
 #[derive(Clone, Copy, Debug, PartialEq, Eq)]
 pub enum NetworkCommand<'a> {
     /// A simulated reader that serves one client on this port, by a script.
-    Sim { port: u16 },
+    Sim {
+        port: u16,
+    },
     /// An inventory of the reader at this host and port, by a plan of these two numbers.
     Inventory {
         host: &'a str,
@@ -27,7 +29,10 @@ pub enum NetworkCommand<'a> {
         polls: u16,
     },
     /// An inventory of a simulated reader, by a script and a plan of these two numbers.
-    Loop { every: u16, polls: u16 },
+    Loop {
+        every: u16,
+        polls: u16,
+    },
 }
 
 /// What the words ask for.

@@ -1,8 +1,7 @@
-use Rattle.std.proofs.Common.{◌≡◌, ◌∙◌, ap, sym, subst, Option, Some}
+use Rattle.std.proofs.Common.{◌∙◌, ap, sym, subst}
 use Rattle.std.specs.Prelude.{option_map}
-use Rattle.clap.specs.Words.{Row, Text, found_of, rows_of, subcommand_rows_of}
+use Rattle.clap.specs.Words.{found_of, rows_of, subcommand_rows_of}
 use Rattle.llrp_tool.specs.Parse.{IsFound}
-use Rattle.llrp_tool.specs.Words.{IsRequest}
 use Rattle.llrp_tool.proofs.ArgumentLemmas.{found_as}
 use Rattle.llrp_tool.proofs.CommandLemmas.{names_are}
 use Rattle.llrp_tool.proofs.words.chosen.Goals as goal

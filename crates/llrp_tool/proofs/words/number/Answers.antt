@@ -1,6 +1,5 @@
-use Rattle.std.proofs.Common.{◌≡◌, ◌∙◌, ℕ, List, ap, sym, subst, Option, Some, is_some, true, refl}
+use Rattle.std.proofs.Common.{◌≡◌, ◌∙◌, ℕ, ap, sym, Option, Some, is_some}
 use Rattle.std.specs.Prelude.{option_map, pos}
-use Rattle.std.specs.Option.{IsSome}
 use Rattle.std.specs.Str.Parse.{signed_digits_value, ParsesUnsigned, ExplainsUnsignedError, HasUnsignedDigitsIfOk}
 use Rattle.clap.specs.Words.{found_of, without_minus}
 use Rattle.clap.proofs.WalkLemmas.{one_text-rows}

@@ -1,4 +1,4 @@
-use Rattle.std.proofs.Common.{ap₂, refl, ◌≡◌, ◌∙◌, Bool, false}
+use Rattle.std.proofs.Common.{ap₂, refl, ◌∙◌, Bool}
 use Rattle.std.specs.Prelude.{◌||◌}
 use Rattle.clap.specs.Words.{with_rule}
 use Rattle.std.proofs.lemmas.Result.{IfOk-weaker}
