@@ -1,19 +1,17 @@
 -- What a reader says in a list of events, and the frames of it.
 use Rattle.std.proofs.Common.{◌≡◌, ℕ, suc, ◌+◌, ◌<◌, ◌≤◌, List, [], ◌∷◌, ◌++◌, length, map, take, drop, get_or, refl, sym, ap, subst, ◌∙◌, append_assoc, arith}
-use Rattle.std.specs.List.{AllByRecursion, AllZip}
-use Rattle.std.proofs.lemmas.List.{append-nil, take_more, take-append-drop, length-take}
+use Rattle.std.specs.List.{AllByRecursion}
+use Rattle.std.proofs.lemmas.List.{take_more, take-append-drop, length-take}
 use Rattle.std.proofs.Math.Seq.{drop-cons}
-use Rattle.std.proofs.lemmas.List.Concat.{flat_map-append}
 use Rattle.std.proofs.lemmas.List.{map-append}
-use Rattle.llrp_tree.specs.declared.TheConstants.{MAX_LIMIT}
 use Rattle.llrp_tree.specs.Tree.{MessageTree}
-use Rattle.llrp_tree.specs.Frame.{Frame}
 use Rattle.llrp_session.specs.ReaderMachine.{Reader, ReaderEvent, next}
 use Rattle.llrp_session.specs.ReaderMessages.{reader_message}
-use Rattle.llrp_tool.specs.Serving.{Happening, event_in, happening, last_moment, turn_or_none, run, said, AreFrames}
+use Rattle.llrp_tool.specs.Serving.{Happening, event_in, happening, last_moment, turn_or_none, run, said}
 use Rattle.llrp_tool.specs.declared.script.Entry.{Entry}
-use Rattle.llrp_tool.specs.Acting.{Adds, AddsSome, Did, DidSome, IsDue}
+use Rattle.llrp_tool.specs.Acting.{Did, DidSome, IsDue}
 use Rattle.llrp_tool.specs.declared.fault.ToolErr.{ToolErr}
+use Rattle.llrp_tool.proofs.SendingLemmas.{adds_none, adds_more}
 
 -- ---- events one after another
 
@@ -29,37 +27,6 @@ sent-append r (h ∷ hs) ks =
 
 pub said-append : (r : Reader) (hs ks : List Happening) → said (run r (hs ++ ks)) ≡ said (run r hs) ++ said (run (run r hs).reader ks)
 said-append r hs ks = ap (map reader_message) (sent-append r hs ks) ∙ map-append reader_message (run r hs).sent (run (run r hs).reader ks).sent
-
--- ---- frames one after another
-
-zip-append : (R : MessageTree → List ℕ → Type 0) (a b : List MessageTree) (x y : List (List ℕ)) → AllZip R a x → AllZip R b y → AllZip R (a ++ b) (x ++ y)
-zip-append R [] b [] y p q = q
-zip-append R [] b (w ∷ x) y p q = absurd p
-zip-append R (m ∷ a) b [] y p q = absurd p
-zip-append R (m ∷ a) b (w ∷ x) y p q = (p.0, zip-append R a b x y p.1 q)
-
-frames_none : AreFrames [] []
-frames_none = record { frames = []; each = tt; whole = refl }
-
-pub frames_append : (a b : List MessageTree) (x y : List ℕ) → AreFrames a x → AreFrames b y → AreFrames (a ++ b) (x ++ y)
-frames_append a b x y p q = record {
-  frames = p.frames ++ q.frames;
-  each = zip-append (λ m frame. Frame m frame MAX_LIMIT) a b p.frames q.frames p.each q.each;
-  whole = rw (p.whole, q.whole) (sym (flat_map-append (λ (w : List ℕ). w) p.frames q.frames));
-}
-
-pub adds_none : (old : List ℕ) → Adds [] old old
-adds_none old = record { text = []; frames = frames_none; whole = sym (append-nil old) }
-
-pub adds_more : (a b : List MessageTree) (x y z : List ℕ) → Adds a x y → Adds b y z → Adds (a ++ b) x z
-adds_more a b x y z p q = record {
-  text = p.text ++ q.text;
-  frames = frames_append a b p.text q.text p.frames q.frames;
-  whole = q.whole ∙ ap (λ (w : List ℕ). w ++ q.text) p.whole ∙ append_assoc x p.text q.text;
-}
-
-pub adds_one : (m : MessageTree) (old new bytes : List ℕ) → Frame m bytes MAX_LIMIT → new ≡ old ++ bytes → Adds (m ∷ []) old new
-adds_one m old new bytes f e = record { text = bytes; frames = record { frames = bytes ∷ []; each = (f, tt); whole = sym (append-nil bytes) }; whole = e }
 
 -- ---- what was done, and what is done next
 
@@ -100,16 +67,6 @@ some_first a hs ks error x y q =
     }
 
 -- ---- loops
-
--- one more message was written
-pub adds_step : (ms : List MessageTree) (i : ℕ) (m : MessageTree) (old mid new : List ℕ) → i < length ms → m ≡ get_or ms i m → Adds (take i ms) old mid
-    → (bytes : List ℕ) × Frame m bytes MAX_LIMIT × (new ≡ mid ++ bytes) → Adds (take (i + 1) ms) old new
-adds_step ms i m old mid new within is so one =
-    let front : take (i + 1) ms ≡ take i ms ++ m ∷ [] = take_more ms i m within ∙ ap (λ (x : MessageTree). take i ms ++ x ∷ []) (sym is) in
-    rw front (adds_more (take i ms) (m ∷ []) old mid new so (adds_one m mid new one.0 one.1 one.2))
-
-pub some_at : (ms : List MessageTree) (i : ℕ) (old mid new : List ℕ) → Adds (take i ms) old mid → new ≡ mid → AddsSome ms old new
-some_at ms i old mid new so same = record { first = take i ms; later = drop i ms; parts = sym (take-append-drop i ms); adds = rw same so }
 
 pub last_moment-append : (now : ℕ) (a : List Entry) (b : List Entry) → last_moment now (a ++ b) ≡ last_moment (last_moment now a) b
 last_moment-append now [] b = refl

@@ -18,7 +18,8 @@ use Rattle.llrp_tool.specs.declared.gathering.Gathering.{Gathering}
 use Rattle.llrp_tool.specs.declared.gathering.Phase.{Phase}
 use Rattle.llrp_tool.specs.Plan.{Plan}
 use Rattle.llrp_tool.specs.Gathering.{Course, begun, after_item, goes, follow, Gathers}
-use Rattle.llrp_tool.specs.GatheringStands.{Holds, StandsFor, Stops, Does, Fails, Feeds, error_by}
+use Rattle.llrp_tool.specs.Fault.{error_by}
+use Rattle.llrp_tool.specs.GatheringStands.{Holds, StandsFor, Stops, Does, Fails, Feeds}
 use Rattle.llrp_tool.proofs.GatheringLemmas.{open_text, some_all, still, moves_on, stops_after}
 
 -- ---- items
@@ -60,7 +61,7 @@ piece_kept limit plan bytes piece c g new used o0 o1 r0 r1 w l t =
       record {
         gathers = gathers_more limit plan bytes w.0 piece w.1 s.gathers;
         open_is = s.open_is;
-        holds = record { client_is = s.holds.client_is; left_is = s.holds.left_is; awaits_is = s.holds.awaits_is; tags_is = s.holds.tags_is; reports_is = s.holds.reports_is };
+        holds = record { client_is = s.holds.client_is; left_is = s.holds.left_is; awaits_is = s.holds.awaits_is; counts = s.holds.counts };
         decoder = t.1;
         limit_is = l ∙ s.limit_is;
       },
@@ -129,7 +130,7 @@ item_closes limit plan bytes piece c g h new used item o0 o1 o2 r0 r1 r2 w t s =
     let all : Gathers limit plan (bytes ++ piece) ([] ++ drop used piece) d =
     subst (λ (b : List ℕ). Gathers limit plan b ([] ++ drop used piece) d) (behind_item bytes piece used)
     (gathers_more limit plan (bytes ++ take used piece) [] (drop used piece) d (gathers_item limit plan bytes w.0 piece w.1 g new used item w.2 takes)) in
-    ([] ++ drop used piece, d, all, s.0, moves_on c w.1 d o0 o1 o2 r0 r1 r2 w.3 w.2.open_is s.1)
+    ([] ++ drop used piece, d, all, s.0, s.1, moves_on c w.1 d o0 o1 o2 r0 r1 r2 w.3 w.2.open_is s.2)
 
 -- an item leads on
 pub item_goes : (limit : ℕ) (plan : Plan) (bytes piece : List ℕ) (c : Course) (g h : Gathering) (new : DecoderState) (used : ℕ) (item : Item) (o0 o1 o2 r0 r1 r2 : List ℕ) (w : Feeds limit plan bytes c g o0 o1 r0 r1 (Ok false))
@@ -151,7 +152,7 @@ item_goes limit plan bytes piece c g h new used item o0 o1 o2 r0 r1 r2 w l t kep
 
 -- the same with its decoder fed
 pub holds_fed : (c : Course) (g : Gathering) (new : DecoderState) → Holds c g → Holds c (record g { decoder = new })
-holds_fed c g new h = record { client_is = h.client_is; left_is = h.left_is; awaits_is = h.awaits_is; tags_is = h.tags_is; reports_is = h.reports_is }
+holds_fed c g new h = record { client_is = h.client_is; left_is = h.left_is; awaits_is = h.awaits_is; counts = h.counts }
 
 -- the decoder takes nothing more
 pub decoder_fails : (limit : ℕ) (plan : Plan) (bytes piece : List ℕ) (c : Course) (g : Gathering) (new : DecoderState) (error : FeedErr) (o0 o1 r0 r1 : List ℕ) (w : Feeds limit plan bytes c g o0 o1 r0 r1 (Ok false))
@@ -182,7 +183,7 @@ feeds_phase limit plan bytes c g p o0 o1 r0 r1 (Ok false) f =
       record {
         gathers = s.gathers;
         open_is = s.open_is;
-        holds = record { client_is = s.holds.client_is; left_is = s.holds.left_is; awaits_is = s.holds.awaits_is; tags_is = s.holds.tags_is; reports_is = s.holds.reports_is };
+        holds = record { client_is = s.holds.client_is; left_is = s.holds.left_is; awaits_is = s.holds.awaits_is; counts = s.holds.counts };
         decoder = s.decoder;
         limit_is = s.limit_is;
       },

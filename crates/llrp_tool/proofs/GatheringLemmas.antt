@@ -134,7 +134,7 @@ stops_after c d e o0 o1 o2 r0 r1 r2 Bound p opened q = q
 
 pub does_after : (c d e : Course) (g : Gathering) (o0 o1 o2 r0 r1 r2 : List ℕ) (answer : Result Bool ToolErr) → Moves c d o0 o1 r0 r1 → d.phase ≡ Open → Does d e g o1 o2 r1 r2 answer → Does c e g o0 o2 r0 r2 answer
 does_after c d e g o0 o1 o2 r0 r1 r2 (Ok false) p opened q = (q.0, q.1, moves_on c d e o0 o1 o2 r0 r1 r2 p opened q.2)
-does_after c d e g o0 o1 o2 r0 r1 r2 (Ok true) p opened q = (q.0, moves_on c d e o0 o1 o2 r0 r1 r2 p opened q.1)
+does_after c d e g o0 o1 o2 r0 r1 r2 (Ok true) p opened q = (q.0, q.1, moves_on c d e o0 o1 o2 r0 r1 r2 p opened q.2)
 does_after c d e g o0 o1 o2 r0 r1 r2 (Err error) p opened q = stops_after c d e o0 o1 o2 r0 r1 r2 error p opened q
 
 -- ---- the next command
@@ -145,7 +145,7 @@ none_left c g left o r h opened before now =
     let none : c.left ≡ [] = sym h.left_is ∙ before in
     let same : c ≡ goes_on c = ap (λ (ks : List Command). sends ks c) (sym none) in
     subst (λ (d : Course). Does c d (record g { left = left }) o o r r (Ok false)) same
-    (opened, record { client_is = h.client_is; left_is = now ∙ sym none; awaits_is = h.awaits_is; tags_is = h.tags_is; reports_is = h.reports_is }, still c c o r refl refl (open_text c.phase c.reports opened))
+    (opened, record { client_is = h.client_is; left_is = now ∙ sym none; awaits_is = h.awaits_is; counts = h.counts }, still c c o r refl refl (open_text c.phase c.reports opened))
 
 -- the next command is this one
 next_is : (c : Course) (client : Client) (k : Command) (left : List Command) → client ≡ c.client → c.left ≡ k ∷ left → sends_by (command client k) k left c ≡ goes_on c
@@ -200,7 +200,7 @@ sent_all c old new k sending messages o0 o1 r h opened l e m a =
     let g = record old { left = new; client = sending.client; awaits = awaited_after k } in
     subst (λ (d : Course). Does c d (record old { left = new; client = sending.client; awaits = awaited_after k }) o0 o1 r r (Ok false)) (sent_one c old k (commands_left new) sending h l e) (
       opened,
-      record { client_is = refl; left_is = refl; awaits_is = refl; tags_is = h.tags_is; reports_is = h.reports_is },
+      record { client_is = refl; left_is = refl; awaits_is = refl; counts = h.counts },
       record {
         messages = sending.message ∷ [];
         reports = [];

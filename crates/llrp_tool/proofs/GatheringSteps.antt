@@ -21,6 +21,7 @@ use Rattle.llrp_tool.specs.declared.fault.ToolErr.TheVariants.{Memory, Peer, Str
 use Rattle.llrp_tool.specs.declared.gathering.Awaits.{Awaits}
 use Rattle.llrp_tool.specs.declared.gathering.Awaits.TheVariants.{Answer, Report, End}
 use Rattle.llrp_tool.specs.declared.gathering.Gathering.{Gathering}
+use Rattle.llrp_tool.specs.declared.summary.Summary.{Summary}
 use Rattle.llrp_tool.specs.declared.gathering.Phase.{Phase}
 use Rattle.llrp_tool.specs.declared.gathering.Phase.TheVariants.{Open, Closed, Failed}
 use Rattle.llrp_tool.specs.Sending.{Adds, AddsSome}
@@ -96,19 +97,21 @@ more_tags reports tags old new e f = let a = tags_in-append reports (tags ∷ []
 pub more_reports : (reports : List (List Tree)) (tags : List Tree) (old new : ℕ) → old ≡ report_count reports → new ≡ min (old + 1) greatest_count → new ≡ report_count (reports ++ tags ∷ [])
 more_reports reports tags old new e f = let a = length-append reports (tags ∷ []) in omega (arith, a, e, f)
 
+same_summary : (s : Summary) (tags reports : ℕ) → s.tags ≡ tags → s.reports ≡ reports → s ≡ record { tags = tags; reports = reports }
+same_summary s tags reports e f = ap (λ (n : ℕ). record { tags = n; reports = s.reports }) e ∙ ap (λ (n : ℕ). record { tags = tags; reports = n }) f
+
 -- memory ran out before the lines of a report
 pub no_lines : (c : Course) (g : Gathering) (tags : List Tree) (o r : List ℕ) → Does c (after (Tags tags) c) g o o r r (Err Memory)
 no_lines c g tags o r = out_of_memory c (after (Tags tags) c) o r (tags_more tags c)
 
 -- the report was counted
-pub counted : (c : Course) (g : Gathering) (list : List Tree) (t n : ℕ) → Holds c g → t ≡ min (g.tags + length list) greatest_count → n ≡ min (g.reports + 1) greatest_count
-    → Holds (record c { reports = c.reports ++ list ∷ [] }) (record g { tags = t; reports = n })
-counted c g list t n h a b = record {
+pub counted : (c : Course) (g : Gathering) (list : List Tree) (s : Summary) → Holds c g → s.tags ≡ min (g.summary.tags + length list) greatest_count → s.reports ≡ min (g.summary.reports + 1) greatest_count
+    → Holds (record c { reports = c.reports ++ list ∷ [] }) (record g { summary = s })
+counted c g list s h a b = record {
   client_is = h.client_is;
   left_is = h.left_is;
   awaits_is = h.awaits_is;
-  tags_is = more_tags c.reports list g.tags t h.tags_is a;
-  reports_is = more_reports c.reports list g.reports n h.reports_is b;
+  counts = same_summary s _ _ (more_tags c.reports list g.summary.tags s.tags (ap (λ (x : Summary). x.tags) h.counts) a) (more_reports c.reports list g.summary.reports s.reports (ap (λ (x : Summary). x.reports) h.counts) b);
 }
 
 lines_printed : (c : Course) (tags : List Tree) (text o r : List ℕ) → c.phase ≡ Open → AreReportLines tags text → Moves c (record c { reports = c.reports ++ tags ∷ [] }) o o r (r ++ text)
@@ -160,6 +163,7 @@ pub ended_fine : (c : Course) (g : Gathering) (text o r0 r1 : List ℕ) → Hold
 ended_fine c g text o r0 r1 h w line printed =
     let e : ended c.awaits ≡ Closed = ap ended (sym h.awaits_is ∙ w) in (
       e,
+      h.counts,
       record {
         messages = [];
         reports = [];
@@ -253,7 +257,7 @@ answered_all c new step taking messages o0 o1 o2 r0 r1 answer opened e m a does 
     subst (λ (x : Result Taking Refusal). Does c (after_taking x c) new o0 o2 r0 r1 answer) (sym e) (does_after c d (after taking.taken d) new o0 o1 o2 r0 r0 r1 answer moved opened does)
 
 pub taken_in : (c : Course) (g : Gathering) (taking : Taking) → Holds c g → Holds (record c { client = taking.client; sent = c.sent ++ taking.sent }) (record g { client = taking.client })
-taken_in c g taking h = record { client_is = refl; left_is = h.left_is; awaits_is = h.awaits_is; tags_is = h.tags_is; reports_is = h.reports_is }
+taken_in c g taking h = record { client_is = refl; left_is = h.left_is; awaits_is = h.awaits_is; counts = h.counts }
 
 -- ---- frames that are no messages
 

@@ -3,6 +3,7 @@ pub mod AnswerLemmas
 pub mod ArgumentLemmas
 pub mod BodyWords
 pub mod Clear
+pub mod ClientSideLemmas
 pub mod Closings
 pub mod CommandLemmas
 pub mod Cutting
@@ -16,12 +17,15 @@ pub mod GatheringLemmas
 pub mod GatheringSteps
 pub mod GivenArguments
 pub mod Growing
+pub mod HearingLemmas
 pub mod HexadecimalLemmas
+pub mod InventoryLemmas
 pub mod LawfulLines
 pub mod LineSays
 pub mod LineShape
 pub mod LineWords
 pub mod Listed
+pub mod LoopLemmas
 pub mod NumberWords
 pub mod Numerals
 pub mod OneEpcAnswer
@@ -31,6 +35,7 @@ pub mod PlanLemmas
 pub mod PrintingLemmas
 pub mod PrintsBack
 pub mod ReadRows
+pub mod ReaderSideLemmas
 pub mod Rows
 pub mod Running
 pub mod ScriptDeciding

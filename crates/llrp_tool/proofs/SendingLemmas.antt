@@ -14,10 +14,10 @@ zip_append R [] b (w ∷ x) y p q = absurd p
 zip_append R (m ∷ a) b [] y p q = absurd p
 zip_append R (m ∷ a) b (w ∷ x) y p q = (p.0, zip_append R a b x y p.1 q)
 
-frames_none : AreFrames [] []
+pub frames_none : AreFrames [] []
 frames_none = record { frames = []; each = tt; whole = refl }
 
-frames_append : (a b : List MessageTree) (x y : List ℕ) → AreFrames a x → AreFrames b y → AreFrames (a ++ b) (x ++ y)
+pub frames_append : (a b : List MessageTree) (x y : List ℕ) → AreFrames a x → AreFrames b y → AreFrames (a ++ b) (x ++ y)
 frames_append a b x y p q = record {
   frames = p.frames ++ q.frames;
   each = zip_append (λ m frame. Frame m frame MAX_LIMIT) a b p.frames q.frames p.each q.each;

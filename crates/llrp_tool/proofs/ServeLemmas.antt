@@ -10,12 +10,13 @@ use Rattle.llrp_tool.specs.declared.fault.ToolErr.TheVariants.{Listing, Script, 
 use Rattle.llrp_tool.specs.declared.script.Entry.{Entry}
 use Rattle.llrp_tool.specs.declared.serving.Serving.{Serving}
 use Rattle.llrp_tool.specs.Copying.{MOST_READS, ReadAll, Writes}
-use Rattle.llrp_tool.specs.Serving.{Happening, happening, entries_at, closing_events, run, said, AreFrames, waiting, broken, StaysOpen, HasClosed, BeginsServing}
+use Rattle.llrp_tool.specs.Serving.{Happening, happening, entries_at, closing_events, run, said, waiting, broken, StaysOpen, HasClosed, BeginsServing}
 use Rattle.llrp_tool.proofs.ServingEvents.{events-snoc}
-use Rattle.llrp_tool.specs.Acting.{Adds}
+use Rattle.llrp_tool.specs.Sending.{AreFrames, Adds}
 use Rattle.llrp_tool.specs.ServingStands.{IsOpen, Starts, Feeds, Goes, Finishes}
 use Rattle.llrp_tool.specs.RunServe.{BeginsFrames, WasGiven, RunsServe}
-use Rattle.llrp_tool.proofs.ActingLemmas.{frames_append, said-append}
+use Rattle.llrp_tool.proofs.ActingLemmas.{said-append}
+use Rattle.llrp_tool.proofs.SendingLemmas.{frames_append}
 use Rattle.llrp_tool.proofs.DeviceLemmas.{consumes_more, gave_nothing, read_more, wrote_nothing, wrote_more, wrote_then_failed}
 
 -- What was read, served and written so far.
@@ -101,7 +102,7 @@ write_fails reader entries r0 r1 w0 w1 w2 bytes before out (Listing line reason)
 
 -- ---- the start
 
-begins_start : (reader : Reader) (entries : List Entry) (s : Serving) (old out : List ℕ) (answer : Result (Unit {0}) ToolErr) → old ≡ [] → Starts reader entries s old out answer → BeginsFrames reader entries [] out
+pub begins_start : (reader : Reader) (entries : List Entry) (s : Serving) (old out : List ℕ) (answer : Result (Unit {0}) ToolErr) → old ≡ [] → Starts reader entries s old out answer → BeginsFrames reader entries [] out
 begins_start reader entries s old out (Ok u) none h = (h.0, begins_open reader entries [] h.0 waiting h.2.stands.stays, nothing_before h.0 old out none h.1)
 begins_start reader entries s old out (Err e) none h = (h.1, h.3, nothing_before h.1 old out none h.2)
 

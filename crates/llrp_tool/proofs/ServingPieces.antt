@@ -17,10 +17,12 @@ use Rattle.llrp_tool.specs.declared.script.Entry.{Entry}
 use Rattle.llrp_tool.specs.declared.serving.scripted.ScriptedReader.{ScriptedReader}
 use Rattle.llrp_tool.specs.declared.serving.Serving.{Serving}
 use Rattle.llrp_tool.specs.Serving.{events, run, said, Closes}
-use Rattle.llrp_tool.specs.Acting.{Adds, DidSome, error_by, phase_after}
+use Rattle.llrp_tool.specs.Fault.{error_by}
+use Rattle.llrp_tool.specs.Sending.{Adds}
+use Rattle.llrp_tool.specs.Acting.{DidSome, phase_after}
 use Rattle.llrp_tool.specs.ServingStands.{HasTaken, StandsFor, IsFresh, HasFailed, Connects, Starts, TakesItem, Goes, Fails, Feeds as FeedsOn}
 use Rattle.llrp_tool.specs.declared.serving.Phase.TheVariants.{Open}
-use Rattle.llrp_tool.proofs.ActingLemmas.{adds_none, adds_more}
+use Rattle.llrp_tool.proofs.SendingLemmas.{adds_none, adds_more}
 
 none_push : (items : List Item) (item : Item) → AllByRecursion (λ item. Closes item → ⊥) items → (Closes item → ⊥) → AllByRecursion (λ item. Closes item → ⊥) (items ++ item ∷ [])
 none_push [] item h c = (c, tt)

@@ -1,29 +1,14 @@
 -- What the code that lets a reader act promises.
 use Rattle.std.specs.Prelude.{◌≡◌, ℕ, ◌<◌, ◌≤◌, ◌++◌, List, ◌∷◌, length, Result, Ok, Err, Bool, true, false}
 use Rattle.std.specs.List.{AllByRecursion}
-use Rattle.llrp_tree.specs.Tree.{MessageTree}
-use Rattle.llrp_stream.specs.declared.item.FeedErr.{FeedErr}
-use Rattle.llrp_stream.specs.declared.item.FeedErr.TheVariants as decoder
 use Rattle.llrp_session.specs.ReaderMachine.{Reader}
 use Rattle.llrp_tool.specs.declared.fault.ToolErr.{ToolErr}
-use Rattle.llrp_tool.specs.declared.fault.ToolErr.TheVariants.{Broken, Memory}
+use Rattle.llrp_tool.specs.declared.fault.ToolErr.TheVariants.{Memory}
 use Rattle.llrp_tool.specs.declared.script.Entry.{Entry}
 use Rattle.llrp_tool.specs.declared.serving.Phase.{Phase}
 use Rattle.llrp_tool.specs.declared.serving.Phase.TheVariants.{Open, Closed, Failed}
-use Rattle.llrp_tool.specs.Serving.{Happening, run, said, AreFrames}
-
--- new is old with the frames of these messages at its end
-pub record Adds (messages : List MessageTree) (old new : List ℕ) : Type 0 where
-  pub text : List ℕ
-  pub frames : AreFrames messages text
-  pub whole : new ≡ old ++ text
-
--- new is old with the frames of the first of these messages at its end
-pub record AddsSome (messages : List MessageTree) (old new : List ℕ) : Type 0 where
-  pub first : List MessageTree
-  pub later : List MessageTree
-  pub parts : messages ≡ first ++ later
-  pub adds : Adds first old new
+use Rattle.llrp_tool.specs.Sending.{Adds, AddsSome}
+use Rattle.llrp_tool.specs.Serving.{Happening, run, said}
 
 -- These events made this reader of that one, and what it said was appended.
 pub record Did (before : Reader) (hs : List Happening) (after : Reader) (old new : List ℕ) : Type 0 where
@@ -43,12 +28,6 @@ pub record IsDue (entries : List Entry) (taken count : ℕ) : Type 0 where
   pub count_is : count ≡ length due
   pub due_are : AllByRecursion (λ e. e.after ≤ taken) due
   pub later_begin : (e : Entry) (es : List Entry) → later ≡ e ∷ es → taken < e.after
-
--- the error of a decoder that takes nothing more
-abbrev pub error_by : FeedErr → ToolErr
-error_by decoder.Broken = Broken
-error_by decoder.Memory = Memory
-error_by decoder.Dead = Memory
 
 -- the phase that an answer of `feed` leaves
 abbrev pub phase_after : Result Bool ToolErr → Phase

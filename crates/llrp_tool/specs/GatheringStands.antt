@@ -3,8 +3,6 @@ use Rattle.std.specs.Prelude.{◌≡◌, ℕ, ◌++◌, List, [], ◌∷◌, map
 use Rattle.llrp_tree.specs.Tree.{Tree}
 use Rattle.llrp_stream.specs.Cuts.{Breaks}
 use Rattle.llrp_stream.specs.Decoding.{Stands}
-use Rattle.llrp_stream.specs.declared.item.FeedErr.{FeedErr}
-use Rattle.llrp_stream.specs.declared.item.FeedErr.TheVariants as decoder
 use Rattle.llrp_session.specs.declared.client.refusal.CmdFault.{CmdFault}
 use Rattle.llrp_session.specs.declared.client.refusal.CmdFault.TheVariants as command
 use Rattle.llrp_session.specs.declared.client.refusal.TakeFault.{TakeFault}
@@ -21,7 +19,7 @@ use Rattle.llrp_tool.specs.declared.gathering.left.Left.{Left}
 use Rattle.llrp_tool.specs.declared.gathering.left.Left.TheVariants.{Adding, Enabling, Starting, Polling, Deleting, Closing, Nothing}
 use Rattle.llrp_tool.specs.Plan.{Plan, commands}
 use Rattle.llrp_tool.specs.Sending.{Adds, AddsSome}
-use Rattle.llrp_tool.specs.TagLines.{AreReports, tag_count, report_count, total_line}
+use Rattle.llrp_tool.specs.TagLines.{AreReports, summary_of, total_line}
 use Rattle.llrp_tool.specs.declared.gathering.Phase.{Phase}
 use Rattle.llrp_tool.specs.declared.gathering.Phase.TheVariants.{Open, Closed, Failed}
 use Rattle.llrp_tool.specs.Gathering.{Course, Gathers}
@@ -58,13 +56,16 @@ Splits list (Some p) = (list ≡ p.0 ∷ commands_left p.1) × AddsRoSpec p.0
 
 -- ---- how it stands
 
+-- it counts these reports
+abbrev pub Counts : List (List Tree) → Gathering → Type 0
+Counts reports g = g.summary ≡ summary_of reports
+
 -- it is so far
 pub record Holds (course : Course) (g : Gathering) : Type 0 where
   pub client_is : g.client ≡ course.client
   pub left_is : commands_left g.left ≡ course.left
   pub awaits_is : g.awaits ≡ course.awaits
-  pub tags_is : g.tags ≡ tag_count course.reports
-  pub reports_is : g.reports ≡ report_count course.reports
+  pub counts : Counts course.reports g
 
 -- It was handed these bytes, and is so far; the decoder keeps what follows the frames.
 pub record StandsFor (limit : ℕ) (plan : Plan) (bytes rest : List ℕ) (course : Course) (g : Gathering) : Type 0 where
@@ -134,7 +135,7 @@ Stops old new o0 o1 r0 r1 Bound = ⊥
 -- It went on from the one to the other: it is still open, the connection was closed, or it stopped.
 abbrev pub Does : Course → Course → Gathering → List ℕ → List ℕ → List ℕ → List ℕ → Result Bool ToolErr → Type 0
 Does old new g o0 o1 r0 r1 (Ok false) = (new.phase ≡ Open) × Holds new g × Moves old new o0 o1 r0 r1
-Does old new g o0 o1 r0 r1 (Ok true) = (new.phase ≡ Closed) × Moves old new o0 o1 r0 r1
+Does old new g o0 o1 r0 r1 (Ok true) = (new.phase ≡ Closed) × Counts new.reports g × Moves old new o0 o1 r0 r1
 Does old new g o0 o1 r0 r1 (Err error) = Stops old new o0 o1 r0 r1 error
 
 -- ---- a feed
@@ -147,7 +148,7 @@ Fails limit plan bytes old o0 o1 r0 r1 error = (rest : List ℕ) × (new : Cours
 -- What a feed makes of it: it goes on, the connection was closed, or it ended with an error.
 abbrev pub Feeds : ℕ → Plan → List ℕ → Course → Gathering → List ℕ → List ℕ → List ℕ → List ℕ → Result Bool ToolErr → Type 0
 Feeds limit plan bytes old g o0 o1 r0 r1 (Ok false) = (rest : List ℕ) × (new : Course) × StandsFor limit plan bytes rest new g × Moves old new o0 o1 r0 r1
-Feeds limit plan bytes old g o0 o1 r0 r1 (Ok true) = (rest : List ℕ) × (new : Course) × Gathers limit plan bytes rest new × (new.phase ≡ Closed) × Moves old new o0 o1 r0 r1
+Feeds limit plan bytes old g o0 o1 r0 r1 (Ok true) = (rest : List ℕ) × (new : Course) × Gathers limit plan bytes rest new × (new.phase ≡ Closed) × Counts new.reports g × Moves old new o0 o1 r0 r1
 Feeds limit plan bytes old g o0 o1 r0 r1 (Err error) = Fails limit plan bytes old o0 o1 r0 r1 error
 
 -- the phase that a feed leaves
@@ -155,12 +156,6 @@ abbrev pub phase_left : Result Bool ToolErr → Phase
 phase_left (Ok false) = Open
 phase_left (Ok true) = Closed
 phase_left (Err error) = Failed error
-
--- the error of a decoder that takes nothing more
-abbrev pub error_by : FeedErr → ToolErr
-error_by decoder.Broken = Broken
-error_by decoder.Memory = Memory
-error_by decoder.Dead = Memory
 
 -- the errors of a client that refuses
 abbrev pub error_by_command : CmdFault → ToolErr

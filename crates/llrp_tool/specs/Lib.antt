@@ -4,7 +4,9 @@ pub mod Command
 pub mod Copying
 pub mod Encoder
 pub mod Encoding
+pub mod EndsStand
 pub mod EpcLines
+pub mod Fault
 pub mod FirstRefusal
 pub mod Gathering
 pub mod GatheringStands
@@ -26,6 +28,8 @@ pub mod Plan
 pub mod Printing
 pub mod PrintingLaws
 pub mod Refused
+pub mod RunInventory
+pub mod RunLoop
 pub mod RunServe
 pub mod Script
 pub mod ScriptLaws

@@ -7,7 +7,8 @@ use Rattle.llrp_tool.specs.declared.fault.ToolErr.{ToolErr}
 use Rattle.llrp_tool.specs.declared.fault.ToolErr.TheVariants.{Listing, Script, Hex, Read, Write, Bound, Broken, Memory, Peer, Strange, Early}
 use Rattle.llrp_tool.specs.declared.script.Entry.{Entry}
 use Rattle.llrp_tool.specs.Copying.{MOST_READS, ReadAll, GaveAndFailed, IsPrefix}
-use Rattle.llrp_tool.specs.Serving.{AreFrames, Standing, waiting, closed, ended, early, broken, Serves, BeginsServing}
+use Rattle.llrp_tool.specs.Sending.{AreFrames}
+use Rattle.llrp_tool.specs.Serving.{Standing, waiting, closed, ended, early, broken, Serves, BeginsServing}
 
 -- All that the reader says to these bytes was written, and serving stands so.
 pub record WroteAll (reader : Reader) (entries : List Entry) (bytes : List ℕ) (standing : Standing) (old new : SinkLog) : Type 0 where

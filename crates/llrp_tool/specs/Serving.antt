@@ -1,13 +1,12 @@
 -- What the items of a client and the entries of a script make of the simulated reader.
 use Rattle.std.specs.Prelude.{◌≡◌, ℕ, ◌+◌, ◌≤◌, ◌==◌, nat_le, List, [], ◌∷◌, ◌++◌, length, map, Result, Ok, Err}
-use Rattle.std.specs.List.{filter, AllByRecursion, AllZip}
+use Rattle.std.specs.List.{filter, AllByRecursion}
 use Rattle.llrp_schema.specs.declared.kinds.MsgKind.TheVariants.{CloseConnection}
 use Rattle.llrp_tree.specs.declared.TheConstants.{MAX_LIMIT}
 use Rattle.llrp_tree.specs.Tree.{MessageTree}
-use Rattle.llrp_tree.specs.Frame.{Frame}
 use Rattle.llrp_stream.specs.declared.item.Item.{Item}
 use Rattle.llrp_stream.specs.declared.item.Item.TheVariants.{Msg, Bad}
-use Rattle.llrp_stream.specs.Cuts.{joined, IsPartial, Breaks}
+use Rattle.llrp_stream.specs.Cuts.{IsPartial, Breaks}
 use Rattle.llrp_stream.specs.Items.{ItemsSoFar}
 use Rattle.llrp_session.specs.Refusal.{Refusal}
 use Rattle.llrp_session.specs.ReaderMachine.{Reader, ReaderEvent, Connect, Take, TakeBad, Turn, begun, next, new_reader}
@@ -88,12 +87,6 @@ run r (h ∷ hs) =
 -- the messages of a turn
 abbrev pub said : Turn → List MessageTree
 said turn = map reader_message turn.sent
-
--- The bytes are the frames of the messages in order (LLRP 1.1, section 17.1).
-pub record AreFrames (messages : List MessageTree) (bytes : List ℕ) : Type 0 where
-  pub frames : List (List ℕ)
-  pub each : AllZip (λ m frame. Frame m frame MAX_LIMIT) messages frames
-  pub whole : bytes ≡ joined frames
 
 -- ---- how serving stands, and how it ends
 

@@ -13,7 +13,8 @@ use Rattle.llrp_tool.specs.declared.serving.Serving.{Serving}
 use Rattle.llrp_tool.specs.declared.serving.Phase.TheVariants.{New, Open, Closed, Failed}
 use Rattle.llrp_tool.specs.Script.{IsLawful}
 use Rattle.llrp_tool.specs.Serving.{happening, entries_at, events, closing_events, last_moment, run, said, waiting, closed, ended, early, broken, Closes, StaysOpen, Serves, BeginsServing}
-use Rattle.llrp_tool.specs.Acting.{Adds, Did, phase_after}
+use Rattle.llrp_tool.specs.Sending.{Adds}
+use Rattle.llrp_tool.specs.Acting.{Did, phase_after}
 
 -- the greatest number of items that is counted; no entry is after more
 abbrev pub greatest_count : ℕ

@@ -5,6 +5,7 @@ use Rattle.llrp_schema.specs.declared.kinds.ParamKind.TheVariants.{Epc96, EpcDat
 use Rattle.llrp_tree.specs.Tree.{Tree}
 use Rattle.llrp_session.specs.RoSpec.{first_of}
 use Rattle.tag_uri.specs.TagText.{IsTextOf}
+use Rattle.llrp_tool.specs.declared.summary.Summary.{Summary}
 use Rattle.llrp_tool.specs.NodeLine.{spaced, signed_text, octets_text}
 
 -- what stands for a part that is absent
@@ -66,6 +67,9 @@ tag_count reports = min (tags_in reports) greatest_count
 
 abbrev pub report_count : List (List Tree) → ℕ
 report_count reports = min (length reports) greatest_count
+
+abbrev pub summary_of : List (List Tree) → Summary
+summary_of reports = record { tags = tag_count reports; reports = report_count reports }
 
 -- the last line
 unfoldable pub total_line : List (List Tree) → List ℕ

@@ -2,8 +2,10 @@
 
 ghost use Rattle.std.specs.Prelude.{◌≡◌, ◌++◌, Some};
 ghost use Rattle.llrp_tool.specs.declared.fault.ToolErr.TheVariants.{Memory};
+ghost use Rattle.llrp_tool.specs.Fault.{error_by};
 ghost use Rattle.llrp_tool.specs.Refused.{node_fault_name, refusal_name};
 
+use llrp_stream::FeedErr;
 use llrp_tree::NodeFault;
 use std::alloc::{AllocError, AllocFailed};
 use std::fmt;
@@ -139,5 +141,15 @@ impl<T: Drop> From<AllocFailed<T>> for ToolErr {
 
     fn from(_e: AllocFailed<T>) -> ToolErr {
         ToolErr::Memory
+    }
+}
+
+/// The error of a decoder that takes nothing more.
+pub(crate) fn error_of(error: FeedErr) -> ToolErr
+    ensures { result ≡ error_by error }
+{
+    match error {
+        FeedErr::Broken => ToolErr::Broken,
+        FeedErr::Memory | FeedErr::Dead => ToolErr::Memory,
     }
 }

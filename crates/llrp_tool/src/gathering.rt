@@ -3,21 +3,23 @@
 
 ghost use Rattle.std.specs.Prelude.{◌≡◌, ◌≤◌, ◌++◌, List, Ok, Err, ℕ};
 ghost use Rattle.llrp_tree.specs.declared.TheConstants.{MAX_LIMIT};
+ghost use Rattle.llrp_tree.specs.Tree.{Tree};
 ghost use Rattle.llrp_tool.specs.declared.fault.ToolErr.{ToolErr as Error};
 ghost use Rattle.llrp_tool.specs.Gathering.{Course};
-ghost use Rattle.llrp_tool.specs.GatheringStands.{error_by, error_by_command, error_by_message, phase_left};
+ghost use Rattle.llrp_tool.specs.GatheringStands.{error_by_command, error_by_message, phase_left};
 ghost use Rattle.llrp_tool.specs.Plan.{Plan as ThePlan};
 
 mod left;
 mod lines;
 
-use crate::fault::ToolErr;
+use crate::fault::{ToolErr, error_of};
 use crate::plan::Plan;
 use crate::sending::append_frames;
+use crate::summary::Summary;
 use left::{Left, awaited_after};
 use lines::{report_lines, total_line};
 use llrp_session::{Client, CmdFault, TakeFault, Taken};
-use llrp_stream::{Decoder, Fed, FeedErr, Item};
+use llrp_stream::{Decoder, Fed, Item};
 use llrp_tree::{Message, Nodes, Reason};
 use std::alloc::Global;
 
@@ -52,28 +54,16 @@ pub struct Gathering {
     decoder: Decoder,
     left: Left,
     awaits: Awaits,
-    /// How many tags were reported; it stops at the greatest number.
-    tags: u64,
-    /// How many reports came; it stops at the greatest number.
-    reports: u64,
+    summary: Summary,
     phase: Phase,
-}
-
-/// The error of a decoder that takes nothing more.
-fn error_of(error: FeedErr) -> ToolErr
-    ensures { result ≡ error_by error }
-{
-    match error {
-        FeedErr::Broken => ToolErr::Broken,
-        FeedErr::Memory | FeedErr::Dead => ToolErr::Memory,
-    }
 }
 
 impl Gathering {
     ghost use Rattle.std.specs.Prelude.{[], true};
     ghost use Rattle.llrp_tool.specs.declared.gathering.Phase.TheVariants.{Closed, Failed, Open};
     ghost use Rattle.llrp_tool.specs.Gathering.{after, after_item, begun, goes_on};
-    ghost use Rattle.llrp_tool.specs.GatheringStands.{Does, Feeds, Holds, IsOpen, KeepsOthers, StandsFor};
+    ghost use Rattle.llrp_tool.specs.GatheringStands.{Counts, Does, Feeds, Holds, IsOpen, KeepsOthers, StandsFor};
+    ghost use Rattle.llrp_tool.specs.TagLines.{summary_of};
 
     /// A client that follows a plan from the beginning; its first message id is 1, and no frame is longer
     /// than `limit` octets. It takes no memory.
@@ -88,10 +78,16 @@ impl Gathering {
             decoder: Decoder::new(alloc, limit),
             left: Left::Adding(plan),
             awaits: Awaits::Answer,
-            tags: 0,
-            reports: 0,
+            summary: Summary::empty(),
             phase: Phase::Open,
         }
+    }
+
+    /// How many tags and reports came so far.
+    pub(crate) fn summary(&self) -> Summary
+        ensures { (reports : List (List Tree)) → Counts reports self.now → result ≡ summary_of reports }
+    {
+        self.summary
     }
 
     /// Sends the next command, if one is left.
@@ -125,8 +121,7 @@ impl Gathering {
     {
         let lines = report_lines(self.alloc, tags.as_slice())?;
         report.extend_from_slice(lines.as_slice())?;
-        self.tags = self.tags.saturating_add(tags.as_slice().len() as u64);
-        self.reports = self.reports.saturating_add(1);
+        self.summary = self.summary.with_report(tags.as_slice().len());
         match self.awaits {
             Awaits::Report => self.go_on(out),
             Awaits::Answer | Awaits::End => Ok(false),
@@ -141,7 +136,7 @@ impl Gathering {
         match self.awaits {
             Awaits::Answer | Awaits::Report => Err(ToolErr::Early),
             Awaits::End => {
-                let line = total_line(self.alloc, self.tags, self.reports)?;
+                let line = total_line(self.alloc, self.summary)?;
                 report.extend_from_slice(line.as_slice())?;
                 Ok(true)
             }

@@ -2,6 +2,7 @@
 //! stream of a listing, and the texts of EPC words. Sockets, files and the command line's process are not in here.
 #![tactic(auto)]
 
+mod both_ends;
 mod command;
 mod copying;
 mod decimal;
@@ -10,6 +11,7 @@ mod epc;
 mod fault;
 mod gathering;
 mod hexadecimal;
+mod inventory;
 pub mod laws;
 mod line;
 mod listing;
@@ -22,9 +24,11 @@ mod serve;
 mod serving;
 mod show;
 mod spaced;
+mod summary;
 mod tail;
 mod words;
 
+pub use both_ends::{Endpoint, run_loop};
 pub use command::{answer, run_command};
 pub use copying::{read_all, write_all};
 pub use encode::run_encode;
@@ -32,6 +36,7 @@ pub use epc::run_epc;
 pub use fault::{Refusal, ToolErr, Verdict};
 pub use gathering::Gathering;
 pub use hexadecimal::bytes_of_hex;
+pub use inventory::run_inventory;
 pub use llrp_session::Sighting;
 pub use llrp_stream::{Input, Output, Sink, Source};
 pub use plan::{Plan, standard_plan};
@@ -39,6 +44,7 @@ pub use script::{Action, Entry, Script};
 pub use serve::run_serve;
 pub use serving::Serving;
 pub use show::run_show;
+pub use summary::Summary;
 pub use words::{NetworkCommand, network_command};
 
 #[cfg(test)]

@@ -10,12 +10,12 @@ ghost use Rattle.llrp_tool.specs.Serving.{BeginsServing, Closes, IsNewReader};
 ghost use Rattle.llrp_tool.specs.declared.script.Entry.{Entry};
 ghost use Rattle.llrp_tool.specs.declared.fault.ToolErr.{ToolErr as Error};
 ghost use Rattle.llrp_tool.specs.declared.fault.ToolErr.TheVariants.{Memory};
-ghost use Rattle.llrp_tool.specs.Acting.{error_by, phase_after as the_phase_after};
+ghost use Rattle.llrp_tool.specs.Acting.{phase_after as the_phase_after};
 
-use crate::fault::ToolErr;
+use crate::fault::{ToolErr, error_of};
 use crate::script::Script;
 use llrp_session::Reader;
-use llrp_stream::{Decoder, End, Fed, FeedErr};
+use llrp_stream::{Decoder, End, Fed};
 use scripted::ScriptedReader;
 use std::alloc::Global;
 
@@ -41,16 +41,6 @@ pub struct Serving {
     phase: Phase,
 }
 
-/// The error of a decoder that takes nothing more.
-fn error_of(error: FeedErr) -> ToolErr
-    ensures { result ≡ error_by error }
-{
-    match error {
-        FeedErr::Broken => ToolErr::Broken,
-        FeedErr::Memory | FeedErr::Dead => ToolErr::Memory,
-    }
-}
-
 /// The phase after an answer of `feed`.
 fn phase_after(answer: Result<bool, ToolErr>) -> Phase
     ensures { result ≡ the_phase_after answer }
@@ -63,7 +53,7 @@ fn phase_after(answer: Result<bool, ToolErr>) -> Phase
 }
 
 impl Serving {
-    ghost use Rattle.llrp_tool.specs.Acting.{Adds};
+    ghost use Rattle.llrp_tool.specs.Sending.{Adds};
     ghost use Rattle.llrp_tool.specs.ServingStands.{Feeds, Finishes, Goes, HasFailed, IsClosed, IsFresh, IsOpen, StandsFor, Starts};
 
     /// A reader as `Reader::new` made it, and its script. It takes no memory.

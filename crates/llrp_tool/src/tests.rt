@@ -1,7 +1,9 @@
 mod commands;
 mod devices;
 mod epc;
+mod gathering;
 mod hexadecimal;
+mod inventory;
 mod serve;
 mod show;
 mod vectors;

@@ -5,9 +5,10 @@ ghost use Rattle.llrp_tree.specs.Tree.{Tree};
 ghost use Rattle.llrp_session.specs.ReadWords.{IsOfKind, behind};
 ghost use Rattle.llrp_session.specs.RoSpec.{first_of};
 ghost use Rattle.tag_uri.specs.TagText.{IsTextOf};
-ghost use Rattle.llrp_tool.specs.TagLines.{AreReportLines, IsEpcText, IsTagLine, antenna_text, count_line, data_text, report_count, rssi_text, tag_count, total_line as the_total_line};
+ghost use Rattle.llrp_tool.specs.TagLines.{AreReportLines, IsEpcText, IsTagLine, antenna_text, count_line, data_text, rssi_text, summary_of, total_line as the_total_line};
 
 use crate::listing::{push_number, push_signed, push_tail};
+use crate::summary::Summary;
 use llrp_schema::Tail;
 use llrp_session::{field, first};
 use llrp_tree::{Node, ParamKind};
@@ -107,13 +108,13 @@ pub fn report_lines(alloc: Global, tags: &[Node]) -> Result<Vec<u8>, AllocError>
 
 /// The last line: how many tags and how many reports there were.
 #[tactic(auto, unfolding(crate::specs::TagLines::total_line))]
-pub fn total_line(alloc: Global, tags: u64, reports: u64) -> Result<Vec<u8>, AllocError>
-    ensures { IfOk result (λ text. (told : List (List Tree)) → tags ≡ tag_count told → reports ≡ report_count told → text.items ≡ the_total_line told) }
+pub fn total_line(alloc: Global, summary: Summary) -> Result<Vec<u8>, AllocError>
+    ensures { IfOk result (λ text. (told : List (List Tree)) → summary ≡ summary_of told → text.items ≡ the_total_line told) }
 {
     let mut text = Vec::new(alloc);
     text.extend_from_slice(b"total")?;
-    push_number(&mut text, tags as u128)?;
-    push_number(&mut text, reports as u128)?;
+    push_number(&mut text, summary.tags as u128)?;
+    push_number(&mut text, summary.reports as u128)?;
     text.extend_from_slice(b"\n")?;
     Ok(text)
 }

@@ -2,32 +2,15 @@
 
 ghost use Rattle.std.specs.Prelude.{◌≡◌, ◌∷◌, IfErr, IfOk, OnOk, [], map};
 ghost use Rattle.llrp_session.specs.ReaderSteps.{event_of as event_handed};
-ghost use Rattle.llrp_tool.specs.Acting.{Adds, AddsSome, Did, DidSome, IsDue};
+ghost use Rattle.llrp_tool.specs.Acting.{Did, DidSome, IsDue};
 ghost use Rattle.llrp_tool.specs.Serving.{event_in as event_by, happening, last_moment, taking};
-ghost use Rattle.llrp_tool.specs.declared.fault.ToolErr.TheVariants.{Memory};
 
 use crate::fault::ToolErr;
 use crate::script::{Action, Entry};
+use crate::sending::append_frames;
 use llrp_session::{Reader, ReaderIn, StepFault};
 use llrp_stream::Item;
-use llrp_tree::{EncodeErr, MAX_LIMIT, Message, encode_into};
 use std::alloc::Global;
-
-/// Appends the frames of messages in order. The only error is `Memory`.
-fn append_frames(alloc: Global, messages: &[Message], out: &mut Vec<u8>) -> Result<(), ToolErr>
-    ensures ok { OnOk result (Adds messages.now out.old.items out.new.items) }
-    ensures err { IfErr result (λ e. (e ≡ Memory) × AddsSome messages.now out.old.items out.new.items) }
-{
-    for message in messages {
-        message.lawful();
-        match encode_into(alloc, message, out, MAX_LIMIT) {
-            Ok(()) => {}
-            Err(EncodeErr::Memory) => return Err(ToolErr::Memory),
-            Err(EncodeErr::OverLimit) => unreachable!(),
-        }
-    }
-    Ok(())
-}
 
 /// What happens to the reader at a moment. What it says is appended; a refused event changes nothing.
 /// The only error is `Memory`.

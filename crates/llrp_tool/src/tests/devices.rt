@@ -10,10 +10,10 @@ const KEEPALIVE: &[u8] = b"\x08\x3e\0\0\0\x0a\0\0\0\x07";
 
 /// Takes one byte a call, and fails in the call after so many.
 #[derive(Drop)]
-struct Failing {
-    bytes: Vec<u8>,
-    left: u32,
-    failures: u64,
+pub struct Failing {
+    pub bytes: Vec<u8>,
+    pub left: u32,
+    pub failures: u64,
 }
 
 impl Sink for Failing {

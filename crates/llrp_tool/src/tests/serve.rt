@@ -38,7 +38,7 @@ const CLOSE: &str = "080E0000000A00000009";
 const CLOSED: &str = "08040000001200000009 011F000800000000";
 
 /// The bytes of hexadecimal texts in a row, whose spaces are passed over.
-fn bytes(alloc: Global, texts: &[&str]) -> Result<Vec<u8>, ToolErr> {
+pub fn bytes(alloc: Global, texts: &[&str]) -> Result<Vec<u8>, ToolErr> {
     let mut digits = Vec::new(alloc);
     for text in texts {
         digits.extend_from_slice(text.as_bytes())?;

@@ -19,5 +19,5 @@ returns-in-Answer c = λ d o h opened. ended_early d c.args.self.now o c.args.re
 
 pub returns-in_ok-extend_from_slice-in-End : goal.returns-in_ok-extend_from_slice-in-End
 returns-in_ok-extend_from_slice-in-End c = λ d o h opened.
-    ended_fine d c.args.self.now c.in_ok-line-in-End.line.items o c.args.report.now.items c.extend_from_slice.new.self.items h c.in-End.is (c.in_ok-line-in-End.ensures d.reports h.tags_is h.reports_is)
+    ended_fine d c.args.self.now c.in_ok-line-in-End.line.items o c.args.report.now.items c.extend_from_slice.new.self.items h c.in-End.is (c.in_ok-line-in-End.ensures d.reports h.counts)
     (c.in_ok-extend_from_slice-in-End.ensures.items ∙ ap (λ (x : List ℕ). c.args.report.now.items ++ x) c.as_slice.ensures.value)

@@ -23,9 +23,9 @@ returns-in-Report-clause-does c = λ d h opened.
     let lines = c.in_ok-lines.lines.items in
     let are : AreReportLines tags lines = subst (λ (ts : List Tree). AreReportLines ts lines) c.as_slice.ensures c.in_ok-lines.ensures in
     let printed = c.in_ok-extend_from_slice.ensures.items ∙ ap (λ (x : List ℕ). c.args.report.now.items ++ x) c.as_slice-2.ensures.value in
-    let told : c.saturating_add-self.result ≡ min (g.tags + length tags) greatest_count = c.saturating_add-self.ensures ∙ ap (λ (ts : List Tree). min (g.tags + length ts) greatest_count) c.as_slice-3.ensures in
+    let told : c.with_report-self.result.tags ≡ min (g.summary.tags + length tags) greatest_count = c.with_report-self.ensures.tags ∙ ap (λ (ts : List Tree). min (g.summary.tags + length ts) greatest_count) c.as_slice-3.ensures in
     report_leads_on d g c.go_on.new.self tags lines c.args.out.now.items c.go_on.new.out.items c.args.report.now.items c.extend_from_slice.new.self.items c.go_on.result h opened c.in-Report.is are printed
-    (c.go_on.ensures.does _ c.extend_from_slice.new.self.items (counted d g tags c.saturating_add-self.result c.saturating_add-self-2.result h told c.saturating_add-self-2.ensures) opened)
+    (c.go_on.ensures.does _ c.extend_from_slice.new.self.items (counted d g tags c.with_report-self.result h told c.with_report-self.ensures.reports) opened)
 
 pub returns : goal.returns
 returns c = record {
@@ -35,8 +35,8 @@ returns c = record {
       let lines = c.in_ok-lines.lines.items in
       let are : AreReportLines tags lines = subst (λ (ts : List Tree). AreReportLines ts lines) c.as_slice.ensures c.in_ok-lines.ensures in
       let printed = c.in_ok-extend_from_slice.ensures.items ∙ ap (λ (x : List ℕ). c.args.report.now.items ++ x) c.as_slice-2.ensures.value in
-      let told : c.saturating_add-self.result ≡ min (g.tags + length tags) greatest_count = c.saturating_add-self.ensures ∙ ap (λ (ts : List Tree). min (g.tags + length ts) greatest_count) c.as_slice-3.ensures in
+      let told : c.with_report-self.result.tags ≡ min (g.summary.tags + length tags) greatest_count = c.with_report-self.ensures.tags ∙ ap (λ (ts : List Tree). min (g.summary.tags + length ts) greatest_count) c.as_slice-3.ensures in
       report_passes d g _ tags lines c.args.out.now.items c.args.report.now.items c.extend_from_slice.new.self.items h opened c.in-Answer.is are printed
-      (counted d g tags c.saturating_add-self.result c.saturating_add-self-2.result h told c.saturating_add-self-2.ensures);
+      (counted d g tags c.with_report-self.result h told c.with_report-self.ensures.reports);
   others = search rules;
 }

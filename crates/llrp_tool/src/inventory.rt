@@ -1,0 +1,58 @@
+//! Following a plan over a source and two sinks.
+
+ghost use Rattle.std.specs.Prelude.{◌<◌, ◌≤◌, ◌^◌, List, ℕ};
+ghost use Rattle.llrp_stream.specs.Device.{IsFreshSource};
+ghost use Rattle.llrp_tree.specs.declared.TheConstants.{MAX_LIMIT};
+ghost use Rattle.llrp_tool.specs.RunInventory.{RunsInventory};
+
+use crate::copying::{MOST_READS, READ_SIZE, hand_on};
+use crate::fault::ToolErr;
+use crate::gathering::Gathering;
+use crate::plan::Plan;
+use crate::summary::Summary;
+use llrp_stream::{Sink, Source};
+use std::alloc::Global;
+
+/// Follows a plan with the reader whose bytes the source gives: what the client sends is written to `w`
+/// and the lines of the tags to `report`, those for what was read before the next read. The limit is the
+/// greatest length of a frame in octets.
+///
+/// The answer is how much was told, once the connection was closed as planned. `Early` is an end of the
+/// input, or of the connection, before that; `Peer` a status other than 0; `Strange` what no reader sends
+/// there; `Broken` a length field below 10. After `Read`, `Write`, `Bound` or `Memory` fronts of what the
+/// client says were written.
+pub fn run_inventory<R: Source, W: Sink, T: Sink>(
+    alloc: Global,
+    plan: Plan,
+    limit: u32,
+    r: &mut R,
+    w: &mut W,
+    report: &mut T,
+) -> Result<Summary, ToolErr>
+    requires least { 4096 ≤ limit }
+    requires most { limit ≤ MAX_LIMIT }
+    requires source { IsFreshSource (R.log r.old) }
+    requires sink { (W.log w.old).failures < 2 ^ 63 }
+    requires report { (T.log report.old).failures < 2 ^ 63 }
+    ensures { (bytes : List ℕ) × RunsInventory limit plan (R.log r.old) (R.log r.new) (W.log w.old) (W.log w.new) (T.log report.old) (T.log report.new) bytes result }
+{
+    let mut gathering = Gathering::new(alloc, plan, limit);
+    let mut out = Vec::new(alloc);
+    let mut lines = Vec::new(alloc);
+    let mut buffer = [0u8; READ_SIZE];
+    for _ in 0..MOST_READS {
+        let Ok(n) = r.read(&mut buffer) else {
+            return Err(ToolErr::Read);
+        };
+        if n == 0 {
+            return Err(ToolErr::Early);
+        }
+        let fed = gathering.feed(&buffer[..n], &mut out, &mut lines);
+        hand_on(&mut out, w)?;
+        hand_on(&mut lines, report)?;
+        if fed? {
+            return Ok(gathering.summary());
+        }
+    }
+    Err(ToolErr::Bound)
+}

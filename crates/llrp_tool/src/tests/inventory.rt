@@ -1,0 +1,262 @@
+//! Following a plan over devices.
+
+ghost use Rattle.std.specs.Prelude.{None};
+
+use crate::tests::devices::Failing;
+use crate::tests::gathering::{ADD, CONNECTED, DOWN, ENABLE, LINES, UP};
+use crate::tests::serve::bytes;
+use crate::{Input, Output, Source, Summary, ToolErr, run_inventory, run_show, standard_plan};
+use std::alloc::Global;
+use std::io;
+use std::test::*;
+
+/// A reader's bytes, what a client with a plan of one poll sends, and how it ends.
+struct Row {
+    name: &'static str,
+    down: &'static [&'static str],
+    up: &'static [&'static str],
+    end: Result<Summary, ToolErr>,
+}
+
+/// ADD_ROSPEC_RESPONSE with status 0.
+const ADDED: &str = "041E0000001200000001 011F000800000000";
+
+/// Runs that no report is part of.
+static ROWS: [Row; 10] = [
+    Row {
+        name: "no bytes",
+        down: &[],
+        up: &[],
+        end: Err(ToolErr::Early),
+    },
+    Row {
+        name: "connected",
+        down: &[CONNECTED],
+        up: &[ADD],
+        end: Err(ToolErr::Early),
+    },
+    Row {
+        name: "refused with status 101",
+        down: &[CONNECTED, "041E0000001200000001 011F000800650000"],
+        up: &[ADD],
+        end: Err(ToolErr::Peer(101)),
+    },
+    Row {
+        name: "connected twice",
+        down: &[CONNECTED, CONNECTED],
+        up: &[ADD],
+        end: Err(ToolErr::Early),
+    },
+    Row {
+        name: "a message of no known type",
+        down: &[CONNECTED, "04010000000B0000000500", ADDED],
+        up: &[ADD, ENABLE],
+        end: Err(ToolErr::Early),
+    },
+    Row {
+        name: "a header with reserved bits",
+        down: &[CONNECTED, "243E0000000A00000007", ADDED],
+        up: &[ADD],
+        end: Err(ToolErr::Strange),
+    },
+    Row {
+        name: "a response with another id",
+        down: &[CONNECTED, "041E0000001200000002 011F000800000000", ADDED],
+        up: &[ADD],
+        end: Err(ToolErr::Strange),
+    },
+    Row {
+        name: "ConnectionCloseEvent",
+        down: &[
+            CONNECTED,
+            "043F0000001E00000002 00F60014 0080000C0000000000000000 01010004",
+            ADDED,
+        ],
+        up: &[ADD],
+        end: Err(ToolErr::Early),
+    },
+    Row {
+        name: "a length field below 10",
+        down: &[CONNECTED, "043E00000009"],
+        up: &[ADD],
+        end: Err(ToolErr::Broken),
+    },
+    Row {
+        name: "a frame that is cut",
+        down: &[CONNECTED, "041E000000120000"],
+        up: &[ADD],
+        end: Err(ToolErr::Early),
+    },
+];
+
+#[test]
+fn runs_that_end_before_the_closing(rt: HostRuntime) -> Result<(), Fail> {
+    let alloc = rt.alloc();
+    for row in &ROWS {
+        let down = bytes(alloc, row.down)?;
+        let wanted = bytes(alloc, row.up)?;
+        let mut source = Input::new(down.as_slice());
+        let mut up = Output::new(Vec::new(alloc));
+        let mut lines = Output::new(Vec::new(alloc));
+        let plan = standard_plan(alloc, 0, 1)?;
+        let end = run_inventory(alloc, plan, 65_536, &mut source, &mut up, &mut lines);
+        assert!(rt; end == row.end, "at {}", row.name);
+        assert!(rt;
+            up.into_inner().as_slice() == wanted.as_slice(),
+            "at {}",
+            row.name
+        );
+        assert!(rt; lines.into_inner().is_empty());
+    }
+    Ok(())
+}
+
+/// The ROSpec of a plan whose reader reports after 500 tags.
+const ROSPEC: &[u8] =
+    b"0 ADD_ROSPEC 1 1\n1 ROSpec 1 0 0\n2 ROBoundarySpec\n3 ROSpecStartTrigger 0\n3 ROSpecStopTrigger 0 0\n2 AISpec w0\n3 AISpecStopTrigger 0 0\n3 InventoryParameterSpec 1 1\n2 ROReportSpec 2 500\n3 TagReportContentSelector 0 0 0 1 0 1 0 0 0 0\n";
+
+#[test]
+fn the_rospec_of_a_plan(rt: HostRuntime) -> Result<(), Fail> {
+    let alloc = rt.alloc();
+    let down = bytes(alloc, &[CONNECTED])?;
+    let mut source = Input::new(down.as_slice());
+    let mut up = Output::new(Vec::new(alloc));
+    let mut lines = Output::new(Vec::new(alloc));
+    let plan = standard_plan(alloc, 500, 0)?;
+    let end = run_inventory(alloc, plan, 65_536, &mut source, &mut up, &mut lines);
+    assert!(rt; end == Err(ToolErr::Early));
+    let sent = up.into_inner();
+    let mut listing = Output::new(Vec::new(alloc));
+    run_show(
+        alloc,
+        &mut Input::new(sent.as_slice()),
+        &mut listing,
+        65_536,
+    )?;
+    assert!(rt; listing.into_inner().as_slice() == ROSPEC);
+    Ok(())
+}
+
+/// Gives a byte a call, and fails in the call after so many.
+#[derive(Drop)]
+struct OneByOne<'a> {
+    rest: &'a [u8],
+    left: usize,
+    reads: u64,
+    ends: u64,
+    failures: u64,
+}
+
+impl<'a> OneByOne<'a> {
+    fn new(rest: &'a [u8], left: usize) -> OneByOne<'a>
+        ensures { result ≡ record { rest = rest; left = left; reads = 0; ends = 0; failures = 0 } }
+    {
+        OneByOne {
+            rest,
+            left,
+            reads: 0,
+            ends: 0,
+            failures: 0,
+        }
+    }
+}
+
+impl<'a> Source for OneByOne<'a> {
+    ghost log = { λ s. record { reads = s.reads; ends = s.ends; failures = s.failures; left = None } };
+
+    fn read(&mut self, buf: &mut [u8]) -> io::Result<usize> {
+        if self.left == 0 {
+            self.failures += 1;
+            return Err(io::Error::from(io::ErrorKind::Other));
+        }
+        self.left -= 1;
+        let Some((first, rest)) = self.rest.split_first() else {
+            self.ends += 1;
+            return Ok(0);
+        };
+        buf[0] = *first;
+        self.rest = rest;
+        self.reads += 1;
+        Ok(1)
+    }
+}
+
+/// A sink of memory that fails in the call after so many; each call takes one byte.
+fn failing_after(alloc: Global, left: u32) -> Failing
+    ensures { result.failures ≡ 0 }
+{
+    Failing {
+        bytes: Vec::new(alloc),
+        left,
+        failures: 0,
+    }
+}
+
+#[test]
+fn one_run_over_devices(rt: HostRuntime) -> Result<(), Fail> {
+    let alloc = rt.alloc();
+    let down = bytes(alloc, &DOWN)?;
+    let wanted = bytes(alloc, &UP)?;
+    let mut source = Input::new(down.as_slice());
+    let mut up = Output::new(Vec::new(alloc));
+    let mut lines = Output::new(Vec::new(alloc));
+    let plan = standard_plan(alloc, 0, 1)?;
+    let end = run_inventory(alloc, plan, 4096, &mut source, &mut up, &mut lines);
+    assert!(rt;
+        end == Ok(Summary {
+            tags: 1,
+            reports: 2
+        })
+    );
+    assert!(rt; up.into_inner().as_slice() == wanted.as_slice());
+    assert!(rt; lines.into_inner().as_slice() == LINES);
+    Ok(())
+}
+
+#[test]
+fn a_read_that_fails_leaves_a_front(rt: HostRuntime) -> Result<(), Fail> {
+    let alloc = rt.alloc();
+    let down = bytes(alloc, &DOWN)?;
+    let wanted = bytes(alloc, &UP)?;
+    for left in 0..down.len() {
+        let mut source = OneByOne::new(down.as_slice(), left);
+        let mut up = Output::new(Vec::new(alloc));
+        let mut lines = Output::new(Vec::new(alloc));
+        let plan = standard_plan(alloc, 0, 1)?;
+        let end = run_inventory(alloc, plan, 4096, &mut source, &mut up, &mut lines);
+        assert!(rt; end == Err(ToolErr::Read));
+        assert!(rt; wanted.starts_with(up.into_inner().as_slice()));
+        assert!(rt; LINES.starts_with(lines.into_inner().as_slice()));
+    }
+    Ok(())
+}
+
+#[test]
+fn a_write_that_fails_leaves_a_front(rt: HostRuntime) -> Result<(), Fail> {
+    let alloc = rt.alloc();
+    let down = bytes(alloc, &DOWN)?;
+    let wanted = bytes(alloc, &UP)?;
+    for left in 0..wanted.len() as u32 {
+        let mut source = OneByOne::new(down.as_slice(), usize::MAX);
+        let mut up = failing_after(alloc, left);
+        let mut lines = failing_after(alloc, u32::MAX);
+        let plan = standard_plan(alloc, 0, 1)?;
+        let end = run_inventory(alloc, plan, 4096, &mut source, &mut up, &mut lines);
+        assert!(rt; end == Err(ToolErr::Write));
+        assert!(rt; up.bytes.len() == left as usize && wanted.starts_with(up.bytes.as_slice()));
+        assert!(rt; LINES.starts_with(lines.bytes.as_slice()));
+    }
+    for left in 0..LINES.len() as u32 {
+        let mut source = OneByOne::new(down.as_slice(), usize::MAX);
+        let mut up = failing_after(alloc, u32::MAX);
+        let mut lines = failing_after(alloc, left);
+        let plan = standard_plan(alloc, 0, 1)?;
+        let end = run_inventory(alloc, plan, 4096, &mut source, &mut up, &mut lines);
+        assert!(rt; end == Err(ToolErr::Write));
+        assert!(rt; wanted.starts_with(up.bytes.as_slice()));
+        assert!(rt;
+            lines.bytes.len() == left as usize && LINES.starts_with(lines.bytes.as_slice())
+        );
+    }
+    Ok(())
+}
