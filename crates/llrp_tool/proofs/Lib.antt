@@ -1,5 +1,6 @@
 pub mod ActingLemmas
 pub mod AnswerLemmas
+pub mod ArgumentLemmas
 pub mod BodyWords
 pub mod Clear
 pub mod ClientSideLemmas
@@ -9,12 +10,12 @@ pub mod Cutting
 pub mod DecimalWords
 pub mod DeviceLemmas
 pub mod EpcLemmas
-pub mod EpcText
 pub mod Faults
 pub mod Finishing
 pub mod GatheringFeeds
 pub mod GatheringLemmas
 pub mod GatheringSteps
+pub mod GivenArguments
 pub mod Growing
 pub mod HearingLemmas
 pub mod HexadecimalLemmas
@@ -47,6 +48,7 @@ pub mod PlanTakings
 pub mod PrintingLemmas
 pub mod PrintsBack
 pub mod ReadBack
+pub mod ReadRows
 pub mod ReaderSideLemmas
 pub mod Rows
 pub mod Running

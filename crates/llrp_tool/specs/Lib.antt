@@ -23,6 +23,7 @@ pub mod Numeral
 pub mod OpenLines
 pub mod OpenText
 pub mod OpenTextSteps
+pub mod Parse
 pub mod Plan
 pub mod PlanLaws
 pub mod Printing

@@ -1,11 +1,15 @@
 -- The words that the program takes after its name, and the command that they name.
-use Rattle.std.specs.Prelude.{◌≡◌, ◌≢◌, ◌⊎◌, pos, List, Option, Some, None, Bool, true, false, codes, option_map, option_and_then}
-use Rattle.clap.specs.Words.{App, Rule, Row, Text, new_app, new_rule, with_rule, with_subcommand, subcommand_of, first_of, takes}
-use Rattle.clap.specs.Walk.{one_of}
+use Rattle.std.specs.Prelude.{◌≡◌, ◌≢◌, ◌⊎◌, ℕ, pos, List, [], ◌∷◌, Option, Some, None, Bool, true, false, codes, option_map, option_and_then}
+use Rattle.std.specs.Str.Parse.{signed_digits_value}
+use Rattle.clap.specs.Words.{App, Rule, Row, Text, new_app, new_rule, with_rule, with_subcommand, subcommand_of, first_of}
+use Rattle.clap.specs.Faults.{fault_of}
+use Rattle.clap.specs.Walk.{is_empty, one_of}
 use Rattle.clap.specs.declared.builder.ArgAction.TheVariants.{SetTrue}
 use Rattle.clap.specs.declared.builder.value_parser.ValueParser.TheVariants.{Signed}
+use Rattle.llrp_tool.specs.declared.words.NetworkCommand.{NetworkCommand}
+use Rattle.llrp_tool.specs.declared.words.NetworkCommand.TheVariants.{Sim, Inventory, Loop}
 use Rattle.llrp_tool.specs.declared.words.Request.{Request}
-use Rattle.llrp_tool.specs.declared.words.Request.TheVariants.{Show, Encode, Epc, Elsewhere, Help, Usage}
+use Rattle.llrp_tool.specs.declared.words.Request.TheVariants.{Show, Encode, Epc, Network, Help, Usage}
 
 -- the flag --hex
 abbrev pub hex_rule : Rule
@@ -31,17 +35,41 @@ port_rule = record (new_rule (codes "PORT")) { required = true; parser = Some (S
 abbrev pub port_app : Text → App
 port_app name = with_rule (new_app name) port_rule
 
+-- the argument HOST, which must be given
+abbrev pub host_rule : Rule
+host_rule = record (new_rule (codes "HOST")) { required = true }
+
+-- an option with a number from 0 to 65,535, and what it is where it is not given
+abbrev pub number_rule : Text → Text → Rule
+number_rule name default = record (new_rule name) { long = Some name; value_names = 1; parser = Some (Signed (pos 0) (pos 65535)); defaults = default ∷ [] }
+
+-- a command with the two numbers of a plan
+abbrev pub with_plan : App → App
+with_plan a = with_rule (with_rule a (number_rule (codes "every") (codes "0"))) (number_rule (codes "polls") (codes "1"))
+
+-- inventory HOST PORT, with a plan
+abbrev pub inventory_app : App
+inventory_app = with_plan (with_rule (with_rule (new_app (codes "inventory")) host_rule) port_rule)
+
+-- loop, with a plan
+abbrev pub loop_app : App
+loop_app = with_plan (new_app (codes "loop"))
+
 -- the program before its commands
 abbrev pub top_app : App
 top_app = let a = new_app (codes "llrp") in record a { top = record a.top { no_binary_name = true; subcommand_required = true } }
 
--- the program: a command is wanted, and there are show, encode, epc and sim
-unfoldable pub llrp_app : App
-llrp_app = with_subcommand (with_subcommand (with_subcommand (with_subcommand top_app (hex_app (codes "show")).top) (hex_app (codes "encode")).top) (text_app (codes "epc")).top) (port_app (codes "sim")).top
+-- the program before the commands that it runs itself
+abbrev pub streams_app : App
+streams_app = with_subcommand (with_subcommand (with_subcommand top_app (hex_app (codes "show")).top) (hex_app (codes "encode")).top) (text_app (codes "epc")).top
 
--- the parse of the words succeeds
+-- the program: a command is wanted, and there are show, encode, epc, sim, inventory and loop
+unfoldable pub llrp_app : App
+llrp_app = with_subcommand (with_subcommand (with_subcommand streams_app (port_app (codes "sim")).top) inventory_app.top) loop_app.top
+
+-- the parse of the words succeeds: nothing in them is a fault
 unfoldable pub parses : List Text → Bool
-parses words = takes llrp_app words
+parses words = is_empty (fault_of llrp_app words)
 
 -- the command that the words name, and its arguments
 unfoldable pub command_in : List Text → Option (Text × List Row)
@@ -55,9 +83,13 @@ name_in found = option_map (λ p. p.0) found
 abbrev pub hex_in : Option (Text × List Row) → Option Text
 hex_in found = option_and_then (λ p. one_of (codes "hex") p.1) found
 
--- the value of the argument TEXT
-abbrev pub text_in : Option (Text × List Row) → Option Text
-text_in found = option_and_then (λ p. first_of (codes "TEXT") p.1) found
+-- the word of an argument: as it was given, or as it is where it is not given
+abbrev pub word_in : Text → Option (Text × List Row) → Option Text
+word_in id found = option_and_then (λ p. first_of id p.1) found
+
+-- the number that the word of an argument spells
+abbrev pub HasNumber : Text → Option (Text × List Row) → ℕ → Type 0
+HasNumber id found n = option_map (signed_digits_value 10) (word_in id found) ≡ Some (pos n)
 
 -- the flag was given, or it was not
 abbrev pub IsHexFlag : Option Text → Bool → Type 0
@@ -74,7 +106,7 @@ pub record Asks (words : List Text) (name : Text) (hex : Bool) : Type 0 where
 pub record AsksEpc (words : List Text) (text : Text) : Type 0 where
   pub parsed : parses words ≡ true
   pub named : name_in (command_in words) ≡ Some (codes "epc")
-  pub given : text_in (command_in words) ≡ Some text
+  pub given : word_in (codes "TEXT") (command_in words) ≡ Some text
 
 -- The words name a command that the program runs itself.
 pub record AsksElsewhere (words : List Text) : Type 0 where
@@ -87,11 +119,28 @@ pub record AsksElsewhere (words : List Text) : Type 0 where
 abbrev pub HasFlag : Option Text → Bool → Type 0
 HasFlag found hex = (asked : Bool) → IsHexFlag found asked → hex ≡ asked
 
--- what is requested is the command found, with its flag
+-- the command that was found is this one, with these arguments
+abbrev pub IsNetwork : Option (Text × List Row) → NetworkCommand → Type 0
+IsNetwork found (Sim port) = (name_in found ≡ Some (codes "sim")) × HasNumber (codes "PORT") found port
+IsNetwork found (Inventory host port every polls) =
+    (name_in found ≡ Some (codes "inventory")) × (word_in (codes "HOST") found ≡ Some host.now) × HasNumber (codes "PORT") found port
+    × HasNumber (codes "every") found every × HasNumber (codes "polls") found polls
+IsNetwork found (Loop every polls) = (name_in found ≡ Some (codes "loop")) × HasNumber (codes "every") found every × HasNumber (codes "polls") found polls
+
+-- what is requested is the command found, with its arguments
 abbrev pub IsRequest : Option (Text × List Row) → Request → Type 0
 IsRequest found (Show hex) = (name_in found ≡ Some (codes "show")) × HasFlag (hex_in found) hex
 IsRequest found (Encode hex) = (name_in found ≡ Some (codes "encode")) × HasFlag (hex_in found) hex
-IsRequest found (Epc text) = (name_in found ≡ Some (codes "epc")) × (text_in found ≡ Some text.now)
-IsRequest found Elsewhere = (name_in found ≢ Some (codes "show")) × (name_in found ≢ Some (codes "encode")) × (name_in found ≡ Some (codes "epc") → text_in found ≡ None)
+IsRequest found (Epc text) = (name_in found ≡ Some (codes "epc")) × (word_in (codes "TEXT") found ≡ Some text.now)
+IsRequest found (Network command) = IsNetwork found command
 IsRequest found (Help text) = ⊥
 IsRequest found (Usage text) = ⊥
+
+-- The words name this command, which the program runs itself.
+abbrev pub AsksNetwork : List Text → NetworkCommand → Type 0
+AsksNetwork words command = (parses words ≡ true) × IsNetwork (command_in words) command
+
+-- the command that the words name, or none where they name none of these
+abbrev pub NetworkAsked : List Text → Option NetworkCommand → Type 0
+NetworkAsked words (Some command) = AsksNetwork words command
+NetworkAsked words None = (command : NetworkCommand) → AsksNetwork words command → ⊥

@@ -267,7 +267,7 @@ pub fn run_command<S: AsStr, R: Source, W: Sink, E: Sink>(
             let outcome = run_epc(alloc, text, w);
             answer(verdict_status(outcome), e)
         }
-        Request::Elsewhere => Ok(USAGE),
+        Request::Network(_) => Ok(USAGE),
         Request::Help(text) => {
             let outcome = write_all(w, text.as_bytes());
             answer(fine_status(outcome), e)

@@ -45,7 +45,7 @@ pub use serve::run_serve;
 pub use serving::Serving;
 pub use show::run_show;
 pub use summary::Summary;
-pub use words::sim_port;
+pub use words::{NetworkCommand, network_command};
 
 #[cfg(test)]
 mod tests;

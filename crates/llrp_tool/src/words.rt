@@ -1,59 +1,39 @@
 //! What the words of the command line ask for.
 
-ghost use Rattle.std.specs.Prelude.{◌≡◌, IfOk, IfSome, Some, codes, false, map, true};
-ghost use Rattle.clap.specs.Words.{app_of, subcommand_rows_of};
+ghost use Rattle.std.specs.Prelude.{◌≡◌, IfOk, IfSome, List, Some, codes, false, map, true, ℕ};
+ghost use Rattle.clap.specs.Words.{app_of, found_of, rows_of, rule_of, subcommand_rows_of};
 ghost use Rattle.clap.specs.declared.builder.command.Command.TheViews.{out-Command};
-ghost use Rattle.llrp_tool.specs.Words.{IsRequest, command_in, hex_app, llrp_app, name_in, parses, port_app, text_app};
+ghost use Rattle.llrp_tool.specs.Parse.{HasNumberWord, IsFound, IsNetworkParse, IsParse, IsText};
+ghost use Rattle.llrp_tool.specs.Words.{HasNumber, IsNetwork, IsRequest, NetworkAsked, command_in, hex_app, inventory_app, llrp_app, loop_app, number_rule, parses, port_app, port_rule, streams_app, text_app, with_plan};
+
+mod help;
 
 use clap::error::ErrorKind;
 use clap::{Arg, ArgAction, ArgMatches, Command, value_parser};
+use help::{ENCODE_HELP, EPC_HELP, INVENTORY_HELP, LOOP_HELP, SHOW_HELP, SIM_HELP};
 use std::alloc::{AllocError, Global};
 use std::convert::AsStr;
 
-const SHOW_HELP: &str = "\
-Reads a stream of LLRP messages on standard input, and prints its listing on standard output:
-  0 NAME VERSION ID FIELDS   a message
-  LEVEL NAME FIELDS TAIL     a parameter, one level below its parent
-  ! ID BIT REASON            a frame that is no message: its id, its first fault and the fault's bit
-  ? N                        N bytes at the end that are no whole frame
-  ! BROKEN                   a length below 10, at which the stream breaks off
-The status is 0 where all frames are messages, and 1 where some are not.
-
-Example:
-  $ echo 083E0000000A00000007 | llrp show --hex
-  0 KEEPALIVE 2 7";
-
-const ENCODE_HELP: &str = "\
-Reads a listing on standard input, a line 0 NAME VERSION ID for each message, and writes the bytes of
-the messages on standard output. A line that is refused ends the command with status 1, and is named
-on standard error with the reason.
-
-Example:
-  $ echo 0 KEEPALIVE 2 7 | llrp encode --hex
-  083E0000000A00000007";
-
-const EPC_HELP: &str = "\
-Prints the text of a tag's 96-bit word, or the word of a text:
-  24 hexadecimal digits   the word's tag URI; or its raw URI, and # REASON BIT, which is why it has no
-                          tag URI, and the first bit of the part that fails
-  any other text          the 24 digits of its word; or ! REASON, which is why it is the text of none
-The status is 1 for a text of no word, and 0 for every other.
-
-Examples:
-  $ llrp epc 3074257BF7194E4000001A85
-  urn:epc:tag:sgtin-96:3.0614141.812345.6789
-  $ llrp epc urn:epc:tag:sgtin-96:3.0614141.812345.6789
-  3074257BF7194E4000001A85";
-
-const SIM_HELP: &str = "\
-Reads a script of what the reader's antennas see on standard input, to its end. Then it listens on
-127.0.0.1 and serves one client as an LLRP reader. The lines of a script:
-  AFTER NOW seen ANTENNA RSSI TEXT   directly after AFTER messages, at the moment NOW in microseconds,
-                                     an antenna sees the tag with this tag URI or raw URI
-  AFTER NOW tick                     time goes on to NOW
-
-Example:
-  $ printf '2 5 tick\\n' | llrp sim 5084";
+/// A command that the program runs itself, over sockets.
+#[derive(Clone, Copy, Debug, PartialEq, Eq)]
+pub enum NetworkCommand<'a> {
+    /// A simulated reader that serves one client on this port, by a script.
+    Sim {
+        port: u16,
+    },
+    /// An inventory of the reader at this host and port, by a plan of these two numbers.
+    Inventory {
+        host: &'a str,
+        port: u16,
+        every: u16,
+        polls: u16,
+    },
+    /// An inventory of a simulated reader, by a script and a plan of these two numbers.
+    Loop {
+        every: u16,
+        polls: u16,
+    },
+}
 
 /// What the words ask for.
 #[derive(Drop)]
@@ -65,7 +45,7 @@ pub enum Request<'a> {
     /// The text of a word's digits, or the digits of a word's text.
     Epc { text: &'a str },
     /// A command that the program runs itself.
-    Elsewhere,
+    Network(NetworkCommand<'a>),
     /// This text of help.
     Help(String),
     /// No command: this text says why.
@@ -111,30 +91,93 @@ fn text_command<'a>(
         .arg(text)
 }
 
-/// A command whose one argument is PORT, from 1 to 65,535, which must be given.
-fn port_command<'a>(
-    alloc: Global,
-    name: &'a str,
-    about: &'a str,
-    port: &'a str,
-    help: &'a str,
-) -> Result<Command<'a>, AllocError>
-    ensures app { IfOk result (λ c. app_of c ≡ port_app name.entry.now) }
-    ensures local { IfOk result (λ c. (out-Command c).has_globals ≡ false) }
+/// The argument PORT, from 1 to 65,535, which must be given.
+fn port_argument<'a>(alloc: Global, port: &'a str) -> Arg<'a>
+    ensures rule { rule_of result ≡ port_rule }
+    ensures local { result.global ≡ false }
 {
-    let port = Arg::new(alloc, "PORT")
+    Arg::new(alloc, "PORT")
         .required(true)
         .value_parser(value_parser!(u16).range(1..))
-        .help(port);
-    Command::new(alloc, name)
-        .about(about)
-        .after_help(help)
-        .arg(port)
+        .help(port)
 }
 
-/// The words that the program takes.
-fn llrp_command<'a>(alloc: Global) -> Result<Command<'a>, AllocError>
-    ensures { IfOk result (λ c. app_of c ≡ llrp_app) }
+/// An option with a number from 0 to 65,535, and what it is where it is not given.
+fn number_option<'a>(
+    alloc: Global,
+    name: &'a str,
+    value: &'a str,
+    default: &'a str,
+    help: &'a str,
+) -> Arg<'a>
+    ensures rule { rule_of result ≡ number_rule name.entry.now default.entry.now }
+    ensures local { result.global ≡ false }
+{
+    Arg::new(alloc, name)
+        .long(name)
+        .value_name(value)
+        .value_parser(value_parser!(u16))
+        .default_value(default)
+        .help(help)
+}
+
+/// The command with the options that make a plan.
+fn with_plan<'a>(alloc: Global, command: Command<'a>) -> Result<Command<'a>, AllocError>
+    ensures app { IfOk result (λ c. app_of c ≡ with_plan (app_of command.entry)) }
+    ensures local { (out-Command command.entry).has_globals ≡ false → IfOk result (λ c. (out-Command c).has_globals ≡ false) }
+{
+    let every = number_option(
+        alloc,
+        "every",
+        "N",
+        "0",
+        "How many tags make a report; 0 leaves it to the polls",
+    );
+    let polls = number_option(alloc, "polls", "P", "1", "How often reports are asked for");
+    command.arg(every)?.arg(polls)
+}
+
+/// The command sim.
+fn sim_command<'a>(alloc: Global) -> Result<Command<'a>, AllocError>
+    ensures app { IfOk result (λ c. app_of c ≡ port_app (codes "sim")) }
+    ensures local { IfOk result (λ c. (out-Command c).has_globals ≡ false) }
+{
+    Command::new(alloc, "sim")
+        .about("Serve one client as a simulated reader, by a script")
+        .after_help(SIM_HELP)
+        .arg(port_argument(alloc, "The port to listen on"))
+}
+
+/// The command inventory.
+fn inventory_command<'a>(alloc: Global) -> Result<Command<'a>, AllocError>
+    ensures app { IfOk result (λ c. app_of c ≡ inventory_app) }
+    ensures local { IfOk result (λ c. (out-Command c).has_globals ≡ false) }
+{
+    let host = Arg::new(alloc, "HOST")
+        .required(true)
+        .help("The reader's name or address");
+    let command = Command::new(alloc, "inventory")
+        .about("Print the tags that a reader sees")
+        .after_help(INVENTORY_HELP)
+        .arg(host)?
+        .arg(port_argument(alloc, "The reader's port; LLRP's own is 5084"))?;
+    with_plan(alloc, command)
+}
+
+/// The command loop.
+fn loop_command<'a>(alloc: Global) -> Result<Command<'a>, AllocError>
+    ensures app { IfOk result (λ c. app_of c ≡ loop_app) }
+    ensures local { IfOk result (λ c. (out-Command c).has_globals ≡ false) }
+{
+    let command = Command::new(alloc, "loop")
+        .about("Print the tags that a simulated reader sees, by a script")
+        .after_help(LOOP_HELP);
+    with_plan(alloc, command)
+}
+
+/// The program before the commands that it runs itself.
+fn streams_command<'a>(alloc: Global) -> Result<Command<'a>, AllocError>
+    ensures { IfOk result (λ c. app_of c ≡ streams_app) }
 {
     let show = hex_command(
         alloc,
@@ -157,50 +200,96 @@ fn llrp_command<'a>(alloc: Global) -> Result<Command<'a>, AllocError>
         "24 hexadecimal digits, a tag URI or a raw URI",
         EPC_HELP,
     )?;
-    let sim = port_command(
-        alloc,
-        "sim",
-        "Serve one client as a simulated reader, by a script",
-        "The port to listen on",
-        SIM_HELP,
-    )?;
     let top = Command::new(alloc, "llrp").bin_name("llrp")?;
     top.about("Reads and writes streams of LLRP 1.1 messages")
         .no_binary_name(true)
         .subcommand_required(true)
         .subcommand(show)?
         .subcommand(encode)?
-        .subcommand(epc)?
-        .subcommand(sim)
+        .subcommand(epc)
+}
+
+/// The words that the program takes.
+fn llrp_command<'a>(alloc: Global) -> Result<Command<'a>, AllocError>
+    ensures { IfOk result (λ c. app_of c ≡ llrp_app) }
+{
+    let sim = sim_command(alloc)?;
+    let inventory = inventory_command(alloc)?;
+    let both_ends = loop_command(alloc)?;
+    streams_command(alloc)?
+        .subcommand(sim)?
+        .subcommand(inventory)?
+        .subcommand(both_ends)
+}
+
+/// The number of an argument that the parse made sure of.
+fn number(inner: &ArgMatches<'_>, id: &str) -> u16
+    requires { HasNumberWord id.now (rows_of (found_of inner.now)) }
+    ensures { (name : List ℕ) → HasNumber id.now (Some (name, rows_of (found_of inner.now))) result }
+{
+    inner.get_one::<u16>(id).unwrap()
+}
+
+/// The command of this name that the program runs itself.
+fn network_named<'a>(name: &str, inner: &ArgMatches<'a>) -> NetworkCommand<'a>
+    requires { IsNetworkParse name.now (rows_of (found_of inner.now)) }
+    ensures { IsNetwork (Some (name.now, rows_of (found_of inner.now))) result }
+{
+    if name == "sim" {
+        return NetworkCommand::Sim {
+            port: number(inner, "PORT"),
+        };
+    }
+    let every = number(inner, "every");
+    let polls = number(inner, "polls");
+    if name == "loop" {
+        return NetworkCommand::Loop { every, polls };
+    }
+    NetworkCommand::Inventory {
+        host: inner.get_str("HOST").unwrap(),
+        port: number(inner, "PORT"),
+        every,
+        polls,
+    }
+}
+
+/// The command of this name.
+fn request_named<'a>(name: &str, inner: &ArgMatches<'a>) -> Request<'a>
+    requires { IsParse name.now (rows_of (found_of inner.now)) }
+    ensures { IsRequest (Some (name.now, rows_of (found_of inner.now))) result }
+{
+    if name == "epc" {
+        return Request::Epc {
+            text: inner.get_str("TEXT").unwrap(),
+        };
+    }
+    if name == "show" {
+        Request::Show {
+            hex: inner.get_flag("hex"),
+        }
+    } else if name == "encode" {
+        Request::Encode {
+            hex: inner.get_flag("hex"),
+        }
+    } else {
+        Request::Network(network_named(name, inner))
+    }
 }
 
 /// The command that the words named.
 fn chosen<'a>(matches: &ArgMatches<'a>) -> Request<'a>
+    requires { IsFound (subcommand_rows_of matches.now) }
     ensures { IsRequest (subcommand_rows_of matches.now) result }
 {
-    let Some((name, inner)) = matches.subcommand() else {
-        return Request::Elsewhere;
-    };
-    if name == "epc" {
-        return match inner.get_str("TEXT") {
-            Some(text) => Request::Epc { text },
-            None => Request::Elsewhere,
-        };
-    }
-    let hex = inner.get_flag("hex");
-    if name == "show" {
-        Request::Show { hex }
-    } else if name == "encode" {
-        Request::Encode { hex }
-    } else {
-        Request::Elsewhere
-    }
+    let (name, inner) = matches.subcommand().unwrap();
+    request_named(name, inner)
 }
 
 /// What the words after the program's name ask for. The only error is that of memory.
 pub fn request_of<'a, S: AsStr>(alloc: Global, words: &'a [S]) -> Result<Request<'a>, AllocError>
-    ensures { IfOk result (λ request. parses (map S.text words.entry.now) ≡ true
+    ensures named { IfOk result (λ request. parses (map S.text words.entry.now) ≡ true
         → IsRequest (command_in (map S.text words.entry.now)) request) }
+    ensures refused { IfOk result (λ request. parses (map S.text words.entry.now) ≡ false → IsText request) }
 {
     let command = llrp_command(alloc)?;
     match command.try_get_matches_from(words) {
@@ -219,32 +308,16 @@ pub fn request_of<'a, S: AsStr>(alloc: Global, words: &'a [S]) -> Result<Request
     }
 }
 
-/// The port of the command sim, where the words after the program's name ask for it. The only error is
-/// that of memory.
-pub fn sim_port<S: AsStr>(alloc: Global, words: &[S]) -> Result<Option<u16>, AllocError>
-    ensures { IfOk result (λ port. parses (map S.text words.entry.now) ≡ true
-        → IfSome port (λ p. name_in (command_in (map S.text words.entry.now)) ≡ Some (codes "sim"))) }
+/// The command that the program runs itself, where the words after the program's name ask for one. The
+/// only error is that of memory.
+pub fn network_command<'a, S: AsStr>(
+    alloc: Global,
+    words: &'a [S],
+) -> Result<Option<NetworkCommand<'a>>, AllocError>
+    ensures { IfOk result (λ command. NetworkAsked (map S.text words.entry.now) command) }
 {
-    let command = llrp_command(alloc)?;
-    match command.try_get_matches_from(words) {
-        Ok(matches) => Ok(port_in(&matches)),
-        Err(error) => {
-            if let ErrorKind::OutOfMemory = error.kind() {
-                return Err(AllocError);
-            }
-            Ok(None)
-        }
-    }
-}
-
-/// The port of the command sim, if it was named.
-fn port_in(matches: &ArgMatches<'_>) -> Option<u16>
-    ensures { IfSome result (λ p. name_in (subcommand_rows_of matches.now) ≡ Some (codes "sim")) }
-{
-    let (name, inner) = matches.subcommand()?;
-    if name == "sim" {
-        inner.get_one::<u16>("PORT")
-    } else {
-        None
+    match request_of(alloc, words)? {
+        Request::Network(command) => Ok(Some(command)),
+        _ => Ok(None),
     }
 }

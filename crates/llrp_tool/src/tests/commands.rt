@@ -8,11 +8,13 @@ const HELP: &[u8] = b"Reads and writes streams of LLRP 1.1 messages
 Usage: llrp <COMMAND>
 
 Commands:
-  show    List the messages of a stream of bytes
-  encode  Write the bytes of a listing of messages
-  epc     Print the text of a tag's word, or the word of a text
-  sim     Serve one client as a simulated reader, by a script
-  help    Print this message or the help of the given subcommand(s)
+  show       List the messages of a stream of bytes
+  encode     Write the bytes of a listing of messages
+  epc        Print the text of a tag's word, or the word of a text
+  sim        Serve one client as a simulated reader, by a script
+  inventory  Print the tags that a reader sees
+  loop       Print the tags that a simulated reader sees, by a script
+  help       Print this message or the help of the given subcommand(s)
 
 Options:
   -h, --help  Print help
@@ -80,14 +82,14 @@ Examples:
 ";
 
 const NO_COMMAND: &[u8] = b"error: 'llrp' requires a subcommand but one was not provided
-  [subcommands: show, encode, epc, sim, help]
+  [subcommands: show, encode, epc, sim, inventory, loop, help]
 
 Usage: llrp <COMMAND>
 
 For more information, try '--help'.
 ";
 
-const NO_SUCH_COMMAND: &[u8] = b"error: unrecognized subcommand 'inventory'
+const NO_SUCH_COMMAND: &[u8] = b"error: unrecognized subcommand 'survey'
 
 Usage: llrp <COMMAND>
 
@@ -241,7 +243,7 @@ fn help_goes_to_the_output(rt: HostRuntime) -> Result<(), Fail> {
 fn usage_faults_go_to_the_errors(rt: HostRuntime) -> Result<(), Fail> {
     let rows = [
         ([].as_slice(), NO_COMMAND),
-        (["inventory"].as_slice(), NO_SUCH_COMMAND),
+        (["survey"].as_slice(), NO_SUCH_COMMAND),
         (["show", "--bytes"].as_slice(), NO_SUCH_FLAG),
         (["epc"].as_slice(), NO_TEXT),
     ];

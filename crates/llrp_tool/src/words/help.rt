@@ -1,0 +1,73 @@
+//! What the help of each command says below its arguments.
+
+/// Of show.
+pub const SHOW_HELP: &str = "\
+Reads a stream of LLRP messages on standard input, and prints its listing on standard output:
+  0 NAME VERSION ID FIELDS   a message
+  LEVEL NAME FIELDS TAIL     a parameter, one level below its parent
+  ! ID BIT REASON            a frame that is no message: its id, its first fault and the fault's bit
+  ? N                        N bytes at the end that are no whole frame
+  ! BROKEN                   a length below 10, at which the stream breaks off
+The status is 0 where all frames are messages, and 1 where some are not.
+
+Example:
+  $ echo 083E0000000A00000007 | llrp show --hex
+  0 KEEPALIVE 2 7";
+
+/// Of encode.
+pub const ENCODE_HELP: &str = "\
+Reads a listing on standard input, a line 0 NAME VERSION ID for each message, and writes the bytes of
+the messages on standard output. A line that is refused ends the command with status 1, and is named
+on standard error with the reason.
+
+Example:
+  $ echo 0 KEEPALIVE 2 7 | llrp encode --hex
+  083E0000000A00000007";
+
+/// Of epc.
+pub const EPC_HELP: &str = "\
+Prints the text of a tag's 96-bit word, or the word of a text:
+  24 hexadecimal digits   the word's tag URI; or its raw URI, and # REASON BIT, which is why it has no
+                          tag URI, and the first bit of the part that fails
+  any other text          the 24 digits of its word; or ! REASON, which is why it is the text of none
+The status is 1 for a text of no word, and 0 for every other.
+
+Examples:
+  $ llrp epc 3074257BF7194E4000001A85
+  urn:epc:tag:sgtin-96:3.0614141.812345.6789
+  $ llrp epc urn:epc:tag:sgtin-96:3.0614141.812345.6789
+  3074257BF7194E4000001A85";
+
+/// Of sim.
+pub const SIM_HELP: &str = "\
+Reads a script of what the reader's antennas see on standard input, to its end. Then it listens on
+127.0.0.1 and serves one client as an LLRP reader. The lines of a script:
+  AFTER NOW seen ANTENNA RSSI TEXT   directly after AFTER messages, at the moment NOW in microseconds,
+                                     an antenna sees the tag with this tag URI or raw URI
+  AFTER NOW tick                     time goes on to NOW
+
+Example:
+  $ printf '2 5 tick\\n' | llrp sim 5084";
+
+/// Of inventory.
+pub const INVENTORY_HELP: &str = "\
+Connects to an LLRP reader and asks it for its tags: it adds a ROSpec, enables and starts it, polls for
+reports, and stops and deletes it again. What it prints on standard output:
+  TEXT ANTENNA RSSI        a tag: its tag URI, raw URI or bits N xHEX, its antenna, and its strength in
+                           dBm; - stands for one that the reader did not tell
+  = K                      the end of a report of K tags
+  total TAGS REPORTS       the end of all reports
+
+Example:
+  $ llrp inventory 127.0.0.1 5084 --polls 2";
+
+/// Of loop.
+pub const LOOP_HELP: &str = "\
+Reads a script on standard input, as sim does, and prints what inventory prints of the reader that acts
+by it. Both ends are in this program, and talk over one TCP connection.
+
+Example:
+  $ printf '3 0 seen 1 -60 urn:epc:tag:gid-96:1.2.3\\n' | llrp loop
+  urn:epc:tag:gid-96:1.2.3 1 -60
+  = 1
+  total 1 1";
