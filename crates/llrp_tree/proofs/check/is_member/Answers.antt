@@ -1,4 +1,4 @@
-use Rattle.std.proofs.Common.{◌≡◌, ◌∙◌, true, false, sym}
+use Rattle.std.proofs.Common.{◌∙◌, true, false, sym}
 use Rattle.llrp_tree.proofs.KindLemmas.{found_by_number, found_here, found_nowhere}
 use Rattle.llrp_tree.proofs.check.is_member.Goals as goal
 
