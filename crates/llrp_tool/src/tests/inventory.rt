@@ -1,6 +1,6 @@
 //! Following a plan over devices.
 
-ghost use Rattle.std.specs.Prelude.{None};
+ghost use Rattle.std.specs.Prelude.{◌≡◌, None};
 
 use crate::tests::devices::Failing;
 use crate::tests::gathering::{ADD, CONNECTED, DOWN, ENABLE, LINES, UP};
@@ -149,7 +149,7 @@ struct OneByOne<'a> {
 
 impl<'a> OneByOne<'a> {
     fn new(rest: &'a [u8], left: usize) -> OneByOne<'a>
-        ensures { result ≡ record { rest = rest; left = left; reads = 0; ends = 0; failures = 0 } }
+        ensures { (result.reads ≡ 0) × (result.ends ≡ 0) × (result.failures ≡ 0) }
     {
         OneByOne {
             rest,
@@ -225,27 +225,25 @@ fn a_write_that_fails_leaves_a_front(rt: HostRuntime) -> Result<(), Fail> {
     let alloc = rt.alloc();
     let down = bytes(alloc, &DOWN)?;
     let wanted = bytes(alloc, &UP)?;
-    for left in 0..wanted.len() as u32 {
+    for left in 0..wanted.len() {
         let mut source = OneByOne::new(down.as_slice(), usize::MAX);
         let mut up = Failing::after(alloc, left);
-        let mut lines = Failing::after(alloc, u32::MAX);
+        let mut lines = Failing::after(alloc, usize::MAX);
         let plan = standard_plan(alloc, 0, 1)?;
         let end = run_inventory(alloc, plan, 4096, &mut source, &mut up, &mut lines);
         assert!(rt; end == Err(ToolErr::Write));
-        assert!(rt; up.taken().len() == left as usize && wanted.starts_with(up.taken()));
+        assert!(rt; up.taken().len() == left && wanted.starts_with(up.taken()));
         assert!(rt; LINES.starts_with(lines.taken()));
     }
-    for left in 0..LINES.len() as u32 {
+    for left in 0..LINES.len() {
         let mut source = OneByOne::new(down.as_slice(), usize::MAX);
-        let mut up = Failing::after(alloc, u32::MAX);
+        let mut up = Failing::after(alloc, usize::MAX);
         let mut lines = Failing::after(alloc, left);
         let plan = standard_plan(alloc, 0, 1)?;
         let end = run_inventory(alloc, plan, 4096, &mut source, &mut up, &mut lines);
         assert!(rt; end == Err(ToolErr::Write));
         assert!(rt; wanted.starts_with(up.taken()));
-        assert!(rt;
-            lines.taken().len() == left as usize && LINES.starts_with(lines.taken())
-        );
+        assert!(rt; lines.taken().len() == left && LINES.starts_with(lines.taken()));
     }
     Ok(())
 }
