@@ -56,25 +56,27 @@ responds : (d : Client) (awaits : Awaits) (p : Pending) (id : ℕ) (h : Heard) (
     → Leads d awaits id h
 unfolding take
 responds d awaits p id h operation ready waits is same still =
-    let t : Taking = record { taken = Reply 0; sent = []; client = record d { pending = None; view = granted p.operation p.rospec d.view } } in
-    (t,
+    let t : Taking = record { taken = Reply 0; sent = []; client = record d { pending = None; view = granted p.operation p.rospec d.view } } in (
+      t,
       ap (λ (x : ClientPhase). take_in x d id h) ready
-      ∙ ap (take_ready d id) is
-      ∙ ap (λ (o : Option Pending). answered o d id operation 0) waits
-      ∙ ap (λ (b : Bool). cond b (take_response operation d p 0) unexpected) same
-      ∙ is_granted operation d p still,
-      refl)
+          ∙ ap (take_ready d id) is
+          ∙ ap (λ (o : Option Pending). answered o d id operation 0) waits
+          ∙ ap (λ (b : Bool). cond b (take_response operation d p 0) unexpected) same
+          ∙ is_granted operation d p still,
+      refl,
+    )
 
 fails : (d : Client) (awaits : Awaits) (p : Pending) (id : ℕ) (h : Heard) → d.phase ≡ Ready → d.pending ≡ Some p → h ≡ HeardError 0 → id ≡ p.id → Leads d awaits id h
 unfolding take
 fails d awaits p id h ready waits is same =
-    let t : Taking = record { taken = Reply 0; sent = []; client = cleared d } in
-    (t,
+    let t : Taking = record { taken = Reply 0; sent = []; client = cleared d } in (
+      t,
       ap (λ (x : ClientPhase). take_in x d id h) ready
-      ∙ ap (take_ready d id) is
-      ∙ ap (λ (o : Option Pending). failed o d id 0) waits
-      ∙ ap (λ (b : Bool). cond b (takes (Reply 0) (cleared d)) unexpected) (eq-eqb p.id id (sym same)),
-      refl)
+          ∙ ap (take_ready d id) is
+          ∙ ap (λ (o : Option Pending). failed o d id 0) waits
+          ∙ ap (λ (b : Bool). cond b (takes (Reply 0) (cleared d)) unexpected) (eq-eqb p.id id (sym same)),
+      refl,
+    )
 
 -- ---- only CLOSE_CONNECTION has its response
 

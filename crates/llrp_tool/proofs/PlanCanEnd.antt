@@ -109,8 +109,8 @@ to_the_end [] before k limit plan c n least fits s opened w l parts =
     closing c n opened (subst (AwaitsAfter c.client c.awaits n) is w)
 to_the_end (next ∷ later) before k limit plan c n least fits s opened w l parts =
     let open_still : k ≢ Close = λ e.
-        let none : next ∷ later ≡ [] = last_closes plan before (next ∷ later) (parts ∙ ap (λ (x : Command). (before ++ x ∷ []) ++ next ∷ later) e) in
-        cc in
+    let none : next ∷ later ≡ [] = last_closes plan before (next ∷ later) (parts ∙ ap (λ (x : Command). (before ++ x ∷ []) ++ next ∷ later) e) in
+    cc in
     let a = answered_by c.client c.awaits n k w open_still in
     let d : Course = after_item (Msg (reader_message a.message)) c in
     let so : Led c a.taking.client next later d = led limit plan c (reader_message a.message) a.taking next later least fits s opened a.meets l in
@@ -118,8 +118,8 @@ to_the_end (next ∷ later) before k limit plan c n least fits s opened w l part
     let ready : d.client.phase ≡ Ready = ap (λ (x : Client). x.phase) so.client_is ∙ a.ready in
     one_before c a.message opened
     (to_the_end later (before ++ k ∷ []) next limit plan d a.taking.client.next_id least fits stands so.open_is
-      (record { ready = ready; pending = ap (λ (x : Client). x.pending) so.client_is; awaits_is = so.awaits }) so.left
-      (parts ∙ sym (append_assoc (before ++ k ∷ []) (next ∷ []) later)))
+    (record { ready = ready; pending = ap (λ (x : Client). x.pending) so.client_is; awaits_is = so.awaits }) so.left
+    (parts ∙ sym (append_assoc (before ++ k ∷ []) (next ∷ []) later)))
 
 accepted : (limit : ℕ) → take (new_client limit 1) 1 (heard (Accepted 0)) ≡ Ok (record { taken = Connected; sent = []; client = record (new_client limit 1) { phase = Ready } })
 unfolding take
@@ -139,5 +139,5 @@ can_end limit plan least fits =
     let stands : Standing limit plan d = subst (λ (p : Phase). StandsIn p limit plan d) so.open_is (item_so limit plan c (Msg (reader_message m)) s refl).stands in
     one_before c m refl
     (to_the_end d.left [] k limit plan d 1 least fits stands so.open_is
-      (record { ready = ap (λ (x : Client). x.phase) so.client_is; pending = ap (λ (x : Client). x.pending) so.client_is; awaits_is = so.awaits }) refl
-      (ap (λ (ks : List Command). k ∷ ks) (sym so.left)))
+    (record { ready = ap (λ (x : Client). x.phase) so.client_is; pending = ap (λ (x : Client). x.pending) so.client_is; awaits_is = so.awaits }) refl
+    (ap (λ (ks : List Command). k ∷ ks) (sym so.left)))

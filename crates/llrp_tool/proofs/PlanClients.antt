@@ -108,11 +108,11 @@ by_error None c id status ready waits = refl
 by_error (Some p) c id status ready waits =
     elim (p.id == id) as (λ b. (p.id == id) ≡ b → TakesOr c id (HeardError status) (cond b (takes (Reply status) (cleared c)) unexpected)) [
       | true ↦ λ e. record {
-          limit = refl;
-          next_id = refl;
-          silent = refl;
-          by = record { was = ready; is = ready; pending = refl; replies = subst (λ (o : Option Pending). Replies o status id (HeardError status)) (sym waits) (inr (refl, same_number p.id id e)) };
-        }
+        limit = refl;
+        next_id = refl;
+        silent = refl;
+        by = record { was = ready; is = ready; pending = refl; replies = subst (λ (o : Option Pending). Replies o status id (HeardError status)) (sym waits) (inr (refl, same_number p.id id e)) };
+      }
       | false ↦ λ e. refl
     ] refl
 
@@ -141,11 +141,11 @@ by_attempt c n None id fresh e = refl
 by_attempt c n (Some status) id fresh e =
     elim (status == 0) as (λ b. (status == 0) ≡ b → TakesOr c id (HeardNotification n) (cond b (takes Connected (record c { phase = Ready })) (takes (Refused status) (closed c)))) [
       | true ↦ λ z. record {
-          limit = refl;
-          next_id = refl;
-          silent = refl;
-          by = record { was = fresh; is = refl; pending = refl; accepts = (n, refl, e ∙ ap Some (sym (same_number status 0 z))) };
-        }
+        limit = refl;
+        next_id = refl;
+        silent = refl;
+        by = record { was = fresh; is = refl; pending = refl; accepts = (n, refl, e ∙ ap Some (sym (same_number status 0 z))) };
+      }
       | false ↦ λ z. record { limit = refl; next_id = refl; silent = refl; by = record { was = fresh; status_is = not_zero status z; refuses = (n, refl, e) } }
     ] refl
 

@@ -104,7 +104,7 @@ unfolding commands but_last
 closes_last plan before k e =
     let parts : but_last plan.polls ++ Close ∷ [] ≡ replicate plan.polls GetReport ++ Stop 1 ∷ Delete 1 ∷ Close ∷ [] = append_assoc (replicate plan.polls GetReport) (Stop 1 ∷ Delete 1 ∷ []) (Close ∷ []) in
     sym (same_last (Add (rospec plan.every) ∷ Enable 1 ∷ Start 1 ∷ but_last plan.polls) before Close k
-      (ap (λ (ks : List Command). Add (rospec plan.every) ∷ Enable 1 ∷ Start 1 ∷ ks) parts ∙ e ∙ append-nil (before ++ k ∷ [])))
+    (ap (λ (ks : List Command). Add (rospec plan.every) ∷ Enable 1 ∷ Start 1 ∷ ks) parts ∙ e ∙ append-nil (before ++ k ∷ [])))
 
 -- ---- their messages
 

@@ -64,7 +64,6 @@ led limit plan c m t k later least fits s opened meets next =
     let takes = takes_next limit plan c m.id (heard_of m) t k later least fits s so meets.leads next in
     subst (λ (r : Result Taking Refusal). Led c t.client k later (after_taking r c)) (sym meets.takes) (led_after t.taken c e k later meets.leads opened next takes)
 
-
 -- ---- a request that is granted
 
 pub is_granted : (operation : Operation) (c : Client) (p : Pending) → LeavesOpen operation → take_response operation c p 0 ≡ takes (Reply 0) (record c { pending = None; view = granted p.operation p.rospec c.view })
