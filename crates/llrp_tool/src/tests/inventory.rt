@@ -139,7 +139,7 @@ fn the_rospec_of_a_plan(rt: HostRuntime) -> Result<(), Fail> {
 
 /// Gives a byte a call, and fails in the call after so many.
 #[derive(Drop)]
-struct OneByOne<'a> {
+pub struct OneByOne<'a> {
     rest: &'a [u8],
     left: usize,
     reads: u64,
@@ -148,7 +148,7 @@ struct OneByOne<'a> {
 }
 
 impl<'a> OneByOne<'a> {
-    fn new(rest: &'a [u8], left: usize) -> OneByOne<'a>
+    pub fn new(rest: &'a [u8], left: usize) -> OneByOne<'a>
         ensures { result ≡ record { rest = rest; left = left; reads = 0; ends = 0; failures = 0 } }
     {
         OneByOne {
@@ -182,7 +182,7 @@ impl<'a> Source for OneByOne<'a> {
 }
 
 /// A sink of memory that fails in the call after so many; each call takes one byte.
-fn failing_after(alloc: Global, left: u32) -> Failing
+pub fn failing_after(alloc: Global, left: u32) -> Failing
     ensures { result.failures ≡ 0 }
 {
     Failing {
