@@ -1,3 +1,4 @@
+mod both_ends;
 mod commands;
 mod devices;
 mod epc;

@@ -139,7 +139,7 @@ fn the_rospec_of_a_plan(rt: HostRuntime) -> Result<(), Fail> {
 
 /// Gives a byte a call, and fails in the call after so many.
 #[derive(Drop)]
-struct OneByOne<'a> {
+pub struct OneByOne<'a> {
     rest: &'a [u8],
     left: usize,
     reads: u64,
@@ -148,8 +148,8 @@ struct OneByOne<'a> {
 }
 
 impl<'a> OneByOne<'a> {
-    fn new(rest: &'a [u8], left: usize) -> OneByOne<'a>
-        ensures { (result.reads ≡ 0) × (result.ends ≡ 0) × (result.failures ≡ 0) }
+    pub fn new(rest: &'a [u8], left: usize) -> OneByOne<'a>
+        ensures { result ≡ record { rest = rest; left = left; reads = 0; ends = 0; failures = 0 } }
     {
         OneByOne {
             rest,
