@@ -56,9 +56,9 @@ fn written_before(alloc: Global, stream: &[u8]) -> Result<(Result<(), ToolErr>, 
 #[test]
 fn a_read_that_fails_comes_after_the_answers_so_far(rt: HostRuntime) -> Result<(), Fail> {
     let alloc = rt.alloc();
-    let stream = bytes(alloc, &[ADD, ENABLE])?;
+    let stream = bytes(alloc, &[ADD, ENABLE, "08"])?;
     let wanted = bytes(alloc, &[CONNECTED, ADDED, ENABLED])?;
-    for count in 0..stream.len() + 1 {
+    for count in 0..stream.len() {
         // CONNECTED has 32 octets, ADDED and ENABLED 18 each; ADD has 62, and ENABLE 14.
         let said = if count < 62 {
             32
@@ -67,9 +67,14 @@ fn a_read_that_fails_comes_after_the_answers_so_far(rt: HostRuntime) -> Result<(
         } else {
             68
         };
-        let (end, written) = written_before(alloc, &stream.as_slice()[..count])?;
+        let (front, _) = stream.as_slice().split_at(count);
+        let (end, written) = written_before(alloc, front)?;
         assert!(rt; end == Err(ToolErr::Read), "{count}");
-        assert!(rt; written.as_slice() == &wanted.as_slice()[..said], "{count}");
+        assert!(rt;
+            wanted.as_slice().starts_with(written.as_slice()),
+            "{count}"
+        );
+        assert!(rt; written.len() == said, "{count}");
     }
     Ok(())
 }
@@ -91,10 +96,8 @@ fn a_write_that_fails_stops_serving(rt: HostRuntime) -> Result<(), Fail> {
             &mut sink,
         );
         assert!(rt; end == Err(ToolErr::Write), "{left}");
-        assert!(rt;
-            sink.taken().len() == left && wanted.starts_with(sink.taken()),
-            "{left}"
-        );
+        assert!(rt; wanted.as_slice().starts_with(sink.taken()), "{left}");
+        assert!(rt; sink.taken().len() == left, "{left}");
     }
     Ok(())
 }
