@@ -242,17 +242,17 @@ fn runs_that_end_before_the_closing(rt: HostRuntime) -> Result<(), Fail> {
 struct Failures {
     down_reads: usize,
     up_reads: usize,
-    down_writes: u32,
-    up_writes: u32,
-    reports: u32,
+    down_writes: usize,
+    up_writes: usize,
+    reports: usize,
 }
 
 const NONE: Failures = Failures {
     down_reads: usize::MAX,
     up_reads: usize::MAX,
-    down_writes: u32::MAX,
-    up_writes: u32::MAX,
-    reports: u32::MAX,
+    down_writes: usize::MAX,
+    up_writes: usize::MAX,
+    reports: usize::MAX,
 };
 
 /// How such a run ends, and whether all that was written are fronts.
@@ -301,7 +301,7 @@ fn each_call_fails_in_turn(rt: HostRuntime) -> Result<(), Fail> {
             ..NONE
         };
         let writes = Failures {
-            down_writes: left as u32,
+            down_writes: left,
             ..NONE
         };
         assert!(rt; failed_run(alloc, run, reads)? == (Err(ToolErr::Read), true));
@@ -313,7 +313,7 @@ fn each_call_fails_in_turn(rt: HostRuntime) -> Result<(), Fail> {
             ..NONE
         };
         let writes = Failures {
-            up_writes: left as u32,
+            up_writes: left,
             ..NONE
         };
         assert!(rt; failed_run(alloc, run, reads)? == (Err(ToolErr::Read), true));
@@ -321,7 +321,7 @@ fn each_call_fails_in_turn(rt: HostRuntime) -> Result<(), Fail> {
     }
     for left in 0..run.lines.len() {
         let reports = Failures {
-            reports: left as u32,
+            reports: left,
             ..NONE
         };
         assert!(rt; failed_run(alloc, run, reports)? == (Err(ToolErr::Write), true));

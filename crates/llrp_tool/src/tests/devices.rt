@@ -12,7 +12,7 @@ const KEEPALIVE: &[u8] = b"\x08\x3e\0\0\0\x0a\0\0\0\x07";
 #[derive(Drop)]
 pub struct Failing {
     pub bytes: Vec<u8>,
-    pub left: u32,
+    pub left: usize,
     pub failures: u64,
 }
 
@@ -31,7 +31,7 @@ impl Sink for Failing {
 
 #[test]
 fn a_write_that_fails_stops_the_listing(rt: HostRuntime) {
-    for left in 0..16u32 {
+    for left in 0..16 {
         let mut source = Input::new(KEEPALIVE);
         let mut sink = Failing {
             bytes: Vec::new(rt.alloc()),
@@ -41,7 +41,7 @@ fn a_write_that_fails_stops_the_listing(rt: HostRuntime) {
         let found = run_show(rt.alloc(), &mut source, &mut sink, 65_536);
         assert!(rt; found == Err(ToolErr::Write));
         assert!(rt; b"0 KEEPALIVE 2 7\n".starts_with(sink.bytes.as_slice()));
-        assert!(rt; sink.bytes.len() == left as usize);
+        assert!(rt; sink.bytes.len() == left);
     }
 }
 

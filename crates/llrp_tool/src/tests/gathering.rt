@@ -1,7 +1,7 @@
 //! Following a plan over pieces of a stream.
 
 use crate::tests::serve::bytes;
-use crate::{Gathering, Plan, ToolErr, standard_plan};
+use crate::{Gathering, ToolErr, standard_plan};
 use llrp_tree::ParamKind;
 use std::test::*;
 
@@ -121,7 +121,7 @@ fn an_error_is_answered_again(rt: HostRuntime) -> Result<(), Fail> {
 
 #[test]
 fn a_plan_has_both_numbers(rt: HostRuntime) -> Result<(), Fail> {
-    let plan: Plan = standard_plan(rt.alloc(), 500, 7)?;
+    let plan = standard_plan(rt.alloc(), 500, 7)?;
     assert!(rt; plan.every() == 500);
     assert!(rt; plan.polls() == 7);
     assert!(rt; plan.rospec().kind() == ParamKind::RoSpec);

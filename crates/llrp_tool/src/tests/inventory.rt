@@ -1,6 +1,6 @@
 //! Following a plan over devices.
 
-ghost use Rattle.std.specs.Prelude.{None};
+ghost use Rattle.std.specs.Prelude.{◌≡◌, None};
 
 use crate::tests::devices::Failing;
 use crate::tests::gathering::{ADD, CONNECTED, DOWN, ENABLE, LINES, UP};
@@ -149,7 +149,7 @@ pub struct OneByOne<'a> {
 
 impl<'a> OneByOne<'a> {
     pub fn new(rest: &'a [u8], left: usize) -> OneByOne<'a>
-        ensures { result ≡ record { rest = rest; left = left; reads = 0; ends = 0; failures = 0 } }
+        ensures { (result.reads ≡ 0) × (result.ends ≡ 0) × (result.failures ≡ 0) }
     {
         OneByOne {
             rest,
@@ -182,7 +182,7 @@ impl<'a> Source for OneByOne<'a> {
 }
 
 /// A sink of memory that fails in the call after so many; each call takes one byte.
-pub fn failing_after(alloc: Global, left: u32) -> Failing
+pub fn failing_after(alloc: Global, left: usize) -> Failing
     ensures { result.failures ≡ 0 }
 {
     Failing {
@@ -236,27 +236,25 @@ fn a_write_that_fails_leaves_a_front(rt: HostRuntime) -> Result<(), Fail> {
     let alloc = rt.alloc();
     let down = bytes(alloc, &DOWN)?;
     let wanted = bytes(alloc, &UP)?;
-    for left in 0..wanted.len() as u32 {
+    for left in 0..wanted.len() {
         let mut source = OneByOne::new(down.as_slice(), usize::MAX);
         let mut up = failing_after(alloc, left);
-        let mut lines = failing_after(alloc, u32::MAX);
+        let mut lines = failing_after(alloc, usize::MAX);
         let plan = standard_plan(alloc, 0, 1)?;
         let end = run_inventory(alloc, plan, 4096, &mut source, &mut up, &mut lines);
         assert!(rt; end == Err(ToolErr::Write));
-        assert!(rt; up.bytes.len() == left as usize && wanted.starts_with(up.bytes.as_slice()));
+        assert!(rt; up.bytes.len() == left && wanted.starts_with(up.bytes.as_slice()));
         assert!(rt; LINES.starts_with(lines.bytes.as_slice()));
     }
-    for left in 0..LINES.len() as u32 {
+    for left in 0..LINES.len() {
         let mut source = OneByOne::new(down.as_slice(), usize::MAX);
-        let mut up = failing_after(alloc, u32::MAX);
+        let mut up = failing_after(alloc, usize::MAX);
         let mut lines = failing_after(alloc, left);
         let plan = standard_plan(alloc, 0, 1)?;
         let end = run_inventory(alloc, plan, 4096, &mut source, &mut up, &mut lines);
         assert!(rt; end == Err(ToolErr::Write));
         assert!(rt; wanted.starts_with(up.bytes.as_slice()));
-        assert!(rt;
-            lines.bytes.len() == left as usize && LINES.starts_with(lines.bytes.as_slice())
-        );
+        assert!(rt; lines.bytes.len() == left && LINES.starts_with(lines.bytes.as_slice()));
     }
     Ok(())
 }
