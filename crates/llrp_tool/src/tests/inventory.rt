@@ -149,7 +149,7 @@ pub struct OneByOne<'a> {
 
 impl<'a> OneByOne<'a> {
     pub fn new(rest: &'a [u8], left: usize) -> OneByOne<'a>
-        ensures { result ≡ record { rest = rest; left = left; reads = 0; ends = 0; failures = 0 } }
+        ensures { (result.reads ≡ 0) × (result.ends ≡ 0) × (result.failures ≡ 0) }
     {
         OneByOne {
             rest,
