@@ -1,6 +1,6 @@
 //! Commands from their words to their exit statuses.
 
-use crate::{Input, Output, ToolErr, run_command};
+use crate::{Input, NetworkCommand, Output, ToolErr, network_command, run_command};
 use std::test::*;
 
 const HELP: &[u8] = b"Reads and writes streams of LLRP 1.1 messages
@@ -79,6 +79,82 @@ Examples:
   urn:epc:tag:sgtin-96:3.0614141.812345.6789
   $ llrp epc urn:epc:tag:sgtin-96:3.0614141.812345.6789
   3074257BF7194E4000001A85
+";
+
+const SIM_HELP: &[u8] = b"Serve one client as a simulated reader, by a script
+
+Usage: llrp sim <PORT>
+
+Arguments:
+  <PORT>  The port to listen on
+
+Options:
+  -h, --help  Print help
+
+Reads a script of what the reader's antennas see on standard input, to its end. Then it listens on
+127.0.0.1 and serves one client as an LLRP reader. The lines of a script:
+  AFTER NOW seen ANTENNA RSSI TEXT   directly after AFTER messages, at the moment NOW in microseconds,
+                                     an antenna sees the tag with this tag URI or raw URI
+  AFTER NOW tick                     time goes on to NOW
+
+Example:
+  $ printf '2 5 tick\\n' | llrp sim 5084
+";
+
+const INVENTORY_HELP: &[u8] = b"Print the tags that a reader sees
+
+Usage: llrp inventory [OPTIONS] <HOST> <PORT>
+
+Arguments:
+  <HOST>  The reader's name or address
+  <PORT>  The reader's port; LLRP's own is 5084
+
+Options:
+      --every <N>  How many tags make a report; 0 leaves it to the polls [default: 0]
+      --polls <P>  How often reports are asked for [default: 1]
+  -h, --help       Print help
+
+Connects to an LLRP reader and asks it for its tags: it adds a ROSpec, enables and starts it, polls for
+reports, and stops and deletes it again. What it prints on standard output:
+  TEXT ANTENNA RSSI        a tag: its tag URI, raw URI or bits N xHEX, its antenna, and its strength in
+                           dBm; - stands for one that the reader did not tell
+  = K                      the end of a report of K tags
+  total TAGS REPORTS       the end of all reports
+
+Example:
+  $ llrp inventory 127.0.0.1 5084 --polls 2
+";
+
+const LOOP_HELP: &[u8] = b"Print the tags that a simulated reader sees, by a script
+
+Usage: llrp loop [OPTIONS]
+
+Options:
+      --every <N>  How many tags make a report; 0 leaves it to the polls [default: 0]
+      --polls <P>  How often reports are asked for [default: 1]
+  -h, --help       Print help
+
+Reads a script on standard input, as sim does, and prints what inventory prints of the reader that acts
+by it. Both ends are in this program, and talk over one TCP connection.
+
+Example:
+  $ printf '3 0 seen 1 -60 urn:epc:tag:gid-96:1.2.3\\n' | llrp loop
+  urn:epc:tag:gid-96:1.2.3 1 -60
+  = 1
+  total 1 1
+";
+
+const PORT_ZERO: &[u8] = b"error: invalid value '0' for '<PORT>': 0 is not in 1..=65535
+
+For more information, try '--help'.
+";
+
+const NO_PORT: &[u8] = b"error: the following required arguments were not provided:
+  <PORT>
+
+Usage: llrp inventory <HOST> <PORT>
+
+For more information, try '--help'.
 ";
 
 const NO_COMMAND: &[u8] = b"error: 'llrp' requires a subcommand but one was not provided
@@ -229,6 +305,9 @@ fn help_goes_to_the_output(rt: HostRuntime) -> Result<(), Fail> {
         (["show", "--help"].as_slice(), SHOW_HELP),
         (["encode", "-h"].as_slice(), ENCODE_HELP),
         (["epc", "--help"].as_slice(), EPC_HELP),
+        (["sim", "--help"].as_slice(), SIM_HELP),
+        (["inventory", "--help"].as_slice(), INVENTORY_HELP),
+        (["help", "loop"].as_slice(), LOOP_HELP),
     ];
     for (words, text) in rows {
         let found = run(&rt, words, b"")?;
@@ -246,6 +325,8 @@ fn usage_faults_go_to_the_errors(rt: HostRuntime) -> Result<(), Fail> {
         (["survey"].as_slice(), NO_SUCH_COMMAND),
         (["show", "--bytes"].as_slice(), NO_SUCH_FLAG),
         (["epc"].as_slice(), NO_TEXT),
+        (["sim", "0"].as_slice(), PORT_ZERO),
+        (["inventory", "localhost"].as_slice(), NO_PORT),
     ];
     for (words, text) in rows {
         let found = run(&rt, words, b"")?;
@@ -257,10 +338,67 @@ fn usage_faults_go_to_the_errors(rt: HostRuntime) -> Result<(), Fail> {
 }
 
 #[test]
-fn commands_to_come_are_usage_faults(rt: HostRuntime) -> Result<(), Fail> {
+fn commands_of_the_program(rt: HostRuntime) -> Result<(), Fail> {
     let rows = [
-        ["inventory", "localhost", "5084"].as_slice(),
-        ["loop"].as_slice(),
+        (["sim", "65535"].as_slice(), NetworkCommand::Sim { port: 65535 }),
+        (
+            ["inventory", "localhost", "5084"].as_slice(),
+            NetworkCommand::Inventory {
+                host: "localhost",
+                port: 5084,
+                every: 0,
+                polls: 1,
+            },
+        ),
+        (
+            ["inventory", "--polls", "3", "::1", "1", "--every=65535"].as_slice(),
+            NetworkCommand::Inventory {
+                host: "::1",
+                port: 1,
+                every: 65535,
+                polls: 3,
+            },
+        ),
+        (
+            ["loop"].as_slice(),
+            NetworkCommand::Loop { every: 0, polls: 1 },
+        ),
+        (
+            ["loop", "--every", "2", "--polls", "0"].as_slice(),
+            NetworkCommand::Loop { every: 2, polls: 0 },
+        ),
+    ];
+    for (words, command) in rows {
+        assert!(rt; network_command(rt.alloc(), words)? == Some(command));
+        let found = run(&rt, words, b"")?;
+        assert!(rt; found.status == 2);
+        assert!(rt; found.output.is_empty() && found.errors.is_empty());
+    }
+    Ok(())
+}
+
+#[test]
+fn other_words_are_no_commands_of_the_program(rt: HostRuntime) -> Result<(), Fail> {
+    let rows = [
+        ["show"].as_slice(),
+        ["sim", "--help"].as_slice(),
+        ["sim", "65536"].as_slice(),
+        ["inventory", "localhost", "0"].as_slice(),
+        ["loop", "--every", "65536"].as_slice(),
+        ["loop", "--polls", "-1"].as_slice(),
+        ["loop", "script"].as_slice(),
+    ];
+    for words in rows {
+        assert!(rt; network_command(rt.alloc(), words)?.is_none());
+    }
+    Ok(())
+}
+
+#[test]
+fn words_that_do_not_fit_are_usage_faults(rt: HostRuntime) -> Result<(), Fail> {
+    let rows = [
+        ["inventory", "localhost", "5084", "5085"].as_slice(),
+        ["loop", "--polls", "65536"].as_slice(),
         ["encode", "listing"].as_slice(),
     ];
     for words in rows {

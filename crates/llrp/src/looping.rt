@@ -1,0 +1,119 @@
+//! The command `loop`: a simulated reader and a client over one TCP connection of the program to itself.
+
+ghost use Rattle.std.specs.Prelude.{◌<◌, ◌^◌, IfErr};
+ghost use Rattle.llrp_stream.specs.Device.{IsFreshSource};
+ghost use Rattle.llrp.specs.Network.{IsPlanError, MayEnd, RunsScript};
+
+use crate::network::{FIRST_ID, LIMIT, conclude, read_script};
+use crate::progress::Progress;
+use llrp_session::Reader;
+use llrp_tool::{Endpoint, Input, Output, Script, Sink, Source, ToolErr, run_loop, standard_plan};
+use std::alloc::Global;
+use std::io::Write;
+use std::net::{Net, TcpListener, TcpStream};
+
+/// The two ends of one connection.
+#[derive(Drop)]
+struct Connection {
+    client: TcpStream,
+    reader: TcpStream,
+}
+
+impl Connection {
+    /// A connection of the program to itself. `None` is a network that failed.
+    fn open<N: Net<Listener = TcpListener, Stream = TcpStream>>(net: &N) -> Option<Connection> {
+        let listener = TcpListener::bind(net, ("127.0.0.1", 0)).ok()?;
+        let client = TcpStream::connect(net, listener.local_addr().ok()?).ok()?;
+        let (reader, _) = listener.accept().ok()?;
+        Some(Connection { client, reader })
+    }
+
+    /// A simulated reader that acts by the script serves at one end the client that follows the plan of
+    /// the two numbers at the other. The lines of the tags go to `report`.
+    fn run<W: Sink>(
+        &self,
+        alloc: Global,
+        script: Script,
+        every: u16,
+        polls: u16,
+        report: &mut W,
+    ) -> Result<(), ToolErr>
+        requires { (W.log report.old).failures < 2 ^ 63 }
+        ensures { IfErr result IsPlanError }
+    {
+        let plan = standard_plan(alloc, every, polls)?;
+        let core = Reader::new(alloc, LIMIT, FIRST_ID);
+        let mut client_end = Endpoint {
+            source: Input::new(&self.client),
+            sink: Output::new(&self.client),
+        };
+        let mut reader_end = Endpoint {
+            source: Input::new(&self.reader),
+            sink: Output::new(&self.reader),
+        };
+        run_loop(
+            alloc,
+            core,
+            script,
+            plan,
+            LIMIT,
+            &mut client_end,
+            &mut reader_end,
+            report,
+        )?;
+        Ok(())
+    }
+}
+
+/// Runs both ends by the script. `None` is a network that failed.
+fn run_script<N: Net<Listener = TcpListener, Stream = TcpStream>, W: Sink + Drop, T: Write + Drop>(
+    net: &N,
+    alloc: Global,
+    script: Script,
+    every: u16,
+    polls: u16,
+    report: &mut Progress<W, T>,
+) -> Option<Result<(), ToolErr>>
+    requires { (⟦<Progress<W, T> as Sink>⟧.log report.old).failures < 2 ^ 63 }
+    ensures { MayEnd IsPlanError result }
+{
+    let connection = Connection::open(net)?;
+    report.show();
+    let outcome = connection.run(alloc, script, every, polls, report);
+    report.wipe();
+    Some(outcome)
+}
+
+/// Reads the script, runs a simulated reader by it and a client that follows the plan of the two numbers,
+/// and gives the exit status: 0 where all is fine, 1 where the script is at fault or the plan came to no
+/// end, 3 where the network, a device or memory failed. The lines of the tags go to `report`. An error is
+/// written to `e` as a line.
+pub fn run_both_ends<
+    N: Net<Listener = TcpListener, Stream = TcpStream>,
+    R: Source,
+    W: Sink + Drop,
+    T: Write + Drop,
+    E: Sink,
+>(
+    net: &N,
+    alloc: Global,
+    every: u16,
+    polls: u16,
+    r: &mut R,
+    report: &mut Progress<W, T>,
+    e: &mut E,
+) -> Result<u8, ToolErr>
+    requires source { IsFreshSource (R.log r.old) }
+    requires report { (⟦<Progress<W, T> as Sink>⟧.log report.old).failures < 2 ^ 63 }
+    requires errors { (E.log e.old).failures < 2 ^ 63 }
+    ensures { RunsScript IsPlanError (R.log r.old) (R.log r.new) (E.log e.old) (E.log e.new) result }
+{
+    let outcome = match read_script(alloc, r) {
+        Ok(script) => run_script(net, alloc, script, every, polls, report),
+        Err(error) => Some(Err(error)),
+    };
+    conclude(outcome, e)
+}
+
+#[cfg(test)]
+mod tests;

@@ -1,0 +1,43 @@
+//! What the commands over sockets share: their script, their limit, and how they end.
+
+ghost use Rattle.std.specs.Prelude.{◌+◌, ◌<◌, ◌^◌};
+ghost use Rattle.llrp_stream.specs.Device.{IsFreshSource};
+ghost use Rattle.llrp.specs.Network.{Concludes, ReadsScript};
+
+use llrp_tool::{Script, Sink, Source, ToolErr, answer, read_all, write_all};
+use std::alloc::Global;
+
+/// The greatest message in octets that an end takes and sends.
+pub const LIMIT: u32 = 65_536;
+
+/// The first own message id of a simulated reader.
+pub const FIRST_ID: u32 = 1;
+
+/// The exit status where the network, a device or memory failed.
+pub const FAILED: u8 = 3;
+
+/// The script that the source gives to its end. The errors are `Script` with the first line that is
+/// refused, `Read`, `Bound` and `Memory`.
+pub fn read_script<R: Source>(alloc: Global, r: &mut R) -> Result<Script, ToolErr>
+    requires { IsFreshSource (R.log r.old) }
+    ensures { ReadsScript (R.log r.old) (R.log r.new) result }
+{
+    let text = read_all(alloc, r)?;
+    Script::parse(alloc, text.as_slice())
+}
+
+/// The exit status of a command that ended so, once the line of its error was written to `e`. `None` is a
+/// network that failed.
+pub fn conclude<E: Sink>(outcome: Option<Result<(), ToolErr>>, e: &mut E) -> Result<u8, ToolErr>
+    requires { (E.log e.old).failures + 1 < 2 ^ 64 }
+    ensures { Concludes outcome (E.log e.old) (E.log e.new) result }
+{
+    match outcome {
+        Some(Ok(())) => Ok(0),
+        Some(Err(error)) => answer(Err(error), e),
+        None => {
+            write_all(e, b"llrp: network\n")?;
+            Ok(FAILED)
+        }
+    }
+}
