@@ -340,7 +340,10 @@ fn usage_faults_go_to_the_errors(rt: HostRuntime) -> Result<(), Fail> {
 #[test]
 fn commands_of_the_program(rt: HostRuntime) -> Result<(), Fail> {
     let rows = [
-        (["sim", "65535"].as_slice(), NetworkCommand::Sim { port: 65535 }),
+        (
+            ["sim", "65535"].as_slice(),
+            NetworkCommand::Sim { port: 65535 },
+        ),
         (
             ["inventory", "localhost", "5084"].as_slice(),
             NetworkCommand::Inventory {
