@@ -1,5 +1,5 @@
 -- What a reader reads in a lawful message is a lawful request.
-use Rattle.std.proofs.Common.{◌≡◌, ℕ, ◌^◌, ◌<◌, ◌≤◌, List, [], ◌∷◌, arith, get_or}
+use Rattle.std.proofs.Common.{ℕ, ◌≤◌, List, arith, get_or}
 use Rattle.std.specs.Prelude.{Option, None, Some}
 use Rattle.llrp_schema.specs.declared.kinds.MsgKind.{MsgKind}
 use Rattle.llrp_schema.specs.declared.kinds.MsgKind.TheVariants as kinds

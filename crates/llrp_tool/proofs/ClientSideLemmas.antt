@@ -1,5 +1,5 @@
 -- The client's side of a connection.
-use Rattle.std.proofs.Common.{◌≡◌, ℕ, ◌+◌, ◌-◌, ◌<◌, ◌≤◌, Bool, true, false, List, [], ◌++◌, length, Result, Ok, Err, refl, sym, ap, subst, ◌∙◌, append_assoc, inl, inr, arith}
+use Rattle.std.proofs.Common.{◌≡◌, ℕ, ◌-◌, ◌≤◌, Bool, true, false, List, [], ◌++◌, length, Result, Ok, Err, refl, sym, ap, subst, ◌∙◌, append_assoc, inl, inr, arith}
 use Rattle.std.proofs.lemmas.List.{append-nil}
 use Rattle.llrp_stream.specs.Device.{SourceLog, SinkLog, Wrote}
 use Rattle.llrp_tool.specs.declared.fault.ToolErr.{ToolErr}
@@ -8,7 +8,7 @@ use Rattle.llrp_tool.specs.declared.gathering.Gathering.{Gathering}
 use Rattle.llrp_tool.specs.declared.gathering.Phase.TheVariants.{Open, Closed}
 use Rattle.llrp_tool.specs.Copying.{Writes}
 use Rattle.llrp_tool.specs.EndsStand.{spoken, heard, ReadsNone, ReadsPiece, Given, ClientStands, ClientStops}
-use Rattle.llrp_tool.specs.Gathering.{Course, begun}
+use Rattle.llrp_tool.specs.Gathering.{Course}
 use Rattle.llrp_tool.specs.GatheringStands.{IsOpen, Counts, Moves, MovesSome, Feeds, phase_left}
 use Rattle.llrp_tool.specs.Plan.{Plan}
 use Rattle.llrp_tool.specs.RunInventory.{Says, Ended, BeginsSaying}

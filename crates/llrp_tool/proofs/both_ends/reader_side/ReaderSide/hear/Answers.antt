@@ -1,4 +1,4 @@
-use Rattle.std.proofs.Common.{◌≡◌, ◌+◌, ◌-◌, ◌<◌, ◌≤◌, List, ℕ, [], Ok, Err, take, length, refl, arith}
+use Rattle.std.proofs.Common.{◌≤◌, take, refl, arith}
 use Rattle.std.proofs.lemmas.List.{length-take}
 use Rattle.std.proofs.lemmas.Result.{err_from_is_err_and}
 use Rattle.llrp_tool.proofs.ReaderSideLemmas.{reader_begins, reader_steps, reader_stops_unread, reader_stops_fed}

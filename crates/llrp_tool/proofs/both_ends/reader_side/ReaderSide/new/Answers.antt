@@ -1,4 +1,4 @@
-use Rattle.std.proofs.Common.{◌≡◌, List, ℕ, [], Ok, Err}
+use Rattle.std.proofs.Common.{Err}
 use Rattle.std.proofs.lemmas.Result.{err_from_is_err_and}
 use Rattle.llrp_tool.proofs.ReaderSideLemmas.{reader_starts}
 use Rattle.llrp_tool.proofs.ServeLemmas.{begins_start}
