@@ -1,11 +1,9 @@
 #!/usr/bin/env bash
-# Prints how many MB/s `llrp encode` takes in, beside `cat` on the same bytes: 100 MB of the listing
-# of tag reports of eight tags with six parameters each, or as many MB as the first argument says.
+# Prints how many MB/s `llrp encode` takes in and its peak memory, beside `cat` on the same bytes: 100 MB of
+# the listing of tag reports of eight tags with six parameters each, or as many MB as the first argument says.
 set -eu
-top="$(cd "$(dirname "$0")/.." && pwd)"
+. "$(dirname "$0")/common.sh"
 size="${1:-100}"
-work="$(mktemp -d)"
-trap 'rm -rf "$work"' EXIT
 
 # About a million bytes of whole reports, whose ids, serials and times count up, and copies of them.
 make_listing() {
@@ -25,24 +23,10 @@ make_listing() {
     }
     function time(start, id, tag) { return start sprintf("%07d", 100 * id + tag) }
     function put(line) { print line; return length(line) + 1 }' > "$work/million"
-    for ((n = 0; n < size; n++)); do
-        cat "$work/million"
-    done > "$work/listing"
-}
-
-# The MB/s of a command that reads the listing: its name, the command.
-measure() {
-    local name="$1"
-    shift
-    local began ended
-    began="$(date +%s%N)"
-    "$@" < "$work/listing" > "$work/output"
-    ended="$(date +%s%N)"
-    awk -v name="$name" -v bytes="$(stat -c %s "$work/listing")" -v nanoseconds="$((ended - began))" \
-        'BEGIN { printf "%-12s %8.1f MB/s\n", name, bytes * 1000 / nanoseconds }'
+    copies "$size" > "$work/listing"
 }
 
 "$top/llrp" --help > "$work/output"
 make_listing
-measure 'cat' cat
-measure 'llrp encode' "$top/llrp" encode
+measure 'cat' "$work/listing" cat
+measure 'llrp encode' "$work/listing" "$top/llrp" encode

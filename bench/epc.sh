@@ -3,11 +3,9 @@
 # that reads them all: a million, or as many as the first argument says. Of four words one each is of
 # SGTIN-96, GID-96 and SSCC-96, and one has no tag URI. The texts must give the words back.
 set -eu
-top="$(cd "$(dirname "$0")/.." && pwd)"
+. "$(dirname "$0")/common.sh"
 count="${1:-1000000}"
 crate="$top/crates/epc_bench"
-work="$(mktemp -d)"
-trap 'rm -rf "$work"' EXIT
 
 # The words as lines of 24 digits, with numbers that count up.
 make_words() {
@@ -18,7 +16,7 @@ make_words() {
 }
 
 # The lines a second of the loop over a file: a name, the file, where its lines go.
-measure() {
+measure_lines() {
     local name="$1" file="$2" output="$3"
     local began ended
     began="$(date +%s%N)"
@@ -33,6 +31,6 @@ if ! (cd "$crate" && rt run < stdin) > "$work/build" 2>&1; then
     exit 2
 fi
 make_words
-measure 'words to texts' "$work/words" "$work/texts"
-measure 'texts to words' "$work/texts" "$work/back"
+measure_lines 'words to texts' "$work/words" "$work/texts"
+measure_lines 'texts to words' "$work/texts" "$work/back"
 cmp "$work/back" "$work/words"

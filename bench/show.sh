@@ -3,11 +3,9 @@
 # `xxd -p` on the same bytes, and the peak memory of each: 200 MB of tag reports, or as many MB as the
 # first argument says. With `keepalive` as the second argument the frames are KEEPALIVE messages.
 set -eu
-top="$(cd "$(dirname "$0")/.." && pwd)"
+. "$(dirname "$0")/common.sh"
 size="${1:-200}"
 kind="${2:-report}"
-work="$(mktemp -d)"
-trap 'rm -rf "$work"' EXIT
 
 # The hexadecimal digits of a report of 100 tags, each with an SGTIN-96, its antenna, its signal
 # strength, the time when it was first seen, and how often it was: 10 + 100 * 34 octets.
@@ -34,19 +32,7 @@ make_frames() {
             report "$id"
         done | xxd -r -p > "$work/million"
     fi
-    for ((n = 0; n < size; n++)); do
-        cat "$work/million"
-    done > "$work/frames"
-}
-
-# The MB/s and the peak memory of a command that reads a file: its name, the file, the command.
-measure() {
-    local name="$1" file="$2"
-    shift 2
-    /usr/bin/time -f '%e %U %S %M' -o "$work/time" "$@" < "$file" > "$work/output"
-    awk -v name="$name" -v bytes="$(stat -c %s "$file")" \
-        '{ printf "%-12s %7.1f MB/s by wall  %7.1f MB/s by processor  %6.1f MB of memory\n", \
-            name, bytes / 1e6 / ($1 + 0.001), bytes / 1e6 / ($2 + $3 + 0.001), $4 / 1000 }' "$work/time"
+    copies "$size" > "$work/frames"
 }
 
 "$top/llrp" --help > "$work/output"

@@ -4,10 +4,8 @@
 # often as the first argument says, and one of 100 tag reports with 5, 3,410 octets, 20 times as often.
 # The first rate is by the processor's seconds in the program, the second with those in the kernel.
 set -eu
-top="$(cd "$(dirname "$0")/.." && pwd)"
+. "$(dirname "$0")/common.sh"
 times="${1:-1000}"
-work="$(mktemp -d)"
-trap 'rm -rf "$work"' EXIT
 
 # A tag report of 68 octets: EPC-96, then each parameter with a type and a value that goes with it.
 full_report() {
@@ -47,7 +45,7 @@ print_rates() {
 }
 
 # The rates for a frame of so many reports, made by a function, of so many octets each; how often.
-measure() {
+measure_frames() {
     local octets=$((10 + $2 * $3)) base
     echo "$2 reports, $octets octets, $4 times"
     make_frame "$1" "$2" "$octets" > "$work/frame"
@@ -58,5 +56,5 @@ measure() {
 
 make_frame short_report 1 44 > "$work/frame"
 (cd "$top/crates/tree_bench" && rt run -- 1 1 < "$work/frame" > "$work/output" 2>&1)
-measure full_report 963 68 "$times"
-measure short_report 100 34 "$((20 * times))"
+measure_frames full_report 963 68 "$times"
+measure_frames short_report 100 34 "$((20 * times))"

@@ -1,0 +1,23 @@
+# Sourced by the benchmarks: the repository's folder, a folder to work in that is removed at the end, and
+# how a command is measured.
+top="$(cd "$(dirname "$0")/.." && pwd)"
+work="$(mktemp -d)"
+trap 'rm -rf "$work"' EXIT
+
+# So many copies of $work/million, one after another.
+copies() {
+    for ((n = 0; n < $1; n++)); do
+        cat "$work/million"
+    done
+}
+
+# The MB/s and the peak memory of a command that reads a file, and what it writes as $work/output: its
+# name, the file, the command.
+measure() {
+    local name="$1" file="$2"
+    shift 2
+    /usr/bin/time -f '%e %U %S %M' -o "$work/time" "$@" < "$file" > "$work/output"
+    awk -v name="$name" -v bytes="$(stat -c %s "$file")" \
+        '{ printf "%-12s %7.1f MB/s by wall  %7.1f MB/s by processor  %6.1f MB of memory\n", \
+            name, bytes / 1e6 / ($1 + 0.001), bytes / 1e6 / ($2 + $3 + 0.001), $4 / 1000 }' "$work/time"
+}
