@@ -7,13 +7,12 @@ fn tags_are_counted_over_pieces(rt: HostRuntime) -> Result<(), Fail> {
     let lines = Output::new(Vec::new(rt.alloc()));
     let mut progress = Progress::new(lines, Some(Vec::new(rt.alloc())));
     progress.show();
-    for piece in [
-        b"urn:epc:tag:gid-96:1.2.3 1 -60\n- - -\n= 2\nbi".as_slice(),
-        b"ts 4 xA0 - -\n".as_slice(),
-        b"= 1\ntotal 3 2\n".as_slice(),
-    ] {
-        assert!(rt; progress.write(piece)? == piece.len());
-    }
+    let first = b"urn:epc:tag:gid-96:1.2.3 1 -60\n- - -\n= 2\nbi".as_slice();
+    assert!(rt; progress.write(first)? == first.len());
+    let second = b"ts 4 xA0 - -\n".as_slice();
+    assert!(rt; progress.write(second)? == second.len());
+    let third = b"= 1\ntotal 3 2\n".as_slice();
+    assert!(rt; progress.write(third)? == third.len());
     progress.wipe();
     let written = progress.sink.into_inner();
     assert!(rt;
