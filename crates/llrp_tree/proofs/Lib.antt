@@ -18,6 +18,7 @@ pub mod Telling
 pub mod Frames
 pub mod Totality
 pub mod ReadingLemmas
+pub mod OneField
 pub mod ChildLemmas
 pub mod ChildOctets
 pub mod BodyLemmas

@@ -11,7 +11,7 @@ ghost use Rattle.llrp_tree.specs.OpenTree.{Begun, kind_of, as_read};
 ghost use Rattle.llrp_tree.specs.Standing.{Stands, Closes, begun, leading, Begins, BeginsBehind, Tells, is_tv_kind};
 
 use super::children::{Child, begin_child};
-use super::fields::read_fields;
+use super::fields::{read_fields, read_value};
 use super::tail::read_tail;
 use crate::check::none_missing;
 use crate::fault::bad;
@@ -43,12 +43,12 @@ fn read_tv(
     ensures read { (h : Head) (parent : Begun) (outer : List Begun) → kind_of h ≡ Parameter child.kind → parent.children ≡ forest siblings.old.items → Stands (digits_of_bytes frame.now) (leading h (8 * child.stop) [] ∷ parent ∷ outer) (8 * child.at)
         → MatchResult result (λ at. Stands (digits_of_bytes frame.now) (begun parent.head parent.stop parent.fields parent.tail (forest siblings.new.items) ∷ outer) (8 * at)) (Tells (digits_of_bytes frame.now)) }
 {
-    let mut fields = ArrayVec::new();
-    let kind = Kind::Parameter(child.kind);
-    let at = read_fields(frame, child.at, child.stop, kind, &mut fields)?;
+    let (value, at) = read_value(frame, child.at, child.stop, child.kind)?;
     let tail = Octets::new(Vec::new(alloc));
     let children = Nodes::new(Vec::new(alloc));
     let octets = (1 + at - child.at) as u32;
+    let mut fields = ArrayVec::new();
+    fields.push(value);
     siblings.reserve(1)?;
     siblings.push_reserved(Node::of_lawful(child.kind, fields, tail, children, octets));
     Ok(at)

@@ -2,14 +2,15 @@
 
 ghost use Rattle.std.specs.Prelude.{◌≡◌, ◌+◌, ◌*◌, ◌≤◌, ℕ, List, [], ◌∷◌, length, drop, true, MatchResult};
 ghost use Rattle.tag_bits.specs.Digits.{digits_of_bytes};
-ghost use Rattle.llrp_schema.specs.Schema.{field_rule, fields_of, plain_fields_of, bits_of};
+ghost use Rattle.llrp_schema.specs.declared.kinds.Kind.TheVariants.{Parameter};
+ghost use Rattle.llrp_schema.specs.Schema.{field_rule, fields_of, plain_fields_of, bits_of, is_tv};
 ghost use Rattle.llrp_tree.specs.Spelling.{Head, spread};
 ghost use Rattle.llrp_tree.specs.OpenTree.{Begun, kind_of, in_range};
 ghost use Rattle.llrp_tree.specs.FirstFault.{number, field_checks};
 ghost use Rattle.llrp_tree.specs.Standing.{Stands, leading, FailsFirst, Tells};
 
 use crate::fault::bad;
-use crate::{FrameErr, Kind, Reason};
+use crate::{FrameErr, Kind, ParamKind, Reason};
 use arrayvec::ArrayVec;
 use llrp_schema::Field;
 use tag_bits::get;
@@ -35,6 +36,28 @@ pub(crate) fn field_at(frame: &[u8], at: usize, stop: usize, rule: &Field) -> Re
         return Err(bad(at, Reason::Value));
     }
     Ok(value)
+}
+
+/// The value of the one field of a parameter with a type and a value alone, from one octet to another,
+/// and the octet behind it.
+#[inline(always)]
+pub(crate) fn read_value(
+    frame: &[u8],
+    from: usize,
+    stop: usize,
+    kind: ParamKind,
+) -> Result<(u128, usize), FrameErr>
+    requires short { is_tv kind ≡ true }
+    requires before { from ≤ stop }
+    requires small { length frame.now ≤ 65536 }
+    requires inside { stop ≤ length frame.now }
+    ensures within { MatchResult result (λ x. (from ≤ x.1) × (x.1 ≤ stop)) (λ _. Unit {0}) }
+    ensures read { (h : Head) (outer : List Begun) → kind_of h ≡ Parameter kind → Stands (digits_of_bytes frame.now) (leading h (8 * stop) [] ∷ outer) (8 * from)
+        → MatchResult result (λ x. Stands (digits_of_bytes frame.now) (leading h (8 * stop) (spread (fields_of (Parameter kind)) (x.0 ∷ [])) ∷ outer) (8 * x.1)) (Tells (digits_of_bytes frame.now)) }
+{
+    let rule = &llrp_schema::fields(Kind::Parameter(kind))[0];
+    let value = field_at(frame, 8 * from, 8 * stop, rule)?;
+    Ok((value, from + rule.width as usize / 8))
 }
 
 /// Reads the fields of a node of a kind, from one octet to another, and keeps the plain ones; the
