@@ -10,7 +10,7 @@ ghost use Rattle.llrp_tool.specs.OpenLines.{ClosingStops, entries_in};
 ghost use Rattle.llrp_tool.specs.LineChecks.{LONGEST_LINE};
 ghost use Rattle.llrp_tool.specs.Splits.{Lacks};
 
-use crate::copying::{MOST_READS, READ_SIZE, hand_on, hand_on_pieces};
+use crate::copying::{MOST_READS, PIECE_SIZE, hand_on, hand_on_pieces};
 use crate::fault::{Refusal, ToolErr};
 use crate::line::{LONGEST_LINE, Line, LineErr, read_line};
 use crate::open_lines::{CloseErr, OpenMessage, OpenParameter};
@@ -281,7 +281,7 @@ pub fn run_encode<R: Source, W: Sink>(
     ensures stopped { IfErr result (λ e. EncodeStopped limit (R.log r.old) (R.log r.new) (W.log w.old) (W.log w.new) e) }
 {
     let mut encoder = Encoder::new(alloc, limit);
-    let mut buffer = [0u8; READ_SIZE];
+    let mut buffer = [0u8; PIECE_SIZE];
     for _ in 0..MOST_READS {
         let n = match r.read(&mut buffer) {
             Ok(n) => n,

@@ -20,6 +20,7 @@ use std::alloc::AllocError;
 pub(crate) use tails::push_tail;
 
 /// Appends the first two words of a line: the level and the kind's name.
+#[inline(always)]
 fn push_start(text: &mut Vec<u8>, level: u8, kind: Kind) -> Result<(), AllocError>
     requires { level < 10 }
     ensures { OnOk result (text.new.items ≡ text.old.items ++ (decimal level ++ spaced (name_of kind ∷ []))) }
