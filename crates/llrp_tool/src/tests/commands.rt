@@ -207,88 +207,74 @@ fn run(rt: &HostRuntime, words: &[&str], input: &[u8]) -> Result<Outcome, ToolEr
     })
 }
 
+/// The words of a command and its input; the status, the output and the errors that it gives.
+type CommandRow = (
+    &'static [&'static str],
+    &'static [u8],
+    u8,
+    &'static [u8],
+    &'static [u8],
+);
+
+const COMMAND_ROWS: [CommandRow; 11] = [
+    (
+        &["show", "--hex"],
+        b"083E0000000A00000007",
+        0,
+        b"0 KEEPALIVE 2 7\n",
+        b"",
+    ),
+    (&["show"], b"\x08\x3e\0\0\0\x09", 1, b"! BROKEN\n", b""),
+    (&["show", "--hex"], b"083", 1, b"", b"llrp: hex\n"),
+    (
+        &["encode"],
+        b"0 KEEPALIVE 2 7\n",
+        0,
+        b"\x08\x3e\0\0\0\x0a\0\0\0\x07",
+        b"",
+    ),
+    (
+        &["encode", "--hex"],
+        b"0 KEEPALIVE 2 7\n0 GET_REPORT 1 255\n",
+        0,
+        b"083E0000000A00000007043C0000000A000000FF\n",
+        b"",
+    ),
+    (&["encode", "--hex"], b"", 0, b"", b""),
+    (
+        &["encode"],
+        b"0 KEEPALIVE 2 7\n0 KEEPALIVE 2 8\n0 KEEPALIVE 3 9\n",
+        1,
+        b"\x08\x3e\0\0\0\x0a\0\0\0\x07",
+        b"llrp: line 3: Number\n",
+    ),
+    (
+        &["encode", "--hex"],
+        b"0 KEEPALIVE 2 7\n0 KEEPALIVE 2  7\n",
+        1,
+        b"",
+        b"llrp: line 2: Fields\n",
+    ),
+    (
+        &["encode"],
+        b"0 KEEPALIVE 2 7",
+        1,
+        b"",
+        b"llrp: line 1: Line\n",
+    ),
+    (
+        &["epc", "3003A3529440000000000000"],
+        b"",
+        0,
+        b"urn:epc:raw:96.x3003A3529440000000000000\n# Prefix 14\n",
+        b"",
+    ),
+    (&["epc", ""], b"", 1, b"! Start\n", b""),
+];
+
 #[test]
 fn commands_with_ample_memory(rt: HostRuntime) -> Result<(), Fail> {
-    let rows = [
-        (
-            ["show", "--hex"].as_slice(),
-            b"083E0000000A00000007".as_slice(),
-            0,
-            b"0 KEEPALIVE 2 7\n".as_slice(),
-            b"".as_slice(),
-        ),
-        (
-            ["show"].as_slice(),
-            b"\x08\x3e\0\0\0\x09".as_slice(),
-            1,
-            b"! BROKEN\n".as_slice(),
-            b"".as_slice(),
-        ),
-        (
-            ["show", "--hex"].as_slice(),
-            b"083".as_slice(),
-            1,
-            b"".as_slice(),
-            b"llrp: hex\n".as_slice(),
-        ),
-        (
-            ["encode"].as_slice(),
-            b"0 KEEPALIVE 2 7\n".as_slice(),
-            0,
-            b"\x08\x3e\0\0\0\x0a\0\0\0\x07".as_slice(),
-            b"".as_slice(),
-        ),
-        (
-            ["encode", "--hex"].as_slice(),
-            b"0 KEEPALIVE 2 7\n0 GET_REPORT 1 255\n".as_slice(),
-            0,
-            b"083E0000000A00000007043C0000000A000000FF\n".as_slice(),
-            b"".as_slice(),
-        ),
-        (
-            ["encode", "--hex"].as_slice(),
-            b"".as_slice(),
-            0,
-            b"".as_slice(),
-            b"".as_slice(),
-        ),
-        (
-            ["encode"].as_slice(),
-            b"0 KEEPALIVE 2 7\n0 KEEPALIVE 2 8\n0 KEEPALIVE 3 9\n".as_slice(),
-            1,
-            b"\x08\x3e\0\0\0\x0a\0\0\0\x07".as_slice(),
-            b"llrp: line 3: Number\n".as_slice(),
-        ),
-        (
-            ["encode", "--hex"].as_slice(),
-            b"0 KEEPALIVE 2 7\n0 KEEPALIVE 2  7\n".as_slice(),
-            1,
-            b"".as_slice(),
-            b"llrp: line 2: Fields\n".as_slice(),
-        ),
-        (
-            ["encode"].as_slice(),
-            b"0 KEEPALIVE 2 7".as_slice(),
-            1,
-            b"".as_slice(),
-            b"llrp: line 1: Line\n".as_slice(),
-        ),
-        (
-            ["epc", "3003A3529440000000000000"].as_slice(),
-            b"".as_slice(),
-            0,
-            b"urn:epc:raw:96.x3003A3529440000000000000\n# Prefix 14\n".as_slice(),
-            b"".as_slice(),
-        ),
-        (
-            ["epc", ""].as_slice(),
-            b"".as_slice(),
-            1,
-            b"! Start\n".as_slice(),
-            b"".as_slice(),
-        ),
-    ];
-    for (words, input, status, output, errors) in rows {
+    for (words, input, status, output, errors) in COMMAND_ROWS {
         let found = run(&rt, words, input)?;
         assert!(rt; found.status == status);
         assert!(rt; found.output.as_slice() == output);

@@ -47,96 +47,34 @@ fn reads_whole_and_part_octets(rt: HostRuntime) {
 fn writes_whole_and_part_octets(rt: HostRuntime) {
     for (octets, place, width, value, want) in [
         // Whole octets.
-        (
-            [0x00, 0x00, 0x00, 0x00],
-            0,
-            8,
-            0xA5,
-            [0xA5, 0x00, 0x00, 0x00],
-        ),
-        (
-            [0xFF, 0xFF, 0xFF, 0xFF],
-            8,
-            16,
-            0x0000,
-            [0xFF, 0x00, 0x00, 0xFF],
-        ),
-        (
-            [0xA5, 0x3C, 0x0F, 0x96],
-            0,
-            32,
-            0xDEAD_BEEF,
-            [0xDE, 0xAD, 0xBE, 0xEF],
-        ),
+        (0x0000_0000_u32, 0, 8, 0xA5, 0xA500_0000_u32),
+        (0xFFFF_FFFF, 8, 16, 0x0000, 0xFF00_00FF),
+        (0xA53C_0F96, 0, 32, 0xDEAD_BEEF, 0xDEAD_BEEF),
         // Part of one octet.
-        (
-            [0xFF, 0xFF, 0xFF, 0xFF],
-            3,
-            2,
-            0b01,
-            [0xEF, 0xFF, 0xFF, 0xFF],
-        ),
-        (
-            [0xFF, 0xFF, 0xFF, 0xFF],
-            9,
-            3,
-            0b101,
-            [0xFF, 0xDF, 0xFF, 0xFF],
-        ),
+        (0xFFFF_FFFF, 3, 2, 0b01, 0xEFFF_FFFF),
+        (0xFFFF_FFFF, 9, 3, 0b101, 0xFFDF_FFFF),
         // Over the edge of an octet.
-        (
-            [0xFF, 0xFF, 0xFF, 0xFF],
-            4,
-            8,
-            0x00,
-            [0xF0, 0x0F, 0xFF, 0xFF],
-        ),
-        (
-            [0xFF, 0xFF, 0xFF, 0xFF],
-            7,
-            2,
-            0b00,
-            [0xFE, 0x7F, 0xFF, 0xFF],
-        ),
-        (
-            [0x00, 0x00, 0x00, 0x00],
-            6,
-            10,
-            0x13C,
-            [0x01, 0x3C, 0x00, 0x00],
-        ),
-        (
-            [0x00, 0x00, 0x00, 0x00],
-            12,
-            12,
-            0xABC,
-            [0x00, 0x0A, 0xBC, 0x00],
-        ),
-        (
-            [0xA5, 0x3C, 0x0F, 0x96],
-            5,
-            20,
-            0x00000,
-            [0xA0, 0x00, 0x00, 0x16],
-        ),
-        (
-            [0xA5, 0x3C, 0x0F, 0x96],
-            5,
-            20,
-            0xFFFFF,
-            [0xA7, 0xFF, 0xFF, 0x96],
-        ),
+        (0xFFFF_FFFF, 4, 8, 0x00, 0xF00F_FFFF),
+        (0xFFFF_FFFF, 7, 2, 0b00, 0xFE7F_FFFF),
+        (0x0000_0000, 6, 10, 0x13C, 0x013C_0000),
+        (0x0000_0000, 12, 12, 0xABC, 0x000A_BC00),
+        (0xA53C_0F96, 5, 20, 0x00000, 0xA000_0016),
+        (0xA53C_0F96, 5, 20, 0xFFFFF, 0xA7FF_FF96),
         // The first bit and the last.
-        ([0x00, 0x00, 0x00, 0x00], 0, 1, 1, [0x80, 0x00, 0x00, 0x00]),
-        ([0x00, 0x00, 0x00, 0x00], 31, 1, 1, [0x00, 0x00, 0x00, 0x01]),
-        ([0xFF, 0xFF, 0xFF, 0xFF], 1, 31, 0, [0x80, 0x00, 0x00, 0x00]),
+        (0x0000_0000, 0, 1, 1, 0x8000_0000),
+        (0x0000_0000, 31, 1, 1, 0x0000_0001),
+        (0xFFFF_FFFF, 1, 31, 0, 0x8000_0000),
     ] {
-        let mut written: [u8; 4] = octets;
+        let mut written = octets.to_be_bytes();
         assert!(rt;
             1 <= width && width <= 32 && place <= 32 - width as usize && value < 1 << width
         );
         put(&mut written, place, width, value);
-        assert_eq!(rt; written, want, "{width} bits from bit {place} on");
+        assert_eq!(rt;
+            u32::from_be_bytes(written),
+            want,
+            "{width} bits from bit {place} on"
+        );
     }
 }
 
