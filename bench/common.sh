@@ -1,8 +1,15 @@
-# Sourced by the benchmarks: the repository's folder, a folder to work in that is removed at the end, and
-# how a command is measured.
+# Sourced by the benchmarks: the repository's folder, a folder to work in that is removed at the end, the
+# program, and how a command is measured.
 top="$(cd "$(dirname "$0")/.." && pwd)"
 work="$(mktemp -d)"
 trap 'rm -rf "$work"' EXIT
+
+# The program itself, without the script beside it, once `build` has proved and built it.
+program="$top/crates/llrp/out/llrp"
+
+build() {
+    "$top/llrp" --help > "$work/help"
+}
 
 # So many copies of $work/million, one after another.
 copies() {

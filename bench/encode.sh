@@ -26,7 +26,7 @@ make_listing() {
     copies "$size" > "$work/listing"
 }
 
-"$top/llrp" --help > "$work/output"
+build
 make_listing
 measure 'cat' "$work/listing" cat
-measure 'llrp encode' "$work/listing" "$top/llrp" encode
+measure 'llrp encode' "$work/listing" "$program" encode

@@ -35,12 +35,12 @@ make_frames() {
     copies "$size" > "$work/frames"
 }
 
-"$top/llrp" --help > "$work/output"
+build
 make_frames
 measure 'cat' "$work/frames" cat
 measure 'wc -l' "$work/frames" wc -l
 measure 'xxd -p' "$work/frames" xxd -p
-measure 'llrp show' "$work/frames" "$top/llrp" show
+measure 'llrp show' "$work/frames" "$program" show
 mv "$work/output" "$work/listing"
-measure 'llrp encode' "$work/listing" "$top/llrp" encode
+measure 'llrp encode' "$work/listing" "$program" encode
 cmp "$work/output" "$work/frames"
