@@ -1,11 +1,11 @@
 -- What a reader reads in a ROSpec and in a ROReportSpec (LLRP 1.1, sections 11 and 14).
-use Rattle.std.specs.Prelude.{ℕ, ◌+◌, ◌*◌, ◌==◌, Bool, not, List, [], ◌∷◌, filter, find, slice_index, Option, None, Some, option_and_then}
+use Rattle.std.specs.Prelude.{ℕ, ◌==◌, Bool, not, List, [], filter, find, slice_index, Option, None, Some, option_and_then}
 use Rattle.std.specs.List.{list_any}
 use Rattle.llrp_schema.specs.declared.kinds.ParamKind.{ParamKind}
 use Rattle.llrp_schema.specs.declared.kinds.ParamKind.TheVariants.{RoBoundarySpec, RoSpecStartTrigger, RoSpecStopTrigger, AiSpec, AiSpecStopTrigger, InventoryParameterSpec, RoReportSpec, TagReportContentSelector}
 use Rattle.llrp_schema.specs.declared.kinds.Kind.TheVariants.{Parameter}
 use Rattle.llrp_schema.specs.Schema.{number_of}
-use Rattle.llrp_tree.specs.Tree.{Tree, Forest, trees}
+use Rattle.llrp_tree.specs.Tree.{Tree, Forest, trees, words_of}
 use Rattle.llrp_tree.specs.Lawful.{tree_octets}
 pub use Rattle.llrp_session.specs.declared.words.ContentSelector.{ContentSelector}
 pub use Rattle.llrp_session.specs.declared.words.ReportSpec.{ReportSpec}
@@ -41,14 +41,9 @@ abbrev pub flag : ℕ → Option Tree → Bool
 flag i o = field i o == 1
 
 -- the words of 16 bits that are in the tail
-abbrev pub words : List ℕ → List ℕ
-words [] = []
-words (high ∷ []) = []
-words (high ∷ low ∷ octets) = (256 * high + low) ∷ words octets
-
 abbrev pub words_in : Option Tree → List ℕ
 words_in None = []
-words_in (Some t) = words t.tail
+words_in (Some t) = words_of t.tail
 
 -- ---- ROReportSpec
 

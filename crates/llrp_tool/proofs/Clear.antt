@@ -20,7 +20,8 @@ use Rattle.llrp_tool.specs.FirstRefusal.{AreClear}
 use Rattle.llrp_tool.specs.LineChecks.{word, IsInForm, AreInForm, IsTailOf, SaysNode, SaysLine, IsNamed, start_checks, tail_count, word_count, TellsNumber, tail_checks, body_checks, kind_checks, RefusesLineItself}
 use Rattle.llrp_tool.specs.Lines.{TextLine, Ended, Unended}
 use Rattle.llrp_tool.specs.ListingRules.{rules_for}
-use Rattle.llrp_tool.specs.NodeLine.{NodeLine, NumberForm, Version, Id, Unsigned, Signed, Epc, number_forms, signed_text, IsNumberText, AreNumberTexts, words_of, tail_texts}
+use Rattle.llrp_tree.specs.Tree.{words_of}
+use Rattle.llrp_tool.specs.NodeLine.{NodeLine, NumberForm, Version, Id, Unsigned, Signed, Epc, number_forms, signed_text, IsNumberText, AreNumberTexts, tail_texts}
 use Rattle.llrp_tool.specs.Splits.{words}
 use Rattle.llrp_tool.proofs.BodyWords.{texts_length}
 use Rattle.llrp_tool.proofs.DecimalWords.{digits_of, one_number}

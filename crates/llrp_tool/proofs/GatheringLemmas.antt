@@ -22,7 +22,8 @@ use Rattle.llrp_tool.specs.Sending.{Adds, AddsSome}
 use Rattle.llrp_tool.specs.TagLines.{AreReports, AreReportLines}
 use Rattle.llrp_tool.specs.Gathering.{Course, ends, awaited_after, sends_by, sends, goes_on}
 use Rattle.llrp_tool.specs.GatheringStands.{commands_left, Holds, closing_text, Moves, MovesSome, Stops, Does, error_by_command}
-use Rattle.llrp_tool.proofs.SendingLemmas.{zip_append, adds_none, adds_more}
+use Rattle.llrp_tool.proofs.SendingLemmas.{adds_none, adds_more}
+use Rattle.llrp_tool.proofs.Zips.{zip_append}
 
 -- ---- reports one after another
 

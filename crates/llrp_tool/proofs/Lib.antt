@@ -74,3 +74,4 @@ pub mod TreeLines
 pub mod WordLemmas
 pub mod WithinLimit
 pub mod WordTexts
+pub mod Zips

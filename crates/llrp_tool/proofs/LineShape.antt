@@ -18,7 +18,8 @@ use Rattle.llrp_tree.specs.Lawful.{AreOctets}
 use Rattle.tag_uri.proofs.TextShape.{is_visible, are_visible, text_visible}
 use Rattle.llrp_tool.specs.LineChecks.{is_printed, IsInForm, AreInForm, IsTailOf, SaysNode}
 use Rattle.llrp_tool.specs.Lines.{NoLf}
-use Rattle.llrp_tool.specs.NodeLine.{NodeLine, NumberForm, Version, Id, Unsigned, Signed, Epc, number_forms, signed_text, IsNumberText, AreNumberTexts, words_of, tail_texts, spaced}
+use Rattle.llrp_tree.specs.Tree.{words_of}
+use Rattle.llrp_tool.specs.NodeLine.{NodeLine, NumberForm, Version, Id, Unsigned, Signed, Epc, number_forms, signed_text, IsNumberText, AreNumberTexts, tail_texts, spaced}
 use Rattle.llrp_tool.specs.Splits.{Lacks, words}
 use Rattle.llrp_tool.proofs.DecimalWords.{digits_of, left, right}
 use Rattle.llrp_tool.proofs.TailWords.{below-at, AreSmall, words_small}

@@ -1,7 +1,7 @@
 -- Lines that are appended to a text.
 use Rattle.std.proofs.Common.{◌≡◌, ℕ, zero, suc, ◌+◌, ◌-◌, ◌*◌, ◌<◌, ◌≤◌, ◌^◌, Bool, true, false, cond, List, [], ◌∷◌, ◌++◌, length, take, drop, get_or, map, filter, refl, sym, ap, subst, ◌∙◌, append_assoc, arith}
 use Rattle.std.specs.Prelude.{decimal, ◌&&◌, not, nat_lt, ◌==◌, if◌then◌else◌}
-use Rattle.std.specs.List.{flat_map, join_with_byte, AllZip}
+use Rattle.std.specs.List.{flat_map, join_with_byte}
 use Rattle.std.proofs.lemmas.List.{append-nil, nil_from_length, take_more, take_all}
 use Rattle.std.proofs.lemmas.Fmt.{decimal_digit}
 use Rattle.std.proofs.lemmas.List.Concat.{flat_map-append}
@@ -12,16 +12,17 @@ use Rattle.llrp_schema.specs.declared.kinds.Kind.{Kind}
 use Rattle.llrp_schema.specs.declared.kinds.Kind.TheVariants.{Message, Parameter}
 use Rattle.llrp_schema.specs.Schema.{FieldRule, field_rule, fields_of, plain_fields_of, tail_of, name_of, rule_of, message_rule, param_rule, message_kinds, param_kinds}
 use Rattle.llrp_schema.proofs.TableLaws.{every_rule, message_tail}
-use Rattle.llrp_tree.specs.Tree.{Forest, none, and, Tree, MessageTree, forest, trees, add, add_all}
+use Rattle.llrp_tree.specs.Tree.{Forest, none, and, Tree, MessageTree, forest, trees, add, add_all, words_of}
 use Rattle.llrp_tree.specs.Stored.{size}
 use Rattle.llrp_tree.specs.Lawful.{levels, AllLawful, AreInRange}
 use Rattle.llrp_tree.specs.declared.TheConstants.{MAX_DEPTH}
 use Rattle.llrp_tree.proofs.TreeLemmas.{forest-trees, forest-take_more}
 use Rattle.llrp_tree.proofs.LawLemmas.{both}
-use Rattle.llrp_tool.specs.NodeLine.{NodeLine, Unsigned, Signed, Epc, number_forms, field_form, IsNumberText, AreNumberTexts, words_of, tail_texts, spaced, IsLine, message_line, parameter_line}
+use Rattle.llrp_tool.specs.NodeLine.{NodeLine, Unsigned, Signed, Epc, number_forms, field_form, IsNumberText, AreNumberTexts, tail_texts, spaced, IsLine, message_line, parameter_line}
 use Rattle.llrp_tool.specs.MessageListing.{AreLines, parameter_lines, message_lines}
 use Rattle.llrp_tool.proofs.TextLemmas.{grown, grown_thrice}
 use Rattle.llrp_tool.specs.Printing.{forms_of, AreInForm, IsInForm, AppendsNumbers, AppendsLines}
+use Rattle.llrp_tool.proofs.Zips.{zip_append}
 
 -- ---- tails
 
@@ -178,12 +179,6 @@ line_appended level line words old t1 t2 t3 t4 are e1 e2 e3 e4 =
 -- no line was appended
 pub lines_none : (old : List ℕ) → AppendsLines [] old old
 lines_none old = ([], sym (append-nil old), record { texts = []; each = tt; text_is = refl })
-
-zip_append : {A B : Type 0} (R : A → B → Type 0) (xs us : List A) (ys vs : List B) → AllZip R xs ys → AllZip R us vs → AllZip R (xs ++ us) (ys ++ vs)
-zip_append R [] us [] vs p q = q
-zip_append R [] us (y ∷ ys) vs p q = absurd p
-zip_append R (x ∷ xs) us [] vs p q = absurd p
-zip_append R (x ∷ xs) us (y ∷ ys) vs p q = (p.0, zip_append R xs us ys vs p.1 q)
 
 -- the lines of two lists have the texts of both
 pub lines_append : (a b : List (ℕ × NodeLine)) (s t : List ℕ) → AreLines a s → AreLines b t → AreLines (a ++ b) (s ++ t)

@@ -1,22 +1,10 @@
 -- Rows of messages, and what they spell.
-use Rattle.std.proofs.Common.{◌≡◌, ℕ, suc, List, [], ◌∷◌, ◌++◌, length, refl, sym, ap}
-use Rattle.std.specs.List.{AllZip}
+use Rattle.std.proofs.Common.{ℕ, List, [], ◌++◌, refl, sym}
 use Rattle.std.proofs.lemmas.List.Concat.{flat_map-append}
 use Rattle.llrp_tree.specs.Tree.{MessageTree}
 use Rattle.llrp_tree.specs.Frame.{Frame}
 use Rattle.llrp_tool.specs.Encoding.{AreSpelled}
-
-pub zip_length : {X Y : Type 0} (P : X → Y → Type 0) (xs : List X) (ys : List Y) → AllZip P xs ys → length xs ≡ length ys
-zip_length P [] [] z = refl
-zip_length P [] (y ∷ ys) z = absurd z
-zip_length P (x ∷ xs) [] z = absurd z
-zip_length P (x ∷ xs) (y ∷ ys) z = ap suc (zip_length P xs ys z.1)
-
-pub zip_append : {X Y : Type 0} (P : X → Y → Type 0) (xs xs' : List X) (ys ys' : List Y) → AllZip P xs ys → AllZip P xs' ys' → AllZip P (xs ++ xs') (ys ++ ys')
-zip_append P [] xs' [] ys' p q = q
-zip_append P [] xs' (y ∷ ys) ys' p q = absurd p
-zip_append P (x ∷ xs) xs' [] ys' p q = absurd p
-zip_append P (x ∷ xs) xs' (y ∷ ys) ys' p q = (p.0, zip_append P xs xs' ys ys' p.1 q)
+use Rattle.llrp_tool.proofs.Zips.{zip_append}
 
 pub spells_nothing : (limit : ℕ) → AreSpelled limit [] []
 spells_nothing limit = record { frames = []; each = tt; bytes_are = refl }

@@ -12,12 +12,7 @@ use Rattle.llrp_tree.proofs.LengthLemmas.{spelled_length}
 use Rattle.llrp_tree.proofs.ReadDigits.{octets_again}
 use Rattle.llrp_stream.specs.Cuts.{joined}
 use Rattle.llrp_tool.specs.Sending.{AreFrames, Adds, AddsSome}
-
-pub zip_append : {A B : Type 0} (R : A → B → Type 0) (a b : List A) (x y : List B) → AllZip R a x → AllZip R b y → AllZip R (a ++ b) (x ++ y)
-zip_append R [] b [] y p q = q
-zip_append R [] b (w ∷ x) y p q = absurd p
-zip_append R (m ∷ a) b [] y p q = absurd p
-zip_append R (m ∷ a) b (w ∷ x) y p q = (p.0, zip_append R a b x y p.1 q)
+use Rattle.llrp_tool.proofs.Zips.{zip_append}
 
 pub frames_none : AreFrames [] []
 frames_none = record { frames = []; each = tt; whole = refl }

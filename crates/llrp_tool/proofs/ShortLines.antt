@@ -14,7 +14,8 @@ use Rattle.llrp_schema.proofs.TableLaws.{name_short}
 use Rattle.llrp_tree.specs.declared.TheConstants.{MAX_DEPTH}
 use Rattle.tag_uri.proofs.TextShape.{text_short}
 use Rattle.llrp_tool.specs.LineChecks.{LONGEST_LINE, IsInForm, AreInForm, IsTailOf}
-use Rattle.llrp_tool.specs.NodeLine.{NodeLine, NumberForm, Version, Id, Unsigned, Signed, Epc, number_forms, signed_text, IsNumberText, AreNumberTexts, words_of, tail_texts, spaced}
+use Rattle.llrp_tree.specs.Tree.{words_of}
+use Rattle.llrp_tool.specs.NodeLine.{NodeLine, NumberForm, Version, Id, Unsigned, Signed, Epc, number_forms, signed_text, IsNumberText, AreNumberTexts, tail_texts, spaced}
 use Rattle.llrp_tool.proofs.LineShape.{rest_words}
 use Rattle.llrp_tool.proofs.LineWords.{few_forms, message_forms, parameter_forms}
 use Rattle.llrp_tool.proofs.TailWords.{AreSmall, words_small}

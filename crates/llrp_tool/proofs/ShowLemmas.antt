@@ -1,7 +1,7 @@
 -- The listing of a stream as it comes.
 use Rattle.std.proofs.Common.{◌≡◌, ℕ, Bool, true, false, List, [], ◌∷◌, ◌++◌, take, drop, refl, sym, ap, subst, ◌∙◌, append_assoc, Err, Ok, inl, inr, Some, None}
 use Rattle.std.specs.Prelude.{◌&&◌, Option, Result, OnOk, IfErr, IfOk, MatchResult}
-use Rattle.std.specs.List.{flat_map, AllZip, list_all}
+use Rattle.std.specs.List.{flat_map, list_all}
 use Rattle.std.proofs.lemmas.List.{append-nil, take-append-drop}
 use Rattle.std.proofs.lemmas.List.Concat.{flat_map-append}
 use Rattle.llrp_stream.specs.declared.item.Item.{Item}
@@ -27,22 +27,17 @@ use Rattle.llrp_tool.specs.Show.{verdict_of, Listed, BeginsListing, Stopped, Wro
 use Rattle.llrp_tool.specs.StreamListing.{IsItemText, AreItemTexts, IsStreamListing, end_text, is_message, is_clean, is_lawful}
 use Rattle.llrp_tool.proofs.DeviceLemmas.{wrote_nothing, wrote_more, wrote_then_failed, same_failures}
 use Rattle.llrp_tool.proofs.OneText.{begins_listing, one_stream_listing}
+use Rattle.llrp_tool.proofs.Zips.{zip_append}
 
 -- ---- texts of items
 
 no_items : AreItemTexts [] []
 no_items = record { texts = []; each = tt; text_is = refl }
 
-zip_push : (R : Item → List ℕ → Type 0) (xs : List Item) (ys : List (List ℕ)) (x : Item) (y : List ℕ) → AllZip R xs ys → R x y → AllZip R (xs ++ (x ∷ [])) (ys ++ (y ∷ []))
-zip_push R [] [] x y h p = (p, tt)
-zip_push R [] (b ∷ ys) x y h p = absurd h
-zip_push R (a ∷ xs) [] x y h p = absurd h
-zip_push R (a ∷ xs) (b ∷ ys) x y h p = (h.0, zip_push R xs ys x y h.1 p)
-
 one_item_more : (items : List Item) (item : Item) (text more : List ℕ) → AreItemTexts items text → IsItemText item more → AreItemTexts (items ++ (item ∷ [])) (text ++ more)
 one_item_more items item text more are is = record {
   texts = are.texts ++ (more ∷ []);
-  each = zip_push IsItemText items are.texts item more are.each is;
+  each = zip_append IsItemText items (item ∷ []) are.texts (more ∷ []) are.each (is, tt);
   text_is = ap (λ (x : List ℕ). x ++ more) are.text_is ∙ ap (λ (x : List ℕ). flat_map (λ t. t) are.texts ++ x) (sym (append-nil more)) ∙ sym (flat_map-append (λ t. t) are.texts (more ∷ []));
 }
 

@@ -34,7 +34,8 @@ use Rattle.llrp_tool.proofs.DeviceLemmas.{wrote_nothing, wrote_more, wrote_then_
 use Rattle.llrp_tool.proofs.Growing.{covers_pop, covers_put}
 use Rattle.llrp_tool.proofs.LineSays.{line_long}
 use Rattle.llrp_tool.proofs.Listed.{says_text}
-use Rattle.llrp_tool.proofs.Rows.{spells_nothing, spells_more, zip_append, zip_length}
+use Rattle.llrp_tool.proofs.Rows.{spells_nothing, spells_more}
+use Rattle.llrp_tool.proofs.Zips.{zip_append, zip_length}
 
 pub stands_new : (limit : ℕ) (log : SinkLog) → StandsAt limit log log [] [] 0 [] []
 stands_new limit log = record { done = []; front = []; cuts = λ more. refl; no_lf = tt; says = tt; counted = refl; last = refl; sound = (tt, tt); numbered = tt; spellings = []; spelled = spells_nothing limit; handed = []; gathered = refl; log = wrote_nothing log }

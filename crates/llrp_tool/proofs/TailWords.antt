@@ -16,7 +16,7 @@ use Rattle.llrp_tool.specs.declared.fault.Refusal.TheVariants as refusal
 use Rattle.llrp_tool.specs.declared.line.LineErr.{LineErr}
 use Rattle.llrp_tool.specs.declared.line.LineErr.TheVariants.{Refused, Memory}
 use Rattle.llrp_tool.specs.LineReading.{AppendsWord, AreDigitsOf, IsNoTail, IsNoWord, IsTailWord, IsWordList, has_capital}
-use Rattle.llrp_tool.specs.NodeLine.{words_of}
+use Rattle.llrp_tree.specs.Tree.{words_of}
 use Rattle.llrp_tool.specs.Splits.{Lacks}
 use Rattle.llrp_tool.proofs.DecimalWords.{digits_of, left, right}
 use Rattle.llrp_tool.proofs.HexadecimalLemmas.{spelled_if_ok}

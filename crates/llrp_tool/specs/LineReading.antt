@@ -25,7 +25,8 @@ use Rattle.llrp_tool.specs.Checks.{FirstFailing}
 use Rattle.llrp_tool.specs.LineChecks.{SaysNode, IsPlaced, AreInForm, IsTailOf, HasLevel, HasName, tail_checks, body_checks, RefusesLineItself}
 use Rattle.llrp_tool.specs.Lines.{Ended}
 use Rattle.llrp_tool.specs.Splits.{words, words_in}
-use Rattle.llrp_tool.specs.NodeLine.{NodeLine, NumberForm, field_form, number_forms, AreNumberTexts, words_of, tail_texts, parameter_line}
+use Rattle.llrp_tree.specs.Tree.{words_of}
+use Rattle.llrp_tool.specs.NodeLine.{NodeLine, NumberForm, field_form, number_forms, AreNumberTexts, tail_texts, parameter_line}
 
 -- what the plain ones of some fields are
 abbrev pub forms_of : List FieldRule → List NumberForm

@@ -1,5 +1,5 @@
 -- The line of a message or of a parameter in a listing, and its text. Texts are lists of ASCII codes: 10 is LF, 32 a space, 44 a comma, 45 a minus.
-use Rattle.std.specs.Prelude.{◌≡◌, ℕ, ◌+◌, ◌-◌, ◌*◌, ◌==◌, nat_lt, if◌then◌else◌, List, [], ◌∷◌, ◌++◌, map, decimal}
+use Rattle.std.specs.Prelude.{◌≡◌, ℕ, ◌-◌, ◌==◌, nat_lt, if◌then◌else◌, List, [], ◌∷◌, ◌++◌, map, decimal}
 use Rattle.std.specs.List.{flat_map, join_with_byte}
 use Rattle.hex.specs.Hex.{encode_lower}
 use Rattle.llrp_schema.specs.declared.kinds.ParamKind.{ParamKind}
@@ -8,7 +8,7 @@ use Rattle.llrp_schema.specs.declared.kinds.Kind.TheVariants.{Message, Parameter
 use Rattle.llrp_schema.specs.declared.kinds.Tail.{Tail}
 use Rattle.llrp_schema.specs.declared.kinds.Tail.TheVariants.{Absent, Words, Text, Bits}
 use Rattle.llrp_schema.specs.Schema.{FieldRule, name_of, plain_fields_of, tail_of}
-use Rattle.llrp_tree.specs.Tree.{MessageTree}
+use Rattle.llrp_tree.specs.Tree.{MessageTree, words_of}
 use Rattle.tag_uri.specs.TagText.{IsTextOf}
 
 -- What stands on one line: the kind, the numbers (a message's version and id, and then the plain fields), and the octets of a parameter's tail.
@@ -66,12 +66,6 @@ AreNumberTexts (f ∷ fs) (n ∷ ns) [] = ⊥
 AreNumberTexts (f ∷ fs) (n ∷ ns) (w ∷ ws) = IsNumberText f n w × AreNumberTexts fs ns ws
 
 -- ---- tails
-
--- the words of 16 bits that octets make
-abbrev pub words_of : List ℕ → List ℕ
-words_of [] = []
-words_of (high ∷ []) = []
-words_of (high ∷ low ∷ octets) = (256 * high + low) ∷ words_of octets
 
 -- 'w' (119), and the words in decimal, joined by commas
 abbrev pub word_list_text : List ℕ → List ℕ

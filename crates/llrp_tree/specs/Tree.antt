@@ -1,5 +1,5 @@
 -- Parameters and messages as trees.
-use Rattle.std.specs.Prelude.{ℕ, List, [], ◌∷◌, ◌++◌}
+use Rattle.std.specs.Prelude.{ℕ, ◌+◌, ◌*◌, List, [], ◌∷◌, ◌++◌}
 use Rattle.llrp_schema.specs.declared.kinds.ParamKind.{ParamKind}
 use Rattle.llrp_schema.specs.declared.kinds.MsgKind.{MsgKind}
 
@@ -38,3 +38,9 @@ forest ts = add_all none ts
 abbrev pub trees : Forest → List Tree
 trees none = []
 trees (and before kind fields tail children) = trees before ++ record { kind = kind; fields = fields; tail = tail; children = children } ∷ []
+
+-- the words of 16 bits that octets make, as in the tail of a parameter that has a list of them
+abbrev pub words_of : List ℕ → List ℕ
+words_of [] = []
+words_of (high ∷ []) = []
+words_of (high ∷ low ∷ octets) = (256 * high + low) ∷ words_of octets

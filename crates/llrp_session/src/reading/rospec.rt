@@ -2,7 +2,7 @@
 
 ghost use Rattle.std.specs.Prelude.{◌≡◌, find as find_first, filter};
 ghost use Rattle.std.specs.List.{list_any};
-ghost use Rattle.llrp_tree.specs.Tree.{Tree};
+ghost use Rattle.llrp_tree.specs.Tree.{Tree, words_of};
 ghost use Rattle.llrp_session.specs.RoSpec as spec;
 ghost use Rattle.llrp_session.specs.ReadWords.{behind, IsOfKind, settings_of};
 ghost use Rattle.llrp_session.specs.Words.{AddRoSpec};
@@ -152,7 +152,7 @@ impl RoSpec {
 
 /// Whether the words of 16 bits in octets hold a number, or 0.
 fn lists(octets: &[u8], antenna: u16) -> bool
-    ensures { result ≡ the_test antenna (spec.words octets.now) }
+    ensures { result ≡ the_test antenna (words_of octets.now) }
 {
     match octets {
         [high, low, rest @ ..] => {

@@ -3,7 +3,8 @@
 ghost use Rattle.std.specs.Prelude.{◌≡◌, ◌+◌, ◌*◌, ◌++◌, OnOk, map, decimal};
 ghost use Rattle.std.specs.List.{join_with_byte};
 ghost use Rattle.hex.specs.Hex.{encode_lower};
-ghost use Rattle.llrp_tool.specs.NodeLine.{octets_text, spaced, tail_texts, word_list_text, words_of};
+ghost use Rattle.llrp_tree.specs.Tree.{words_of};
+ghost use Rattle.llrp_tool.specs.NodeLine.{octets_text, spaced, tail_texts, word_list_text};
 
 use itoa::Buffer;
 use llrp_schema::Tail;
@@ -50,6 +51,7 @@ fn push_octets(text: &mut Vec<u8>, octets: &[u8]) -> Result<(), AllocError>
 }
 
 /// Appends a space and the text of a tail, where the kind has one.
+#[inline(always)]
 pub fn push_tail(text: &mut Vec<u8>, form: Tail, tail: &[u8]) -> Result<(), AllocError>
     ensures { OnOk result (text.new.items ≡ text.old.items ++ spaced (tail_texts form tail.now)) }
 {

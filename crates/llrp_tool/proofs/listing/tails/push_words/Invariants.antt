@@ -1,7 +1,7 @@
 use Rattle.std.proofs.Common.{◌≡◌, ◌++◌, length, map}
 use Rattle.std.specs.Prelude.{decimal}
 use Rattle.std.specs.List.{join_with_byte}
-use Rattle.llrp_tool.specs.NodeLine.{words_of}
+use Rattle.llrp_tree.specs.Tree.{words_of}
 use Rattle.llrp_tool.proofs.PrintingLemmas.{other_words}
 use Rattle.llrp_tool.proofs.listing.tails.push_words.Given as goal
 
