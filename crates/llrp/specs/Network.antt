@@ -1,11 +1,11 @@
 -- How the commands over sockets read their script and end.
 use Rattle.std.specs.Prelude.{◌≡◌, ℕ, ◌⊎◌, List, Option, Some, None, Result, Ok, Err, IfErr, IfSome, codes}
 use Rattle.llrp_stream.specs.Device.{SourceLog, SinkLog, Wrote, WroteAndFailed}
-use Rattle.llrp_tool.specs.declared.fault.ToolErr.{ToolErr}
-use Rattle.llrp_tool.specs.declared.fault.ToolErr.TheVariants.{Listing, Script, Hex, Read, Write, Bound, Broken, Memory, Peer, Strange, Early}
+use Rattle.llrp_listing.specs.declared.fault.ToolErr.{ToolErr}
+use Rattle.llrp_listing.specs.declared.fault.ToolErr.TheVariants.{Listing, Script, Hex, Read, Write, Bound, Broken, Memory, Peer, Strange, Early}
 use Rattle.llrp_tool.specs.declared.script.Entry.{Entry}
 use Rattle.llrp_tool.specs.Command.{Answers, fine_status}
-use Rattle.llrp_tool.specs.Copying.{IsPrefix, ReadAll, ReadStopped}
+use Rattle.llrp_listing.specs.Copying.{IsPrefix, ReadAll, ReadStopped}
 use Rattle.llrp_tool.specs.Script.{IsScript, ParseStopped}
 
 -- What reading a script answers: the entries of all that the source gave, or why there are none.

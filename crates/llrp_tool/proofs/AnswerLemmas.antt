@@ -3,13 +3,13 @@ use Rattle.std.proofs.Common.{◌≡◌, ℕ, ◌+◌, List, ◌∷◌, ◌++◌
 use Rattle.std.specs.List.{flat_map}
 use Rattle.std.proofs.lemmas.List.{drop_more, take-append-drop}
 use Rattle.std.proofs.lemmas.List.Concat.{flat_map-append}
-use Rattle.llrp_tool.specs.declared.fault.ToolErr.{ToolErr}
-use Rattle.llrp_tool.specs.declared.fault.ToolErr.TheVariants.{Listing, Script, Hex, Read, Write, Bound, Memory, Broken, Peer, Strange, Early}
+use Rattle.llrp_listing.specs.declared.fault.ToolErr.{ToolErr}
+use Rattle.llrp_listing.specs.declared.fault.ToolErr.TheVariants.{Listing, Script, Hex, Read, Write, Bound, Memory, Broken, Peer, Strange, Early}
 use Rattle.llrp_tool.specs.Command.{LIMIT, NotEncoded, memory_error}
-use Rattle.llrp_tool.specs.Copying.{Writes}
+use Rattle.llrp_listing.specs.Copying.{Writes}
 use Rattle.llrp_stream.specs.Device.{SourceLog, SinkLog, Wrote}
-use Rattle.llrp_tool.specs.Encoding.{EncodeStopped}
-use Rattle.llrp_tool.proofs.DeviceLemmas.{wrote_then_failed}
+use Rattle.llrp_listing.specs.Encoding.{EncodeStopped}
+use Rattle.llrp_listing.proofs.DeviceLemmas.{wrote_then_failed}
 
 -- a write stopped in a part of a text
 writes_stop : (old mid new : SinkLog) (done part rest text : List ℕ) (e : ToolErr) → Wrote old mid done → text ≡ done ++ (part ++ rest) → Writes part mid new (Err e) → Writes text old new (Err e)

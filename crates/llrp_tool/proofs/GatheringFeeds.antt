@@ -12,13 +12,13 @@ use Rattle.llrp_stream.specs.declared.item.FeedErr.TheVariants as decoder
 use Rattle.llrp_stream.specs.Feeding.{Takes, Feeds as decoder_feeds}
 use Rattle.llrp_stream.proofs.RunLemmas.{items_grow}
 use Rattle.llrp_session.specs.ClientMessages.{client_message}
-use Rattle.llrp_tool.specs.declared.fault.ToolErr.{ToolErr}
-use Rattle.llrp_tool.specs.declared.fault.ToolErr.TheVariants.{Listing, Script, Hex, Read, Write, Bound, Broken, Memory, Peer, Strange, Early}
+use Rattle.llrp_listing.specs.declared.fault.ToolErr.{ToolErr}
+use Rattle.llrp_listing.specs.declared.fault.ToolErr.TheVariants.{Listing, Script, Hex, Read, Write, Bound, Broken, Memory, Peer, Strange, Early}
 use Rattle.llrp_tool.specs.declared.gathering.Gathering.{Gathering}
 use Rattle.llrp_tool.specs.declared.gathering.Phase.{Phase}
 use Rattle.llrp_tool.specs.Plan.{Plan}
 use Rattle.llrp_tool.specs.Gathering.{Course, begun, after_item, goes, follow, Gathers}
-use Rattle.llrp_tool.specs.Fault.{error_by}
+use Rattle.llrp_listing.specs.Fault.{error_by}
 use Rattle.llrp_tool.specs.GatheringStands.{Holds, StandsFor, Stops, Does, Fails, Feeds}
 use Rattle.llrp_tool.proofs.GatheringLemmas.{open_text, some_all, still, moves_on, stops_after}
 

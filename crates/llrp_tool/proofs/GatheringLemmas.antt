@@ -12,8 +12,8 @@ use Rattle.llrp_session.specs.ClientMachine.{Client, Sending, command}
 use Rattle.llrp_session.specs.ClientMessages.{client_message}
 use Rattle.llrp_session.specs.Refusal.{Refusal}
 use Rattle.llrp_session.specs.Words.{ClientMessage}
-use Rattle.llrp_tool.specs.declared.fault.ToolErr.{ToolErr}
-use Rattle.llrp_tool.specs.declared.fault.ToolErr.TheVariants.{Listing, Script, Hex, Read, Write, Bound, Broken, Memory, Peer, Strange, Early}
+use Rattle.llrp_listing.specs.declared.fault.ToolErr.{ToolErr}
+use Rattle.llrp_listing.specs.declared.fault.ToolErr.TheVariants.{Listing, Script, Hex, Read, Write, Bound, Broken, Memory, Peer, Strange, Early}
 use Rattle.llrp_tool.specs.declared.gathering.Gathering.{Gathering}
 use Rattle.llrp_tool.specs.declared.gathering.left.Left.{Left}
 use Rattle.llrp_tool.specs.declared.gathering.Phase.{Phase}
@@ -23,7 +23,7 @@ use Rattle.llrp_tool.specs.TagLines.{AreReports, AreReportLines}
 use Rattle.llrp_tool.specs.Gathering.{Course, ends, awaited_after, sends_by, sends, goes_on}
 use Rattle.llrp_tool.specs.GatheringStands.{commands_left, Holds, closing_text, Moves, MovesSome, Stops, Does, error_by_command}
 use Rattle.llrp_tool.proofs.SendingLemmas.{adds_none, adds_more}
-use Rattle.llrp_tool.proofs.Zips.{zip_append}
+use Rattle.llrp_listing.proofs.Zips.{zip_append}
 
 -- ---- reports one after another
 

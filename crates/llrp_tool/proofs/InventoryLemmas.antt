@@ -5,12 +5,12 @@ use Rattle.llrp_tree.specs.Tree.{Tree, MessageTree}
 use Rattle.llrp_stream.specs.Device.{SourceLog, SinkLog, Took, Gave, Wrote}
 use Rattle.llrp_session.specs.Words.{ClientMessage}
 use Rattle.llrp_session.specs.ClientMessages.{client_message}
-use Rattle.llrp_tool.specs.declared.fault.ToolErr.{ToolErr}
-use Rattle.llrp_tool.specs.declared.fault.ToolErr.TheVariants.{Listing, Script, Hex, Read, Write, Bound, Broken, Memory, Peer, Strange, Early}
+use Rattle.llrp_listing.specs.declared.fault.ToolErr.{ToolErr}
+use Rattle.llrp_listing.specs.declared.fault.ToolErr.TheVariants.{Listing, Script, Hex, Read, Write, Bound, Broken, Memory, Peer, Strange, Early}
 use Rattle.llrp_tool.specs.declared.gathering.Gathering.{Gathering}
 use Rattle.llrp_tool.specs.declared.gathering.Phase.TheVariants.{Open}
 use Rattle.llrp_tool.specs.declared.summary.Summary.{Summary}
-use Rattle.llrp_tool.specs.Copying.{MOST_READS, IsPrefix, GaveAndFailed, Writes}
+use Rattle.llrp_listing.specs.Copying.{MOST_READS, IsPrefix, GaveAndFailed, Writes}
 use Rattle.llrp_tool.specs.Gathering.{Course, begun}
 use Rattle.llrp_tool.specs.GatheringStands.{closing_text, IsOpen, Counts, Moves, MovesSome, Feeds, phase_left}
 use Rattle.llrp_tool.specs.Plan.{Plan}
@@ -18,7 +18,7 @@ use Rattle.llrp_tool.specs.RunInventory.{Says, SaysSome, Awaits, WroteAll, Begin
 use Rattle.llrp_tool.specs.RunServe.{WasGiven}
 use Rattle.llrp_tool.specs.Sending.{AreFrames, Adds}
 use Rattle.llrp_tool.specs.TagLines.{summary_of}
-use Rattle.llrp_tool.proofs.DeviceLemmas.{gave_nothing, read_more, wrote_nothing, wrote_more, wrote_then_failed, all_read}
+use Rattle.llrp_listing.proofs.DeviceLemmas.{gave_nothing, read_more, wrote_nothing, wrote_more, wrote_then_failed, all_read}
 use Rattle.llrp_tool.proofs.GatheringLemmas.{reports_none, reports_append, open_text}
 use Rattle.llrp_tool.proofs.SendingLemmas.{frames_none, frames_append}
 

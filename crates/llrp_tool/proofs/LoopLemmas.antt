@@ -6,10 +6,10 @@ use Rattle.llrp_stream.specs.Device.{SourceLog, SinkLog, IsFreshSource, Wrote, W
 use Rattle.llrp_session.specs.ClientMessages.{client_message}
 use Rattle.llrp_tool.specs.declared.both_ends.client_side.ClientSide.{ClientSide}
 use Rattle.llrp_tool.specs.declared.both_ends.reader_side.ReaderSide.{ReaderSide}
-use Rattle.llrp_tool.specs.declared.fault.ToolErr.{ToolErr}
-use Rattle.llrp_tool.specs.declared.fault.ToolErr.TheVariants.{Listing, Script, Hex, Read, Write, Bound, Broken, Memory, Peer, Strange, Early}
+use Rattle.llrp_listing.specs.declared.fault.ToolErr.{ToolErr}
+use Rattle.llrp_listing.specs.declared.fault.ToolErr.TheVariants.{Listing, Script, Hex, Read, Write, Bound, Broken, Memory, Peer, Strange, Early}
 use Rattle.llrp_tool.specs.declared.summary.Summary.{Summary}
-use Rattle.llrp_tool.specs.Copying.{ReadAll}
+use Rattle.llrp_listing.specs.Copying.{ReadAll}
 use Rattle.llrp_tool.specs.EndsStand.{WritesPiece, Given, HasRoom, ReaderStands, ReaderStops, ReaderHears, ClientStands, ClientStops, ClientHears}
 use Rattle.llrp_tool.specs.GatheringStands.{Counts}
 use Rattle.llrp_tool.specs.RunLoop.{Ends, Way, Devices, Traffic, Passed, Fine, GivenAndFailed, GivenByMost, ReaderGoes, ClientAwaits, RunsLoop}
@@ -17,7 +17,7 @@ use Rattle.llrp_tool.specs.RunServe.{BeginsFrames, WasGiven}
 use Rattle.llrp_tool.specs.Sending.{AreFrames}
 use Rattle.llrp_tool.specs.TagLines.{summary_of}
 use Rattle.llrp_tool.proofs.ClientSideLemmas.{client_awaits}
-use Rattle.llrp_tool.proofs.DeviceLemmas.{gave_nothing, wrote_nothing, wrote_more, wrote_then_failed}
+use Rattle.llrp_listing.proofs.DeviceLemmas.{gave_nothing, wrote_nothing, wrote_more, wrote_then_failed}
 use Rattle.llrp_tool.proofs.HearingLemmas.{was_given}
 use Rattle.llrp_tool.proofs.ReaderSideLemmas.{reader_goes}
 

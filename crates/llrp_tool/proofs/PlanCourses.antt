@@ -17,7 +17,7 @@ use Rattle.llrp_stream.proofs.Unique.{one_cut}
 use Rattle.llrp_session.specs.Refusal.{Refusal}
 use Rattle.llrp_session.specs.ClientMachine.{Taking, take}
 use Rattle.llrp_session.specs.Reading.{heard_of}
-use Rattle.llrp_tool.specs.declared.fault.ToolErr.TheVariants.{Strange}
+use Rattle.llrp_listing.specs.declared.fault.ToolErr.TheVariants.{Strange}
 use Rattle.llrp_tool.specs.declared.gathering.Phase.{Phase}
 use Rattle.llrp_tool.specs.declared.gathering.Phase.TheVariants.{Open, Closed, Failed}
 use Rattle.llrp_tool.specs.Plan.{Plan}

@@ -8,7 +8,7 @@ use Rattle.llrp_stream.specs.declared.item.Item.TheVariants.{Msg, Bad}
 use Rattle.llrp_session.specs.ClientMachine.{take}
 use Rattle.llrp_session.specs.Words.{Heard}
 use Rattle.llrp_session.specs.Reading.{heard_of}
-use Rattle.llrp_tool.specs.declared.fault.ToolErr.TheVariants.{Strange}
+use Rattle.llrp_listing.specs.declared.fault.ToolErr.TheVariants.{Strange}
 use Rattle.llrp_tool.specs.declared.gathering.Phase.{Phase}
 use Rattle.llrp_tool.specs.declared.gathering.Phase.TheVariants.{Open, Closed, Failed}
 use Rattle.llrp_tool.specs.Plan.{Plan}

@@ -22,7 +22,7 @@ use Rattle.llrp_session.specs.RoSpec.{rospec_of}
 use Rattle.llrp_session.specs.Words.{Heard}
 use Rattle.llrp_session.specs.ClientMachine.{Client, Sending, Taking, take, command, sending, sent_unless, refused_in, is_over_limit, are_spent, awaited}
 use Rattle.llrp_session.specs.Reading.{heard_of}
-use Rattle.llrp_tool.specs.declared.fault.ToolErr.TheVariants.{Peer, Strange}
+use Rattle.llrp_listing.specs.declared.fault.ToolErr.TheVariants.{Peer, Strange}
 use Rattle.llrp_tool.specs.declared.gathering.Awaits.{Awaits}
 use Rattle.llrp_tool.specs.declared.gathering.Awaits.TheVariants.{Answer, Report, End}
 use Rattle.llrp_tool.specs.declared.gathering.Phase.{Phase}

@@ -9,7 +9,7 @@ use Rattle.llrp_session.specs.declared.words.Command.{Command}
 use Rattle.llrp_session.specs.Refusal.{Refusal}
 use Rattle.llrp_session.specs.Words.{Asks, ClientMessage}
 use Rattle.llrp_session.specs.ClientMachine.{Client, Sending, command, sending, sent_unless, refused_in, awaited}
-use Rattle.llrp_tool.specs.declared.fault.ToolErr.TheVariants.{Strange}
+use Rattle.llrp_listing.specs.declared.fault.ToolErr.TheVariants.{Strange}
 use Rattle.llrp_tool.specs.declared.gathering.Awaits.TheVariants.{Answer}
 use Rattle.llrp_tool.specs.declared.gathering.Phase.{Phase}
 use Rattle.llrp_tool.specs.declared.gathering.Phase.TheVariants.{Open, Closed, Failed}

@@ -15,7 +15,7 @@ use Rattle.llrp_session.specs.declared.words.Taken.TheVariants.{Connected, Refus
 use Rattle.llrp_session.specs.Refusal.{Refusal}
 use Rattle.llrp_session.specs.Words.{Asks, ClientMessage, Heard}
 use Rattle.llrp_session.specs.ClientMachine.{Client, Taking, awaited}
-use Rattle.llrp_tool.specs.declared.fault.ToolErr.TheVariants.{Peer, Strange, Early}
+use Rattle.llrp_listing.specs.declared.fault.ToolErr.TheVariants.{Peer, Strange, Early}
 use Rattle.llrp_tool.specs.declared.gathering.Awaits.{Awaits}
 use Rattle.llrp_tool.specs.declared.gathering.Awaits.TheVariants.{Answer, Report, End}
 use Rattle.llrp_tool.specs.declared.gathering.Phase.{Phase}

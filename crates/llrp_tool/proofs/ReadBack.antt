@@ -9,9 +9,9 @@ use Rattle.llrp_tree.proofs.LengthLemmas.{spelled_length}
 use Rattle.llrp_stream.specs.Cuts.{joined}
 use Rattle.llrp_stream.specs.Items.{ItemsSoFar}
 use Rattle.llrp_session.specs.MessageWorld.{AreSendable}
-use Rattle.llrp_tool.specs.PrintingLaws.{AreSpellings}
+use Rattle.llrp_listing.specs.PrintingLaws.{AreSpellings}
 use Rattle.llrp_tool.specs.Sending.{AreFrames}
-use Rattle.llrp_tool.proofs.PrintsBack.{as_items, are_frames, are_items}
+use Rattle.llrp_listing.proofs.PrintsBack.{as_items, are_frames, are_items}
 
 within : (limit : ℕ) (messages : List MessageTree) (frames : List (List ℕ)) → AreSendable limit messages → AllZip (λ m frame. Frame m frame MAX_LIMIT) messages frames → AreSpellings limit messages frames
 within limit [] [] s h = tt

@@ -14,7 +14,7 @@ use Rattle.llrp_session.specs.declared.words.Sighting.{Sighting}
 use Rattle.llrp_tool.specs.declared.script.Action.{Action}
 use Rattle.llrp_tool.specs.declared.script.Action.TheVariants.{Seen, Tick}
 use Rattle.llrp_tool.specs.declared.script.Entry.{Entry}
-use Rattle.llrp_tool.specs.Splits.{Lacks, IsSplit}
+use Rattle.llrp_listing.specs.Splits.{Lacks, IsSplit}
 use Rattle.llrp_tool.specs.Script.{IsSightingLine, IsActionLine, IsEntryLine, IsSightingInRange, IsActionInRange, IsInRange, IsTextOfAll, IsLawful, IsScript, MOST_ENTRIES, MayFollow, Begins, Continues, NoneContinues, IsRefusedAt}
 use Rattle.llrp_tool.specs.ScriptLaws.{ScriptOrRefused}
 use Rattle.llrp_tool.proofs.ScriptEntries.{no_line, next_line, may_not, lawful_push}

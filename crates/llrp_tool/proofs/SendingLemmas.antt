@@ -12,7 +12,7 @@ use Rattle.llrp_tree.proofs.LengthLemmas.{spelled_length}
 use Rattle.llrp_tree.proofs.ReadDigits.{octets_again}
 use Rattle.llrp_stream.specs.Cuts.{joined}
 use Rattle.llrp_tool.specs.Sending.{AreFrames, Adds, AddsSome}
-use Rattle.llrp_tool.proofs.Zips.{zip_append}
+use Rattle.llrp_listing.proofs.Zips.{zip_append}
 
 pub frames_none : AreFrames [] []
 frames_none = record { frames = []; each = tt; whole = refl }

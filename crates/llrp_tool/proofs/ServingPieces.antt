@@ -12,12 +12,12 @@ use Rattle.llrp_stream.specs.Feeding.{Takes, Feeds}
 use Rattle.llrp_stream.specs.Items.{ItemsSoFar}
 use Rattle.llrp_stream.proofs.RunLemmas.{items_grow}
 use Rattle.llrp_session.specs.ReaderMachine.{Reader}
-use Rattle.llrp_tool.specs.declared.fault.ToolErr.{ToolErr}
+use Rattle.llrp_listing.specs.declared.fault.ToolErr.{ToolErr}
 use Rattle.llrp_tool.specs.declared.script.Entry.{Entry}
 use Rattle.llrp_tool.specs.declared.serving.scripted.ScriptedReader.{ScriptedReader}
 use Rattle.llrp_tool.specs.declared.serving.Serving.{Serving}
 use Rattle.llrp_tool.specs.Serving.{events, run, said, Closes}
-use Rattle.llrp_tool.specs.Fault.{error_by}
+use Rattle.llrp_listing.specs.Fault.{error_by}
 use Rattle.llrp_tool.specs.Sending.{Adds}
 use Rattle.llrp_tool.specs.Acting.{DidSome, phase_after}
 use Rattle.llrp_tool.specs.ServingStands.{HasTaken, StandsFor, IsFresh, HasFailed, Connects, Starts, TakesItem, Goes, Fails, Feeds as FeedsOn}

@@ -5,7 +5,7 @@ use Rattle.std.proofs.lemmas.List.{append-nil, take_more}
 use Rattle.std.proofs.lemmas.List.Concat.{flat_map-append}
 use Rattle.llrp_tree.specs.Tree.{Tree}
 use Rattle.llrp_tool.specs.TagLines.{IsTagLine}
-use Rattle.llrp_tool.proofs.Zips.{zip_append}
+use Rattle.llrp_listing.proofs.Zips.{zip_append}
 
 pub lines_each : (tags : List Tree) (i : ℕ) (tag : Tree) (lines : List (List ℕ)) (line : List ℕ) → i < length tags → tag ≡ get_or tags i tag → AllZip IsTagLine (take i tags) lines → IsTagLine tag line
     → AllZip IsTagLine (take (i + 1) tags) (lines ++ line ∷ [])

@@ -2,8 +2,8 @@
 use Rattle.std.specs.Prelude.{◌≡◌, ℕ, ◌<◌, ◌≤◌, ◌++◌, List, ◌∷◌, length, Result, Ok, Err, Bool, true, false}
 use Rattle.std.specs.List.{AllByRecursion}
 use Rattle.llrp_session.specs.ReaderMachine.{Reader}
-use Rattle.llrp_tool.specs.declared.fault.ToolErr.{ToolErr}
-use Rattle.llrp_tool.specs.declared.fault.ToolErr.TheVariants.{Memory}
+use Rattle.llrp_listing.specs.declared.fault.ToolErr.{ToolErr}
+use Rattle.llrp_listing.specs.declared.fault.ToolErr.TheVariants.{Memory}
 use Rattle.llrp_tool.specs.declared.script.Entry.{Entry}
 use Rattle.llrp_tool.specs.declared.serving.Phase.{Phase}
 use Rattle.llrp_tool.specs.declared.serving.Phase.TheVariants.{Open, Closed, Failed}

@@ -1,17 +1,17 @@
 -- What a command does, and how it is answered: its exit status, and its line for an error.
 use Rattle.std.specs.Prelude.{◌≡◌, ℕ, ◌⊎◌, List, [], ◌∷◌, ◌++◌, Bool, true, false, Result, Ok, Err, codes, decimal}
 use Rattle.hex.specs.Hex.{encode_upper}
-use Rattle.llrp_tool.specs.declared.fault.ToolErr.{ToolErr}
-use Rattle.llrp_tool.specs.declared.fault.ToolErr.TheVariants.{Listing, Script, Hex, Read, Write, Bound, Memory, Broken, Peer, Strange, Early}
-use Rattle.llrp_tool.specs.declared.fault.Verdict.{Verdict}
-use Rattle.llrp_tool.specs.declared.fault.Verdict.TheVariants.{Lawful, Faulty}
-use Rattle.llrp_tool.specs.Copying.{MOST_READS, GaveAndFailed, IsPrefix, ReadAll, ReadStopped}
+use Rattle.llrp_listing.specs.declared.fault.ToolErr.{ToolErr}
+use Rattle.llrp_listing.specs.declared.fault.ToolErr.TheVariants.{Listing, Script, Hex, Read, Write, Bound, Memory, Broken, Peer, Strange, Early}
+use Rattle.llrp_listing.specs.declared.fault.Verdict.{Verdict}
+use Rattle.llrp_listing.specs.declared.fault.Verdict.TheVariants.{Lawful, Faulty}
+use Rattle.llrp_listing.specs.Copying.{MOST_READS, GaveAndFailed, IsPrefix, ReadAll, ReadStopped}
 use Rattle.llrp_stream.specs.Device.{SourceLog, SinkLog, Gave, Wrote, WroteAndFailed}
-use Rattle.llrp_tool.specs.Encoding.{Encoded, Encodes, EncodeStopped, ListingRefused, WasRead}
-use Rattle.llrp_tool.specs.EpcLines.{PrintsEpc}
-use Rattle.llrp_tool.specs.Hexadecimal.{IsHexOf, IsNoHex}
-use Rattle.llrp_tool.specs.Refused.{refusal_name}
-use Rattle.llrp_tool.specs.Show.{Listed, Shows, Stopped}
+use Rattle.llrp_listing.specs.Encoding.{Encoded, Encodes, EncodeStopped, ListingRefused, WasRead}
+use Rattle.llrp_listing.specs.EpcLines.{PrintsEpc}
+use Rattle.llrp_listing.specs.Hexadecimal.{IsHexOf, IsNoHex}
+use Rattle.llrp_listing.specs.Refused.{refusal_name}
+use Rattle.llrp_listing.specs.Show.{Listed, Shows, Stopped}
 
 -- the greatest message in octets that a command takes
 abbrev pub LIMIT : ℕ

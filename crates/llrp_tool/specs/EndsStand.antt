@@ -2,8 +2,8 @@
 use Rattle.std.specs.Prelude.{◌≡◌, ℕ, ◌+◌, ◌<◌, ◌≤◌, ◌^◌, ◌⊎◌, List, [], ◌++◌, length, Result, Ok, Err, Bool, true, false}
 use Rattle.llrp_tree.specs.Tree.{MessageTree}
 use Rattle.llrp_stream.specs.Device.{SourceLog, SinkLog, Gave, Wrote}
-use Rattle.llrp_tool.specs.declared.fault.ToolErr.{ToolErr}
-use Rattle.llrp_tool.specs.declared.fault.ToolErr.TheVariants.{Listing, Script, Hex, Read, Write, Bound, Broken, Memory, Peer, Strange, Early}
+use Rattle.llrp_listing.specs.declared.fault.ToolErr.{ToolErr}
+use Rattle.llrp_listing.specs.declared.fault.ToolErr.TheVariants.{Listing, Script, Hex, Read, Write, Bound, Broken, Memory, Peer, Strange, Early}
 use Rattle.llrp_tool.specs.declared.gathering.Phase.TheVariants.{Closed, Failed}
 use Rattle.llrp_session.specs.ReaderMachine.{Reader}
 use Rattle.llrp_tool.specs.declared.both_ends.client_side.ClientSide.{ClientSide}
@@ -11,7 +11,7 @@ use Rattle.llrp_tool.specs.declared.both_ends.reader_side.ReaderSide.{ReaderSide
 use Rattle.llrp_tool.specs.declared.gathering.Gathering.{Gathering}
 use Rattle.llrp_tool.specs.declared.script.Entry.{Entry}
 use Rattle.llrp_tool.specs.declared.serving.Serving.{Serving}
-use Rattle.llrp_tool.specs.Copying.{MOST_READS, ReadAll}
+use Rattle.llrp_listing.specs.Copying.{MOST_READS, ReadAll}
 use Rattle.llrp_tool.specs.Gathering.{Course}
 use Rattle.llrp_tool.specs.GatheringStands.{IsOpen as Follows, Counts}
 use Rattle.llrp_tool.specs.RunInventory.{Says, Ended}

@@ -14,7 +14,7 @@ use Rattle.llrp_session.specs.declared.words.Taken.TheVariants.{Connected, Refus
 use Rattle.llrp_session.specs.Words.{ClientMessage}
 use Rattle.llrp_session.specs.ClientMachine.{Client, Sending, Taking, command, take, new_client}
 use Rattle.llrp_session.specs.Reading.{heard_of}
-use Rattle.llrp_tool.specs.declared.fault.ToolErr.TheVariants.{Peer, Strange, Early}
+use Rattle.llrp_listing.specs.declared.fault.ToolErr.TheVariants.{Peer, Strange, Early}
 use Rattle.llrp_tool.specs.declared.gathering.Awaits.{Awaits}
 use Rattle.llrp_tool.specs.declared.gathering.Awaits.TheVariants.{Answer, Report, End}
 use Rattle.llrp_tool.specs.declared.gathering.Phase.{Phase}

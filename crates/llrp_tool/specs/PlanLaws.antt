@@ -17,7 +17,7 @@ use Rattle.llrp_session.specs.Words.{ClientWord, Asks, Acknowledges, ClientMessa
 use Rattle.llrp_session.specs.ClientMachine.{Client, Taking, take, command, sending, awaited, is_response_to}
 use Rattle.llrp_session.specs.Reading.{heard_of}
 use Rattle.llrp_session.specs.ReaderMessages.{reader_message}
-use Rattle.llrp_tool.specs.declared.fault.ToolErr.TheVariants.{Peer, Strange, Early}
+use Rattle.llrp_listing.specs.declared.fault.ToolErr.TheVariants.{Peer, Strange, Early}
 use Rattle.llrp_tool.specs.declared.gathering.Awaits.{Awaits}
 use Rattle.llrp_tool.specs.declared.gathering.Awaits.TheVariants.{Report}
 use Rattle.llrp_tool.specs.declared.gathering.Phase.TheVariants.{Open, Closed, Failed}

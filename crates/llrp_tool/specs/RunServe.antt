@@ -3,10 +3,10 @@ use Rattle.std.specs.Prelude.{ℕ, ◌≤◌, ◌⊎◌, List, Result, Ok, Err}
 use Rattle.llrp_tree.specs.Tree.{MessageTree}
 use Rattle.llrp_stream.specs.Device.{SourceLog, SinkLog, Gave, Wrote, WroteAndFailed}
 use Rattle.llrp_session.specs.ReaderMachine.{Reader}
-use Rattle.llrp_tool.specs.declared.fault.ToolErr.{ToolErr}
-use Rattle.llrp_tool.specs.declared.fault.ToolErr.TheVariants.{Listing, Script, Hex, Read, Write, Bound, Broken, Memory, Peer, Strange, Early}
+use Rattle.llrp_listing.specs.declared.fault.ToolErr.{ToolErr}
+use Rattle.llrp_listing.specs.declared.fault.ToolErr.TheVariants.{Listing, Script, Hex, Read, Write, Bound, Broken, Memory, Peer, Strange, Early}
 use Rattle.llrp_tool.specs.declared.script.Entry.{Entry}
-use Rattle.llrp_tool.specs.Copying.{MOST_READS, ReadAll, GaveAndFailed, IsPrefix}
+use Rattle.llrp_listing.specs.Copying.{MOST_READS, ReadAll, GaveAndFailed, IsPrefix}
 use Rattle.llrp_tool.specs.Sending.{AreFrames}
 use Rattle.llrp_tool.specs.Serving.{Standing, waiting, closed, ended, early, broken, Serves, BeginsServing}
 

@@ -4,8 +4,8 @@ use Rattle.std.specs.Fmt.{signed_decimal}
 use Rattle.std.specs.Int.{w8}
 use Rattle.std.specs.List.Sorted.{IsNonDecreasingBy}
 use Rattle.tag_uri.specs.TagText.{IsTextOf}
-use Rattle.llrp_tool.specs.declared.fault.ToolErr.{ToolErr}
-use Rattle.llrp_tool.specs.declared.fault.ToolErr.TheVariants.{Listing, Script, Hex, Read, Write, Bound, Broken, Memory, Peer, Strange, Early}
+use Rattle.llrp_listing.specs.declared.fault.ToolErr.{ToolErr}
+use Rattle.llrp_listing.specs.declared.fault.ToolErr.TheVariants.{Listing, Script, Hex, Read, Write, Bound, Broken, Memory, Peer, Strange, Early}
 use Rattle.llrp_session.specs.declared.words.Sighting.{Sighting}
 use Rattle.llrp_tool.specs.declared.script.Action.{Action}
 use Rattle.llrp_tool.specs.declared.script.Action.TheVariants.{Seen, Tick}

@@ -5,8 +5,8 @@ use Rattle.llrp_tree.specs.Tree.{MessageTree}
 use Rattle.llrp_stream.specs.Decoding.{Stands}
 use Rattle.llrp_stream.specs.declared.item.Item.{Item}
 use Rattle.llrp_session.specs.ReaderMachine.{Reader}
-use Rattle.llrp_tool.specs.declared.fault.ToolErr.{ToolErr}
-use Rattle.llrp_tool.specs.declared.fault.ToolErr.TheVariants.{Listing, Script, Hex, Read, Write, Bound, Broken, Memory, Peer, Strange, Early}
+use Rattle.llrp_listing.specs.declared.fault.ToolErr.{ToolErr}
+use Rattle.llrp_listing.specs.declared.fault.ToolErr.TheVariants.{Listing, Script, Hex, Read, Write, Bound, Broken, Memory, Peer, Strange, Early}
 use Rattle.llrp_tool.specs.declared.script.Entry.{Entry}
 use Rattle.llrp_tool.specs.declared.serving.scripted.ScriptedReader.{ScriptedReader}
 use Rattle.llrp_tool.specs.declared.serving.Serving.{Serving}

@@ -6,7 +6,7 @@ use Rattle.llrp_tree.specs.Tree.{Tree}
 use Rattle.llrp_session.specs.RoSpec.{first_of}
 use Rattle.tag_uri.specs.TagText.{IsTextOf}
 use Rattle.llrp_tool.specs.declared.summary.Summary.{Summary}
-use Rattle.llrp_tool.specs.NodeLine.{spaced, signed_text, octets_text}
+use Rattle.llrp_listing.specs.NodeLine.{spaced, signed_text, octets_text}
 
 -- what stands for a part that is absent
 abbrev pub absent : List ℕ

@@ -10,11 +10,11 @@ mod client_side;
 mod pieces;
 mod reader_side;
 
-use crate::fault::ToolErr;
 use crate::plan::Plan;
 use crate::script::Script;
 use crate::summary::Summary;
 use client_side::ClientSide;
+use llrp_listing::ToolErr;
 use llrp_session::Reader;
 use llrp_stream::{Sink, Source};
 use pieces::write_piece;

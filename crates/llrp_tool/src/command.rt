@@ -3,18 +3,15 @@
 ghost use Rattle.std.specs.Prelude.{◌+◌, ◌<◌, ◌^◌, ◌≡◌, Bool, IfErr, IfOk, List, MatchResult, codes, map, string_bytes, ℕ};
 ghost use Rattle.std.specs.List.{flat_map};
 ghost use Rattle.llrp_tool.specs.Command.{Answers, DoesEncode, DoesShow, EncodesDigits, FailsAsTold, Gathers, LeftAlone, RanEncode, RanEpc, RanShow, ShowsDigits, digit_line, error_line, error_status, fine_status, memory_error, status_of, verdict_status};
-ghost use Rattle.llrp_tool.specs.Copying.{Writes};
+ghost use Rattle.llrp_listing.specs.Copying.{Writes};
 ghost use Rattle.llrp_stream.specs.Device.{IsFreshSource};
 ghost use Rattle.llrp_tool.specs.Words.{Asks, AsksElsewhere, AsksEpc};
 
-use crate::copying::{read_all, write_all};
-use crate::encode::run_encode;
-use crate::epc::run_epc;
-use crate::fault::{ToolErr, Verdict};
-use crate::hexadecimal::bytes_of_hex;
-use crate::show::{list_stream, run_show};
 use crate::words::{Request, request_of};
 use itoa::Buffer;
+use llrp_listing::{
+    ToolErr, Verdict, bytes_of_hex, list_stream, read_all, run_encode, run_epc, run_show, write_all,
+};
 use llrp_stream::{Output, Sink, Source};
 use std::alloc::{AllocError, Global};
 use std::convert::AsStr;

@@ -4,7 +4,7 @@
 ghost use Rattle.std.specs.Prelude.{◌≡◌, ◌≤◌, ◌++◌, List, Ok, Err, ℕ};
 ghost use Rattle.llrp_tree.specs.declared.TheConstants.{MAX_LIMIT};
 ghost use Rattle.llrp_tree.specs.Tree.{Tree};
-ghost use Rattle.llrp_tool.specs.declared.fault.ToolErr.{ToolErr as Error};
+ghost use Rattle.llrp_listing.specs.declared.fault.ToolErr.{ToolErr as Error};
 ghost use Rattle.llrp_tool.specs.Gathering.{Course};
 ghost use Rattle.llrp_tool.specs.GatheringStands.{error_by_command, error_by_message, phase_left};
 ghost use Rattle.llrp_tool.specs.Plan.{Plan as ThePlan};
@@ -12,12 +12,12 @@ ghost use Rattle.llrp_tool.specs.Plan.{Plan as ThePlan};
 mod left;
 mod lines;
 
-use crate::fault::{ToolErr, error_of};
 use crate::plan::Plan;
 use crate::sending::append_frames;
 use crate::summary::Summary;
 use left::{Left, awaited_after};
 use lines::{report_lines, total_line};
+use llrp_listing::{ToolErr, error_of};
 use llrp_session::{Client, CmdFault, TakeFault, Taken};
 use llrp_stream::{Decoder, Fed, Item};
 use llrp_tree::{Message, Nodes, Reason};

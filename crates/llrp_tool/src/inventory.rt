@@ -5,11 +5,10 @@ ghost use Rattle.llrp_stream.specs.Device.{IsFreshSource};
 ghost use Rattle.llrp_tree.specs.declared.TheConstants.{MAX_LIMIT};
 ghost use Rattle.llrp_tool.specs.RunInventory.{RunsInventory};
 
-use crate::copying::{MOST_READS, READ_SIZE, hand_on};
-use crate::fault::ToolErr;
 use crate::gathering::Gathering;
 use crate::plan::Plan;
 use crate::summary::Summary;
+use llrp_listing::{MOST_READS, READ_SIZE, ToolErr, hand_on};
 use llrp_stream::{Sink, Source};
 use std::alloc::Global;
 

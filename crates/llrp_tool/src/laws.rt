@@ -1,56 +1,22 @@
-//! What holds of every listing, of every script, of every serving, and of every client that follows a plan.
+//! What holds of every listing, and of what `epc` prints, is in the layer below and handed on. Here is what holds of every script, of every serving, and of every client that follows a plan.
 
 ghost use Rattle.std.specs.Prelude.{List, Some, codes, true, ◌<◌, ◌≡◌, ◌≤◌, ◌^◌, ℕ};
 ghost use Rattle.llrp_tree.specs.declared.TheConstants.{MAX_LIMIT};
 ghost use Rattle.llrp_tree.specs.Lawful.{AreOctets};
-ghost use Rattle.llrp_tree.specs.Tree.{MessageTree};
 ghost use Rattle.llrp_session.specs.ReaderMachine.{Reader};
 ghost use Rattle.llrp_stream.specs.declared.item.Item.{Item};
-ghost use Rattle.llrp_tool.specs.declared.fault.Verdict.{Verdict};
-ghost use Rattle.llrp_tool.specs.EpcLines.{Prints};
-ghost use Rattle.llrp_tool.specs.ListingLaws.{HasShortLines, ListedOrRefused};
-ghost use Rattle.llrp_tool.specs.declared.gathering.Phase.TheVariants.{Closed};
 ghost use Rattle.llrp_tool.specs.Plan.{Plan};
 ghost use Rattle.llrp_tool.specs.PlanLaws.{course_of, TakesEachCommand, StrangeIsTheReaders, HasOneCourse, CoursesGoOn, SendsInOrder, EndsMean, SendsOneByOne, SendsWhereAwaited, CanEnd};
-ghost use Rattle.llrp_tool.specs.PrintingLaws.{OneTextOfItems, OneTextOfMessages, PrintsBack};
 ghost use Rattle.llrp_tool.specs.Script.{IsLawful, IsScript};
 ghost use Rattle.llrp_tool.specs.ScriptLaws.{ScriptOrRefused};
 ghost use Rattle.llrp_tool.specs.ServingLaws.{FramesReadBack, IsServedInOneWay, OneTextOfFrames, SaysWithinLimit};
 ghost use Rattle.llrp_tool.specs.declared.script.Entry.{Entry};
 ghost use Rattle.llrp_tool.specs.Words.{AsksEpc, command_in, name_in, parses};
 
-/// A text is the listing of one list of messages at most, each within the limit, or has one first
-/// refusal at most, and never both.
-pub fn listed_or_refused()
-    ensures { (limit : ℕ) (text : List ℕ) → ListedOrRefused limit text }
-{}
-
-/// No line of a lawful message is longer than a line may be.
-pub fn lines_are_short()
-    ensures { (m : MessageTree) → HasShortLines m }
-{}
-
-/// Messages have one listing.
-pub fn one_text_of_messages()
-    ensures { OneTextOfMessages }
-{}
-
-/// What a stream holds has one listing.
-pub fn one_text_of_items()
-    ensures { OneTextOfItems }
-{}
-
-/// Where a text is the listing of messages, the stream of their spellings has that text for its
-/// listing, and no other.
-pub fn prints_back()
-    ensures { PrintsBack }
-{}
-
-/// Of each text epc prints the same lines, with the same verdict.
-pub fn one_epc_answer()
-    ensures verdict { (text a b : List ℕ) (v w : Verdict) → Prints text v a → Prints text w b → v ≡ w }
-    ensures lines { (text a b : List ℕ) (v w : Verdict) → Prints text v a → Prints text w b → a ≡ b }
-{}
+pub use llrp_listing::laws::{
+    lines_are_short, listed_or_refused, one_epc_answer, one_text_of_items, one_text_of_messages,
+    prints_back,
+};
 
 /// Lawful entries have exactly one script, and a text is the script of one list of entries at most.
 pub fn one_script()

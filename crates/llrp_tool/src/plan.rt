@@ -5,9 +5,9 @@ ghost use Rattle.llrp_tree.specs.Tree.{forest};
 ghost use Rattle.llrp_tree.specs.Lawful.{AreLawful};
 ghost use Rattle.llrp_session.specs.ReaderMessages.{parameter as the_parameter};
 ghost use Rattle.llrp_tool.specs.Plan as plan;
-ghost use Rattle.llrp_tool.specs.declared.fault.ToolErr.TheVariants.{Memory};
+ghost use Rattle.llrp_listing.specs.declared.fault.ToolErr.TheVariants.{Memory};
 
-use crate::fault::ToolErr;
+use llrp_listing::ToolErr;
 use llrp_tree::{Node, Nodes, Octets, ParamKind};
 use std::alloc::{AllocError, Global};
 use std::marker::Model;

@@ -4,9 +4,7 @@ ghost use Rattle.std.specs.Prelude.{◌++◌, ◌<◌, ◌^◌, ◌∷◌, ◌�
 ghost use Rattle.tag_uri.specs.TagText.{IsTextOf};
 ghost use Rattle.llrp_tool.specs.Script.{Continues, IsActionInRange, IsActionLine, IsEntryLine, IsInRange, IsLawful, IsScript, IsSightingInRange, IsSightingLine, MayFollow, NoneContinues, ParseStopped};
 
-use crate::decimal::{number_of, signed_byte_of};
-use crate::fault::ToolErr;
-use crate::spaced::split_once;
+use llrp_listing::{ToolErr, number_of, signed_byte_of, split_once};
 use llrp_session::Sighting;
 use std::alloc::Global;
 use std::marker::Model;

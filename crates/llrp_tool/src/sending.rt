@@ -2,9 +2,9 @@
 
 ghost use Rattle.std.specs.Prelude.{◌≡◌, IfErr, OnOk};
 ghost use Rattle.llrp_tool.specs.Sending.{Adds, AddsSome};
-ghost use Rattle.llrp_tool.specs.declared.fault.ToolErr.TheVariants.{Memory};
+ghost use Rattle.llrp_listing.specs.declared.fault.ToolErr.TheVariants.{Memory};
 
-use crate::fault::ToolErr;
+use llrp_listing::ToolErr;
 use llrp_tree::{EncodeErr, MAX_LIMIT, Message, encode_into};
 use std::alloc::Global;
 

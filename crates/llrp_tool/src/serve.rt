@@ -5,10 +5,9 @@ ghost use Rattle.llrp_stream.specs.Device.{IsFreshSource};
 ghost use Rattle.llrp_tool.specs.RunServe.{RunsServe};
 ghost use Rattle.llrp_tool.specs.Serving.{IsNewReader};
 
-use crate::copying::{MOST_READS, READ_SIZE, hand_on};
-use crate::fault::ToolErr;
 use crate::script::Script;
 use crate::serving::Serving;
+use llrp_listing::{MOST_READS, READ_SIZE, ToolErr, hand_on};
 use llrp_session::Reader;
 use llrp_stream::{Sink, Source};
 use std::alloc::Global;

@@ -8,12 +8,12 @@ ghost use Rattle.llrp_tree.specs.Tree.{MessageTree};
 ghost use Rattle.llrp_session.specs.ReaderMachine.{Reader as Machine};
 ghost use Rattle.llrp_tool.specs.Serving.{BeginsServing, Closes, IsNewReader};
 ghost use Rattle.llrp_tool.specs.declared.script.Entry.{Entry};
-ghost use Rattle.llrp_tool.specs.declared.fault.ToolErr.{ToolErr as Error};
-ghost use Rattle.llrp_tool.specs.declared.fault.ToolErr.TheVariants.{Memory};
+ghost use Rattle.llrp_listing.specs.declared.fault.ToolErr.{ToolErr as Error};
+ghost use Rattle.llrp_listing.specs.declared.fault.ToolErr.TheVariants.{Memory};
 ghost use Rattle.llrp_tool.specs.Acting.{phase_after as the_phase_after};
 
-use crate::fault::{ToolErr, error_of};
 use crate::script::Script;
+use llrp_listing::{ToolErr, error_of};
 use llrp_session::Reader;
 use llrp_stream::{Decoder, End, Fed};
 use scripted::ScriptedReader;

@@ -1,6 +1,7 @@
 mod both_ends;
 mod commands;
 mod devices;
+mod encode;
 mod epc;
 mod gathering;
 mod hexadecimal;

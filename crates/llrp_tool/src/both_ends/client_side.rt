@@ -7,10 +7,9 @@ ghost use Rattle.llrp_tool.specs.EndsStand.{ClientHears, ClientStands, Given, Ha
 ghost use Rattle.llrp_tool.specs.RunLoop.{Ends, Traffic};
 
 use super::pieces::read_piece;
-use crate::copying::{READ_SIZE, hand_on};
-use crate::fault::ToolErr;
 use crate::gathering::Gathering;
 use crate::plan::Plan;
+use llrp_listing::{READ_SIZE, ToolErr, hand_on};
 use llrp_stream::{Sink, Source};
 use std::alloc::Global;
 

@@ -3,10 +3,9 @@
 ghost use Rattle.std.specs.Prelude.{◌≡◌, ◌<◌, ◌≤◌, ◌^◌, ◌+◌, ◌++◌, [], IfErr, IfOk, List, drop, length, take, ℕ};
 ghost use Rattle.llrp_stream.specs.Device.{SourceLog, WroteAndFailed};
 ghost use Rattle.llrp_tool.specs.EndsStand.{Given, HasRoom, ReadsNone, ReadsPiece, WritesPiece};
-ghost use Rattle.llrp_tool.specs.declared.fault.ToolErr.TheVariants.{Write};
+ghost use Rattle.llrp_listing.specs.declared.fault.ToolErr.TheVariants.{Write};
 
-use crate::copying::{MOST_READS, READ_SIZE};
-use crate::fault::ToolErr;
+use llrp_listing::{MOST_READS, READ_SIZE, ToolErr};
 use llrp_stream::{Sink, Source};
 
 /// Takes the first bytes off.

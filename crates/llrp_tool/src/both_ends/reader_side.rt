@@ -6,13 +6,12 @@ ghost use Rattle.llrp_tool.specs.EndsStand.{Given, HasRoom, ReaderHears, ReaderS
 ghost use Rattle.llrp_tool.specs.RunLoop.{Ends, Traffic};
 ghost use Rattle.llrp_tool.specs.RunServe.{BeginsFrames};
 ghost use Rattle.llrp_tool.specs.Serving.{IsNewReader};
-ghost use Rattle.llrp_tool.specs.declared.fault.ToolErr.TheVariants.{Memory};
+ghost use Rattle.llrp_listing.specs.declared.fault.ToolErr.TheVariants.{Memory};
 
 use super::pieces::read_piece;
-use crate::copying::READ_SIZE;
-use crate::fault::ToolErr;
 use crate::script::Script;
 use crate::serving::{Phase, Serving};
+use llrp_listing::{READ_SIZE, ToolErr};
 use llrp_session::Reader;
 use llrp_stream::Source;
 use std::alloc::Global;

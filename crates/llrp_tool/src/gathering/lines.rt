@@ -7,8 +7,8 @@ ghost use Rattle.llrp_session.specs.RoSpec.{first_of};
 ghost use Rattle.tag_uri.specs.TagText.{IsTextOf};
 ghost use Rattle.llrp_tool.specs.TagLines.{AreReportLines, IsEpcText, IsTagLine, antenna_text, count_line, data_text, rssi_text, summary_of, total_line as the_total_line};
 
-use crate::listing::{push_number, push_signed, push_tail};
 use crate::summary::Summary;
+use llrp_listing::{push_number, push_signed, push_tail};
 use llrp_schema::Tail;
 use llrp_session::{field, first};
 use llrp_tree::{Node, ParamKind};

@@ -5,9 +5,9 @@ ghost use Rattle.llrp_session.specs.ReaderSteps.{event_of as event_handed};
 ghost use Rattle.llrp_tool.specs.Acting.{Did, DidSome, IsDue};
 ghost use Rattle.llrp_tool.specs.Serving.{event_in as event_by, happening, last_moment, taking};
 
-use crate::fault::ToolErr;
 use crate::script::{Action, Entry};
 use crate::sending::append_frames;
+use llrp_listing::ToolErr;
 use llrp_session::{Reader, ReaderIn, StepFault};
 use llrp_stream::Item;
 use std::alloc::Global;

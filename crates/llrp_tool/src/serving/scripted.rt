@@ -7,8 +7,8 @@ ghost use Rattle.llrp_tool.specs.Serving.{Closes, entries_at, events, happening}
 ghost use Rattle.llrp_tool.specs.declared.script.Entry.{Entry};
 
 use super::acting::{due, event_of, happen, happen_all};
-use crate::fault::ToolErr;
 use crate::script::Script;
+use llrp_listing::ToolErr;
 use llrp_session::{Reader, ReaderIn};
 use llrp_stream::Item;
 use llrp_tree::MsgKind;

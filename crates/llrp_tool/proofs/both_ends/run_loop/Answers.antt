@@ -2,7 +2,7 @@ use Rattle.std.proofs.Common.{refl, sym, ap, ◌∙◌}
 use Rattle.std.proofs.lemmas.Result.{err_from_is_err_and}
 use Rattle.llrp_tool.specs.declared.both_ends.client_side.ClientSide.{ClientSide}
 use Rattle.llrp_tool.specs.declared.both_ends.reader_side.ReaderSide.{ReaderSide}
-use Rattle.llrp_tool.specs.Copying.{MOST_READS}
+use Rattle.llrp_listing.specs.Copying.{MOST_READS}
 use Rattle.llrp_tool.proofs.LoopLemmas.{begins, fresh_room, not_started, silent, down_counts, up_counts, not_silent, fewer_left, down_unwritten, up_unwritten, writes_down, writes_up, hears_down, hears_up, client_stopped, client_closed, reader_stopped}
 use Rattle.llrp_tool.proofs.both_ends.run_loop.Goals as goal
 

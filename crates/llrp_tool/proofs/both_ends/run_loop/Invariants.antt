@@ -1,6 +1,6 @@
 use Rattle.std.proofs.Common.{◌+◌, ◌-◌, ◌≢◌}
 use Rattle.llrp_tool.specs.declared.serving.Phase.TheVariants.{New}
-use Rattle.llrp_tool.specs.Copying.{MOST_READS}
+use Rattle.llrp_listing.specs.Copying.{MOST_READS}
 use Rattle.llrp_tool.specs.EndsStand.{HasRoom}
 use Rattle.llrp_tool.proofs.LoopLemmas.{State}
 use Rattle.llrp_tool.proofs.both_ends.run_loop.Given as goal

@@ -1,7 +1,7 @@
 use Rattle.std.proofs.Common.{◌≡◌, ℕ, List, ◌++◌, ap, ap₂, sym, subst, ◌∙◌, append_assoc, codes, decimal}
 use Rattle.llrp_tool.specs.Command.{error_line}
-use Rattle.llrp_tool.specs.Copying.{Writes}
-use Rattle.llrp_tool.specs.Refused.{refusal_name}
+use Rattle.llrp_listing.specs.Copying.{Writes}
+use Rattle.llrp_listing.specs.Refused.{refusal_name}
 use Rattle.llrp_tool.proofs.command.write_error.Goals as goal
 
 pub returns-in-Listing : goal.returns-in-Listing

@@ -1,5 +1,5 @@
 use Rattle.std.proofs.Common.{subst, false, Ok, Err, rules}
-use Rattle.llrp_tool.specs.declared.fault.ToolErr.TheVariants.{Strange}
+use Rattle.llrp_listing.specs.declared.fault.ToolErr.TheVariants.{Strange}
 use Rattle.llrp_tool.specs.Gathering.{Course}
 use Rattle.llrp_tool.specs.GatheringStands.{Does}
 use Rattle.llrp_tool.proofs.GatheringSteps.{passed, strange, bad_passes, bad_is_strange}

@@ -1,0 +1,17 @@
+-- Rows of messages, and what they spell.
+use Rattle.std.proofs.Common.{ℕ, List, [], ◌++◌, refl, sym}
+use Rattle.std.proofs.lemmas.List.Concat.{flat_map-append}
+use Rattle.llrp_tree.specs.Tree.{MessageTree}
+use Rattle.llrp_tree.specs.Frame.{Frame}
+use Rattle.llrp_listing.specs.Encoding.{AreSpelled}
+use Rattle.llrp_listing.proofs.Zips.{zip_append}
+
+pub spells_nothing : (limit : ℕ) → AreSpelled limit [] []
+spells_nothing limit = record { frames = []; each = tt; bytes_are = refl }
+
+pub spells_more : (limit : ℕ) (ms ns : List MessageTree) (bs cs : List ℕ) → AreSpelled limit ms bs → AreSpelled limit ns cs → AreSpelled limit (ms ++ ns) (bs ++ cs)
+spells_more limit ms ns bs cs p q = record {
+  frames = p.frames ++ q.frames;
+  each = zip_append (λ m frame. Frame m frame limit) ms ns p.frames q.frames p.each q.each;
+  bytes_are = rw (p.bytes_are, q.bytes_are) (sym (flat_map-append (λ (frame : List ℕ). frame) p.frames q.frames));
+}

@@ -1,0 +1,84 @@
+-- What encode writes for a listing.
+use Rattle.std.specs.Prelude.{◌≡◌, ℕ, ◌⊎◌, List, ◌++◌}
+use Rattle.std.specs.List.{flat_map, AllZip}
+use Rattle.llrp_tree.specs.Tree.{MessageTree}
+use Rattle.llrp_tree.specs.Frame.{Frame}
+use Rattle.llrp_listing.specs.declared.fault.Refusal.{Refusal}
+use Rattle.llrp_listing.specs.declared.fault.ToolErr.{ToolErr}
+use Rattle.llrp_listing.specs.declared.fault.ToolErr.TheVariants.{Listing, Script, Hex, Read, Write, Bound, Broken, Memory, Peer, Strange, Early}
+use Rattle.llrp_listing.specs.Copying.{MOST_READS, ReadAll, GaveAndFailed, IsPrefix}
+use Rattle.llrp_stream.specs.Device.{SourceLog, SinkLog, Gave, Wrote, WroteAndFailed}
+use Rattle.llrp_listing.specs.FirstRefusal.{Opens, Refused}
+use Rattle.llrp_listing.specs.Lines.{TextLine, lines_of}
+use Rattle.llrp_listing.specs.ListingRules.{rules_for, row}
+use Rattle.llrp_listing.specs.MessageListing.{IsListingOf}
+use Rattle.llrp_listing.specs.NodeLine.{NodeLine}
+use Rattle.llrp_listing.specs.OpenText.{OpenText}
+
+-- The bytes are the spellings of these lawful messages in order, each within the limit.
+pub record AreSpelled (limit : ℕ) (messages : List MessageTree) (bytes : List ℕ) : Type 0 where
+  pub frames : List (List ℕ)
+  pub each : AllZip (λ m frame. Frame m frame limit) messages frames
+  pub bytes_are : bytes ≡ flat_map (λ frame. frame) frames
+
+-- The text is the listing of messages, and the bytes are their spellings.
+pub record Encodes (limit : ℕ) (text bytes : List ℕ) : Type 0 where
+  pub messages : List MessageTree
+  pub listing : IsListingOf messages text
+  pub spelled : AreSpelled limit messages bytes
+
+-- The text has this first refusal, and the bytes are the spellings of the messages closed before it.
+pub record Refuses (limit : ℕ) (text : List ℕ) (line : ℕ) (reason : Refusal) (bytes : List ℕ) : Type 0 where
+  pub messages : List MessageTree
+  pub refused : Refused (rules_for limit) (lines_of text) line reason (row messages)
+  pub spelled : AreSpelled limit messages bytes
+
+-- these messages are closed in a text
+abbrev pub AreClosed : ℕ → List ℕ → List MessageTree → Type 0
+AreClosed limit text messages = (o : OpenText NodeLine) × (rest : List TextLine) × Opens (rules_for limit) (lines_of text) o rest × (o.whole ≡ row messages)
+
+-- The bytes begin the spellings of messages that are closed in each text that begins so.
+pub record BeginsEncoding (limit : ℕ) (front bytes : List ℕ) : Type 0 where
+  pub messages : List MessageTree
+  pub spellings : List ℕ
+  pub closed : (more : List ℕ) → AreClosed limit (front ++ more) messages
+  pub spelled : AreSpelled limit messages spellings
+  pub begins : IsPrefix bytes spellings
+
+-- what was read: the front that some reads gave, or the whole text
+abbrev pub WasRead : SourceLog → SourceLog → List ℕ → Type 0
+WasRead r0 r1 front = ((n : ℕ) × Gave r0 r1 n front) ⊎ ReadAll r0 r1 front
+
+-- a listing was refused: the whole text was read, or a front of it that settles the refusal
+abbrev pub ListingRefused : ℕ → SourceLog → SourceLog → ℕ → Refusal → List ℕ → Type 0
+ListingRefused limit r0 r1 line reason bytes =
+    ((text : List ℕ) × ReadAll r0 r1 text × Refuses limit text line reason bytes)
+    ⊎ ((n : ℕ) × (front : List ℕ) × Gave r0 r1 n front × ((more : List ℕ) → Refuses limit (front ++ more) line reason bytes))
+
+-- what had been written where a write failed: a front of what is settled, or of a whole encoding
+abbrev pub WritingFailed : ℕ → SourceLog → SourceLog → List ℕ → Type 0
+WritingFailed limit r0 r1 bytes =
+    ((front : List ℕ) × WasRead r0 r1 front × BeginsEncoding limit front bytes)
+    ⊎ ((text spellings : List ℕ) × ReadAll r0 r1 text × Encodes limit text spellings × IsPrefix bytes spellings)
+
+-- Encode stopped with this error: what it had read, and what it had written.
+abbrev pub EncodeStopped : ℕ → SourceLog → SourceLog → SinkLog → SinkLog → ToolErr → Type 0
+EncodeStopped limit r0 r1 w0 w1 (Listing line reason) = (bytes : List ℕ) × Wrote w0 w1 bytes × ListingRefused limit r0 r1 line reason bytes
+EncodeStopped limit r0 r1 w0 w1 Write = (bytes : List ℕ) × WroteAndFailed w0 w1 bytes × WritingFailed limit r0 r1 bytes
+EncodeStopped limit r0 r1 w0 w1 Read = (n : ℕ) × (front bytes : List ℕ) × GaveAndFailed r0 r1 n front × Wrote w0 w1 bytes × BeginsEncoding limit front bytes
+EncodeStopped limit r0 r1 w0 w1 Bound = (front bytes : List ℕ) × Gave r0 r1 MOST_READS front × Wrote w0 w1 bytes × BeginsEncoding limit front bytes
+EncodeStopped limit r0 r1 w0 w1 Memory = (front bytes : List ℕ) × WasRead r0 r1 front × Wrote w0 w1 bytes × BeginsEncoding limit front bytes
+EncodeStopped limit r0 r1 w0 w1 (Script line) = ⊥
+EncodeStopped limit r0 r1 w0 w1 Broken = ⊥
+EncodeStopped limit r0 r1 w0 w1 Early = ⊥
+EncodeStopped limit r0 r1 w0 w1 (Peer status) = ⊥
+EncodeStopped limit r0 r1 w0 w1 Strange = ⊥
+EncodeStopped limit r0 r1 w0 w1 Hex = ⊥
+
+-- All was read until a read met the end, and the encoding of the text was written.
+pub record Encoded (limit : ℕ) (r0 r1 : SourceLog) (w0 w1 : SinkLog) : Type 0 where
+  pub text : List ℕ
+  pub bytes : List ℕ
+  pub read : ReadAll r0 r1 text
+  pub encodes : Encodes limit text bytes
+  pub written : Wrote w0 w1 bytes

@@ -1,0 +1,82 @@
+//! Loops over sources and sinks.
+
+ghost use Rattle.std.specs.Prelude.{◌+◌, ◌<◌, ◌≡◌, ◌^◌, IfErr, IfOk, List, OnOk, [], length, ℕ};
+ghost use Rattle.llrp_listing.specs.Copying.{HandsOn, ReadAll, ReadStopped, Writes};
+ghost use Rattle.llrp_stream.specs.Device.{IsFreshSource};
+ghost use Rattle.llrp_listing.specs.declared.copying.TheConstants.{PIECE_SIZE};
+
+use crate::fault::ToolErr;
+use llrp_stream::{Sink, Source};
+use std::alloc::Global;
+
+/// The most reads of one source that give bytes.
+pub const MOST_READS: u32 = 1_000_000;
+
+/// How many bytes a read of a connection asks for.
+pub const READ_SIZE: usize = 4096;
+
+/// How many bytes a read of a stream or a listing asks for, and how many are gathered before they are
+/// handed to a sink.
+pub const PIECE_SIZE: usize = 65_536;
+
+/// All that the source gives, until a read meets its end. The errors are `Read`, `Memory`, and
+/// `Bound` after the greatest number of reads.
+pub fn read_all<R: Source>(alloc: Global, r: &mut R) -> Result<Vec<u8>, ToolErr>
+    requires { IsFreshSource (R.log r.old) }
+    ensures ok { IfOk result (λ all. ReadAll (R.log r.old) (R.log r.new) all.items) }
+    ensures err { IfErr result (λ e. (bytes : List ℕ) × ReadStopped (R.log r.old) (R.log r.new) bytes e) }
+{
+    let mut all = Vec::new(alloc);
+    let mut buffer = [0u8; PIECE_SIZE];
+    for _ in 0..MOST_READS {
+        let Ok(n) = r.read(&mut buffer) else {
+            return Err(ToolErr::Read);
+        };
+        if n == 0 {
+            return Ok(all);
+        }
+        all.extend_from_slice(&buffer[..n])?;
+    }
+    Err(ToolErr::Bound)
+}
+
+/// Writes all of the bytes, in as many calls as it takes. The only error is `Write`, after which a
+/// front of the bytes was written.
+pub fn write_all<W: Sink>(w: &mut W, bytes: &[u8]) -> Result<(), ToolErr>
+    requires { (W.log w.old).failures + 1 < 2 ^ 64 }
+    ensures { Writes bytes.now (W.log w.old) (W.log w.new) result }
+{
+    let mut rest = bytes;
+    while !rest.is_empty() {
+        match w.write(rest) {
+            Ok(0) => return Err(ToolErr::Write),
+            Ok(n) => rest = rest.split_at(n).1,
+            Err(_) => return Err(ToolErr::Write),
+        }
+    }
+    Ok(())
+}
+
+/// What was gathered is handed on.
+pub fn hand_on<W: Sink>(gathered: &mut Vec<u8>, w: &mut W) -> Result<(), ToolErr>
+    requires { (W.log w.old).failures + 1 < 2 ^ 64 }
+    ensures written { Writes gathered.old.items (W.log w.old) (W.log w.new) result }
+    ensures emptied { OnOk result (gathered.new.items ≡ []) }
+{
+    write_all(w, gathered.as_slice())?;
+    gathered.clear();
+    Ok(())
+}
+
+/// What was gathered is handed on, once it is a large piece.
+pub fn hand_on_pieces<W: Sink>(gathered: &mut Vec<u8>, w: &mut W) -> Result<(), ToolErr>
+    requires { (W.log w.old).failures + 1 < 2 ^ 64 }
+    ensures handed { OnOk result (HandsOn gathered.old.items gathered.new.items (W.log w.old) (W.log w.new)) }
+    ensures below_a_piece { OnOk result (length gathered.new.items < PIECE_SIZE) }
+    ensures failed { IfErr result (λ e. Writes gathered.old.items (W.log w.old) (W.log w.new) result) }
+{
+    if gathered.len() < PIECE_SIZE {
+        return Ok(());
+    }
+    hand_on(gathered, w)
+}

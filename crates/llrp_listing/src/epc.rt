@@ -1,0 +1,122 @@
+//! The command epc: the text of a word's digits, and the digits of a word's text.
+
+ghost use Rattle.std.specs.Prelude.{◌≡◌, ◌++◌, ◌+◌, ◌^◌, ◌<◌, List, ℕ, IfNone, IfOk, IfSome, OnOk};
+ghost use Rattle.tag_bits.specs.Digits.{digits_of_bytes, word_digits};
+ghost use Rattle.tag_uri.specs.Hexadecimal.{hexadecimal};
+ghost use Rattle.llrp_listing.specs.EpcLines.{AreDigitsOf, AreWordLines, IsRemark, IsTextLine, Prints, PrintsEpc, line, refusal_line, remark_line};
+
+use crate::copying::write_all;
+use crate::fault::{ToolErr, Verdict};
+use hex::FromHex;
+use itoa::Buffer;
+use llrp_stream::Sink;
+use std::alloc::{AllocError, Global};
+use tag_bits::Word;
+use tag_epc::{Epc, WordFault};
+use tag_uri::{UriFault, text_of_word, word_of_text};
+
+/// The word of 24 hexadecimal digits of either case.
+fn word_of_digits(text: &str) -> Option<Word>
+    ensures some { IfSome result (λ word. AreDigitsOf text.now word) }
+    ensures none { IfNone result ((word : ℕ) → AreDigitsOf text.now word → ⊥) }
+{
+    let bytes = <[u8; 12]>::from_hex(text).ok()?;
+    Some(Word::of_bytes(bytes))
+}
+
+/// Appends the line of a word's 24 upper-case digits.
+fn push_digits(alloc: Global, lines: &mut Vec<u8>, word: Word) -> Result<(), AllocError>
+    ensures { OnOk result (lines.new.items ≡ lines.old.items ++ line (hexadecimal 24 word)) }
+{
+    push_bytes(alloc, lines, &word.to_bytes())
+}
+
+/// Appends the line of twelve bytes' upper-case digits, those of the word that the bytes spell.
+fn push_bytes(alloc: Global, lines: &mut Vec<u8>, bytes: &[u8]) -> Result<(), AllocError>
+    ensures { (word : ℕ) → word < 2 ^ 96 → digits_of_bytes bytes.now ≡ word_digits word
+        → OnOk result (lines.new.items ≡ lines.old.items ++ line (hexadecimal 24 word)) }
+{
+    let digits = hex::encode_upper(alloc, bytes)?;
+    lines.extend_from_slice(digits.as_bytes())?;
+    lines.extend_from_slice(b"\n")?;
+    Ok(())
+}
+
+/// Appends the line that says why a word has no tag URI.
+fn push_remark(lines: &mut Vec<u8>, fault: WordFault) -> Result<(), AllocError>
+    ensures { OnOk result (lines.new.items ≡ lines.old.items ++ remark_line fault) }
+{
+    let mut digits = Buffer::new();
+    lines.extend_from_slice(b"# ")?;
+    lines.extend_from_slice(fault.reason.name().as_bytes())?;
+    lines.extend_from_slice(b" ")?;
+    lines.extend_from_slice(digits.format(fault.bit).as_bytes())?;
+    lines.extend_from_slice(b"\n")?;
+    Ok(())
+}
+
+/// Appends the line that says which rule refuses a text.
+fn push_refusal(lines: &mut Vec<u8>, fault: UriFault) -> Result<(), AllocError>
+    ensures { OnOk result (lines.new.items ≡ lines.old.items ++ refusal_line fault) }
+{
+    lines.extend_from_slice(b"! ")?;
+    lines.extend_from_slice(fault.name().as_bytes())?;
+    lines.extend_from_slice(b"\n")?;
+    Ok(())
+}
+
+/// Appends the lines of a word.
+fn push_word(lines: &mut Vec<u8>, word: Word) -> Result<(), AllocError>
+    ensures { OnOk result ((text : List ℕ) × AreWordLines word text × (lines.new.items ≡ lines.old.items ++ text)) }
+{
+    lines.extend_from_slice(text_of_word(word).as_bytes())?;
+    lines.extend_from_slice(b"\n")?;
+    match Epc::from_word(word) {
+        Ok(_) => Ok(()),
+        Err(fault) => push_remark(lines, fault),
+    }
+}
+
+/// Appends the line of a text that is no word's digits.
+fn push_text(alloc: Global, lines: &mut Vec<u8>, text: &str) -> Result<Verdict, AllocError>
+    ensures { IfOk result (λ verdict. (answer : List ℕ) × IsTextLine text.now verdict answer × (lines.new.items ≡ lines.old.items ++ answer)) }
+{
+    match word_of_text(text) {
+        Ok(word) => {
+            push_digits(alloc, lines, word)?;
+            Ok(Verdict::Lawful)
+        }
+        Err(fault) => {
+            push_refusal(lines, fault)?;
+            Ok(Verdict::Faulty)
+        }
+    }
+}
+
+/// Appends what is printed of a text.
+fn push_answer(alloc: Global, lines: &mut Vec<u8>, text: &str) -> Result<Verdict, AllocError>
+    ensures { IfOk result (λ verdict. (answer : List ℕ) × Prints text.now verdict answer × (lines.new.items ≡ lines.old.items ++ answer)) }
+{
+    match word_of_digits(text) {
+        Some(word) => {
+            push_word(lines, word)?;
+            Ok(Verdict::Lawful)
+        }
+        None => push_text(alloc, lines, text),
+    }
+}
+
+/// Writes the lines of a text: of a word's 24 hexadecimal digits, in either case, the word's text
+/// and, where it has no tag URI, `# REASON BIT` with the part of the word that fails and its first
+/// bit; of a word's text its 24 upper-case digits; and `! REASON` for any other text, whose verdict
+/// is `Faulty`, with the first rule that refuses it (EPC Tag Data Standard 1.13, section 12). The
+/// errors are `Memory`, and `Write`, after which a front of the lines was written.
+pub fn run_epc<W: Sink>(alloc: Global, text: &str, w: &mut W) -> Result<Verdict, ToolErr>
+    requires { (W.log w.old).failures < 2 ^ 63 }
+    ensures { PrintsEpc text.now (W.log w.old) (W.log w.new) result }
+{
+    let mut lines = Vec::new(alloc);
+    let verdict = push_answer(alloc, &mut lines, text)?;
+    write_all(w, lines.as_slice())?;
+    Ok(verdict)
+}

@@ -1,0 +1,155 @@
+//! How a command ends: what it found, or why it stopped.
+
+ghost use Rattle.std.specs.Prelude.{◌≡◌, ◌++◌, Some};
+ghost use Rattle.llrp_listing.specs.declared.fault.ToolErr.TheVariants.{Memory};
+ghost use Rattle.llrp_listing.specs.Fault.{error_by};
+ghost use Rattle.llrp_listing.specs.Refused.{node_fault_name, refusal_name};
+
+use llrp_stream::FeedErr;
+use llrp_tree::NodeFault;
+use std::alloc::{AllocError, AllocFailed};
+use std::fmt;
+use tag_uri::UriFault;
+use thiserror::Error;
+
+/// What a command that read its whole input found.
+#[derive(Clone, Copy, Debug, PartialEq, Eq)]
+pub enum Verdict {
+    /// Each frame is a message, and the stream ends where a frame ends; or the text is a word's.
+    Lawful,
+    /// Some frame has a fault, or the stream ends otherwise; or the text is no word's.
+    Faulty,
+}
+
+/// Why a line of a listing is refused, in the order in which the reasons are looked for.
+#[derive(Clone, Copy, Debug, PartialEq, Eq)]
+pub enum Refusal {
+    /// It isn't ended by LF, is too long, or holds a byte that is not printed.
+    Line,
+    /// Its first word is no level that may stand here.
+    Level,
+    /// Its second word is no name that may stand at this level.
+    Name,
+    /// It has another number of words than its kind has.
+    Fields,
+    /// A word is no number that may stand at its place.
+    Number,
+    /// Its last word is no tail of its kind.
+    Tail,
+    /// A word is the text of no EPC's word, for this rule.
+    Epc(UriFault),
+    /// With the lines below it, it is no lawful message or parameter.
+    Node(NodeFault),
+    /// The message that it begins is longer than the limit.
+    OverLimit,
+}
+
+/// The name of a fault.
+fn node_fault_name(fault: NodeFault) -> &'static str
+    ensures { result.now ≡ node_fault_name fault }
+{
+    match fault {
+        NodeFault::FieldCount => "FieldCount",
+        NodeFault::Value => "Value",
+        NodeFault::Tail => "Tail",
+        NodeFault::Misplaced => "Misplaced",
+        NodeFault::TooMany => "TooMany",
+        NodeFault::Missing => "Missing",
+        NodeFault::TooDeep => "TooDeep",
+        NodeFault::TooLong => "TooLong",
+    }
+}
+
+impl Refusal {
+    /// The words for it in an error line: its own, and behind it that for the fault inside it, if
+    /// there is one.
+    pub fn names(self) -> (&'static str, &'static str)
+        ensures { result.0.now ++ result.1.now ≡ refusal_name self }
+    {
+        match self {
+            Refusal::Line => ("Line", ""),
+            Refusal::Level => ("Level", ""),
+            Refusal::Name => ("Name", ""),
+            Refusal::Fields => ("Fields", ""),
+            Refusal::Number => ("Number", ""),
+            Refusal::Tail => ("Tail", ""),
+            Refusal::Epc(fault) => ("Epc ", fault.name()),
+            Refusal::Node(fault) => ("Node ", node_fault_name(fault)),
+            Refusal::OverLimit => ("OverLimit", ""),
+        }
+    }
+}
+
+impl fmt::Display for Refusal {
+    ghost output = { λ refusal. Some (refusal_name refusal) };
+
+    fn fmt<W: fmt::Write>(&self, f: &mut fmt::Formatter<W>) -> fmt::Result {
+        let (name, inner) = self.names();
+        f.write_str(name)?;
+        f.write_str(inner)
+    }
+}
+
+/// Why a command stopped.
+#[derive(Clone, Copy, Debug, PartialEq, Eq, Error)]
+pub enum ToolErr {
+    /// A line of a listing, counted from 1, is refused.
+    #[error("line {line} of the listing is refused: {reason}")]
+    Listing { line: u64, reason: Refusal },
+    /// A line of a script, counted from 1, is refused.
+    #[error("line {line} of the script is refused")]
+    Script { line: u64 },
+    /// A text is no hexadecimal digits in pairs.
+    #[error("the input is no pairs of hexadecimal digits")]
+    Hex,
+    /// A read failed.
+    #[error("reading failed")]
+    Read,
+    /// A write failed or took nothing.
+    #[error("writing failed")]
+    Write,
+    /// The source gave bytes in more reads than a command makes.
+    #[error("the input is too long")]
+    Bound,
+    /// A length field below 10, which no frame has.
+    #[error("the stream of messages breaks off")]
+    Broken,
+    /// A growth was refused.
+    #[error("out of memory")]
+    Memory,
+    /// The reader answered with this status, which is not 0.
+    #[error("the reader answered with status {0}")]
+    Peer(u16),
+    /// The reader sent what no reader sends there.
+    #[error("the reader sent something strange")]
+    Strange,
+    /// The input or the connection ended before the work was done.
+    #[error("the input ended too early")]
+    Early,
+}
+
+impl From<AllocError> for ToolErr {
+    ghost from_gives = { λ _ e. e ≡ Memory };
+
+    fn from(_e: AllocError) -> ToolErr {
+        ToolErr::Memory
+    }
+}
+
+impl<T: Drop> From<AllocFailed<T>> for ToolErr {
+    ghost from_gives = { λ _ e. e ≡ Memory };
+
+    fn from(_e: AllocFailed<T>) -> ToolErr {
+        ToolErr::Memory
+    }
+}
+
+/// The error of a decoder that takes nothing more.
+pub fn error_of(error: FeedErr) -> ToolErr
+    ensures { result ≡ error_by error }
+{
+    match error {
+        FeedErr::Broken => ToolErr::Broken,
+        FeedErr::Memory | FeedErr::Dead => ToolErr::Memory,
+    }
+}

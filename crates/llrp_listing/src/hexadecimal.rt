@@ -1,0 +1,36 @@
+//! Bytes as hexadecimal digits.
+
+ghost use Rattle.std.specs.Prelude.{◌≡◌, ◌⊎◌, IfErr, IfOk};
+ghost use Rattle.llrp_listing.specs.Hexadecimal.{IsHexOf, IsNoHex, is_space};
+
+use crate::fault::ToolErr;
+use hex::FromHexError;
+use std::alloc::Global;
+
+/// Whether the byte may stand between digits: space, tab, LF or CR.
+fn is_space(byte: u8) -> bool
+    ensures { result ≡ is_space byte }
+{
+    byte == b' ' || byte == b'\t' || byte == b'\n' || byte == b'\r'
+}
+
+/// The bytes that a text of hexadecimal digits of either case spells, two digits a byte, the first
+/// the more significant. Space, tab, LF and CR are skipped. The errors are `Hex`, where what is left
+/// is no even number of digits, and `Memory`.
+pub fn bytes_of_hex(alloc: Global, text: &[u8]) -> Result<Vec<u8>, ToolErr>
+    ensures bytes { IfOk result (λ bytes. IsHexOf text.now bytes.items) }
+    ensures refused { IfErr result (λ e. (e ≡ ToolErr.Memory) ⊎ ((e ≡ ToolErr.Hex) × IsNoHex text.now)) }
+{
+    let digits: Vec<u8> = text
+        .iter()
+        .copied()
+        .filter(|byte| !is_space(*byte))
+        .collect(alloc)?;
+    match hex::decode(alloc, digits.as_slice()) {
+        Ok(bytes) => Ok(bytes),
+        Err(error) => match error {
+            FromHexError::OutOfMemory => Err(ToolErr::Memory),
+            _ => Err(ToolErr::Hex),
+        },
+    }
+}

@@ -1,0 +1,41 @@
+//! What holds of every listing, and of what `epc` prints.
+
+ghost use Rattle.std.specs.Prelude.{List, ◌≡◌, ℕ};
+ghost use Rattle.llrp_tree.specs.Tree.{MessageTree};
+ghost use Rattle.llrp_listing.specs.declared.fault.Verdict.{Verdict};
+ghost use Rattle.llrp_listing.specs.EpcLines.{Prints};
+ghost use Rattle.llrp_listing.specs.ListingLaws.{HasShortLines, ListedOrRefused};
+ghost use Rattle.llrp_listing.specs.PrintingLaws.{OneTextOfItems, OneTextOfMessages, PrintsBack};
+
+/// A text is the listing of one list of messages at most, each within the limit, or has one first
+/// refusal at most, and never both.
+pub fn listed_or_refused()
+    ensures { (limit : ℕ) (text : List ℕ) → ListedOrRefused limit text }
+{}
+
+/// No line of a lawful message is longer than a line may be.
+pub fn lines_are_short()
+    ensures { (m : MessageTree) → HasShortLines m }
+{}
+
+/// Messages have one listing.
+pub fn one_text_of_messages()
+    ensures { OneTextOfMessages }
+{}
+
+/// What a stream holds has one listing.
+pub fn one_text_of_items()
+    ensures { OneTextOfItems }
+{}
+
+/// Where a text is the listing of messages, the stream of their spellings has that text for its
+/// listing, and no other.
+pub fn prints_back()
+    ensures { PrintsBack }
+{}
+
+/// Of each text epc prints the same lines, with the same verdict.
+pub fn one_epc_answer()
+    ensures verdict { (text a b : List ℕ) (v w : Verdict) → Prints text v a → Prints text w b → v ≡ w }
+    ensures lines { (text a b : List ℕ) (v w : Verdict) → Prints text v a → Prints text w b → a ≡ b }
+{}

@@ -1,0 +1,288 @@
+//! Lines of a listing: what one says, or why it is refused by itself.
+
+ghost use Rattle.std.specs.Prelude.{◌≡◌, ◌≤◌, ◌+◌, ◌*◌, length, map, filter, not, MatchOption, MatchResult, OnOk};
+ghost use Rattle.arrayvec.specs.ArrayVec.{array_vec_len};
+ghost use Rattle.llrp_schema.specs.Schema.{field_rule, tail_of};
+ghost use Rattle.llrp_schema.specs.declared.kinds.Kind.TheVariants.{Message, Parameter};
+ghost use Rattle.llrp_listing.specs.LineChecks.{IsPlaced, RefusesLineItself, is_printed, tail_count, word_count};
+ghost use Rattle.llrp_listing.specs.LineReading.{IsKindNamed, IsLevel, ReadsFields, ReadsLine, ReadsMessage, ReadsParameter, ReadsRest, ReadsStart, forms_of};
+ghost use Rattle.llrp_listing.specs.Splits.{words_in};
+ghost use Rattle.llrp_listing.specs.NodeLine.{number_forms};
+ghost use Rattle.llrp_listing.specs.declared.line.LineErr.TheVariants.{Memory, Refused};
+
+use crate::fault::Refusal;
+use crate::number::{numeral, read_field, read_id, read_version};
+use crate::spaced::{count_words, first_word};
+use crate::tail::read_tail;
+use arrayvec::ArrayVec;
+use llrp_schema::{Field, Kind, MsgKind, ParamKind, Tail, msg_named, param_named};
+use llrp_tree::{MAX_DEPTH, Octets};
+use std::alloc::{AllocError, AllocFailed, Global};
+use std::str;
+
+/// The most bytes of a line before its LF.
+pub const LONGEST_LINE: usize = 262_144;
+
+/// The line of a message, without its parameters.
+#[derive(Drop)]
+pub struct MessageLine {
+    pub version: u8,
+    pub id: u32,
+    pub kind: MsgKind,
+    pub fields: ArrayVec<u128, 12>,
+}
+
+/// The line of a parameter, without those below it, and its level.
+#[derive(Drop)]
+pub struct ParameterLine {
+    pub level: usize,
+    pub kind: ParamKind,
+    pub fields: ArrayVec<u128, 12>,
+    pub tail: Octets,
+}
+
+/// What a line says.
+#[derive(Drop)]
+pub enum Line {
+    Message(MessageLine),
+    Parameter(ParameterLine),
+}
+
+/// Why a line is not read.
+#[derive(Clone, Copy, Debug, PartialEq, Eq)]
+pub enum LineErr {
+    /// It is refused by itself.
+    Refused(Refusal),
+    /// Memory ran out.
+    Memory,
+}
+
+impl From<Refusal> for LineErr {
+    ghost from_gives = { λ reason e. e ≡ Refused reason };
+
+    fn from(reason: Refusal) -> LineErr {
+        LineErr::Refused(reason)
+    }
+}
+
+impl From<AllocError> for LineErr {
+    ghost from_gives = { λ _ e. e ≡ Memory };
+
+    fn from(_e: AllocError) -> LineErr {
+        LineErr::Memory
+    }
+}
+
+/// Whether each byte is a space or a printed ASCII character.
+fn is_printed(line: &[u8]) -> bool
+    ensures { result ≡ is_printed line.now }
+{
+    line.iter().all(|b| 32 <= *b && *b <= 126)
+}
+
+/// A level that so many open lines allow.
+fn read_level(word: &str, depth: usize) -> Option<usize>
+    ensures { IsLevel depth word.now result }
+{
+    let Some(level) = numeral(word.as_bytes()) else {
+        return None;
+    };
+    let most = depth.min(MAX_DEPTH as usize);
+    if level > most as u128 {
+        return None;
+    }
+    Some(level as usize)
+}
+
+/// The kind with a name: at level 0 a message's, at any other a parameter's.
+fn read_kind(level: usize, name: &str) -> Option<Kind>
+    ensures { IsKindNamed level name.now result }
+{
+    if level == 0 {
+        match msg_named(name) {
+            Some(kind) => Some(Kind::Message(kind)),
+            None => None,
+        }
+    } else {
+        match param_named(name) {
+            Some(kind) => Some(Kind::Parameter(kind)),
+            None => None,
+        }
+    }
+}
+
+/// How many fields are not reserved.
+fn plain_count(rules: &[Field]) -> usize
+    ensures { result ≡ length (forms_of (map field_rule rules.now)) }
+{
+    let mut count: usize = 0;
+    for rule in rules {
+        if !rule.reserved {
+            count += 1;
+        }
+    }
+    count
+}
+
+/// How many numbers the line of a kind has: a message's version and id, and the plain fields.
+fn number_count(kind: Kind) -> usize
+    ensures value { result ≡ length (number_forms kind) }
+    ensures few { result ≤ 14 }
+{
+    let fields = plain_count(llrp_schema::fields(kind));
+    match kind {
+        Kind::Message(_) => 2 + fields,
+        Kind::Parameter(_) => fields,
+    }
+}
+
+/// How many words the tail of a kind has.
+fn tail_count(kind: Kind) -> usize
+    ensures value { result ≡ tail_count (tail_of kind) }
+    ensures few { result ≤ 1 }
+{
+    match llrp_schema::tail(kind) {
+        Tail::Absent => 0,
+        Tail::Words | Tail::Text | Tail::Bits => 1,
+    }
+}
+
+/// How many words the line of a kind has: level, name, numbers and tail.
+fn word_count(kind: Kind) -> usize
+    ensures { result ≡ word_count kind }
+{
+    2 + (number_count(kind) + tail_count(kind))
+}
+
+/// The level, the kind, and the words behind the name.
+#[derive(Clone, Copy)]
+struct Start<'a> {
+    level: usize,
+    kind: Kind,
+    words: Option<&'a str>,
+}
+
+/// Reads a line up to its name, where so many lines are open.
+fn read_start(line: &str, depth: usize) -> Result<Start<'_>, Refusal>
+    ensures { ReadsStart depth line.now result }
+{
+    let (level, rest) = first_word(line);
+    let Some(level) = read_level(level, depth) else {
+        return Err(Refusal::Level);
+    };
+    let Some(rest) = rest else {
+        return Err(Refusal::Name);
+    };
+    let (name, words) = first_word(rest);
+    let Some(kind) = read_kind(level, name) else {
+        return Err(Refusal::Name);
+    };
+    Ok(Start { level, kind, words })
+}
+
+/// Appends the values of plain fields, and gives the words behind theirs.
+fn read_fields<'a>(
+    rules: &[Field],
+    words: Option<&'a str>,
+    fields: &mut ArrayVec<u128, 12>,
+) -> Result<Option<&'a str>, Refusal>
+    requires room { array_vec_len fields.old + length (forms_of (map field_rule rules.now)) ≤ 12 }
+    requires words { length (forms_of (map field_rule rules.now)) ≤ length (words_in words) }
+    ensures { ReadsFields (forms_of (map field_rule rules.now)) (words_in words.entry) fields.old.items fields.new.items result }
+{
+    match rules {
+        [] => Ok(words),
+        [rule, rules @ ..] => {
+            if rule.reserved {
+                return read_fields(rules, words, fields);
+            }
+            let Some(words) = words else { unreachable!() };
+            let (word, words) = first_word(words);
+            fields.push(read_field(rule, word)?);
+            read_fields(rules, words, fields)
+        }
+    }
+}
+
+/// The line of a message of a kind, with the words behind its name.
+fn read_message(kind: MsgKind, words: Option<&str>) -> Result<MessageLine, Refusal>
+    requires { length (words_in words) ≡ length (number_forms (Message kind)) }
+    ensures { ReadsMessage kind (words_in words.entry) result }
+{
+    let Some(words) = words else { unreachable!() };
+    let (version, words) = first_word(words);
+    let version = read_version(version)?;
+    let Some(words) = words else { unreachable!() };
+    let (id, words) = first_word(words);
+    let id = read_id(id)?;
+    let mut fields = ArrayVec::new();
+    read_fields(llrp_schema::fields(Kind::Message(kind)), words, &mut fields)?;
+    Ok(MessageLine {
+        version,
+        id,
+        kind,
+        fields,
+    })
+}
+
+/// The octets of a tail, from the words behind the fields.
+fn read_rest(alloc: Global, form: Tail, rest: Option<&str>) -> Result<Octets, LineErr>
+    requires { length (words_in rest) ≡ tail_count form }
+    ensures { ReadsRest form (words_in rest.entry) result }
+{
+    match rest {
+        None => Ok(Octets::new(Vec::new(alloc))),
+        Some(word) => read_tail(alloc, form, word),
+    }
+}
+
+/// The line of a parameter of a kind, with the words behind its name.
+fn read_parameter(
+    alloc: Global,
+    level: usize,
+    kind: ParamKind,
+    words: Option<&str>,
+) -> Result<ParameterLine, LineErr>
+    requires { length (words_in words) ≡ length (number_forms (Parameter kind)) + tail_count (tail_of (Parameter kind)) }
+    ensures { ReadsParameter level kind (words_in words.entry) result }
+{
+    let mut fields = ArrayVec::new();
+    let rest = read_fields(
+        llrp_schema::fields(Kind::Parameter(kind)),
+        words,
+        &mut fields,
+    )?;
+    let tail = read_rest(alloc, llrp_schema::tail(Kind::Parameter(kind)), rest)?;
+    Ok(ParameterLine {
+        level,
+        kind,
+        fields,
+        tail,
+    })
+}
+
+/// What an ended line says, where so many lines are open, or why it is refused by itself.
+pub fn read_line(alloc: Global, line: &[u8], depth: usize) -> Result<Line, LineErr>
+    ensures { ReadsLine depth line.now result }
+{
+    if line.len() > LONGEST_LINE || !is_printed(line) {
+        return Err(LineErr::Refused(Refusal::Line));
+    }
+    let Ok(text) = str::from_utf8(line) else {
+        unreachable!()
+    };
+    let start = read_start(text, depth)?;
+    if count_words(line) != word_count(start.kind) {
+        return Err(LineErr::Refused(Refusal::Fields));
+    }
+    match start.kind {
+        Kind::Message(kind) => {
+            let line = read_message(kind, start.words)?;
+            Ok(Line::Message(line))
+        }
+        Kind::Parameter(kind) => {
+            let line = read_parameter(alloc, start.level, kind, start.words)?;
+            Ok(Line::Parameter(line))
+        }
+    }
+}

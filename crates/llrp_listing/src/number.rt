@@ -1,0 +1,128 @@
+//! The numbers of a line, each from its word.
+
+ghost use Rattle.std.specs.Prelude.{◌≡◌};
+ghost use Rattle.llrp_schema.specs.Schema.{field_rule};
+ghost use Rattle.llrp_listing.specs.LineChecks.{ReadsNumber};
+ghost use Rattle.llrp_listing.specs.LineReading.{ReadsNegative, ReadsPositive};
+ghost use Rattle.llrp_listing.specs.NodeLine.{Epc, Id, Signed, Unsigned, Version, field_form};
+ghost use Rattle.llrp_listing.specs.Numeral.{numeral};
+
+use crate::fault::Refusal;
+use llrp_schema::Field;
+use tag_uri::word_of_text;
+
+/// How many bits the field of EPC-96 has, and no other.
+const EPC_BITS: u32 = 96;
+
+/// The number whose decimal text of at most 20 digits the word is.
+#[tactic(auto, unfolding(crate::specs::Numeral::numeral))]
+pub fn numeral(word: &[u8]) -> Option<u128>
+    ensures { result ≡ numeral word.now }
+{
+    if word.is_empty() || word.len() > 20 || (word.len() > 1 && word[0] == b'0') {
+        return None;
+    }
+    let mut n: u128 = 0;
+    for b in word {
+        if !b.is_ascii_digit() {
+            return None;
+        }
+        n = n * 10 + (*b - b'0') as u128;
+    }
+    Some(n)
+}
+
+/// A message's version, 1 or 2.
+pub fn read_version(word: &str) -> Result<u8, Refusal>
+    ensures { ReadsNumber Version word.now result }
+{
+    let Some(version) = numeral(word.as_bytes()) else {
+        return Err(Refusal::Number);
+    };
+    if version == 0 || version > 2 {
+        return Err(Refusal::Number);
+    }
+    Ok(version as u8)
+}
+
+/// A message's id, of 32 bits.
+pub fn read_id(word: &str) -> Result<u32, Refusal>
+    ensures { ReadsNumber Id word.now result }
+{
+    let Some(id) = numeral(word.as_bytes()) else {
+        return Err(Refusal::Number);
+    };
+    if id > u32::MAX as u128 {
+        return Err(Refusal::Number);
+    }
+    Ok(id as u32)
+}
+
+/// A field without a sign.
+fn read_unsigned(word: &str) -> Result<u128, Refusal>
+    ensures { ReadsNumber Unsigned word.now result }
+{
+    let Some(number) = numeral(word.as_bytes()) else {
+        return Err(Refusal::Number);
+    };
+    Ok(number)
+}
+
+/// The eight bits of a number from -128 to 127.
+fn read_signed(word: &str) -> Result<u128, Refusal>
+    ensures { ReadsNumber Signed word.now result }
+{
+    match word.strip_prefix('-') {
+        Some(digits) => below_zero(digits.as_bytes()),
+        None => from_zero(word.as_bytes()),
+    }
+}
+
+/// The eight bits of a number from 0 to 127.
+fn from_zero(digits: &[u8]) -> Result<u128, Refusal>
+    ensures { ReadsPositive digits.now result }
+{
+    let Some(number) = numeral(digits) else {
+        return Err(Refusal::Number);
+    };
+    if number > 127 {
+        return Err(Refusal::Number);
+    }
+    Ok(number)
+}
+
+/// The eight bits of a number from -128 to -1, whose digits follow its sign.
+fn below_zero(digits: &[u8]) -> Result<u128, Refusal>
+    ensures { ReadsNegative digits.now result }
+{
+    let Some(size) = numeral(digits) else {
+        return Err(Refusal::Number);
+    };
+    if size == 0 || size > 128 {
+        return Err(Refusal::Number);
+    }
+    Ok(256 - size)
+}
+
+/// The 96 bits of an EPC.
+fn read_epc(word: &str) -> Result<u128, Refusal>
+    ensures { ReadsNumber Epc word.now result }
+{
+    match word_of_text(word) {
+        Ok(word) => Ok(word.number()),
+        Err(fault) => Err(Refusal::Epc(fault)),
+    }
+}
+
+/// The value of a plain field.
+pub fn read_field(field: &Field, word: &str) -> Result<u128, Refusal>
+    ensures { ReadsNumber (field_form (field_rule field.now)) word.now result }
+{
+    if field.width == EPC_BITS {
+        read_epc(word)
+    } else if field.signed {
+        read_signed(word)
+    } else {
+        read_unsigned(word)
+    }
+}

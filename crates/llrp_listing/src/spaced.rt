@@ -1,0 +1,31 @@
+//! The words of a line.
+
+ghost use Rattle.std.specs.Prelude.{◌∷◌, ◌≡◌, MatchOption, [], length};
+ghost use Rattle.llrp_listing.specs.Splits.{IsSplit, Lacks, words, words_in};
+
+/// The bytes before the first such byte and those after it, or `None` where there is none.
+pub fn split_once(bytes: &[u8], byte: u8) -> Option<(&[u8], &[u8])>
+    ensures { MatchOption result (Lacks byte bytes.now) (λ parts. IsSplit byte bytes.now parts.0.now parts.1.now) }
+{
+    let place = bytes.iter().position(|b| *b == byte)?;
+    let (before, rest) = bytes.split_at(place);
+    let (_, after) = rest.split_at(1);
+    Some((before, after))
+}
+
+/// The first word, and those behind the space after it, if there is one.
+pub fn first_word(line: &str) -> (&str, Option<&str>)
+    ensures { words line.now ≡ result.0.now ∷ words_in result.1 }
+{
+    match line.split_once(' ') {
+        Some((word, rest)) => (word, Some(rest)),
+        None => (line, None),
+    }
+}
+
+/// How many words there are.
+pub fn count_words(line: &[u8]) -> usize
+    ensures { result ≡ length (words line.now) }
+{
+    line.iter().filter(|b| **b == b' ').count() + 1
+}

@@ -1,0 +1,101 @@
+//! The tail of a parameter's line, from its word.
+
+ghost use Rattle.std.specs.Prelude.{◌≡◌, MatchResult};
+ghost use Rattle.llrp_schema.specs.declared.kinds.Tail.TheVariants.{Text, Words};
+ghost use Rattle.llrp_listing.specs.LineReading.{AppendsWord, AreDigitsOf, IsNoTail, IsNoWord, IsTailWord, IsWordList, has_capital};
+
+use crate::fault::Refusal;
+use crate::line::LineErr;
+use crate::number::numeral;
+use crate::spaced::split_once;
+use hex::FromHexError;
+use llrp_schema::Tail;
+use llrp_tree::Octets;
+use std::alloc::Global;
+
+/// Appends the octets of a word of 16 bits, which stands in decimal.
+fn push_word(octets: &mut Vec<u8>, word: &[u8]) -> Result<(), LineErr>
+    ensures { MatchResult result (λ _. AppendsWord word.now octets.old.items octets.new.items) (IsNoWord word.now) }
+{
+    let Some(number) = numeral(word) else {
+        return Err(LineErr::Refused(Refusal::Tail));
+    };
+    if number > u16::MAX as u128 {
+        return Err(LineErr::Refused(Refusal::Tail));
+    }
+    octets.extend_from_slice(&[(number / 256) as u8, (number % 256) as u8])?;
+    Ok(())
+}
+
+/// The octets of words of 16 bits, which stand in decimal and are joined by commas.
+fn read_word_list(alloc: Global, list: &[u8]) -> Result<Vec<u8>, LineErr>
+    ensures { MatchResult result (λ octets. IsWordList list.now octets.items) (IsNoTail (IsWordList list.now)) }
+{
+    let mut octets = Vec::new(alloc);
+    if list.is_empty() {
+        return Ok(octets);
+    }
+    let mut rest = list;
+    'words: while let Some((word, after)) = split_once(rest, b',') {
+        push_word(&mut octets, word)?;
+        rest = after;
+    }
+    push_word(&mut octets, rest)?;
+    Ok(octets)
+}
+
+/// Whether some byte is a capital letter.
+fn has_capital(bytes: &[u8]) -> bool
+    ensures { result ≡ has_capital bytes.now }
+{
+    bytes.iter().any(|b| 65 <= *b && *b <= 90)
+}
+
+/// The octets of lower-case hexadecimal digits.
+fn read_digits(alloc: Global, digits: &[u8]) -> Result<Vec<u8>, LineErr>
+    ensures { MatchResult result (λ octets. AreDigitsOf digits.now octets.items) (IsNoTail (AreDigitsOf digits.now)) }
+{
+    if has_capital(digits) {
+        return Err(LineErr::Refused(Refusal::Tail));
+    }
+    match hex::decode(alloc, digits) {
+        Ok(octets) => Ok(octets),
+        Err(error) => match error {
+            FromHexError::OutOfMemory => Err(LineErr::Memory),
+            _ => Err(LineErr::Refused(Refusal::Tail)),
+        },
+    }
+}
+
+/// The octets of a list of words, behind its `w`.
+fn read_words(alloc: Global, word: &str) -> Result<Octets, LineErr>
+    ensures { MatchResult result (IsTailWord Words word.now) (IsNoTail (IsTailWord Words word.now)) }
+{
+    let Some(list) = word.strip_prefix('w') else {
+        return Err(LineErr::Refused(Refusal::Tail));
+    };
+    let octets = read_word_list(alloc, list.as_bytes())?;
+    Ok(Octets::new(octets))
+}
+
+/// The octets of hexadecimal digits, behind their `x`.
+fn read_octets(alloc: Global, word: &str) -> Result<Octets, LineErr>
+    ensures { MatchResult result (IsTailWord Text word.now) (IsNoTail (IsTailWord Text word.now)) }
+{
+    let Some(digits) = word.strip_prefix('x') else {
+        return Err(LineErr::Refused(Refusal::Tail));
+    };
+    let octets = read_digits(alloc, digits.as_bytes())?;
+    Ok(Octets::new(octets))
+}
+
+/// The octets of a tail, from its word.
+pub fn read_tail(alloc: Global, form: Tail, word: &str) -> Result<Octets, LineErr>
+    ensures { MatchResult result (IsTailWord form word.now) (IsNoTail (IsTailWord form word.now)) }
+{
+    match form {
+        Tail::Absent => Err(LineErr::Refused(Refusal::Tail)),
+        Tail::Words => read_words(alloc, word),
+        Tail::Text | Tail::Bits => read_octets(alloc, word),
+    }
+}

@@ -1,5 +1,0 @@
-use Rattle.llrp_tool.proofs.LawfulLines.{message_bound}
-use Rattle.llrp_tool.proofs.laws.lines_are_short.Goals as goal
-
-pub returns : goal.returns
-returns c = λ m. record { short = λ texts l z. message_bound m texts l z }

@@ -1,6 +1,0 @@
-use Rattle.std.proofs.Common.{refl}
-use Rattle.llrp_tool.proofs.ShowLemmas.{begun}
-use Rattle.llrp_tool.proofs.show.Lister.new.Goals as goal
-
-pub returns : goal.returns
-returns c = λ log. begun c.args.limit log _ c.new.ensures.stands c.new.ensures.limit c.new-2.ensures.items refl
