@@ -23,7 +23,7 @@ pub mod PrintingLemmas
 pub mod PrintsBack
 pub mod Rows
 pub mod Running
-pub mod ScriptWords
+pub mod SplitWords
 pub mod ShortLines
 pub mod ShowLemmas
 pub mod Standing

@@ -1,5 +1,5 @@
 -- What it is to read all of a source, and to write all of a text.
-use Rattle.std.specs.Prelude.{◌≡◌, ℕ, ◌+◌, ◌<◌, List, ◌++◌, Result, Ok, Err}
+use Rattle.std.specs.Prelude.{◌≡◌, ℕ, ◌+◌, ◌<◌, ◌≤◌, List, ◌++◌, Result, Ok, Err}
 use Rattle.std.specs.Io.KnownBytes.{IsAtEnd, Consumes}
 use Rattle.llrp_listing.specs.declared.fault.ToolErr.{ToolErr}
 use Rattle.llrp_listing.specs.declared.fault.ToolErr.TheVariants.{Listing, Script, Hex, Read, Write, Bound, Broken, Memory, Peer, Strange, Early}
@@ -16,6 +16,10 @@ pub record ReadAll (old new : SourceLog) (bytes : List ℕ) : Type 0 where
   pub counts : new ≡ record old { reads = old.reads + reads; ends = old.ends + 1; left = new.left }
   pub bytes_are : Consumes old.left new.left bytes
   pub all : IsAtEnd new.left
+
+-- at most so many reads gave these bytes
+abbrev pub WasGiven : SourceLog → SourceLog → List ℕ → Type 0
+WasGiven old new bytes = (n : ℕ) × (n ≤ MOST_READS) × Gave old new n bytes
 
 -- n reads gave these bytes, and then one failed
 pub record GaveAndFailed (old new : SourceLog) (n : ℕ) (bytes : List ℕ) : Type 0 where

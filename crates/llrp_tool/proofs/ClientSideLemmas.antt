@@ -6,14 +6,13 @@ use Rattle.llrp_listing.specs.declared.fault.ToolErr.{ToolErr}
 use Rattle.llrp_listing.specs.declared.fault.ToolErr.TheVariants.{Listing, Script, Hex, Read, Write, Bound, Broken, Memory, Peer, Strange, Early}
 use Rattle.llrp_tool.specs.declared.gathering.Gathering.{Gathering}
 use Rattle.llrp_tool.specs.declared.gathering.Phase.TheVariants.{Open, Closed}
-use Rattle.llrp_listing.specs.Copying.{Writes}
+use Rattle.llrp_listing.specs.Copying.{Writes, WasGiven}
 use Rattle.llrp_tool.specs.EndsStand.{spoken, heard, ReadsNone, ReadsPiece, Given, ClientStands, ClientStops}
 use Rattle.llrp_tool.specs.Gathering.{Course}
 use Rattle.llrp_tool.specs.GatheringStands.{IsOpen, Counts, Moves, MovesSome, Feeds, phase_left}
 use Rattle.llrp_tool.specs.Plan.{Plan}
 use Rattle.llrp_tool.specs.RunInventory.{Says, Ended, BeginsSaying}
 use Rattle.llrp_tool.specs.RunLoop.{Ends, Traffic, SaidAll, ClientAwaits}
-use Rattle.llrp_tool.specs.RunServe.{WasGiven}
 use Rattle.llrp_listing.proofs.DeviceLemmas.{wrote_more, wrote_then_failed}
 use Rattle.llrp_tool.proofs.HearingLemmas.{Hearing, hearing_none, hearing_more, was_given}
 use Rattle.llrp_tool.proofs.InventoryLemmas.{goes_on_saying, says_so_far, awaits, only_write, front_behind}

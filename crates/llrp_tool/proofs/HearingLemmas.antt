@@ -1,8 +1,8 @@
 -- Reading as many bytes as were written.
 use Rattle.std.proofs.Common.{◌≡◌, ℕ, ◌+◌, ◌-◌, ◌<◌, ◌≤◌, List, [], ◌++◌, length, subst, sym, append_assoc, length-append, arith}
 use Rattle.std.proofs.lemmas.List.{append-nil}
+use Rattle.llrp_listing.specs.Copying.{WasGiven}
 use Rattle.llrp_stream.specs.Device.{SourceLog}
-use Rattle.llrp_tool.specs.RunServe.{WasGiven}
 use Rattle.llrp_tool.specs.EndsStand.{Given, ReadsPiece}
 
 -- Of so many bytes these were read behind others, and so many are left.

@@ -10,12 +10,11 @@ use Rattle.llrp_listing.specs.declared.fault.ToolErr.TheVariants.{Listing, Scrip
 use Rattle.llrp_tool.specs.declared.gathering.Gathering.{Gathering}
 use Rattle.llrp_tool.specs.declared.gathering.Phase.TheVariants.{Open}
 use Rattle.llrp_tool.specs.declared.summary.Summary.{Summary}
-use Rattle.llrp_listing.specs.Copying.{MOST_READS, IsPrefix, GaveAndFailed, Writes}
+use Rattle.llrp_listing.specs.Copying.{MOST_READS, IsPrefix, GaveAndFailed, Writes, WasGiven}
 use Rattle.llrp_tool.specs.Gathering.{Course, begun}
 use Rattle.llrp_tool.specs.GatheringStands.{closing_text, IsOpen, Counts, Moves, MovesSome, Feeds, phase_left}
 use Rattle.llrp_tool.specs.Plan.{Plan}
 use Rattle.llrp_tool.specs.RunInventory.{Says, SaysSome, Awaits, WroteAll, BeginsSaying, RunsInventory}
-use Rattle.llrp_tool.specs.RunServe.{WasGiven}
 use Rattle.llrp_tool.specs.Sending.{AreFrames, Adds}
 use Rattle.llrp_tool.specs.TagLines.{summary_of}
 use Rattle.llrp_listing.proofs.DeviceLemmas.{gave_nothing, read_more, wrote_nothing, wrote_more, wrote_then_failed, all_read}

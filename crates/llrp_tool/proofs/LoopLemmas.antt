@@ -9,11 +9,11 @@ use Rattle.llrp_tool.specs.declared.both_ends.reader_side.ReaderSide.{ReaderSide
 use Rattle.llrp_listing.specs.declared.fault.ToolErr.{ToolErr}
 use Rattle.llrp_listing.specs.declared.fault.ToolErr.TheVariants.{Listing, Script, Hex, Read, Write, Bound, Broken, Memory, Peer, Strange, Early}
 use Rattle.llrp_tool.specs.declared.summary.Summary.{Summary}
-use Rattle.llrp_listing.specs.Copying.{ReadAll}
+use Rattle.llrp_listing.specs.Copying.{ReadAll, WasGiven}
 use Rattle.llrp_tool.specs.EndsStand.{WritesPiece, Given, HasRoom, ReaderStands, ReaderStops, ReaderHears, ClientStands, ClientStops, ClientHears}
 use Rattle.llrp_tool.specs.GatheringStands.{Counts}
 use Rattle.llrp_tool.specs.RunLoop.{Ends, Way, Devices, Traffic, Passed, Fine, GivenAndFailed, GivenByMost, ReaderGoes, ClientAwaits, RunsLoop}
-use Rattle.llrp_tool.specs.RunServe.{BeginsFrames, WasGiven}
+use Rattle.llrp_tool.specs.RunServe.{BeginsFrames}
 use Rattle.llrp_tool.specs.Sending.{AreFrames}
 use Rattle.llrp_tool.specs.TagLines.{summary_of}
 use Rattle.llrp_tool.proofs.ClientSideLemmas.{client_awaits}

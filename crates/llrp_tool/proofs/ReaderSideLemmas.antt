@@ -1,6 +1,7 @@
 -- The reader's side of a connection.
 use Rattle.std.proofs.Common.{◌≡◌, ℕ, ◌-◌, ◌≤◌, Bool, true, false, List, [], ◌∷◌, ◌++◌, length, Result, Ok, Err, sym, ap, subst, ◌∙◌, append_assoc, inl, inr, arith}
 use Rattle.std.proofs.lemmas.List.{append-nil}
+use Rattle.llrp_listing.specs.Copying.{WasGiven}
 use Rattle.llrp_tree.specs.Tree.{MessageTree}
 use Rattle.llrp_stream.specs.Device.{SourceLog}
 use Rattle.llrp_stream.proofs.RunLemmas.{items_grow}
@@ -11,7 +12,6 @@ use Rattle.llrp_tool.specs.declared.script.Entry.{Entry}
 use Rattle.llrp_tool.specs.declared.serving.Serving.{Serving}
 use Rattle.llrp_tool.specs.EndsStand.{spoken, heard, IsServing, ReadsNone, ReadsPiece, Given, ReaderStands, ReaderStops}
 use Rattle.llrp_tool.specs.RunLoop.{Ends, Traffic, ReaderGoes}
-use Rattle.llrp_tool.specs.RunServe.{WasGiven}
 use Rattle.llrp_tool.specs.Sending.{AreFrames, Adds}
 use Rattle.llrp_tool.specs.Serving.{HasClosed}
 use Rattle.llrp_tool.specs.ServingStands.{IsOpen, IsClosed, Starts, Feeds}

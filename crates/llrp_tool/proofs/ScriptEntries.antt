@@ -16,7 +16,7 @@ use Rattle.llrp_tool.specs.declared.script.Action.TheVariants.{Seen, Tick}
 use Rattle.llrp_tool.specs.declared.script.Entry.{Entry}
 use Rattle.llrp_listing.specs.Splits.{Lacks, IsSplit}
 use Rattle.llrp_tool.specs.Script.{IsSightingLine, IsActionLine, IsEntryLine, IsSightingInRange, IsActionInRange, IsInRange, IsLawful, MOST_ENTRIES, MayFollow, Continues, NoneContinues}
-use Rattle.llrp_listing.proofs.ScriptWords.{one_split, lacks_not, lacks_append, decimal_lacks, signed_lacks}
+use Rattle.llrp_listing.proofs.SplitWords.{one_split, lacks_not, lacks_append, decimal_lacks, signed_lacks}
 use Rattle.llrp_tool.proofs.WordTexts.{text_lacks}
 
 -- ---- which entries may follow

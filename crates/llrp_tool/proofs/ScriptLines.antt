@@ -8,7 +8,7 @@ use Rattle.llrp_tool.specs.declared.script.Action.TheVariants.{Seen, Tick}
 use Rattle.llrp_tool.specs.declared.script.Entry.{Entry}
 use Rattle.llrp_listing.specs.Splits.{Lacks, IsSplit}
 use Rattle.llrp_tool.specs.Script.{IsSightingLine, IsActionLine, IsEntryLine, IsSightingInRange, IsActionInRange, IsInRange}
-use Rattle.llrp_listing.proofs.ScriptWords.{lacks_not, one_split, decimal_lacks, signed_lacks, two_words, no_second}
+use Rattle.llrp_listing.proofs.SplitWords.{lacks_not, one_split, decimal_lacks, signed_lacks, two_words, no_second}
 
 -- ---- sightings
 

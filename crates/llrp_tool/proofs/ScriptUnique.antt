@@ -5,7 +5,7 @@ use Rattle.std.proofs.lemmas.List.{append-nil}
 use Rattle.std.proofs.lemmas.List.Elements.{All-head, All-tail}
 use Rattle.llrp_tool.specs.declared.script.Entry.{Entry}
 use Rattle.llrp_tool.specs.Script.{IsEntryLine, IsInRange, IsTextOfAll, IsLawful, IsScript, Begins, NoneContinues, IsRefusedAt}
-use Rattle.llrp_listing.proofs.ScriptWords.{one_split}
+use Rattle.llrp_listing.proofs.SplitWords.{one_split}
 use Rattle.llrp_tool.proofs.ScriptEntries.{lawful_front, one_entry, line_lacks}
 
 -- the rest begins with the line of an entry, and the others go on with it

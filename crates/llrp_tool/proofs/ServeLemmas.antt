@@ -9,12 +9,12 @@ use Rattle.llrp_listing.specs.declared.fault.ToolErr.{ToolErr}
 use Rattle.llrp_listing.specs.declared.fault.ToolErr.TheVariants.{Listing, Script, Hex, Read, Write, Bound, Broken, Memory, Peer, Strange, Early}
 use Rattle.llrp_tool.specs.declared.script.Entry.{Entry}
 use Rattle.llrp_tool.specs.declared.serving.Serving.{Serving}
-use Rattle.llrp_listing.specs.Copying.{MOST_READS, ReadAll, Writes}
+use Rattle.llrp_listing.specs.Copying.{MOST_READS, ReadAll, Writes, WasGiven}
 use Rattle.llrp_tool.specs.Serving.{Happening, happening, entries_at, closing_events, run, said, waiting, broken, StaysOpen, HasClosed, BeginsServing}
 use Rattle.llrp_tool.proofs.ServingEvents.{events-snoc}
 use Rattle.llrp_tool.specs.Sending.{AreFrames, Adds}
 use Rattle.llrp_tool.specs.ServingStands.{IsOpen, Starts, Feeds, Goes, Finishes}
-use Rattle.llrp_tool.specs.RunServe.{BeginsFrames, WasGiven, RunsServe}
+use Rattle.llrp_tool.specs.RunServe.{BeginsFrames, RunsServe}
 use Rattle.llrp_tool.proofs.ActingLemmas.{said-append}
 use Rattle.llrp_tool.proofs.SendingLemmas.{frames_append}
 use Rattle.llrp_listing.proofs.DeviceLemmas.{consumes_more, gave_nothing, read_more, wrote_nothing, wrote_more, wrote_then_failed}

@@ -12,7 +12,7 @@ use Rattle.std.specs.Borrow.{Bor}
 use Rattle.tag_uri.specs.TagText.{IsTextOf}
 use Rattle.tag_uri.proofs.TextBytes.{is_visible, visible, text_visible}
 use Rattle.llrp_listing.specs.Splits.{Lacks}
-use Rattle.llrp_listing.proofs.ScriptWords.{left, right}
+use Rattle.llrp_listing.proofs.SplitWords.{left, right}
 
 -- visible characters are ASCII
 visible_low : (text : List ℕ) → visible text ≡ true → All (λ b. b < 128) text

@@ -11,11 +11,10 @@ use Rattle.llrp_tool.specs.declared.both_ends.reader_side.ReaderSide.{ReaderSide
 use Rattle.llrp_tool.specs.declared.gathering.Gathering.{Gathering}
 use Rattle.llrp_tool.specs.declared.script.Entry.{Entry}
 use Rattle.llrp_tool.specs.declared.serving.Serving.{Serving}
-use Rattle.llrp_listing.specs.Copying.{MOST_READS, ReadAll}
+use Rattle.llrp_listing.specs.Copying.{MOST_READS, ReadAll, WasGiven}
 use Rattle.llrp_tool.specs.Gathering.{Course}
 use Rattle.llrp_tool.specs.GatheringStands.{IsOpen as Follows, Counts}
 use Rattle.llrp_tool.specs.RunInventory.{Says, Ended}
-use Rattle.llrp_tool.specs.RunServe.{WasGiven}
 use Rattle.llrp_tool.specs.RunLoop.{Ends, Traffic, GivenAndFailed, GivenByMost, ReaderSays, ReaderGoes, ReaderBegins, ClientAwaits, ClientBreaksOff, ClientEnded, ClientBegins, ReportFailed, SaidAll}
 use Rattle.llrp_tool.specs.Sending.{AreFrames}
 use Rattle.llrp_tool.specs.Serving.{broken, closed, Serves}

@@ -9,11 +9,10 @@ use Rattle.llrp_listing.specs.declared.fault.ToolErr.TheVariants.{Listing, Scrip
 use Rattle.llrp_tool.specs.declared.gathering.Phase.{Phase}
 use Rattle.llrp_tool.specs.declared.gathering.Phase.TheVariants.{Open, Closed, Failed}
 use Rattle.llrp_tool.specs.declared.summary.Summary.{Summary}
-use Rattle.llrp_listing.specs.Copying.{MOST_READS, ReadAll, GaveAndFailed, IsPrefix}
+use Rattle.llrp_listing.specs.Copying.{MOST_READS, ReadAll, GaveAndFailed, IsPrefix, WasGiven}
 use Rattle.llrp_tool.specs.Gathering.{Course, Gathers}
 use Rattle.llrp_tool.specs.GatheringStands.{closing_text}
 use Rattle.llrp_tool.specs.Plan.{Plan}
-use Rattle.llrp_tool.specs.RunServe.{WasGiven}
 use Rattle.llrp_tool.specs.Sending.{AreFrames}
 use Rattle.llrp_tool.specs.TagLines.{AreReports, summary_of}
 

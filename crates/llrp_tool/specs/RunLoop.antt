@@ -9,11 +9,11 @@ use Rattle.llrp_tool.specs.declared.gathering.Phase.{Phase}
 use Rattle.llrp_tool.specs.declared.gathering.Phase.TheVariants.{Closed, Failed}
 use Rattle.llrp_tool.specs.declared.script.Entry.{Entry}
 use Rattle.llrp_tool.specs.declared.summary.Summary.{Summary}
-use Rattle.llrp_listing.specs.Copying.{MOST_READS, ReadAll, GaveAndFailed, IsPrefix}
+use Rattle.llrp_listing.specs.Copying.{MOST_READS, ReadAll, GaveAndFailed, IsPrefix, WasGiven}
 use Rattle.llrp_tool.specs.Gathering.{Course}
 use Rattle.llrp_tool.specs.Plan.{Plan}
 use Rattle.llrp_tool.specs.RunInventory.{Says, Awaits, BreaksOff, Ended, BeginsSaying}
-use Rattle.llrp_tool.specs.RunServe.{BeginsFrames, WasGiven}
+use Rattle.llrp_tool.specs.RunServe.{BeginsFrames}
 use Rattle.llrp_tool.specs.Sending.{AreFrames}
 use Rattle.llrp_tool.specs.Serving.{Standing, waiting, closed, broken, Serves}
 use Rattle.llrp_tool.specs.TagLines.{summary_of}

@@ -1,12 +1,12 @@
 -- What serving a client reads and writes.
-use Rattle.std.specs.Prelude.{ℕ, ◌≤◌, ◌⊎◌, List, Result, Ok, Err}
+use Rattle.std.specs.Prelude.{ℕ, ◌⊎◌, List, Result, Ok, Err}
 use Rattle.llrp_tree.specs.Tree.{MessageTree}
 use Rattle.llrp_stream.specs.Device.{SourceLog, SinkLog, Gave, Wrote, WroteAndFailed}
 use Rattle.llrp_session.specs.ReaderMachine.{Reader}
 use Rattle.llrp_listing.specs.declared.fault.ToolErr.{ToolErr}
 use Rattle.llrp_listing.specs.declared.fault.ToolErr.TheVariants.{Listing, Script, Hex, Read, Write, Bound, Broken, Memory, Peer, Strange, Early}
 use Rattle.llrp_tool.specs.declared.script.Entry.{Entry}
-use Rattle.llrp_listing.specs.Copying.{MOST_READS, ReadAll, GaveAndFailed, IsPrefix}
+use Rattle.llrp_listing.specs.Copying.{MOST_READS, ReadAll, GaveAndFailed, IsPrefix, WasGiven}
 use Rattle.llrp_tool.specs.Sending.{AreFrames}
 use Rattle.llrp_tool.specs.Serving.{Standing, waiting, closed, ended, early, broken, Serves, BeginsServing}
 
@@ -21,10 +21,6 @@ pub record WroteAll (reader : Reader) (entries : List Entry) (bytes : List ℕ) 
 -- these are the frames of the first messages that the reader says to the bytes
 abbrev pub BeginsFrames : Reader → List Entry → List ℕ → List ℕ → Type 0
 BeginsFrames reader entries bytes text = (messages : List MessageTree) × BeginsServing reader entries bytes messages × AreFrames messages text
-
--- at most so many reads gave these bytes
-abbrev pub WasGiven : SourceLog → SourceLog → List ℕ → Type 0
-WasGiven r0 r1 bytes = (n : ℕ) × (n ≤ MOST_READS) × Gave r0 r1 n bytes
 
 -- What serving did, by its answer. A clean end and Early come only where a read met the source's end; after every other
 -- read all that the reader says to the bytes so far was written.

@@ -1,6 +1,6 @@
 use Rattle.std.proofs.Common.{◌≡◌, None, rules, arith, sym, ◌∙◌, suc}
 use Rattle.std.proofs.lemmas.Fmt.{decimal_injective}
-use Rattle.llrp_listing.proofs.ScriptWords.{at_none, behind_sign}
+use Rattle.llrp_listing.proofs.SplitWords.{at_none, behind_sign}
 use Rattle.llrp_listing.proofs.decimal.negative_of.Goals as goal
 
 pub returns-in_err-n : goal.returns-in_err-n

@@ -1,6 +1,6 @@
 use Rattle.std.proofs.Common.{◌≡◌, None, rules, arith, sym}
 use Rattle.llrp_listing.proofs.DecimalWords.{numeral_is}
-use Rattle.llrp_listing.proofs.ScriptWords.{at_none, no_number, that_number}
+use Rattle.llrp_listing.proofs.SplitWords.{at_none, no_number, that_number}
 use Rattle.llrp_listing.proofs.decimal.number_of.Goals as goal
 
 pub returns-in_err-n : goal.returns-in_err-n

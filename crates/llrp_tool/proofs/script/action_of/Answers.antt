@@ -1,5 +1,5 @@
 use Rattle.std.proofs.Common.{codes}
-use Rattle.llrp_listing.proofs.ScriptWords.{not_equal}
+use Rattle.llrp_listing.proofs.SplitWords.{not_equal}
 use Rattle.llrp_tool.proofs.ScriptLines.{no_action}
 use Rattle.llrp_tool.proofs.script.action_of.Goals as goal
 

@@ -1,5 +1,5 @@
 use Rattle.std.proofs.Common.{arith}
-use Rattle.llrp_listing.proofs.ScriptWords.{at_none}
+use Rattle.llrp_listing.proofs.SplitWords.{at_none}
 use Rattle.llrp_tool.proofs.ScriptLines.{entry_first, entry_second, entry_parts}
 use Rattle.llrp_tool.proofs.script.entry_of.Goals as goal
 

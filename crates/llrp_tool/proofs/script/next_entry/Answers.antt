@@ -1,5 +1,5 @@
 use Rattle.std.proofs.Common.{refl}
-use Rattle.llrp_listing.proofs.ScriptWords.{at_none}
+use Rattle.llrp_listing.proofs.SplitWords.{at_none}
 use Rattle.llrp_tool.proofs.ScriptEntries.{no_line, next_line, may_not, lawful_push}
 use Rattle.llrp_tool.proofs.script.next_entry.Goals as goal
 

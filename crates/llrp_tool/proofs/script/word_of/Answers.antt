@@ -1,6 +1,6 @@
 use Rattle.std.proofs.Common.{List, ℕ, sym, subst}
 use Rattle.tag_uri.specs.TagText.{IsTextOf}
-use Rattle.llrp_listing.proofs.ScriptWords.{at_none}
+use Rattle.llrp_listing.proofs.SplitWords.{at_none}
 use Rattle.llrp_tool.proofs.WordTexts.{utf8_text, no_text, that_text}
 use Rattle.llrp_tool.proofs.script.word_of.Goals as goal
 

@@ -1,4 +1,4 @@
--- The words of a script's lines, and what stands before a first space or LF.
+-- The words of a line, and what stands before a first byte of a kind.
 use Rattle.std.proofs.Common.{◌≡◌, ℕ, suc, ◌^◌, ◌<◌, ◌≤◌, Bool, true, false, List, [], ◌∷◌, ◌++◌, Option, Some, None, refl, sym, ap, subst, ◌∙◌, arith, decimal, ℤ, pos, negsuc}
 use Rattle.std.specs.Prelude.{◌==◌, ◌&&◌, FitsSigned, MatchOption}
 use Rattle.std.specs.Char.{is_ascii_digit}
