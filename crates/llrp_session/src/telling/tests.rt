@@ -350,58 +350,46 @@ fn commands(rt: HostRuntime) -> Result<(), Fail> {
     )
 }
 
-/// The other commands, each with the octets of its message, id 8 and ROSpecID 9.
+/// The message of a command, under id 8, spells these octets.
+fn command_spells(
+    rt: &impl Abort,
+    alloc: Global,
+    command: Command,
+    octets: &[u8],
+) -> Result<(), Fail>
+    requires { FitsMessage command }
+{
+    let message = self::command(alloc, 8, command)?;
+    spells(rt, alloc, &message, octets)
+}
+
+/// The other commands, of ROSpec 9.
 #[test]
 fn other_commands(rt: HostRuntime) -> Result<(), Fail> {
     let alloc = rt.alloc();
-    let delete = command(alloc, 8, Command::Delete { id: 9 })?;
-    spells(
+    let delete = Command::Delete { id: 9 };
+    command_spells(
         &rt,
         alloc,
-        &delete,
-        &[
-            0x04, 0x15, 0x00, 0x00, 0x00, 0x0E, 0x00, 0x00, 0x00, 0x08, 0x00, 0x00, 0x00, 0x09,
-        ],
+        delete,
+        b"\x04\x15\0\0\0\x0E\0\0\0\x08\0\0\0\x09",
     )?;
-    let start = command(alloc, 8, Command::Start { id: 9 })?;
-    spells(
+    let start = Command::Start { id: 9 };
+    command_spells(&rt, alloc, start, b"\x04\x16\0\0\0\x0E\0\0\0\x08\0\0\0\x09")?;
+    let stop = Command::Stop { id: 9 };
+    command_spells(&rt, alloc, stop, b"\x04\x17\0\0\0\x0E\0\0\0\x08\0\0\0\x09")?;
+    let disable = Command::Disable { id: 9 };
+    command_spells(
         &rt,
         alloc,
-        &start,
-        &[
-            0x04, 0x16, 0x00, 0x00, 0x00, 0x0E, 0x00, 0x00, 0x00, 0x08, 0x00, 0x00, 0x00, 0x09,
-        ],
+        disable,
+        b"\x04\x19\0\0\0\x0E\0\0\0\x08\0\0\0\x09",
     )?;
-    let stop = command(alloc, 8, Command::Stop { id: 9 })?;
-    spells(
+    command_spells(
         &rt,
         alloc,
-        &stop,
-        &[
-            0x04, 0x17, 0x00, 0x00, 0x00, 0x0E, 0x00, 0x00, 0x00, 0x08, 0x00, 0x00, 0x00, 0x09,
-        ],
+        Command::GetReport,
+        b"\x04\x3C\0\0\0\x0A\0\0\0\x08",
     )?;
-    let disable = command(alloc, 8, Command::Disable { id: 9 })?;
-    spells(
-        &rt,
-        alloc,
-        &disable,
-        &[
-            0x04, 0x19, 0x00, 0x00, 0x00, 0x0E, 0x00, 0x00, 0x00, 0x08, 0x00, 0x00, 0x00, 0x09,
-        ],
-    )?;
-    let poll = command(alloc, 8, Command::GetReport)?;
-    spells(
-        &rt,
-        alloc,
-        &poll,
-        &[0x04, 0x3C, 0x00, 0x00, 0x00, 0x0A, 0x00, 0x00, 0x00, 0x08],
-    )?;
-    let close = command(alloc, 8, Command::Close)?;
-    spells(
-        &rt,
-        alloc,
-        &close,
-        &[0x04, 0x0E, 0x00, 0x00, 0x00, 0x0A, 0x00, 0x00, 0x00, 0x08],
-    )
+    command_spells(&rt, alloc, Command::Close, b"\x04\x0E\0\0\0\x0A\0\0\0\x08")
 }
