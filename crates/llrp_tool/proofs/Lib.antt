@@ -1,8 +1,11 @@
 pub mod ActingLemmas
 pub mod AnswerLemmas
 pub mod ArgumentLemmas
+pub mod ByteRuns
+pub mod ByteSchedules
 pub mod ClientSideLemmas
 pub mod CommandLemmas
+pub mod FrameFronts
 pub mod GatheringFeeds
 pub mod GatheringLemmas
 pub mod GatheringSteps

@@ -1,5 +1,7 @@
 pub mod Acting
+pub mod ByteWorld
 pub mod Command
+pub mod EndsAgree
 pub mod EndsStand
 pub mod Gathering
 pub mod GatheringStands

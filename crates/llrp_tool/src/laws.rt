@@ -5,6 +5,8 @@ ghost use Rattle.llrp_tree.specs.declared.TheConstants.{MAX_LIMIT};
 ghost use Rattle.llrp_tree.specs.Lawful.{AreOctets};
 ghost use Rattle.llrp_session.specs.ReaderMachine.{Reader};
 ghost use Rattle.llrp_stream.specs.declared.item.Item.{Item};
+ghost use Rattle.llrp_tool.specs.EndsAgree.{AfterAllBytes, GoesOn, IsARunOfMessages, NothingIsUnexpected, ViewCatchesUp, ViewIsTable, ReportsArrive, ReportsAreKept, PendingIsOnTheWay, NothingIsPending};
+ghost use Rattle.llrp_session.specs.MessageAgreement.{ReaderHasHistory, OneActive};
 ghost use Rattle.llrp_tool.specs.Plan.{Plan};
 ghost use Rattle.llrp_tool.specs.PlanLaws.{course_of, TakesEachCommand, StrangeIsTheReaders, HasOneCourse, CoursesGoOn, SendsInOrder, EndsMean, SendsOneByOne, SendsWhereAwaited, CanEnd};
 ghost use Rattle.llrp_tool.specs.Script.{IsLawful, IsScript};
@@ -85,4 +87,20 @@ pub fn plan_sends_its_commands()
 pub fn plan_ends()
     ensures mean { (limit : ℕ) (plan : Plan) (items : List Item) → EndsMean limit plan items }
     ensures can_end { (limit : ℕ) (plan : Plan) → 4096 ≤ limit → plan.polls < 2 ^ 16 → CanEnd limit plan }
+{}
+
+/// Whatever happens to a client and a reader, and in whatever pieces each reads the other's bytes, the two ends agree: no frame
+/// that is read has a fault, and what holds over whole messages holds of the messages that the bytes spell.
+pub fn ends_agree()
+    ensures goes_on { GoesOn }
+    ensures is_a_run_of_messages { IsARunOfMessages }
+    ensures view_catches_up { ViewCatchesUp }
+    ensures view_is_table { AfterAllBytes ViewIsTable }
+    ensures reports_arrive { AfterAllBytes ReportsArrive }
+    ensures reports_are_kept { AfterAllBytes ReportsAreKept }
+    ensures reader_has_history { AfterAllBytes (λ w. ReaderHasHistory w.ends) }
+    ensures one_active { AfterAllBytes (λ w. OneActive w.ends) }
+    ensures nothing_is_unexpected { NothingIsUnexpected }
+    ensures pending_is_on_the_way { AfterAllBytes PendingIsOnTheWay }
+    ensures nothing_is_pending { AfterAllBytes NothingIsPending }
 {}
