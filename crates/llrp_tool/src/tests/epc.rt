@@ -1,6 +1,8 @@
 //! Words and their texts, as the command epc prints them.
 
-use crate::{Output, ToolErr, Verdict, run_epc};
+use crate::{Output, Verdict, run_epc};
+use std::alloc::Global;
+use std::process::Abort;
 use std::test::*;
 
 /// Words with a tag URI: their digits and that text, each of which gives the other.
@@ -31,14 +33,38 @@ const TAGS: [(&str, &str); 6] = [
     ),
 ];
 
-/// Words without a tag URI: their digits, and why.
-const RAW: [(&str, &str); 6] = [
-    ("320000000000060000000000", "# Reference 54"),
-    ("3003A3529440000000000000", "# Prefix 14"),
-    ("307C00000000000000000000", "# Partition 11"),
-    ("3114257BF400000001000001", "# Zeros 72"),
-    ("2C0000000000000000000000", "# Header 0"),
-    ("2D0000000000000000000000", "# Header 0"),
+/// Words without a tag URI: their digits, their raw URI, and why.
+const RAW: [(&str, &str, &str); 6] = [
+    (
+        "320000000000060000000000",
+        "urn:epc:raw:96.x320000000000060000000000",
+        "# Reference 54",
+    ),
+    (
+        "3003A3529440000000000000",
+        "urn:epc:raw:96.x3003A3529440000000000000",
+        "# Prefix 14",
+    ),
+    (
+        "307C00000000000000000000",
+        "urn:epc:raw:96.x307C00000000000000000000",
+        "# Partition 11",
+    ),
+    (
+        "3114257BF400000001000001",
+        "urn:epc:raw:96.x3114257BF400000001000001",
+        "# Zeros 72",
+    ),
+    (
+        "2C0000000000000000000000",
+        "urn:epc:raw:96.x2C0000000000000000000000",
+        "# Header 0",
+    ),
+    (
+        "2D0000000000000000000000",
+        "urn:epc:raw:96.x2D0000000000000000000000",
+        "# Header 0",
+    ),
 ];
 
 /// Texts that are no word's, and why.
@@ -64,56 +90,55 @@ const REFUSED: [(&str, &str); 13] = [
     ("35FFFFFFFFFFFFFFFFFFFFFG", "! Start"),
 ];
 
-/// What is printed of a text, and the verdict.
-fn printed(rt: &HostRuntime, text: &str) -> Result<(Vec<u8>, Verdict), ToolErr> {
-    let mut w = Output::new(Vec::new(rt.alloc()));
-    let verdict = run_epc(rt.alloc(), text, &mut w)?;
-    Ok((w.into_inner(), verdict))
-}
-
-#[test]
-fn tag_uris_with_ample_memory(rt: HostRuntime) -> Result<(), Fail> {
-    for (digits, text) in TAGS {
-        let (lines, verdict) = printed(&rt, digits)?;
-        assert!(rt; lines.as_slice() == format!(in rt.alloc(); "{text}\n")?.as_bytes());
-        assert_eq!(rt; verdict, Verdict::Lawful);
-        let (lines, verdict) = printed(&rt, text)?;
-        assert!(rt; lines.as_slice() == format!(in rt.alloc(); "{digits}\n")?.as_bytes());
-        assert_eq!(rt; verdict, Verdict::Lawful);
+/// These lines are printed of a text, with this verdict.
+fn prints(
+    rt: &impl Abort,
+    alloc: Global,
+    text: &str,
+    lines: &[&str],
+    verdict: Verdict,
+) -> Result<(), Fail> {
+    let mut printed = Output::new(Vec::new(alloc));
+    assert!(rt; run_epc(alloc, text, &mut printed) == Ok(verdict), "{text}");
+    let mut expected = Vec::new(alloc);
+    for line in lines {
+        expected.extend_from_slice(line.as_bytes())?;
+        expected.push(b'\n')?;
     }
-    let (lines, _) = printed(&rt, "30e3a352943ffe7fffffffff")?;
     assert!(rt;
-        lines.as_slice() == b"urn:epc:tag:sgtin-96:7.999999999999.9.274877906943\n".as_slice()
+        printed.into_inner().as_slice() == expected.as_slice(),
+        "{text}"
     );
     Ok(())
 }
 
 #[test]
+fn tag_uris_with_ample_memory(rt: HostRuntime) -> Result<(), Fail> {
+    let alloc = rt.alloc();
+    for (digits, text) in TAGS {
+        prints(&rt, alloc, digits, &[text], Verdict::Lawful)?;
+        prints(&rt, alloc, text, &[digits], Verdict::Lawful)?;
+    }
+    let lower_case = "30e3a352943ffe7fffffffff";
+    let text = "urn:epc:tag:sgtin-96:7.999999999999.9.274877906943";
+    prints(&rt, alloc, lower_case, &[text], Verdict::Lawful)
+}
+
+#[test]
 fn raw_uris_with_remarks(rt: HostRuntime) -> Result<(), Fail> {
-    for (digits, remark) in RAW {
-        let (lines, verdict) = printed(&rt, digits)?;
-        assert!(rt;
-            lines.as_slice()
-                == format!(in rt.alloc(); "urn:epc:raw:96.x{digits}\n{remark}\n")?.as_bytes()
-        );
-        assert_eq!(rt; verdict, Verdict::Lawful);
-        let text = format!(in rt.alloc(); "urn:epc:raw:96.x{digits}")?;
-        let (lines, verdict) = printed(&rt, text.as_str())?;
-        assert!(rt; lines.as_slice() == format!(in rt.alloc(); "{digits}\n")?.as_bytes());
-        assert_eq!(rt; verdict, Verdict::Lawful);
+    let alloc = rt.alloc();
+    for (digits, text, remark) in RAW {
+        prints(&rt, alloc, digits, &[text, remark], Verdict::Lawful)?;
+        prints(&rt, alloc, text, &[digits], Verdict::Lawful)?;
     }
     Ok(())
 }
 
 #[test]
 fn refused_texts(rt: HostRuntime) -> Result<(), Fail> {
+    let alloc = rt.alloc();
     for (text, line) in REFUSED {
-        let (lines, verdict) = printed(&rt, text)?;
-        assert!(rt;
-            lines.as_slice() == format!(in rt.alloc(); "{line}\n")?.as_bytes(),
-            "{text}"
-        );
-        assert_eq!(rt; verdict, Verdict::Faulty);
+        prints(&rt, alloc, text, &[line], Verdict::Faulty)?;
     }
     Ok(())
 }
