@@ -137,7 +137,8 @@ given_event DeliversDown h = tt
 given_event (Sees now g) h = tt
 given_event (Ticks now) h = tt
 
-given_events : (events : List WorldEvent) → AreGiven events → AreOfRoSpecs events
+-- what is given adds no other parameter in a ROSpec's place
+pub given_events : (events : List WorldEvent) → AreGiven events → AreOfRoSpecs events
 given_events [] h = tt
 given_events (e ∷ es) h = (given_event e h.0, given_events es h.1)
 

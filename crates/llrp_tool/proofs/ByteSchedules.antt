@@ -11,8 +11,6 @@ use Rattle.llrp_tree.specs.FirstFault.{octets_at}
 use Rattle.llrp_tree.proofs.LengthLemmas.{length-message_digits}
 use Rattle.llrp_tree.proofs.ReadDigits.{length-octets_at, are_octets_at, octets_spelled}
 use Rattle.llrp_stream.specs.Cuts.{IsPartial}
-use Rattle.llrp_session.specs.declared.words.Command.{Command}
-use Rattle.llrp_session.specs.declared.words.Command.TheVariants.{Add, Delete, Start, Stop, Enable, Disable, SetKeepalive, GetReport, Close}
 use Rattle.llrp_session.specs.Refusal.{Refusal}
 use Rattle.llrp_session.specs.Agreement.{IsTaken}
 use Rattle.llrp_session.specs.MessageAgreement.{MessagesAreTaken, IsOnTheWay, ReaderHasHistory, OneActive}
@@ -21,11 +19,10 @@ use Rattle.llrp_session.specs.ReaderMachine.{Reader}
 use Rattle.llrp_session.specs.ClientMessages.{client_message}
 use Rattle.llrp_session.specs.Reading.{heard_of}
 use Rattle.llrp_session.specs.Table.{states}
-use Rattle.llrp_session.specs.LawfulWords.{IsSendable, AddsRoSpec}
-use Rattle.llrp_session.specs.LawfulStates.{IsGivenCommand}
-use Rattle.llrp_session.specs.World.{WorldEvent, Connects, Commands, DeliversUp, DeliversDown, Sees, Ticks, tags_handed_out}
-use Rattle.llrp_session.specs.MessageWorld.{MessageWorld, tags_in_messages, took, message_happens, run_messages, message_opening, IsGiven, AreGiven, IsOfRoSpecs, AreOfRoSpecs, AreSendable}
-use Rattle.llrp_session.proofs.SendableWorlds.{sent_up, sent_down}
+use Rattle.llrp_session.specs.LawfulWords.{IsSendable}
+use Rattle.llrp_session.specs.World.{WorldEvent, tags_handed_out}
+use Rattle.llrp_session.specs.MessageWorld.{MessageWorld, tags_in_messages, took, message_happens, run_messages, message_opening, AreGiven, AreSendable}
+use Rattle.llrp_session.proofs.SendableWorlds.{given_events, sent_up, sent_down}
 use Rattle.llrp_session.proofs.MessagesAgree as messages
 use Rattle.llrp_tool.specs.Sending.{AreFrames}
 use Rattle.llrp_tool.specs.ByteWorld.{Way, ByteWorld, ByteEvent, Happens, ReadsUp, ReadsDown, Sends, Steps, Runs, apart, reader_hears, client_hears, byte_opening, IsGivenEvent, AreGivenEvents}
@@ -51,29 +48,6 @@ given_up now (m ∷ ms) g = (g, given_up now ms g)
 given_down : (ms : List MessageTree) → AreGiven (to_client ms)
 given_down [] = tt
 given_down (m ∷ ms) = (tt, given_down ms)
-
-given_adds : (k : Command) → IsGivenCommand k → AddsRoSpec k
-given_adds (Add spec) h = h.0
-given_adds (Delete id) h = tt
-given_adds (Start id) h = tt
-given_adds (Stop id) h = tt
-given_adds (Enable id) h = tt
-given_adds (Disable id) h = tt
-given_adds (SetKeepalive ms) h = tt
-given_adds GetReport h = tt
-given_adds Close h = tt
-
-of_rospec : (e : WorldEvent) → IsGiven e → IsOfRoSpecs e
-of_rospec (Connects now) h = tt
-of_rospec (Commands k) h = given_adds k h
-of_rospec (DeliversUp now) h = tt
-of_rospec DeliversDown h = tt
-of_rospec (Sees now g) h = tt
-of_rospec (Ticks now) h = tt
-
-of_rospecs : (es : List WorldEvent) → AreGiven es → AreOfRoSpecs es
-of_rospecs [] h = tt
-of_rospecs (e ∷ es) h = (of_rospec e h.0, of_rospecs es h.1)
 
 -- ---- messages have frames
 
@@ -222,14 +196,14 @@ nothing_is_unexpected s w g r n new heard reads =
     let p = reached s w g r in
     let m : MessageWorld = run_messages p.events (start_of s) in
     let way = has_read s.limit n m.down heard w.down new (may_send s g p.events p.given).1 p.in_bytes.down reads in
-    let all : MessagesAreTaken (heard ++ way.rest) m.client = subst (λ (ms : List MessageTree). MessagesAreTaken ms m.client) way.parts (messages.nothing_is_unexpected s.limit s.reader_first s.client_first p.events (of_rospecs p.events p.given)) in
+    let all : MessagesAreTaken (heard ++ way.rest) m.client = subst (λ (ms : List MessageTree). MessagesAreTaken ms m.client) way.parts (messages.nothing_is_unexpected s.limit s.reader_first s.client_first p.events (given_events p.events p.given)) in
     subst (λ (ends : MessageWorld). MessagesAreTaken heard ends.client) (sym p.in_bytes.ends) (first_taken heard way.rest m.client all)
 
 pub view_is_table : AfterAllBytes ViewIsTable
 view_is_table s w g r e =
     let p = reached s w g r in
     subst (λ (ends : MessageWorld). ends.client.view ≡ states ends.reader.table) (sym p.in_bytes.ends)
-    (messages.view_is_table s.limit s.reader_first s.client_first p.events (of_rospecs p.events p.given) (none_coming _ w.down p.in_bytes.down p.down e))
+    (messages.view_is_table s.limit s.reader_first s.client_first p.events (given_events p.events p.given) (none_coming _ w.down p.in_bytes.down p.down e))
 
 -- the reader is as it was
 reader_kept : (ms : List MessageTree) (w : MessageWorld) → (client_hears ms w).reader ≡ w.reader
@@ -272,7 +246,7 @@ reports_arrive s w g r down is =
     let m : MessageWorld = run_messages p.events (start_of s) in
     subst (λ (ends : MessageWorld). ends.handed_out ++ tags_in_messages down ≡ ends.reported) (sym p.in_bytes.ends)
     (subst (λ (ms : List MessageTree). m.handed_out ++ tags_in_messages ms ≡ m.reported) (same_way m.down down w.down p.in_bytes.down is)
-    (messages.reports_arrive s.limit s.reader_first s.client_first p.events (of_rospecs p.events p.given)))
+    (messages.reports_arrive s.limit s.reader_first s.client_first p.events (given_events p.events p.given)))
 
 pub reports_are_kept : AfterAllBytes ReportsAreKept
 reports_are_kept s w g r down is =
@@ -280,18 +254,18 @@ reports_are_kept s w g r down is =
     let m : MessageWorld = run_messages p.events (start_of s) in
     subst (λ (ends : MessageWorld). (ends.handed_out ++ tags_in_messages down) ++ ends.reader.held ≡ ends.kept) (sym p.in_bytes.ends)
     (subst (λ (ms : List MessageTree). (m.handed_out ++ tags_in_messages ms) ++ m.reader.held ≡ m.kept) (same_way m.down down w.down p.in_bytes.down is)
-    (messages.reports_are_kept s.limit s.reader_first s.client_first p.events (of_rospecs p.events p.given)))
+    (messages.reports_are_kept s.limit s.reader_first s.client_first p.events (given_events p.events p.given)))
 
 pub reader_has_history : AfterAllBytes (λ w. ReaderHasHistory w.ends)
 reader_has_history s w g r =
     let p = reached s w g r in
-    let h = messages.reader_has_history s.limit s.reader_first s.client_first p.events (of_rospecs p.events p.given) in
+    let h = messages.reader_has_history s.limit s.reader_first s.client_first p.events (given_events p.events p.given) in
     subst ReaderHasHistory (sym p.in_bytes.ends) (record { limit = h.limit; first_id = h.first_id; events = h.events; reader = h.reader; reported = h.reported; kept = h.kept })
 
 pub one_active : AfterAllBytes (λ w. OneActive w.ends)
 one_active s w g r =
     let p = reached s w g r in
-    subst OneActive (sym p.in_bytes.ends) (messages.one_active s.limit s.reader_first s.client_first p.events (of_rospecs p.events p.given))
+    subst OneActive (sym p.in_bytes.ends) (messages.one_active s.limit s.reader_first s.client_first p.events (given_events p.events p.given))
 
 pub pending_is_on_the_way : AfterAllBytes PendingIsOnTheWay
 pending_is_on_the_way s w g r up down goes comes =
@@ -300,10 +274,10 @@ pending_is_on_the_way s w g r up down goes comes =
     subst (λ (ends : MessageWorld). IsOnTheWay ends.client.pending up down) (sym p.in_bytes.ends)
     (subst (λ (ms : List MessageTree). IsOnTheWay m.client.pending ms down) (same_way m.up up w.up p.in_bytes.up goes)
     (subst (λ (ms : List MessageTree). IsOnTheWay m.client.pending m.up ms) (same_way m.down down w.down p.in_bytes.down comes)
-    (messages.pending_is_on_the_way s.limit s.reader_first s.client_first p.events (of_rospecs p.events p.given))))
+    (messages.pending_is_on_the_way s.limit s.reader_first s.client_first p.events (given_events p.events p.given))))
 
 pub nothing_is_pending : AfterAllBytes NothingIsPending
 nothing_is_pending s w g r up down =
     let p = reached s w g r in
     subst (λ (ends : MessageWorld). ends.client.pending ≡ None) (sym p.in_bytes.ends)
-    (messages.nothing_is_pending s.limit s.reader_first s.client_first p.events (of_rospecs p.events p.given) (none_coming _ w.up p.in_bytes.up p.up up) (none_coming _ w.down p.in_bytes.down p.down down))
+    (messages.nothing_is_pending s.limit s.reader_first s.client_first p.events (given_events p.events p.given) (none_coming _ w.up p.in_bytes.up p.up up) (none_coming _ w.down p.in_bytes.down p.down down))
