@@ -102,21 +102,49 @@ pub record SoFar (limit : ℕ) (plan : Plan) (r0 r1 : SourceLog) (w0 w1 t0 t1 : 
   pub sent_on : out ≡ []
   pub told_on : lines ≡ []
 
-pub begins : (limit : ℕ) (plan : Plan) (r : SourceLog) (w t : SinkLog) (g : Gathering) (out lines : List ℕ) → IsOpen limit plan [] [] (begun limit plan) g → out ≡ [] → lines ≡ [] → SoFar limit plan r r w w t t 0 g out lines
-begins limit plan r w t g out lines opened no_frames no_text = record {
+-- The same, of whatever plan the client followed when it began.
+pub record Following (r0 r1 : SourceLog) (w0 w1 t0 t1 : SinkLog) (n : ℕ) (first g : Gathering) (out lines : List ℕ) : Type 0 where
+  pub bytes : List ℕ
+  pub gave : Gave r0 r1 n bytes
+  pub frames : List ℕ
+  pub text : List ℕ
+  pub sent : Wrote w0 w1 frames
+  pub told : Wrote t0 t1 text
+  pub sent_on : out ≡ []
+  pub told_on : lines ≡ []
+  pub follows : (limit : ℕ) (plan : Plan) → IsOpen limit plan [] [] (begun limit plan) first → (rest : List ℕ) × (course : Course) × IsOpen limit plan bytes rest course g × Says course frames text
+
+pub begins : (r : SourceLog) (w t : SinkLog) (g : Gathering) (out lines : List ℕ) → out ≡ [] → lines ≡ [] → Following r r w w t t 0 g g out lines
+begins r w t g out lines no_frames no_text = record {
   bytes = [];
   gave = gave_nothing r;
-  rest = [];
-  course = begun limit plan;
-  open_still = opened;
   frames = [];
   text = [];
-  says = says_nothing limit plan;
   sent = wrote_nothing w;
   told = wrote_nothing t;
   sent_on = no_frames;
   told_on = no_text;
+  follows = λ limit plan opened. ([], begun limit plan, opened, says_nothing limit plan);
 }
+
+pub so_far : (limit : ℕ) (plan : Plan) (r0 r1 : SourceLog) (w0 w1 t0 t1 : SinkLog) (n : ℕ) (first g : Gathering) (out lines : List ℕ) → Following r0 r1 w0 w1 t0 t1 n first g out lines → IsOpen limit plan [] [] (begun limit plan) first
+    → SoFar limit plan r0 r1 w0 w1 t0 t1 n g out lines
+so_far limit plan r0 r1 w0 w1 t0 t1 n first g out lines f opened =
+    let now = f.follows limit plan opened in
+    record {
+      bytes = f.bytes;
+      gave = f.gave;
+      rest = now.0;
+      course = now.1;
+      open_still = now.2;
+      frames = f.frames;
+      text = f.text;
+      says = now.3;
+      sent = f.sent;
+      told = f.told;
+      sent_on = f.sent_on;
+      told_on = f.told_on;
+    }
 
 -- all frames of the bytes were taken
 pub awaits : (limit : ℕ) (plan : Plan) (bytes rest : List ℕ) (course : Course) (g : Gathering) → IsOpen limit plan bytes rest course g → Awaits limit plan bytes course
@@ -281,23 +309,31 @@ piece_closed limit plan r0 r1 r2 w0 w1 w2 t0 t1 t2 n g new out0 out1 lines0 line
     let e = p.feeds in
     (p.before.bytes ++ p.bytes, (given_piece limit plan r0 r1 r2 w0 w1 t0 t1 n g new out0 out1 lines0 lines1 (Ok true) p, e.1, (e.0, e.2, e.3), wrote_piece limit plan r0 r1 r2 w0 w1 w2 t0 t1 t2 n g new out0 out1 lines0 lines1 (Ok true) p e.1 e.5 sent told, counts e.1.reports e.4))
 
-pub piece_open : (limit : ℕ) (plan : Plan) (r0 r1 r2 : SourceLog) (w0 w1 w2 t0 t1 t2 : SinkLog) (n : ℕ) (g new : Gathering) (out0 out1 lines0 lines1 : List ℕ) (out2 lines2 : List ℕ) (answer : Bool) → Piece limit plan r0 r1 r2 w0 w1 t0 t1 n g new out0 out1 lines0 lines1 (Ok answer) → answer ≡ false
-    → Wrote w1 w2 out1 → Wrote t1 t2 lines1 → out2 ≡ [] → lines2 ≡ [] → SoFar limit plan r0 r2 w0 w2 t0 t2 (n + 1) new out2 lines2
-piece_open limit plan r0 r1 r2 w0 w1 w2 t0 t1 t2 n g new out0 out1 lines0 lines1 out2 lines2 true p not_yet sent told no_frames no_text = absurd cc
-piece_open limit plan r0 r1 r2 w0 w1 w2 t0 t1 t2 n g new out0 out1 lines0 lines1 out2 lines2 false p not_yet sent told no_frames no_text =
+-- the course goes on
+piece_goes : (limit : ℕ) (plan : Plan) (r0 r1 r2 : SourceLog) (w0 w1 t0 t1 : SinkLog) (n : ℕ) (g new : Gathering) (out0 out1 lines0 lines1 : List ℕ) (answer : Bool) (p : Piece limit plan r0 r1 r2 w0 w1 t0 t1 n g new out0 out1 lines0 lines1 (Ok answer)) → answer ≡ false
+    → (rest : List ℕ) × (course : Course) × IsOpen limit plan (p.before.bytes ++ p.bytes) rest course new × Says course (p.before.frames ++ out1) (p.before.text ++ lines1)
+piece_goes limit plan r0 r1 r2 w0 w1 t0 t1 n g new out0 out1 lines0 lines1 true p not_yet = absurd cc
+piece_goes limit plan r0 r1 r2 w0 w1 t0 t1 n g new out0 out1 lines0 lines1 false p not_yet =
     let e = p.feeds in
-    let all = wrote_piece limit plan r0 r1 r2 w0 w1 w2 t0 t1 t2 n g new out0 out1 lines0 lines1 (Ok false) p e.1 e.3 sent told in
-    record {
-      bytes = p.before.bytes ++ p.bytes;
-      gave = p.gave;
-      rest = e.0;
-      course = e.1;
-      open_still = record { stands = e.2; phase = p.phase_is };
-      frames = all.0;
-      text = all.1;
-      says = all.2;
-      sent = all.3;
-      told = all.4;
-      sent_on = no_frames;
-      told_on = no_text;
-    }
+    let f = p.before in
+    (e.0, e.1, record { stands = e.2; phase = p.phase_is }, goes_on_saying f.course e.1 f.frames f.text out0 out1 lines0 lines1 f.says f.open_still.stands.open_is f.sent_on f.told_on e.3)
+
+pub piece_open : (r0 r1 r2 : SourceLog) (w0 w1 w2 t0 t1 t2 : SinkLog) (n : ℕ) (first g new : Gathering) (out0 out1 out2 lines0 lines1 lines2 bytes : List ℕ) (answer : Bool) → Following r0 r1 w0 w1 t0 t1 n first g out0 lines0 → n < MOST_READS
+    → Took r1 r2 bytes → 0 < length bytes
+    → ((limit : ℕ) (plan : Plan) (before rest : List ℕ) (c : Course) → IsOpen limit plan before rest c g → Feeds limit plan (before ++ bytes) c new out0 out1 lines0 lines1 (Ok answer))
+    → (g.phase ≡ Open → new.phase ≡ phase_left (Ok answer))
+    → answer ≡ false → Wrote w1 w2 out1 → Wrote t1 t2 lines1 → out2 ≡ [] → lines2 ≡ [] → Following r0 r2 w0 w2 t0 t2 (n + 1) first new out2 lines2
+unfolding piece so_far
+piece_open r0 r1 r2 w0 w1 w2 t0 t1 t2 n first g new out0 out1 out2 lines0 lines1 lines2 bytes answer f few took some feeds phase not_yet sent told no_frames no_text = record {
+  bytes = f.bytes ++ bytes;
+  gave = read_more r0 r1 r2 n f.bytes bytes f.gave took some;
+  frames = f.frames ++ out1;
+  text = f.text ++ lines1;
+  sent = wrote_more w0 w1 w2 f.frames out1 f.sent sent;
+  told = wrote_more t0 t1 t2 f.text lines1 f.told told;
+  sent_on = no_frames;
+  told_on = no_text;
+  follows = λ limit plan opened.
+      let now = so_far limit plan r0 r1 w0 w1 t0 t1 n first g out0 lines0 f opened in
+      piece_goes limit plan r0 r1 r2 w0 w1 t0 t1 n g new out0 out1 lines0 lines1 answer (piece limit plan r0 r1 r2 w0 w1 t0 t1 n g new out0 out1 lines0 lines1 bytes (Ok answer) now few took some feeds phase) not_yet;
+}

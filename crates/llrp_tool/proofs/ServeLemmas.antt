@@ -1,5 +1,5 @@
 -- Serving a client over a source and a sink.
-use Rattle.std.proofs.Common.{◌≡◌, ℕ, ◌+◌, ◌<◌, ◌≤◌, Bool, true, false, List, [], ◌∷◌, ◌++◌, length, map, Result, Ok, Err, sym, ap, subst, ◌∙◌, append_assoc, inl, inr, arith}
+use Rattle.std.proofs.Common.{◌≡◌, ◌≢◌, ℕ, ◌+◌, ◌<◌, ◌≤◌, Bool, true, false, List, [], ◌∷◌, ◌++◌, length, map, Result, Ok, Err, sym, ap, subst, ◌∙◌, append_assoc, inl, inr, arith}
 use Rattle.std.proofs.lemmas.List.{append-nil}
 use Rattle.std.specs.Io.KnownBytes.{Consumes}
 use Rattle.llrp_tree.specs.Tree.{MessageTree}
@@ -9,12 +9,13 @@ use Rattle.llrp_listing.specs.declared.fault.ToolErr.{ToolErr}
 use Rattle.llrp_listing.specs.declared.fault.ToolErr.TheVariants.{Listing, Script, Hex, Read, Write, Bound, Broken, Memory, Peer, Strange, Early}
 use Rattle.llrp_tool.specs.declared.script.Entry.{Entry}
 use Rattle.llrp_tool.specs.declared.serving.Serving.{Serving}
-use Rattle.llrp_listing.specs.Copying.{MOST_READS, ReadAll, Writes, WasGiven}
+use Rattle.llrp_tool.specs.declared.serving.Phase.TheVariants.{New}
+use Rattle.llrp_listing.specs.Copying.{MOST_READS, GaveAndFailed, ReadAll, Writes, WasGiven}
 use Rattle.llrp_tool.specs.Serving.{Happening, happening, entries_at, closing_events, run, said, waiting, broken, StaysOpen, HasClosed, BeginsServing}
 use Rattle.llrp_tool.proofs.ServingEvents.{events-snoc}
 use Rattle.llrp_tool.specs.Sending.{AreFrames, Adds}
-use Rattle.llrp_tool.specs.ServingStands.{IsOpen, Starts, Feeds, Goes, Finishes}
-use Rattle.llrp_tool.specs.RunServe.{BeginsFrames, RunsServe}
+use Rattle.llrp_tool.specs.ServingStands.{IsFresh, IsOpen, Starts, Feeds, Goes, Finishes}
+use Rattle.llrp_tool.specs.RunServe.{BeginsFrames, RunsServe, WroteAll}
 use Rattle.llrp_tool.proofs.ActingLemmas.{said-append}
 use Rattle.llrp_tool.proofs.SendingLemmas.{frames_append}
 use Rattle.llrp_listing.proofs.DeviceLemmas.{consumes_more, gave_nothing, read_more, wrote_nothing, wrote_more, wrote_then_failed}
@@ -114,17 +115,52 @@ pub start_failed : (reader : Reader) (entries : List Entry) (r : SourceLog) (w0 
     → Wrote w0 w1 out → (bytes : List ℕ) × RunsServe reader entries r r w0 w1 bytes (Err error)
 start_failed reader entries r w0 w1 s old out error none h w = ([], rw h.0 (give_none r, out, begins_start reader entries s old out (Err error) none h, w))
 
-pub started : (reader : Reader) (entries : List Entry) (r : SourceLog) (w0 w1 : SinkLog) (s : Serving) (old out left : List ℕ) (u : Unit {0}) → old ≡ [] → Starts reader entries s old out (Ok u) → Wrote w0 w1 out → left ≡ [] → SoFar reader entries r r w0 w1 0 s left
-started reader entries r w0 w1 s old out left u none h w empty = record {
+-- The same, of whatever reader and script served when it began.
+pub record Following (r0 r1 : SourceLog) (w0 w1 : SinkLog) (n : ℕ) (first s : Serving) (out : List ℕ) : Type 0 where
+  pub bytes : List ℕ
+  pub gave : Gave r0 r1 n bytes
+  pub text : List ℕ
+  pub wrote : Wrote w0 w1 text
+  pub handed_on : out ≡ []
+  pub started : s.phase ≢ New
+  pub serves : (reader : Reader) (entries : List Entry) → IsFresh reader entries first → (messages : List MessageTree) × IsOpen reader entries bytes messages s × AreFrames messages text
+
+pub started : (r : SourceLog) (w0 w1 : SinkLog) (first s : Serving) (old out left : List ℕ) (u : Unit {0}) → old ≡ [] → ((reader : Reader) (entries : List Entry) → IsFresh reader entries first → Starts reader entries s old out (Ok u)) → s.phase ≢ New → Wrote w0 w1 out → left ≡ []
+    → Following r r w0 w1 0 first s left
+started r w0 w1 first s old out left u none starts begun w empty = record {
   bytes = [];
   gave = gave_nothing r;
-  messages = h.0;
   text = out;
-  open_still = h.2;
-  frames = nothing_before h.0 old out none h.1;
   wrote = w;
   handed_on = empty;
+  started = begun;
+  serves = λ reader entries fresh. let h = starts reader entries fresh in (h.0, h.2, nothing_before h.0 old out none h.1);
 }
+
+pub so_far : (reader : Reader) (entries : List Entry) (r0 r1 : SourceLog) (w0 w1 : SinkLog) (n : ℕ) (first s : Serving) (out : List ℕ) → Following r0 r1 w0 w1 n first s out → IsFresh reader entries first → SoFar reader entries r0 r1 w0 w1 n s out
+so_far reader entries r0 r1 w0 w1 n first s out f fresh =
+    let now = f.serves reader entries fresh in
+    record {
+      bytes = f.bytes;
+      gave = f.gave;
+      messages = now.0;
+      text = f.text;
+      open_still = now.1;
+      frames = now.2;
+      wrote = f.wrote;
+      handed_on = f.handed_on;
+    }
+
+-- all that was said so far was written
+pub wrote_so_far : (reader : Reader) (entries : List Entry) (r0 r1 : SourceLog) (w0 w1 : SinkLog) (n : ℕ) (s : Serving) (out : List ℕ) (f : SoFar reader entries r0 r1 w0 w1 n s out) → WroteAll reader entries f.bytes waiting w0 w1
+wrote_so_far reader entries r0 r1 w0 w1 n s out f = record { messages = f.messages; text = f.text; serves = f.open_still.stands.stays; frames = f.frames; wrote = f.wrote }
+
+pub read_failed : (reader : Reader) (entries : List Entry) (r0 r1 r2 : SourceLog) (w0 w1 : SinkLog) (n : ℕ) (s : Serving) (out : List ℕ) → SoFar reader entries r0 r1 w0 w1 n s out → ((bytes : List ℕ) → Gave r0 r1 n bytes → GaveAndFailed r0 r2 n bytes)
+    → (bytes : List ℕ) × RunsServe reader entries r0 r2 w0 w1 bytes (Err Read)
+read_failed reader entries r0 r1 r2 w0 w1 n s out f fails = (f.bytes, ((n, fails f.bytes f.gave), wrote_so_far reader entries r0 r1 w0 w1 n s out f))
+
+pub too_long : (reader : Reader) (entries : List Entry) (r0 r1 : SourceLog) (w0 w1 : SinkLog) (n : ℕ) (s : Serving) (out : List ℕ) → SoFar reader entries r0 r1 w0 w1 n s out → n ≡ MOST_READS → (bytes : List ℕ) × RunsServe reader entries r0 r1 w0 w1 bytes (Err Bound)
+too_long reader entries r0 r1 w0 w1 n s out f most = (f.bytes, (subst (λ (k : ℕ). Gave r0 r1 k f.bytes) most f.gave, wrote_so_far reader entries r0 r1 w0 w1 n s out f))
 
 -- ---- a piece
 
@@ -213,18 +249,27 @@ piece_closed reader entries r0 r1 r2 w0 w1 w2 n s new old out true u p is w = (
   ),
 )
 
-pub piece_open : (reader : Reader) (entries : List Entry) (r0 r1 r2 : SourceLog) (w0 w1 w2 : SinkLog) (n : ℕ) (s new : Serving) (old out left : List ℕ) (answer : Bool) → Piece reader entries r0 r1 r2 w0 w1 n s new old out (Ok answer) → answer ≡ false
-    → Wrote w1 w2 out → left ≡ [] → SoFar reader entries r0 r2 w0 w2 (n + 1) new left
-piece_open reader entries r0 r1 r2 w0 w1 w2 n s new old out left true p not_yet w empty = absurd cc
-piece_open reader entries r0 r1 r2 w0 w1 w2 n s new old out left false p not_yet w empty = record {
-  bytes = p.before.bytes ++ p.bytes;
-  gave = p.gave;
-  messages = p.before.messages ++ p.feeds.0;
-  text = p.before.text ++ out;
-  open_still = record { stands = p.feeds.2; phase = p.feeds.3 };
-  frames = all_frames reader entries r0 r1 r2 w0 w1 n s new old out (Ok false) p;
-  wrote = wrote_more w0 w1 w2 p.before.text out p.before.wrote w;
+-- serving goes on
+piece_goes : (reader : Reader) (entries : List Entry) (r0 r1 r2 : SourceLog) (w0 w1 : SinkLog) (n : ℕ) (s new : Serving) (old out : List ℕ) (answer : Bool) (p : Piece reader entries r0 r1 r2 w0 w1 n s new old out (Ok answer)) → answer ≡ false
+    → (messages : List MessageTree) × IsOpen reader entries (p.before.bytes ++ p.bytes) messages new × AreFrames messages (p.before.text ++ out)
+piece_goes reader entries r0 r1 r2 w0 w1 n s new old out true p not_yet = absurd cc
+piece_goes reader entries r0 r1 r2 w0 w1 n s new old out false p not_yet =
+    (p.before.messages ++ p.feeds.0, record { stands = p.feeds.2; phase = p.feeds.3 }, all_frames reader entries r0 r1 r2 w0 w1 n s new old out (Ok false) p)
+
+pub piece_open : (r0 r1 r2 : SourceLog) (w0 w1 w2 : SinkLog) (n : ℕ) (first s new : Serving) (old out left bytes : List ℕ) (answer : Bool) → Following r0 r1 w0 w1 n first s old → n < MOST_READS → Took r1 r2 bytes → 0 < length bytes
+    → ((reader : Reader) (entries : List Entry) (before : List ℕ) (messages : List MessageTree) → IsOpen reader entries before messages s → Feeds reader entries before messages bytes new old out (Ok answer))
+    → new.phase ≢ New → answer ≡ false → Wrote w1 w2 out → left ≡ [] → Following r0 r2 w0 w2 (n + 1) first new left
+unfolding piece so_far
+piece_open r0 r1 r2 w0 w1 w2 n first s new old out left bytes answer f few took some feeds begun not_yet w empty = record {
+  bytes = f.bytes ++ bytes;
+  gave = read_more r0 r1 r2 n f.bytes bytes f.gave took some;
+  text = f.text ++ out;
+  wrote = wrote_more w0 w1 w2 f.text out f.wrote w;
   handed_on = empty;
+  started = begun;
+  serves = λ reader entries fresh.
+      let now = so_far reader entries r0 r1 w0 w1 n first s old f fresh in
+      piece_goes reader entries r0 r1 r2 w0 w1 n s new old out answer (piece reader entries r0 r1 r2 w0 w1 n s new old out bytes (Ok answer) now few took some feeds) not_yet;
 }
 
 -- ---- the end of the input

@@ -47,9 +47,13 @@ number_rule name default = record (new_rule name) { long = Some name; value_name
 abbrev pub with_plan : App → App
 with_plan a = with_rule (with_rule a (number_rule (codes "every") (codes "0"))) (number_rule (codes "polls") (codes "1"))
 
+-- a command with the reader's name or address, and its port
+abbrev pub with_address : App → App
+with_address a = with_rule (with_rule a host_rule) port_rule
+
 -- inventory HOST PORT, with a plan
 abbrev pub inventory_app : App
-inventory_app = with_plan (with_rule (with_rule (new_app (codes "inventory")) host_rule) port_rule)
+inventory_app = with_plan (with_address (new_app (codes "inventory")))
 
 -- loop, with a plan
 abbrev pub loop_app : App

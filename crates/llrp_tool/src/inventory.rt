@@ -1,8 +1,11 @@
 //! Following a plan over a source and two sinks.
 
-ghost use Rattle.std.specs.Prelude.{◌<◌, ◌≤◌, ◌^◌, List, ℕ};
+ghost use Rattle.std.specs.Prelude.{◌≡◌, ◌<◌, ◌≤◌, ◌^◌, [], List, ℕ};
 ghost use Rattle.llrp_stream.specs.Device.{IsFreshSource};
 ghost use Rattle.llrp_tree.specs.declared.TheConstants.{MAX_LIMIT};
+ghost use Rattle.llrp_tool.specs.Gathering.{begun};
+ghost use Rattle.llrp_tool.specs.GatheringStands.{IsOpen};
+ghost use Rattle.llrp_tool.specs.Plan.{Plan as ThePlan};
 ghost use Rattle.llrp_tool.specs.RunInventory.{RunsInventory};
 
 use crate::gathering::Gathering;
@@ -11,6 +14,42 @@ use crate::summary::Summary;
 use llrp_listing::{MOST_READS, READ_SIZE, ToolErr, hand_on};
 use llrp_stream::{Sink, Source};
 use std::alloc::Global;
+
+/// Follows the plan of a client as `Gathering::new` made it, for [`run_inventory`]: what it sends is
+/// gathered in `out` and its lines in `lines`, which are empty at first.
+fn gather<R: Source, W: Sink, T: Sink>(
+    gathering: &mut Gathering,
+    out: &mut Vec<u8>,
+    lines: &mut Vec<u8>,
+    r: &mut R,
+    w: &mut W,
+    report: &mut T,
+) -> Result<Summary, ToolErr>
+    requires no_frames { out.old.items ≡ [] }
+    requires no_lines { lines.old.items ≡ [] }
+    requires source { IsFreshSource (R.log r.old) }
+    requires sink { (W.log w.old).failures < 2 ^ 63 }
+    requires report { (T.log report.old).failures < 2 ^ 63 }
+    ensures { (limit : ℕ) (plan : ThePlan) → IsOpen limit plan [] [] (begun limit plan) gathering.old
+        → (bytes : List ℕ) × RunsInventory limit plan (R.log r.old) (R.log r.new) (W.log w.old) (W.log w.new) (T.log report.old) (T.log report.new) bytes result }
+{
+    let mut buffer = [0u8; READ_SIZE];
+    for _ in 0..MOST_READS {
+        let Ok(n) = r.read(&mut buffer) else {
+            return Err(ToolErr::Read);
+        };
+        if n == 0 {
+            return Err(ToolErr::Early);
+        }
+        let fed = gathering.feed(&buffer[..n], out, lines);
+        hand_on(out, w)?;
+        hand_on(lines, report)?;
+        if fed? {
+            return Ok(gathering.summary());
+        }
+    }
+    Err(ToolErr::Bound)
+}
 
 /// Follows a plan with the reader whose bytes the source gives: what the client sends is written to `w`
 /// and the lines of the tags to `report`, those for what was read before the next read. The limit is the
@@ -38,20 +77,5 @@ pub fn run_inventory<R: Source, W: Sink, T: Sink>(
     let mut gathering = Gathering::new(alloc, plan, limit);
     let mut out = Vec::new(alloc);
     let mut lines = Vec::new(alloc);
-    let mut buffer = [0u8; READ_SIZE];
-    for _ in 0..MOST_READS {
-        let Ok(n) = r.read(&mut buffer) else {
-            return Err(ToolErr::Read);
-        };
-        if n == 0 {
-            return Err(ToolErr::Early);
-        }
-        let fed = gathering.feed(&buffer[..n], &mut out, &mut lines);
-        hand_on(&mut out, w)?;
-        hand_on(&mut lines, report)?;
-        if fed? {
-            return Ok(gathering.summary());
-        }
-    }
-    Err(ToolErr::Bound)
+    gather(&mut gathering, &mut out, &mut lines, r, w, report)
 }

@@ -1,10 +1,10 @@
 //! What the words of the command line ask for.
 
 ghost use Rattle.std.specs.Prelude.{◌≡◌, IfOk, IfSome, List, Some, codes, false, map, true, ℕ};
-ghost use Rattle.clap.specs.Words.{app_of, found_of, rows_of, rule_of, subcommand_rows_of};
+ghost use Rattle.clap.specs.Words.{app_of, found_of, rows_of, rule_of, subcommand_rows_of, with_subcommand};
 ghost use Rattle.clap.specs.declared.builder.command.Command.TheViews.{out-Command};
 ghost use Rattle.llrp_tool.specs.Parse.{HasNumberWord, IsFound, IsNetworkParse, IsParse, IsText};
-ghost use Rattle.llrp_tool.specs.Words.{HasNumber, IsNetwork, IsRequest, NetworkAsked, command_in, hex_app, inventory_app, llrp_app, loop_app, number_rule, parses, port_app, port_rule, streams_app, text_app, with_plan};
+ghost use Rattle.llrp_tool.specs.Words.{HasNumber, IsNetwork, IsRequest, NetworkAsked, command_in, hex_app, inventory_app, llrp_app, loop_app, number_rule, parses, port_app, port_rule, streams_app, text_app, top_app, with_address, with_plan};
 
 mod help;
 
@@ -148,19 +148,27 @@ fn sim_command<'a>(alloc: Global) -> Result<Command<'a>, AllocError>
         .arg(port_argument(alloc, "The port to listen on"))
 }
 
+/// The command with the arguments HOST and PORT.
+fn with_address<'a>(alloc: Global, command: Command<'a>) -> Result<Command<'a>, AllocError>
+    ensures app { IfOk result (λ c. app_of c ≡ with_address (app_of command.entry)) }
+    ensures local { (out-Command command.entry).has_globals ≡ false → IfOk result (λ c. (out-Command c).has_globals ≡ false) }
+{
+    let host = Arg::new(alloc, "HOST")
+        .required(true)
+        .help("The reader's name or address");
+    let port = port_argument(alloc, "The reader's port; LLRP's own is 5084");
+    command.arg(host)?.arg(port)
+}
+
 /// The command inventory.
 fn inventory_command<'a>(alloc: Global) -> Result<Command<'a>, AllocError>
     ensures app { IfOk result (λ c. app_of c ≡ inventory_app) }
     ensures local { IfOk result (λ c. (out-Command c).has_globals ≡ false) }
 {
-    let host = Arg::new(alloc, "HOST")
-        .required(true)
-        .help("The reader's name or address");
     let command = Command::new(alloc, "inventory")
         .about("Print the tags that a reader sees")
-        .after_help(INVENTORY_HELP)
-        .arg(host)?
-        .arg(port_argument(alloc, "The reader's port; LLRP's own is 5084"))?;
+        .after_help(INVENTORY_HELP);
+    let command = with_address(alloc, command)?;
     with_plan(alloc, command)
 }
 
@@ -175,9 +183,9 @@ fn loop_command<'a>(alloc: Global) -> Result<Command<'a>, AllocError>
     with_plan(alloc, command)
 }
 
-/// The program before the commands that it runs itself.
-fn streams_command<'a>(alloc: Global) -> Result<Command<'a>, AllocError>
-    ensures { IfOk result (λ c. app_of c ≡ streams_app) }
+/// The command with show below it.
+fn with_show<'a>(alloc: Global, command: Command<'a>) -> Result<Command<'a>, AllocError>
+    ensures { IfOk result (λ c. app_of c ≡ with_subcommand (app_of command.entry) (hex_app (codes "show")).top) }
 {
     let show = hex_command(
         alloc,
@@ -186,6 +194,13 @@ fn streams_command<'a>(alloc: Global) -> Result<Command<'a>, AllocError>
         "Read hexadecimal digits in place of bytes",
         SHOW_HELP,
     )?;
+    command.subcommand(show)
+}
+
+/// The command with encode below it.
+fn with_encode<'a>(alloc: Global, command: Command<'a>) -> Result<Command<'a>, AllocError>
+    ensures { IfOk result (λ c. app_of c ≡ with_subcommand (app_of command.entry) (hex_app (codes "encode")).top) }
+{
     let encode = hex_command(
         alloc,
         "encode",
@@ -193,6 +208,13 @@ fn streams_command<'a>(alloc: Global) -> Result<Command<'a>, AllocError>
         "Write hexadecimal digits in place of bytes",
         ENCODE_HELP,
     )?;
+    command.subcommand(encode)
+}
+
+/// The command with epc below it.
+fn with_epc<'a>(alloc: Global, command: Command<'a>) -> Result<Command<'a>, AllocError>
+    ensures { IfOk result (λ c. app_of c ≡ with_subcommand (app_of command.entry) (text_app (codes "epc")).top) }
+{
     let epc = text_command(
         alloc,
         "epc",
@@ -200,26 +222,63 @@ fn streams_command<'a>(alloc: Global) -> Result<Command<'a>, AllocError>
         "24 hexadecimal digits, a tag URI or a raw URI",
         EPC_HELP,
     )?;
+    command.subcommand(epc)
+}
+
+/// The command with sim below it.
+fn with_sim<'a>(alloc: Global, command: Command<'a>) -> Result<Command<'a>, AllocError>
+    ensures { IfOk result (λ c. app_of c ≡ with_subcommand (app_of command.entry) (port_app (codes "sim")).top) }
+{
+    let sim = sim_command(alloc)?;
+    command.subcommand(sim)
+}
+
+/// The command with inventory below it.
+fn with_inventory<'a>(alloc: Global, command: Command<'a>) -> Result<Command<'a>, AllocError>
+    ensures { IfOk result (λ c. app_of c ≡ with_subcommand (app_of command.entry) inventory_app.top) }
+{
+    let inventory = inventory_command(alloc)?;
+    command.subcommand(inventory)
+}
+
+/// The command with loop below it.
+fn with_loop<'a>(alloc: Global, command: Command<'a>) -> Result<Command<'a>, AllocError>
+    ensures { IfOk result (λ c. app_of c ≡ with_subcommand (app_of command.entry) loop_app.top) }
+{
+    let both_ends = loop_command(alloc)?;
+    command.subcommand(both_ends)
+}
+
+/// The program before its commands.
+fn top_command<'a>(alloc: Global) -> Result<Command<'a>, AllocError>
+    ensures { IfOk result (λ c. app_of c ≡ top_app) }
+{
     let top = Command::new(alloc, "llrp").bin_name("llrp")?;
-    top.about("Reads and writes streams of LLRP 1.1 messages")
-        .no_binary_name(true)
-        .subcommand_required(true)
-        .subcommand(show)?
-        .subcommand(encode)?
-        .subcommand(epc)
+    Ok(
+        top.about("Reads and writes streams of LLRP 1.1 messages")
+            .no_binary_name(true)
+            .subcommand_required(true),
+    )
+}
+
+/// The program before the commands that it runs itself.
+fn streams_command<'a>(alloc: Global) -> Result<Command<'a>, AllocError>
+    ensures { IfOk result (λ c. app_of c ≡ streams_app) }
+{
+    let top = top_command(alloc)?;
+    let with_first = with_show(alloc, top)?;
+    let with_both = with_encode(alloc, with_first)?;
+    with_epc(alloc, with_both)
 }
 
 /// The words that the program takes.
 fn llrp_command<'a>(alloc: Global) -> Result<Command<'a>, AllocError>
     ensures { IfOk result (λ c. app_of c ≡ llrp_app) }
 {
-    let sim = sim_command(alloc)?;
-    let inventory = inventory_command(alloc)?;
-    let both_ends = loop_command(alloc)?;
-    streams_command(alloc)?
-        .subcommand(sim)?
-        .subcommand(inventory)?
-        .subcommand(both_ends)
+    let streams = streams_command(alloc)?;
+    let with_first = with_sim(alloc, streams)?;
+    let with_both = with_inventory(alloc, with_first)?;
+    with_loop(alloc, with_both)
 }
 
 /// The number of an argument that the parse made sure of.
