@@ -64,21 +64,31 @@ fn faults_of_fields_and_tails(rt: HostRuntime) -> Result<(), Fail> {
     Ok(())
 }
 
+/// The first fault of a TagReportData with children of these kinds and fields, or none.
+fn fault_of_report(
+    alloc: Global,
+    children: &[(ParamKind, u128)],
+) -> Result<Option<NodeFault>, Fail> {
+    let mut nodes = Vec::new(alloc);
+    for (kind, field) in children {
+        nodes.push(leaf(alloc, *kind, &[*field])?)?;
+    }
+    let report = node_of(alloc, ParamKind::TagReportData, &[], &[], nodes)?;
+    Ok(fault_of(report))
+}
+
 #[test]
 fn faults_of_children(rt: HostRuntime) -> Result<(), Fail> {
     let alloc = rt.alloc();
-    let mut children = Vec::new(alloc);
-    children.push(leaf(alloc, ParamKind::UtcTimestamp, &[5])?)?;
-    let misplaced = node_of(alloc, ParamKind::TagReportData, &[], &[], children)?;
-    assert_eq!(rt; fault_of(misplaced), Some(NodeFault::Misplaced));
-    let mut children = Vec::new(alloc);
-    children.push(leaf(alloc, ParamKind::Epc96, &[7])?)?;
-    children.push(leaf(alloc, ParamKind::PeakRssi, &[196])?)?;
-    children.push(leaf(alloc, ParamKind::PeakRssi, &[196])?)?;
-    let two = node_of(alloc, ParamKind::TagReportData, &[], &[], children)?;
-    assert_eq!(rt; fault_of(two), Some(NodeFault::TooMany));
-    let none = node_of(alloc, ParamKind::TagReportData, &[], &[], Vec::new(alloc))?;
-    assert_eq!(rt; fault_of(none), Some(NodeFault::Missing));
+    let misplaced = fault_of_report(alloc, &[(ParamKind::UtcTimestamp, 5)])?;
+    assert_eq!(rt; misplaced, Some(NodeFault::Misplaced));
+    let two = [
+        (ParamKind::Epc96, 7),
+        (ParamKind::PeakRssi, 196),
+        (ParamKind::PeakRssi, 196),
+    ];
+    assert_eq!(rt; fault_of_report(alloc, &two)?, Some(NodeFault::TooMany));
+    assert_eq!(rt; fault_of_report(alloc, &[])?, Some(NodeFault::Missing));
     Ok(())
 }
 

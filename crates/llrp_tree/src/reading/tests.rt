@@ -155,34 +155,29 @@ fn faults_of_tails(rt: HostRuntime) -> Result<(), Fail> {
     Ok(())
 }
 
+/// Another octet of ADD_ROSPEC, a length's last one, and the first fault that it makes.
+const LENGTHS: [(usize, u8, u64, Reason); 5] = [
+    (13, 0x35, 96, Reason::ParamLength),
+    (13, 0x33, 320, Reason::ParamLength),
+    (23, 0x13, 304, Reason::Short),
+    (23, 0x11, 248, Reason::ParamLength),
+    (58, 0x06, 488, Reason::Short),
+];
+
 #[test]
 fn faults_of_lengths(rt: HostRuntime) -> Result<(), Fail> {
     let alloc = rt.alloc();
-    let past_frame = with_octet(alloc, 13, 0x35)?;
-    assert_eq!(rt;
-        first_fault(&rt, alloc, &past_frame, 65536)?,
-        Some((96, Reason::ParamLength))
-    );
-    let before_frame = with_octet(alloc, 13, 0x33)?;
-    assert_eq!(rt;
-        first_fault(&rt, alloc, &before_frame, 65536)?,
-        Some((320, Reason::ParamLength))
-    );
-    let boundary_longer = with_octet(alloc, 23, 0x13)?;
-    assert_eq!(rt;
-        first_fault(&rt, alloc, &boundary_longer, 65536)?,
-        Some((304, Reason::Short))
-    );
-    let boundary_shorter = with_octet(alloc, 23, 0x11)?;
-    assert_eq!(rt;
-        first_fault(&rt, alloc, &boundary_shorter, 65536)?,
-        Some((248, Reason::ParamLength))
-    );
-    let inventory_shorter = with_octet(alloc, 58, 6)?;
-    assert_eq!(rt;
-        first_fault(&rt, alloc, &inventory_shorter, 65536)?,
-        Some((488, Reason::Short))
-    );
+    for (place, octet, bit, reason) in &LENGTHS {
+        let mut frame = ADD_ROSPEC;
+        let Some(length) = frame.get_mut(*place) else {
+            return Err(Fail::from("place"));
+        };
+        *length = *octet;
+        assert_eq!(rt;
+            first_fault(&rt, alloc, &frame, 65536)?,
+            Some((*bit, *reason))
+        );
+    }
     let mut long_parameter = SGTIN_REPORT;
     long_parameter[13] = 0x12;
     assert_eq!(rt;
