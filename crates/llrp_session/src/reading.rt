@@ -4,6 +4,4 @@ pub(crate) mod find;
 pub(crate) mod hearing;
 pub(crate) mod request;
 pub(crate) mod rospec;
-#[cfg(test)]
-pub(crate) mod tests;
 pub(crate) mod words;

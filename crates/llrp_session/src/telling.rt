@@ -8,8 +8,6 @@ ghost use Rattle.llrp_session.specs.ReaderMessages.{parameter as the_parameter};
 pub(crate) mod client;
 pub(crate) mod reader;
 pub(crate) mod report;
-#[cfg(test)]
-pub(crate) mod tests;
 
 use llrp_tree::{Message, MsgKind, Node, Nodes, Octets, ParamKind};
 use std::alloc::{AllocError, Global};
@@ -40,6 +38,16 @@ fn only(alloc: Global, node: Node) -> Result<Vec<Node>, AllocError>
 {
     let mut nodes = Vec::with_capacity(alloc, 1)?;
     nodes.push(node)?;
+    Ok(nodes)
+}
+
+/// A vector of two parameters.
+fn pair(alloc: Global, first: Node, second: Node) -> Result<Vec<Node>, AllocError>
+    ensures { IfOk result (λ nodes. nodes.items ≡ first ∷ second ∷ []) }
+{
+    let mut nodes = Vec::with_capacity(alloc, 2)?;
+    nodes.push(first)?;
+    nodes.push(second)?;
     Ok(nodes)
 }
 

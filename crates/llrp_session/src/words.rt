@@ -67,7 +67,7 @@ pub enum Taken {
 }
 
 /// Where a reader's connection stands.
-#[derive(Clone, Copy, Debug, PartialEq, Eq)]
+#[derive(Clone, Copy)]
 pub(crate) enum ReaderPhase {
     /// No client has connected yet.
     Waiting,
@@ -78,7 +78,7 @@ pub(crate) enum ReaderPhase {
 }
 
 /// Where a client's connection stands.
-#[derive(Clone, Copy, Debug, PartialEq, Eq)]
+#[derive(Clone, Copy)]
 pub(crate) enum ClientPhase {
     /// The reader has not accepted it yet.
     Fresh,
@@ -89,7 +89,7 @@ pub(crate) enum ClientPhase {
 }
 
 /// What a request asks for, and its response answers.
-#[derive(Clone, Copy, Debug, PartialEq, Eq)]
+#[derive(Clone, Copy, PartialEq, Eq)]
 pub(crate) enum Operation {
     Adding,
     Deleting,
@@ -102,7 +102,7 @@ pub(crate) enum Operation {
 }
 
 /// The request that waits for its response.
-#[derive(Clone, Copy, Debug, PartialEq, Eq)]
+#[derive(Clone, Copy)]
 pub(crate) struct Pending {
     /// The request's message id.
     pub id: u32,
@@ -112,7 +112,7 @@ pub(crate) struct Pending {
 }
 
 /// A ROSpec of a client's view.
-#[derive(Clone, Copy, Debug, PartialEq, Eq)]
+#[derive(Clone, Copy)]
 pub(crate) struct Viewed {
     /// Its ROSpecID.
     pub id: u32,
@@ -120,7 +120,7 @@ pub(crate) struct Viewed {
 }
 
 /// Which parts of a TagReportData are reported (LLRP 1.1, section 14).
-#[derive(Clone, Copy, Debug, PartialEq, Eq)]
+#[derive(Clone, Copy)]
 pub(crate) struct ContentSelector {
     pub rospec_id: bool,
     pub spec_index: bool,
@@ -134,7 +134,7 @@ pub(crate) struct ContentSelector {
 }
 
 /// When reports are sent, and what they hold (LLRP 1.1, section 14).
-#[derive(Clone, Copy, Debug, PartialEq, Eq)]
+#[derive(Clone, Copy)]
 pub(crate) struct ReportSpec {
     /// 0 on request alone; 1 and 2 after `n` tags and at the end.
     pub trigger: u8,
@@ -144,7 +144,7 @@ pub(crate) struct ReportSpec {
 }
 
 /// When KEEPALIVE is sent (LLRP 1.1, section 13).
-#[derive(Clone, Copy, Debug, PartialEq, Eq)]
+#[derive(Clone, Copy)]
 pub(crate) struct Keepalive {
     /// In milliseconds.
     pub period: u32,

@@ -2,30 +2,13 @@
 
 use super::Reader;
 use super::events::{ReaderIn, StepFault};
+use crate::tests::{octets, spell};
 use crate::words::{RoState, Sighting};
-use llrp_tree::{FrameErr, decode_frame, encode_into};
-use std::alloc::Global;
+use llrp_tree::{FrameErr, decode_frame};
+use std::alloc::{AllocError, Global};
 use std::process::Abort;
 use std::test::Fail;
 use tag_bits::{Word, get};
-
-/// The octets of hexadecimal digits among spaces.
-fn octets(alloc: Global, digits: &str) -> Result<Vec<u8>, Fail> {
-    let mut octets = Vec::new(alloc);
-    let mut high = None;
-    for digit in digits.bytes() {
-        if let Some(digit) = (digit as char).to_digit(16) {
-            match high {
-                None => high = Some(digit as u8),
-                Some(first) => {
-                    octets.push(first << 4 | digit as u8)?;
-                    high = None;
-                }
-            }
-        }
-    }
-    Ok(octets)
-}
 
 /// The event of octets that a client sent: of a message, or of a frame that is none.
 fn taken(rt: &impl Abort, alloc: Global, digits: &str) -> Result<ReaderIn, Fail> {
@@ -44,11 +27,11 @@ fn taken(rt: &impl Abort, alloc: Global, digits: &str) -> Result<ReaderIn, Fail>
     }
 }
 
-/// The sighting of an SGTIN-96 by antenna 1, with -60 dBm.
-fn sighting() -> Result<Sighting, Fail> {
+/// The sighting of an SGTIN-96 by an antenna, with -60 dBm.
+fn sighting(antenna: u16) -> Result<Sighting, Fail> {
     match Word::new(0x3074257BF7194E4000001A85) {
         Some(epc) => Ok(Sighting {
-            antenna: 1,
+            antenna,
             rssi: -60,
             epc,
         }),
@@ -61,7 +44,8 @@ fn sighting() -> Result<Sighting, Fail> {
 enum Does {
     Connect,
     Take(&'static str),
-    Seen,
+    /// A tag is sighted at this antenna.
+    Seen(u16),
     Tick,
 }
 
@@ -70,7 +54,7 @@ fn event(rt: &impl Abort, alloc: Global, does: Does) -> Result<ReaderIn, Fail> {
     match does {
         Does::Connect => Ok(ReaderIn::Connect),
         Does::Take(digits) => taken(rt, alloc, digits),
-        Does::Seen => Ok(ReaderIn::Seen(sighting()?)),
+        Does::Seen(antenna) => Ok(ReaderIn::Seen(sighting(antenna)?)),
         Does::Tick => Ok(ReaderIn::Tick),
     }
 }
@@ -87,13 +71,7 @@ fn happens(
     let event = event(rt, alloc, does)?;
     let mut messages = Vec::new(alloc);
     assert!(rt; reader.step(now, event, &mut messages).is_ok());
-    let mut sent = Vec::new(alloc);
-    for message in messages.as_slice() {
-        assert_eq!(rt; encode_into(alloc, message, &mut sent, 65536), Ok(()));
-    }
-    let expected = octets(alloc, sends)?;
-    assert_eq!(rt; sent.as_slice(), expected.as_slice());
-    Ok(())
+    spell(rt, alloc, messages.as_slice(), sends)
 }
 
 /// It is refused at moment 0, and sends nothing.
@@ -148,9 +126,25 @@ const ADD_BRIEF: Does = Does::Take(
     "08140000003E00000002 00B10034000000010000 00B20012 00B3000500 00B600090100000001 00B7001800010000 00B800090000000000 00BA0007000101",
 );
 
-/// The same without triggers, of a ROSpec whose reports are sent on request alone.
+/// The same, of a ROSpec whose CurrentState is Inactive.
+const ADD_INACTIVE: Does = Does::Take(
+    "08140000003E00000002 00B10034000000010001 00B20012 00B3000500 00B600090000000000 00B7001800010000 00B800090000000000 00BA0007000101",
+);
+
+/// The same, of a ROSpec whose AISpec has a stop trigger.
+const ADD_SELF_STOPPING: Does = Does::Take(
+    "08140000003E00000002 00B10034000000010000 00B20012 00B3000500 00B600090000000000 00B7001800010000 00B800090100000000 00BA0007000101",
+);
+
+/// The same, of a ROSpec without triggers whose reports are sent on request alone.
 const ADD_POLLED: Does = Does::Take(
     "08140000004B00000002 00B10041000000010000 00B20012 00B3000500 00B600090000000000 00B7001800010000 00B800090000000000 00BA0007000101 00ED000D000000 00EE00061400",
+);
+
+/// ADD_ROSPEC of ROSpec 7, for antennas 1 and 3: it starts when it is enabled, ends after 1,500 milliseconds, and reports
+/// all that a selector selects after 2 tags.
+const ADD_FULL: Does = Does::Take(
+    "08140000005400000002 00B1004A000000070300 00B20012 00B3000501 00B6000901000005DC 00B70021000200010003 00B800090000000000 00BA0007000501 00BA0007000601 00ED000D010002 00EE0006FFC0",
 );
 
 const ENABLE: Does = Does::Take("08180000000E0000000300000001");
@@ -166,9 +160,13 @@ const STOP: Does = Does::Take("08170000000E0000000500000001");
 
 const DISABLE: Does = Does::Take("08190000000E0000000500000001");
 
-/// One report, and the end of the ROSpec at moment 7.
-const REPORTED_AND_ENDED: &str =
-    "083D0000002000000003 00F00016 8D3074257BF7194E4000001A85 810001 86C4 083F0000002700000004 00F6001D 0080000C0000000000000007 00F9000D010000000100000000";
+/// One report, the end of the ROSpec at moment 7, and the response of STOP_ROSPEC.
+const STOPPED: &str =
+    "083D0000002000000003 00F00016 8D3074257BF7194E4000001A85 810001 86C4 083F0000002700000004 00F6001D 0080000C0000000000000007 00F9000D010000000100000000 08210000001200000005 011F000800000000";
+
+/// The same with the response of DISABLE_ROSPEC.
+const DISABLED: &str =
+    "083D0000002000000003 00F00016 8D3074257BF7194E4000001A85 810001 86C4 083F0000002700000004 00F6001D 0080000C0000000000000007 00F9000D010000000100000000 08230000001200000005 011F000800000000";
 
 #[test]
 fn connections(rt: HostRuntime) -> Result<(), Fail> {
@@ -177,68 +175,58 @@ fn connections(rt: HostRuntime) -> Result<(), Fail> {
     assert_eq!(rt; reader.limit(), 4096);
     refused(&rt, alloc, &mut reader, Does::Tick, StepFault::NotConnected)?;
     happens(&rt, alloc, &mut reader, 0, Does::Connect, ACCEPTED)?;
-    refused(&rt, alloc, &mut reader, Does::Connect, StepFault::AlreadyUp)?;
+    refused(&rt, alloc, &mut reader, Does::Connect, StepFault::AlreadyUp)
+}
+
+#[test]
+fn closed_connections(rt: HostRuntime) -> Result<(), Fail> {
+    let alloc = rt.alloc();
     let close = Does::Take("080E0000000A00000007");
     let closed = "08040000001200000007 011F000800000000";
-    happens(&rt, alloc, &mut reader, 0, close, closed)?;
+    let steps = [(0, Does::Connect, ACCEPTED), (0, close, closed)];
+    let mut reader = reader_after(&rt, alloc, &steps)?;
     refused(&rt, alloc, &mut reader, Does::Connect, StepFault::Closed)
 }
 
 #[test]
 fn rospecs_run(rt: HostRuntime) -> Result<(), Fail> {
     let alloc = rt.alloc();
-    let mut reader = reader_after(
-        &rt,
-        alloc,
-        &[
-            (0, Does::Connect, ACCEPTED),
-            (1, ADD, ADDED),
-            (2, ADD, NOT_ADDED),
-        ],
-    )?;
-    assert_eq!(rt; reader.state_of(1), Some(RoState::Disabled));
     let early = Does::Take("08160000000E0000000300000001");
     let refusal = "08200000001200000003 011F000800650000";
-    happens(&rt, alloc, &mut reader, 3, early, refusal)?;
-    happens(&rt, alloc, &mut reader, 4, ENABLE, ENABLED)?;
-    assert_eq!(rt; reader.state_of(1), Some(RoState::Inactive));
-    happens(&rt, alloc, &mut reader, 5, START, STARTED)?;
-    assert_eq!(rt; reader.state_of(1), Some(RoState::Active));
-    happens(&rt, alloc, &mut reader, 6, Does::Seen, "")?;
-    let mut stopped = String::new(alloc);
-    stopped.push_str(REPORTED_AND_ENDED)?;
-    stopped.push_str("08210000001200000005 011F000800000000")?;
-    happens(&rt, alloc, &mut reader, 7, STOP, stopped.as_str())?;
-    assert_eq!(rt; reader.state_of(1), Some(RoState::Inactive));
     let delete = Does::Take("08150000000E0000000600000001");
     let deleted = "081F0000001200000006 011F000800000000";
-    happens(&rt, alloc, &mut reader, 8, delete, deleted)?;
-    assert_eq!(rt; reader.state_of(1), None);
+    let steps = [
+        (0, Does::Connect, ACCEPTED, None),
+        (1, ADD, ADDED, Some(RoState::Disabled)),
+        (2, ADD, NOT_ADDED, Some(RoState::Disabled)),
+        (3, early, refusal, Some(RoState::Disabled)),
+        (4, ENABLE, ENABLED, Some(RoState::Inactive)),
+        (5, START, STARTED, Some(RoState::Active)),
+        (6, Does::Seen(1), "", Some(RoState::Active)),
+        (7, STOP, STOPPED, Some(RoState::Inactive)),
+        (8, delete, deleted, None),
+    ];
+    let mut reader = Reader::new(alloc, 65536, 1);
+    for (now, does, sends, state) in &steps {
+        happens(&rt, alloc, &mut reader, *now, *does, sends)?;
+        assert_eq!(rt; reader.state_of(1), *state);
+    }
     Ok(())
 }
 
 #[test]
 fn rospecs_start_by_themselves(rt: HostRuntime) -> Result<(), Fail> {
     let alloc = rt.alloc();
-    let mut enabled = String::new(alloc);
-    enabled.push_str(ENABLED)?;
-    enabled.push_str(
-        "083F0000002700000002 00F6001D 0080000C0000000000000005 00F9000D000000000100000000",
-    )?;
-    let mut reader = reader_after(
-        &rt,
-        alloc,
-        &[
-            (0, Does::Connect, ACCEPTED),
-            (1, ADD_IMMEDIATE, ADDED),
-            (5, ENABLE, enabled.as_str()),
-            (6, Does::Seen, ""),
-        ],
-    )?;
-    let mut disabled = String::new(alloc);
-    disabled.push_str(REPORTED_AND_ENDED)?;
-    disabled.push_str("08230000001200000005 011F000800000000")?;
-    happens(&rt, alloc, &mut reader, 7, DISABLE, disabled.as_str())?;
+    let enabled =
+        "08220000001200000003 011F000800000000 083F0000002700000002 00F6001D 0080000C0000000000000005 00F9000D000000000100000000";
+    let steps = [
+        (0, Does::Connect, ACCEPTED),
+        (1, ADD_IMMEDIATE, ADDED),
+        (5, ENABLE, enabled),
+        (6, Does::Seen(1), ""),
+        (7, DISABLE, DISABLED),
+    ];
+    let reader = reader_after(&rt, alloc, &steps)?;
     assert_eq!(rt; reader.state_of(1), Some(RoState::Disabled));
     Ok(())
 }
@@ -261,30 +249,77 @@ fn rospecs_end_by_themselves(rt: HostRuntime) -> Result<(), Fail> {
 }
 
 #[test]
+fn rospecs_refused(rt: HostRuntime) -> Result<(), Fail> {
+    let alloc = rt.alloc();
+    let steps = [
+        (0, Does::Connect, ACCEPTED),
+        (1, ADD_INACTIVE, NOT_ADDED),
+        (1, ADD_SELF_STOPPING, NOT_ADDED),
+    ];
+    let reader = reader_after(&rt, alloc, &steps)?;
+    assert_eq!(rt; reader.state_of(1), None);
+    Ok(())
+}
+
+/// The reports of a tag that ROSpec 7 saw at antenna 1 at moment 6, and at antenna 3 at moment 8.
+const FULL_REPORTS: &str =
+    "083D0000007C00000003 00F00039 8D3074257BF7194E4000001A85 8900000007 8E0001 8A0005 810001 870001 86C4 820000000000000006 840000000000000006 880001 00F00039 8D3074257BF7194E4000001A85 8900000007 8E0001 8A0005 810003 870001 86C4 820000000000000008 840000000000000008 880001";
+
+#[test]
+fn rospec_with_all_fields(rt: HostRuntime) -> Result<(), Fail> {
+    let alloc = rt.alloc();
+    let enable = Does::Take("08180000000E0000000300000007");
+    let enabled =
+        "08220000001200000003 011F000800000000 083F0000002700000002 00F6001D 0080000C0000000000000005 00F9000D000000000700000000";
+    let ended = "083F0000002700000004 00F6001D 0080000C000000000016E365 00F9000D010000000700000000";
+    let steps = [
+        (0, Does::Connect, ACCEPTED),
+        (1, ADD_FULL, ADDED),
+        (5, enable, enabled),
+        (6, Does::Seen(2), ""),
+        (6, Does::Seen(1), ""),
+        (8, Does::Seen(3), FULL_REPORTS),
+        (1_500_004, Does::Tick, ""),
+        (1_500_005, Does::Tick, ended),
+    ];
+    let reader = reader_after(&rt, alloc, &steps)?;
+    assert_eq!(rt; reader.state_of(7), Some(RoState::Inactive));
+    Ok(())
+}
+
+#[test]
 fn requests_outside_the_profile(rt: HostRuntime) -> Result<(), Fail> {
     let alloc = rt.alloc();
     let capabilities = Does::Take("04010000000B0000000500");
     let later_version = Does::Take("0C3E0000000A00000007");
     let keepalive = Does::Take("043E0000000A00000009");
     let acknowledgement = Does::Take("04480000000A00000009");
+    let events_enabled = Does::Take("04400000000A00000009");
+    let error = Does::Take("04640000001200000009 011F0008006D0000");
     let steps = [
         (0, Does::Connect, ACCEPTED),
         (0, capabilities, "04640000001200000005 011F0008006D0000"),
         (0, later_version, "04640000001200000007 011F0008006E0000"),
         (0, keepalive, "04640000001200000009 011F0008006D0000"),
         (0, acknowledgement, ""),
+        (0, events_enabled, ""),
+        (0, error, ""),
     ];
     reader_after(&rt, alloc, &steps)?;
     Ok(())
 }
 
+/// SET_READER_CONFIG with a keepalive each 1,000 milliseconds.
+const KEEP_ALIVE: Does = Does::Take("08030000001400000005 00 00DC000901000003E8");
+
+const CONFIGURED: &str = "080D0000001200000005 011F000800000000";
+
 #[test]
 fn keepalives(rt: HostRuntime) -> Result<(), Fail> {
     let alloc = rt.alloc();
-    let each_second = Does::Take("08030000001400000005 00 00DC000901000003E8");
     let steps = [
         (0, Does::Connect, ACCEPTED),
-        (0, each_second, "080D0000001200000005 011F000800000000"),
+        (0, KEEP_ALIVE, CONFIGURED),
         (999_999, Does::Tick, ""),
         (1_000_000, Does::Tick, "083E0000000A00000002"),
         (1_999_999, Does::Tick, ""),
@@ -293,28 +328,64 @@ fn keepalives(rt: HostRuntime) -> Result<(), Fail> {
     Ok(())
 }
 
+/// SET_READER_CONFIG that resets, with a ROReportSpec of all that a selector selects after 2 tags.
+const RESET: Does = Does::Take("08030000001800000005 80 00ED000D010002 00EE0006FFC0");
+
+/// The reports of a tag that ROSpec 1 saw at antenna 1 at moment 6, and at antenna 5 at moment 8.
+const WHOLE_REPORTS: &str =
+    "083D0000007C00000003 00F00039 8D3074257BF7194E4000001A85 8900000001 8E0001 8A0001 810001 870001 86C4 820000000000000006 840000000000000006 880001 00F00039 8D3074257BF7194E4000001A85 8900000001 8E0001 8A0001 810005 870001 86C4 820000000000000008 840000000000000008 880001";
+
 #[test]
-fn reports_on_request(rt: HostRuntime) -> Result<(), Fail> {
+fn resets(rt: HostRuntime) -> Result<(), Fail> {
     let alloc = rt.alloc();
-    let mut reader = reader_after(
-        &rt,
-        alloc,
-        &[
-            (0, Does::Connect, ACCEPTED),
-            (1, ADD_POLLED, ADDED),
-            (4, ENABLE, ENABLED),
-            (5, START, STARTED),
-        ],
-    )?;
+    let steps = [
+        (0, Does::Connect, ACCEPTED),
+        (0, KEEP_ALIVE, CONFIGURED),
+        (0, RESET, CONFIGURED),
+        (1, ADD, ADDED),
+        (4, ENABLE, ENABLED),
+        (5, START, STARTED),
+        (6, Does::Seen(1), ""),
+        (8, Does::Seen(5), WHOLE_REPORTS),
+        (1_000_000, Does::Tick, ""),
+    ];
+    reader_after(&rt, alloc, &steps)?;
+    Ok(())
+}
+
+/// RO_ACCESS_REPORT of 64 reports.
+fn all_held(alloc: Global) -> Result<String, AllocError> {
     let mut all = String::new(alloc);
     all.push_str("083D0000058A00000004")?;
     for _ in 0..64 {
-        happens(&rt, alloc, &mut reader, 6, Does::Seen, "")?;
         all.push_str("00F00016 8D3074257BF7194E4000001A85 810001 86C4")?;
     }
+    Ok(all)
+}
+
+#[test]
+fn reports_on_request(rt: HostRuntime) -> Result<(), Fail> {
+    let alloc = rt.alloc();
+    let all = all_held(alloc)?;
+    let steps = [
+        (0, Does::Connect, ACCEPTED),
+        (1, ADD_POLLED, ADDED),
+        (4, ENABLE, ENABLED),
+        (5, START, STARTED),
+    ];
+    let mut reader = reader_after(&rt, alloc, &steps)?;
+    for _ in 0..64 {
+        happens(&rt, alloc, &mut reader, 6, Does::Seen(1), "")?;
+    }
     let overflow = "083F0000001E00000003 00F60014 0080000C0000000000000006 00FB0004";
-    happens(&rt, alloc, &mut reader, 6, Does::Seen, overflow)?;
     let poll = Does::Take("083C0000000A00000008");
-    happens(&rt, alloc, &mut reader, 7, poll, all.as_str())?;
-    happens(&rt, alloc, &mut reader, 7, poll, "083D0000000A00000005")
+    let last = [
+        (6, Does::Seen(1), overflow),
+        (7, poll, all.as_str()),
+        (7, poll, "083D0000000A00000005"),
+    ];
+    for (now, does, sends) in &last {
+        happens(&rt, alloc, &mut reader, *now, *does, sends)?;
+    }
+    Ok(())
 }

@@ -3,7 +3,7 @@
 use crate::words::{Operation, ReportSpec};
 
 /// What is read in a ROSpec, all but its antennas (LLRP 1.1, section 11).
-#[derive(Clone, Copy, Debug, PartialEq, Eq)]
+#[derive(Clone, Copy)]
 pub(crate) struct Settings {
     pub id: u32,
     /// 0 for Disabled.
@@ -25,7 +25,7 @@ pub(crate) struct Settings {
 }
 
 /// A KeepaliveSpec (LLRP 1.1, section 13).
-#[derive(Clone, Copy, Debug, PartialEq, Eq)]
+#[derive(Clone, Copy)]
 pub(crate) struct KeepaliveSpec {
     /// 0 for none, 1 for a period.
     pub trigger: u8,
@@ -34,7 +34,7 @@ pub(crate) struct KeepaliveSpec {
 }
 
 /// What is read in SET_READER_CONFIG.
-#[derive(Clone, Copy, Debug, PartialEq, Eq)]
+#[derive(Clone, Copy)]
 pub(crate) struct Config {
     /// To the factory default first.
     pub reset: bool,
@@ -43,7 +43,7 @@ pub(crate) struct Config {
 }
 
 /// What a reader reads in a message.
-#[derive(Clone, Copy, Debug, PartialEq, Eq)]
+#[derive(Clone, Copy)]
 pub(crate) enum Request {
     /// ADD_ROSPEC, with what is read in its ROSpec.
     AddRoSpec(Settings),
@@ -62,7 +62,7 @@ pub(crate) enum Request {
 }
 
 /// What is read in a ROSpecEvent.
-#[derive(Clone, Copy, Debug, PartialEq, Eq)]
+#[derive(Clone, Copy)]
 pub(crate) struct RoSpecChange {
     /// 0 for a start, 1 and 2 for an end.
     pub event: u8,
@@ -70,7 +70,7 @@ pub(crate) struct RoSpecChange {
 }
 
 /// What is read in READER_EVENT_NOTIFICATION.
-#[derive(Clone, Copy, Debug, PartialEq, Eq)]
+#[derive(Clone, Copy)]
 pub(crate) struct Notification {
     /// The status of a ConnectionAttemptEvent.
     pub attempt: Option<u16>,
@@ -80,7 +80,7 @@ pub(crate) struct Notification {
 }
 
 /// What a client reads in a message.
-#[derive(Clone, Copy, Debug, PartialEq, Eq)]
+#[derive(Clone, Copy)]
 pub(crate) enum Heard {
     /// The response of an operation, with its status.
     Response(Operation, u16),

@@ -8,7 +8,7 @@ ghost use Rattle.llrp_session.specs.Words.{Response, Error, Report, KeepaliveSen
 ghost use Rattle.llrp_session.specs.ReaderMessages.{response_kind as the_response_kind, notification_data, reader_message};
 ghost use Rattle.llrp_session.specs.LawfulWords.{AreReports};
 
-use super::{leaf, message, only, parameter};
+use super::{leaf, message, only, pair, parameter};
 use crate::words::Operation;
 use llrp_tree::{Message, MsgKind, Node, ParamKind};
 use std::alloc::{AllocError, Global};
@@ -84,9 +84,8 @@ fn notification(
     requires { IsLawfulMessage (record { version = version; id = id; kind = MsgKind.ReaderEventNotification; fields = []; children = forest (notification_data now event ∷ []) }) }
     ensures { IfOk result (λ m. m ≡ record { version = version; id = id; kind = MsgKind.ReaderEventNotification; fields = []; children = forest (notification_data now event ∷ []) }) }
 {
-    let mut told = Vec::with_capacity(alloc, 2)?;
-    told.push(leaf(alloc, ParamKind::UtcTimestamp, &[now as u128]))?;
-    told.push(event)?;
+    let moment = leaf(alloc, ParamKind::UtcTimestamp, &[now as u128]);
+    let told = pair(alloc, moment, event)?;
     let told = parameter(alloc, ParamKind::ReaderEventNotificationData, &[], told);
     let children = only(alloc, told)?;
     Ok(message(version, id, MsgKind::ReaderEventNotification, &[], children))

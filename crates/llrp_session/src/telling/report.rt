@@ -37,9 +37,43 @@ impl Parts {
         }
         Ok(())
     }
+
+    /// The parts of a report, where there are none yet: EPC-96, and then those that are selected, in the selector's order.
+    fn push_all(
+        &mut self,
+        now: u64,
+        rospec: &RoSpec,
+        selector: &ContentSelector,
+        sighting: &Sighting,
+    ) -> Result<(), AllocError>
+        requires { self.old.nodes.items ≡ [] }
+        ensures { OnOk result (self.new.nodes.items ≡ the_parts now rospec.now selector.now sighting.now) }
+    {
+        let now = now as u128;
+        let id = rospec.settings().id as u128;
+        let inventory = rospec.settings().inventory as u128;
+        let inventory_is_told = selector.inventory_parameter_spec_id;
+        let antenna = sighting.antenna as u128;
+        let rssi = signed_octet(sighting.rssi) as u128;
+        self.push_if(true, ParamKind::Epc96, sighting.epc.number())?;
+        self.push_if(selector.rospec_id, ParamKind::RoSpecId, id)?;
+        self.push_if(selector.spec_index, ParamKind::SpecIndex, 1)?;
+        self.push_if(
+            inventory_is_told,
+            ParamKind::InventoryParameterSpecId,
+            inventory,
+        )?;
+        self.push_if(selector.antenna_id, ParamKind::AntennaId, antenna)?;
+        self.push_if(selector.channel_index, ParamKind::ChannelIndex, 1)?;
+        self.push_if(selector.peak_rssi, ParamKind::PeakRssi, rssi)?;
+        self.push_if(selector.first_seen, ParamKind::FirstSeenTimestampUtc, now)?;
+        self.push_if(selector.last_seen, ParamKind::LastSeenTimestampUtc, now)?;
+        self.push_if(selector.tag_seen_count, ParamKind::TagSeenCount, 1)?;
+        Ok(())
+    }
 }
 
-/// The parts of a report: EPC-96, and then those that are selected, in the selector's order.
+/// The parts of a report.
 fn report_parts(
     alloc: Global,
     now: u64,
@@ -49,28 +83,9 @@ fn report_parts(
 ) -> Result<Vec<Node>, AllocError>
     ensures { IfOk result (λ parts. parts.items ≡ the_parts now rospec.now selector.now sighting.now) }
 {
-    let now = now as u128;
-    let id = rospec.settings().id as u128;
-    let inventory = rospec.settings().inventory as u128;
-    let inventory_is_told = selector.inventory_parameter_spec_id;
-    let antenna = sighting.antenna as u128;
-    let rssi = signed_octet(sighting.rssi) as u128;
     let nodes = Vec::with_capacity(alloc, 10)?;
     let mut parts = Parts { alloc, nodes };
-    parts.push_if(true, ParamKind::Epc96, sighting.epc.number())?;
-    parts.push_if(selector.rospec_id, ParamKind::RoSpecId, id)?;
-    parts.push_if(selector.spec_index, ParamKind::SpecIndex, 1)?;
-    parts.push_if(
-        inventory_is_told,
-        ParamKind::InventoryParameterSpecId,
-        inventory,
-    )?;
-    parts.push_if(selector.antenna_id, ParamKind::AntennaId, antenna)?;
-    parts.push_if(selector.channel_index, ParamKind::ChannelIndex, 1)?;
-    parts.push_if(selector.peak_rssi, ParamKind::PeakRssi, rssi)?;
-    parts.push_if(selector.first_seen, ParamKind::FirstSeenTimestampUtc, now)?;
-    parts.push_if(selector.last_seen, ParamKind::LastSeenTimestampUtc, now)?;
-    parts.push_if(selector.tag_seen_count, ParamKind::TagSeenCount, 1)?;
+    parts.push_all(now, rospec, selector, sighting)?;
     Ok(parts.nodes)
 }
 

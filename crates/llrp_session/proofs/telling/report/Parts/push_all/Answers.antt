@@ -1,6 +1,6 @@
 use Rattle.std.proofs.Common.{arith}
 use Rattle.llrp_session.proofs.ReportLemmas.{epc_part, rospec_id_part, spec_index_part, inventory_part, antenna_part, channel_part, rssi_part, first_seen_part, last_seen_part, seen_count_part}
-use Rattle.llrp_session.proofs.telling.report.report_parts.Goals as goal
+use Rattle.llrp_session.proofs.telling.report.Parts.push_all.Goals as goal
 
 pub push_if-requires : goal.push_if-requires
 push_if-requires c = (epc_part c.number.result c.number.ensures.below).lawful
