@@ -1,5 +1,5 @@
 -- Hexadecimal digits of either case, and the lines of words.
-use Rattle.std.proofs.Common.{◌≡◌, ℕ, suc, ◌+◌, ◌/◌, ◌%◌, ◌^◌, ◌<◌, ◌≤◌, true, false, List, [], ◌∷◌, length, refl, sym, ap, ◌∙◌, arith, inl, inr, Ok}
+use Rattle.std.proofs.Common.{◌≡◌, ℕ, suc, ◌+◌, ◌/◌, ◌%◌, ◌^◌, ◌<◌, ◌≤◌, true, false, List, [], ◌∷◌, length, refl, sym, ap, ◌∙◌, arith, inl, inr, Ok, Err}
 use Rattle.std.specs.Prelude.{◌⊎◌, nat_lt, map, slice_index}
 use Rattle.std.specs.Char.{to_ascii_uppercase}
 use Rattle.std.proofs.lemmas.List.{length-map}
@@ -11,7 +11,12 @@ use Rattle.hex.proofs.HexLemmas.{decode_of-ok, decode_sized-ok, decode_sized-twi
 use Rattle.tag_bits.specs.Digits.{digits_of_bytes, word_digits}
 use Rattle.tag_uri.specs.Hexadecimal.{hexadecimal}
 use Rattle.tag_uri.proofs.HexadecimalLemmas.{glyph, length-hexadecimal, twelve, word_text, word_digits_of, bytes_spelled}
-use Rattle.llrp_listing.specs.EpcLines.{AreDigitsOf}
+use Rattle.llrp_stream.specs.Device.{SinkLog}
+use Rattle.llrp_listing.specs.declared.fault.ToolErr.{ToolErr}
+use Rattle.llrp_listing.specs.declared.fault.ToolErr.TheVariants.{Listing, Script, Hex, Read, Write, Bound, Broken, Memory, Peer, Strange, Early}
+use Rattle.llrp_listing.specs.declared.fault.Verdict.{Verdict}
+use Rattle.llrp_listing.specs.Copying.{Writes}
+use Rattle.llrp_listing.specs.EpcLines.{AreDigitsOf, Prints, PrintsEpc}
 use Rattle.llrp_listing.specs.Hexadecimal.{IsHexDigit, SpellBytes}
 use Rattle.llrp_listing.proofs.HexadecimalLemmas.{ok_if_spelled, spelled_if_ok}
 
@@ -107,3 +112,17 @@ decoded_digits text bytes word below e d =
       below = below;
       raised = spelled_raised text bytes spell ∙ sym (word_text bytes word below (twelve bytes word d) (decode_of-ok text bytes decoded).3 (sym d));
     }
+
+-- where writing what is printed of a text failed, a front of it was written
+pub front_written : (text lines : List ℕ) (verdict : Verdict) (w0 w1 : SinkLog) (e : ToolErr) → Prints text verdict lines → Writes lines w0 w1 (Err e) → PrintsEpc text w0 w1 (Err e)
+front_written text lines verdict w0 w1 Write are stopped = (verdict, lines, stopped.0, are, stopped.1, stopped.2)
+front_written text lines verdict w0 w1 Memory are stopped = absurd stopped.2
+front_written text lines verdict w0 w1 Read are stopped = absurd stopped.2
+front_written text lines verdict w0 w1 Bound are stopped = absurd stopped.2
+front_written text lines verdict w0 w1 Hex are stopped = absurd stopped.2
+front_written text lines verdict w0 w1 (Listing at reason) are stopped = absurd stopped.2
+front_written text lines verdict w0 w1 (Script at) are stopped = absurd stopped.2
+front_written text lines verdict w0 w1 Broken are stopped = absurd stopped.2
+front_written text lines verdict w0 w1 Early are stopped = absurd stopped.2
+front_written text lines verdict w0 w1 (Peer status) are stopped = absurd stopped.2
+front_written text lines verdict w0 w1 Strange are stopped = absurd stopped.2
