@@ -1,5 +1,5 @@
 -- The words behind a name.
-use Rattle.std.proofs.Common.{◌≡◌, ℕ, suc, ◌+◌, ◌-◌, ◌≤◌, inl, inr, false, List, [], ◌∷◌, ◌++◌, map, length, get_or, take, drop, Option, Result, Ok, Err, refl, sym, ap, subst, ◌∙◌, arith, append_assoc, length-append}
+use Rattle.std.proofs.Common.{◌≡◌, ℕ, suc, ◌+◌, ◌-◌, ◌<◌, ◌≤◌, inl, inr, true, false, List, [], ◌∷◌, ◌++◌, map, length, get_or, take, drop, Option, Result, Ok, Err, refl, sym, ap, subst, ◌∙◌, arith, append_assoc, length-append}
 use Rattle.std.specs.Borrow.{Bor}
 use Rattle.std.proofs.lemmas.List.{take_all}
 use Rattle.std.specs.Prelude.{MatchResult}
@@ -33,6 +33,38 @@ form_more : (f : NumberForm) (fs : List NumberForm) (w : List ℕ) (ws : List (L
     → ReadsFields fs ws mid new r → ReadsFields (f ∷ fs) (w ∷ ws) old new r
 form_more f fs w ws n old mid new (Ok rest) is push h = (n ∷ h.0, read_one f fs w ws n h.0 (words_in rest) is.0 is.1 h.1, h.2 ∙ ap (λ (z : List ℕ). z ++ h.0) push ∙ append_assoc old (n ∷ []) h.0)
 form_more f fs w ws n old mid new (Err reason) is push h = λ tail. inr ((n, is.0, is.1), h tail)
+
+-- the forms of some fields, whose first is reserved
+pub forms_reserved : (rules : List Field) (d : Field) → 1 ≤ length rules → (get_or rules 0 d).reserved ≡ true → forms_of (map field_rule rules) ≡ forms_of (map field_rule (take (length rules - 1) (drop 1 rules)))
+forms_reserved [] d some reserved = absurd (omega arith)
+forms_reserved (rule ∷ rules) d some reserved =
+    let rest : take (length (rule ∷ rules) - 1) rules ≡ rules = take_all (length (rule ∷ rules) - 1) rules (omega arith) in
+    rw (reserved, rest) refl
+
+-- and plain
+pub forms_plain : (rules : List Field) (d : Field) → 1 ≤ length rules → (get_or rules 0 d).reserved ≡ false
+    → forms_of (map field_rule rules) ≡ field_form (field_rule (get_or rules 0 d)) ∷ forms_of (map field_rule (take (length rules - 1) (drop 1 rules)))
+forms_plain [] d some plain = absurd (omega arith)
+forms_plain (rule ∷ rules) d some plain =
+    let rest : take (length (rule ∷ rules) - 1) rules ≡ rules = take_all (length (rule ∷ rules) - 1) rules (omega arith) in
+    rw (plain, rest) refl
+
+-- where there are no fields
+pub forms_none : (rules : List Field) → length rules < 1 → forms_of (map field_rule rules) ≡ []
+forms_none [] few = refl
+forms_none (rule ∷ rules) few = absurd (omega arith)
+
+-- fewer are left behind the first
+pub fewer_fields : (rules : List Field) → 1 ≤ length rules → length (take (length rules - 1) (drop 1 rules)) < length rules
+fewer_fields [] some = absurd (omega arith)
+fewer_fields (rule ∷ rules) some =
+    let rest : take (length (rule ∷ rules) - 1) rules ≡ rules = take_all (length (rule ∷ rules) - 1) rules (omega arith) in
+    omega (arith, ap length rest)
+
+-- the first of the words is no number of the first form
+pub field_bad : (rules : List Field) (d : Field) (w : List ℕ) (ws all : List (List ℕ)) (old new : List ℕ) (reason : Refusal) → 1 ≤ length rules → (get_or rules 0 d).reserved ≡ false → all ≡ w ∷ ws
+    → ReadsNumber (field_form (field_rule (get_or rules 0 d))) w (Err reason) → ReadsFields (forms_of (map field_rule rules)) all old new (Err reason)
+field_bad rules d w ws all old new reason some plain e bad = λ tail. rw (forms_plain rules d some plain, e) (inl bad)
 
 pub fields_more : (rules : List Field) (d : Field) (w : List ℕ) (ws all : List (List ℕ)) (n : ℕ) (old mid new : List ℕ) (r : Result (Option (Bor (List ℕ))) Refusal) → 1 ≤ length rules → (get_or rules 0 d).reserved ≡ false
     → IsInForm (field_form (field_rule (get_or rules 0 d))) n × IsNumberText (field_form (field_rule (get_or rules 0 d))) n w → mid ≡ old ++ (n ∷ []) → all ≡ w ∷ ws
