@@ -1,9 +1,20 @@
-use Rattle.std.proofs.Common.{◌≡◌, ◌++◌, ◌∷◌, [], ℕ, List, sym, ap, ◌∙◌, arith, append_assoc, length-append, subst}
+use Rattle.std.proofs.Common.{◌≡◌, ◌++◌, ◌∷◌, [], ℕ, List, refl, sym, ap, ◌∙◌, arith, append_assoc, length-append, subst}
 use Rattle.std.specs.Prelude.{MatchResult}
+use Rattle.std.proofs.lemmas.List.{append-nil}
 use Rattle.std.proofs.lemmas.Result.{err_from_is_err_and}
 use Rattle.llrp_listing.specs.Encoder.{Stands, Stopped}
 use Rattle.llrp_listing.proofs.Standing.{piece_left, piece_parts, stopped_more}
 use Rattle.llrp_listing.proofs.encode.Encoder.feed.Goals as goal
+
+pub lines-init : goal.lines-init
+lines-init g c = record {
+  taken = [];
+  parts = refl;
+  stands = λ start text s. subst (λ (z : List ℕ). Stands start (g.W.Sink.log c.args.w.now) z c.args.self.now) (sym (append-nil text)) s;
+  number = omega arith;
+  limit = refl;
+  sink = refl;
+}
 
 pub returns-in_err-end_line-clause-stands : goal.returns-in_err-end_line-clause-stands
 returns-in_err-end_line-clause-stands g c =
