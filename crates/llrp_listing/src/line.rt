@@ -49,7 +49,7 @@ pub enum Line {
 }
 
 /// Why a line is not read.
-#[derive(Clone, Copy, Debug, PartialEq, Eq)]
+#[derive(Clone, Copy)]
 pub enum LineErr {
     /// It is refused by itself.
     Refused(Refusal),

@@ -31,7 +31,7 @@ pub struct OpenMessage {
 }
 
 /// Why a line is not closed.
-#[derive(Clone, Copy, Debug, PartialEq, Eq)]
+#[derive(Clone, Copy)]
 pub enum CloseErr {
     /// This line can't be closed.
     Refused { number: u64, reason: Refusal },
