@@ -3,6 +3,7 @@
 
 ghost use Rattle.std.specs.Prelude.{◌++◌, ◌+◌, ◌<◌, ◌≡◌, ◌≤◌, ◌^◌, ◌∷◌, IfErr, IsErrAnd, IsTrue, List, MatchResult, OnErr, OnOk, [], length, ℕ};
 ghost use Rattle.llrp_stream.specs.Device.{IsFreshSource, SinkLog};
+ghost use Rattle.llrp_listing.specs.Copying.{ReadAll};
 ghost use Rattle.llrp_listing.specs.Encoder.{CanStand, Finished, Opened, Refusing, RefusingClose, RefusingLine, Stands, StandsAt, Stopped, StoppedAtEnd, WroteEncoding, said_level};
 ghost use Rattle.llrp_listing.specs.Encoding.{EncodeStopped, Encoded};
 ghost use Rattle.llrp_listing.specs.LineReading.{ReadsLine, SaidIs};
@@ -237,6 +238,36 @@ impl Encoder {
         self.go_on(rest, w)
     }
 
+    /// Takes all that the source gives.
+    fn feed_all<R: Source, W: Sink>(
+        &mut self,
+        alloc: Global,
+        r: &mut R,
+        w: &mut W,
+    ) -> Result<(), ToolErr>
+        requires sink { (W.log w.old).failures < 2 ^ 63 }
+        requires source { IsFreshSource (R.log r.old) }
+        requires begins { self.old.number ≡ 0 }
+        requires stands { Stands (W.log w.old) (W.log w.old) [] self.old }
+        ensures stands { OnOk result ((text : List ℕ) × ReadAll (R.log r.old) (R.log r.new) text × Stands (W.log w.old) (W.log w.new) text self.new) }
+        ensures stopped { IfErr result (λ e. EncodeStopped self.old.limit (R.log r.old) (R.log r.new) (W.log w.old) (W.log w.new) e) }
+        ensures number { OnOk result (self.new.number < 2 ^ 63) }
+        ensures limit { OnOk result (self.new.limit ≡ self.old.limit) }
+        ensures sink { OnOk result ((W.log w.new).failures ≡ (W.log w.old).failures) }
+    {
+        let mut buffer = [0u8; PIECE_SIZE];
+        for _ in 0..MOST_READS {
+            let Ok(n) = r.read(&mut buffer) else {
+                return Err(ToolErr::Read);
+            };
+            if n == 0 {
+                return Ok(());
+            }
+            self.feed(alloc, &buffer[..n], w)?;
+        }
+        Err(ToolErr::Bound)
+    }
+
     /// The text ends.
     fn finish<W: Sink>(mut self, alloc: Global, w: &mut W) -> Result<(), ToolErr>
         requires sink { (W.log w.old).failures + 1 < 2 ^ 64 }
@@ -281,16 +312,6 @@ pub fn run_encode<R: Source, W: Sink>(
     ensures stopped { IfErr result (λ e. EncodeStopped limit (R.log r.old) (R.log r.new) (W.log w.old) (W.log w.new) e) }
 {
     let mut encoder = Encoder::new(alloc, limit);
-    let mut buffer = [0u8; PIECE_SIZE];
-    for _ in 0..MOST_READS {
-        let n = match r.read(&mut buffer) {
-            Ok(n) => n,
-            Err(_) => return Err(ToolErr::Read),
-        };
-        if n == 0 {
-            return encoder.finish(alloc, w);
-        }
-        encoder.feed(alloc, &buffer[..n], w)?;
-    }
-    Err(ToolErr::Bound)
+    encoder.feed_all(alloc, r, w)?;
+    encoder.finish(alloc, w)
 }

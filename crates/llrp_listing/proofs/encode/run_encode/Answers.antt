@@ -1,70 +1,30 @@
-use Rattle.std.proofs.Common.{◌+◌, ◌++◌, ◌<◌, ℕ, length, take, arith, [], subst, ◌∙◌}
-use Rattle.std.proofs.lemmas.List.{length-take}
+use Rattle.std.proofs.Common.{ℕ, subst, ◌∙◌}
 use Rattle.std.proofs.lemmas.Result.{err_from_is_err_and}
 use Rattle.std.specs.Prelude.{MatchResult}
-use Rattle.llrp_listing.specs.Copying.{ReadAll}
-use Rattle.llrp_stream.specs.Device.{Took, Gave}
-use Rattle.llrp_listing.specs.Encoder.{StandsAt, Stopped, StoppedAtEnd, WroteEncoding}
-use Rattle.llrp_listing.specs.OpenLines.{entries_in}
-use Rattle.llrp_listing.proofs.DeviceLemmas.{read_more}
-use Rattle.llrp_listing.proofs.Running.{read_failed, read_bound, read_end, stop_while, ends_ok, ends_err}
+use Rattle.llrp_listing.specs.Encoder.{StoppedAtEnd, WroteEncoding}
+use Rattle.llrp_listing.specs.Encoding.{EncodeStopped}
+use Rattle.llrp_listing.proofs.Running.{ends_ok, ends_err}
 use Rattle.llrp_listing.proofs.encode.run_encode.Goals as goal
 
-pub returns-in-Err-clause-stopped : goal.returns-in-Err-clause-stopped
-returns-in-Err-clause-stopped g c =
-    let e = c.loop.encoder in
-    let s = subst (λ (l : ℕ). StandsAt l (g.W.Sink.log c.args.w.now) (g.W.Sink.log c.loop.w) c.loop.invariant.text (entries_in e.pending) e.number e.line.items e.out.items) c.loop.invariant.limit c.loop.invariant.stands in
-    read_failed c.args.limit c.loop.counter _ _ _ _ _ c.loop.invariant.text _ _ _ _ c.loop.invariant.gave s c.in-Err.ensures.0 c.in-Err.ensures.1
-
-pub returns-then-n-eq0-clause-done : goal.returns-then-n-eq0-clause-done
-returns-then-n-eq0-clause-done g c =
-    let text = c.loop.invariant.text in
-    let took : Took (g.R.Source.log c.loop.r) (g.R.Source.log c.read.new.self) [] = rw c.if-n-eq0.true at c.in-Ok.ensures.1 in
-    let all : ReadAll (g.R.Source.log c.args.r.now) (g.R.Source.log c.read.new.self) text = read_end _ _ _ c.loop.counter text c.loop.invariant.gave took (omega arith) in
-    let w0 = g.W.Sink.log c.args.w.now in
-    let w1 = g.W.Sink.log c.finish.new.w in
-    let m = subst (λ (l : ℕ). MatchResult c.finish.result (λ _. WroteEncoding l w0 w1 text) (StoppedAtEnd l w0 w1 text)) c.loop.invariant.limit (c.finish.ensures w0 text c.loop.invariant.stands) in
-    ends_ok c.args.limit _ _ _ _ text c.finish.result all m
-
-pub returns-then-n-eq0-clause-stopped : goal.returns-then-n-eq0-clause-stopped
-returns-then-n-eq0-clause-stopped g c =
-    let text = c.loop.invariant.text in
-    let took : Took (g.R.Source.log c.loop.r) (g.R.Source.log c.read.new.self) [] = rw c.if-n-eq0.true at c.in-Ok.ensures.1 in
-    let all : ReadAll (g.R.Source.log c.args.r.now) (g.R.Source.log c.read.new.self) text = read_end _ _ _ c.loop.counter text c.loop.invariant.gave took (omega arith) in
-    let w0 = g.W.Sink.log c.args.w.now in
-    let w1 = g.W.Sink.log c.finish.new.w in
-    let m = subst (λ (l : ℕ). MatchResult c.finish.result (λ _. WroteEncoding l w0 w1 text) (StoppedAtEnd l w0 w1 text)) c.loop.invariant.limit (c.finish.ensures w0 text c.loop.invariant.stands) in
-    ends_err c.args.limit _ _ _ _ text c.finish.result all m
-
-pub returns-in_err-feed-clause-stopped : goal.returns-in_err-feed-clause-stopped
-returns-in_err-feed-clause-stopped g c =
+pub returns-in_err-feed_all-clause-stopped : goal.returns-in_err-feed_all-clause-stopped
+returns-in_err-feed_all-clause-stopped g c =
     let p = err_from_is_err_and c.from_residual.result c.from_residual.ensures.1 in
-    let got = take c.in-Ok.n c.read.new.buf in
-    let text = c.loop.invariant.text in
-    let some : 0 < length got = omega (arith, c.in-Ok.ensures.0, length-take c.in-Ok.n c.read.new.buf) in
-    let gave : Gave (g.R.Source.log c.args.r.now) (g.R.Source.log c.read.new.self) (c.loop.counter + 1) (text ++ got) = read_more _ _ _ c.loop.counter text got c.loop.invariant.gave c.in-Ok.ensures.1 some in
-    let w0 = g.W.Sink.log c.args.w.now in
-    let w1 = g.W.Sink.log c.feed.new.w in
-    let e = c.in_err-feed.field-0.0 in
-    let stop = subst (λ (l : ℕ). Stopped l w0 w1 (text ++ got) e) c.loop.invariant.limit (c.in_err-feed.ensures.stands w0 text c.loop.invariant.stands) in
-    rw (p.1, p.2) (stop_while c.args.limit (c.loop.counter + 1) _ _ _ _ (text ++ got) e gave stop)
+    let e = c.in_err-feed_all.field-0.0 in
+    rw (p.1, p.2)
+    (subst (λ (l : ℕ). EncodeStopped l (g.R.Source.log c.args.r.now) (g.R.Source.log c.feed_all.new.r) (g.W.Sink.log c.args.w.now) (g.W.Sink.log c.feed_all.new.w) e) c.new-encoder.ensures.limit c.in_err-feed_all.ensures.stopped)
 
-pub loop-preserved : goal.loop-preserved
-loop-preserved g c =
-    let got = take c.in-Ok.n c.read.new.buf in
-    let text = c.loop.invariant.text in
-    let some : 0 < length got = omega (arith, c.in-Ok.ensures.0, length-take c.in-Ok.n c.read.new.buf) in
-    record {
-      text = text ++ got;
-      gave = read_more _ _ _ c.loop.counter text got c.loop.invariant.gave c.in-Ok.ensures.1 some;
-      stands = c.in_ok-feed.ensures.stands _ text c.loop.invariant.stands;
-      number = omega (arith, c.in_ok-feed.ensures.number, c.loop.invariant.number, c.in-Ok.ensures.0, length-take c.in-Ok.n c.read.new.buf);
-      limit = c.in_ok-feed.ensures.limit ∙ c.loop.invariant.limit;
-      sink = omega (arith, c.in_ok-feed.ensures.sink, c.loop.invariant.sink);
-    }
+pub returns-clause-done : goal.returns-clause-done
+returns-clause-done g c =
+    let (text, all, stands) = c.in_ok-feed_all.ensures.stands in
+    let w0 = g.W.Sink.log c.args.w.now in
+    let w1 = g.W.Sink.log c.finish.new.w in
+    let m = subst (λ (l : ℕ). MatchResult c.finish.result (λ _. WroteEncoding l w0 w1 text) (StoppedAtEnd l w0 w1 text)) (c.in_ok-feed_all.ensures.limit ∙ c.new-encoder.ensures.limit) (c.finish.ensures w0 text stands) in
+    ends_ok c.args.limit _ _ _ _ text c.finish.result all m
 
 pub returns-clause-stopped : goal.returns-clause-stopped
 returns-clause-stopped g c =
-    let e = c.loop.encoder in
-    let s = subst (λ (l : ℕ). StandsAt l (g.W.Sink.log c.args.w.now) (g.W.Sink.log c.loop.w) c.loop.invariant.text (entries_in e.pending) e.number e.line.items e.out.items) c.loop.invariant.limit c.loop.invariant.stands in
-    read_bound c.args.limit _ _ _ _ c.loop.invariant.text _ _ _ _ c.loop.counter (omega arith) c.loop.invariant.gave s
+    let (text, all, stands) = c.in_ok-feed_all.ensures.stands in
+    let w0 = g.W.Sink.log c.args.w.now in
+    let w1 = g.W.Sink.log c.finish.new.w in
+    let m = subst (λ (l : ℕ). MatchResult c.finish.result (λ _. WroteEncoding l w0 w1 text) (StoppedAtEnd l w0 w1 text)) (c.in_ok-feed_all.ensures.limit ∙ c.new-encoder.ensures.limit) (c.finish.ensures w0 text stands) in
+    ends_err c.args.limit _ _ _ _ text c.finish.result all m

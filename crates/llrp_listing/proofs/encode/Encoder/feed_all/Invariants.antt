@@ -1,14 +1,14 @@
 use Rattle.std.proofs.Common.{◌≡◌, ◌≤◌, ◌*◌, ℕ, List}
 use Rattle.llrp_stream.specs.Device.{Gave}
 use Rattle.llrp_listing.specs.Encoder.{Stands}
-use Rattle.llrp_listing.proofs.encode.run_encode.Given as goal
+use Rattle.llrp_listing.proofs.encode.Encoder.feed_all.Given as goal
 
 abbrev pub invariant-loop : goal.invariant-loop
 invariant-loop g l = record {
   text : List ℕ;
   gave : Gave (g.R.Source.log l.fn.r) (g.R.Source.log l.r) l.counter text;
-  stands : Stands (g.W.Sink.log l.fn.w) (g.W.Sink.log l.w) text l.encoder;
-  number : l.encoder.number ≤ 65536 * l.counter;
-  limit : l.encoder.limit ≡ l.limit;
+  stands : Stands (g.W.Sink.log l.fn.w) (g.W.Sink.log l.w) text l.self;
+  number : l.self.number ≤ 65536 * l.counter;
+  limit : l.self.limit ≡ l.fn.self.limit;
   sink : (g.W.Sink.log l.w).failures ≡ (g.W.Sink.log l.fn.w).failures;
 }
