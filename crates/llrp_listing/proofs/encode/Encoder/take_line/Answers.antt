@@ -1,5 +1,6 @@
 use Rattle.std.proofs.lemmas.Result.{err_from_is_err_and}
 use Rattle.llrp_listing.specs.OpenLines.{entries_in}
+use Rattle.llrp_listing.proofs.DeviceLemmas.{same_failures}
 use Rattle.llrp_listing.proofs.Standing.{close_result, line_more, pieces_stop}
 use Rattle.llrp_listing.proofs.encode.Encoder.take_line.Goals as goal
 
@@ -15,3 +16,6 @@ returns-in-Err-clause-stands g c =
 pub returns-in_ok-hand_on_pieces-in-Ok-clause-stands : goal.returns-in_ok-hand_on_pieces-in-Ok-clause-stands
 returns-in_ok-hand_on_pieces-in-Ok-clause-stands g c =
     λ start text begun part s n ok. rw (c.in-Ok.ensures.limit, c.in-Ok.ensures.number, c.clear.ensures.items) (line_more part c.args.line (entries_in c.open_line.new.self.pending) c.open_line.new.self.out.items c.hand_on_pieces.new.gathered.items s n ok c.in-Ok.ensures.opened c.in_ok-hand_on_pieces-in-Ok.ensures.handed)
+
+pub returns-in_ok-hand_on_pieces-in-Ok-clause-sink : goal.returns-in_ok-hand_on_pieces-in-Ok-clause-sink
+returns-in_ok-hand_on_pieces-in-Ok-clause-sink g c = same_failures _ _ _ c.in_ok-hand_on_pieces-in-Ok.ensures.handed.2
