@@ -114,11 +114,10 @@ impl Encoder {
                 self.pending = Some(OpenMessage::new(alloc, line, number));
             }
             Line::Parameter(line) => {
-                let Some(mut message) = self.pending.take() else {
+                let Some(message) = &mut self.pending else {
                     unreachable!()
                 };
                 message.open_parameter(alloc, line, number)?;
-                self.pending = Some(message);
             }
         }
         Ok(())
