@@ -1,0 +1,25 @@
+use Rattle.std.proofs.Common.{◌≡◌, ◌<◌, ◌+◌, ◌++◌, [], ℕ, length, arith, subst, length-append}
+use Rattle.std.proofs.lemmas.Result.{err_from_is_err_and}
+use Rattle.llrp_listing.specs.LineChecks.{LONGEST_LINE}
+use Rattle.llrp_listing.specs.LineReading.{ReadsLine}
+use Rattle.llrp_listing.specs.OpenLines.{entries_in}
+use Rattle.llrp_listing.proofs.Closings.{none_items}
+use Rattle.llrp_listing.proofs.LineSays.{line_long}
+use Rattle.llrp_listing.proofs.encode.Encoder.read.Goals as goal
+
+pub returns-then-is_empty-clause-read : goal.returns-then-is_empty-clause-read
+returns-then-is_empty-clause-read c =
+    let none : length c.args.self.now.line.items ≡ 0 = grind (arith, c.is_empty.ensures, c.if-is_empty.true) in
+    let empty : c.args.self.now.line.items ≡ [] = none_items c.args.self.now.line.items none in
+    rw empty (subst (λ (depth : ℕ). ReadsLine depth c.args.part.now c.read_line.result) c.depth-depth.ensures c.read_line.ensures)
+
+pub returns-then-is_too_long-clause-read : goal.returns-then-is_too_long-clause-read
+returns-then-is_too_long-clause-read c =
+    let bytes = c.args.self.now.line.items ++ c.args.part.now in
+    let long : LONGEST_LINE < length c.args.self.now.line.items + length c.args.part.now = c.is_too_long.ensures c.if-is_too_long.true in
+    line_long (length (entries_in c.args.self.now.pending)) bytes (omega (arith, long, length-append c.args.self.now.line.items c.args.part.now))
+
+pub returns-in_err-extend_from_slice-clause-read : goal.returns-in_err-extend_from_slice-clause-read
+returns-in_err-extend_from_slice-clause-read c =
+    let p = err_from_is_err_and c.from_residual.result c.from_residual.ensures.1 in
+    rw (p.1, p.2) tt
