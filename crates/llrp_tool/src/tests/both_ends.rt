@@ -2,11 +2,9 @@
 
 use crate::tests::devices::Failing;
 use crate::tests::gathering::{ADD, CONNECTED};
-use crate::tests::inventory::OneByOne;
+use crate::tests::inventory::{OneByOne, inventory_of};
 use crate::tests::serve::bytes;
-use crate::{
-    Endpoint, Input, Output, Script, Summary, ToolErr, run_inventory, run_loop, standard_plan,
-};
+use crate::{Endpoint, Input, Output, Script, Summary, ToolErr, run_loop, standard_plan};
 use llrp_session::Reader;
 use std::alloc::Global;
 use std::test::*;
@@ -108,35 +106,64 @@ static RUNS: [Run; 2] = [
     },
 ];
 
+/// How a run over memory ended, and what was written.
+#[derive(Drop)]
+struct Exchange {
+    end: Result<Summary, ToolErr>,
+    down: Vec<u8>,
+    up: Vec<u8>,
+    lines: Vec<u8>,
+}
+
+/// A reader that acts by a script and a client that follows a plan of one poll, each of which reads the
+/// bytes that the other is to send.
+fn exchange_of(
+    alloc: Global,
+    script: &[u8],
+    every: u16,
+    down: &[u8],
+    up: &[u8],
+) -> Result<Exchange, ToolErr> {
+    let script = Script::parse(alloc, script)?;
+    let plan = standard_plan(alloc, every, 1)?;
+    let mut client_end = Endpoint {
+        source: Input::new(down),
+        sink: Output::new(Vec::new(alloc)),
+    };
+    let mut reader_end = Endpoint {
+        source: Input::new(up),
+        sink: Output::new(Vec::new(alloc)),
+    };
+    let mut lines = Output::new(Vec::new(alloc));
+    let end = run_loop(
+        alloc,
+        Reader::new(alloc, 65_536, 1),
+        script,
+        plan,
+        65_536,
+        &mut client_end,
+        &mut reader_end,
+        &mut lines,
+    );
+    Ok(Exchange {
+        end,
+        down: reader_end.sink.into_inner(),
+        up: client_end.sink.into_inner(),
+        lines: lines.into_inner(),
+    })
+}
+
 #[test]
 fn whole_runs(rt: HostRuntime) -> Result<(), Fail> {
     let alloc = rt.alloc();
     for run in &RUNS {
         let down = bytes(alloc, run.down)?;
         let up = bytes(alloc, run.up)?;
-        let mut client_end = Endpoint {
-            source: Input::new(down.as_slice()),
-            sink: Output::new(Vec::new(alloc)),
-        };
-        let mut reader_end = Endpoint {
-            source: Input::new(up.as_slice()),
-            sink: Output::new(Vec::new(alloc)),
-        };
-        let mut lines = Output::new(Vec::new(alloc));
-        let end = run_loop(
-            alloc,
-            Reader::new(alloc, 65_536, 1),
-            Script::parse(alloc, run.script)?,
-            standard_plan(alloc, run.every, 1)?,
-            65_536,
-            &mut client_end,
-            &mut reader_end,
-            &mut lines,
-        );
-        assert!(rt; end == Ok(run.summary));
-        assert!(rt; client_end.sink.into_inner().as_slice() == up.as_slice());
-        assert!(rt; reader_end.sink.into_inner().as_slice() == down.as_slice());
-        assert!(rt; lines.into_inner().as_slice() == run.lines);
+        let exchange = exchange_of(alloc, run.script, run.every, down.as_slice(), up.as_slice())?;
+        assert!(rt; exchange.end == Ok(run.summary));
+        assert!(rt; exchange.up.as_slice() == up.as_slice());
+        assert!(rt; exchange.down.as_slice() == down.as_slice());
+        assert!(rt; exchange.lines.as_slice() == run.lines);
     }
     Ok(())
 }
@@ -146,15 +173,11 @@ fn their_clients_alone(rt: HostRuntime) -> Result<(), Fail> {
     let alloc = rt.alloc();
     for run in &RUNS {
         let down = bytes(alloc, run.down)?;
+        let inventory = inventory_of(alloc, run.every, 1, 65_536, down.as_slice())?;
+        assert!(rt; inventory.end == Ok(run.summary));
         let wanted = bytes(alloc, run.up)?;
-        let mut source = Input::new(down.as_slice());
-        let mut up = Output::new(Vec::new(alloc));
-        let mut lines = Output::new(Vec::new(alloc));
-        let plan = standard_plan(alloc, run.every, 1)?;
-        let end = run_inventory(alloc, plan, 65_536, &mut source, &mut up, &mut lines);
-        assert!(rt; end == Ok(run.summary));
-        assert!(rt; up.into_inner().as_slice() == wanted.as_slice());
-        assert!(rt; lines.into_inner().as_slice() == run.lines);
+        assert!(rt; inventory.up.as_slice() == wanted.as_slice());
+        assert!(rt; inventory.lines.as_slice() == run.lines);
     }
     Ok(())
 }
@@ -212,27 +235,9 @@ fn runs_that_end_before_the_closing(rt: HostRuntime) -> Result<(), Fail> {
     for row in &ROWS {
         let down = bytes(alloc, row.down)?;
         let up = bytes(alloc, row.up)?;
-        let mut client_end = Endpoint {
-            source: Input::new(down.as_slice()),
-            sink: Output::new(Vec::new(alloc)),
-        };
-        let mut reader_end = Endpoint {
-            source: Input::new(up.as_slice()),
-            sink: Output::new(Vec::new(alloc)),
-        };
-        let mut lines = Output::new(Vec::new(alloc));
-        let end = run_loop(
-            alloc,
-            Reader::new(alloc, 65_536, 1),
-            Script::parse(alloc, b"")?,
-            standard_plan(alloc, 0, 1)?,
-            65_536,
-            &mut client_end,
-            &mut reader_end,
-            &mut lines,
-        );
-        assert!(rt; end == Err(row.end), "at {}", row.name);
-        assert!(rt; lines.into_inner().is_empty());
+        let exchange = exchange_of(alloc, b"", 0, down.as_slice(), up.as_slice())?;
+        assert!(rt; exchange.end == Err(row.end), "at {}", row.name);
+        assert!(rt; exchange.lines.is_empty());
     }
     Ok(())
 }
@@ -290,42 +295,67 @@ fn failed_run(
 }
 
 #[test]
-fn each_call_fails_in_turn(rt: HostRuntime) -> Result<(), Fail> {
+fn a_run_over_devices_of_one_byte_a_call(rt: HostRuntime) -> Result<(), Fail> {
+    let run = &RUNS[0];
+    assert!(rt; failed_run(rt.alloc(), run, NONE)? == (Ok(run.summary), true));
+    Ok(())
+}
+
+#[test]
+fn each_call_of_the_client_fails_in_turn(rt: HostRuntime) -> Result<(), Fail> {
     let alloc = rt.alloc();
     let run = &RUNS[0];
-    let down = bytes(alloc, run.down)?.len();
-    let up = bytes(alloc, run.up)?.len();
-    assert!(rt; failed_run(alloc, run, NONE)? == (Ok(run.summary), true));
-    for left in 0..down {
+    let count = bytes(alloc, run.down)?.len();
+    for left in 0..count {
         let reads = Failures {
             down_reads: left,
             ..NONE
         };
-        let writes = Failures {
-            down_writes: left,
-            ..NONE
-        };
         assert!(rt; failed_run(alloc, run, reads)? == (Err(ToolErr::Read), true));
-        assert!(rt; failed_run(alloc, run, writes)? == (Err(ToolErr::Write), true));
     }
-    for left in 0..up {
-        let reads = Failures {
-            up_reads: left,
-            ..NONE
-        };
+    let count = bytes(alloc, run.up)?.len();
+    for left in 0..count {
         let writes = Failures {
             up_writes: left,
             ..NONE
         };
-        assert!(rt; failed_run(alloc, run, reads)? == (Err(ToolErr::Read), true));
         assert!(rt; failed_run(alloc, run, writes)? == (Err(ToolErr::Write), true));
     }
+    Ok(())
+}
+
+#[test]
+fn each_call_of_the_reader_fails_in_turn(rt: HostRuntime) -> Result<(), Fail> {
+    let alloc = rt.alloc();
+    let run = &RUNS[0];
+    let count = bytes(alloc, run.up)?.len();
+    for left in 0..count {
+        let reads = Failures {
+            up_reads: left,
+            ..NONE
+        };
+        assert!(rt; failed_run(alloc, run, reads)? == (Err(ToolErr::Read), true));
+    }
+    let count = bytes(alloc, run.down)?.len();
+    for left in 0..count {
+        let writes = Failures {
+            down_writes: left,
+            ..NONE
+        };
+        assert!(rt; failed_run(alloc, run, writes)? == (Err(ToolErr::Write), true));
+    }
+    Ok(())
+}
+
+#[test]
+fn each_report_fails_in_turn(rt: HostRuntime) -> Result<(), Fail> {
+    let run = &RUNS[0];
     for left in 0..run.lines.len() {
         let reports = Failures {
             reports: left,
             ..NONE
         };
-        assert!(rt; failed_run(alloc, run, reports)? == (Err(ToolErr::Write), true));
+        assert!(rt; failed_run(rt.alloc(), run, reports)? == (Err(ToolErr::Write), true));
     }
     Ok(())
 }

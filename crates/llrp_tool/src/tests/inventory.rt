@@ -1,6 +1,6 @@
 //! Following a plan over devices.
 
-ghost use Rattle.std.specs.Prelude.{◌≡◌, None};
+ghost use Rattle.std.specs.Prelude.{◌≡◌, ◌≤◌, None};
 
 use crate::tests::devices::Failing;
 use crate::tests::gathering::{ADD, CONNECTED, DOWN, ENABLE, LINES, UP};
@@ -89,24 +89,51 @@ static ROWS: [Row; 10] = [
     },
 ];
 
+/// How a client ended that followed a plan, and what it wrote.
+#[derive(Drop)]
+pub(super) struct Inventory {
+    pub end: Result<Summary, ToolErr>,
+    pub up: Vec<u8>,
+    pub lines: Vec<u8>,
+}
+
+/// A client follows a plan of these two numbers, and its reader sends these bytes.
+pub(super) fn inventory_of(
+    alloc: Global,
+    every: u16,
+    polls: u16,
+    limit: u32,
+    down: &[u8],
+) -> Result<Inventory, ToolErr>
+    requires least { 4096 ≤ limit }
+    requires most { limit ≤ 65536 }
+{
+    let plan = standard_plan(alloc, every, polls)?;
+    let mut up = Output::new(Vec::new(alloc));
+    let mut lines = Output::new(Vec::new(alloc));
+    let mut source = Input::new(down);
+    let end = run_inventory(alloc, plan, limit, &mut source, &mut up, &mut lines);
+    Ok(Inventory {
+        end,
+        up: up.into_inner(),
+        lines: lines.into_inner(),
+    })
+}
+
 #[test]
 fn runs_that_end_before_the_closing(rt: HostRuntime) -> Result<(), Fail> {
     let alloc = rt.alloc();
     for row in &ROWS {
         let down = bytes(alloc, row.down)?;
+        let inventory = inventory_of(alloc, 0, 1, 65_536, down.as_slice())?;
+        assert!(rt; inventory.end == row.end, "at {}", row.name);
         let wanted = bytes(alloc, row.up)?;
-        let mut source = Input::new(down.as_slice());
-        let mut up = Output::new(Vec::new(alloc));
-        let mut lines = Output::new(Vec::new(alloc));
-        let plan = standard_plan(alloc, 0, 1)?;
-        let end = run_inventory(alloc, plan, 65_536, &mut source, &mut up, &mut lines);
-        assert!(rt; end == row.end, "at {}", row.name);
         assert!(rt;
-            up.into_inner().as_slice() == wanted.as_slice(),
+            inventory.up.as_slice() == wanted.as_slice(),
             "at {}",
             row.name
         );
-        assert!(rt; lines.into_inner().is_empty());
+        assert!(rt; inventory.lines.is_empty());
     }
     Ok(())
 }
@@ -119,17 +146,12 @@ const ROSPEC: &[u8] =
 fn the_rospec_of_a_plan(rt: HostRuntime) -> Result<(), Fail> {
     let alloc = rt.alloc();
     let down = bytes(alloc, &[CONNECTED])?;
-    let mut source = Input::new(down.as_slice());
-    let mut up = Output::new(Vec::new(alloc));
-    let mut lines = Output::new(Vec::new(alloc));
-    let plan = standard_plan(alloc, 500, 0)?;
-    let end = run_inventory(alloc, plan, 65_536, &mut source, &mut up, &mut lines);
-    assert!(rt; end == Err(ToolErr::Early));
-    let sent = up.into_inner();
+    let inventory = inventory_of(alloc, 500, 0, 65_536, down.as_slice())?;
+    assert!(rt; inventory.end == Err(ToolErr::Early));
     let mut listing = Output::new(Vec::new(alloc));
     run_show(
         alloc,
-        &mut Input::new(sent.as_slice()),
+        &mut Input::new(inventory.up.as_slice()),
         &mut listing,
         65_536,
     )?;
@@ -186,64 +208,67 @@ fn one_run_over_devices(rt: HostRuntime) -> Result<(), Fail> {
     let alloc = rt.alloc();
     let down = bytes(alloc, &DOWN)?;
     let wanted = bytes(alloc, &UP)?;
-    let mut source = Input::new(down.as_slice());
-    let mut up = Output::new(Vec::new(alloc));
-    let mut lines = Output::new(Vec::new(alloc));
+    let inventory = inventory_of(alloc, 0, 1, 4096, down.as_slice())?;
+    let summary = Summary {
+        tags: 1,
+        reports: 2,
+    };
+    assert!(rt; inventory.end == Ok(summary));
+    assert!(rt; inventory.up.as_slice() == wanted.as_slice());
+    assert!(rt; inventory.lines.as_slice() == LINES);
+    Ok(())
+}
+
+/// How that run ends over devices of one byte a call that fail in the call after so many, how much was
+/// written, and whether that are fronts.
+fn failed_run(
+    alloc: Global,
+    reads: usize,
+    writes: usize,
+    reports: usize,
+) -> Result<(Result<Summary, ToolErr>, usize, usize, bool), ToolErr> {
+    let down = bytes(alloc, &DOWN)?;
+    let wanted = bytes(alloc, &UP)?;
     let plan = standard_plan(alloc, 0, 1)?;
+    let mut source = OneByOne::new(down.as_slice(), reads);
+    let mut up = Failing::after(alloc, writes);
+    let mut lines = Failing::after(alloc, reports);
     let end = run_inventory(alloc, plan, 4096, &mut source, &mut up, &mut lines);
-    assert!(rt;
-        end == Ok(Summary {
-            tags: 1,
-            reports: 2
-        })
-    );
-    assert!(rt; up.into_inner().as_slice() == wanted.as_slice());
-    assert!(rt; lines.into_inner().as_slice() == LINES);
-    Ok(())
+    let fronts = wanted.starts_with(up.taken()) && LINES.starts_with(lines.taken());
+    Ok((end, up.taken().len(), lines.taken().len(), fronts))
 }
 
 #[test]
-fn a_read_that_fails_leaves_a_front(rt: HostRuntime) -> Result<(), Fail> {
+fn a_read_that_fails_leaves_fronts(rt: HostRuntime) -> Result<(), Fail> {
     let alloc = rt.alloc();
-    let down = bytes(alloc, &DOWN)?;
-    let wanted = bytes(alloc, &UP)?;
-    for left in 0..down.len() {
-        let mut source = OneByOne::new(down.as_slice(), left);
-        let mut up = Output::new(Vec::new(alloc));
-        let mut lines = Output::new(Vec::new(alloc));
-        let plan = standard_plan(alloc, 0, 1)?;
-        let end = run_inventory(alloc, plan, 4096, &mut source, &mut up, &mut lines);
+    let count = bytes(alloc, &DOWN)?.len();
+    for left in 0..count {
+        let (end, _, _, fronts) = failed_run(alloc, left, usize::MAX, usize::MAX)?;
         assert!(rt; end == Err(ToolErr::Read));
-        assert!(rt; wanted.starts_with(up.into_inner().as_slice()));
-        assert!(rt; LINES.starts_with(lines.into_inner().as_slice()));
+        assert!(rt; fronts);
     }
     Ok(())
 }
 
 #[test]
-fn a_write_that_fails_leaves_a_front(rt: HostRuntime) -> Result<(), Fail> {
+fn a_write_that_fails_leaves_fronts(rt: HostRuntime) -> Result<(), Fail> {
     let alloc = rt.alloc();
-    let down = bytes(alloc, &DOWN)?;
-    let wanted = bytes(alloc, &UP)?;
-    for left in 0..wanted.len() {
-        let mut source = OneByOne::new(down.as_slice(), usize::MAX);
-        let mut up = Failing::after(alloc, left);
-        let mut lines = Failing::after(alloc, usize::MAX);
-        let plan = standard_plan(alloc, 0, 1)?;
-        let end = run_inventory(alloc, plan, 4096, &mut source, &mut up, &mut lines);
+    let count = bytes(alloc, &UP)?.len();
+    for left in 0..count {
+        let (end, sent, _, fronts) = failed_run(alloc, usize::MAX, left, usize::MAX)?;
         assert!(rt; end == Err(ToolErr::Write));
-        assert!(rt; up.taken().len() == left && wanted.starts_with(up.taken()));
-        assert!(rt; LINES.starts_with(lines.taken()));
+        assert!(rt; sent == left && fronts);
     }
+    Ok(())
+}
+
+#[test]
+fn a_report_that_fails_leaves_fronts(rt: HostRuntime) -> Result<(), Fail> {
+    let alloc = rt.alloc();
     for left in 0..LINES.len() {
-        let mut source = OneByOne::new(down.as_slice(), usize::MAX);
-        let mut up = Failing::after(alloc, usize::MAX);
-        let mut lines = Failing::after(alloc, left);
-        let plan = standard_plan(alloc, 0, 1)?;
-        let end = run_inventory(alloc, plan, 4096, &mut source, &mut up, &mut lines);
+        let (end, _, told, fronts) = failed_run(alloc, usize::MAX, usize::MAX, left)?;
         assert!(rt; end == Err(ToolErr::Write));
-        assert!(rt; wanted.starts_with(up.taken()));
-        assert!(rt; lines.taken().len() == left && LINES.starts_with(lines.taken()));
+        assert!(rt; told == left && fronts);
     }
     Ok(())
 }

@@ -1,5 +1,8 @@
 //! Serving one client.
 
+ghost use Rattle.std.specs.Prelude.{◌≢◌, IfOk};
+
+use crate::serving::Phase;
 use crate::{Input, Output, Script, Serving, ToolErr, bytes_of_hex, run_serve};
 use llrp_session::Reader;
 use std::alloc::Global;
@@ -61,62 +64,77 @@ fn served(
     Ok((end, sink.into_inner()))
 }
 
+/// A script, a client's bytes, what the reader sends, and how serving ends.
+struct Row {
+    name: &'static str,
+    script: &'static [u8],
+    up: &'static [&'static str],
+    down: &'static [&'static str],
+    end: Result<(), ToolErr>,
+}
+
+static ROWS: [Row; 5] = [
+    Row {
+        name: "an empty script and a clean end",
+        script: b"",
+        up: &[ADD],
+        down: &[CONNECTED, ADDED],
+        end: Ok(()),
+    },
+    Row {
+        name: "entries happen after their items",
+        script: b"2 5 tick\n\
+            3 6 seen 1 -60 urn:epc:tag:sgtin-96:3.0614141.812345.6789\n\
+            3 7 tick\n",
+        up: &[ADD, ENABLE, START, STOP],
+        down: &[CONNECTED, ADDED, ENABLED, STARTED, STOPPED],
+        end: Ok(()),
+    },
+    Row {
+        name: "nothing follows the closing",
+        script: b"2 9 tick\n",
+        up: &[ADD, CLOSE, ADD, "0814"],
+        down: &[CONNECTED, ADDED, CLOSED],
+        end: Ok(()),
+    },
+    Row {
+        name: "an end within a frame",
+        script: b"",
+        up: &[ADD, "08140000003E"],
+        down: &[CONNECTED, ADDED],
+        end: Err(ToolErr::Early),
+    },
+    Row {
+        name: "a length field below 10",
+        script: b"",
+        up: &[ADD, "081400000009"],
+        down: &[CONNECTED, ADDED],
+        end: Err(ToolErr::Broken),
+    },
+];
+
 #[test]
-fn an_empty_script_and_a_clean_end(rt: HostRuntime) -> Result<(), Fail> {
+fn servings(rt: HostRuntime) -> Result<(), Fail> {
     let alloc = rt.alloc();
-    let stream = bytes(alloc, &[ADD])?;
-    let wanted = bytes(alloc, &[CONNECTED, ADDED])?;
-    let (end, written) = served(alloc, b"", stream.as_slice())?;
-    assert!(rt; end == Ok(()));
-    assert!(rt; written.as_slice() == wanted.as_slice());
+    for row in &ROWS {
+        let up = bytes(alloc, row.up)?;
+        let (end, written) = served(alloc, row.script, up.as_slice())?;
+        assert!(rt; end == row.end, "at {}", row.name);
+        let down = bytes(alloc, row.down)?;
+        assert!(rt; written.as_slice() == down.as_slice(), "at {}", row.name);
+    }
     Ok(())
 }
 
-#[test]
-fn entries_happen_after_their_items(rt: HostRuntime) -> Result<(), Fail> {
-    let alloc = rt.alloc();
-    let script = b"2 5 tick\n\
-        3 6 seen 1 -60 urn:epc:tag:sgtin-96:3.0614141.812345.6789\n\
-        3 7 tick\n";
-    let stream = bytes(alloc, &[ADD, ENABLE, START, STOP])?;
-    let wanted = bytes(alloc, &[CONNECTED, ADDED, ENABLED, STARTED, STOPPED])?;
-    let (end, written) = served(alloc, script, stream.as_slice())?;
-    assert!(rt; end == Ok(()));
-    assert!(rt; written.as_slice() == wanted.as_slice());
-    Ok(())
-}
-
-#[test]
-fn nothing_follows_the_closing(rt: HostRuntime) -> Result<(), Fail> {
-    let alloc = rt.alloc();
-    let stream = bytes(alloc, &[ADD, CLOSE, ADD, "0814"])?;
-    let wanted = bytes(alloc, &[CONNECTED, ADDED, CLOSED])?;
-    let (end, written) = served(alloc, b"2 9 tick\n", stream.as_slice())?;
-    assert!(rt; end == Ok(()));
-    assert!(rt; written.as_slice() == wanted.as_slice());
-    Ok(())
-}
-
-#[test]
-fn an_end_within_a_frame_is_early(rt: HostRuntime) -> Result<(), Fail> {
-    let alloc = rt.alloc();
-    let stream = bytes(alloc, &[ADD, "08140000003E"])?;
-    let wanted = bytes(alloc, &[CONNECTED, ADDED])?;
-    let (end, written) = served(alloc, b"", stream.as_slice())?;
-    assert!(rt; end == Err(ToolErr::Early));
-    assert!(rt; written.as_slice() == wanted.as_slice());
-    Ok(())
-}
-
-#[test]
-fn a_length_field_below_ten_is_broken(rt: HostRuntime) -> Result<(), Fail> {
-    let alloc = rt.alloc();
-    let stream = bytes(alloc, &[ADD, "081400000009"])?;
-    let wanted = bytes(alloc, &[CONNECTED, ADDED])?;
-    let (end, written) = served(alloc, b"", stream.as_slice())?;
-    assert!(rt; end == Err(ToolErr::Broken));
-    assert!(rt; written.as_slice() == wanted.as_slice());
-    Ok(())
+/// A reader without entries that has started, and what it said.
+fn started(alloc: Global) -> Result<(Serving, Vec<u8>), ToolErr>
+    ensures { IfOk result (λ s. s.0.phase ≢ Phase.New) }
+{
+    let script = Script::parse(alloc, b"")?;
+    let mut out = Vec::new(alloc);
+    let mut serving = Serving::new(alloc, Reader::new(alloc, 65_536, 1), script);
+    serving.start(&mut out)?;
+    Ok((serving, out))
 }
 
 #[test]
@@ -126,13 +144,7 @@ fn a_stream_cut_anywhere(rt: HostRuntime) -> Result<(), Fail> {
     let wanted = bytes(alloc, &[CONNECTED, ADDED, CLOSED])?;
     for cut in 0..stream.len() {
         let (front, back) = stream.as_slice().split_at(cut);
-        let mut out = Vec::new(alloc);
-        let mut serving = Serving::new(
-            alloc,
-            Reader::new(alloc, 65_536, 1),
-            Script::parse(alloc, b"")?,
-        );
-        serving.start(&mut out)?;
+        let (mut serving, mut out) = started(alloc)?;
         assert!(rt; serving.feed(front, &mut out) == Ok(false));
         assert!(rt; serving.feed(back, &mut out) == Ok(true));
         assert!(rt; serving.feed(front, &mut out) == Ok(true));
@@ -144,13 +156,7 @@ fn a_stream_cut_anywhere(rt: HostRuntime) -> Result<(), Fail> {
 #[test]
 fn an_error_is_answered_again(rt: HostRuntime) -> Result<(), Fail> {
     let alloc = rt.alloc();
-    let mut out = Vec::new(alloc);
-    let mut serving = Serving::new(
-        alloc,
-        Reader::new(alloc, 65_536, 1),
-        Script::parse(alloc, b"")?,
-    );
-    serving.start(&mut out)?;
+    let (mut serving, mut out) = started(alloc)?;
     let said = out.len();
     assert!(rt; serving.feed(b"\x08\x14\0\0\0\x09", &mut out) == Err(ToolErr::Broken));
     assert!(rt; serving.feed(b"\x08", &mut out) == Err(ToolErr::Broken));
