@@ -1,5 +1,5 @@
 -- What a `Serving` stands for, and what its calls make of it.
-use Rattle.std.specs.Prelude.{◌≡◌, ℕ, ◌+◌, ◌<◌, ◌≤◌, ◌++◌, List, [], ◌∷◌, length, map, min, Result, Ok, Err, Bool, true, false}
+use Rattle.std.specs.Prelude.{◌≡◌, ◌≢◌, ℕ, ◌+◌, ◌<◌, ◌≤◌, ◌++◌, List, [], ◌∷◌, length, map, min, Result, Ok, Err, Bool, true, false}
 use Rattle.std.specs.List.{AllByRecursion}
 use Rattle.llrp_tree.specs.Tree.{MessageTree}
 use Rattle.llrp_stream.specs.Decoding.{Stands}
@@ -71,6 +71,14 @@ IsClosed s = s.phase ≡ Closed
 
 abbrev pub HasFailed : ToolErr → Serving → Type 0
 HasFailed error s = s.phase ≡ Failed error
+
+-- no client has connected yet
+abbrev pub HasNotStarted : Serving → Type 0
+HasNotStarted s = s.phase ≡ New
+
+-- `start` was called
+abbrev pub HasStarted : Serving → Type 0
+HasStarted s = s.phase ≢ New
 
 -- ---- the calls
 

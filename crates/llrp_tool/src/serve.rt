@@ -6,10 +6,10 @@ ghost use Rattle.llrp_stream.specs.Device.{IsFreshSource};
 ghost use Rattle.llrp_tool.specs.declared.script.Entry.{Entry};
 ghost use Rattle.llrp_tool.specs.RunServe.{RunsServe};
 ghost use Rattle.llrp_tool.specs.Serving.{IsNewReader};
-ghost use Rattle.llrp_tool.specs.ServingStands.{IsFresh};
+ghost use Rattle.llrp_tool.specs.ServingStands.{HasNotStarted, IsFresh};
 
 use crate::script::Script;
-use crate::serving::{Phase, Serving};
+use crate::serving::Serving;
 use llrp_listing::{MOST_READS, READ_SIZE, ToolErr, hand_on};
 use llrp_session::Reader;
 use llrp_stream::{Sink, Source};
@@ -23,7 +23,7 @@ fn serve<R: Source, W: Sink>(
     r: &mut R,
     w: &mut W,
 ) -> Result<(), ToolErr>
-    requires first { serving.old.phase ≡ Phase.New }
+    requires first { HasNotStarted serving.old }
     requires nothing { out.old.items ≡ [] }
     requires source { IsFreshSource (R.log r.old) }
     requires sink { (W.log w.old).failures < 2 ^ 63 }

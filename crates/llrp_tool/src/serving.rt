@@ -54,7 +54,7 @@ fn phase_after(answer: Result<bool, ToolErr>) -> Phase
 
 impl Serving {
     ghost use Rattle.llrp_tool.specs.Sending.{Adds};
-    ghost use Rattle.llrp_tool.specs.ServingStands.{Feeds, Finishes, Goes, HasFailed, IsClosed, IsFresh, IsOpen, StandsFor, Starts};
+    ghost use Rattle.llrp_tool.specs.ServingStands.{Feeds, Finishes, Goes, HasFailed, HasNotStarted, HasStarted, IsClosed, IsFresh, IsOpen, StandsFor, Starts};
 
     /// A reader as `Reader::new` made it, and its script. It takes no memory.
     pub fn new(alloc: Global, core: Reader, script: Script) -> Serving
@@ -72,10 +72,10 @@ impl Serving {
     /// The client connects at moment 0, and the entries that happen before any item. What the reader says
     /// is appended. It comes once, before any feed. The only error is `Memory`.
     pub fn start(&mut self, out: &mut Vec<u8>) -> Result<(), ToolErr>
-        requires { self.old.phase ≡ Phase.New }
+        requires { HasNotStarted self.old }
         ensures starts { (reader : Machine) (entries : List Entry) → IsFresh reader entries self.old
             → Starts reader entries self.new out.old.items out.new.items result }
-        ensures started { self.new.phase ≢ Phase.New }
+        ensures started { HasStarted self.new }
     {
         let outcome = self.reader.connect(out);
         self.phase = match outcome {
@@ -112,12 +112,12 @@ impl Serving {
     /// errors are `Broken` at a length field below 10, and `Memory`, after which each later feed answers
     /// that error.
     pub fn feed(&mut self, piece: &[u8], out: &mut Vec<u8>) -> Result<bool, ToolErr>
-        requires { self.old.phase ≢ Phase.New }
+        requires { HasStarted self.old }
         ensures feeds { (reader : Machine) (entries : List Entry) (bytes : List ℕ) (messages : List MessageTree) → IsOpen reader entries bytes messages self.old
             → Feeds reader entries bytes messages piece.now self.new out.old.items out.new.items result }
         ensures closed { IsClosed self.old → (result ≡ Ok true) × IsClosed self.new × (out.new.items ≡ out.old.items) }
         ensures failed { (error : ToolErr) → HasFailed error self.old → (result ≡ Err error) × HasFailed error self.new × (out.new.items ≡ out.old.items) }
-        ensures started { self.new.phase ≢ Phase.New }
+        ensures started { HasStarted self.new }
     {
         match self.phase {
             Phase::New | Phase::Open => {}

@@ -1,16 +1,17 @@
 //! The reader's side of a connection.
 
-ghost use Rattle.std.specs.Prelude.{◌≡◌, ◌≢◌, ◌≤◌, [], IfErr, IfOk, List, OnOk, ℕ};
+ghost use Rattle.std.specs.Prelude.{◌≡◌, ◌≤◌, [], IfErr, IfOk, List, OnOk, ℕ};
 ghost use Rattle.llrp_stream.specs.Device.{SourceLog};
 ghost use Rattle.llrp_tool.specs.EndsStand.{Given, HasRoom, ReaderHears, ReaderStands};
 ghost use Rattle.llrp_tool.specs.RunLoop.{Ends, Traffic};
 ghost use Rattle.llrp_tool.specs.RunServe.{BeginsFrames};
 ghost use Rattle.llrp_tool.specs.Serving.{IsNewReader};
+ghost use Rattle.llrp_tool.specs.ServingStands.{HasStarted};
 ghost use Rattle.llrp_listing.specs.declared.fault.ToolErr.TheVariants.{Memory};
 
 use super::pieces::read_piece;
 use crate::script::Script;
-use crate::serving::{Phase, Serving};
+use crate::serving::Serving;
 use llrp_listing::{READ_SIZE, ToolErr};
 use llrp_session::Reader;
 use llrp_stream::Source;
@@ -31,7 +32,7 @@ impl ReaderSide {
     pub fn new(alloc: Global, core: Reader, script: Script) -> Result<ReaderSide, ToolErr>
         requires { IsNewReader core }
         ensures ok { IfOk result (λ s. (e : Ends) → e.reader ≡ core → e.entries ≡ script → ReaderStands e [] [] s.serving s.said.items) }
-        ensures started { IfOk result (λ s. s.serving.phase ≢ Phase.New) }
+        ensures started { IfOk result (λ s. HasStarted s.serving) }
         ensures unread { IfOk result (λ s. s.reads ≡ 0) }
         ensures err { IfErr result (λ error. (error ≡ Memory) × (text : List ℕ) × BeginsFrames core script [] text) }
     {
@@ -50,9 +51,9 @@ impl ReaderSide {
     pub fn hear<R: Source>(&mut self, count: usize, r: &mut R) -> Result<(), ToolErr>
         requires a_piece { count ≤ 4096 }
         requires room { HasRoom (R.log r.old) self.old.reads }
-        requires started { self.old.serving.phase ≢ Phase.New }
+        requires started { HasStarted self.old.serving }
         ensures room { OnOk result (HasRoom (R.log r.new) self.new.reads) }
-        ensures started { self.new.serving.phase ≢ Phase.New }
+        ensures started { HasStarted self.new.serving }
         ensures idle { count ≡ 0 → self.new ≡ self.old }
         ensures hears { (e : Ends) (r0 : SourceLog) (down up : Traffic) → ReaderStands e down.written up.read self.old.serving self.old.said.items → Given r0 (R.log r.old) self.old.reads up.read
             → ReaderHears e r0 (R.log r.new) down up count self.old self.new result }
