@@ -12,8 +12,6 @@ ghost use Rattle.llrp_session.specs.ClientSteps.{IsCmdFault, IsTakeFault, sent_b
 mod commands;
 mod refusal;
 mod taking;
-#[cfg(test)]
-mod tests;
 mod view;
 
 use crate::words::{ClientPhase, Command, Pending, RoState, Taken, Viewed};

@@ -7,8 +7,6 @@ pub mod laws;
 mod reader;
 mod reading;
 mod telling;
-#[cfg(test)]
-mod tests;
 mod words;
 
 pub use client::{Client, CmdFault, CmdRefusal, TakeFault, TakeRefusal};

@@ -11,8 +11,6 @@ mod settings;
 mod sightings;
 mod status;
 pub(crate) mod table;
-#[cfg(test)]
-mod tests;
 mod time;
 
 ghost use Rattle.std.specs.Prelude.{◌≡◌, ◌≤◌, ◌<◌, OnOk, OnErr, IfErr, vec_len, vec_capacity};

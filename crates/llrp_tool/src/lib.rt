@@ -30,6 +30,3 @@ pub use serve::run_serve;
 pub use serving::Serving;
 pub use summary::Summary;
 pub use words::{NetworkCommand, network_command};
-
-#[cfg(test)]
-mod tests;

@@ -174,6 +174,3 @@ fn word_of(bytes: &[u8]) -> Option<Word>
         Err(_) => None,
     }
 }
-
-#[cfg(test)]
-mod tests;

@@ -8,8 +8,6 @@ pub mod message;
 pub mod node;
 pub mod reading;
 pub mod spelling;
-#[cfg(test)]
-mod tests;
 
 pub use fault::{Fault, FrameErr, Reason};
 pub use llrp_schema::{Kind, MsgKind, ParamKind, msg_of};

@@ -13,8 +13,6 @@ mod fields;
 mod groups;
 mod header;
 mod tail;
-#[cfg(test)]
-mod tests;
 
 use crate::{FrameErr, MAX_LIMIT, Message};
 use arrayvec::ArrayVec;

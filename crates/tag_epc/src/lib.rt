@@ -14,6 +14,3 @@ mod write;
 pub use epc::{Epc, Parts};
 pub use fault::{EpcFault, WordFault, WordReason};
 pub use kind::Kind;
-
-#[cfg(test)]
-mod tests;

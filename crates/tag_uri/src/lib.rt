@@ -18,6 +18,3 @@ pub use fault::UriFault;
 pub use parsing::parse;
 pub use printing::print;
 pub use word::{text_of_word, word_of_text};
-
-#[cfg(test)]
-mod tests;

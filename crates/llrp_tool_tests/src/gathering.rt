@@ -1,7 +1,7 @@
 //! Following a plan over pieces of a stream.
 
-use crate::tests::serve::bytes;
-use crate::{Gathering, ToolErr, standard_plan};
+use crate::serve::bytes;
+use llrp_tool::{Gathering, ToolErr, standard_plan};
 use llrp_tree::ParamKind;
 use std::test::*;
 

@@ -1,10 +1,10 @@
 //! Serving one client.
 
-ghost use Rattle.std.specs.Prelude.{◌≢◌, IfOk};
+ghost use Rattle.std.specs.Prelude.{IfOk};
+ghost use Rattle.llrp_tool.specs.ServingStands.{HasStarted};
 
-use crate::serving::Phase;
-use crate::{Input, Output, Script, Serving, ToolErr, bytes_of_hex, run_serve};
 use llrp_session::Reader;
+use llrp_tool::{Input, Output, Script, Serving, ToolErr, bytes_of_hex, run_serve};
 use std::alloc::Global;
 use std::test::*;
 
@@ -128,7 +128,7 @@ fn servings(rt: HostRuntime) -> Result<(), Fail> {
 
 /// A reader without entries that has started, and what it said.
 fn started(alloc: Global) -> Result<(Serving, Vec<u8>), ToolErr>
-    ensures { IfOk result (λ s. s.0.phase ≢ Phase.New) }
+    ensures { IfOk result (λ s. HasStarted s.0) }
 {
     let script = Script::parse(alloc, b"")?;
     let mut out = Vec::new(alloc);

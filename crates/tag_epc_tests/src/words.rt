@@ -1,9 +1,9 @@
 //! Words and EPCs of the standard's coding tables.
 
-use crate::{Epc, EpcFault, Kind, Parts, WordFault, WordReason};
 use std::process::Abort;
 use std::test::Fail;
 use tag_bits::Word;
+use tag_epc::{Epc, EpcFault, Kind, Parts, WordFault, WordReason};
 
 /// The parts of an EPC of a scheme with a company prefix.
 fn partitioned(

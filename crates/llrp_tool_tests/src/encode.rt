@@ -2,7 +2,7 @@
 
 ghost use Rattle.std.specs.Prelude.{Some};
 
-use crate::{Input, Output, Refusal, Sink, ToolErr, run_encode};
+use llrp_tool::{Input, Output, Refusal, Sink, ToolErr, run_encode};
 use llrp_tree::NodeFault;
 use std::io;
 use std::test::Fail;

@@ -1,6 +1,6 @@
 //! Conformance vectors: streams as hexadecimal digits, and the listing of each.
 
-use crate::{Input, Output, Verdict, bytes_of_hex, run_encode, run_show};
+use llrp_tool::{Input, Output, Verdict, bytes_of_hex, run_encode, run_show};
 use std::alloc::Global;
 use std::process::Abort;
 use std::test::*;

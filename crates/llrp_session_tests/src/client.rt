@@ -3,9 +3,8 @@
 ghost use Rattle.std.specs.Prelude.{◌≤◌};
 ghost use Rattle.llrp_session.specs.LawfulWords.{AddsRoSpec};
 
-use super::{Client, CmdFault, TakeFault};
-use crate::tests::{octets, spell};
-use crate::words::{Command, RoState, Taken};
+use crate::octets::{octets, spell};
+use llrp_session::{Client, CmdFault, Command, RoState, TakeFault, Taken};
 use llrp_tree::{Message, ParamKind, decode_frame};
 use std::alloc::Global;
 use std::process::Abort;

@@ -1,6 +1,6 @@
 //! Commands from their words to their exit statuses.
 
-use crate::{Input, NetworkCommand, Output, ToolErr, network_command, run_command};
+use llrp_tool::{Input, NetworkCommand, Output, ToolErr, network_command, run_command};
 use std::test::*;
 
 const HELP: &[u8] = b"Reads and writes streams of LLRP 1.1 messages

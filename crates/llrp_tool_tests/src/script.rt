@@ -1,5 +1,7 @@
-use super::*;
+use llrp_tool::{Action, Entry, Script, Sighting, ToolErr};
+use std::alloc::Global;
 use std::test::Fail;
+use tag_bits::Word;
 
 /// The line of the refusal.
 fn refused(alloc: Global, text: &[u8]) -> Option<u64> {

@@ -1,9 +1,7 @@
 //! Exchanges of the reader, octet by octet.
 
-use super::Reader;
-use super::events::{ReaderIn, StepFault};
-use crate::tests::{octets, spell};
-use crate::words::{RoState, Sighting};
+use crate::octets::{octets, spell};
+use llrp_session::{Reader, ReaderIn, RoState, Sighting, StepFault};
 use llrp_tree::{FrameErr, decode_frame};
 use std::alloc::{AllocError, Global};
 use std::process::Abort;

@@ -1,6 +1,6 @@
 //! Bytes of hexadecimal digits.
 
-use crate::{ToolErr, bytes_of_hex};
+use llrp_tool::{ToolErr, bytes_of_hex};
 use std::test::*;
 
 #[test]

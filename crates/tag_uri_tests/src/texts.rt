@@ -1,8 +1,8 @@
 //! Worked texts of EPCs and words.
 
-use crate::{UriFault, parse, print, text_of_word, word_of_text};
 use std::test::Fail;
 use tag_bits::Word;
+use tag_uri::{UriFault, parse, print, text_of_word, word_of_text};
 
 /// Words and their texts.
 const TEXTS: [(u128, &str); 11] = [

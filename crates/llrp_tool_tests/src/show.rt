@@ -1,7 +1,7 @@
 //! Listings of long streams, and of streams cut anywhere.
 
-use super::vectors::bytes;
-use crate::{Input, Output, Source, ToolErr, Verdict, run_show};
+use crate::vectors::bytes;
+use llrp_tool::{Input, Output, Source, ToolErr, Verdict, run_show};
 use std::io;
 use std::test::*;
 

@@ -1,6 +1,8 @@
 //! The first faults of parameters and messages, and the octets of a report.
 
-use crate::{EncodeErr, Message, MsgKind, Node, NodeFault, Nodes, Octets, ParamKind, encode_into};
+use llrp_tree::{
+    EncodeErr, Message, MsgKind, Node, NodeFault, Nodes, Octets, ParamKind, encode_into,
+};
 use std::alloc::Global;
 use std::test::Fail;
 

@@ -2,7 +2,7 @@
 
 ghost use Rattle.std.specs.Prelude.{◌≤◌, ◌<◌};
 
-use crate::{Fault, FrameErr, Message, Reason, decode_frame, encode_into};
+use llrp_tree::{Fault, FrameErr, Message, Reason, decode_frame, encode_into};
 use std::alloc::Global;
 use std::process::Abort;
 use std::test::Fail;

@@ -1,11 +1,11 @@
 //! A client and a simulated reader at the two ends of one connection.
 
-use crate::tests::devices::Failing;
-use crate::tests::gathering::{ADD, CONNECTED};
-use crate::tests::inventory::{OneByOne, inventory_of};
-use crate::tests::serve::bytes;
-use crate::{Endpoint, Input, Output, Script, Summary, ToolErr, run_loop, standard_plan};
+use crate::devices::Failing;
+use crate::gathering::{ADD, CONNECTED};
+use crate::inventory::{OneByOne, inventory_of};
+use crate::serve::bytes;
 use llrp_session::Reader;
+use llrp_tool::{Endpoint, Input, Output, Script, Summary, ToolErr, run_loop, standard_plan};
 use std::alloc::Global;
 use std::test::*;
 

@@ -2,11 +2,11 @@
 
 ghost use Rattle.std.specs.Prelude.{None};
 
-use super::devices::Failing;
-use super::serve::{ADD, ADDED, CONNECTED, ENABLE, ENABLED, bytes};
-use crate::{Input, Script, Source, ToolErr, run_serve};
+use crate::devices::Failing;
+use crate::serve::{ADD, ADDED, CONNECTED, ENABLE, ENABLED, bytes};
 use llrp_session::Reader;
 use llrp_stream::Output;
+use llrp_tool::{Input, Script, Source, ToolErr, run_serve};
 use std::alloc::Global;
 use std::io;
 use std::test::*;

@@ -2,10 +2,10 @@
 
 ghost use Rattle.std.specs.Prelude.{◌≡◌, ◌≤◌, None};
 
-use crate::tests::devices::Failing;
-use crate::tests::gathering::{ADD, CONNECTED, DOWN, ENABLE, LINES, UP};
-use crate::tests::serve::bytes;
-use crate::{Input, Output, Source, Summary, ToolErr, run_inventory, run_show, standard_plan};
+use crate::devices::Failing;
+use crate::gathering::{ADD, CONNECTED, DOWN, ENABLE, LINES, UP};
+use crate::serve::bytes;
+use llrp_tool::{Input, Output, Source, Summary, ToolErr, run_inventory, run_show, standard_plan};
 use std::alloc::Global;
 use std::io;
 use std::test::*;

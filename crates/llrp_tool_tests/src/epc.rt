@@ -1,6 +1,6 @@
 //! Words and their texts, as the command epc prints them.
 
-use crate::{Output, Verdict, run_epc};
+use llrp_tool::{Output, Verdict, run_epc};
 use std::alloc::Global;
 use std::process::Abort;
 use std::test::*;

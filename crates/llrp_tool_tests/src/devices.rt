@@ -2,7 +2,7 @@
 
 ghost use Rattle.std.specs.Prelude.{◌≡◌, None, Some};
 
-use crate::{Input, Output, Sink, Source, ToolErr, run_show};
+use llrp_tool::{Input, Output, Sink, Source, ToolErr, run_show};
 use std::alloc::Global;
 use std::io;
 use std::test::*;
