@@ -80,6 +80,18 @@ pub record IsOpen (limit : ℕ) (plan : Plan) (bytes rest : List ℕ) (course : 
   pub stands : StandsFor limit plan bytes rest course g
   pub phase : g.phase ≡ Open
 
+-- the connection goes on
+abbrev pub GoesOn : Gathering → Type 0
+GoesOn g = g.phase ≡ Open
+
+-- it was closed as planned
+abbrev pub IsClosed : Gathering → Type 0
+IsClosed g = g.phase ≡ Closed
+
+-- it ended with this error
+abbrev pub HasFailed : ToolErr → Gathering → Type 0
+HasFailed error g = g.phase ≡ Failed error
+
 -- nothing changed but how far it is
 pub record KeepsOthers (old new : Gathering) : Type 0 where
   pub decoder : new.decoder ≡ old.decoder
@@ -156,6 +168,10 @@ abbrev pub phase_left : Result Bool ToolErr → Phase
 phase_left (Ok false) = Open
 phase_left (Ok true) = Closed
 phase_left (Err error) = Failed error
+
+-- a feed with this answer leaves it so
+abbrev pub IsLeftBy : Result Bool ToolErr → Gathering → Type 0
+IsLeftBy answer g = g.phase ≡ phase_left answer
 
 -- the errors of a client that refuses
 abbrev pub error_by_command : CmdFault → ToolErr

@@ -60,9 +60,9 @@ pub struct Gathering {
 
 impl Gathering {
     ghost use Rattle.std.specs.Prelude.{[], true};
-    ghost use Rattle.llrp_tool.specs.declared.gathering.Phase.TheVariants.{Closed, Failed, Open};
+    ghost use Rattle.llrp_tool.specs.declared.gathering.Phase.TheVariants.{Open};
     ghost use Rattle.llrp_tool.specs.Gathering.{after, after_item, begun, goes_on};
-    ghost use Rattle.llrp_tool.specs.GatheringStands.{Counts, Does, Feeds, Holds, IsOpen, KeepsOthers, StandsFor};
+    ghost use Rattle.llrp_tool.specs.GatheringStands.{Counts, Does, Feeds, GoesOn, HasFailed, Holds, IsClosed, IsLeftBy, IsOpen, KeepsOthers, StandsFor};
     ghost use Rattle.llrp_tool.specs.TagLines.{summary_of};
 
     /// A client that follows a plan from the beginning; its first message id is 1, and no frame is longer
@@ -255,12 +255,12 @@ impl Gathering {
     ) -> Result<bool, ToolErr>
         ensures feeds { (limit : ℕ) (plan : ThePlan) (bytes rest : List ℕ) (c : Course) → IsOpen limit plan bytes rest c self.old
             → Feeds limit plan (bytes ++ piece.now) c self.new out.old.items out.new.items report.old.items report.new.items result }
-        ensures phase { self.old.phase ≡ Open → self.new.phase ≡ phase_left result }
+        ensures phase { GoesOn self.old → IsLeftBy result self.new }
 
         // Once it ended, nothing changes.
-        ensures closed { self.old.phase ≡ Closed → (result ≡ Ok true) × (self.new ≡ self.old) }
-        ensures failed { (error : Error) → self.old.phase ≡ Failed error → (result ≡ Err error) × (self.new ≡ self.old) }
-        ensures unsent { (self.old.phase ≡ Open → ⊥) → (out.new.items ≡ out.old.items) × (report.new.items ≡ report.old.items) }
+        ensures closed { IsClosed self.old → (result ≡ Ok true) × (self.new ≡ self.old) }
+        ensures failed { (error : Error) → HasFailed error self.old → (result ≡ Err error) × (self.new ≡ self.old) }
+        ensures unsent { (GoesOn self.old → ⊥) → (out.new.items ≡ out.old.items) × (report.new.items ≡ report.old.items) }
     {
         match self.phase {
             Phase::Open => {}
