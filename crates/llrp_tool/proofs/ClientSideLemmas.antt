@@ -7,7 +7,7 @@ use Rattle.llrp_listing.specs.declared.fault.ToolErr.TheVariants.{Listing, Scrip
 use Rattle.llrp_tool.specs.declared.gathering.Gathering.{Gathering}
 use Rattle.llrp_tool.specs.declared.gathering.Phase.TheVariants.{Open, Closed}
 use Rattle.llrp_listing.specs.Copying.{Writes, WasGiven}
-use Rattle.llrp_tool.specs.EndsStand.{spoken, heard, ReadsNone, ReadsPiece, Given, ClientStands, ClientStops}
+use Rattle.llrp_tool.specs.EndsStand.{spoken, heard, ReadsNone, Given, ClientStands, ClientStops}
 use Rattle.llrp_tool.specs.Gathering.{Course}
 use Rattle.llrp_tool.specs.GatheringStands.{IsOpen, Counts, Moves, MovesSome, Feeds, phase_left}
 use Rattle.llrp_tool.specs.Plan.{Plan}
@@ -184,13 +184,13 @@ client_unread e s0 s1 down up p0 p1 g lines error h n = by_error error n
 -- ---- the loop
 
 -- what it heard so far of so many bytes
-pub record ClientSoFar (e : Ends) (s0 s1 : SourceLog) (p0 p1 : SinkLog) (written read : List ℕ) (count left reads0 reads1 : ℕ) (g : Gathering) (out lines : List ℕ) : Type 0 where
+pub record ClientSoFar (e : Ends) (s0 s1 : SourceLog) (p0 p1 : SinkLog) (written read : List ℕ) (count left reads1 : ℕ) (g : Gathering) (out lines : List ℕ) : Type 0 where
   pub bytes : List ℕ
-  pub hearing : Hearing s0 s1 read bytes count left reads0 reads1
+  pub hearing : Hearing s0 s1 read bytes count left reads1
   pub stands : ClientStands e written (read ++ bytes) p0 p1 g out lines
 
 pub client_begins : (e : Ends) (s0 s1 : SourceLog) (p0 p1 : SinkLog) (written read : List ℕ) (count reads : ℕ) (g : Gathering) (out lines : List ℕ) → ClientStands e written read p0 p1 g out lines → Given s0 s1 reads read
-    → ClientSoFar e s0 s1 p0 p1 written read count count reads reads g out lines
+    → ClientSoFar e s0 s1 p0 p1 written read count count reads g out lines
 client_begins e s0 s1 p0 p1 written read count reads g out lines h k = record {
   bytes = [];
   hearing = hearing_none s0 s1 read count reads k;
@@ -198,38 +198,38 @@ client_begins e s0 s1 p0 p1 written read count reads g out lines h k = record {
 }
 
 -- A piece was read in the loop.
-pub record Heard (e : Ends) (s0 s1 s2 : SourceLog) (p0 p1 : SinkLog) (written read piece : List ℕ) (count left n reads0 reads1 reads2 : ℕ) (g : Gathering) (out lines : List ℕ) : Type 0 where
-  pub before : ClientSoFar e s0 s1 p0 p1 written read count left reads0 reads1 g out lines
-  pub more : Hearing s0 s2 read (before.bytes ++ piece) count (left - n) reads0 reads2
+pub record Heard (e : Ends) (s0 s1 s2 : SourceLog) (p0 p1 : SinkLog) (written read piece : List ℕ) (count left n reads1 reads2 : ℕ) (g : Gathering) (out lines : List ℕ) : Type 0 where
+  pub before : ClientSoFar e s0 s1 p0 p1 written read count left reads1 g out lines
+  pub more : Hearing s0 s2 read (before.bytes ++ piece) count (left - n) reads2
 
-pub client_heard : (e : Ends) (s0 s1 s2 : SourceLog) (p0 p1 : SinkLog) (written read piece : List ℕ) (count left n reads0 reads1 reads2 : ℕ) (g : Gathering) (out lines : List ℕ) → ClientSoFar e s0 s1 p0 p1 written read count left reads0 reads1 g out lines
-    → ((s0 : SourceLog) (before : List ℕ) → Given s0 s1 reads1 before → ReadsPiece s0 s2 reads1 reads2 before piece) → length piece ≡ n → n ≤ left → Heard e s0 s1 s2 p0 p1 written read piece count left n reads0 reads1 reads2 g out lines
-client_heard e s0 s1 s2 p0 p1 written read piece count left n reads0 reads1 reads2 g out lines f reads is within = record {
+pub client_heard : (e : Ends) (s0 s1 s2 : SourceLog) (p0 p1 : SinkLog) (written read piece : List ℕ) (count left n reads1 reads2 : ℕ) (g : Gathering) (out lines : List ℕ) → ClientSoFar e s0 s1 p0 p1 written read count left reads1 g out lines
+    → ((s0 : SourceLog) (before : List ℕ) → Given s0 s1 reads1 before → Given s0 s2 reads2 (before ++ piece)) → length piece ≡ n → n ≤ left → Heard e s0 s1 s2 p0 p1 written read piece count left n reads1 reads2 g out lines
+client_heard e s0 s1 s2 p0 p1 written read piece count left n reads1 reads2 g out lines f reads is within = record {
   before = f;
-  more = hearing_more s0 s1 s2 read f.bytes piece count left n reads0 reads1 reads2 f.hearing (reads s0 (read ++ f.bytes) f.hearing.given) is within;
+  more = hearing_more s0 s1 s2 read f.bytes piece count left n reads1 reads2 f.hearing (reads s0 (read ++ f.bytes) f.hearing.given) is within;
 }
 
-given_heard : (e : Ends) (s0 s1 s2 : SourceLog) (p0 p1 : SinkLog) (written read piece : List ℕ) (count left n reads0 reads1 reads2 : ℕ) (g : Gathering) (out lines : List ℕ) (h : Heard e s0 s1 s2 p0 p1 written read piece count left n reads0 reads1 reads2 g out lines)
+given_heard : (e : Ends) (s0 s1 s2 : SourceLog) (p0 p1 : SinkLog) (written read piece : List ℕ) (count left n reads1 reads2 : ℕ) (g : Gathering) (out lines : List ℕ) (h : Heard e s0 s1 s2 p0 p1 written read piece count left n reads1 reads2 g out lines)
     → WasGiven s0 s2 ((read ++ h.before.bytes) ++ piece)
-given_heard e s0 s1 s2 p0 p1 written read piece count left n reads0 reads1 reads2 g out lines h =
+given_heard e s0 s1 s2 p0 p1 written read piece count left n reads1 reads2 g out lines h =
     subst (λ (x : List ℕ). WasGiven s0 s2 x) (sym (append_assoc read h.before.bytes piece)) (was_given s0 s2 reads2 (read ++ (h.before.bytes ++ piece)) h.more.given)
 
 -- it goes on
-pub client_steps : (e : Ends) (s0 s1 s2 : SourceLog) (p0 p1 p2 : SinkLog) (written read piece : List ℕ) (count left n reads0 reads1 reads2 : ℕ) (g new : Gathering) (o0 o1 r0 r1 r2 : List ℕ) (b : Bool) → b ≡ false
-    → Heard e s0 s1 s2 p0 p1 written read piece count left n reads0 reads1 reads2 g o0 r0 → Fed g new piece o0 o1 r0 r1 (Ok b) → Wrote p1 p2 r1 → r2 ≡ [] → ClientSoFar e s0 s2 p0 p2 written read count (left - n) reads0 reads2 new o1 r2
-client_steps e s0 s1 s2 p0 p1 p2 written read piece count left n reads0 reads1 reads2 g new o0 o1 r0 r1 r2 true is h f w none = absurd cc
-client_steps e s0 s1 s2 p0 p1 p2 written read piece count left n reads0 reads1 reads2 g new o0 o1 r0 r1 r2 false is h f w none = record {
+pub client_steps : (e : Ends) (s0 s1 s2 : SourceLog) (p0 p1 p2 : SinkLog) (written read piece : List ℕ) (count left n reads1 reads2 : ℕ) (g new : Gathering) (o0 o1 r0 r1 r2 : List ℕ) (b : Bool) → b ≡ false
+    → Heard e s0 s1 s2 p0 p1 written read piece count left n reads1 reads2 g o0 r0 → Fed g new piece o0 o1 r0 r1 (Ok b) → Wrote p1 p2 r1 → r2 ≡ [] → ClientSoFar e s0 s2 p0 p2 written read count (left - n) reads2 new o1 r2
+client_steps e s0 s1 s2 p0 p1 p2 written read piece count left n reads1 reads2 g new o0 o1 r0 r1 r2 true is h f w none = absurd cc
+client_steps e s0 s1 s2 p0 p1 p2 written read piece count left n reads1 reads2 g new o0 o1 r0 r1 r2 false is h f w none = record {
   bytes = h.before.bytes ++ piece;
   hearing = h.more;
   stands = subst (λ (x : List ℕ). ClientStands e written x p0 p2 new o1 r2) (append_assoc read h.before.bytes piece) (client_takes e written (read ++ h.before.bytes) piece p0 p1 p2 g new o0 o1 r0 r1 r2 h.before.stands f w none);
 }
 
 -- it is closed as planned
-pub client_ends : (e : Ends) (s0 s1 s2 : SourceLog) (p0 p1 p2 : SinkLog) (down up : Traffic) (piece : List ℕ) (count left n reads0 reads1 reads2 : ℕ) (g new : Gathering) (o0 o1 r0 r1 : List ℕ) (b : Bool) → b ≡ true
-    → Heard e s0 s1 s2 p0 p1 up.written down.read piece count left n reads0 reads1 reads2 g o0 r0 → Fed g new piece o0 o1 r0 r1 (Ok b) → Wrote p1 p2 r1
+pub client_ends : (e : Ends) (s0 s1 s2 : SourceLog) (p0 p1 p2 : SinkLog) (down up : Traffic) (piece : List ℕ) (count left n reads1 reads2 : ℕ) (g new : Gathering) (o0 o1 r0 r1 : List ℕ) (b : Bool) → b ≡ true
+    → Heard e s0 s1 s2 p0 p1 up.written down.read piece count left n reads1 reads2 g o0 r0 → Fed g new piece o0 o1 r0 r1 (Ok b) → Wrote p1 p2 r1
     → (bytes : List ℕ) × (length bytes ≤ count) × WasGiven s0 s2 (down.read ++ bytes) × (course : Course) × Ended Closed e.limit e.plan (down.read ++ bytes) course × SaidAll course (spoken up o1) p0 p2 × Counts course.reports new
-client_ends e s0 s1 s2 p0 p1 p2 down up piece count left n reads0 reads1 reads2 g new o0 o1 r0 r1 false is h f w = absurd cc
-client_ends e s0 s1 s2 p0 p1 p2 down up piece count left n reads0 reads1 reads2 g new o0 o1 r0 r1 true is h f w =
+client_ends e s0 s1 s2 p0 p1 p2 down up piece count left n reads1 reads2 g new o0 o1 r0 r1 false is h f w = absurd cc
+client_ends e s0 s1 s2 p0 p1 p2 down up piece count left n reads1 reads2 g new o0 o1 r0 r1 true is h f w =
     let counted = h.more.counted in
     let behind = append_assoc down.read h.before.bytes piece in
     let closes = client_closes e up (down.read ++ h.before.bytes) piece p0 p1 p2 g new o0 o1 r0 r1 h.before.stands f w in (
@@ -243,30 +243,30 @@ client_ends e s0 s1 s2 p0 p1 p2 down up piece count left n reads0 reads1 reads2 
     )
 
 -- it stops
-pub client_stops_unread : (e : Ends) (s0 s1 s2 : SourceLog) (p0 p1 : SinkLog) (down up : Traffic) (count left reads0 reads1 : ℕ) (g : Gathering) (out lines : List ℕ) (error : ToolErr) → ClientSoFar e s0 s1 p0 p1 up.written down.read count left reads0 reads1 g out lines
+pub client_stops_unread : (e : Ends) (s0 s1 s2 : SourceLog) (p0 p1 : SinkLog) (down up : Traffic) (count left reads1 : ℕ) (g : Gathering) (out lines : List ℕ) (error : ToolErr) → ClientSoFar e s0 s1 p0 p1 up.written down.read count left reads1 g out lines
     → ((s0 : SourceLog) (before : List ℕ) → Given s0 s1 reads1 before → ReadsNone s0 s2 before error) → (bytes : List ℕ) × (length bytes ≤ count) × ClientStops e s0 s2 p0 p1 (heard down (down.read ++ bytes)) (spoken up out) error
-client_stops_unread e s0 s1 s2 p0 p1 down up count left reads0 reads1 g out lines error f none =
+client_stops_unread e s0 s1 s2 p0 p1 down up count left reads1 g out lines error f none =
     let counted = f.hearing.counted in
     (f.bytes, omega arith, client_unread e s0 s2 (heard down (down.read ++ f.bytes)) (spoken up out) p0 p1 g lines error f.stands (none s0 (down.read ++ f.bytes) f.hearing.given))
 
-pub client_stops_unreported : (e : Ends) (s0 s1 s2 : SourceLog) (p0 p1 p2 : SinkLog) (down up : Traffic) (piece : List ℕ) (count left n reads0 reads1 reads2 : ℕ) (g new : Gathering) (o0 o1 r0 r1 : List ℕ) (answer : Result Bool ToolErr) (error : ToolErr)
-    → Heard e s0 s1 s2 p0 p1 up.written down.read piece count left n reads0 reads1 reads2 g o0 r0 → Fed g new piece o0 o1 r0 r1 answer → Writes r1 p1 p2 (Err error)
+pub client_stops_unreported : (e : Ends) (s0 s1 s2 : SourceLog) (p0 p1 p2 : SinkLog) (down up : Traffic) (piece : List ℕ) (count left n reads1 reads2 : ℕ) (g new : Gathering) (o0 o1 r0 r1 : List ℕ) (answer : Result Bool ToolErr) (error : ToolErr)
+    → Heard e s0 s1 s2 p0 p1 up.written down.read piece count left n reads1 reads2 g o0 r0 → Fed g new piece o0 o1 r0 r1 answer → Writes r1 p1 p2 (Err error)
     → (bytes : List ℕ) × (length bytes ≤ count) × ClientStops e s0 s2 p0 p2 (heard down (down.read ++ bytes)) (spoken up o1) error
-client_stops_unreported e s0 s1 s2 p0 p1 p2 down up piece count left n reads0 reads1 reads2 g new o0 o1 r0 r1 answer error h f w =
+client_stops_unreported e s0 s1 s2 p0 p1 p2 down up piece count left n reads1 reads2 g new o0 o1 r0 r1 answer error h f w =
     let counted = h.more.counted in (
       h.before.bytes ++ piece,
       omega arith,
       subst (λ (x : List ℕ). ClientStops e s0 s2 p0 p2 (heard down x) (spoken up o1) error) (append_assoc down.read h.before.bytes piece)
-          (client_unreported e s0 s2 down up (down.read ++ h.before.bytes) piece p0 p1 p2 g new o0 o1 r0 r1 answer error h.before.stands f w (given_heard e s0 s1 s2 p0 p1 up.written down.read piece count left n reads0 reads1 reads2 g o0 r0 h)),
+          (client_unreported e s0 s2 down up (down.read ++ h.before.bytes) piece p0 p1 p2 g new o0 o1 r0 r1 answer error h.before.stands f w (given_heard e s0 s1 s2 p0 p1 up.written down.read piece count left n reads1 reads2 g o0 r0 h)),
     )
 
-pub client_stops_fed : (e : Ends) (s0 s1 s2 : SourceLog) (p0 p1 p2 : SinkLog) (down up : Traffic) (piece : List ℕ) (count left n reads0 reads1 reads2 : ℕ) (g new : Gathering) (o0 o1 r0 r1 : List ℕ) (error : ToolErr)
-    → Heard e s0 s1 s2 p0 p1 up.written down.read piece count left n reads0 reads1 reads2 g o0 r0 → Fed g new piece o0 o1 r0 r1 (Err error) → Wrote p1 p2 r1
+pub client_stops_fed : (e : Ends) (s0 s1 s2 : SourceLog) (p0 p1 p2 : SinkLog) (down up : Traffic) (piece : List ℕ) (count left n reads1 reads2 : ℕ) (g new : Gathering) (o0 o1 r0 r1 : List ℕ) (error : ToolErr)
+    → Heard e s0 s1 s2 p0 p1 up.written down.read piece count left n reads1 reads2 g o0 r0 → Fed g new piece o0 o1 r0 r1 (Err error) → Wrote p1 p2 r1
     → (bytes : List ℕ) × (length bytes ≤ count) × ClientStops e s0 s2 p0 p2 (heard down (down.read ++ bytes)) (spoken up o1) error
-client_stops_fed e s0 s1 s2 p0 p1 p2 down up piece count left n reads0 reads1 reads2 g new o0 o1 r0 r1 error h f w =
+client_stops_fed e s0 s1 s2 p0 p1 p2 down up piece count left n reads1 reads2 g new o0 o1 r0 r1 error h f w =
     let counted = h.more.counted in (
       h.before.bytes ++ piece,
       omega arith,
       subst (λ (x : List ℕ). ClientStops e s0 s2 p0 p2 (heard down x) (spoken up o1) error) (append_assoc down.read h.before.bytes piece)
-          (client_fails e s0 s2 down up (down.read ++ h.before.bytes) piece p0 p1 p2 g new o0 o1 r0 r1 error h.before.stands f w (given_heard e s0 s1 s2 p0 p1 up.written down.read piece count left n reads0 reads1 reads2 g o0 r0 h)),
+          (client_fails e s0 s2 down up (down.read ++ h.before.bytes) piece p0 p1 p2 g new o0 o1 r0 r1 error h.before.stands f w (given_heard e s0 s1 s2 p0 p1 up.written down.read piece count left n reads1 reads2 g o0 r0 h)),
     )

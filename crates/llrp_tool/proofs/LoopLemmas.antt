@@ -135,7 +135,7 @@ writes_up e o down up report r c c' sink n s w gathering lines reads =
 -- ---- reads
 
 pub hears_down : (e : Ends) (o : Devices) (down up : Way) (report report' : SinkLog) (r : ReaderSide) (c c' : ClientSide) (source : SourceLog) (n : ℕ) (b : Bool) → b ≡ false → (s : State e o down up report r c n 0)
-    → ((e : Ends) (s0 : SourceLog) (p0 : SinkLog) (below above : Traffic) → ClientStands e above.written below.read p0 report c.gathering c.said.items c.lines.items → Given s0 down.source c.reads below.read → ClientHears e s0 source p0 report' below above n c c' (Ok b)) → State e o (record { sink = down.sink; source = source }) up report' r c' 0 0
+    → ((e : Ends) (s0 : SourceLog) (p0 : SinkLog) (below above : Traffic) → ClientStands e above.written below.read p0 report c.gathering c.said.items c.lines.items → Given s0 down.source c.reads below.read → ClientHears e s0 source p0 report' below above n c' (Ok b)) → State e o (record { sink = down.sink; source = source }) up report' r c' 0 0
 hears_down e o down up report report' r c c' source n true is s hears = absurd cc
 hears_down e o down up report report' r c c' source n false is s hears =
     let h = hears e o.down.source o.report (down_of e o down up report r c n 0 s) (up_of e o down up report r c n 0 s) s.client s.down_given in
@@ -158,7 +158,7 @@ hears_down e o down up report report' r c c' source n false is s hears =
     }
 
 pub hears_up : (e : Ends) (o : Devices) (down up : Way) (report : SinkLog) (r r' : ReaderSide) (c : ClientSide) (source : SourceLog) (n : ℕ) (u : Unit {0}) (s : State e o down up report r c 0 n)
-    → ((e : Ends) (s0 : SourceLog) (below above : Traffic) → ReaderStands e below.written above.read r.serving r.said.items → Given s0 up.source r.reads above.read → ReaderHears e s0 source below above n r r' (Ok u)) → State e o down (record { sink = up.sink; source = source }) report r' c 0 0
+    → ((e : Ends) (s0 : SourceLog) (below above : Traffic) → ReaderStands e below.written above.read r.serving r.said.items → Given s0 up.source r.reads above.read → ReaderHears e s0 source below above n r' (Ok u)) → State e o down (record { sink = up.sink; source = source }) report r' c 0 0
 hears_up e o down up report r r' c source n u s hears =
     let h = hears e o.up.source (down_of e o down up report r c 0 n s) (up_of e o down up report r c 0 n s) s.reader s.up_given in
     let before = s.up_unread in
@@ -298,7 +298,7 @@ reader_ends_loop e o n below above Hex down up client s = absurd s
 
 -- the client stopped
 pub client_stopped : (e : Ends) (o : Devices) (down up : Way) (report report' : SinkLog) (r : ReaderSide) (c c' : ClientSide) (source : SourceLog) (n : ℕ) (error : ToolErr) (s : State e o down up report r c n 0) → n ≤ 4096
-    → ((e : Ends) (s0 : SourceLog) (p0 : SinkLog) (below above : Traffic) → ClientStands e above.written below.read p0 report c.gathering c.said.items c.lines.items → Given s0 down.source c.reads below.read → ClientHears e s0 source p0 report' below above n c c' (Err error))
+    → ((e : Ends) (s0 : SourceLog) (p0 : SinkLog) (below above : Traffic) → ClientStands e above.written below.read p0 report c.gathering c.said.items c.lines.items → Given s0 down.source c.reads below.read → ClientHears e s0 source p0 report' below above n c' (Err error))
     → (below above : Traffic) × RunsLoop e o (record { down = record { sink = down.sink; source = source }; up = up; report = report' }) below above (Err error)
 client_stopped e o down up report report' r c c' source n error s a_piece hears =
     let h = hears e o.down.source o.report (down_of e o down up report r c n 0 s) (up_of e o down up report r c n 0 s) s.client s.down_given in
@@ -317,7 +317,7 @@ client_stopped e o down up report report' r c c' source n error s a_piece hears 
 
 -- the client closed the connection as planned
 pub client_closed : (e : Ends) (o : Devices) (down up : Way) (report report' : SinkLog) (r : ReaderSide) (c c' : ClientSide) (source : SourceLog) (n : ℕ) (summary : Summary) (b : Bool) → b ≡ true → (s : State e o down up report r c n 0) → n ≤ 4096
-    → ((e : Ends) (s0 : SourceLog) (p0 : SinkLog) (below above : Traffic) → ClientStands e above.written below.read p0 report c.gathering c.said.items c.lines.items → Given s0 down.source c.reads below.read → ClientHears e s0 source p0 report' below above n c c' (Ok b)) → ((reports : List (List Tree)) → Counts reports c'.gathering → summary ≡ summary_of reports)
+    → ((e : Ends) (s0 : SourceLog) (p0 : SinkLog) (below above : Traffic) → ClientStands e above.written below.read p0 report c.gathering c.said.items c.lines.items → Given s0 down.source c.reads below.read → ClientHears e s0 source p0 report' below above n c' (Ok b)) → ((reports : List (List Tree)) → Counts reports c'.gathering → summary ≡ summary_of reports)
     → (below above : Traffic) × RunsLoop e o (record { down = record { sink = down.sink; source = source }; up = up; report = report' }) below above (Ok summary)
 client_closed e o down up report report' r c c' source n summary false is s a_piece hears told = absurd cc
 client_closed e o down up report report' r c c' source n summary true is s a_piece hears told =
@@ -336,7 +336,7 @@ client_closed e o down up report report' r c c' source n summary true is s a_pie
 
 -- the reader stopped
 pub reader_stopped : (e : Ends) (o : Devices) (down up : Way) (report : SinkLog) (r r' : ReaderSide) (c : ClientSide) (source : SourceLog) (n : ℕ) (error : ToolErr) (s : State e o down up report r c 0 n) → n ≤ 4096
-    → ((e : Ends) (s0 : SourceLog) (below above : Traffic) → ReaderStands e below.written above.read r.serving r.said.items → Given s0 up.source r.reads above.read → ReaderHears e s0 source below above n r r' (Err error))
+    → ((e : Ends) (s0 : SourceLog) (below above : Traffic) → ReaderStands e below.written above.read r.serving r.said.items → Given s0 up.source r.reads above.read → ReaderHears e s0 source below above n r' (Err error))
     → (below above : Traffic) × RunsLoop e o (record { down = down; up = record { sink = up.sink; source = source }; report = report }) below above (Err error)
 reader_stopped e o down up report r r' c source n error s a_piece hears =
     let h = hears e o.up.source (down_of e o down up report r c 0 n s) (up_of e o down up report r c 0 n s) s.reader s.up_given in
@@ -354,18 +354,6 @@ reader_stopped e o down up report r r' c source n error s a_piece hears =
     )
 
 -- ---- the loop ends
-
--- a piece that was written down makes the client read
-pub down_counts : (e : Ends) (o : Devices) (down up : Way) (report report' : SinkLog) (r : ReaderSide) (c c' : ClientSide) (source : SourceLog) (n : ℕ) (b : Bool) → b ≡ false → (s : State e o down up report r c n 0)
-    → ((e : Ends) (s0 : SourceLog) (p0 : SinkLog) (below above : Traffic) → ClientStands e above.written below.read p0 report c.gathering c.said.items c.lines.items → Given s0 down.source c.reads below.read → ClientHears e s0 source p0 report' below above n c c' (Ok b))
-    → 0 < n → c.reads < c'.reads
-down_counts e o down up report report' r c c' source n true is s hears = absurd cc
-down_counts e o down up report report' r c c' source n false is s hears = (hears e o.down.source o.report (down_of e o down up report r c n 0 s) (up_of e o down up report r c n 0 s) s.client s.down_given).4
-
--- a piece that was written up makes the reader read
-pub up_counts : (e : Ends) (o : Devices) (down up : Way) (report : SinkLog) (r r' : ReaderSide) (c : ClientSide) (source : SourceLog) (n : ℕ) (u : Unit {0}) (s : State e o down up report r c 0 n)
-    → ((e : Ends) (s0 : SourceLog) (below above : Traffic) → ReaderStands e below.written above.read r.serving r.said.items → Given s0 up.source r.reads above.read → ReaderHears e s0 source below above n r r' (Ok u)) → 0 < n → r.reads < r'.reads
-up_counts e o down up report r r' c source n u s hears = (hears e o.up.source (down_of e o down up report r c 0 n s) (up_of e o down up report r c 0 n s) s.reader s.up_given).4
 
 pub not_silent : (b : Bool) {P Q : Type 0} → (P × Q → IsTrue b) → b ≡ false → P → Q → ⊥
 not_silent b f is p q = let yes : b ≡ true = f (p, q) in absurd cc

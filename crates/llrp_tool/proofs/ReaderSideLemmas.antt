@@ -10,7 +10,7 @@ use Rattle.llrp_listing.specs.declared.fault.ToolErr.{ToolErr}
 use Rattle.llrp_listing.specs.declared.fault.ToolErr.TheVariants.{Listing, Script, Hex, Read, Write, Bound, Broken, Memory, Peer, Strange, Early}
 use Rattle.llrp_tool.specs.declared.script.Entry.{Entry}
 use Rattle.llrp_tool.specs.declared.serving.Serving.{Serving}
-use Rattle.llrp_tool.specs.EndsStand.{spoken, heard, IsServing, ReadsNone, ReadsPiece, Given, ReaderStands, ReaderStops}
+use Rattle.llrp_tool.specs.EndsStand.{spoken, heard, IsServing, ReadsNone, Given, ReaderStands, ReaderStops}
 use Rattle.llrp_tool.specs.RunLoop.{Ends, Traffic, ReaderGoes}
 use Rattle.llrp_tool.specs.Sending.{AreFrames, Adds}
 use Rattle.llrp_tool.specs.Serving.{HasClosed}
@@ -117,35 +117,35 @@ reader_unread e r0 r1 down up s error h n = by_error error n
 -- ---- the loop
 
 -- what it heard so far of so many bytes
-pub record ReaderSoFar (e : Ends) (r0 r1 : SourceLog) (written read : List ℕ) (count left reads0 reads1 : ℕ) (s : Serving) (out : List ℕ) : Type 0 where
+pub record ReaderSoFar (e : Ends) (r0 r1 : SourceLog) (written read : List ℕ) (count left reads1 : ℕ) (s : Serving) (out : List ℕ) : Type 0 where
   pub bytes : List ℕ
-  pub hearing : Hearing r0 r1 read bytes count left reads0 reads1
+  pub hearing : Hearing r0 r1 read bytes count left reads1
   pub stands : ReaderStands e written (read ++ bytes) s out
 
-pub reader_begins : (e : Ends) (r0 r1 : SourceLog) (written read : List ℕ) (count reads : ℕ) (s : Serving) (out : List ℕ) → ReaderStands e written read s out → Given r0 r1 reads read → ReaderSoFar e r0 r1 written read count count reads reads s out
+pub reader_begins : (e : Ends) (r0 r1 : SourceLog) (written read : List ℕ) (count reads : ℕ) (s : Serving) (out : List ℕ) → ReaderStands e written read s out → Given r0 r1 reads read → ReaderSoFar e r0 r1 written read count count reads s out
 reader_begins e r0 r1 written read count reads s out h g = record { bytes = []; hearing = hearing_none r0 r1 read count reads g; stands = subst (λ (x : List ℕ). ReaderStands e written x s out) (sym (append-nil read)) h }
 
-pub reader_steps : (e : Ends) (r0 r1 r2 : SourceLog) (written read piece : List ℕ) (count left n reads0 reads1 reads2 : ℕ) (s new : Serving) (old out : List ℕ) (b : Bool) → ReaderSoFar e r0 r1 written read count left reads0 reads1 s old
-    → ((r0 : SourceLog) (before : List ℕ) → Given r0 r1 reads1 before → ReadsPiece r0 r2 reads1 reads2 before piece) → length piece ≡ n → n ≤ left → Fed s new piece old out (Ok b)
-    → ReaderSoFar e r0 r2 written read count (left - n) reads0 reads2 new out
-reader_steps e r0 r1 r2 written read piece count left n reads0 reads1 reads2 s new old out b f reads is within fed = record {
+pub reader_steps : (e : Ends) (r0 r1 r2 : SourceLog) (written read piece : List ℕ) (count left n reads1 reads2 : ℕ) (s new : Serving) (old out : List ℕ) (b : Bool) → ReaderSoFar e r0 r1 written read count left reads1 s old
+    → ((r0 : SourceLog) (before : List ℕ) → Given r0 r1 reads1 before → Given r0 r2 reads2 (before ++ piece)) → length piece ≡ n → n ≤ left → Fed s new piece old out (Ok b)
+    → ReaderSoFar e r0 r2 written read count (left - n) reads2 new out
+reader_steps e r0 r1 r2 written read piece count left n reads1 reads2 s new old out b f reads is within fed = record {
   bytes = f.bytes ++ piece;
-  hearing = hearing_more r0 r1 r2 read f.bytes piece count left n reads0 reads1 reads2 f.hearing (reads r0 (read ++ f.bytes) f.hearing.given) is within;
+  hearing = hearing_more r0 r1 r2 read f.bytes piece count left n reads1 reads2 f.hearing (reads r0 (read ++ f.bytes) f.hearing.given) is within;
   stands = subst (λ (x : List ℕ). ReaderStands e written x new out) (append_assoc read f.bytes piece) (reader_takes e written (read ++ f.bytes) piece old out s new b f.stands fed);
 }
 
 -- it stopped in the loop
-pub reader_stops_unread : (e : Ends) (r0 r1 r2 : SourceLog) (down up : Traffic) (count left reads0 reads1 : ℕ) (s : Serving) (out : List ℕ) (error : ToolErr) → ReaderSoFar e r0 r1 down.written up.read count left reads0 reads1 s out
+pub reader_stops_unread : (e : Ends) (r0 r1 r2 : SourceLog) (down up : Traffic) (count left reads1 : ℕ) (s : Serving) (out : List ℕ) (error : ToolErr) → ReaderSoFar e r0 r1 down.written up.read count left reads1 s out
     → ((r0 : SourceLog) (before : List ℕ) → Given r0 r1 reads1 before → ReadsNone r0 r2 before error) → (bytes : List ℕ) × (length bytes ≤ count) × ReaderStops e r0 r2 (spoken down out) (heard up (up.read ++ bytes)) error
-reader_stops_unread e r0 r1 r2 down up count left reads0 reads1 s out error f none =
+reader_stops_unread e r0 r1 r2 down up count left reads1 s out error f none =
     let counted = f.hearing.counted in
     (f.bytes, omega arith, reader_unread e r0 r2 (spoken down out) (heard up (up.read ++ f.bytes)) s error f.stands (none r0 (up.read ++ f.bytes) f.hearing.given))
 
-pub reader_stops_fed : (e : Ends) (r0 r1 r2 : SourceLog) (down up : Traffic) (piece : List ℕ) (count left n reads0 reads1 reads2 : ℕ) (s new : Serving) (old out : List ℕ) (error : ToolErr) → ReaderSoFar e r0 r1 down.written up.read count left reads0 reads1 s old
-    → ((r0 : SourceLog) (before : List ℕ) → Given r0 r1 reads1 before → ReadsPiece r0 r2 reads1 reads2 before piece) → length piece ≡ n → n ≤ left → Fed s new piece old out (Err error)
+pub reader_stops_fed : (e : Ends) (r0 r1 r2 : SourceLog) (down up : Traffic) (piece : List ℕ) (count left n reads1 reads2 : ℕ) (s new : Serving) (old out : List ℕ) (error : ToolErr) → ReaderSoFar e r0 r1 down.written up.read count left reads1 s old
+    → ((r0 : SourceLog) (before : List ℕ) → Given r0 r1 reads1 before → Given r0 r2 reads2 (before ++ piece)) → length piece ≡ n → n ≤ left → Fed s new piece old out (Err error)
     → (bytes : List ℕ) × (length bytes ≤ count) × ReaderStops e r0 r2 (spoken down out) (heard up (up.read ++ bytes)) error
-reader_stops_fed e r0 r1 r2 down up piece count left n reads0 reads1 reads2 s new old out error f reads is within fed =
-    let more = hearing_more r0 r1 r2 up.read f.bytes piece count left n reads0 reads1 reads2 f.hearing (reads r0 (up.read ++ f.bytes) f.hearing.given) is within in
+reader_stops_fed e r0 r1 r2 down up piece count left n reads1 reads2 s new old out error f reads is within fed =
+    let more = hearing_more r0 r1 r2 up.read f.bytes piece count left n reads1 reads2 f.hearing (reads r0 (up.read ++ f.bytes) f.hearing.given) is within in
     let counted = more.counted in
     let behind = append_assoc up.read f.bytes piece in (
       f.bytes ++ piece,

@@ -36,12 +36,6 @@ pub record Given (r0 r1 : SourceLog) (reads : ℕ) (bytes : List ℕ) : Type 0 w
   pub gave : Gave r0 r1 reads bytes
   pub few : reads ≤ MOST_READS
 
--- A read gave these bytes, behind all that the reads before gave.
-pub record ReadsPiece (r0 r1 : SourceLog) (old new : ℕ) (before bytes : List ℕ) : Type 0 where
-  pub given : Given r0 r1 new (before ++ bytes)
-  pub some : 0 < length bytes
-  pub counted : new ≡ old + 1
-
 -- there was no such read
 abbrev pub ReadsNone : SourceLog → SourceLog → List ℕ → ToolErr → Type 0
 ReadsNone r0 r1 bytes Read = GivenAndFailed r0 r1 bytes
@@ -98,10 +92,10 @@ ReaderStops e r0 r1 down up (Script line) = ⊥
 ReaderStops e r0 r1 down up Hex = ⊥
 
 -- It read so many bytes more, and took them; or it stopped before.
-abbrev pub ReaderHears : Ends → SourceLog → SourceLog → Traffic → Traffic → ℕ → ReaderSide → ReaderSide → Result (Unit {0}) ToolErr → Type 0
-ReaderHears e r0 r1 down up count old new (Ok u) =
-    (bytes : List ℕ) × (length bytes ≡ count) × Given r0 r1 new.reads (up.read ++ bytes) × ReaderStands e down.written (up.read ++ bytes) new.serving new.said.items × (0 < count → old.reads < new.reads)
-ReaderHears e r0 r1 down up count old new (Err error) =
+abbrev pub ReaderHears : Ends → SourceLog → SourceLog → Traffic → Traffic → ℕ → ReaderSide → Result (Unit {0}) ToolErr → Type 0
+ReaderHears e r0 r1 down up count new (Ok u) =
+    (bytes : List ℕ) × (length bytes ≡ count) × Given r0 r1 new.reads (up.read ++ bytes) × ReaderStands e down.written (up.read ++ bytes) new.serving new.said.items
+ReaderHears e r0 r1 down up count new (Err error) =
     (bytes : List ℕ) × (length bytes ≤ count) × ReaderStops e r0 r1 (spoken down new.said.items) (heard up (up.read ++ bytes)) error
 
 -- ---- the client's side
@@ -131,11 +125,11 @@ ClientStops e r0 r1 p0 p1 down up (Script line) = ⊥
 ClientStops e r0 r1 p0 p1 down up Hex = ⊥
 
 -- It read so many bytes more, and took them; or the connection was closed as planned; or it stopped before.
-abbrev pub ClientHears : Ends → SourceLog → SourceLog → SinkLog → SinkLog → Traffic → Traffic → ℕ → ClientSide → ClientSide → Result Bool ToolErr → Type 0
-ClientHears e r0 r1 p0 p1 down up count old new (Ok false) =
-    (bytes : List ℕ) × (length bytes ≡ count) × Given r0 r1 new.reads (down.read ++ bytes) × ClientStands e up.written (down.read ++ bytes) p0 p1 new.gathering new.said.items new.lines.items × (0 < count → old.reads < new.reads)
-ClientHears e r0 r1 p0 p1 down up count old new (Ok true) =
+abbrev pub ClientHears : Ends → SourceLog → SourceLog → SinkLog → SinkLog → Traffic → Traffic → ℕ → ClientSide → Result Bool ToolErr → Type 0
+ClientHears e r0 r1 p0 p1 down up count new (Ok false) =
+    (bytes : List ℕ) × (length bytes ≡ count) × Given r0 r1 new.reads (down.read ++ bytes) × ClientStands e up.written (down.read ++ bytes) p0 p1 new.gathering new.said.items new.lines.items
+ClientHears e r0 r1 p0 p1 down up count new (Ok true) =
     (bytes : List ℕ) × (length bytes ≤ count) × WasGiven r0 r1 (down.read ++ bytes)
     × (course : Course) × Ended Closed e.limit e.plan (down.read ++ bytes) course × SaidAll course (spoken up new.said.items) p0 p1 × Counts course.reports new.gathering
-ClientHears e r0 r1 p0 p1 down up count old new (Err error) =
+ClientHears e r0 r1 p0 p1 down up count new (Err error) =
     (bytes : List ℕ) × (length bytes ≤ count) × ClientStops e r0 r1 p0 p1 (heard down (down.read ++ bytes)) (spoken up new.said.items) error

@@ -3,8 +3,10 @@
 ghost use Rattle.std.specs.Prelude.{◌<◌, ◌↔◌, ◌≡◌, ◌≤◌, ◌^◌, [], IsTrue};
 ghost use Rattle.llrp_tree.specs.declared.TheConstants.{MAX_LIMIT};
 ghost use Rattle.llrp_stream.specs.Device.{IsFreshSource};
-ghost use Rattle.llrp_tool.specs.RunLoop.{RunsLoop, Traffic};
+ghost use Rattle.llrp_tool.specs.EndsStand.{ClientStands, ReaderStands};
+ghost use Rattle.llrp_tool.specs.RunLoop.{Ends, RunsLoop, Traffic};
 ghost use Rattle.llrp_tool.specs.Serving.{IsNewReader};
+ghost use Rattle.llrp_tool.specs.ServingStands.{HasStarted};
 
 mod client_side;
 mod pieces;
@@ -35,6 +37,49 @@ fn are_silent(reader: &ReaderSide, client: &ClientSide) -> bool
     ensures { IsTrue result ↔ ((reader.now.said.items ≡ []) × (client.now.said.items ≡ [])) }
 {
     reader.said.is_empty() && client.said.is_empty()
+}
+
+/// Lets a client and a reader that have read nothing yet send and read in turn, for [`run_loop`].
+fn exchange<CR: Source, CW: Sink, RR: Source, RW: Sink, P: Sink>(
+    client: &mut ClientSide,
+    reader: &mut ReaderSide,
+    client_end: &mut Endpoint<CR, CW>,
+    reader_end: &mut Endpoint<RR, RW>,
+    report: &mut P,
+) -> Result<Summary, ToolErr>
+    requires started { HasStarted reader.old.serving }
+    requires client_unread { client.old.reads ≡ 0 }
+    requires reader_unread { reader.old.reads ≡ 0 }
+    requires down_source { IsFreshSource (CR.log client_end.old.source) }
+    requires up_source { IsFreshSource (RR.log reader_end.old.source) }
+    requires down_sink { (RW.log reader_end.old.sink).failures < 2 ^ 63 }
+    requires up_sink { (CW.log client_end.old.sink).failures < 2 ^ 63 }
+    requires report { (P.log report.old).failures < 2 ^ 63 }
+    ensures { (e : Ends) → ReaderStands e [] [] reader.old.serving reader.old.said.items
+        → ClientStands e [] [] (P.log report.old) (P.log report.old) client.old.gathering client.old.said.items client.old.lines.items
+        → (down up : Traffic) × RunsLoop e
+        (record {
+          down = record { sink = RW.log reader_end.old.sink; source = CR.log client_end.old.source };
+          up = record { sink = CW.log client_end.old.sink; source = RR.log reader_end.old.source };
+          report = P.log report.old;
+        })
+        (record {
+          down = record { sink = RW.log reader_end.new.sink; source = CR.log client_end.new.source };
+          up = record { sink = CW.log client_end.new.sink; source = RR.log reader_end.new.source };
+          report = P.log report.new;
+        })
+        down up result }
+{
+    while !are_silent(reader, client) {
+        let down = write_piece(&mut reader.said, &mut reader_end.sink)?;
+        let closed = client.hear(down, &mut client_end.source, report)?;
+        if closed {
+            return Ok(client.gathering.summary());
+        }
+        let up = write_piece(&mut client.said, &mut client_end.sink)?;
+        reader.hear(up, &mut reader_end.source)?;
+    }
+    Err(ToolErr::Early)
 }
 
 /// A simulated reader that acts by the script serves at `reader_end` the client that follows the plan at
@@ -80,14 +125,5 @@ pub fn run_loop<CR: Source, CW: Sink, RR: Source, RW: Sink, P: Sink>(
 {
     let mut client = ClientSide::new(alloc, plan, limit);
     let mut reader = ReaderSide::new(alloc, core, script)?;
-    while !are_silent(&reader, &client) {
-        let down = write_piece(&mut reader.said, &mut reader_end.sink)?;
-        let closed = client.hear(down, &mut client_end.source, report)?;
-        if closed {
-            return Ok(client.gathering.summary());
-        }
-        let up = write_piece(&mut client.said, &mut client_end.sink)?;
-        reader.hear(up, &mut reader_end.source)?;
-    }
-    Err(ToolErr::Early)
+    exchange(&mut client, &mut reader, client_end, reader_end, report)
 }

@@ -1,6 +1,6 @@
 //! The client's side of a connection.
 
-ghost use Rattle.std.specs.Prelude.{◌≡◌, ◌≤◌, ◌<◌, ◌^◌, [], List, OnOk, ℕ};
+ghost use Rattle.std.specs.Prelude.{◌≡◌, ◌≤◌, ◌<◌, ◌^◌, [], OnOk};
 ghost use Rattle.llrp_stream.specs.Device.{SinkLog, SourceLog};
 ghost use Rattle.llrp_tree.specs.declared.TheConstants.{MAX_LIMIT};
 ghost use Rattle.llrp_tool.specs.EndsStand.{ClientHears, ClientStands, Given, HasRoom};
@@ -53,9 +53,11 @@ impl ClientSide {
         requires room { HasRoom (R.log r.old) self.old.reads }
         requires report { (P.log report.old).failures < 2 ^ 63 }
         ensures room { OnOk result (HasRoom (R.log r.new) self.new.reads) }
+        ensures report { OnOk result ((P.log report.new).failures ≡ (P.log report.old).failures) }
+        ensures counted { OnOk result (0 < count → self.old.reads < self.new.reads) }
         ensures idle { count ≡ 0 → self.new ≡ self.old }
         ensures hears { (e : Ends) (r0 : SourceLog) (p0 : SinkLog) (down up : Traffic) → ClientStands e up.written down.read p0 (P.log report.old) self.old.gathering self.old.said.items self.old.lines.items
-            → Given r0 (R.log r.old) self.old.reads down.read → ClientHears e r0 (R.log r.new) p0 (P.log report.new) down up count self.old self.new result }
+            → Given r0 (R.log r.old) self.old.reads down.read → ClientHears e r0 (R.log r.new) p0 (P.log report.new) down up count self.new result }
     {
         let mut buffer = [0u8; READ_SIZE];
         let mut left = count;

@@ -1,8 +1,8 @@
 //! One write and one read of a connection.
 
-ghost use Rattle.std.specs.Prelude.{◌≡◌, ◌<◌, ◌≤◌, ◌^◌, ◌+◌, ◌++◌, [], IfErr, IfOk, List, drop, length, take, ℕ};
+ghost use Rattle.std.specs.Prelude.{◌≡◌, ◌<◌, ◌≤◌, ◌^◌, ◌+◌, ◌++◌, [], IfErr, IfOk, List, OnOk, drop, length, take, ℕ};
 ghost use Rattle.llrp_stream.specs.Device.{SourceLog, WroteAndFailed};
-ghost use Rattle.llrp_tool.specs.EndsStand.{Given, HasRoom, ReadsNone, ReadsPiece, WritesPiece};
+ghost use Rattle.llrp_tool.specs.EndsStand.{Given, HasRoom, ReadsNone, WritesPiece};
 ghost use Rattle.llrp_listing.specs.declared.fault.ToolErr.TheVariants.{Write};
 
 use llrp_listing::{MOST_READS, READ_SIZE, ToolErr};
@@ -52,7 +52,8 @@ pub(super) fn read_piece<R: Source>(
     ensures some { IfOk result (λ n. 0 < n) }
     ensures within { IfOk result (λ n. n ≤ length buffer.new) }
     ensures ok { IfOk result (λ n. (r0 : SourceLog) (before : List ℕ) → Given r0 (R.log r.old) reads.old before
-        → ReadsPiece r0 (R.log r.new) reads.old reads.new before (take n buffer.new)) }
+        → Given r0 (R.log r.new) reads.new (before ++ take n buffer.new)) }
+    ensures counted { OnOk result (reads.new ≡ reads.old + 1) }
     ensures room { IfOk result (λ n. HasRoom (R.log r.new) reads.new) }
     ensures err { IfErr result (λ e. (r0 : SourceLog) (before : List ℕ) → Given r0 (R.log r.old) reads.old before
         → ReadsNone r0 (R.log r.new) before e) }

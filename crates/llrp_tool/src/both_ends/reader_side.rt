@@ -1,6 +1,6 @@
 //! The reader's side of a connection.
 
-ghost use Rattle.std.specs.Prelude.{◌≡◌, ◌≤◌, [], IfErr, IfOk, List, OnOk, ℕ};
+ghost use Rattle.std.specs.Prelude.{◌≡◌, ◌<◌, ◌≤◌, [], IfErr, IfOk, List, OnOk, ℕ};
 ghost use Rattle.llrp_stream.specs.Device.{SourceLog};
 ghost use Rattle.llrp_tool.specs.EndsStand.{Given, HasRoom, ReaderHears, ReaderStands};
 ghost use Rattle.llrp_tool.specs.RunLoop.{Ends, Traffic};
@@ -53,10 +53,11 @@ impl ReaderSide {
         requires room { HasRoom (R.log r.old) self.old.reads }
         requires started { HasStarted self.old.serving }
         ensures room { OnOk result (HasRoom (R.log r.new) self.new.reads) }
+        ensures counted { OnOk result (0 < count → self.old.reads < self.new.reads) }
         ensures started { HasStarted self.new.serving }
         ensures idle { count ≡ 0 → self.new ≡ self.old }
         ensures hears { (e : Ends) (r0 : SourceLog) (down up : Traffic) → ReaderStands e down.written up.read self.old.serving self.old.said.items → Given r0 (R.log r.old) self.old.reads up.read
-            → ReaderHears e r0 (R.log r.new) down up count self.old self.new result }
+            → ReaderHears e r0 (R.log r.new) down up count self.new result }
     {
         let mut buffer = [0u8; READ_SIZE];
         let mut left = count;

@@ -1,9 +1,6 @@
-use Rattle.std.proofs.Common.{refl, sym, ap, ◌∙◌}
+use Rattle.std.proofs.Common.{refl}
 use Rattle.std.proofs.lemmas.Result.{err_from_is_err_and}
-use Rattle.llrp_tool.specs.declared.both_ends.client_side.ClientSide.{ClientSide}
-use Rattle.llrp_tool.specs.declared.both_ends.reader_side.ReaderSide.{ReaderSide}
-use Rattle.llrp_listing.specs.Copying.{MOST_READS}
-use Rattle.llrp_tool.proofs.LoopLemmas.{begins, fresh_room, not_started, silent, down_counts, up_counts, not_silent, fewer_left, down_unwritten, up_unwritten, writes_down, writes_up, hears_down, hears_up, client_stopped, client_closed, reader_stopped}
+use Rattle.llrp_tool.proofs.LoopLemmas.{not_started}
 use Rattle.llrp_tool.proofs.both_ends.run_loop.Goals as goal
 
 pub returns-in_err-reader : goal.returns-in_err-reader
@@ -12,93 +9,5 @@ returns-in_err-reader g c =
     let failed = c.in_err-reader.ensures.err in
     rw (p.1, p.2, failed.0) (not_started _ _ c.new-client.result failed.1 (c.new-client.ensures.stands _ _ refl refl) failed.2)
 
-pub loop-reader-init : goal.loop-reader-init
-loop-reader-init g c = record {
-  state = begins _ _ c.in_ok-reader.reader c.new-client.result (c.in_ok-reader.ensures.ok _ refl refl) (c.new-client.ensures.stands _ _ refl refl) c.in_ok-reader.ensures.unread c.new-client.ensures.unread;
-  down_room = fresh_room _ _ c.requires.down_source c.new-client.ensures.unread;
-  up_room = fresh_room _ _ c.requires.up_source c.in_ok-reader.ensures.unread;
-  started = c.in_ok-reader.ensures.started;
-}
-
-pub returns-in_err-down : goal.returns-in_err-down
-returns-in_err-down g c =
-    let p = err_from_is_err_and c.from_residual-in_err-down.result c.from_residual-in_err-down.ensures.1 in
-    let failed = c.in_err-down.ensures.err in
-    rw (p.1, p.2, failed.0) (down_unwritten _ _ _ _ _ _ _ _ c.loop-reader.invariant.state failed.1)
-
-pub returns-in_err-closed : goal.returns-in_err-closed
-returns-in_err-closed g c =
-    let p = err_from_is_err_and c.from_residual-in_err-closed.result c.from_residual-in_err-closed.ensures.1 in
-    let l = c.loop-reader in
-    let reader : ReaderSide = record { serving = l.reader.serving; said = c.write_piece.new.said; reads = l.reader.reads } in
-    rw (p.1, p.2) (client_stopped _ _ _ _ _ (g.P.Sink.log c.hear.new.report) reader l.client c.hear.new.self (g.CR.Source.log c.hear.new.r) c.in_ok-down.down c.in_err-closed.field-0.0
-    (writes_down _ _ _ _ _ l.reader reader l.client (g.RW.Sink.log c.write_piece.new.w) c.in_ok-down.down l.invariant.state c.in_ok-down.ensures.ok refl refl)
-    c.in_ok-down.ensures.ok.a_piece c.in_err-closed.ensures.hears)
-
-pub returns-then-closed : goal.returns-then-closed
-returns-then-closed g c =
-    let l = c.loop-reader in
-    let reader : ReaderSide = record { serving = l.reader.serving; said = c.write_piece.new.said; reads = l.reader.reads } in
-    client_closed _ _ _ _ _ (g.P.Sink.log c.hear.new.report) reader l.client c.hear.new.self (g.CR.Source.log c.hear.new.r) c.in_ok-down.down c.summary.result c.in_ok-closed.closed c.if-closed.true
-    (writes_down _ _ _ _ _ l.reader reader l.client (g.RW.Sink.log c.write_piece.new.w) c.in_ok-down.down l.invariant.state c.in_ok-down.ensures.ok refl refl)
-    c.in_ok-down.ensures.ok.a_piece c.in_ok-closed.ensures.hears c.summary.ensures
-
-pub returns-in_err-up : goal.returns-in_err-up
-returns-in_err-up g c =
-    let p = err_from_is_err_and c.from_residual-in_err-up.result c.from_residual-in_err-up.ensures.1 in
-    let failed = c.in_err-up.ensures.err in
-    let l = c.loop-reader in
-    let reader : ReaderSide = record { serving = l.reader.serving; said = c.write_piece.new.said; reads = l.reader.reads } in
-    rw (p.1, p.2, failed.0) (up_unwritten _ _ _ _ _ reader c.hear.new.self (g.CW.Sink.log c.write_piece-in-loop-reader.new.w)
-    (hears_down _ _ _ _ _ (g.P.Sink.log c.hear.new.report) reader l.client c.hear.new.self (g.CR.Source.log c.hear.new.r) c.in_ok-down.down c.in_ok-closed.closed c.if-closed.false
-    (writes_down _ _ _ _ _ l.reader reader l.client (g.RW.Sink.log c.write_piece.new.w) c.in_ok-down.down l.invariant.state c.in_ok-down.ensures.ok refl refl) c.in_ok-closed.ensures.hears) failed.1)
-
-pub loop-reader-smaller : goal.loop-reader-smaller
-loop-reader-smaller g c =
-    let l = c.loop-reader in
-    let reader : ReaderSide = record { serving = l.reader.serving; said = c.write_piece.new.said; reads = l.reader.reads } in
-    let client : ClientSide = record { gathering = c.hear.new.self.gathering; said = c.write_piece-in-loop-reader.new.said; lines = c.hear.new.self.lines; reads = c.hear.new.self.reads } in
-    fewer_left MOST_READS l.client.reads c.hear.new.self.reads l.reader.reads c.hear-in-loop-reader.new.self.reads c.in_ok-down.down c.in_ok-up.up c.in_ok-closed.ensures.room.few c.in_ok-hear.ensures.room.few
-    c.in_ok-down.ensures.ok.some
-    (down_counts _ _ _ _ _ (g.P.Sink.log c.hear.new.report) reader l.client c.hear.new.self (g.CR.Source.log c.hear.new.r) c.in_ok-down.down c.in_ok-closed.closed c.if-closed.false
-    (writes_down _ _ _ _ _ l.reader reader l.client (g.RW.Sink.log c.write_piece.new.w) c.in_ok-down.down l.invariant.state c.in_ok-down.ensures.ok refl refl) c.in_ok-closed.ensures.hears)
-    (λ none. ap (λ (s : ClientSide). s.reads) (c.in_ok-closed.ensures.idle none))
-    (λ none unsaid. ap (λ (s : ClientSide). s.said.items) (sym (c.in_ok-closed.ensures.idle none)) ∙ c.in_ok-up.ensures.ok.some unsaid)
-    (up_counts _ _ _ _ _ reader c.hear-in-loop-reader.new.self client (g.RR.Source.log c.hear-in-loop-reader.new.r) c.in_ok-up.up c.in_ok-hear.field-0
-    (writes_up _ _ _ _ _ reader c.hear.new.self client (g.CW.Sink.log c.write_piece-in-loop-reader.new.w) c.in_ok-up.up
-    (hears_down _ _ _ _ _ (g.P.Sink.log c.hear.new.report) reader l.client c.hear.new.self (g.CR.Source.log c.hear.new.r) c.in_ok-down.down c.in_ok-closed.closed c.if-closed.false
-    (writes_down _ _ _ _ _ l.reader reader l.client (g.RW.Sink.log c.write_piece.new.w) c.in_ok-down.down l.invariant.state c.in_ok-down.ensures.ok refl refl) c.in_ok-closed.ensures.hears) c.in_ok-up.ensures.ok refl refl refl) c.in_ok-hear.ensures.hears)
-    (λ none. ap (λ (s : ReaderSide). s.reads) (c.in_ok-hear.ensures.idle none))
-    (not_silent c.are_silent.result c.are_silent.ensures.1 c.loop-reader-test.true)
-
-pub loop-reader-preserved : goal.loop-reader-preserved
-loop-reader-preserved g c =
-    let l = c.loop-reader in
-    let reader : ReaderSide = record { serving = l.reader.serving; said = c.write_piece.new.said; reads = l.reader.reads } in
-    let client : ClientSide = record { gathering = c.hear.new.self.gathering; said = c.write_piece-in-loop-reader.new.said; lines = c.hear.new.self.lines; reads = c.hear.new.self.reads } in
-    record {
-      state = hears_up _ _ _ _ _ reader c.hear-in-loop-reader.new.self client (g.RR.Source.log c.hear-in-loop-reader.new.r) c.in_ok-up.up c.in_ok-hear.field-0
-          (writes_up _ _ _ _ _ reader c.hear.new.self client (g.CW.Sink.log c.write_piece-in-loop-reader.new.w) c.in_ok-up.up
-          (hears_down _ _ _ _ _ (g.P.Sink.log c.hear.new.report) reader l.client c.hear.new.self (g.CR.Source.log c.hear.new.r) c.in_ok-down.down c.in_ok-closed.closed c.if-closed.false
-          (writes_down _ _ _ _ _ l.reader reader l.client (g.RW.Sink.log c.write_piece.new.w) c.in_ok-down.down l.invariant.state c.in_ok-down.ensures.ok refl refl) c.in_ok-closed.ensures.hears) c.in_ok-up.ensures.ok refl refl refl) c.in_ok-hear.ensures.hears;
-      down_room = c.in_ok-closed.ensures.room;
-      up_room = c.in_ok-hear.ensures.room;
-      started = c.in_ok-hear.ensures.started;
-    }
-
-pub returns-in_err-hear : goal.returns-in_err-hear
-returns-in_err-hear g c =
-    let p = err_from_is_err_and c.from_residual-in_err-hear.result c.from_residual-in_err-hear.ensures.1 in
-    let l = c.loop-reader in
-    let reader : ReaderSide = record { serving = l.reader.serving; said = c.write_piece.new.said; reads = l.reader.reads } in
-    let client : ClientSide = record { gathering = c.hear.new.self.gathering; said = c.write_piece-in-loop-reader.new.said; lines = c.hear.new.self.lines; reads = c.hear.new.self.reads } in
-    rw (p.1, p.2) (reader_stopped _ _ _ _ _ reader c.hear-in-loop-reader.new.self client (g.RR.Source.log c.hear-in-loop-reader.new.r) c.in_ok-up.up c.in_err-hear.field-0.0
-    (writes_up _ _ _ _ _ reader c.hear.new.self client (g.CW.Sink.log c.write_piece-in-loop-reader.new.w) c.in_ok-up.up
-    (hears_down _ _ _ _ _ (g.P.Sink.log c.hear.new.report) reader l.client c.hear.new.self (g.CR.Source.log c.hear.new.r) c.in_ok-down.down c.in_ok-closed.closed c.if-closed.false
-    (writes_down _ _ _ _ _ l.reader reader l.client (g.RW.Sink.log c.write_piece.new.w) c.in_ok-down.down l.invariant.state c.in_ok-down.ensures.ok refl refl) c.in_ok-closed.ensures.hears) c.in_ok-up.ensures.ok refl refl refl) c.in_ok-up.ensures.ok.a_piece c.in_err-hear.ensures.hears)
-
 pub returns : goal.returns
-returns g c =
-    let l = c.loop-reader in
-    let both = c.are_silent.ensures.0 c.loop-reader-test.false in
-    silent _ _ _ _ _ l.reader l.client l.invariant.state both.0 both.1
+returns g c = c.exchange.ensures _ (c.in_ok-reader.ensures.ok _ refl refl) (c.new-client.ensures.stands _ _ refl refl)

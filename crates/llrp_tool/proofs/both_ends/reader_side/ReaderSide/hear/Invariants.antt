@@ -1,4 +1,4 @@
-use Rattle.std.proofs.Common.{◌≡◌, ◌≤◌, ◌≢◌, ℕ, List}
+use Rattle.std.proofs.Common.{◌≡◌, ◌<◌, ◌≤◌, ◌≢◌, ℕ, List}
 use Rattle.llrp_stream.specs.Device.{SourceLog}
 use Rattle.llrp_tool.specs.declared.serving.Phase.TheVariants.{New}
 use Rattle.llrp_tool.specs.EndsStand.{Given, HasRoom, ReaderStands}
@@ -10,10 +10,12 @@ abbrev pub invariant-loop-left : goal.invariant-loop-left
 invariant-loop-left g l = record {
   within : l.left ≤ l.count;
   room : HasRoom (g.R.Source.log l.r) l.self.reads;
+  no_less : l.fn.self.reads ≤ l.self.reads;
+  counted : l.left < l.count → l.fn.self.reads < l.self.reads;
   started : l.self.serving.phase ≢ New;
   idle : l.left ≡ l.count → l.self ≡ l.fn.self;
   so_far : (e : Ends) (r0 : SourceLog) (written read : List ℕ) → ReaderStands e written read l.fn.self.serving l.fn.self.said.items → Given r0 (g.R.Source.log l.fn.r) l.fn.self.reads read
-      → ReaderSoFar e r0 (g.R.Source.log l.r) written read l.count l.left l.fn.self.reads l.self.reads l.self.serving l.self.said.items;
+      → ReaderSoFar e r0 (g.R.Source.log l.r) written read l.count l.left l.self.reads l.self.serving l.self.said.items;
 }
 
 abbrev pub decreases-loop-left : goal.decreases-loop-left
