@@ -17,6 +17,3 @@ pub use kinds::{Field, Group, Kind, MsgKind, ParamKind, Tail};
 pub use named::{msg_named, param_named};
 pub use numbered::{is_tv, msg_of, param_of_tlv, param_of_tv};
 pub use tables::{fields, groups, name, number, tail};
-
-#[cfg(test)]
-mod tests;

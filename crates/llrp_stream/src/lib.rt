@@ -9,8 +9,6 @@ pub mod item;
 pub mod laws;
 mod state;
 mod steps;
-#[cfg(test)]
-mod tests;
 
 pub use decoder::Decoder;
 pub use device::{Input, Output, Sink, Source};

@@ -139,6 +139,3 @@ pub fn put(bytes: &mut [u8], place: usize, width: u32, value: u128)
         bytes[last] = octet_with(bytes[last], 0, kept, value & ((1 << kept) - 1));
     }
 }
-
-#[cfg(test)]
-mod tests;

@@ -1,4 +1,6 @@
-use super::*;
+//! Parts of 96-bit words.
+
+use tag_bits::Word;
 
 /// The word of urn:epc:tag:sgtin-96:3.0614141.812345.6789, an example of TDS 1.13.
 const SGTIN: [u8; 12] = [

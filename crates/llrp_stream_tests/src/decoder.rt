@@ -1,6 +1,6 @@
 //! Streams that come in pieces.
 
-use crate::{Decoder, End, FeedErr, Input, Item, Output, Sink, Source};
+use llrp_stream::{Decoder, End, FeedErr, Input, Item, Output, Sink, Source};
 use llrp_tree::{Fault, Reason, encode_into};
 use std::alloc::Global;
 use std::process::Abort;

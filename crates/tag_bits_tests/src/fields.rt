@@ -1,4 +1,6 @@
-use super::*;
+//! Fields of lists of octets.
+
+use tag_bits::{get, put};
 
 #[test]
 fn reads_whole_and_part_octets(rt: HostRuntime) {

@@ -1,6 +1,6 @@
 //! Kinds of each sort against values written out from the standard and this profile's bounds.
 
-use super::*;
+use llrp_schema::*;
 use std::process::Abort;
 
 /// A field's name, width, whether it is reserved, its greatest value, and whether it is signed.
