@@ -2,7 +2,7 @@
 use Rattle.std.proofs.Common.{◌≡◌, ℕ, ◌+◌, ◌-◌, ◌/◌, ◌%◌, ◌^◌, ◌<◌, ◌≤◌, Bool, true, false, not, cond, List, [], ◌∷◌, Option, Some, None, refl, ap, ◌∙◌, subst, arith, length, inl, inr, lit<}
 use Rattle.std.specs.Borrow.{Bor}
 use Rattle.std.specs.Prelude.{◌==◌, ◌||◌, ◌⊎◌, is_some, option_copied, option_to_list, option_map, unwrap_or, IfSome, MatchOption}
-use Rattle.std.proofs.lemmas.Bool.{ne_eqb, ltb-false}
+use Rattle.std.proofs.lemmas.Bool.{eqb-true, ltb-false}
 use Rattle.std.proofs.Math.Nat.{pow-le-pow_right}
 use Rattle.std.proofs.lemmas.Nat.{pow_pos}
 use Rattle.tag_epc.specs.declared.kind.Kind.{Kind}
@@ -17,7 +17,7 @@ use Rattle.tag_uri.specs.TagText.{Number, some_component, is_stray, has_leading_
 use Rattle.tag_uri.specs.ComponentForms.{texts_of, forms_with, LastIs}
 use Rattle.tag_uri.proofs.ComponentLemmas.{digits_of_not_strange}
 use Rattle.tag_uri.proofs.DecimalLemmas.{plain_text}
-use Rattle.tag_uri.proofs.RowDigits.{RowOf, row_fits, reference_digits-at}
+use Rattle.tag_uri.proofs.RowDigits.{RowOf, row_fits, reference_digits-at, not_false}
 
 pub or_false : (a b : Bool) → (a || b) ≡ false → (a ≡ false) × (b ≡ false)
 or_false true b h = cc
@@ -85,18 +85,19 @@ last_is x w last (Some n) is narrow h k m =
     let small : n < 2 ^ 64 = omega (arith, m.1, pow-le-pow_right {n = 2} (omega arith) {i = w} {j = 64} (omega arith)) in
     rw is (plain_text last.now n d.digits d.some p small m.0, m.1)
 
--- one digit 0 to 7
-pub filter_below : (text : List ℕ) (n : ℕ) → is_no_filter text ≡ false → text ≡ padded (length text) n → n < 10 ^ length text → (length text ≡ 1) × (n < 8)
+-- a filter value is one digit
+pub one_digit : (text : List ℕ) → is_no_filter text ≡ false → length text ≡ 1
+one_digit text h = eqb-true (length text) 1 (not_false (length text == 1) (or_false _ _ h).0)
+
+-- and that digit is 0 to 7
+pub filter_below : (text : List ℕ) (n : ℕ) → is_no_filter text ≡ false → text ≡ padded (length text) n → n < 10 ^ length text → n < 8
 unfolding padded
 filter_below [] n h e b = cc
-filter_below (c ∷ d ∷ cs) n h e b =
-    let other : (length (c ∷ d ∷ cs) == 1) ≡ false = ne_eqb (length (c ∷ d ∷ cs)) 1 (λ one. omega (arith, one)) in
-    let no : true ≡ false = rw other at h in
-    cc
+filter_below (c ∷ d ∷ cs) n h e b = let one = one_digit (c ∷ d ∷ cs) h in absurd (omega (arith, one))
 filter_below (c ∷ []) n h e b =
     let low : c ≤ 55 = ltb-false 55 c h in
     let first : c ≡ 48 + n / 10 ^ 0 % 10 = cc in
-    (refl, omega (arith, low, first, b))
+    omega (arith, low, first, b)
 
 -- what a last segment may hold
 pub record FitsLast (l : Layout) (last : ℕ) : Type 0 where

@@ -65,9 +65,13 @@ pub record RowOf (l : Layout) (k m : ℕ) : Type 0 where
   pub placed : row_at l (12 - k) ≡ Some row
   pub digits : row.reference_digits ≡ m
 
-not_false : (b : Bool) → not b ≡ false → b ≡ true
+pub not_false : (b : Bool) → not b ≡ false → b ≡ true
 not_false true h = refl
 not_false false h = cc
+
+-- a reference has at most twelve digits
+pub few_digits : (l : Layout) (k m : ℕ) → is_sound l ≡ true → RowOf l k m → m ≤ 12
+few_digits l k m sound r = let digits = r.digits in omega (arith, (row_fits l sound (12 - k) r.row r.placed).short)
 
 pub row_of_digits : (l : Layout) (k m : ℕ) → is_sound l ≡ true → is_no_row l.rows k m ≡ false → RowOf l k m
 row_of_digits l k m sound h =
