@@ -33,30 +33,13 @@ fn decoded(rt: &impl Abort, alloc: Global, frame: &[u8], limit: u32) -> Result<M
     decode_frame(alloc, frame, limit)
 }
 
-/// The first fault of octets, or none.
-fn first_fault(
-    rt: &impl Abort,
-    alloc: Global,
-    frame: &[u8],
-    limit: u32,
-) -> Result<Option<(u64, Reason)>, Fail>
-    requires least { 10 ≤ limit }
-    requires most { limit ≤ 65536 }
-{
-    match decoded(rt, alloc, frame, limit) {
-        Ok(_) => Ok(None),
-        Err(FrameErr::Bad(Fault { bit, reason })) => Ok(Some((bit, reason))),
-        Err(FrameErr::Memory) => Err(Fail::from("memory")),
-    }
-}
-
-/// The octets of ADD_ROSPEC with another at a place.
-fn with_octet(alloc: Global, place: usize, octet: u8) -> Result<Vec<u8>, Fail>
-    requires { place < 62 }
-{
-    let mut frame = ADD_ROSPEC;
-    frame[place] = octet;
-    Ok(frame.to_vec(alloc)?)
+/// Octets whose length field is their number are no message's, and this is their first fault.
+fn is_faulty(rt: &impl Abort, alloc: Global, frame: &[u8], bit: u64, reason: Reason) {
+    let fault = FrameErr::Bad(Fault { bit, reason });
+    assert!(rt;
+        decoded(rt, alloc, frame, 65536).err() == Some(fault),
+        "at {bit}"
+    );
 }
 
 /// ERROR_MESSAGE with an LLRPStatus over so many nested ParameterErrors.
@@ -71,119 +54,134 @@ fn nested_errors(alloc: Global, errors: u8) -> Result<Vec<u8>, Fail>
     Ok(frame)
 }
 
+/// Octets, and their first fault.
+struct Row {
+    name: &'static str,
+    frame: &'static [u8],
+    bit: u64,
+    reason: Reason,
+}
+
+static FAULTY: [Row; 9] = [
+    Row {
+        name: "a message type outside the profile",
+        frame: &[0x04, 0x01, 0, 0, 0, 0x0B, 0, 0, 0, 5, 0],
+        bit: 6,
+        reason: Reason::MessageType,
+    },
+    Row {
+        name: "reserved header bits",
+        frame: &[0x24, 0x3E, 0, 0, 0, 0x0A, 0, 0, 0, 7],
+        bit: 0,
+        reason: Reason::Reserved,
+    },
+    Row {
+        name: "version 3",
+        frame: &[0x0C, 0x3E, 0, 0, 0, 0x0A, 0, 0, 0, 7],
+        bit: 3,
+        reason: Reason::Version,
+    },
+    Row {
+        name: "reserved bits behind a field",
+        frame: &[
+            0x08, 0x03, 0, 0, 0, 0x14, 0, 0, 0, 5, 0x01, 0x00, 0xDC, 0, 9, 1, 0, 0, 3, 0xE8,
+        ],
+        bit: 81,
+        reason: Reason::Reserved,
+    },
+    Row {
+        name: "an octet behind the fields of a leaf",
+        frame: &[
+            0x08, 0x03, 0, 0, 0, 0x15, 0, 0, 0, 5, 0x00, 0x00, 0xDC, 0, 0x0A, 1, 0, 0, 3, 0xE8, 0,
+        ],
+        bit: 160,
+        reason: Reason::Extra,
+    },
+    Row {
+        name: "more bits than octets for them",
+        frame: &[
+            0x04, 0x3D, 0, 0, 0, 0x15, 0, 0, 0, 1, 0x00, 0xF0, 0, 0x0B, 0x00, 0xF1, 0, 7, 0, 9,
+            0xAA,
+        ],
+        bit: 144,
+        reason: Reason::Count,
+    },
+    Row {
+        name: "a status text that is not UTF-8",
+        frame: &[
+            0x08, 0x64, 0, 0, 0, 0x15, 0, 0, 0, 9, 0x01, 0x1F, 0, 0x0B, 0x00, 0x64, 0, 3, 0x41,
+            0xE2, 0x82,
+        ],
+        bit: 152,
+        reason: Reason::Utf8,
+    },
+    Row {
+        name: "two timestamps",
+        frame: &[
+            0x04, 0x3F, 0, 0, 0, 0x2C, 0, 0, 0, 1, 0x00, 0xF6, 0, 0x22, 0x00, 0x80, 0, 0x0C, 0, 0,
+            0, 0, 0, 0, 0, 0, 0x00, 0x81, 0, 0x0C, 0, 0, 0, 0, 0, 0, 0, 0, 0x01, 0x00, 0, 6, 0, 0,
+        ],
+        bit: 208,
+        reason: Reason::TooMany,
+    },
+    Row {
+        name: "no timestamp",
+        frame: &[
+            0x04, 0x3F, 0, 0, 0, 0x14, 0, 0, 0, 1, 0x00, 0xF6, 0, 0x0A, 0x01, 0x00, 0, 6, 0, 0,
+        ],
+        bit: 160,
+        reason: Reason::Missing,
+    },
+];
+
 #[test]
-fn faults_of_headers(rt: HostRuntime) -> Result<(), Fail> {
-    let alloc = rt.alloc();
-    assert_eq!(rt;
-        first_fault(&rt, alloc, &SGTIN_REPORT, 26)?,
-        Some((16, Reason::MessageLength))
-    );
-    let unlisted = [0x04, 0x01, 0, 0, 0, 0x0B, 0, 0, 0, 5, 0];
-    assert_eq!(rt;
-        first_fault(&rt, alloc, &unlisted, 65536)?,
-        Some((6, Reason::MessageType))
-    );
-    Ok(())
+fn first_faults(rt: HostRuntime) {
+    for row in &FAULTY {
+        let fault = FrameErr::Bad(Fault {
+            bit: row.bit,
+            reason: row.reason,
+        });
+        let found = decoded(&rt, rt.alloc(), row.frame, 65536).err();
+        assert!(rt; found == Some(fault), "at {}", row.name);
+    }
 }
 
 #[test]
-fn reserved_header_bits(rt: HostRuntime) -> Result<(), Fail> {
-    let alloc = rt.alloc();
-    let reserved = [0x24, 0x3E, 0, 0, 0, 0x0A, 0, 0, 0, 7];
-    assert_eq!(rt;
-        first_fault(&rt, alloc, &reserved, 65536)?,
-        Some((0, Reason::Reserved))
-    );
-    let version = [0x0C, 0x3E, 0, 0, 0, 0x0A, 0, 0, 0, 7];
-    assert_eq!(rt;
-        first_fault(&rt, alloc, &version, 65536)?,
-        Some((3, Reason::Version))
-    );
-    Ok(())
+fn message_over_limit(rt: HostRuntime) {
+    let fault = FrameErr::Bad(Fault {
+        bit: 16,
+        reason: Reason::MessageLength,
+    });
+    let found = decoded(&rt, rt.alloc(), &SGTIN_REPORT, 26).err();
+    assert!(rt; found == Some(fault));
 }
 
-#[test]
-fn faults_of_fields_and_ends(rt: HostRuntime) -> Result<(), Fail> {
-    let alloc = rt.alloc();
-    let reserved = [
-        0x08, 0x03, 0, 0, 0, 0x14, 0, 0, 0, 5, 0x01, 0x00, 0xDC, 0, 9, 1, 0, 0, 3, 0xE8,
-    ];
-    assert_eq!(rt;
-        first_fault(&rt, alloc, &reserved, 65536)?,
-        Some((81, Reason::Reserved))
-    );
-    let long_keepalive = [
-        0x08, 0x03, 0, 0, 0, 0x15, 0, 0, 0, 5, 0x00, 0x00, 0xDC, 0, 0x0A, 1, 0, 0, 3, 0xE8, 0,
-    ];
-    assert_eq!(rt;
-        first_fault(&rt, alloc, &long_keepalive, 65536)?,
-        Some((160, Reason::Extra))
-    );
-    Ok(())
-}
-
-#[test]
-fn faults_of_tails(rt: HostRuntime) -> Result<(), Fail> {
-    let alloc = rt.alloc();
-    let bit_count = [
-        0x04, 0x3D, 0, 0, 0, 0x15, 0, 0, 0, 1, 0x00, 0xF0, 0, 0x0B, 0x00, 0xF1, 0, 7, 0, 9, 0xAA,
-    ];
-    assert_eq!(rt;
-        first_fault(&rt, alloc, &bit_count, 65536)?,
-        Some((144, Reason::Count))
-    );
-    let status_text_not_utf8 = [
-        0x08, 0x64, 0, 0, 0, 0x15, 0, 0, 0, 9, 0x01, 0x1F, 0, 0x0B, 0x00, 0x64, 0, 3, 0x41, 0xE2,
-        0x82,
-    ];
-    assert_eq!(rt;
-        first_fault(&rt, alloc, &status_text_not_utf8, 65536)?,
-        Some((152, Reason::Utf8))
-    );
-    let antennas = with_octet(alloc, 43, 2)?;
-    assert_eq!(rt;
-        first_fault(&rt, alloc, &antennas, 65536)?,
-        Some((390, Reason::ParamType))
-    );
-    let mut antenna_count_past_end = ADD_ROSPEC;
-    antenna_count_past_end[42] = 0xFF;
-    antenna_count_past_end[43] = 0xFF;
-    assert_eq!(rt;
-        first_fault(&rt, alloc, &antenna_count_past_end, 65536)?,
-        Some((336, Reason::Count))
-    );
-    Ok(())
-}
-
-/// Another octet of ADD_ROSPEC, a length's last one, and the first fault that it makes.
-const LENGTHS: [(usize, u8, u64, Reason); 5] = [
+/// Another octet of ADD_ROSPEC, of its antenna count or a length's last one, and the first fault that it
+/// makes.
+static ALTERED: [(usize, u8, u64, Reason); 6] = [
     (13, 0x35, 96, Reason::ParamLength),
     (13, 0x33, 320, Reason::ParamLength),
     (23, 0x13, 304, Reason::Short),
     (23, 0x11, 248, Reason::ParamLength),
+    (43, 2, 390, Reason::ParamType),
     (58, 0x06, 488, Reason::Short),
 ];
 
 #[test]
-fn faults_of_lengths(rt: HostRuntime) -> Result<(), Fail> {
+fn faults_of_lengths_and_counts(rt: HostRuntime) -> Result<(), Fail> {
     let alloc = rt.alloc();
-    for (place, octet, bit, reason) in &LENGTHS {
+    for (place, octet, bit, reason) in &ALTERED {
         let mut frame = ADD_ROSPEC;
-        let Some(length) = frame.get_mut(*place) else {
-            return Err(Fail::from("place"));
-        };
-        *length = *octet;
-        assert_eq!(rt;
-            first_fault(&rt, alloc, &frame, 65536)?,
-            Some((*bit, *reason))
-        );
+        *frame.get_mut(*place).ok_or("place")? = *octet;
+        is_faulty(&rt, alloc, &frame, *bit, *reason);
     }
+    let mut antenna_count_past_end = ADD_ROSPEC;
+    antenna_count_past_end[42] = 0xFF;
+    antenna_count_past_end[43] = 0xFF;
+    is_faulty(&rt, alloc, &antenna_count_past_end, 336, Reason::Count);
     let mut long_parameter = SGTIN_REPORT;
     long_parameter[13] = 0x12;
-    assert_eq!(rt;
-        first_fault(&rt, alloc, &long_parameter, 65536)?,
-        Some((96, Reason::ParamLength))
-    );
+    is_faulty(&rt, alloc, &long_parameter, 96, Reason::ParamLength);
     Ok(())
 }
 
@@ -191,87 +189,43 @@ fn faults_of_lengths(rt: HostRuntime) -> Result<(), Fail> {
 fn nested_too_deep(rt: HostRuntime) -> Result<(), Fail> {
     let alloc = rt.alloc();
     let seven = nested_errors(alloc, 7)?;
-    assert_eq!(rt; first_fault(&rt, alloc, &seven, 65536)?, None);
+    assert!(rt; decoded(&rt, alloc, &seven, 65536).is_ok());
     let eight = nested_errors(alloc, 8)?;
-    assert_eq!(rt;
-        first_fault(&rt, alloc, &eight, 65536)?,
-        Some((592, Reason::TooDeep))
-    );
+    is_faulty(&rt, alloc, &eight, 592, Reason::TooDeep);
     Ok(())
 }
 
-#[test]
-fn two_timestamps_and_none(rt: HostRuntime) -> Result<(), Fail> {
-    let alloc = rt.alloc();
-    let two_timestamps = [
-        0x04, 0x3F, 0, 0, 0, 0x2C, 0, 0, 0, 1, 0x00, 0xF6, 0, 0x22, 0x00, 0x80, 0, 0x0C, 0, 0, 0,
-        0, 0, 0, 0, 0, 0x00, 0x81, 0, 0x0C, 0, 0, 0, 0, 0, 0, 0, 0, 0x01, 0x00, 0, 6, 0, 0,
-    ];
-    assert_eq!(rt;
-        first_fault(&rt, alloc, &two_timestamps, 65536)?,
-        Some((208, Reason::TooMany))
-    );
-    let no_timestamp = [
-        0x04, 0x3F, 0, 0, 0, 0x14, 0, 0, 0, 1, 0x00, 0xF6, 0, 0x0A, 0x01, 0x00, 0, 6, 0, 0,
-    ];
-    assert_eq!(rt;
-        first_fault(&rt, alloc, &no_timestamp, 65536)?,
-        Some((160, Reason::Missing))
-    );
-    Ok(())
-}
-
-/// Octets are decoded and spelled again.
-fn spelled_again(rt: &impl Abort, alloc: Global, frame: &[u8]) -> Result<Vec<u8>, Fail> {
+/// Octets are a message's, which spells them again.
+fn is_spelled_again(rt: &impl Abort, alloc: Global, frame: &[u8]) -> Result<(), Fail> {
     match decoded(rt, alloc, frame, 65536) {
         Ok(message) => {
             let mut out = Vec::new(alloc);
-            match encode_into(alloc, &message, &mut out, 65536) {
-                Ok(()) => Ok(out),
-                Err(error) => Err(Fail::from(error)),
-            }
+            assert!(rt; encode_into(alloc, &message, &mut out, 65536) == Ok(()));
+            assert!(rt; out.as_slice() == frame);
+            Ok(())
         }
         Err(error) => Err(Fail::from(error)),
     }
 }
 
+/// A report whose tag has its children in an order of its own, and the event that a ROSpec started.
+static SIBLINGS: [u8; 37] = [
+    0x04, 0x3D, 0, 0, 0, 0x25, 0, 0, 0, 2, 0x00, 0xF0, 0, 0x1B, 0x86, 0xC4, 0x90, 0, 0, 0, 0, 0x8D,
+    0x30, 0x74, 0x25, 0x7B, 0xF7, 0x19, 0x4E, 0x40, 0x00, 0x00, 0x1A, 0x85, 0x81, 0, 1,
+];
+
+static STARTED: [u8; 39] = [
+    0x08, 0x3F, 0, 0, 0, 0x27, 0, 0, 0, 2, 0x00, 0xF6, 0, 0x1D, 0x00, 0x80, 0, 0x0C, 0, 0, 0, 0, 0,
+    0, 0, 5, 0x00, 0xF9, 0, 0x0D, 0, 0, 0, 0, 1, 0, 0, 0, 0,
+];
+
 #[test]
 fn frames_both_ways_with_ample_memory(rt: HostRuntime) -> Result<(), Fail> {
     let alloc = rt.alloc();
-    assert_eq!(rt;
-        spelled_again(&rt, alloc, &ADD_ROSPEC)?.as_slice(),
-        ADD_ROSPEC.as_slice()
-    );
-    assert_eq!(rt;
-        spelled_again(&rt, alloc, &SGTIN_REPORT)?.as_slice(),
-        SGTIN_REPORT.as_slice()
-    );
+    is_spelled_again(&rt, alloc, &ADD_ROSPEC)?;
+    is_spelled_again(&rt, alloc, &SGTIN_REPORT)?;
+    is_spelled_again(&rt, alloc, &SIBLINGS)?;
+    is_spelled_again(&rt, alloc, &STARTED)?;
     let nested = nested_errors(alloc, 7)?;
-    assert_eq!(rt;
-        spelled_again(&rt, alloc, &nested)?.as_slice(),
-        nested.as_slice()
-    );
-    Ok(())
-}
-
-#[test]
-fn tv_order_kept(rt: HostRuntime) -> Result<(), Fail> {
-    let alloc = rt.alloc();
-    let siblings = [
-        0x04, 0x3D, 0, 0, 0, 0x25, 0, 0, 0, 2, 0x00, 0xF0, 0, 0x1B, 0x86, 0xC4, 0x90, 0, 0, 0, 0,
-        0x8D, 0x30, 0x74, 0x25, 0x7B, 0xF7, 0x19, 0x4E, 0x40, 0x00, 0x00, 0x1A, 0x85, 0x81, 0, 1,
-    ];
-    assert_eq!(rt;
-        spelled_again(&rt, alloc, &siblings)?.as_slice(),
-        siblings.as_slice()
-    );
-    let event = [
-        0x08, 0x3F, 0, 0, 0, 0x27, 0, 0, 0, 2, 0x00, 0xF6, 0, 0x1D, 0x00, 0x80, 0, 0x0C, 0, 0, 0,
-        0, 0, 0, 0, 5, 0x00, 0xF9, 0, 0x0D, 0, 0, 0, 0, 1, 0, 0, 0, 0,
-    ];
-    assert_eq!(rt;
-        spelled_again(&rt, alloc, &event)?.as_slice(),
-        event.as_slice()
-    );
-    Ok(())
+    is_spelled_again(&rt, alloc, &nested)
 }

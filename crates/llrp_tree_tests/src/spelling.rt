@@ -4,6 +4,7 @@ use llrp_tree::{
     EncodeErr, Message, MsgKind, Node, NodeFault, Nodes, Octets, ParamKind, encode_into,
 };
 use std::alloc::Global;
+use std::process::Abort;
 use std::test::Fail;
 
 /// A parameter of these parts, or its first fault.
@@ -156,37 +157,46 @@ static SGTIN_REPORT: [u8; 27] = [
     0x19, 0x4E, 0x40, 0, 0, 0x1A, 0x85,
 ];
 
+/// The report is longer than 26 octets, and nothing is written behind what stands there.
+fn is_over_limit(rt: &impl Abort, alloc: Global, report: &Message) -> Result<(), Fail> {
+    let mut out = [9].to_vec(alloc)?;
+    assert!(rt; encode_into(alloc, report, &mut out, 26) == Err(EncodeErr::OverLimit));
+    assert!(rt; out.as_slice() == [9].as_slice());
+    Ok(())
+}
+
+/// The report spells its 27 octets.
+fn is_spelled(rt: &impl Abort, alloc: Global, report: &Message) {
+    let mut out = Vec::new(alloc);
+    assert!(rt; encode_into(alloc, report, &mut out, 27) == Ok(()));
+    assert!(rt; out.as_slice() == SGTIN_REPORT.as_slice());
+}
+
 #[test]
 fn one_sgtin_report(rt: HostRuntime) -> Result<(), Fail> {
-    let alloc = rt.alloc();
-    let message = sgtin_report(alloc)?;
-    let mut out = [9].to_vec(alloc)?;
-    assert_eq!(rt;
-        encode_into(alloc, &message, &mut out, 26),
-        Err(EncodeErr::OverLimit)
-    );
-    assert_eq!(rt; out.as_slice(), [9].as_slice());
-    out.clear();
-    assert_eq!(rt; encode_into(alloc, &message, &mut out, 27), Ok(()));
-    assert_eq!(rt; out.as_slice(), SGTIN_REPORT.as_slice());
-    Ok(())
+    let report = sgtin_report(rt.alloc())?;
+    is_spelled(&rt, rt.alloc(), &report);
+    is_over_limit(&rt, rt.alloc(), &report)
+}
+
+/// The length of a report over copies of these parameters.
+fn length_of_copy(alloc: Global, nodes: &[Node]) -> Result<u32, Fail> {
+    let mut copies = Vec::new(alloc);
+    for node in nodes {
+        copies.push(node.try_clone(alloc)?)?;
+    }
+    match Message::new(2, 1, MsgKind::RoAccessReport, &[], Nodes::new(copies)) {
+        Ok(copy) => Ok(copy.length()),
+        Err(refusal) => Err(Fail::from(refusal.fault)),
+    }
 }
 
 #[test]
 fn clones_spell_the_same_with_ample_memory(rt: HostRuntime) -> Result<(), Fail> {
-    let alloc = rt.alloc();
-    let message = sgtin_report(alloc)?.try_clone(alloc)?;
-    let mut out = Vec::new(alloc);
-    assert_eq!(rt; encode_into(alloc, &message, &mut out, 27), Ok(()));
-    assert_eq!(rt; out.as_slice(), SGTIN_REPORT.as_slice());
-    let mut copies = Vec::new(alloc);
-    for node in message.into_children().as_slice() {
-        copies.push(node.try_clone(alloc)?)?;
-    }
-    match Message::new(2, 1, MsgKind::RoAccessReport, &[], Nodes::new(copies)) {
-        Ok(copy) => assert_eq!(rt; copy.length(), 27),
-        Err(refusal) => return Err(Fail::from(refusal.fault)),
-    }
+    let report = sgtin_report(rt.alloc())?.try_clone(rt.alloc())?;
+    is_spelled(&rt, rt.alloc(), &report);
+    let children = report.into_children();
+    assert!(rt; length_of_copy(rt.alloc(), children.as_slice())? == 27);
     Ok(())
 }
 
