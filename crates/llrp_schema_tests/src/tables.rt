@@ -109,7 +109,7 @@ fn parameters_are_found_by_number(rt: HostRuntime) {
     }
     for (number, wanted) in TV_BY_NUMBER {
         assert!(rt; param_of_tv(number) == wanted);
-        assert!(rt; wanted.is_none_or(is_tv));
+        assert!(rt; wanted.is_none_or(|kind| is_tv(kind)));
     }
 }
 

@@ -339,19 +339,22 @@ fn request_that_fails(rt: HostRuntime) -> Result<(), Fail> {
     Ok(())
 }
 
+/// A client adds and enables ROSpec 1, whose start and end it is told: its view follows.
+fn follows(rt: &impl Abort, alloc: Global, client: &mut Client) -> Result<(), Fail> {
+    adds(rt, alloc, client, ADD)?;
+    replies(rt, alloc, client, ADDED, 0)?;
+    assert_eq!(rt; client.view(1), Some(RoState::Disabled));
+    sends(rt, alloc, client, Command::Enable { id: 1 }, ENABLE_NEXT)?;
+    replies(rt, alloc, client, ENABLED, 0)?;
+    assert_eq!(rt; client.view(1), Some(RoState::Inactive));
+    moves(rt, alloc, client, STARTED, RoState::Active)?;
+    moves(rt, alloc, client, ENDED, RoState::Inactive)
+}
+
 #[test]
 fn view_follows(rt: HostRuntime) -> Result<(), Fail> {
-    let alloc = rt.alloc();
-    let mut client = connected(&rt, alloc, 1)?;
-    adds(&rt, alloc, &mut client, ADD)?;
-    replies(&rt, alloc, &mut client, ADDED, 0)?;
-    assert_eq!(rt; client.view(1), Some(RoState::Disabled));
-    let enable = Command::Enable { id: 1 };
-    sends(&rt, alloc, &mut client, enable, ENABLE_NEXT)?;
-    replies(&rt, alloc, &mut client, ENABLED, 0)?;
-    assert_eq!(rt; client.view(1), Some(RoState::Inactive));
-    moves(&rt, alloc, &mut client, STARTED, RoState::Active)?;
-    moves(&rt, alloc, &mut client, ENDED, RoState::Inactive)
+    let mut client = connected(&rt, rt.alloc(), 1)?;
+    follows(&rt, rt.alloc(), &mut client)
 }
 
 #[test]

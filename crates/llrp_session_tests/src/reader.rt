@@ -91,11 +91,7 @@ fn refused(
 }
 
 /// A reader of the greatest limit whose own ids begin at 1, and to which all this has happened.
-fn reader_after(
-    rt: &impl Abort,
-    alloc: Global,
-    steps: &[(u64, Does, &str)],
-) -> Result<Reader, Fail> {
+fn reader_after(rt: &impl Abort, alloc: Global, steps: &[Step]) -> Result<Reader, Fail> {
     let mut reader = Reader::new(alloc, 65536, 1);
     for (now, does, sends) in steps {
         happens(rt, alloc, &mut reader, *now, *does, sends)?;
@@ -186,145 +182,14 @@ fn closed_connections(rt: HostRuntime) -> Result<(), Fail> {
     refused(&rt, alloc, &mut reader, Does::Connect, StepFault::Closed)
 }
 
-#[test]
-fn rospecs_run(rt: HostRuntime) -> Result<(), Fail> {
-    let alloc = rt.alloc();
-    let early = Does::Take("08160000000E0000000300000001");
-    let refusal = "08200000001200000003 011F000800650000";
-    let delete = Does::Take("08150000000E0000000600000001");
-    let deleted = "081F0000001200000006 011F000800000000";
-    let steps = [
-        (0, Does::Connect, ACCEPTED, None),
-        (1, ADD, ADDED, Some(RoState::Disabled)),
-        (2, ADD, NOT_ADDED, Some(RoState::Disabled)),
-        (3, early, refusal, Some(RoState::Disabled)),
-        (4, ENABLE, ENABLED, Some(RoState::Inactive)),
-        (5, START, STARTED, Some(RoState::Active)),
-        (6, Does::Seen(1), "", Some(RoState::Active)),
-        (7, STOP, STOPPED, Some(RoState::Inactive)),
-        (8, delete, deleted, None),
-    ];
-    let mut reader = Reader::new(alloc, 65536, 1);
-    for (now, does, sends, state) in &steps {
-        happens(&rt, alloc, &mut reader, *now, *does, sends)?;
-        assert_eq!(rt; reader.state_of(1), *state);
-    }
-    Ok(())
-}
-
-#[test]
-fn rospecs_start_by_themselves(rt: HostRuntime) -> Result<(), Fail> {
-    let alloc = rt.alloc();
-    let enabled =
-        "08220000001200000003 011F000800000000 083F0000002700000002 00F6001D 0080000C0000000000000005 00F9000D000000000100000000";
-    let steps = [
-        (0, Does::Connect, ACCEPTED),
-        (1, ADD_IMMEDIATE, ADDED),
-        (5, ENABLE, enabled),
-        (6, Does::Seen(1), ""),
-        (7, DISABLE, DISABLED),
-    ];
-    let reader = reader_after(&rt, alloc, &steps)?;
-    assert_eq!(rt; reader.state_of(1), Some(RoState::Disabled));
-    Ok(())
-}
-
-#[test]
-fn rospecs_end_by_themselves(rt: HostRuntime) -> Result<(), Fail> {
-    let alloc = rt.alloc();
-    let ended = "083F0000002700000003 00F6001D 0080000C00000000000003ED 00F9000D010000000100000000";
-    let steps = [
-        (0, Does::Connect, ACCEPTED),
-        (1, ADD_BRIEF, ADDED),
-        (4, ENABLE, ENABLED),
-        (5, START, STARTED),
-        (1004, Does::Tick, ""),
-        (1005, Does::Tick, ended),
-    ];
-    let reader = reader_after(&rt, alloc, &steps)?;
-    assert_eq!(rt; reader.state_of(1), Some(RoState::Inactive));
-    Ok(())
-}
-
-#[test]
-fn rospecs_refused(rt: HostRuntime) -> Result<(), Fail> {
-    let alloc = rt.alloc();
-    let steps = [
-        (0, Does::Connect, ACCEPTED),
-        (1, ADD_INACTIVE, NOT_ADDED),
-        (1, ADD_SELF_STOPPING, NOT_ADDED),
-    ];
-    let reader = reader_after(&rt, alloc, &steps)?;
-    assert_eq!(rt; reader.state_of(1), None);
-    Ok(())
-}
-
 /// The reports of a tag that ROSpec 7 saw at antenna 1 at moment 6, and at antenna 3 at moment 8.
 const FULL_REPORTS: &str =
     "083D0000007C00000003 00F00039 8D3074257BF7194E4000001A85 8900000007 8E0001 8A0005 810001 870001 86C4 820000000000000006 840000000000000006 880001 00F00039 8D3074257BF7194E4000001A85 8900000007 8E0001 8A0005 810003 870001 86C4 820000000000000008 840000000000000008 880001";
-
-#[test]
-fn rospec_with_all_fields(rt: HostRuntime) -> Result<(), Fail> {
-    let alloc = rt.alloc();
-    let enable = Does::Take("08180000000E0000000300000007");
-    let enabled =
-        "08220000001200000003 011F000800000000 083F0000002700000002 00F6001D 0080000C0000000000000005 00F9000D000000000700000000";
-    let ended = "083F0000002700000004 00F6001D 0080000C000000000016E365 00F9000D010000000700000000";
-    let steps = [
-        (0, Does::Connect, ACCEPTED),
-        (1, ADD_FULL, ADDED),
-        (5, enable, enabled),
-        (6, Does::Seen(2), ""),
-        (6, Does::Seen(1), ""),
-        (8, Does::Seen(3), FULL_REPORTS),
-        (1_500_004, Does::Tick, ""),
-        (1_500_005, Does::Tick, ended),
-    ];
-    let reader = reader_after(&rt, alloc, &steps)?;
-    assert_eq!(rt; reader.state_of(7), Some(RoState::Inactive));
-    Ok(())
-}
-
-#[test]
-fn requests_outside_the_profile(rt: HostRuntime) -> Result<(), Fail> {
-    let alloc = rt.alloc();
-    let capabilities = Does::Take("04010000000B0000000500");
-    let later_version = Does::Take("0C3E0000000A00000007");
-    let keepalive = Does::Take("043E0000000A00000009");
-    let acknowledgement = Does::Take("04480000000A00000009");
-    let events_enabled = Does::Take("04400000000A00000009");
-    let error = Does::Take("04640000001200000009 011F0008006D0000");
-    let steps = [
-        (0, Does::Connect, ACCEPTED),
-        (0, capabilities, "04640000001200000005 011F0008006D0000"),
-        (0, later_version, "04640000001200000007 011F0008006E0000"),
-        (0, keepalive, "04640000001200000009 011F0008006D0000"),
-        (0, acknowledgement, ""),
-        (0, events_enabled, ""),
-        (0, error, ""),
-    ];
-    reader_after(&rt, alloc, &steps)?;
-    Ok(())
-}
 
 /// SET_READER_CONFIG with a keepalive each 1,000 milliseconds.
 const KEEP_ALIVE: Does = Does::Take("08030000001400000005 00 00DC000901000003E8");
 
 const CONFIGURED: &str = "080D0000001200000005 011F000800000000";
-
-#[test]
-fn keepalives(rt: HostRuntime) -> Result<(), Fail> {
-    let alloc = rt.alloc();
-    let steps = [
-        (0, Does::Connect, ACCEPTED),
-        (0, KEEP_ALIVE, CONFIGURED),
-        (999_999, Does::Tick, ""),
-        (1_000_000, Does::Tick, "083E0000000A00000002"),
-        (1_999_999, Does::Tick, ""),
-    ];
-    reader_after(&rt, alloc, &steps)?;
-    Ok(())
-}
 
 /// SET_READER_CONFIG that resets, with a ROReportSpec of all that a selector selects after 2 tags.
 const RESET: Does = Does::Take("08030000001800000005 80 00ED000D010002 00EE0006FFC0");
@@ -332,24 +197,6 @@ const RESET: Does = Does::Take("08030000001800000005 80 00ED000D010002 00EE0006F
 /// The reports of a tag that ROSpec 1 saw at antenna 1 at moment 6, and at antenna 5 at moment 8.
 const WHOLE_REPORTS: &str =
     "083D0000007C00000003 00F00039 8D3074257BF7194E4000001A85 8900000001 8E0001 8A0001 810001 870001 86C4 820000000000000006 840000000000000006 880001 00F00039 8D3074257BF7194E4000001A85 8900000001 8E0001 8A0001 810005 870001 86C4 820000000000000008 840000000000000008 880001";
-
-#[test]
-fn resets(rt: HostRuntime) -> Result<(), Fail> {
-    let alloc = rt.alloc();
-    let steps = [
-        (0, Does::Connect, ACCEPTED),
-        (0, KEEP_ALIVE, CONFIGURED),
-        (0, RESET, CONFIGURED),
-        (1, ADD, ADDED),
-        (4, ENABLE, ENABLED),
-        (5, START, STARTED),
-        (6, Does::Seen(1), ""),
-        (8, Does::Seen(5), WHOLE_REPORTS),
-        (1_000_000, Does::Tick, ""),
-    ];
-    reader_after(&rt, alloc, &steps)?;
-    Ok(())
-}
 
 /// RO_ACCESS_REPORT of 64 reports.
 fn all_held(alloc: Global) -> Result<String, AllocError> {
@@ -361,29 +208,210 @@ fn all_held(alloc: Global) -> Result<String, AllocError> {
     Ok(all)
 }
 
+/// At a moment this happens, and the reader sends these octets.
+type Step = (u64, Does, &'static str);
+
+/// What happens to a reader, and the state of a ROSpec behind it.
+struct Exchange {
+    name: &'static str,
+    steps: &'static [Step],
+    rospec: u32,
+    state: Option<RoState>,
+}
+
+static EXCHANGES: [Exchange; 7] = [
+    Exchange {
+        name: "a ROSpec starts by itself",
+        steps: &[
+            (0, Does::Connect, ACCEPTED),
+            (1, ADD_IMMEDIATE, ADDED),
+            (
+                5,
+                ENABLE,
+                "08220000001200000003 011F000800000000 083F0000002700000002 00F6001D 0080000C0000000000000005 00F9000D000000000100000000",
+            ),
+            (6, Does::Seen(1), ""),
+            (7, DISABLE, DISABLED),
+        ],
+        rospec: 1,
+        state: Some(RoState::Disabled),
+    },
+    Exchange {
+        name: "a ROSpec ends by itself",
+        steps: &[
+            (0, Does::Connect, ACCEPTED),
+            (1, ADD_BRIEF, ADDED),
+            (4, ENABLE, ENABLED),
+            (5, START, STARTED),
+            (1004, Does::Tick, ""),
+            (
+                1005,
+                Does::Tick,
+                "083F0000002700000003 00F6001D 0080000C00000000000003ED 00F9000D010000000100000000",
+            ),
+        ],
+        rospec: 1,
+        state: Some(RoState::Inactive),
+    },
+    Exchange {
+        name: "ROSpecs that are refused",
+        steps: &[
+            (0, Does::Connect, ACCEPTED),
+            (1, ADD_INACTIVE, NOT_ADDED),
+            (1, ADD_SELF_STOPPING, NOT_ADDED),
+        ],
+        rospec: 1,
+        state: None,
+    },
+    Exchange {
+        name: "a ROSpec with all fields",
+        steps: &[
+            (0, Does::Connect, ACCEPTED),
+            (1, ADD_FULL, ADDED),
+            (
+                5,
+                Does::Take("08180000000E0000000300000007"),
+                "08220000001200000003 011F000800000000 083F0000002700000002 00F6001D 0080000C0000000000000005 00F9000D000000000700000000",
+            ),
+            (6, Does::Seen(2), ""),
+            (6, Does::Seen(1), ""),
+            (8, Does::Seen(3), FULL_REPORTS),
+            (1_500_004, Does::Tick, ""),
+            (
+                1_500_005,
+                Does::Tick,
+                "083F0000002700000004 00F6001D 0080000C000000000016E365 00F9000D010000000700000000",
+            ),
+        ],
+        rospec: 7,
+        state: Some(RoState::Inactive),
+    },
+    Exchange {
+        name: "GET_READER_CAPABILITIES, version 3, KEEPALIVE and messages that are passed over",
+        steps: &[
+            (0, Does::Connect, ACCEPTED),
+            (
+                0,
+                Does::Take("04010000000B0000000500"),
+                "04640000001200000005 011F0008006D0000",
+            ),
+            (
+                0,
+                Does::Take("0C3E0000000A00000007"),
+                "04640000001200000007 011F0008006E0000",
+            ),
+            (
+                0,
+                Does::Take("043E0000000A00000009"),
+                "04640000001200000009 011F0008006D0000",
+            ),
+            (0, Does::Take("04480000000A00000009"), ""),
+            (0, Does::Take("04400000000A00000009"), ""),
+            (0, Does::Take("04640000001200000009 011F0008006D0000"), ""),
+        ],
+        rospec: 1,
+        state: None,
+    },
+    Exchange {
+        name: "a keepalive each second",
+        steps: &[
+            (0, Does::Connect, ACCEPTED),
+            (0, KEEP_ALIVE, CONFIGURED),
+            (999_999, Does::Tick, ""),
+            (1_000_000, Does::Tick, "083E0000000A00000002"),
+            (1_999_999, Does::Tick, ""),
+        ],
+        rospec: 1,
+        state: None,
+    },
+    Exchange {
+        name: "a reset ends the keepalives",
+        steps: &[
+            (0, Does::Connect, ACCEPTED),
+            (0, KEEP_ALIVE, CONFIGURED),
+            (0, RESET, CONFIGURED),
+            (1, ADD, ADDED),
+            (4, ENABLE, ENABLED),
+            (5, START, STARTED),
+            (6, Does::Seen(1), ""),
+            (8, Does::Seen(5), WHOLE_REPORTS),
+            (1_000_000, Does::Tick, ""),
+        ],
+        rospec: 1,
+        state: Some(RoState::Active),
+    },
+];
+
+#[test]
+fn exchanges(rt: HostRuntime) -> Result<(), Fail> {
+    for exchange in &EXCHANGES {
+        let reader = reader_after(&rt, rt.alloc(), exchange.steps)?;
+        assert!(rt;
+            reader.state_of(exchange.rospec) == exchange.state,
+            "at {}",
+            exchange.name
+        );
+    }
+    Ok(())
+}
+
+/// A ROSpec is added, refused, enabled, started, stopped and deleted; behind each step the state of ROSpec 1.
+static RUN: [(u64, Does, &str, Option<RoState>); 9] = [
+    (0, Does::Connect, ACCEPTED, None),
+    (1, ADD, ADDED, Some(RoState::Disabled)),
+    (2, ADD, NOT_ADDED, Some(RoState::Disabled)),
+    (
+        3,
+        Does::Take("08160000000E0000000300000001"),
+        "08200000001200000003 011F000800650000",
+        Some(RoState::Disabled),
+    ),
+    (4, ENABLE, ENABLED, Some(RoState::Inactive)),
+    (5, START, STARTED, Some(RoState::Active)),
+    (6, Does::Seen(1), "", Some(RoState::Active)),
+    (7, STOP, STOPPED, Some(RoState::Inactive)),
+    (
+        8,
+        Does::Take("08150000000E0000000600000001"),
+        "081F0000001200000006 011F000800000000",
+        None,
+    ),
+];
+
+#[test]
+fn rospecs_run(rt: HostRuntime) -> Result<(), Fail> {
+    let mut reader = Reader::new(rt.alloc(), 65536, 1);
+    for (now, does, sends, state) in &RUN {
+        happens(&rt, rt.alloc(), &mut reader, *now, *does, sends)?;
+        assert!(rt; reader.state_of(1) == *state, "at {now}");
+    }
+    Ok(())
+}
+
+/// A ROSpec runs whose reports are sent on request alone.
+static POLLED: [Step; 4] = [
+    (0, Does::Connect, ACCEPTED),
+    (1, ADD_POLLED, ADDED),
+    (4, ENABLE, ENABLED),
+    (5, START, STARTED),
+];
+
+/// A reader holds 64 reports, and says at the next one that its buffer is full.
+fn overflows(rt: &impl Abort, alloc: Global, reader: &mut Reader) -> Result<(), Fail> {
+    for _ in 0..64 {
+        happens(rt, alloc, reader, 6, Does::Seen(1), "")?;
+    }
+    let overflow = "083F0000001E00000003 00F60014 0080000C0000000000000006 00FB0004";
+    happens(rt, alloc, reader, 6, Does::Seen(1), overflow)
+}
+
 #[test]
 fn reports_on_request(rt: HostRuntime) -> Result<(), Fail> {
     let alloc = rt.alloc();
     let all = all_held(alloc)?;
-    let steps = [
-        (0, Does::Connect, ACCEPTED),
-        (1, ADD_POLLED, ADDED),
-        (4, ENABLE, ENABLED),
-        (5, START, STARTED),
-    ];
-    let mut reader = reader_after(&rt, alloc, &steps)?;
-    for _ in 0..64 {
-        happens(&rt, alloc, &mut reader, 6, Does::Seen(1), "")?;
-    }
-    let overflow = "083F0000001E00000003 00F60014 0080000C0000000000000006 00FB0004";
+    let mut reader = reader_after(&rt, alloc, &POLLED)?;
+    overflows(&rt, alloc, &mut reader)?;
     let poll = Does::Take("083C0000000A00000008");
-    let last = [
-        (6, Does::Seen(1), overflow),
-        (7, poll, all.as_str()),
-        (7, poll, "083D0000000A00000005"),
-    ];
-    for (now, does, sends) in &last {
-        happens(&rt, alloc, &mut reader, *now, *does, sends)?;
-    }
-    Ok(())
+    happens(&rt, alloc, &mut reader, 7, poll, all.as_str())?;
+    happens(&rt, alloc, &mut reader, 7, poll, "083D0000000A00000005")
 }

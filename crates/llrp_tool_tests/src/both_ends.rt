@@ -7,6 +7,7 @@ use crate::serve::bytes;
 use llrp_session::Reader;
 use llrp_tool::{Endpoint, Input, Output, Script, Summary, ToolErr, run_loop, standard_plan};
 use std::alloc::Global;
+use std::process::Abort;
 use std::test::*;
 
 /// A script, the bytes that go over the connection, and what is told (LLRP 1.1, section 17.1).
@@ -153,17 +154,29 @@ fn exchange_of(
     })
 }
 
+/// A run over these bytes sends them both ways and tells what it is to.
+fn is_whole(
+    rt: &impl Abort,
+    alloc: Global,
+    run: &Run,
+    down: &[u8],
+    up: &[u8],
+) -> Result<(), ToolErr> {
+    let exchange = exchange_of(alloc, run.script, run.every, down, up)?;
+    assert!(rt; exchange.end == Ok(run.summary));
+    assert!(rt; exchange.up.as_slice() == up);
+    assert!(rt; exchange.down.as_slice() == down);
+    assert!(rt; exchange.lines.as_slice() == run.lines);
+    Ok(())
+}
+
 #[test]
 fn whole_runs(rt: HostRuntime) -> Result<(), Fail> {
     let alloc = rt.alloc();
     for run in &RUNS {
         let down = bytes(alloc, run.down)?;
         let up = bytes(alloc, run.up)?;
-        let exchange = exchange_of(alloc, run.script, run.every, down.as_slice(), up.as_slice())?;
-        assert!(rt; exchange.end == Ok(run.summary));
-        assert!(rt; exchange.up.as_slice() == up.as_slice());
-        assert!(rt; exchange.down.as_slice() == down.as_slice());
-        assert!(rt; exchange.lines.as_slice() == run.lines);
+        is_whole(&rt, alloc, run, down.as_slice(), up.as_slice())?;
     }
     Ok(())
 }
@@ -261,14 +274,18 @@ const NONE: Failures = Failures {
     reports: usize::MAX,
 };
 
-/// How such a run ends, and whether all that was written are fronts.
-fn failed_run(
+/// Such a run ends so, and all that was written are fronts of what a whole run writes.
+fn ends_with(
+    rt: &impl Abort,
     alloc: Global,
     run: &Run,
     failures: Failures,
-) -> Result<(Result<Summary, ToolErr>, bool), ToolErr> {
+    end: Result<Summary, ToolErr>,
+) -> Result<(), ToolErr> {
     let down = bytes(alloc, run.down)?;
     let up = bytes(alloc, run.up)?;
+    let script = Script::parse(alloc, run.script)?;
+    let plan = standard_plan(alloc, run.every, 1)?;
     let mut client_end = Endpoint {
         source: OneByOne::new(down.as_slice(), failures.down_reads),
         sink: Failing::after(alloc, failures.up_writes),
@@ -278,71 +295,62 @@ fn failed_run(
         sink: Failing::after(alloc, failures.down_writes),
     };
     let mut lines = Failing::after(alloc, failures.reports);
-    let end = run_loop(
+    let found = run_loop(
         alloc,
         Reader::new(alloc, 65_536, 1),
-        Script::parse(alloc, run.script)?,
-        standard_plan(alloc, run.every, 1)?,
+        script,
+        plan,
         65_536,
         &mut client_end,
         &mut reader_end,
         &mut lines,
     );
-    let fronts = down.starts_with(reader_end.sink.taken())
-        && up.starts_with(client_end.sink.taken())
-        && run.lines.starts_with(lines.taken());
-    Ok((end, fronts))
+    assert!(rt; found == end);
+    assert!(rt; down.starts_with(reader_end.sink.taken()));
+    assert!(rt; up.starts_with(client_end.sink.taken()));
+    assert!(rt; run.lines.starts_with(lines.taken()));
+    Ok(())
 }
 
 #[test]
 fn a_run_over_devices_of_one_byte_a_call(rt: HostRuntime) -> Result<(), Fail> {
     let run = &RUNS[0];
-    assert!(rt; failed_run(rt.alloc(), run, NONE)? == (Ok(run.summary), true));
+    ends_with(&rt, rt.alloc(), run, NONE, Ok(run.summary))?;
     Ok(())
 }
 
+/// How many bytes hexadecimal texts in a row spell.
+fn count_of(alloc: Global, texts: &[&str]) -> Result<usize, ToolErr> {
+    Ok(bytes(alloc, texts)?.len())
+}
+
 #[test]
-fn each_call_of_the_client_fails_in_turn(rt: HostRuntime) -> Result<(), Fail> {
+fn each_call_of_an_end_fails_in_turn(rt: HostRuntime) -> Result<(), Fail> {
     let alloc = rt.alloc();
     let run = &RUNS[0];
-    let count = bytes(alloc, run.down)?.len();
-    for left in 0..count {
+    for left in 0..count_of(alloc, run.down)? {
         let reads = Failures {
             down_reads: left,
             ..NONE
         };
-        assert!(rt; failed_run(alloc, run, reads)? == (Err(ToolErr::Read), true));
-    }
-    let count = bytes(alloc, run.up)?.len();
-    for left in 0..count {
-        let writes = Failures {
-            up_writes: left,
-            ..NONE
-        };
-        assert!(rt; failed_run(alloc, run, writes)? == (Err(ToolErr::Write), true));
-    }
-    Ok(())
-}
-
-#[test]
-fn each_call_of_the_reader_fails_in_turn(rt: HostRuntime) -> Result<(), Fail> {
-    let alloc = rt.alloc();
-    let run = &RUNS[0];
-    let count = bytes(alloc, run.up)?.len();
-    for left in 0..count {
-        let reads = Failures {
-            up_reads: left,
-            ..NONE
-        };
-        assert!(rt; failed_run(alloc, run, reads)? == (Err(ToolErr::Read), true));
-    }
-    let count = bytes(alloc, run.down)?.len();
-    for left in 0..count {
+        ends_with(&rt, alloc, run, reads, Err(ToolErr::Read))?;
         let writes = Failures {
             down_writes: left,
             ..NONE
         };
-        assert!(rt; failed_run(alloc, run, writes)? == (Err(ToolErr::Write), true));
+        ends_with(&rt, alloc, run, writes, Err(ToolErr::Write))?;
+    }
+    for left in 0..count_of(alloc, run.up)? {
+        let reads = Failures {
+            up_reads: left,
+            ..NONE
+        };
+        ends_with(&rt, alloc, run, reads, Err(ToolErr::Read))?;
+        let writes = Failures {
+            up_writes: left,
+            ..NONE
+        };
+        ends_with(&rt, alloc, run, writes, Err(ToolErr::Write))?;
     }
     Ok(())
 }
@@ -355,7 +363,7 @@ fn each_report_fails_in_turn(rt: HostRuntime) -> Result<(), Fail> {
             reports: left,
             ..NONE
         };
-        assert!(rt; failed_run(rt.alloc(), run, reports)? == (Err(ToolErr::Write), true));
+        ends_with(&rt, rt.alloc(), run, reports, Err(ToolErr::Write))?;
     }
     Ok(())
 }

@@ -2,72 +2,91 @@
 
 ghost use Rattle.std.specs.Prelude.{Some};
 
+use crate::vectors::bytes;
 use llrp_tool::{Input, Output, Refusal, Sink, ToolErr, run_encode};
 use llrp_tree::NodeFault;
+use std::alloc::Global;
 use std::io;
-use std::test::Fail;
+use std::process::Abort;
+use std::test::*;
 use tag_uri::UriFault;
 
 /// The answer to a listing, and the bytes written.
-fn encoded(rt: &HostRuntime, listing: &[u8]) -> (Result<(), ToolErr>, Vec<u8>) {
+fn encoded(alloc: Global, listing: &[u8]) -> (Result<(), ToolErr>, Vec<u8>) {
     let mut source = Input::new(listing);
-    let mut sink = Output::new(Vec::new(rt.alloc()));
-    let answer = run_encode(rt.alloc(), &mut source, &mut sink, 65536);
+    let mut sink = Output::new(Vec::new(alloc));
+    let answer = run_encode(alloc, &mut source, &mut sink, 65536);
     (answer, sink.into_inner())
 }
 
-#[test]
-fn listings_with_ample_memory(rt: HostRuntime) -> Result<(), Fail> {
-    let table = [
-        (b"".as_slice(), b"".as_slice()),
-        (b"0 KEEPALIVE 2 7\n", b"\x08\x3e\0\0\0\x0a\0\0\0\x07"),
-        (b"0 CLOSE_CONNECTION 1 0\n", b"\x04\x0e\0\0\0\x0a\0\0\0\0"),
-        (
-            b"0 GET_REPORT 2 4294967295\n",
-            b"\x08\x3c\0\0\0\x0a\xff\xff\xff\xff",
-        ),
-        (
-            b"0 ENABLE_EVENTS_AND_REPORTS 1 16909060\n0 KEEPALIVE_ACK 2 256\n",
-            b"\x04\x40\0\0\0\x0a\x01\x02\x03\x04\x08\x48\0\0\0\x0a\0\0\x01\0",
-        ),
-    ];
-    for (listing, want) in table {
-        let (answer, bytes) = encoded(&rt, listing);
-        assert_eq!(rt; answer, Ok(()));
-        assert!(rt; bytes.as_slice() == want);
-    }
-    Ok(())
+/// A listing is encoded to these bytes.
+fn encodes(rt: &(impl Abort + AllocGlobal), listing: &[u8], wanted: &[u8]) {
+    let (answer, bytes) = encoded(rt.alloc(), listing);
+    assert!(rt; answer == Ok(()));
+    assert!(rt; bytes.as_slice() == wanted);
 }
+
+/// A listing is refused at this line for this reason, before anything is written.
+fn refuses(rt: &(impl Abort + AllocGlobal), listing: &[u8], line: u64, reason: Refusal) {
+    let (answer, bytes) = encoded(rt.alloc(), listing);
+    assert!(rt;
+        answer == Err(ToolErr::Listing { line, reason }),
+        "at {line}"
+    );
+    assert!(rt; bytes.is_empty());
+}
+
+/// Listings of messages, and their bytes.
+static MESSAGES: [(&[u8], &[u8]); 5] = [
+    (b"", b""),
+    (b"0 KEEPALIVE 2 7\n", b"\x08\x3e\0\0\0\x0a\0\0\0\x07"),
+    (b"0 CLOSE_CONNECTION 1 0\n", b"\x04\x0e\0\0\0\x0a\0\0\0\0"),
+    (
+        b"0 GET_REPORT 2 4294967295\n",
+        b"\x08\x3c\0\0\0\x0a\xff\xff\xff\xff",
+    ),
+    (
+        b"0 ENABLE_EVENTS_AND_REPORTS 1 16909060\n0 KEEPALIVE_ACK 2 256\n",
+        b"\x04\x40\0\0\0\x0a\x01\x02\x03\x04\x08\x48\0\0\0\x0a\0\0\x01\0",
+    ),
+];
+
+#[test]
+fn listings_with_ample_memory(rt: HostRuntime) {
+    for (listing, wanted) in &MESSAGES {
+        encodes(&rt, listing, wanted);
+    }
+}
+
+/// Listings of messages with parameters, and the hexadecimal digits of their bytes.
+static PARAMETERS: [(&[u8], &str); 5] = [
+    (
+        b"0 RO_ACCESS_REPORT 1 1\n1 TagReportData\n2 EPC-96 urn:epc:tag:sgtin-96:3.0614141.812345.6789\n",
+        "043D0000001B0000000100F000118D3074257BF7194E4000001A85",
+    ),
+    (
+        b"0 RO_ACCESS_REPORT 1 1\n1 TagReportData\n2 EPC-96 urn:epc:tag:sgtin-96:3.0614141.812345.274877906943\n",
+        "043D0000001B0000000100F000118D3074257BF7194E7FFFFFFFFF",
+    ),
+    (
+        b"0 RO_ACCESS_REPORT 1 2\n1 TagReportData\n2 PeakRSSI -60\n2 AccessSpecID 0\n2 EPC-96 urn:epc:tag:sgtin-96:3.0614141.812345.6789\n2 AntennaID 1\n",
+        "043D000000250000000200F0001B86C490000000008D3074257BF7194E4000001A85810001",
+    ),
+    (
+        b"0 ADD_ROSPEC 2 2\n1 ROSpec 1 0 0\n2 ROBoundarySpec\n3 ROSpecStartTrigger 0\n3 ROSpecStopTrigger 0 0\n2 AISpec w0\n3 AISpecStopTrigger 0 0\n3 InventoryParameterSpec 1 1\n",
+        "08140000003E0000000200B1003400000001000000B2001200B300050000B60009000000000000B700180001000000B80009000000000000BA0007000101",
+    ),
+    (
+        b"0 ERROR_MESSAGE 2 9\n1 LLRPStatus 100 x41c3a9\n",
+        "08640000001500000009011F000B0064000341C3A9",
+    ),
+];
 
 #[test]
 fn listings_of_parameters(rt: HostRuntime) -> Result<(), Fail> {
-    let table = [
-        (
-            b"0 RO_ACCESS_REPORT 1 1\n1 TagReportData\n2 EPC-96 urn:epc:tag:sgtin-96:3.0614141.812345.6789\n".as_slice(),
-            "043D0000001B0000000100F000118D3074257BF7194E4000001A85",
-        ),
-        (
-            b"0 RO_ACCESS_REPORT 1 1\n1 TagReportData\n2 EPC-96 urn:epc:tag:sgtin-96:3.0614141.812345.274877906943\n",
-            "043D0000001B0000000100F000118D3074257BF7194E7FFFFFFFFF",
-        ),
-        (
-            b"0 RO_ACCESS_REPORT 1 2\n1 TagReportData\n2 PeakRSSI -60\n2 AccessSpecID 0\n2 EPC-96 urn:epc:tag:sgtin-96:3.0614141.812345.6789\n2 AntennaID 1\n",
-            "043D000000250000000200F0001B86C490000000008D3074257BF7194E4000001A85810001",
-        ),
-        (
-            b"0 ADD_ROSPEC 2 2\n1 ROSpec 1 0 0\n2 ROBoundarySpec\n3 ROSpecStartTrigger 0\n3 ROSpecStopTrigger 0 0\n2 AISpec w0\n3 AISpecStopTrigger 0 0\n3 InventoryParameterSpec 1 1\n",
-            "08140000003E0000000200B1003400000001000000B2001200B300050000B60009000000000000B700180001000000B80009000000000000BA0007000101",
-        ),
-        (
-            b"0 ERROR_MESSAGE 2 9\n1 LLRPStatus 100 x41c3a9\n",
-            "08640000001500000009011F000B0064000341C3A9",
-        ),
-    ];
-    for (listing, want) in table {
-        let (answer, bytes) = encoded(&rt, listing);
-        assert_eq!(rt; answer, Ok(()));
-        let digits = hex::encode_upper(rt.alloc(), bytes.as_slice())?;
-        assert_eq!(rt; digits.as_str(), want);
+    for (listing, digits) in &PARAMETERS {
+        let wanted = bytes(rt.alloc(), digits)?;
+        encodes(&rt, listing, wanted.as_slice());
     }
     Ok(())
 }
@@ -84,115 +103,115 @@ fn nested(rt: &HostRuntime, levels: &[u8]) -> Result<Vec<u8>, Fail> {
 
 #[test]
 fn levels_of_parameters(rt: HostRuntime) -> Result<(), Fail> {
-    let (answer, bytes) = encoded(&rt, nested(&rt, b"2345678")?.as_slice());
+    let (answer, bytes) = encoded(rt.alloc(), nested(&rt, b"2345678")?.as_slice());
     assert_eq!(rt; answer, Ok(()));
     assert_eq!(rt; bytes.len(), 74);
-    let (answer, _) = encoded(&rt, nested(&rt, b"23456789")?.as_slice());
+    let (answer, _) = encoded(rt.alloc(), nested(&rt, b"23456789")?.as_slice());
     let (line, reason) = (10, Refusal::Level);
     assert_eq!(rt; answer, Err(ToolErr::Listing { line, reason }));
     Ok(())
 }
 
+/// Lines behind those of a TagReportData, the line that is refused, and why.
+static LINES_OF_TAGS: [(&[u8], u64, Refusal); 18] = [
+    (
+        b"2 EPC-96 urn:epc:raw:96.x3074257BF7194E4000001A85\n",
+        3,
+        Refusal::Epc(UriFault::RawOfLawful),
+    ),
+    (
+        b"2 EPC-96 urn:epc:tag:sgtin-96:3.0614141.812345.007\n",
+        3,
+        Refusal::Epc(UriFault::LeadingZero),
+    ),
+    (
+        b"2 EPC-96 urn:epc:tag:sgtin-96:3.0614141.812345.274877906944\n",
+        3,
+        Refusal::Epc(UriFault::Range),
+    ),
+    (b"", 2, Refusal::Node(NodeFault::Missing)),
+    (b"2 PeakRSSI -129\n", 3, Refusal::Number),
+    (b"2 PeakRSSI 128\n", 3, Refusal::Number),
+    (b"2 PeakRSSI -0\n", 3, Refusal::Number),
+    (b"2 PeakRSSI --1\n", 3, Refusal::Number),
+    (b"2 AntennaID -1\n", 3, Refusal::Number),
+    (b"2 AntennaID 65536\n", 3, Refusal::Node(NodeFault::Value)),
+    (b"2 AntennaID 100000000000000000000\n", 3, Refusal::Number),
+    (b"2 AntennaID 1 \n", 3, Refusal::Fields),
+    (b"2 EPCData 4 x\n", 3, Refusal::Node(NodeFault::Tail)),
+    (b"2 EPCData 4 x4\n", 3, Refusal::Tail),
+    (b"2 EPCData 4 x4G\n", 3, Refusal::Tail),
+    (b"2 EPCData 4 xAB\n", 3, Refusal::Tail),
+    (b"2 EPCData 4 ab\n", 3, Refusal::Tail),
+    (b"3 AntennaID 1\n", 3, Refusal::Level),
+];
+
 #[test]
 fn refusals_of_parameters(rt: HostRuntime) -> Result<(), Fail> {
-    let table = [
-        (
-            b"2 EPC-96 urn:epc:raw:96.x3074257BF7194E4000001A85\n".as_slice(),
-            3,
-            Refusal::Epc(UriFault::RawOfLawful),
-        ),
-        (
-            b"2 EPC-96 urn:epc:tag:sgtin-96:3.0614141.812345.007\n",
-            3,
-            Refusal::Epc(UriFault::LeadingZero),
-        ),
-        (
-            b"2 EPC-96 urn:epc:tag:sgtin-96:3.0614141.812345.274877906944\n",
-            3,
-            Refusal::Epc(UriFault::Range),
-        ),
-        (b"", 2, Refusal::Node(NodeFault::Missing)),
-        (b"2 PeakRSSI -129\n", 3, Refusal::Number),
-        (b"2 PeakRSSI 128\n", 3, Refusal::Number),
-        (b"2 PeakRSSI -0\n", 3, Refusal::Number),
-        (b"2 PeakRSSI --1\n", 3, Refusal::Number),
-        (b"2 AntennaID -1\n", 3, Refusal::Number),
-        (b"2 AntennaID 65536\n", 3, Refusal::Node(NodeFault::Value)),
-        (b"2 AntennaID 100000000000000000000\n", 3, Refusal::Number),
-        (b"2 AntennaID 1 \n", 3, Refusal::Fields),
-        (b"2 EPCData 4 x\n", 3, Refusal::Node(NodeFault::Tail)),
-        (b"2 EPCData 4 x4\n", 3, Refusal::Tail),
-        (b"2 EPCData 4 x4G\n", 3, Refusal::Tail),
-        (b"2 EPCData 4 xAB\n", 3, Refusal::Tail),
-        (b"2 EPCData 4 ab\n", 3, Refusal::Tail),
-        (b"3 AntennaID 1\n", 3, Refusal::Level),
-    ];
-    for (third, line, reason) in table {
+    for (third, line, reason) in &LINES_OF_TAGS {
         let mut listing = Vec::from_slice(
             rt.alloc(),
             b"0 RO_ACCESS_REPORT 1 1\n1 TagReportData\n",
         )?;
         listing.extend_from_slice(third)?;
-        let (answer, bytes) = encoded(&rt, listing.as_slice());
-        assert_eq!(rt; answer, Err(ToolErr::Listing { line, reason }));
-        assert!(rt; bytes.is_empty());
+        refuses(&rt, listing.as_slice(), *line, *reason);
     }
     Ok(())
 }
 
+/// Listings of lists of antennas, of status texts and of messages that lack a parameter or may not have it; the line that
+/// is refused, and why.
+static LISTS_AND_CLOSINGS: [(&[u8], u64, Refusal); 11] = [
+    (
+        b"0 ADD_ROSPEC 2 2\n1 ROSpec 1 0 0\n2 AISpec w007\n",
+        3,
+        Refusal::Tail,
+    ),
+    (
+        b"0 ADD_ROSPEC 2 2\n1 ROSpec 1 0 0\n2 AISpec w65536\n",
+        3,
+        Refusal::Tail,
+    ),
+    (
+        b"0 ADD_ROSPEC 2 2\n1 ROSpec 1 0 0\n2 AISpec w1,\n",
+        3,
+        Refusal::Tail,
+    ),
+    (
+        b"0 ADD_ROSPEC 2 2\n1 ROSpec 1 0 0\n2 AISpec\n",
+        3,
+        Refusal::Fields,
+    ),
+    (
+        b"0 ERROR_MESSAGE 2 9\n1 LLRPStatus 100 x41e282\n",
+        2,
+        Refusal::Node(NodeFault::Tail),
+    ),
+    (b"0 KEEPALIVE 2 7\n2 ROBoundarySpec\n", 2, Refusal::Level),
+    (
+        b"0 KEEPALIVE 2 7\n1 Uptime 0\n",
+        1,
+        Refusal::Node(NodeFault::Misplaced),
+    ),
+    (
+        b"0 KEEPALIVE 2 7\n1 ROBoundarySpec\n",
+        2,
+        Refusal::Node(NodeFault::Missing),
+    ),
+    (
+        b"0 ADD_ROSPEC 2 2\n0 KEEPALIVE 2 7\n",
+        1,
+        Refusal::Node(NodeFault::Missing),
+    ),
+    (b"0 ADD_ROSPEC 2 2\n", 1, Refusal::Node(NodeFault::Missing)),
+    (b"0 ADD_ROSPEC 2 2\n0 KEEPALIVE 2 07\n", 2, Refusal::Number),
+];
+
 #[test]
-fn refusals_of_lists_and_closings(rt: HostRuntime) -> Result<(), Fail> {
-    let table = [
-        (
-            b"0 ADD_ROSPEC 2 2\n1 ROSpec 1 0 0\n2 AISpec w007\n".as_slice(),
-            3,
-            Refusal::Tail,
-        ),
-        (
-            b"0 ADD_ROSPEC 2 2\n1 ROSpec 1 0 0\n2 AISpec w65536\n",
-            3,
-            Refusal::Tail,
-        ),
-        (
-            b"0 ADD_ROSPEC 2 2\n1 ROSpec 1 0 0\n2 AISpec w1,\n",
-            3,
-            Refusal::Tail,
-        ),
-        (
-            b"0 ADD_ROSPEC 2 2\n1 ROSpec 1 0 0\n2 AISpec\n",
-            3,
-            Refusal::Fields,
-        ),
-        (
-            b"0 ERROR_MESSAGE 2 9\n1 LLRPStatus 100 x41e282\n",
-            2,
-            Refusal::Node(NodeFault::Tail),
-        ),
-        (b"0 KEEPALIVE 2 7\n2 ROBoundarySpec\n", 2, Refusal::Level),
-        (
-            b"0 KEEPALIVE 2 7\n1 Uptime 0\n",
-            1,
-            Refusal::Node(NodeFault::Misplaced),
-        ),
-        (
-            b"0 KEEPALIVE 2 7\n1 ROBoundarySpec\n",
-            2,
-            Refusal::Node(NodeFault::Missing),
-        ),
-        (
-            b"0 ADD_ROSPEC 2 2\n0 KEEPALIVE 2 7\n",
-            1,
-            Refusal::Node(NodeFault::Missing),
-        ),
-        (b"0 ADD_ROSPEC 2 2\n", 1, Refusal::Node(NodeFault::Missing)),
-        (b"0 ADD_ROSPEC 2 2\n0 KEEPALIVE 2 07\n", 2, Refusal::Number),
-    ];
-    for (listing, line, reason) in table {
-        let (answer, bytes) = encoded(&rt, listing);
-        assert_eq!(rt; answer, Err(ToolErr::Listing { line, reason }));
-        assert!(rt; bytes.is_empty());
+fn refusals_of_lists_and_closings(rt: HostRuntime) {
+    for (listing, line, reason) in &LISTS_AND_CLOSINGS {
+        refuses(&rt, listing, *line, *reason);
     }
-    Ok(())
 }
 
 /// A message longer than the limit is told by its own line, and messages before it are written.
@@ -207,45 +226,44 @@ fn message_over_limit(rt: HostRuntime) {
     assert!(rt; sink.into_inner().as_slice() == b"\x08\x3e\0\0\0\x0a\0\0\0\x07".as_slice());
 }
 
+/// First lines that are refused, and why.
+static FIRST_LINES: [(&[u8], Refusal); 22] = [
+    (b"0 KEEPALIVE 2 7", Refusal::Line),
+    (b"0 KEEPALIVE 2 7\r\n", Refusal::Line),
+    (b"0 KEEPALIVE\t2 7\n", Refusal::Line),
+    (b"\n", Refusal::Level),
+    (b"! BROKEN\n", Refusal::Level),
+    (b"? 5\n", Refusal::Level),
+    (b"-0 KEEPALIVE 2 7\n", Refusal::Level),
+    (b"00 KEEPALIVE 2 7\n", Refusal::Level),
+    (b"1 KEEPALIVE 2 7\n", Refusal::Level),
+    (b"0\n", Refusal::Name),
+    (b"0  KEEPALIVE 2 7\n", Refusal::Name),
+    (b"0 keepalive 2 7\n", Refusal::Name),
+    (b"0 KEEPALIVE 2\n", Refusal::Fields),
+    (b"0 KEEPALIVE 2  7\n", Refusal::Fields),
+    (b"0 KEEPALIVE 2 7 \n", Refusal::Fields),
+    (b"0 KEEPALIVE 3 7\n", Refusal::Number),
+    (b"0 KEEPALIVE 0 7\n", Refusal::Number),
+    (b"0 KEEPALIVE 2 -0\n", Refusal::Number),
+    (b"0 KEEPALIVE 2 07\n", Refusal::Number),
+    (b"0 KEEPALIVE 2 +7\n", Refusal::Number),
+    (b"0 KEEPALIVE 2 4294967296\n", Refusal::Number),
+    (b"0 KEEPALIVE 2 100000000000000000000\n", Refusal::Number),
+];
+
 #[test]
-fn listing_refusals(rt: HostRuntime) -> Result<(), Fail> {
-    let table = [
-        (b"0 KEEPALIVE 2 7".as_slice(), Refusal::Line),
-        (b"0 KEEPALIVE 2 7\r\n", Refusal::Line),
-        (b"0 KEEPALIVE\t2 7\n", Refusal::Line),
-        (b"\n", Refusal::Level),
-        (b"! BROKEN\n", Refusal::Level),
-        (b"? 5\n", Refusal::Level),
-        (b"-0 KEEPALIVE 2 7\n", Refusal::Level),
-        (b"00 KEEPALIVE 2 7\n", Refusal::Level),
-        (b"1 KEEPALIVE 2 7\n", Refusal::Level),
-        (b"0\n", Refusal::Name),
-        (b"0  KEEPALIVE 2 7\n", Refusal::Name),
-        (b"0 keepalive 2 7\n", Refusal::Name),
-        (b"0 KEEPALIVE 2\n", Refusal::Fields),
-        (b"0 KEEPALIVE 2  7\n", Refusal::Fields),
-        (b"0 KEEPALIVE 2 7 \n", Refusal::Fields),
-        (b"0 KEEPALIVE 3 7\n", Refusal::Number),
-        (b"0 KEEPALIVE 0 7\n", Refusal::Number),
-        (b"0 KEEPALIVE 2 -0\n", Refusal::Number),
-        (b"0 KEEPALIVE 2 07\n", Refusal::Number),
-        (b"0 KEEPALIVE 2 +7\n", Refusal::Number),
-        (b"0 KEEPALIVE 2 4294967296\n", Refusal::Number),
-        (b"0 KEEPALIVE 2 100000000000000000000\n", Refusal::Number),
-    ];
-    for (listing, reason) in table {
-        let (answer, bytes) = encoded(&rt, listing);
-        assert_eq!(rt; answer, Err(ToolErr::Listing { line: 1, reason }));
-        assert!(rt; bytes.is_empty());
+fn listing_refusals(rt: HostRuntime) {
+    for (listing, reason) in &FIRST_LINES {
+        refuses(&rt, listing, 1, *reason);
     }
-    Ok(())
 }
 
 /// The line that is refused counts to the message whose line is the last before it.
 #[test]
 fn refused_line_after_messages(rt: HostRuntime) {
     let listing = b"0 KEEPALIVE 2 7\n0 KEEPALIVE 2 8\n1 KEEPALIVE 2 9\n0 KEEPALIVE 2 9\n";
-    let (answer, bytes) = encoded(&rt, listing);
+    let (answer, bytes) = encoded(rt.alloc(), listing);
     assert_eq!(rt;
         answer,
         Err(ToolErr::Listing {
@@ -264,7 +282,7 @@ fn longest_line(rt: HostRuntime) -> Result<(), Fail> {
             listing.push(b' ')?;
         }
         listing.push(b'\n')?;
-        let (answer, _) = encoded(&rt, listing.as_slice());
+        let (answer, _) = encoded(rt.alloc(), listing.as_slice());
         assert_eq!(rt; answer, Err(ToolErr::Listing { line: 1, reason }));
     }
     Ok(())

@@ -6,7 +6,7 @@ use std::process::Abort;
 use std::test::*;
 
 /// Words with a tag URI: their digits and that text, each of which gives the other.
-const TAGS: [(&str, &str); 6] = [
+static TAGS: [(&str, &str); 6] = [
     (
         "320000000000040000000000",
         "urn:epc:tag:sgln-96:0.000000000001..0",
@@ -34,7 +34,7 @@ const TAGS: [(&str, &str); 6] = [
 ];
 
 /// Words without a tag URI: their digits, their raw URI, and why.
-const RAW: [(&str, &str, &str); 6] = [
+static RAW: [(&str, &str, &str); 6] = [
     (
         "320000000000060000000000",
         "urn:epc:raw:96.x320000000000060000000000",
@@ -68,7 +68,7 @@ const RAW: [(&str, &str, &str); 6] = [
 ];
 
 /// Texts that are no word's, and why.
-const REFUSED: [(&str, &str); 13] = [
+static REFUSED: [(&str, &str); 13] = [
     ("", "! Start"),
     ("urn:epc:tag:SGTIN-96:3.0614141.812345.1", "! Scheme"),
     ("urn:epc:tag:sgtin-96:3.0614141.812345", "! Parts"),
@@ -115,7 +115,7 @@ fn prints(
 #[test]
 fn tag_uris_with_ample_memory(rt: HostRuntime) -> Result<(), Fail> {
     let alloc = rt.alloc();
-    for (digits, text) in TAGS {
+    for (digits, text) in &TAGS {
         prints(&rt, alloc, digits, &[text], Verdict::Lawful)?;
         prints(&rt, alloc, text, &[digits], Verdict::Lawful)?;
     }
@@ -127,7 +127,7 @@ fn tag_uris_with_ample_memory(rt: HostRuntime) -> Result<(), Fail> {
 #[test]
 fn raw_uris_with_remarks(rt: HostRuntime) -> Result<(), Fail> {
     let alloc = rt.alloc();
-    for (digits, text, remark) in RAW {
+    for (digits, text, remark) in &RAW {
         prints(&rt, alloc, digits, &[text, remark], Verdict::Lawful)?;
         prints(&rt, alloc, text, &[digits], Verdict::Lawful)?;
     }
@@ -137,7 +137,7 @@ fn raw_uris_with_remarks(rt: HostRuntime) -> Result<(), Fail> {
 #[test]
 fn refused_texts(rt: HostRuntime) -> Result<(), Fail> {
     let alloc = rt.alloc();
-    for (text, line) in REFUSED {
+    for (text, line) in &REFUSED {
         prints(&rt, alloc, text, &[line], Verdict::Faulty)?;
     }
     Ok(())

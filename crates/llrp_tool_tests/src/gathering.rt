@@ -1,8 +1,11 @@
 //! Following a plan over pieces of a stream.
 
+ghost use Rattle.std.specs.Prelude.{◌≤◌};
+
 use crate::serve::bytes;
 use llrp_tool::{Gathering, ToolErr, standard_plan};
 use llrp_tree::ParamKind;
+use std::process::Abort;
 use std::test::*;
 
 /// What a reader says first: READER_EVENT_NOTIFICATION with ConnectionAttemptEvent 0 (LLRP 1.1, section 14).
@@ -80,6 +83,27 @@ fn the_lines_of_reports(rt: HostRuntime) -> Result<(), Fail> {
     Ok(())
 }
 
+/// A stream in pieces of this size closes the connection with its last piece, and stays closed.
+fn closes_with_the_last(
+    rt: &impl Abort,
+    gathering: &mut Gathering,
+    stream: &[u8],
+    size: usize,
+    out: &mut Vec<u8>,
+    lines: &mut Vec<u8>,
+) -> Result<(), ToolErr>
+    requires { 1 ≤ size }
+{
+    let mut closed = false;
+    for piece in stream.chunks(size) {
+        assert!(rt; !closed);
+        closed = gathering.feed(piece, out, lines)?;
+    }
+    assert!(rt; closed);
+    assert!(rt; gathering.feed(stream, out, lines) == Ok(true));
+    Ok(())
+}
+
 #[test]
 fn one_run_in_pieces(rt: HostRuntime) -> Result<(), Fail> {
     let alloc = rt.alloc();
@@ -87,15 +111,9 @@ fn one_run_in_pieces(rt: HostRuntime) -> Result<(), Fail> {
     let wanted = bytes(alloc, &UP)?;
     for size in [1, 2, 3, 7, 64, 4096] {
         let mut gathering = Gathering::new(alloc, standard_plan(alloc, 0, 1)?, 4096);
-        let mut out = Vec::new(alloc);
-        let mut lines = Vec::new(alloc);
-        let mut closed = false;
-        for piece in stream.as_slice().chunks(size) {
-            assert!(rt; !closed);
-            closed = gathering.feed(piece, &mut out, &mut lines)?;
-        }
-        assert!(rt; closed);
-        assert!(rt; gathering.feed(stream.as_slice(), &mut out, &mut lines) == Ok(true));
+        let (mut out, mut lines) = (Vec::new(alloc), Vec::new(alloc));
+        let stream = stream.as_slice();
+        closes_with_the_last(&rt, &mut gathering, stream, size, &mut out, &mut lines)?;
         assert!(rt; out.as_slice() == wanted.as_slice());
         assert!(rt; lines.as_slice() == LINES);
     }

@@ -9,6 +9,7 @@ use llrp_stream::Output;
 use llrp_tool::{Input, Script, Source, ToolErr, run_serve};
 use std::alloc::Global;
 use std::io;
+use std::process::Abort;
 use std::test::*;
 
 /// Gives a byte a call, and fails in the call after the last.
@@ -79,25 +80,33 @@ fn a_read_that_fails_comes_after_the_answers_so_far(rt: HostRuntime) -> Result<(
     Ok(())
 }
 
+/// Serving these bytes ends with the write that fails after so many, and what was written is a front of
+/// what is to be said.
+fn stops_after(
+    rt: &impl Abort,
+    alloc: Global,
+    stream: &[u8],
+    wanted: &[u8],
+    left: usize,
+) -> Result<(), ToolErr> {
+    let script = Script::parse(alloc, b"")?;
+    let mut source = Input::new(stream);
+    let mut sink = Failing::after(alloc, left);
+    let core = Reader::new(alloc, 65_536, 1);
+    let end = run_serve(alloc, core, script, &mut source, &mut sink);
+    assert!(rt; end == Err(ToolErr::Write), "{left}");
+    assert!(rt; wanted.starts_with(sink.taken()), "{left}");
+    assert!(rt; sink.taken().len() == left, "{left}");
+    Ok(())
+}
+
 #[test]
 fn a_write_that_fails_stops_serving(rt: HostRuntime) -> Result<(), Fail> {
     let alloc = rt.alloc();
     let stream = bytes(alloc, &[ADD, ENABLE])?;
     let wanted = bytes(alloc, &[CONNECTED, ADDED, ENABLED])?;
     for left in 0..68 {
-        let mut source = Input::new(stream.as_slice());
-        let mut sink = Failing::after(alloc, left);
-        let script = Script::parse(alloc, b"")?;
-        let end = run_serve(
-            alloc,
-            Reader::new(alloc, 65_536, 1),
-            script,
-            &mut source,
-            &mut sink,
-        );
-        assert!(rt; end == Err(ToolErr::Write), "{left}");
-        assert!(rt; wanted.as_slice().starts_with(sink.taken()), "{left}");
-        assert!(rt; sink.taken().len() == left, "{left}");
+        stops_after(&rt, alloc, stream.as_slice(), wanted.as_slice(), left)?;
     }
     Ok(())
 }

@@ -358,34 +358,24 @@ fn lists(
     assert!(rt; sink.into_inner().as_slice() == listing, "{name}");
 }
 
-#[test]
-fn lawful_streams_with_ample_memory(rt: HostRuntime) -> Result<(), Fail> {
-    for vector in LAWFUL.iter() {
+/// Each of these streams is listed, with this verdict.
+fn list(rt: &(impl Abort + AllocGlobal), vectors: &[Vector], verdict: Verdict) -> Result<(), Fail> {
+    for vector in vectors {
         let stream = bytes(rt.alloc(), vector.stream)?;
-        lists(
-            &rt,
-            vector.name,
-            stream.as_slice(),
-            vector.listing.as_bytes(),
-            Verdict::Lawful,
-        );
+        let listing = vector.listing.as_bytes();
+        lists(rt, vector.name, stream.as_slice(), listing, verdict);
     }
     Ok(())
 }
 
 #[test]
+fn lawful_streams_with_ample_memory(rt: HostRuntime) -> Result<(), Fail> {
+    list(&rt, &LAWFUL, Verdict::Lawful)
+}
+
+#[test]
 fn faulty_streams(rt: HostRuntime) -> Result<(), Fail> {
-    for vector in FAULTY.iter() {
-        let stream = bytes(rt.alloc(), vector.stream)?;
-        lists(
-            &rt,
-            vector.name,
-            stream.as_slice(),
-            vector.listing.as_bytes(),
-            Verdict::Faulty,
-        );
-    }
-    Ok(())
+    list(&rt, &FAULTY, Verdict::Faulty)
 }
 
 #[test]
