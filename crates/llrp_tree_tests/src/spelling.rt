@@ -157,11 +157,15 @@ static SGTIN_REPORT: [u8; 27] = [
     0x19, 0x4E, 0x40, 0, 0, 0x1A, 0x85,
 ];
 
-/// The report is longer than 26 octets, and nothing is written behind what stands there.
+/// The report is longer than 26 octets: nothing is written behind what stands there, and later it is
+/// spelled in the same place.
 fn is_over_limit(rt: &impl Abort, alloc: Global, report: &Message) -> Result<(), Fail> {
     let mut out = [9].to_vec(alloc)?;
     assert!(rt; encode_into(alloc, report, &mut out, 26) == Err(EncodeErr::OverLimit));
     assert!(rt; out.as_slice() == [9].as_slice());
+    out.clear();
+    assert!(rt; encode_into(alloc, report, &mut out, 27) == Ok(()));
+    assert!(rt; out.as_slice() == SGTIN_REPORT.as_slice());
     Ok(())
 }
 
