@@ -1,7 +1,7 @@
 //! What the words of the command line ask for.
 
 ghost use Rattle.std.specs.Prelude.{◌≡◌, IfOk, IfSome, List, Some, codes, false, map, true, ℕ};
-ghost use Rattle.clap.specs.Words.{app_of, found_of, rows_of, rule_of, subcommand_rows_of, with_subcommand};
+ghost use Rattle.clap.specs.Words.{App, app_of, found_of, rows_of, rule_of, subcommand_rows_of, with_rule, with_subcommand};
 ghost use Rattle.clap.specs.declared.builder.command.Command.TheViews.{out-Command};
 ghost use Rattle.llrp_tool.specs.Parse.{HasNumberWord, IsFound, IsNetworkParse, IsParse, IsText};
 ghost use Rattle.llrp_tool.specs.Words.{HasNumber, IsNetwork, IsRequest, NetworkAsked, command_in, hex_app, inventory_app, llrp_app, loop_app, number_rule, parses, port_app, port_rule, streams_app, text_app, top_app, with_address, with_plan};
@@ -73,24 +73,6 @@ fn hex_command<'a>(
         .arg(hex)
 }
 
-/// A command whose one argument is TEXT, which must be given.
-fn text_command<'a>(
-    alloc: Global,
-    name: &'a str,
-    about: &'a str,
-    text: &'a str,
-    help: &'a str,
-) -> Result<Command<'a>, AllocError>
-    ensures app { IfOk result (λ c. app_of c ≡ text_app name.entry.now) }
-    ensures local { IfOk result (λ c. (out-Command c).has_globals ≡ false) }
-{
-    let text = Arg::new(alloc, "TEXT").required(true).help(text);
-    Command::new(alloc, name)
-        .about(about)
-        .after_help(help)
-        .arg(text)
-}
-
 /// The argument PORT, from 1 to 65,535, which must be given.
 fn port_argument<'a>(alloc: Global, port: &'a str) -> Arg<'a>
     ensures rule { rule_of result ≡ port_rule }
@@ -121,10 +103,37 @@ fn number_option<'a>(
         .help(help)
 }
 
-/// The command with the options that make a plan.
-fn with_plan<'a>(alloc: Global, command: Command<'a>) -> Result<Command<'a>, AllocError>
-    ensures app { IfOk result (λ c. app_of c ≡ with_plan (app_of command.entry)) }
-    ensures local { (out-Command command.entry).has_globals ≡ false → IfOk result (λ c. (out-Command c).has_globals ≡ false) }
+/// The command, if there is one, with one argument more.
+fn with_argument<'a>(
+    command: Result<Command<'a>, AllocError>,
+    argument: Arg<'a>,
+) -> Result<Command<'a>, AllocError>
+    ensures app { (a : App) → IfOk command.entry (λ c. app_of c ≡ a) → argument.entry.global ≡ false
+        → IfOk result (λ c. app_of c ≡ with_rule a (rule_of argument.entry)) }
+    ensures local { IfOk command.entry (λ c. (out-Command c).has_globals ≡ false) → argument.entry.global ≡ false
+        → IfOk result (λ c. (out-Command c).has_globals ≡ false) }
+{
+    command?.arg(argument)
+}
+
+/// The command, if there is one, with another one below it.
+fn with_command<'a>(
+    command: Result<Command<'a>, AllocError>,
+    below: Result<Command<'a>, AllocError>,
+) -> Result<Command<'a>, AllocError>
+    ensures { (a b : App) → IfOk command.entry (λ c. app_of c ≡ a) → IfOk below.entry (λ c. app_of c ≡ b)
+        → IfOk below.entry (λ c. (out-Command c).has_globals ≡ false) → IfOk result (λ c. app_of c ≡ with_subcommand a b.top) }
+{
+    command?.subcommand(below?)
+}
+
+/// The command, if there is one, with the options that make a plan.
+fn with_plan<'a>(
+    alloc: Global,
+    command: Result<Command<'a>, AllocError>,
+) -> Result<Command<'a>, AllocError>
+    ensures app { (a : App) → IfOk command.entry (λ c. app_of c ≡ a) → IfOk result (λ c. app_of c ≡ with_plan a) }
+    ensures local { IfOk command.entry (λ c. (out-Command c).has_globals ≡ false) → IfOk result (λ c. (out-Command c).has_globals ≡ false) }
 {
     let every = number_option(
         alloc,
@@ -134,7 +143,61 @@ fn with_plan<'a>(alloc: Global, command: Command<'a>) -> Result<Command<'a>, All
         "How many tags make a report; 0 leaves it to the polls",
     );
     let polls = number_option(alloc, "polls", "P", "1", "How often reports are asked for");
-    command.arg(every)?.arg(polls)
+    with_argument(with_argument(command, every), polls)
+}
+
+/// The command with the arguments HOST and PORT.
+fn with_address<'a>(alloc: Global, command: Command<'a>) -> Result<Command<'a>, AllocError>
+    ensures app { IfOk result (λ c. app_of c ≡ with_address (app_of command.entry)) }
+    ensures local { (out-Command command.entry).has_globals ≡ false → IfOk result (λ c. (out-Command c).has_globals ≡ false) }
+{
+    let host = Arg::new(alloc, "HOST")
+        .required(true)
+        .help("The reader's name or address");
+    let port = port_argument(alloc, "The reader's port; LLRP's own is 5084");
+    with_argument(command.arg(host), port)
+}
+
+/// The command show.
+fn show_command<'a>(alloc: Global) -> Result<Command<'a>, AllocError>
+    ensures app { IfOk result (λ c. app_of c ≡ hex_app (codes "show")) }
+    ensures local { IfOk result (λ c. (out-Command c).has_globals ≡ false) }
+{
+    hex_command(
+        alloc,
+        "show",
+        "List the messages of a stream of bytes",
+        "Read hexadecimal digits in place of bytes",
+        SHOW_HELP,
+    )
+}
+
+/// The command encode.
+fn encode_command<'a>(alloc: Global) -> Result<Command<'a>, AllocError>
+    ensures app { IfOk result (λ c. app_of c ≡ hex_app (codes "encode")) }
+    ensures local { IfOk result (λ c. (out-Command c).has_globals ≡ false) }
+{
+    hex_command(
+        alloc,
+        "encode",
+        "Write the bytes of a listing of messages",
+        "Write hexadecimal digits in place of bytes",
+        ENCODE_HELP,
+    )
+}
+
+/// The command epc, whose one argument is TEXT, which must be given.
+fn epc_command<'a>(alloc: Global) -> Result<Command<'a>, AllocError>
+    ensures app { IfOk result (λ c. app_of c ≡ text_app (codes "epc")) }
+    ensures local { IfOk result (λ c. (out-Command c).has_globals ≡ false) }
+{
+    let text = Arg::new(alloc, "TEXT")
+        .required(true)
+        .help("24 hexadecimal digits, a tag URI or a raw URI");
+    Command::new(alloc, "epc")
+        .about("Print the text of a tag's word, or the word of a text")
+        .after_help(EPC_HELP)
+        .arg(text)
 }
 
 /// The command sim.
@@ -148,18 +211,6 @@ fn sim_command<'a>(alloc: Global) -> Result<Command<'a>, AllocError>
         .arg(port_argument(alloc, "The port to listen on"))
 }
 
-/// The command with the arguments HOST and PORT.
-fn with_address<'a>(alloc: Global, command: Command<'a>) -> Result<Command<'a>, AllocError>
-    ensures app { IfOk result (λ c. app_of c ≡ with_address (app_of command.entry)) }
-    ensures local { (out-Command command.entry).has_globals ≡ false → IfOk result (λ c. (out-Command c).has_globals ≡ false) }
-{
-    let host = Arg::new(alloc, "HOST")
-        .required(true)
-        .help("The reader's name or address");
-    let port = port_argument(alloc, "The reader's port; LLRP's own is 5084");
-    command.arg(host)?.arg(port)
-}
-
 /// The command inventory.
 fn inventory_command<'a>(alloc: Global) -> Result<Command<'a>, AllocError>
     ensures app { IfOk result (λ c. app_of c ≡ inventory_app) }
@@ -168,8 +219,7 @@ fn inventory_command<'a>(alloc: Global) -> Result<Command<'a>, AllocError>
     let command = Command::new(alloc, "inventory")
         .about("Print the tags that a reader sees")
         .after_help(INVENTORY_HELP);
-    let command = with_address(alloc, command)?;
-    with_plan(alloc, command)
+    with_plan(alloc, with_address(alloc, command))
 }
 
 /// The command loop.
@@ -180,105 +230,36 @@ fn loop_command<'a>(alloc: Global) -> Result<Command<'a>, AllocError>
     let command = Command::new(alloc, "loop")
         .about("Print the tags that a simulated reader sees, by a script")
         .after_help(LOOP_HELP);
-    with_plan(alloc, command)
-}
-
-/// The command with show below it.
-fn with_show<'a>(alloc: Global, command: Command<'a>) -> Result<Command<'a>, AllocError>
-    ensures { IfOk result (λ c. app_of c ≡ with_subcommand (app_of command.entry) (hex_app (codes "show")).top) }
-{
-    let show = hex_command(
-        alloc,
-        "show",
-        "List the messages of a stream of bytes",
-        "Read hexadecimal digits in place of bytes",
-        SHOW_HELP,
-    )?;
-    command.subcommand(show)
-}
-
-/// The command with encode below it.
-fn with_encode<'a>(alloc: Global, command: Command<'a>) -> Result<Command<'a>, AllocError>
-    ensures { IfOk result (λ c. app_of c ≡ with_subcommand (app_of command.entry) (hex_app (codes "encode")).top) }
-{
-    let encode = hex_command(
-        alloc,
-        "encode",
-        "Write the bytes of a listing of messages",
-        "Write hexadecimal digits in place of bytes",
-        ENCODE_HELP,
-    )?;
-    command.subcommand(encode)
-}
-
-/// The command with epc below it.
-fn with_epc<'a>(alloc: Global, command: Command<'a>) -> Result<Command<'a>, AllocError>
-    ensures { IfOk result (λ c. app_of c ≡ with_subcommand (app_of command.entry) (text_app (codes "epc")).top) }
-{
-    let epc = text_command(
-        alloc,
-        "epc",
-        "Print the text of a tag's word, or the word of a text",
-        "24 hexadecimal digits, a tag URI or a raw URI",
-        EPC_HELP,
-    )?;
-    command.subcommand(epc)
-}
-
-/// The command with sim below it.
-fn with_sim<'a>(alloc: Global, command: Command<'a>) -> Result<Command<'a>, AllocError>
-    ensures { IfOk result (λ c. app_of c ≡ with_subcommand (app_of command.entry) (port_app (codes "sim")).top) }
-{
-    let sim = sim_command(alloc)?;
-    command.subcommand(sim)
-}
-
-/// The command with inventory below it.
-fn with_inventory<'a>(alloc: Global, command: Command<'a>) -> Result<Command<'a>, AllocError>
-    ensures { IfOk result (λ c. app_of c ≡ with_subcommand (app_of command.entry) inventory_app.top) }
-{
-    let inventory = inventory_command(alloc)?;
-    command.subcommand(inventory)
-}
-
-/// The command with loop below it.
-fn with_loop<'a>(alloc: Global, command: Command<'a>) -> Result<Command<'a>, AllocError>
-    ensures { IfOk result (λ c. app_of c ≡ with_subcommand (app_of command.entry) loop_app.top) }
-{
-    let both_ends = loop_command(alloc)?;
-    command.subcommand(both_ends)
+    with_plan(alloc, Ok(command))
 }
 
 /// The program before its commands.
 fn top_command<'a>(alloc: Global) -> Result<Command<'a>, AllocError>
     ensures { IfOk result (λ c. app_of c ≡ top_app) }
 {
-    let top = Command::new(alloc, "llrp").bin_name("llrp")?;
-    Ok(
-        top.about("Reads and writes streams of LLRP 1.1 messages")
-            .no_binary_name(true)
-            .subcommand_required(true),
-    )
+    Command::new(alloc, "llrp")
+        .about("Reads and writes streams of LLRP 1.1 messages")
+        .no_binary_name(true)
+        .subcommand_required(true)
+        .bin_name("llrp")
 }
 
 /// The program before the commands that it runs itself.
 fn streams_command<'a>(alloc: Global) -> Result<Command<'a>, AllocError>
     ensures { IfOk result (λ c. app_of c ≡ streams_app) }
 {
-    let top = top_command(alloc)?;
-    let with_first = with_show(alloc, top)?;
-    let with_both = with_encode(alloc, with_first)?;
-    with_epc(alloc, with_both)
+    let with_first = with_command(top_command(alloc), show_command(alloc));
+    let with_both = with_command(with_first, encode_command(alloc));
+    with_command(with_both, epc_command(alloc))
 }
 
 /// The words that the program takes.
 fn llrp_command<'a>(alloc: Global) -> Result<Command<'a>, AllocError>
     ensures { IfOk result (λ c. app_of c ≡ llrp_app) }
 {
-    let streams = streams_command(alloc)?;
-    let with_first = with_sim(alloc, streams)?;
-    let with_both = with_inventory(alloc, with_first)?;
-    with_loop(alloc, with_both)
+    let with_first = with_command(streams_command(alloc), sim_command(alloc));
+    let with_both = with_command(with_first, inventory_command(alloc));
+    with_command(with_both, loop_command(alloc))
 }
 
 /// The number of an argument that the parse made sure of.

@@ -1,4 +1,5 @@
-use Rattle.std.proofs.Common.{◌≡◌, ℕ, ◌+◌, ◌<◌, List, length, subst, sym, rules, tests}
+use Rattle.std.proofs.Common.{◌≡◌, ℕ, ◌+◌, ◌<◌, List, length, subst, sym, rules, tests, arith}
+use Rattle.std.proofs.lemmas.Grind.{common_steps}
 use Rattle.llrp_tool.specs.declared.script.Entry.{Entry}
 use Rattle.llrp_tool.specs.Script.{Begins, Continues, NoneContinues, IsRefusedAt}
 use Rattle.llrp_tool.proofs.ScriptTexts.{begins_more, refused_at}
@@ -15,3 +16,6 @@ pub lines-preserved : goal.lines-preserved
 lines-preserved c =
     let next : Continues c.lines.entries.items c.lines.rest.now c.in-Some.entry c.in-Some.after.now = subst (λ (x : List Entry). Continues x c.lines.rest.now c.in-Some.entry c.in-Some.after.now) c.as_slice.ensures.value c.in-Some.ensures in
     subst (λ (x : List Entry). Begins c.args.text.now x c.in-Some.after.now) (sym c.in_ok-push.ensures.items) (begins_more c.args.text.now c.lines.entries.items c.lines.rest.now c.in-Some.entry c.in-Some.after.now c.lines.invariant next)
+
+pub returns-clause-script : goal.returns-clause-script
+returns-clause-script c = grind (arith, common_steps)
