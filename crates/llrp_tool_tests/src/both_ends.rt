@@ -7,7 +7,6 @@ use crate::serve::bytes;
 use llrp_session::Reader;
 use llrp_tool::{Endpoint, Input, Output, Script, Summary, ToolErr, run_loop, standard_plan};
 use std::alloc::Global;
-use std::process::Abort;
 use std::test::*;
 
 /// A script, the bytes that go over the connection, and what is told (LLRP 1.1, section 17.1).
@@ -154,45 +153,47 @@ fn exchange_of(
     })
 }
 
-/// A run over these bytes sends them both ways and tells what it is to.
-fn is_whole(
-    rt: &impl Abort,
-    alloc: Global,
-    run: &Run,
-    down: &[u8],
-    up: &[u8],
-) -> Result<(), ToolErr> {
+impl Exchange {
+    /// Whether it ended so, these bytes were sent each way, and these lines were told.
+    fn is(&self, end: Result<Summary, ToolErr>, down: &[u8], up: &[u8], lines: &[u8]) -> bool {
+        self.end == end
+            && self.down.as_slice() == down
+            && self.up.as_slice() == up
+            && self.lines.as_slice() == lines
+    }
+}
+
+/// Whether a run over these bytes sends them both ways and tells what it is to.
+fn is_whole(alloc: Global, run: &Run, down: &[u8], up: &[u8]) -> Result<bool, ToolErr> {
     let exchange = exchange_of(alloc, run.script, run.every, down, up)?;
-    assert!(rt; exchange.end == Ok(run.summary));
-    assert!(rt; exchange.up.as_slice() == up);
-    assert!(rt; exchange.down.as_slice() == down);
-    assert!(rt; exchange.lines.as_slice() == run.lines);
-    Ok(())
+    Ok(exchange.is(Ok(run.summary), down, up, run.lines))
+}
+
+/// Whether a run over its own bytes does so.
+fn runs_whole(alloc: Global, run: &Run) -> Result<bool, ToolErr> {
+    let down = bytes(alloc, run.down)?;
+    let up = bytes(alloc, run.up)?;
+    is_whole(alloc, run, down.as_slice(), up.as_slice())
 }
 
 #[test]
-fn whole_runs(rt: HostRuntime) -> Result<(), Fail> {
-    let alloc = rt.alloc();
+fn whole_runs(rt: HostRuntime) {
     for run in &RUNS {
-        let down = bytes(alloc, run.down)?;
-        let up = bytes(alloc, run.up)?;
-        is_whole(&rt, alloc, run, down.as_slice(), up.as_slice())?;
+        assert!(rt; runs_whole(rt.alloc(), run) == Ok(true));
     }
-    Ok(())
+}
+
+/// Whether the client of a run sends and tells the same where its reader's bytes are at hand.
+fn is_whole_alone(alloc: Global, run: &Run) -> Result<bool, ToolErr> {
+    let inventory = inventory_of(alloc, run.every, 1, 65_536, run.down)?;
+    inventory.is(alloc, Ok(run.summary), run.up, run.lines)
 }
 
 #[test]
-fn their_clients_alone(rt: HostRuntime) -> Result<(), Fail> {
-    let alloc = rt.alloc();
+fn their_clients_alone(rt: HostRuntime) {
     for run in &RUNS {
-        let down = bytes(alloc, run.down)?;
-        let inventory = inventory_of(alloc, run.every, 1, 65_536, down.as_slice())?;
-        assert!(rt; inventory.end == Ok(run.summary));
-        let wanted = bytes(alloc, run.up)?;
-        assert!(rt; inventory.up.as_slice() == wanted.as_slice());
-        assert!(rt; inventory.lines.as_slice() == run.lines);
+        assert!(rt; is_whole_alone(rt.alloc(), run) == Ok(true));
     }
-    Ok(())
 }
 
 /// Bytes that each end reads, and how a run of an empty script ends.
@@ -242,17 +243,24 @@ static ROWS: [Row; 6] = [
     },
 ];
 
+/// Whether a run of an empty script over these bytes ends with this error, and nothing is told.
+fn stops_with(alloc: Global, end: ToolErr, down: &[u8], up: &[u8]) -> Result<bool, ToolErr> {
+    let exchange = exchange_of(alloc, b"", 0, down, up)?;
+    Ok(exchange.end == Err(end) && exchange.lines.is_empty())
+}
+
+/// Whether a row's run ends as the row says, and nothing is told.
+fn is_as_said(alloc: Global, row: &Row) -> Result<bool, ToolErr> {
+    let down = bytes(alloc, row.down)?;
+    let up = bytes(alloc, row.up)?;
+    stops_with(alloc, row.end, down.as_slice(), up.as_slice())
+}
+
 #[test]
-fn runs_that_end_before_the_closing(rt: HostRuntime) -> Result<(), Fail> {
-    let alloc = rt.alloc();
+fn runs_that_end_before_the_closing(rt: HostRuntime) {
     for row in &ROWS {
-        let down = bytes(alloc, row.down)?;
-        let up = bytes(alloc, row.up)?;
-        let exchange = exchange_of(alloc, b"", 0, down.as_slice(), up.as_slice())?;
-        assert!(rt; exchange.end == Err(row.end), "at {}", row.name);
-        assert!(rt; exchange.lines.is_empty());
+        assert!(rt; is_as_said(rt.alloc(), row) == Ok(true), "at {}", row.name);
     }
-    Ok(())
 }
 
 /// After how many calls each device fails in a run over devices of one byte a call; the largest number for
@@ -274,24 +282,24 @@ const NONE: Failures = Failures {
     reports: usize::MAX,
 };
 
-/// Such a run ends so, and all that was written are fronts of what a whole run writes.
-fn ends_with(
-    rt: &impl Abort,
+/// Whether such a run over these bytes ends so, and all that was written are fronts of what a whole run
+/// writes.
+fn leaves_fronts(
     alloc: Global,
     run: &Run,
-    failures: Failures,
+    down: &[u8],
+    up: &[u8],
+    failures: &Failures,
     end: Result<Summary, ToolErr>,
-) -> Result<(), ToolErr> {
-    let down = bytes(alloc, run.down)?;
-    let up = bytes(alloc, run.up)?;
+) -> Result<bool, ToolErr> {
     let script = Script::parse(alloc, run.script)?;
     let plan = standard_plan(alloc, run.every, 1)?;
     let mut client_end = Endpoint {
-        source: OneByOne::new(down.as_slice(), failures.down_reads),
+        source: OneByOne::new(down, failures.down_reads),
         sink: Failing::after(alloc, failures.up_writes),
     };
     let mut reader_end = Endpoint {
-        source: OneByOne::new(up.as_slice(), failures.up_reads),
+        source: OneByOne::new(up, failures.up_reads),
         sink: Failing::after(alloc, failures.down_writes),
     };
     let mut lines = Failing::after(alloc, failures.reports);
@@ -305,18 +313,30 @@ fn ends_with(
         &mut reader_end,
         &mut lines,
     );
-    assert!(rt; found == end);
-    assert!(rt; down.starts_with(reader_end.sink.taken()));
-    assert!(rt; up.starts_with(client_end.sink.taken()));
-    assert!(rt; run.lines.starts_with(lines.taken()));
-    Ok(())
+    Ok(
+        found == end
+            && down.starts_with(reader_end.sink.taken())
+            && up.starts_with(client_end.sink.taken())
+            && run.lines.starts_with(lines.taken()),
+    )
+}
+
+/// Whether such a run over its own bytes does so.
+fn ends_with(
+    alloc: Global,
+    run: &Run,
+    failures: &Failures,
+    end: Result<Summary, ToolErr>,
+) -> Result<bool, ToolErr> {
+    let down = bytes(alloc, run.down)?;
+    let up = bytes(alloc, run.up)?;
+    leaves_fronts(alloc, run, down.as_slice(), up.as_slice(), failures, end)
 }
 
 #[test]
-fn a_run_over_devices_of_one_byte_a_call(rt: HostRuntime) -> Result<(), Fail> {
+fn a_run_over_devices_of_one_byte_a_call(rt: HostRuntime) {
     let run = &RUNS[0];
-    ends_with(&rt, rt.alloc(), run, NONE, Ok(run.summary))?;
-    Ok(())
+    assert!(rt; ends_with(rt.alloc(), run, &NONE, Ok(run.summary)) == Ok(true));
 }
 
 /// How many bytes hexadecimal texts in a row spell.
@@ -324,46 +344,50 @@ fn count_of(alloc: Global, texts: &[&str]) -> Result<usize, ToolErr> {
     Ok(bytes(alloc, texts)?.len())
 }
 
+/// Whether the first run ends with an error where these reads and writes fail.
+fn fails_both_ways(alloc: Global, reads: &Failures, writes: &Failures) -> Result<bool, ToolErr> {
+    let run = &RUNS[0];
+    let reads_fail = ends_with(alloc, run, reads, Err(ToolErr::Read))?;
+    let writes_fail = ends_with(alloc, run, writes, Err(ToolErr::Write))?;
+    Ok(reads_fail && writes_fail)
+}
+
 #[test]
 fn each_call_of_an_end_fails_in_turn(rt: HostRuntime) -> Result<(), Fail> {
     let alloc = rt.alloc();
-    let run = &RUNS[0];
-    for left in 0..count_of(alloc, run.down)? {
+    for left in 0..count_of(alloc, RUNS[0].down)? {
         let reads = Failures {
             down_reads: left,
             ..NONE
         };
-        ends_with(&rt, alloc, run, reads, Err(ToolErr::Read))?;
         let writes = Failures {
             down_writes: left,
             ..NONE
         };
-        ends_with(&rt, alloc, run, writes, Err(ToolErr::Write))?;
+        assert!(rt; fails_both_ways(alloc, &reads, &writes) == Ok(true));
     }
-    for left in 0..count_of(alloc, run.up)? {
+    for left in 0..count_of(alloc, RUNS[0].up)? {
         let reads = Failures {
             up_reads: left,
             ..NONE
         };
-        ends_with(&rt, alloc, run, reads, Err(ToolErr::Read))?;
         let writes = Failures {
             up_writes: left,
             ..NONE
         };
-        ends_with(&rt, alloc, run, writes, Err(ToolErr::Write))?;
+        assert!(rt; fails_both_ways(alloc, &reads, &writes) == Ok(true));
     }
     Ok(())
 }
 
 #[test]
-fn each_report_fails_in_turn(rt: HostRuntime) -> Result<(), Fail> {
+fn each_report_fails_in_turn(rt: HostRuntime) {
     let run = &RUNS[0];
     for left in 0..run.lines.len() {
         let reports = Failures {
             reports: left,
             ..NONE
         };
-        ends_with(&rt, rt.alloc(), run, reports, Err(ToolErr::Write))?;
+        assert!(rt; ends_with(rt.alloc(), run, &reports, Err(ToolErr::Write)) == Ok(true));
     }
-    Ok(())
 }

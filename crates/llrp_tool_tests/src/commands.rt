@@ -1,6 +1,7 @@
 //! Commands from their words to their exit statuses.
 
 use llrp_tool::{Input, NetworkCommand, Output, ToolErr, network_command, run_command};
+use std::alloc::Global;
 use std::test::*;
 
 const HELP: &[u8] = b"Reads and writes streams of LLRP 1.1 messages
@@ -190,21 +191,43 @@ For more information, try '--help'.
 /// What a command answers, and what it writes to its output and for errors.
 #[derive(Drop)]
 struct Outcome {
-    status: u8,
+    status: Result<u8, ToolErr>,
     output: Vec<u8>,
     errors: Vec<u8>,
 }
 
-fn run(rt: &HostRuntime, words: &[&str], input: &[u8]) -> Result<Outcome, ToolErr> {
+fn run(alloc: Global, words: &[&str], input: &[u8]) -> Outcome {
     let mut r = Input::new(input);
-    let mut w = Output::new(Vec::new(rt.alloc()));
-    let mut e = Output::new(Vec::new(rt.alloc()));
-    let status = run_command(rt.alloc(), words, &mut r, &mut w, &mut e)?;
-    Ok(Outcome {
+    let mut w = Output::new(Vec::new(alloc));
+    let mut e = Output::new(Vec::new(alloc));
+    let status = run_command(alloc, words, &mut r, &mut w, &mut e);
+    Outcome {
         status,
         output: w.into_inner(),
         errors: e.into_inner(),
-    })
+    }
+}
+
+/// Whether a command without input answers so, and writes this to its output and for errors.
+fn answers(alloc: Global, words: &[&str], status: u8, output: &[u8], errors: &[u8]) -> bool {
+    run(alloc, words, b"").is(status, output, errors)
+}
+
+impl Outcome {
+    /// Whether this was answered, and written to the output and for errors.
+    fn is(&self, status: u8, output: &[u8], errors: &[u8]) -> bool {
+        self.status == Ok(status)
+            && self.output.as_slice() == output
+            && self.errors.as_slice() == errors
+    }
+}
+
+/// Whether words are told to be wrong.
+fn is_usage_fault(alloc: Global, words: &[&str]) -> bool {
+    let found = run(alloc, words, b"");
+    found.status == Ok(2)
+        && found.output.is_empty()
+        && found.errors.as_slice().starts_with(b"error: ")
 }
 
 /// The words of a command and its input; the status, the output and the errors that it gives.
@@ -216,7 +239,7 @@ type CommandRow = (
     &'static [u8],
 );
 
-const COMMAND_ROWS: [CommandRow; 11] = [
+static COMMAND_ROWS: [CommandRow; 11] = [
     (
         &["show", "--hex"],
         b"083E0000000A00000007",
@@ -272,102 +295,93 @@ const COMMAND_ROWS: [CommandRow; 11] = [
     (&["epc", ""], b"", 1, b"! Start\n", b""),
 ];
 
-#[test]
-fn commands_with_ample_memory(rt: HostRuntime) -> Result<(), Fail> {
-    for (words, input, status, output, errors) in COMMAND_ROWS {
-        let found = run(&rt, words, input)?;
-        assert!(rt; found.status == status);
-        assert!(rt; found.output.as_slice() == output);
-        assert!(rt; found.errors.as_slice() == errors);
-    }
-    Ok(())
+/// Whether a command gives what its row says.
+fn is_as_said(alloc: Global, row: &CommandRow) -> bool {
+    let (words, input, status, output, errors) = *row;
+    run(alloc, words, input).is(status, output, errors)
 }
 
 #[test]
-fn help_goes_to_the_output(rt: HostRuntime) -> Result<(), Fail> {
-    let rows = [
-        (["--help"].as_slice(), HELP),
-        (["help"].as_slice(), HELP),
-        (["show", "--help"].as_slice(), SHOW_HELP),
-        (["encode", "-h"].as_slice(), ENCODE_HELP),
-        (["epc", "--help"].as_slice(), EPC_HELP),
-        (["sim", "--help"].as_slice(), SIM_HELP),
-        (["inventory", "--help"].as_slice(), INVENTORY_HELP),
-        (["help", "loop"].as_slice(), LOOP_HELP),
-    ];
-    for (words, text) in rows {
-        let found = run(&rt, words, b"")?;
-        assert!(rt; found.status == 0);
-        assert!(rt; found.output.as_slice() == text);
-        assert!(rt; found.errors.is_empty());
+fn commands_with_ample_memory(rt: HostRuntime) {
+    for row in &COMMAND_ROWS {
+        assert!(rt; is_as_said(rt.alloc(), row));
     }
-    Ok(())
+}
+
+/// Words that ask for help, and what is printed.
+static HELP_ROWS: [(&[&str], &[u8]); 8] = [
+    (&["--help"], HELP),
+    (&["help"], HELP),
+    (&["show", "--help"], SHOW_HELP),
+    (&["encode", "-h"], ENCODE_HELP),
+    (&["epc", "--help"], EPC_HELP),
+    (&["sim", "--help"], SIM_HELP),
+    (&["inventory", "--help"], INVENTORY_HELP),
+    (&["help", "loop"], LOOP_HELP),
+];
+
+#[test]
+fn help_goes_to_the_output(rt: HostRuntime) {
+    for (words, text) in &HELP_ROWS {
+        assert!(rt; answers(rt.alloc(), words, 0, text, b""));
+    }
+}
+
+/// Words that are no command, and what is said of them.
+static FAULT_ROWS: [(&[&str], &[u8]); 6] = [
+    (&[], NO_COMMAND),
+    (&["survey"], NO_SUCH_COMMAND),
+    (&["show", "--bytes"], NO_SUCH_FLAG),
+    (&["epc"], NO_TEXT),
+    (&["sim", "0"], PORT_ZERO),
+    (&["inventory", "localhost"], NO_PORT),
+];
+
+#[test]
+fn usage_faults_go_to_the_errors(rt: HostRuntime) {
+    for (words, text) in &FAULT_ROWS {
+        assert!(rt; answers(rt.alloc(), words, 2, b"", text));
+    }
+}
+
+/// Words of the commands that the program runs itself, and those commands.
+static NETWORK_ROWS: [(&[&str], NetworkCommand); 5] = [
+    (&["sim", "65535"], NetworkCommand::Sim { port: 65535 }),
+    (
+        &["inventory", "localhost", "5084"],
+        NetworkCommand::Inventory {
+            host: "localhost",
+            port: 5084,
+            every: 0,
+            polls: 1,
+        },
+    ),
+    (
+        &["inventory", "--polls", "3", "::1", "1", "--every=65535"],
+        NetworkCommand::Inventory {
+            host: "::1",
+            port: 1,
+            every: 65535,
+            polls: 3,
+        },
+    ),
+    (&["loop"], NetworkCommand::Loop { every: 0, polls: 1 }),
+    (
+        &["loop", "--every", "2", "--polls", "0"],
+        NetworkCommand::Loop { every: 2, polls: 0 },
+    ),
+];
+
+#[test]
+fn commands_of_the_program(rt: HostRuntime) {
+    for (words, command) in &NETWORK_ROWS {
+        assert!(rt; network_command(rt.alloc(), words) == Ok(Some(*command)));
+        assert!(rt; answers(rt.alloc(), words, 2, b"", b""));
+    }
 }
 
 #[test]
-fn usage_faults_go_to_the_errors(rt: HostRuntime) -> Result<(), Fail> {
-    let rows = [
-        ([].as_slice(), NO_COMMAND),
-        (["survey"].as_slice(), NO_SUCH_COMMAND),
-        (["show", "--bytes"].as_slice(), NO_SUCH_FLAG),
-        (["epc"].as_slice(), NO_TEXT),
-        (["sim", "0"].as_slice(), PORT_ZERO),
-        (["inventory", "localhost"].as_slice(), NO_PORT),
-    ];
-    for (words, text) in rows {
-        let found = run(&rt, words, b"")?;
-        assert!(rt; found.status == 2);
-        assert!(rt; found.output.is_empty());
-        assert!(rt; found.errors.as_slice() == text);
-    }
-    Ok(())
-}
-
-#[test]
-fn commands_of_the_program(rt: HostRuntime) -> Result<(), Fail> {
-    let rows = [
-        (
-            ["sim", "65535"].as_slice(),
-            NetworkCommand::Sim { port: 65535 },
-        ),
-        (
-            ["inventory", "localhost", "5084"].as_slice(),
-            NetworkCommand::Inventory {
-                host: "localhost",
-                port: 5084,
-                every: 0,
-                polls: 1,
-            },
-        ),
-        (
-            ["inventory", "--polls", "3", "::1", "1", "--every=65535"].as_slice(),
-            NetworkCommand::Inventory {
-                host: "::1",
-                port: 1,
-                every: 65535,
-                polls: 3,
-            },
-        ),
-        (
-            ["loop"].as_slice(),
-            NetworkCommand::Loop { every: 0, polls: 1 },
-        ),
-        (
-            ["loop", "--every", "2", "--polls", "0"].as_slice(),
-            NetworkCommand::Loop { every: 2, polls: 0 },
-        ),
-    ];
-    for (words, command) in rows {
-        assert!(rt; network_command(rt.alloc(), words)? == Some(command));
-        let found = run(&rt, words, b"")?;
-        assert!(rt; found.status == 2);
-        assert!(rt; found.output.is_empty() && found.errors.is_empty());
-    }
-    Ok(())
-}
-
-#[test]
-fn other_words_are_no_commands_of_the_program(rt: HostRuntime) -> Result<(), Fail> {
+fn other_words_are_no_commands_of_the_program(rt: HostRuntime) {
     let rows = [
         ["show"].as_slice(),
         ["sim", "--help"].as_slice(),
@@ -378,23 +392,18 @@ fn other_words_are_no_commands_of_the_program(rt: HostRuntime) -> Result<(), Fai
         ["loop", "script"].as_slice(),
     ];
     for words in rows {
-        assert!(rt; network_command(rt.alloc(), words)?.is_none());
+        assert!(rt; network_command(rt.alloc(), words) == Ok(None));
     }
-    Ok(())
 }
 
 #[test]
-fn words_that_do_not_fit_are_usage_faults(rt: HostRuntime) -> Result<(), Fail> {
+fn words_that_do_not_fit_are_usage_faults(rt: HostRuntime) {
     let rows = [
         ["inventory", "localhost", "5084", "5085"].as_slice(),
         ["loop", "--polls", "65536"].as_slice(),
         ["encode", "listing"].as_slice(),
     ];
     for words in rows {
-        let found = run(&rt, words, b"")?;
-        assert!(rt; found.status == 2);
-        assert!(rt; found.output.is_empty());
-        assert!(rt; found.errors.as_slice().starts_with(b"error: "));
+        assert!(rt; is_usage_fault(rt.alloc(), words));
     }
-    Ok(())
 }

@@ -92,8 +92,8 @@ fn listings_of_parameters(rt: HostRuntime) -> Result<(), Fail> {
 }
 
 /// A listing of LLRPStatus over nested parameters at these levels.
-fn nested(rt: &HostRuntime, levels: &[u8]) -> Result<Vec<u8>, Fail> {
-    let mut listing = Vec::from_slice(rt.alloc(), b"0 ERROR_MESSAGE 1 9\n1 LLRPStatus 0 x\n")?;
+fn nested(alloc: Global, levels: &[u8]) -> Result<Vec<u8>, ToolErr> {
+    let mut listing = Vec::from_slice(alloc, b"0 ERROR_MESSAGE 1 9\n1 LLRPStatus 0 x\n")?;
     for level in levels {
         listing.push(*level)?;
         listing.extend_from_slice(b" ParameterError 0 0\n")?;
@@ -101,14 +101,19 @@ fn nested(rt: &HostRuntime, levels: &[u8]) -> Result<Vec<u8>, Fail> {
     Ok(listing)
 }
 
+/// The answer to such a listing, and how many bytes are written.
+fn encoded_levels(alloc: Global, levels: &[u8]) -> Result<(Result<(), ToolErr>, usize), ToolErr> {
+    let listing = nested(alloc, levels)?;
+    let (answer, bytes) = encoded(alloc, listing.as_slice());
+    Ok((answer, bytes.len()))
+}
+
 #[test]
 fn levels_of_parameters(rt: HostRuntime) -> Result<(), Fail> {
-    let (answer, bytes) = encoded(rt.alloc(), nested(&rt, b"2345678")?.as_slice());
-    assert_eq!(rt; answer, Ok(()));
-    assert_eq!(rt; bytes.len(), 74);
-    let (answer, _) = encoded(rt.alloc(), nested(&rt, b"23456789")?.as_slice());
+    assert!(rt; encoded_levels(rt.alloc(), b"2345678") == Ok((Ok(()), 74)));
+    let (answer, _) = encoded_levels(rt.alloc(), b"23456789")?;
     let (line, reason) = (10, Refusal::Level);
-    assert_eq!(rt; answer, Err(ToolErr::Listing { line, reason }));
+    assert!(rt; answer == Err(ToolErr::Listing { line, reason }));
     Ok(())
 }
 

@@ -1,8 +1,7 @@
 //! Words and their texts, as the command epc prints them.
 
-use llrp_tool::{Output, Verdict, run_epc};
+use llrp_tool::{Output, ToolErr, Verdict, run_epc};
 use std::alloc::Global;
-use std::process::Abort;
 use std::test::*;
 
 /// Words with a tag URI: their digits and that text, each of which gives the other.
@@ -90,55 +89,69 @@ static REFUSED: [(&str, &str); 13] = [
     ("35FFFFFFFFFFFFFFFFFFFFFG", "! Start"),
 ];
 
-/// These lines are printed of a text, with this verdict.
-fn prints(
-    rt: &impl Abort,
-    alloc: Global,
-    text: &str,
-    lines: &[&str],
-    verdict: Verdict,
-) -> Result<(), Fail> {
-    let mut printed = Output::new(Vec::new(alloc));
-    assert!(rt; run_epc(alloc, text, &mut printed) == Ok(verdict), "{text}");
-    let mut expected = Vec::new(alloc);
+/// The bytes of lines in a row, each with its end.
+fn text_of(alloc: Global, lines: &[&str]) -> Result<Vec<u8>, ToolErr> {
+    let mut text = Vec::new(alloc);
     for line in lines {
-        expected.extend_from_slice(line.as_bytes())?;
-        expected.push(b'\n')?;
+        text.extend_from_slice(line.as_bytes())?;
+        text.push(b'\n')?;
     }
-    assert!(rt;
-        printed.into_inner().as_slice() == expected.as_slice(),
-        "{text}"
-    );
-    Ok(())
+    Ok(text)
+}
+
+/// Whether these bytes are printed of a text, with this verdict.
+fn is_printed(alloc: Global, text: &str, expected: &[u8], verdict: Verdict) -> bool {
+    let mut sink = Output::new(Vec::new(alloc));
+    let found = run_epc(alloc, text, &mut sink);
+    let printed = sink.into_inner();
+    found == Ok(verdict) && printed.as_slice() == expected
+}
+
+/// Whether these lines are printed of a text, with this verdict.
+fn prints(alloc: Global, text: &str, lines: &[&str], verdict: Verdict) -> Result<bool, ToolErr> {
+    let expected = text_of(alloc, lines)?;
+    Ok(is_printed(alloc, text, expected.as_slice(), verdict))
 }
 
 #[test]
-fn tag_uris_with_ample_memory(rt: HostRuntime) -> Result<(), Fail> {
+fn tag_uris_with_ample_memory(rt: HostRuntime) {
     let alloc = rt.alloc();
     for (digits, text) in &TAGS {
-        prints(&rt, alloc, digits, &[text], Verdict::Lawful)?;
-        prints(&rt, alloc, text, &[digits], Verdict::Lawful)?;
+        assert!(rt;
+            prints(alloc, digits, &[text], Verdict::Lawful) == Ok(true),
+            "{text}"
+        );
+        assert!(rt;
+            prints(alloc, text, &[digits], Verdict::Lawful) == Ok(true),
+            "{text}"
+        );
     }
     let lower_case = "30e3a352943ffe7fffffffff";
     let text = "urn:epc:tag:sgtin-96:7.999999999999.9.274877906943";
-    prints(&rt, alloc, lower_case, &[text], Verdict::Lawful)
+    assert!(rt; prints(alloc, lower_case, &[text], Verdict::Lawful) == Ok(true));
 }
 
 #[test]
-fn raw_uris_with_remarks(rt: HostRuntime) -> Result<(), Fail> {
+fn raw_uris_with_remarks(rt: HostRuntime) {
     let alloc = rt.alloc();
     for (digits, text, remark) in &RAW {
-        prints(&rt, alloc, digits, &[text, remark], Verdict::Lawful)?;
-        prints(&rt, alloc, text, &[digits], Verdict::Lawful)?;
+        assert!(rt;
+            prints(alloc, digits, &[text, remark], Verdict::Lawful) == Ok(true),
+            "{text}"
+        );
+        assert!(rt;
+            prints(alloc, text, &[digits], Verdict::Lawful) == Ok(true),
+            "{text}"
+        );
     }
-    Ok(())
 }
 
 #[test]
-fn refused_texts(rt: HostRuntime) -> Result<(), Fail> {
-    let alloc = rt.alloc();
+fn refused_texts(rt: HostRuntime) {
     for (text, line) in &REFUSED {
-        prints(&rt, alloc, text, &[line], Verdict::Faulty)?;
+        assert!(rt;
+            prints(rt.alloc(), text, &[line], Verdict::Faulty) == Ok(true),
+            "{text}"
+        );
     }
-    Ok(())
 }

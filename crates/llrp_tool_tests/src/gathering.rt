@@ -5,7 +5,7 @@ ghost use Rattle.std.specs.Prelude.{◌≤◌};
 use crate::serve::bytes;
 use llrp_tool::{Gathering, ToolErr, standard_plan};
 use llrp_tree::ParamKind;
-use std::process::Abort;
+use std::alloc::Global;
 use std::test::*;
 
 /// What a reader says first: READER_EVENT_NOTIFICATION with ConnectionAttemptEvent 0 (LLRP 1.1, section 14).
@@ -49,7 +49,7 @@ pub const UP: [&str; 8] = [
 pub const LINES: &[u8] = b"= 0\nurn:epc:tag:sgtin-96:3.0614141.812345.6789 1 -60\n= 1\ntotal 1 2\n";
 
 /// RO_ACCESS_REPORTs and their lines.
-const REPORTS: [(&str, &[u8]); 5] = [
+static REPORTS: [(&str, &[u8]); 5] = [
     ("043D0000000A00000001", b"= 0\n"),
     (
         "043D0000001B00000001 00F00011 8D3074257BF7194E4000001A85",
@@ -69,39 +69,76 @@ const REPORTS: [(&str, &[u8]); 5] = [
     ),
 ];
 
-#[test]
-fn the_lines_of_reports(rt: HostRuntime) -> Result<(), Fail> {
-    let alloc = rt.alloc();
-    for (report, wanted) in REPORTS {
-        let stream = bytes(alloc, &[CONNECTED, report])?;
-        let mut gathering = Gathering::new(alloc, standard_plan(alloc, 0, 1)?, 65_536);
-        let mut out = Vec::new(alloc);
-        let mut lines = Vec::new(alloc);
-        assert!(rt; gathering.feed(stream.as_slice(), &mut out, &mut lines) == Ok(false));
-        assert!(rt; lines.as_slice() == wanted, "at {report}");
-    }
-    Ok(())
+/// A client of a plan of one poll.
+fn client(alloc: Global, limit: u32) -> Result<Gathering, ToolErr>
+    requires least { 4096 ≤ limit }
+    requires most { limit ≤ 65536 }
+{
+    let plan = standard_plan(alloc, 0, 1)?;
+    Ok(Gathering::new(alloc, plan, limit))
 }
 
-/// A stream in pieces of this size closes the connection with its last piece, and stays closed.
+/// Whether these bytes leave the connection open, and these lines are told.
+fn tells(alloc: Global, stream: &[u8], wanted: &[u8]) -> Result<bool, ToolErr> {
+    let mut gathering = client(alloc, 65_536)?;
+    let (mut out, mut lines) = (Vec::new(alloc), Vec::new(alloc));
+    let closed = gathering.feed(stream, &mut out, &mut lines);
+    Ok(closed == Ok(false) && lines.as_slice() == wanted)
+}
+
+/// Whether a report right after the connection leaves it open, and these lines are told.
+fn reports(alloc: Global, report: &str, wanted: &[u8]) -> Result<bool, ToolErr> {
+    tells(
+        alloc,
+        bytes(alloc, &[CONNECTED, report])?.as_slice(),
+        wanted,
+    )
+}
+
+#[test]
+fn the_lines_of_reports(rt: HostRuntime) {
+    for (report, wanted) in &REPORTS {
+        assert!(rt;
+            reports(rt.alloc(), report, wanted) == Ok(true),
+            "at {report}"
+        );
+    }
+}
+
+/// Whether a stream in pieces of this size closes the connection with its last piece, and stays closed.
 fn closes_with_the_last(
-    rt: &impl Abort,
     gathering: &mut Gathering,
     stream: &[u8],
     size: usize,
     out: &mut Vec<u8>,
     lines: &mut Vec<u8>,
-) -> Result<(), ToolErr>
+) -> Result<bool, ToolErr>
     requires { 1 ≤ size }
 {
     let mut closed = false;
     for piece in stream.chunks(size) {
-        assert!(rt; !closed);
+        if closed {
+            return Ok(false);
+        }
         closed = gathering.feed(piece, out, lines)?;
     }
-    assert!(rt; closed);
-    assert!(rt; gathering.feed(stream, out, lines) == Ok(true));
-    Ok(())
+    Ok(closed && gathering.feed(stream, out, lines)?)
+}
+
+/// Whether a stream in pieces of this size closes the connection with its last piece, the wanted bytes are
+/// sent, and the lines are told.
+fn is_whole_in_pieces(
+    alloc: Global,
+    stream: &[u8],
+    size: usize,
+    wanted: &[u8],
+) -> Result<bool, ToolErr>
+    requires { 1 ≤ size }
+{
+    let mut gathering = client(alloc, 4096)?;
+    let (mut out, mut lines) = (Vec::new(alloc), Vec::new(alloc));
+    let closes = closes_with_the_last(&mut gathering, stream, size, &mut out, &mut lines);
+    Ok(closes == Ok(true) && out.as_slice() == wanted && lines.as_slice() == LINES)
 }
 
 #[test]
@@ -110,30 +147,31 @@ fn one_run_in_pieces(rt: HostRuntime) -> Result<(), Fail> {
     let stream = bytes(alloc, &DOWN)?;
     let wanted = bytes(alloc, &UP)?;
     for size in [1, 2, 3, 7, 64, 4096] {
-        let mut gathering = Gathering::new(alloc, standard_plan(alloc, 0, 1)?, 4096);
-        let (mut out, mut lines) = (Vec::new(alloc), Vec::new(alloc));
-        let stream = stream.as_slice();
-        closes_with_the_last(&rt, &mut gathering, stream, size, &mut out, &mut lines)?;
-        assert!(rt; out.as_slice() == wanted.as_slice());
-        assert!(rt; lines.as_slice() == LINES);
+        let whole = is_whole_in_pieces(alloc, stream.as_slice(), size, wanted.as_slice());
+        assert!(rt; whole == Ok(true));
     }
     Ok(())
+}
+
+/// Whether a refusal with status 3 is answered again to other bytes, and nothing is sent or told.
+fn stays_refused(alloc: Global, refused: &[u8], fine: &[u8]) -> Result<bool, ToolErr> {
+    let mut gathering = client(alloc, 4096)?;
+    let (mut out, mut lines) = (Vec::new(alloc), Vec::new(alloc));
+    let first = gathering.feed(refused, &mut out, &mut lines);
+    let second = gathering.feed(fine, &mut out, &mut lines);
+    let answers = [first, second];
+    Ok(answers == [Err(ToolErr::Peer(3)); 2] && out.is_empty() && lines.is_empty())
 }
 
 #[test]
 fn an_error_is_answered_again(rt: HostRuntime) -> Result<(), Fail> {
     let alloc = rt.alloc();
-    let mut gathering = Gathering::new(alloc, standard_plan(alloc, 0, 1)?, 4096);
-    let mut out = Vec::new(alloc);
-    let mut lines = Vec::new(alloc);
     let refused = bytes(
         alloc,
         &["043F0000002000000001 00F60016 0080000C0000000000000000 010000060003"],
     )?;
     let fine = bytes(alloc, &DOWN)?;
-    assert!(rt; gathering.feed(refused.as_slice(), &mut out, &mut lines) == Err(ToolErr::Peer(3)));
-    assert!(rt; gathering.feed(fine.as_slice(), &mut out, &mut lines) == Err(ToolErr::Peer(3)));
-    assert!(rt; out.is_empty() && lines.is_empty());
+    assert!(rt; stays_refused(alloc, refused.as_slice(), fine.as_slice()) == Ok(true));
     Ok(())
 }
 

@@ -1,18 +1,32 @@
 //! Bytes of hexadecimal digits.
 
 use llrp_tool::{ToolErr, bytes_of_hex};
+use std::alloc::Global;
 use std::test::*;
 
+/// Digits among spaces, and their bytes.
+static ROWS: [(&[u8], &[u8]); 3] = [
+    (
+        b" 08 3e\t0000\r\n000A 0000 0007\n",
+        b"\x08\x3e\0\0\0\x0a\0\0\0\x07",
+    ),
+    (
+        b"0123456789abcdefABCDEF",
+        b"\x01\x23\x45\x67\x89\xab\xcd\xef\xab\xcd\xef",
+    ),
+    (b" \n", b""),
+];
+
+/// Whether these digits spell these bytes.
+fn spell(alloc: Global, digits: &[u8], bytes: &[u8]) -> Result<bool, ToolErr> {
+    Ok(bytes_of_hex(alloc, digits)?.as_slice() == bytes)
+}
+
 #[test]
-fn digits_with_ample_memory(rt: HostRuntime) -> Result<(), Fail> {
-    let text = b" 08 3e\t0000\r\n000A 0000 0007\n";
-    let bytes = bytes_of_hex(rt.alloc(), text)?;
-    assert!(rt; bytes.as_slice() == b"\x08\x3e\0\0\0\x0a\0\0\0\x07".as_slice());
-    let every = bytes_of_hex(rt.alloc(), b"0123456789abcdefABCDEF")?;
-    assert!(rt; every.as_slice() == b"\x01\x23\x45\x67\x89\xab\xcd\xef\xab\xcd\xef".as_slice());
-    let none = bytes_of_hex(rt.alloc(), b" \n")?;
-    assert!(rt; none.is_empty());
-    Ok(())
+fn digits_with_ample_memory(rt: HostRuntime) {
+    for (digits, bytes) in &ROWS {
+        assert!(rt; spell(rt.alloc(), digits, bytes) == Ok(true));
+    }
 }
 
 #[test]

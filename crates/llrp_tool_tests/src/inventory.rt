@@ -4,7 +4,7 @@ ghost use Rattle.std.specs.Prelude.{◌≡◌, ◌≤◌, None};
 
 use crate::devices::Failing;
 use crate::gathering::{ADD, CONNECTED, DOWN, ENABLE, LINES, UP};
-use crate::serve::bytes;
+use crate::serve::{bytes, spell};
 use llrp_tool::{Input, Output, Source, Summary, ToolErr, run_inventory, run_show, standard_plan};
 use std::alloc::Global;
 use std::io;
@@ -97,21 +97,36 @@ pub(super) struct Inventory {
     pub lines: Vec<u8>,
 }
 
-/// A client follows a plan of these two numbers, and its reader sends these bytes.
+impl Inventory {
+    /// Whether it ended so, hexadecimal texts spell what was sent, and these lines were told.
+    pub(super) fn is(
+        &self,
+        alloc: Global,
+        end: Result<Summary, ToolErr>,
+        up: &[&str],
+        lines: &[u8],
+    ) -> Result<bool, ToolErr> {
+        let told = self.end == end && self.lines.as_slice() == lines;
+        Ok(told && spell(alloc, up, self.up.as_slice())?)
+    }
+}
+
+/// A client follows a plan of these two numbers, and its reader sends the bytes of hexadecimal texts.
 pub(super) fn inventory_of(
     alloc: Global,
     every: u16,
     polls: u16,
     limit: u32,
-    down: &[u8],
+    down: &[&str],
 ) -> Result<Inventory, ToolErr>
     requires least { 4096 ≤ limit }
     requires most { limit ≤ 65536 }
 {
+    let down = bytes(alloc, down)?;
     let plan = standard_plan(alloc, every, polls)?;
     let mut up = Output::new(Vec::new(alloc));
     let mut lines = Output::new(Vec::new(alloc));
-    let mut source = Input::new(down);
+    let mut source = Input::new(down.as_slice());
     let end = run_inventory(alloc, plan, limit, &mut source, &mut up, &mut lines);
     Ok(Inventory {
         end,
@@ -120,42 +135,37 @@ pub(super) fn inventory_of(
     })
 }
 
+/// Whether a client of a plan of one poll does what a row says, and tells nothing.
+fn is_as_said(alloc: Global, row: &Row) -> Result<bool, ToolErr> {
+    let inventory = inventory_of(alloc, 0, 1, 65_536, row.down)?;
+    inventory.is(alloc, row.end, row.up, b"")
+}
+
 #[test]
-fn runs_that_end_before_the_closing(rt: HostRuntime) -> Result<(), Fail> {
-    let alloc = rt.alloc();
+fn runs_that_end_before_the_closing(rt: HostRuntime) {
     for row in &ROWS {
-        let down = bytes(alloc, row.down)?;
-        let inventory = inventory_of(alloc, 0, 1, 65_536, down.as_slice())?;
-        assert!(rt; inventory.end == row.end, "at {}", row.name);
-        let wanted = bytes(alloc, row.up)?;
-        assert!(rt;
-            inventory.up.as_slice() == wanted.as_slice(),
-            "at {}",
-            row.name
-        );
-        assert!(rt; inventory.lines.is_empty());
+        assert!(rt; is_as_said(rt.alloc(), row) == Ok(true), "at {}", row.name);
     }
-    Ok(())
 }
 
 /// The ROSpec of a plan whose reader reports after 500 tags.
 const ROSPEC: &[u8] =
     b"0 ADD_ROSPEC 1 1\n1 ROSpec 1 0 0\n2 ROBoundarySpec\n3 ROSpecStartTrigger 0\n3 ROSpecStopTrigger 0 0\n2 AISpec w0\n3 AISpecStopTrigger 0 0\n3 InventoryParameterSpec 1 1\n2 ROReportSpec 2 500\n3 TagReportContentSelector 0 0 0 1 0 1 0 0 0 0\n";
 
+/// Whether this is the listing of a stream.
+fn is_listing(alloc: Global, stream: &[u8], listing: &[u8]) -> bool {
+    let mut source = Input::new(stream);
+    let mut sink = Output::new(Vec::new(alloc));
+    let shown = run_show(alloc, &mut source, &mut sink, 65_536);
+    let written = sink.into_inner();
+    shown.is_ok() && written.as_slice() == listing
+}
+
 #[test]
 fn the_rospec_of_a_plan(rt: HostRuntime) -> Result<(), Fail> {
-    let alloc = rt.alloc();
-    let down = bytes(alloc, &[CONNECTED])?;
-    let inventory = inventory_of(alloc, 500, 0, 65_536, down.as_slice())?;
+    let inventory = inventory_of(rt.alloc(), 500, 0, 65_536, &[CONNECTED])?;
     assert!(rt; inventory.end == Err(ToolErr::Early));
-    let mut listing = Output::new(Vec::new(alloc));
-    run_show(
-        alloc,
-        &mut Input::new(inventory.up.as_slice()),
-        &mut listing,
-        65_536,
-    )?;
-    assert!(rt; listing.into_inner().as_slice() == ROSPEC);
+    assert!(rt; is_listing(rt.alloc(), inventory.up.as_slice(), ROSPEC));
     Ok(())
 }
 
@@ -205,17 +215,12 @@ impl<'a> Source for OneByOne<'a> {
 
 #[test]
 fn one_run_over_devices(rt: HostRuntime) -> Result<(), Fail> {
-    let alloc = rt.alloc();
-    let down = bytes(alloc, &DOWN)?;
-    let wanted = bytes(alloc, &UP)?;
-    let inventory = inventory_of(alloc, 0, 1, 4096, down.as_slice())?;
     let summary = Summary {
         tags: 1,
         reports: 2,
     };
-    assert!(rt; inventory.end == Ok(summary));
-    assert!(rt; inventory.up.as_slice() == wanted.as_slice());
-    assert!(rt; inventory.lines.as_slice() == LINES);
+    let inventory = inventory_of(rt.alloc(), 0, 1, 4096, &DOWN)?;
+    assert!(rt; inventory.is(rt.alloc(), Ok(summary), &UP, LINES) == Ok(true));
     Ok(())
 }
 

@@ -50,18 +50,9 @@ pub(super) fn bytes(alloc: Global, texts: &[&str]) -> Result<Vec<u8>, ToolErr> {
     bytes_of_hex(alloc, digits.as_slice())
 }
 
-/// How serving ends, and what it writes.
-fn served(
-    alloc: Global,
-    script: &[u8],
-    stream: &[u8],
-) -> Result<(Result<(), ToolErr>, Vec<u8>), ToolErr> {
-    let script = Script::parse(alloc, script)?;
-    let mut source = Input::new(stream);
-    let mut sink = Output::new(Vec::new(alloc));
-    let core = Reader::new(alloc, 65_536, 1);
-    let end = run_serve(alloc, core, script, &mut source, &mut sink);
-    Ok((end, sink.into_inner()))
+/// Whether hexadecimal texts in a row spell these bytes.
+pub(super) fn spell(alloc: Global, texts: &[&str], found: &[u8]) -> Result<bool, ToolErr> {
+    Ok(bytes(alloc, texts)?.as_slice() == found)
 }
 
 /// A script, a client's bytes, what the reader sends, and how serving ends.
@@ -113,28 +104,64 @@ static ROWS: [Row; 5] = [
     },
 ];
 
-#[test]
-fn servings(rt: HostRuntime) -> Result<(), Fail> {
-    let alloc = rt.alloc();
-    for row in &ROWS {
-        let up = bytes(alloc, row.up)?;
-        let (end, written) = served(alloc, row.script, up.as_slice())?;
-        assert!(rt; end == row.end, "at {}", row.name);
-        let down = bytes(alloc, row.down)?;
-        assert!(rt; written.as_slice() == down.as_slice(), "at {}", row.name);
-    }
-    Ok(())
+/// Whether serving these bytes ends and writes as a row says.
+fn ends_as_said(alloc: Global, row: &Row, stream: &[u8]) -> Result<bool, ToolErr> {
+    let script = Script::parse(alloc, row.script)?;
+    let mut source = Input::new(stream);
+    let mut sink = Output::new(Vec::new(alloc));
+    let core = Reader::new(alloc, 65_536, 1);
+    let end = run_serve(alloc, core, script, &mut source, &mut sink);
+    let written = sink.into_inner();
+    Ok(end == row.end && spell(alloc, row.down, written.as_slice())?)
 }
 
-/// A reader without entries that has started, and what it said.
-fn started(alloc: Global) -> Result<(Serving, Vec<u8>), ToolErr>
-    ensures { IfOk result (λ s. HasStarted s.0) }
+/// Whether a row's client is served as the row says.
+fn is_served(alloc: Global, row: &Row) -> Result<bool, ToolErr> {
+    ends_as_said(alloc, row, bytes(alloc, row.up)?.as_slice())
+}
+
+#[test]
+fn servings(rt: HostRuntime) {
+    for row in &ROWS {
+        assert!(rt; is_served(rt.alloc(), row) == Ok(true), "at {}", row.name);
+    }
+}
+
+/// A reader without entries that has started; what it says is appended.
+fn started(alloc: Global, out: &mut Vec<u8>) -> Result<Serving, ToolErr>
+    ensures { IfOk result (λ s. HasStarted s) }
 {
     let script = Script::parse(alloc, b"")?;
-    let mut out = Vec::new(alloc);
     let mut serving = Serving::new(alloc, Reader::new(alloc, 65_536, 1), script);
-    serving.start(&mut out)?;
-    Ok((serving, out))
+    serving.start(out)?;
+    Ok(serving)
+}
+
+/// What a reader that has started answers to two pieces, and then to the first again.
+fn answers(
+    alloc: Global,
+    front: &[u8],
+    back: &[u8],
+    out: &mut Vec<u8>,
+) -> Result<[Result<bool, ToolErr>; 3], ToolErr> {
+    let mut serving = started(alloc, out)?;
+    Ok([
+        serving.feed(front, out),
+        serving.feed(back, out),
+        serving.feed(front, out),
+    ])
+}
+
+/// Whether the second of two pieces closes the connection, which stays closed, and these bytes are written.
+fn closes_with_the_second(
+    alloc: Global,
+    front: &[u8],
+    back: &[u8],
+    wanted: &[u8],
+) -> Result<bool, ToolErr> {
+    let mut out = Vec::new(alloc);
+    let answers = answers(alloc, front, back, &mut out)?;
+    Ok(answers == [Ok(false), Ok(true), Ok(true)] && out.as_slice() == wanted)
 }
 
 #[test]
@@ -144,22 +171,22 @@ fn a_stream_cut_anywhere(rt: HostRuntime) -> Result<(), Fail> {
     let wanted = bytes(alloc, &[CONNECTED, ADDED, CLOSED])?;
     for cut in 0..stream.len() {
         let (front, back) = stream.as_slice().split_at(cut);
-        let (mut serving, mut out) = started(alloc)?;
-        assert!(rt; serving.feed(front, &mut out) == Ok(false));
-        assert!(rt; serving.feed(back, &mut out) == Ok(true));
-        assert!(rt; serving.feed(front, &mut out) == Ok(true));
-        assert!(rt; out.as_slice() == wanted.as_slice());
+        assert!(rt; closes_with_the_second(alloc, front, back, wanted.as_slice()) == Ok(true));
     }
     Ok(())
 }
 
-#[test]
-fn an_error_is_answered_again(rt: HostRuntime) -> Result<(), Fail> {
-    let alloc = rt.alloc();
-    let (mut serving, mut out) = started(alloc)?;
+/// Whether a length field below 10 is answered again, and nothing is written behind it.
+fn stays_broken(alloc: Global) -> Result<bool, ToolErr> {
+    let mut out = Vec::new(alloc);
+    let mut serving = started(alloc, &mut out)?;
     let said = out.len();
-    assert!(rt; serving.feed(b"\x08\x14\0\0\0\x09", &mut out) == Err(ToolErr::Broken));
-    assert!(rt; serving.feed(b"\x08", &mut out) == Err(ToolErr::Broken));
-    assert!(rt; out.len() == said);
-    Ok(())
+    let first = serving.feed(b"\x08\x14\0\0\0\x09", &mut out);
+    let second = serving.feed(b"\x08", &mut out);
+    Ok([first, second] == [Err(ToolErr::Broken); 2] && out.len() == said)
+}
+
+#[test]
+fn an_error_is_answered_again(rt: HostRuntime) {
+    assert!(rt; stays_broken(rt.alloc()) == Ok(true));
 }

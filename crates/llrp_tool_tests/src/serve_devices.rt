@@ -9,7 +9,6 @@ use llrp_stream::Output;
 use llrp_tool::{Input, Script, Source, ToolErr, run_serve};
 use std::alloc::Global;
 use std::io;
-use std::process::Abort;
 use std::test::*;
 
 /// Gives a byte a call, and fails in the call after the last.
@@ -35,15 +34,16 @@ impl Source for BreakingOff<'_> {
     }
 }
 
-/// What is written where reading fails after these bytes.
-fn written_before(alloc: Global, stream: &[u8]) -> Result<(Result<(), ToolErr>, Vec<u8>), ToolErr> {
+/// Whether serving stops where reading fails after these bytes, and the first `said` of the wanted bytes are
+/// written.
+fn stops_behind(alloc: Global, stream: &[u8], wanted: &[u8], said: usize) -> Result<bool, ToolErr> {
+    let script = Script::parse(alloc, b"")?;
     let mut source = BreakingOff {
         rest: stream,
         reads: 0,
         failures: 0,
     };
     let mut sink = Output::new(Vec::new(alloc));
-    let script = Script::parse(alloc, b"")?;
     let end = run_serve(
         alloc,
         Reader::new(alloc, 65_536, 1),
@@ -51,7 +51,25 @@ fn written_before(alloc: Global, stream: &[u8]) -> Result<(Result<(), ToolErr>, 
         &mut source,
         &mut sink,
     );
-    Ok((end, sink.into_inner()))
+    let written = sink.into_inner();
+    Ok(end == Err(ToolErr::Read) && is_front(written.as_slice(), wanted, said))
+}
+
+/// Whether these are the first so many of the wanted bytes.
+fn is_front(written: &[u8], wanted: &[u8], length: usize) -> bool {
+    wanted.starts_with(written) && written.len() == length
+}
+
+/// How many octets are said where reading fails after so many: CONNECTED has 32, ADDED and ENABLED have 18
+/// each; ADD has 62, and ENABLE 14.
+fn said_after(count: usize) -> usize {
+    if count < 62 {
+        32
+    } else if count < 76 {
+        50
+    } else {
+        68
+    }
 }
 
 #[test]
@@ -60,44 +78,22 @@ fn a_read_that_fails_comes_after_the_answers_so_far(rt: HostRuntime) -> Result<(
     let stream = bytes(alloc, &[ADD, ENABLE, "08"])?;
     let wanted = bytes(alloc, &[CONNECTED, ADDED, ENABLED])?;
     for count in 0..stream.len() {
-        // CONNECTED has 32 octets, ADDED and ENABLED 18 each; ADD has 62, and ENABLE 14.
-        let said = if count < 62 {
-            32
-        } else if count < 76 {
-            50
-        } else {
-            68
-        };
         let (front, _) = stream.as_slice().split_at(count);
-        let (end, written) = written_before(alloc, front)?;
-        assert!(rt; end == Err(ToolErr::Read), "{count}");
-        assert!(rt;
-            wanted.as_slice().starts_with(written.as_slice()),
-            "{count}"
-        );
-        assert!(rt; written.len() == said, "{count}");
+        let stops = stops_behind(alloc, front, wanted.as_slice(), said_after(count));
+        assert!(rt; stops == Ok(true));
     }
     Ok(())
 }
 
-/// Serving these bytes ends with the write that fails after so many, and what was written is a front of
-/// what is to be said.
-fn stops_after(
-    rt: &impl Abort,
-    alloc: Global,
-    stream: &[u8],
-    wanted: &[u8],
-    left: usize,
-) -> Result<(), ToolErr> {
+/// Whether serving these bytes ends with the write that fails after so many, and what was written is a front
+/// of what is to be said.
+fn stops_after(alloc: Global, stream: &[u8], wanted: &[u8], left: usize) -> Result<bool, ToolErr> {
     let script = Script::parse(alloc, b"")?;
     let mut source = Input::new(stream);
     let mut sink = Failing::after(alloc, left);
     let core = Reader::new(alloc, 65_536, 1);
     let end = run_serve(alloc, core, script, &mut source, &mut sink);
-    assert!(rt; end == Err(ToolErr::Write), "{left}");
-    assert!(rt; wanted.starts_with(sink.taken()), "{left}");
-    assert!(rt; sink.taken().len() == left, "{left}");
-    Ok(())
+    Ok(end == Err(ToolErr::Write) && is_front(sink.taken(), wanted, left))
 }
 
 #[test]
@@ -106,7 +102,8 @@ fn a_write_that_fails_stops_serving(rt: HostRuntime) -> Result<(), Fail> {
     let stream = bytes(alloc, &[ADD, ENABLE])?;
     let wanted = bytes(alloc, &[CONNECTED, ADDED, ENABLED])?;
     for left in 0..68 {
-        stops_after(&rt, alloc, stream.as_slice(), wanted.as_slice(), left)?;
+        let stops = stops_after(alloc, stream.as_slice(), wanted.as_slice(), left);
+        assert!(rt; stops == Ok(true));
     }
     Ok(())
 }

@@ -2,6 +2,7 @@
 
 use crate::vectors::bytes;
 use llrp_tool::{Input, Output, Source, ToolErr, Verdict, run_show};
+use std::alloc::Global;
 use std::io;
 use std::test::*;
 
@@ -52,26 +53,27 @@ impl Source for Pieces<'_> {
     }
 }
 
+/// Whether a report that comes in such pieces is listed.
+fn is_listed(alloc: Global, report: &[u8], first: usize, later: usize) -> bool {
+    let mut source = Pieces {
+        rest: report,
+        first,
+        later,
+        reads: 0,
+        ends: 0,
+    };
+    let mut sink = Output::new(Vec::new(alloc));
+    let found = run_show(alloc, &mut source, &mut sink, 65_536);
+    let listing = sink.into_inner();
+    found == Ok(Verdict::Lawful) && listing.as_slice() == REPORT_LINES
+}
+
 #[test]
 fn report_cut_anywhere(rt: HostRuntime) -> Result<(), Fail> {
     let stream = bytes(rt.alloc(), REPORT)?;
     for first in 1..27usize {
-        for later in [1usize, 4096] {
-            let mut source = Pieces {
-                rest: stream.as_slice(),
-                first,
-                later,
-                reads: 0,
-                ends: 0,
-            };
-            let mut sink = Output::new(Vec::new(rt.alloc()));
-            let found = run_show(rt.alloc(), &mut source, &mut sink, 65_536);
-            assert!(rt; found == Ok(Verdict::Lawful), "{first} {later}");
-            assert!(rt;
-                sink.into_inner().as_slice() == REPORT_LINES,
-                "{first} {later}"
-            );
-        }
+        assert!(rt; is_listed(rt.alloc(), stream.as_slice(), first, 1));
+        assert!(rt; is_listed(rt.alloc(), stream.as_slice(), first, 4096));
     }
     Ok(())
 }
@@ -87,17 +89,28 @@ fn over_limit_then_keepalive(rt: HostRuntime) -> Result<(), Fail> {
     Ok(())
 }
 
+/// Appends the bytes of digits so many times.
+fn append(alloc: Global, stream: &mut Vec<u8>, digits: &str, times: u32) -> Result<(), ToolErr> {
+    let piece = bytes(alloc, digits)?;
+    for _ in 0..times {
+        stream.extend_from_slice(piece.as_slice())?;
+    }
+    Ok(())
+}
+
+/// A report of 3,854 tags, the last 4 of them with a signal strength.
+fn long_report(alloc: Global) -> Result<Vec<u8>, ToolErr> {
+    let mut stream = bytes(alloc, "043D0001000000000001")?;
+    let tag = "00F00011 8D3074257BF7194E4000001A85";
+    append(alloc, &mut stream, tag, 3_850)?;
+    let loud = "00F00013 8D3074257BF7194E4000001A85 86C4";
+    append(alloc, &mut stream, loud, 4)?;
+    Ok(stream)
+}
+
 #[test]
 fn largest_report(rt: HostRuntime) -> Result<(), Fail> {
-    let mut stream = bytes(rt.alloc(), "043D0001000000000001")?;
-    let tag = bytes(rt.alloc(), "00F00011 8D3074257BF7194E4000001A85")?;
-    for _ in 0..3_850u32 {
-        stream.extend_from_slice(tag.as_slice())?;
-    }
-    let loud = bytes(rt.alloc(), "00F00013 8D3074257BF7194E4000001A85 86C4")?;
-    for _ in 0..4u32 {
-        stream.extend_from_slice(loud.as_slice())?;
-    }
+    let stream = long_report(rt.alloc())?;
     assert!(rt; stream.len() == 65_536);
     let (verdict, text) = shown(&rt, stream.as_slice())?;
     assert!(rt; verdict == Verdict::Lawful);

@@ -1,8 +1,7 @@
 //! Conformance vectors: streams as hexadecimal digits, and the listing of each.
 
-use llrp_tool::{Input, Output, Verdict, bytes_of_hex, run_encode, run_show};
+use llrp_tool::{Input, Output, ToolErr, Verdict, bytes_of_hex, run_encode, run_show};
 use std::alloc::Global;
-use std::process::Abort;
 use std::test::*;
 
 /// A stream and its listing.
@@ -336,77 +335,101 @@ static FAULTY: [Vector; 31] = [
 ];
 
 /// The bytes that hexadecimal digits spell.
-pub fn bytes(alloc: Global, digits: &str) -> Result<Vec<u8>, Fail> {
-    match bytes_of_hex(alloc, digits.as_bytes()) {
-        Ok(bytes) => Ok(bytes),
-        Err(error) => Err(Fail::from(error)),
-    }
+pub fn bytes(alloc: Global, digits: &str) -> Result<Vec<u8>, ToolErr> {
+    bytes_of_hex(alloc, digits.as_bytes())
 }
 
-/// A stream is listed, with this verdict.
-fn lists(
-    rt: &(impl Abort + AllocGlobal),
-    name: &str,
-    stream: &[u8],
-    listing: &[u8],
-    verdict: Verdict,
-) {
+/// Whether a stream is listed, with this verdict.
+fn is_listed(alloc: Global, stream: &[u8], listing: &[u8], verdict: Verdict) -> bool {
     let mut source = Input::new(stream);
-    let mut sink = Output::new(Vec::new(rt.alloc()));
-    let found = run_show(rt.alloc(), &mut source, &mut sink, 65_536);
-    assert!(rt; found == Ok(verdict), "{name}");
-    assert!(rt; sink.into_inner().as_slice() == listing, "{name}");
+    let mut sink = Output::new(Vec::new(alloc));
+    let found = run_show(alloc, &mut source, &mut sink, 65_536);
+    let written = sink.into_inner();
+    found == Ok(verdict) && written.as_slice() == listing
 }
 
-/// Each of these streams is listed, with this verdict.
-fn list(rt: &(impl Abort + AllocGlobal), vectors: &[Vector], verdict: Verdict) -> Result<(), Fail> {
-    for vector in vectors {
-        let stream = bytes(rt.alloc(), vector.stream)?;
-        let listing = vector.listing.as_bytes();
-        lists(rt, vector.name, stream.as_slice(), listing, verdict);
-    }
-    Ok(())
+/// Whether the stream of a vector is listed, with this verdict.
+fn lists(alloc: Global, vector: &Vector, verdict: Verdict) -> Result<bool, ToolErr> {
+    let stream = bytes(alloc, vector.stream)?;
+    let listing = vector.listing.as_bytes();
+    Ok(is_listed(alloc, stream.as_slice(), listing, verdict))
 }
 
 #[test]
-fn lawful_streams_with_ample_memory(rt: HostRuntime) -> Result<(), Fail> {
-    list(&rt, &LAWFUL, Verdict::Lawful)
-}
-
-#[test]
-fn faulty_streams(rt: HostRuntime) -> Result<(), Fail> {
-    list(&rt, &FAULTY, Verdict::Faulty)
-}
-
-#[test]
-fn words_in_reports(rt: HostRuntime) -> Result<(), Fail> {
-    for (name, word, text) in WORDS.iter() {
-        let mut stream = bytes(rt.alloc(), "043D0000001B00000001 00F00011 8D")?;
-        stream.extend_from_slice(bytes(rt.alloc(), word)?.as_slice())?;
-        let listing = format!(in rt.alloc();
-            "0 RO_ACCESS_REPORT 1 1\n1 TagReportData\n2 EPC-96 {text}\n"
-        )?;
-        lists(
-            &rt,
-            name,
-            stream.as_slice(),
-            listing.as_bytes(),
-            Verdict::Lawful,
+fn lawful_streams_with_ample_memory(rt: HostRuntime) {
+    for vector in &LAWFUL {
+        assert!(rt;
+            lists(rt.alloc(), vector, Verdict::Lawful) == Ok(true),
+            "{}",
+            vector.name
         );
     }
-    Ok(())
 }
 
 #[test]
-fn lawful_listings_back(rt: HostRuntime) -> Result<(), Fail> {
-    for vector in LAWFUL.iter() {
-        let stream = bytes(rt.alloc(), vector.stream)?;
-        let mut source = Input::new(vector.listing.as_bytes());
-        let mut sink = Output::new(Vec::new(rt.alloc()));
-        let done = run_encode(rt.alloc(), &mut source, &mut sink, 65_536);
-        let name = vector.name;
-        assert!(rt; done == Ok(()), "{name}");
-        assert!(rt; sink.into_inner().as_slice() == stream.as_slice(), "{name}");
+fn faulty_streams(rt: HostRuntime) {
+    for vector in &FAULTY {
+        assert!(rt;
+            lists(rt.alloc(), vector, Verdict::Faulty) == Ok(true),
+            "{}",
+            vector.name
+        );
     }
-    Ok(())
+}
+
+/// The stream of a report of one word.
+fn report_of(alloc: Global, word: &str) -> Result<Vec<u8>, ToolErr> {
+    let mut digits = Vec::from_slice(alloc, b"043D0000001B00000001 00F00011 8D")?;
+    digits.extend_from_slice(word.as_bytes())?;
+    bytes_of_hex(alloc, digits.as_slice())
+}
+
+/// The listing of a report of one word, whose text this is.
+fn listing_of(alloc: Global, text: &str) -> Result<Vec<u8>, ToolErr> {
+    let front = b"0 RO_ACCESS_REPORT 1 1\n1 TagReportData\n2 EPC-96 ";
+    let mut listing = Vec::from_slice(alloc, front)?;
+    listing.extend_from_slice(text.as_bytes())?;
+    listing.push(b'\n')?;
+    Ok(listing)
+}
+
+/// Whether a report of a word is listed with this text.
+fn reports(alloc: Global, word: &str, text: &str) -> Result<bool, ToolErr> {
+    let stream = report_of(alloc, word)?;
+    let listing = listing_of(alloc, text)?;
+    Ok(is_listed(
+        alloc,
+        stream.as_slice(),
+        listing.as_slice(),
+        Verdict::Lawful,
+    ))
+}
+
+#[test]
+fn words_in_reports(rt: HostRuntime) {
+    for (name, word, text) in &WORDS {
+        assert!(rt; reports(rt.alloc(), word, text) == Ok(true), "{name}");
+    }
+}
+
+/// Whether a listing is encoded to these bytes.
+fn is_encoded(alloc: Global, listing: &[u8], stream: &[u8]) -> bool {
+    let mut source = Input::new(listing);
+    let mut sink = Output::new(Vec::new(alloc));
+    let done = run_encode(alloc, &mut source, &mut sink, 65_536);
+    let written = sink.into_inner();
+    done == Ok(()) && written.as_slice() == stream
+}
+
+/// Whether the listing of a vector is encoded to its stream.
+fn encodes(alloc: Global, vector: &Vector) -> Result<bool, ToolErr> {
+    let stream = bytes(alloc, vector.stream)?;
+    Ok(is_encoded(alloc, vector.listing.as_bytes(), stream.as_slice()))
+}
+
+#[test]
+fn lawful_listings_back(rt: HostRuntime) {
+    for vector in &LAWFUL {
+        assert!(rt; encodes(rt.alloc(), vector) == Ok(true), "{}", vector.name);
+    }
 }
