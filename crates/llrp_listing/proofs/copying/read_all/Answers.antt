@@ -1,4 +1,5 @@
 use Rattle.std.proofs.Common.{◌≡◌, [], ◌+◌, ◌++◌, List, ℕ, take, sym, subst, arith}
+use Rattle.std.proofs.lemmas.Grind.{common_steps}
 use Rattle.std.proofs.lemmas.List.{length-take}
 use Rattle.std.proofs.lemmas.Result.{err_from_is_err_and}
 use Rattle.llrp_stream.specs.Device.{Gave, Took}
@@ -29,3 +30,6 @@ pub returns-clause-err : goal.returns-clause-err
 returns-clause-err g c =
     let all : c.loop.counter ≡ MOST_READS = omega arith in
     (c.loop.all.items, subst (λ (n : ℕ). Gave (g.R.Source.log c.args.r.now) (g.R.Source.log c.loop.r) n c.loop.all.items) all c.loop.invariant)
+
+pub loop-preserved : goal.loop-preserved
+loop-preserved c = grind (arith, common_steps)

@@ -1,4 +1,4 @@
-use Rattle.std.proofs.Common.{◌-◌, arith}
+use Rattle.std.proofs.Common.{rules, ◌-◌, arith}
 use Rattle.tag_epc.specs.declared.check.Number.TheVariants.{Company, Reference, Last}
 use Rattle.tag_epc.proofs.EpcFields.{placed, epc_unfit, epc_lawful}
 use Rattle.tag_epc.proofs.check.checked.Goals as goal
@@ -22,3 +22,6 @@ pub returns-in-None-clause-lawful : goal.returns-in-None-clause-lawful
 returns-in-None-clause-lawful g c =
     let at = placed c.args.kind g.S.Scheme.layout c.in-Some.row c.args.filter (12 - c.args.company_digits) c.row.result c.requires g.met.S.Scheme.sound c.row.ensures c.in-Some.is (omega arith) in
     epc_lawful c.args.kind g.S.Scheme.layout c.in-Some.row c.args.filter (12 - c.args.company_digits) c.args.company_digits c.args.company c.args.reference c.args.last at (omega arith) c.in-None.ensures
+
+pub returns-then-company_digits-lt6-clause-err : goal.returns-then-company_digits-lt6-clause-err
+returns-then-company_digits-lt6-clause-err c = search rules

@@ -1,4 +1,4 @@
-use Rattle.std.proofs.Common.{arith, ap}
+use Rattle.std.proofs.Common.{rules, arith, ap}
 use Rattle.llrp_schema.specs.declared.kinds.Kind.TheVariants.{Parameter}
 use Rattle.llrp_tree.specs.Tree.{forest}
 use Rattle.llrp_tree.proofs.LawLemmas.{lawful_parts, range_length}
@@ -27,3 +27,6 @@ pub returns-in-None-clause-lawful : goal.returns-in-None-clause-lawful
 returns-in-None-clause-lawful c =
     let h = lawful_parts c.args.kind c.args.fields.now c.args.tail (forest c.args.children) c.as_slice-3.result.now (forest c.as_slice-4.result.now) c.as_slice-3.ensures.value (ap forest c.as_slice-4.ensures) c.as_slice-3.ensures.octets c.in-None.ensures in
     (rw c.kept.ensures h, rw c.as_slice.ensures at c.extent_of-extent.ensures.lawful)
+
+pub first_fault-requires-clause-few : goal.first_fault-requires-clause-few
+first_fault-requires-clause-few c = search rules

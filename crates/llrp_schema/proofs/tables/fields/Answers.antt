@@ -1,0 +1,6 @@
+use Rattle.std.proofs.Common.{rules}
+use Rattle.llrp_schema.proofs.tables.fields.Goals as goal
+
+pub returns : goal.returns
+unfolding Rattle.llrp_schema.specs.Schema.fields_of
+returns c = search rules

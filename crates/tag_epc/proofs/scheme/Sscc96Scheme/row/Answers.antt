@@ -1,0 +1,5 @@
+use Rattle.std.proofs.Common.{rules}
+use Rattle.tag_epc.proofs.scheme.Sscc96Scheme.row.Goals as goal
+
+pub returns : goal.returns
+returns c = search rules
