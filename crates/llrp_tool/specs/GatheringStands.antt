@@ -80,9 +80,9 @@ pub record IsOpen (limit : ℕ) (plan : Plan) (bytes rest : List ℕ) (course : 
   pub stands : StandsFor limit plan bytes rest course g
   pub phase : g.phase ≡ Open
 
--- the connection goes on
-abbrev pub GoesOn : Gathering → Type 0
-GoesOn g = g.phase ≡ Open
+-- the connection stands
+abbrev pub IsConnected : Gathering → Type 0
+IsConnected g = g.phase ≡ Open
 
 -- it was closed as planned
 abbrev pub IsClosed : Gathering → Type 0

@@ -62,7 +62,7 @@ impl Gathering {
     ghost use Rattle.std.specs.Prelude.{[], true};
     ghost use Rattle.llrp_tool.specs.declared.gathering.Phase.TheVariants.{Open};
     ghost use Rattle.llrp_tool.specs.Gathering.{after, after_item, begun, goes_on};
-    ghost use Rattle.llrp_tool.specs.GatheringStands.{Counts, Does, Feeds, GoesOn, HasFailed, Holds, IsClosed, IsLeftBy, IsOpen, KeepsOthers, StandsFor};
+    ghost use Rattle.llrp_tool.specs.GatheringStands.{Counts, Does, Feeds, HasFailed, Holds, IsClosed, IsConnected, IsLeftBy, IsOpen, KeepsOthers, StandsFor};
     ghost use Rattle.llrp_tool.specs.TagLines.{summary_of};
 
     /// A client that follows a plan from the beginning; its first message id is 1, and no frame is longer
@@ -255,12 +255,12 @@ impl Gathering {
     ) -> Result<bool, ToolErr>
         ensures feeds { (limit : ℕ) (plan : ThePlan) (bytes rest : List ℕ) (c : Course) → IsOpen limit plan bytes rest c self.old
             → Feeds limit plan (bytes ++ piece.now) c self.new out.old.items out.new.items report.old.items report.new.items result }
-        ensures phase { GoesOn self.old → IsLeftBy result self.new }
+        ensures phase { IsConnected self.old → IsLeftBy result self.new }
 
         // Once it ended, nothing changes.
         ensures closed { IsClosed self.old → (result ≡ Ok true) × (self.new ≡ self.old) }
         ensures failed { (error : Error) → HasFailed error self.old → (result ≡ Err error) × (self.new ≡ self.old) }
-        ensures unsent { (GoesOn self.old → ⊥) → (out.new.items ≡ out.old.items) × (report.new.items ≡ report.old.items) }
+        ensures unsent { (IsConnected self.old → ⊥) → (out.new.items ≡ out.old.items) × (report.new.items ≡ report.old.items) }
     {
         match self.phase {
             Phase::Open => {}
