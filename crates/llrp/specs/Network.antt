@@ -3,10 +3,10 @@ use Rattle.std.specs.Prelude.{◌≡◌, ℕ, ◌⊎◌, List, Option, Some, Non
 use Rattle.llrp_stream.specs.Device.{SourceLog, SinkLog, Wrote, WroteAndFailed}
 use Rattle.llrp_listing.specs.declared.fault.ToolErr.{ToolErr}
 use Rattle.llrp_listing.specs.declared.fault.ToolErr.TheVariants.{Listing, Script, Hex, Read, Write, Bound, Broken, Memory, Peer, Strange, Early}
-use Rattle.llrp_tool.specs.declared.script.Entry.{Entry}
+use Rattle.llrp_endpoints.specs.declared.script.Entry.{Entry}
 use Rattle.llrp_tool.specs.Command.{Answers, fine_status}
 use Rattle.llrp_listing.specs.Copying.{IsPrefix, ReadAll, ReadStopped}
-use Rattle.llrp_tool.specs.Script.{IsScript, ParseStopped}
+use Rattle.llrp_endpoints.specs.Script.{IsScript, ParseStopped}
 
 -- What reading a script answers: the entries of all that the source gave, or why there are none.
 abbrev pub ReadsScript : SourceLog → SourceLog → Result (List Entry) ToolErr → Type 0

@@ -1,106 +1,20 @@
-//! What holds of every listing, and of what `epc` prints, is in the layer below and handed on. Here is what holds of every script, of every serving, and of every client that follows a plan.
+//! What holds of the parse of the words. What holds of every listing, of what `epc` prints, and of both ends of a connection is
+//! in the layers below and handed on.
 
-ghost use Rattle.std.specs.Prelude.{List, Some, codes, true, ◌<◌, ◌≡◌, ◌≤◌, ◌^◌, ℕ};
-ghost use Rattle.llrp_tree.specs.declared.TheConstants.{MAX_LIMIT};
-ghost use Rattle.llrp_tree.specs.Lawful.{AreOctets};
-ghost use Rattle.llrp_session.specs.ReaderMachine.{Reader};
-ghost use Rattle.llrp_stream.specs.declared.item.Item.{Item};
-ghost use Rattle.llrp_tool.specs.EndsAgree.{AfterAllBytes, GoesOn, IsARunOfMessages, NothingIsUnexpected, ViewCatchesUp, ViewIsTable, ReportsArrive, ReportsAreKept, PendingIsOnTheWay, NothingIsPending};
-ghost use Rattle.llrp_session.specs.MessageAgreement.{ReaderHasHistory, OneActive};
-ghost use Rattle.llrp_tool.specs.Plan.{Plan};
-ghost use Rattle.llrp_tool.specs.PlanLaws.{course_of, TakesEachCommand, StrangeIsTheReaders, HasOneCourse, CoursesGoOn, SendsInOrder, EndsMean, SendsOneByOne, SendsWhereAwaited, CanEnd};
-ghost use Rattle.llrp_tool.specs.Script.{IsLawful, IsScript};
-ghost use Rattle.llrp_tool.specs.ScriptLaws.{ScriptOrRefused};
-ghost use Rattle.llrp_tool.specs.ServingLaws.{FramesReadBack, IsServedInOneWay, OneTextOfFrames, SaysWithinLimit};
-ghost use Rattle.llrp_tool.specs.declared.script.Entry.{Entry};
+ghost use Rattle.std.specs.Prelude.{List, Some, codes, true, ◌≡◌, ℕ};
 ghost use Rattle.llrp_tool.specs.Words.{AsksEpc, command_in, name_in, parses};
 
+pub use llrp_endpoints::laws::{
+    course_is_determined, ends_agree, frames_read_back, one_script, one_serving,
+    one_text_of_frames, plan_ends, plan_is_never_refused, plan_sends_its_commands,
+    script_or_refused, served_within_limit,
+};
 pub use llrp_listing::laws::{
     lines_are_short, listed_or_refused, one_epc_answer, one_text_of_items, one_text_of_messages,
     prints_back,
 };
 
-/// Lawful entries have exactly one script, and a text is the script of one list of entries at most.
-pub fn one_script()
-    ensures is { (entries : List Entry) → IsLawful entries → (text : List ℕ) × IsScript entries text }
-    ensures one_text { (entries : List Entry) (s t : List ℕ) → IsScript entries s → IsScript entries t → s ≡ t }
-    ensures one_list { (a b : List Entry) (text : List ℕ) → IsScript a text → IsScript b text → a ≡ b }
-{}
-
-/// A text is a script or has exactly one first refused line, and never both.
-pub fn script_or_refused()
-    ensures { (text : List ℕ) → ScriptOrRefused text }
-{}
-
 /// Where the parse of the words succeeds and names epc, its text is there.
 pub fn epc_has_text()
     ensures { (words : List (List ℕ)) → parses words ≡ true → name_in (command_in words) ≡ Some (codes "epc") → (text : List ℕ) × AsksEpc words text }
-{}
-
-/// Given a reader, a script and a client's bytes, serving says one list of messages and stands in one way.
-#[tactic(auto, using(crate::proofs::OneServing::served_in_one_way))]
-pub fn one_serving()
-    ensures { (reader : Reader) (entries : List Entry) (bytes : List ℕ) → reader.limit ≤ MAX_LIMIT → AreOctets bytes → IsServedInOneWay reader entries bytes }
-{}
-
-/// Messages have one list of frames, so the bytes that serving sends are determined with its messages.
-pub fn one_text_of_frames()
-    ensures { OneTextOfFrames }
-{}
-
-/// The frames of messages that may be sent at a limit are read, at that limit, as these messages.
-pub fn frames_read_back()
-    ensures { FramesReadBack }
-{}
-
-/// What serving says is lawful, and no message is longer than the reader's own limit.
-pub fn served_within_limit()
-    ensures { SaysWithinLimit }
-{}
-
-/// Whatever a reader sends, a client that follows a plan takes each of its commands, and ends as Strange exactly where
-/// the reader sent what it did not expect, or a frame with a fault other than a type that no kind has.
-pub fn plan_is_never_refused()
-    ensures each_command_is_taken { (limit : ℕ) (plan : Plan) → 4096 ≤ limit → plan.polls < 2 ^ 16 → TakesEachCommand limit plan }
-    ensures strange_is_the_readers { (limit : ℕ) (plan : Plan) → 4096 ≤ limit → plan.polls < 2 ^ 16 → StrangeIsTheReaders limit plan }
-{}
-
-/// Bytes have one course of all their whole frames; as more bytes come, what was sent and reported stands, and an end
-/// stays.
-pub fn course_is_determined()
-    ensures one_course { (limit : ℕ) (plan : Plan) (bytes : List ℕ) → limit ≤ MAX_LIMIT → AreOctets bytes → HasOneCourse limit plan bytes }
-    ensures goes_on { (limit : ℕ) (plan : Plan) → CoursesGoOn limit plan }
-{}
-
-/// A client that follows a plan sends its commands in order, with ids from 1 on, each at the message that is awaited for
-/// it, and wherever such a message comes: the first at the connection, one behind GET_REPORT at a report that comes after
-/// that, any other at the response to the command before.
-pub fn plan_sends_its_commands()
-    ensures in_order { (limit : ℕ) (plan : Plan) (items : List Item) → SendsInOrder plan (course_of limit plan items) }
-    ensures one_by_one { (limit : ℕ) (plan : Plan) → SendsOneByOne limit plan }
-    ensures where_awaited { (limit : ℕ) (plan : Plan) → 4096 ≤ limit → plan.polls < 2 ^ 16 → SendsWhereAwaited limit plan }
-{}
-
-/// Where a client that follows a plan comes to its fine end, all commands were sent and there was a report for each poll;
-/// where it is Early a command is left; either came of a message that ends the connection, and Peer of one that tells
-/// that status. Each plan can come to its fine end.
-pub fn plan_ends()
-    ensures mean { (limit : ℕ) (plan : Plan) (items : List Item) → EndsMean limit plan items }
-    ensures can_end { (limit : ℕ) (plan : Plan) → 4096 ≤ limit → plan.polls < 2 ^ 16 → CanEnd limit plan }
-{}
-
-/// Whatever happens to a client and a reader, and in whatever pieces each reads the other's bytes, the two ends agree: no frame
-/// that is read has a fault, and what holds over whole messages holds of the messages that the bytes spell.
-pub fn ends_agree()
-    ensures goes_on { GoesOn }
-    ensures is_a_run_of_messages { IsARunOfMessages }
-    ensures view_catches_up { ViewCatchesUp }
-    ensures view_is_table { AfterAllBytes ViewIsTable }
-    ensures reports_arrive { AfterAllBytes ReportsArrive }
-    ensures reports_are_kept { AfterAllBytes ReportsAreKept }
-    ensures reader_has_history { AfterAllBytes (λ w. ReaderHasHistory w.ends) }
-    ensures one_active { AfterAllBytes (λ w. OneActive w.ends) }
-    ensures nothing_is_unexpected { NothingIsUnexpected }
-    ensures pending_is_on_the_way { AfterAllBytes PendingIsOnTheWay }
-    ensures nothing_is_pending { AfterAllBytes NothingIsPending }
 {}

@@ -1,0 +1,212 @@
+-- A message that is awaited leads on to the next command.
+use Rattle.std.proofs.Common.{◌≡◌, ℕ, ◌+◌, ◌^◌, ◌<◌, ◌≤◌, ◌==◌, Bool, true, false, cond, List, [], ◌∷◌, ◌++◌, length, refl, sym, ap, subst, ◌∙◌, inl, inr, arith}
+use Rattle.std.specs.Prelude.{◌≢◌, ◌&&◌, Option, None, Some, Ok}
+use Rattle.std.proofs.lemmas.Bool.{eq-eqb}
+use Rattle.std.proofs.lemmas.List.{length-append}
+use Rattle.llrp_tree.specs.Tree.{Tree, MessageTree}
+use Rattle.llrp_stream.specs.declared.item.Item.TheVariants.{Msg}
+use Rattle.llrp_session.specs.declared.words.ClientPhase.{ClientPhase}
+use Rattle.llrp_session.specs.declared.words.ClientPhase.TheVariants.{Fresh, Ready}
+use Rattle.llrp_session.specs.declared.words.Command.{Command}
+use Rattle.llrp_session.specs.declared.words.Command.TheVariants.{Add, Delete, Start, Stop, Enable, Disable, SetKeepalive, GetReport, Close}
+use Rattle.llrp_session.specs.declared.words.Operation.{Operation}
+use Rattle.llrp_session.specs.declared.words.Operation.TheVariants.{Adding, Deleting, Starting, Stopping, Enabling, Disabling, Configuring, Closing}
+use Rattle.llrp_session.specs.declared.words.Pending.{Pending}
+use Rattle.llrp_session.specs.declared.words.Taken.TheVariants.{Connected, Reply, Tags}
+use Rattle.llrp_session.specs.Words.{Asks, ClientMessage, Heard, HeardResponse, HeardError, HeardReport}
+use Rattle.llrp_session.specs.ClientMachine.{Client, Taking, take, take_in, take_ready, take_response, answered, failed, attempted, takes, unexpected, granted, cleared, awaited, is_response_to}
+use Rattle.llrp_session.specs.Reading.{heard_of}
+use Rattle.llrp_session.proofs.Following.{LeavesOpen}
+use Rattle.llrp_endpoints.specs.declared.gathering.Awaits.{Awaits}
+use Rattle.llrp_endpoints.specs.declared.gathering.Awaits.TheVariants.{Report}
+use Rattle.llrp_endpoints.specs.declared.gathering.Phase.{Phase}
+use Rattle.llrp_endpoints.specs.declared.gathering.Phase.TheVariants.{Open}
+use Rattle.llrp_endpoints.specs.Plan.{Plan, commands}
+use Rattle.llrp_endpoints.specs.Gathering.{Course, begun, awaited_after, after_item, goes}
+use Rattle.llrp_endpoints.specs.PlanLaws.{course_of, asked, numbered, SendsInOrder, Accepts, Answers, IsAwaitedAfter, SendsOne, SendsWhereAwaited, LeadsOn}
+use Rattle.llrp_endpoints.proofs.PlanCommands.{last_closes, length-numbered, numbered-last, same_last}
+use Rattle.llrp_endpoints.proofs.PlanSteps.{Standing, StandsIn, order_in}
+use Rattle.llrp_endpoints.proofs.PlanFollowing.{Steps, item_so, stands_so, follow-append}
+use Rattle.llrp_endpoints.proofs.PlanLeads.{Led, led, is_granted}
+
+-- ---- how many were sent
+
+how_many : (plan : Plan) (c : Course) (s : SendsInOrder plan c) → length (asked c) ≡ length s.first
+how_many plan c s = ap (λ (ms : List ClientMessage). length ms) s.sent_are ∙ length-numbered 1 s.first
+
+-- ---- what the client takes it for
+
+-- the client takes it, and it leads on
+abbrev Leads : Client → Awaits → ℕ → Heard → Type 0
+Leads client awaits id h = (t : Taking) × (take client id h ≡ Ok t) × LeadsOn t.taken awaits
+
+joins : (d : Client) (awaits : Awaits) (id : ℕ) (h : Heard) → d.phase ≡ Fresh → Accepts h → Leads d awaits id h
+unfolding take
+joins d awaits id h fresh (n, is, accepts) =
+    let t : Taking = record { taken = Connected; sent = []; client = record d { phase = Ready } } in
+    (t, ap (λ (p : ClientPhase). take_in p d id h) fresh ∙ ap (λ (x : Heard). take_in Fresh d id x) is ∙ ap (attempted d) accepts, tt)
+
+reports : (d : Client) (awaits : Awaits) (id : ℕ) (h : Heard) (tags : List Tree) → d.phase ≡ Ready → awaits ≡ Report → h ≡ HeardReport tags → Leads d awaits id h
+unfolding take
+reports d awaits id h tags ready w is =
+    let t : Taking = record { taken = Tags tags; sent = []; client = d } in
+    (t, ap (λ (p : ClientPhase). take_in p d id h) ready ∙ ap (take_ready d id) is, w)
+
+responds : (d : Client) (awaits : Awaits) (p : Pending) (id : ℕ) (h : Heard) (operation : Operation) → d.phase ≡ Ready → d.pending ≡ Some p → h ≡ HeardResponse operation 0 → is_response_to p id operation ≡ true → LeavesOpen operation
+    → Leads d awaits id h
+unfolding take
+responds d awaits p id h operation ready waits is same still =
+    let t : Taking = record { taken = Reply 0; sent = []; client = record d { pending = None; view = granted p.operation p.rospec d.view } } in (
+      t,
+      ap (λ (x : ClientPhase). take_in x d id h) ready
+          ∙ ap (take_ready d id) is
+          ∙ ap (λ (o : Option Pending). answered o d id operation 0) waits
+          ∙ ap (λ (b : Bool). cond b (take_response operation d p 0) unexpected) same
+          ∙ is_granted operation d p still,
+      refl,
+    )
+
+fails : (d : Client) (awaits : Awaits) (p : Pending) (id : ℕ) (h : Heard) → d.phase ≡ Ready → d.pending ≡ Some p → h ≡ HeardError 0 → id ≡ p.id → Leads d awaits id h
+unfolding take
+fails d awaits p id h ready waits is same =
+    let t : Taking = record { taken = Reply 0; sent = []; client = cleared d } in (
+      t,
+      ap (λ (x : ClientPhase). take_in x d id h) ready
+          ∙ ap (take_ready d id) is
+          ∙ ap (λ (o : Option Pending). failed o d id 0) waits
+          ∙ ap (λ (b : Bool). cond b (takes (Reply 0) (cleared d)) unexpected) (eq-eqb p.id id (sym same)),
+      refl,
+    )
+
+-- ---- only CLOSE_CONNECTION has its response
+
+and_false : (b : Bool) → (b && false) ≡ true → ⊥
+and_false true e = cc
+and_false false e = cc
+
+other_kind : (operation : Operation) (n id rospec : ℕ) → LeavesOpen operation → is_response_to (record { id = n; operation = operation; rospec = rospec }) id Closing ≡ true → ⊥
+other_kind Adding n id rospec still r = and_false (n == id) r
+other_kind Deleting n id rospec still r = and_false (n == id) r
+other_kind Starting n id rospec still r = and_false (n == id) r
+other_kind Stopping n id rospec still r = and_false (n == id) r
+other_kind Enabling n id rospec still r = and_false (n == id) r
+other_kind Disabling n id rospec still r = and_false (n == id) r
+other_kind Configuring n id rospec still r = and_false (n == id) r
+other_kind Closing n id rospec still r = absurd still
+
+not_closing : (n : ℕ) (operation : Operation) (rospec id : ℕ) (p : Pending) → LeavesOpen operation → Some (record { id = n; operation = operation; rospec = rospec }) ≡ Some p → is_response_to p id Closing ≡ true → ⊥
+not_closing n operation rospec id p still e r =
+    let own : Pending = record { id = n; operation = operation; rospec = rospec } in
+    let same : p ≡ own = cc in
+    other_kind operation n id rospec still (subst (λ (x : Pending). is_response_to x id Closing ≡ true) same r)
+
+not_awaited : (k : Command) (n id : ℕ) (p : Pending) → awaited n k ≡ Some p → k ≢ Close → is_response_to p id Closing ≡ true → ⊥
+not_awaited (Add spec) n id p e still r = not_closing n Adding _ id p tt e r
+not_awaited (Delete rospec) n id p e still r = not_closing n Deleting rospec id p tt e r
+not_awaited (Start rospec) n id p e still r = not_closing n Starting rospec id p tt e r
+not_awaited (Stop rospec) n id p e still r = not_closing n Stopping rospec id p tt e r
+not_awaited (Enable rospec) n id p e still r = not_closing n Enabling rospec id p tt e r
+not_awaited (Disable rospec) n id p e still r = not_closing n Disabling rospec id p tt e r
+not_awaited (SetKeepalive ms) n id p e still r = not_closing n Configuring 0 id p tt e r
+not_awaited GetReport n id p e still r = cc
+not_awaited Close n id p e still r = absurd (still refl)
+
+leaves_open : (operation : Operation) (k : Command) (n id : ℕ) (p : Pending) → awaited n k ≡ Some p → k ≢ Close → is_response_to p id operation ≡ true → LeavesOpen operation
+leaves_open Adding k n id p e still r = tt
+leaves_open Deleting k n id p e still r = tt
+leaves_open Starting k n id p e still r = tt
+leaves_open Stopping k n id p e still r = tt
+leaves_open Enabling k n id p e still r = tt
+leaves_open Disabling k n id p e still r = tt
+leaves_open Configuring k n id p e still r = tt
+leaves_open Closing k n id p e still r = absurd (not_awaited k n id p e still r)
+
+polls : (k : Command) (n : ℕ) → awaited n k ≡ None → awaited_after k ≡ Report
+polls GetReport n e = refl
+polls (Add spec) n e = cc
+polls (Delete id) n e = cc
+polls (Start id) n e = cc
+polls (Stop id) n e = cc
+polls (Enable id) n e = cc
+polls (Disable id) n e = cc
+polls (SetKeepalive ms) n e = cc
+polls Close n e = cc
+
+-- ---- what is awaited
+
+answered_so : (o : Option Pending) (d : Client) (awaits : Awaits) (n : ℕ) (k : Command) (id : ℕ) (h : Heard) → d.phase ≡ Ready → d.pending ≡ o → awaited n k ≡ o → awaits ≡ awaited_after k → k ≢ Close → Answers o id h → Leads d awaits id h
+answered_so None d awaits n k id h ready waits e w still (tags, is) = reports d awaits id h tags ready (w ∙ polls k n e) is
+answered_so (Some p) d awaits n k id h ready waits e w still (inl r) = responds d awaits p id h r.0 ready waits r.1 r.2 (leaves_open r.0 k n id p e still r.2)
+answered_so (Some p) d awaits n k id h ready waits e w still (inr r) = fails d awaits p id h ready waits r.0 r.1
+
+more_than_none : (first before : List Command) (k : Command) → first ≡ before ++ k ∷ [] → length first ≡ 0 → ⊥
+more_than_none first before k e none = absurd (omega (arith, ap (λ (ks : List Command). length ks) e, length-append before (k ∷ [])))
+
+at_first : (limit : ℕ) (plan : Plan) (c : Course) (id : ℕ) (h : Heard) → Standing limit plan c → asked c ≡ [] → Accepts h → Leads c.client c.awaits id h
+at_first limit plan c id h s none accepts =
+    elim (s.at) as (λ x. Leads c.client c.awaits id h) [
+      | inl b ↦ joins c.client c.awaits id h b.fresh accepts
+      | inr w ↦ absurd (more_than_none s.order.first w.last.before w.last.k w.last.parts (sym (how_many plan c s.order) ∙ ap (λ (ms : List ClientMessage). length ms) none))
+    ]
+
+not_none : (ms : List ClientMessage) (m : ClientMessage) → length (ms ++ m ∷ []) ≡ 0 → ⊥
+not_none ms m e = absurd (omega (arith, e, length-append ms (m ∷ [])))
+
+at_last : (limit : ℕ) (plan : Plan) (c : Course) (id : ℕ) (h : Heard) (before : List ClientMessage) (number : ℕ) (k : Command) → Standing limit plan c → c.left ≢ [] → asked c ≡ before ++ record { id = number; word = Asks k } ∷ []
+    → Answers (awaited number k) id h → Leads c.client c.awaits id h
+at_last limit plan c id h before number k s left done a =
+    let m : ClientMessage = record { id = number; word = Asks k } in
+    elim (s.at) as (λ x. Leads c.client c.awaits id h) [
+      | inl b ↦ absurd (not_none before m (ap (λ (ms : List ClientMessage). length ms) (sym done) ∙ how_many plan c s.order ∙ ap (λ (ks : List Command). length ks) b.none))
+      | inr w ↦
+          let own : ClientMessage = record { id = 1 + length w.last.before; word = Asks w.last.k } in
+          let same : m ≡ own = same_last before (numbered 1 w.last.before) m own (sym done ∙ s.order.sent_are ∙ ap (numbered 1) w.last.parts ∙ numbered-last 1 w.last.before w.last.k) in
+          let word : Asks k ≡ Asks w.last.k = ap (λ (x : ClientMessage). x.word) same in
+          let command_is : k ≡ w.last.k = cc in
+          let long : number ≡ length s.order.first = ap (λ (x : ClientMessage). x.id) same ∙ omega (arith, length-append w.last.before (w.last.k ∷ []), ap (λ (ks : List Command). length ks) w.last.parts) in
+          let answers : Answers (awaited (length s.order.first) w.last.k) id h = subst (λ (x : Command). Answers (awaited (length s.order.first) x) id h) command_is (subst (λ (x : ℕ). Answers (awaited x k) id h) long a) in
+          elim (w.pending) as (λ x. Leads c.client c.awaits id h) [
+            | inr p ↦ absurd (left p.1)
+            | inl p ↦
+                let still : w.last.k ≢ Close = λ e. left (last_closes plan w.last.before c.left (s.order.parts ∙ ap (λ (ks : List Command). ks ++ c.left) (w.last.parts ∙ ap (λ (x : Command). w.last.before ++ x ∷ []) e))) in
+                answered_so (awaited (length s.order.first) w.last.k) c.client c.awaits (length s.order.first) w.last.k id h w.ready p refl w.last.awaits still answers
+          ]
+    ]
+
+leads_if_awaited : (limit : ℕ) (plan : Plan) (c : Course) (id : ℕ) (h : Heard) → Standing limit plan c → c.left ≢ [] → IsAwaitedAfter (asked c) id h → Leads c.client c.awaits id h
+leads_if_awaited limit plan c id h s left (inl first) = at_first limit plan c id h s first.0 first.1
+leads_if_awaited limit plan c id h s left (inr last) = at_last limit plan c id h last.before last.number last.k s left last.parts last.answers
+
+-- ---- it is sent
+
+-- where less is left, more was sent
+not_same : (plan : Plan) (c d : Course) (k : Command) (later : List Command) → SendsInOrder plan c → SendsInOrder plan d → c.left ≡ k ∷ later → d.left ≡ later → asked d ≡ asked c → ⊥
+not_same plan c d k later p q l m same =
+    let many : length q.first ≡ length p.first = sym (how_many plan d q) ∙ ap (λ (ms : List ClientMessage). length ms) same ∙ how_many plan c p in
+    let own : length (commands plan) ≡ length p.first + length c.left = ap (λ (ks : List Command). length ks) p.parts ∙ length-append p.first c.left in
+    let new : length (commands plan) ≡ length q.first + length d.left = ap (λ (ks : List Command). length ks) q.parts ∙ length-append q.first d.left in
+    let more : length c.left ≡ length later + 1 = ap (λ (ks : List Command). length ks) l ∙ omega arith in
+    let less : length d.left ≡ length later = ap (λ (ks : List Command). length ks) m in
+    absurd (omega arith)
+
+sends_next : (left : List Command) (limit : ℕ) (plan : Plan) (c : Course) (m : MessageTree) → 4096 ≤ limit → plan.polls < 2 ^ 16 → Standing limit plan c → c.phase ≡ Open → c.left ≡ left → c.left ≢ [] → IsAwaitedAfter (asked c) m.id (heard_of m)
+    → SendsOne c (after_item (Msg m) c) (Msg m)
+sends_next [] limit plan c m least fits s opened l some due = absurd (some l)
+sends_next (k ∷ later) limit plan c m least fits s opened l some due =
+    let leads = leads_if_awaited limit plan c m.id (heard_of m) s some due in
+    let d : Course = after_item (Msg m) c in
+    let so : Led c leads.0.client k later d = led limit plan c m leads.0 k later least fits s opened (record { takes = leads.1; leads = leads.2 }) l in
+    let steps : Steps limit plan c d (Msg m) = item_so limit plan c (Msg m) s opened in
+    elim (steps.sends) as (λ x. SendsOne c d (Msg m)) [
+      | inl none ↦ absurd (not_same plan c d k later s.order (order_in d.phase limit plan d steps.stands) l so.left none)
+      | inr one ↦ one
+    ]
+
+pub sends_where_awaited : (limit : ℕ) (plan : Plan) → 4096 ≤ limit → plan.polls < 2 ^ 16 → SendsWhereAwaited limit plan
+sends_where_awaited limit plan least fits items m opened some due =
+    let c : Course = course_of limit plan items in
+    let s : Standing limit plan c = subst (λ (p : Phase). StandsIn p limit plan c) opened (stands_so limit plan items) in
+    let one : SendsOne c (after_item (Msg m) c) (Msg m) = sends_next c.left limit plan c m least fits s opened refl some due in
+    let step : after_item (Msg m) c ≡ course_of limit plan (items ++ Msg m ∷ []) =
+    ap (λ (p : Phase). goes p (Msg m) c) (sym opened) ∙ sym (follow-append items (Msg m ∷ []) (begun limit plan)) in
+    subst (λ (d : Course). SendsOne c d (Msg m)) step one

@@ -1,0 +1,79 @@
+-- The two ends agree, whatever happens and however the bytes between them are cut.
+use Rattle.std.specs.Prelude.{◌≡◌, ℕ, ◌<◌, ◌≤◌, ◌^◌, List, [], ◌++◌, length, None}
+use Rattle.llrp_tree.specs.declared.TheConstants.{MAX_LIMIT}
+use Rattle.llrp_tree.specs.Tree.{MessageTree}
+use Rattle.llrp_session.specs.Table.{states}
+use Rattle.llrp_session.specs.World.{WorldEvent}
+use Rattle.llrp_session.specs.MessageAgreement.{MessagesAreTaken, IsOnTheWay}
+use Rattle.llrp_session.specs.MessageWorld.{MessageWorld, tags_in_messages, run_messages, message_opening, AreGiven}
+use Rattle.llrp_endpoints.specs.Sending.{AreFrames}
+use Rattle.llrp_endpoints.specs.ByteWorld.{Way, ByteWorld, ByteEvent, ReadsDown, Reads, Steps, Runs, apart, byte_opening, AreGivenEvents}
+
+-- the messages that are on a way, those that are half read among them
+abbrev pub AreOnTheWay : List MessageTree → Way → Type 0
+AreOnTheWay messages way = AreFrames messages (way.read ++ way.coming)
+
+-- The same two ends, and the same messages on the way.
+pub record IsInBytes (m : MessageWorld) (w : ByteWorld) : Type 0 where
+  pub ends : w.ends ≡ apart m
+  pub up : AreOnTheWay m.up w.up
+  pub down : AreOnTheWay m.down w.down
+
+-- two ends as new, their limit, and what happens
+pub record Schedule : Type 0 where
+  pub limit : ℕ
+  pub reader_first : ℕ
+  pub client_first : ℕ
+  pub events : List ByteEvent
+
+pub record IsGivenSchedule (s : Schedule) : Type 0 where
+  pub least : 4096 ≤ s.limit
+  pub most : s.limit ≤ MAX_LIMIT
+  pub first : s.reader_first < 2 ^ 32
+  pub events : AreGivenEvents s.events
+
+abbrev pub RunsTo : Schedule → ByteWorld → Type 0
+RunsTo s w = Runs s.limit s.events (byte_opening s.limit s.reader_first s.client_first) w
+
+-- what holds after every schedule
+abbrev pub AfterAllBytes : (ByteWorld → Type 0) → Type 0
+AfterAllBytes P = (s : Schedule) (w : ByteWorld) → IsGivenSchedule s → RunsTo s w → P w
+
+-- no schedule is stuck: each frame that is read is a message's
+abbrev pub EachScheduleRuns : Type 0
+EachScheduleRuns = (s : Schedule) → IsGivenSchedule s → (w : ByteWorld) × RunsTo s w
+
+-- some run of whole messages has the same ends, and has on the way the messages whose frames the bytes are
+abbrev pub IsARunOfMessages : Type 0
+IsARunOfMessages = (s : Schedule) (w : ByteWorld) → IsGivenSchedule s → RunsTo s w
+    → (events : List WorldEvent) × (AreGiven events × IsInBytes (run_messages events (message_opening s.limit s.reader_first s.client_first)) w)
+
+-- the client takes each message that it reads: none is unexpected, and none comes after its closing
+abbrev pub NothingIsUnexpected : Type 0
+NothingIsUnexpected = (s : Schedule) (w : ByteWorld) → IsGivenSchedule s → RunsTo s w
+    → (n : ℕ) (new : Way) (messages : List MessageTree) → Reads s.limit n w.down new messages → MessagesAreTaken messages w.ends.client
+
+-- with no byte on the way down the client's view is the reader's table of states
+abbrev pub ViewIsTable : ByteWorld → Type 0
+ViewIsTable w = w.down.coming ≡ [] → w.ends.client.view ≡ states w.ends.reader.table
+
+-- reading all bytes on the way down makes the client's view the reader's table of states
+abbrev pub ViewCatchesUp : Type 0
+ViewCatchesUp = (s : Schedule) (w new : ByteWorld) → IsGivenSchedule s → RunsTo s w
+    → Steps s.limit (ReadsDown (length w.down.coming)) w new → new.ends.client.view ≡ states w.ends.reader.table
+
+-- the reports handed out, followed by those on the way down, are the reports sent, in order, each once
+abbrev pub ReportsArrive : ByteWorld → Type 0
+ReportsArrive w = (down : List MessageTree) → AreOnTheWay down w.down → w.ends.handed_out ++ tags_in_messages down ≡ w.ends.reported
+
+-- with those held they are the reports of the sightings that counted and were not dropped
+abbrev pub ReportsAreKept : ByteWorld → Type 0
+ReportsAreKept w = (down : List MessageTree) → AreOnTheWay down w.down → (w.ends.handed_out ++ tags_in_messages down) ++ w.ends.reader.held ≡ w.ends.kept
+
+-- the pending request stands on the way up, or its one response on the way down, never both; without one neither does any
+abbrev pub PendingIsOnTheWay : ByteWorld → Type 0
+PendingIsOnTheWay w = (up down : List MessageTree) → AreOnTheWay up w.up → AreOnTheWay down w.down → IsOnTheWay w.ends.client.pending up down
+
+-- with no byte on either way nothing is pending
+abbrev pub NothingIsPending : ByteWorld → Type 0
+NothingIsPending w = w.up.coming ≡ [] → w.down.coming ≡ [] → w.ends.client.pending ≡ None

@@ -1,0 +1,129 @@
+//! Both ends of one connection: a simulated reader that acts by a script, and a client that follows a plan.
+
+ghost use Rattle.std.specs.Prelude.{◌<◌, ◌↔◌, ◌≡◌, ◌≤◌, ◌^◌, [], IsTrue};
+ghost use Rattle.llrp_tree.specs.declared.TheConstants.{MAX_LIMIT};
+ghost use Rattle.llrp_stream.specs.Device.{IsFreshSource};
+ghost use Rattle.llrp_endpoints.specs.EndsStand.{ClientStands, ReaderStands};
+ghost use Rattle.llrp_endpoints.specs.RunLoop.{Ends, RunsLoop, Traffic};
+ghost use Rattle.llrp_endpoints.specs.Serving.{IsNewReader};
+ghost use Rattle.llrp_endpoints.specs.ServingStands.{HasStarted};
+
+mod client_side;
+mod pieces;
+mod reader_side;
+
+use crate::plan::Plan;
+use crate::script::Script;
+use crate::summary::Summary;
+use client_side::ClientSide;
+use llrp_listing::ToolErr;
+use llrp_session::Reader;
+use llrp_stream::{Sink, Source};
+use pieces::write_piece;
+use reader_side::ReaderSide;
+use std::alloc::Global;
+
+/// One end of a connection.
+#[derive(Drop)]
+pub struct Endpoint<R: Source, W: Sink> {
+    /// What comes from the other end.
+    pub source: R,
+    /// What goes to the other end.
+    pub sink: W,
+}
+
+/// Whether neither side has bytes to send.
+fn are_silent(reader: &ReaderSide, client: &ClientSide) -> bool
+    ensures { IsTrue result ↔ ((reader.now.said.items ≡ []) × (client.now.said.items ≡ [])) }
+{
+    reader.said.is_empty() && client.said.is_empty()
+}
+
+/// Lets a client and a reader that have read nothing yet send and read in turn, for [`run_loop`].
+fn exchange<CR: Source, CW: Sink, RR: Source, RW: Sink, P: Sink>(
+    client: &mut ClientSide,
+    reader: &mut ReaderSide,
+    client_end: &mut Endpoint<CR, CW>,
+    reader_end: &mut Endpoint<RR, RW>,
+    report: &mut P,
+) -> Result<Summary, ToolErr>
+    requires started { HasStarted reader.old.serving }
+    requires client_unread { client.old.reads ≡ 0 }
+    requires reader_unread { reader.old.reads ≡ 0 }
+    requires down_source { IsFreshSource (CR.log client_end.old.source) }
+    requires up_source { IsFreshSource (RR.log reader_end.old.source) }
+    requires down_sink { (RW.log reader_end.old.sink).failures < 2 ^ 63 }
+    requires up_sink { (CW.log client_end.old.sink).failures < 2 ^ 63 }
+    requires report { (P.log report.old).failures < 2 ^ 63 }
+    ensures { (e : Ends) → ReaderStands e [] [] reader.old.serving reader.old.said.items
+        → ClientStands e [] [] (P.log report.old) (P.log report.old) client.old.gathering client.old.said.items client.old.lines.items
+        → (down up : Traffic) × RunsLoop e
+        (record {
+          down = record { sink = RW.log reader_end.old.sink; source = CR.log client_end.old.source };
+          up = record { sink = CW.log client_end.old.sink; source = RR.log reader_end.old.source };
+          report = P.log report.old;
+        })
+        (record {
+          down = record { sink = RW.log reader_end.new.sink; source = CR.log client_end.new.source };
+          up = record { sink = CW.log client_end.new.sink; source = RR.log reader_end.new.source };
+          report = P.log report.new;
+        })
+        down up result }
+{
+    while !are_silent(reader, client) {
+        let down = write_piece(&mut reader.said, &mut reader_end.sink)?;
+        let closed = client.hear(down, &mut client_end.source, report)?;
+        if closed {
+            return Ok(client.gathering.summary());
+        }
+        let up = write_piece(&mut client.said, &mut client_end.sink)?;
+        reader.hear(up, &mut reader_end.source)?;
+    }
+    Err(ToolErr::Early)
+}
+
+/// A simulated reader that acts by the script serves at `reader_end` the client that follows the plan at
+/// `client_end`, each in turn: at most 4,096 bytes are written at one end, and as many as the write took
+/// are read at the other before the next write. The lines of the tags are written to `report` before the
+/// next read. The core is as `Reader::new` made it, and no frame is longer than `limit` octets.
+///
+/// The answer is how much was told, once the connection was closed as planned. `Early` is an end of the
+/// connection or of an input before that, or that neither end has bytes to send; `Peer` a status other
+/// than 0; `Strange` what no reader sends there; `Broken` a length field below 10 at either end. After
+/// `Read`, `Write`, `Bound` or `Memory` each end wrote a front of what it says.
+pub fn run_loop<CR: Source, CW: Sink, RR: Source, RW: Sink, P: Sink>(
+    alloc: Global,
+    core: Reader,
+    script: Script,
+    plan: Plan,
+    limit: u32,
+    client_end: &mut Endpoint<CR, CW>,
+    reader_end: &mut Endpoint<RR, RW>,
+    report: &mut P,
+) -> Result<Summary, ToolErr>
+    requires core { IsNewReader core }
+    requires least { 4096 ≤ limit }
+    requires most { limit ≤ MAX_LIMIT }
+    requires down_source { IsFreshSource (CR.log client_end.old.source) }
+    requires up_source { IsFreshSource (RR.log reader_end.old.source) }
+    requires down_sink { (RW.log reader_end.old.sink).failures < 2 ^ 63 }
+    requires up_sink { (CW.log client_end.old.sink).failures < 2 ^ 63 }
+    requires report { (P.log report.old).failures < 2 ^ 63 }
+    ensures { (down up : Traffic) × RunsLoop
+        (record { reader = core; entries = script; limit = limit; plan = plan })
+        (record {
+          down = record { sink = RW.log reader_end.old.sink; source = CR.log client_end.old.source };
+          up = record { sink = CW.log client_end.old.sink; source = RR.log reader_end.old.source };
+          report = P.log report.old;
+        })
+        (record {
+          down = record { sink = RW.log reader_end.new.sink; source = CR.log client_end.new.source };
+          up = record { sink = CW.log client_end.new.sink; source = RR.log reader_end.new.source };
+          report = P.log report.new;
+        })
+        down up result }
+{
+    let mut client = ClientSide::new(alloc, plan, limit);
+    let mut reader = ReaderSide::new(alloc, core, script)?;
+    exchange(&mut client, &mut reader, client_end, reader_end, report)
+}

@@ -1,0 +1,80 @@
+//! The commands of a plan that are not sent yet.
+
+ghost use Rattle.std.specs.Prelude.{◌≡◌};
+ghost use Rattle.llrp_endpoints.specs.GatheringStands.{Splits, TakesFirst, commands_left};
+ghost use Rattle.llrp_endpoints.specs.Gathering.{awaited_after};
+
+use super::Awaits;
+use crate::plan::Plan;
+use llrp_session::Command;
+use std::mem;
+
+/// The ROSpecID of a plan's ROSpec.
+const ROSPEC_ID: u32 = 1;
+
+/// What of a plan is left to do.
+#[derive(Drop)]
+pub enum Left {
+    /// All of it.
+    Adding(Plan),
+    /// To enable and start the ROSpec, and what follows.
+    Enabling { polls: u16 },
+    /// To start the ROSpec, and what follows.
+    Starting { polls: u16 },
+    /// To ask so many times for reports, to stop the ROSpec, and what follows.
+    Polling { polls: u16 },
+    /// To delete the ROSpec and close the connection.
+    Deleting,
+    /// To close the connection.
+    Closing,
+    Nothing,
+}
+
+impl Left {
+    /// The next command and what is left behind it, if one is left.
+    fn split(self) -> Option<(Command, Left)>
+        ensures { Splits (commands_left self) result }
+    {
+        match self {
+            Left::Adding(plan) => {
+                let polls = plan.polls();
+                let spec = plan.into_rospec();
+                Some((Command::Add { spec }, Left::Enabling { polls }))
+            }
+            Left::Enabling { polls } => {
+                Some((Command::Enable { id: ROSPEC_ID }, Left::Starting { polls }))
+            }
+            Left::Starting { polls } => {
+                Some((Command::Start { id: ROSPEC_ID }, Left::Polling { polls }))
+            }
+            Left::Polling { polls: 0 } => Some((Command::Stop { id: ROSPEC_ID }, Left::Deleting)),
+            Left::Polling { polls } => Some((
+                Command::GetReport,
+                Left::Polling { polls: polls - 1 },
+            )),
+            Left::Deleting => Some((Command::Delete { id: ROSPEC_ID }, Left::Closing)),
+            Left::Closing => Some((Command::Close, Left::Nothing)),
+            Left::Nothing => None,
+        }
+    }
+
+    /// Takes the next command, if one is left.
+    pub fn next(&mut self) -> Option<Command>
+        ensures { TakesFirst (commands_left self.old) (commands_left self.new) result }
+    {
+        let (command, left) = mem::replace(self, Left::Nothing).split()?;
+        *self = left;
+        Some(command)
+    }
+}
+
+/// What is awaited after a command.
+pub fn awaited_after(command: &Command) -> Awaits
+    ensures { result ≡ awaited_after command.now }
+{
+    match command {
+        Command::GetReport => Awaits::Report,
+        Command::Close => Awaits::End,
+        _ => Awaits::Answer,
+    }
+}

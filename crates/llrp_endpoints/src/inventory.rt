@@ -1,0 +1,81 @@
+//! Following a plan over a source and two sinks.
+
+ghost use Rattle.std.specs.Prelude.{◌≡◌, ◌<◌, ◌≤◌, ◌^◌, [], List, ℕ};
+ghost use Rattle.llrp_stream.specs.Device.{IsFreshSource};
+ghost use Rattle.llrp_tree.specs.declared.TheConstants.{MAX_LIMIT};
+ghost use Rattle.llrp_endpoints.specs.Gathering.{begun};
+ghost use Rattle.llrp_endpoints.specs.GatheringStands.{IsOpen};
+ghost use Rattle.llrp_endpoints.specs.Plan.{Plan as ThePlan};
+ghost use Rattle.llrp_endpoints.specs.RunInventory.{RunsInventory};
+
+use crate::gathering::Gathering;
+use crate::plan::Plan;
+use crate::summary::Summary;
+use llrp_listing::{MOST_READS, READ_SIZE, ToolErr, hand_on};
+use llrp_stream::{Sink, Source};
+use std::alloc::Global;
+
+/// Follows the plan of a client as `Gathering::new` made it, for [`run_inventory`]: what it sends is
+/// gathered in `out` and its lines in `lines`, which are empty at first.
+fn gather<R: Source, W: Sink, T: Sink>(
+    gathering: &mut Gathering,
+    out: &mut Vec<u8>,
+    lines: &mut Vec<u8>,
+    r: &mut R,
+    w: &mut W,
+    report: &mut T,
+) -> Result<Summary, ToolErr>
+    requires no_frames { out.old.items ≡ [] }
+    requires no_lines { lines.old.items ≡ [] }
+    requires source { IsFreshSource (R.log r.old) }
+    requires sink { (W.log w.old).failures < 2 ^ 63 }
+    requires report { (T.log report.old).failures < 2 ^ 63 }
+    ensures { (limit : ℕ) (plan : ThePlan) → IsOpen limit plan [] [] (begun limit plan) gathering.old
+        → (bytes : List ℕ) × RunsInventory limit plan (R.log r.old) (R.log r.new) (W.log w.old) (W.log w.new) (T.log report.old) (T.log report.new) bytes result }
+{
+    let mut buffer = [0u8; READ_SIZE];
+    for _ in 0..MOST_READS {
+        let Ok(n) = r.read(&mut buffer) else {
+            return Err(ToolErr::Read);
+        };
+        if n == 0 {
+            return Err(ToolErr::Early);
+        }
+        let fed = gathering.feed(&buffer[..n], out, lines);
+        hand_on(out, w)?;
+        hand_on(lines, report)?;
+        if fed? {
+            return Ok(gathering.summary());
+        }
+    }
+    Err(ToolErr::Bound)
+}
+
+/// Follows a plan with the reader whose bytes the source gives: what the client sends is written to `w`
+/// and the lines of the tags to `report`, those for what was read before the next read. The limit is the
+/// greatest length of a frame in octets.
+///
+/// The answer is how much was told, once the connection was closed as planned. `Early` is an end of the
+/// input, or of the connection, before that; `Peer` a status other than 0; `Strange` what no reader sends
+/// there; `Broken` a length field below 10. After `Read`, `Write`, `Bound` or `Memory` fronts of what the
+/// client says were written.
+pub fn run_inventory<R: Source, W: Sink, T: Sink>(
+    alloc: Global,
+    plan: Plan,
+    limit: u32,
+    r: &mut R,
+    w: &mut W,
+    report: &mut T,
+) -> Result<Summary, ToolErr>
+    requires least { 4096 ≤ limit }
+    requires most { limit ≤ MAX_LIMIT }
+    requires source { IsFreshSource (R.log r.old) }
+    requires sink { (W.log w.old).failures < 2 ^ 63 }
+    requires report { (T.log report.old).failures < 2 ^ 63 }
+    ensures { (bytes : List ℕ) × RunsInventory limit plan (R.log r.old) (R.log r.new) (W.log w.old) (W.log w.new) (T.log report.old) (T.log report.new) bytes result }
+{
+    let mut gathering = Gathering::new(alloc, plan, limit);
+    let mut out = Vec::new(alloc);
+    let mut lines = Vec::new(alloc);
+    gather(&mut gathering, &mut out, &mut lines, r, w, report)
+}

@@ -1,0 +1,140 @@
+//! The plan of an inventory: what a client asks of its reader.
+
+ghost use Rattle.std.specs.Prelude.{◌≡◌, IfErr, IfOk, [], ◌∷◌};
+ghost use Rattle.llrp_tree.specs.Tree.{forest};
+ghost use Rattle.llrp_tree.specs.Lawful.{AreLawful};
+ghost use Rattle.llrp_session.specs.ReaderMessages.{parameter as the_parameter};
+ghost use Rattle.llrp_endpoints.specs.Plan as plan;
+ghost use Rattle.llrp_listing.specs.declared.fault.ToolErr.TheVariants.{Memory};
+
+use llrp_listing::ToolErr;
+use llrp_tree::{Node, Nodes, Octets, ParamKind};
+use std::alloc::{AllocError, Global};
+use std::marker::Model;
+
+/// What a client does with its reader: it adds a ROSpec, enables and starts it, asks for the reports
+/// that are held so many times, stops and deletes it, and closes the connection (LLRP 1.1, section 11).
+#[derive(Drop)]
+pub struct Plan {
+    every: u16,
+    polls: u16,
+    rospec: Node,
+}
+
+impl Model for Plan {
+    ghost use Rattle.std.specs.Prelude.{◌≡◌};
+    ghost use Rattle.llrp_endpoints.specs.Plan.{Plan as PlanValue, rospec as the_rospec};
+
+    ghost Value = { PlanValue };
+
+    ghost view = { λ p. record { every = p.every; polls = p.polls } };
+
+    ghost invariant = { λ p. p.rospec ≡ the_rospec p.every };
+}
+
+impl Plan {
+    /// The reader reports after so many tags; 0 for no number.
+    pub fn every(&self) -> u16
+        ensures { result ≡ self.now.every }
+    {
+        self.every
+    }
+
+    /// How often the client asks for the reports that are held.
+    pub fn polls(&self) -> u16
+        ensures { result ≡ self.now.polls }
+    {
+        self.polls
+    }
+
+    /// The ROSpec.
+    pub fn rospec(&self) -> &Node
+        ensures { result.now ≡ plan.rospec self.now.every }
+    {
+        &self.rospec
+    }
+
+    /// The ROSpec, handed over.
+    pub(crate) fn into_rospec(self) -> Node
+        ensures { result ≡ plan.rospec self.every }
+    {
+        self.rospec
+    }
+}
+
+/// A parameter of lawful parts.
+fn parameter(kind: ParamKind, fields: &[u128], tail: Vec<u8>, children: Vec<Node>) -> Node
+    requires { AreLawful kind fields.now tail.items (forest children.items) }
+    ensures { result ≡ record { kind = kind; fields = fields.now; tail = tail.items; children = forest children.items } }
+{
+    match Node::new(kind, fields, Octets::new(tail), Nodes::new(children)) {
+        Ok(node) => node,
+        Err(_) => unreachable!(),
+    }
+}
+
+/// A parameter of these fields, without a tail and without children.
+fn leaf(alloc: Global, kind: ParamKind, fields: &[u128]) -> Node
+    requires { AreLawful kind fields.now [] (forest []) }
+    ensures { result ≡ the_parameter kind fields.now [] }
+{
+    parameter(kind, fields, Vec::new(alloc), Vec::new(alloc))
+}
+
+/// When the ROSpec starts and stops: on commands alone.
+fn boundary(alloc: Global) -> Result<Node, AllocError>
+    ensures { IfOk result (λ node. node ≡ plan.boundary) }
+{
+    let start = leaf(alloc, ParamKind::RoSpecStartTrigger, &[0]);
+    let stop = leaf(alloc, ParamKind::RoSpecStopTrigger, &[0, 0]);
+    let triggers = Vec::from_array(alloc, [start, stop])?;
+    Ok(parameter(ParamKind::RoBoundarySpec, &[], Vec::new(alloc), triggers))
+}
+
+/// What its antennas do: all of them take inventory until it stops.
+fn antenna_inventory(alloc: Global) -> Result<Node, AllocError>
+    ensures { IfOk result (λ node. node ≡ plan.antenna_inventory) }
+{
+    let stop = leaf(alloc, ParamKind::AiSpecStopTrigger, &[0, 0]);
+    let inventory = leaf(alloc, ParamKind::InventoryParameterSpec, &[1, 1]);
+    let all_antennas = Vec::from_array(alloc, [0, 0])?;
+    let parts = Vec::from_array(alloc, [stop, inventory])?;
+    Ok(parameter(ParamKind::AiSpec, &[], all_antennas, parts))
+}
+
+/// What it reports, and when: of each tag the antenna and the greatest RSSI.
+fn reporting(alloc: Global, every: u16) -> Result<Node, AllocError>
+    ensures { IfOk result (λ node. node ≡ plan.reporting every) }
+{
+    let chosen = [0, 0, 0, 1, 0, 1, 0, 0, 0, 0];
+    let selector = leaf(alloc, ParamKind::TagReportContentSelector, &chosen);
+    let parts = Vec::from_array(alloc, [selector])?;
+    let fields = [2, every as u128];
+    Ok(parameter(ParamKind::RoReportSpec, &fields, Vec::new(alloc), parts))
+}
+
+/// The ROSpec of a plan.
+fn rospec(alloc: Global, every: u16) -> Result<Node, AllocError>
+    ensures { IfOk result (λ node. node ≡ plan.rospec every) }
+{
+    let boundary = boundary(alloc)?;
+    let antennas = antenna_inventory(alloc)?;
+    let reporting = reporting(alloc, every)?;
+    let parts = Vec::from_array(alloc, [boundary, antennas, reporting])?;
+    Ok(parameter(ParamKind::RoSpec, &[1, 0, 0], Vec::new(alloc), parts))
+}
+
+/// The plan of an inventory on all antennas in which the reader reports after `every` tags (0 for no
+/// number) and at the end, and is asked `polls` times for the reports that are held. The only error is
+/// `Memory`.
+pub fn standard_plan(alloc: Global, every: u16, polls: u16) -> Result<Plan, ToolErr>
+    ensures plan { IfOk result (λ p. p ≡ record { every = every; polls = polls }) }
+    ensures memory { IfErr result (λ e. e ≡ Memory) }
+{
+    let rospec = rospec(alloc, every)?;
+    Ok(Plan {
+        every,
+        polls,
+        rospec,
+    })
+}

@@ -1,0 +1,176 @@
+//! Scripts of the simulated reader: what its antennas see, and when.
+
+ghost use Rattle.std.specs.Prelude.{◌++◌, ◌<◌, ◌^◌, ◌∷◌, ◌≡◌, ◌↔◌, IfErr, IfOk, IsTrue, MatchOption, [], ℕ};
+ghost use Rattle.tag_uri.specs.TagText.{IsTextOf};
+ghost use Rattle.llrp_endpoints.specs.Script.{Continues, IsActionInRange, IsActionLine, IsEntryLine, IsInRange, IsLawful, IsScript, IsSightingInRange, IsSightingLine, MayFollow, NoneContinues, ParseStopped};
+
+use llrp_listing::{ToolErr, number_of, signed_byte_of, split_once};
+use llrp_session::Sighting;
+use std::alloc::Global;
+use std::marker::Model;
+use std::str;
+use tag_bits::Word;
+use tag_uri::word_of_text;
+
+/// The most entries of a script.
+const MOST_ENTRIES: usize = 10_000;
+
+/// What happens to the reader.
+#[derive(Clone, Copy, Debug, PartialEq, Eq)]
+pub enum Action {
+    /// An antenna sees a tag.
+    Seen(Sighting),
+    /// Time goes on.
+    Tick,
+}
+
+/// A line of a script: what happens, and when.
+#[derive(Clone, Copy, Debug, PartialEq, Eq)]
+pub struct Entry {
+    /// How many items the reader has taken before; 0 is directly after the connection.
+    pub after: u64,
+    /// The moment, in microseconds.
+    pub now: u64,
+    /// What happens then.
+    pub action: Action,
+}
+
+/// The entries of a script in order, which contracts see as their list.
+#[derive(Debug, Drop)]
+pub struct Script {
+    entries: Vec<Entry>,
+}
+
+impl Model for Script {
+    ghost use Rattle.std.specs.Prelude.{List};
+    ghost use Rattle.llrp_endpoints.specs.declared.script.Entry.{Entry};
+    ghost use Rattle.llrp_endpoints.specs.Script.{IsLawful};
+
+    ghost Value = { List Entry };
+
+    ghost view = { λ s. s.entries.items };
+
+    ghost invariant = { λ s. IsLawful s.entries.items };
+}
+
+impl Script {
+    /// The script of a text: at most 10,000 lines `AFTER NOW seen ANTENNA RSSI TEXT` or `AFTER NOW tick`
+    /// in which neither AFTER nor NOW falls, with single spaces and each ended by LF. The numbers are in
+    /// decimal without leading zeros; RSSI, in dBm, has a `-` where it is negative. TEXT is a tag URI or
+    /// a raw URI (EPC Tag Data Standard 1.13, section 12).
+    ///
+    /// The errors are `Script` with the first line that is refused, counted from 1, and `Memory`.
+    pub fn parse(alloc: Global, text: &[u8]) -> Result<Script, ToolErr>
+        ensures script { IfOk result (λ entries. IsScript entries text.now) }
+        ensures stopped { IfErr result (λ e. ParseStopped text.now e) }
+    {
+        let mut entries = Vec::new(alloc);
+        let mut rest = text;
+        'lines: while !rest.is_empty() {
+            let Some((entry, after)) = next_entry(entries.as_slice(), rest) else {
+                return Err(ToolErr::Script {
+                    line: entries.len() as u64 + 1,
+                });
+            };
+            entries.push(entry)?;
+            rest = after;
+        }
+        Ok(Script { entries })
+    }
+
+    /// The entries in order, lent.
+    pub fn entries(&self) -> &[Entry]
+        ensures entries { result.now ≡ self.now }
+        ensures lawful { IsLawful self.now }
+    {
+        self.entries.as_slice()
+    }
+}
+
+/// The entry that a text's first line says, where it may follow these, and the text after that line.
+fn next_entry<'a>(entries: &[Entry], text: &'a [u8]) -> Option<(Entry, &'a [u8])>
+    requires { IsLawful entries.now }
+    ensures { MatchOption result
+        (NoneContinues entries.now text.now)
+        (λ next. Continues entries.now text.now next.0 next.1.now) }
+{
+    let (line, rest) = split_once(text, b'\n')?;
+    let entry = entry_of(line)?;
+    if may_follow(entries, entry.after, entry.now) {
+        Some((entry, rest))
+    } else {
+        None
+    }
+}
+
+/// Whether there is room for an entry behind these, and its AFTER and NOW do not fall.
+fn may_follow(entries: &[Entry], after: u64, now: u64) -> bool
+    requires { IsLawful entries.now }
+    ensures { IsTrue result ↔ MayFollow entries.now after now }
+{
+    let Some(last) = entries.last() else {
+        return true;
+    };
+    if entries.len() >= MOST_ENTRIES || after < last.after {
+        return false;
+    }
+    last.now <= now
+}
+
+/// The entry of a line without its LF.
+fn entry_of(line: &[u8]) -> Option<Entry>
+    ensures { MatchOption result
+        ((e : Entry) → IsInRange e → IsEntryLine e line.now → ⊥)
+        (λ e. IsInRange e × IsEntryLine e line.now) }
+{
+    let (after, rest) = split_once(line, b' ')?;
+    let (now, action) = split_once(rest, b' ')?;
+    let after = number_of(after, u64::MAX)?;
+    let now = number_of(now, u64::MAX)?;
+    let action = action_of(action)?;
+    Some(Entry { after, now, action })
+}
+
+/// The action of the end of a line.
+fn action_of(text: &[u8]) -> Option<Action>
+    ensures { MatchOption result
+        ((a : Action) → IsActionInRange a → IsActionLine a text.now → ⊥)
+        (λ a. IsActionInRange a × IsActionLine a text.now) }
+{
+    if text == b"tick".as_slice() {
+        return Some(Action::Tick);
+    }
+    let (word, sighting) = split_once(text, b' ')?;
+    if word == b"seen".as_slice() {
+        Some(Action::Seen(sighting_of(sighting)?))
+    } else {
+        None
+    }
+}
+
+/// The sighting of the end of a line.
+fn sighting_of(text: &[u8]) -> Option<Sighting>
+    ensures { MatchOption result
+        ((s : Sighting) → IsSightingInRange s → IsSightingLine s text.now → ⊥)
+        (λ s. IsSightingInRange s × IsSightingLine s text.now) }
+{
+    let (antenna, rest) = split_once(text, b' ')?;
+    let (rssi, epc) = split_once(rest, b' ')?;
+    let antenna = number_of(antenna, u16::MAX as u64)? as u16;
+    let rssi = signed_byte_of(rssi)?;
+    let epc = word_of(epc)?;
+    Some(Sighting { antenna, rssi, epc })
+}
+
+/// The word whose text the bytes are.
+fn word_of(bytes: &[u8]) -> Option<Word>
+    ensures { MatchOption result
+        ((word : ℕ) → word < 2 ^ 96 → IsTextOf word bytes.now → ⊥)
+        (λ word. (word < 2 ^ 96) × IsTextOf word bytes.now) }
+{
+    let text = str::from_utf8(bytes).ok()?;
+    match word_of_text(text) {
+        Ok(word) => Some(word),
+        Err(_) => None,
+    }
+}

@@ -1,0 +1,91 @@
+//! What happens to a simulated reader, and the frames of what it says.
+
+ghost use Rattle.std.specs.Prelude.{◌≡◌, ◌∷◌, IfErr, IfOk, OnOk, [], map};
+ghost use Rattle.llrp_session.specs.ReaderSteps.{event_of as event_handed};
+ghost use Rattle.llrp_endpoints.specs.Acting.{Did, DidSome, IsDue};
+ghost use Rattle.llrp_endpoints.specs.Serving.{event_in as event_by, happening, last_moment, taking};
+
+use crate::script::{Action, Entry};
+use crate::sending::append_frames;
+use llrp_listing::ToolErr;
+use llrp_session::{Reader, ReaderIn, StepFault};
+use llrp_stream::Item;
+use std::alloc::Global;
+
+/// What happens to the reader at a moment. What it says is appended; a refused event changes nothing.
+/// The only error is `Memory`.
+pub(super) fn happen(
+    alloc: Global,
+    core: &mut Reader,
+    now: u64,
+    event: ReaderIn,
+    out: &mut Vec<u8>,
+) -> Result<(), ToolErr>
+    ensures ok { OnOk result (Did core.old (record { now = now; event = event_handed event } ∷ []) core.new out.old.items out.new.items) }
+    ensures err { IfErr result (λ e. DidSome core.old (record { now = now; event = event_handed event } ∷ []) e out.old.items out.new.items) }
+{
+    let mut messages = Vec::new(alloc);
+    if let Err(refusal) = core.step(now, event, &mut messages) {
+        return match refusal.fault {
+            StepFault::Memory => Err(ToolErr::Memory),
+            StepFault::Closed | StepFault::NotConnected | StepFault::AlreadyUp => Ok(()),
+        };
+    }
+    append_frames(alloc, messages.as_slice(), out)
+}
+
+/// The event of an entry.
+fn event_in(action: Action) -> ReaderIn
+    ensures { event_handed result ≡ event_by action }
+{
+    match action {
+        Action::Seen(sighting) => ReaderIn::Seen(sighting),
+        Action::Tick => ReaderIn::Tick,
+    }
+}
+
+/// The event of an item.
+pub(super) fn event_of(item: Item) -> ReaderIn
+    ensures { event_handed result ≡ taking item }
+{
+    match item {
+        Item::Msg(message) => ReaderIn::Take(message),
+        Item::Bad { id, fault } => ReaderIn::TakeBad {
+            id,
+            reason: fault.reason,
+        },
+    }
+}
+
+/// Entries happen to the reader, each at its own moment; the answer is the moment of the last, or the
+/// one handed in. What the reader says is appended. The only error is `Memory`.
+pub(super) fn happen_all(
+    alloc: Global,
+    core: &mut Reader,
+    moment: u64,
+    entries: &[Entry],
+    out: &mut Vec<u8>,
+) -> Result<u64, ToolErr>
+    ensures moment { IfOk result (λ last. last ≡ last_moment moment entries.now) }
+    ensures ok { OnOk result (Did core.old (map happening entries.now) core.new out.old.items out.new.items) }
+    ensures err { IfErr result (λ e. DidSome core.old (map happening entries.now) e out.old.items out.new.items) }
+{
+    let mut moment = moment;
+    for entry in entries {
+        happen(alloc, core, entry.now, event_in(entry.action), out)?;
+        moment = entry.now;
+    }
+    Ok(moment)
+}
+
+/// How many of the first entries happen after no more items than these.
+pub(super) fn due(entries: &[Entry], taken: u64) -> usize
+    ensures { IsDue entries.now taken result }
+{
+    for (i, entry) in entries.iter().enumerate() {
+        if entry.after > taken {
+            return i;
+        }
+    }
+    entries.len()
+}

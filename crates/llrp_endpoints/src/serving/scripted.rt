@@ -1,0 +1,100 @@
+//! A simulated reader that acts by a script.
+
+ghost use Rattle.std.specs.Prelude.{◌≡◌, ◌+◌, ◌++◌, ◌≤◌, ◌↔◌, [], IfErr, IsTrue, List, OnOk, length, map, min, ℕ};
+ghost use Rattle.llrp_session.specs.ReaderMachine.{Reader as Machine};
+ghost use Rattle.llrp_endpoints.specs.Acting.{DidSome};
+ghost use Rattle.llrp_endpoints.specs.Serving.{Closes, entries_at, events, happening};
+ghost use Rattle.llrp_endpoints.specs.declared.script.Entry.{Entry};
+
+use super::acting::{due, event_of, happen, happen_all};
+use crate::script::Script;
+use llrp_listing::ToolErr;
+use llrp_session::{Reader, ReaderIn};
+use llrp_stream::Item;
+use llrp_tree::MsgKind;
+use std::alloc::Global;
+
+/// A simulated reader and its script.
+#[derive(Drop)]
+pub(crate) struct ScriptedReader {
+    alloc: Global,
+    core: Reader,
+    script: Script,
+    /// How many entries are done.
+    done: usize,
+    /// How many items were taken; it stops at the greatest number, where no entry is left.
+    taken: u64,
+    /// The moment of the last entry done.
+    moment: u64,
+    ghost within: { done ≤ length script },
+}
+
+/// Whether an item is CLOSE_CONNECTION.
+fn closes(item: &Item) -> bool
+    ensures { IsTrue result ↔ Closes item.now }
+{
+    match item {
+        Item::Msg(message) => matches!(message.kind(), MsgKind::CloseConnection),
+        Item::Bad { .. } => false,
+    }
+}
+
+impl ScriptedReader {
+    ghost use Rattle.llrp_endpoints.specs.ServingStands.{Connects, DoesEntries, HasDone, HasTaken, IsNew, TakesItem, greatest_count};
+    ghost use Rattle.llrp_stream.specs.declared.item.Item.{Item};
+
+    /// A reader as it was made, and its script.
+    pub fn new(alloc: Global, core: Reader, script: Script) -> ScriptedReader
+        ensures { IsNew core script result }
+    {
+        script.entries();
+        ScriptedReader {
+            alloc,
+            core,
+            script,
+            done: 0,
+            taken: 0,
+            moment: 0,
+        }
+    }
+
+    /// Connects, and does the entries that happen before any item.
+    pub fn connect(&mut self, out: &mut Vec<u8>) -> Result<(), ToolErr>
+        ensures ok { OnOk result ((reader : Machine) (entries : List Entry) → IsNew reader entries self.old → Connects reader entries self.new out.old.items out.new.items) }
+        ensures err { IfErr result (λ e. (reader : Machine) (entries : List Entry) → IsNew reader entries self.old → DidSome reader (events entries []) e out.old.items out.new.items) }
+    {
+        happen(self.alloc, &mut self.core, 0, ReaderIn::Connect, out)?;
+        self.happen_due(out)
+    }
+
+    /// Does the entries that are due after the items taken.
+    fn happen_due(&mut self, out: &mut Vec<u8>) -> Result<(), ToolErr>
+        ensures ok { OnOk result ((count : ℕ) (entries : List Entry) → HasDone count entries self.old → self.old.taken ≡ min count greatest_count
+            → DoesEntries count entries self.old self.new out.old.items out.new.items) }
+        ensures err { IfErr result (λ e. (count : ℕ) (entries : List Entry) → HasDone count entries self.old → self.old.taken ≡ min count greatest_count
+            → DidSome self.old.core (map happening (entries_at count entries)) e out.old.items out.new.items) }
+        ensures taken { self.new.taken ≡ self.old.taken }
+    {
+        let left = &self.script.entries()[self.done..];
+        let count = due(left, self.taken);
+        self.moment = happen_all(self.alloc, &mut self.core, self.moment, &left[..count], out)?;
+        self.done += count;
+        Ok(())
+    }
+
+    /// Takes an item, and does the entries that are due after it, or none where the item closes the
+    /// connection; the answer is whether it does.
+    pub fn take(&mut self, item: Item, out: &mut Vec<u8>) -> Result<bool, ToolErr>
+        ensures { (reader : Machine) (entries : List Entry) (items : List Item) → HasTaken reader entries items self.old
+            → TakesItem reader entries items item self.new out.old.items out.new.items result }
+    {
+        let closing = closes(&item);
+        happen(self.alloc, &mut self.core, self.moment, event_of(item), out)?;
+        if closing {
+            return Ok(true);
+        }
+        self.taken = self.taken.saturating_add(1);
+        self.happen_due(out)?;
+        Ok(false)
+    }
+}

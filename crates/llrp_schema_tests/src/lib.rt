@@ -1,5 +1,0 @@
-//! Tests of what `llrp_schema` makes public.
-#![tactic(auto)]
-
-#[cfg(test)]
-mod tables;

@@ -1,0 +1,51 @@
+//! Tests of what the libraries make public, the conformance vectors among them.
+#![tactic(auto)]
+
+#[cfg(test)]
+mod both_ends;
+#[cfg(test)]
+mod client;
+#[cfg(test)]
+mod commands;
+#[cfg(test)]
+mod decoder;
+#[cfg(test)]
+mod devices;
+#[cfg(test)]
+mod encode;
+#[cfg(test)]
+mod epc;
+#[cfg(test)]
+mod epcs;
+#[cfg(test)]
+mod fields;
+#[cfg(test)]
+mod gathering;
+#[cfg(test)]
+mod hexadecimal;
+#[cfg(test)]
+mod inventory;
+#[cfg(test)]
+mod octets;
+#[cfg(test)]
+mod reader;
+#[cfg(test)]
+mod reading;
+#[cfg(test)]
+mod script;
+#[cfg(test)]
+mod serve;
+#[cfg(test)]
+mod serve_devices;
+#[cfg(test)]
+mod show;
+#[cfg(test)]
+mod spelling;
+#[cfg(test)]
+mod tables;
+#[cfg(test)]
+mod texts;
+#[cfg(test)]
+mod vectors;
+#[cfg(test)]
+mod words;

@@ -1,5 +1,0 @@
-use Rattle.llrp_tool.proofs.ReadBack.{frames_read_back}
-use Rattle.llrp_tool.proofs.laws.frames_read_back.Goals as goal
-
-pub returns : goal.returns
-returns c = frames_read_back

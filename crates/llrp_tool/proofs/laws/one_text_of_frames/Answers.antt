@@ -1,5 +1,0 @@
-use Rattle.llrp_tool.proofs.SendingLemmas.{one_text_of_frames}
-use Rattle.llrp_tool.proofs.laws.one_text_of_frames.Goals as goal
-
-pub returns : goal.returns
-returns c = one_text_of_frames

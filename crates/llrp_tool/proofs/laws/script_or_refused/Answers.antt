@@ -1,5 +1,0 @@
-use Rattle.llrp_tool.proofs.ScriptDeciding.{script_or_refused}
-use Rattle.llrp_tool.proofs.laws.script_or_refused.Goals as goal
-
-pub returns : goal.returns
-returns c = script_or_refused

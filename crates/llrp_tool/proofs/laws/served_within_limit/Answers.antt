@@ -1,5 +1,0 @@
-use Rattle.llrp_tool.proofs.WithinLimit.{says_within_limit}
-use Rattle.llrp_tool.proofs.laws.served_within_limit.Goals as goal
-
-pub returns : goal.returns
-returns c = says_within_limit

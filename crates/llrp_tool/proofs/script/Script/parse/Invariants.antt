@@ -1,9 +1,0 @@
-use Rattle.std.proofs.Common.{length}
-use Rattle.llrp_tool.specs.Script.{Begins}
-use Rattle.llrp_tool.proofs.script.Script.parse.Given as goal
-
-abbrev pub invariant-lines : goal.invariant-lines
-invariant-lines l = Begins l.text l.entries.items l.rest
-
-abbrev pub decreases-lines : goal.decreases-lines
-decreases-lines l = length l.rest
