@@ -1,4 +1,4 @@
-use Rattle.std.proofs.Common.{◌+◌, ◌++◌, ◌<◌, ℕ, length, take, arith, [], refl, subst, ◌∙◌}
+use Rattle.std.proofs.Common.{rules, ◌+◌, ◌++◌, ◌<◌, ℕ, length, take, arith, [], refl, subst, ◌∙◌}
 use Rattle.std.proofs.lemmas.List.{length-take}
 use Rattle.std.proofs.lemmas.Result.{err_from_is_err_and}
 use Rattle.llrp_stream.specs.Device.{Took, Gave}
@@ -17,6 +17,9 @@ returns-in_default-clause-stopped g c =
     let e = c.loop.self in
     let s = subst (λ (l : ℕ). StandsAt l (g.W.Sink.log c.args.w.now) (g.W.Sink.log c.loop.w) c.loop.invariant.text (entries_in e.pending) e.number e.line.items e.out.items) c.loop.invariant.limit c.loop.invariant.stands in
     read_failed c.args.self.now.limit c.loop.counter _ _ _ _ _ c.loop.invariant.text _ _ _ _ c.loop.invariant.gave s c.in_default.ensures.0 c.in_default.ensures.1
+
+pub returns-in_default-clause-stands : goal.returns-in_default-clause-stands
+returns-in_default-clause-stands g c = search rules
 
 pub returns-then-n-eq0-clause-stands : goal.returns-then-n-eq0-clause-stands
 returns-then-n-eq0-clause-stands g c =
