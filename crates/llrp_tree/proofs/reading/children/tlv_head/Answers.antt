@@ -1,5 +1,5 @@
 -- The checks of a head, one after another.
-use Rattle.std.proofs.Common.{◌≡◌, ◌+◌, ◌*◌, Option, drop, subst, sym, ap, ◌∙◌, inl, inr, arith}
+use Rattle.std.proofs.Common.{◌≡◌, ◌+◌, ◌*◌, Option, drop, subst, sym, ap, ◌∙◌, inl, inr, arith, rules}
 use Rattle.std.proofs.lemmas.Result.{err_from_is_err_and}
 use Rattle.tag_bits.specs.Digits.{digits_of_bytes}
 use Rattle.llrp_schema.specs.declared.kinds.ParamKind.{ParamKind}
@@ -9,6 +9,9 @@ use Rattle.llrp_tree.specs.FirstFault.{kind_checks}
 use Rattle.llrp_tree.specs.Standing.{FailsFirst, KindPasses}
 use Rattle.llrp_tree.proofs.ChildLemmas.{number_on, kind_fails, length_fails}
 use Rattle.llrp_tree.proofs.reading.children.tlv_head.Goals as goal
+
+pub returns-then-stop-at-lt4 : goal.returns-then-stop-at-lt4
+returns-then-stop-at-lt4 c = search rules
 
 pub returns-in_err-kind : goal.returns-in_err-kind
 returns-in_err-kind c =
