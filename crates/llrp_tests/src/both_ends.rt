@@ -3,7 +3,7 @@
 use crate::devices::Failing;
 use crate::gathering::{ADD, CONNECTED};
 use crate::inventory::{OneByOne, inventory_of};
-use crate::serve::bytes;
+use crate::octets::octets;
 use llrp_session::Reader;
 use llrp_tool::{Endpoint, Input, Output, Script, Summary, ToolErr, run_loop, standard_plan};
 use std::alloc::Global;
@@ -171,8 +171,8 @@ fn is_whole(alloc: Global, run: &Run, down: &[u8], up: &[u8]) -> Result<bool, To
 
 /// Whether a run over its own bytes does so.
 fn runs_whole(alloc: Global, run: &Run) -> Result<bool, ToolErr> {
-    let down = bytes(alloc, run.down)?;
-    let up = bytes(alloc, run.up)?;
+    let down = octets(alloc, run.down)?;
+    let up = octets(alloc, run.up)?;
     is_whole(alloc, run, down.as_slice(), up.as_slice())
 }
 
@@ -251,8 +251,8 @@ fn stops_with(alloc: Global, end: ToolErr, down: &[u8], up: &[u8]) -> Result<boo
 
 /// Whether a row's run ends as the row says, and nothing is told.
 fn is_as_said(alloc: Global, row: &Row) -> Result<bool, ToolErr> {
-    let down = bytes(alloc, row.down)?;
-    let up = bytes(alloc, row.up)?;
+    let down = octets(alloc, row.down)?;
+    let up = octets(alloc, row.up)?;
     stops_with(alloc, row.end, down.as_slice(), up.as_slice())
 }
 
@@ -328,8 +328,8 @@ fn ends_with(
     failures: &Failures,
     end: Result<Summary, ToolErr>,
 ) -> Result<bool, ToolErr> {
-    let down = bytes(alloc, run.down)?;
-    let up = bytes(alloc, run.up)?;
+    let down = octets(alloc, run.down)?;
+    let up = octets(alloc, run.up)?;
     leaves_fronts(alloc, run, down.as_slice(), up.as_slice(), failures, end)
 }
 
@@ -341,7 +341,7 @@ fn a_run_over_devices_of_one_byte_a_call(rt: HostRuntime) {
 
 /// How many bytes hexadecimal texts in a row spell.
 fn count_of(alloc: Global, texts: &[&str]) -> Result<usize, ToolErr> {
-    Ok(bytes(alloc, texts)?.len())
+    Ok(octets(alloc, texts)?.len())
 }
 
 /// Whether the first run ends with an error where these reads and writes fail.

@@ -3,13 +3,11 @@
 ghost use Rattle.std.specs.Prelude.{◌≤◌};
 ghost use Rattle.llrp_session.specs.LawfulWords.{AddsRoSpec};
 
-use crate::octets::{octets, spell};
+use crate::octets::{are_spelled, decoded, octets};
 use llrp_session::{Client, CmdFault, Command, RoState, TakeFault, Taken};
-use llrp_tree::{Message, ParamKind, decode_frame};
+use llrp_tool::ToolErr;
+use llrp_tree::{Message, ParamKind};
 use std::alloc::Global;
-use std::process::Abort;
-use std::test::Fail;
-use tag_bits::get;
 
 /// READER_EVENT_NOTIFICATION with ConnectionAttemptEvent 0.
 const ACCEPTED: &str = "043F0000002000000001 00F60016 0080000C0000000000000000 010000060000";
@@ -90,297 +88,361 @@ const CLOSED: &str = "08040000001200000007 011F000800000000";
 /// GET_REPORT with the greatest id.
 const LAST_POLL: &str = "043C0000000AFFFFFFFF";
 
-/// The message of octets whose length field is their number.
-fn decoded(rt: &impl Abort, alloc: Global, digits: &str) -> Result<Message, Fail> {
-    let frame = octets(alloc, digits)?;
-    assert!(rt; frame.len() >= 10);
-    let length = get(frame.as_slice(), 16, 32);
-    assert!(rt; length == frame.len() as u128);
-    match decode_frame(alloc, frame.as_slice(), 65536) {
-        Ok(message) => Ok(message),
-        Err(error) => Err(Fail::from(error)),
+/// What a client is asked to send.
+#[derive(Clone, Copy)]
+enum Request {
+    /// The ROSpec of these octets, which are an ADD_ROSPEC.
+    Add(&'static str),
+    Delete(u32),
+    Start(u32),
+    Stop(u32),
+    Enable(u32),
+    Disable(u32),
+    SetKeepalive(u32),
+    GetReport,
+    Close,
+}
+
+/// What a message is taken for; of reports, how many.
+#[derive(Clone, Copy, PartialEq)]
+enum Told {
+    Connected,
+    Refused(u16),
+    Reply(u16),
+    Tags(usize),
+    Event(u32, RoState),
+    Note,
+    Kept,
+    Closed,
+}
+
+/// A step of an exchange; frames are in hexadecimal digits.
+#[derive(Clone, Copy)]
+enum Step {
+    /// A request is sent, and its message has these octets.
+    Sends(Request, &'static str),
+    /// A request is refused.
+    Refuses(Request, CmdFault),
+    /// A frame is taken for this, and the message that answers it has these octets.
+    Takes(&'static str, Told, &'static str),
+    /// A frame is refused, and its message is handed back.
+    Faults(&'static str, TakeFault),
+    /// In the client's view ROSpec 1 is in this state.
+    Views(Option<RoState>),
+}
+
+/// A client whose ids begin at `first_id`, and what happens to it.
+struct Exchange {
+    name: &'static str,
+    first_id: u32,
+    steps: &'static [Step],
+}
+
+/// The reader accepts the connection.
+const CONNECTS: Step = Step::Takes(ACCEPTED, Told::Connected, "");
+
+static EXCHANGES: [Exchange; 16] = [
+    Exchange {
+        name: "a ROSpec is deleted",
+        first_id: 1,
+        steps: &[
+            CONNECTS,
+            Step::Sends(Request::Delete(9), DELETE),
+            Step::Takes(DELETED, Told::Reply(0), ""),
+        ],
+    },
+    Exchange {
+        name: "a ROSpec is not started",
+        first_id: 1,
+        steps: &[
+            CONNECTS,
+            Step::Sends(Request::Start(9), START),
+            Step::Takes(NOT_STARTED, Told::Reply(101), ""),
+        ],
+    },
+    Exchange {
+        name: "a ROSpec is stopped",
+        first_id: 1,
+        steps: &[
+            CONNECTS,
+            Step::Sends(Request::Stop(9), STOP),
+            Step::Takes(STOPPED, Told::Reply(0), ""),
+        ],
+    },
+    Exchange {
+        name: "a ROSpec is disabled",
+        first_id: 1,
+        steps: &[
+            CONNECTS,
+            Step::Sends(Request::Disable(9), DISABLE),
+            Step::Takes(DISABLED, Told::Reply(0), ""),
+        ],
+    },
+    Exchange {
+        name: "a keepalive each second",
+        first_id: 1,
+        steps: &[
+            CONNECTS,
+            Step::Sends(Request::SetKeepalive(1000), KEEP_ALIVE),
+            Step::Takes(CONFIGURED, Told::Reply(0), ""),
+        ],
+    },
+    Exchange {
+        name: "no keepalives, and an ERROR_MESSAGE",
+        first_id: 1,
+        steps: &[
+            CONNECTS,
+            Step::Sends(Request::SetKeepalive(0), KEEP_SILENT),
+            Step::Takes(UNSUPPORTED, Told::Reply(109), ""),
+        ],
+    },
+    Exchange {
+        name: "the client closes",
+        first_id: 7,
+        steps: &[
+            CONNECTS,
+            Step::Sends(Request::Close, CLOSE),
+            Step::Takes(CLOSED, Told::Closed, ""),
+        ],
+    },
+    Exchange {
+        name: "the reader closes",
+        first_id: 1,
+        steps: &[
+            CONNECTS,
+            Step::Takes(CLOSES, Told::Closed, ""),
+            Step::Faults(KEEPALIVE, TakeFault::Closed),
+        ],
+    },
+    Exchange {
+        name: "a command before the connection",
+        first_id: 1,
+        steps: &[Step::Refuses(Request::Enable(1), CmdFault::NotReady)],
+    },
+    Exchange {
+        name: "one request at a time",
+        first_id: 1,
+        steps: &[
+            CONNECTS,
+            Step::Sends(Request::Enable(1), ENABLE),
+            Step::Refuses(Request::Close, CmdFault::Busy),
+            Step::Faults(ENABLED, TakeFault::Unexpected),
+        ],
+    },
+    Exchange {
+        name: "KEEPALIVE, and a request that no reader sends",
+        first_id: 1,
+        steps: &[
+            CONNECTS,
+            Step::Takes(KEEPALIVE, Told::Kept, ACKNOWLEDGEMENT),
+            Step::Faults(ENABLE, TakeFault::Unexpected),
+        ],
+    },
+    Exchange {
+        name: "the ids are spent",
+        first_id: 4_294_967_295,
+        steps: &[
+            CONNECTS,
+            Step::Sends(Request::GetReport, LAST_POLL),
+            Step::Refuses(Request::GetReport, CmdFault::IdsSpent),
+        ],
+    },
+    Exchange {
+        name: "a ROSpec is not added",
+        first_id: 1,
+        steps: &[
+            CONNECTS,
+            Step::Sends(Request::Add(ADD), ADD),
+            Step::Takes(NOT_ADDED, Told::Reply(101), ""),
+            Step::Views(None),
+            Step::Takes(ACCEPTED, Told::Note, ""),
+        ],
+    },
+    Exchange {
+        name: "the view follows a ROSpec that is added, enabled, started and ended",
+        first_id: 1,
+        steps: &[
+            CONNECTS,
+            Step::Sends(Request::Add(ADD), ADD),
+            Step::Takes(ADDED, Told::Reply(0), ""),
+            Step::Views(Some(RoState::Disabled)),
+            Step::Sends(Request::Enable(1), ENABLE_NEXT),
+            Step::Takes(ENABLED, Told::Reply(0), ""),
+            Step::Views(Some(RoState::Inactive)),
+            Step::Takes(STARTED, Told::Event(1, RoState::Active), ""),
+            Step::Views(Some(RoState::Active)),
+            Step::Takes(ENDED, Told::Event(1, RoState::Inactive), ""),
+            Step::Views(Some(RoState::Inactive)),
+        ],
+    },
+    Exchange {
+        name: "reports are handed out",
+        first_id: 1,
+        steps: &[CONNECTS, Step::Takes(REPORT, Told::Tags(1), "")],
+    },
+    Exchange {
+        name: "the reader refuses the connection",
+        first_id: 1,
+        steps: &[
+            Step::Takes(REFUSED, Told::Refused(1), ""),
+            Step::Refuses(Request::Close, CmdFault::Closed),
+            Step::Faults(ACCEPTED, TakeFault::Closed),
+        ],
+    },
+];
+
+/// The message of a frame in hexadecimal digits.
+fn message(alloc: Global, frame: &str) -> Result<Message, ToolErr> {
+    match decoded(alloc, octets(alloc, &[frame])?.as_slice()) {
+        Some(Ok(message)) => Ok(message),
+        _ => Err(ToolErr::Strange),
     }
 }
 
-/// A command is sent, and its message spells these octets.
-fn sends(
-    rt: &impl Abort,
-    alloc: Global,
-    client: &mut Client,
-    command: Command,
-    sent: &str,
-) -> Result<(), Fail>
+/// Why a command is refused, if it is; else its message is appended.
+fn refusal(client: &mut Client, command: Command, out: &mut Vec<Message>) -> Option<CmdFault>
     requires { AddsRoSpec command }
 {
-    let mut out = Vec::new(alloc);
-    match client.command(command, &mut out) {
-        Ok(()) => spell(rt, alloc, out.as_slice(), sent),
-        Err(refusal) => Err(Fail::from(refusal.fault)),
+    match client.command(command, out) {
+        Ok(()) => None,
+        Err(refusal) => Some(refusal.fault),
     }
 }
 
-/// Why a command is refused.
-fn refusal(alloc: Global, client: &mut Client, command: Command) -> Result<CmdFault, Fail>
-    requires { AddsRoSpec command }
-{
-    let mut out = Vec::new(alloc);
-    match client.command(command, &mut out) {
-        Ok(()) => Err(Fail::from("sent")),
-        Err(refusal) => Ok(refusal.fault),
-    }
-}
-
-/// The ROSpec of an ADD_ROSPEC is added, and the client's message spells the same octets.
-fn adds(rt: &impl Abort, alloc: Global, client: &mut Client, frame: &str) -> Result<(), Fail> {
-    let message = decoded(rt, alloc, frame)?;
+/// The refusal of a command that adds the ROSpec of an ADD_ROSPEC, which has it as its last child.
+fn adding(client: &mut Client, message: Message, out: &mut Vec<Message>) -> Option<CmdFault> {
     let mut children = message.into_children().into_vec();
-    let Some(spec) = children.pop() else {
-        return Err(Fail::from("children"));
-    };
+    let spec = children.pop()?;
     match spec.kind() {
-        ParamKind::RoSpec => sends(rt, alloc, client, Command::Add { spec }, frame),
-        _ => Err(Fail::from("kind")),
+        ParamKind::RoSpec => refusal(client, Command::Add { spec }, out),
+        _ => None,
     }
 }
 
-/// What octets are taken for; the message that answers them spells these octets.
+/// Why a request is refused, if it is; else its message is appended.
+fn asks(
+    alloc: Global,
+    client: &mut Client,
+    request: Request,
+    out: &mut Vec<Message>,
+) -> Result<Option<CmdFault>, ToolErr> {
+    Ok(match request {
+        Request::Add(frame) => adding(client, message(alloc, frame)?, out),
+        Request::Delete(id) => refusal(client, Command::Delete { id }, out),
+        Request::Start(id) => refusal(client, Command::Start { id }, out),
+        Request::Stop(id) => refusal(client, Command::Stop { id }, out),
+        Request::Enable(id) => refusal(client, Command::Enable { id }, out),
+        Request::Disable(id) => refusal(client, Command::Disable { id }, out),
+        Request::SetKeepalive(ms) => refusal(client, Command::SetKeepalive { ms }, out),
+        Request::GetReport => refusal(client, Command::GetReport, out),
+        Request::Close => refusal(client, Command::Close, out),
+    })
+}
+
+/// Whether a request is sent, and its message has these octets.
+fn sends(
+    alloc: Global,
+    client: &mut Client,
+    request: Request,
+    frame: &str,
+) -> Result<bool, ToolErr> {
+    let mut out = Vec::new(alloc);
+    let refusal = asks(alloc, client, request, &mut out)?;
+    Ok(refusal.is_none() && are_spelled(alloc, out.as_slice(), &[frame])?)
+}
+
+/// Whether a request is refused with this fault.
+fn refuses(
+    alloc: Global,
+    client: &mut Client,
+    request: Request,
+    fault: CmdFault,
+) -> Result<bool, ToolErr> {
+    let mut out = Vec::new(alloc);
+    Ok(asks(alloc, client, request, &mut out)? == Some(fault))
+}
+
+/// What a message is told to be.
+fn tell(taken: Taken) -> Told {
+    match taken {
+        Taken::Connected => Told::Connected,
+        Taken::Refused(status) => Told::Refused(status),
+        Taken::Reply(status) => Told::Reply(status),
+        Taken::Tags(tags) => Told::Tags(tags.as_slice().len()),
+        Taken::Event(id, state) => Told::Event(id, state),
+        Taken::Note => Told::Note,
+        Taken::Kept => Told::Kept,
+        Taken::Closed => Told::Closed,
+    }
+}
+
+/// What a message is taken for, if it is taken; what answers it is appended.
+fn taken(client: &mut Client, message: Message, out: &mut Vec<Message>) -> Option<Told> {
+    match client.take(message, out) {
+        Ok(taken) => Some(tell(taken)),
+        Err(_) => None,
+    }
+}
+
+/// Whether a frame is taken for this, and the message that answers it has these octets.
 fn takes(
-    rt: &impl Abort,
     alloc: Global,
     client: &mut Client,
     frame: &str,
+    told: Told,
     answer: &str,
-) -> Result<Taken, Fail> {
+) -> Result<bool, ToolErr> {
     let mut out = Vec::new(alloc);
-    let message = decoded(rt, alloc, frame)?;
-    match client.take(message, &mut out) {
-        Ok(taken) => {
-            spell(rt, alloc, out.as_slice(), answer)?;
-            Ok(taken)
-        }
-        Err(refusal) => Err(Fail::from(refusal.fault)),
-    }
+    let found = taken(client, message(alloc, frame)?, &mut out);
+    Ok(found == Some(told) && are_spelled(alloc, out.as_slice(), &[answer])?)
 }
 
-/// Why octets are refused; their message is handed back.
-fn fault(
-    rt: &impl Abort,
+/// Whether a frame is refused with this fault, and its message is handed back.
+fn faults(
     alloc: Global,
     client: &mut Client,
     frame: &str,
-) -> Result<TakeFault, Fail> {
+    fault: TakeFault,
+) -> Result<bool, ToolErr> {
     let mut out = Vec::new(alloc);
-    let message = decoded(rt, alloc, frame)?;
-    match client.take(message, &mut out) {
-        Ok(_) => Err(Fail::from("taken")),
+    match client.take(message(alloc, frame)?, &mut out) {
+        Ok(_) => Ok(false),
         Err(refusal) => {
-            spell(rt, alloc, &[refusal.message], frame)?;
-            Ok(refusal.fault)
+            let is_same = are_spelled(alloc, &[refusal.message], &[frame])?;
+            Ok(is_same && refusal.fault == fault)
         }
     }
 }
 
-/// A client that its reader accepted.
-fn connected(rt: &impl Abort, alloc: Global, first_id: u32) -> Result<Client, Fail>
+/// Whether a client does what a step says.
+fn does(alloc: Global, client: &mut Client, step: Step) -> Result<bool, ToolErr> {
+    match step {
+        Step::Sends(request, frame) => sends(alloc, client, request, frame),
+        Step::Refuses(request, fault) => refuses(alloc, client, request, fault),
+        Step::Takes(frame, told, answer) => takes(alloc, client, frame, told, answer),
+        Step::Faults(frame, fault) => faults(alloc, client, frame, fault),
+        Step::Views(state) => Ok(client.view(1) == state),
+    }
+}
+
+/// How many steps a client does as they say, up to the first one that it does not.
+fn steps_done(alloc: Global, first_id: u32, steps: &[Step]) -> Result<usize, ToolErr>
     requires { 1 ≤ first_id }
 {
     let mut client = Client::new(alloc, 65536, first_id);
-    match takes(rt, alloc, &mut client, ACCEPTED, "")? {
-        Taken::Connected => Ok(client),
-        _ => Err(Fail::from("taken")),
+    for (place, step) in steps.iter().enumerate() {
+        if !does(alloc, &mut client, *step)? {
+            return Ok(place);
+        }
     }
+    Ok(steps.len())
 }
 
-/// The response to the pending request is taken as a reply with this status.
-fn replies(
-    rt: &impl Abort,
-    alloc: Global,
-    client: &mut Client,
-    response: &str,
-    status: u16,
-) -> Result<(), Fail> {
-    match takes(rt, alloc, client, response, "")? {
-        Taken::Reply(told) => assert_eq!(rt; told, status),
-        _ => return Err(Fail::from("taken")),
+#[test]
+fn exchanges(rt: HostRuntime) {
+    for exchange in &EXCHANGES {
+        assert!(rt; exchange.first_id >= 1);
+        let done = steps_done(rt.alloc(), exchange.first_id, exchange.steps);
+        assert_eq!(rt; done, Ok(exchange.steps.len()), "at {}", exchange.name);
     }
-    Ok(())
-}
-
-/// An event of ROSpec 1 is taken, which is in this state then.
-fn moves(
-    rt: &impl Abort,
-    alloc: Global,
-    client: &mut Client,
-    event: &str,
-    state: RoState,
-) -> Result<(), Fail> {
-    match takes(rt, alloc, client, event, "")? {
-        Taken::Event(id, to) => assert_eq!(rt; (id, to), (1, state)),
-        _ => return Err(Fail::from("taken")),
-    }
-    assert_eq!(rt; client.view(1), Some(state));
-    Ok(())
-}
-
-/// A client sends a command under id 1, and takes the response as a reply with this status.
-fn is_answered(
-    rt: &impl Abort,
-    alloc: Global,
-    command: Command,
-    request: &str,
-    response: &str,
-    status: u16,
-) -> Result<(), Fail>
-    requires { AddsRoSpec command }
-{
-    let mut client = connected(rt, alloc, 1)?;
-    sends(rt, alloc, &mut client, command, request)?;
-    replies(rt, alloc, &mut client, response, status)
-}
-
-#[test]
-fn requests_about_rospecs(rt: HostRuntime) -> Result<(), Fail> {
-    let alloc = rt.alloc();
-    is_answered(&rt, alloc, Command::Delete { id: 9 }, DELETE, DELETED, 0)?;
-    is_answered(
-        &rt,
-        alloc,
-        Command::Start { id: 9 },
-        START,
-        NOT_STARTED,
-        101,
-    )?;
-    is_answered(&rt, alloc, Command::Stop { id: 9 }, STOP, STOPPED, 0)?;
-    is_answered(&rt, alloc, Command::Disable { id: 9 }, DISABLE, DISABLED, 0)
-}
-
-#[test]
-fn configurations(rt: HostRuntime) -> Result<(), Fail> {
-    let alloc = rt.alloc();
-    let each_second = Command::SetKeepalive { ms: 1000 };
-    is_answered(&rt, alloc, each_second, KEEP_ALIVE, CONFIGURED, 0)?;
-    let never = Command::SetKeepalive { ms: 0 };
-    is_answered(&rt, alloc, never, KEEP_SILENT, UNSUPPORTED, 109)
-}
-
-#[test]
-fn client_that_closes(rt: HostRuntime) -> Result<(), Fail> {
-    let alloc = rt.alloc();
-    let mut client = connected(&rt, alloc, 7)?;
-    sends(&rt, alloc, &mut client, Command::Close, CLOSE)?;
-    assert!(rt; matches!(takes(&rt, alloc, &mut client, CLOSED, "")?, Taken::Closed));
-    Ok(())
-}
-
-#[test]
-fn reader_that_closes(rt: HostRuntime) -> Result<(), Fail> {
-    let alloc = rt.alloc();
-    let mut client = connected(&rt, alloc, 1)?;
-    assert!(rt; matches!(takes(&rt, alloc, &mut client, CLOSES, "")?, Taken::Closed));
-    let late = fault(&rt, alloc, &mut client, KEEPALIVE)?;
-    assert_eq!(rt; late, TakeFault::Closed);
-    Ok(())
-}
-
-#[test]
-fn early_command(rt: HostRuntime) -> Result<(), Fail> {
-    let alloc = rt.alloc();
-    let mut client = Client::new(alloc, 65536, 1);
-    let early = refusal(alloc, &mut client, Command::Enable { id: 1 })?;
-    assert_eq!(rt; early, CmdFault::NotReady);
-    Ok(())
-}
-
-#[test]
-fn one_request_at_a_time(rt: HostRuntime) -> Result<(), Fail> {
-    let alloc = rt.alloc();
-    let mut client = connected(&rt, alloc, 1)?;
-    sends(&rt, alloc, &mut client, Command::Enable { id: 1 }, ENABLE)?;
-    let second = refusal(alloc, &mut client, Command::Close)?;
-    assert_eq!(rt; second, CmdFault::Busy);
-    let other = fault(&rt, alloc, &mut client, ENABLED)?;
-    assert_eq!(rt; other, TakeFault::Unexpected);
-    Ok(())
-}
-
-#[test]
-fn keepalives(rt: HostRuntime) -> Result<(), Fail> {
-    let alloc = rt.alloc();
-    let mut client = connected(&rt, alloc, 1)?;
-    assert!(rt;
-        matches!(
-            takes(&rt, alloc, &mut client, KEEPALIVE, ACKNOWLEDGEMENT)?,
-            Taken::Kept
-        )
-    );
-    let request = fault(&rt, alloc, &mut client, ENABLE)?;
-    assert_eq!(rt; request, TakeFault::Unexpected);
-    Ok(())
-}
-
-#[test]
-fn ids_are_spent(rt: HostRuntime) -> Result<(), Fail> {
-    let alloc = rt.alloc();
-    let mut client = connected(&rt, alloc, 4_294_967_295)?;
-    sends(&rt, alloc, &mut client, Command::GetReport, LAST_POLL)?;
-    let next = refusal(alloc, &mut client, Command::GetReport)?;
-    assert_eq!(rt; next, CmdFault::IdsSpent);
-    Ok(())
-}
-
-#[test]
-fn request_that_fails(rt: HostRuntime) -> Result<(), Fail> {
-    let alloc = rt.alloc();
-    let mut client = connected(&rt, alloc, 1)?;
-    adds(&rt, alloc, &mut client, ADD)?;
-    replies(&rt, alloc, &mut client, NOT_ADDED, 101)?;
-    assert_eq!(rt; client.view(1), None);
-    assert!(rt; matches!(takes(&rt, alloc, &mut client, ACCEPTED, "")?, Taken::Note));
-    Ok(())
-}
-
-/// A client adds and enables ROSpec 1, whose start and end it is told: its view follows.
-fn follows(rt: &impl Abort, alloc: Global, client: &mut Client) -> Result<(), Fail> {
-    adds(rt, alloc, client, ADD)?;
-    replies(rt, alloc, client, ADDED, 0)?;
-    assert_eq!(rt; client.view(1), Some(RoState::Disabled));
-    sends(rt, alloc, client, Command::Enable { id: 1 }, ENABLE_NEXT)?;
-    replies(rt, alloc, client, ENABLED, 0)?;
-    assert_eq!(rt; client.view(1), Some(RoState::Inactive));
-    moves(rt, alloc, client, STARTED, RoState::Active)?;
-    moves(rt, alloc, client, ENDED, RoState::Inactive)
-}
-
-#[test]
-fn view_follows(rt: HostRuntime) -> Result<(), Fail> {
-    let mut client = connected(&rt, rt.alloc(), 1)?;
-    follows(&rt, rt.alloc(), &mut client)
-}
-
-#[test]
-fn reports_are_handed_out(rt: HostRuntime) -> Result<(), Fail> {
-    let alloc = rt.alloc();
-    let mut client = connected(&rt, alloc, 1)?;
-    match takes(&rt, alloc, &mut client, REPORT, "")? {
-        Taken::Tags(tags) => assert_eq!(rt; tags.as_slice().len(), 1),
-        _ => return Err(Fail::from("taken")),
-    }
-    Ok(())
-}
-
-#[test]
-fn reader_that_refuses(rt: HostRuntime) -> Result<(), Fail> {
-    let alloc = rt.alloc();
-    let mut client = Client::new(alloc, 65536, 1);
-    assert!(rt;
-        matches!(
-            takes(&rt, alloc, &mut client, REFUSED, "")?,
-            Taken::Refused(1)
-        )
-    );
-    let command = refusal(alloc, &mut client, Command::Close)?;
-    assert_eq!(rt; command, CmdFault::Closed);
-    let message = fault(&rt, alloc, &mut client, ACCEPTED)?;
-    assert_eq!(rt; message, TakeFault::Closed);
-    Ok(())
 }

@@ -2,7 +2,7 @@
 
 ghost use Rattle.std.specs.Prelude.{Some};
 
-use crate::vectors::bytes;
+use crate::octets::octets;
 use llrp_tool::{Input, Output, Refusal, Sink, ToolErr, run_encode};
 use llrp_tree::NodeFault;
 use std::alloc::Global;
@@ -85,7 +85,7 @@ static PARAMETERS: [(&[u8], &str); 5] = [
 #[test]
 fn listings_of_parameters(rt: HostRuntime) -> Result<(), Fail> {
     for (listing, digits) in &PARAMETERS {
-        let wanted = bytes(rt.alloc(), digits)?;
+        let wanted = octets(rt.alloc(), &[digits])?;
         encodes(&rt, listing, wanted.as_slice());
     }
     Ok(())

@@ -2,7 +2,7 @@
 
 ghost use Rattle.std.specs.Prelude.{◌≤◌};
 
-use crate::serve::bytes;
+use crate::octets::octets;
 use llrp_tool::{Gathering, ToolErr, standard_plan};
 use llrp_tree::ParamKind;
 use std::alloc::Global;
@@ -90,7 +90,7 @@ fn tells(alloc: Global, stream: &[u8], wanted: &[u8]) -> Result<bool, ToolErr> {
 fn reports(alloc: Global, report: &str, wanted: &[u8]) -> Result<bool, ToolErr> {
     tells(
         alloc,
-        bytes(alloc, &[CONNECTED, report])?.as_slice(),
+        octets(alloc, &[CONNECTED, report])?.as_slice(),
         wanted,
     )
 }
@@ -144,8 +144,8 @@ fn is_whole_in_pieces(
 #[test]
 fn one_run_in_pieces(rt: HostRuntime) -> Result<(), Fail> {
     let alloc = rt.alloc();
-    let stream = bytes(alloc, &DOWN)?;
-    let wanted = bytes(alloc, &UP)?;
+    let stream = octets(alloc, &DOWN)?;
+    let wanted = octets(alloc, &UP)?;
     for size in [1, 2, 3, 7, 64, 4096] {
         let whole = is_whole_in_pieces(alloc, stream.as_slice(), size, wanted.as_slice());
         assert!(rt; whole == Ok(true));
@@ -166,11 +166,11 @@ fn stays_refused(alloc: Global, refused: &[u8], fine: &[u8]) -> Result<bool, Too
 #[test]
 fn an_error_is_answered_again(rt: HostRuntime) -> Result<(), Fail> {
     let alloc = rt.alloc();
-    let refused = bytes(
+    let refused = octets(
         alloc,
         &["043F0000002000000001 00F60016 0080000C0000000000000000 010000060003"],
     )?;
-    let fine = bytes(alloc, &DOWN)?;
+    let fine = octets(alloc, &DOWN)?;
     assert!(rt; stays_refused(alloc, refused.as_slice(), fine.as_slice()) == Ok(true));
     Ok(())
 }

@@ -4,7 +4,7 @@ ghost use Rattle.std.specs.Prelude.{◌≡◌, ◌≤◌, None};
 
 use crate::devices::Failing;
 use crate::gathering::{ADD, CONNECTED, DOWN, ENABLE, LINES, UP};
-use crate::serve::{bytes, spell};
+use crate::octets::{octets, spell};
 use llrp_tool::{Input, Output, Source, Summary, ToolErr, run_inventory, run_show, standard_plan};
 use std::alloc::Global;
 use std::io;
@@ -122,7 +122,7 @@ pub(super) fn inventory_of(
     requires least { 4096 ≤ limit }
     requires most { limit ≤ 65536 }
 {
-    let down = bytes(alloc, down)?;
+    let down = octets(alloc, down)?;
     let plan = standard_plan(alloc, every, polls)?;
     let mut up = Output::new(Vec::new(alloc));
     let mut lines = Output::new(Vec::new(alloc));
@@ -232,8 +232,8 @@ fn failed_run(
     writes: usize,
     reports: usize,
 ) -> Result<(Result<Summary, ToolErr>, usize, usize, bool), ToolErr> {
-    let down = bytes(alloc, &DOWN)?;
-    let wanted = bytes(alloc, &UP)?;
+    let down = octets(alloc, &DOWN)?;
+    let wanted = octets(alloc, &UP)?;
     let plan = standard_plan(alloc, 0, 1)?;
     let mut source = OneByOne::new(down.as_slice(), reads);
     let mut up = Failing::after(alloc, writes);
@@ -246,7 +246,7 @@ fn failed_run(
 #[test]
 fn a_read_that_fails_leaves_fronts(rt: HostRuntime) -> Result<(), Fail> {
     let alloc = rt.alloc();
-    let count = bytes(alloc, &DOWN)?.len();
+    let count = octets(alloc, &DOWN)?.len();
     for left in 0..count {
         let (end, _, _, fronts) = failed_run(alloc, left, usize::MAX, usize::MAX)?;
         assert!(rt; end == Err(ToolErr::Read));
@@ -258,7 +258,7 @@ fn a_read_that_fails_leaves_fronts(rt: HostRuntime) -> Result<(), Fail> {
 #[test]
 fn a_write_that_fails_leaves_fronts(rt: HostRuntime) -> Result<(), Fail> {
     let alloc = rt.alloc();
-    let count = bytes(alloc, &UP)?.len();
+    let count = octets(alloc, &UP)?.len();
     for left in 0..count {
         let (end, sent, _, fronts) = failed_run(alloc, usize::MAX, left, usize::MAX)?;
         assert!(rt; end == Err(ToolErr::Write));

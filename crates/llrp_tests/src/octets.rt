@@ -1,49 +1,46 @@
 //! Octets in tests, as hexadecimal digits among spaces.
 
-use llrp_tree::{Message, encode_into};
-use std::alloc::{AllocError, Global};
-use std::process::Abort;
-use std::test::Fail;
+use llrp_tool::{ToolErr, bytes_of_hex};
+use llrp_tree::{FrameErr, Message, decode_frame, encode_into};
+use std::alloc::Global;
+use tag_bits::get;
 
-/// One more digit: it completes an octet if the one before it is the first of its octet, and else is such a first one.
-fn push_digit(
-    octets: &mut Vec<u8>,
-    first: Option<u8>,
-    digit: u8,
-) -> Result<Option<u8>, AllocError> {
-    match first {
-        None => Ok(Some(digit)),
-        Some(first) => {
-            octets.push(first << 4 | digit)?;
-            Ok(None)
-        }
+/// The octets of hexadecimal texts in a row, whose spaces are passed over.
+pub(crate) fn octets(alloc: Global, texts: &[&str]) -> Result<Vec<u8>, ToolErr> {
+    let mut digits = Vec::new(alloc);
+    for text in texts {
+        digits.extend_from_slice(text.as_bytes())?;
     }
+    bytes_of_hex(alloc, digits.as_slice())
 }
 
-/// The octets of digits.
-pub(crate) fn octets(alloc: Global, digits: &str) -> Result<Vec<u8>, Fail> {
-    let mut octets = Vec::new(alloc);
-    let mut first = None;
-    for digit in digits.bytes() {
-        if let Some(digit) = (digit as char).to_digit(16) {
-            first = push_digit(&mut octets, first, digit as u8)?;
-        }
-    }
-    Ok(octets)
+/// Whether hexadecimal texts in a row spell these octets.
+pub(crate) fn spell(alloc: Global, texts: &[&str], found: &[u8]) -> Result<bool, ToolErr> {
+    Ok(octets(alloc, texts)?.as_slice() == found)
 }
 
-/// Messages, one after another, have the octets of these digits.
-pub(crate) fn spell(
-    rt: &impl Abort,
+/// Whether messages, one after another, have the octets of hexadecimal texts in a row.
+pub(crate) fn are_spelled(
     alloc: Global,
     messages: &[Message],
-    digits: &str,
-) -> Result<(), Fail> {
-    let mut spelled = Vec::new(alloc);
+    texts: &[&str],
+) -> Result<bool, ToolErr> {
+    let mut found = Vec::new(alloc);
     for message in messages {
-        assert_eq!(rt; encode_into(alloc, message, &mut spelled, 65536), Ok(()));
+        if encode_into(alloc, message, &mut found, 65536).is_err() {
+            return Ok(false);
+        }
     }
-    let expected = octets(alloc, digits)?;
-    assert_eq!(rt; spelled.as_slice(), expected.as_slice());
-    Ok(())
+    spell(alloc, texts, found.as_slice())
+}
+
+/// The message of octets or their first fault; nothing where the length field is not their number.
+pub(crate) fn decoded(alloc: Global, frame: &[u8]) -> Option<Result<Message, FrameErr>> {
+    if frame.len() < 10 {
+        return None;
+    }
+    if get(frame, 16, 32) != frame.len() as u128 {
+        return None;
+    }
+    Some(decode_frame(alloc, frame, 65536))
 }

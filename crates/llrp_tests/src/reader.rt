@@ -1,41 +1,13 @@
 //! Exchanges of the reader, octet by octet.
 
-use crate::octets::{octets, spell};
+ghost use Rattle.std.specs.Prelude.{◌≤◌};
+
+use crate::octets::{are_spelled, decoded, octets};
 use llrp_session::{Reader, ReaderIn, RoState, Sighting, StepFault};
-use llrp_tree::{FrameErr, decode_frame};
-use std::alloc::{AllocError, Global};
-use std::process::Abort;
-use std::test::Fail;
+use llrp_tool::ToolErr;
+use llrp_tree::{FrameErr, Message};
+use std::alloc::Global;
 use tag_bits::{Word, get};
-
-/// The event of octets that a client sent: of a message, or of a frame that is none.
-fn taken(rt: &impl Abort, alloc: Global, digits: &str) -> Result<ReaderIn, Fail> {
-    let frame = octets(alloc, digits)?;
-    assert!(rt; frame.len() >= 10);
-    let length = get(frame.as_slice(), 16, 32);
-    assert!(rt; length == frame.len() as u128);
-    let id = get(frame.as_slice(), 48, 32) as u32;
-    match decode_frame(alloc, frame.as_slice(), 65536) {
-        Ok(message) => Ok(ReaderIn::Take(message)),
-        Err(FrameErr::Bad(fault)) => Ok(ReaderIn::TakeBad {
-            id,
-            reason: fault.reason,
-        }),
-        Err(FrameErr::Memory) => Err(Fail::from("memory")),
-    }
-}
-
-/// The sighting of an SGTIN-96 by an antenna, with -60 dBm.
-fn sighting(antenna: u16) -> Result<Sighting, Fail> {
-    match Word::new(0x3074257BF7194E4000001A85) {
-        Some(epc) => Ok(Sighting {
-            antenna,
-            rssi: -60,
-            epc,
-        }),
-        None => Err(Fail::from("word")),
-    }
-}
 
 /// What happens to a reader; frames are in hexadecimal digits.
 #[derive(Clone, Copy)]
@@ -47,56 +19,22 @@ enum Does {
     Tick,
 }
 
-/// The event of it.
-fn event(rt: &impl Abort, alloc: Global, does: Does) -> Result<ReaderIn, Fail> {
-    match does {
-        Does::Connect => Ok(ReaderIn::Connect),
-        Does::Take(digits) => taken(rt, alloc, digits),
-        Does::Seen(antenna) => Ok(ReaderIn::Seen(sighting(antenna)?)),
-        Does::Tick => Ok(ReaderIn::Tick),
-    }
+/// A step of an exchange.
+#[derive(Clone, Copy)]
+enum Step {
+    /// At a moment this happens, and messages of these octets are sent, one after another.
+    Sends(u64, Does, &'static str),
+    /// This is refused at moment 0, and sends nothing.
+    Refuses(Does, StepFault),
+    /// A ROSpec is in this state.
+    Stands(u32, Option<RoState>),
 }
 
-/// It happens at a moment, and these octets are sent, messages one after another.
-fn happens(
-    rt: &impl Abort,
-    alloc: Global,
-    reader: &mut Reader,
-    now: u64,
-    does: Does,
-    sends: &str,
-) -> Result<(), Fail> {
-    let event = event(rt, alloc, does)?;
-    let mut messages = Vec::new(alloc);
-    assert!(rt; reader.step(now, event, &mut messages).is_ok());
-    spell(rt, alloc, messages.as_slice(), sends)
-}
-
-/// It is refused at moment 0, and sends nothing.
-fn refused(
-    rt: &impl Abort,
-    alloc: Global,
-    reader: &mut Reader,
-    does: Does,
-    fault: StepFault,
-) -> Result<(), Fail> {
-    let event = event(rt, alloc, does)?;
-    let mut messages = Vec::new(alloc);
-    match reader.step(0, event, &mut messages) {
-        Ok(()) => return Err(Fail::from("no refusal")),
-        Err(refusal) => assert_eq!(rt; refusal.fault, fault),
-    }
-    assert!(rt; messages.is_empty());
-    Ok(())
-}
-
-/// A reader of the greatest limit whose own ids begin at 1, and to which all this has happened.
-fn reader_after(rt: &impl Abort, alloc: Global, steps: &[Step]) -> Result<Reader, Fail> {
-    let mut reader = Reader::new(alloc, 65536, 1);
-    for (now, does, sends) in steps {
-        happens(rt, alloc, &mut reader, *now, *does, sends)?;
-    }
-    Ok(reader)
+/// A reader of a limit whose own ids begin at 1, and what happens to it.
+struct Exchange {
+    name: &'static str,
+    limit: u32,
+    steps: &'static [Step],
 }
 
 const ACCEPTED: &str = "043F0000002000000001 00F60016 0080000C0000000000000000 010000060000";
@@ -162,26 +100,6 @@ const STOPPED: &str =
 const DISABLED: &str =
     "083D0000002000000003 00F00016 8D3074257BF7194E4000001A85 810001 86C4 083F0000002700000004 00F6001D 0080000C0000000000000007 00F9000D010000000100000000 08230000001200000005 011F000800000000";
 
-#[test]
-fn connections(rt: HostRuntime) -> Result<(), Fail> {
-    let alloc = rt.alloc();
-    let mut reader = Reader::new(alloc, 4096, 1);
-    assert_eq!(rt; reader.limit(), 4096);
-    refused(&rt, alloc, &mut reader, Does::Tick, StepFault::NotConnected)?;
-    happens(&rt, alloc, &mut reader, 0, Does::Connect, ACCEPTED)?;
-    refused(&rt, alloc, &mut reader, Does::Connect, StepFault::AlreadyUp)
-}
-
-#[test]
-fn closed_connections(rt: HostRuntime) -> Result<(), Fail> {
-    let alloc = rt.alloc();
-    let close = Does::Take("080E0000000A00000007");
-    let closed = "08040000001200000007 011F000800000000";
-    let steps = [(0, Does::Connect, ACCEPTED), (0, close, closed)];
-    let mut reader = reader_after(&rt, alloc, &steps)?;
-    refused(&rt, alloc, &mut reader, Does::Connect, StepFault::Closed)
-}
-
 /// The reports of a tag that ROSpec 7 saw at antenna 1 at moment 6, and at antenna 3 at moment 8.
 const FULL_REPORTS: &str =
     "083D0000007C00000003 00F00039 8D3074257BF7194E4000001A85 8900000007 8E0001 8A0005 810001 870001 86C4 820000000000000006 840000000000000006 880001 00F00039 8D3074257BF7194E4000001A85 8900000007 8E0001 8A0005 810003 870001 86C4 820000000000000008 840000000000000008 880001";
@@ -198,220 +116,329 @@ const RESET: Does = Does::Take("08030000001800000005 80 00ED000D010002 00EE0006F
 const WHOLE_REPORTS: &str =
     "083D0000007C00000003 00F00039 8D3074257BF7194E4000001A85 8900000001 8E0001 8A0001 810001 870001 86C4 820000000000000006 840000000000000006 880001 00F00039 8D3074257BF7194E4000001A85 8900000001 8E0001 8A0001 810005 870001 86C4 820000000000000008 840000000000000008 880001";
 
-/// RO_ACCESS_REPORT of 64 reports.
-fn all_held(alloc: Global) -> Result<String, AllocError> {
-    let mut all = String::new(alloc);
-    all.push_str("083D0000058A00000004")?;
-    for _ in 0..64 {
-        all.push_str("00F00016 8D3074257BF7194E4000001A85 810001 86C4")?;
-    }
-    Ok(all)
-}
-
-/// At a moment this happens, and the reader sends these octets.
-type Step = (u64, Does, &'static str);
-
-/// What happens to a reader, and the state of a ROSpec behind it.
-struct Exchange {
-    name: &'static str,
-    steps: &'static [Step],
-    rospec: u32,
-    state: Option<RoState>,
-}
-
-static EXCHANGES: [Exchange; 7] = [
+static EXCHANGES: [Exchange; 10] = [
+    Exchange {
+        name: "a client connects",
+        limit: 4096,
+        steps: &[
+            Step::Refuses(Does::Tick, StepFault::NotConnected),
+            Step::Sends(0, Does::Connect, ACCEPTED),
+            Step::Refuses(Does::Connect, StepFault::AlreadyUp),
+        ],
+    },
+    Exchange {
+        name: "a client closes the connection",
+        limit: 65536,
+        steps: &[
+            Step::Sends(0, Does::Connect, ACCEPTED),
+            Step::Sends(
+                0,
+                Does::Take("080E0000000A00000007"),
+                "08040000001200000007 011F000800000000",
+            ),
+            Step::Refuses(Does::Connect, StepFault::Closed),
+        ],
+    },
     Exchange {
         name: "a ROSpec starts by itself",
+        limit: 65536,
         steps: &[
-            (0, Does::Connect, ACCEPTED),
-            (1, ADD_IMMEDIATE, ADDED),
-            (
+            Step::Sends(0, Does::Connect, ACCEPTED),
+            Step::Sends(1, ADD_IMMEDIATE, ADDED),
+            Step::Sends(
                 5,
                 ENABLE,
                 "08220000001200000003 011F000800000000 083F0000002700000002 00F6001D 0080000C0000000000000005 00F9000D000000000100000000",
             ),
-            (6, Does::Seen(1), ""),
-            (7, DISABLE, DISABLED),
+            Step::Sends(6, Does::Seen(1), ""),
+            Step::Sends(7, DISABLE, DISABLED),
+            Step::Stands(1, Some(RoState::Disabled)),
         ],
-        rospec: 1,
-        state: Some(RoState::Disabled),
     },
     Exchange {
         name: "a ROSpec ends by itself",
+        limit: 65536,
         steps: &[
-            (0, Does::Connect, ACCEPTED),
-            (1, ADD_BRIEF, ADDED),
-            (4, ENABLE, ENABLED),
-            (5, START, STARTED),
-            (1004, Does::Tick, ""),
-            (
+            Step::Sends(0, Does::Connect, ACCEPTED),
+            Step::Sends(1, ADD_BRIEF, ADDED),
+            Step::Sends(4, ENABLE, ENABLED),
+            Step::Sends(5, START, STARTED),
+            Step::Sends(1004, Does::Tick, ""),
+            Step::Sends(
                 1005,
                 Does::Tick,
                 "083F0000002700000003 00F6001D 0080000C00000000000003ED 00F9000D010000000100000000",
             ),
+            Step::Stands(1, Some(RoState::Inactive)),
         ],
-        rospec: 1,
-        state: Some(RoState::Inactive),
     },
     Exchange {
         name: "ROSpecs that are refused",
+        limit: 65536,
         steps: &[
-            (0, Does::Connect, ACCEPTED),
-            (1, ADD_INACTIVE, NOT_ADDED),
-            (1, ADD_SELF_STOPPING, NOT_ADDED),
+            Step::Sends(0, Does::Connect, ACCEPTED),
+            Step::Sends(1, ADD_INACTIVE, NOT_ADDED),
+            Step::Sends(1, ADD_SELF_STOPPING, NOT_ADDED),
+            Step::Stands(1, None),
         ],
-        rospec: 1,
-        state: None,
     },
     Exchange {
         name: "a ROSpec with all fields",
+        limit: 65536,
         steps: &[
-            (0, Does::Connect, ACCEPTED),
-            (1, ADD_FULL, ADDED),
-            (
+            Step::Sends(0, Does::Connect, ACCEPTED),
+            Step::Sends(1, ADD_FULL, ADDED),
+            Step::Sends(
                 5,
                 Does::Take("08180000000E0000000300000007"),
                 "08220000001200000003 011F000800000000 083F0000002700000002 00F6001D 0080000C0000000000000005 00F9000D000000000700000000",
             ),
-            (6, Does::Seen(2), ""),
-            (6, Does::Seen(1), ""),
-            (8, Does::Seen(3), FULL_REPORTS),
-            (1_500_004, Does::Tick, ""),
-            (
+            Step::Sends(6, Does::Seen(2), ""),
+            Step::Sends(6, Does::Seen(1), ""),
+            Step::Sends(8, Does::Seen(3), FULL_REPORTS),
+            Step::Sends(1_500_004, Does::Tick, ""),
+            Step::Sends(
                 1_500_005,
                 Does::Tick,
                 "083F0000002700000004 00F6001D 0080000C000000000016E365 00F9000D010000000700000000",
             ),
+            Step::Stands(7, Some(RoState::Inactive)),
         ],
-        rospec: 7,
-        state: Some(RoState::Inactive),
     },
     Exchange {
         name: "GET_READER_CAPABILITIES, version 3, KEEPALIVE and messages that are passed over",
+        limit: 65536,
         steps: &[
-            (0, Does::Connect, ACCEPTED),
-            (
+            Step::Sends(0, Does::Connect, ACCEPTED),
+            Step::Sends(
                 0,
                 Does::Take("04010000000B0000000500"),
                 "04640000001200000005 011F0008006D0000",
             ),
-            (
+            Step::Sends(
                 0,
                 Does::Take("0C3E0000000A00000007"),
                 "04640000001200000007 011F0008006E0000",
             ),
-            (
+            Step::Sends(
                 0,
                 Does::Take("043E0000000A00000009"),
                 "04640000001200000009 011F0008006D0000",
             ),
-            (0, Does::Take("04480000000A00000009"), ""),
-            (0, Does::Take("04400000000A00000009"), ""),
-            (0, Does::Take("04640000001200000009 011F0008006D0000"), ""),
+            Step::Sends(0, Does::Take("04480000000A00000009"), ""),
+            Step::Sends(0, Does::Take("04400000000A00000009"), ""),
+            Step::Sends(0, Does::Take("04640000001200000009 011F0008006D0000"), ""),
+            Step::Stands(1, None),
         ],
-        rospec: 1,
-        state: None,
     },
     Exchange {
         name: "a keepalive each second",
+        limit: 65536,
         steps: &[
-            (0, Does::Connect, ACCEPTED),
-            (0, KEEP_ALIVE, CONFIGURED),
-            (999_999, Does::Tick, ""),
-            (1_000_000, Does::Tick, "083E0000000A00000002"),
-            (1_999_999, Does::Tick, ""),
+            Step::Sends(0, Does::Connect, ACCEPTED),
+            Step::Sends(0, KEEP_ALIVE, CONFIGURED),
+            Step::Sends(999_999, Does::Tick, ""),
+            Step::Sends(1_000_000, Does::Tick, "083E0000000A00000002"),
+            Step::Sends(1_999_999, Does::Tick, ""),
+            Step::Stands(1, None),
         ],
-        rospec: 1,
-        state: None,
     },
     Exchange {
         name: "a reset ends the keepalives",
+        limit: 65536,
         steps: &[
-            (0, Does::Connect, ACCEPTED),
-            (0, KEEP_ALIVE, CONFIGURED),
-            (0, RESET, CONFIGURED),
-            (1, ADD, ADDED),
-            (4, ENABLE, ENABLED),
-            (5, START, STARTED),
-            (6, Does::Seen(1), ""),
-            (8, Does::Seen(5), WHOLE_REPORTS),
-            (1_000_000, Does::Tick, ""),
+            Step::Sends(0, Does::Connect, ACCEPTED),
+            Step::Sends(0, KEEP_ALIVE, CONFIGURED),
+            Step::Sends(0, RESET, CONFIGURED),
+            Step::Sends(1, ADD, ADDED),
+            Step::Sends(4, ENABLE, ENABLED),
+            Step::Sends(5, START, STARTED),
+            Step::Sends(6, Does::Seen(1), ""),
+            Step::Sends(8, Does::Seen(5), WHOLE_REPORTS),
+            Step::Sends(1_000_000, Does::Tick, ""),
+            Step::Stands(1, Some(RoState::Active)),
         ],
-        rospec: 1,
-        state: Some(RoState::Active),
+    },
+    Exchange {
+        name: "a ROSpec is added, refused, enabled, started, stopped and deleted",
+        limit: 65536,
+        steps: &[
+            Step::Sends(0, Does::Connect, ACCEPTED),
+            Step::Stands(1, None),
+            Step::Sends(1, ADD, ADDED),
+            Step::Stands(1, Some(RoState::Disabled)),
+            Step::Sends(2, ADD, NOT_ADDED),
+            Step::Stands(1, Some(RoState::Disabled)),
+            Step::Sends(
+                3,
+                Does::Take("08160000000E0000000300000001"),
+                "08200000001200000003 011F000800650000",
+            ),
+            Step::Stands(1, Some(RoState::Disabled)),
+            Step::Sends(4, ENABLE, ENABLED),
+            Step::Stands(1, Some(RoState::Inactive)),
+            Step::Sends(5, START, STARTED),
+            Step::Stands(1, Some(RoState::Active)),
+            Step::Sends(6, Does::Seen(1), ""),
+            Step::Stands(1, Some(RoState::Active)),
+            Step::Sends(7, STOP, STOPPED),
+            Step::Stands(1, Some(RoState::Inactive)),
+            Step::Sends(
+                8,
+                Does::Take("08150000000E0000000600000001"),
+                "081F0000001200000006 011F000800000000",
+            ),
+            Step::Stands(1, None),
+        ],
     },
 ];
 
-#[test]
-fn exchanges(rt: HostRuntime) -> Result<(), Fail> {
-    for exchange in &EXCHANGES {
-        let reader = reader_after(&rt, rt.alloc(), exchange.steps)?;
-        assert!(rt;
-            reader.state_of(exchange.rospec) == exchange.state,
-            "at {}",
-            exchange.name
-        );
+/// The event of octets that a client sent: of a message, or of a frame that is none.
+fn taken(alloc: Global, frame: &[u8]) -> Option<ReaderIn> {
+    if frame.len() < 10 {
+        return None;
     }
-    Ok(())
+    match decoded(alloc, frame)? {
+        Ok(message) => Some(ReaderIn::Take(message)),
+        Err(FrameErr::Bad(fault)) => Some(ReaderIn::TakeBad {
+            id: get(frame, 48, 32) as u32,
+            reason: fault.reason,
+        }),
+        Err(FrameErr::Memory) => None,
+    }
 }
 
-/// A ROSpec is added, refused, enabled, started, stopped and deleted; behind each step the state of ROSpec 1.
-static RUN: [(u64, Does, &str, Option<RoState>); 9] = [
-    (0, Does::Connect, ACCEPTED, None),
-    (1, ADD, ADDED, Some(RoState::Disabled)),
-    (2, ADD, NOT_ADDED, Some(RoState::Disabled)),
-    (
-        3,
-        Does::Take("08160000000E0000000300000001"),
-        "08200000001200000003 011F000800650000",
-        Some(RoState::Disabled),
-    ),
-    (4, ENABLE, ENABLED, Some(RoState::Inactive)),
-    (5, START, STARTED, Some(RoState::Active)),
-    (6, Does::Seen(1), "", Some(RoState::Active)),
-    (7, STOP, STOPPED, Some(RoState::Inactive)),
-    (
-        8,
-        Does::Take("08150000000E0000000600000001"),
-        "081F0000001200000006 011F000800000000",
-        None,
-    ),
-];
+/// The sighting of an SGTIN-96 by an antenna, with -60 dBm.
+fn sighting(antenna: u16) -> Sighting {
+    Sighting {
+        antenna,
+        rssi: -60,
+        epc: Word::of_bytes([
+            0x30, 0x74, 0x25, 0x7B, 0xF7, 0x19, 0x4E, 0x40, 0x00, 0x00, 0x1A, 0x85,
+        ]),
+    }
+}
+
+/// The event of what happens.
+fn event(alloc: Global, does: Does) -> Result<ReaderIn, ToolErr> {
+    match does {
+        Does::Connect => Ok(ReaderIn::Connect),
+        Does::Take(digits) => {
+            taken(alloc, octets(alloc, &[digits])?.as_slice()).ok_or(ToolErr::Strange)
+        }
+        Does::Seen(antenna) => Ok(ReaderIn::Seen(sighting(antenna))),
+        Does::Tick => Ok(ReaderIn::Tick),
+    }
+}
+
+/// Why an event is refused, if it is; what the reader sends is appended.
+fn refusal(
+    reader: &mut Reader,
+    now: u64,
+    event: ReaderIn,
+    out: &mut Vec<Message>,
+) -> Option<StepFault> {
+    match reader.step(now, event, out) {
+        Ok(()) => None,
+        Err(refusal) => Some(refusal.fault),
+    }
+}
+
+/// Whether this is refused at a moment for this reason, or for none, and messages of these octets are sent.
+fn happens(
+    alloc: Global,
+    reader: &mut Reader,
+    now: u64,
+    does: Does,
+    fault: Option<StepFault>,
+    sends: &[&str],
+) -> Result<bool, ToolErr> {
+    let mut out = Vec::new(alloc);
+    let found = refusal(reader, now, event(alloc, does)?, &mut out);
+    Ok(found == fault && are_spelled(alloc, out.as_slice(), sends)?)
+}
+
+/// Whether a reader does what a step says.
+fn follows(alloc: Global, reader: &mut Reader, step: Step) -> Result<bool, ToolErr> {
+    match step {
+        Step::Sends(now, does, sends) => happens(alloc, reader, now, does, None, &[sends]),
+        Step::Refuses(does, fault) => happens(alloc, reader, 0, does, Some(fault), &[]),
+        Step::Stands(rospec, state) => Ok(reader.state_of(rospec) == state),
+    }
+}
+
+/// How many steps a reader does as they say, up to the first one that it does not.
+fn steps_done(alloc: Global, reader: &mut Reader, steps: &[Step]) -> Result<usize, ToolErr> {
+    for (place, step) in steps.iter().enumerate() {
+        if !follows(alloc, reader, *step)? {
+            return Ok(place);
+        }
+    }
+    Ok(steps.len())
+}
+
+/// The same of a new reader of this limit, which it tells.
+fn steps_done_anew(alloc: Global, limit: u32, steps: &[Step]) -> Result<usize, ToolErr>
+    requires least { 4096 ≤ limit }
+    requires most { limit ≤ 65536 }
+{
+    let mut reader = Reader::new(alloc, limit, 1);
+    if reader.limit() != limit {
+        return Ok(0);
+    }
+    steps_done(alloc, &mut reader, steps)
+}
 
 #[test]
-fn rospecs_run(rt: HostRuntime) -> Result<(), Fail> {
-    let mut reader = Reader::new(rt.alloc(), 65536, 1);
-    for (now, does, sends, state) in &RUN {
-        happens(&rt, rt.alloc(), &mut reader, *now, *does, sends)?;
-        assert!(rt; reader.state_of(1) == *state, "at {now}");
+fn exchanges(rt: HostRuntime) {
+    for exchange in &EXCHANGES {
+        assert!(rt; 4096 <= exchange.limit && exchange.limit <= 65536);
+        let done = steps_done_anew(rt.alloc(), exchange.limit, exchange.steps);
+        assert_eq!(rt; done, Ok(exchange.steps.len()), "at {}", exchange.name);
     }
-    Ok(())
 }
 
 /// A ROSpec runs whose reports are sent on request alone.
 static POLLED: [Step; 4] = [
-    (0, Does::Connect, ACCEPTED),
-    (1, ADD_POLLED, ADDED),
-    (4, ENABLE, ENABLED),
-    (5, START, STARTED),
+    Step::Sends(0, Does::Connect, ACCEPTED),
+    Step::Sends(1, ADD_POLLED, ADDED),
+    Step::Sends(4, ENABLE, ENABLED),
+    Step::Sends(5, START, STARTED),
 ];
 
-/// A reader holds 64 reports, and says at the next one that its buffer is full.
-fn overflows(rt: &impl Abort, alloc: Global, reader: &mut Reader) -> Result<(), Fail> {
+/// Whether a reader holds 64 reports, and says at the next one that its buffer is full.
+fn overflows(alloc: Global, reader: &mut Reader) -> Result<bool, ToolErr> {
     for _ in 0..64 {
-        happens(rt, alloc, reader, 6, Does::Seen(1), "")?;
+        if !happens(alloc, reader, 6, Does::Seen(1), None, &[])? {
+            return Ok(false);
+        }
     }
     let overflow = "083F0000001E00000003 00F60014 0080000C0000000000000006 00FB0004";
-    happens(rt, alloc, reader, 6, Does::Seen(1), overflow)
+    happens(alloc, reader, 6, Does::Seen(1), None, &[overflow])
+}
+
+/// Whether a reader sends 64 reports when it is asked for them, and then none.
+fn sends_once(alloc: Global, reader: &mut Reader) -> Result<bool, ToolErr> {
+    let mut all = ["00F00016 8D3074257BF7194E4000001A85 810001 86C4"; 65];
+    all[0] = "083D0000058A00000004";
+    let poll = Does::Take("083C0000000A00000008");
+    Ok(
+        happens(alloc, reader, 7, poll, None, &all)?
+            && happens(alloc, reader, 7, poll, None, &["083D0000000A00000005"])?,
+    )
+}
+
+/// Whether a reader does all this.
+fn reports_on_request(alloc: Global) -> Result<bool, ToolErr> {
+    let mut reader = Reader::new(alloc, 65536, 1);
+    Ok(
+        steps_done(alloc, &mut reader, &POLLED)? == POLLED.len()
+            && overflows(alloc, &mut reader)?
+            && sends_once(alloc, &mut reader)?,
+    )
 }
 
 #[test]
-fn reports_on_request(rt: HostRuntime) -> Result<(), Fail> {
-    let alloc = rt.alloc();
-    let all = all_held(alloc)?;
-    let mut reader = reader_after(&rt, alloc, &POLLED)?;
-    overflows(&rt, alloc, &mut reader)?;
-    let poll = Does::Take("083C0000000A00000008");
-    happens(&rt, alloc, &mut reader, 7, poll, all.as_str())?;
-    happens(&rt, alloc, &mut reader, 7, poll, "083D0000000A00000005")
+fn reports_are_sent_on_request(rt: HostRuntime) {
+    assert!(rt; reports_on_request(rt.alloc()) == Ok(true));
 }

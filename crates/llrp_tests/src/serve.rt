@@ -3,8 +3,9 @@
 ghost use Rattle.std.specs.Prelude.{IfOk};
 ghost use Rattle.llrp_endpoints.specs.ServingStands.{HasStarted};
 
+use crate::octets::{octets, spell};
 use llrp_session::Reader;
-use llrp_tool::{Input, Output, Script, Serving, ToolErr, bytes_of_hex, run_serve};
+use llrp_tool::{Input, Output, Script, Serving, ToolErr, run_serve};
 use std::alloc::Global;
 use std::test::*;
 
@@ -40,20 +41,6 @@ const STOPPED: &str =
 const CLOSE: &str = "080E0000000A00000009";
 
 const CLOSED: &str = "08040000001200000009 011F000800000000";
-
-/// The bytes of hexadecimal texts in a row, whose spaces are passed over.
-pub(super) fn bytes(alloc: Global, texts: &[&str]) -> Result<Vec<u8>, ToolErr> {
-    let mut digits = Vec::new(alloc);
-    for text in texts {
-        digits.extend_from_slice(text.as_bytes())?;
-    }
-    bytes_of_hex(alloc, digits.as_slice())
-}
-
-/// Whether hexadecimal texts in a row spell these bytes.
-pub(super) fn spell(alloc: Global, texts: &[&str], found: &[u8]) -> Result<bool, ToolErr> {
-    Ok(bytes(alloc, texts)?.as_slice() == found)
-}
 
 /// A script, a client's bytes, what the reader sends, and how serving ends.
 struct Row {
@@ -117,7 +104,7 @@ fn ends_as_said(alloc: Global, row: &Row, stream: &[u8]) -> Result<bool, ToolErr
 
 /// Whether a row's client is served as the row says.
 fn is_served(alloc: Global, row: &Row) -> Result<bool, ToolErr> {
-    ends_as_said(alloc, row, bytes(alloc, row.up)?.as_slice())
+    ends_as_said(alloc, row, octets(alloc, row.up)?.as_slice())
 }
 
 #[test]
@@ -167,8 +154,8 @@ fn closes_with_the_second(
 #[test]
 fn a_stream_cut_anywhere(rt: HostRuntime) -> Result<(), Fail> {
     let alloc = rt.alloc();
-    let stream = bytes(alloc, &[ADD, CLOSE])?;
-    let wanted = bytes(alloc, &[CONNECTED, ADDED, CLOSED])?;
+    let stream = octets(alloc, &[ADD, CLOSE])?;
+    let wanted = octets(alloc, &[CONNECTED, ADDED, CLOSED])?;
     for cut in 0..stream.len() {
         let (front, back) = stream.as_slice().split_at(cut);
         assert!(rt; closes_with_the_second(alloc, front, back, wanted.as_slice()) == Ok(true));

@@ -3,7 +3,8 @@
 ghost use Rattle.std.specs.Prelude.{None};
 
 use crate::devices::Failing;
-use crate::serve::{ADD, ADDED, CONNECTED, ENABLE, ENABLED, bytes};
+use crate::octets::octets;
+use crate::serve::{ADD, ADDED, CONNECTED, ENABLE, ENABLED};
 use llrp_session::Reader;
 use llrp_stream::Output;
 use llrp_tool::{Input, Script, Source, ToolErr, run_serve};
@@ -75,8 +76,8 @@ fn said_after(count: usize) -> usize {
 #[test]
 fn a_read_that_fails_comes_after_the_answers_so_far(rt: HostRuntime) -> Result<(), Fail> {
     let alloc = rt.alloc();
-    let stream = bytes(alloc, &[ADD, ENABLE, "08"])?;
-    let wanted = bytes(alloc, &[CONNECTED, ADDED, ENABLED])?;
+    let stream = octets(alloc, &[ADD, ENABLE, "08"])?;
+    let wanted = octets(alloc, &[CONNECTED, ADDED, ENABLED])?;
     for count in 0..stream.len() {
         let (front, _) = stream.as_slice().split_at(count);
         let stops = stops_behind(alloc, front, wanted.as_slice(), said_after(count));
@@ -99,8 +100,8 @@ fn stops_after(alloc: Global, stream: &[u8], wanted: &[u8], left: usize) -> Resu
 #[test]
 fn a_write_that_fails_stops_serving(rt: HostRuntime) -> Result<(), Fail> {
     let alloc = rt.alloc();
-    let stream = bytes(alloc, &[ADD, ENABLE])?;
-    let wanted = bytes(alloc, &[CONNECTED, ADDED, ENABLED])?;
+    let stream = octets(alloc, &[ADD, ENABLE])?;
+    let wanted = octets(alloc, &[CONNECTED, ADDED, ENABLED])?;
     for left in 0..68 {
         let stops = stops_after(alloc, stream.as_slice(), wanted.as_slice(), left);
         assert!(rt; stops == Ok(true));

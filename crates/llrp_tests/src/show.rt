@@ -1,6 +1,6 @@
 //! Listings of long streams, and of streams cut anywhere.
 
-use crate::vectors::bytes;
+use crate::octets::octets;
 use llrp_tool::{Input, Output, Source, ToolErr, Verdict, run_show};
 use std::alloc::Global;
 use std::io;
@@ -70,7 +70,7 @@ fn is_listed(alloc: Global, report: &[u8], first: usize, later: usize) -> bool {
 
 #[test]
 fn report_cut_anywhere(rt: HostRuntime) -> Result<(), Fail> {
-    let stream = bytes(rt.alloc(), REPORT)?;
+    let stream = octets(rt.alloc(), &[REPORT])?;
     for first in 1..27usize {
         assert!(rt; is_listed(rt.alloc(), stream.as_slice(), first, 1));
         assert!(rt; is_listed(rt.alloc(), stream.as_slice(), first, 4096));
@@ -91,7 +91,7 @@ fn over_limit_then_keepalive(rt: HostRuntime) -> Result<(), Fail> {
 
 /// Appends the bytes of digits so many times.
 fn append(alloc: Global, stream: &mut Vec<u8>, digits: &str, times: u32) -> Result<(), ToolErr> {
-    let piece = bytes(alloc, digits)?;
+    let piece = octets(alloc, &[digits])?;
     for _ in 0..times {
         stream.extend_from_slice(piece.as_slice())?;
     }
@@ -100,7 +100,7 @@ fn append(alloc: Global, stream: &mut Vec<u8>, digits: &str, times: u32) -> Resu
 
 /// A report of 3,854 tags, the last 4 of them with a signal strength.
 fn long_report(alloc: Global) -> Result<Vec<u8>, ToolErr> {
-    let mut stream = bytes(alloc, "043D0001000000000001")?;
+    let mut stream = octets(alloc, &["043D0001000000000001"])?;
     let tag = "00F00011 8D3074257BF7194E4000001A85";
     append(alloc, &mut stream, tag, 3_850)?;
     let loud = "00F00013 8D3074257BF7194E4000001A85 86C4";

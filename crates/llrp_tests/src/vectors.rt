@@ -1,6 +1,7 @@
 //! Conformance vectors: streams as hexadecimal digits, and the listing of each.
 
-use llrp_tool::{Input, Output, ToolErr, Verdict, bytes_of_hex, run_encode, run_show};
+use crate::octets::octets;
+use llrp_tool::{Input, Output, ToolErr, Verdict, run_encode, run_show};
 use std::alloc::Global;
 use std::test::*;
 
@@ -334,11 +335,6 @@ static FAULTY: [Vector; 31] = [
     },
 ];
 
-/// The bytes that hexadecimal digits spell.
-pub fn bytes(alloc: Global, digits: &str) -> Result<Vec<u8>, ToolErr> {
-    bytes_of_hex(alloc, digits.as_bytes())
-}
-
 /// Whether a stream is listed, with this verdict.
 fn is_listed(alloc: Global, stream: &[u8], listing: &[u8], verdict: Verdict) -> bool {
     let mut source = Input::new(stream);
@@ -350,7 +346,7 @@ fn is_listed(alloc: Global, stream: &[u8], listing: &[u8], verdict: Verdict) -> 
 
 /// Whether the stream of a vector is listed, with this verdict.
 fn lists(alloc: Global, vector: &Vector, verdict: Verdict) -> Result<bool, ToolErr> {
-    let stream = bytes(alloc, vector.stream)?;
+    let stream = octets(alloc, &[vector.stream])?;
     let listing = vector.listing.as_bytes();
     Ok(is_listed(alloc, stream.as_slice(), listing, verdict))
 }
@@ -377,13 +373,6 @@ fn faulty_streams(rt: HostRuntime) {
     }
 }
 
-/// The stream of a report of one word.
-fn report_of(alloc: Global, word: &str) -> Result<Vec<u8>, ToolErr> {
-    let mut digits = Vec::from_slice(alloc, b"043D0000001B00000001 00F00011 8D")?;
-    digits.extend_from_slice(word.as_bytes())?;
-    bytes_of_hex(alloc, digits.as_slice())
-}
-
 /// The listing of a report of one word, whose text this is.
 fn listing_of(alloc: Global, text: &str) -> Result<Vec<u8>, ToolErr> {
     let front = b"0 RO_ACCESS_REPORT 1 1\n1 TagReportData\n2 EPC-96 ";
@@ -395,7 +384,7 @@ fn listing_of(alloc: Global, text: &str) -> Result<Vec<u8>, ToolErr> {
 
 /// Whether a report of a word is listed with this text.
 fn reports(alloc: Global, word: &str, text: &str) -> Result<bool, ToolErr> {
-    let stream = report_of(alloc, word)?;
+    let stream = octets(alloc, &["043D0000001B00000001 00F00011 8D", word])?;
     let listing = listing_of(alloc, text)?;
     Ok(is_listed(
         alloc,
@@ -423,7 +412,7 @@ fn is_encoded(alloc: Global, listing: &[u8], stream: &[u8]) -> bool {
 
 /// Whether the listing of a vector is encoded to its stream.
 fn encodes(alloc: Global, vector: &Vector) -> Result<bool, ToolErr> {
-    let stream = bytes(alloc, vector.stream)?;
+    let stream = octets(alloc, &[vector.stream])?;
     Ok(is_encoded(alloc, vector.listing.as_bytes(), stream.as_slice()))
 }
 
