@@ -13,43 +13,12 @@ use Rattle.llrp_stream.specs.declared.item.End.TheVariants.{Clean, Rest}
 use Rattle.llrp_stream.specs.Cuts.{length_field, IsFrame, IsPartial, Ends, joined}
 use Rattle.llrp_stream.specs.Items.{Items, ItemsSoFar}
 use Rattle.llrp_stream.proofs.FrontLemmas.{length_field-append}
+use Rattle.llrp_stream.proofs.ItemLemmas.{below_or_not}
+use Rattle.llrp_stream.proofs.PrefixLemmas.{cut, partial, end_of, ends}
 use Rattle.llrp_stream.proofs.Unique.{one_cut, same_items}
 use Rattle.llrp_session.specs.MessageWorld.{AreSendable}
 use Rattle.llrp_listing.proofs.PrintsBack.{are_frames, are_items}
 use Rattle.llrp_endpoints.specs.Sending.{AreFrames}
-
--- ---- two lists of bytes that are one are cut in one
-
-compare : (a b : ℕ) → (a < b) ⊎ (b ≤ a)
-compare a zero = inr (omega arith)
-compare zero (suc b) = inl (omega arith)
-compare (suc a) (suc b) = elim (compare a b) [ inl lt ↦ inl (omega (arith, lt)) | inr le ↦ inr (omega (arith, le)) ]
-
-record Cut (a b x y : List ℕ) : Type 0 where
-  middle : List ℕ
-  first : a ≡ x ++ middle
-  second : y ≡ middle ++ b
-
--- what is longer begins with what is shorter
-cut : (a b x y : List ℕ) → a ++ b ≡ x ++ y → length x ≤ length a → Cut a b x y
-cut a b x y e le =
-    let t : List ℕ = take (length x) a in
-    let d : List ℕ = drop (length x) a in
-    let long : length t ≡ length x = length-take-le (length x) a le in
-    let parts : a ≡ t ++ d = sym (take-append-drop (length x) a) in
-    let whole : t ++ (d ++ b) ≡ x ++ y = sym (append_assoc t d b) ∙ ap (λ (z : List ℕ). z ++ b) (sym parts) ∙ e in
-    let same : t ≡ x = sym (take_at t (d ++ b) (length x) long) ∙ ap (take (length x)) whole ∙ take_at x y (length x) refl in
-    let back : y ≡ d ++ b = sym (drop_at x y (length x) refl) ∙ ap (drop (length x)) (sym whole) ∙ drop_at t (d ++ b) (length x) long in
-    record { middle = d; first = parts ∙ ap (λ (z : List ℕ). z ++ d) same; second = back }
-
--- ---- a front of frames
-
--- a front of a frame that is shorter
-partial : (front more : List ℕ) → IsFrame (front ++ more) → length front < length (front ++ more) → IsPartial front
-partial front more is lt = elim (compare (length front) 6) [
-  | inl short ↦ inl short
-  | inr six ↦ let same = length_field-append front more six in inr (omega (arith, same, is.header, is.whole), omega (arith, same, is.whole, lt))
-]
 
 pub record FrontOf (limit : ℕ) (messages : List MessageTree) (bytes later : List ℕ) : Type 0 where
   pub first : List MessageTree
@@ -112,7 +81,7 @@ front_of limit [] [] bytes later s each e =
     none_whole limit [] bytes later (record { frames = []; each = tt; whole = e }) (inl (omega (arith, ap length e, length-append bytes later)))
 front_of limit [] (f ∷ frames) bytes later s each e = absurd each
 front_of limit (m ∷ messages) [] bytes later s each e = absurd each
-front_of limit (m ∷ messages) (f ∷ frames) bytes later s each e = elim (compare (length bytes) (length f)) [
+front_of limit (m ∷ messages) (f ∷ frames) bytes later s each e = elim (below_or_not (length bytes) (length f)) [
   | inl shorter ↦ begins limit m messages f frames bytes later each e shorter
   | inr le ↦
       let c = cut bytes later f (joined frames) e le in
@@ -160,14 +129,6 @@ one_list a b xs ys p q e =
     }
 
 -- ---- bytes are read in one way
-
-abbrev end_of : List ℕ → End
-end_of [] = Clean
-end_of (b ∷ bytes) = Rest (suc (length bytes))
-
-ends : (front : List ℕ) → IsPartial front → Ends front (end_of front)
-ends [] p = refl
-ends (b ∷ bytes) p = (refl, omega arith, p)
 
 as_items : (limit : ℕ) (bytes : List ℕ) (items : List Item) (front : List ℕ) → ItemsSoFar limit bytes items front → IsPartial front → Items limit bytes items (end_of front)
 as_items limit bytes items front h p = record { frames = h.frames; cut = record { tail = front; whole = h.whole; each = h.each; ends = ends front p }; each = h.are }

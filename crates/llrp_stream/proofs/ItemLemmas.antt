@@ -17,7 +17,7 @@ use Rattle.llrp_stream.proofs.FrontLemmas.{length_field-append}
 use Rattle.llrp_stream.proofs.HeaderLemmas.{octets-drop}
 use Rattle.llrp_stream.proofs.Unique.{same_item, same_items}
 
-below_or_not : (a b : ℕ) → (a < b) ⊎ (b ≤ a)
+pub below_or_not : (a b : ℕ) → (a < b) ⊎ (b ≤ a)
 below_or_not a b =
     (elim (leb b a) as (λ t. leb b a ≡ t → (a < b) ⊎ (b ≤ a)) [ true ↦ λ e. inr (leb-true b a e) | false ↦ λ e. inl (leb-false b a e) ]) refl
 

@@ -1,7 +1,8 @@
 -- What holds of the items of every frame and of every stream.
-use Rattle.std.specs.Prelude.{◌≡◌, ℕ, List, [], ◌∷◌, ◌++◌}
+use Rattle.std.specs.Prelude.{◌≡◌, ℕ, ◌<◌, List, [], ◌∷◌, ◌++◌, length}
 use Rattle.llrp_stream.specs.declared.item.Item.{Item}
 use Rattle.llrp_stream.specs.declared.item.End.{End}
+use Rattle.llrp_stream.specs.declared.item.End.TheVariants.{Clean, Rest, Broken, Dead}
 use Rattle.llrp_stream.specs.Cuts.{IsFrame, Ends, joined, Cuts}
 use Rattle.llrp_stream.specs.Items.{IsItemOf, Items, ItemsSoFar}
 use Rattle.llrp_stream.specs.Decoding.{DecoderState, Stands}
@@ -28,6 +29,27 @@ pub record HasOneListing (limit : ℕ) (stream : List ℕ) : Type 0 where
 -- the items of pieces, however they are cut, are those of the stream that the pieces are
 abbrev pub PiecesAreTheStream : Type 0
 PiecesAreTheStream = (old new : DecoderState) (pieces : List (List ℕ)) (items : List Item) (end : End) → Stands old [] → TakesPieces old pieces items new → Finishes new end → Items old.limit (joined pieces) items end
+
+-- where a front of frames ends behind its last whole one: there, or within the frame of the next item
+abbrev pub EndsWithin : ℕ → List Item → List ℕ → End → Type 0
+EndsWithin limit next tail Clean = tail ≡ []
+EndsWithin limit (item ∷ next) tail (Rest n) = (more : List ℕ) × (0 < length more) × IsFrame (tail ++ more) × IsItemOf limit (tail ++ more) item
+EndsWithin limit [] tail (Rest n) = ⊥
+EndsWithin limit next tail Broken = ⊥
+EndsWithin limit next tail Dead = ⊥
+
+-- The first of these items are those of a front of their frames, which ends between two frames or within one.
+pub record IsFront (limit : ℕ) (items : List Item) (front : List ℕ) : Type 0 where
+  pub first : List Item
+  pub next : List Item
+  pub parts : items ≡ first ++ next
+  pub end : End
+  pub are : Items limit front first end
+  pub within : EndsWithin limit next are.cut.tail end
+
+-- a front of the frames of items has those items that are whole in it
+abbrev pub PrefixOfFrames : Type 0
+PrefixOfFrames = (limit : ℕ) (items : List Item) (front back : List ℕ) → Items limit (front ++ back) items Clean → IsFront limit items front
 
 -- How the items of bytes so far grow, what becomes of them at the end, and that whatever follows they come first.
 pub record ItemsGrow (limit : ℕ) : Type 0 where

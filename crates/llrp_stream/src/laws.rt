@@ -4,7 +4,7 @@ ghost use Rattle.std.specs.Prelude.{List, ◌≤◌, ℕ};
 ghost use Rattle.llrp_tree.specs.Lawful.{AreOctets};
 ghost use Rattle.llrp_tree.specs.declared.TheConstants.{MAX_LIMIT};
 ghost use Rattle.llrp_stream.specs.Cuts.{IsFrame};
-ghost use Rattle.llrp_stream.specs.StreamLaws.{HasOneItem, HasOneListing, IsCutInOneWay, ItemsGrow, PiecesAreTheStream};
+ghost use Rattle.llrp_stream.specs.StreamLaws.{HasOneItem, HasOneListing, IsCutInOneWay, ItemsGrow, PiecesAreTheStream, PrefixOfFrames};
 
 /// Each frame has one message or exactly one first fault, and never both.
 #[tactic(auto, using(crate::proofs::ItemLemmas::has_one_item))]
@@ -27,6 +27,12 @@ pub fn one_listing()
 #[tactic(auto, using(crate::proofs::RunLemmas::of_the_stream))]
 pub fn pieces_are_the_stream()
     ensures { PiecesAreTheStream }
+{}
+
+/// Whatever front of a row of frames came, its items are those of the frames that are whole in it, and it ends between two
+/// frames or within the next one.
+pub fn prefix_of_frames()
+    ensures { PrefixOfFrames }
 {}
 
 /// The items of bytes so far, for a caller that feeds them as they come.
