@@ -1,16 +1,15 @@
 -- Whatever front of the frames of messages was read: the first of them are whole in it, and it ends with the front of another's frame.
-use Rattle.std.proofs.Common.{◌≡◌, ℕ, zero, suc, ◌+◌, ◌<◌, ◌≤◌, ◌⊎◌, inl, inr, List, [], ◌∷◌, ◌++◌, map, length, take, drop, refl, sym, ap, ap₂, subst, ◌∙◌, arith, append_assoc}
+use Rattle.std.proofs.Common.{◌≡◌, ℕ, ◌+◌, ◌<◌, inl, inr, List, [], ◌∷◌, ◌++◌, map, length, drop, refl, sym, ap, ap₂, subst, ◌∙◌, arith, append_assoc}
 use Rattle.std.specs.List.{AllZip}
-use Rattle.std.proofs.lemmas.List.{take_at, drop_at, length-append, append-nil, take-append-drop, length-take-le}
+use Rattle.std.proofs.lemmas.List.{drop_at, length-append, append-nil}
 use Rattle.llrp_tree.specs.declared.TheConstants.{MAX_LIMIT}
 use Rattle.llrp_tree.specs.Tree.{MessageTree}
 use Rattle.llrp_tree.specs.Frame.{Frame}
 use Rattle.llrp_tree.proofs.LengthLemmas.{spelled_length}
 use Rattle.llrp_stream.specs.declared.item.Item.{Item}
 use Rattle.llrp_stream.specs.declared.item.Item.TheVariants.{Msg}
-use Rattle.llrp_stream.specs.declared.item.End.{End}
-use Rattle.llrp_stream.specs.declared.item.End.TheVariants.{Clean, Rest}
-use Rattle.llrp_stream.specs.Cuts.{length_field, IsFrame, IsPartial, Ends, joined}
+use Rattle.llrp_stream.specs.declared.item.End.TheVariants.{Clean}
+use Rattle.llrp_stream.specs.Cuts.{length_field, IsFrame, IsPartial, joined}
 use Rattle.llrp_stream.specs.Items.{Items, ItemsSoFar}
 use Rattle.llrp_stream.proofs.FrontLemmas.{length_field-append}
 use Rattle.llrp_stream.proofs.ItemLemmas.{below_or_not}
