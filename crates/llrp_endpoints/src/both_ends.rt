@@ -89,8 +89,9 @@ fn exchange<CR: Source, CW: Sink, RR: Source, RW: Sink, P: Sink>(
 ///
 /// The answer is how much was told, once the connection was closed as planned. `Early` is an end of the
 /// connection or of an input before that, or that neither end has bytes to send; `Peer` a status other
-/// than 0; `Strange` what no reader sends there; `Broken` a length field below 10 at either end. After
-/// `Read`, `Write`, `Bound` or `Memory` each end wrote a front of what it says.
+/// than 0; `Strange` what no reader sends there, or a frame with a fault other than an unknown type;
+/// `Broken` a length field below 10 at either end. After `Read`, `Write`, `Bound` or `Memory` each end
+/// wrote a front of what it says.
 pub fn run_loop<CR: Source, CW: Sink, RR: Source, RW: Sink, P: Sink>(
     alloc: Global,
     core: Reader,

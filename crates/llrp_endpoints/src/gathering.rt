@@ -244,9 +244,9 @@ impl Gathering {
     /// the lines of the tags that are reported, a line for each report, and a last line once the connection
     /// was closed as planned. Then the answer is true, and each later feed answers true and changes nothing.
     ///
-    /// The errors are `Peer` with a status other than 0, `Strange` for what no reader sends there, `Early`
-    /// where the connection ends before it is to, `Broken` at a length field below 10, and `Memory`; each
-    /// later feed answers that error.
+    /// The errors are `Peer` with a status other than 0, `Strange` for what no reader sends there and for a
+    /// frame with a fault other than an unknown type, `Early` where the connection ends before it is to,
+    /// `Broken` at a length field below 10, and `Memory`; each later feed answers that error.
     pub fn feed(
         &mut self,
         piece: &[u8],

@@ -57,8 +57,8 @@ fn gather<R: Source, W: Sink, T: Sink>(
 ///
 /// The answer is how much was told, once the connection was closed as planned. `Early` is an end of the
 /// input, or of the connection, before that; `Peer` a status other than 0; `Strange` what no reader sends
-/// there; `Broken` a length field below 10. After `Read`, `Write`, `Bound` or `Memory` fronts of what the
-/// client says were written.
+/// there, or a frame with a fault other than an unknown type; `Broken` a length field below 10. After
+/// `Read`, `Write`, `Bound` or `Memory` fronts of what the client says were written.
 pub fn run_inventory<R: Source, W: Sink, T: Sink>(
     alloc: Global,
     plan: Plan,

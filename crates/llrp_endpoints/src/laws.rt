@@ -63,7 +63,7 @@ pub fn course_is_determined()
 
 /// A client that follows a plan sends its commands in order, with ids from 1 on, each at the message that is awaited for
 /// it, and wherever such a message comes: the first at the connection, one behind GET_REPORT at a report that comes after
-/// that, any other at the response to the command before.
+/// that, any other at the response to the command before, or at an ERROR_MESSAGE of status 0 under its id.
 pub fn plan_sends_its_commands()
     ensures in_order { (limit : ℕ) (plan : Plan) (items : List Item) → SendsInOrder plan (course_of limit plan items) }
     ensures one_by_one { (limit : ℕ) (plan : Plan) → SendsOneByOne limit plan }

@@ -1,4 +1,4 @@
--- What `llrp epc` prints of a text. Texts are lists of their characters' codes.
+-- What `llrp epc` prints of a text. Texts are lists of their UTF-8 octets.
 -- Source: EPC Tag Data Standard 1.13, section 12, for the texts of words; the lines are this project's own.
 use Rattle.std.specs.Prelude.{◌≡◌, ℕ, ◌^◌, ◌<◌, ◌⊎◌, List, [], ◌++◌, map, codes, decimal, Result, Ok, Err}
 use Rattle.std.specs.Char.{to_ascii_uppercase}

@@ -106,7 +106,7 @@ last_segment l = record { width = l.last_bits; decimals = last_decimals l.zero_t
 abbrev pub number_segments : Layout → Row → List Segment
 number_segments l r = fixed r.company_bits r.company_digits ∷ fixed r.reference_bits r.reference_digits ∷ last_segment l ∷ []
 
--- GID-96: header, manager number, object class and serial number (14.5.7)
+-- GID-96: header, manager number, object class and serial number (14.5, "General Identifier")
 abbrev pub gid_segments : List Segment
 gid_segments = plain 8 ∷ plain 28 ∷ plain 24 ∷ plain 36 ∷ []
 

@@ -12,7 +12,7 @@ unfoldable pub decimal_value : List ℕ → ℕ
 decimal_value [] = 0
 decimal_value (c ∷ cs) = (c - 48) * 10 ^ length cs + decimal_value cs
 
--- the list of k digits whose number is n; no digits where k is 0
+-- the last k digits of n, so below 10 ^ k the list of k digits whose number is n; no digits where k is 0
 unfoldable pub padded : ℕ → ℕ → List ℕ
 padded zero n = []
 padded (suc k) n = (48 + n / 10 ^ k % 10) ∷ padded k n

@@ -1,7 +1,7 @@
 -- Hexadecimal text in upper case, as lists of the characters' codes.
 use Rattle.std.specs.Prelude.{ℕ, zero, suc, ◌/◌, ◌%◌, ◌^◌, ◌||◌, ◌&&◌, nat_le, Bool, List, [], ◌∷◌, slice_index, codes}
 
--- the list of k hexadecimal digits whose number is n
+-- the last k hexadecimal digits of n, so below 16 ^ k the list of k digits whose number is n
 unfoldable pub hexadecimal : ℕ → ℕ → List ℕ
 hexadecimal zero n = []
 hexadecimal (suc k) n = slice_index (codes "0123456789ABCDEF") (n / 16 ^ k % 16) ∷ hexadecimal k n

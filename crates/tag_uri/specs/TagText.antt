@@ -1,4 +1,4 @@
--- Tag URIs and raw URIs, and the first rule that refuses a text. Texts are lists of their characters' codes.
+-- Tag URIs and raw URIs, and the first rule that refuses a text. Texts are lists of their UTF-8 octets.
 -- Source: EPC Tag Data Standard 1.13, section 12, and for the segments section 14.5.
 use Rattle.std.specs.Prelude.{◌≡◌, ℕ, ◌^◌, ◌<◌, ◌==◌, ◌||◌, ◌&&◌, not, nat_lt, nat_le, Bool, false, if◌then◌else◌, List, [], ◌∷◌, ◌++◌, length, map, drop, slice_index, codes, Option, Some, None, option_map, unwrap_or, ◌⊎◌}
 use Rattle.std.specs.List.{slice_split, join_with_byte, AllPass}

@@ -14,7 +14,7 @@ pub fn one_padded_text()
     ensures only { (k n : ℕ) (text : List ℕ) → n < 10 ^ k → IsPadded k n text → text ≡ padded k n }
 {}
 
-/// A number has exactly one plain text.
+/// A number below 2 ^ 64 has exactly one plain text.
 pub fn one_plain_text()
     ensures is { (n : ℕ) → n < 2 ^ 64 → IsPlain n (plain n) }
     ensures only { (n : ℕ) (text : List ℕ) → n < 2 ^ 64 → IsPlain n text → text ≡ plain n }
