@@ -12,11 +12,10 @@ use std::alloc::Global;
 /// The most reads of one source that give bytes.
 pub const MOST_READS: u32 = 1_000_000;
 
-/// How many bytes a read of a connection asks for.
+/// How many bytes a read asks for.
 pub const READ_SIZE: usize = 4096;
 
-/// How many bytes a read of a stream or a listing asks for, and how many are gathered before they are
-/// handed to a sink.
+/// How many bytes are gathered before they are handed to a sink.
 pub const PIECE_SIZE: usize = 65_536;
 
 /// All that the source gives, until a read meets its end. The errors are `Read`, `Memory`, and
@@ -27,7 +26,7 @@ pub fn read_all<R: Source>(alloc: Global, r: &mut R) -> Result<Vec<u8>, ToolErr>
     ensures err { IfErr result (λ e. (bytes : List ℕ) × ReadStopped (R.log r.old) (R.log r.new) bytes e) }
 {
     let mut all = Vec::new(alloc);
-    let mut buffer = [0u8; PIECE_SIZE];
+    let mut buffer = [0u8; READ_SIZE];
     for _ in 0..MOST_READS {
         let Ok(n) = r.read(&mut buffer) else {
             return Err(ToolErr::Read);

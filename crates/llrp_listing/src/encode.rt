@@ -11,7 +11,7 @@ ghost use Rattle.llrp_listing.specs.OpenLines.{ClosingStops, entries_in};
 ghost use Rattle.llrp_listing.specs.LineChecks.{LONGEST_LINE};
 ghost use Rattle.llrp_listing.specs.Splits.{Lacks};
 
-use crate::copying::{MOST_READS, PIECE_SIZE, hand_on, hand_on_pieces};
+use crate::copying::{MOST_READS, READ_SIZE, hand_on, hand_on_pieces};
 use crate::fault::{Refusal, ToolErr};
 use crate::line::{LONGEST_LINE, Line, LineErr, read_line};
 use crate::open_lines::{CloseErr, OpenMessage, OpenParameter};
@@ -254,7 +254,7 @@ impl Encoder {
         ensures limit { OnOk result (self.new.limit ≡ self.old.limit) }
         ensures sink { OnOk result ((W.log w.new).failures ≡ (W.log w.old).failures) }
     {
-        let mut buffer = [0u8; PIECE_SIZE];
+        let mut buffer = [0u8; READ_SIZE];
         for _ in 0..MOST_READS {
             let Ok(n) = r.read(&mut buffer) else {
                 return Err(ToolErr::Read);

@@ -8,7 +8,7 @@ ghost use Rattle.llrp_listing.specs.StreamListing.{is_clean};
 
 mod lines;
 
-use crate::copying::{MOST_READS, PIECE_SIZE, hand_on, hand_on_pieces, write_all};
+use crate::copying::{MOST_READS, READ_SIZE, hand_on, hand_on_pieces, write_all};
 use crate::fault::{ToolErr, Verdict};
 use lines::{is_message, push_end, push_item};
 use llrp_stream::{Decoder, End, Fed, FeedErr, Item, Sink, Source};
@@ -134,7 +134,7 @@ pub fn run_show<R: Source, W: Sink>(
     ensures { Shows limit (R.log r.old) (R.log r.new) (W.log w.old) (W.log w.new) result }
 {
     let mut lister = Lister::new(alloc, limit);
-    let mut buffer = [0u8; PIECE_SIZE];
+    let mut buffer = [0u8; READ_SIZE];
     for _ in 0..MOST_READS {
         let n = match r.read(&mut buffer) {
             Ok(n) => n,

@@ -8,7 +8,7 @@ invariant-loop g l = record {
   text : List ℕ;
   gave : Gave (g.R.Source.log l.fn.r) (g.R.Source.log l.r) l.counter text;
   stands : Stands (g.W.Sink.log l.fn.w) (g.W.Sink.log l.w) text l.self;
-  number : l.self.number ≤ 65536 * l.counter;
+  number : l.self.number ≤ 4096 * l.counter;
   limit : l.self.limit ≡ l.fn.self.limit;
   sink : (g.W.Sink.log l.w).failures ≡ (g.W.Sink.log l.fn.w).failures;
 }
