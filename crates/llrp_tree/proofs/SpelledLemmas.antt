@@ -1,0 +1,424 @@
+-- The octets that parameters and messages spell, and how they move to buffers.
+use Rattle.std.proofs.Common.{◌≡◌, ℕ, zero, suc, ◌+◌, ◌-◌, ◌*◌, ◌^◌, ◌<◌, ◌≤◌, List, [], ◌∷◌, ◌++◌, Bool, refl, ap, subst, ◌∙◌, sym, arith, append_assoc, length, append-nil, length-append, take, drop, get_or, inl, inr}
+use Rattle.std.specs.Prelude.{min, ◌==◌, false, replicate}
+use Rattle.std.specs.Borrow.{Bor}
+use Rattle.std.proofs.lemmas.List.{take-append-drop, length-take, length-take-le, length-drop, drop_all, drop-drop, length-replicate}
+use Rattle.std.proofs.lemmas.Bool.{cases_lt, eqb-false}
+use Rattle.std.proofs.Math.Nat.{pow-le-pow_right}
+use Rattle.std.proofs.Math.Seq.{take-append_seam, drop-append_seam, drop-append-add, take-length}
+use Rattle.tag_bits.specs.Digits.{digits, digits_of_bytes, value}
+use Rattle.tag_bits.proofs.DigitLemmas.{digits_from, value-below, digits-injective, take-seam, drop-seam, length-digits}
+use Rattle.tag_bits.proofs.ByteLemmas.{bytes-nil, bytes-cons, bytes-append, length-bytes}
+use Rattle.llrp_schema.specs.declared.kinds.ParamKind.{ParamKind}
+use Rattle.llrp_schema.specs.declared.kinds.MsgKind.{MsgKind}
+use Rattle.llrp_schema.specs.declared.kinds.Kind.TheVariants.{Message, Parameter}
+use Rattle.llrp_schema.specs.declared.kinds.Tail.{Tail}
+use Rattle.llrp_schema.specs.Schema.{fields_of, tail_of}
+use Rattle.llrp_schema.proofs.TableLaws.{message_tail, every_message, every_parameter, whole_octets}
+use Rattle.std.proofs.lemmas.Bool.{leb-true}
+use Rattle.std.proofs.lemmas.List.{take_rest}
+use Rattle.std.specs.Prelude.{nat_le, if◌then◌else◌, true, ◌/◌, ◌%◌}
+use Rattle.std.specs.Int.{bytes_high_first}
+use Rattle.llrp_schema.specs.Schema.{bits_of, is_tv, rule_of, message_rule, param_rule, message_kinds, param_kinds}
+use Rattle.llrp_tree.proofs.SpellingLemmas.{appends_same, appends_number, whole_number, whole_digits}
+use Rattle.llrp_tree.specs.declared.TheConstants.{LEVELS, MAX_DEPTH}
+use Rattle.llrp_tree.specs.Tree.{Forest, none, and, Tree, MessageTree, add, add_all, forest, trees}
+use Rattle.llrp_tree.specs.Lawful.{octets, head_octets, count_octets, levels, AreOctets, AllLawful, tree_octets, message_octets}
+use Rattle.llrp_tree.specs.Spelling.{message, spread, field_digits, count_digits, body_digits, head_of, head_digits, spell, tree_digits, message_digits}
+use Rattle.llrp_tree.specs.Spelled.{octets_in, spelled, leading_digits, unfinished, following, AreDeep, Moves}
+use Rattle.llrp_tree.specs.Writing.{Appends}
+use Rattle.llrp_tree.proofs.OctetLemmas.{octets-append}
+use Rattle.llrp_tree.proofs.TreeLemmas.{forest-trees}
+use Rattle.llrp_tree.proofs.LengthLemmas.{length-spell}
+
+-- ---- digits in groups of eight
+
+nothing_left : {A : Type 0} (xs : List A) → length xs ≡ 0 → [] ≡ xs
+nothing_left [] h = refl
+nothing_left (x ∷ xs) h = absurd (omega arith)
+
+pub octets_spell : (n : ℕ) (ds : List Bool) → length ds ≡ 8 * n → digits_of_bytes (octets_in n ds) ≡ ds
+octets_spell zero ds h = bytes-nil ∙ nothing_left ds (omega arith)
+octets_spell (suc n) ds h =
+    let one : length (take 8 ds) ≡ 8 = length-take-le 8 ds (omega arith) in
+    let more : length (drop 8 ds) ≡ 8 * n = length-drop 8 ds ∙ omega arith in
+    bytes-cons (value (take 8 ds)) (octets_in n (drop 8 ds))
+    ∙ ap (λ (x : List Bool). x ++ digits_of_bytes (octets_in n (drop 8 ds))) (digits_from 8 (value (take 8 ds)) (take 8 ds) one refl)
+    ∙ ap (λ (x : List Bool). take 8 ds ++ x) (octets_spell n (drop 8 ds) more)
+    ∙ take-append-drop 8 ds
+
+few_digits : (ds : List Bool) → length ds ≤ 8 → value ds < 256
+few_digits ds h =
+    let p : 2 ^ length ds ≤ 2 ^ 8 = pow-le-pow_right (omega arith) h in
+    omega (arith, value-below ds, p)
+
+pub octets_are : (n : ℕ) (ds : List Bool) → AreOctets (octets_in n ds)
+octets_are zero ds = tt
+octets_are (suc n) ds = (few_digits (take 8 ds) (omega (arith, length-take 8 ds)), octets_are n (drop 8 ds))
+
+pub octets_count : (n : ℕ) (ds : List Bool) → length (octets_in n ds) ≡ n
+octets_count zero ds = refl
+octets_count (suc n) ds = omega (arith, octets_count n (drop 8 ds))
+
+-- octets are what they spell
+pub same_octets : (xs ys : List ℕ) → AreOctets xs → AreOctets ys → digits_of_bytes xs ≡ digits_of_bytes ys → xs ≡ ys
+same_octets [] [] h g e = refl
+same_octets [] (y ∷ ys) h g e = absurd (omega (arith, length-bytes [], length-bytes (y ∷ ys), ap (λ (d : List Bool). length d) e))
+same_octets (x ∷ xs) [] h g e = absurd (omega (arith, length-bytes [], length-bytes (x ∷ xs), ap (λ (d : List Bool). length d) e))
+same_octets (x ∷ xs) (y ∷ ys) h g e =
+    let split : digits 8 x ++ digits_of_bytes xs ≡ digits 8 y ++ digits_of_bytes ys = sym (bytes-cons x xs) ∙ e ∙ bytes-cons y ys in
+    let first : digits 8 x ≡ digits 8 y = sym (take-seam 8 (digits 8 x) (digits_of_bytes xs) (length-digits 8 x)) ∙ ap (λ (d : List Bool). take 8 d) split ∙ take-seam 8 (digits 8 y) (digits_of_bytes ys) (length-digits 8 y) in
+    let others : digits_of_bytes xs ≡ digits_of_bytes ys = sym (drop-seam 8 (digits 8 x) (digits_of_bytes xs) (length-digits 8 x)) ∙ ap (λ (d : List Bool). drop 8 d) split ∙ drop-seam 8 (digits 8 y) (digits_of_bytes ys) (length-digits 8 y) in
+    let head : x ≡ y = digits-injective 8 x y h.0 g.0 first in
+    let tail : xs ≡ ys = same_octets xs ys h.1 g.1 others in
+    ap (λ (o : ℕ). o ∷ xs) head ∙ ap (λ (os : List ℕ). y ∷ os) tail
+
+-- ---- rows of parameters
+
+pub spelled_digits : (f : Forest) → digits_of_bytes (spelled f) ≡ spell f
+unfolding spelled
+spelled_digits f = octets_spell (octets f) (spell f) (length-spell f)
+
+pub spelled_are : (f : Forest) → AreOctets (spelled f)
+unfolding spelled
+spelled_are f = octets_are (octets f) (spell f)
+
+pub spelled_count : (f : Forest) → length (spelled f) ≡ octets f
+unfolding spelled
+spelled_count f = octets_count (octets f) (spell f)
+
+pub spelled_none : spelled none ≡ []
+unfolding spelled
+spelled_none = refl
+
+spell-none : spell none ≡ []
+unfolding spell
+spell-none = refl
+
+spell-add : (f : Forest) (t : Tree) → spell (add f t) ≡ spell f ++ tree_digits t
+unfolding spell
+spell-add f t = refl
+
+spell-onto : (before : Forest) (ts : List Tree) → spell (add_all before ts) ≡ spell before ++ spell (forest ts)
+spell-onto before [] = sym (append-nil (spell before)) ∙ ap (λ (d : List Bool). spell before ++ d) (sym spell-none)
+spell-onto before (t ∷ ts) =
+    let own : spell (forest (t ∷ ts)) ≡ tree_digits t ++ spell (forest ts) =
+    spell-onto (add none t) ts ∙ ap (λ (d : List Bool). d ++ spell (forest ts)) (spell-add none t ∙ ap (λ (d : List Bool). d ++ tree_digits t) spell-none) in
+    spell-onto (add before t) ts ∙ ap (λ (d : List Bool). d ++ spell (forest ts)) (spell-add before t)
+    ∙ append_assoc (spell before) (tree_digits t) (spell (forest ts)) ∙ ap (λ (d : List Bool). spell before ++ d) (sym own)
+
+pub spell-first : (t : Tree) (ts : List Tree) → spell (forest (t ∷ ts)) ≡ tree_digits t ++ spell (forest ts)
+spell-first t ts =
+    spell-onto (add none t) ts ∙ ap (λ (d : List Bool). d ++ spell (forest ts)) (spell-add none t ∙ ap (λ (d : List Bool). d ++ tree_digits t) spell-none)
+
+regrouped : (h f k t c r : List Bool) → (h ++ ((f ++ (k ++ t)) ++ c)) ++ r ≡ (h ++ (f ++ k)) ++ (t ++ (c ++ r))
+regrouped h f k t c r = simp append_assoc refl
+
+tree_parts : (t : Tree) → tree_digits t ≡ head_digits (head_of t.kind (tree_octets t)) ++ ((field_digits (fields_of (Parameter t.kind)) (spread (fields_of (Parameter t.kind)) t.fields) ++ (count_digits (tail_of (Parameter t.kind)) t.tail ++ digits_of_bytes t.tail)) ++ spell t.children)
+unfolding body_digits
+tree_parts t = refl
+
+-- The first parameter of a row: what stands before its tail, its tail, its children; then the others.
+pub first_node : (t : Tree) (ts : List Tree) (start : List ℕ) → AreOctets start → AreOctets t.tail
+    → digits_of_bytes start ≡ head_digits (head_of t.kind (tree_octets t)) ++ leading_digits (Parameter t.kind) t.fields t.tail
+    → spelled (forest (t ∷ ts)) ≡ start ++ (t.tail ++ (spelled t.children ++ spelled (forest ts)))
+first_node t ts start h g e =
+    let h2 : List Bool = head_digits (head_of t.kind (tree_octets t)) in
+    let f2 : List Bool = field_digits (fields_of (Parameter t.kind)) (spread (fields_of (Parameter t.kind)) t.fields) in
+    let k2 : List Bool = count_digits (tail_of (Parameter t.kind)) t.tail in
+    let c2 : List Bool = spell t.children in
+    let r2 : List Bool = spell (forest ts) in
+    let rest : digits_of_bytes (spelled t.children ++ spelled (forest ts)) ≡ c2 ++ r2 =
+    bytes-append (spelled t.children) (spelled (forest ts)) ∙ ap (λ (d : List Bool). d ++ digits_of_bytes (spelled (forest ts))) (spelled_digits t.children) ∙ ap (λ (d : List Bool). c2 ++ d) (spelled_digits (forest ts)) in
+    let right : digits_of_bytes (start ++ (t.tail ++ (spelled t.children ++ spelled (forest ts)))) ≡ (h2 ++ (f2 ++ k2)) ++ (digits_of_bytes t.tail ++ (c2 ++ r2)) =
+    bytes-append start (t.tail ++ (spelled t.children ++ spelled (forest ts)))
+    ∙ ap (λ (d : List Bool). d ++ digits_of_bytes (t.tail ++ (spelled t.children ++ spelled (forest ts)))) e
+    ∙ ap (λ (d : List Bool). (h2 ++ (f2 ++ k2)) ++ d) (bytes-append t.tail (spelled t.children ++ spelled (forest ts)) ∙ ap (λ (d : List Bool). digits_of_bytes t.tail ++ d) rest) in
+    let left : digits_of_bytes (spelled (forest (t ∷ ts))) ≡ (h2 ++ ((f2 ++ (k2 ++ digits_of_bytes t.tail)) ++ c2)) ++ r2 =
+    spelled_digits (forest (t ∷ ts)) ∙ spell-first t ts ∙ ap (λ (d : List Bool). d ++ r2) (tree_parts t) in
+    same_octets _ _ (spelled_are (forest (t ∷ ts)))
+    (octets-append start _ h (octets-append t.tail _ g (octets-append (spelled t.children) (spelled (forest ts)) (spelled_are t.children) (spelled_are (forest ts)))))
+    (left ∙ regrouped h2 f2 k2 (digits_of_bytes t.tail) c2 r2 ∙ sym right)
+
+-- ---- levels
+
+levels_below : (a b : Forest) (ts : List Tree) → levels a ≤ levels b → levels (add_all a ts) ≤ levels (add_all b ts)
+levels_below a b [] h = h
+levels_below a b (t ∷ ts) h = levels_below (add a t) (add b t) ts (omega arith)
+
+levels_kept : (f : Forest) (ts : List Tree) → levels f ≤ levels (add_all f ts)
+levels_kept f [] = omega arith
+levels_kept f (t ∷ ts) =
+    let one : levels f ≤ levels (add f t) = omega arith in
+    omega (arith, one, levels_kept (add f t) ts)
+
+pub levels_of_first : (t : Tree) (ts : List Tree) → levels t.children + 1 ≤ levels (forest (t ∷ ts))
+levels_of_first t ts =
+    let one : levels t.children + 1 ≤ levels (add none t) = omega arith in
+    omega (arith, one, levels_kept (add none t) ts)
+
+pub levels_of_others : (t : Tree) (ts : List Tree) → levels (forest ts) ≤ levels (forest (t ∷ ts))
+levels_of_others t ts = levels_below none (add none t) ts (omega arith)
+
+pub levels_some : (ts : List Tree) → 0 < length ts → 1 ≤ levels (forest ts)
+levels_some [] h = absurd (omega arith)
+levels_some (t ∷ ts) h = omega (arith, levels_of_first t ts)
+
+-- ---- rows that follow one another
+
+pub following-push : (rows : List (Bor (List Tree))) (row : Bor (List Tree)) → following (rows ++ row ∷ []) ≡ spelled (forest row.now) ++ following rows
+following-push [] row = sym (append-nil (spelled (forest row.now)))
+following-push (r ∷ rows) row =
+    ap (λ (x : List ℕ). x ++ spelled (forest r.now)) (following-push rows row) ∙ append_assoc (spelled (forest row.now)) (following rows) (spelled (forest r.now))
+
+pub AreDeep-push : (depth : ℕ) (rows : List (Bor (List Tree))) (row : Bor (List Tree)) → AreDeep depth rows → 0 < length row.now → depth + length rows + levels (forest row.now) ≤ MAX_DEPTH → AreDeep depth (rows ++ row ∷ [])
+AreDeep-push depth [] row h some fits = (some, omega arith, tt)
+AreDeep-push depth (r ∷ rows) row h some fits = (h.0, h.1, AreDeep-push (depth + 1) rows row h.2 some (omega arith))
+
+pub AreDeep-pop : (depth : ℕ) (rows : List (Bor (List Tree))) (row : Bor (List Tree)) → AreDeep depth (rows ++ row ∷ []) → AreDeep depth rows × (0 < length row.now) × (depth + length rows + levels (forest row.now) ≤ MAX_DEPTH)
+AreDeep-pop depth [] row h = (tt, h.0, omega (arith, h.1))
+AreDeep-pop depth (r ∷ rows) row h =
+    let p = AreDeep-pop (depth + 1) rows row h.2 in
+    ((h.0, h.1, p.0), p.1, omega (arith, p.2))
+
+-- ---- what is left of a node
+
+pub drop_some : (start tail : List ℕ) (from : ℕ) → from < length start → drop from start ++ tail ≡ [] → ⊥
+drop_some start tail from lt e =
+    let none_left : length (drop from start) + length tail ≡ 0 = sym (length-append (drop from start) tail) ∙ ap (λ (x : List ℕ). length x) e in
+    omega (arith, none_left, length-drop from start)
+
+pub empty_row : (row : List Tree) (octets : List ℕ) → length row ≡ 0 → octets ≡ spelled (forest row) ++ octets
+empty_row [] octets h = ap (λ (x : List ℕ). x ++ octets) (sym spelled_none)
+empty_row (t ∷ ts) octets h = absurd (omega arith)
+
+-- ---- heads and fields
+
+-- a parameter's fields and count have 96 bits together at most
+pub short_leading : (kind : ParamKind) → bits_of (fields_of (Parameter kind)) + 8 * count_octets (tail_of (Parameter kind)) ≤ 96
+unfolding fields_of tail_of rule_of param_rule param_kinds
+short_leading kind = leb-true (bits_of (fields_of (Parameter kind)) + 8 * count_octets (tail_of (Parameter kind))) 96 (every_parameter (λ row. nat_le (bits_of row.fields + 8 * count_octets row.tail) 96) refl kind)
+
+-- a message's fields have 48
+pub short_message : (kind : MsgKind) → bits_of (fields_of (Message kind)) ≤ 48
+unfolding fields_of rule_of message_rule message_kinds
+short_message kind = leb-true (bits_of (fields_of (Message kind))) 48 (every_message (λ row. nat_le (bits_of row.fields) 48) refl kind)
+
+head_bounds : (kind : ParamKind) → (1 ≤ head_octets kind) × (head_octets kind ≤ 4)
+head_bounds kind = elim (is_tv kind) as (λ b. (1 ≤ (if b then 1 else 4)) × ((if b then 1 else 4) ≤ 4)) [ true ↦ (omega arith, omega arith) | false ↦ (omega arith, omega arith) ]
+
+-- how many bits stand before the tail of a parameter
+pub record StartBits (h l w b c : ℕ) : Type 0 where
+  pub few : l ≤ 120
+  pub small : h + l ≤ 128
+  pub leading : b + c ≤ 128
+  pub whole : w % 8 ≡ 0
+  pub some : 1 ≤ w / 8
+
+pub start_bits : (kind : ParamKind) (h b c l w : ℕ) → h ≡ 8 * head_octets kind → b ≡ bits_of (fields_of (Parameter kind)) → c ≡ 8 * count_octets (tail_of (Parameter kind)) → l ≡ b + c → w ≡ h + l → StartBits h l w b c
+start_bits kind h b c l w eh eb ec el ew =
+    let s = short_leading kind in
+    let hb = head_bounds kind in
+    let octets8 : bits_of (fields_of (Parameter kind)) % 8 ≡ 0 = whole_octets (Parameter kind) in
+    record {
+      few = omega (arith, s, eb, ec, el);
+      small = omega (arith, s, eh, eb, ec, el, hb.1);
+      leading = omega (arith, s, eb, ec);
+      whole = omega (arith, octets8, eh, eb, ec, el, ew);
+      some = omega (arith, eh, ew, hb.0);
+    }
+
+-- the digits of a parameter's start, part by part
+pub parameter_start : (t : Tree) (k : ParamKind) (n hb hn : ℕ) (k2 : ParamKind) (fields : List ℕ) (fb fn : ℕ) (form : Tail) (tail : List ℕ) (cb cn lb ln wb wn : ℕ)
+    → k ≡ t.kind → n ≡ tree_octets t → k2 ≡ t.kind → fields ≡ t.fields → form ≡ tail_of (Parameter t.kind) → tail ≡ t.tail
+    → digits hb hn ≡ head_digits (head_of k n) → digits fb fn ≡ field_digits (fields_of (Parameter k2)) (spread (fields_of (Parameter k2)) fields) → digits cb cn ≡ count_digits form tail
+    → digits lb ln ≡ digits fb fn ++ digits cb cn → digits wb wn ≡ digits hb hn ++ digits lb ln
+    → digits wb wn ≡ head_digits (head_of t.kind (tree_octets t)) ++ leading_digits (Parameter t.kind) t.fields t.tail
+parameter_start t k n hb hn k2 fields fb fn form tail cb cn lb ln wb wn ek en ek2 ef eo et h f c l w =
+    w ∙ rw (l, h, f, c) (rw (ek, en, ek2, ef, eo, et) refl)
+
+no_count : (kind : MsgKind) → count_digits (tail_of (Message kind)) [] ≡ []
+no_count kind = ap (λ (f : Tail). count_digits f []) (message_tail kind)
+
+pub message_start : (m : MessageTree) (v : ℕ) (k : MsgKind) (n id : ℕ) (k2 : MsgKind) (fields : List ℕ) (hn fb fn wb wn : ℕ)
+    → v ≡ m.version → k ≡ m.kind → n ≡ message_octets m → id ≡ m.id → k2 ≡ m.kind → fields ≡ m.fields
+    → digits 80 hn ≡ head_digits (message v k n id) → digits fb fn ≡ field_digits (fields_of (Message k2)) (spread (fields_of (Message k2)) fields)
+    → digits wb wn ≡ digits 80 hn ++ digits fb fn
+    → digits wb wn ≡ head_digits (message m.version m.kind (message_octets m) m.id) ++ leading_digits (Message m.kind) m.fields []
+message_start m v k n id k2 fields hn fb fn wb wn ev ek en ei ek2 ef h f w =
+    let f2 : List Bool = field_digits (fields_of (Message m.kind)) (spread (fields_of (Message m.kind)) m.fields) in
+    let plain : head_digits (message v k n id) ++ field_digits (fields_of (Message k2)) (spread (fields_of (Message k2)) fields) ≡ head_digits (message m.version m.kind (message_octets m) m.id) ++ f2 = rw (ev, ek, en, ei, ek2, ef) refl in
+    w ∙ rw (h, f) plain ∙ ap (λ (d : List Bool). head_digits (message m.version m.kind (message_octets m) m.id) ++ d) (sym (append-nil f2) ∙ ap (λ (d : List Bool). f2 ++ d) (sym (no_count m.kind)))
+
+pub four_parts : (h o i : List Bool) → h ++ (o ++ i) ≡ (h ++ o) ++ i
+four_parts h o i = sym (append_assoc h o i)
+
+-- the last octets of a number
+pub last_octets : (bytes : List ℕ) (bits n : ℕ) → bits ≤ 128 → bits % 8 ≡ 0 → n < 2 ^ bits → bytes ≡ bytes_high_first 16 n → Appends [] (drop (16 - bits / 8) bytes) (digits bits n)
+last_octets bytes bits n few whole lt e =
+    let size : length bytes ≡ 16 = ap (λ (x : List ℕ). length x) e in
+    let rest : drop (16 - bits / 8) bytes ≡ take (16 - (16 - bits / 8)) (drop (16 - bits / 8) bytes) =
+    sym (take_rest bytes (16 - bits / 8)) ∙ ap (λ (i : ℕ). take (i - (16 - bits / 8)) (drop (16 - bits / 8) bytes)) size in
+    appends_same _ _ _ _ (appends_number [] (drop (16 - bits / 8) bytes) bytes (bits / 8) n (omega (arith, few)) (whole_number n bits whole lt) e rest) (whole_digits n bits whole)
+
+-- ---- the parts of a row
+
+pub row_parts : (row : List Tree) (t : Tree) → 1 ≤ length row → t ≡ get_or row 0 t → row ≡ t ∷ take (length row - 1) (drop 1 row)
+row_parts [] t some is = absurd (omega arith)
+row_parts (x ∷ xs) t some is =
+    let count : length xs ≡ length (x ∷ xs) - 1 = omega arith in
+    ap (λ (y : Tree). y ∷ xs) (sym is) ∙ ap (λ (ys : List Tree). t ∷ ys) (sym (take-length xs) ∙ ap (λ (n : ℕ). take n xs) count)
+
+pub others_fit : (n : ℕ) (row rest : List Tree) (t : Tree) → row ≡ t ∷ rest → n + levels (forest row) ≤ MAX_DEPTH → n + levels (forest rest) ≤ MAX_DEPTH
+others_fit n row rest t e h =
+    let whole : levels (forest row) ≡ levels (forest (t ∷ rest)) = ap (λ (ts : List Tree). levels (forest ts)) e in
+    omega (arith, h, whole, levels_of_others t rest)
+
+pub children_fit : (n m : ℕ) (row rest lent : List Tree) (t : Tree) → row ≡ t ∷ rest → lent ≡ trees t.children → n + levels (forest row) ≤ MAX_DEPTH → m ≤ n + 1 → m + levels (forest lent) ≤ MAX_DEPTH
+children_fit n m row rest lent t e l h g =
+    let whole : levels (forest row) ≡ levels (forest (t ∷ rest)) = ap (λ (ts : List Tree). levels (forest ts)) e in
+    let own : levels (forest lent) ≡ levels t.children = ap (λ (ts : List Tree). levels (forest ts)) l ∙ ap levels (forest-trees t.children) in
+    omega (arith, h, g, whole, own, levels_of_first t rest)
+
+pub room_for : (n : ℕ) (row : List Tree) → 0 < length row → n + levels (forest row) ≤ MAX_DEPTH → n < LEVELS
+room_for n row some h = omega (arith, h, levels_some row some)
+
+joined_up : (s a c r p : List ℕ) → (s ++ (a ++ (c ++ r))) ++ p ≡ (s ++ a) ++ (c ++ (r ++ p))
+joined_up s a c r p = simp append_assoc refl
+
+pub begun_octets : (whole rows : List (Bor (List Tree))) (row : Bor (List Tree)) (rest : List Tree) (t : Tree) (bytes : List ℕ) (from : ℕ) (tail : List ℕ) (lent : List Tree) (between after : List ℕ)
+    → whole ≡ rows ++ row ∷ [] → row.now ≡ t ∷ rest
+    → Appends [] (drop from bytes) (head_digits (head_of t.kind (tree_octets t)) ++ leading_digits (Parameter t.kind) t.fields t.tail)
+    → tail ≡ t.tail → AreOctets tail → lent ≡ trees t.children
+    → between ≡ spelled (forest rest) ++ following rows → after ≡ spelled (forest lent) ++ between
+    → following whole ≡ unfinished bytes from tail ++ after
+begun_octets whole rows row rest t bytes from tail lent between after ew er s et h el eb ea =
+    let octets2 : AreOctets t.tail = subst (λ (x : List ℕ). AreOctets x) et h in
+    let own : spelled (forest row.now) ≡ s.more ++ (t.tail ++ (spelled t.children ++ spelled (forest rest))) =
+    ap (λ (ts : List Tree). spelled (forest ts)) er ∙ first_node t rest s.more s.octets octets2 s.spelled in
+    let below : spelled (forest lent) ≡ spelled t.children = ap (λ (ts : List Tree). spelled (forest ts)) el ∙ ap spelled (forest-trees t.children) in
+    let later : after ≡ spelled t.children ++ (spelled (forest rest) ++ following rows) =
+    ea ∙ ap (λ (x : List ℕ). x ++ between) below ∙ ap (λ (x : List ℕ). spelled t.children ++ x) eb in
+    ap following ew ∙ following-push rows row ∙ ap (λ (x : List ℕ). x ++ following rows) own
+    ∙ joined_up s.more t.tail (spelled t.children) (spelled (forest rest)) (following rows)
+    ∙ ap (λ (x : List ℕ). (s.more ++ t.tail) ++ x) (sym later)
+    ∙ ap (λ (x : List ℕ). (x ++ t.tail) ++ after) (sym s.whole)
+    ∙ ap (λ (x : List ℕ). (drop from bytes ++ x) ++ after) (sym et)
+
+-- ---- moves
+
+drop_more : {A : Type 0} (n k : ℕ) (xs : List A) → drop k (drop n xs) ≡ drop (n + k) xs
+drop_more n k xs = drop-drop k n xs
+
+pub move_start : (start tail lent old new : List ℕ) (from place count : ℕ) → lent ≡ drop from start → count ≡ min (length lent) (length old - place) → place ≤ length old
+    → new ≡ take place old ++ (take count lent ++ drop (place + count) old)
+    → Moves (drop from start ++ tail) (drop (from + count) start ++ tail) old new place count
+move_start start tail lent old new from place count e c h copied =
+    let few : count ≤ length lent = omega (arith, c) in
+    let split : drop from start ≡ take count lent ++ drop (from + count) start =
+    sym e ∙ sym (take-append-drop count lent) ∙ ap (λ (x : List ℕ). take count lent ++ x) (ap (λ (x : List ℕ). drop count x) e ∙ drop_more from count start) in
+    record {
+      moved = take count lent;
+      counted = length-take-le count lent few;
+      left = ap (λ (x : List ℕ). x ++ tail) split ∙ append_assoc (take count lent) (drop (from + count) start) tail;
+      fits = omega (arith, c, h);
+      copied = copied;
+    }
+
+pub moves_both : (a b c old mid new : List ℕ) (place n k : ℕ) → Moves a b old mid place n → Moves b c mid new (place + n) k → Moves a c old new place (n + k)
+moves_both a b c old mid new place n k p q =
+    let front : List ℕ = take place old ++ p.moved in
+    let room : length (take place old) ≡ place = length-take-le place old (omega (arith, p.fits)) in
+    let reach : length front ≡ place + n = length-append (take place old) p.moved ∙ omega (arith, room, p.counted) in
+    let middle : mid ≡ front ++ drop (place + n) old = p.copied ∙ sym (append_assoc (take place old) p.moved (drop (place + n) old)) in
+    let first : take (place + n) mid ≡ front =
+    ap (λ (x : List ℕ). take (place + n) x) middle ∙ ap (λ (i : ℕ). take i (front ++ drop (place + n) old)) (sym reach) ∙ take-append_seam front (drop (place + n) old) in
+    let back : drop (place + n + k) mid ≡ drop (place + n + k) old =
+    ap (λ (x : List ℕ). drop (place + n + k) x) middle ∙ ap (λ (i : ℕ). drop (i + k) (front ++ drop (place + n) old)) (sym reach) ∙ drop-append-add front (drop (place + n) old) k ∙ drop_more (place + n) k old in
+    let sum : place + n + k ≡ place + (n + k) = omega arith in
+    let size : length mid ≡ length old =
+    ap (λ (x : List ℕ). length x) middle ∙ length-append front (drop (place + n) old) ∙ omega (arith, reach, p.fits, length-drop (place + n) old) in
+    record {
+      moved = p.moved ++ q.moved;
+      counted = length-append p.moved q.moved ∙ omega (arith, p.counted, q.counted);
+      left = p.left ∙ ap (λ (x : List ℕ). p.moved ++ x) q.left ∙ sym (append_assoc p.moved q.moved c);
+      fits = omega (arith, q.fits, size);
+      copied = q.copied ∙ ap (λ (x : List ℕ). x ++ (q.moved ++ drop (place + n + k) mid)) first ∙ ap (λ (x : List ℕ). front ++ (q.moved ++ x)) back
+          ∙ ap (λ (i : ℕ). front ++ (q.moved ++ drop i old)) sum
+          ∙ append_assoc (take place old) p.moved (q.moved ++ drop (place + (n + k)) old)
+          ∙ ap (λ (x : List ℕ). take place old ++ x) (sym (append_assoc p.moved q.moved (drop (place + (n + k)) old)));
+    }
+
+pub moved_count : (a b old new : List ℕ) (place n : ℕ) → Moves a b old new place n → length a ≡ n + length b
+moved_count a b old new place n p = ap (λ (x : List ℕ). length x) p.left ∙ length-append p.moved b ∙ omega (arith, p.counted)
+
+pub fill_count : (a b old new : List ℕ) (place n : ℕ) → Moves a b old new place n → (place + n < length old → b ≡ []) → n ≡ min (length a) (length old - place)
+fill_count a b old new place n p full =
+    elim (cases_lt (place + n) (length old)) [
+      | inl lt ↦ let gone : length b ≡ 0 = ap (λ (x : List ℕ). length x) (full lt) in omega (arith, moved_count a b old new place n p, gone, lt)
+      | inr ge ↦ omega (arith, moved_count a b old new place n p, p.fits, ge)
+    ]
+
+pub fill_left : (a b old new : List ℕ) (place n : ℕ) → Moves a b old new place n → b ≡ drop n a
+fill_left a b old new place n p =
+    sym (drop-append_seam p.moved b) ∙ ap (λ (i : ℕ). drop i (p.moved ++ b)) p.counted ∙ ap (λ (x : List ℕ). drop n x) (sym p.left)
+
+pub fill_filled : (a b old new : List ℕ) (place n : ℕ) → Moves a b old new place n → new ≡ take place old ++ (take n a ++ drop (place + n) old)
+fill_filled a b old new place n p =
+    let front : take n a ≡ p.moved = ap (λ (x : List ℕ). take n x) p.left ∙ ap (λ (i : ℕ). take i (p.moved ++ b)) (sym p.counted) ∙ take-append_seam p.moved b in
+    p.copied ∙ ap (λ (x : List ℕ). take place old ++ (x ++ drop (place + n) old)) (sym front)
+
+pub refilled : (n : ℕ) (xs items : List ℕ) → n ≡ length items → length xs ≡ length items → take n (xs ++ drop (length xs) items) ≡ xs
+refilled n xs items e h = ap (λ (i : ℕ). take i (xs ++ drop (length xs) items)) (e ∙ sym h) ∙ take-append_seam xs (drop (length xs) items)
+
+-- octets in the place of as many zeros at the end
+pub zeros_filled : (out bytes grown filled : List ℕ) (n place left : ℕ) → grown ≡ out ++ replicate left 0 → place ≡ length out → left ≡ length bytes → n ≡ min (length bytes) (length grown - place)
+    → filled ≡ take place grown ++ (take n bytes ++ drop (place + n) grown) → filled ≡ out ++ bytes
+zeros_filled out bytes grown filled n place left eg ep el en ef =
+    let size : length grown ≡ length out + left = ap (λ (x : List ℕ). length x) eg ∙ length-append out (replicate left 0) ∙ omega (arith, length-replicate {A = ℕ} left 0) in
+    let whole : n ≡ length bytes = omega (arith, size, ep, el, en) in
+    let front : take place grown ≡ out = ap (λ (x : List ℕ). take place x) eg ∙ ap (λ (i : ℕ). take i (out ++ replicate left 0)) ep ∙ take-append_seam out (replicate left 0) in
+    let all : take n bytes ≡ bytes = ap (λ (i : ℕ). take i bytes) whole ∙ take-length bytes in
+    let past : length grown ≤ place + n = omega (arith, size, ep, el, whole) in
+    ef ∙ ap (λ (x : List ℕ). x ++ (take n bytes ++ drop (place + n) grown)) front ∙ ap (λ (x : List ℕ). out ++ (x ++ drop (place + n) grown)) all
+    ∙ ap (λ (x : List ℕ). out ++ (bytes ++ x)) (drop_all (place + n) grown past) ∙ ap (λ (x : List ℕ). out ++ x) (append-nil bytes)
+
+-- ---- whole messages
+
+pub few_levels : (f : Forest) → AllLawful f → levels f ≤ MAX_DEPTH
+few_levels none l = omega arith
+few_levels (and before k vs tail cs) l = let ih = few_levels before l.0 in omega (arith, l.1.deep)
+
+whole_message : (m : MessageTree) → (head_digits (message m.version m.kind (message_octets m) m.id) ++ leading_digits (Message m.kind) m.fields []) ++ spell m.children ≡ message_digits m
+unfolding body_digits
+whole_message m =
+    let h2 : List Bool = head_digits (message m.version m.kind (message_octets m) m.id) in
+    let f2 : List Bool = field_digits (fields_of (Message m.kind)) (spread (fields_of (Message m.kind)) m.fields) in
+    let k2 : List Bool = count_digits (tail_of (Message m.kind)) [] in
+    append_assoc h2 (f2 ++ k2) (spell m.children)
+    ∙ ap (λ (d : List Bool). h2 ++ ((f2 ++ d) ++ spell m.children)) (sym (append-nil k2) ∙ ap (λ (d : List Bool). k2 ++ d) (sym bytes-nil))
+
+pub message_spelled : (m : MessageTree) (bytes : List ℕ) (from : ℕ) (lent : List Tree) (after : List ℕ)
+    → Appends [] (drop from bytes) (head_digits (message m.version m.kind (message_octets m) m.id) ++ leading_digits (Message m.kind) m.fields [])
+    → lent ≡ trees m.children → after ≡ spelled (forest lent) ++ []
+    → AreOctets (unfinished bytes from [] ++ after) × (digits_of_bytes (unfinished bytes from [] ++ after) ≡ message_digits m)
+message_spelled m bytes from lent after s el ea =
+    let later : after ≡ spelled m.children = ea ∙ append-nil (spelled (forest lent)) ∙ ap (λ (ts : List Tree). spelled (forest ts)) el ∙ ap spelled (forest-trees m.children) in
+    let all : unfinished bytes from [] ++ after ≡ s.more ++ spelled m.children =
+    ap (λ (x : List ℕ). x ++ after) (append-nil (drop from bytes) ∙ s.whole) ∙ ap (λ (x : List ℕ). s.more ++ x) later in (
+      subst (λ (x : List ℕ). AreOctets x) (sym all) (octets-append s.more (spelled m.children) s.octets (spelled_are m.children)),
+      ap digits_of_bytes all ∙ bytes-append s.more (spelled m.children) ∙ ap (λ (d : List Bool). d ++ digits_of_bytes (spelled m.children)) s.spelled
+          ∙ ap (λ (d : List Bool). (head_digits (message m.version m.kind (message_octets m) m.id) ++ leading_digits (Message m.kind) m.fields []) ++ d) (spelled_digits m.children)
+          ∙ whole_message m,
+    )
+
+pub some_row : (row : List Tree) → (length row == 0) ≡ false → 0 < length row
+some_row row e = some_from (length row) (eqb-false (length row) 0 e) where
+  some_from : (n : ℕ) → (n ≡ 0 → ⊥) → 0 < n
+  some_from zero h = absurd (h refl)
+  some_from (suc n) h = omega arith
+
+pub message_fit : (n : ℕ) (m : MessageTree) (lent : List Tree) → n ≡ 0 → lent ≡ trees m.children → AllLawful m.children → n + levels (forest lent) ≤ MAX_DEPTH
+message_fit n m lent e el h =
+    let own : levels (forest lent) ≡ levels m.children = ap (λ (ts : List Tree). levels (forest ts)) el ∙ ap levels (forest-trees m.children) in
+    omega (arith, e, own, few_levels m.children h)

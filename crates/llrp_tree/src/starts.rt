@@ -1,0 +1,176 @@
+//! The octets of a node before its tail: its head, its fields and the count of its tail.
+
+ghost use Rattle.std.specs.Prelude.{◌≡◌, ◌≤◌, ◌<◌, ◌+◌, ◌*◌, ◌/◌, ◌%◌, ◌^◌, ◌++◌, length, map, true};
+ghost use Rattle.tag_bits.specs.Digits.{digits};
+ghost use Rattle.llrp_schema.specs.Schema.{field_rule, bits_of};
+ghost use Rattle.llrp_tree.specs.Lawful.{count_octets, head_octets};
+ghost use Rattle.llrp_tree.specs.Checks.{values_fit};
+ghost use Rattle.llrp_tree.specs.Spelling.{head_of, head_digits, count_digits, message as message_head};
+ghost use Rattle.llrp_tree.specs.Spelled.{Holds, all_fields, message_start, parameter_start};
+ghost use Rattle.llrp_tree.specs.Writing.{is_sound};
+
+use crate::message::Message;
+use crate::node::Node;
+use llrp_schema::{Field, Kind, MsgKind, ParamKind, Tail};
+
+/// What stands before the tail of a node: the octets of `octets` from the place `from` on.
+#[derive(Clone, Copy)]
+pub(crate) struct Start {
+    pub octets: [u8; 16],
+    pub from: usize,
+}
+
+/// The number that the digits of fields spell, and how many digits there are.
+#[derive(Clone, Copy, Debug)]
+struct Packed {
+    number: u128,
+    bits: u32,
+}
+
+/// The fields of a kind in one number.
+fn pack(rules: &[Field], values: &[u128]) -> Packed
+    requires sound { is_sound (map field_rule rules.now) ≡ true }
+    requires small { bits_of (map field_rule rules.now) ≤ 120 }
+    requires fit { values_fit (map field_rule rules.now) values.now ≡ true }
+    ensures spelled { digits (bits_of (map field_rule rules.now)) result.number ≡ all_fields (map field_rule rules.now) values.now }
+    ensures below { result.number < 2 ^ result.bits }
+    ensures bits { result.bits ≡ bits_of (map field_rule rules.now) }
+{
+    match rules {
+        [] => Packed { number: 0, bits: 0 },
+        [rule, rules @ ..] => {
+            if rule.reserved {
+                let rest = pack(rules, values);
+                return joined(rule.width, 0, rest);
+            }
+            match values {
+                [] => unreachable!(),
+                [value, values @ ..] => {
+                    let rest = pack(rules, values);
+                    joined(rule.width, *value, rest)
+                }
+            }
+        }
+    }
+}
+
+/// A field before others.
+fn joined(width: u32, value: u128, rest: Packed) -> Packed
+    requires below { rest.number < 2 ^ rest.bits }
+    requires value { value < 2 ^ width }
+    requires few { rest.bits ≤ 120 }
+    requires small { width + rest.bits ≤ 128 }
+    ensures spelled { digits (width + rest.bits) result.number ≡ digits width value ++ digits rest.bits rest.number }
+    ensures below { result.number < 2 ^ result.bits }
+    ensures bits { result.bits ≡ width + rest.bits }
+{
+    Packed {
+        number: (value << rest.bits) + rest.number,
+        bits: width + rest.bits,
+    }
+}
+
+/// The head of a parameter of this length.
+fn head(kind: ParamKind, octets: u32) -> Packed
+    requires long { octets ≤ 65535 }
+    ensures spelled { digits result.bits result.number ≡ head_digits (head_of kind octets) }
+    ensures below { result.number < 2 ^ result.bits }
+    ensures bits { result.bits ≡ 8 * head_octets kind }
+{
+    let number = llrp_schema::number(Kind::Parameter(kind)) as u128;
+    if llrp_schema::is_tv(kind) {
+        return Packed {
+            number: 128 + number,
+            bits: 8,
+        };
+    }
+    joined(
+        16,
+        number,
+        Packed {
+            number: octets as u128,
+            bits: 16,
+        },
+    )
+}
+
+/// The count of a tail, where its form has one.
+fn count(form: Tail, tail: &[u8]) -> Packed
+    requires short { length tail.now ≤ 65535 }
+    ensures spelled { digits result.bits result.number ≡ count_digits form tail.now }
+    ensures below { result.number < 2 ^ result.bits }
+    ensures bits { result.bits ≡ 8 * count_octets form }
+{
+    match form {
+        Tail::Words => Packed {
+            number: tail.len() as u128 / 2,
+            bits: 16,
+        },
+        Tail::Text => Packed {
+            number: tail.len() as u128,
+            bits: 16,
+        },
+        Tail::Absent | Tail::Bits => Packed { number: 0, bits: 0 },
+    }
+}
+
+/// A message's header: its version, kind, length and identifier.
+fn header(version: u8, kind: MsgKind, octets: u32, id: u32) -> Packed
+    requires version { version < 8 }
+    ensures spelled { digits 80 result.number ≡ head_digits (message_head version kind octets id) }
+    ensures below { result.number < 2 ^ 80 }
+    ensures bits { result.bits ≡ 80 }
+{
+    let number = llrp_schema::number(Kind::Message(kind)) as u128;
+    let id = Packed {
+        number: id as u128,
+        bits: 32,
+    };
+    let rest = joined(32, octets as u128, id);
+    joined(16, version as u128 * 1024 + number, rest)
+}
+
+/// The octets of a number's digits.
+fn as_octets(packed: Packed) -> Start
+    requires below { packed.number < 2 ^ packed.bits }
+    requires few { packed.bits ≤ 128 }
+    requires whole { packed.bits % 8 ≡ 0 }
+    ensures spelled { Holds result (digits packed.bits packed.number) }
+    ensures from { result.from + packed.bits / 8 ≡ length result.octets }
+{
+    Start {
+        octets: packed.number.to_be_bytes(),
+        from: 16 - packed.bits as usize / 8,
+    }
+}
+
+/// The octets of a parameter before its tail.
+pub(crate) fn start_of(node: &Node) -> Start
+    ensures spelled { Holds result (parameter_start node.now) }
+    ensures some { result.from < length result.octets }
+{
+    node.lawful();
+    let kind = Kind::Parameter(node.kind());
+    let count = count(llrp_schema::tail(kind), node.tail().as_slice());
+    let fields = pack(llrp_schema::fields(kind), node.fields());
+    let leading = joined(fields.bits, fields.number, count);
+    let head = head(node.kind(), node.length());
+    as_octets(joined(head.bits, head.number, leading))
+}
+
+/// The octets of a message before its parameters.
+pub(crate) fn start_of_message(message: &Message) -> Start
+    ensures spelled { Holds result (message_start message.now) }
+    ensures from { result.from ≤ length result.octets }
+{
+    message.lawful();
+    let kind = Kind::Message(message.kind());
+    let fields = pack(llrp_schema::fields(kind), message.fields());
+    let header = header(
+        message.version(),
+        message.kind(),
+        message.length(),
+        message.id(),
+    );
+    as_octets(joined(80, header.number, fields))
+}
