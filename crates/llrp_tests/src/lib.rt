@@ -20,6 +20,8 @@ mod epcs;
 #[cfg(test)]
 mod fields;
 #[cfg(test)]
+mod filling;
+#[cfg(test)]
 mod gathering;
 #[cfg(test)]
 mod hexadecimal;
