@@ -7,7 +7,7 @@ use Rattle.std.proofs.lemmas.Bool.{ne_eqb}
 use Rattle.std.proofs.lemmas.List.Elements.{All-nil, All-cons}
 use Rattle.std.proofs.lemmas.List.Splits.{slice_split_none, slice_split_at}
 use Rattle.tag_epc.specs.declared.kind.Kind.{Kind}
-use Rattle.tag_epc.specs.declared.kind.Kind.TheVariants.{Sgtin}
+use Rattle.tag_epc.specs.declared.kind.Kind.TheVariants.{Sgtin, Gid}
 use Rattle.tag_epc.specs.declared.epc.Parts.{Parts}
 use Rattle.tag_epc.specs.declared.epc.Parts.TheVariants.{Partitioned, General}
 use Rattle.tag_epc.specs.Layout.{Layout, every_kind, layout_of, name_of, is_sound}

@@ -1,5 +1,4 @@
 use Rattle.std.proofs.Common.{◌≡◌, arith}
-use Rattle.tag_epc.specs.declared.kind.Kind.{Kind}
 use Rattle.tag_epc.specs.Layout.{name_of}
 use Rattle.tag_epc.proofs.KindLemmas.{every}
 use Rattle.tag_uri.proofs.scheme.kind_named.Goals as goal
