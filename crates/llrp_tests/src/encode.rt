@@ -118,9 +118,14 @@ fn levels_of_parameters(rt: HostRuntime) -> Result<(), Fail> {
 }
 
 /// Lines behind those of a TagReportData, the line that is refused, and why.
-static LINES_OF_TAGS: [(&[u8], u64, Refusal); 18] = [
+static LINES_OF_TAGS: [(&[u8], u64, Refusal); 19] = [
     (
         b"2 EPC-96 urn:epc:raw:96.x3074257BF7194E4000001A85\n",
+        3,
+        Refusal::Epc(UriFault::RawOfLawful),
+    ),
+    (
+        b"2 EPC-96 urn:epc:raw:96.x2C74257BF460720000000190\n",
         3,
         Refusal::Epc(UriFault::RawOfLawful),
     ),

@@ -5,7 +5,7 @@ use std::alloc::Global;
 use std::test::*;
 
 /// Words with a tag URI: their digits and that text, each of which gives the other.
-static TAGS: [(&str, &str); 6] = [
+static TAGS: [(&str, &str); 10] = [
     (
         "320000000000040000000000",
         "urn:epc:tag:sgln-96:0.000000000001..0",
@@ -30,10 +30,26 @@ static TAGS: [(&str, &str); 6] = [
         "3074257BF7194E7FFFFFFFFF",
         "urn:epc:tag:sgtin-96:3.0614141.812345.274877906943",
     ),
+    (
+        "2C74257BF460720000000190",
+        "urn:epc:tag:gdti-96:3.0614141.12345.400",
+    ),
+    (
+        "2D54257BF4499602D2000000",
+        "urn:epc:tag:gsrn-96:2.0614141.1234567890",
+    ),
+    (
+        "2C0000000000000000000000",
+        "urn:epc:tag:gdti-96:0.000000000000..0",
+    ),
+    (
+        "2D0000000000000000000000",
+        "urn:epc:tag:gsrn-96:0.000000000000.00000",
+    ),
 ];
 
 /// Words without a tag URI: their digits, their raw URI, and why.
-static RAW: [(&str, &str, &str); 6] = [
+static RAW: [(&str, &str, &str); 7] = [
     (
         "320000000000060000000000",
         "urn:epc:raw:96.x320000000000060000000000",
@@ -55,19 +71,24 @@ static RAW: [(&str, &str, &str); 6] = [
         "# Zeros 72",
     ),
     (
-        "2C0000000000000000000000",
-        "urn:epc:raw:96.x2C0000000000000000000000",
-        "# Header 0",
+        "2C1C00000000000000000000",
+        "urn:epc:raw:96.x2C1C00000000000000000000",
+        "# Partition 11",
     ),
     (
-        "2D0000000000000000000000",
-        "urn:epc:raw:96.x2D0000000000000000000000",
+        "2D54257BF4499602D2000001",
+        "urn:epc:raw:96.x2D54257BF4499602D2000001",
+        "# Zeros 72",
+    ),
+    (
+        "340000000000000000000000",
+        "urn:epc:raw:96.x340000000000000000000000",
         "# Header 0",
     ),
 ];
 
 /// Texts that are no word's, and why.
-static REFUSED: [(&str, &str); 13] = [
+static REFUSED: [(&str, &str); 14] = [
     ("", "! Start"),
     ("urn:epc:tag:SGTIN-96:3.0614141.812345.1", "! Scheme"),
     ("urn:epc:tag:sgtin-96:3.0614141.812345", "! Parts"),
@@ -85,6 +106,7 @@ static REFUSED: [(&str, &str); 13] = [
     ),
     ("urn:epc:raw:96.x30", "! RawForm"),
     ("urn:epc:raw:96.x3074257BF7194E4000001A85", "! RawOfLawful"),
+    ("urn:epc:raw:96.x2C74257BF460720000000190", "! RawOfLawful"),
     ("35FFFFFFFFFFFFFFFFFFFFF", "! Start"),
     ("35FFFFFFFFFFFFFFFFFFFFFG", "! Start"),
 ];

@@ -20,7 +20,7 @@ fn read(number: u128) -> Option<Result<Whole, WordFault>> {
 
 /// Numbers of words of schemes with a company prefix: the scheme, the filter value, the digits of the company prefix, the
 /// prefix, the reference, and the serial number.
-static PARTITIONED: [(u128, Kind, u8, u8, u64, u64, u64); 4] = [
+static PARTITIONED: [(u128, Kind, u8, u8, u64, u64, u64); 8] = [
     (
         0x3074_257B_F719_4E40_0000_1A85,
         Kind::Sgtin,
@@ -41,6 +41,26 @@ static PARTITIONED: [(u128, Kind, u8, u8, u64, u64, u64); 4] = [
     ),
     (0x3200_0000_0000_0400_0000_0000, Kind::Sgln, 0, 12, 1, 0, 0),
     (0x3300_0000_0000_0000_0000_0000, Kind::Grai, 0, 12, 0, 0, 0),
+    (
+        0x2C74_257B_F460_7200_0000_0190,
+        Kind::Gdti,
+        3,
+        7,
+        614_141,
+        12_345,
+        400,
+    ),
+    (0x2C00_0000_0000_0000_0000_0000, Kind::Gdti, 0, 12, 0, 0, 0),
+    (
+        0x2D54_257B_F449_9602_D200_0000,
+        Kind::Gsrn,
+        2,
+        7,
+        614_141,
+        1_234_567_890,
+        0,
+    ),
+    (0x2D00_0000_0000_0000_0000_0000, Kind::Gsrn, 0, 12, 0, 0, 0),
 ];
 
 #[test]
@@ -59,14 +79,16 @@ fn words_with_a_company_prefix(rt: HostRuntime) {
 }
 
 /// Numbers whose words are no EPC's: the bit at which they fail, and why.
-static FAULTY: [(u128, u32, WordReason); 6] = [
+static FAULTY: [(u128, u32, WordReason); 8] = [
     (0x3114_257B_F400_0000_0100_0001, 72, WordReason::Zeros),
     (0x3200_0000_0000_0600_0000_0000, 54, WordReason::Reference),
     (0x3003_A352_9440_0000_0000_0000, 14, WordReason::Prefix),
     (0x307C_0000_0000_0000_0000_0000, 11, WordReason::Partition),
-    // Headers of schemes that the standard has no coding table for in 96 bits.
-    (0x2C00_0000_0000_0000_0000_0000, 0, WordReason::Header),
-    (0x2D00_0000_0000_0000_0000_0000, 0, WordReason::Header),
+    (0x2D54_257B_F449_9602_D200_0001, 72, WordReason::Zeros),
+    (0x2C1C_0000_0000_0000_0000_0000, 11, WordReason::Partition),
+    // GIAI-96, which is left out, and a header that is reserved.
+    (0x3400_0000_0000_0000_0000_0000, 0, WordReason::Header),
+    (0x0000_0000_0000_0000_0000_0000, 0, WordReason::Header),
 ];
 
 #[test]
@@ -169,6 +191,8 @@ fn scheme_names(rt: HostRuntime) {
         (Kind::Sscc, "sscc-96"),
         (Kind::Sgln, "sgln-96"),
         (Kind::Grai, "grai-96"),
+        (Kind::Gdti, "gdti-96"),
+        (Kind::Gsrn, "gsrn-96"),
         (Kind::Gid, "gid-96"),
     ];
     for (kind, name) in rows {

@@ -5,7 +5,7 @@ use tag_bits::Word;
 use tag_uri::{UriFault, parse, print, text_of_word, word_of_text};
 
 /// Words and their texts.
-const TEXTS: [(u128, &str); 11] = [
+const TEXTS: [(u128, &str); 15] = [
     (
         0x3200_0000_0000_0400_0000_0000,
         "urn:epc:tag:sgln-96:0.000000000001..0",
@@ -32,11 +32,27 @@ const TEXTS: [(u128, &str); 11] = [
     ),
     (
         0x2C00_0000_0000_0000_0000_0000,
-        "urn:epc:raw:96.x2C0000000000000000000000",
+        "urn:epc:tag:gdti-96:0.000000000000..0",
     ),
     (
         0x2D00_0000_0000_0000_0000_0000,
-        "urn:epc:raw:96.x2D0000000000000000000000",
+        "urn:epc:tag:gsrn-96:0.000000000000.00000",
+    ),
+    (
+        0x2C74_257B_F460_7200_0000_0190,
+        "urn:epc:tag:gdti-96:3.0614141.12345.400",
+    ),
+    (
+        0x2D54_257B_F449_9602_D200_0000,
+        "urn:epc:tag:gsrn-96:2.0614141.1234567890",
+    ),
+    (
+        0x2D54_257B_F449_9602_D200_0001,
+        "urn:epc:raw:96.x2D54257BF4499602D2000001",
+    ),
+    (
+        0x2C1C_0000_0000_0000_0000_0000,
+        "urn:epc:raw:96.x2C1C00000000000000000000",
     ),
     (
         0x30E3_A352_943F_FE7F_FFFF_FFFF,
@@ -53,7 +69,7 @@ const TEXTS: [(u128, &str); 11] = [
 ];
 
 /// Texts that are no word's, with the first rule that refuses each.
-const REFUSED: [(&str, UriFault, &str); 12] = [
+const REFUSED: [(&str, UriFault, &str); 15] = [
     ("", UriFault::Start, "Start"),
     (
         "urn:epc:tag:SGTIN-96:3.0614141.812345.1",
@@ -105,6 +121,21 @@ const REFUSED: [(&str, UriFault, &str); 12] = [
         "urn:epc:raw:96.x3074257BF7194E4000001A85",
         UriFault::RawOfLawful,
         "RawOfLawful",
+    ),
+    (
+        "urn:epc:raw:96.x2C74257BF460720000000190",
+        UriFault::RawOfLawful,
+        "RawOfLawful",
+    ),
+    (
+        "urn:epc:tag:gsrn-96:2.0614141.1234567890.0",
+        UriFault::Parts,
+        "Parts",
+    ),
+    (
+        "urn:epc:tag:gdti-96:3.0614141.1234.400",
+        UriFault::Digits,
+        "Digits",
     ),
 ];
 

@@ -14,7 +14,7 @@ pub struct Vector {
 }
 
 /// Streams of frames that are all messages.
-pub static LAWFUL: [Vector; 22] = [
+pub static LAWFUL: [Vector; 24] = [
     Vector {
         name: "empty",
         stream: "",
@@ -44,6 +44,16 @@ pub static LAWFUL: [Vector; 22] = [
         name: "one_sgtin_report",
         stream: "043D0000001B00000001 00F00011 8D3074257BF7194E4000001A85",
         listing: "0 RO_ACCESS_REPORT 1 1\n1 TagReportData\n2 EPC-96 urn:epc:tag:sgtin-96:3.0614141.812345.6789\n",
+    },
+    Vector {
+        name: "one_gdti_report",
+        stream: "043D0000001B00000001 00F00011 8D2C74257BF460720000000190",
+        listing: "0 RO_ACCESS_REPORT 1 1\n1 TagReportData\n2 EPC-96 urn:epc:tag:gdti-96:3.0614141.12345.400\n",
+    },
+    Vector {
+        name: "one_gsrn_report",
+        stream: "043D0000001B00000001 00F00011 8D2D54257BF4499602D2000000",
+        listing: "0 RO_ACCESS_REPORT 1 1\n1 TagReportData\n2 EPC-96 urn:epc:tag:gsrn-96:2.0614141.1234567890\n",
     },
     Vector {
         name: "tv_order_kept",
@@ -128,7 +138,7 @@ pub static LAWFUL: [Vector; 22] = [
 ];
 
 /// Words of 96 bits, and the text of each.
-pub static WORDS: [(&'static str, &'static str, &'static str); 9] = [
+pub static WORDS: [(&'static str, &'static str, &'static str); 13] = [
     (
         "sgtin",
         "3074257BF7194E4000001A85",
@@ -173,6 +183,26 @@ pub static WORDS: [(&'static str, &'static str, &'static str); 9] = [
         "grai_of_zeros",
         "330000000000000000000000",
         "urn:epc:tag:grai-96:0.000000000000..0",
+    ),
+    (
+        "gdti_of_zeros",
+        "2C0000000000000000000000",
+        "urn:epc:tag:gdti-96:0.000000000000..0",
+    ),
+    (
+        "gsrn_of_zeros",
+        "2D0000000000000000000000",
+        "urn:epc:tag:gsrn-96:0.000000000000.00000",
+    ),
+    (
+        "gsrn_tail_not_zero",
+        "2D54257BF4499602D2000001",
+        "urn:epc:raw:96.x2D54257BF4499602D2000001",
+    ),
+    (
+        "gdti_partition_seven",
+        "2C1C00000000000000000000",
+        "urn:epc:raw:96.x2C1C00000000000000000000",
     ),
 ];
 
