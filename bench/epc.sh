@@ -10,7 +10,7 @@ crate="$top/crates/epc_bench"
 # The words as lines of 24 digits, with numbers that count up.
 make_words() {
     awk -v count="$count" 'BEGIN {
-        split("3074257BF7194E40%08X 3500000010000010%08X 3114257BF4%08X000000 2C00000000000000%08X", forms, " ")
+        split("3074257BF7194E40%08X 3500000010000010%08X 3114257BF4%08X000000 3400000000000000%08X", forms, " ")
         for (n = 0; n < count; n++) printf forms[n % 4 + 1] "\n", n
     }' > "$work/words"
 }

@@ -1,16 +1,17 @@
 -- The fields of an EPC, and that a word is read in one way.
 use Rattle.std.proofs.Common.{◌≡◌, ℕ, ◌^◌, ◌<◌, Bool, true, List, [], ◌∷◌, ◌++◌, length, drop, Option, Some, None, refl, sym, ap, subst, ◌∙◌, arith, length-append}
-use Rattle.std.specs.Prelude.{nat_lt, option_map, unwrap_or}
+use Rattle.std.specs.Prelude.{nat_lt, option_map, slice_get, unwrap_or}
 use Rattle.std.proofs.lemmas.Bool.{ltb-true}
 use Rattle.std.proofs.lemmas.List.{append_assoc}
 use Rattle.tag_bits.specs.Digits.{digits, value, word_digits}
 use Rattle.tag_bits.proofs.DigitLemmas.{length-digits, digits_from, digits-injective, value-below}
 use Rattle.tag_epc.specs.declared.scheme.Row.{Row}
 use Rattle.tag_epc.specs.declared.kind.Kind.{Kind}
-use Rattle.tag_epc.specs.declared.kind.Kind.TheVariants.{Sgtin, Sscc, Sgln, Grai, Gdti, Gsrn, Gid}
+use Rattle.tag_epc.specs.declared.kind.Kind.TheVariants.{Gid}
 use Rattle.tag_epc.specs.declared.epc.Parts.{Parts}
 use Rattle.tag_epc.specs.declared.epc.Parts.TheVariants.{Partitioned, General}
-use Rattle.tag_epc.specs.Layout.{Layout, layout_of, header_of, row_at, leading_segments, number_segments, gid_segments, gid_header}
+use Rattle.tag_epc.proofs.KindLemmas.{listed, place_in}
+use Rattle.tag_epc.specs.Layout.{every_kind, Layout, layout_of, header_of, row_at, leading_segments, number_segments, gid_segments, gid_header}
 use Rattle.tag_epc.specs.LawfulWord.{Field, fill, spell, HasFields, IsLawful, Spells, HasWord, kind_of}
 use Rattle.tag_epc.specs.Faults.{AllRead}
 use Rattle.tag_epc.proofs.Soundness.{layout_sound}
@@ -26,14 +27,7 @@ row_fields l r f p c t n = fill leading_segments (l.header ∷ f ∷ p ∷ []) +
 
 -- a scheme has one header
 one_kind : (j k : Kind) → header_of j ≡ header_of k → j ≡ k
-one_kind Sgtin Sgtin e = refl
-one_kind Sscc Sscc e = refl
-one_kind Sgln Sgln e = refl
-one_kind Grai Grai e = refl
-one_kind Gdti Gdti e = refl
-one_kind Gsrn Gsrn e = refl
-one_kind Gid Gid e = refl
-one_kind _ _ e = absurd (omega arith)
+one_kind j k e = some_same j k (sym (listed j) ∙ ap (λ h. slice_get every_kind (place_in every_kind h)) e ∙ listed k)
 
 -- this computes for each scheme
 header_small : (k : Kind) → nat_lt (header_of k) 256 ≡ true
