@@ -135,9 +135,11 @@ class Progress:
         sys.stderr.flush()
 
     def wipe(self):
+        """Takes away what is shown on a terminal."""
         if self.shown:
             sys.stderr.write("\r\x1b[K")
             sys.stderr.flush()
+            self.shown = ""
 
 
 class Run:
@@ -232,6 +234,7 @@ def main():
     finally:
         for it in runs:
             it.stop()
+        progress.wipe()
 
 
 if __name__ == "__main__":
