@@ -6,3 +6,4 @@ pub mod UnfitLemmas
 pub mod OneReading
 pub mod OneFault
 pub mod EpcFields
+pub mod KindLemmas

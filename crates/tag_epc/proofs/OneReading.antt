@@ -7,7 +7,7 @@ use Rattle.tag_bits.specs.Digits.{digits, value, word_digits}
 use Rattle.tag_bits.proofs.DigitLemmas.{length-digits, digits_from, digits-injective, value-below}
 use Rattle.tag_epc.specs.declared.scheme.Row.{Row}
 use Rattle.tag_epc.specs.declared.kind.Kind.{Kind}
-use Rattle.tag_epc.specs.declared.kind.Kind.TheVariants.{Sgtin, Sscc, Sgln, Grai, Gid}
+use Rattle.tag_epc.specs.declared.kind.Kind.TheVariants.{Sgtin, Sscc, Sgln, Grai, Gdti, Gsrn, Gid}
 use Rattle.tag_epc.specs.declared.epc.Parts.{Parts}
 use Rattle.tag_epc.specs.declared.epc.Parts.TheVariants.{Partitioned, General}
 use Rattle.tag_epc.specs.Layout.{Layout, layout_of, header_of, row_at, leading_segments, number_segments, gid_segments, gid_header}
@@ -30,6 +30,8 @@ one_kind Sgtin Sgtin e = refl
 one_kind Sscc Sscc e = refl
 one_kind Sgln Sgln e = refl
 one_kind Grai Grai e = refl
+one_kind Gdti Gdti e = refl
+one_kind Gsrn Gsrn e = refl
 one_kind Gid Gid e = refl
 one_kind _ _ e = absurd (omega arith)
 

@@ -1,7 +1,7 @@
 -- The segments of 96-bit EPCs. Source: EPC Tag Data Standard 1.13, section 14.5, "EPC Binary coding tables".
 use Rattle.std.specs.Prelude.{ℕ, ◌+◌, ◌^◌, nat_le, ◌==◌, ◌&&◌, Bool, true, false, List, [], ◌∷◌, length, Option, Some, None, option_map, unwrap_or, slice_get, codes}
 use Rattle.tag_epc.specs.declared.kind.Kind.{Kind}
-use Rattle.tag_epc.specs.declared.kind.Kind.TheVariants.{Sgtin, Sscc, Sgln, Grai, Gid}
+use Rattle.tag_epc.specs.declared.kind.Kind.TheVariants.{Sgtin, Sscc, Sgln, Grai, Gdti, Gsrn, Gid}
 use Rattle.tag_epc.specs.declared.scheme.Row.{Row}
 
 -- a segment of a word: how many binary digits it has, and how many decimal digits its number has, where the standard fixes them
@@ -77,13 +77,39 @@ grai_96 = record {
   zero_tail = false;
 }
 
+-- GDTI-96: document type, then a serial number
+abbrev pub gdti_96 : Layout
+gdti_96 = record {
+  name = codes "gdti-96";
+  header = 0x2c;
+  rows = partition_table (1 ∷ 4 ∷ 7 ∷ 11 ∷ 14 ∷ 17 ∷ 21 ∷ []) (0 ∷ 1 ∷ 2 ∷ 3 ∷ 4 ∷ 5 ∷ 6 ∷ []);
+  last_bits = 41;
+  zero_tail = false;
+}
+
+-- GSRN-96: service reference, then zeros
+abbrev pub gsrn_96 : Layout
+gsrn_96 = record {
+  name = codes "gsrn-96";
+  header = 0x2d;
+  rows = partition_table (18 ∷ 21 ∷ 24 ∷ 28 ∷ 31 ∷ 34 ∷ 38 ∷ []) (5 ∷ 6 ∷ 7 ∷ 8 ∷ 9 ∷ 10 ∷ 11 ∷ []);
+  last_bits = 24;
+  zero_tail = true;
+}
+
 -- the layout of a scheme with a company prefix; GID-96 has none
 abbrev pub layout_of : Kind → Option Layout
 layout_of Sgtin = Some sgtin_96
 layout_of Sscc = Some sscc_96
 layout_of Sgln = Some sgln_96
 layout_of Grai = Some grai_96
+layout_of Gdti = Some gdti_96
+layout_of Gsrn = Some gsrn_96
 layout_of Gid = None
+
+-- each scheme once
+abbrev pub every_kind : List Kind
+every_kind = Sgtin ∷ Sscc ∷ Sgln ∷ Grai ∷ Gdti ∷ Gsrn ∷ Gid ∷ []
 
 -- the row of a partition value, for those that there are
 abbrev pub row_at : Layout → ℕ → Option Row

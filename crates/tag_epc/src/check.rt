@@ -1,11 +1,12 @@
 //! Which numbers are an EPC's, and the first that is not.
 
-ghost use Rattle.std.specs.Prelude.{◌≡◌, ◌↔◌, ℕ, [], ◌∷◌, Some, IsTrue, IfOk, IfErr, MatchOption};
+ghost use Rattle.std.specs.Prelude.{◌≡◌, ◌≢◌, ◌↔◌, ℕ, [], ◌∷◌, Some, IsTrue, IfOk, IfErr, MatchOption};
 ghost use Rattle.tag_epc.specs.Layout.{layout_of, row_at, last_segment, number_segments};
 ghost use Rattle.tag_epc.specs.LawfulWord.{fill, Fits, AllFit, IsLawful};
 ghost use Rattle.tag_epc.specs.Faults.{FirstUnfit, HasEpcFault};
 ghost use Rattle.tag_epc.specs.Numbers.{place_of_number};
 
+use crate::at_scheme;
 use crate::epc::Parts;
 use crate::fault::EpcFault;
 use crate::kind::Kind;
@@ -82,6 +83,27 @@ pub fn checked<S: Scheme>(
             last,
         }),
     }
+}
+
+/// The parts of numbers that are an EPC's of the scheme of a kind, or the first check that they fail.
+pub fn checked_at(
+    kind: Kind,
+    filter: u8,
+    company_digits: u8,
+    company: u64,
+    reference: u64,
+    last: u64,
+) -> Result<Parts, EpcFault>
+    requires has_company_prefix { kind ≢ Kind.Gid }
+    ensures ok { IfOk result (λ parts. parts ≡ Parts.Partitioned kind filter company_digits company reference last) }
+    ensures lawful { IfOk result (λ parts. IsLawful parts) }
+    ensures err { IfErr result (λ f. HasEpcFault (Parts.Partitioned kind filter company_digits company reference last) f) }
+{
+    at_scheme!(
+        kind,
+        checked(kind, filter, company_digits, company, reference, last),
+        unreachable!()
+    )
 }
 
 /// The parts of numbers that are an EPC's of GID-96, or the first that does not fit.

@@ -2,8 +2,7 @@
 
 ghost use Rattle.std.specs.Prelude.{◌≡◌, ◌≢◌, ◌↔◌, ℕ, IsOk, IfOk, IfErr};
 
-use crate::at_scheme;
-use crate::check::{checked, checked_general};
+use crate::check::{checked_at, checked_general};
 use crate::fault::{EpcFault, WordFault};
 use crate::kind::Kind;
 use crate::read::parts_of;
@@ -72,11 +71,7 @@ impl Epc {
         ensures ok { IfOk result (λ e. e ≡ Parts.Partitioned kind filter company_digits company reference last) }
         ensures err { IfErr result (λ f. HasEpcFault (Parts.Partitioned kind filter company_digits company reference last) f) }
     {
-        let parts = at_scheme!(
-            kind,
-            checked(kind, filter, company_digits, company, reference, last),
-            unreachable!()
-        )?;
+        let parts = checked_at(kind, filter, company_digits, company, reference, last)?;
         Ok(Epc { parts })
     }
 

@@ -1,8 +1,9 @@
-//! The schemes by name, and the way from a scheme's name to its layout.
+//! The schemes by name, and the way from a scheme's name to its layout. A new scheme has a line in each
+//! of the three lists below: the enum, the list of all kinds, and the macro.
 
 ghost use Rattle.std.specs.Prelude.{◌≡◌, ◌≢◌, ℕ, MatchOption};
 
-use crate::scheme::{Grai96, Scheme, Sgln96, Sgtin96, Sscc96};
+use crate::scheme::Scheme;
 
 /// The first eight bits of each word of GID-96.
 pub const GID_HEADER: u8 = 0x35;
@@ -18,9 +19,24 @@ pub enum Kind {
     Sgln,
     /// Returnable assets, GRAI-96.
     Grai,
+    /// Documents, GDTI-96.
+    Gdti,
+    /// Service relations, GSRN-96.
+    Gsrn,
     /// General identifiers, GID-96, which have no company prefix.
     Gid,
 }
+
+/// Each scheme once.
+pub const KINDS: [Kind; 7] = [
+    Kind::Sgtin,
+    Kind::Sscc,
+    Kind::Sgln,
+    Kind::Grai,
+    Kind::Gdti,
+    Kind::Gsrn,
+    Kind::Gid,
+];
 
 /// The generic function at the scheme of a kind, or a value for GID-96.
 #[macro_export]
@@ -31,6 +47,8 @@ macro_rules! at_scheme {
             $crate::kind::Kind::Sscc => $f::<$crate::scheme::Sscc96>($($argument),*),
             $crate::kind::Kind::Sgln => $f::<$crate::scheme::Sgln96>($($argument),*),
             $crate::kind::Kind::Grai => $f::<$crate::scheme::Grai96>($($argument),*),
+            $crate::kind::Kind::Gdti => $f::<$crate::scheme::Gdti96>($($argument),*),
+            $crate::kind::Kind::Gsrn => $f::<$crate::scheme::Gsrn96>($($argument),*),
             $crate::kind::Kind::Gid => $general,
         }
     };
@@ -46,18 +64,23 @@ impl Kind {
         at_scheme!(self, name_under(), "gid-96")
     }
 
+    /// The first eight bits of each word of the scheme.
+    pub fn header(self) -> u8
+        ensures { result ≡ header_of self }
+    {
+        at_scheme!(self, header_under(), GID_HEADER)
+    }
+
     /// The kind with that header, the first eight bits of a word.
     pub fn of_header(header: u8) -> Option<Kind>
         ensures { MatchOption result ((k : Kind) → header_of k ≢ header) (λ k. header_of k ≡ header) }
     {
-        match header {
-            Sgtin96::HEADER => Some(Kind::Sgtin),
-            Sscc96::HEADER => Some(Kind::Sscc),
-            Sgln96::HEADER => Some(Kind::Sgln),
-            Grai96::HEADER => Some(Kind::Grai),
-            GID_HEADER => Some(Kind::Gid),
-            _ => None,
+        for kind in KINDS {
+            if kind.header() == header {
+                return Some(kind);
+            }
         }
+        None
     }
 }
 
@@ -66,4 +89,11 @@ fn name_under<S: Scheme>() -> &'static str
     ensures { result.now ≡ S.layout.name }
 {
     S::name()
+}
+
+/// The header of a scheme.
+fn header_under<S: Scheme>() -> u8
+    ensures { result ≡ S.layout.header }
+{
+    S::HEADER
 }

@@ -234,6 +234,88 @@ impl Scheme for Grai96 {
     ghost sound = { refl };
 }
 
+/// Documents: document type, then a serial number.
+pub struct Gdti96;
+
+impl Scheme for Gdti96 {
+    ghost use Rattle.tag_epc.specs.Layout.{gdti_96};
+
+    ghost layout = { gdti_96 };
+
+    ghost HEADER = { gdti_96.header };
+
+    ghost LAST_BITS = { gdti_96.last_bits };
+
+    ghost ZERO_TAIL = { gdti_96.zero_tail };
+
+    const HEADER: u8 = 0x2c;
+
+    const LAST_BITS: u32 = 41;
+
+    const ZERO_TAIL: bool = false;
+
+    fn name() -> &'static str {
+        "gdti-96"
+    }
+
+    fn row(partition: u8) -> Option<Row> {
+        row_of(
+            partition,
+            &[1, 4, 7, 11, 14, 17, 21], // bits of the document type
+            &[0, 1, 2, 3, 4, 5, 6], // digits of the document type
+        )
+    }
+
+    ghost header_is = { refl };
+
+    ghost last_bits_is = { refl };
+
+    ghost zero_tail_is = { refl };
+
+    ghost sound = { refl };
+}
+
+/// Service relations: service reference, then zeros.
+pub struct Gsrn96;
+
+impl Scheme for Gsrn96 {
+    ghost use Rattle.tag_epc.specs.Layout.{gsrn_96};
+
+    ghost layout = { gsrn_96 };
+
+    ghost HEADER = { gsrn_96.header };
+
+    ghost LAST_BITS = { gsrn_96.last_bits };
+
+    ghost ZERO_TAIL = { gsrn_96.zero_tail };
+
+    const HEADER: u8 = 0x2d;
+
+    const LAST_BITS: u32 = 24;
+
+    const ZERO_TAIL: bool = true;
+
+    fn name() -> &'static str {
+        "gsrn-96"
+    }
+
+    fn row(partition: u8) -> Option<Row> {
+        row_of(
+            partition,
+            &[18, 21, 24, 28, 31, 34, 38], // bits of the service reference
+            &[5, 6, 7, 8, 9, 10, 11], // digits of the service reference
+        )
+    }
+
+    ghost header_is = { refl };
+
+    ghost last_bits_is = { refl };
+
+    ghost zero_tail_is = { refl };
+
+    ghost sound = { refl };
+}
+
 const POWERS: [u64; 13] = [
     1,
     10,

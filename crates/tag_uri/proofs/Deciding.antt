@@ -1,15 +1,17 @@
 -- Each text is the text of a word or of none, and each word has a text.
 use Rattle.std.proofs.Common.{◌≡◌, ℕ, zero, suc, ◌-◌, ◌^◌, ◌<◌, ◌≤◌, Bool, true, false, cond, List, [], ◌∷◌, Option, Some, None, ◌⊎◌, inl, inr, refl, sym, ap, subst, ◌∙◌, arith}
+use Rattle.std.specs.Prelude.{length, slice_get, unwrap_or}
 use Rattle.std.specs.Str.{bytes_eq}
 use Rattle.std.proofs.lemmas.Bool.{cases_lt}
 use Rattle.std.proofs.lemmas.Slice.Eq.{bytes_eq-Decides}
 use Rattle.tag_bits.specs.Digits.{word_digits}
 use Rattle.tag_epc.specs.declared.kind.Kind.{Kind}
-use Rattle.tag_epc.specs.declared.kind.Kind.TheVariants.{Sgtin, Sscc, Sgln, Grai, Gid}
+use Rattle.tag_epc.specs.declared.kind.Kind.TheVariants.{Gid}
 use Rattle.tag_epc.specs.declared.scheme.Row.{Row}
 use Rattle.tag_epc.specs.declared.epc.Parts.{Parts}
 use Rattle.tag_epc.specs.declared.epc.Parts.TheVariants.{Partitioned, General}
-use Rattle.tag_epc.specs.Layout.{Layout, layout_of, row_at, is_sound}
+use Rattle.tag_epc.specs.Layout.{Layout, every_kind, layout_of, row_at, is_sound}
+use Rattle.tag_epc.proofs.KindLemmas.{below as within, listed, place_of}
 use Rattle.tag_epc.specs.LawfulWord.{IsLawful, HasWord, spell}
 use Rattle.tag_epc.proofs.OneReading.{has_word as lawful_word, one_fields}
 use Rattle.tag_uri.specs.TagText.{tag_uri, raw_uri, IsTextOf}
@@ -40,28 +42,16 @@ below P (suc n) d = elim (below P n (λ k lt. d k (omega arith))) [
   ]
 ]
 
+-- the kind at a place of the list of all
+abbrev kind_at : ℕ → Kind
+kind_at i = unwrap_or (slice_get every_kind i) Gid
+
 -- some scheme
 kinds : (P : Kind → Type 0) → ((k : Kind) → Decided (P k)) → Decided ((k : Kind) × P k)
-kinds P d = elim (d Sgtin) [
-  | inl p ↦ inl (Sgtin, p)
-  | inr a ↦ elim (d Sscc) [
-    | inl p ↦ inl (Sscc, p)
-    | inr b ↦ elim (d Sgln) [
-      | inl p ↦ inl (Sgln, p)
-      | inr c ↦ elim (d Grai) [
-        | inl p ↦ inl (Grai, p)
-        | inr e ↦ elim (d Gid) [ inl p ↦ inl (Gid, p) | inr f ↦ inr (λ h. none a b c e f h.0 h.1) ]
-      ]
-    ]
-  ]
+kinds P d = elim (below (λ i. P (kind_at i)) (length every_kind) (λ i lt. d (kind_at i))) [
+  | inl h ↦ inl (kind_at h.0, h.2)
+  | inr never ↦ inr (λ h. never (place_of h.0, within h.0, subst P (sym (ap (λ (o : Option Kind). unwrap_or o Gid) (listed h.0))) h.1))
 ]
-  where
-    none : (P Sgtin → ⊥) → (P Sscc → ⊥) → (P Sgln → ⊥) → (P Grai → ⊥) → (P Gid → ⊥) → (k : Kind) → P k → ⊥
-    none a b c e f Sgtin p = a p
-    none a b c e f Sscc p = b p
-    none a b c e f Sgln p = c p
-    none a b c e f Grai p = e p
-    none a b c e f Gid p = f p
 
 same_some : {A : Type 0} (a b : A) → ◌≡◌ {A = Option A} (Some a) (Some b) → a ≡ b
 same_some a b e = cc

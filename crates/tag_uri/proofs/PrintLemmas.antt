@@ -7,7 +7,7 @@ use Rattle.std.proofs.lemmas.List.{append-nil}
 use Rattle.std.proofs.lemmas.Nat.{pow-add}
 use Rattle.std.proofs.Math.Nat.{pow-le-pow_right, one-le-pow, mul-le-mul}
 use Rattle.tag_epc.specs.declared.kind.Kind.{Kind}
-use Rattle.tag_epc.specs.declared.kind.Kind.TheVariants.{Sgtin, Sscc, Sgln, Grai, Gid}
+use Rattle.tag_epc.specs.declared.kind.Kind.TheVariants.{Sgtin, Gid}
 use Rattle.tag_epc.specs.declared.scheme.Row.{Row}
 use Rattle.tag_epc.specs.declared.epc.Parts.{Parts}
 use Rattle.tag_epc.specs.declared.epc.Parts.TheVariants.{Partitioned, General}
@@ -22,10 +22,7 @@ use Rattle.tag_uri.proofs.RowDigits.{row_fits, reference_digits-at}
 -- a name has at most eight letters
 pub name_short : (k : Kind) → length (name_of k) ≤ 8
 name_short Sgtin = lit≤ tt
-name_short Sscc = lit≤ tt
-name_short Sgln = lit≤ tt
-name_short Grai = lit≤ tt
-name_short Gid = lit≤ tt
+name_short _ = lit≤ tt
 
 -- the numbers of a lawful EPC at its row
 pub record AtRow (l : Layout) (filter k company reference last : ℕ) : Type 0 where

@@ -5,7 +5,7 @@ use Rattle.std.specs.List.{AllPass, list_all, join_with_byte}
 use Rattle.std.proofs.lemmas.List.Elements.{All-head, All-tail}
 use Rattle.std.proofs.lemmas.List.Folds.{list_all-append}
 use Rattle.tag_epc.specs.declared.kind.Kind.{Kind}
-use Rattle.tag_epc.specs.declared.kind.Kind.TheVariants.{Sgtin, Sscc, Sgln, Grai, Gid}
+use Rattle.tag_epc.specs.declared.kind.Kind.TheVariants.{Sgtin}
 use Rattle.tag_epc.specs.declared.epc.Parts.{Parts}
 use Rattle.tag_epc.specs.Layout.{name_of}
 use Rattle.tag_epc.specs.LawfulWord.{IsLawful, kind_of}
@@ -37,10 +37,7 @@ joined_visible (c ∷ d ∷ cs) h = append_visible c (46 ∷ join_with_byte 46 (
 
 name_visible : (k : Kind) → visible (name_of k) ≡ true
 name_visible Sgtin = refl
-name_visible Sscc = refl
-name_visible Sgln = refl
-name_visible Grai = refl
-name_visible Gid = refl
+name_visible _ = refl
 
 uri_visible : (epc : Parts) → IsLawful epc → visible (tag_uri epc) ≡ true
 uri_visible epc h =

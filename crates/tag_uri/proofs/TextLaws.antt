@@ -7,10 +7,10 @@ use Rattle.std.proofs.lemmas.Bool.{ne_eqb}
 use Rattle.std.proofs.lemmas.List.Elements.{All-nil, All-cons}
 use Rattle.std.proofs.lemmas.List.Splits.{slice_split_none, slice_split_at}
 use Rattle.tag_epc.specs.declared.kind.Kind.{Kind}
-use Rattle.tag_epc.specs.declared.kind.Kind.TheVariants.{Sgtin, Sscc, Sgln, Grai, Gid}
+use Rattle.tag_epc.specs.declared.kind.Kind.TheVariants.{Sgtin, Gid}
 use Rattle.tag_epc.specs.declared.epc.Parts.{Parts}
 use Rattle.tag_epc.specs.declared.epc.Parts.TheVariants.{Partitioned, General}
-use Rattle.tag_epc.specs.Layout.{Layout, layout_of, name_of, is_sound}
+use Rattle.tag_epc.specs.Layout.{Layout, every_kind, layout_of, name_of, is_sound}
 use Rattle.tag_epc.specs.LawfulWord.{IsLawful, HasWord, kind_of}
 use Rattle.tag_bits.specs.Digits.{word_digits}
 use Rattle.tag_epc.proofs.OneReading.{one_word, one_epc}
@@ -33,10 +33,7 @@ colonless x = list_all (λ c. not (c == 58)) x
 
 name_colonless : (k : Kind) → colonless (name_of k) ≡ true
 name_colonless Sgtin = refl
-name_colonless Sscc = refl
-name_colonless Sgln = refl
-name_colonless Grai = refl
-name_colonless Gid = refl
+name_colonless _ = refl
 
 no_colon_first : (c : ℕ) (cs : List ℕ) → colonless (c ∷ cs) ≡ true → c ≡ 58 → ⊥
 no_colon_first c cs h e = let no : colonless (58 ∷ cs) ≡ true = rw e at h in cc
@@ -60,15 +57,12 @@ at_colon (c ∷ cs) (d ∷ ds) a b h k e =
 
 -- a kind by the sum of its name's letters
 kind_by : ℕ → Option Kind
-kind_by n = find (λ k. sum (name_of k) == n) (Sgtin ∷ Sscc ∷ Sgln ∷ Grai ∷ Gid ∷ [])
+kind_by n = find (λ k. sum (name_of k) == n) every_kind
 
 told : (k : Kind) → kind_by (sum (name_of k)) ≡ Some k
 unfolding kind_by
 told Sgtin = refl
-told Sscc = refl
-told Sgln = refl
-told Grai = refl
-told Gid = refl
+told _ = refl
 
 one_kind : (j k : Kind) → name_of j ≡ name_of k → j ≡ k
 one_kind j k e = let s : Some j ≡ Some k = sym (told j) ∙ ap (λ (x : List ℕ). kind_by (sum x)) e ∙ told k in cc

@@ -6,7 +6,7 @@ use Rattle.std.proofs.lemmas.Fmt.{length-decimal-le}
 use Rattle.std.proofs.lemmas.List.Elements.{All-head, All-tail}
 use Rattle.std.proofs.lemmas.List.Folds.{list_all-append}
 use Rattle.tag_epc.specs.declared.kind.Kind.{Kind}
-use Rattle.tag_epc.specs.declared.kind.Kind.TheVariants.{Sgtin, Sscc, Sgln, Grai, Gid}
+use Rattle.tag_epc.specs.declared.kind.Kind.TheVariants.{Sgtin}
 use Rattle.tag_epc.specs.declared.epc.Parts.{Parts}
 use Rattle.tag_epc.specs.declared.scheme.Row.{Row}
 use Rattle.tag_epc.specs.declared.epc.Parts.TheVariants.{Partitioned, General}
@@ -45,10 +45,7 @@ components_visible (c ∷ d ∷ cs) h = both c (46 ∷ join_with_byte 46 (d ∷ 
 
 name_visible : (k : Kind) → are_visible (name_of k) ≡ true
 name_visible Sgtin = refl
-name_visible Sscc = refl
-name_visible Sgln = refl
-name_visible Grai = refl
-name_visible Gid = refl
+name_visible _ = refl
 
 upper_visible : (cs : List ℕ) → AllPass is_upper_digit cs → are_visible cs ≡ true
 upper_visible [] h = refl
@@ -82,10 +79,7 @@ few_if_any (Some l) = few_in l.rows
 
 kind_few : (k : Kind) → few_if_any (layout_of k) ≡ true
 kind_few Sgtin = refl
-kind_few Sscc = refl
-kind_few Sgln = refl
-kind_few Grai = refl
-kind_few Gid = refl
+kind_few _ = refl
 
 few_reference : (rows : List Row) (k : ℕ) → few_in rows ≡ true → unwrap_or (reference_digits rows k) 0 ≤ 12
 few_reference [] k h = omega arith

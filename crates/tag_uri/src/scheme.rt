@@ -5,9 +5,7 @@ ghost use Rattle.tag_epc.specs.Layout.{name_of};
 ghost use Rattle.tag_uri.specs.TagText.{scheme_text};
 
 use tag_epc::Kind;
-
-/// Each scheme once.
-const KINDS: [Kind; 5] = [Kind::Sgtin, Kind::Sscc, Kind::Sgln, Kind::Grai, Kind::Gid];
+use tag_epc::kind::KINDS;
 
 /// The scheme of a name.
 fn kind_named(name: &str) -> Option<Kind>

@@ -3,6 +3,11 @@ use Rattle.tag_epc.proofs.Soundness.{sound}
 use Rattle.tag_epc.proofs.EpcFields.{written, written_word}
 use Rattle.tag_epc.proofs.write.partitioned.Goals as goal
 
+pub push-requires-5-clause-room : goal.push-requires-5-clause-room
+push-requires-5-clause-room g c =
+    let s = (sound g.S.Scheme.layout g.met.S.Scheme.sound).rows (12 - c.args.company_digits) c.in-Some.row (sym c.row.ensures ∙ c.in-Some.is) in
+    omega (arith, ap length c.new-writer.ensures, s.fills, g.met.S.Scheme.last_bits_is)
+
 pub push-requires-6-clause-room : goal.push-requires-6-clause-room
 push-requires-6-clause-room g c =
     let s = (sound g.S.Scheme.layout g.met.S.Scheme.sound).rows (12 - c.args.company_digits) c.in-Some.row (sym c.row.ensures ∙ c.in-Some.is) in
