@@ -11,6 +11,18 @@ build() {
     "$top/llrp" --help > "$work/help"
 }
 
+# Proves and builds a benchmark's program, and runs it once: its crate, its input, its words. Where that fails,
+# the benchmark ends and shows why.
+build_and_run() {
+    local crate="$1" input="$2"
+    shift 2
+    if ! (cd "$top/crates/$crate" && rt run -- "$@" < "$input") > "$work/build" 2>&1; then
+        tail -n 20 "$work/build" >&2
+        echo "$crate: the build or its first run failed" >&2
+        exit 2
+    fi
+}
+
 # So many copies of $work/million, one after another.
 copies() {
     for ((n = 0; n < $1; n++)); do

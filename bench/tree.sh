@@ -55,6 +55,6 @@ measure_frames() {
 }
 
 make_frame short_report 1 44 > "$work/frame"
-(cd "$top/crates/tree_bench" && rt run -- 1 1 < "$work/frame" > "$work/output" 2>&1)
+build_and_run tree_bench "$work/frame" 1 1
 measure_frames full_report 963 68 "$times"
 measure_frames short_report 100 34 "$((20 * times))"

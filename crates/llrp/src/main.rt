@@ -2,18 +2,26 @@
 //! ends with the status that it gives. The commands over sockets it runs itself.
 #![tactic(auto)]
 
+mod ending;
 mod inventory;
 mod looping;
 mod network;
 mod progress;
 mod sim;
 
-use llrp_tool::{Input, NetworkCommand, Output, ToolErr, network_command, run_command};
+use ending::end_without_memory;
+use llrp_tool::{Input, NetworkCommand, Output, ToolErr, network_command, run_command, write_all};
 use network::FAILED;
 use progress::Progress;
 use std::env;
-use std::io::IsTerminal;
+use std::io::{ErrorKind, IsTerminal};
 use std::process::ExitCode;
+
+/// The exit status where an argument is not UTF-8.
+const USAGE: u8 = 2;
+
+/// What is written where an argument is not UTF-8.
+const NOT_UTF8: &[u8] = b"error: invalid UTF-8 was detected in one or more arguments\n";
 
 /// Runs a command over sockets, and gives its exit status.
 fn run_network(rt: &HostRuntime, command: NetworkCommand<'_>) -> Result<u8, ToolErr> {
@@ -55,25 +63,38 @@ fn run_network(rt: &HostRuntime, command: NetworkCommand<'_>) -> Result<u8, Tool
     }
 }
 
-fn main(rt: HostRuntime) -> ExitCode {
+/// Runs the command that the program's words ask for, and gives its exit status. The errors are `Memory`
+/// where memory ran out before the command was known, and `Write` where writing to standard error failed.
+fn run(rt: &HostRuntime) -> Result<u8, ToolErr> {
     let alloc = rt.alloc();
-    let Ok(arguments) = env::args(&rt) else {
-        return ExitCode::from(FAILED);
+    let mut errors = Output::new(rt.stderr());
+    let arguments = match env::args(rt) {
+        Ok(arguments) => arguments,
+        Err(error) => match error.kind() {
+            ErrorKind::OutOfMemory => return Err(ToolErr::Memory),
+            _ => {
+                write_all(&mut errors, NOT_UTF8)?;
+                return Ok(USAGE);
+            }
+        },
     };
-    let Ok(words) = arguments.skip(1).collect(alloc) else {
-        return ExitCode::from(FAILED);
-    };
-    let words: Vec<String> = words;
-    let status = match network_command(alloc, words.as_slice()) {
-        Ok(Some(command)) => run_network(&rt, command),
-        Ok(None) => run_command(
+    let words: Vec<String> = arguments.skip(1).collect(alloc)?;
+    match network_command(alloc, words.as_slice())? {
+        Some(command) => run_network(rt, command),
+        None => run_command(
             alloc,
             words.as_slice(),
             &mut Input::new(rt.stdin()),
             &mut Output::new(rt.stdout()),
-            &mut Output::new(rt.stderr()),
+            &mut errors,
         ),
-        Err(error) => Err(error.into()),
-    };
-    ExitCode::from(status.unwrap_or(FAILED))
+    }
+}
+
+fn main(rt: HostRuntime) -> ExitCode {
+    ExitCode::from(match run(&rt) {
+        Ok(status) => status,
+        Err(ToolErr::Memory) => end_without_memory(&mut Output::new(rt.stderr())),
+        Err(_) => FAILED,
+    })
 }

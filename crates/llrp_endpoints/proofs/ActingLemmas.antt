@@ -11,7 +11,7 @@ use Rattle.llrp_endpoints.specs.Serving.{Happening, event_in, happening, last_mo
 use Rattle.llrp_endpoints.specs.declared.script.Entry.{Entry}
 use Rattle.llrp_endpoints.specs.Acting.{Did, DidSome, IsDue}
 use Rattle.llrp_listing.specs.declared.fault.ToolErr.{ToolErr}
-use Rattle.llrp_endpoints.proofs.SendingLemmas.{adds_none, adds_more}
+use Rattle.llrp_endpoints.proofs.SendingLemmas.{adds_more}
 
 -- ---- events one after another
 
@@ -29,9 +29,6 @@ pub said-append : (r : Reader) (hs ks : List Happening) → said (run r (hs ++ k
 said-append r hs ks = ap (map reader_message) (sent-append r hs ks) ∙ map-append reader_message (run r hs).sent (run (run r hs).reader ks).sent
 
 -- ---- what was done, and what is done next
-
-pub did_none : (r : Reader) (old : List ℕ) → Did r [] r old old
-did_none r old = record { reader = refl; adds = adds_none old }
 
 pub did_more : (a b c : Reader) (hs ks : List Happening) (x y z : List ℕ) → Did a hs b x y → Did b ks c y z → Did a (hs ++ ks) c x z
 did_more a b c hs ks x y z p q = record {

@@ -12,10 +12,6 @@ pub record Appends (old new : List ℕ) (ds : List Bool) : Type 0 where
   pub octets : AreOctets more
   pub spelled : digits_of_bytes more ≡ ds
 
--- new begins with old
-abbrev pub Grows : List ℕ → List ℕ → Type 0
-Grows old new = (more : List ℕ) × (new ≡ old ++ more)
-
 -- each range is within the field's bits
 abbrev pub is_sound : List FieldRule → Bool
 is_sound rules = list_all (λ r. nat_lt r.greatest (2 ^ r.width)) rules

@@ -9,7 +9,7 @@ use Rattle.std.proofs.lemmas.Str.Parse.{IsDigitsTest, IsNumeralModel, WeighsDigi
 use Rattle.std.specs.Str.Parse.{ParsesUnsigned}
 use Rattle.std.proofs.lemmas.Bool.{cases_lt, lt-ltb, eq-eqb}
 use Rattle.std.specs.Prelude.{replicate, true, false, nat_lt, ◌==◌}
-use Rattle.std.proofs.lemmas.List.{length-replicate, replicate-append-replicate, append-nil}
+use Rattle.std.proofs.lemmas.List.{length-replicate, append-nil}
 use Rattle.tag_uri.specs.Decimal.{AreDigits, decimal_value, padded, IsPadded, IsPlain}
 use Rattle.tag_uri.specs.TagText.{is_zero_led}
 
@@ -155,14 +155,6 @@ pub zeros_then_plain : (old front new text : List ℕ) (k n : ℕ) → n < 10 ^ 
 zeros_then_plain old front new text k n below some small is e f =
     let whole : padded k n ≡ replicate (k - length text) 48 ++ text = rw is (padded-zeros k n below (omega arith) small) in
     f ∙ ap (λ (x : List ℕ). x ++ text) e ∙ append_assoc old (replicate (k - length text) 48) text ∙ ap (λ (x : List ℕ). old ++ x) (sym whole)
-
--- one more zero
-pub one_more_zero : (old now new : List ℕ) (i : ℕ) → now ≡ old ++ replicate i 48 → new ≡ now ++ 48 ∷ [] → new ≡ old ++ replicate (i + 1) 48
-one_more_zero old now new i e f =
-    f ∙ ap (λ (x : List ℕ). x ++ 48 ∷ []) e ∙ append_assoc old (replicate i 48) (48 ∷ []) ∙ ap (λ (x : List ℕ). old ++ x) (replicate-append-replicate {A = ℕ} i 1 48)
-
-pub zeros_length : (old now : List ℕ) (i : ℕ) → now ≡ old ++ replicate i 48 → length now ≡ length old + i
-zeros_length old now i e = ap length e ∙ length-append old (replicate i 48) ∙ ap (λ (x : ℕ). length old + x) (length-replicate {A = ℕ} i 48)
 
 -- no digits are no text
 pub padded_none : (old : List ℕ) (k n : ℕ) → k ≡ 0 → old ≡ old ++ padded k n

@@ -1,0 +1,241 @@
+#!/usr/bin/env python3
+"""Proves the crates that the program llrp stands on, and builds it: crates/llrp/out/llrp.
+
+Crates that do not wait for one another are proved side by side, one for each processor and for each 3 GB of free memory.
+What was proved before is kept, so only crates that changed and those above them are proved. How far it is goes to standard
+error: on a terminal one line that changes, else a line for each crate.
+"""
+import os
+import re
+import select
+import signal
+import subprocess
+import sys
+import time
+
+TOP = os.path.dirname(os.path.realpath(__file__))
+PROGRAM = "llrp"
+MEMORY_OF_A_CHECK = 3 << 30
+# What a check prints at a step that is not proved, or that it cannot read.
+ERROR = re.compile(r"\berror(\[[\w-]+\])?:|: not proved|: no proof")
+
+
+def dependencies():
+    """Returns the repository's crates, and for each those that it uses directly."""
+    with open(f"{TOP}/crates.txt", encoding="utf-8") as lines:
+        pairs = [line.split(":") for line in lines if not line.startswith("#") and ":" in line]
+    uses = {name.split()[0]: used.split() for name, used in pairs}
+    return {name: [it for it in used if it in uses] for name, used in uses.items()}
+
+
+def below(crate, uses):
+    """Returns the crates that a crate stands on, each after those that it uses."""
+    found = []
+    for used in uses[crate]:
+        found += [it for it in [*below(used, uses), used] if it not in found]
+    return found
+
+
+def number_in(path):
+    """Returns the number that a file holds, or None."""
+    try:
+        with open(path, encoding="utf-8") as text:
+            return int(text.read())
+    except (OSError, ValueError):
+        return None
+
+
+def free_memory():
+    """Returns the free bytes of memory, of the machine and of the control group."""
+    with open("/proc/meminfo", encoding="utf-8") as text:
+        free = [1024 * int(re.search(r"MemAvailable:\s+(\d+)", text.read())[1])]
+    limit, used = (number_in(f"/sys/fs/cgroup/memory.{it}") for it in ("max", "current"))
+    if limit is not None and used is not None:
+        free.append(limit - used)
+    return min(free)
+
+
+def at_once():
+    """Returns how many crates to prove side by side."""
+    return max(1, min(len(os.sched_getaffinity(0)), free_memory() // MEMORY_OF_A_CHECK))
+
+
+def clock(seconds):
+    return f"{int(seconds) // 60}:{int(seconds) % 60:02}"
+
+
+class Progress:
+    """Says which crates are being proved, and how long each took."""
+
+    def __init__(self, crates, uses, most):
+        # (in this order they are begun, and at most so many at a time)
+        self.crates = sorted(crates, key=lambda it: len(below(it, uses)))
+        self.uses, self.most, self.done = uses, most, []
+        self.began, self.begun = time.monotonic(), {}
+        self.is_terminal = sys.stderr.isatty()
+        self.shown, self.last, self.failed = "", None, None
+        self.note_begun()
+        if self.is_terminal:
+            self.show()
+        else:
+            sys.stderr.write(f"llrp: proving {len(crates)} crates, {most} side by side, and building the program\n")
+            sys.stderr.flush()
+
+    def running(self):
+        """Returns the crates that are being proved: of the first that are not done, those that wait for none."""
+        first = [it for it in self.crates if it not in self.done][: self.most]
+        return [it for it in first if all(used in self.done for used in self.uses[it])]
+
+    def note_begun(self):
+        for crate in self.running():
+            self.begun.setdefault(crate, time.monotonic())
+
+    def read(self, line):
+        """Takes a line of the check of all crates: a line == and its name stands before what a crate's check wrote."""
+        if line.startswith("== "):
+            self.end(is_new=False)
+            self.last = line[3:]
+        elif line.startswith("logic=proved"):
+            self.end(is_new=True)
+        elif self.last and (line.startswith("logic=not-proved") or ERROR.search(line)):
+            self.failed, self.last = self.last, None
+        elif " waiting for " in line and line.startswith("rt: "):
+            self.wipe()
+            sys.stderr.write(f"llrp: {line.removeprefix('rt: ')}\n")
+
+    def end(self, is_new):
+        """Notes that the crate that was named last is done. Nothing is said of one that had nothing new to prove."""
+        crate, self.last = self.last, None
+        if crate not in self.crates or crate in self.done:
+            return
+        took = time.monotonic() - self.begun.get(crate, self.began)
+        self.done.append(crate)
+        self.note_begun()
+        if is_new and not self.is_terminal:
+            sys.stderr.write(f"llrp: proved crate {len(self.done)} of {len(self.crates)}: {crate}, in {clock(took)}\n")
+            sys.stderr.flush()
+
+    def tick(self):
+        """Shows how far the check is, and returns whether a crate failed."""
+        self.end(is_new=False)
+        self.show()
+        return self.failed is not None
+
+    def show(self):
+        """Shows on a terminal what is being proved, in the place of what it showed before."""
+        if not self.is_terminal:
+            return
+        running = self.running()
+        now = ", ".join(f"{it} {clock(time.monotonic() - self.begun[it])}" for it in running) or "linking"
+        number = min(len(self.done) + 1, len(self.crates))
+        line = f"llrp: proving crate {number} of {len(self.crates)} ({now})"
+        width = os.get_terminal_size(sys.stderr.fileno()).columns
+        self.shown = line[: max(width - 1, 0)] if width else line
+        sys.stderr.write(f"\r{self.shown}\x1b[K")
+        sys.stderr.flush()
+
+    def wipe(self):
+        """Takes away what is shown on a terminal."""
+        if self.shown:
+            sys.stderr.write("\r\x1b[K")
+            sys.stderr.flush()
+            self.shown = ""
+
+
+class Run:
+    """A command of the toolchain in a crate's folder, which ends with this process."""
+
+    def __init__(self, crate, *words):
+        how = {"cwd": f"{TOP}/crates/{crate}", "stdin": subprocess.DEVNULL}
+        how.update(stdout=subprocess.PIPE, stderr=subprocess.STDOUT, start_new_session=True)
+        self.process = subprocess.Popen(["rt", *words], **how)
+        self.text = ""
+
+    def lines(self, each_second):
+        """Yields the lines that the command writes, and calls the function while nothing comes, once a second, until the
+        command closes its output or the function returns true."""
+        rest = b""
+        while True:
+            if not select.select([self.process.stdout], [], [], 1)[0]:
+                if each_second():
+                    return
+                continue
+            read = os.read(self.process.stdout.fileno(), 65536)
+            *whole, rest = (rest + read).split(b"\n")
+            for line in whole if read else [rest]:
+                line = line.decode(errors="replace")
+                self.text += line + "\n"
+                yield line
+            if not read:
+                return
+
+    def end(self):
+        return self.process.wait()
+
+    def stop(self):
+        """Ends the command, which ends all that it began."""
+        if self.process.poll() is None:
+            os.killpg(self.process.pid, signal.SIGTERM)
+            self.process.wait()
+
+
+def first_error(text):
+    """Returns the lines of a check's first error, or else its last lines."""
+    lines = text.rstrip("\n").split("\n")
+    at = next((i for i, line in enumerate(lines) if ERROR.search(line)), None)
+    if at is None:
+        return lines[-5:]
+    end = next((i for i in range(at + 1, len(lines)) if not lines[i].startswith(" ")), len(lines))
+    return lines[at : min(end, at + 8)]
+
+
+def tell_failure(text, progress):
+    """Names the crate that failed, and shows its first error."""
+    before, *blocks = re.split(r"(?m)^== (\w+)\n", text)
+    said = dict(zip(blocks[::2], blocks[1::2])).get(progress.failed, before)
+    place = re.search(r"/crates/(\w+)/", "\n".join(first_error(said)))
+    crate = progress.failed or (place[1] if place else PROGRAM)
+    sys.stderr.write(f"llrp: the crate {crate} is not proved, so the program was not built\n")
+    sys.stderr.writelines(f"{line}\n" for line in first_error(said))
+
+
+def build(progress, runs):
+    """Proves all crates, then builds the program over them. Returns whether it is built."""
+    proofs = Run(PROGRAM, "all", "check", "--jobs", str(progress.most))
+    runs.append(proofs)
+    for line in proofs.lines(progress.tick):
+        progress.read(line)
+    progress.wipe()
+    if progress.failed or proofs.end():
+        tell_failure(proofs.text, progress)
+        return False
+    linking = Run(PROGRAM, "run", "--jobs", "1", "--", "--help")
+    runs.append(linking)
+    for _ in linking.lines(progress.show):
+        pass
+    progress.wipe()
+    if linking.end() or not os.access(f"{TOP}/crates/{PROGRAM}/out/{PROGRAM}", os.X_OK):
+        tell_failure(linking.text, progress)
+        return False
+    return True
+
+
+def main():
+    uses = dependencies()
+    progress = Progress([*below(PROGRAM, uses), PROGRAM], uses, at_once())
+    runs = []
+    for it in (signal.SIGINT, signal.SIGTERM, signal.SIGHUP):
+        signal.signal(it, lambda number, _: sys.exit(128 + number))
+    try:
+        return 0 if build(progress, runs) else 2
+    except FileNotFoundError as error:
+        sys.stderr.write(f"llrp: {error.filename}: not found; the toolchain's command rt builds the program\n")
+        return 2
+    finally:
+        for it in runs:
+            it.stop()
+        progress.wipe()
+
+
+if __name__ == "__main__":
+    sys.exit(main())

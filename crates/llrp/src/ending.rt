@@ -1,0 +1,18 @@
+//! How a run ends whose memory ran out before there was a command to say so.
+
+ghost use Rattle.std.specs.Prelude.{◌<◌, ◌^◌};
+ghost use Rattle.llrp.specs.Ending.{EndsWithoutMemory};
+
+use crate::network::FAILED;
+use llrp_tool::{Sink, ToolErr, answer};
+
+/// Writes the line for refused memory to `e`, and gives the exit status, which is the same where that write fails.
+pub fn end_without_memory<E: Sink>(e: &mut E) -> u8
+    requires { (E.log e.old).failures < 2 ^ 63 }
+    ensures { EndsWithoutMemory (E.log e.old) (E.log e.new) result }
+{
+    match answer(Err(ToolErr::Memory), e) {
+        Ok(status) => status,
+        Err(_) => FAILED,
+    }
+}

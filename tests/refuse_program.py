@@ -1,0 +1,79 @@
+#!/usr/bin/env python3
+"""Runs the program llrp with each of its requests for memory refused in turn: each alone, and each with all after it.
+
+usage: tests/refuse_program.py [PROGRAM]
+
+Every such run has to end as it does with enough memory, or with status 3 and the line `llrp: memory`, after a front of
+what it writes with enough memory. Build the program first, by ./llrp --help. The status is 1 if a run ends otherwise.
+"""
+import collections
+import os
+import sys
+import tempfile
+
+from refusing import TOP, build_library, each_refused, run
+
+KEPT = "as with enough memory"
+REFUSED = "llrp: memory"
+
+
+def example(name):
+    with open(os.path.join(TOP, "examples", name), "rb") as file:
+        return file.read()
+
+
+def rows():
+    """Returns a name, the program's words and its input, for each row."""
+    keepalive, report, listing = (example(it) for it in ("keepalive.hex", "report.hex", "report.txt"))
+    script = example("inventory.script")
+    return [
+        ("no command", [], b""),
+        ("help", ["--help"], b""),
+        ("help of show", ["show", "--help"], b""),
+        ("a wrong word", ["shwo"], b""),
+        ("a wrong number", ["inventory", "localhost", "0"], b""),
+        ("show, a keepalive", ["show", "--hex"], keepalive),
+        ("show, a report", ["show", "--hex"], report),
+        ("show, 40 reports and a fault", ["show", "--hex"], report * 40 + b"283E0000000A00000007"),
+        ("show, no digits", ["show", "--hex"], b"0G"),
+        ("encode, a report", ["encode"], listing),
+        ("encode --hex, 40 reports", ["encode", "--hex"], listing * 40),
+        ("encode, a line that is refused", ["encode"], listing + b"0 KEEPALIVE 9 7\n"),
+        ("epc, a word", ["epc", "3074257BF7194E4000001A85"], b""),
+        ("epc, a text", ["epc", "urn:epc:tag:sgtin-96:3.0614141.812345.6789"], b""),
+        ("epc, no text", ["epc", "urn:epc:tag:sgtin-96:3.0614141.812345.x"], b""),
+        ("loop", ["loop", "--every", "2"], script),
+        ("loop, a script that is refused", ["loop"], b"1 1 tock\n"),
+    ]
+
+
+def kind_of(ended, ample):
+    """Returns how a run ended, or None where it must not end so."""
+    if ended.answer == ample.answer:
+        return KEPT
+    is_told = ended.status == 3 and ended.err == b"llrp: memory\n"
+    return REFUSED if is_told and ample.out.startswith(ended.out) else None
+
+
+def main():
+    program = sys.argv[1] if len(sys.argv) > 1 else os.path.join(TOP, "crates/llrp/out/llrp")
+    runs = wrong = 0
+    with tempfile.TemporaryDirectory() as folder:
+        library = build_library(folder)
+        for name, words, given in rows():
+            ample = run(library, program, words, "0", given, whole=True)
+            seen = collections.Counter()
+            for which, ended in each_refused(library, program, words, given, whole=True):
+                runs += 1
+                kind = kind_of(ended, ample)
+                seen[kind] += 1
+                if kind is None:
+                    wrong += 1
+                    print(f"WRONG: {name}, refused {which}: status {ended.status}, {ended.out[-60:]!r}, {ended.err[-200:]!r}")
+            print(f"{name}: status {ample.status}, {ample.requests} requests; {seen[REFUSED]} runs {REFUSED}, {seen[KEPT]} {KEPT}")
+    print(f"{runs} runs, {wrong} wrong")
+    return 1 if wrong else 0
+
+
+if __name__ == "__main__":
+    sys.exit(main())
