@@ -36,5 +36,6 @@ pub mod ServingEvents
 pub mod ServingPieces
 pub mod ServingSteps
 pub mod TagLineLemmas
+pub mod WaysOfMessages
 pub mod WithinLimit
 pub mod WordTexts
