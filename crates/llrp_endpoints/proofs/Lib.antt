@@ -31,6 +31,7 @@ pub mod ScriptLines
 pub mod ScriptTexts
 pub mod ScriptUnique
 pub mod SendingLemmas
+pub mod SentWithinLimit
 pub mod ServeLemmas
 pub mod ServingEvents
 pub mod ServingPieces

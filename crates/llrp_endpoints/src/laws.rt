@@ -8,7 +8,7 @@ ghost use Rattle.llrp_stream.specs.declared.item.Item.{Item};
 ghost use Rattle.llrp_endpoints.specs.EndsAgree.{AfterAllBytes, BytesAreMessages, EachEventHappens, EachScheduleRuns, IsARunOfMessages, NothingIsUnexpected, ViewCatchesUp, ViewIsTable, ReportsArrive, ReportsAreKept, PendingIsOnTheWay, NothingIsPending};
 ghost use Rattle.llrp_session.specs.MessageAgreement.{ReaderHasHistory, OneActive};
 ghost use Rattle.llrp_endpoints.specs.Plan.{Plan};
-ghost use Rattle.llrp_endpoints.specs.PlanLaws.{course_of, TakesEachCommand, StrangeIsTheReaders, HasOneCourse, CoursesGoOn, SendsInOrder, EndsMean, SendsOneByOne, SendsWhereAwaited, CanEnd};
+ghost use Rattle.llrp_endpoints.specs.PlanLaws.{course_of, TakesEachCommand, StrangeIsTheReaders, HasOneCourse, CoursesGoOn, SendsInOrder, EndsMean, SendsOneByOne, SendsWhereAwaited, SendsWithinLimit, CanEnd};
 ghost use Rattle.llrp_endpoints.specs.Script.{IsLawful, IsScript};
 ghost use Rattle.llrp_endpoints.specs.ScriptLaws.{ScriptOrRefused};
 ghost use Rattle.llrp_endpoints.specs.ServingLaws.{FramesReadBack, IsServedInOneWay, OneTextOfFrames, SaysWithinLimit};
@@ -45,6 +45,11 @@ pub fn frames_read_back()
 /// What serving says is lawful, and no message is longer than the reader's own limit.
 pub fn served_within_limit()
     ensures { SaysWithinLimit }
+{}
+
+/// What a client that follows a plan sends is lawful, and no message is longer than the client's own limit.
+pub fn sent_within_limit()
+    ensures { SendsWithinLimit }
 {}
 
 /// Whatever a reader sends, a client that follows a plan takes each of its commands, and ends as Strange exactly where
