@@ -1,10 +1,9 @@
 -- What a client that follows a plan sends is lawful, and within its own limit.
-use Rattle.std.proofs.Common.{◌≡◌, ℕ, zero, suc, ◌+◌, ◌^◌, ◌<◌, ◌≤◌, inl, inr, true, false, cond, List, [], ◌∷◌, ◌++◌, map, replicate, Result, Ok, Err, refl, sym, ap, subst, ◌∙◌, arith}
+use Rattle.std.proofs.Common.{◌≡◌, ℕ, zero, suc, ◌^◌, ◌<◌, ◌≤◌, inl, inr, true, false, cond, List, [], ◌∷◌, ◌++◌, map, replicate, Result, Ok, Err, refl, sym, ap, subst, ◌∙◌, arith}
 use Rattle.std.specs.Prelude.{◌==◌, IfOk}
 use Rattle.std.specs.List.{AllByRecursion, AllZip}
 use Rattle.llrp_schema.specs.declared.kinds.ParamKind.TheVariants.{RoSpec}
 use Rattle.llrp_tree.specs.declared.TheConstants.{MAX_LIMIT}
-use Rattle.llrp_tree.specs.Tree.{Tree, MessageTree}
 use Rattle.llrp_stream.specs.declared.item.Item.{Item}
 use Rattle.llrp_stream.specs.declared.item.Item.TheVariants.{Msg, Bad}
 use Rattle.llrp_stream.specs.Items.{IsItemOf}
@@ -14,7 +13,7 @@ use Rattle.llrp_session.specs.declared.words.Command.TheVariants.{Stop, Delete, 
 use Rattle.llrp_session.specs.declared.words.Taken.{Taken}
 use Rattle.llrp_session.specs.declared.words.Taken.TheVariants.{Connected, Refused, Reply, Tags, Event, Note, Kept, Closed as ConnectionEnded}
 use Rattle.llrp_session.specs.Words.{ClientMessage}
-use Rattle.llrp_session.specs.ClientMachine.{Client, Sending, Taking, command, sending, take}
+use Rattle.llrp_session.specs.ClientMachine.{Sending, Taking, command, take}
 use Rattle.llrp_session.specs.ClientMessages.{client_message}
 use Rattle.llrp_session.specs.Reading.{heard_of}
 use Rattle.llrp_session.specs.LawfulWords.{IsLawfulClientMessage}
@@ -29,7 +28,7 @@ use Rattle.llrp_endpoints.specs.declared.gathering.Awaits.TheVariants.{Answer, R
 use Rattle.llrp_endpoints.specs.declared.gathering.Phase.{Phase}
 use Rattle.llrp_endpoints.specs.declared.gathering.Phase.TheVariants.{Open, Closed, Failed}
 use Rattle.llrp_endpoints.specs.Plan.{Plan, rospec, commands}
-use Rattle.llrp_endpoints.specs.Gathering.{Course, begun, ends, sends_by, sends, goes_on, reported, ended, after, after_taking, after_bad, after_item, goes, follow, Gathers}
+use Rattle.llrp_endpoints.specs.Gathering.{Course, begun, ends, sends_by, sends, goes_on, reported, ended, after, after_taking, after_item, goes, follow, Gathers}
 use Rattle.llrp_endpoints.proofs.PlanLemmas.{rospec_lawful}
 use Rattle.llrp_endpoints.proofs.PlanSteps.{as_sent}
 use Rattle.llrp_endpoints.proofs.PlanFollowing.{bad_either}

@@ -1,5 +1,5 @@
 -- The next bytes on a way of messages are messages, and then nothing or a front of one more.
-use Rattle.std.proofs.Common.{◌≡◌, ℕ, ◌<◌, ◌⊎◌, inl, inr, List, [], ◌∷◌, ◌++◌, map, take, drop, length, refl, sym, ap, subst, ◌∙◌, arith, append_assoc}
+use Rattle.std.proofs.Common.{◌≡◌, ℕ, ◌<◌, ◌⊎◌, inl, inr, List, [], ◌∷◌, ◌++◌, map, take, drop, length, refl, sym, ap, subst, ◌∙◌, arith}
 use Rattle.std.specs.List.{AllByRecursion, AllZip}
 use Rattle.llrp_tree.specs.declared.TheConstants.{MAX_LIMIT}
 use Rattle.llrp_tree.specs.Tree.{MessageTree}
@@ -7,17 +7,16 @@ use Rattle.llrp_tree.specs.Frame.{Frame}
 use Rattle.llrp_stream.specs.declared.item.Item.{Item}
 use Rattle.llrp_stream.specs.declared.item.Item.TheVariants.{Msg, Bad}
 use Rattle.llrp_stream.specs.declared.item.End.TheVariants.{Broken}
-use Rattle.llrp_stream.specs.Cuts.{length_field, IsFrame, IsPartial, Breaks, joined}
-use Rattle.llrp_stream.specs.Items.{IsItemOf, Items, ItemsSoFar}
+use Rattle.llrp_stream.specs.Cuts.{length_field, IsPartial, Breaks, joined}
+use Rattle.llrp_stream.specs.Items.{ItemsSoFar}
 use Rattle.llrp_stream.proofs.FrontLemmas.{length_field-append}
 use Rattle.llrp_stream.proofs.ItemLemmas.{below_or_not}
 use Rattle.llrp_stream.proofs.PrefixLemmas.{cut, end_of, ends}
 use Rattle.llrp_stream.proofs.Unique.{After, after_front, none_left}
 use Rattle.llrp_session.specs.MessageWorld.{AreSendable}
-use Rattle.llrp_endpoints.specs.Sending.{AreFrames}
 use Rattle.llrp_endpoints.specs.ByteWorld.{Way}
-use Rattle.llrp_endpoints.specs.EndsAgree.{AreOnTheWay, IsMessage, IsFrontOfMessage, AreMessages, NextAreMessages}
-use Rattle.llrp_endpoints.proofs.FrameFronts.{FrontOf, within, is_frame}
+use Rattle.llrp_endpoints.specs.EndsAgree.{AreOnTheWay, IsMessage, IsFrontOfMessage, NextAreMessages}
+use Rattle.llrp_endpoints.proofs.FrameFronts.{within, is_frame}
 use Rattle.llrp_endpoints.proofs.ByteRuns.{next_bytes}
 
 -- ---- what follows the whole messages
