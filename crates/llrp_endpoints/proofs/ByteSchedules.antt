@@ -26,9 +26,10 @@ use Rattle.llrp_session.proofs.SendableWorlds.{given_events, sent_up, sent_down}
 use Rattle.llrp_session.proofs.MessagesAgree as messages
 use Rattle.llrp_endpoints.specs.Sending.{AreFrames}
 use Rattle.llrp_endpoints.specs.ByteWorld.{Way, ByteWorld, ByteEvent, Happens, ReadsUp, ReadsDown, Sends, Steps, Runs, apart, reader_hears, client_hears, byte_opening, IsGivenEvent, AreGivenEvents}
-use Rattle.llrp_endpoints.specs.EndsAgree.{IsInBytes, Schedule, IsGivenSchedule, RunsTo, AfterAllBytes, EachScheduleRuns, IsARunOfMessages, NothingIsUnexpected, ViewIsTable, ViewCatchesUp, AreOnTheWay, ReportsArrive, ReportsAreKept, PendingIsOnTheWay, NothingIsPending}
+use Rattle.llrp_endpoints.specs.EndsAgree.{IsInBytes, Schedule, IsGivenSchedule, RunsTo, AfterAllBytes, EachScheduleRuns, EachEventHappens, BytesAreMessages, IsARunOfMessages, NothingIsUnexpected, ViewIsTable, ViewCatchesUp, AreOnTheWay, ReportsArrive, ReportsAreKept, PendingIsOnTheWay, NothingIsPending}
 use Rattle.llrp_endpoints.proofs.SendingLemmas.{frames_none}
 use Rattle.llrp_endpoints.proofs.FrameFronts.{no_messages, one_list}
+use Rattle.llrp_endpoints.proofs.WaysOfMessages.{last_sendable, next_are_messages}
 use Rattle.llrp_endpoints.proofs.ByteRuns.{own, own_given, happens_behind, to_client, to_reader, client_after, reader_after, next_bytes, has_read, happens_stands, client_stands, reader_stands}
 
 -- ---- events of whole messages
@@ -75,10 +76,6 @@ sends_of : (limit : ℕ) (said : List MessageTree) (old : Way) → AreSendable l
 sends_of limit said old s =
     let text = frames_of limit said s in
     (record { read = old.read; coming = old.coming ++ text.0 }, record { read = refl; coming = record { text = text.0; frames = text.1; whole = refl } })
-
-last_sendable : (limit : ℕ) (a b : List MessageTree) → AreSendable limit (a ++ b) → AreSendable limit b
-last_sendable limit [] b s = s
-last_sendable limit (m ∷ a) b s = last_sendable limit a b s.1
 
 -- ---- from an opening whose messages may always be sent
 
@@ -176,6 +173,15 @@ reached s w g r = runs_reached s.limit (start_of s) (may_send s g) s.events _ w 
 
 pub goes_on : EachScheduleRuns
 goes_on s g = runs_exist s.limit (start_of s) (may_send s g) s.events _ g.events (opened s)
+
+pub each_event_happens : EachEventHappens
+each_event_happens s w g r e given = step_exists s.limit (start_of s) (may_send s g) e w given (reached s w g r)
+
+pub bytes_are_messages : BytesAreMessages
+bytes_are_messages s w g r =
+    let p = reached s w g r in
+    let may = may_send s g p.events p.given in
+    (next_are_messages s.limit _ w.up may.0 p.in_bytes.up, next_are_messages s.limit _ w.down may.1 p.in_bytes.down)
 
 pub is_a_run_of_messages : IsARunOfMessages
 is_a_run_of_messages s w g r = let p = reached s w g r in (p.events, (p.given, p.in_bytes))

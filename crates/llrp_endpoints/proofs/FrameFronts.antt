@@ -28,7 +28,7 @@ pub record FrontOf (limit : ℕ) (messages : List MessageTree) (bytes later : Li
   pub unfinished : IsPartial front
   pub left : AreFrames rest (front ++ later)
 
-within : (limit : ℕ) (m : MessageTree) (frame : List ℕ) → AreSendable limit (m ∷ []) → Frame m frame MAX_LIMIT → Frame m frame limit
+pub within : (limit : ℕ) (m : MessageTree) (frame : List ℕ) → AreSendable limit (m ∷ []) → Frame m frame MAX_LIMIT → Frame m frame limit
 within limit m frame s f =
     let long = spelled_length m frame f.spelled in
     let fits = s.0.within in

@@ -31,10 +31,12 @@ pub mod ScriptLines
 pub mod ScriptTexts
 pub mod ScriptUnique
 pub mod SendingLemmas
+pub mod SentWithinLimit
 pub mod ServeLemmas
 pub mod ServingEvents
 pub mod ServingPieces
 pub mod ServingSteps
 pub mod TagLineLemmas
+pub mod WaysOfMessages
 pub mod WithinLimit
 pub mod WordTexts

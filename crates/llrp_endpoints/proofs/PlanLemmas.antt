@@ -61,7 +61,7 @@ reporting_lawful every h =
     let parts : AllLawful (reporting every).children = (tt, selector_lawful, tt) in
     (lawful_from RoReportSpec (2 ∷ every ∷ []) [] (reporting every).children tt (rw e refl), parts)
 
-rospec_lawful : (every : ℕ) → every < 2 ^ 16 → IsLawful (rospec every)
+pub rospec_lawful : (every : ℕ) → every < 2 ^ 16 → IsLawful (rospec every)
 unfolding rospec first_fault table_tests all_placed none_too_many none_missing rule_of param_rule number_of fields_of tail_of groups_of is_tv body_octets
 rospec_lawful every h =
     let r = reporting_lawful every h in

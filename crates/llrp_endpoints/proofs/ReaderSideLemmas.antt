@@ -45,7 +45,7 @@ reader_starts e core entries s old out u is are none h = record {
 -- what a feed of serving does
 pub record Fed (s new : Serving) (piece old out : List ℕ) (answer : Result Bool ToolErr) : Type 0 where
   pub feeds : (reader : Reader) (entries : List Entry) (bytes : List ℕ) (messages : List MessageTree) → IsOpen reader entries bytes messages s → Feeds reader entries bytes messages piece new old out answer
-  pub closed : IsClosed s → (answer ≡ Ok true) × IsClosed new × (out ≡ old)
+  pub closed : IsClosed s → (answer ≡ Ok true) × (new ≡ s) × (out ≡ old)
 
 closed_more : (reader : Reader) (entries : List Entry) (bytes more : List ℕ) (messages : List MessageTree) → HasClosed reader entries bytes messages → HasClosed reader entries (bytes ++ more) messages
 closed_more reader entries bytes more messages h = record {
@@ -71,7 +71,7 @@ reader_takes e written read piece old out s new b h f = by_serving h.serving
         let same = f.closed c.0 in
         record {
           messages = h.messages;
-          serving = inr (same.1, closed_more e.reader e.entries read piece h.messages c.1);
+          serving = inr (subst IsClosed (sym same.1) c.0, closed_more e.reader e.entries read piece h.messages c.1);
           frames = subst (λ (x : List ℕ). AreFrames h.messages (written ++ x)) (sym same.2) h.frames;
         }
 

@@ -1,13 +1,19 @@
 -- The two ends agree, whatever happens and however the bytes between them are cut.
-use Rattle.std.specs.Prelude.{◌≡◌, ℕ, ◌<◌, ◌≤◌, ◌^◌, List, [], ◌++◌, length, None}
+use Rattle.std.specs.Prelude.{◌≡◌, ℕ, ◌<◌, ◌≤◌, ◌^◌, ◌⊎◌, List, [], ◌++◌, length, map, take, None}
+use Rattle.std.specs.List.{AllByRecursion}
 use Rattle.llrp_tree.specs.declared.TheConstants.{MAX_LIMIT}
 use Rattle.llrp_tree.specs.Tree.{MessageTree}
+use Rattle.llrp_tree.specs.Frame.{Frame}
+use Rattle.llrp_stream.specs.declared.item.Item.{Item}
+use Rattle.llrp_stream.specs.declared.item.Item.TheVariants.{Msg, Bad}
+use Rattle.llrp_stream.specs.Cuts.{IsPartial, Breaks}
+use Rattle.llrp_stream.specs.Items.{ItemsSoFar}
 use Rattle.llrp_session.specs.Table.{states}
 use Rattle.llrp_session.specs.World.{WorldEvent}
 use Rattle.llrp_session.specs.MessageAgreement.{MessagesAreTaken, IsOnTheWay}
 use Rattle.llrp_session.specs.MessageWorld.{MessageWorld, tags_in_messages, run_messages, message_opening, AreGiven}
 use Rattle.llrp_endpoints.specs.Sending.{AreFrames}
-use Rattle.llrp_endpoints.specs.ByteWorld.{Way, ByteWorld, ByteEvent, ReadsDown, Reads, Steps, Runs, apart, byte_opening, AreGivenEvents}
+use Rattle.llrp_endpoints.specs.ByteWorld.{Way, ByteWorld, ByteEvent, ReadsDown, Reads, Steps, Runs, apart, byte_opening, IsGivenEvent, AreGivenEvents}
 
 -- the messages that are on a way, those that are half read among them
 abbrev pub AreOnTheWay : List MessageTree → Way → Type 0
@@ -42,6 +48,40 @@ AfterAllBytes P = (s : Schedule) (w : ByteWorld) → IsGivenSchedule s → RunsT
 -- no schedule is stuck: each frame that is read is a message's
 abbrev pub EachScheduleRuns : Type 0
 EachScheduleRuns = (s : Schedule) → IsGivenSchedule s → (w : ByteWorld) × RunsTo s w
+
+-- in each world that a schedule comes to, each event can happen next
+abbrev pub EachEventHappens : Type 0
+EachEventHappens = (s : Schedule) (w : ByteWorld) → IsGivenSchedule s → RunsTo s w → (e : ByteEvent) → IsGivenEvent e → (new : ByteWorld) × Steps s.limit e w new
+
+-- the item is a message, not a faulty frame
+abbrev pub IsMessage : Item → Type 0
+IsMessage (Msg m) = Unit {0}
+IsMessage (Bad id fault) = ⊥
+
+-- The bytes are a front of a message's frame, and less than the frame.
+pub record IsFrontOfMessage (limit : ℕ) (bytes : List ℕ) : Type 0 where
+  pub message : MessageTree
+  pub later : List ℕ
+  pub frame : Frame message (bytes ++ later) limit
+  pub unfinished : IsPartial bytes
+
+-- The bytes are whole messages, and then nothing or a front of one more. However many of their frames are taken, each is a message's, and what
+-- follows doesn't break the stream.
+pub record AreMessages (limit : ℕ) (bytes : List ℕ) : Type 0 where
+  pub messages : List MessageTree
+  pub front : List ℕ
+  pub whole : ItemsSoFar limit bytes (map Msg messages) front
+  pub one_more : (front ≡ []) ⊎ IsFrontOfMessage limit front
+  pub no_fault : (items : List Item) (rest : List ℕ) → ItemsSoFar limit bytes items rest → AllByRecursion IsMessage items
+  pub no_break : (items : List Item) (rest : List ℕ) → ItemsSoFar limit bytes items rest → Breaks rest → ⊥
+
+-- What an end has half read, and the next n bytes on the way behind it, are messages, whatever n is.
+abbrev pub NextAreMessages : ℕ → Way → Type 0
+NextAreMessages limit way = (n : ℕ) → AreMessages limit (way.read ++ take n way.coming)
+
+-- in either direction: no end meets a faulty frame or a broken stream
+abbrev pub BytesAreMessages : Type 0
+BytesAreMessages = (s : Schedule) (w : ByteWorld) → IsGivenSchedule s → RunsTo s w → NextAreMessages s.limit w.up × NextAreMessages s.limit w.down
 
 -- some run of whole messages has the same ends, and has on the way the messages whose frames the bytes are
 abbrev pub IsARunOfMessages : Type 0

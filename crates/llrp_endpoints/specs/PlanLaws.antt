@@ -1,6 +1,7 @@
 -- What holds of a client that follows a plan, whatever its reader sends.
-use Rattle.std.specs.Prelude.{◌≡◌, ◌≢◌, ◌↔◌, ℕ, ◌+◌, ◌≤◌, ◌⊎◌, Bool, true, false, List, [], ◌∷◌, ◌++◌, length, map, Option, None, Some, Ok, Err}
+use Rattle.std.specs.Prelude.{◌≡◌, ◌≢◌, ◌↔◌, ℕ, ◌+◌, ◌^◌, ◌<◌, ◌≤◌, ◌⊎◌, Bool, true, false, List, [], ◌∷◌, ◌++◌, length, map, Option, None, Some, Ok, Err}
 use Rattle.std.specs.List.{filter}
+use Rattle.llrp_tree.specs.declared.TheConstants.{MAX_LIMIT}
 use Rattle.llrp_tree.specs.Tree.{Tree, MessageTree}
 use Rattle.llrp_tree.specs.declared.fault.Reason.TheVariants.{MessageType, ParamType}
 use Rattle.llrp_stream.specs.declared.item.Item.{Item}
@@ -17,6 +18,8 @@ use Rattle.llrp_session.specs.Words.{ClientWord, Asks, Acknowledges, ClientMessa
 use Rattle.llrp_session.specs.ClientMachine.{Client, Taking, take, command, sending, awaited, is_response_to}
 use Rattle.llrp_session.specs.Reading.{heard_of}
 use Rattle.llrp_session.specs.ReaderMessages.{reader_message}
+use Rattle.llrp_session.specs.ClientMessages.{client_message}
+use Rattle.llrp_session.specs.MessageWorld.{AreSendable}
 use Rattle.llrp_listing.specs.declared.fault.ToolErr.TheVariants.{Peer, Strange, Early}
 use Rattle.llrp_endpoints.specs.declared.gathering.Awaits.{Awaits}
 use Rattle.llrp_endpoints.specs.declared.gathering.Awaits.TheVariants.{Report}
@@ -218,3 +221,10 @@ pub record EndsMean (limit : ℕ) (plan : Plan) (items : List Item) : Type 0 whe
 -- there is what a reader can say so that the plan comes to its fine end
 abbrev pub CanEnd : ℕ → Plan → Type 0
 CanEnd limit plan = (messages : List ReaderMessage) × ((course_of limit plan (map (λ (m : ReaderMessage). Msg (reader_message m)) messages)).phase ≡ Closed)
+
+-- ---- within the limit
+
+-- what a client that follows a plan sends is lawful, and no longer than the client's own limit
+abbrev pub SendsWithinLimit : Type 0
+SendsWithinLimit = (limit : ℕ) (plan : Plan) (bytes rest : List ℕ) (course : Course) → 4096 ≤ limit → limit ≤ MAX_LIMIT → plan.every < 2 ^ 16
+    → Gathers limit plan bytes rest course → AreSendable limit (map client_message course.sent)

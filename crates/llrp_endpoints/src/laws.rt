@@ -5,10 +5,10 @@ ghost use Rattle.llrp_tree.specs.declared.TheConstants.{MAX_LIMIT};
 ghost use Rattle.llrp_tree.specs.Lawful.{AreOctets};
 ghost use Rattle.llrp_session.specs.ReaderMachine.{Reader};
 ghost use Rattle.llrp_stream.specs.declared.item.Item.{Item};
-ghost use Rattle.llrp_endpoints.specs.EndsAgree.{AfterAllBytes, EachScheduleRuns, IsARunOfMessages, NothingIsUnexpected, ViewCatchesUp, ViewIsTable, ReportsArrive, ReportsAreKept, PendingIsOnTheWay, NothingIsPending};
+ghost use Rattle.llrp_endpoints.specs.EndsAgree.{AfterAllBytes, BytesAreMessages, EachEventHappens, EachScheduleRuns, IsARunOfMessages, NothingIsUnexpected, ViewCatchesUp, ViewIsTable, ReportsArrive, ReportsAreKept, PendingIsOnTheWay, NothingIsPending};
 ghost use Rattle.llrp_session.specs.MessageAgreement.{ReaderHasHistory, OneActive};
 ghost use Rattle.llrp_endpoints.specs.Plan.{Plan};
-ghost use Rattle.llrp_endpoints.specs.PlanLaws.{course_of, TakesEachCommand, StrangeIsTheReaders, HasOneCourse, CoursesGoOn, SendsInOrder, EndsMean, SendsOneByOne, SendsWhereAwaited, CanEnd};
+ghost use Rattle.llrp_endpoints.specs.PlanLaws.{course_of, TakesEachCommand, StrangeIsTheReaders, HasOneCourse, CoursesGoOn, SendsInOrder, EndsMean, SendsOneByOne, SendsWhereAwaited, SendsWithinLimit, CanEnd};
 ghost use Rattle.llrp_endpoints.specs.Script.{IsLawful, IsScript};
 ghost use Rattle.llrp_endpoints.specs.ScriptLaws.{ScriptOrRefused};
 ghost use Rattle.llrp_endpoints.specs.ServingLaws.{FramesReadBack, IsServedInOneWay, OneTextOfFrames, SaysWithinLimit};
@@ -47,6 +47,11 @@ pub fn served_within_limit()
     ensures { SaysWithinLimit }
 {}
 
+/// What a client that follows a plan sends is lawful, and no message is longer than the client's own limit.
+pub fn sent_within_limit()
+    ensures { SendsWithinLimit }
+{}
+
 /// Whatever a reader sends, a client that follows a plan takes each of its commands, and ends as Strange exactly where
 /// the reader sent what it did not expect, or a frame with a fault other than a type that no kind has.
 pub fn plan_is_never_refused()
@@ -78,10 +83,13 @@ pub fn plan_ends()
     ensures can_end { (limit : ℕ) (plan : Plan) → 4096 ≤ limit → plan.polls < 2 ^ 16 → CanEnd limit plan }
 {}
 
-/// Whatever happens to a client and a reader, and in whatever pieces each reads the other's bytes, the two ends agree: no frame
-/// that is read has a fault, and what holds over whole messages holds of the messages that the bytes spell.
+/// Whatever happens to a client and a reader, and in whatever pieces each reads the other's bytes, the two ends agree: each event
+/// can come next, no end ever meets a faulty frame or a broken stream, and what holds over whole messages holds of the messages
+/// that the bytes spell.
 pub fn ends_agree()
     ensures goes_on { EachScheduleRuns }
+    ensures each_event_happens { EachEventHappens }
+    ensures bytes_are_messages { BytesAreMessages }
     ensures is_a_run_of_messages { IsARunOfMessages }
     ensures view_catches_up { ViewCatchesUp }
     ensures view_is_table { AfterAllBytes ViewIsTable }

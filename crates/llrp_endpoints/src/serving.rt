@@ -110,13 +110,13 @@ impl Serving {
     /// Takes a piece of the client's bytes. What the reader says is appended. The answer is true once
     /// the client closed the connection; then each later feed answers true and changes nothing. The
     /// errors are `Broken` at a length field below 10, and `Memory`, after which each later feed answers
-    /// that error.
+    /// that error and changes nothing.
     pub fn feed(&mut self, piece: &[u8], out: &mut Vec<u8>) -> Result<bool, ToolErr>
         requires { HasStarted self.old }
         ensures feeds { (reader : Machine) (entries : List Entry) (bytes : List ℕ) (messages : List MessageTree) → IsOpen reader entries bytes messages self.old
             → Feeds reader entries bytes messages piece.now self.new out.old.items out.new.items result }
-        ensures closed { IsClosed self.old → (result ≡ Ok true) × IsClosed self.new × (out.new.items ≡ out.old.items) }
-        ensures failed { (error : ToolErr) → HasFailed error self.old → (result ≡ Err error) × HasFailed error self.new × (out.new.items ≡ out.old.items) }
+        ensures closed { IsClosed self.old → (result ≡ Ok true) × (self.new ≡ self.old) × (out.new.items ≡ out.old.items) }
+        ensures failed { (error : ToolErr) → HasFailed error self.old → (result ≡ Err error) × (self.new ≡ self.old) × (out.new.items ≡ out.old.items) }
         ensures started { HasStarted self.new }
     {
         match self.phase {

@@ -1,5 +1,5 @@
 -- What the arguments of a parse are read as.
-use Rattle.std.proofs.Common.{◌≡◌, ◌∙◌, ℕ, ◌==◌, inl, inr, Bool, true, false, cond, List, [], ◌∷◌, Option, Some, None, refl, sym, ap, subst, arith, codes}
+use Rattle.std.proofs.Common.{◌≡◌, ◌∙◌, ℕ, ◌==◌, ◌⊎◌, inl, inr, Bool, true, false, cond, List, [], ◌∷◌, Option, Some, None, refl, sym, ap, subst, arith, codes}
 use Rattle.std.specs.Prelude.{Result, Ok, option_map, unwrap_or, pos, ◌≤ℤ◌, neg_ℤ}
 use Rattle.std.specs.Str.{bytes_eq}
 use Rattle.std.specs.Str.Parse.{IsNumeral, ParsesUnsigned, digits_value, signed_digits_value, without_leading_plus}
@@ -10,8 +10,8 @@ use Rattle.clap.specs.Matches.{ReadsOne}
 use Rattle.clap.specs.Values.{IsSignedIn}
 use Rattle.clap.specs.Words.{Row, Text, without_minus}
 use Rattle.clap.proofs.CallerReads.{signed_reads}
-use Rattle.llrp_tool.specs.Parse.{HasNumberWord, HasWord, IsFound, IsNetworkParse, IsParse}
-use Rattle.llrp_tool.specs.Words.{name_in, word_in}
+use Rattle.llrp_tool.specs.Parse.{HasFlagWord, HasNumberWord, HasWord, IsFound, IsNetworkParse, IsParse}
+use Rattle.llrp_tool.specs.Words.{IsHexFlag, hex_in, name_in, word_in}
 
 -- two texts that a test tells apart
 pub differs : (a b : Text) → bytes_eq a b ≡ false → a ≡ b → ⊥
@@ -58,8 +58,8 @@ inventory_there name rows (inr (inr h)) no_sim no_loop = absurd (no_loop h.0)
 
 -- epc has its text
 pub text_of_epc : (name : Text) (rows : List Row) → IsParse name rows → name ≡ codes "epc" → HasWord (codes "TEXT") rows
-text_of_epc name rows (inl h) e = absurd (differs (codes "show") (codes "epc") refl (sym h ∙ e))
-text_of_epc name rows (inr (inl h)) e = absurd (differs (codes "encode") (codes "epc") refl (sym h ∙ e))
+text_of_epc name rows (inl h) e = absurd (differs (codes "show") (codes "epc") refl (sym h.0 ∙ e))
+text_of_epc name rows (inr (inl h)) e = absurd (differs (codes "encode") (codes "epc") refl (sym h.0 ∙ e))
 text_of_epc name rows (inr (inr (inl h))) e = h.1
 text_of_epc name rows (inr (inr (inr (inl h)))) e = absurd (differs (codes "sim") (codes "epc") refl (sym h.0 ∙ e))
 text_of_epc name rows (inr (inr (inr (inr (inl h))))) e = absurd (differs (codes "inventory") (codes "epc") refl (sym h.0 ∙ e))
@@ -77,3 +77,22 @@ found_as name rows (Some p) e f =
 pub found_text : (found : Option (Text × List Row)) → IsFound found → name_in found ≡ Some (codes "epc") → (text : Text) × (word_in (codes "TEXT") found ≡ Some text)
 found_text None h e = absurd h
 found_text (Some p) h e = text_of_epc p.0 p.1 h (let same : p.0 ≡ codes "epc" = cc in same)
+
+-- show and encode have their flag
+pub flag_of : (name : Text) (rows : List Row) → IsParse name rows → (name ≡ codes "show") ⊎ (name ≡ codes "encode") → HasFlagWord rows
+flag_of name rows (inl h) e = h.1
+flag_of name rows (inr (inl h)) e = h.1
+flag_of name rows (inr (inr (inl h))) (inl e) = absurd (differs (codes "epc") (codes "show") refl (sym h.0 ∙ e))
+flag_of name rows (inr (inr (inl h))) (inr e) = absurd (differs (codes "epc") (codes "encode") refl (sym h.0 ∙ e))
+flag_of name rows (inr (inr (inr (inl h)))) (inl e) = absurd (differs (codes "sim") (codes "show") refl (sym h.0 ∙ e))
+flag_of name rows (inr (inr (inr (inl h)))) (inr e) = absurd (differs (codes "sim") (codes "encode") refl (sym h.0 ∙ e))
+flag_of name rows (inr (inr (inr (inr (inl h))))) (inl e) = absurd (differs (codes "inventory") (codes "show") refl (sym h.0 ∙ e))
+flag_of name rows (inr (inr (inr (inr (inl h))))) (inr e) = absurd (differs (codes "inventory") (codes "encode") refl (sym h.0 ∙ e))
+flag_of name rows (inr (inr (inr (inr (inr h))))) (inl e) = absurd (differs (codes "loop") (codes "show") refl (sym h.0 ∙ e))
+flag_of name rows (inr (inr (inr (inr (inr h))))) (inr e) = absurd (differs (codes "loop") (codes "encode") refl (sym h.0 ∙ e))
+
+-- where show or encode was found its flag is there
+pub found_flag : (found : Option (Text × List Row)) → IsFound found → (name_in found ≡ Some (codes "show")) ⊎ (name_in found ≡ Some (codes "encode")) → (hex : Bool) × IsHexFlag (hex_in found) hex
+found_flag None h e = absurd h
+found_flag (Some p) h (inl e) = flag_of p.0 p.1 h (inl (let same : p.0 ≡ codes "show" = cc in same))
+found_flag (Some p) h (inr e) = flag_of p.0 p.1 h (inr (let same : p.0 ≡ codes "encode" = cc in same))

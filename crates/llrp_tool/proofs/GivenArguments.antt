@@ -1,5 +1,5 @@
 -- A parse of the program's words that succeeds has found a command, with the arguments that it needs.
-use Rattle.std.proofs.Common.{◌≡◌, ◌∙◌, ℕ, ◌<◌, ◌&&◌, ◌||◌, inl, inr, Bool, true, false, cond, not, List, [], ◌∷◌, is_some, Option, Some, None, refl, sym, ap, arith, codes, length}
+use Rattle.std.proofs.Common.{◌≡◌, ◌∙◌, ℕ, ◌<◌, ◌&&◌, ◌||◌, inl, inr, Bool, true, false, cond, not, List, [], ◌∷◌, is_some, Option, Some, None, refl, sym, ap, subst, arith, codes, length}
 use Rattle.std.specs.Prelude.{IfSome, find, fold, option_map, pos}
 use Rattle.std.specs.Option.{option_map_or}
 use Rattle.std.specs.Str.{bytes_eq}
@@ -10,18 +10,18 @@ use Rattle.clap.specs.Values.{IsSignedIn, read_as, reading_of}
 use Rattle.clap.specs.Facts.{parser_of_value}
 use Rattle.clap.specs.ValueTests.{accepts}
 use Rattle.clap.specs.declared.builder.value_parser.ValueParser.{ValueParser}
-use Rattle.clap.specs.declared.builder.value_parser.ValueParser.TheVariants.{Signed}
+use Rattle.clap.specs.declared.builder.value_parser.ValueParser.TheVariants.{Signed, Bool as BoolParser}
 use Rattle.clap.specs.declared.error.kind.ErrorKind.{ErrorKind}
 use Rattle.clap.specs.Kinds.{Kinds, or_else}
 use Rattle.clap.specs.Faults.{fault_of, defaults_fault, entered_fault, level_fault, other_fault, settle_fault, step_fault, turn_fault, walk_fault, word_fault}
 use Rattle.clap.specs.Simple.{Shape, argument_words, built, entered, label_of, names_of, rows_at, filled, help_rule, with_index, built_leaf, inherited}
 use Rattle.clap.specs.Walk.{Held, Names, Outcome, done, waits, plain, refused, Row, Rule, Step, next, trailing, subcommand, value, Text, Waiting, idle, option, positional, Walk, answers_to, arg_by_id, nothing_held, rows_after}
 use Rattle.clap.specs.Walk.{subcommand_met, subcommand_or_other, word_met, to_positional, after_step, walked, walked_from, walk, walk_from, arg_by_index, arg_by_long, bundle, long_met, settled, finished}
-use Rattle.clap.specs.Walk.{plain_word, after_flag, long_or_other, short_or_plain}
+use Rattle.clap.specs.Walk.{one_of, plain_word, after_flag, long_or_other, short_or_plain}
 use Rattle.clap.proofs.ValueTestLemmas.{accepts-Accepts}
-use Rattle.llrp_tool.specs.Parse.{HasNumberWord, HasWord, IsFound, IsParse}
-use Rattle.llrp_tool.specs.Words.{command_in, host_rule, inventory_app, llrp_app, loop_app, number_rule, port_app, port_rule, text_app, text_rule, top_app}
-use Rattle.llrp_tool.proofs.ReadRows.{AllFound, AllUsesPass, HasRead, IsAmong, LevelPasses, both, subcommand_there, has_read, help_passes, level_passes, set_passes, uses_pass}
+use Rattle.llrp_tool.specs.Parse.{HasFlagWord, HasNumberWord, HasWord, IsFound, IsParse}
+use Rattle.llrp_tool.specs.Words.{command_in, hex_app, hex_rule, host_rule, inventory_app, llrp_app, loop_app, number_rule, port_app, port_rule, text_app, text_rule, top_app}
+use Rattle.llrp_tool.proofs.ReadRows.{AllFound, AllUsesPass, HasRead, IsAmong, LevelPasses, both, subcommand_there, flag_passes, has_read, help_passes, level_passes, set_passes, uses_pass}
 
 -- ---- a walk without a fault does not stop at help
 
@@ -120,6 +120,17 @@ number_there a rows low is r =
       spells = from_zero low 65535 r.word (accepts-Accepts a.ignore_case (Signed (pos low) (pos 65535)) r.word (ap (λ (p : Option ValueParser). accepts a.ignore_case (parser_of_value p) r.word) (sym is) ∙ r.taken));
     }
 
+-- a flag's word is one of two
+flag_word : (a : Rule) (rows : List Row) → a.id ≡ codes "hex" → a.parser ≡ Some BoolParser → HasRead a rows → HasFlagWord rows
+flag_word a rows id is r =
+    let read : one_of (codes "hex") rows ≡ Some r.word = ap (λ (t : Text). one_of t rows) (sym id) ∙ r.read ∙ ap (λ (p : Option ValueParser). Some (read_as (reading_of (parser_of_value p)) r.word)) is in
+    let taken : (bytes_eq r.word (codes "true") || bytes_eq r.word (codes "false")) ≡ true = ap (λ (p : Option ValueParser). accepts a.ignore_case (parser_of_value p) r.word) (sym is) ∙ r.taken in
+    go (bytes_eq r.word (codes "true")) refl read taken
+  where
+    go : (b : Bool) → bytes_eq r.word (codes "true") ≡ b → one_of (codes "hex") rows ≡ Some r.word → (b || bytes_eq r.word (codes "false")) ≡ true → HasFlagWord rows
+    go true e read t = (true, read ∙ ap (λ (w : Text). Some w) ((bytes_eq-Decides r.word (codes "true")).0 e))
+    go false e read t = (false, inl (read ∙ ap (λ (w : Text). Some w) ((bytes_eq-Decides r.word (codes "false")).0 t)))
+
 -- a command of this name gives what it needs
 abbrev Gives : Shape → Type 0
 Gives s = (name : Text) (words : List Text) → bytes_eq name (codes "help") ≡ false → answers_to name (label_of s) ≡ true → level_fault s [] nothing_held words false [] ≡ [] → IsParse s.name (rows_after s.rules [] words)
@@ -188,6 +199,21 @@ help_gives (a ∷ rest) name e helpless met = cc
 abbrev built_sub : Shape → Shape
 built_sub s = built_leaf (inherited top_app.top s)
 
+abbrev the_hex : Rule
+the_hex = with_index 1 (filled hex_rule)
+
+-- show and encode, which have only the flag
+has_flag : (s : Shape) → s.rules ≡ the_hex ∷ the_help 1 ∷ [] → (words : List Text) → level_fault s [] nothing_held words false [] ≡ [] → HasFlagWord (rows_after s.rules [] words)
+has_flag s e words pass =
+    let c : List Rule = the_hex ∷ the_help 1 ∷ [] in
+    let uses : AllUsesPass c c = (flag_passes c the_hex refl refl (omega arith), (help_passes c (the_help 1) refl, tt)) in
+    let found : AllFound c c = (refl, (refl, tt)) in
+    let all_use : AllUsesPass s.rules s.rules = subst (λ (x : List Rule). AllUsesPass x x) (sym e) uses in
+    let all_found : AllFound s.rules s.rules = subst (λ (x : List Rule). AllFound x x) (sym e) found in
+    let among : IsAmong the_hex s.rules = subst (IsAmong the_hex) (sym e) (inl refl) in
+    let by_id : arg_by_id s.rules the_hex.id ≡ Some the_hex = subst (λ (x : List Rule). arg_by_id x the_hex.id ≡ Some the_hex) (sym e) refl in
+    flag_word the_hex (rows_after s.rules [] words) refl refl (default_read s all_use all_found words pass the_hex by_id among (omega arith))
+
 epc_gives : Gives (built_sub (text_app (codes "epc")).top)
 epc_gives name words helpless met pass =
     let s = built_sub (text_app (codes "epc")).top in
@@ -234,9 +260,9 @@ loop_gives name words helpless met pass =
 all_give : AllGive (built llrp_app).subs
 unfolding llrp_app
 all_give = (
-  λ name words helpless met pass. inl refl,
+  λ name words helpless met pass. inl (refl, has_flag (built_sub (hex_app (codes "show")).top) refl words pass),
   (
-    λ name words helpless met pass. inr (inl refl),
+    λ name words helpless met pass. inr (inl (refl, has_flag (built_sub (hex_app (codes "encode")).top) refl words pass)),
     (epc_gives, (sim_gives, (inventory_gives, (loop_gives, (λ name words helpless met pass. absurd (help_gives [] name refl helpless met), tt))))),
   ),
 )

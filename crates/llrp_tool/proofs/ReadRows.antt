@@ -12,7 +12,7 @@ use Rattle.clap.specs.Values.{read_as, refused_kind}
 use Rattle.clap.specs.declared.error.kind.ErrorKind.TheVariants.{TooManyValues}
 use Rattle.clap.specs.ValueTests.{accepts}
 use Rattle.clap.specs.declared.builder.ArgAction.{ArgAction}
-use Rattle.clap.specs.declared.builder.ArgAction.TheVariants.{Set, Help}
+use Rattle.clap.specs.declared.builder.ArgAction.TheVariants.{Set, SetTrue, Help}
 use Rattle.clap.specs.declared.builder.value_parser.Reading.{Reading}
 use Rattle.clap.specs.declared.parser.matches.ValueSource.{ValueSource}
 use Rattle.clap.specs.declared.parser.matches.ValueSource.TheVariants.{CommandLine, DefaultValue}
@@ -421,6 +421,18 @@ set_passes c a found is one again (v ∷ vs) rows pass sound =
     let values = (both _ (values_fault a (v ∷ vs)) act).1 in
     subst (λ (x : ArgAction). AllPass c (used_as x a.id (reading_by a) (v ∷ vs) rows)) (sym is)
     (with_values_pass c a.id (reading_by a) CommandLine (v ∷ vs) (without a.id rows) (passes_by c a (v ∷ vs) found (omega arith) values) (without_pass c a.id rows sound))
+
+-- a flag, which has its one value where it is given
+pub flag_passes : (c : List Rule) (a : Rule) → arg_by_id c a.id ≡ Some a → action_of a ≡ SetTrue → 0 < length a.missing → UsePasses c a
+flag_passes c a found is some again values rows pass sound =
+    let act = subst (λ (x : ArgAction). action_fault x again a (values_or_missing a values) rows ≡ []) is (both (range_kinds (unwrap_or_range a.range).start_inclusive (most_values a) (length values)) _ pass).1 in
+    let fine = (both _ (values_fault a (values_or_missing a values)) act).1 in
+    subst (λ (x : ArgAction). AllPass c (used_as x a.id (reading_by a) (values_or_missing a values) rows)) (sym is)
+    (with_values_pass c a.id (reading_by a) CommandLine (values_or_missing a values) (without a.id rows) (passes_by c a (values_or_missing a values) found (there values) fine) (without_pass c a.id rows sound))
+  where
+    there : (vs : List Text) → 0 < length (values_or_missing a vs)
+    there [] = some
+    there (v ∷ vs) = omega arith
 
 -- a call for help is a fault
 pub help_passes : (c : List Rule) (a : Rule) → action_of a ≡ Help → UsePasses c a

@@ -1,8 +1,9 @@
 -- What a parse that succeeds is sure to have found.
-use Rattle.std.specs.Prelude.{◌≡◌, ◌⊎◌, pos, List, Option, Some, None, codes}
+use Rattle.std.specs.Prelude.{◌≡◌, ◌⊎◌, pos, List, Bool, Option, Some, None, codes}
 use Rattle.clap.specs.Words.{Row, Text, first_of, without_minus}
 use Rattle.clap.specs.Values.{IsSignedIn}
 use Rattle.clap.specs.Walk.{one_of}
+use Rattle.llrp_tool.specs.Words.{IsHexFlag}
 use Rattle.llrp_tool.specs.declared.words.Request.{Request}
 use Rattle.llrp_tool.specs.declared.words.Request.TheVariants.{Show, Encode, Epc, Network, Help, Usage}
 
@@ -17,6 +18,10 @@ pub record HasNumberWord (id : Text) (rows : List Row) : Type 0 where
   pub read : one_of id rows ≡ Some (without_minus word)
   pub spells : IsSignedIn (pos 0) (pos 65535) word
 
+-- the flag --hex says that it was given, or that it was not
+abbrev pub HasFlagWord : List Row → Type 0
+HasFlagWord rows = (hex : Bool) × IsHexFlag (one_of (codes "hex") rows) hex
+
 -- both numbers of a plan are there
 abbrev pub HasPlan : List Row → Type 0
 HasPlan rows = HasNumberWord (codes "every") rows × HasNumberWord (codes "polls") rows
@@ -30,7 +35,9 @@ IsNetworkParse name rows =
 
 -- a command, with what it needs
 abbrev pub IsParse : Text → List Row → Type 0
-IsParse name rows = (name ≡ codes "show") ⊎ (name ≡ codes "encode") ⊎ ((name ≡ codes "epc") × HasWord (codes "TEXT") rows) ⊎ IsNetworkParse name rows
+IsParse name rows =
+    ((name ≡ codes "show") × HasFlagWord rows) ⊎ ((name ≡ codes "encode") × HasFlagWord rows)
+    ⊎ ((name ≡ codes "epc") × HasWord (codes "TEXT") rows) ⊎ IsNetworkParse name rows
 
 -- a command was found, with what it needs
 abbrev pub IsFound : Option (Text × List Row) → Type 0

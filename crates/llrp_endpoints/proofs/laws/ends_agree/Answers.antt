@@ -4,6 +4,12 @@ use Rattle.llrp_endpoints.proofs.laws.ends_agree.Goals as goal
 pub returns-clause-goes_on : goal.returns-clause-goes_on
 returns-clause-goes_on c = schedules.goes_on
 
+pub returns-clause-each_event_happens : goal.returns-clause-each_event_happens
+returns-clause-each_event_happens c = schedules.each_event_happens
+
+pub returns-clause-bytes_are_messages : goal.returns-clause-bytes_are_messages
+returns-clause-bytes_are_messages c = schedules.bytes_are_messages
+
 pub returns-clause-is_a_run_of_messages : goal.returns-clause-is_a_run_of_messages
 returns-clause-is_a_run_of_messages c = schedules.is_a_run_of_messages
 
