@@ -20,7 +20,7 @@ use Rattle.tag_uri.specs.Room.{HasText}
 use Rattle.tag_epc.specs.LawfulWord.{IsLawful}
 use Rattle.tag_uri.specs.TagText.{tag_uri, tag_start, partitioned_components, IsTextOf}
 use Rattle.tag_uri.proofs.TextBytes.{is_visible, visible, text_visible, uri_visible}
-use Rattle.tag_uri.proofs.PrintLemmas.{four_parts, three_parts, name_short}
+use Rattle.tag_uri.proofs.PrintLemmas.{four_parts, three_parts, name_short, row_facts}
 
 -- the room after six parts and what stands in front of them
 pub six_parts : (at end p1 p2 p3 p4 p5 p6 : ℕ) (r0 r1 r2 r3 r4 r5 r6 r7 tail reference company start : List ℕ) (filter : ℕ)
@@ -58,6 +58,13 @@ name_at kind l known = rw known refl
 
 pub name_few : (kind : Kind) (l : Layout) (name : List ℕ) → layout_of kind ≡ Some l → name ≡ l.name → length name ≤ 8
 name_few kind l name known named = subst (λ (x : List ℕ). length x ≤ 8) (name_at kind l known ∙ sym named) (name_short kind)
+
+-- what stands in front of the last component is short
+pub front_few : (kind : Kind) (l : Layout) (row : Row) (name : List ℕ) (f k c r last : ℕ) → layout_of kind ≡ Some l → name ≡ l.name → is_sound l ≡ true
+    → IsLawful (Partitioned kind f k c r last) → last < 2 ^ 64 → row_at l (12 - k) ≡ Some row → length name + k + row.reference_digits ≤ 33
+front_few kind l row name f k c r last known named sound lawful small placed =
+    let facts = row_facts kind l f k c r last row known sound lawful small placed in
+    omega (arith, facts.room, name_few kind l name known named)
 
 -- the tag URI of an EPC with a company prefix, by its parts
 pub partitioned_uri : (kind : Kind) (l : Layout) (row : Row) (name : List ℕ) (f k c r last : ℕ) (b : Bool) → layout_of kind ≡ Some l → name ≡ l.name → is_sound l ≡ true → k ≤ 12 → row_at l (12 - k) ≡ Some row → b ≡ l.zero_tail → f < 8

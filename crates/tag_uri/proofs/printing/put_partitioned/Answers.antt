@@ -2,9 +2,9 @@ use Rattle.std.proofs.Common.{◌≡◌, ℕ, ◌+◌, ◌<◌, List, ◌∷◌,
 use Rattle.tag_uri.specs.Decimal.{padded, plain}
 use Rattle.tag_uri.specs.Room.{HasText}
 use Rattle.tag_uri.specs.TagText.{tag_start}
-use Rattle.tag_uri.proofs.PrintLemmas.{at_row, row_facts}
+use Rattle.tag_uri.proofs.PrintLemmas.{at_row}
 use Rattle.tag_uri.proofs.RowDigits.{row_fits}
-use Rattle.tag_uri.proofs.UriLemmas.{six_parts, partitioned_uri, name_few}
+use Rattle.tag_uri.proofs.UriLemmas.{six_parts, partitioned_uri, front_few}
 use Rattle.tag_uri.proofs.WritingLemmas.{ends_of}
 use Rattle.tag_uri.proofs.printing.put_partitioned.Goals as goal
 
@@ -19,8 +19,7 @@ returns-clause-text g c =
     let placed = sym c.row.ensures ∙ c.in-Some.is in
     let fits = row_fits l g.met.S.Scheme.sound (12 - c.args.company_digits) row placed in
     let some : 6 ≤ c.args.company_digits = omega (arith, fits.partition, a.short) in
-    let facts = row_facts c.args.kind l _ _ _ _ _ row c.requires.known g.met.S.Scheme.sound c.requires.lawful c.ranges.last.fits placed in
-    let few : length name ≤ 8 = name_few c.args.kind l name c.requires.known c.name-name.ensures in
+    let few : length name + c.args.company_digits + row.reference_digits ≤ 33 = front_few c.args.kind l row name _ _ _ _ _ c.requires.known c.name-name.ensures g.met.S.Scheme.sound c.requires.lawful c.ranges.last.fits placed in
     let met : c.put_start.result ≡ c.put_octet.result = omega (arith, some, c.put_tail-last_at.ensures.begin, c.put_padded-reference_at.ensures.begin, c.put_octet-dot_at.ensures.begin, c.put_padded-company_at.ensures.begin, c.put_octet-first_dot_at.ensures.begin, c.put_octet.ensures.begin, c.put_start.ensures.ends, length-append tag_start (name ++ 58 ∷ []), length-append name (58 ∷ [])) in
     let octets = six_parts c.args.at end c.put_tail-last_at.result c.put_padded-reference_at.result c.put_octet-dot_at.result c.put_padded-company_at.result c.put_octet-first_dot_at.result c.put_octet.result
     c.args.room.now c.put_tail-last_at.new.room c.put_padded-reference_at.new.room c.put_octet-dot_at.new.room c.put_padded-company_at.new.room c.put_octet-first_dot_at.new.room c.put_octet.new.room c.put_start.new.room
@@ -33,4 +32,19 @@ returns-clause-text g c =
     subst (λ (x : List ℕ). HasText c.args.room.now c.put_start.new.room c.args.at end x) uri
     (ends_of c.args.at end c.args.room.now c.put_start.new.room _
     (omega (arith, c.put_start.auto.room, c.put_octet.ensures.len, c.put_octet-first_dot_at.ensures.len, c.put_padded-company_at.ensures.len, c.put_octet-dot_at.ensures.len, c.put_padded-reference_at.ensures.len, c.put_tail-last_at.ensures.len))
-    (omega arith) (omega (arith, facts.room, c.tail_length-tail.ensures.few, few, c.requires.room)) octets)
+    (omega arith) (omega (arith, c.tail_length-tail.ensures.few, few, c.requires.room)) octets)
+
+pub put_tail-last_at-requires-clause-within : goal.put_tail-last_at-requires-clause-within
+put_tail-last_at-requires-clause-within g c =
+    let few = front_few c.args.kind g.S.Scheme.layout c.in-Some.row c.name-name.result.now _ _ _ _ _ c.requires.known c.name-name.ensures g.met.S.Scheme.sound c.requires.lawful c.ranges.last.fits (sym c.row.ensures ∙ c.in-Some.is) in
+    omega (arith, few, c.tail_length-tail.ensures.few, c.requires.room)
+
+pub put_padded-reference_at-requires-clause-within : goal.put_padded-reference_at-requires-clause-within
+put_padded-reference_at-requires-clause-within g c =
+    let few = front_few c.args.kind g.S.Scheme.layout c.in-Some.row c.name-name.result.now _ _ _ _ _ c.requires.known c.name-name.ensures g.met.S.Scheme.sound c.requires.lawful c.ranges.last.fits (sym c.row.ensures ∙ c.in-Some.is) in
+    omega (arith, few, c.tail_length-tail.ensures.few, c.requires.room, c.put_tail-last_at.ensures.begin, c.put_tail-last_at.ensures.len)
+
+pub returns-clause-most : goal.returns-clause-most
+returns-clause-most g c =
+    let few = front_few c.args.kind g.S.Scheme.layout c.in-Some.row c.name-name.result.now _ _ _ _ _ c.requires.known c.name-name.ensures g.met.S.Scheme.sound c.requires.lawful c.ranges.last.fits (sym c.row.ensures ∙ c.in-Some.is) in
+    omega (arith, few, c.tail_length-tail.ensures.few)
