@@ -36,16 +36,24 @@ pub fn put_text_of_word(room: &mut [u8], at: usize, word: Word) -> usize
     }
 }
 
+/// The raw URI of a word, as `urn:epc:raw:96.x3003A3529440000000000000` (EPC Tag Data Standard 1.13,
+/// section 12). It is the word's text only where no EPC has the word.
+pub fn print_raw(word: Word) -> ArrayString<64>
+    ensures { result.bytes ≡ raw_uri word }
+{
+    let mut text = ArrayString::new();
+    text.push_str("urn:epc:raw:96.x");
+    push_hexadecimal(&mut text, word);
+    text
+}
+
 /// Writes the raw URI of a word.
 fn put_raw_uri(room: &mut [u8], at: usize, word: Word) -> usize
     requires { at + 64 ≤ length room.old }
     ensures text { HasText room.old room.new at result (raw_uri word) }
     ensures most { result ≤ at + 64 }
 {
-    let mut text = ArrayString::new();
-    text.push_str("urn:epc:raw:96.x");
-    push_hexadecimal(&mut text, word);
-    put_text(room, at, text.as_bytes())
+    put_text(room, at, print_raw(word).as_bytes())
 }
 
 /// The word of a text, or the first rule that refuses it: those of raw URIs where it begins with
