@@ -9,6 +9,7 @@ wrote is a front of what it writes without failure, and no tag line is lost or d
 ./llrp --help. The last line is `N passed, M failed`, and the status is 1 if a run failed.
 """
 import concurrent.futures
+import itertools
 import os
 import socket
 import struct
@@ -216,31 +217,52 @@ def asked_after(count):
 
 
 def connect(port, run):
+    """Connects to a port where a run will listen, or returns None once it has ended."""
     late = time.monotonic() + LONGEST
-    while True:
+    while time.monotonic() < late:
         try:
             return socket.create_connection(("127.0.0.1", port), timeout=LONGEST)
         except ConnectionRefusedError:
-            if time.monotonic() > late or run.poll() is not None:
-                raise
+            if run.poll() is not None:
+                return None
             time.sleep(0.002)
+    raise TimeoutError("nobody listens")
+
+
+# Ports for `sim`, each used once.
+PORTS = itertools.count(10_000 + os.getpid() % 15_000)
 
 
 def free_port():
-    with socket.socket() as held:
-        held.bind(("127.0.0.1", 0))
-        return held.getsockname()[1]
+    while True:
+        port = next(PORTS)
+        with socket.socket() as held:
+            try:
+                held.bind(("127.0.0.1", port))
+                return port
+            except OSError:
+                continue
+
+
+def listening(program):
+    """Returns a run of `sim` and a connection to it; where another process took the port first, with the next one."""
+    while True:
+        port = free_port()
+        run = start(program, ["sim", str(port)])
+        run.stdin.write(SCRIPT)
+        run.stdin.close()
+        run.stdin = None
+        peer = connect(port, run)
+        if peer is not None:
+            return run, peer
+        if end(run) != (3, b"", b"llrp: network\n"):
+            raise OSError("sim ended before its client came")
 
 
 def serve(program, count, how):
     """Runs `sim`; its client sends so many octets, and then closes, resets or pauses. Returns how it ended, what the
     client met, and what the script's reader has to say to the whole frames."""
-    port = free_port()
-    run = start(program, ["sim", str(port)])
-    run.stdin.write(SCRIPT)
-    run.stdin.close()
-    run.stdin = None
-    peer = connect(port, run)
+    run, peer = listening(program)
     peer.sendall(UP[:count])
     if how == "resets":
         time.sleep(PAUSE)
@@ -308,13 +330,22 @@ def inventories_well(program, count, how):
     return out == lines_after(count) and sent == asked_after(count) and (fine or is_documented(status, err))
 
 
+def is_well(runs_well, *row):
+    """Whether a row ends as it has to; a connection that the script itself can't use counts as failed."""
+    try:
+        return runs_well(*row)
+    except OSError as error:
+        print(f"{row}: {error}", flush=True)
+        return False
+
+
 def peer_runs(program):
     rows = [("sim", serves_well, UP), ("inventory", inventories_well, DOWN)]
     with concurrent.futures.ThreadPoolExecutor(AT_ONCE) as pool:
         for name, runs_well, stream in rows:
             for how in ("closes", "resets", "pauses"):
                 counts = range(len(stream) + 1)
-                runs = [pool.submit(runs_well, program, count, how) for count in counts]
+                runs = [pool.submit(is_well, runs_well, program, count, how) for count in counts]
                 for count, run in zip(counts, runs):
                     yield f"{name}, whose peer {how} after {count} octets", run.result()
 
@@ -338,16 +369,17 @@ def inventory_over(program, device):
         return (status, err) == (3, b"llrp: write\n") and UP.startswith(sent)
 
 
+def all_runs(program):
+    yield from output_runs(program)
+    for device in ("closed", "full"):
+        yield f"inventory, its output {device}", is_well(inventory_over, program, device)
+    yield from peer_runs(program)
+
+
 def main():
     program = os.path.abspath(sys.argv[1]) if len(sys.argv) > 1 else os.path.join(TOP, "crates/llrp/out/llrp")
     passed = failed = 0
-    def all_runs():
-        yield from output_runs(program)
-        for device in ("closed", "full"):
-            yield f"inventory, its output {device}", inventory_over(program, device)
-        yield from peer_runs(program)
-
-    for name, well in all_runs():
+    for name, well in all_runs(program):
         passed, failed = passed + well, failed + (not well)
         if not well:
             print(f"FAILED: {name}", flush=True)
