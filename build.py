@@ -16,8 +16,8 @@ import time
 TOP = os.path.dirname(os.path.realpath(__file__))
 PROGRAM = "llrp"
 MEMORY_OF_A_CHECK = 3 << 30
-# What a check prints at a step that is not proved, or that it cannot read.
-ERROR = re.compile(r"\berror(\[[\w-]+\])?:|: not proved|: no proof")
+# The first line of an error in what a check prints: at a place in a file, or of a function that is not proved.
+ERROR = re.compile(r"^(\S+:\d+:\d+: )?error(\[[\w-]+\])?:|^fn \S+: (not proved|no proof)")
 
 
 def dependencies():
@@ -97,8 +97,10 @@ class Progress:
             self.last = line[3:]
         elif line.startswith("logic=proved"):
             self.end(is_new=True)
-        elif self.last and (line.startswith("logic=not-proved") or ERROR.search(line)):
+        elif line.startswith("logic=not-proved"):
             self.failed, self.last = self.last, None
+        elif failed := re.match(r"(\w+): failed \(", line):
+            self.failed = self.failed or failed[1]
         elif " waiting for " in line and line.startswith("rt: "):
             self.wipe()
             sys.stderr.write(f"llrp: {line.removeprefix('rt: ')}\n")
