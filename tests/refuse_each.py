@@ -4,8 +4,8 @@
 usage: tests/refuse_each.py [PROGRAM]
 
 PROGRAM is that of the crate `refusals`, crates/refusals/out/refusals where none is given. Every such run has to answer what
-the call answers with enough memory, or Memory with what the call promises to leave then. The last line is
-`N passed, M failed`, of all runs; the status is 1 if one failed.
+the call answers with enough memory, or Memory with what the call promises to leave then; and some run of each call that takes
+memory has to answer Memory. The last line is `N passed, M failed`; the status is 1 if something failed.
 """
 import collections
 import os
@@ -135,6 +135,9 @@ def main():
             for it in wrong:
                 print(f"WRONG: {name}, {call}, {it[:400]}")
     for call, count in calls.items():
+        if count["memory"] == 0 and call not in WITHOUT_MEMORY:
+            total["failed"] += 1
+            print(f"WRONG: {call}: no request of it was refused")
         print(
             f"{call}: {count['rows']} rows, {count['requests']} requests for memory; "
             f"{count['memory']} runs answered Memory, {count['same']} as with enough memory"
