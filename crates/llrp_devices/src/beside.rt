@@ -99,9 +99,7 @@ impl Beside {
     fn take_up(&mut self, bytes: &[u8]) -> Option<()> {
         for message in messages(self.alloc, &mut self.up, bytes)? {
             let mut out = Vec::new(self.alloc);
-            self.reader
-                .step(0, ReaderIn::Take(message), &mut out)
-                .ok()?;
+            self.reader.step(0, ReaderIn::Take(message), &mut out).ok()?;
         }
         Some(())
     }
