@@ -1,8 +1,6 @@
 //! A reader and a client beside the two ends of a connection, which take the same messages: the state of the plan's ROSpec in
 //! both, while the bytes go up one octet at a time.
 
-ghost use Rattle.std.specs.Prelude.{◌≡◌, IfSome};
-
 use crate::connections::{LIMIT, SCRIPT};
 use crate::pieces::Way;
 use crate::tally::Tally;
@@ -23,7 +21,6 @@ struct Started {
 }
 
 impl Model for Started {
-    ghost use Rattle.std.specs.Prelude.{Unit};
     ghost use Rattle.llrp_endpoints.specs.ServingStands.{HasStarted};
 
     ghost Value = { Unit {0} };

@@ -23,7 +23,7 @@ impl Way {
         }
     }
 
-    /// The next bytes, so many or those that there are.
+    /// Returns the next bytes: this many, or all that are left where there are fewer.
     pub fn next(&mut self, size: usize) -> &[u8] {
         let (_, rest) = self.bytes.split_at(self.handed.min(self.bytes.len()));
         let piece = rest.split_at(size.min(rest.len())).0;
