@@ -1,36 +1,77 @@
 #!/usr/bin/env bash
-# Prints how many words a second become texts, and how many texts a second become words, in one process
-# that reads them all: a million, or as many as the first argument says. Of four words one each is of
-# SGTIN-96, GID-96 and SSCC-96, and one has no tag URI. The texts must give the words back.
+# Prints what it costs to write the text of a word, and to read the word of a text, in memory: instructions
+# under callgrind for each of the seven schemes, for words without a tag URI and for a mix of the schemes,
+# and words a second of the mix. It is the difference of a process that turns all words over a few times
+# more than another, so reading the lines is not in it. So many words of each, 2,100 if no argument says
+# otherwise. The texts must give the words back.
 set -eu
 . "$(dirname "$0")/common.sh"
-count="${1:-1000000}"
+count="${1:-2100}"
+turns=5
 crate="$top/crates/epc_bench"
+loop="$crate/out/epc_bench"
 
-# The words as lines of 24 digits, with numbers that count up.
+# Words of a kind as lines of 24 digits, with numbers of all lengths: the company prefix has seven digits.
 make_words() {
-    awk -v count="$count" 'BEGIN {
-        split("3074257BF7194E40%08X 3500000010000010%08X 3114257BF4%08X000000 3400000000000000%08X", forms, " ")
-        for (n = 0; n < count; n++) printf forms[n % 4 + 1] "\n", n
-    }' > "$work/words"
+    awk -v kind="$1" -v count="$count" 'BEGIN {
+        split("3074257BF7194E %06X0000 3114257BF4 %08X000000 3254257BF46072 %04X%06X 3374257BF40C0E %04X%06X " \
+              "2C74257BF46072 %06X0000 2D54257BF4 %08X000000 3500000010000010 %08X 2E00000000000000 %08X", part, " ")
+        names = "sgtin sscc sgln grai gdti gsrn gid raw"
+        split(names, name, " ")
+        for (k in name) at[name[k]] = k
+        for (n = 0; n < count; n++) {
+            k = kind == "mix" ? n % 7 + 1 : at[kind]
+            number = (n * 7919) % 16000000
+            tail = part[2 * k]
+            line = part[2 * k - 1] (k == 3 || k == 4 ? sprintf(tail, 0, number) : sprintf(tail, number))
+            print line
+        }
+    }'
 }
 
-# The lines a second of the loop over a file: a name, the file, where its lines go.
-measure_lines() {
-    local name="$1" file="$2" output="$3"
+# The lines of a file, to be turned over so many times.
+with_turns() {
+    echo "$1"
+    cat "$2"
+}
+
+# The instructions of the loop over a file, turned over so many times.
+instructions() {
+    with_turns "$1" "$2" > "$work/input"
+    valgrind --tool=callgrind --callgrind-out-file=/dev/null "$loop" < "$work/input" 2>&1 > /dev/null |
+        awk '/Collected/ { print $4 }'
+}
+
+# The instructions for each line of a file.
+instructions_a_line() {
+    local few many
+    few="$(instructions 1 "$1")"
+    many="$(instructions "$((1 + turns))" "$1")"
+    echo "$(((many - few) / turns / count))"
+}
+
+# The lines a second of a file, from the seconds of 2,000 turns.
+lines_a_second() {
     local began ended
+    with_turns 2000 "$1" > "$work/input"
     began="$(date +%s%N)"
-    "$crate/out/epc_bench" < "$file" > "$output"
+    "$loop" < "$work/input" > /dev/null 2>&1
     ended="$(date +%s%N)"
-    awk -v name="$name" -v count="$count" -v nanoseconds="$((ended - began))" \
-        'BEGIN { printf "%-15s %12.0f a second\n", name, count * 1e9 / nanoseconds }'
+    awk -v count="$count" -v nanoseconds="$((ended - began))" \
+        'BEGIN { printf "%.1f million a second\n", count * 2000 * 1e3 / nanoseconds }'
 }
 
 if ! (cd "$crate" && rt run < stdin) > "$work/build" 2>&1; then
     tail -n 20 "$work/build" >&2
     exit 2
 fi
-make_words
-measure_lines 'words to texts' "$work/words" "$work/texts"
-measure_lines 'texts to words' "$work/texts" "$work/back"
-cmp "$work/back" "$work/words"
+printf '%-8s %14s %14s\n' instructions 'word to text' 'text to word'
+for kind in sgtin sscc sgln grai gdti gsrn gid raw mix; do
+    make_words "$kind" > "$work/words"
+    "$loop" < "$work/words" > "$work/texts" 2> /dev/null
+    "$loop" < "$work/texts" > "$work/back" 2> /dev/null
+    cmp "$work/back" "$work/words"
+    printf '%-12s %14s %14s\n' "$kind" "$(instructions_a_line "$work/words")" "$(instructions_a_line "$work/texts")"
+done
+echo "mix, words to texts: $(lines_a_second "$work/words")"
+echo "mix, texts to words: $(lines_a_second "$work/texts")"

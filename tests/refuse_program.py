@@ -4,7 +4,8 @@
 usage: tests/refuse_program.py [PROGRAM]
 
 Every such run has to end as it does with enough memory, or with status 3 and the line `llrp: memory`, after a front of
-what it writes with enough memory. Build the program first, by ./llrp --help. The status is 1 if a run ends otherwise.
+what it writes with enough memory. Build the program first, by ./llrp --help. Some run of
+each row has to end with that line. The last line is `N passed, M failed`; the status is 1 if one of these failed.
 """
 import collections
 import os
@@ -57,22 +58,26 @@ def kind_of(ended, ample):
 
 def main():
     program = sys.argv[1] if len(sys.argv) > 1 else os.path.join(TOP, "crates/llrp/out/llrp")
-    runs = wrong = 0
+    passed = failed = 0
     with tempfile.TemporaryDirectory() as folder:
         library = build_library(folder)
         for name, words, given in rows():
             ample = run(library, program, words, "0", given, whole=True)
             seen = collections.Counter()
             for which, ended in each_refused(library, program, words, given, whole=True):
-                runs += 1
                 kind = kind_of(ended, ample)
                 seen[kind] += 1
                 if kind is None:
-                    wrong += 1
-                    print(f"WRONG: {name}, refused {which}: status {ended.status}, {ended.out[-60:]!r}, {ended.err[-200:]!r}")
+                    failed += 1
+                    print(f"FAILED: {name}, refused {which}: status {ended.status}, {ended.out[-60:]!r}, {ended.err[-200:]!r}")
+                else:
+                    passed += 1
+            if seen[REFUSED] == 0:
+                failed += 1
+                print(f"FAILED: {name}: no run ended with {REFUSED}, so no request of it was refused")
             print(f"{name}: status {ample.status}, {ample.requests} requests; {seen[REFUSED]} runs {REFUSED}, {seen[KEPT]} {KEPT}")
-    print(f"{runs} runs, {wrong} wrong")
-    return 1 if wrong else 0
+    print(f"{passed} passed, {failed} failed")
+    return 1 if failed else 0
 
 
 if __name__ == "__main__":

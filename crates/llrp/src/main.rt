@@ -11,9 +11,10 @@ mod sim;
 
 use ending::end_without_memory;
 use llrp_tool::{Input, NetworkCommand, Output, ToolErr, network_command, run_command, write_all};
-use network::FAILED;
+use network::{FAILED, conclude};
 use progress::Progress;
 use std::env;
+use std::fs::File;
 use std::io::{ErrorKind, IsTerminal};
 use std::process::ExitCode;
 
@@ -23,11 +24,24 @@ const USAGE: u8 = 2;
 /// What is written where an argument is not UTF-8.
 const NOT_UTF8: &[u8] = b"error: invalid UTF-8 was detected in one or more arguments\n";
 
+/// Opens a directory as often as there are standard streams. Where one of these is closed, a directory takes its
+/// descriptor, which the next socket would have: so a read or write of that stream fails, and does not go over the
+/// connection.
+fn hold_descriptors(rt: &HostRuntime) -> Option<[File; 3]> {
+    let first = File::open(rt, "/").ok()?;
+    let second = File::open(rt, "/").ok()?;
+    let third = File::open(rt, "/").ok()?;
+    Some([first, second, third])
+}
+
 /// Runs a command over sockets, and gives its exit status.
 fn run_network(rt: &HostRuntime, command: NetworkCommand<'_>) -> Result<u8, ToolErr> {
     let alloc = rt.alloc();
     let mut input = Input::new(rt.stdin());
     let mut errors = Output::new(rt.stderr());
+    let Some(_held) = hold_descriptors(rt) else {
+        return conclude(None, &mut errors);
+    };
     let terminal = if rt.stderr().is_terminal() {
         Some(rt.stderr())
     } else {

@@ -13,7 +13,7 @@ use llrp_stream::Sink;
 use std::alloc::{AllocError, Global};
 use tag_bits::Word;
 use tag_epc::{Epc, WordFault};
-use tag_uri::{UriFault, text_of_word, word_of_text};
+use tag_uri::{UriFault, print, print_raw, word_of_text};
 
 /// The word of 24 hexadecimal digits of either case.
 fn word_of_digits(text: &str) -> Option<Word>
@@ -69,12 +69,21 @@ fn push_refusal(lines: &mut Vec<u8>, fault: UriFault) -> Result<(), AllocError>
 fn push_word(lines: &mut Vec<u8>, word: Word) -> Result<(), AllocError>
     ensures { OnOk result ((text : List ℕ) × AreWordLines word text × (lines.new.items ≡ lines.old.items ++ text)) }
 {
-    lines.extend_from_slice(text_of_word(word).as_bytes())?;
-    lines.extend_from_slice(b"\n")?;
     match Epc::from_word(word) {
-        Ok(_) => Ok(()),
-        Err(fault) => push_remark(lines, fault),
+        Ok(epc) => push_line(lines, print(&epc).as_str()),
+        Err(fault) => {
+            push_line(lines, print_raw(word).as_str())?;
+            push_remark(lines, fault)
+        }
     }
+}
+
+/// Appends a line.
+fn push_line(lines: &mut Vec<u8>, text: &str) -> Result<(), AllocError>
+    ensures { OnOk result (lines.new.items ≡ lines.old.items ++ line text.now) }
+{
+    lines.extend_from_slice(text.as_bytes())?;
+    lines.extend_from_slice(b"\n")
 }
 
 /// Appends the line of a text that is no word's digits.

@@ -137,6 +137,19 @@ fn frame_above_the_limit(rt: HostRuntime) -> Result<(), Fail> {
     Ok(())
 }
 
+#[test]
+fn frame_of_the_greatest_length(rt: HostRuntime) -> Result<(), Fail> {
+    let mut decoder = Decoder::new(rt.alloc(), 65_536);
+    let header = [0x08, 0x3E, 0xFF, 0xFF, 0xFF, 0xFF, 0, 0, 0, 7];
+    assert!(rt; item_of(&rt, &mut decoder, &header, 10)?.is_none());
+    assert_eq!(rt; decoder.held(), 0);
+    // A whole KEEPALIVE within its body is a part of it.
+    assert!(rt; item_of(&rt, &mut decoder, &KEEPALIVE, 10)?.is_none());
+    assert_eq!(rt; decoder.held(), 0);
+    assert_eq!(rt; decoder.finish(), End::Rest(20));
+    Ok(())
+}
+
 /// RO_ACCESS_REPORT of 65,536 octets: 3,850 TagReportData with an EPC-96, and 4 that have a PeakRSSI
 /// too.
 fn largest_report(alloc: Global) -> Result<Vec<u8>, Fail> {

@@ -30,6 +30,7 @@ fn main(rt: HostRuntime) -> Result<()> {
         "client" => machines::client(&rt, row),
         "show" => streams::show(&rt, row),
         "list" => streams::list(&rt, row),
+        "write" => streams::write(&rt, row),
         "script" => ends::script(&rt, row),
         "plan" => ends::plan(&rt, row),
         "serve" => ends::serve(&rt, row),

@@ -2,10 +2,10 @@
 
 ghost use Rattle.std.specs.Prelude.{◌≡◌, IfOk, None};
 
-use crate::octets::{allow_growths, octets, print_octets, refuse_growths, text_of};
+use crate::octets::{allow_growths, message_of, octets, print_octets, refuse_growths, text_of};
 use anyhow::Result;
 use llrp_listing::{run_encode, run_show};
-use llrp_stream::{Input, Sink};
+use llrp_stream::{Input, Sink, write_message};
 use std::io;
 
 /// A sink of a fixed size, which takes no memory once it is made; a write beyond its end fails.
@@ -77,6 +77,18 @@ pub fn show(rt: &HostRuntime, row: &[String]) -> Result<()> {
     let verdict = run_show(alloc, &mut source, &mut sink, 65536);
     allow_growths(rt)?;
     println!(rt; "answer {verdict:?}")?;
+    print_octets(rt, "wrote", sink.written())
+}
+
+/// Calls `write_message` on the message of a frame.
+pub fn write(rt: &HostRuntime, row: &[String]) -> Result<()> {
+    let alloc = rt.alloc();
+    let message = message_of(alloc, octets(alloc, row)?.as_slice())?;
+    let mut sink = Room::of(rt, 1 << 20)?;
+    refuse_growths(rt)?;
+    let done = write_message(&message, 65536, &mut sink);
+    allow_growths(rt)?;
+    println!(rt; "answer {done:?}")?;
     print_octets(rt, "wrote", sink.written())
 }
 

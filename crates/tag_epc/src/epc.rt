@@ -86,6 +86,14 @@ impl Epc {
         Ok(Epc { parts })
     }
 
+    /// The EPC of parts that are an EPC's. Nothing is checked when it runs.
+    pub fn of_parts(parts: Parts) -> Epc
+        requires { IsLawful parts }
+        ensures { result ≡ parts }
+    {
+        Epc { parts }
+    }
+
     /// The EPC that a word carries, or the word's first part that fails and its bit
     /// (EPC Tag Data Standard 1.13, section 14).
     pub fn from_word(word: Word) -> Result<Epc, WordFault>

@@ -11,3 +11,5 @@ pub mod RuleLemmas
 pub mod TextBytes
 pub mod TextLaws
 pub mod TextShape
+mod WritingLemmas
+mod UriLemmas

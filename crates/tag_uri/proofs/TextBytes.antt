@@ -39,7 +39,7 @@ name_visible : (k : Kind) → visible (name_of k) ≡ true
 name_visible Sgtin = refl
 name_visible _ = refl
 
-uri_visible : (epc : Parts) → IsLawful epc → visible (tag_uri epc) ≡ true
+pub uri_visible : (epc : Parts) → IsLawful epc → visible (tag_uri epc) ≡ true
 uri_visible epc h =
     let components : visible (join_with_byte 46 (components_of epc)) ≡ true = joined_visible (components_of epc) (written epc h).digits in
     rw (uri_is epc) (append_visible (name_of (kind_of epc)) (58 ∷ join_with_byte 46 (components_of epc)) (name_visible (kind_of epc)) components)

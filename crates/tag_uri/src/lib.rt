@@ -13,8 +13,9 @@ mod raw;
 mod rules;
 mod scheme;
 mod word;
+mod writing;
 
 pub use fault::UriFault;
 pub use parsing::parse;
-pub use printing::print;
-pub use word::{text_of_word, word_of_text};
+pub use printing::{print, put_tag_uri};
+pub use word::{print_raw, put_text_of_word, text_of_word, word_of_text};

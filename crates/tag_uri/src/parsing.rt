@@ -20,7 +20,7 @@ pub fn parse(text: &str) -> Result<Epc, UriFault>
     ensures err { IfErr result (λ fault. HasTagFault text.now fault) }
 {
     match read(text) {
-        Ok(parts) => Ok(epc_of(parts)),
+        Ok(parts) => Ok(Epc::of_parts(parts)),
         Err(fault) => Err(fault),
     }
 }
@@ -51,30 +51,4 @@ fn read_components(kind: Kind, text: &str) -> Result<Parts, UriFault>
     ensures err { IfErr result (λ fault. refusal (layout_of kind) (components text.now) ≡ Some fault) }
 {
     at_scheme!(kind, read_partitioned(kind, text), read_general(text))
-}
-
-/// The EPC of lawful parts.
-fn epc_of(parts: Parts) -> Epc
-    requires { IsLawful parts }
-    ensures { result ≡ parts }
-{
-    let epc = match parts {
-        Parts::Partitioned {
-            kind,
-            filter,
-            company_digits,
-            company,
-            reference,
-            last,
-        } => Epc::partitioned(kind, filter, company_digits, company, reference, last),
-        Parts::General {
-            manager,
-            object_class,
-            serial,
-        } => Epc::gid(manager, object_class, serial),
-    };
-    match epc {
-        Ok(epc) => epc,
-        Err(_) => unreachable!(),
-    }
 }

@@ -1,14 +1,14 @@
-//! The tag URI of an EPC.
+//! The tag URI of an EPC. Its components are written from the last to the first, since the last digits of
+//! each stand where the text behind it begins.
 
-ghost use Rattle.std.specs.Prelude.{◌≡◌, ℕ, ◌+◌, ◌^◌, ◌<◌, ◌≤◌, ◌++◌, ◌∷◌, [], Some, length, if◌then◌else◌};
-ghost use Rattle.std.specs.List.{join_with_byte};
-ghost use Rattle.arrayvec.specs.ArrayString.{array_string_len};
+ghost use Rattle.std.specs.Prelude.{◌≡◌, ℕ, ◌+◌, ◌^◌, ◌<◌, ◌≤◌, ◌++◌, ◌∷◌, [], Some, length, take, drop, if◌then◌else◌};
 ghost use Rattle.tag_epc.specs.Layout.{layout_of};
 ghost use Rattle.tag_epc.specs.LawfulWord.{IsLawful};
 ghost use Rattle.tag_uri.specs.Decimal.{plain};
-ghost use Rattle.tag_uri.specs.TagText.{tag_uri, components_of, partitioned_components};
+ghost use Rattle.tag_uri.specs.Room.{HasText};
+ghost use Rattle.tag_uri.specs.TagText.{tag_uri, tag_start};
 
-use crate::decimal::{push_padded, push_plain};
+use crate::writing::{count_of, put_octet, put_padded, put_plain, put_text, text_before};
 use arrayvec::ArrayString;
 use tag_epc::scheme::Scheme;
 use tag_epc::{Epc, Kind, Parts, at_scheme};
@@ -18,19 +18,30 @@ use tag_epc::{Epc, Kind, Parts, at_scheme};
 pub fn print(epc: &Epc) -> ArrayString<64>
     ensures { result.bytes ≡ tag_uri epc.now }
 {
-    let mut text = ArrayString::new();
-    text.push_str("urn:epc:tag:");
-    text.push_str(epc.kind().name());
-    text.push_str(":");
-    push_components(&mut text, epc.parts());
-    text
+    let parts = epc.parts();
+    let mut room = [0; 64];
+    let end = put_parts(&mut room, 0, parts);
+    text_before(&room, end)
 }
 
-/// Appends the components of an EPC, joined by dots.
-fn push_components(text: &mut ArrayString<64>, parts: Parts)
+/// Writes the tag URI of an EPC into `room` from `at` on, and returns where it ends. The room must have
+/// 64 octets from `at` on; those that the text does not take stay as they were.
+#[inline]
+pub fn put_tag_uri(room: &mut [u8], at: usize, epc: &Epc) -> usize
+    requires { at + 64 ≤ length room.old }
+    ensures text { HasText room.old room.new at result (tag_uri epc.now) }
+    ensures most { result ≤ at + 64 }
+{
+    put_parts(room, at, epc.parts())
+}
+
+/// Writes the tag URI of the parts of an EPC.
+#[inline]
+fn put_parts(room: &mut [u8], at: usize, parts: Parts) -> usize
     requires lawful { IsLawful parts }
-    requires room { array_string_len text.old ≤ 21 }
-    ensures { text.new.bytes ≡ text.old.bytes ++ join_with_byte 46 (components_of parts) }
+    requires room { at + 64 ≤ length room.old }
+    ensures text { HasText room.old room.new at result (tag_uri parts) }
+    ensures most { result ≤ at + 64 }
 {
     match parts {
         Parts::Partitioned {
@@ -42,64 +53,121 @@ fn push_components(text: &mut ArrayString<64>, parts: Parts)
             last,
         } => at_scheme!(
             kind,
-            push_partitioned(text, kind, filter, company_digits, company, reference, last),
+            put_partitioned(
+                room,
+                at,
+                kind,
+                filter,
+                company_digits,
+                company,
+                reference,
+                last
+            ),
             unreachable!()
         ),
         Parts::General {
             manager,
             object_class,
             serial,
-        } => push_general(text, manager, object_class, serial),
+        } => put_general(room, at, manager, object_class, serial),
     }
 }
 
-/// Appends the components of an EPC with a company prefix, joined by dots.
-fn push_partitioned<S: Scheme>(
-    text: &mut ArrayString<64>,
+/// Writes what a tag URI begins with, up to the colon after the scheme's name.
+#[inline(always)]
+fn put_start(room: &mut [u8], at: usize, name: &str) -> usize
+    requires { at + 13 + length name.now ≤ length room.old }
+    ensures { HasText room.old room.new at result (tag_start ++ (name.now ++ 58 ∷ [])) }
+{
+    let start = *b"urn:epc:tag:";
+    let name_at = put_text(room, at, &start);
+    let colon_at = put_text(room, name_at, name.as_bytes());
+    let colon = *b":";
+    put_text(room, colon_at, &colon)
+}
+
+/// How many octets the last component takes with its dot: none where the last segment is all zeros.
+#[inline(always)]
+fn tail_length(last: u64, zero_tail: bool) -> usize
+    requires { last < 10 ^ 13 }
+    ensures count { result ≡ length (if zero_tail then [] else 46 ∷ plain last) }
+    ensures few { result ≤ 14 }
+{
+    if zero_tail { 0 } else { 1 + count_of(last) }
+}
+
+/// Writes a dot and the last number in front of `end`, but nothing where the last segment is all zeros,
+/// and returns where they begin.
+#[inline(always)]
+fn put_tail(room: &mut [u8], end: usize, last: u64, zero_tail: bool, tail: usize) -> usize
+    requires fits { last < 10 ^ 13 }
+    requires few { tail ≤ 14 }
+    requires counted { tail ≡ length (if zero_tail then [] else 46 ∷ plain last) }
+    requires ahead { 16 ≤ end }
+    requires within { end ≤ length room.old }
+    ensures begin { result + tail ≡ end }
+    ensures written { drop result room.new ≡ (if zero_tail then [] else 46 ∷ plain last) ++ drop end room.old }
+    ensures kept { (p : ℕ) → p + 16 ≤ end → take p room.new ≡ take p room.old }
+    ensures len { length room.new ≡ length room.old }
+{
+    if zero_tail {
+        return end;
+    }
+    let behind = put_plain(room, end, last, tail - 1);
+    put_octet(room, behind, b'.')
+}
+
+/// Writes the tag URI of an EPC with a company prefix.
+fn put_partitioned<S: Scheme>(
+    room: &mut [u8],
+    at: usize,
     kind: Kind,
     filter: u8,
     company_digits: u8,
     company: u64,
     reference: u64,
     last: u64,
-)
+) -> usize
     requires known { layout_of kind ≡ Some S.layout }
     requires lawful { IsLawful (Parts.Partitioned kind filter company_digits company reference last) }
-    requires room { array_string_len text.old ≤ 21 }
-    ensures { text.new.bytes ≡ text.old.bytes ++ join_with_byte 46 (partitioned_components (Some S.layout) filter company_digits company reference last) }
+    requires room { at + 64 ≤ length room.old }
+    ensures text { HasText room.old room.new at result (tag_uri (Parts.Partitioned kind filter company_digits company reference last)) }
+    ensures most { result ≤ at + 64 }
 {
     let Some(row) = S::row(12 - company_digits) else {
         unreachable!()
     };
-    push_padded(text, filter as u64, 1);
-    text.push_str(".");
-    push_padded(text, company, company_digits as u32);
-    text.push_str(".");
-    push_padded(text, reference, row.reference_digits);
-    push_last(text, last, S::ZERO_TAIL);
+    let name = S::name();
+    let digits = row.reference_digits as usize;
+    let tail = tail_length(last, S::ZERO_TAIL);
+    let end = at + 16 + name.len() + company_digits as usize + digits + tail;
+    let last_at = put_tail(room, end, last, S::ZERO_TAIL, tail);
+    let reference_at = put_padded(room, last_at, reference, digits);
+    let dot_at = put_octet(room, reference_at, b'.');
+    let company_at = put_padded(room, dot_at, company, company_digits as usize);
+    let first_dot_at = put_octet(room, company_at, b'.');
+    put_octet(room, first_dot_at, b'0' + filter);
+    put_start(room, at, name);
+    end
 }
 
-/// Appends a dot and the last number, but nothing where a scheme's last segment is all zeros.
-fn push_last(text: &mut ArrayString<64>, last: u64, zero_tail: bool)
-    requires room { array_string_len text.old + 1 + length (plain last) ≤ 64 }
-    ensures { text.new.bytes ≡ text.old.bytes ++ (if zero_tail then [] else 46 ∷ plain last) }
-{
-    if zero_tail {
-        return;
-    }
-    text.push_str(".");
-    push_plain(text, last);
-}
-
-/// Appends the numbers of GID-96, joined by dots.
-fn push_general(text: &mut ArrayString<64>, manager: u64, object_class: u64, serial: u64)
+/// Writes the tag URI of an EPC of GID-96.
+fn put_general(room: &mut [u8], at: usize, manager: u64, object_class: u64, serial: u64) -> usize
     requires lawful { IsLawful (Parts.General manager object_class serial) }
-    requires room { array_string_len text.old ≤ 21 }
-    ensures { text.new.bytes ≡ text.old.bytes ++ join_with_byte 46 (components_of (Parts.General manager object_class serial)) }
+    requires room { at + 64 ≤ length room.old }
+    ensures text { HasText room.old room.new at result (tag_uri (Parts.General manager object_class serial)) }
+    ensures most { result ≤ at + 64 }
 {
-    push_plain(text, manager);
-    text.push_str(".");
-    push_plain(text, object_class);
-    text.push_str(".");
-    push_plain(text, serial);
+    let name = Kind::Gid.name();
+    let managers = count_of(manager);
+    let classes = count_of(object_class);
+    let serials = count_of(serial);
+    let end = at + 15 + name.len() + managers + classes + serials;
+    let serial_at = put_plain(room, end, serial, serials);
+    let dot_at = put_octet(room, serial_at, b'.');
+    let class_at = put_plain(room, dot_at, object_class, classes);
+    let first_dot_at = put_octet(room, class_at, b'.');
+    put_plain(room, first_dot_at, manager, managers);
+    put_start(room, at, name);
+    end
 }

@@ -1,12 +1,14 @@
 //! The text of a word.
 
-ghost use Rattle.std.specs.Prelude.{◌≡◌, ℕ, ◌+◌, ◌^◌, ◌<◌, ◌++◌, Ok, IfOk, IfErr};
-ghost use Rattle.tag_uri.specs.TagText.{IsTextOf, HasFault, HasRawFault, raw_start};
+ghost use Rattle.std.specs.Prelude.{◌≡◌, ℕ, ◌+◌, ◌^◌, ◌<◌, ◌≤◌, ◌++◌, List, length, Ok, IfOk, IfErr};
+ghost use Rattle.tag_uri.specs.Room.{HasText};
+ghost use Rattle.tag_uri.specs.TagText.{IsTextOf, HasFault, HasRawFault, raw_start, raw_uri};
 
 use crate::fault::UriFault;
 use crate::parsing::parse;
-use crate::printing::print;
+use crate::printing::put_tag_uri;
 use crate::raw::{push_hexadecimal, word_of_hexadecimal};
+use crate::writing::{put_text, text_before};
 use arrayvec::ArrayString;
 use tag_bits::Word;
 use tag_epc::Epc;
@@ -16,13 +18,42 @@ use tag_epc::Epc;
 pub fn text_of_word(word: Word) -> ArrayString<64>
     ensures { IsTextOf word result.bytes }
 {
-    if let Ok(epc) = Epc::from_word(word) {
-        return print(&epc);
+    let mut room = [0; 64];
+    let end = put_text_of_word(&mut room, 0, word);
+    text_before(&room, end)
+}
+
+/// Writes the text of a word into `room` from `at` on, and returns where it ends. The room must have 64
+/// octets from `at` on; those that the text does not take stay as they were.
+pub fn put_text_of_word(room: &mut [u8], at: usize, word: Word) -> usize
+    requires { at + 64 ≤ length room.old }
+    ensures text { (text : List ℕ) × IsTextOf word text × HasText room.old room.new at result text }
+    ensures most { result ≤ at + 64 }
+{
+    match Epc::from_word(word) {
+        Ok(epc) => put_tag_uri(room, at, &epc),
+        Err(_) => put_raw_uri(room, at, word),
     }
+}
+
+/// The raw URI of a word, as `urn:epc:raw:96.x3003A3529440000000000000` (EPC Tag Data Standard 1.13,
+/// section 12). It is the word's text only where no EPC has the word.
+pub fn print_raw(word: Word) -> ArrayString<64>
+    ensures { result.bytes ≡ raw_uri word }
+{
     let mut text = ArrayString::new();
     text.push_str("urn:epc:raw:96.x");
     push_hexadecimal(&mut text, word);
     text
+}
+
+/// Writes the raw URI of a word.
+fn put_raw_uri(room: &mut [u8], at: usize, word: Word) -> usize
+    requires { at + 64 ≤ length room.old }
+    ensures text { HasText room.old room.new at result (raw_uri word) }
+    ensures most { result ≤ at + 64 }
+{
+    put_text(room, at, print_raw(word).as_bytes())
 }
 
 /// The word of a text, or the first rule that refuses it: those of raw URIs where it begins with

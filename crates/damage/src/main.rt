@@ -1,0 +1,38 @@
+//! Reads frames that were cut or damaged, at once and octet by octet, for `tests/damage.py`.
+//!
+//! Each line of standard input is a word and a stream of LLRP in hexadecimal digits:
+//!
+//! - `same`: the stream as it is. Its line says what the decoder found.
+//! - `cuts`: each front of the stream, which is one frame. Each has to be a rest of its length.
+//! - `changes`: the stream with each octet changed to each other value. The line counts how many of them still hold
+//!   nothing but messages.
+//!
+//! All are read twice, and have to give the same both times; a message that is found has to spell the octets that it
+//! was read from. A line that begins with `WRONG` says where that is not so.
+#![tactic(auto)]
+
+mod cases;
+mod reading;
+
+use anyhow::{Context, Result, bail};
+use cases::{changes, cuts, same};
+
+/// Does what a line asks for.
+fn answer(rt: &HostRuntime, line: &str) -> Result<()> {
+    let alloc = rt.alloc();
+    let (what, digits) = line.split_once(' ').context("a word and digits")?;
+    let stream = hex::decode(alloc, digits)?;
+    match what {
+        "same" => same(rt, stream.as_slice()),
+        "cuts" => cuts(rt, stream.as_slice()),
+        "changes" => changes(rt, stream.as_slice()),
+        _ => bail!("no such word"),
+    }
+}
+
+fn main(rt: HostRuntime) -> Result<()> {
+    for line in rt.lines(rt.alloc()) {
+        answer(&rt, line?.as_str())?;
+    }
+    Ok(())
+}

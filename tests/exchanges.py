@@ -1,0 +1,83 @@
+"""The exchanges of the reader's and the client's tests, read from their source: for each step, the steps up to it."""
+import re
+
+from vectors import source
+
+EVENT = r'(Does::Connect|Does::Tick|Does::Seen\(\d+\)|Does::Take\("[^"]*"\)|[A-Z_]+)'
+STEP = r"CONNECTS|Step::Sends\(Request::\w+(?:\(\w+\))?|Step::Takes\(\w+|Step::Refuses|Step::Faults"
+# What the program refusals calls the commands whose names it does not take from the tests.
+COMMANDS = {"SetKeepalive": "keepalive", "GetReport": "report"}
+
+
+def constants(text, form):
+    return {name: digits.replace(" ", "") for name, digits in re.findall(form, text)}
+
+
+def exchanges(text):
+    """Yields the name and the source of each exchange."""
+    for body in re.findall(r"    Exchange \{(.*?)\n    \},", text, re.S):
+        yield re.search(r'name: "([^"]*)"', body)[1], body
+
+
+def fronts(name, call, words):
+    """Returns a row for each front of the words."""
+    return [(f"{name}, {count}", call, words[:count]) for count in range(1, len(words) + 1)]
+
+
+def event(term, known):
+    """Returns the program's word for an event of the reader."""
+    fixed = {"Does::Connect": "connect", "Does::Tick": "tick"}
+    if term in fixed:
+        return fixed[term]
+    if term.startswith("Does::Seen"):
+        return f"seen:{re.search(r'[0-9]+', term)[0]}"
+    if term.startswith("Does::Take"):
+        return re.search(r'"([^"]*)"', term)[1].replace(" ", "")
+    return known[term]
+
+
+def reader_rows():
+    """Returns the rows of `Reader::step`: those of the tests, and tables and buffers of each size."""
+    text = source("reader.rt")
+    known = constants(text, r'const (\w+): Does =\s*Does::Take\(\s*"([^"]*)",?\s*\);')
+    rows = []
+    for name, body in exchanges(text):
+        steps = re.findall(r"Step::Sends\(\s*([\d_]+),\s*" + EVENT, body)
+        rows += fronts(name, "step", [f"{now.replace('_', '')}@{event(term, known)}" for now, term in steps])
+    started = ["0@connect", f"1@{known['ADD_POLLED']}", f"4@{known['ENABLE']}", f"5@{known['START']}"]
+    for held in (0, 1, 2, 4, 8, 16, 32, 63, 64):
+        seen = started + ["6@seen:1"] * held
+        rows.append((f"{held} reports are held, one more", "step", seen + ["6@seen:1"]))
+        rows.append((f"{held} reports are asked for", "step", seen + ["7@083C0000000A00000008"]))
+    for count in range(1, 10):
+        add = known["ADD"]
+        added = ["0@connect"] + [f"1@{add[:28]}{number:08X}{add[36:]}" for number in range(1, count + 1)]
+        rows.append((f"{count} ROSpecs", "step", added))
+        rows.append((f"{count} ROSpecs, all enabled", "step", added + ["2@08180000000E0000000300000000"]))
+        rows.append((f"{count} ROSpecs, all deleted", "step", added + ["2@08150000000E0000000300000000"]))
+    return rows
+
+
+def command(term, known):
+    """Returns the program's word for a step of the client, or None where it is none."""
+    if term == "CONNECTS":
+        return f"take:{known['ACCEPTED']}"
+    if term.startswith("Step::Takes("):
+        return f"take:{known[term.removeprefix('Step::Takes(')]}"
+    request = re.match(r"Step::Sends\(Request::(\w+)(?:\((\w+)\))?", term)
+    if request is None:
+        return None
+    argument = known.get(request[2], request[2] or "")
+    return f"{COMMANDS.get(request[1], request[1].lower())}:{argument}"
+
+
+def client_rows():
+    """Returns the rows of `Client::command` and `Client::take`: those exchanges of the tests whose first id is 1."""
+    text = source("client.rt")
+    known = constants(text, r'const (\w+): &str =\s*"([^"]*)";')
+    rows = []
+    for name, body in exchanges(text):
+        if "first_id: 1," in body:
+            words = [command(term, known) for term in re.findall(STEP, body)]
+            rows += fronts(name, "client", [word for word in words if word is not None])
+    return rows

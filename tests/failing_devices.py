@@ -1,0 +1,391 @@
+#!/usr/bin/env python3
+"""Runs the program llrp over devices that fail: a standard output that is closed, full or closes early, and peers that close,
+reset or pause the connection after each octet of a whole exchange.
+
+usage: tests/failing_devices.py [PROGRAM]
+
+Each run has to end by itself with a documented status, and with one line on standard error where the status is not 0. What it
+wrote is a front of what it writes without failure, and no tag line is lost or doubled. Build the program first, by
+./llrp --help. The last line is `N passed, M failed`, and the status is 1 if a run failed.
+"""
+import concurrent.futures
+import itertools
+import os
+import socket
+import struct
+import subprocess
+import sys
+import time
+
+TOP = os.path.dirname(os.path.dirname(os.path.realpath(__file__)))
+# How long a run may take, and how long a peer that pauses does nothing, in seconds.
+LONGEST, PAUSE = 20, 0.02
+# How many connections at a time.
+AT_ONCE = 4
+
+# An exchange of three sightings, reported after two and when they are asked for (LLRP 1.1, section 17.1).
+SCRIPT = b"""\
+3 1000 seen 1 -60 urn:epc:tag:sgtin-96:3.0614141.812345.6789
+3 2000 seen 1 -61 urn:epc:tag:sscc-96:0.0614141.0000000001
+3 3000 seen 2 -62 urn:epc:tag:gid-96:1.2.3
+"""
+FIRST_LINES = b"""\
+urn:epc:tag:sgtin-96:3.0614141.812345.6789 1 -60
+urn:epc:tag:sscc-96:0.0614141.0000000001 1 -61
+= 2
+"""
+SECOND_LINES = b"urn:epc:tag:gid-96:1.2.3 2 -62\n= 1\n"
+TOTAL_LINE = b"total 3 2\n"
+LINES = FIRST_LINES + SECOND_LINES + TOTAL_LINE
+# What the client sends: ADD_ROSPEC, ENABLE_ROSPEC, START_ROSPEC, GET_REPORT, STOP_ROSPEC, DELETE_ROSPEC, CLOSE_CONNECTION.
+REQUESTS = [
+    "04140000004B00000001 00B10041000000010000 00B20012 00B3000500 00B600090000000000 00B7001800010000 00B800090000000000"
+    "00BA0007000101 00ED000D020002 00EE00061400",
+    "04180000000E0000000200000001",
+    "04160000000E0000000300000001",
+    "043C0000000A00000004",
+    "04170000000E0000000500000001",
+    "04150000000E0000000600000001",
+    "040E0000000A00000007",
+]
+# What the reader sends, the second frame of each report and event among them.
+ANSWERS = [
+    "043F0000002000000001 00F60016 0080000C0000000000000000 010000060000",
+    "041E0000001200000001 011F000800000000",
+    "04220000001200000002 011F000800000000",
+    "04200000001200000003 011F000800000000",
+    "043F0000002700000002 00F6001D 0080000C0000000000000000 00F9000D000000000100000000",
+    "043D0000003600000003 00F00016 8D3074257BF7194E4000001A85 810001 86C4"
+    "00F00016 8D3114257BF400000001000000 810001 86C3",
+    "043D0000002000000004 00F00016 8D350000001000002000000003 810002 86C2",
+    "043F0000002700000005 00F6001D 0080000C0000000000000BB8 00F9000D010000000100000000",
+    "04210000001200000005 011F000800000000",
+    "041F0000001200000006 011F000800000000",
+    "04040000001200000007 011F000800000000",
+]
+FIRST_REPORT, SECOND_REPORT = 5, 6
+# The documented error lines, and their statuses.
+STATUS_OF = {b"llrp: early\n": 1, b"llrp: read\n": 3, b"llrp: write\n": 3, b"llrp: network\n": 3}
+
+
+def octets(frames):
+    return bytes.fromhex("".join(frames))
+
+
+UP, DOWN = octets(REQUESTS), octets(ANSWERS)
+
+
+def start(program, words, out=subprocess.PIPE, before=None):
+    how = {"stdin": subprocess.PIPE, "stdout": out, "stderr": subprocess.PIPE, "preexec_fn": before}
+    return subprocess.Popen([program, *words], **how)
+
+
+def end(run, given=None):
+    """Returns the status, standard output and standard error of a run that ends by itself."""
+    try:
+        out, err = run.communicate(given, timeout=LONGEST)
+    except subprocess.TimeoutExpired:
+        run.kill()
+        run.communicate()
+        return None, b"", b"no end"
+    return run.returncode, out or b"", err
+
+
+def is_documented(status, err):
+    """Whether a run that did not come to its fine end has one documented line, and that line's status."""
+    return err in STATUS_OF and STATUS_OF[err] == status
+
+
+# ---- standard output
+
+
+def stream_commands():
+    """Returns the words, the input and the output of each command that prints."""
+    def example(name):
+        with open(os.path.join(TOP, "examples", name), "rb") as file:
+            return file.read()
+
+    keepalive, text = example("keepalive.hex"), example("report.txt")
+    report = bytes.fromhex(example("report.hex").decode())
+    return [
+        (["show", "--hex"], keepalive, b"0 KEEPALIVE 2 7\n"),
+        (["show"], report, text),
+        (["show"], report * 3000, text * 3000),
+        (["encode"], text, report),
+        (["encode"], text * 5000, report * 5000),
+        (["encode", "--hex"], text, report.hex().upper().encode() + b"\n"),
+        (["epc", "3074257BF7194E4000001A85"], b"", b"urn:epc:tag:sgtin-96:3.0614141.812345.6789\n"),
+        (["loop", "--every", "2"], SCRIPT, LINES),
+    ]
+
+
+def close_output():
+    os.close(1)
+
+
+def over_closed(program, words, given, wanted):
+    status, _, err = end(start(program, words, None, close_output), given)
+    return (status, err) == (3, b"llrp: write\n")
+
+
+def over_full(program, words, given, wanted):
+    with open("/dev/full", "wb") as full:
+        status, _, err = end(start(program, words, full), given)
+    return (status, err) == (3, b"llrp: write\n")
+
+
+def over_broken_pipe(program, words, given, wanted):
+    """The pipe has no reader from the start."""
+    reading, writing = os.pipe()
+    os.close(reading)
+    run = start(program, words, writing)
+    os.close(writing)
+    status, _, err = end(run, given)
+    return (status, err) == (3, b"llrp: write\n")
+
+
+def over_closing_pipe(program, words, given, wanted):
+    """The pipe's reader takes a first piece and closes. What is longer than a pipe holds can't be written."""
+    reading, writing = os.pipe()
+    run = start(program, words, writing)
+    os.close(writing)
+    feeding = concurrent.futures.ThreadPoolExecutor(1).submit(end, run, given)
+    piece = os.read(reading, 10)
+    os.close(reading)
+    status, _, err = feeding.result()
+    fine = (status, err) == (0, b"") and len(wanted) < 65_536
+    return wanted.startswith(piece) and (fine or (status, err) == (3, b"llrp: write\n"))
+
+
+def output_runs(program):
+    for words, given, wanted in stream_commands():
+        name = f"{' '.join(words)}, {len(given)} octets in"
+        status, out, err = end(start(program, words), given)
+        yield f"{name}, no failure", (status, out, err) == (0, wanted, b"")
+        for device in (over_closed, over_full, over_broken_pipe, over_closing_pipe):
+            yield f"{name}, {device.__name__}", device(program, words, given, wanted)
+
+
+# ---- peers
+
+
+def reset(peer):
+    """Closes a connection so that the other end meets a reset."""
+    peer.setsockopt(socket.SOL_SOCKET, socket.SO_LINGER, struct.pack("ii", 1, 0))
+    peer.close()
+
+
+def read_to_end(peer):
+    said = b""
+    try:
+        while piece := peer.recv(4096):
+            said += piece
+    except ConnectionError:
+        pass
+    return said
+
+
+def read_so_many(peer, count):
+    said = b""
+    while len(said) < count and (piece := peer.recv(4096)):
+        said += piece
+    return said
+
+
+def whole_frames(frames, count):
+    """Returns how many of the frames are whole in the first so many octets."""
+    place = number = 0
+    for frame in frames:
+        place += len(octets([frame]))
+        number += place <= count
+    return number
+
+
+def lines_after(count):
+    """Returns the lines of the reports that are whole in the first so many octets from the reader."""
+    number = whole_frames(ANSWERS, count)
+    lines = FIRST_LINES * (number > FIRST_REPORT) + SECOND_LINES * (number > SECOND_REPORT)
+    return lines + TOTAL_LINE * (number == len(ANSWERS))
+
+
+def asked_after(count):
+    """Returns the requests that a client has sent once it took so many octets: one at the connection and at each answer
+    that leads on; the first report leads on from GET_REPORT."""
+    number = whole_frames(ANSWERS, count)
+    leading = [0, 1, 2, 3, FIRST_REPORT, 8, 9]
+    return octets(REQUESTS[: sum(number > place for place in leading)])
+
+
+def connect(port, run):
+    """Connects to a port where a run will listen, or returns None once it has ended."""
+    late = time.monotonic() + LONGEST
+    while time.monotonic() < late:
+        try:
+            return socket.create_connection(("127.0.0.1", port), timeout=LONGEST)
+        except ConnectionRefusedError:
+            if run.poll() is not None:
+                return None
+            time.sleep(0.002)
+    raise TimeoutError("nobody listens")
+
+
+# Ports for `sim`, each used once.
+PORTS = itertools.count(10_000 + os.getpid() % 15_000)
+
+
+def free_port():
+    while True:
+        port = next(PORTS)
+        with socket.socket() as held:
+            try:
+                held.bind(("127.0.0.1", port))
+                return port
+            except OSError:
+                continue
+
+
+def listening(program):
+    """Returns a run of `sim` and a connection to it; where another process took the port first, with the next one."""
+    while True:
+        port = free_port()
+        run = start(program, ["sim", str(port)])
+        run.stdin.write(SCRIPT)
+        run.stdin.close()
+        run.stdin = None
+        peer = connect(port, run)
+        if peer is not None:
+            return run, peer
+        if end(run) != (3, b"", b"llrp: network\n"):
+            raise OSError("sim ended before its client came")
+
+
+def serve(program, count, how):
+    """Runs `sim`; its client sends so many octets, and then closes, resets or pauses. Returns how it ended, what the
+    client met, and what the script's reader has to say to the whole frames."""
+    run, peer = listening(program)
+    peer.sendall(UP[:count])
+    if how == "resets":
+        time.sleep(PAUSE)
+        said = b""
+        reset(peer)
+    else:
+        if how == "pauses":
+            time.sleep(PAUSE)
+            peer.sendall(UP[count:])
+        peer.shutdown(socket.SHUT_WR)
+        said = read_to_end(peer)
+        peer.close()
+    return (*end(run), said)
+
+
+def said_after(count):
+    """Returns what the reader says to the first so many octets of a client: its frames by the request that they follow."""
+    by_request = [1, 1, 1, 3, 1, 2, 1, 1]
+    number = whole_frames(REQUESTS, count)
+    return octets(ANSWERS[: sum(by_request[: number + 1])])
+
+
+def serves_well(program, count, how):
+    status, out, err, said = serve(program, count, how)
+    if how == "pauses":
+        return (status, out, err, said) == (0, b"", b"", DOWN)
+    at_frame = count in {len(octets(REQUESTS[:number])) for number in range(len(REQUESTS) + 1)}
+    if how == "closes":
+        ended = (0, b"") if at_frame else (1, b"llrp: early\n")
+        return (status, err) == ended and out == b"" and said == said_after(count)
+    return out == b"" and ((status, err) == (0, b"") and count == len(UP) or is_documented(status, err))
+
+
+def take_inventory(program, count, how):
+    """Runs `inventory`; its reader sends so many octets, and then closes, resets or pauses. Returns how it ended, and what
+    the client sent."""
+    with socket.create_server(("127.0.0.1", 0)) as listener:
+        words = ["inventory", "127.0.0.1", str(listener.getsockname()[1]), "--every", "2"]
+        run = start(program, words)
+        listener.settimeout(LONGEST)
+        peer, _ = listener.accept()
+        peer.settimeout(LONGEST)
+        peer.sendall(DOWN[:count])
+        if how == "resets":
+            sent = read_so_many(peer, len(asked_after(count)))
+            time.sleep(PAUSE)
+            reset(peer)
+        else:
+            if how == "pauses":
+                time.sleep(PAUSE)
+                peer.sendall(DOWN[count:])
+            peer.shutdown(socket.SHUT_WR)
+            sent = read_to_end(peer)
+            peer.close()
+        return (*end(run), sent)
+
+
+def inventories_well(program, count, how):
+    status, out, err, sent = take_inventory(program, count, how)
+    if how == "pauses" or (how == "closes" and count == len(DOWN)):
+        return (status, out, err, sent) == (0, LINES, b"", UP)
+    if how == "closes":
+        return (status, out, err, sent) == (1, lines_after(count), b"llrp: early\n", asked_after(count))
+    fine = (status, err) == (0, b"") and count == len(DOWN)
+    return out == lines_after(count) and sent == asked_after(count) and (fine or is_documented(status, err))
+
+
+def is_well(runs_well, *row):
+    """Whether a row ends as it has to; a connection that the script itself can't use counts as failed."""
+    try:
+        return runs_well(*row)
+    except OSError as error:
+        print(f"{row}: {error}", flush=True)
+        return False
+
+
+def peer_runs(program):
+    rows = [("sim", serves_well, UP), ("inventory", inventories_well, DOWN)]
+    with concurrent.futures.ThreadPoolExecutor(AT_ONCE) as pool:
+        for name, runs_well, stream in rows:
+            for how in ("closes", "resets", "pauses"):
+                counts = range(len(stream) + 1)
+                runs = [pool.submit(is_well, runs_well, program, count, how) for count in counts]
+                for count, run in zip(counts, runs):
+                    yield f"{name}, whose peer {how} after {count} octets", run.result()
+
+
+def inventory_over(program, device):
+    """Runs `inventory` over a standard output that fails, with a reader that says all."""
+    with socket.create_server(("127.0.0.1", 0)) as listener:
+        words = ["inventory", "127.0.0.1", str(listener.getsockname()[1]), "--every", "2"]
+        if device == "closed":
+            run = start(program, words, None, close_output)
+        else:
+            with open("/dev/full", "wb") as full:
+                run = start(program, words, full)
+        listener.settimeout(LONGEST)
+        peer, _ = listener.accept()
+        peer.settimeout(LONGEST)
+        peer.sendall(DOWN)
+        sent = read_to_end(peer)
+        peer.close()
+        status, _, err = end(run)
+        return (status, err) == (3, b"llrp: write\n") and UP.startswith(sent)
+
+
+def all_runs(program):
+    yield from output_runs(program)
+    for device in ("closed", "full"):
+        yield f"inventory, its output {device}", is_well(inventory_over, program, device)
+    yield from peer_runs(program)
+
+
+def main():
+    program = os.path.abspath(sys.argv[1]) if len(sys.argv) > 1 else os.path.join(TOP, "crates/llrp/out/llrp")
+    passed = failed = 0
+    for name, well in all_runs(program):
+        passed, failed = passed + well, failed + (not well)
+        if not well:
+            print(f"FAILED: {name}", flush=True)
+    print(f"{passed} passed, {failed} failed")
+    return 1 if failed else 0
+
+
+if __name__ == "__main__":
+    sys.exit(main())

@@ -1,0 +1,150 @@
+#!/usr/bin/env python3
+"""Makes single calls with each of their requests for memory refused in turn: each alone, and each with all after it.
+
+usage: tests/refuse_each.py [PROGRAM]
+
+PROGRAM is that of the crate `refusals`, crates/refusals/out/refusals where none is given. Every such run has to answer what
+the call answers with enough memory, or Memory with what the call promises to leave then; and some run of each call that takes
+memory has to answer Memory. The last line is `N passed, M failed`; the status is 1 if something failed.
+"""
+import collections
+import os
+import sys
+import tempfile
+
+from exchanges import client_rows, reader_rows
+from refusing import TESTS, TOP, build_library, each_refused, run
+from vectors import vectors
+
+# Calls that write: after Memory a front of what they write with enough memory was written.
+WRITING = ("show", "list", "serve", "inventory", "epc")
+# Calls that take no memory.
+WITHOUT_MEMORY = ("write",)
+# Machines over bytes: they answer their error again, and append nothing then.
+ENDS = ("serving", "gathering")
+
+
+def frame_rows():
+    """Returns the rows of the calls on frames, streams and listings, of the conformance vectors."""
+    rows = []
+    for it in vectors():
+        digits = it.stream.hex().upper()
+        if it.stream:
+            rows += [(it.name, call, [digits]) for call in ("feed", "show")]
+        if it.frames:
+            first = it.frames[0].hex().upper()
+            rows.append((it.name, "decode", [first]))
+            if it.is_lawful:
+                rows += [(it.name, call, [first]) for call in ("encode", "write", "clone")]
+                if "\n1 " in it.listing:
+                    rows.append((it.name, "clone-node", [first]))
+        if it.is_lawful and it.listing:
+            rows.append((it.name, "list", it.listing.splitlines()))
+    return rows
+
+
+def end_rows():
+    """Returns the rows of the two ends of a connection and of texts: a name, a call and its words, split by tabs."""
+    with open(os.path.join(TESTS, "ends.rows"), encoding="utf-8") as file:
+        lines = [line.rstrip("\n").split("\t") for line in file if line.strip() and not line.startswith("#")]
+    return [(name, call, words) for name, call, *words in lines]
+
+
+def lines_of(ended):
+    """Returns the lines that a run printed, by their first word."""
+    return dict((line + " ").split(" ", 1) for line in ended.out.decode().splitlines())
+
+
+def is_memory(call, lines):
+    """Whether the call answered Memory."""
+    answer = lines.get("answer", "").strip()
+    if call == "feed":
+        return answer.split(" ")[-1] == "Memory"
+    if call in ENDS:
+        return answer.split(" ")[-1] == "Err(Memory)"
+    return answer == ("Err(Memory)" if call in WRITING else "Memory")
+
+
+def not_a_front(ample, lines):
+    """Returns what was written or reported that is no front of what is with enough memory."""
+    for name in ("wrote", "reported"):
+        if not ample.get(name, "").startswith(lines.get(name, "").strip()):
+            return f"{name} {lines[name]} in place of {ample.get(name)}"
+    return None
+
+
+def fault_of_end(ample, lines):
+    """What is wrong with a machine that answered Memory, or None."""
+    told, wanted = lines["answer"].split(), ample["answer"].split()
+    first = told.index("Err(Memory)")
+    if told[:first] != wanted[:first] or any(it != "Err(Memory)" for it in told[first:]):
+        return f"answers {told} in place of {wanted}"
+    if lines.get("after", "").strip() != "Err(Memory) false":
+        return f"stands after Memory: {lines.get('after')}"
+    return not_a_front(ample, lines)
+
+
+def fault(call, ample, ended):
+    """What is wrong with a run, or None."""
+    lines = lines_of(ended)
+    after = lines.get("after", "").strip()
+    if ended.status != 0 or "answer" not in lines:
+        return f"status {ended.status}, {ended.err[-200:]!r}"
+    if not is_memory(call, lines):
+        return None if lines == ample else f"answers {lines} in place of {ample}"
+    if call in WRITING:
+        return not_a_front(ample, lines)
+    if call in ENDS:
+        return fault_of_end(ample, lines)
+    if call == "feed":
+        found = lines["answer"].strip().removesuffix("Memory").rstrip()
+        is_right = ample["answer"].startswith(found) and after == "held 0 Dead Some(Dead)"
+    else:
+        is_right = after in ("same", "sent 0") and lines.get("again") == ample["answer"]
+    return None if is_right else f"answers {lines}, and {ample} with enough memory"
+
+
+def run_row(library, program, call, words):
+    """Runs a row. Returns the ample run, how many runs answered Memory, the ample answer or otherwise, and what was wrong."""
+    ample_run = run(library, program, [call, *words], "0")
+    ample = lines_of(ample_run)
+    seen, wrong = collections.Counter(), []
+    if ample_run.status != 0 or is_memory(call, ample):
+        wrong.append(f"with enough memory: status {ample_run.status}, {ample_run.err[-200:]!r}")
+    if call in WITHOUT_MEMORY and ample_run.requests != 0:
+        wrong.append(f"asks for memory {ample_run.requests} times")
+    for which, ended in each_refused(library, program, [call, *words]):
+        found = fault(call, ample, ended)
+        seen["failed" if found else "memory" if is_memory(call, lines_of(ended)) else "same"] += 1
+        if found:
+            wrong.append(f"refused {which}: {found}")
+    return ample_run, seen, wrong
+
+
+def main():
+    program = sys.argv[1] if len(sys.argv) > 1 else os.path.join(TOP, "crates/refusals/out/refusals")
+    calls, total = {}, collections.Counter()
+    with tempfile.TemporaryDirectory() as folder:
+        library = build_library(folder)
+        for name, call, words in frame_rows() + reader_rows() + client_rows() + end_rows():
+            ample, seen, wrong = run_row(library, program, call, words)
+            count = calls.setdefault(call, collections.Counter())
+            count.update(seen, rows=1, requests=ample.requests or 0)
+            total["failed"] += max(seen["failed"], bool(wrong))
+            total["passed"] += seen["memory"] + seen["same"]
+            for it in wrong:
+                print(f"WRONG: {name}, {call}, {it[:400]}")
+    for call, count in calls.items():
+        if count["memory"] == 0 and call not in WITHOUT_MEMORY:
+            total["failed"] += 1
+            print(f"WRONG: {call}: no request of it was refused")
+        print(
+            f"{call}: {count['rows']} rows, {count['requests']} requests for memory; "
+            f"{count['memory']} runs answered Memory, {count['same']} as with enough memory"
+        )
+    print(f"{total['passed']} passed, {total['failed']} failed")
+    return 1 if total["failed"] else 0
+
+
+if __name__ == "__main__":
+    sys.exit(main())

@@ -1,0 +1,48 @@
+"""The rows of the tests written in Rattle, read from their source, so that each stands in one place."""
+import os
+import re
+from typing import NamedTuple
+
+from refusing import TOP
+
+SOURCES = os.path.join(TOP, "crates/llrp_tests/src")
+
+
+class Vector(NamedTuple):
+    """A stream of octets, and its listing."""
+
+    name: str
+    stream: bytes
+    listing: str
+
+    @property
+    def frames(self):
+        """The stream's frames, or none where it does not end with a frame."""
+        found, at = [], 0
+        while at + 6 <= len(self.stream):
+            length = int.from_bytes(self.stream[at + 2 : at + 6], "big")
+            if length < 10 or at + length > len(self.stream):
+                return []
+            found.append(self.stream[at : at + length])
+            at += length
+        return found if at == len(self.stream) else []
+
+    @property
+    def is_lawful(self):
+        return not any(line.startswith(("!", "?")) for line in self.listing.splitlines())
+
+
+def source(name):
+    with open(os.path.join(SOURCES, name), encoding="utf-8") as file:
+        return file.read()
+
+
+def octets_of(digits):
+    return bytes.fromhex(digits.replace(" ", ""))
+
+
+def vectors():
+    """Returns the conformance vectors."""
+    form = r'name: "([^"]*)",\s*stream: "([^"]*)",\s*listing: "((?:[^"\\]|\\.)*)"'
+    found = re.findall(form, source("vectors.rt"))
+    return [Vector(name, octets_of(stream), listing.encode().decode("unicode_escape")) for name, stream, listing in found]
