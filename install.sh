@@ -3,7 +3,7 @@
 #
 #     ./install.sh
 #     PREFIX=~/.local ./install.sh
-#     DESTDIR=/tmp/package PREFIX=/usr ./install.sh
+#     DESTDIR=package PREFIX=/usr ./install.sh
 set -eu
 top=$(cd "$(dirname "${BASH_SOURCE[0]}")" && pwd)
 to=${DESTDIR:-}${PREFIX:-/usr/local}
