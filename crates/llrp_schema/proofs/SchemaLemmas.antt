@@ -30,7 +30,7 @@ length-pointwise xs ys same = eq-eqb (length xs) (length ys) (ap length (same_te
 pub find_of_length : {X : Type 0} (names : X → List ℕ) (text : List ℕ) (some all : List X) → some ≡ filter (λ kind. length (names kind) == length text) all → find (λ kind. pointwise nat_eq (names kind) text) some ≡ find (λ kind. pointwise nat_eq (names kind) text) all
 find_of_length names text some all thinned = ap (find (λ kind. pointwise nat_eq (names kind) text)) thinned ∙ find-filter (λ kind. pointwise nat_eq (names kind) text) (λ kind. length (names kind) == length text) (λ kind. length-pointwise (names kind) text) all
 
--- what is chosen at the head of a list, or found behind it
+-- what is chosen at the head of a list, or found after it
 found_first : {X : Type 0} (P : X → Type 0) (test : Bool) (x y : X) (rest : Option X) → (test ≡ true → P x) → (rest ≡ Some y → P y) → cond test (Some x) rest ≡ Some y → P y
 found_first P true x y rest head behind found = subst P (same_Some x y found) (head refl)
 found_first P false x y rest head behind found = behind found
@@ -55,7 +55,7 @@ pub list_all-filter : {X : Type 0} (test : X → Bool) (xs : List X) → list_al
 list_all-filter test [] = refl
 list_all-filter test (x ∷ xs) = list_all-cond test (test x) x (filter test xs) (λ passes. passes) (list_all-filter test xs)
 
--- a fact that a test tells holds of each element where all pass
+-- a fact that follows from a test holds of each element where all pass
 pub All-from_list_all : {X : Type 0} (test : X → Bool) (P : X → Type 0) → ((x : X) → test x ≡ true → P x) → (xs : List X) → list_all test xs ≡ true → All P xs
 All-from_list_all test P tells xs pass = λ k d below. tells (slice_index_or xs k d) (AllPass-from_list_all test xs pass k d below)
 
@@ -68,7 +68,7 @@ pairs_all test (x ∷ xs) = list_all (test x) xs && pairs_all test xs
 not_below_zero : (place : ℕ) → place < 0 → ⊥
 not_below_zero place below = omega arith
 
--- a relation that a test tells holds of each pair where all pass
+-- a relation that follows from a test holds of each pair where all pass
 pub AllPairs-from_pairs_all : {X : Type 0} (test : X → X → Bool) (R : X → X → Type 0) → ((x y : X) → test x y ≡ true → R x y) → (xs : List X) → pairs_all test xs ≡ true → AllPairs R xs
 AllPairs-from_pairs_all test R tells [] pass = λ i j d before below. absurd (not_below_zero j below)
 AllPairs-from_pairs_all test R tells (x ∷ xs) pass = let parts = and_parts (list_all (test x) xs) (pairs_all test xs) pass in AllPairs-cons R x xs (All-from_list_all (test x) (R x) (tells x) xs parts.0) (AllPairs-from_pairs_all test R tells xs parts.1)

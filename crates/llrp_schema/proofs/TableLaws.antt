@@ -1,4 +1,4 @@
--- The laws of the tables: each is a test that the checker computes at every row, and the fact that the test tells.
+-- The laws of the tables: each is a test that the checker computes at every row, and the fact that follows from it.
 use Rattle.std.proofs.Common.{◌≡◌, ℕ, ◌<◌, ◌≤◌, ◌%◌, ◌^◌, ◌-◌, ◌↔◌, Bool, true, false, not, ◌&&◌, ◌||◌, List, [], ◌∷◌, Option, Some, None, IfSome, cond, length, filter, nat_eq, nat_lt, nat_le, ◌==◌, refl, sym, ap, ◌∙◌, eq-eqb, eqb-true}
 use Rattle.std.proofs.lemmas.Option.{same_Some, none-some}
 use Rattle.std.proofs.lemmas.Bool.{and_parts, ltb-true, leb-true}
@@ -143,7 +143,7 @@ abbrev begins_with_capital : List ℕ → Bool
 begins_with_capital [] = false
 begins_with_capital (c ∷ cs) = nat_le 65 c && nat_le c 90
 
--- what that test tells
+-- what follows from that test
 capital : (name : List ℕ) → begins_with_capital name ≡ true → (first : ℕ) × (rest : List ℕ) × (name ≡ first ∷ rest) × (65 ≤ first) × (first ≤ 90)
 capital [] test = cc test
 capital (c ∷ cs) test = let parts = and_parts (nat_le 65 c) (nat_le c 90) test in (c, cs, refl, leb-true 65 c parts.0, leb-true c 90 parts.1)
@@ -153,7 +153,7 @@ pub name_begins : (kind : Kind) → (first : ℕ) × (rest : List ℕ) × (name_
 unfolding name_of rule_of message_rule param_rule message_kinds param_kinds
 name_begins kind = capital (name_of kind) (every_rule (λ row. begins_with_capital row.name) refl refl kind)
 
--- what the test of a visible character tells
+-- what follows from the test of a visible character
 visible : (c : ℕ) → (nat_le 33 c && nat_le c 126) ≡ true → (33 ≤ c) × (c ≤ 126)
 visible c test = let parts = and_parts (nat_le 33 c) (nat_le c 126) test in (leb-true 33 c parts.0, leb-true c 126 parts.1)
 
@@ -182,7 +182,7 @@ pub few_plain_fields : (kind : Kind) → length (plain_fields_of kind) ≤ 12
 unfolding fields_of rule_of message_rule param_rule message_kinds param_kinds
 few_plain_fields kind = leb-true (length (plain_fields_of kind)) 12 (every_rule (λ row. nat_le (length (filter (λ field. not field.reserved) row.fields)) 12) refl refl kind)
 
--- a test of fields that passes at every row, and what it tells
+-- a test of fields that passes at every row, and what follows from it
 every_field : (test : FieldRule → Bool) (P : FieldRule → Type 0) → ((field : FieldRule) → test field ≡ true → P field) → ((kind : Kind) → list_all test (rule_of kind).fields ≡ true) → (kind : Kind) → All P (fields_of kind)
 unfolding fields_of
 every_field test P tells pass kind = All-from_list_all test P tells (fields_of kind) (pass kind)
@@ -220,7 +220,7 @@ is_one_plain [] = false
 is_one_plain (field ∷ []) = not field.reserved && nat_eq field.greatest (2 ^ field.width - 1)
 is_one_plain (field ∷ other ∷ more) = false
 
--- what that test tells
+-- what follows from that test
 one_plain : (fields : List FieldRule) → is_one_plain fields ≡ true → (field : FieldRule) × (fields ≡ field ∷ []) × (field.reserved ≡ false) × (field.greatest ≡ 2 ^ field.width - 1)
 one_plain [] test = cc test
 one_plain (field ∷ []) test = let parts = and_parts (not field.reserved) (nat_eq field.greatest (2 ^ field.width - 1)) test in (field, refl, not_true field.reserved parts.0, eqb-true field.greatest (2 ^ field.width - 1) parts.1)
@@ -238,7 +238,7 @@ is_absent Words = false
 is_absent Text = false
 is_absent Bits = false
 
--- what that test tells
+-- what follows from that test
 absent : (tail : Tail) → is_absent tail ≡ true → tail ≡ Absent
 absent Absent test = refl
 absent Words test = cc test
@@ -255,7 +255,7 @@ abbrev is_empty : {X : Type 0} → List X → Bool
 is_empty [] = true
 is_empty (x ∷ xs) = false
 
--- what that test tells
+-- what follows from that test
 empty : {X : Type 0} (xs : List X) → is_empty xs ≡ true → xs ≡ []
 empty [] test = refl
 empty (x ∷ xs) test = cc test
@@ -276,8 +276,8 @@ unfolding tail_of fields_of rule_of param_rule
 bits_field EpcData same = refl
 bits_field _ same = cc same
 
--- a test of groups that passes at every row, and what it tells
-every_group : (test : GroupRule → Bool) (P : GroupRule → Type 0) → ((group : GroupRule) → test group ≡ true → P group) → ((kind : Kind) → list_all test (rule_of kind).groups ≡ true) → (kind : Kind) → All P (groups_of kind)
+-- a test of groups that passes at every row, and what follows from it
+pub every_group : (test : GroupRule → Bool) (P : GroupRule → Type 0) → ((group : GroupRule) → test group ≡ true → P group) → ((kind : Kind) → list_all test (rule_of kind).groups ≡ true) → (kind : Kind) → All P (groups_of kind)
 unfolding groups_of
 every_group test P tells pass kind = All-from_list_all test P tells (groups_of kind) (pass kind)
 
@@ -286,7 +286,7 @@ abbrev is_within : ℕ → Option ℕ → Bool
 is_within least None = true
 is_within least (Some most) = nat_le least most
 
--- what that test tells
+-- what follows from that test
 within : (least : ℕ) (most : Option ℕ) → is_within least most ≡ true → IfSome most (λ most. least ≤ most)
 within least None test = tt
 within least (Some most) test = leb-true least most test
@@ -309,7 +309,7 @@ has_other_number a b = not (nat_eq (number_of (Parameter a)) (number_of (Paramet
 abbrev is_apart : GroupRule → GroupRule → Bool
 is_apart g h = list_all (λ a. list_all (has_other_number a) h.members) g.members
 
--- what that test tells
+-- what follows from that test
 apart : (g h : GroupRule) → is_apart g h ≡ true → (child : ParamKind) → Contains g.members child → Contains h.members child → ⊥
 apart g h test child left right =
     let in_left = All-from_list_all (λ a. list_all (has_other_number a) h.members) (λ a. list_all (has_other_number a) h.members ≡ true) (λ a passes. passes) g.members test in
@@ -320,7 +320,7 @@ apart g h test child left right =
     other_than_itself : (a : ParamKind) → has_other_number a a ≡ true → ⊥
     other_than_itself a test = cc (not_true (nat_eq (number_of (Parameter a)) (number_of (Parameter a))) test, eq-eqb (number_of (Parameter a)) (number_of (Parameter a)) refl)
 
--- no kind of child stands in two groups of one parent
+-- no kind of child is in two groups of one parent
 pub groups_apart : (kind : Kind) → AllPairs (λ g h. (child : ParamKind) → Contains g.members child → Contains h.members child → ⊥) (groups_of kind)
 unfolding groups_of rule_of message_rule param_rule message_kinds param_kinds number_of
 groups_apart kind = AllPairs-from_pairs_all is_apart (λ g h. (child : ParamKind) → Contains g.members child → Contains h.members child → ⊥) apart (groups_of kind) (every_rule (λ row. pairs_all is_apart row.groups) refl refl kind)

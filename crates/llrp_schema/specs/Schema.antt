@@ -3,7 +3,7 @@ use Prim.Native.String.{String}
 use Rattle.std.specs.Prelude.{ℕ, Bool, true, false, not, List, [], ◌∷◌, codes, Option, Some, None, map, filter, find, sum_by, ◌^◌, ◌-◌, ◌==◌, nat_lt, nat_eq}
 use Rattle.std.specs.Cmp.Lexicographic.{pointwise}
 use Rattle.llrp_schema.specs.declared.kinds.MsgKind.{MsgKind}
-use Rattle.llrp_schema.specs.declared.kinds.MsgKind.TheVariants.{SetReaderConfig, CloseConnectionResponse, SetReaderConfigResponse, CloseConnection, AddRoSpec, DeleteRoSpec, StartRoSpec, StopRoSpec, EnableRoSpec, DisableRoSpec, AddRoSpecResponse, DeleteRoSpecResponse, StartRoSpecResponse, StopRoSpecResponse, EnableRoSpecResponse, DisableRoSpecResponse, GetReport, RoAccessReport, Keepalive, ReaderEventNotification, EnableEventsAndReports, KeepaliveAck, ErrorMessage}
+use Rattle.llrp_schema.specs.declared.kinds.MsgKind.TheVariants.{SetReaderConfig, CloseConnectionResponse, SetReaderConfigResponse, CloseConnection, AddRoSpec, DeleteRoSpec, StartRoSpec, StopRoSpec, EnableRoSpec, DisableRoSpec, GetRoSpecs, AddRoSpecResponse, DeleteRoSpecResponse, StartRoSpecResponse, StopRoSpecResponse, EnableRoSpecResponse, DisableRoSpecResponse, GetRoSpecsResponse, GetReport, RoAccessReport, Keepalive, ReaderEventNotification, EnableEventsAndReports, KeepaliveAck, ErrorMessage}
 use Rattle.llrp_schema.specs.declared.kinds.ParamKind.{ParamKind}
 use Rattle.llrp_schema.specs.declared.kinds.ParamKind.TheVariants.{AntennaId, FirstSeenTimestampUtc, FirstSeenTimestampUptime, LastSeenTimestampUtc, LastSeenTimestampUptime, PeakRssi, ChannelIndex, TagSeenCount, RoSpecId, InventoryParameterSpecId, C1G2Crc, C1G2Pc, Epc96, SpecIndex, AccessSpecId, UtcTimestamp, Uptime, RoSpec, RoBoundarySpec, RoSpecStartTrigger, PeriodicTriggerValue, GpiTriggerValue, RoSpecStopTrigger, AiSpec, AiSpecStopTrigger, TagObservationTrigger, InventoryParameterSpec, KeepaliveSpec, AntennaConfiguration, RfReceiver, RfTransmitter, EventsAndReports, RoReportSpec, TagReportContentSelector, TagReportData, EpcData, ReaderEventNotificationSpec, EventNotificationState, ReaderEventNotificationData, GpiEvent, RoSpecEvent, ReportBufferLevelWarningEvent, ReportBufferOverflowErrorEvent, AiSpecEvent, AntennaEvent, ConnectionAttemptEvent, ConnectionCloseEvent, LlrpStatus, FieldError, ParameterError, C1G2InventoryCommand, C1G2RfControl, C1G2SingulationControl, C1G2EpcMemorySelector}
 use Rattle.llrp_schema.specs.declared.kinds.Kind.{Kind}
@@ -117,12 +117,15 @@ message_rule StartRoSpec = message 22 "START_ROSPEC" (field "ROSpecID" 32 ∷ []
 message_rule StopRoSpec = message 23 "STOP_ROSPEC" (field "ROSpecID" 32 ∷ []) []
 message_rule EnableRoSpec = message 24 "ENABLE_ROSPEC" (field "ROSpecID" 32 ∷ []) []
 message_rule DisableRoSpec = message 25 "DISABLE_ROSPEC" (field "ROSpecID" 32 ∷ []) []
+message_rule GetRoSpecs = message 26 "GET_ROSPECS" [] []
 message_rule AddRoSpecResponse = message 30 "ADD_ROSPEC_RESPONSE" [] (one LlrpStatus ∷ [])
 message_rule DeleteRoSpecResponse = message 31 "DELETE_ROSPEC_RESPONSE" [] (one LlrpStatus ∷ [])
 message_rule StartRoSpecResponse = message 32 "START_ROSPEC_RESPONSE" [] (one LlrpStatus ∷ [])
 message_rule StopRoSpecResponse = message 33 "STOP_ROSPEC_RESPONSE" [] (one LlrpStatus ∷ [])
 message_rule EnableRoSpecResponse = message 34 "ENABLE_ROSPEC_RESPONSE" [] (one LlrpStatus ∷ [])
 message_rule DisableRoSpecResponse = message 35 "DISABLE_ROSPEC_RESPONSE" [] (one LlrpStatus ∷ [])
+message_rule GetRoSpecsResponse = message 36 "GET_ROSPECS_RESPONSE" []
+    (one LlrpStatus ∷ any_number RoSpec ∷ [])
 message_rule GetReport = message 60 "GET_REPORT" [] []
 message_rule RoAccessReport = message 61 "RO_ACCESS_REPORT" [] (any_number TagReportData ∷ [])
 message_rule Keepalive = message 62 "KEEPALIVE" [] []
@@ -278,9 +281,9 @@ is_tv kind = nat_lt (number_of (Parameter kind)) 128
 unfoldable pub message_kinds : List MsgKind
 message_kinds =
     SetReaderConfig ∷ CloseConnectionResponse ∷ SetReaderConfigResponse ∷ CloseConnection ∷
-    AddRoSpec ∷ DeleteRoSpec ∷ StartRoSpec ∷ StopRoSpec ∷ EnableRoSpec ∷ DisableRoSpec ∷
+    AddRoSpec ∷ DeleteRoSpec ∷ StartRoSpec ∷ StopRoSpec ∷ EnableRoSpec ∷ DisableRoSpec ∷ GetRoSpecs ∷
     AddRoSpecResponse ∷ DeleteRoSpecResponse ∷ StartRoSpecResponse ∷ StopRoSpecResponse ∷
-    EnableRoSpecResponse ∷ DisableRoSpecResponse ∷ GetReport ∷ RoAccessReport ∷ Keepalive ∷
+    EnableRoSpecResponse ∷ DisableRoSpecResponse ∷ GetRoSpecsResponse ∷ GetReport ∷ RoAccessReport ∷ Keepalive ∷
     ReaderEventNotification ∷ EnableEventsAndReports ∷ KeepaliveAck ∷ ErrorMessage ∷ []
 
 -- every kind of parameter

@@ -15,12 +15,14 @@ pub enum MsgKind {
     StopRoSpec,
     EnableRoSpec,
     DisableRoSpec,
+    GetRoSpecs,
     AddRoSpecResponse,
     DeleteRoSpecResponse,
     StartRoSpecResponse,
     StopRoSpecResponse,
     EnableRoSpecResponse,
     DisableRoSpecResponse,
+    GetRoSpecsResponse,
     GetReport,
     RoAccessReport,
     Keepalive,
@@ -121,9 +123,9 @@ impl From<ParamKind> for Kind {
 pub enum Tail {
     /// Nothing.
     Absent,
-    /// A count of 16 bits, and so many words of 16 bits.
+    /// A count of 16 bits, and this many words of 16 bits.
     Words,
-    /// A count of 16 bits, and so many octets of UTF-8.
+    /// A count of 16 bits, and this many octets of UTF-8.
     Text,
     /// The bits that the last field counts, filled up to whole octets.
     Bits,
@@ -151,6 +153,23 @@ pub struct Group {
     pub least: u32,
     /// The most, where there is a bound.
     pub most: Option<u32>,
+}
+
+/// The place of a child among the groups of its parent.
+#[derive(Clone, Copy, Debug, PartialEq, Eq)]
+pub struct Place {
+    /// The index, from 0 on, of the group that the child is counted in.
+    pub index: u8,
+    /// Whether that group takes one child at most. If not, it takes any number.
+    pub once: bool,
+}
+
+/// The name of a kind, followed by spaces, in a text that can be copied whole.
+#[derive(Clone, Copy, Debug)]
+pub struct Label {
+    pub text: [u8; 32],
+    /// How many octets of the text are the name.
+    pub octets: u8,
 }
 
 /// A row of the tables: all that they say of a kind.

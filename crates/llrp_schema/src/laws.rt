@@ -1,6 +1,6 @@
 //! Laws of the tables, over every kind.
 
-ghost use Rattle.std.specs.Prelude.{◌≡◌, ◌↔◌, ◌≤◌, ◌<◌, ◌%◌, ◌^◌, ◌-◌, ℕ, List, [], ◌∷◌, true, false, length, IfSome, All, AllPairs, Contains};
+ghost use Rattle.std.specs.Prelude.{◌≡◌, ◌↔◌, ◌⊎◌, ◌≤◌, ◌<◌, ◌%◌, ◌^◌, ◌-◌, ℕ, List, [], ◌∷◌, true, false, length, None, Some, IfSome, All, AllPairs, Contains};
 ghost use Rattle.llrp_schema.specs.declared.kinds.MsgKind.{MsgKind};
 ghost use Rattle.llrp_schema.specs.declared.kinds.ParamKind.{ParamKind};
 ghost use Rattle.llrp_schema.specs.declared.kinds.Kind.{Kind};
@@ -12,7 +12,8 @@ ghost use Rattle.llrp_schema.specs.Schema.{FieldRule, number_of, name_of, fields
 #[tactic(auto, using(crate::proofs::TableLaws::message_numbers, crate::proofs::TableLaws::param_numbers))]
 pub fn numbers_are_distinct()
     ensures message { (a b : MsgKind) → number_of (Message a) ≡ number_of (Message b) → a ≡ b }
-    ensures parameter { (a b : ParamKind) → number_of (Parameter a) ≡ number_of (Parameter b) → a ≡ b }
+    ensures parameter { (a b : ParamKind) → number_of (Parameter a)
+        ≡ number_of (Parameter b) → a ≡ b }
 {}
 
 /// No two kinds have one name.
@@ -55,7 +56,8 @@ pub fn numbers_fit_headers()
 #[tactic(auto, using(crate::proofs::TableLaws::name_begins, crate::proofs::TableLaws::name_visible, crate::proofs::TableLaws::name_short))]
 pub fn names_are_words()
     ensures begins { (kind : Kind) →
-        (first : ℕ) × (rest : List ℕ) × (name_of kind ≡ first ∷ rest) × (65 ≤ first) × (first ≤ 90) }
+        (first : ℕ) × (rest : List ℕ) × (name_of kind ≡ first ∷ rest) × (65 ≤ first)
+        × (first ≤ 90) }
     ensures visible { (kind : Kind) → All (λ c. (33 ≤ c) × (c ≤ 126)) (name_of kind) }
     ensures short { (kind : Kind) → length (name_of kind) ≤ 32 }
 {}
@@ -72,9 +74,12 @@ pub fn fields_fill_octets()
 /// signed field is plain and has 8 bits, all of whose values are lawful.
 #[tactic(auto, using(crate::proofs::TableLaws::field_widths, crate::proofs::TableLaws::field_values, crate::proofs::TableLaws::reserved_fields, crate::proofs::TableLaws::signed_fields))]
 pub fn fields_are_sound()
-    ensures width { (kind : Kind) → All (λ field. (1 ≤ field.width) × (field.width ≤ 96)) (fields_of kind) }
-    ensures value { (kind : Kind) → All (λ field. field.greatest < 2 ^ field.width) (fields_of kind) }
-    ensures reserved { (kind : Kind) → All (λ field. field.reserved ≡ true → field.greatest ≡ 0) (fields_of kind) }
+    ensures width { (kind : Kind) → All (λ field. (1 ≤ field.width)
+        × (field.width ≤ 96)) (fields_of kind) }
+    ensures value { (kind : Kind) → All (λ field. field.greatest
+        < 2 ^ field.width) (fields_of kind) }
+    ensures reserved { (kind : Kind) → All (λ field. field.reserved ≡ true
+        → field.greatest ≡ 0) (fields_of kind) }
     ensures signed { (kind : Kind) →
         All
         (λ field. field.signed ≡ true →
@@ -101,7 +106,7 @@ pub fn tails_are_of_parameters()
         fields_of (Parameter kind) ≡ field "BitCount" 16 ∷ [] }
 {}
 
-/// A group has members, and its least number is at most its greatest. No kind stands in two groups of
+/// A group has members, and its least number is at most its greatest. No kind is in two groups of
 /// one parent.
 #[tactic(auto, using(crate::proofs::TableLaws::group_members, crate::proofs::TableLaws::group_bounds))]
 pub fn groups_are_sound()
@@ -112,4 +117,14 @@ pub fn groups_are_sound()
         AllPairs
         (λ g h. (child : ParamKind) → Contains g.members child → Contains h.members child → ⊥)
         (groups_of kind) }
+{}
+
+/// A group needs no child or one, and takes one at most or any number. A kind has 15 groups at most, so
+/// that a bit for each fits 32 bits.
+#[tactic(auto, using(crate::proofs::PlaceLemmas::needs_one_at_most, crate::proofs::PlaceLemmas::takes_one_or_any, crate::proofs::PlaceLemmas::few_groups))]
+pub fn groups_are_narrow()
+    ensures least { (kind : Kind) → All (λ group. group.least ≤ 1) (groups_of kind) }
+    ensures most { (kind : Kind) →
+        All (λ group. (group.most ≡ None) ⊎ (group.most ≡ Some 1)) (groups_of kind) }
+    ensures few { (kind : Kind) → length (groups_of kind) ≤ 15 }
 {}

@@ -1,19 +1,33 @@
 //! The messages and parameters of this profile of LLRP 1.1: each kind's number, name, fields, tail
 //! and groups of children, one row a kind.
+//!
+//! Use it where code has to know what LLRP's tables say, and nowhere write them again: all other crates are generic over it. A
+//! [`Kind`] is a message's [`MsgKind`] or a parameter's [`ParamKind`]; [`fields`], [`tail`] and [`groups`] give its row, and
+//! [`param_of_tlv`] and the like find a kind by its number.
+//!
+//! ```
+//! let kind = Kind::Parameter(ParamKind::AntennaId);
+//! let width = fields(kind)[0].width;        // 16 bits
+//! let found = param_named(b"AntennaID");    // Some(ParamKind::AntennaId)
+//! ```
 #![tactic(auto)]
 
 mod kinds;
+mod labels;
 pub mod laws;
 mod messages;
 mod named;
 mod numbered;
 mod parameters;
+mod places;
 mod rows;
 mod tables;
 mod tlv;
 mod tv;
 
-pub use kinds::{Field, Group, Kind, MsgKind, ParamKind, Tail};
+pub use kinds::{Field, Group, Kind, Label, MsgKind, ParamKind, Place, Tail};
+pub use labels::label;
 pub use named::{msg_named, param_named};
 pub use numbered::{is_tv, msg_of, param_of_tlv, param_of_tv};
+pub use places::{place, required};
 pub use tables::{fields, groups, name, number, tail};

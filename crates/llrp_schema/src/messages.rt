@@ -92,6 +92,14 @@ static DISABLE_RO_SPEC: Definition = Definition {
     groups: &[],
 };
 
+static GET_RO_SPECS: Definition = Definition {
+    number: 26,
+    name: "GET_ROSPECS",
+    fields: &[],
+    tail: Tail::Absent,
+    groups: &[],
+};
+
 static ADD_RO_SPEC_RESPONSE: Definition = Definition {
     number: 30,
     name: "ADD_ROSPEC_RESPONSE",
@@ -138,6 +146,14 @@ static DISABLE_RO_SPEC_RESPONSE: Definition = Definition {
     fields: &[],
     tail: Tail::Absent,
     groups: &[one!(LlrpStatus)],
+};
+
+static GET_RO_SPECS_RESPONSE: Definition = Definition {
+    number: 36,
+    name: "GET_ROSPECS_RESPONSE",
+    fields: &[],
+    tail: Tail::Absent,
+    groups: &[one!(LlrpStatus), any_number!(RoSpec)],
 };
 
 static GET_REPORT: Definition = Definition {
@@ -212,12 +228,14 @@ pub fn message(kind: MsgKind) -> &'static Definition
         MsgKind::StopRoSpec => &STOP_RO_SPEC,
         MsgKind::EnableRoSpec => &ENABLE_RO_SPEC,
         MsgKind::DisableRoSpec => &DISABLE_RO_SPEC,
+        MsgKind::GetRoSpecs => &GET_RO_SPECS,
         MsgKind::AddRoSpecResponse => &ADD_RO_SPEC_RESPONSE,
         MsgKind::DeleteRoSpecResponse => &DELETE_RO_SPEC_RESPONSE,
         MsgKind::StartRoSpecResponse => &START_RO_SPEC_RESPONSE,
         MsgKind::StopRoSpecResponse => &STOP_RO_SPEC_RESPONSE,
         MsgKind::EnableRoSpecResponse => &ENABLE_RO_SPEC_RESPONSE,
         MsgKind::DisableRoSpecResponse => &DISABLE_RO_SPEC_RESPONSE,
+        MsgKind::GetRoSpecsResponse => &GET_RO_SPECS_RESPONSE,
         MsgKind::GetReport => &GET_REPORT,
         MsgKind::RoAccessReport => &RO_ACCESS_REPORT,
         MsgKind::Keepalive => &KEEPALIVE,

@@ -1,55 +1,75 @@
 //! Kinds by their names. A name's length leaves six kinds at most, whose names are compared.
 
-ghost use Rattle.std.specs.Prelude.{◌≡◌, ◌==◌, length, filter, find, nat_eq};
+ghost use Rattle.std.specs.Prelude.{◌≡◌, ◌≤◌, ◌==◌, length, filter, find, nat_eq, nat_le, take};
 ghost use Rattle.std.specs.Cmp.Lexicographic.{pointwise};
 ghost use Rattle.llrp_schema.specs.Schema.{name_of, message_kinds, param_kinds, message_with_name, param_with_name};
 
 use crate::kinds::{Kind, MsgKind, ParamKind};
-use crate::tables::name;
+use crate::labels::label;
 
-/// The message with a name, if the profile has one.
-pub fn msg_named(text: &str) -> Option<MsgKind>
-    ensures { result ≡ message_with_name text.now }
+/// The message with a name, in octets, if the profile has one.
+pub fn msg_named(name: &[u8]) -> Option<MsgKind>
+    ensures { result ≡ message_with_name name.now }
 {
-    first_message(messages_of_length(text.len()), text)
+    first_message(messages_of_length(name.len()), name)
 }
 
-/// The parameter with a name, if the profile has one.
-pub fn param_named(text: &str) -> Option<ParamKind>
-    ensures { result ≡ param_with_name text.now }
+/// The parameter with a name, in octets, if the profile has one.
+pub fn param_named(name: &[u8]) -> Option<ParamKind>
+    ensures { result ≡ param_with_name name.now }
 {
-    first_parameter(parameters_of_length(text.len()), text)
+    first_parameter(parameters_of_length(name.len()), name)
+}
+
+/// Whether this many octets of a text are the name.
+fn is_front(text: &[u8; 32], octets: u8, name: &[u8]) -> bool
+    requires { octets ≤ 32 }
+    ensures { result ≡ pointwise nat_eq (take octets text.now) name.now }
+{
+    let (front, _) = text.as_slice().split_at(octets as usize);
+    front == name
+}
+
+/// Whether a kind has this name.
+fn has_name(kind: Kind, name: &[u8]) -> bool
+    ensures { result ≡ pointwise nat_eq (name_of kind) name.now }
+{
+    let label = label(kind);
+    is_front(&label.text, label.octets, name)
 }
 
 /// The first of some messages that has the name.
-fn first_message(kinds: &[MsgKind], text: &str) -> Option<MsgKind>
-    ensures { result ≡ find (λ kind. pointwise nat_eq (name_of (Kind.Message kind)) text.now) kinds.now }
+fn first_message(kinds: &[MsgKind], name: &[u8]) -> Option<MsgKind>
+    ensures { result ≡ find (λ kind. pointwise nat_eq (name_of (Kind.Message kind))
+        name.now) kinds.now }
 {
     kinds
         .iter()
         .copied()
-        .find(|kind| name(Kind::Message(*kind)) == text)
+        .find(|kind| has_name(Kind::Message(*kind), name))
 }
 
 /// The first of some parameters that has the name.
-fn first_parameter(kinds: &[ParamKind], text: &str) -> Option<ParamKind>
-    ensures { result ≡ find (λ kind. pointwise nat_eq (name_of (Kind.Parameter kind)) text.now) kinds.now }
+fn first_parameter(kinds: &[ParamKind], name: &[u8]) -> Option<ParamKind>
+    ensures { result ≡ find (λ kind. pointwise nat_eq (name_of (Kind.Parameter kind))
+        name.now) kinds.now }
 {
     kinds
         .iter()
         .copied()
-        .find(|kind| name(Kind::Parameter(*kind)) == text)
+        .find(|kind| has_name(Kind::Parameter(*kind), name))
 }
 
-/// The messages whose names have so many bytes.
+/// The messages whose names have this many bytes.
 #[tactic(auto, unfolding(crate::specs::Schema::message_kinds, crate::specs::Schema::name_of, crate::specs::Schema::rule_of, crate::specs::Schema::message_rule))]
 fn messages_of_length(octets: usize) -> &'static [MsgKind]
-    ensures { result.now ≡ filter (λ kind. length (name_of (Kind.Message kind)) == octets) message_kinds }
+    ensures { result.now ≡ filter (λ kind. length (name_of (Kind.Message kind)) == octets)
+        message_kinds }
 {
     match octets {
         9 => &[MsgKind::Keepalive],
         10 => &[MsgKind::AddRoSpec, MsgKind::GetReport],
-        11 => &[MsgKind::StopRoSpec],
+        11 => &[MsgKind::StopRoSpec, MsgKind::GetRoSpecs],
         12 => &[MsgKind::StartRoSpec],
         13 => &[
             MsgKind::DeleteRoSpec,
@@ -61,7 +81,7 @@ fn messages_of_length(octets: usize) -> &'static [MsgKind]
         16 => &[MsgKind::CloseConnection, MsgKind::RoAccessReport],
         17 => &[MsgKind::SetReaderConfig],
         19 => &[MsgKind::AddRoSpecResponse],
-        20 => &[MsgKind::StopRoSpecResponse],
+        20 => &[MsgKind::StopRoSpecResponse, MsgKind::GetRoSpecsResponse],
         21 => &[MsgKind::StartRoSpecResponse],
         22 => &[MsgKind::DeleteRoSpecResponse, MsgKind::EnableRoSpecResponse],
         23 => &[MsgKind::DisableRoSpecResponse],
@@ -75,10 +95,11 @@ fn messages_of_length(octets: usize) -> &'static [MsgKind]
     }
 }
 
-/// The parameters whose names have so many bytes.
+/// The parameters whose names have this many bytes.
 #[tactic(auto, unfolding(crate::specs::Schema::param_kinds, crate::specs::Schema::name_of, crate::specs::Schema::rule_of, crate::specs::Schema::param_rule))]
 fn parameters_of_length(octets: usize) -> &'static [ParamKind]
-    ensures { result.now ≡ filter (λ kind. length (name_of (Kind.Parameter kind)) == octets) param_kinds }
+    ensures { result.now ≡ filter (λ kind. length (name_of (Kind.Parameter kind)) == octets)
+        param_kinds }
 {
     match octets {
         6 => &[
@@ -115,6 +136,17 @@ fn parameters_of_length(octets: usize) -> &'static [ParamKind]
             ParamKind::TagReportData,
             ParamKind::C1G2RfControl,
         ],
+        _ => longer_parameters(octets),
+    }
+}
+
+/// The same of the parameters whose names have more than 13 bytes.
+#[tactic(auto, unfolding(crate::specs::Schema::param_kinds, crate::specs::Schema::name_of, crate::specs::Schema::rule_of, crate::specs::Schema::param_rule))]
+fn longer_parameters(octets: usize) -> &'static [ParamKind]
+    ensures { result.now ≡ filter (λ kind. length (name_of (Kind.Parameter kind)) == octets)
+        (filter (λ kind. nat_le 14 (length (name_of (Kind.Parameter kind)))) param_kinds) }
+{
+    match octets {
         14 => &[ParamKind::RoBoundarySpec, ParamKind::ParameterError],
         15 => &[ParamKind::GpiTriggerValue],
         16 => &[ParamKind::EventsAndReports],

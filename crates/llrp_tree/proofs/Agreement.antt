@@ -71,7 +71,7 @@ shrinks (b ∷ outer) rest n s e = shrinks_at b.head b.stop b.fields b.tail b.ch
 
 -- ---- the first part
 
--- the first w digits of x, and those behind them
+-- the first w digits of x, and those after them
 same_number : (w m n : ℕ) (x y : List Bool) → m < 2 ^ w → n < 2 ^ w → digits w m ++ x ≡ digits w n ++ y → (m ≡ n) × (x ≡ y)
 same_number w m n x y lm ln e = (
   sym (number_own w m x lm) ∙ ap (λ (z : List Bool). value (take w z)) e ∙ number_own w n y ln,
@@ -177,7 +177,7 @@ unfolding next next_fault parts
 has_part [] r e = absurd e
 has_part (b ∷ outer) r e = (parts outer + (length b.fields + tail_parts b.tail + whole_parts b.children), omega arith)
 
-not_both : (t u : List Begun) (r s : List Bool) → IsOpenTree t → IsOpenTree u → covers t ++ r ≡ covers u ++ s → IsEnd (next t r) → parts t < parts u → ⊥
+pub not_both : (t u : List Begun) (r s : List Bool) → IsOpenTree t → IsOpenTree u → covers t ++ r ≡ covers u ++ s → IsEnd (next t r) → parts t < parts u → ⊥
 not_both t u r s st su e end lt =
     let n = has_part t r end in
     let k : ℕ = parts u - parts t - 1 in

@@ -22,7 +22,7 @@ use Rattle.llrp_tree.specs.Spelling.{Head, message, tlv, tv, spread}
 use Rattle.llrp_tree.specs.Frame.{Frame}
 use Rattle.llrp_tree.specs.OpenTree.{Begun, kind_of, groups, due, Rest, as_read, is_enough, IsHead, IsOpenTree}
 use Rattle.llrp_tree.specs.FirstFault.{number, first_failing, checks, Close, is_over, header_checks}
-use Rattle.llrp_tree.specs.Standing.{Stands, Closes, begun, leading, FailsFirst, Tells, IsFirst, Begins, HeaderSays, is_tv_kind}
+use Rattle.llrp_tree.specs.Standing.{Stands, Closes, begun, leading, Tells, IsFirst, Begins, HeaderSays, is_tv_kind}
 use Rattle.llrp_tree.proofs.TreeLemmas.{forest-push}
 use Rattle.llrp_tree.proofs.Steps.{closed, with_child}
 use Rattle.llrp_tree.proofs.Leading.{plain, length-spread, drop_all}
@@ -64,7 +64,7 @@ pub child_lawful : (ds : List Bool) (h : Head) (stop : ℕ) (fs : List ℕ) (tl 
 unfolding IsOpenTree
 child_lawful ds h stop fs tl before outer at k ws os cs st = (st.is_open.0.lawful.1, st.is_open.0.lawful.2)
 
--- the node that is pushed behind its siblings is that child
+-- the node that is pushed after its siblings is that child
 pub child_pushed : (ds : List Bool) (p : Begun) (outer : List Begun) (olds news : List Tree) (n : Tree) (at : ℕ) (k : ParamKind) (ws os : List ℕ) (cs : Forest)
     → p.children ≡ forest olds → n ≡ record { kind = k; fields = ws; tail = os; children = cs } → news ≡ olds ++ n ∷ []
     → Stands ds (begun p.head p.stop p.fields p.tail (and p.children k ws os cs) ∷ outer) at → Stands ds (begun p.head p.stop p.fields p.tail (forest news) ∷ outer) at
@@ -112,7 +112,7 @@ module _ (ds : List Bool) (h : Head) (stop : ℕ) (kind : Kind) (ws os : List �
   closes_here enough =
       record { stands = st; ready = rest_due h stop kind ws os (forest children) e; over = over; enough = ap (λ (j : Kind). is_enough (groups_of j) (forest children)) e ∙ sym (enough_is (groups_of kind) children) ∙ enough }
 
--- ---- a child that ends behind its field
+-- ---- a child that ends after its field
 
 no_tail : (k : ParamKind) → is_tv k ≡ true → as_read (tail_of (Parameter k)) [] ≡ None
 no_tail k short = ap (λ (f : Tail). as_read f []) (tv_tail k short)
@@ -128,12 +128,8 @@ tv_stands ds p outer at hb stop k ws os cs no_octets no_child e short l st =
 
 -- ---- the frame
 
-pub header_tells : (bytes : List ℕ) (limit : ℕ) (e : FrameErr) → FailsFirst (header_checks limit (digits_of_bytes bytes)) e → IsFirst bytes limit e
-header_tells bytes limit Memory f = tt
-header_tells bytes limit (Bad x) f = inl f
-
 module _ (bytes : List ℕ) (limit v : ℕ) (k : MsgKind) (n id : ℕ) (s : HeaderSays limit (digits_of_bytes bytes) v k n id) (own : number (digits_of_bytes bytes) 16 32 ≡ length bytes) (ten : 10 ≤ length bytes) where
-  is_length : n ≡ length bytes
+  pub is_length : n ≡ length bytes
   is_length = s.octets_is ∙ own
 
   pub frame_stands : Stands (digits_of_bytes bytes) (leading (message v k n id) (8 * length bytes) [] ∷ []) (8 * 10)
@@ -145,7 +141,7 @@ module _ (bytes : List ℕ) (limit v : ℕ) (k : MsgKind) (n id : ℕ) (s : Head
   pub frame_begins : Begins bytes (Message k) 0 10 (length bytes)
   frame_begins = record { head = message v k n id; outer = []; of_kind = refl; at_level = refl; stands = frame_stands }
 
-  within_limit : n ≤ limit
+  pub within_limit : n ≤ limit
   within_limit = (let a = leb-true (number (digits_of_bytes bytes) 16 32) limit (all_hold (header_checks limit (digits_of_bytes bytes)) s.passes).1.1.1.0 in omega (arith, s.octets_is))
 
   pub body_tells : (e : FrameErr) → Tells (digits_of_bytes bytes) e → IsFirst bytes limit e

@@ -27,7 +27,7 @@ one_more : (p : Begun) (outer : List Begun) (k : ParamKind) (ws os : List ℕ) (
 unfolding covers part
 one_more p outer k ws os cs = simp length-append (omega (arith, length-spell p.children, length-spell (and p.children k ws os cs)))
 
--- a child goes from its head's first bit to where its parent stands behind it
+-- a child goes from its head's first bit to where its parent goes on after it
 pub child_octets : (ds : List Bool) (p : Begun) (outer : List Begun) (from at : ℕ) (hb : Head) (stop : ℕ) (k : ParamKind) (ws os : List ℕ) (cs : Forest) → kind_of hb ≡ Parameter k
     → Stands ds (leading hb stop [] ∷ p ∷ outer) from → Stands ds (begun p.head p.stop p.fields p.tail (and p.children k ws os cs) ∷ outer) at
     → from + 8 * tree_octets (record { kind = k; fields = ws; tail = os; children = cs }) ≡ at + 8 * head_octets k

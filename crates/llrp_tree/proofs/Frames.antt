@@ -131,7 +131,7 @@ no_prefix limit bytes more m k f g =
     let same = one_end (whole m ∷ []) (whole k ∷ []) x [] a.is_open b.is_open (ap (λ (y : List Bool). y ++ x) a.covered ∙ sym (bytes-append bytes more) ∙ sym b.covered ∙ sym (append-nil (covers (whole k ∷ [])))) (subst IsEnd (sym a.ends) tt) (subst IsEnd (sym b.ends) tt) in
     (sym (message_back m m f.lawful) ∙ ap (message_in m) same.0 ∙ message_back m k g.lawful, no_bytes more same.1)
 
-fails_next : (t : List Begun) (r : List Bool) (bit : ℕ) (reason : Reason) → next_fault t r ≡ Some (bit, reason) → next t r ≡ Fails bit reason
+pub fails_next : (t : List Begun) (r : List Bool) (bit : ℕ) (reason : Reason) → next_fault t r ≡ Some (bit, reason) → next t r ≡ Fails bit reason
 unfolding next
 fails_next t r bit reason e = rw e refl
 

@@ -38,7 +38,7 @@ inner_before (message v t n id) stop p outer f = absurd f
 inner_before (tlv k n) stop p outer f = f.within
 inner_before (tv k) stop p outer f = omega (arith, f.stops)
 
--- no node stops behind the message
+-- no node stops after the message
 pub stops_within : (b : Begun) (outer : List Begun) → IsOpenTree (b ∷ outer) → b.stop ≤ end_of (b ∷ outer)
 unfolding IsOpenTree end_of
 stops_within b [] s = omega arith
@@ -68,7 +68,7 @@ module _ (h : Head) (stop : ℕ) (vs : List ℕ) (outer : List Begun) (ds : List
 
 -- ---- a tail
 
--- what a tail's count tells has the tail's form
+-- what a tail's count covers has the tail's form
 pub tail_is : (form : Tail) (fields : List ℕ) (xs : List Bool) → has_tail form ≡ true → 8 * (count_octets form + tail_length form fields xs) ≤ length xs → (form ≡ Text → is_utf8 (tail_at form fields xs) ≡ true) → IsTail form fields (tail_at form fields xs)
 tail_is Absent fields xs e le u = absurd cc
 tail_is Words fields xs e le u = (number xs 0 16, (let a = value_at 0 16 xs (omega arith) in omega arith), length-octets_at (2 * number xs 0 16) (drop 16 xs))

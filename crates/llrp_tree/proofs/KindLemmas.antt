@@ -32,14 +32,14 @@ pub found_by_number : (kinds : List ParamKind) (kind : ParamKind) → list_any (
 found_by_number [] kind = refl
 found_by_number (k ∷ kinds) kind = rw (same_by_number k kind, found_by_number kinds kind) refl
 
--- from one place of a list on, where it is told whether the kind stands there
+-- from one place of a list on, where it is known whether the kind is there
 pub found_here : (kinds : List ParamKind) (i : ℕ) (kind other : ParamKind) (here : Bool) → i < length kinds → here ≡ sameb the_type (get_or kinds i other) kind
     → list_any (λ k. sameb the_type k kind) (drop i kinds) ≡ (here || list_any (λ k. sameb the_type k kind) (drop (i + 1) kinds))
 found_here kinds i kind other here room e =
     ap (λ (ks : List ParamKind). list_any (λ k. sameb the_type k kind) ks) (drop_more kinds i other room)
     ∙ ap (λ (b : Bool). b || list_any (λ k. sameb the_type k kind) (drop (i + 1) kinds)) (sym e)
 
--- behind the last place
+-- after the last place
 pub found_nowhere : (kinds : List ParamKind) (i : ℕ) (kind : ParamKind) → length kinds ≤ i → list_any (λ k. sameb the_type k kind) (drop i kinds) ≡ false
 found_nowhere kinds i kind past = ap (λ (ks : List ParamKind). list_any (λ k. sameb the_type k kind) ks) (drop_all i kinds past)
 

@@ -164,7 +164,7 @@ pub closing_passes : (b : Begun) (level at : ℕ) (ds : List Bool) → is_enough
 unfolding checks
 closing_passes b level at ds e = rw e refl
 
--- a parameter of so many octets
+-- a parameter of this many octets
 abbrev pub size : ParamKind → List ℕ → Forest → ℕ
 size k tail cs = head_octets k + body_octets (Parameter k) tail + octets cs
 

@@ -14,11 +14,11 @@ take_own w n rest = take-seam w (digits w n) rest (length-digits w n)
 pub drop_own : (w n : ℕ) (rest : List Bool) → drop w (digits w n ++ rest) ≡ rest
 drop_own w n rest = drop-seam w (digits w n) rest (length-digits w n)
 
--- the number that stands first
+-- the first number
 pub number_own : (w n : ℕ) (rest : List Bool) → n < 2 ^ w → value (take w (digits w n ++ rest)) ≡ n
 number_own w n rest lt = ap value (take_own w n rest) ∙ value-digits w n lt
 
--- a number behind others
+-- a number after others
 pub number_behind : (v m place w : ℕ) (rest : List Bool) → number (digits v m ++ rest) (v + place) w ≡ number rest place w
 number_behind v m place w rest =
     ap (λ (x : List Bool). value (take w x)) (sym (drop-drop place v (digits v m ++ rest))) ∙ ap (λ (x : List Bool). value (take w (drop place x))) (drop_own v m rest)

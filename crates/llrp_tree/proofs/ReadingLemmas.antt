@@ -55,7 +55,7 @@ enough_is (g ∷ gs) ts = rw (counted g ts, enough_is gs ts) refl
 
 -- ---- fields
 
--- what a field's check tells
+-- what follows from a field's check
 pub tells : (ds : List Bool) (b : Begun) (outer : List Begun) (at : ℕ) (tn : Turn) (e : FrameErr) → Stands ds (b ∷ outer) at → turn b at (drop at ds) ≡ tn
     → FailsFirst (checks tn (length (b ∷ outer)) b at (drop at ds)) e → Tells ds e
 tells ds b outer at tn Memory st t f = tt

@@ -12,9 +12,8 @@ use Rattle.tag_bits.proofs.ByteLemmas.{bytes-nil, bytes-cons, bytes-append, leng
 use Rattle.llrp_schema.specs.declared.kinds.ParamKind.{ParamKind}
 use Rattle.llrp_schema.specs.declared.kinds.MsgKind.{MsgKind}
 use Rattle.llrp_schema.specs.declared.kinds.Kind.TheVariants.{Message, Parameter}
-use Rattle.llrp_schema.specs.declared.kinds.Tail.{Tail}
 use Rattle.llrp_schema.specs.Schema.{fields_of, tail_of}
-use Rattle.llrp_schema.proofs.TableLaws.{message_tail, every_message, every_parameter, whole_octets}
+use Rattle.llrp_schema.proofs.TableLaws.{every_message, every_parameter, whole_octets}
 use Rattle.std.proofs.lemmas.Bool.{leb-true}
 use Rattle.std.proofs.lemmas.List.{take_rest}
 use Rattle.std.specs.Prelude.{nat_le, if◌then◌else◌, true, ◌/◌, ◌%◌}
@@ -25,7 +24,7 @@ use Rattle.llrp_tree.specs.declared.TheConstants.{LEVELS, MAX_DEPTH}
 use Rattle.llrp_tree.specs.Tree.{Forest, none, and, Tree, MessageTree, add, add_all, forest, trees}
 use Rattle.llrp_tree.specs.Lawful.{octets, head_octets, count_octets, levels, AreOctets, AllLawful, tree_octets, message_octets}
 use Rattle.llrp_tree.specs.Spelling.{message, spread, field_digits, count_digits, body_digits, head_of, head_digits, spell, tree_digits, message_digits}
-use Rattle.llrp_tree.specs.Spelled.{octets_in, spelled, leading_digits, unfinished, following, AreDeep, Moves}
+use Rattle.llrp_tree.specs.Spelled.{octets_in, spelled, leading_digits, message_start, parameter_start, unfinished, following, AreDeep, Moves}
 use Rattle.llrp_tree.specs.Writing.{Appends}
 use Rattle.llrp_tree.proofs.OctetLemmas.{octets-append}
 use Rattle.llrp_tree.proofs.TreeLemmas.{forest-trees}
@@ -56,10 +55,6 @@ pub octets_are : (n : ℕ) (ds : List Bool) → AreOctets (octets_in n ds)
 octets_are zero ds = tt
 octets_are (suc n) ds = (few_digits (take 8 ds) (omega (arith, length-take 8 ds)), octets_are n (drop 8 ds))
 
-pub octets_count : (n : ℕ) (ds : List Bool) → length (octets_in n ds) ≡ n
-octets_count zero ds = refl
-octets_count (suc n) ds = omega (arith, octets_count n (drop 8 ds))
-
 -- octets are what they spell
 pub same_octets : (xs ys : List ℕ) → AreOctets xs → AreOctets ys → digits_of_bytes xs ≡ digits_of_bytes ys → xs ≡ ys
 same_octets [] [] h g e = refl
@@ -82,10 +77,6 @@ spelled_digits f = octets_spell (octets f) (spell f) (length-spell f)
 pub spelled_are : (f : Forest) → AreOctets (spelled f)
 unfolding spelled
 spelled_are f = octets_are (octets f) (spell f)
-
-pub spelled_count : (f : Forest) → length (spelled f) ≡ octets f
-unfolding spelled
-spelled_count f = octets_count (octets f) (spell f)
 
 pub spelled_none : spelled none ≡ []
 unfolding spelled
@@ -118,7 +109,7 @@ tree_parts : (t : Tree) → tree_digits t ≡ head_digits (head_of t.kind (tree_
 unfolding body_digits
 tree_parts t = refl
 
--- The first parameter of a row: what stands before its tail, its tail, its children; then the others.
+-- The first parameter of a row: what comes before its tail, its tail, its children; then the others.
 pub first_node : (t : Tree) (ts : List Tree) (start : List ℕ) → AreOctets start → AreOctets t.tail
     → digits_of_bytes start ≡ head_digits (head_of t.kind (tree_octets t)) ++ leading_digits (Parameter t.kind) t.fields t.tail
     → spelled (forest (t ∷ ts)) ≡ start ++ (t.tail ++ (spelled t.children ++ spelled (forest ts)))
@@ -207,7 +198,7 @@ short_message kind = leb-true (bits_of (fields_of (Message kind))) 48 (every_mes
 head_bounds : (kind : ParamKind) → (1 ≤ head_octets kind) × (head_octets kind ≤ 4)
 head_bounds kind = elim (is_tv kind) as (λ b. (1 ≤ (if b then 1 else 4)) × ((if b then 1 else 4) ≤ 4)) [ true ↦ (omega arith, omega arith) | false ↦ (omega arith, omega arith) ]
 
--- how many bits stand before the tail of a parameter
+-- how many bits come before the tail of a parameter
 pub record StartBits (h l w b c : ℕ) : Type 0 where
   pub few : l ≤ 120
   pub small : h + l ≤ 128
@@ -228,27 +219,12 @@ start_bits kind h b c l w eh eb ec el ew =
       some = omega (arith, eh, ew, hb.0);
     }
 
--- the digits of a parameter's start, part by part
-pub parameter_start : (t : Tree) (k : ParamKind) (n hb hn : ℕ) (k2 : ParamKind) (fields : List ℕ) (fb fn : ℕ) (form : Tail) (tail : List ℕ) (cb cn lb ln wb wn : ℕ)
-    → k ≡ t.kind → n ≡ tree_octets t → k2 ≡ t.kind → fields ≡ t.fields → form ≡ tail_of (Parameter t.kind) → tail ≡ t.tail
-    → digits hb hn ≡ head_digits (head_of k n) → digits fb fn ≡ field_digits (fields_of (Parameter k2)) (spread (fields_of (Parameter k2)) fields) → digits cb cn ≡ count_digits form tail
-    → digits lb ln ≡ digits fb fn ++ digits cb cn → digits wb wn ≡ digits hb hn ++ digits lb ln
-    → digits wb wn ≡ head_digits (head_of t.kind (tree_octets t)) ++ leading_digits (Parameter t.kind) t.fields t.tail
-parameter_start t k n hb hn k2 fields fb fn form tail cb cn lb ln wb wn ek en ek2 ef eo et h f c l w =
-    w ∙ rw (l, h, f, c) (rw (ek, en, ek2, ef, eo, et) refl)
+-- the same parts have the same digits
+pub same_parameter : (k l : ParamKind) (m n : ℕ) (fs gs ts us : List ℕ) → k ≡ l → m ≡ n → fs ≡ gs → ts ≡ us → parameter_start k m fs ts ≡ parameter_start l n gs us
+same_parameter k l m n fs gs ts us ek en ef et = rw (ek, en, ef, et) refl
 
-no_count : (kind : MsgKind) → count_digits (tail_of (Message kind)) [] ≡ []
-no_count kind = ap (λ (f : Tail). count_digits f []) (message_tail kind)
-
-pub message_start : (m : MessageTree) (v : ℕ) (k : MsgKind) (n id : ℕ) (k2 : MsgKind) (fields : List ℕ) (hn fb fn wb wn : ℕ)
-    → v ≡ m.version → k ≡ m.kind → n ≡ message_octets m → id ≡ m.id → k2 ≡ m.kind → fields ≡ m.fields
-    → digits 80 hn ≡ head_digits (message v k n id) → digits fb fn ≡ field_digits (fields_of (Message k2)) (spread (fields_of (Message k2)) fields)
-    → digits wb wn ≡ digits 80 hn ++ digits fb fn
-    → digits wb wn ≡ head_digits (message m.version m.kind (message_octets m) m.id) ++ leading_digits (Message m.kind) m.fields []
-message_start m v k n id k2 fields hn fb fn wb wn ev ek en ei ek2 ef h f w =
-    let f2 : List Bool = field_digits (fields_of (Message m.kind)) (spread (fields_of (Message m.kind)) m.fields) in
-    let plain : head_digits (message v k n id) ++ field_digits (fields_of (Message k2)) (spread (fields_of (Message k2)) fields) ≡ head_digits (message m.version m.kind (message_octets m) m.id) ++ f2 = rw (ev, ek, en, ei, ek2, ef) refl in
-    w ∙ rw (h, f) plain ∙ ap (λ (d : List Bool). head_digits (message m.version m.kind (message_octets m) m.id) ++ d) (sym (append-nil f2) ∙ ap (λ (d : List Bool). f2 ++ d) (sym (no_count m.kind)))
+pub same_message : (v w : ℕ) (k l : MsgKind) (m n i j : ℕ) (fs gs : List ℕ) → v ≡ w → k ≡ l → m ≡ n → i ≡ j → fs ≡ gs → message_start v k m i fs ≡ message_start w l n j gs
+same_message v w k l m n i j fs gs ev ek en ei ef = rw (ev, ek, en, ei, ef) refl
 
 pub four_parts : (h o i : List Bool) → h ++ (o ++ i) ≡ (h ++ o) ++ i
 four_parts h o i = sym (append_assoc h o i)

@@ -1,4 +1,4 @@
--- Checks, one after another, where a reader stands.
+-- Checks, one after another, at a reader's place.
 use Rattle.std.proofs.Common.{◌≡◌, ℕ, ◌≤◌, Bool, true, false, List, [], ◌∷◌, ◌++◌, length, drop, Option, Some, None, refl, sym, ap, subst, ◌∙◌}
 use Rattle.std.specs.Prelude.{if◌then◌else◌}
 use Rattle.std.specs.Str.{is_utf8}
@@ -47,7 +47,7 @@ pub kind_checked : (found : Option ParamKind) (gs : List GroupRule) (cs : Forest
 kind_checked None gs cs level at type_at more p = absurd (let e : false ≡ true = p.0 in cc)
 kind_checked (Some kind) gs cs level at type_at more p = record { kind = kind; is = refl; has = p.0; takes = p.1.0; deep = leb-true level MAX_DEPTH p.1.1.0; others = p.1.1.1 }
 
--- a check that fails where a reader stands is the fault of the digits
+-- a check that fails at a reader's place is the fault of the digits
 pub fault_is : (ds : List Bool) (b : Begun) (outer : List Begun) (at : ℕ) (tn : Turn) (bit : ℕ) (reason : Reason) → Stands ds (b ∷ outer) at → turn b at (drop at ds) ≡ tn
     → first_failing (checks tn (length (b ∷ outer)) b at (drop at ds)) ≡ Some (bit, reason) → HasFault ds bit reason
 unfolding next_fault

@@ -42,7 +42,7 @@ pub none_fails : (ts : List (Bool × NodeFault)) → AllPass ts → first_failed
 none_fails [] h = refl
 none_fails (t ∷ ts) h = ap (λ (b : Bool). if b then first_failed ts else Some t.1) h.0 ∙ none_fails ts h.1
 
--- what a parameter's tests tell, as the program makes them
+-- what follows from a parameter's tests, as the program makes them
 module _ (kind : ParamKind) (values tail : List ℕ) (nodes : List Tree) where
   abbrev table : List (Bool × NodeFault)
   table = table_tests (Parameter kind) true values tail nodes
@@ -69,7 +69,7 @@ module _ (kind : ParamKind) (values tail : List ℕ) (nodes : List Tree) where
   pub no_fault : None ≡ first_failed table → levels (forest nodes) < MAX_DEPTH → whole ≤ MAX_OCTETS → None ≡ first_fault kind values tail (forest nodes)
   no_fault e lt le = behind_table None e (rw (le-leb (levels (forest nodes) + 1) MAX_DEPTH (omega arith), le-leb whole MAX_OCTETS le) refl)
 
--- what a message's tests tell
+-- what follows from a message's tests
 module _ (version : ℕ) (kind : MsgKind) (values : List ℕ) (nodes : List Tree) (known : Bool) (is : known ≡ ((version == 1) || (version == 2))) where
   abbrev message_table : List (Bool × NodeFault)
   message_table = table_tests (Message kind) known values [] nodes

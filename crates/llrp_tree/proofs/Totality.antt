@@ -1,4 +1,4 @@
--- Where a reader stands there is a fault further on, or the frame is a message's.
+-- From a reader's place on there is a fault, or the frame is a message's.
 use Rattle.std.proofs.Common.{◌≡◌, ℕ, zero, suc, ◌+◌, ◌-◌, ◌*◌, ◌≤◌, ◌<◌, ◌⊎◌, inl, inr, Bool, true, false, List, [], ◌∷◌, ◌++◌, length, drop, Option, Some, None, refl, sym, ap, subst, ◌∙◌, arith, length-append}
 use Rattle.std.specs.Prelude.{nat_le, is_some, unwrap_or}
 use Rattle.std.proofs.lemmas.Bool.{leb-true, leb-false, eqb-true}
@@ -110,21 +110,21 @@ child_closes ds h stop fs tl before vs tail cs outer at (tv k) stop_b c = close_
 
 -- ---- what is due
 
-as_leading : (b : Begun) → b.tail ≡ None → b.children ≡ none → b ≡ leading b.head b.stop b.fields
+pub as_leading : (b : Begun) → b.tail ≡ None → b.children ≡ none → b ≡ leading b.head b.stop b.fields
 as_leading b e f = λ i. record { head = b.head; stop = b.stop; fields = b.fields; tail = e i; children = f i }
 
-no_field_in : (form : Tail) (tail : Option (List ℕ)) (r : FieldRule) → tail_due form tail ≡ AField r → ⊥
+pub no_field_in : (form : Tail) (tail : Option (List ℕ)) (r : FieldRule) → tail_due form tail ≡ AField r → ⊥
 no_field_in Absent None r e = cc
 no_field_in Words None r e = cc
 no_field_in Text None r e = cc
 no_field_in Bits None r e = cc
 no_field_in form (Some os) r e = cc
 
-field_first : (rules : List FieldRule) (after : Due) (r : FieldRule) → field_due rules after ≡ AField r → (after ≡ AField r → ⊥) → (more : List FieldRule) × (rules ≡ r ∷ more)
+pub field_first : (rules : List FieldRule) (after : Due) (r : FieldRule) → field_due rules after ≡ AField r → (after ≡ AField r → ⊥) → (more : List FieldRule) × (rules ≡ r ∷ more)
 field_first [] after r e none_due = absurd (none_due e)
 field_first (q ∷ rules) after r e none_due = (rules, cc)
 
-tail_first : (rules : List FieldRule) (form : Tail) (tail : Option (List ℕ)) → field_due rules (tail_due form tail) ≡ ATail → (rules ≡ []) × (has_tail form ≡ true) × (tail ≡ None)
+pub tail_first : (rules : List FieldRule) (form : Tail) (tail : Option (List ℕ)) → field_due rules (tail_due form tail) ≡ ATail → (rules ≡ []) × (has_tail form ≡ true) × (tail ≡ None)
 tail_first (r ∷ rules) form tail e = absurd cc
 tail_first [] Absent None e = absurd cc
 tail_first [] Words None e = (refl, refl, refl)

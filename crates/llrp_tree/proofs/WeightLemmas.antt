@@ -18,7 +18,7 @@ some_bits [] r e t = absurd cc
 some_bits (q ∷ rules) r e t = let a = sum_by-cons (λ (x : FieldRule). x.width) q rules in omega (arith, a, t.0)
 
 -- a parameter's own octets are more than two and its tail
-own_octets : (k : ParamKind) (tail : List ℕ) → 2 + length tail ≤ head_octets k + body_octets (Parameter k) tail
+pub own_octets : (k : ParamKind) (tail : List ℕ) → 2 + length tail ≤ head_octets k + body_octets (Parameter k) tail
 unfolding body_octets
 own_octets k tail =
     (elim (is_tv k) as (λ b. is_tv k ≡ b → 2 + length tail ≤ head_octets k + body_octets (Parameter k) tail) [
@@ -33,7 +33,7 @@ own_octets k tail =
           omega arith
     ]) refl
 
-weight_within : (f : Forest) → weight f ≤ octets f
+pub weight_within : (f : Forest) → weight f ≤ octets f
 weight_within none = omega arith
 weight_within (and before k vs tail cs) = omega (arith, weight_within before, weight_within cs, own_octets k tail)
 

@@ -1,4 +1,4 @@
--- The tests that a parameter or a message meets, in their order, each with the fault that is told where it fails.
+-- The tests that a parameter or a message meets, in their order, each with the fault that is reported where it fails.
 use Rattle.std.specs.Prelude.{ℕ, ◌+◌, ◌/◌, ◌%◌, ◌==◌, List, [], ◌∷◌, ◌++◌, length, Bool, true, false, not, ◌&&◌, ◌||◌, if◌then◌else◌, nat_le, Option, None, Some, count_by, filter}
 use Rattle.std.specs.List.{list_all}
 use Rattle.std.specs.Str.{is_utf8}
@@ -50,6 +50,10 @@ none_missing gs ts = list_all (λ g. nat_le g.least (members g ts)) gs
 abbrev pub first_failed : List (Bool × NodeFault) → Option NodeFault
 first_failed [] = None
 first_failed (t ∷ ts) = if t.0 then first_failed ts else Some t.1
+
+-- the tests of a node's own values and tail, the first of which a message's version may fail besides
+abbrev pub own_tests : Kind → List ℕ → List ℕ → List (Bool × NodeFault)
+own_tests kind values tail = (values_fit (fields_of kind) values, Value) ∷ (tail_fits (tail_of kind) values tail, BadTail) ∷ []
 
 -- the tests by the table of a kind
 unfoldable pub table_tests : Kind → Bool → List ℕ → List ℕ → List Tree → List (Bool × NodeFault)

@@ -15,9 +15,9 @@ use Rattle.llrp_tree.specs.Lawful.{first, count_octets, has_place}
 use Rattle.llrp_tree.specs.Spelling.{Head, message, tlv, tv}
 use Rattle.llrp_tree.specs.OpenTree.{Begun, rules, form, groups, covers, Due, AField, ATail, Rest, due, in_range, plain_values, takes_more, is_enough, IsOpenTree}
 
--- ---- what stands in the digits from a bit on
+-- ---- what is in the digits from a bit on
 
--- the number of `width` digits behind the first `place`
+-- the number of `width` digits after the first `place`
 abbrev pub number : List Bool → ℕ → ℕ → ℕ
 number rest place width = value (field rest place width)
 
@@ -26,7 +26,7 @@ unfoldable pub octets_at : ℕ → List Bool → List ℕ
 octets_at zero rest = []
 octets_at (suc n) rest = value (take 8 rest) ∷ octets_at n (drop 8 rest)
 
--- the octets of a tail behind its count, by that count, or by the field of the bits that a tail of bits has
+-- the octets of a tail after its count, by that count, or by the field of the bits that a tail of bits has
 abbrev pub tail_length : Tail → List ℕ → List Bool → ℕ
 tail_length Absent fields rest = 0
 tail_length Words fields rest = 2 * number rest 0 16
@@ -52,7 +52,7 @@ first_digit (d ∷ ds) = d
 
 -- ---- checks
 
--- A test, and the bit and the reason that are told where it fails.
+-- A test, and the bit and the reason of the fault where it fails.
 pub record Check : Type 0 where
   pub holds : Bool
   pub bit : ℕ
@@ -71,11 +71,11 @@ field_checks r at stop rest =
     check (nat_le (at + r.width) stop) at Short
     ∷ check (in_range r (number rest 0 r.width)) at (if r.reserved then Reserved else Value) ∷ []
 
--- the bit behind a tail
+-- the bit after a tail
 abbrev pub tail_end : Tail → List ℕ → ℕ → List Bool → ℕ
 tail_end form fields at rest = at + 8 * (count_octets form + tail_length form fields rest)
 
--- a tail: its count and what it counts end before the node's stop or there, and text is UTF-8 (the fault is told at the first octet from which no well-formed sequence begins)
+-- a tail: its count and what it counts end before the node's stop or there, and text is UTF-8 (the fault is at the first octet from which no well-formed sequence begins)
 abbrev pub tail_checks : Tail → List ℕ → (at stop : ℕ) → List Bool → List Check
 tail_checks Absent fields at stop rest = []
 tail_checks Words fields at stop rest =
@@ -119,7 +119,7 @@ pub data Turn : Type 0 where
   BeginTv : Turn
   BeginTlv : Turn
 
--- a parameter with type and value has no length, and ends behind its field
+-- a parameter with type and value has no length, and ends after its field
 abbrev pub is_over : Head → Bool → Bool
 is_over (message version kind octets id) at_stop = at_stop
 is_over (tlv kind octets) at_stop = at_stop
@@ -147,7 +147,7 @@ checks NoChild level b at rest = check false at Extra ∷ []
 checks BeginTv level b at rest = tv_checks (groups b) b.children level at rest
 checks BeginTlv level b at rest = tlv_checks (groups b) b.children level at b.stop rest
 
--- the first check that fails of those that are made next in the innermost node of an open tree, with the digits behind it
+-- the first check that fails of those that are made next in the innermost node of an open tree, with the digits after it
 unfoldable pub next_fault : List Begun → List Bool → Option (ℕ × Reason)
 next_fault [] rest = None
 next_fault (b ∷ outer) rest =
@@ -173,6 +173,6 @@ pub record BodyFault (ds : List Bool) (limit bit : ℕ) (reason : Reason) : Type
   pub covered : covers tree ++ rest ≡ ds
   pub fails : next_fault tree rest ≡ Some (bit, reason)
 
--- the bytes of a frame have this first fault, in the header or behind it
+-- the bytes of a frame have this first fault, in the header or after it
 abbrev pub FirstFault : List ℕ → (limit bit : ℕ) → Reason → Type 0
 FirstFault bytes limit bit reason = (first_failing (header_checks limit (digits_of_bytes bytes)) ≡ Some (bit, reason)) ⊎ BodyFault (digits_of_bytes bytes) limit bit reason

@@ -1,13 +1,13 @@
 -- Lawful parameters and messages.
-use Rattle.std.specs.Prelude.{◌≡◌, ℕ, ◌+◌, ◌*◌, ◌/◌, ◌^◌, ◌<◌, ◌≤◌, ◌⊎◌, max, List, [], ◌∷◌, length, Bool, true, if◌then◌else◌, ◌==◌, Option, None, Some}
-use Rattle.std.specs.List.{list_any}
+use Rattle.std.specs.Prelude.{◌≡◌, ℕ, ◌+◌, ◌*◌, ◌/◌, ◌^◌, ◌<◌, ◌≤◌, ◌⊎◌, max, List, [], ◌∷◌, length, true, if◌then◌else◌, Option, None, Some}
 use Rattle.std.specs.Str.{IsUtf8}
 use Rattle.llrp_schema.specs.declared.kinds.ParamKind.{ParamKind}
 use Rattle.llrp_schema.specs.declared.kinds.Kind.{Kind}
 use Rattle.llrp_schema.specs.declared.kinds.Kind.TheVariants.{Message, Parameter}
 use Rattle.llrp_schema.specs.declared.kinds.Tail.{Tail}
 use Rattle.llrp_schema.specs.declared.kinds.Tail.TheVariants.{Absent, Words, Text, Bits}
-use Rattle.llrp_schema.specs.Schema.{FieldRule, GroupRule, fields_of, plain_fields_of, bits_of, groups_of, tail_of, number_of, is_tv}
+use Rattle.llrp_schema.specs.Schema.{FieldRule, GroupRule, fields_of, plain_fields_of, bits_of, groups_of, tail_of, is_tv}
+pub use Rattle.llrp_schema.specs.Places.{is_member, has_place}
 use Rattle.llrp_tree.specs.declared.TheConstants.{MAX_DEPTH, MAX_LIMIT, MAX_OCTETS}
 use Rattle.llrp_tree.specs.Tree.{Forest, none, and, Tree, MessageTree}
 
@@ -18,7 +18,7 @@ abbrev pub levels : Forest → ℕ
 levels none = 0
 levels (and before kind fields tail children) = max (levels before) (levels children + 1)
 
--- the octets of the count that stands before a tail
+-- the octets of the count before a tail
 abbrev pub count_octets : Tail → ℕ
 count_octets Absent = 0
 count_octets Words = 2
@@ -31,6 +31,11 @@ body_octets kind tail = bits_of (fields_of kind) / 8 + count_octets (tail_of kin
 
 abbrev pub head_octets : ParamKind → ℕ
 head_octets kind = if is_tv kind then 1 else 4
+
+-- the octets of a node without its children
+abbrev pub own_octets : Kind → List ℕ → ℕ
+own_octets (Message kind) tail = 10 + body_octets (Message kind) []
+own_octets (Parameter kind) tail = head_octets kind + body_octets (Parameter kind) tail
 
 -- how many octets parameters take
 abbrev pub octets : Forest → ℕ
@@ -57,7 +62,7 @@ abbrev pub AreOctets : List ℕ → Type 0
 AreOctets [] = Unit {0}
 AreOctets (o ∷ os) = (o < 256) × AreOctets os
 
--- the first of some values, and those behind it
+-- the first of some values, and those after it
 abbrev pub first : List ℕ → ℕ
 first [] = 0
 first (v ∷ values) = v
@@ -73,18 +78,10 @@ IsTail Words fields tail = (words : ℕ) × (words ≤ 65535) × (length tail �
 IsTail Text fields tail = (length tail ≤ 65535) × IsUtf8 tail
 IsTail Bits fields tail = length tail ≡ (first fields + 7) / 8
 
--- the kind is one of the group's
-abbrev pub is_member : GroupRule → ParamKind → Bool
-is_member group kind = list_any (λ m. number_of (Parameter m) == number_of (Parameter kind)) group.members
-
 -- how many parameters of a row are of a group
 unfoldable pub count : GroupRule → Forest → ℕ
 count group none = 0
 count group (and before kind fields tail children) = if is_member group kind then count group before + 1 else count group before
-
--- a group has the kind
-abbrev pub has_place : List GroupRule → ParamKind → Bool
-has_place groups kind = list_any (λ g. is_member g kind) groups
 
 -- each parameter is of a kind that a group has
 unfoldable pub ArePlaced : List GroupRule → Forest → Type 0

@@ -127,7 +127,7 @@ pub record IsHeader (version octets id stop : ℕ) : Type 0 where
   pub id_fits : id < 2 ^ 32
   pub stops : stop ≡ 8 * octets
 
--- The head of a parameter with type, length and value behind what is covered. It stops as many octets behind its first bit as its length says, and not behind its parent.
+-- The head of a parameter with type, length and value after what is covered. It stops as many octets after its first bit as its length says, and not after its parent.
 pub record IsTlvHead (kind : ParamKind) (octets stop : ℕ) (parent : Begun) (outer : List Begun) : Type 0 where
   pub kind_is_tlv : is_tv kind ≡ false
   pub least : 4 ≤ octets
@@ -144,7 +144,7 @@ pub record IsTvHead (kind : ParamKind) (stop : ℕ) (parent : Begun) (outer : Li
   pub deep : length (parent ∷ outer) ≤ MAX_DEPTH
   pub may_begin : MayBegin parent kind
 
--- a message stands outermost, a parameter in another node
+-- a message is outermost, a parameter in another node
 abbrev pub IsHead : Head → ℕ → List Begun → Type 0
 IsHead (message version kind octets id) stop [] = IsHeader version octets id stop
 IsHead (message version kind octets id) stop (p ∷ outer) = ⊥
@@ -153,7 +153,7 @@ IsHead (tlv kind octets) stop (p ∷ outer) = IsTlvHead kind octets stop p outer
 IsHead (tv kind) stop [] = ⊥
 IsHead (tv kind) stop (p ∷ outer) = IsTvHead kind stop p outer
 
--- A begun node inside others: all its parts pass, a tail is read behind all fields and children behind the tail, and what is covered ends before the stop or there.
+-- A begun node inside others: all its parts pass, a tail is read after all fields and children after the tail, and what is covered ends before the stop or there.
 pub record IsOpenNode (b : Begun) (outer : List Begun) : Type 0 where
   pub head : IsHead b.head b.stop outer
   pub fields : AreLeading (rules b) b.fields

@@ -1,10 +1,12 @@
 -- The octets that messages and parameters spell, and those that are still to be written of a message.
-use Rattle.std.specs.Prelude.{◌≡◌, ℕ, zero, suc, ◌+◌, ◌<◌, ◌≤◌, List, [], ◌∷◌, ◌++◌, length, take, drop, Bool}
+use Rattle.std.specs.Prelude.{◌≡◌, ℕ, zero, suc, ◌+◌, ◌-◌, ◌^◌, ◌<◌, ◌≤◌, List, [], ◌∷◌, ◌++◌, length, take, drop, Bool, true, false}
 use Rattle.std.specs.Borrow.{Bor}
 use Rattle.tag_bits.specs.Digits.{value}
 use Rattle.llrp_schema.specs.declared.kinds.Kind.{Kind}
+use Rattle.llrp_schema.specs.declared.kinds.MsgKind.{MsgKind}
+use Rattle.llrp_schema.specs.declared.kinds.ParamKind.{ParamKind}
 use Rattle.llrp_schema.specs.declared.kinds.Kind.TheVariants.{Message, Parameter}
-use Rattle.llrp_schema.specs.Schema.{FieldRule, fields_of, tail_of}
+use Rattle.llrp_schema.specs.Schema.{FieldRule, fields_of, is_tv, tail_of}
 use Rattle.llrp_tree.specs.declared.TheConstants.{MAX_DEPTH}
 use Rattle.llrp_tree.specs.declared.starts.Start.{Start}
 use Rattle.llrp_tree.specs.declared.writing.Begun.{Begun}
@@ -30,13 +32,28 @@ all_fields rules values = field_digits rules (spread rules values)
 abbrev pub leading_digits : Kind → List ℕ → List ℕ → List Bool
 leading_digits kind fields tail = all_fields (fields_of kind) fields ++ count_digits (tail_of kind) tail
 
--- what stands before the tail of a parameter
-abbrev pub parameter_start : Tree → List Bool
-parameter_start t = head_digits (head_of t.kind (tree_octets t)) ++ leading_digits (Parameter t.kind) t.fields t.tail
+-- what comes before the tail of a parameter of this many octets
+abbrev pub parameter_start : ParamKind → ℕ → List ℕ → List ℕ → List Bool
+parameter_start kind count fields tail = head_digits (head_of kind count) ++ leading_digits (Parameter kind) fields tail
 
--- what stands before the parameters of a message
-abbrev pub message_start : MessageTree → List Bool
-message_start m = head_digits (message m.version m.kind (message_octets m) m.id) ++ leading_digits (Message m.kind) m.fields []
+-- what comes before the parameters of a message of this many octets
+abbrev pub message_start : ℕ → MsgKind → ℕ → ℕ → List ℕ → List Bool
+message_start version kind count id fields = head_digits (message version kind count id) ++ leading_digits (Message kind) fields []
+
+-- what comes before the tail of a parameter
+abbrev pub start_digits : Tree → List Bool
+start_digits t = parameter_start t.kind (tree_octets t) t.fields t.tail
+
+-- what comes before the parameters of a message
+abbrev pub message_start_digits : MessageTree → List Bool
+message_start_digits m = message_start m.version m.kind (message_octets m) m.id m.fields
+
+-- The parameter has type and value alone, and this is the rule of its one field.
+pub record IsOnlyField (kind : ParamKind) (rule : FieldRule) : Type 0 where
+  pub tv : is_tv kind ≡ true
+  pub fields : fields_of (Parameter kind) ≡ rule ∷ []
+  pub plain : rule.reserved ≡ false
+  pub greatest : rule.greatest ≡ 2 ^ rule.width - 1
 
 -- These octets have the digits.
 abbrev pub Holds : Start → List Bool → Type 0

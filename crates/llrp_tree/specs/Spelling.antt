@@ -11,7 +11,7 @@ use Rattle.llrp_schema.specs.Schema.{FieldRule, fields_of, tail_of, number_of, i
 use Rattle.llrp_tree.specs.Tree.{Forest, none, and, Tree, MessageTree}
 use Rattle.llrp_tree.specs.Lawful.{head_octets, body_octets, octets, message_octets, first, others}
 
--- The start of a node: of a message, of a TLV of so many octets, of a TV.
+-- The start of a node: of a message, of a TLV of this many octets, of a TV.
 pub data Head : Type 0 where
   message : (version : ℕ) (kind : MsgKind) (octets : ℕ) (id : ℕ) → Head
   tlv : (kind : ParamKind) (octets : ℕ) → Head
@@ -22,7 +22,7 @@ head_digits (message version kind octets id) = digits 3 0 ++ digits 3 version ++
 head_digits (tlv kind octets) = digits 6 0 ++ digits 10 (number_of (Parameter kind)) ++ digits 16 octets
 head_digits (tv kind) = digits 1 1 ++ digits 7 (number_of (Parameter kind))
 
--- the head of a parameter of so many octets
+-- the head of a parameter of this many octets
 abbrev pub head_of : ParamKind → ℕ → Head
 head_of kind octets = if is_tv kind then tv kind else tlv kind octets
 
@@ -37,7 +37,7 @@ field_digits rules [] = []
 field_digits [] (v ∷ values) = []
 field_digits (r ∷ rules) (v ∷ values) = digits r.width v ++ field_digits rules values
 
--- a tail of words or of text stands behind its count
+-- a tail of words or of text follows its count
 abbrev pub count_digits : Tail → List ℕ → List Bool
 count_digits Absent tail = []
 count_digits Words tail = digits 16 (length tail / 2)

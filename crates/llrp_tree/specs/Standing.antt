@@ -1,4 +1,4 @@
--- Where a reader stands in the digits of a frame, and what the functions that read it promise.
+-- The place of a reader in the digits of a frame, and what the functions that read it promise.
 use Rattle.std.specs.Prelude.{◌≡◌, ℕ, ◌+◌, ◌*◌, ◌≤◌, Bool, true, false, nat_le, List, [], ◌∷◌, length, take, drop, Option, Some, None}
 use Rattle.std.specs.Str.{is_utf8}
 use Rattle.tag_bits.specs.Digits.{digits_of_bytes}
@@ -62,22 +62,22 @@ pub record HeaderSays (limit : ℕ) (ds : List Bool) (version : ℕ) (kind : Msg
   pub octets_is : octets ≡ number ds 16 32
   pub id_is : id ≡ number ds 48 32
 
--- the error tells the first of the checks to fail
+-- the error is the first of the checks to fail
 abbrev pub FailsFirst : List Check → FrameErr → Type 0
 FailsFirst checks Memory = ⊥
 FailsFirst checks (Bad fault) = first_failing checks ≡ Some (fault.bit, fault.reason)
 
--- the error tells the fault of the digits, or that memory ran out
+-- the error is the fault of the digits, or says that memory ran out
 abbrev pub Tells : List Bool → FrameErr → Type 0
 Tells ds Memory = Unit {0}
 Tells ds (Bad fault) = HasFault ds fault.bit fault.reason
 
--- the error tells the first fault of a frame, or that memory ran out
+-- the error is the first fault of a frame, or says that memory ran out
 abbrev pub IsFirst : List ℕ → ℕ → FrameErr → Type 0
 IsFirst bytes limit Memory = Unit {0}
 IsFirst bytes limit (Bad fault) = FirstFault bytes limit fault.bit fault.reason
 
--- A node of the kind begins at the octet, so many levels below the message.
+-- A node of the kind begins at the octet, this many levels below the message.
 pub record Begins (bytes : List ℕ) (kind : Kind) (level from stop : ℕ) : Type 0 where
   pub head : Head
   pub outer : List Begun
@@ -85,7 +85,7 @@ pub record Begins (bytes : List ℕ) (kind : Kind) (level from stop : ℕ) : Typ
   pub at_level : length outer ≡ level
   pub stands : Stands (digits_of_bytes bytes) (leading head (8 * stop) [] ∷ outer) (8 * from)
 
--- A child of the kind begins at the octet behind these siblings, so many levels below the message.
+-- A child of the kind begins at the octet after these siblings, this many levels below the message.
 pub record BeginsBehind (bytes : List ℕ) (kind : ParamKind) (siblings : Forest) (level from stop : ℕ) : Type 0 where
   pub head : Head
   pub parent : Begun
@@ -111,7 +111,7 @@ pub record TlvPasses (groups : List GroupRule) (children : Forest) (level at sto
   pub least : 4 ≤ octets
   pub most : at + 8 * octets ≤ stop
 
--- whether a node ends behind its field
+-- whether a node ends after its field
 abbrev pub is_tv_kind : Kind → Bool
 is_tv_kind (Message kind) = false
 is_tv_kind (Parameter kind) = is_tv kind

@@ -1,16 +1,16 @@
-//! The tests of a parameter's and a message's parts, one by one.
+//! The tests of a parameter's and a message's parts, in their order. Those of its own fields and tail are in `parts`.
 
-ghost use Rattle.std.specs.Prelude.{◌≡◌, ◌≤◌, ◌<◌, ◌+◌, ◌*◌, ◌^◌, ◌==◌, ◌||◌, length, map, List, [], ◌∷◌, None, true};
-ghost use Rattle.std.specs.Str.{is_utf8};
-ghost use Rattle.llrp_schema.specs.Schema.{field_rule, group_rule, fields_of, groups_of, tail_of, bits_of};
+ghost use Rattle.std.specs.Prelude.{◌≡◌, ◌≤◌, ◌+◌, ◌*◌, ◌==◌, ◌||◌, length, map, []};
+ghost use Rattle.llrp_schema.specs.Schema.{field_rule, group_rule};
 ghost use Rattle.llrp_schema.specs.declared.kinds.Kind.TheVariants.{Message, Parameter};
 ghost use Rattle.llrp_tree.specs.Tree.{forest};
 ghost use Rattle.llrp_tree.specs.Lawful as law;
 ghost use Rattle.llrp_tree.specs.Checks as checks;
 
+use crate::parts::{tail_fits, values_fit};
 use crate::{MAX_DEPTH, MAX_LIMIT, MAX_OCTETS, Node, NodeFault};
 use arrayvec::ArrayVec;
-use llrp_schema::{Field, Group, Kind, MsgKind, ParamKind, Tail};
+use llrp_schema::{Field, Group, Kind, MsgKind, ParamKind};
 
 /// The fields, in place.
 pub(crate) fn kept(fields: &[u128]) -> ArrayVec<u128, 12>
@@ -49,38 +49,6 @@ pub(crate) fn extent_of(nodes: &[Node]) -> Extent
     Extent { octets, levels }
 }
 
-fn field_bits(rules: &[Field]) -> u128
-    ensures value { result ≡ bits_of (map field_rule rules.now) }
-    ensures bound { result ≤ 4294967295 * length rules.now }
-{
-    let mut bits: u128 = 0;
-    for rule in rules {
-        bits += rule.width as u128;
-    }
-    bits
-}
-
-/// The octets of the fields and the tail of a kind.
-#[tactic(auto, unfolding(crate::specs::Lawful::body_octets))]
-pub(crate) fn body_octets(kind: Kind, tail: &[u8]) -> u128
-    ensures value { result ≡ law.body_octets kind tail.now }
-    ensures bound { result < 2 ^ 100 }
-{
-    let count: u128 = match llrp_schema::tail(kind) {
-        Tail::Words | Tail::Text => 2,
-        Tail::Absent | Tail::Bits => 0,
-    };
-    field_bits(llrp_schema::fields(kind)) / 8 + count + tail.len() as u128
-}
-
-/// The octets of a parameter's head.
-pub(crate) fn head_octets(kind: ParamKind) -> u128
-    ensures value { result ≡ law.head_octets kind }
-    ensures few { result ≤ 4 }
-{
-    if llrp_schema::is_tv(kind) { 1 } else { 4 }
-}
-
 fn count_fits(rules: &[Field], values: &[u128]) -> bool
     ensures { result ≡ checks.count_fits (map field_rule rules.now) values.now }
 {
@@ -91,47 +59,6 @@ fn count_fits(rules: &[Field], values: &[u128]) -> bool
         }
     }
     values.len() == count
-}
-
-fn values_fit(rules: &[Field], values: &[u128]) -> bool
-    ensures { result ≡ checks.values_fit (map field_rule rules.now) values.now }
-{
-    match rules {
-        [] => true,
-        [rule, rules @ ..] => {
-            if rule.reserved {
-                return values_fit(rules, values);
-            }
-            match values {
-                [] => false,
-                [value, values @ ..] => *value <= rule.greatest && values_fit(rules, values),
-            }
-        }
-    }
-}
-
-/// Whether octets are well-formed UTF-8.
-fn is_utf8(octets: &[u8]) -> bool
-    ensures { result ≡ is_utf8 octets.now }
-{
-    match std::str::from_utf8(octets) {
-        Ok(_) => true,
-        Err(_) => false,
-    }
-}
-
-fn tail_fits(form: Tail, values: &[u128], tail: &[u8]) -> bool
-    ensures { result ≡ checks.tail_fits form values.now tail.now }
-{
-    match form {
-        Tail::Absent => tail.len() == 0,
-        Tail::Words => tail.len() % 2 == 0 && tail.len() / 2 <= 65535,
-        Tail::Text => tail.len() <= 65535 && is_utf8(tail),
-        Tail::Bits => match values {
-            [] => tail.len() == 0,
-            [bits, ..] => tail.len() as u128 == bits / 8 + (bits % 8 + 7) / 8,
-        },
-    }
 }
 
 /// Whether a kind is one of a group's.
@@ -219,7 +146,8 @@ fn table_fault(
     tail: &[u8],
     nodes: &[Node],
 ) -> Option<NodeFault>
-    ensures { result ≡ checks.first_failed (checks.table_tests kind version values.now tail.now nodes.now) }
+    ensures { result ≡ checks.first_failed (checks.table_tests kind version values.now
+        tail.now nodes.now) }
 {
     let rules = llrp_schema::fields(kind);
     let groups = llrp_schema::groups(kind);
@@ -255,7 +183,8 @@ pub(crate) fn first_fault(
     octets: u128,
 ) -> Option<NodeFault>
     requires few { levels ≡ law.levels (forest nodes.now) }
-    requires long { octets ≡ law.head_octets kind + law.body_octets (Parameter kind) tail.now + law.octets (forest nodes.now) }
+    requires long { octets ≡ law.head_octets kind + law.body_octets (Parameter kind) tail.now +
+        law.octets (forest nodes.now) }
     ensures { result ≡ checks.first_fault kind values.now tail.now (forest nodes.now) }
 {
     if let Some(fault) = table_fault(Kind::Parameter(kind), true, values, tail, nodes) {
@@ -277,7 +206,7 @@ pub(crate) fn is_known_version(version: u8) -> bool
     version == 1 || version == 2
 }
 
-/// The first fault of the parts of a message of so many octets.
+/// The first fault of the parts of a message of this many octets.
 pub(crate) fn first_message_fault(
     version: u8,
     kind: MsgKind,

@@ -1,4 +1,4 @@
-//! Why a frame is no message's.
+//! Why a frame is not a message.
 
 ghost use Rattle.std.specs.Prelude.{◌≡◌};
 ghost use Rattle.llrp_tree.specs.declared.fault.FrameErr.TheVariants.{Memory, Bad};
@@ -34,7 +34,7 @@ pub enum Reason {
     TooDeep,
     /// A length below 4, or past the end of the parent.
     ParamLength,
-    /// Octets behind a node that has no children.
+    /// Octets after a node that has no children.
     Extra,
     /// Fewer children than a group must have.
     Missing,
@@ -51,20 +51,35 @@ pub struct Fault {
 /// Why `decode_frame` has no message.
 #[derive(Clone, Copy, Debug, PartialEq, Eq)]
 pub enum FrameErr {
-    /// The frame is no message's, and this is its first fault.
+    /// The frame is not a message, and this is its first fault.
     Bad(Fault),
     /// Memory ran out.
     Memory,
 }
 
-/// The error that tells a fault.
+/// A fault at a bit.
+pub(crate) fn fault_at(bit: usize, reason: Reason) -> Fault
+    ensures { result ≡ record { bit = bit; reason = reason } }
+{
+    Fault {
+        bit: bit as u64,
+        reason,
+    }
+}
+
+/// The error for a fault.
 pub(crate) fn bad(bit: usize, reason: Reason) -> FrameErr
     ensures { result ≡ Bad (record { bit = bit; reason = reason }) }
 {
-    FrameErr::Bad(Fault {
-        bit: bit as u64,
-        reason,
-    })
+    FrameErr::Bad(fault_at(bit, reason))
+}
+
+impl From<Fault> for FrameErr {
+    ghost from_gives = { λ fault e. e ≡ Bad fault };
+
+    fn from(fault: Fault) -> FrameErr {
+        FrameErr::Bad(fault)
+    }
 }
 
 impl From<AllocError> for FrameErr {

@@ -11,11 +11,14 @@ ghost use Rattle.llrp_tree.specs.Frame.{Frame};
 ghost use Rattle.llrp_tree.specs.declared.TheConstants.{MAX_LIMIT};
 ghost use Rattle.llrp_tree.specs.Weight.{message_weight};
 ghost use Rattle.llrp_tree.specs.FrameLaws.{OpenTreesAgree, FramesApart};
+ghost use Rattle.llrp_tree.specs.Deciding.{FaultsAreDecided, NoneIsDecidedBefore};
+ghost use Rattle.llrp_tree.specs.GrowthLaws.{FieldGrows, TailGrows, TlvOpens, TvOpens, TlvCloses, TvCloses};
 
 /// Parts are lawful exactly where none of the ordered tests fails.
 #[tactic(auto, using(crate::proofs::LawLemmas::lawful_exactly, crate::proofs::LawLemmas::message_exactly))]
 pub fn lawful_where_no_test_fails()
-    ensures parameter { (kind : ParamKind) (fields tail : List ℕ) (children : Forest) → AreOctets tail →
+    ensures parameter { (kind : ParamKind) (fields tail : List ℕ) (children : Forest)
+        → AreOctets tail →
         AreLawful kind fields tail children ↔ (first_fault kind fields tail children ≡ None) }
     ensures message { (m : MessageTree) → m.id < 2 ^ 32 → AllLawful m.children →
         IsLawfulMessage m ↔ (first_message_fault m.version m.kind m.fields m.children ≡ None) }
@@ -25,7 +28,8 @@ pub fn lawful_where_no_test_fails()
 #[tactic(auto, using(crate::proofs::LengthLemmas::tree_length, crate::proofs::LengthLemmas::frame_length))]
 pub fn lengths_are_spelled()
     ensures parameter { (t : Tree) → length (tree_digits t) ≡ 8 * tree_octets t }
-    ensures message { (m : MessageTree) (bytes : List ℕ) (limit : ℕ) → Frame m bytes limit → length bytes ≡ message_octets m }
+    ensures message { (m : MessageTree) (bytes : List ℕ) (limit : ℕ) → Frame m bytes limit
+        → length bytes ≡ message_octets m }
 {}
 
 /// Two open trees with equally many parts over the same digits are equal.
@@ -38,7 +42,29 @@ pub fn frames_apart()
     ensures { (limit : ℕ) → limit ≤ MAX_LIMIT → FramesApart limit }
 {}
 
+/// An open tree grows by a part that passes its checks: a field, a tail, or the head of a child.
+pub fn open_trees_grow()
+    ensures field { FieldGrows }
+    ensures tail { TailGrows }
+    ensures tlv { TlvOpens }
+    ensures tv { TvOpens }
+{}
+
+/// A parameter that has all its parts is closed, and is then a child of the node around it.
+pub fn whole_parameters_close()
+    ensures tlv { TlvCloses }
+    ensures tv { TvCloses }
+{}
+
+/// A fault is decided at the end of the part that fails, and none before the next checks of an open
+/// tree are decided.
+pub fn faults_are_decided()
+    ensures at_end { FaultsAreDecided }
+    ensures not_before { NoneIsDecidedBefore }
+{}
+
 /// What is kept of a message weighs no more than its frame has octets.
 pub fn weights_are_within()
-    ensures { (m : MessageTree) (bytes : List ℕ) (limit : ℕ) → Frame m bytes limit → message_weight m ≤ length bytes }
+    ensures { (m : MessageTree) (bytes : List ℕ) (limit : ℕ) → Frame m bytes limit
+        → message_weight m ≤ length bytes }
 {}

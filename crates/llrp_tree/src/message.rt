@@ -5,8 +5,8 @@ ghost use Rattle.llrp_tree.specs.Tree.{MessageTree, forest, trees};
 ghost use Rattle.llrp_tree.specs.Lawful.{message_octets, IsLawfulMessage};
 ghost use Rattle.llrp_tree.specs.Checks.{first_message_fault};
 
-use crate::check;
 use crate::node::{NodeFault, Nodes};
+use crate::{check, parts};
 use arrayvec::ArrayVec;
 use llrp_schema::{Kind, MsgKind};
 use std::alloc::{AllocError, Global};
@@ -33,10 +33,29 @@ impl Model for Message {
 
     ghost coded = { message_code };
 
-    ghost view = { λ m. record { version = m.version; id = m.id; kind = m.kind; fields = m.fields.items; children = forest m.children } };
+    ghost view = { λ m. record {
+      version = m.version;
+      id = m.id;
+      kind = m.kind;
+      fields = m.fields.items;
+      children = forest m.children;
+    } };
 
-    ghost invariant = { λ m. (m.octets ≡ law.message_octets (record { version = m.version; id = m.id; kind = m.kind; fields = m.fields.items; children = forest m.children }))
-        × law.IsLawfulMessage (record { version = m.version; id = m.id; kind = m.kind; fields = m.fields.items; children = forest m.children }) };
+    ghost invariant = { λ m. (m.octets
+        ≡ law.message_octets (record {
+          version = m.version;
+          id = m.id;
+          kind = m.kind;
+          fields = m.fields.items;
+          children = forest m.children;
+        }))
+        × law.IsLawfulMessage (record {
+          version = m.version;
+          id = m.id;
+          kind = m.kind;
+          fields = m.fields.items;
+          children = forest m.children;
+        }) };
 }
 
 impl Message {
@@ -97,7 +116,7 @@ impl Message {
         self.octets
     }
 
-    /// Every message is lawful; this changes nothing.
+    /// Lets a proof use that this message is lawful; does nothing at run time.
     pub fn lawful(&self)
         ensures { IsLawfulMessage self.now }
     {
@@ -127,24 +146,39 @@ pub struct MsgRefusal {
 }
 
 impl Message {
-    /// The message of parts that are known to be lawful.
-    pub(crate) fn of_lawful(
+    /// The message of parts that are known to be lawful, with no test: what `Message::new` gives for
+    /// them.
+    pub fn of_lawful(
         version: u8,
         id: u32,
         kind: MsgKind,
-        fields: ArrayVec<u128, 12>,
+        fields: &[u128],
         children: Nodes,
     ) -> Message
-        requires { IsLawfulMessage (record { version = version; id = id; kind = kind; fields = fields.items; children = forest children }) }
-        ensures { result ≡ record { version = version; id = id; kind = kind; fields = fields.items; children = forest children } }
+        requires { IsLawfulMessage (record {
+          version = version;
+          id = id;
+          kind = kind;
+          fields = fields.now;
+          children = forest children;
+        }) }
+        ensures value { result ≡ record {
+          version = version;
+          id = id;
+          kind = kind;
+          fields = fields.now;
+          children = forest children;
+        } }
+        ensures lawful { IsLawfulMessage result }
     {
+        let kept = check::kept(fields);
         let extent = check::extent_of(children.as_slice());
-        let body = check::body_octets(Kind::Message(kind), &[]);
+        let body = parts::body_octets(Kind::Message(kind), &[]);
         Message {
             version,
             id,
             kind,
-            fields,
+            fields: kept,
             children,
             octets: (10 + body + extent.octets) as u32,
         }
@@ -158,13 +192,20 @@ impl Message {
         fields: &[u128],
         children: Nodes,
     ) -> Result<Message, MsgRefusal>
-        ensures value { IfOk result (λ m. m ≡ record { version = version; id = id; kind = kind; fields = fields.now; children = forest children }) }
+        ensures value { IfOk result (λ m. m ≡ record {
+          version = version;
+          id = id;
+          kind = kind;
+          fields = fields.now;
+          children = forest children;
+        }) }
         ensures lawful { IfOk result (λ m. IsLawfulMessage m) }
-        ensures fault { IfErr result (λ e. first_message_fault version kind fields.now (forest children) ≡ Some e.fault) }
+        ensures fault { IfErr result (λ e. first_message_fault version kind fields.now
+            (forest children) ≡ Some e.fault) }
         ensures handed_back { IfErr result (λ e. e.children ≡ children) }
     {
         let extent = check::extent_of(children.as_slice());
-        let octets = 10 + check::body_octets(Kind::Message(kind), &[]) + extent.octets;
+        let octets = 10 + parts::body_octets(Kind::Message(kind), &[]) + extent.octets;
         match check::first_message_fault(version, kind, fields, children.as_slice(), octets) {
             Some(fault) => Err(MsgRefusal { fault, children }),
             None => Ok(Message {

@@ -11,9 +11,9 @@ mod body;
 mod children;
 mod fields;
 mod groups;
-mod header;
 mod tail;
 
+use crate::header::read_header;
 use crate::{FrameErr, MAX_LIMIT, Message};
 use arrayvec::ArrayVec;
 use llrp_schema::Kind;
@@ -28,7 +28,7 @@ pub fn decode_frame(alloc: Global, frame: &[u8], limit: u32) -> Result<Message, 
     requires most { limit ≤ MAX_LIMIT }
     ensures { MatchResult result (λ m. Frame m frame.now limit) (IsFirst frame.now limit) }
 {
-    let header = header::read_header(frame, limit)?;
+    let header = read_header(frame, limit)?;
     let mut fields = ArrayVec::new();
     let body = body::read_body(
         alloc,
@@ -43,7 +43,7 @@ pub fn decode_frame(alloc: Global, frame: &[u8], limit: u32) -> Result<Message, 
         header.version,
         header.id,
         header.kind,
-        fields,
+        fields.as_slice(),
         body.children,
     ))
 }

@@ -1,21 +1,23 @@
 //! The octets of a node before its tail: its head, its fields and the count of its tail.
 
-ghost use Rattle.std.specs.Prelude.{◌≡◌, ◌≤◌, ◌<◌, ◌+◌, ◌*◌, ◌/◌, ◌%◌, ◌^◌, ◌++◌, length, map, true};
+ghost use Rattle.std.specs.Prelude.{◌≡◌, ◌≤◌, ◌<◌, ◌+◌, ◌*◌, ◌/◌, ◌%◌, ◌^◌, ◌++◌, ◌∷◌, [], length, map, true};
 ghost use Rattle.tag_bits.specs.Digits.{digits};
-ghost use Rattle.llrp_schema.specs.Schema.{field_rule, bits_of};
+ghost use Rattle.llrp_schema.specs.declared.kinds.Kind.TheVariants.{Message as AsMessage, Parameter};
+ghost use Rattle.llrp_schema.specs.declared.kinds.Tail.TheVariants.{Text, Words};
+ghost use Rattle.llrp_schema.specs.Schema.{bits_of, field_rule, fields_of, tail_of};
 ghost use Rattle.llrp_tree.specs.Lawful.{count_octets, head_octets};
 ghost use Rattle.llrp_tree.specs.Checks.{values_fit};
 ghost use Rattle.llrp_tree.specs.Spelling.{head_of, head_digits, count_digits, message as message_head};
-ghost use Rattle.llrp_tree.specs.Spelled.{Holds, all_fields, message_start, parameter_start};
+ghost use Rattle.llrp_tree.specs.Spelled.{Holds, IsOnlyField, all_fields, message_start, message_start_digits, parameter_start, start_digits};
 ghost use Rattle.llrp_tree.specs.Writing.{is_sound};
 
 use crate::message::Message;
 use crate::node::Node;
 use llrp_schema::{Field, Kind, MsgKind, ParamKind, Tail};
 
-/// What stands before the tail of a node: the octets of `octets` from the place `from` on.
+/// What comes before the tail of a node: the octets of `octets` from the place `from` on.
 #[derive(Clone, Copy)]
-pub(crate) struct Start {
+pub struct Start {
     pub octets: [u8; 16],
     pub from: usize,
 }
@@ -32,7 +34,8 @@ fn pack(rules: &[Field], values: &[u128]) -> Packed
     requires sound { is_sound (map field_rule rules.now) ≡ true }
     requires small { bits_of (map field_rule rules.now) ≤ 120 }
     requires fit { values_fit (map field_rule rules.now) values.now ≡ true }
-    ensures spelled { digits (bits_of (map field_rule rules.now)) result.number ≡ all_fields (map field_rule rules.now) values.now }
+    ensures spelled { digits (bits_of (map field_rule rules.now)) result.number
+        ≡ all_fields (map field_rule rules.now) values.now }
     ensures below { result.number < 2 ^ result.bits }
     ensures bits { result.bits ≡ bits_of (map field_rule rules.now) }
 {
@@ -60,7 +63,8 @@ fn joined(width: u32, value: u128, rest: Packed) -> Packed
     requires value { value < 2 ^ width }
     requires few { rest.bits ≤ 120 }
     requires small { width + rest.bits ≤ 128 }
-    ensures spelled { digits (width + rest.bits) result.number ≡ digits width value ++ digits rest.bits rest.number }
+    ensures spelled { digits (width + rest.bits) result.number ≡ digits width value
+        ++ digits rest.bits rest.number }
     ensures below { result.number < 2 ^ result.bits }
     ensures bits { result.bits ≡ width + rest.bits }
 {
@@ -96,7 +100,8 @@ fn head(kind: ParamKind, octets: u32) -> Packed
 
 /// The count of a tail, where its form has one.
 fn count(form: Tail, tail: &[u8]) -> Packed
-    requires short { length tail.now ≤ 65535 }
+    requires words { form ≡ Words → length tail.now / 2 ≤ 65535 }
+    requires text { form ≡ Text → length tail.now ≤ 65535 }
     ensures spelled { digits result.bits result.number ≡ count_digits form tail.now }
     ensures below { result.number < 2 ^ result.bits }
     ensures bits { result.bits ≡ 8 * count_octets form }
@@ -144,33 +149,77 @@ fn as_octets(packed: Packed) -> Start
     }
 }
 
+/// The octets of a parameter before its tail, where it has this many octets in all. A length of 0
+/// leaves room for one that is not known yet.
+pub fn parameter_start(kind: ParamKind, octets: u32, values: &[u128], tail: &[u8]) -> Start
+    requires long { octets ≤ 65535 }
+    requires values { values_fit (fields_of (Parameter kind)) values.now ≡ true }
+    requires words { tail_of (Parameter kind) ≡ Words → length tail.now / 2 ≤ 65535 }
+    requires text { tail_of (Parameter kind) ≡ Text → length tail.now ≤ 65535 }
+    ensures spelled { Holds result (parameter_start kind octets values.now tail.now) }
+    ensures some { result.from < length result.octets }
+{
+    let whole = Kind::Parameter(kind);
+    let count = count(llrp_schema::tail(whole), tail);
+    let fields = pack(llrp_schema::fields(whole), values);
+    let leading = joined(fields.bits, fields.number, count);
+    let head = head(kind, octets);
+    as_octets(joined(head.bits, head.number, leading))
+}
+
+/// The octets of a parameter with type and value (TV), by the rule of its one field.
+pub fn tv_start(kind: ParamKind, rule: &Field, value: u128) -> Start
+    requires rule { IsOnlyField kind (field_rule rule.now) }
+    requires value { value < 2 ^ rule.now.width }
+    ensures spelled { Holds result (parameter_start kind 0 (value ∷ []) []) }
+    ensures some { result.from < length result.octets }
+{
+    let head = head(kind, 0);
+    let value = Packed {
+        number: value,
+        bits: rule.width,
+    };
+    as_octets(joined(head.bits, head.number, value))
+}
+
+/// The octets of a message before its parameters: its header, with this length, and its fields. A
+/// length of 0 leaves room for one that is not known yet.
+pub fn message_start(version: u8, kind: MsgKind, octets: u32, id: u32, values: &[u128]) -> Start
+    requires version { version < 8 }
+    requires values { values_fit (fields_of (AsMessage kind)) values.now ≡ true }
+    ensures spelled { Holds result (message_start version kind octets id values.now) }
+    ensures from { result.from ≤ length result.octets }
+{
+    let fields = pack(llrp_schema::fields(Kind::Message(kind)), values);
+    let header = header(version, kind, octets, id);
+    as_octets(joined(80, header.number, fields))
+}
+
 /// The octets of a parameter before its tail.
 pub(crate) fn start_of(node: &Node) -> Start
-    ensures spelled { Holds result (parameter_start node.now) }
+    ensures spelled { Holds result (start_digits node.now) }
     ensures some { result.from < length result.octets }
 {
     node.lawful();
-    let kind = Kind::Parameter(node.kind());
-    let count = count(llrp_schema::tail(kind), node.tail().as_slice());
-    let fields = pack(llrp_schema::fields(kind), node.fields());
-    let leading = joined(fields.bits, fields.number, count);
-    let head = head(node.kind(), node.length());
-    as_octets(joined(head.bits, head.number, leading))
+    parameter_start(
+        node.kind(),
+        node.length(),
+        node.fields(),
+        node.tail().as_slice(),
+    )
 }
 
 /// The octets of a message before its parameters.
 pub(crate) fn start_of_message(message: &Message) -> Start
-    ensures spelled { Holds result (message_start message.now) }
+    ensures spelled { Holds result (message_start_digits message.now) }
     ensures from { result.from ≤ length result.octets }
 {
     message.lawful();
-    let kind = Kind::Message(message.kind());
-    let fields = pack(llrp_schema::fields(kind), message.fields());
-    let header = header(
+    message_start(
         message.version(),
         message.kind(),
         message.length(),
         message.id(),
-    );
-    as_octets(joined(80, header.number, fields))
+        message.fields(),
+    )
 }

@@ -51,7 +51,8 @@ fn put_off<'a>(row: &'a [Node], rows: &mut Rows<'a>)
     requires deep { AreDeep 0 rows.old.items }
     requires level { length rows.old.items + levels (forest row.now) ≤ MAX_DEPTH }
     ensures deep { AreDeep 0 rows.new.items }
-    ensures octets { following rows.new.items ≡ spelled (forest row.now) ++ following rows.old.items }
+    ensures octets { following rows.new.items ≡ spelled (forest row.now)
+        ++ following rows.old.items }
     ensures length { length rows.new.items ≤ length rows.old.items + 1 }
 {
     if row.is_empty() {
@@ -89,7 +90,8 @@ fn begin_next<'a>(rows: &mut Rows<'a>) -> Begun<'a>
 fn copy_to(octets: &[u8], buf: &mut [u8], place: usize) -> usize
     requires { place ≤ length buf.old }
     ensures count { result ≡ min (length octets.now) (length buf.old - place) }
-    ensures copied { buf.new ≡ take place buf.old ++ (take result octets.now ++ drop (place + result) buf.old) }
+    ensures copied { buf.new ≡ take place buf.old ++ (take result octets.now
+        ++ drop (place + result) buf.old) }
 {
     let count = octets.len().min(buf.len() - place);
     buf[place..place + count].copy_from_slice(octets.split_at(count).0);
@@ -133,7 +135,8 @@ fn move_some<'a>(begun: &mut Begun<'a>, rows: &mut Rows<'a>, buf: &mut [u8], pla
     requires room { place < length buf.old }
     ensures from { begun.new.from ≤ length begun.new.octets }
     ensures deep { AreDeep 0 rows.new.items }
-    ensures moved { Moves (still_owed begun.old rows.old.items) (still_owed begun.new rows.new.items) buf.old buf.new place result }
+    ensures moved { Moves (still_owed begun.old rows.old.items)
+        (still_owed begun.new rows.new.items) buf.old buf.new place result }
     ensures none { result ≡ 0 → still_owed begun.old rows.old.items ≡ [] }
 {
     if !is_finished(begun) {
@@ -153,7 +156,8 @@ fn move_all<'a>(begun: &mut Begun<'a>, rows: &mut Rows<'a>, buf: &mut [u8], plac
     requires room { place ≤ length buf.old }
     ensures from { begun.new.from ≤ length begun.new.octets }
     ensures deep { AreDeep 0 rows.new.items }
-    ensures moved { Moves (still_owed begun.old rows.old.items) (still_owed begun.new rows.new.items) buf.old buf.new place result }
+    ensures moved { Moves (still_owed begun.old rows.old.items)
+        (still_owed begun.new rows.new.items) buf.old buf.new place result }
     ensures full { place + result < length buf.old → still_owed begun.new rows.new.items ≡ [] }
 {
     let room = buf.len() - place;
@@ -203,7 +207,8 @@ impl<'a> Spelling<'a> {
         requires { place ≤ length buf.old }
         ensures count { result ≡ min (length self.old) (length buf.old - place) }
         ensures left { self.new ≡ drop result self.old }
-        ensures filled { buf.new ≡ take place buf.old ++ (take result self.old ++ drop (place + result) buf.old) }
+        ensures filled { buf.new ≡ take place buf.old ++ (take result self.old
+            ++ drop (place + result) buf.old) }
     {
         let left = self.left();
         let count = move_all(&mut self.begun, &mut self.rows, buf, place);

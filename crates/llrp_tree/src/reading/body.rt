@@ -1,10 +1,10 @@
-//! What stands behind the head of a node.
+//! What follows the head of a node.
 
 ghost use Rattle.std.specs.Prelude.{◌≡◌, ◌*◌, ◌≤◌, ℕ, List, [], ◌∷◌, length, false, true, MatchResult, unwrap_or};
 ghost use Rattle.tag_bits.specs.Digits.{digits_of_bytes};
 ghost use Rattle.llrp_schema.specs.declared.kinds.Kind.TheVariants.{Parameter};
 ghost use Rattle.llrp_schema.specs.Schema.{fields_of, plain_fields_of, tail_of, is_tv};
-ghost use Rattle.llrp_tree.specs.declared.TheConstants.{MAX_DEPTH};
+ghost use Rattle.llrp_tree.specs.declared.TheConstants.{MAX_DEPTH, MAX_LIMIT};
 ghost use Rattle.llrp_tree.specs.Tree.{forest};
 ghost use Rattle.llrp_tree.specs.Spelling.{Head, spread};
 ghost use Rattle.llrp_tree.specs.OpenTree.{Begun, kind_of, as_read};
@@ -19,7 +19,7 @@ use crate::{FrameErr, Kind, Node, Nodes, Octets, Reason};
 use arrayvec::ArrayVec;
 use std::alloc::Global;
 
-/// All of a node behind its fields, and the octet behind it.
+/// All of a node after its fields, and the octet after it.
 #[derive(Drop)]
 pub(crate) struct Body {
     pub tail: Octets,
@@ -27,7 +27,7 @@ pub(crate) struct Body {
     pub at: usize,
 }
 
-/// Reads a child that ends behind its field, and appends it to its siblings; the octet behind it.
+/// Reads a child that ends after its field, and appends it to its siblings; the octet after it.
 fn read_tv(
     alloc: Global,
     frame: &[u8],
@@ -36,12 +36,19 @@ fn read_tv(
 ) -> Result<usize, FrameErr>
     requires short { is_tv child.kind ≡ true }
     requires before { child.at ≤ child.stop }
-    requires small { length frame.now ≤ 65536 }
+    requires small { length frame.now ≤ MAX_LIMIT }
     requires inside { child.stop ≤ length frame.now }
-    requires begins { (level : ℕ) × BeginsBehind frame.now child.kind (forest siblings.old.items) level child.at child.stop }
-    ensures within { MatchResult result (λ at. (child.at ≤ at) × (at ≤ child.stop)) (λ _. Unit {0}) }
-    ensures read { (h : Head) (parent : Begun) (outer : List Begun) → kind_of h ≡ Parameter child.kind → parent.children ≡ forest siblings.old.items → Stands (digits_of_bytes frame.now) (leading h (8 * child.stop) [] ∷ parent ∷ outer) (8 * child.at)
-        → MatchResult result (λ at. Stands (digits_of_bytes frame.now) (begun parent.head parent.stop parent.fields parent.tail (forest siblings.new.items) ∷ outer) (8 * at)) (Tells (digits_of_bytes frame.now)) }
+    requires begins { (level : ℕ) × BeginsBehind frame.now child.kind (forest siblings.old.items)
+        level child.at child.stop }
+    ensures within { MatchResult result (λ at. (child.at ≤ at)
+        × (at ≤ child.stop)) (λ _. Unit {0}) }
+    ensures read { (h : Head) (parent : Begun) (outer : List Begun)
+        → kind_of h ≡ Parameter child.kind → parent.children ≡ forest siblings.old.items
+        → Stands (digits_of_bytes frame.now) (leading h (8 * child.stop) [] ∷ parent
+        ∷ outer) (8 * child.at)
+        → MatchResult result (λ at. Stands (digits_of_bytes frame.now)
+        (begun parent.head parent.stop parent.fields parent.tail (forest siblings.new.items)
+        ∷ outer) (8 * at)) (Tells (digits_of_bytes frame.now)) }
 {
     let (value, at) = read_value(frame, child.at, child.stop, child.kind)?;
     let tail = Octets::new(Vec::new(alloc));
@@ -50,12 +57,12 @@ fn read_tv(
     let mut fields = ArrayVec::new();
     fields.push(value);
     siblings.reserve(1)?;
-    siblings.push_reserved(Node::of_lawful(child.kind, fields, tail, children, octets));
+    siblings.push_reserved(Node::of_octets(child.kind, fields, tail, children, octets));
     Ok(at)
 }
 
-/// Reads a child with a length, so many levels below the message, and appends it to its siblings; the
-/// octet behind it.
+/// Reads a child with a length, this many levels below the message, and appends it to its siblings; the
+/// octet after it.
 #[cycle(read)]
 fn read_tlv(
     alloc: Global,
@@ -67,33 +74,41 @@ fn read_tlv(
     requires long { is_tv child.kind ≡ false }
     requires behind { 2 ≤ child.at }
     requires before { child.at ≤ child.stop }
-    requires small { length frame.now ≤ 65536 }
+    requires small { length frame.now ≤ MAX_LIMIT }
     requires inside { child.stop ≤ length frame.now }
     requires shallow { level ≤ MAX_DEPTH }
-    requires begins { BeginsBehind frame.now child.kind (forest siblings.old.items) level child.at child.stop }
-    ensures within { MatchResult result (λ at. (child.at ≤ at) × (at ≤ child.stop)) (λ _. Unit {0}) }
-    ensures read { (h : Head) (parent : Begun) (outer : List Begun) → kind_of h ≡ Parameter child.kind → parent.children ≡ forest siblings.old.items → length (parent ∷ outer) ≡ level → Stands (digits_of_bytes frame.now) (leading h (8 * child.stop) [] ∷ parent ∷ outer) (8 * child.at)
-        → MatchResult result (λ at. Stands (digits_of_bytes frame.now) (begun parent.head parent.stop parent.fields parent.tail (forest siblings.new.items) ∷ outer) (8 * at)) (Tells (digits_of_bytes frame.now)) }
+    requires begins { BeginsBehind frame.now child.kind (forest siblings.old.items) level
+        child.at child.stop }
+    ensures within { MatchResult result (λ at. (child.at ≤ at)
+        × (at ≤ child.stop)) (λ _. Unit {0}) }
+    ensures read { (h : Head) (parent : Begun) (outer : List Begun)
+        → kind_of h ≡ Parameter child.kind → parent.children ≡ forest siblings.old.items
+        → length (parent ∷ outer) ≡ level
+        → Stands (digits_of_bytes frame.now) (leading h (8 * child.stop) [] ∷ parent
+        ∷ outer) (8 * child.at)
+        → MatchResult result (λ at. Stands (digits_of_bytes frame.now)
+        (begun parent.head parent.stop parent.fields parent.tail (forest siblings.new.items)
+        ∷ outer) (8 * at)) (Tells (digits_of_bytes frame.now)) }
 {
     let mut fields = ArrayVec::new();
     let kind = Kind::Parameter(child.kind);
     let body = read_body(alloc, frame, level, child.at, child.stop, kind, &mut fields)?;
     let at = body.at;
     let octets = (4 + at - child.at) as u32;
-    siblings.push(Node::of_lawful(child.kind, fields, body.tail, body.children, octets))?;
+    siblings.push(Node::of_octets(child.kind, fields, body.tail, body.children, octets))?;
     Ok(at)
 }
 
 /// The children for which room is made at first: for small children one for each four octets, and 16
 /// at most; in longer bodies one for each 32 octets.
 fn room_for(octets: usize) -> usize
-    requires { octets ≤ 65536 }
-    ensures { result ≤ 2048 }
+    requires { octets ≤ MAX_LIMIT }
+    ensures { 32 * result ≤ MAX_LIMIT }
 {
     (octets / 4).min(16).max(octets / 32)
 }
 
-/// What stands behind the head of a node of a kind, from one octet to another, so many levels below
+/// What follows the head of a node of a kind, from one octet to another, this many levels below
 /// the message; the plain fields are put into `fields`.
 #[cycle(read)]
 pub(crate) fn read_body(
@@ -107,17 +122,23 @@ pub(crate) fn read_body(
 ) -> Result<Body, FrameErr>
     requires behind { 2 ≤ from }
     requires before { from ≤ stop }
-    requires small { length frame.now ≤ 65536 }
+    requires small { length frame.now ≤ MAX_LIMIT }
     requires inside { stop ≤ length frame.now }
     requires shallow { level ≤ MAX_DEPTH }
     requires has_length { is_tv_kind kind ≡ false }
     requires fresh { fields.old.items ≡ [] }
     requires begins { Begins frame.now kind level from stop }
     ensures within { MatchResult result (λ x. (from ≤ x.at) × (x.at ≤ stop)) (λ _. Unit {0}) }
-    ensures count { MatchResult result (λ _. length fields.new.items ≡ length (plain_fields_of kind)) (λ _. Unit {0}) }
-    ensures whole { MatchResult result (λ x. unwrap_or (as_read (tail_of kind) x.tail) [] ≡ x.tail) (λ _. Unit {0}) }
-    ensures read { (h : Head) (outer : List Begun) → kind_of h ≡ kind → length outer ≡ level → Stands (digits_of_bytes frame.now) (leading h (8 * stop) [] ∷ outer) (8 * from)
-        → MatchResult result (λ x. Closes (digits_of_bytes frame.now) (begun h (8 * stop) (spread (fields_of kind) fields.new.items) (as_read (tail_of kind) x.tail) (forest x.children)) outer (8 * x.at)) (Tells (digits_of_bytes frame.now)) }
+    ensures count { MatchResult result (λ _. length fields.new.items
+        ≡ length (plain_fields_of kind)) (λ _. Unit {0}) }
+    ensures whole { MatchResult result (λ x. unwrap_or (as_read (tail_of kind) x.tail) []
+        ≡ x.tail) (λ _. Unit {0}) }
+    ensures read { (h : Head) (outer : List Begun) → kind_of h ≡ kind → length outer ≡ level
+        → Stands (digits_of_bytes frame.now) (leading h (8 * stop) [] ∷ outer) (8 * from)
+        → MatchResult result (λ x. Closes (digits_of_bytes frame.now)
+        (begun h (8 * stop) (spread (fields_of kind) fields.new.items)
+        (as_read (tail_of kind) x.tail) (forest x.children)) outer (8 * x.at))
+        (Tells (digits_of_bytes frame.now)) }
 {
     let behind = read_fields(frame, from, stop, kind, fields)?;
     let tail = read_tail(alloc, frame, behind, stop, kind, fields.as_slice())?;

@@ -7,7 +7,7 @@ ghost use Rattle.llrp_schema.specs.Schema.{groups_of};
 ghost use Rattle.llrp_tree.specs.Tree.{forest};
 ghost use Rattle.llrp_tree.specs.Spelling.{Head};
 ghost use Rattle.llrp_tree.specs.OpenTree.{Begun, kind_of, due, Rest};
-ghost use Rattle.llrp_tree.specs.declared.TheConstants.{MAX_DEPTH};
+ghost use Rattle.llrp_tree.specs.declared.TheConstants.{MAX_DEPTH, MAX_LIMIT};
 ghost use Rattle.llrp_tree.specs.FirstFault.{tlv_checks};
 ghost use Rattle.llrp_tree.specs.Standing.{Stands, begun, leading, FailsFirst, Tells, TlvPasses, is_tv_kind};
 
@@ -21,7 +21,7 @@ use tag_bits::get;
 #[derive(Clone, Copy, Debug)]
 pub(crate) struct Child {
     pub kind: ParamKind,
-    /// The octet behind its head.
+    /// The octet after its head.
     pub at: usize,
     /// The octet at which it stops.
     pub stop: usize,
@@ -37,9 +37,12 @@ fn tlv_head(
     siblings: &[Node],
 ) -> Result<(ParamKind, usize), FrameErr>
     requires before { at < stop }
-    requires small { length frame.now ≤ 65536 }
+    requires small { length frame.now ≤ MAX_LIMIT }
     requires inside { stop ≤ length frame.now }
-    ensures { MatchResult result (λ x. TlvPasses (groups_of parent) (forest siblings.now) level (8 * at) (8 * stop) (drop (8 * at) (digits_of_bytes frame.now)) x.0 x.1) (FailsFirst (tlv_checks (groups_of parent) (forest siblings.now) level (8 * at) (8 * stop) (drop (8 * at) (digits_of_bytes frame.now)))) }
+    ensures { MatchResult result (λ x. TlvPasses (groups_of parent) (forest siblings.now) level
+        (8 * at) (8 * stop) (drop (8 * at) (digits_of_bytes frame.now)) x.0 x.1)
+        (FailsFirst (tlv_checks (groups_of parent) (forest siblings.now) level (8 * at) (8 * stop)
+        (drop (8 * at) (digits_of_bytes frame.now)))) }
 {
     let bit = 8 * at;
     if stop - at < 4 {
@@ -71,13 +74,21 @@ pub(crate) fn begin_child(
     siblings: &[Node],
 ) -> Result<Child, FrameErr>
     requires before { at < stop }
-    requires small { length frame.now ≤ 65536 }
+    requires small { length frame.now ≤ MAX_LIMIT }
     requires inside { stop ≤ length frame.now }
     requires shallow { level ≤ MAX_DEPTH }
     requires has_length { is_tv_kind parent ≡ false }
-    ensures within { MatchResult result (λ c. (at < c.at) × (c.at ≤ c.stop) × (c.stop ≤ stop) × (level < MAX_DEPTH)) (λ _. Unit {0}) }
-    ensures begun { (h : Head) (outer : List Begun) (fields : List ℕ) (tail : Option (List ℕ)) → kind_of h ≡ parent → length outer ≡ level → due (begun h (8 * stop) fields tail (forest siblings.now)) ≡ Rest → Stands (digits_of_bytes frame.now) (begun h (8 * stop) fields tail (forest siblings.now) ∷ outer) (8 * at)
-        → MatchResult result (λ c. (hb : Head) × (kind_of hb ≡ Parameter c.kind) × Stands (digits_of_bytes frame.now) (leading hb (8 * c.stop) [] ∷ begun h (8 * stop) fields tail (forest siblings.now) ∷ outer) (8 * c.at)) (Tells (digits_of_bytes frame.now)) }
+    ensures within { MatchResult result (λ c. (at < c.at) × (c.at ≤ c.stop) × (c.stop ≤ stop)
+        × (level < MAX_DEPTH)) (λ _. Unit {0}) }
+    ensures begun { (h : Head) (outer : List Begun) (fields : List ℕ) (tail : Option (List ℕ))
+        → kind_of h ≡ parent → length outer ≡ level
+        → due (begun h (8 * stop) fields tail (forest siblings.now)) ≡ Rest
+        → Stands (digits_of_bytes frame.now) (begun h (8 * stop) fields tail (forest siblings.now)
+        ∷ outer) (8 * at)
+        → MatchResult result (λ c. (hb : Head) × (kind_of hb ≡ Parameter c.kind)
+        × Stands (digits_of_bytes frame.now) (leading hb (8 * c.stop) []
+        ∷ begun h (8 * stop) fields tail (forest siblings.now)
+        ∷ outer) (8 * c.at)) (Tells (digits_of_bytes frame.now)) }
 {
     let bit = 8 * at;
     if llrp_schema::groups(parent).len() == 0 {

@@ -4,6 +4,7 @@ ghost use Rattle.std.specs.Prelude.{◌≡◌, ◌+◌, ◌*◌, ◌≤◌, ℕ,
 ghost use Rattle.tag_bits.specs.Digits.{digits_of_bytes};
 ghost use Rattle.llrp_schema.specs.declared.kinds.Kind.TheVariants.{Parameter};
 ghost use Rattle.llrp_schema.specs.Schema.{field_rule, fields_of, plain_fields_of, bits_of, is_tv};
+ghost use Rattle.llrp_tree.specs.declared.TheConstants.{MAX_LIMIT};
 ghost use Rattle.llrp_tree.specs.Spelling.{Head, spread};
 ghost use Rattle.llrp_tree.specs.OpenTree.{Begun, kind_of, in_range};
 ghost use Rattle.llrp_tree.specs.FirstFault.{number, field_checks};
@@ -18,11 +19,15 @@ use tag_bits::get;
 /// The value of a field at a bit of a node that stops at another bit.
 pub(crate) fn field_at(frame: &[u8], at: usize, stop: usize, rule: &Field) -> Result<u128, FrameErr>
     requires before { at ≤ stop }
-    requires small { length frame.now ≤ 65536 }
+    requires small { length frame.now ≤ MAX_LIMIT }
     requires inside { stop ≤ 8 * length frame.now }
     requires some { 1 ≤ rule.now.width }
     requires narrow { rule.now.width ≤ 96 }
-    ensures { MatchResult result (λ v. (at + rule.now.width ≤ stop) × (v ≡ number (drop at (digits_of_bytes frame.now)) 0 rule.now.width) × (in_range (field_rule rule.now) v ≡ true)) (FailsFirst (field_checks (field_rule rule.now) at stop (drop at (digits_of_bytes frame.now)))) }
+    ensures { MatchResult result (λ v. (at + rule.now.width ≤ stop)
+        × (v ≡ number (drop at (digits_of_bytes frame.now)) 0 rule.now.width)
+        × (in_range (field_rule rule.now) v
+        ≡ true)) (FailsFirst (field_checks (field_rule rule.now) at stop
+        (drop at (digits_of_bytes frame.now)))) }
 {
     if stop - at < rule.width as usize {
         return Err(bad(at, Reason::Short));
@@ -39,7 +44,7 @@ pub(crate) fn field_at(frame: &[u8], at: usize, stop: usize, rule: &Field) -> Re
 }
 
 /// The value of the one field of a parameter with a type and a value alone, from one octet to another,
-/// and the octet behind it.
+/// and the octet after it.
 #[inline(always)]
 pub(crate) fn read_value(
     frame: &[u8],
@@ -49,11 +54,14 @@ pub(crate) fn read_value(
 ) -> Result<(u128, usize), FrameErr>
     requires short { is_tv kind ≡ true }
     requires before { from ≤ stop }
-    requires small { length frame.now ≤ 65536 }
+    requires small { length frame.now ≤ MAX_LIMIT }
     requires inside { stop ≤ length frame.now }
     ensures within { MatchResult result (λ x. (from ≤ x.1) × (x.1 ≤ stop)) (λ _. Unit {0}) }
-    ensures read { (h : Head) (outer : List Begun) → kind_of h ≡ Parameter kind → Stands (digits_of_bytes frame.now) (leading h (8 * stop) [] ∷ outer) (8 * from)
-        → MatchResult result (λ x. Stands (digits_of_bytes frame.now) (leading h (8 * stop) (spread (fields_of (Parameter kind)) (x.0 ∷ [])) ∷ outer) (8 * x.1)) (Tells (digits_of_bytes frame.now)) }
+    ensures read { (h : Head) (outer : List Begun) → kind_of h ≡ Parameter kind
+        → Stands (digits_of_bytes frame.now) (leading h (8 * stop) [] ∷ outer) (8 * from)
+        → MatchResult result (λ x. Stands (digits_of_bytes frame.now)
+        (leading h (8 * stop) (spread (fields_of (Parameter kind)) (x.0 ∷ []))
+        ∷ outer) (8 * x.1)) (Tells (digits_of_bytes frame.now)) }
 {
     let rule = &llrp_schema::fields(Kind::Parameter(kind))[0];
     let value = field_at(frame, 8 * from, 8 * stop, rule)?;
@@ -61,7 +69,7 @@ pub(crate) fn read_value(
 }
 
 /// Reads the fields of a node of a kind, from one octet to another, and keeps the plain ones; the
-/// octet behind them.
+/// octet after them.
 pub(crate) fn read_fields(
     frame: &[u8],
     from: usize,
@@ -70,14 +78,19 @@ pub(crate) fn read_fields(
     values: &mut ArrayVec<u128, 12>,
 ) -> Result<usize, FrameErr>
     requires before { from ≤ stop }
-    requires small { length frame.now ≤ 65536 }
+    requires small { length frame.now ≤ MAX_LIMIT }
     requires inside { stop ≤ length frame.now }
     requires fresh { values.old.items ≡ [] }
     ensures within { MatchResult result (λ at. (from ≤ at) × (at ≤ stop)) (λ _. Unit {0}) }
-    ensures width { MatchResult result (λ at. 8 * at ≡ 8 * from + bits_of (fields_of kind)) (λ _. Unit {0}) }
-    ensures count { MatchResult result (λ _. length values.new.items ≡ length (plain_fields_of kind)) (λ _. Unit {0}) }
-    ensures read { (h : Head) (outer : List Begun) → kind_of h ≡ kind → Stands (digits_of_bytes frame.now) (leading h (8 * stop) [] ∷ outer) (8 * from)
-        → MatchResult result (λ at. Stands (digits_of_bytes frame.now) (leading h (8 * stop) (spread (fields_of kind) values.new.items) ∷ outer) (8 * at)) (Tells (digits_of_bytes frame.now)) }
+    ensures width { MatchResult result (λ at. 8 * at
+        ≡ 8 * from + bits_of (fields_of kind)) (λ _. Unit {0}) }
+    ensures count { MatchResult result (λ _. length values.new.items
+        ≡ length (plain_fields_of kind)) (λ _. Unit {0}) }
+    ensures read { (h : Head) (outer : List Begun) → kind_of h ≡ kind
+        → Stands (digits_of_bytes frame.now) (leading h (8 * stop) [] ∷ outer) (8 * from)
+        → MatchResult result (λ at. Stands (digits_of_bytes frame.now)
+        (leading h (8 * stop) (spread (fields_of kind) values.new.items)
+        ∷ outer) (8 * at)) (Tells (digits_of_bytes frame.now)) }
 {
     let rules = llrp_schema::fields(kind);
     let mut at = 8 * from;

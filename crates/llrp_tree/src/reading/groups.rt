@@ -16,7 +16,8 @@ use llrp_schema::{Group, Kind};
 
 /// Whether a group takes no more nodes.
 pub(crate) fn is_full(group: &Group, nodes: &[Node]) -> bool
-    ensures { result ≡ not (at_most group.now.most (count (group_rule group.now) (forest nodes.now) + 1)) }
+    ensures { result ≡ not (at_most group.now.most (count (group_rule group.now)
+        (forest nodes.now) + 1)) }
 {
     match group.most {
         Some(most) => members(group, nodes) >= most as usize,
@@ -24,11 +25,13 @@ pub(crate) fn is_full(group: &Group, nodes: &[Node]) -> bool
     }
 }
 
-/// The group of a parent that has a kind; there is no other.
+/// The only group of a parent that has a kind.
 #[tactic(auto, unfolding(crate::specs::OpenTree::takes_more))]
 fn group_of(parent: Kind, kind: ParamKind) -> Option<&'static Group>
     ensures none { IsNone result ↔ (has_place (groups_of parent) kind ≡ false) }
-    ensures some { IfSome result (λ group. (children : Forest) → takes_more (groups_of parent) kind children ≡ at_most group.now.most (count (group_rule group.now) children + 1)) }
+    ensures some { IfSome result (λ group. (children : Forest)
+        → takes_more (groups_of parent) kind children
+        ≡ at_most group.now.most (count (group_rule group.now) children + 1)) }
 {
     let groups = llrp_schema::groups(parent);
     for group in groups {
@@ -39,7 +42,7 @@ fn group_of(parent: Kind, kind: ParamKind) -> Option<&'static Group>
     None
 }
 
-/// The kind of a child at a bit, so many levels below the message, whose type stands at another bit;
+/// The kind of a child at a bit, this many levels below the message, whose type is at another bit;
 /// or the first check that it fails.
 pub(crate) fn child_kind(
     found: Option<ParamKind>,
@@ -49,7 +52,8 @@ pub(crate) fn child_kind(
     at: usize,
     type_at: usize,
 ) -> Result<ParamKind, FrameErr>
-    ensures { MatchResult result (KindPasses found (groups_of parent) (forest siblings.now) level) (FailsFirst (kind_checks found (groups_of parent) (forest siblings.now) level at type_at)) }
+    ensures { MatchResult result (KindPasses found (groups_of parent) (forest siblings.now) level)
+        (FailsFirst (kind_checks found (groups_of parent) (forest siblings.now) level at type_at)) }
 {
     let Some(kind) = found else {
         return Err(bad(type_at, Reason::ParamType));

@@ -4,6 +4,7 @@ ghost use Rattle.std.specs.Prelude.{◌≡◌, ◌+◌, ◌*◌, ◌≤◌, ℕ,
 ghost use Rattle.tag_bits.specs.Digits.{digits_of_bytes};
 ghost use Rattle.llrp_schema.specs.declared.kinds.Tail.TheVariants.{Words, Text, Bits};
 ghost use Rattle.llrp_schema.specs.Schema.{fields_of, plain_fields_of, bits_of, tail_of};
+ghost use Rattle.llrp_tree.specs.declared.TheConstants.{MAX_LIMIT};
 ghost use Rattle.llrp_tree.specs.Tree.{none};
 ghost use Rattle.llrp_tree.specs.Lawful.{AreOctets};
 ghost use Rattle.llrp_tree.specs.Spelling.{Head, spread};
@@ -24,12 +25,15 @@ pub(crate) struct Span {
     pub to: usize,
 }
 
-/// The octets of a tail of words behind its count at an octet.
+/// The octets of a tail of words after its count at an octet.
 pub(crate) fn words_at(frame: &[u8], at: usize, stop: usize) -> Result<Span, FrameErr>
     requires before { at ≤ stop }
-    requires small { length frame.now ≤ 65536 }
+    requires small { length frame.now ≤ MAX_LIMIT }
     requires inside { stop ≤ length frame.now }
-    ensures { (fields : List ℕ) → MatchResult result (λ s. TailSpans Words fields (8 * at) (8 * stop) (drop (8 * at) (digits_of_bytes frame.now)) (8 * s.from) (8 * s.to)) (FailsFirst (tail_checks Words fields (8 * at) (8 * stop) (drop (8 * at) (digits_of_bytes frame.now)))) }
+    ensures { (fields : List ℕ) → MatchResult result (λ s. TailSpans Words fields (8 * at)
+        (8 * stop) (drop (8 * at) (digits_of_bytes frame.now)) (8 * s.from) (8 * s.to))
+        (FailsFirst (tail_checks Words fields (8 * at) (8 * stop)
+        (drop (8 * at) (digits_of_bytes frame.now)))) }
 {
     if stop - at < 2 {
         return Err(bad(8 * at, Reason::Short));
@@ -44,12 +48,15 @@ pub(crate) fn words_at(frame: &[u8], at: usize, stop: usize) -> Result<Span, Fra
     })
 }
 
-/// The octets of a tail of text behind its count at an octet.
+/// The octets of a tail of text after its count at an octet.
 pub(crate) fn text_at(frame: &[u8], at: usize, stop: usize) -> Result<Span, FrameErr>
     requires before { at ≤ stop }
-    requires small { length frame.now ≤ 65536 }
+    requires small { length frame.now ≤ MAX_LIMIT }
     requires inside { stop ≤ length frame.now }
-    ensures { (fields : List ℕ) → MatchResult result (λ s. TailSpans Text fields (8 * at) (8 * stop) (drop (8 * at) (digits_of_bytes frame.now)) (8 * s.from) (8 * s.to)) (FailsFirst (tail_checks Text fields (8 * at) (8 * stop) (drop (8 * at) (digits_of_bytes frame.now)))) }
+    ensures { (fields : List ℕ) → MatchResult result (λ s. TailSpans Text fields (8 * at) (8 * stop)
+        (drop (8 * at) (digits_of_bytes frame.now)) (8 * s.from) (8 * s.to))
+        (FailsFirst (tail_checks Text fields (8 * at) (8 * stop)
+        (drop (8 * at) (digits_of_bytes frame.now)))) }
 {
     if stop - at < 2 {
         return Err(bad(8 * at, Reason::Short));
@@ -72,8 +79,10 @@ pub(crate) fn text_at(frame: &[u8], at: usize, stop: usize) -> Result<Span, Fram
 pub(crate) fn bits_at(at: usize, stop: usize, fields: &[u128]) -> Result<Span, FrameErr>
     requires behind { 2 ≤ at }
     requires before { at ≤ stop }
-    requires small { stop ≤ 65536 }
-    ensures { (rest : List Bool) → MatchResult result (λ s. TailSpans Bits fields.now (8 * at) (8 * stop) rest (8 * s.from) (8 * s.to)) (FailsFirst (tail_checks Bits fields.now (8 * at) (8 * stop) rest)) }
+    requires small { stop ≤ MAX_LIMIT }
+    ensures { (rest : List Bool) → MatchResult result
+        (λ s. TailSpans Bits fields.now (8 * at) (8 * stop) rest (8 * s.from) (8 * s.to))
+        (FailsFirst (tail_checks Bits fields.now (8 * at) (8 * stop) rest)) }
 {
     let bits = match fields {
         [] => 0,
@@ -99,9 +108,12 @@ pub(crate) fn tail_at(
 ) -> Result<Span, FrameErr>
     requires behind { 2 ≤ at }
     requires before { at ≤ stop }
-    requires small { length frame.now ≤ 65536 }
+    requires small { length frame.now ≤ MAX_LIMIT }
     requires inside { stop ≤ length frame.now }
-    ensures { MatchResult result (λ s. TailSpans form fields.now (8 * at) (8 * stop) (drop (8 * at) (digits_of_bytes frame.now)) (8 * s.from) (8 * s.to)) (FailsFirst (tail_checks form fields.now (8 * at) (8 * stop) (drop (8 * at) (digits_of_bytes frame.now)))) }
+    ensures { MatchResult result (λ s. TailSpans form fields.now (8 * at) (8 * stop)
+        (drop (8 * at) (digits_of_bytes frame.now)) (8 * s.from) (8 * s.to))
+        (FailsFirst (tail_checks form fields.now (8 * at) (8 * stop)
+        (drop (8 * at) (digits_of_bytes frame.now)))) }
 {
     match form {
         Tail::Absent => Ok(Span { from: at, to: at }),
@@ -111,14 +123,14 @@ pub(crate) fn tail_at(
     }
 }
 
-/// The tail of a node, and the octet behind it.
+/// The tail of a node, and the octet after it.
 #[derive(Drop)]
 pub(crate) struct ReadTail {
     pub octets: Octets,
     pub at: usize,
 }
 
-/// The tail of a node of a kind behind its fields.
+/// The tail of a node of a kind after its fields.
 pub(crate) fn read_tail(
     alloc: Global,
     frame: &[u8],
@@ -129,13 +141,18 @@ pub(crate) fn read_tail(
 ) -> Result<ReadTail, FrameErr>
     requires behind { 2 ≤ at }
     requires before { at ≤ stop }
-    requires small { length frame.now ≤ 65536 }
+    requires small { length frame.now ≤ MAX_LIMIT }
     requires inside { stop ≤ length frame.now }
     requires count { length fields.now ≡ length (plain_fields_of kind) }
     ensures within { MatchResult result (λ x. (at ≤ x.at) × (x.at ≤ stop)) (λ _. Unit {0}) }
-    ensures read { (h : Head) (outer : List Begun) → kind_of h ≡ kind → Stands (digits_of_bytes frame.now) (leading h (8 * stop) (spread (fields_of kind) fields.now) ∷ outer) (8 * at)
-        → MatchResult result (λ x. Stands (digits_of_bytes frame.now) (begun h (8 * stop) (spread (fields_of kind) fields.now) (as_read (tail_of kind) x.octets) none ∷ outer) (8 * x.at)) (Tells (digits_of_bytes frame.now)) }
-    ensures whole { MatchResult result (λ x. unwrap_or (as_read (tail_of kind) x.octets) [] ≡ x.octets) (λ _. Unit {0}) }
+    ensures read { (h : Head) (outer : List Begun) → kind_of h ≡ kind
+        → Stands (digits_of_bytes frame.now) (leading h (8 * stop)
+        (spread (fields_of kind) fields.now) ∷ outer) (8 * at)
+        → MatchResult result (λ x. Stands (digits_of_bytes frame.now)
+        (begun h (8 * stop) (spread (fields_of kind) fields.now) (as_read (tail_of kind) x.octets)
+        none ∷ outer) (8 * x.at)) (Tells (digits_of_bytes frame.now)) }
+    ensures whole { MatchResult result (λ x. unwrap_or (as_read (tail_of kind) x.octets) []
+        ≡ x.octets) (λ _. Unit {0}) }
 {
     let span = tail_at(frame, at, stop, llrp_schema::tail(kind), fields)?;
     let octets = frame[span.from..span.to].to_vec(alloc)?;

@@ -1,4 +1,4 @@
--- No kind of child stands in two groups of one parent.
+-- No kind of child is in two groups of one parent.
 use Rattle.llrp_schema.proofs.TableLaws.{groups_apart}
 use Rattle.llrp_schema.proofs.laws.groups_are_sound.Goals as goal
 

@@ -1,4 +1,4 @@
--- The kinds whose names have the text's length hold the one that has the name.
+-- The kinds whose names have this length hold the one that has the name.
 use Rattle.std.proofs.Common.{◌∙◌}
 use Rattle.llrp_schema.specs.declared.kinds.Kind.TheVariants.{Message}
 use Rattle.llrp_schema.specs.Schema.{name_of, message_kinds, message_with_name}
@@ -7,4 +7,4 @@ use Rattle.llrp_schema.proofs.named.msg_named.Goals as goal
 
 pub returns : goal.returns
 unfolding message_with_name
-returns c = c.first_message.ensures ∙ find_of_length (λ kind. name_of (Message kind)) c.args.text.now c.messages_of_length.result.now message_kinds c.messages_of_length.ensures
+returns c = c.first_message.ensures ∙ find_of_length (λ kind. name_of (Message kind)) c.args.name.now c.messages_of_length.result.now message_kinds c.messages_of_length.ensures

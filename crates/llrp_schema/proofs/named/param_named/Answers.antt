@@ -1,4 +1,4 @@
--- The kinds whose names have the text's length hold the one that has the name.
+-- The kinds whose names have this length hold the one that has the name.
 use Rattle.std.proofs.Common.{◌∙◌}
 use Rattle.llrp_schema.specs.declared.kinds.Kind.TheVariants.{Parameter}
 use Rattle.llrp_schema.specs.Schema.{name_of, param_kinds, param_with_name}
@@ -7,4 +7,4 @@ use Rattle.llrp_schema.proofs.named.param_named.Goals as goal
 
 pub returns : goal.returns
 unfolding param_with_name
-returns c = c.first_parameter.ensures ∙ find_of_length (λ kind. name_of (Parameter kind)) c.args.text.now c.parameters_of_length.result.now param_kinds c.parameters_of_length.ensures
+returns c = c.first_parameter.ensures ∙ find_of_length (λ kind. name_of (Parameter kind)) c.args.name.now c.parameters_of_length.result.now param_kinds c.parameters_of_length.ensures

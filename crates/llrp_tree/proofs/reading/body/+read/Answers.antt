@@ -1,4 +1,4 @@
--- Each child is a step of the open trees that stand here.
+-- Each child is a step of the open trees that are possible here.
 use Rattle.std.proofs.Common.{rules, ◌≡◌, Bool, ◌+◌, ◌*◌, inr, List, ◌∷◌, map, arith, sym, ap, ◌∙◌, subst}
 use Rattle.std.proofs.lemmas.Result.{err_from_is_err_and}
 use Rattle.tag_bits.specs.Digits.{digits_of_bytes}
@@ -83,15 +83,15 @@ read_body-returns-clause-read t c = λ h outer k l st.
     (inr (omega (arith, c.children-test.false)))
     (ap (λ (gs : List GroupRule). none_missing gs c.children.children.items) (sym c.groups.ensures) ∙ ap (λ (ts : List Tree). none_missing (map group_rule c.groups.result.now) ts) (sym c.as_slice-2.ensures.value) ∙ sym c.none_missing-enough.ensures ∙ (cc (c.if-not-enough.false))))
 
-pub read_tlv-of_lawful-requires-clause-lawful : goal.read_tlv-of_lawful-requires-clause-lawful
-read_tlv-of_lawful-requires-clause-lawful t c =
+pub read_tlv-of_octets-requires-clause-lawful : goal.read_tlv-of_octets-requires-clause-lawful
+read_tlv-of_octets-requires-clause-lawful t c =
     let w = c.requires.begins in
     let b = c.in_ok-body.body in
     child_lawful (digits_of_bytes c.args.frame.now) w.parent.head w.parent.stop w.parent.fields w.parent.tail w.parent.children w.outer (8 * b.at) c.args.child.kind c.read_body.new.fields.items b.tail (forest b.children)
     (child_stands (digits_of_bytes c.args.frame.now) w.parent w.outer (8 * b.at) w.head (8 * c.args.child.stop) c.args.child.kind c.read_body.new.fields.items b.tail (forest b.children) w.of_kind c.in_ok-body.ensures.count c.in_ok-body.ensures.whole (c.in_ok-body.ensures.read w.head (w.parent ∷ w.outer) w.of_kind w.at_level w.stands))
 
-pub read_tlv-of_lawful-requires-clause-long : goal.read_tlv-of_lawful-requires-clause-long
-read_tlv-of_lawful-requires-clause-long t c =
+pub read_tlv-of_octets-requires-clause-long : goal.read_tlv-of_octets-requires-clause-long
+read_tlv-of_octets-requires-clause-long t c =
     let w = c.requires.begins in
     let b = c.in_ok-body.body in
     let four : head_octets c.args.child.kind ≡ 4 = ap (λ (x : Bool). if x then 1 else 4) c.requires.long in
@@ -102,5 +102,5 @@ read_tlv-of_lawful-requires-clause-long t c =
 pub read_tlv-returns-clause-read : goal.read_tlv-returns-clause-read
 read_tlv-returns-clause-read t c = λ h parent outer k s l st.
     let b = c.in_ok-body.body in
-    child_pushed (digits_of_bytes c.args.frame.now) parent outer c.args.siblings.now.items c.push.new.self.items c.of_lawful.result (8 * b.at) c.args.child.kind c.read_body.new.fields.items b.tail (forest b.children) s c.of_lawful.ensures c.in_ok-push.ensures.items
+    child_pushed (digits_of_bytes c.args.frame.now) parent outer c.args.siblings.now.items c.push.new.self.items c.of_octets.result (8 * b.at) c.args.child.kind c.read_body.new.fields.items b.tail (forest b.children) s c.of_octets.ensures c.in_ok-push.ensures.items
     (child_stands (digits_of_bytes c.args.frame.now) parent outer (8 * b.at) h (8 * c.args.child.stop) c.args.child.kind c.read_body.new.fields.items b.tail (forest b.children) k c.in_ok-body.ensures.count c.in_ok-body.ensures.whole (c.in_ok-body.ensures.read h (parent ∷ outer) k l st))

@@ -1,4 +1,4 @@
--- A child's head, as a step of each open tree that stands here.
+-- A child's head, as a step of each open tree that is possible here.
 use Rattle.std.proofs.Common.{◌≡◌, ℕ, ◌+◌, ◌*◌, [], ◌∷◌, Option, drop, subst, ap, ◌∙◌, refl, arith}
 use Rattle.std.proofs.lemmas.Result.{err_from_is_err_and}
 use Rattle.tag_bits.specs.Digits.{digits_of_bytes}

@@ -1,4 +1,4 @@
--- Each rule is read as a field of the open trees that stand here.
+-- Each rule is read as a field of the open trees that are possible here.
 use Rattle.std.proofs.Common.{◌≡◌, ◌+◌, ◌*◌, ◌/◌, ℕ, List, [], ◌∷◌, ◌++◌, false, length, length-append, take, map, get_or, lit<, arith, sym, ap, ◌∙◌, subst}
 use Rattle.std.proofs.lemmas.Result.{err_from_is_err_and}
 use Rattle.arrayvec.specs.ArrayVec.{ArrayVec}
@@ -12,7 +12,7 @@ use Rattle.llrp_tree.proofs.ReadingLemmas.{rule_width, rule_tells, plain_has_roo
 use Rattle.llrp_tree.proofs.reading.fields.read_fields.Goals as goal
 use Rattle.llrp_tree.proofs.reading.fields.read_fields.Goals.{then-not-rule, else-not-rule}
 
--- the element behind the last one
+-- the element after the last one
 abbrev blank : Field
 blank = record { name = record { ref_ptr = (0, 0); now = [] }; width = 0; reserved = false; greatest = 0; signed = false }
 

@@ -1,4 +1,4 @@
--- The one rule is read as the field of the open tree that stands here.
+-- The one rule is read as the field of the open tree that is possible here.
 use Rattle.std.proofs.Common.{◌≡◌, ◌+◌, ◌*◌, ◌/◌, ℕ, [], ◌∷◌, false, get_or, arith, subst}
 use Rattle.std.proofs.lemmas.Result.{err_from_is_err_and}
 use Rattle.tag_bits.specs.Digits.{digits_of_bytes}
@@ -11,7 +11,7 @@ use Rattle.llrp_tree.proofs.ReadingLemmas.{rule_width, rule_tells}
 use Rattle.llrp_tree.proofs.OneField.{one_rule, whole_width, value_stands}
 use Rattle.llrp_tree.proofs.reading.fields.read_value.Goals as goal
 
--- the element behind the last one
+-- the element after the last one
 abbrev blank : Field
 blank = record { name = record { ref_ptr = (0, 0); now = [] }; width = 0; reserved = false; greatest = 0; signed = false }
 

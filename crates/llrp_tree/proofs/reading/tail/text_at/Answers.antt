@@ -1,4 +1,4 @@
--- The octets behind the count are text, or the first that are not tell the fault.
+-- The octets after the count are text, or the first that are not give the fault.
 use Rattle.std.proofs.Common.{ℕ, ◌+◌, ◌-◌, ap, ◌∙◌, take, drop, arith}
 use Rattle.llrp_tree.proofs.OctetLemmas.{are_octets}
 use Rattle.llrp_tree.proofs.ChildLemmas.{text_spans, text_fails}

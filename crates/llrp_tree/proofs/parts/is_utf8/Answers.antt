@@ -1,7 +1,7 @@
 use Rattle.std.proofs.Common.{sym}
 use Rattle.std.proofs.lemmas.Str.{is_utf8-from_IsUtf8}
 use Rattle.llrp_tree.proofs.OctetLemmas.{not_utf8}
-use Rattle.llrp_tree.proofs.check.is_utf8.Goals as goal
+use Rattle.llrp_tree.proofs.parts.is_utf8.Goals as goal
 
 pub returns-in-Ok : goal.returns-in-Ok
 returns-in-Ok c = sym (is_utf8-from_IsUtf8 c.args.octets.now c.in-Ok.ensures.cases.1)
