@@ -126,7 +126,7 @@ halves_of_field bs place upper high low few within high_is low_is =
     ∙ ap (λ (k : ℕ). value (field ds place upper) * 2 ^ 64 + k) low_is
     ∙ sym spelled
 
--- the digits of bytes of which those of one octet are told
+-- the digits of bytes of which those of one octet are known
 bytes-set : (bs : List ℕ) (i octet : ℕ) → i < length bs → digits_of_bytes (set bs i octet) ≡ digits_of_bytes (take i bs) ++ (digits 8 octet ++ digits_of_bytes (drop (i + 1) bs))
 bytes-set bs i octet room =
     ap digits_of_bytes (set_split bs i octet room)
@@ -150,7 +150,7 @@ put_in_octet bs at before kept place width value octet start end room few is =
     ∙ ap (λ (x : List Bool). digits_of_bytes (take at bs) ++ (x ++ digits_of_bytes (drop (at + 1) bs))) is
     ∙ rw (behind, front, back) (simp append_assoc)
 
--- the number that the code writes over all octets but the last: what stands before the field, and the field's upper digits
+-- the number that the code writes over all octets but the last: what comes before the field, and the field's upper digits
 unfoldable pub upper : ℕ → ℕ → ℕ → ℕ → ℕ → ℕ
 upper octet before kept width value = bit_or (octet / 2 ^ (8 - before) * 2 ^ (width - kept) % 2 ^ 128) (value / 2 ^ kept)
 

@@ -57,7 +57,7 @@ write_more bs n rest i some room fits left written =
     ∙ ap (λ (x : List Bool). field all (8 * j) 8 ++ x) (sym (drop-drop 8 (8 * j) all))
     ∙ take-append-drop 8 (drop (8 * j) all)
 
--- what is left behind the octets written
+-- what is left after the octets written
 pub left_more : (n rest len i : ℕ) → 0 < i → i ≤ len → rest ≡ n / 2 ^ (8 * (len - i)) → rest / 2 ^ 8 ≡ n / 2 ^ (8 * (len - (i - 1)))
 left_more n rest len i some room left =
     let total : 8 * (len - i) + 8 ≡ 8 * (len - (i - 1)) = omega arith in

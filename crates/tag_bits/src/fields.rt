@@ -1,4 +1,4 @@
-//! Numbers of up to 128 bits that stand anywhere among bytes.
+//! Numbers of up to 128 bits that are anywhere among bytes.
 
 ghost use Rattle.std.specs.Prelude.{◌≡◌, ℕ, ◌+◌, ◌*◌, ◌^◌, ◌<◌, ◌≤◌, length};
 ghost use Rattle.tag_bits.specs.Digits.{value, digits, digits_of_bytes, field, with_field};
@@ -120,7 +120,8 @@ pub fn put(bytes: &mut [u8], place: usize, width: u32, value: u128)
     requires most { width ≤ 128 }
     requires within { place + width ≤ 8 * length bytes.old }
     requires fits { value < 2 ^ width }
-    ensures { digits_of_bytes bytes.new ≡ with_field (digits_of_bytes bytes.old) place (digits width value) }
+    ensures { digits_of_bytes bytes.new
+        ≡ with_field (digits_of_bytes bytes.old) place (digits width value) }
 {
     let Span {
         first,

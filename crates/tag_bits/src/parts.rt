@@ -30,7 +30,8 @@ pub fn with_part(number: u128, total: u32, place: u32, width: u32, value: u128) 
     requires whole { number < 2 ^ total }
     requires within { place + width ≤ total }
     requires fits { value < 2 ^ width }
-    ensures digits { digits total result ≡ with_field (digits total number) place (digits width value) }
+    ensures digits { digits total result ≡ with_field (digits total number) place
+        (digits width value) }
     ensures below { result < 2 ^ total }
 {
     let rest = total - place - width;

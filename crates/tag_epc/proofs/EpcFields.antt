@@ -38,7 +38,7 @@ leading_fit : (k : Kind) (l : Layout) (r : Row) (f p : ℕ) → Placed k l r f p
     → Fits (record { segment = plain 8; number = l.header }) × Fits (record { segment = plain 3; number = f }) × Fits (record { segment = plain 3; number = p })
 leading_fit k l r f p a = let s = a.sound.rows p r a.row in (fits_plain 8 l.header a.sound.header, fits_plain 3 f a.filter, fits_plain 3 p (omega (arith, s.partition)))
 
--- a number behind the partition value that does not fit, among all fields
+-- a number after the partition value that does not fit, among all fields
 behind_leading : (k : Kind) (l : Layout) (r : Row) (f p c t n m : ℕ) → Placed k l r f p → FirstUnfit (numbers l r c t n) m → FirstUnfit (row_fields l r f p c t n) (suc (suc (suc m)))
 behind_leading k l r f p c t n m a u =
     let front = leading_fit k l r f p a in
@@ -86,7 +86,7 @@ serial_unfit m o s a b h = record {
   first = record { unfit = record { segment = plain 36; number = s }; stands = refl; before = (fits_plain 8 gid_header (omega arith), (fits_plain 28 m a, (fits_plain 24 o b, tt))); fails = λ f. let d : s < 2 ^ 36 = f.bits in omega arith };
 }
 
--- what is read behind a header: filter value, partition value, and the numbers of the row
+-- what is read after a header: filter value, partition value, and the numbers of the row
 pub record Cut (l : Layout) (r : Row) (f p c t n : ℕ) (ds : List Bool) : Type 0 where
   pub partition : p < 2 ^ 3
   pub company : c < 2 ^ r.company_bits
@@ -111,7 +111,7 @@ cut l r f p c t n w r0 r1 r2 r3 r4 r5 bits a b d e x0 x1 x2 x3 x4 done = record 
   digits_are = let empty : r5 ≡ [] = no_digits r5 done in rw (x0, x1, x2, x3, x4, empty, bits) refl;
 }
 
--- the digits of a word behind a scheme's header
+-- the digits of a word after a scheme's header
 cut_spelled : (l : Layout) (r : Row) (f p c t n : ℕ) (ds : List Bool) → Cut l r f p c t n ds → digits 8 l.header ++ ds ≡ spell (row_fields l r f p c t n)
 cut_spelled l r f p c t n ds a = ap (λ (x : List Bool). digits 8 l.header ++ x) a.digits_are
 
@@ -156,7 +156,7 @@ cut_unfit k l r f p c t n ds m a x u = let s = a.sound.rows p r a.row in record 
   bit = number_bit m l r f p c t n;
 }
 
--- the same, where the fault and its number are told
+-- the same, where the fault and its number are known
 pub cut_fault : (k : Kind) (l : Layout) (r : Row) (f p c t n : ℕ) (ds : List Bool) (told m : Number) (fault : WordFault) → Placed k l r f p → Cut l r f p c t n ds → told ≡ m → fault ≡ fault_of m r
     → FirstUnfit (numbers l r c t n) (place_of_number told) → HasFault (digits 8 l.header ++ ds) fault
 cut_fault k l r f p c t n ds told m fault a x is same u =

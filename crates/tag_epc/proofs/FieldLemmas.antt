@@ -1,4 +1,4 @@
--- Fields: which fit, and what their digits tell.
+-- Fields: which fit, and what follows from their digits.
 use Rattle.std.proofs.Common.{◌≡◌, ℕ, zero, suc, ◌^◌, ◌<◌, Bool, List, [], ◌∷◌, ◌++◌, length, take, drop, Some, refl, sym, ap, subst, ◌∙◌, arith}
 use Rattle.std.specs.Prelude.{slice_get}
 use Rattle.std.proofs.lemmas.List.{append_assoc}
@@ -37,14 +37,14 @@ one_unfit fs m n u v =
     let below : n < m → ⊥ = λ h. v.fails (fits_before fs n m v.unfit h v.stands u.before) in
     omega (arith, above, below)
 
--- equal digits of equal width, with what stands behind them
+-- equal digits of equal width, with what follows them
 pub same_part : (w a b : ℕ) (xs ys : List Bool) → a < 2 ^ w → b < 2 ^ w → digits w a ++ xs ≡ digits w b ++ ys → (a ≡ b) × (xs ≡ ys)
 same_part w a b xs ys p q e = (
   digits-injective w a b p q (sym (take-seam w (digits w a) xs (length-digits w a)) ∙ ap (λ (x : List Bool). take w x) e ∙ take-seam w (digits w b) ys (length-digits w b)),
   sym (drop-seam w (digits w a) xs (length-digits w a)) ∙ ap (λ (x : List Bool). drop w x) e ∙ drop-seam w (digits w b) ys (length-digits w b),
 )
 
--- equal digits of the same segments tell the same numbers
+-- equal digits of the same segments give the same numbers
 pub same_numbers : (ss : List Segment) (ms ns : List ℕ) (xs ys : List Bool) → length ms ≡ length ss → length ns ≡ length ss
     → AllRead (fill ss ms) → AllRead (fill ss ns) → spell (fill ss ms) ++ xs ≡ spell (fill ss ns) ++ ys → (ms ≡ ns) × (xs ≡ ys)
 same_numbers [] [] [] xs ys l k a b e = (refl, e)

@@ -1,4 +1,4 @@
--- Every scheme stands in the list of all.
+-- Every scheme is in the list of all.
 use Rattle.std.proofs.Common.{◌≡◌, ◌<◌, ℕ, suc, List, [], ◌∷◌, length, Some, true, ◌==◌, cond, nat_lt, refl}
 use Rattle.std.proofs.lemmas.Bool.{ltb-true}
 use Rattle.std.specs.Prelude.{slice_get}
@@ -6,12 +6,12 @@ use Rattle.tag_epc.specs.declared.kind.Kind.{Kind}
 use Rattle.tag_epc.specs.declared.kind.Kind.TheVariants.{Sgtin}
 use Rattle.tag_epc.specs.Layout.{every_kind, header_of}
 
--- how many kinds stand before the one with a header
+-- how many kinds come before the one with a header
 abbrev pub place_in : List Kind → ℕ → ℕ
 place_in [] header = 0
 place_in (k ∷ ks) header = cond (header_of k == header) 0 (suc (place_in ks header))
 
--- where a kind stands among all
+-- where a kind is among all
 abbrev pub place_of : Kind → ℕ
 place_of k = place_in every_kind (header_of k)
 

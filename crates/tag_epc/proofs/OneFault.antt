@@ -24,7 +24,7 @@ use Rattle.tag_epc.proofs.OneReading.{header_below, header_is, Begins, header_fi
 some_same : {A : Type 0} (a b : A) → Some a ≡ Some b → a ≡ b
 some_same a b e = cc
 
--- a partition value without a row stands behind a scheme's header
+-- a partition value without a row follows a scheme's header
 row_begins : (fs : List Field) (xs ds : List Bool) (a : HasNoRow fs) → ds ≡ spell fs ++ xs → Begins ds a.kind
 row_begins fs xs ds a e =
     header_first a.kind a.layout.header (take 2 (drop 1 (fill leading_segments (a.layout.header ∷ a.filter ∷ a.partition ∷ [])))) xs ds 8 refl (header_is a.kind a.layout a.scheme) (e ∙ ap (λ (x : List Field). spell x ++ xs) a.filled)
@@ -73,7 +73,7 @@ outcome word.Zeros fs a = inr (inr a)
 abbrev reason_at : ℕ → WordReason
 reason_at n = cond (n == 0) word.Header (cond (n == 2) word.Partition (cond (n == 3) word.Prefix (cond (n == 4) word.Reference word.Zeros)))
 
--- a reason is told by its place
+-- a reason is known by its place
 reason_of_place : (r : WordReason) → reason_at (place_of r) ≡ r
 reason_of_place word.Header = refl
 reason_of_place _ = refl
@@ -154,7 +154,7 @@ filter_fits k f d c t n m a =
     let before = subst (λ (z : List Field). AllFit (take (suc (suc (suc m))) z)) a.has.filled a.first.before in
     before.1.0.bits
 
--- the fault of a number by its place behind the partition value, or behind the header of GID-96
+-- the fault of a number by its place after the partition value, or after the header of GID-96
 abbrev number_fault : ℕ → EpcFault
 number_fault m = cond (m == 0) epc.Prefix (cond (m == 1) epc.Reference epc.Last)
 

@@ -42,7 +42,7 @@ header_below k = ltb-true (header_of k) 256 (header_small k)
 pub header_is : (k : Kind) (l : Layout) → layout_of k ≡ Some l → header_of k ≡ l.header
 header_is k l e = ap (λ (o : Option Layout). unwrap_or (option_map (λ (x : Layout). x.header) o) gid_header) e
 
--- the digits of fields in a row, and what stands behind them
+-- the digits of fields in a row, and what follows them
 pub spell-append : (fs gs : List Field) (xs : List Bool) → spell (fs ++ gs) ++ xs ≡ spell fs ++ (spell gs ++ xs)
 spell-append [] gs xs = refl
 spell-append (f ∷ fs) gs xs =
@@ -90,7 +90,7 @@ pub record SameNumbers (f p c t n g q d u o : ℕ) (r s : Row) : Type 0 where
   pub reference : t ≡ u
   pub last : n ≡ o
 
--- equal digits of the fields of one layout tell the same numbers
+-- equal digits of the fields of one layout give the same numbers
 same_rows : (l : Layout) (r s : Row) (f p c t n g q d u o : ℕ) (xs ys : List Bool) → row_at l p ≡ Some r → row_at l q ≡ Some s
     → AllRead (row_fields l r f p c t n) → AllRead (row_fields l s g q d u o) → spell (row_fields l r f p c t n) ++ xs ≡ spell (row_fields l s g q d u o) ++ ys
     → SameNumbers f p c t n g q d u o r s

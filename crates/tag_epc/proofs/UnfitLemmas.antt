@@ -1,4 +1,4 @@
--- The first of the numbers behind a partition value that does not fit.
+-- The first of the numbers after a partition value that does not fit.
 use Rattle.std.proofs.Common.{◌≡◌, ℕ, ◌+◌, ◌*◌, ◌/◌, ◌%◌, ◌^◌, ◌<◌, ◌≤◌, Bool, true, false, List, [], ◌∷◌, refl, arith}
 use Rattle.std.specs.Prelude.{nat_eq}
 use Rattle.std.proofs.lemmas.Bool.{eqb-true, eq-eqb}
@@ -36,7 +36,7 @@ company_unfit l r c t n h = record {
   fails = λ f. let d : c < 10 ^ r.company_digits = f.decimals in omega arith;
 }
 
--- a reference of too many digits behind a company prefix that fits
+-- a reference of too many digits after a company prefix that fits
 pub reference_unfit : (l : Layout) (r : Row) (p c t n : ℕ) → FitsRow l p r → c < 10 ^ r.company_digits → 10 ^ r.reference_digits ≤ t → FirstUnfit (numbers l r c t n) 1
 reference_unfit l r p c t n s a h = record {
   unfit = record { segment = fixed r.reference_bits r.reference_digits; number = t };
@@ -45,7 +45,7 @@ reference_unfit l r p c t n s a h = record {
   fails = λ f. let d : t < 10 ^ r.reference_digits = f.decimals in omega arith;
 }
 
--- a last part that does not fit behind numbers that do
+-- a last part that does not fit after numbers that do
 pub last_unfit : (l : Layout) (r : Row) (p c t n : ℕ) → FitsRow l p r → c < 10 ^ r.company_digits → t < 10 ^ r.reference_digits
     → ¬ Fits (record { segment = last_segment l; number = n }) → FirstUnfit (numbers l r c t n) 2
 last_unfit l r p c t n s a b h = record {

@@ -38,7 +38,7 @@ HasEpcFault (General manager object_class serial) epc.Prefix = HasUnfit (General
 HasEpcFault (General manager object_class serial) epc.Reference = HasUnfit (General manager object_class serial) 2
 HasEpcFault (General manager object_class serial) epc.Last = HasUnfit (General manager object_class serial) 3
 
--- the fields behind the header of a word are a filter value and a partition value that has no row
+-- the fields after the header of a word are a filter value and a partition value that has no row
 pub record HasNoRow (fields : List Field) : Type 0 where
   pub kind : Kind
   pub layout : Layout
@@ -76,7 +76,7 @@ reason_name word.Prefix = codes "Prefix"
 reason_name word.Reference = codes "Reference"
 reason_name word.Zeros = codes "Zeros"
 
--- how many fields stand before the one that fails
+-- how many fields come before the one that fails
 abbrev pub place_of : WordReason → ℕ
 place_of word.Header = 0
 place_of word.Partition = 2

@@ -13,7 +13,7 @@ pub record Segment : Type 0 where
 abbrev pub plain : ℕ → Segment
 plain w = record { width = w; decimals = None }
 
--- a segment of a number of so many decimal digits
+-- a segment of a number of this many decimal digits
 abbrev pub fixed : ℕ → ℕ → Segment
 fixed w k = record { width = w; decimals = Some k }
 

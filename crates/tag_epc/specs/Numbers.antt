@@ -1,9 +1,9 @@
--- The numbers behind a partition value.
+-- The numbers after a partition value.
 use Rattle.std.specs.Prelude.{ℕ}
 use Rattle.tag_epc.specs.declared.check.Number.{Number}
 use Rattle.tag_epc.specs.declared.check.Number.TheVariants.{Company, Reference, Last}
 
--- how many of them stand before one
+-- how many of them come before one
 abbrev pub place_of_number : Number → ℕ
 place_of_number Company = 0
 place_of_number Reference = 1

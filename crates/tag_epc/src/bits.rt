@@ -1,6 +1,6 @@
 //! A word's binary digits, written and read from the front.
 
-ghost use Rattle.std.specs.Prelude.{◌≡◌, ℕ, ◌+◌, ◌^◌, ◌<◌, ◌≤◌, ◌++◌, [], List, Bool, length};
+ghost use Rattle.std.specs.Prelude.{◌≡◌, ℕ, ◌+◌, ◌-◌, ◌/◌, ◌^◌, ◌<◌, ◌≤◌, ◌++◌, [], List, Bool, length};
 ghost use Rattle.tag_bits.specs.Digits.{digits, word_digits};
 
 use std::marker::Model;
@@ -23,6 +23,7 @@ impl Model for WordWriter {
 
 impl WordWriter {
     /// No digits.
+    #[inline(always)]
     pub fn new() -> WordWriter
         ensures { result ≡ [] }
     {
@@ -33,13 +34,16 @@ impl WordWriter {
     }
 
     /// Adds the `width` digits of `number`.
+    #[inline(always)]
     pub fn push(&mut self, width: u32, number: u64)
         requires room { length self.old + width ≤ 96 }
+        requires narrow { width < 64 }
         requires fits { number < 2 ^ width }
         ensures pushed { self.new ≡ self.old ++ digits width number }
         ensures length { length self.new ≡ length self.old + width }
     {
-        self.number = self.number << width | number as u128;
+        // The remainder says that no shift is by 64 or more, as in `take`.
+        self.number = self.number << (width % 64) | number as u128;
         self.count += width;
     }
 
@@ -55,44 +59,47 @@ impl WordWriter {
     }
 }
 
-/// The digits of a word that are still unread.
+/// The digits of a word that are still unread: the first `count` of the 128 of `rest`.
 #[derive(Drop)]
 pub struct WordReader {
-    number: u128,
+    rest: u128,
     count: u32,
 }
 
 impl Model for WordReader {
     ghost Value = { List Bool };
 
-    ghost view = { λ a. digits a.count a.number };
+    ghost view = { λ a. digits a.count (a.rest / 2 ^ (128 - a.count)) };
 
-    ghost invariant = { λ a. (a.count ≤ 96) × (a.number < 2 ^ a.count) };
+    ghost invariant = { λ a. a.count ≤ 96 };
 }
 
 impl WordReader {
     /// All digits of a word.
+    #[inline(always)]
     pub fn new(word: Word) -> WordReader
         ensures whole { result ≡ word_digits word }
         ensures length { length result ≡ 96 }
     {
         WordReader {
-            number: word.number(),
+            rest: word.number() << 32,
             count: 96,
         }
     }
 
     /// The number of the next `width` digits, which are then read.
+    #[inline(always)]
     pub fn take(&mut self, width: u32) -> u64
         requires room { width ≤ length self.old }
-        requires narrow { width ≤ 64 }
+        requires narrow { width < 64 }
         ensures read { self.old ≡ digits width result ++ self.new }
         ensures below { result < 2 ^ width }
         ensures length { length self.old ≡ length self.new + width }
     {
+        let number = (self.rest >> 65) as u64 >> (63 - width);
+        // The remainder says that no shift is by 64 or more: such a shift of 128 bits takes a branch.
+        self.rest <<= width % 64;
         self.count -= width;
-        let number = self.number >> self.count;
-        self.number &= (1 << self.count) - 1;
-        number as u64
+        number
     }
 }

@@ -12,7 +12,7 @@ use crate::fault::EpcFault;
 use crate::kind::Kind;
 use crate::scheme::{Row, Scheme, power};
 
-/// The numbers behind a partition value.
+/// The numbers after a partition value.
 #[derive(Clone, Copy, PartialEq, Eq)]
 pub enum Number {
     Company,
@@ -23,7 +23,8 @@ pub enum Number {
 /// The first number that does not fit its segment.
 pub fn first_unfit<S: Scheme>(row: Row, company: u64, reference: u64, last: u64) -> Option<Number>
     requires { (p : ℕ) × (row_at S.layout p ≡ Some row) }
-    ensures { let fields = fill (number_segments S.layout row) (company ∷ reference ∷ last ∷ []) in MatchOption result (AllFit fields) (λ n. FirstUnfit fields (place_of_number n)) }
+    ensures { let fields = fill (number_segments S.layout row) (company ∷ reference ∷ last
+        ∷ []) in MatchOption result (AllFit fields) (λ n. FirstUnfit fields (place_of_number n)) }
 {
     if company >= power(row.company_digits) {
         Some(Number::Company)
@@ -57,9 +58,11 @@ pub fn checked<S: Scheme>(
     last: u64,
 ) -> Result<Parts, EpcFault>
     requires { layout_of kind ≡ Some S.layout }
-    ensures ok { IfOk result (λ parts. parts ≡ Parts.Partitioned kind filter company_digits company reference last) }
+    ensures ok { IfOk result (λ parts. parts
+        ≡ Parts.Partitioned kind filter company_digits company reference last) }
     ensures lawful { IfOk result (λ parts. IsLawful parts) }
-    ensures err { IfErr result (λ f. HasEpcFault (Parts.Partitioned kind filter company_digits company reference last) f) }
+    ensures err { IfErr result (λ f. HasEpcFault (Parts.Partitioned kind filter company_digits
+        company reference last) f) }
 {
     if filter > 7 {
         return Err(EpcFault::Filter);
@@ -95,9 +98,11 @@ pub fn checked_at(
     last: u64,
 ) -> Result<Parts, EpcFault>
     requires has_company_prefix { kind ≢ Kind.Gid }
-    ensures ok { IfOk result (λ parts. parts ≡ Parts.Partitioned kind filter company_digits company reference last) }
+    ensures ok { IfOk result (λ parts. parts
+        ≡ Parts.Partitioned kind filter company_digits company reference last) }
     ensures lawful { IfOk result (λ parts. IsLawful parts) }
-    ensures err { IfErr result (λ f. HasEpcFault (Parts.Partitioned kind filter company_digits company reference last) f) }
+    ensures err { IfErr result (λ f. HasEpcFault (Parts.Partitioned kind filter company_digits
+        company reference last) f) }
 {
     at_scheme!(
         kind,

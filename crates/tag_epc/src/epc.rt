@@ -13,7 +13,7 @@ use tag_bits::Word;
 /// The parts of an EPC.
 #[derive(Clone, Copy, PartialEq, Eq, Hash, Debug)]
 pub enum Parts {
-    /// Of a scheme with a company prefix: the reference is the part behind the prefix, and `last` the
+    /// Of a scheme with a company prefix: the reference is the part after the prefix, and `last` the
     /// serial number, the extension, or 0 where the word ends in zeros.
     Partitioned {
         kind: Kind,
@@ -54,7 +54,7 @@ impl Epc {
     ghost use Rattle.tag_epc.specs.LawfulWord.{IsLawful, IsLawfulWord, HasWord, kind_of};
     ghost use Rattle.tag_epc.specs.Faults.{HasEpcFault, HasWordFault};
 
-    /// The EPC of a scheme with a company prefix of that many digits. `reference` is the part behind the
+    /// The EPC of a scheme with a company prefix of that many digits. `reference` is the part after the
     /// prefix, and `last` the serial number or extension, or 0 where the word ends in zeros.
     ///
     /// The error is the first part that fails (EPC Tag Data Standard 1.13, section 14.5).
@@ -67,20 +67,24 @@ impl Epc {
         last: u64,
     ) -> Result<Epc, EpcFault>
         requires has_company_prefix { kind ≢ Kind.Gid }
-        ensures exactly { IsOk result ↔ IsLawful (Parts.Partitioned kind filter company_digits company reference last) }
-        ensures ok { IfOk result (λ e. e ≡ Parts.Partitioned kind filter company_digits company reference last) }
-        ensures err { IfErr result (λ f. HasEpcFault (Parts.Partitioned kind filter company_digits company reference last) f) }
+        ensures exactly { IsOk result ↔ IsLawful (Parts.Partitioned kind filter company_digits
+            company reference last) }
+        ensures ok { IfOk result (λ e. e ≡ Parts.Partitioned kind filter company_digits company
+            reference last) }
+        ensures err { IfErr result (λ f. HasEpcFault (Parts.Partitioned kind filter company_digits
+            company reference last) f) }
     {
         let parts = checked_at(kind, filter, company_digits, company, reference, last)?;
         Ok(Epc { parts })
     }
 
     /// The EPC of GID-96 with these numbers. The error is the first that is too large: the manager number is
-    /// told as `Prefix`, the object class as `Reference`, the serial number as `Last`.
+    /// named `Prefix`, the object class as `Reference`, the serial number as `Last`.
     pub fn gid(manager: u64, object_class: u64, serial: u64) -> Result<Epc, EpcFault>
         ensures exactly { IsOk result ↔ IsLawful (Parts.General manager object_class serial) }
         ensures ok { IfOk result (λ e. e ≡ Parts.General manager object_class serial) }
-        ensures err { IfErr result (λ f. HasEpcFault (Parts.General manager object_class serial) f) }
+        ensures err { IfErr result (λ f. HasEpcFault (Parts.General manager
+            object_class serial) f) }
     {
         let parts = checked_general(manager, object_class, serial)?;
         Ok(Epc { parts })
@@ -96,6 +100,7 @@ impl Epc {
 
     /// The EPC that a word carries, or the word's first part that fails and its bit
     /// (EPC Tag Data Standard 1.13, section 14).
+    #[inline(always)]
     pub fn from_word(word: Word) -> Result<Epc, WordFault>
         ensures exactly { IsOk result ↔ IsLawfulWord word }
         ensures ok { IfOk result (λ e. HasWord e word) }
@@ -106,6 +111,7 @@ impl Epc {
     }
 
     /// The word that carries the EPC (EPC Tag Data Standard 1.13, section 14).
+    #[inline(always)]
     pub fn to_word(&self) -> Word
         ensures { HasWord self.now result }
     {

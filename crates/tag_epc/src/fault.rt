@@ -1,4 +1,4 @@
-//! Why numbers are no EPC, and why a word has none.
+//! Why numbers are not an EPC, and why a word has none.
 
 ghost use Rattle.std.specs.Prelude.{◌≡◌};
 
@@ -9,7 +9,7 @@ pub enum EpcFault {
     Filter,
     /// The company prefix has not 6 to 12 digits.
     Digits,
-    /// The company prefix has more digits than told, or the manager number more than 28 bits.
+    /// The company prefix has more digits than given, or the manager number more than 28 bits.
     Prefix,
     /// The reference has more digits than the partition table gives it, or the object class more than 24 bits.
     Reference,
@@ -20,13 +20,13 @@ pub enum EpcFault {
 /// The part of a word that no EPC has.
 #[derive(Clone, Copy, PartialEq, Eq, Hash, Debug)]
 pub enum WordReason {
-    /// The header is no scheme's.
+    /// The header is not a scheme's.
     Header,
     /// The partition value has no row.
     Partition,
-    /// The company prefix has more digits than the partition value tells.
+    /// The company prefix has more digits than the partition value says.
     Prefix,
-    /// The reference has more digits than the partition value tells.
+    /// The reference has more digits than the partition value says.
     Reference,
     /// The last segment is not all zeros.
     Zeros,

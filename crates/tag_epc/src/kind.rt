@@ -73,7 +73,8 @@ impl Kind {
 
     /// The kind with that header, the first eight bits of a word.
     pub fn of_header(header: u8) -> Option<Kind>
-        ensures { MatchOption result ((k : Kind) → header_of k ≢ header) (λ k. header_of k ≡ header) }
+        ensures { MatchOption result ((k : Kind)
+            → header_of k ≢ header) (λ k. header_of k ≡ header) }
     {
         for kind in KINDS {
             if kind.header() == header {

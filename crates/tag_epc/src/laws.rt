@@ -10,7 +10,8 @@ ghost use Rattle.tag_epc.specs.Faults.{HasEpcFault, HasWordFault};
 /// A lawful EPC has one word, and a lawful word one EPC.
 pub fn one_word_one_epc()
     ensures word { (epc : Parts) → IsLawful epc → (w : ℕ) × (w < 2 ^ 96) × HasWord epc w }
-    ensures one_word { (epc : Parts) (v w : ℕ) → v < 2 ^ 96 → w < 2 ^ 96 → HasWord epc v → HasWord epc w → v ≡ w }
+    ensures one_word { (epc : Parts) (v w : ℕ) → v < 2 ^ 96 → w < 2 ^ 96 → HasWord epc v
+        → HasWord epc w → v ≡ w }
     ensures one_epc { (d e : Parts) (w : ℕ) → HasWord d w → HasWord e w → d ≡ e }
 {}
 

@@ -16,6 +16,7 @@ use crate::scheme::Scheme;
 use tag_bits::Word;
 
 /// The parts that a word carries, or its first part that fails.
+#[inline(always)]
 pub fn parts_of(word: Word) -> Result<Parts, WordFault>
     ensures ok { IfOk result (λ parts. HasWord parts word) }
     ensures err { IfErr result (λ f. HasWordFault word f) }
@@ -28,7 +29,8 @@ pub fn parts_of(word: Word) -> Result<Parts, WordFault>
     at_scheme!(kind, partitioned(kind, reader), Ok(general(reader)))
 }
 
-/// The parts behind the header of a scheme with a company prefix.
+/// The parts after the header of a scheme with a company prefix.
+#[inline(always)]
 fn partitioned<S: Scheme>(kind: Kind, reader: WordReader) -> Result<Parts, WordFault>
     requires known { layout_of kind ≡ Some S.layout }
     requires whole { length reader ≡ 88 }
@@ -61,7 +63,8 @@ fn partitioned<S: Scheme>(kind: Kind, reader: WordReader) -> Result<Parts, WordF
     }
 }
 
-/// The parts behind the header of GID-96.
+/// The parts after the header of GID-96.
+#[inline(always)]
 fn general(reader: WordReader) -> Parts
     requires { length reader ≡ 88 }
     ensures { Spells result (digits 8 gid_header ++ reader) }

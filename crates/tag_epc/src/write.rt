@@ -13,6 +13,7 @@ use crate::scheme::Scheme;
 use tag_bits::Word;
 
 /// The word of the parts of an EPC.
+#[inline(always)]
 pub fn word_of(parts: Parts) -> Word
     requires { IsLawful parts }
     ensures { HasWord parts result }
@@ -39,6 +40,7 @@ pub fn word_of(parts: Parts) -> Word
 }
 
 /// The word of an EPC of a scheme with a company prefix.
+#[inline(always)]
 fn partitioned<S: Scheme>(
     kind: Kind,
     filter: u8,
@@ -48,7 +50,8 @@ fn partitioned<S: Scheme>(
     last: u64,
 ) -> Word
     requires known { layout_of kind ≡ Some S.layout }
-    requires lawful { IsLawful (Parts.Partitioned kind filter company_digits company reference last) }
+    requires lawful { IsLawful (Parts.Partitioned kind filter company_digits company
+        reference last) }
     ensures { HasWord (Parts.Partitioned kind filter company_digits company reference last) result }
 {
     let partition = 12 - company_digits;
@@ -66,6 +69,7 @@ fn partitioned<S: Scheme>(
 }
 
 /// The word of an EPC of GID-96.
+#[inline(always)]
 fn general(manager: u64, object_class: u64, serial: u64) -> Word
     requires { IsLawful (Parts.General manager object_class serial) }
     ensures { HasWord (Parts.General manager object_class serial) result }

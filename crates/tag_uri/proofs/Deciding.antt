@@ -72,7 +72,7 @@ below_fits l n h = elim (bool_cases l.zero_tail) [
   | inr e ↦ subst (λ (b : Bool). n < cond b 1 (2 ^ l.last_bits)) (sym e) (h.bits e)
 ]
 
--- some lawful EPC of which a fact holds that can be told of each
+-- some lawful EPC of which a fact holds that is decided for each
 module _ (P : Parts → Type 0) (decide : (epc : Parts) → IsLawful epc → Decided (P epc)) where
   abbrev Here : Parts → Type 0
   Here epc = IsLawful epc × P epc
@@ -80,7 +80,7 @@ module _ (P : Parts → Type 0) (decide : (epc : Parts) → IsLawful epc → Dec
   here : (epc : Parts) → IsLawful epc → Decided (Here epc)
   here epc h = elim (decide epc h) [ inl p ↦ inl (h, p) | inr never ↦ inr (λ x. never x.1) ]
 
-  -- of a scheme, a filter value and so many digits of the company prefix
+  -- of a scheme, a filter value and this many digits of the company prefix
   abbrev Numbers : Kind → ℕ → ℕ → Type 0
   Numbers kind f k = (c : ℕ) × (r : ℕ) × (n : ℕ) × Here (Partitioned kind f k c r n)
 

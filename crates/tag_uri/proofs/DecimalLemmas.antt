@@ -1,5 +1,5 @@
 -- Decimal text and its number.
-use Rattle.std.proofs.Common.{◌≡◌, ℕ, zero, suc, ◌+◌, ◌-◌, ◌*◌, ◌/◌, ◌%◌, ◌^◌, ◌<◌, ◌≤◌, List, [], ◌∷◌, ◌++◌, length, get_or, refl, sym, ap, ◌∙◌, arith, append_assoc, length-append, inl, inr, Ok, Err, Result}
+use Rattle.std.proofs.Common.{◌≡◌, ℕ, zero, suc, ◌+◌, ◌-◌, ◌*◌, ◌/◌, ◌%◌, ◌^◌, ◌<◌, ◌≤◌, List, [], ◌∷◌, ◌++◌, length, get_or, refl, sym, ap, ◌∙◌, arith, inl, inr, Ok, Err, Result}
 use Rattle.std.specs.Prelude.{decimal}
 use Rattle.std.proofs.Math.Nat.{pow-suc, one-le-pow, mod-eq_of_lt, div-eq_of_lt, pow-le-pow_right}
 use Rattle.std.proofs.Math.Arith.{mod-mul}
@@ -9,7 +9,6 @@ use Rattle.std.proofs.lemmas.Str.Parse.{IsDigitsTest, IsNumeralModel, WeighsDigi
 use Rattle.std.specs.Str.Parse.{ParsesUnsigned}
 use Rattle.std.proofs.lemmas.Bool.{cases_lt, lt-ltb, eq-eqb}
 use Rattle.std.specs.Prelude.{replicate, true, false, nat_lt, ◌==◌}
-use Rattle.std.proofs.lemmas.List.{length-replicate, append-nil}
 use Rattle.tag_uri.specs.Decimal.{AreDigits, decimal_value, padded, IsPadded, IsPlain}
 use Rattle.tag_uri.specs.TagText.{is_zero_led}
 
@@ -37,7 +36,7 @@ digits-padded (suc k) n = ((omega arith, omega arith), digits-padded k n)
 pub ten_pos : (k : ℕ) → 0 < 10 ^ k
 ten_pos k = one-le-pow k 10 (omega arith)
 
-last_part : (k n : ℕ) → n % 10 ^ suc k ≡ (n / 10 ^ k % 10) * 10 ^ k + n % 10 ^ k
+pub last_part : (k n : ℕ) → n % 10 ^ suc k ≡ (n / 10 ^ k % 10) * 10 ^ k + n % 10 ^ k
 last_part k n =
     let e : 10 ^ suc k ≡ 10 * 10 ^ k = omega (arith, pow-suc 10 k) in
     ap (λ (m : ℕ). n % m) e ∙ mod-mul n {m = 10} {c = 10 ^ k} (omega arith) (ten_pos k)
@@ -137,30 +136,6 @@ value-zeros (suc k) cs = omega (arith, value-zeros k cs)
 digits-zeros : (k : ℕ) (cs : List ℕ) → AreDigits cs → AreDigits (replicate k 48 ++ cs)
 digits-zeros zero cs h = h
 digits-zeros (suc k) cs h = ((omega arith, omega arith), digits-zeros k cs h)
-
--- leading zeros in front of the plain text
-pub padded-zeros : (k n : ℕ) → n < 10 ^ k → 1 ≤ k → n < 2 ^ 64 → padded k n ≡ replicate (k - length (decimal n)) 48 ++ decimal n
-padded-zeros k n below one small =
-    let p = padded_is k n below in
-    let q = plain_is n small in
-    let short : length (decimal n) ≤ k = q.least k one below in
-    let m : ℕ = k - length (decimal n) in
-    let len : length (replicate m 48 ++ decimal n) ≡ k = omega (arith, length-append (replicate m 48) (decimal n), length-replicate {A = ℕ} m 48) in
-    one_padded (padded k n) (replicate m 48 ++ decimal n) p.digits (digits-zeros m (decimal n) q.padded.digits) (p.count ∙ sym len)
-    (p.number ∙ sym q.padded.number ∙ sym (value-zeros m (decimal n)))
-
--- the zeros and the plain text, appended in turn
-pub zeros_then_plain : (old front new text : List ℕ) (k n : ℕ) → n < 10 ^ k → (k ≡ 0 → ⊥) → n < 2 ^ 64 → text ≡ decimal n
-    → front ≡ old ++ replicate (k - length text) 48 → new ≡ front ++ text → new ≡ old ++ padded k n
-zeros_then_plain old front new text k n below some small is e f =
-    let whole : padded k n ≡ replicate (k - length text) 48 ++ text = rw is (padded-zeros k n below (omega arith) small) in
-    f ∙ ap (λ (x : List ℕ). x ++ text) e ∙ append_assoc old (replicate (k - length text) 48) text ∙ ap (λ (x : List ℕ). old ++ x) (sym whole)
-
--- no digits are no text
-pub padded_none : (old : List ℕ) (k n : ℕ) → k ≡ 0 → old ≡ old ++ padded k n
-unfolding padded
-padded_none old zero n h = sym (append-nil old)
-padded_none old (suc k) n h = absurd (omega arith)
 
 pub plain_short : (k n : ℕ) → n < 10 ^ k → 1 ≤ k → n < 2 ^ 64 → length (decimal n) ≤ k
 plain_short k n below one small = (plain_is n small).least k one below

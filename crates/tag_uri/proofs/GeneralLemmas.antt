@@ -54,13 +54,13 @@ plain_digits a b c h k =
     let s = or_false _ _ k in let t = or_false _ _ s.1 in let u = or_false _ _ t.1 in
     record { first = not_stray a p.0; second = not_stray b q.0; third = not_stray c r.0; first_plain = s.0; second_plain = t.0; third_plain = u.0 }
 
--- the plain text of a number of at most so many bits
+-- the plain text of a number of at most this many bits
 pub as_plain : (text : List ℕ) (w n : ℕ) → SomeDigits text → is_zero_led text ≡ false → w < 64 → n ≡ decimal_value text → n < 2 ^ w → plain n ≡ text
 as_plain text w n d p narrow e below =
     let small : n < 2 ^ 64 = omega (arith, below, pow-le-pow_right {n = 2} (omega arith) {i = w} {j = 64} (omega arith)) in
     sym (plain_text text n d.digits d.some p small e)
 
--- numbers of so many bits are an EPC's
+-- numbers of this many bits are an EPC's
 pub lawful : (m o s : ℕ) → m < 2 ^ 28 → o < 2 ^ 24 → s < 2 ^ 36 → IsLawful (General m o s)
 lawful m o s a b c = record {
   fields = _;

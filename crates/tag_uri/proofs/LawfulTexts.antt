@@ -185,7 +185,7 @@ same_parts l f k c r last g m d s late sound a b e =
     found : (l : Layout) (f k c r last : ℕ) → is_sound l ≡ true → (a : AtRow l f k c r last) → unwrap_or (reference_digits l.rows k) 0 ≡ a.row.reference_digits
     found l f k c r last sound a = let short = a.short in ap (λ (o : Option ℕ). unwrap_or o 0) (reference_digits-at l k (12 - k) sound (omega arith) ∙ ap (option_map (λ x. x.reference_digits)) a.placed)
 
--- the components of a kind's lawful EPC tell it
+-- the components of a kind's lawful EPC determine it
 pub one_partitioned : (kind : Kind) (l : Layout) (f k c r last g m d s late : ℕ) → layout_of kind ≡ Some l → is_sound l ≡ true → IsLawful (Partitioned kind f k c r last) → IsLawful (Partitioned kind g m d s late)
     → partitioned_components (Some l) f k c r last ≡ partitioned_components (Some l) g m d s late → Partitioned kind f k c r last ≡ Partitioned kind g m d s late
 one_partitioned kind l f k c r last g m d s late known sound h i e =

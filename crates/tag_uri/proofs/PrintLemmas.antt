@@ -9,12 +9,11 @@ use Rattle.std.proofs.Math.Nat.{pow-le-pow_right, one-le-pow, mul-le-mul}
 use Rattle.tag_epc.specs.declared.kind.Kind.{Kind}
 use Rattle.tag_epc.specs.declared.kind.Kind.TheVariants.{Sgtin, Gid}
 use Rattle.tag_epc.specs.declared.scheme.Row.{Row}
-use Rattle.tag_epc.specs.declared.epc.Parts.{Parts}
 use Rattle.tag_epc.specs.declared.epc.Parts.TheVariants.{Partitioned, General}
 use Rattle.tag_epc.specs.Layout.{Layout, layout_of, name_of, row_at, is_sound, last_segment}
-use Rattle.tag_epc.specs.LawfulWord.{IsLawful, kind_of, Fits}
+use Rattle.tag_epc.specs.LawfulWord.{IsLawful, Fits}
 use Rattle.tag_uri.specs.Decimal.{padded, plain}
-use Rattle.tag_uri.specs.TagText.{tag_uri, tag_start, components_of, reference_digits, partitioned_components}
+use Rattle.tag_uri.specs.TagText.{reference_digits, partitioned_components}
 use Rattle.tag_uri.proofs.DecimalLemmas.{plain_is}
 use Rattle.tag_uri.proofs.ReadLemmas.{FitsLast, bool_cases}
 use Rattle.tag_uri.proofs.RowDigits.{row_fits, reference_digits-at}
@@ -72,7 +71,7 @@ at_row kind l f k c r last known sound h =
       few = fits.short;
     }
 
--- the plain text of a number of at most so many bits has no more digits than those bits have
+-- the plain text of a number of at most this many bits has no more digits than those bits have
 plain_within : (w n : ℕ) → n < 2 ^ w → n < 2 ^ 64 → 10 ^ (length (plain n) - 1) ≤ 2 ^ w
 plain_within w n below small =
     let p = plain_is n small in
@@ -99,7 +98,7 @@ few_digits k m d cb rb lb a b c e =
       | inr ok ↦ omega arith
     ]
 
--- what a row that stands at the EPC's partition value says
+-- what the row of the EPC's partition value says
 pub record RowFacts (row : Row) (filter k company reference last : ℕ) : Type 0 where
   pub short : k ≤ 12
   pub filter_fits : filter < 10 ^ 1
@@ -161,7 +160,7 @@ general_below m o s h =
     let all = rw filled at fit in
     (all.1.0.bits, all.1.1.0.bits, all.1.1.1.0.bits)
 
--- a number of GID-96 has at most so many digits
+-- a number of GID-96 has at most this many digits
 pub general_room : (m o s : ℕ) → IsLawful (General m o s) → (length (plain m) ≤ 9) × (length (plain o) ≤ 8) × (length (plain s) ≤ 11)
 general_room m o s h =
     let fit = h.fit in let filled = h.has in
@@ -178,12 +177,3 @@ three_parts old t1 t2 t3 t4 t5 m o s e1 e2 e3 e4 e5 = joined_three old t1 t2 t3 
 -- GID-96 has no company prefix
 pub no_prefix : (f k c r last : ℕ) → IsLawful (Partitioned Gid f k c r last) → ⊥
 no_prefix f k c r last h = let s = h.has.scheme in cc
-
--- the parts of a tag URI, appended in turn
-pub whole_uri : (epc : Parts) (t0 t1 t2 t3 t4 name : List ℕ) → t0 ≡ [] → t1 ≡ t0 ++ tag_start → t2 ≡ t1 ++ name → name ≡ name_of (kind_of epc) → t3 ≡ t2 ++ 58 ∷ [] → t4 ≡ t3 ++ join_with_byte 46 (components_of epc)
-    → t4 ≡ tag_uri epc
-unfolding tag_uri
-whole_uri epc t0 t1 t2 t3 t4 name e0 e1 e2 e3 e4 e5 =
-    let tail : List ℕ = join_with_byte 46 (components_of epc) in
-    e5 ∙ ap (λ (x : List ℕ). x ++ tail) e4 ∙ append_assoc t2 (58 ∷ []) tail ∙ ap (λ (x : List ℕ). x ++ 58 ∷ tail) (e2 ∙ ap (λ (x : List ℕ). t1 ++ x) e3)
-    ∙ append_assoc t1 (name_of (kind_of epc)) (58 ∷ tail) ∙ ap (λ (x : List ℕ). x ++ (name_of (kind_of epc) ++ 58 ∷ tail)) (e1 ∙ ap (λ (x : List ℕ). x ++ tag_start) e0)

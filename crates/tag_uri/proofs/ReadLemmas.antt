@@ -108,7 +108,7 @@ pub fits_last : (l : Layout) (o : Option (Bor (List ℕ))) (n : ℕ) → is_some
 fits_last l None n ends h = record { zero = λ e. h; bits = λ e. let no : false ≡ not false = rw e at ends in cc }
 fits_last l (Some last) n ends h = record { zero = λ e. let no : true ≡ not true = rw e at ends in cc; bits = λ e. h.1 }
 
--- the numbers behind the partition value fit their segments
+-- the numbers after the partition value fit their segments
 all_fit : (l : Layout) (r : Row) (company reference last : ℕ) → company < 2 ^ r.company_bits → company < 10 ^ r.company_digits → reference < 2 ^ r.reference_bits → reference < 10 ^ r.reference_digits → FitsLast l last
     → AllFit (fill (number_segments l r) (company ∷ reference ∷ last ∷ []))
 all_fit l r company reference last a b c d h = (

@@ -23,7 +23,7 @@ CountDown q rs = (p : ℕ) (r : Row) → slice_get rs p ≡ Some r → r.company
 next : (q : ℕ) (x : Row) (rs : List Row) → CountDown q (x ∷ rs) → CountDown (q + 1) rs
 next q x rs h p r e = omega (arith, h (suc p) r e)
 
--- the row that a table has for so many company digits
+-- the row that a table has for this many company digits
 looked_up : (q k p : ℕ) (rs : List Row) → CountDown q rs → q + p + k ≡ 12 → reference_digits rs k ≡ option_map (λ r. r.reference_digits) (slice_get rs p)
 looked_up q k p [] h e = refl
 looked_up q k zero (x ∷ rs) h e =

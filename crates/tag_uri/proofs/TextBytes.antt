@@ -53,7 +53,7 @@ upper_visible (c ∷ cs) h =
     digit : (c : ℕ) → is_upper_digit c ≡ true → is_visible c ≡ true
     digit c h = grind arith
 
-raw_visible : (w : ℕ) → visible (raw_uri w) ≡ true
+pub raw_visible : (w : ℕ) → visible (raw_uri w) ≡ true
 raw_visible w = rw (raw_is w) (upper_visible (hexadecimal 24 w) (word_digits_of w).digits)
 
 -- each character of the text of a word is visible

@@ -238,14 +238,14 @@ text_or_fault w text f p (inr a) (inr h) = h.0 _ (a.1 ∙ raw_is w)
 
 -- ---- what the reading of a text shows
 
--- the text behind a start
+-- the text after a start
 abbrev pub Strips : List ℕ → List ℕ → List ℕ → Type 0
 Strips start text rest = (k : ℕ) × ((k ≡ length start) × (text ≡ start ++ drop k text) × IsCharBoundary text (length start)) × (rest ≡ drop k text) × (length rest + k ≡ length text)
 
 pub begins : (start text rest : List ℕ) → Strips start text rest → text ≡ start ++ rest
 begins start text rest h = h.1.1 ∙ ap (λ (x : List ℕ). start ++ x) (sym h.2)
 
--- the rules on components tell neither start nor scheme
+-- the rules on components name neither start nor scheme
 abbrev six : Bool → Bool → Bool → Bool → Bool → Bool → List (Bool × UriFault)
 six a b c d e g = (a, fault.Parts) ∷ (b, fault.Digit) ∷ (c, fault.LeadingZero) ∷ (d, fault.Filter) ∷ (e, fault.Digits) ∷ (g, fault.Range) ∷ []
 
@@ -296,9 +296,6 @@ right_components text kind rest parts e k cs =
 -- the raw URI of a word with these digits
 pub right_digits : (text rest digits : List ℕ) (w : ℕ) → text ≡ raw_start ++ rest → rest ≡ raw_length ++ digits → digits ≡ hexadecimal 24 w → text ≡ raw_uri w
 right_digits text rest digits w e r d = e ∙ ap (λ (x : List ℕ). raw_start ++ x) (r ∙ ap (λ (x : List ℕ). raw_length ++ x) d) ∙ sym (raw_is w)
-
-pub raw_appended : (t0 t1 t2 : List ℕ) (w : ℕ) → t0 ≡ [] → t1 ≡ t0 ++ (raw_start ++ raw_length) → t2 ≡ t1 ++ hexadecimal 24 w → t2 ≡ raw_uri w
-raw_appended t0 t1 t2 w e0 e1 e2 = e2 ∙ ap (λ (x : List ℕ). x ++ hexadecimal 24 w) (e1 ∙ ap (λ (x : List ℕ). x ++ (raw_start ++ raw_length)) e0) ∙ sym (raw_is w)
 
 -- a word has one text
 pub texts_same : (w : ℕ) (s t : List ℕ) → IsTextOf w s → IsTextOf w t → s ≡ t

@@ -1,6 +1,5 @@
 -- The parts of a tag URI, written from the last to the first.
-use Rattle.std.proofs.Common.{◌≡◌, ℕ, ◌+◌, ◌-◌, ◌*◌, ◌/◌, ◌%◌, ◌^◌, ◌<◌, ◌≤◌, Bool, true, false, cond, List, [], ◌∷◌, ◌++◌, Option, Some, length, take, drop, refl, sym, ap, ◌∙◌, subst, arith, append_assoc}
-use Rattle.std.specs.Prelude.{option_map, unwrap_or}
+use Rattle.std.proofs.Common.{◌≡◌, ℕ, ◌+◌, ◌-◌, ◌/◌, ◌%◌, ◌^◌, ◌<◌, ◌≤◌, Bool, true, false, cond, List, [], ◌∷◌, ◌++◌, Option, Some, length, take, drop, refl, sym, ap, ◌∙◌, subst, arith, append_assoc, length-append}
 use Rattle.std.specs.List.{join_with_byte}
 use Rattle.std.specs.Prelude.{◌&&◌}
 use Rattle.std.specs.List.{All}
@@ -8,7 +7,7 @@ use Rattle.std.specs.Str.{IsUtf8}
 use Rattle.std.proofs.lemmas.List.Elements.{All-nil, All-cons}
 use Rattle.std.proofs.lemmas.Str.Ascii.{IsAscii-from_all}
 use Rattle.std.proofs.lemmas.Str.{IsUtf8-from_ascii}
-use Rattle.std.proofs.lemmas.List.{take_at}
+use Rattle.std.proofs.lemmas.List.{take_at, length-take-le}
 use Rattle.tag_epc.specs.declared.kind.Kind.{Kind}
 use Rattle.tag_epc.specs.declared.kind.Kind.TheVariants.{Gid}
 use Rattle.tag_epc.specs.declared.scheme.Row.{Row}
@@ -18,11 +17,11 @@ use Rattle.tag_epc.specs.Layout.{Layout, layout_of, name_of, row_at, is_sound}
 use Rattle.tag_uri.specs.Decimal.{padded, plain}
 use Rattle.tag_uri.specs.Room.{HasText}
 use Rattle.tag_epc.specs.LawfulWord.{IsLawful}
-use Rattle.tag_uri.specs.TagText.{tag_uri, tag_start, partitioned_components, IsTextOf}
-use Rattle.tag_uri.proofs.TextBytes.{is_visible, visible, text_visible, uri_visible}
+use Rattle.tag_uri.specs.TagText.{tag_uri, tag_start, partitioned_components, raw_uri, IsTextOf}
+use Rattle.tag_uri.proofs.TextBytes.{is_visible, visible, text_visible, uri_visible, raw_visible}
 use Rattle.tag_uri.proofs.PrintLemmas.{four_parts, three_parts, name_short, row_facts}
 
--- the room after six parts and what stands in front of them
+-- the room after six parts and what is in front of them
 pub six_parts : (at end p1 p2 p3 p4 p5 p6 : ℕ) (r0 r1 r2 r3 r4 r5 r6 r7 tail reference company start : List ℕ) (filter : ℕ)
     → drop p1 r1 ≡ tail ++ drop end r0 → drop p2 r2 ≡ reference ++ drop p1 r1 → drop p3 r3 ≡ 46 ∷ drop p2 r2
     → drop p4 r4 ≡ company ++ drop p3 r3 → drop p5 r5 ≡ 46 ∷ drop p4 r4 → drop p6 r6 ≡ filter ∷ drop p5 r5
@@ -53,13 +52,13 @@ joined_partitioned l row f k c r last b sound short placed tail few =
     let flat : (48 + f) ∷ 46 ∷ (c1 ++ 46 ∷ (m ++ tl)) ≡ ((((((48 + f) ∷ []) ++ 46 ∷ []) ++ c1) ++ 46 ∷ []) ++ m) ++ tl = simp append_assoc refl in
     flat ∙ ap (λ (x : List ℕ). ((((x ++ 46 ∷ []) ++ c1) ++ 46 ∷ []) ++ m) ++ tl) (sym one) ∙ whole
 
-name_at : (kind : Kind) (l : Layout) → layout_of kind ≡ Some l → name_of kind ≡ l.name
+pub name_at : (kind : Kind) (l : Layout) → layout_of kind ≡ Some l → name_of kind ≡ l.name
 name_at kind l known = rw known refl
 
 pub name_few : (kind : Kind) (l : Layout) (name : List ℕ) → layout_of kind ≡ Some l → name ≡ l.name → length name ≤ 8
 name_few kind l name known named = subst (λ (x : List ℕ). length x ≤ 8) (name_at kind l known ∙ sym named) (name_short kind)
 
--- what stands in front of the last component is short
+-- what is in front of the last component is short
 pub front_few : (kind : Kind) (l : Layout) (row : Row) (name : List ℕ) (f k c r last : ℕ) → layout_of kind ≡ Some l → name ≡ l.name → is_sound l ≡ true
     → IsLawful (Partitioned kind f k c r last) → last < 2 ^ 64 → row_at l (12 - k) ≡ Some row → length name + k + row.reference_digits ≤ 33
 front_few kind l row name f k c r last known named sound lawful small placed =
@@ -115,3 +114,6 @@ word_text_utf8 w text h = visible_utf8 text (text_visible w text h)
 
 pub uri_utf8 : (epc : Parts) → IsLawful epc → IsUtf8 (tag_uri epc)
 uri_utf8 epc h = visible_utf8 (tag_uri epc) (uri_visible epc h)
+
+pub raw_utf8 : (w : ℕ) → IsUtf8 (raw_uri w)
+raw_utf8 w = visible_utf8 (raw_uri w) (raw_visible w)

@@ -1,7 +1,7 @@
 -- Digits written in front of a place.
 use Rattle.std.proofs.Common.{◌≡◌, ℕ, zero, suc, ◌+◌, ◌-◌, ◌*◌, ◌/◌, ◌%◌, ◌^◌, ◌<◌, ◌≤◌, Bool, true, false, List, [], ◌∷◌, ◌++◌, length, take, drop, refl, sym, ap, ◌∙◌, arith, append_assoc, length-append, inl, inr}
-use Rattle.std.specs.Prelude.{◌==◌, ◌&&◌, nat_lt, codes, slice_index_or, decimal}
-use Rattle.std.proofs.Math.Nat.{pow-suc, pow-le-pow_right, mod-lt, div-div-eq-div-mul}
+use Rattle.std.specs.Prelude.{◌==◌, ◌&&◌, codes, slice_index_or, decimal}
+use Rattle.std.proofs.Math.Nat.{pow-le-pow_right, mod-lt, div-div-eq-div-mul}
 use Rattle.std.proofs.lemmas.Nat.{pow-add}
 use Rattle.std.proofs.lemmas.Bool.{cases_lt, eqb-true}
 use Rattle.std.proofs.lemmas.List.{length-take-le, length-drop, drop-append-le, take-append-le, take-append-drop, drop_at, take_at}
@@ -12,7 +12,7 @@ use Rattle.tag_uri.proofs.DecimalLemmas.{length-padded, plain_is, value-below, v
 
 -- ---- pairs of digits
 
-abbrev table : List ℕ
+abbrev pub table : List ℕ
 table = codes "00010203040506070809101112131415161718192021222324252627282930313233343536373839404142434445464748495051525354555657585960616263646566676869707172737475767778798081828384858687888990919293949596979899"
 
 abbrev holds : ℕ → Bool
@@ -46,21 +46,12 @@ pair_tens n below = eqb-true (slice_index_or table (2 * n) 0) (48 + n / 10) (bot
 pub pair_ones : (n : ℕ) → n < 100 → slice_index_or table (2 * n + 1) 0 ≡ 48 + n % 10
 pair_ones n below = eqb-true (slice_index_or table (2 * n + 1) 0) (48 + n % 10) (both_right (slice_index_or table (2 * n) 0 == 48 + n / 10) _ (pair_holds n below))
 
-pub eight_digits : (n a b c d e f g h : ℕ) → n < 10 ^ 8
-    → a ≡ 48 + n / 10000 / 100 / 10 → b ≡ 48 + n / 10000 / 100 % 10 → c ≡ 48 + n / 10000 % 100 / 10 → d ≡ 48 + n / 10000 % 100 % 10
-    → e ≡ 48 + n % 10000 / 100 / 10 → f ≡ 48 + n % 10000 / 100 % 10 → g ≡ 48 + n % 10000 % 100 / 10 → h ≡ 48 + n % 10000 % 100 % 10
-    → a ∷ b ∷ c ∷ d ∷ e ∷ f ∷ g ∷ h ∷ [] ≡ padded 8 n
+pub pair_digits : (n : ℕ) → n < 100 → slice_index_or table (2 * n) 0 ∷ slice_index_or table (2 * n + 1) 0 ∷ [] ≡ padded 2 n
 unfolding padded
-eight_digits n a b c d e f g h below ea eb ec ed ee ef eg eh =
-    let qa : a ≡ 48 + n / 10000000 % 10 = omega arith in
-    let qb : b ≡ 48 + n / 1000000 % 10 = omega arith in
-    let qc : c ≡ 48 + n / 100000 % 10 = omega arith in
-    let qd : d ≡ 48 + n / 10000 % 10 = omega arith in
-    let qe : e ≡ 48 + n / 1000 % 10 = omega arith in
-    let qf : f ≡ 48 + n / 100 % 10 = omega arith in
-    let qg : g ≡ 48 + n / 10 % 10 = omega arith in
-    let qh : h ≡ 48 + n / 1 % 10 = omega arith in
-    rw (qa, qb, qc, qd, qe, qf, qg, qh) refl
+pair_digits n below =
+    let tens : slice_index_or table (2 * n) 0 ≡ 48 + n / 10 ^ 1 % 10 = omega (arith, pair_tens n below) in
+    let ones : slice_index_or table (2 * n + 1) 0 ≡ 48 + n / 10 ^ 0 % 10 = omega (arith, pair_ones n below) in
+    rw (tens, ones) refl
 
 -- ---- how many digits a number has
 
@@ -119,27 +110,28 @@ last_of m count n end old new few ahead within e =
     let dig : drop (m - count) (padded m n) ≡ padded count n = padded-drop (m - count) count m n (sym split) in
     rw (e, place, drop-append-add front (padded m n ++ rest) (m - count), drop-append-le (m - count) (padded m n) rest short, dig) refl
 
-pub two_eights : (n end : ℕ) (old mid new : List ℕ) → 16 ≤ end → end ≤ length old
-    → mid ≡ take (end - 8) old ++ (padded 8 (n % 10 ^ 8) ++ drop end old)
-    → new ≡ take (end - 8 - 8) mid ++ (padded 8 (n / 10 ^ 8) ++ drop (end - 8) mid)
-    → new ≡ take (end - 16) old ++ (padded 16 n ++ drop end old)
-two_eights n end old mid new ahead within e f =
-    let front : List ℕ = take (end - 8) old in
-    let rest : List ℕ = padded 8 (n % 10 ^ 8) ++ drop end old in
-    let flen : length front ≡ end - 8 = length-take-le (end - 8) old (omega arith) in
-    let less : end - 8 - 8 ≤ length front = omega (arith, flen) in
-    let one : take (end - 8 - 8) (front ++ rest) ≡ take (end - 8 - 8) front = take-append-le (end - 8 - 8) front rest less in
-    let two : take (end - 8 - 8) (front ++ drop (end - 8) old) ≡ take (end - 8 - 8) front = take-append-le (end - 8 - 8) front (drop (end - 8) old) less in
-    let whole : front ++ drop (end - 8) old ≡ old = take-append-drop (end - 8) old in
-    let three : take (end - 8 - 8) old ≡ take (end - 8 - 8) front = rw whole at two in
-    let place : end - 8 - 8 ≡ end - 16 = omega arith in
-    let four : take (end - 8 - 8) mid ≡ take (end - 16) old = ap (λ (x : List ℕ). take (end - 8 - 8) x) e ∙ one ∙ sym three ∙ ap (λ (i : ℕ). take i old) place in
-    let back : drop (end - 8) mid ≡ rest = ap (λ (x : List ℕ). drop (end - 8) x) e ∙ drop_at front rest (end - 8) flen in
-    let low : padded 8 (n % 10 ^ 8) ≡ padded 8 n = padded-mod 8 n in
-    let all : padded 16 n ≡ padded 8 (n / 10 ^ 8) ++ padded 8 n = padded-append 8 8 16 n (omega arith) in
-    f ∙ ap (λ (x : List ℕ). x ++ (padded 8 (n / 10 ^ 8) ++ drop (end - 8) mid)) four
-    ∙ ap (λ (x : List ℕ). take (end - 16) old ++ (padded 8 (n / 10 ^ 8) ++ x)) (back ∙ ap (λ (x : List ℕ). x ++ drop end old) low)
-    ∙ ap (λ (x : List ℕ). take (end - 16) old ++ x) (sym (append_assoc (padded 8 (n / 10 ^ 8)) (padded 8 n) (drop end old)) ∙ ap (λ (x : List ℕ). x ++ drop end old) (sym all))
+-- a number's last b digits in front of a place, and the other a in front of those
+pub in_parts : (a b n end : ℕ) (old mid new : List ℕ) → a + b ≤ end → end ≤ length old
+    → mid ≡ take (end - b) old ++ (padded b (n % 10 ^ b) ++ drop end old)
+    → new ≡ take (end - b - a) mid ++ (padded a (n / 10 ^ b) ++ drop (end - b) mid)
+    → new ≡ take (end - (a + b)) old ++ (padded (a + b) n ++ drop end old)
+in_parts a b n end old mid new ahead within e f =
+    let front : List ℕ = take (end - b) old in
+    let rest : List ℕ = padded b (n % 10 ^ b) ++ drop end old in
+    let flen : length front ≡ end - b = length-take-le (end - b) old (omega arith) in
+    let less : end - b - a ≤ length front = omega (arith, flen) in
+    let one : take (end - b - a) (front ++ rest) ≡ take (end - b - a) front = take-append-le (end - b - a) front rest less in
+    let two : take (end - b - a) (front ++ drop (end - b) old) ≡ take (end - b - a) front = take-append-le (end - b - a) front (drop (end - b) old) less in
+    let whole : front ++ drop (end - b) old ≡ old = take-append-drop (end - b) old in
+    let three : take (end - b - a) old ≡ take (end - b - a) front = rw whole at two in
+    let place : end - b - a ≡ end - (a + b) = omega arith in
+    let four : take (end - b - a) mid ≡ take (end - (a + b)) old = ap (λ (x : List ℕ). take (end - b - a) x) e ∙ one ∙ sym three ∙ ap (λ (i : ℕ). take i old) place in
+    let back : drop (end - b) mid ≡ rest = ap (λ (x : List ℕ). drop (end - b) x) e ∙ drop_at front rest (end - b) flen in
+    let low : padded b (n % 10 ^ b) ≡ padded b n = padded-mod b n in
+    let all : padded (a + b) n ≡ padded a (n / 10 ^ b) ++ padded b n = padded-append a b (a + b) n refl in
+    f ∙ ap (λ (x : List ℕ). x ++ (padded a (n / 10 ^ b) ++ drop (end - b) mid)) four
+    ∙ ap (λ (x : List ℕ). take (end - (a + b)) old ++ (padded a (n / 10 ^ b) ++ x)) (back ∙ ap (λ (x : List ℕ). x ++ drop end old) low)
+    ∙ ap (λ (x : List ℕ). take (end - (a + b)) old ++ x) (sym (append_assoc (padded a (n / 10 ^ b)) (padded b n) (drop end old)) ∙ ap (λ (x : List ℕ). x ++ drop end old) (sym all))
 
 pub below_of : (count m n : ℕ) → count ≤ m → n < 10 ^ count → n < 10 ^ m
 below_of count m n few below = omega (arith, below, pow-le-pow_right {n = 10} (omega arith) {i = count} {j = m} few)
@@ -161,7 +153,7 @@ padded_plain n small = sym (only_padded (length (plain n)) n (plain n) (plain_be
 
 -- ---- texts in room
 
-drop_drop : (i j m : ℕ) (xs : List ℕ) → m ≡ i + j → drop j (drop i xs) ≡ drop m xs
+pub drop_drop : (i j m : ℕ) (xs : List ℕ) → m ≡ i + j → drop j (drop i xs) ≡ drop m xs
 drop_drop zero j m xs e = let same : m ≡ j = omega arith in rw same refl
 drop_drop (suc i) j zero xs e = absurd (omega arith)
 drop_drop (suc i) zero (suc m) [] e = refl

@@ -14,7 +14,7 @@ use Rattle.tag_uri.specs.declared.fault.UriFault.TheVariants as fault
 use Rattle.tag_uri.specs.Decimal.{decimal_value, padded, plain}
 use Rattle.tag_uri.specs.Hexadecimal.{hexadecimal, is_upper_digit}
 
--- how a component is written: the filter value as one digit 0 to 7, the company prefix as 6 to 12 digits, the reference as the digits that the partition table gives it beside that company prefix, a number of at most so many bits without leading zeros
+-- how a component is written: the filter value as one digit 0 to 7, the company prefix as 6 to 12 digits, the reference as the digits that the partition table gives it beside that company prefix, a number of at most this many bits without leading zeros
 pub data Form : Type 0 where
   Filter : Form
   Company : Form
@@ -26,7 +26,7 @@ abbrev pub forms_of : Option Layout → List Form
 forms_of (Some l) = Filter ∷ Company ∷ Reference ∷ (if l.zero_tail then [] else Number l.last_bits ∷ [])
 forms_of None = map (λ s. Number s.width) (drop 1 gid_segments)
 
--- how many digits a partition table gives the reference beside a company prefix of so many, if it has such a row
+-- how many digits a partition table gives the reference beside a company prefix of this many, if it has such a row
 abbrev pub reference_digits : List Row → ℕ → Option ℕ
 reference_digits [] company_digits = None
 reference_digits (r ∷ rs) company_digits = if r.company_digits == company_digits then Some r.reference_digits else reference_digits rs company_digits
@@ -110,7 +110,7 @@ abbrev pub is_wrong_filter : Form → List ℕ → Bool
 is_wrong_filter Filter text = is_no_filter text
 is_wrong_filter form text = false
 
--- whether the partition table has no row of so many digits of the company prefix and of the reference
+-- whether the partition table has no row of this many digits of the company prefix and of the reference
 abbrev pub is_no_row : List Row → ℕ → ℕ → Bool
 is_no_row rows company_digits digits = not (unwrap_or (option_map (λ k. k == digits) (reference_digits rows company_digits)) false)
 
@@ -124,7 +124,7 @@ abbrev pub is_over : Form → List ℕ → Bool
 is_over (Number width) text = nat_le (2 ^ width) (decimal_value text)
 is_over form text = false
 
--- the rules that refuse components, in their order: each a test and what it tells
+-- the rules that refuse components, in their order: each a test and the fault that it names
 abbrev pub rules_of : Option Layout → List (List ℕ) → List (Bool × UriFault)
 rules_of l texts =
     (not (length texts == length (forms_of l)), fault.Parts)

@@ -5,7 +5,8 @@ ghost use Rattle.tag_uri.specs.TagText.{components};
 
 /// The first component, and the text of the others.
 fn cut<'a>(text: &'a str) -> (&'a str, Option<&'a str>)
-    ensures parts { MatchOption result.1 (components text.now ≡ result.0.now ∷ []) (λ rest. components text.now ≡ result.0.now ∷ components rest.now) }
+    ensures parts { MatchOption result.1 (components text.now ≡ result.0.now
+        ∷ []) (λ rest. components text.now ≡ result.0.now ∷ components rest.now) }
     ensures some { IfSome result.1 (λ rest. 0 < length (components rest.now)) }
 {
     match text.split_once('.') {
@@ -33,7 +34,8 @@ pub fn three<'a>(text: &'a str) -> Option<(&'a str, &'a str, &'a str)>
 
 /// The components of a text of four.
 pub fn four<'a>(text: &'a str) -> Option<(&'a str, &'a str, &'a str, &'a str)>
-    ensures some { IfSome result (λ x. components text.now ≡ x.0.now ∷ x.1.now ∷ x.2.now ∷ x.3.now ∷ []) }
+    ensures some { IfSome result (λ x. components text.now ≡ x.0.now ∷ x.1.now ∷ x.2.now
+        ∷ x.3.now ∷ []) }
     ensures none { IfNone result (length (components text.now) ≢ 4) }
 {
     let (first, Some(rest)) = cut(text) else {

@@ -8,7 +8,8 @@ pub fn number_below(text: &str, width: u32) -> Option<u64>
     requires digits { AreDigits text.now }
     requires some { 0 < length text.now }
     requires narrow { width < 64 }
-    ensures { MatchOption result (2 ^ width ≤ decimal_value text.now) (λ n. (n ≡ decimal_value text.now) × (n < 2 ^ width)) }
+    ensures { MatchOption result (2 ^ width ≤ decimal_value text.now) (λ n. (n
+        ≡ decimal_value text.now) × (n < 2 ^ width)) }
 {
     let Ok(number) = text.parse::<u64>() else {
         return None;

@@ -2,7 +2,7 @@
 
 use std::fmt;
 
-/// The rules that refuse a text, in their order: the first that applies is told.
+/// The rules that refuse a text, in their order: the first that applies is named.
 #[derive(Clone, Copy, PartialEq, Eq, Debug)]
 pub enum UriFault {
     /// The text begins neither with `urn:epc:tag:` nor, where a raw URI is looked for, with `urn:epc:raw:`.
@@ -21,7 +21,7 @@ pub enum UriFault {
     Digits,
     /// A number without fixed digits has more bits than its segment.
     Range,
-    /// Not `96.x` and exactly 24 digits 0 to 9, A to F behind `urn:epc:raw:`.
+    /// Not `96.x` and exactly 24 digits 0 to 9, A to F after `urn:epc:raw:`.
     RawForm,
     /// The word of a raw URI has a tag URI.
     RawOfLawful,

@@ -1,4 +1,4 @@
-//! The texts of GID-96, behind the scheme's colon.
+//! The texts of GID-96, after the scheme's colon.
 
 ghost use Rattle.std.specs.Prelude.{◌≡◌, ℕ, ◌+◌, false, [], ◌∷◌, Some, None, is_none, IfOk, IfErr, IfSome};
 ghost use Rattle.tag_epc.specs.declared.kind.Kind.TheVariants.{Gid};
@@ -35,26 +35,32 @@ pub fn read_general(text: &str) -> Result<Parts, UriFault>
 
 /// Whether one of the numbers has a character other than 0 to 9, or is empty.
 fn have_stray(manager: &str, object_class: &str, serial: &str) -> bool
-    ensures { result ≡ some_component stray (forms_of None) (manager.now ∷ object_class.now ∷ serial.now ∷ []) }
+    ensures { result ≡ some_component stray (forms_of None) (manager.now ∷ object_class.now
+        ∷ serial.now ∷ []) }
 {
     is_stray(manager) || is_stray(object_class) || is_stray(serial)
 }
 
 /// Whether one of the numbers has two or more digits and begins with 0.
 fn have_leading_zero(manager: &str, object_class: &str, serial: &str) -> bool
-    ensures { result ≡ some_component leading_zero (forms_of None) (manager.now ∷ object_class.now ∷ serial.now ∷ []) }
+    ensures { result ≡ some_component leading_zero (forms_of None) (manager.now ∷ object_class.now
+        ∷ serial.now ∷ []) }
 {
     is_zero_led(manager) || is_zero_led(object_class) || is_zero_led(serial)
 }
 
 /// The parts of the three numbers, where each has at most the bits of its segment.
 fn parts_of(manager: &str, object_class: &str, serial: &str) -> Option<Parts>
-    requires digits { some_component stray (forms_of None) (manager.now ∷ object_class.now ∷ serial.now ∷ []) ≡ false }
-    requires plain { some_component leading_zero (forms_of None) (manager.now ∷ object_class.now ∷ serial.now ∷ []) ≡ false }
-    ensures over { is_none result ≡ some_component over (forms_of None) (manager.now ∷ object_class.now ∷ serial.now ∷ []) }
+    requires digits { some_component stray (forms_of None) (manager.now ∷ object_class.now
+        ∷ serial.now ∷ []) ≡ false }
+    requires plain { some_component leading_zero (forms_of None) (manager.now ∷ object_class.now
+        ∷ serial.now ∷ []) ≡ false }
+    ensures over { is_none result ≡ some_component over (forms_of None) (manager.now
+        ∷ object_class.now ∷ serial.now ∷ []) }
     ensures kind { IfSome result (λ parts. kind_of parts ≡ Gid) }
     ensures lawful { IfSome result (λ parts. IsLawful parts) }
-    ensures ok { IfSome result (λ parts. components_of parts ≡ manager.now ∷ object_class.now ∷ serial.now ∷ []) }
+    ensures ok { IfSome result (λ parts. components_of parts ≡ manager.now ∷ object_class.now
+        ∷ serial.now ∷ []) }
 {
     let manager = number_below(manager, 28)?;
     let object_class = number_below(object_class, 24)?;

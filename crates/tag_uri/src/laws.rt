@@ -20,21 +20,25 @@ pub fn one_plain_text()
     ensures only { (n : ℕ) (text : List ℕ) → n < 2 ^ 64 → IsPlain n text → text ≡ plain n }
 {}
 
-/// A lawful EPC's tag URI is no other lawful EPC's, and no rule refuses it.
+/// Two lawful EPCs have different tag URIs, and no rule refuses one of these.
 pub fn one_tag_uri()
     ensures one { (d e : Parts) → IsLawful d → IsLawful e → tag_uri d ≡ tag_uri e → d ≡ e }
-    ensures no_fault { (epc : Parts) (fault : UriFault) → IsLawful epc → HasTagFault (tag_uri epc) fault → ⊥ }
+    ensures no_fault { (epc : Parts) (fault : UriFault) → IsLawful epc
+        → HasTagFault (tag_uri epc) fault → ⊥ }
 {}
 
 /// Two words never share a text, a word has one text, and no rule refuses it.
 pub fn one_text()
-    ensures one { (v w : ℕ) (text : List ℕ) → v < 2 ^ 96 → w < 2 ^ 96 → IsTextOf v text → IsTextOf w text → v ≡ w }
+    ensures one { (v w : ℕ) (text : List ℕ) → v < 2 ^ 96 → w < 2 ^ 96 → IsTextOf v text
+        → IsTextOf w text → v ≡ w }
     ensures same { (w : ℕ) (s t : List ℕ) → IsTextOf w s → IsTextOf w t → s ≡ t }
-    ensures no_fault { (w : ℕ) (text : List ℕ) (fault : UriFault) → w < 2 ^ 96 → IsTextOf w text → HasFault text fault → ⊥ }
+    ensures no_fault { (w : ℕ) (text : List ℕ) (fault : UriFault) → w < 2 ^ 96 → IsTextOf w text
+        → HasFault text fault → ⊥ }
 {}
 
 /// One rule at most refuses a text.
 pub fn one_fault()
-    ensures tag { (text : List ℕ) (f g : UriFault) → HasTagFault text f → HasTagFault text g → f ≡ g }
+    ensures tag { (text : List ℕ) (f g : UriFault) → HasTagFault text f
+        → HasTagFault text g → f ≡ g }
     ensures any { (text : List ℕ) (f g : UriFault) → HasFault text f → HasFault text g → f ≡ g }
 {}

@@ -9,11 +9,13 @@ ghost use Rattle.tag_uri.specs.TagText.{tag_uri, components, components_of, refu
 use crate::fault::UriFault;
 use crate::general::read_general;
 use crate::partitioned::read_partitioned;
+use crate::quick::quick_parts;
 use crate::scheme::scheme_of;
 use tag_epc::{Epc, Kind, Parts, at_scheme};
 
 /// The EPC of a tag URI, or the first rule that refuses the text
 /// (EPC Tag Data Standard 1.13, section 12). A raw URI is refused.
+#[inline(always)]
 pub fn parse(text: &str) -> Result<Epc, UriFault>
     ensures ok { IfOk result (λ epc. text.now ≡ tag_uri epc) }
     ensures accepts { (epc : Parts) → IsLawful epc → text.now ≡ tag_uri epc → result ≡ Ok epc }
@@ -26,7 +28,24 @@ pub fn parse(text: &str) -> Result<Epc, UriFault>
 }
 
 /// The parts of the EPC of a tag URI, or the first rule that refuses the text.
+#[inline(always)]
 fn read(text: &str) -> Result<Parts, UriFault>
+    ensures lawful { IfOk result (λ parts. IsLawful parts) }
+    ensures ok { IfOk result (λ parts. text.now ≡ tag_uri parts) }
+    ensures err { IfErr result (λ fault. HasTagFault text.now fault) }
+{
+    if let Some(parts) = quick_parts(text) {
+        return Ok(parts);
+    }
+    match read_by_rules(text) {
+        Ok(parts) => Ok(parts),
+        Err(fault) => Err(fault),
+    }
+}
+
+/// The parts of the EPC of a tag URI, or the first rule that refuses the text: each rule is looked at in turn.
+#[inline(never)]
+fn read_by_rules(text: &str) -> Result<Parts, UriFault>
     ensures lawful { IfOk result (λ parts. IsLawful parts) }
     ensures ok { IfOk result (λ parts. text.now ≡ tag_uri parts) }
     ensures err { IfErr result (λ fault. HasTagFault text.now fault) }
@@ -48,7 +67,8 @@ fn read_components(kind: Kind, text: &str) -> Result<Parts, UriFault>
     ensures kind { IfOk result (λ parts. kind_of parts ≡ kind) }
     ensures lawful { IfOk result (λ parts. IsLawful parts) }
     ensures ok { IfOk result (λ parts. components text.now ≡ components_of parts) }
-    ensures err { IfErr result (λ fault. refusal (layout_of kind) (components text.now) ≡ Some fault) }
+    ensures err { IfErr result (λ fault. refusal (layout_of kind) (components text.now)
+        ≡ Some fault) }
 {
     at_scheme!(kind, read_partitioned(kind, text), read_general(text))
 }

@@ -1,4 +1,4 @@
-//! The texts of EPCs with a company prefix, behind the scheme's colon.
+//! The texts of EPCs with a company prefix, after the scheme's colon.
 
 ghost use Rattle.std.specs.Prelude.{◌≡◌, ◌≢◌, if◌then◌else◌, ℕ, ◌+◌, ◌^◌, ◌<◌, ◌≤◌, not, Some, None, length, false, is_some, is_none, MatchOption, IfOk, IfErr, IfSome, IfNone};
 ghost use Rattle.tag_epc.specs.Layout.{layout_of};
@@ -50,7 +50,8 @@ fn split<'a>(text: &'a str, zero_tail: bool) -> Option<Components<'a>>
 impl Components<'_> {
     /// Whether a component has a character other than 0 to 9, or is empty and not the reference.
     fn has_stray(&self) -> bool
-        ensures { (w : ℕ) → result ≡ some_component stray (forms_with self.now w) (texts_of self.now) }
+        ensures { (w : ℕ) → result ≡ some_component stray (forms_with self.now w)
+            (texts_of self.now) }
     {
         let of_last = match self.last {
             Some(last) => is_stray(last),
@@ -61,7 +62,8 @@ impl Components<'_> {
 
     /// Whether the last component has two or more digits and begins with 0.
     fn has_leading_zero(&self) -> bool
-        ensures { (w : ℕ) → result ≡ some_component leading_zero (forms_with self.now w) (texts_of self.now) }
+        ensures { (w : ℕ) → result ≡ some_component leading_zero (forms_with self.now w)
+            (texts_of self.now) }
     {
         match self.last {
             Some(last) => is_zero_led(last),
@@ -71,10 +73,13 @@ impl Components<'_> {
 
     /// The number of the last component, where it has at most `width` bits; 0 where there is none.
     fn last_below(&self, width: u32) -> Option<u64>
-        requires digits { some_component stray (forms_with self.now width) (texts_of self.now) ≡ false }
-        requires plain { some_component leading_zero (forms_with self.now width) (texts_of self.now) ≡ false }
+        requires digits { some_component stray (forms_with self.now width)
+            (texts_of self.now) ≡ false }
+        requires plain { some_component leading_zero (forms_with self.now width)
+            (texts_of self.now) ≡ false }
         requires narrow { width < 64 }
-        ensures over { is_none result ≡ some_component over (forms_with self.now width) (texts_of self.now) }
+        ensures over { is_none result ≡ some_component over (forms_with self.now width)
+            (texts_of self.now) }
         ensures last { IfSome result (λ n. LastIs self.now.last width n) }
     {
         match self.last {

@@ -1,5 +1,5 @@
 //! The tag URI of an EPC. Its components are written from the last to the first, since the last digits of
-//! each stand where the text behind it begins.
+//! each is where the text after it begins.
 
 ghost use Rattle.std.specs.Prelude.{◌≡◌, ℕ, ◌+◌, ◌^◌, ◌<◌, ◌≤◌, ◌++◌, ◌∷◌, [], Some, length, take, drop, if◌then◌else◌};
 ghost use Rattle.tag_epc.specs.Layout.{layout_of};
@@ -106,7 +106,8 @@ fn put_tail(room: &mut [u8], end: usize, last: u64, zero_tail: bool, tail: usize
     requires ahead { 16 ≤ end }
     requires within { end ≤ length room.old }
     ensures begin { result + tail ≡ end }
-    ensures written { drop result room.new ≡ (if zero_tail then [] else 46 ∷ plain last) ++ drop end room.old }
+    ensures written { drop result room.new ≡ (if zero_tail then [] else 46 ∷ plain last)
+        ++ drop end room.old }
     ensures kept { (p : ℕ) → p + 16 ≤ end → take p room.new ≡ take p room.old }
     ensures len { length room.new ≡ length room.old }
 {
@@ -129,9 +130,11 @@ fn put_partitioned<S: Scheme>(
     last: u64,
 ) -> usize
     requires known { layout_of kind ≡ Some S.layout }
-    requires lawful { IsLawful (Parts.Partitioned kind filter company_digits company reference last) }
+    requires lawful { IsLawful (Parts.Partitioned kind filter company_digits company
+        reference last) }
     requires room { at + 64 ≤ length room.old }
-    ensures text { HasText room.old room.new at result (tag_uri (Parts.Partitioned kind filter company_digits company reference last)) }
+    ensures text { HasText room.old room.new at result (tag_uri
+        (Parts.Partitioned kind filter company_digits company reference last)) }
     ensures most { result ≤ at + 64 }
 {
     let Some(row) = S::row(12 - company_digits) else {
@@ -155,7 +158,8 @@ fn put_partitioned<S: Scheme>(
 fn put_general(room: &mut [u8], at: usize, manager: u64, object_class: u64, serial: u64) -> usize
     requires lawful { IsLawful (Parts.General manager object_class serial) }
     requires room { at + 64 ≤ length room.old }
-    ensures text { HasText room.old room.new at result (tag_uri (Parts.General manager object_class serial)) }
+    ensures text { HasText room.old room.new at result (tag_uri
+        (Parts.General manager object_class serial)) }
     ensures most { result ≤ at + 64 }
 {
     let name = Kind::Gid.name();

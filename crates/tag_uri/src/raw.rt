@@ -1,49 +1,89 @@
 //! The hexadecimal digits of a raw URI.
 
-ghost use Rattle.std.specs.Prelude.{◌≡◌, ℕ, ◌+◌, ◌^◌, ◌<◌, ◌≤◌, ◌++◌, ◌↔◌, length, IsTrue, IfSome, IfNone};
+ghost use Rattle.std.specs.Prelude.{◌≡◌, ℕ, ◌+◌, ◌^◌, ◌<◌, ◌≤◌, false, length, IfSome, IfNone, slice_index, codes};
 ghost use Rattle.std.specs.List.{AllPass};
-ghost use Rattle.tag_bits.specs.Digits.{digits_of_bytes, word_digits};
-ghost use Rattle.arrayvec.specs.ArrayString.{array_string_len};
 ghost use Rattle.tag_uri.specs.Hexadecimal.{hexadecimal, is_upper_digit};
+ghost use Rattle.tag_uri.specs.Room.{HasText};
 ghost use Rattle.tag_uri.specs.TagText.{AreWordDigits};
 
-use arrayvec::ArrayString;
-use hex::FromHex;
-use std::str;
+use crate::writing::put_text;
 use tag_bits::Word;
 
-/// Appends the 24 upper-case hexadecimal digits of a word.
-pub fn push_hexadecimal(text: &mut ArrayString<64>, word: Word)
-    requires room { array_string_len text.old + 24 ≤ 64 }
-    ensures { text.new.bytes ≡ text.old.bytes ++ hexadecimal 24 word }
+/// The sixteen digits.
+static DIGITS: [u8; 16] = *b"0123456789ABCDEF";
+
+/// The digit of a number below 16.
+#[inline(always)]
+fn digit(number: u32) -> u8
+    requires { number < 16 }
+    ensures { result ≡ slice_index (codes "0123456789ABCDEF") number }
 {
-    push_bytes(text, &word.to_bytes());
+    DIGITS[number as usize]
 }
 
-/// Appends the upper-case hexadecimal digits of twelve bytes, those of the word that they spell.
-fn push_bytes(text: &mut ArrayString<64>, bytes: &[u8])
-    requires twelve { length bytes.now ≡ 12 }
-    requires room { array_string_len text.old + 24 ≤ 64 }
-    ensures { (w : ℕ) → w < 2 ^ 96 → digits_of_bytes bytes.now ≡ word_digits w → text.new.bytes ≡ text.old.bytes ++ hexadecimal 24 w }
+/// The eight digits of a number.
+#[inline(always)]
+fn eight_digits(number: u32) -> [u8; 8]
+    ensures { result ≡ hexadecimal 8 number }
 {
-    let mut digits = [0; 24];
-    let Ok(()) = hex::encode_to_slice(bytes, &mut digits) else {
-        unreachable!()
-    };
-    digits.make_ascii_uppercase();
-    let Ok(digits) = str::from_utf8(&digits) else {
-        unreachable!()
-    };
-    text.push_str(digits);
+    [
+        digit(number / 0x1000_0000 % 16),
+        digit(number / 0x0100_0000 % 16),
+        digit(number / 0x0010_0000 % 16),
+        digit(number / 0x0001_0000 % 16),
+        digit(number / 0x0000_1000 % 16),
+        digit(number / 0x0000_0100 % 16),
+        digit(number / 0x0000_0010 % 16),
+        digit(number % 16),
+    ]
 }
 
-/// Whether a text has no character but 0 to 9 and A to F.
-fn is_upper_hexadecimal(text: &str) -> bool
-    ensures { IsTrue result ↔ AllPass is_upper_digit text.now }
+/// Writes the 24 upper-case hexadecimal digits of a word into `room` from `at` on, and returns where they end.
+#[inline(always)]
+pub fn put_hexadecimal(room: &mut [u8], at: usize, word: Word) -> usize
+    requires { at + 24 ≤ length room.old }
+    ensures text { HasText room.old room.new at result (hexadecimal 24 word) }
+    ensures end { result ≡ at + 24 }
 {
-    text.as_bytes()
-        .iter()
-        .all(|byte| matches!(*byte, b'0'..=b'9' | b'A'..=b'F'))
+    let number = word.number();
+    let upper = number / 0x1_0000_0000;
+    let first = eight_digits((upper / 0x1_0000_0000) as u32);
+    let second = eight_digits((upper % 0x1_0000_0000) as u32);
+    let third = eight_digits((number % 0x1_0000_0000) as u32);
+    let second_at = put_text(room, at, &first);
+    let third_at = put_text(room, second_at, &second);
+    put_text(room, third_at, &third)
+}
+
+/// The number of an upper-case hexadecimal digit.
+#[inline(always)]
+fn number_of_digit(octet: u8) -> Option<u8>
+    ensures below { IfSome result (λ n. n < 16) }
+    ensures digit { IfSome result (λ n. octet ≡ slice_index (codes "0123456789ABCDEF") n) }
+    ensures none { IfNone result (is_upper_digit octet ≡ false) }
+{
+    match octet {
+        b'0'..=b'9' => Some(octet - b'0'),
+        b'A'..=b'F' => Some(octet - b'A' + 10),
+        _ => None,
+    }
+}
+
+/// The number of at most 15 upper-case hexadecimal digits.
+fn number_of_digits(octets: &[u8]) -> Option<u64>
+    requires { length octets.now ≤ 15 }
+    ensures below { IfSome result (λ n. n < 16 ^ length octets.now) }
+    ensures digits { IfSome result (λ n. octets.now ≡ hexadecimal (length octets.now) n) }
+    ensures none { IfNone result (AllPass is_upper_digit octets.now → ⊥) }
+{
+    let mut number = 0u64;
+    for octet in octets {
+        let Some(digit) = number_of_digit(*octet) else {
+            return None;
+        };
+        number = number * 16 + digit as u64;
+    }
+    Some(number)
 }
 
 /// The word of 24 upper-case hexadecimal digits.
@@ -51,9 +91,18 @@ pub fn word_of_hexadecimal(text: &str) -> Option<Word>
     ensures some { IfSome result (λ w. text.now ≡ hexadecimal 24 w) }
     ensures none { IfNone result (AreWordDigits text.now → ⊥) }
 {
-    if !is_upper_hexadecimal(text) {
+    let octets = text.as_bytes();
+    if octets.len() != 24 {
         return None;
     }
-    let bytes = <[u8; 12]>::from_hex(text).ok()?;
-    Some(Word::of_bytes(bytes))
+    let Some(upper) = number_of_digits(&octets[..12]) else {
+        return None;
+    };
+    let Some(lower) = number_of_digits(&octets[12..]) else {
+        return None;
+    };
+    let Some(word) = Word::new(upper as u128 * 0x1_0000_0000_0000 + lower as u128) else {
+        unreachable!()
+    };
+    Some(word)
 }

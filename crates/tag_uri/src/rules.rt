@@ -38,7 +38,7 @@ pub fn is_no_filter(text: &str) -> bool
     text.len() != 1 || text.as_bytes()[0] > b'7'
 }
 
-/// Whether a scheme has no row of so many digits of company prefix and reference.
+/// Whether a scheme has no row of this many digits of company prefix and reference.
 pub fn is_no_row<S: Scheme>(company_digits: usize, reference_digits: usize) -> bool
     ensures { result ≡ no_row S.layout.rows company_digits reference_digits }
 {

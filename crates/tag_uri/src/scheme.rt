@@ -9,7 +9,8 @@ use tag_epc::kind::KINDS;
 
 /// The scheme of a name.
 fn kind_named(name: &str) -> Option<Kind>
-    ensures { MatchOption result ((kind : Kind) → name.now ≡ name_of kind → ⊥) (λ kind. name.now ≡ name_of kind) }
+    ensures { MatchOption result ((kind : Kind) → name.now ≡ name_of kind
+        → ⊥) (λ kind. name.now ≡ name_of kind) }
 {
     for kind in KINDS {
         if kind.name() == name {
@@ -19,10 +20,11 @@ fn kind_named(name: &str) -> Option<Kind>
     None
 }
 
-/// The scheme whose name and colon a text begins with, and the text behind them.
+/// The scheme whose name and colon a text begins with, and the text after them.
 pub fn scheme_of<'a>(text: &'a str) -> Option<(Kind, &'a str)>
     ensures some { IfSome result (λ x. text.now ≡ scheme_text x.0 x.1.now) }
-    ensures none { IfNone result ((kind : Kind) (rest : List ℕ) → text.now ≡ scheme_text kind rest → ⊥) }
+    ensures none { IfNone result ((kind : Kind) (rest : List ℕ)
+        → text.now ≡ scheme_text kind rest → ⊥) }
 {
     let (name, rest) = text.split_once(':')?;
     let kind = kind_named(name)?;

@@ -7,7 +7,7 @@ ghost use Rattle.tag_uri.specs.TagText.{IsTextOf, HasFault, HasRawFault, raw_sta
 use crate::fault::UriFault;
 use crate::parsing::parse;
 use crate::printing::put_tag_uri;
-use crate::raw::{push_hexadecimal, word_of_hexadecimal};
+use crate::raw::{put_hexadecimal, word_of_hexadecimal};
 use crate::writing::{put_text, text_before};
 use arrayvec::ArrayString;
 use tag_bits::Word;
@@ -41,10 +41,9 @@ pub fn put_text_of_word(room: &mut [u8], at: usize, word: Word) -> usize
 pub fn print_raw(word: Word) -> ArrayString<64>
     ensures { result.bytes ≡ raw_uri word }
 {
-    let mut text = ArrayString::new();
-    text.push_str("urn:epc:raw:96.x");
-    push_hexadecimal(&mut text, word);
-    text
+    let mut room = [0; 64];
+    let end = put_raw_uri(&mut room, 0, word);
+    text_before(&room, end)
 }
 
 /// Writes the raw URI of a word.
@@ -53,7 +52,9 @@ fn put_raw_uri(room: &mut [u8], at: usize, word: Word) -> usize
     ensures text { HasText room.old room.new at result (raw_uri word) }
     ensures most { result ≤ at + 64 }
 {
-    put_text(room, at, print_raw(word).as_bytes())
+    let start = *b"urn:epc:raw:96.x";
+    let digits_at = put_text(room, at, &start);
+    put_hexadecimal(room, digits_at, word)
 }
 
 /// The word of a text, or the first rule that refuses it: those of raw URIs where it begins with
@@ -70,6 +71,7 @@ pub fn word_of_text(text: &str) -> Result<Word, UriFault>
 }
 
 /// The word of a text, or the first rule that refuses it.
+#[inline(always)]
 fn read(text: &str) -> Result<Word, UriFault>
     ensures ok { IfOk result (λ word. IsTextOf word text.now) }
     ensures err { IfErr result (λ fault. HasFault text.now fault) }

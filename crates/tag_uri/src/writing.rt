@@ -1,4 +1,4 @@
-//! Decimal digits in front of a place of lent room. A number's last digits stand where the text behind
+//! Decimal digits in front of a place of lent room. A number's last digits are where the text after
 //! it begins, so no leading zero has to be looked for: what is written in front of them is written over.
 
 ghost use Rattle.std.specs.Prelude.{◌≡◌, ℕ, ◌+◌, ◌-◌, ◌*◌, ◌/◌, ◌%◌, ◌^◌, ◌<◌, ◌≤◌, ◌++◌, ◌∷◌, length, take, drop};
@@ -15,28 +15,36 @@ static PAIRS: [u8; 200] =
 
 /// The two digits of a number below 100.
 #[inline(always)]
-fn pair(number: u32) -> (u8, u8)
+fn pair(number: u32) -> [u8; 2]
     requires { number < 100 }
-    ensures tens { result.0 ≡ 48 + number / 10 }
-    ensures ones { result.1 ≡ 48 + number % 10 }
+    ensures { result ≡ padded 2 number }
 {
     let from = 2 * number as usize;
-    (PAIRS[from], PAIRS[from + 1])
+    [PAIRS[from], PAIRS[from + 1]]
 }
 
-/// The eight digits of a number below 10 ^ 8.
+/// Writes the two digits of a number below 100 in front of `end`.
 #[inline(always)]
-fn eight(number: u32) -> [u8; 8]
-    requires { number < 10 ^ 8 }
-    ensures { result ≡ padded 8 number }
+fn put_pair(room: &mut [u8], end: usize, number: u32)
+    requires fits { number < 100 }
+    requires ahead { 2 ≤ end }
+    requires within { end ≤ length room.old }
+    ensures { room.new ≡ take (end - 2) room.old ++ (padded 2 number ++ drop end room.old) }
 {
-    let upper = number / 10_000;
-    let lower = number % 10_000;
-    let (a, b) = pair(upper / 100);
-    let (c, d) = pair(upper % 100);
-    let (e, f) = pair(lower / 100);
-    let (g, h) = pair(lower % 100);
-    [a, b, c, d, e, f, g, h]
+    let digits = pair(number);
+    room[end - 2..end].copy_from_slice(&digits);
+}
+
+/// Writes the four digits of a number below 10,000 in front of `end`.
+#[inline(always)]
+fn put_four(room: &mut [u8], end: usize, number: u32)
+    requires fits { number < 10 ^ 4 }
+    requires ahead { 4 ≤ end }
+    requires within { end ≤ length room.old }
+    ensures { room.new ≡ take (end - 4) room.old ++ (padded 4 number ++ drop end room.old) }
+{
+    put_pair(room, end, number % 100);
+    put_pair(room, end - 2, number / 100);
 }
 
 /// Writes the eight digits of a number below 10 ^ 8 in front of `end`.
@@ -47,8 +55,49 @@ fn put_eight(room: &mut [u8], end: usize, number: u32)
     requires within { end ≤ length room.old }
     ensures { room.new ≡ take (end - 8) room.old ++ (padded 8 number ++ drop end room.old) }
 {
-    let digits = eight(number);
-    room[end - 8..end].copy_from_slice(&digits);
+    put_four(room, end, number % 10_000);
+    put_four(room, end - 4, number / 10_000);
+}
+
+/// Writes the last digits of a number in front of `end`: twelve where `count` is at most that, else 16.
+#[inline(always)]
+fn put_many(room: &mut [u8], end: usize, number: u64, count: usize)
+    requires fits { number < 10 ^ count }
+    requires few { count ≤ 16 }
+    requires ahead { 16 ≤ end }
+    requires within { end ≤ length room.old }
+    ensures written { drop (end - count) room.new ≡ padded count number ++ drop end room.old }
+    ensures kept { (p : ℕ) → p + 16 ≤ end → take p room.new ≡ take p room.old }
+    ensures len { length room.new ≡ length room.old }
+{
+    put_eight(room, end, (number % 100_000_000) as u32);
+    let upper = (number / 100_000_000) as u32;
+    if count <= 12 {
+        put_four(room, end - 8, upper);
+    } else {
+        put_eight(room, end - 8, upper);
+    }
+}
+
+/// Writes the last `count` digits of a number in front of `end`, at most 16. The 16 octets in front of
+/// `end` may change.
+#[inline(always)]
+fn put_last(room: &mut [u8], end: usize, number: u64, count: usize)
+    requires fits { number < 10 ^ count }
+    requires few { count ≤ 16 }
+    requires ahead { 16 ≤ end }
+    requires within { end ≤ length room.old }
+    ensures written { drop (end - count) room.new ≡ padded count number ++ drop end room.old }
+    ensures kept { (p : ℕ) → p + 16 ≤ end → take p room.new ≡ take p room.old }
+    ensures len { length room.new ≡ length room.old }
+{
+    if count <= 4 {
+        put_four(room, end, number as u32);
+    } else if count <= 8 {
+        put_eight(room, end, number as u32);
+    } else {
+        put_many(room, end, number, count);
+    }
 }
 
 /// Writes the last `count` digits of a number in front of `end`, at most 16, and returns where they
@@ -64,12 +113,7 @@ pub fn put_padded(room: &mut [u8], end: usize, number: u64, count: usize) -> usi
     ensures kept { (p : ℕ) → p + 16 ≤ end → take p room.new ≡ take p room.old }
     ensures len { length room.new ≡ length room.old }
 {
-    if count <= 8 {
-        put_eight(room, end, number as u32);
-    } else {
-        put_eight(room, end, (number % 100_000_000) as u32);
-        put_eight(room, end - 8, (number / 100_000_000) as u32);
-    }
+    put_last(room, end, number, count);
     end - count
 }
 
@@ -97,7 +141,7 @@ pub fn put_text(room: &mut [u8], at: usize, text: &[u8]) -> usize
     end
 }
 
-/// Writes one octet in front of `end`, and returns where it stands.
+/// Writes one octet in front of `end`, and returns where it is.
 #[inline(always)]
 pub fn put_octet(room: &mut [u8], end: usize, octet: u8) -> usize
     requires ahead { 1 ≤ end }

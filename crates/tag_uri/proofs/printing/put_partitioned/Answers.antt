@@ -1,5 +1,4 @@
-use Rattle.std.proofs.Common.{◌≡◌, ℕ, ◌+◌, ◌<◌, List, ◌∷◌, [], ◌++◌, ◌-◌, ◌≤◌, take, drop, length-append, sym, ap, ◌∙◌, subst, arith, length}
-use Rattle.tag_uri.specs.Decimal.{padded, plain}
+use Rattle.std.proofs.Common.{◌≡◌, ℕ, ◌+◌, List, ◌∷◌, [], ◌++◌, ◌-◌, ◌≤◌, take, drop, length-append, sym, ap, ◌∙◌, subst, arith, length}
 use Rattle.tag_uri.specs.Room.{HasText}
 use Rattle.tag_uri.specs.TagText.{tag_start}
 use Rattle.tag_uri.proofs.PrintLemmas.{at_row}

@@ -1,5 +1,10 @@
-use Rattle.tag_uri.proofs.TextLaws.{raw_appended}
+use Rattle.std.proofs.Common.{sym, ◌∙◌, subst}
+use Rattle.std.specs.Str.{IsUtf8}
+use Rattle.tag_uri.proofs.UriLemmas.{text_at_start, raw_utf8}
 use Rattle.tag_uri.proofs.word.print_raw.Goals as goal
 
+pub text_before-requires-clause-text : goal.text_before-requires-clause-text
+text_before-requires-clause-text c = subst IsUtf8 (sym (text_at_start _ _ _ _ c.put_raw_uri-end.ensures.text)) (raw_utf8 c.args.word)
+
 pub returns : goal.returns
-returns c = raw_appended c.new-text.result.bytes c.push_str.new.self.bytes c.push_hexadecimal.new.text.bytes c.args.word c.new-text.ensures c.push_str.ensures.bytes c.push_hexadecimal.ensures
+returns c = c.text_before.ensures ∙ text_at_start _ _ _ _ c.put_raw_uri-end.ensures.text

@@ -1,5 +1,5 @@
-use Rattle.std.proofs.Common.{◌≡◌, ℕ, List, ◌++◌, ◌<◌, ◌≤◌, ◌^◌, length, drop, ap, sym, subst, ◌∙◌, arith}
-use Rattle.tag_uri.specs.Decimal.{padded, plain}
+use Rattle.std.proofs.Common.{ℕ, List, ◌++◌, ◌<◌, ◌^◌, drop, ap, sym, subst, ◌∙◌, arith}
+use Rattle.tag_uri.specs.Decimal.{padded}
 use Rattle.tag_uri.proofs.WritingLemmas.{plain_below, plain_few, padded_plain}
 use Rattle.tag_uri.proofs.writing.put_plain.Goals as goal
 

@@ -1,28 +1,20 @@
+use Rattle.std.proofs.Common.{◌-◌, ◌*◌, ◌/◌, ◌%◌, ◌^◌, ◌≤◌, arith, sym, ◌∙◌, rules}
 use Rattle.tag_bits.proofs.DigitLemmas.{length-digits}
-use Rattle.std.proofs.Common.{bit_and, ◌*◌, ◌%◌, rules, ◌-◌, ◌/◌, ◌^◌, ◌<◌, ◌≤◌, arith, ◌∙◌, sym}
-use Rattle.tag_epc.proofs.DigitMoves.{counted, taken, taken_below, taken_narrow}
+use Rattle.tag_epc.proofs.DigitMoves.{counted, front_taken, front_below}
 use Rattle.tag_epc.proofs.bits.WordReader.take.Goals as goal
 
 pub overflow_sub-self : goal.overflow_sub-self
-overflow_sub-self c = omega (arith, counted c.self.inside.count c.self.inside.number c.args.self.now c.self.view_is)
-
-pub overflow_cast-result : goal.overflow_cast-result
-overflow_cast-result c =
-    let le : c.args.width ≤ c.self.inside.count = omega (arith, counted c.self.inside.count c.self.inside.number c.args.self.now c.self.view_is) in
-    let small : c.self.inside.number / 2 ^ (c.self.inside.count - c.args.width) < 2 ^ 64 = taken_narrow c.self.inside.count c.args.width c.self.inside.number le c.requires.narrow c.self.invariant.1 in
-    search rules
+overflow_sub-self c = omega (arith, counted c.self.inside.count _ c.args.self.now c.self.view_is)
 
 pub returns-clause-read : goal.returns-clause-read
 returns-clause-read c =
-    let le : c.args.width ≤ c.self.inside.count = omega (arith, counted c.self.inside.count c.self.inside.number c.args.self.now c.self.view_is) in
-    sym c.self.view_is ∙ taken c.self.inside.count c.args.width c.self.inside.number le c.self.invariant.0 c.self.invariant.1
+    let le : c.args.width ≤ c.self.inside.count = omega (arith, counted c.self.inside.count _ c.args.self.now c.self.view_is) in
+    sym c.self.view_is ∙ front_taken c.self.inside.count c.args.width c.self.inside.rest le c.self.invariant c.requires.narrow (search rules)
 
 pub returns-clause-below : goal.returns-clause-below
-returns-clause-below c =
-    let le : c.args.width ≤ c.self.inside.count = omega (arith, counted c.self.inside.count c.self.inside.number c.args.self.now c.self.view_is) in
-    taken_below c.self.inside.count c.args.width c.self.inside.number le c.self.invariant.1
+returns-clause-below c = front_below c.self.inside.rest c.args.width c.requires.narrow (search rules)
 
 pub returns-clause-length : goal.returns-clause-length
 returns-clause-length c =
-    let l = counted c.self.inside.count c.self.inside.number c.args.self.now c.self.view_is in
-    omega (arith, l, length-digits (c.self.inside.count - c.args.width) (bit_and c.self.inside.number (1 * 2 ^ (c.self.inside.count - c.args.width) % 2 ^ 128 - 1)))
+    let l = counted c.self.inside.count _ c.args.self.now c.self.view_is in
+    omega (arith, l, length-digits (c.self.inside.count - c.args.width) (c.self.inside.rest * 2 ^ (c.args.width % 64) % 2 ^ 128 / 2 ^ (128 - (c.self.inside.count - c.args.width))))

@@ -6,12 +6,12 @@ use Rattle.tag_epc.proofs.bits.WordWriter.push.Goals as goal
 pub invariant_of-self : goal.invariant_of-self
 invariant_of-self c =
     let room : c.self.inside.count + c.args.width ≤ 96 = omega (arith, counted c.self.inside.count c.self.inside.number c.args.self.now c.self.view_is) in
-    (room, pushed_below c.self.inside.count c.args.width c.self.inside.number c.args.number room c.self.invariant.1 c.requires.fits)
+    (room, pushed_below c.self.inside.count c.args.width c.self.inside.number c.args.number room c.requires.narrow c.self.invariant.1 c.requires.fits)
 
 pub returns-clause-pushed : goal.returns-clause-pushed
 returns-clause-pushed c =
     let room : c.self.inside.count + c.args.width ≤ 96 = omega (arith, counted c.self.inside.count c.self.inside.number c.args.self.now c.self.view_is) in
-    rw (← c.self.view_is) (pushed_digits c.self.inside.count c.args.width c.self.inside.number c.args.number room c.self.invariant.1 c.requires.fits)
+    rw (← c.self.view_is) (pushed_digits c.self.inside.count c.args.width c.self.inside.number c.args.number room c.requires.narrow c.self.invariant.1 c.requires.fits)
 
 pub returns-clause-length : goal.returns-clause-length
 returns-clause-length c = length-digits (c.self.inside.count + c.args.width) _ ∙ ap (λ (k : ℕ). k + c.args.width) (sym (counted c.self.inside.count c.self.inside.number c.args.self.now c.self.view_is))

@@ -1,7 +1,7 @@
 use Rattle.std.proofs.Common.{◌++◌, List, ℕ, ap, ◌∙◌}
 use Rattle.tag_uri.specs.TagText.{tag_start}
 use Rattle.tag_uri.proofs.TextLaws.{begins, wrong_components, right_components}
-use Rattle.tag_uri.proofs.parsing.read.Goals as goal
+use Rattle.tag_uri.proofs.parsing.read_by_rules.Goals as goal
 
 pub returns-in_default-scheme_of-clause-err : goal.returns-in_default-scheme_of-clause-err
 returns-in_default-scheme_of-clause-err c = (c.in-Some.rest.now, begins tag_start c.args.text.now c.in-Some.rest.now c.in-Some.ensures.cases, c.in_default-scheme_of.ensures.none)
