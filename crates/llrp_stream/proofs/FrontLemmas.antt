@@ -1,13 +1,12 @@
 -- The front of a frame, and what stays of it when more bytes come.
-use Rattle.std.proofs.Common.{◌≡◌, ℕ, ◌+◌, ◌<◌, ◌≤◌, List, ◌++◌, length, take, refl, sym, subst, ◌∙◌, arith, inl, inr, length-append, append_assoc}
+use Rattle.std.proofs.Common.{◌≡◌, ℕ, ◌+◌, ◌≤◌, List, ◌++◌, length, take, refl, sym, subst, ◌∙◌, arith, inl, length-append, append_assoc}
 use Rattle.std.proofs.lemmas.List.{length-take-le}
 use Rattle.llrp_tree.specs.declared.fault.Fault.{Fault}
 use Rattle.llrp_tree.specs.FirstFault.{FirstFault}
 use Rattle.llrp_stream.specs.declared.header.FaultyHeader.{FaultyHeader}
-use Rattle.llrp_stream.specs.Cuts.{length_field, IsFrame, IsPartial, Breaks}
-use Rattle.llrp_stream.specs.Items.{id_field, header_fault}
-use Rattle.llrp_stream.specs.Headers.{IsFaulty, IsSound}
-use Rattle.llrp_stream.specs.Decoding.{IsSkipped}
+use Rattle.llrp_stream.specs.Cuts.{length_field, IsFrame, Breaks}
+use Rattle.llrp_stream.specs.Items.{id_field, header_fault, IsSkipped}
+use Rattle.llrp_stream.specs.Headers.{IsFaulty}
 use Rattle.llrp_stream.proofs.HeaderLemmas.{number-append}
 
 pub length_field-append : (xs ys : List ℕ) → 6 ≤ length xs → length_field (xs ++ ys) ≡ length_field xs
@@ -31,31 +30,6 @@ pub frame_ends : (front piece : List ℕ) (octets left : ℕ) → 6 ≤ length f
 frame_ends front piece octets left six ten is long le =
     let all : length (front ++ take left piece) ≡ octets = omega (arith, length-append front (take left piece), length-take-le left piece le) in
     record { header = omega arith; whole = length_field-append front (take left piece) six ∙ sym is ∙ sym all }
-
--- fewer bytes than the front says are less than a frame
-pub still_partial : (front piece : List ℕ) (octets : ℕ) → 6 ≤ length front → 10 ≤ octets → octets ≡ length_field front → length front + length piece < octets → IsPartial (front ++ piece)
-still_partial front piece octets six ten is lt =
-    let same = length_field-append front piece six in
-    inr (omega (arith, same), omega (arith, same, length-append front piece))
-
-pub sound-append : (limit octets : ℕ) (xs ys : List ℕ) → IsSound limit xs octets → IsSound limit (xs ++ ys) octets
-sound-append limit octets xs ys s = record {
-  long = omega (arith, s.long, length-append xs ys);
-  least = s.least;
-  most = s.most;
-  octets_are = s.octets_are ∙ sym (length_field-append xs ys (omega (arith, s.long)));
-  passes = header_fault-append limit xs ys s.long ∙ s.passes;
-}
-
--- a faulty header has its fault in its first ten bytes
-pub faulty_front : (limit : ℕ) (header : FaultyHeader) (xs ys : List ℕ) → 10 ≤ length xs → IsFaulty limit (xs ++ ys) header → IsFaulty limit xs header
-faulty_front limit header xs ys ten f = record {
-  long = ten;
-  least = f.least;
-  octets_are = f.octets_are ∙ length_field-append xs ys (omega arith);
-  id_is = f.id_is ∙ id_field-append xs ys ten;
-  fault_is = sym (header_fault-append limit xs ys ten) ∙ f.fault_is;
-}
 
 -- a frame with a fault in its header is skipped
 pub faulty_is_skipped : (limit : ℕ) (header : FaultyHeader) (front : List ℕ) (count : ℕ) → count ≡ length front → IsFaulty limit front header → IsSkipped limit count header.octets header.id header.fault front

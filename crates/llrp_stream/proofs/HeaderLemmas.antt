@@ -1,21 +1,16 @@
 -- The numbers of a header, from its octets and from its digits.
-use Rattle.std.proofs.Common.{◌≡◌, ℕ, zero, suc, ◌+◌, ◌-◌, ◌*◌, ◌/◌, ◌%◌, ◌^◌, ◌<◌, ◌≤◌, Bool, true, false, List, [], ◌∷◌, ◌++◌, length, take, drop, bit_and, ◌⊎◌, inl, inr, None, refl, sym, ap, ◌∙◌, arith}
-use Rattle.std.specs.Prelude.{◌==◌, ◌||◌}
+use Rattle.std.proofs.Common.{◌≡◌, ℕ, zero, suc, ◌+◌, ◌-◌, ◌*◌, ◌^◌, ◌≤◌, Bool, List, [], ◌∷◌, ◌++◌, length, take, drop, refl, sym, ap, ◌∙◌, arith}
 use Rattle.std.proofs.Math.Nat.{pow-suc}
 use Rattle.std.proofs.Math.Seq.{take-append-add}
-use Rattle.std.proofs.lemmas.List.{take-append-drop, take-append-le, drop-append-le, length-take-le, length-drop, take_all}
-use Rattle.std.proofs.lemmas.Nat.{mod_below, pow_pos, pow-add, and_mask}
-use Rattle.std.proofs.lemmas.Bool.{eqb-true, leb-true}
+use Rattle.std.proofs.lemmas.List.{take-append-le, drop-append-le, length-take-le, length-drop, take_all}
+use Rattle.std.proofs.lemmas.Nat.{pow-add}
 use Rattle.byteorder.specs.Endian.{big_from, big_number}
 use Rattle.byteorder.specs.Numbers.{big_from-cons}
 use Rattle.tag_bits.specs.Digits.{value, digits, digits_of_bytes, field}
 use Rattle.tag_bits.proofs.ByteLemmas.{length-bytes, bytes-cons, bytes-append, drop-bytes}
-use Rattle.tag_bits.proofs.DigitLemmas.{length-digits, value-digits, value-append, digits_from}
-use Rattle.tag_bits.proofs.WordLemmas.{field-digits}
+use Rattle.tag_bits.proofs.DigitLemmas.{length-digits, value-digits, value-append}
 use Rattle.llrp_tree.specs.Lawful.{AreOctets}
-use Rattle.llrp_tree.specs.FirstFault.{number, header_checks}
-use Rattle.llrp_tree.proofs.Telling.{all_hold}
-use Rattle.llrp_stream.specs.Items.{header_fault}
+use Rattle.llrp_tree.specs.FirstFault.{number}
 
 pow_octets : (n : ℕ) → 2 ^ (8 * n) ≡ 256 ^ n
 pow_octets zero = refl
@@ -62,46 +57,3 @@ field-append xs ys p w le = ap (λ (x : List Bool). take w x) (drop-append-le p 
 pub number-append : (xs ys : List ℕ) (p w : ℕ) → p + w ≤ 8 * length xs → number (digits_of_bytes (xs ++ ys)) p w ≡ number (digits_of_bytes xs) p w
 number-append xs ys p w le =
     ap (λ (ds : List Bool). number ds p w) (bytes-append xs ys) ∙ ap value (field-append (digits_of_bytes xs) (digits_of_bytes ys) p w (omega (arith, length-bytes xs)))
-
--- a field of the first two octets
-pub two_octets : (bytes : List ℕ) (head p w r : ℕ) → AreOctets bytes → 2 ≤ length bytes → head ≡ big_number 2 bytes → head < 2 ^ 16 → p + w + r ≡ 16 → number (digits_of_bytes bytes) p w ≡ head / 2 ^ r % 2 ^ w
-two_octets bytes head p w r os le is below all =
-    let ds = digits_of_bytes bytes in
-    let first : take 16 ds ≡ digits 16 head = sym (digits_from 16 head (take 16 ds) (length-take-le 16 ds (omega (arith, length-bytes bytes))) (sym (is ∙ big_value 2 bytes os le))) in
-    let fits : head < 2 ^ (p + w + r) = rw all below in
-    ap (λ (x : List Bool). number x p w) (sym (take-append-drop 16 ds))
-    ∙ ap value (field-append (take 16 ds) (drop 16 ds) p w (omega (arith, length-take-le 16 ds (omega (arith, length-bytes bytes)))))
-    ∙ ap (λ (x : List Bool). number x p w) (first ∙ ap (λ (k : ℕ). digits k head) (sym all))
-    ∙ ap value (field-digits p w r head fits)
-    ∙ value-digits w (head / 2 ^ r % 2 ^ w) (mod_below (head / 2 ^ r) (2 ^ w) (pow_pos w))
-
--- The first numbers of a header, from its first two octets as one number.
-pub record HeadIs (bytes : List ℕ) (head : ℕ) : Type 0 where
-  pub reserved : number (digits_of_bytes bytes) 0 3 ≡ head / 8192
-  pub version : number (digits_of_bytes bytes) 3 3 ≡ bit_and (head / 1024) 7
-  pub kind : number (digits_of_bytes bytes) 6 10 ≡ bit_and head 1023
-
-pub head_is : (bytes : List ℕ) (head : ℕ) → AreOctets bytes → 2 ≤ length bytes → head ≡ big_number 2 bytes → head < 2 ^ 16 → HeadIs bytes head
-head_is bytes head os le is below =
-    let a = two_octets bytes head 0 3 13 os le is below refl in
-    let b = two_octets bytes head 3 3 10 os le is below refl in
-    let d = two_octets bytes head 6 10 0 os le is below refl in
-    let mask = and_mask (head / 1024) 3 in
-    let mask10 = and_mask head 10 in
-    record { reserved = omega (arith, a); version = omega (arith, b, mask); kind = omega (arith, d, mask10) }
-
--- tests of numbers
-pub not_equal : (a b : ℕ) → (a ≡ b → ⊥) → (a == b) ≡ false
-not_equal a b ne = (elim (a == b) as (λ t. (a == b) ≡ t → t ≡ false) [ true ↦ λ e. absurd (ne (eqb-true a b e)) | false ↦ λ e. refl ]) refl
-
-pub known_version : (v : ℕ) → (((v ≡ 1 → ⊥) × (v ≡ 2)) ⊎ (v ≡ 1)) → ((v == 1) || (v == 2)) ≡ true
-known_version v (inl e) = rw e.1 refl
-known_version v (inr e) = rw e refl
-
-pub unknown_version : (v : ℕ) → (v ≡ 1 → ⊥) → (v ≡ 2 → ⊥) → ((v == 1) || (v == 2)) ≡ false
-unknown_version v a b = rw (not_equal v 1 a, not_equal v 2 b) refl
-
--- a header that passes its checks is of a frame within the limit
-pub within_limit : (limit : ℕ) (bytes : List ℕ) → header_fault limit bytes ≡ None → number (digits_of_bytes bytes) 16 32 ≤ limit
-unfolding header_fault
-within_limit limit bytes e = leb-true (number (digits_of_bytes bytes) 16 32) limit (all_hold (header_checks limit (digits_of_bytes bytes)) e).1.1.1.0

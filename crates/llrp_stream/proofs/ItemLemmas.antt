@@ -74,7 +74,7 @@ is_frame n bytes ten le is =
     let same : length_field (take n bytes) ≡ length_field bytes = sym (length_field-append (take n bytes) (drop n bytes) (omega arith)) ∙ ap length_field (take-append-drop n bytes) in
     record { header = omega arith; whole = same ∙ sym is ∙ sym long }
 
--- what stands at the front of a stream: a frame of so many octets, or its end
+-- what is at the front of a stream: a frame of this many octets, or its end
 front : (stream : List ℕ) → ((n : ℕ) × (10 ≤ n) × (n ≤ length stream) × (n ≡ length_field stream)) ⊎ ((end : End) × Ends stream end)
 front [] = inr (Clean, refl)
 front (b ∷ bytes) =

@@ -6,7 +6,7 @@ use Rattle.llrp_tree.specs.FirstFault.{number}
 use Rattle.llrp_stream.specs.declared.item.End.{End}
 use Rattle.llrp_stream.specs.declared.item.End.TheVariants.{Clean, Rest, Broken, Dead}
 
--- the length in octets that stands at bit 16 of a frame
+-- the length in octets that is at bit 16 of a frame
 unfoldable pub length_field : List ℕ → ℕ
 length_field bytes = number (digits_of_bytes bytes) 16 32
 

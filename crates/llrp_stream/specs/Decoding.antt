@@ -1,16 +1,21 @@
 -- What a decoder stands for, whatever it keeps.
-use Rattle.std.specs.Prelude.{◌≡◌, ℕ, Bool, true, false, List, [], ◌++◌, length}
+use Rattle.std.specs.Prelude.{◌≡◌, ℕ, ◌+◌, Bool, true, false, List, [], ◌++◌, length}
 use Rattle.llrp_tree.specs.declared.fault.Fault.{Fault}
-use Rattle.llrp_tree.specs.FirstFault.{FirstFault}
-use Rattle.llrp_stream.specs.Cuts.{length_field, IsFrame, IsPartial}
-use Rattle.llrp_stream.specs.Items.{id_field}
+use Rattle.llrp_tree.specs.Deciding.{FailsIn}
+use Rattle.llrp_stream.specs.declared.reading.body.Body.{Body}
+use Rattle.llrp_stream.specs.Building.{Building, HasOpen, nodes_weight}
+use Rattle.llrp_stream.specs.Cuts.{IsFrame, IsPartial}
+use Rattle.llrp_stream.specs.Items.{IsSkipped}
+use Rattle.llrp_stream.specs.Frames.{IsReading}
 
 -- what a decoder keeps
 pub data Kept : Type 0 where
   -- nothing, where no frame is begun
   between : Kept
-  -- the raw bytes of a frame
-  raw : (bytes : List ℕ) → Kept
+  -- the raw bytes of a header that is not whole
+  header : (bytes : List ℕ) → Kept
+  -- the id of a frame, how far it is read with the raw bytes of an unfinished part, and its open nodes
+  reading : (id : ℕ) (body : Body) (open_nodes : Building) → Kept
   -- of a frame that it skips, how many bytes were taken, its length field, its id and its fault
   skipping : (count octets id : ℕ) (fault : Fault) → Kept
   -- nothing, after a break and after a refused growth
@@ -22,17 +27,11 @@ pub record DecoderState : Type 0 where
   pub limit : ℕ
   pub kept : Kept
 
--- The front has the kept count, length field and id, and every frame that begins with it has the kept fault.
-pub record IsSkipped (limit count octets id : ℕ) (fault : Fault) (front : List ℕ) : Type 0 where
-  pub count_is : count ≡ length front
-  pub octets_are : octets ≡ length_field front
-  pub id_is : id ≡ id_field front
-  pub faulty : (more : List ℕ) → IsFrame (front ++ more) → FirstFault (front ++ more) limit fault.bit fault.reason
-
--- what is kept is of this front
+-- what is kept is of this front: of one whose header passes its checks, an open tree, perhaps a begun tail, and raw bytes, which together are the front
 abbrev pub Keeps : ℕ → Kept → List ℕ → Type 0
 Keeps limit between front = front ≡ []
-Keeps limit (raw bytes) front = front ≡ bytes
+Keeps limit (header bytes) front = front ≡ bytes
+Keeps limit (reading id body open_nodes) front = IsReading (HasOpen open_nodes) (HasOpen open_nodes) limit id body front
 Keeps limit (skipping count octets id fault) front = IsSkipped limit count octets id fault front
 Keeps limit broken front = ⊥
 Keeps limit dead front = ⊥
@@ -45,18 +44,33 @@ pub record Stands (decoder : DecoderState) (front : List ℕ) : Type 0 where
 -- how many raw bytes
 abbrev pub raw_octets : Kept → ℕ
 raw_octets between = 0
-raw_octets (raw bytes) = length bytes
+raw_octets (header bytes) = length bytes
+raw_octets (reading id body open_nodes) = length body.raw.items
 raw_octets (skipping count octets id fault) = 0
 raw_octets broken = 0
 raw_octets dead = 0
 
--- what a decoder weighs: its raw bytes
+-- two for each node that is kept, the message and open parents among them, and the octets of their tails, those of a begun one among them
+abbrev pub kept_weight : Kept → ℕ
+kept_weight between = 0
+kept_weight (header bytes) = 0
+kept_weight (reading id body open_nodes) = nodes_weight open_nodes.nodes
+kept_weight (skipping count octets id fault) = 0
+kept_weight broken = 0
+kept_weight dead = 0
+
+-- what a decoder weighs: its raw bytes and its nodes
 abbrev pub weight : DecoderState → ℕ
-weight decoder = raw_octets decoder.kept
+weight decoder = raw_octets decoder.kept + kept_weight decoder.kept
+
+-- the front decides a fault of a frame that begins with it
+abbrev pub IsDecided : ℕ → List ℕ → Type 0
+IsDecided limit front = (more : List ℕ) × IsFrame (front ++ more) × FailsIn limit (front ++ more) (length front)
 
 abbrev pub is_skipping : Kept → Bool
 is_skipping between = false
-is_skipping (raw bytes) = false
+is_skipping (header bytes) = false
+is_skipping (reading id body open_nodes) = false
 is_skipping (skipping count octets id fault) = true
 is_skipping broken = false
 is_skipping dead = false

@@ -29,7 +29,7 @@ pub record Feed (old : DecoderState) (piece : List ℕ) (new : DecoderState) (an
   pub broken : IsBroken old → (answer ≡ Err Broken) × IsBroken new
   pub dead : IsDead old → (answer ≡ Err Dead) × IsDead new
 
--- an answer that gives no item, and leaves a decoder that tells the stream's end
+-- an answer that gives no item, and leaves a decoder that gives the stream's end
 abbrev pub GivesNone : Result Fed FeedErr → Type 0
 GivesNone (Ok fed) = fed.item ≡ None
 GivesNone (Err Broken) = Unit {0}
@@ -48,7 +48,7 @@ TakesPieces old [] items new = (items ≡ []) × (new ≡ old)
 TakesPieces old (piece ∷ pieces) items new =
     (first later : List Item) × ((mid : DecoderState) × ((items ≡ first ++ later) × (TakesPiece old piece first mid × TakesPieces mid pieces later new)))
 
--- What the decoder tells where the stream ends, in the words of its contract.
+-- What the decoder returns where the stream ends, in the words of its contract.
 pub record Finishes (decoder : DecoderState) (end : End) : Type 0 where
   pub stands : (front : List ℕ) → Stands decoder front → Ends front end
   pub broken : IsBroken decoder → end ≡ at_end.Broken

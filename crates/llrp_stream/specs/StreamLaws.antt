@@ -30,7 +30,7 @@ pub record HasOneListing (limit : ℕ) (stream : List ℕ) : Type 0 where
 abbrev pub PiecesAreTheStream : Type 0
 PiecesAreTheStream = (old new : DecoderState) (pieces : List (List ℕ)) (items : List Item) (end : End) → Stands old [] → TakesPieces old pieces items new → Finishes new end → Items old.limit (joined pieces) items end
 
--- where a front of frames ends behind its last whole one: there, or within the frame of the next item
+-- where a front of frames ends after its last whole one: there, or within the frame of the next item
 abbrev pub EndsWithin : ℕ → List Item → List ℕ → End → Type 0
 EndsWithin limit next tail Clean = tail ≡ []
 EndsWithin limit (item ∷ next) tail (Rest n) = (more : List ℕ) × (0 < length more) × IsFrame (tail ++ more) × IsItemOf limit (tail ++ more) item

@@ -1,33 +1,58 @@
 //! The decoder.
 
-ghost use Rattle.std.specs.Prelude.{◌≡◌, ◌<◌, ◌≤◌, List, ℕ, [], IfOk, Err, length, IsSome};
+ghost use Rattle.std.specs.Prelude.{◌≡◌, ◌<◌, ◌≤◌, List, ℕ, [], IfOk, Err, None, Some, length, IsSome};
 ghost use Rattle.llrp_tree.specs.declared.TheConstants.{MAX_LIMIT};
+ghost use Rattle.llrp_tree.specs.declared.fault.Fault.{Fault};
+ghost use Rattle.llrp_tree.specs.Tree.{MessageTree};
+ghost use Rattle.llrp_stream.specs.declared.item.Item.TheVariants as item;
+ghost use Rattle.llrp_stream.specs.declared.reading.frames.Outcome.TheVariants.{Whole, Bad};
 
-use crate::item::{End, Fed, FeedErr};
+use crate::item::{End, Fed, FeedErr, Item};
+use crate::reading::{Builder, Frames, Outcome};
 use crate::state::State;
-use crate::steps::advance;
 use std::alloc::Global;
 use std::marker::Model;
 
 /// Takes a stream of LLRP frames piece by piece, and gives the item of each frame with its last
-/// byte (LLRP 1.1, section 17). It keeps the bytes of one frame at most.
+/// byte (LLRP 1.1, section 17). It keeps no frame: of an unfinished one it holds the nodes that are read
+/// and at most 16 raw bytes, and of a faulty one nothing but its id, its fault and how much is left.
 #[derive(Drop)]
 pub struct Decoder {
-    alloc: Global,
-    limit: u32,
-    raw: Vec<u8>,
-    state: State,
+    frames: Frames,
+    builder: Builder,
 }
 
 impl Model for Decoder {
+    ghost use Rattle.std.specs.Coded.{codes};
+    ghost use Rattle.llrp_tree.specs.Stored.{forest_code};
     ghost use Rattle.llrp_stream.specs.Decoding.{DecoderState};
     ghost use Rattle.llrp_stream.specs.Keeping.{decoder, IsKept};
 
     ghost Value = { DecoderState };
 
-    ghost view = { λ d. decoder d.limit d.state d.raw.items };
+    ghost coded = { Prim.hlevel (codes, forest_code) };
 
-    ghost invariant = { λ d. IsKept d.limit d.state d.raw.items };
+    ghost view = { λ d. decoder d.frames d.builder };
+
+    ghost invariant = { λ d. IsKept d.frames d.builder };
+}
+
+/// The item of a frame, whose message the builder has if it has no fault.
+fn item_of(outcome: Option<Outcome>, builder: &mut Builder) -> Option<Item>
+    ensures same { outcome ≡ None → builder.new ≡ builder.old }
+    ensures nodes { builder.new.nodes ≡ builder.old.nodes }
+    ensures done { builder.new.version ≡ builder.old.version }
+    ensures id { builder.new.id ≡ builder.old.id }
+    ensures none { outcome ≡ None → result ≡ None }
+    ensures bad { (id : ℕ) (fault : Fault) → outcome ≡ Some (Bad id fault)
+        → result ≡ Some (item.Bad id fault) }
+    ensures whole { (m : MessageTree) → outcome ≡ Some Whole → builder.old.done ≡ Some m
+        → result ≡ Some (item.Msg m) }
+{
+    match outcome? {
+        Outcome::Whole => Some(Item::Msg(builder.take()?)),
+        Outcome::Bad { id, fault } => Some(Item::Bad { id, fault }),
+    }
 }
 
 impl Decoder {
@@ -35,7 +60,7 @@ impl Decoder {
     ghost use Rattle.llrp_stream.specs.declared.item.End.TheVariants as at_end;
     ghost use Rattle.llrp_stream.specs.declared.item.FeedErr.TheVariants.{Broken, Dead};
     ghost use Rattle.llrp_stream.specs.Cuts.{Ends};
-    ghost use Rattle.llrp_stream.specs.Decoding.{IsBroken, IsDead, Stands, weight};
+    ghost use Rattle.llrp_stream.specs.Decoding.{IsBroken, IsDead, IsDecided, Stands, raw_octets, weight};
     ghost use Rattle.llrp_stream.specs.Feeding.{Feeds};
     ghost use Rattle.llrp_stream.specs.Items.{HasHeaderFault};
 
@@ -47,10 +72,8 @@ impl Decoder {
         ensures limit { result.limit ≡ limit }
     {
         Decoder {
-            alloc,
-            limit,
-            raw: Vec::new(alloc),
-            state: State::Between,
+            frames: Frames::new(limit),
+            builder: Builder::new(alloc),
         }
     }
 
@@ -60,7 +83,8 @@ impl Decoder {
     /// later call.
     pub fn feed(&mut self, piece: &[u8]) -> Result<Fed, FeedErr>
         // Whatever bytes of an unfinished frame it stands for, it goes on from them.
-        ensures stands { (front : List ℕ) → Stands self.old front → Feeds self.old front piece.now self.new result }
+        ensures stands { (front : List ℕ) → Stands self.old front
+            → Feeds self.old front piece.now self.new result }
         ensures broken { IsBroken self.old → (result ≡ Err Broken) × IsBroken self.new }
         ensures dead { IsDead self.old → (result ≡ Err Dead) × IsDead self.new }
 
@@ -68,20 +92,13 @@ impl Decoder {
         ensures within { IfOk result (λ fed. fed.used ≤ length piece.now) }
         ensures progress { IfOk result (λ fed. IsSome fed.item → 0 < fed.used) }
     {
-        match advance(self.alloc, &mut self.raw, self.state, self.limit, piece) {
-            Ok(step) => {
-                self.state = step.state;
-                Ok(Fed {
-                    used: step.used,
-                    item: step.item,
-                })
-            }
+        match self.frames.feed(&mut self.builder, piece) {
+            Ok(came) => Ok(Fed {
+                used: came.used,
+                item: item_of(came.outcome, &mut self.builder),
+            }),
             Err(error) => {
-                self.raw.clear();
-                self.state = match error {
-                    FeedErr::Broken => State::Broken,
-                    FeedErr::Memory | FeedErr::Dead => State::Dead,
-                };
+                self.builder.clear();
                 Err(error)
             }
         }
@@ -94,23 +111,26 @@ impl Decoder {
         ensures broken { IsBroken self.now → result ≡ at_end.Broken }
         ensures dead { IsDead self.now → result ≡ at_end.Dead }
     {
-        match self.state {
-            State::Between => End::Clean,
-            State::Header | State::Body { .. } => End::Rest(self.raw.len() as u64),
-            State::Skipping { count, .. } => End::Rest(count as u64),
-            State::Broken => End::Broken,
-            State::Dead => End::Dead,
-        }
+        self.frames.finish()
     }
 
-    /// How many raw bytes it keeps: at most those that were fed since the last frame's end, and none
-    /// from the tenth byte of a frame whose header has a fault.
+    /// How much it keeps: its raw bytes, two for each node (the message and open parents among them),
+    /// and the bytes of their tails. That is at most what was fed since the last frame's end, and
+    /// nothing from the byte on that decides a fault of the frame.
     pub fn held(&self) -> u32
         ensures weight { result ≡ weight self.now }
         ensures within { result ≤ self.now.limit }
         ensures front { (front : List ℕ) → Stands self.now front → result ≤ length front }
-        ensures skipped { (front : List ℕ) → Stands self.now front → HasHeaderFault self.now.limit front → result ≡ 0 }
+        ensures raw { raw_octets self.now.kept ≤ 16 }
+        ensures skipped { (front : List ℕ) → Stands self.now front
+            → HasHeaderFault self.now.limit front → result ≡ 0 }
+        ensures decided { (front : List ℕ) → Stands self.now front → IsDecided self.now.limit front
+            → result ≡ 0 }
     {
-        self.raw.len() as u32
+        match self.frames.state {
+            State::Header => self.frames.raw_octets(),
+            State::Reading { .. } => self.frames.raw_octets() + self.builder.weight(),
+            State::Between | State::Skipping { .. } | State::Broken | State::Dead => 0,
+        }
     }
 }

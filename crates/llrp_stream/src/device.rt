@@ -7,7 +7,7 @@ use std::io;
 use std::io::{Read, Write};
 
 /// What gives bytes. Its log counts the reads that gave bytes, those that met the end, and those
-/// that failed, and has the bytes that are left where the source tells them.
+/// that failed, and has the bytes that are left where the source knows them.
 pub trait Source {
     ghost log: { Self → SourceLog };
 
@@ -19,7 +19,7 @@ pub trait Source {
 }
 
 /// What takes bytes. Its log counts the writes that failed, and has the bytes that it took where
-/// the sink tells them.
+/// the sink knows them.
 pub trait Sink {
     ghost log: { Self → SinkLog };
 
@@ -30,7 +30,7 @@ pub trait Sink {
         ensures { WriteStep (log self.old) (log self.new) result buf.now };
 }
 
-/// Any reader as a source, which tells the bytes that the reader tells.
+/// Any reader as a source, which knows the bytes that the reader knows.
 #[derive(Drop)]
 pub struct Input<R: Read + Drop> {
     stream: R,
@@ -74,7 +74,7 @@ impl<R: Read + Drop> Source for Input<R> {
     }
 }
 
-/// Any writer as a sink, which tells the bytes that the writer tells.
+/// Any writer as a sink, which knows the bytes that the writer knows.
 #[derive(Drop)]
 pub struct Output<W: Write + Drop> {
     stream: W,

@@ -20,11 +20,11 @@ pub enum Item {
 pub enum End {
     /// Where a frame ends.
     Clean,
-    /// With so many bytes of a frame that isn't whole.
+    /// With this many bytes of a frame that isn't whole.
     Rest(u64),
     /// At a length field below 10, which no frame has.
     Broken,
-    /// Nobody can tell: a growth was refused.
+    /// Unknown: memory ran out.
     Dead,
 }
 

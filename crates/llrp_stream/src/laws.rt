@@ -9,7 +9,8 @@ ghost use Rattle.llrp_stream.specs.StreamLaws.{HasOneItem, HasOneListing, IsCutI
 /// Each frame has one message or exactly one first fault, and never both.
 #[tactic(auto, using(crate::proofs::ItemLemmas::has_one_item))]
 pub fn one_item()
-    ensures { (limit : ℕ) (frame : List ℕ) → limit ≤ MAX_LIMIT → AreOctets frame → IsFrame frame → HasOneItem limit frame }
+    ensures { (limit : ℕ) (frame : List ℕ) → limit ≤ MAX_LIMIT → AreOctets frame → IsFrame frame
+        → HasOneItem limit frame }
 {}
 
 /// Each stream is cut in one way.
@@ -20,7 +21,8 @@ pub fn one_cut()
 /// Each stream of octets has one list of items, and one end.
 #[tactic(auto, using(crate::proofs::ItemLemmas::has_one_listing))]
 pub fn one_listing()
-    ensures { (limit : ℕ) (stream : List ℕ) → limit ≤ MAX_LIMIT → AreOctets stream → HasOneListing limit stream }
+    ensures { (limit : ℕ) (stream : List ℕ) → limit ≤ MAX_LIMIT → AreOctets stream
+        → HasOneListing limit stream }
 {}
 
 /// Whatever the pieces of a stream are, the items that a new decoder gives are those of the stream.

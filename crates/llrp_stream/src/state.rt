@@ -1,4 +1,4 @@
-//! How far a decoder has read a frame.
+//! How far a frame is read.
 
 use crate::header::FaultyHeader;
 
@@ -9,9 +9,9 @@ pub(crate) enum State {
     Between,
     /// Some octets of its header, which are kept.
     Header,
-    /// All of its header, which passes its checks; what came is kept.
-    Body { octets: u32 },
-    /// All of its header, which fails a check, and `count` octets in all, which are not kept.
+    /// All of its header, which passes its checks, and octets after it; none of them decides a fault.
+    Reading { id: u32 },
+    /// `count` octets in all, which have a fault and are not kept.
     Skipping { count: u32, header: FaultyHeader },
     /// A length field was below 10.
     Broken,

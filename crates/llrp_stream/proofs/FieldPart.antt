@@ -1,0 +1,63 @@
+-- A field, as a step of the open tree that is read.
+use Rattle.std.proofs.Common.{◌≡◌, ℕ, ◌+◌, ◌-◌, ◌*◌, ◌<◌, ◌≤◌, Bool, true, List, [], ◌∷◌, ◌++◌, length, drop, refl, sym, ap, subst, ◌∙◌, arith, length-drop}
+use Rattle.std.proofs.lemmas.Bool.{lt-leb}
+use Rattle.tag_bits.specs.Digits.{digits_of_bytes}
+use Rattle.llrp_schema.specs.declared.kinds.Kind.{Kind}
+use Rattle.llrp_schema.specs.Schema.{FieldRule, fields_of}
+use Rattle.llrp_tree.specs.declared.fault.FrameErr.{FrameErr}
+use Rattle.llrp_tree.specs.declared.fault.FrameErr.TheVariants.{Bad}
+use Rattle.llrp_tree.specs.declared.fault.Reason.TheVariants.{Short}
+use Rattle.llrp_tree.specs.OpenTree.{Begun, kind_of, in_range}
+use Rattle.llrp_tree.specs.FirstFault.{number, field_checks}
+use Rattle.llrp_tree.specs.Standing.{Stands, leading, FailsFirst}
+use Rattle.llrp_tree.proofs.ReadingLemmas.{field_tells, field_grows}
+use Rattle.llrp_stream.specs.declared.reading.reader.Reader.{Reader}
+use Rattle.llrp_stream.specs.declared.reading.reader.Stage.{Stage}
+use Rattle.llrp_stream.specs.declared.reading.reader.Stage.TheVariants.{Leading}
+use Rattle.llrp_stream.specs.Front.{Reaches, TellsAll}
+use Rattle.llrp_stream.specs.Told.{IsNextField}
+use Rattle.llrp_stream.specs.Reading.{Reads, bit_of, IsAtStage, IsLeading}
+use Rattle.llrp_stream.proofs.Reached.{stands_in, reaches_in, seen}
+use Rattle.llrp_stream.specs.Front.{IsUndecided}
+use Rattle.llrp_stream.proofs.WaitLemmas.{field_waits}
+
+pub short_fails : (r : FieldRule) (at stop : ℕ) (rest : List Bool) (e : FrameErr) → stop < at + r.width → e ≡ Bad (record { bit = at; reason = Short }) → FailsFirst (field_checks r at stop rest) e
+short_fails r at stop rest e lt told = subst (FailsFirst (field_checks r at stop rest)) (sym told) (rw (lt-leb (at + r.width) stop lt) refl)
+
+module _ (r : Reader) (front : List ℕ) (b : Begun) (outer : List Begun) (octets : List ℕ) (next : ℕ) (rule : FieldRule) (others : List FieldRule)
+    (rd : Reads r front b outer) (s : r.stage ≡ Leading next) (d : drop r.at front ≡ octets) (nx : drop next (fields_of r.top.kind) ≡ rule ∷ others) where
+  abbrev pub staged : IsLeading next r front b outer
+  staged = subst (λ (x : Stage). IsAtStage x r front b outer) s rd.stage
+
+  pub next_is : drop (length b.fields) (fields_of r.top.kind) ≡ rule ∷ others
+  next_is = ap (λ (n : ℕ). drop n (fields_of r.top.kind)) staged.count ∙ nx
+
+  pub is_next_field : IsNextField (b ∷ outer) rule
+  is_next_field = record { node = b; outer = outer; others = others; tree_is = refl; next = ap (λ (k : Kind). drop (length b.fields) (fields_of k)) rd.level.kind ∙ next_is; untailed = ap (λ (x : Begun). x.tail) staged.bare }
+
+  stands_leading : (more : List ℕ) → length (front ++ more) ≡ r.octets → Stands (digits_of_bytes (front ++ more)) (leading b.head b.stop b.fields ∷ outer) (bit_of r)
+  stands_leading more e = subst (λ (x : Begun). Stands (digits_of_bytes (front ++ more)) (x ∷ outer) (bit_of r)) staged.bare (stands_in front more r.octets (b ∷ outer) (bit_of r) staged.reaches e)
+
+  pub field_all_tell : (e : FrameErr) → ((later : List Bool) → FailsFirst (field_checks rule (bit_of r) (8 * r.top.stop) (drop r.bit (digits_of_bytes octets ++ later))) e) → TellsAll front r.octets e
+  field_all_tell e f = λ more long.
+      let ds : List Bool = digits_of_bytes (front ++ more) in
+      let there = seen front more octets r.at r.bit rd.before d in
+      let g : FailsFirst (field_checks rule (bit_of r) b.stop (drop (bit_of r) ds)) e = subst (λ (x : List Bool). FailsFirst (field_checks rule (bit_of r) b.stop x) e) (sym there) (subst (λ (n : ℕ). FailsFirst (field_checks rule (bit_of r) n (drop r.bit (digits_of_bytes octets ++ digits_of_bytes more))) e) (sym rd.level.stop) (f (digits_of_bytes more))) in
+      field_tells ds r.top.kind b.head b.stop b.fields outer (bit_of r) rule others e rd.level.kind next_is (stands_leading more long) g
+
+  pub field_undecided : bit_of r + rule.width ≤ 8 * r.top.stop → 8 * length octets < r.bit + rule.width → IsUndecided front r.octets (b ∷ outer)
+  field_undecided room lt =
+      let lo : length octets ≡ length front - r.at = sym (ap (λ (x : List ℕ). length x) d) ∙ length-drop r.at front in
+      let P : Begun → Type 0 = λ x. IsUndecided front r.octets (x ∷ outer) in
+      let reach : Reaches front r.octets (leading b.head b.stop b.fields ∷ outer) (bit_of r) = subst (λ (x : Begun). Reaches front r.octets (x ∷ outer) (bit_of r)) staged.bare staged.reaches in
+      let nx2 : drop (length b.fields) (fields_of (kind_of b.head)) ≡ rule ∷ others = ap (λ (k : Kind). drop (length b.fields) (fields_of k)) rd.level.kind ∙ next_is in
+      subst P (sym staged.bare) (field_waits front r.octets b.head b.stop b.fields outer (bit_of r) rule others reach nx2 (omega (arith, rd.level.stop)) (omega (arith, lo, rd.before)))
+
+  pub field_reaches : (v : ℕ) → bit_of r + rule.width ≤ 8 * r.top.stop → r.bit + rule.width ≤ 8 * length octets → ((later : List Bool) → v ≡ number (drop r.bit (digits_of_bytes octets ++ later)) 0 rule.width) → in_range rule v ≡ true
+      → Reaches front r.octets (leading b.head b.stop (b.fields ++ v ∷ []) ∷ outer) (bit_of r + rule.width)
+  field_reaches v room within is fit =
+      let lo : length octets ≡ length front - r.at = sym (ap (λ (x : List ℕ). length x) d) ∙ length-drop r.at front in
+      reaches_in front r.octets (leading b.head b.stop (b.fields ++ v ∷ []) ∷ outer) (bit_of r + rule.width) staged.reaches.fits (omega (arith, rd.before)) (λ more long.
+      let ds : List Bool = digits_of_bytes (front ++ more) in
+      let there = seen front more octets r.at r.bit rd.before d in
+      field_grows ds r.top.kind b.head b.stop b.fields (b.fields ++ v ∷ []) outer (bit_of r) rule others v rd.level.kind next_is (omega (arith, rd.level.stop)) (is (digits_of_bytes more) ∙ ap (λ (x : List Bool). number x 0 rule.width) (sym there)) fit refl (stands_leading more long))

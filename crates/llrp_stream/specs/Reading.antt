@@ -1,0 +1,204 @@
+-- What the engine keeps of a front of a frame.
+use Rattle.std.specs.Prelude.{Some, get_or, nat_le, ◌≡◌, ℕ, ◌+◌, ◌-◌, ◌*◌, ◌<◌, ◌≤◌, ◌⊎◌, Bool, true, false, List, [], ◌∷◌, ◌++◌, length, drop, reverse, Result, Ok, Err, Option, min}
+use Rattle.tag_bits.specs.Digits.{digits_of_bytes}
+use Rattle.llrp_schema.specs.Schema.{GroupRule, bits_of, fields_of, groups_of, is_tv}
+use Rattle.std.specs.Int.{bit_at}
+use Rattle.llrp_tree.specs.declared.TheConstants.{MAX_LIMIT}
+use Rattle.llrp_tree.specs.declared.fault.FrameErr.{FrameErr}
+use Rattle.llrp_tree.specs.Tree.{Forest, none, and}
+use Rattle.llrp_schema.specs.declared.kinds.Kind.{Kind}
+use Rattle.llrp_schema.specs.declared.kinds.Kind.TheVariants.{Message, Parameter}
+use Rattle.llrp_stream.specs.declared.reading.level.Placed.{Placed}
+use Rattle.llrp_schema.specs.declared.kinds.ParamKind.{ParamKind}
+use Rattle.llrp_tree.specs.declared.fault.FrameErr.TheVariants.{Bad}
+use Rattle.llrp_tree.specs.declared.fault.Reason.TheVariants.{Extra}
+use Rattle.llrp_tree.specs.FirstFault.{octets_at, tail_length, first_digit, tv_kind, kind_checks, tlv_checks, has_none, is_over}
+use Rattle.llrp_tree.specs.Standing.{FailsFirst, KindPasses, TlvPasses}
+use Rattle.llrp_stream.specs.declared.reading.level.Child.{Child}
+use Rattle.llrp_stream.specs.declared.reading.level.Child.TheVariants as child
+use Rattle.llrp_tree.specs.Lawful.{count, count_octets, first}
+use Rattle.llrp_tree.specs.OpenTree.{Begun, kind_of, groups, rules, form, has_tail, plain_values, due, Rest, is_enough}
+use Rattle.llrp_tree.specs.Standing.{begun, leading}
+use Rattle.llrp_stream.specs.declared.reading.level.Level.{Level}
+use Rattle.llrp_stream.specs.declared.reading.reader.Stage.{Stage}
+use Rattle.llrp_stream.specs.declared.reading.reader.Stage.TheVariants.{Leading, Tail, Children}
+use Rattle.llrp_stream.specs.declared.reading.reader.Step.{Step}
+use Rattle.llrp_stream.specs.declared.reading.reader.Step.TheVariants.{Waits, Goes, Ends}
+use Rattle.llrp_stream.specs.declared.reading.reader.Reader.{Reader}
+use Rattle.llrp_stream.specs.Front.{Reaches, FailsWith, IsUndecided}
+use Rattle.llrp_stream.specs.Told.{AreWhole}
+
+-- a row of parameters with the one that has begun after it; of that one only the kind is known
+abbrev pub with_begun : Forest → Kind → Forest
+with_begun before (Message kind) = before
+with_begun before (Parameter kind) = and before kind [] [] none
+
+-- bit k is set exactly if a child of the group with index k is there
+abbrev pub AreSeen : List GroupRule → Forest → ℕ → Type 0
+AreSeen groups children seen = (k : ℕ) (d : GroupRule) → k < length groups → bit_at seen k ≡ min 1 (count (get_or groups k d) children)
+
+-- A level is what the engine keeps of a begun node, in which these children have begun.
+pub record IsLevel (level : Level) (b : Begun) (children : Forest) : Type 0 where
+  pub kind : kind_of b.head ≡ level.kind
+  pub stop : b.stop ≡ 8 * level.stop
+  pub seen : AreSeen (groups b) children level.seen
+
+-- levels of the begun nodes around one of a kind, the innermost first: each has the node that is open in it among its children
+abbrev pub AreLevels : List Level → Kind → List Begun → Type 0
+AreLevels [] kind [] = Unit {0}
+AreLevels [] kind (b ∷ outer) = ⊥
+AreLevels (l ∷ ls) kind [] = ⊥
+AreLevels (l ∷ ls) kind (b ∷ outer) = IsLevel l b (with_begun b.children kind) × AreLevels ls (kind_of b.head) outer
+
+-- the bit up to which all is read
+abbrev pub bit_of : Reader → ℕ
+bit_of r = 8 * r.at + r.bit
+
+-- The innermost node awaits a field, its tail, or what is after both.
+pub record IsLeading (next : ℕ) (r : Reader) (front : List ℕ) (b : Begun) (outer : List Begun) : Type 0 where
+  pub bare : b ≡ leading b.head b.stop b.fields
+  pub count : length b.fields ≡ next
+  pub first_is : r.first ≡ first b.fields
+  pub reaches : Reaches front r.octets (b ∷ outer) (bit_of r)
+
+-- Of the tail of the innermost node some octets are read, and this many are left.
+pub record IsTailing (left : ℕ) (r : Reader) (front : List ℕ) (b : Begun) (outer : List Begun) : Type 0 where
+  pub so_far : List ℕ
+  pub from : ℕ
+  pub is : b ≡ begun b.head b.stop b.fields (Some so_far) none
+  pub all_fields : length b.fields ≡ length (rules b)
+  pub has : has_tail (form b) ≡ true
+  pub aligned : r.bit ≡ 0
+  pub place : r.at ≡ from + count_octets (form b) + length so_far
+  pub reaches : Reaches front r.octets (leading b.head b.stop b.fields ∷ outer) (8 * from)
+  pub length_is : (later : List Bool) → tail_length (form b) (plain_values (rules b) b.fields) (drop (8 * from) (digits_of_bytes front) ++ later) ≡ length so_far + left
+  pub inside : 8 * (r.at + left) ≤ b.stop
+  pub before : r.at ≤ length front
+  pub read : (later : List Bool) → octets_at (length so_far) (drop (8 * (from + count_octets (form b))) (digits_of_bytes front) ++ later) ≡ so_far
+  pub units : AreWhole (form b) so_far
+
+-- The innermost node awaits a child, or its end.
+pub record IsResting (r : Reader) (front : List ℕ) (b : Begun) (outer : List Begun) : Type 0 where
+  pub ready : due b ≡ Rest
+  pub aligned : r.bit ≡ 0
+  pub reaches : Reaches front r.octets (b ∷ outer) (8 * r.at)
+
+abbrev pub IsAtStage : Stage → Reader → List ℕ → Begun → List Begun → Type 0
+IsAtStage (Leading next) r front b outer = IsLeading next r front b outer
+IsAtStage (Tail left) r front b outer = IsTailing left r front b outer
+IsAtStage Children r front b outer = IsResting r front b outer
+
+-- the begun node of which all parts so far are whole
+abbrev pub settled : Stage → Begun → Begun
+settled (Leading next) b = b
+settled (Tail left) b = leading b.head b.stop b.fields
+settled Children b = b
+
+-- The engine has read a front of a frame up to a place: these nodes are begun.
+pub record Reads (r : Reader) (front : List ℕ) (b : Begun) (outer : List Begun) : Type 0 where
+  pub level : IsLevel r.top b b.children
+  pub levels : AreLevels (reverse r.outer.items) (kind_of b.head) outer
+  pub stage : IsAtStage r.stage r front b outer
+  pub before : r.at ≤ length front
+  pub small : r.octets ≤ MAX_LIMIT
+  pub bit_small : r.bit < 8
+
+-- what a listener received, by what comes next
+abbrev pub Told : (begins stands : List Begun → Type 0) → Stage → List Begun → Type 0
+Told begins stands (Leading next) t = begins t
+Told begins stands (Tail left) t = begins t
+Told begins stands Children t = stands t
+
+-- Both have come so far.
+pub record Are (begins stands : List Begun → Type 0) (r : Reader) (front : List ℕ) : Type 0 where
+  pub node : Begun
+  pub outer : List Begun
+  pub reads : Reads r front node outer
+  pub told : Told begins stands r.stage (node ∷ outer)
+
+-- The message has all its parts.
+pub record IsComplete (stands : List Begun → Type 0) (r : Reader) (front : List ℕ) : Type 0 where
+  pub node : Begun
+  pub ready : due node ≡ Rest
+  pub reaches : Reaches front r.octets (node ∷ []) (8 * r.at)
+  pub over : is_over node.head (nat_le node.stop (8 * r.at)) ≡ true
+  pub enough : is_enough (groups node) node.children ≡ true
+  pub told : stands (node ∷ [])
+
+-- what is left to do with this many octets: it falls with each step
+abbrev pub rank : Stage → ℕ
+rank (Leading next) = 3
+rank (Tail left) = 2
+rank Children = 1
+
+unfoldable pub work : Reader → ℕ → ℕ
+work r left = 40 * (8 * left - r.bit) + 4 * length r.outer.items + rank r.stage
+
+-- A step took some octets.
+pub record Moves (begins stands : List Begun → Type 0) (old new : Reader) (front octets : List ℕ) (used : ℕ) : Type 0 where
+  pub within : used ≤ length octets
+  pub are : Are begins stands new front
+  pub place : new.at ≡ old.at + used
+  pub same : new.octets ≡ old.octets
+  pub less : work new (length octets - used) < work old (length octets)
+
+-- The next part is not whole in the octets.
+pub record Waiting (begins stands : List Begun → Type 0) (old new : Reader) (front octets : List ℕ) : Type 0 where
+  pub few : length octets < 16
+  pub are : Are begins stands new front
+  pub place : new.at ≡ old.at
+  pub same : new.octets ≡ old.octets
+  pub short : old.at + length octets < old.octets
+  pub undecided : IsUndecided front new.octets (settled new.stage are.node ∷ are.outer)
+
+-- What a step does: it waits for more octets, takes some, or finds the message whole.
+abbrev pub Steps : (begins stands : List Begun → Type 0) → (old new : Reader) → (front octets : List ℕ) → Result Step FrameErr → Type 0
+Steps begins stands old new front octets (Ok Waits) = Waiting begins stands old new front octets
+Steps begins stands old new front octets (Ok (Goes used)) = Moves begins stands old new front octets used
+Steps begins stands old new front octets (Ok Ends) = IsComplete stands new front × (new.at ≡ old.at) × (new.octets ≡ old.octets)
+Steps begins stands old new front octets (Err e) = FailsWith begins stands front old.octets e
+
+-- A child's kind passes its checks, and these are its parent's bits once it has begun.
+pub record IsPlaced (found : Option ParamKind) (groups : List GroupRule) (children : Forest) (level : ℕ) (placed : Placed) : Type 0 where
+  pub passes : KindPasses found groups children level placed.kind
+  pub seen : AreSeen groups (with_begun children (Parameter placed.kind)) placed.seen
+
+-- a check of a head fails first
+abbrev pub HeadFails : (groups : List GroupRule) (children : Forest) (level at stop : ℕ) (rest : List Bool) → FrameErr → Type 0
+HeadFails groups children level at stop rest e =
+    ((has_none groups ≡ true) × (e ≡ Bad (record { bit = at; reason = Extra })))
+    ⊎ ((has_none groups ≡ false) × (first_digit rest ≡ true) × FailsFirst (kind_checks (tv_kind rest) groups children level at (at + 1)) e)
+    ⊎ ((has_none groups ≡ false) × (first_digit rest ≡ false) × FailsFirst (tlv_checks groups children level at stop rest) e)
+
+-- Some whole parameters of type and value were taken, of this many octets, or none.
+pub record Takes (begins stands : List Begun → Type 0) (old new : Reader) (front octets : List ℕ) (used : ℕ) : Type 0 where
+  pub within : used ≤ length octets
+  pub are : Are begins stands new front
+  pub place : new.at ≡ old.at + used
+  pub same : new.octets ≡ old.octets
+
+-- The same, where these octets are left.
+pub record TakenSoFar (begins stands : List Begun → Type 0) (old new : Reader) (front octets rest : List ℕ) : Type 0 where
+  pub takes : Takes begins stands old new front octets (length octets - length rest)
+  pub behind : drop new.at front ≡ rest
+
+-- A parameter of type and value comes next in the innermost node, which has these children and is one level higher; it may begin there, and is whole in the octets.
+pub record IsWholeValue (r : Reader) (octets : List ℕ) (children : Forest) (level : ℕ) (placed : Placed) : Type 0 where
+  pub short : is_tv placed.kind ≡ true
+  pub digit : (later : List Bool) → first_digit (digits_of_bytes octets ++ later) ≡ true
+  pub may_begin : (later : List Bool) → IsPlaced (tv_kind (digits_of_bytes octets ++ later)) (groups_of r.top.kind) children level placed
+  pub whole : 8 + bits_of (fields_of (Parameter placed.kind)) ≤ 8 * length octets
+  pub inside : 8 * r.at + 8 + bits_of (fields_of (Parameter placed.kind)) ≤ 8 * r.top.stop
+
+-- the same, by the bits of the innermost node's groups
+abbrev pub IsNextWhole : Reader → List ℕ → Placed → Type 0
+IsNextWhole r octets placed = (children : Forest) → AreSeen (groups_of r.top.kind) children r.top.seen → IsWholeValue r octets children (length r.outer.items + 1) placed
+
+-- ---- the head of a child
+
+-- what is read of a head
+abbrev pub HeadSays : (groups : List GroupRule) (children : Forest) (level at stop : ℕ) (rest : List Bool) (octets : List ℕ) → Result Child FrameErr → Type 0
+HeadSays groups children level at stop rest octets (Ok child.Unfinished) = (length octets < 4) × (at + 8 * length octets < stop) × (has_none groups ≡ false) × ((octets ≡ []) ⊎ ((first_digit rest ≡ false) × (at + 32 ≤ stop)))
+HeadSays groups children level at stop rest octets (Ok (child.Short placed)) = (1 ≤ length octets) × (has_none groups ≡ false) × (first_digit rest ≡ true) × KindPasses (tv_kind rest) groups children level placed.kind × AreSeen groups (with_begun children (Parameter placed.kind)) placed.seen
+HeadSays groups children level at stop rest octets (Ok (child.Long placed size)) = (4 ≤ length octets) × (has_none groups ≡ false) × (first_digit rest ≡ false) × TlvPasses groups children level at stop rest placed.kind size × AreSeen groups (with_begun children (Parameter placed.kind)) placed.seen
+HeadSays groups children level at stop rest octets (Err e) = HeadFails groups children level at stop rest e

@@ -1,0 +1,17 @@
+//! The reading of a frame, part by part, whatever pieces its octets come in.
+
+mod body;
+mod builder;
+mod frame;
+mod frames;
+mod level;
+mod listener;
+mod numbers;
+mod open;
+mod reader;
+mod tail;
+mod values;
+
+pub(crate) use builder::Builder;
+pub use frames::{Came, Frames, Outcome};
+pub use listener::Listener;

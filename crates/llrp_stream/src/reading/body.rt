@@ -1,0 +1,131 @@
+//! The body of a frame, which comes in pieces.
+
+ghost use Rattle.llrp_tree.specs.declared.TheConstants.{MAX_LIMIT};
+ghost use Rattle.std.specs.Prelude.{◌+◌, ◌≡◌, ◌<◌, ◌≤◌, ◌++◌, [], ◌∷◌, ℕ, List, length};
+ghost use Rattle.llrp_stream.specs.Pieces.{Stands, Feeds};
+
+use crate::reading::listener::Listener;
+use crate::reading::reader::Reader;
+use arrayvec::ArrayVec;
+use llrp_tree::FrameErr;
+
+/// How far the body of a frame is read, and the octets of the part that is not whole.
+#[derive(Drop)]
+pub(crate) struct Body {
+    pub reader: Reader,
+    pub raw: ArrayVec<u8, 16>,
+}
+
+/// The octets, in place.
+fn kept(octets: &[u8]) -> ArrayVec<u8, 16>
+    requires { length octets.now ≤ 16 }
+    ensures { result.items ≡ octets.now }
+{
+    let mut kept = ArrayVec::new();
+    for octet in octets {
+        kept.push(*octet);
+    }
+    kept
+}
+
+impl Body {
+    /// Nothing is begun.
+    pub(crate) fn new() -> Body
+        ensures { result.raw.items ≡ [] }
+    {
+        Body {
+            reader: Reader::new(),
+            raw: ArrayVec::new(),
+        }
+    }
+
+    /// How many octets of the frame it was fed.
+    pub(crate) fn taken(&self) -> u32
+        requires { self.now.reader.at ≤ MAX_LIMIT }
+        ensures { result ≡ self.now.reader.at + length self.now.raw.items }
+    {
+        self.reader.at + self.raw.len() as u32
+    }
+
+    /// Keeps octets of a header.
+    pub(crate) fn keep(&mut self, octets: &[u8])
+        requires { length self.old.raw.items + length octets.now ≤ 16 }
+        ensures raw { self.new.raw.items ≡ self.old.raw.items ++ octets.now }
+        ensures reader { self.new.reader ≡ self.old.reader }
+    {
+        let _ = self.raw.try_extend_from_slice(octets);
+    }
+
+    /// Takes one octet more, where a part is begun. Whether the message is whole.
+    fn feed_octet<L: Listener>(&mut self, listener: &mut L, octet: u8) -> Result<bool, FrameErr>
+        requires few { length self.old.raw.items < 16 }
+        requires some { (was : List ℕ) × (front : List ℕ)
+            × Stands (L.begins listener.old was) (L.stands listener.old was) self.old front
+            × (length (front ++ octet ∷ []) ≤ self.old.reader.octets) }
+        ensures { (was : List ℕ) (front : List ℕ)
+            → Stands (L.begins listener.old was) (L.stands listener.old was) self.old front
+            → length (front ++ octet ∷ []) ≤ self.old.reader.octets
+            → Feeds (L.begins listener.new was) (L.stands listener.new was) self.old self.new front
+            (octet ∷ []) result }
+    {
+        self.raw.push(octet);
+        let read = self.reader.read(listener, self.raw.as_slice())?;
+        if read.whole {
+            return Ok(true);
+        }
+        let left = kept(self.raw.as_slice().split_at(read.used).1);
+        self.raw = left;
+        Ok(false)
+    }
+
+    /// Takes the octets of a piece, where no part is begun. Whether the message is whole.
+    fn feed_piece<L: Listener>(&mut self, listener: &mut L, piece: &[u8]) -> Result<bool, FrameErr>
+        requires fresh { self.old.raw.items ≡ [] }
+        requires some { (was : List ℕ) × (front : List ℕ)
+            × Stands (L.begins listener.old was) (L.stands listener.old was) self.old front
+            × (length (front ++ piece.now) ≤ self.old.reader.octets) }
+        ensures { (was : List ℕ) (front : List ℕ)
+            → Stands (L.begins listener.old was) (L.stands listener.old was) self.old front
+            → length (front ++ piece.now) ≤ self.old.reader.octets
+            → Feeds (L.begins listener.new was) (L.stands listener.new was) self.old self.new front
+            piece.now result }
+    {
+        let read = self.reader.read(listener, piece)?;
+        if read.whole {
+            return Ok(true);
+        }
+        let left = kept(piece.split_at(read.used).1);
+        self.raw = left;
+        Ok(false)
+    }
+
+    /// Takes the octets of a piece that goes no further than the frame. Whether the message is whole.
+    pub(crate) fn feed<L: Listener>(
+        &mut self,
+        listener: &mut L,
+        piece: &[u8],
+    ) -> Result<bool, FrameErr>
+        requires { (was : List ℕ) × (front : List ℕ)
+            × Stands (L.begins listener.old was) (L.stands listener.old was) self.old front
+            × (length (front ++ piece.now) ≤ self.old.reader.octets) }
+        ensures { (was : List ℕ) (front : List ℕ)
+            → Stands (L.begins listener.old was) (L.stands listener.old was) self.old front
+            → length (front ++ piece.now) ≤ self.old.reader.octets
+            → Feeds (L.begins listener.new was) (L.stands listener.new was) self.old self.new front
+            piece.now result }
+    {
+        let mut rest = piece;
+        'raw: while !self.raw.is_empty() {
+            if rest.is_empty() {
+                return Ok(false);
+            }
+            let (first, others) = rest.split_at(1);
+            let whole = self.feed_octet(listener, first[0])?;
+            if whole {
+                return Ok(true);
+            }
+            rest = others;
+        }
+        self.feed_piece(listener, rest)
+    }
+}

@@ -1,0 +1,371 @@
+//! The frames of a stream, one after another, whichever listener receives their parts.
+
+ghost use Rattle.std.specs.Prelude.{◌≡◌, ◌+◌, ◌^◌, ◌<◌, ◌≤◌, ◌++◌, ◌⊎◌, ℕ, List, [], None, Some, Err, IfErr, IfOk, IsSome, OnOk, false, length};
+ghost use Rattle.llrp_tree.specs.declared.TheConstants.{MAX_LIMIT};
+ghost use Rattle.llrp_tree.specs.Tree.{MessageTree};
+ghost use Rattle.llrp_stream.specs.declared.item.FeedErr.TheVariants as failure;
+ghost use Rattle.llrp_stream.specs.declared.state.State.TheVariants as State;
+ghost use Rattle.llrp_stream.specs.declared.reading.frames.Outcome.TheVariants as Outcome;
+ghost use Rattle.llrp_tree.specs.Lawful.{AreOctets};
+ghost use Rattle.llrp_tree.specs.Frame.{Frame};
+ghost use Rattle.llrp_stream.specs.declared.item.End.TheVariants as at_end;
+ghost use Rattle.llrp_stream.specs.Cuts.{Ends};
+ghost use Rattle.llrp_stream.specs.Frames.{Begins, Comes, ComesAt, ComesTo, Goes, GoesOn, IsBegun, IsBroken, IsDead, IsFrontOf, IsIdle, SkipsTo, Stops, limit_of, raw_of};
+ghost use Rattle.llrp_stream.specs.Reading.{IsComplete};
+ghost use Rattle.llrp_stream.specs.Told.{Remains};
+ghost use Rattle.llrp_stream.specs.Headers.{IsSound};
+ghost use Rattle.llrp_stream.specs.Items.{IsSkipped};
+
+use crate::header::{FaultyHeader, HEADER, Start, start_of};
+use crate::item::{End, FeedErr};
+use crate::reading::body::Body;
+use crate::reading::frame::{finish, start};
+use crate::reading::listener::Listener;
+use crate::state::State;
+use llrp_tree::{Fault, FrameErr, Header};
+
+/// What became of a frame.
+#[derive(Clone, Copy)]
+pub enum Outcome {
+    /// It has no fault, and the listener received its message.
+    Whole,
+    /// It has the message's id and this first fault, and the listener has what it had before.
+    Bad { id: u32, fault: Fault },
+}
+
+/// What a feed took.
+#[derive(Clone, Copy)]
+pub struct Came {
+    /// How many bytes of the piece it took.
+    pub used: usize,
+    /// What became of the frame that ends with them; none where no frame ends.
+    pub outcome: Option<Outcome>,
+}
+
+/// Reads a stream of LLRP frames piece by piece (LLRP 1.1, section 17), and gives a listener the
+/// parts of each message. Of the frame that is not whole it keeps at most 16 bytes.
+#[derive(Drop)]
+pub struct Frames {
+    pub(crate) limit: u32,
+    pub(crate) state: State,
+    pub(crate) body: Body,
+}
+
+/// The same, where this many octets of the piece were taken before.
+fn after(came: Came, taken: usize) -> Came
+    requires { came.used + taken < 2 ^ 64 }
+    ensures { result ≡ record { used = came.used + taken; outcome = came.outcome } }
+{
+    Came {
+        used: came.used + taken,
+        outcome: came.outcome,
+    }
+}
+
+/// The state where these octets of a header came.
+fn before_body(octets: &[u8]) -> State
+    ensures none { octets.now ≡ [] → result ≡ State.Between }
+    ensures some { 0 < length octets.now → result ≡ State.Header }
+{
+    if octets.is_empty() {
+        State::Between
+    } else {
+        State::Header
+    }
+}
+
+impl Frames {
+    /// Frames of which nothing was read. A frame of more than `limit` octets is faulty.
+    pub fn new(limit: u32) -> Frames
+        ensures limit { limit_of result ≡ limit }
+        ensures idle { IsIdle result }
+    {
+        Frames {
+            limit,
+            state: State::Between,
+            body: Body::new(),
+        }
+    }
+
+    /// How many bytes of the current frame it keeps as they are.
+    pub fn raw_octets(&self) -> u32
+        ensures raw { result ≡ length (raw_of self.now) }
+        ensures few { result ≤ 16 }
+    {
+        self.body.raw.len() as u32
+    }
+
+    /// Skips a frame of which `count` octets were taken.
+    fn skip(&mut self, count: u32, header: FaultyHeader, piece: &[u8]) -> Came
+        requires begun { 10 ≤ count }
+        requires inside { count ≤ header.octets }
+        ensures within { result.used ≤ length piece.now }
+        ensures progress { count < header.octets → IsSome result.outcome → 0 < result.used }
+        ensures limit { self.new.limit ≡ self.old.limit }
+        ensures body { self.new.body ≡ self.old.body }
+        ensures skips { (limit : ℕ) (front : List ℕ)
+            → IsSkipped limit count header.octets header.id header.fault front
+            → SkipsTo limit front piece.now self.new result.used result.outcome }
+    {
+        let left = header.octets - count;
+        if piece.len() < left as usize {
+            let count = count + piece.len() as u32;
+            self.state = State::Skipping { count, header };
+            return Came {
+                used: piece.len(),
+                outcome: None,
+            };
+        }
+        self.state = State::Between;
+        Came {
+            used: left as usize,
+            outcome: Some(Outcome::Bad {
+                id: header.id,
+                fault: header.fault,
+            }),
+        }
+    }
+
+    /// Gives up a frame with a fault, of which `count` octets were taken, and skips the rest of it.
+    fn give_up<L: Listener>(
+        &mut self,
+        listener: &mut L,
+        count: u32,
+        header: FaultyHeader,
+        piece: &[u8],
+    ) -> Came
+        requires begun { 10 ≤ count }
+        requires inside { count ≤ header.octets }
+        ensures within { result.used ≤ length piece.now }
+        ensures progress { count < header.octets → IsSome result.outcome → 0 < result.used }
+        ensures limit { self.new.limit ≡ self.old.limit }
+        ensures raw { self.new.body.raw.items ≡ [] }
+        ensures skips { (front : List ℕ)
+            → IsSkipped self.old.limit count header.octets header.id header.fault front
+            → SkipsTo self.old.limit front piece.now self.new result.used result.outcome }
+        ensures told { (was : List ℕ)
+            → Remains (L.begins listener.old was) (L.stands listener.old was)
+            → L.stands listener.new was [] }
+    {
+        listener.give_up();
+        self.body.raw.clear();
+        self.skip(count, header, piece)
+    }
+
+    /// Goes on in a frame whose header passes its checks.
+    fn go_on<L: Listener>(
+        &mut self,
+        listener: &mut L,
+        id: u32,
+        piece: &[u8],
+    ) -> Result<Came, FeedErr>
+        requires most { self.old.limit ≤ MAX_LIMIT }
+        requires some { (was front : List ℕ)
+            × IsBegun (L.begins listener.old was) (L.stands listener.old was) self.old.limit id
+            self.old.body front }
+        ensures limit { self.new.limit ≡ self.old.limit }
+        ensures within { IfOk result (λ came. came.used ≤ length piece.now) }
+        ensures takes { (was front : List ℕ)
+            → IsBegun (L.begins listener.old was) (L.stands listener.old was) self.old.limit id
+            self.old.body front
+            → GoesOn (L.begins listener.new was) (L.stands listener.new was)
+            (L.ends listener.new was) (λ now. L.stands listener.new now []) self.old.limit front
+            piece.now self.new result }
+    {
+        let octets = self.body.reader.octets;
+        let done = self.body.taken();
+        let used = piece.len().min((octets - done) as usize);
+        let (near, rest) = piece.split_at(used);
+        match self.body.feed(listener, near) {
+            Ok(true) => self.end(listener, used),
+            Ok(false) => {
+                self.state = State::Reading { id };
+                Ok(Came {
+                    used,
+                    outcome: None,
+                })
+            }
+            Err(FrameErr::Memory) => Err(FeedErr::Memory),
+            Err(FrameErr::Bad(fault)) => {
+                let header = FaultyHeader { octets, id, fault };
+                let came = self.give_up(listener, done + used as u32, header, rest);
+                Ok(after(came, used))
+            }
+        }
+    }
+
+    /// Ends a frame whose message has all its parts.
+    fn end<L: Listener>(&mut self, listener: &mut L, used: usize) -> Result<Came, FeedErr>
+        requires most { self.old.limit ≤ MAX_LIMIT }
+        requires some { (was front : List ℕ)
+            × IsComplete (L.stands listener.old was) self.old.body.reader front × AreOctets front
+            × (self.old.body.reader.octets ≤ self.old.limit) }
+        ensures limit { self.new.limit ≡ self.old.limit }
+        ensures idle { IfOk result (λ _. IsIdle self.new) }
+        ensures came { IfOk result (λ came. came ≡ record {
+          used = used;
+          outcome = Some Outcome.Whole;
+        }) }
+        ensures fails { IfErr result (λ error. error ≡ failure.Memory) }
+        ensures gives { OnOk result ((was front : List ℕ)
+            → IsComplete (L.stands listener.old was) self.old.body.reader front → AreOctets front
+            → self.old.body.reader.octets ≤ self.old.limit
+            → (m : MessageTree) × Frame m front self.old.limit × (now : List ℕ)
+            × L.ends listener.new was m now × L.stands listener.new now []) }
+    {
+        finish(&self.body.reader, listener)?;
+        self.body.raw.clear();
+        self.state = State::Between;
+        Ok(Came {
+            used,
+            outcome: Some(Outcome::Whole),
+        })
+    }
+
+    /// Begins the body of a frame whose header is whole and passes its checks.
+    fn open<L: Listener>(
+        &mut self,
+        listener: &mut L,
+        header: Header,
+        piece: &[u8],
+    ) -> Result<Came, FeedErr>
+        requires most { self.old.limit ≤ MAX_LIMIT }
+        requires whole { length self.old.body.raw.items ≡ 10 }
+        requires sound { IsSound self.old.limit self.old.body.raw.items header }
+        requires told { (was : List ℕ) × L.stands listener.old was [] }
+        ensures limit { self.new.limit ≡ self.old.limit }
+        ensures within { IfOk result (λ came. came.used ≤ length piece.now) }
+        ensures takes { (was : List ℕ) → L.stands listener.old was []
+            → GoesOn (L.begins listener.new was) (L.stands listener.new was)
+            (L.ends listener.new was) (λ now. L.stands listener.new now []) self.old.limit
+            self.old.body.raw.items piece.now self.new result }
+    {
+        self.body.raw.clear();
+        start(&mut self.body, listener, &header)?;
+        self.go_on(listener, header.id, piece)
+    }
+
+    /// Takes octets of a header, and what comes after it.
+    fn begin<L: Listener>(&mut self, listener: &mut L, piece: &[u8]) -> Result<Came, FeedErr>
+        requires most { self.old.limit ≤ MAX_LIMIT }
+        requires short { length self.old.body.raw.items < 10 }
+        requires told { (was : List ℕ) × L.stands listener.old was [] }
+        ensures limit { self.new.limit ≡ self.old.limit }
+        ensures within { IfOk result (λ came. came.used ≤ length piece.now) }
+        ensures progress { IfOk result (λ came. IsSome came.outcome → 0 < came.used) }
+        ensures takes { (was : List ℕ) → L.stands listener.old was []
+            → Begins (L.begins listener.new was) (L.stands listener.new was)
+            (L.ends listener.new was) (λ now. L.stands listener.new now []) self.old.limit
+            self.old.body.raw.items piece.now self.new result }
+    {
+        let used = piece.len().min(HEADER - self.body.raw.len());
+        let (near, rest) = piece.split_at(used);
+        self.body.keep(near);
+        match start_of(self.body.raw.as_slice(), self.limit) {
+            Start::Breaking => Err(FeedErr::Broken),
+            Start::Short => {
+                self.state = before_body(self.body.raw.as_slice());
+                Ok(Came {
+                    used,
+                    outcome: None,
+                })
+            }
+            Start::Faulty(header) => {
+                self.body.raw.clear();
+                let came = self.skip(HEADER as u32, header, rest);
+                Ok(after(came, used))
+            }
+            Start::Sound(header) => {
+                let came = self.open(listener, header, rest)?;
+                Ok(after(came, used))
+            }
+        }
+    }
+
+    /// What a feed does, for each state.
+    fn advance<L: Listener>(&mut self, listener: &mut L, piece: &[u8]) -> Result<Came, FeedErr>
+        requires least { 10 ≤ self.old.limit }
+        requires most { self.old.limit ≤ MAX_LIMIT }
+        requires comes { Comes (L.begins listener.old) (L.stands listener.old) self.old }
+        ensures limit { self.new.limit ≡ self.old.limit }
+        ensures within { IfOk result (λ came. came.used ≤ length piece.now) }
+        ensures progress { IfOk result (λ came. IsSome came.outcome → 0 < came.used) }
+        ensures takes { (was front : List ℕ)
+            → ComesAt (L.begins listener.old was) (L.stands listener.old was) self.old.limit
+            self.old.state self.old.body front
+            → Goes (L.begins listener.new was) (L.stands listener.new was) (L.ends listener.new was)
+            (λ now. L.stands listener.new now []) self.old self.new front piece.now result }
+        ensures broken { self.old.state ≡ State.Broken → result ≡ Err failure.Broken }
+        ensures dead { self.old.state ≡ State.Dead → result ≡ Err failure.Dead }
+    {
+        match self.state {
+            State::Between | State::Header => self.begin(listener, piece),
+            State::Reading { id } => self.go_on(listener, id, piece),
+            State::Skipping { count, header } => Ok(self.skip(count, header, piece)),
+            State::Broken => Err(FeedErr::Broken),
+            State::Dead => Err(FeedErr::Dead),
+        }
+    }
+
+    /// Keeps nothing after an error.
+    fn stop(&mut self, error: FeedErr)
+        ensures limit { self.new.limit ≡ self.old.limit }
+        ensures raw { self.new.body.raw.items ≡ [] }
+        ensures broken { error ≡ failure.Broken → self.new.state ≡ State.Broken }
+        ensures memory { error ≡ failure.Memory → self.new.state ≡ State.Dead }
+        ensures dead { error ≡ failure.Dead → self.new.state ≡ State.Dead }
+    {
+        self.body.raw.clear();
+        self.state = match error {
+            FeedErr::Broken => State::Broken,
+            FeedErr::Memory | FeedErr::Dead => State::Dead,
+        };
+    }
+
+    /// Takes the bytes of a piece up to the end of the next frame, and returns what became of that frame;
+    /// without an outcome it took the whole piece. `Broken` comes with the sixth byte of a frame whose
+    /// length field is below 10, and from each later call; `Memory` where the listener was refused
+    /// memory, and `Dead` from each later call.
+    pub fn feed<L: Listener>(&mut self, listener: &mut L, piece: &[u8]) -> Result<Came, FeedErr>
+        requires least { 10 ≤ limit_of self.old }
+        requires most { limit_of self.old ≤ MAX_LIMIT }
+        // A front of a frame came, and the listener stands for what is read of it.
+        requires comes { Comes (L.begins listener.old) (L.stands listener.old) self.old }
+        ensures limit { limit_of self.new ≡ limit_of self.old }
+        ensures within { IfOk result (λ came. came.used ≤ length piece.now) }
+        ensures progress { IfOk result (λ came. IsSome came.outcome → 0 < came.used) }
+        ensures takes { (was front : List ℕ)
+            → ComesTo (L.begins listener.old was) (L.stands listener.old was) self.old front
+            → Goes (L.begins listener.new was) (L.stands listener.new was) (L.ends listener.new was)
+            (λ now. L.stands listener.new now []) self.old self.new front piece.now result }
+        ensures broken { IsBroken self.old → (result ≡ Err failure.Broken) × IsBroken self.new }
+        ensures dead { IsDead self.old → (result ≡ Err failure.Dead) × IsDead self.new }
+        ensures stops { IfErr result (Stops self.new) }
+    {
+        match self.advance(listener, piece) {
+            Ok(came) => Ok(came),
+            Err(error) => {
+                self.stop(error);
+                Err(error)
+            }
+        }
+    }
+    /// How the stream ends if nothing follows what was fed; the rest is counted from the last frame's
+    /// end.
+    pub fn finish(&self) -> End
+        ensures stands { (front : List ℕ) → IsFrontOf self.now front → Ends front result }
+        ensures broken { IsBroken self.now → result ≡ at_end.Broken }
+        ensures dead { IsDead self.now → result ≡ at_end.Dead }
+    {
+        match self.state {
+            State::Between => End::Clean,
+            State::Header => End::Rest(self.body.raw.len() as u64),
+            State::Reading { .. } => {
+                End::Rest(self.body.reader.at as u64 + self.body.raw.len() as u64)
+            }
+            State::Skipping { count, .. } => End::Rest(count as u64),
+            State::Broken => End::Broken,
+            State::Dead => End::Dead,
+        }
+    }
+}

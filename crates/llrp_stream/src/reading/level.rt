@@ -1,0 +1,182 @@
+//! A node that is begun, as the engine keeps it.
+
+ghost use Rattle.std.specs.Prelude.{◌≡◌, ◌+◌, ◌*◌, ◌<◌, ◌≤◌, ◌⊎◌, Bool, List, ◌++◌, MatchResult, true, false};
+ghost use Rattle.std.specs.Int.{bit_at};
+ghost use Rattle.tag_bits.specs.Digits.{digits_of_bytes};
+ghost use Rattle.llrp_schema.specs.declared.kinds.Kind.TheVariants.{Message};
+ghost use Rattle.llrp_schema.specs.declared.kinds.MsgKind.TheVariants.{Keepalive};
+ghost use Rattle.llrp_schema.specs.Schema.{groups_of};
+ghost use Rattle.llrp_tree.specs.declared.TheConstants.{MAX_LIMIT};
+ghost use Rattle.llrp_tree.specs.Tree.{Forest, none};
+ghost use Rattle.llrp_tree.specs.OpenTree.{is_enough};
+ghost use Rattle.llrp_tree.specs.FirstFault.{kind_checks};
+ghost use Rattle.llrp_tree.specs.Standing.{FailsFirst};
+ghost use Rattle.llrp_stream.specs.Reading.{AreSeen, IsPlaced, HeadSays};
+
+use crate::reading::numbers::{octet, word};
+use crate::reading::reader::bad;
+use llrp_schema::{Kind, MsgKind, ParamKind, Place, param_of_tlv, param_of_tv, place, required};
+use llrp_tree::{FrameErr, MAX_DEPTH, Reason};
+
+/// A node that is begun.
+#[derive(Clone, Copy)]
+pub struct Level {
+    pub kind: Kind,
+    /// The octet of the frame at which it stops.
+    pub stop: u32,
+    /// The groups of which a child has begun: bit k, from the lowest on, stands for the group with
+    /// index k.
+    pub seen: u32,
+}
+
+impl Default for Level {
+    /// Fills the places of a stack that no node has; nothing reads it.
+    fn default() -> Level
+        ensures { result ≡ record { kind = Message Keepalive; stop = 0; seen = 0 } }
+    {
+        Level {
+            kind: Kind::Message(MsgKind::Keepalive),
+            stop: 0,
+            seen: 0,
+        }
+    }
+}
+
+/// A child that may begin.
+#[derive(Clone, Copy)]
+pub struct Placed {
+    pub kind: ParamKind,
+    /// The groups of which its parent has children once it has begun, as in a `Level`.
+    pub seen: u32,
+}
+
+/// What is read of a child's head.
+#[derive(Clone, Copy)]
+pub enum Child {
+    /// It is not whole in the octets.
+    Unfinished,
+    /// A parameter with type and value.
+    Short(Placed),
+    /// A parameter with type, length and value, and its length.
+    Long(Placed, usize),
+}
+
+/// A node that begins.
+#[inline]
+pub(crate) fn begun(kind: Kind, stop: u32) -> Level
+    ensures kind { result.kind ≡ kind }
+    ensures stop { result.stop ≡ stop }
+    ensures seen { AreSeen (groups_of kind) none result.seen }
+{
+    Level {
+        kind,
+        stop,
+        seen: 0,
+    }
+}
+
+/// Whether a group that takes one child at most has one.
+#[inline]
+fn is_full(place: Place, seen: u32) -> bool
+    requires { place.index < 32 }
+    ensures full { result ≡ true → (place.once ≡ true) × (bit_at seen place.index ≡ 1) }
+    ensures room { result ≡ false → (place.once ≡ false) ⊎ (bit_at seen place.index ≡ 0) }
+{
+    if place.once {
+        return seen >> place.index & 1 == 1;
+    }
+    false
+}
+
+/// The kind of a child at a bit, this many levels below the message, whose type is at another bit;
+/// or the first check that it fails.
+#[inline(always)]
+pub(crate) fn child_kind(
+    found: Option<ParamKind>,
+    parent: Kind,
+    seen: u32,
+    level: u8,
+    at: usize,
+    type_at: usize,
+) -> Result<Placed, FrameErr>
+    ensures { (children : Forest) → AreSeen (groups_of parent) children seen
+        → MatchResult result (IsPlaced found (groups_of parent) children level)
+        (FailsFirst (kind_checks found (groups_of parent) children level at type_at)) }
+{
+    let Some(kind) = found else {
+        return Err(bad(type_at, Reason::ParamType));
+    };
+    let Some(place) = place(parent, kind) else {
+        return Err(bad(at, Reason::Misplaced));
+    };
+    let full = is_full(place, seen);
+    if full {
+        return Err(bad(at, Reason::TooMany));
+    }
+    if level > MAX_DEPTH {
+        return Err(bad(at, Reason::TooDeep));
+    }
+    Ok(Placed {
+        kind,
+        seen: seen | 1 << place.index,
+    })
+}
+
+/// Whether no group has fewer children than its least.
+#[inline]
+pub(crate) fn is_enough(parent: Kind, seen: u32) -> bool
+    ensures { (children : Forest) → AreSeen (groups_of parent) children seen
+        → result ≡ is_enough (groups_of parent) children }
+{
+    let required = required(parent);
+    seen & required == required
+}
+
+/// The head of a child at an octet of a node, this many levels below the message.
+#[inline(always)]
+pub(crate) fn child_head(
+    octets: &[u8],
+    at: usize,
+    stop: usize,
+    parent: Kind,
+    seen: u32,
+    level: u8,
+) -> Result<Child, FrameErr>
+    requires before { at < stop }
+    requires small { stop ≤ MAX_LIMIT }
+    ensures { (children : Forest) (later : List Bool) → AreSeen (groups_of parent) children seen
+        → HeadSays (groups_of parent) children level (8 * at) (8 * stop) (digits_of_bytes octets.now
+        ++ later) octets.now result }
+{
+    let bit = 8 * at;
+    if llrp_schema::groups(parent).len() == 0 {
+        return Err(bad(bit, Reason::Extra));
+    }
+    if octets.is_empty() {
+        return Ok(Child::Unfinished);
+    }
+    let first = octet(octets, 0);
+    if first >= 128 {
+        let placed = child_kind(param_of_tv(first - 128), parent, seen, level, bit, bit + 1)?;
+        return Ok(Child::Short(placed));
+    }
+    if stop - at < 4 {
+        return Err(bad(bit, Reason::Short));
+    }
+    if octets.len() < 4 {
+        return Ok(Child::Unfinished);
+    }
+    let head = word(octets, 0);
+    if head >= 1024 {
+        return Err(bad(bit, Reason::Reserved));
+    }
+    let placed = child_kind(param_of_tlv(head), parent, seen, level, bit, bit + 6)?;
+    let size = word(octets, 2) as usize;
+    if size < 4 {
+        return Err(bad(bit + 16, Reason::ParamLength));
+    }
+    if stop - at < size {
+        return Err(bad(bit + 16, Reason::ParamLength));
+    }
+    Ok(Child::Long(placed, size))
+}

@@ -1,0 +1,395 @@
+//! The engine.
+
+ghost use Rattle.std.specs.Prelude.{◌≡◌, ◌+◌, ◌*◌, ◌^◌, ◌<◌, ◌≤◌, ◌⊎◌, ℕ, Bool, List, [], ◌∷◌, ◌++◌, OnOk, MatchResult, length, drop, true, false, Ok, Some};
+ghost use Rattle.tag_bits.specs.Digits.{digits_of_bytes};
+ghost use Rattle.llrp_tree.specs.declared.TheConstants.{MAX_DEPTH, MAX_LIMIT};
+ghost use Rattle.llrp_schema.specs.Schema.{FieldRule, field_rule, fields_of, groups_of};
+ghost use Rattle.llrp_tree.specs.Lawful.{first};
+ghost use Rattle.llrp_tree.specs.OpenTree.{Begun, kind_of, in_range};
+ghost use Rattle.llrp_tree.specs.Spelling.{Head};
+ghost use Rattle.llrp_schema.specs.declared.kinds.Kind.TheVariants.{Parameter};
+ghost use Rattle.llrp_stream.specs.Front.{Reaches};
+ghost use Rattle.llrp_tree.specs.FirstFault.{number, field_checks};
+ghost use Rattle.llrp_tree.specs.Standing.{FailsFirst, leading, is_tv_kind};
+ghost use Rattle.llrp_tree.specs.declared.fault.FrameErr.TheVariants.{Bad};
+ghost use Rattle.llrp_stream.specs.Told.{with_field, IsNextField};
+ghost use Rattle.llrp_stream.specs.Reading.{AreSeen, Reads, Are, Steps, with_begun};
+ghost use Rattle.llrp_stream.specs.Pieces.{ReadsOn};
+ghost use Rattle.llrp_stream.specs.declared.reading.reader.Stage.TheVariants as Stage;
+
+use crate::reading::level::{Child, Level, Placed, begun, child_head, is_enough};
+use crate::reading::listener::Listener;
+use crate::reading::numbers::from_bit;
+use crate::reading::open::LEVELS;
+use crate::reading::tail::is_absent;
+use arrayvec::ArrayVec;
+use llrp_schema::{Field, Kind};
+use llrp_tree::{Fault, FrameErr, Reason};
+
+/// What comes next in the innermost node.
+#[derive(Clone, Copy)]
+pub enum Stage {
+    /// The field at a place of its kind's, or its tail, or what comes after both.
+    Leading(u32),
+    /// Octets of its tail, of which this many are left.
+    Tail(u32),
+    /// A child, or the end.
+    Children,
+}
+
+/// What a step did.
+#[derive(Clone, Copy)]
+pub enum Step {
+    /// The next part is not whole in the octets.
+    Waits,
+    /// It took this many octets.
+    Goes(usize),
+    /// The message has all its parts.
+    Ends,
+}
+
+/// How far octets were read.
+#[derive(Clone, Copy)]
+pub struct Read {
+    pub used: usize,
+    /// The message has all its parts.
+    pub whole: bool,
+}
+
+/// How far a frame is read.
+#[derive(Drop)]
+pub struct Reader {
+    /// The octets of the frame.
+    pub octets: u32,
+    /// The octet at which the next part begins, and the bit in it.
+    pub at: u32,
+    pub bit: u32,
+    /// The first plain field of the innermost node, once it is read.
+    pub first: u128,
+    pub stage: Stage,
+    pub top: Level,
+    pub outer: ArrayVec<Level, LEVELS>,
+}
+
+/// The error for a fault.
+pub(crate) fn bad(bit: usize, reason: Reason) -> FrameErr
+    ensures { result ≡ Bad (record { bit = bit; reason = reason }) }
+{
+    FrameErr::Bad(Fault {
+        bit: bit as u64,
+        reason,
+    })
+}
+
+/// The value of a field that begins at a bit of the octets, and at a bit of the frame.
+fn field_value(
+    octets: &[u8],
+    bit: usize,
+    at: usize,
+    stop: usize,
+    rule: &Field,
+) -> Result<u128, FrameErr>
+    requires some { 1 ≤ rule.now.width }
+    requires narrow { rule.now.width ≤ 96 }
+    requires within { bit + rule.now.width ≤ 8 * length octets.now }
+    requires room { at + rule.now.width ≤ stop }
+    ensures { (later : List Bool) → MatchResult result
+        (λ v. (v ≡ number (drop bit (digits_of_bytes octets.now ++ later)) 0 rule.now.width)
+        × (in_range (field_rule rule.now) v ≡ true) × (v < 2 ^ rule.now.width))
+        (FailsFirst (field_checks (field_rule rule.now) at stop
+        (drop bit (digits_of_bytes octets.now ++ later)))) }
+{
+    let value = from_bit(octets, bit, rule.width);
+    if rule.reserved {
+        if value != 0 {
+            return Err(bad(at, Reason::Reserved));
+        }
+    } else if value > rule.greatest {
+        return Err(bad(at, Reason::Value));
+    }
+    Ok(value)
+}
+
+/// The first field, where one more is read.
+fn first_of(next: u32, value: u128, known: u128) -> u128
+    ensures { (values : List ℕ) → length values ≡ next → known ≡ first values
+        → result ≡ first (values ++ value ∷ []) }
+{
+    if next == 0 { value } else { known }
+}
+
+/// Whether a node of the kind ends after its field.
+fn is_tv_kind(kind: Kind) -> bool
+    ensures { result ≡ is_tv_kind kind }
+{
+    match kind {
+        Kind::Message(_) => false,
+        Kind::Parameter(kind) => llrp_schema::is_tv(kind),
+    }
+}
+
+impl Reader {
+    /// Nothing is begun.
+    pub(crate) fn new() -> Reader {
+        Reader {
+            octets: 0,
+            at: 0,
+            bit: 0,
+            first: 0,
+            stage: Stage::Children,
+            top: Level::default(),
+            outer: ArrayVec::new(),
+        }
+    }
+
+    /// Reads a field.
+    fn field<L: Listener>(
+        &mut self,
+        listener: &mut L,
+        octets: &[u8],
+        next: u32,
+        rule: &Field,
+    ) -> Result<Step, FrameErr>
+        requires some { 1 ≤ rule.now.width }
+        requires narrow { rule.now.width ≤ 96 }
+        requires place { next < 1000 }
+        requires signed { rule.now.signed ≡ true → rule.now.width ≡ 8 }
+        requires stage { self.old.stage ≡ Stage.Leading next }
+        requires stop { self.old.top.stop ≤ MAX_LIMIT }
+        requires bit { self.old.bit < 8 }
+        requires before { 8 * self.old.at + self.old.bit ≤ 8 * self.old.top.stop }
+        requires rule { (others : List FieldRule)
+            × (drop next (fields_of self.old.top.kind) ≡ field_rule rule.now ∷ others) }
+        requires reads { (front : List ℕ) × (b : Begun) × (outer : List Begun)
+            × Reads self.old front b outer × (was : List ℕ) × L.begins listener.old was (b ∷ outer)
+            × (drop self.old.at front ≡ octets.now) }
+        ensures { (was : List ℕ) (front : List ℕ) (b : Begun) (outer : List Begun)
+            (others : List FieldRule) → Reads self.old front b outer
+            → L.begins listener.old was (b ∷ outer) → drop self.old.at front ≡ octets.now
+            → drop next (fields_of self.old.top.kind) ≡ field_rule rule.now ∷ others
+            → Steps (L.begins listener.new was) (L.stands listener.new was) self.old self.new front
+            octets.now result }
+    {
+        let width = rule.width as usize;
+        let bit = self.bit as usize;
+        let at = 8 * self.at as usize + bit;
+        let stop = 8 * self.top.stop as usize;
+        if stop - at < width {
+            return Err(bad(at, Reason::Short));
+        }
+        let end = bit + width;
+        if octets.len() < end.div_ceil(8) {
+            return Ok(Step::Waits);
+        }
+        let value = field_value(octets, bit, at, stop, rule)?;
+        listener.field(rule, value)?;
+        self.first = first_of(next, value, self.first);
+        self.stage = Stage::Leading(next + 1);
+        self.at += (end / 8) as u32;
+        self.bit = (end % 8) as u32;
+        Ok(Step::Goes(end / 8))
+    }
+
+    /// Reads what comes next among the fields and the tail of the innermost node.
+    fn leading<L: Listener>(
+        &mut self,
+        listener: &mut L,
+        octets: &[u8],
+        next: u32,
+    ) -> Result<Step, FrameErr>
+        requires stage { self.old.stage ≡ Stage.Leading next }
+        requires stop { self.old.top.stop ≤ MAX_LIMIT }
+        requires bit { self.old.bit < 8 }
+        requires before { 8 * self.old.at + self.old.bit ≤ 8 * self.old.top.stop }
+        requires reads { (front : List ℕ) × (b : Begun) × (outer : List Begun)
+            × Reads self.old front b outer × (was : List ℕ) × L.begins listener.old was (b ∷ outer)
+            × (drop self.old.at front ≡ octets.now) }
+        ensures { (was : List ℕ) (front : List ℕ) (b : Begun) (outer : List Begun)
+            → Reads self.old front b outer → L.begins listener.old was (b ∷ outer)
+            → drop self.old.at front ≡ octets.now
+            → Steps (L.begins listener.new was) (L.stands listener.new was) self.old self.new front
+            octets.now result }
+    {
+        let rules = llrp_schema::fields(self.top.kind);
+        if (next as usize) < rules.len() {
+            return self.field(listener, octets, next, &rules[next as usize]);
+        }
+        let form = llrp_schema::tail(self.top.kind);
+        let absent = is_absent(form);
+        if absent {
+            listener.ready()?;
+            self.stage = Stage::Children;
+            return Ok(Step::Goes(0));
+        }
+        self.begin_tail(listener, octets, form)
+    }
+
+    /// Closes the innermost node, which is over.
+    fn close<L: Listener>(&mut self, listener: &mut L) -> Result<Step, FrameErr>
+        requires stage { self.old.stage ≡ Stage.Children }
+        requires stop { self.old.top.stop ≤ MAX_LIMIT }
+        requires some { (front : List ℕ) × (b : Begun) × (outer : List Begun)
+            × Reads self.old front b outer × (was : List ℕ)
+            × L.stands listener.old was (b ∷ outer) }
+        requires over { (is_tv_kind self.old.top.kind ≡ true) ⊎ (self.old.top.stop ≤ self.old.at) }
+        ensures { (was : List ℕ) (front octets : List ℕ) (b : Begun) (outer : List Begun)
+            → Reads self.old front b outer → L.stands listener.old was (b ∷ outer)
+            → drop self.old.at front ≡ octets
+            → Steps (L.begins listener.new was) (L.stands listener.new was) self.old self.new front
+            octets result }
+    {
+        let enough = is_enough(self.top.kind, self.top.seen);
+        if !enough {
+            return Err(bad(8 * self.top.stop as usize, Reason::Missing));
+        }
+        let Some(parent) = self.outer.pop() else {
+            return Ok(Step::Ends);
+        };
+        listener.close()?;
+        self.top = parent;
+        Ok(Step::Goes(0))
+    }
+
+    /// Begins a child whose head has this many octets, and which stops at an octet.
+    fn enter<L: Listener>(
+        &mut self,
+        listener: &mut L,
+        child: Placed,
+        used: u32,
+        stop: u32,
+    ) -> Result<Step, FrameErr>
+        requires few { length self.old.outer.items < MAX_DEPTH }
+        requires fits { self.old.at + used ≤ MAX_LIMIT }
+        requires aligned { self.old.bit ≡ 0 }
+        requires some { 1 ≤ used }
+        requires told { (was : List ℕ) × (t : List Begun) × L.stands listener.old was t
+            × (length t ≡ length self.old.outer.items + 1) }
+        ensures { (was : List ℕ) (front octets : List ℕ) (b : Begun) (outer : List Begun) (h : Head)
+            → Reads self.old front b outer → L.stands listener.old was (b ∷ outer)
+            → drop self.old.at front ≡ octets → kind_of h ≡ Parameter child.kind
+            → AreSeen (groups_of self.old.top.kind) (with_begun b.children (Parameter child.kind))
+            child.seen
+            → Reaches front self.old.octets (leading h (8 * stop) [] ∷ b ∷ outer)
+            (8 * (self.old.at + used)) → used ≤ length octets
+            → Steps (L.begins listener.new was) (L.stands listener.new was) self.old self.new front
+            octets result }
+    {
+        let level = self.outer.len() as u8 + 1;
+        listener.parameter(level, child.kind)?;
+        self.top.seen = child.seen;
+        self.outer.push(self.top);
+        self.top = begun(Kind::Parameter(child.kind), stop);
+        self.stage = Stage::Leading(0);
+        self.first = 0;
+        self.at += used;
+        Ok(Step::Goes(used as usize))
+    }
+
+    /// Begins a child of the innermost node.
+    fn begin<L: Listener>(&mut self, listener: &mut L, octets: &[u8]) -> Result<Step, FrameErr>
+        requires stage { self.old.stage ≡ Stage.Children }
+        requires stop { self.old.top.stop ≤ MAX_LIMIT }
+        requires some { (front : List ℕ) × (b : Begun) × (outer : List Begun)
+            × Reads self.old front b outer × (was : List ℕ)
+            × L.stands listener.old was (b ∷ outer) }
+        requires room { self.old.at < self.old.top.stop }
+        requires long { is_tv_kind self.old.top.kind ≡ false }
+        ensures { (was : List ℕ) (front : List ℕ) (b : Begun) (outer : List Begun)
+            → Reads self.old front b outer → L.stands listener.old was (b ∷ outer)
+            → drop self.old.at front ≡ octets.now
+            → Steps (L.begins listener.new was) (L.stands listener.new was) self.old self.new front
+            octets.now result }
+    {
+        let level = self.outer.len() as u8 + 1;
+        let child = child_head(
+            octets,
+            self.at as usize,
+            self.top.stop as usize,
+            self.top.kind,
+            self.top.seen,
+            level,
+        )?;
+        match child {
+            Child::Unfinished => Ok(Step::Waits),
+            Child::Short(placed) => self.enter(listener, placed, 1, self.top.stop),
+            Child::Long(placed, size) => self.enter(listener, placed, 4, self.at + size as u32),
+        }
+    }
+
+    /// Closes the innermost node if it is over, and else begins a child of it.
+    fn child_or_end<L: Listener>(
+        &mut self,
+        listener: &mut L,
+        octets: &[u8],
+    ) -> Result<Step, FrameErr>
+        requires stage { self.old.stage ≡ Stage.Children }
+        requires stop { self.old.top.stop ≤ MAX_LIMIT }
+        requires some { (front : List ℕ) × (b : Begun) × (outer : List Begun)
+            × Reads self.old front b outer × (was : List ℕ)
+            × L.stands listener.old was (b ∷ outer) × (drop self.old.at front ≡ octets.now) }
+        ensures { (was : List ℕ) (front : List ℕ) (b : Begun) (outer : List Begun)
+            → Reads self.old front b outer → L.stands listener.old was (b ∷ outer)
+            → drop self.old.at front ≡ octets.now
+            → Steps (L.begins listener.new was) (L.stands listener.new was) self.old self.new front
+            octets.now result }
+    {
+        let over = self.at >= self.top.stop || is_tv_kind(self.top.kind);
+        if over {
+            return self.close(listener);
+        }
+        let used = self.values(listener, octets)?;
+        if used > 0 {
+            return Ok(Step::Goes(used));
+        }
+        self.begin(listener, octets)
+    }
+
+    /// One step.
+    pub fn step<L: Listener>(&mut self, listener: &mut L, octets: &[u8]) -> Result<Step, FrameErr>
+        requires { (was : List ℕ) × (front : List ℕ)
+            × Are (L.begins listener.old was) (L.stands listener.old was) self.old front
+            × (drop self.old.at front ≡ octets.now) }
+        ensures { (was : List ℕ) (front : List ℕ)
+            → Are (L.begins listener.old was) (L.stands listener.old was) self.old front
+            → drop self.old.at front ≡ octets.now
+            → Steps (L.begins listener.new was) (L.stands listener.new was) self.old self.new front
+            octets.now result }
+    {
+        match self.stage {
+            Stage::Leading(next) => self.leading(listener, octets, next),
+            Stage::Tail(left) => self.tail(listener, octets, left),
+            Stage::Children => self.child_or_end(listener, octets),
+        }
+    }
+
+    /// Reads all parts that are whole in the octets.
+    pub fn read<L: Listener>(&mut self, listener: &mut L, octets: &[u8]) -> Result<Read, FrameErr>
+        requires { (was : List ℕ) × (front : List ℕ)
+            × Are (L.begins listener.old was) (L.stands listener.old was) self.old front
+            × (drop self.old.at front ≡ octets.now) }
+        ensures { (was : List ℕ) (front : List ℕ)
+            → Are (L.begins listener.old was) (L.stands listener.old was) self.old front
+            → drop self.old.at front ≡ octets.now
+            → ReadsOn (L.begins listener.new was) (L.stands listener.new was) self.old self.new
+            front octets.now result }
+    {
+        let mut rest = octets;
+        'parts: loop {
+            match self.step(listener, rest)? {
+                Step::Waits => {
+                    return Ok(Read {
+                        used: octets.len() - rest.len(),
+                        whole: false,
+                    });
+                }
+                Step::Ends => {
+                    return Ok(Read {
+                        used: octets.len() - rest.len(),
+                        whole: true,
+                    });
+                }
+                Step::Goes(used) => rest = rest.split_at(used).1,
+            }
+        }
+    }
+}

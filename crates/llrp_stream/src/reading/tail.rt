@@ -1,0 +1,261 @@
+//! The tail of a node, which comes in pieces.
+
+ghost use Rattle.std.specs.Prelude.{◌≡◌, ◌≢◌, ◌+◌, ◌*◌, ◌<◌, ◌≤◌, ℕ, Bool, List, [], ◌∷◌, ◌++◌, not, length, drop, take, true, false};
+ghost use Rattle.tag_bits.specs.Digits.{digits_of_bytes};
+ghost use Rattle.llrp_schema.specs.Schema.{fields_of, tail_of};
+ghost use Rattle.llrp_schema.specs.declared.kinds.Tail.TheVariants.{Words, Text, Bits};
+ghost use Rattle.llrp_tree.specs.declared.TheConstants.{MAX_LIMIT};
+ghost use Rattle.llrp_tree.specs.Lawful.{first};
+ghost use Rattle.llrp_tree.specs.OpenTree.{Begun, has_tail};
+ghost use Rattle.llrp_stream.specs.Reading.{Reads, Steps};
+ghost use Rattle.llrp_stream.specs.Tails.{CountSays, HasWhole};
+ghost use Rattle.llrp_stream.specs.declared.reading.reader.Stage.TheVariants as Stage;
+
+use crate::reading::listener::Listener;
+use crate::reading::numbers::word;
+use crate::reading::reader::{Reader, Stage, Step, bad};
+use llrp_schema::Tail;
+use llrp_tree::{FrameErr, Reason};
+
+/// How many octets there are in a tail and in the count before it.
+#[derive(Clone, Copy)]
+pub(crate) struct TailSize {
+    pub count: u32,
+    pub octets: u32,
+}
+
+/// Whether a kind has no tail.
+pub(crate) fn is_absent(form: Tail) -> bool
+    ensures { result ≡ not (has_tail form) }
+{
+    match form {
+        Tail::Absent => true,
+        Tail::Words | Tail::Text | Tail::Bits => false,
+    }
+}
+
+/// The count of a tail of words; none where it is not whole in the octets.
+fn words_counted(octets: &[u8], at: usize, stop: usize) -> Result<Option<TailSize>, FrameErr>
+    requires before { at ≤ stop }
+    requires small { stop ≤ MAX_LIMIT }
+    ensures { (fields : List ℕ) (later : List Bool)
+        → CountSays Words fields (8 * at) (8 * stop) (digits_of_bytes octets.now ++ later)
+        octets.now result }
+{
+    if stop - at < 2 {
+        return Err(bad(8 * at, Reason::Short));
+    }
+    if octets.len() < 2 {
+        return Ok(None);
+    }
+    let length = 2 * word(octets, 0) as usize;
+    if stop - at - 2 < length {
+        return Err(bad(8 * at, Reason::Count));
+    }
+    Ok(Some(TailSize {
+        count: 2,
+        octets: length as u32,
+    }))
+}
+
+/// The count of a tail of text; none where it is not whole in the octets.
+fn text_counted(octets: &[u8], at: usize, stop: usize) -> Result<Option<TailSize>, FrameErr>
+    requires before { at ≤ stop }
+    requires small { stop ≤ MAX_LIMIT }
+    ensures { (fields : List ℕ) (later : List Bool)
+        → CountSays Text fields (8 * at) (8 * stop) (digits_of_bytes octets.now ++ later) octets.now
+        result }
+{
+    if stop - at < 2 {
+        return Err(bad(8 * at, Reason::Short));
+    }
+    if octets.len() < 2 {
+        return Ok(None);
+    }
+    let length = word(octets, 0) as usize;
+    if stop - at - 2 < length {
+        return Err(bad(8 * at, Reason::Count));
+    }
+    Ok(Some(TailSize {
+        count: 2,
+        octets: length as u32,
+    }))
+}
+
+/// The octets of a tail of bits, which the first field of the node counts.
+fn bits_counted(known: u128, at: usize, stop: usize) -> Result<Option<TailSize>, FrameErr>
+    requires after { 2 ≤ at }
+    requires before { at ≤ stop }
+    requires small { stop ≤ MAX_LIMIT }
+    ensures { (fields octets : List ℕ) (rest : List Bool) → known ≡ first fields
+        → CountSays Bits fields (8 * at) (8 * stop) rest octets result }
+{
+    let octets = known / 8 + (known % 8 + 7) / 8;
+    if ((stop - at) as u128) < octets {
+        return Err(bad(8 * at - 16, Reason::Count));
+    }
+    Ok(Some(TailSize {
+        count: 0,
+        octets: octets as u32,
+    }))
+}
+
+/// How many octets of a tail there are, by its count or by the first field of the node; none where the
+/// count is not whole in the octets.
+fn counted(
+    octets: &[u8],
+    at: usize,
+    stop: usize,
+    form: Tail,
+    known: u128,
+) -> Result<Option<TailSize>, FrameErr>
+    requires after { 2 ≤ at }
+    requires before { at ≤ stop }
+    requires small { stop ≤ MAX_LIMIT }
+    requires has { has_tail form ≡ true }
+    ensures { (fields : List ℕ) (later : List Bool) → (form ≡ Bits → known ≡ first fields)
+        → CountSays form fields (8 * at) (8 * stop) (digits_of_bytes octets.now ++ later) octets.now
+        result }
+{
+    match form {
+        Tail::Words => words_counted(octets, at, stop),
+        Tail::Text => text_counted(octets, at, stop),
+        Tail::Bits => bits_counted(known, at, stop),
+        Tail::Absent => Ok(None),
+    }
+}
+
+/// How many of the first octets are whole words, or whole characters.
+fn whole_front(form: Tail, octets: &[u8]) -> usize
+    requires has { has_tail form ≡ true }
+    ensures { HasWhole form octets.now result }
+{
+    match form {
+        Tail::Words => octets.len() - octets.len() % 2,
+        Tail::Text => match std::str::from_utf8(octets) {
+            Ok(_) => octets.len(),
+            Err(error) => error.valid_up_to(),
+        },
+        Tail::Bits | Tail::Absent => octets.len(),
+    }
+}
+
+/// Whether octets in which no character is whole do not begin one: there are no more octets of the
+/// text, or as many as a character has at most.
+fn is_faulty(form: Tail, octets: &[u8], left: u32) -> bool
+    ensures text { result ≡ true → form ≡ Text }
+    ensures many { result ≡ true → length octets.now < 4 → length octets.now ≡ left }
+    ensures few { result ≡ false → form ≡ Text → length octets.now < 4 }
+    ensures more { result ≡ false → form ≡ Text → length octets.now ≢ left }
+{
+    match form {
+        Tail::Text => octets.len() >= 4 || octets.len() == left as usize,
+        Tail::Words | Tail::Bits | Tail::Absent => false,
+    }
+}
+
+impl Reader {
+    /// Reads the count of a tail.
+    pub(crate) fn begin_tail<L: Listener>(
+        &mut self,
+        listener: &mut L,
+        octets: &[u8],
+        form: Tail,
+    ) -> Result<Step, FrameErr>
+        requires stage { self.old.stage ≡ Stage.Leading (length (fields_of self.old.top.kind)) }
+        requires form { tail_of self.old.top.kind ≡ form }
+        requires has { has_tail form ≡ true }
+        requires stop { self.old.top.stop ≤ MAX_LIMIT }
+        requires some { (front : List ℕ) × (b : Begun) × (outer : List Begun)
+            × Reads self.old front b outer }
+        ensures { (was : List ℕ) (front : List ℕ) (b : Begun) (outer : List Begun)
+            → Reads self.old front b outer → L.begins listener.old was (b ∷ outer)
+            → drop self.old.at front ≡ octets.now
+            → Steps (L.begins listener.new was) (L.stands listener.new was) self.old self.new front
+            octets.now result }
+    {
+        let found = counted(
+            octets,
+            self.at as usize,
+            self.top.stop as usize,
+            form,
+            self.first,
+        )?;
+        let Some(size) = found else {
+            return Ok(Step::Waits);
+        };
+        listener.tail(form)?;
+        self.stage = Stage::Tail(size.octets);
+        self.at += size.count;
+        Ok(Step::Goes(size.count as usize))
+    }
+
+    /// Ends a tail.
+    fn end_tail<L: Listener>(&mut self, listener: &mut L) -> Result<Step, FrameErr>
+        requires stage { self.old.stage ≡ Stage.Tail 0 }
+        ensures { (was : List ℕ) (front octets : List ℕ) (b : Begun) (outer : List Begun)
+            → Reads self.old front b outer → L.begins listener.old was (b ∷ outer)
+            → drop self.old.at front ≡ octets
+            → Steps (L.begins listener.new was) (L.stands listener.new was) self.old self.new front
+            octets result }
+    {
+        listener.ready()?;
+        self.stage = Stage::Children;
+        Ok(Step::Goes(0))
+    }
+
+    /// Reads octets of a tail, of which this many are left.
+    fn more_tail<L: Listener>(
+        &mut self,
+        listener: &mut L,
+        octets: &[u8],
+        left: u32,
+    ) -> Result<Step, FrameErr>
+        requires stage { self.old.stage ≡ Stage.Tail left }
+        requires some_left { 1 ≤ left }
+        requires some { (front : List ℕ) × (b : Begun) × (outer : List Begun)
+            × Reads self.old front b outer }
+        ensures { (was : List ℕ) (front : List ℕ) (b : Begun) (outer : List Begun)
+            → Reads self.old front b outer → L.begins listener.old was (b ∷ outer)
+            → drop self.old.at front ≡ octets.now
+            → Steps (L.begins listener.new was) (L.stands listener.new was) self.old self.new front
+            octets.now result }
+    {
+        let form = llrp_schema::tail(self.top.kind);
+        let near = octets.split_at(octets.len().min(left as usize)).0;
+        let used = whole_front(form, near);
+        if used == 0 {
+            let faulty = is_faulty(form, near, left);
+            if faulty {
+                return Err(bad(8 * self.at as usize, Reason::Utf8));
+            }
+            return Ok(Step::Waits);
+        }
+        listener.octets(form, near.split_at(used).0)?;
+        self.stage = Stage::Tail(left - used as u32);
+        self.at += used as u32;
+        Ok(Step::Goes(used))
+    }
+
+    /// Reads octets of a tail, or ends it.
+    pub(crate) fn tail<L: Listener>(
+        &mut self,
+        listener: &mut L,
+        octets: &[u8],
+        left: u32,
+    ) -> Result<Step, FrameErr>
+        requires stage { self.old.stage ≡ Stage.Tail left }
+        requires some { (front : List ℕ) × (b : Begun) × (outer : List Begun)
+            × Reads self.old front b outer }
+        ensures { (was : List ℕ) (front : List ℕ) (b : Begun) (outer : List Begun)
+            → Reads self.old front b outer → L.begins listener.old was (b ∷ outer)
+            → drop self.old.at front ≡ octets.now
+            → Steps (L.begins listener.new was) (L.stands listener.new was) self.old self.new front
+            octets.now result }
+    {
+        if left == 0 {
+            return self.end_tail(listener);
+        }
+        self.more_tail(listener, octets, left)
+    }
+}
