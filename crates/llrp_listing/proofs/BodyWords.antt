@@ -1,4 +1,4 @@
--- The words behind a name.
+-- The words after a name.
 use Rattle.std.proofs.Common.{◌≡◌, ℕ, suc, ◌+◌, ◌-◌, ◌<◌, ◌≤◌, inl, inr, true, false, List, [], ◌∷◌, ◌++◌, map, length, get_or, take, drop, Option, Result, Ok, Err, refl, sym, ap, subst, ◌∙◌, arith, append_assoc, length-append}
 use Rattle.std.specs.Borrow.{Bor}
 use Rattle.std.proofs.lemmas.List.{take_all}
@@ -54,7 +54,7 @@ pub forms_none : (rules : List Field) → length rules < 1 → forms_of (map fie
 forms_none [] few = refl
 forms_none (rule ∷ rules) few = absurd (omega arith)
 
--- fewer are left behind the first
+-- fewer are left after the first
 pub fewer_fields : (rules : List Field) → 1 ≤ length rules → length (take (length rules - 1) (drop 1 rules)) < length rules
 fewer_fields [] some = absurd (omega arith)
 fewer_fields (rule ∷ rules) some =
@@ -116,7 +116,7 @@ message_read kind v i ws all n m old new rules rest e count good fine are empty 
 
 -- ---- parameters
 
--- a check that fails behind numbers that are read
+-- a check that fails after numbers that are read
 after_read : (fs : List NumberForm) (form : Tail) (ws : List (List ℕ)) (ns : List ℕ) (rest : List (List ℕ)) (reason : Refusal) → AreRead fs ws ns rest → FirstFailing (tail_checks form rest) reason → FirstFailing (body_checks fs form ws) reason
 after_read fs form ws ns rest reason r bad = rw r.words (on fs ns r.texts r.in_form r.are)
   where
@@ -158,7 +158,7 @@ parameter_read level kind ws old line rules rest form are empty h is t l k =
     let t2 : ReadsRest (tail_of (Parameter kind)) (words_in rest) (Ok line.tail) = subst (λ (f : Tail). ReadsRest f (words_in rest) (Ok line.tail)) is t in
     record { level_is = l; kind_is = k; tail = t2.0; numbers = subst (AreRead (number_forms (Parameter kind)) ws line.fields.items) t2.1 (parameter_numbers kind ws old line.fields.items rules rest are empty h) }
 
--- ---- the words behind the numbers
+-- ---- the words after the numbers
 
 pub nothing_left : (form : Tail) → 0 ≡ tail_count form → ReadsRest form [] (Ok [])
 nothing_left Absent h = (refl, refl)

@@ -32,7 +32,7 @@ use Rattle.llrp_listing.proofs.TailWords.{AreSmall, bytes_fit, joined_parts, wor
 
 -- ---- checks
 
--- each check tells one reason
+-- each check has one reason
 abbrev AllTellOne : List (Check Refusal) → Type 0
 AllTellOne [] = Unit {0}
 AllTellOne (c ∷ cs) = ((a b : Refusal) → c.Tells a → c.Tells b → a ≡ b) × AllTellOne cs

@@ -1,16 +1,17 @@
 -- Hexadecimal digits of either case, and the lines of words.
-use Rattle.std.proofs.Common.{◌≡◌, ℕ, suc, ◌+◌, ◌/◌, ◌%◌, ◌^◌, ◌<◌, ◌≤◌, true, false, List, [], ◌∷◌, length, refl, sym, ap, ◌∙◌, arith, inl, inr, Ok, Err}
+use Rattle.std.proofs.Common.{◌≡◌, ℕ, suc, ◌+◌, ◌/◌, ◌%◌, ◌^◌, ◌<◌, ◌≤◌, true, false, List, [], ◌∷◌, length, refl, sym, ap, ◌∙◌, arith, inl, inr, Some, Result, Ok, Err}
 use Rattle.std.specs.Prelude.{◌⊎◌, nat_lt, map, slice_index}
 use Rattle.std.specs.Char.{to_ascii_uppercase}
+use Rattle.std.specs.Result.{result_ok}
 use Rattle.std.proofs.lemmas.List.{length-map}
 use Rattle.std.proofs.lemmas.Bool.{cases_lt, lt-ltb, le-ltb}
 use Rattle.std.proofs.lemmas.Bool.Decides.{nat_tests}
 use Rattle.hex.specs.Hex.{encode_with, encode_upper, upper_digits, IsBytes}
 use Rattle.hex.specs.Hex.{decode_sized}
+use Rattle.hex.specs.declared.error.FromHexError.{FromHexError}
 use Rattle.hex.proofs.HexLemmas.{decode_of-ok, decode_sized-ok, decode_sized-twice}
 use Rattle.tag_bits.specs.Digits.{digits_of_bytes, word_digits}
-use Rattle.tag_uri.specs.Hexadecimal.{hexadecimal}
-use Rattle.tag_uri.proofs.HexadecimalLemmas.{glyph, length-hexadecimal, twelve, word_text, word_digits_of, bytes_spelled}
+use Rattle.tag_uri.proofs.HexadecimalLemmas.{glyph, length-hexadecimal}
 use Rattle.llrp_stream.specs.Device.{SinkLog}
 use Rattle.llrp_listing.specs.declared.fault.ToolErr.{ToolErr}
 use Rattle.llrp_listing.specs.declared.fault.ToolErr.TheVariants.{Listing, Script, Hex, Read, Write, Bound, Broken, Memory, Peer, Strange, Early}
@@ -19,6 +20,7 @@ use Rattle.llrp_listing.specs.Copying.{Writes}
 use Rattle.llrp_listing.specs.EpcLines.{AreDigitsOf, Prints, PrintsEpc}
 use Rattle.llrp_listing.specs.Hexadecimal.{IsHexDigit, SpellBytes}
 use Rattle.llrp_listing.proofs.HexadecimalLemmas.{ok_if_spelled, spelled_if_ok}
+use Rattle.llrp_listing.proofs.WordDigits.{twelve, word_text, bytes_spelled}
 
 -- a digit in upper case
 digit_raised : (c n : ℕ) → IsHexDigit c n → to_ascii_uppercase c ≡ slice_index upper_digits n
@@ -98,9 +100,13 @@ raised_spelled (a ∷ (b ∷ rest)) (byte ∷ bytes) h e =
 -- a word's digits decode
 pub digits_decode : (text : List ℕ) (word : ℕ) → AreDigitsOf text word → (bytes : List ℕ) × (decode_sized text 12 ≡ Ok bytes)
 digits_decode text word are =
-    let b = bytes_spelled (hexadecimal 24 word) (word_digits_of word) in
+    let b = bytes_spelled word in
     let count : length text ≡ 24 = sym (length-map text to_ascii_uppercase) ∙ ap length are.raised ∙ length-hexadecimal 24 word in
-    (b.0, decode_sized-twice text 12 count ∙ ok_if_spelled text b.0 (raised_spelled text b.0 b.1 (are.raised ∙ sym b.2)))
+    (b.0, decode_sized-twice text 12 count ∙ ok_if_spelled text b.0 (raised_spelled text b.0 b.1 (are.raised ∙ b.2)))
+
+pub some_ok : (r : Result (List ℕ) FromHexError) (bytes : List ℕ) → Some bytes ≡ result_ok r → r ≡ Ok bytes
+some_ok (Ok b) bytes e = cc
+some_ok (Err x) bytes e = cc
 
 -- what decodes to a word's bytes is its digits
 pub decoded_digits : (text bytes : List ℕ) (word : ℕ) → word < 2 ^ 96 → decode_sized text 12 ≡ Ok bytes → word_digits word ≡ digits_of_bytes bytes → AreDigitsOf text word

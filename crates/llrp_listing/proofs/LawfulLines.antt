@@ -110,7 +110,7 @@ parameter_well level kind fields tail children least deep l = record {
   few = few_octets kind fields tail children l;
 }
 
-parameters_well : (level : ℕ) (f : tree.Forest) → 1 ≤ level → levels f + level ≤ 9 → AllLawful f → AllWell (parameter_lines level f)
+parameters_well : (level : ℕ) (f : tree.Forest) → 1 ≤ level → levels f + level ≤ MAX_DEPTH + 1 → AllLawful f → AllWell (parameter_lines level f)
 parameters_well level tree.none least deep h = tt
 parameters_well level (tree.and before kind fields tail children) least deep h =
     let a = le-max_left (levels before) (levels children + 1) in
@@ -118,7 +118,7 @@ parameters_well level (tree.and before kind fields tail children) least deep h =
     well_append (parameter_lines level before) ((level, parameter_line kind fields tail) ∷ parameter_lines (suc level) children) (parameters_well level before least (omega (arith, deep, a)) h.0)
     (parameter_well level kind fields tail children least (omega (arith, deep, b)) h.1, parameters_well (suc level) children (omega arith) (omega (arith, deep, b)) h.2)
 
-few_levels : (f : tree.Forest) → AllLawful f → levels f ≤ 8
+few_levels : (f : tree.Forest) → AllLawful f → levels f ≤ MAX_DEPTH
 few_levels tree.none h = omega arith
 few_levels (tree.and before kind fields tail children) h = max-le (few_levels before h.0) h.1.deep
 

@@ -1,5 +1,5 @@
 -- What a line that is read says, or why it is refused by itself.
-use Rattle.std.proofs.Common.{◌≡◌, ℕ, ◌+◌, ◌<◌, ◌≤◌, inl, inr, true, false, List, [], ◌∷◌, ◌++◌, length, drop, Ok, Err, refl, sym, ap, subst, ◌∙◌, arith, decimal, append_assoc}
+use Rattle.std.proofs.Common.{◌≡◌, ℕ, ◌+◌, ◌<◌, ◌≤◌, inl, inr, true, List, [], ◌∷◌, ◌++◌, length, drop, Ok, Err, refl, sym, ap, subst, ◌∙◌, arith, decimal, append_assoc}
 use Rattle.std.specs.Prelude.{nat_le, ◌&&◌}
 use Rattle.std.specs.List.{join_with_byte}
 use Rattle.std.specs.Str.{IsUtf8, IsAscii}
@@ -58,9 +58,6 @@ line_text bytes w ws e =
 
 pub line_long : (depth : ℕ) (bytes : List ℕ) → LONGEST_LINE < length bytes → ReadsLine depth bytes (Err (Refused refusal.Line))
 line_long depth bytes long = inl (inl (λ has. absurd (omega (arith, has.0)), refl))
-
-pub line_strange : (depth : ℕ) (bytes : List ℕ) → is_printed bytes ≡ false → ReadsLine depth bytes (Err (Refused refusal.Line))
-line_strange depth bytes strange = inl (inl (λ has. (let t : true ≡ false = sym has.1 ∙ strange in cc), refl))
 
 pub start_bad : (depth : ℕ) (bytes : List ℕ) (reason : Refusal) → length bytes ≤ LONGEST_LINE → is_printed bytes ≡ true → ReadsStart depth bytes (Err reason) → ReadsLine depth bytes (Err (Refused reason))
 start_bad depth bytes reason short printed h = elim h [
@@ -146,14 +143,9 @@ module _ (depth : ℕ) (bytes : List ℕ) (start : Start) (short : length bytes 
         omega (arith, s.within, level),
       )
 
--- as many words are behind the name as the kind has numbers, and a tail
+-- as many words are after the name as the kind has numbers, and a tail
 pub message_count : (depth : ℕ) (bytes : List ℕ) (start : Start) → Starts depth bytes start → (kind : MsgKind) → start.kind ≡ Message kind → length (words bytes) ≡ word_count start.kind → length (words_in start.words) ≡ length (number_forms (Message kind))
 message_count depth bytes start s kind is count =
     let n = ap length s.are in
     let absent : tail_count (tail_of (Message kind)) ≡ 0 = ap tail_count (message_tail kind) in
     omega (arith, n, count ∙ ap word_count is, absent)
-
-pub parameter_count : (depth : ℕ) (bytes : List ℕ) (start : Start) → Starts depth bytes start → (kind : ParamKind) → start.kind ≡ Parameter kind → length (words bytes) ≡ word_count start.kind → length (words_in start.words) ≡ length (number_forms (Parameter kind)) + tail_count (tail_of (Parameter kind))
-parameter_count depth bytes start s kind is count =
-    let n = ap length s.are in
-    omega (arith, n, count ∙ ap word_count is)

@@ -133,7 +133,7 @@ printed_no_lf (c ∷ x) h = (no_lf c (left _ _ h), printed_no_lf x (right _ _ h)
     no_lf : (c : ℕ) → (nat_le 32 c && nat_le c 126) ≡ true → (c == 10) ≡ false
     no_lf c h = grind arith
 
--- the words of a line behind its level
+-- the words of a line after its level
 abbrev pub rest_words : NodeLine → List (List ℕ) → List (List ℕ)
 rest_words line texts = name_of line.kind ∷ (texts ++ tail_texts (tail_of line.kind) line.tail)
 

@@ -1,5 +1,5 @@
 -- What the words of a line say.
-use Rattle.std.proofs.Common.{◌≡◌, ℕ, zero, suc, ◌+◌, ◌^◌, ◌<◌, ◌≤◌, inl, inr, min, List, [], ◌∷◌, length, Option, Some, None, Err, refl, sym, ap, subst, ◌∙◌, arith, decimal}
+use Rattle.std.proofs.Common.{◌≡◌, ℕ, zero, suc, ◌+◌, ◌^◌, ◌<◌, ◌≤◌, inr, min, List, [], ◌∷◌, length, Option, Some, None, Err, refl, sym, ap, subst, ◌∙◌, arith, decimal}
 use Rattle.std.proofs.lemmas.List.{length-map}
 use Rattle.llrp_schema.specs.declared.kinds.MsgKind.{MsgKind}
 use Rattle.llrp_schema.specs.declared.kinds.ParamKind.{ParamKind}
@@ -40,10 +40,10 @@ deepest n le = omega arith
 pub no_level : (depth : ℕ) (w : List ℕ) → numeral w ≡ None → IsLevel depth w None
 no_level depth w none = λ level e deep within. no_text w none level (deepest level deep) e
 
-pub other_level : (depth : ℕ) (w : List ℕ) (n : ℕ) → numeral w ≡ Some n → min depth 8 < n → IsLevel depth w None
+pub other_level : (depth : ℕ) (w : List ℕ) (n : ℕ) → numeral w ≡ Some n → min depth MAX_DEPTH < n → IsLevel depth w None
 other_level depth w n is lt = λ level e deep within. (let same : n ≡ level = same_number w n level is (deepest level deep) e in absurd (omega arith))
 
-pub level_is : (depth : ℕ) (w : List ℕ) (n : ℕ) → numeral w ≡ Some n → n ≤ min depth 8 → IsLevel depth w (Some n)
+pub level_is : (depth : ℕ) (w : List ℕ) (n : ℕ) → numeral w ≡ Some n → n ≤ min depth MAX_DEPTH → IsLevel depth w (Some n)
 level_is depth w n is le = ((numeral_is w n is).text, omega arith, omega arith)
 
 -- ---- counts
@@ -64,7 +64,7 @@ parameter_forms kind = refl
 no_name : (kind : Kind) → [] ≡ name_of kind → ⊥
 no_name kind e = let b = name_begins kind in absurd (omega (arith, ap length (e ∙ b.2)))
 
--- the name behind a level
+-- the name after a level
 pub placed_name : (level : ℕ) (w name : List ℕ) (ws : List (List ℕ)) (kind : Kind) → w ≡ decimal level → level ≤ MAX_DEPTH → IsNamed (w ∷ name ∷ ws) kind → IsPlaced level kind × (name ≡ name_of kind)
 placed_name level w name ws (Message kind) e deep named = (one_number level 0 (deepest level deep) (omega arith) (sym e ∙ named.0), named.1)
 placed_name level w name ws (Parameter kind) e deep named = (some level (λ z. named.0 (e ∙ ap decimal z)), named.1)
@@ -76,9 +76,6 @@ placed_name level w name ws (Parameter kind) e deep named = (some level (λ z. n
 pub named_name : (level : ℕ) (w name : List ℕ) (ws : List (List ℕ)) (kind : Kind) → w ≡ decimal level → level ≤ MAX_DEPTH → IsPlaced level kind → name ≡ name_of kind → IsNamed (w ∷ name ∷ ws) kind
 named_name level w name ws (Message kind) e deep placed named = (e ∙ ap decimal placed, named)
 named_name level w name ws (Parameter kind) e deep placed named = (λ z. (let t : level ≡ 0 = one_number level 0 (deepest level deep) (omega arith) (sym e ∙ z) in absurd (omega arith)), named)
-
-pub start_no_level : (depth : ℕ) (bytes w : List ℕ) (ws : List (List ℕ)) → words bytes ≡ w ∷ ws → IsLevel depth w None → ReadsStart depth bytes (Err refusal.Level)
-start_no_level depth bytes w ws e none = inl (λ has. none has.0 (ap (λ (z : List (List ℕ)). word z 0) (sym e) ∙ has.1) has.2 has.3, refl)
 
 has_level : (depth level : ℕ) (bytes w : List ℕ) (ws : List (List ℕ)) → words bytes ≡ w ∷ ws → IsLevel depth w (Some level) → HasLevel depth (words bytes)
 has_level depth level bytes w ws e is = (level, ap (λ (z : List (List ℕ)). word z 0) e ∙ is.0, is.1, is.2)

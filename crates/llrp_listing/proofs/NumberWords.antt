@@ -90,7 +90,7 @@ no_minus n lt ds e =
 pub sides : (n : ℕ) → (n < 128) ⊎ (128 ≤ n)
 sides n = grind arith
 
--- what is read behind a minus
+-- what is read after a minus
 pub signed_below : (ds : List ℕ) (r : Result ℕ Refusal) → ReadsNegative ds r → ReadsNumber Signed (45 ∷ ds) r
 signed_below ds (Ok n) h = (h.1, ap (λ (z : List ℕ). 45 ∷ z) h.2 ∙ sym (signed_negative n h.0))
 signed_below ds (Err reason) h = (λ has. below has.0 has.1 has.2, h.0)
@@ -101,7 +101,7 @@ signed_below ds (Err reason) h = (λ has. below has.0 has.1 has.2, h.0)
       | inr large ↦ h.1 n large (omega arith) (let t : 45 ∷ ds ≡ 45 ∷ decimal (256 - n) = e ∙ signed_negative n large in cc)
     ]
 
--- what is read where no minus stands first
+-- what is read where there is no minus
 pub signed_from : (w : List ℕ) (r : Result ℕ Refusal) → ((ds : List ℕ) → w ≡ 45 ∷ ds → ⊥) → ReadsPositive w r → ReadsNumber Signed w r
 signed_from w (Ok n) unsigned h = (omega (arith, h.0), h.1 ∙ sym (signed_positive n h.0))
 signed_from w (Err reason) unsigned h = (λ has. from has.0 has.1 has.2, h.0)

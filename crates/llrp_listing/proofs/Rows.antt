@@ -1,5 +1,6 @@
 -- Rows of messages, and what they spell.
-use Rattle.std.proofs.Common.{ℕ, List, [], ◌++◌, refl, sym}
+use Rattle.std.proofs.Common.{ℕ, List, [], ◌∷◌, ◌++◌, refl, sym}
+use Rattle.std.proofs.lemmas.List.{append-nil}
 use Rattle.std.proofs.lemmas.List.Concat.{flat_map-append}
 use Rattle.llrp_tree.specs.Tree.{MessageTree}
 use Rattle.llrp_tree.specs.Frame.{Frame}
@@ -15,3 +16,7 @@ spells_more limit ms ns bs cs p q = record {
   each = zip_append (λ m frame. Frame m frame limit) ms ns p.frames q.frames p.each q.each;
   bytes_are = rw (p.bytes_are, q.bytes_are) (sym (flat_map-append (λ (frame : List ℕ). frame) p.frames q.frames));
 }
+
+-- one frame is that of one message
+pub spells_one : (limit : ℕ) (m : MessageTree) (frame : List ℕ) → Frame m frame limit → AreSpelled limit (m ∷ []) frame
+spells_one limit m frame f = record { frames = frame ∷ []; each = (f, tt); bytes_are = sym (append-nil frame) }

@@ -1,31 +1,43 @@
 -- The listing of a stream as it comes.
-use Rattle.std.proofs.Common.{◌≡◌, ℕ, Bool, true, false, List, [], ◌∷◌, ◌++◌, take, drop, refl, sym, ap, subst, ◌∙◌, append_assoc, Err, Ok, inl, inr, Some, None}
+use Rattle.std.proofs.Common.{◌≡◌, ◌⊎◌, ◌≤◌, arith, length, ℕ, Bool, true, false, List, [], ◌∷◌, ◌++◌, take, drop, refl, sym, ap, subst, ◌∙◌, append_assoc, Err, Ok, inl, inr, Some, None}
 use Rattle.std.specs.Prelude.{◌&&◌, Option, Result, OnOk, IfErr, IfOk, MatchResult}
 use Rattle.std.specs.List.{flat_map, list_all}
-use Rattle.std.proofs.lemmas.List.{append-nil, take-append-drop}
+use Rattle.std.proofs.lemmas.List.{append-nil, take-append-drop, take_all, drop_all}
 use Rattle.std.proofs.lemmas.List.Concat.{flat_map-append}
+use Rattle.llrp_tree.specs.declared.fault.Fault.{Fault}
+use Rattle.llrp_tree.specs.OpenTree.{Begun}
+use Rattle.llrp_tree.specs.Tree.{MessageTree}
+use Rattle.llrp_stream.specs.declared.item.FeedErr.TheVariants as failure
 use Rattle.llrp_stream.specs.declared.item.Item.{Item}
+use Rattle.llrp_stream.specs.declared.item.Item.TheVariants as of_item
 use Rattle.llrp_stream.specs.declared.item.End.{End}
 use Rattle.llrp_stream.specs.declared.item.End.TheVariants as at_end
-use Rattle.llrp_stream.specs.Cuts.{Breaks, Ends}
-use Rattle.llrp_stream.specs.Decoding.{DecoderState, Stands, IsBroken}
+use Rattle.llrp_stream.specs.Cuts.{IsFrame, Breaks, Ends}
 use Rattle.llrp_stream.specs.Device.{SourceLog, SinkLog, Gave, Wrote}
-use Rattle.llrp_stream.specs.Feeding.{Takes}
+use Rattle.llrp_stream.specs.declared.reading.frames.Frames.{Frames}
+use Rattle.llrp_stream.specs.declared.reading.frames.Outcome.{Outcome}
+use Rattle.llrp_stream.specs.declared.reading.frames.Outcome.TheVariants.{Whole, Bad}
+use Rattle.llrp_stream.specs.Frames.{ComesTo, IsBroken, IsFrontOf, IsIdle, Stops, TakesOn, limit_of}
 use Rattle.llrp_stream.specs.Items.{IsItemOf, Items, ItemsSoFar}
 use Rattle.llrp_stream.proofs.FrontLemmas.{no_frame_breaks}
 use Rattle.llrp_stream.proofs.RunLemmas.{items_grow}
+use Rattle.llrp_stream.proofs.StreamEnd.{front_of}
 use Rattle.llrp_stream.proofs.Unique.{same_items}
 use Rattle.llrp_listing.specs.declared.fault.ToolErr.{ToolErr}
 use Rattle.llrp_listing.specs.declared.fault.ToolErr.TheVariants.{Listing, Script, Read, Write, Bound, Memory, Hex, Broken, Peer, Strange, Early}
 use Rattle.llrp_listing.specs.declared.fault.Verdict.{Verdict}
+use Rattle.llrp_listing.specs.declared.printing.printer.Printer.{Printer}
 use Rattle.llrp_listing.specs.declared.show.Lister.{Lister}
 use Rattle.llrp_listing.specs.Copying.{HandsOn, IsPrefix, Writes, ReadAll}
 use Rattle.llrp_listing.specs.Encoding.{WasRead}
-use Rattle.llrp_listing.specs.Lister.{ListedSoFar, GoesOn, IsBrokenOff, Begins, Finishes, Feeds, Lists, KeepsNothing}
-use Rattle.llrp_listing.specs.Printing.{AppendsItem}
+use Rattle.llrp_listing.specs.Lister.{Awaits, Holds, Tells, ListedSoFar, GoesOn, IsBrokenOff, Finishes, Feeds, KeepsFew, Lists, ListsOrFails}
+use Rattle.llrp_listing.specs.OpenListing.{Begins, IsMarked, Opened}
+use Rattle.llrp_listing.specs.MessageListing.{message_lines}
+use Rattle.llrp_listing.specs.Printing.{AppendsItem, AppendsLines}
 use Rattle.llrp_listing.specs.Show.{verdict_of, Listed, BeginsListing, Stopped, WroteFrames, ShowStopped, Shows}
-use Rattle.llrp_listing.specs.StreamListing.{IsItemText, AreItemTexts, IsStreamListing, end_text, is_message, is_clean, is_lawful}
+use Rattle.llrp_listing.specs.StreamListing.{IsItemText, AreItemTexts, IsStreamListing, end_text, fault_text, is_message, is_clean, is_lawful}
 use Rattle.llrp_listing.proofs.DeviceLemmas.{wrote_nothing, wrote_more, wrote_then_failed, same_failures}
+use Rattle.llrp_listing.proofs.EngineLemmas.{comes_so, comes_idle, comes_partial, few_kept, none_kept, tree_told}
 use Rattle.llrp_listing.proofs.OneText.{begins_listing, one_stream_listing}
 use Rattle.llrp_listing.proofs.Zips.{zip_append}
 
@@ -65,50 +77,35 @@ begins_so_far limit bytes more front text part items so are part_of others end w
 
 -- ---- a lister takes a piece
 
-pub begun : (limit : ℕ) (log : SinkLog) (lister : Lister) → Stands lister.decoder [] → lister.decoder.limit ≡ limit → lister.text.items ≡ [] → lister.lawful ≡ true → Begins limit log lister
-begun limit log lister stands limit_is empty lawful = (
-  (
-    [],
-    record { items = []; sent = []; so_far = (items_grow limit).none; texts = subst (λ (x : List ℕ). AreItemTexts [] x) (sym empty) no_items; log = wrote_nothing log; limit_is = limit_is; lawful_is = lawful },
-    stands,
-  ),
-  empty,
-)
+-- the text of earlier items
+pub gathered_is : (printer : Printer) (was : List ℕ) (t : List Begun) → (Awaits printer was t) ⊎ (Holds printer was t) → take printer.mark printer.text ≡ was
+gathered_is printer was t o = elim o [ inl m ↦ m.1 | inr m ↦ m.1 ]
 
--- one item more, whose text is gathered
-item_gathered : (limit : ℕ) (bytes piece front text : List ℕ) (used : ℕ) (item : Item) (old now : SinkLog) (lister : Lister) (decoder : DecoderState)
-    → (so : ListedSoFar limit bytes front old now lister) → Takes lister.decoder.limit front piece decoder used (Some item) → AppendsItem item lister.text.items text
-    → ItemsSoFar limit (bytes ++ take used piece) (so.items ++ (item ∷ [])) [] × AreItemTexts (so.items ++ (item ∷ [])) (so.sent ++ text)
-item_gathered limit bytes piece front text used item old now lister decoder so takes appends =
-    let grow = items_grow limit in
-    let is_item : IsItemOf limit (front ++ take used piece) item = subst (λ (n : ℕ). IsItemOf n (front ++ take used piece) item) so.limit_is takes.2 in (
-      grow.by_a_frame (bytes ++ take used piece) so.items (front ++ take used piece) item (grow.by_bytes bytes so.items front (take used piece) so.so_far) takes.1 is_item,
-      subst (AreItemTexts (so.items ++ (item ∷ []))) (append_assoc so.sent lister.text.items appends.0 ∙ ap (λ (x : List ℕ). so.sent ++ x) (sym appends.1)) (one_item_more so.items item (so.sent ++ lister.text.items) appends.0 so.texts appends.2),
-    )
+-- with no open tree there is no other text
+all_held : (printer : Printer) (was : List ℕ) → Holds printer was [] → printer.text ≡ was
+all_held printer was h = sym (take-append-drop printer.mark printer.text) ∙ ap (λ (x : List ℕ). take printer.mark printer.text ++ x) h.2 ∙ append-nil (take printer.mark printer.text) ∙ h.1
 
--- and handed on with the others, where they are a large piece
-pub item_listed : (limit : ℕ) (bytes piece : List ℕ) (used : ℕ) (item : Item) (old now after : SinkLog) (lister new : Lister) (decoder : DecoderState) → GoesOn limit bytes old now lister
-    → ((front : List ℕ) → Stands lister.decoder front → Takes lister.decoder.limit front piece decoder used (Some item)) → decoder.limit ≡ lister.decoder.limit
-    → Lists item (record { decoder = decoder; text = lister.text; lawful = lister.lawful }) new now after (Ok tt) → GoesOn limit (bytes ++ take used piece) old after new
-item_listed limit bytes piece used item old now after lister new decoder goes takes limit_is lists =
-    let front = goes.0 in
-    let so = goes.1 in
-    let fed = takes front goes.2 in
-    let text = lists.0 in
-    let hands = lists.2 in
-    let same : new.decoder ≡ decoder = lists.4 in
-    let more = item_gathered limit bytes piece front text used item old now lister decoder so fed lists.1 in (
-      [],
-      record {
-        items = so.items ++ (item ∷ []);
-        sent = so.sent ++ hands.0;
-        so_far = more.0;
-        texts = subst (AreItemTexts (so.items ++ (item ∷ []))) (ap (λ (x : List ℕ). so.sent ++ x) hands.1 ∙ sym (append_assoc so.sent hands.0 new.text.items)) more.1;
-        log = wrote_more old now after so.sent hands.0 so.log hands.2;
-        limit_is = ap (λ (d : DecoderState). d.limit) same ∙ limit_is ∙ so.limit_is;
-        lawful_is = lists.3 ∙ ap (λ (b : Bool). b && is_message item) so.lawful_is ∙ sym (lawful_push so.items item);
-      },
-      subst (λ (d : DecoderState). Stands d []) (sym same) fed.3,
+-- a printer that received nothing
+none_held : (printer : Printer) → printer.text ≡ [] → printer.mark ≡ 0 → Holds printer [] []
+none_held printer empty none =
+    subst (λ (n : ℕ). IsMarked n printer.text [] (Opened [])) (sym none) (omega arith, refl, empty)
+
+pub begun : (limit : ℕ) (log : SinkLog) (lister : Lister) → limit_of lister.frames ≡ limit → IsIdle lister.frames → lister.printer.text ≡ [] → lister.printer.mark ≡ 0 → lister.lawful ≡ true
+    → GoesOn limit [] [] log log lister
+begun limit log lister limit_is idle empty none lawful = record {
+  front = [];
+  listed = record { items = []; sent = []; so_far = (items_grow limit).none; texts = no_items; log = wrote_nothing log; limit_is = limit_is; lawful_is = lawful };
+  comes = comes_idle (Awaits lister.printer []) (Holds lister.printer []) lister.frames idle (none_held lister.printer empty none);
+}
+
+-- a frame's item, of which the text was appended
+one_frame_more : (limit : ℕ) (bytes piece front gathered all : List ℕ) (used : ℕ) (item : Item) (old now : SinkLog) (lister : Lister)
+    → (so : ListedSoFar limit bytes front gathered old now lister) → IsFrame (front ++ take used piece) → IsItemOf limit (front ++ take used piece) item → AppendsItem item gathered all
+    → ItemsSoFar limit (bytes ++ take used piece) (so.items ++ (item ∷ [])) [] × AreItemTexts (so.items ++ (item ∷ [])) (so.sent ++ all)
+one_frame_more limit bytes piece front gathered all used item old now lister so frame is_item appends =
+    let grow = items_grow limit in (
+      grow.by_a_frame (bytes ++ take used piece) so.items (front ++ take used piece) item (grow.by_bytes bytes so.items front (take used piece) so.so_far) frame is_item,
+      subst (AreItemTexts (so.items ++ (item ∷ []))) (append_assoc so.sent gathered appends.0 ∙ ap (λ (x : List ℕ). so.sent ++ x) (sym appends.1)) (one_item_more so.items item (so.sent ++ gathered) appends.0 so.texts appends.2),
     )
 
 -- a write of gathered text failed
@@ -131,162 +128,327 @@ write_stopped limit bytes sent text old now after Strange log begins failed = ab
 write_stopped limit bytes sent text old now after (Listing line reason) log begins failed = absurd failed.2
 
 -- what was written, before more bytes were listed
-pub memory_stopped : (limit : ℕ) (bytes piece : List ℕ) (old now : SinkLog) (lister : Lister) → GoesOn limit bytes old now lister → Stopped limit (bytes ++ piece) old now Memory
-memory_stopped limit bytes piece old now lister goes =
-    let so = goes.1 in
+pub memory_stopped : (limit : ℕ) (bytes gathered piece : List ℕ) (old now : SinkLog) (lister : Lister) → GoesOn limit bytes gathered old now lister → Stopped limit (bytes ++ piece) old now Memory
+memory_stopped limit bytes gathered piece old now lister goes =
+    let so = goes.listed in
     record {
       front = so.sent;
-      begins = begins_so_far limit bytes piece goes.0 (so.sent ++ lister.text.items) so.sent so.items so.so_far so.texts (lister.text.items, refl);
+      begins = begins_so_far limit bytes piece goes.front (so.sent ++ gathered) so.sent so.items so.so_far so.texts (gathered, refl);
       log = so.log;
     }
 
--- an item's text was not gathered, or not handed on
-pub item_stopped : (limit : ℕ) (bytes piece : List ℕ) (used : ℕ) (item : Item) (old now after : SinkLog) (lister new : Lister) (decoder : DecoderState) (e : ToolErr) → GoesOn limit bytes old now lister
-    → ((front : List ℕ) → Stands lister.decoder front → Takes lister.decoder.limit front piece decoder used (Some item))
-    → Lists item (record { decoder = decoder; text = lister.text; lawful = lister.lawful }) new now after (Err e) → Stopped limit (bytes ++ piece) old after e
-item_stopped limit bytes piece used item old now after lister new decoder e goes takes lists =
-    let so = goes.1 in
-    let whole : (bytes ++ take used piece) ++ drop used piece ≡ bytes ++ piece = append_assoc bytes (take used piece) (drop used piece) ∙ ap (λ (x : List ℕ). bytes ++ x) (take-append-drop used piece) in
-    elim lists [
-      | inl memory ↦ subst (λ (x : ToolErr). Stopped limit (bytes ++ piece) old after x) (sym memory.0) (subst (λ (x : SinkLog). Stopped limit (bytes ++ piece) old x Memory) (sym memory.1) (memory_stopped limit bytes piece old now lister goes))
-      | inr failed ↦ (
-          let more = item_gathered limit bytes piece goes.0 failed.0 used item old now lister decoder so (takes goes.0 goes.2) failed.1 in
-          write_stopped limit (bytes ++ piece) so.sent failed.0 old now after e so.log
-          (λ part is. subst (λ (x : List ℕ). BeginsListing limit x part) whole (begins_so_far limit (bytes ++ take used piece) (drop used piece) [] (so.sent ++ failed.0) part (so.items ++ (item ∷ [])) more.0 more.1 is))
-          failed.2)
-    ]
+-- what a feed took up to a frame's end
+abbrev pub TakesFrame : (limit : ℕ) (front gathered piece : List ℕ) → Printer → Frames → (used : ℕ) → Outcome → Type 0
+TakesFrame limit front gathered piece printer frames used outcome =
+    (used ≤ length piece) × IsFrame (front ++ take used piece) × Tells printer gathered limit (front ++ take used piece) outcome × IsIdle frames
 
--- the piece ends in a frame, and all text is handed on
-pub piece_listed : (limit : ℕ) (bytes piece : List ℕ) (used : ℕ) (old now after : SinkLog) (lister new : Lister) → GoesOn limit bytes old now lister
-    → ((front : List ℕ) → Stands lister.decoder front → Takes lister.decoder.limit front piece new.decoder used None) → new.decoder.limit ≡ lister.decoder.limit
-    → Wrote now after lister.text.items → new.text.items ≡ [] → new.lawful ≡ lister.lawful → GoesOn limit (bytes ++ piece) old after new
-piece_listed limit bytes piece used old now after lister new goes takes limit_is written emptied lawful =
-    let so = goes.1 in (
-      goes.0 ++ piece,
+-- the text of a frame was gathered, and perhaps handed on with the text before it
+pub frame_listed : (limit : ℕ) (bytes gathered piece : List ℕ) (used : ℕ) (outcome : Outcome) (old now after : SinkLog) (lister told new : Lister)
+    → (goes : GoesOn limit bytes gathered old now lister) → TakesFrame limit goes.front gathered piece told.printer told.frames used outcome → limit_of told.frames ≡ limit_of lister.frames → told.lawful ≡ lister.lawful
+    → new.frames ≡ told.frames → Lists limit (goes.front ++ take used piece) gathered told new now after → (left : List ℕ) × GoesOn limit (bytes ++ take used piece) left old after new
+frame_listed limit bytes gathered piece used outcome old now after lister told new goes takes limit_is lawful same lists =
+    let so = goes.listed in
+    let item = lists.item in
+    let more = one_frame_more limit bytes piece goes.front gathered lists.all used item old now lister so takes.1 lists.is_item lists.appended in
+    let handed = lists.handed in (
+      lists.left,
       record {
-        items = so.items;
-        sent = so.sent ++ lister.text.items;
-        so_far = (items_grow limit).by_bytes bytes so.items goes.0 piece so.so_far;
-        texts = subst (AreItemTexts so.items) (sym (append-nil (so.sent ++ lister.text.items)) ∙ ap (λ (x : List ℕ). (so.sent ++ lister.text.items) ++ x) (sym emptied)) so.texts;
-        log = wrote_more old now after so.sent lister.text.items so.log written;
-        limit_is = limit_is ∙ so.limit_is;
-        lawful_is = lawful ∙ so.lawful_is;
+        front = [];
+        listed = record {
+          items = so.items ++ (item ∷ []);
+          sent = so.sent ++ handed.0;
+          so_far = more.0;
+          texts = subst (AreItemTexts (so.items ++ (item ∷ []))) (ap (λ (x : List ℕ). so.sent ++ x) handed.1 ∙ sym (append_assoc so.sent handed.0 lists.left)) more.1;
+          log = wrote_more old now after so.sent handed.0 so.log handed.2;
+          limit_is = ap limit_of same ∙ limit_is ∙ so.limit_is;
+          lawful_is = lists.lawful ∙ ap (λ (b : Bool). b && is_message item) (lawful ∙ so.lawful_is) ∙ sym (lawful_push so.items item);
+        };
+        comes = subst (λ (f : Frames). ComesTo (Awaits new.printer lists.left) (Holds new.printer lists.left) f []) (sym same)
+            (comes_idle (Awaits new.printer lists.left) (Holds new.printer lists.left) told.frames takes.3 lists.holds);
       },
-      (takes goes.0 goes.2).1,
     )
 
+-- it was not gathered, or not handed on
+pub frame_stopped : (limit : ℕ) (bytes gathered piece : List ℕ) (used : ℕ) (outcome : Outcome) (old now after : SinkLog) (lister told new : Lister) (e : ToolErr)
+    → (goes : GoesOn limit bytes gathered old now lister) → TakesFrame limit goes.front gathered piece told.printer told.frames used outcome
+    → ListsOrFails limit (goes.front ++ take used piece) gathered told new now after (Err e) → Stopped limit (bytes ++ piece) old after e
+frame_stopped limit bytes gathered piece used outcome old now after lister told new e goes takes lists =
+    let so = goes.listed in
+    let whole : (bytes ++ take used piece) ++ drop used piece ≡ bytes ++ piece = append_assoc bytes (take used piece) (drop used piece) ∙ ap (λ (x : List ℕ). bytes ++ x) (take-append-drop used piece) in
+    elim lists [
+      | inl memory ↦ subst (λ (x : ToolErr). Stopped limit (bytes ++ piece) old after x) (sym memory.0) (subst (λ (x : SinkLog). Stopped limit (bytes ++ piece) old x Memory) (sym memory.1) (memory_stopped limit bytes gathered piece old now lister goes))
+      | inr failed ↦ (
+          let item = failed.0 in
+          let all = failed.2.0 in
+          let more = one_frame_more limit bytes piece goes.front gathered all used item old now lister so takes.1 failed.1 failed.2.1 in
+          write_stopped limit (bytes ++ piece) so.sent all old now after e so.log
+          (λ part is. subst (λ (x : List ℕ). BeginsListing limit x part) whole (begins_so_far limit (bytes ++ take used piece) (drop used piece) [] (so.sent ++ all) part (so.items ++ (item ∷ [])) more.0 more.1 is))
+          failed.2.2)
+    ]
+
+-- the text after the mark is at the front of another
+moved : (mark new_mark : ℕ) (text new was : List ℕ) (IsRest : List ℕ → Type 0) → new ≡ drop mark text → new_mark ≡ 0 → IsMarked mark text was IsRest → IsMarked new_mark new [] IsRest
+moved mark new_mark text new was IsRest e none m = subst (λ (n : ℕ). IsMarked n new [] IsRest) (sym none) (omega arith, refl, subst IsRest (sym e) m.2)
+
+-- the piece ends in a frame, and all text of whole frames was handed on
+pub piece_listed : (limit : ℕ) (bytes gathered piece front : List ℕ) (old now after : SinkLog) (lister new : Lister) (told : Printer) → ListedSoFar limit bytes front gathered old now lister
+    → ComesTo (Awaits told gathered) (Holds told gathered) new.frames (front ++ piece) → limit_of new.frames ≡ limit_of lister.frames → new.lawful ≡ lister.lawful
+    → Wrote now after (take told.mark told.text) → new.printer.text ≡ drop told.mark told.text → new.printer.mark ≡ 0 → GoesOn limit (bytes ++ piece) [] old after new
+piece_listed limit bytes gathered piece front old now after lister new told so comes limit_is lawful written rest none =
+    let t = tree_told (Awaits told gathered) (Holds told gathered) new.frames (front ++ piece) comes in
+    let same : take told.mark told.text ≡ gathered = gathered_is told gathered t.0 t.1 in
+    record {
+      front = front ++ piece;
+      listed = record {
+        items = so.items;
+        sent = so.sent ++ gathered;
+        so_far = (items_grow limit).by_bytes bytes so.items front piece so.so_far;
+        texts = subst (AreItemTexts so.items) (sym (append-nil (so.sent ++ gathered))) so.texts;
+        log = wrote_more old now after so.sent gathered so.log (subst (λ (x : List ℕ). Wrote now after x) same written);
+        limit_is = limit_is ∙ so.limit_is;
+        lawful_is = lawful ∙ so.lawful_is;
+      };
+      comes = comes_so (Awaits told gathered) (Holds told gathered) (Awaits new.printer []) (Holds new.printer [])
+          (λ t m. moved told.mark new.printer.mark told.text new.printer.text gathered (Begins t) rest none m)
+          (λ t m. moved told.mark new.printer.mark told.text new.printer.text gathered (Opened t) rest none m)
+          new.frames (front ++ piece) comes;
+    }
+
 -- the piece ends in a frame, and handing on failed
-pub piece_stopped : (limit : ℕ) (bytes piece : List ℕ) (old now after : SinkLog) (lister : Lister) (e : ToolErr) → GoesOn limit bytes old now lister → Writes lister.text.items now after (Err e)
-    → Stopped limit (bytes ++ piece) old after e
-piece_stopped limit bytes piece old now after lister e goes failed =
-    let so = goes.1 in
-    write_stopped limit (bytes ++ piece) so.sent lister.text.items old now after e so.log
-    (λ part is. begins_so_far limit bytes piece goes.0 (so.sent ++ lister.text.items) part so.items so.so_far so.texts is)
-    failed
+pub piece_stopped : (limit : ℕ) (bytes gathered piece front : List ℕ) (old now after : SinkLog) (lister : Lister) (frames : Frames) (told : Printer) (e : ToolErr) → ListedSoFar limit bytes front gathered old now lister
+    → ComesTo (Awaits told gathered) (Holds told gathered) frames (front ++ piece) → Writes (take told.mark told.text) now after (Err e) → Stopped limit (bytes ++ piece) old after e
+piece_stopped limit bytes gathered piece front old now after lister frames told e so comes failed =
+    let t = tree_told (Awaits told gathered) (Holds told gathered) frames (front ++ piece) comes in
+    let same : take told.mark told.text ≡ gathered = gathered_is told gathered t.0 t.1 in
+    write_stopped limit (bytes ++ piece) so.sent gathered old now after e so.log
+    (λ part is. begins_so_far limit bytes piece front (so.sent ++ gathered) part so.items so.so_far so.texts is)
+    (subst (λ (x : List ℕ). Writes x now after (Err e)) same failed)
 
 -- the piece breaks the stream
-pub piece_breaks : (limit : ℕ) (bytes piece : List ℕ) (old now : SinkLog) (lister new : Lister) → GoesOn limit bytes old now lister
-    → ((front : List ℕ) → Stands lister.decoder front → Breaks (front ++ piece) × IsBroken new.decoder) → new.decoder.limit ≡ lister.decoder.limit → new.text.items ≡ lister.text.items → new.lawful ≡ lister.lawful
+pub piece_breaks : (limit : ℕ) (bytes gathered piece : List ℕ) (old now : SinkLog) (lister new : Lister) → (goes : GoesOn limit bytes gathered old now lister)
+    → Breaks (goes.front ++ piece) → Holds new.printer gathered [] → IsBroken new.frames → limit_of new.frames ≡ limit_of lister.frames → new.lawful ≡ lister.lawful
     → IsBrokenOff limit (bytes ++ piece) old now new
-piece_breaks limit bytes piece old now lister new goes breaks limit_is same lawful =
-    let so = goes.1 in
-    let broken = breaks goes.0 goes.2 in (
-      goes.0 ++ piece,
-      record {
+piece_breaks limit bytes gathered piece old now lister new goes breaks holds broken limit_is lawful =
+    let so = goes.listed in
+    record {
+      front = goes.front ++ piece;
+      gathered = gathered;
+      listed = record {
         items = so.items;
         sent = so.sent;
-        so_far = (items_grow limit).by_bytes bytes so.items goes.0 piece so.so_far;
-        texts = subst (AreItemTexts so.items) (ap (λ (x : List ℕ). so.sent ++ x) (sym same)) so.texts;
+        so_far = (items_grow limit).by_bytes bytes so.items goes.front piece so.so_far;
+        texts = so.texts;
         log = so.log;
         limit_is = limit_is ∙ so.limit_is;
         lawful_is = lawful ∙ so.lawful_is;
-      },
-      broken.0,
-      broken.1,
-    )
+      };
+      breaks = breaks;
+      broken = broken;
+      holds = holds;
+    }
+
+-- what the engine keeps
+pub goes_few : (limit : ℕ) (bytes gathered : List ℕ) (old now : SinkLog) (lister : Lister) → 10 ≤ limit → GoesOn limit bytes gathered old now lister → KeepsFew limit lister
+goes_few limit bytes gathered old now lister least goes =
+    let e = goes.listed.limit_is in
+    let k = few_kept (Awaits lister.printer gathered) (Holds lister.printer gathered) lister.frames goes.front (omega (arith, e, least)) goes.comes in
+    record { few = k.0; within = omega (arith, k.1, e) }
+
+pub broken_few : (limit : ℕ) (lister : Lister) → Stops lister.frames failure.Broken → KeepsFew limit lister
+broken_few limit lister s = (let none = ap (λ (x : List ℕ). length x) (none_kept lister.frames s) in record { few = omega (arith, none); within = omega (arith, none) })
 
 -- a broken stream stays so, whatever follows
 pub broken_off : (limit : ℕ) (bytes more : List ℕ) (old now : SinkLog) (lister : Lister) → IsBrokenOff limit bytes old now lister → IsBrokenOff limit (bytes ++ more) old now lister
 broken_off limit bytes more old now lister broken =
-    let so = broken.1 in (
-      broken.0 ++ more,
-      record { items = so.items; sent = so.sent; so_far = (items_grow limit).by_bytes bytes so.items broken.0 more so.so_far; texts = so.texts; log = so.log; limit_is = so.limit_is; lawful_is = so.lawful_is },
-      no_frame_breaks broken.0 more broken.2,
-      broken.3,
+    let so = broken.listed in
+    record {
+      front = broken.front ++ more;
+      gathered = broken.gathered;
+      listed = record {
+        items = so.items;
+        sent = so.sent;
+        so_far = (items_grow limit).by_bytes bytes so.items broken.front more so.so_far;
+        texts = so.texts;
+        log = so.log;
+        limit_is = so.limit_is;
+        lawful_is = so.lawful_is;
+      };
+      breaks = no_frame_breaks broken.front more broken.breaks;
+      broken = broken.broken;
+      holds = broken.holds;
+    }
+
+-- ---- a frame's text
+
+and_false : (b : Bool) → false ≡ (b && false)
+and_false true = refl
+and_false false = refl
+
+held_more : (printer new : Printer) (was more : List ℕ) → Holds printer was [] → new.text ≡ printer.text ++ more → new.mark ≡ length new.text → Holds new (was ++ more) []
+held_more printer new was more h e all =
+    let is : new.text ≡ was ++ more = e ∙ ap (λ (x : List ℕ). x ++ more) (all_held printer was h) in (
+      omega (arith, all),
+      take_all new.mark new.text (omega (arith, all)) ∙ is,
+      drop_all new.mark new.text (omega (arith, all)),
     )
+
+-- what was handed on of the text of whole items, and what is left
+abbrev pub Hands : Printer → Printer → SinkLog → SinkLog → Type 0
+Hands old new w0 w1 = (was : List ℕ) → Holds old was [] → (left : List ℕ) × HandsOn was left w0 w1 × Holds new left []
+
+pub whole_listed : (limit : ℕ) (frame was : List ℕ) (old new : Lister) (w0 w1 : SinkLog) (answer : Result (Unit {0}) ToolErr) → Tells old.printer was limit frame Whole → new.lawful ≡ old.lawful
+    → OnOk answer (Hands old.printer new.printer w0 w1) → IfErr answer (λ e. Writes (take old.printer.mark old.printer.text) w0 w1 answer) → ListsOrFails limit frame was old new w0 w1 answer
+whole_listed limit frame was old new w0 w1 (Ok u) told lawful hands failed =
+    let h = hands told.2 told.4 in
+    record { item = of_item.Msg told.0; all = told.2; left = h.0; is_item = told.1; appended = told.3; handed = h.1; holds = h.2; lawful = lawful ∙ sym (and_true old.lawful) }
+whole_listed limit frame was old new w0 w1 (Err e) told lawful hands failed =
+    inr (of_item.Msg told.0, told.1, (told.2, told.3, subst (λ (x : List ℕ). Writes x w0 w1 (Err e)) told.4.1 failed))
+
+pub fault_listed : (limit id : ℕ) (fault : Fault) (frame was : List ℕ) (old new : Lister) (mid : Printer) (w0 w1 : SinkLog) (answer : Result (Unit {0}) ToolErr) → Tells old.printer was limit frame (Bad id fault)
+    → mid.text ≡ old.printer.text ++ fault_text id fault → mid.mark ≡ length mid.text → new.lawful ≡ false
+    → OnOk answer (Hands mid new.printer w0 w1) → IfErr answer (λ e. Writes (take mid.mark mid.text) w0 w1 answer) → ListsOrFails limit frame was old new w0 w1 answer
+fault_listed limit id fault frame was old new mid w0 w1 (Ok u) told text mark lawful hands failed =
+    let h = hands (was ++ fault_text id fault) (held_more old.printer mid was (fault_text id fault) told.2 text mark) in
+    record { item = of_item.Bad id fault; all = was ++ fault_text id fault; left = h.0; is_item = (told.0, told.1); appended = (fault_text id fault, refl, refl); handed = h.1; holds = h.2; lawful = lawful ∙ and_false old.lawful }
+fault_listed limit id fault frame was old new mid w0 w1 (Err e) told text mark lawful hands failed =
+    let all = was ++ fault_text id fault in
+    let h = held_more old.printer mid was (fault_text id fault) told.2 text mark in
+    inr (of_item.Bad id fault, (told.0, told.1), (all, (fault_text id fault, refl, refl), subst (λ (x : List ℕ). Writes x w0 w1 (Err e)) h.1 failed))
+
+-- ---- what a feed took
+
+abbrev pub Takings : Printer → List ℕ → ℕ → (front piece : List ℕ) → Frames → (used : ℕ) → Option Outcome → Type 0
+Takings printer gathered limit front piece new used outcome = TakesOn (Awaits printer gathered) (Holds printer gathered) (λ (m : MessageTree) now. AppendsLines (message_lines m) gathered now) (λ now. Holds printer now []) limit front piece new used outcome
+
+-- up to a frame's end
+pub takes_frame : (limit other : ℕ) (front gathered piece : List ℕ) (printer : Printer) (new : Frames) (used : ℕ) (came : Option Outcome) (outcome : Outcome) → other ≡ limit → came ≡ Some outcome → Takings printer gathered other front piece new used came
+    → TakesFrame limit front gathered piece printer new used outcome
+takes_frame limit other front gathered piece printer new used came outcome e is t =
+    subst (λ (n : ℕ). Takings printer gathered n front piece new used (Some outcome)) e (subst (λ (o : Option Outcome). Takings printer gathered other front piece new used o) is t)
+
+-- without an outcome, the whole piece
+pub takes_none : (limit : ℕ) (front gathered piece : List ℕ) (printer : Printer) (new : Frames) (used : ℕ) (came : Option Outcome) → limit_of new ≡ limit → ((x : Outcome) → came ≡ Some x → ⊥) → Takings printer gathered limit front piece new used came
+    → ComesTo (Awaits printer gathered) (Holds printer gathered) new (front ++ piece)
+takes_none limit front gathered piece printer new used None e none t = (subst (λ (n : ℕ). Takings printer gathered n front piece new used None) (sym e) t).1
+takes_none limit front gathered piece printer new used (Some outcome) e none t = absurd (none outcome refl)
+
+-- the mark is in the text
+pub frame_within : (limit : ℕ) (front gathered piece : List ℕ) (printer : Printer) (new : Frames) (used : ℕ) (outcome : Outcome) → TakesFrame limit front gathered piece printer new used outcome → printer.mark ≤ length printer.text
+frame_within limit front gathered piece printer new used Whole t = t.2.4.0
+frame_within limit front gathered piece printer new used (Bad id fault) t = t.2.2.0
+
+pub piece_within : (gathered front : List ℕ) (printer : Printer) (frames : Frames) → ComesTo (Awaits printer gathered) (Holds printer gathered) frames front → printer.mark ≤ length printer.text
+piece_within gathered front printer frames comes = elim (tree_told (Awaits printer gathered) (Holds printer gathered) frames front comes).1 [ inl m ↦ m.0 | inr m ↦ m.0 ]
+
+-- no write failed
+pub lists_failures : (limit : ℕ) (frame was : List ℕ) (old new : Lister) (w0 w1 : SinkLog) → Lists limit frame was old new w0 w1 → w1.failures ≡ w0.failures
+lists_failures limit frame was old new w0 w1 lists = same_failures w0 w1 lists.handed.0 lists.handed.2
 
 -- ---- the end
 
--- what the decoder tells of the end
-abbrev pub Told : DecoderState → End → Type 0
-Told decoder end = ((front : List ℕ) → Stands decoder front → Ends front end) × (IsBroken decoder → end ≡ at_end.Broken)
+-- what the engine returns at the end
+abbrev pub ToldEnd : Frames → End → Type 0
+ToldEnd frames end = ((front : List ℕ) → IsFrontOf frames front → Ends front end) × (IsBroken frames → end ≡ at_end.Broken)
 
-ended : (limit : ℕ) (bytes : List ℕ) (old now : SinkLog) (lister : Lister) (end : End) → Finishes limit bytes old now lister → Told lister.decoder end
-    → (front : List ℕ) × ListedSoFar limit bytes front old now lister × Ends front end
-ended limit bytes old now lister end finishes told = elim finishes [
-  | inl goes ↦ (goes.0, goes.1, told.0 goes.0 goes.2)
-  | inr broken ↦ (broken.0, broken.1, subst (λ (e : End). Ends broken.0 e) (sym (told.1 broken.3)) broken.2)
+-- what the printer has once an unfinished message is given up
+abbrev pub GivesUp : Printer → Printer → Type 0
+GivesUp old new = (was : List ℕ) (t : List Begun) → (Awaits old was t) ⊎ (Holds old was t) → Holds new was []
+
+-- A front of a frame ends the stream.
+record Ended (limit : ℕ) (bytes : List ℕ) (old now : SinkLog) (lister : Lister) (printer : Printer) (end : End) : Type 0 where
+  front : List ℕ
+  gathered : List ℕ
+  listed : ListedSoFar limit bytes front gathered old now lister
+  ends : Ends front end
+  holds : Holds printer gathered []
+
+ended : (limit : ℕ) (bytes : List ℕ) (old now : SinkLog) (lister : Lister) (printer : Printer) (end : End) → Finishes limit bytes old now lister → ToldEnd lister.frames end → GivesUp lister.printer printer
+    → Ended limit bytes old now lister printer end
+ended limit bytes old now lister printer end finishes told gives_up = elim finishes [
+  | inl goes ↦ (
+      let g = goes.1 in
+      let t = tree_told (Awaits lister.printer goes.0) (Holds lister.printer goes.0) lister.frames g.front g.comes in
+      record {
+        front = g.front;
+        gathered = goes.0;
+        listed = g.listed;
+        ends = told.0 g.front (front_of (Awaits lister.printer goes.0) (Holds lister.printer goes.0) lister.frames g.front g.comes);
+        holds = gives_up goes.0 t.0 t.1;
+      })
+  | inr broken ↦ record {
+    front = broken.front;
+    gathered = broken.gathered;
+    listed = broken.listed;
+    ends = subst (λ (e : End). Ends broken.front e) (sym (told.1 broken.broken)) broken.breaks;
+    holds = gives_up broken.gathered [] (inr broken.holds);
+  }
 ]
 
--- the end's line was written behind all that was kept
-pub end_listed : (limit : ℕ) (bytes text : List ℕ) (old now after : SinkLog) (lister : Lister) (end : End) (verdict : Verdict) → Finishes limit bytes old now lister → Told lister.decoder end
-    → text ≡ lister.text.items ++ end_text end → Wrote now after text → verdict ≡ verdict_of (lister.lawful && is_clean end) → Listed limit bytes old after verdict
-unfolding is_lawful
-end_listed limit bytes text old now after lister end verdict finishes told grown written verdict_is =
-    let e = ended limit bytes old now lister end finishes told in
-    let so = e.1 in
-    record {
-      items = so.items;
-      end = end;
-      text = so.sent ++ text;
-      are = (items_grow limit).at_the_end bytes so.items e.0 end so.so_far e.2;
-      is = record { front = so.sent ++ lister.text.items; lines = so.texts; text_is = ap (λ (x : List ℕ). so.sent ++ x) grown ∙ sym (append_assoc so.sent lister.text.items (end_text end)) };
-      written = wrote_more old now after so.sent text so.log written;
-      verdict_is = verdict_is ∙ ap (λ (b : Bool). verdict_of (b && is_clean end)) so.lawful_is;
-    }
+module _ (limit : ℕ) (bytes : List ℕ) (old now : SinkLog) (lister : Lister) (given : Printer) (end : End) (finishes : Finishes limit bytes old now lister) (told : ToldEnd lister.frames end) (gives_up : GivesUp lister.printer given) where
+  -- the end's line was not gathered
+  pub end_not_gathered : Stopped limit bytes old now Memory
+  end_not_gathered =
+      let e = ended limit bytes old now lister given end finishes told gives_up in
+      let so = e.listed in
+      record {
+        front = so.sent;
+        begins = subst (λ (x : List ℕ). BeginsListing limit x so.sent) (append-nil bytes) (begins_so_far limit bytes [] e.front (so.sent ++ e.gathered) so.sent so.items so.so_far so.texts (e.gathered, refl));
+        log = so.log;
+      }
 
--- the end's line was not gathered
-pub end_not_gathered : (limit : ℕ) (bytes : List ℕ) (old now : SinkLog) (lister : Lister) (end : End) → Finishes limit bytes old now lister → Told lister.decoder end → Stopped limit bytes old now Memory
-end_not_gathered limit bytes old now lister end finishes told =
-    let e = ended limit bytes old now lister end finishes told in
-    let so = e.1 in
-    record {
-      front = so.sent;
-      begins = subst (λ (x : List ℕ). BeginsListing limit x so.sent) (append-nil bytes) (begins_so_far limit bytes [] e.0 (so.sent ++ lister.text.items) so.sent so.items so.so_far so.texts (lister.text.items, refl));
-      log = so.log;
-    }
+  module _ (last : Printer) (grown : last.text ≡ given.text ++ end_text end) (mark : last.mark ≡ length last.text) where
+    -- the text up to the end's line
+    all_text : (e : Ended limit bytes old now lister given end) → take last.mark last.text ≡ e.gathered ++ end_text end
+    all_text e = take_all last.mark last.text (omega (arith, mark)) ∙ grown ∙ ap (λ (x : List ℕ). x ++ end_text end) (all_held given e.gathered e.holds)
 
--- the end's line was gathered, and a write failed
-pub end_stopped : (limit : ℕ) (bytes text : List ℕ) (old now after : SinkLog) (lister : Lister) (end : End) (e : ToolErr) → Finishes limit bytes old now lister → Told lister.decoder end
-    → text ≡ lister.text.items ++ end_text end → Writes text now after (Err e) → Stopped limit bytes old after e
-end_stopped limit bytes text old now after lister end e finishes told grown failed =
-    let d = ended limit bytes old now lister end finishes told in
-    let so = d.1 in
-    let items : Items limit bytes so.items end = (items_grow limit).at_the_end bytes so.items d.0 end so.so_far d.2 in
-    let listing : IsStreamListing so.items end (so.sent ++ text) = record { front = so.sent ++ lister.text.items; lines = so.texts; text_is = ap (λ (x : List ℕ). so.sent ++ x) grown ∙ sym (append_assoc so.sent lister.text.items (end_text end)) } in
-    write_stopped limit bytes so.sent text old now after e so.log
-    (λ part is others last whole all other.
-    let same = same_items limit bytes so.items others end last items all in
-    let text_same : so.sent ++ text ≡ whole = one_stream_listing so.items end (so.sent ++ text) whole listing (subst (λ (e : End). IsStreamListing so.items e whole) same.1 (subst (λ (xs : List Item). IsStreamListing xs last whole) same.0 other)) in
-    (is.0, sym text_same ∙ is.1))
-    failed
+    -- the end's line was written after all that was gathered
+    pub end_listed : (after : SinkLog) (verdict : Verdict) → Wrote now after (take last.mark last.text) → verdict ≡ verdict_of (lister.lawful && is_clean end) → Listed limit bytes old after verdict
+    unfolding is_lawful
+    end_listed after verdict written verdict_is =
+        let e = ended limit bytes old now lister given end finishes told gives_up in
+        let so = e.listed in
+        let text : List ℕ = take last.mark last.text in
+        record {
+          items = so.items;
+          end = end;
+          text = so.sent ++ text;
+          are = (items_grow limit).at_the_end bytes so.items e.front end so.so_far e.ends;
+          is = record { front = so.sent ++ e.gathered; lines = so.texts; text_is = ap (λ (x : List ℕ). so.sent ++ x) (all_text e) ∙ sym (append_assoc so.sent e.gathered (end_text end)) };
+          written = wrote_more old now after so.sent text so.log written;
+          verdict_is = verdict_is ∙ ap (λ (b : Bool). verdict_of (b && is_clean end)) so.lawful_is;
+        }
+
+    -- the end's line was gathered, and a write failed
+    pub end_stopped : (after : SinkLog) (error : ToolErr) → Writes (take last.mark last.text) now after (Err error) → Stopped limit bytes old after error
+    end_stopped after error failed =
+        let d = ended limit bytes old now lister given end finishes told gives_up in
+        let so = d.listed in
+        let text : List ℕ = take last.mark last.text in
+        let items : Items limit bytes so.items end = (items_grow limit).at_the_end bytes so.items d.front end so.so_far d.ends in
+        let listing : IsStreamListing so.items end (so.sent ++ text) = record { front = so.sent ++ d.gathered; lines = so.texts; text_is = ap (λ (x : List ℕ). so.sent ++ x) (all_text d) ∙ sym (append_assoc so.sent d.gathered (end_text end)) } in
+        write_stopped limit bytes so.sent text old now after error so.log
+        (λ part is others other_end whole all other.
+        let same = same_items limit bytes so.items others end other_end items all in
+        let text_same : so.sent ++ text ≡ whole = one_stream_listing so.items end (so.sent ++ text) whole listing (subst (λ (e : End). IsStreamListing so.items e whole) same.1 (subst (λ (xs : List Item). IsStreamListing xs other_end whole) same.0 other)) in
+        (is.0, sym text_same ∙ is.1))
+        failed
 
 -- ---- while it reads
 
 -- the text of each frame that is whole in what was read was written
-pub frames_written : (limit : ℕ) (bytes : List ℕ) (old now : SinkLog) (lister : Lister) → GoesOn limit bytes old now lister → KeepsNothing lister → WroteFrames limit bytes old now
-frames_written limit bytes old now lister goes empty =
-    let so = goes.1 in
-    let texts : AreItemTexts so.items so.sent = subst (AreItemTexts so.items) (ap (λ (x : List ℕ). so.sent ++ x) empty ∙ append-nil so.sent) so.texts in
+pub frames_written : (limit : ℕ) (bytes : List ℕ) (old now : SinkLog) (lister : Lister) → GoesOn limit bytes [] old now lister → WroteFrames limit bytes old now
+frames_written limit bytes old now lister goes =
+    let so = goes.listed in
+    let texts : AreItemTexts so.items so.sent = subst (AreItemTexts so.items) (append-nil so.sent) so.texts in
     record {
       items = so.items;
-      front = goes.0;
+      front = goes.front;
       text = so.sent;
       are = so.so_far;
-      unfinished = goes.2.unfinished;
+      unfinished = comes_partial (Awaits lister.printer []) (Holds lister.printer []) lister.frames goes.front goes.comes;
       lines = texts;
       written = so.log;
-      begins = subst (λ (x : List ℕ). BeginsListing limit x so.sent) (append-nil bytes) (begins_so_far limit bytes [] goes.0 so.sent so.sent so.items so.so_far texts ([], sym (append-nil so.sent)));
+      begins = subst (λ (x : List ℕ). BeginsListing limit x so.sent) (append-nil bytes) (begins_so_far limit bytes [] goes.front so.sent so.sent so.items so.so_far texts ([], sym (append-nil so.sent)));
     }
 
 -- ---- a piece, as far as it has come
@@ -300,32 +462,21 @@ pub further : (done rest piece after : List ℕ) (used : ℕ) → piece ≡ done
 further done rest piece after used e d =
     e ∙ ap (λ (x : List ℕ). done ++ x) (sym (take-append-drop used rest)) ∙ sym (append_assoc done (take used rest) (drop used rest)) ∙ ap (λ (x : List ℕ). (done ++ take used rest) ++ x) (sym d)
 
--- where there is no item, the whole piece was taken
-pub takes_none : (limit : ℕ) (front piece : List ℕ) (decoder : DecoderState) (used : ℕ) (item : Option Item) → ((x : Item) → item ≡ Some x → ⊥) → Takes limit front piece decoder used item → Takes limit front piece decoder used None
-takes_none limit front piece decoder used None none takes = takes
-takes_none limit front piece decoder used (Some item) none takes = absurd (none item refl)
-
 -- a piece stopped listing, as a part of a longer one
 pub stopped_there : (limit : ℕ) (bytes done rest piece : List ℕ) (old after : SinkLog) (e : ToolErr) → piece ≡ done ++ rest → Stopped limit ((bytes ++ done) ++ rest) old after e → Stopped limit (bytes ++ piece) old after e
 stopped_there limit bytes done rest piece old after e parts stopped = subst (λ (x : List ℕ). Stopped limit x old after e) (as_far bytes done rest piece parts) stopped
-
--- an item's text was gathered, and handed on or not
-pub lists_handed : (item : Item) (old new : Lister) (text : List ℕ) (w0 w1 : SinkLog) (message : Bool) (answer : Result (Unit {0}) ToolErr) → AppendsItem item old.text.items text → message ≡ is_message item
-    → OnOk answer (HandsOn text new.text.items w0 w1) → IfErr answer (λ e. Writes text w0 w1 answer) → new.lawful ≡ (old.lawful && message) → new.decoder ≡ old.decoder → Lists item old new w0 w1 answer
-lists_handed item old new text w0 w1 message (Ok u) appends is handed failed lawful same = (text, appends, handed, lawful ∙ ap (λ (b : Bool). old.lawful && b) is, same)
-lists_handed item old new text w0 w1 message (Err e) appends is handed failed lawful same = inr (text, appends, failed)
 
 -- ---- a command
 
 -- after a piece all may be finished
 pub fed_finishes : (limit : ℕ) (bytes : List ℕ) (old now : SinkLog) (lister : Lister) (goes_on : Bool) → Feeds limit bytes old now lister (Ok goes_on) → Finishes limit bytes old now lister
-fed_finishes limit bytes old now lister true fed = inl fed.0
+fed_finishes limit bytes old now lister true fed = inl ([], fed)
 fed_finishes limit bytes old now lister false fed = inr fed
 
 pub finishes_failures : (limit : ℕ) (bytes : List ℕ) (old now : SinkLog) (lister : Lister) → Finishes limit bytes old now lister → now.failures ≡ old.failures
 finishes_failures limit bytes old now lister finishes = elim finishes [
-  | inl goes ↦ same_failures old now goes.1.sent goes.1.log
-  | inr broken ↦ same_failures old now broken.1.sent broken.1.log
+  | inl goes ↦ same_failures old now goes.1.listed.sent goes.1.listed.log
+  | inr broken ↦ same_failures old now broken.listed.sent broken.listed.log
 ]
 
 stopped_reading : (limit : ℕ) (r0 r1 : SourceLog) (w0 w1 : SinkLog) (bytes : List ℕ) (e : ToolErr) → WasRead r0 r1 bytes → Stopped limit bytes w0 w1 e → ShowStopped limit r0 r1 w0 w1 e

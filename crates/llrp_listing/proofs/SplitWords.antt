@@ -1,4 +1,4 @@
--- The words of a line, and what stands before a first byte of a kind.
+-- The words of a line, and what comes before a first byte of a kind.
 use Rattle.std.proofs.Common.{◌≡◌, ℕ, suc, ◌^◌, ◌<◌, ◌≤◌, Bool, true, false, List, [], ◌∷◌, ◌++◌, Option, Some, None, refl, sym, ap, subst, ◌∙◌, arith, decimal, ℤ, pos, negsuc}
 use Rattle.std.specs.Prelude.{◌==◌, ◌&&◌, FitsSigned, MatchOption}
 use Rattle.std.specs.Char.{is_ascii_digit}
@@ -27,16 +27,16 @@ at_none (Some a) P Q e p = cc
 
 -- ---- bytes before the first of a kind
 
--- a byte that stands there isn't lacked
+-- a byte that is there isn't lacked
 lacks_all : (byte : ℕ) (w rest : List ℕ) → Lacks byte (w ++ (byte ∷ rest)) → ⊥
 lacks_all byte [] rest h = let t : (byte == byte) ≡ true = eq-eqb byte byte refl in let f = h.0 in cc
 lacks_all byte (c ∷ w) rest h = lacks_all byte w rest h.1
 
--- a byte that is lacked stands nowhere
+-- a byte that is lacked is nowhere
 pub lacks_not : (byte : ℕ) (bytes w rest : List ℕ) → Lacks byte bytes → bytes ≡ w ++ (byte ∷ rest) → ⊥
 lacks_not byte bytes w rest h e = lacks_all byte w rest (subst (λ (z : List ℕ). Lacks byte z) e h)
 
--- the first such byte stands at one place
+-- the first such byte is at one place
 pub one_split : (byte : ℕ) (a b x y : List ℕ) → Lacks byte a → Lacks byte b → a ++ (byte ∷ x) ≡ b ++ (byte ∷ y) → (a ≡ b) × (x ≡ y)
 one_split byte [] [] x y h k e = (refl, cc)
 one_split byte [] (d ∷ b) x y h k e = let t : (d == byte) ≡ true = eq-eqb d byte cc in let f = k.0 in cc
@@ -80,7 +80,7 @@ no_number w n none lt e = let some : numeral w ≡ Some n = ap numeral e ∙ num
 pub that_number : (w : List ℕ) (m n : ℕ) → Some m ≡ numeral w → n < 2 ^ 64 → w ≡ decimal n → m ≡ n
 that_number w m n some lt e = let same : numeral w ≡ Some n = ap numeral e ∙ numeral_back n (omega arith) in cc
 
--- behind - stands the number's magnitude
+-- after - comes the number's magnitude
 pub behind_sign : (digits : List ℕ) (z : ℤ) → FitsSigned w8 z → 45 ∷ digits ≡ signed_decimal z → (n : ℕ) × (z ≡ negsuc n) × (n < 128) × (digits ≡ decimal (suc n))
 behind_sign digits (pos n) f e = let t = f.sfits in absurd (no_sign n digits (omega (arith, t)) e)
   where

@@ -1,5 +1,5 @@
 -- What the words of tails say.
-use Rattle.std.proofs.Common.{◌≡◌, ℕ, zero, suc, ◌+◌, ◌-◌, ◌*◌, ◌/◌, ◌%◌, ◌^◌, ◌<◌, ◌≤◌, inl, inr, Bool, true, false, cond, List, [], ◌∷◌, ◌++◌, map, length, get_or, drop, Result, Ok, Err, refl, sym, ap, subst, ◌∙◌, arith, decimal, append_assoc, length-append}
+use Rattle.std.proofs.Common.{◌≡◌, ℕ, zero, suc, ◌+◌, ◌-◌, ◌*◌, ◌/◌, ◌%◌, ◌^◌, ◌<◌, ◌≤◌, inl, inr, Bool, true, false, cond, List, [], ◌∷◌, ◌++◌, map, length, get_or, Result, Ok, Err, refl, sym, ap, subst, ◌∙◌, arith, decimal, append_assoc, length-append}
 use Rattle.std.specs.Prelude.{nat_le, nat_lt, ◌==◌, ◌&&◌, ◌||◌, not}
 use Rattle.std.specs.Char.{is_ascii_digit}
 use Rattle.std.specs.List.{slice_split, join_with_byte}
@@ -191,32 +191,12 @@ word_refused list octets rest w more r split some bad tail is = on (words_of tai
         let o = one_of (n ∷ ns) (map decimal (words_of octets)) more w h parts in
         bad o.0 o.1 o.2
 
--- an empty list is that of no octets
-pub no_words : (list : List ℕ) → length list ≡ 0 → IsWordList list []
-no_words [] h = ((tt, (0, refl)), refl)
-no_words (b ∷ list) h = absurd (omega arith)
-
 -- ---- what stops
 
 -- a word that is none stops a list
 pub list_stops : (list octets rest w : List ℕ) (more : List (List ℕ)) (e : LineErr) → WordsRead list octets rest → slice_split (λ b. b == 44) rest ≡ w ∷ more → 0 < length list → IsNoWord w e → IsNoTail (IsWordList list) e
 list_stops list octets rest w more Memory r split some bad = tt
 list_stops list octets rest w more (Refused reason) r split some bad = (bad.0, word_refused list octets rest w more r split some bad.1)
-
--- the word of a tail begins with its letter
-pub words_of_list : (w list tail : List ℕ) → w ≡ 119 ∷ list → IsWordList list tail → IsTailWord Words w tail
-words_of_list w list tail is h = (h.0, ap (λ (z : List ℕ). (119 ∷ z) ∷ []) (sym h.1) ∙ ap (λ (z : List ℕ). z ∷ []) (sym is))
-
-pub octets_of_digits : (w digits tail : List ℕ) → w ≡ 120 ∷ digits → AreDigitsOf digits tail → IsTailWord Text w tail
-octets_of_digits w digits tail is h = (h.0, ap (λ (z : List ℕ). (120 ∷ z) ∷ []) (sym h.1) ∙ ap (λ (z : List ℕ). z ∷ []) (sym is))
-
-pub no_words_of : (w list : List ℕ) (e : LineErr) → w ≡ 119 ∷ list → IsNoTail (IsWordList list) e → IsNoTail (IsTailWord Words w) e
-no_words_of w list Memory is h = tt
-no_words_of w list (Refused reason) is h = (h.0, λ tail t. h.1 tail (t.0, (let e : 119 ∷ join_with_byte 44 (map decimal (words_of tail)) ≡ 119 ∷ list = ap (λ (z : List (List ℕ)). get_or z 0 []) t.1 ∙ is in sym (ap (drop 1) e))))
-
-pub no_octets_of : (w digits : List ℕ) (e : LineErr) → w ≡ 120 ∷ digits → IsNoTail (AreDigitsOf digits) e → IsNoTail (IsTailWord Text w) e
-no_octets_of w digits Memory is h = tt
-no_octets_of w digits (Refused reason) is h = (h.0, λ tail t. h.1 tail (t.0, (let e : 120 ∷ encode_lower tail ≡ 120 ∷ digits = ap (λ (z : List (List ℕ)). get_or z 0 []) t.1 ∙ is in sym (ap (drop 1) e))))
 
 pub no_letter_w : (w : List ℕ) → ((list : List ℕ) → w ≡ 119 ∷ list → ⊥) → IsNoTail (IsTailWord Words w) (Refused refusal.Tail)
 no_letter_w w other = (refl, λ tail t. other (join_with_byte 44 (map decimal (words_of tail))) (sym (ap (λ (z : List (List ℕ)). get_or z 0 []) t.1)))

@@ -14,13 +14,6 @@ pub grown_by_five : (t t1 t2 t3 t4 t5 a b c d e : List ℕ) → t1 ≡ t ++ a �
     → t5 ≡ t ++ (a ++ (b ++ (c ++ (d ++ e))))
 grown_by_five t t1 t2 t3 t4 t5 a b c d e p q r s u = grown_thrice t t1 t2 t5 a b (c ++ (d ++ e)) p q (grown_thrice t2 t3 t4 t5 c d e r s u)
 
--- by seven parts
-pub grown_by_seven : (t t1 t2 t3 t4 t5 t6 t7 a b c d e f g : List ℕ) → t1 ≡ t ++ a → t2 ≡ t1 ++ b → t3 ≡ t2 ++ c → t4 ≡ t3 ++ d → t5 ≡ t4 ++ e → t6 ≡ t5 ++ f → t7 ≡ t6 ++ g
-    → t7 ≡ t ++ (a ++ (b ++ (c ++ (d ++ (e ++ (f ++ g))))))
-grown_by_seven t t1 t2 t3 t4 t5 t6 t7 a b c d e f g p q r s u v w =
-    grown_thrice t t1 t2 t7 a b (c ++ (d ++ (e ++ (f ++ g)))) p q
-    (grown_thrice t2 t3 t4 t7 c d (e ++ (f ++ g)) r s (grown_thrice t4 t5 t6 t7 e f g u v w))
-
 -- a part that is another's text
 pub with_part : (old new a b : List ℕ) → new ≡ old ++ a → a ≡ b → new ≡ old ++ b
 with_part old new a b p e = p ∙ ap (λ (x : List ℕ). old ++ x) e

@@ -39,10 +39,6 @@ add_all_more : (f : tree.Forest) (ts : List tree.Tree) (t : tree.Tree) → tree.
 add_all_more f [] t = refl
 add_all_more f (u ∷ ts) t = add_all_more (tree.add f u) ts t
 
--- one parameter more brings its lines
-pub lines_more : (ts : List tree.Tree) (t : tree.Tree) → lines_below (ts ++ (t ∷ [])) ≡ join (lines_below ts) (lines_below (t ∷ []))
-lines_more ts t = ap (λ (f : tree.Forest). lines_onto f end) (add_all_more tree.none ts t) ∙ lines_join (tree.forest ts) end (lines_below (t ∷ []))
-
 pub row_more : (ms : List MessageTree) (m : MessageTree) → row (ms ++ (m ∷ [])) ≡ join (row ms) (row (m ∷ []))
 row_more [] m = refl
 row_more (n ∷ ms) m = ap (node (message_line n) (lines_onto n.children end)) (row_more ms m)

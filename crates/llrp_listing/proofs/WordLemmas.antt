@@ -19,7 +19,7 @@ module _ (p : ℕ → Bool) where
 pub one_word : (line : List ℕ) → position_or_len (λ b. b == 32) line ≡ length line → words line ≡ line ∷ []
 one_word line h = alone (λ b. b == 32) line h
 
--- the first word stands before the first space
+-- the first word is before the first space
 pub first_word : (line first rest : List ℕ) → (first ≡ before_first (λ b. b == 32) line) × (rest ≡ after_first (λ b. b == 32) line) × (position_or_len (λ b. b == 32) line < length line) → words line ≡ first ∷ words rest
 first_word line first rest h = rw (h.0, h.1) (slice_split_first (λ b. b == 32) line 0 h.2)
 

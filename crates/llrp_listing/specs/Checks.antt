@@ -1,12 +1,12 @@
 -- Checks that are made in order.
 use Rattle.std.specs.Prelude.{◌≡◌, ◌⊎◌, List, [], ◌∷◌}
 
--- a check, and which reason is told where it fails
+-- a check, and the reason that is given where it fails
 pub record Check (R : Type 0) : Type 1 where
   pub Holds : Type 0
   pub Tells : R → Type 0
 
--- a check for which one reason is told
+-- a check for which one reason is given
 abbrev pub check : {R : Type 0} → Type 0 → R → Check R
 check Holds reason = record { Holds = Holds; Tells = λ told. told ≡ reason }
 

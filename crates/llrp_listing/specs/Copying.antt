@@ -17,7 +17,7 @@ pub record ReadAll (old new : SourceLog) (bytes : List ℕ) : Type 0 where
   pub bytes_are : Consumes old.left new.left bytes
   pub all : IsAtEnd new.left
 
--- at most so many reads gave these bytes
+-- at most this many reads gave these bytes
 abbrev pub WasGiven : SourceLog → SourceLog → List ℕ → Type 0
 WasGiven old new bytes = (n : ℕ) × (n ≤ MOST_READS) × Gave old new n bytes
 

@@ -3,13 +3,13 @@ use Rattle.std.specs.Prelude.{◌≡◌, ℕ, suc, ◌≤◌, List, [], ◌∷�
 use Rattle.std.specs.List.{AllZip}
 use Rattle.llrp_listing.specs.OpenText.{Forest, end, node, nodes, Begun, OpenText, covers}
 
--- What a line says, a level and a head; why a line is refused by itself where so many lines are open; why a node can't be closed.
+-- What a line says, a level and a head; why a line is refused by itself where this many lines are open; why a node can't be closed.
 pub record Rules (H X R : Type 0) : Type 1 where
   pub Says : X → ℕ × H → Type 0
   pub Refuses : ℕ → X → R → Type 0
   pub closing : H → Forest H → Option R
 
--- each line, where so many lines are open, says one thing of a level that they allow, or is refused for one reason
+-- each line, where this many lines are open, says one thing of a level that they allow, or is refused for one reason
 pub record AreClear {H X R : Type 0} (rules : Rules H X R) : Type 0 where
   pub one_said : (x : X) (e f : ℕ × H) → rules.Says x e → rules.Says x f → e ≡ f
   pub one_reason : (d : ℕ) (x : X) (a b : R) → rules.Refuses d x a → rules.Refuses d x b → a ≡ b

@@ -1,7 +1,7 @@
 -- Bytes as hexadecimal digits.
 use Rattle.std.specs.Prelude.{◌≡◌, ℕ, ◌+◌, ◌*◌, ◌<◌, ◌≤◌, ◌⊎◌, ◌==◌, ◌||◌, not, Bool, List, [], ◌∷◌, filter}
 
--- space, tab, LF and CR may stand anywhere
+-- space, tab, LF and CR may be anywhere
 abbrev pub is_space : ℕ → Bool
 is_space byte = byte == 32 || (byte == 9 || (byte == 10 || byte == 13))
 

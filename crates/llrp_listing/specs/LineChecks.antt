@@ -31,7 +31,7 @@ word ws place = get_or ws place []
 
 -- ---- what a line says
 
--- a message stands at level 0, a parameter below one
+-- a message is at level 0, a parameter below one
 abbrev pub IsPlaced : ℕ → Kind → Type 0
 IsPlaced level (Message kind) = level ≡ 0
 IsPlaced level (Parameter kind) = 1 ≤ level
@@ -51,14 +51,14 @@ AreInForm [] (n ∷ ns) = ⊥
 AreInForm (f ∷ fs) [] = ⊥
 AreInForm (f ∷ fs) (n ∷ ns) = IsInForm f n × AreInForm fs ns
 
--- octets that a word can stand for, two for each word of 16 bits
+-- octets that a word can mean, two for each word of 16 bits
 abbrev pub IsTailOf : Tail → List ℕ → Type 0
 IsTailOf Absent tail = tail ≡ []
 IsTailOf Words tail = AreOctets tail × ((n : ℕ) × (length tail ≡ 2 * n))
 IsTailOf Text tail = AreOctets tail
 IsTailOf Bits tail = AreOctets tail
 
--- The bytes, with the LF behind them, are the text of a line at this level.
+-- The bytes, with the LF after them, are the text of a line at this level.
 pub record SaysNode (bytes : List ℕ) (level : ℕ) (line : NodeLine) : Type 0 where
   pub short : length bytes ≤ LONGEST_LINE
   pub deep : level ≤ MAX_DEPTH
@@ -86,7 +86,7 @@ IsNamed ws (Parameter kind) = (word ws 0 ≢ decimal 0) × (word ws 1 ≡ name_o
 abbrev pub HasName : List (List ℕ) → Type 0
 HasName ws = (kind : Kind) × IsNamed ws kind
 
--- the checks up to the name, where so many lines are open
+-- the checks up to the name, where this many lines are open
 abbrev pub start_checks : ℕ → List ℕ → List (Check Refusal)
 start_checks depth bytes =
     check ((length bytes ≤ LONGEST_LINE) × IsTrue (is_printed bytes)) refusal.Line
@@ -113,7 +113,7 @@ HasNumber form w = (n : ℕ) × IsInForm form n × IsNumberText form n w
 abbrev pub TellsEpc : List ℕ → Refusal → Type 0
 TellsEpc w reason = (fault : UriFault) × (reason ≡ refusal.Epc fault) × HasFault w fault
 
--- what is told of a word that is no number of the form
+-- the reason that is given for a word that is no number of the form
 abbrev pub TellsNumber : NumberForm → List ℕ → Refusal → Type 0
 TellsNumber Version w reason = reason ≡ refusal.Number
 TellsNumber Id w reason = reason ≡ refusal.Number
@@ -121,7 +121,7 @@ TellsNumber Unsigned w reason = reason ≡ refusal.Number
 TellsNumber Signed w reason = reason ≡ refusal.Number
 TellsNumber Epc w reason = TellsEpc w reason
 
--- what is read of the word of a number: the number, or what is told of the word
+-- what is read of the word of a number: the number, or the reason that is given for the word
 abbrev pub ReadsNumber : NumberForm → List ℕ → Result ℕ Refusal → Type 0
 ReadsNumber form w (Ok n) = IsInForm form n × IsNumberText form n w
 ReadsNumber form w (Err reason) = (¬ HasNumber form w) × TellsNumber form w reason
@@ -141,18 +141,18 @@ body_checks [] form ws = tail_checks form ws
 body_checks (f ∷ fs) form [] = []
 body_checks (f ∷ fs) form (w ∷ ws) = record { Holds = HasNumber f w; Tells = TellsNumber f w } ∷ body_checks fs form ws
 
--- the checks behind the name
+-- the checks after the name
 abbrev pub kind_checks : Kind → List (List ℕ) → List (Check Refusal)
 kind_checks kind ws = check (length ws ≡ word_count kind) refusal.Fields ∷ body_checks (number_forms kind) (tail_of kind) (drop 2 ws)
 
--- The line passes the checks up to the name, and fails one behind it.
+-- The line passes the checks up to the name, and fails one after it.
 pub record RefusesBody (depth : ℕ) (bytes : List ℕ) (reason : Refusal) : Type 0 where
   pub starts : AllHold (start_checks depth bytes)
   pub kind : Kind
   pub named : IsNamed (words bytes) kind
   pub fails : FirstFailing (kind_checks kind (words bytes)) reason
 
--- the line is refused by itself, where so many lines are open
+-- the line is refused by itself, where this many lines are open
 abbrev pub RefusesLineItself : ℕ → TextLine → Refusal → Type 0
 RefusesLineItself depth (Ended bytes) reason = FirstFailing (start_checks depth bytes) reason ⊎ RefusesBody depth bytes reason
 RefusesLineItself depth (Unended bytes) reason = reason ≡ refusal.Line

@@ -79,7 +79,7 @@ ReadsFields forms ws old new (Err reason) = (tail : Tail) → FirstFailing (body
 
 -- ---- tails
 
--- the list is that of the words that the octets make, and so many octets make words
+-- the list is that of the words that the octets make, and this many octets make words
 abbrev pub IsWordList : List ℕ → List ℕ → Type 0
 IsWordList list tail = IsTailOf Words tail × (list ≡ join_with_byte 44 (map decimal (words_of tail)))
 
@@ -114,7 +114,7 @@ abbrev pub IsNoWord : List ℕ → LineErr → Type 0
 IsNoWord w Memory = Unit {0}
 IsNoWord w (Refused reason) = (reason ≡ refusal.Tail) × ((n : ℕ) → n < 2 ^ 16 → w ≡ decimal n → ⊥)
 
--- what is read of the words behind the numbers
+-- what is read of the words after the numbers
 abbrev pub ReadsRest : Tail → List (List ℕ) → Result (List ℕ) LineErr → Type 0
 ReadsRest form ws (Ok tail) = IsTailOf form tail × (ws ≡ tail_texts form tail)
 ReadsRest form ws (Err Memory) = Unit {0}
@@ -122,7 +122,7 @@ ReadsRest form ws (Err (Refused reason)) = FirstFailing (tail_checks form ws) re
 
 -- ---- lines
 
--- what stands on the line of a message or of a parameter
+-- what is on the line of a message or of a parameter
 abbrev pub message_node : MessageLine → NodeLine
 message_node line = record { kind = Message line.kind; numbers = line.version ∷ line.id ∷ line.fields.items; tail = [] }
 
@@ -145,7 +145,7 @@ ReadsParameter level kind ws (Ok line) = IsParameterRead level kind ws line
 ReadsParameter level kind ws (Err Memory) = Unit {0}
 ReadsParameter level kind ws (Err (Refused reason)) = FirstFailing (body_checks (number_forms (Parameter kind)) (tail_of (Parameter kind)) ws) reason
 
--- what a line says, and that so many open lines allow its level
+-- what a line says, and that this many open lines allow its level
 abbrev pub SaidIs : ℕ → List ℕ → Line → Type 0
 SaidIs depth bytes (said.Message line) = SaysNode bytes 0 (message_node line)
 SaidIs depth bytes (said.Parameter line) = SaysNode bytes line.level (parameter_node line) × (line.level ≤ depth)

@@ -23,7 +23,7 @@ abbrev pub onto : tree.Forest → Kind → List ℕ → List ℕ → tree.Forest
 onto before (Parameter kind) fields tail children = tree.and before kind fields tail children
 onto before (Message kind) fields tail children = before
 
--- the parameters of lines in a row, behind others
+-- the parameters of lines in a row, after others
 abbrev pub parameters_onto : tree.Forest → Forest NodeLine → tree.Forest
 parameters_onto before end = before
 parameters_onto before (node line below after) = parameters_onto (onto before line.kind line.numbers line.tail (parameters_onto tree.none below)) after
@@ -67,6 +67,6 @@ kind_closing limit (Message kind) numbers tail below =
 abbrev pub closing : ℕ → NodeLine → Forest NodeLine → Option Refusal
 closing limit line below = kind_closing limit line.kind line.numbers line.tail below
 
--- the rules of listings of messages of at most so many octets
+-- the rules of listings of messages of at most this many octets
 abbrev pub rules_for : ℕ → Rules NodeLine TextLine Refusal
 rules_for limit = record { Says = SaysLine; Refuses = RefusesLineItself; closing = closing limit }

@@ -4,13 +4,13 @@ use Rattle.std.specs.List.{flat_map, AllZip}
 use Rattle.llrp_tree.specs.Tree.{Forest, none, and, MessageTree}
 use Rattle.llrp_listing.specs.NodeLine.{NodeLine, message_line, parameter_line, IsLine}
 
--- the lines of parameters in a row that stand at a level, each before those of its children
+-- the lines of parameters in a row that are at a level, each before those of its children
 abbrev pub parameter_lines : ℕ → Forest → List (ℕ × NodeLine)
 parameter_lines level none = []
 parameter_lines level (and before kind fields tail children) =
     parameter_lines level before ++ ((level, parameter_line kind fields tail) ∷ parameter_lines (suc level) children)
 
--- the lines of a message, which stands at level 0
+-- the lines of a message, which is at level 0
 abbrev pub message_lines : MessageTree → List (ℕ × NodeLine)
 message_lines m = (0, message_line m) ∷ parameter_lines 1 m.children
 

@@ -11,7 +11,7 @@ use Rattle.llrp_schema.specs.Schema.{FieldRule, name_of, plain_fields_of, tail_o
 use Rattle.llrp_tree.specs.Tree.{MessageTree, words_of}
 use Rattle.tag_uri.specs.TagText.{IsTextOf}
 
--- What stands on one line: the kind, the numbers (a message's version and id, and then the plain fields), and the octets of a parameter's tail.
+-- What is on one line: the kind, the numbers (a message's version and id, and then the plain fields), and the octets of a parameter's tail.
 pub record NodeLine : Type 0 where
   pub kind : Kind
   pub numbers : List ℕ

@@ -6,7 +6,7 @@ pub data Forest (H : Type 0) : Type 0 where
   end : Forest H
   node : H → Forest H → Forest H → Forest H
 
--- the levels and heads of trees that stand at a level, in the order of their lines
+-- the levels and heads of trees that are at a level, in the order of their lines
 abbrev pub nodes : {H : Type 0} → ℕ → Forest H → List (ℕ × H)
 nodes level end = []
 nodes level (node head below after) = ((level, head) ∷ nodes (suc level) below) ++ nodes level after

@@ -33,7 +33,7 @@ module _ {H : Type 0} where
   abbrev pub close : OpenText H → OpenText H
   close o = close_in o.whole o.chain
 
-  -- so many closings
+  -- this many closings
   abbrev pub pop : ℕ → OpenText H → OpenText H
   pop zero o = o
   pop (suc n) o = pop n (close o)
@@ -41,7 +41,7 @@ module _ {H : Type 0} where
   abbrev pub depth : OpenText H → ℕ
   depth o = length o.chain
 
-  -- no more than so many lines stay open
+  -- no more than this many lines stay open
   abbrev pub cut : ℕ → OpenText H → OpenText H
   cut d o = pop (depth o - d) o
 

@@ -17,7 +17,7 @@ node_fault_name fault.Missing = codes "Missing"
 node_fault_name fault.TooDeep = codes "TooDeep"
 node_fault_name fault.TooLong = codes "TooLong"
 
--- the word for a refusal, and behind it that for the fault inside it
+-- the word for a refusal, and after it that for the fault inside it
 abbrev pub refusal_name : Refusal → List ℕ
 refusal_name refusal.Line = codes "Line"
 refusal_name refusal.Level = codes "Level"

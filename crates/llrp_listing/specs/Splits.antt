@@ -7,7 +7,7 @@ use Rattle.std.specs.List.{slice_split, AllByRecursion}
 abbrev pub Lacks : ℕ → List ℕ → Type 0
 Lacks byte bytes = AllByRecursion (λ b. (b == byte) ≡ false) bytes
 
--- the first such byte stands between the two parts
+-- the first such byte is between the two parts
 abbrev pub IsSplit : ℕ → List ℕ → List ℕ → List ℕ → Type 0
 IsSplit byte bytes before after = Lacks byte before × (bytes ≡ before ++ (byte ∷ after))
 

@@ -23,7 +23,8 @@ pub const PIECE_SIZE: usize = 65_536;
 pub fn read_all<R: Source>(alloc: Global, r: &mut R) -> Result<Vec<u8>, ToolErr>
     requires { IsFreshSource (R.log r.old) }
     ensures ok { IfOk result (λ all. ReadAll (R.log r.old) (R.log r.new) all.items) }
-    ensures err { IfErr result (λ e. (bytes : List ℕ) × ReadStopped (R.log r.old) (R.log r.new) bytes e) }
+    ensures err { IfErr result (λ e. (bytes : List ℕ)
+        × ReadStopped (R.log r.old) (R.log r.new) bytes e) }
 {
     let mut all = Vec::new(alloc);
     let mut buffer = [0u8; READ_SIZE];
@@ -70,9 +71,11 @@ pub fn hand_on<W: Sink>(gathered: &mut Vec<u8>, w: &mut W) -> Result<(), ToolErr
 /// What was gathered is handed on, once it is a large piece.
 pub fn hand_on_pieces<W: Sink>(gathered: &mut Vec<u8>, w: &mut W) -> Result<(), ToolErr>
     requires { (W.log w.old).failures + 1 < 2 ^ 64 }
-    ensures handed { OnOk result (HandsOn gathered.old.items gathered.new.items (W.log w.old) (W.log w.new)) }
+    ensures handed { OnOk result (HandsOn gathered.old.items gathered.new.items (W.log w.old)
+        (W.log w.new)) }
     ensures below_a_piece { OnOk result (length gathered.new.items < PIECE_SIZE) }
-    ensures failed { IfErr result (λ e. Writes gathered.old.items (W.log w.old) (W.log w.new) result) }
+    ensures failed { IfErr result (λ e. Writes gathered.old.items (W.log w.old)
+        (W.log w.new) result) }
 {
     if gathered.len() < PIECE_SIZE {
         return Ok(());

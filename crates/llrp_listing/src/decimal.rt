@@ -20,7 +20,7 @@ pub fn number_of(word: &[u8], most: u64) -> Option<u64>
     }
 }
 
-/// The number from -128 to 127 whose text the word is: decimal, behind `-` where it is negative.
+/// The number from -128 to 127 whose text the word is: decimal, after `-` where it is negative.
 pub fn signed_byte_of(word: &[u8]) -> Option<i8>
     ensures { MatchOption result
         ((z : ℤ) → FitsSigned w8 z → word.now ≡ signed_decimal z → ⊥)

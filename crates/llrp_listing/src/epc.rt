@@ -67,7 +67,8 @@ fn push_refusal(lines: &mut Vec<u8>, fault: UriFault) -> Result<(), AllocError>
 
 /// Appends the lines of a word.
 fn push_word(lines: &mut Vec<u8>, word: Word) -> Result<(), AllocError>
-    ensures { OnOk result ((text : List ℕ) × AreWordLines word text × (lines.new.items ≡ lines.old.items ++ text)) }
+    ensures { OnOk result ((text : List ℕ) × AreWordLines word text
+        × (lines.new.items ≡ lines.old.items ++ text)) }
 {
     match Epc::from_word(word) {
         Ok(epc) => push_line(lines, print(&epc).as_str()),
@@ -86,9 +87,10 @@ fn push_line(lines: &mut Vec<u8>, text: &str) -> Result<(), AllocError>
     lines.extend_from_slice(b"\n")
 }
 
-/// Appends the line of a text that is no word's digits.
+/// Appends the line of a text that is not a word's digits.
 fn push_text(alloc: Global, lines: &mut Vec<u8>, text: &str) -> Result<Verdict, AllocError>
-    ensures { IfOk result (λ verdict. (answer : List ℕ) × IsTextLine text.now verdict answer × (lines.new.items ≡ lines.old.items ++ answer)) }
+    ensures { IfOk result (λ verdict. (answer : List ℕ) × IsTextLine text.now verdict answer
+        × (lines.new.items ≡ lines.old.items ++ answer)) }
 {
     match word_of_text(text) {
         Ok(word) => {
@@ -104,7 +106,8 @@ fn push_text(alloc: Global, lines: &mut Vec<u8>, text: &str) -> Result<Verdict, 
 
 /// Appends what is printed of a text.
 fn push_answer(alloc: Global, lines: &mut Vec<u8>, text: &str) -> Result<Verdict, AllocError>
-    ensures { IfOk result (λ verdict. (answer : List ℕ) × Prints text.now verdict answer × (lines.new.items ≡ lines.old.items ++ answer)) }
+    ensures { IfOk result (λ verdict. (answer : List ℕ) × Prints text.now verdict answer
+        × (lines.new.items ≡ lines.old.items ++ answer)) }
 {
     match word_of_digits(text) {
         Some(word) => {

@@ -17,7 +17,7 @@ use thiserror::Error;
 pub enum Verdict {
     /// Each frame is a message, and the stream ends where a frame ends; or the text is a word's.
     Lawful,
-    /// Some frame has a fault, or the stream ends otherwise; or the text is no word's.
+    /// Some frame has a fault, or the stream ends otherwise; or the text is not a word's.
     Faulty,
 }
 
@@ -26,19 +26,19 @@ pub enum Verdict {
 pub enum Refusal {
     /// It isn't ended by LF, is too long, or holds a byte that is not printed.
     Line,
-    /// Its first word is no level that may stand here.
+    /// Its first word is not a level that is allowed here.
     Level,
-    /// Its second word is no name that may stand at this level.
+    /// Its second word is not a name that is allowed at this level.
     Name,
     /// It has another number of words than its kind has.
     Fields,
-    /// A word is no number that may stand at its place.
+    /// A word is not a number that is allowed at its place.
     Number,
-    /// Its last word is no tail of its kind.
+    /// Its last word is not a tail of its kind.
     Tail,
     /// A word is the text of no EPC's word, for this rule.
     Epc(UriFault),
-    /// With the lines below it, it is no lawful message or parameter.
+    /// With the lines below it, it is not a lawful message or parameter.
     Node(NodeFault),
     /// The message that it begins is longer than the limit.
     OverLimit,
@@ -61,7 +61,7 @@ fn node_fault_name(fault: NodeFault) -> &'static str
 }
 
 impl Refusal {
-    /// The words for it in an error line: its own, and behind it that for the fault inside it, if
+    /// The words for it in an error line: its own, and after it that for the fault inside it, if
     /// there is one.
     pub fn names(self) -> (&'static str, &'static str)
         ensures { result.0.now ++ result.1.now ≡ refusal_name self }
@@ -99,7 +99,7 @@ pub enum ToolErr {
     /// A line of a script, counted from 1, is refused.
     #[error("line {line} of the script is refused")]
     Script { line: u64 },
-    /// A text is no hexadecimal digits in pairs.
+    /// A text is not hexadecimal digits in pairs.
     #[error("the input is no pairs of hexadecimal digits")]
     Hex,
     /// A read failed.

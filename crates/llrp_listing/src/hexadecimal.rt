@@ -7,7 +7,7 @@ use crate::fault::ToolErr;
 use hex::FromHexError;
 use std::alloc::Global;
 
-/// Whether the byte may stand between digits: space, tab, LF or CR.
+/// Whether the byte may be between digits: space, tab, LF or CR.
 fn is_space(byte: u8) -> bool
     ensures { result ≡ is_space byte }
 {
@@ -16,10 +16,11 @@ fn is_space(byte: u8) -> bool
 
 /// The bytes that a text of hexadecimal digits of either case spells, two digits a byte, the first
 /// the more significant. Space, tab, LF and CR are skipped. The errors are `Hex`, where what is left
-/// is no even number of digits, and `Memory`.
+/// is not an even number of digits, and `Memory`.
 pub fn bytes_of_hex(alloc: Global, text: &[u8]) -> Result<Vec<u8>, ToolErr>
     ensures bytes { IfOk result (λ bytes. IsHexOf text.now bytes.items) }
-    ensures refused { IfErr result (λ e. (e ≡ ToolErr.Memory) ⊎ ((e ≡ ToolErr.Hex) × IsNoHex text.now)) }
+    ensures refused { IfErr result (λ e. (e ≡ ToolErr.Memory)
+        ⊎ ((e ≡ ToolErr.Hex) × IsNoHex text.now)) }
 {
     let digits: Vec<u8> = text
         .iter()

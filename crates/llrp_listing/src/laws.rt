@@ -36,6 +36,8 @@ pub fn prints_back()
 
 /// Of each text epc prints the same lines, with the same verdict.
 pub fn one_epc_answer()
-    ensures verdict { (text a b : List ℕ) (v w : Verdict) → Prints text v a → Prints text w b → v ≡ w }
-    ensures lines { (text a b : List ℕ) (v w : Verdict) → Prints text v a → Prints text w b → a ≡ b }
+    ensures verdict { (text a b : List ℕ) (v w : Verdict) → Prints text v a
+        → Prints text w b → v ≡ w }
+    ensures lines { (text a b : List ℕ) (v w : Verdict) → Prints text v a
+        → Prints text w b → a ≡ b }
 {}

@@ -80,7 +80,7 @@ fn is_printed(line: &[u8]) -> bool
     line.iter().all(|b| 32 <= *b && *b <= 126)
 }
 
-/// A level that so many open lines allow.
+/// A level that this many open lines allow.
 fn read_level(word: &str, depth: usize) -> Option<usize>
     ensures { IsLevel depth word.now result }
 {
@@ -98,13 +98,14 @@ fn read_level(word: &str, depth: usize) -> Option<usize>
 fn read_kind(level: usize, name: &str) -> Option<Kind>
     ensures { IsKindNamed level name.now result }
 {
+    let octets = name.as_bytes();
     if level == 0 {
-        match msg_named(name) {
+        match msg_named(octets) {
             Some(kind) => Some(Kind::Message(kind)),
             None => None,
         }
     } else {
-        match param_named(name) {
+        match param_named(octets) {
             Some(kind) => Some(Kind::Parameter(kind)),
             None => None,
         }
@@ -154,7 +155,7 @@ fn word_count(kind: Kind) -> usize
     2 + (number_count(kind) + tail_count(kind))
 }
 
-/// The level, the kind, and the words behind the name.
+/// The level, the kind, and the words after the name.
 #[derive(Clone, Copy)]
 struct Start<'a> {
     level: usize,
@@ -162,7 +163,7 @@ struct Start<'a> {
     words: Option<&'a str>,
 }
 
-/// Reads a line up to its name, where so many lines are open.
+/// Reads a line up to its name, where this many lines are open.
 fn read_start(line: &str, depth: usize) -> Result<Start<'_>, Refusal>
     ensures { ReadsStart depth line.now result }
 {
@@ -180,7 +181,7 @@ fn read_start(line: &str, depth: usize) -> Result<Start<'_>, Refusal>
     Ok(Start { level, kind, words })
 }
 
-/// Appends the values of plain fields, and gives the words behind theirs.
+/// Appends the values of plain fields, and gives the words after theirs.
 fn read_fields<'a>(
     rules: &[Field],
     words: Option<&'a str>,
@@ -188,7 +189,8 @@ fn read_fields<'a>(
 ) -> Result<Option<&'a str>, Refusal>
     requires room { array_vec_len fields.old + length (forms_of (map field_rule rules.now)) ≤ 12 }
     requires words { length (forms_of (map field_rule rules.now)) ≤ length (words_in words) }
-    ensures { ReadsFields (forms_of (map field_rule rules.now)) (words_in words.entry) fields.old.items fields.new.items result }
+    ensures { ReadsFields (forms_of (map field_rule rules.now)) (words_in words.entry)
+        fields.old.items fields.new.items result }
 {
     match rules {
         [] => Ok(words),
@@ -204,7 +206,7 @@ fn read_fields<'a>(
     }
 }
 
-/// The line of a message of a kind, with the words behind its name.
+/// The line of a message of a kind, with the words after its name.
 fn read_message(kind: MsgKind, words: Option<&str>) -> Result<MessageLine, Refusal>
     requires { length (words_in words) ≡ length (number_forms (Message kind)) }
     ensures { ReadsMessage kind (words_in words.entry) result }
@@ -225,7 +227,7 @@ fn read_message(kind: MsgKind, words: Option<&str>) -> Result<MessageLine, Refus
     })
 }
 
-/// The octets of a tail, from the words behind the fields.
+/// The octets of a tail, from the words after the fields.
 fn read_rest(alloc: Global, form: Tail, rest: Option<&str>) -> Result<Octets, LineErr>
     requires { length (words_in rest) ≡ tail_count form }
     ensures { ReadsRest form (words_in rest.entry) result }
@@ -236,14 +238,15 @@ fn read_rest(alloc: Global, form: Tail, rest: Option<&str>) -> Result<Octets, Li
     }
 }
 
-/// The line of a parameter of a kind, with the words behind its name.
+/// The line of a parameter of a kind, with the words after its name.
 fn read_parameter(
     alloc: Global,
     level: usize,
     kind: ParamKind,
     words: Option<&str>,
 ) -> Result<ParameterLine, LineErr>
-    requires { length (words_in words) ≡ length (number_forms (Parameter kind)) + tail_count (tail_of (Parameter kind)) }
+    requires { length (words_in words) ≡ length (number_forms (Parameter kind)) + tail_count
+        (tail_of (Parameter kind)) }
     ensures { ReadsParameter level kind (words_in words.entry) result }
 {
     let mut fields = ArrayVec::new();
@@ -261,7 +264,7 @@ fn read_parameter(
     })
 }
 
-/// What an ended line says, where so many lines are open, or why it is refused by itself.
+/// What an ended line says, where this many lines are open, or why it is refused by itself.
 pub fn read_line(alloc: Global, line: &[u8], depth: usize) -> Result<Line, LineErr>
     ensures { ReadsLine depth line.now result }
 {

@@ -12,7 +12,7 @@ use llrp_schema::Field;
 use tag_uri::word_of_text;
 
 /// How many bits the field of EPC-96 has, and no other.
-const EPC_BITS: u32 = 96;
+pub const EPC_BITS: u32 = 96;
 
 /// The number whose decimal text of at most 20 digits the word is.
 #[tactic(auto, unfolding(crate::specs::Numeral::numeral))]

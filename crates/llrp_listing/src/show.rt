@@ -6,12 +6,11 @@ ghost use Rattle.llrp_tree.specs.declared.TheConstants.{MAX_LIMIT};
 ghost use Rattle.llrp_listing.specs.Show.{Listed, Shows, Stopped, verdict_of};
 ghost use Rattle.llrp_listing.specs.StreamListing.{is_clean};
 
-mod lines;
-
-use crate::copying::{MOST_READS, READ_SIZE, hand_on, hand_on_pieces, write_all};
+use crate::copying::{MOST_READS, READ_SIZE};
 use crate::fault::{ToolErr, Verdict};
-use lines::{is_message, push_end, push_item};
-use llrp_stream::{Decoder, End, Fed, FeedErr, Item, Sink, Source};
+use crate::printing::Printer;
+use llrp_stream::{Came, End, FeedErr, Frames, Listener, Outcome, Sink, Source};
+use llrp_tree::Fault;
 use std::alloc::Global;
 
 fn verdict(lawful: bool, end: End) -> Verdict
@@ -24,62 +23,90 @@ fn verdict(lawful: bool, end: End) -> Verdict
     }
 }
 
-/// Lists a stream that comes in pieces.
+/// Lists a stream that comes in pieces. No message is kept: the lines of one go straight into the text,
+/// and are taken back where its frame turns out faulty.
 #[derive(Drop)]
 pub(crate) struct Lister {
-    decoder: Decoder,
-    /// What is not yet handed on.
-    text: Vec<u8>,
-    /// Each item so far is a message.
+    frames: Frames,
+    printer: Printer,
+    /// Each frame so far is a message's.
     lawful: bool,
 }
 
 impl Lister {
+    ghost use Rattle.std.specs.Prelude.{[], OnOk, length};
     ghost use Rattle.llrp_tree.specs.declared.TheConstants.{MAX_LIMIT};
-    ghost use Rattle.llrp_listing.specs.Lister.{Begins, Feeds, Finishes, GoesOn, Lists};
+    ghost use Rattle.llrp_stream.specs.declared.reading.frames.Outcome.TheVariants.{Bad};
+    ghost use Rattle.llrp_listing.specs.Lister.{CanGoOn, Feeds, Finishes, GoesOn, KeepsFew, ListsOrFails, Tells};
 
     /// Frames longer than `limit` octets are faulty.
     fn new(alloc: Global, limit: u32) -> Lister
         requires least { 10 ≤ limit }
         requires most { limit ≤ MAX_LIMIT }
-        ensures { (log : SinkLog) → Begins limit log result }
+        ensures { (log : SinkLog) → GoesOn limit [] [] log log result }
     {
         Lister {
-            decoder: Decoder::new(alloc, limit),
-            text: Vec::new(alloc),
+            frames: Frames::new(limit),
+            printer: Printer::new(alloc),
             lawful: true,
         }
     }
 
-    /// Gathers the text of an item, and hands it on with the others once they are a large piece.
-    fn list<W: Sink>(&mut self, item: &Item, w: &mut W) -> Result<(), ToolErr>
+    /// Gathers the line of a frame that is not a message, and hands it on with the text before it once
+    /// that is a large piece.
+    fn list_fault<W: Sink>(&mut self, id: u32, fault: Fault, w: &mut W) -> Result<(), ToolErr>
         requires { (W.log w.old).failures + 1 < 2 ^ 64 }
-        ensures { Lists item.now self.old self.new (W.log w.old) (W.log w.new) result }
+        ensures frames { self.new.frames ≡ self.old.frames }
+        ensures lists { (limit : ℕ) (frame was : List ℕ)
+            → Tells self.old.printer was limit frame (Bad id fault)
+            → ListsOrFails limit frame was self.old self.new (W.log w.old) (W.log w.new) result }
     {
-        push_item(&mut self.text, item)?;
-        self.lawful &= is_message(item);
-        hand_on_pieces(&mut self.text, w)
+        self.printer.push_fault(id, fault)?;
+        self.lawful = false;
+        self.printer.hand_on_pieces(w)
     }
 
-    /// Writes the text of the items that a piece of the stream ends, and tells whether the stream goes
+    /// Sees to it that the text of a frame is gathered, and hands it on with the text before it once
+    /// that is a large piece.
+    fn list<W: Sink>(&mut self, outcome: Outcome, w: &mut W) -> Result<(), ToolErr>
+        requires within { self.old.printer.mark ≤ length self.old.printer.text }
+        requires sink { (W.log w.old).failures + 1 < 2 ^ 64 }
+        ensures frames { self.new.frames ≡ self.old.frames }
+        ensures lists { (limit : ℕ) (frame was : List ℕ)
+            → Tells self.old.printer was limit frame outcome
+            → ListsOrFails limit frame was self.old self.new (W.log w.old) (W.log w.new) result }
+    {
+        match outcome {
+            Outcome::Whole => self.printer.hand_on_pieces(w),
+            Outcome::Bad { id, fault } => self.list_fault(id, fault, w),
+        }
+    }
+
+    /// Writes the text of the frames that a piece of the stream ends, and returns whether the stream goes
     /// on: it does unless it is broken.
     fn feed<W: Sink>(&mut self, piece: &[u8], w: &mut W) -> Result<bool, ToolErr>
-        requires { (W.log w.old).failures + 1 < 2 ^ 64 }
-        ensures { (limit : ℕ) (bytes : List ℕ) (log : SinkLog) → GoesOn limit bytes log (W.log w.old) self.old
+        requires sink { (W.log w.old).failures + 1 < 2 ^ 64 }
+        requires on { CanGoOn (W.log w.old) self.old }
+        ensures feeds { (limit : ℕ) (bytes gathered : List ℕ) (log : SinkLog)
+            → GoesOn limit bytes gathered log (W.log w.old) self.old
             → Feeds limit (bytes ++ piece.now) log (W.log w.new) self.new result }
+        // Whatever listener it has, the engine never keeps more than the limit.
+        ensures held { (limit : ℕ) (bytes gathered : List ℕ) (log : SinkLog)
+            → GoesOn limit bytes gathered log (W.log w.old) self.old → 10 ≤ limit
+            → OnOk result (KeepsFew limit self.new) }
     {
         let mut rest = piece;
-        'items: loop {
-            let Fed { used, item } = match self.decoder.feed(rest) {
-                Ok(fed) => fed,
+        'frames: loop {
+            let Came { used, outcome } = match self.frames.feed(&mut self.printer, rest) {
+                Ok(came) => came,
                 Err(FeedErr::Broken) => return Ok(false),
                 Err(FeedErr::Memory | FeedErr::Dead) => return Err(ToolErr::Memory),
             };
-            let Some(item) = item else {
-                hand_on(&mut self.text, w)?;
+            let Some(outcome) = outcome else {
+                self.printer.hand_on(w)?;
                 return Ok(true);
             };
-            self.list(&item, w)?;
+            self.list(outcome, w)?;
             rest = rest.split_at(used).1;
         }
     }
@@ -87,16 +114,18 @@ impl Lister {
     /// Writes what is left of the text, and the line of the stream's end.
     fn finish<W: Sink>(&mut self, w: &mut W) -> Result<Verdict, ToolErr>
         requires { (W.log w.old).failures + 1 < 2 ^ 64 }
-        ensures { (limit : ℕ) (bytes : List ℕ) (log : SinkLog) → Finishes limit bytes log (W.log w.old) self.old
-            → MatchResult result (λ verdict. Listed limit bytes log (W.log w.new) verdict) (λ e. Stopped limit bytes log (W.log w.new) e) }
+        ensures { (limit : ℕ) (bytes : List ℕ) (log : SinkLog)
+            → Finishes limit bytes log (W.log w.old) self.old
+            → MatchResult result (λ verdict. Listed limit bytes log (W.log w.new) verdict)
+            (λ e. Stopped limit bytes log (W.log w.new) e) }
     {
-        let end = self.decoder.finish();
-        push_end(&mut self.text, end)?;
-        write_all(w, self.text.as_slice())?;
+        let end = self.frames.finish();
+        self.printer.give_up();
+        self.printer.push_end(end)?;
+        self.printer.hand_on(w)?;
         Ok(verdict(self.lawful, end))
     }
 }
-
 /// Writes the listing of a stream. The errors are `Write` and `Memory`, after which a front of the
 /// listing was written.
 pub fn list_stream<W: Sink>(
@@ -108,7 +137,8 @@ pub fn list_stream<W: Sink>(
     requires sink { (W.log w.old).failures + 1 < 2 ^ 64 }
     requires least { 10 ≤ limit }
     requires most { limit ≤ MAX_LIMIT }
-    ensures ok { IfOk result (λ verdict. Listed limit stream.now (W.log w.old) (W.log w.new) verdict) }
+    ensures ok { IfOk result (λ verdict. Listed limit stream.now (W.log w.old)
+        (W.log w.new) verdict) }
     ensures err { IfErr result (λ e. Stopped limit stream.now (W.log w.old) (W.log w.new) e) }
 {
     let mut lister = Lister::new(alloc, limit);
@@ -116,7 +146,7 @@ pub fn list_stream<W: Sink>(
     lister.finish(w)
 }
 
-/// Writes the listing of all that the source gives, and tells whether all of it is lawful. Frames
+/// Writes the listing of all that the source gives, and returns whether all of it is lawful. Frames
 /// longer than `limit` octets are faulty. What belongs to the bytes of a read is written before the
 /// next read; none follows a break of the stream. After `Read` or `Bound` the lines of each frame that
 /// is whole in what was read were written, after `Write` or `Memory` a front of its listing.

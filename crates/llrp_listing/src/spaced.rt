@@ -3,17 +3,20 @@
 ghost use Rattle.std.specs.Prelude.{◌∷◌, ◌≡◌, MatchOption, [], length};
 ghost use Rattle.llrp_listing.specs.Splits.{IsSplit, Lacks, words, words_in};
 
+use memchr::memchr;
+
 /// The bytes before the first such byte and those after it, or `None` where there is none.
 pub fn split_once(bytes: &[u8], byte: u8) -> Option<(&[u8], &[u8])>
-    ensures { MatchOption result (Lacks byte bytes.now) (λ parts. IsSplit byte bytes.now parts.0.now parts.1.now) }
+    ensures { MatchOption result (Lacks byte bytes.now)
+        (λ parts. IsSplit byte bytes.now parts.0.now parts.1.now) }
 {
-    let place = bytes.iter().position(|b| *b == byte)?;
+    let place = memchr(byte, bytes)?;
     let (before, rest) = bytes.split_at(place);
     let (_, after) = rest.split_at(1);
     Some((before, after))
 }
 
-/// The first word, and those behind the space after it, if there is one.
+/// The first word, and those after the space that ends it, if there is one.
 pub fn first_word(line: &str) -> (&str, Option<&str>)
     ensures { words line.now ≡ result.0.now ∷ words_in result.1 }
 {

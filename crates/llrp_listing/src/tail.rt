@@ -13,9 +13,10 @@ use llrp_schema::Tail;
 use llrp_tree::Octets;
 use std::alloc::Global;
 
-/// Appends the octets of a word of 16 bits, which stands in decimal.
+/// Appends the octets of a word of 16 bits, which is in decimal.
 fn push_word(octets: &mut Vec<u8>, word: &[u8]) -> Result<(), LineErr>
-    ensures { MatchResult result (λ _. AppendsWord word.now octets.old.items octets.new.items) (IsNoWord word.now) }
+    ensures { MatchResult result (λ _. AppendsWord word.now octets.old.items octets.new.items)
+        (IsNoWord word.now) }
 {
     let Some(number) = numeral(word) else {
         return Err(LineErr::Refused(Refusal::Tail));
@@ -27,9 +28,10 @@ fn push_word(octets: &mut Vec<u8>, word: &[u8]) -> Result<(), LineErr>
     Ok(())
 }
 
-/// The octets of words of 16 bits, which stand in decimal and are joined by commas.
+/// The octets of words of 16 bits, which are in decimal and are joined by commas.
 fn read_word_list(alloc: Global, list: &[u8]) -> Result<Vec<u8>, LineErr>
-    ensures { MatchResult result (λ octets. IsWordList list.now octets.items) (IsNoTail (IsWordList list.now)) }
+    ensures { MatchResult result (λ octets. IsWordList list.now octets.items)
+        (IsNoTail (IsWordList list.now)) }
 {
     let mut octets = Vec::new(alloc);
     if list.is_empty() {
@@ -53,7 +55,8 @@ fn has_capital(bytes: &[u8]) -> bool
 
 /// The octets of lower-case hexadecimal digits.
 fn read_digits(alloc: Global, digits: &[u8]) -> Result<Vec<u8>, LineErr>
-    ensures { MatchResult result (λ octets. AreDigitsOf digits.now octets.items) (IsNoTail (AreDigitsOf digits.now)) }
+    ensures { MatchResult result (λ octets. AreDigitsOf digits.now octets.items)
+        (IsNoTail (AreDigitsOf digits.now)) }
 {
     if has_capital(digits) {
         return Err(LineErr::Refused(Refusal::Tail));
@@ -67,9 +70,10 @@ fn read_digits(alloc: Global, digits: &[u8]) -> Result<Vec<u8>, LineErr>
     }
 }
 
-/// The octets of a list of words, behind its `w`.
+/// The octets of a list of words, after its `w`.
 fn read_words(alloc: Global, word: &str) -> Result<Octets, LineErr>
-    ensures { MatchResult result (IsTailWord Words word.now) (IsNoTail (IsTailWord Words word.now)) }
+    ensures { MatchResult result (IsTailWord Words word.now)
+        (IsNoTail (IsTailWord Words word.now)) }
 {
     let Some(list) = word.strip_prefix('w') else {
         return Err(LineErr::Refused(Refusal::Tail));
@@ -78,7 +82,7 @@ fn read_words(alloc: Global, word: &str) -> Result<Octets, LineErr>
     Ok(Octets::new(octets))
 }
 
-/// The octets of hexadecimal digits, behind their `x`.
+/// The octets of hexadecimal digits, after their `x`.
 fn read_octets(alloc: Global, word: &str) -> Result<Octets, LineErr>
     ensures { MatchResult result (IsTailWord Text word.now) (IsNoTail (IsTailWord Text word.now)) }
 {

@@ -21,7 +21,8 @@ fn push_word(text: &mut Vec<u8>, high: u8, low: u8) -> Result<(), AllocError>
 
 /// Appends words of two octets in decimal, joined by commas.
 fn push_words(text: &mut Vec<u8>, octets: &[u8]) -> Result<(), AllocError>
-    ensures { OnOk result (text.new.items ≡ text.old.items ++ join_with_byte 44 (map decimal (words_of octets.now))) }
+    ensures { OnOk result (text.new.items ≡ text.old.items
+        ++ join_with_byte 44 (map decimal (words_of octets.now))) }
 {
     let [high, low, rest @ ..] = octets else {
         return Ok(());

@@ -28,3 +28,6 @@ returns-clause-stopped g c =
     let w1 = g.W.Sink.log c.finish.new.w in
     let m = subst (λ (l : ℕ). MatchResult c.finish.result (λ _. WroteEncoding l w0 w1 text) (StoppedAtEnd l w0 w1 text)) (c.in_ok-feed_all.ensures.limit ∙ c.new-encoder.ensures.limit) (c.finish.ensures w0 text stands) in
     ends_err c.args.limit _ _ _ _ text c.finish.result all m
+
+pub finish-requires-clause-stands : goal.finish-requires-clause-stands
+finish-requires-clause-stands g c = let x = c.in_ok-feed_all.ensures.stands in (g.W.Sink.log c.args.w.now, x.0, x.2)

@@ -1,7 +1,7 @@
 use Rattle.std.proofs.Common.{codes, sym, ◌∙◌}
 use Rattle.hex.specs.Hex.{IsBytes}
 use Rattle.tag_uri.specs.Hexadecimal.{hexadecimal}
-use Rattle.tag_uri.proofs.HexadecimalLemmas.{twelve, word_text}
+use Rattle.llrp_listing.proofs.WordDigits.{twelve, word_text}
 use Rattle.llrp_listing.proofs.TextLemmas.{grown, with_part}
 use Rattle.llrp_listing.proofs.epc.push_bytes.Goals as goal
 

@@ -1,4 +1,4 @@
-use Rattle.std.proofs.Common.{codes, ◌++◌, ◌∙◌, [], ap, inl, inr, refl, sym, ℕ, List}
+use Rattle.std.proofs.Common.{◌++◌, [], ap, inl, inr, refl, sym, ℕ, List}
 use Rattle.std.proofs.lemmas.List.{append-nil}
 use Rattle.std.proofs.lemmas.Result.{on_ok_weaker}
 use Rattle.llrp_listing.specs.EpcLines.{line, remark_line}

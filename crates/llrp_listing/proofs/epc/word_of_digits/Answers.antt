@@ -1,8 +1,7 @@
 use Rattle.std.proofs.Common.{◌<◌, ◌^◌, ℕ, rules, ap, sym, ◌∙◌}
 use Rattle.std.specs.Result.{result_ok}
 use Rattle.llrp_listing.specs.EpcLines.{AreDigitsOf}
-use Rattle.tag_uri.proofs.HexadecimalLemmas.{some_ok}
-use Rattle.llrp_listing.proofs.EpcLemmas.{digits_decode, decoded_digits}
+use Rattle.llrp_listing.proofs.EpcLemmas.{digits_decode, decoded_digits, some_ok}
 use Rattle.llrp_listing.proofs.epc.word_of_digits.Goals as goal
 
 pub returns-in_err-bytes-clause-none : goal.returns-in_err-bytes-clause-none

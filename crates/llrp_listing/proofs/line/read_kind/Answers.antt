@@ -1,15 +1,16 @@
-use Rattle.std.proofs.Common.{arith}
+use Rattle.std.proofs.Common.{◌∙◌, ap, arith, sym}
+use Rattle.llrp_schema.specs.Schema.{message_with_name, param_with_name}
 use Rattle.llrp_listing.proofs.LineWords.{message_named, parameter_named, no_message, no_parameter}
 use Rattle.llrp_listing.proofs.line.read_kind.Goals as goal
 
 pub returns-in-Some : goal.returns-in-Some
-returns-in-Some c = (c.if-level-eq0.true, message_named c.args.name.now c.in-Some.kind c.in-Some.ensures)
+returns-in-Some c = (c.if-level-eq0.true, sym c.as_bytes-octets.ensures.value ∙ message_named c.as_bytes-octets.result.now c.in-Some.kind c.in-Some.ensures)
 
 pub returns-in-None : goal.returns-in-None
-returns-in-None c = no_message c.args.level c.args.name.now c.if-level-eq0.true c.in-None.ensures
+returns-in-None c = no_message c.args.level c.args.name.now c.if-level-eq0.true (c.in-None.ensures ∙ ap message_with_name c.as_bytes-octets.ensures.value)
 
 pub returns-in-Some-param_named : goal.returns-in-Some-param_named
-returns-in-Some-param_named c = (omega arith, parameter_named c.args.name.now c.in-Some-param_named.kind c.in-Some-param_named.ensures)
+returns-in-Some-param_named c = (omega arith, sym c.as_bytes-octets.ensures.value ∙ parameter_named c.as_bytes-octets.result.now c.in-Some-param_named.kind c.in-Some-param_named.ensures)
 
 pub returns-in-None-param_named : goal.returns-in-None-param_named
-returns-in-None-param_named c = no_parameter c.args.level c.args.name.now (omega arith) c.in-None-param_named.ensures
+returns-in-None-param_named c = no_parameter c.args.level c.args.name.now (omega arith) (c.in-None-param_named.ensures ∙ ap param_with_name c.as_bytes-octets.ensures.value)

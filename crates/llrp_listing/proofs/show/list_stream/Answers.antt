@@ -3,22 +3,25 @@ use Rattle.std.proofs.lemmas.Result.{err_from_is_err_and}
 use Rattle.llrp_listing.proofs.ShowLemmas.{fed_finishes, finishes_failures, listed_of, stopped_of}
 use Rattle.llrp_listing.proofs.show.list_stream.Goals as goal
 
+pub feed-requires-clause-on : goal.feed-requires-clause-on
+feed-requires-clause-on g c = (c.args.limit, c.requires.least, c.requires.most, [], [], g.W.Sink.log c.args.w.now, c.new-lister.ensures (g.W.Sink.log c.args.w.now))
+
 pub returns-in_err-_goes_on-clause-err : goal.returns-in_err-_goes_on-clause-err
 returns-in_err-_goes_on-clause-err g c =
     let p = err_from_is_err_and c.from_residual.result c.from_residual.ensures.1 in
-    rw (p.1, p.2) (c.in_err-_goes_on.ensures c.args.limit [] (g.W.Sink.log c.args.w.now) (c.new-lister.ensures (g.W.Sink.log c.args.w.now)).0)
+    rw (p.1, p.2) (c.in_err-_goes_on.ensures.feeds c.args.limit [] [] (g.W.Sink.log c.args.w.now) (c.new-lister.ensures (g.W.Sink.log c.args.w.now)))
 
 pub finish-requires : goal.finish-requires
 finish-requires g c =
-    let fed = c.in_ok-_goes_on.ensures c.args.limit [] (g.W.Sink.log c.args.w.now) (c.new-lister.ensures (g.W.Sink.log c.args.w.now)).0 in
+    let fed = c.in_ok-_goes_on.ensures.feeds c.args.limit [] [] (g.W.Sink.log c.args.w.now) (c.new-lister.ensures (g.W.Sink.log c.args.w.now)) in
     omega (arith, c.requires.sink, finishes_failures _ _ _ _ _ (fed_finishes c.args.limit c.args.stream.now _ _ _ _ fed))
 
 pub returns-clause-ok : goal.returns-clause-ok
 returns-clause-ok g c =
-    let fed = c.in_ok-_goes_on.ensures c.args.limit [] (g.W.Sink.log c.args.w.now) (c.new-lister.ensures (g.W.Sink.log c.args.w.now)).0 in
+    let fed = c.in_ok-_goes_on.ensures.feeds c.args.limit [] [] (g.W.Sink.log c.args.w.now) (c.new-lister.ensures (g.W.Sink.log c.args.w.now)) in
     listed_of c.args.limit c.args.stream.now _ _ c.finish.result (c.finish.ensures c.args.limit c.args.stream.now (g.W.Sink.log c.args.w.now) (fed_finishes c.args.limit c.args.stream.now _ _ _ _ fed))
 
 pub returns-clause-err : goal.returns-clause-err
 returns-clause-err g c =
-    let fed = c.in_ok-_goes_on.ensures c.args.limit [] (g.W.Sink.log c.args.w.now) (c.new-lister.ensures (g.W.Sink.log c.args.w.now)).0 in
+    let fed = c.in_ok-_goes_on.ensures.feeds c.args.limit [] [] (g.W.Sink.log c.args.w.now) (c.new-lister.ensures (g.W.Sink.log c.args.w.now)) in
     stopped_of c.args.limit c.args.stream.now _ _ c.finish.result (c.finish.ensures c.args.limit c.args.stream.now (g.W.Sink.log c.args.w.now) (fed_finishes c.args.limit c.args.stream.now _ _ _ _ fed))

@@ -2,7 +2,7 @@ use Rattle.std.proofs.Common.{◌≡◌, ◌<◌, ◌+◌, ◌++◌, [], ℕ, le
 use Rattle.std.proofs.lemmas.Result.{err_from_is_err_and}
 use Rattle.llrp_listing.specs.LineChecks.{LONGEST_LINE}
 use Rattle.llrp_listing.specs.LineReading.{ReadsLine}
-use Rattle.llrp_listing.specs.OpenLines.{entries_in}
+use Rattle.llrp_listing.specs.Writer.{inner}
 use Rattle.llrp_listing.proofs.Closings.{none_items}
 use Rattle.llrp_listing.proofs.LineSays.{line_long}
 use Rattle.llrp_listing.proofs.encode.Encoder.read.Goals as goal
@@ -17,7 +17,7 @@ pub returns-then-is_too_long-clause-read : goal.returns-then-is_too_long-clause-
 returns-then-is_too_long-clause-read c =
     let bytes = c.args.self.now.line.items ++ c.args.part.now in
     let long : LONGEST_LINE < length c.args.self.now.line.items + length c.args.part.now = c.is_too_long.ensures c.if-is_too_long.true in
-    line_long (length (entries_in c.args.self.now.pending)) bytes (omega (arith, long, length-append c.args.self.now.line.items c.args.part.now))
+    line_long (length (inner c.args.self.now.writer.rows)) bytes (omega (arith, long, length-append c.args.self.now.line.items c.args.part.now))
 
 pub returns-in_err-extend_from_slice-clause-read : goal.returns-in_err-extend_from_slice-clause-read
 returns-in_err-extend_from_slice-clause-read c =

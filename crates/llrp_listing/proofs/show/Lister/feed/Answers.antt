@@ -1,74 +1,119 @@
-use Rattle.std.proofs.Common.{◌∙◌, refl, ◌++◌, take, append_assoc, subst, List, ℕ, Option}
+use Rattle.std.proofs.Common.{◌∙◌, inl, arith, refl, sym, ◌++◌, [], take, append_assoc, subst, List, ℕ}
+use Rattle.std.proofs.lemmas.List.{append-nil}
 use Rattle.std.proofs.lemmas.Result.{err_from_is_err_and}
-use Rattle.llrp_stream.specs.declared.item.Item.{Item}
-use Rattle.llrp_stream.specs.Feeding.{Takes}
+use Rattle.llrp_listing.specs.declared.show.Lister.{Lister}
 use Rattle.llrp_listing.specs.Lister.{GoesOn, IsBrokenOff}
-use Rattle.llrp_listing.proofs.DeviceLemmas.{same_failures}
-use Rattle.llrp_listing.proofs.ShowLemmas.{item_listed, item_stopped, piece_listed, piece_stopped, piece_breaks, memory_stopped, as_far, further, takes_none, stopped_there}
+use Rattle.llrp_listing.proofs.ShowLemmas.{as_far, broken_few, goes_few, further, stopped_there, memory_stopped, piece_breaks, piece_listed, piece_stopped, frame_listed, frame_stopped, frame_within, piece_within, takes_frame, takes_none, lists_failures}
 use Rattle.llrp_listing.proofs.show.Lister.feed.Goals as goal
 
-pub returns-in-Err-Broken : goal.returns-in-Err-Broken
-returns-in-Err-Broken g c = λ limit bytes log goes.
-    let done = c.items.invariant.done in
-    subst (λ (x : List ℕ). IsBrokenOff limit x log (g.W.Sink.log c.items.w) (record { decoder = c.feed.new.self; text = c.items.self.text; lawful = c.items.self.lawful })) (as_far bytes done c.items.rest.now c.args.piece.now c.items.invariant.parts)
-    (piece_breaks limit (bytes ++ done) c.items.rest.now log _ c.items.self _ (c.items.invariant.goes limit bytes log goes)
-    (λ front stands. rw c.in-Err-Broken.field-0-is at (c.in-Err-Broken.ensures.stands front stands)) c.in-Err-Broken.ensures.limit refl refl)
+pub frames-init : goal.frames-init
+frames-init g c = record { done = []; parts = refl; sink = refl; goes = λ limit bytes gathered log goes. (gathered, subst (λ (x : List ℕ). GoesOn limit x gathered log (g.W.Sink.log c.args.w.now) c.args.self.now) (sym (append-nil bytes)) goes) }
 
-pub returns-in-Err-Memory : goal.returns-in-Err-Memory
-returns-in-Err-Memory g c = λ limit bytes log goes.
-    stopped_there limit bytes c.items.invariant.done c.items.rest.now c.args.piece.now log _ _ c.items.invariant.parts
-    (memory_stopped limit (bytes ++ c.items.invariant.done) c.items.rest.now log _ _ (c.items.invariant.goes limit bytes log goes))
+pub feed-requires-clause-least : goal.feed-requires-clause-least
+feed-requires-clause-least g c =
+    let w = c.requires.on in
+    let now = (c.frames.invariant.goes w.0 w.3 w.4 w.5 w.6).1 in
+    omega (arith, now.listed.limit_is, w.1)
 
-pub returns-in_err-hand_on : goal.returns-in_err-hand_on
-returns-in_err-hand_on g c = λ limit bytes log goes.
+pub feed-requires-clause-most : goal.feed-requires-clause-most
+feed-requires-clause-most g c =
+    let w = c.requires.on in
+    let now = (c.frames.invariant.goes w.0 w.3 w.4 w.5 w.6).1 in
+    omega (arith, now.listed.limit_is, w.2)
+
+pub feed-requires-clause-comes : goal.feed-requires-clause-comes
+feed-requires-clause-comes g c =
+    let w = c.requires.on in
+    let now = c.frames.invariant.goes w.0 w.3 w.4 w.5 w.6 in
+    inl (now.0, now.1.front, now.1.comes)
+
+pub returns-in-Err-Broken-clause-feeds : goal.returns-in-Err-Broken-clause-feeds
+returns-in-Err-Broken-clause-feeds g c = λ limit bytes gathered log goes.
+    let done = c.frames.invariant.done in
+    let now = c.frames.invariant.goes limit bytes gathered log goes in
+    let broken = rw c.in-Err-Broken.field-0-is at (c.in-Err-Broken.ensures.takes now.0 now.1.front now.1.comes) in
+    let stopped = rw c.in-Err-Broken.field-0-is at c.in-Err-Broken.ensures.stops in
+    subst (λ (x : List ℕ). IsBrokenOff limit x log (g.W.Sink.log c.frames.w) (record { frames = c.feed.new.self; printer = c.feed.new.listener; lawful = c.frames.self.lawful })) (as_far bytes done c.frames.rest.now c.args.piece.now c.frames.invariant.parts)
+    (piece_breaks limit (bytes ++ done) now.0 c.frames.rest.now log _ c.frames.self _ now.1 broken.0 broken.1 stopped.0 c.in-Err-Broken.ensures.limit refl)
+
+pub returns-in-Err-Memory-clause-feeds : goal.returns-in-Err-Memory-clause-feeds
+returns-in-Err-Memory-clause-feeds g c = λ limit bytes gathered log goes.
+    let now = c.frames.invariant.goes limit bytes gathered log goes in
+    stopped_there limit bytes c.frames.invariant.done c.frames.rest.now c.args.piece.now log _ _ c.frames.invariant.parts
+    (memory_stopped limit (bytes ++ c.frames.invariant.done) now.0 c.frames.rest.now log _ _ now.1)
+
+pub hand_on-requires-clause-within : goal.hand_on-requires-clause-within
+hand_on-requires-clause-within g c =
+    let w = c.requires.on in
+    let now = c.frames.invariant.goes w.0 w.3 w.4 w.5 w.6 in
+    piece_within now.0 (now.1.front ++ c.frames.rest.now) c.feed.new.listener c.feed.new.self
+    (takes_none _ now.1.front now.0 c.frames.rest.now c.feed.new.listener c.feed.new.self c.in-Ok.came.used c.in-Ok.came.outcome c.in-Ok.ensures.limit c.in_default.not-Some (c.in-Ok.ensures.takes now.0 now.1.front now.1.comes))
+
+pub returns-in_err-hand_on-clause-feeds : goal.returns-in_err-hand_on-clause-feeds
+returns-in_err-hand_on-clause-feeds g c = λ limit bytes gathered log goes.
     let p = err_from_is_err_and c.from_residual.result c.from_residual.ensures.1 in
+    let now = c.frames.invariant.goes limit bytes gathered log goes in
     rw (p.1, p.2)
-    (stopped_there limit bytes c.items.invariant.done c.items.rest.now c.args.piece.now log _ _ c.items.invariant.parts
-    (piece_stopped limit (bytes ++ c.items.invariant.done) c.items.rest.now log _ _ _ _ (c.items.invariant.goes limit bytes log goes) c.in_err-hand_on.ensures.written))
+    (stopped_there limit bytes c.frames.invariant.done c.frames.rest.now c.args.piece.now log _ _ c.frames.invariant.parts
+    (piece_stopped limit (bytes ++ c.frames.invariant.done) now.0 c.frames.rest.now now.1.front log _ _ c.frames.self c.feed.new.self c.feed.new.listener _ now.1.listed
+    (takes_none _ now.1.front now.0 c.frames.rest.now c.feed.new.listener c.feed.new.self c.in-Ok.came.used c.in-Ok.came.outcome c.in-Ok.ensures.limit c.in_default.not-Some (c.in-Ok.ensures.takes now.0 now.1.front now.1.comes))
+    c.in_err-hand_on.ensures.written))
 
-pub returns-in_default : goal.returns-in_default
-returns-in_default g c = λ limit bytes log goes.
-    let done = c.items.invariant.done in (
-      subst (λ (x : List ℕ). GoesOn limit x log (g.W.Sink.log c.hand_on.new.w) (record { decoder = c.feed.new.self; text = c.hand_on.new.gathered; lawful = c.items.self.lawful })) (as_far bytes done c.items.rest.now c.args.piece.now c.items.invariant.parts)
-          (piece_listed limit (bytes ++ done) c.items.rest.now c.in-Ok.fed.used log _ _ c.items.self _ (c.items.invariant.goes limit bytes log goes)
-          (λ front stands. takes_none c.items.self.decoder.limit front c.items.rest.now c.feed.new.self c.in-Ok.fed.used c.in-Ok.fed.item c.in_default.not-Some (c.in-Ok.ensures.stands front stands))
-          c.in-Ok.ensures.limit c.in_ok-hand_on.ensures.written c.in_ok-hand_on.ensures.emptied refl),
-      c.in_ok-hand_on.ensures.emptied,
-    )
+pub returns-in_default-clause-feeds : goal.returns-in_default-clause-feeds
+returns-in_default-clause-feeds g c = λ limit bytes gathered log goes.
+    let done = c.frames.invariant.done in
+    let now = c.frames.invariant.goes limit bytes gathered log goes in
+    subst (λ (x : List ℕ). GoesOn limit x [] log (g.W.Sink.log c.hand_on.new.w) (record { frames = c.feed.new.self; printer = c.hand_on.new.self; lawful = c.frames.self.lawful })) (as_far bytes done c.frames.rest.now c.args.piece.now c.frames.invariant.parts)
+    (piece_listed limit (bytes ++ done) now.0 c.frames.rest.now now.1.front log _ _ c.frames.self _ c.feed.new.listener now.1.listed
+    (takes_none _ now.1.front now.0 c.frames.rest.now c.feed.new.listener c.feed.new.self c.in-Ok.came.used c.in-Ok.came.outcome c.in-Ok.ensures.limit c.in_default.not-Some (c.in-Ok.ensures.takes now.0 now.1.front now.1.comes))
+    c.in-Ok.ensures.limit refl c.in_ok-hand_on.ensures.written c.in_ok-hand_on.ensures.text c.in_ok-hand_on.ensures.mark)
 
-pub returns-in_err-list : goal.returns-in_err-list
-returns-in_err-list g c = λ limit bytes log goes.
+pub list-requires-clause-within : goal.list-requires-clause-within
+list-requires-clause-within g c =
+    let w = c.requires.on in
+    let now = c.frames.invariant.goes w.0 w.3 w.4 w.5 w.6 in
+    frame_within w.0 now.1.front now.0 c.frames.rest.now c.feed.new.listener c.feed.new.self c.in-Ok.came.used c.in-Some.outcome
+    (takes_frame w.0 _ now.1.front now.0 c.frames.rest.now c.feed.new.listener c.feed.new.self c.in-Ok.came.used c.in-Ok.came.outcome c.in-Some.outcome now.1.listed.limit_is c.in-Some.is (c.in-Ok.ensures.takes now.0 now.1.front now.1.comes))
+
+pub returns-in_err-list-clause-feeds : goal.returns-in_err-list-clause-feeds
+returns-in_err-list-clause-feeds g c = λ limit bytes gathered log goes.
     let p = err_from_is_err_and c.from_residual-in_err-list.result c.from_residual-in_err-list.ensures.1 in
+    let now = c.frames.invariant.goes limit bytes gathered log goes in
+    let told : Lister = record { frames = c.feed.new.self; printer = c.feed.new.listener; lawful = c.frames.self.lawful } in
+    let takes = takes_frame limit _ now.1.front now.0 c.frames.rest.now c.feed.new.listener c.feed.new.self c.in-Ok.came.used c.in-Ok.came.outcome c.in-Some.outcome now.1.listed.limit_is c.in-Some.is (c.in-Ok.ensures.takes now.0 now.1.front now.1.comes) in
     rw (p.1, p.2)
-    (stopped_there limit bytes c.items.invariant.done c.items.rest.now c.args.piece.now log _ _ c.items.invariant.parts
-    (item_stopped limit (bytes ++ c.items.invariant.done) c.items.rest.now c.in-Ok.fed.used c.in-Some.item log _ _ c.items.self c.list.new.self c.feed.new.self _ (c.items.invariant.goes limit bytes log goes)
-    (λ front stands. subst (λ (o : Option Item). Takes c.items.self.decoder.limit front c.items.rest.now c.feed.new.self c.in-Ok.fed.used o) c.in-Some.is (c.in-Ok.ensures.stands front stands))
-    c.in_err-list.ensures))
+    (stopped_there limit bytes c.frames.invariant.done c.frames.rest.now c.args.piece.now log _ _ c.frames.invariant.parts
+    (frame_stopped limit (bytes ++ c.frames.invariant.done) now.0 c.frames.rest.now c.in-Ok.came.used c.in-Some.outcome log _ _ c.frames.self told c.list.new.self _ now.1 takes
+    (c.in_err-list.ensures.lists limit (now.1.front ++ take c.in-Ok.came.used c.frames.rest.now) now.0 takes.2)))
 
-pub items-preserved : goal.items-preserved
-items-preserved g c =
-    let done = c.items.invariant.done ++ take c.in-Ok.fed.used c.items.rest.now in
+pub frames-preserved : goal.frames-preserved
+frames-preserved g c =
+    let used = c.in-Ok.came.used in
+    let told : Lister = record { frames = c.feed.new.self; printer = c.feed.new.listener; lawful = c.frames.self.lawful } in
+    let w = c.requires.on in
+    let seen = c.frames.invariant.goes w.0 w.3 w.4 w.5 w.6 in
+    let taken = takes_frame w.0 _ seen.1.front seen.0 c.frames.rest.now c.feed.new.listener c.feed.new.self used c.in-Ok.came.outcome c.in-Some.outcome seen.1.listed.limit_is c.in-Some.is (c.in-Ok.ensures.takes seen.0 seen.1.front seen.1.comes) in
     record {
-      done = done;
-      parts = further c.items.invariant.done c.items.rest.now c.args.piece.now c.split_at.result.1.now c.in-Ok.fed.used c.items.invariant.parts c.split_at.ensures.back;
-      sink = same_failures _ _ _ c.in_ok-list.ensures.2.2 ∙ c.items.invariant.sink;
-      goes = λ limit bytes log goes.
-          subst (λ (x : List ℕ). GoesOn limit x log (g.W.Sink.log c.list.new.w) c.list.new.self) (append_assoc bytes c.items.invariant.done (take c.in-Ok.fed.used c.items.rest.now))
-          (item_listed limit (bytes ++ c.items.invariant.done) c.items.rest.now c.in-Ok.fed.used c.in-Some.item log _ _ _ _ c.feed.new.self (c.items.invariant.goes limit bytes log goes)
-          (λ front stands. subst (λ (o : Option Item). Takes c.items.self.decoder.limit front c.items.rest.now c.feed.new.self c.in-Ok.fed.used o) c.in-Some.is (c.in-Ok.ensures.stands front stands))
-          c.in-Ok.ensures.limit c.in_ok-list.ensures);
+      done = c.frames.invariant.done ++ take used c.frames.rest.now;
+      parts = further c.frames.invariant.done c.frames.rest.now c.args.piece.now c.split_at.result.1.now used c.frames.invariant.parts c.split_at.ensures.back;
+      sink = lists_failures w.0 _ _ _ _ _ _ (c.in_ok-list.ensures.lists w.0 (seen.1.front ++ take used c.frames.rest.now) seen.0 taken.2) ∙ c.frames.invariant.sink;
+      goes = λ limit bytes gathered log goes.
+          let now = c.frames.invariant.goes limit bytes gathered log goes in
+          let takes = takes_frame limit _ now.1.front now.0 c.frames.rest.now c.feed.new.listener c.feed.new.self used c.in-Ok.came.outcome c.in-Some.outcome now.1.listed.limit_is c.in-Some.is (c.in-Ok.ensures.takes now.0 now.1.front now.1.comes) in
+          let next = frame_listed limit (bytes ++ c.frames.invariant.done) now.0 c.frames.rest.now used c.in-Some.outcome log _ _ c.frames.self told c.list.new.self now.1 takes c.in-Ok.ensures.limit refl c.in_ok-list.ensures.frames
+          (c.in_ok-list.ensures.lists limit (now.1.front ++ take used c.frames.rest.now) now.0 takes.2) in
+          (next.0, subst (λ (x : List ℕ). GoesOn limit x next.0 log (g.W.Sink.log c.list.new.w) c.list.new.self) (append_assoc bytes c.frames.invariant.done (take used c.frames.rest.now)) next.1);
     }
 
-pub items-preserved-in_ok-list : goal.items-preserved-in_ok-list
-items-preserved-in_ok-list g c =
-    let done = c.items.invariant.done ++ take c.in-Ok.fed.used c.items.rest.now in
-    record {
-      done = done;
-      parts = further c.items.invariant.done c.items.rest.now c.args.piece.now c.split_at.result.1.now c.in-Ok.fed.used c.items.invariant.parts c.split_at.ensures.back;
-      sink = same_failures _ _ _ c.in_ok-list.ensures.2.2 ∙ c.items.invariant.sink;
-      goes = λ limit bytes log goes.
-          subst (λ (x : List ℕ). GoesOn limit x log (g.W.Sink.log c.list.new.w) c.list.new.self) (append_assoc bytes c.items.invariant.done (take c.in-Ok.fed.used c.items.rest.now))
-          (item_listed limit (bytes ++ c.items.invariant.done) c.items.rest.now c.in-Ok.fed.used c.in-Some.item log _ _ _ _ c.feed.new.self (c.items.invariant.goes limit bytes log goes)
-          (λ front stands. subst (λ (o : Option Item). Takes c.items.self.decoder.limit front c.items.rest.now c.feed.new.self c.in-Ok.fed.used o) c.in-Some.is (c.in-Ok.ensures.stands front stands))
-          c.in-Ok.ensures.limit c.in_ok-list.ensures);
-    }
+pub returns-in-Err-Broken-clause-held : goal.returns-in-Err-Broken-clause-held
+returns-in-Err-Broken-clause-held g c = λ limit bytes gathered log goes least.
+    broken_few limit (record { frames = c.feed.new.self; printer = c.feed.new.listener; lawful = c.frames.self.lawful }) (rw c.in-Err-Broken.field-0-is at c.in-Err-Broken.ensures.stops)
+
+pub returns-in_default-clause-held : goal.returns-in_default-clause-held
+returns-in_default-clause-held g c = λ limit bytes gathered log goes least.
+    let done = c.frames.invariant.done in
+    let now = c.frames.invariant.goes limit bytes gathered log goes in
+    goes_few limit ((bytes ++ done) ++ c.frames.rest.now) [] log (g.W.Sink.log c.hand_on.new.w) (record { frames = c.feed.new.self; printer = c.hand_on.new.self; lawful = c.frames.self.lawful }) least
+    (piece_listed limit (bytes ++ done) now.0 c.frames.rest.now now.1.front log _ _ c.frames.self _ c.feed.new.listener now.1.listed
+    (takes_none _ now.1.front now.0 c.frames.rest.now c.feed.new.listener c.feed.new.self c.in-Ok.came.used c.in-Ok.came.outcome c.in-Ok.ensures.limit c.in_default.not-Some (c.in-Ok.ensures.takes now.0 now.1.front now.1.comes))
+    c.in-Ok.ensures.limit refl c.in_ok-hand_on.ensures.written c.in_ok-hand_on.ensures.text c.in_ok-hand_on.ensures.mark)

@@ -3,13 +3,13 @@ use Rattle.llrp_stream.specs.Device.{SinkLog}
 use Rattle.llrp_listing.specs.Lister.{GoesOn}
 use Rattle.llrp_listing.proofs.show.Lister.feed.Given as goal
 
-abbrev pub invariant-items : goal.invariant-items
-invariant-items g l = record {
+abbrev pub invariant-frames : goal.invariant-frames
+invariant-frames g l = record {
   done : List ℕ;
   parts : l.piece ≡ done ++ l.rest;
   sink : (g.W.Sink.log l.w).failures ≡ (g.W.Sink.log l.fn.w).failures;
-  goes : (limit : ℕ) (bytes : List ℕ) (log : SinkLog) → GoesOn limit bytes log (g.W.Sink.log l.fn.w) l.fn.self → GoesOn limit (bytes ++ done) log (g.W.Sink.log l.w) l.self;
+  goes : (limit : ℕ) (bytes gathered : List ℕ) (log : SinkLog) → GoesOn limit bytes gathered log (g.W.Sink.log l.fn.w) l.fn.self → (left : List ℕ) × GoesOn limit (bytes ++ done) left log (g.W.Sink.log l.w) l.self;
 }
 
-abbrev pub decreases-items : goal.decreases-items
-decreases-items g l = length l.rest
+abbrev pub decreases-frames : goal.decreases-frames
+decreases-frames g l = length l.rest

@@ -1,10 +1,13 @@
-use Rattle.std.proofs.Common.{refl}
-use Rattle.std.specs.Prelude.{◌&&◌}
-use Rattle.llrp_listing.specs.declared.show.Lister.{Lister}
-use Rattle.llrp_listing.proofs.ShowLemmas.{lists_handed}
+use Rattle.std.proofs.Common.{refl, subst}
+use Rattle.llrp_stream.specs.declared.reading.frames.Outcome.{Outcome}
+use Rattle.llrp_listing.specs.Lister.{Tells}
+use Rattle.llrp_listing.proofs.ShowLemmas.{whole_listed}
 use Rattle.llrp_listing.proofs.show.Lister.list.Goals as goal
 
-pub returns : goal.returns
-returns g c =
-    let new : Lister = record c.args.self.now { text = c.hand_on_pieces.new.gathered; lawful = c.args.self.now.lawful && c.is_message.result } in
-    lists_handed c.args.item.now c.args.self.now new c.push_item.new.text.items _ _ c.is_message.result c.hand_on_pieces.result c.in_ok-push_item.ensures c.is_message.ensures c.hand_on_pieces.ensures.handed c.hand_on_pieces.ensures.failed refl refl
+pub returns-in-Whole-clause-lists : goal.returns-in-Whole-clause-lists
+returns-in-Whole-clause-lists g c = λ limit frame was told.
+    whole_listed limit frame was c.args.self.now _ _ _ c.hand_on_pieces.result (subst (λ (o : Outcome). Tells c.args.self.now.printer was limit frame o) c.in-Whole.is told) refl c.hand_on_pieces.ensures.handed c.hand_on_pieces.ensures.failed
+
+pub returns-in-Bad-clause-lists : goal.returns-in-Bad-clause-lists
+returns-in-Bad-clause-lists g c = λ limit frame was told.
+    c.list_fault.ensures.lists limit frame was (subst (λ (o : Outcome). Tells c.args.self.now.printer was limit frame o) c.in-Bad.is told)

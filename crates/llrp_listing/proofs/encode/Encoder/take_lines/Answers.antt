@@ -1,0 +1,65 @@
+use Rattle.std.proofs.Common.{◌≡◌, ◌++◌, ◌∷◌, [], ℕ, List, refl, sym, ap, ◌∙◌, arith, append_assoc, length-append, subst}
+use Rattle.std.specs.Prelude.{MatchResult}
+use Rattle.std.proofs.lemmas.List.{append-nil}
+use Rattle.std.proofs.lemmas.Result.{err_from_is_err_and}
+use Rattle.llrp_listing.specs.Encoder.{Stopped}
+use Rattle.llrp_listing.proofs.Standing.{piece_left, piece_parts, stopped_more}
+use Rattle.llrp_listing.specs.Standing.{Stands}
+use Rattle.llrp_listing.proofs.encode.Encoder.take_lines.Goals as goal
+
+pub lines-init : goal.lines-init
+lines-init g c = record {
+  taken = [];
+  parts = refl;
+  stands = λ start text s. subst (λ (z : List ℕ). Stands start (g.W.Sink.log c.args.w.now) z c.args.self.now) (sym (append-nil text)) s;
+  number = omega arith;
+  limit = refl;
+  sink = refl;
+}
+
+pub returns-in_err-end_line-clause-stands : goal.returns-in_err-end_line-clause-stands
+returns-in_err-end_line-clause-stands g c =
+    let p = err_from_is_err_and c.from_residual.result c.from_residual.ensures.1 in
+    let taken = c.lines.invariant.taken in
+    let part = c.in-Some.part.now in
+    let after = c.in-Some.after.now in
+    let now = g.W.Sink.log c.end_line.new.w in
+    let e = c.in_err-end_line.field-0.0 in
+    let limit = c.args.self.now.writer.limit in
+    rw (p.1, p.2) (λ start text s.
+    let stop : Stopped limit start now ((text ++ taken) ++ (part ++ (10 ∷ []))) e = subst (λ (l : ℕ). Stopped l start now ((text ++ taken) ++ (part ++ (10 ∷ []))) e) c.lines.invariant.limit (c.in_err-end_line.ensures.stands start (text ++ taken) c.in-Some.ensures.0 (c.lines.invariant.stands start text s)) in
+    subst (λ (z : List ℕ). Stopped limit start now z e) (piece_parts text taken part after c.lines.rest.now c.args.piece.now c.lines.invariant.parts c.in-Some.ensures.1) (stopped_more limit start now ((text ++ taken) ++ (part ++ (10 ∷ []))) after e stop))
+
+pub lines-preserved : goal.lines-preserved
+lines-preserved g c =
+    let taken = c.lines.invariant.taken in
+    let part = c.in-Some.part.now in
+    let after = c.in-Some.after.now in
+    record {
+      taken = taken ++ (part ++ (10 ∷ []));
+      parts = piece_left taken part after c.lines.rest.now c.args.piece.now c.lines.invariant.parts c.in-Some.ensures.1;
+      stands = λ start text s.
+          subst (λ (z : List ℕ). Stands start (g.W.Sink.log c.end_line.new.w) z c.end_line.new.self) (append_assoc text taken (part ++ (10 ∷ [])))
+          (c.in_ok-end_line.ensures.stands start (text ++ taken) c.in-Some.ensures.0 (c.lines.invariant.stands start text s));
+      number = omega (arith, c.in_ok-end_line.ensures.number, c.lines.invariant.number, length-append taken (part ++ (10 ∷ [])), length-append part (10 ∷ []));
+      limit = c.in_ok-end_line.ensures.limit ∙ c.lines.invariant.limit;
+      sink = c.in_ok-end_line.ensures.sink ∙ c.lines.invariant.sink;
+    }
+
+pub returns-clause-stands : goal.returns-clause-stands
+returns-clause-stands g c =
+    let taken = c.lines.invariant.taken in
+    let rest = c.lines.rest.now in
+    let now = g.W.Sink.log c.go_on.new.w in
+    let limit = c.args.self.now.writer.limit in
+    let same : (text : List ℕ) → (text ++ taken) ++ rest ≡ text ++ c.args.piece.now = λ text. append_assoc text taken rest ∙ ap (λ (z : List ℕ). text ++ z) (sym c.lines.invariant.parts) in
+    λ start text s.
+    subst (λ (z : List ℕ). MatchResult c.go_on.result (λ _. Stands start now z c.go_on.new.self) (Stopped limit start now z)) (same text)
+    (subst (λ (l : ℕ). MatchResult c.go_on.result (λ _. Stands start now ((text ++ taken) ++ rest) c.go_on.new.self) (Stopped l start now ((text ++ taken) ++ rest))) c.lines.invariant.limit
+    (c.go_on.ensures.stands start (text ++ taken) c.in_default.ensures (c.lines.invariant.stands start text s)))
+
+pub end_line-requires-clause-stands : goal.end_line-requires-clause-stands
+end_line-requires-clause-stands g c = let (start, text, s) = c.requires.stands in (start, text ++ c.lines.invariant.taken, c.lines.invariant.stands start text s)
+
+pub go_on-requires-clause-stands : goal.go_on-requires-clause-stands
+go_on-requires-clause-stands g c = let (start, text, s) = c.requires.stands in (start, text ++ c.lines.invariant.taken, c.lines.invariant.stands start text s)

@@ -1,0 +1,27 @@
+-- Lines that are read once, from left to right.
+use Rattle.std.specs.Prelude.{◌≡◌, ℕ, List, [], ◌∷◌}
+use Rattle.llrp_schema.specs.declared.kinds.ParamKind.{ParamKind}
+use Rattle.llrp_schema.specs.declared.kinds.Kind.TheVariants as kinds
+use Rattle.llrp_schema.specs.declared.kinds.Tail.TheVariants.{Absent}
+use Rattle.llrp_schema.specs.Schema.{tail_of}
+use Rattle.llrp_listing.specs.declared.encode.short.ShortLine.{ShortLine}
+use Rattle.llrp_listing.specs.declared.encode.short.ShortLine.TheVariants.{Message, Bare, Number}
+use Rattle.llrp_listing.specs.LineChecks.{AreInForm}
+use Rattle.llrp_listing.specs.NodeLine.{AreNumberTexts, NodeLine, number_forms, parameter_line}
+
+-- the level of what a line says, and what it says
+abbrev pub short_level : ShortLine → ℕ
+short_level (Message kind version id) = 0
+short_level (Bare level kind) = level
+short_level (Number level kind number) = level
+
+abbrev pub short_node : ShortLine → NodeLine
+short_node (Message kind version id) = record { kind = kinds.Message kind; numbers = version ∷ id ∷ []; tail = [] }
+short_node (Bare level kind) = parameter_line kind [] []
+short_node (Number level kind number) = parameter_line kind (number ∷ []) []
+
+-- The words are the texts of all numbers of a parameter's line, which has no tail.
+pub record AreAllNumbers (kind : ParamKind) (ws : List (List ℕ)) (numbers : List ℕ) : Type 0 where
+  pub in_form : AreInForm (number_forms (kinds.Parameter kind)) numbers
+  pub are : AreNumberTexts (number_forms (kinds.Parameter kind)) numbers ws
+  pub no_tail : tail_of (kinds.Parameter kind) ≡ Absent

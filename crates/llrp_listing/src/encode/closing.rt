@@ -1,0 +1,153 @@
+//! A line that comes to its close: its tests, and what its parent keeps of it.
+
+ghost use Rattle.std.specs.Prelude.{◌≡◌, ◌<◌, ◌+◌, ◌∷◌, List, None, Some, [], nat_le, ℕ};
+ghost use Rattle.llrp_schema.specs.declared.kinds.Kind.TheVariants.{Parameter};
+ghost use Rattle.llrp_schema.specs.declared.kinds.ParamKind.{ParamKind};
+ghost use Rattle.llrp_schema.specs.Schema.{groups_of};
+ghost use Rattle.llrp_tree.specs.declared.node.NodeFault.TheVariants.{TooDeep, TooLong};
+ghost use Rattle.llrp_tree.specs.declared.TheConstants.{MAX_DEPTH, MAX_LIMIT, MAX_OCTETS};
+ghost use Rattle.llrp_tree.specs.Checks.{first_failed, none_missing};
+ghost use Rattle.llrp_tree.specs.Tree.{Forest, and, trees};
+ghost use Rattle.llrp_listing.specs.NodeLine.{NodeLine};
+ghost use Rattle.llrp_schema.specs.Places.{IsPlace};
+ghost use Rattle.llrp_listing.specs.OpenNodes.{AreSeen, IsCounted, IsHeld, OpenNode, after_misplaced, after_too_many, early_fault, node_fault, with_child};
+
+use crate::encode::rows::Held;
+use llrp_schema::{Kind, ParamKind, Place, place, required};
+use llrp_tree::{MAX_DEPTH, MAX_LIMIT, MAX_OCTETS, NodeFault};
+
+/// Whether a parameter with this many levels below it, and of this many octets, is too large.
+fn size_fault(levels: u8, octets: u32) -> Option<NodeFault>
+    ensures { result ≡ first_failed ((nat_le (levels + 1) MAX_DEPTH, TooDeep)
+        ∷ (nat_le octets MAX_OCTETS, TooLong) ∷ []) }
+{
+    if levels >= MAX_DEPTH {
+        return Some(NodeFault::TooDeep);
+    }
+    if octets > MAX_OCTETS {
+        return Some(NodeFault::TooLong);
+    }
+    None
+}
+
+/// Whether a message of this many octets is too large.
+fn message_size_fault(octets: u32) -> Option<NodeFault>
+    ensures { result ≡ first_failed ((nat_le octets MAX_LIMIT, TooLong) ∷ []) }
+{
+    if octets > MAX_LIMIT {
+        return Some(NodeFault::TooLong);
+    }
+    None
+}
+
+/// Whether no group of a kind has fewer children than its least.
+fn is_enough(kind: Kind, seen: u32) -> bool
+    ensures { (children : Forest) → AreSeen (groups_of kind) children seen
+        → result ≡ none_missing (groups_of kind) (trees children) }
+{
+    let bits = required(kind);
+    seen & bits == bits
+}
+
+/// The first test that fails of those that need all children.
+fn late_fault(held: &Held) -> Option<NodeFault>
+    ensures { (n : OpenNode) → IsHeld held.now n → held.now.fault ≡ None
+        → result ≡ node_fault n.line n.children }
+{
+    if !is_enough(held.kind, held.seen) {
+        return Some(NodeFault::Missing);
+    }
+    match held.kind {
+        Kind::Message(_) => message_size_fault(held.octets),
+        Kind::Parameter(_) => size_fault(held.levels, held.octets),
+    }
+}
+
+/// The first test of a parameter or a message that fails, now that it has all its children.
+pub fn fault_of(held: &Held) -> Option<NodeFault>
+    ensures { (n : OpenNode) → IsHeld held.now n → result ≡ node_fault n.line n.children }
+{
+    match held.fault {
+        Some(fault) => Some(fault),
+        None => late_fault(held),
+    }
+}
+
+/// The first fault, once a child is of a kind that no group has.
+fn misplaced(fault: Option<NodeFault>) -> NodeFault
+    ensures { result ≡ after_misplaced fault }
+{
+    match fault {
+        None => NodeFault::Misplaced,
+        Some(NodeFault::TooMany) => NodeFault::Misplaced,
+        Some(fault) => fault,
+    }
+}
+
+/// The first fault, once a group has too many children.
+fn too_many(fault: Option<NodeFault>) -> NodeFault
+    ensures { result ≡ after_too_many fault }
+{
+    match fault {
+        None => NodeFault::TooMany,
+        Some(fault) => fault,
+    }
+}
+
+/// What the children of a line are counted to: the first fault, and the groups that have one.
+#[derive(Clone, Copy)]
+pub struct Count {
+    pub fault: Option<NodeFault>,
+    pub seen: u32,
+}
+
+/// One child more of the group at a place.
+fn count_at(place: Place, fault: Option<NodeFault>, seen: u32) -> Count
+    requires { place.index < 32 }
+    ensures { (line : NodeLine) (child : ParamKind) (before : Forest) (numbers tail : List ℕ)
+        (children : Forest) → IsPlace (groups_of line.kind) child place
+        → fault ≡ early_fault line before → AreSeen (groups_of line.kind) before seen
+        → IsCounted line (and before child numbers tail children) result }
+{
+    let has = (seen >> place.index) & 1 == 1;
+    if has && place.once {
+        let fault = Some(too_many(fault));
+        return Count { fault, seen };
+    }
+    let seen = seen | (1u32 << place.index);
+    Count { fault, seen }
+}
+
+/// One child more of a kind.
+fn count_child(kind: Kind, fault: Option<NodeFault>, seen: u32, child: ParamKind) -> Count
+    ensures { (line : NodeLine) (before : Forest) (numbers tail : List ℕ) (children : Forest)
+        → kind ≡ line.kind → fault ≡ early_fault line before
+        → AreSeen (groups_of line.kind) before seen
+        → IsCounted line (and before child numbers tail children) result }
+{
+    match place(kind, child) {
+        None => {
+            let fault = Some(misplaced(fault));
+            Count { fault, seen }
+        }
+        Some(place) => count_at(place, fault, seen),
+    }
+}
+
+/// A parameter that is closed is the last child of the next line.
+pub fn add_child(parent: Held, child: &Held, kind: ParamKind) -> Held
+    requires { child.now.levels < 255 }
+    ensures { (n p : OpenNode) → IsHeld child.now n → n.line.kind ≡ Parameter kind
+        → node_fault n.line n.children ≡ None → IsHeld parent p
+        → IsHeld result (with_child kind n p) }
+{
+    let count = count_child(parent.kind, parent.fault, parent.seen, kind);
+    Held {
+        kind: parent.kind,
+        number: parent.number,
+        fault: count.fault,
+        seen: count.seen,
+        levels: parent.levels.max(child.levels + 1),
+        octets: parent.octets.saturating_add(child.octets),
+    }
+}

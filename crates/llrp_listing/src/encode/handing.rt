@@ -1,0 +1,87 @@
+//! The octets of closed messages are handed on to a sink.
+
+ghost use Rattle.std.specs.Prelude.{◌+◌, ◌<◌, ◌≤◌, ◌≡◌, ◌^◌, IfErr, IsErrAnd, List, OnOk, drop, length, take, ℕ};
+ghost use Rattle.llrp_listing.specs.Copying.{Writes};
+ghost use Rattle.llrp_listing.specs.Encoder.{Refusing};
+ghost use Rattle.llrp_listing.specs.Writer.{Front};
+ghost use Rattle.llrp_listing.specs.Handing.{PassesOn};
+ghost use Rattle.llrp_listing.specs.OpenNodes.{OpenNode};
+ghost use Rattle.llrp_listing.specs.Taking.{Rests};
+
+use crate::copying::{PIECE_SIZE, write_all};
+use crate::encode::writer::{Refused, Writer};
+use crate::fault::ToolErr;
+use llrp_stream::Sink;
+
+/// Writes the octets of closed messages.
+pub fn write_front<W: Sink>(writer: &Writer, w: &mut W) -> Result<(), ToolErr>
+    requires sink { (W.log w.old).failures + 1 < 2 ^ 64 }
+    requires front { writer.now.from ≤ length writer.now.room.items }
+    ensures { Writes (take writer.now.from writer.now.room.items) (W.log w.old)
+        (W.log w.new) result }
+{
+    let (front, _) = writer.room.as_slice().split_at(writer.from);
+    write_all(w, front)
+}
+
+/// A line is refused, once the messages that are closed were written.
+pub fn refuse<W: Sink>(refused: Refused, writer: &Writer, w: &mut W) -> Result<(), ToolErr>
+    requires sink { (W.log w.old).failures + 1 < 2 ^ 64 }
+    requires front { (out : List ℕ) × Front writer.now out }
+    ensures { (out : List ℕ) → Front writer.now out
+        → IsErrAnd result (λ e. Refusing refused.number out refused.reason (W.log w.old)
+        (W.log w.new) e) }
+{
+    match write_front(writer, w) {
+        Ok(()) => Err(ToolErr::Listing {
+            line: refused.number,
+            reason: refused.reason,
+        }),
+        Err(error) => Err(error),
+    }
+}
+
+/// Drops the first octets.
+fn drop_front(room: &mut Vec<u8>, from: usize)
+    requires { from ≤ length room.old.items }
+    ensures { room.new.items ≡ drop from room.old.items }
+{
+    let end = room.len();
+    room.as_mut_slice().copy_within(from..end, 0);
+    room.truncate(end - from);
+}
+
+/// The octets of closed messages are handed on.
+pub fn pass_all<W: Sink>(writer: &mut Writer, w: &mut W) -> Result<(), ToolErr>
+    requires sink { (W.log w.old).failures + 1 < 2 ^ 64 }
+    requires rests { (out : List ℕ) × (ns : List OpenNode) × Rests writer.old out ns }
+    ensures passed { OnOk result ((out : List ℕ) (ns : List OpenNode) → Rests writer.old out ns
+        → PassesOn writer.new out ns (W.log w.old) (W.log w.new)) }
+    ensures limit { writer.new.limit ≡ writer.old.limit }
+    ensures failed { IfErr result (λ e. (out : List ℕ) (ns : List OpenNode)
+        → Rests writer.old out ns → Writes out (W.log w.old) (W.log w.new) result) }
+{
+    if writer.from == 0 {
+        return Ok(());
+    }
+    write_front(writer, w)?;
+    drop_front(&mut writer.room, writer.from);
+    writer.from = 0;
+    Ok(())
+}
+
+/// The octets of closed messages are handed on, once they are a large piece.
+pub fn pass_on<W: Sink>(writer: &mut Writer, w: &mut W) -> Result<(), ToolErr>
+    requires sink { (W.log w.old).failures + 1 < 2 ^ 64 }
+    requires rests { (out : List ℕ) × (ns : List OpenNode) × Rests writer.old out ns }
+    ensures passed { OnOk result ((out : List ℕ) (ns : List OpenNode) → Rests writer.old out ns
+        → PassesOn writer.new out ns (W.log w.old) (W.log w.new)) }
+    ensures limit { writer.new.limit ≡ writer.old.limit }
+    ensures failed { IfErr result (λ e. (out : List ℕ) (ns : List OpenNode)
+        → Rests writer.old out ns → Writes out (W.log w.old) (W.log w.new) result) }
+{
+    if writer.from < PIECE_SIZE {
+        return Ok(());
+    }
+    pass_all(writer, w)
+}

@@ -1,0 +1,186 @@
+//! A line that was read: its own tests, what is kept of it, and its octets.
+
+ghost use Rattle.std.specs.Prelude.{◌≡◌, ◌∷◌, ◌++◌, ◌≤◌, IfOk, OnOk, [], drop, is_none, length, min, nat_le, true};
+ghost use Rattle.llrp_schema.specs.declared.kinds.Kind.TheVariants.{Message, Parameter};
+ghost use Rattle.llrp_schema.specs.Schema.{is_tv};
+ghost use Rattle.llrp_tree.specs.declared.node.NodeFault.TheVariants.{Value};
+ghost use Rattle.llrp_tree.specs.Checks.{first_failed};
+ghost use Rattle.llrp_tree.specs.Lawful.{own_octets};
+ghost use Rattle.llrp_listing.specs.OpenNodes.{IsSaid, MOST};
+ghost use Rattle.llrp_listing.specs.LineOctets.{Puts};
+
+use crate::encode::rows::Held;
+use llrp_schema::{Field, Kind, MsgKind, ParamKind};
+use llrp_tree::{
+    NodeFault, Start, message_start, own_fault, own_octets, parameter_start, tv_start,
+};
+use std::alloc::AllocError;
+
+/// The octets of a parameter's line, or the most that are counted.
+fn parameter_octets(kind: ParamKind, tail: &[u8]) -> u32
+    ensures { result ≡ min (own_octets (Parameter kind) tail.now) MOST }
+{
+    own_octets(Kind::Parameter(kind), tail).min(u32::MAX as u128) as u32
+}
+
+/// The octets of a message's line, or the most that are counted.
+fn message_octets(kind: MsgKind) -> u32
+    ensures { result ≡ min (own_octets (Message kind) []) MOST }
+{
+    own_octets(Kind::Message(kind), &[]).min(u32::MAX as u128) as u32
+}
+
+/// What is kept of a line that begins, and whether its octets were put after those of the others.
+#[derive(Clone, Copy)]
+pub struct Begun {
+    pub held: Held,
+    pub put: bool,
+}
+
+/// What is kept of a line with nothing below it.
+fn first_of_line(kind: Kind, number: u64, fault: Option<NodeFault>, octets: u32) -> Begun
+    ensures { result ≡ record {
+      held = record {
+        kind = kind;
+        number = number;
+        fault = fault;
+        seen = 0;
+        levels = 0;
+        octets = octets;
+      };
+      put = is_none fault;
+    } }
+{
+    let put = match fault {
+        Some(_) => false,
+        None => true,
+    };
+    Begun {
+        held: Held {
+            kind,
+            number,
+            fault,
+            seen: 0,
+            levels: 0,
+            octets,
+        },
+        put,
+    }
+}
+
+/// Appends the octets of a line: those before its tail, and the tail.
+fn append(room: &mut Vec<u8>, start: &Start, tail: &[u8]) -> Result<(), AllocError>
+    requires { start.now.from ≤ length start.now.octets }
+    ensures { OnOk result (room.new.items ≡ (room.old.items ++ drop start.now.from start.now.octets)
+        ++ tail.now) }
+{
+    let (_, octets) = start.octets.as_slice().split_at(start.from);
+    room.extend_from_slice(octets)?;
+    room.extend_from_slice(tail)
+}
+
+/// The first test that fails of the value of a field.
+fn value_fault(rule: &Field, value: u128) -> Option<NodeFault>
+    ensures { result ≡ first_failed ((nat_le value rule.now.greatest, Value) ∷ []) }
+{
+    if value > rule.greatest {
+        return Some(NodeFault::Value);
+    }
+    None
+}
+
+/// Puts the octets of the line of a parameter with a type and a value alone, which was read, after others.
+fn put_tv(
+    room: &mut Vec<u8>,
+    number: u64,
+    kind: ParamKind,
+    value: u128,
+) -> Result<Begun, AllocError>
+    requires tv { is_tv kind ≡ true }
+    requires said { IsSaid (record { kind = Parameter kind; numbers = value ∷ []; tail = [] }) }
+    ensures { IfOk result (λ begun. Puts room.old.items room.new.items begun
+        (record { kind = Parameter kind; numbers = value ∷ []; tail = [] }) number) }
+{
+    let [rule] = llrp_schema::fields(Kind::Parameter(kind)) else {
+        return put_any(room, number, kind, &[value], &[]);
+    };
+    let fault = value_fault(rule, value);
+    let octets = 1 + rule.width / 8;
+    let begun = first_of_line(Kind::Parameter(kind), number, fault, octets);
+    if begun.put {
+        let start = tv_start(kind, rule, value);
+        append(room, &start, &[])?;
+    }
+    Ok(begun)
+}
+
+/// Puts the octets of a parameter's line, which was read, after others.
+pub fn put_parameter(
+    room: &mut Vec<u8>,
+    number: u64,
+    kind: ParamKind,
+    values: &[u128],
+    tail: &[u8],
+) -> Result<Begun, AllocError>
+    requires { IsSaid (record { kind = Parameter kind; numbers = values.now; tail = tail.now }) }
+    ensures { IfOk result (λ begun. Puts room.old.items room.new.items begun
+        (record { kind = Parameter kind; numbers = values.now; tail = tail.now }) number) }
+{
+    let [value] = values else {
+        return put_any(room, number, kind, values, tail);
+    };
+    if tail.len() > 0 || !llrp_schema::is_tv(kind) {
+        return put_any(room, number, kind, values, tail);
+    }
+    put_tv(room, number, kind, *value)
+}
+
+/// The same for a parameter of any kind.
+fn put_any(
+    room: &mut Vec<u8>,
+    number: u64,
+    kind: ParamKind,
+    values: &[u128],
+    tail: &[u8],
+) -> Result<Begun, AllocError>
+    requires { IsSaid (record { kind = Parameter kind; numbers = values.now; tail = tail.now }) }
+    ensures { IfOk result (λ begun. Puts room.old.items room.new.items begun
+        (record { kind = Parameter kind; numbers = values.now; tail = tail.now }) number) }
+{
+    let fault = own_fault(Kind::Parameter(kind), values, tail);
+    let octets = parameter_octets(kind, tail);
+    let begun = first_of_line(Kind::Parameter(kind), number, fault, octets);
+    if begun.put {
+        let start = parameter_start(kind, 0, values, tail);
+        append(room, &start, tail)?;
+    }
+    Ok(begun)
+}
+
+/// Puts the octets of a message's line, which was read, after others.
+pub fn put_message(
+    room: &mut Vec<u8>,
+    number: u64,
+    kind: MsgKind,
+    version: u8,
+    id: u32,
+    values: &[u128],
+) -> Result<Begun, AllocError>
+    requires { IsSaid (record {
+      kind = Message kind;
+      numbers = version ∷ id
+          ∷ values.now;
+      tail = [];
+    }) }
+    ensures { IfOk result (λ begun. Puts room.old.items room.new.items begun
+        (record { kind = Message kind; numbers = version ∷ id ∷ values.now; tail = [] }) number) }
+{
+    let fault = own_fault(Kind::Message(kind), values, &[]);
+    let octets = message_octets(kind);
+    let begun = first_of_line(Kind::Message(kind), number, fault, octets);
+    if begun.put {
+        let start = message_start(version, kind, 0, id, values);
+        append(room, &start, &[])?;
+    }
+    Ok(begun)
+}

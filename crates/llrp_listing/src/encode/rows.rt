@@ -1,0 +1,81 @@
+//! What is kept of the lines that are open.
+
+ghost use Rattle.std.specs.Prelude.{◌≡◌, ◌≤◌, ◌∷◌, [], length, MatchOption};
+ghost use Rattle.llrp_tree.specs.declared.TheConstants.{MAX_DEPTH};
+ghost use Rattle.llrp_listing.specs.Writer.{inner};
+
+use arrayvec::ArrayVec;
+use llrp_schema::{Kind, MsgKind};
+use llrp_tree::{MAX_DEPTH, NodeFault};
+
+/// The most lines that are open at once: a message's, and one of each level of parameters.
+pub const MOST_ROWS: usize = MAX_DEPTH as usize + 1;
+
+/// What is kept of a line that is open.
+#[derive(Clone, Copy)]
+pub struct Held {
+    pub kind: Kind,
+    /// The line's number.
+    pub number: u64,
+    /// The first test that it fails, of those that need no more children.
+    pub fault: Option<NodeFault>,
+    /// The groups that have a child.
+    pub seen: u32,
+    /// How many levels of whole parameters are below it.
+    pub levels: u8,
+    /// Its octets with those of the whole parameters below it.
+    pub octets: u32,
+}
+
+impl Default for Held {
+    fn default() -> Held {
+        Held {
+            kind: Kind::Message(MsgKind::Keepalive),
+            number: 0,
+            fault: None,
+            seen: 0,
+            levels: 0,
+            octets: 0,
+        }
+    }
+}
+
+/// The lines that are open, the innermost last.
+#[derive(Drop)]
+pub struct Rows {
+    pub items: ArrayVec<Held, MOST_ROWS>,
+}
+
+impl Rows {
+    /// No line is open.
+    pub fn new() -> Rows
+        ensures { inner result ≡ [] }
+    {
+        Rows {
+            items: ArrayVec::new(),
+        }
+    }
+
+    /// How many lines are open.
+    pub fn depth(&self) -> usize
+        ensures { result ≡ length (inner self.now) }
+    {
+        self.items.len()
+    }
+
+    /// One line more is open.
+    pub fn push(&mut self, held: Held)
+        requires { length (inner self.old) ≤ MAX_DEPTH }
+        ensures { inner self.new ≡ held ∷ inner self.old }
+    {
+        self.items.push(held);
+    }
+
+    /// The innermost line.
+    pub fn pop(&mut self) -> Option<Held>
+        ensures { MatchOption result (inner self.old ≡ []) (λ held. inner self.old ≡ held
+            ∷ inner self.new) }
+    {
+        self.items.pop()
+    }
+}

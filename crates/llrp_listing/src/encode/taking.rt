@@ -1,0 +1,145 @@
+//! A whole line that was read: its octets go after those of its open parents, the lines of its level or deeper are
+//! closed, and it is open.
+
+ghost use Rattle.std.specs.Prelude.{◌≡◌, ◌∷◌, IfErr, OnOk, []};
+ghost use Rattle.llrp_schema.specs.declared.kinds.Kind.TheVariants.{Message, Parameter};
+ghost use Rattle.llrp_listing.specs.OpenNodes.{IsSaid};
+ghost use Rattle.llrp_listing.specs.Taking.{RestsDeep, TakeFails, Takes, line_level, line_node, said_level, said_node};
+
+use crate::encode::lines::{put_message, put_parameter};
+use crate::encode::writer::{Refused, Writer};
+use crate::line::Line;
+use llrp_schema::{MsgKind, ParamKind};
+
+/// The place where what a line says is kept.
+#[derive(Clone, Copy)]
+pub enum Said<'a> {
+    Message {
+        kind: MsgKind,
+        version: u8,
+        id: u32,
+        fields: &'a [u128],
+    },
+    Parameter {
+        level: usize,
+        kind: ParamKind,
+        fields: &'a [u128],
+        tail: &'a [u8],
+    },
+}
+
+/// What a line says that was read word by word.
+pub fn said_by(line: &Line) -> Said<'_>
+    ensures level { said_level result ≡ line_level line.now }
+    ensures says { said_node result ≡ line_node line.now }
+{
+    match line {
+        Line::Message(line) => Said::Message {
+            kind: line.kind,
+            version: line.version,
+            id: line.id,
+            fields: line.fields.as_slice(),
+        },
+        Line::Parameter(line) => Said::Parameter {
+            level: line.level,
+            kind: line.kind,
+            fields: line.fields.as_slice(),
+            tail: line.tail.as_slice(),
+        },
+    }
+}
+
+/// Why a line is not taken.
+#[derive(Clone, Copy)]
+pub enum TakeErr {
+    /// A line that it closes can't be closed.
+    Refuses(Refused),
+    /// Memory ran out.
+    Memory,
+}
+
+/// Takes a parameter's line.
+pub fn take_parameter(
+    writer: &mut Writer,
+    level: usize,
+    number: u64,
+    kind: ParamKind,
+    values: &[u128],
+    tail: &[u8],
+) -> Result<(), TakeErr>
+    requires said { IsSaid (record {
+      kind = Parameter kind;
+      numbers = values.now;
+      tail = tail.now;
+    }) }
+    requires stands { RestsDeep writer.old level }
+    ensures taken { OnOk result (Takes writer.old writer.new level
+        (record { kind = Parameter kind; numbers = values.now; tail = tail.now }) number) }
+    ensures limit { writer.new.limit ≡ writer.old.limit }
+    ensures stopped { IfErr result (TakeFails writer.old writer.new level) }
+{
+    let at = writer.room.len();
+    match put_parameter(&mut writer.room, number, kind, values, tail) {
+        Err(_) => Err(TakeErr::Memory),
+        Ok(begun) => match writer.open_line(level, begun.held, begun.put, at) {
+            Ok(()) => Ok(()),
+            Err(refused) => Err(TakeErr::Refuses(refused)),
+        },
+    }
+}
+
+/// Takes a message's line.
+pub fn take_message(
+    writer: &mut Writer,
+    number: u64,
+    kind: MsgKind,
+    version: u8,
+    id: u32,
+    values: &[u128],
+) -> Result<(), TakeErr>
+    requires said { IsSaid (record {
+      kind = Message kind;
+      numbers = version ∷ id
+          ∷ values.now;
+      tail = [];
+    }) }
+    requires stands { RestsDeep writer.old 0 }
+    ensures taken { OnOk result (Takes writer.old writer.new 0
+        (record { kind = Message kind; numbers = version ∷ id ∷ values.now; tail = [] }) number) }
+    ensures limit { writer.new.limit ≡ writer.old.limit }
+    ensures stopped { IfErr result (TakeFails writer.old writer.new 0) }
+{
+    let at = writer.room.len();
+    match put_message(&mut writer.room, number, kind, version, id, values) {
+        Err(_) => Err(TakeErr::Memory),
+        Ok(begun) => match writer.open_line(0, begun.held, begun.put, at) {
+            Ok(()) => Ok(()),
+            Err(refused) => Err(TakeErr::Refuses(refused)),
+        },
+    }
+}
+
+/// Takes a line.
+pub fn take(writer: &mut Writer, number: u64, said: Said<'_>) -> Result<(), TakeErr>
+    requires said { IsSaid (said_node said) }
+    requires stands { RestsDeep writer.old (said_level said) }
+    ensures taken { OnOk result (Takes writer.old writer.new (said_level said.entry)
+        (said_node said.entry) number) }
+    ensures limit { writer.new.limit ≡ writer.old.limit }
+    ensures stopped { IfErr result (TakeFails writer.old writer.new (said_level said.entry)) }
+{
+    match said {
+        Said::Message {
+            kind,
+            version,
+            id,
+            fields,
+        } => take_message(writer, number, kind, version, id, fields),
+        Said::Parameter {
+            level,
+            kind,
+            fields,
+            tail,
+        } => take_parameter(writer, level, number, kind, fields, tail),
+    }
+}

@@ -1,0 +1,92 @@
+//! The lines of frames that are not messages, and of a stream's end, put at a place of lent room.
+
+ghost use Rattle.std.specs.Prelude.{◌≡◌, ◌+◌, ◌≤◌, ◌++◌, [], ◌∷◌, decimal, length};
+ghost use Rattle.llrp_stream.specs.declared.item.End.TheVariants as at_end;
+ghost use Rattle.llrp_listing.specs.Place.{Puts};
+ghost use Rattle.llrp_listing.specs.StreamListing.{end_text, fault_text, reason_name};
+
+use crate::printing::decimal::put_decimal;
+use crate::printing::place::{put_octet, put_text, put_two};
+use llrp_stream::End;
+use llrp_tree::{Fault, Reason};
+
+/// The word for a fault.
+#[tactic(auto, unfolding(crate::specs::StreamListing::reason_name))]
+fn name_of(reason: Reason) -> &'static str
+    ensures name { result.now ≡ reason_name reason }
+    ensures few { length result.now ≤ 16 }
+{
+    match reason {
+        Reason::Reserved => "Reserved",
+        Reason::Version => "Version",
+        Reason::MessageType => "MessageType",
+        Reason::MessageLength => "MessageLength",
+        Reason::Short => "Short",
+        Reason::Value => "Value",
+        Reason::Count => "Count",
+        Reason::Utf8 => "Utf8",
+        Reason::ParamType => "ParamType",
+        Reason::Misplaced => "Misplaced",
+        Reason::TooMany => "TooMany",
+        Reason::TooDeep => "TooDeep",
+        Reason::ParamLength => "ParamLength",
+        Reason::Extra => "Extra",
+        Reason::Missing => "Missing",
+    }
+}
+
+/// Puts a number and an octet after it.
+fn put_ended(room: &mut [u8], at: usize, number: u64, end: u8) -> usize
+    requires { at + 21 ≤ length room.old }
+    ensures text { Puts room.old room.new at result (decimal number ++ (end ∷ [])) }
+    ensures most { result ≤ at + 21 }
+{
+    let end_at = put_decimal(room, at, number);
+    put_octet(room, end_at, end)
+}
+
+/// Puts the word for a fault and the end of its line.
+fn put_reason(room: &mut [u8], at: usize, reason: Reason) -> usize
+    requires { at + 17 ≤ length room.old }
+    ensures text { Puts room.old room.new at result (reason_name reason ++ (10 ∷ [])) }
+    ensures most { result ≤ at + 17 }
+{
+    let end_at = put_text(room, at, name_of(reason).as_bytes());
+    put_octet(room, end_at, b'\n')
+}
+
+/// Puts the line of a frame that is not a message.
+pub(crate) fn put_fault(room: &mut [u8], at: usize, id: u32, fault: Fault) -> usize
+    requires { at + 64 ≤ length room.old }
+    ensures text { Puts room.old room.new at result (fault_text id fault) }
+    ensures most { result ≤ at + 64 }
+{
+    let id_at = put_two(room, at, *b"! ");
+    let bit_at = put_ended(room, id_at, id as u64, b' ');
+    let name_at = put_ended(room, bit_at, fault.bit, b' ');
+    put_reason(room, name_at, fault.reason)
+}
+
+/// Puts the line of octets that are not a whole frame.
+fn put_rest(room: &mut [u8], at: usize, octets: u64) -> usize
+    requires { at + 64 ≤ length room.old }
+    ensures text { Puts room.old room.new at result (end_text (at_end.Rest octets)) }
+    ensures most { result ≤ at + 64 }
+{
+    let octets_at = put_two(room, at, *b"? ");
+    put_ended(room, octets_at, octets, b'\n')
+}
+
+/// Puts the line of a stream's end, if it has one.
+pub(crate) fn put_end(room: &mut [u8], at: usize, end: End) -> usize
+    requires { at + 64 ≤ length room.old }
+    ensures text { Puts room.old room.new at result (end_text end) }
+    ensures most { result ≤ at + 64 }
+{
+    match end {
+        End::Clean => at,
+        End::Dead => at,
+        End::Rest(octets) => put_rest(room, at, octets),
+        End::Broken => put_text(room, at, b"! BROKEN\n"),
+    }
+}

@@ -1,0 +1,244 @@
+//! A text that grows at its end.
+
+ghost use Rattle.std.specs.Prelude.{◌≡◌, ◌+◌, ◌-◌, ◌^◌, ◌<◌, ◌≤◌, ◌++◌, [], ◌∷◌, ℕ, List, OnOk, true, decimal, length, take, drop, slice_index};
+ghost use Rattle.llrp_tree.specs.declared.TheConstants.{MAX_DEPTH};
+ghost use Rattle.llrp_schema.specs.declared.kinds.Kind.TheVariants.{Message as MessageKind, Parameter as ParameterKind};
+ghost use Rattle.llrp_schema.specs.Schema.{field_rule, name_of, fields_of, bits_of, is_tv};
+ghost use Rattle.llrp_listing.specs.NodeLine.{field_form, parameter_line, spaced, IsLine, IsNumberText};
+ghost use Rattle.llrp_listing.specs.StreamListing.{end_text, fault_text};
+
+use crate::printing::decimal::put_decimal;
+use crate::printing::ends::{put_end, put_fault};
+use crate::printing::place::{put_octet, put_two};
+use crate::printing::words::{put_field, put_header, put_start, put_value_line};
+use llrp_schema::{Field, Kind, MsgKind, ParamKind};
+use llrp_stream::End;
+use llrp_tree::Fault;
+use std::alloc::{AllocError, Global};
+use std::marker::Model;
+
+/// How much room there is after a text before a piece is put there; no piece is so long.
+const ROOM: usize = 1024;
+
+/// How much room is made where there is too little.
+const MORE_ROOM: usize = 4096;
+
+/// A text, in memory with room after it.
+#[derive(Drop)]
+pub(crate) struct Text {
+    memory: Vec<u8>,
+    /// Where the text ends. What the memory holds after it means nothing.
+    end: usize,
+}
+
+impl Model for Text {
+    ghost Value = { List ℕ };
+
+    ghost view = { λ t. take t.end t.memory.items };
+
+    ghost invariant = { λ t. t.end ≤ length t.memory.items };
+}
+
+/// Sees to it that there is room for a piece after a text.
+#[inline(always)]
+fn make_room(memory: &mut Vec<u8>, end: usize) -> Result<(), AllocError>
+    requires { end ≤ length memory.old.items }
+    ensures text { take end memory.new.items ≡ take end memory.old.items }
+    ensures within { end ≤ length memory.new.items }
+    ensures room { OnOk result (end + 1024 ≤ length memory.new.items) }
+{
+    if memory.len() - end >= ROOM {
+        return Ok(());
+    }
+    grow(memory, end)
+}
+
+/// Makes room after a text.
+#[inline(never)]
+fn grow(memory: &mut Vec<u8>, end: usize) -> Result<(), AllocError>
+    requires whole { end ≤ length memory.old.items }
+    requires short { length memory.old.items < end + 1024 }
+    ensures text { take end memory.new.items ≡ take end memory.old.items }
+    ensures within { end ≤ length memory.new.items }
+    ensures room { OnOk result (end + 1024 ≤ length memory.new.items) }
+{
+    memory.resize(end + MORE_ROOM, 0)
+}
+
+impl Text {
+    /// An empty text, which takes no memory.
+    pub(crate) fn new(alloc: Global) -> Text
+        ensures { result ≡ [] }
+    {
+        Text {
+            memory: Vec::new(alloc),
+            end: 0,
+        }
+    }
+
+    /// The octets of the text.
+    pub(crate) fn as_slice(&self) -> &[u8]
+        ensures { result.now ≡ self.now }
+    {
+        &self.memory[..self.end]
+    }
+
+    /// How many octets it has.
+    pub(crate) fn len(&self) -> usize
+        ensures { result ≡ length self.now }
+    {
+        self.end
+    }
+
+    /// Keeps the first octets alone.
+    pub(crate) fn truncate(&mut self, count: usize)
+        ensures { self.new ≡ take count self.old }
+    {
+        if count < self.end {
+            self.end = count;
+        }
+    }
+
+    /// Takes the first octets away; those after them move to the front.
+    pub(crate) fn drop_front(&mut self, count: usize)
+        requires { count ≤ length self.old }
+        ensures { self.new ≡ drop count self.old }
+    {
+        if count == 0 {
+            return;
+        }
+        let end = self.end;
+        self.memory.as_mut_slice().copy_within(count..end, 0);
+        self.end = end - count;
+    }
+
+    /// Appends the first four words of a message's line.
+    #[inline(always)]
+    pub(crate) fn push_header(
+        &mut self,
+        version: u8,
+        kind: MsgKind,
+        id: u32,
+    ) -> Result<(), AllocError>
+        ensures { OnOk result (self.new ≡ self.old ++ ((decimal 0
+            ++ spaced (name_of (MessageKind kind) ∷ []))
+            ++ ((32 ∷ decimal version) ++ (32 ∷ decimal id)))) }
+    {
+        let end = self.end;
+        make_room(&mut self.memory, end)?;
+        self.end = put_header(self.memory.as_mut_slice(), end, version, kind, id);
+        Ok(())
+    }
+
+    /// Appends the first two words of a parameter's line.
+    #[inline(always)]
+    pub(crate) fn push_start(&mut self, level: u8, kind: Kind) -> Result<(), AllocError>
+        requires { level ≤ MAX_DEPTH }
+        ensures { OnOk result (self.new ≡ self.old ++ (decimal level
+            ++ spaced (name_of kind ∷ []))) }
+    {
+        let end = self.end;
+        make_room(&mut self.memory, end)?;
+        self.end = put_start(self.memory.as_mut_slice(), end, level, kind);
+        Ok(())
+    }
+
+    /// Appends a space and the number of a field.
+    #[inline(always)]
+    pub(crate) fn push_field(&mut self, rule: &Field, number: u128) -> Result<(), AllocError>
+        requires fits { number < 2 ^ rule.now.width }
+        requires signed { rule.now.signed ≡ true → rule.now.width ≡ 8 }
+        ensures { OnOk result ((word : List ℕ)
+            × IsNumberText (field_form (field_rule rule.now)) number word
+            × (self.new ≡ self.old ++ (32 ∷ word))) }
+    {
+        let end = self.end;
+        make_room(&mut self.memory, end)?;
+        self.end = put_field(self.memory.as_mut_slice(), end, rule, number);
+        Ok(())
+    }
+
+    /// Appends the line of a parameter of a type and a value.
+    #[inline(always)]
+    pub(crate) fn push_value_line(
+        &mut self,
+        level: u8,
+        kind: ParamKind,
+        value: u128,
+    ) -> Result<(), AllocError>
+        requires deep { level ≤ MAX_DEPTH }
+        requires tv { is_tv kind ≡ true }
+        requires fits { value < 2 ^ bits_of (fields_of (ParameterKind kind)) }
+        ensures { OnOk result ((line : List ℕ)
+            × IsLine (level, parameter_line kind (value ∷ []) []) line
+            × (self.new ≡ self.old ++ line)) }
+    {
+        let end = self.end;
+        make_room(&mut self.memory, end)?;
+        self.end = put_value_line(self.memory.as_mut_slice(), end, level, kind, value);
+        Ok(())
+    }
+
+    /// Appends the line of a frame that is not a message.
+    pub(crate) fn push_fault(&mut self, id: u32, fault: Fault) -> Result<(), AllocError>
+        ensures { OnOk result (self.new ≡ self.old ++ fault_text id fault) }
+    {
+        let end = self.end;
+        make_room(&mut self.memory, end)?;
+        self.end = put_fault(self.memory.as_mut_slice(), end, id, fault);
+        Ok(())
+    }
+
+    /// Appends the line of a stream's end, if it has one.
+    pub(crate) fn push_end(&mut self, stream_end: End) -> Result<(), AllocError>
+        ensures { OnOk result (self.new ≡ self.old ++ end_text stream_end) }
+    {
+        let end = self.end;
+        make_room(&mut self.memory, end)?;
+        self.end = put_end(self.memory.as_mut_slice(), end, stream_end);
+        Ok(())
+    }
+
+    /// Appends an octet.
+    #[inline(always)]
+    pub(crate) fn push(&mut self, octet: u8) -> Result<(), AllocError>
+        ensures { OnOk result (self.new ≡ self.old ++ (octet ∷ [])) }
+    {
+        let end = self.end;
+        make_room(&mut self.memory, end)?;
+        self.end = put_octet(self.memory.as_mut_slice(), end, octet);
+        Ok(())
+    }
+
+    /// Appends two octets.
+    #[inline]
+    pub(crate) fn push_two(&mut self, octets: [u8; 2]) -> Result<(), AllocError>
+        ensures { OnOk result (self.new ≡ self.old ++ octets) }
+    {
+        let end = self.end;
+        make_room(&mut self.memory, end)?;
+        self.end = put_two(self.memory.as_mut_slice(), end, octets);
+        Ok(())
+    }
+
+    /// Appends a number.
+    #[inline]
+    pub(crate) fn push_decimal(&mut self, number: u64) -> Result<(), AllocError>
+        ensures { OnOk result (self.new ≡ self.old ++ decimal number) }
+    {
+        let end = self.end;
+        make_room(&mut self.memory, end)?;
+        self.end = put_decimal(self.memory.as_mut_slice(), end, number);
+        Ok(())
+    }
+
+    /// The last octet, or 0 of an empty text.
+    pub(crate) fn last(&self) -> u8
+        ensures { result ≡ slice_index self.now (length self.now - 1) }
+    {
+        if self.end == 0 {
+            return 0;
+        }
+        self.memory[self.end - 1]
+    }
+}

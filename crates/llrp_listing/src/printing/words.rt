@@ -1,0 +1,155 @@
+//! The words of a line, put at a place of lent room.
+
+ghost use Rattle.std.specs.Prelude.{◌≡◌, ◌+◌, ◌^◌, ◌<◌, ◌≤◌, ◌++◌, [], ◌∷◌, ℕ, List, true, decimal, length};
+ghost use Rattle.llrp_tree.specs.declared.TheConstants.{MAX_DEPTH};
+ghost use Rattle.llrp_schema.specs.declared.kinds.Kind.TheVariants.{Message as MessageKind, Parameter as ParameterKind};
+ghost use Rattle.llrp_schema.specs.Schema.{field_rule, name_of, fields_of, bits_of, is_tv};
+ghost use Rattle.tag_uri.specs.TagText.{IsTextOf};
+ghost use Rattle.llrp_listing.specs.NodeLine.{field_form, number_forms, parameter_line, spaced, AreNumberTexts, IsLine, IsNumberText};
+ghost use Rattle.llrp_listing.specs.Place.{Puts};
+
+use crate::printing::decimal::{put_below_hundred, put_decimal, put_number, put_signed};
+use crate::printing::place::{put_first, put_octet};
+use llrp_schema::{Field, Kind, MsgKind, ParamKind, label};
+use tag_bits::Word;
+use tag_uri::put_text_of_word;
+
+/// The width of an EPC's word in bits.
+const EPC_WIDTH: u32 = 96;
+
+/// Puts a level, of one digit or two, and a space.
+#[inline(always)]
+fn put_level(room: &mut [u8], at: usize, level: u8) -> usize
+    requires deep { level ≤ MAX_DEPTH }
+    requires room { at + 3 ≤ length room.old }
+    ensures text { Puts room.old room.new at result (decimal level ++ 32 ∷ []) }
+    ensures most { result ≤ at + 3 }
+{
+    let space_at = put_below_hundred(room, at, level as u32);
+    put_octet(room, space_at, b' ')
+}
+
+/// Puts the first two words of a line: the level and the kind's name.
+#[inline(always)]
+pub(crate) fn put_start(room: &mut [u8], at: usize, level: u8, kind: Kind) -> usize
+    requires deep { level ≤ MAX_DEPTH }
+    requires room { at + 35 ≤ length room.old }
+    ensures text { Puts room.old room.new at result (decimal level ++ spaced (name_of kind ∷ [])) }
+    ensures most { result ≤ at + 35 }
+{
+    let label = label(kind);
+    let name_at = put_level(room, at, level);
+    put_first(room, name_at, label.text, label.octets as usize)
+}
+
+/// Puts a space and a number.
+#[inline(always)]
+fn put_spaced(room: &mut [u8], at: usize, number: u64) -> usize
+    requires { at + 21 ≤ length room.old }
+    ensures text { Puts room.old room.new at result (32 ∷ decimal number) }
+    ensures most { result ≤ at + 21 }
+{
+    let number_at = put_octet(room, at, b' ');
+    put_decimal(room, number_at, number)
+}
+
+/// Puts the first four words of a message's line: the level, the name, the version and the id.
+#[inline(always)]
+pub(crate) fn put_header(room: &mut [u8], at: usize, version: u8, kind: MsgKind, id: u32) -> usize
+    requires { at + 77 ≤ length room.old }
+    ensures text { Puts room.old room.new at result ((decimal 0
+        ++ spaced (name_of (MessageKind kind) ∷ []))
+        ++ ((32 ∷ decimal version) ++ (32 ∷ decimal id))) }
+    ensures most { result ≤ at + 77 }
+{
+    let version_at = put_start(room, at, 0, Kind::Message(kind));
+    let id_at = put_spaced(room, version_at, version as u64);
+    put_spaced(room, id_at, id as u64)
+}
+
+/// Puts the text of an EPC's word.
+#[inline(always)]
+fn put_epc(room: &mut [u8], at: usize, bits: u128) -> usize
+    requires fits { bits < 2 ^ 96 }
+    requires room { at + 64 ≤ length room.old }
+    ensures text { (word : List ℕ) × IsTextOf bits word × Puts room.old room.new at result word }
+    ensures most { result ≤ at + 64 }
+{
+    let Some(word) = Word::new(bits) else {
+        unreachable!()
+    };
+    put_text_of_word(room, at, word)
+}
+
+/// Puts the number of a field.
+#[inline(always)]
+fn put_form(room: &mut [u8], at: usize, rule: &Field, number: u128) -> usize
+    requires fits { number < 2 ^ rule.now.width }
+    requires signed { rule.now.signed ≡ true → rule.now.width ≡ 8 }
+    requires room { at + 64 ≤ length room.old }
+    ensures text { (word : List ℕ) × IsNumberText (field_form (field_rule rule.now)) number word
+        × Puts room.old room.new at result word }
+    ensures most { result ≤ at + 64 }
+{
+    if rule.width == EPC_WIDTH {
+        put_epc(room, at, number)
+    } else if rule.signed {
+        put_signed(room, at, number as u8)
+    } else {
+        put_number(room, at, number)
+    }
+}
+
+/// Puts a space and the number of a field.
+#[inline(always)]
+pub(crate) fn put_field(room: &mut [u8], at: usize, rule: &Field, number: u128) -> usize
+    requires fits { number < 2 ^ rule.now.width }
+    requires signed { rule.now.signed ≡ true → rule.now.width ≡ 8 }
+    requires room { at + 65 ≤ length room.old }
+    ensures text { (word : List ℕ) × IsNumberText (field_form (field_rule rule.now)) number word
+        × Puts room.old room.new at result (32 ∷ word) }
+    ensures most { result ≤ at + 65 }
+{
+    let word_at = put_octet(room, at, b' ');
+    put_form(room, word_at, rule, number)
+}
+
+/// Puts the value of a parameter of a type and a value.
+#[inline(always)]
+fn put_value(room: &mut [u8], at: usize, kind: ParamKind, value: u128) -> usize
+    requires tv { is_tv kind ≡ true }
+    requires fits { value < 2 ^ bits_of (fields_of (ParameterKind kind)) }
+    requires room { at + 64 ≤ length room.old }
+    ensures text { (word : List ℕ) × AreNumberTexts (number_forms (ParameterKind kind)) (value
+        ∷ []) (word ∷ []) × Puts room.old room.new at result word }
+    ensures most { result ≤ at + 64 }
+{
+    match kind {
+        ParamKind::Epc96 => put_epc(room, at, value),
+        ParamKind::PeakRssi => put_signed(room, at, value as u8),
+        _ => put_decimal(room, at, value as u64),
+    }
+}
+
+/// Puts the line of a parameter of a type and a value.
+#[inline(always)]
+pub(crate) fn put_value_line(
+    room: &mut [u8],
+    at: usize,
+    level: u8,
+    kind: ParamKind,
+    value: u128,
+) -> usize
+    requires deep { level ≤ MAX_DEPTH }
+    requires tv { is_tv kind ≡ true }
+    requires fits { value < 2 ^ bits_of (fields_of (ParameterKind kind)) }
+    requires room { at + 101 ≤ length room.old }
+    ensures text { (line : List ℕ) × IsLine (level, parameter_line kind (value ∷ []) []) line
+        × Puts room.old room.new at result line }
+    ensures most { result ≤ at + 101 }
+{
+    let space_at = put_start(room, at, level, Kind::Parameter(kind));
+    let value_at = put_octet(room, space_at, b' ');
+    let end_at = put_value(room, value_at, kind, value);
+    put_octet(room, end_at, b'\n')
+}
