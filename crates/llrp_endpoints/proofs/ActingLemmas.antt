@@ -82,7 +82,7 @@ moment_step now mid entries i e within is so =
     let front : take (i + 1) entries ≡ take i entries ++ e ∷ [] = take_more entries i e within ∙ ap (λ (a : Entry). take i entries ++ a ∷ []) (sym is) in
     rw (front, last_moment-append now (take i entries) (e ∷ [])) refl
 
--- an entry happened in part, and those behind it not at all
+-- an entry happened in part, and those after it not at all
 pub some_step : (r r1 : Reader) (entries : List Entry) (i : ℕ) (e : Entry) (event : ReaderEvent) (error : ToolErr) (x y z : List ℕ) → i < length entries → e ≡ get_or entries i e → event ≡ event_in e.action
     → Did r (map happening (take i entries)) r1 x y → DidSome r1 (record { now = e.now; event = event } ∷ []) error y z → DidSome r (map happening entries) error x z
 some_step r r1 entries i e event error x y z within is by so one =

@@ -10,7 +10,7 @@ use Rattle.llrp_session.specs.ClientMessages.{client_message}
 use Rattle.llrp_session.specs.ClientMachine.{Sending, Taking, command, take as client_takes}
 use Rattle.llrp_session.specs.Reading.{heard_of, request_of}
 use Rattle.llrp_session.specs.Sightings.{kept_by}
-use Rattle.llrp_session.specs.World.{WorldEvent, Connects, Commands, DeliversUp, DeliversDown, Sees, Ticks, tags_handed_out}
+use Rattle.llrp_session.specs.World.{WorldEvent, Connects, Commands, DeliversUp, DeliversDown, Sees, Ticks, listed_by, tags_handed_out, tables_shown, tables_differing}
 use Rattle.llrp_session.specs.MessageWorld.{MessageWorld, tags_in_messages, stepped, reader_does, commanded, took, message_happens, run_messages, IsGiven, AreGiven, AreSendable}
 use Rattle.llrp_endpoints.specs.Sending.{AreFrames}
 use Rattle.llrp_endpoints.specs.ByteWorld.{Way, ByteWorld, Happens, ReadsUp, ReadsDown, Reads, Sends, Steps, apart, reader_hears, client_hears}
@@ -18,16 +18,16 @@ use Rattle.llrp_endpoints.specs.EndsAgree.{AreOnTheWay, IsInBytes}
 use Rattle.llrp_endpoints.proofs.SendingLemmas.{frames_append}
 use Rattle.llrp_endpoints.proofs.FrameFronts.{FrontOf, front_of_frames, read_in_one_way, same_messages}
 
--- ---- with more messages on the way, what is said goes behind those
+-- ---- with more messages on the way, what is said goes after those
 
 -- the same world with these messages before what it has on the way
 abbrev pub behind : MessageWorld → (up down : List MessageTree) → MessageWorld
 behind w up down = record w { up = up ++ w.up; down = down ++ w.down }
 
-stepped_behind : (r : Result Turn Refusal) (kept : List Tree) (w : MessageWorld) (up down : List MessageTree) → stepped r kept (behind w up down) ≡ behind (stepped r kept w) up down
-stepped_behind (Err refusal) kept w up down = refl
-stepped_behind (Ok t) kept w up down =
-    ap (λ (x : List MessageTree). let v : MessageWorld = record w { reader = t.reader; up = up ++ w.up; down = x; reported = w.reported ++ tags_in_messages (map reader_message t.sent); kept = w.kept ++ kept } in v)
+stepped_behind : (r : Result Turn Refusal) (kept : List Tree) (listed : List (List Tree)) (w : MessageWorld) (up down : List MessageTree) → stepped r kept listed (behind w up down) ≡ behind (stepped r kept listed w) up down
+stepped_behind (Err refusal) kept listed w up down = refl
+stepped_behind (Ok t) kept listed w up down =
+    ap (λ (x : List MessageTree). let v : MessageWorld = record w { reader = t.reader; up = up ++ w.up; down = x; reported = w.reported ++ tags_in_messages (map reader_message t.sent); kept = w.kept ++ kept; listed = w.listed ++ listed } in v)
     (append_assoc down w.down (map reader_message t.sent))
 
 commanded_behind : (r : Result Sending Refusal) (w : MessageWorld) (up down : List MessageTree) → commanded r (behind w up down) ≡ behind (commanded r w) up down
@@ -56,14 +56,14 @@ pub happens_behind : (e : WorldEvent) (m : MessageWorld) → run_messages (own e
 happens_behind e m = go e (ap₂ (λ (up down : List MessageTree). let v : MessageWorld = record m { up = up; down = down } in v) (sym (append-nil m.up)) (sym (append-nil m.down)))
   where
     go : (e : WorldEvent) → m ≡ behind (apart m) m.up m.down → run_messages (own e) m ≡ behind (message_happens (apart m) e) m.up m.down
-    go (Connects now) h = ap (reader_does now Connect) h ∙ stepped_behind (next now Connect m.reader) (kept_by now Connect m.reader) (apart m) m.up m.down
+    go (Connects now) h = ap (reader_does now Connect) h ∙ stepped_behind (next now Connect m.reader) (kept_by now Connect m.reader) (listed_by Connect m.reader) (apart m) m.up m.down
     go (Commands k) h = ap (commanded (command m.client k)) h ∙ commanded_behind (command m.client k) (apart m) m.up m.down
     go (DeliversUp now) h = h
     go DeliversDown h = h
-    go (Sees now g) h = ap (reader_does now (Seen g)) h ∙ stepped_behind (next now (Seen g) m.reader) (kept_by now (Seen g) m.reader) (apart m) m.up m.down
-    go (Ticks now) h = ap (reader_does now Tick) h ∙ stepped_behind (next now Tick m.reader) (kept_by now Tick m.reader) (apart m) m.up m.down
+    go (Sees now g) h = ap (reader_does now (Seen g)) h ∙ stepped_behind (next now (Seen g) m.reader) (kept_by now (Seen g) m.reader) (listed_by (Seen g) m.reader) (apart m) m.up m.down
+    go (Ticks now) h = ap (reader_does now Tick) h ∙ stepped_behind (next now Tick m.reader) (kept_by now Tick m.reader) (listed_by Tick m.reader) (apart m) m.up m.down
 
--- ---- messages that are taken one after another, with others on the way behind them
+-- ---- messages that are taken one after another, with others on the way after them
 
 abbrev pub to_client : List MessageTree → List WorldEvent
 to_client messages = map (λ (m : MessageTree). DeliversDown) messages
@@ -81,7 +81,7 @@ client_step : (ms rest up : List MessageTree) (w : MessageWorld) → ((v : Messa
 client_step ms rest up w more (Err refusal) = more w
 client_step ms rest up w more (Ok k) =
     let sent : List MessageTree = map client_message k.sent in
-    let then : MessageWorld = record w { client = k.client; up = w.up ++ sent; handed_out = w.handed_out ++ tags_handed_out k.taken } in
+    let then : MessageWorld = record w { client = k.client; up = w.up ++ sent; handed_out = w.handed_out ++ tags_handed_out k.taken; tables = w.tables ++ tables_shown k.taken; differing = w.differing ++ tables_differing k.taken } in
     ap (λ (x : List MessageTree). run_messages (to_client ms) (record then { up = x; down = ms ++ rest })) (append_assoc up w.up sent) ∙ more then
 
 client_hears_more : (ms rest up : List MessageTree) (w : MessageWorld) → ClientHearsMore ms rest up w
@@ -92,19 +92,20 @@ abbrev ReaderHearsMore : ℕ → (ms rest down : List MessageTree) → MessageWo
 ReaderHearsMore now ms rest down w =
     run_messages (to_reader now ms) (record w { up = ms ++ rest; down = down ++ w.down }) ≡ record (reader_hears now ms w) { up = rest; down = down ++ (reader_hears now ms w).down }
 
-reader_step : (now : ℕ) (ms rest down : List MessageTree) (w : MessageWorld) → ((v : MessageWorld) → ReaderHearsMore now ms rest down v) → (r : Result Turn Refusal) (kept : List Tree)
-    → run_messages (to_reader now ms) (stepped r kept (record w { up = ms ++ rest; down = down ++ w.down }))
-    ≡ record (run_messages (to_reader now ms) (stepped r kept (record w { up = ms }))) { up = rest; down = down ++ (run_messages (to_reader now ms) (stepped r kept (record w { up = ms }))).down }
-reader_step now ms rest down w more (Err refusal) kept = more w
-reader_step now ms rest down w more (Ok t) kept =
+reader_step : (now : ℕ) (ms rest down : List MessageTree) (w : MessageWorld) → ((v : MessageWorld) → ReaderHearsMore now ms rest down v) → (r : Result Turn Refusal) (kept : List Tree) (listed : List (List Tree))
+    → run_messages (to_reader now ms) (stepped r kept listed (record w { up = ms ++ rest; down = down ++ w.down }))
+    ≡ record (run_messages (to_reader now ms) (stepped r kept listed (record w { up = ms }))) { up = rest; down = down ++ (run_messages (to_reader now ms) (stepped r kept listed (record w { up = ms }))).down }
+reader_step now ms rest down w more (Err refusal) kept listed = more w
+reader_step now ms rest down w more (Ok t) kept listed =
     let sent : List MessageTree = map reader_message t.sent in
-    let then : MessageWorld = record w { reader = t.reader; down = w.down ++ sent; reported = w.reported ++ tags_in_messages sent; kept = w.kept ++ kept } in
+    let then : MessageWorld = record w { reader = t.reader; down = w.down ++ sent; reported = w.reported ++ tags_in_messages sent; kept = w.kept ++ kept; listed = w.listed ++ listed } in
     ap (λ (x : List MessageTree). run_messages (to_reader now ms) (record then { up = ms ++ rest; down = x })) (append_assoc down w.down sent) ∙ more then
 
 reader_hears_more : (now : ℕ) (ms rest down : List MessageTree) (w : MessageWorld) → ReaderHearsMore now ms rest down w
 reader_hears_more now [] rest down w = refl
 reader_hears_more now (m ∷ ms) rest down w =
     reader_step now ms rest down w (reader_hears_more now ms rest down) (next now (Take m.version m.id (request_of m)) w.reader) (kept_by now (Take m.version m.id (request_of m)) w.reader)
+    (listed_by (Take m.version m.id (request_of m)) w.reader)
 
 -- an end that takes the first of the messages on the way
 pub client_after : (heard rest : List MessageTree) (m : MessageWorld) → m.down ≡ heard ++ rest

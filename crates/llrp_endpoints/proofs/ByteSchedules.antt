@@ -13,20 +13,20 @@ use Rattle.llrp_tree.proofs.ReadDigits.{length-octets_at, are_octets_at, octets_
 use Rattle.llrp_stream.specs.Cuts.{IsPartial}
 use Rattle.llrp_session.specs.Refusal.{Refusal}
 use Rattle.llrp_session.specs.Agreement.{IsTaken}
-use Rattle.llrp_session.specs.MessageAgreement.{MessagesAreTaken, IsOnTheWay, ReaderHasHistory, OneActive}
+use Rattle.llrp_session.specs.MessageAgreement.{MessagesAreTaken, IsOnTheWay, ReaderHasHistory, OneActive, NoneDiffers}
 use Rattle.llrp_session.specs.ClientMachine.{Client, Taking, take as client_takes}
 use Rattle.llrp_session.specs.ReaderMachine.{Reader}
 use Rattle.llrp_session.specs.ClientMessages.{client_message}
 use Rattle.llrp_session.specs.Reading.{heard_of}
 use Rattle.llrp_session.specs.Table.{states}
 use Rattle.llrp_session.specs.LawfulWords.{IsSendable}
-use Rattle.llrp_session.specs.World.{WorldEvent, tags_handed_out}
-use Rattle.llrp_session.specs.MessageWorld.{MessageWorld, tags_in_messages, took, message_happens, run_messages, message_opening, AreGiven, AreSendable}
+use Rattle.llrp_session.specs.World.{WorldEvent, tags_handed_out, tables_shown, tables_differing}
+use Rattle.llrp_session.specs.MessageWorld.{MessageWorld, tags_in_messages, tables_in_messages, took, message_happens, run_messages, message_opening, AreGiven, AreSendable}
 use Rattle.llrp_session.proofs.SendableWorlds.{given_events, sent_up, sent_down}
 use Rattle.llrp_session.proofs.MessagesAgree as messages
 use Rattle.llrp_endpoints.specs.Sending.{AreFrames}
 use Rattle.llrp_endpoints.specs.ByteWorld.{Way, ByteWorld, ByteEvent, Happens, ReadsUp, ReadsDown, Sends, Steps, Runs, apart, reader_hears, client_hears, byte_opening, IsGivenEvent, AreGivenEvents}
-use Rattle.llrp_endpoints.specs.EndsAgree.{IsInBytes, Schedule, IsGivenSchedule, RunsTo, AfterAllBytes, EachScheduleRuns, EachEventHappens, BytesAreMessages, IsARunOfMessages, NothingIsUnexpected, ViewIsTable, ViewCatchesUp, AreOnTheWay, ReportsArrive, ReportsAreKept, PendingIsOnTheWay, NothingIsPending}
+use Rattle.llrp_endpoints.specs.EndsAgree.{IsInBytes, Schedule, IsGivenSchedule, RunsTo, AfterAllBytes, EachScheduleRuns, EachEventHappens, BytesAreMessages, IsARunOfMessages, NothingIsUnexpected, ViewIsTable, ViewCatchesUp, AreOnTheWay, ReportsArrive, ReportsAreKept, PendingIsOnTheWay, NothingIsPending, TablesArrive}
 use Rattle.llrp_endpoints.proofs.SendingLemmas.{frames_none}
 use Rattle.llrp_endpoints.proofs.FrameFronts.{no_messages, one_list}
 use Rattle.llrp_endpoints.proofs.WaysOfMessages.{last_sendable, next_are_messages}
@@ -99,7 +99,7 @@ reach start old new r es g h up down = record {
   in_bytes = subst (λ (m : MessageWorld). IsInBytes m new) (sym (run_more r.events es start)) h;
 }
 
--- what is sent behind leaves what was read
+-- what is sent after leaves what was read
 still : (old new : Way) (said : List MessageTree) → Sends said old new → IsPartial old.read → IsPartial new.read
 still old new said s p = subst IsPartial (sym s.read) p
 
@@ -219,7 +219,7 @@ reader_kept (m ∷ ms) w = took_kept ms w (reader_kept ms) (client_takes w.clien
     took_kept : (ms : List MessageTree) (w : MessageWorld) → ((v : MessageWorld) → (client_hears ms v).reader ≡ v.reader) → (r : Result Taking Refusal)
         → (run_messages (to_client ms) (took r (record w { down = ms }))).reader ≡ w.reader
     took_kept ms w more (Err refusal) = more w
-    took_kept ms w more (Ok k) = let then : MessageWorld = record w { client = k.client; up = w.up ++ map client_message k.sent; handed_out = w.handed_out ++ tags_handed_out k.taken } in more then
+    took_kept ms w more (Ok k) = let then : MessageWorld = record w { client = k.client; up = w.up ++ map client_message k.sent; handed_out = w.handed_out ++ tags_handed_out k.taken; tables = w.tables ++ tables_shown k.taken; differing = w.differing ++ tables_differing k.taken } in more then
 
 none_behind : (bytes : List ℕ) → drop (length bytes) bytes ≡ []
 none_behind bytes = ap (drop (length bytes)) (sym (append-nil bytes)) ∙ drop_at bytes [] (length bytes) refl
@@ -261,6 +261,19 @@ reports_are_kept s w g r down is =
     subst (λ (ends : MessageWorld). (ends.handed_out ++ tags_in_messages down) ++ ends.reader.held ≡ ends.kept) (sym p.in_bytes.ends)
     (subst (λ (ms : List MessageTree). (m.handed_out ++ tags_in_messages ms) ++ m.reader.held ≡ m.kept) (same_way m.down down w.down p.in_bytes.down is)
     (messages.reports_are_kept s.limit s.reader_first s.client_first p.events (given_events p.events p.given)))
+
+pub tables_arrive : AfterAllBytes TablesArrive
+tables_arrive s w g r down is =
+    let p = reached s w g r in
+    let m : MessageWorld = run_messages p.events (start_of s) in
+    subst (λ (ends : MessageWorld). ends.tables ++ tables_in_messages down ≡ ends.listed) (sym p.in_bytes.ends)
+    (subst (λ (ms : List MessageTree). m.tables ++ tables_in_messages ms ≡ m.listed) (same_way m.down down w.down p.in_bytes.down is)
+    (messages.tables_arrive s.limit s.reader_first s.client_first p.events (given_events p.events p.given)))
+
+pub none_differs : AfterAllBytes (λ w. NoneDiffers w.ends)
+none_differs s w g r =
+    let p = reached s w g r in
+    subst NoneDiffers (sym p.in_bytes.ends) (messages.none_differs s.limit s.reader_first s.client_first p.events (given_events p.events p.given))
 
 pub reader_has_history : AfterAllBytes (λ w. ReaderHasHistory w.ends)
 reader_has_history s w g r =

@@ -77,7 +77,7 @@ pub record Fed (g new : Gathering) (piece o0 o1 r0 r1 : List ℕ) (answer : Resu
   pub feeds : (limit : ℕ) (plan : Plan) (bytes rest : List ℕ) (c : Course) → IsOpen limit plan bytes rest c g → Feeds limit plan (bytes ++ piece) c new o0 o1 r0 r1 answer
   pub phase : g.phase ≡ Open → new.phase ≡ phase_left answer
 
--- A piece was fed to a client that stands.
+-- A piece was fed to a client in this state.
 record Piece (e : Ends) (written read piece : List ℕ) (p0 p1 : SinkLog) (g new : Gathering) (o0 o1 r0 r1 : List ℕ) (answer : Result Bool ToolErr) : Type 0 where
   before : ClientStands e written read p0 p1 g o0 r0
   fed : Apart e.limit e.plan (read ++ piece) before.course new o0 o1 r0 r1 answer
@@ -183,7 +183,7 @@ client_unread e s0 s1 down up p0 p1 g lines error h n = by_error error n
 
 -- ---- the loop
 
--- what it heard so far of so many bytes
+-- what it heard so far of this many bytes
 pub record ClientSoFar (e : Ends) (s0 s1 : SourceLog) (p0 p1 : SinkLog) (written read : List ℕ) (count left reads1 : ℕ) (g : Gathering) (out lines : List ℕ) : Type 0 where
   pub bytes : List ℕ
   pub hearing : Hearing s0 s1 read bytes count left reads1

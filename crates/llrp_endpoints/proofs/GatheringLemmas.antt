@@ -119,7 +119,7 @@ none_moved c d o r messages reports s p = record {
   printed = sym (append-nil r);
 }
 
--- a step behind moves
+-- a step after moves
 pub stops_after : (c d e : Course) (o0 o1 o2 r0 r1 r2 : List ℕ) (error : ToolErr) → Moves c d o0 o1 r0 r1 → d.phase ≡ Open → Stops d e o1 o2 r1 r2 error → Stops c e o0 o2 r0 r2 error
 stops_after c d e o0 o1 o2 r0 r1 r2 Memory p opened q = moves_some c d e o0 o1 o2 r0 r1 r2 p opened q
 stops_after c d e o0 o1 o2 r0 r1 r2 (Peer status) p opened q = (q.0, moves_on c d e o0 o1 o2 r0 r1 r2 p opened q.1)

@@ -8,7 +8,7 @@ use Rattle.llrp_tree.specs.declared.fault.Reason.TheVariants.{Reserved, Version,
 use Rattle.llrp_session.specs.declared.words.Command.{Command}
 use Rattle.llrp_session.specs.declared.words.RoState.{RoState}
 use Rattle.llrp_session.specs.declared.words.Taken.{Taken}
-use Rattle.llrp_session.specs.declared.words.Taken.TheVariants.{Connected, Refused, Reply, Tags, Event, Note, Kept, Closed as ConnectionEnded}
+use Rattle.llrp_session.specs.declared.words.Taken.TheVariants.{Connected, Refused, Reply, Tags, Table, Differs, Event, Note, Kept, Closed as ConnectionEnded}
 use Rattle.llrp_session.specs.declared.client.refusal.TakeFault.{TakeFault}
 use Rattle.llrp_session.specs.declared.client.refusal.TakeFault.TheVariants as tf
 use Rattle.llrp_session.specs.ClientSteps.{IsTakeFault}
@@ -77,6 +77,8 @@ after_more Connected c = sends_more c.left c
 after_more (Refused status) c = record { messages = []; reports = []; sent_are = sym (append-nil c.sent); reports_are = sym (append-nil c.reports) }
 after_more (Reply status) c = status_more (status == 0) status c
 after_more (Tags tags) c = tags_more tags c
+after_more (Table rospecs) c = sends_more c.left c
+after_more (Differs rospecs) c = record { messages = []; reports = []; sent_are = sym (append-nil c.sent); reports_are = sym (append-nil c.reports) }
 after_more (Event id state) c = no_more c
 after_more Note c = no_more c
 after_more Kept c = no_more c

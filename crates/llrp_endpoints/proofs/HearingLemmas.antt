@@ -5,7 +5,7 @@ use Rattle.llrp_listing.specs.Copying.{WasGiven}
 use Rattle.llrp_stream.specs.Device.{SourceLog}
 use Rattle.llrp_endpoints.specs.EndsStand.{Given}
 
--- Of so many bytes these were read behind others, and so many are left.
+-- Of this many bytes these were read after others, and this many are left.
 pub record Hearing (r0 r1 : SourceLog) (read bytes : List ℕ) (count left reads1 : ℕ) : Type 0 where
   pub counted : length bytes + left ≡ count
   pub given : Given r0 r1 reads1 (read ++ bytes)

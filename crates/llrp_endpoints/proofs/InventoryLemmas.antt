@@ -32,7 +32,7 @@ added messages old new none a = subst (λ (x : List ℕ). AreFrames messages x) 
 frames_more : (a b : List ClientMessage) (x y : List ℕ) → AreFrames (map client_message a) x → AreFrames (map client_message b) y → AreFrames (map client_message (a ++ b)) (x ++ y)
 frames_more a b x y p q = rw (map-append client_message a b) (frames_append (map client_message a) (map client_message b) x y p q)
 
--- a course that goes on says so much more
+-- a course that goes on says this much more
 pub goes_on_saying : (c d : Course) (frames text o0 o1 r0 r1 : List ℕ) → Says c frames text → c.phase ≡ Open → o0 ≡ [] → r0 ≡ [] → Moves c d o0 o1 r0 r1 → Says d (frames ++ o1) (text ++ r1)
 goes_on_saying c d frames text o0 o1 r0 r1 s opened no_frames no_text m =
     let before : text ≡ s.lines = s.text_is ∙ ap (λ (x : List ℕ). s.lines ++ x) (open_text c.phase c.reports opened) ∙ append-nil s.lines in

@@ -21,7 +21,7 @@ use Rattle.llrp_listing.proofs.DeviceLemmas.{gave_nothing, wrote_nothing, wrote_
 use Rattle.llrp_endpoints.proofs.HearingLemmas.{was_given}
 use Rattle.llrp_endpoints.proofs.ReaderSideLemmas.{reader_goes}
 
--- How far both are, where so many bytes were written down and not read yet, and so many up.
+-- How far both are, where this many bytes were written down and not read yet, and this many up.
 pub record State (e : Ends) (o : Devices) (down up : Way) (report : SinkLog) (r : ReaderSide) (c : ClientSide) (below above : ℕ) : Type 0 where
   pub down_written : List ℕ
   pub down_read : List ℕ

@@ -51,7 +51,7 @@ closes_or_not (Msg m) =
     apart : m.kind ≡ CloseConnection → (number_of (Message CloseConnection) == number_of (Message m.kind)) ≡ false → ⊥
     apart k e = differ (number_of (Message CloseConnection)) (number_of (Message m.kind)) (ap (λ (x : MsgKind). number_of (Message x)) (sym k)) e
 
--- A first one that closes, and what stands before and behind it.
+-- A first one that closes, and what comes before and after it.
 record FirstClosing (items : List Item) : Type 0 where
   before : List Item
   last : Item
@@ -103,7 +103,7 @@ front_of limit (f ∷ frames) (x ∷ xs) ys each are =
 
 -- ---- how the bytes end
 
--- a stream that ends so, with no CLOSE_CONNECTION in it, lets serving stand so
+-- a stream that ends so, with no CLOSE_CONNECTION in it, leaves serving in this state
 abbrev EndsSo : Standing → End → Type 0
 EndsSo waiting Clean = Unit {0}
 EndsSo waiting (Rest n) = Unit {0}
@@ -123,7 +123,7 @@ ends_so early [] h = absurd (h.1 refl)
 ends_so early (b ∷ bytes) h = (Rest (length (b ∷ bytes)), (refl, omega arith, h.0), (length (b ∷ bytes), refl))
 ends_so broken rest h = (Broken, h, refl)
 
--- how serving stands where no more comes
+-- the state of serving where no more comes
 abbrev standing_at : End → Standing
 standing_at Clean = ended
 standing_at (Rest n) = early

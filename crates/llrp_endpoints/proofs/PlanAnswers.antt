@@ -1,6 +1,6 @@
 -- A message that is awaited leads on to the next command.
 use Rattle.std.proofs.Common.{◌≡◌, ℕ, ◌+◌, ◌^◌, ◌<◌, ◌≤◌, ◌==◌, Bool, true, false, cond, List, [], ◌∷◌, ◌++◌, length, refl, sym, ap, subst, ◌∙◌, inl, inr, arith}
-use Rattle.std.specs.Prelude.{◌≢◌, ◌&&◌, Option, None, Some, Ok}
+use Rattle.std.specs.Prelude.{◌≢◌, ◌⊎◌, ◌&&◌, Option, None, Some, Ok}
 use Rattle.std.proofs.lemmas.Bool.{eq-eqb}
 use Rattle.std.proofs.lemmas.List.{length-append}
 use Rattle.llrp_tree.specs.Tree.{Tree, MessageTree}
@@ -8,13 +8,13 @@ use Rattle.llrp_stream.specs.declared.item.Item.TheVariants.{Msg}
 use Rattle.llrp_session.specs.declared.words.ClientPhase.{ClientPhase}
 use Rattle.llrp_session.specs.declared.words.ClientPhase.TheVariants.{Fresh, Ready}
 use Rattle.llrp_session.specs.declared.words.Command.{Command}
-use Rattle.llrp_session.specs.declared.words.Command.TheVariants.{Add, Delete, Start, Stop, Enable, Disable, SetKeepalive, GetReport, Close}
+use Rattle.llrp_session.specs.declared.words.Command.TheVariants.{Add, Delete, Start, Stop, Enable, Disable, GetRospecs, SetKeepalive, GetReport, Close}
 use Rattle.llrp_session.specs.declared.words.Operation.{Operation}
-use Rattle.llrp_session.specs.declared.words.Operation.TheVariants.{Adding, Deleting, Starting, Stopping, Enabling, Disabling, Configuring, Closing}
+use Rattle.llrp_session.specs.declared.words.Operation.TheVariants.{Adding, Deleting, Starting, Stopping, Enabling, Disabling, Configuring, Closing, Listing}
 use Rattle.llrp_session.specs.declared.words.Pending.{Pending}
-use Rattle.llrp_session.specs.declared.words.Taken.TheVariants.{Connected, Reply, Tags}
+use Rattle.llrp_session.specs.declared.words.Taken.TheVariants.{Connected, Reply, Tags, Table, Differs}
 use Rattle.llrp_session.specs.Words.{Asks, ClientMessage, Heard, HeardResponse, HeardError, HeardReport}
-use Rattle.llrp_session.specs.ClientMachine.{Client, Taking, take, take_in, take_ready, take_response, answered, failed, attempted, takes, unexpected, granted, cleared, awaited, is_response_to}
+use Rattle.llrp_session.specs.ClientMachine.{Client, Taking, take, take_in, take_ready, take_response, answered, failed, attempted, takes, unexpected, granted, cleared, listed, awaited, is_response_to, is_view}
 use Rattle.llrp_session.specs.Reading.{heard_of}
 use Rattle.llrp_session.proofs.Following.{LeavesOpen}
 use Rattle.llrp_endpoints.specs.declared.gathering.Awaits.{Awaits}
@@ -23,7 +23,7 @@ use Rattle.llrp_endpoints.specs.declared.gathering.Phase.{Phase}
 use Rattle.llrp_endpoints.specs.declared.gathering.Phase.TheVariants.{Open}
 use Rattle.llrp_endpoints.specs.Plan.{Plan, commands}
 use Rattle.llrp_endpoints.specs.Gathering.{Course, begun, awaited_after, after_item, goes}
-use Rattle.llrp_endpoints.specs.PlanLaws.{course_of, asked, numbered, SendsInOrder, Accepts, Answers, IsAwaitedAfter, SendsOne, SendsWhereAwaited, LeadsOn}
+use Rattle.llrp_endpoints.specs.PlanLaws.{course_of, asked, numbered, SendsInOrder, Accepts, Answers, ListsView, IsAwaitedAfter, SendsOne, SendsWhereAwaited, LeadsOn}
 use Rattle.llrp_endpoints.proofs.PlanCommands.{last_closes, length-numbered, numbered-last, same_last}
 use Rattle.llrp_endpoints.proofs.PlanSteps.{Standing, StandsIn, order_in}
 use Rattle.llrp_endpoints.proofs.PlanFollowing.{Steps, item_so, stands_so, follow-append}
@@ -52,18 +52,32 @@ reports d awaits id h tags ready w is =
     let t : Taking = record { taken = Tags tags; sent = []; client = d } in
     (t, ap (λ (p : ClientPhase). take_in p d id h) ready ∙ ap (take_ready d id) is, w)
 
-responds : (d : Client) (awaits : Awaits) (p : Pending) (id : ℕ) (h : Heard) (operation : Operation) → d.phase ≡ Ready → d.pending ≡ Some p → h ≡ HeardResponse operation 0 → is_response_to p id operation ≡ true → LeavesOpen operation
+responds : (d : Client) (awaits : Awaits) (p : Pending) (id : ℕ) (h : Heard) (operation : Operation) (ts : List Tree) → d.phase ≡ Ready → d.pending ≡ Some p → h ≡ HeardResponse operation 0 ts → is_response_to p id operation ≡ true → LeavesOpen operation
     → Leads d awaits id h
 unfolding take
-responds d awaits p id h operation ready waits is same still =
+responds d awaits p id h operation ts ready waits is same still =
     let t : Taking = record { taken = Reply 0; sent = []; client = record d { pending = None; view = granted p.operation p.rospec d.view } } in (
       t,
       ap (λ (x : ClientPhase). take_in x d id h) ready
           ∙ ap (take_ready d id) is
-          ∙ ap (λ (o : Option Pending). answered o d id operation 0) waits
-          ∙ ap (λ (b : Bool). cond b (take_response operation d p 0) unexpected) same
-          ∙ is_granted operation d p still,
+          ∙ ap (λ (o : Option Pending). answered o d id operation 0 ts) waits
+          ∙ ap (λ (b : Bool). cond b (take_response operation d p 0 ts) unexpected) same
+          ∙ is_granted operation d p ts still,
       refl,
+    )
+
+lists : (d : Client) (awaits : Awaits) (p : Pending) (id : ℕ) (h : Heard) (ts : List Tree) → d.phase ≡ Ready → d.pending ≡ Some p → h ≡ HeardResponse Listing 0 ts → is_response_to p id Listing ≡ true → is_view ts d.view ≡ true
+    → Leads d awaits id h
+unfolding take
+lists d awaits p id h ts ready waits is same view =
+    let t : Taking = record { taken = Table ts; sent = []; client = cleared d } in (
+      t,
+      ap (λ (x : ClientPhase). take_in x d id h) ready
+          ∙ ap (take_ready d id) is
+          ∙ ap (λ (o : Option Pending). answered o d id Listing 0 ts) waits
+          ∙ ap (λ (b : Bool). cond b (listed d 0 ts) unexpected) same
+          ∙ ap (λ (b : Bool). takes (cond b (Table ts) (Differs ts)) (cleared d)) view,
+      tt,
     )
 
 fails : (d : Client) (awaits : Awaits) (p : Pending) (id : ℕ) (h : Heard) → d.phase ≡ Ready → d.pending ≡ Some p → h ≡ HeardError 0 → id ≡ p.id → Leads d awaits id h
@@ -84,7 +98,18 @@ and_false : (b : Bool) → (b && false) ≡ true → ⊥
 and_false true e = cc
 and_false false e = cc
 
-other_kind : (operation : Operation) (n id rospec : ℕ) → LeavesOpen operation → is_response_to (record { id = n; operation = operation; rospec = rospec }) id Closing ≡ true → ⊥
+abbrev IsNotClosing : Operation → Type 0
+IsNotClosing Closing = ⊥
+IsNotClosing Adding = Unit {0}
+IsNotClosing Deleting = Unit {0}
+IsNotClosing Starting = Unit {0}
+IsNotClosing Stopping = Unit {0}
+IsNotClosing Enabling = Unit {0}
+IsNotClosing Disabling = Unit {0}
+IsNotClosing Configuring = Unit {0}
+IsNotClosing Listing = Unit {0}
+
+other_kind : (operation : Operation) (n id rospec : ℕ) → IsNotClosing operation → is_response_to (record { id = n; operation = operation; rospec = rospec }) id Closing ≡ true → ⊥
 other_kind Adding n id rospec still r = and_false (n == id) r
 other_kind Deleting n id rospec still r = and_false (n == id) r
 other_kind Starting n id rospec still r = and_false (n == id) r
@@ -92,9 +117,10 @@ other_kind Stopping n id rospec still r = and_false (n == id) r
 other_kind Enabling n id rospec still r = and_false (n == id) r
 other_kind Disabling n id rospec still r = and_false (n == id) r
 other_kind Configuring n id rospec still r = and_false (n == id) r
+other_kind Listing n id rospec still r = and_false (n == id) r
 other_kind Closing n id rospec still r = absurd still
 
-not_closing : (n : ℕ) (operation : Operation) (rospec id : ℕ) (p : Pending) → LeavesOpen operation → Some (record { id = n; operation = operation; rospec = rospec }) ≡ Some p → is_response_to p id Closing ≡ true → ⊥
+not_closing : (n : ℕ) (operation : Operation) (rospec id : ℕ) (p : Pending) → IsNotClosing operation → Some (record { id = n; operation = operation; rospec = rospec }) ≡ Some p → is_response_to p id Closing ≡ true → ⊥
 not_closing n operation rospec id p still e r =
     let own : Pending = record { id = n; operation = operation; rospec = rospec } in
     let same : p ≡ own = cc in
@@ -107,18 +133,20 @@ not_awaited (Start rospec) n id p e still r = not_closing n Starting rospec id p
 not_awaited (Stop rospec) n id p e still r = not_closing n Stopping rospec id p tt e r
 not_awaited (Enable rospec) n id p e still r = not_closing n Enabling rospec id p tt e r
 not_awaited (Disable rospec) n id p e still r = not_closing n Disabling rospec id p tt e r
+not_awaited GetRospecs n id p e still r = not_closing n Listing 0 id p tt e r
 not_awaited (SetKeepalive ms) n id p e still r = not_closing n Configuring 0 id p tt e r
 not_awaited GetReport n id p e still r = cc
 not_awaited Close n id p e still r = absurd (still refl)
 
-leaves_open : (operation : Operation) (k : Command) (n id : ℕ) (p : Pending) → awaited n k ≡ Some p → k ≢ Close → is_response_to p id operation ≡ true → LeavesOpen operation
-leaves_open Adding k n id p e still r = tt
-leaves_open Deleting k n id p e still r = tt
-leaves_open Starting k n id p e still r = tt
-leaves_open Stopping k n id p e still r = tt
-leaves_open Enabling k n id p e still r = tt
-leaves_open Disabling k n id p e still r = tt
-leaves_open Configuring k n id p e still r = tt
+leaves_open : (operation : Operation) (k : Command) (n id : ℕ) (p : Pending) → awaited n k ≡ Some p → k ≢ Close → is_response_to p id operation ≡ true → LeavesOpen operation ⊎ (operation ≡ Listing)
+leaves_open Adding k n id p e still r = inl tt
+leaves_open Deleting k n id p e still r = inl tt
+leaves_open Starting k n id p e still r = inl tt
+leaves_open Stopping k n id p e still r = inl tt
+leaves_open Enabling k n id p e still r = inl tt
+leaves_open Disabling k n id p e still r = inl tt
+leaves_open Configuring k n id p e still r = inl tt
+leaves_open Listing k n id p e still r = inr refl
 leaves_open Closing k n id p e still r = absurd (not_awaited k n id p e still r)
 
 polls : (k : Command) (n : ℕ) → awaited n k ≡ None → awaited_after k ≡ Report
@@ -129,15 +157,23 @@ polls (Start id) n e = cc
 polls (Stop id) n e = cc
 polls (Enable id) n e = cc
 polls (Disable id) n e = cc
+polls GetRospecs n e = cc
 polls (SetKeepalive ms) n e = cc
 polls Close n e = cc
 
 -- ---- what is awaited
 
-answered_so : (o : Option Pending) (d : Client) (awaits : Awaits) (n : ℕ) (k : Command) (id : ℕ) (h : Heard) → d.phase ≡ Ready → d.pending ≡ o → awaited n k ≡ o → awaits ≡ awaited_after k → k ≢ Close → Answers o id h → Leads d awaits id h
+by_operation : (d : Client) (awaits : Awaits) (p : Pending) (id : ℕ) (h : Heard) (operation : Operation) (ts : List Tree) → d.phase ≡ Ready → d.pending ≡ Some p → h ≡ HeardResponse operation 0 ts → is_response_to p id operation ≡ true
+    → LeavesOpen operation ⊎ (operation ≡ Listing) → ListsView d.view h → Leads d awaits id h
+by_operation d awaits p id h operation ts ready waits is same (inl still) view = responds d awaits p id h operation ts ready waits is same still
+by_operation d awaits p id h operation ts ready waits is same (inr listing) view =
+    let is_listing : h ≡ HeardResponse Listing 0 ts = is ∙ ap (λ (o : Operation). HeardResponse o 0 ts) listing in
+    lists d awaits p id h ts ready waits is_listing (subst (λ (o : Operation). is_response_to p id o ≡ true) listing same) (subst (ListsView d.view) is_listing view)
+
+answered_so : (o : Option Pending) (d : Client) (awaits : Awaits) (n : ℕ) (k : Command) (id : ℕ) (h : Heard) → d.phase ≡ Ready → d.pending ≡ o → awaited n k ≡ o → awaits ≡ awaited_after k → k ≢ Close → Answers o d.view id h → Leads d awaits id h
 answered_so None d awaits n k id h ready waits e w still (tags, is) = reports d awaits id h tags ready (w ∙ polls k n e) is
-answered_so (Some p) d awaits n k id h ready waits e w still (inl r) = responds d awaits p id h r.0 ready waits r.1 r.2 (leaves_open r.0 k n id p e still r.2)
-answered_so (Some p) d awaits n k id h ready waits e w still (inr r) = fails d awaits p id h ready waits r.0 r.1
+answered_so (Some p) d awaits n k id h ready waits e w still (inl r, view) = by_operation d awaits p id h r.0 r.1 ready waits r.2 r.3 (leaves_open r.0 k n id p e still r.3) view
+answered_so (Some p) d awaits n k id h ready waits e w still (inr r, view) = fails d awaits p id h ready waits r.0 r.1
 
 more_than_none : (first before : List Command) (k : Command) → first ≡ before ++ k ∷ [] → length first ≡ 0 → ⊥
 more_than_none first before k e none = absurd (omega (arith, ap (λ (ks : List Command). length ks) e, length-append before (k ∷ [])))
@@ -153,7 +189,7 @@ not_none : (ms : List ClientMessage) (m : ClientMessage) → length (ms ++ m ∷
 not_none ms m e = absurd (omega (arith, e, length-append ms (m ∷ [])))
 
 at_last : (limit : ℕ) (plan : Plan) (c : Course) (id : ℕ) (h : Heard) (before : List ClientMessage) (number : ℕ) (k : Command) → Standing limit plan c → c.left ≢ [] → asked c ≡ before ++ record { id = number; word = Asks k } ∷ []
-    → Answers (awaited number k) id h → Leads c.client c.awaits id h
+    → Answers (awaited number k) c.client.view id h → Leads c.client c.awaits id h
 at_last limit plan c id h before number k s left done a =
     let m : ClientMessage = record { id = number; word = Asks k } in
     elim (s.at) as (λ x. Leads c.client c.awaits id h) [
@@ -164,7 +200,7 @@ at_last limit plan c id h before number k s left done a =
           let word : Asks k ≡ Asks w.last.k = ap (λ (x : ClientMessage). x.word) same in
           let command_is : k ≡ w.last.k = cc in
           let long : number ≡ length s.order.first = ap (λ (x : ClientMessage). x.id) same ∙ omega (arith, length-append w.last.before (w.last.k ∷ []), ap (λ (ks : List Command). length ks) w.last.parts) in
-          let answers : Answers (awaited (length s.order.first) w.last.k) id h = subst (λ (x : Command). Answers (awaited (length s.order.first) x) id h) command_is (subst (λ (x : ℕ). Answers (awaited x k) id h) long a) in
+          let answers : Answers (awaited (length s.order.first) w.last.k) c.client.view id h = subst (λ (x : Command). Answers (awaited (length s.order.first) x) c.client.view id h) command_is (subst (λ (x : ℕ). Answers (awaited x k) c.client.view id h) long a) in
           elim (w.pending) as (λ x. Leads c.client c.awaits id h) [
             | inr p ↦ absurd (left p.1)
             | inl p ↦
@@ -173,7 +209,7 @@ at_last limit plan c id h before number k s left done a =
           ]
     ]
 
-leads_if_awaited : (limit : ℕ) (plan : Plan) (c : Course) (id : ℕ) (h : Heard) → Standing limit plan c → c.left ≢ [] → IsAwaitedAfter (asked c) id h → Leads c.client c.awaits id h
+leads_if_awaited : (limit : ℕ) (plan : Plan) (c : Course) (id : ℕ) (h : Heard) → Standing limit plan c → c.left ≢ [] → IsAwaitedAfter (asked c) c.client.view id h → Leads c.client c.awaits id h
 leads_if_awaited limit plan c id h s left (inl first) = at_first limit plan c id h s first.0 first.1
 leads_if_awaited limit plan c id h s left (inr last) = at_last limit plan c id h last.before last.number last.k s left last.parts last.answers
 
@@ -189,7 +225,7 @@ not_same plan c d k later p q l m same =
     let less : length d.left ≡ length later = ap (λ (ks : List Command). length ks) m in
     absurd (omega arith)
 
-sends_next : (left : List Command) (limit : ℕ) (plan : Plan) (c : Course) (m : MessageTree) → 4096 ≤ limit → plan.polls < 2 ^ 16 → Standing limit plan c → c.phase ≡ Open → c.left ≡ left → c.left ≢ [] → IsAwaitedAfter (asked c) m.id (heard_of m)
+sends_next : (left : List Command) (limit : ℕ) (plan : Plan) (c : Course) (m : MessageTree) → 4096 ≤ limit → plan.polls < 2 ^ 16 → Standing limit plan c → c.phase ≡ Open → c.left ≡ left → c.left ≢ [] → IsAwaitedAfter (asked c) c.client.view m.id (heard_of m)
     → SendsOne c (after_item (Msg m) c) (Msg m)
 sends_next [] limit plan c m least fits s opened l some due = absurd (some l)
 sends_next (k ∷ later) limit plan c m least fits s opened l some due =

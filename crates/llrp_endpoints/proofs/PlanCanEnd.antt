@@ -1,17 +1,18 @@
 -- A reader can let a plan come to its fine end.
-use Rattle.std.proofs.Common.{◌≡◌, ℕ, ◌^◌, ◌<◌, ◌≤◌, List, [], ◌∷◌, ◌++◌, map, refl, sym, ap, subst, ◌∙◌, append_assoc}
+use Rattle.std.proofs.Common.{◌≡◌, ℕ, ◌^◌, ◌<◌, ◌≤◌, cond, List, [], ◌∷◌, ◌++◌, map, refl, sym, ap, subst, ◌∙◌, append_assoc}
+use Rattle.std.proofs.lemmas.Bool.{eq-eqb}
 use Rattle.std.specs.Prelude.{◌≢◌, replicate, None, Some, Result, Ok}
 use Rattle.llrp_stream.specs.declared.item.Item.TheVariants.{Msg}
 use Rattle.llrp_session.specs.declared.words.ClientPhase.TheVariants.{Ready}
 use Rattle.llrp_session.specs.declared.words.Command.{Command}
-use Rattle.llrp_session.specs.declared.words.Command.TheVariants.{Add, Delete, Start, Stop, Enable, Disable, SetKeepalive, GetReport, Close}
+use Rattle.llrp_session.specs.declared.words.Command.TheVariants.{Add, Delete, Start, Stop, Enable, Disable, GetRospecs, SetKeepalive, GetReport, Close}
 use Rattle.llrp_session.specs.declared.words.Operation.{Operation}
-use Rattle.llrp_session.specs.declared.words.Operation.TheVariants.{Adding, Deleting, Starting, Stopping, Enabling, Disabling, Configuring, Closing}
+use Rattle.llrp_session.specs.declared.words.Operation.TheVariants.{Adding, Deleting, Starting, Stopping, Enabling, Disabling, Configuring, Closing, Listing}
 use Rattle.llrp_session.specs.declared.words.Taken.TheVariants.{Connected, Reply, Tags, Closed as ConnectionEnded}
 use Rattle.llrp_session.specs.Refusal.{Refusal}
 use Rattle.llrp_session.specs.RoSpec.{rospec_of}
-use Rattle.llrp_session.specs.Words.{ReaderWord, Response, Report as ReportSent, Accepted, ReaderMessage, heard}
-use Rattle.llrp_session.specs.ClientMachine.{Client, Taking, take, awaited, cleared, closed, granted, new_client}
+use Rattle.llrp_session.specs.Words.{ReaderWord, Response, Error, Report as ReportSent, Accepted, ReaderMessage, heard}
+use Rattle.llrp_session.specs.ClientMachine.{Client, Taking, take, takes, failed, unexpected, awaited, cleared, closed, granted, new_client}
 use Rattle.llrp_session.specs.Reading.{heard_of}
 use Rattle.llrp_session.specs.ReaderMessages.{reader_message}
 use Rattle.llrp_session.proofs.Following.{LeavesOpen, request_with, awaited_response, when_ready}
@@ -20,7 +21,7 @@ use Rattle.llrp_endpoints.specs.declared.gathering.Awaits.{Awaits}
 use Rattle.llrp_endpoints.specs.declared.gathering.Awaits.TheVariants.{Report}
 use Rattle.llrp_endpoints.specs.declared.gathering.Phase.{Phase}
 use Rattle.llrp_endpoints.specs.declared.gathering.Phase.TheVariants.{Open, Closed}
-use Rattle.llrp_endpoints.specs.Plan.{Plan, rospec, commands}
+use Rattle.llrp_endpoints.specs.Plan.{Plan, rospec, checking, commands}
 use Rattle.llrp_endpoints.specs.Gathering.{Course, begun, ended, awaited_after, after_taking, after_item, goes, follow}
 use Rattle.llrp_endpoints.specs.PlanLaws.{CanEnd}
 use Rattle.llrp_endpoints.proofs.PlanCommands.{last_closes, closes_last}
@@ -55,7 +56,7 @@ by_response client awaits n operation rospec ready waits still = record {
   message = said n (Response operation 0);
   taking = record { taken = Reply 0; sent = []; client = record client { pending = None; view = granted operation rospec client.view } };
   meets = record {
-    takes = read_back client n (Response operation 0) ∙ awaited_response client n operation rospec 0 ready waits ∙ is_granted operation client (request_with n operation rospec) still;
+    takes = read_back client n (Response operation 0) ∙ awaited_response client n operation rospec 0 ready waits ∙ is_granted operation client (request_with n operation rospec) [] still;
     leads = refl;
   };
   ready = ready;
@@ -69,6 +70,18 @@ by_report client awaits ready w = record {
   ready = ready;
 }
 
+-- an ERROR_MESSAGE of status 0 answers any request
+by_error : (client : Client) (awaits : Awaits) (n : ℕ) (operation : Operation) (rospec : ℕ) → client.phase ≡ Ready → client.pending ≡ Some (request_with n operation rospec) → Answered client awaits
+by_error client awaits n operation rospec ready waits = record {
+  message = said n (Error 0);
+  taking = record { taken = Reply 0; sent = []; client = cleared client };
+  meets = record {
+    takes = read_back client n (Error 0) ∙ when_ready client n (Error 0) ready ∙ ap (λ o. failed o client n 0) waits ∙ ap (λ b. cond b (takes (Reply 0) (cleared client)) unexpected) (eq-eqb n n refl);
+    leads = refl;
+  };
+  ready = ready;
+}
+
 answered_by : (client : Client) (awaits : Awaits) (n : ℕ) (k : Command) → AwaitsAfter client awaits n k → k ≢ Close → Answered client awaits
 answered_by client awaits n (Add spec) w open_still = by_response client awaits n Adding (rospec_of spec).id w.ready w.pending tt
 answered_by client awaits n (Delete id) w open_still = by_response client awaits n Deleting id w.ready w.pending tt
@@ -76,6 +89,7 @@ answered_by client awaits n (Start id) w open_still = by_response client awaits 
 answered_by client awaits n (Stop id) w open_still = by_response client awaits n Stopping id w.ready w.pending tt
 answered_by client awaits n (Enable id) w open_still = by_response client awaits n Enabling id w.ready w.pending tt
 answered_by client awaits n (Disable id) w open_still = by_response client awaits n Disabling id w.ready w.pending tt
+answered_by client awaits n GetRospecs w open_still = by_error client awaits n Listing 0 w.ready w.pending
 answered_by client awaits n (SetKeepalive ms) w open_still = by_response client awaits n Configuring 0 w.ready w.pending tt
 answered_by client awaits n GetReport w open_still = by_report client awaits w.ready w.awaits_is
 answered_by client awaits n Close w open_still = absurd (open_still refl)
@@ -134,7 +148,7 @@ can_end limit plan least fits =
     let d : Course = after_item (Msg (reader_message m)) c in
     let k : Command = Add (rospec plan.every) in
     let s : Standing limit plan c = begins limit plan in
-    let later : List Command = Enable 1 ∷ Start 1 ∷ (replicate plan.polls GetReport ++ Stop 1 ∷ Delete 1 ∷ Close ∷ []) in
+    let later : List Command = Enable 1 ∷ Start 1 ∷ (replicate plan.polls GetReport ++ Stop 1 ∷ (checking plan.checked ++ Delete 1 ∷ Close ∷ [])) in
     let so : Led c t.client k later d = led limit plan c (reader_message m) t k later least fits s refl (record { takes = read_back c.client 1 (Accepted 0) ∙ accepted limit; leads = tt }) refl in
     let stands : Standing limit plan d = subst (λ (p : Phase). StandsIn p limit plan d) so.open_is (item_so limit plan c (Msg (reader_message m)) s refl).stands in
     one_before c m refl

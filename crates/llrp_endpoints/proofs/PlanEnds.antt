@@ -1,16 +1,19 @@
 -- Where a course ends, and that it ends as Strange exactly at what was strange to its client.
 use Rattle.std.proofs.Common.{◌≡◌, ℕ, ◌^◌, ◌<◌, ◌≤◌, List, [], ◌∷◌, ◌++◌, refl, sym, ap, subst, ◌∙◌}
-use Rattle.std.specs.Prelude.{◌≢◌, Result}
+use Rattle.std.specs.Prelude.{◌≢◌, Result, Ok, Err}
 use Rattle.llrp_stream.specs.declared.item.Item.{Item}
 use Rattle.llrp_stream.specs.declared.item.Item.TheVariants.{Msg, Bad}
 use Rattle.llrp_session.specs.Refusal.{Refusal}
-use Rattle.llrp_session.specs.ClientMachine.{Taking}
+use Rattle.llrp_session.specs.declared.words.Taken.{Taken}
+use Rattle.llrp_session.specs.declared.words.Taken.TheVariants.{Connected, Refused, Reply, Tags, Table, Differs, Event, Note, Kept, Closed as ConnectionEnded}
+use Rattle.llrp_session.specs.ClientMachine.{Taking, take}
+use Rattle.llrp_session.specs.Reading.{heard_of}
 use Rattle.llrp_listing.specs.declared.fault.ToolErr.TheVariants.{Strange}
 use Rattle.llrp_endpoints.specs.declared.gathering.Phase.{Phase}
 use Rattle.llrp_endpoints.specs.declared.gathering.Phase.TheVariants.{Open, Closed, Failed}
 use Rattle.llrp_endpoints.specs.Plan.{Plan}
-use Rattle.llrp_endpoints.specs.Gathering.{Course, begun, ends, after_taking, after_item, goes, follow}
-use Rattle.llrp_endpoints.specs.PlanLaws.{course_of, IsStrangeTo, MetStrange, StrangeIsTheReaders}
+use Rattle.llrp_endpoints.specs.Gathering.{Course, begun, after, after_taking, after_item, goes, follow}
+use Rattle.llrp_endpoints.specs.PlanLaws.{course_of, IsOtherTable, IsTakenStrangely, IsStrangeTo, MetStrange, StrangeIsTheReaders}
 use Rattle.llrp_endpoints.proofs.GatheringSteps.{bad_is_strange}
 use Rattle.llrp_endpoints.proofs.PlanSteps.{Standing, StandsIn}
 use Rattle.llrp_endpoints.proofs.PlanFollowing.{stands_so, follow-append, stays}
@@ -77,20 +80,38 @@ met limit plan items least fits z =
       strange = strange_item limit plan c at.item least fits (standing limit plan at.before at.open_is) at.open_is (ap (λ (x : Course). x.phase) (sym at.end_is) ∙ z);
     }
 
-strange_ends : (c : Course) (item : Item) → IsStrangeTo c.client item → after_item item c ≡ ends (Failed Strange) c
-strange_ends c (Msg m) e = ap (λ (r : Result Taking Refusal). after_taking r c) e
-strange_ends c (Bad id fault) p = sym (bad_is_strange fault.reason c p.0 p.1)
+other_ends : (taken : Taken) (c : Course) → IsOtherTable taken → (after taken c).phase ≡ Failed Strange
+other_ends (Differs rospecs) c o = refl
+other_ends Connected c o = absurd o
+other_ends (Refused status) c o = absurd o
+other_ends (Reply status) c o = absurd o
+other_ends (Tags tags) c o = absurd o
+other_ends (Table rospecs) c o = absurd o
+other_ends (Event id state) c o = absurd o
+other_ends Note c o = absurd o
+other_ends Kept c o = absurd o
+other_ends ConnectionEnded c o = absurd o
+
+strange_taking : (r : Result Taking Refusal) (c : Course) → IsTakenStrangely r → (after_taking r c).phase ≡ Failed Strange
+strange_taking (Err refusal) c e = refl
+strange_taking (Ok t) c e = other_ends t.taken (record c { client = t.client; sent = c.sent ++ t.sent }) e
+
+strange_ends : (c : Course) (item : Item) → IsStrangeTo c.client item → (after_item item c).phase ≡ Failed Strange
+strange_ends c (Msg m) e = strange_taking (take c.client m.id (heard_of m)) c e
+strange_ends c (Bad id fault) p = ap (λ (x : Course). x.phase) (sym (bad_is_strange fault.reason c p.0 p.1))
 
 met_ends : (limit : ℕ) (plan : Plan) (items : List Item) → MetStrange limit plan items → (course_of limit plan items).phase ≡ Failed Strange
 met_ends limit plan items m =
     let c : Course = course_of limit plan m.before in
-    let last : goes c.phase m.item c ≡ ends (Failed Strange) c = ap (λ (p : Phase). goes p m.item c) m.open_is ∙ strange_ends c m.item m.strange in
-    let whole : course_of limit plan items ≡ ends (Failed Strange) c =
+    let d : Course = after_item m.item c in
+    let strange : d.phase ≡ Failed Strange = strange_ends c m.item m.strange in
+    let last : goes c.phase m.item c ≡ d = ap (λ (p : Phase). goes p m.item c) m.open_is in
+    let whole : course_of limit plan items ≡ d =
     ap (course_of limit plan) m.parts
     ∙ follow-append m.before (m.item ∷ m.later) (begun limit plan)
     ∙ ap (follow m.later) last
-    ∙ stays m.later (ends (Failed Strange) c) (λ e. let no : Failed Strange ≡ Open = e in cc) in
-    ap (λ (x : Course). x.phase) whole
+    ∙ stays m.later d (λ e. let no : Failed Strange ≡ Open = sym strange ∙ e in cc) in
+    ap (λ (x : Course). x.phase) whole ∙ strange
 
 pub strange_is_the_readers : (limit : ℕ) (plan : Plan) → 4096 ≤ limit → plan.polls < 2 ^ 16 → StrangeIsTheReaders limit plan
 strange_is_the_readers limit plan least fits items = (

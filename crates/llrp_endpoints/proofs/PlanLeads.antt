@@ -1,14 +1,14 @@
 -- A message that leads on: the plan's next command is sent.
 use Rattle.std.proofs.Common.{◌≡◌, ℕ, ◌^◌, ◌<◌, ◌≤◌, List, [], ◌∷◌, ◌++◌, refl, sym, ap, subst, ◌∙◌}
 use Rattle.std.specs.Prelude.{None, Result, Ok}
-use Rattle.llrp_tree.specs.Tree.{MessageTree}
+use Rattle.llrp_tree.specs.Tree.{Tree, MessageTree}
 use Rattle.llrp_stream.specs.declared.item.Item.TheVariants.{Msg}
 use Rattle.llrp_session.specs.declared.words.Command.{Command}
 use Rattle.llrp_session.specs.declared.words.Operation.{Operation}
-use Rattle.llrp_session.specs.declared.words.Operation.TheVariants.{Adding, Deleting, Starting, Stopping, Enabling, Disabling, Configuring, Closing}
+use Rattle.llrp_session.specs.declared.words.Operation.TheVariants.{Adding, Deleting, Starting, Stopping, Enabling, Disabling, Configuring, Closing, Listing}
 use Rattle.llrp_session.specs.declared.words.Pending.{Pending}
 use Rattle.llrp_session.specs.declared.words.Taken.{Taken}
-use Rattle.llrp_session.specs.declared.words.Taken.TheVariants.{Connected, Refused, Reply, Tags, Event, Note, Kept, Closed as ConnectionEnded}
+use Rattle.llrp_session.specs.declared.words.Taken.TheVariants.{Connected, Refused, Reply, Tags, Table, Differs, Event, Note, Kept, Closed as ConnectionEnded}
 use Rattle.llrp_session.specs.Refusal.{Refusal}
 use Rattle.llrp_session.specs.ClientMachine.{Client, Sending, Taking, take, take_response, takes, command, sending, granted}
 use Rattle.llrp_session.specs.Reading.{heard_of}
@@ -45,6 +45,8 @@ led_after : (taken : Taken) (c e : Course) (k : Command) (later : List Command) 
 led_after Connected c e k later leads opened next takes = led_on c e k later opened next takes
 led_after (Reply status) c e k later leads opened next takes = subst (λ (n : ℕ). Led c e.client k later (after (Reply n) e)) (sym leads) (led_on c e k later opened next takes)
 led_after (Tags tags) c e k later leads opened next takes = led_by_report c (record e { reports = e.reports ++ tags ∷ [] }) k later e.awaits leads opened next takes
+led_after (Table rospecs) c e k later leads opened next takes = led_on c e k later opened next takes
+led_after (Differs rospecs) c e k later leads opened next takes = absurd leads
 led_after (Refused status) c e k later leads opened next takes = absurd leads
 led_after (Event id state) c e k later leads opened next takes = absurd leads
 led_after Note c e k later leads opened next takes = absurd leads
@@ -66,12 +68,13 @@ led limit plan c m t k later least fits s opened meets next =
 
 -- ---- a request that is granted
 
-pub is_granted : (operation : Operation) (c : Client) (p : Pending) → LeavesOpen operation → take_response operation c p 0 ≡ takes (Reply 0) (record c { pending = None; view = granted p.operation p.rospec c.view })
-is_granted Adding c p still = refl
-is_granted Deleting c p still = refl
-is_granted Starting c p still = refl
-is_granted Stopping c p still = refl
-is_granted Enabling c p still = refl
-is_granted Disabling c p still = refl
-is_granted Configuring c p still = refl
-is_granted Closing c p still = absurd still
+pub is_granted : (operation : Operation) (c : Client) (p : Pending) (ts : List Tree) → LeavesOpen operation → take_response operation c p 0 ts ≡ takes (Reply 0) (record c { pending = None; view = granted p.operation p.rospec c.view })
+is_granted Adding c p ts still = refl
+is_granted Deleting c p ts still = refl
+is_granted Starting c p ts still = refl
+is_granted Stopping c p ts still = refl
+is_granted Enabling c p ts still = refl
+is_granted Disabling c p ts still = refl
+is_granted Configuring c p ts still = refl
+is_granted Closing c p ts still = absurd still
+is_granted Listing c p ts still = absurd still

@@ -8,7 +8,7 @@ use Rattle.llrp_session.specs.declared.words.ClientPhase.TheVariants.{Fresh, Rea
 use Rattle.llrp_session.specs.declared.words.Command.{Command}
 use Rattle.llrp_session.specs.declared.words.Pending.{Pending}
 use Rattle.llrp_session.specs.declared.words.Taken.{Taken}
-use Rattle.llrp_session.specs.declared.words.Taken.TheVariants.{Connected, Refused, Reply, Tags, Event, Note, Kept, Closed as ConnectionEnded}
+use Rattle.llrp_session.specs.declared.words.Taken.TheVariants.{Connected, Refused, Reply, Tags, Table, Differs, Event, Note, Kept, Closed as ConnectionEnded}
 use Rattle.llrp_session.specs.Refusal.{Refusal}
 use Rattle.llrp_session.specs.Words.{Asks, ClientMessage, Heard}
 use Rattle.llrp_session.specs.ClientMachine.{Client, Sending, Taking, command, take, awaited}
@@ -41,6 +41,8 @@ EndsAs (Reply status) a p = (status ≢ 0) × (p ≡ Failed (Peer status))
 EndsAs ConnectionEnded a p = p ≡ ended a
 EndsAs Connected a p = ⊥
 EndsAs (Tags tags) a p = ⊥
+EndsAs (Table rospecs) a p = ⊥
+EndsAs (Differs rospecs) a p = ⊥
 EndsAs (Event id state) a p = ⊥
 EndsAs Note a p = ⊥
 EndsAs Kept a p = ⊥
@@ -70,6 +72,8 @@ ends_as Connected p e opened o z = absurd (not_sending p e.left e opened o z)
 ends_as (Refused status) p e opened o z = (sym z, refl)
 ends_as (Reply status) p e opened o z = replied_so p status e opened o z
 ends_as (Tags tags) p e opened o z = absurd (not_reporting p e.awaits (record e { reports = e.reports ++ tags ∷ [] }) opened o z)
+ends_as (Table rospecs) p e opened o z = absurd (not_sending p e.left e opened o z)
+ends_as (Differs rospecs) p e opened o z = absurd (o.not_strange (sym z))
 ends_as (Event id state) p e opened o z = absurd (o.not_open (sym z ∙ opened))
 ends_as Note p e opened o z = absurd (o.not_open (sym z ∙ opened))
 ends_as Kept p e opened o z = absurd (o.not_open (sym z ∙ opened))
@@ -165,6 +169,8 @@ tells_status (Reply n) limit plan c d status id h s t e =
 tells_status ConnectionEnded limit plan c d status id h s t e = absurd (not_peer c.awaits status e)
 tells_status Connected limit plan c d status id h s t e = absurd e
 tells_status (Tags tags) limit plan c d status id h s t e = absurd e
+tells_status (Table rospecs) limit plan c d status id h s t e = absurd e
+tells_status (Differs rospecs) limit plan c d status id h s t e = absurd e
 tells_status (Event rospec state) limit plan c d status id h s t e = absurd e
 tells_status Note limit plan c d status id h s t e = absurd e
 tells_status Kept limit plan c d status id h s t e = absurd e
@@ -184,7 +190,7 @@ peer limit plan items status z =
 
 -- ---- the connection's end
 
--- no end tells a status
+-- no end has a status
 IsNoStatus : Phase → Type 0
 IsNoStatus p = (status : ℕ) → p ≢ Failed (Peer status)
 
@@ -195,6 +201,8 @@ tells_end (Reply n) c d awaits p id h none t e = absurd (none n e.1)
 tells_end ConnectionEnded c d awaits p id h none t e = (e, t)
 tells_end Connected c d awaits p id h none t e = absurd e
 tells_end (Tags tags) c d awaits p id h none t e = absurd e
+tells_end (Table rospecs) c d awaits p id h none t e = absurd e
+tells_end (Differs rospecs) c d awaits p id h none t e = absurd e
 tells_end (Event rospec state) c d awaits p id h none t e = absurd e
 tells_end Note c d awaits p id h none t e = absurd e
 tells_end Kept c d awaits p id h none t e = absurd e

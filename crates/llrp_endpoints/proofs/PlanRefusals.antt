@@ -16,7 +16,7 @@ use Rattle.llrp_session.specs.declared.words.Command.{Command}
 use Rattle.llrp_session.specs.declared.words.Command.TheVariants.{Add, Delete, Stop, GetReport, Close}
 use Rattle.llrp_session.specs.declared.words.Pending.{Pending}
 use Rattle.llrp_session.specs.declared.words.Taken.{Taken}
-use Rattle.llrp_session.specs.declared.words.Taken.TheVariants.{Connected, Refused, Reply, Tags, Event, Note, Kept, Closed as ConnectionEnded}
+use Rattle.llrp_session.specs.declared.words.Taken.TheVariants.{Connected, Refused, Reply, Tags, Table, Differs, Event, Note, Kept, Closed as ConnectionEnded}
 use Rattle.llrp_session.specs.Refusal.{Refusal, Busy, OverLimit, IdsSpent, Unexpected}
 use Rattle.llrp_session.specs.RoSpec.{rospec_of}
 use Rattle.llrp_session.specs.Words.{Heard}
@@ -27,9 +27,9 @@ use Rattle.llrp_endpoints.specs.declared.gathering.Awaits.{Awaits}
 use Rattle.llrp_endpoints.specs.declared.gathering.Awaits.TheVariants.{Answer, Report, End}
 use Rattle.llrp_endpoints.specs.declared.gathering.Phase.{Phase}
 use Rattle.llrp_endpoints.specs.declared.gathering.Phase.TheVariants.{Open, Failed}
-use Rattle.llrp_endpoints.specs.Plan.{Plan, rospec, commands}
+use Rattle.llrp_endpoints.specs.Plan.{Plan, rospec, checking, commands}
 use Rattle.llrp_endpoints.specs.Gathering.{Course, ends, ended, sends_by, sends, goes_on, reported, after, after_taking, after_bad, after_item}
-use Rattle.llrp_endpoints.specs.PlanLaws.{course_of, LeadsOn, TakesEachCommand, IsStrangeTo}
+use Rattle.llrp_endpoints.specs.PlanLaws.{course_of, LeadsOn, TakesEachCommand, IsOtherTable, IsTakenStrangely, IsStrangeTo}
 use Rattle.llrp_endpoints.proofs.PlanClients.{TakesFor, Takes, TakesOr}
 use Rattle.llrp_endpoints.proofs.PlanCommands.{length-commands}
 use Rattle.llrp_endpoints.proofs.PlanSteps.{Standing, StandsIn}
@@ -51,13 +51,17 @@ not_above a b h = grind (arith, nat_tests)
 add_within : (limit every : ℕ) → 4096 ≤ limit → IsWithin limit (Add (rospec every))
 add_within limit every h = let o = octets_of_rospec every in not_above limit (10 + (rospec_of (rospec every)).octets) (omega arith)
 
-polls_within : (limit polls : ℕ) → AllByRecursion (IsWithin limit) (replicate polls GetReport ++ Stop 1 ∷ Delete 1 ∷ Close ∷ [])
-polls_within limit zero = (refl, (refl, (refl, tt)))
-polls_within limit (suc polls) = (refl, polls_within limit polls)
+check_within : (limit : ℕ) (checked : Bool) → AllByRecursion (IsWithin limit) (checking checked ++ Delete 1 ∷ Close ∷ [])
+check_within limit true = (refl, (refl, (refl, tt)))
+check_within limit false = (refl, (refl, tt))
+
+polls_within : (limit polls : ℕ) (checked : Bool) → AllByRecursion (IsWithin limit) (replicate polls GetReport ++ Stop 1 ∷ (checking checked ++ Delete 1 ∷ Close ∷ []))
+polls_within limit zero checked = (refl, check_within limit checked)
+polls_within limit (suc polls) checked = (refl, polls_within limit polls checked)
 
 commands_within : (limit : ℕ) (plan : Plan) → 4096 ≤ limit → AllByRecursion (IsWithin limit) (commands plan)
 unfolding commands
-commands_within limit plan h = (add_within limit plan.every h, (refl, (refl, polls_within limit plan.polls)))
+commands_within limit plan h = (add_within limit plan.every h, (refl, (refl, polls_within limit plan.polls plan.checked)))
 
 among : (limit : ℕ) (first : List Command) (k : Command) (later : List Command) → AllByRecursion (IsWithin limit) (first ++ k ∷ later) → IsWithin limit k
 among limit [] k later all = all.0
@@ -105,6 +109,8 @@ is_free (Tags tags) limit plan c d id h s t l = record {
   ready = ap (λ (x : Client). x.phase) t.same ∙ t.was;
   pending = ap (λ (x : Client). x.pending) t.same ∙ waits_not limit plan c s t.was l;
 }
+is_free (Table rospecs) limit plan c d id h s t l = record { ready = t.is; pending = t.pending }
+is_free (Differs rospecs) limit plan c d id h s t l = absurd l
 is_free (Refused status) limit plan c d id h s t l = absurd l
 is_free (Event rospec state) limit plan c d id h s t l = absurd l
 is_free Note limit plan c d id h s t l = absurd l
@@ -169,24 +175,26 @@ not_ending Answer z = cc
 not_ending Report z = cc
 not_ending End z = cc
 
-not_taking : (taken : Taken) (e : Course) → e.phase ≡ Open → TakesNext taken e → (after taken e).phase ≡ Failed Strange → ⊥
+not_taking : (taken : Taken) (e : Course) → e.phase ≡ Open → TakesNext taken e → (after taken e).phase ≡ Failed Strange → IsOtherTable taken
 unfolding TakesNext
-not_taking Connected e opened takes z = not_sending e.left e opened (λ k later l. takes k later tt l) z
+not_taking Connected e opened takes z = absurd (not_sending e.left e opened (λ k later l. takes k later tt l) z)
 not_taking (Refused status) e opened takes z = let no : Failed (Peer status) ≡ Failed Strange = z in cc
-not_taking (Reply status) e opened takes z = not_replying status e opened takes z
-not_taking (Tags tags) e opened takes z = not_reporting e.awaits tags e (record e { reports = e.reports ++ tags ∷ [] }) opened refl refl refl takes z
-not_taking (Event rospec state) e opened takes z = is_open e.phase e.phase opened z
-not_taking Note e opened takes z = is_open e.phase e.phase opened z
-not_taking Kept e opened takes z = is_open e.phase e.phase opened z
-not_taking ConnectionEnded e opened takes z = not_ending e.awaits z
+not_taking (Reply status) e opened takes z = absurd (not_replying status e opened takes z)
+not_taking (Tags tags) e opened takes z = absurd (not_reporting e.awaits tags e (record e { reports = e.reports ++ tags ∷ [] }) opened refl refl refl takes z)
+not_taking (Table rospecs) e opened takes z = absurd (not_sending e.left e opened (λ k later l. takes k later tt l) z)
+not_taking (Differs rospecs) e opened takes z = tt
+not_taking (Event rospec state) e opened takes z = absurd (is_open e.phase e.phase opened z)
+not_taking Note e opened takes z = absurd (is_open e.phase e.phase opened z)
+not_taking Kept e opened takes z = absurd (is_open e.phase e.phase opened z)
+not_taking ConnectionEnded e opened takes z = absurd (not_ending e.awaits z)
 
 strange_message : (limit : ℕ) (plan : Plan) (c : Course) (id : ℕ) (h : Heard) (r : Result Taking Refusal) → 4096 ≤ limit → plan.polls < 2 ^ 16 → Standing limit plan c → c.phase ≡ Open
-    → TakesOr c.client id h r → (after_taking r c).phase ≡ Failed Strange → r ≡ Err Unexpected
+    → TakesOr c.client id h r → (after_taking r c).phase ≡ Failed Strange → IsTakenStrangely r
 unfolding TakesNext
-strange_message limit plan c id h (Err refusal) least fits s opened t z = ap Err t
+strange_message limit plan c id h (Err refusal) least fits s opened t z = t
 strange_message limit plan c id h (Ok t) least fits s opened k z =
     let e : Course = record c { client = t.client; sent = c.sent ++ t.sent } in
-    absurd (not_taking t.taken e opened (λ k' later leads next. takes_next limit plan c id h t k' later least fits s k leads next) z)
+    not_taking t.taken e opened (λ k' later leads next. takes_next limit plan c id h t k' later least fits s k leads next) z
 
 pub strange_item : (limit : ℕ) (plan : Plan) (c : Course) (item : Item) → 4096 ≤ limit → plan.polls < 2 ^ 16 → Standing limit plan c → c.phase ≡ Open → (after_item item c).phase ≡ Failed Strange → IsStrangeTo c.client item
 strange_item limit plan c (Msg m) least fits s opened z =

@@ -8,11 +8,12 @@ use Rattle.std.proofs.lemmas.List.Elements.{filter-append}
 use Rattle.llrp_tree.specs.Tree.{Tree}
 use Rattle.llrp_session.specs.declared.words.ClientPhase.TheVariants.{Fresh, Ready}
 use Rattle.llrp_session.specs.declared.words.Command.{Command}
-use Rattle.llrp_session.specs.declared.words.Command.TheVariants.{Add, Delete, Start, Stop, Enable, Disable, SetKeepalive, GetReport, Close}
+use Rattle.llrp_session.specs.declared.words.Command.TheVariants.{Add, Delete, Start, Stop, Enable, Disable, GetRospecs, SetKeepalive, GetReport, Close}
 use Rattle.llrp_session.specs.declared.words.Pending.{Pending}
 use Rattle.llrp_session.specs.declared.words.Taken.{Taken}
-use Rattle.llrp_session.specs.declared.words.Taken.TheVariants.{Connected, Refused, Reply, Tags, Event, Note, Kept, Closed as ConnectionEnded}
+use Rattle.llrp_session.specs.declared.words.Taken.TheVariants.{Connected, Refused, Reply, Tags, Table, Differs, Event, Note, Kept, Closed as ConnectionEnded}
 use Rattle.llrp_session.specs.Refusal.{Refusal}
+use Rattle.llrp_session.specs.declared.words.Viewed.{Viewed}
 use Rattle.llrp_session.specs.Words.{Asks, ClientMessage, Heard}
 use Rattle.llrp_session.specs.ClientMachine.{Client, Taking, awaited}
 use Rattle.llrp_listing.specs.declared.fault.ToolErr.TheVariants.{Peer, Strange, Early}
@@ -22,7 +23,7 @@ use Rattle.llrp_endpoints.specs.declared.gathering.Phase.{Phase}
 use Rattle.llrp_endpoints.specs.declared.gathering.Phase.TheVariants.{Open, Closed, Failed}
 use Rattle.llrp_endpoints.specs.Plan.{Plan, rospec, commands}
 use Rattle.llrp_endpoints.specs.Gathering.{Course, ends, ended, awaited_after, goes_on, reported, after, after_taking}
-use Rattle.llrp_endpoints.specs.PlanLaws.{is_command, asked, numbered, SendsInOrder, Answers, IsAwaitedAfter}
+use Rattle.llrp_endpoints.specs.PlanLaws.{is_command, asked, numbered, SendsInOrder, Answers, ListsView, IsAwaitedAfter}
 use Rattle.llrp_endpoints.proofs.PlanClients.{Replies, Joins, IsAnswered, HandsOut, Stays, TakesFor, TakesOr}
 use Rattle.llrp_endpoints.proofs.PlanCommands.{poll_of, polls_in, polls_in-append, polls_in-commands, one_at_most, last_closes, numbered-last}
 use Rattle.llrp_endpoints.proofs.PlanSteps.{Begins, HasAll, Last, Waits, Standing, StandsIn, MaySend, Goes, in_phase, same_order, failed_order, sent_next, goes}
@@ -37,6 +38,7 @@ no_poll n (Start rospec) status id h r = refl
 no_poll n (Stop rospec) status id h r = refl
 no_poll n (Enable rospec) status id h r = refl
 no_poll n (Disable rospec) status id h r = refl
+no_poll n GetRospecs status id h r = refl
 no_poll n (SetKeepalive ms) status id h r = refl
 no_poll n Close status id h r = refl
 
@@ -49,6 +51,7 @@ is_poll (Start id) e = cc
 is_poll (Stop id) e = cc
 is_poll (Enable id) e = cc
 is_poll (Disable id) e = cc
+is_poll GetRospecs e = cc
 is_poll (SetKeepalive ms) e = cc
 is_poll Close e = cc
 
@@ -60,12 +63,13 @@ is_closing (Start id) e = cc
 is_closing (Stop id) e = cc
 is_closing (Enable id) e = cc
 is_closing (Disable id) e = cc
+is_closing GetRospecs e = cc
 is_closing (SetKeepalive ms) e = cc
 is_closing GetReport e = cc
 
-answers : (o : Option Pending) (id : ℕ) (h : Heard) → Replies o 0 id h → Answers o id h
-answers None id h r = absurd r
-answers (Some p) id h r = r
+answers : (o : Option Pending) (view : List Viewed) (id : ℕ) (h : Heard) → Replies o 0 id h → ListsView view h → Answers o view id h
+answers None view id h r l = absurd r
+answers (Some p) view id h r l = (r, l)
 
 -- ---- a message that was taken
 
@@ -82,7 +86,7 @@ pub record Moved (c e : Course) : Type 0 where
 pub record AwaitedOne (c d : Course) (id : ℕ) (h : Heard) : Type 0 where
   pub next : ClientMessage
   pub sent_are : asked d ≡ asked c ++ next ∷ []
-  pub awaits : IsAwaitedAfter (asked c) id h
+  pub awaits : IsAwaitedAfter (asked c) c.client.view id h
 
 -- from the one to the other one command was sent at most, at what was awaited for it
 pub record Follows (limit : ℕ) (plan : Plan) (c d : Course) (id : ℕ) (h : Heard) : Type 0 where
@@ -93,7 +97,7 @@ abbrev moved_order : (plan : Plan) (c e : Course) → Moved c e → SendsInOrder
 moved_order plan c e m s = same_order plan c e s m.left m.asked_are
 
 -- the next command is sent at what was awaited for it
-goes_awaited : (limit : ℕ) (plan : Plan) (c e d : Course) (id : ℕ) (h : Heard) → asked e ≡ asked c → IsAwaitedAfter (asked c) id h → Goes limit plan e d → Follows limit plan c d id h
+goes_awaited : (limit : ℕ) (plan : Plan) (c e d : Course) (id : ℕ) (h : Heard) → asked e ≡ asked c → IsAwaitedAfter (asked c) c.client.view id h → Goes limit plan e d → Follows limit plan c d id h
 goes_awaited limit plan c e d id h same due g = record {
   stands = g.stands;
   sends = elim (g.sends) as (λ x. (asked d ≡ asked c) ⊎ AwaitedOne c d id h) [
@@ -114,7 +118,7 @@ last_asked plan c s last =
     ∙ ap (λ (n : ℕ). let m : ClientMessage = record { id = n; word = Asks last.k } in numbered 1 last.before ++ m ∷ []) long
 
 -- its last command is answered
-answers_last : (plan : Plan) (c : Course) (s : SendsInOrder plan c) (last : Last c s.first) (id : ℕ) (h : Heard) → Answers (awaited (length s.first) last.k) id h → IsAwaitedAfter (asked c) id h
+answers_last : (plan : Plan) (c : Course) (s : SendsInOrder plan c) (last : Last c s.first) (id : ℕ) (h : Heard) → Answers (awaited (length s.first) last.k) c.client.view id h → IsAwaitedAfter (asked c) c.client.view id h
 answers_last plan c s last id h a = inr (record { before = numbered 1 last.before; number = length s.first; k = last.k; parts = last_asked plan c s last; answers = a })
 
 -- ---- the connection
@@ -164,7 +168,7 @@ answered_so limit plan c e status id h s opened m a zero =
               polled = omega arith;
             } in
             let kept : Last e s.order.first = record { before = last.before; k = last.k; parts = last.parts; awaits = m.awaits ∙ last.awaits; polled = omega arith } in
-            let due = answers_last plan c s.order last id h (answers (awaited (length s.order.first) last.k) id h (subst (λ (n : ℕ). Replies (awaited (length s.order.first) last.k) n id h) zero replies)) in
+            let due = answers_last plan c s.order last id h (answers (awaited (length s.order.first) last.k) c.client.view id h (subst (λ (n : ℕ). Replies (awaited (length s.order.first) last.k) n id h) zero replies) (a.lists zero)) in
             goes_awaited limit plan c e (goes_on e) id h m.asked_are due (goes limit plan e e.left free kept (m.phase ∙ opened) refl)
       ]
     ]
@@ -226,7 +230,7 @@ by_report limit plan c e tags id h s opened m more o Report w =
             polled = omega arith;
           } in
           let kept : Last e s.order.first = record { before = last.before; k = last.k; parts = last.parts; awaits = m.awaits ∙ last.awaits; polled = omega arith } in
-          let due = answers_last plan c s.order last id h (subst (λ (x : Option Pending). Answers x id h) (sym none) (tags, o.report)) in
+          let due = answers_last plan c s.order last id h (subst (λ (x : Option Pending). Answers x c.client.view id h) (sym none) (tags, o.report)) in
           goes_awaited limit plan c e (goes_on e) id h m.asked_are due (goes limit plan e e.left free kept (m.phase ∙ opened) refl)
     ]
 
@@ -267,6 +271,8 @@ taken_for (Tags tags) limit plan c e id h s opened m r t =
     let long : length d.reports ≡ length c.reports + 1 = length-append e.reports (tags ∷ []) ∙ ap (λ (x : List (List Tree)). length x + 1) r in
     let moved : Moved c d = record { phase = m.phase; left = m.left; awaits = m.awaits; reports = omega arith; asked_are = m.asked_are; limit_is = m.limit_is; next_id = m.next_id } in
     by_report limit plan c d tags id h s opened moved (omega arith) t e.awaits (sym m.awaits)
+taken_for (Table rospecs) limit plan c e id h s opened m r t = answered_so limit plan c e 0 id h s opened m t refl
+taken_for (Differs rospecs) limit plan c e id h s opened m r t = ended_so limit plan c e id h (Failed Strange) m (failed_order plan e (Failed Strange) (moved_order plan c e m s.order))
 taken_for (Event rospec state) limit plan c e id h s opened m r t = stayed limit plan c e id h s opened m t
 taken_for Note limit plan c e id h s opened m r t = stayed limit plan c e id h s opened m t
 taken_for Kept limit plan c e id h s opened m r t = stayed limit plan c e id h s opened m t

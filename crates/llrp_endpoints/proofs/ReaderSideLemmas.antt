@@ -116,7 +116,7 @@ reader_unread e r0 r1 down up s error h n = by_error error n
 
 -- ---- the loop
 
--- what it heard so far of so many bytes
+-- what it heard so far of this many bytes
 pub record ReaderSoFar (e : Ends) (r0 r1 : SourceLog) (written read : List ℕ) (count left reads1 : ℕ) (s : Serving) (out : List ℕ) : Type 0 where
   pub bytes : List ℕ
   pub hearing : Hearing r0 r1 read bytes count left reads1

@@ -44,7 +44,7 @@ begins_so (c ∷ p) (d ∷ text) = elim (bool_cases (d == c)) [
     differ : (d c : ℕ) → (d == c) ≡ false → d ≡ c → ⊥
     differ d c h e = grind arith
 
--- the text begins so, and a fact that can be told holds of the rest
+-- the text begins so, and a fact that is decided holds of the rest
 then_so : (p text : List ℕ) (P : List ℕ → Type 0) → ((t : List ℕ) → Decided (P t)) → Decided ((t : List ℕ) × P t × (text ≡ p ++ t))
 then_so p text P decide = elim (begins_so p text) [
   | inr never ↦ inr (λ h. never (h.0, h.2))

@@ -149,7 +149,7 @@ line_lacks e line r h =
 pub no_line : (entries : List Entry) (text : List ℕ) → Lacks 10 text → NoneContinues entries text
 no_line entries text none e rest h = lacks_not 10 text h.line rest none h.text_is
 
--- the line that comes next stands before the first LF
+-- the line that comes next is what comes before the first LF
 pub record Next (entries : List Entry) (line rest : List ℕ) (e : Entry) (more : List ℕ) : Type 0 where
   pub in_range : IsInRange e
   pub says : IsEntryLine e line

@@ -7,7 +7,7 @@ use Rattle.llrp_endpoints.specs.declared.script.Action.{Action}
 use Rattle.llrp_endpoints.specs.declared.script.Action.TheVariants.{Seen, Tick}
 use Rattle.llrp_endpoints.specs.declared.script.Entry.{Entry}
 use Rattle.llrp_listing.specs.Splits.{Lacks, IsSplit}
-use Rattle.llrp_endpoints.specs.Script.{IsSightingLine, IsActionLine, IsEntryLine, IsSightingInRange, IsActionInRange, IsInRange}
+use Rattle.llrp_endpoints.specs.Script.{IsSightingLine, IsActionLine, IsEntryLine, IsSightingInRange, IsInRange}
 use Rattle.llrp_listing.proofs.SplitWords.{lacks_not, one_split, decimal_lacks, signed_lacks, two_words, no_second}
 
 -- ---- sightings
@@ -31,18 +31,6 @@ sighting_parts s line a rest b epc p q r h =
 pub no_action : (a : Action) (text word rest : List ℕ) → IsSplit 32 text word rest → (text ≡ codes "tick" → ⊥) → (word ≡ codes "seen" → ⊥) → IsActionLine a text → ⊥
 no_action (Seen s) text word rest p tick seen h = seen (one_split 32 word (codes "seen") rest h.0 p.0 (refl, (refl, (refl, (refl, tt)))) (sym p.1 ∙ h.2)).0
 no_action Tick text word rest p tick seen h = tick h
-
--- the line's end is no tick, and has one word
-pub no_sighting : (a : Action) (text : List ℕ) → Lacks 32 text → (text ≡ codes "tick" → ⊥) → IsActionLine a text → ⊥
-no_sighting (Seen s) text none tick h = lacks_not 32 text (codes "seen") h.0 none h.2
-no_sighting Tick text none tick h = tick h
-
--- behind the word seen stands a sighting
-pub that_sighting : (a : Action) (text word rest : List ℕ) → IsSplit 32 text word rest → (text ≡ codes "tick" → ⊥) → IsActionInRange a → IsActionLine a text → (s : Sighting) × (a ≡ Seen s) × IsSightingInRange s × IsSightingLine s rest
-that_sighting (Seen s) text word rest p tick r h =
-    let same = one_split 32 word (codes "seen") rest h.0 p.0 (refl, (refl, (refl, (refl, tt)))) (sym p.1 ∙ h.2) in
-    (s, refl, r, subst (λ (x : List ℕ). IsSightingLine s x) (sym same.1) h.1)
-that_sighting Tick text word rest p tick r h = absurd (tick h)
 
 -- ---- entries
 

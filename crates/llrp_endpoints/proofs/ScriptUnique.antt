@@ -73,11 +73,11 @@ goes_on a b rest lawful none g =
     let whole : IsLawful ((a ++ g.entry ∷ []) ++ g.others) = subst IsLawful (g.longer ∙ sym (append_assoc a (g.entry ∷ []) g.others)) lawful in
     none g.entry g.more (record { line = g.line; says = g.says; text_is = g.rest_is; lawful = lawful_front (a ++ g.entry ∷ []) g.others whole })
 
--- nothing goes on behind the end
+-- nothing goes on after the end
 ended : (a b : List Entry) → GoesOn a b [] → ⊥
 ended a b g = absurd (omega (arith, ap length g.rest_is, length-append g.line (10 ∷ g.more)))
 
--- a script is a front of its text, with nothing behind it
+-- a script is a front of its text, with nothing after it
 whole : (entries : List Entry) (text : List ℕ) → IsScript entries text → Begins text entries []
 whole entries text h = record { front = text; script = h; text_is = sym (append-nil text) }
 

@@ -1,5 +1,5 @@
 -- What a client that follows a plan sends is lawful, and within its own limit.
-use Rattle.std.proofs.Common.{◌≡◌, ℕ, zero, suc, ◌^◌, ◌<◌, ◌≤◌, inl, inr, true, false, cond, List, [], ◌∷◌, ◌++◌, map, replicate, Result, Ok, Err, refl, sym, ap, subst, ◌∙◌, arith}
+use Rattle.std.proofs.Common.{◌≡◌, ℕ, zero, suc, ◌^◌, ◌<◌, ◌≤◌, inl, inr, Bool, true, false, cond, List, [], ◌∷◌, ◌++◌, map, replicate, Result, Ok, Err, refl, sym, ap, subst, ◌∙◌, arith}
 use Rattle.std.specs.Prelude.{◌==◌, IfOk}
 use Rattle.std.specs.List.{AllByRecursion, AllZip}
 use Rattle.llrp_schema.specs.declared.kinds.ParamKind.TheVariants.{RoSpec}
@@ -11,7 +11,7 @@ use Rattle.llrp_session.specs.Refusal.{Refusal}
 use Rattle.llrp_session.specs.declared.words.Command.{Command}
 use Rattle.llrp_session.specs.declared.words.Command.TheVariants.{Stop, Delete, Close, GetReport}
 use Rattle.llrp_session.specs.declared.words.Taken.{Taken}
-use Rattle.llrp_session.specs.declared.words.Taken.TheVariants.{Connected, Refused, Reply, Tags, Event, Note, Kept, Closed as ConnectionEnded}
+use Rattle.llrp_session.specs.declared.words.Taken.TheVariants.{Connected, Refused, Reply, Tags, Table, Differs, Event, Note, Kept, Closed as ConnectionEnded}
 use Rattle.llrp_session.specs.Words.{ClientMessage}
 use Rattle.llrp_session.specs.ClientMachine.{Sending, Taking, command, take}
 use Rattle.llrp_session.specs.ClientMessages.{client_message}
@@ -27,7 +27,7 @@ use Rattle.llrp_endpoints.specs.declared.gathering.Awaits.{Awaits}
 use Rattle.llrp_endpoints.specs.declared.gathering.Awaits.TheVariants.{Answer, Report, End}
 use Rattle.llrp_endpoints.specs.declared.gathering.Phase.{Phase}
 use Rattle.llrp_endpoints.specs.declared.gathering.Phase.TheVariants.{Open, Closed, Failed}
-use Rattle.llrp_endpoints.specs.Plan.{Plan, rospec, commands}
+use Rattle.llrp_endpoints.specs.Plan.{Plan, rospec, checking, commands}
 use Rattle.llrp_endpoints.specs.Gathering.{Course, begun, ends, sends_by, sends, goes_on, reported, ended, after, after_taking, after_item, goes, follow, Gathers}
 use Rattle.llrp_endpoints.proofs.PlanLemmas.{rospec_lawful}
 use Rattle.llrp_endpoints.proofs.PlanSteps.{as_sent}
@@ -75,6 +75,8 @@ after_fits limit Connected c h = goes_on_fits limit c h
 after_fits limit (Refused status) c h = end_fits limit (Failed (Peer status)) c h
 after_fits limit (Reply status) c h = elim (status == 0) as (λ b. Fits limit (cond b (goes_on c) (ends (Failed (Peer status)) c))) [ true ↦ goes_on_fits limit c h | false ↦ end_fits limit (Failed (Peer status)) c h ]
 after_fits limit (Tags tags) c h = reported_fits limit c.awaits (record c { reports = c.reports ++ tags ∷ [] }) (record { client = h.client; left = h.left; sent = h.sent })
+after_fits limit (Table rospecs) c h = goes_on_fits limit c h
+after_fits limit (Differs rospecs) c h = end_fits limit (Failed Strange) c h
 after_fits limit (Event id state) c h = h
 after_fits limit Note c h = h
 after_fits limit Kept c h = h
@@ -120,13 +122,17 @@ polls_given : (polls : ℕ) (more : List Command) → AllByRecursion IsGivenComm
 polls_given zero more g = g
 polls_given (suc n) more g = (tt, polls_given n more g)
 
+check_given : (checked : Bool) → AllByRecursion IsGivenCommand (checking checked ++ Delete 1 ∷ Close ∷ [])
+check_given true = (tt, (omega arith, (tt, tt)))
+check_given false = (omega arith, (tt, tt))
+
 rospec_is : (every : ℕ) → (rospec every).kind ≡ RoSpec
 unfolding rospec
 rospec_is every = refl
 
 plan_given : (plan : Plan) → plan.every < 2 ^ 16 → AllByRecursion IsGivenCommand (commands plan)
 unfolding commands
-plan_given plan h = ((rospec_is plan.every, rospec_lawful plan.every h), (omega arith, (omega arith, polls_given plan.polls (Stop 1 ∷ Delete 1 ∷ Close ∷ []) (omega arith, (omega arith, (tt, tt))))))
+plan_given plan h = ((rospec_is plan.every, rospec_lawful plan.every h), (omega arith, (omega arith, polls_given plan.polls (Stop 1 ∷ (checking plan.checked ++ Delete 1 ∷ Close ∷ [])) (omega arith, check_given plan.checked))))
 
 sendable : (limit : ℕ) (ms : List ClientMessage) → 4096 ≤ limit → limit ≤ MAX_LIMIT → AreLawfulClientMessages limit ms → AreSendable limit (map client_message ms)
 sendable limit [] l g h = tt

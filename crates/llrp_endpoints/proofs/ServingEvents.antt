@@ -98,7 +98,7 @@ later_above t (e ∷ es) sorted first =
     let above : t < e.after = first e es refl in
     recursion_from_All (λ (x : Entry). t < x.after) (e ∷ es) (λ (k : ℕ) (d : Entry) (within : k < length (e ∷ es)). let rises : e.after ≤ (get_or (e ∷ es) k d).after = sorted 0 k d (omega arith) within in omega arith)
 
--- What is due after so many items.
+-- What is due after this many items.
 pub record DueNow (count : ℕ) (entries : List Entry) (s : ScriptedReader) (due later : List Entry) : Type 0 where
   pub due_are : entries_at count entries ≡ due
   pub below : AllByRecursion (λ e. e.after < count + 1) due
@@ -142,6 +142,6 @@ done_more count entries s new h due later cut d script done moment = record {
   moment_is = moment ∙ ap (λ (now : ℕ). last_moment now due) h.moment_is ∙ sym (last_moment-append 0 h.done due);
 }
 
--- what is left behind the entries done
+-- what is left after the entries done
 pub left_of : (count : ℕ) (entries : List Entry) (s : ScriptedReader) (h : HasDone count entries s) → drop s.done s.script ≡ h.left
 left_of count entries s h = rw (h.done_is, h.script_is) (ap (drop (length h.done)) h.whole ∙ drop_front h.done h.left)

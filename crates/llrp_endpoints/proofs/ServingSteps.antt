@@ -19,7 +19,7 @@ take_front : (a b : List Entry) → take (length a) (a ++ b) ≡ a
 take_front [] b = refl
 take_front (e ∷ a) b = ap (λ (es : List Entry). e ∷ es) (take_front a b)
 
--- what is due, and what is left behind it
+-- what is due, and what is left after it
 record Parts (count : ℕ) (entries : List Entry) (s : ScriptedReader) (left : List Entry) (k : ℕ) : Type 0 where
   due : List Entry
   later : List Entry

@@ -1,5 +1,5 @@
 -- What a new reader says by a script is lawful, and within its own limit.
-use Rattle.std.proofs.Common.{ℕ, ◌+◌, ◌^◌, ◌<◌, ◌≤◌, Bool, true, false, cond, List, [], ◌∷◌, ◌++◌, map, Result, Ok, Err, sym, subst, arith}
+use Rattle.std.proofs.Common.{◌≡◌, ℕ, ◌+◌, ◌^◌, ◌<◌, ◌≤◌, Bool, true, false, cond, List, [], ◌∷◌, ◌++◌, map, Result, Ok, Err, refl, sym, subst, arith}
 use Rattle.std.specs.Prelude.{nat_le, ◌==◌, IfOk, ℤ, pos, negsuc, FitsSigned}
 use Rattle.std.specs.Int.{w8}
 use Rattle.std.specs.List.{filter, AllByRecursion, AllZip}
@@ -27,6 +27,7 @@ use Rattle.llrp_endpoints.specs.declared.script.Action.TheVariants.{Seen, Tick}
 use Rattle.llrp_endpoints.specs.declared.script.Entry.{Entry}
 use Rattle.llrp_endpoints.specs.Script.{IsInRange, IsActionInRange, IsLawful}
 use Rattle.llrp_endpoints.specs.Serving.{Happening, event_in, happening, taking, entries_at, last_moment, events_from, events, turn_or_none, run, BeginsServing, IsNewReader}
+use Rattle.llrp_tree.specs.declared.TheConstants.{MAX_LIMIT}
 
 -- ---- events whose numbers fit
 
@@ -96,24 +97,28 @@ events_fit entries items r l = (
 
 -- ---- what is said
 
-sent-append : (xs ys : List ReaderMessage) → AreLawfulReaderMessages xs → AreLawfulReaderMessages ys → AreLawfulReaderMessages (xs ++ ys)
-sent-append [] ys h g = g
-sent-append (x ∷ xs) ys h g = (h.0, sent-append xs ys h.1 g)
+sent-append : (limit : ℕ) (xs ys : List ReaderMessage) → AreLawfulReaderMessages limit xs → AreLawfulReaderMessages limit ys → AreLawfulReaderMessages limit (xs ++ ys)
+sent-append limit [] ys h g = g
+sent-append limit (x ∷ xs) ys h g = (h.0, sent-append limit xs ys h.1 g)
 
-turn_fits : (r : Reader) (answer : Result Turn Refusal) → IsLawfulReader r → IfOk answer (λ t. AreLawfulReaderMessages t.sent × IsLawfulReader t.reader)
-    → AreLawfulReaderMessages (turn_or_none r answer).sent × IsLawfulReader (turn_or_none r answer).reader
+-- what a turn says is lawful, and so is its reader, which has the same limit
+abbrev IsLawfulFor : ℕ → Turn → Type 0
+IsLawfulFor limit t = AreLawfulReaderMessages limit t.sent × (IsLawfulReader t.reader × (t.reader.limit ≡ limit))
+
+turn_fits : (r : Reader) (answer : Result Turn Refusal) → IsLawfulReader r → IfOk answer (IsLawfulFor r.limit) → IsLawfulFor r.limit (turn_or_none r answer)
 turn_fits r (Ok turn) h l = l
-turn_fits r (Err refusal) h l = (tt, h)
+turn_fits r (Err refusal) h l = (tt, (h, refl))
 
-run_fits : (r : Reader) (hs : List Happening) → IsLawfulReader r → AllByRecursion Fits hs → AreLawfulReaderMessages (run r hs).sent
-run_fits r [] h f = tt
-run_fits r (e ∷ hs) h f =
-    let turn = turn_fits r (next e.now e.event r) h (reader_says_lawful e.now e.event r f.0.now f.0.event h) in
-    sent-append (turn_or_none r (next e.now e.event r)).sent (run (turn_or_none r (next e.now e.event r)).reader hs).sent turn.0 (run_fits (turn_or_none r (next e.now e.event r)).reader hs turn.1 f.1)
+run_fits : (limit : ℕ) (r : Reader) (hs : List Happening) → r.limit ≡ limit → IsLawfulReader r → AllByRecursion Fits hs → AreLawfulReaderMessages limit (run r hs).sent
+run_fits limit r [] same h f = tt
+run_fits limit r (e ∷ hs) same h f =
+    let turn : IsLawfulFor limit (turn_or_none r (next e.now e.event r)) =
+    subst (λ (n : ℕ). IsLawfulFor n (turn_or_none r (next e.now e.event r))) same (turn_fits r (next e.now e.event r) h (reader_says_lawful e.now e.event r f.0.now f.0.event h)) in
+    sent-append limit (turn_or_none r (next e.now e.event r)).sent (run (turn_or_none r (next e.now e.event r)).reader hs).sent turn.0 (run_fits limit (turn_or_none r (next e.now e.event r)).reader hs turn.1.1 turn.1.0 f.1)
 
-sendable : (limit : ℕ) (sent : List ReaderMessage) → 4096 ≤ limit → AreLawfulReaderMessages sent → AreSendable limit (map reader_message sent)
-sendable limit [] least h = tt
-sendable limit (m ∷ sent) least h = (reader_sends limit m least h.0, sendable limit sent least h.1)
+sendable : (limit : ℕ) (sent : List ReaderMessage) → 4096 ≤ limit → limit ≤ MAX_LIMIT → AreLawfulReaderMessages limit sent → AreSendable limit (map reader_message sent)
+sendable limit [] least most h = tt
+sendable limit (m ∷ sent) least most h = (reader_sends limit m least most h.0, sendable limit sent least most h.1)
 
 first_sendable : (limit : ℕ) (a b : List MessageTree) → AreSendable limit (a ++ b) → AreSendable limit a
 first_sendable limit [] b h = tt
@@ -122,7 +127,7 @@ first_sendable limit (m ∷ a) b h = (h.0, first_sendable limit a b h.1)
 pub says_within_limit : (reader : Reader) (entries : List Entry) (bytes : List ℕ) (messages : List MessageTree) → IsNewReader reader → reader.next_id < 2 ^ 32 → IsLawful entries
     → BeginsServing reader entries bytes messages → AreSendable reader.limit messages
 says_within_limit reader entries bytes messages new id lawful h =
-    let lawful_reader : IsLawfulReader reader = subst IsLawfulReader (sym new.new) (reader_as_new reader.limit reader.next_id id) in
+    let lawful_reader : IsLawfulReader reader = subst IsLawfulReader (sym new.new) (reader_as_new reader.limit reader.next_id new.least id) in
     let fit = events_fit entries h.items (recursion_from_All IsInRange entries lawful.in_range) (items_fit reader.limit h.are.frames h.items h.are.each h.are.are) in
     first_sendable reader.limit messages h.later
-    (subst (λ (ms : List MessageTree). AreSendable reader.limit ms) h.messages_are (sendable reader.limit (run reader (events entries h.items)).sent new.least (run_fits reader (events entries h.items) lawful_reader fit)))
+    (subst (λ (ms : List MessageTree). AreSendable reader.limit ms) h.messages_are (sendable reader.limit (run reader (events entries h.items)).sent new.least new.most (run_fits reader.limit reader (events entries h.items) refl lawful_reader fit)))

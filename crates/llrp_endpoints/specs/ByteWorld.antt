@@ -8,7 +8,7 @@ use Rattle.llrp_session.specs.World.{WorldEvent, DeliversUp, DeliversDown}
 use Rattle.llrp_session.specs.MessageWorld.{MessageWorld, message_happens, run_messages, message_opening, IsGiven}
 use Rattle.llrp_endpoints.specs.Sending.{Adds}
 
--- one direction: what was read of a frame that is not whole yet, and the bytes on the way behind it
+-- one direction: what was read of a frame that is not whole yet, and the bytes on the way after it
 pub record Way : Type 0 where
   pub read : List ℕ
   pub coming : List ℕ
@@ -32,7 +32,7 @@ pub record Reads (limit n : ℕ) (old new : Way) (messages : List MessageTree) :
   pub unfinished : IsPartial new.read
   pub coming : new.coming ≡ drop n old.coming
 
--- Messages that an end says go out as frames, behind what is on the way.
+-- Messages that an end sends go out as frames, after what is on the way.
 pub record Sends (said : List MessageTree) (old new : Way) : Type 0 where
   pub read : new.read ≡ old.read
   pub coming : Adds said old.coming new.coming

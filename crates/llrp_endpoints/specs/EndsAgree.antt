@@ -11,7 +11,7 @@ use Rattle.llrp_stream.specs.Items.{ItemsSoFar}
 use Rattle.llrp_session.specs.Table.{states}
 use Rattle.llrp_session.specs.World.{WorldEvent}
 use Rattle.llrp_session.specs.MessageAgreement.{MessagesAreTaken, IsOnTheWay}
-use Rattle.llrp_session.specs.MessageWorld.{MessageWorld, tags_in_messages, run_messages, message_opening, AreGiven}
+use Rattle.llrp_session.specs.MessageWorld.{MessageWorld, tags_in_messages, tables_in_messages, run_messages, message_opening, AreGiven}
 use Rattle.llrp_endpoints.specs.Sending.{AreFrames}
 use Rattle.llrp_endpoints.specs.ByteWorld.{Way, ByteWorld, ByteEvent, ReadsDown, Reads, Steps, Runs, apart, byte_opening, IsGivenEvent, AreGivenEvents}
 
@@ -75,7 +75,7 @@ pub record AreMessages (limit : ℕ) (bytes : List ℕ) : Type 0 where
   pub no_fault : (items : List Item) (rest : List ℕ) → ItemsSoFar limit bytes items rest → AllByRecursion IsMessage items
   pub no_break : (items : List Item) (rest : List ℕ) → ItemsSoFar limit bytes items rest → Breaks rest → ⊥
 
--- What an end has half read, and the next n bytes on the way behind it, are messages, whatever n is.
+-- What an end has half read, and the next n bytes on the way after it, are messages, whatever n is.
 abbrev pub NextAreMessages : ℕ → Way → Type 0
 NextAreMessages limit way = (n : ℕ) → AreMessages limit (way.read ++ take n way.coming)
 
@@ -102,7 +102,7 @@ abbrev pub ViewCatchesUp : Type 0
 ViewCatchesUp = (s : Schedule) (w new : ByteWorld) → IsGivenSchedule s → RunsTo s w
     → Steps s.limit (ReadsDown (length w.down.coming)) w new → new.ends.client.view ≡ states w.ends.reader.table
 
--- the reports handed out, followed by those on the way down, are the reports sent, in order, each once
+-- the reports delivered, followed by those on the way down, are the reports sent, in order, each once
 abbrev pub ReportsArrive : ByteWorld → Type 0
 ReportsArrive w = (down : List MessageTree) → AreOnTheWay down w.down → w.ends.handed_out ++ tags_in_messages down ≡ w.ends.reported
 
@@ -110,7 +110,11 @@ ReportsArrive w = (down : List MessageTree) → AreOnTheWay down w.down → w.en
 abbrev pub ReportsAreKept : ByteWorld → Type 0
 ReportsAreKept w = (down : List MessageTree) → AreOnTheWay down w.down → (w.ends.handed_out ++ tags_in_messages down) ++ w.ends.reader.held ≡ w.ends.kept
 
--- the pending request stands on the way up, or its one response on the way down, never both; without one neither does any
+-- the tables that the client took, followed by those on the way down, are the reader's table as it was at each GET_ROSPECS, in order
+abbrev pub TablesArrive : ByteWorld → Type 0
+TablesArrive w = (down : List MessageTree) → AreOnTheWay down w.down → w.ends.tables ++ tables_in_messages down ≡ w.ends.listed
+
+-- the pending request is on the way up, or its one response on the way down, never both; without one neither way has any
 abbrev pub PendingIsOnTheWay : ByteWorld → Type 0
 PendingIsOnTheWay w = (up down : List MessageTree) → AreOnTheWay up w.up → AreOnTheWay down w.down → IsOnTheWay w.ends.client.pending up down
 

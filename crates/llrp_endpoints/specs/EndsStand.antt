@@ -31,7 +31,7 @@ pub record WritesPiece (old new : List ℕ) (w0 w1 : SinkLog) (count : ℕ) : Ty
   pub some : count ≡ 0 → old ≡ []
   pub wrote : Wrote w0 w1 front
 
--- so many reads gave these bytes, and no more than there may be
+-- this many reads gave these bytes, and no more than there may be
 pub record Given (r0 r1 : SourceLog) (reads : ℕ) (bytes : List ℕ) : Type 0 where
   pub gave : Gave r0 r1 reads bytes
   pub few : reads ≤ MOST_READS
@@ -57,11 +57,11 @@ pub record HasRoom (log : SourceLog) (reads : ℕ) : Type 0 where
   pub ends_fit : log.ends < 2 ^ 63
   pub failures_fit : log.failures < 2 ^ 63
 
--- so much is left of what was said
+-- this much is left of what was said
 abbrev pub spoken : Traffic → List ℕ → Traffic
 spoken bytes left = record bytes { unwritten = left }
 
--- so much was read
+-- this much was read
 abbrev pub heard : Traffic → List ℕ → Traffic
 heard bytes read = record bytes { read = read }
 
@@ -91,7 +91,7 @@ ReaderStops e r0 r1 down up (Listing line reason) = ⊥
 ReaderStops e r0 r1 down up (Script line) = ⊥
 ReaderStops e r0 r1 down up Hex = ⊥
 
--- It read so many bytes more, and took them; or it stopped before.
+-- It read this many bytes more, and took them; or it stopped before.
 abbrev pub ReaderHears : Ends → SourceLog → SourceLog → Traffic → Traffic → ℕ → ReaderSide → Result (Unit {0}) ToolErr → Type 0
 ReaderHears e r0 r1 down up count new (Ok u) =
     (bytes : List ℕ) × (length bytes ≡ count) × Given r0 r1 new.reads (up.read ++ bytes) × ReaderStands e down.written (up.read ++ bytes) new.serving new.said.items
@@ -124,7 +124,7 @@ ClientStops e r0 r1 p0 p1 down up (Listing line reason) = ⊥
 ClientStops e r0 r1 p0 p1 down up (Script line) = ⊥
 ClientStops e r0 r1 p0 p1 down up Hex = ⊥
 
--- It read so many bytes more, and took them; or the connection was closed as planned; or it stopped before.
+-- It read this many bytes more, and took them; or the connection was closed as planned; or it stopped before.
 abbrev pub ClientHears : Ends → SourceLog → SourceLog → SinkLog → SinkLog → Traffic → Traffic → ℕ → ClientSide → Result Bool ToolErr → Type 0
 ClientHears e r0 r1 p0 p1 down up count new (Ok false) =
     (bytes : List ℕ) × (length bytes ≡ count) × Given r0 r1 new.reads (down.read ++ bytes) × ClientStands e up.written (down.read ++ bytes) p0 p1 new.gathering new.said.items new.lines.items

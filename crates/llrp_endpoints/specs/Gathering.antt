@@ -10,7 +10,7 @@ use Rattle.llrp_session.specs.Refusal.{Refusal}
 use Rattle.llrp_session.specs.declared.words.Command.{Command}
 use Rattle.llrp_session.specs.declared.words.Command.TheVariants.{GetReport, Close}
 use Rattle.llrp_session.specs.declared.words.Taken.{Taken}
-use Rattle.llrp_session.specs.declared.words.Taken.TheVariants.{Connected, Refused, Reply, Tags, Event, Note, Kept, Closed as ConnectionEnded}
+use Rattle.llrp_session.specs.declared.words.Taken.TheVariants.{Connected, Refused, Reply, Tags, Table, Differs, Event, Note, Kept, Closed as ConnectionEnded}
 use Rattle.llrp_session.specs.Words.{ClientMessage}
 use Rattle.llrp_session.specs.ClientMachine.{Client, Sending, Taking, command, take, new_client}
 use Rattle.llrp_session.specs.Reading.{heard_of}
@@ -73,12 +73,14 @@ ended End = Closed
 ended Answer = Failed Early
 ended Report = Failed Early
 
--- the connection, and a response of status 0, lead on
+-- the connection, a response of status 0, and a table that is the client's view lead on; one that differs is strange
 abbrev pub after : Taken → Course → Course
 after Connected c = goes_on c
 after (Refused status) c = ends (Failed (Peer status)) c
 after (Reply status) c = if status == 0 then goes_on c else ends (Failed (Peer status)) c
 after (Tags tags) c = reported c.awaits (record c { reports = c.reports ++ tags ∷ [] })
+after (Table rospecs) c = goes_on c
+after (Differs rospecs) c = ends (Failed Strange) c
 after (Event id state) c = c
 after Note c = c
 after Kept c = c

@@ -16,8 +16,8 @@ use Rattle.llrp_listing.specs.declared.fault.ToolErr.{ToolErr}
 use Rattle.llrp_listing.specs.declared.fault.ToolErr.TheVariants.{Listing, Script, Hex, Read, Write, Bound, Broken, Memory, Peer, Strange, Early}
 use Rattle.llrp_endpoints.specs.declared.gathering.Gathering.{Gathering}
 use Rattle.llrp_endpoints.specs.declared.gathering.left.Left.{Left}
-use Rattle.llrp_endpoints.specs.declared.gathering.left.Left.TheVariants.{Adding, Enabling, Starting, Polling, Deleting, Closing, Nothing}
-use Rattle.llrp_endpoints.specs.Plan.{Plan, commands}
+use Rattle.llrp_endpoints.specs.declared.gathering.left.Left.TheVariants.{Adding, Enabling, Starting, Polling, Checking, Deleting, Closing, Nothing}
+use Rattle.llrp_endpoints.specs.Plan.{Plan, checking, commands}
 use Rattle.llrp_endpoints.specs.Sending.{Adds, AddsSome}
 use Rattle.llrp_endpoints.specs.TagLines.{AreReports, summary_of, total_line}
 use Rattle.llrp_endpoints.specs.declared.gathering.Phase.{Phase}
@@ -32,14 +32,18 @@ closing = Close ∷ []
 abbrev pub deleting : List Command
 deleting = Delete 1 ∷ closing
 
-abbrev pub polling : ℕ → List Command
-polling polls = replicate polls GetReport ++ Stop 1 ∷ deleting
+abbrev pub checks_then_deletes : Bool → List Command
+checks_then_deletes checked = checking checked ++ deleting
+
+abbrev pub polling : ℕ → Bool → List Command
+polling polls checked = replicate polls GetReport ++ Stop 1 ∷ checks_then_deletes checked
 
 abbrev pub commands_left : Left → List Command
 commands_left (Adding plan) = commands plan
-commands_left (Enabling polls) = Enable 1 ∷ Start 1 ∷ polling polls
-commands_left (Starting polls) = Start 1 ∷ polling polls
-commands_left (Polling polls) = polling polls
+commands_left (Enabling polls checked) = Enable 1 ∷ Start 1 ∷ polling polls checked
+commands_left (Starting polls checked) = Start 1 ∷ polling polls checked
+commands_left (Polling polls checked) = polling polls checked
+commands_left (Checking checked) = checks_then_deletes checked
 commands_left Deleting = deleting
 commands_left Closing = closing
 commands_left Nothing = []
@@ -49,12 +53,12 @@ abbrev pub TakesFirst : List Command → List Command → Option Command → Typ
 TakesFirst old new None = (old ≡ []) × (new ≡ [])
 TakesFirst old new (Some k) = (old ≡ k ∷ new) × AddsRoSpec k
 
--- the first of these commands, and those behind it
+-- the first of these commands, and those after it
 abbrev pub Splits : List Command → Option (Command × Left) → Type 0
 Splits list None = list ≡ []
 Splits list (Some p) = (list ≡ p.0 ∷ commands_left p.1) × AddsRoSpec p.0
 
--- ---- how it stands
+-- ---- the state that it is in
 
 -- it counts these reports
 abbrev pub Counts : List (List Tree) → Gathering → Type 0
@@ -80,7 +84,7 @@ pub record IsOpen (limit : ℕ) (plan : Plan) (bytes rest : List ℕ) (course : 
   pub stands : StandsFor limit plan bytes rest course g
   pub phase : g.phase ≡ Open
 
--- the connection stands
+-- the connection is up
 abbrev pub IsConnected : Gathering → Type 0
 IsConnected g = g.phase ≡ Open
 

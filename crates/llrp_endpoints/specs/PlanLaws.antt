@@ -1,5 +1,5 @@
 -- What holds of a client that follows a plan, whatever its reader sends.
-use Rattle.std.specs.Prelude.{◌≡◌, ◌≢◌, ◌↔◌, ℕ, ◌+◌, ◌^◌, ◌<◌, ◌≤◌, ◌⊎◌, Bool, true, false, List, [], ◌∷◌, ◌++◌, length, map, Option, None, Some, Ok, Err}
+use Rattle.std.specs.Prelude.{◌≡◌, ◌≢◌, ◌↔◌, ℕ, ◌+◌, ◌^◌, ◌<◌, ◌≤◌, ◌⊎◌, Bool, true, false, List, [], ◌∷◌, ◌++◌, length, map, Option, None, Some, Result, Ok, Err}
 use Rattle.std.specs.List.{filter}
 use Rattle.llrp_tree.specs.declared.TheConstants.{MAX_LIMIT}
 use Rattle.llrp_tree.specs.Tree.{Tree, MessageTree}
@@ -7,15 +7,16 @@ use Rattle.llrp_tree.specs.declared.fault.Reason.TheVariants.{MessageType, Param
 use Rattle.llrp_stream.specs.declared.item.Item.{Item}
 use Rattle.llrp_stream.specs.declared.item.Item.TheVariants.{Msg, Bad}
 use Rattle.llrp_stream.specs.Cuts.{IsPartial, Breaks}
-use Rattle.llrp_session.specs.Refusal.{Unexpected}
+use Rattle.llrp_session.specs.Refusal.{Refusal, Unexpected}
 use Rattle.llrp_session.specs.declared.words.Command.{Command}
 use Rattle.llrp_session.specs.declared.words.Operation.{Operation}
-use Rattle.llrp_session.specs.declared.words.Operation.TheVariants.{Closing}
+use Rattle.llrp_session.specs.declared.words.Operation.TheVariants.{Listing, Closing}
 use Rattle.llrp_session.specs.declared.words.Pending.{Pending}
 use Rattle.llrp_session.specs.declared.words.Taken.{Taken}
-use Rattle.llrp_session.specs.declared.words.Taken.TheVariants.{Connected, Refused, Reply, Tags, Event, Note, Kept, Closed as ConnectionEnded}
+use Rattle.llrp_session.specs.declared.words.Taken.TheVariants.{Connected, Refused, Reply, Tags, Table, Differs, Event, Note, Kept, Closed as ConnectionEnded}
+use Rattle.llrp_session.specs.declared.words.Viewed.{Viewed}
 use Rattle.llrp_session.specs.Words.{ClientWord, Asks, Acknowledges, ClientMessage, ReaderMessage, Notification, Heard, HeardResponse, HeardError, HeardReport, HeardNotification}
-use Rattle.llrp_session.specs.ClientMachine.{Client, Taking, take, command, sending, awaited, is_response_to}
+use Rattle.llrp_session.specs.ClientMachine.{Client, Taking, take, command, sending, awaited, is_response_to, is_view}
 use Rattle.llrp_session.specs.Reading.{heard_of}
 use Rattle.llrp_session.specs.ReaderMessages.{reader_message}
 use Rattle.llrp_session.specs.ClientMessages.{client_message}
@@ -33,11 +34,14 @@ course_of limit plan items = follow items (begun limit plan)
 
 -- ---- no command is refused
 
--- What a message was taken for lets the plan go on: the connection, a response of status 0, or a report that is awaited.
+-- What a message was taken for lets the plan go on: the connection, a response of status 0, the reader's table where it is the client's view, or a
+-- report that is awaited.
 abbrev pub LeadsOn : Taken → Awaits → Type 0
 LeadsOn Connected awaits = Unit {0}
 LeadsOn (Reply status) awaits = status ≡ 0
 LeadsOn (Tags tags) awaits = awaits ≡ Report
+LeadsOn (Table rospecs) awaits = Unit {0}
+LeadsOn (Differs rospecs) awaits = ⊥
 LeadsOn (Refused status) awaits = ⊥
 LeadsOn (Event id state) awaits = ⊥
 LeadsOn Note awaits = ⊥
@@ -57,9 +61,19 @@ abbrev pub TakesEachCommand : ℕ → Plan → Type 0
 TakesEachCommand limit plan = (items : List Item) (m : MessageTree) (taking : Taking) (k : Command) →
     LeadsTo (course_of limit plan items) m taking k → command taking.client k ≡ Ok (sending taking.client k)
 
--- a message that the client does not expect now, or a frame with a fault other than a type that no kind has
+-- the reader's table, where it differs from the client's view
+abbrev pub IsOtherTable : Taken → Type 0
+IsOtherTable (Differs rospecs) = Unit {0}
+IsOtherTable _ = ⊥
+
+-- the client does not expect the message now, or takes it for a table that differs from its view
+abbrev pub IsTakenStrangely : Result Taking Refusal → Type 0
+IsTakenStrangely (Err refusal) = refusal ≡ Unexpected
+IsTakenStrangely (Ok taking) = IsOtherTable taking.taken
+
+-- a message that the client takes so, or a frame with a fault other than a type that no kind has
 abbrev pub IsStrangeTo : Client → Item → Type 0
-IsStrangeTo client (Msg m) = take client m.id (heard_of m) ≡ Err Unexpected
+IsStrangeTo client (Msg m) = IsTakenStrangely (take client m.id (heard_of m))
 IsStrangeTo client (Bad id fault) = (fault.reason ≢ MessageType) × (fault.reason ≢ ParamType)
 
 -- One of the items was strange to the client, which was still at its plan.
@@ -89,7 +103,7 @@ pub record HasOneCourse (limit : ℕ) (plan : Plan) (bytes : List ℕ) : Type 0 
   pub no_frame : HasNoFrame rest
   pub only : (tail : List ℕ) (other : Course) → Gathers limit plan bytes tail other → HasNoFrame tail → (tail ≡ rest) × (other ≡ course)
 
--- One course went on to another: what was sent and reported stands, and an end stays.
+-- One course went on to another: what was sent and reported stays, and so does an end.
 pub record GoesOn (old new : Course) : Type 0 where
   pub messages : List ClientMessage
   pub reports : List (List Tree)
@@ -131,24 +145,31 @@ Accepts heard = (n : Notification) × (heard ≡ HeardNotification n) × (n.atte
 
 -- it answers the pending request with this status: it is its response, or an ERROR_MESSAGE under its id
 abbrev pub Responds : Pending → ℕ → ℕ → Heard → Type 0
-Responds p status id heard = ((operation : Operation) × (heard ≡ HeardResponse operation status) × (is_response_to p id operation ≡ true)) ⊎ ((heard ≡ HeardError status) × (id ≡ p.id))
+Responds p status id heard = ((operation : Operation) × (rospecs : List Tree) × (heard ≡ HeardResponse operation status rospecs) × (is_response_to p id operation ≡ true)) ⊎ ((heard ≡ HeardError status) × (id ≡ p.id))
 
--- it is what a command asks for: a response of status 0, or for GET_REPORT, which waits for none, a report
-abbrev pub Answers : Option Pending → ℕ → Heard → Type 0
-Answers None id heard = (tags : List Tree) × (heard ≡ HeardReport tags)
-Answers (Some p) id heard = Responds p 0 id heard
+-- what GET_ROSPECS_RESPONSE lists is this view
+abbrev pub ListsView : List Viewed → Heard → Type 0
+ListsView view (HeardResponse Listing status rospecs) = is_view rospecs view ≡ true
+ListsView view _ = Unit {0}
+
+-- it is what a command asks for: a response of status 0, which for GET_ROSPECS lists the client's view, or for GET_REPORT, which waits for none, a
+-- report
+abbrev pub Answers : Option Pending → List Viewed → ℕ → Heard → Type 0
+Answers None view id heard = (tags : List Tree) × (heard ≡ HeardReport tags)
+Answers (Some p) view id heard = Responds p 0 id heard × ListsView view heard
 
 -- The last of these messages is a command, which it answers.
-pub record AnswersLast (done : List ClientMessage) (id : ℕ) (heard : Heard) : Type 0 where
+pub record AnswersLast (done : List ClientMessage) (view : List Viewed) (id : ℕ) (heard : Heard) : Type 0 where
   pub before : List ClientMessage
   pub number : ℕ
   pub k : Command
   pub parts : done ≡ before ++ record { id = number; word = Asks k } ∷ []
-  pub answers : Answers (awaited number k) id heard
+  pub answers : Answers (awaited number k) view id heard
 
--- After these commands the plan awaits this message: one that accepts the connection before the first, and after that one that answers the last.
-abbrev pub IsAwaitedAfter : List ClientMessage → ℕ → Heard → Type 0
-IsAwaitedAfter done id heard = ((done ≡ []) × Accepts heard) ⊎ AnswersLast done id heard
+-- After these commands, with this view, the plan awaits this message: one that accepts the connection before the first, and after that one that
+-- answers the last.
+abbrev pub IsAwaitedAfter : List ClientMessage → List Viewed → ℕ → Heard → Type 0
+IsAwaitedAfter done view id heard = ((done ≡ []) × Accepts heard) ⊎ AnswersLast done view id heard
 
 -- From the one to the other one command was sent, at an item that was awaited for it.
 pub record SendsOne (old new : Course) (item : Item) : Type 0 where
@@ -156,7 +177,7 @@ pub record SendsOne (old new : Course) (item : Item) : Type 0 where
   pub sent_are : asked new ≡ asked old ++ next ∷ []
   pub message : MessageTree
   pub item_is : item ≡ Msg message
-  pub awaits : IsAwaitedAfter (asked old) message.id (heard_of message)
+  pub awaits : IsAwaitedAfter (asked old) old.client.view message.id (heard_of message)
 
 -- at each item no command is sent, or one, for which it was awaited
 abbrev pub SendsOneByOne : ℕ → Plan → Type 0
@@ -166,7 +187,7 @@ SendsOneByOne limit plan = (items : List Item) (item : Item) →
 -- wherever an awaited message comes, and a command is left, one is sent
 abbrev pub SendsWhereAwaited : ℕ → Plan → Type 0
 SendsWhereAwaited limit plan = (items : List Item) (m : MessageTree) → (course_of limit plan items).phase ≡ Open → (course_of limit plan items).left ≢ [] →
-    IsAwaitedAfter (asked (course_of limit plan items)) m.id (heard_of m) → SendsOne (course_of limit plan items) (course_of limit plan (items ++ Msg m ∷ [])) (Msg m)
+    IsAwaitedAfter (asked (course_of limit plan items)) (course_of limit plan items).client.view m.id (heard_of m) → SendsOne (course_of limit plan items) (course_of limit plan (items ++ Msg m ∷ [])) (Msg m)
 
 -- ---- the end
 
@@ -184,15 +205,15 @@ pub record RespondsToLast (done : List ClientMessage) (status id : ℕ) (heard :
   pub waits : awaited number k ≡ Some pending
   pub responds : Responds pending status id heard
 
--- after these commands it tells a status other than 0: the connection is refused, or the last command
+-- after these commands it has a status other than 0: the connection is refused, or the last command
 abbrev pub TellsStatus : ℕ → List ClientMessage → ℕ → Heard → Type 0
 TellsStatus status done id heard = (status ≢ 0) × (((done ≡ []) × Refuses status heard) ⊎ RespondsToLast done status id heard)
 
 -- it ends the connection: it has a ConnectionCloseEvent, or it is CLOSE_CONNECTION_RESPONSE
 abbrev pub TellsEnd : List ClientMessage → ℕ → Heard → Type 0
-TellsEnd done id heard = ((n : Notification) × (heard ≡ HeardNotification n) × (n.closes ≡ true)) ⊎ ((status : ℕ) × (heard ≡ HeardResponse Closing status))
+TellsEnd done id heard = ((n : Notification) × (heard ≡ HeardNotification n) × (n.closes ≡ true)) ⊎ ((status : ℕ) × (rospecs : List Tree) × (heard ≡ HeardResponse Closing status rospecs))
 
--- One of the items is a message that tells this, after the commands that were sent before it.
+-- One of the items is a message that says this, after the commands that were sent before it.
 pub record Told (Tells : List ClientMessage → ℕ → Heard → Type 0) (limit : ℕ) (plan : Plan) (items : List Item) : Type 0 where
   pub before : List Item
   pub message : MessageTree
@@ -212,7 +233,7 @@ pub record IsEarly (limit : ℕ) (plan : Plan) (items : List Item) : Type 0 wher
   pub left : (course_of limit plan items).left ≢ []
   pub ended : Told TellsEnd limit plan items
 
--- what each end of a course means; the end as Strange is told above
+-- what each end of a course means; the end as Strange is above
 pub record EndsMean (limit : ℕ) (plan : Plan) (items : List Item) : Type 0 where
   pub done : (course_of limit plan items).phase ≡ Closed → IsDone limit plan items
   pub early : (course_of limit plan items).phase ≡ Failed Early → IsEarly limit plan items

@@ -80,7 +80,7 @@ pub record IsSilent (bytes : Traffic) : Type 0 where
 
 -- ---- what the reader says
 
--- What was said down are the frames of all that the reader says to the bytes that it read; serving stands so.
+-- What was written down are the frames of all that the reader says to the bytes that it read; serving is in this state.
 pub record ReaderSays (e : Ends) (standing : Standing) (down up : Traffic) : Type 0 where
   pub messages : List MessageTree
   pub serves : Serves e.reader e.entries up.read messages standing
@@ -110,7 +110,7 @@ ClientBreaksOff e down up p0 p1 = (course : Course) × BreaksOff e.limit e.plan 
 abbrev pub ClientEnded : Ends → Phase → Traffic → Traffic → SinkLog → SinkLog → Type 0
 ClientEnded e phase down up p0 p1 = (course : Course) × Ended phase e.limit e.plan down.read course × SaidAll course up p0 p1
 
--- the connection was closed as planned, and so much was reported
+-- the connection was closed as planned, and this much was reported
 abbrev pub ClientClosed : Ends → Traffic → Traffic → SinkLog → SinkLog → Summary → Type 0
 ClientClosed e down up p0 p1 summary = (course : Course) × Ended Closed e.limit e.plan down.read course × SaidAll course up p0 p1 × (summary ≡ summary_of course.reports)
 

@@ -10,7 +10,7 @@ use Rattle.llrp_listing.specs.Copying.{MOST_READS, ReadAll, GaveAndFailed, IsPre
 use Rattle.llrp_endpoints.specs.Sending.{AreFrames}
 use Rattle.llrp_endpoints.specs.Serving.{Standing, waiting, closed, ended, early, broken, Serves, BeginsServing}
 
--- All that the reader says to these bytes was written, and serving stands so.
+-- All that the reader says to these bytes was written, and serving is in this state.
 pub record WroteAll (reader : Reader) (entries : List Entry) (bytes : List ℕ) (standing : Standing) (old new : SinkLog) : Type 0 where
   pub messages : List MessageTree
   pub text : List ℕ

@@ -79,7 +79,7 @@ pub record Continues (entries : List Entry) (text : List ℕ) (entry : Entry) (r
 abbrev pub NoneContinues : List Entry → List ℕ → Type 0
 NoneContinues entries text = (entry : Entry) (rest : List ℕ) → Continues entries text entry rest → ⊥
 
--- The first refused line: entries have the text before it, it is not the end, and no entry that may follow them stands there.
+-- The first refused line: entries have the text before it, it is not the end, and it is no entry that may follow them.
 pub record IsRefusedAt (text : List ℕ) (line : ℕ) : Type 0 where
   pub before : List Entry
   pub rest : List ℕ
@@ -102,7 +102,7 @@ ParseStopped text Early = ⊥
 ParseStopped text (Peer status) = ⊥
 ParseStopped text Strange = ⊥
 
--- there is room for an entry behind these, and these AFTER and NOW do not fall
+-- there is room for an entry after these, and these AFTER and NOW do not fall
 pub record MayFollow (entries : List Entry) (after now : ℕ) : Type 0 where
   pub after_rises : All (λ e. e.after ≤ after) entries
   pub now_rises : All (λ e. e.now ≤ now) entries

@@ -36,7 +36,7 @@ abbrev pub taking : Item → ReaderEvent
 taking (Msg m) = Take m.version m.id (request_of m)
 taking (Bad id fault) = TakeBad id fault.reason
 
--- the entries that happen directly after so many items
+-- the entries that happen directly after this many items
 abbrev pub entries_at : ℕ → List Entry → List Entry
 entries_at count entries = filter (λ e. e.after == count) entries
 
@@ -45,11 +45,11 @@ abbrev pub last_moment : ℕ → List Entry → ℕ
 last_moment now [] = now
 last_moment now (e ∷ entries) = last_moment e.now entries
 
--- the moment at which the next item is taken once there were so many: that of the last entry done, and 0 at first
+-- the moment at which the next item is taken once there were this many: that of the last entry done, and 0 at first
 abbrev pub moment_after : ℕ → List Entry → ℕ
 moment_after count entries = last_moment 0 (filter (λ e. nat_le e.after count) entries)
 
--- after so many items: each further one, and directly after it the entries of its count
+-- after this many items: each further one, and directly after it the entries of its count
 abbrev pub events_from : ℕ → List Entry → List Item → List Happening
 events_from count entries [] = []
 events_from count entries (item ∷ items) =
@@ -88,7 +88,7 @@ run r (h ∷ hs) =
 abbrev pub said : Turn → List MessageTree
 said turn = map reader_message turn.sent
 
--- ---- how serving stands, and how it ends
+-- ---- the state of serving, and how it ends
 
 pub data Standing : Type 0 where
   waiting : Standing  -- further bytes are awaited
@@ -97,7 +97,7 @@ pub data Standing : Type 0 where
   early : Standing  -- the input ended within a frame
   broken : Standing  -- a length field is below 10
 
--- so it stands at these bytes behind the items that were taken
+-- its state at these bytes after the items that were taken
 abbrev pub StandsAt : Standing → List ℕ → Type 0
 StandsAt waiting rest = IsPartial rest
 StandsAt closed rest = ⊥
@@ -105,7 +105,7 @@ StandsAt ended rest = rest ≡ []
 StandsAt early rest = IsPartial rest × ((rest ≡ []) → ⊥)
 StandsAt broken rest = Breaks rest
 
--- The items of the bytes' first frames, of which none is CLOSE_CONNECTION, were taken; serving stands so at the rest.
+-- The items of the bytes' first frames, of which none is CLOSE_CONNECTION, were taken; this is the state of serving at the rest.
 pub record StaysOpen (reader : Reader) (entries : List Entry) (bytes : List ℕ) (messages : List MessageTree) (standing : Standing) : Type 0 where
   pub items : List Item
   pub rest : List ℕ
@@ -124,7 +124,7 @@ pub record HasClosed (reader : Reader) (entries : List Entry) (bytes : List ℕ)
   pub closes : Closes last
   pub messages_are : messages ≡ said (run reader (closing_events entries items last))
 
--- a reader and a script, given these bytes, say these messages and then stand so
+-- a reader and a script, given these bytes, say these messages and are then in this state
 abbrev pub Serves : Reader → List Entry → List ℕ → List MessageTree → Standing → Type 0
 Serves reader entries bytes messages waiting = StaysOpen reader entries bytes messages waiting
 Serves reader entries bytes messages closed = HasClosed reader entries bytes messages

@@ -10,7 +10,7 @@ use Rattle.llrp_endpoints.specs.Script.{IsLawful}
 use Rattle.llrp_endpoints.specs.Sending.{AreFrames}
 use Rattle.llrp_endpoints.specs.Serving.{Standing, waiting, ended, early, Serves, BeginsServing, IsNewReader}
 
--- The bytes are served in one way: one list of messages is said, and serving stands in one way if no more bytes come. It
+-- The bytes are served in one way: one list of messages is said, and serving is in one state if no more bytes come. It
 -- waits for more exactly where it ends, or would end too early.
 pub record IsServedInOneWay (reader : Reader) (entries : List Entry) (bytes : List ℕ) : Type 0 where
   pub messages : List MessageTree

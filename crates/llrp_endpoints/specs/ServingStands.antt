@@ -107,7 +107,7 @@ Goes reader entries bytes messages new (Ok false) = StandsFor reader entries byt
 Goes reader entries bytes messages new (Ok true) = Serves reader entries bytes messages closed
 Goes reader entries bytes messages new (Err error) = Fails reader entries bytes messages error
 
--- what the reader says to a piece behind the bytes was appended, or some of it
+-- what the reader says to a piece after the bytes was appended, or some of it
 abbrev pub Feeds : Reader → List Entry → List ℕ → List MessageTree → List ℕ → Serving → List ℕ → List ℕ → Result Bool ToolErr → Type 0
 Feeds reader entries bytes messages piece new out0 out1 answer =
     (more : List MessageTree) × Adds more out0 out1 × Goes reader entries (bytes ++ piece) (messages ++ more) new answer × (new.phase ≡ phase_after answer)
@@ -134,7 +134,7 @@ pub record Connects (reader : Reader) (entries : List Entry) (new : ScriptedRead
   pub taken : HasTaken reader entries [] new
   pub adds : Adds (said (run reader (events entries []))) out0 out1
 
--- the entries after so many items happened
+-- the entries after this many items happened
 pub record DoesEntries (count : ℕ) (entries : List Entry) (old new : ScriptedReader) (out0 out1 : List ℕ) : Type 0 where
   pub did : Did old.core (map happening (entries_at count entries)) new.core out0 out1
   pub done : HasDone (count + 1) entries new

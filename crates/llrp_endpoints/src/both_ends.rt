@@ -56,15 +56,22 @@ fn exchange<CR: Source, CW: Sink, RR: Source, RW: Sink, P: Sink>(
     requires up_sink { (CW.log client_end.old.sink).failures < 2 ^ 63 }
     requires report { (P.log report.old).failures < 2 ^ 63 }
     ensures { (e : Ends) → ReaderStands e [] [] reader.old.serving reader.old.said.items
-        → ClientStands e [] [] (P.log report.old) (P.log report.old) client.old.gathering client.old.said.items client.old.lines.items
+        → ClientStands e [] [] (P.log report.old) (P.log report.old) client.old.gathering
+        client.old.said.items client.old.lines.items
         → (down up : Traffic) × RunsLoop e
         (record {
-          down = record { sink = RW.log reader_end.old.sink; source = CR.log client_end.old.source };
+          down = record {
+            sink = RW.log reader_end.old.sink;
+            source = CR.log client_end.old.source;
+          };
           up = record { sink = CW.log client_end.old.sink; source = RR.log reader_end.old.source };
           report = P.log report.old;
         })
         (record {
-          down = record { sink = RW.log reader_end.new.sink; source = CR.log client_end.new.source };
+          down = record {
+            sink = RW.log reader_end.new.sink;
+            source = CR.log client_end.new.source;
+          };
           up = record { sink = CW.log client_end.new.sink; source = RR.log reader_end.new.source };
           report = P.log report.new;
         })
@@ -87,7 +94,7 @@ fn exchange<CR: Source, CW: Sink, RR: Source, RW: Sink, P: Sink>(
 /// are read at the other before the next write. The lines of the tags are written to `report` before the
 /// next read. The core is as `Reader::new` made it, and no frame is longer than `limit` octets.
 ///
-/// The answer is how much was told, once the connection was closed as planned. `Early` is an end of the
+/// Returns how many tags and reports there were, once the connection was closed as planned. `Early` is an end of the
 /// connection or of an input before that, or that neither end has bytes to send; `Peer` a status other
 /// than 0; `Strange` what no reader sends there, or a frame with a fault other than an unknown type;
 /// `Broken` a length field below 10 at either end. After `Read`, `Write`, `Bound` or `Memory` each end
@@ -113,12 +120,18 @@ pub fn run_loop<CR: Source, CW: Sink, RR: Source, RW: Sink, P: Sink>(
     ensures { (down up : Traffic) × RunsLoop
         (record { reader = core; entries = script; limit = limit; plan = plan })
         (record {
-          down = record { sink = RW.log reader_end.old.sink; source = CR.log client_end.old.source };
+          down = record {
+            sink = RW.log reader_end.old.sink;
+            source = CR.log client_end.old.source;
+          };
           up = record { sink = CW.log client_end.old.sink; source = RR.log reader_end.old.source };
           report = P.log report.old;
         })
         (record {
-          down = record { sink = RW.log reader_end.new.sink; source = CR.log client_end.new.source };
+          down = record {
+            sink = RW.log reader_end.new.sink;
+            source = CR.log client_end.new.source;
+          };
           up = record { sink = CW.log client_end.new.sink; source = RR.log reader_end.new.source };
           report = P.log report.new;
         })

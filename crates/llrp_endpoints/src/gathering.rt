@@ -1,5 +1,5 @@
 //! Following a plan: a client takes what its reader sends in pieces of a stream, sends the plan's commands,
-//! and tells the tags that are reported.
+//! and writes a line for each tag that is reported.
 
 ghost use Rattle.std.specs.Prelude.{◌≡◌, ◌≤◌, ◌++◌, List, Ok, Err, ℕ};
 ghost use Rattle.llrp_tree.specs.declared.TheConstants.{MAX_LIMIT};
@@ -85,7 +85,8 @@ impl Gathering {
 
     /// How many tags and reports came so far.
     pub(crate) fn summary(&self) -> Summary
-        ensures { (reports : List (List Tree)) → Counts reports self.now → result ≡ summary_of reports }
+        ensures { (reports : List (List Tree)) → Counts reports self.now
+            → result ≡ summary_of reports }
     {
         self.summary
     }
@@ -116,7 +117,8 @@ impl Gathering {
         report: &mut Vec<u8>,
     ) -> Result<bool, ToolErr>
         ensures does { (c : Course) → Holds c self.old → c.phase ≡ Open
-            → Does c (after (Taken.Tags tags.now) c) self.new out.old.items out.new.items report.old.items report.new.items result }
+            → Does c (after (Taken.Tags tags.now) c) self.new out.old.items out.new.items
+            report.old.items report.new.items result }
         ensures others { KeepsOthers self.old self.new }
     {
         let lines = report_lines(self.alloc, tags.as_slice())?;
@@ -146,7 +148,8 @@ impl Gathering {
     /// A response of status 0 leads on.
     fn answered(&mut self, status: u16, out: &mut Vec<u8>) -> Result<bool, ToolErr>
         ensures does { (c : Course) (r : List ℕ) → Holds c self.old → c.phase ≡ Open
-            → Does c (after (Taken.Reply status) c) self.new out.old.items out.new.items r r result }
+            → Does c (after (Taken.Reply status) c) self.new out.old.items
+            out.new.items r r result }
         ensures others { KeepsOthers self.old self.new }
     {
         if status == 0 {
@@ -164,7 +167,8 @@ impl Gathering {
         report: &mut Vec<u8>,
     ) -> Result<bool, ToolErr>
         ensures does { (c : Course) → Holds c self.old → c.phase ≡ Open
-            → Does c (after taken c) self.new out.old.items out.new.items report.old.items report.new.items result }
+            → Does c (after taken c) self.new out.old.items out.new.items report.old.items
+            report.new.items result }
         ensures others { KeepsOthers self.old self.new }
     {
         match taken {
@@ -172,6 +176,8 @@ impl Gathering {
             Taken::Refused(status) => Err(ToolErr::Peer(status)),
             Taken::Reply(status) => self.answered(status, out),
             Taken::Tags(tags) => self.report(&tags, out, report),
+            Taken::Table(_) => self.go_on(out),
+            Taken::Differs(_) => Err(ToolErr::Strange),
             Taken::Event(..) | Taken::Note | Taken::Kept => Ok(false),
             Taken::Closed => self.end(report),
         }
@@ -185,7 +191,8 @@ impl Gathering {
         report: &mut Vec<u8>,
     ) -> Result<bool, ToolErr>
         ensures does { (c : Course) → Holds c self.old → c.phase ≡ Open
-            → Does c (after_item (Item.Msg message) c) self.new out.old.items out.new.items report.old.items report.new.items result }
+            → Does c (after_item (Item.Msg message) c) self.new out.old.items out.new.items
+            report.old.items report.new.items result }
         ensures others { KeepsOthers self.old self.new }
     {
         let mut answers = Vec::new(self.alloc);
@@ -200,7 +207,8 @@ impl Gathering {
     /// Takes an item.
     fn take(&mut self, item: Item, out: &mut Vec<u8>, report: &mut Vec<u8>) -> Result<bool, ToolErr>
         ensures does { (c : Course) → Holds c self.old → c.phase ≡ Open
-            → Does c (after_item item c) self.new out.old.items out.new.items report.old.items report.new.items result }
+            → Does c (after_item item c) self.new out.old.items out.new.items report.old.items
+            report.new.items result }
         ensures others { KeepsOthers self.old self.new }
     {
         match item {
@@ -219,8 +227,11 @@ impl Gathering {
         out: &mut Vec<u8>,
         report: &mut Vec<u8>,
     ) -> Result<bool, ToolErr>
-        ensures { (limit : ℕ) (plan : ThePlan) (bytes rest : List ℕ) (c : Course) → StandsFor limit plan bytes rest c self.old
-            → Feeds limit plan (bytes ++ piece.now) c self.new out.old.items out.new.items report.old.items report.new.items result }
+        ensures { (limit : ℕ) (plan : ThePlan) (bytes rest : List ℕ) (c : Course)
+            → StandsFor limit plan bytes rest c self.old
+            → Feeds limit plan (bytes
+            ++ piece.now) c self.new out.old.items out.new.items report.old.items
+            report.new.items result }
     {
         let mut rest = piece;
         while !rest.is_empty() {
@@ -244,23 +255,29 @@ impl Gathering {
     /// the lines of the tags that are reported, a line for each report, and a last line once the connection
     /// was closed as planned. Then the answer is true, and each later feed answers true and changes nothing.
     ///
-    /// The errors are `Peer` with a status other than 0, `Strange` for what no reader sends there and for a
-    /// frame with a fault other than an unknown type, `Early` where the connection ends before it is to,
-    /// `Broken` at a length field below 10, and `Memory`; each later feed answers that error.
+    /// The errors are `Peer` with a status other than 0, `Strange` for what no reader sends there, for a
+    /// table that differs from what the client sees and for a frame with a fault other than an unknown
+    /// type, `Early` where the connection ends before it is to, `Broken` at a length field below 10, and
+    /// `Memory`; each later feed answers that error.
     pub fn feed(
         &mut self,
         piece: &[u8],
         out: &mut Vec<u8>,
         report: &mut Vec<u8>,
     ) -> Result<bool, ToolErr>
-        ensures feeds { (limit : ℕ) (plan : ThePlan) (bytes rest : List ℕ) (c : Course) → IsOpen limit plan bytes rest c self.old
-            → Feeds limit plan (bytes ++ piece.now) c self.new out.old.items out.new.items report.old.items report.new.items result }
+        ensures feeds { (limit : ℕ) (plan : ThePlan) (bytes rest : List ℕ) (c : Course)
+            → IsOpen limit plan bytes rest c self.old
+            → Feeds limit plan (bytes
+            ++ piece.now) c self.new out.old.items out.new.items report.old.items
+            report.new.items result }
         ensures phase { IsConnected self.old → IsLeftBy result self.new }
 
         // Once it ended, nothing changes.
         ensures closed { IsClosed self.old → (result ≡ Ok true) × (self.new ≡ self.old) }
-        ensures failed { (error : Error) → HasFailed error self.old → (result ≡ Err error) × (self.new ≡ self.old) }
-        ensures unsent { (IsConnected self.old → ⊥) → (out.new.items ≡ out.old.items) × (report.new.items ≡ report.old.items) }
+        ensures failed { (error : Error) → HasFailed error self.old → (result ≡ Err error)
+            × (self.new ≡ self.old) }
+        ensures unsent { (IsConnected self.old → ⊥) → (out.new.items ≡ out.old.items)
+            × (report.new.items ≡ report.old.items) }
     {
         match self.phase {
             Phase::Open => {}

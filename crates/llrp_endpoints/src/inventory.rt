@@ -30,8 +30,10 @@ fn gather<R: Source, W: Sink, T: Sink>(
     requires source { IsFreshSource (R.log r.old) }
     requires sink { (W.log w.old).failures < 2 ^ 63 }
     requires report { (T.log report.old).failures < 2 ^ 63 }
-    ensures { (limit : ℕ) (plan : ThePlan) → IsOpen limit plan [] [] (begun limit plan) gathering.old
-        → (bytes : List ℕ) × RunsInventory limit plan (R.log r.old) (R.log r.new) (W.log w.old) (W.log w.new) (T.log report.old) (T.log report.new) bytes result }
+    ensures { (limit : ℕ) (plan : ThePlan)
+        → IsOpen limit plan [] [] (begun limit plan) gathering.old
+        → (bytes : List ℕ) × RunsInventory limit plan (R.log r.old) (R.log r.new) (W.log w.old)
+        (W.log w.new) (T.log report.old) (T.log report.new) bytes result }
 {
     let mut buffer = [0u8; READ_SIZE];
     for _ in 0..MOST_READS {
@@ -55,7 +57,7 @@ fn gather<R: Source, W: Sink, T: Sink>(
 /// and the lines of the tags to `report`, those for what was read before the next read. The limit is the
 /// greatest length of a frame in octets.
 ///
-/// The answer is how much was told, once the connection was closed as planned. `Early` is an end of the
+/// Returns how many tags and reports there were, once the connection was closed as planned. `Early` is an end of the
 /// input, or of the connection, before that; `Peer` a status other than 0; `Strange` what no reader sends
 /// there, or a frame with a fault other than an unknown type; `Broken` a length field below 10. After
 /// `Read`, `Write`, `Bound` or `Memory` fronts of what the client says were written.
@@ -72,7 +74,8 @@ pub fn run_inventory<R: Source, W: Sink, T: Sink>(
     requires source { IsFreshSource (R.log r.old) }
     requires sink { (W.log w.old).failures < 2 ^ 63 }
     requires report { (T.log report.old).failures < 2 ^ 63 }
-    ensures { (bytes : List ℕ) × RunsInventory limit plan (R.log r.old) (R.log r.new) (W.log w.old) (W.log w.new) (T.log report.old) (T.log report.new) bytes result }
+    ensures { (bytes : List ℕ) × RunsInventory limit plan (R.log r.old) (R.log r.new) (W.log w.old)
+        (W.log w.new) (T.log report.old) (T.log report.new) bytes result }
 {
     let mut gathering = Gathering::new(alloc, plan, limit);
     let mut out = Vec::new(alloc);

@@ -5,8 +5,8 @@ ghost use Rattle.llrp_tree.specs.declared.TheConstants.{MAX_LIMIT};
 ghost use Rattle.llrp_tree.specs.Lawful.{AreOctets};
 ghost use Rattle.llrp_session.specs.ReaderMachine.{Reader};
 ghost use Rattle.llrp_stream.specs.declared.item.Item.{Item};
-ghost use Rattle.llrp_endpoints.specs.EndsAgree.{AfterAllBytes, BytesAreMessages, EachEventHappens, EachScheduleRuns, IsARunOfMessages, NothingIsUnexpected, ViewCatchesUp, ViewIsTable, ReportsArrive, ReportsAreKept, PendingIsOnTheWay, NothingIsPending};
-ghost use Rattle.llrp_session.specs.MessageAgreement.{ReaderHasHistory, OneActive};
+ghost use Rattle.llrp_endpoints.specs.EndsAgree.{AfterAllBytes, BytesAreMessages, EachEventHappens, EachScheduleRuns, IsARunOfMessages, NothingIsUnexpected, ViewCatchesUp, ViewIsTable, ReportsArrive, ReportsAreKept, PendingIsOnTheWay, NothingIsPending, TablesArrive};
+ghost use Rattle.llrp_session.specs.MessageAgreement.{ReaderHasHistory, OneActive, NoneDiffers};
 ghost use Rattle.llrp_endpoints.specs.Plan.{Plan};
 ghost use Rattle.llrp_endpoints.specs.PlanLaws.{course_of, TakesEachCommand, StrangeIsTheReaders, HasOneCourse, CoursesGoOn, SendsInOrder, EndsMean, SendsOneByOne, SendsWhereAwaited, SendsWithinLimit, CanEnd};
 ghost use Rattle.llrp_endpoints.specs.Script.{IsLawful, IsScript};
@@ -16,9 +16,12 @@ ghost use Rattle.llrp_endpoints.specs.declared.script.Entry.{Entry};
 
 /// Lawful entries have exactly one script, and a text is the script of one list of entries at most.
 pub fn one_script()
-    ensures is { (entries : List Entry) → IsLawful entries → (text : List ℕ) × IsScript entries text }
-    ensures one_text { (entries : List Entry) (s t : List ℕ) → IsScript entries s → IsScript entries t → s ≡ t }
-    ensures one_list { (a b : List Entry) (text : List ℕ) → IsScript a text → IsScript b text → a ≡ b }
+    ensures is { (entries : List Entry) → IsLawful entries → (text : List ℕ)
+        × IsScript entries text }
+    ensures one_text { (entries : List Entry) (s t : List ℕ) → IsScript entries s
+        → IsScript entries t → s ≡ t }
+    ensures one_list { (a b : List Entry) (text : List ℕ) → IsScript a text
+        → IsScript b text → a ≡ b }
 {}
 
 /// A text is a script or has exactly one first refused line, and never both.
@@ -26,10 +29,11 @@ pub fn script_or_refused()
     ensures { (text : List ℕ) → ScriptOrRefused text }
 {}
 
-/// Given a reader, a script and a client's bytes, serving says one list of messages and stands in one way.
+/// Given a reader, a script and a client's bytes, serving sends one list of messages and ends up in one state.
 #[tactic(auto, using(crate::proofs::OneServing::served_in_one_way))]
 pub fn one_serving()
-    ensures { (reader : Reader) (entries : List Entry) (bytes : List ℕ) → reader.limit ≤ MAX_LIMIT → AreOctets bytes → IsServedInOneWay reader entries bytes }
+    ensures { (reader : Reader) (entries : List Entry) (bytes : List ℕ) → reader.limit ≤ MAX_LIMIT
+        → AreOctets bytes → IsServedInOneWay reader entries bytes }
 {}
 
 /// Messages have one list of frames, so the bytes that serving sends are determined with its messages.
@@ -53,34 +57,42 @@ pub fn sent_within_limit()
 {}
 
 /// Whatever a reader sends, a client that follows a plan takes each of its commands, and ends as Strange exactly where
-/// the reader sent what it did not expect, or a frame with a fault other than a type that no kind has.
+/// the reader sent what it did not expect, a table that differs from the client's view, or a frame with a fault other than
+/// a type that no kind has.
 pub fn plan_is_never_refused()
-    ensures each_command_is_taken { (limit : ℕ) (plan : Plan) → 4096 ≤ limit → plan.polls < 2 ^ 16 → TakesEachCommand limit plan }
-    ensures strange_is_the_readers { (limit : ℕ) (plan : Plan) → 4096 ≤ limit → plan.polls < 2 ^ 16 → StrangeIsTheReaders limit plan }
+    ensures each_command_is_taken { (limit : ℕ) (plan : Plan) → 4096 ≤ limit → plan.polls < 2 ^ 16
+        → TakesEachCommand limit plan }
+    ensures strange_is_the_readers { (limit : ℕ) (plan : Plan) → 4096 ≤ limit → plan.polls < 2 ^ 16
+        → StrangeIsTheReaders limit plan }
 {}
 
-/// Bytes have one course of all their whole frames; as more bytes come, what was sent and reported stands, and an end
+/// Bytes have one course of all their whole frames; as more bytes come, what was sent and reported stays, and an end
 /// stays.
 pub fn course_is_determined()
-    ensures one_course { (limit : ℕ) (plan : Plan) (bytes : List ℕ) → limit ≤ MAX_LIMIT → AreOctets bytes → HasOneCourse limit plan bytes }
+    ensures one_course { (limit : ℕ) (plan : Plan) (bytes : List ℕ) → limit ≤ MAX_LIMIT
+        → AreOctets bytes → HasOneCourse limit plan bytes }
     ensures goes_on { (limit : ℕ) (plan : Plan) → CoursesGoOn limit plan }
 {}
 
 /// A client that follows a plan sends its commands in order, with ids from 1 on, each at the message that is awaited for
-/// it, and wherever such a message comes: the first at the connection, one behind GET_REPORT at a report that comes after
-/// that, any other at the response to the command before, or at an ERROR_MESSAGE of status 0 under its id.
+/// it, and wherever such a message comes: the first at the connection, one after GET_REPORT at a report that comes after
+/// that, any other at the response to the command before, which for GET_ROSPECS lists the client's view, or at an
+/// ERROR_MESSAGE of status 0 under its id.
 pub fn plan_sends_its_commands()
-    ensures in_order { (limit : ℕ) (plan : Plan) (items : List Item) → SendsInOrder plan (course_of limit plan items) }
+    ensures in_order { (limit : ℕ) (plan : Plan) (items : List Item)
+        → SendsInOrder plan (course_of limit plan items) }
     ensures one_by_one { (limit : ℕ) (plan : Plan) → SendsOneByOne limit plan }
-    ensures where_awaited { (limit : ℕ) (plan : Plan) → 4096 ≤ limit → plan.polls < 2 ^ 16 → SendsWhereAwaited limit plan }
+    ensures where_awaited { (limit : ℕ) (plan : Plan) → 4096 ≤ limit → plan.polls < 2 ^ 16
+        → SendsWhereAwaited limit plan }
 {}
 
 /// Where a client that follows a plan comes to its fine end, all commands were sent and there was a report for each poll;
-/// where it is Early a command is left; either came of a message that ends the connection, and Peer of one that tells
+/// where it is Early a command is left; either came of a message that ends the connection, and Peer of one that has
 /// that status. Each plan can come to its fine end.
 pub fn plan_ends()
     ensures mean { (limit : ℕ) (plan : Plan) (items : List Item) → EndsMean limit plan items }
-    ensures can_end { (limit : ℕ) (plan : Plan) → 4096 ≤ limit → plan.polls < 2 ^ 16 → CanEnd limit plan }
+    ensures can_end { (limit : ℕ) (plan : Plan) → 4096 ≤ limit → plan.polls < 2 ^ 16
+        → CanEnd limit plan }
 {}
 
 /// Whatever happens to a client and a reader, and in whatever pieces each reads the other's bytes, the two ends agree: each event
@@ -100,4 +112,6 @@ pub fn ends_agree()
     ensures nothing_is_unexpected { NothingIsUnexpected }
     ensures pending_is_on_the_way { AfterAllBytes PendingIsOnTheWay }
     ensures nothing_is_pending { AfterAllBytes NothingIsPending }
+    ensures tables_arrive { AfterAllBytes TablesArrive }
+    ensures none_differs { AfterAllBytes (λ w. NoneDiffers w.ends) }
 {}

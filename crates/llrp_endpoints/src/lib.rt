@@ -1,5 +1,16 @@
 //! The two ends of an LLRP connection over bytes: a simulated reader that acts by a script, and a client that follows a plan.
 //! Sockets, files and words are not in here.
+//!
+//! Use it to test a client against a reader ([`run_serve`]), or to take inventory of a reader ([`run_inventory`]), over any
+//! transport. A [`Script`] says what the antennas see, and when; a [`Plan`] says what the client asks for. [`Serving`] and
+//! [`Gathering`] are the same without a loop around them: they take pieces of the stream as they come.
+//!
+//! ```
+//! let script = Script::parse(alloc, b"3 1000 seen 1 -60 urn:epc:tag:gid-96:1.2.3\n")?;
+//! run_serve(alloc, Reader::new(alloc, MAX_LIMIT, 1), script, &mut source, &mut sink)?;
+//! let plan = standard_plan(alloc, 2, 1)?;
+//! let summary = run_inventory(alloc, plan, MAX_LIMIT, &mut source, &mut sink, &mut lines)?;
+//! ```
 #![tactic(auto)]
 
 mod both_ends;
@@ -17,7 +28,7 @@ pub use both_ends::{Endpoint, run_loop};
 pub use gathering::Gathering;
 pub use inventory::run_inventory;
 pub use llrp_session::Sighting;
-pub use plan::{Plan, standard_plan};
+pub use plan::{Plan, checked_plan, standard_plan};
 pub use script::{Action, Entry, Script};
 pub use serve::run_serve;
 pub use serving::Serving;

@@ -1,6 +1,6 @@
 //! The plan of an inventory: what a client asks of its reader.
 
-ghost use Rattle.std.specs.Prelude.{◌≡◌, IfErr, IfOk, [], ◌∷◌};
+ghost use Rattle.std.specs.Prelude.{◌≡◌, IfErr, IfOk, true, false, [], ◌∷◌};
 ghost use Rattle.llrp_tree.specs.Tree.{forest};
 ghost use Rattle.llrp_tree.specs.Lawful.{AreLawful};
 ghost use Rattle.llrp_session.specs.ReaderMessages.{parameter as the_parameter};
@@ -13,11 +13,13 @@ use std::alloc::{AllocError, Global};
 use std::marker::Model;
 
 /// What a client does with its reader: it adds a ROSpec, enables and starts it, asks for the reports
-/// that are held so many times, stops and deletes it, and closes the connection (LLRP 1.1, section 11).
+/// that are held this many times, stops and deletes it, and closes the connection (LLRP 1.1, section 11).
+/// A plan that is checked compares the reader's table with what the client sees before it deletes.
 #[derive(Drop)]
 pub struct Plan {
     every: u16,
     polls: u16,
+    checked: bool,
     rospec: Node,
 }
 
@@ -27,13 +29,13 @@ impl Model for Plan {
 
     ghost Value = { PlanValue };
 
-    ghost view = { λ p. record { every = p.every; polls = p.polls } };
+    ghost view = { λ p. record { every = p.every; polls = p.polls; checked = p.checked } };
 
     ghost invariant = { λ p. p.rospec ≡ the_rospec p.every };
 }
 
 impl Plan {
-    /// The reader reports after so many tags; 0 for no number.
+    /// The reader reports after this many tags; 0 for no number.
     pub fn every(&self) -> u16
         ensures { result ≡ self.now.every }
     {
@@ -45,6 +47,13 @@ impl Plan {
         ensures { result ≡ self.now.polls }
     {
         self.polls
+    }
+
+    /// Whether the reader's table is compared with what the client sees before the ROSpec is deleted.
+    pub fn is_checked(&self) -> bool
+        ensures { result ≡ self.now.checked }
+    {
+        self.checked
     }
 
     /// The ROSpec.
@@ -65,7 +74,12 @@ impl Plan {
 /// A parameter of lawful parts.
 fn parameter(kind: ParamKind, fields: &[u128], tail: Vec<u8>, children: Vec<Node>) -> Node
     requires { AreLawful kind fields.now tail.items (forest children.items) }
-    ensures { result ≡ record { kind = kind; fields = fields.now; tail = tail.items; children = forest children.items } }
+    ensures { result ≡ record {
+      kind = kind;
+      fields = fields.now;
+      tail = tail.items;
+      children = forest children.items;
+    } }
 {
     match Node::new(kind, fields, Octets::new(tail), Nodes::new(children)) {
         Ok(node) => node,
@@ -124,17 +138,39 @@ fn rospec(alloc: Global, every: u16) -> Result<Node, AllocError>
     Ok(parameter(ParamKind::RoSpec, &[1, 0, 0], Vec::new(alloc), parts))
 }
 
-/// The plan of an inventory on all antennas in which the reader reports after `every` tags (0 for no
-/// number) and at the end, and is asked `polls` times for the reports that are held. The only error is
-/// `Memory`.
-pub fn standard_plan(alloc: Global, every: u16, polls: u16) -> Result<Plan, ToolErr>
-    ensures plan { IfOk result (λ p. p ≡ record { every = every; polls = polls }) }
+/// A plan, checked or not.
+fn plan_of(alloc: Global, every: u16, polls: u16, checked: bool) -> Result<Plan, ToolErr>
+    ensures plan { IfOk result (λ p. p ≡ record {
+      every = every;
+      polls = polls;
+      checked = checked;
+    }) }
     ensures memory { IfErr result (λ e. e ≡ Memory) }
 {
     let rospec = rospec(alloc, every)?;
     Ok(Plan {
         every,
         polls,
+        checked,
         rospec,
     })
+}
+
+/// The plan of an inventory on all antennas in which the reader reports after `every` tags (0 for no
+/// number) and at the end, and is asked `polls` times for the reports that are held. The only error is
+/// `Memory`.
+pub fn standard_plan(alloc: Global, every: u16, polls: u16) -> Result<Plan, ToolErr>
+    ensures plan { IfOk result (λ p. p ≡ record { every = every; polls = polls; checked = false }) }
+    ensures memory { IfErr result (λ e. e ≡ Memory) }
+{
+    plan_of(alloc, every, polls, false)
+}
+
+/// The same plan with a check: after the ROSpec was stopped, the reader is asked for its ROSpecs, which
+/// have to be those that the client sees, each in the state that it sees. The only error is `Memory`.
+pub fn checked_plan(alloc: Global, every: u16, polls: u16) -> Result<Plan, ToolErr>
+    ensures plan { IfOk result (λ p. p ≡ record { every = every; polls = polls; checked = true }) }
+    ensures memory { IfErr result (λ e. e ≡ Memory) }
+{
+    plan_of(alloc, every, polls, true)
 }

@@ -103,7 +103,7 @@ fn next_entry<'a>(entries: &[Entry], text: &'a [u8]) -> Option<(Entry, &'a [u8])
     }
 }
 
-/// Whether there is room for an entry behind these, and its AFTER and NOW do not fall.
+/// Whether there is room for an entry after these, and its AFTER and NOW do not fall.
 fn may_follow(entries: &[Entry], after: u64, now: u64) -> bool
     requires { IsLawful entries.now }
     ensures { IsTrue result ↔ MayFollow entries.now after now }

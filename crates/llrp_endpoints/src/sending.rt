@@ -11,7 +11,8 @@ use std::alloc::Global;
 /// Appends the frames of messages in order. The only error is `Memory`.
 pub fn append_frames(alloc: Global, messages: &[Message], out: &mut Vec<u8>) -> Result<(), ToolErr>
     ensures ok { OnOk result (Adds messages.now out.old.items out.new.items) }
-    ensures err { IfErr result (λ e. (e ≡ Memory) × AddsSome messages.now out.old.items out.new.items) }
+    ensures err { IfErr result (λ e. (e ≡ Memory)
+        × AddsSome messages.now out.old.items out.new.items) }
 {
     for message in messages {
         message.lawful();

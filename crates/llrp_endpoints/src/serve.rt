@@ -28,7 +28,8 @@ fn serve<R: Source, W: Sink>(
     requires source { IsFreshSource (R.log r.old) }
     requires sink { (W.log w.old).failures < 2 ^ 63 }
     ensures { (reader : Machine) (entries : List Entry) → IsFresh reader entries serving.old
-        → (bytes : List ℕ) × RunsServe reader entries (R.log r.old) (R.log r.new) (W.log w.old) (W.log w.new) bytes result }
+        → (bytes : List ℕ) × RunsServe reader entries (R.log r.old) (R.log r.new) (W.log w.old)
+        (W.log w.new) bytes result }
 {
     let started = serving.start(out);
     hand_on(out, w)?;
@@ -65,7 +66,8 @@ pub fn run_serve<R: Source, W: Sink>(
     requires core { IsNewReader core }
     requires source { IsFreshSource (R.log r.old) }
     requires sink { (W.log w.old).failures < 2 ^ 63 }
-    ensures { (bytes : List ℕ) × RunsServe core script (R.log r.old) (R.log r.new) (W.log w.old) (W.log w.new) bytes result }
+    ensures { (bytes : List ℕ) × RunsServe core script (R.log r.old) (R.log r.new) (W.log w.old)
+        (W.log w.new) bytes result }
 {
     let mut serving = Serving::new(alloc, core, script);
     let mut out = Vec::new(alloc);

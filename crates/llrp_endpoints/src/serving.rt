@@ -19,7 +19,7 @@ use llrp_stream::{Decoder, End, Fed};
 use scripted::ScriptedReader;
 use std::alloc::Global;
 
-/// How serving stands.
+/// The state that serving is in.
 #[derive(Clone, Copy, Debug, PartialEq, Eq)]
 pub(crate) enum Phase {
     /// It was not started.
@@ -87,8 +87,10 @@ impl Serving {
 
     /// Takes the items of a piece; the answer is whether one of them closed the connection.
     fn take_all(&mut self, piece: &[u8], out: &mut Vec<u8>) -> Result<bool, ToolErr>
-        ensures { (reader : Machine) (entries : List Entry) (bytes : List ℕ) (messages : List MessageTree) → StandsFor reader entries bytes messages self.old
-            → (more : List MessageTree) × Adds more out.old.items out.new.items × Goes reader entries (bytes ++ piece.now) (messages ++ more) self.new result }
+        ensures { (reader : Machine) (entries : List Entry) (bytes : List ℕ)
+            (messages : List MessageTree) → StandsFor reader entries bytes messages self.old
+            → (more : List MessageTree) × Adds more out.old.items out.new.items
+            × Goes reader entries (bytes ++ piece.now) (messages ++ more) self.new result }
     {
         let mut rest = piece;
         while !rest.is_empty() {
@@ -113,10 +115,14 @@ impl Serving {
     /// that error and changes nothing.
     pub fn feed(&mut self, piece: &[u8], out: &mut Vec<u8>) -> Result<bool, ToolErr>
         requires { HasStarted self.old }
-        ensures feeds { (reader : Machine) (entries : List Entry) (bytes : List ℕ) (messages : List MessageTree) → IsOpen reader entries bytes messages self.old
-            → Feeds reader entries bytes messages piece.now self.new out.old.items out.new.items result }
-        ensures closed { IsClosed self.old → (result ≡ Ok true) × (self.new ≡ self.old) × (out.new.items ≡ out.old.items) }
-        ensures failed { (error : ToolErr) → HasFailed error self.old → (result ≡ Err error) × (self.new ≡ self.old) × (out.new.items ≡ out.old.items) }
+        ensures feeds { (reader : Machine) (entries : List Entry) (bytes : List ℕ)
+            (messages : List MessageTree) → IsOpen reader entries bytes messages self.old
+            → Feeds reader entries bytes messages piece.now self.new out.old.items
+            out.new.items result }
+        ensures closed { IsClosed self.old → (result ≡ Ok true) × (self.new ≡ self.old)
+            × (out.new.items ≡ out.old.items) }
+        ensures failed { (error : ToolErr) → HasFailed error self.old → (result ≡ Err error)
+            × (self.new ≡ self.old) × (out.new.items ≡ out.old.items) }
         ensures started { HasStarted self.new }
     {
         match self.phase {
@@ -131,7 +137,8 @@ impl Serving {
 
     /// How the input ends if nothing follows: fine where a frame ends, else `Early`.
     pub(crate) fn finish(&self) -> Result<(), ToolErr>
-        ensures { (reader : Machine) (entries : List Entry) (bytes : List ℕ) (messages : List MessageTree) → IsOpen reader entries bytes messages self.now
+        ensures { (reader : Machine) (entries : List Entry) (bytes : List ℕ)
+            (messages : List MessageTree) → IsOpen reader entries bytes messages self.now
             → Finishes reader entries bytes messages result }
     {
         match self.decoder.finish() {

@@ -1,4 +1,4 @@
-//! How much an inventory told.
+//! How many tags and reports an inventory printed.
 
 ghost use Rattle.std.specs.Prelude.{◌≡◌, ◌+◌, [], min};
 ghost use Rattle.llrp_endpoints.specs.TagLines.{greatest_count, summary_of};
@@ -21,7 +21,7 @@ impl Summary {
         }
     }
 
-    /// With one more report, of so many tags.
+    /// With one more report, of this many tags.
     pub(crate) fn with_report(self, tags: usize) -> Summary
         ensures tags { result.tags ≡ min (self.tags + tags) greatest_count }
         ensures reports { result.reports ≡ min (self.reports + 1) greatest_count }

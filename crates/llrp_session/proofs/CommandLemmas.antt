@@ -5,7 +5,7 @@ use Rattle.std.proofs.lemmas.Bool.Decides.{nat_tests}
 use Rattle.llrp_tree.specs.declared.TheConstants.{MAX_LIMIT}
 use Rattle.llrp_tree.specs.Lawful.{tree_octets}
 use Rattle.llrp_session.specs.RoSpec.{rospec_of}
-use Rattle.llrp_session.specs.Words.{Command, Add, Delete, Start, Stop, Enable, Disable, SetKeepalive, GetReport, Close}
+use Rattle.llrp_session.specs.Words.{Command, Add, Delete, Start, Stop, Enable, Disable, GetRospecs, SetKeepalive, GetReport, Close}
 use Rattle.llrp_session.specs.LawfulWords.{AddsRoSpec, FitsMessage}
 use Rattle.llrp_session.specs.ClientMachine.{is_over_limit}
 
@@ -21,6 +21,7 @@ fits_within limit (Start id) le adds within = tt
 fits_within limit (Stop id) le adds within = tt
 fits_within limit (Enable id) le adds within = tt
 fits_within limit (Disable id) le adds within = tt
+fits_within limit GetRospecs le adds within = tt
 fits_within limit (SetKeepalive ms) le adds within = tt
 fits_within limit GetReport le adds within = tt
 fits_within limit Close le adds within = tt

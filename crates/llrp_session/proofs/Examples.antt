@@ -18,7 +18,7 @@ ai_spec = record {
   children = forest (node AiSpecStopTrigger (0 ∷ 0 ∷ []) [] ∷ node InventoryParameterSpec (1 ∷ 1 ∷ []) [] ∷ []);
 }
 
--- ROSpec 1 with this start trigger, no stop trigger, that AISpec, and these parameters behind it
+-- ROSpec 1 with this start trigger, no stop trigger, that AISpec, and these parameters after it
 abbrev pub rospec_with : ℕ → List Tree → Tree
 rospec_with start_trigger behind =
     node RoSpec (1 ∷ 0 ∷ 0 ∷ [])
@@ -32,7 +32,7 @@ rospec = rospec_with 0 []
 abbrev pub immediate_rospec : Tree
 immediate_rospec = rospec_with 1 []
 
--- the same, with reports by this trigger after so many tags, of the antenna and the strength
+-- the same, with reports by this trigger after this many tags, of the antenna and the strength
 abbrev pub reporting_rospec : ℕ → ℕ → Tree
 reporting_rospec trigger n =
     rospec_with 0 (node RoReportSpec (trigger ∷ n ∷ []) (node TagReportContentSelector (0 ∷ 0 ∷ 0 ∷ 1 ∷ 0 ∷ 1 ∷ 0 ∷ 0 ∷ 0 ∷ 0 ∷ []) [] ∷ []) ∷ [])

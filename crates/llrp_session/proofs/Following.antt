@@ -5,11 +5,11 @@ use Rattle.std.proofs.lemmas.Bool.{eq-eqb}
 use Rattle.std.proofs.lemmas.Bool.Decides.{nat_tests}
 use Rattle.llrp_tree.specs.Tree.{Tree}
 use Rattle.llrp_session.specs.RoSpec.{RoSpec, ReportSpec, rospec_of}
-use Rattle.llrp_session.specs.Table.{Inactive, Active, states, change, change_view, without, enter, names, setting, enabling, disabling, active, first_immediate, is_active, is_inactive, state_of}
+use Rattle.llrp_session.specs.Table.{Entry, Inactive, Active, states, listing, change, change_view, without, enter, names, setting, enabling, disabling, active, first_immediate, is_active, is_inactive, state_of}
 use Rattle.llrp_session.specs.TagReport.{Sighting, tag_report}
-use Rattle.llrp_session.specs.Words.{ReaderWord, Response, Report, KeepaliveSent, Started, Ended, Overflowed, ReaderMessage, heard, Command, Add, Delete, Start, Stop, Enable, Disable, SetKeepalive, GetReport, Close, requested, Operation, Adding, Deleting, Starting, Stopping, Enabling, Disabling, Configuring, Closing, keepalive_each, KeepaliveSpec, Config}
+use Rattle.llrp_session.specs.Words.{ReaderWord, Response, Listed, Report, KeepaliveSent, Started, Ended, Overflowed, ReaderMessage, heard, Command, Add, Delete, Start, Stop, Enable, Disable, GetRospecs, SetKeepalive, GetReport, Close, requested, Operation, Adding, Deleting, Starting, Stopping, Enabling, Disabling, Listing, Configuring, Closing, keepalive_each, KeepaliveSpec, Config}
 use Rattle.llrp_session.specs.ReaderMachine.{Reader, Turn, Keepalive, Up, tell, reply, with_reader, with_table, send_held, set_state, start, end, end_if, start_if_idle, serve, see, tick, keep_alive, keepalive_from, configured, is_known, add_status, effective_report, sends_at_end, has_state, is_bad_report, is_bad_keepalive, hold, send_if_enough, is_enough, is_full, is_over, reset_if, set_keepalive, set_report}
-use Rattle.llrp_session.specs.ClientMachine.{Client, Ready, Pending, Taking, Tags, Note, Reply, take, take_in, take_ready, granted, awaited, take_response, replied, takes, unexpected, is_response_to, cleared, answered, moved}
+use Rattle.llrp_session.specs.ClientMachine.{Client, Ready, Pending, Taking, Tags, Note, Reply, take, take_in, take_ready, granted, awaited, take_response, replied, takes, unexpected, is_response_to, cleared, answered, listed, moved}
 use Rattle.llrp_session.specs.Agreement.{taken_in, and_then}
 use Rattle.llrp_session.proofs.States.{states-change, states-without, states-enter}
 
@@ -115,7 +115,7 @@ follows-start_if_idle c0 p now (Some s) false t f = f
 
 -- ---- responses
 
--- each operation but that of closing
+-- each operation whose response is a status alone, but that of closing
 abbrev pub LeavesOpen : Operation → Type 0
 LeavesOpen Closing = ⊥
 LeavesOpen Adding = Unit {0}
@@ -125,8 +125,9 @@ LeavesOpen Stopping = Unit {0}
 LeavesOpen Enabling = Unit {0}
 LeavesOpen Disabling = Unit {0}
 LeavesOpen Configuring = Unit {0}
+LeavesOpen Listing = ⊥
 
-take_response-open : (operation : Operation) (c : Client) (p : Pending) (status : ℕ) → LeavesOpen operation → take_response operation c p status ≡ replied c p status
+take_response-open : (operation : Operation) (c : Client) (p : Pending) (status : ℕ) → LeavesOpen operation → take_response operation c p status [] ≡ replied c p status
 take_response-open Adding c p status h = refl
 take_response-open Deleting c p status h = refl
 take_response-open Starting c p status h = refl
@@ -135,6 +136,7 @@ take_response-open Enabling c p status h = refl
 take_response-open Disabling c p status h = refl
 take_response-open Configuring c p status h = refl
 take_response-open Closing c p status h = absurd h
+take_response-open Listing c p status h = absurd h
 
 -- the request with this id
 abbrev pub request_with : ℕ → Operation → ℕ → Pending
@@ -145,11 +147,11 @@ is_response_to-same id operation n = rw (eq-eqb id id refl) (eq-eqb _ _ refl)
 
 -- the client takes the response that it waits for
 pub awaited_response : (d : Client) (id : ℕ) (operation : Operation) (n status : ℕ) → d.phase ≡ Ready → d.pending ≡ Some (request_with id operation n)
-    → take d id (heard (Response operation status)) ≡ take_response operation d (request_with id operation n) status
+    → take d id (heard (Response operation status)) ≡ take_response operation d (request_with id operation n) status []
 awaited_response d id operation n status ready waiting =
     when_ready d id (Response operation status) ready
-    ∙ ap (λ p. answered p d id operation status) waiting
-    ∙ ap (λ b. cond b (take_response operation d (request_with id operation n) status) unexpected) (is_response_to-same id operation n)
+    ∙ ap (λ p. answered p d id operation status []) waiting
+    ∙ ap (λ b. cond b (take_response operation d (request_with id operation n) status []) unexpected) (is_response_to-same id operation n)
 
 pub follows-granted : (c0 : Client) (v id : ℕ) (operation : Operation) (n : ℕ) (r : Reader) (t : Turn)
     → LeavesOpen operation → states r.table ≡ granted operation n (states t.reader.table) → r.phase ≡ Up
@@ -180,6 +182,25 @@ follows-refused c0 v id operation n status t open_still bad f =
       up = f.up;
     }
 
+-- the client takes the table that it waits for
+pub awaited_table : (d : Client) (id : ℕ) (table : List Entry) → d.phase ≡ Ready → d.pending ≡ Some (request_with id Listing 0)
+    → take d id (heard (Listed table)) ≡ listed d 0 (listing table)
+awaited_table d id table ready waiting =
+    when_ready d id (Listed table) ready
+    ∙ ap (λ p. answered p d id Listing 0 (listing table)) waiting
+    ∙ ap (λ b. cond b (listed d 0 (listing table)) unexpected) (is_response_to-same id Listing 0)
+
+follows-listed : (c0 : Client) (v id : ℕ) (t : Turn) → Follows c0 (Some (request_with id Listing 0)) t → Follows c0 None (reply v id (Listed t.reader.table) t)
+follows-listed c0 v id t f =
+    record {
+      c = cleared f.c;
+      caught_up = one_more t.sent _ c0 f.c _ f.caught_up (awaited_table f.c id t.reader.table f.phase f.pending);
+      view = f.view;
+      pending = refl;
+      phase = f.phase;
+      up = f.up;
+    }
+
 is_zero : (n : ℕ) → (n == 0) ≡ true → n ≡ 0
 is_zero n h = grind (arith, nat_tests)
 
@@ -189,18 +210,19 @@ pub record SameTable (r old : Reader) : Type 0 where
   pub table : r.table ≡ old.table
   pub phase : r.phase ≡ old.phase
   pub held : r.held ≡ old.held
+  pub limit : r.limit ≡ old.limit
 
 same-set_keepalive : (now : ℕ) (o : Option KeepaliveSpec) (r : Reader) → SameTable (set_keepalive now o r) r
-same-set_keepalive now None r = record { table = refl; phase = refl; held = refl }
-same-set_keepalive now (Some k) r = record { table = refl; phase = refl; held = refl }
+same-set_keepalive now None r = record { table = refl; phase = refl; held = refl; limit = refl }
+same-set_keepalive now (Some k) r = record { table = refl; phase = refl; held = refl; limit = refl }
 
 same-set_report : (o : Option ReportSpec) (r : Reader) → SameTable (set_report o r) r
-same-set_report None r = record { table = refl; phase = refl; held = refl }
-same-set_report (Some p) r = record { table = refl; phase = refl; held = refl }
+same-set_report None r = record { table = refl; phase = refl; held = refl; limit = refl }
+same-set_report (Some p) r = record { table = refl; phase = refl; held = refl; limit = refl }
 
 same-reset_if : (b : Bool) (r : Reader) → SameTable (reset_if b r) r
-same-reset_if true r = record { table = refl; phase = refl; held = refl }
-same-reset_if false r = record { table = refl; phase = refl; held = refl }
+same-reset_if true r = record { table = refl; phase = refl; held = refl; limit = refl }
+same-reset_if false r = record { table = refl; phase = refl; held = refl; limit = refl }
 
 pub same-configured : (now : ℕ) (k : Config) (r : Reader) → SameTable (configured now k r) r
 unfolding configured
@@ -208,7 +230,7 @@ same-configured now k r =
     let a = same-reset_if k.reset r in
     let b = same-set_keepalive now k.keepalive (reset_if k.reset r) in
     let d = same-set_report k.report (set_keepalive now k.keepalive (reset_if k.reset r)) in
-    record { table = d.table ∙ b.table ∙ a.table; phase = d.phase ∙ b.phase ∙ a.phase; held = d.held ∙ b.held ∙ a.held }
+    record { table = d.table ∙ b.table ∙ a.table; phase = d.phase ∙ b.phase ∙ a.phase; held = d.held ∙ b.held ∙ a.held; limit = d.limit ∙ b.limit ∙ a.limit }
 
 -- ---- a request that does not close
 
@@ -258,6 +280,7 @@ follows-serve now v id (Stop n) c0 t h f =
       | true ↦ follows-granted c0 v id Stopping n ended.reader ended tt refl g.up g
       | false ↦ follows-refused c0 v id Stopping n 101 t tt refl f
     ]
+follows-serve now v id GetRospecs c0 t h f = follows-listed c0 v id t f
 follows-serve now v id (SetKeepalive ms) c0 t h f =
     let k : Config = record { reset = false; keepalive = Some (keepalive_each ms); report = None } in
     let same = same-configured now k t.reader in

@@ -1,10 +1,11 @@
 -- A client that is given what fits sends what fits.
-use Rattle.std.proofs.Common.{◌≡◌, ℕ, ◌+◌, ◌^◌, ◌<◌, ◌≤◌, refl, Bool, true, false, cond, arith}
+use Rattle.std.proofs.Common.{◌≡◌, ℕ, ◌+◌, ◌^◌, ◌<◌, ◌≤◌, refl, Bool, true, false, cond, List, arith}
 use Rattle.std.specs.Prelude.{◌==◌, nat_lt, Option, None, Some, is_some, Result, IfOk}
 use Rattle.std.proofs.lemmas.Bool.Decides.{nat_tests}
+use Rattle.llrp_tree.specs.Tree.{Tree}
 use Rattle.llrp_tree.specs.Lawful.{tree_octets}
 use Rattle.llrp_session.specs.RoSpec.{rospec_of}
-use Rattle.llrp_session.specs.Words.{Operation, Adding, Deleting, Starting, Stopping, Enabling, Disabling, Configuring, Closing, Command, Add, Delete, Start, Stop, Enable, Disable, SetKeepalive, GetReport, Close, Heard, HeardResponse, HeardError, HeardReport, HeardKeepalive, HeardNotification, HeardOther, RoSpecChange}
+use Rattle.llrp_session.specs.Words.{Operation, Adding, Deleting, Starting, Stopping, Enabling, Disabling, Listing, Configuring, Closing, Command, Add, Delete, Start, Stop, Enable, Disable, GetRospecs, SetKeepalive, GetReport, Close, Heard, HeardResponse, HeardError, HeardReport, HeardKeepalive, HeardNotification, HeardOther, RoSpecChange}
 use Rattle.llrp_session.specs.Refusal.{Refusal, Busy, OverLimit, IdsSpent}
 use Rattle.llrp_session.specs.ClientMachine.{Client, ClientPhase, Fresh, Ready, Closed, Pending, Sending, Taking, command, sent_unless, refused_in, is_over_limit, are_spent, take, take_in, attempted, answered, take_response, failed, notified, is_response_to, unexpected, takes, cleared, closed, Connected, Refused, Reply}
 use Rattle.llrp_session.specs.LawfulWords.{IsLawfulCommand, IsLawfulClientMessage}
@@ -23,6 +24,7 @@ within limit (Start id) h e = h
 within limit (Stop id) h e = h
 within limit (Enable id) h e = h
 within limit (Disable id) h e = h
+within limit GetRospecs h e = tt
 within limit (SetKeepalive ms) h e = h
 within limit GetReport h e = tt
 within limit Close h e = tt
@@ -56,20 +58,21 @@ command_is_lawful c k h =
 abbrev AnswersLawfully : Client → Result Taking Refusal → Type 0
 AnswersLawfully c step = IfOk step (λ k. AreLawfulClientMessages c.limit k.sent)
 
-lawful-take_response : (operation : Operation) (c d : Client) (p : Pending) (status : ℕ) → AnswersLawfully c (take_response operation d p status)
-lawful-take_response Adding c d p status = tt
-lawful-take_response Deleting c d p status = tt
-lawful-take_response Starting c d p status = tt
-lawful-take_response Stopping c d p status = tt
-lawful-take_response Enabling c d p status = tt
-lawful-take_response Disabling c d p status = tt
-lawful-take_response Configuring c d p status = tt
-lawful-take_response Closing c d p status = tt
+lawful-take_response : (operation : Operation) (c d : Client) (p : Pending) (status : ℕ) (ts : List Tree) → AnswersLawfully c (take_response operation d p status ts)
+lawful-take_response Adding c d p status ts = tt
+lawful-take_response Deleting c d p status ts = tt
+lawful-take_response Starting c d p status ts = tt
+lawful-take_response Stopping c d p status ts = tt
+lawful-take_response Enabling c d p status ts = tt
+lawful-take_response Disabling c d p status ts = tt
+lawful-take_response Configuring c d p status ts = tt
+lawful-take_response Closing c d p status ts = tt
+lawful-take_response Listing c d p status ts = tt
 
-lawful-answered : (o : Option Pending) (c : Client) (id : ℕ) (operation : Operation) (status : ℕ) → AnswersLawfully c (answered o c id operation status)
-lawful-answered None c id operation status = tt
-lawful-answered (Some p) c id operation status =
-    elim (is_response_to p id operation) as (λ b. AnswersLawfully c (cond b (take_response operation c p status) unexpected)) [ true ↦ lawful-take_response operation c c p status | false ↦ tt ]
+lawful-answered : (o : Option Pending) (c : Client) (id : ℕ) (operation : Operation) (status : ℕ) (ts : List Tree) → AnswersLawfully c (answered o c id operation status ts)
+lawful-answered None c id operation status ts = tt
+lawful-answered (Some p) c id operation status ts =
+    elim (is_response_to p id operation) as (λ b. AnswersLawfully c (cond b (take_response operation c p status ts) unexpected)) [ true ↦ lawful-take_response operation c c p status ts | false ↦ tt ]
 
 lawful-failed : (o : Option Pending) (c : Client) (id status : ℕ) → AnswersLawfully c (failed o c id status)
 lawful-failed None c id status = tt
@@ -87,13 +90,13 @@ lawful-attempted c (Some status) =
 
 lawful-take_in : (ph : ClientPhase) (c : Client) (id : ℕ) (h : Heard) → id < 2 ^ 32 → AnswersLawfully c (take_in ph c id h)
 lawful-take_in Closed c id h fits = tt
-lawful-take_in Fresh c id (HeardResponse operation status) fits = tt
+lawful-take_in Fresh c id (HeardResponse operation status ts) fits = tt
 lawful-take_in Fresh c id (HeardError status) fits = tt
 lawful-take_in Fresh c id (HeardReport tags) fits = tt
 lawful-take_in Fresh c id HeardKeepalive fits = tt
 lawful-take_in Fresh c id HeardOther fits = tt
 lawful-take_in Fresh c id (HeardNotification n) fits = lawful-attempted c n.attempt
-lawful-take_in Ready c id (HeardResponse operation status) fits = lawful-answered c.pending c id operation status
+lawful-take_in Ready c id (HeardResponse operation status ts) fits = lawful-answered c.pending c id operation status ts
 lawful-take_in Ready c id (HeardError status) fits = lawful-failed c.pending c id status
 lawful-take_in Ready c id (HeardReport tags) fits = tt
 lawful-take_in Ready c id HeardKeepalive fits = (record { id = fits; word = tt }, tt)

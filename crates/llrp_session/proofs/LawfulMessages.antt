@@ -5,7 +5,7 @@ use Rattle.std.specs.Str.{is_utf8}
 use Rattle.std.proofs.lemmas.Bool.{le-leb}
 use Rattle.std.proofs.lemmas.Str.{IsUtf8-nil, is_utf8-from_IsUtf8}
 use Rattle.llrp_schema.specs.declared.kinds.MsgKind.{MsgKind}
-use Rattle.llrp_schema.specs.declared.kinds.MsgKind.TheVariants.{RoAccessReport, Keepalive, ReaderEventNotification, ErrorMessage, AddRoSpec, DeleteRoSpec, StartRoSpec, StopRoSpec, EnableRoSpec, DisableRoSpec, SetReaderConfig, GetReport as GetReportMessage, CloseConnection, KeepaliveAck}
+use Rattle.llrp_schema.specs.declared.kinds.MsgKind.TheVariants.{GetRoSpecs, GetRoSpecsResponse, RoAccessReport, Keepalive, ReaderEventNotification, ErrorMessage, AddRoSpec, DeleteRoSpec, StartRoSpec, StopRoSpec, EnableRoSpec, DisableRoSpec, SetReaderConfig, GetReport as GetReportMessage, CloseConnection, KeepaliveAck}
 use Rattle.llrp_schema.specs.declared.kinds.ParamKind.TheVariants.{LlrpStatus, ReaderEventNotificationData, UtcTimestamp, RoSpecEvent, ReportBufferOverflowErrorEvent, ConnectionAttemptEvent, KeepaliveSpec as KeepaliveSpecParameter}
 use Rattle.llrp_schema.specs.declared.kinds.Kind.TheVariants.{Message}
 use Rattle.llrp_schema.specs.Schema.{number_of, rule_of, message_rule, param_rule, fields_of, tail_of, groups_of, is_tv}
@@ -14,10 +14,12 @@ use Rattle.llrp_tree.specs.Tree.{Forest, none, Tree, add, add_all, forest}
 use Rattle.llrp_tree.specs.Lawful.{octets, body_octets, message_octets, has_place, count, ArePlaced, NoneTooMany, NoneMissing, AreLawful, AllLawful}
 use Rattle.llrp_tree.specs.Checks.{all_placed, none_too_many, none_missing, table_tests, first_fault, first_message_fault}
 use Rattle.llrp_tree.proofs.LawLemmas.{lawful_from, message_from}
-use Rattle.llrp_session.specs.Words.{Operation, Adding, Deleting, Starting, Stopping, Enabling, Disabling, Configuring, Closing, Add, Delete, Start, Stop, Enable, Disable, SetKeepalive, GetReport, Close, ReaderWord, Response, Error, Report, KeepaliveSent, Accepted, Started, Ended, Overflowed, ReaderMessage, ClientWord, Asks, Acknowledges, ClientMessage, KeepaliveSpec, keepalive_each}
+use Rattle.llrp_session.specs.Table.{Entry, listing}
+use Rattle.llrp_session.specs.Words.{Operation, Adding, Deleting, Starting, Stopping, Enabling, Disabling, Listing, Configuring, Closing, Add, Delete, Start, Stop, Enable, Disable, GetRospecs, SetKeepalive, GetReport, Close, ReaderWord, Response, Listed, Error, Report, KeepaliveSent, Accepted, Started, Ended, Overflowed, ReaderMessage, ClientWord, Asks, Acknowledges, ClientMessage, KeepaliveSpec, keepalive_each}
 use Rattle.llrp_session.specs.ReaderMessages.{parameter, status_parameter, notification_data, rospec_event, response_kind, reader_message}
 use Rattle.llrp_session.specs.ClientMessages.{client_message}
-use Rattle.llrp_session.specs.LawfulWords.{IsSendable, AreReports, IsLawfulReaderWord, IsLawfulReaderMessage, IsLawfulRoSpec, IsLawfulClientWord, IsLawfulClientMessage}
+use Rattle.llrp_session.specs.LawfulWords.{IsSendable, AreReports, AreToldOf, FitsLimit, IsLawfulReaderWord, IsLawfulReaderMessage, IsLawfulRoSpec, IsLawfulClientWord, IsLawfulClientMessage}
+use Rattle.llrp_session.proofs.ListedLemmas.{listing_placed, listing_lawful, listing_octets, statuses-listing}
 
 -- ---- parameters
 
@@ -86,6 +88,7 @@ response_passes Enabling status = refl
 response_passes Disabling status = refl
 response_passes Configuring status = refl
 response_passes Closing status = refl
+response_passes Listing status = refl
 
 response_octets : (operation : Operation) (status : ℕ) → 10 + body_octets (Message (response_kind operation)) [] + octets (forest (status_parameter status ∷ [])) ≡ 18
 unfolding rule_of message_rule param_rule number_of fields_of tail_of groups_of is_tv body_octets
@@ -97,6 +100,7 @@ response_octets Enabling status = refl
 response_octets Disabling status = refl
 response_octets Configuring status = refl
 response_octets Closing status = refl
+response_octets Listing status = refl
 
 -- ---- reports
 
@@ -131,31 +135,52 @@ report_sendable v id tags limit l version small h few =
       within = omega (arith, long);
     }
 
+-- ---- a table
+
+table_sendable : (v id : ℕ) (table : List Entry) (limit : ℕ) → limit ≤ MAX_LIMIT → (v ≡ 1) ⊎ (v ≡ 2) → id < 2 ^ 32 → AreToldOf table → FitsLimit limit table
+    → IsSendable limit (record { version = v; id = id; kind = GetRoSpecsResponse; fields = []; children = forest (status_parameter 0 ∷ listing table) })
+unfolding ArePlaced NoneTooMany NoneMissing count rule_of message_rule param_rule number_of fields_of tail_of groups_of is_tv body_octets
+table_sendable v id table limit m version small told fits =
+    let status : Forest = forest (status_parameter 0 ∷ []) in
+    let long = listing_octets status table told in
+    let statuses = statuses-listing status table in
+    record {
+      lawful = record {
+        version = version;
+        id = small;
+        obeys = record { ranges = tt; form = refl; bytes = tt; placed = listing_placed status table (tt, refl); most = (omega (arith, statuses), (tt, tt)); least = (omega (arith, statuses), (omega arith, tt)) };
+        children = listing_lawful status table (tt, status_lawful 0 (omega arith), tt) told;
+        long = omega (arith, long);
+      };
+      within = omega (arith, long);
+    }
+
 -- ---- the words of a reader
 
-word_sends : (v id : ℕ) (word : ReaderWord) (limit : ℕ) → 4096 ≤ limit → (v ≡ 1) ⊎ (v ≡ 2) → id < 2 ^ 32 → IsLawfulReaderWord word → IsSendable limit (reader_message (record { version = v; id = id; word = word }))
+word_sends : (v id : ℕ) (word : ReaderWord) (limit : ℕ) → 4096 ≤ limit → limit ≤ MAX_LIMIT → (v ≡ 1) ⊎ (v ≡ 2) → id < 2 ^ 32 → IsLawfulReaderWord limit word → IsSendable limit (reader_message (record { version = v; id = id; word = word }))
 unfolding reader_message first_message_fault table_tests all_placed none_too_many none_missing rule_of message_rule param_rule number_of fields_of tail_of groups_of is_tv body_octets
-word_sends v id (Response operation status) limit l version small h =
+word_sends v id (Response operation status) limit l m version small h =
     sendable v id (response_kind operation) [] (forest (status_parameter status ∷ [])) limit version small (tt, status_lawful status h, tt) (response_passes operation status) (let e = response_octets operation status in omega (arith, e))
-word_sends v id (Error status) limit l version small h =
+word_sends v id (Listed table) limit l m version small h = table_sendable v id table limit m version small h.0 h.1
+word_sends v id (Error status) limit l m version small h =
     sendable v id ErrorMessage [] (forest (status_parameter status ∷ [])) limit version small (tt, status_lawful status h, tt) refl (omega arith)
-word_sends v id (Report tags) limit l version small h = report_sendable v id tags limit l version small h.0 h.1
-word_sends v id KeepaliveSent limit l version small h = sendable v id Keepalive [] none limit version small tt refl (omega arith)
-word_sends v id (Accepted now) limit l version small h =
+word_sends v id (Report tags) limit l m version small h = report_sendable v id tags limit l version small h.0 h.1
+word_sends v id KeepaliveSent limit l m version small h = sendable v id Keepalive [] none limit version small tt refl (omega arith)
+word_sends v id (Accepted now) limit l m version small h =
     sendable v id ReaderEventNotification [] (forest (notification_data now (parameter ConnectionAttemptEvent (0 ∷ []) []) ∷ [])) limit version small
     (tt, attempt_data_lawful now, ((tt, time_lawful now h, tt), attempt_lawful, tt)) refl (omega arith)
-word_sends v id (Started now k) limit l version small h =
+word_sends v id (Started now k) limit l m version small h =
     sendable v id ReaderEventNotification [] (forest (notification_data now (rospec_event 0 k) ∷ [])) limit version small
     (tt, change_data_lawful now 0 k, ((tt, time_lawful now h.0, tt), change_lawful 0 k (omega arith) h.1, tt)) refl (omega arith)
-word_sends v id (Ended now k) limit l version small h =
+word_sends v id (Ended now k) limit l m version small h =
     sendable v id ReaderEventNotification [] (forest (notification_data now (rospec_event 1 k) ∷ [])) limit version small
     (tt, change_data_lawful now 1 k, ((tt, time_lawful now h.0, tt), change_lawful 1 k (omega arith) h.1, tt)) refl (omega arith)
-word_sends v id (Overflowed now) limit l version small h =
+word_sends v id (Overflowed now) limit l m version small h =
     sendable v id ReaderEventNotification [] (forest (notification_data now (parameter ReportBufferOverflowErrorEvent [] []) ∷ [])) limit version small
     (tt, overflow_data_lawful now, ((tt, time_lawful now h, tt), overflow_lawful, tt)) refl (omega arith)
 
-pub reader_sends : (limit : ℕ) (m : ReaderMessage) → 4096 ≤ limit → IsLawfulReaderMessage m → IsSendable limit (reader_message m)
-reader_sends limit m l h = word_sends m.version m.id m.word limit l h.version h.id h.word
+pub reader_sends : (limit : ℕ) (m : ReaderMessage) → 4096 ≤ limit → limit ≤ MAX_LIMIT → IsLawfulReaderMessage limit m → IsSendable limit (reader_message m)
+reader_sends limit m l g h = word_sends m.version m.id m.word limit l g h.version h.id h.word
 
 -- ---- the words of a client
 
@@ -195,6 +220,7 @@ client_word_sends id limit (Asks (Start n)) l m small h = let e = le-leb n 42949
 client_word_sends id limit (Asks (Stop n)) l m small h = let e = le-leb n 4294967295 (omega arith) in named_sendable id limit n StopRoSpec l small (rw e refl) refl
 client_word_sends id limit (Asks (Enable n)) l m small h = let e = le-leb n 4294967295 (omega arith) in named_sendable id limit n EnableRoSpec l small (rw e refl) refl
 client_word_sends id limit (Asks (Disable n)) l m small h = let e = le-leb n 4294967295 (omega arith) in named_sendable id limit n DisableRoSpec l small (rw e refl) refl
+client_word_sends id limit (Asks GetRospecs) l m small h = sendable 1 id GetRoSpecs [] none limit (inl refl) small tt refl (omega arith)
 client_word_sends id limit (Asks (SetKeepalive ms)) l m small h =
     let k = keepalive_fits ms h in
     sendable 1 id SetReaderConfig (0 ∷ []) (forest (parameter KeepaliveSpecParameter ((keepalive_each ms).trigger ∷ (keepalive_each ms).period ∷ []) [] ∷ [])) limit (inl refl) small

@@ -4,6 +4,8 @@ pub mod Following
 pub mod TakingIn
 pub mod StandingTogether
 pub mod Keeping
+pub mod ListedViews
+pub mod TablesAgree
 pub mod Worlds
 pub mod Examples
 pub mod ReaderExchanges
@@ -18,6 +20,9 @@ pub mod ToldOfLawful
 pub mod LawfulClients
 pub mod MessageReading
 pub mod MessageWorlds
+pub mod ListedLemmas
+pub mod ListedParts
+pub mod NamedTwice
 pub mod LawfulMessages
 pub mod LawfulParts
 pub mod ToldMessages

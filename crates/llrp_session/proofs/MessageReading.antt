@@ -1,15 +1,34 @@
 -- What is read in the message of a word is that word.
-use Rattle.std.proofs.Common.{◌≡◌, ℕ, refl, ap}
+use Rattle.std.proofs.Common.{◌≡◌, ℕ, List, [], ◌∷◌, refl, ap, ◌∙◌}
 use Rattle.llrp_schema.specs.Schema.{number_of, rule_of, param_rule}
 use Rattle.llrp_tree.proofs.TreeLemmas.{trees-forest}
-use Rattle.std.specs.Prelude.{true}
-use Rattle.llrp_schema.specs.declared.kinds.ParamKind.TheVariants.{RoSpec}
-use Rattle.llrp_session.specs.RoSpec.{is_kind}
-use Rattle.llrp_session.specs.Words.{Adding, Deleting, Starting, Stopping, Enabling, Disabling, Configuring, Closing, Add, Delete, Start, Stop, Enable, Disable, SetKeepalive, GetReport, Close, ReaderWord, Response, Error, Report, KeepaliveSent, Accepted, Started, Ended, Overflowed, ReaderMessage, HeardReport, ClientWord, Asks, Acknowledges, ClientMessage, heard, request}
-use Rattle.llrp_session.specs.ReaderMessages.{reader_message}
+use Rattle.std.specs.Prelude.{true, filter, find}
+use Rattle.llrp_tree.specs.Tree.{Tree, forest}
+use Rattle.llrp_schema.specs.declared.kinds.ParamKind.TheVariants.{RoSpec, LlrpStatus}
+use Rattle.llrp_session.specs.RoSpec.{is_kind, field}
+use Rattle.llrp_session.specs.Table.{Entry, as_listed, listing}
+use Rattle.llrp_session.specs.Words.{Adding, Deleting, Starting, Stopping, Enabling, Disabling, Listing, Configuring, Closing, Add, Delete, Start, Stop, Enable, Disable, GetRospecs, SetKeepalive, GetReport, Close, ReaderWord, Response, Listed, Error, Report, KeepaliveSent, Accepted, Started, Ended, Overflowed, ReaderMessage, HeardReport, HeardResponse, ClientWord, Asks, Acknowledges, ClientMessage, heard, request}
+use Rattle.llrp_session.specs.ReaderMessages.{status_parameter, reader_message}
 use Rattle.llrp_session.specs.ClientMessages.{client_message}
-use Rattle.llrp_session.specs.Reading.{request_of, heard_of}
+use Rattle.llrp_session.specs.Reading.{request_of, status_in, rospecs_in, heard_of}
 use Rattle.llrp_session.specs.LawfulWords.{SaysRoSpec}
+
+-- ---- the response that lists a table
+
+status_back : (ts : List Tree) → status_in (forest (status_parameter 0 ∷ ts)) ≡ 0
+unfolding number_of rule_of param_rule
+status_back ts = ap (λ xs. field 0 (find (is_kind LlrpStatus) xs)) (trees-forest (status_parameter 0 ∷ ts))
+
+all_rospecs : (table : List Entry) → filter (is_kind RoSpec) (listing table) ≡ listing table
+unfolding number_of rule_of param_rule
+all_rospecs [] = refl
+all_rospecs (e ∷ es) = ap (λ rest. as_listed e ∷ rest) (all_rospecs es)
+
+rospecs_back : (table : List Entry) → rospecs_in (forest (status_parameter 0 ∷ listing table)) ≡ listing table
+unfolding number_of rule_of param_rule
+rospecs_back table = ap (filter (is_kind RoSpec)) (trees-forest (status_parameter 0 ∷ listing table)) ∙ all_rospecs table
+
+-- ---- words
 
 word_back : (version id : ℕ) (word : ReaderWord) → heard_of (reader_message (record { version = version; id = id; word = word })) ≡ heard word
 unfolding heard_of reader_message number_of rule_of param_rule
@@ -21,6 +40,9 @@ word_back version id (Response Enabling status) = refl
 word_back version id (Response Disabling status) = refl
 word_back version id (Response Configuring status) = refl
 word_back version id (Response Closing status) = refl
+word_back version id (Response Listing status) = refl
+word_back version id (Listed table) =
+    ap (λ n. HeardResponse Listing n (rospecs_in (forest (status_parameter 0 ∷ listing table)))) (status_back (listing table)) ∙ ap (HeardResponse Listing 0) (rospecs_back table)
 word_back version id (Error status) = refl
 word_back version id (Report tags) = ap HeardReport (trees-forest tags)
 word_back version id KeepaliveSent = refl
@@ -40,6 +62,7 @@ command_back id (Asks (Start n)) h = refl
 command_back id (Asks (Stop n)) h = refl
 command_back id (Asks (Enable n)) h = refl
 command_back id (Asks (Disable n)) h = refl
+command_back id (Asks GetRospecs) h = refl
 command_back id (Asks (SetKeepalive ms)) h = refl
 command_back id (Asks GetReport) h = refl
 command_back id (Asks Close) h = refl

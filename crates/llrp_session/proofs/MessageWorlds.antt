@@ -3,24 +3,26 @@ use Rattle.std.proofs.Common.{◌≡◌, ℕ, List, [], ◌∷◌, ◌++◌, ref
 use Rattle.std.specs.Prelude.{map, Result, Ok, Err, Option, None, Some, if◌then◌else◌, Bool, true, false, ◌==◌}
 use Rattle.std.proofs.lemmas.List.{map-append}
 use Rattle.llrp_tree.specs.Tree.{Tree}
-use Rattle.llrp_session.specs.Words.{Operation, Adding, Deleting, Starting, Stopping, Enabling, Disabling, Configuring, Closing, Request, RoSpecChange, Command, Response, Error, Report, KeepaliveSent, Accepted, Started, Ended, Overflowed, ReaderWord, ReaderMessage, ClientMessage, heard, request, Heard, HeardResponse, HeardError, HeardReport, HeardKeepalive, HeardNotification, HeardOther}
+use Rattle.llrp_session.specs.Words.{Operation, Adding, Deleting, Starting, Stopping, Enabling, Disabling, Listing, Configuring, Closing, Request, RoSpecChange, Command, Response, Listed, Error, Report, KeepaliveSent, Accepted, Started, Ended, Overflowed, ReaderWord, ReaderMessage, ClientMessage, heard, request, Heard, HeardResponse, HeardError, HeardReport, HeardKeepalive, HeardNotification, HeardOther}
 use Rattle.llrp_session.specs.Refusal.{Refusal}
 use Rattle.llrp_session.specs.ReaderMachine.{Turn, ReaderEvent, Connect, Take, Seen, Tick, next}
 use Rattle.llrp_session.specs.Sightings.{tags_in, tags_of, kept_by}
 use Rattle.llrp_session.specs.ClientMachine.{Client, ClientPhase, Fresh, Ready, Closed, Pending, Connected, Refused, Reply, Sending, Taking, command, take, sent_unless, refused_in, take_response, replied, granted, answered, unexpected, is_response_to, failed, takes, cleared, closed, notified, attempted, take_in}
 use Rattle.llrp_session.specs.World as words
-use Rattle.llrp_session.specs.World.{World, WorldEvent, Connects, Commands, DeliversUp, DeliversDown, Sees, Ticks, run, opening}
+use Rattle.llrp_session.specs.Agreement.{tables_of}
+use Rattle.llrp_session.specs.World.{World, table_heard, listed_by, WorldEvent, Connects, Commands, DeliversUp, DeliversDown, Sees, Ticks, run, opening}
 use Rattle.llrp_session.specs.ReaderMessages.{reader_message}
 use Rattle.llrp_session.specs.ClientMessages.{client_message}
 use Rattle.llrp_session.specs.Reading.{heard_of}
 use Rattle.llrp_session.specs.LawfulWords.{AddsRoSpec, SaysRoSpec}
-use Rattle.llrp_session.specs.MessageWorld.{tags_heard, tags_in_messages, stepped, reader_does, commanded, took, delivered_up, delivered_down, message_happens, run_messages, message_opening, in_messages, IsOfRoSpecs, AreOfRoSpecs}
+use Rattle.llrp_session.specs.MessageWorld.{tags_heard, tags_in_messages, tables_in_messages, stepped, reader_does, commanded, took, delivered_up, delivered_down, message_happens, run_messages, message_opening, in_messages, IsOfRoSpecs, AreOfRoSpecs}
 use Rattle.llrp_session.proofs.MessageReading.{heard_back, request_back}
 
 -- ---- the TagReportData in messages are those of the words
 
 word_tags : (word : ReaderWord) → tags_heard (heard word) ≡ tags_in word
 word_tags (Response operation status) = refl
+word_tags (Listed table) = refl
 word_tags (Error status) = refl
 word_tags (Report tags) = refl
 word_tags KeepaliveSent = refl
@@ -36,14 +38,19 @@ same_tags (m ∷ ms) =
     let here : tags_heard (heard_of (reader_message m)) ≡ tags_in m.word = ap tags_heard (heard_back m) ∙ word_tags m.word in
     ap (λ (ts : List Tree). ts ++ tags_in_messages (map reader_message ms)) here ∙ ap (λ (ts : List Tree). tags_in m.word ++ ts) (same_tags ms)
 
+pub same_tables : (ms : List ReaderMessage) → tables_in_messages (map reader_message ms) ≡ tables_of ms
+unfolding tables_in_messages tables_of
+same_tables [] = refl
+same_tables (m ∷ ms) = ap (λ (h : Heard). table_heard h ++ tables_in_messages (map reader_message ms)) (heard_back m) ∙ ap (λ (ts : List (List Tree)). table_heard (heard m.word) ++ ts) (same_tables ms)
+
 -- ---- a step of the reader
 
-stepped_alike : (r : Result Turn Refusal) (kept : List Tree) (w : World) → stepped r kept (in_messages w) ≡ in_messages (words.stepped r kept w)
-stepped_alike (Err refusal) kept w = refl
-stepped_alike (Ok t) kept w = rw (map-append reader_message w.down t.sent) (rw (same_tags t.sent) refl)
+stepped_alike : (r : Result Turn Refusal) (kept : List Tree) (listed : List (List Tree)) (w : World) → stepped r kept listed (in_messages w) ≡ in_messages (words.stepped r kept listed w)
+stepped_alike (Err refusal) kept listed w = refl
+stepped_alike (Ok t) kept listed w = rw (map-append reader_message w.down t.sent) (rw (same_tags t.sent) refl)
 
 does_alike : (now : ℕ) (e : ReaderEvent) (w : World) → reader_does now e (in_messages w) ≡ in_messages (words.reader_does now e w)
-does_alike now e w = stepped_alike (next now e w.reader) (kept_by now e w.reader) w
+does_alike now e w = stepped_alike (next now e w.reader) (kept_by now e w.reader) (listed_by e w.reader) w
 
 -- ---- a step of the client
 
@@ -66,12 +73,12 @@ all_say-append : (xs ys : List ClientMessage) → AllSay xs → AllSay ys → Al
 all_say-append [] ys h g = g
 all_say-append (x ∷ xs) ys h g = (h.0, all_say-append xs ys h.1 g)
 
-stepped_says : (r : Result Turn Refusal) (kept : List Tree) (w : World) → AllSay w.up → AllSay (words.stepped r kept w).up
-stepped_says (Err refusal) kept w h = h
-stepped_says (Ok t) kept w h = h
+stepped_says : (r : Result Turn Refusal) (kept : List Tree) (listed : List (List Tree)) (w : World) → AllSay w.up → AllSay (words.stepped r kept listed w).up
+stepped_says (Err refusal) kept listed w h = h
+stepped_says (Ok t) kept listed w h = h
 
 does_says : (now : ℕ) (e : ReaderEvent) (w : World) → AllSay w.up → AllSay (words.reader_does now e w).up
-does_says now e w h = stepped_says (next now e w.reader) (kept_by now e w.reader) w h
+does_says now e w h = stepped_says (next now e w.reader) (kept_by now e w.reader) (listed_by e w.reader) w h
 
 sent_says : (r : Option Refusal) (k : Command) (w : World) → AddsRoSpec k → AllSay w.up → AllSay (words.commanded (sent_unless r w.client k) w).up
 sent_says None k w a h = all_say-append w.up _ h (a, tt)
@@ -97,19 +104,20 @@ same_limit limit false x y h g = g
 says_replied : (c : Client) (p : Pending) (status : ℕ) → Says c (replied c p status)
 says_replied c p status = (tt, same_limit c.limit (status == 0) (record c { pending = None; view = granted p.operation p.rospec c.view }) (cleared c) refl refl)
 
-says_response : (operation : Operation) (c : Client) (p : Pending) (status : ℕ) → Says c (take_response operation c p status)
-says_response Adding c p status = says_replied c p status
-says_response Deleting c p status = says_replied c p status
-says_response Starting c p status = says_replied c p status
-says_response Stopping c p status = says_replied c p status
-says_response Enabling c p status = says_replied c p status
-says_response Disabling c p status = says_replied c p status
-says_response Configuring c p status = says_replied c p status
-says_response Closing c p status = (tt, refl)
+says_response : (operation : Operation) (c : Client) (p : Pending) (status : ℕ) (ts : List Tree) → Says c (take_response operation c p status ts)
+says_response Adding c p status ts = says_replied c p status
+says_response Deleting c p status ts = says_replied c p status
+says_response Starting c p status ts = says_replied c p status
+says_response Stopping c p status ts = says_replied c p status
+says_response Enabling c p status ts = says_replied c p status
+says_response Disabling c p status ts = says_replied c p status
+says_response Configuring c p status ts = says_replied c p status
+says_response Closing c p status ts = (tt, refl)
+says_response Listing c p status ts = (tt, refl)
 
-says_answered : (pending : Option Pending) (c : Client) (id : ℕ) (operation : Operation) (status : ℕ) → Says c (answered pending c id operation status)
-says_answered None c id operation status = tt
-says_answered (Some p) c id operation status = says_if c (is_response_to p id operation) (take_response operation c p status) unexpected (says_response operation c p status) tt
+says_answered : (pending : Option Pending) (c : Client) (id : ℕ) (operation : Operation) (status : ℕ) (ts : List Tree) → Says c (answered pending c id operation status ts)
+says_answered None c id operation status ts = tt
+says_answered (Some p) c id operation status ts = says_if c (is_response_to p id operation) (take_response operation c p status ts) unexpected (says_response operation c p status ts) tt
 
 says_failed : (pending : Option Pending) (c : Client) (id status : ℕ) → Says c (failed pending c id status)
 says_failed None c id status = tt
@@ -126,13 +134,13 @@ says_attempted c (Some status) = says_if c (status == 0) (takes Connected (recor
 
 says_in : (phase : ClientPhase) (c : Client) (id : ℕ) (h : Heard) → Says c (take_in phase c id h)
 says_in Closed c id h = tt
-says_in Fresh c id (HeardResponse operation status) = tt
+says_in Fresh c id (HeardResponse operation status ts) = tt
 says_in Fresh c id (HeardError status) = tt
 says_in Fresh c id (HeardReport tags) = tt
 says_in Fresh c id HeardKeepalive = tt
 says_in Fresh c id (HeardNotification n) = says_attempted c n.attempt
 says_in Fresh c id HeardOther = tt
-says_in Ready c id (HeardResponse operation status) = says_answered c.pending c id operation status
+says_in Ready c id (HeardResponse operation status ts) = says_answered c.pending c id operation status ts
 says_in Ready c id (HeardError status) = says_failed c.pending c id status
 says_in Ready c id (HeardReport tags) = (tt, refl)
 says_in Ready c id HeardKeepalive = ((tt, tt), refl)

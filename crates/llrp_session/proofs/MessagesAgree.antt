@@ -2,7 +2,7 @@
 use Rattle.std.proofs.Common.{◌≡◌, ℕ, List, [], ◌∷◌, ◌++◌, Bool, refl, sym, ap, ◌∙◌, subst, inl, inr}
 use Rattle.std.specs.Prelude.{map, Result, Ok, Err, Option, None, Some, if◌then◌else◌}
 use Rattle.llrp_tree.specs.Tree.{Tree}
-use Rattle.llrp_session.specs.Words.{Add, Delete, Start, Stop, Enable, Disable, SetKeepalive, GetReport, Close, Request, Heard, Response, Error, Report, KeepaliveSent, Accepted, Started, Ended, Overflowed, ReaderWord, ReaderMessage, ClientWord, Asks, Acknowledges, ClientMessage, heard, request}
+use Rattle.llrp_session.specs.Words.{Add, Delete, Start, Stop, Enable, Disable, GetRospecs, SetKeepalive, GetReport, Close, Request, Heard, Response, Listed, Error, Report, KeepaliveSent, Accepted, Started, Ended, Overflowed, ReaderWord, ReaderMessage, ClientWord, Asks, Acknowledges, ClientMessage, heard, request}
 use Rattle.llrp_session.specs.Refusal.{Refusal}
 use Rattle.llrp_session.specs.ClientMachine.{Client, Pending, Taking, take}
 use Rattle.llrp_session.specs.World.{World, run, opening}
@@ -12,9 +12,9 @@ use Rattle.llrp_session.specs.ReaderMessages.{reader_message}
 use Rattle.llrp_session.specs.ClientMessages.{client_message}
 use Rattle.llrp_session.specs.Reading.{request_of, heard_of}
 use Rattle.llrp_session.specs.MessageWorld.{MessageWorld, in_messages}
-use Rattle.llrp_session.specs.MessageAgreement.{AfterAllMessages, messages_taken_in, ViewCatchesUp, ViewIsTable, ReportsArrive, ReportsAreKept, ReaderHasHistory, OneActive, MessagesAreTaken, NothingIsUnexpected, awaited_of, requests_in, hears_response, responses_in, IsOnTheWay, PendingIsOnTheWay, NothingIsPending}
+use Rattle.llrp_session.specs.MessageAgreement.{AfterAllMessages, messages_taken_in, ViewCatchesUp, ViewIsTable, ReportsArrive, ReportsAreKept, ReaderHasHistory, OneActive, MessagesAreTaken, NothingIsUnexpected, awaited_of, requests_in, hears_response, responses_in, IsOnTheWay, PendingIsOnTheWay, NothingIsPending, TablesArrive, NoneDiffers}
 use Rattle.llrp_session.proofs.MessageReading.{heard_back, request_back}
-use Rattle.llrp_session.proofs.MessageWorlds.{AllSay, same_tags, runs_alike, run_says}
+use Rattle.llrp_session.proofs.MessageWorlds.{AllSay, same_tags, same_tables, runs_alike, run_says}
 use Rattle.llrp_session.proofs.Worlds as proved
 
 -- what follows of a world over words from a clause on it holds after every list of events
@@ -56,6 +56,7 @@ word_awaited (Asks (Start n)) id = refl
 word_awaited (Asks (Stop n)) id = refl
 word_awaited (Asks (Enable n)) id = refl
 word_awaited (Asks (Disable n)) id = refl
+word_awaited (Asks GetRospecs) id = refl
 word_awaited (Asks (SetKeepalive ms)) id = refl
 word_awaited (Asks GetReport) id = refl
 word_awaited (Asks Close) id = refl
@@ -70,6 +71,7 @@ same_requests (m ∷ ms) h =
 
 word_response : (word : ReaderWord) → hears_response (heard word) ≡ is_response word
 word_response (Response operation status) = refl
+word_response (Listed table) = refl
 word_response (Error status) = refl
 word_response (Report tags) = refl
 word_response KeepaliveSent = refl
@@ -132,3 +134,9 @@ pending_is_on_the_way = lifted PendingIsOnTheWay words.PendingIsOnTheWay (λ w s
 
 pub nothing_is_pending : AfterAllMessages NothingIsPending
 nothing_is_pending = lifted NothingIsPending words.NothingIsPending (λ w s h u d. h (none_up w.up u) (none_down w.down d)) proved.nothing_is_pending
+
+pub tables_arrive : AfterAllMessages TablesArrive
+tables_arrive = lifted TablesArrive words.TablesArrive (λ w s h. ap (λ (ts : List (List Tree)). w.tables ++ ts) (same_tables w.down) ∙ h) proved.tables_arrive
+
+pub none_differs : AfterAllMessages NoneDiffers
+none_differs = lifted NoneDiffers words.NoneDiffers (λ w s h. h) proved.none_differs

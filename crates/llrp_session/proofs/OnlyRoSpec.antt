@@ -55,6 +55,7 @@ adds kinds.StartRoSpec fields row rospec e = absurd cc
 adds kinds.StopRoSpec fields row rospec e = absurd cc
 adds kinds.EnableRoSpec fields row rospec e = absurd cc
 adds kinds.DisableRoSpec fields row rospec e = absurd cc
+adds kinds.GetRoSpecs fields row rospec e = absurd cc
 adds kinds.SetReaderConfig fields row rospec e = absurd cc
 adds kinds.GetReport fields row rospec e = absurd cc
 adds kinds.CloseConnection fields row rospec e = absurd cc

@@ -7,7 +7,7 @@ use Rattle.llrp_tree.specs.declared.fault.Reason.TheVariants.{Version, MessageTy
 use Rattle.llrp_session.specs.RoSpec.{rospec_of, report_spec_of}
 use Rattle.llrp_session.specs.Table.{Disabled, Inactive, Active, change, without, enter, state_of, octets_of, active, first_immediate}
 use Rattle.llrp_session.specs.TagReport.{tag_report}
-use Rattle.llrp_session.specs.Words.{Adding, Starting, Stopping, Enabling, Disabling, Configuring, Closing, AddRoSpec, StartRoSpec, StopRoSpec, EnableRoSpec, DisableRoSpec, SetReaderConfig, GetReports, CloseConnection, Unsupported, Response, Error, Report, KeepaliveSent, Accepted, Started, Ended, Overflowed, ReaderWord, ReaderMessage}
+use Rattle.llrp_session.specs.Words.{Adding, Starting, Stopping, Enabling, Disabling, Listing, Configuring, Closing, AddRoSpec, StartRoSpec, StopRoSpec, EnableRoSpec, DisableRoSpec, GetRoSpecs, SetReaderConfig, GetReports, CloseConnection, Unsupported, Response, Error, Report, KeepaliveSent, Accepted, Started, Ended, Overflowed, ReaderWord, ReaderMessage}
 use Rattle.llrp_session.specs.Refusal.{Closed, NotConnected, AlreadyUp}
 use Rattle.llrp_session.specs.ReaderMachine.{Reader, ReaderEvent, Connect, Take, TakeBad, Seen, Tick, new_reader, next, serve, end, configured, see, tick}
 use Rattle.llrp_session.specs.Sightings.{history, no_history}
@@ -146,7 +146,7 @@ pub keepalive_timer : (sent_by (connected (keeping ++ (999999, Tick) ∷ [])) �
 unfolding next serve end configured see tick change without enter state_of octets_of active first_immediate rospec_of report_spec_of tag_report number_of rule_of param_rule fields_of tail_of is_tv body_octets
 keepalive_timer = (refl, refl)
 
--- sixty-five sightings, with no report unasked: the last one is dropped, and told of
+-- sixty-five sightings, with no report unasked: the last one is dropped, and an event says so
 pub sixty_five_sightings : sent_by (connected (silent ++ replicate 65 (6, Seen first_sighting) ++ (7, Take 2 5 GetReports) ∷ (8, Take 2 6 GetReports) ∷ []))
     ≡ begun_silent ++ message 2 3 (Overflowed 6) ∷ message 2 4 (Report (replicate 64 first_report)) ∷ message 2 5 (Report []) ∷ []
 unfolding next serve end configured see tick change without enter state_of octets_of active first_immediate rospec_of report_spec_of tag_report number_of rule_of param_rule fields_of tail_of is_tv body_octets

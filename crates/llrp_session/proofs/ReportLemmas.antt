@@ -9,7 +9,8 @@ use Rattle.llrp_tree.specs.Lawful.{levels, octets, tree_octets, body_octets, is_
 use Rattle.llrp_session.specs.RoSpec.{RoSpec, ContentSelector}
 use Rattle.llrp_session.specs.TagReport.{Sighting, value_parameter, if_selected, report_parts, signed_octet, tag_report}
 use Rattle.llrp_session.specs.LawfulWords.{IsReport}
-use Rattle.llrp_session.specs.LawfulStates.{IsToldOf, IsLawfulSighting}
+use Rattle.llrp_session.specs.LawfulWords.{IsToldOf}
+use Rattle.llrp_session.specs.LawfulStates.{IsLawfulSighting}
 
 -- ---- parts of a TagReportData
 
@@ -155,7 +156,7 @@ total-report_parts m now s c g =
     let j = joined m _ _ _ _ i (total-selected m c.tag_seen_count TagSeenCount 1) in
     omega (arith, j)
 
--- the octets behind the head of the report
+-- the octets after the head of the report
 octets_fit : (now : ℕ) (s : RoSpec) (c : ContentSelector) (g : Sighting) → octets (forest (report_parts now s c g)) ≤ 53
 unfolding rule_of param_rule number_of fields_of tail_of body_octets is_tv
 octets_fit now s c g = let le : total tree_octets (report_parts now s c g) ≤ 53 = total-report_parts tree_octets now s c g in omega (arith, octets-add_all none (report_parts now s c g), le)

@@ -3,12 +3,12 @@ use Rattle.std.proofs.Common.{◌≡◌, ℕ, ◌<◌, ◌≤◌, ◌^◌, List,
 use Rattle.std.specs.Prelude.{map, Result, Ok, Err, Option, None, Some, IfOk}
 use Rattle.llrp_tree.specs.declared.TheConstants.{MAX_LIMIT}
 use Rattle.llrp_tree.specs.Tree.{Tree}
-use Rattle.llrp_session.specs.Words.{Command, Add, Delete, Start, Stop, Enable, Disable, SetKeepalive, GetReport, Close, ReaderMessage, ClientMessage, ClientWord, Asks, Acknowledges, heard, request}
+use Rattle.llrp_session.specs.Words.{Command, Add, Delete, Start, Stop, Enable, Disable, GetRospecs, SetKeepalive, GetReport, Close, ReaderMessage, ClientMessage, ClientWord, Asks, Acknowledges, heard, request}
 use Rattle.llrp_session.specs.Refusal.{Refusal}
 use Rattle.llrp_session.specs.ReaderMachine.{Turn, ReaderEvent, Connect, Take, Seen, Tick, next}
 use Rattle.llrp_session.specs.Sightings.{kept_by}
 use Rattle.llrp_session.specs.ClientMachine.{Client, Sending, Taking, command, take, sent_unless, refused_in}
-use Rattle.llrp_session.specs.World.{World, WorldEvent, Connects, Commands, DeliversUp, DeliversDown, Sees, Ticks, stepped, reader_does, commanded, took, delivered_up, delivered_down, happens, run, opening}
+use Rattle.llrp_session.specs.World.{World, WorldEvent, Connects, Commands, DeliversUp, DeliversDown, Sees, Ticks, listed_by, stepped, reader_does, commanded, took, delivered_up, delivered_down, happens, run, opening}
 use Rattle.llrp_session.specs.ReaderMessages.{reader_message}
 use Rattle.llrp_session.specs.ClientMessages.{client_message}
 use Rattle.llrp_session.specs.LawfulWords.{IsLawfulClientWord, IsLawfulClientMessage, AddsRoSpec}
@@ -22,13 +22,14 @@ use Rattle.llrp_session.proofs.MessageWorlds.{Says, says_taken, runs_alike}
 -- a world whose reader is lawful, whose client has the limit, and in which all on the way has a message
 record IsLawfulWorld (limit : ℕ) (w : World) : Type 0 where
   pub reader : IsLawfulReader w.reader
+  pub readers : w.reader.limit ≡ limit
   pub client : w.client.limit ≡ limit
   pub up : AreLawfulClientMessages limit w.up
-  pub down : AreLawfulReaderMessages w.down
+  pub down : AreLawfulReaderMessages limit w.down
 
-reader_messages-append : (xs ys : List ReaderMessage) → AreLawfulReaderMessages xs → AreLawfulReaderMessages ys → AreLawfulReaderMessages (xs ++ ys)
-reader_messages-append [] ys h g = g
-reader_messages-append (x ∷ xs) ys h g = (h.0, reader_messages-append xs ys h.1 g)
+reader_messages-append : (limit : ℕ) (xs ys : List ReaderMessage) → AreLawfulReaderMessages limit xs → AreLawfulReaderMessages limit ys → AreLawfulReaderMessages limit (xs ++ ys)
+reader_messages-append limit [] ys h g = g
+reader_messages-append limit (x ∷ xs) ys h g = (h.0, reader_messages-append limit xs ys h.1 g)
 
 client_messages-append : (limit : ℕ) (xs ys : List ClientMessage) → AreLawfulClientMessages limit xs → AreLawfulClientMessages limit ys → AreLawfulClientMessages limit (xs ++ ys)
 client_messages-append limit [] ys h g = g
@@ -36,12 +37,14 @@ client_messages-append limit (x ∷ xs) ys h g = (h.0, client_messages-append li
 
 -- ---- a step of the reader
 
-stepped_lawful : (limit : ℕ) (r : Result Turn Refusal) (kept : List Tree) (w : World) → IfOk r (λ t. AreLawfulReaderMessages t.sent × IsLawfulReader t.reader) → IsLawfulWorld limit w → IsLawfulWorld limit (stepped r kept w)
-stepped_lawful limit (Err refusal) kept w t h = h
-stepped_lawful limit (Ok turn) kept w t h = record { reader = t.1; client = h.client; up = h.up; down = reader_messages-append w.down turn.sent h.down t.0 }
+stepped_lawful : (limit : ℕ) (r : Result Turn Refusal) (kept : List Tree) (listed : List (List Tree)) (w : World) → IfOk r (λ t. AreLawfulReaderMessages limit t.sent × (IsLawfulReader t.reader × (t.reader.limit ≡ limit))) → IsLawfulWorld limit w
+    → IsLawfulWorld limit (stepped r kept listed w)
+stepped_lawful limit (Err refusal) kept listed w t h = h
+stepped_lawful limit (Ok turn) kept listed w t h = record { reader = t.1.0; readers = t.1.1; client = h.client; up = h.up; down = reader_messages-append limit w.down turn.sent h.down t.0 }
 
 does_lawful : (limit now : ℕ) (e : ReaderEvent) (w : World) → now < 2 ^ 64 → IsLawfulReaderEvent e → IsLawfulWorld limit w → IsLawfulWorld limit (reader_does now e w)
-does_lawful limit now e w moment l h = stepped_lawful limit (next now e w.reader) (kept_by now e w.reader) w (reader_says_lawful now e w.reader moment l h.reader) h
+does_lawful limit now e w moment l h = stepped_lawful limit (next now e w.reader) (kept_by now e w.reader) (listed_by e w.reader) w
+    (subst (λ (n : ℕ). IfOk (next now e w.reader) (λ t. AreLawfulReaderMessages n t.sent × (IsLawfulReader t.reader × (t.reader.limit ≡ n)))) h.readers (reader_says_lawful now e w.reader moment l h.reader)) h
 
 -- ---- a step of the client
 
@@ -55,12 +58,12 @@ keeps c k = keeps_unless (refused_in c.phase c k) c k
 
 commanded_lawful : (limit : ℕ) (r : Result Sending Refusal) (w : World) → IfOk r (λ s. IsLawfulClientMessage limit s.message) → IfOk r (λ s. s.client.limit ≡ limit) → IsLawfulWorld limit w → IsLawfulWorld limit (commanded r w)
 commanded_lawful limit (Err refusal) w l k h = h
-commanded_lawful limit (Ok s) w l k h = record { reader = h.reader; client = k; up = client_messages-append limit w.up (s.message ∷ []) h.up (l, tt); down = h.down }
+commanded_lawful limit (Ok s) w l k h = record { reader = h.reader; readers = h.readers; client = k; up = client_messages-append limit w.up (s.message ∷ []) h.up (l, tt); down = h.down }
 
 took_lawful : (limit : ℕ) (c : Client) (r : Result Taking Refusal) (w : World) → c.limit ≡ limit → IfOk r (λ k. AreLawfulClientMessages c.limit k.sent) → Says c r → IsLawfulWorld limit w → IsLawfulWorld limit (took r w)
 took_lawful limit c (Err refusal) w e l s h = h
 took_lawful limit c (Ok k) w e l s h =
-    record { reader = h.reader; client = s.1 ∙ e; up = client_messages-append limit w.up k.sent h.up (subst (λ (n : ℕ). AreLawfulClientMessages n k.sent) e l); down = h.down }
+    record { reader = h.reader; readers = h.readers; client = s.1 ∙ e; up = client_messages-append limit w.up k.sent h.up (subst (λ (n : ℕ). AreLawfulClientMessages n k.sent) e l); down = h.down }
 
 -- ---- a delivery
 
@@ -71,6 +74,7 @@ asked limit (Asks (Start id)) h = h
 asked limit (Asks (Stop id)) h = h
 asked limit (Asks (Enable id)) h = h
 asked limit (Asks (Disable id)) h = h
+asked limit (Asks GetRospecs) h = tt
 asked limit (Asks (SetKeepalive ms)) h = tt
 asked limit (Asks GetReport) h = tt
 asked limit (Asks Close) h = tt
@@ -80,13 +84,13 @@ up_lawful : (limit now : ℕ) (ups : List ClientMessage) (w : World) → now < 2
 up_lawful limit now [] w moment l h = h
 up_lawful limit now (m ∷ ms) w moment l h =
     does_lawful limit now (Take 1 m.id (request m.word)) (record w { up = ms }) moment (inl refl, l.0.id, asked limit m.word l.0.word)
-    (record { reader = h.reader; client = h.client; up = l.1; down = h.down })
+    (record { reader = h.reader; readers = h.readers; client = h.client; up = l.1; down = h.down })
 
-down_lawful : (limit : ℕ) (downs : List ReaderMessage) (w : World) → AreLawfulReaderMessages downs → IsLawfulWorld limit w → IsLawfulWorld limit (delivered_down downs w)
+down_lawful : (limit : ℕ) (downs : List ReaderMessage) (w : World) → AreLawfulReaderMessages limit downs → IsLawfulWorld limit w → IsLawfulWorld limit (delivered_down downs w)
 down_lawful limit [] w l h = h
 down_lawful limit (m ∷ ms) w l h =
     took_lawful limit w.client (take w.client m.id (heard m.word)) (record w { down = ms }) h.client (answer_is_lawful w.client m.id (heard m.word) l.0.id) (says_taken w.client m.id (heard m.word))
-    (record { reader = h.reader; client = h.client; up = h.up; down = l.1 })
+    (record { reader = h.reader; readers = h.readers; client = h.client; up = h.up; down = l.1 })
 
 -- ---- events
 
@@ -110,9 +114,9 @@ run_lawful limit (e ∷ es) w g h = run_lawful limit es (happens w e) g.1 (happe
 
 -- ---- messages
 
-down_sendable : (limit : ℕ) (ms : List ReaderMessage) → 4096 ≤ limit → AreLawfulReaderMessages ms → AreSendable limit (map reader_message ms)
-down_sendable limit [] l h = tt
-down_sendable limit (m ∷ ms) l h = (reader_sends limit m l h.0, down_sendable limit ms l h.1)
+down_sendable : (limit : ℕ) (ms : List ReaderMessage) → 4096 ≤ limit → limit ≤ MAX_LIMIT → AreLawfulReaderMessages limit ms → AreSendable limit (map reader_message ms)
+down_sendable limit [] l g h = tt
+down_sendable limit (m ∷ ms) l g h = (reader_sends limit m l g h.0, down_sendable limit ms l g h.1)
 
 up_sendable : (limit : ℕ) (ms : List ClientMessage) → 4096 ≤ limit → limit ≤ MAX_LIMIT → AreLawfulClientMessages limit ms → AreSendable limit (map client_message ms)
 up_sendable limit [] l g h = tt
@@ -125,6 +129,7 @@ given_adds (Start id) h = tt
 given_adds (Stop id) h = tt
 given_adds (Enable id) h = tt
 given_adds (Disable id) h = tt
+given_adds GetRospecs h = tt
 given_adds (SetKeepalive ms) h = tt
 given_adds GetReport h = tt
 given_adds Close h = tt
@@ -142,17 +147,17 @@ pub given_events : (events : List WorldEvent) → AreGiven events → AreOfRoSpe
 given_events [] h = tt
 given_events (e ∷ es) h = (given_event e h.0, given_events es h.1)
 
-opening_lawful : (limit reader_first client_first : ℕ) → reader_first < 2 ^ 32 → IsLawfulWorld limit (opening limit reader_first client_first)
-opening_lawful limit reader_first client_first h = record { reader = reader_as_new limit reader_first h; client = refl; up = tt; down = tt }
+opening_lawful : (limit reader_first client_first : ℕ) → 4096 ≤ limit → reader_first < 2 ^ 32 → IsLawfulWorld limit (opening limit reader_first client_first)
+opening_lawful limit reader_first client_first l h = record { reader = reader_as_new limit reader_first l h; readers = refl; client = refl; up = tt; down = tt }
 
 pub sent_up : (limit reader_first client_first : ℕ) (events : List WorldEvent) → 4096 ≤ limit → limit ≤ MAX_LIMIT → reader_first < 2 ^ 32 → AreGiven events
     → AreSendable limit (run_messages events (message_opening limit reader_first client_first)).up
 sent_up limit reader_first client_first events l m f g =
-    let w = run_lawful limit events (opening limit reader_first client_first) g (opening_lawful limit reader_first client_first f) in
+    let w = run_lawful limit events (opening limit reader_first client_first) g (opening_lawful limit reader_first client_first l f) in
     rw (runs_alike limit reader_first client_first events (given_events events g)) (up_sendable limit _ l m w.up)
 
 pub sent_down : (limit reader_first client_first : ℕ) (events : List WorldEvent) → 4096 ≤ limit → limit ≤ MAX_LIMIT → reader_first < 2 ^ 32 → AreGiven events
     → AreSendable limit (run_messages events (message_opening limit reader_first client_first)).down
 sent_down limit reader_first client_first events l m f g =
-    let w = run_lawful limit events (opening limit reader_first client_first) g (opening_lawful limit reader_first client_first f) in
-    rw (runs_alike limit reader_first client_first events (given_events events g)) (down_sendable limit _ l w.down)
+    let w = run_lawful limit events (opening limit reader_first client_first) g (opening_lawful limit reader_first client_first l f) in
+    rw (runs_alike limit reader_first client_first events (given_events events g)) (down_sendable limit _ l m w.down)

@@ -1,15 +1,15 @@
--- After every event the client that took all that is on the way stands where the reader stands.
+-- After every event the client that took all that is on the way agrees with the reader.
 use Rattle.std.proofs.Common.{◌≡◌, ℕ, refl, sym, ◌∙◌, ap, subst, true, false, cond, List, [], ◌∷◌, ◌++◌, inl, inr, append_assoc, append-nil}
 use Rattle.std.specs.Prelude.{◌+◌, Option, None, Some, is_some, Ok, Err}
 use Rattle.llrp_tree.specs.Tree.{Tree}
 use Rattle.llrp_session.specs.Table.{states, active}
 use Rattle.llrp_session.specs.TagReport.{Sighting}
-use Rattle.llrp_session.specs.Words.{Accepted, ReaderMessage, heard, Command, Add, Delete, Start, Stop, Enable, Disable, SetKeepalive, GetReport, Close, request, ClientWord, Asks, Acknowledges, ClientMessage, Closing}
+use Rattle.llrp_session.specs.Words.{Accepted, ReaderMessage, heard, Command, Add, Delete, Start, Stop, Enable, Disable, GetRospecs, SetKeepalive, GetReport, Close, request, ClientWord, Asks, Acknowledges, ClientMessage, Closing}
 use Rattle.llrp_session.specs.Refusal.{Refusal, Busy, OverLimit, IdsSpent}
 use Rattle.llrp_session.specs.ReaderMachine.{Reader, Turn, ReaderPhase, Waiting, Up, Down, ReaderEvent, Connect, Take, Seen, Tick, next, next_in, connect, serve, counting, begun}
 use Rattle.llrp_session.specs.Sightings.{tags_of, tags_in, kept_by}
 use Rattle.llrp_session.specs.ClientMachine.{Client, ClientPhase, Fresh, Ready, Closed, Pending, sending, command, sent_unless, refused_in, awaited, take, take_in, is_over_limit, are_spent, closed, cleared}
-use Rattle.llrp_session.specs.World.{World, WorldEvent, Connects, Commands, DeliversUp, DeliversDown, Sees, Ticks, happens, run, opening, stepped, commanded, took, delivered_up, delivered_down, tags_handed_out}
+use Rattle.llrp_session.specs.World.{World, WorldEvent, Connects, Commands, DeliversUp, DeliversDown, Sees, Ticks, listed_by, happens, run, opening, stepped, commanded, took, delivered_up, delivered_down, tags_handed_out}
 use Rattle.llrp_session.specs.Agreement.{taken_in, and_then, requests, as_list, awaited_by, IsOnTheWay}
 use Rattle.llrp_session.proofs.Following.{Follows, taken_in-append, follows-serve, follows-see, follows-tick, follows-send_held, ClosesNot, awaited_response, request_with}
 use Rattle.llrp_session.proofs.TakingIn.{with_pending, settled, awaited_once, hands_out}
@@ -25,7 +25,7 @@ MayWait Waiting p = p ≡ None
 MayWait Up p = Unit {0}
 MayWait Down p = p ≡ None
 
--- the client that took what is on the way stands where the reader stands
+-- the client that took what is on the way agrees with the reader
 pub record StandsTogether (w : World) : Type 0 where
   pub c : Client
   pub caught_up : taken_in w.down w.client ≡ Some c
@@ -35,7 +35,7 @@ pub record StandsTogether (w : World) : Type 0 where
   pub may_wait : MayWait w.reader.phase c.pending
   pub reports : w.handed_out ++ tags_of w.down ≡ w.reported
 
--- the client c0, once it took what the turn sent, stands where the reader stands
+-- the client c0, once it took what the turn sent, agrees with the reader
 record CatchesUp (c0 : Client) (p : Option Pending) (t : Turn) : Type 0 where
   pub c : Client
   pub caught_up : taken_in t.sent c0 ≡ Some c
@@ -58,9 +58,9 @@ requests-append (m ∷ ms) ys = ap (λ ts. awaited_by m.word m.id ++ ts) (reques
 
 -- ---- the reader takes a step
 
-together-turn : (w : World) (kept : List Tree) (c : Client) (p : Option Pending) (t : Turn) → taken_in w.down w.client ≡ Some c → CatchesUp c p t → requests w.up ≡ as_list p
-    → MayWait t.reader.phase p → w.handed_out ++ tags_of w.down ≡ w.reported → StandsTogether (stepped (Ok t) kept w)
-together-turn w kept c p t caught_up k asks may_wait reports =
+together-turn : (w : World) (kept : List Tree) (listed : List (List Tree)) (c : Client) (p : Option Pending) (t : Turn) → taken_in w.down w.client ≡ Some c → CatchesUp c p t → requests w.up ≡ as_list p
+    → MayWait t.reader.phase p → w.handed_out ++ tags_of w.down ≡ w.reported → StandsTogether (stepped (Ok t) kept listed w)
+together-turn w kept listed c p t caught_up k asks may_wait reports =
     record {
       c = k.c;
       caught_up = taken_in-append w.down t.sent w.client c caught_up ∙ k.caught_up;
@@ -74,17 +74,17 @@ together-turn w kept c p t caught_up k asks may_wait reports =
 follows-begun : (w : World) (a : StandsTogether w) (r : Reader) → r.phase ≡ Up → r.table ≡ w.reader.table → w.reader.phase ≡ Up → Follows a.c a.c.pending (begun r)
 follows-begun w a r up same was = record { c = a.c; caught_up = refl; view = a.view ∙ ap states (sym same); pending = refl; phase = a.phase ∙ ap client_phase was; up = up }
 
-together-follows : (w : World) (kept : List Tree) (a : StandsTogether w) (t : Turn) → Follows a.c a.c.pending t → StandsTogether (stepped (Ok t) kept w)
-together-follows w kept a t f = together-turn w kept a.c a.c.pending t a.caught_up (catches_up a.c a.c.pending t f) a.asked (subst (λ ph. MayWait ph a.c.pending) (sym f.up) tt) a.reports
+together-follows : (w : World) (kept : List Tree) (listed : List (List Tree)) (a : StandsTogether w) (t : Turn) → Follows a.c a.c.pending t → StandsTogether (stepped (Ok t) kept listed w)
+together-follows w kept listed a t f = together-turn w kept listed a.c a.c.pending t a.caught_up (catches_up a.c a.c.pending t f) a.asked (subst (λ ph. MayWait ph a.c.pending) (sym f.up) tt) a.reports
 
-together-connects : (w : World) (kept : List Tree) (now : ℕ) → StandsTogether w → StandsTogether (stepped (next now Connect w.reader) kept w)
+together-connects : (w : World) (kept : List Tree) (listed : List (List Tree)) (now : ℕ) → StandsTogether w → StandsTogether (stepped (next now Connect w.reader) kept listed w)
 unfolding take next
-together-connects w kept now a =
-    elim (w.reader.phase) as (λ ph. w.reader.phase ≡ ph → StandsTogether (stepped (next_in ph now Connect w.reader) kept w)) [
+together-connects w kept listed now a =
+    elim (w.reader.phase) as (λ ph. w.reader.phase ≡ ph → StandsTogether (stepped (next_in ph now Connect w.reader) kept listed w)) [
       | Waiting ↦ λ e.
           let fresh : a.c.phase ≡ Fresh = a.phase ∙ ap client_phase e in
           let none : a.c.pending ≡ None = subst (λ ph. MayWait ph a.c.pending) e a.may_wait in
-          together-turn w kept a.c None (connect now w.reader) a.caught_up
+          together-turn w kept listed a.c None (connect now w.reader) a.caught_up
           (record {
             c = record a.c { phase = Ready };
             caught_up = ap (λ ph. and_then (take_in ph a.c w.reader.next_id (heard (Accepted now))) (taken_in [])) fresh;
@@ -97,21 +97,21 @@ together-connects w kept now a =
       | Down ↦ λ e. a
     ] refl
 
-together-sees : (w : World) (kept : List Tree) (now : ℕ) (g : Sighting) → StandsTogether w → StandsTogether (stepped (next now (Seen g) w.reader) kept w)
+together-sees : (w : World) (kept : List Tree) (listed : List (List Tree)) (now : ℕ) (g : Sighting) → StandsTogether w → StandsTogether (stepped (next now (Seen g) w.reader) kept listed w)
 unfolding next
-together-sees w kept now g a =
-    elim (w.reader.phase) as (λ ph. w.reader.phase ≡ ph → StandsTogether (stepped (next_in ph now (Seen g) w.reader) kept w)) [
+together-sees w kept listed now g a =
+    elim (w.reader.phase) as (λ ph. w.reader.phase ≡ ph → StandsTogether (stepped (next_in ph now (Seen g) w.reader) kept listed w)) [
       | Waiting ↦ λ e. a
-      | Up ↦ λ e. together-follows w kept a _ (follows-see now g (counting g (active w.reader.table)) a.c a.c.pending (begun w.reader) (follows-begun w a w.reader e refl e))
+      | Up ↦ λ e. together-follows w kept listed a _ (follows-see now g (counting g (active w.reader.table)) a.c a.c.pending (begun w.reader) (follows-begun w a w.reader e refl e))
       | Down ↦ λ e. a
     ] refl
 
-together-ticks : (w : World) (kept : List Tree) (now : ℕ) → StandsTogether w → StandsTogether (stepped (next now Tick w.reader) kept w)
+together-ticks : (w : World) (kept : List Tree) (listed : List (List Tree)) (now : ℕ) → StandsTogether w → StandsTogether (stepped (next now Tick w.reader) kept listed w)
 unfolding next
-together-ticks w kept now a =
-    elim (w.reader.phase) as (λ ph. w.reader.phase ≡ ph → StandsTogether (stepped (next_in ph now Tick w.reader) kept w)) [
+together-ticks w kept listed now a =
+    elim (w.reader.phase) as (λ ph. w.reader.phase ≡ ph → StandsTogether (stepped (next_in ph now Tick w.reader) kept listed w)) [
       | Waiting ↦ λ e. a
-      | Up ↦ λ e. together-follows w kept a _ (follows-tick now a.c a.c.pending (begun w.reader) (follows-begun w a w.reader e refl e))
+      | Up ↦ λ e. together-follows w kept listed a _ (follows-tick now a.c a.c.pending (begun w.reader) (follows-begun w a w.reader e refl e))
       | Down ↦ λ e. a
     ] refl
 
@@ -207,30 +207,30 @@ abbrev served : Reader → ℕ → ℕ → ClientWord → Turn
 served r now id word = serve now 1 id (request word) (begun (record r { version = 1 }))
 
 -- a request that waits for a response, and does not close
-together-asked : (w : World) (kept : List Tree) (now id : ℕ) (k : Command) (p : Pending) (ms : List ClientMessage) → awaited id k ≡ Some p → ClosesNot k → w.reader.phase ≡ Up
-    → w.up ≡ record { id = id; word = Asks k } ∷ ms → (a : StandsTogether w) → StandsTogether (stepped (Ok (served w.reader now id (Asks k))) kept (record w { up = ms }))
+together-asked : (w : World) (kept : List Tree) (listed : List (List Tree)) (now id : ℕ) (k : Command) (p : Pending) (ms : List ClientMessage) → awaited id k ≡ Some p → ClosesNot k → w.reader.phase ≡ Up
+    → w.up ≡ record { id = id; word = Asks k } ∷ ms → (a : StandsTogether w) → StandsTogether (stepped (Ok (served w.reader now id (Asks k))) kept listed (record w { up = ms }))
 unfolding requests
-together-asked w kept now id k p ms some open_still e is a =
+together-asked w kept listed now id k p ms some open_still e is a =
     let r : Reader = record w.reader { version = 1 } in
     let one = the_one p (requests ms) a.c.pending (sym (ap (λ o. as_list o ++ requests ms) some) ∙ sym (ap requests is) ∙ a.asked) in
     let g : Follows a.c (awaited id k) (begun r) = subst (λ o. Follows a.c o (begun r)) (one.0 ∙ sym some) (follows-begun w a r e refl e) in
     let f = follows-serve now 1 id k a.c (begun r) open_still g in
-    together-turn (record w { up = ms }) kept a.c None _ a.caught_up (catches_up a.c None _ f) one.1 (subst (λ ph. MayWait ph None) (sym f.up) tt) a.reports
+    together-turn (record w { up = ms }) kept listed a.c None _ a.caught_up (catches_up a.c None _ f) one.1 (subst (λ ph. MayWait ph None) (sym f.up) tt) a.reports
 
 -- a reader that is up serves a message
-together-served : (w : World) (kept : List Tree) (now id : ℕ) (word : ClientWord) (ms : List ClientMessage) → w.reader.phase ≡ Up → w.up ≡ record { id = id; word = word } ∷ ms
-    → (a : StandsTogether w) → StandsTogether (stepped (Ok (served w.reader now id word)) kept (record w { up = ms }))
+together-served : (w : World) (kept : List Tree) (listed : List (List Tree)) (now id : ℕ) (word : ClientWord) (ms : List ClientMessage) → w.reader.phase ≡ Up → w.up ≡ record { id = id; word = word } ∷ ms
+    → (a : StandsTogether w) → StandsTogether (stepped (Ok (served w.reader now id word)) kept listed (record w { up = ms }))
 unfolding requests serve take
-together-served w kept now id Acknowledges ms e is a =
-    together-turn (record w { up = ms }) kept a.c a.c.pending _ a.caught_up
+together-served w kept listed now id Acknowledges ms e is a =
+    together-turn (record w { up = ms }) kept listed a.c a.c.pending _ a.caught_up
     (catches_up a.c a.c.pending _ (follows-begun w a (record w.reader { version = 1 }) e refl e)) (sym (ap requests is) ∙ a.asked) (subst (λ ph. MayWait ph a.c.pending) (sym e) tt) a.reports
-together-served w kept now id (Asks GetReport) ms e is a =
+together-served w kept listed now id (Asks GetReport) ms e is a =
     let r : Reader = record w.reader { version = 1 } in
     let f = follows-send_held a.c a.c.pending (begun r) (follows-begun w a r e refl e) in
-    together-turn (record w { up = ms }) kept a.c a.c.pending _ a.caught_up (catches_up a.c a.c.pending _ f) (sym (ap requests is) ∙ a.asked) (subst (λ ph. MayWait ph a.c.pending) (sym f.up) tt) a.reports
-together-served w kept now id (Asks Close) ms e is a =
+    together-turn (record w { up = ms }) kept listed a.c a.c.pending _ a.caught_up (catches_up a.c a.c.pending _ f) (sym (ap requests is) ∙ a.asked) (subst (λ ph. MayWait ph a.c.pending) (sym f.up) tt) a.reports
+together-served w kept listed now id (Asks Close) ms e is a =
     let one = the_one (request_with id Closing 0) (requests ms) a.c.pending (sym (ap requests is) ∙ a.asked) in
-    together-turn (record w { up = ms }) kept a.c None _ a.caught_up
+    together-turn (record w { up = ms }) kept listed a.c None _ a.caught_up
     (record {
       c = closed (cleared a.c);
       caught_up = ap (λ r. and_then r (taken_in [])) (awaited_response a.c id Closing 0 0 (a.phase ∙ ap client_phase e) one.0);
@@ -239,34 +239,35 @@ together-served w kept now id (Asks Close) ms e is a =
       phase = refl;
     })
     one.1 refl a.reports
-together-served w kept now id (Asks (Add spec)) ms e is a = together-asked w kept now id (Add spec) _ ms refl tt e is a
-together-served w kept now id (Asks (Delete n)) ms e is a = together-asked w kept now id (Delete n) _ ms refl tt e is a
-together-served w kept now id (Asks (Start n)) ms e is a = together-asked w kept now id (Start n) _ ms refl tt e is a
-together-served w kept now id (Asks (Stop n)) ms e is a = together-asked w kept now id (Stop n) _ ms refl tt e is a
-together-served w kept now id (Asks (Enable n)) ms e is a = together-asked w kept now id (Enable n) _ ms refl tt e is a
-together-served w kept now id (Asks (Disable n)) ms e is a = together-asked w kept now id (Disable n) _ ms refl tt e is a
-together-served w kept now id (Asks (SetKeepalive n)) ms e is a = together-asked w kept now id (SetKeepalive n) _ ms refl tt e is a
+together-served w kept listed now id (Asks (Add spec)) ms e is a = together-asked w kept listed now id (Add spec) _ ms refl tt e is a
+together-served w kept listed now id (Asks (Delete n)) ms e is a = together-asked w kept listed now id (Delete n) _ ms refl tt e is a
+together-served w kept listed now id (Asks (Start n)) ms e is a = together-asked w kept listed now id (Start n) _ ms refl tt e is a
+together-served w kept listed now id (Asks (Stop n)) ms e is a = together-asked w kept listed now id (Stop n) _ ms refl tt e is a
+together-served w kept listed now id (Asks (Enable n)) ms e is a = together-asked w kept listed now id (Enable n) _ ms refl tt e is a
+together-served w kept listed now id (Asks (Disable n)) ms e is a = together-asked w kept listed now id (Disable n) _ ms refl tt e is a
+together-served w kept listed now id (Asks GetRospecs) ms e is a = together-asked w kept listed now id GetRospecs _ ms refl tt e is a
+together-served w kept listed now id (Asks (SetKeepalive n)) ms e is a = together-asked w kept listed now id (SetKeepalive n) _ ms refl tt e is a
 
 together-up : (w : World) (now : ℕ) (ms : List ClientMessage) → w.up ≡ ms → StandsTogether w → StandsTogether (delivered_up now ms w)
 unfolding next
 together-up w now [] is a = a
 together-up w now (m ∷ ms) is a =
     let e1 : ReaderEvent = Take 1 m.id (request m.word) in
-    elim (w.reader.phase) as (λ ph. w.reader.phase ≡ ph → StandsTogether (stepped (next_in ph now e1 w.reader) (kept_by now e1 w.reader) (record w { up = ms }))) [
+    elim (w.reader.phase) as (λ ph. w.reader.phase ≡ ph → StandsTogether (stepped (next_in ph now e1 w.reader) (kept_by now e1 w.reader) (listed_by e1 w.reader) (record w { up = ms }))) [
       | Waiting ↦ λ e. together-dropped w m ms is a (subst (λ ph. MayWait ph a.c.pending) e a.may_wait)
-      | Up ↦ λ e. together-served w _ now m.id m.word ms e is a
+      | Up ↦ λ e. together-served w _ _ now m.id m.word ms e is a
       | Down ↦ λ e. together-dropped w m ms is a (subst (λ ph. MayWait ph a.c.pending) e a.may_wait)
     ] refl
 
 -- ---- every event
 
 pub together-happens : (w : World) (e : WorldEvent) → StandsTogether w → StandsTogether (happens w e)
-together-happens w (Connects now) a = together-connects w _ now a
+together-happens w (Connects now) a = together-connects w _ _ now a
 together-happens w (Commands k) a = together-commands w k a
 together-happens w (DeliversUp now) a = together-up w now w.up refl a
 together-happens w DeliversDown a = together-down w w.down refl a
-together-happens w (Sees now g) a = together-sees w _ now g a
-together-happens w (Ticks now) a = together-ticks w _ now a
+together-happens w (Sees now g) a = together-sees w _ _ now g a
+together-happens w (Ticks now) a = together-ticks w _ _ now a
 
 pub together-run : (es : List WorldEvent) (w : World) → StandsTogether w → StandsTogether (run es w)
 together-run [] w a = a

@@ -3,6 +3,8 @@ use Rattle.std.proofs.Common.{◌≡◌, ℕ, refl, sym, ◌∙◌, ap, true, fa
 use Rattle.std.specs.Prelude.{◌==◌, nat_lt, Option, None, Some}
 use Rattle.std.specs.Option.{option_map}
 use Rattle.std.proofs.lemmas.Bool.Decides.{nat_tests}
+use Rattle.llrp_schema.specs.declared.kinds.ParamKind.TheVariants.{RoSpec as RoSpecKind}
+use Rattle.llrp_tree.specs.Tree.{none}
 use Rattle.llrp_session.specs.RoSpec.{RoSpec}
 use Rattle.llrp_session.specs.Table.{Entry, Viewed, RoState, Disabled, states, names, state_of, enter, change, without, viewed_state, enter_view, change_view, view_without}
 use Rattle.llrp_session.specs.TableLaws.{EntersOne, ChangesEach, RemovesThoseNamed, EntersOneInView, ChangesEachInView, RemovesThoseNamedInView, SeesEach}
@@ -75,7 +77,7 @@ viewed_state-states (e ∷ es) id = ap (λ o. cond (id == e.spec.id) (Some e.sta
 
 -- a ROSpec with this id
 rospec_with_id : ℕ → RoSpec
-rospec_with_id id = record { id = id; current_state = 0; start_trigger = 0; stop_trigger = 0; duration = 0; has_ai_stop = false; antennas = []; inventory = 0; report = None; octets = 0 }
+rospec_with_id id = record { tree = record { kind = RoSpecKind; fields = []; tail = []; children = none }; id = id; current_state = 0; start_trigger = 0; stop_trigger = 0; duration = 0; has_ai_stop = false; antennas = []; inventory = 0; report = None; octets = 0 }
 
 table_of : List Viewed → List Entry
 table_of [] = []

@@ -1,12 +1,13 @@
 -- What a client makes of what a reader sends.
-use Rattle.std.proofs.Common.{◌≡◌, ℕ, refl, sym, ◌∙◌, ap, true, false, cond, List, [], ◌∷◌, ◌⊎◌, inl, inr, arith}
+use Rattle.std.proofs.Common.{◌≡◌, ℕ, refl, sym, ◌∙◌, ap, Bool, true, false, cond, List, [], ◌∷◌, ◌⊎◌, inl, inr, arith}
 use Rattle.std.specs.Prelude.{◌==◌, Option, None, Some, Result, Ok, Err}
 use Rattle.std.proofs.lemmas.Bool.Decides.{nat_tests}
-use Rattle.llrp_session.specs.Table.{RoState}
-use Rattle.llrp_session.specs.Words.{ReaderWord, Response, Error, Report, KeepaliveSent, Accepted, Started, Ended, Overflowed, ReaderMessage, heard, Operation, Adding, Deleting, Starting, Stopping, Enabling, Disabling, Configuring, Closing, RoSpecChange}
+use Rattle.llrp_tree.specs.Tree.{Tree}
+use Rattle.llrp_session.specs.Table.{RoState, listing}
+use Rattle.llrp_session.specs.Words.{ReaderWord, Response, Listed, Error, Report, KeepaliveSent, Accepted, Started, Ended, Overflowed, ReaderMessage, heard, Operation, Adding, Deleting, Starting, Stopping, Enabling, Disabling, Listing, Configuring, Closing, RoSpecChange}
 use Rattle.llrp_session.specs.Refusal.{Refusal}
 use Rattle.llrp_session.specs.Sightings.{tags_in}
-use Rattle.llrp_session.specs.ClientMachine.{Client, ClientPhase, Fresh, Ready, Closed, Pending, Taking, Reply, take, take_in, granted, take_response, replied, takes, unexpected, is_response_to, cleared, answered, failed, event_of}
+use Rattle.llrp_session.specs.ClientMachine.{Client, ClientPhase, Fresh, Ready, Closed, Pending, Taking, Reply, Table, Differs, is_view, take, take_in, granted, take_response, replied, takes, unexpected, is_response_to, cleared, answered, failed, event_of}
 use Rattle.llrp_session.specs.World.{tags_handed_out}
 use Rattle.llrp_session.specs.Agreement.{taken_in, and_then, requests, responses, is_response}
 
@@ -44,6 +45,7 @@ unasked_while_ready c w id k k2 none taken e same p_same ph_same no_response =
 unasked : (ph : ClientPhase) (w : ReaderWord) (c : Client) (id : ℕ) (k : Taking) → c.pending ≡ None → take_in ph c id (heard w) ≡ Ok k → IsUnasked c w id ph k
 unasked Closed w c id k none h = cc
 unasked Fresh (Response operation status) c id k none h = cc
+unasked Fresh (Listed table) c id k none h = cc
 unasked Fresh (Error status) c id k none h = cc
 unasked Fresh (Report tags) c id k none h = cc
 unasked Fresh KeepaliveSent c id k none h = cc
@@ -53,7 +55,8 @@ unasked Fresh (Overflowed now) c id k none h = cc
 unasked Fresh (Accepted now) c id k none h =
     let e = same_taking _ k h in
     record { same = λ p n. ap (on_client p n) h; none = sym (ap (λ x. x.client.pending) e) ∙ none; no_response = refl; ready = λ r. sym (ap (λ x. x.client.phase) e) }
-unasked Ready (Response operation status) c id k none h = let e : unexpected ≡ Ok k = sym (ap (λ p. answered p c id operation status) none) ∙ h in cc
+unasked Ready (Response operation status) c id k none h = let e : unexpected ≡ Ok k = sym (ap (λ p. answered p c id operation status []) none) ∙ h in cc
+unasked Ready (Listed table) c id k none h = let e : unexpected ≡ Ok k = sym (ap (λ p. answered p c id Listing 0 (listing table)) none) ∙ h in cc
 unasked Ready (Error status) c id k none h = let e : unexpected ≡ Ok k = sym (ap (λ p. failed p c id status) none) ∙ h in cc
 unasked Ready (Report tags) c id k none h = unasked_while_ready c (Report tags) id k _ none h (sym (same_taking _ k h)) (λ p n. refl) refl refl refl
 unasked Ready KeepaliveSent c id k none h = unasked_while_ready c KeepaliveSent id k _ none h (sym (same_taking _ k h)) (λ p n. refl) refl refl refl
@@ -107,15 +110,16 @@ replied-clears c p status k h =
     elim (status == 0) as (λ b. (cond b (record c { pending = None; view = granted p.operation p.rospec c.view }) (cleared c)).pending ≡ None) [ true ↦ refl | false ↦ refl ] in
     (sym (ap (λ x. x.client.pending) e) ∙ none, sym (ap (λ x. x.sent) e))
 
-take_response-clears : (operation : Operation) (c : Client) (p : Pending) (status : ℕ) (k : Taking) → take_response operation c p status ≡ Ok k → Clears k
-take_response-clears Closing c p status k h = let e = same_taking _ k h in (sym (ap (λ x. x.client.pending) e), sym (ap (λ x. x.sent) e))
-take_response-clears Adding c p status k h = replied-clears c p status k h
-take_response-clears Deleting c p status k h = replied-clears c p status k h
-take_response-clears Starting c p status k h = replied-clears c p status k h
-take_response-clears Stopping c p status k h = replied-clears c p status k h
-take_response-clears Enabling c p status k h = replied-clears c p status k h
-take_response-clears Disabling c p status k h = replied-clears c p status k h
-take_response-clears Configuring c p status k h = replied-clears c p status k h
+take_response-clears : (operation : Operation) (c : Client) (p : Pending) (status : ℕ) (ts : List Tree) (k : Taking) → take_response operation c p status ts ≡ Ok k → Clears k
+take_response-clears Closing c p status ts k h = let e = same_taking _ k h in (sym (ap (λ x. x.client.pending) e), sym (ap (λ x. x.sent) e))
+take_response-clears Adding c p status ts k h = replied-clears c p status k h
+take_response-clears Deleting c p status ts k h = replied-clears c p status k h
+take_response-clears Starting c p status ts k h = replied-clears c p status k h
+take_response-clears Stopping c p status ts k h = replied-clears c p status k h
+take_response-clears Enabling c p status ts k h = replied-clears c p status k h
+take_response-clears Disabling c p status ts k h = replied-clears c p status k h
+take_response-clears Configuring c p status ts k h = replied-clears c p status k h
+take_response-clears Listing c p status ts k h = let e = same_taking _ k h in (sym (ap (λ x. x.client.pending) e), sym (ap (λ x. x.sent) e))
 
 id_of_response : (p : Pending) (id : ℕ) (operation : Operation) → is_response_to p id operation ≡ true → id ≡ p.id
 id_of_response p id operation h = grind (arith, nat_tests)
@@ -127,9 +131,20 @@ same_id a b h = grind (arith, nat_tests)
 stays : (w : ReaderWord) (c : Client) (id : ℕ) (k k2 : Taking) (p : Pending) → c.pending ≡ Some p → k2 ≡ k → k2.client.pending ≡ c.pending → is_response w ≡ false → IsAwaited p w id k.client.pending
 stays w c id k k2 p some e same no_response = inl (no_response, sym (ap (λ x. x.client.pending) e) ∙ same ∙ some)
 
+-- a response to the pending request
+asked-answered : (w : ReaderWord) (operation : Operation) (c : Client) (id status : ℕ) (ts : List Tree) (k : Taking) (p : Pending) → is_response w ≡ true → c.pending ≡ Some p
+    → answered c.pending c id operation status ts ≡ Ok k → IsAwaited p w id k.client.pending
+asked-answered w operation c id status ts k p responds some h =
+    let g : cond (is_response_to p id operation) (take_response operation c p status ts) unexpected ≡ Ok k = sym (ap (λ o. answered o c id operation status ts) some) ∙ h in
+    elim (is_response_to p id operation) as (λ b. is_response_to p id operation ≡ b → cond b (take_response operation c p status ts) unexpected ≡ Ok k → IsAwaited p w id k.client.pending) [
+      | true ↦ λ e r. inr (responds, id_of_response p id operation e, (take_response-clears operation c p status ts k r).0)
+      | false ↦ λ e r. cc
+    ] refl g
+
 asked : (ph : ClientPhase) (w : ReaderWord) (c : Client) (id : ℕ) (k : Taking) (p : Pending) → c.pending ≡ Some p → take_in ph c id (heard w) ≡ Ok k → IsAwaited p w id k.client.pending
 asked Closed w c id k p some h = cc
 asked Fresh (Response operation status) c id k p some h = cc
+asked Fresh (Listed table) c id k p some h = cc
 asked Fresh (Error status) c id k p some h = cc
 asked Fresh (Report tags) c id k p some h = cc
 asked Fresh KeepaliveSent c id k p some h = cc
@@ -137,12 +152,8 @@ asked Fresh (Started now i) c id k p some h = cc
 asked Fresh (Ended now i) c id k p some h = cc
 asked Fresh (Overflowed now) c id k p some h = cc
 asked Fresh (Accepted now) c id k p some h = stays (Accepted now) c id k _ p some (same_taking _ k h) refl refl
-asked Ready (Response operation status) c id k p some h =
-    let g : cond (is_response_to p id operation) (take_response operation c p status) unexpected ≡ Ok k = sym (ap (λ o. answered o c id operation status) some) ∙ h in
-    elim (is_response_to p id operation) as (λ b. is_response_to p id operation ≡ b → cond b (take_response operation c p status) unexpected ≡ Ok k → IsAwaited p (Response operation status) id k.client.pending) [
-      | true ↦ λ e r. inr (refl, id_of_response p id operation e, (take_response-clears operation c p status k r).0)
-      | false ↦ λ e r. cc
-    ] refl g
+asked Ready (Response operation status) c id k p some h = asked-answered (Response operation status) operation c id status [] k p refl some h
+asked Ready (Listed table) c id k p some h = asked-answered (Listed table) Listing c id 0 (listing table) k p refl some h
 asked Ready (Error status) c id k p some h =
     let g : cond (p.id == id) (takes (Reply status) (cleared c)) unexpected ≡ Ok k = sym (ap (λ o. failed o c id status) some) ∙ h in
     elim (p.id == id) as (λ b. (p.id == id) ≡ b → cond b (takes (Reply status) (cleared c)) unexpected ≡ Ok k → IsAwaited p (Error status) id k.client.pending) [
@@ -174,9 +185,9 @@ awaited_once (m ∷ ms) c d p some h =
           ]
     ] refl h
 
--- ---- what a client sends and hands out
+-- ---- what a client sends and delivers
 
--- no request is sent, and the tags of the message are handed out
+-- no request is sent, and the tags of the message are delivered
 pub record HandsOut (w : ReaderWord) (k : Taking) : Type 0 where
   pub no_requests : requests k.sent ≡ []
   pub tags : tags_handed_out k.taken ≡ tags_in w
@@ -184,22 +195,28 @@ pub record HandsOut (w : ReaderWord) (k : Taking) : Type 0 where
 hands_out_by : (w : ReaderWord) (k k2 : Taking) → k2 ≡ k → requests k2.sent ≡ [] → tags_handed_out k2.taken ≡ tags_in w → HandsOut w k
 hands_out_by w k k2 e none tags = record { no_requests = sym (ap (λ x. requests x.sent) e) ∙ none; tags = sym (ap (λ x. tags_handed_out x.taken) e) ∙ tags }
 
-replied-tags : (operation : Operation) (c : Client) (p : Pending) (status : ℕ) (k : Taking) → take_response operation c p status ≡ Ok k → tags_handed_out k.taken ≡ []
-replied-tags Closing c p status k h = sym (ap (λ x. tags_handed_out x.taken) (same_taking _ k h))
-replied-tags Adding c p status k h = sym (ap (λ x. tags_handed_out x.taken) (same_taking _ k h))
-replied-tags Deleting c p status k h = sym (ap (λ x. tags_handed_out x.taken) (same_taking _ k h))
-replied-tags Starting c p status k h = sym (ap (λ x. tags_handed_out x.taken) (same_taking _ k h))
-replied-tags Stopping c p status k h = sym (ap (λ x. tags_handed_out x.taken) (same_taking _ k h))
-replied-tags Enabling c p status k h = sym (ap (λ x. tags_handed_out x.taken) (same_taking _ k h))
-replied-tags Disabling c p status k h = sym (ap (λ x. tags_handed_out x.taken) (same_taking _ k h))
-replied-tags Configuring c p status k h = sym (ap (λ x. tags_handed_out x.taken) (same_taking _ k h))
+listed-tags : (b seen : Bool) (ts : List Tree) (status : ℕ) → tags_handed_out (cond b (cond seen (Table ts) (Differs ts)) (Reply status)) ≡ []
+listed-tags true true ts status = refl
+listed-tags true false ts status = refl
+listed-tags false seen ts status = refl
 
-answered-hands_out : (o : Option Pending) (c : Client) (id : ℕ) (operation : Operation) (status : ℕ) (k : Taking) → answered o c id operation status ≡ Ok k → HandsOut (Response operation status) k
+replied-tags : (operation : Operation) (c : Client) (p : Pending) (status : ℕ) (ts : List Tree) (k : Taking) → take_response operation c p status ts ≡ Ok k → tags_handed_out k.taken ≡ []
+replied-tags Closing c p status ts k h = sym (ap (λ x. tags_handed_out x.taken) (same_taking _ k h))
+replied-tags Adding c p status ts k h = sym (ap (λ x. tags_handed_out x.taken) (same_taking _ k h))
+replied-tags Deleting c p status ts k h = sym (ap (λ x. tags_handed_out x.taken) (same_taking _ k h))
+replied-tags Starting c p status ts k h = sym (ap (λ x. tags_handed_out x.taken) (same_taking _ k h))
+replied-tags Stopping c p status ts k h = sym (ap (λ x. tags_handed_out x.taken) (same_taking _ k h))
+replied-tags Enabling c p status ts k h = sym (ap (λ x. tags_handed_out x.taken) (same_taking _ k h))
+replied-tags Disabling c p status ts k h = sym (ap (λ x. tags_handed_out x.taken) (same_taking _ k h))
+replied-tags Configuring c p status ts k h = sym (ap (λ x. tags_handed_out x.taken) (same_taking _ k h))
+replied-tags Listing c p status ts k h = sym (ap (λ x. tags_handed_out x.taken) (same_taking _ k h)) ∙ listed-tags (status == 0) (is_view ts c.view) ts status
+
+answered-hands_out : (w : ReaderWord) (o : Option Pending) (c : Client) (id : ℕ) (operation : Operation) (status : ℕ) (ts : List Tree) (k : Taking) → tags_in w ≡ [] → answered o c id operation status ts ≡ Ok k → HandsOut w k
 unfolding requests
-answered-hands_out None c id operation status k h = cc
-answered-hands_out (Some p) c id operation status k h =
-    elim (is_response_to p id operation) as (λ b. cond b (take_response operation c p status) unexpected ≡ Ok k → HandsOut (Response operation status) k) [
-      | true ↦ λ r. record { no_requests = ap requests (take_response-clears operation c p status k r).1; tags = replied-tags operation c p status k r }
+answered-hands_out w None c id operation status ts k none h = cc
+answered-hands_out w (Some p) c id operation status ts k none h =
+    elim (is_response_to p id operation) as (λ b. cond b (take_response operation c p status ts) unexpected ≡ Ok k → HandsOut w k) [
+      | true ↦ λ r. record { no_requests = ap requests (take_response-clears operation c p status ts k r).1; tags = replied-tags operation c p status ts k r ∙ sym none }
       | false ↦ λ r. cc
     ] h
 
@@ -220,6 +237,7 @@ hands_out_in : (ph : ClientPhase) (w : ReaderWord) (c : Client) (id : ℕ) (k : 
 unfolding requests
 hands_out_in Closed w c id k h = cc
 hands_out_in Fresh (Response operation status) c id k h = cc
+hands_out_in Fresh (Listed table) c id k h = cc
 hands_out_in Fresh (Error status) c id k h = cc
 hands_out_in Fresh (Report tags) c id k h = cc
 hands_out_in Fresh KeepaliveSent c id k h = cc
@@ -227,7 +245,8 @@ hands_out_in Fresh (Started now i) c id k h = cc
 hands_out_in Fresh (Ended now i) c id k h = cc
 hands_out_in Fresh (Overflowed now) c id k h = cc
 hands_out_in Fresh (Accepted now) c id k h = hands_out_by (Accepted now) k _ (same_taking _ k h) refl refl
-hands_out_in Ready (Response operation status) c id k h = answered-hands_out c.pending c id operation status k h
+hands_out_in Ready (Response operation status) c id k h = answered-hands_out (Response operation status) c.pending c id operation status [] k refl h
+hands_out_in Ready (Listed table) c id k h = answered-hands_out (Listed table) c.pending c id Listing 0 (listing table) k refl h
 hands_out_in Ready (Error status) c id k h = failed-hands_out c.pending c id status k h
 hands_out_in Ready (Report tags) c id k h = hands_out_by (Report tags) k _ (same_taking _ k h) refl refl
 hands_out_in Ready KeepaliveSent c id k h = hands_out_by KeepaliveSent k _ (same_taking _ k h) refl refl

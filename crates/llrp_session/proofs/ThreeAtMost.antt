@@ -4,10 +4,10 @@ use Rattle.std.specs.Prelude.{◌&&◌, ◌||◌, ◌==◌, nat_le, Option, None
 use Rattle.llrp_session.specs.RoSpec.{RoSpec, rospec_of}
 use Rattle.llrp_session.specs.Table.{Inactive, change, without, enter, names, enabling, disabling, active, first_immediate, is_active, is_inactive, state_of}
 use Rattle.llrp_session.specs.TagReport.{Sighting, tag_report}
-use Rattle.llrp_session.specs.Words.{Response, KeepaliveSent, Overflowed, Ended, ReaderMessage, Adding, Deleting, Starting, Stopping, Enabling, Disabling, Configuring, Request, AddRoSpec, DeleteRoSpec, StartRoSpec, StopRoSpec, EnableRoSpec, DisableRoSpec, SetReaderConfig, GetReports, CloseConnection, NoRequest, Unsupported}
+use Rattle.llrp_session.specs.Words.{Response, KeepaliveSent, Overflowed, Ended, ReaderMessage, Adding, Deleting, Starting, Stopping, Enabling, Disabling, Configuring, Request, AddRoSpec, DeleteRoSpec, StartRoSpec, StopRoSpec, EnableRoSpec, DisableRoSpec, GetRoSpecs, SetReaderConfig, GetReports, CloseConnection, NoRequest, Unsupported}
 use Rattle.llrp_session.specs.ReaderMachine.{Reader, Turn, Keepalive, ReaderPhase, Waiting, Up, Down, tell, reply, with_reader, with_table, send_held, set_state, start, end, end_if, start_if_idle, serve, see, tick, keep_alive, keepalive_from, configured, begun, is_known, add_status, effective_report, sends_at_end, has_state, is_bad_report, is_bad_keepalive, hold, send_if_enough, is_enough, is_over, is_full, counting, ReaderEvent, Connect, Take, TakeBad, Seen, Tick, next, next_in}
 
--- at most so many messages were sent
+-- at most this many messages were sent
 abbrev SendsUpTo : ℕ → Turn → Type 0
 SendsUpTo n t = length t.sent ≤ n
 
@@ -76,6 +76,7 @@ up_to-serve now v id (StopRoSpec n) t h =
       | true ↦ one_more 2 ended.sent _ (up_to-end_if 0 now (λ s. s.id == n) (active t.reader.table) t h)
       | false ↦ alone t.sent _ h
     ]
+up_to-serve now v id GetRoSpecs t h = alone t.sent _ h
 up_to-serve now v id (SetReaderConfig k) t h =
     elim (is_bad_report k.report || is_bad_keepalive k.keepalive) as (λ b. SendsUpTo 3 (cond b (reply v id (Response Configuring 101) t) (reply v id (Response Configuring 0) (with_reader (configured now k t.reader) t)))) [
       | true ↦ alone t.sent _ h

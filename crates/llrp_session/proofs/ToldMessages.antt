@@ -18,11 +18,11 @@ unfolding reader_message
 reader_told version id kind items word k p = rw (k, p) refl
 
 pub reader_lawful : (version id : ℕ) (kind : MsgKind) (items : List Tree) (word : ReaderWord) → kind ≡ reader_kind word → items ≡ reader_parameters word
-    → (version ≡ 1) ⊎ (version ≡ 2) → id < 2 ^ 32 → IsLawfulReaderWord word
+    → (version ≡ 1) ⊎ (version ≡ 2) → id < 2 ^ 32 → IsLawfulReaderWord MAX_LIMIT word
     → IsLawfulMessage (record { version = version; id = id; kind = kind; fields = []; children = forest items })
 reader_lawful version id kind items word k p v small h =
     let m : ReaderMessage = record { version = version; id = id; word = word } in
-    rw (reader_told version id kind items word k p) (reader_sends 4096 m (lit≤ tt) (record { version = v; id = small; word = h })).lawful
+    rw (reader_told version id kind items word k p) (reader_sends MAX_LIMIT m (lit≤ tt) (lit≤ tt) (record { version = v; id = small; word = h })).lawful
 
 pub client_told : (id : ℕ) (kind : MsgKind) (fields : List ℕ) (items : List Tree) (word : ClientWord) → kind ≡ client_kind word → fields ≡ client_fields word → items ≡ client_parameters word
     → record { version = 1; id = id; kind = kind; fields = fields; children = forest items } ≡ client_message (record { id = id; word = word })

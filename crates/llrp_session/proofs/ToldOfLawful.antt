@@ -1,4 +1,4 @@
--- What is told of a lawful ROSpec fits its fields.
+-- What is written of a lawful ROSpec fits its fields.
 use Rattle.std.proofs.Common.{◌≡◌, ℕ, ◌^◌, ◌<◌, ◌≤◌, refl, sym, subst, true, false, cond, List, [], ◌∷◌, ◌++◌, arith, get_or}
 use Rattle.std.specs.Prelude.{find, Option, None, Some}
 use Rattle.std.proofs.lemmas.Bool.{eqb-true}
@@ -10,7 +10,7 @@ use Rattle.llrp_schema.proofs.TableLaws.{param_numbers}
 use Rattle.llrp_tree.specs.Tree.{Forest, none, and, Tree, trees}
 use Rattle.llrp_tree.specs.Lawful.{AreInRange, AllLawful, IsLawful}
 use Rattle.llrp_session.specs.RoSpec.{is_kind, first_in, first_below, field, rospec_of}
-use Rattle.llrp_session.specs.LawfulStates.{IsToldOf}
+use Rattle.llrp_session.specs.LawfulWords.{IsToldOf}
 
 -- the greatest value of the first field
 abbrev pub first_greatest : List FieldRule → ℕ
@@ -74,6 +74,9 @@ pub told_of_lawful : (t : Tree) → (t.kind ≡ RoSpecKind) × IsLawful t → Is
 unfolding rospec_of
 told_of_lawful t h =
     record {
+      kind = h.0;
+      lawful = h.1;
+      octets = refl;
       id = id_fits t h.0 h.1;
       inventory = inventory_fits _ (found-first_below AiSpec InventoryParameterSpec (first_in AiSpec t.children) (found-first_in AiSpec t.children h.1.1));
     }

@@ -44,14 +44,14 @@ third_report = tag_data 0x350000001000002000000003 2 0xC2
 abbrev world_after : List WorldEvent → World
 world_after events = run events (opening 65536 1 1)
 
--- after the first report two tags are handed out, and one is held
+-- after the first report two tags are delivered, and one is held
 pub first_two : ((world_after (started ++ seen ++ DeliversDown ∷ DeliversDown ∷ [])).handed_out ≡ first_report ∷ second_report ∷ [])
     × ((world_after (started ++ seen ++ DeliversDown ∷ DeliversDown ∷ [])).reader.held ≡ third_report ∷ [])
     × (viewed_state 1 (world_after (started ++ seen ++ DeliversDown ∷ DeliversDown ∷ [])).client.view ≡ Some Active)
 unfolding take command change_view view_without enter_view viewed_state next serve end configured see tick change without enter state_of octets_of active first_immediate rospec_of report_spec_of tag_report number_of rule_of param_rule fields_of tail_of is_tv body_octets tags_of requests responses
 first_two = (refl, refl, refl)
 
--- in the end all three are handed out in order, both ends are closed, and nothing is on the way
+-- in the end all three are delivered in order, both ends are closed, and nothing is on the way
 pub loop_three_tags : ((world_after (started ++ seen ++ gathered ++ closed_down)).handed_out ≡ first_report ∷ second_report ∷ third_report ∷ [])
     × ((world_after (started ++ seen ++ gathered ++ closed_down)).client.phase ≡ Closed)
     × ((world_after (started ++ seen ++ gathered ++ closed_down)).reader.phase ≡ Down)

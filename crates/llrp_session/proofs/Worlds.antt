@@ -8,11 +8,12 @@ use Rattle.llrp_session.specs.Refusal.{Refusal}
 use Rattle.llrp_session.specs.ReaderMachine.{Reader, Turn, ReaderEvent, Connect, Take, Seen, Tick, next}
 use Rattle.llrp_session.specs.Sightings.{tags_of, kept_by, dropped_by, History, history, goes_on, extended, no_history}
 use Rattle.llrp_session.specs.ClientMachine.{Client, Pending, Sending, Taking, take, command}
-use Rattle.llrp_session.specs.World.{World, WorldEvent, Connects, Commands, DeliversUp, DeliversDown, Sees, Ticks, happens, run, opening, stepped, commanded, took, delivered_up, delivered_down, reader_does}
-use Rattle.llrp_session.specs.Agreement.{AfterAll, ViewCatchesUp, ViewIsTable, ReportsArrive, ReportsAreKept, ReaderHasHistory, OneActive, NothingIsUnexpected, PendingIsOnTheWay, NothingIsPending, IsTaken, AreTaken, taken_in, and_then, requests, responses, IsOnTheWay}
-use Rattle.llrp_session.proofs.StandingTogether.{StandsTogether, together-run, together-opening, on_the_way, tags_of-append}
+use Rattle.llrp_session.specs.World.{World, WorldEvent, Connects, Commands, DeliversUp, DeliversDown, Sees, Ticks, listed_by, happens, run, opening, stepped, commanded, took, delivered_up, delivered_down, reader_does}
+use Rattle.llrp_session.specs.Agreement.{AfterAll, ViewCatchesUp, ViewIsTable, ReportsArrive, ReportsAreKept, ReaderHasHistory, OneActive, NothingIsUnexpected, PendingIsOnTheWay, NothingIsPending, TablesArrive, NoneDiffers, IsTaken, AreTaken, taken_in, and_then, requests, responses, IsOnTheWay}
+use Rattle.llrp_session.proofs.StandingTogether.{StandsTogether, together-happens, together-run, together-opening, on_the_way, tags_of-append}
 use Rattle.llrp_session.proofs.Orderly.{IsOrderly}
 use Rattle.llrp_session.proofs.Keeping.{KeptNext, kept-next}
+use Rattle.llrp_session.proofs.TablesAgree.{TablesAgree, agree-happens, agree-opening}
 
 -- ---- the reader's side
 
@@ -21,9 +22,9 @@ record KeepsReports (w : World) : Type 0 where
   pub most : length w.reader.held ≤ 64
   pub table : IsOrderly w.reader.table
 
-keeps-stepped : (w : World) (n : Result Turn Refusal) (tags : List Tree) (d : ℕ) → KeptNext (w.reader.held ++ tags) d n → KeepsReports w → KeepsReports (stepped n tags w)
-keeps-stepped w (Err refusal) tags d s h = h
-keeps-stepped w (Ok t) tags d s h =
+keeps-stepped : (w : World) (n : Result Turn Refusal) (tags : List Tree) (d : ℕ) (ls : List (List Tree)) → KeptNext (w.reader.held ++ tags) d ls n → KeepsReports w → KeepsReports (stepped n tags ls w)
+keeps-stepped w (Err refusal) tags d ls s h = h
+keeps-stepped w (Ok t) tags d ls s h =
     record {
       reports = append_assoc w.reported (tags_of t.sent) t.reader.held ∙ ap (λ ts. w.reported ++ ts) s.reports ∙ sym (append_assoc w.reported w.reader.held tags) ∙ ap (λ ts. ts ++ tags) h.reports;
       most = s.most;
@@ -31,7 +32,7 @@ keeps-stepped w (Ok t) tags d s h =
     }
 
 keeps-reader : (w : World) (now : ℕ) (e : ReaderEvent) → KeepsReports w → KeepsReports (reader_does now e w)
-keeps-reader w now e h = keeps-stepped w (next now e w.reader) (kept_by now e w.reader) (dropped_by now e w.reader) (kept-next now e w.reader h.most h.table) h
+keeps-reader w now e h = keeps-stepped w (next now e w.reader) (kept_by now e w.reader) (dropped_by now e w.reader) (listed_by e w.reader) (kept-next now e w.reader h.most h.table) h
 
 keeps-commanded : (w : World) (r : Result Sending Refusal) → KeepsReports w → KeepsReports (commanded r w)
 keeps-commanded w (Ok s) h = record { reports = h.reports; most = h.most; table = h.table }
@@ -80,9 +81,9 @@ record IsHistoryOf (w : World) (h : History) : Type 0 where
   pub reported : tags_of h.sent ≡ w.reported
   pub kept : h.kept ≡ w.kept
 
-history-stepped : (w : World) (h : History) (n : Result Turn Refusal) (tags : List Tree) (d : ℕ) → IsHistoryOf w h → IsHistoryOf (stepped n tags w) (extended n tags d h)
-history-stepped w h (Err refusal) tags d a = a
-history-stepped w h (Ok t) tags d a =
+history-stepped : (w : World) (h : History) (n : Result Turn Refusal) (tags : List Tree) (d : ℕ) (ls : List (List Tree)) → IsHistoryOf w h → IsHistoryOf (stepped n tags ls w) (extended n tags d h)
+history-stepped w h (Err refusal) tags d ls a = a
+history-stepped w h (Ok t) tags d ls a =
     record {
       reader = refl;
       reported = tags_of-append h.sent t.sent ∙ ap (λ ts. ts ++ tags_of t.sent) a.reported;
@@ -93,8 +94,8 @@ history-reader : (w : World) (now : ℕ) (e : ReaderEvent) → ReaderHasHistory 
 history-reader w now e a =
     let h : History = history a.events (no_history a.limit a.first_id) in
     let more : IsHistoryOf (reader_does now e w) (goes_on h (now, e)) =
-    subst (λ (r : Reader). IsHistoryOf (stepped (next now e r) (kept_by now e r) w) (goes_on h (now, e))) a.reader
-    (history-stepped w h (next now e h.reader) (kept_by now e h.reader) (dropped_by now e h.reader) (record { reader = a.reader; reported = a.reported; kept = a.kept })) in
+    subst (λ (r : Reader). IsHistoryOf (stepped (next now e r) (kept_by now e r) (listed_by e r) w) (goes_on h (now, e))) a.reader
+    (history-stepped w h (next now e h.reader) (kept_by now e h.reader) (dropped_by now e h.reader) (listed_by e h.reader) (record { reader = a.reader; reported = a.reported; kept = a.kept })) in
     let same = history-one_more a.events (now, e) (no_history a.limit a.first_id) in
     record {
       limit = a.limit;
@@ -193,3 +194,20 @@ nothing_is_pending limit r c es no_up no_down =
     let w = run es (opening limit r c) in
     let h = pending_is_on_the_way limit r c es in
     nowhere w.client.pending (subst (λ (d : List ReaderMessage). IsOnTheWay w.client.pending [] d) no_down (subst (λ (u : List ClientMessage). IsOnTheWay w.client.pending u w.down) no_up h))
+
+-- ---- the reader's table
+
+agree-run : (es : List WorldEvent) (w : World) → StandsTogether w → KeepsReports w → TablesAgree w → TablesAgree (run es w)
+agree-run [] w a k h = h
+agree-run (e ∷ es) w a k h =
+    agree-run es (happens w e) (together-happens w e a) (keeps-happens w e k)
+    (agree-happens w a.c e (record { caught_up = a.caught_up; view = a.view; most = k.most; table = k.table }) h)
+
+agrees : (limit reader_first client_first : ℕ) (es : List WorldEvent) → TablesAgree (run es (opening limit reader_first client_first))
+agrees limit r c es = agree-run es (opening limit r c) (together-opening limit r c) (keeps_always limit r c []) (agree-opening limit r c)
+
+pub tables_arrive : AfterAll TablesArrive
+tables_arrive limit r c es = (agrees limit r c es).tables
+
+pub none_differs : AfterAll NoneDiffers
+none_differs limit r c es = (agrees limit r c es).none

@@ -1,12 +1,13 @@
 -- The two ends agree.
 use Rattle.std.specs.Prelude.{◌≡◌, ◌≤◌, ◌⊎◌, ℕ, Bool, true, false, List, [], ◌∷◌, ◌++◌, Option, None, Some, Result, Ok, Err, if◌then◌else◌}
+use Rattle.llrp_tree.specs.Tree.{Tree}
 use Rattle.llrp_session.specs.Table.{states, active_count}
-use Rattle.llrp_session.specs.Words.{ReaderWord, Response, Error, ReaderMessage, ClientWord, Asks, Acknowledges, ClientMessage, heard}
+use Rattle.llrp_session.specs.Words.{ReaderWord, Response, Listed, Error, ReaderMessage, ClientWord, Asks, Acknowledges, ClientMessage, heard}
 use Rattle.llrp_session.specs.Refusal.{Refusal}
 use Rattle.llrp_session.specs.ReaderMachine.{ReaderEvent}
 use Rattle.llrp_session.specs.Sightings.{tags_of, history, no_history}
 use Rattle.llrp_session.specs.ClientMachine.{Client, Pending, Taking, take, awaited}
-use Rattle.llrp_session.specs.World.{World, WorldEvent, run, opening}
+use Rattle.llrp_session.specs.World.{World, table_heard, WorldEvent, run, opening}
 
 -- what holds after every list of events, from two ends as new
 abbrev pub AfterAll : (World → Type 0) → Type 0
@@ -31,7 +32,7 @@ ViewCatchesUp w = (c : Client) × (taken_in w.down w.client ≡ Some c) × (c.vi
 abbrev pub ViewIsTable : World → Type 0
 ViewIsTable w = w.down ≡ [] → w.client.view ≡ states w.reader.table
 
--- (b) the reports handed out, followed by those on the way down, are the reports sent, in order, each once
+-- (b) the reports delivered, followed by those on the way down, are the reports sent, in order, each once
 abbrev pub ReportsArrive : World → Type 0
 ReportsArrive w = w.handed_out ++ tags_of w.down ≡ w.reported
 
@@ -82,6 +83,7 @@ requests (m ∷ ms) = awaited_by m.word m.id ++ requests ms
 
 abbrev pub is_response : ReaderWord → Bool
 is_response (Response operation status) = true
+is_response (Listed table) = true
 is_response (Error status) = true
 is_response _ = false
 
@@ -95,10 +97,25 @@ IsOnTheWay None up down = (requests up ≡ []) × (responses down ≡ [])
 IsOnTheWay (Some p) up down =
     ((requests up ≡ p ∷ []) × (responses down ≡ [])) ⊎ ((requests up ≡ []) × (responses down ≡ p.id ∷ []))
 
--- (e) the pending request stands on the way up, or its one response on the way down, never both; without one neither does any
+-- (e) the pending request is on the way up, or its one response on the way down, never both; without one neither does any
 abbrev pub PendingIsOnTheWay : World → Type 0
 PendingIsOnTheWay w = IsOnTheWay w.client.pending w.up w.down
 
 -- with nothing on the way nothing is pending
 abbrev pub NothingIsPending : World → Type 0
 NothingIsPending w = w.up ≡ [] → w.down ≡ [] → w.client.pending ≡ None
+
+-- ---- the reader's table
+
+-- the tables that are listed in messages, in order
+unfoldable pub tables_of : List ReaderMessage → List (List Tree)
+tables_of [] = []
+tables_of (m ∷ ms) = table_heard (heard m.word) ++ tables_of ms
+
+-- (f) the tables that the client took, followed by those on the way down, are the reader's table as it was at each GET_ROSPECS, in order
+abbrev pub TablesArrive : World → Type 0
+TablesArrive w = w.tables ++ tables_of w.down ≡ w.listed
+
+-- the client never took one that differs from its view
+abbrev pub NoneDiffers : World → Type 0
+NoneDiffers w = w.differing ≡ []

@@ -1,14 +1,16 @@
 -- The client.
-use Rattle.std.specs.Prelude.{ℕ, ◌+◌, ◌==◌, nat_lt, Bool, true, false, ◌&&◌, List, [], ◌∷◌, Option, None, Some, is_some, Result, Ok, Err, if◌then◌else◌}
-use Rattle.llrp_session.specs.RoSpec.{rospec_of}
-use Rattle.llrp_session.specs.Table.{Viewed, RoState, Inactive, Active, enabling, disabling, setting, change_view, view_without, enter_view, viewed_state}
-use Rattle.llrp_session.specs.Words.{Operation, Adding, Deleting, Starting, Stopping, Enabling, Disabling, Configuring, Closing, Command, Add, Delete, Start, Stop, Enable, Disable, SetKeepalive, GetReport, Close, RoSpecChange, Heard, HeardResponse, HeardError, HeardReport, HeardKeepalive, HeardNotification, HeardOther, Asks, Acknowledges, ClientMessage}
+use Rattle.std.specs.Prelude.{ℕ, ◌+◌, ◌==◌, nat_lt, Bool, true, false, ◌&&◌, not, List, [], ◌∷◌, Option, None, Some, is_some, Result, Ok, Err, if◌then◌else◌}
+use Rattle.std.specs.List.{list_any, list_all}
+use Rattle.llrp_tree.specs.Tree.{Tree}
+use Rattle.llrp_session.specs.RoSpec.{rospec_of, field}
+use Rattle.llrp_session.specs.Table.{Viewed, RoState, Inactive, Active, state_number, enabling, disabling, setting, change_view, view_without, enter_view, viewed_state}
+use Rattle.llrp_session.specs.Words.{Operation, Adding, Deleting, Starting, Stopping, Enabling, Disabling, Listing, Configuring, Closing, Command, Add, Delete, Start, Stop, Enable, Disable, GetRospecs, SetKeepalive, GetReport, Close, RoSpecChange, Heard, HeardResponse, HeardError, HeardReport, HeardKeepalive, HeardNotification, HeardOther, Asks, Acknowledges, ClientMessage}
 use Rattle.llrp_session.specs.Refusal.{Refusal, Closed as ClosedRefusal, NotReady, Busy, OverLimit, IdsSpent, Unexpected}
 pub use Rattle.llrp_session.specs.declared.words.ClientPhase.{ClientPhase}
 pub use Rattle.llrp_session.specs.declared.words.ClientPhase.TheVariants.{Fresh, Ready, Closed}
 pub use Rattle.llrp_session.specs.declared.words.Pending.{Pending}
 pub use Rattle.llrp_session.specs.declared.words.Taken.{Taken}
-pub use Rattle.llrp_session.specs.declared.words.Taken.TheVariants.{Connected, Refused, Reply, Tags, Event, Note, Kept, Closed as ConnectionEnded}
+pub use Rattle.llrp_session.specs.declared.words.Taken.TheVariants.{Connected, Refused, Reply, Tags, Table, Differs, Event, Note, Kept, Closed as ConnectionEnded}
 
 pub record Client : Type 0 where
   pub limit : ℕ  -- the greatest length of a message, in octets
@@ -34,6 +36,7 @@ awaited id (Start n) = waits_for id Starting n
 awaited id (Stop n) = waits_for id Stopping n
 awaited id (Enable n) = waits_for id Enabling n
 awaited id (Disable n) = waits_for id Disabling n
+awaited id GetRospecs = waits_for id Listing 0
 awaited id (SetKeepalive ms) = waits_for id Configuring 0
 awaited id GetReport = None
 awaited id Close = waits_for id Closing 0
@@ -101,6 +104,7 @@ operation_number Enabling = 4
 operation_number Disabling = 5
 operation_number Configuring = 6
 operation_number Closing = 7
+operation_number Listing = 8
 
 -- the response is to the pending request: it has its id and its kind
 abbrev pub is_response_to : Pending → ℕ → Operation → Bool
@@ -116,6 +120,7 @@ granted Enabling n view = change_view (enabling n) view
 granted Disabling n view = change_view (disabling n) view
 granted Configuring n view = view
 granted Closing n view = view
+granted Listing n view = view
 
 -- nothing is pending any more
 abbrev pub cleared : Client → Client
@@ -129,21 +134,48 @@ abbrev pub replied : Client → Pending → ℕ → Result Taking Refusal
 replied c p status =
     takes (Reply status) (if status == 0 then record c { pending = None; view = granted p.operation p.rospec c.view } else cleared c)
 
+-- a ROSpec that is listed has this id and this state
+abbrev pub shows : Tree → Viewed → Bool
+shows t v = (field 0 (Some t) == v.id) && (field 2 (Some t) == state_number v.state)
+
+-- two ROSpecs that are listed have one ROSpecID
+abbrev pub names_same : Tree → Tree → Bool
+names_same t u = field 0 (Some t) == field 0 (Some u)
+
+-- no ROSpecID is named twice
+unfoldable pub names_none_twice : List Tree → Bool
+names_none_twice [] = true
+names_none_twice (t ∷ ts) = not (list_any (names_same t) ts) && names_none_twice ts
+
+-- the pairs of ROSpecID and CurrentState name no id twice, and are exactly those of the view
+abbrev pub is_view : List Tree → List Viewed → Bool
+is_view ts view =
+    names_none_twice ts && (list_all (λ t. list_any (shows t) view) ts && list_all (λ v. list_any (λ t. shows t v) ts) view)
+
+-- the ROSpecs that the reader lists are the view, or differ from it
+abbrev pub compared : List Tree → List Viewed → Taken
+compared ts view = if is_view ts view then Table ts else Differs ts
+
+-- GET_ROSPECS's response with status 0 is compared with the view, which stays
+abbrev pub listed : Client → ℕ → List Tree → Result Taking Refusal
+listed c status ts = takes (if status == 0 then compared ts c.view else Reply status) (cleared c)
+
 -- CLOSE_CONNECTION's response closes, whatever its status
-abbrev pub take_response : Operation → Client → Pending → ℕ → Result Taking Refusal
-take_response Closing c p status = takes ConnectionEnded (closed (cleared c))
-take_response Adding c p status = replied c p status
-take_response Deleting c p status = replied c p status
-take_response Starting c p status = replied c p status
-take_response Stopping c p status = replied c p status
-take_response Enabling c p status = replied c p status
-take_response Disabling c p status = replied c p status
-take_response Configuring c p status = replied c p status
+abbrev pub take_response : Operation → Client → Pending → ℕ → List Tree → Result Taking Refusal
+take_response Closing c p status ts = takes ConnectionEnded (closed (cleared c))
+take_response Adding c p status ts = replied c p status
+take_response Deleting c p status ts = replied c p status
+take_response Starting c p status ts = replied c p status
+take_response Stopping c p status ts = replied c p status
+take_response Enabling c p status ts = replied c p status
+take_response Disabling c p status ts = replied c p status
+take_response Configuring c p status ts = replied c p status
+take_response Listing c p status ts = listed c status ts
 
 -- the response to the pending request is taken; any other is unexpected
-abbrev pub answered : Option Pending → Client → ℕ → Operation → ℕ → Result Taking Refusal
-answered None c id operation status = unexpected
-answered (Some p) c id operation status = if is_response_to p id operation then take_response operation c p status else unexpected
+abbrev pub answered : Option Pending → Client → ℕ → Operation → ℕ → List Tree → Result Taking Refusal
+answered None c id operation status ts = unexpected
+answered (Some p) c id operation status ts = if is_response_to p id operation then take_response operation c p status ts else unexpected
 
 -- ERROR_MESSAGE with the pending id: the request failed, and the view stays
 abbrev pub failed : Option Pending → Client → ℕ → ℕ → Result Taking Refusal
@@ -169,7 +201,7 @@ notified c false None = takes Note c
 notified c false (Some e) = takes (event_of (viewed_state e.id c.view) e) (moved c e)
 
 abbrev pub take_ready : Client → ℕ → Heard → Result Taking Refusal
-take_ready c id (HeardResponse operation status) = answered c.pending c id operation status
+take_ready c id (HeardResponse operation status ts) = answered c.pending c id operation status ts
 take_ready c id (HeardError status) = failed c.pending c id status
 take_ready c id (HeardReport tags) = takes (Tags tags) c
 take_ready c id HeardKeepalive = Ok (record { taken = Kept; sent = record { id = id; word = Acknowledges } ∷ []; client = c })

@@ -1,10 +1,10 @@
 -- The message that each word of a client is (LLRP 1.1, sections 11 to 17).
 use Rattle.std.specs.Prelude.{ℕ, List, [], ◌∷◌}
 use Rattle.llrp_schema.specs.declared.kinds.MsgKind.{MsgKind}
-use Rattle.llrp_schema.specs.declared.kinds.MsgKind.TheVariants.{AddRoSpec, DeleteRoSpec, StartRoSpec, StopRoSpec, EnableRoSpec, DisableRoSpec, SetReaderConfig, GetReport as GetReportMessage, CloseConnection, KeepaliveAck}
+use Rattle.llrp_schema.specs.declared.kinds.MsgKind.TheVariants.{AddRoSpec, DeleteRoSpec, StartRoSpec, StopRoSpec, EnableRoSpec, DisableRoSpec, GetRoSpecs, SetReaderConfig, GetReport as GetReportMessage, CloseConnection, KeepaliveAck}
 use Rattle.llrp_schema.specs.declared.kinds.ParamKind.TheVariants.{KeepaliveSpec as KeepaliveSpecParameter}
 use Rattle.llrp_tree.specs.Tree.{Tree, MessageTree, forest}
-use Rattle.llrp_session.specs.Words.{Add, Delete, Start, Stop, Enable, Disable, SetKeepalive, GetReport, Close, ClientWord, Asks, Acknowledges, ClientMessage, KeepaliveSpec, keepalive_each}
+use Rattle.llrp_session.specs.Words.{Add, Delete, Start, Stop, Enable, Disable, GetRospecs, SetKeepalive, GetReport, Close, ClientWord, Asks, Acknowledges, ClientMessage, KeepaliveSpec, keepalive_each}
 use Rattle.llrp_session.specs.ReaderMessages.{parameter}
 
 abbrev pub client_kind : ClientWord → MsgKind
@@ -14,6 +14,7 @@ client_kind (Asks (Start id)) = StartRoSpec
 client_kind (Asks (Stop id)) = StopRoSpec
 client_kind (Asks (Enable id)) = EnableRoSpec
 client_kind (Asks (Disable id)) = DisableRoSpec
+client_kind (Asks GetRospecs) = GetRoSpecs
 client_kind (Asks (SetKeepalive ms)) = SetReaderConfig
 client_kind (Asks GetReport) = GetReportMessage
 client_kind (Asks Close) = CloseConnection
@@ -27,6 +28,7 @@ client_fields (Asks (Start id)) = id ∷ []
 client_fields (Asks (Stop id)) = id ∷ []
 client_fields (Asks (Enable id)) = id ∷ []
 client_fields (Asks (Disable id)) = id ∷ []
+client_fields (Asks GetRospecs) = []
 client_fields (Asks (SetKeepalive ms)) = 0 ∷ []
 client_fields (Asks GetReport) = []
 client_fields (Asks Close) = []
@@ -42,6 +44,7 @@ client_parameters (Asks (Start id)) = []
 client_parameters (Asks (Stop id)) = []
 client_parameters (Asks (Enable id)) = []
 client_parameters (Asks (Disable id)) = []
+client_parameters (Asks GetRospecs) = []
 client_parameters (Asks (SetKeepalive ms)) = keepalive_parameter (keepalive_each ms) ∷ []
 client_parameters (Asks GetReport) = []
 client_parameters (Asks Close) = []

@@ -2,23 +2,12 @@
 use Rattle.std.specs.Prelude.{◌≡◌, ◌^◌, ◌<◌, ◌≤◌, ◌⊎◌, ℕ, List, [], ◌∷◌, length}
 use Rattle.llrp_schema.specs.declared.kinds.ParamKind.TheVariants.{RoSpec as RoSpecKind}
 use Rattle.llrp_tree.specs.Lawful.{IsLawful}
-use Rattle.llrp_session.specs.RoSpec.{RoSpec}
-use Rattle.llrp_session.specs.Table.{Entry}
 use Rattle.llrp_session.specs.TagReport.{Sighting, signed_octet}
-use Rattle.llrp_session.specs.Words.{Request, AddRoSpec, DeleteRoSpec, StartRoSpec, StopRoSpec, EnableRoSpec, DisableRoSpec, SetReaderConfig, GetReports, CloseConnection, NoRequest, Unsupported, Command, Add, Delete, Start, Stop, Enable, Disable, SetKeepalive, GetReport, Close, ReaderMessage, ClientMessage}
+use Rattle.llrp_session.specs.Words.{Request, AddRoSpec, DeleteRoSpec, StartRoSpec, StopRoSpec, EnableRoSpec, DisableRoSpec, GetRoSpecs, SetReaderConfig, GetReports, CloseConnection, NoRequest, Unsupported, Command, Add, Delete, Start, Stop, Enable, Disable, GetRospecs, SetKeepalive, GetReport, Close, ReaderMessage, ClientMessage}
 use Rattle.llrp_session.specs.ReaderMachine.{Reader, ReaderEvent, Connect, Take, TakeBad, Seen, Tick, most_held}
-use Rattle.llrp_session.specs.LawfulWords.{AreReports, IsLawfulReaderMessage, IsLawfulClientMessage}
+use Rattle.llrp_session.specs.LawfulWords.{AreReports, AreToldOf, FitsLimit, IsLawfulReaderMessage, IsLawfulClientMessage}
 
 -- ---- the reader
-
--- the numbers of a ROSpec that are told of it
-pub record IsToldOf (s : RoSpec) : Type 0 where
-  pub id : s.id < 2 ^ 32
-  pub inventory : s.inventory < 2 ^ 16
-
-abbrev pub AreToldOf : List Entry → Type 0
-AreToldOf [] = Unit {0}
-AreToldOf (e ∷ es) = IsToldOf e.spec × AreToldOf es
 
 pub record IsLawfulReader (r : Reader) : Type 0 where
   pub next_id : r.next_id < 2 ^ 32
@@ -26,6 +15,7 @@ pub record IsLawfulReader (r : Reader) : Type 0 where
   pub held : AreReports r.held
   pub few : length r.held ≤ most_held
   pub table : AreToldOf r.table
+  pub fits : FitsLimit r.limit r.table
 
 pub record IsLawfulSighting (g : Sighting) : Type 0 where
   pub antenna : g.antenna < 2 ^ 16
@@ -39,6 +29,7 @@ IsLawfulRequest (StartRoSpec id) = id < 2 ^ 32
 IsLawfulRequest (StopRoSpec id) = id < 2 ^ 32
 IsLawfulRequest (EnableRoSpec id) = id < 2 ^ 32
 IsLawfulRequest (DisableRoSpec id) = id < 2 ^ 32
+IsLawfulRequest GetRoSpecs = Unit {0}
 IsLawfulRequest (SetReaderConfig config) = Unit {0}
 IsLawfulRequest GetReports = Unit {0}
 IsLawfulRequest CloseConnection = Unit {0}
@@ -52,9 +43,9 @@ IsLawfulReaderEvent (TakeBad id reason) = id < 2 ^ 32
 IsLawfulReaderEvent (Seen g) = IsLawfulSighting g
 IsLawfulReaderEvent Tick = Unit {0}
 
-abbrev pub AreLawfulReaderMessages : List ReaderMessage → Type 0
-AreLawfulReaderMessages [] = Unit {0}
-AreLawfulReaderMessages (m ∷ ms) = IsLawfulReaderMessage m × AreLawfulReaderMessages ms
+abbrev pub AreLawfulReaderMessages : ℕ → List ReaderMessage → Type 0
+AreLawfulReaderMessages limit [] = Unit {0}
+AreLawfulReaderMessages limit (m ∷ ms) = IsLawfulReaderMessage limit m × AreLawfulReaderMessages limit ms
 
 -- ---- the client
 
@@ -65,6 +56,7 @@ IsGivenCommand (Start id) = id < 2 ^ 32
 IsGivenCommand (Stop id) = id < 2 ^ 32
 IsGivenCommand (Enable id) = id < 2 ^ 32
 IsGivenCommand (Disable id) = id < 2 ^ 32
+IsGivenCommand GetRospecs = Unit {0}
 IsGivenCommand (SetKeepalive ms) = ms < 2 ^ 32
 IsGivenCommand GetReport = Unit {0}
 IsGivenCommand Close = Unit {0}

@@ -4,7 +4,9 @@ use Rattle.llrp_schema.specs.declared.kinds.ParamKind.TheVariants.{RoSpec, TagRe
 use Rattle.llrp_tree.specs.declared.TheConstants.{MAX_LIMIT}
 use Rattle.llrp_tree.specs.Tree.{Tree, MessageTree}
 use Rattle.llrp_tree.specs.Lawful.{IsLawful, IsLawfulMessage, tree_octets, message_octets}
-use Rattle.llrp_session.specs.Words.{Command, Add, Delete, Start, Stop, Enable, Disable, SetKeepalive, GetReport, Close, ReaderWord, Response, Error, Report, KeepaliveSent, Accepted, Started, Ended, Overflowed, ReaderMessage, ClientWord, Asks, Acknowledges, ClientMessage}
+use Rattle.llrp_session.specs.RoSpec.{RoSpec as RoSpecRead}
+use Rattle.llrp_session.specs.Table.{Entry, octets_of}
+use Rattle.llrp_session.specs.Words.{Command, Add, Delete, Start, Stop, Enable, Disable, GetRospecs, SetKeepalive, GetReport, Close, ReaderWord, Response, Listed, Error, Report, KeepaliveSent, Accepted, Started, Ended, Overflowed, ReaderMessage, ClientWord, Asks, Acknowledges, ClientMessage}
 use Rattle.llrp_session.specs.ReaderMachine.{most_held}
 
 -- a message that may be sent: a lawful one, within the limit
@@ -27,20 +29,37 @@ abbrev pub AreReports : List Tree → Type 0
 AreReports [] = Unit {0}
 AreReports (t ∷ ts) = IsReport t × AreReports ts
 
-abbrev pub IsLawfulReaderWord : ReaderWord → Type 0
-IsLawfulReaderWord (Response operation status) = status < 2 ^ 16
-IsLawfulReaderWord (Error status) = status < 2 ^ 16
-IsLawfulReaderWord (Report tags) = AreReports tags × (length tags ≤ most_held)
-IsLawfulReaderWord KeepaliveSent = Unit {0}
-IsLawfulReaderWord (Accepted now) = now < 2 ^ 64
-IsLawfulReaderWord (Started now id) = (now < 2 ^ 64) × (id < 2 ^ 32)
-IsLawfulReaderWord (Ended now id) = (now < 2 ^ 64) × (id < 2 ^ 32)
-IsLawfulReaderWord (Overflowed now) = now < 2 ^ 64
+-- the numbers of a ROSpec that are written of it, and the ROSpec in which they are read
+pub record IsToldOf (s : RoSpecRead) : Type 0 where
+  pub id : s.id < 2 ^ 32
+  pub inventory : s.inventory < 2 ^ 16
+  pub kind : s.tree.kind ≡ RoSpec
+  pub lawful : IsLawful s.tree
+  pub octets : s.octets ≡ tree_octets s.tree
 
-pub record IsLawfulReaderMessage (m : ReaderMessage) : Type 0 where
+abbrev pub AreToldOf : List Entry → Type 0
+AreToldOf [] = Unit {0}
+AreToldOf (e ∷ es) = IsToldOf e.spec × AreToldOf es
+
+-- the ROSpecs of a table fit one message of this limit
+abbrev pub FitsLimit : ℕ → List Entry → Type 0
+FitsLimit limit table = 18 + octets_of table ≤ limit
+
+abbrev pub IsLawfulReaderWord : ℕ → ReaderWord → Type 0
+IsLawfulReaderWord limit (Response operation status) = status < 2 ^ 16
+IsLawfulReaderWord limit (Listed table) = AreToldOf table × FitsLimit limit table
+IsLawfulReaderWord limit (Error status) = status < 2 ^ 16
+IsLawfulReaderWord limit (Report tags) = AreReports tags × (length tags ≤ most_held)
+IsLawfulReaderWord limit KeepaliveSent = Unit {0}
+IsLawfulReaderWord limit (Accepted now) = now < 2 ^ 64
+IsLawfulReaderWord limit (Started now id) = (now < 2 ^ 64) × (id < 2 ^ 32)
+IsLawfulReaderWord limit (Ended now id) = (now < 2 ^ 64) × (id < 2 ^ 32)
+IsLawfulReaderWord limit (Overflowed now) = now < 2 ^ 64
+
+pub record IsLawfulReaderMessage (limit : ℕ) (m : ReaderMessage) : Type 0 where
   pub version : (m.version ≡ 1) ⊎ (m.version ≡ 2)
   pub id : m.id < 2 ^ 32
-  pub word : IsLawfulReaderWord m.word
+  pub word : IsLawfulReaderWord limit m.word
 
 -- ---- the words of a client
 
@@ -57,6 +76,7 @@ IsLawfulCommand limit (Start id) = id < 2 ^ 32
 IsLawfulCommand limit (Stop id) = id < 2 ^ 32
 IsLawfulCommand limit (Enable id) = id < 2 ^ 32
 IsLawfulCommand limit (Disable id) = id < 2 ^ 32
+IsLawfulCommand limit GetRospecs = Unit {0}
 IsLawfulCommand limit (SetKeepalive ms) = ms < 2 ^ 32
 IsLawfulCommand limit GetReport = Unit {0}
 IsLawfulCommand limit Close = Unit {0}

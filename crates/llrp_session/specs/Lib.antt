@@ -15,6 +15,7 @@ pub mod ReaderMessages
 pub mod ClientMessages
 pub mod Reading
 pub mod MessageWorld
+pub mod Settings
 pub mod ReadWords
 pub mod MessageAgreement
 pub mod ReaderSteps

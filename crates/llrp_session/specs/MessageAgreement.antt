@@ -3,14 +3,14 @@ use Rattle.std.specs.Prelude.{◌≡◌, ◌≤◌, ◌⊎◌, ℕ, Bool, true, 
 use Rattle.llrp_tree.specs.Tree.{MessageTree}
 use Rattle.llrp_session.specs.RoSpec.{rospec_of}
 use Rattle.llrp_session.specs.Table.{states, active_count}
-use Rattle.llrp_session.specs.Words.{Adding, Deleting, Starting, Stopping, Enabling, Disabling, Configuring, Closing, Request, AddRoSpec, DeleteRoSpec, StartRoSpec, StopRoSpec, EnableRoSpec, DisableRoSpec, SetReaderConfig, GetReports, CloseConnection, NoRequest, Unsupported, Heard, HeardResponse, HeardError}
+use Rattle.llrp_session.specs.Words.{Adding, Deleting, Starting, Stopping, Enabling, Disabling, Listing, Configuring, Closing, Request, AddRoSpec, DeleteRoSpec, StartRoSpec, StopRoSpec, EnableRoSpec, DisableRoSpec, GetRoSpecs, SetReaderConfig, GetReports, CloseConnection, NoRequest, Unsupported, Heard, HeardResponse, HeardError}
 use Rattle.llrp_session.specs.ReaderMachine.{ReaderEvent}
 use Rattle.llrp_session.specs.Sightings.{tags_of, history, no_history}
 use Rattle.llrp_session.specs.ClientMachine.{Client, Pending, take, waits_for}
 use Rattle.llrp_session.specs.World.{WorldEvent}
 use Rattle.llrp_session.specs.Agreement.{and_then, IsTaken, as_list}
 use Rattle.llrp_session.specs.Reading.{request_of, heard_of}
-use Rattle.llrp_session.specs.MessageWorld.{MessageWorld, tags_in_messages, run_messages, message_opening, AreOfRoSpecs}
+use Rattle.llrp_session.specs.MessageWorld.{MessageWorld, tags_in_messages, tables_in_messages, run_messages, message_opening, AreOfRoSpecs}
 
 -- what holds after every list of events, from two ends as new, if what a client adds is always a ROSpec
 abbrev pub AfterAllMessages : (MessageWorld → Type 0) → Type 0
@@ -29,7 +29,7 @@ ViewCatchesUp w = (c : Client) × (messages_taken_in w.down w.client ≡ Some c)
 abbrev pub ViewIsTable : MessageWorld → Type 0
 ViewIsTable w = w.down ≡ [] → w.client.view ≡ states w.reader.table
 
--- (b) the reports handed out, followed by those on the way down, are the reports sent, in order, each once
+-- (b) the reports delivered, followed by those on the way down, are the reports sent, in order, each once
 abbrev pub ReportsArrive : MessageWorld → Type 0
 ReportsArrive w = w.handed_out ++ tags_in_messages w.down ≡ w.reported
 
@@ -69,6 +69,7 @@ awaited_of id (StartRoSpec n) = waits_for id Starting n
 awaited_of id (StopRoSpec n) = waits_for id Stopping n
 awaited_of id (EnableRoSpec n) = waits_for id Enabling n
 awaited_of id (DisableRoSpec n) = waits_for id Disabling n
+awaited_of id GetRoSpecs = waits_for id Listing 0
 awaited_of id (SetReaderConfig config) = waits_for id Configuring 0
 awaited_of id GetReports = None
 awaited_of id CloseConnection = waits_for id Closing 0
@@ -81,7 +82,7 @@ requests_in [] = []
 requests_in (m ∷ ms) = as_list (awaited_of m.id (request_of m)) ++ requests_in ms
 
 abbrev pub hears_response : Heard → Bool
-hears_response (HeardResponse operation status) = true
+hears_response (HeardResponse operation status ts) = true
 hears_response (HeardError status) = true
 hears_response _ = false
 
@@ -95,10 +96,20 @@ IsOnTheWay None up down = (requests_in up ≡ []) × (responses_in down ≡ [])
 IsOnTheWay (Some p) up down =
     ((requests_in up ≡ p ∷ []) × (responses_in down ≡ [])) ⊎ ((requests_in up ≡ []) × (responses_in down ≡ p.id ∷ []))
 
--- (e) the pending request stands on the way up, or its one response on the way down, never both; without one neither does any
+-- (e) the pending request is on the way up, or its one response on the way down, never both; without one neither does any
 abbrev pub PendingIsOnTheWay : MessageWorld → Type 0
 PendingIsOnTheWay w = IsOnTheWay w.client.pending w.up w.down
 
 -- with nothing on the way nothing is pending
 abbrev pub NothingIsPending : MessageWorld → Type 0
 NothingIsPending w = w.up ≡ [] → w.down ≡ [] → w.client.pending ≡ None
+
+-- ---- the reader's table
+
+-- (f) the tables that the client took, followed by those on the way down, are the reader's table as it was at each GET_ROSPECS, in order
+abbrev pub TablesArrive : MessageWorld → Type 0
+TablesArrive w = w.tables ++ tables_in_messages w.down ≡ w.listed
+
+-- the client never took one that differs from its view
+abbrev pub NoneDiffers : MessageWorld → Type 0
+NoneDiffers w = w.differing ≡ []

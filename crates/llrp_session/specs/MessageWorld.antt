@@ -6,7 +6,7 @@ use Rattle.llrp_session.specs.Refusal.{Refusal}
 use Rattle.llrp_session.specs.ReaderMachine.{Reader, Turn, ReaderEvent, Connect, Take, Seen, Tick, next, new_reader}
 use Rattle.llrp_session.specs.Sightings.{kept_by}
 use Rattle.llrp_session.specs.ClientMachine.{Client, Sending, Taking, command, take, new_client}
-use Rattle.llrp_session.specs.World.{World, WorldEvent, Connects, Commands, DeliversUp, DeliversDown, Sees, Ticks, tags_handed_out}
+use Rattle.llrp_session.specs.World.{World, WorldEvent, Connects, Commands, DeliversUp, DeliversDown, Sees, Ticks, table_heard, listed_by, tags_handed_out, tables_shown, tables_differing}
 use Rattle.llrp_session.specs.ReaderMessages.{reader_message}
 use Rattle.llrp_session.specs.ClientMessages.{client_message}
 use Rattle.llrp_session.specs.Reading.{request_of, heard_of}
@@ -18,9 +18,12 @@ pub record MessageWorld : Type 0 where
   pub client : Client
   pub up : List MessageTree  -- on the way to the reader
   pub down : List MessageTree  -- on the way to the client
-  pub handed_out : List Tree  -- the TagReportData that the client handed out
+  pub handed_out : List Tree  -- the TagReportData that the client delivered
   pub reported : List Tree  -- those in the messages that the reader sent
   pub kept : List Tree  -- those of the sightings that counted and were not dropped
+  pub tables : List (List Tree)  -- the ROSpecs of each table that the client took for its view
+  pub differing : List (List Tree)  -- those of each that it took for another
+  pub listed : List (List Tree)  -- those of the reader's table at each GET_ROSPECS that it took
 
 abbrev pub tags_heard : Heard → List Tree
 tags_heard (HeardReport tags) = tags
@@ -31,18 +34,24 @@ unfoldable pub tags_in_messages : List MessageTree → List Tree
 tags_in_messages [] = []
 tags_in_messages (m ∷ ms) = tags_heard (heard_of m) ++ tags_in_messages ms
 
+-- the tables in messages, in order
+unfoldable pub tables_in_messages : List MessageTree → List (List Tree)
+tables_in_messages [] = []
+tables_in_messages (m ∷ ms) = table_heard (heard_of m) ++ tables_in_messages ms
+
 -- a refused event changes no end
-abbrev pub stepped : Result Turn Refusal → List Tree → MessageWorld → MessageWorld
-stepped (Err refusal) kept w = w
-stepped (Ok t) kept w = record w {
+abbrev pub stepped : Result Turn Refusal → List Tree → List (List Tree) → MessageWorld → MessageWorld
+stepped (Err refusal) kept listed w = w
+stepped (Ok t) kept listed w = record w {
   reader = t.reader;
   down = w.down ++ map reader_message t.sent;
   reported = w.reported ++ tags_in_messages (map reader_message t.sent);
   kept = w.kept ++ kept;
+  listed = w.listed ++ listed;
 }
 
 abbrev pub reader_does : ℕ → ReaderEvent → MessageWorld → MessageWorld
-reader_does now e w = stepped (next now e w.reader) (kept_by now e w.reader) w
+reader_does now e w = stepped (next now e w.reader) (kept_by now e w.reader) (listed_by e w.reader) w
 
 abbrev pub commanded : Result Sending Refusal → MessageWorld → MessageWorld
 commanded (Err refusal) w = w
@@ -50,7 +59,13 @@ commanded (Ok s) w = record w { client = s.client; up = w.up ++ client_message s
 
 abbrev pub took : Result Taking Refusal → MessageWorld → MessageWorld
 took (Err refusal) w = w
-took (Ok k) w = record w { client = k.client; up = w.up ++ map client_message k.sent; handed_out = w.handed_out ++ tags_handed_out k.taken }
+took (Ok k) w = record w {
+  client = k.client;
+  up = w.up ++ map client_message k.sent;
+  handed_out = w.handed_out ++ tags_handed_out k.taken;
+  tables = w.tables ++ tables_shown k.taken;
+  differing = w.differing ++ tables_differing k.taken;
+}
 
 abbrev pub delivered_up : ℕ → List MessageTree → MessageWorld → MessageWorld
 delivered_up now [] w = w
@@ -82,6 +97,9 @@ message_opening limit reader_first client_first = record {
   handed_out = [];
   reported = [];
   kept = [];
+  tables = [];
+  differing = [];
+  listed = [];
 }
 
 -- ---- the law
@@ -96,6 +114,9 @@ in_messages w = record {
   handed_out = w.handed_out;
   reported = w.reported;
   kept = w.kept;
+  tables = w.tables;
+  differing = w.differing;
+  listed = w.listed;
 }
 
 abbrev pub IsOfRoSpecs : WorldEvent → Type 0

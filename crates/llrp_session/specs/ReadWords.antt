@@ -6,33 +6,18 @@ use Rattle.llrp_schema.specs.declared.kinds.Kind.TheVariants.{Parameter}
 use Rattle.llrp_schema.specs.Schema.{FieldRule, plain_fields_of}
 use Rattle.llrp_tree.specs.Tree.{Tree, MessageTree, trees}
 use Rattle.llrp_tree.specs.Lawful.{IsLawful}
-use Rattle.llrp_session.specs.RoSpec.{RoSpec, rospec_of}
+use Rattle.llrp_session.specs.RoSpec.{rospec_of}
 use Rattle.llrp_session.specs.Words as words
-use Rattle.llrp_session.specs.declared.reading.words.Settings.{Settings}
+use Rattle.llrp_session.specs.Reading.{rospecs_in}
+use Rattle.llrp_session.specs.Settings.{settings_of}
 use Rattle.llrp_session.specs.declared.reading.words.KeepaliveSpec.{KeepaliveSpec}
 use Rattle.llrp_session.specs.declared.reading.words.Config.{Config}
 use Rattle.llrp_session.specs.declared.reading.words.RoSpecChange.{RoSpecChange}
 use Rattle.llrp_session.specs.declared.reading.words.Notification.{Notification}
 use Rattle.llrp_session.specs.declared.reading.words.Request.{Request}
-use Rattle.llrp_session.specs.declared.reading.words.Request.TheVariants.{AddRoSpec, DeleteRoSpec, StartRoSpec, StopRoSpec, EnableRoSpec, DisableRoSpec, SetReaderConfig, GetReports, CloseConnection, NoRequest, Unsupported}
+use Rattle.llrp_session.specs.declared.reading.words.Request.TheVariants.{AddRoSpec, DeleteRoSpec, StartRoSpec, StopRoSpec, EnableRoSpec, DisableRoSpec, GetRoSpecs, SetReaderConfig, GetReports, CloseConnection, NoRequest, Unsupported}
 use Rattle.llrp_session.specs.declared.reading.words.Heard.{Heard}
 use Rattle.llrp_session.specs.declared.reading.words.Heard.TheVariants.{Response, Error, Report, Keepalive, Notified, Other}
-
--- ---- ROSpecs
-
--- what is read in a ROSpec, all but its antennas
-abbrev pub settings_of : RoSpec → Settings
-settings_of s = record {
-  id = s.id;
-  current_state = s.current_state;
-  start_trigger = s.start_trigger;
-  stop_trigger = s.stop_trigger;
-  duration = s.duration;
-  has_ai_stop = s.has_ai_stop;
-  inventory = s.inventory;
-  report = s.report;
-  octets = s.octets;
-}
 
 -- ---- requests
 
@@ -51,6 +36,7 @@ IsRequest (StartRoSpec id) q = q ≡ words.StartRoSpec id
 IsRequest (StopRoSpec id) q = q ≡ words.StopRoSpec id
 IsRequest (EnableRoSpec id) q = q ≡ words.EnableRoSpec id
 IsRequest (DisableRoSpec id) q = q ≡ words.DisableRoSpec id
+IsRequest GetRoSpecs q = q ≡ words.GetRoSpecs
 IsRequest (SetReaderConfig k) q = q ≡ words.SetReaderConfig (config_by k)
 IsRequest GetReports q = q ≡ words.GetReports
 IsRequest CloseConnection q = q ≡ words.CloseConnection
@@ -66,9 +52,9 @@ change_by (Some e) = Some (record { event = e.event; id = e.id })
 abbrev pub notification_by : Notification → words.Notification
 notification_by n = record { attempt = n.attempt; closes = n.closes; rospec = change_by n.rospec }
 
--- what the code hears in a message; the TagReportData stay in it
+-- what the code hears in a message; the TagReportData and the ROSpecs stay in it
 abbrev pub heard_by : MessageTree → Heard → words.Heard
-heard_by m (Response operation status) = words.HeardResponse operation status
+heard_by m (Response operation status) = words.HeardResponse operation status (rospecs_in m.children)
 heard_by m (Error status) = words.HeardError status
 heard_by m Report = words.HeardReport (trees m.children)
 heard_by m Keepalive = words.HeardKeepalive
@@ -77,7 +63,7 @@ heard_by m Other = words.HeardOther
 
 -- ---- parameters that are looked for
 
--- the parameter behind a reference
+-- the parameter after a reference
 abbrev pub behind : Option (Bor Tree) → Option Tree
 behind None = None
 behind (Some b) = Some b.now

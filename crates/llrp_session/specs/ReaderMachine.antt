@@ -1,4 +1,4 @@
--- The simulated reader. Moments are in microseconds, and are handed in.
+-- The simulated reader. Moments are in microseconds, and are given to it.
 use Rattle.std.specs.Prelude.{ℕ, ◌+◌, ◌-◌, ◌*◌, ◌==◌, min, nat_lt, nat_le, Bool, true, false, not, ◌||◌, ◌&&◌, List, [], ◌∷◌, ◌++◌, length, Option, None, Some, is_some, is_none, Result, Ok, Err, if◌then◌else◌}
 use Rattle.std.specs.List.{list_any}
 use Rattle.llrp_tree.specs.Tree.{Tree}
@@ -7,7 +7,7 @@ use Rattle.llrp_tree.specs.declared.fault.Reason.TheVariants.{Reserved, Version,
 use Rattle.llrp_session.specs.RoSpec.{RoSpec, ReportSpec, rospec_of}
 use Rattle.llrp_session.specs.Table.{Entry, RoState, Inactive, Active, is_inactive, is_active, names, enabling, disabling, setting, change, without, enter, state_of, octets_of, active, first_immediate}
 use Rattle.llrp_session.specs.TagReport.{Sighting, tag_report}
-use Rattle.llrp_session.specs.Words.{Adding, Deleting, Starting, Stopping, Enabling, Disabling, Configuring, Closing, KeepaliveSpec, Config, Request, AddRoSpec, DeleteRoSpec, StartRoSpec, StopRoSpec, EnableRoSpec, DisableRoSpec, SetReaderConfig, GetReports, CloseConnection, NoRequest, Unsupported, ReaderWord, Response, Error, Report, KeepaliveSent, Accepted, Started, Ended, Overflowed, ReaderMessage}
+use Rattle.llrp_session.specs.Words.{Adding, Deleting, Starting, Stopping, Enabling, Disabling, Configuring, Closing, KeepaliveSpec, Config, Request, AddRoSpec, DeleteRoSpec, StartRoSpec, StopRoSpec, EnableRoSpec, DisableRoSpec, GetRoSpecs, SetReaderConfig, GetReports, CloseConnection, NoRequest, Unsupported, ReaderWord, Response, Listed, Error, Report, KeepaliveSent, Accepted, Started, Ended, Overflowed, ReaderMessage}
 use Rattle.llrp_session.specs.Refusal.{Refusal, Closed, NotConnected, AlreadyUp}
 pub use Rattle.llrp_session.specs.declared.words.ReaderPhase.{ReaderPhase}
 pub use Rattle.llrp_session.specs.declared.words.ReaderPhase.TheVariants.{Waiting, Up, Down}
@@ -237,9 +237,13 @@ stop_rospec now version id n t =
     then reply version id (Response Stopping success) (end_if (λ s. s.id == n) now (active t.reader.table) t)
     else reply version id (Response Stopping field_error) t
 
+-- GET_ROSPECS: each ROSpec of the table is listed with its present state
+abbrev pub list_rospecs : ℕ → ℕ → Turn → Turn
+list_rospecs version id t = reply version id (Listed t.reader.table) t
+
 -- ---- settings
 
--- a moment so many milliseconds later; it stops at the greatest u64
+-- a moment this many milliseconds later; it stops at the greatest u64
 abbrev pub later : ℕ → ℕ → ℕ
 later now ms = min (now + 1000 * ms) 18446744073709551615
 
@@ -274,7 +278,7 @@ set_reader_config now version id k t =
     then reply version id (Response Configuring field_error) t
     else reply version id (Response Configuring success) (with_reader (configured now k t.reader) t)
 
--- CLOSE_CONNECTION: the table stays, and no end is told
+-- CLOSE_CONNECTION: the table stays, and no end is reported
 abbrev pub close_connection : ℕ → ℕ → Turn → Turn
 close_connection version id t =
     reply version id (Response Closing success) (with_reader (record t.reader { phase = Down }) t)
@@ -287,6 +291,7 @@ serve now version id (EnableRoSpec n) t = enable_rospec now version id n t
 serve now version id (DisableRoSpec n) t = disable_rospec now version id n t
 serve now version id (StartRoSpec n) t = start_rospec now version id n t
 serve now version id (StopRoSpec n) t = stop_rospec now version id n t
+serve now version id GetRoSpecs t = list_rospecs version id t
 serve now version id (SetReaderConfig k) t = set_reader_config now version id k t
 serve now version id GetReports t = send_held t
 serve now version id CloseConnection t = close_connection version id t
@@ -295,7 +300,7 @@ serve now version id Unsupported t = reply version id (Error unsupported_message
 
 -- ---- frames that are no message
 
--- the status that is told of a frame by its fault
+-- the status that answers a frame, by its fault
 abbrev pub fault_status : Reason → ℕ
 fault_status Version = unsupported_version
 fault_status MessageType = unsupported_message
@@ -323,7 +328,7 @@ abbrev pub counting : Sighting → Option RoSpec → Option RoSpec
 counting g None = None
 counting g (Some s) = if lists_antenna g.antenna s.antennas then Some s else None
 
--- so many are held that they are sent
+-- enough are held for them to be sent
 abbrev pub is_enough : ReportSpec → ℕ → Bool
 is_enough p count = sends_unasked p && (nat_lt 0 p.n && nat_le p.n count)
 

@@ -1,11 +1,12 @@
 -- The message that each word of a reader is (LLRP 1.1, sections 11 to 17).
 use Rattle.std.specs.Prelude.{ℕ, List, [], ◌∷◌}
 use Rattle.llrp_schema.specs.declared.kinds.MsgKind.{MsgKind}
-use Rattle.llrp_schema.specs.declared.kinds.MsgKind.TheVariants.{CloseConnectionResponse, SetReaderConfigResponse, AddRoSpecResponse, DeleteRoSpecResponse, StartRoSpecResponse, StopRoSpecResponse, EnableRoSpecResponse, DisableRoSpecResponse, RoAccessReport, Keepalive, ReaderEventNotification, ErrorMessage}
+use Rattle.llrp_schema.specs.declared.kinds.MsgKind.TheVariants.{CloseConnectionResponse, SetReaderConfigResponse, AddRoSpecResponse, DeleteRoSpecResponse, StartRoSpecResponse, StopRoSpecResponse, EnableRoSpecResponse, DisableRoSpecResponse, GetRoSpecsResponse, RoAccessReport, Keepalive, ReaderEventNotification, ErrorMessage}
 use Rattle.llrp_schema.specs.declared.kinds.ParamKind.{ParamKind}
 use Rattle.llrp_schema.specs.declared.kinds.ParamKind.TheVariants.{LlrpStatus, ReaderEventNotificationData, UtcTimestamp, RoSpecEvent, ReportBufferOverflowErrorEvent, ConnectionAttemptEvent}
 use Rattle.llrp_tree.specs.Tree.{Tree, MessageTree, forest}
-use Rattle.llrp_session.specs.Words.{Operation, Adding, Deleting, Starting, Stopping, Enabling, Disabling, Configuring, Closing, ReaderWord, Response, Error, Report, KeepaliveSent, Accepted, Started, Ended, Overflowed, ReaderMessage}
+use Rattle.llrp_session.specs.Table.{listing}
+use Rattle.llrp_session.specs.Words.{Operation, Adding, Deleting, Starting, Stopping, Enabling, Disabling, Listing, Configuring, Closing, ReaderWord, Response, Listed, Error, Report, KeepaliveSent, Accepted, Started, Ended, Overflowed, ReaderMessage}
 
 -- a parameter of these fields and children; it has no tail, or an empty one
 abbrev pub parameter : ParamKind → List ℕ → List Tree → Tree
@@ -31,11 +32,13 @@ response_kind Starting = StartRoSpecResponse
 response_kind Stopping = StopRoSpecResponse
 response_kind Enabling = EnableRoSpecResponse
 response_kind Disabling = DisableRoSpecResponse
+response_kind Listing = GetRoSpecsResponse
 response_kind Configuring = SetReaderConfigResponse
 response_kind Closing = CloseConnectionResponse
 
 abbrev pub reader_kind : ReaderWord → MsgKind
 reader_kind (Response operation status) = response_kind operation
+reader_kind (Listed table) = GetRoSpecsResponse
 reader_kind (Error status) = ErrorMessage
 reader_kind (Report tags) = RoAccessReport
 reader_kind KeepaliveSent = Keepalive
@@ -46,6 +49,7 @@ reader_kind (Overflowed now) = ReaderEventNotification
 
 abbrev pub reader_parameters : ReaderWord → List Tree
 reader_parameters (Response operation status) = status_parameter status ∷ []
+reader_parameters (Listed table) = status_parameter 0 ∷ listing table
 reader_parameters (Error status) = status_parameter status ∷ []
 reader_parameters (Report tags) = tags
 reader_parameters KeepaliveSent = []

@@ -1,9 +1,10 @@
 -- What the parts of the reader's code have to do with the machine.
 use Rattle.std.specs.Prelude.{◌≡◌, ℕ, ◌≤◌, ◌+◌, ◌==◌, nat_lt, ◌⊎◌, Bool, ◌&&◌, List, [], ◌∷◌, length, Option, None, Some, is_none, if◌then◌else◌}
+use Rattle.llrp_tree.specs.declared.TheConstants.{MAX_LIMIT}
 use Rattle.llrp_tree.specs.Tree.{Tree}
 use Rattle.llrp_session.specs.RoSpec.{RoSpec}
-use Rattle.llrp_session.specs.Table.{Entry, RoState, is_disabled, names, enabling, disabling, setting, octets_of, active, first_immediate}
-use Rattle.llrp_session.specs.LawfulWords.{AreReports}
+use Rattle.llrp_session.specs.Table.{Entry, RoState, is_disabled, names, enabling, disabling, setting, active, first_immediate}
+use Rattle.llrp_session.specs.LawfulWords.{AreReports, FitsLimit}
 use Rattle.llrp_session.specs.Words.{ReaderMessage, Ended}
 use Rattle.llrp_session.specs.ReaderMachine.{Reader, Turn, most_held, following, sends_at_end, begun, end}
 use Rattle.llrp_session.specs.ReaderMessages.{reader_message}
@@ -15,11 +16,11 @@ use Rattle.llrp_session.specs.declared.reading.words.Request.TheVariants.{AddRoS
 
 -- ---- the fields of a reader
 
--- the version is one of LLRP's, the ROSpecs fit one message, and the reports are few and short
+-- the version is one of LLRP's, the ROSpecs fit one message, which is no longer than any may be, and the reports are few and short
 pub record IsKept (v most : ℕ) (table : List Entry) (held : List Tree) : Type 0 where
   pub version : (v ≡ 1) ⊎ (v ≡ 2)
-  pub limit : 18 ≤ most
-  pub octets : octets_of table ≤ most
+  pub limit : most ≤ MAX_LIMIT
+  pub octets : FitsLimit most table
   pub reports : AreReports held
   pub few : length held ≤ most_held
 

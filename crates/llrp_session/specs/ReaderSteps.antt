@@ -11,7 +11,7 @@ use Rattle.llrp_session.specs.declared.reader.events.ReaderIn.TheVariants as cod
 use Rattle.llrp_session.specs.declared.reader.events.StepFault.{StepFault}
 use Rattle.llrp_session.specs.declared.reader.events.StepFault.TheVariants as faults
 
--- the event that is handed in: a message stands for its version, its id and the request that is read in it
+-- the event that is given: a message stands for its version, its id and the request that is read in it
 abbrev pub event_of : ReaderIn → ReaderEvent
 event_of code.Connect = Connect
 event_of (code.Take m) = Take m.version m.id (request_of m)
@@ -19,12 +19,12 @@ event_of (code.TakeBad id reason) = TakeBad id reason
 event_of (code.Seen g) = Seen g
 event_of code.Tick = Tick
 
--- where a turn stands: its messages were appended to those before, and the reader is the turn's
+-- the state of a turn: its messages were appended to those before, and the reader is the turn's
 pub record Stands (before : List MessageTree) (t : Turn) (after : List MessageTree) (r : Reader) : Type 0 where
   pub sent : after ≡ before ++ map reader_message t.sent
   pub reader : r ≡ t.reader
 
--- there is a turn, and it stands
+-- there is a turn in such a state
 abbrev pub Turns : Result Turn Refusal → List MessageTree → List MessageTree → Reader → Type 0
 Turns (Err refusal) before after r = ⊥
 Turns (Ok turn) before after r = Stands before turn after r

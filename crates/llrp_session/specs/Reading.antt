@@ -4,8 +4,8 @@ use Rattle.llrp_schema.specs.declared.kinds.MsgKind.{MsgKind}
 use Rattle.llrp_schema.specs.declared.kinds.MsgKind.TheVariants as kinds
 use Rattle.llrp_schema.specs.declared.kinds.ParamKind.TheVariants.{RoSpec, KeepaliveSpec as KeepaliveSpecParameter, LlrpStatus, ReaderEventNotificationData, ConnectionAttemptEvent, ConnectionCloseEvent, RoSpecEvent}
 use Rattle.llrp_tree.specs.Tree.{Tree, Forest, MessageTree, trees}
-use Rattle.llrp_session.specs.RoSpec.{first_in, first_below, field, report_spec_in}
-use Rattle.llrp_session.specs.Words.{Adding, Deleting, Starting, Stopping, Enabling, Disabling, Configuring, Closing, KeepaliveSpec, Config, Request, AddRoSpec, DeleteRoSpec, StartRoSpec, StopRoSpec, EnableRoSpec, DisableRoSpec, SetReaderConfig, GetReports, CloseConnection, NoRequest, Unsupported, RoSpecChange, Notification, Heard, HeardResponse, HeardError, HeardReport, HeardKeepalive, HeardNotification, HeardOther}
+use Rattle.llrp_session.specs.RoSpec.{first_in, all_in, first_below, field, report_spec_in}
+use Rattle.llrp_session.specs.Words.{Adding, Deleting, Starting, Stopping, Enabling, Disabling, Listing, Configuring, Closing, KeepaliveSpec, Config, Request, AddRoSpec, DeleteRoSpec, StartRoSpec, StopRoSpec, EnableRoSpec, DisableRoSpec, GetRoSpecs, SetReaderConfig, GetReports, CloseConnection, NoRequest, Unsupported, RoSpecChange, Notification, Heard, HeardResponse, HeardError, HeardReport, HeardKeepalive, HeardNotification, HeardOther}
 
 -- ---- what a reader reads
 
@@ -34,6 +34,7 @@ request_in kinds.StartRoSpec fields row = StartRoSpec (slice_index fields 0)
 request_in kinds.StopRoSpec fields row = StopRoSpec (slice_index fields 0)
 request_in kinds.EnableRoSpec fields row = EnableRoSpec (slice_index fields 0)
 request_in kinds.DisableRoSpec fields row = DisableRoSpec (slice_index fields 0)
+request_in kinds.GetRoSpecs fields row = GetRoSpecs
 request_in kinds.SetReaderConfig fields row = SetReaderConfig (config_in fields row)
 request_in kinds.GetReport fields row = GetReports
 request_in kinds.CloseConnection fields row = CloseConnection
@@ -52,6 +53,10 @@ request_of m = request_in m.kind m.fields m.children
 abbrev pub status_in : Forest → ℕ
 status_in row = field 0 (first_in LlrpStatus row)
 
+-- the ROSpecs that a response lists
+abbrev pub rospecs_in : Forest → List Tree
+rospecs_in row = all_in RoSpec row
+
 abbrev pub attempt_where : Option Tree → Option ℕ
 attempt_where None = None
 attempt_where (Some t) = Some (slice_index t.fields 0)
@@ -60,7 +65,7 @@ abbrev pub change_where : Option Tree → Option RoSpecChange
 change_where None = None
 change_where (Some t) = Some (record { event = slice_index t.fields 0; id = slice_index t.fields 1 })
 
--- what ReaderEventNotificationData tells
+-- what ReaderEventNotificationData says
 abbrev pub notification_where : Option Tree → Notification
 notification_where data_parameter = record {
   attempt = attempt_where (first_below ConnectionAttemptEvent data_parameter);
@@ -70,14 +75,15 @@ notification_where data_parameter = record {
 
 -- a message of this kind, with these parameters
 abbrev pub heard_in : MsgKind → Forest → Heard
-heard_in kinds.AddRoSpecResponse row = HeardResponse Adding (status_in row)
-heard_in kinds.DeleteRoSpecResponse row = HeardResponse Deleting (status_in row)
-heard_in kinds.StartRoSpecResponse row = HeardResponse Starting (status_in row)
-heard_in kinds.StopRoSpecResponse row = HeardResponse Stopping (status_in row)
-heard_in kinds.EnableRoSpecResponse row = HeardResponse Enabling (status_in row)
-heard_in kinds.DisableRoSpecResponse row = HeardResponse Disabling (status_in row)
-heard_in kinds.SetReaderConfigResponse row = HeardResponse Configuring (status_in row)
-heard_in kinds.CloseConnectionResponse row = HeardResponse Closing (status_in row)
+heard_in kinds.AddRoSpecResponse row = HeardResponse Adding (status_in row) (rospecs_in row)
+heard_in kinds.DeleteRoSpecResponse row = HeardResponse Deleting (status_in row) (rospecs_in row)
+heard_in kinds.StartRoSpecResponse row = HeardResponse Starting (status_in row) (rospecs_in row)
+heard_in kinds.StopRoSpecResponse row = HeardResponse Stopping (status_in row) (rospecs_in row)
+heard_in kinds.EnableRoSpecResponse row = HeardResponse Enabling (status_in row) (rospecs_in row)
+heard_in kinds.DisableRoSpecResponse row = HeardResponse Disabling (status_in row) (rospecs_in row)
+heard_in kinds.GetRoSpecsResponse row = HeardResponse Listing (status_in row) (rospecs_in row)
+heard_in kinds.SetReaderConfigResponse row = HeardResponse Configuring (status_in row) (rospecs_in row)
+heard_in kinds.CloseConnectionResponse row = HeardResponse Closing (status_in row) (rospecs_in row)
 heard_in kinds.ErrorMessage row = HeardError (status_in row)
 heard_in kinds.RoAccessReport row = HeardReport (trees row)
 heard_in kinds.Keepalive row = HeardKeepalive

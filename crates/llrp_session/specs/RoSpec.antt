@@ -79,6 +79,7 @@ report_spec_in row = report_spec_where (first_in RoReportSpec row)
 -- ---- ROSpec
 
 pub record RoSpec : Type 0 where
+  pub tree : Tree  -- the ROSpec as it was added
   pub id : ℕ
   pub current_state : ℕ
   pub start_trigger : ℕ
@@ -98,6 +99,7 @@ rospec_of t =
     let boundary = first_of RoBoundarySpec t in
     let ai_spec = first_of AiSpec t in
     record {
+      tree = t;
       id = field 0 (Some t);
       current_state = field 2 (Some t);
       start_trigger = field 0 (first_below RoSpecStartTrigger boundary);

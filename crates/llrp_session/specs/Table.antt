@@ -1,6 +1,8 @@
 -- ROSpecs with their states, in rising order of their ids: a reader's table, and a client's view of it.
 use Rattle.std.specs.Prelude.{ℕ, ◌<◌, suc, ◌+◌, ◌==◌, nat_lt, Bool, true, false, ◌||◌, ◌&&◌, List, [], ◌∷◌, Option, None, Some, if◌then◌else◌}
-use Rattle.llrp_session.specs.RoSpec.{RoSpec}
+use Rattle.llrp_schema.specs.declared.kinds.ParamKind.TheVariants.{RoSpec as RoSpecKind}
+use Rattle.llrp_tree.specs.Tree.{Tree}
+use Rattle.llrp_session.specs.RoSpec.{RoSpec, field}
 pub use Rattle.llrp_session.specs.declared.reader.table.Entry.{Entry}  -- an entry of a reader's table: a ROSpec and its state
 pub use Rattle.llrp_session.specs.declared.words.RoState.{RoState}
 pub use Rattle.llrp_session.specs.declared.words.RoState.TheVariants.{Disabled, Inactive, Active}
@@ -25,6 +27,26 @@ abbrev pub is_active : RoState → Bool
 is_active Disabled = false
 is_active Inactive = false
 is_active Active = true
+
+-- the CurrentState of a ROSpec (LLRP 1.1, section 11)
+abbrev pub state_number : RoState → ℕ
+state_number Disabled = 0
+state_number Inactive = 1
+state_number Active = 2
+
+-- a ROSpec as it was added, but with its present state; the fields of a ROSpec are ROSpecID, Priority and CurrentState, and it has no tail
+abbrev pub as_listed : Entry → Tree
+as_listed e = record {
+  kind = RoSpecKind;
+  fields = e.spec.id ∷ field 1 (Some e.spec.tree) ∷ state_number e.state ∷ [];
+  tail = [];
+  children = e.spec.tree.children;
+}
+
+-- the ROSpecs of a table, as they are listed
+abbrev pub listing : List Entry → List Tree
+listing [] = []
+listing (e ∷ es) = as_listed e ∷ listing es
 
 -- 0 names every ROSpec
 abbrev pub names : ℕ → ℕ → Bool

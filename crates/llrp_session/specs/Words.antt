@@ -1,11 +1,12 @@
 -- What a client and a reader say to each other, and what each reads in a message.
-use Rattle.std.specs.Prelude.{ℕ, ◌==◌, Bool, false, List, Option, None, Some, if◌then◌else◌}
+use Rattle.std.specs.Prelude.{ℕ, ◌==◌, Bool, false, List, [], Option, None, Some, if◌then◌else◌}
 use Rattle.llrp_tree.specs.Tree.{Tree}
 use Rattle.llrp_session.specs.RoSpec.{ReportSpec}
+use Rattle.llrp_session.specs.Table.{Entry, listing}
 pub use Rattle.llrp_session.specs.declared.words.Operation.{Operation}
-pub use Rattle.llrp_session.specs.declared.words.Operation.TheVariants.{Adding, Deleting, Starting, Stopping, Enabling, Disabling, Configuring, Closing}
+pub use Rattle.llrp_session.specs.declared.words.Operation.TheVariants.{Adding, Deleting, Starting, Stopping, Enabling, Disabling, Listing, Configuring, Closing}
 pub use Rattle.llrp_session.specs.declared.words.Command.{Command}
-pub use Rattle.llrp_session.specs.declared.words.Command.TheVariants.{Add, Delete, Start, Stop, Enable, Disable, SetKeepalive, GetReport, Close}
+pub use Rattle.llrp_session.specs.declared.words.Command.TheVariants.{Add, Delete, Start, Stop, Enable, Disable, GetRospecs, SetKeepalive, GetReport, Close}
 
 -- ---- what a reader reads in a message
 
@@ -26,6 +27,7 @@ pub data Request : Type 0 where
   StopRoSpec : (id : ℕ) → Request
   EnableRoSpec : (id : ℕ) → Request
   DisableRoSpec : (id : ℕ) → Request
+  GetRoSpecs : Request
   SetReaderConfig : Config → Request
   GetReports : Request  -- GET_REPORT
   CloseConnection : Request
@@ -36,6 +38,7 @@ pub data Request : Type 0 where
 
 pub data ReaderWord : Type 0 where
   Response : Operation → (status : ℕ) → ReaderWord
+  Listed : List Entry → ReaderWord  -- GET_ROSPECS_RESPONSE with status 0, of the ROSpecs of this table
   Error : (status : ℕ) → ReaderWord  -- ERROR_MESSAGE
   Report : List Tree → ReaderWord  -- RO_ACCESS_REPORT, of these TagReportData
   KeepaliveSent : ReaderWord  -- KEEPALIVE
@@ -65,7 +68,7 @@ pub record Notification : Type 0 where
   pub rospec : Option RoSpecChange  -- ROSpecEvent
 
 pub data Heard : Type 0 where
-  HeardResponse : Operation → (status : ℕ) → Heard
+  HeardResponse : Operation → (status : ℕ) → (rospecs : List Tree) → Heard  -- with the ROSpecs that it lists
   HeardError : (status : ℕ) → Heard
   HeardReport : List Tree → Heard
   HeardKeepalive : Heard
@@ -73,7 +76,8 @@ pub data Heard : Type 0 where
   HeardOther : Heard  -- any other kind of message
 
 abbrev pub heard : ReaderWord → Heard
-heard (Response operation status) = HeardResponse operation status
+heard (Response operation status) = HeardResponse operation status []
+heard (Listed table) = HeardResponse Listing 0 (listing table)
 heard (Error status) = HeardError status
 heard (Report tags) = HeardReport tags
 heard KeepaliveSent = HeardKeepalive
@@ -93,7 +97,7 @@ pub record ClientMessage : Type 0 where
   pub id : ℕ
   pub word : ClientWord
 
--- a keepalive each so many milliseconds, or none for 0
+-- a keepalive every this many milliseconds, or none for 0
 abbrev pub keepalive_each : ℕ → KeepaliveSpec
 keepalive_each ms = if ms == 0 then record { trigger = 0; period = 0 } else record { trigger = 1; period = ms }
 
@@ -104,6 +108,7 @@ requested (Start id) = StartRoSpec id
 requested (Stop id) = StopRoSpec id
 requested (Enable id) = EnableRoSpec id
 requested (Disable id) = DisableRoSpec id
+requested GetRospecs = GetRoSpecs
 requested (SetKeepalive ms) = SetReaderConfig (record { reset = false; keepalive = Some (keepalive_each ms); report = None })
 requested GetReport = GetReports
 requested Close = CloseConnection

@@ -1,21 +1,25 @@
 -- The two ends, and the whole messages on the way between them, in order in each direction; none is lost.
-use Rattle.std.specs.Prelude.{ℕ, List, [], ◌∷◌, ◌++◌, Result, Ok, Err}
+use Rattle.std.specs.Prelude.{ℕ, ◌==◌, if◌then◌else◌, List, [], ◌∷◌, ◌++◌, Result, Ok, Err}
 use Rattle.llrp_tree.specs.Tree.{Tree}
 use Rattle.llrp_session.specs.TagReport.{Sighting}
-use Rattle.llrp_session.specs.Words.{Command, ReaderMessage, ClientMessage, heard, request}
+use Rattle.llrp_session.specs.Table.{listing}
+use Rattle.llrp_session.specs.Words.{Listing, Request, GetRoSpecs, Heard, HeardResponse, Command, ReaderMessage, ClientMessage, heard, request}
 use Rattle.llrp_session.specs.Refusal.{Refusal}
-use Rattle.llrp_session.specs.ReaderMachine.{Reader, Turn, ReaderEvent, Connect, Take, Seen, Tick, next, new_reader}
+use Rattle.llrp_session.specs.ReaderMachine.{Reader, ReaderPhase, Up, Turn, ReaderEvent, Connect, Take, Seen, Tick, next, new_reader}
 use Rattle.llrp_session.specs.Sightings.{tags_of, kept_by}
-use Rattle.llrp_session.specs.ClientMachine.{Client, Sending, Taking, Taken, Tags, command, take, new_client}
+use Rattle.llrp_session.specs.ClientMachine.{Client, Sending, Taking, Taken, Tags, Table, Differs, command, take, new_client}
 
 pub record World : Type 0 where
   pub reader : Reader
   pub client : Client
   pub up : List ClientMessage  -- on the way to the reader
   pub down : List ReaderMessage  -- on the way to the client
-  pub handed_out : List Tree  -- the TagReportData that the client handed out
+  pub handed_out : List Tree  -- the TagReportData that the client delivered
   pub reported : List Tree  -- those that the reader sent
   pub kept : List Tree  -- those of the sightings that counted and were not dropped
+  pub tables : List (List Tree)  -- the ROSpecs of each table that the client took for its view
+  pub differing : List (List Tree)  -- those of each that it took for another
+  pub listed : List (List Tree)  -- those of the reader's table at each GET_ROSPECS that it took
 
 pub data WorldEvent : Type 0 where
   Connects : (now : ℕ) → WorldEvent
@@ -25,18 +29,37 @@ pub data WorldEvent : Type 0 where
   Sees : (now : ℕ) → Sighting → WorldEvent
   Ticks : (now : ℕ) → WorldEvent
 
+-- the table that a response lists: only GET_ROSPECS's with status 0 lists one
+abbrev pub table_heard : Heard → List (List Tree)
+table_heard (HeardResponse Listing status ts) = if status == 0 then ts ∷ [] else []
+table_heard _ = []
+
+-- what is listed for a request
+abbrev pub listed_for : Request → Reader → List (List Tree)
+listed_for GetRoSpecs r = listing r.table ∷ []
+listed_for _ r = []
+
+-- the same, for the event of a reader in a phase
+abbrev pub listed_in : ReaderPhase → ReaderEvent → Reader → List (List Tree)
+listed_in Up (Take version id request) r = listed_for request r
+listed_in _ e r = []
+
+abbrev pub listed_by : ReaderEvent → Reader → List (List Tree)
+listed_by e r = listed_in r.phase e r
+
 -- a refused event changes no end
-abbrev pub stepped : Result Turn Refusal → List Tree → World → World
-stepped (Err refusal) kept w = w
-stepped (Ok t) kept w = record w {
+abbrev pub stepped : Result Turn Refusal → List Tree → List (List Tree) → World → World
+stepped (Err refusal) kept listed w = w
+stepped (Ok t) kept listed w = record w {
   reader = t.reader;
   down = w.down ++ t.sent;
   reported = w.reported ++ tags_of t.sent;
   kept = w.kept ++ kept;
+  listed = w.listed ++ listed;
 }
 
 abbrev pub reader_does : ℕ → ReaderEvent → World → World
-reader_does now e w = stepped (next now e w.reader) (kept_by now e w.reader) w
+reader_does now e w = stepped (next now e w.reader) (kept_by now e w.reader) (listed_by e w.reader) w
 
 abbrev pub commanded : Result Sending Refusal → World → World
 commanded (Err refusal) w = w
@@ -46,9 +69,23 @@ abbrev pub tags_handed_out : Taken → List Tree
 tags_handed_out (Tags tags) = tags
 tags_handed_out _ = []
 
+abbrev pub tables_shown : Taken → List (List Tree)
+tables_shown (Table ts) = ts ∷ []
+tables_shown _ = []
+
+abbrev pub tables_differing : Taken → List (List Tree)
+tables_differing (Differs ts) = ts ∷ []
+tables_differing _ = []
+
 abbrev pub took : Result Taking Refusal → World → World
 took (Err refusal) w = w
-took (Ok k) w = record w { client = k.client; up = w.up ++ k.sent; handed_out = w.handed_out ++ tags_handed_out k.taken }
+took (Ok k) w = record w {
+  client = k.client;
+  up = w.up ++ k.sent;
+  handed_out = w.handed_out ++ tags_handed_out k.taken;
+  tables = w.tables ++ tables_shown k.taken;
+  differing = w.differing ++ tables_differing k.taken;
+}
 
 -- the messages of a client have version 1
 abbrev pub delivered_up : ℕ → List ClientMessage → World → World
@@ -81,4 +118,7 @@ opening limit reader_first client_first = record {
   handed_out = [];
   reported = [];
   kept = [];
+  tables = [];
+  differing = [];
+  listed = [];
 }

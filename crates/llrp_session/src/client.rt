@@ -10,6 +10,7 @@ ghost use Rattle.llrp_session.specs.ClientMachine as machine;
 ghost use Rattle.llrp_session.specs.ClientSteps.{IsCmdFault, IsTakeFault, sent_by};
 
 mod commands;
+mod comparing;
 mod refusal;
 mod taking;
 mod view;
@@ -41,7 +42,13 @@ impl Model for Client {
 
     ghost Value = { ClientValue };
 
-    ghost view = { λ a. record { limit = a.limit; phase = a.phase; pending = a.pending; view = a.view.items; next_id = a.next_id } };
+    ghost view = { λ a. record {
+      limit = a.limit;
+      phase = a.phase;
+      pending = a.pending;
+      view = a.view.items;
+      next_id = a.next_id;
+    } };
 
     ghost invariant = { λ a. a.limit ≤ MAX_LIMIT };
 }
@@ -71,11 +78,17 @@ impl Client {
         requires { AddsRoSpec command }
 
         // The machine's step: the message with the next id is sent.
-        ensures step { OnOk result (machine.command self.old command ≡ Ok (record { message = record { id = self.old.next_id; word = Asks command }; client = self.new })) }
-        ensures sent { OnOk result (out.new.items ≡ out.old.items ++ client_message (record { id = self.old.next_id; word = Asks command }) ∷ []) }
+        ensures step { OnOk result (machine.command self.old command
+            ≡ Ok (record {
+              message = record { id = self.old.next_id; word = Asks command };
+              client = self.new;
+            })) }
+        ensures sent { OnOk result (out.new.items ≡ out.old.items
+            ++ client_message (record { id = self.old.next_id; word = Asks command }) ∷ []) }
 
-        // The machine's refusal, or want of memory: all is as it was.
-        ensures refused { IfErr result (λ e. IsCmdFault (machine.command self.old command) e.fault) }
+        // The machine's refusal, or no memory: all is as it was.
+        ensures refused { IfErr result (λ e. IsCmdFault (machine.command self.old
+            command) e.fault) }
         ensures handed_back { IfErr result (λ e. e.command ≡ command) }
         ensures unchanged { OnErr result (self.new ≡ self.old) }
         ensures unsent { OnErr result (out.new.items ≡ out.old.items) }
@@ -91,12 +104,15 @@ impl Client {
     #[tactic(auto, unfolding(crate::specs::ClientMachine::take))]
     pub fn take(&mut self, message: Message, out: &mut Vec<Message>) -> Result<Taken, TakeRefusal>
         // The machine's step, with the messages that it sends.
-        ensures step { IfOk result (λ taken. let step = machine.take self.old message.id (heard_of message) in
+        ensures step { IfOk result (λ taken. let step = machine.take self.old message.id
+            (heard_of message) in
             step ≡ Ok (record { taken = taken; sent = sent_by step; client = self.new })) }
-        ensures sent { OnOk result (out.new.items ≡ out.old.items ++ map client_message (sent_by (machine.take self.old message.id (heard_of message)))) }
+        ensures sent { OnOk result (out.new.items ≡ out.old.items
+            ++ map client_message (sent_by (machine.take self.old message.id (heard_of message)))) }
 
-        // The machine's refusal, or want of memory: all is as it was.
-        ensures refused { IfErr result (λ e. IsTakeFault (machine.take self.old message.id (heard_of message)) e.fault) }
+        // The machine's refusal, or no memory: all is as it was.
+        ensures refused { IfErr result (λ e. IsTakeFault (machine.take self.old message.id
+            (heard_of message)) e.fault) }
         ensures handed_back { IfErr result (λ e. e.message ≡ message) }
         ensures unchanged { OnErr result (self.new ≡ self.old) }
         ensures unsent { OnErr result (out.new.items ≡ out.old.items) }

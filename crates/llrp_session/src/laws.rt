@@ -2,7 +2,7 @@
 
 mod messages;
 
-ghost use Rattle.std.specs.Prelude.{ℕ, ◌^◌, ◌<◌, ◌≤◌, length, IfOk};
+ghost use Rattle.std.specs.Prelude.{◌≡◌, ℕ, ◌^◌, ◌<◌, ◌≤◌, length, IfOk};
 ghost use Rattle.llrp_session.specs.Sightings.{AfterAllEvents, ReportsInOrder, OverflowsTold, HoldsFewEnough, OneActive as OneIsActive};
 ghost use Rattle.llrp_session.specs.Words.{Command, Heard};
 ghost use Rattle.llrp_session.specs.ReaderMachine.{Reader, ReaderEvent, new_reader, next};
@@ -13,14 +13,14 @@ ghost use Rattle.llrp_tree.specs.Tree.{MessageTree};
 ghost use Rattle.llrp_session.specs.Reading.{request_of};
 ghost use Rattle.llrp_session.specs.LawfulStates.{IsLawfulReader, IsLawfulReaderEvent, IsLawfulRequest, AreLawfulReaderMessages, IsGivenCommand, AreLawfulClientMessages};
 ghost use Rattle.llrp_session.specs.TableLaws.{EntersOne, ChangesEach, RemovesThoseNamed, EntersOneInView, ChangesEachInView, RemovesThoseNamedInView, SeesEach, EachOnce};
-ghost use Rattle.llrp_session.specs.Agreement.{AfterAll, ViewCatchesUp, ViewIsTable, ReportsArrive, ReportsAreKept, ReaderHasHistory, OneActive, NothingIsUnexpected, PendingIsOnTheWay, NothingIsPending};
+ghost use Rattle.llrp_session.specs.Agreement.{AfterAll, ViewCatchesUp, ViewIsTable, ReportsArrive, ReportsAreKept, ReaderHasHistory, OneActive, NothingIsUnexpected, PendingIsOnTheWay, NothingIsPending, TablesArrive, NoneDiffers};
 
 pub use messages::{
     ends_agree_in_messages, messages_are_lawful, messages_read_back, messages_sent_are_lawful,
     worlds_agree,
 };
 
-/// Whatever happens to a reader, no sighting that counts is lost but those of which an overflow event tells, and none is
+/// Whatever happens to a reader, no sighting that counts is lost but those that an overflow event counts, and none is
 /// reported twice.
 pub fn sightings_kept()
     ensures reports_in_order { AfterAllEvents ReportsInOrder }
@@ -40,6 +40,8 @@ pub fn ends_agree_whole()
     ensures nothing_is_unexpected { AfterAll NothingIsUnexpected }
     ensures pending_is_on_the_way { AfterAll PendingIsOnTheWay }
     ensures nothing_is_pending { AfterAll NothingIsPending }
+    ensures tables_arrive { AfterAll TablesArrive }
+    ensures none_differs { AfterAll NoneDiffers }
 {}
 
 /// A table of ROSpecs, and a client's view of one, is a finite map from ids to states; a reader's has each id once and
@@ -58,19 +60,24 @@ pub fn tables_are_maps()
 /// A step of a reader sends at most three messages.
 #[tactic(auto, using(crate::proofs::ThreeAtMost::three_at_most))]
 pub fn three_messages_at_most()
-    ensures { (now : ℕ) (event : ReaderEvent) (reader : Reader) → IfOk (next now event reader) (λ turn. length turn.sent ≤ 3) }
+    ensures { (now : ℕ) (event : ReaderEvent) (reader : Reader)
+        → IfOk (next now event reader) (λ turn. length turn.sent ≤ 3) }
 {}
 
 /// A reader or a client whose numbers are those that their types hold, and which is given such, says only what has a lawful
 /// message within the limit; and what a reader reads in a lawful message is such.
-#[tactic(auto, using(crate::proofs::LawfulReaders::reader_as_new, crate::proofs::LawfulReaders::reader_says_lawful, crate::proofs::LawfulRequests::lawful_request, crate::proofs::LawfulClients::command_is_lawful, crate::proofs::LawfulClients::answer_is_lawful))]
+#[tactic(auto, using(crate::proofs::LawfulReaders::reader_says_lawful, crate::proofs::LawfulRequests::lawful_request, crate::proofs::LawfulClients::command_is_lawful, crate::proofs::LawfulClients::answer_is_lawful))]
 pub fn machines_say_what_is_lawful()
-    ensures reader_as_new { (limit first_id : ℕ) → first_id < 2 ^ 32 → IsLawfulReader (new_reader limit first_id) }
-    ensures reader { (now : ℕ) (event : ReaderEvent) (reader : Reader) → now < 2 ^ 64 → IsLawfulReaderEvent event → IsLawfulReader reader →
-        IfOk (next now event reader) (λ turn. AreLawfulReaderMessages turn.sent × IsLawfulReader turn.reader) }
+    ensures reader_as_new { (limit first_id : ℕ) → 4096 ≤ limit → first_id < 2 ^ 32
+        → IsLawfulReader (new_reader limit first_id) }
+    ensures reader { (now : ℕ) (event : ReaderEvent) (reader : Reader) → now < 2 ^ 64
+        → IsLawfulReaderEvent event → IsLawfulReader reader →
+        IfOk (next now event reader) (λ turn. AreLawfulReaderMessages reader.limit turn.sent
+        × (IsLawfulReader turn.reader × (turn.reader.limit ≡ reader.limit))) }
     ensures request { (m : MessageTree) → IsLawfulMessage m → IsLawfulRequest (request_of m) }
     ensures command { (client : Client) (asked : Command) → IsGivenCommand asked →
-        IfOk (command client asked) (λ sending. IsLawfulClientMessage client.limit sending.message) }
+        IfOk (command client asked) (λ sending. IsLawfulClientMessage client.limit
+        sending.message) }
     ensures answer { (client : Client) (id : ℕ) (heard : Heard) → id < 2 ^ 32 →
         IfOk (take client id heard) (λ taking. AreLawfulClientMessages client.limit taking.sent) }
 {}

@@ -1,5 +1,15 @@
-//! A simulated LLRP reader and a client, as machines without sockets and without a clock: moments and messages are handed
-//! in, and messages come out.
+//! A simulated LLRP reader and a client, as machines without sockets and without a clock: moments and messages are given to
+//! them, and messages come out.
+//!
+//! Use it to test a client or a reader of your own, message by message, or to build one over a transport of your own. A [`Reader`]
+//! takes what happens at a moment (a [`ReaderIn`]); a [`Client`] takes a [`Command`], or a message of its reader, and says what
+//! that is (a [`Taken`]). Both append the messages that they send. `llrp_endpoints` puts them over bytes.
+//!
+//! ```
+//! let mut client = Client::new(alloc, 65_536, 1);
+//! let taken = client.take(first_message, &mut sent)?;   // Taken::Connected
+//! client.command(Command::GetReport, &mut sent)?;       // sent now ends with GET_REPORT
+//! ```
 #![tactic(auto)]
 
 mod client;

@@ -1,4 +1,4 @@
-//! The simulated reader: it is handed what happens at a moment, and tells the messages that it sends.
+//! The simulated reader: it takes what happens at a moment, and returns the messages that it sends.
 //!
 //! Moments are in microseconds. Everything that wants memory is made before anything changes.
 
@@ -56,7 +56,17 @@ impl Model for Reader {
 
     ghost use Rattle.llrp_session.specs.ReaderParts.{IsKept};
 
-    ghost view = { λ a. record { limit = a.limit; phase = a.phase; table = a.table.items; held = a.held.items; started = a.started; keepalive = a.keepalive; report = a.report; next_id = a.next_id; version = a.version } };
+    ghost view = { λ a. record {
+      limit = a.limit;
+      phase = a.phase;
+      table = a.table.items;
+      held = a.held.items;
+      started = a.started;
+      keepalive = a.keepalive;
+      report = a.report;
+      next_id = a.next_id;
+      version = a.version;
+    } };
 
     ghost invariant = { λ a. IsKept a.version a.limit a.table.items a.held.items };
 }
@@ -125,8 +135,10 @@ impl Reader {
         event: ReaderIn,
         out: &mut Vec<Message>,
     ) -> Result<(), StepRefusal>
-        ensures ok { OnOk result (Turns (next now (event_of event) self.old) out.old.items out.new.items self.new) }
-        ensures fault { IfErr result (λ refusal. IsFault (next now (event_of event) self.old) refusal.fault) }
+        ensures ok { OnOk result (Turns (next now (event_of event) self.old) out.old.items
+            out.new.items self.new) }
+        ensures fault { IfErr result (λ refusal. IsFault (next now (event_of event) self.old)
+            refusal.fault) }
         ensures handed_back { IfErr result (λ refusal. refusal.event ≡ event) }
         ensures reader_unchanged { OnErr result (self.new ≡ self.old) }
         ensures out_unchanged { OnErr result (out.new.items ≡ out.old.items) }
@@ -150,8 +162,10 @@ impl Reader {
         out: &mut Vec<Message>,
     ) -> Result<(), StepRefusal>
         requires { self.old.phase ≡ ReaderPhase.Waiting }
-        ensures ok { OnOk result (Turns (next now (event_of event) self.old) out.old.items out.new.items self.new) }
-        ensures fault { IfErr result (λ refusal. IsFault (next now (event_of event) self.old) refusal.fault) }
+        ensures ok { OnOk result (Turns (next now (event_of event) self.old) out.old.items
+            out.new.items self.new) }
+        ensures fault { IfErr result (λ refusal. IsFault (next now (event_of event) self.old)
+            refusal.fault) }
         ensures handed_back { IfErr result (λ refusal. refusal.event ≡ event) }
         ensures reader_unchanged { OnErr result (self.new ≡ self.old) }
         ensures out_unchanged { OnErr result (out.new.items ≡ out.old.items) }
@@ -180,8 +194,10 @@ impl Reader {
         out: &mut Vec<Message>,
     ) -> Result<(), StepRefusal>
         requires { self.old.phase ≡ ReaderPhase.Up }
-        ensures ok { OnOk result (Turns (next now (event_of event) self.old) out.old.items out.new.items self.new) }
-        ensures fault { IfErr result (λ refusal. IsFault (next now (event_of event) self.old) refusal.fault) }
+        ensures ok { OnOk result (Turns (next now (event_of event) self.old) out.old.items
+            out.new.items self.new) }
+        ensures fault { IfErr result (λ refusal. IsFault (next now (event_of event) self.old)
+            refusal.fault) }
         ensures handed_back { IfErr result (λ refusal. refusal.event ≡ event) }
         ensures reader_unchanged { OnErr result (self.new ≡ self.old) }
         ensures out_unchanged { OnErr result (out.new.items ≡ out.old.items) }
@@ -203,7 +219,8 @@ impl Reader {
 
     /// A client connects.
     fn connect(&mut self, now: u64, out: &mut Vec<Message>) -> Result<(), AllocError>
-        ensures ok { OnOk result (Stands out.old.items (the_connect now self.old) out.new.items self.new) }
+        ensures ok { OnOk result (Stands out.old.items (the_connect now self.old)
+            out.new.items self.new) }
         ensures reader_unchanged { OnErr result (self.new ≡ self.old) }
         ensures out_unchanged { OnErr result (out.new.items ≡ out.old.items) }
     {
@@ -216,7 +233,8 @@ impl Reader {
 
     /// What an event does while a client is connected; where memory runs out it is handed back.
     fn happen(&mut self, now: u64, event: ReaderIn, out: &mut Vec<Message>) -> Result<(), ReaderIn>
-        ensures ok { OnOk result (Stands out.old.items (the_happening now (event_of event) self.old) out.new.items self.new) }
+        ensures ok { OnOk result (Stands out.old.items (the_happening now (event_of event) self.old)
+            out.new.items self.new) }
         ensures handed_back { IfErr result (λ e. e ≡ event) }
         ensures reader_unchanged { OnErr result (self.new ≡ self.old) }
         ensures out_unchanged { OnErr result (out.new.items ≡ out.old.items) }
@@ -245,7 +263,7 @@ impl Reader {
         }
     }
 
-    /// A frame that is no message.
+    /// A frame that is not a message.
     fn take_bad(
         &mut self,
         id: u32,
@@ -253,7 +271,8 @@ impl Reader {
         out: &mut Vec<Message>,
     ) -> Result<(), AllocError>
         requires { vec_len out.old < vec_capacity out.old }
-        ensures ok { OnOk result (Stands out.old.items (reply self.old.version id (Error (the_fault_status reason)) (begun self.old)) out.new.items self.new) }
+        ensures ok { OnOk result (Stands out.old.items (reply self.old.version id
+            (Error (the_fault_status reason)) (begun self.old)) out.new.items self.new) }
         ensures reader_unchanged { OnErr result (self.new ≡ self.old) }
         ensures out_unchanged { OnErr result (out.new.items ≡ out.old.items) }
     {

@@ -2,6 +2,7 @@
 
 pub(crate) mod find;
 pub(crate) mod hearing;
+pub(crate) mod kept;
 pub(crate) mod request;
 pub(crate) mod rospec;
 pub(crate) mod words;

@@ -53,8 +53,20 @@ fn pair(alloc: Global, first: Node, second: Node) -> Result<Vec<Node>, AllocErro
 
 /// The message of these parts.
 fn message(version: u8, id: u32, kind: MsgKind, fields: &[u128], children: Vec<Node>) -> Message
-    requires { IsLawfulMessage (record { version = version; id = id; kind = kind; fields = fields.now; children = forest children.items }) }
-    ensures { result ≡ record { version = version; id = id; kind = kind; fields = fields.now; children = forest children.items } }
+    requires { IsLawfulMessage (record {
+      version = version;
+      id = id;
+      kind = kind;
+      fields = fields.now;
+      children = forest children.items;
+    }) }
+    ensures { result ≡ record {
+      version = version;
+      id = id;
+      kind = kind;
+      fields = fields.now;
+      children = forest children.items;
+    } }
 {
     match Message::new(version, id, kind, fields, Nodes::new(children)) {
         Ok(message) => message,

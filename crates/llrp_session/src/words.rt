@@ -3,7 +3,7 @@
 use llrp_tree::{Node, Nodes};
 use tag_bits::Word;
 
-/// Where a ROSpec stands (LLRP 1.1, section 11).
+/// The state of a ROSpec (LLRP 1.1, section 11).
 #[derive(Clone, Copy, Debug, PartialEq, Eq)]
 pub enum RoState {
     Disabled,
@@ -37,6 +37,8 @@ pub enum Command {
     Enable { id: u32 },
     /// Disables a ROSpec, or all for 0.
     Disable { id: u32 },
+    /// Asks for the reader's ROSpecs, to compare them with the view.
+    GetRospecs,
     /// Asks for a KEEPALIVE each `ms` milliseconds, or for none for 0.
     SetKeepalive { ms: u32 },
     /// Asks for the reports that are held.
@@ -56,6 +58,10 @@ pub enum Taken {
     Reply(u16),
     /// Reports of tags.
     Tags(Nodes),
+    /// The reader's ROSpecs. Their ids and states are those of the client's view.
+    Table(Nodes),
+    /// The reader's ROSpecs. Their ids and states are not those of the client's view.
+    Differs(Nodes),
     /// A ROSpec of the client's view is in another state.
     Event(u32, RoState),
     /// A notification of something else.
@@ -66,7 +72,7 @@ pub enum Taken {
     Closed,
 }
 
-/// Where a reader's connection stands.
+/// The state of a reader's connection.
 #[derive(Clone, Copy)]
 pub(crate) enum ReaderPhase {
     /// No client has connected yet.
@@ -77,7 +83,7 @@ pub(crate) enum ReaderPhase {
     Down,
 }
 
-/// Where a client's connection stands.
+/// The state of a client's connection.
 #[derive(Clone, Copy)]
 pub(crate) enum ClientPhase {
     /// The reader has not accepted it yet.
@@ -99,6 +105,7 @@ pub(crate) enum Operation {
     Disabling,
     Configuring,
     Closing,
+    Listing,
 }
 
 /// The request that waits for its response.

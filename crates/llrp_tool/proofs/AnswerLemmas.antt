@@ -5,7 +5,7 @@ use Rattle.std.proofs.lemmas.List.{drop_more, take-append-drop}
 use Rattle.std.proofs.lemmas.List.Concat.{flat_map-append}
 use Rattle.llrp_listing.specs.declared.fault.ToolErr.{ToolErr}
 use Rattle.llrp_listing.specs.declared.fault.ToolErr.TheVariants.{Listing, Script, Hex, Read, Write, Bound, Memory, Broken, Peer, Strange, Early}
-use Rattle.llrp_tool.specs.Command.{LIMIT, NotEncoded, memory_error}
+use Rattle.llrp_tool.specs.Command.{NotEncoded, memory_error}
 use Rattle.llrp_listing.specs.Copying.{Writes}
 use Rattle.llrp_stream.specs.Device.{SourceLog, SinkLog, Wrote}
 use Rattle.llrp_listing.specs.Encoding.{EncodeStopped}
@@ -36,15 +36,15 @@ parts_stop f parts i d old mid new e lt so stop =
     writes_stop old mid new (flat_map f (take i parts)) (f last) (flat_map f rest) (flat_map f parts) e so (ap (flat_map f) all ∙ flat_map-append f (take i parts) (last ∷ rest)) stop
 
 -- encode stopped over memory
-pub not_encoded : (r0 r1 : SourceLog) (m0 m1 : SinkLog) (error : ToolErr) → EncodeStopped LIMIT r0 r1 m0 m1 error → NotEncoded r0 r1 (memory_error error)
-not_encoded r0 r1 m0 m1 (Listing line reason) s = (s.0, s.2)
-not_encoded r0 r1 m0 m1 Read s = (s.0, s.1, s.3)
-not_encoded r0 r1 m0 m1 Bound s = (s.0, s.2)
-not_encoded r0 r1 m0 m1 Memory s = (s.0, s.2)
-not_encoded r0 r1 m0 m1 Write s = elim s.2 [ inl begun ↦ (begun.0, begun.1) | inr all ↦ (all.0, inr all.2) ]
-not_encoded r0 r1 m0 m1 (Script at) s = s
-not_encoded r0 r1 m0 m1 Hex s = s
-not_encoded r0 r1 m0 m1 Broken s = s
-not_encoded r0 r1 m0 m1 Early s = s
-not_encoded r0 r1 m0 m1 (Peer status) s = s
-not_encoded r0 r1 m0 m1 Strange s = s
+pub not_encoded : (limit : ℕ) (r0 r1 : SourceLog) (m0 m1 : SinkLog) (error : ToolErr) → EncodeStopped limit r0 r1 m0 m1 error → NotEncoded limit r0 r1 (memory_error error)
+not_encoded limit r0 r1 m0 m1 (Listing line reason) s = (s.0, s.2)
+not_encoded limit r0 r1 m0 m1 Read s = (s.0, s.1, s.3)
+not_encoded limit r0 r1 m0 m1 Bound s = (s.0, s.2)
+not_encoded limit r0 r1 m0 m1 Memory s = (s.0, s.2)
+not_encoded limit r0 r1 m0 m1 Write s = elim s.2 [ inl begun ↦ (begun.0, begun.1) | inr all ↦ (all.0, inr all.2) ]
+not_encoded limit r0 r1 m0 m1 (Script at) s = s
+not_encoded limit r0 r1 m0 m1 Hex s = s
+not_encoded limit r0 r1 m0 m1 Broken s = s
+not_encoded limit r0 r1 m0 m1 Early s = s
+not_encoded limit r0 r1 m0 m1 (Peer status) s = s
+not_encoded limit r0 r1 m0 m1 Strange s = s

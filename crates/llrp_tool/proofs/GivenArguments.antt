@@ -1,6 +1,6 @@
 -- A parse of the program's words that succeeds has found a command, with the arguments that it needs.
-use Rattle.std.proofs.Common.{◌≡◌, ◌∙◌, ℕ, ◌<◌, ◌&&◌, ◌||◌, inl, inr, Bool, true, false, cond, not, List, [], ◌∷◌, is_some, Option, Some, None, refl, sym, ap, subst, arith, codes, length}
-use Rattle.std.specs.Prelude.{IfSome, find, fold, option_map, pos}
+use Rattle.std.proofs.Common.{◌≡◌, ◌∙◌, ℕ, ◌<◌, ◌&&◌, ◌||◌, ◌⊎◌, inl, inr, Bool, true, false, cond, not, List, [], ◌∷◌, is_some, Option, Some, None, refl, sym, ap, subst, arith, codes, length}
+use Rattle.std.specs.Prelude.{IfSome, find, fold, option_and_then, option_map, pos, slice_get}
 use Rattle.std.specs.Option.{option_map_or}
 use Rattle.std.specs.Str.{bytes_eq}
 use Rattle.std.proofs.lemmas.Int.{ints}
@@ -17,10 +17,11 @@ use Rattle.clap.specs.Faults.{fault_of, defaults_fault, entered_fault, level_fau
 use Rattle.clap.specs.Simple.{Shape, argument_words, built, entered, label_of, names_of, rows_at, filled, help_rule, with_index, built_leaf, inherited}
 use Rattle.clap.specs.Walk.{Held, Names, Outcome, done, waits, plain, refused, Row, Rule, Step, next, trailing, subcommand, value, Text, Waiting, idle, option, positional, Walk, answers_to, arg_by_id, nothing_held, rows_after}
 use Rattle.clap.specs.Walk.{subcommand_met, subcommand_or_other, word_met, to_positional, after_step, walked, walked_from, walk, walk_from, arg_by_index, arg_by_long, bundle, long_met, settled, finished}
-use Rattle.clap.specs.Walk.{one_of, plain_word, after_flag, long_or_other, short_or_plain}
+use Rattle.clap.specs.Walk.{one_of, row_text, plain_word, after_flag, long_or_other, short_or_plain}
 use Rattle.clap.proofs.ValueTestLemmas.{accepts-Accepts}
-use Rattle.llrp_tool.specs.Parse.{HasFlagWord, HasNumberWord, HasWord, IsFound, IsParse}
-use Rattle.llrp_tool.specs.Words.{command_in, hex_app, hex_rule, host_rule, inventory_app, llrp_app, loop_app, number_rule, port_app, port_rule, text_app, text_rule, top_app}
+use Rattle.llrp_tree.specs.declared.TheConstants.{MAX_LIMIT}
+use Rattle.llrp_tool.specs.Parse.{HasFlagWord, HasLimitWord, HasNumberWord, HasStreamWords, HasWord, IsFound, IsParse, MayHaveNumberWord}
+use Rattle.llrp_tool.specs.Words.{command_in, stream_app, hex_rule, limit_rule, check_rule, host_rule, inventory_app, llrp_app, loop_app, number_rule, port_app, port_rule, text_app, text_rule, top_app, timeout_rule}
 use Rattle.llrp_tool.proofs.ReadRows.{AllFound, AllUsesPass, HasRead, IsAmong, LevelPasses, both, subcommand_there, flag_passes, has_read, help_passes, level_passes, set_passes, uses_pass}
 
 -- ---- a walk without a fault does not stop at help
@@ -120,14 +121,27 @@ number_there a rows low is r =
       spells = from_zero low 65535 r.word (accepts-Accepts a.ignore_case (Signed (pos low) (pos 65535)) r.word (ap (λ (p : Option ValueParser). accepts a.ignore_case (parser_of_value p) r.word) (sym is) ∙ r.taken));
     }
 
+limit_there : (a : Rule) (rows : List Row) → a.parser ≡ Some (Signed (pos 10) (pos MAX_LIMIT)) → HasRead a rows → HasLimitWord a.id rows
+limit_there a rows is r =
+    record {
+      word = r.word;
+      given = r.given;
+      read = r.read ∙ ap (λ (p : Option ValueParser). Some (read_as (reading_of (parser_of_value p)) r.word)) is;
+      spells = accepts-Accepts a.ignore_case (Signed (pos 10) (pos MAX_LIMIT)) r.word (ap (λ (p : Option ValueParser). accepts a.ignore_case (parser_of_value p) r.word) (sym is) ∙ r.taken);
+    }
+
+may_number : (a : Rule) (rows : List Row) (low : ℕ) → a.parser ≡ Some (Signed (pos low) (pos 65535)) → (find (λ (r : Row). bytes_eq r.id a.id) rows ≡ None) ⊎ HasRead a rows → MayHaveNumberWord a.id rows
+may_number a rows low is (inl none) = inl (ap (option_and_then row_text) none, ap (option_and_then (λ (r : Row). slice_get r.values 0)) none)
+may_number a rows low is (inr r) = inr (number_there a rows low is r)
+
 -- a flag's word is one of two
-flag_word : (a : Rule) (rows : List Row) → a.id ≡ codes "hex" → a.parser ≡ Some BoolParser → HasRead a rows → HasFlagWord rows
-flag_word a rows id is r =
-    let read : one_of (codes "hex") rows ≡ Some r.word = ap (λ (t : Text). one_of t rows) (sym id) ∙ r.read ∙ ap (λ (p : Option ValueParser). Some (read_as (reading_of (parser_of_value p)) r.word)) is in
+flag_word : (name : Text) (a : Rule) (rows : List Row) → a.id ≡ name → a.parser ≡ Some BoolParser → HasRead a rows → HasFlagWord name rows
+flag_word name a rows id is r =
+    let read : one_of name rows ≡ Some r.word = ap (λ (t : Text). one_of t rows) (sym id) ∙ r.read ∙ ap (λ (p : Option ValueParser). Some (read_as (reading_of (parser_of_value p)) r.word)) is in
     let taken : (bytes_eq r.word (codes "true") || bytes_eq r.word (codes "false")) ≡ true = ap (λ (p : Option ValueParser). accepts a.ignore_case (parser_of_value p) r.word) (sym is) ∙ r.taken in
     go (bytes_eq r.word (codes "true")) refl read taken
   where
-    go : (b : Bool) → bytes_eq r.word (codes "true") ≡ b → one_of (codes "hex") rows ≡ Some r.word → (b || bytes_eq r.word (codes "false")) ≡ true → HasFlagWord rows
+    go : (b : Bool) → bytes_eq r.word (codes "true") ≡ b → one_of name rows ≡ Some r.word → (b || bytes_eq r.word (codes "false")) ≡ true → HasFlagWord name rows
     go true e read t = (true, read ∙ ap (λ (w : Text). Some w) ((bytes_eq-Decides r.word (codes "true")).0 e))
     go false e read t = (false, inl (read ∙ ap (λ (w : Text). Some w) ((bytes_eq-Decides r.word (codes "false")).0 t)))
 
@@ -165,6 +179,9 @@ the_host = with_index 1 (filled host_rule)
 abbrev the_number : ℕ → Text → Text → Rule
 the_number place name default = with_index place (filled (number_rule name default))
 
+abbrev the_timeout : Rule
+the_timeout = with_index 3 (filled timeout_rule)
+
 abbrev the_help : ℕ → Rule
 the_help place = with_index place (filled help_rule)
 
@@ -181,6 +198,13 @@ module _ (s : Shape) (uses : AllUsesPass s.rules s.rules) (found : AllFound s.ru
 
   pub default_read : (a : Rule) → arg_by_id s.rules a.id ≡ Some a → IsAmong a s.rules → 0 < length a.defaults → HasRead a (rows_after s.rules [] words)
   default_read a by_id among lt = has_read s.rules a (rows_after s.rules [] words) by_id level.sound (level.defaults a among lt)
+
+  pub optional_read : (a : Rule) → arg_by_id s.rules a.id ≡ Some a → (find (λ (r : Row). bytes_eq r.id a.id) (rows_after s.rules [] words) ≡ None) ⊎ HasRead a (rows_after s.rules [] words)
+  optional_read a by_id = go (find (λ (r : Row). bytes_eq r.id a.id) (rows_after s.rules [] words)) refl
+    where
+      go : (o : Option Row) → find (λ (r : Row). bytes_eq r.id a.id) (rows_after s.rules [] words) ≡ o → (find (λ (r : Row). bytes_eq r.id a.id) (rows_after s.rules [] words) ≡ None) ⊎ HasRead a (rows_after s.rules [] words)
+      go None e = inl e
+      go (Some r) e = inr (has_read s.rules a (rows_after s.rules [] words) by_id level.sound (r, e))
 
 help_gives : (aliases : List Text) (name : Text) → aliases ≡ [] → bytes_eq name (codes "help") ≡ false → answers_to name (codes "help", aliases) ≡ true → ⊥
 help_gives [] name e helpless met = go (bytes_eq (codes "help") name) refl met
@@ -202,17 +226,24 @@ built_sub s = built_leaf (inherited top_app.top s)
 abbrev the_hex : Rule
 the_hex = with_index 1 (filled hex_rule)
 
--- show and encode, which have only the flag
-has_flag : (s : Shape) → s.rules ≡ the_hex ∷ the_help 1 ∷ [] → (words : List Text) → level_fault s [] nothing_held words false [] ≡ [] → HasFlagWord (rows_after s.rules [] words)
-has_flag s e words pass =
-    let c : List Rule = the_hex ∷ the_help 1 ∷ [] in
-    let uses : AllUsesPass c c = (flag_passes c the_hex refl refl (omega arith), (help_passes c (the_help 1) refl, tt)) in
-    let found : AllFound c c = (refl, (refl, tt)) in
+abbrev the_limit : Rule
+the_limit = with_index 1 (filled limit_rule)
+
+-- show and encode, which have the flag and the limit
+has_stream_words : (s : Shape) → s.rules ≡ the_hex ∷ the_limit ∷ the_help 1 ∷ [] → (words : List Text) → level_fault s [] nothing_held words false [] ≡ [] → HasStreamWords (rows_after s.rules [] words)
+has_stream_words s e words pass =
+    let c : List Rule = the_hex ∷ the_limit ∷ the_help 1 ∷ [] in
+    let uses : AllUsesPass c c = (flag_passes c the_hex refl refl (omega arith), (set_passes c the_limit refl refl refl, (help_passes c (the_help 1) refl, tt))) in
+    let found : AllFound c c = (refl, (refl, (refl, tt))) in
     let all_use : AllUsesPass s.rules s.rules = subst (λ (x : List Rule). AllUsesPass x x) (sym e) uses in
     let all_found : AllFound s.rules s.rules = subst (λ (x : List Rule). AllFound x x) (sym e) found in
-    let among : IsAmong the_hex s.rules = subst (IsAmong the_hex) (sym e) (inl refl) in
-    let by_id : arg_by_id s.rules the_hex.id ≡ Some the_hex = subst (λ (x : List Rule). arg_by_id x the_hex.id ≡ Some the_hex) (sym e) refl in
-    flag_word the_hex (rows_after s.rules [] words) refl refl (default_read s all_use all_found words pass the_hex by_id among (omega arith))
+    let hex_among : IsAmong the_hex s.rules = subst (IsAmong the_hex) (sym e) (inl refl) in
+    let hex_by_id : arg_by_id s.rules the_hex.id ≡ Some the_hex = subst (λ (x : List Rule). arg_by_id x the_hex.id ≡ Some the_hex) (sym e) refl in
+    let limit_among : IsAmong the_limit s.rules = subst (IsAmong the_limit) (sym e) (inr (inl refl)) in
+    let limit_by_id : arg_by_id s.rules the_limit.id ≡ Some the_limit = subst (λ (x : List Rule). arg_by_id x the_limit.id ≡ Some the_limit) (sym e) refl in (
+      flag_word (codes "hex") the_hex (rows_after s.rules [] words) refl refl (default_read s all_use all_found words pass the_hex hex_by_id hex_among (omega arith)),
+      limit_there the_limit (rows_after s.rules [] words) refl (default_read s all_use all_found words pass the_limit limit_by_id limit_among (omega arith)),
+    )
 
 epc_gives : Gives (built_sub (text_app (codes "epc")).top)
 epc_gives name words helpless met pass =
@@ -232,37 +263,49 @@ the_every place = the_number place (codes "every") (codes "0")
 abbrev the_polls : ℕ → Rule
 the_polls place = the_number place (codes "polls") (codes "1")
 
+abbrev the_check : ℕ → Rule
+the_check place = with_index place (filled check_rule)
+
 inventory_gives : Gives (built_sub inventory_app.top)
 inventory_gives name words helpless met pass =
     let s = built_sub inventory_app.top in
     let c = s.rules in
     let uses : AllUsesPass c c = (
       set_passes c the_host refl refl refl,
-      (set_passes c (the_port 2) refl refl refl, (set_passes c (the_every 3) refl refl refl, (set_passes c (the_polls 3) refl refl refl, (help_passes c (the_help 3) refl, tt)))),
+      (set_passes c (the_port 2) refl refl refl, (set_passes c (the_every 3) refl refl refl, (set_passes c (the_polls 3) refl refl refl, (flag_passes c (the_check 3) refl refl (omega arith), (set_passes c the_timeout refl refl refl, (help_passes c (the_help 3) refl, tt)))))),
     ) in
-    let found : AllFound c c = (refl, (refl, (refl, (refl, (refl, tt))))) in
+    let found : AllFound c c = (refl, (refl, (refl, (refl, (refl, (refl, (refl, tt))))))) in
     let host = required_read s uses found words pass refl the_host refl (inl refl) refl in
     let port = required_read s uses found words pass refl (the_port 2) refl (inr (inl refl)) refl in
     let every = default_read s uses found words pass (the_every 3) refl (inr (inr (inl refl))) (omega arith) in
     let polls = default_read s uses found words pass (the_polls 3) refl (inr (inr (inr (inl refl)))) (omega arith) in
-    inr (inr (inr (inr (inl (refl, word_there the_host _ host, number_there (the_port 2) _ 1 refl port, (number_there (the_every 3) _ 0 refl every, number_there (the_polls 3) _ 0 refl polls))))))
+    let check = default_read s uses found words pass (the_check 3) refl (inr (inr (inr (inr (inl refl))))) (omega arith) in
+    let timeout = optional_read s uses found words pass the_timeout refl in
+    inr (inr (inr (inr (inl (
+      refl,
+      word_there the_host _ host,
+      number_there (the_port 2) _ 1 refl port,
+      (number_there (the_every 3) _ 0 refl every, number_there (the_polls 3) _ 0 refl polls, flag_word (codes "check") (the_check 3) _ refl refl check),
+      may_number the_timeout _ 1 refl timeout,
+    )))))
 
 loop_gives : Gives (built_sub loop_app.top)
 loop_gives name words helpless met pass =
     let s = built_sub loop_app.top in
     let c = s.rules in
-    let uses : AllUsesPass c c = (set_passes c (the_every 1) refl refl refl, (set_passes c (the_polls 1) refl refl refl, (help_passes c (the_help 1) refl, tt))) in
-    let found : AllFound c c = (refl, (refl, (refl, tt))) in
+    let uses : AllUsesPass c c = (set_passes c (the_every 1) refl refl refl, (set_passes c (the_polls 1) refl refl refl, (flag_passes c (the_check 1) refl refl (omega arith), (help_passes c (the_help 1) refl, tt)))) in
+    let found : AllFound c c = (refl, (refl, (refl, (refl, tt)))) in
     let every = default_read s uses found words pass (the_every 1) refl (inl refl) (omega arith) in
     let polls = default_read s uses found words pass (the_polls 1) refl (inr (inl refl)) (omega arith) in
-    inr (inr (inr (inr (inr (refl, (number_there (the_every 1) _ 0 refl every, number_there (the_polls 1) _ 0 refl polls))))))
+    let check = default_read s uses found words pass (the_check 1) refl (inr (inr (inl refl))) (omega arith) in
+    inr (inr (inr (inr (inr (refl, (number_there (the_every 1) _ 0 refl every, number_there (the_polls 1) _ 0 refl polls, flag_word (codes "check") (the_check 1) _ refl refl check))))))
 
 all_give : AllGive (built llrp_app).subs
 unfolding llrp_app
 all_give = (
-  λ name words helpless met pass. inl (refl, has_flag (built_sub (hex_app (codes "show")).top) refl words pass),
+  λ name words helpless met pass. inl (refl, has_stream_words (built_sub (stream_app (codes "show")).top) refl words pass),
   (
-    λ name words helpless met pass. inr (inl (refl, has_flag (built_sub (hex_app (codes "encode")).top) refl words pass)),
+    λ name words helpless met pass. inr (inl (refl, has_stream_words (built_sub (stream_app (codes "encode")).top) refl words pass)),
     (epc_gives, (sim_gives, (inventory_gives, (loop_gives, (λ name words helpless met pass. absurd (help_gives [] name refl helpless met), tt))))),
   ),
 )

@@ -13,10 +13,6 @@ use Rattle.llrp_listing.specs.Hexadecimal.{IsHexOf, IsNoHex}
 use Rattle.llrp_listing.specs.Refused.{refusal_name}
 use Rattle.llrp_listing.specs.Show.{Listed, Shows, Stopped}
 
--- the greatest message in octets that a command takes
-abbrev pub LIMIT : ℕ
-LIMIT = 65536
-
 -- the exit status of a verdict
 abbrev pub status_of : Verdict → ℕ
 status_of Lawful = 0
@@ -58,21 +54,21 @@ Answers (Err error) e0 e1 (Ok status) = (status ≡ error_status error) × Wrote
 Answers (Err error) e0 e1 (Err fault) = (fault ≡ Write) × (front : List ℕ) × IsPrefix front (error_line error) × WroteAndFailed e0 e1 front
 
 -- Show of hexadecimal digits stopped: while it read, in what it had read, or while it listed the bytes.
-abbrev pub ShowDigitsStopped : SourceLog → SourceLog → SinkLog → SinkLog → List ℕ → ToolErr → Type 0
-ShowDigitsStopped r0 r1 w0 w1 text error =
+abbrev pub ShowDigitsStopped : ℕ → SourceLog → SourceLog → SinkLog → SinkLog → List ℕ → ToolErr → Type 0
+ShowDigitsStopped limit r0 r1 w0 w1 text error =
     (ReadStopped r0 r1 text error × (w1 ≡ w0))
     ⊎ (ReadAll r0 r1 text × (w1 ≡ w0) × ((error ≡ Memory) ⊎ ((error ≡ Hex) × IsNoHex text)))
-    ⊎ (ReadAll r0 r1 text × (bytes : List ℕ) × IsHexOf text bytes × Stopped LIMIT bytes w0 w1 error)
+    ⊎ (ReadAll r0 r1 text × (bytes : List ℕ) × IsHexOf text bytes × Stopped limit bytes w0 w1 error)
 
 -- What show of hexadecimal digits did, by its answer.
-abbrev pub ShowsDigits : SourceLog → SourceLog → SinkLog → SinkLog → Result Verdict ToolErr → Type 0
-ShowsDigits r0 r1 w0 w1 (Ok verdict) = (text bytes : List ℕ) × ReadAll r0 r1 text × IsHexOf text bytes × Listed LIMIT bytes w0 w1 verdict
-ShowsDigits r0 r1 w0 w1 (Err error) = (text : List ℕ) × ShowDigitsStopped r0 r1 w0 w1 text error
+abbrev pub ShowsDigits : ℕ → SourceLog → SourceLog → SinkLog → SinkLog → Result Verdict ToolErr → Type 0
+ShowsDigits limit r0 r1 w0 w1 (Ok verdict) = (text bytes : List ℕ) × ReadAll r0 r1 text × IsHexOf text bytes × Listed limit bytes w0 w1 verdict
+ShowsDigits limit r0 r1 w0 w1 (Err error) = (text : List ℕ) × ShowDigitsStopped limit r0 r1 w0 w1 text error
 
 -- What show did, with --hex or without, by its verdict.
-abbrev pub DoesShow : Bool → SourceLog → SourceLog → SinkLog → SinkLog → Result Verdict ToolErr → Type 0
-DoesShow false r0 r1 w0 w1 outcome = Shows LIMIT r0 r1 w0 w1 outcome
-DoesShow true r0 r1 w0 w1 outcome = ShowsDigits r0 r1 w0 w1 outcome
+abbrev pub DoesShow : Bool → (limit : ℕ) → SourceLog → SourceLog → SinkLog → SinkLog → Result Verdict ToolErr → Type 0
+DoesShow false limit r0 r1 w0 w1 outcome = Shows limit r0 r1 w0 w1 outcome
+DoesShow true limit r0 r1 w0 w1 outcome = ShowsDigits limit r0 r1 w0 w1 outcome
 
 -- bytes as one line of upper-case digits, and no bytes as nothing
 abbrev pub digit_line : List ℕ → List ℕ
@@ -80,42 +76,42 @@ digit_line [] = []
 digit_line (byte ∷ bytes) = encode_upper (byte ∷ bytes) ++ codes "\n"
 
 -- No encoding was made of what was read, for this reason.
-abbrev pub NotEncoded : SourceLog → SourceLog → ToolErr → Type 0
-NotEncoded r0 r1 (Listing line reason) = (bytes : List ℕ) × ListingRefused LIMIT r0 r1 line reason bytes
-NotEncoded r0 r1 Read = (n : ℕ) × (front : List ℕ) × GaveAndFailed r0 r1 n front
-NotEncoded r0 r1 Bound = (front : List ℕ) × Gave r0 r1 MOST_READS front
-NotEncoded r0 r1 Memory = (front : List ℕ) × WasRead r0 r1 front
-NotEncoded r0 r1 Write = ⊥
-NotEncoded r0 r1 (Script line) = ⊥
-NotEncoded r0 r1 Broken = ⊥
-NotEncoded r0 r1 Early = ⊥
-NotEncoded r0 r1 Hex = ⊥
-NotEncoded r0 r1 (Peer status) = ⊥
-NotEncoded r0 r1 Strange = ⊥
+abbrev pub NotEncoded : ℕ → SourceLog → SourceLog → ToolErr → Type 0
+NotEncoded limit r0 r1 (Listing line reason) = (bytes : List ℕ) × ListingRefused limit r0 r1 line reason bytes
+NotEncoded limit r0 r1 Read = (n : ℕ) × (front : List ℕ) × GaveAndFailed r0 r1 n front
+NotEncoded limit r0 r1 Bound = (front : List ℕ) × Gave r0 r1 MOST_READS front
+NotEncoded limit r0 r1 Memory = (front : List ℕ) × WasRead r0 r1 front
+NotEncoded limit r0 r1 Write = ⊥
+NotEncoded limit r0 r1 (Script line) = ⊥
+NotEncoded limit r0 r1 Broken = ⊥
+NotEncoded limit r0 r1 Early = ⊥
+NotEncoded limit r0 r1 Hex = ⊥
+NotEncoded limit r0 r1 (Peer status) = ⊥
+NotEncoded limit r0 r1 Strange = ⊥
 
 -- the encoding of all that was read, or why there is none
-abbrev pub Gathers : SourceLog → SourceLog → Result (List ℕ) ToolErr → Type 0
-Gathers r0 r1 (Ok bytes) = (text : List ℕ) × ReadAll r0 r1 text × Encodes LIMIT text bytes
-Gathers r0 r1 (Err error) = NotEncoded r0 r1 error
+abbrev pub Gathers : ℕ → SourceLog → SourceLog → Result (List ℕ) ToolErr → Type 0
+Gathers limit r0 r1 (Ok bytes) = (text : List ℕ) × ReadAll r0 r1 text × Encodes limit text bytes
+Gathers limit r0 r1 (Err error) = NotEncoded limit r0 r1 error
 
 -- a front of the digits of the encoding was written, and then a write failed
-abbrev pub DigitsUnwritten : SourceLog → SourceLog → SinkLog → SinkLog → Type 0
-DigitsUnwritten r0 r1 w0 w1 = (text bytes front : List ℕ) × ReadAll r0 r1 text × Encodes LIMIT text bytes × IsPrefix front (digit_line bytes) × WroteAndFailed w0 w1 front
+abbrev pub DigitsUnwritten : ℕ → SourceLog → SourceLog → SinkLog → SinkLog → Type 0
+DigitsUnwritten limit r0 r1 w0 w1 = (text bytes front : List ℕ) × ReadAll r0 r1 text × Encodes limit text bytes × IsPrefix front (digit_line bytes) × WroteAndFailed w0 w1 front
 
 -- What encode to hexadecimal digits did, by its answer.
-abbrev pub EncodesDigits : SourceLog → SourceLog → SinkLog → SinkLog → Result (Unit {0}) ToolErr → Type 0
-EncodesDigits r0 r1 w0 w1 (Ok u) = (text bytes : List ℕ) × ReadAll r0 r1 text × Encodes LIMIT text bytes × Wrote w0 w1 (digit_line bytes)
-EncodesDigits r0 r1 w0 w1 (Err error) = ((w1 ≡ w0) × NotEncoded r0 r1 error) ⊎ ((error ≡ Write) × DigitsUnwritten r0 r1 w0 w1)
+abbrev pub EncodesDigits : ℕ → SourceLog → SourceLog → SinkLog → SinkLog → Result (Unit {0}) ToolErr → Type 0
+EncodesDigits limit r0 r1 w0 w1 (Ok u) = (text bytes : List ℕ) × ReadAll r0 r1 text × Encodes limit text bytes × Wrote w0 w1 (digit_line bytes)
+EncodesDigits limit r0 r1 w0 w1 (Err error) = ((w1 ≡ w0) × NotEncoded limit r0 r1 error) ⊎ ((error ≡ Write) × DigitsUnwritten limit r0 r1 w0 w1)
 
 -- What encode did, by its answer.
-abbrev pub EncodesBytes : SourceLog → SourceLog → SinkLog → SinkLog → Result (Unit {0}) ToolErr → Type 0
-EncodesBytes r0 r1 w0 w1 (Ok u) = Encoded LIMIT r0 r1 w0 w1
-EncodesBytes r0 r1 w0 w1 (Err error) = EncodeStopped LIMIT r0 r1 w0 w1 error
+abbrev pub EncodesBytes : ℕ → SourceLog → SourceLog → SinkLog → SinkLog → Result (Unit {0}) ToolErr → Type 0
+EncodesBytes limit r0 r1 w0 w1 (Ok u) = Encoded limit r0 r1 w0 w1
+EncodesBytes limit r0 r1 w0 w1 (Err error) = EncodeStopped limit r0 r1 w0 w1 error
 
 -- What encode did, with --hex or without.
-abbrev pub DoesEncode : Bool → SourceLog → SourceLog → SinkLog → SinkLog → Result (Unit {0}) ToolErr → Type 0
-DoesEncode false r0 r1 w0 w1 outcome = EncodesBytes r0 r1 w0 w1 outcome
-DoesEncode true r0 r1 w0 w1 outcome = EncodesDigits r0 r1 w0 w1 outcome
+abbrev pub DoesEncode : Bool → (limit : ℕ) → SourceLog → SourceLog → SinkLog → SinkLog → Result (Unit {0}) ToolErr → Type 0
+DoesEncode false limit r0 r1 w0 w1 outcome = EncodesBytes limit r0 r1 w0 w1 outcome
+DoesEncode true limit r0 r1 w0 w1 outcome = EncodesDigits limit r0 r1 w0 w1 outcome
 
 -- Memory ran out before a command began: nothing was read or written.
 pub record IsNotBegun (r0 r1 : SourceLog) (w0 w1 e0 e1 : SinkLog) (answer : Result ℕ ToolErr) : Type 0 where
@@ -135,16 +131,16 @@ fine_status (Ok u) = Ok 0
 fine_status (Err error) = Err error
 
 -- Show ran to this answer.
-abbrev pub RanShow : Bool → SourceLog → SourceLog → SinkLog → SinkLog → SinkLog → SinkLog → Result ℕ ToolErr → Type 0
-RanShow hex r0 r1 w0 w1 e0 e1 answer =
+abbrev pub RanShow : Bool → (limit : ℕ) → SourceLog → SourceLog → SinkLog → SinkLog → SinkLog → SinkLog → Result ℕ ToolErr → Type 0
+RanShow hex limit r0 r1 w0 w1 e0 e1 answer =
     IsNotBegun r0 r1 w0 w1 e0 e1 answer
-    ⊎ ((outcome : Result Verdict ToolErr) × DoesShow hex r0 r1 w0 w1 outcome × Answers (verdict_status outcome) e0 e1 answer)
+    ⊎ ((outcome : Result Verdict ToolErr) × DoesShow hex limit r0 r1 w0 w1 outcome × Answers (verdict_status outcome) e0 e1 answer)
 
 -- Encode ran to this answer.
-abbrev pub RanEncode : Bool → SourceLog → SourceLog → SinkLog → SinkLog → SinkLog → SinkLog → Result ℕ ToolErr → Type 0
-RanEncode hex r0 r1 w0 w1 e0 e1 answer =
+abbrev pub RanEncode : Bool → (limit : ℕ) → SourceLog → SourceLog → SinkLog → SinkLog → SinkLog → SinkLog → Result ℕ ToolErr → Type 0
+RanEncode hex limit r0 r1 w0 w1 e0 e1 answer =
     IsNotBegun r0 r1 w0 w1 e0 e1 answer
-    ⊎ ((outcome : Result (Unit {0}) ToolErr) × DoesEncode hex r0 r1 w0 w1 outcome × Answers (fine_status outcome) e0 e1 answer)
+    ⊎ ((outcome : Result (Unit {0}) ToolErr) × DoesEncode hex limit r0 r1 w0 w1 outcome × Answers (fine_status outcome) e0 e1 answer)
 
 -- Epc ran to this answer. It reads nothing.
 abbrev pub RanEpc : List ℕ → SourceLog → SourceLog → SinkLog → SinkLog → SinkLog → SinkLog → Result ℕ ToolErr → Type 0

@@ -1,7 +1,8 @@
 //! The command line: the commands that its words name, their exit statuses, and their errors' lines.
 
-ghost use Rattle.std.specs.Prelude.{◌+◌, ◌<◌, ◌^◌, ◌≡◌, Bool, IfErr, IfOk, List, MatchResult, codes, map, string_bytes, ℕ};
+ghost use Rattle.std.specs.Prelude.{◌+◌, ◌<◌, ◌≤◌, ◌^◌, ◌≡◌, Bool, IfErr, IfOk, List, MatchResult, codes, map, string_bytes, ℕ};
 ghost use Rattle.std.specs.List.{flat_map};
+ghost use Rattle.llrp_tree.specs.declared.TheConstants.{MAX_LIMIT};
 ghost use Rattle.llrp_tool.specs.Command.{Answers, DoesEncode, DoesShow, EncodesDigits, FailsAsTold, Gathers, LeftAlone, RanEncode, RanEpc, RanShow, ShowsDigits, digit_line, error_line, error_status, fine_status, memory_error, status_of, verdict_status};
 ghost use Rattle.llrp_listing.specs.Copying.{Writes};
 ghost use Rattle.llrp_stream.specs.Device.{IsFreshSource};
@@ -16,11 +17,12 @@ use llrp_stream::{Output, Sink, Source};
 use std::alloc::{AllocError, Global};
 use std::convert::AsStr;
 
-/// The greatest message in octets that a command takes.
-const LIMIT: u32 = 65_536;
+/// The greatest message in octets that `sim`, `inventory` and `loop` take and send, and `show` and `encode` without
+/// --limit.
+pub const LIMIT: u32 = 65_536;
 
-/// The exit status where no command was understood, or where the program runs it itself.
-const USAGE: u8 = 2;
+/// The exit status where no command was understood. [`run_command`] also returns it where the program runs the command itself.
+pub const USAGE: u8 = 2;
 
 /// The exit status of a verdict.
 fn status_of(verdict: Verdict) -> u8
@@ -112,31 +114,41 @@ pub fn answer<E: Sink>(outcome: Result<u8, ToolErr>, e: &mut E) -> Result<u8, To
 }
 
 /// The listing of a stream of hexadecimal digits, which are read whole and checked first.
-fn show_digits<R: Source, W: Sink>(alloc: Global, r: &mut R, w: &mut W) -> Result<Verdict, ToolErr>
+fn show_digits<R: Source, W: Sink>(
+    alloc: Global,
+    limit: u32,
+    r: &mut R,
+    w: &mut W,
+) -> Result<Verdict, ToolErr>
+    requires least { 10 ≤ limit }
+    requires most { limit ≤ MAX_LIMIT }
     requires source { IsFreshSource (R.log r.old) }
     requires sink { (W.log w.old).failures < 2 ^ 63 }
-    ensures { ShowsDigits (R.log r.old) (R.log r.new) (W.log w.old) (W.log w.new) result }
+    ensures { ShowsDigits limit (R.log r.old) (R.log r.new) (W.log w.old) (W.log w.new) result }
 {
     let text = read_all(alloc, r)?;
     let stream = bytes_of_hex(alloc, text.as_slice())?;
-    list_stream(alloc, stream.as_slice(), w, LIMIT)
+    list_stream(alloc, stream.as_slice(), w, limit)
 }
 
 /// The command show.
 fn show<R: Source, W: Sink>(
     alloc: Global,
     hex: bool,
+    limit: u32,
     r: &mut R,
     w: &mut W,
 ) -> Result<Verdict, ToolErr>
+    requires least { 10 ≤ limit }
+    requires most { limit ≤ MAX_LIMIT }
     requires source { IsFreshSource (R.log r.old) }
     requires sink { (W.log w.old).failures < 2 ^ 63 }
-    ensures { DoesShow hex (R.log r.old) (R.log r.new) (W.log w.old) (W.log w.new) result }
+    ensures { DoesShow hex limit (R.log r.old) (R.log r.new) (W.log w.old) (W.log w.new) result }
 {
     if hex {
-        show_digits(alloc, r, w)
+        show_digits(alloc, limit, r, w)
     } else {
-        run_show(alloc, r, w, LIMIT)
+        run_show(alloc, r, w, limit)
     }
 }
 
@@ -151,14 +163,16 @@ fn memory_error(error: ToolErr) -> ToolErr
 }
 
 /// The bytes of a listing, gathered in memory.
-fn encoded<R: Source>(alloc: Global, r: &mut R) -> Result<Vec<u8>, ToolErr>
-    requires { IsFreshSource (R.log r.old) }
+fn encoded<R: Source>(alloc: Global, limit: u32, r: &mut R) -> Result<Vec<u8>, ToolErr>
+    requires least { 10 ≤ limit }
+    requires most { limit ≤ MAX_LIMIT }
+    requires source { IsFreshSource (R.log r.old) }
     ensures { MatchResult result
-        (λ bytes. Gathers (R.log r.old) (R.log r.new) (Ok bytes.items))
-        (λ e. Gathers (R.log r.old) (R.log r.new) (Err e)) }
+        (λ bytes. Gathers limit (R.log r.old) (R.log r.new) (Ok bytes.items))
+        (λ e. Gathers limit (R.log r.old) (R.log r.new) (Err e)) }
 {
     let mut gathered = Output::new(Vec::new(alloc));
-    match run_encode(alloc, r, &mut gathered, LIMIT) {
+    match run_encode(alloc, r, &mut gathered, limit) {
         Ok(()) => Ok(gathered.into_inner()),
         Err(error) => Err(memory_error(error)),
     }
@@ -177,26 +191,41 @@ fn digit_line(alloc: Global, bytes: &[u8]) -> Result<String, AllocError>
 }
 
 /// The bytes of a listing as hexadecimal digits, written once the whole listing was read.
-fn encode_digits<R: Source, W: Sink>(alloc: Global, r: &mut R, w: &mut W) -> Result<(), ToolErr>
+fn encode_digits<R: Source, W: Sink>(
+    alloc: Global,
+    limit: u32,
+    r: &mut R,
+    w: &mut W,
+) -> Result<(), ToolErr>
+    requires least { 10 ≤ limit }
+    requires most { limit ≤ MAX_LIMIT }
     requires source { IsFreshSource (R.log r.old) }
     requires sink { (W.log w.old).failures < 2 ^ 63 }
-    ensures { EncodesDigits (R.log r.old) (R.log r.new) (W.log w.old) (W.log w.new) result }
+    ensures { EncodesDigits limit (R.log r.old) (R.log r.new) (W.log w.old) (W.log w.new) result }
 {
-    let bytes = encoded(alloc, r)?;
+    let bytes = encoded(alloc, limit, r)?;
     let line = digit_line(alloc, bytes.as_slice())?;
     write_all(w, line.as_bytes())
 }
 
 /// The command encode.
-fn encode<R: Source, W: Sink>(alloc: Global, hex: bool, r: &mut R, w: &mut W) -> Result<(), ToolErr>
+fn encode<R: Source, W: Sink>(
+    alloc: Global,
+    hex: bool,
+    limit: u32,
+    r: &mut R,
+    w: &mut W,
+) -> Result<(), ToolErr>
+    requires least { 10 ≤ limit }
+    requires most { limit ≤ MAX_LIMIT }
     requires source { IsFreshSource (R.log r.old) }
     requires sink { (W.log w.old).failures < 2 ^ 63 }
-    ensures { DoesEncode hex (R.log r.old) (R.log r.new) (W.log w.old) (W.log w.new) result }
+    ensures { DoesEncode hex limit (R.log r.old) (R.log r.new) (W.log w.old) (W.log w.new) result }
 {
     if hex {
-        encode_digits(alloc, r, w)
+        encode_digits(alloc, limit, r, w)
     } else {
-        run_encode(alloc, r, w, LIMIT)
+        run_encode(alloc, r, w, limit)
     }
 }
 
@@ -237,27 +266,33 @@ pub fn run_command<S: AsStr, R: Source, W: Sink, E: Sink>(
     requires errors { (E.log e.old).failures < 2 ^ 63 }
 
     // Where the words ask for show or encode, it does what that command does.
-    ensures show { (hex : Bool) → Asks (map S.text words.entry.now) (codes "show") hex
-        → RanShow hex (R.log r.old) (R.log r.new) (W.log w.old) (W.log w.new) (E.log e.old) (E.log e.new) result }
-    ensures encode { (hex : Bool) → Asks (map S.text words.entry.now) (codes "encode") hex
-        → RanEncode hex (R.log r.old) (R.log r.new) (W.log w.old) (W.log w.new) (E.log e.old) (E.log e.new) result }
+    ensures show { (hex : Bool) (limit : ℕ)
+        → Asks (map S.text words.entry.now) (codes "show") hex limit
+        → RanShow hex limit (R.log r.old) (R.log r.new) (W.log w.old) (W.log w.new) (E.log e.old)
+        (E.log e.new) result }
+    ensures encode { (hex : Bool) (limit : ℕ)
+        → Asks (map S.text words.entry.now) (codes "encode") hex limit
+        → RanEncode hex limit (R.log r.old) (R.log r.new) (W.log w.old) (W.log w.new) (E.log e.old)
+        (E.log e.new) result }
 
     // Where they ask for epc, it does what epc does with the text.
     ensures epc { (text : List ℕ) → AsksEpc (map S.text words.entry.now) text
-        → RanEpc text (R.log r.old) (R.log r.new) (W.log w.old) (W.log w.new) (E.log e.old) (E.log e.new) result }
+        → RanEpc text (R.log r.old) (R.log r.new) (W.log w.old) (W.log w.new) (E.log e.old)
+        (E.log e.new) result }
 
     // The other commands are left to the program.
     ensures elsewhere { AsksElsewhere (map S.text words.entry.now)
-        → LeftAlone (R.log r.old) (R.log r.new) (W.log w.old) (W.log w.new) (E.log e.old) (E.log e.new) result }
+        → LeftAlone (R.log r.old) (R.log r.new) (W.log w.old) (W.log w.new) (E.log e.old)
+        (E.log e.new) result }
     ensures errors { IfErr result (λ error. FailsAsTold (E.log e.old) (E.log e.new) error) }
 {
     match request_of(alloc, words)? {
-        Request::Show { hex } => {
-            let outcome = show(alloc, hex, r, w);
+        Request::Show { hex, limit } => {
+            let outcome = show(alloc, hex, limit, r, w);
             answer(verdict_status(outcome), e)
         }
-        Request::Encode { hex } => {
-            let outcome = encode(alloc, hex, r, w);
+        Request::Encode { hex, limit } => {
+            let outcome = encode(alloc, hex, limit, r, w);
             answer(fine_status(outcome), e)
         }
         Request::Epc { text } => {

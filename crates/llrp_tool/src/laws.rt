@@ -1,5 +1,5 @@
 //! What holds of the parse of the words. What holds of every listing, of what `epc` prints, and of both ends of a connection is
-//! in the layers below and handed on.
+//! in the layers below and re-exported here.
 
 ghost use Rattle.std.specs.Prelude.{Bool, List, Some, codes, true, ◌≡◌, ℕ};
 ghost use Rattle.llrp_tool.specs.Words.{Asks, AsksEpc, command_in, name_in, parses};
@@ -16,11 +16,16 @@ pub use llrp_listing::laws::{
 
 /// Where the parse of the words succeeds and names epc, its text is there.
 pub fn epc_has_text()
-    ensures { (words : List (List ℕ)) → parses words ≡ true → name_in (command_in words) ≡ Some (codes "epc") → (text : List ℕ) × AsksEpc words text }
+    ensures { (words : List (List ℕ)) → parses words ≡ true
+        → name_in (command_in words) ≡ Some (codes "epc") → (text : List ℕ) × AsksEpc words text }
 {}
 
-/// Where the parse of the words succeeds and names show or encode, the words ask for it with --hex or without.
+/// Where the parse of the words succeeds and names show or encode, the words ask for it with --hex or without, and with one limit.
 pub fn show_and_encode_have_flag()
-    ensures show { (words : List (List ℕ)) → parses words ≡ true → name_in (command_in words) ≡ Some (codes "show") → (hex : Bool) × Asks words (codes "show") hex }
-    ensures encode { (words : List (List ℕ)) → parses words ≡ true → name_in (command_in words) ≡ Some (codes "encode") → (hex : Bool) × Asks words (codes "encode") hex }
+    ensures show { (words : List (List ℕ)) → parses words ≡ true
+        → name_in (command_in words) ≡ Some (codes "show") → (hex : Bool) × (limit : ℕ)
+        × Asks words (codes "show") hex limit }
+    ensures encode { (words : List (List ℕ)) → parses words ≡ true
+        → name_in (command_in words) ≡ Some (codes "encode") → (hex : Bool) × (limit : ℕ)
+        × Asks words (codes "encode") hex limit }
 {}

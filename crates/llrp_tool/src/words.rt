@@ -1,18 +1,22 @@
 //! What the words of the command line ask for.
 
-ghost use Rattle.std.specs.Prelude.{◌≡◌, IfOk, IfSome, List, Some, codes, false, map, true, ℕ};
+ghost use Rattle.std.specs.Prelude.{◌≡◌, ◌↔◌, IfOk, IfSome, IsTrue, List, Some, codes, false, map, true, ℕ};
 ghost use Rattle.clap.specs.Words.{App, app_of, found_of, rows_of, rule_of, subcommand_rows_of, with_rule, with_subcommand};
 ghost use Rattle.clap.specs.declared.builder.command.Command.TheViews.{out-Command};
-ghost use Rattle.llrp_tool.specs.Parse.{HasNumberWord, IsFound, IsNetworkParse, IsParse, IsText};
-ghost use Rattle.llrp_tool.specs.Words.{HasNumber, IsNetwork, IsRequest, NetworkAsked, command_in, hex_app, inventory_app, llrp_app, loop_app, number_rule, parses, port_app, port_rule, streams_app, text_app, top_app, with_address, with_plan};
+ghost use Rattle.llrp_tool.specs.Parse.{HasLimitWord, HasNumberWord, IsFound, IsNetworkParse, IsParse, IsText, MayHaveNumberWord};
+ghost use Rattle.llrp_tool.specs.Words.{AsksForInput, HasLimit, HasNumber, HasOptionalNumber, IsLimit, IsNetwork, IsRequest, NetworkAsked, check_rule, command_in, hex_app, inventory_app, limit_rule, llrp_app, loop_app, number_rule, parses, port_app, port_rule, stream_app, streams_app, text_app, timeout_rule, top_app, with_address, with_plan};
 
 mod help;
 
 use clap::error::ErrorKind;
 use clap::{Arg, ArgAction, ArgMatches, Command, value_parser};
 use help::{ENCODE_HELP, EPC_HELP, INVENTORY_HELP, LOOP_HELP, SHOW_HELP, SIM_HELP};
+use llrp_tree::MAX_LIMIT;
 use std::alloc::{AllocError, Global};
 use std::convert::AsStr;
+
+/// The version, which `--version` prints.
+const VERSION: &str = "0.1.0";
 
 /// A command that the program runs itself, over sockets.
 #[derive(Clone, Copy, Debug, PartialEq, Eq)]
@@ -21,27 +25,32 @@ pub enum NetworkCommand<'a> {
     Sim {
         port: u16,
     },
-    /// An inventory of the reader at this host and port, by a plan of these two numbers.
+    /// An inventory of the reader at this host and port, by a plan of these two numbers, checked or not.
+    /// A connection or a read that gets nothing for this many seconds fails.
     Inventory {
         host: &'a str,
         port: u16,
         every: u16,
         polls: u16,
+        check: bool,
+        timeout: Option<u16>,
     },
-    /// An inventory of a simulated reader, by a script and a plan of these two numbers.
+    /// An inventory of a simulated reader, by a script and a plan of these two numbers, checked or not.
     Loop {
         every: u16,
         polls: u16,
+        check: bool,
     },
 }
 
 /// What the words ask for.
 #[derive(Drop)]
 pub enum Request<'a> {
-    /// The listing of a stream of bytes, or of hexadecimal digits.
-    Show { hex: bool },
-    /// The bytes of a listing, or their hexadecimal digits.
-    Encode { hex: bool },
+    /// The listing of a stream of bytes, or of hexadecimal digits. A longer message than this many octets is a
+    /// fault.
+    Show { hex: bool, limit: u32 },
+    /// The bytes of a listing, or their hexadecimal digits. A longer message than this many octets is refused.
+    Encode { hex: bool, limit: u32 },
     /// The text of a word's digits, or the digits of a word's text.
     Epc { text: &'a str },
     /// A command that the program runs itself.
@@ -71,6 +80,34 @@ fn hex_command<'a>(
         .about(about)
         .after_help(help)
         .arg(hex)
+}
+
+/// The option --limit, from 10 to the greatest number of octets of a message.
+fn limit_option<'a>(alloc: Global) -> Arg<'a>
+    ensures rule { rule_of result ≡ limit_rule }
+    ensures local { result.global ≡ false }
+{
+    Arg::new(alloc, "limit")
+        .long("limit")
+        .value_name("N")
+        .value_parser(value_parser!(u32).range(10..=MAX_LIMIT as i64))
+        .default_value("65536")
+        .help("The most octets that a message may have")
+}
+
+/// A command over a stream, with --hex and --limit.
+fn stream_command<'a>(
+    alloc: Global,
+    name: &'a str,
+    about: &'a str,
+    flag: &'a str,
+    help: &'a str,
+) -> Result<Command<'a>, AllocError>
+    ensures app { IfOk result (λ c. app_of c ≡ stream_app name.entry.now) }
+    ensures local { IfOk result (λ c. (out-Command c).has_globals ≡ false) }
+{
+    let command = hex_command(alloc, name, about, flag, help);
+    with_argument(command, limit_option(alloc))
 }
 
 /// The argument PORT, from 1 to 65,535, which must be given.
@@ -103,6 +140,29 @@ fn number_option<'a>(
         .help(help)
 }
 
+/// The flag --check.
+fn check_flag<'a>(alloc: Global) -> Arg<'a>
+    ensures rule { rule_of result ≡ check_rule }
+    ensures local { result.global ≡ false }
+{
+    Arg::new(alloc, "check")
+        .long("check")
+        .action(ArgAction::SetTrue)
+        .help("Compare the reader's table with what the client sees")
+}
+
+/// The option --timeout, from 1 to 65,535.
+fn timeout_option<'a>(alloc: Global) -> Arg<'a>
+    ensures rule { rule_of result ≡ timeout_rule }
+    ensures local { result.global ≡ false }
+{
+    Arg::new(alloc, "timeout")
+        .long("timeout")
+        .value_name("SECONDS")
+        .value_parser(value_parser!(u16).range(1..))
+        .help("How long the reader may be silent; without it, for ever")
+}
+
 /// The command, if there is one, with one argument more.
 fn with_argument<'a>(
     command: Result<Command<'a>, AllocError>,
@@ -110,7 +170,8 @@ fn with_argument<'a>(
 ) -> Result<Command<'a>, AllocError>
     ensures app { (a : App) → IfOk command.entry (λ c. app_of c ≡ a) → argument.entry.global ≡ false
         → IfOk result (λ c. app_of c ≡ with_rule a (rule_of argument.entry)) }
-    ensures local { IfOk command.entry (λ c. (out-Command c).has_globals ≡ false) → argument.entry.global ≡ false
+    ensures local { IfOk command.entry (λ c. (out-Command c).has_globals ≡ false)
+        → argument.entry.global ≡ false
         → IfOk result (λ c. (out-Command c).has_globals ≡ false) }
 {
     command?.arg(argument)
@@ -121,8 +182,10 @@ fn with_command<'a>(
     command: Result<Command<'a>, AllocError>,
     below: Result<Command<'a>, AllocError>,
 ) -> Result<Command<'a>, AllocError>
-    ensures { (a b : App) → IfOk command.entry (λ c. app_of c ≡ a) → IfOk below.entry (λ c. app_of c ≡ b)
-        → IfOk below.entry (λ c. (out-Command c).has_globals ≡ false) → IfOk result (λ c. app_of c ≡ with_subcommand a b.top) }
+    ensures { (a b : App) → IfOk command.entry (λ c. app_of c ≡ a)
+        → IfOk below.entry (λ c. app_of c ≡ b)
+        → IfOk below.entry (λ c. (out-Command c).has_globals ≡ false)
+        → IfOk result (λ c. app_of c ≡ with_subcommand a b.top) }
 {
     command?.subcommand(below?)
 }
@@ -132,8 +195,10 @@ fn with_plan<'a>(
     alloc: Global,
     command: Result<Command<'a>, AllocError>,
 ) -> Result<Command<'a>, AllocError>
-    ensures app { (a : App) → IfOk command.entry (λ c. app_of c ≡ a) → IfOk result (λ c. app_of c ≡ with_plan a) }
-    ensures local { IfOk command.entry (λ c. (out-Command c).has_globals ≡ false) → IfOk result (λ c. (out-Command c).has_globals ≡ false) }
+    ensures app { (a : App) → IfOk command.entry (λ c. app_of c ≡ a)
+        → IfOk result (λ c. app_of c ≡ with_plan a) }
+    ensures local { IfOk command.entry (λ c. (out-Command c).has_globals ≡ false)
+        → IfOk result (λ c. (out-Command c).has_globals ≡ false) }
 {
     let every = number_option(
         alloc,
@@ -143,13 +208,15 @@ fn with_plan<'a>(
         "How many tags make a report; 0 leaves it to the polls",
     );
     let polls = number_option(alloc, "polls", "P", "1", "How often reports are asked for");
-    with_argument(with_argument(command, every), polls)
+    let check = check_flag(alloc);
+    with_argument(with_argument(with_argument(command, every), polls), check)
 }
 
 /// The command with the arguments HOST and PORT.
 fn with_address<'a>(alloc: Global, command: Command<'a>) -> Result<Command<'a>, AllocError>
     ensures app { IfOk result (λ c. app_of c ≡ with_address (app_of command.entry)) }
-    ensures local { (out-Command command.entry).has_globals ≡ false → IfOk result (λ c. (out-Command c).has_globals ≡ false) }
+    ensures local { (out-Command command.entry).has_globals ≡ false
+        → IfOk result (λ c. (out-Command c).has_globals ≡ false) }
 {
     let host = Arg::new(alloc, "HOST")
         .required(true)
@@ -160,10 +227,10 @@ fn with_address<'a>(alloc: Global, command: Command<'a>) -> Result<Command<'a>, 
 
 /// The command show.
 fn show_command<'a>(alloc: Global) -> Result<Command<'a>, AllocError>
-    ensures app { IfOk result (λ c. app_of c ≡ hex_app (codes "show")) }
+    ensures app { IfOk result (λ c. app_of c ≡ stream_app (codes "show")) }
     ensures local { IfOk result (λ c. (out-Command c).has_globals ≡ false) }
 {
-    hex_command(
+    stream_command(
         alloc,
         "show",
         "List the messages of a stream of bytes",
@@ -174,10 +241,10 @@ fn show_command<'a>(alloc: Global) -> Result<Command<'a>, AllocError>
 
 /// The command encode.
 fn encode_command<'a>(alloc: Global) -> Result<Command<'a>, AllocError>
-    ensures app { IfOk result (λ c. app_of c ≡ hex_app (codes "encode")) }
+    ensures app { IfOk result (λ c. app_of c ≡ stream_app (codes "encode")) }
     ensures local { IfOk result (λ c. (out-Command c).has_globals ≡ false) }
 {
-    hex_command(
+    stream_command(
         alloc,
         "encode",
         "Write the bytes of a listing of messages",
@@ -219,7 +286,8 @@ fn inventory_command<'a>(alloc: Global) -> Result<Command<'a>, AllocError>
     let command = Command::new(alloc, "inventory")
         .about("Print the tags that a reader sees")
         .after_help(INVENTORY_HELP);
-    with_plan(alloc, with_address(alloc, command))
+    let planned = with_plan(alloc, with_address(alloc, command));
+    with_argument(planned, timeout_option(alloc))
 }
 
 /// The command loop.
@@ -239,6 +307,7 @@ fn top_command<'a>(alloc: Global) -> Result<Command<'a>, AllocError>
 {
     Command::new(alloc, "llrp")
         .about("Reads and writes streams of LLRP 1.1 messages")
+        .version(VERSION)
         .no_binary_name(true)
         .subcommand_required(true)
         .bin_name("llrp")
@@ -265,9 +334,29 @@ fn llrp_command<'a>(alloc: Global) -> Result<Command<'a>, AllocError>
 /// The number of an argument that the parse made sure of.
 fn number(inner: &ArgMatches<'_>, id: &str) -> u16
     requires { HasNumberWord id.now (rows_of (found_of inner.now)) }
-    ensures { (name : List ℕ) → HasNumber id.now (Some (name, rows_of (found_of inner.now))) result }
+    ensures { (name : List ℕ) → HasNumber id.now (Some
+        (name, rows_of (found_of inner.now))) result }
 {
     inner.get_one::<u16>(id).unwrap()
+}
+
+/// The limit of a command over a stream, which the parse made sure of.
+fn limit(inner: &ArgMatches<'_>) -> u32
+    requires { HasLimitWord (codes "limit") (rows_of (found_of inner.now)) }
+    ensures number { (name : List ℕ) → HasNumber (codes "limit")
+        (Some (name, rows_of (found_of inner.now))) result }
+    ensures limit { IsLimit result }
+{
+    inner.get_one::<u32>("limit").unwrap()
+}
+
+/// The number of an option that may be given, which the parse made sure of where it is.
+fn optional_number(inner: &ArgMatches<'_>, id: &str) -> Option<u16>
+    requires { MayHaveNumberWord id.now (rows_of (found_of inner.now)) }
+    ensures { (name : List ℕ) → HasOptionalNumber id.now
+        (Some (name, rows_of (found_of inner.now))) result }
+{
+    inner.get_one::<u16>(id)
 }
 
 /// The command of this name that the program runs itself.
@@ -282,21 +371,29 @@ fn network_named<'a>(name: &str, inner: &ArgMatches<'a>) -> NetworkCommand<'a>
     }
     let every = number(inner, "every");
     let polls = number(inner, "polls");
+    let check = inner.get_flag("check");
     if name == "loop" {
-        return NetworkCommand::Loop { every, polls };
+        return NetworkCommand::Loop {
+            every,
+            polls,
+            check,
+        };
     }
     NetworkCommand::Inventory {
         host: inner.get_str("HOST").unwrap(),
         port: number(inner, "PORT"),
         every,
         polls,
+        check,
+        timeout: optional_number(inner, "timeout"),
     }
 }
 
 /// The command of this name.
 fn request_named<'a>(name: &str, inner: &ArgMatches<'a>) -> Request<'a>
     requires { IsParse name.now (rows_of (found_of inner.now)) }
-    ensures { IsRequest (Some (name.now, rows_of (found_of inner.now))) result }
+    ensures request { IsRequest (Some (name.now, rows_of (found_of inner.now))) result }
+    ensures limit { HasLimit result }
 {
     if name == "epc" {
         return Request::Epc {
@@ -306,10 +403,12 @@ fn request_named<'a>(name: &str, inner: &ArgMatches<'a>) -> Request<'a>
     if name == "show" {
         Request::Show {
             hex: inner.get_flag("hex"),
+            limit: limit(inner),
         }
     } else if name == "encode" {
         Request::Encode {
             hex: inner.get_flag("hex"),
+            limit: limit(inner),
         }
     } else {
         Request::Network(network_named(name, inner))
@@ -319,7 +418,8 @@ fn request_named<'a>(name: &str, inner: &ArgMatches<'a>) -> Request<'a>
 /// The command that the words named.
 fn chosen<'a>(matches: &ArgMatches<'a>) -> Request<'a>
     requires { IsFound (subcommand_rows_of matches.now) }
-    ensures { IsRequest (subcommand_rows_of matches.now) result }
+    ensures request { IsRequest (subcommand_rows_of matches.now) result }
+    ensures limit { HasLimit result }
 {
     let (name, inner) = matches.subcommand().unwrap();
     request_named(name, inner)
@@ -329,7 +429,9 @@ fn chosen<'a>(matches: &ArgMatches<'a>) -> Request<'a>
 pub fn request_of<'a, S: AsStr>(alloc: Global, words: &'a [S]) -> Result<Request<'a>, AllocError>
     ensures named { IfOk result (λ request. parses (map S.text words.entry.now) ≡ true
         → IsRequest (command_in (map S.text words.entry.now)) request) }
-    ensures refused { IfOk result (λ request. parses (map S.text words.entry.now) ≡ false → IsText request) }
+    ensures refused { IfOk result (λ request. parses (map S.text words.entry.now) ≡ false
+        → IsText request) }
+    ensures limit { IfOk result (λ request. HasLimit request) }
 {
     let command = llrp_command(alloc)?;
     match command.try_get_matches_from(words) {
@@ -360,4 +462,13 @@ pub fn network_command<'a, S: AsStr>(
         Request::Network(command) => Ok(Some(command)),
         _ => Ok(None),
     }
+}
+
+/// Whether the words ask for a command that reads standard input to its end, `show` or `encode`. The only error is
+/// that of memory.
+pub fn reads_input<S: AsStr>(alloc: Global, words: &[S]) -> Result<bool, AllocError>
+    ensures { IfOk result (λ reads. IsTrue reads ↔ AsksForInput (map S.text words.entry.now)) }
+{
+    let request = request_of(alloc, words)?;
+    Ok(matches!(&request, Request::Show { .. } | Request::Encode { .. }))
 }

@@ -30,7 +30,8 @@ impl ClientSide {
     pub fn new(alloc: Global, plan: Plan, limit: u32) -> ClientSide
         requires least { 4096 ≤ limit }
         requires most { limit ≤ MAX_LIMIT }
-        ensures stands { (e : Ends) (log : SinkLog) → e.limit ≡ limit → e.plan ≡ plan → ClientStands e [] [] log log result.gathering result.said.items result.lines.items }
+        ensures stands { (e : Ends) (log : SinkLog) → e.limit ≡ limit → e.plan ≡ plan
+            → ClientStands e [] [] log log result.gathering result.said.items result.lines.items }
         ensures unread { result.reads ≡ 0 }
     {
         ClientSide {
@@ -41,8 +42,8 @@ impl ClientSide {
         }
     }
 
-    /// Reads so many bytes and takes them as they come; the lines of the tags are written before the next
-    /// read. The answer is whether the connection was closed as planned, behind which nothing is read.
+    /// Reads this many bytes and takes them as they come; the lines of the tags are written before the next
+    /// read. Returns whether the connection was closed as planned, after which nothing is read.
     pub fn hear<R: Source, P: Sink>(
         &mut self,
         count: usize,
@@ -56,8 +57,11 @@ impl ClientSide {
         ensures report { OnOk result ((P.log report.new).failures ≡ (P.log report.old).failures) }
         ensures counted { OnOk result (0 < count → self.old.reads < self.new.reads) }
         ensures idle { count ≡ 0 → self.new ≡ self.old }
-        ensures hears { (e : Ends) (r0 : SourceLog) (p0 : SinkLog) (down up : Traffic) → ClientStands e up.written down.read p0 (P.log report.old) self.old.gathering self.old.said.items self.old.lines.items
-            → Given r0 (R.log r.old) self.old.reads down.read → ClientHears e r0 (R.log r.new) p0 (P.log report.new) down up count self.new result }
+        ensures hears { (e : Ends) (r0 : SourceLog) (p0 : SinkLog) (down up : Traffic)
+            → ClientStands e up.written down.read p0 (P.log report.old) self.old.gathering
+            self.old.said.items self.old.lines.items
+            → Given r0 (R.log r.old) self.old.reads down.read
+            → ClientHears e r0 (R.log r.new) p0 (P.log report.new) down up count self.new result }
     {
         let mut buffer = [0u8; READ_SIZE];
         let mut left = count;

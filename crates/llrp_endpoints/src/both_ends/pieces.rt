@@ -22,8 +22,10 @@ fn take_off(bytes: &mut Vec<u8>, count: usize)
 /// answer is their number. Nothing is written where there are none. The only error is `Write`.
 pub(super) fn write_piece<W: Sink>(said: &mut Vec<u8>, w: &mut W) -> Result<usize, ToolErr>
     requires { (W.log w.old).failures + 1 < 2 ^ 64 }
-    ensures ok { IfOk result (λ n. WritesPiece said.old.items said.new.items (W.log w.old) (W.log w.new) n) }
-    ensures err { IfErr result (λ e. (e ≡ Write) × WroteAndFailed (W.log w.old) (W.log w.new) [] × (said.new.items ≡ said.old.items)) }
+    ensures ok { IfOk result (λ n. WritesPiece said.old.items said.new.items (W.log w.old)
+        (W.log w.new) n) }
+    ensures err { IfErr result (λ e. (e ≡ Write) × WroteAndFailed (W.log w.old) (W.log w.new) []
+        × (said.new.items ≡ said.old.items)) }
 {
     if said.is_empty() {
         return Ok(0);
@@ -51,11 +53,13 @@ pub(super) fn read_piece<R: Source>(
     requires buffer { 0 < length buffer.old }
     ensures some { IfOk result (λ n. 0 < n) }
     ensures within { IfOk result (λ n. n ≤ length buffer.new) }
-    ensures ok { IfOk result (λ n. (r0 : SourceLog) (before : List ℕ) → Given r0 (R.log r.old) reads.old before
+    ensures ok { IfOk result (λ n. (r0 : SourceLog) (before : List ℕ)
+        → Given r0 (R.log r.old) reads.old before
         → Given r0 (R.log r.new) reads.new (before ++ take n buffer.new)) }
     ensures counted { OnOk result (reads.new ≡ reads.old + 1) }
     ensures room { IfOk result (λ n. HasRoom (R.log r.new) reads.new) }
-    ensures err { IfErr result (λ e. (r0 : SourceLog) (before : List ℕ) → Given r0 (R.log r.old) reads.old before
+    ensures err { IfErr result (λ e. (r0 : SourceLog) (before : List ℕ)
+        → Given r0 (R.log r.old) reads.old before
         → ReadsNone r0 (R.log r.new) before e) }
 {
     if *reads == MOST_READS {

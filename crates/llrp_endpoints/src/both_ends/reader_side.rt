@@ -31,10 +31,12 @@ impl ReaderSide {
     /// The client connects. The only error is `Memory`.
     pub fn new(alloc: Global, core: Reader, script: Script) -> Result<ReaderSide, ToolErr>
         requires { IsNewReader core }
-        ensures ok { IfOk result (λ s. (e : Ends) → e.reader ≡ core → e.entries ≡ script → ReaderStands e [] [] s.serving s.said.items) }
+        ensures ok { IfOk result (λ s. (e : Ends) → e.reader ≡ core → e.entries ≡ script
+            → ReaderStands e [] [] s.serving s.said.items) }
         ensures started { IfOk result (λ s. HasStarted s.serving) }
         ensures unread { IfOk result (λ s. s.reads ≡ 0) }
-        ensures err { IfErr result (λ error. (error ≡ Memory) × (text : List ℕ) × BeginsFrames core script [] text) }
+        ensures err { IfErr result (λ error. (error ≡ Memory) × (text : List ℕ)
+            × BeginsFrames core script [] text) }
     {
         let mut serving = Serving::new(alloc, core, script);
         let mut said = Vec::new(alloc);
@@ -46,7 +48,7 @@ impl ReaderSide {
         })
     }
 
-    /// Reads so many bytes and takes them as they come. Where the client closed the connection they are
+    /// Reads this many bytes and takes them as they come. Where the client closed the connection they are
     /// dropped.
     pub fn hear<R: Source>(&mut self, count: usize, r: &mut R) -> Result<(), ToolErr>
         requires a_piece { count ≤ 4096 }
@@ -56,7 +58,9 @@ impl ReaderSide {
         ensures counted { OnOk result (0 < count → self.old.reads < self.new.reads) }
         ensures started { HasStarted self.new.serving }
         ensures idle { count ≡ 0 → self.new ≡ self.old }
-        ensures hears { (e : Ends) (r0 : SourceLog) (down up : Traffic) → ReaderStands e down.written up.read self.old.serving self.old.said.items → Given r0 (R.log r.old) self.old.reads up.read
+        ensures hears { (e : Ends) (r0 : SourceLog) (down up : Traffic)
+            → ReaderStands e down.written up.read self.old.serving self.old.said.items
+            → Given r0 (R.log r.old) self.old.reads up.read
             → ReaderHears e r0 (R.log r.new) down up count self.new result }
     {
         let mut buffer = [0u8; READ_SIZE];

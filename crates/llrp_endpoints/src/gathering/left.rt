@@ -18,11 +18,13 @@ pub enum Left {
     /// All of it.
     Adding(Plan),
     /// To enable and start the ROSpec, and what follows.
-    Enabling { polls: u16 },
+    Enabling { polls: u16, checked: bool },
     /// To start the ROSpec, and what follows.
-    Starting { polls: u16 },
-    /// To ask so many times for reports, to stop the ROSpec, and what follows.
-    Polling { polls: u16 },
+    Starting { polls: u16, checked: bool },
+    /// To ask this many times for reports, to stop the ROSpec, and what follows.
+    Polling { polls: u16, checked: bool },
+    /// To ask for the reader's ROSpecs if the plan is checked, and what follows.
+    Checking { checked: bool },
     /// To delete the ROSpec and close the connection.
     Deleting,
     /// To close the connection.
@@ -31,27 +33,40 @@ pub enum Left {
 }
 
 impl Left {
-    /// The next command and what is left behind it, if one is left.
+    /// The next command and what is left after it, if one is left.
     fn split(self) -> Option<(Command, Left)>
         ensures { Splits (commands_left self) result }
     {
         match self {
             Left::Adding(plan) => {
                 let polls = plan.polls();
+                let checked = plan.is_checked();
                 let spec = plan.into_rospec();
-                Some((Command::Add { spec }, Left::Enabling { polls }))
+                Some((Command::Add { spec }, Left::Enabling { polls, checked }))
             }
-            Left::Enabling { polls } => {
-                Some((Command::Enable { id: ROSPEC_ID }, Left::Starting { polls }))
-            }
-            Left::Starting { polls } => {
-                Some((Command::Start { id: ROSPEC_ID }, Left::Polling { polls }))
-            }
-            Left::Polling { polls: 0 } => Some((Command::Stop { id: ROSPEC_ID }, Left::Deleting)),
-            Left::Polling { polls } => Some((
-                Command::GetReport,
-                Left::Polling { polls: polls - 1 },
+            Left::Enabling { polls, checked } => Some((
+                Command::Enable { id: ROSPEC_ID },
+                Left::Starting { polls, checked },
             )),
+            Left::Starting { polls, checked } => Some((
+                Command::Start { id: ROSPEC_ID },
+                Left::Polling { polls, checked },
+            )),
+            Left::Polling { polls: 0, checked } => Some((
+                Command::Stop { id: ROSPEC_ID },
+                Left::Checking { checked },
+            )),
+            Left::Polling { polls, checked } => Some((
+                Command::GetReport,
+                Left::Polling {
+                    polls: polls - 1,
+                    checked,
+                },
+            )),
+            Left::Checking { checked: true } => Some((Command::GetRospecs, Left::Deleting)),
+            Left::Checking { checked: false } => {
+                Some((Command::Delete { id: ROSPEC_ID }, Left::Closing))
+            }
             Left::Deleting => Some((Command::Delete { id: ROSPEC_ID }, Left::Closing)),
             Left::Closing => Some((Command::Close, Left::Nothing)),
             Left::Nothing => None,

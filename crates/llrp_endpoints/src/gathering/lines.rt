@@ -14,17 +14,20 @@ use llrp_session::{field, first};
 use llrp_tree::{Node, ParamKind};
 use std::alloc::{AllocError, Global};
 use tag_bits::Word;
-use tag_uri::text_of_word;
+use tag_uri::put_text_of_word;
 
 /// Appends the text of an EPC-96's word.
 fn push_word(text: &mut Vec<u8>, epc: &Node) -> Result<(), AllocError>
     requires { IsOfKind ParamKind.Epc96 (Some epc.now) }
-    ensures { OnOk result ((word : List ℕ) × IsTextOf (slice_index epc.now.fields 0) word × (text.new.items ≡ text.old.items ++ word)) }
+    ensures { OnOk result ((word : List ℕ) × IsTextOf (slice_index epc.now.fields 0) word
+        × (text.new.items ≡ text.old.items ++ word)) }
 {
     let Some(word) = Word::new(field(ParamKind::Epc96, Some(epc), 0)) else {
         unreachable!()
     };
-    text.extend_from_slice(text_of_word(word).as_str().as_bytes())?;
+    let mut room = [0; 64];
+    let end = put_text_of_word(&mut room, 0, word);
+    text.extend_from_slice(&room[..end])?;
     Ok(())
 }
 
@@ -45,7 +48,9 @@ fn push_data(text: &mut Vec<u8>, part: Option<&Node>) -> Result<(), AllocError>
 
 /// Appends the EPC of a tag.
 fn push_epc(text: &mut Vec<u8>, tag: &Node) -> Result<(), AllocError>
-    ensures { OnOk result ((epc : List ℕ) × IsEpcText (first_of ParamKind.Epc96 tag.now) (first_of ParamKind.EpcData tag.now) epc × (text.new.items ≡ text.old.items ++ epc)) }
+    ensures { OnOk result ((epc : List ℕ)
+        × IsEpcText (first_of ParamKind.Epc96 tag.now) (first_of ParamKind.EpcData tag.now) epc
+        × (text.new.items ≡ text.old.items ++ epc)) }
 {
     match first(ParamKind::Epc96, tag.children()) {
         Some(epc) => push_word(text, epc),
@@ -56,7 +61,8 @@ fn push_epc(text: &mut Vec<u8>, tag: &Node) -> Result<(), AllocError>
 /// Appends a space and the antenna, or `-` where it is absent.
 fn push_antenna(text: &mut Vec<u8>, antenna: Option<&Node>) -> Result<(), AllocError>
     requires { IsOfKind ParamKind.AntennaId (behind antenna) }
-    ensures { OnOk result (text.new.items ≡ text.old.items ++ (32 ∷ antenna_text (behind antenna.entry))) }
+    ensures { OnOk result (text.new.items ≡ text.old.items
+        ++ (32 ∷ antenna_text (behind antenna.entry))) }
 {
     match antenna {
         None => text.extend_from_slice(b" -"),
@@ -67,7 +73,8 @@ fn push_antenna(text: &mut Vec<u8>, antenna: Option<&Node>) -> Result<(), AllocE
 /// Appends a space and the greatest RSSI, or `-` where it is absent.
 fn push_rssi(text: &mut Vec<u8>, rssi: Option<&Node>) -> Result<(), AllocError>
     requires { IsOfKind ParamKind.PeakRssi (behind rssi) }
-    ensures { OnOk result (text.new.items ≡ text.old.items ++ (32 ∷ rssi_text (behind rssi.entry))) }
+    ensures { OnOk result (text.new.items ≡ text.old.items
+        ++ (32 ∷ rssi_text (behind rssi.entry))) }
 {
     match rssi {
         None => text.extend_from_slice(b" -"),
@@ -77,7 +84,8 @@ fn push_rssi(text: &mut Vec<u8>, rssi: Option<&Node>) -> Result<(), AllocError>
 
 /// Appends the line of a tag.
 fn push_tag(text: &mut Vec<u8>, tag: &Node) -> Result<(), AllocError>
-    ensures { OnOk result ((line : List ℕ) × IsTagLine tag.now line × (text.new.items ≡ text.old.items ++ line)) }
+    ensures { OnOk result ((line : List ℕ) × IsTagLine tag.now line
+        × (text.new.items ≡ text.old.items ++ line)) }
 {
     push_epc(text, tag)?;
     push_antenna(text, first(ParamKind::AntennaId, tag.children()))?;
@@ -109,7 +117,8 @@ pub fn report_lines(alloc: Global, tags: &[Node]) -> Result<Vec<u8>, AllocError>
 /// The last line: how many tags and how many reports there were.
 #[tactic(auto, unfolding(crate::specs::TagLines::total_line))]
 pub fn total_line(alloc: Global, summary: Summary) -> Result<Vec<u8>, AllocError>
-    ensures { IfOk result (λ text. (told : List (List Tree)) → summary ≡ summary_of told → text.items ≡ the_total_line told) }
+    ensures { IfOk result (λ text. (told : List (List Tree)) → summary ≡ summary_of told
+        → text.items ≡ the_total_line told) }
 {
     let mut text = Vec::new(alloc);
     text.extend_from_slice(b"total")?;

@@ -21,8 +21,10 @@ pub(super) fn happen(
     event: ReaderIn,
     out: &mut Vec<u8>,
 ) -> Result<(), ToolErr>
-    ensures ok { OnOk result (Did core.old (record { now = now; event = event_handed event } ∷ []) core.new out.old.items out.new.items) }
-    ensures err { IfErr result (λ e. DidSome core.old (record { now = now; event = event_handed event } ∷ []) e out.old.items out.new.items) }
+    ensures ok { OnOk result (Did core.old (record { now = now; event = event_handed event }
+        ∷ []) core.new out.old.items out.new.items) }
+    ensures err { IfErr result (λ e. DidSome core.old (record
+        { now = now; event = event_handed event } ∷ []) e out.old.items out.new.items) }
 {
     let mut messages = Vec::new(alloc);
     if let Err(refusal) = core.step(now, event, &mut messages) {
@@ -58,7 +60,7 @@ pub(super) fn event_of(item: Item) -> ReaderIn
 }
 
 /// Entries happen to the reader, each at its own moment; the answer is the moment of the last, or the
-/// one handed in. What the reader says is appended. The only error is `Memory`.
+/// one given. What the reader says is appended. The only error is `Memory`.
 pub(super) fn happen_all(
     alloc: Global,
     core: &mut Reader,
@@ -67,8 +69,10 @@ pub(super) fn happen_all(
     out: &mut Vec<u8>,
 ) -> Result<u64, ToolErr>
     ensures moment { IfOk result (λ last. last ≡ last_moment moment entries.now) }
-    ensures ok { OnOk result (Did core.old (map happening entries.now) core.new out.old.items out.new.items) }
-    ensures err { IfErr result (λ e. DidSome core.old (map happening entries.now) e out.old.items out.new.items) }
+    ensures ok { OnOk result (Did core.old (map happening entries.now) core.new out.old.items
+        out.new.items) }
+    ensures err { IfErr result (λ e. DidSome core.old (map happening entries.now) e out.old.items
+        out.new.items) }
 {
     let mut moment = moment;
     for entry in entries {

@@ -60,8 +60,12 @@ impl ScriptedReader {
 
     /// Connects, and does the entries that happen before any item.
     pub fn connect(&mut self, out: &mut Vec<u8>) -> Result<(), ToolErr>
-        ensures ok { OnOk result ((reader : Machine) (entries : List Entry) → IsNew reader entries self.old → Connects reader entries self.new out.old.items out.new.items) }
-        ensures err { IfErr result (λ e. (reader : Machine) (entries : List Entry) → IsNew reader entries self.old → DidSome reader (events entries []) e out.old.items out.new.items) }
+        ensures ok { OnOk result ((reader : Machine) (entries : List Entry)
+            → IsNew reader entries self.old
+            → Connects reader entries self.new out.old.items out.new.items) }
+        ensures err { IfErr result (λ e. (reader : Machine) (entries : List Entry)
+            → IsNew reader entries self.old
+            → DidSome reader (events entries []) e out.old.items out.new.items) }
     {
         happen(self.alloc, &mut self.core, 0, ReaderIn::Connect, out)?;
         self.happen_due(out)
@@ -69,10 +73,13 @@ impl ScriptedReader {
 
     /// Does the entries that are due after the items taken.
     fn happen_due(&mut self, out: &mut Vec<u8>) -> Result<(), ToolErr>
-        ensures ok { OnOk result ((count : ℕ) (entries : List Entry) → HasDone count entries self.old → self.old.taken ≡ min count greatest_count
+        ensures ok { OnOk result ((count : ℕ) (entries : List Entry)
+            → HasDone count entries self.old → self.old.taken ≡ min count greatest_count
             → DoesEntries count entries self.old self.new out.old.items out.new.items) }
-        ensures err { IfErr result (λ e. (count : ℕ) (entries : List Entry) → HasDone count entries self.old → self.old.taken ≡ min count greatest_count
-            → DidSome self.old.core (map happening (entries_at count entries)) e out.old.items out.new.items) }
+        ensures err { IfErr result (λ e. (count : ℕ) (entries : List Entry)
+            → HasDone count entries self.old → self.old.taken ≡ min count greatest_count
+            → DidSome self.old.core (map happening (entries_at count entries)) e out.old.items
+            out.new.items) }
         ensures taken { self.new.taken ≡ self.old.taken }
     {
         let left = &self.script.entries()[self.done..];
@@ -85,7 +92,8 @@ impl ScriptedReader {
     /// Takes an item, and does the entries that are due after it, or none where the item closes the
     /// connection; the answer is whether it does.
     pub fn take(&mut self, item: Item, out: &mut Vec<u8>) -> Result<bool, ToolErr>
-        ensures { (reader : Machine) (entries : List Entry) (items : List Item) → HasTaken reader entries items self.old
+        ensures { (reader : Machine) (entries : List Entry) (items : List Item)
+            → HasTaken reader entries items self.old
             → TakesItem reader entries items item self.new out.old.items out.new.items result }
     {
         let closing = closes(&item);

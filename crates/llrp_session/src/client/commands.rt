@@ -19,8 +19,10 @@ impl Client {
     #[tactic(auto, unfolding(crate::specs::ClientMachine::command))]
     pub(super) fn refusal(&self, command: &Command) -> Option<CmdFault>
         requires { AddsRoSpec command.now }
-        ensures refused { IfSome result (λ fault. IsCmdFault (machine.command self.now command.now) fault) }
-        ensures step { IfNone result (machine.command self.now command.now ≡ Ok (machine.sending self.now command.now)) }
+        ensures refused { IfSome result (λ fault. IsCmdFault
+            (machine.command self.now command.now) fault) }
+        ensures step { IfNone result (machine.command self.now command.now
+            ≡ Ok (machine.sending self.now command.now)) }
         ensures fits { IfNone result (FitsMessage command.now) }
         ensures id { IfNone result (self.now.next_id < 2 ^ 32) }
     {
@@ -35,8 +37,11 @@ impl Client {
     #[tactic(auto, using(crate::proofs::CommandLemmas::fits_within))]
     fn refusal_when_ready(&self, command: &Command) -> Option<CmdFault>
         requires { AddsRoSpec command.now }
-        ensures refused { IfSome result (λ fault. IsCmdFault (machine.sent_unless (machine.refused_when_ready self.now command.now) self.now command.now) fault) }
-        ensures step { IfNone result (machine.sent_unless (machine.refused_when_ready self.now command.now) self.now command.now ≡ Ok (machine.sending self.now command.now)) }
+        ensures refused { IfSome result (λ fault. IsCmdFault
+            (machine.sent_unless (machine.refused_when_ready self.now command.now) self.now
+            command.now) fault) }
+        ensures step { IfNone result (machine.sent_unless (machine.refused_when_ready self.now
+            command.now) self.now command.now ≡ Ok (machine.sending self.now command.now)) }
         ensures fits { IfNone result (FitsMessage command.now) }
         ensures id { IfNone result (self.now.next_id < 2 ^ 32) }
     {
@@ -61,7 +66,8 @@ impl Client {
         requires fits { FitsMessage command }
         requires id { self.old.next_id < 2 ^ 32 }
         ensures sent { OnOk result (self.new ≡ (machine.sending self.old command).client) }
-        ensures appended { OnOk result (out.new.items ≡ out.old.items ++ client_message (record { id = self.old.next_id; word = Asks command }) ∷ []) }
+        ensures appended { OnOk result (out.new.items ≡ out.old.items
+            ++ client_message (record { id = self.old.next_id; word = Asks command }) ∷ []) }
         ensures memory { IfErr result (λ e. e.fault ≡ CmdFault.Memory) }
         ensures handed_back { IfErr result (λ e. e.command ≡ command) }
         ensures unchanged { OnErr result (self.new ≡ self.old) }
@@ -84,7 +90,7 @@ impl Client {
     }
 }
 
-/// The refusal of a command for want of memory.
+/// The refusal of a command where there is no memory.
 fn out_of_memory(command: Command) -> CmdRefusal
     ensures { result ≡ record { fault = CmdFault.Memory; command = command } }
 {
@@ -128,6 +134,7 @@ fn awaited(id: u32, command: &Command) -> Option<Pending>
         Command::Stop { id: rospec } => waits_for(id, Operation::Stopping, *rospec),
         Command::Enable { id: rospec } => waits_for(id, Operation::Enabling, *rospec),
         Command::Disable { id: rospec } => waits_for(id, Operation::Disabling, *rospec),
+        Command::GetRospecs => waits_for(id, Operation::Listing, 0),
         Command::SetKeepalive { .. } => waits_for(id, Operation::Configuring, 0),
         Command::GetReport => None,
         Command::Close => waits_for(id, Operation::Closing, 0),

@@ -3,11 +3,12 @@
 ghost use Rattle.std.specs.Prelude.{◌≡◌, false, ◌++◌, ◌∷◌, [], map, Ok, Err, Some, OnOk, OnErr, IfOk, IfErr, MatchResult};
 ghost use Rattle.llrp_session.specs.Words.{Acknowledges};
 ghost use Rattle.llrp_session.specs.ClientMessages.{client_message};
-ghost use Rattle.llrp_session.specs.Reading.{heard_of};
+ghost use Rattle.llrp_session.specs.Reading.{heard_of, rospecs_in};
 ghost use Rattle.llrp_session.specs.ReadWords.{change_by, notification_by};
 ghost use Rattle.llrp_session.specs.ClientMachine as machine;
 ghost use Rattle.llrp_session.specs.ClientSteps.{IsTakeFault, sent_by};
 
+use super::comparing::{compared, rospecs_of};
 use super::{Client, TakeFault, TakeRefusal, view};
 use crate::reading::hearing;
 use crate::reading::words::{Heard, Notification, RoSpecChange};
@@ -17,10 +18,12 @@ use llrp_tree::Message;
 use std::alloc::{AllocError, Global};
 
 impl Client {
-    /// Takes the first message, which tells whether the reader accepts the connection.
+    /// Takes the first message, which says whether the reader accepts the connection.
     pub(super) fn take_first(&mut self, message: Message) -> Result<Taken, TakeRefusal>
-        ensures step { IfOk result (λ taken. machine.take_fresh self.old (heard_of message) ≡ machine.takes taken self.new) }
-        ensures refused { IfErr result (λ e. IsTakeFault (machine.take_fresh self.old (heard_of message)) e.fault) }
+        ensures step { IfOk result (λ taken. machine.take_fresh self.old (heard_of message)
+            ≡ machine.takes taken self.new) }
+        ensures refused { IfErr result (λ e. IsTakeFault (machine.take_fresh self.old
+            (heard_of message)) e.fault) }
         ensures handed_back { IfErr result (λ e. e.message ≡ message) }
         ensures unchanged { OnErr result (self.new ≡ self.old) }
     {
@@ -35,8 +38,10 @@ impl Client {
 
     /// Takes the status of a ConnectionAttemptEvent: 0 accepts the connection, another refuses it.
     fn attempted(&mut self, attempt: Option<u16>) -> Result<Taken, TakeFault>
-        ensures step { IfOk result (λ taken. machine.attempted self.old attempt ≡ machine.takes taken self.new) }
-        ensures refused { IfErr result (λ fault. IsTakeFault (machine.attempted self.old attempt) fault) }
+        ensures step { IfOk result (λ taken. machine.attempted self.old attempt
+            ≡ machine.takes taken self.new) }
+        ensures refused { IfErr result (λ fault. IsTakeFault
+            (machine.attempted self.old attempt) fault) }
         ensures unchanged { OnErr result (self.new ≡ self.old) }
     {
         match attempt {
@@ -58,19 +63,21 @@ impl Client {
         message: Message,
         out: &mut Vec<Message>,
     ) -> Result<Taken, TakeRefusal>
-        ensures step { IfOk result (λ taken. let step = machine.take_ready self.old message.id (heard_of message) in
+        ensures step { IfOk result (λ taken. let step = machine.take_ready self.old message.id
+            (heard_of message) in
             step ≡ Ok (record { taken = taken; sent = sent_by step; client = self.new })) }
-        ensures sent { OnOk result (out.new.items ≡ out.old.items ++ map client_message (sent_by (machine.take_ready self.old message.id (heard_of message)))) }
-        ensures refused { IfErr result (λ e. IsTakeFault (machine.take_ready self.old message.id (heard_of message)) e.fault) }
+        ensures sent { OnOk result (out.new.items ≡ out.old.items
+            ++ map client_message (sent_by (machine.take_ready self.old message.id
+            (heard_of message)))) }
+        ensures refused { IfErr result (λ e. IsTakeFault (machine.take_ready self.old message.id
+            (heard_of message)) e.fault) }
         ensures handed_back { IfErr result (λ e. e.message ≡ message) }
         ensures unchanged { OnErr result (self.new ≡ self.old) }
         ensures unsent { OnErr result (out.new.items ≡ out.old.items) }
     {
         let id = message.id();
         match hearing::heard_of(&message) {
-            Heard::Response(operation, status) => {
-                handed_back(self.answered(id, operation, status), message)
-            }
+            Heard::Response(operation, status) => self.answered(operation, status, message),
             Heard::Error(status) => handed_back(self.failed(id, status), message),
             Heard::Report => Ok(Taken::Tags(message.into_children())),
             Heard::Keepalive => handed_back(acknowledged(self.alloc, id, out), message),
@@ -80,20 +87,24 @@ impl Client {
     }
 
     /// Takes a response: that to the pending request.
-    fn answered(&mut self, id: u32, operation: Operation, status: u16) -> Result<Taken, TakeFault>
-        ensures step { IfOk result (λ taken. machine.answered self.old.pending self.old id operation status ≡ machine.takes taken self.new) }
-        ensures refused { IfErr result (λ fault. IsTakeFault (machine.answered self.old.pending self.old id operation status) fault) }
+    fn answered(
+        &mut self,
+        operation: Operation,
+        status: u16,
+        message: Message,
+    ) -> Result<Taken, TakeRefusal>
+        ensures step { IfOk result (λ taken. machine.answered self.old.pending self.old message.id
+            operation status (rospecs_in message.children) ≡ machine.takes taken self.new) }
+        ensures refused { IfErr result (λ e. IsTakeFault (machine.answered self.old.pending self.old
+            message.id operation status (rospecs_in message.children)) e.fault) }
+        ensures handed_back { IfErr result (λ e. e.message ≡ message) }
         ensures unchanged { OnErr result (self.new ≡ self.old) }
     {
         match self.pending {
-            None => Err(TakeFault::Unexpected),
-            Some(pending) => {
-                if is_response_to(pending, id, operation) {
-                    self.take_response(operation, pending, status)
-                } else {
-                    Err(TakeFault::Unexpected)
-                }
+            Some(pending) if is_response_to(pending, message.id(), operation) => {
+                self.take_response(operation, pending, status, message)
             }
+            _ => handed_back(Err(TakeFault::Unexpected), message),
         }
     }
 
@@ -103,9 +114,13 @@ impl Client {
         operation: Operation,
         pending: Pending,
         status: u16,
-    ) -> Result<Taken, TakeFault>
-        ensures step { IfOk result (λ taken. machine.take_response operation self.old pending status ≡ machine.takes taken self.new) }
-        ensures refused { IfErr result (λ fault. IsTakeFault (machine.take_response operation self.old pending status) fault) }
+        message: Message,
+    ) -> Result<Taken, TakeRefusal>
+        ensures step { IfOk result (λ taken. machine.take_response operation self.old pending status
+            (rospecs_in message.children) ≡ machine.takes taken self.new) }
+        ensures refused { IfErr result (λ e. IsTakeFault (machine.take_response operation self.old
+            pending status (rospecs_in message.children)) e.fault) }
+        ensures handed_back { IfErr result (λ e. e.message ≡ message) }
         ensures unchanged { OnErr result (self.new ≡ self.old) }
     {
         match operation {
@@ -114,13 +129,28 @@ impl Client {
                 self.phase = ClientPhase::Closed;
                 Ok(Taken::Closed)
             }
-            _ => self.replied(pending, status),
+            Operation::Listing => Ok(self.listed(status, message)),
+            _ => handed_back(self.replied(pending, status), message),
+        }
+    }
+
+    /// Takes the response to GET_ROSPECS: with status 0 its ROSpecs are compared with the view, which stays.
+    fn listed(&mut self, status: u16, message: Message) -> Taken
+        ensures { machine.listed self.old status (rospecs_in message.children)
+            ≡ machine.takes result self.new }
+    {
+        self.pending = None;
+        if status == 0 {
+            compared(rospecs_of(message), self.view.as_slice())
+        } else {
+            Taken::Reply(status)
         }
     }
 
     /// Takes a status for the pending request; 0 grants it.
     fn replied(&mut self, pending: Pending, status: u16) -> Result<Taken, TakeFault>
-        ensures step { IfOk result (λ taken. machine.replied self.old pending status ≡ machine.takes taken self.new) }
+        ensures step { IfOk result (λ taken. machine.replied self.old pending status
+            ≡ machine.takes taken self.new) }
         ensures memory { IfErr result (λ fault. fault ≡ TakeFault.Memory) }
         ensures unchanged { OnErr result (self.new ≡ self.old) }
     {
@@ -139,8 +169,10 @@ impl Client {
 
     /// Takes ERROR_MESSAGE: with the pending id, the request failed. The view stays.
     fn failed(&mut self, id: u32, status: u16) -> Result<Taken, TakeFault>
-        ensures step { IfOk result (λ taken. machine.failed self.old.pending self.old id status ≡ machine.takes taken self.new) }
-        ensures refused { IfErr result (λ fault. IsTakeFault (machine.failed self.old.pending self.old id status) fault) }
+        ensures step { IfOk result (λ taken. machine.failed self.old.pending self.old id status
+            ≡ machine.takes taken self.new) }
+        ensures refused { IfErr result (λ fault. IsTakeFault
+            (machine.failed self.old.pending self.old id status) fault) }
         ensures unchanged { OnErr result (self.new ≡ self.old) }
     {
         match self.pending {
@@ -154,7 +186,8 @@ impl Client {
 
     /// Takes READER_EVENT_NOTIFICATION.
     fn notified(&mut self, notification: Notification) -> Taken
-        ensures { machine.notified self.old notification.closes (change_by notification.rospec) ≡ machine.takes result self.new }
+        ensures { machine.notified self.old notification.closes (change_by notification.rospec)
+            ≡ machine.takes result self.new }
     {
         if notification.closes {
             self.phase = ClientPhase::Closed;
@@ -168,7 +201,8 @@ impl Client {
 
     /// Takes a ROSpecEvent; one of a ROSpec outside the view is only noted.
     fn moved(&mut self, change: RoSpecChange) -> Taken
-        ensures { machine.notified self.old false (change_by (Some change)) ≡ machine.takes result self.new }
+        ensures { machine.notified self.old false (change_by (Some change))
+            ≡ machine.takes result self.new }
     {
         let to = state_after(change.event);
         let before = view::state(self.view.as_slice(), change.id);
@@ -182,7 +216,8 @@ impl Client {
 
 /// What a message was taken for, or the message with the fault.
 fn handed_back(taken: Result<Taken, TakeFault>, message: Message) -> Result<Taken, TakeRefusal>
-    ensures { MatchResult taken (λ taken. result ≡ Ok taken) (λ fault. result ≡ Err (record { fault = fault; message = message })) }
+    ensures { MatchResult taken (λ taken. result ≡ Ok taken) (λ fault. result
+        ≡ Err (record { fault = fault; message = message })) }
 {
     match taken {
         Ok(taken) => Ok(taken),
@@ -193,7 +228,8 @@ fn handed_back(taken: Result<Taken, TakeFault>, message: Message) -> Result<Take
 /// Acknowledges KEEPALIVE.
 fn acknowledged(alloc: Global, id: u32, out: &mut Vec<Message>) -> Result<Taken, TakeFault>
     ensures kept { IfOk result (λ taken. taken ≡ Taken.Kept) }
-    ensures sent { OnOk result (out.new.items ≡ out.old.items ++ client_message (record { id = id; word = Acknowledges }) ∷ []) }
+    ensures sent { OnOk result (out.new.items ≡ out.old.items
+        ++ client_message (record { id = id; word = Acknowledges }) ∷ []) }
     ensures memory { IfErr result (λ fault. fault ≡ TakeFault.Memory) }
     ensures unsent { OnErr result (out.new.items ≡ out.old.items) }
 {
@@ -212,7 +248,8 @@ fn is_response_to(pending: Pending, id: u32, operation: Operation) -> bool
 
 /// Changes the view as a request that is granted does. Where memory runs out, nothing changes.
 fn grant(view: &mut Vec<Viewed>, pending: Pending) -> Result<(), AllocError>
-    ensures granted { OnOk result (view.new.items ≡ machine.granted pending.operation pending.rospec view.old.items) }
+    ensures granted { OnOk result (view.new.items
+        ≡ machine.granted pending.operation pending.rospec view.old.items) }
     ensures unchanged { OnErr result (view.new.items ≡ view.old.items) }
 {
     match pending.operation {
@@ -229,9 +266,11 @@ fn grant(view: &mut Vec<Viewed>, pending: Pending) -> Result<(), AllocError>
             view::disable(view, pending.rospec);
             Ok(())
         }
-        Operation::Starting | Operation::Stopping | Operation::Configuring | Operation::Closing => {
-            Ok(())
-        }
+        Operation::Starting
+        | Operation::Stopping
+        | Operation::Configuring
+        | Operation::Closing
+        | Operation::Listing => Ok(()),
     }
 }
 

@@ -43,13 +43,15 @@ pub(super) fn enter(view: &mut Vec<Viewed>, id: u32) -> Result<(), AllocError>
     Ok(())
 }
 
-/// Where a ROSpec stands, or else where it is to be inserted.
+/// Where a ROSpec is in the view, or else where it is to be inserted.
 #[tactic(auto, using(crate::proofs::ViewLemmas::entering))]
 fn place(view: &[Viewed], id: u32) -> Result<usize, usize>
     ensures there { IfOk result (λ i. i < length view.now) }
-    ensures replaced { IfOk result (λ i. table.enter_view id view.now ≡ slice_set view.now i (table.new_viewed id)) }
+    ensures replaced { IfOk result (λ i. table.enter_view id view.now
+        ≡ slice_set view.now i (table.new_viewed id)) }
     ensures within { IfErr result (λ i. i ≤ length view.now) }
-    ensures inserted { IfErr result (λ i. table.enter_view id view.now ≡ insert view.now i (table.new_viewed id)) }
+    ensures inserted { IfErr result (λ i. table.enter_view id view.now
+        ≡ insert view.now i (table.new_viewed id)) }
 {
     for (i, viewed) in view.iter().enumerate() {
         if id == viewed.id {

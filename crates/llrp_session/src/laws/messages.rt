@@ -9,36 +9,45 @@ ghost use Rattle.llrp_session.specs.Reading.{request_of, heard_of};
 ghost use Rattle.llrp_session.specs.LawfulWords.{IsSendable, IsLawfulReaderMessage, IsLawfulClientMessage, SaysRoSpec};
 ghost use Rattle.llrp_session.specs.World.{WorldEvent, run, opening};
 ghost use Rattle.llrp_session.specs.MessageWorld.{run_messages, message_opening, in_messages, AreOfRoSpecs, AreGiven, AreSendable};
-ghost use Rattle.llrp_session.specs.MessageAgreement.{AfterAllMessages, ViewCatchesUp, ViewIsTable, ReportsArrive, ReportsAreKept, ReaderHasHistory, OneActive, NothingIsUnexpected, PendingIsOnTheWay, NothingIsPending};
+ghost use Rattle.llrp_session.specs.MessageAgreement.{AfterAllMessages, ViewCatchesUp, ViewIsTable, ReportsArrive, ReportsAreKept, ReaderHasHistory, OneActive, NothingIsUnexpected, PendingIsOnTheWay, NothingIsPending, TablesArrive, NoneDiffers};
 
 /// What is read in the message of a word is that word.
 #[tactic(auto, using(crate::proofs::MessageReading::heard_back, crate::proofs::MessageReading::request_back))]
 pub fn messages_read_back()
     ensures down { (m : ReaderMessage) → heard_of (reader_message m) ≡ heard m.word }
-    ensures up { (m : ClientMessage) → SaysRoSpec m.word → request_of (client_message m) ≡ request m.word }
+    ensures up { (m : ClientMessage) → SaysRoSpec m.word
+        → request_of (client_message m) ≡ request m.word }
 {}
 
 /// The message of a lawful word is lawful, and within every limit of at least 4,096 octets.
 pub fn messages_are_lawful()
-    ensures down { (limit : ℕ) (m : ReaderMessage) → 4096 ≤ limit → IsLawfulReaderMessage m → IsSendable limit (reader_message m) }
-    ensures up { (limit : ℕ) (m : ClientMessage) → 4096 ≤ limit → limit ≤ MAX_LIMIT → IsLawfulClientMessage limit m → IsSendable limit (client_message m) }
+    ensures down { (limit : ℕ) (m : ReaderMessage) → 4096 ≤ limit → limit ≤ MAX_LIMIT
+        → IsLawfulReaderMessage limit m → IsSendable limit (reader_message m) }
+    ensures up { (limit : ℕ) (m : ClientMessage) → 4096 ≤ limit → limit ≤ MAX_LIMIT
+        → IsLawfulClientMessage limit m → IsSendable limit (client_message m) }
 {}
 
 /// The world in which messages are on the way runs exactly as the world in which words are, with the message of each word in
 /// its place.
 #[tactic(auto, using(crate::proofs::MessageWorlds::runs_alike))]
 pub fn worlds_agree()
-    ensures { (limit reader_first client_first : ℕ) (events : List WorldEvent) → AreOfRoSpecs events →
-        run_messages events (message_opening limit reader_first client_first) ≡ in_messages (run events (opening limit reader_first client_first)) }
+    ensures { (limit reader_first client_first : ℕ) (events : List WorldEvent)
+        → AreOfRoSpecs events →
+        run_messages events (message_opening limit reader_first client_first)
+        ≡ in_messages (run events (opening limit reader_first client_first)) }
 {}
 
 /// Whatever happens to a client and a reader, each message on its way is lawful and within the limit, so that making it is
 /// never refused but for memory.
 pub fn messages_sent_are_lawful()
-    ensures up { (limit reader_first client_first : ℕ) (events : List WorldEvent) → 4096 ≤ limit → limit ≤ MAX_LIMIT → reader_first < 2 ^ 32 → AreGiven events →
-        AreSendable limit (run_messages events (message_opening limit reader_first client_first)).up }
-    ensures down { (limit reader_first client_first : ℕ) (events : List WorldEvent) → 4096 ≤ limit → limit ≤ MAX_LIMIT → reader_first < 2 ^ 32 → AreGiven events →
-        AreSendable limit (run_messages events (message_opening limit reader_first client_first)).down }
+    ensures up { (limit reader_first client_first : ℕ) (events : List WorldEvent) → 4096 ≤ limit
+        → limit ≤ MAX_LIMIT → reader_first < 2 ^ 32 → AreGiven events →
+        AreSendable limit (run_messages events (message_opening limit reader_first
+        client_first)).up }
+    ensures down { (limit reader_first client_first : ℕ) (events : List WorldEvent) → 4096 ≤ limit
+        → limit ≤ MAX_LIMIT → reader_first < 2 ^ 32 → AreGiven events →
+        AreSendable limit (run_messages events (message_opening limit reader_first
+        client_first)).down }
 {}
 
 /// Whatever happens to a client and a reader with whole messages on the way between them, the two ends agree; said of the
@@ -53,4 +62,6 @@ pub fn ends_agree_in_messages()
     ensures nothing_is_unexpected { AfterAllMessages NothingIsUnexpected }
     ensures pending_is_on_the_way { AfterAllMessages PendingIsOnTheWay }
     ensures nothing_is_pending { AfterAllMessages NothingIsPending }
+    ensures tables_arrive { AfterAllMessages TablesArrive }
+    ensures none_differs { AfterAllMessages NoneDiffers }
 {}

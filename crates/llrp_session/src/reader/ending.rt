@@ -4,7 +4,7 @@ ghost use Rattle.std.specs.Prelude.{◌≡◌, ℕ, ◌≤◌, ◌+◌, ◌⊎�
 ghost use Rattle.std.specs.Option.{option_copied};
 ghost use Rattle.llrp_session.specs.RoSpec.{RoSpec as TheRoSpec};
 ghost use Rattle.llrp_session.specs.Table.{names as the_names, active as the_active};
-ghost use Rattle.llrp_session.specs.ReadWords.{settings_of};
+ghost use Rattle.llrp_session.specs.Settings.{settings_of};
 ghost use Rattle.llrp_session.specs.ReaderMachine.{begun, sends_at_end as the_test};
 ghost use Rattle.llrp_session.specs.ReaderParts.{chosen, end_of, IsEnding, IsEndingOf};
 ghost use Rattle.llrp_session.specs.ReaderSteps.{Stands};
@@ -12,7 +12,7 @@ ghost use Rattle.llrp_session.specs.ReaderSteps.{Stands};
 use super::Reader;
 use super::sending::following_id;
 use super::table::{self, StateChange};
-use crate::reading::rospec::RoSpec;
+use crate::reading::kept::RoSpec;
 use crate::reading::words::Settings;
 use crate::telling::reader as telling;
 use crate::words::RoState;
@@ -33,7 +33,8 @@ pub(crate) struct Ending {
 impl Reader {
     /// The active ROSpec, if an id names it.
     pub(crate) fn active_named(&self, n: u32) -> Option<&RoSpec>
-        ensures { option_copied result ≡ chosen (λ s. the_names n s.id) (the_active self.now.table) }
+        ensures { option_copied result ≡ chosen (λ s. the_names n s.id)
+            (the_active self.now.table) }
     {
         match table::active(self.table()) {
             Some(rospec) if table::names(n, rospec.settings().id) => Some(rospec),
@@ -62,7 +63,8 @@ impl Reader {
     /// The end of a ROSpec, for a message of this version.
     fn end_of(&self, now: u64, version: u8, rospec: &RoSpec) -> Result<Ending, AllocError>
         requires { (version ≡ 1) ⊎ (version ≡ 2) }
-        ensures { IfOk result (λ e. IsEnding now rospec.now (record self.now { version = version }) e) }
+        ensures { IfOk result (λ e. IsEnding now rospec.now
+            (record self.now { version = version }) e) }
     {
         let settings = rospec.settings();
         let reports = self.sends_at_end(settings);
@@ -89,7 +91,8 @@ impl Reader {
         rospec: Option<&RoSpec>,
     ) -> Result<Option<Ending>, AllocError>
         requires { (version ≡ 1) ⊎ (version ≡ 2) }
-        ensures { IfOk result (λ e. IsEndingOf now (option_copied rospec.entry) (record self.now { version = version }) e) }
+        ensures { IfOk result (λ e. IsEndingOf now (option_copied rospec.entry)
+            (record self.now { version = version }) e) }
     {
         match rospec {
             Some(rospec) => {
@@ -104,7 +107,9 @@ impl Reader {
     #[tactic(auto, unfolding(crate::specs::ReaderMachine::end))]
     fn end(&mut self, ending: Ending, out: &mut Vec<Message>)
         requires { vec_len out.old + 2 ≤ vec_capacity out.old }
-        ensures stands { (now : ℕ) (s : TheRoSpec) → IsEnding now s self.old ending → Stands out.old.items (end_of now (Option.Some s) (begun self.old)) out.new.items self.new }
+        ensures stands { (now : ℕ) (s : TheRoSpec) → IsEnding now s self.old ending
+            → Stands out.old.items (end_of now (Option.Some s) (begun self.old))
+            out.new.items self.new }
         ensures len { vec_len out.new ≤ vec_len out.old + 2 }
         ensures capacity { vec_capacity out.old ≤ vec_capacity out.new }
     {
@@ -118,7 +123,8 @@ impl Reader {
     /// A ROSpec ends, if there is one.
     pub(crate) fn end_maybe(&mut self, ending: Option<Ending>, out: &mut Vec<Message>)
         requires { vec_len out.old + 2 ≤ vec_capacity out.old }
-        ensures stands { (now : ℕ) (o : Option TheRoSpec) → IsEndingOf now o self.old ending → Stands out.old.items (end_of now o (begun self.old)) out.new.items self.new }
+        ensures stands { (now : ℕ) (o : Option TheRoSpec) → IsEndingOf now o self.old ending
+            → Stands out.old.items (end_of now o (begun self.old)) out.new.items self.new }
         ensures len { vec_len out.new ≤ vec_len out.old + 2 }
         ensures capacity { vec_capacity out.old ≤ vec_capacity out.new }
     {

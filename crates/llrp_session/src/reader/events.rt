@@ -10,7 +10,7 @@ pub enum ReaderIn {
     Connect,
     /// A message of the client is taken.
     Take(Message),
-    /// A frame of the client is taken that is no message, by its message id and the reason of its fault.
+    /// A frame of the client is taken that is not a message, by its message id and the reason of its fault.
     TakeBad { id: u32, reason: Reason },
     /// A tag is sighted.
     Seen(Sighting),

@@ -42,7 +42,8 @@ impl Reader {
     ) -> Result<(), AllocError>
         requires version { (head.version ≡ 1) ⊎ (head.version ≡ 2) }
         requires room { vec_len out.old + 3 ≤ vec_capacity out.old }
-        ensures ok { OnOk result (Stands out.old.items (reply head.version head.id (Response operation status) (taken head.version self.old)) out.new.items self.new) }
+        ensures ok { OnOk result (Stands out.old.items (reply head.version head.id
+            (Response operation status) (taken head.version self.old)) out.new.items self.new) }
         ensures len { OnOk result (vec_len out.new ≡ vec_len out.old + 1) }
         ensures capacity { vec_capacity out.old ≤ vec_capacity out.new }
         ensures reader_unchanged { OnErr result (self.new ≡ self.old) }
@@ -64,7 +65,11 @@ impl Reader {
     ) -> Result<(), AllocError>
         requires version { (head.version ≡ 1) ⊎ (head.version ≡ 2) }
         requires room { vec_len out.old + 3 ≤ vec_capacity out.old }
-        ensures ok { (o : Option TheRoSpec) → IsEndingOf head.moment o (record self.old { version = head.version }) ending → OnOk result (Stands out.old.items (reply head.version head.id (Response operation machine.success) (end_of head.moment o (taken head.version self.old))) out.new.items self.new) }
+        ensures ok { (o : Option TheRoSpec) → IsEndingOf head.moment o
+            (record self.old { version = head.version }) ending
+            → OnOk result (Stands out.old.items (reply head.version head.id
+            (Response operation machine.success) (end_of head.moment o
+            (taken head.version self.old))) out.new.items self.new) }
         ensures reader_unchanged { OnErr result (self.new ≡ self.old) }
         ensures out_unchanged { OnErr result (out.new.items ≡ out.old.items) }
     {
@@ -75,11 +80,12 @@ impl Reader {
         Ok(())
     }
 
-    /// CLOSE_CONNECTION: the table stays, and no end is told.
+    /// CLOSE_CONNECTION: the table stays, and no end is reported.
     fn close(&mut self, head: Head, out: &mut Vec<Message>) -> Result<(), AllocError>
         requires version { (head.version ≡ 1) ⊎ (head.version ≡ 2) }
         requires room { vec_len out.old + 3 ≤ vec_capacity out.old }
-        ensures ok { OnOk result (Stands out.old.items (machine.close_connection head.version head.id (taken head.version self.old)) out.new.items self.new) }
+        ensures ok { OnOk result (Stands out.old.items (machine.close_connection head.version
+            head.id (taken head.version self.old)) out.new.items self.new) }
         ensures reader_unchanged { OnErr result (self.new ≡ self.old) }
         ensures out_unchanged { OnErr result (out.new.items ≡ out.old.items) }
     {
@@ -88,11 +94,28 @@ impl Reader {
         Ok(())
     }
 
+    /// GET_ROSPECS: each ROSpec of the table is listed with its present state.
+    fn list(&mut self, head: Head, out: &mut Vec<Message>) -> Result<(), AllocError>
+        requires version { (head.version ≡ 1) ⊎ (head.version ≡ 2) }
+        requires room { vec_len out.old + 3 ≤ vec_capacity out.old }
+        ensures ok { OnOk result (Stands out.old.items (machine.list_rospecs head.version head.id
+            (taken head.version self.old)) out.new.items self.new) }
+        ensures reader_unchanged { OnErr result (self.new ≡ self.old) }
+        ensures out_unchanged { OnErr result (out.new.items ≡ out.old.items) }
+    {
+        let message = telling::table(self.alloc(), head.version, head.id, self.table())?;
+        self.take_version(head.version);
+        push_within(out, message);
+        Ok(())
+    }
+
     /// A request that is not supported.
     fn refuse(&mut self, head: Head, out: &mut Vec<Message>) -> Result<(), AllocError>
         requires version { (head.version ≡ 1) ⊎ (head.version ≡ 2) }
         requires room { vec_len out.old + 3 ≤ vec_capacity out.old }
-        ensures ok { OnOk result (Stands out.old.items (reply head.version head.id (Error machine.unsupported_message) (taken head.version self.old)) out.new.items self.new) }
+        ensures ok { OnOk result (Stands out.old.items (reply head.version head.id
+            (Error machine.unsupported_message) (taken head.version self.old))
+            out.new.items self.new) }
         ensures reader_unchanged { OnErr result (self.new ≡ self.old) }
         ensures out_unchanged { OnErr result (out.new.items ≡ out.old.items) }
     {
@@ -113,7 +136,9 @@ impl Reader {
         requires version { (head.version ≡ 1) ⊎ (head.version ≡ 2) }
         requires room { vec_len out.old + 3 ≤ vec_capacity out.old }
         requires other { IsOther request }
-        ensures ok { (q : words.Request) → IsRequest request q → OnOk result (Stands out.old.items (machine.serve head.moment head.version head.id q (taken head.version self.old)) out.new.items self.new) }
+        ensures ok { (q : words.Request) → IsRequest request q
+            → OnOk result (Stands out.old.items (machine.serve head.moment head.version head.id q
+            (taken head.version self.old)) out.new.items self.new) }
         ensures reader_unchanged { OnErr result (self.new ≡ self.old) }
         ensures out_unchanged { OnErr result (out.new.items ≡ out.old.items) }
     {
@@ -124,6 +149,7 @@ impl Reader {
             Request::StopRoSpec(n) => self.stop(head, n, out),
             Request::EnableRoSpec(n) => self.enable(head, n, out),
             Request::DisableRoSpec(n) => self.disable(head, n, out),
+            Request::GetRoSpecs => self.list(head, out),
             Request::SetReaderConfig(config) => self.configure(head, config, out),
             Request::GetReports => {
                 self.take_version(head.version);
@@ -148,7 +174,8 @@ impl Reader {
         out: &mut Vec<Message>,
     ) -> Result<(), Message>
         requires { vec_len out.old + 3 ≤ vec_capacity out.old }
-        ensures ok { OnOk result (Stands out.old.items (machine.serve now message.version message.id (the_request message) (taken message.version self.old)) out.new.items self.new) }
+        ensures ok { OnOk result (Stands out.old.items (machine.serve now message.version message.id
+            (the_request message) (taken message.version self.old)) out.new.items self.new) }
         ensures handed_back { IfErr result (λ m. m ≡ message) }
         ensures reader_unchanged { OnErr result (self.new ≡ self.old) }
         ensures out_unchanged { OnErr result (out.new.items ≡ out.old.items) }

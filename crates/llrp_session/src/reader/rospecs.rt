@@ -8,7 +8,7 @@ ghost use Rattle.llrp_session.specs.Table.{is_inactive, is_active, without as th
 ghost use Rattle.llrp_session.specs.Words as words;
 ghost use Rattle.llrp_session.specs.Words.{Started};
 ghost use Rattle.llrp_session.specs.Reading.{request_of as the_request};
-ghost use Rattle.llrp_session.specs.ReadWords.{settings_of};
+ghost use Rattle.llrp_session.specs.Settings.{settings_of};
 ghost use Rattle.llrp_session.specs.ReaderMessages.{reader_message};
 ghost use Rattle.llrp_session.specs.ReaderMachine as machine;
 ghost use Rattle.llrp_session.specs.ReaderMachine.{begun};
@@ -21,7 +21,7 @@ use super::sending::push_within;
 use super::settings::is_bad_report;
 use super::status::{FIELD_ERROR, PARAMETER_ERROR, SUCCESS};
 use super::table::{self, Entry, StateChange};
-use crate::reading::rospec::RoSpec;
+use crate::reading::kept::RoSpec;
 use crate::reading::words::Settings;
 use crate::telling::reader as telling;
 use crate::words::{Operation, RoState};
@@ -30,7 +30,8 @@ use std::alloc::AllocError;
 
 /// Whether a field has a value that no ROSpec may have here.
 fn has_bad_field(table: &[Entry], settings: &Settings) -> bool
-    ensures { (s : TheRoSpec) → settings.now ≡ settings_of s → result ≡ machine.has_bad_field table.now s }
+    ensures { (s : TheRoSpec) → settings.now ≡ settings_of s
+        → result ≡ machine.has_bad_field table.now s }
 {
     settings.id == 0
         || table::state_of(table, settings.id).is_some()
@@ -55,7 +56,8 @@ fn is_too_long(limit: u32, table: &[Entry], octets: u32) -> bool
 impl Reader {
     /// The status of an addition.
     fn add_status(&self, settings: &Settings) -> u16
-        ensures { (s : TheRoSpec) → settings.now ≡ settings_of s → result ≡ machine.add_status self.now.limit self.now.table s }
+        ensures { (s : TheRoSpec) → settings.now ≡ settings_of s
+            → result ≡ machine.add_status self.now.limit self.now.table s }
     {
         if has_bad_field(self.table.as_slice(), settings) {
             FIELD_ERROR
@@ -76,8 +78,11 @@ impl Reader {
     ) -> Result<(), Message>
         requires version { (head.version ≡ 1) ⊎ (head.version ≡ 2) }
         requires room { vec_len out.old + 3 ≤ vec_capacity out.old }
-        requires adds { (rospec : Tree) × (the_request message ≡ words.AddRoSpec rospec) × (settings.now ≡ settings_of (rospec_of rospec)) }
-        ensures ok { (rospec : Tree) → the_request message ≡ words.AddRoSpec rospec → OnOk result (Stands out.old.items (machine.add_rospec head.version head.id (rospec_of rospec) (taken head.version self.old)) out.new.items self.new) }
+        requires adds { (rospec : Tree) × (the_request message ≡ words.AddRoSpec rospec)
+            × (settings.now ≡ settings_of (rospec_of rospec)) }
+        ensures ok { (rospec : Tree) → the_request message ≡ words.AddRoSpec rospec
+            → OnOk result (Stands out.old.items (machine.add_rospec head.version head.id
+            (rospec_of rospec) (taken head.version self.old)) out.new.items self.new) }
         ensures handed_back { IfErr result (λ m. m ≡ message) }
         ensures reader_unchanged { OnErr result (self.new ≡ self.old) }
         ensures out_unchanged { OnErr result (out.new.items ≡ out.old.items) }
@@ -123,7 +128,8 @@ impl Reader {
     ) -> Result<(), AllocError>
         requires version { (head.version ≡ 1) ⊎ (head.version ≡ 2) }
         requires room { vec_len out.old + 3 ≤ vec_capacity out.old }
-        ensures ok { OnOk result (Stands out.old.items (machine.delete_rospec head.moment head.version head.id n (taken head.version self.old)) out.new.items self.new) }
+        ensures ok { OnOk result (Stands out.old.items (machine.delete_rospec head.moment
+            head.version head.id n (taken head.version self.old)) out.new.items self.new) }
         ensures reader_unchanged { OnErr result (self.new ≡ self.old) }
         ensures out_unchanged { OnErr result (out.new.items ≡ out.old.items) }
     {
@@ -145,7 +151,8 @@ impl Reader {
     ) -> Result<(), AllocError>
         requires version { (head.version ≡ 1) ⊎ (head.version ≡ 2) }
         requires room { vec_len out.old + 3 ≤ vec_capacity out.old }
-        ensures ok { OnOk result (Stands out.old.items (machine.disable_rospec head.moment head.version head.id n (taken head.version self.old)) out.new.items self.new) }
+        ensures ok { OnOk result (Stands out.old.items (machine.disable_rospec head.moment
+            head.version head.id n (taken head.version self.old)) out.new.items self.new) }
         ensures reader_unchanged { OnErr result (self.new ≡ self.old) }
         ensures out_unchanged { OnErr result (out.new.items ≡ out.old.items) }
     {
@@ -172,7 +179,8 @@ impl Reader {
     /// The event of a start, for a message of this version.
     fn start_event(&self, head: Head, rospec: u32) -> Result<Message, AllocError>
         requires { (head.version ≡ 1) ⊎ (head.version ≡ 2) }
-        ensures { IfOk result (λ m. m ≡ reader_message (record { version = head.version; id = self.now.next_id; word = Started head.moment rospec })) }
+        ensures { IfOk result (λ m. m ≡ reader_message (record
+            { version = head.version; id = self.now.next_id; word = Started head.moment rospec })) }
     {
         telling::started(
             self.alloc(),
@@ -202,7 +210,8 @@ impl Reader {
     ) -> Result<(), AllocError>
         requires version { (head.version ≡ 1) ⊎ (head.version ≡ 2) }
         requires room { vec_len out.old + 3 ≤ vec_capacity out.old }
-        ensures ok { OnOk result (Stands out.old.items (machine.enable_rospec head.moment head.version head.id n (taken head.version self.old)) out.new.items self.new) }
+        ensures ok { OnOk result (Stands out.old.items (machine.enable_rospec head.moment
+            head.version head.id n (taken head.version self.old)) out.new.items self.new) }
         ensures reader_unchanged { OnErr result (self.new ≡ self.old) }
         ensures out_unchanged { OnErr result (out.new.items ≡ out.old.items) }
     {
@@ -226,7 +235,8 @@ impl Reader {
 
     /// Whether a ROSpec may start: it is Inactive, and none is active.
     fn may_start(&self, id: u32) -> bool
-        ensures { result ≡ machine.has_state is_inactive (the_state_of id self.now.table) && is_none (the_active self.now.table) }
+        ensures { result ≡ machine.has_state is_inactive (the_state_of id self.now.table) && is_none
+            (the_active self.now.table) }
     {
         table::state_of(self.table(), id) == Some(RoState::Inactive)
             && table::active(self.table()).is_none()
@@ -241,7 +251,8 @@ impl Reader {
     ) -> Result<(), AllocError>
         requires version { (head.version ≡ 1) ⊎ (head.version ≡ 2) }
         requires room { vec_len out.old + 3 ≤ vec_capacity out.old }
-        ensures ok { OnOk result (Stands out.old.items (machine.start_rospec head.moment head.version head.id n (taken head.version self.old)) out.new.items self.new) }
+        ensures ok { OnOk result (Stands out.old.items (machine.start_rospec head.moment
+            head.version head.id n (taken head.version self.old)) out.new.items self.new) }
         ensures reader_unchanged { OnErr result (self.new ≡ self.old) }
         ensures out_unchanged { OnErr result (out.new.items ≡ out.old.items) }
     {
@@ -270,7 +281,8 @@ impl Reader {
     ) -> Result<(), AllocError>
         requires version { (head.version ≡ 1) ⊎ (head.version ≡ 2) }
         requires room { vec_len out.old + 3 ≤ vec_capacity out.old }
-        ensures ok { OnOk result (Stands out.old.items (machine.stop_rospec head.moment head.version head.id n (taken head.version self.old)) out.new.items self.new) }
+        ensures ok { OnOk result (Stands out.old.items (machine.stop_rospec head.moment head.version
+            head.id n (taken head.version self.old)) out.new.items self.new) }
         ensures reader_unchanged { OnErr result (self.new ≡ self.old) }
         ensures out_unchanged { OnErr result (out.new.items ≡ out.old.items) }
     {

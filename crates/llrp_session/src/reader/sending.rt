@@ -1,10 +1,12 @@
 //! What every step is made of: messages that go out where there is room, and changes that cannot fail.
 
 ghost use Rattle.std.specs.Prelude.{◌≡◌, ◌<◌, ◌≤◌, ◌+◌, ◌++◌, ◌∷◌, [], ◌⊎◌, vec_len, vec_capacity};
+ghost use Rattle.llrp_tree.specs.declared.TheConstants.{MAX_LIMIT};
 ghost use Rattle.llrp_session.specs.Table.{change as the_change};
 ghost use Rattle.llrp_session.specs.ReaderMachine.{following, begun, send_held as the_sending, effective_report as the_effective_report};
 ghost use Rattle.llrp_session.specs.RoSpec.{RoSpec};
-ghost use Rattle.llrp_session.specs.ReadWords.{settings_of};
+ghost use Rattle.llrp_session.specs.Settings.{settings_of};
+ghost use Rattle.llrp_session.specs.LawfulWords.{FitsLimit};
 ghost use Rattle.llrp_session.specs.ReaderParts.{changing};
 ghost use Rattle.llrp_session.specs.ReaderSteps.{Stands};
 
@@ -38,7 +40,7 @@ pub(crate) fn following_id(id: u32) -> u32
 }
 
 impl Reader {
-    /// Where the connection stands.
+    /// The state of the connection.
     pub(crate) fn phase(&self) -> ReaderPhase
         ensures { result ≡ self.now.phase }
     {
@@ -67,14 +69,16 @@ impl Reader {
 
     /// The ROSpecs with their states.
     pub(crate) fn table(&self) -> &[Entry]
-        ensures { result.now ≡ self.now.table }
+        ensures entries { result.now ≡ self.now.table }
+        ensures fits { FitsLimit MAX_LIMIT result.now }
     {
         self.table.as_slice()
     }
 
     /// The ROReportSpec that is in force for a ROSpec: its own, else the default.
     pub(crate) fn effective_report(&self, settings: &Settings) -> ReportSpec
-        ensures { (s : RoSpec) → settings.now ≡ settings_of s → result ≡ the_effective_report self.now s }
+        ensures { (s : RoSpec) → settings.now ≡ settings_of s
+            → result ≡ the_effective_report self.now s }
     {
         match settings.report {
             Some(own) => own,
@@ -92,7 +96,10 @@ impl Reader {
 
     /// States are changed.
     pub(crate) fn change(&mut self, change: StateChange)
-        ensures { self.new ≡ record self.old { table = the_change (changing change) self.old.table } }
+        ensures { self.new ≡ record self.old {
+          table = the_change (changing change)
+              self.old.table;
+        } }
     {
         table::change(&mut self.table, change);
     }
@@ -112,7 +119,8 @@ impl Reader {
     /// All that is held, perhaps nothing, in one message.
     pub(crate) fn send_held(&mut self, out: &mut Vec<Message>)
         requires { vec_len out.old < vec_capacity out.old }
-        ensures stands { Stands out.old.items (the_sending (begun self.old)) out.new.items self.new }
+        ensures stands { Stands out.old.items (the_sending (begun self.old))
+            out.new.items self.new }
         ensures len { vec_len out.new ≡ vec_len out.old + 1 }
         ensures capacity { vec_capacity out.old ≤ vec_capacity out.new }
     {

@@ -87,7 +87,9 @@ impl Reader {
     ) -> Result<(), AllocError>
         requires version { (head.version ≡ 1) ⊎ (head.version ≡ 2) }
         requires room { vec_len out.old + 3 ≤ vec_capacity out.old }
-        ensures ok { OnOk result (Stands out.old.items (machine.set_reader_config head.moment head.version head.id (config_by config) (taken head.version self.old)) out.new.items self.new) }
+        ensures ok { OnOk result (Stands out.old.items (machine.set_reader_config head.moment
+            head.version head.id (config_by config) (taken head.version self.old))
+            out.new.items self.new) }
         ensures reader_unchanged { OnErr result (self.new ≡ self.old) }
         ensures out_unchanged { OnErr result (out.new.items ≡ out.old.items) }
     {

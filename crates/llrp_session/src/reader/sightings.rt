@@ -9,7 +9,7 @@ ghost use Rattle.llrp_session.specs.ReaderMachine.{begun, tell as the_tell, see,
 ghost use Rattle.llrp_session.specs.ReaderSteps.{Stands};
 
 use super::{Reader, table};
-use crate::reading::rospec::RoSpec;
+use crate::reading::kept::RoSpec;
 use crate::telling::reader as telling;
 use crate::telling::report::tag_report;
 use crate::words::{ReportSpec, Sighting};
@@ -19,7 +19,7 @@ use std::alloc::AllocError;
 /// The greatest number of reports that are held.
 const MOST_HELD: usize = 64;
 
-/// Whether so many reports are held that they are sent.
+/// Whether enough reports are held for them to be sent.
 fn is_enough(report: &ReportSpec, count: usize) -> bool
     ensures { result ≡ the_test report.now count }
 {
@@ -37,17 +37,18 @@ impl Reader {
         }
     }
 
-    /// Whether so many reports are held that there is no room for one more.
+    /// Whether as many reports are held as there is room for.
     fn is_full(&self) -> bool
         ensures { result ≡ the_is_full self.now }
     {
         self.held.len() >= MOST_HELD
     }
 
-    /// A sighting is dropped, for want of room, and an event tells of it.
+    /// A sighting is dropped, where there is no room for it, and an event says so.
     fn overflow(&mut self, now: u64, out: &mut Vec<Message>) -> Result<(), AllocError>
         requires { vec_len out.old < vec_capacity out.old }
-        ensures ok { OnOk result (Stands out.old.items (the_tell (Overflowed now) (begun self.old)) out.new.items self.new) }
+        ensures ok { OnOk result (Stands out.old.items (the_tell (Overflowed now) (begun self.old))
+            out.new.items self.new) }
         ensures reader_unchanged { OnErr result (self.new ≡ self.old) }
         ensures out_unchanged { OnErr result (out.new.items ≡ out.old.items) }
     {
@@ -70,7 +71,8 @@ impl Reader {
     /// What is held is sent if it is enough.
     fn send_if_enough(&mut self, report: &ReportSpec, out: &mut Vec<Message>)
         requires { vec_len out.old < vec_capacity out.old }
-        ensures { Stands out.old.items (the_sending report.now (begun self.old)) out.new.items self.new }
+        ensures { Stands out.old.items (the_sending report.now (begun self.old))
+            out.new.items self.new }
     {
         if is_enough(report, self.held.len()) {
             self.send_held(out);
@@ -86,7 +88,9 @@ impl Reader {
         out: &mut Vec<Message>,
     ) -> Result<(), AllocError>
         requires { vec_len out.old + 3 ≤ vec_capacity out.old }
-        ensures ok { OnOk result (Stands out.old.items (see now sighting.now (the_counting sighting.now (the_active self.old.table)) (begun self.old)) out.new.items self.new) }
+        ensures ok { OnOk result (Stands out.old.items (see now sighting.now
+            (the_counting sighting.now (the_active self.old.table)) (begun self.old))
+            out.new.items self.new) }
         ensures reader_unchanged { OnErr result (self.new ≡ self.old) }
         ensures out_unchanged { OnErr result (out.new.items ≡ out.old.items) }
     {

@@ -5,20 +5,20 @@ ghost use Rattle.std.specs.Option.{option_copied};
 ghost use Rattle.llrp_tree.specs.Tree.{MessageTree};
 ghost use Rattle.llrp_session.specs.RoSpec.{RoSpec as TheRoSpec};
 ghost use Rattle.llrp_session.specs.Table.{active as the_active};
-ghost use Rattle.llrp_session.specs.ReadWords.{settings_of};
+ghost use Rattle.llrp_session.specs.Settings.{settings_of};
 ghost use Rattle.llrp_session.specs.ReaderMachine.{Turn, begun, later as the_moment, keepalive_from as the_keepalive, is_over as the_test, keep_alive as the_keeping, tick as the_tick};
 ghost use Rattle.llrp_session.specs.ReaderParts.{chosen};
 ghost use Rattle.llrp_session.specs.ReaderSteps.{Stands};
 
 use super::{Reader, table};
-use crate::reading::rospec::RoSpec;
+use crate::reading::kept::RoSpec;
 use crate::reading::words::Settings;
 use crate::telling::reader as telling;
 use crate::words::Keepalive;
 use llrp_tree::Message;
 use std::alloc::AllocError;
 
-/// A moment so many milliseconds later; it stops at the greatest `u64`.
+/// A moment this many milliseconds later; it stops at the greatest `u64`.
 fn later(now: u64, ms: u32) -> u64
     ensures { result ≡ the_moment now ms }
 {
@@ -38,14 +38,16 @@ pub(crate) fn keepalive_from(now: u64, period: u32) -> Keepalive
 impl Reader {
     /// Whether the active ROSpec has run as long as its stop trigger says.
     fn is_over(&self, now: u64, settings: &Settings) -> bool
-        ensures { (s : TheRoSpec) → settings.now ≡ settings_of s → result ≡ the_test now self.now.started s }
+        ensures { (s : TheRoSpec) → settings.now ≡ settings_of s
+            → result ≡ the_test now self.now.started s }
     {
         settings.stop_trigger == 1 && later(self.started, settings.duration) <= now
     }
 
     /// The active ROSpec, if it has run as long as its stop trigger says.
     fn active_over(&self, now: u64) -> Option<&RoSpec>
-        ensures { option_copied result ≡ chosen (the_test now self.now.started) (the_active self.now.table) }
+        ensures { option_copied result ≡ chosen (the_test now self.now.started)
+            (the_active self.now.table) }
     {
         match table::active(self.table()) {
             Some(rospec) if self.is_over(now, rospec.settings()) => Some(rospec),
@@ -56,7 +58,8 @@ impl Reader {
     /// A keepalive is sent if one is due.
     fn keep_alive(&mut self, now: u64, out: &mut Vec<Message>)
         requires { vec_len out.old < vec_capacity out.old }
-        ensures { (before : List MessageTree) (t : Turn) → Stands before t out.old.items self.old → Stands before (the_keeping now self.old.keepalive t) out.new.items self.new }
+        ensures { (before : List MessageTree) (t : Turn) → Stands before t out.old.items self.old
+            → Stands before (the_keeping now self.old.keepalive t) out.new.items self.new }
     {
         if let Some(keepalive) = self.keepalive {
             if keepalive.due <= now {
@@ -71,7 +74,8 @@ impl Reader {
     #[tactic(auto, unfolding(crate::specs::ReaderMachine::tick))]
     pub(crate) fn tick(&mut self, now: u64, out: &mut Vec<Message>) -> Result<(), AllocError>
         requires { vec_len out.old + 3 ≤ vec_capacity out.old }
-        ensures ok { OnOk result (Stands out.old.items (the_tick now (begun self.old)) out.new.items self.new) }
+        ensures ok { OnOk result (Stands out.old.items (the_tick now (begun self.old))
+            out.new.items self.new) }
         ensures reader_unchanged { OnErr result (self.new ≡ self.old) }
         ensures out_unchanged { OnErr result (out.new.items ≡ out.old.items) }
     {

@@ -1,6 +1,6 @@
 //! Parameters that are looked for in a row, by their kind.
 
-ghost use Rattle.std.specs.Prelude.{◌≡◌, ◌≤◌, find as find_first};
+ghost use Rattle.std.specs.Prelude.{◌≡◌, ◌≤◌, Some, find as find_first};
 ghost use Rattle.llrp_session.specs.RoSpec.{is_kind as the_test, first_below as the_first_below, field as the_field};
 ghost use Rattle.llrp_session.specs.ReadWords.{behind, IsOfKind, greatest};
 
@@ -37,6 +37,13 @@ pub(crate) fn first_below<'a>(kind: ParamKind, parent: Option<&'a Node>) -> Opti
         Some(node) => first(kind, node.children()),
         None => None,
     }
+}
+
+/// The plain field at a place; 0 where there is none.
+pub(crate) fn field_at(node: &Node, i: usize) -> u128
+    ensures { result ≡ the_field i (Some node.now) }
+{
+    node.fields().get(i).copied().unwrap_or(0)
 }
 
 /// The plain field at a place of a parameter of a kind; 0 where it is absent.

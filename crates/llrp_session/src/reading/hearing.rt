@@ -29,7 +29,7 @@ fn attempt(event: Option<&Node>) -> Option<u16>
     Some(field(ParamKind::ConnectionAttemptEvent, Some(event), 0) as u16)
 }
 
-/// What a ROSpecEvent tells.
+/// What a ROSpecEvent says.
 #[tactic(auto, unfolding(llrp_schema::specs::Schema::fields_of, llrp_schema::specs::Schema::rule_of, llrp_schema::specs::Schema::param_rule))]
 fn change(event: Option<&Node>) -> Option<RoSpecChange>
     requires { IsOfKind ParamKind.RoSpecEvent (behind event) }
@@ -43,9 +43,10 @@ fn change(event: Option<&Node>) -> Option<RoSpecChange>
     })
 }
 
-/// What READER_EVENT_NOTIFICATION tells.
+/// What READER_EVENT_NOTIFICATION says.
 fn notification(nodes: &Nodes) -> Notification
-    ensures { notification_by result ≡ reading.notification_where (find_first (is_kind ParamKind.ReaderEventNotificationData) nodes.now) }
+    ensures { notification_by result ≡ reading.notification_where
+        (find_first (is_kind ParamKind.ReaderEventNotificationData) nodes.now) }
 {
     let told = first(ParamKind::ReaderEventNotificationData, nodes);
     Notification {
@@ -68,6 +69,7 @@ pub(crate) fn heard_of(message: &Message) -> Heard
         MsgKind::StopRoSpecResponse => Heard::Response(Operation::Stopping, status(nodes)),
         MsgKind::EnableRoSpecResponse => Heard::Response(Operation::Enabling, status(nodes)),
         MsgKind::DisableRoSpecResponse => Heard::Response(Operation::Disabling, status(nodes)),
+        MsgKind::GetRoSpecsResponse => Heard::Response(Operation::Listing, status(nodes)),
         MsgKind::SetReaderConfigResponse => Heard::Response(Operation::Configuring, status(nodes)),
         MsgKind::CloseConnectionResponse => Heard::Response(Operation::Closing, status(nodes)),
         MsgKind::ErrorMessage => Heard::Error(status(nodes)),

@@ -15,7 +15,8 @@ use llrp_tree::{Message, MsgKind, Nodes, ParamKind};
 /// What the first KeepaliveSpec of a row says.
 #[tactic(auto, unfolding(llrp_schema::specs::Schema::fields_of, llrp_schema::specs::Schema::rule_of, llrp_schema::specs::Schema::param_rule))]
 fn keepalive(nodes: &Nodes) -> Option<KeepaliveSpec>
-    ensures { keepalive_by result ≡ reading.keepalive_where (find_first (is_kind ParamKind.KeepaliveSpec) nodes.now) }
+    ensures { keepalive_by result ≡ reading.keepalive_where
+        (find_first (is_kind ParamKind.KeepaliveSpec) nodes.now) }
 {
     let kind = ParamKind::KeepaliveSpec;
     let node = first(kind, nodes)?;
@@ -69,6 +70,7 @@ pub(crate) fn request_of(message: &Message) -> Request
         MsgKind::StopRoSpec => Request::StopRoSpec(rospec_id(message)),
         MsgKind::EnableRoSpec => Request::EnableRoSpec(rospec_id(message)),
         MsgKind::DisableRoSpec => Request::DisableRoSpec(rospec_id(message)),
+        MsgKind::GetRoSpecs => Request::GetRoSpecs,
         MsgKind::SetReaderConfig => Request::SetReaderConfig(config(message)),
         MsgKind::GetReport => Request::GetReports,
         MsgKind::CloseConnection => Request::CloseConnection,

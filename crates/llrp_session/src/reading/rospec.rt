@@ -1,19 +1,23 @@
 //! ROSpecs and ROReportSpecs (LLRP 1.1, sections 11 and 14).
 
-ghost use Rattle.std.specs.Prelude.{◌≡◌, find as find_first, filter};
+ghost use Rattle.std.specs.Prelude.{◌≡◌, ◌≤◌, IfOk, find as find_first, filter};
 ghost use Rattle.std.specs.List.{list_any};
 ghost use Rattle.llrp_tree.specs.Tree.{Tree, words_of};
 ghost use Rattle.llrp_session.specs.RoSpec as spec;
-ghost use Rattle.llrp_session.specs.ReadWords.{behind, IsOfKind, settings_of};
+ghost use Rattle.llrp_session.specs.ReadWords.{behind, IsOfKind};
+ghost use Rattle.llrp_session.specs.Settings.{settings_of};
+ghost use Rattle.llrp_session.specs.Table.{as_listed, state_number as the_number};
+ghost use Rattle.llrp_session.specs.LawfulWords.{IsToldOf};
 ghost use Rattle.llrp_session.specs.Words.{AddRoSpec};
 ghost use Rattle.llrp_session.specs.Reading.{request_of};
 ghost use Rattle.llrp_session.specs.ReaderMachine.{lists_antenna as the_test};
 
 use super::find::{field, first, first_below, is_kind};
+use super::kept::RoSpec;
 use super::words::Settings;
-use crate::words::{ContentSelector, ReportSpec};
-use llrp_tree::{Message, Node, Nodes, ParamKind};
-use std::marker::Model;
+use crate::words::{ContentSelector, ReportSpec, RoState};
+use llrp_tree::{Message, Node, Nodes, Octets, ParamKind};
+use std::alloc::{AllocError, Global};
 
 /// What a TagReportContentSelector selects.
 fn selector(node: Option<&Node>) -> ContentSelector
@@ -37,7 +41,8 @@ fn selector(node: Option<&Node>) -> ContentSelector
 /// What the first ROReportSpec of a row says.
 #[tactic(auto, unfolding(crate::specs::RoSpec::report_spec_of, llrp_schema::specs::Schema::fields_of, llrp_schema::specs::Schema::rule_of, llrp_schema::specs::Schema::param_rule))]
 pub(crate) fn report_spec(nodes: &Nodes) -> Option<ReportSpec>
-    ensures { result ≡ spec.report_spec_where (find_first (spec.is_kind ParamKind.RoReportSpec) nodes.now) }
+    ensures { result ≡ spec.report_spec_where (find_first
+        (spec.is_kind ParamKind.RoReportSpec) nodes.now) }
 {
     let kind = ParamKind::RoReportSpec;
     let node = first(kind, nodes)?;
@@ -59,7 +64,8 @@ fn stops_by_itself(ai_spec: &Node) -> bool
 
 /// One of the AISpecs of a row has a stop trigger other than 0.
 fn has_ai_stop(nodes: &Nodes) -> bool
-    ensures { result ≡ list_any spec.stops_by_itself (filter (spec.is_kind ParamKind.AiSpec) nodes.now) }
+    ensures { result ≡ list_any spec.stops_by_itself (filter
+        (spec.is_kind ParamKind.AiSpec) nodes.now) }
 {
     for node in nodes.as_slice() {
         if is_kind(ParamKind::AiSpec, node) && stops_by_itself(node) {
@@ -94,31 +100,12 @@ pub(crate) fn settings(node: &Node) -> Settings
     }
 }
 
-/// A ROSpec, with what is read in it. Contracts see what the definitions read in it.
-#[derive(Drop)]
-pub(crate) struct RoSpec {
-    spec: Node,
-    settings: Settings,
-}
-
-impl Model for RoSpec {
-    ghost use Rattle.std.specs.Prelude.{◌≡◌};
-    ghost use Rattle.llrp_schema.specs.declared.kinds.ParamKind.TheVariants as kinds;
-    ghost use Rattle.llrp_session.specs.RoSpec.{RoSpec as RoSpecValue, rospec_of};
-    ghost use Rattle.llrp_session.specs.ReadWords.{settings_of};
-
-    ghost Value = { RoSpecValue };
-
-    ghost view = { λ a. rospec_of a.spec };
-
-    ghost invariant = { λ a. (a.spec.kind ≡ kinds.RoSpec) × (a.settings ≡ settings_of (rospec_of a.spec)) };
-}
-
 impl RoSpec {
     /// The ROSpec of an ADD_ROSPEC. It takes no memory.
     pub(crate) fn taken(message: Message) -> RoSpec
         requires { (rospec : Tree) × (request_of message ≡ AddRoSpec rospec) }
-        ensures { (rospec : Tree) → request_of message ≡ AddRoSpec rospec → result ≡ spec.rospec_of rospec }
+        ensures { (rospec : Tree) → request_of message ≡ AddRoSpec rospec
+            → result ≡ spec.rospec_of rospec }
     {
         message.lawful();
         let mut children = message.into_children().into_vec();
@@ -128,6 +115,30 @@ impl RoSpec {
                 RoSpec { spec, settings }
             }
             None => unreachable!(),
+        }
+    }
+
+    /// Lets a proof use that it is lawful and that its numbers fit their fields; does nothing at run time.
+    pub(crate) fn told(&self)
+        ensures { IsToldOf self.now }
+    {
+        self.spec.lawful();
+    }
+
+    /// The ROSpec as it was added, but with this state.
+    pub(crate) fn listed(&self, alloc: Global, state: RoState) -> Result<Node, AllocError>
+        ensures listed { IfOk result (λ node. node
+            ≡ as_listed (record { spec = self.now; state = state })) }
+    {
+        self.told();
+        let kind = ParamKind::RoSpec;
+        let priority = field(kind, Some(&self.spec), 1);
+        let fields = [self.settings.id as u128, priority, state_number(state)];
+        let children = copies(alloc, self.spec.children())?;
+        let tail = Octets::new(Vec::new(alloc));
+        match Node::new(kind, &fields, tail, Nodes::new(children)) {
+            Ok(node) => Ok(node),
+            Err(_) => unreachable!(),
         }
     }
 
@@ -148,6 +159,29 @@ impl RoSpec {
             None => false,
         }
     }
+}
+
+/// The CurrentState of a ROSpec.
+pub(crate) fn state_number(state: RoState) -> u128
+    ensures number { result ≡ the_number state }
+    ensures few { result ≤ 2 }
+{
+    match state {
+        RoState::Disabled => 0,
+        RoState::Inactive => 1,
+        RoState::Active => 2,
+    }
+}
+
+/// Copies of parameters.
+fn copies(alloc: Global, nodes: &Nodes) -> Result<Vec<Node>, AllocError>
+    ensures { IfOk result (λ copies. copies.items ≡ nodes.now) }
+{
+    let mut copies = Vec::with_capacity(alloc, nodes.as_slice().len())?;
+    for node in nodes.as_slice() {
+        copies.push(node.try_clone(alloc)?)?;
+    }
+    Ok(copies)
 }
 
 /// Whether the words of 16 bits in octets hold a number, or 0.

@@ -52,6 +52,7 @@ pub(crate) enum Request {
     StopRoSpec(u32),
     EnableRoSpec(u32),
     DisableRoSpec(u32),
+    GetRoSpecs,
     SetReaderConfig(Config),
     GetReports,
     CloseConnection,
@@ -82,7 +83,7 @@ pub(crate) struct Notification {
 /// What a client reads in a message.
 #[derive(Clone, Copy)]
 pub(crate) enum Heard {
-    /// The response of an operation, with its status.
+    /// The response of an operation, with its status; the ROSpecs that it lists are among the message's children.
     Response(Operation, u16),
     /// ERROR_MESSAGE, with its status.
     Error(u16),

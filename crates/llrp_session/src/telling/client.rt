@@ -1,4 +1,4 @@
-//! The messages of a client. They have version 1, and carry the id that is handed in.
+//! The messages of a client. They have version 1, and carry the id that is given.
 
 ghost use Rattle.std.specs.Prelude.{◌≡◌, IfOk, IfErr, [], ◌∷◌};
 ghost use Rattle.llrp_tree.specs.Tree.{forest};
@@ -22,7 +22,8 @@ pub(crate) fn acknowledgement(alloc: Global, id: u32) -> Message
 /// ADD_ROSPEC; the ROSpec is handed back where memory runs out.
 fn add(alloc: Global, id: u32, spec: Node) -> Result<Message, Command>
     requires { FitsMessage (Command.Add spec) }
-    ensures ok { IfOk result (λ m. m ≡ client_message (record { id = id; word = Asks (Command.Add spec) })) }
+    ensures ok { IfOk result (λ m. m ≡ client_message (record
+        { id = id; word = Asks (Command.Add spec) })) }
     ensures handed_back { IfErr result (λ k. k ≡ Command.Add spec) }
 {
     spec.lawful();
@@ -37,8 +38,22 @@ fn add(alloc: Global, id: u32, spec: Node) -> Result<Message, Command>
 
 /// A message whose one field is a ROSpecID.
 fn about(alloc: Global, id: u32, kind: MsgKind, rospec: u32) -> Message
-    requires { IsLawfulMessage (record { version = 1; id = id; kind = kind; fields = rospec ∷ []; children = forest [] }) }
-    ensures { result ≡ record { version = 1; id = id; kind = kind; fields = rospec ∷ []; children = forest [] } }
+    requires { IsLawfulMessage (record {
+      version = 1;
+      id = id;
+      kind = kind;
+      fields = rospec
+          ∷ [];
+      children = forest [];
+    }) }
+    ensures { result ≡ record {
+      version = 1;
+      id = id;
+      kind = kind;
+      fields = rospec
+          ∷ [];
+      children = forest [];
+    } }
 {
     message(1, id, kind, &[rospec as u128], Vec::new(alloc))
 }
@@ -53,7 +68,8 @@ fn keepalive_type(ms: u32) -> u128
 
 /// SET_READER_CONFIG with a keepalive each `ms` milliseconds, or none for 0.
 fn set_keepalive(alloc: Global, id: u32, ms: u32) -> Result<Message, Command>
-    ensures ok { IfOk result (λ m. m ≡ client_message (record { id = id; word = Asks (Command.SetKeepalive ms) })) }
+    ensures ok { IfOk result (λ m. m ≡ client_message (record
+        { id = id; word = Asks (Command.SetKeepalive ms) })) }
     ensures handed_back { IfErr result (λ k. k ≡ Command.SetKeepalive ms) }
 {
     let fields = [keepalive_type(ms), ms as u128];
@@ -77,6 +93,7 @@ pub(crate) fn command(alloc: Global, id: u32, command: Command) -> Result<Messag
         Command::Stop { id: rospec } => Ok(about(alloc, id, MsgKind::StopRoSpec, rospec)),
         Command::Enable { id: rospec } => Ok(about(alloc, id, MsgKind::EnableRoSpec, rospec)),
         Command::Disable { id: rospec } => Ok(about(alloc, id, MsgKind::DisableRoSpec, rospec)),
+        Command::GetRospecs => Ok(message(1, id, MsgKind::GetRoSpecs, &[], Vec::new(alloc))),
         Command::SetKeepalive { ms } => set_keepalive(alloc, id, ms),
         Command::GetReport => Ok(message(1, id, MsgKind::GetReport, &[], Vec::new(alloc))),
         Command::Close => Ok(message(1, id, MsgKind::CloseConnection, &[], Vec::new(alloc))),

@@ -1,14 +1,17 @@
-//! The messages of a reader. Each carries the version and the id that are handed in; an error is want of memory.
+//! The messages of a reader. Each carries the version and the id that are given; the only error is `Memory`.
 
-ghost use Rattle.std.specs.Prelude.{◌≡◌, ◌≤◌, ◌⊎◌, IfOk, length, [], ◌∷◌};
+ghost use Rattle.std.specs.Prelude.{◌≡◌, ◌≤◌, ◌⊎◌, IfOk, OnOk, length, [], ◌∷◌, ◌++◌};
+ghost use Rattle.llrp_tree.specs.declared.TheConstants.{MAX_LIMIT};
 ghost use Rattle.llrp_tree.specs.Lawful.{IsLawfulMessage};
 ghost use Rattle.llrp_tree.specs.Tree.{forest};
 ghost use Rattle.llrp_session.specs.ReaderMachine.{most_held};
-ghost use Rattle.llrp_session.specs.Words.{Response, Error, Report, KeepaliveSent, Accepted, Started, Ended, Overflowed};
+ghost use Rattle.llrp_session.specs.Table.{listing};
+ghost use Rattle.llrp_session.specs.Words.{Response, Listed, Error, Report, KeepaliveSent, Accepted, Started, Ended, Overflowed};
 ghost use Rattle.llrp_session.specs.ReaderMessages.{response_kind as the_response_kind, notification_data, reader_message};
-ghost use Rattle.llrp_session.specs.LawfulWords.{AreReports};
+ghost use Rattle.llrp_session.specs.LawfulWords.{AreReports, AreToldOf, FitsLimit};
 
 use super::{leaf, message, only, pair, parameter};
+use crate::reader::table::Entry;
 use crate::words::Operation;
 use llrp_tree::{Message, MsgKind, Node, ParamKind};
 use std::alloc::{AllocError, Global};
@@ -26,6 +29,7 @@ fn response_kind(operation: Operation) -> MsgKind
         Operation::Disabling => MsgKind::DisableRoSpecResponse,
         Operation::Configuring => MsgKind::SetReaderConfigResponse,
         Operation::Closing => MsgKind::CloseConnectionResponse,
+        Operation::Listing => MsgKind::GetRoSpecsResponse,
     }
 }
 
@@ -38,17 +42,50 @@ pub(crate) fn response(
     status: u16,
 ) -> Result<Message, AllocError>
     requires { (version ≡ 1) ⊎ (version ≡ 2) }
-    ensures { IfOk result (λ m. m ≡ reader_message (record { version = version; id = id; word = Response operation status })) }
+    ensures { IfOk result (λ m. m ≡ reader_message (record
+        { version = version; id = id; word = Response operation status })) }
 {
     let status = leaf(alloc, ParamKind::LlrpStatus, &[status as u128]);
     let children = only(alloc, status)?;
     Ok(message(version, id, response_kind(operation), &[], children))
 }
 
+/// GET_ROSPECS_RESPONSE with status 0, of the ROSpecs of a table.
+pub(crate) fn table(
+    alloc: Global,
+    version: u8,
+    id: u32,
+    entries: &[Entry],
+) -> Result<Message, AllocError>
+    requires version { (version ≡ 1) ⊎ (version ≡ 2) }
+    requires fits { FitsLimit MAX_LIMIT entries.now }
+    ensures { IfOk result (λ m. m ≡ reader_message (record
+        { version = version; id = id; word = Listed entries.now })) }
+{
+    let status = leaf(alloc, ParamKind::LlrpStatus, &[0]);
+    let mut children = only(alloc, status)?;
+    append_rospecs(alloc, entries, &mut children)?;
+    Ok(message(version, id, MsgKind::GetRoSpecsResponse, &[], children))
+}
+
+/// Appends the ROSpecs of a table, each as it was added, but with its present state.
+fn append_rospecs(alloc: Global, entries: &[Entry], nodes: &mut Vec<Node>) -> Result<(), AllocError>
+    ensures rospecs { OnOk result (nodes.new.items ≡ nodes.old.items ++ listing entries.now) }
+    ensures told { OnOk result (AreToldOf entries.now) }
+{
+    nodes.reserve(entries.len())?;
+    for entry in entries {
+        entry.spec.told();
+        nodes.push(entry.spec.listed(alloc, entry.state)?)?;
+    }
+    Ok(())
+}
+
 /// ERROR_MESSAGE, with a status.
 pub(crate) fn error(alloc: Global, version: u8, id: u32, status: u16) -> Result<Message, AllocError>
     requires { (version ≡ 1) ⊎ (version ≡ 2) }
-    ensures { IfOk result (λ m. m ≡ reader_message (record { version = version; id = id; word = Error status })) }
+    ensures { IfOk result (λ m. m ≡ reader_message (record
+        { version = version; id = id; word = Error status })) }
 {
     let status = leaf(alloc, ParamKind::LlrpStatus, &[status as u128]);
     let children = only(alloc, status)?;
@@ -60,7 +97,12 @@ pub(crate) fn report(version: u8, id: u32, tags: Vec<Node>) -> Message
     requires version { (version ≡ 1) ⊎ (version ≡ 2) }
     requires reports { AreReports tags.items }
     requires few { length tags.items ≤ most_held }
-    ensures { result ≡ reader_message (record { version = version; id = id; word = Report tags.items }) }
+    ensures { result ≡ reader_message (record {
+      version = version;
+      id = id;
+      word = Report
+          tags.items;
+    }) }
 {
     message(version, id, MsgKind::RoAccessReport, &[], tags)
 }
@@ -68,7 +110,11 @@ pub(crate) fn report(version: u8, id: u32, tags: Vec<Node>) -> Message
 /// KEEPALIVE. It takes no memory.
 pub(crate) fn keepalive(alloc: Global, version: u8, id: u32) -> Message
     requires { (version ≡ 1) ⊎ (version ≡ 2) }
-    ensures { result ≡ reader_message (record { version = version; id = id; word = KeepaliveSent }) }
+    ensures { result ≡ reader_message (record {
+      version = version;
+      id = id;
+      word = KeepaliveSent;
+    }) }
 {
     message(version, id, MsgKind::Keepalive, &[], Vec::new(alloc))
 }
@@ -81,8 +127,22 @@ fn notification(
     now: u64,
     event: Node,
 ) -> Result<Message, AllocError>
-    requires { IsLawfulMessage (record { version = version; id = id; kind = MsgKind.ReaderEventNotification; fields = []; children = forest (notification_data now event ∷ []) }) }
-    ensures { IfOk result (λ m. m ≡ record { version = version; id = id; kind = MsgKind.ReaderEventNotification; fields = []; children = forest (notification_data now event ∷ []) }) }
+    requires { IsLawfulMessage (record {
+      version = version;
+      id = id;
+      kind = MsgKind.ReaderEventNotification;
+      fields = [];
+      children = forest
+          (notification_data now event ∷ []);
+    }) }
+    ensures { IfOk result (λ m. m ≡ record {
+      version = version;
+      id = id;
+      kind = MsgKind.ReaderEventNotification;
+      fields = [];
+      children = forest
+          (notification_data now event ∷ []);
+    }) }
 {
     let moment = leaf(alloc, ParamKind::UtcTimestamp, &[now as u128]);
     let told = pair(alloc, moment, event)?;
@@ -94,7 +154,8 @@ fn notification(
 /// The connection is accepted.
 pub(crate) fn accepted(alloc: Global, version: u8, id: u32, now: u64) -> Result<Message, AllocError>
     requires { (version ≡ 1) ⊎ (version ≡ 2) }
-    ensures { IfOk result (λ m. m ≡ reader_message (record { version = version; id = id; word = Accepted now })) }
+    ensures { IfOk result (λ m. m ≡ reader_message (record
+        { version = version; id = id; word = Accepted now })) }
 {
     let event = leaf(alloc, ParamKind::ConnectionAttemptEvent, &[0]);
     notification(alloc, version, id, now, event)
@@ -109,7 +170,8 @@ pub(crate) fn started(
     rospec: u32,
 ) -> Result<Message, AllocError>
     requires { (version ≡ 1) ⊎ (version ≡ 2) }
-    ensures { IfOk result (λ m. m ≡ reader_message (record { version = version; id = id; word = Started now rospec })) }
+    ensures { IfOk result (λ m. m ≡ reader_message (record
+        { version = version; id = id; word = Started now rospec })) }
 {
     let event = leaf(alloc, ParamKind::RoSpecEvent, &[0, rospec as u128, 0]);
     notification(alloc, version, id, now, event)
@@ -124,13 +186,14 @@ pub(crate) fn ended(
     rospec: u32,
 ) -> Result<Message, AllocError>
     requires { (version ≡ 1) ⊎ (version ≡ 2) }
-    ensures { IfOk result (λ m. m ≡ reader_message (record { version = version; id = id; word = Ended now rospec })) }
+    ensures { IfOk result (λ m. m ≡ reader_message (record
+        { version = version; id = id; word = Ended now rospec })) }
 {
     let event = leaf(alloc, ParamKind::RoSpecEvent, &[1, rospec as u128, 0]);
     notification(alloc, version, id, now, event)
 }
 
-/// A sighting was dropped, for want of room.
+/// A sighting was dropped, where there was no room for it.
 pub(crate) fn overflowed(
     alloc: Global,
     version: u8,
@@ -138,7 +201,8 @@ pub(crate) fn overflowed(
     now: u64,
 ) -> Result<Message, AllocError>
     requires { (version ≡ 1) ⊎ (version ≡ 2) }
-    ensures { IfOk result (λ m. m ≡ reader_message (record { version = version; id = id; word = Overflowed now })) }
+    ensures { IfOk result (λ m. m ≡ reader_message (record
+        { version = version; id = id; word = Overflowed now })) }
 {
     let event = leaf(alloc, ParamKind::ReportBufferOverflowErrorEvent, &[]);
     notification(alloc, version, id, now, event)

@@ -3,11 +3,11 @@
 ghost use Rattle.std.specs.Prelude.{◌≡◌, ◌≤◌, [], ◌∷◌, ◌++◌, OnOk, IfOk};
 ghost use Rattle.llrp_tree.specs.Lawful.{IsLawful};
 ghost use Rattle.llrp_session.specs.TagReport.{signed_octet as the_octet, value_parameter, if_selected, report_parts as the_parts, tag_report as the_report};
-ghost use Rattle.llrp_session.specs.LawfulWords.{IsReport};
-ghost use Rattle.llrp_session.specs.LawfulStates.{IsToldOf, IsLawfulSighting};
+ghost use Rattle.llrp_session.specs.LawfulWords.{IsReport, IsToldOf};
+ghost use Rattle.llrp_session.specs.LawfulStates.{IsLawfulSighting};
 
 use super::{leaf, parameter};
-use crate::reading::rospec::RoSpec;
+use crate::reading::kept::RoSpec;
 use crate::words::{ContentSelector, Sighting};
 use llrp_tree::{Node, ParamKind};
 use std::alloc::{AllocError, Global};
@@ -30,7 +30,8 @@ impl Parts {
     /// One more parameter of one value, if it is selected.
     fn push_if(&mut self, chosen: bool, kind: ParamKind, value: u128) -> Result<(), AllocError>
         requires { IsLawful (value_parameter kind value) }
-        ensures { OnOk result (self.new.nodes.items ≡ self.old.nodes.items ++ if_selected chosen kind value) }
+        ensures { OnOk result (self.new.nodes.items ≡ self.old.nodes.items
+            ++ if_selected chosen kind value) }
     {
         if chosen {
             self.nodes.push(leaf(self.alloc, kind, &[value]))?;
@@ -47,7 +48,8 @@ impl Parts {
         sighting: &Sighting,
     ) -> Result<(), AllocError>
         requires { self.old.nodes.items ≡ [] }
-        ensures { OnOk result (self.new.nodes.items ≡ the_parts now rospec.now selector.now sighting.now) }
+        ensures { OnOk result (self.new.nodes.items
+            ≡ the_parts now rospec.now selector.now sighting.now) }
     {
         let now = now as u128;
         let id = rospec.settings().id as u128;
@@ -81,7 +83,8 @@ fn report_parts(
     selector: &ContentSelector,
     sighting: &Sighting,
 ) -> Result<Vec<Node>, AllocError>
-    ensures { IfOk result (λ parts. parts.items ≡ the_parts now rospec.now selector.now sighting.now) }
+    ensures { IfOk result (λ parts. parts.items
+        ≡ the_parts now rospec.now selector.now sighting.now) }
 {
     let nodes = Vec::with_capacity(alloc, 10)?;
     let mut parts = Parts { alloc, nodes };
@@ -89,20 +92,18 @@ fn report_parts(
     Ok(parts.nodes)
 }
 
-/// The numbers of a ROSpec and of a sighting fit the fields in which they are told; this changes nothing.
+/// Lets a proof use that the numbers of a ROSpec and of a sighting fit their fields; does nothing at run time.
 fn known_to_fit(rospec: &RoSpec, sighting: &Sighting)
     ensures rospec { IsToldOf rospec.now }
     ensures sighting { IsLawfulSighting sighting.now }
 {
-    let told = rospec.settings();
-    let _id = told.id;
-    let _inventory = told.inventory;
+    rospec.told();
     let _epc = sighting.epc.number();
     let _rssi = signed_octet(sighting.rssi);
     let _antenna = sighting.antenna;
 }
 
-/// The TagReportData of what was sighted at a moment while a ROSpec was active; an error is want of memory.
+/// The TagReportData of what was sighted at a moment while a ROSpec was active; the only error is `Memory`.
 pub(crate) fn tag_report(
     alloc: Global,
     now: u64,

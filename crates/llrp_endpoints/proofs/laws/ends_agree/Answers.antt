@@ -39,3 +39,9 @@ returns-clause-pending_is_on_the_way c = schedules.pending_is_on_the_way
 
 pub returns-clause-nothing_is_pending : goal.returns-clause-nothing_is_pending
 returns-clause-nothing_is_pending c = schedules.nothing_is_pending
+
+pub returns-clause-tables_arrive : goal.returns-clause-tables_arrive
+returns-clause-tables_arrive c = schedules.tables_arrive
+
+pub returns-clause-none_differs : goal.returns-clause-none_differs
+returns-clause-none_differs c = schedules.none_differs

@@ -3,8 +3,9 @@ use Rattle.std.specs.Prelude.{option_map}
 use Rattle.std.specs.Borrow.{Bor}
 use Rattle.clap.specs.Words.{Text, found_of, rows_of}
 use Rattle.clap.proofs.CallerLemmas.{some_of_text}
-use Rattle.clap.proofs.WalkLemmas.{first_value-rows}
-use Rattle.llrp_tool.proofs.ArgumentLemmas.{inventory_there}
+use Rattle.clap.proofs.WalkLemmas.{first_value-rows, one_text-rows}
+use Rattle.llrp_tool.proofs.ArgumentLemmas.{inventory_there, flag_of_plan, reads_flag}
+use Rattle.llrp_tool.proofs.CommandLemmas.{has_flag}
 use Rattle.llrp_tool.proofs.words.network_named.Goals as goal
 
 pub returns-then-eq : goal.returns-then-eq
@@ -15,7 +16,14 @@ returns-then-eq c =
 pub returns-then-eq-2 : goal.returns-then-eq-2
 returns-then-eq-2 c =
     let named : c.args.name.now ≡ codes "loop" = search rules in
-    (ap (λ (n : Text). Some n) named, c.number-every.ensures c.args.name.now, c.number-polls.ensures c.args.name.now)
+    let no_sim : c.args.name.now ≡ codes "sim" → ⊥ = search rules in
+    let flag = flag_of_plan c.args.name.now (rows_of (found_of c.args.inner.now)) c.requires no_sim in
+    let rows = one_text-rows (found_of c.args.inner.now) (codes "check") in (
+      ap (λ (n : Text). Some n) named,
+      c.number-every.ensures c.args.name.now,
+      c.number-polls.ensures c.args.name.now,
+      reads_flag _ c.get_flag-check.result (has_flag _ c.get_flag-check.result (λ h. c.get_flag-check.ensures.none (rows ∙ h)) (λ h. c.get_flag-check.ensures.value (rows ∙ h)) (λ h. c.get_flag-check.ensures.other (rows ∙ h))) flag,
+    )
 
 pub unwrap-requires : goal.unwrap-requires
 unwrap-requires c =
@@ -28,10 +36,14 @@ pub returns : goal.returns
 returns c =
     let no_sim : c.args.name.now ≡ codes "sim" → ⊥ = search rules in
     let no_loop : c.args.name.now ≡ codes "loop" → ⊥ = search rules in
+    let flag = flag_of_plan c.args.name.now (rows_of (found_of c.args.inner.now)) c.requires no_sim in
+    let rows = one_text-rows (found_of c.args.inner.now) (codes "check") in
     let there = inventory_there c.args.name.now (rows_of (found_of c.args.inner.now)) c.requires no_sim no_loop in (
       ap (λ (n : Text). Some n) there.0,
       sym (first_value-rows (found_of c.args.inner.now) (codes "HOST")) ∙ sym c.get_str.ensures ∙ ap (option_map (λ (s : Bor Text). s.now)) c.unwrap.ensures,
       c.number-2.ensures c.args.name.now,
       c.number-every.ensures c.args.name.now,
       c.number-polls.ensures c.args.name.now,
+      reads_flag _ c.get_flag-check.result (has_flag _ c.get_flag-check.result (λ h. c.get_flag-check.ensures.none (rows ∙ h)) (λ h. c.get_flag-check.ensures.value (rows ∙ h)) (λ h. c.get_flag-check.ensures.other (rows ∙ h))) flag,
+      c.optional_number.ensures c.args.name.now,
     )

@@ -20,7 +20,7 @@ pub returns-in-Ok-clause-named : goal.returns-in-Ok-clause-named
 returns-in-Ok-clause-named g c = λ parsed.
     let program = c.in_ok-command.ensures in
     let found = (c.in-Ok.ensures.matches (ap is_simple program ∙ is_simple_program)).1 in
-    subst (λ (x : Option (Text × List Row)). IsRequest x c.chosen.result) (found_in _ _ _ program found) c.chosen.ensures
+    subst (λ (x : Option (Text × List Row)). IsRequest x c.chosen.result) (found_in _ _ _ program found) c.chosen.ensures.request
 
 pub returns-in-Ok-clause-refused : goal.returns-in-Ok-clause-refused
 returns-in-Ok-clause-refused g c = λ refused.

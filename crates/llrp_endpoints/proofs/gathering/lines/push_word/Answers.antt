@@ -1,5 +1,6 @@
-use Rattle.std.proofs.Common.{◌≡◌, ◌∙◌, ◌<◌, ◌^◌, subst, arith, ℕ}
+use Rattle.std.proofs.Common.{◌≡◌, ◌∙◌, ◌++◌, ◌<◌, ◌^◌, ap, subst, arith, List, ℕ}
 use Rattle.tag_uri.specs.TagText.{IsTextOf}
+use Rattle.tag_uri.proofs.UriLemmas.{text_at_start}
 use Rattle.llrp_schema.specs.Schema.{fields_of, rule_of, param_rule}
 use Rattle.llrp_endpoints.proofs.gathering.lines.push_word.Goals as goal
 
@@ -12,8 +13,9 @@ unreachable-requires c =
 
 pub returns : goal.returns
 returns c =
-    let word : c.in-Some.word ≡ c.field.result = c.in-Some.ensures.number in (
-      c.as_bytes.result.now,
-      rw (c.as_bytes.ensures.value, c.as_str.ensures.value) (subst (λ (n : ℕ). IsTextOf n c.text_of_word.result.bytes) (word ∙ c.field.ensures.value) c.text_of_word.ensures),
-      c.in_ok-extend_from_slice.ensures.items,
+    let word : c.in-Some.word ≡ c.field.result = c.in-Some.ensures.number in
+    let t = c.put_text_of_word-end.ensures.text in (
+      t.0,
+      subst (λ (n : ℕ). IsTextOf n t.0) (word ∙ c.field.ensures.value) t.1,
+      c.in_ok-extend_from_slice.ensures.items ∙ ap (λ (x : List ℕ). c.args.text.now.items ++ x) (text_at_start _ _ _ _ t.2),
     )

@@ -1,4 +1,4 @@
-use Rattle.llrp_session.proofs.MessagesAgree.{view_catches_up, view_is_table, reports_arrive, reports_are_kept, reader_has_history, one_active, nothing_is_unexpected, pending_is_on_the_way, nothing_is_pending}
+use Rattle.llrp_session.proofs.MessagesAgree.{view_catches_up, view_is_table, reports_arrive, reports_are_kept, reader_has_history, one_active, nothing_is_unexpected, pending_is_on_the_way, nothing_is_pending, tables_arrive, none_differs}
 use Rattle.llrp_session.proofs.laws.messages.ends_agree_in_messages.Goals as goal
 
 pub returns : goal.returns
@@ -12,4 +12,6 @@ returns c = record {
   nothing_is_unexpected = nothing_is_unexpected;
   pending_is_on_the_way = pending_is_on_the_way;
   nothing_is_pending = nothing_is_pending;
+  tables_arrive = tables_arrive;
+  none_differs = none_differs;
 }

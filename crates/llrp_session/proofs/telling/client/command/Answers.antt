@@ -1,5 +1,5 @@
 use Rattle.std.proofs.Common.{[], ◌∷◌, ◌∙◌, ap, refl, sym, arith}
-use Rattle.llrp_session.specs.Words.{Command, Delete, Start, Stop, Enable, Disable, GetReport, Close, Asks}
+use Rattle.llrp_session.specs.Words.{Command, Delete, Start, Stop, Enable, Disable, GetRospecs, GetReport, Close, Asks}
 use Rattle.llrp_session.specs.ClientMessages.{client_message}
 use Rattle.llrp_session.proofs.ToldMessages.{client_told, client_lawful}
 use Rattle.llrp_session.proofs.telling.client.command.Goals as goal
@@ -45,11 +45,19 @@ returns-in-Disable-clause-ok c =
     ∙ ap (λ (k : Command). client_message (record { id = c.args.id; word = Asks k })) (sym c.in-Disable.is)
 
 pub message-requires : goal.message-requires
-message-requires c = client_lawful c.args.id _ [] c.new.result.items (Asks GetReport) refl refl c.new.ensures.items (omega arith) tt
+message-requires c = client_lawful c.args.id _ [] c.new.result.items (Asks GetRospecs) refl refl c.new.ensures.items (omega arith) tt
+
+pub returns-in-GetRospecs-clause-ok : goal.returns-in-GetRospecs-clause-ok
+returns-in-GetRospecs-clause-ok c =
+    c.message.ensures ∙ client_told c.args.id _ [] c.new.result.items (Asks GetRospecs) refl refl c.new.ensures.items
+    ∙ ap (λ (k : Command). client_message (record { id = c.args.id; word = Asks k })) (sym c.in-GetRospecs.is)
+
+pub message-requires-in-GetReport : goal.message-requires-in-GetReport
+message-requires-in-GetReport c = client_lawful c.args.id _ [] c.new-in-GetReport.result.items (Asks GetReport) refl refl c.new-in-GetReport.ensures.items (omega arith) tt
 
 pub returns-in-GetReport-clause-ok : goal.returns-in-GetReport-clause-ok
 returns-in-GetReport-clause-ok c =
-    c.message.ensures ∙ client_told c.args.id _ [] c.new.result.items (Asks GetReport) refl refl c.new.ensures.items
+    c.message-in-GetReport.ensures ∙ client_told c.args.id _ [] c.new-in-GetReport.result.items (Asks GetReport) refl refl c.new-in-GetReport.ensures.items
     ∙ ap (λ (k : Command). client_message (record { id = c.args.id; word = Asks k })) (sym c.in-GetReport.is)
 
 pub message-requires-in-Close : goal.message-requires-in-Close

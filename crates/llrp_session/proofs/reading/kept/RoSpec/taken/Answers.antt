@@ -1,7 +1,7 @@
 use Rattle.std.proofs.Common.{◌≡◌, ◌∷◌, [], ◌∙◌, ap, sym, length, arith}
 use Rattle.llrp_session.specs.RoSpec.{rospec_of}
 use Rattle.llrp_session.proofs.OnlyRoSpec.{adds_one, last_of}
-use Rattle.llrp_session.proofs.reading.rospec.RoSpec.taken.Goals as goal
+use Rattle.llrp_session.proofs.reading.kept.RoSpec.taken.Goals as goal
 
 pub settings-settings-requires : goal.settings-settings-requires
 settings-settings-requires c =

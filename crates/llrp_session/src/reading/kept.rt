@@ -1,0 +1,30 @@
+//! A ROSpec that a reader keeps. Its file names no definition that speaks of a reader's table.
+
+use super::words::Settings;
+use llrp_tree::Node;
+use std::marker::Model;
+
+/// A ROSpec, with what is read in it. Contracts see what the definitions read in it.
+#[derive(Drop)]
+pub(crate) struct RoSpec {
+    pub(super) spec: Node,
+    pub(super) settings: Settings,
+}
+
+impl Model for RoSpec {
+    ghost use Rattle.std.specs.Prelude.{◌≡◌};
+    ghost use Rattle.std.specs.Coded.{codes};
+    ghost use Rattle.llrp_tree.specs.Stored.{tree_code};
+    ghost use Rattle.llrp_schema.specs.declared.kinds.ParamKind.TheVariants as kinds;
+    ghost use Rattle.llrp_session.specs.RoSpec.{RoSpec as RoSpecValue, rospec_of};
+    ghost use Rattle.llrp_session.specs.Settings.{settings_of};
+
+    ghost Value = { RoSpecValue };
+
+    ghost coded = { Prim.hlevel (codes, tree_code) };
+
+    ghost view = { λ a. rospec_of a.spec };
+
+    ghost invariant = { λ a. (a.spec.kind ≡ kinds.RoSpec)
+        × (a.settings ≡ settings_of (rospec_of a.spec)) };
+}
