@@ -1,13 +1,13 @@
-//! A stream as it is, each of its fronts, and each change of one of its octets.
+//! A stream as it is, in two pieces, each of its fronts, and each change of one of its octets.
 
-use crate::reading::found;
+use crate::reading::{Cut, found};
 use anyhow::{Context, Result, bail};
 use std::alloc::Global;
 
 /// What a stream holds, read at once and octet by octet.
 fn read_both(alloc: Global, stream: &[u8]) -> Result<Vec<u8>> {
-    let at_once = found(alloc, stream, stream.len())?;
-    if found(alloc, stream, 1)? != at_once {
+    let at_once = found(alloc, stream, Cut::Nowhere)?;
+    if found(alloc, stream, Cut::Everywhere)? != at_once {
         bail!("other items octet by octet than at once");
     }
     Ok(at_once)
@@ -33,6 +33,37 @@ pub fn same(rt: &HostRuntime, stream: &[u8]) -> Result<()> {
             print_wrong(rt, what.as_str(), stream)
         }
     }
+}
+
+/// Whether a stream of this many octets is cut at a place: a long one only at 40 places at each end.
+fn is_cut_at(octets: usize, place: usize) -> bool {
+    octets <= 100 || place <= 40 || octets.saturating_sub(place) <= 40
+}
+
+/// Whether a stream in two pieces holds what it holds at once.
+fn is_same_cut_at(alloc: Global, stream: &[u8], place: usize, at_once: &[u8]) -> bool {
+    match found(alloc, stream, Cut::At(place)) {
+        Ok(found) => found.as_slice() == at_once,
+        Err(_) => false,
+    }
+}
+
+/// Reads a stream that is cut into two at each place.
+pub fn pieces(rt: &HostRuntime, stream: &[u8]) -> Result<()> {
+    let at_once = read_both(rt.alloc(), stream)?;
+    let mut places = 0u32;
+    for place in 1..stream.len() {
+        if !is_cut_at(stream.len(), place) {
+            continue;
+        }
+        if !is_same_cut_at(rt.alloc(), stream, place, at_once.as_slice()) {
+            let what = format!(in rt.alloc(); "cut at {place}")?;
+            print_wrong(rt, what.as_str(), stream)?;
+        }
+        places = places.saturating_add(1);
+    }
+    println!(rt; "pieces {places} places")?;
+    Ok(())
 }
 
 /// What the front of a frame has to be: nothing, or a rest of its length.

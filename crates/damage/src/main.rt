@@ -3,19 +3,23 @@
 //! Each line of standard input is a word and a stream of LLRP in hexadecimal digits:
 //!
 //! - `same`: the stream as it is. Its line says what the decoder found.
+//! - `pieces`: the stream in two pieces, cut at each place; one of more than 100 octets at the first 40 and the last 40
+//!   places. Its line counts the places.
 //! - `cuts`: each front of the stream, which is one frame. Each has to be a rest of its length.
 //! - `changes`: the stream with each octet changed to each other value. The line counts how many of them still hold
 //!   nothing but messages.
 //!
-//! All are read twice, and have to give the same both times; a message that is found has to spell the octets that it
-//! was read from. A line that begins with `WRONG` says where that is not so.
+//! All are read at once and octet by octet, and have to give the same both times. What is found of a frame has to be
+//! what `decode_frame` says of it, and a message has to spell the octets that it was read from. A line that begins with
+//! `WRONG` says where that is not so.
 #![tactic(auto)]
 
 mod cases;
+mod items;
 mod reading;
 
 use anyhow::{Context, Result, bail};
-use cases::{changes, cuts, same};
+use cases::{changes, cuts, pieces, same};
 
 /// Does what a line asks for.
 fn answer(rt: &HostRuntime, line: &str) -> Result<()> {
@@ -24,6 +28,7 @@ fn answer(rt: &HostRuntime, line: &str) -> Result<()> {
     let stream = hex::decode(alloc, digits)?;
     match what {
         "same" => same(rt, stream.as_slice()),
+        "pieces" => pieces(rt, stream.as_slice()),
         "cuts" => cuts(rt, stream.as_slice()),
         "changes" => changes(rt, stream.as_slice()),
         _ => bail!("no such word"),

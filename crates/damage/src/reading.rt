@@ -1,29 +1,31 @@
 //! What a decoder finds in a stream that comes in pieces.
 
+use crate::items::push_item;
 use anyhow::{Result, bail};
-use llrp_stream::{Decoder, FeedErr, Item};
-use llrp_tree::{MAX_LIMIT, encode_into};
+use llrp_stream::{Decoder, FeedErr};
+use llrp_tree::MAX_LIMIT;
 use std::alloc::Global;
 
-/// Appends what an item is. A message has to spell the octets that it was read from.
-fn push_item(alloc: Global, found: &mut Vec<u8>, item: Item, frame: &[u8]) -> Result<()> {
-    match item {
-        Item::Msg(message) => {
-            let mut spelled = Vec::new(alloc);
-            if encode_into(alloc, &message, &mut spelled, MAX_LIMIT).is_err()
-                || spelled.as_slice() != frame
-            {
-                bail!("a message does not spell the octets that it was read from");
-            }
-            found.extend_from_slice(b"message, ")?;
-        }
-        Item::Bad { id, fault } => {
-            let (bit, reason) = (fault.bit, fault.reason);
-            let text = format!(in alloc; "{id} {bit} {reason:?}, ")?;
-            found.extend_from_slice(text.as_bytes())?;
+/// Where a stream is cut into pieces.
+#[derive(Clone, Copy)]
+pub enum Cut {
+    /// Nowhere: it comes at once.
+    Nowhere,
+    /// At one place.
+    At(usize),
+    /// After each octet.
+    Everywhere,
+}
+
+impl Cut {
+    /// Where the piece ends that begins at a place of a stream.
+    fn end_of_piece(self, begin: usize, stream: &[u8]) -> usize {
+        match self {
+            Cut::At(place) if begin < place => place,
+            Cut::At(_) | Cut::Nowhere => stream.len(),
+            Cut::Everywhere => begin.saturating_add(1),
         }
     }
-    Ok(())
 }
 
 /// The octets from one place to another.
@@ -32,8 +34,8 @@ fn between(stream: &[u8], from: usize, to: usize) -> &[u8] {
     front.split_at_checked(from).map_or(&[], |parts| parts.1)
 }
 
-/// What the decoder finds in a stream that comes in pieces of this many octets: each item, and how the stream ends.
-pub fn found(alloc: Global, stream: &[u8], piece: usize) -> Result<Vec<u8>> {
+/// What the decoder finds in a stream that is cut so: each item, and how the stream ends.
+pub fn found(alloc: Global, stream: &[u8], cut: Cut) -> Result<Vec<u8>> {
     let mut decoder = Decoder::new(alloc, MAX_LIMIT);
     let mut found = Vec::new(alloc);
     let (mut begun, mut at) = (0, 0);
@@ -41,7 +43,7 @@ pub fn found(alloc: Global, stream: &[u8], piece: usize) -> Result<Vec<u8>> {
         if at >= stream.len() {
             break;
         }
-        match decoder.feed(between(stream, at, at.saturating_add(piece))) {
+        match decoder.feed(between(stream, at, cut.end_of_piece(at, stream))) {
             Ok(fed) => {
                 at = at.saturating_add(fed.used);
                 if let Some(item) = fed.item {

@@ -1,7 +1,7 @@
 //! Turns each line of standard input but the first over: a word's 24 hexadecimal digits into the word's
 //! text, and the text of a word into its digits. Before that it writes the texts of all words and reads
 //! all texts as often as the first line says, in memory, for `bench/epc.sh`. What the calls in the loops
-//! answer is proved where they stand; here only that nothing goes wrong.
+//! return is proved in their own crates; here only that nothing goes wrong.
 #![tactic(auto)]
 
 use hex::FromHex;
@@ -61,7 +61,7 @@ fn read_texts(texts: &[&str]) -> u64 {
     count
 }
 
-/// Writes and reads all texts so many times, and returns the sum of what the calls return.
+/// Writes and reads all texts this many times, and returns the sum of what the calls return.
 fn turn_all(words: &[Word], texts: &[&str], turns: u32) -> u64 {
     let mut sum = 0u64;
     for _ in 0..turns {

@@ -3,43 +3,61 @@
 ghost use Rattle.std.specs.Prelude.{◌<◌, ◌^◌, IfErr};
 ghost use Rattle.llrp.specs.Network.{IsPlanError, RunsPlan};
 
-use crate::network::{LIMIT, conclude};
+use crate::network::{conclude, plan_of};
 use crate::progress::Progress;
-use llrp_tool::{Input, Output, Sink, ToolErr, run_inventory, standard_plan};
+use llrp_tool::{Input, LIMIT, Output, Sink, ToolErr, run_inventory};
 use std::alloc::Global;
 use std::io::Write;
 use std::net::{Net, TcpListener, TcpStream, ToSocketAddrs};
+use std::time::Duration;
 
-/// Follows the plan of the two numbers with the reader at the stream's other end. The lines of the tags
-/// go to `report`.
+/// The reader whose tags are asked for.
+#[derive(Clone, Copy)]
+pub struct Target<'a> {
+    pub host: &'a str,
+    pub port: u16,
+    /// For how many seconds it may be silent; `None` is for ever.
+    pub timeout: Option<u16>,
+}
+
+/// Follows the plan of the two numbers, checked or not, with the reader at the stream's other end. The
+/// lines of the tags go to `report`.
 pub fn take_inventory<W: Sink>(
     alloc: Global,
     stream: &TcpStream,
     every: u16,
     polls: u16,
+    check: bool,
     report: &mut W,
 ) -> Result<(), ToolErr>
     requires { (W.log report.old).failures < 2 ^ 63 }
     ensures { IfErr result IsPlanError }
 {
-    let plan = standard_plan(alloc, every, polls)?;
+    let plan = plan_of(alloc, every, polls, check)?;
     let mut source = Input::new(stream);
     let mut sink = Output::new(stream);
     run_inventory(alloc, plan, LIMIT, &mut source, &mut sink, report)?;
     Ok(())
 }
 
-/// A connection to the first address that the host's name has. `None` is a network that failed.
+/// A connection to the first address that the host's name has. Where there is a timeout, the connection is given up after it,
+/// and each read fails that gets nothing in that time. `None` is a network that failed.
 fn connect<N: Net<Listener = TcpListener, Stream = TcpStream>>(
     net: &N,
-    host: &str,
-    port: u16,
+    target: Target<'_>,
 ) -> Option<TcpStream> {
-    let first = (host, port).to_socket_addrs(net).ok()?.next()?;
-    TcpStream::connect(net, first).ok()
+    let mut addresses = (target.host, target.port).to_socket_addrs(net).ok()?;
+    let first = addresses.next()?;
+    let Some(seconds) = target.timeout else {
+        return TcpStream::connect(net, first).ok();
+    };
+    let timeout = Duration::from_secs(seconds as u64);
+    let stream = TcpStream::connect_timeout(net, &first, timeout).ok()?;
+    stream.set_read_timeout(Some(timeout)).ok()?;
+    Some(stream)
 }
 
-/// Follows the plan of the two numbers with the reader at the host and port, and gives the exit status: 0
+/// Follows the plan of the two numbers, checked or not, with the reader, and gives the exit status: 0
 /// where all is fine, 1 where the reader is at fault, 3 where the network, a device or memory failed. The
 /// lines of the tags go to `report`. An error is written to `e` as a line.
 pub fn inventory<
@@ -50,10 +68,10 @@ pub fn inventory<
 >(
     net: &N,
     alloc: Global,
-    host: &str,
-    port: u16,
+    target: Target<'_>,
     every: u16,
     polls: u16,
+    check: bool,
     report: &mut Progress<W, T>,
     e: &mut E,
 ) -> Result<u8, ToolErr>
@@ -61,10 +79,10 @@ pub fn inventory<
     requires errors { (E.log e.old).failures < 2 ^ 63 }
     ensures { RunsPlan (E.log e.old) (E.log e.new) result }
 {
-    let outcome = match connect(net, host, port) {
+    let outcome = match connect(net, target) {
         Some(stream) => {
             report.show();
-            Some(take_inventory(alloc, &stream, every, polls, report))
+            Some(take_inventory(alloc, &stream, every, polls, check, report))
         }
         None => None,
     };

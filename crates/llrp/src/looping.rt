@@ -4,10 +4,10 @@ ghost use Rattle.std.specs.Prelude.{◌<◌, ◌^◌, IfErr};
 ghost use Rattle.llrp_stream.specs.Device.{IsFreshSource};
 ghost use Rattle.llrp.specs.Network.{IsPlanError, MayEnd, RunsScript};
 
-use crate::network::{FIRST_ID, LIMIT, conclude, read_script};
+use crate::network::{FIRST_ID, conclude, plan_of, read_script};
 use crate::progress::Progress;
 use llrp_session::Reader;
-use llrp_tool::{Endpoint, Input, Output, Script, Sink, Source, ToolErr, run_loop, standard_plan};
+use llrp_tool::{Endpoint, Input, LIMIT, Output, Script, Sink, Source, ToolErr, run_loop};
 use std::alloc::Global;
 use std::io::Write;
 use std::net::{Net, TcpListener, TcpStream};
@@ -29,19 +29,20 @@ impl Connection {
     }
 
     /// A simulated reader that acts by the script serves at one end the client that follows the plan of
-    /// the two numbers at the other. The lines of the tags go to `report`.
+    /// the two numbers, checked or not, at the other. The lines of the tags go to `report`.
     fn run<W: Sink>(
         &self,
         alloc: Global,
         script: Script,
         every: u16,
         polls: u16,
+        check: bool,
         report: &mut W,
     ) -> Result<(), ToolErr>
         requires { (W.log report.old).failures < 2 ^ 63 }
         ensures { IfErr result IsPlanError }
     {
-        let plan = standard_plan(alloc, every, polls)?;
+        let plan = plan_of(alloc, every, polls, check)?;
         let core = Reader::new(alloc, LIMIT, FIRST_ID);
         let mut client_end = Endpoint {
             source: Input::new(&self.client),
@@ -72,6 +73,7 @@ fn run_script<N: Net<Listener = TcpListener, Stream = TcpStream>, W: Sink + Drop
     script: Script,
     every: u16,
     polls: u16,
+    check: bool,
     report: &mut Progress<W, T>,
 ) -> Option<Result<(), ToolErr>>
     requires { (⟦<Progress<W, T> as Sink>⟧.log report.old).failures < 2 ^ 63 }
@@ -79,15 +81,15 @@ fn run_script<N: Net<Listener = TcpListener, Stream = TcpStream>, W: Sink + Drop
 {
     let connection = Connection::open(net)?;
     report.show();
-    let outcome = connection.run(alloc, script, every, polls, report);
+    let outcome = connection.run(alloc, script, every, polls, check, report);
     report.wipe();
     Some(outcome)
 }
 
 /// Reads the script, runs a simulated reader by it and a client that follows the plan of the two numbers,
-/// and gives the exit status: 0 where all is fine, 1 where the script is at fault or the plan came to no
-/// end, 3 where the network, a device or memory failed. The lines of the tags go to `report`. An error is
-/// written to `e` as a line.
+/// checked or not, and gives the exit status: 0 where all is fine, 1 where the script is at fault or the
+/// plan came to no end, 3 where the network, a device or memory failed. The lines of the tags go to
+/// `report`. An error is written to `e` as a line.
 pub fn run_both_ends<
     N: Net<Listener = TcpListener, Stream = TcpStream>,
     R: Source,
@@ -99,6 +101,7 @@ pub fn run_both_ends<
     alloc: Global,
     every: u16,
     polls: u16,
+    check: bool,
     r: &mut R,
     report: &mut Progress<W, T>,
     e: &mut E,
@@ -106,10 +109,11 @@ pub fn run_both_ends<
     requires source { IsFreshSource (R.log r.old) }
     requires report { (⟦<Progress<W, T> as Sink>⟧.log report.old).failures < 2 ^ 63 }
     requires errors { (E.log e.old).failures < 2 ^ 63 }
-    ensures { RunsScript IsPlanError (R.log r.old) (R.log r.new) (E.log e.old) (E.log e.new) result }
+    ensures { RunsScript IsPlanError (R.log r.old) (R.log r.new) (E.log e.old)
+        (E.log e.new) result }
 {
     let outcome = match read_script(alloc, r) {
-        Ok(script) => run_script(net, alloc, script, every, polls, report),
+        Ok(script) => run_script(net, alloc, script, every, polls, check, report),
         Err(error) => Some(Err(error)),
     };
     conclude(outcome, e)

@@ -10,7 +10,11 @@ mod progress;
 mod sim;
 
 use ending::end_without_memory;
-use llrp_tool::{Input, NetworkCommand, Output, ToolErr, network_command, run_command, write_all};
+use inventory::Target;
+use llrp_tool::{
+    Input, NetworkCommand, Output, ToolErr, USAGE, network_command, reads_input, run_command,
+    write_all,
+};
 use network::{FAILED, conclude};
 use progress::Progress;
 use std::env;
@@ -18,11 +22,11 @@ use std::fs::File;
 use std::io::{ErrorKind, IsTerminal};
 use std::process::ExitCode;
 
-/// The exit status where an argument is not UTF-8.
-const USAGE: u8 = 2;
-
 /// What is written where an argument is not UTF-8.
 const NOT_UTF8: &[u8] = b"error: invalid UTF-8 was detected in one or more arguments\n";
+
+/// What a person at a terminal reads who gives no input.
+const WAITING: &[u8] = b"llrp: waiting for input on this terminal; Ctrl-D ends it\n";
 
 /// Opens a directory as often as there are standard streams. Where one of these is closed, a directory takes its
 /// descriptor, which the next socket would have: so a read or write of that stream fails, and does not go over the
@@ -55,26 +59,46 @@ fn run_network(rt: &HostRuntime, command: NetworkCommand<'_>) -> Result<u8, Tool
             port,
             every,
             polls,
+            check,
+            timeout,
         } => inventory::inventory(
             rt,
             alloc,
-            host,
-            port,
+            Target {
+                host,
+                port,
+                timeout,
+            },
             every,
             polls,
+            check,
             &mut report,
             &mut errors,
         ),
-        NetworkCommand::Loop { every, polls } => looping::run_both_ends(
+        NetworkCommand::Loop {
+            every,
+            polls,
+            check,
+        } => looping::run_both_ends(
             rt,
             alloc,
             every,
             polls,
+            check,
             &mut input,
             &mut report,
             &mut errors,
         ),
     }
+}
+
+/// Says on a terminal that a command waits for input, where that comes from a terminal too and the words ask for such a
+/// command. A terminal that takes nothing is passed over.
+fn say_waiting(rt: &HostRuntime, words: &[String]) -> Result<(), ToolErr> {
+    if rt.stdin().is_terminal() && rt.stderr().is_terminal() && reads_input(rt.alloc(), words)? {
+        let _said = write_all(&mut Output::new(rt.stderr()), WAITING);
+    }
+    Ok(())
 }
 
 /// Runs the command that the program's words ask for, and gives its exit status. The errors are `Memory`
@@ -95,13 +119,16 @@ fn run(rt: &HostRuntime) -> Result<u8, ToolErr> {
     let words: Vec<String> = arguments.skip(1).collect(alloc)?;
     match network_command(alloc, words.as_slice())? {
         Some(command) => run_network(rt, command),
-        None => run_command(
-            alloc,
-            words.as_slice(),
-            &mut Input::new(rt.stdin()),
-            &mut Output::new(rt.stdout()),
-            &mut errors,
-        ),
+        None => {
+            say_waiting(rt, words.as_slice())?;
+            run_command(
+                alloc,
+                words.as_slice(),
+                &mut Input::new(rt.stdin()),
+                &mut Output::new(rt.stdout()),
+                &mut errors,
+            )
+        }
     }
 }
 

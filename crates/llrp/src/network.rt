@@ -1,14 +1,14 @@
-//! What the commands over sockets share: their script, their limit, and how they end.
+//! What the commands over sockets share: their script, their plan, and how they end.
 
-ghost use Rattle.std.specs.Prelude.{◌+◌, ◌<◌, ◌^◌};
+ghost use Rattle.std.specs.Prelude.{◌≡◌, ◌+◌, ◌<◌, ◌^◌, IfErr, IfOk};
+ghost use Rattle.llrp_listing.specs.declared.fault.ToolErr.TheVariants.{Memory};
 ghost use Rattle.llrp_stream.specs.Device.{IsFreshSource};
 ghost use Rattle.llrp.specs.Network.{Concludes, ReadsScript};
 
-use llrp_tool::{Script, Sink, Source, ToolErr, answer, read_all, write_all};
+use llrp_tool::{
+    Plan, Script, Sink, Source, ToolErr, answer, checked_plan, read_all, standard_plan, write_all,
+};
 use std::alloc::Global;
-
-/// The greatest message in octets that an end takes and sends.
-pub const LIMIT: u32 = 65_536;
 
 /// The first own message id of a simulated reader.
 pub const FIRST_ID: u32 = 1;
@@ -24,6 +24,18 @@ pub fn read_script<R: Source>(alloc: Global, r: &mut R) -> Result<Script, ToolEr
 {
     let text = read_all(alloc, r)?;
     Script::parse(alloc, text.as_slice())
+}
+
+/// The plan of the two numbers, checked or not. The only error is `Memory`.
+pub fn plan_of(alloc: Global, every: u16, polls: u16, check: bool) -> Result<Plan, ToolErr>
+    ensures plan { IfOk result (λ p. p ≡ record { every = every; polls = polls; checked = check }) }
+    ensures memory { IfErr result (λ e. e ≡ Memory) }
+{
+    if check {
+        checked_plan(alloc, every, polls)
+    } else {
+        standard_plan(alloc, every, polls)
+    }
 }
 
 /// The exit status of a command that ended so, once the line of its error was written to `e`. `None` is a

@@ -1,4 +1,4 @@
-//! A sink of tag lines that tells a person who waits how far it is.
+//! A sink of tag lines that shows a person at a terminal how many tags came so far.
 
 ghost use Rattle.std.specs.Prelude.{◌≡◌};
 
@@ -7,7 +7,7 @@ use std::io;
 use std::io::Write;
 
 /// Hands every write on to a sink. Where there is a terminal, it says there that the client is connected,
-/// and how many tags the lines have told so far, and wipes that away before each write.
+/// and how many tags the lines have named so far, and wipes that away before each write.
 #[derive(Drop)]
 pub struct Progress<W: Sink + Drop, T: Write + Drop> {
     sink: W,
@@ -44,7 +44,8 @@ impl<W: Sink + Drop, T: Write + Drop> Progress<W, T> {
 
     /// Shows how far it is. A terminal that takes nothing is passed over.
     pub fn show(&mut self)
-        ensures { ⟦<Progress<W, T> as Sink>⟧.log self.new ≡ ⟦<Progress<W, T> as Sink>⟧.log self.old }
+        ensures { ⟦<Progress<W, T> as Sink>⟧.log self.new
+            ≡ ⟦<Progress<W, T> as Sink>⟧.log self.old }
     {
         if let Some(terminal) = &mut self.terminal {
             let _shown = write!(terminal, "\rllrp: connected, {} tags", self.tags);
@@ -53,7 +54,8 @@ impl<W: Sink + Drop, T: Write + Drop> Progress<W, T> {
 
     /// Wipes away what was shown.
     pub fn wipe(&mut self)
-        ensures { ⟦<Progress<W, T> as Sink>⟧.log self.new ≡ ⟦<Progress<W, T> as Sink>⟧.log self.old }
+        ensures { ⟦<Progress<W, T> as Sink>⟧.log self.new
+            ≡ ⟦<Progress<W, T> as Sink>⟧.log self.old }
     {
         if let Some(terminal) = &mut self.terminal {
             let _wiped = terminal.write_all(b"\r\x1b[K");

@@ -4,9 +4,9 @@ ghost use Rattle.std.specs.Prelude.{◌<◌, ◌^◌};
 ghost use Rattle.llrp_stream.specs.Device.{IsFreshSource};
 ghost use Rattle.llrp.specs.Network.{IsServingError, MayEnd, RunsScript};
 
-use crate::network::{FIRST_ID, LIMIT, conclude, read_script};
+use crate::network::{FIRST_ID, conclude, read_script};
 use llrp_session::Reader;
-use llrp_tool::{Input, Output, Script, Sink, Source, ToolErr, run_serve};
+use llrp_tool::{Input, LIMIT, Output, Script, Sink, Source, ToolErr, run_serve};
 use std::alloc::Global;
 use std::net::{Net, TcpListener, TcpStream};
 
@@ -50,7 +50,8 @@ pub fn sim<N: Net<Listener = TcpListener, Stream = TcpStream>, R: Source, E: Sin
 ) -> Result<u8, ToolErr>
     requires source { IsFreshSource (R.log r.old) }
     requires errors { (E.log e.old).failures < 2 ^ 63 }
-    ensures { RunsScript IsServingError (R.log r.old) (R.log r.new) (E.log e.old) (E.log e.new) result }
+    ensures { RunsScript IsServingError (R.log r.old) (R.log r.new) (E.log e.old)
+        (E.log e.new) result }
 {
     let outcome = match read_script(alloc, r) {
         Ok(script) => serve_at(net, alloc, port, script),

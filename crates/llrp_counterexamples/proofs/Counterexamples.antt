@@ -1,5 +1,5 @@
 -- Lists of events that lead two ends with a mistake to where they do not agree, computed on the world: limit 65,536, first ids 1.
-use Rattle.std.proofs.Common.{◌≡◌, ℕ, ◌≤◌, refl, ap, ◌∙◌, List, [], ◌∷◌, ◌++◌, length, arith}
+use Rattle.std.proofs.Common.{◌≡◌, ◌≤◌, refl, ap, ◌∙◌, List, [], ◌∷◌, ◌++◌, length, arith}
 use Rattle.std.specs.Prelude.{Bool, true, false, negsuc}
 use Rattle.llrp_schema.specs.declared.kinds.ParamKind.TheVariants.{RoSpec, RoBoundarySpec, RoSpecStartTrigger, RoSpecStopTrigger}
 use Rattle.llrp_schema.specs.Schema.{number_of, rule_of, param_rule, fields_of, tail_of, is_tv}
@@ -20,9 +20,6 @@ use Rattle.llrp_session.proofs.Examples.{node, rospec, immediate_rospec, reporti
 use Rattle.llrp_counterexamples.specs.WrongMachines.{AfterAllBy, right, happens_by, run_by, moves_on_failure, hands_out_first, tells_end_last, starts_beside}
 
 -- ---- the same world
-
-delivered_up_same : (now : ℕ) (w : World) → happens_by right w (DeliversUp now) ≡ happens w (DeliversUp now)
-delivered_up_same now w = refl
 
 happens_same : (e : WorldEvent) (w : World) → happens_by right w e ≡ happens w e
 happens_same (Connects now) w = refl
@@ -46,7 +43,7 @@ asked k = Commands k ∷ DeliversUp 0 ∷ DeliversDown ∷ []
 abbrev enabled : List WorldEvent
 enabled = Connects 0 ∷ DeliversDown ∷ [] ++ asked (Add (reporting_rospec 0 0)) ++ asked (Enable 1)
 
--- it is started, and the start is told
+-- it is started, and the start is reported
 abbrev started : List WorldEvent
 started = enabled ++ asked (Start 1) ++ DeliversDown ∷ []
 

@@ -9,8 +9,8 @@ use Rattle.llrp_session.specs.Sightings.{kept_by}
 use Rattle.llrp_session.specs.ClientMachine.{Client, Taking, take, command}
 use Rattle.llrp_session.specs.declared.words.Pending.{Pending}
 use Rattle.llrp_session.specs.declared.words.Taken.{Taken}
-use Rattle.llrp_session.specs.declared.words.Taken.TheVariants.{Connected, Refused, Reply, Tags, Event, Note, Kept, Closed as ConnectionEnded}
-use Rattle.llrp_session.specs.World.{World, WorldEvent, Connects, Commands, DeliversUp, DeliversDown, Sees, Ticks, stepped, commanded, took, opening}
+use Rattle.llrp_session.specs.declared.words.Taken.TheVariants.{Connected, Refused, Reply, Tags, Table, Differs, Event, Note, Kept, Closed as ConnectionEnded}
+use Rattle.llrp_session.specs.World.{World, WorldEvent, Connects, Commands, DeliversUp, DeliversDown, Sees, Ticks, listed_by, stepped, commanded, took, opening}
 
 -- ---- the two ends, by their machines
 
@@ -24,7 +24,7 @@ abbrev pub right : Machines
 right = record { reader = next; client = take }
 
 abbrev pub reader_does_by : Machines → ℕ → ReaderEvent → World → World
-reader_does_by x now e w = stepped (x.reader now e w.reader) (kept_by now e w.reader) w
+reader_does_by x now e w = stepped (x.reader now e w.reader) (kept_by now e w.reader) (listed_by e w.reader) w
 
 abbrev pub delivered_up_by : Machines → ℕ → List ClientMessage → World → World
 delivered_up_by x now [] w = w
@@ -63,7 +63,7 @@ moved_on_failure pending (Err refusal) = Err refusal
 abbrev pub moves_on_failure : Machines
 moves_on_failure = record { reader = next; client = λ c id h. moved_on_failure c.pending (take c id h) }
 
--- ---- the client hands out the first tag of a report alone
+-- ---- the client delivers the first tag of a report alone
 
 abbrev pub first_of_tags : List Tree → List Tree
 first_of_tags [] = []
@@ -74,6 +74,8 @@ first_tag (Tags tags) = Tags (first_of_tags tags)
 first_tag Connected = Connected
 first_tag (Refused status) = Refused status
 first_tag (Reply status) = Reply status
+first_tag (Table rospecs) = Table rospecs
+first_tag (Differs rospecs) = Differs rospecs
 first_tag (Event id state) = Event id state
 first_tag Note = Note
 first_tag Kept = Kept
@@ -86,7 +88,7 @@ with_first_tag (Err refusal) = Err refusal
 abbrev pub hands_out_first : Machines
 hands_out_first = record { reader = next; client = λ c id h. with_first_tag (take c id h) }
 
--- ---- the reader tells the end of a ROSpec after the response to the request that ends it
+-- ---- the reader reports the end of a ROSpec after the response to the request that ends it
 
 abbrev pub told_after : ReaderEvent → List ReaderMessage → List ReaderMessage
 told_after (Take version id (DisableRoSpec n)) sent = reverse sent

@@ -15,12 +15,12 @@ pub fn view_moves_on_failure()
     ensures { AfterAllBy moves_on_failure ViewIsTable → ⊥ }
 {}
 
-/// Where the client hands out the first tag of a report alone, not all reports arrive.
+/// Where the client delivers the first tag of a report alone, not all reports arrive.
 pub fn hands_out_first_tag_only()
     ensures { AfterAllBy hands_out_first ReportsArrive → ⊥ }
 {}
 
-/// Where the reader tells the end of a ROSpec after the response, the client's view is not always the reader's table.
+/// Where the reader reports the end of a ROSpec after the response, the client's view is not always the reader's table.
 pub fn end_event_after_response()
     ensures { AfterAllBy tells_end_last ViewIsTable → ⊥ }
 {}

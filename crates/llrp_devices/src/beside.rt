@@ -1,15 +1,15 @@
 //! A reader and a client beside the two ends of a connection, which take the same messages: the state of the plan's ROSpec in
 //! both, while the bytes go up one octet at a time.
 
-use crate::connections::{LIMIT, SCRIPT};
 use crate::pieces::Way;
 use crate::tally::Tally;
 use llrp_session::{Client, Command, Reader, ReaderIn, RoState};
 use llrp_stream::{Decoder, Item};
-use llrp_tool::{Gathering, Script, Serving, standard_plan};
+use llrp_tool::{Gathering, LIMIT, Script, Serving, standard_plan};
 use llrp_tree::{Message, MsgKind, ParamKind};
 use std::alloc::Global;
 use std::marker::Model;
+use test_devices::THREE_SIGHTINGS;
 
 /// The ROSpecID of the plan's ROSpec.
 const ROSPEC: u32 = 1;
@@ -33,7 +33,7 @@ impl Model for Started {
 impl Started {
     /// Starts to serve by the script; what the reader says first is appended.
     fn new(alloc: Global, down: &mut Vec<u8>) -> Option<Started> {
-        let script = Script::parse(alloc, SCRIPT).ok()?;
+        let script = Script::parse(alloc, THREE_SIGHTINGS).ok()?;
         let mut serving = Serving::new(alloc, Reader::new(alloc, LIMIT, 1), script);
         match serving.start(down) {
             Ok(()) => Some(Started { serving }),

@@ -1,26 +1,17 @@
 //! Both ends of a connection over devices that fail: an exchange of three sightings, reported after two and when they are asked
 //! for (LLRP 1.1, section 17.1).
 
-use crate::devices::{Dripping, Failure, NEVER, Taking};
-use crate::tally::Tally;
+ghost use Rattle.std.specs.Prelude.{◌≡◌, [], None, Some};
+ghost use Rattle.llrp_stream.specs.Device.{new_sink, new_source};
+
+use crate::tally::{Tally, is_front};
 use llrp_session::Reader;
 use llrp_tool::{
-    Endpoint, Script, ToolErr, bytes_of_hex, run_inventory, run_loop, run_serve, standard_plan,
+    Endpoint, LIMIT, Script, Sink, Source, ToolErr, bytes_of_hex, run_inventory, run_loop,
+    run_serve, standard_plan,
 };
 use std::alloc::Global;
-
-pub const LIMIT: u32 = 65_536;
-
-pub const SCRIPT: &[u8] = b"3 1000 seen 1 -60 urn:epc:tag:sgtin-96:3.0614141.812345.6789\n\
-    3 2000 seen 1 -61 urn:epc:tag:sscc-96:0.0614141.0000000001\n\
-    3 3000 seen 2 -62 urn:epc:tag:gid-96:1.2.3\n";
-
-pub const LINES: &[u8] = b"urn:epc:tag:sgtin-96:3.0614141.812345.6789 1 -60\n\
-    urn:epc:tag:sscc-96:0.0614141.0000000001 1 -61\n\
-    = 2\n\
-    urn:epc:tag:gid-96:1.2.3 2 -62\n\
-    = 1\n\
-    total 3 2\n";
+use test_devices::{Dripping, Failure, NEVER, THREE_LINES, THREE_SIGHTINGS, Taking};
 
 /// What the client sends: ADD_ROSPEC, ENABLE_ROSPEC, START_ROSPEC, GET_REPORT, STOP_ROSPEC, DELETE_ROSPEC and
 /// CLOSE_CONNECTION.
@@ -37,90 +28,78 @@ const DOWN: &[u8] = b"043F0000002000000001 00F60016 0080000C0000000000000000 010
     043F0000002700000005 00F6001D 0080000C0000000000000BB8 00F9000D010000000100000000
     04210000001200000005 011F000800000000 041F0000001200000006 011F000800000000 04040000001200000007 011F000800000000";
 
-/// The calls in which the devices fail, and how the sinks do.
+/// A device of the two ends.
+#[derive(Clone, Copy, PartialEq)]
+enum Device {
+    ClientSource,
+    ClientSink,
+    /// The sink of the lines that the client prints.
+    Lines,
+    ReaderSource,
+    ReaderSink,
+}
+
+/// The call in which one device fails, and how.
 #[derive(Clone, Copy)]
-struct Calls {
-    read: u64,
-    write: u64,
-    report: u64,
+struct Fails {
+    device: Device,
+    call: u64,
     failure: Failure,
 }
 
-/// No call fails.
-const NONE: Calls = Calls {
-    read: NEVER,
-    write: NEVER,
-    report: NEVER,
+/// No device fails.
+const NONE: Fails = Fails {
+    device: Device::Lines,
+    call: NEVER,
     failure: Failure::Error,
 };
 
-/// Whether what was written is a front of what a run without failure writes, up to the call that fails where there is one.
-fn is_front_to(taken: &[u8], wanted: &[u8], call: u64) -> bool {
-    let stops = call.saturating_sub(1) >= taken.len() as u64;
-    wanted.starts_with(taken) && stops
+impl Fails {
+    /// The call in which a device fails.
+    fn call_of(self, device: Device) -> u64 {
+        if self.device == device {
+            self.call
+        } else {
+            NEVER
+        }
+    }
+
+    /// A source of these octets.
+    fn source<'a>(self, octets: &'a [u8], device: Device) -> Dripping<'a>
+        ensures { ⟦<Dripping<'a> as Source>⟧.log result ≡ new_source None }
+    {
+        Dripping::new(octets, self.call_of(device))
+    }
+
+    /// A sink.
+    fn sink(self, alloc: Global, device: Device) -> Taking
+        ensures { ⟦<Taking as Sink>⟧.log result ≡ new_sink (Some []) }
+    {
+        Taking::new(alloc, self.call_of(device), self.failure)
+    }
+
+    /// Whether a sink took what it has to: the octets before the call that fails, all where no device fails, and else a front.
+    fn is_right(self, device: Device, taken: &[u8], wanted: &[u8]) -> bool {
+        if self.call == NEVER {
+            taken == wanted
+        } else if self.device == device {
+            is_front(taken, wanted, self.call.saturating_sub(1) as usize)
+        } else {
+            wanted.starts_with(taken)
+        }
+    }
 }
 
-/// How a run ended: fine, or with an error.
-type End = Result<(), ToolErr>;
-
-/// How serving ends over devices that fail in these calls, and whether what it wrote is a front.
-fn served(alloc: Global, up: &[u8], down: &[u8], calls: Calls) -> Result<(End, bool), ToolErr> {
-    let script = Script::parse(alloc, SCRIPT)?;
-    let mut source = Dripping::new(up, calls.read);
-    let mut sink = Taking::new(alloc, calls.write, calls.failure);
-    let core = Reader::new(alloc, LIMIT, 1);
-    let end = run_serve(alloc, core, script, &mut source, &mut sink);
-    Ok((end, is_front_to(sink.taken(), down, calls.write)))
+/// A run over devices that fail.
+#[derive(Clone, Copy)]
+enum Run {
+    Serve,
+    Inventory,
+    Loop,
 }
 
-/// How an inventory ends over devices that fail in these calls, and whether what it wrote are fronts.
-fn gathered(alloc: Global, up: &[u8], down: &[u8], calls: Calls) -> Result<(End, bool), ToolErr> {
-    let plan = standard_plan(alloc, 2, 1)?;
-    let mut source = Dripping::new(down, calls.read);
-    let mut sink = Taking::new(alloc, calls.write, calls.failure);
-    let mut lines = Taking::new(alloc, calls.report, calls.failure);
-    let end = run_inventory(alloc, plan, LIMIT, &mut source, &mut sink, &mut lines);
-    let fronts = is_front_to(sink.taken(), up, calls.write)
-        && is_front_to(lines.taken(), LINES, calls.report);
-    Ok((end.map(|_| ()), fronts))
-}
-
-/// How a run of both ends over what the other is to send ends, where the client's devices fail in the first calls and the
-/// reader's in the second, and whether what they wrote are fronts.
-fn looped(
-    alloc: Global,
-    up: &[u8],
-    down: &[u8],
-    client: Calls,
-    reader: Calls,
-) -> Result<(End, bool), ToolErr> {
-    let script = Script::parse(alloc, SCRIPT)?;
-    let plan = standard_plan(alloc, 2, 1)?;
-    let mut client_end = Endpoint {
-        source: Dripping::new(down, client.read),
-        sink: Taking::new(alloc, client.write, client.failure),
-    };
-    let mut reader_end = Endpoint {
-        source: Dripping::new(up, reader.read),
-        sink: Taking::new(alloc, reader.write, reader.failure),
-    };
-    let mut lines = Taking::new(alloc, client.report, client.failure);
-    let core = Reader::new(alloc, LIMIT, 1);
-    let end = run_loop(
-        alloc,
-        core,
-        script,
-        plan,
-        LIMIT,
-        &mut client_end,
-        &mut reader_end,
-        &mut lines,
-    );
-    let fronts = is_front_to(client_end.sink.taken(), up, client.write)
-        && is_front_to(reader_end.sink.taken(), down, reader.write)
-        && is_front_to(lines.taken(), LINES, client.report);
-    Ok((end.map(|_| ()), fronts))
-}
+/// How a run ends: fine, or with an error; and whether its sinks took what they have to.
+type Ended = (Result<(), ToolErr>, bool);
 
 /// The octets of each way.
 #[derive(Drop)]
@@ -137,103 +116,134 @@ impl Ways {
         })
     }
 
-    /// Serving, each read and each write failing in turn.
+    /// Serves what the client sends.
+    fn served(&self, alloc: Global, fails: Fails) -> Result<Ended, ToolErr> {
+        let script = Script::parse(alloc, THREE_SIGHTINGS)?;
+        let mut source = fails.source(self.up.as_slice(), Device::ReaderSource);
+        let mut sink = fails.sink(alloc, Device::ReaderSink);
+        let core = Reader::new(alloc, LIMIT, 1);
+        let end = run_serve(alloc, core, script, &mut source, &mut sink);
+        let is_right = fails.is_right(Device::ReaderSink, sink.taken(), self.down.as_slice());
+        Ok((end, is_right))
+    }
+
+    /// Takes inventory of what the reader sends.
+    fn gathered(&self, alloc: Global, fails: Fails) -> Result<Ended, ToolErr> {
+        let plan = standard_plan(alloc, 2, 1)?;
+        let mut source = fails.source(self.down.as_slice(), Device::ClientSource);
+        let mut sink = fails.sink(alloc, Device::ClientSink);
+        let mut lines = fails.sink(alloc, Device::Lines);
+        let end = run_inventory(alloc, plan, LIMIT, &mut source, &mut sink, &mut lines);
+        let is_right = fails.is_right(Device::ClientSink, sink.taken(), self.up.as_slice())
+            && fails.is_right(Device::Lines, lines.taken(), THREE_LINES);
+        Ok((end.map(|_| ()), is_right))
+    }
+
+    /// Runs both ends over what the other is to send.
+    fn looped(&self, alloc: Global, fails: Fails) -> Result<Ended, ToolErr> {
+        let script = Script::parse(alloc, THREE_SIGHTINGS)?;
+        let plan = standard_plan(alloc, 2, 1)?;
+        let mut client = Endpoint {
+            source: fails.source(self.down.as_slice(), Device::ClientSource),
+            sink: fails.sink(alloc, Device::ClientSink),
+        };
+        let mut reader = Endpoint {
+            source: fails.source(self.up.as_slice(), Device::ReaderSource),
+            sink: fails.sink(alloc, Device::ReaderSink),
+        };
+        let mut lines = fails.sink(alloc, Device::Lines);
+        let core = Reader::new(alloc, LIMIT, 1);
+        let end = run_loop(
+            alloc,
+            core,
+            script,
+            plan,
+            LIMIT,
+            &mut client,
+            &mut reader,
+            &mut lines,
+        );
+        let is_right = fails.is_right(Device::ClientSink, client.sink.taken(), self.up.as_slice())
+            && fails.is_right(
+                Device::ReaderSink,
+                reader.sink.taken(),
+                self.down.as_slice(),
+            )
+            && fails.is_right(Device::Lines, lines.taken(), THREE_LINES);
+        Ok((end.map(|_| ()), is_right))
+    }
+
+    /// Whether a run over devices that fail so ends so, and its sinks took what they have to.
+    fn ends(&self, alloc: Global, run: Run, fails: Fails, end: Result<(), ToolErr>) -> bool {
+        let ended = match run {
+            Run::Serve => self.served(alloc, fails),
+            Run::Inventory => self.gathered(alloc, fails),
+            Run::Loop => self.looped(alloc, fails),
+        };
+        ended == Ok((end, true))
+    }
+
+    /// How many calls a device has where none fails, without the one that meets the end of a source.
+    fn calls_of(&self, device: Device) -> u64 {
+        let octets = match device {
+            Device::ClientSource | Device::ReaderSink => self.down.len(),
+            Device::ReaderSource | Device::ClientSink => self.up.len(),
+            Device::Lines => THREE_LINES.len(),
+        };
+        octets as u64
+    }
+
+    /// A run where no device fails, and where each of these sources fails in each call.
+    fn sources_fail(&self, alloc: Global, run: Run, sources: &[Device]) -> Tally {
+        let mut tally = Tally::new();
+        tally.count(self.ends(alloc, run, NONE, Ok(())));
+        for device in sources {
+            for call in 1..=self.calls_of(*device) {
+                let fails = Fails {
+                    device: *device,
+                    call,
+                    failure: Failure::Error,
+                };
+                tally.count(self.ends(alloc, run, fails, Err(ToolErr::Read)));
+            }
+        }
+        tally
+    }
+
+    /// The same, and where each of these sinks fails in each call, in either way.
+    fn all_fail(&self, alloc: Global, run: Run, sources: &[Device], sinks: &[Device]) -> Tally {
+        let mut tally = self.sources_fail(alloc, run, sources);
+        for device in sinks {
+            for failure in [Failure::Error, Failure::NoOctet] {
+                for call in 1..=self.calls_of(*device) {
+                    let fails = Fails {
+                        device: *device,
+                        call,
+                        failure,
+                    };
+                    tally.count(self.ends(alloc, run, fails, Err(ToolErr::Write)));
+                }
+            }
+        }
+        tally
+    }
+
+    /// Serving, each call of its devices failing in turn.
     pub fn serve(&self, alloc: Global) -> Tally {
-        let mut tally = Tally::new();
-        let (up, down) = (self.up.as_slice(), self.down.as_slice());
-        tally.count(served(alloc, up, down, NONE) == Ok((Ok(()), true)));
-        for read in 1..=self.up.len() as u64 {
-            let calls = Calls { read, ..NONE };
-            tally.count(served(alloc, up, down, calls) == Ok((Err(ToolErr::Read), true)));
-        }
-        for failure in [Failure::Error, Failure::NoOctet] {
-            for write in 1..=self.down.len() as u64 {
-                let calls = Calls {
-                    write,
-                    failure,
-                    ..NONE
-                };
-                tally.count(served(alloc, up, down, calls) == Ok((Err(ToolErr::Write), true)));
-            }
-        }
-        tally
+        let sources = [Device::ReaderSource];
+        self.all_fail(alloc, Run::Serve, &sources, &[Device::ReaderSink])
     }
 
-    /// An inventory, each read, each write and each write of a line failing in turn.
+    /// An inventory, each call of its devices failing in turn.
     pub fn inventory(&self, alloc: Global) -> Tally {
-        let mut tally = Tally::new();
-        let (up, down) = (self.up.as_slice(), self.down.as_slice());
-        tally.count(gathered(alloc, up, down, NONE) == Ok((Ok(()), true)));
-        for read in 1..=self.down.len() as u64 {
-            let calls = Calls { read, ..NONE };
-            tally.count(gathered(alloc, up, down, calls) == Ok((Err(ToolErr::Read), true)));
-        }
-        for failure in [Failure::Error, Failure::NoOctet] {
-            for write in 1..=self.up.len() as u64 {
-                let calls = Calls {
-                    write,
-                    failure,
-                    ..NONE
-                };
-                tally.count(gathered(alloc, up, down, calls) == Ok((Err(ToolErr::Write), true)));
-            }
-            for report in 1..=LINES.len() as u64 {
-                let calls = Calls {
-                    report,
-                    failure,
-                    ..NONE
-                };
-                tally.count(gathered(alloc, up, down, calls) == Ok((Err(ToolErr::Write), true)));
-            }
-        }
-        tally
+        let sinks = [Device::ClientSink, Device::Lines];
+        self.all_fail(alloc, Run::Inventory, &[Device::ClientSource], &sinks)
     }
 
-    /// Both ends, each write of either end and of a line failing in turn, and each read.
+    /// Both ends, each call of their devices failing in turn.
     pub fn both(&self, alloc: Global) -> Tally {
-        let mut tally = Tally::new();
-        let (up, down) = (self.up.as_slice(), self.down.as_slice());
-        tally.count(looped(alloc, up, down, NONE, NONE) == Ok((Ok(()), true)));
-        for failure in [Failure::Error, Failure::NoOctet] {
-            for write in 1..=self.up.len() as u64 {
-                let calls = Calls {
-                    write,
-                    failure,
-                    ..NONE
-                };
-                tally.count(
-                    looped(alloc, up, down, calls, NONE) == Ok((Err(ToolErr::Write), true)),
-                );
-            }
-            for write in 1..=self.down.len() as u64 {
-                let calls = Calls {
-                    write,
-                    failure,
-                    ..NONE
-                };
-                tally.count(
-                    looped(alloc, up, down, NONE, calls) == Ok((Err(ToolErr::Write), true)),
-                );
-            }
-            for report in 1..=LINES.len() as u64 {
-                let calls = Calls {
-                    report,
-                    failure,
-                    ..NONE
-                };
-                tally.count(
-                    looped(alloc, up, down, calls, NONE) == Ok((Err(ToolErr::Write), true)),
-                );
-            }
-        }
-        for read in 1..=self.down.len() as u64 {
-            let calls = Calls { read, ..NONE };
-            tally.count(looped(alloc, up, down, calls, NONE) == Ok((Err(ToolErr::Read), true)));
-        }
-        for read in 1..=self.up.len() as u64 {
-            let calls = Calls { read, ..NONE };
-            tally.count(looped(alloc, up, down, NONE, calls) == Ok((Err(ToolErr::Read), true)));
-        }
-        tally
+        let sources = [Device::ClientSource, Device::ReaderSource];
+        let sinks = [Device::ClientSink, Device::ReaderSink, Device::Lines];
+        self.all_fail(alloc, Run::Loop, &sources, &sinks)
     }
 }

@@ -4,7 +4,6 @@
 
 mod beside;
 mod connections;
-mod devices;
 mod pieces;
 mod streams;
 mod tally;

@@ -2,11 +2,11 @@
 
 ghost use Rattle.llrp_endpoints.specs.ServingStands.{HasStarted};
 
-use crate::connections::{LIMIT, LINES, SCRIPT};
 use crate::tally::Tally;
 use llrp_session::Reader;
-use llrp_tool::{Gathering, Script, Serving, ToolErr, standard_plan};
+use llrp_tool::{Gathering, LIMIT, Script, Serving, ToolErr, standard_plan};
 use std::alloc::Global;
+use test_devices::{THREE_LINES, THREE_SIGHTINGS};
 
 /// The bytes of one way, and how many of them were handed over.
 #[derive(Drop)]
@@ -66,10 +66,10 @@ fn hand_over(
     Ok(false)
 }
 
-/// The lines that a client tells whose reader acts by the script, where each is handed pieces of so many bytes.
+/// The lines that a client prints whose reader acts by the script, where each reads pieces of this many bytes.
 fn told(alloc: Global, size: usize) -> Result<Vec<u8>, ToolErr> {
     let core = Reader::new(alloc, LIMIT, 1);
-    let mut serving = Serving::new(alloc, core, Script::parse(alloc, SCRIPT)?);
+    let mut serving = Serving::new(alloc, core, Script::parse(alloc, THREE_SIGHTINGS)?);
     let mut gathering = Gathering::new(alloc, standard_plan(alloc, 2, 1)?, LIMIT);
     let (mut up, mut down) = (Way::new(alloc), Way::new(alloc));
     let mut lines = Vec::new(alloc);
@@ -94,7 +94,7 @@ pub fn in_pieces(alloc: Global) -> Tally {
     let mut tally = Tally::new();
     for size in [1, 7, usize::MAX] {
         let told = told(alloc, size);
-        tally.count(matches!(&told, Ok(lines) if lines.as_slice() == LINES));
+        tally.count(matches!(&told, Ok(lines) if lines.as_slice() == THREE_LINES));
     }
     tally
 }

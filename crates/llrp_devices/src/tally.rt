@@ -24,7 +24,7 @@ impl Tally {
     }
 }
 
-/// Whether these are the first so many of the wanted octets.
+/// Whether the wanted octets begin with these.
 pub fn is_front(taken: &[u8], wanted: &[u8], length: usize) -> bool {
     wanted.starts_with(taken) && taken.len() == length
 }

@@ -1,18 +1,21 @@
 //! A client and a simulated reader at the two ends of one connection.
 
-use crate::devices::Failing;
 use crate::gathering::{ADD, CONNECTED};
-use crate::inventory::{OneByOne, inventory_of};
+use crate::inventory::inventory_of;
 use crate::octets::octets;
 use llrp_session::Reader;
-use llrp_tool::{Endpoint, Input, Output, Script, Summary, ToolErr, run_loop, standard_plan};
+use llrp_tool::{
+    Endpoint, Input, Output, Plan, Script, Summary, ToolErr, checked_plan, run_loop, standard_plan,
+};
 use std::alloc::Global;
 use std::test::*;
+use test_devices::{Dripping, THREE_LINES, THREE_SIGHTINGS, Taking};
 
-/// A script, the bytes that go over the connection, and what is told (LLRP 1.1, section 17.1).
+/// A script, the bytes that go over the connection, and the lines that are printed (LLRP 1.1, section 17.1).
 struct Run {
     script: &'static [u8],
     every: u16,
+    check: bool,
     down: &'static [&'static str],
     up: &'static [&'static str],
     lines: &'static [u8],
@@ -31,7 +34,7 @@ const ENABLED: &str = "04220000001200000002 011F000800000000";
 const STARTED: &str =
     "04200000001200000003 011F000800000000 043F0000002700000002 00F6001D 0080000C0000000000000000 00F9000D000000000100000000";
 
-/// The client's requests behind ADD_ROSPEC.
+/// The client's requests after ADD_ROSPEC.
 const ENABLE: &str = "04180000000E0000000200000001";
 
 const START: &str = "04160000000E0000000300000001";
@@ -44,17 +47,35 @@ const DELETE: &str = "04150000000E0000000600000001";
 
 const CLOSE: &str = "040E0000000A00000007";
 
+/// GET_ROSPECS in a plan that is checked, and what follows it.
+const LIST: &str = "041A0000000A00000006";
+
+const DELETE_CHECKED: &str = "04150000000E0000000700000001";
+
+const CLOSE_CHECKED: &str = "040E0000000A00000008";
+
+/// The response to STOP_ROSPEC, and GET_ROSPECS_RESPONSE where the plan reports after 2 tags, and where it
+/// reports on request alone.
+const LISTED_EVERY_TWO: &str =
+    "04210000001200000005 011F000800000000 04240000005300000006 011F000800000000 00B10041000000010001 00B20012 00B3000500 00B600090000000000 00B7001800010000 00B800090000000000 00BA0007000101 00ED000D020002 00EE00061400";
+
+const LISTED: &str =
+    "04210000001200000005 011F000800000000 04240000005300000006 011F000800000000 00B10041000000010001 00B20012 00B3000500 00B600090000000000 00B7001800010000 00B800090000000000 00BA0007000101 00ED000D020000 00EE00061400";
+
+/// The responses to DELETE_ROSPEC and CLOSE_CONNECTION after that.
+const DELETED_CHECKED: &str =
+    "041F0000001200000007 011F000800000000 04040000001200000008 011F000800000000";
+
 /// The responses to STOP_ROSPEC, DELETE_ROSPEC and CLOSE_CONNECTION.
 const STOPPED: &str =
     "04210000001200000005 011F000800000000 041F0000001200000006 011F000800000000 04040000001200000007 011F000800000000";
 
 /// The second report is the one that GET_REPORT asks for; the first comes by itself.
-static RUNS: [Run; 2] = [
+static RUNS: [Run; 4] = [
     Run {
-        script: b"3 1000 seen 1 -60 urn:epc:tag:sgtin-96:3.0614141.812345.6789\n\
-            3 2000 seen 1 -61 urn:epc:tag:sscc-96:0.0614141.0000000001\n\
-            3 3000 seen 2 -62 urn:epc:tag:gid-96:1.2.3\n",
+        script: THREE_SIGHTINGS,
         every: 2,
+        check: false,
         down: &[
             CONNECTED,
             ADDED,
@@ -74,12 +95,7 @@ static RUNS: [Run; 2] = [
             DELETE,
             CLOSE,
         ],
-        lines: b"urn:epc:tag:sgtin-96:3.0614141.812345.6789 1 -60\n\
-            urn:epc:tag:sscc-96:0.0614141.0000000001 1 -61\n\
-            = 2\n\
-            urn:epc:tag:gid-96:1.2.3 2 -62\n\
-            = 1\n\
-            total 3 2\n",
+        lines: THREE_LINES,
         summary: Summary {
             tags: 3,
             reports: 2,
@@ -88,6 +104,7 @@ static RUNS: [Run; 2] = [
     Run {
         script: b"",
         every: 0,
+        check: false,
         down: &[
             CONNECTED,
             ADDED,
@@ -98,6 +115,67 @@ static RUNS: [Run; 2] = [
             STOPPED,
         ],
         up: &[ADD, ENABLE, START, GET_REPORT, STOP, DELETE, CLOSE],
+        lines: b"= 0\ntotal 0 1\n",
+        summary: Summary {
+            tags: 0,
+            reports: 1,
+        },
+    },
+    Run {
+        script: THREE_SIGHTINGS,
+        every: 2,
+        check: true,
+        down: &[
+            CONNECTED,
+            ADDED,
+            ENABLED,
+            STARTED,
+            "043D0000003600000003 00F00016 8D3074257BF7194E4000001A85 810001 86C4 00F00016 8D3114257BF400000001000000 810001 86C3",
+            "043D0000002000000004 00F00016 8D350000001000002000000003 810002 86C2",
+            "043F0000002700000005 00F6001D 0080000C0000000000000BB8 00F9000D010000000100000000",
+            LISTED_EVERY_TWO,
+            DELETED_CHECKED,
+        ],
+        up: &[
+            ADD_EVERY_TWO,
+            ENABLE,
+            START,
+            GET_REPORT,
+            STOP,
+            LIST,
+            DELETE_CHECKED,
+            CLOSE_CHECKED,
+        ],
+        lines: THREE_LINES,
+        summary: Summary {
+            tags: 3,
+            reports: 2,
+        },
+    },
+    Run {
+        script: b"",
+        every: 0,
+        check: true,
+        down: &[
+            CONNECTED,
+            ADDED,
+            ENABLED,
+            STARTED,
+            "043D0000000A00000003",
+            "043F0000002700000004 00F6001D 0080000C0000000000000000 00F9000D010000000100000000",
+            LISTED,
+            DELETED_CHECKED,
+        ],
+        up: &[
+            ADD,
+            ENABLE,
+            START,
+            GET_REPORT,
+            STOP,
+            LIST,
+            DELETE_CHECKED,
+            CLOSE_CHECKED,
+        ],
         lines: b"= 0\ntotal 0 1\n",
         summary: Summary {
             tags: 0,
@@ -115,17 +193,25 @@ struct Exchange {
     lines: Vec<u8>,
 }
 
-/// A reader that acts by a script and a client that follows a plan of one poll, each of which reads the
-/// bytes that the other is to send.
+/// A plan of one poll, checked or not.
+fn plan_of(alloc: Global, every: u16, check: bool) -> Result<Plan, ToolErr> {
+    if check {
+        checked_plan(alloc, every, 1)
+    } else {
+        standard_plan(alloc, every, 1)
+    }
+}
+
+/// A reader that acts by a script and a client that follows a plan, each of which reads the bytes that the
+/// other is to send.
 fn exchange_of(
     alloc: Global,
     script: &[u8],
-    every: u16,
+    plan: Plan,
     down: &[u8],
     up: &[u8],
 ) -> Result<Exchange, ToolErr> {
     let script = Script::parse(alloc, script)?;
-    let plan = standard_plan(alloc, every, 1)?;
     let mut client_end = Endpoint {
         source: Input::new(down),
         sink: Output::new(Vec::new(alloc)),
@@ -154,7 +240,7 @@ fn exchange_of(
 }
 
 impl Exchange {
-    /// Whether it ended so, these bytes were sent each way, and these lines were told.
+    /// Whether it ended so, these bytes were sent each way, and these lines were printed.
     fn is(&self, end: Result<Summary, ToolErr>, down: &[u8], up: &[u8], lines: &[u8]) -> bool {
         self.end == end
             && self.down.as_slice() == down
@@ -163,9 +249,10 @@ impl Exchange {
     }
 }
 
-/// Whether a run over these bytes sends them both ways and tells what it is to.
+/// Whether a run over these bytes sends them both ways and prints what it should.
 fn is_whole(alloc: Global, run: &Run, down: &[u8], up: &[u8]) -> Result<bool, ToolErr> {
-    let exchange = exchange_of(alloc, run.script, run.every, down, up)?;
+    let plan = plan_of(alloc, run.every, run.check)?;
+    let exchange = exchange_of(alloc, run.script, plan, down, up)?;
     Ok(exchange.is(Ok(run.summary), down, up, run.lines))
 }
 
@@ -183,9 +270,10 @@ fn whole_runs(rt: HostRuntime) {
     }
 }
 
-/// Whether the client of a run sends and tells the same where its reader's bytes are at hand.
+/// Whether the client of a run sends and prints the same where its reader's bytes are at hand.
 fn is_whole_alone(alloc: Global, run: &Run) -> Result<bool, ToolErr> {
-    let inventory = inventory_of(alloc, run.every, 1, 65_536, run.down)?;
+    let plan = plan_of(alloc, run.every, run.check)?;
+    let inventory = inventory_of(alloc, plan, 65_536, run.down)?;
     inventory.is(alloc, Ok(run.summary), run.up, run.lines)
 }
 
@@ -243,13 +331,13 @@ static ROWS: [Row; 6] = [
     },
 ];
 
-/// Whether a run of an empty script over these bytes ends with this error, and nothing is told.
+/// Whether a run of an empty script over these bytes ends with this error, and nothing is printed.
 fn stops_with(alloc: Global, end: ToolErr, down: &[u8], up: &[u8]) -> Result<bool, ToolErr> {
-    let exchange = exchange_of(alloc, b"", 0, down, up)?;
+    let exchange = exchange_of(alloc, b"", plan_of(alloc, 0, false)?, down, up)?;
     Ok(exchange.end == Err(end) && exchange.lines.is_empty())
 }
 
-/// Whether a row's run ends as the row says, and nothing is told.
+/// Whether a row's run ends as the row says, and nothing is printed.
 fn is_as_said(alloc: Global, row: &Row) -> Result<bool, ToolErr> {
     let down = octets(alloc, row.down)?;
     let up = octets(alloc, row.up)?;
@@ -293,16 +381,16 @@ fn leaves_fronts(
     end: Result<Summary, ToolErr>,
 ) -> Result<bool, ToolErr> {
     let script = Script::parse(alloc, run.script)?;
-    let plan = standard_plan(alloc, run.every, 1)?;
+    let plan = plan_of(alloc, run.every, run.check)?;
     let mut client_end = Endpoint {
-        source: OneByOne::new(down, failures.down_reads),
-        sink: Failing::after(alloc, failures.up_writes),
+        source: Dripping::after(down, failures.down_reads),
+        sink: Taking::after(alloc, failures.up_writes),
     };
     let mut reader_end = Endpoint {
-        source: OneByOne::new(up, failures.up_reads),
-        sink: Failing::after(alloc, failures.down_writes),
+        source: Dripping::after(up, failures.up_reads),
+        sink: Taking::after(alloc, failures.down_writes),
     };
-    let mut lines = Failing::after(alloc, failures.reports);
+    let mut lines = Taking::after(alloc, failures.reports);
     let found = run_loop(
         alloc,
         Reader::new(alloc, 65_536, 1),

@@ -80,6 +80,41 @@ const CONFIGURED: &str = "080D0000001200000001 011F000800000000";
 /// ERROR_MESSAGE with status 109.
 const UNSUPPORTED: &str = "04640000001200000001 011F0008006D0000";
 
+/// GET_ROSPECS under id 1.
+const LIST: &str = "041A0000000A00000001";
+
+/// The same under id 2.
+const LIST_NEXT: &str = "041A0000000A00000002";
+
+/// GET_ROSPECS_RESPONSE under id 2 of ROSpec 1, Disabled.
+const LISTED: &str =
+    "04240000005300000002 011F000800000000 00B10041000000010000 00B20012 00B3000500 00B600090000000000 00B7001800010000 00B800090000000000 00BA0007000101 00ED000D020000 00EE00061400";
+
+/// The same with the ROSpec before the status.
+const LISTED_FIRST: &str =
+    "04240000005300000002 00B10041000000010000 00B20012 00B3000500 00B600090000000000 00B7001800010000 00B800090000000000 00BA0007000101 00ED000D020000 00EE00061400 011F000800000000";
+
+/// The same, Inactive.
+const LISTED_INACTIVE: &str =
+    "04240000005300000002 011F000800000000 00B10041000000010001 00B20012 00B3000500 00B600090000000000 00B7001800010000 00B800090000000000 00BA0007000101 00ED000D020000 00EE00061400";
+
+/// The same of ROSpec 2 in its place.
+const LISTED_OTHER: &str =
+    "04240000005300000002 011F000800000000 00B10041000000020000 00B20012 00B3000500 00B600090000000000 00B7001800010000 00B800090000000000 00BA0007000101 00ED000D020000 00EE00061400";
+
+/// The same of ROSpec 1 twice.
+const LISTED_TWICE: &str =
+    "04240000009400000002 011F000800000000 00B10041000000010000 00B20012 00B3000500 00B600090000000000 00B7001800010000 00B800090000000000 00BA0007000101 00ED000D020000 00EE00061400 00B10041000000010000 00B20012 00B3000500 00B600090000000000 00B7001800010000 00B800090000000000 00BA0007000101 00ED000D020000 00EE00061400";
+
+/// The same of no ROSpec.
+const LISTED_NONE: &str = "04240000001200000002 011F000800000000";
+
+/// The same of no ROSpec under id 1.
+const LISTED_AT_FIRST: &str = "04240000001200000001 011F000800000000";
+
+/// The same under id 1 with status 101.
+const NOT_LISTED: &str = "04240000001200000001 011F000800650000";
+
 /// CLOSE_CONNECTION under id 7.
 const CLOSE: &str = "040E0000000A00000007";
 
@@ -98,18 +133,21 @@ enum Request {
     Stop(u32),
     Enable(u32),
     Disable(u32),
+    GetRospecs,
     SetKeepalive(u32),
     GetReport,
     Close,
 }
 
-/// What a message is taken for; of reports, how many.
+/// What a message is taken for; of reports and of ROSpecs, how many.
 #[derive(Clone, Copy, PartialEq)]
 enum Told {
     Connected,
     Refused(u16),
     Reply(u16),
     Tags(usize),
+    Table(usize),
+    Differs(usize),
     Event(u32, RoState),
     Note,
     Kept,
@@ -141,7 +179,120 @@ struct Exchange {
 /// The reader accepts the connection.
 const CONNECTS: Step = Step::Takes(ACCEPTED, Told::Connected, "");
 
-static EXCHANGES: [Exchange; 16] = [
+static EXCHANGES: [Exchange; 25] = [
+    Exchange {
+        name: "no ROSpec was added, and none is listed",
+        first_id: 1,
+        steps: &[
+            Step::Refuses(Request::GetRospecs, CmdFault::NotReady),
+            CONNECTS,
+            Step::Sends(Request::GetRospecs, LIST),
+            Step::Faults(LISTED_NONE, TakeFault::Unexpected),
+            Step::Takes(LISTED_AT_FIRST, Told::Table(0), ""),
+        ],
+    },
+    Exchange {
+        name: "ROSpecs are not listed",
+        first_id: 1,
+        steps: &[
+            CONNECTS,
+            Step::Sends(Request::GetRospecs, LIST),
+            Step::Takes(NOT_LISTED, Told::Reply(101), ""),
+        ],
+    },
+    Exchange {
+        name: "GET_ROSPECS is not supported",
+        first_id: 1,
+        steps: &[
+            CONNECTS,
+            Step::Sends(Request::GetRospecs, LIST),
+            Step::Takes(UNSUPPORTED, Told::Reply(109), ""),
+        ],
+    },
+    Exchange {
+        name: "the ROSpec that was added is listed",
+        first_id: 1,
+        steps: &[
+            CONNECTS,
+            Step::Sends(Request::Add(ADD), ADD),
+            Step::Takes(ADDED, Told::Reply(0), ""),
+            Step::Sends(Request::GetRospecs, LIST_NEXT),
+            Step::Refuses(Request::Close, CmdFault::Busy),
+            Step::Takes(LISTED, Told::Table(1), ""),
+            Step::Views(Some(RoState::Disabled)),
+            Step::Faults(LISTED, TakeFault::Unexpected),
+        ],
+    },
+    Exchange {
+        name: "the status comes last",
+        first_id: 1,
+        steps: &[
+            CONNECTS,
+            Step::Sends(Request::Add(ADD), ADD),
+            Step::Takes(ADDED, Told::Reply(0), ""),
+            Step::Sends(Request::GetRospecs, LIST_NEXT),
+            Step::Refuses(Request::Close, CmdFault::Busy),
+            Step::Takes(LISTED_FIRST, Told::Table(1), ""),
+            Step::Views(Some(RoState::Disabled)),
+            Step::Faults(LISTED_FIRST, TakeFault::Unexpected),
+        ],
+    },
+    Exchange {
+        name: "a ROSpec is listed in another state",
+        first_id: 1,
+        steps: &[
+            CONNECTS,
+            Step::Sends(Request::Add(ADD), ADD),
+            Step::Takes(ADDED, Told::Reply(0), ""),
+            Step::Sends(Request::GetRospecs, LIST_NEXT),
+            Step::Refuses(Request::Close, CmdFault::Busy),
+            Step::Takes(LISTED_INACTIVE, Told::Differs(1), ""),
+            Step::Views(Some(RoState::Disabled)),
+            Step::Faults(LISTED_INACTIVE, TakeFault::Unexpected),
+        ],
+    },
+    Exchange {
+        name: "another ROSpec is listed",
+        first_id: 1,
+        steps: &[
+            CONNECTS,
+            Step::Sends(Request::Add(ADD), ADD),
+            Step::Takes(ADDED, Told::Reply(0), ""),
+            Step::Sends(Request::GetRospecs, LIST_NEXT),
+            Step::Refuses(Request::Close, CmdFault::Busy),
+            Step::Takes(LISTED_OTHER, Told::Differs(1), ""),
+            Step::Views(Some(RoState::Disabled)),
+            Step::Faults(LISTED_OTHER, TakeFault::Unexpected),
+        ],
+    },
+    Exchange {
+        name: "a ROSpec is listed twice",
+        first_id: 1,
+        steps: &[
+            CONNECTS,
+            Step::Sends(Request::Add(ADD), ADD),
+            Step::Takes(ADDED, Told::Reply(0), ""),
+            Step::Sends(Request::GetRospecs, LIST_NEXT),
+            Step::Refuses(Request::Close, CmdFault::Busy),
+            Step::Takes(LISTED_TWICE, Told::Differs(2), ""),
+            Step::Views(Some(RoState::Disabled)),
+            Step::Faults(LISTED_TWICE, TakeFault::Unexpected),
+        ],
+    },
+    Exchange {
+        name: "a ROSpec is missing",
+        first_id: 1,
+        steps: &[
+            CONNECTS,
+            Step::Sends(Request::Add(ADD), ADD),
+            Step::Takes(ADDED, Told::Reply(0), ""),
+            Step::Sends(Request::GetRospecs, LIST_NEXT),
+            Step::Refuses(Request::Close, CmdFault::Busy),
+            Step::Takes(LISTED_NONE, Told::Differs(0), ""),
+            Step::Views(Some(RoState::Disabled)),
+            Step::Faults(LISTED_NONE, TakeFault::Unexpected),
+        ],
+    },
     Exchange {
         name: "a ROSpec is deleted",
         first_id: 1,
@@ -333,6 +484,7 @@ fn asks(
         Request::Stop(id) => refusal(client, Command::Stop { id }, out),
         Request::Enable(id) => refusal(client, Command::Enable { id }, out),
         Request::Disable(id) => refusal(client, Command::Disable { id }, out),
+        Request::GetRospecs => refusal(client, Command::GetRospecs, out),
         Request::SetKeepalive(ms) => refusal(client, Command::SetKeepalive { ms }, out),
         Request::GetReport => refusal(client, Command::GetReport, out),
         Request::Close => refusal(client, Command::Close, out),
@@ -362,13 +514,15 @@ fn refuses(
     Ok(asks(alloc, client, request, &mut out)? == Some(fault))
 }
 
-/// What a message is told to be.
+/// What a message is taken for.
 fn tell(taken: Taken) -> Told {
     match taken {
         Taken::Connected => Told::Connected,
         Taken::Refused(status) => Told::Refused(status),
         Taken::Reply(status) => Told::Reply(status),
         Taken::Tags(tags) => Told::Tags(tags.as_slice().len()),
+        Taken::Table(rospecs) => Told::Table(rospecs.as_slice().len()),
+        Taken::Differs(rospecs) => Told::Differs(rospecs.as_slice().len()),
         Taken::Event(id, state) => Told::Event(id, state),
         Taken::Note => Told::Note,
         Taken::Kept => Told::Kept,

@@ -1,6 +1,8 @@
 //! Commands from their words to their exit statuses.
 
-use llrp_tool::{Input, NetworkCommand, Output, ToolErr, network_command, run_command};
+use llrp_tool::{
+    Input, NetworkCommand, Output, ToolErr, network_command, reads_input, run_command,
+};
 use std::alloc::Global;
 use std::test::*;
 
@@ -18,7 +20,8 @@ Commands:
   help       Print this message or the help of the given subcommand(s)
 
 Options:
-  -h, --help  Print help
+  -h, --help     Print help
+  -V, --version  Print version
 ";
 
 const SHOW_HELP: &[u8] = b"List the messages of a stream of bytes
@@ -26,8 +29,9 @@ const SHOW_HELP: &[u8] = b"List the messages of a stream of bytes
 Usage: llrp show [OPTIONS]
 
 Options:
-      --hex   Read hexadecimal digits in place of bytes
-  -h, --help  Print help
+      --hex        Read hexadecimal digits in place of bytes
+      --limit <N>  The most octets that a message may have [default: 65536]
+  -h, --help       Print help
 
 Reads a stream of LLRP messages on standard input, and prints its listing on standard output:
   0 NAME VERSION ID FIELDS   a message
@@ -35,7 +39,8 @@ Reads a stream of LLRP messages on standard input, and prints its listing on sta
   ! ID BIT REASON            a frame that is no message: its id, its first fault and the fault's bit
   ? N                        N bytes at the end that are no whole frame
   ! BROKEN                   a length below 10, at which the stream breaks off
-The status is 0 where all frames are messages, and 1 where some are not.
+docs/errors.md explains each REASON. A frame of more octets than --limit is a fault; N is 10 to
+1,048,576. The status is 0 where all frames are messages, and 1 where some are not.
 
 Example:
   $ echo 083E0000000A00000007 | llrp show --hex
@@ -47,12 +52,14 @@ const ENCODE_HELP: &[u8] = b"Write the bytes of a listing of messages
 Usage: llrp encode [OPTIONS]
 
 Options:
-      --hex   Write hexadecimal digits in place of bytes
-  -h, --help  Print help
+      --hex        Write hexadecimal digits in place of bytes
+      --limit <N>  The most octets that a message may have [default: 65536]
+  -h, --help       Print help
 
 Reads a listing on standard input, a line 0 NAME VERSION ID for each message, and writes the bytes of
 the messages on standard output. A line that is refused ends the command with status 1, and is named
-on standard error with the reason.
+on standard error with the reason, which docs/errors.md explains; so is a message of more octets than
+--limit. N is 10 to 1,048,576.
 
 Example:
   $ echo 0 KEEPALIVE 2 7 | llrp encode --hex
@@ -73,7 +80,7 @@ Prints the text of a tag's 96-bit word, or the word of a text:
   24 hexadecimal digits   the word's tag URI; or its raw URI, and # REASON BIT, which is why it has no
                           tag URI, and the first bit of the part that fails
   any other text          the 24 digits of its word; or ! REASON, which is why it is the text of none
-The status is 1 for a text of no word, and 0 for every other.
+docs/errors.md explains each REASON. The status is 1 for a text of no word, and 0 for every other.
 
 Examples:
   $ llrp epc 3074257BF7194E4000001A85
@@ -111,16 +118,23 @@ Arguments:
   <PORT>  The reader's port; LLRP's own is 5084
 
 Options:
-      --every <N>  How many tags make a report; 0 leaves it to the polls [default: 0]
-      --polls <P>  How often reports are asked for [default: 1]
-  -h, --help       Print help
+      --every <N>          How many tags make a report; 0 leaves it to the polls [default: 0]
+      --polls <P>          How often reports are asked for [default: 1]
+      --check              Compare the reader's table with what the client sees
+      --timeout <SECONDS>  How long the reader may be silent; without it, for ever
+  -h, --help               Print help
 
 Connects to an LLRP reader and asks it for its tags: it adds a ROSpec, enables and starts it, polls for
-reports, and stops and deletes it again. What it prints on standard output:
+reports, and stops and deletes it again. With --timeout, a connection or a read that gets nothing for
+that many seconds ends the command. What it prints on standard output:
   TEXT ANTENNA RSSI        a tag: its tag URI, raw URI or bits N xHEX, its antenna, and its strength in
-                           dBm; - stands for one that the reader did not tell
+                           dBm; - stands for one that the reader did not report
   = K                      the end of a report of K tags
   total TAGS REPORTS       the end of all reports
+
+With --check it asks the reader for its ROSpecs before it deletes its own. They have to be exactly those
+that it sees, each in the state that it sees; else it ends with the line llrp: strange and status 1.
+Reader firmware that loses a ROSpec, keeps an old one or reports a wrong state is found so.
 
 Example:
   $ llrp inventory 127.0.0.1 5084 --polls 2
@@ -133,10 +147,11 @@ Usage: llrp loop [OPTIONS]
 Options:
       --every <N>  How many tags make a report; 0 leaves it to the polls [default: 0]
       --polls <P>  How often reports are asked for [default: 1]
+      --check      Compare the reader's table with what the client sees
   -h, --help       Print help
 
 Reads a script on standard input, as sim does, and prints what inventory prints of the reader that acts
-by it. Both ends are in this program, and talk over one TCP connection.
+by it. Both ends are in this program, and talk over one TCP connection. --check is as for inventory.
 
 Example:
   $ printf '3 0 seen 1 -60 urn:epc:tag:gid-96:1.2.3\\n' | llrp loop
@@ -222,7 +237,7 @@ impl Outcome {
     }
 }
 
-/// Whether words are told to be wrong.
+/// Whether words are refused.
 fn is_usage_fault(alloc: Global, words: &[&str]) -> bool {
     let found = run(alloc, words, b"");
     found.status == Ok(2)
@@ -239,7 +254,7 @@ type CommandRow = (
     &'static [u8],
 );
 
-static COMMAND_ROWS: [CommandRow; 11] = [
+static COMMAND_ROWS: [CommandRow; 15] = [
     (
         &["show", "--hex"],
         b"083E0000000A00000007",
@@ -248,6 +263,34 @@ static COMMAND_ROWS: [CommandRow; 11] = [
         b"",
     ),
     (&["show"], b"\x08\x3e\0\0\0\x09", 1, b"! BROKEN\n", b""),
+    (
+        &["show", "--hex", "--limit", "27"],
+        b"043D0000001B0000000100F000118D3074257BF7194E4000001A85",
+        0,
+        b"0 RO_ACCESS_REPORT 1 1\n1 TagReportData\n2 EPC-96 urn:epc:tag:sgtin-96:3.0614141.812345.6789\n",
+        b"",
+    ),
+    (
+        &["show", "--limit", "26", "--hex"],
+        b"043D0000001B0000000100F000118D3074257BF7194E4000001A85",
+        1,
+        b"! 1 16 MessageLength\n",
+        b"",
+    ),
+    (
+        &["encode", "--limit", "18", "--hex"],
+        b"0 ERROR_MESSAGE 1 9\n1 LLRPStatus 0 x\n",
+        0,
+        b"04640000001200000009011F000800000000\n",
+        b"",
+    ),
+    (
+        &["encode", "--limit", "17"],
+        b"0 ERROR_MESSAGE 1 9\n1 LLRPStatus 0 x\n",
+        1,
+        b"",
+        b"llrp: line 1: OverLimit\n",
+    ),
     (&["show", "--hex"], b"083", 1, b"", b"llrp: hex\n"),
     (
         &["encode"],
@@ -309,7 +352,9 @@ fn commands_with_ample_memory(rt: HostRuntime) {
 }
 
 /// Words that ask for help, and what is printed.
-static HELP_ROWS: [(&[&str], &[u8]); 8] = [
+static HELP_ROWS: [(&[&str], &[u8]); 10] = [
+    (&["--version"], b"llrp 0.1.0\n"),
+    (&["-V"], b"llrp 0.1.0\n"),
     (&["--help"], HELP),
     (&["help"], HELP),
     (&["show", "--help"], SHOW_HELP),
@@ -327,7 +372,7 @@ fn help_goes_to_the_output(rt: HostRuntime) {
     }
 }
 
-/// Words that are no command, and what is said of them.
+/// Words that are not a command, and what is said of them.
 static FAULT_ROWS: [(&[&str], &[u8]); 6] = [
     (&[], NO_COMMAND),
     (&["survey"], NO_SUCH_COMMAND),
@@ -345,7 +390,7 @@ fn usage_faults_go_to_the_errors(rt: HostRuntime) {
 }
 
 /// Words of the commands that the program runs itself, and those commands.
-static NETWORK_ROWS: [(&[&str], NetworkCommand); 5] = [
+static NETWORK_ROWS: [(&[&str], NetworkCommand); 6] = [
     (&["sim", "65535"], NetworkCommand::Sim { port: 65535 }),
     (
         &["inventory", "localhost", "5084"],
@@ -354,21 +399,54 @@ static NETWORK_ROWS: [(&[&str], NetworkCommand); 5] = [
             port: 5084,
             every: 0,
             polls: 1,
+            check: false,
+            timeout: None,
         },
     ),
     (
-        &["inventory", "--polls", "3", "::1", "1", "--every=65535"],
+        &[
+            "inventory",
+            "--polls",
+            "3",
+            "--check",
+            "--timeout",
+            "65535",
+            "::1",
+            "1",
+            "--every=65535",
+        ],
         NetworkCommand::Inventory {
             host: "::1",
             port: 1,
             every: 65535,
             polls: 3,
+            check: true,
+            timeout: Some(65535),
         },
     ),
-    (&["loop"], NetworkCommand::Loop { every: 0, polls: 1 }),
+    (
+        &["loop"],
+        NetworkCommand::Loop {
+            every: 0,
+            polls: 1,
+            check: false,
+        },
+    ),
     (
         &["loop", "--every", "2", "--polls", "0"],
-        NetworkCommand::Loop { every: 2, polls: 0 },
+        NetworkCommand::Loop {
+            every: 2,
+            polls: 0,
+            check: false,
+        },
+    ),
+    (
+        &["loop", "--check", "--every", "2"],
+        NetworkCommand::Loop {
+            every: 2,
+            polls: 1,
+            check: true,
+        },
     ),
 ];
 
@@ -387,6 +465,9 @@ fn other_words_are_no_commands_of_the_program(rt: HostRuntime) {
         ["sim", "--help"].as_slice(),
         ["sim", "65536"].as_slice(),
         ["inventory", "localhost", "0"].as_slice(),
+        ["inventory", "localhost", "5084", "--timeout", "0"].as_slice(),
+        ["inventory", "localhost", "5084", "--timeout", "65536"].as_slice(),
+        ["loop", "--timeout", "1"].as_slice(),
         ["loop", "--every", "65536"].as_slice(),
         ["loop", "--polls", "-1"].as_slice(),
         ["loop", "script"].as_slice(),
@@ -396,12 +477,34 @@ fn other_words_are_no_commands_of_the_program(rt: HostRuntime) {
     }
 }
 
+/// Words, and whether they ask for a command that reads standard input to its end.
+static INPUT_ROWS: [(&[&str], bool); 8] = [
+    (&["show"], true),
+    (&["show", "--hex"], true),
+    (&["encode"], true),
+    (&["show", "--help"], false),
+    (&["show", "--bytes"], false),
+    (&["epc", "show"], false),
+    (&["loop"], false),
+    (&[], false),
+];
+
+#[test]
+fn commands_that_read_input(rt: HostRuntime) {
+    for (words, reads) in &INPUT_ROWS {
+        assert!(rt; reads_input(rt.alloc(), words) == Ok(*reads));
+    }
+}
+
 #[test]
 fn words_that_do_not_fit_are_usage_faults(rt: HostRuntime) {
     let rows = [
         ["inventory", "localhost", "5084", "5085"].as_slice(),
         ["loop", "--polls", "65536"].as_slice(),
         ["encode", "listing"].as_slice(),
+        ["show", "--limit", "9"].as_slice(),
+        ["show", "--limit", "1048577"].as_slice(),
+        ["encode", "--limit", "-10"].as_slice(),
     ];
     for words in rows {
         assert!(rt; is_usage_fault(rt.alloc(), words));

@@ -14,7 +14,7 @@ const REPORT: [u8; 27] = [
 
 const KEEPALIVE: [u8; 10] = [0x08, 0x3E, 0, 0, 0, 0x0A, 0, 0, 0, 7];
 
-/// The item that a feed gave, if it took so many bytes.
+/// The item that a feed gave, if it took this many bytes.
 fn item_of(
     rt: &impl Abort,
     decoder: &mut Decoder,
@@ -181,6 +181,44 @@ fn largest_report_is_accepted(rt: HostRuntime) -> Result<(), Fail> {
     assert!(rt; decoder.held() <= 40_000);
     let item = item_of(&rt, &mut decoder, rest, 25_536)?;
     assert_eq!(rt; spelled(alloc, item)?.as_slice(), frame.as_slice());
+    Ok(())
+}
+
+/// The most that is kept of that report before its last octet: two for each message and parameter, and 16 raw
+/// octets.
+const MOST_HELD: u32 = 2 + 3_850 * 4 + 4 * 6 + 16;
+
+#[test]
+fn nodes_of_the_largest_report_are_held(rt: HostRuntime) -> Result<(), Fail> {
+    let alloc = rt.alloc();
+    let frame = largest_report(alloc)?;
+    assert_eq!(rt; frame.len(), 65_536);
+    let mut decoder = Decoder::new(alloc, 65_536);
+    let (front, rest) = frame.as_slice().split_at(65_535);
+    assert!(rt; item_of(&rt, &mut decoder, front, 65_535)?.is_none());
+    assert!(rt; decoder.held() <= MOST_HELD);
+    let item = item_of(&rt, &mut decoder, rest, 1)?;
+    assert_eq!(rt; spelled(alloc, item)?.as_slice(), frame.as_slice());
+    assert_eq!(rt; decoder.held(), 0);
+    Ok(())
+}
+
+/// The front of a report of 65,536 octets, up to the head of a parameter of no known type.
+const UNKNOWN_PARAMETER: [u8; 14] = [
+    0x04, 0x3D, 0x00, 0x01, 0x00, 0x00, 0x00, 0x00, 0x00, 0x01, 0x00, 0xBB, 0x00, 0x04,
+];
+
+#[test]
+fn nothing_is_held_of_a_faulty_frame(rt: HostRuntime) -> Result<(), Fail> {
+    let mut decoder = Decoder::new(rt.alloc(), 65_536);
+    assert!(rt; item_of(&rt, &mut decoder, &UNKNOWN_PARAMETER, 14)?.is_none());
+    assert_eq!(rt; decoder.held(), 0);
+    for _ in 0..65_521 {
+        assert!(rt; item_of(&rt, &mut decoder, &[0], 1)?.is_none());
+        assert_eq!(rt; decoder.held(), 0);
+    }
+    let faulty = item_of(&rt, &mut decoder, &[0], 1)?;
+    assert_eq!(rt; fault_of(faulty), Some((1, 86, Reason::ParamType)));
     Ok(())
 }
 

@@ -1,15 +1,13 @@
 //! Listings that are encoded or refused, and devices that fail.
 
-ghost use Rattle.std.specs.Prelude.{Some};
-
 use crate::octets::octets;
-use llrp_tool::{Input, Output, Refusal, Sink, ToolErr, run_encode};
+use llrp_tool::{Input, Output, Refusal, ToolErr, run_encode};
 use llrp_tree::NodeFault;
 use std::alloc::Global;
-use std::io;
 use std::process::Abort;
 use std::test::*;
 use tag_uri::UriFault;
+use test_devices::Taking;
 
 /// The answer to a listing, and the bytes written.
 fn encoded(alloc: Global, listing: &[u8]) -> (Result<(), ToolErr>, Vec<u8>) {
@@ -91,18 +89,27 @@ fn listings_of_parameters(rt: HostRuntime) -> Result<(), Fail> {
     Ok(())
 }
 
+/// The levels below an LLRPStatus, and one more.
+static LEVELS: [&[u8]; 16] = [
+    b"2", b"3", b"4", b"5", b"6", b"7", b"8", b"9", b"10", b"11", b"12", b"13", b"14", b"15",
+    b"16", b"17",
+];
+
 /// A listing of LLRPStatus over nested parameters at these levels.
-fn nested(alloc: Global, levels: &[u8]) -> Result<Vec<u8>, ToolErr> {
+fn nested(alloc: Global, levels: &[&[u8]]) -> Result<Vec<u8>, ToolErr> {
     let mut listing = Vec::from_slice(alloc, b"0 ERROR_MESSAGE 1 9\n1 LLRPStatus 0 x\n")?;
     for level in levels {
-        listing.push(*level)?;
+        listing.extend_from_slice(level)?;
         listing.extend_from_slice(b" ParameterError 0 0\n")?;
     }
     Ok(listing)
 }
 
 /// The answer to such a listing, and how many bytes are written.
-fn encoded_levels(alloc: Global, levels: &[u8]) -> Result<(Result<(), ToolErr>, usize), ToolErr> {
+fn encoded_levels(
+    alloc: Global,
+    levels: &[&[u8]],
+) -> Result<(Result<(), ToolErr>, usize), ToolErr> {
     let listing = nested(alloc, levels)?;
     let (answer, bytes) = encoded(alloc, listing.as_slice());
     Ok((answer, bytes.len()))
@@ -110,14 +117,14 @@ fn encoded_levels(alloc: Global, levels: &[u8]) -> Result<(Result<(), ToolErr>, 
 
 #[test]
 fn levels_of_parameters(rt: HostRuntime) -> Result<(), Fail> {
-    assert!(rt; encoded_levels(rt.alloc(), b"2345678") == Ok((Ok(()), 74)));
-    let (answer, _) = encoded_levels(rt.alloc(), b"23456789")?;
-    let (line, reason) = (10, Refusal::Level);
+    assert!(rt; encoded_levels(rt.alloc(), &LEVELS[..15]) == Ok((Ok(()), 138)));
+    let (answer, _) = encoded_levels(rt.alloc(), &LEVELS)?;
+    let (line, reason) = (18, Refusal::Level);
     assert!(rt; answer == Err(ToolErr::Listing { line, reason }));
     Ok(())
 }
 
-/// Lines behind those of a TagReportData, the line that is refused, and why.
+/// Lines after those of a TagReportData, the line that is refused, and why.
 static LINES_OF_TAGS: [(&[u8], u64, Refusal); 19] = [
     (
         b"2 EPC-96 urn:epc:raw:96.x3074257BF7194E4000001A85\n",
@@ -224,7 +231,7 @@ fn refusals_of_lists_and_closings(rt: HostRuntime) {
     }
 }
 
-/// A message longer than the limit is told by its own line, and messages before it are written.
+/// A message longer than the limit is refused at its own line, and messages before it are written.
 #[test]
 fn message_over_limit(rt: HostRuntime) {
     let listing = b"0 KEEPALIVE 2 7\n0 ERROR_MESSAGE 2 9\n1 LLRPStatus 100 x\n";
@@ -298,39 +305,14 @@ fn longest_line(rt: HostRuntime) -> Result<(), Fail> {
     Ok(())
 }
 
-/// Takes one byte a call, and fails in the call after so many.
-#[derive(Drop)]
-struct Failing {
-    bytes: Vec<u8>,
-    left: u32,
-    failures: u64,
-}
-
-impl Sink for Failing {
-    ghost log = { λ s. record { failures = s.failures; taken = Some s.bytes.items } };
-
-    fn write(&mut self, buf: &[u8]) -> io::Result<usize> {
-        if self.left == 0 || self.bytes.push(buf[0]).is_err() {
-            self.failures += 1;
-            return Err(io::Error::from(io::ErrorKind::BrokenPipe));
-        }
-        self.left -= 1;
-        Ok(1)
-    }
-}
-
 #[test]
 fn writer_that_fails(rt: HostRuntime) {
-    for left in 0..10u32 {
+    for left in 0..10usize {
         let mut source = Input::new(b"0 KEEPALIVE 2 7\n".as_slice());
-        let mut sink = Failing {
-            bytes: Vec::new(rt.alloc()),
-            left,
-            failures: 0,
-        };
+        let mut sink = Taking::after(rt.alloc(), left);
         let answer = run_encode(rt.alloc(), &mut source, &mut sink, 65536);
         assert_eq!(rt; answer, Err(ToolErr::Write));
-        assert!(rt; b"\x08\x3e\0\0\0\x0a\0\0\0\x07".starts_with(sink.bytes.as_slice()));
-        assert!(rt; sink.bytes.len() == left as usize);
+        assert!(rt; b"\x08\x3e\0\0\0\x0a\0\0\0\x07".starts_with(sink.taken()));
+        assert!(rt; sink.taken().len() == left);
     }
 }

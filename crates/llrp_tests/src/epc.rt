@@ -87,7 +87,7 @@ static RAW: [(&str, &str, &str); 7] = [
     ),
 ];
 
-/// Texts that are no word's, and why.
+/// Texts that are not a word's, and why.
 static REFUSED: [(&str, &str); 14] = [
     ("", "! Start"),
     ("urn:epc:tag:SGTIN-96:3.0614141.812345.1", "! Scheme"),

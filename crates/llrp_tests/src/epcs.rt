@@ -78,7 +78,7 @@ fn words_with_a_company_prefix(rt: HostRuntime) {
     }
 }
 
-/// Numbers whose words are no EPC's: the bit at which they fail, and why.
+/// Numbers whose words have no EPC: the bit at which they fail, and why.
 static FAULTY: [(u128, u32, WordReason); 8] = [
     (0x3114_257B_F400_0000_0100_0001, 72, WordReason::Zeros),
     (0x3200_0000_0000_0600_0000_0000, 54, WordReason::Reference),

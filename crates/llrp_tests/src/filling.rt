@@ -1,13 +1,13 @@
 //! Messages that are spelled in parts, and written to sinks that take little or fail.
 
-use crate::devices::Failing;
 use crate::octets::{decoded, octets};
 use llrp_stream::{Output, WriteErr, write_message};
 use llrp_tree::{Message, Spelling};
 use std::alloc::Global;
+use test_devices::Taking;
 
 /// Frames whose messages are spelled in parts: KEEPALIVE, a report of one SGTIN-96, ADD_ROSPEC, and a report
-/// whose parameters stand in an order of their own.
+/// whose parameters have an order of their own.
 static FRAMES: [&str; 4] = [
     "083E0000000A00000007",
     ONE_SGTIN_REPORT,
@@ -77,7 +77,7 @@ fn a_message_over_the_limit_is_not_written(rt: HostRuntime) {
 
 /// Whether a sink that takes an octet a call, and fails in the call after `left`, has the frame's first octets.
 fn stops_after(alloc: Global, message: &Message, frame: &[u8], left: usize) -> bool {
-    let mut sink = Failing::after(alloc, left);
+    let mut sink = Taking::after(alloc, left);
     let answer = write_message(message, 65_536, &mut sink);
     let wanted = if left < frame.len() {
         Err(WriteErr::Write)

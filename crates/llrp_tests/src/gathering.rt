@@ -3,7 +3,7 @@
 ghost use Rattle.std.specs.Prelude.{◌≤◌};
 
 use crate::octets::octets;
-use llrp_tool::{Gathering, ToolErr, standard_plan};
+use llrp_tool::{Gathering, ToolErr, checked_plan, standard_plan};
 use llrp_tree::ParamKind;
 use std::alloc::Global;
 use std::test::*;
@@ -78,7 +78,7 @@ fn client(alloc: Global, limit: u32) -> Result<Gathering, ToolErr>
     Ok(Gathering::new(alloc, plan, limit))
 }
 
-/// Whether these bytes leave the connection open, and these lines are told.
+/// Whether these bytes leave the connection open, and these lines are printed.
 fn tells(alloc: Global, stream: &[u8], wanted: &[u8]) -> Result<bool, ToolErr> {
     let mut gathering = client(alloc, 65_536)?;
     let (mut out, mut lines) = (Vec::new(alloc), Vec::new(alloc));
@@ -86,7 +86,7 @@ fn tells(alloc: Global, stream: &[u8], wanted: &[u8]) -> Result<bool, ToolErr> {
     Ok(closed == Ok(false) && lines.as_slice() == wanted)
 }
 
-/// Whether a report right after the connection leaves it open, and these lines are told.
+/// Whether a report right after the connection leaves it open, and these lines are printed.
 fn reports(alloc: Global, report: &str, wanted: &[u8]) -> Result<bool, ToolErr> {
     tells(
         alloc,
@@ -126,7 +126,7 @@ fn closes_with_the_last(
 }
 
 /// Whether a stream in pieces of this size closes the connection with its last piece, the wanted bytes are
-/// sent, and the lines are told.
+/// sent, and the lines are printed.
 fn is_whole_in_pieces(
     alloc: Global,
     stream: &[u8],
@@ -153,7 +153,7 @@ fn one_run_in_pieces(rt: HostRuntime) -> Result<(), Fail> {
     Ok(())
 }
 
-/// Whether a refusal with status 3 is answered again to other bytes, and nothing is sent or told.
+/// Whether a refusal with status 3 is answered again to other bytes, and nothing is sent or printed.
 fn stays_refused(alloc: Global, refused: &[u8], fine: &[u8]) -> Result<bool, ToolErr> {
     let mut gathering = client(alloc, 4096)?;
     let (mut out, mut lines) = (Vec::new(alloc), Vec::new(alloc));
@@ -180,6 +180,8 @@ fn a_plan_has_both_numbers(rt: HostRuntime) -> Result<(), Fail> {
     let plan = standard_plan(rt.alloc(), 500, 7)?;
     assert!(rt; plan.every() == 500);
     assert!(rt; plan.polls() == 7);
+    assert!(rt; !plan.is_checked());
+    assert!(rt; checked_plan(rt.alloc(), 500, 7)?.is_checked());
     assert!(rt; plan.rospec().kind() == ParamKind::RoSpec);
     assert!(rt; plan.rospec().length() == 65);
     Ok(())

@@ -1,14 +1,15 @@
 //! Following a plan over devices.
 
-ghost use Rattle.std.specs.Prelude.{◌≡◌, ◌≤◌, None};
+ghost use Rattle.std.specs.Prelude.{◌≤◌};
 
-use crate::devices::Failing;
 use crate::gathering::{ADD, CONNECTED, DOWN, ENABLE, LINES, UP};
 use crate::octets::{octets, spell};
-use llrp_tool::{Input, Output, Source, Summary, ToolErr, run_inventory, run_show, standard_plan};
+use llrp_tool::{
+    Input, Output, Plan, Summary, ToolErr, checked_plan, run_inventory, run_show, standard_plan,
+};
 use std::alloc::Global;
-use std::io;
 use std::test::*;
+use test_devices::{Dripping, Taking};
 
 /// A reader's bytes, what a client with a plan of one poll sends, and how it ends.
 struct Row {
@@ -98,7 +99,7 @@ pub(super) struct Inventory {
 }
 
 impl Inventory {
-    /// Whether it ended so, hexadecimal texts spell what was sent, and these lines were told.
+    /// Whether it ended so, hexadecimal texts spell what was sent, and these lines were printed.
     pub(super) fn is(
         &self,
         alloc: Global,
@@ -111,11 +112,10 @@ impl Inventory {
     }
 }
 
-/// A client follows a plan of these two numbers, and its reader sends the bytes of hexadecimal texts.
+/// A client follows a plan, and its reader sends the bytes of hexadecimal texts.
 pub(super) fn inventory_of(
     alloc: Global,
-    every: u16,
-    polls: u16,
+    plan: Plan,
     limit: u32,
     down: &[&str],
 ) -> Result<Inventory, ToolErr>
@@ -123,7 +123,6 @@ pub(super) fn inventory_of(
     requires most { limit ≤ 65536 }
 {
     let down = octets(alloc, down)?;
-    let plan = standard_plan(alloc, every, polls)?;
     let mut up = Output::new(Vec::new(alloc));
     let mut lines = Output::new(Vec::new(alloc));
     let mut source = Input::new(down.as_slice());
@@ -135,9 +134,9 @@ pub(super) fn inventory_of(
     })
 }
 
-/// Whether a client of a plan of one poll does what a row says, and tells nothing.
+/// Whether a client of a plan of one poll does what a row says, and prints nothing.
 fn is_as_said(alloc: Global, row: &Row) -> Result<bool, ToolErr> {
-    let inventory = inventory_of(alloc, 0, 1, 65_536, row.down)?;
+    let inventory = inventory_of(alloc, standard_plan(alloc, 0, 1)?, 65_536, row.down)?;
     inventory.is(alloc, row.end, row.up, b"")
 }
 
@@ -163,54 +162,66 @@ fn is_listing(alloc: Global, stream: &[u8], listing: &[u8]) -> bool {
 
 #[test]
 fn the_rospec_of_a_plan(rt: HostRuntime) -> Result<(), Fail> {
-    let inventory = inventory_of(rt.alloc(), 500, 0, 65_536, &[CONNECTED])?;
+    let plan = standard_plan(rt.alloc(), 500, 0)?;
+    let inventory = inventory_of(rt.alloc(), plan, 65_536, &[CONNECTED])?;
     assert!(rt; inventory.end == Err(ToolErr::Early));
     assert!(rt; is_listing(rt.alloc(), inventory.up.as_slice(), ROSPEC));
     Ok(())
 }
 
-/// Gives a byte a call, and fails in the call after so many.
-#[derive(Drop)]
-pub struct OneByOne<'a> {
-    rest: &'a [u8],
-    left: usize,
-    reads: u64,
-    ends: u64,
-    failures: u64,
+/// What a reader says to a checked plan of one poll up to STOP_ROSPEC's response.
+const STOPPED: &str =
+    "043F0000002000000001 00F60016 0080000C0000000000000000 010000060000 041E0000001200000001 011F000800000000 04220000001200000002 011F000800000000 04200000001200000003 011F000800000000 043F0000002700000002 00F6001D 0080000C0000000000000000 00F9000D000000000100000000 043D0000000A00000003 043F0000002700000004 00F6001D 0080000C0000000000000000 00F9000D010000000100000000 04210000001200000005 011F000800000000";
+
+/// GET_ROSPECS_RESPONSE of the plan's ROSpec, Inactive.
+const LISTED: &str =
+    "04240000005300000006 011F000800000000 00B10041000000010001 00B20012 00B3000500 00B600090000000000 00B7001800010000 00B800090000000000 00BA0007000101 00ED000D020000 00EE00061400";
+
+/// The same, Active.
+const LISTED_ACTIVE: &str =
+    "04240000005300000006 011F000800000000 00B10041000000010002 00B20012 00B3000500 00B600090000000000 00B7001800010000 00B800090000000000 00BA0007000101 00ED000D020000 00EE00061400";
+
+/// The same of no ROSpec.
+const LISTED_NONE: &str = "04240000001200000006 011F000800000000";
+
+/// The same with status 101.
+const NOT_LISTED: &str = "04240000001200000006 011F000800650000";
+
+/// The responses to DELETE_ROSPEC and CLOSE_CONNECTION.
+const CLOSED: &str = "041F0000001200000007 011F000800000000 04040000001200000008 011F000800000000";
+
+/// What such a reader says from GET_ROSPECS on, and how the client ends.
+static CHECKS: [(&str, &[u8], Result<Summary, ToolErr>); 4] = [
+    (
+        LISTED,
+        b"= 0\ntotal 0 1\n",
+        Ok(Summary {
+            tags: 0,
+            reports: 1,
+        }),
+    ),
+    (LISTED_ACTIVE, b"= 0\n", Err(ToolErr::Strange)),
+    (LISTED_NONE, b"= 0\n", Err(ToolErr::Strange)),
+    (NOT_LISTED, b"= 0\n", Err(ToolErr::Peer(101))),
+];
+
+/// How a client of a checked plan ends, and what it prints.
+fn checked(alloc: Global, listed: &str) -> Result<Inventory, ToolErr> {
+    let plan = checked_plan(alloc, 0, 1)?;
+    inventory_of(alloc, plan, 65_536, &[STOPPED, listed, CLOSED])
 }
 
-impl<'a> OneByOne<'a> {
-    pub fn new(rest: &'a [u8], left: usize) -> OneByOne<'a>
-        ensures { (result.reads ≡ 0) × (result.ends ≡ 0) × (result.failures ≡ 0) }
-    {
-        OneByOne {
-            rest,
-            left,
-            reads: 0,
-            ends: 0,
-            failures: 0,
-        }
+#[test]
+fn plans_that_are_checked(rt: HostRuntime) -> Result<(), Fail> {
+    for (listed, lines, end) in CHECKS {
+        let inventory = checked(rt.alloc(), listed)?;
+        assert!(rt;
+            inventory.end == end && inventory.lines.as_slice() == lines,
+            "at {}",
+            listed
+        );
     }
-}
-
-impl<'a> Source for OneByOne<'a> {
-    ghost log = { λ s. record { reads = s.reads; ends = s.ends; failures = s.failures; left = None } };
-
-    fn read(&mut self, buf: &mut [u8]) -> io::Result<usize> {
-        if self.left == 0 {
-            self.failures += 1;
-            return Err(io::Error::from(io::ErrorKind::Other));
-        }
-        self.left -= 1;
-        let Some((first, rest)) = self.rest.split_first() else {
-            self.ends += 1;
-            return Ok(0);
-        };
-        buf[0] = *first;
-        self.rest = rest;
-        self.reads += 1;
-        Ok(1)
-    }
+    Ok(())
 }
 
 #[test]
@@ -219,12 +230,13 @@ fn one_run_over_devices(rt: HostRuntime) -> Result<(), Fail> {
         tags: 1,
         reports: 2,
     };
-    let inventory = inventory_of(rt.alloc(), 0, 1, 4096, &DOWN)?;
+    let plan = standard_plan(rt.alloc(), 0, 1)?;
+    let inventory = inventory_of(rt.alloc(), plan, 4096, &DOWN)?;
     assert!(rt; inventory.is(rt.alloc(), Ok(summary), &UP, LINES) == Ok(true));
     Ok(())
 }
 
-/// How that run ends over devices of one byte a call that fail in the call after so many, how much was
+/// How that run ends over devices of one byte a call that fail in the call after this many, how much was
 /// written, and whether that are fronts.
 fn failed_run(
     alloc: Global,
@@ -235,9 +247,9 @@ fn failed_run(
     let down = octets(alloc, &DOWN)?;
     let wanted = octets(alloc, &UP)?;
     let plan = standard_plan(alloc, 0, 1)?;
-    let mut source = OneByOne::new(down.as_slice(), reads);
-    let mut up = Failing::after(alloc, writes);
-    let mut lines = Failing::after(alloc, reports);
+    let mut source = Dripping::after(down.as_slice(), reads);
+    let mut up = Taking::after(alloc, writes);
+    let mut lines = Taking::after(alloc, reports);
     let end = run_inventory(alloc, plan, 4096, &mut source, &mut up, &mut lines);
     let fronts = wanted.starts_with(up.taken()) && LINES.starts_with(lines.taken());
     Ok((end, up.taken().len(), lines.taken().len(), fronts))

@@ -18,6 +18,8 @@ mod epc;
 #[cfg(test)]
 mod epcs;
 #[cfg(test)]
+mod exchanged;
+#[cfg(test)]
 mod fields;
 #[cfg(test)]
 mod filling;
@@ -29,6 +31,8 @@ mod hexadecimal;
 mod inventory;
 #[cfg(test)]
 mod octets;
+#[cfg(test)]
+mod parts;
 #[cfg(test)]
 mod reader;
 #[cfg(test)]

@@ -116,7 +116,59 @@ const RESET: Does = Does::Take("08030000001800000005 80 00ED000D010002 00EE0006F
 const WHOLE_REPORTS: &str =
     "083D0000007C00000003 00F00039 8D3074257BF7194E4000001A85 8900000001 8E0001 8A0001 810001 870001 86C4 820000000000000006 840000000000000006 880001 00F00039 8D3074257BF7194E4000001A85 8900000001 8E0001 8A0001 810005 870001 86C4 820000000000000008 840000000000000008 880001";
 
-static EXCHANGES: [Exchange; 10] = [
+/// GET_ROSPECS.
+const LIST: Does = Does::Take("081A0000000A00000003");
+
+/// The same under id 4.
+const LIST_NEXT: Does = Does::Take("081A0000000A00000004");
+
+static EXCHANGES: [Exchange; 12] = [
+    Exchange {
+        name: "a ROSpec is listed in each of its states",
+        limit: 65536,
+        steps: &[
+            Step::Sends(0, Does::Connect, ACCEPTED),
+            Step::Sends(0, LIST, "08240000001200000003 011F000800000000"),
+            Step::Sends(0, ADD, ADDED),
+            Step::Sends(
+                0,
+                LIST,
+                "08240000004600000003 011F000800000000 00B10034000000010000 00B20012 00B3000500 00B600090000000000 00B7001800010000 00B800090000000000 00BA0007000101",
+            ),
+            Step::Sends(0, ENABLE, ENABLED),
+            Step::Sends(
+                0,
+                LIST_NEXT,
+                "08240000004600000004 011F000800000000 00B10034000000010001 00B20012 00B3000500 00B600090000000000 00B7001800010000 00B800090000000000 00BA0007000101",
+            ),
+            Step::Sends(5, START, STARTED),
+            Step::Sends(
+                6,
+                LIST_NEXT,
+                "08240000004600000004 011F000800000000 00B10034000000010002 00B20012 00B3000500 00B600090000000000 00B7001800010000 00B800090000000000 00BA0007000101",
+            ),
+            Step::Stands(1, Some(RoState::Active)),
+            Step::Sends(
+                6,
+                Does::Take("08240000001200000007 011F000800000000"),
+                "08640000001200000007 011F0008006D0000",
+            ),
+        ],
+    },
+    Exchange {
+        name: "ROSpecs are listed by their ids",
+        limit: 4096,
+        steps: &[
+            Step::Sends(0, Does::Connect, ACCEPTED),
+            Step::Sends(0, ADD_FULL, ADDED),
+            Step::Sends(0, ADD, ADDED),
+            Step::Sends(
+                0,
+                LIST,
+                "08240000009000000003 011F000800000000 00B10034000000010000 00B20012 00B3000500 00B600090000000000 00B7001800010000 00B800090000000000 00BA0007000101 00B1004A000000070300 00B20012 00B3000501 00B6000901000005DC 00B70021000200010003 00B800090000000000 00BA0007000501 00BA0007000601 00ED000D010002 00EE0006FFC0",
+            ),
+        ],
+    },
     Exchange {
         name: "a client connects",
         limit: 4096,
@@ -377,7 +429,7 @@ fn steps_done(alloc: Global, reader: &mut Reader, steps: &[Step]) -> Result<usiz
     Ok(steps.len())
 }
 
-/// The same of a new reader of this limit, which it tells.
+/// The same of a new reader of this limit, which it returns.
 fn steps_done_anew(alloc: Global, limit: u32, steps: &[Step]) -> Result<usize, ToolErr>
     requires least { 4096 ≤ limit }
     requires most { limit ≤ 65536 }

@@ -33,7 +33,7 @@ fn decoded(rt: &impl Abort, alloc: Global, frame: &[u8], limit: u32) -> Result<M
     decode_frame(alloc, frame, limit)
 }
 
-/// Octets whose length field is their number are no message's, and this is their first fault.
+/// Octets whose length field is their number are not a message, and this is their first fault.
 fn is_faulty(rt: &impl Abort, alloc: Global, frame: &[u8], bit: u64, reason: Reason) {
     let fault = FrameErr::Bad(Fault { bit, reason });
     assert!(rt;
@@ -42,9 +42,9 @@ fn is_faulty(rt: &impl Abort, alloc: Global, frame: &[u8], bit: u64, reason: Rea
     );
 }
 
-/// ERROR_MESSAGE with an LLRPStatus over so many nested ParameterErrors.
+/// ERROR_MESSAGE with an LLRPStatus over this many nested ParameterErrors.
 fn nested_errors(alloc: Global, errors: u8) -> Result<Vec<u8>, Fail>
-    requires { errors ≤ 8 }
+    requires { errors ≤ 16 }
 {
     let mut frame = [0x08, 0x64, 0, 0, 0, 18 + 8 * errors, 0, 0, 0, 9].to_vec(alloc)?;
     frame.extend_from_slice(&[0x01, 0x1F, 0, 8 + 8 * errors, 0, 0, 0, 0])?;
@@ -188,10 +188,10 @@ fn faults_of_lengths_and_counts(rt: HostRuntime) -> Result<(), Fail> {
 #[test]
 fn nested_too_deep(rt: HostRuntime) -> Result<(), Fail> {
     let alloc = rt.alloc();
-    let seven = nested_errors(alloc, 7)?;
-    assert!(rt; decoded(&rt, alloc, &seven, 65536).is_ok());
-    let eight = nested_errors(alloc, 8)?;
-    is_faulty(&rt, alloc, &eight, 592, Reason::TooDeep);
+    let deepest = nested_errors(alloc, 15)?;
+    assert!(rt; decoded(&rt, alloc, &deepest, 65536).is_ok());
+    let too_deep = nested_errors(alloc, 16)?;
+    is_faulty(&rt, alloc, &too_deep, 1104, Reason::TooDeep);
     Ok(())
 }
 

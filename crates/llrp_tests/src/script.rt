@@ -1,7 +1,10 @@
+//! Scripts that are read, and scripts that are refused.
+
 use llrp_tool::{Action, Entry, Script, Sighting, ToolErr};
 use std::alloc::Global;
 use std::test::Fail;
 use tag_bits::Word;
+use test_devices::THREE_SIGHTINGS;
 
 /// The line of the refusal.
 fn refused(alloc: Global, text: &[u8]) -> Option<u64> {
@@ -22,15 +25,12 @@ fn seen(now: u64, antenna: u16, rssi: i8, word: u128) -> Option<Entry> {
 
 #[test]
 fn three_sightings_with_ample_memory(rt: HostRuntime) -> Result<(), Fail> {
-    let text = b"3 1000 seen 1 -60 urn:epc:tag:sgtin-96:3.0614141.812345.6789\n\
-        3 2000 seen 1 -61 urn:epc:tag:sscc-96:0.0614141.0000000001\n\
-        3 3000 seen 2 -62 urn:epc:tag:gid-96:1.2.3\n";
     let entries = [
         seen(1000, 1, -60, 0x3074_257B_F719_4E40_0000_1A85).ok_or("no word")?,
         seen(2000, 1, -61, 0x3114_257B_F400_0000_0100_0000).ok_or("no word")?,
         seen(3000, 2, -62, 0x3500_0000_1000_0020_0000_0003).ok_or("no word")?,
     ];
-    let script = Script::parse(rt.alloc(), text)?;
+    let script = Script::parse(rt.alloc(), THREE_SIGHTINGS)?;
     assert!(rt; script.entries() == entries.as_slice());
     Ok(())
 }

@@ -163,7 +163,7 @@ fn a_stream_cut_anywhere(rt: HostRuntime) -> Result<(), Fail> {
     Ok(())
 }
 
-/// Whether a length field below 10 is answered again, and nothing is written behind it.
+/// Whether a length field below 10 is answered again, and nothing is written after it.
 fn stays_broken(alloc: Global) -> Result<bool, ToolErr> {
     let mut out = Vec::new(alloc);
     let mut serving = started(alloc, &mut out)?;

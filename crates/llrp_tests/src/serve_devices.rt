@@ -1,49 +1,24 @@
 //! Serving over sources and sinks that fail in mid-stream.
 
-ghost use Rattle.std.specs.Prelude.{None};
-
-use crate::devices::Failing;
 use crate::octets::octets;
 use crate::serve::{ADD, ADDED, CONNECTED, ENABLE, ENABLED};
 use llrp_session::Reader;
 use llrp_stream::Output;
-use llrp_tool::{Input, Script, Source, ToolErr, run_serve};
+use llrp_tool::{Input, Script, ToolErr, run_serve};
 use std::alloc::Global;
-use std::io;
 use std::test::*;
-
-/// Gives a byte a call, and fails in the call after the last.
-#[derive(Drop)]
-struct BreakingOff<'a> {
-    rest: &'a [u8],
-    reads: u64,
-    failures: u64,
-}
-
-impl Source for BreakingOff<'_> {
-    ghost log = { λ s. record { reads = s.reads; ends = 0; failures = s.failures; left = None } };
-
-    fn read(&mut self, buf: &mut [u8]) -> io::Result<usize> {
-        let Some((byte, rest)) = self.rest.split_first() else {
-            self.failures += 1;
-            return Err(io::Error::from(io::ErrorKind::ConnectionReset));
-        };
-        buf[0] = *byte;
-        self.rest = rest;
-        self.reads += 1;
-        Ok(1)
-    }
-}
+use test_devices::{Dripping, Taking};
 
 /// Whether serving stops where reading fails after these bytes, and the first `said` of the wanted bytes are
 /// written.
-fn stops_behind(alloc: Global, stream: &[u8], wanted: &[u8], said: usize) -> Result<bool, ToolErr> {
+fn stops_at_the_end_of(
+    alloc: Global,
+    stream: &[u8],
+    wanted: &[u8],
+    said: usize,
+) -> Result<bool, ToolErr> {
     let script = Script::parse(alloc, b"")?;
-    let mut source = BreakingOff {
-        rest: stream,
-        reads: 0,
-        failures: 0,
-    };
+    let mut source = Dripping::after(stream, stream.len());
     let mut sink = Output::new(Vec::new(alloc));
     let end = run_serve(
         alloc,
@@ -56,12 +31,12 @@ fn stops_behind(alloc: Global, stream: &[u8], wanted: &[u8], said: usize) -> Res
     Ok(end == Err(ToolErr::Read) && is_front(written.as_slice(), wanted, said))
 }
 
-/// Whether these are the first so many of the wanted bytes.
+/// Whether these are the first this many of the wanted bytes.
 fn is_front(written: &[u8], wanted: &[u8], length: usize) -> bool {
     wanted.starts_with(written) && written.len() == length
 }
 
-/// How many octets are said where reading fails after so many: CONNECTED has 32, ADDED and ENABLED have 18
+/// How many octets are said where reading fails after this many: CONNECTED has 32, ADDED and ENABLED have 18
 /// each; ADD has 62, and ENABLE 14.
 fn said_after(count: usize) -> usize {
     if count < 62 {
@@ -80,18 +55,18 @@ fn a_read_that_fails_comes_after_the_answers_so_far(rt: HostRuntime) -> Result<(
     let wanted = octets(alloc, &[CONNECTED, ADDED, ENABLED])?;
     for count in 0..stream.len() {
         let (front, _) = stream.as_slice().split_at(count);
-        let stops = stops_behind(alloc, front, wanted.as_slice(), said_after(count));
+        let stops = stops_at_the_end_of(alloc, front, wanted.as_slice(), said_after(count));
         assert!(rt; stops == Ok(true));
     }
     Ok(())
 }
 
-/// Whether serving these bytes ends with the write that fails after so many, and what was written is a front
+/// Whether serving these bytes ends with the write that fails after this many, and what was written is a front
 /// of what is to be said.
 fn stops_after(alloc: Global, stream: &[u8], wanted: &[u8], left: usize) -> Result<bool, ToolErr> {
     let script = Script::parse(alloc, b"")?;
     let mut source = Input::new(stream);
-    let mut sink = Failing::after(alloc, left);
+    let mut sink = Taking::after(alloc, left);
     let core = Reader::new(alloc, 65_536, 1);
     let end = run_serve(alloc, core, script, &mut source, &mut sink);
     Ok(end == Err(ToolErr::Write) && is_front(sink.taken(), wanted, left))

@@ -1,10 +1,13 @@
 //! Listings of long streams, and of streams cut anywhere.
 
+ghost use Rattle.std.specs.Prelude.{◌≤◌};
+ghost use Rattle.llrp_tree.specs.declared.TheConstants.{MAX_LIMIT};
+
 use crate::octets::octets;
-use llrp_tool::{Input, Output, Source, ToolErr, Verdict, run_show};
+use llrp_tool::{Input, Output, ToolErr, Verdict, run_encode, run_show};
 use std::alloc::Global;
-use std::io;
 use std::test::*;
+use test_devices::Pieces;
 
 const KEEPALIVE: &[u8] = b"\x08\x3e\0\0\0\x0a\0\0\0\x07";
 
@@ -17,63 +20,65 @@ const REPORT_LINES: &[u8] = b"0 RO_ACCESS_REPORT 1 1
 
 /// The verdict and the listing of a stream.
 fn shown(rt: &HostRuntime, stream: &[u8]) -> Result<(Verdict, Vec<u8>), ToolErr> {
+    shown_within(rt, stream, 65_536)
+}
+
+/// The same, at a limit.
+fn shown_within(rt: &HostRuntime, stream: &[u8], limit: u32) -> Result<(Verdict, Vec<u8>), ToolErr>
+    requires least { 10 ≤ limit }
+    requires most { limit ≤ MAX_LIMIT }
+{
     let mut source = Input::new(stream);
     let mut sink = Output::new(Vec::new(rt.alloc()));
-    let verdict = run_show(rt.alloc(), &mut source, &mut sink, 65_536)?;
+    let verdict = run_show(rt.alloc(), &mut source, &mut sink, limit)?;
     Ok((verdict, sink.into_inner()))
 }
 
-/// Gives a first piece, and then pieces of another size.
-#[derive(Drop)]
-struct Pieces<'a> {
-    rest: &'a [u8],
+/// Whether a stream that comes in such pieces has this listing and this verdict.
+fn is_listed(
+    alloc: Global,
+    stream: &[u8],
     first: usize,
     later: usize,
-    reads: u64,
-    ends: u64,
-}
-
-impl Source for Pieces<'_> {
-    ghost use Rattle.std.specs.Prelude.{None};
-
-    ghost log = { λ s. record { reads = s.reads; ends = s.ends; failures = 0; left = None } };
-
-    fn read(&mut self, buf: &mut [u8]) -> io::Result<usize> {
-        let n = self.first.min(self.rest.len()).min(buf.len());
-        let (piece, rest) = self.rest.split_at(n);
-        buf[..n].copy_from_slice(piece);
-        self.rest = rest;
-        self.first = self.later;
-        if n == 0 {
-            self.ends += 1;
-        } else {
-            self.reads += 1;
-        }
-        Ok(n)
-    }
-}
-
-/// Whether a report that comes in such pieces is listed.
-fn is_listed(alloc: Global, report: &[u8], first: usize, later: usize) -> bool {
-    let mut source = Pieces {
-        rest: report,
-        first,
-        later,
-        reads: 0,
-        ends: 0,
-    };
+    listing: &[u8],
+    verdict: Verdict,
+) -> bool {
+    let mut source = Pieces::new(stream, first, later);
     let mut sink = Output::new(Vec::new(alloc));
     let found = run_show(alloc, &mut source, &mut sink, 65_536);
-    let listing = sink.into_inner();
-    found == Ok(Verdict::Lawful) && listing.as_slice() == REPORT_LINES
+    let written = sink.into_inner();
+    found == Ok(verdict) && written.as_slice() == listing
+}
+
+/// The same of a stream that is cut into two at each of its places, and of one that comes octet by octet.
+pub(crate) fn is_listed_cut(
+    alloc: Global,
+    stream: &[u8],
+    listing: &[u8],
+    verdict: Verdict,
+) -> bool {
+    for first in 1..=stream.len() {
+        if !is_listed(alloc, stream, first, 4096, listing, verdict) {
+            return false;
+        }
+    }
+    is_listed(alloc, stream, 1, 1, listing, verdict)
 }
 
 #[test]
 fn report_cut_anywhere(rt: HostRuntime) -> Result<(), Fail> {
     let stream = octets(rt.alloc(), &[REPORT])?;
     for first in 1..27usize {
-        assert!(rt; is_listed(rt.alloc(), stream.as_slice(), first, 1));
-        assert!(rt; is_listed(rt.alloc(), stream.as_slice(), first, 4096));
+        assert!(rt;
+            is_listed(
+                rt.alloc(),
+                stream.as_slice(),
+                first,
+                1,
+                REPORT_LINES,
+                Verdict::Lawful
+            )
+        );
     }
     Ok(())
 }
@@ -89,7 +94,7 @@ fn over_limit_then_keepalive(rt: HostRuntime) -> Result<(), Fail> {
     Ok(())
 }
 
-/// Appends the bytes of digits so many times.
+/// Appends the bytes of digits this many times.
 fn append(alloc: Global, stream: &mut Vec<u8>, digits: &str, times: u32) -> Result<(), ToolErr> {
     let piece = octets(alloc, &[digits])?;
     for _ in 0..times {
@@ -117,6 +122,33 @@ fn largest_report(rt: HostRuntime) -> Result<(), Fail> {
     // 23 bytes, then 16 and 52 a tag, and 15 for each signal strength
     assert!(rt; text.len() == 23 + 3_854 * (16 + 52) + 4 * 15);
     assert!(rt; text.as_slice().ends_with(b"6789\n2 PeakRSSI -60\n"));
+    Ok(())
+}
+
+/// A report of 61,680 tags, the last 3 of them with a signal strength.
+fn longest_report(alloc: Global) -> Result<Vec<u8>, ToolErr> {
+    let mut stream = octets(alloc, &["043D0010000000000001"])?;
+    let tag = "00F00011 8D3074257BF7194E4000001A85";
+    append(alloc, &mut stream, tag, 61_677)?;
+    let loud = "00F00013 8D3074257BF7194E4000001A85 86C4";
+    append(alloc, &mut stream, loud, 3)?;
+    Ok(stream)
+}
+
+#[test]
+fn longest_message(rt: HostRuntime) -> Result<(), Fail> {
+    let stream = longest_report(rt.alloc())?;
+    assert!(rt; stream.len() == 1_048_576);
+    let (verdict, text) = shown_within(&rt, stream.as_slice(), 1_048_576)?;
+    assert!(rt; verdict == Verdict::Lawful);
+    assert!(rt; text.len() == 23 + 61_680 * (16 + 52) + 3 * 15);
+    let mut source = Input::new(text.as_slice());
+    let mut sink = Output::new(Vec::new(rt.alloc()));
+    run_encode(rt.alloc(), &mut source, &mut sink, 1_048_576)?;
+    assert!(rt; sink.into_inner().as_slice() == stream.as_slice());
+    let (verdict, text) = shown(&rt, stream.as_slice())?;
+    assert!(rt; verdict == Verdict::Faulty);
+    assert!(rt; text.as_slice() == b"! 1 16 MessageLength\n".as_slice());
     Ok(())
 }
 

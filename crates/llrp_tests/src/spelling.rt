@@ -105,7 +105,7 @@ fn only(alloc: Global, child: Node) -> Option<Vec<Node>> {
     Some(children)
 }
 
-/// The length of an LLRPStatus over so many nested ParameterErrors, or its first fault.
+/// The length of an LLRPStatus over this many nested ParameterErrors, or its first fault.
 fn length_of_nest(alloc: Global, errors: u32) -> Option<Result<u32, NodeFault>> {
     let mut children = Vec::new(alloc);
     for _ in 0..errors {
@@ -116,16 +116,16 @@ fn length_of_nest(alloc: Global, errors: u32) -> Option<Result<u32, NodeFault>> 
 }
 
 #[test]
-fn nested_errors_have_eight_levels(rt: HostRuntime) {
+fn nested_errors_have_sixteen_levels(rt: HostRuntime) {
     // Each parameter has a header of 4 octets and fields of 4.
-    assert_eq!(rt; length_of_nest(rt.alloc(), 7), Some(Ok(8 * 8)));
+    assert_eq!(rt; length_of_nest(rt.alloc(), 15), Some(Ok(16 * 8)));
     assert_eq!(rt;
-        length_of_nest(rt.alloc(), 8),
+        length_of_nest(rt.alloc(), 16),
         Some(Err(NodeFault::TooDeep))
     );
 }
 
-/// The length of a TagReportData of an EPC-96 and so many C1G2-CRC, or its first fault.
+/// The length of a TagReportData of an EPC-96 and this many C1G2-CRC, or its first fault.
 fn length_of_long(alloc: Global, more: u32) -> Option<Result<u32, NodeFault>> {
     let mut children = Vec::new(alloc);
     push_leaf(alloc, &mut children, ParamKind::Epc96, 7)?;
@@ -140,6 +140,34 @@ fn longest_report(rt: HostRuntime) {
     assert_eq!(rt; length_of_long(rt.alloc(), 21_839), Some(Ok(65_534)));
     assert_eq!(rt;
         length_of_long(rt.alloc(), 21_840),
+        Some(Err(NodeFault::TooLong))
+    );
+}
+
+/// The length of a report of this many tags of 17 octets and three of 19, or its first fault.
+fn length_of_tags(alloc: Global, tags: u32) -> Option<Result<u32, NodeFault>> {
+    let quiet = [(ParamKind::Epc96, 7)];
+    let loud = [(ParamKind::Epc96, 7), (ParamKind::PeakRssi, 196)];
+    let mut data = Vec::new(alloc);
+    for _ in 0..tags {
+        let tag = node(alloc, ParamKind::TagReportData, &[], leaves(alloc, &quiet)?)?;
+        data.push(tag).ok()?;
+    }
+    for _ in 0..3u32 {
+        let tag = node(alloc, ParamKind::TagReportData, &[], leaves(alloc, &loud)?)?;
+        data.push(tag).ok()?;
+    }
+    match Message::new(1, 1, MsgKind::RoAccessReport, &[], Nodes::new(data)) {
+        Ok(message) => Some(Ok(message.length())),
+        Err(refusal) => Some(Err(refusal.fault)),
+    }
+}
+
+#[test]
+fn longest_message(rt: HostRuntime) {
+    assert_eq!(rt; length_of_tags(rt.alloc(), 61_677), Some(Ok(1_048_576)));
+    assert_eq!(rt;
+        length_of_tags(rt.alloc(), 61_678),
         Some(Err(NodeFault::TooLong))
     );
 }
@@ -162,7 +190,7 @@ fn is_spelled(alloc: Global, report: &Message, out: &mut Vec<u8>) -> bool {
     encode_into(alloc, report, out, 27) == Ok(()) && out.as_slice() == SGTIN_REPORT.as_slice()
 }
 
-/// Whether the report is longer than 26 octets: then nothing is written behind what stands there.
+/// Whether the report is longer than 26 octets: then nothing is written after what is there.
 fn is_over_limit(alloc: Global, report: &Message, out: &mut Vec<u8>) -> bool {
     out.push(9).is_ok()
         && encode_into(alloc, report, out, 26) == Err(EncodeErr::OverLimit)

@@ -61,13 +61,15 @@ fn kinds_have_their_numbers_and_names(rt: HostRuntime) {
     }
 }
 
-static MESSAGES_BY_NUMBER: [(u16, Option<MsgKind>); 8] = [
+static MESSAGES_BY_NUMBER: [(u16, Option<MsgKind>); 10] = [
     (20, Some(MsgKind::AddRoSpec)),
     (100, Some(MsgKind::ErrorMessage)),
     (0, None),
     (1, None),
-    (26, None),
-    (36, None),
+    (26, Some(MsgKind::GetRoSpecs)),
+    (27, None),
+    (36, Some(MsgKind::GetRoSpecsResponse)),
+    (37, None),
     (1023, None),
     (65535, None),
 ];
@@ -122,7 +124,7 @@ static MESSAGES_BY_NAME: [(&str, Option<MsgKind>); 7] = [
     ("", None),
     ("keepalive", None),
     ("KEEPALIVE ", None),
-    ("GET_ROSPECS", None),
+    ("GET_ACCESSSPECS", None),
     ("ROSpec", None),
 ];
 
@@ -141,10 +143,10 @@ static PARAMETERS_BY_NAME: [(&str, Option<ParamKind>); 9] = [
 #[test]
 fn kinds_are_found_by_name(rt: HostRuntime) {
     for (name, wanted) in MESSAGES_BY_NAME {
-        assert!(rt; msg_named(name) == wanted);
+        assert!(rt; msg_named(name.as_bytes()) == wanted);
     }
     for (name, wanted) in PARAMETERS_BY_NAME {
-        assert!(rt; param_named(name) == wanted);
+        assert!(rt; param_named(name.as_bytes()) == wanted);
     }
 }
 
@@ -221,4 +223,90 @@ fn one_child_of_several_kinds(rt: HostRuntime) {
             Some(wanted)
         );
     }
+}
+
+/// A parent, a child, and the child's place among the parent's groups: an index, and whether the group takes
+/// one child at most.
+type WrittenPlace = (Kind, ParamKind, Option<(u8, bool)>);
+
+static PLACES: [WrittenPlace; 9] = [
+    (
+        Kind::Parameter(ParamKind::TagReportData),
+        ParamKind::Epc96,
+        Some((0, true)),
+    ),
+    (
+        Kind::Parameter(ParamKind::TagReportData),
+        ParamKind::EpcData,
+        Some((0, true)),
+    ),
+    (
+        Kind::Parameter(ParamKind::TagReportData),
+        ParamKind::C1G2Pc,
+        Some((14, false)),
+    ),
+    (
+        Kind::Parameter(ParamKind::TagReportData),
+        ParamKind::UtcTimestamp,
+        None,
+    ),
+    (
+        Kind::Message(MsgKind::SetReaderConfig),
+        ParamKind::AntennaConfiguration,
+        Some((4, false)),
+    ),
+    (
+        Kind::Message(MsgKind::GetRoSpecsResponse),
+        ParamKind::RoSpec,
+        Some((1, false)),
+    ),
+    (
+        Kind::Message(MsgKind::ErrorMessage),
+        ParamKind::LlrpStatus,
+        Some((0, true)),
+    ),
+    (
+        Kind::Message(MsgKind::Keepalive),
+        ParamKind::LlrpStatus,
+        None,
+    ),
+    (
+        Kind::Parameter(ParamKind::Epc96),
+        ParamKind::AntennaId,
+        None,
+    ),
+];
+
+#[test]
+fn children_have_their_places(rt: HostRuntime) {
+    for (parent, child, wanted) in PLACES {
+        let found = place(parent, child).map(|place| (place.index, place.once));
+        assert!(rt; found == wanted);
+    }
+}
+
+/// Parents, and the groups that each needs a child of, as bits.
+static REQUIRED: [(Kind, u32); 5] = [
+    (Kind::Parameter(ParamKind::RoSpec), 0b011),
+    (Kind::Parameter(ParamKind::TagReportData), 0b1),
+    (Kind::Message(MsgKind::SetReaderConfig), 0),
+    (Kind::Message(MsgKind::GetRoSpecsResponse), 0b01),
+    (Kind::Message(MsgKind::Keepalive), 0),
+];
+
+#[test]
+fn required_groups_are_bits(rt: HostRuntime) {
+    for (parent, wanted) in REQUIRED {
+        assert_eq!(rt; required(parent), wanted);
+    }
+}
+
+#[test]
+fn labels_are_names(rt: HostRuntime) {
+    let message = label(Kind::Message(MsgKind::Keepalive));
+    assert_eq!(rt; message.octets, 9);
+    assert!(rt; message.text == *b"KEEPALIVE                       ");
+    let parameter = label(Kind::Parameter(ParamKind::ReportBufferOverflowErrorEvent));
+    assert_eq!(rt; parameter.octets, 30);
+    assert!(rt; parameter.text == *b"ReportBufferOverflowErrorEvent  ");
 }

@@ -68,7 +68,7 @@ const TEXTS: [(u128, &str); 15] = [
     ),
 ];
 
-/// Texts that are no word's, with the first rule that refuses each.
+/// Texts that are not a word's, with the first rule that refuses each.
 const REFUSED: [(&str, UriFault, &str); 15] = [
     ("", UriFault::Start, "Start"),
     (

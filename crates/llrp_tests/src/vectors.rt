@@ -1,6 +1,7 @@
 //! Conformance vectors: streams as hexadecimal digits, and the listing of each.
 
 use crate::octets::octets;
+use crate::show::is_listed_cut;
 use llrp_tool::{Input, Output, ToolErr, Verdict, run_encode, run_show};
 use std::alloc::Global;
 use std::test::*;
@@ -14,7 +15,7 @@ pub struct Vector {
 }
 
 /// Streams of frames that are all messages.
-pub static LAWFUL: [Vector; 24] = [
+pub static LAWFUL: [Vector; 29] = [
     Vector {
         name: "empty",
         stream: "",
@@ -96,6 +97,21 @@ pub static LAWFUL: [Vector; 24] = [
         listing: "0 START_ROSPEC 2 3 1\n",
     },
     Vector {
+        name: "get_rospecs",
+        stream: "081A0000000A00000003",
+        listing: "0 GET_ROSPECS 2 3\n",
+    },
+    Vector {
+        name: "no_rospecs",
+        stream: "08240000001200000003 011F000800000000",
+        listing: "0 GET_ROSPECS_RESPONSE 2 3\n1 LLRPStatus 0 x\n",
+    },
+    Vector {
+        name: "a_rospec_before_the_status",
+        stream: "08240000004600000004 00B10034000000010001 00B20012 00B3000500 00B600090000000000 00B7001800010000 00B800090000000000 00BA0007000101 011F000800000000",
+        listing: "0 GET_ROSPECS_RESPONSE 2 4\n1 ROSpec 1 0 1\n2 ROBoundarySpec\n3 ROSpecStartTrigger 0\n3 ROSpecStopTrigger 0 0\n2 AISpec w0\n3 AISpecStopTrigger 0 0\n3 InventoryParameterSpec 1 1\n1 LLRPStatus 0 x\n",
+    },
+    Vector {
         name: "response",
         stream: "081E0000001200000002 011F000800650000",
         listing: "0 ADD_ROSPEC_RESPONSE 2 2\n1 LLRPStatus 101 x\n",
@@ -134,6 +150,16 @@ pub static LAWFUL: [Vector; 24] = [
         name: "nested_errors",
         stream: "08640000004A00000009 011F004000000000 0121003800010002 0121003000010002 0121002800010002 0121002000010002 0121001800010002 0121001000010002 0121000800010002",
         listing: "0 ERROR_MESSAGE 2 9\n1 LLRPStatus 0 x\n2 ParameterError 1 2\n3 ParameterError 1 2\n4 ParameterError 1 2\n5 ParameterError 1 2\n6 ParameterError 1 2\n7 ParameterError 1 2\n8 ParameterError 1 2\n",
+    },
+    Vector {
+        name: "eight_nested_errors",
+        stream: "08640000005200000009 011F004800000000 0121004000010002 0121003800010002 0121003000010002 0121002800010002 0121002000010002 0121001800010002 0121001000010002 0121000800010002",
+        listing: "0 ERROR_MESSAGE 2 9\n1 LLRPStatus 0 x\n2 ParameterError 1 2\n3 ParameterError 1 2\n4 ParameterError 1 2\n5 ParameterError 1 2\n6 ParameterError 1 2\n7 ParameterError 1 2\n8 ParameterError 1 2\n9 ParameterError 1 2\n",
+    },
+    Vector {
+        name: "deepest_nest",
+        stream: "08640000008A00000009 011F008000000000 0121007800010002 0121007000010002 0121006800010002 0121006000010002 0121005800010002 0121005000010002 0121004800010002 0121004000010002 0121003800010002 0121003000010002 0121002800010002 0121002000010002 0121001800010002 0121001000010002 0121000800010002",
+        listing: "0 ERROR_MESSAGE 2 9\n1 LLRPStatus 0 x\n2 ParameterError 1 2\n3 ParameterError 1 2\n4 ParameterError 1 2\n5 ParameterError 1 2\n6 ParameterError 1 2\n7 ParameterError 1 2\n8 ParameterError 1 2\n9 ParameterError 1 2\n10 ParameterError 1 2\n11 ParameterError 1 2\n12 ParameterError 1 2\n13 ParameterError 1 2\n14 ParameterError 1 2\n15 ParameterError 1 2\n16 ParameterError 1 2\n",
     },
 ];
 
@@ -206,8 +232,8 @@ pub static WORDS: [(&'static str, &'static str, &'static str); 13] = [
     ),
 ];
 
-/// Streams in which some frame is no message, or which end otherwise than with a frame.
-static FAULTY: [Vector; 31] = [
+/// Streams in which some frame is not a message, or which end otherwise than with a frame.
+static FAULTY: [Vector; 33] = [
     Vector {
         name: "reserved_header_bits",
         stream: "283E0000000A00000007",
@@ -222,6 +248,16 @@ static FAULTY: [Vector; 31] = [
         name: "capabilities_unsupported",
         stream: "04010000000B0000000500",
         listing: "! 5 6 MessageType\n",
+    },
+    Vector {
+        name: "long_get_rospecs",
+        stream: "081A0000000B0000000300",
+        listing: "! 3 80 Extra\n",
+    },
+    Vector {
+        name: "rospecs_without_status",
+        stream: "08240000000A00000003",
+        listing: "! 3 80 Missing\n",
     },
     Vector {
         name: "long_keepalive",
@@ -325,8 +361,8 @@ static FAULTY: [Vector; 31] = [
     },
     Vector {
         name: "nested_too_deep",
-        stream: "08640000005200000009 011F004800000000 0121004000010002 0121003800010002 0121003000010002 0121002800010002 0121002000010002 0121001800010002 0121001000010002 0121000800010002",
-        listing: "! 9 592 TooDeep\n",
+        stream: "08640000009200000009 011F008800000000 0121008000010002 0121007800010002 0121007000010002 0121006800010002 0121006000010002 0121005800010002 0121005000010002 0121004800010002 0121004000010002 0121003800010002 0121003000010002 0121002800010002 0121002000010002 0121001800010002 0121001000010002 0121000800010002",
+        listing: "! 9 1104 TooDeep\n",
     },
     Vector {
         name: "two_timestamps",
@@ -375,7 +411,7 @@ fn is_listed(alloc: Global, stream: &[u8], listing: &[u8], verdict: Verdict) -> 
 }
 
 /// Whether the stream of a vector is listed, with this verdict.
-fn lists(alloc: Global, vector: &Vector, verdict: Verdict) -> Result<bool, ToolErr> {
+pub(crate) fn lists(alloc: Global, vector: &Vector, verdict: Verdict) -> Result<bool, ToolErr> {
     let stream = octets(alloc, &[vector.stream])?;
     let listing = vector.listing.as_bytes();
     Ok(is_listed(alloc, stream.as_slice(), listing, verdict))
@@ -441,7 +477,7 @@ fn is_encoded(alloc: Global, listing: &[u8], stream: &[u8]) -> bool {
 }
 
 /// Whether the listing of a vector is encoded to its stream.
-fn encodes(alloc: Global, vector: &Vector) -> Result<bool, ToolErr> {
+pub(crate) fn encodes(alloc: Global, vector: &Vector) -> Result<bool, ToolErr> {
     let stream = octets(alloc, &[vector.stream])?;
     Ok(is_encoded(alloc, vector.listing.as_bytes(), stream.as_slice()))
 }
@@ -450,5 +486,34 @@ fn encodes(alloc: Global, vector: &Vector) -> Result<bool, ToolErr> {
 fn lawful_listings_back(rt: HostRuntime) {
     for vector in &LAWFUL {
         assert!(rt; encodes(rt.alloc(), vector) == Ok(true), "{}", vector.name);
+    }
+}
+
+/// Whether a vector has its listing wherever its stream is cut into two, and octet by octet.
+fn lists_cut(alloc: Global, vector: &Vector, verdict: Verdict) -> Result<bool, ToolErr> {
+    let stream = octets(alloc, &[vector.stream])?;
+    let listing = vector.listing.as_bytes();
+    Ok(is_listed_cut(alloc, stream.as_slice(), listing, verdict))
+}
+
+#[test]
+fn lawful_streams_cut_anywhere(rt: HostRuntime) {
+    for vector in &LAWFUL {
+        assert!(rt;
+            lists_cut(rt.alloc(), vector, Verdict::Lawful) == Ok(true),
+            "{}",
+            vector.name
+        );
+    }
+}
+
+#[test]
+fn faulty_streams_cut_anywhere(rt: HostRuntime) {
+    for vector in &FAULTY {
+        assert!(rt;
+            lists_cut(rt.alloc(), vector, Verdict::Faulty) == Ok(true),
+            "{}",
+            vector.name
+        );
     }
 }

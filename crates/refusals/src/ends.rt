@@ -3,13 +3,16 @@
 ghost use Rattle.std.specs.Prelude.{◌≡◌};
 
 use crate::octets::{allow_growths, octets_of, print_octets, refuse_growths, text_of};
-use crate::streams::Room;
 use anyhow::{Context, Result, bail};
-use llrp_endpoints::{Gathering, Plan, Script, Serving, run_inventory, run_serve, standard_plan};
+use llrp_endpoints::{
+    Gathering, Plan, Script, Serving, checked_plan, run_inventory, run_serve, standard_plan,
+};
 use llrp_listing::{ToolErr, bytes_of_hex, run_epc};
 use llrp_session::Reader;
 use llrp_stream::Input;
+use llrp_tree::MAX_LIMIT;
 use std::alloc::Global;
+use test_devices::Room;
 
 /// A script; each word is a line.
 fn script_of(alloc: Global, lines: &[String]) -> Result<Script> {
@@ -37,29 +40,36 @@ pub fn script(rt: &HostRuntime, row: &[String]) -> Result<()> {
     Ok(())
 }
 
-/// The plan of two numbers.
+/// The plan of two numbers, or the checked one, which has a `c` before the first.
+fn made_plan(alloc: Global, every: &str, polls: u16) -> Result<Result<Plan, ToolErr>> {
+    Ok(match every.strip_prefix("c") {
+        Some(every) => checked_plan(alloc, every.parse()?, polls),
+        None => standard_plan(alloc, every.parse()?, polls),
+    })
+}
+
+/// The plan of two words.
 fn plan_of(alloc: Global, every: &str, polls: &str) -> Result<Plan> {
-    standard_plan(alloc, every.parse()?, polls.parse()?)
+    made_plan(alloc, every, polls.parse()?)?
         .ok()
         .context("no plan")
 }
 
-/// Calls `standard_plan` on two numbers.
+/// Calls `standard_plan` or `checked_plan` on two numbers.
 pub fn plan(rt: &HostRuntime, row: &[String]) -> Result<()> {
     let alloc = rt.alloc();
     let [every, polls] = row else {
         bail!("a plan has two numbers");
     };
-    let every: u16 = every.as_str().parse()?;
     let polls: u16 = polls.as_str().parse()?;
     refuse_growths(rt)?;
-    let made = standard_plan(alloc, every, polls).err();
+    let made = made_plan(alloc, every.as_str(), polls)?.err();
     allow_growths(rt)?;
     match made {
         Some(ToolErr::Memory) => {
             println!(rt; "answer Memory")?;
             println!(rt; "after same")?;
-            let again = standard_plan(alloc, every, polls).err();
+            let again = made_plan(alloc, every.as_str(), polls)?.err();
             println!(rt; "again {again:?}")?;
         }
         made => println!(rt; "answer {made:?}")?,
@@ -76,13 +86,13 @@ pub fn serve(rt: &HostRuntime, row: &[String]) -> Result<()> {
     let stream = octets_of(alloc, stream.as_str())?;
     let script = script_of(alloc, lines)?;
     let mut source = Input::new(stream.as_slice());
-    let mut sink = Room::of(rt, 1 << 20)?;
+    let mut sink = Room::new(alloc, 1 << 20)?;
     refuse_growths(rt)?;
-    let core = Reader::new(alloc, 65536, 1);
+    let core = Reader::new(alloc, MAX_LIMIT, 1);
     let end = run_serve(alloc, core, script, &mut source, &mut sink);
     allow_growths(rt)?;
     println!(rt; "answer {end:?}")?;
-    print_octets(rt, "wrote", sink.written())
+    print_octets(rt, "wrote", sink.taken())
 }
 
 /// Calls `run_inventory`: the first two words are the plan, and the third has the reader's bytes.
@@ -94,14 +104,14 @@ pub fn inventory(rt: &HostRuntime, row: &[String]) -> Result<()> {
     let stream = octets_of(alloc, stream.as_str())?;
     let plan = plan_of(alloc, every.as_str(), polls.as_str())?;
     let mut source = Input::new(stream.as_slice());
-    let mut sink = Room::of(rt, 1 << 20)?;
-    let mut report = Room::of(rt, 1 << 20)?;
+    let mut sink = Room::new(alloc, 1 << 20)?;
+    let mut report = Room::new(alloc, 1 << 20)?;
     refuse_growths(rt)?;
-    let end = run_inventory(alloc, plan, 65536, &mut source, &mut sink, &mut report);
+    let end = run_inventory(alloc, plan, MAX_LIMIT, &mut source, &mut sink, &mut report);
     allow_growths(rt)?;
     println!(rt; "answer {end:?}")?;
-    print_octets(rt, "wrote", sink.written())?;
-    print_octets(rt, "reported", report.written())
+    print_octets(rt, "wrote", sink.taken())?;
+    print_octets(rt, "reported", report.taken())
 }
 
 /// Calls `Serving::start`, and `Serving::feed` on each half of the client's bytes.
@@ -115,7 +125,7 @@ pub fn serving(rt: &HostRuntime, row: &[String]) -> Result<()> {
     let script = script_of(alloc, lines)?;
     let mut out = Vec::new(alloc);
     refuse_growths(rt)?;
-    let mut serving = Serving::new(alloc, Reader::new(alloc, 65536, 1), script);
+    let mut serving = Serving::new(alloc, Reader::new(alloc, MAX_LIMIT, 1), script);
     let started = serving.start(&mut out);
     let first = serving.feed(front, &mut out);
     let second = serving.feed(back, &mut out);
@@ -142,7 +152,7 @@ pub fn gathering(rt: &HostRuntime, row: &[String]) -> Result<()> {
     let mut out = Vec::new(alloc);
     let mut lines = Vec::new(alloc);
     refuse_growths(rt)?;
-    let mut gathering = Gathering::new(alloc, plan, 65536);
+    let mut gathering = Gathering::new(alloc, plan, MAX_LIMIT);
     let first = gathering.feed(front, &mut out, &mut lines);
     let second = gathering.feed(back, &mut out, &mut lines);
     allow_growths(rt)?;
@@ -164,12 +174,12 @@ pub fn epc(rt: &HostRuntime, row: &[String]) -> Result<()> {
     let [text] = row else {
         bail!("no text");
     };
-    let mut sink = Room::of(rt, 4096)?;
+    let mut sink = Room::new(alloc, 4096)?;
     refuse_growths(rt)?;
     let verdict = run_epc(alloc, text.as_str(), &mut sink);
     allow_growths(rt)?;
     println!(rt; "answer {verdict:?}")?;
-    print_octets(rt, "wrote", sink.written())
+    print_octets(rt, "wrote", sink.taken())
 }
 
 /// Prints what `bytes_of_hex` answered, and returns whether that was Memory.

@@ -1,6 +1,8 @@
 //! The calls on whole frames and on pieces of a stream.
 
-use crate::octets::{allow_growths, message_of, octets, print_octets, refuse_growths, spelled};
+use crate::octets::{
+    allow_growths, message_of, octets, octets_of, print_octets, refuse_growths, spelled,
+};
 use anyhow::{Context, Result, bail};
 use llrp_stream::{Decoder, FeedErr, Item};
 use llrp_tree::{FrameErr, MAX_LIMIT, Message, decode_frame, encode_into};
@@ -117,6 +119,32 @@ pub fn feed(rt: &HostRuntime, row: &[String]) -> Result<()> {
             println!(rt; "after held {held} {end:?} {later:?}")?;
         }
     }
+    Ok(())
+}
+
+/// Feeds a decoder the octets of the first word, the front of a frame whose fault they decide, and then, within the
+/// call, as many zeros as the second word says, which are the rest of the frame.
+pub fn skip(rt: &HostRuntime, row: &[String]) -> Result<()> {
+    let alloc = rt.alloc();
+    let [front, count] = row else {
+        bail!("a front and the number of octets that follow it");
+    };
+    let front = octets_of(alloc, front.as_str())?;
+    let mut rest = Vec::new(alloc);
+    rest.resize(count.parse::<usize>().ok().context("a number")?, 0)?;
+    let mut items = Vec::new(alloc);
+    items.reserve(2)?;
+    let mut decoder = Decoder::new(alloc, MAX_LIMIT);
+    let mut error = feed_all(&mut decoder, front.as_slice(), &mut items);
+    let held = decoder.held();
+    refuse_growths(rt)?;
+    if error.is_none() {
+        error = feed_all(&mut decoder, rest.as_slice(), &mut items);
+    }
+    allow_growths(rt)?;
+    print_items(rt, items)?;
+    let end = decoder.finish();
+    println!(rt; " held {held} {error:?} {end:?}")?;
     Ok(())
 }
 

@@ -45,7 +45,7 @@ fn event_of(alloc: Global, word: &str) -> Result<ReaderIn> {
     })
 }
 
-/// The moment and the event of a word, which stand before and after its `@`.
+/// The moment and the event of a word, before and after its `@`.
 fn moment_of(alloc: Global, word: &str) -> Result<(u64, ReaderIn)> {
     let (now, event) = word.split_once("@").context("a step without a moment")?;
     let now: u64 = now.parse()?;
@@ -58,7 +58,7 @@ pub fn step(rt: &HostRuntime, row: &[String]) -> Result<()> {
     let [before @ .., last] = row else {
         bail!("no step");
     };
-    let mut reader = Reader::new(alloc, 65536, 1);
+    let mut reader = Reader::new(alloc, MAX_LIMIT, 1);
     let mut out = Vec::new(alloc);
     for word in before {
         let (now, event) = moment_of(alloc, word.as_str())?;
@@ -114,6 +114,7 @@ fn command_of(alloc: Global, name: &str, rest: &str) -> Result<Command>
         "stop" => Ok(Command::Stop { id }),
         "enable" => Ok(Command::Enable { id }),
         "disable" => Ok(Command::Disable { id }),
+        "rospecs" => Ok(Command::GetRospecs),
         "keepalive" => Ok(Command::SetKeepalive { ms: id }),
         "report" => Ok(Command::GetReport),
         "close" => Ok(Command::Close),
@@ -130,6 +131,14 @@ fn print_taken(rt: &HostRuntime, taken: &Taken) -> Result<()> {
         Taken::Tags(tags) => {
             let count = tags.as_slice().len();
             print!(rt; "Tags {count}")?;
+        }
+        Taken::Table(rospecs) => {
+            let count = rospecs.as_slice().len();
+            print!(rt; "Table {count}")?;
+        }
+        Taken::Differs(rospecs) => {
+            let count = rospecs.as_slice().len();
+            print!(rt; "Differs {count}")?;
         }
         Taken::Event(id, state) => print!(rt; "Event {id} {state:?}")?,
         Taken::Note => print!(rt; "Note")?,
@@ -222,12 +231,16 @@ fn act(rt: &HostRuntime, client: &mut Client, word: &str, is_last: bool) -> Resu
     send(rt, client, command, is_last)
 }
 
-/// Calls `Client::take` or `Client::command` for each word.
+/// Calls `Client::take` or `Client::command` for each word after the first, which is the client's first id.
 pub fn client(rt: &HostRuntime, row: &[String]) -> Result<()> {
-    let [before @ .., last] = row else {
-        bail!("no word");
+    let [first_id, before @ .., last] = row else {
+        bail!("the words are the first id and the calls");
     };
-    let mut client = Client::new(rt.alloc(), 65536, 1);
+    let first_id: u32 = first_id.as_str().parse()?;
+    if first_id == 0 {
+        bail!("the first id is at least 1");
+    }
+    let mut client = Client::new(rt.alloc(), MAX_LIMIT, first_id);
     for word in before {
         act(rt, &mut client, word.as_str(), false)?;
     }

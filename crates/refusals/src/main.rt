@@ -1,6 +1,6 @@
 //! Makes one call and prints what it answered, for a test that refuses the call's requests for memory one after another.
 //!
-//! The first word names the call, and the others are its input. Only the call itself stands between the lines `@refuse`
+//! The first word names the call, and the others are its input. Only the call itself is made between the lines `@refuse`
 //! and `@ample` on standard output: making its input and printing its answer take memory too. The line `answer` has what
 //! the call answered. Where that is Memory, `after` says what state it left, and `again` what the same call then answers
 //! with enough memory.
@@ -23,6 +23,7 @@ fn main(rt: HostRuntime) -> Result<()> {
     match call.as_str() {
         "decode" => frames::decode(&rt, row),
         "feed" => frames::feed(&rt, row),
+        "skip" => frames::skip(&rt, row),
         "encode" => frames::encode(&rt, row),
         "clone" => frames::clone(&rt, row),
         "clone-node" => frames::clone_node(&rt, row),

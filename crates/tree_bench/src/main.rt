@@ -1,4 +1,4 @@
-//! Decodes a frame and encodes its message, each so many times, for a script that measures it.
+//! Decodes a frame and encodes its message, each a given number of times, for a script that measures it.
 //!
 //! The two words say how often; standard input is the frame, a line of hexadecimal digits.
 #![tactic(auto)]
@@ -13,7 +13,7 @@ use std::alloc::Global;
 use std::env;
 use tag_bits::get;
 
-/// The message of a frame, which is decoded so many times, and once at least.
+/// The message of a frame, which is decoded this many times, and once at least.
 fn decode_often(alloc: Global, frame: &[u8], times: u32) -> Result<Message>
     ensures { IfOk result (λ message. Frame message frame.now MAX_LIMIT) }
 {
@@ -28,7 +28,7 @@ fn decode_often(alloc: Global, frame: &[u8], times: u32) -> Result<Message>
     message.context("no message has the frame")
 }
 
-/// The frame of a message, which is encoded so many times, and once at least.
+/// The frame of a message, which is encoded this many times, and once at least.
 fn encode_often(alloc: Global, message: &Message, times: u32) -> Result<Vec<u8>>
     ensures { IfOk result (λ frame. Frame message.now frame.items MAX_LIMIT) }
 {

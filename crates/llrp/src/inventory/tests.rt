@@ -32,7 +32,7 @@ fn take(rt: &HostRuntime, said: &[u8]) -> Result<(Result<(), ToolErr>, Vec<u8>, 
     reader.write_all(said)?;
     reader.shutdown(Shutdown::Write)?;
     let mut report = Output::new(Vec::new(alloc));
-    let outcome = take_inventory(alloc, &stream, 0, 1, &mut report);
+    let outcome = take_inventory(alloc, &stream, 0, 1, false, &mut report);
     stream.shutdown(Shutdown::Write)?;
     let mut sent = Vec::new(alloc);
     reader.read_to_end(&mut sent)?;
@@ -68,14 +68,35 @@ fn no_reader_at_the_port(rt: HostRuntime) -> Result<(), Fail> {
     let found = inventory(
         &rt,
         alloc,
-        "127.0.0.1",
-        port,
+        Target {
+            host: "127.0.0.1",
+            port,
+            timeout: None,
+        },
         0,
         1,
+        false,
         &mut report,
         &mut errors,
     )?;
     assert!(rt; found == 3);
     assert!(rt; errors.into_inner().as_slice() == b"llrp: network\n".as_slice());
+    Ok(())
+}
+
+#[test]
+fn a_reader_that_says_nothing(rt: HostRuntime) -> Result<(), Fail> {
+    let alloc = rt.alloc();
+    let listener = TcpListener::bind(&rt, "127.0.0.1:0")?;
+    let target = Target {
+        host: "127.0.0.1",
+        port: listener.local_addr()?.port(),
+        timeout: Some(1),
+    };
+    let mut report = Progress::new(Output::new(Vec::new(alloc)), Some(Vec::new(alloc)));
+    let mut errors = Output::new(Vec::new(alloc));
+    let found = inventory(&rt, alloc, target, 0, 1, false, &mut report, &mut errors)?;
+    assert!(rt; found == 3);
+    assert!(rt; errors.into_inner().as_slice() == b"llrp: read\n".as_slice());
     Ok(())
 }

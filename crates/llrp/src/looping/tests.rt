@@ -10,14 +10,15 @@ const LINES: &[u8] =
 #[test]
 fn scripts_to_their_lines(rt: HostRuntime) -> Result<(), Fail> {
     let alloc = rt.alloc();
-    for (text, every, lines) in [
-        (SIGHTINGS, 2, LINES),
-        (b"".as_slice(), 0, b"= 0\ntotal 0 1\n".as_slice()),
+    for (text, every, check, lines) in [
+        (SIGHTINGS, 2, false, LINES),
+        (SIGHTINGS, 2, true, LINES),
+        (b"".as_slice(), 0, false, b"= 0\ntotal 0 1\n".as_slice()),
     ] {
         let script = Script::parse(alloc, text)?;
         let connection = Connection::open(&rt).ok_or("a connection")?;
         let mut report = Output::new(Vec::new(alloc));
-        assert!(rt; connection.run(alloc, script, every, 1, &mut report) == Ok(()));
+        assert!(rt; connection.run(alloc, script, every, 1, check, &mut report) == Ok(()));
         assert!(rt; report.into_inner().as_slice() == lines);
     }
     Ok(())
@@ -37,7 +38,16 @@ fn ends_and_their_statuses(rt: HostRuntime) -> Result<(), Fail> {
         let mut input = Input::new(text);
         let mut report = Progress::new(Output::new(Vec::new(alloc)), Some(Vec::new(alloc)));
         let mut errors = Output::new(Vec::new(alloc));
-        let found = run_both_ends(&rt, alloc, 0, 1, &mut input, &mut report, &mut errors)?;
+        let found = run_both_ends(
+            &rt,
+            alloc,
+            0,
+            1,
+            false,
+            &mut input,
+            &mut report,
+            &mut errors,
+        )?;
         assert!(rt; found == status);
         assert!(rt; errors.into_inner().as_slice() == line);
     }

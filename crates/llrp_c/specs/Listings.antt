@@ -1,0 +1,58 @@
+-- What the calls for listings write.
+use Rattle.std.specs.Prelude.{◌≡◌, ℕ, ◌<◌, ◌≤◌, ◌⊎◌, Bool, true, false, List, length, take, drop}
+use Rattle.tag_uri.specs.Room.{HasText}
+use Rattle.llrp_tree.specs.declared.TheConstants.{MAX_LIMIT}
+use Rattle.llrp_stream.specs.declared.item.Item.{Item}
+use Rattle.llrp_stream.specs.declared.item.End.{End}
+use Rattle.llrp_stream.specs.declared.item.End.TheVariants as at_end
+use Rattle.llrp_stream.specs.Cuts.{IsPartial}
+use Rattle.llrp_stream.specs.Items.{Items}
+use Rattle.llrp_listing.specs.declared.fault.Refusal.{Refusal}
+use Rattle.llrp_listing.specs.Encoding.{Encodes, Refuses}
+use Rattle.llrp_listing.specs.StreamListing.{IsStreamListing, is_lawful}
+use Rattle.llrp_c.specs.declared.status.Status.{Status}
+use Rattle.llrp_c.specs.declared.status.Status.TheVariants.{Done, Faulty, Broken, Room, Long, Memory}
+use Rattle.llrp_c.specs.Status.{code_of, status_of}
+
+-- the status of whole frames that are lawful, or aren't
+abbrev pub lawful_status : Bool → Status
+lawful_status true = Done
+lawful_status false = Faulty
+
+-- what is listed ends so, at this status: after whole frames less than a frame is left; a stream that breaks is listed to its end
+abbrev pub EndsAt : (stream : List ℕ) (used : ℕ) (items : List Item) → End → Status → Type 0
+EndsAt stream used items at_end.Clean status = IsPartial (drop used stream) × (status ≡ lawful_status (is_lawful items at_end.Clean))
+EndsAt stream used items at_end.Broken status = (used ≡ length stream) × (status ≡ Broken)
+EndsAt stream used items (at_end.Rest n) status = ⊥
+EndsAt stream used items at_end.Dead status = ⊥
+
+-- The text is the listing of a stream's first octets: of its whole frames, or of all of it where it breaks after them.
+pub record IsListing (stream : List ℕ) (used : ℕ) (text : List ℕ) (status : Status) : Type 0 where
+  pub within : used ≤ length stream
+  pub items : List Item
+  pub end : End
+  pub are : Items MAX_LIMIT (take used stream) items end
+  pub ends : EndsAt stream used items end status
+  pub is : IsStreamListing items end text
+
+-- The listing was written; or it has more octets than the room, and their number is returned; or memory ran out.
+abbrev pub Lists : (stream old new : List ℕ) (used count code : ℕ) → Type 0
+Lists stream old new used count code =
+    ((text : List ℕ) × (status : Status) × IsListing stream used text status × HasText old new 0 count text × (code ≡ code_of status))
+    ⊎ ((text : List ℕ) × (all : ℕ) × (status : Status) × IsListing stream all text status × (length old < length text) × (count ≡ length text)
+    × (new ≡ old) × (used ≡ 0) × (code ≡ code_of Room))
+    ⊎ ((new ≡ old) × (used ≡ 0) × (count ≡ 0) × (code ≡ code_of Memory))
+
+-- nothing was written
+abbrev pub IsUnwritten : (old new : List ℕ) (count line : ℕ) → Type 0
+IsUnwritten old new count line = (new ≡ old) × (count ≡ 0) × (line ≡ 0)
+
+-- The octets of the listing were written; or there are more than the room has, and their number is returned; or the listing is refused at
+-- this line, for this reason; or memory ran out, or the listing is too long.
+abbrev pub WritesOctets : (listing old new : List ℕ) (count line code : ℕ) → Type 0
+WritesOctets listing old new count line code =
+    ((octets : List ℕ) × Encodes MAX_LIMIT listing octets × HasText old new 0 count octets × (line ≡ 0) × (code ≡ code_of Done))
+    ⊎ ((octets : List ℕ) × Encodes MAX_LIMIT listing octets × (length old < length octets) × (count ≡ length octets)
+    × (new ≡ old) × (line ≡ 0) × (code ≡ code_of Room))
+    ⊎ ((reason : Refusal) × (octets : List ℕ) × Refuses MAX_LIMIT listing line reason octets × (new ≡ old) × (count ≡ 0) × (code ≡ code_of (status_of reason)))
+    ⊎ (IsUnwritten old new count line × ((code ≡ code_of Memory) ⊎ (code ≡ code_of Long)))

@@ -1,0 +1,58 @@
+-- What the calls for listings are made of.
+use Rattle.std.specs.Prelude.{◌≡◌, ℕ, ◌⊎◌, Bool, true, false, List}
+use Rattle.llrp_tree.specs.declared.TheConstants.{MAX_LIMIT}
+use Rattle.llrp_stream.specs.declared.item.Item.{Item}
+use Rattle.llrp_stream.specs.declared.item.End.{End}
+use Rattle.llrp_stream.specs.Items.{Items}
+use Rattle.llrp_listing.specs.declared.fault.ToolErr.{ToolErr}
+use Rattle.llrp_listing.specs.declared.fault.ToolErr.TheVariants.{Listing, Script, Hex, Read, Write, Bound, Memory, Broken, Peer, Strange, Early}
+use Rattle.llrp_listing.specs.declared.fault.Verdict.{Verdict}
+use Rattle.llrp_listing.specs.declared.fault.Verdict.TheVariants.{Lawful, Faulty}
+use Rattle.llrp_listing.specs.Encoding.{Refuses}
+use Rattle.llrp_listing.specs.Show.{verdict_of}
+use Rattle.llrp_listing.specs.StreamListing.{IsStreamListing, is_lawful}
+use Rattle.llrp_c.specs.declared.status.Status.{Status}
+use Rattle.llrp_c.specs.declared.status.Status.TheVariants as status
+use Rattle.llrp_c.specs.Status.{status_of}
+
+-- The text is the listing of the stream, and the verdict is the stream's.
+pub record HasListing (stream text : List ℕ) (verdict : Verdict) : Type 0 where
+  pub items : List Item
+  pub end : End
+  pub are : Items MAX_LIMIT stream items end
+  pub is : IsStreamListing items end text
+  pub verdict_is : verdict ≡ verdict_of (is_lawful items end)
+
+-- the status of a listing with this verdict, where the stream breaks after it or goes on
+abbrev pub listed_status : Bool → Verdict → Status
+listed_status true verdict = status.Broken
+listed_status false Lawful = status.Done
+listed_status false Faulty = status.Faulty
+
+-- why the octets of a listing in memory are not there
+abbrev pub EncodeFails : List ℕ → ToolErr → Type 0
+EncodeFails listing (Listing line reason) = (octets : List ℕ) × Refuses MAX_LIMIT listing line reason octets
+EncodeFails listing Write = Unit {0}
+EncodeFails listing Bound = Unit {0}
+EncodeFails listing Memory = Unit {0}
+EncodeFails listing Read = ⊥
+EncodeFails listing (Script line) = ⊥
+EncodeFails listing Hex = ⊥
+EncodeFails listing Broken = ⊥
+EncodeFails listing (Peer number) = ⊥
+EncodeFails listing Strange = ⊥
+EncodeFails listing Early = ⊥
+
+-- the line and the status that say why a listing has no octets
+abbrev pub Stops : ToolErr → ℕ → Status → Type 0
+Stops (Listing line reason) at ended = (at ≡ line) × (ended ≡ status_of reason)
+Stops Write at ended = (at ≡ 0) × (ended ≡ status.Memory)
+Stops Bound at ended = (at ≡ 0) × (ended ≡ status.Long)
+Stops Memory at ended = (at ≡ 0) × (ended ≡ status.Memory)
+Stops Read at ended = (at ≡ 0) × (ended ≡ status.Memory)
+Stops (Script line) at ended = (at ≡ 0) × (ended ≡ status.Memory)
+Stops Hex at ended = (at ≡ 0) × (ended ≡ status.Memory)
+Stops Broken at ended = (at ≡ 0) × (ended ≡ status.Memory)
+Stops (Peer number) at ended = (at ≡ 0) × (ended ≡ status.Memory)
+Stops Strange at ended = (at ≡ 0) × (ended ≡ status.Memory)
+Stops Early at ended = (at ≡ 0) × (ended ≡ status.Memory)

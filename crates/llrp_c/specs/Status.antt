@@ -1,0 +1,116 @@
+-- How a call of the library ends: the code that it returns, and the name of that code.
+use Rattle.std.specs.Prelude.{ℕ, ◌==◌, List, [], ◌∷◌, ◌++◌, Option, find, codes}
+use Rattle.tag_epc.specs.declared.fault.WordReason.{WordReason}
+use Rattle.tag_epc.specs.declared.fault.WordReason.TheVariants as word
+use Rattle.tag_epc.specs.Faults.{reason_name}
+use Rattle.tag_uri.specs.declared.fault.UriFault.{UriFault}
+use Rattle.tag_uri.specs.declared.fault.UriFault.TheVariants as uri
+use Rattle.tag_uri.specs.TagText.{fault_name}
+use Rattle.llrp_tree.specs.declared.node.NodeFault.{NodeFault}
+use Rattle.llrp_tree.specs.declared.node.NodeFault.TheVariants as node
+use Rattle.llrp_listing.specs.declared.fault.Refusal.{Refusal}
+use Rattle.llrp_listing.specs.declared.fault.Refusal.TheVariants as refusal
+use Rattle.llrp_listing.specs.Refused.{refusal_name}
+use Rattle.llrp_c.specs.declared.status.Status.{Status}
+use Rattle.llrp_c.specs.declared.status.Status.TheVariants.{Done, Faulty, Broken, Room, Length, Utf8, Long, Memory, Word, Uri, Line, Level, Name, Fields, Number, Tail, OverLimit, Node}
+
+-- the code of the part of a word that fails
+abbrev pub word_code : WordReason → ℕ
+word_code word.Header = 16
+word_code word.Partition = 17
+word_code word.Prefix = 18
+word_code word.Reference = 19
+word_code word.Zeros = 20
+
+-- the code of the rule that refuses a text
+abbrev pub uri_code : UriFault → ℕ
+uri_code uri.Start = 32
+uri_code uri.Scheme = 33
+uri_code uri.Parts = 34
+uri_code uri.Digit = 35
+uri_code uri.LeadingZero = 36
+uri_code uri.Filter = 37
+uri_code uri.Digits = 38
+uri_code uri.Range = 39
+uri_code uri.RawForm = 40
+uri_code uri.RawOfLawful = 41
+
+-- the code of the fault of a parameter or a message
+abbrev pub node_code : NodeFault → ℕ
+node_code node.FieldCount = 64
+node_code node.Value = 65
+node_code node.Tail = 66
+node_code node.Misplaced = 67
+node_code node.TooMany = 68
+node_code node.Missing = 69
+node_code node.TooDeep = 70
+node_code node.TooLong = 71
+
+-- the code of a status
+abbrev pub code_of : Status → ℕ
+code_of Done = 0
+code_of Faulty = 1
+code_of Broken = 2
+code_of Room = 3
+code_of Length = 4
+code_of Utf8 = 5
+code_of Long = 6
+code_of Memory = 7
+code_of (Word reason) = word_code reason
+code_of (Uri fault) = uri_code fault
+code_of Line = 48
+code_of Level = 49
+code_of Name = 50
+code_of Fields = 51
+code_of Number = 52
+code_of Tail = 53
+code_of OverLimit = 54
+code_of (Node fault) = node_code fault
+
+-- the name of a status
+abbrev pub name_of : Status → List ℕ
+name_of Done = codes "Ok"
+name_of Faulty = codes "Faulty"
+name_of Broken = codes "Broken"
+name_of Room = codes "Room"
+name_of Length = codes "Length"
+name_of Utf8 = codes "Utf8"
+name_of Long = codes "Long"
+name_of Memory = codes "Memory"
+name_of (Word reason) = reason_name reason
+name_of (Uri fault) = fault_name fault
+name_of Line = codes "Line"
+name_of Level = codes "Level"
+name_of Name = codes "Name"
+name_of Fields = codes "Fields"
+name_of Number = codes "Number"
+name_of Tail = codes "Tail"
+name_of OverLimit = codes "OverLimit"
+name_of (Node fault) = refusal_name (refusal.Node fault)
+
+-- the status of a refused line
+abbrev pub status_of : Refusal → Status
+status_of refusal.Line = Line
+status_of refusal.Level = Level
+status_of refusal.Name = Name
+status_of refusal.Fields = Fields
+status_of refusal.Number = Number
+status_of refusal.Tail = Tail
+status_of (refusal.Epc fault) = Uri fault
+status_of (refusal.Node fault) = Node fault
+status_of refusal.OverLimit = OverLimit
+
+-- every status
+unfoldable pub statuses : List Status
+statuses =
+    Done ∷ Faulty ∷ Broken ∷ Room ∷ Length ∷ Utf8 ∷ Long ∷ Memory ∷
+    Word word.Header ∷ Word word.Partition ∷ Word word.Prefix ∷ Word word.Reference ∷ Word word.Zeros ∷
+    Uri uri.Start ∷ Uri uri.Scheme ∷ Uri uri.Parts ∷ Uri uri.Digit ∷ Uri uri.LeadingZero ∷
+    Uri uri.Filter ∷ Uri uri.Digits ∷ Uri uri.Range ∷ Uri uri.RawForm ∷ Uri uri.RawOfLawful ∷
+    Line ∷ Level ∷ Name ∷ Fields ∷ Number ∷ Tail ∷ OverLimit ∷
+    Node node.FieldCount ∷ Node node.Value ∷ Node node.Tail ∷ Node node.Misplaced ∷
+    Node node.TooMany ∷ Node node.Missing ∷ Node node.TooDeep ∷ Node node.TooLong ∷ []
+
+-- the status with a code
+unfoldable pub status_with : ℕ → Option Status
+status_with code = find (λ status. code_of status == code) statuses

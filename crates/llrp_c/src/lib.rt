@@ -1,0 +1,21 @@
+//! The static library for C, and for every language that can call C: tags and their texts, listings of streams, and streams of
+//! listings, over lent octets and numbers alone. No call keeps anything between two calls.
+//!
+//! Use it from any language but Rattle, whose programs call the crates below. `include/llrp.h` declares the functions, and
+//! docs/library.md says how to link them. C passes a slice as a pointer and then a length, and nothing for an allocator. Each
+//! function here is thin: it calls the crates below, and says how that ended as a `Status`, whose code it returns.
+//!
+//! ```c
+//! uint8_t word[LLRP_WORD_OCTETS];
+//! uint32_t status = llrp_word_of_text(text, text_length, word, sizeof word);
+//! ```
+#![tactic(auto)]
+
+mod frames;
+pub mod laws;
+mod listings;
+mod names;
+mod octets;
+mod room;
+mod status;
+mod tags;

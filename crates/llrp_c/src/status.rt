@@ -1,0 +1,236 @@
+//! How a call ends.
+
+ghost use Rattle.std.specs.Prelude.{◌≡◌, ◌≤◌, length};
+ghost use Rattle.llrp_listing.specs.declared.fault.Refusal.TheVariants as refusal;
+ghost use Rattle.llrp_listing.specs.Refused.{refusal_name};
+ghost use Rattle.llrp_c.specs.Status.{code_of, name_of, node_code, status_of, status_with, uri_code, word_code};
+
+use llrp_listing::Refusal;
+use llrp_tree::NodeFault;
+use tag_epc::WordReason;
+use tag_uri::UriFault;
+
+/// How a call ends. Its code is a constant of `include/llrp.h`.
+#[derive(Clone, Copy)]
+pub enum Status {
+    /// Done.
+    Done,
+    /// Some frame is not a message.
+    Faulty,
+    /// A length field below 10 breaks the stream.
+    Broken,
+    /// The room is too small.
+    Room,
+    /// An argument has the wrong length.
+    Length,
+    /// The text is not UTF-8.
+    Utf8,
+    /// The listing is too long.
+    Long,
+    /// Memory ran out.
+    Memory,
+    /// A word has no tag URI, for this part.
+    Word(WordReason),
+    /// A text is not a word's, by this rule.
+    Uri(UriFault),
+    /// A line is not ended, is too long, or has a byte that is not printed.
+    Line,
+    /// A line's level is not allowed there.
+    Level,
+    /// A line's name is not allowed there.
+    Name,
+    /// A line has another number of words than its kind.
+    Fields,
+    /// A word of a line is not a number that is allowed there.
+    Number,
+    /// A line's last word is not a tail of its kind.
+    Tail,
+    /// A message is longer than 1,048,576 octets.
+    OverLimit,
+    /// A parameter or message is not lawful, for this reason.
+    Node(NodeFault),
+}
+
+/// The code of the part of a word that fails.
+fn word_code(reason: WordReason) -> u32
+    ensures { result ≡ word_code reason }
+{
+    match reason {
+        WordReason::Header => 16,
+        WordReason::Partition => 17,
+        WordReason::Prefix => 18,
+        WordReason::Reference => 19,
+        WordReason::Zeros => 20,
+    }
+}
+
+/// The code of the rule that refuses a text.
+fn uri_code(fault: UriFault) -> u32
+    ensures { result ≡ uri_code fault }
+{
+    match fault {
+        UriFault::Start => 32,
+        UriFault::Scheme => 33,
+        UriFault::Parts => 34,
+        UriFault::Digit => 35,
+        UriFault::LeadingZero => 36,
+        UriFault::Filter => 37,
+        UriFault::Digits => 38,
+        UriFault::Range => 39,
+        UriFault::RawForm => 40,
+        UriFault::RawOfLawful => 41,
+    }
+}
+
+/// The code of the fault of a parameter or a message.
+fn node_code(fault: NodeFault) -> u32
+    ensures { result ≡ node_code fault }
+{
+    match fault {
+        NodeFault::FieldCount => 64,
+        NodeFault::Value => 65,
+        NodeFault::Tail => 66,
+        NodeFault::Misplaced => 67,
+        NodeFault::TooMany => 68,
+        NodeFault::Missing => 69,
+        NodeFault::TooDeep => 70,
+        NodeFault::TooLong => 71,
+    }
+}
+
+/// The name of the fault of a parameter or a message, as the line of an error has it.
+fn node_name(fault: NodeFault) -> &'static str
+    ensures name { result.now ≡ refusal_name (refusal.Node fault) }
+    ensures most { length result.now ≤ 16 }
+{
+    match fault {
+        NodeFault::FieldCount => "Node FieldCount",
+        NodeFault::Value => "Node Value",
+        NodeFault::Tail => "Node Tail",
+        NodeFault::Misplaced => "Node Misplaced",
+        NodeFault::TooMany => "Node TooMany",
+        NodeFault::Missing => "Node Missing",
+        NodeFault::TooDeep => "Node TooDeep",
+        NodeFault::TooLong => "Node TooLong",
+    }
+}
+
+impl Status {
+    /// The status of a refused line.
+    pub fn of_refusal(reason: Refusal) -> Status
+        ensures { result ≡ status_of reason }
+    {
+        match reason {
+            Refusal::Line => Status::Line,
+            Refusal::Level => Status::Level,
+            Refusal::Name => Status::Name,
+            Refusal::Fields => Status::Fields,
+            Refusal::Number => Status::Number,
+            Refusal::Tail => Status::Tail,
+            Refusal::Epc(fault) => Status::Uri(fault),
+            Refusal::Node(fault) => Status::Node(fault),
+            Refusal::OverLimit => Status::OverLimit,
+        }
+    }
+
+    /// The code that a call returns.
+    pub fn code(self) -> u32
+        ensures { result ≡ code_of self }
+    {
+        match self {
+            Status::Done => 0,
+            Status::Faulty => 1,
+            Status::Broken => 2,
+            Status::Room => 3,
+            Status::Length => 4,
+            Status::Utf8 => 5,
+            Status::Long => 6,
+            Status::Memory => 7,
+            Status::Word(reason) => word_code(reason),
+            Status::Uri(fault) => uri_code(fault),
+            Status::Line => 48,
+            Status::Level => 49,
+            Status::Name => 50,
+            Status::Fields => 51,
+            Status::Number => 52,
+            Status::Tail => 53,
+            Status::OverLimit => 54,
+            Status::Node(fault) => node_code(fault),
+        }
+    }
+
+    /// The name of the status.
+    pub fn name(self) -> &'static str
+        ensures name { result.now ≡ name_of self }
+        ensures most { length result.now ≤ 16 }
+    {
+        match self {
+            Status::Done => "Ok",
+            Status::Faulty => "Faulty",
+            Status::Broken => "Broken",
+            Status::Room => "Room",
+            Status::Length => "Length",
+            Status::Utf8 => "Utf8",
+            Status::Long => "Long",
+            Status::Memory => "Memory",
+            Status::Word(reason) => reason.name(),
+            Status::Uri(fault) => fault.name(),
+            Status::Line => "Line",
+            Status::Level => "Level",
+            Status::Name => "Name",
+            Status::Fields => "Fields",
+            Status::Number => "Number",
+            Status::Tail => "Tail",
+            Status::OverLimit => "OverLimit",
+            Status::Node(fault) => node_name(fault),
+        }
+    }
+}
+
+/// The status with a code, if one has it.
+#[tactic(auto, unfolding(crate::specs::Status::status_with, crate::specs::Status::statuses))]
+pub fn status_with(code: u32) -> Option<Status>
+    ensures { result ≡ status_with code }
+{
+    match code {
+        0 => Some(Status::Done),
+        1 => Some(Status::Faulty),
+        2 => Some(Status::Broken),
+        3 => Some(Status::Room),
+        4 => Some(Status::Length),
+        5 => Some(Status::Utf8),
+        6 => Some(Status::Long),
+        7 => Some(Status::Memory),
+        16 => Some(Status::Word(WordReason::Header)),
+        17 => Some(Status::Word(WordReason::Partition)),
+        18 => Some(Status::Word(WordReason::Prefix)),
+        19 => Some(Status::Word(WordReason::Reference)),
+        20 => Some(Status::Word(WordReason::Zeros)),
+        32 => Some(Status::Uri(UriFault::Start)),
+        33 => Some(Status::Uri(UriFault::Scheme)),
+        34 => Some(Status::Uri(UriFault::Parts)),
+        35 => Some(Status::Uri(UriFault::Digit)),
+        36 => Some(Status::Uri(UriFault::LeadingZero)),
+        37 => Some(Status::Uri(UriFault::Filter)),
+        38 => Some(Status::Uri(UriFault::Digits)),
+        39 => Some(Status::Uri(UriFault::Range)),
+        40 => Some(Status::Uri(UriFault::RawForm)),
+        41 => Some(Status::Uri(UriFault::RawOfLawful)),
+        48 => Some(Status::Line),
+        49 => Some(Status::Level),
+        50 => Some(Status::Name),
+        51 => Some(Status::Fields),
+        52 => Some(Status::Number),
+        53 => Some(Status::Tail),
+        54 => Some(Status::OverLimit),
+        64 => Some(Status::Node(NodeFault::FieldCount)),
+        65 => Some(Status::Node(NodeFault::Value)),
+        66 => Some(Status::Node(NodeFault::Tail)),
+        67 => Some(Status::Node(NodeFault::Misplaced)),
+        68 => Some(Status::Node(NodeFault::TooMany)),
+        69 => Some(Status::Node(NodeFault::Missing)),
+        70 => Some(Status::Node(NodeFault::TooDeep)),
+        71 => Some(Status::Node(NodeFault::TooLong)),
+        _ => None,
+    }
+}
