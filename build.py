@@ -1,9 +1,10 @@
 #!/usr/bin/env python3
-"""Proves the crates that the program llrp stands on, and builds it: crates/llrp/out/llrp.
+"""Proves the crates of which the program llrp is made, and builds it: crates/llrp/out/llrp.
 
-Crates that do not wait for one another are proved side by side, one for each processor and for each 3 GB of free memory.
-What was proved before is kept, so only crates that changed and those above them are proved. How far it is goes to standard
-error: on a terminal one line that changes, else a line for each crate.
+Crates that do not wait for one another are proved side by side, each by one job, as many as there are processors and memory for
+(at most four). What was proved before is kept, so only crates that changed and those above them are proved. How far it is goes to
+standard error: on a terminal one line that changes, else a line for each crate. The status is 0 where the program is built, 1
+where it is not, and 128 and the signal's number where a signal ends it.
 """
 import os
 import re
@@ -15,7 +16,9 @@ import time
 
 TOP = os.path.dirname(os.path.realpath(__file__))
 PROGRAM = "llrp"
-MEMORY_OF_A_CHECK = 3 << 30
+# More were not tried, and each takes memory.
+MOST_JOBS = 4
+KILOBYTES_A_JOB = 3_000_000
 # The first line of an error in what a check prints: at a place in a file, or of a function that is not proved.
 ERROR = re.compile(r"^(\S+:\d+:\d+: )?error(\[[\w-]+\])?:|^fn \S+: (not proved|no proof)")
 
@@ -29,35 +32,18 @@ def dependencies():
 
 
 def below(crate, uses):
-    """Returns the crates that a crate stands on, each after those that it uses."""
+    """Returns the crates that a crate uses, each after those that it uses itself."""
     found = []
     for used in uses[crate]:
         found += [it for it in [*below(used, uses), used] if it not in found]
     return found
 
 
-def number_in(path):
-    """Returns the number that a file holds, or None."""
-    try:
-        with open(path, encoding="utf-8") as text:
-            return int(text.read())
-    except (OSError, ValueError):
-        return None
-
-
-def free_memory():
-    """Returns the free bytes of memory, of the machine and of the control group."""
-    with open("/proc/meminfo", encoding="utf-8") as text:
-        free = [1024 * int(re.search(r"MemAvailable:\s+(\d+)", text.read())[1])]
-    limit, used = (number_in(f"/sys/fs/cgroup/memory.{it}") for it in ("max", "current"))
-    if limit is not None and used is not None:
-        free.append(limit - used)
-    return min(free)
-
-
-def at_once():
-    """Returns how many crates to prove side by side."""
-    return max(1, min(len(os.sched_getaffinity(0)), free_memory() // MEMORY_OF_A_CHECK))
+def jobs():
+    """Returns how many crates are proved at a time."""
+    with open("/proc/meminfo", encoding="utf-8") as lines:
+        free = next(int(line.split()[1]) for line in lines if line.startswith("MemAvailable:"))
+    return max(1, min(MOST_JOBS, len(os.sched_getaffinity(0)), free // KILOBYTES_A_JOB))
 
 
 def clock(seconds):
@@ -68,7 +54,7 @@ class Progress:
     """Says which crates are being proved, and how long each took."""
 
     def __init__(self, crates, uses, most):
-        # (in this order they are begun, and at most so many at a time)
+        # (in this order they are begun)
         self.crates = sorted(crates, key=lambda it: len(below(it, uses)))
         self.uses, self.most, self.done = uses, most, []
         self.began, self.begun = time.monotonic(), {}
@@ -78,7 +64,7 @@ class Progress:
         if self.is_terminal:
             self.show()
         else:
-            sys.stderr.write(f"llrp: proving {len(crates)} crates, {most} side by side, and building the program\n")
+            sys.stderr.write(f"llrp: proving {len(crates)} crates, and building the program\n")
             sys.stderr.flush()
 
     def running(self):
@@ -91,7 +77,7 @@ class Progress:
             self.begun.setdefault(crate, time.monotonic())
 
     def read(self, line):
-        """Takes a line of the check of all crates: a line == and its name stands before what a crate's check wrote."""
+        """Takes a line of the check of all crates: a line == and its name comes before what a crate's check wrote."""
         if line.startswith("== "):
             self.end(is_new=False)
             self.last = line[3:]
@@ -224,15 +210,15 @@ def build(progress, runs):
 
 def main():
     uses = dependencies()
-    progress = Progress([*below(PROGRAM, uses), PROGRAM], uses, at_once())
+    progress = Progress([*below(PROGRAM, uses), PROGRAM], uses, jobs())
     runs = []
     for it in (signal.SIGINT, signal.SIGTERM, signal.SIGHUP):
         signal.signal(it, lambda number, _: sys.exit(128 + number))
     try:
-        return 0 if build(progress, runs) else 2
+        return 0 if build(progress, runs) else 1
     except FileNotFoundError as error:
         sys.stderr.write(f"llrp: {error.filename}: not found; the toolchain's command rt builds the program\n")
-        return 2
+        return 1
     finally:
         for it in runs:
             it.stop()

@@ -3,13 +3,15 @@
 # under callgrind for each of the seven schemes, for words without a tag URI and for a mix of the schemes,
 # and words a second of the mix. It is the difference of a process that turns all words over a few times
 # more than another, so reading the lines is not in it. So many words of each, 2,100 if no argument says
-# otherwise. The texts must give the words back.
+# otherwise. The texts must give the words back. A second argument is another program that does with its
+# standard input what `crates/epc_bench` does: its instructions are printed beside ours, in brackets.
 set -eu
 . "$(dirname "$0")/common.sh"
 count="${1:-2100}"
 turns=5
 crate="$top/crates/epc_bench"
 loop="$crate/out/epc_bench"
+other="${2:-}"
 
 # Words of a kind as lines of 24 digits, with numbers of all lengths: the company prefix has seven digits.
 make_words() {
@@ -29,25 +31,34 @@ make_words() {
     }'
 }
 
-# The lines of a file, to be turned over so many times.
+# The lines of a file, to be turned over this many times.
 with_turns() {
     echo "$1"
     cat "$2"
 }
 
-# The instructions of the loop over a file, turned over so many times.
+# The instructions of a program's loop over a file, turned over this many times.
 instructions() {
-    with_turns "$1" "$2" > "$work/input"
-    valgrind --tool=callgrind --callgrind-out-file=/dev/null "$loop" < "$work/input" 2>&1 > /dev/null |
+    with_turns "$2" "$3" > "$work/input"
+    valgrind --tool=callgrind --callgrind-out-file=/dev/null "$1" < "$work/input" 2>&1 > /dev/null |
         awk '/Collected/ { print $4 }'
 }
 
-# The instructions for each line of a file.
+# The instructions of a program for each line of a file.
 instructions_a_line() {
     local few many
-    few="$(instructions 1 "$1")"
-    many="$(instructions "$((1 + turns))" "$1")"
+    few="$(instructions "$1" 1 "$2")"
+    many="$(instructions "$1" "$((1 + turns))" "$2")"
     echo "$(((many - few) / turns / count))"
+}
+
+# Ours for each line of a file, and in brackets those of the other program, which must write the same lines.
+compared() {
+    instructions_a_line "$loop" "$1"
+    if [ -n "$other" ]; then
+        "$other" < "$1" 2> /dev/null | cmp - "$2"
+        echo "($(instructions_a_line "$other" "$1"))"
+    fi
 }
 
 # The lines a second of a file, from the seconds of 2,000 turns.
@@ -71,7 +82,8 @@ for kind in sgtin sscc sgln grai gdti gsrn gid raw mix; do
     "$loop" < "$work/words" > "$work/texts" 2> /dev/null
     "$loop" < "$work/texts" > "$work/back" 2> /dev/null
     cmp "$work/back" "$work/words"
-    printf '%-12s %14s %14s\n' "$kind" "$(instructions_a_line "$work/words")" "$(instructions_a_line "$work/texts")"
+    printf '%-12s %14s %14s\n' "$kind" "$(compared "$work/words" "$work/texts" | paste -sd ' ')" \
+        "$(compared "$work/texts" "$work/words" | paste -sd ' ')"
 done
 echo "mix, words to texts: $(lines_a_second "$work/words")"
 echo "mix, texts to words: $(lines_a_second "$work/texts")"

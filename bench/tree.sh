@@ -18,7 +18,7 @@ short_report() {
     printf '00F00022 8D3074257BF7194E40%08X 810001 86C4 82000000000000%04X 880001' "$1" "$1"
 }
 
-# The frame of so many reports, made by a function, of so many octets, on one line of digits.
+# The frame of this many reports, made by a function, each of this many octets, on one line of digits.
 make_frame() {
     {
         printf '043D%08X00000001' "$3"
@@ -29,7 +29,7 @@ make_frame() {
     echo
 }
 
-# The processor's seconds in the program and in the kernel, for so many decodes and so many encodes.
+# The processor's seconds in the program and in the kernel, for this many decodes and this many encodes.
 seconds() {
     local TIMEFORMAT='%U %S'
     { time "$top/crates/tree_bench/out/tree_bench" "$1" "$2" < "$work/frame" > "$work/output"; } 2>&1
@@ -44,7 +44,7 @@ print_rates() {
     }'
 }
 
-# The rates for a frame of so many reports, made by a function, of so many octets each; how often.
+# The rates for a frame of this many reports, made by a function, each of this many octets; how often.
 measure_frames() {
     local octets=$((10 + $2 * $3)) base
     echo "$2 reports, $octets octets, $4 times"

@@ -1,16 +1,27 @@
 # Completions of llrp for bash: source this file, or install it as bash-completion/completions/llrp.
 _llrp() {
     local word=${COMP_WORDS[COMP_CWORD]} words=
+    COMPREPLY=()
+    case ${COMP_WORDS[COMP_CWORD - 1]} in
+        # a file, which readline completes where nothing is found here
+        *'<' | *'>') return ;;
+        # a number
+        --limit | --every | --polls | --timeout)
+            compopt +o default
+            return
+            ;;
+    esac
     if [ "$COMP_CWORD" -eq 1 ]; then
-        words='show encode epc sim inventory loop help --help'
+        words='show encode epc sim inventory loop help --help --version'
     else
         case ${COMP_WORDS[1]} in
-            show | encode) words='--hex --help' ;;
-            inventory | loop) words='--every --polls --help' ;;
+            show | encode) words='--hex --limit --help' ;;
+            inventory) words='--every --polls --check --timeout --help' ;;
+            loop) words='--every --polls --check --help' ;;
             epc | sim) words='--help' ;;
             help) words='show encode epc sim inventory loop' ;;
         esac
     fi
     mapfile -t COMPREPLY < <(compgen -W "$words" -- "$word")
 }
-complete -F _llrp llrp
+complete -o default -F _llrp llrp

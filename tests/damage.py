@@ -1,5 +1,5 @@
 #!/usr/bin/env python3
-"""Reads frames that were cut or damaged, at once and octet by octet, and malicious nests.
+"""Reads frames that were cut or damaged, in pieces and octet by octet, and malicious nests.
 
 usage: tests/damage.py [PROGRAM]
 
@@ -13,8 +13,9 @@ import sys
 from refusing import TOP
 from vectors import octets_of, vectors
 
-# Frames up to this length are cut and changed at each octet.
+# Frames up to this length are cut and changed at each octet, longer ones cut at this many places at each end.
 LONGEST = 100
+PLACES = 40
 
 
 def header(kind, octets, number):
@@ -41,16 +42,55 @@ def longest_parameter():
     return header(61, 10 + len(tag), 1) + tag
 
 
+def report(*tags):
+    """Returns a RO_ACCESS_REPORT of tags, each of which is the octets of its parameters."""
+    data = b"".join(parameter(240, tag) for tag in tags)
+    return header(61, 10 + len(data), 1) + data
+
+
+def longest_message(more=0):
+    """Returns a report of 1,048,576 octets, and this many tags more."""
+    epc = octets_of("8D 3074257BF7194E4000001A85")
+    return report(*[epc] * (61677 + more), *[epc + octets_of("86C4")] * 3)
+
+
+def reports():
+    """Yields the name and the octets of long reports: one of 64 tags, and one of 65,536 octets."""
+    epc = octets_of("8D 3074257BF7194E4000001A85")
+    yield "a report of 64 tags", report(*[epc + octets_of("810001 86C4")] * 64)
+    yield "a report of 65,536 octets", report(*[epc] * 3850, *[epc + octets_of("86C4")] * 4)
+
+
+def unknown_parameter():
+    """Returns a report of 65,536 octets whose first parameter is of no known type."""
+    return header(61, 65536, 1) + octets_of("00BB0004") + bytes(65522)
+
+
+def places(octets):
+    """Returns at how many places a stream of this many octets is cut into two."""
+    return max(octets - 1, 0) if octets <= LONGEST else 2 * PLACES
+
+
 def rows():
     """Returns a name, what to do with a stream, the stream, and what it holds, where that is said."""
     for it in vectors():
         yield it.name, "same", it.stream, None
+        yield it.name, "pieces", it.stream, f"{places(len(it.stream))} places"
         if it.is_lawful and len(it.frames) == 1 and len(it.stream) <= LONGEST:
             yield it.name, "cuts", it.stream, None
             yield it.name, "changes", it.stream, None
-    yield "seven nested errors", "same", nested_errors(7), "message, Clean"
-    yield "eight nested errors", "same", nested_errors(8), "9 592 TooDeep, Clean"
-    yield "a report over the limit", "same", longest_parameter(), "1 16 MessageLength, Clean"
+    for name, octets in reports():
+        yield name, "same", octets, "message, Clean"
+        yield name, "pieces", octets, f"{2 * PLACES} places"
+    yield "a parameter of no known type", "same", unknown_parameter(), "1 86 ParamType, Clean"
+    yield "a parameter of no known type", "pieces", unknown_parameter(), f"{2 * PLACES} places"
+    yield "the deepest nest", "same", nested_errors(15), "message, Clean"
+    yield "the deepest nest", "cuts", nested_errors(15), None
+    yield "the deepest nest", "changes", nested_errors(15), None
+    yield "a nest that is too deep", "same", nested_errors(16), "9 1104 TooDeep, Clean"
+    yield "the longest parameter", "same", longest_parameter(), "message, Clean"
+    yield "the longest message", "same", longest_message(), "message, Clean"
+    yield "a message over the limit", "same", longest_message(1), "1 16 MessageLength, Clean"
     huge = header(61, 4294967295, 1) + header(62, 10, 7)
     yield "a frame of 4,294,967,295 octets", "same", huge, f"Rest({len(huge)})"
 
@@ -64,6 +104,8 @@ def failure(what, octets, wanted, told):
         return f"{told} in place of {wanted}"
     if what == "cuts" and told != [f"cuts {len(octets)}"]:
         return f"{told} in place of {len(octets)} fronts"
+    if what == "changes" and (len(told) != 1 or not told[0].startswith(f"changes {len(octets)} octets, ")):
+        return f"{told} in place of changes of {len(octets)} octets"
     return None
 
 

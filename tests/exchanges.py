@@ -1,22 +1,33 @@
 """The exchanges of the reader's and the client's tests, read from their source: for each step, the steps up to it."""
 import re
 
-from vectors import source
+from vectors import all_found, source
 
 EVENT = r'(Does::Connect|Does::Tick|Does::Seen\(\d+\)|Does::Take\("[^"]*"\)|[A-Z_]+)'
 STEP = r"CONNECTS|Step::Sends\(Request::\w+(?:\(\w+\))?|Step::Takes\(\w+|Step::Refuses|Step::Faults"
 # What the program refusals calls the commands whose names it does not take from the tests.
-COMMANDS = {"SetKeepalive": "keepalive", "GetReport": "report"}
+COMMANDS = {"SetKeepalive": "keepalive", "GetReport": "report", "GetRospecs": "rospecs"}
 
 
-def constants(text, form):
-    return {name: digits.replace(" ", "") for name, digits in re.findall(form, text)}
+def constants(text, form, kind):
+    """Returns the frames of the constants of this kind."""
+    found = re.findall(form, text)
+    all_found(f"constants of {kind}", found, len(re.findall(rf"(?m)^const \w+: {re.escape(kind)} =", text)))
+    return {name: digits.replace(" ", "") for name, digits in found}
 
 
 def exchanges(text):
-    """Yields the name and the source of each exchange."""
-    for body in re.findall(r"    Exchange \{(.*?)\n    \},", text, re.S):
-        yield re.search(r'name: "([^"]*)"', body)[1], body
+    """Returns the name and the source of each exchange: as many as the array that holds them is long."""
+    there = int(re.search(r"\[Exchange; (\d+)\]", text)[1])
+    bodies = all_found("exchanges", re.findall(r"    Exchange \{(.*?)\n    \},", text, re.S), there)
+    return [(re.search(r'name: "([^"]*)"', body)[1], body) for body in bodies]
+
+
+def all_steps(name, body, form, word):
+    """Returns what a form finds in an exchange; ends the script where it does not find each step that begins with the word."""
+    found = re.findall(form, body)
+    there = len(re.findall(word, body))
+    return all_found(f'steps of "{name}"', found, there) if there else []
 
 
 def fronts(name, call, words):
@@ -39,10 +50,10 @@ def event(term, known):
 def reader_rows():
     """Returns the rows of `Reader::step`: those of the tests, and tables and buffers of each size."""
     text = source("reader.rt")
-    known = constants(text, r'const (\w+): Does =\s*Does::Take\(\s*"([^"]*)",?\s*\);')
+    known = constants(text, r'const (\w+): Does =\s*Does::Take\(\s*"([^"]*)",?\s*\);', "Does")
     rows = []
     for name, body in exchanges(text):
-        steps = re.findall(r"Step::Sends\(\s*([\d_]+),\s*" + EVENT, body)
+        steps = all_steps(name, body, r"Step::Sends\(\s*([\d_]+),\s*" + EVENT, r"Step::Sends\b")
         rows += fronts(name, "step", [f"{now.replace('_', '')}@{event(term, known)}" for now, term in steps])
     started = ["0@connect", f"1@{known['ADD_POLLED']}", f"4@{known['ENABLE']}", f"5@{known['START']}"]
     for held in (0, 1, 2, 4, 8, 16, 32, 63, 64):
@@ -55,6 +66,7 @@ def reader_rows():
         rows.append((f"{count} ROSpecs", "step", added))
         rows.append((f"{count} ROSpecs, all enabled", "step", added + ["2@08180000000E0000000300000000"]))
         rows.append((f"{count} ROSpecs, all deleted", "step", added + ["2@08150000000E0000000300000000"]))
+        rows.append((f"{count} ROSpecs, all listed", "step", added + ["2@081A0000000A00000003"]))
     return rows
 
 
@@ -72,12 +84,13 @@ def command(term, known):
 
 
 def client_rows():
-    """Returns the rows of `Client::command` and `Client::take`: those exchanges of the tests whose first id is 1."""
+    """Returns the rows of `Client::command` and `Client::take`: the client's first id, and a front of an exchange."""
     text = source("client.rt")
-    known = constants(text, r'const (\w+): &str =\s*"([^"]*)";')
+    known = constants(text, r'const (\w+): &str =\s*"([^"]*)";', "&str")
     rows = []
     for name, body in exchanges(text):
-        if "first_id: 1," in body:
-            words = [command(term, known) for term in re.findall(STEP, body)]
-            rows += fronts(name, "client", [word for word in words if word is not None])
+        first_id = re.search(r"first_id: ([\d_]+),", body)[1].replace("_", "")
+        words = [command(term, known) for term in all_steps(name, body, STEP, r"\bStep::(?!Views)|\bCONNECTS\b")]
+        done = [word for word in words if word is not None]
+        rows += [(row, call, [first_id, *front]) for row, call, front in fronts(name, "client", done)]
     return rows

@@ -1,6 +1,6 @@
 #!/usr/bin/env python3
-"""Runs the program llrp over devices that fail: a standard output that is closed, full or closes early, and peers that close,
-reset or pause the connection after each octet of a whole exchange.
+"""Runs the program llrp over devices that fail: a standard output that is closed, full or closes early, peers that close, reset or
+pause the connection after each octet of a whole exchange, readers that fall silent, and terminals.
 
 usage: tests/failing_devices.py [PROGRAM]
 
@@ -11,10 +11,12 @@ wrote is a front of what it writes without failure, and no tag line is lost or d
 import concurrent.futures
 import itertools
 import os
+import pty
 import socket
 import struct
 import subprocess
 import sys
+import termios
 import time
 
 TOP = os.path.dirname(os.path.dirname(os.path.realpath(__file__)))
@@ -24,11 +26,8 @@ LONGEST, PAUSE = 20, 0.02
 AT_ONCE = 4
 
 # An exchange of three sightings, reported after two and when they are asked for (LLRP 1.1, section 17.1).
-SCRIPT = b"""\
-3 1000 seen 1 -60 urn:epc:tag:sgtin-96:3.0614141.812345.6789
-3 2000 seen 1 -61 urn:epc:tag:sscc-96:0.0614141.0000000001
-3 3000 seen 2 -62 urn:epc:tag:gid-96:1.2.3
-"""
+with open(os.path.join(TOP, "examples/inventory.script"), "rb") as file:
+    SCRIPT = file.read()
 FIRST_LINES = b"""\
 urn:epc:tag:sgtin-96:3.0614141.812345.6789 1 -60
 urn:epc:tag:sscc-96:0.0614141.0000000001 1 -61
@@ -185,7 +184,7 @@ def read_to_end(peer):
     return said
 
 
-def read_so_many(peer, count):
+def read_count(peer, count):
     said = b""
     while len(said) < count and (piece := peer.recv(4096)):
         said += piece
@@ -193,7 +192,7 @@ def read_so_many(peer, count):
 
 
 def whole_frames(frames, count):
-    """Returns how many of the frames are whole in the first so many octets."""
+    """Returns how many of the frames are whole in the first `count` octets."""
     place = number = 0
     for frame in frames:
         place += len(octets([frame]))
@@ -202,14 +201,14 @@ def whole_frames(frames, count):
 
 
 def lines_after(count):
-    """Returns the lines of the reports that are whole in the first so many octets from the reader."""
+    """Returns the lines of the reports that are whole in the first `count` octets from the reader."""
     number = whole_frames(ANSWERS, count)
     lines = FIRST_LINES * (number > FIRST_REPORT) + SECOND_LINES * (number > SECOND_REPORT)
     return lines + TOTAL_LINE * (number == len(ANSWERS))
 
 
 def asked_after(count):
-    """Returns the requests that a client has sent once it took so many octets: one at the connection and at each answer
+    """Returns the requests that a client has sent once it took `count` octets: one at the connection and at each answer
     that leads on; the first report leads on from GET_REPORT."""
     number = whole_frames(ANSWERS, count)
     leading = [0, 1, 2, 3, FIRST_REPORT, 8, 9]
@@ -226,7 +225,7 @@ def connect(port, run):
             if run.poll() is not None:
                 return None
             time.sleep(0.002)
-    raise TimeoutError("nobody listens")
+    raise TimeoutError("nothing listens")
 
 
 # Ports for `sim`, each used once.
@@ -260,7 +259,7 @@ def listening(program):
 
 
 def serve(program, count, how):
-    """Runs `sim`; its client sends so many octets, and then closes, resets or pauses. Returns how it ended, what the
+    """Runs `sim`; its client sends `count` octets, and then closes, resets or pauses. Returns how it ended, what the
     client met, and what the script's reader has to say to the whole frames."""
     run, peer = listening(program)
     peer.sendall(UP[:count])
@@ -279,7 +278,7 @@ def serve(program, count, how):
 
 
 def said_after(count):
-    """Returns what the reader says to the first so many octets of a client: its frames by the request that they follow."""
+    """Returns what the reader says to the first `count` octets of a client: its frames by the request that they follow."""
     by_request = [1, 1, 1, 3, 1, 2, 1, 1]
     number = whole_frames(REQUESTS, count)
     return octets(ANSWERS[: sum(by_request[: number + 1])])
@@ -297,7 +296,7 @@ def serves_well(program, count, how):
 
 
 def take_inventory(program, count, how):
-    """Runs `inventory`; its reader sends so many octets, and then closes, resets or pauses. Returns how it ended, and what
+    """Runs `inventory`; its reader sends `count` octets, and then closes, resets or pauses. Returns how it ended, and what
     the client sent."""
     with socket.create_server(("127.0.0.1", 0)) as listener:
         words = ["inventory", "127.0.0.1", str(listener.getsockname()[1]), "--every", "2"]
@@ -307,7 +306,7 @@ def take_inventory(program, count, how):
         peer.settimeout(LONGEST)
         peer.sendall(DOWN[:count])
         if how == "resets":
-            sent = read_so_many(peer, len(asked_after(count)))
+            sent = read_count(peer, len(asked_after(count)))
             time.sleep(PAUSE)
             reset(peer)
         else:
@@ -369,8 +368,57 @@ def inventory_over(program, device):
         return (status, err) == (3, b"llrp: write\n") and UP.startswith(sent)
 
 
+def inventory_of_silence(program, count):
+    """Runs `inventory --timeout 1` with a reader that says `count` octets and then nothing, with the connection open."""
+    with socket.create_server(("127.0.0.1", 0)) as listener:
+        words = ["inventory", "127.0.0.1", str(listener.getsockname()[1]), "--every", "2", "--timeout", "1"]
+        run = start(program, words)
+        listener.settimeout(LONGEST)
+        peer, _ = listener.accept()
+        with peer:
+            peer.sendall(DOWN[:count])
+            status, out, err = end(run)
+        return (status, out, err) == (3, lines_after(count), b"llrp: read\n")
+
+
+def in_terminal(program, words, given):
+    """Runs the program with a terminal as standard input and standard error, at which somebody types, and returns its status, its
+    output, and what the terminal shows but what was typed."""
+    screen, terminal = pty.openpty()
+    modes = termios.tcgetattr(terminal)
+    modes[3] &= ~termios.ECHO
+    termios.tcsetattr(terminal, termios.TCSANOW, modes)
+    run = subprocess.Popen([program, *words], stdin=terminal, stdout=subprocess.PIPE, stderr=terminal)
+    os.write(screen, given + b"\x04")
+    out, _ = run.communicate(timeout=LONGEST)
+    os.close(terminal)
+    shown = b""
+    try:
+        while piece := os.read(screen, 4096):
+            shown += piece
+    except OSError:
+        pass  # (how a terminal ends that no one else has open)
+    os.close(screen)
+    return run.returncode, out, shown.replace(b"\r\n", b"\n")
+
+
+def terminal_runs(program):
+    """Yields whether `show` and `encode` say once that they wait for input, and only to a person."""
+    waiting = b"llrp: waiting for input on this terminal; Ctrl-D ends it\n"
+    listing, digits = b"0 KEEPALIVE 2 7\n", b"083E0000000A00000007\n"
+    yield "show in a terminal", in_terminal(program, ["show", "--hex"], digits) == (0, listing, waiting)
+    yield "encode in a terminal", in_terminal(program, ["encode", "--hex"], listing) == (0, digits, waiting)
+    yield "loop in a terminal", b"waiting" not in in_terminal(program, ["loop"], b"")[2]
+    yield "help in a terminal", in_terminal(program, ["show", "--help"], b"")[2] == b""
+    run = start(program, ["show", "--hex"])
+    yield "show in a pipe", end(run, digits) == (0, listing, b"")
+
+
 def all_runs(program):
     yield from output_runs(program)
+    yield from terminal_runs(program)
+    for count in (0, 5, len(DOWN) // 2):
+        yield f"inventory of a reader that is silent after {count} octets", is_well(inventory_of_silence, program, count)
     for device in ("closed", "full"):
         yield f"inventory, its output {device}", is_well(inventory_over, program, device)
     yield from peer_runs(program)

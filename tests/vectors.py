@@ -1,6 +1,7 @@
-"""The rows of the tests written in Rattle, read from their source, so that each stands in one place."""
+"""The rows of the tests written in Rattle, read from their source, so that each is written once."""
 import os
 import re
+import sys
 from typing import NamedTuple
 
 from refusing import TOP
@@ -37,12 +38,21 @@ def source(name):
         return file.read()
 
 
+def all_found(what, found, there):
+    """Returns what was found in a source; ends the script where that is not all that is there, or nothing is."""
+    if len(found) != there or not found:
+        sys.exit(f"WRONG: {len(found)} of {there} {what} were read from the tests' source")
+    return found
+
+
 def octets_of(digits):
     return bytes.fromhex(digits.replace(" ", ""))
 
 
 def vectors():
-    """Returns the conformance vectors."""
+    """Returns the conformance vectors: as many as the arrays that hold them are long."""
+    text = source("vectors.rt") + source("exchanged.rt")
     form = r'name: "([^"]*)",\s*stream: "([^"]*)",\s*listing: "((?:[^"\\]|\\.)*)"'
-    found = re.findall(form, source("vectors.rt"))
+    there = sum(int(it) for it in re.findall(r"\[Vector; (\d+)\]", text))
+    found = all_found("vectors", re.findall(form, text), there)
     return [Vector(name, octets_of(stream), listing.encode().decode("unicode_escape")) for name, stream, listing in found]

@@ -1,0 +1,136 @@
+/* llrp.h: tags of the EPC Tag Data Standard 1.13 and messages of the Low Level Reader Protocol 1.1, as texts and as octets.
+ *
+ * The functions are those of the static library libllrp_c.a (docs/library.md says how to build and link it). They are proved to do
+ * what is said here, for every content of what they are given, if the caller keeps to these rules:
+ *
+ *  - A pointer that is followed by a length points to that many octets; no pointer is null, not even for a length of 0.
+ *  - What a call writes to does not overlap anything else that is passed to it.
+ *  - Texts are octets with a length. No zero octet ends them, neither those that are passed nor those that are written.
+ *
+ * No call keeps anything between two calls, so calls from several threads need no lock. llrp_list and llrp_encode take memory by
+ * malloc, and free it before they return; the others take none. Lengths are counted in octets, bits from 0, and bit 0 is the most
+ * significant one of the first octet.
+ */
+#ifndef LLRP_H
+#define LLRP_H
+
+#include <stddef.h>
+#include <stdint.h>
+
+#ifdef __cplusplus
+extern "C" {
+#endif
+
+/* How many octets a tag's word has, and the room for each text of a word and for each name of a status. */
+#define LLRP_WORD_OCTETS 12
+#define LLRP_TEXT_ROOM 64
+#define LLRP_NAME_ROOM 16
+
+/* The greatest message: a longer frame is listed as a fault, and a longer message of a listing is refused. */
+#define LLRP_MOST_OCTETS 1048576
+
+/* How a call ends. */
+enum llrp_status {
+    LLRP_OK = 0,
+    LLRP_FAULTY = 1, /* some frame is no message; the listing says which, and why */
+    LLRP_BROKEN = 2, /* a length field below 10: no frame can be found there, nor after it */
+    LLRP_ROOM = 3,   /* the room is too small */
+    LLRP_LENGTH = 4, /* an argument has another length than the call wants */
+    LLRP_UTF8 = 5,   /* the text is not UTF-8 */
+    LLRP_LONG = 6,   /* the listing is too long: more than 1,000,000 pieces of 4,096 octets */
+    LLRP_MEMORY = 7, /* memory ran out */
+
+    /* Why a word has no tag URI: the part that fails (docs/errors.md). */
+    LLRP_HEADER = 16,    /* the first eight bits are no scheme's */
+    LLRP_PARTITION = 17, /* the partition value is 7 */
+    LLRP_PREFIX = 18,    /* the company prefix has too many digits */
+    LLRP_REFERENCE = 19, /* the reference has too many digits */
+    LLRP_ZEROS = 20,     /* bits that must be zero are not */
+
+    /* The first rule that refuses a tag URI or a raw URI. */
+    LLRP_START = 32,
+    LLRP_SCHEME = 33,
+    LLRP_PARTS = 34,
+    LLRP_DIGIT = 35,
+    LLRP_LEADING_ZERO = 36,
+    LLRP_FILTER = 37,
+    LLRP_DIGITS = 38,
+    LLRP_RANGE = 39,
+    LLRP_RAW_FORM = 40,
+    LLRP_RAW_OF_LAWFUL = 41,
+
+    /* Why a line of a listing is refused by itself; a rule above, where it is the text of an EPC-96. */
+    LLRP_LINE = 48,
+    LLRP_LEVEL = 49,
+    LLRP_NAME = 50,
+    LLRP_FIELDS = 51,
+    LLRP_NUMBER = 52,
+    LLRP_TAIL = 53,
+
+    /* Why the message or parameter of a line, with all below it, is refused. */
+    LLRP_OVER_LIMIT = 54,
+    LLRP_NODE_FIELD_COUNT = 64,
+    LLRP_NODE_VALUE = 65,
+    LLRP_NODE_TAIL = 66,
+    LLRP_NODE_MISPLACED = 67,
+    LLRP_NODE_TOO_MANY = 68,
+    LLRP_NODE_MISSING = 69,
+    LLRP_NODE_TOO_DEEP = 70,
+    LLRP_NODE_TOO_LONG = 71
+};
+
+/* Writes the text of a tag's word to text, its length to *count, and 0 to *bit: the tag URI, as
+ * urn:epc:tag:sgtin-96:3.0614141.812345.6789.
+ *
+ * word         the twelve octets of the word, the first the most significant
+ * word_length  LLRP_WORD_OCTETS
+ * text         room for the text; octets after it stay as they were
+ * text_room    at least LLRP_TEXT_ROOM
+ *
+ * LLRP_OK, or one of LLRP_HEADER to LLRP_ZEROS where the word has no tag URI: then its raw URI is written, and *bit is the first bit
+ * of the part of the word that fails. LLRP_LENGTH and then LLRP_ROOM, where a length is wrong; nothing is written. */
+uint32_t llrp_text_of_word(const uint8_t *word, size_t word_length, uint8_t *text, size_t text_room, size_t *count, uint32_t *bit);
+
+/* Writes the twelve octets of the word of a text to word.
+ *
+ * text         a tag URI, or the raw URI of a word that has no tag URI
+ * word         room for the word
+ * word_length  LLRP_WORD_OCTETS
+ *
+ * LLRP_OK, or the first rule that refuses the text, LLRP_START to LLRP_RAW_OF_LAWFUL. LLRP_LENGTH where word_length is another, and
+ * then LLRP_UTF8 where the text is not UTF-8. Nothing is written unless the status is LLRP_OK. */
+uint32_t llrp_word_of_text(const uint8_t *text, size_t text_length, uint8_t *word, size_t word_length);
+
+/* Writes the length of the first frame of a stream to *count, or 0 where the stream has fewer than the six octets that say so. The
+ * frame is whole once the stream has *count octets. A length may be up to 4,294,967,295; a caller that does not want to keep that much
+ * ends a connection whose frames are longer than LLRP_MOST_OCTETS.
+ *
+ * LLRP_OK, or LLRP_BROKEN where the length is below 10, and *count is 0. */
+uint32_t llrp_frame_length(const uint8_t *stream, size_t stream_length, size_t *count);
+
+/* Writes the listing of the frames that are whole in a stream to listing, as `llrp show` prints it, its length to *written, and how
+ * many octets the frames have to *used. Keep the octets after these, and pass them again with what comes after them.
+ *
+ * LLRP_OK where each frame is a message's, and LLRP_FAULTY where some are not. LLRP_BROKEN where a length field below 10 comes after
+ * the whole frames: their listing ends with the line ! BROKEN, and all of the stream is used.
+ * LLRP_ROOM where the listing is longer than the room: nothing is written to listing, *used is 0, and *written is the room that the
+ * listing needs; call again with that much, or with fewer octets of the stream. LLRP_MEMORY: nothing is written, both counts are 0. */
+uint32_t llrp_list(const uint8_t *stream, size_t stream_length, uint8_t *listing, size_t listing_room, size_t *used, size_t *written);
+
+/* Writes the octets of the messages of a listing, as `llrp encode` does, to octets, how many they are to *written, and 0 to *line.
+ *
+ * LLRP_OK, or the first reason for which the listing is refused, LLRP_START to LLRP_RAW_OF_LAWFUL or LLRP_LINE to LLRP_NODE_TOO_LONG,
+ * and *line is its line, counted from 1; nothing is written to octets, and *written is 0.
+ * LLRP_ROOM where there are more octets than the room has: nothing is written to octets, and *written is the room that they need.
+ * LLRP_LONG and LLRP_MEMORY: nothing is written, *written and *line are 0. */
+uint32_t llrp_encode(const uint8_t *listing, size_t listing_length, uint8_t *octets, size_t octets_room, size_t *written, uint64_t *line);
+
+/* Writes the name of a status to name, as LeadingZero or Node Missing, and returns its length. name_room is at least LLRP_NAME_ROOM;
+ * where it is smaller, or no status has the code, nothing is written and 0 is returned. docs/errors.md explains the names. */
+size_t llrp_name(uint32_t status, uint8_t *name, size_t name_room);
+
+#ifdef __cplusplus
+}
+#endif
+
+#endif
