@@ -1,4 +1,4 @@
-//! How a run ends whose memory ran out before there was a command to say so.
+//! Ends a run whose memory ran out before its command was known.
 
 ghost use Rattle.std.specs.Prelude.{◌<◌, ◌^◌};
 ghost use Rattle.llrp.specs.Ending.{EndsWithoutMemory};
@@ -6,7 +6,8 @@ ghost use Rattle.llrp.specs.Ending.{EndsWithoutMemory};
 use crate::network::FAILED;
 use llrp_tool::{Sink, ToolErr, answer};
 
-/// Writes the line for refused memory to `e`, and gives the exit status, which is the same where that write fails.
+/// Writes the error line of memory that ran out to `e`, and returns the exit status, which is the
+/// same if that write fails.
 pub fn end_without_memory<E: Sink>(e: &mut E) -> u8
     requires { (E.log e.old).failures < 2 ^ 63 }
     ensures { EndsWithoutMemory (E.log e.old) (E.log e.new) result }

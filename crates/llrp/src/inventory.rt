@@ -11,17 +11,17 @@ use std::io::Write;
 use std::net::{Net, TcpListener, TcpStream, ToSocketAddrs};
 use std::time::Duration;
 
-/// The reader whose tags are asked for.
+/// The reader to ask for its tags.
 #[derive(Clone, Copy)]
 pub struct Target<'a> {
     pub host: &'a str,
     pub port: u16,
-    /// For how many seconds it may be silent; `None` is for ever.
+    /// For how many seconds it may be silent; `None` means without end.
     pub timeout: Option<u16>,
 }
 
-/// Follows the plan of the two numbers, checked or not, with the reader at the stream's other end. The
-/// lines of the tags go to `report`.
+/// Follows a plan with these two numbers, with a check or without, with the reader at the other end
+/// of the stream. Writes the lines of tags to `report`.
 pub fn take_inventory<W: Sink>(
     alloc: Global,
     stream: &TcpStream,
@@ -40,8 +40,8 @@ pub fn take_inventory<W: Sink>(
     Ok(())
 }
 
-/// A connection to the first address that the host's name has. Where there is a timeout, the connection is given up after it,
-/// and each read fails that gets nothing in that time. `None` is a network that failed.
+/// Connects to the first address of the host's name. If there is a timeout, connecting is given up
+/// after it, and so is each read that gets nothing. `None` means that the network failed.
 fn connect<N: Net<Listener = TcpListener, Stream = TcpStream>>(
     net: &N,
     target: Target<'_>,
@@ -57,9 +57,9 @@ fn connect<N: Net<Listener = TcpListener, Stream = TcpStream>>(
     Some(stream)
 }
 
-/// Follows the plan of the two numbers, checked or not, with the reader, and gives the exit status: 0
-/// where all is fine, 1 where the reader is at fault, 3 where the network, a device or memory failed. The
-/// lines of the tags go to `report`. An error is written to `e` as a line.
+/// Follows a plan with these two numbers, with a check or without, with the reader, and returns the
+/// exit status: 0 if all is well, 1 if the reader is at fault, 3 if the network, a device or memory
+/// failed. Writes the lines of tags to `report`, and an error as a line to `e`.
 pub fn inventory<
     N: Net<Listener = TcpListener, Stream = TcpStream>,
     W: Sink + Drop,

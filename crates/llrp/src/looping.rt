@@ -1,4 +1,5 @@
-//! The command `loop`: a simulated reader and a client over one TCP connection of the program to itself.
+//! The command `loop`: a simulated reader and a client over one TCP connection from the program to
+//! itself.
 
 ghost use Rattle.std.specs.Prelude.{◌<◌, ◌^◌, IfErr};
 ghost use Rattle.llrp_stream.specs.Device.{IsFreshSource};
@@ -20,7 +21,7 @@ struct Connection {
 }
 
 impl Connection {
-    /// A connection of the program to itself. `None` is a network that failed.
+    /// Opens a connection from the program to itself. `None` means that the network failed.
     fn open<N: Net<Listener = TcpListener, Stream = TcpStream>>(net: &N) -> Option<Connection> {
         let listener = TcpListener::bind(net, ("127.0.0.1", 0)).ok()?;
         let client = TcpStream::connect(net, listener.local_addr().ok()?).ok()?;
@@ -28,8 +29,9 @@ impl Connection {
         Some(Connection { client, reader })
     }
 
-    /// A simulated reader that acts by the script serves at one end the client that follows the plan of
-    /// the two numbers, checked or not, at the other. The lines of the tags go to `report`.
+    /// Lets a simulated reader that acts by the script serve, at one end, a client that follows a
+    /// plan with these two numbers, with a check or without, at the other. Writes the lines of tags
+    /// to `report`.
     fn run<W: Sink>(
         &self,
         alloc: Global,
@@ -66,7 +68,7 @@ impl Connection {
     }
 }
 
-/// Runs both ends by the script. `None` is a network that failed.
+/// Runs both ends by the script. `None` means that the network failed.
 fn run_script<N: Net<Listener = TcpListener, Stream = TcpStream>, W: Sink + Drop, T: Write + Drop>(
     net: &N,
     alloc: Global,
@@ -86,10 +88,10 @@ fn run_script<N: Net<Listener = TcpListener, Stream = TcpStream>, W: Sink + Drop
     Some(outcome)
 }
 
-/// Reads the script, runs a simulated reader by it and a client that follows the plan of the two numbers,
-/// checked or not, and gives the exit status: 0 where all is fine, 1 where the script is at fault or the
-/// plan came to no end, 3 where the network, a device or memory failed. The lines of the tags go to
-/// `report`. An error is written to `e` as a line.
+/// Reads the script, runs a simulated reader by it and a client that follows a plan with these two
+/// numbers, with a check or without, and returns the exit status: 0 if all is well, 1 if the script
+/// is at fault or the plan did not come to its end, 3 if the network, a device or memory failed.
+/// Writes the lines of tags to `report`, and an error as a line to `e`.
 pub fn run_both_ends<
     N: Net<Listener = TcpListener, Stream = TcpStream>,
     R: Source,

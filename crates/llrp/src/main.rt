@@ -1,5 +1,5 @@
-//! The program `llrp`: hands its words and its standard streams to the command line's library, and
-//! ends with the status that it gives. The commands over sockets it runs itself.
+//! The program `llrp`: passes its words and its standard streams to the library of the command
+//! line, and exits with the status that this returns. It runs the commands over sockets itself.
 #![tactic(auto)]
 
 mod ending;
@@ -22,15 +22,15 @@ use std::fs::File;
 use std::io::{ErrorKind, IsTerminal};
 use std::process::ExitCode;
 
-/// What is written where an argument is not UTF-8.
+/// What is written if an argument is not UTF-8.
 const NOT_UTF8: &[u8] = b"error: invalid UTF-8 was detected in one or more arguments\n";
 
-/// What a person at a terminal reads who gives no input.
+/// What a person at a terminal reads when a command waits for input.
 const WAITING: &[u8] = b"llrp: waiting for input on this terminal; Ctrl-D ends it\n";
 
-/// Opens a directory as often as there are standard streams. Where one of these is closed, a directory takes its
-/// descriptor, which the next socket would have: so a read or write of that stream fails, and does not go over the
-/// connection.
+/// Opens a directory once for each standard stream. If one of these is closed, a directory gets its
+/// descriptor, which the next socket would otherwise get: so reads and writes of that stream fail,
+/// and do not go over the connection.
 fn hold_descriptors(rt: &HostRuntime) -> Option<[File; 3]> {
     let first = File::open(rt, "/").ok()?;
     let second = File::open(rt, "/").ok()?;
@@ -38,7 +38,7 @@ fn hold_descriptors(rt: &HostRuntime) -> Option<[File; 3]> {
     Some([first, second, third])
 }
 
-/// Runs a command over sockets, and gives its exit status.
+/// Runs a command over sockets, and returns its exit status.
 fn run_network(rt: &HostRuntime, command: NetworkCommand<'_>) -> Result<u8, ToolErr> {
     let alloc = rt.alloc();
     let mut input = Input::new(rt.stdin());
@@ -92,8 +92,8 @@ fn run_network(rt: &HostRuntime, command: NetworkCommand<'_>) -> Result<u8, Tool
     }
 }
 
-/// Says on a terminal that a command waits for input, where that comes from a terminal too and the words ask for such a
-/// command. A terminal that takes nothing is passed over.
+/// Says on a terminal that a command waits for input, if the input comes from a terminal too and
+/// the words ask for such a command. If writing that fails, it is ignored.
 fn say_waiting(rt: &HostRuntime, words: &[String]) -> Result<(), ToolErr> {
     if rt.stdin().is_terminal() && rt.stderr().is_terminal() && reads_input(rt.alloc(), words)? {
         let _said = write_all(&mut Output::new(rt.stderr()), WAITING);
@@ -101,8 +101,9 @@ fn say_waiting(rt: &HostRuntime, words: &[String]) -> Result<(), ToolErr> {
     Ok(())
 }
 
-/// Runs the command that the program's words ask for, and gives its exit status. The errors are `Memory`
-/// where memory ran out before the command was known, and `Write` where writing to standard error failed.
+/// Runs the command that the program's words ask for, and returns its exit status. The errors are
+/// `Memory` if memory ran out before the command was known, and `Write` if writing to standard
+/// error failed.
 fn run(rt: &HostRuntime) -> Result<u8, ToolErr> {
     let alloc = rt.alloc();
     let mut errors = Output::new(rt.stderr());

@@ -1,4 +1,4 @@
-//! What the commands over sockets share: their script, their plan, and how they end.
+//! What the commands over sockets share: reading a script, making a plan, and ending.
 
 ghost use Rattle.std.specs.Prelude.{◌≡◌, ◌+◌, ◌<◌, ◌^◌, IfErr, IfOk};
 ghost use Rattle.llrp_listing.specs.declared.fault.ToolErr.TheVariants.{Memory};
@@ -10,13 +10,13 @@ use llrp_tool::{
 };
 use std::alloc::Global;
 
-/// The first own message id of a simulated reader.
+/// The id of the first message that a simulated reader starts itself.
 pub const FIRST_ID: u32 = 1;
 
-/// The exit status where the network, a device or memory failed.
+/// The exit status if the network, a device or memory failed.
 pub const FAILED: u8 = 3;
 
-/// The script that the source gives to its end. The errors are `Script` with the first line that is
+/// Reads a script to the end of the source. The errors are `Script` with the first line that is
 /// refused, `Read`, `Bound` and `Memory`.
 pub fn read_script<R: Source>(alloc: Global, r: &mut R) -> Result<Script, ToolErr>
     requires { IsFreshSource (R.log r.old) }
@@ -26,7 +26,7 @@ pub fn read_script<R: Source>(alloc: Global, r: &mut R) -> Result<Script, ToolEr
     Script::parse(alloc, text.as_slice())
 }
 
-/// The plan of the two numbers, checked or not. The only error is `Memory`.
+/// The plan with these two numbers, with a check or without. The only error is `Memory`.
 pub fn plan_of(alloc: Global, every: u16, polls: u16, check: bool) -> Result<Plan, ToolErr>
     ensures plan { IfOk result (λ p. p ≡ record { every = every; polls = polls; checked = check }) }
     ensures memory { IfErr result (λ e. e ≡ Memory) }
@@ -38,8 +38,8 @@ pub fn plan_of(alloc: Global, every: u16, polls: u16, check: bool) -> Result<Pla
     }
 }
 
-/// The exit status of a command that ended so, once the line of its error was written to `e`. `None` is a
-/// network that failed.
+/// The exit status of a command that ended like this, after its error, if it has one, was written
+/// to `e` as a line. `None` means that the network failed.
 pub fn conclude<E: Sink>(outcome: Option<Result<(), ToolErr>>, e: &mut E) -> Result<u8, ToolErr>
     requires { (E.log e.old).failures + 1 < 2 ^ 64 }
     ensures { Concludes outcome (E.log e.old) (E.log e.new) result }

@@ -1,4 +1,4 @@
-//! A sink of tag lines that shows a person at a terminal how many tags came so far.
+//! A sink for tag lines that shows a person at a terminal how many tags came so far.
 
 ghost use Rattle.std.specs.Prelude.{◌≡◌};
 
@@ -6,8 +6,8 @@ use llrp_tool::Sink;
 use std::io;
 use std::io::Write;
 
-/// Hands every write on to a sink. Where there is a terminal, it says there that the client is connected,
-/// and how many tags the lines have named so far, and wipes that away before each write.
+/// Passes each write on to a sink. If there is a terminal, it shows there that the client is
+/// connected and how many tags came so far, and removes that before each write.
 #[derive(Drop)]
 pub struct Progress<W: Sink + Drop, T: Write + Drop> {
     sink: W,
@@ -17,7 +17,7 @@ pub struct Progress<W: Sink + Drop, T: Write + Drop> {
 }
 
 impl<W: Sink + Drop, T: Write + Drop> Progress<W, T> {
-    /// Nothing was written or shown yet.
+    /// A sink to which nothing was written yet, and which shows nothing yet.
     pub fn new(sink: W, terminal: Option<T>) -> Progress<W, T>
         ensures { ⟦<Progress<W, T> as Sink>⟧.log result ≡ W.log sink }
     {
@@ -29,8 +29,8 @@ impl<W: Sink + Drop, T: Write + Drop> Progress<W, T> {
         }
     }
 
-    /// Counts the tag lines that begin in these bytes: those that begin as neither a report's count nor
-    /// the total does.
+    /// Counts the tag lines that begin in these bytes: all lines but those with a report's count
+    /// and with the total.
     fn count(&mut self, lines: &[u8])
         ensures { self.new.sink ≡ self.old.sink }
     {
@@ -42,7 +42,7 @@ impl<W: Sink + Drop, T: Write + Drop> Progress<W, T> {
         }
     }
 
-    /// Shows how far it is. A terminal that takes nothing is passed over.
+    /// Shows how many tags came. If writing to the terminal fails, that is ignored.
     pub fn show(&mut self)
         ensures { ⟦<Progress<W, T> as Sink>⟧.log self.new
             ≡ ⟦<Progress<W, T> as Sink>⟧.log self.old }
@@ -52,7 +52,7 @@ impl<W: Sink + Drop, T: Write + Drop> Progress<W, T> {
         }
     }
 
-    /// Wipes away what was shown.
+    /// Removes what is shown.
     pub fn wipe(&mut self)
         ensures { ⟦<Progress<W, T> as Sink>⟧.log self.new
             ≡ ⟦<Progress<W, T> as Sink>⟧.log self.old }

@@ -10,7 +10,7 @@ use llrp_tool::{Input, LIMIT, Output, Script, Sink, Source, ToolErr, run_serve};
 use std::alloc::Global;
 use std::net::{Net, TcpListener, TcpStream};
 
-/// Serves the next client of a listener by a script. `None` is a network that failed.
+/// Serves the next client of a listener by a script. `None` means that the network failed.
 pub fn serve_next(
     alloc: Global,
     listener: &TcpListener,
@@ -25,7 +25,8 @@ pub fn serve_next(
     Some(run_serve(alloc, core, script, &mut source, &mut sink))
 }
 
-/// Listens on the port of 127.0.0.1, and serves one client by a script. `None` is a network that failed.
+/// Listens on this port of 127.0.0.1, and serves one client by a script. `None` means that the
+/// network failed.
 fn serve_at<N: Net<Listener = TcpListener, Stream = TcpStream>>(
     net: &N,
     alloc: Global,
@@ -38,9 +39,9 @@ fn serve_at<N: Net<Listener = TcpListener, Stream = TcpStream>>(
     serve_next(alloc, &listener, script)
 }
 
-/// Reads the script, serves one client on the port of 127.0.0.1, and gives the exit status: 0 where all
-/// is fine, 1 where the script or the client is at fault, 3 where the network, a device or memory failed.
-/// An error is written to `e` as a line.
+/// Reads the script, serves one client on this port of 127.0.0.1, and returns the exit status: 0 if
+/// all is well, 1 if the script or the client is at fault, 3 if the network, a device or memory
+/// failed. Writes an error as a line to `e`.
 pub fn sim<N: Net<Listener = TcpListener, Stream = TcpStream>, R: Source, E: Sink>(
     net: &N,
     alloc: Global,

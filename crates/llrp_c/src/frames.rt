@@ -1,4 +1,4 @@
-//! Frames, as their length fields cut a stream (LLRP 1.1, section 17.1).
+//! Frames: a stream is cut by their length fields (LLRP 1.1, section 17.1).
 
 ghost use Rattle.std.specs.Prelude.{◌≡◌, ◌<◌, ◌≤◌, drop, length};
 ghost use Rattle.llrp_stream.specs.Cuts.{Breaks, length_field};
@@ -9,13 +9,13 @@ ghost use Rattle.llrp_c.specs.Status.{code_of};
 use crate::status::Status;
 use tag_bits::get;
 
-/// How many octets a header has, and so the shortest frame.
+/// How many octets a header has, which is also the length of the shortest frame.
 const HEADER: u32 = 10;
 
-/// How many octets a length field ends after.
+/// How many octets a frame has up to the end of its length field.
 const LENGTH_END: usize = 6;
 
-/// The length field of a frame that has one, which says how many octets the frame has.
+/// The length field of a frame: how many octets the frame has.
 fn length_field(stream: &[u8]) -> u32
     requires { 6 ≤ length stream.now }
     ensures { result ≡ length_field stream.now }
@@ -23,7 +23,8 @@ fn length_field(stream: &[u8]) -> u32
     get(stream, 16, 32) as u32
 }
 
-/// Writes the length in octets of the first frame of a stream to `count`, or 0 where the stream is too short to say.
+/// Writes the length of the first frame of a stream, in octets, to `count`; 0 if the stream is too
+/// short to say.
 #[unsafe(no_mangle)]
 pub extern "C" fn llrp_frame_length(stream: &[u8], count: &mut usize) -> u32
     ensures short { length stream.now < 6 → (result ≡ code_of Done) × (count.new ≡ 0) }
@@ -43,7 +44,7 @@ pub extern "C" fn llrp_frame_length(stream: &[u8], count: &mut usize) -> u32
     Status::Done.code()
 }
 
-/// What a stream begins with.
+/// What is at the front of a stream.
 #[derive(Clone, Copy)]
 pub enum Next {
     /// A whole frame of this many octets.
@@ -54,7 +55,7 @@ pub enum Next {
     Break,
 }
 
-/// What a stream begins with.
+/// Finds what is at the front of a stream.
 fn begins_with(stream: &[u8]) -> Next
     ensures { BeginsWith stream.now result }
 {
@@ -76,11 +77,11 @@ fn begins_with(stream: &[u8]) -> Next
 pub struct Frames {
     /// How many octets they are.
     pub octets: usize,
-    /// A length field below 10 follows them.
+    /// Whether a length field below 10 follows them.
     pub broken: bool,
 }
 
-/// The frames that are whole in a stream.
+/// Finds the whole frames at the front of a stream.
 pub fn whole_frames(stream: &[u8]) -> Frames
     ensures frames { AreFrames stream.now result.octets }
     ensures left { IsLeft result.broken (drop result.octets stream.now) }

@@ -1,4 +1,4 @@
-//! Streams and their listings.
+//! Lists streams and encodes listings.
 
 ghost use Rattle.std.specs.Prelude.{◌≡◌, ◌≤◌, if◌then◌else◌, length, IfSome, MatchResult};
 ghost use Rattle.llrp_tree.specs.declared.TheConstants.{MAX_LIMIT};
@@ -23,7 +23,8 @@ struct Listed {
     status: Status,
 }
 
-/// How many octets of a stream with these whole frames are listed.
+/// How many octets are listed of a stream with these whole frames: all of them if the stream
+/// breaks.
 fn octets_listed(stream: &[u8], frames: Frames) -> usize
     requires { frames.octets ≤ length stream.now }
     ensures { result ≡ (if frames.broken then length stream.now else frames.octets) }
@@ -35,7 +36,7 @@ fn octets_listed(stream: &[u8], frames: Frames) -> usize
     }
 }
 
-/// The status of a listing with this verdict, where the stream breaks after it or goes on.
+/// The status of a listing with this verdict, given whether the stream breaks after it.
 fn listed_status(broken: bool, verdict: Verdict) -> Status
     ensures { result ≡ listed_status broken verdict }
 {
@@ -46,7 +47,7 @@ fn listed_status(broken: bool, verdict: Verdict) -> Status
     }
 }
 
-/// The listing of a stream. `None` where memory ran out.
+/// The listing of a stream, or `None` if memory ran out.
 fn listing_of(alloc: Global, stream: &[u8]) -> Option<(Vec<u8>, Verdict)>
     ensures { IfSome result (λ listing. HasListing stream.now listing.0.items listing.1) }
 {
@@ -57,7 +58,7 @@ fn listing_of(alloc: Global, stream: &[u8]) -> Option<(Vec<u8>, Verdict)>
     }
 }
 
-/// The listing of the whole frames of a stream. `None` where memory ran out.
+/// The listing of the whole frames of a stream, or `None` if memory ran out.
 fn list_frames(alloc: Global, stream: &[u8]) -> Option<Listed>
     ensures { IfSome result (λ listed. IsListing stream.now listed.used listed.text.items
         listed.status) }
@@ -72,8 +73,9 @@ fn list_frames(alloc: Global, stream: &[u8]) -> Option<Listed>
     })
 }
 
-/// Writes the listing of the frames that are whole in a stream to `listing`, its length to `written`, and how many octets
-/// the frames have to `used`. A stream that breaks after its whole frames is listed to its end.
+/// Writes the listing of the whole frames of a stream to `listing`, its length to `written`, and to
+/// `used` how many octets the frames have. A stream that breaks after its whole frames is listed to
+/// its end.
 #[unsafe(no_mangle)]
 pub extern "C" fn llrp_list(
     alloc: Global,
@@ -98,7 +100,7 @@ pub extern "C" fn llrp_list(
     listed.status.code()
 }
 
-/// The octets of a listing, or why there are none.
+/// The octets of a listing, or why it has none.
 fn encoded(alloc: Global, listing: &[u8]) -> Result<Vec<u8>, ToolErr>
     ensures { MatchResult result (λ octets. Encodes MAX_LIMIT listing.now octets.items)
         (EncodeFails listing.now) }
@@ -110,7 +112,7 @@ fn encoded(alloc: Global, listing: &[u8]) -> Result<Vec<u8>, ToolErr>
     }
 }
 
-/// The line at which a listing is refused, and the status for it.
+/// The line at which a listing is refused, and the status of that.
 fn stopped(error: ToolErr) -> (u64, Status)
     ensures { Stops error result.0 result.1 }
 {
@@ -121,8 +123,8 @@ fn stopped(error: ToolErr) -> (u64, Status)
     }
 }
 
-/// Writes the octets of the messages of a listing to `octets`, how many they are to `written`, and to `line` the line at which
-/// the listing is refused, or 0.
+/// Writes the octets of the messages of a listing to `octets`, how many they are to `written`, and
+/// the line at which the listing is refused to `line`, or 0.
 #[unsafe(no_mangle)]
 pub extern "C" fn llrp_encode(
     alloc: Global,

@@ -8,7 +8,7 @@ ghost use Rattle.llrp_c.specs.Status.{name_of, status_with};
 use crate::room::put;
 use crate::status::{Status, status_with};
 
-/// The room that each name fits in.
+/// The room that is enough for each name.
 const NAME_ROOM: usize = 16;
 
 /// Writes the name of a status to the front of the room, and returns its length.
@@ -21,8 +21,8 @@ fn put_name(status: Status, room: &mut [u8]) -> usize
     name.len()
 }
 
-/// Writes the name of the status with this code to `name`, which has room for 16 octets, and returns its length: 0 where no
-/// status has the code, or the room is smaller.
+/// Writes the name of the status with this code to `name`, which needs room for 16 octets, and
+/// returns its length: 0 if no status has the code or the room is too small.
 #[unsafe(no_mangle)]
 pub extern "C" fn llrp_name(code: u32, name: &mut [u8]) -> usize
     ensures named { (status : Status) → status_with code ≡ Some status → 16 ≤ length name.old

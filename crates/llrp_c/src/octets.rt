@@ -1,4 +1,4 @@
-//! Octets in memory as a source.
+//! A source over octets in memory.
 
 ghost use Rattle.std.specs.Prelude.{◌≡◌, Some};
 ghost use Rattle.llrp_stream.specs.Device.{new_source};
@@ -6,7 +6,7 @@ ghost use Rattle.llrp_stream.specs.Device.{new_source};
 use llrp_stream::Source;
 use std::io;
 
-/// Octets in memory, from which no read fails.
+/// A source over octets in memory; none of its reads fails.
 #[derive(Drop)]
 pub struct Octets<'a> {
     left: &'a [u8],
@@ -15,7 +15,7 @@ pub struct Octets<'a> {
 }
 
 impl<'a> Octets<'a> {
-    /// A source of the octets that nothing was read from.
+    /// A source over these octets, of which nothing was read.
     pub fn new(octets: &'a [u8]) -> Octets<'a>
         ensures { ⟦<Octets<'a> as Source>⟧.log result ≡ new_source (Some octets.now) }
     {

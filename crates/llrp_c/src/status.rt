@@ -1,4 +1,4 @@
-//! How a call ends.
+//! How a call ended.
 
 ghost use Rattle.std.specs.Prelude.{◌≡◌, ◌≤◌, length};
 ghost use Rattle.llrp_listing.specs.declared.fault.Refusal.TheVariants as refusal;
@@ -10,10 +10,10 @@ use llrp_tree::NodeFault;
 use tag_epc::WordReason;
 use tag_uri::UriFault;
 
-/// How a call ends. Its code is a constant of `include/llrp.h`.
+/// How a call ended. Its code is a constant of `include/llrp.h`.
 #[derive(Clone, Copy)]
 pub enum Status {
-    /// Done.
+    /// Well.
     Done,
     /// Some frame is not a message.
     Faulty,
@@ -29,25 +29,25 @@ pub enum Status {
     Long,
     /// Memory ran out.
     Memory,
-    /// A word has no tag URI, for this part.
+    /// The word has no tag URI, because of this part.
     Word(WordReason),
-    /// A text is not a word's, by this rule.
+    /// The text is not a word's, because of this rule.
     Uri(UriFault),
-    /// A line is not ended, is too long, or has a byte that is not printed.
+    /// The line has no LF at its end, is too long, or has a byte other than printable ASCII.
     Line,
-    /// A line's level is not allowed there.
+    /// The line's level may not come here.
     Level,
-    /// A line's name is not allowed there.
+    /// The line's name may not come here.
     Name,
-    /// A line has another number of words than its kind.
+    /// The line does not have as many words as its kind has.
     Fields,
-    /// A word of a line is not a number that is allowed there.
+    /// A word of the line is not a number that its field can have.
     Number,
-    /// A line's last word is not a tail of its kind.
+    /// The line's last word is not a tail that its kind can have.
     Tail,
     /// A message is longer than 1,048,576 octets.
     OverLimit,
-    /// A parameter or message is not lawful, for this reason.
+    /// A parameter or message is not lawful, because of this fault.
     Node(NodeFault),
 }
 
@@ -98,7 +98,7 @@ fn node_code(fault: NodeFault) -> u32
     }
 }
 
-/// The name of the fault of a parameter or a message, as the line of an error has it.
+/// The name of the fault of a parameter or a message, as an error line has it.
 fn node_name(fault: NodeFault) -> &'static str
     ensures name { result.now ≡ refusal_name (refusal.Node fault) }
     ensures most { length result.now ≤ 16 }
@@ -187,7 +187,7 @@ impl Status {
     }
 }
 
-/// The status with a code, if one has it.
+/// The status with this code, if there is one.
 #[tactic(auto, unfolding(crate::specs::Status::status_with, crate::specs::Status::statuses))]
 pub fn status_with(code: u32) -> Option<Status>
     ensures { result ≡ status_with code }

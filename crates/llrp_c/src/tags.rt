@@ -17,10 +17,10 @@ use tag_uri::{put_text_of_word, word_of_text};
 /// How many octets a tag's word has.
 const WORD_OCTETS: usize = 12;
 
-/// The room that each text of a word fits in.
+/// The room that is enough for each text of a word.
 const TEXT_ROOM: usize = 64;
 
-/// The word of twelve octets.
+/// The word of these twelve octets.
 fn word_of(octets: &[u8]) -> Word
     requires { length octets.now ≡ 12 }
     ensures { word_digits result ≡ digits_of_bytes octets.now }
@@ -30,7 +30,7 @@ fn word_of(octets: &[u8]) -> Word
     Word::of_bytes(bytes)
 }
 
-/// Whether the word has a tag URI, or the first part that fails and its bit.
+/// Whether the word has a tag URI; if not, the first part that fails, and its bit.
 fn why(word: Word) -> (Status, u32)
     ensures { SaysWhy word result.0 result.1 }
 {
@@ -40,8 +40,9 @@ fn why(word: Word) -> (Status, u32)
     }
 }
 
-/// Writes the text of a tag's word, its tag URI or else its raw URI, to `text`, which has room for 64 octets,
-/// its length to `count`, and to `bit` the first bit of the part of the word for which it has no tag URI.
+/// Writes the text of a tag's word, its tag URI or else its raw URI, to `text`, which needs room
+/// for 64 octets, its length to `count`, and to `bit` the first bit of the part of the word because
+/// of which it has no tag URI.
 #[unsafe(no_mangle)]
 pub extern "C" fn llrp_text_of_word(
     word: &[u8],
@@ -54,7 +55,7 @@ pub extern "C" fn llrp_text_of_word(
         → (status : Status) × (result ≡ code_of status)
         × WritesText word.now text.old text.new count.new bit.new status }
 
-    // Else nothing was written.
+    // Otherwise nothing was written.
     ensures length { length word.now ≢ 12
         → (result ≡ code_of Length) × (text.new ≡ text.old) × (count.new ≡ count.old)
         × (bit.new ≡ bit.old) }
@@ -75,7 +76,7 @@ pub extern "C" fn llrp_text_of_word(
     status.code()
 }
 
-/// The word of a text, or the first rule that refuses it.
+/// Writes the word of a text, or returns the first rule that refuses it.
 fn read(text: &str, word: &mut [u8]) -> Status
     requires { length word.old ≡ 12 }
     ensures { ReadsText text.now word.old word.new result }
@@ -92,12 +93,12 @@ fn read(text: &str, word: &mut [u8]) -> Status
 /// Writes the twelve octets of the word of a text, a tag URI or a raw URI, to `word`.
 #[unsafe(no_mangle)]
 pub extern "C" fn llrp_word_of_text(text: &[u8], word: &mut [u8]) -> u32
-    // The word was written, or the status says the first rule that refuses the text.
+    // The word was written, or the status is the first rule that refuses the text.
     ensures read { length word.old ≡ 12 → IsUtf8 text.now
         → (status : Status) × (result ≡ code_of status)
         × ReadsText text.now word.old word.new status }
 
-    // Else nothing was written.
+    // Otherwise nothing was written.
     ensures length { length word.old ≢ 12 → (result ≡ code_of Length) × (word.new ≡ word.old) }
     ensures utf8 { length word.old ≡ 12 → ¬ IsUtf8 text.now → (result ≡ code_of Utf8)
         × (word.new ≡ word.old) }

@@ -1,4 +1,5 @@
-//! Both ends of one connection: a simulated reader that acts by a script, and a client that follows a plan.
+//! Runs both ends of one connection: a simulated reader that acts by a script, and a client that
+//! follows a plan.
 
 ghost use Rattle.std.specs.Prelude.{◌<◌, ◌↔◌, ◌≡◌, ◌≤◌, ◌^◌, [], IsTrue};
 ghost use Rattle.llrp_tree.specs.declared.TheConstants.{MAX_LIMIT};
@@ -26,9 +27,9 @@ use std::alloc::Global;
 /// One end of a connection.
 #[derive(Drop)]
 pub struct Endpoint<R: Source, W: Sink> {
-    /// What comes from the other end.
+    /// Reads what comes from the other end.
     pub source: R,
-    /// What goes to the other end.
+    /// Writes what goes to the other end.
     pub sink: W,
 }
 
@@ -89,16 +90,17 @@ fn exchange<CR: Source, CW: Sink, RR: Source, RW: Sink, P: Sink>(
     Err(ToolErr::Early)
 }
 
-/// A simulated reader that acts by the script serves at `reader_end` the client that follows the plan at
-/// `client_end`, each in turn: at most 4,096 bytes are written at one end, and as many as the write took
-/// are read at the other before the next write. The lines of the tags are written to `report` before the
-/// next read. The core is as `Reader::new` made it, and no frame is longer than `limit` octets.
+/// Runs a simulated reader that acts by the script at `reader_end`, and a client that follows the
+/// plan at `client_end`, in turn: at most 4,096 bytes are written at one end, and as many as the
+/// write took are read at the other end before the next write. Lines of tags are written to
+/// `report` before the next read. The core is as `Reader::new` made it, and no frame may be longer
+/// than `limit` octets.
 ///
-/// Returns how many tags and reports there were, once the connection was closed as planned. `Early` is an end of the
-/// connection or of an input before that, or that neither end has bytes to send; `Peer` a status other
-/// than 0; `Strange` what no reader sends there, or a frame with a fault other than an unknown type;
-/// `Broken` a length field below 10 at either end. After `Read`, `Write`, `Bound` or `Memory` each end
-/// wrote a front of what it says.
+/// Returns how many tags and reports there were, once the connection was closed as planned. The
+/// error is `Early` if the connection or an input ends before that, or if neither end has bytes to
+/// send; `Peer` for a status other than 0; `Strange` for a message that no reader sends then, or a
+/// frame with a fault other than an unknown type; `Broken` for a length field below 10 at either
+/// end. After `Read`, `Write`, `Bound` or `Memory`, each end wrote some first part of what it says.
 pub fn run_loop<CR: Source, CW: Sink, RR: Source, RW: Sink, P: Sink>(
     alloc: Global,
     core: Reader,

@@ -1,5 +1,5 @@
-//! Following a plan: a client takes what its reader sends in pieces of a stream, sends the plan's commands,
-//! and writes a line for each tag that is reported.
+//! A client that follows a plan: it takes what its reader sends in pieces of a stream, sends the
+//! plan's commands, and writes a line for each reported tag.
 
 ghost use Rattle.std.specs.Prelude.{◌≡◌, ◌≤◌, ◌++◌, List, Ok, Err, ℕ};
 ghost use Rattle.llrp_tree.specs.declared.TheConstants.{MAX_LIMIT};
@@ -23,10 +23,10 @@ use llrp_stream::{Decoder, Fed, Item};
 use llrp_tree::{Message, Nodes, Reason};
 use std::alloc::Global;
 
-/// What is awaited before the next command is sent.
+/// What has to come before the next command is sent.
 #[derive(Clone, Copy, Debug, PartialEq, Eq)]
 pub(crate) enum Awaits {
-    /// That the reader accepts the connection, or answers a command.
+    /// The reader's acceptance of the connection, or its response to a command.
     Answer,
     /// A report.
     Report,
@@ -34,7 +34,7 @@ pub(crate) enum Awaits {
     End,
 }
 
-/// How far it is.
+/// How far the plan is followed.
 #[derive(Clone, Copy, Debug, PartialEq, Eq)]
 pub(crate) enum Phase {
     /// It takes bytes.
@@ -45,8 +45,8 @@ pub(crate) enum Phase {
     Failed(ToolErr),
 }
 
-/// A client that follows a plan. It is handed the bytes of its reader as they come, and appends the bytes
-/// that the client sends and the lines of the tags that are reported.
+/// A client that follows a plan. It is given its reader's bytes as they come, and appends the bytes
+/// that the client sends and the lines of reported tags.
 #[derive(Drop)]
 pub struct Gathering {
     alloc: Global,
@@ -65,7 +65,7 @@ impl Gathering {
     ghost use Rattle.llrp_endpoints.specs.GatheringStands.{Counts, Does, Feeds, HasFailed, Holds, IsClosed, IsConnected, IsLeftBy, IsOpen, KeepsOthers, StandsFor};
     ghost use Rattle.llrp_endpoints.specs.TagLines.{summary_of};
 
-    /// A client that follows a plan from the beginning; its first message id is 1, and no frame is longer
+    /// A client at the beginning of a plan. Its first message id is 1, and no frame may be longer
     /// than `limit` octets. It takes no memory.
     pub fn new(alloc: Global, plan: Plan, limit: u32) -> Gathering
         requires least { 4096 ≤ limit }
@@ -109,7 +109,7 @@ impl Gathering {
         Ok(false)
     }
 
-    /// Appends the lines of a report, and goes on if one was awaited.
+    /// Appends the lines of a report, and goes on with the plan if a report was awaited.
     fn report(
         &mut self,
         tags: &Nodes,
@@ -130,7 +130,8 @@ impl Gathering {
         }
     }
 
-    /// The connection ended, which is fine only where it is awaited: then the last line is appended.
+    /// Ends the plan as the connection ends: with the last line if the end was awaited, and with an
+    /// error otherwise.
     fn end(&self, report: &mut Vec<u8>) -> Result<bool, ToolErr>
         ensures { (c : Course) (o : List ℕ) → Holds c self.now → c.phase ≡ Open
             → Does c (after Taken.Closed c) self.now o o report.old.items report.new.items result }
@@ -145,7 +146,7 @@ impl Gathering {
         }
     }
 
-    /// A response of status 0 leads on.
+    /// Goes on with the plan after a response, if its status is 0.
     fn answered(&mut self, status: u16, out: &mut Vec<u8>) -> Result<bool, ToolErr>
         ensures does { (c : Course) (r : List ℕ) → Holds c self.old → c.phase ≡ Open
             → Does c (after (Taken.Reply status) c) self.new out.old.items
@@ -159,7 +160,7 @@ impl Gathering {
         }
     }
 
-    /// What the client took a message for leads on, is passed over, or ends it.
+    /// Acts on what a message means to the client: goes on with the plan, ends it, or does nothing.
     fn follow(
         &mut self,
         taken: Taken,
@@ -183,7 +184,7 @@ impl Gathering {
         }
     }
 
-    /// Takes a message; what the client answers itself is sent first.
+    /// Takes a message; the client's own answer to it is sent first.
     fn take_message(
         &mut self,
         message: Message,
@@ -220,7 +221,7 @@ impl Gathering {
         }
     }
 
-    /// Takes the items of a piece; the answer is whether the connection was closed as planned.
+    /// Takes the items of a piece. Returns whether the connection was closed as planned.
     fn take_all(
         &mut self,
         piece: &[u8],
@@ -251,14 +252,15 @@ impl Gathering {
         Ok(false)
     }
 
-    /// Takes a piece of the reader's bytes. What the client sends is appended to `out`, and to `report`
-    /// the lines of the tags that are reported, a line for each report, and a last line once the connection
-    /// was closed as planned. Then the answer is true, and each later feed answers true and changes nothing.
+    /// Takes a piece of the reader's bytes. Appends what the client sends to `out`, and to `report`
+    /// a line for each reported tag, a line for each report, and a last line once the connection
+    /// was closed as planned. Then it returns true; each later call returns true and changes
+    /// nothing.
     ///
-    /// The errors are `Peer` with a status other than 0, `Strange` for what no reader sends there, for a
-    /// table that differs from what the client sees and for a frame with a fault other than an unknown
-    /// type, `Early` where the connection ends before it is to, `Broken` at a length field below 10, and
-    /// `Memory`; each later feed answers that error.
+    /// The errors are `Peer` with a status other than 0; `Strange` for a message that no reader
+    /// sends then, for a table that differs from the client's view, and for a frame with a fault
+    /// other than an unknown type; `Early` if the connection ends too soon; `Broken` at a length
+    /// field below 10; and `Memory`. Each later call returns the same error.
     pub fn feed(
         &mut self,
         piece: &[u8],
@@ -272,7 +274,7 @@ impl Gathering {
             report.new.items result }
         ensures phase { IsConnected self.old → IsLeftBy result self.new }
 
-        // Once it ended, nothing changes.
+        // Once it has ended, nothing changes.
         ensures closed { IsClosed self.old → (result ≡ Ok true) × (self.new ≡ self.old) }
         ensures failed { (error : Error) → HasFailed error self.old → (result ≡ Err error)
             × (self.new ≡ self.old) }
@@ -290,7 +292,7 @@ impl Gathering {
     }
 }
 
-/// The phase that an answer leaves.
+/// The phase after this answer of a step.
 fn phase_after(outcome: Result<bool, ToolErr>) -> Phase
     ensures { result ≡ phase_left outcome }
 {
@@ -301,7 +303,7 @@ fn phase_after(outcome: Result<bool, ToolErr>) -> Phase
     }
 }
 
-/// The error where the client refuses a command.
+/// The error of a command that the client refuses.
 fn command_error(fault: CmdFault) -> ToolErr
     ensures { result ≡ error_by_command fault }
 {
@@ -311,7 +313,7 @@ fn command_error(fault: CmdFault) -> ToolErr
     }
 }
 
-/// The error where the client refuses a message.
+/// The error of a message that the client refuses.
 fn message_error(fault: TakeFault) -> ToolErr
     ensures { result ≡ error_by_message fault }
 {

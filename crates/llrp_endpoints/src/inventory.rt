@@ -1,4 +1,4 @@
-//! Following a plan over a source and two sinks.
+//! Follows a plan over a source and two sinks.
 
 ghost use Rattle.std.specs.Prelude.{◌≡◌, ◌<◌, ◌≤◌, ◌^◌, [], List, ℕ};
 ghost use Rattle.llrp_stream.specs.Device.{IsFreshSource};
@@ -15,8 +15,8 @@ use llrp_listing::{MOST_READS, READ_SIZE, ToolErr, hand_on};
 use llrp_stream::{Sink, Source};
 use std::alloc::Global;
 
-/// Follows the plan of a client as `Gathering::new` made it, for [`run_inventory`]: what it sends is
-/// gathered in `out` and its lines in `lines`, which are empty at first.
+/// Follows the plan of a client that `Gathering::new` made, for [`run_inventory`]. What the client
+/// sends is gathered in `out`, and the lines in `lines`; both are empty at first.
 fn gather<R: Source, W: Sink, T: Sink>(
     gathering: &mut Gathering,
     out: &mut Vec<u8>,
@@ -53,14 +53,15 @@ fn gather<R: Source, W: Sink, T: Sink>(
     Err(ToolErr::Bound)
 }
 
-/// Follows a plan with the reader whose bytes the source gives: what the client sends is written to `w`
-/// and the lines of the tags to `report`, those for what was read before the next read. The limit is the
-/// greatest length of a frame in octets.
+/// Follows a plan with the reader whose bytes the source gives. What the client sends is written to
+/// `w`, and the lines of tags to `report`; both are written for what was read before the next read.
+/// `limit` is the greatest length of a frame in octets.
 ///
-/// Returns how many tags and reports there were, once the connection was closed as planned. `Early` is an end of the
-/// input, or of the connection, before that; `Peer` a status other than 0; `Strange` what no reader sends
-/// there, or a frame with a fault other than an unknown type; `Broken` a length field below 10. After
-/// `Read`, `Write`, `Bound` or `Memory` fronts of what the client says were written.
+/// Returns how many tags and reports there were, once the connection was closed as planned. The
+/// error is `Early` if the input or the connection ends before that; `Peer` for a status other than
+/// 0; `Strange` for a message that no reader sends then, or a frame with a fault other than an
+/// unknown type; `Broken` for a length field below 10. After `Read`, `Write`, `Bound` or `Memory`,
+/// some first part of what the client says was written.
 pub fn run_inventory<R: Source, W: Sink, T: Sink>(
     alloc: Global,
     plan: Plan,

@@ -1,4 +1,4 @@
-//! What holds of every script, of every serving, of every client that follows a plan, and of the two ends of a connection.
+//! Laws of scripts, of serving, of clients that follow a plan, and of the two ends of a connection.
 
 ghost use Rattle.std.specs.Prelude.{List, ◌<◌, ◌≡◌, ◌≤◌, ◌^◌, ℕ};
 ghost use Rattle.llrp_tree.specs.declared.TheConstants.{MAX_LIMIT};
@@ -14,7 +14,8 @@ ghost use Rattle.llrp_endpoints.specs.ScriptLaws.{ScriptOrRefused};
 ghost use Rattle.llrp_endpoints.specs.ServingLaws.{FramesReadBack, IsServedInOneWay, OneTextOfFrames, SaysWithinLimit};
 ghost use Rattle.llrp_endpoints.specs.declared.script.Entry.{Entry};
 
-/// Lawful entries have exactly one script, and a text is the script of one list of entries at most.
+/// Each lawful list of entries has exactly one script, and a text is the script of at most one
+/// list.
 pub fn one_script()
     ensures is { (entries : List Entry) → IsLawful entries → (text : List ℕ)
         × IsScript entries text }
@@ -29,36 +30,38 @@ pub fn script_or_refused()
     ensures { (text : List ℕ) → ScriptOrRefused text }
 {}
 
-/// Given a reader, a script and a client's bytes, serving sends one list of messages and ends up in one state.
+/// For a given reader, script and bytes of a client, serving sends one list of messages and ends in
+/// one state.
 #[tactic(auto, using(crate::proofs::OneServing::served_in_one_way))]
 pub fn one_serving()
     ensures { (reader : Reader) (entries : List Entry) (bytes : List ℕ) → reader.limit ≤ MAX_LIMIT
         → AreOctets bytes → IsServedInOneWay reader entries bytes }
 {}
 
-/// Messages have one list of frames, so the bytes that serving sends are determined with its messages.
+/// A list of messages has one list of frames, so the messages determine the bytes that serving
+/// sends.
 pub fn one_text_of_frames()
     ensures { OneTextOfFrames }
 {}
 
-/// The frames of messages that may be sent at a limit are read, at that limit, as these messages.
+/// Frames of messages that may be sent at a limit are read back, at that limit, as these messages.
 pub fn frames_read_back()
     ensures { FramesReadBack }
 {}
 
-/// What serving says is lawful, and no message is longer than the reader's own limit.
+/// Serving sends lawful messages, none longer than the reader's limit.
 pub fn served_within_limit()
     ensures { SaysWithinLimit }
 {}
 
-/// What a client that follows a plan sends is lawful, and no message is longer than the client's own limit.
+/// A client that follows a plan sends lawful messages, none longer than its limit.
 pub fn sent_within_limit()
     ensures { SendsWithinLimit }
 {}
 
-/// Whatever a reader sends, a client that follows a plan takes each of its commands, and ends as Strange exactly where
-/// the reader sent what it did not expect, a table that differs from the client's view, or a frame with a fault other than
-/// a type that no kind has.
+/// Whatever a reader sends, a client that follows a plan never refuses one of its commands. It ends
+/// as `Strange` exactly if the reader sent a message that was not expected, a table that differs
+/// from the client's view, or a frame with a fault other than an unknown type.
 pub fn plan_is_never_refused()
     ensures each_command_is_taken { (limit : ℕ) (plan : Plan) → 4096 ≤ limit → plan.polls < 2 ^ 16
         → TakesEachCommand limit plan }
@@ -66,18 +69,19 @@ pub fn plan_is_never_refused()
         → StrangeIsTheReaders limit plan }
 {}
 
-/// Bytes have one course of all their whole frames; as more bytes come, what was sent and reported stays, and an end
-/// stays.
+/// All whole frames of some bytes have one course. As more bytes come, what was sent and reported
+/// stays, and an end stays an end.
 pub fn course_is_determined()
     ensures one_course { (limit : ℕ) (plan : Plan) (bytes : List ℕ) → limit ≤ MAX_LIMIT
         → AreOctets bytes → HasOneCourse limit plan bytes }
     ensures goes_on { (limit : ℕ) (plan : Plan) → CoursesGoOn limit plan }
 {}
 
-/// A client that follows a plan sends its commands in order, with ids from 1 on, each at the message that is awaited for
-/// it, and wherever such a message comes: the first at the connection, one after GET_REPORT at a report that comes after
-/// that, any other at the response to the command before, which for GET_ROSPECS lists the client's view, or at an
-/// ERROR_MESSAGE of status 0 under its id.
+/// A client that follows a plan sends its commands in order, with ids from 1 on. It sends each one
+/// as soon as the message that it awaits comes: the first at the connection; one that follows
+/// GET_REPORT at a report that comes after it; any other at the response to the command before,
+/// which for GET_ROSPECS lists the client's view, or at an ERROR_MESSAGE of status 0 under that
+/// command's id.
 pub fn plan_sends_its_commands()
     ensures in_order { (limit : ℕ) (plan : Plan) (items : List Item)
         → SendsInOrder plan (course_of limit plan items) }
@@ -86,18 +90,18 @@ pub fn plan_sends_its_commands()
         → SendsWhereAwaited limit plan }
 {}
 
-/// Where a client that follows a plan comes to its fine end, all commands were sent and there was a report for each poll;
-/// where it is Early a command is left; either came of a message that ends the connection, and Peer of one that has
-/// that status. Each plan can come to its fine end.
+/// If a client that follows a plan ends well, all commands were sent and there was a report for
+/// each poll; if it ends as `Early`, a command was left. Both come of a message that ends the
+/// connection, and `Peer` of one that has that status. Each plan can end well.
 pub fn plan_ends()
     ensures mean { (limit : ℕ) (plan : Plan) (items : List Item) → EndsMean limit plan items }
     ensures can_end { (limit : ℕ) (plan : Plan) → 4096 ≤ limit → plan.polls < 2 ^ 16
         → CanEnd limit plan }
 {}
 
-/// Whatever happens to a client and a reader, and in whatever pieces each reads the other's bytes, the two ends agree: each event
-/// can come next, no end ever meets a faulty frame or a broken stream, and what holds over whole messages holds of the messages
-/// that the bytes spell.
+/// Whatever happens to a client and a reader, and in whatever pieces each reads the other's bytes,
+/// the two ends agree: each event can come next, no end ever meets a faulty frame or a broken
+/// stream, and what holds over whole messages holds of the messages in the bytes.
 pub fn ends_agree()
     ensures goes_on { EachScheduleRuns }
     ensures each_event_happens { EachEventHappens }

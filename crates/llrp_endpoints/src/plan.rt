@@ -12,9 +12,10 @@ use llrp_tree::{Node, Nodes, Octets, ParamKind};
 use std::alloc::{AllocError, Global};
 use std::marker::Model;
 
-/// What a client does with its reader: it adds a ROSpec, enables and starts it, asks for the reports
-/// that are held this many times, stops and deletes it, and closes the connection (LLRP 1.1, section 11).
-/// A plan that is checked compares the reader's table with what the client sees before it deletes.
+/// What a client does with its reader: it adds a ROSpec, enables and starts it, asks this many
+/// times for the reports that are held, stops and deletes it, and closes the connection (LLRP 1.1,
+/// section 11). A checked plan compares the reader's table with the client's view before it deletes
+/// the ROSpec.
 #[derive(Drop)]
 pub struct Plan {
     every: u16,
@@ -35,7 +36,7 @@ impl Model for Plan {
 }
 
 impl Plan {
-    /// The reader reports after this many tags; 0 for no number.
+    /// After how many tags the reader reports; 0 means no number.
     pub fn every(&self) -> u16
         ensures { result ≡ self.now.every }
     {
@@ -49,7 +50,7 @@ impl Plan {
         self.polls
     }
 
-    /// Whether the reader's table is compared with what the client sees before the ROSpec is deleted.
+    /// Whether the reader's table is compared with the client's view before the ROSpec is deleted.
     pub fn is_checked(&self) -> bool
         ensures { result ≡ self.now.checked }
     {
@@ -63,7 +64,7 @@ impl Plan {
         &self.rospec
     }
 
-    /// The ROSpec, handed over.
+    /// Takes the plan apart and returns the ROSpec.
     pub(crate) fn into_rospec(self) -> Node
         ensures { result ≡ plan.rospec self.every }
     {
@@ -71,7 +72,7 @@ impl Plan {
     }
 }
 
-/// A parameter of lawful parts.
+/// A parameter of parts that are proved to be lawful.
 fn parameter(kind: ParamKind, fields: &[u128], tail: Vec<u8>, children: Vec<Node>) -> Node
     requires { AreLawful kind fields.now tail.items (forest children.items) }
     ensures { result ≡ record {
@@ -87,7 +88,7 @@ fn parameter(kind: ParamKind, fields: &[u128], tail: Vec<u8>, children: Vec<Node
     }
 }
 
-/// A parameter of these fields, without a tail and without children.
+/// A parameter with these fields, no tail and no children.
 fn leaf(alloc: Global, kind: ParamKind, fields: &[u128]) -> Node
     requires { AreLawful kind fields.now [] (forest []) }
     ensures { result ≡ the_parameter kind fields.now [] }
@@ -95,7 +96,7 @@ fn leaf(alloc: Global, kind: ParamKind, fields: &[u128]) -> Node
     parameter(kind, fields, Vec::new(alloc), Vec::new(alloc))
 }
 
-/// When the ROSpec starts and stops: on commands alone.
+/// When the ROSpec starts and stops: only on commands.
 fn boundary(alloc: Global) -> Result<Node, AllocError>
     ensures { IfOk result (λ node. node ≡ plan.boundary) }
 {
@@ -105,7 +106,7 @@ fn boundary(alloc: Global) -> Result<Node, AllocError>
     Ok(parameter(ParamKind::RoBoundarySpec, &[], Vec::new(alloc), triggers))
 }
 
-/// What its antennas do: all of them take inventory until it stops.
+/// What the antennas do: all of them take inventory until the ROSpec stops.
 fn antenna_inventory(alloc: Global) -> Result<Node, AllocError>
     ensures { IfOk result (λ node. node ≡ plan.antenna_inventory) }
 {
@@ -116,7 +117,7 @@ fn antenna_inventory(alloc: Global) -> Result<Node, AllocError>
     Ok(parameter(ParamKind::AiSpec, &[], all_antennas, parts))
 }
 
-/// What it reports, and when: of each tag the antenna and the greatest RSSI.
+/// What is reported of each tag, and when: the antenna and the greatest RSSI.
 fn reporting(alloc: Global, every: u16) -> Result<Node, AllocError>
     ensures { IfOk result (λ node. node ≡ plan.reporting every) }
 {
@@ -138,7 +139,7 @@ fn rospec(alloc: Global, every: u16) -> Result<Node, AllocError>
     Ok(parameter(ParamKind::RoSpec, &[1, 0, 0], Vec::new(alloc), parts))
 }
 
-/// A plan, checked or not.
+/// A plan, with the check or without it.
 fn plan_of(alloc: Global, every: u16, polls: u16, checked: bool) -> Result<Plan, ToolErr>
     ensures plan { IfOk result (λ p. p ≡ record {
       every = every;
@@ -156,9 +157,9 @@ fn plan_of(alloc: Global, every: u16, polls: u16, checked: bool) -> Result<Plan,
     })
 }
 
-/// The plan of an inventory on all antennas in which the reader reports after `every` tags (0 for no
-/// number) and at the end, and is asked `polls` times for the reports that are held. The only error is
-/// `Memory`.
+/// The plan of an inventory with all antennas. The reader reports after `every` tags (0 for no
+/// number) and at the end, and is asked `polls` times for the reports that it holds. The only error
+/// is `Memory`.
 pub fn standard_plan(alloc: Global, every: u16, polls: u16) -> Result<Plan, ToolErr>
     ensures plan { IfOk result (λ p. p ≡ record { every = every; polls = polls; checked = false }) }
     ensures memory { IfErr result (λ e. e ≡ Memory) }
@@ -166,8 +167,8 @@ pub fn standard_plan(alloc: Global, every: u16, polls: u16) -> Result<Plan, Tool
     plan_of(alloc, every, polls, false)
 }
 
-/// The same plan with a check: after the ROSpec was stopped, the reader is asked for its ROSpecs, which
-/// have to be those that the client sees, each in the state that it sees. The only error is `Memory`.
+/// The same plan with a check: after the ROSpec is stopped, the reader is asked for its ROSpecs,
+/// which have to be those of the client's view, in the same states. The only error is `Memory`.
 pub fn checked_plan(alloc: Global, every: u16, polls: u16) -> Result<Plan, ToolErr>
     ensures plan { IfOk result (λ p. p ≡ record { every = every; polls = polls; checked = true }) }
     ensures memory { IfErr result (λ e. e ≡ Memory) }

@@ -20,14 +20,14 @@ const MOST_ENTRIES: usize = 10_000;
 pub enum Action {
     /// An antenna sees a tag.
     Seen(Sighting),
-    /// Time goes on.
+    /// Time passes.
     Tick,
 }
 
 /// A line of a script: what happens, and when.
 #[derive(Clone, Copy, Debug, PartialEq, Eq)]
 pub struct Entry {
-    /// How many items the reader has taken before; 0 is directly after the connection.
+    /// How many items the reader has taken before this; 0 means right after the connection.
     pub after: u64,
     /// The moment, in microseconds.
     pub now: u64,
@@ -35,7 +35,7 @@ pub struct Entry {
     pub action: Action,
 }
 
-/// The entries of a script in order, which contracts see as their list.
+/// The entries of a script in order, which contracts see as a list.
 #[derive(Debug, Drop)]
 pub struct Script {
     entries: Vec<Entry>,
@@ -54,10 +54,10 @@ impl Model for Script {
 }
 
 impl Script {
-    /// The script of a text: at most 10,000 lines `AFTER NOW seen ANTENNA RSSI TEXT` or `AFTER NOW tick`
-    /// in which neither AFTER nor NOW falls, with single spaces and each ended by LF. The numbers are in
-    /// decimal without leading zeros; RSSI, in dBm, has a `-` where it is negative. TEXT is a tag URI or
-    /// a raw URI (EPC Tag Data Standard 1.13, section 12).
+    /// Reads a script: at most 10,000 lines `AFTER NOW seen ANTENNA RSSI TEXT` or `AFTER NOW tick`,
+    /// each ended by LF and with single spaces, in which neither AFTER nor NOW falls from line to
+    /// line. The numbers are in decimal without leading zeros; RSSI, in dBm, has a `-` if it is
+    /// negative. TEXT is a tag URI or a raw URI (EPC Tag Data Standard 1.13, section 12).
     ///
     /// The errors are `Script` with the first line that is refused, counted from 1, and `Memory`.
     pub fn parse(alloc: Global, text: &[u8]) -> Result<Script, ToolErr>
@@ -78,7 +78,7 @@ impl Script {
         Ok(Script { entries })
     }
 
-    /// The entries in order, lent.
+    /// The entries in order.
     pub fn entries(&self) -> &[Entry]
         ensures entries { result.now ≡ self.now }
         ensures lawful { IsLawful self.now }
@@ -87,7 +87,7 @@ impl Script {
     }
 }
 
-/// The entry that a text's first line says, where it may follow these, and the text after that line.
+/// The entry of a text's first line, if it may follow these entries, and the text after that line.
 fn next_entry<'a>(entries: &[Entry], text: &'a [u8]) -> Option<(Entry, &'a [u8])>
     requires { IsLawful entries.now }
     ensures { MatchOption result
@@ -103,7 +103,7 @@ fn next_entry<'a>(entries: &[Entry], text: &'a [u8]) -> Option<(Entry, &'a [u8])
     }
 }
 
-/// Whether there is room for an entry after these, and its AFTER and NOW do not fall.
+/// Whether an entry may follow these: there is room for it, and neither AFTER nor NOW falls.
 fn may_follow(entries: &[Entry], after: u64, now: u64) -> bool
     requires { IsLawful entries.now }
     ensures { IsTrue result ↔ MayFollow entries.now after now }
@@ -131,7 +131,7 @@ fn entry_of(line: &[u8]) -> Option<Entry>
     Some(Entry { after, now, action })
 }
 
-/// The action of the end of a line.
+/// The action of a line, read from what follows AFTER and NOW.
 fn action_of(text: &[u8]) -> Option<Action>
     ensures { MatchOption result
         ((a : Action) → IsActionInRange a → IsActionLine a text.now → ⊥)
@@ -148,7 +148,7 @@ fn action_of(text: &[u8]) -> Option<Action>
     }
 }
 
-/// The sighting of the end of a line.
+/// The sighting of a line, read from what follows `seen`.
 fn sighting_of(text: &[u8]) -> Option<Sighting>
     ensures { MatchOption result
         ((s : Sighting) → IsSightingInRange s → IsSightingLine s text.now → ⊥)
@@ -162,7 +162,7 @@ fn sighting_of(text: &[u8]) -> Option<Sighting>
     Some(Sighting { antenna, rssi, epc })
 }
 
-/// The word whose text the bytes are.
+/// The word that has these bytes as its text.
 fn word_of(bytes: &[u8]) -> Option<Word>
     ensures { MatchOption result
         ((word : ℕ) → word < 2 ^ 96 → IsTextOf word bytes.now → ⊥)

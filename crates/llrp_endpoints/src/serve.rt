@@ -1,4 +1,4 @@
-//! Serving one client by a script.
+//! Serves one client by a script.
 
 ghost use Rattle.std.specs.Prelude.{◌≡◌, ◌<◌, ◌^◌, [], List, ℕ};
 ghost use Rattle.llrp_session.specs.ReaderMachine.{Reader as Machine};
@@ -15,8 +15,8 @@ use llrp_session::Reader;
 use llrp_stream::{Sink, Source};
 use std::alloc::Global;
 
-/// Serves as a reader that `Serving::new` made, for [`run_serve`]: what it says is gathered in `out`, which
-/// is empty at first.
+/// Serves a client with a reader that `Serving::new` made, for [`run_serve`]. What the reader says
+/// is gathered in `out`, which is empty at first.
 fn serve<R: Source, W: Sink>(
     serving: &mut Serving,
     out: &mut Vec<u8>,
@@ -51,11 +51,12 @@ fn serve<R: Source, W: Sink>(
     Err(ToolErr::Bound)
 }
 
-/// Serves one client, whose bytes the source gives: the bytes that a simulated reader sends, acting by
-/// the script, are written to the sink, those for what was read before the next read. The core is as
-/// `Reader::new` made it. It ends fine once the client closed the connection, or where the source ends
-/// between two frames; `Early` is an end within a frame, `Broken` a length field below 10. After `Read`,
-/// `Write`, `Bound` or `Memory` a front of what the reader says was written.
+/// Serves the client whose bytes the source gives: writes the bytes that a simulated reader sends,
+/// acting by the script, to the sink; those for what was read are written before the next read. The
+/// core is as `Reader::new` made it. It ends well once the client closed the connection, or if the
+/// source ends after a whole frame. The error is `Early` if the source ends within a frame, and
+/// `Broken` at a length field below 10. After `Read`, `Write`, `Bound` or `Memory`, some first part
+/// of what the reader says was written.
 pub fn run_serve<R: Source, W: Sink>(
     alloc: Global,
     core: Reader,

@@ -1,4 +1,5 @@
-//! Serving a client: a simulated reader takes what comes in pieces of a stream, and acts by a script.
+//! A simulated reader that serves a client: it takes what comes in pieces of a stream, and acts by
+//! a script.
 
 mod acting;
 mod scripted;
@@ -19,10 +20,10 @@ use llrp_stream::{Decoder, End, Fed};
 use scripted::ScriptedReader;
 use std::alloc::Global;
 
-/// The state that serving is in.
+/// How far serving has come.
 #[derive(Clone, Copy, Debug, PartialEq, Eq)]
 pub(crate) enum Phase {
-    /// It was not started.
+    /// It has not started.
     New,
     /// It takes bytes.
     Open,
@@ -32,7 +33,7 @@ pub(crate) enum Phase {
     Failed(ToolErr),
 }
 
-/// A simulated reader that serves one client by a script. It is handed the bytes of the client as they
+/// A simulated reader that serves one client by a script. It is given the client's bytes as they
 /// come, and appends the bytes that the reader sends.
 #[derive(Drop)]
 pub struct Serving {
@@ -56,7 +57,7 @@ impl Serving {
     ghost use Rattle.llrp_endpoints.specs.Sending.{Adds};
     ghost use Rattle.llrp_endpoints.specs.ServingStands.{Feeds, Finishes, Goes, HasFailed, HasNotStarted, HasStarted, IsClosed, IsFresh, IsOpen, StandsFor, Starts};
 
-    /// A reader as `Reader::new` made it, and its script. It takes no memory.
+    /// A reader that `Reader::new` made, and its script. It takes no memory.
     pub fn new(alloc: Global, core: Reader, script: Script) -> Serving
         requires { IsNewReader core }
         ensures { IsFresh core script result }
@@ -69,8 +70,9 @@ impl Serving {
         }
     }
 
-    /// The client connects at moment 0, and the entries that happen before any item. What the reader says
-    /// is appended. It comes once, before any feed. The only error is `Memory`.
+    /// Starts serving: the client connects at moment 0, and the entries that come before any item
+    /// happen. Appends what the reader says. It is called once, before the first `feed`. The only
+    /// error is `Memory`.
     pub fn start(&mut self, out: &mut Vec<u8>) -> Result<(), ToolErr>
         requires { HasNotStarted self.old }
         ensures starts { (reader : Machine) (entries : List Entry) → IsFresh reader entries self.old
@@ -85,7 +87,7 @@ impl Serving {
         outcome
     }
 
-    /// Takes the items of a piece; the answer is whether one of them closed the connection.
+    /// Takes the items of a piece. Returns whether one of them closed the connection.
     fn take_all(&mut self, piece: &[u8], out: &mut Vec<u8>) -> Result<bool, ToolErr>
         ensures { (reader : Machine) (entries : List Entry) (bytes : List ℕ)
             (messages : List MessageTree) → StandsFor reader entries bytes messages self.old
@@ -109,10 +111,10 @@ impl Serving {
         Ok(false)
     }
 
-    /// Takes a piece of the client's bytes. What the reader says is appended. The answer is true once
-    /// the client closed the connection; then each later feed answers true and changes nothing. The
-    /// errors are `Broken` at a length field below 10, and `Memory`, after which each later feed answers
-    /// that error and changes nothing.
+    /// Takes a piece of the client's bytes, and appends what the reader says. Returns true once the
+    /// client closed the connection; each later call returns true and changes nothing. The errors
+    /// are `Broken` at a length field below 10, and `Memory`; each later call returns the same
+    /// error and changes nothing.
     pub fn feed(&mut self, piece: &[u8], out: &mut Vec<u8>) -> Result<bool, ToolErr>
         requires { HasStarted self.old }
         ensures feeds { (reader : Machine) (entries : List Entry) (bytes : List ℕ)
@@ -135,7 +137,8 @@ impl Serving {
         outcome
     }
 
-    /// How the input ends if nothing follows: fine where a frame ends, else `Early`.
+    /// How the input ends if no more bytes follow: well after a whole frame, and with `Early`
+    /// otherwise.
     pub(crate) fn finish(&self) -> Result<(), ToolErr>
         ensures { (reader : Machine) (entries : List Entry) (bytes : List ℕ)
             (messages : List MessageTree) → IsOpen reader entries bytes messages self.now

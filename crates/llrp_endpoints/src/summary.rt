@@ -3,7 +3,7 @@
 ghost use Rattle.std.specs.Prelude.{◌≡◌, ◌+◌, [], min};
 ghost use Rattle.llrp_endpoints.specs.TagLines.{greatest_count, summary_of};
 
-/// How many tags and how many reports came. Each number stops at the greatest one.
+/// How many tags and how many reports came. Neither number goes beyond the greatest `u64`.
 #[derive(Clone, Copy, Debug, PartialEq, Eq)]
 pub struct Summary {
     pub tags: u64,
@@ -21,7 +21,7 @@ impl Summary {
         }
     }
 
-    /// With one more report, of this many tags.
+    /// The summary after one more report, which has this many tags.
     pub(crate) fn with_report(self, tags: usize) -> Summary
         ensures tags { result.tags ≡ min (self.tags + tags) greatest_count }
         ensures reports { result.reports ≡ min (self.reports + 1) greatest_count }

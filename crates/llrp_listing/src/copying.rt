@@ -9,16 +9,16 @@ use crate::fault::ToolErr;
 use llrp_stream::{Sink, Source};
 use std::alloc::Global;
 
-/// The most reads of one source that give bytes.
+/// The greatest number of reads from one source that return bytes.
 pub const MOST_READS: u32 = 1_000_000;
 
 /// How many bytes a read asks for.
 pub const READ_SIZE: usize = 4096;
 
-/// How many bytes are gathered before they are handed to a sink.
+/// How many bytes are gathered before they are written to a sink.
 pub const PIECE_SIZE: usize = 65_536;
 
-/// All that the source gives, until a read meets its end. The errors are `Read`, `Memory`, and
+/// Reads all bytes of the source, until a read returns none. The errors are `Read`, `Memory`, and
 /// `Bound` after the greatest number of reads.
 pub fn read_all<R: Source>(alloc: Global, r: &mut R) -> Result<Vec<u8>, ToolErr>
     requires { IsFreshSource (R.log r.old) }
@@ -40,8 +40,8 @@ pub fn read_all<R: Source>(alloc: Global, r: &mut R) -> Result<Vec<u8>, ToolErr>
     Err(ToolErr::Bound)
 }
 
-/// Writes all of the bytes, in as many calls as it takes. The only error is `Write`, after which a
-/// front of the bytes was written.
+/// Writes all of the bytes, in as many calls as it takes. The only error is `Write`, after which
+/// some first part of the bytes was written.
 pub fn write_all<W: Sink>(w: &mut W, bytes: &[u8]) -> Result<(), ToolErr>
     requires { (W.log w.old).failures + 1 < 2 ^ 64 }
     ensures { Writes bytes.now (W.log w.old) (W.log w.new) result }
@@ -57,7 +57,7 @@ pub fn write_all<W: Sink>(w: &mut W, bytes: &[u8]) -> Result<(), ToolErr>
     Ok(())
 }
 
-/// What was gathered is handed on.
+/// Writes the buffer to the sink and empties it.
 pub fn hand_on<W: Sink>(gathered: &mut Vec<u8>, w: &mut W) -> Result<(), ToolErr>
     requires { (W.log w.old).failures + 1 < 2 ^ 64 }
     ensures written { Writes gathered.old.items (W.log w.old) (W.log w.new) result }
@@ -68,7 +68,7 @@ pub fn hand_on<W: Sink>(gathered: &mut Vec<u8>, w: &mut W) -> Result<(), ToolErr
     Ok(())
 }
 
-/// What was gathered is handed on, once it is a large piece.
+/// Writes the buffer to the sink once it holds 64 KiB.
 pub fn hand_on_pieces<W: Sink>(gathered: &mut Vec<u8>, w: &mut W) -> Result<(), ToolErr>
     requires { (W.log w.old).failures + 1 < 2 ^ 64 }
     ensures handed { OnOk result (HandsOn gathered.old.items gathered.new.items (W.log w.old)

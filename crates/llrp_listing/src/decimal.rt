@@ -6,7 +6,7 @@ ghost use Rattle.std.specs.Int.{w8};
 
 use crate::number::numeral;
 
-/// The number of at most `most` whose decimal text the word is.
+/// The number up to `most` that the word is in decimal, or `None`.
 pub fn number_of(word: &[u8], most: u64) -> Option<u64>
     ensures { MatchOption result
         ((n : ℕ) → n ≤ most → word.now ≡ decimal n → ⊥)
@@ -20,7 +20,7 @@ pub fn number_of(word: &[u8], most: u64) -> Option<u64>
     }
 }
 
-/// The number from -128 to 127 whose text the word is: decimal, after `-` where it is negative.
+/// The number from -128 to 127 that the word is in decimal, with `-` before a negative one.
 pub fn signed_byte_of(word: &[u8]) -> Option<i8>
     ensures { MatchOption result
         ((z : ℤ) → FitsSigned w8 z → word.now ≡ signed_decimal z → ⊥)
@@ -32,7 +32,7 @@ pub fn signed_byte_of(word: &[u8]) -> Option<i8>
     }
 }
 
-/// The number from -128 to -1 whose text is `-` and these digits.
+/// The number from -128 to -1 that has these digits after its `-`.
 fn negative_of(digits: &[u8]) -> Option<i8>
     ensures { MatchOption result
         ((z : ℤ) → FitsSigned w8 z → 45 ∷ digits.now ≡ signed_decimal z → ⊥)
@@ -42,6 +42,6 @@ fn negative_of(digits: &[u8]) -> Option<i8>
     if n == 0 {
         return None;
     }
-    // An i8 holds -128, but not 128.
+    // The subtraction comes last, since an i8 holds -128 but not 128.
     Some(-1 - (n - 1) as i8)
 }

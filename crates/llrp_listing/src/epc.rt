@@ -1,4 +1,4 @@
-//! The command epc: the text of a word's digits, and the digits of a word's text.
+//! The command `epc`: from a word's digits to its text, and from a text to its word's digits.
 
 ghost use Rattle.std.specs.Prelude.{◌≡◌, ◌++◌, ◌+◌, ◌^◌, ◌<◌, List, ℕ, IfNone, IfOk, IfSome, OnOk};
 ghost use Rattle.tag_bits.specs.Digits.{digits_of_bytes, word_digits};
@@ -31,7 +31,7 @@ fn push_digits(alloc: Global, lines: &mut Vec<u8>, word: Word) -> Result<(), All
     push_bytes(alloc, lines, &word.to_bytes())
 }
 
-/// Appends the line of twelve bytes' upper-case digits, those of the word that the bytes spell.
+/// Appends the line of these twelve bytes in upper-case digits, and so of the word that they spell.
 fn push_bytes(alloc: Global, lines: &mut Vec<u8>, bytes: &[u8]) -> Result<(), AllocError>
     ensures { (word : ℕ) → word < 2 ^ 96 → digits_of_bytes bytes.now ≡ word_digits word
         → OnOk result (lines.new.items ≡ lines.old.items ++ line (hexadecimal 24 word)) }
@@ -104,7 +104,7 @@ fn push_text(alloc: Global, lines: &mut Vec<u8>, text: &str) -> Result<Verdict, 
     }
 }
 
-/// Appends what is printed of a text.
+/// Appends the lines that answer a text.
 fn push_answer(alloc: Global, lines: &mut Vec<u8>, text: &str) -> Result<Verdict, AllocError>
     ensures { IfOk result (λ verdict. (answer : List ℕ) × Prints text.now verdict answer
         × (lines.new.items ≡ lines.old.items ++ answer)) }
@@ -118,11 +118,12 @@ fn push_answer(alloc: Global, lines: &mut Vec<u8>, text: &str) -> Result<Verdict
     }
 }
 
-/// Writes the lines of a text: of a word's 24 hexadecimal digits, in either case, the word's text
-/// and, where it has no tag URI, `# REASON BIT` with the part of the word that fails and its first
-/// bit; of a word's text its 24 upper-case digits; and `! REASON` for any other text, whose verdict
-/// is `Faulty`, with the first rule that refuses it (EPC Tag Data Standard 1.13, section 12). The
-/// errors are `Memory`, and `Write`, after which a front of the lines was written.
+/// Writes the answer to a text. For the 24 hexadecimal digits of a word, in either case, it is the
+/// word's text and, if the word has no tag URI, `# REASON BIT` with the part of the word that fails
+/// and its first bit. For a word's text it is the word's 24 upper-case digits. For any other text
+/// it is `! REASON` with the first rule that refuses it, and the verdict is `Faulty` (EPC Tag Data
+/// Standard 1.13, section 12). The errors are `Memory`, and `Write`, after which some first part of
+/// the lines was written.
 pub fn run_epc<W: Sink>(alloc: Global, text: &str, w: &mut W) -> Result<Verdict, ToolErr>
     requires { (W.log w.old).failures < 2 ^ 63 }
     ensures { PrintsEpc text.now (W.log w.old) (W.log w.new) result }

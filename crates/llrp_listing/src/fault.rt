@@ -15,28 +15,28 @@ use thiserror::Error;
 /// What a command that read its whole input found.
 #[derive(Clone, Copy, Debug, PartialEq, Eq)]
 pub enum Verdict {
-    /// Each frame is a message, and the stream ends where a frame ends; or the text is a word's.
+    /// Each frame is a message and the stream ends after a whole frame; or the text is a word's.
     Lawful,
-    /// Some frame has a fault, or the stream ends otherwise; or the text is not a word's.
+    /// Some frame has a fault or the stream ends otherwise; or the text is not a word's.
     Faulty,
 }
 
-/// Why a line of a listing is refused, in the order in which the reasons are looked for.
+/// Why a line of a listing is refused; the first reason in this order that applies.
 #[derive(Clone, Copy, Debug, PartialEq, Eq)]
 pub enum Refusal {
-    /// It isn't ended by LF, is too long, or holds a byte that is not printed.
+    /// It has no LF at its end, is too long, or has a byte other than printable ASCII.
     Line,
-    /// Its first word is not a level that is allowed here.
+    /// Its first word is not a level that may come here.
     Level,
-    /// Its second word is not a name that is allowed at this level.
+    /// Its second word is not a name that may come at this level.
     Name,
-    /// It has another number of words than its kind has.
+    /// It does not have as many words as its kind has.
     Fields,
-    /// A word is not a number that is allowed at its place.
+    /// A word is not a number that its field can have.
     Number,
-    /// Its last word is not a tail of its kind.
+    /// Its last word is not a tail that its kind can have.
     Tail,
-    /// A word is the text of no EPC's word, for this rule.
+    /// The word of an EPC is not the text of one; this rule refuses it.
     Epc(UriFault),
     /// With the lines below it, it is not a lawful message or parameter.
     Node(NodeFault),
@@ -61,8 +61,8 @@ fn node_fault_name(fault: NodeFault) -> &'static str
 }
 
 impl Refusal {
-    /// The words for it in an error line: its own, and after it that for the fault inside it, if
-    /// there is one.
+    /// The words that an error line has for it: its own name and, if it has a fault inside, that
+    /// fault's.
     pub fn names(self) -> (&'static str, &'static str)
         ensures { result.0.now ++ result.1.now ≡ refusal_name self }
     {
@@ -108,19 +108,19 @@ pub enum ToolErr {
     /// A write failed or took nothing.
     #[error("writing failed")]
     Write,
-    /// The source gave bytes in more reads than a command makes.
+    /// The source gave bytes in more reads than a command allows.
     #[error("the input is too long")]
     Bound,
     /// A length field below 10, which no frame has.
     #[error("the stream of messages breaks off")]
     Broken,
-    /// A growth was refused.
+    /// Memory ran out.
     #[error("out of memory")]
     Memory,
     /// The reader answered with this status, which is not 0.
     #[error("the reader answered with status {0}")]
     Peer(u16),
-    /// The reader sent what no reader sends there.
+    /// The reader sent an unexpected message or a faulty frame.
     #[error("the reader sent something strange")]
     Strange,
     /// The input or the connection ended before the work was done.
@@ -144,7 +144,7 @@ impl<T: Drop> From<AllocFailed<T>> for ToolErr {
     }
 }
 
-/// The error of a decoder that takes nothing more.
+/// The command's error for a decoder's, after which the decoder takes nothing more.
 pub fn error_of(error: FeedErr) -> ToolErr
     ensures { result ≡ error_by error }
 {

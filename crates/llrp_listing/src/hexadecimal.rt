@@ -7,7 +7,7 @@ use crate::fault::ToolErr;
 use hex::FromHexError;
 use std::alloc::Global;
 
-/// Whether the byte may be between digits: space, tab, LF or CR.
+/// Whether the byte may stand between digits: space, tab, LF or CR.
 fn is_space(byte: u8) -> bool
     ensures { result ≡ is_space byte }
 {

@@ -1,4 +1,4 @@
-//! What holds of every listing, and of what `epc` prints.
+//! Laws of listings, and of what `epc` prints.
 
 ghost use Rattle.std.specs.Prelude.{List, ◌≡◌, ℕ};
 ghost use Rattle.llrp_tree.specs.Tree.{MessageTree};
@@ -7,8 +7,8 @@ ghost use Rattle.llrp_listing.specs.EpcLines.{Prints};
 ghost use Rattle.llrp_listing.specs.ListingLaws.{HasShortLines, ListedOrRefused};
 ghost use Rattle.llrp_listing.specs.PrintingLaws.{OneTextOfItems, OneTextOfMessages, PrintsBack};
 
-/// A text is the listing of one list of messages at most, each within the limit, or has one first
-/// refusal at most, and never both.
+/// A text is the listing of at most one list of messages within the limit, or has at most one first
+/// refusal, and never both.
 pub fn listed_or_refused()
     ensures { (limit : ℕ) (text : List ℕ) → ListedOrRefused limit text }
 {}
@@ -18,23 +18,23 @@ pub fn lines_are_short()
     ensures { (m : MessageTree) → HasShortLines m }
 {}
 
-/// Messages have one listing.
+/// A list of messages has one listing.
 pub fn one_text_of_messages()
     ensures { OneTextOfMessages }
 {}
 
-/// What a stream holds has one listing.
+/// The items of a stream have one listing.
 pub fn one_text_of_items()
     ensures { OneTextOfItems }
 {}
 
-/// Where a text is the listing of messages, the stream of their spellings has that text for its
+/// Where a text is the listing of messages, the stream of their octets has that text as its
 /// listing, and no other.
 pub fn prints_back()
     ensures { PrintsBack }
 {}
 
-/// Of each text epc prints the same lines, with the same verdict.
+/// For each text, `epc` has one answer: the same lines and the same verdict.
 pub fn one_epc_answer()
     ensures verdict { (text a b : List ℕ) (v w : Verdict) → Prints text v a
         → Prints text w b → v ≡ w }

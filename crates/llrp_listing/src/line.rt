@@ -1,4 +1,4 @@
-//! Lines of a listing: what one says, or why it is refused by itself.
+//! Lines of a listing: what a line says, or why it is refused whatever the other lines are.
 
 ghost use Rattle.std.specs.Prelude.{◌≡◌, ◌≤◌, ◌+◌, ◌*◌, length, map, filter, not, MatchOption, MatchResult, OnOk};
 ghost use Rattle.arrayvec.specs.ArrayVec.{array_vec_len};
@@ -51,7 +51,7 @@ pub enum Line {
 /// Why a line is not read.
 #[derive(Clone, Copy)]
 pub enum LineErr {
-    /// It is refused by itself.
+    /// It is refused, whatever the other lines are.
     Refused(Refusal),
     /// Memory ran out.
     Memory,
@@ -73,14 +73,14 @@ impl From<AllocError> for LineErr {
     }
 }
 
-/// Whether each byte is a space or a printed ASCII character.
+/// Whether each byte is printable ASCII.
 fn is_printed(line: &[u8]) -> bool
     ensures { result ≡ is_printed line.now }
 {
     line.iter().all(|b| 32 <= *b && *b <= 126)
 }
 
-/// A level that this many open lines allow.
+/// Reads a level, which may be at most the number of open lines.
 fn read_level(word: &str, depth: usize) -> Option<usize>
     ensures { IsLevel depth word.now result }
 {
@@ -94,7 +94,7 @@ fn read_level(word: &str, depth: usize) -> Option<usize>
     Some(level as usize)
 }
 
-/// The kind with a name: at level 0 a message's, at any other a parameter's.
+/// The kind with this name: a message's at level 0, a parameter's at any other.
 fn read_kind(level: usize, name: &str) -> Option<Kind>
     ensures { IsKindNamed level name.now result }
 {
@@ -125,7 +125,8 @@ fn plain_count(rules: &[Field]) -> usize
     count
 }
 
-/// How many numbers the line of a kind has: a message's version and id, and the plain fields.
+/// How many numbers the line of a kind has: a message's version and id, and all fields that are not
+/// reserved.
 fn number_count(kind: Kind) -> usize
     ensures value { result ≡ length (number_forms kind) }
     ensures few { result ≤ 14 }
@@ -163,7 +164,7 @@ struct Start<'a> {
     words: Option<&'a str>,
 }
 
-/// Reads a line up to its name, where this many lines are open.
+/// Reads a line up to its name, below this many open lines.
 fn read_start(line: &str, depth: usize) -> Result<Start<'_>, Refusal>
     ensures { ReadsStart depth line.now result }
 {
@@ -181,7 +182,7 @@ fn read_start(line: &str, depth: usize) -> Result<Start<'_>, Refusal>
     Ok(Start { level, kind, words })
 }
 
-/// Appends the values of plain fields, and gives the words after theirs.
+/// Appends the values of the fields that are not reserved, and returns the words after theirs.
 fn read_fields<'a>(
     rules: &[Field],
     words: Option<&'a str>,
@@ -206,7 +207,7 @@ fn read_fields<'a>(
     }
 }
 
-/// The line of a message of a kind, with the words after its name.
+/// Reads the line of a message of this kind from the words after its name.
 fn read_message(kind: MsgKind, words: Option<&str>) -> Result<MessageLine, Refusal>
     requires { length (words_in words) ≡ length (number_forms (Message kind)) }
     ensures { ReadsMessage kind (words_in words.entry) result }
@@ -227,7 +228,7 @@ fn read_message(kind: MsgKind, words: Option<&str>) -> Result<MessageLine, Refus
     })
 }
 
-/// The octets of a tail, from the words after the fields.
+/// Reads the octets of a tail from the words after the fields.
 fn read_rest(alloc: Global, form: Tail, rest: Option<&str>) -> Result<Octets, LineErr>
     requires { length (words_in rest) ≡ tail_count form }
     ensures { ReadsRest form (words_in rest.entry) result }
@@ -238,7 +239,7 @@ fn read_rest(alloc: Global, form: Tail, rest: Option<&str>) -> Result<Octets, Li
     }
 }
 
-/// The line of a parameter of a kind, with the words after its name.
+/// Reads the line of a parameter of this kind from the words after its name.
 fn read_parameter(
     alloc: Global,
     level: usize,
@@ -264,7 +265,7 @@ fn read_parameter(
     })
 }
 
-/// What an ended line says, where this many lines are open, or why it is refused by itself.
+/// Reads a whole line, below this many open lines, or returns why it is refused.
 pub fn read_line(alloc: Global, line: &[u8], depth: usize) -> Result<Line, LineErr>
     ensures { ReadsLine depth line.now result }
 {

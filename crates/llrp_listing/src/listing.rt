@@ -1,4 +1,4 @@
-//! The words of lines that the layer above writes, appended to a text.
+//! Words of lines that the crates above write, appended to a text.
 
 mod numbers;
 mod tails;

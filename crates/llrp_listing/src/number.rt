@@ -1,4 +1,4 @@
-//! The numbers of a line, each from its word.
+//! The numbers of a line, each read from its word.
 
 ghost use Rattle.std.specs.Prelude.{◌≡◌};
 ghost use Rattle.llrp_schema.specs.Schema.{field_rule};
@@ -11,10 +11,10 @@ use crate::fault::Refusal;
 use llrp_schema::Field;
 use tag_uri::word_of_text;
 
-/// How many bits the field of EPC-96 has, and no other.
+/// How many bits the field of an EPC-96 has; no other field has as many.
 pub const EPC_BITS: u32 = 96;
 
-/// The number whose decimal text of at most 20 digits the word is.
+/// The number that the word is in decimal, with at most 20 digits.
 #[tactic(auto, unfolding(crate::specs::Numeral::numeral))]
 pub fn numeral(word: &[u8]) -> Option<u128>
     ensures { result ≡ numeral word.now }
@@ -32,7 +32,7 @@ pub fn numeral(word: &[u8]) -> Option<u128>
     Some(n)
 }
 
-/// A message's version, 1 or 2.
+/// Reads a message's version, 1 or 2.
 pub fn read_version(word: &str) -> Result<u8, Refusal>
     ensures { ReadsNumber Version word.now result }
 {
@@ -45,7 +45,7 @@ pub fn read_version(word: &str) -> Result<u8, Refusal>
     Ok(version as u8)
 }
 
-/// A message's id, of 32 bits.
+/// Reads a message's id, of 32 bits.
 pub fn read_id(word: &str) -> Result<u32, Refusal>
     ensures { ReadsNumber Id word.now result }
 {
@@ -58,7 +58,7 @@ pub fn read_id(word: &str) -> Result<u32, Refusal>
     Ok(id as u32)
 }
 
-/// A field without a sign.
+/// Reads a field without a sign.
 fn read_unsigned(word: &str) -> Result<u128, Refusal>
     ensures { ReadsNumber Unsigned word.now result }
 {
@@ -68,7 +68,7 @@ fn read_unsigned(word: &str) -> Result<u128, Refusal>
     Ok(number)
 }
 
-/// The eight bits of a number from -128 to 127.
+/// Reads a number from -128 to 127 as eight bits.
 fn read_signed(word: &str) -> Result<u128, Refusal>
     ensures { ReadsNumber Signed word.now result }
 {
@@ -78,7 +78,7 @@ fn read_signed(word: &str) -> Result<u128, Refusal>
     }
 }
 
-/// The eight bits of a number from 0 to 127.
+/// Reads a number from 0 to 127 as eight bits.
 fn from_zero(digits: &[u8]) -> Result<u128, Refusal>
     ensures { ReadsPositive digits.now result }
 {
@@ -91,7 +91,7 @@ fn from_zero(digits: &[u8]) -> Result<u128, Refusal>
     Ok(number)
 }
 
-/// The eight bits of a number from -128 to -1, whose digits follow its sign.
+/// Reads a number from -128 to -1 as eight bits, from the digits after its sign.
 fn below_zero(digits: &[u8]) -> Result<u128, Refusal>
     ensures { ReadsNegative digits.now result }
 {
@@ -104,7 +104,7 @@ fn below_zero(digits: &[u8]) -> Result<u128, Refusal>
     Ok(256 - size)
 }
 
-/// The 96 bits of an EPC.
+/// Reads the 96 bits of an EPC.
 fn read_epc(word: &str) -> Result<u128, Refusal>
     ensures { ReadsNumber Epc word.now result }
 {
@@ -114,7 +114,7 @@ fn read_epc(word: &str) -> Result<u128, Refusal>
     }
 }
 
-/// The value of a plain field.
+/// Reads the value of a field that is not reserved.
 pub fn read_field(field: &Field, word: &str) -> Result<u128, Refusal>
     ensures { ReadsNumber (field_form (field_rule field.now)) word.now result }
 {

@@ -1,4 +1,4 @@
-//! The lines of what is read, put straight into a text.
+//! Prints what is read, line by line, straight into a text.
 
 mod decimal;
 mod ends;

@@ -1,4 +1,4 @@
-//! The listing of a stream.
+//! Lists a stream.
 
 ghost use Rattle.std.specs.Prelude.{◌&&◌, ◌+◌, ◌++◌, ◌<◌, ◌^◌, ◌≡◌, ◌≤◌, IfErr, IfOk, List, MatchResult, ℕ};
 ghost use Rattle.llrp_stream.specs.Device.{IsFreshSource, SinkLog};
@@ -23,13 +23,13 @@ fn verdict(lawful: bool, end: End) -> Verdict
     }
 }
 
-/// Lists a stream that comes in pieces. No message is kept: the lines of one go straight into the text,
-/// and are taken back where its frame turns out faulty.
+/// Lists a stream that comes in pieces. It keeps no message: a message's lines go straight into the
+/// text, and are cut off again if its frame turns out to be faulty.
 #[derive(Drop)]
 pub(crate) struct Lister {
     frames: Frames,
     printer: Printer,
-    /// Each frame so far is a message's.
+    /// Whether each frame so far is a message.
     lawful: bool,
 }
 
@@ -39,7 +39,8 @@ impl Lister {
     ghost use Rattle.llrp_stream.specs.declared.reading.frames.Outcome.TheVariants.{Bad};
     ghost use Rattle.llrp_listing.specs.Lister.{CanGoOn, Feeds, Finishes, GoesOn, KeepsFew, ListsOrFails, Tells};
 
-    /// Frames longer than `limit` octets are faulty.
+    /// A lister of a stream of which nothing was read. Frames longer than `limit` octets are
+    /// faulty.
     fn new(alloc: Global, limit: u32) -> Lister
         requires least { 10 ≤ limit }
         requires most { limit ≤ MAX_LIMIT }
@@ -52,8 +53,7 @@ impl Lister {
         }
     }
 
-    /// Gathers the line of a frame that is not a message, and hands it on with the text before it once
-    /// that is a large piece.
+    /// Appends the line of a faulty frame, and writes the text to the sink once it is long enough.
     fn list_fault<W: Sink>(&mut self, id: u32, fault: Fault, w: &mut W) -> Result<(), ToolErr>
         requires { (W.log w.old).failures + 1 < 2 ^ 64 }
         ensures frames { self.new.frames ≡ self.old.frames }
@@ -66,8 +66,8 @@ impl Lister {
         self.printer.hand_on_pieces(w)
     }
 
-    /// Sees to it that the text of a frame is gathered, and hands it on with the text before it once
-    /// that is a large piece.
+    /// Appends the line of a frame that ended, if it was faulty, and writes the text to the sink once
+    /// it is long enough.
     fn list<W: Sink>(&mut self, outcome: Outcome, w: &mut W) -> Result<(), ToolErr>
         requires within { self.old.printer.mark ≤ length self.old.printer.text }
         requires sink { (W.log w.old).failures + 1 < 2 ^ 64 }
@@ -82,15 +82,15 @@ impl Lister {
         }
     }
 
-    /// Writes the text of the frames that a piece of the stream ends, and returns whether the stream goes
-    /// on: it does unless it is broken.
+    /// Writes the text of the frames that end in this piece of the stream. Returns whether the
+    /// stream goes on, which it does unless it is broken.
     fn feed<W: Sink>(&mut self, piece: &[u8], w: &mut W) -> Result<bool, ToolErr>
         requires sink { (W.log w.old).failures + 1 < 2 ^ 64 }
         requires on { CanGoOn (W.log w.old) self.old }
         ensures feeds { (limit : ℕ) (bytes gathered : List ℕ) (log : SinkLog)
             → GoesOn limit bytes gathered log (W.log w.old) self.old
             → Feeds limit (bytes ++ piece.now) log (W.log w.new) self.new result }
-        // Whatever listener it has, the engine never keeps more than the limit.
+        // What the engine keeps of a frame is never more than the limit.
         ensures held { (limit : ℕ) (bytes gathered : List ℕ) (log : SinkLog)
             → GoesOn limit bytes gathered log (W.log w.old) self.old → 10 ≤ limit
             → OnOk result (KeepsFew limit self.new) }
@@ -111,7 +111,7 @@ impl Lister {
         }
     }
 
-    /// Writes what is left of the text, and the line of the stream's end.
+    /// Writes the rest of the text, and the line of the stream's end.
     fn finish<W: Sink>(&mut self, w: &mut W) -> Result<Verdict, ToolErr>
         requires { (W.log w.old).failures + 1 < 2 ^ 64 }
         ensures { (limit : ℕ) (bytes : List ℕ) (log : SinkLog)
@@ -126,8 +126,8 @@ impl Lister {
         Ok(verdict(self.lawful, end))
     }
 }
-/// Writes the listing of a stream. The errors are `Write` and `Memory`, after which a front of the
-/// listing was written.
+/// Writes the listing of a stream. The errors are `Write` and `Memory`, after which some first part
+/// of the listing was written.
 pub fn list_stream<W: Sink>(
     alloc: Global,
     stream: &[u8],
@@ -146,10 +146,11 @@ pub fn list_stream<W: Sink>(
     lister.finish(w)
 }
 
-/// Writes the listing of all that the source gives, and returns whether all of it is lawful. Frames
-/// longer than `limit` octets are faulty. What belongs to the bytes of a read is written before the
-/// next read; none follows a break of the stream. After `Read` or `Bound` the lines of each frame that
-/// is whole in what was read were written, after `Write` or `Memory` a front of its listing.
+/// Writes the listing of everything that the source gives, and returns whether all of it is lawful.
+/// Frames longer than `limit` octets are faulty. The listing of the frames that end in the bytes of
+/// one read is written before the next read; no read follows a break of the stream. After `Read` or
+/// `Bound`, the lines of each frame that is whole in what was read were written; after `Write` or
+/// `Memory`, some first part of the listing.
 pub fn run_show<R: Source, W: Sink>(
     alloc: Global,
     r: &mut R,
@@ -160,7 +161,8 @@ pub fn run_show<R: Source, W: Sink>(
     requires sink { (W.log w.old).failures < 2 ^ 63 }
     requires least { 10 ≤ limit }
     requires most { limit ≤ MAX_LIMIT }
-    // On Ok all was read, or up to a break, and its listing written; on Err a front of it.
+    // After Ok, the source was read to its end or to a break, and the listing was written; after
+    // Err, some first part of it.
     ensures { Shows limit (R.log r.old) (R.log r.new) (W.log w.old) (W.log w.new) result }
 {
     let mut lister = Lister::new(alloc, limit);

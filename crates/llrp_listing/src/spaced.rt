@@ -1,11 +1,11 @@
-//! The words of a line.
+//! Splits a line into its words.
 
 ghost use Rattle.std.specs.Prelude.{◌∷◌, ◌≡◌, MatchOption, [], length};
 ghost use Rattle.llrp_listing.specs.Splits.{IsSplit, Lacks, words, words_in};
 
 use memchr::memchr;
 
-/// The bytes before the first such byte and those after it, or `None` where there is none.
+/// The bytes before the first such byte and those after it; `None` if there is no such byte.
 pub fn split_once(bytes: &[u8], byte: u8) -> Option<(&[u8], &[u8])>
     ensures { MatchOption result (Lacks byte bytes.now)
         (λ parts. IsSplit byte bytes.now parts.0.now parts.1.now) }
@@ -16,7 +16,7 @@ pub fn split_once(bytes: &[u8], byte: u8) -> Option<(&[u8], &[u8])>
     Some((before, after))
 }
 
-/// The first word, and those after the space that ends it, if there is one.
+/// The first word and, if a space ends it, the words after it.
 pub fn first_word(line: &str) -> (&str, Option<&str>)
     ensures { words line.now ≡ result.0.now ∷ words_in result.1 }
 {
@@ -26,7 +26,7 @@ pub fn first_word(line: &str) -> (&str, Option<&str>)
     }
 }
 
-/// How many words there are.
+/// How many words a line has.
 pub fn count_words(line: &[u8]) -> usize
     ensures { result ≡ length (words line.now) }
 {

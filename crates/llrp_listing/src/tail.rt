@@ -1,4 +1,4 @@
-//! The tail of a parameter's line, from its word.
+//! The tail of a parameter's line, read from its word.
 
 ghost use Rattle.std.specs.Prelude.{◌≡◌, MatchResult};
 ghost use Rattle.llrp_schema.specs.declared.kinds.Tail.TheVariants.{Text, Words};
@@ -13,7 +13,7 @@ use llrp_schema::Tail;
 use llrp_tree::Octets;
 use std::alloc::Global;
 
-/// Appends the octets of a word of 16 bits, which is in decimal.
+/// Appends the two octets of a decimal number of 16 bits.
 fn push_word(octets: &mut Vec<u8>, word: &[u8]) -> Result<(), LineErr>
     ensures { MatchResult result (λ _. AppendsWord word.now octets.old.items octets.new.items)
         (IsNoWord word.now) }
@@ -28,7 +28,7 @@ fn push_word(octets: &mut Vec<u8>, word: &[u8]) -> Result<(), LineErr>
     Ok(())
 }
 
-/// The octets of words of 16 bits, which are in decimal and are joined by commas.
+/// Reads decimal numbers of 16 bits, joined by commas, as octets.
 fn read_word_list(alloc: Global, list: &[u8]) -> Result<Vec<u8>, LineErr>
     ensures { MatchResult result (λ octets. IsWordList list.now octets.items)
         (IsNoTail (IsWordList list.now)) }
@@ -46,14 +46,14 @@ fn read_word_list(alloc: Global, list: &[u8]) -> Result<Vec<u8>, LineErr>
     Ok(octets)
 }
 
-/// Whether some byte is a capital letter.
+/// Whether one of the bytes is an upper-case letter.
 fn has_capital(bytes: &[u8]) -> bool
     ensures { result ≡ has_capital bytes.now }
 {
     bytes.iter().any(|b| 65 <= *b && *b <= 90)
 }
 
-/// The octets of lower-case hexadecimal digits.
+/// Reads lower-case hexadecimal digits as octets.
 fn read_digits(alloc: Global, digits: &[u8]) -> Result<Vec<u8>, LineErr>
     ensures { MatchResult result (λ octets. AreDigitsOf digits.now octets.items)
         (IsNoTail (AreDigitsOf digits.now)) }
@@ -70,7 +70,7 @@ fn read_digits(alloc: Global, digits: &[u8]) -> Result<Vec<u8>, LineErr>
     }
 }
 
-/// The octets of a list of words, after its `w`.
+/// Reads a list of 16-bit words, from its `w` on.
 fn read_words(alloc: Global, word: &str) -> Result<Octets, LineErr>
     ensures { MatchResult result (IsTailWord Words word.now)
         (IsNoTail (IsTailWord Words word.now)) }
@@ -82,7 +82,7 @@ fn read_words(alloc: Global, word: &str) -> Result<Octets, LineErr>
     Ok(Octets::new(octets))
 }
 
-/// The octets of hexadecimal digits, after their `x`.
+/// Reads hexadecimal digits, from their `x` on.
 fn read_octets(alloc: Global, word: &str) -> Result<Octets, LineErr>
     ensures { MatchResult result (IsTailWord Text word.now) (IsNoTail (IsTailWord Text word.now)) }
 {
@@ -93,7 +93,7 @@ fn read_octets(alloc: Global, word: &str) -> Result<Octets, LineErr>
     Ok(Octets::new(octets))
 }
 
-/// The octets of a tail, from its word.
+/// Reads the octets of a tail from its word.
 pub fn read_tail(alloc: Global, form: Tail, word: &str) -> Result<Octets, LineErr>
     ensures { MatchResult result (IsTailWord form word.now) (IsNoTail (IsTailWord form word.now)) }
 {

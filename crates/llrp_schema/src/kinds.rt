@@ -1,4 +1,4 @@
-//! Kinds of messages and parameters, and what a row of the tables says of one.
+//! Kinds of messages and parameters, and what a row of the tables says about one.
 
 ghost use Rattle.std.specs.Prelude.{◌≡◌};
 
@@ -127,7 +127,7 @@ pub enum Tail {
     Words,
     /// A count of 16 bits, and this many octets of UTF-8.
     Text,
-    /// The bits that the last field counts, filled up to whole octets.
+    /// As many bits as the last field says, filled up to whole octets.
     Bits,
 }
 
@@ -137,11 +137,11 @@ pub struct Field {
     pub name: &'static str,
     /// In bits.
     pub width: u32,
-    /// A reserved field holds zero.
+    /// Whether it is reserved, and so has to be zero.
     pub reserved: bool,
-    /// The lawful values go from 0 to this one.
+    /// The greatest lawful value; the least is 0.
     pub greatest: u128,
-    /// The field's bits are a number in two's complement.
+    /// Whether its bits are a number in two's complement.
     pub signed: bool,
 }
 
@@ -149,30 +149,30 @@ pub struct Field {
 #[derive(Clone, Copy, Debug)]
 pub struct Group {
     pub members: &'static [ParamKind],
-    /// The least number of such children that a parent has.
+    /// How many such children a parent has at least.
     pub least: u32,
-    /// The most, where there is a bound.
+    /// How many it has at most, if there is a bound.
     pub most: Option<u32>,
 }
 
 /// The place of a child among the groups of its parent.
 #[derive(Clone, Copy, Debug, PartialEq, Eq)]
 pub struct Place {
-    /// The index, from 0 on, of the group that the child is counted in.
+    /// The index of the group in which the child is counted, from 0 on.
     pub index: u8,
-    /// Whether that group takes one child at most. If not, it takes any number.
+    /// Whether that group takes at most one child; otherwise it takes any number.
     pub once: bool,
 }
 
-/// The name of a kind, followed by spaces, in a text that can be copied whole.
+/// The name of a kind, followed by spaces, so that a fixed number of octets can be copied.
 #[derive(Clone, Copy, Debug)]
 pub struct Label {
     pub text: [u8; 32],
-    /// How many octets of the text are the name.
+    /// How many octets of the text belong to the name.
     pub octets: u8,
 }
 
-/// A row of the tables: all that they say of a kind.
+/// A row of the tables: everything that they say about a kind.
 #[derive(Clone, Copy, Debug)]
 pub struct Definition {
     pub number: u16,

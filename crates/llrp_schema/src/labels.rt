@@ -5,7 +5,7 @@ ghost use Rattle.llrp_schema.specs.Schema.{name_of};
 
 use crate::kinds::{Kind, Label, MsgKind, ParamKind};
 
-/// A name by its length, with spaces after it.
+/// A name with its length, and spaces after it.
 macro_rules! label {
     ($octets:literal, $text:literal) => {
         Label {
@@ -102,8 +102,8 @@ static PARAMETERS: [Label; 54] = [
     label!(21, b"C1G2EPCMemorySelector           "),
 ];
 
-/// Returns the name of a kind (LLRP 1.1, sections 17.1 and 17.2) at the beginning of a text of 32 octets that
-/// can be copied whole, and how many octets of it are the name. Spaces follow the name.
+/// Returns the name of a kind (LLRP 1.1, sections 17.1 and 17.2) at the front of 32 octets, so that
+/// a fixed number of them can be copied, and how many octets it has. Spaces follow the name.
 ///
 /// The label of a KEEPALIVE has 9 octets.
 #[inline]

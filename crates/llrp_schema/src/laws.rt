@@ -8,7 +8,7 @@ ghost use Rattle.llrp_schema.specs.declared.kinds.Kind.TheVariants.{Message, Par
 ghost use Rattle.llrp_schema.specs.declared.kinds.Tail.TheVariants.{Absent, Bits};
 ghost use Rattle.llrp_schema.specs.Schema.{FieldRule, number_of, name_of, fields_of, plain_fields_of, bits_of, tail_of, groups_of, is_tv, field, message_with_number, tlv_with_number, tv_with_number, message_with_name, param_with_name};
 
-/// No two messages have one number, and no two parameters.
+/// No two messages have the same number, and no two parameters have.
 #[tactic(auto, using(crate::proofs::TableLaws::message_numbers, crate::proofs::TableLaws::param_numbers))]
 pub fn numbers_are_distinct()
     ensures message { (a b : MsgKind) → number_of (Message a) ≡ number_of (Message b) → a ≡ b }
@@ -16,13 +16,13 @@ pub fn numbers_are_distinct()
         ≡ number_of (Parameter b) → a ≡ b }
 {}
 
-/// No two kinds have one name.
+/// No two kinds have the same name.
 #[tactic(auto, using(crate::proofs::TableLaws::names))]
 pub fn names_are_distinct()
     ensures { (a b : Kind) → name_of a ≡ name_of b → a ≡ b }
 {}
 
-/// A search by number finds exactly the kind with this number.
+/// A look-up by number finds exactly the kind with this number.
 #[tactic(auto, using(crate::proofs::TableLaws::message_found))]
 pub fn numbers_are_found()
     ensures message { (number : ℕ) (kind : MsgKind) →
@@ -35,7 +35,7 @@ pub fn numbers_are_found()
         ((is_tv kind ≡ true) × (number_of (Parameter kind) ≡ number)) }
 {}
 
-/// A search by name finds exactly the kind with this name.
+/// A look-up by name finds exactly the kind with this name.
 #[tactic(auto, using(crate::proofs::TableLaws::message_name_found, crate::proofs::TableLaws::param_name_found))]
 pub fn names_are_found()
     ensures message { (name : List ℕ) (kind : MsgKind) →
@@ -44,15 +44,15 @@ pub fn names_are_found()
         (param_with_name name ≡ Some kind) ↔ (name_of (Parameter kind) ≡ name) }
 {}
 
-/// The number of a message, or of a parameter with a length, fits the 10 bits of its header; that of
-/// a parameter with a type and a value alone is below 128 by definition, and so fits its 7.
+/// The number of a message, or of a parameter with a length, fits the 10 bits of its header. That
+/// of a parameter with a type and a value alone is below 128 by definition, and so fits 7 bits.
 #[tactic(auto, using(crate::proofs::TableLaws::message_number_fits, crate::proofs::TableLaws::param_number_fits))]
 pub fn numbers_fit_headers()
     ensures message { (kind : MsgKind) → number_of (Message kind) < 2 ^ 10 }
     ensures parameter { (kind : ParamKind) → number_of (Parameter kind) < 2 ^ 10 }
 {}
 
-/// A name begins with a capital letter, has no space and no control character, and is short.
+/// A name begins with an upper-case letter, has no space and no control character, and is short.
 #[tactic(auto, using(crate::proofs::TableLaws::name_begins, crate::proofs::TableLaws::name_visible, crate::proofs::TableLaws::name_short))]
 pub fn names_are_words()
     ensures begins { (kind : Kind) →
@@ -62,7 +62,7 @@ pub fn names_are_words()
     ensures short { (kind : Kind) → length (name_of kind) ≤ 32 }
 {}
 
-/// The fields of a kind fill whole octets, twelve at most; a kind has at most twelve plain fields.
+/// The fields of a kind, twelve at most, fill whole octets.
 #[tactic(auto, using(crate::proofs::TableLaws::whole_octets, crate::proofs::TableLaws::few_bits, crate::proofs::TableLaws::few_plain_fields))]
 pub fn fields_fill_octets()
     ensures whole { (kind : Kind) → bits_of (fields_of kind) % 8 ≡ 0 }
@@ -70,8 +70,8 @@ pub fn fields_fill_octets()
     ensures plain { (kind : Kind) → length (plain_fields_of kind) ≤ 12 }
 {}
 
-/// A field has 1 to 96 bits, and its greatest value fits them. A reserved field holds zero alone. A
-/// signed field is plain and has 8 bits, all of whose values are lawful.
+/// A field has 1 to 96 bits, which its greatest value fits. A reserved field is always zero. A
+/// signed field is not reserved and has 8 bits, all of whose values are lawful.
 #[tactic(auto, using(crate::proofs::TableLaws::field_widths, crate::proofs::TableLaws::field_values, crate::proofs::TableLaws::reserved_fields, crate::proofs::TableLaws::signed_fields))]
 pub fn fields_are_sound()
     ensures width { (kind : Kind) → All (λ field. (1 ≤ field.width)
@@ -87,8 +87,8 @@ pub fn fields_are_sound()
         (fields_of kind) }
 {}
 
-/// A parameter with a type and a value alone has one plain field, all of whose values are lawful, no
-/// tail and no children.
+/// A parameter with a type and a value alone has one field, which is not reserved and all of whose
+/// values are lawful; it has no tail and no children.
 #[tactic(auto, using(crate::proofs::TableLaws::tv_field, crate::proofs::TableLaws::tv_tail, crate::proofs::TableLaws::tv_groups))]
 pub fn tv_is_one_field()
     ensures field { (kind : ParamKind) → is_tv kind ≡ true →
@@ -119,8 +119,8 @@ pub fn groups_are_sound()
         (groups_of kind) }
 {}
 
-/// A group needs no child or one, and takes one at most or any number. A kind has 15 groups at most, so
-/// that a bit for each fits 32 bits.
+/// A group needs one child or none, and takes at most one or any number. A kind has at most 15
+/// groups, so 32 bits have room for one bit a group.
 #[tactic(auto, using(crate::proofs::PlaceLemmas::needs_one_at_most, crate::proofs::PlaceLemmas::takes_one_or_any, crate::proofs::PlaceLemmas::few_groups))]
 pub fn groups_are_narrow()
     ensures least { (kind : Kind) → All (λ group. group.least ≤ 1) (groups_of kind) }

@@ -1,4 +1,5 @@
-//! Kinds by their names. A name's length leaves six kinds at most, whose names are compared.
+//! Looks up kinds by their names. At most six kinds have names of the same length; these are
+//! compared.
 
 ghost use Rattle.std.specs.Prelude.{◌≡◌, ◌≤◌, ◌==◌, length, filter, find, nat_eq, nat_le, take};
 ghost use Rattle.std.specs.Cmp.Lexicographic.{pointwise};
@@ -7,21 +8,21 @@ ghost use Rattle.llrp_schema.specs.Schema.{name_of, message_kinds, param_kinds, 
 use crate::kinds::{Kind, MsgKind, ParamKind};
 use crate::labels::label;
 
-/// The message with a name, in octets, if the profile has one.
+/// The message with this name, given as octets, if the profile has one.
 pub fn msg_named(name: &[u8]) -> Option<MsgKind>
     ensures { result ≡ message_with_name name.now }
 {
     first_message(messages_of_length(name.len()), name)
 }
 
-/// The parameter with a name, in octets, if the profile has one.
+/// The parameter with this name, given as octets, if the profile has one.
 pub fn param_named(name: &[u8]) -> Option<ParamKind>
     ensures { result ≡ param_with_name name.now }
 {
     first_parameter(parameters_of_length(name.len()), name)
 }
 
-/// Whether this many octets of a text are the name.
+/// Whether the first octets of a text, as many as this, are the name.
 fn is_front(text: &[u8; 32], octets: u8, name: &[u8]) -> bool
     requires { octets ≤ 32 }
     ensures { result ≡ pointwise nat_eq (take octets text.now) name.now }
@@ -140,7 +141,7 @@ fn parameters_of_length(octets: usize) -> &'static [ParamKind]
     }
 }
 
-/// The same of the parameters whose names have more than 13 bytes.
+/// The parameters whose names have this many bytes, 14 or more.
 #[tactic(auto, unfolding(crate::specs::Schema::param_kinds, crate::specs::Schema::name_of, crate::specs::Schema::rule_of, crate::specs::Schema::param_rule))]
 fn longer_parameters(octets: usize) -> &'static [ParamKind]
     ensures { result.now ≡ filter (λ kind. length (name_of (Kind.Parameter kind)) == octets)

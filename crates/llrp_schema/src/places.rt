@@ -28,12 +28,12 @@ macro_rules! often {
     };
 }
 
-/// Returns the place of a child among the groups of its parent: the index of the one group that has the
-/// child's kind, from 0 on in the order of the tables (LLRP 1.1, sections 17.1 and 17.2), and whether that
-/// group takes one child at most. Returns `None` where the parent has no such children.
+/// Returns the place of a child among the groups of its parent: the index of the one group that has
+/// the child's kind, from 0 on in the order of the tables (LLRP 1.1, sections 17.1 and 17.2), and
+/// whether that group takes at most one child. Returns `None` if the parent has no such children.
 ///
 /// An AntennaID is in the second group of a TagReportData, which takes one: its place is
-/// `Some(Place { index: 1, once: true })`. A ROSpec has none there.
+/// `Some(Place { index: 1, once: true })`. A ROSpec is in none of them.
 #[inline]
 pub fn place(parent: Kind, child: ParamKind) -> Option<Place>
     ensures none { IfNone result (has_place (groups_of parent) child ≡ false) }
@@ -42,8 +42,9 @@ pub fn place(parent: Kind, child: ParamKind) -> Option<Place>
     first_place(parent, child)
 }
 
-/// Returns the groups of a kind that need a child, as bits: bit k, from the lowest on, is set exactly if
-/// the group with index k, from 0 on in the order of the tables (LLRP 1.1, sections 17.1 and 17.2), needs one.
+/// Returns the groups of a kind that need a child, as bits: bit k, from the lowest on, is set
+/// exactly if the group with index k needs one, from 0 on in the order of the tables (LLRP 1.1,
+/// sections 17.1 and 17.2).
 ///
 /// A ROSpec needs a ROBoundarySpec (its first group) and an AISpec (its second), and may have a
 /// ROReportSpec: `required` returns `0b011`.
@@ -146,7 +147,7 @@ fn in_parameter(parent: ParamKind, child: ParamKind) -> Option<Place>
     }
 }
 
-/// The place of a child of a message that has a status alone.
+/// The place of a child of a message whose only child is a status.
 #[tactic(auto, unfolding(crate::specs::Schema::groups_of, crate::specs::Schema::rule_of, crate::specs::Schema::param_rule, crate::specs::Schema::number_of))]
 fn in_response(child: ParamKind) -> Option<Place>
     ensures { result ≡ first_place (one LlrpStatus ∷ []) child }

@@ -1,6 +1,7 @@
-//! The words in which the rows are written.
+//! Macros in which the rows are written.
 
-/// A field by its name and its width in bits, and where not every value is lawful the greatest one.
+/// A field by its name and its width in bits, with the greatest lawful value if not every value is
+/// lawful.
 macro_rules! field {
     ($name:literal, $width:literal) => {
         field!($name, $width, (1 << $width) - 1)

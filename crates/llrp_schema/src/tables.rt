@@ -1,4 +1,4 @@
-//! What the tables say of a kind. One body serves messages and parameters.
+//! What the tables say about a kind; one function serves messages and parameters.
 
 ghost use Rattle.std.specs.Prelude.{◌≡◌, map};
 ghost use Rattle.llrp_schema.specs.Schema.{field_rule, group_rule, kind_rule, rule_of, number_of, name_of, fields_of, tail_of, groups_of};
@@ -34,7 +34,7 @@ pub fn name(kind: Kind) -> &'static str
     definition(kind).name
 }
 
-/// The fields of a kind in the order in which they are sent, reserved ones among them.
+/// The fields of a kind in the order in which they are sent, reserved ones included.
 #[tactic(auto, unfolding(crate::specs::Schema::fields_of))]
 pub fn fields(kind: Kind) -> &'static [Field]
     ensures { map field_rule result.now ≡ fields_of kind }

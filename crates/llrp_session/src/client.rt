@@ -1,4 +1,4 @@
-//! The client: the requests that it sends, and the messages of its reader that it takes.
+//! The client: the requests that it sends, and the messages that it takes from its reader.
 
 ghost use Rattle.std.specs.Prelude.{◌≡◌, ◌≤◌, ◌++◌, ◌∷◌, [], map, Ok, OnOk, OnErr, IfOk, IfErr};
 ghost use Rattle.llrp_session.specs.Words.{Asks};
@@ -21,7 +21,7 @@ pub use refusal::{CmdFault, CmdRefusal, TakeFault, TakeRefusal};
 use std::alloc::Global;
 use std::marker::Model;
 
-/// A client of one reader. Contracts see it as the written machine.
+/// A client of one reader. Contracts see it as the client that the definitions describe.
 #[derive(Drop)]
 pub struct Client {
     alloc: Global,
@@ -29,9 +29,9 @@ pub struct Client {
     limit: u32,
     phase: ClientPhase,
     pending: Option<Pending>,
-    /// The ROSpecs that it added, in rising order of ids.
+    /// The ROSpecs that it added, ordered by id.
     view: Vec<Viewed>,
-    /// The next message id; above 4,294,967,295 where they are spent.
+    /// The next message id; above 4,294,967,295 once all ids are used up.
     next_id: u64,
 }
 
@@ -54,8 +54,9 @@ impl Model for Client {
 }
 
 impl Client {
-    /// A client as new, which waits for its reader to accept the connection. It takes no memory. No message that it sends is
-    /// longer than `limit` octets, 4,096 to 65,536, and the ids of its requests rise from `first_id`, at least 1.
+    /// A new client, which waits for its reader to accept the connection. It takes no memory. No
+    /// message that it sends is longer than `limit` octets, from 4,096 to `MAX_LIMIT`, and its
+    /// requests have the ids `first_id`, at least 1, and the following ones.
     pub fn new(alloc: Global, limit: u32, first_id: u32) -> Client
         requires least { 4096 ≤ limit }
         requires greatest { limit ≤ MAX_LIMIT }
@@ -72,12 +73,12 @@ impl Client {
         }
     }
 
-    /// Sends the request of a command, appended to `out`; what Add adds is a ROSpec. A command that is refused is handed back,
-    /// and nothing changes (LLRP 1.1, sections 11, 13 and 14).
+    /// Appends the request of a command to `out`; the parameter that `Add` adds has to be a ROSpec.
+    /// A refused command is handed back, and nothing changes (LLRP 1.1, sections 11, 13 and 14).
     pub fn command(&mut self, command: Command, out: &mut Vec<Message>) -> Result<(), CmdRefusal>
         requires { AddsRoSpec command }
 
-        // The machine's step: the message with the next id is sent.
+        // The client's step: the message with the next id is sent.
         ensures step { OnOk result (machine.command self.old command
             ≡ Ok (record {
               message = record { id = self.old.next_id; word = Asks command };
@@ -86,7 +87,7 @@ impl Client {
         ensures sent { OnOk result (out.new.items ≡ out.old.items
             ++ client_message (record { id = self.old.next_id; word = Asks command }) ∷ []) }
 
-        // The machine's refusal, or no memory: all is as it was.
+        // The client's refusal, or `Memory`; nothing changes.
         ensures refused { IfErr result (λ e. IsCmdFault (machine.command self.old
             command) e.fault) }
         ensures handed_back { IfErr result (λ e. e.command ≡ command) }
@@ -99,18 +100,18 @@ impl Client {
         }
     }
 
-    /// Takes a message of the reader; what answers it is appended to `out`. A message that is refused is handed back, and
-    /// nothing changes (LLRP 1.1, sections 11 and 13 to 15).
+    /// Takes a message of the reader, and appends the client's answer, if there is one, to `out`. A
+    /// refused message is handed back, and nothing changes (LLRP 1.1, sections 11 and 13 to 15).
     #[tactic(auto, unfolding(crate::specs::ClientMachine::take))]
     pub fn take(&mut self, message: Message, out: &mut Vec<Message>) -> Result<Taken, TakeRefusal>
-        // The machine's step, with the messages that it sends.
+        // The client's step, with the messages that it sends.
         ensures step { IfOk result (λ taken. let step = machine.take self.old message.id
             (heard_of message) in
             step ≡ Ok (record { taken = taken; sent = sent_by step; client = self.new })) }
         ensures sent { OnOk result (out.new.items ≡ out.old.items
             ++ map client_message (sent_by (machine.take self.old message.id (heard_of message)))) }
 
-        // The machine's refusal, or no memory: all is as it was.
+        // The client's refusal, or `Memory`; nothing changes.
         ensures refused { IfErr result (λ e. IsTakeFault (machine.take self.old message.id
             (heard_of message)) e.fault) }
         ensures handed_back { IfErr result (λ e. e.message ≡ message) }

@@ -1,4 +1,4 @@
-//! Laws of the two machines, over every list of events, and of their messages.
+//! Laws of reader and client over every list of events, and of their messages.
 
 mod messages;
 
@@ -20,8 +20,8 @@ pub use messages::{
     worlds_agree,
 };
 
-/// Whatever happens to a reader, no sighting that counts is lost but those that an overflow event counts, and none is
-/// reported twice.
+/// Whatever happens to a reader, no sighting that counts is lost except those that an overflow
+/// event counts, and none is reported twice.
 pub fn sightings_kept()
     ensures reports_in_order { AfterAllEvents ReportsInOrder }
     ensures overflows_told { AfterAllEvents OverflowsTold }
@@ -29,7 +29,8 @@ pub fn sightings_kept()
     ensures one_active { AfterAllEvents OneIsActive }
 {}
 
-/// Whatever happens to a client and a reader with whole messages on the way between them, the two ends agree.
+/// Whatever happens to a client and a reader while whole messages travel between them, the two ends
+/// agree.
 pub fn ends_agree_whole()
     ensures view_catches_up { AfterAll ViewCatchesUp }
     ensures view_is_table { AfterAll ViewIsTable }
@@ -44,8 +45,8 @@ pub fn ends_agree_whole()
     ensures none_differs { AfterAll NoneDiffers }
 {}
 
-/// A table of ROSpecs, and a client's view of one, is a finite map from ids to states; a reader's has each id once and
-/// never 0.
+/// A reader's table of ROSpecs, and a client's view of it, are finite maps from ids to states; a
+/// reader's table has each id once and never 0.
 pub fn tables_are_maps()
     ensures enter { EntersOne }
     ensures change { ChangesEach }
@@ -64,8 +65,9 @@ pub fn three_messages_at_most()
         → IfOk (next now event reader) (λ turn. length turn.sent ≤ 3) }
 {}
 
-/// A reader or a client whose numbers are those that their types hold, and which is given such, says only what has a lawful
-/// message within the limit; and what a reader reads in a lawful message is such.
+/// If the numbers of a reader or client, and of what it is given, fit the types that hold them,
+/// then each message that it sends is lawful and within the limit. The numbers that a reader reads
+/// in a lawful message always fit.
 #[tactic(auto, using(crate::proofs::LawfulReaders::reader_says_lawful, crate::proofs::LawfulRequests::lawful_request, crate::proofs::LawfulClients::command_is_lawful, crate::proofs::LawfulClients::answer_is_lawful))]
 pub fn machines_say_what_is_lawful()
     ensures reader_as_new { (limit first_id : ℕ) → 4096 ≤ limit → first_id < 2 ^ 32

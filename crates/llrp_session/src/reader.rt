@@ -1,6 +1,8 @@
-//! The simulated reader: it takes what happens at a moment, and returns the messages that it sends.
+//! The simulated reader: it is given what happens at a moment, and returns the messages that it
+//! sends.
 //!
-//! Moments are in microseconds. Everything that wants memory is made before anything changes.
+//! Moments are in microseconds. A step makes everything that takes memory before it changes
+//! anything, so a step that fails changes nothing.
 
 mod ending;
 pub(crate) mod events;
@@ -71,7 +73,7 @@ impl Model for Reader {
     ghost invariant = { λ a. IsKept a.version a.limit a.table.items a.held.items };
 }
 
-/// The ROReportSpec that is in force where none was set: trigger 2, N 0, AntennaID and PeakRSSI.
+/// The ROReportSpec in force if none was set: trigger 2, N 0, AntennaID and PeakRSSI.
 const FACTORY_REPORT: ReportSpec = ReportSpec {
     trigger: 2,
     n: 0,
@@ -89,8 +91,8 @@ const FACTORY_REPORT: ReportSpec = ReportSpec {
 };
 
 impl Reader {
-    /// A reader as new, for messages of at most `limit` octets, whose own message ids go upward from `first_id`. It takes no
-    /// memory.
+    /// A new reader, for messages of at most `limit` octets. The messages that it starts itself
+    /// have the ids `first_id` and the following ones. It takes no memory.
     pub fn new(alloc: Global, limit: u32, first_id: u32) -> Reader
         requires least { 4096 ≤ limit }
         requires greatest { limit ≤ MAX_LIMIT }
@@ -111,7 +113,7 @@ impl Reader {
         }
     }
 
-    /// The state of a ROSpec; `None` if there is none of this ROSpecID.
+    /// The state of the ROSpec with this id, or `None` if there is none.
     pub fn state_of(&self, id: u32) -> Option<RoState>
         ensures { result ≡ the_state_of id self.now.table }
     {
@@ -125,9 +127,10 @@ impl Reader {
         self.limit
     }
 
-    /// What an event does at the moment `now`, in microseconds: the messages that the reader sends, three at most, are
-    /// appended to `out`. A refused step changes nothing and hands the event back: `Closed` once the connection was closed,
-    /// `NotConnected` for all but a connect before it, `AlreadyUp` for a second connect, else `Memory`.
+    /// Lets an event happen at the moment `now`, in microseconds, and appends the messages that the
+    /// reader sends, at most three, to `out`. A refused step changes nothing and hands the event
+    /// back. The refusals are `Closed` once the connection was closed, `NotConnected` for anything
+    /// but a connect before there is a connection, `AlreadyUp` for a second connect, and `Memory`.
     #[tactic(auto, unfolding(crate::specs::ReaderMachine::next))]
     pub fn step(
         &mut self,
@@ -231,7 +234,8 @@ impl Reader {
         Ok(())
     }
 
-    /// What an event does while a client is connected; where memory runs out it is handed back.
+    /// Lets an event happen while a client is connected. The event is handed back if memory runs
+    /// out.
     fn happen(&mut self, now: u64, event: ReaderIn, out: &mut Vec<Message>) -> Result<(), ReaderIn>
         ensures ok { OnOk result (Stands out.old.items (the_happening now (event_of event) self.old)
             out.new.items self.new) }
@@ -263,7 +267,7 @@ impl Reader {
         }
     }
 
-    /// A frame that is not a message.
+    /// Takes a frame that is not a message.
     fn take_bad(
         &mut self,
         id: u32,

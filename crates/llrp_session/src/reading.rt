@@ -1,4 +1,4 @@
-//! What the two machines read in a message. It takes no memory.
+//! What reader and client read in a message. It takes no memory.
 
 pub(crate) mod find;
 pub(crate) mod hearing;

@@ -1,4 +1,4 @@
-//! The messages that the words of the two machines are.
+//! Builds the messages that reader and client send.
 
 ghost use Rattle.std.specs.Prelude.{◌≡◌, IfOk, [], ◌∷◌};
 ghost use Rattle.llrp_tree.specs.Tree.{forest};
@@ -12,7 +12,7 @@ pub(crate) mod report;
 use llrp_tree::{Message, MsgKind, Node, Nodes, Octets, ParamKind};
 use std::alloc::{AllocError, Global};
 
-/// A parameter of these fields and children, with an empty tail.
+/// A parameter with these fields and children, and an empty tail.
 fn parameter(alloc: Global, kind: ParamKind, fields: &[u128], children: Vec<Node>) -> Node
     requires { AreLawful kind fields.now [] (forest children.items) }
     ensures { result ≡ the_parameter kind fields.now children.items }
@@ -24,7 +24,7 @@ fn parameter(alloc: Global, kind: ParamKind, fields: &[u128], children: Vec<Node
     }
 }
 
-/// A parameter of these fields, with an empty tail and without children.
+/// A parameter with these fields, an empty tail and no children.
 fn leaf(alloc: Global, kind: ParamKind, fields: &[u128]) -> Node
     requires { AreLawful kind fields.now [] (forest []) }
     ensures { result ≡ the_parameter kind fields.now [] }
@@ -32,7 +32,7 @@ fn leaf(alloc: Global, kind: ParamKind, fields: &[u128]) -> Node
     parameter(alloc, kind, fields, Vec::new(alloc))
 }
 
-/// A vector of one parameter.
+/// A vector with one parameter.
 fn only(alloc: Global, node: Node) -> Result<Vec<Node>, AllocError>
     ensures { IfOk result (λ nodes. nodes.items ≡ node ∷ []) }
 {
@@ -41,7 +41,7 @@ fn only(alloc: Global, node: Node) -> Result<Vec<Node>, AllocError>
     Ok(nodes)
 }
 
-/// A vector of two parameters.
+/// A vector with two parameters.
 fn pair(alloc: Global, first: Node, second: Node) -> Result<Vec<Node>, AllocError>
     ensures { IfOk result (λ nodes. nodes.items ≡ first ∷ second ∷ []) }
 {
@@ -51,7 +51,7 @@ fn pair(alloc: Global, first: Node, second: Node) -> Result<Vec<Node>, AllocErro
     Ok(nodes)
 }
 
-/// The message of these parts.
+/// The message with these parts.
 fn message(version: u8, id: u32, kind: MsgKind, fields: &[u128], children: Vec<Node>) -> Message
     requires { IsLawfulMessage (record {
       version = version;

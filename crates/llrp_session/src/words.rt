@@ -1,4 +1,4 @@
-//! The words of the two machines.
+//! What reader and client ask, answer and note, in types of their own.
 
 use llrp_tree::{Node, Nodes};
 use tag_bits::Word;
@@ -16,7 +16,7 @@ pub enum RoState {
 pub struct Sighting {
     /// The antenna that saw the tag.
     pub antenna: u16,
-    /// The strength of the signal, in dBm.
+    /// The signal strength, in dBm.
     pub rssi: i8,
     /// The tag's EPC memory.
     pub epc: Word,
@@ -25,29 +25,29 @@ pub struct Sighting {
 /// What a client asks of a reader.
 #[derive(Drop)]
 pub enum Command {
-    /// Adds a ROSpec, Disabled at first.
+    /// Adds a ROSpec, which is Disabled at first.
     Add { spec: Node },
-    /// Deletes a ROSpec, or all for 0.
+    /// Deletes the ROSpec with this id, or all if it is 0.
     Delete { id: u32 },
-    /// Starts a ROSpec that is Inactive.
+    /// Starts an Inactive ROSpec.
     Start { id: u32 },
-    /// Stops a ROSpec that is Active.
+    /// Stops an Active ROSpec.
     Stop { id: u32 },
-    /// Enables a ROSpec, or all for 0.
+    /// Enables the ROSpec with this id, or all if it is 0.
     Enable { id: u32 },
-    /// Disables a ROSpec, or all for 0.
+    /// Disables the ROSpec with this id, or all if it is 0.
     Disable { id: u32 },
     /// Asks for the reader's ROSpecs, to compare them with the view.
     GetRospecs,
-    /// Asks for a KEEPALIVE each `ms` milliseconds, or for none for 0.
+    /// Asks for a KEEPALIVE every `ms` milliseconds, or for none if it is 0.
     SetKeepalive { ms: u32 },
-    /// Asks for the reports that are held.
+    /// Asks for the reports that the reader holds.
     GetReport,
     /// Closes the connection.
     Close,
 }
 
-/// What a client takes a message of its reader for.
+/// What a message of the reader means to the client.
 #[derive(Drop)]
 pub enum Taken {
     /// The reader accepted the connection.
@@ -58,15 +58,15 @@ pub enum Taken {
     Reply(u16),
     /// Reports of tags.
     Tags(Nodes),
-    /// The reader's ROSpecs. Their ids and states are those of the client's view.
+    /// The reader's ROSpecs, which have the ids and states of the client's view.
     Table(Nodes),
-    /// The reader's ROSpecs. Their ids and states are not those of the client's view.
+    /// The reader's ROSpecs, which do not have the ids and states of the client's view.
     Differs(Nodes),
-    /// A ROSpec of the client's view is in another state.
+    /// The new state of a ROSpec of the client's view.
     Event(u32, RoState),
     /// A notification of something else.
     Note,
-    /// A KEEPALIVE, which is acknowledged.
+    /// A KEEPALIVE, which was acknowledged.
     Kept,
     /// The connection is closed.
     Closed,
@@ -94,7 +94,7 @@ pub(crate) enum ClientPhase {
     Closed,
 }
 
-/// What a request asks for, and its response answers.
+/// What a request asks for, and what its response answers.
 #[derive(Clone, Copy, PartialEq, Eq)]
 pub(crate) enum Operation {
     Adding,
@@ -114,7 +114,7 @@ pub(crate) struct Pending {
     /// The request's message id.
     pub id: u32,
     pub operation: Operation,
-    /// The ROSpecID that it names; 0 where it names none.
+    /// The ROSpecID in it; 0 if it has none.
     pub rospec: u32,
 }
 
@@ -143,14 +143,14 @@ pub(crate) struct ContentSelector {
 /// When reports are sent, and what they hold (LLRP 1.1, section 14).
 #[derive(Clone, Copy)]
 pub(crate) struct ReportSpec {
-    /// 0 on request alone; 1 and 2 after `n` tags and at the end.
+    /// 0: on request only; 1 and 2: after `n` tags and at the end.
     pub trigger: u8,
-    /// 0 for no number.
+    /// 0 means no number of tags.
     pub n: u16,
     pub selector: ContentSelector,
 }
 
-/// When KEEPALIVE is sent (LLRP 1.1, section 13).
+/// When the next KEEPALIVE is sent (LLRP 1.1, section 13).
 #[derive(Clone, Copy)]
 pub(crate) struct Keepalive {
     /// In milliseconds.

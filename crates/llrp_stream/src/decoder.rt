@@ -13,9 +13,10 @@ use crate::state::State;
 use std::alloc::Global;
 use std::marker::Model;
 
-/// Takes a stream of LLRP frames piece by piece, and gives the item of each frame with its last
-/// byte (LLRP 1.1, section 17). It keeps no frame: of an unfinished one it holds the nodes that are read
-/// and at most 16 raw bytes, and of a faulty one nothing but its id, its fault and how much is left.
+/// Reads a stream of LLRP frames piece by piece, and returns the item of each frame at its last
+/// byte (LLRP 1.1, section 17). It keeps no frame: of an unfinished one it holds the nodes that
+/// were read and at most 16 raw bytes, and of a faulty one only its id, its fault and how many
+/// bytes are left.
 #[derive(Drop)]
 pub struct Decoder {
     frames: Frames,
@@ -37,7 +38,7 @@ impl Model for Decoder {
     ghost invariant = { λ d. IsKept d.frames d.builder };
 }
 
-/// The item of a frame, whose message the builder has if it has no fault.
+/// The item of a frame that ended. If the frame has no fault, the builder has its message.
 fn item_of(outcome: Option<Outcome>, builder: &mut Builder) -> Option<Item>
     ensures same { outcome ≡ None → builder.new ≡ builder.old }
     ensures nodes { builder.new.nodes ≡ builder.old.nodes }
@@ -64,7 +65,8 @@ impl Decoder {
     ghost use Rattle.llrp_stream.specs.Feeding.{Feeds};
     ghost use Rattle.llrp_stream.specs.Items.{HasHeaderFault};
 
-    /// A decoder that was fed nothing; it takes no memory. A frame of more than `limit` octets is faulty.
+    /// A decoder that was fed nothing; it takes no memory. A frame of more than `limit` octets is
+    /// faulty.
     pub fn new(alloc: Global, limit: u32) -> Decoder
         requires least { 10 ≤ limit }
         requires most { limit ≤ MAX_LIMIT }
@@ -77,12 +79,12 @@ impl Decoder {
         }
     }
 
-    /// Takes the bytes of a piece up to the end of the next frame, and gives that frame's item; without
-    /// an item it took the whole piece. `Broken` comes with the sixth byte of a frame whose length field
-    /// is below 10, and from each later call; `Memory` where a growth was refused, and `Dead` from each
-    /// later call.
+    /// Takes the bytes of a piece up to the end of the next frame, and returns that frame's item;
+    /// if there is no item, it took the whole piece. The error is `Broken` at the sixth byte of a
+    /// frame whose length field is below 10, and from then on; it is `Memory` if memory ran out,
+    /// and `Dead` from then on.
     pub fn feed(&mut self, piece: &[u8]) -> Result<Fed, FeedErr>
-        // Whatever bytes of an unfinished frame it stands for, it goes on from them.
+        // For any bytes that it may have been fed of an unfinished frame, it goes on from them.
         ensures stands { (front : List ℕ) → Stands self.old front
             → Feeds self.old front piece.now self.new result }
         ensures broken { IsBroken self.old → (result ≡ Err Broken) × IsBroken self.new }
@@ -104,8 +106,7 @@ impl Decoder {
         }
     }
 
-    /// How the stream ends if nothing follows what was fed; the rest is counted from the last frame's
-    /// end.
+    /// How the stream ends if no more bytes follow; `Rest` counts those after the last whole frame.
     pub fn finish(&self) -> End
         ensures stands { (front : List ℕ) → Stands self.now front → Ends front result }
         ensures broken { IsBroken self.now → result ≡ at_end.Broken }
@@ -114,9 +115,9 @@ impl Decoder {
         self.frames.finish()
     }
 
-    /// How much it keeps: its raw bytes, two for each node (the message and open parents among them),
-    /// and the bytes of their tails. That is at most what was fed since the last frame's end, and
-    /// nothing from the byte on that decides a fault of the frame.
+    /// How much it keeps: its raw bytes, two for each node (the message and open parents included),
+    /// and the bytes of their tails. This is at most what was fed since the last frame ended, and 0
+    /// from the byte on that decides a fault of the frame.
     pub fn held(&self) -> u32
         ensures weight { result ≡ weight self.now }
         ensures within { result ≤ self.now.limit }

@@ -1,4 +1,4 @@
-//! Where bytes come from and go to: sources and sinks that count what happened to them.
+//! Sources and sinks: where bytes come from and go to, with a count of what happened to them.
 
 ghost use Rattle.std.specs.Prelude.{◌≡◌, ◌+◌, ◌^◌, ◌<◌, length};
 ghost use Rattle.llrp_stream.specs.Device.{CanRead, ReadStep, SinkLog, SourceLog, WriteStep, new_sink, new_source};
@@ -6,31 +6,31 @@ ghost use Rattle.llrp_stream.specs.Device.{CanRead, ReadStep, SinkLog, SourceLog
 use std::io;
 use std::io::{Read, Write};
 
-/// What gives bytes. Its log counts the reads that gave bytes, those that met the end, and those
-/// that failed, and has the bytes that are left where the source knows them.
+/// Gives bytes. Its log counts the reads that gave bytes, those that met the end and those that
+/// failed, and has the bytes that are left, if the source knows them.
 pub trait Source {
     ghost log: { Self → SourceLog };
 
-    /// Reads into `buf` and answers how many bytes it gave: none only at the end.
+    /// Reads into `buf`, and returns how many bytes it gave: 0 only at the end.
     fn read(&mut self, buf: &mut [u8]) -> io::Result<usize>
         requires room { CanRead (log self.old) }
         requires buffer { 0 < length buf.old }
         ensures { ReadStep (log self.old) (log self.new) result buf.new };
 }
 
-/// What takes bytes. Its log counts the writes that failed, and has the bytes that it took where
-/// the sink knows them.
+/// Takes bytes. Its log counts the writes that failed, and has the bytes that were taken, if the
+/// sink knows them.
 pub trait Sink {
     ghost log: { Self → SinkLog };
 
-    /// Writes the first bytes of `buf` and answers how many: none is a failure.
+    /// Writes the first bytes of `buf`, and returns how many: 0 counts as a failure.
     fn write(&mut self, buf: &[u8]) -> io::Result<usize>
         requires room { (log self.old).failures + 1 < 2 ^ 64 }
         requires buffer { 0 < length buf.now }
         ensures { WriteStep (log self.old) (log self.new) result buf.now };
 }
 
-/// Any reader as a source, which knows the bytes that the reader knows.
+/// A source over any reader, which knows the bytes that the reader knows.
 #[derive(Drop)]
 pub struct Input<R: Read + Drop> {
     stream: R,
@@ -40,7 +40,7 @@ pub struct Input<R: Read + Drop> {
 }
 
 impl<R: Read + Drop> Input<R> {
-    /// A source of the reader's bytes that nothing was read from.
+    /// A source over this reader, of which nothing was read.
     pub fn new(stream: R) -> Input<R>
         ensures { ⟦<Input<R> as Source>⟧.log result ≡ new_source (R.remaining stream) }
     {
@@ -74,7 +74,7 @@ impl<R: Read + Drop> Source for Input<R> {
     }
 }
 
-/// Any writer as a sink, which knows the bytes that the writer knows.
+/// A sink over any writer, which knows the bytes that the writer knows.
 #[derive(Drop)]
 pub struct Output<W: Write + Drop> {
     stream: W,
@@ -82,7 +82,7 @@ pub struct Output<W: Write + Drop> {
 }
 
 impl<W: Write + Drop> Output<W> {
-    /// A sink over the writer that nothing was written to.
+    /// A sink over this writer, to which nothing was written.
     pub fn new(stream: W) -> Output<W>
         ensures { ⟦<Output<W> as Sink>⟧.log result ≡ new_sink (W.contents stream) }
     {

@@ -8,7 +8,7 @@ use llrp_tree::{Fault, Header, read_header};
 /// How many octets a header has.
 pub(crate) const HEADER: usize = 10;
 
-/// What is kept of a frame that has a fault.
+/// What is kept of a faulty frame.
 #[derive(Clone, Copy)]
 pub(crate) struct FaultyHeader {
     pub octets: u32,
@@ -29,7 +29,7 @@ pub(crate) enum Start {
     Sound(Header),
 }
 
-/// What the first octets of a frame say.
+/// Reads the header at the front of a frame.
 pub(crate) fn start_of(bytes: &[u8], limit: u32) -> Start
     ensures { Starts limit bytes.now result }
 {

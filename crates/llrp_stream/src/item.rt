@@ -1,4 +1,4 @@
-//! What a stream holds, and what a decoder answers.
+//! What a stream holds, and what a decoder returns.
 
 ghost use Rattle.std.specs.Prelude.{◌≡◌};
 ghost use Rattle.llrp_stream.specs.declared.item.FeedErr.TheVariants.{Memory};
@@ -6,10 +6,10 @@ ghost use Rattle.llrp_stream.specs.declared.item.FeedErr.TheVariants.{Memory};
 use llrp_tree::{Fault, Message};
 use std::alloc::AllocError;
 
-/// What a frame is.
+/// What the octets of a frame are.
 #[derive(Drop)]
 pub enum Item {
-    /// The message that it spells.
+    /// This message.
     Msg(Message),
     /// No message: the id in its header (bits 48 to 79), and its first fault.
     Bad { id: u32, fault: Fault },
@@ -18,9 +18,9 @@ pub enum Item {
 /// How a stream ends.
 #[derive(Clone, Copy, Debug, PartialEq, Eq)]
 pub enum End {
-    /// Where a frame ends.
+    /// After a whole frame, or with no frame at all.
     Clean,
-    /// With this many bytes of a frame that isn't whole.
+    /// With this many bytes of an unfinished frame.
     Rest(u64),
     /// At a length field below 10, which no frame has.
     Broken,
@@ -28,7 +28,7 @@ pub enum End {
     Dead,
 }
 
-/// What a feed took and gave.
+/// What a call of `feed` took and found.
 #[derive(Drop)]
 pub struct Fed {
     /// How many of the piece's bytes it took.
@@ -42,9 +42,9 @@ pub struct Fed {
 pub enum FeedErr {
     /// A length field below 10, which no frame has.
     Broken,
-    /// A growth was refused.
+    /// Memory ran out.
     Memory,
-    /// A growth was refused in an earlier feed.
+    /// Memory ran out in an earlier call.
     Dead,
 }
 

@@ -1,4 +1,4 @@
-//! What holds of every frame and every stream, and of every decoder that is fed one.
+//! Laws of frames and streams, and of a decoder that is fed one.
 
 ghost use Rattle.std.specs.Prelude.{List, ◌≤◌, ℕ};
 ghost use Rattle.llrp_tree.specs.Lawful.{AreOctets};
@@ -13,7 +13,7 @@ pub fn one_item()
         → HasOneItem limit frame }
 {}
 
-/// Each stream is cut in one way.
+/// Each stream is cut into frames in one way.
 pub fn one_cut()
     ensures { (stream : List ℕ) → IsCutInOneWay stream }
 {}
@@ -25,19 +25,20 @@ pub fn one_listing()
         → HasOneListing limit stream }
 {}
 
-/// Whatever the pieces of a stream are, the items that a new decoder gives are those of the stream.
+/// However a stream is cut into pieces, the items that a new decoder returns are those of the
+/// stream.
 #[tactic(auto, using(crate::proofs::RunLemmas::of_the_stream))]
 pub fn pieces_are_the_stream()
     ensures { PiecesAreTheStream }
 {}
 
-/// Whatever front of a row of frames came, its items are those of the frames that are whole in it, and it ends between two
-/// frames or within the next one.
+/// The first bytes of a row of frames have the items of the frames that are whole in them, and end
+/// after a whole frame or within the next one.
 pub fn prefix_of_frames()
     ensures { PrefixOfFrames }
 {}
 
-/// The items of bytes so far, for a caller that feeds them as they come.
+/// More bytes only add items after those so far, for a caller that feeds them as they come.
 pub fn items_grow()
     ensures { (limit : ℕ) → ItemsGrow limit }
 {}

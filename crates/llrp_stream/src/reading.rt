@@ -1,4 +1,4 @@
-//! The reading of a frame, part by part, whatever pieces its octets come in.
+//! Reads a frame part by part, in whatever pieces its octets come.
 
 mod body;
 mod builder;

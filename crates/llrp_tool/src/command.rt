@@ -1,4 +1,5 @@
-//! The command line: the commands that its words name, their exit statuses, and their errors' lines.
+//! The command line: runs the commands that its words ask for, and gives their exit statuses and
+//! error lines.
 
 ghost use Rattle.std.specs.Prelude.{◌+◌, ◌<◌, ◌≤◌, ◌^◌, ◌≡◌, Bool, IfErr, IfOk, List, MatchResult, codes, map, string_bytes, ℕ};
 ghost use Rattle.std.specs.List.{flat_map};
@@ -17,11 +18,12 @@ use llrp_stream::{Output, Sink, Source};
 use std::alloc::{AllocError, Global};
 use std::convert::AsStr;
 
-/// The greatest message in octets that `sim`, `inventory` and `loop` take and send, and `show` and `encode` without
-/// --limit.
+/// The greatest message, in octets, that `sim`, `inventory` and `loop` take and send, and that
+/// `show` and `encode` take without --limit.
 pub const LIMIT: u32 = 65_536;
 
-/// The exit status where no command was understood. [`run_command`] also returns it where the program runs the command itself.
+/// The exit status if the words ask for no command. [`run_command`] also returns it for a command
+/// that the program runs itself.
 pub const USAGE: u8 = 2;
 
 /// The exit status of a verdict.
@@ -34,7 +36,7 @@ fn status_of(verdict: Verdict) -> u8
     }
 }
 
-/// The exit status of an error: 1 where the input is at fault, 3 where a device or memory is.
+/// The exit status of an error: 1 if the input is at fault, 3 if a device failed or memory ran out.
 fn error_status(error: ToolErr) -> u8
     ensures { result ≡ error_status error }
 {
@@ -99,7 +101,8 @@ fn write_error<E: Sink>(e: &mut E, error: ToolErr) -> Result<(), ToolErr>
     }
 }
 
-/// The exit status of a command that ended so, once the line of its error was written.
+/// The exit status of a command that ended like this, after its error, if it has one, was written
+/// as a line.
 pub fn answer<E: Sink>(outcome: Result<u8, ToolErr>, e: &mut E) -> Result<u8, ToolErr>
     requires { (E.log e.old).failures + 1 < 2 ^ 64 }
     ensures { Answers outcome (E.log e.old) (E.log e.new) result }
@@ -113,7 +116,7 @@ pub fn answer<E: Sink>(outcome: Result<u8, ToolErr>, e: &mut E) -> Result<u8, To
     }
 }
 
-/// The listing of a stream of hexadecimal digits, which are read whole and checked first.
+/// Writes the listing of a stream of hexadecimal digits, all of which are read and checked first.
 fn show_digits<R: Source, W: Sink>(
     alloc: Global,
     limit: u32,
@@ -131,7 +134,7 @@ fn show_digits<R: Source, W: Sink>(
     list_stream(alloc, stream.as_slice(), w, limit)
 }
 
-/// The command show.
+/// The command `show`.
 fn show<R: Source, W: Sink>(
     alloc: Global,
     hex: bool,
@@ -152,7 +155,7 @@ fn show<R: Source, W: Sink>(
     }
 }
 
-/// The error of writing to memory, which fails only where memory does.
+/// The error of writing to memory, which fails only if memory runs out.
 fn memory_error(error: ToolErr) -> ToolErr
     ensures { result ≡ memory_error error }
 {
@@ -162,7 +165,7 @@ fn memory_error(error: ToolErr) -> ToolErr
     }
 }
 
-/// The bytes of a listing, gathered in memory.
+/// The bytes of a listing, kept in memory.
 fn encoded<R: Source>(alloc: Global, limit: u32, r: &mut R) -> Result<Vec<u8>, ToolErr>
     requires least { 10 ≤ limit }
     requires most { limit ≤ MAX_LIMIT }
@@ -178,7 +181,7 @@ fn encoded<R: Source>(alloc: Global, limit: u32, r: &mut R) -> Result<Vec<u8>, T
     }
 }
 
-/// Bytes as one line of upper-case digits, and no bytes as nothing.
+/// One line with the bytes in upper-case digits, or nothing if there are no bytes.
 fn digit_line(alloc: Global, bytes: &[u8]) -> Result<String, AllocError>
     ensures { IfOk result (λ line. string_bytes line ≡ digit_line bytes.now) }
 {
@@ -190,7 +193,7 @@ fn digit_line(alloc: Global, bytes: &[u8]) -> Result<String, AllocError>
     Ok(line)
 }
 
-/// The bytes of a listing as hexadecimal digits, written once the whole listing was read.
+/// Writes the bytes of a listing as hexadecimal digits, once the whole listing was read.
 fn encode_digits<R: Source, W: Sink>(
     alloc: Global,
     limit: u32,
@@ -208,7 +211,7 @@ fn encode_digits<R: Source, W: Sink>(
     write_all(w, line.as_bytes())
 }
 
-/// The command encode.
+/// The command `encode`.
 fn encode<R: Source, W: Sink>(
     alloc: Global,
     hex: bool,
@@ -249,11 +252,11 @@ fn fine_status(outcome: Result<(), ToolErr>) -> Result<u8, ToolErr>
     }
 }
 
-/// Runs the command that the words after the program's name ask for, and gives its exit status: 0
-/// where all is fine, 1 where the input has a fault, 2 where no command was understood, and 3 where
-/// a device or memory failed. An error is written to `e` as a line. For a command that the program
+/// Runs the command that the words after the program's name ask for, and returns its exit status: 0
+/// if all is well, 1 if the input has a fault, 2 if the words ask for no command, and 3 if a device
+/// failed or memory ran out. An error is written to `e` as a line. For a command that the program
 /// runs itself the status is 2, and nothing is read or written. The only errors are `Memory`, and
-/// `Write` where writing to `e` failed.
+/// `Write` if writing to `e` failed.
 pub fn run_command<S: AsStr, R: Source, W: Sink, E: Sink>(
     alloc: Global,
     words: &[S],
@@ -265,7 +268,7 @@ pub fn run_command<S: AsStr, R: Source, W: Sink, E: Sink>(
     requires sink { (W.log w.old).failures < 2 ^ 63 }
     requires errors { (E.log e.old).failures < 2 ^ 63 }
 
-    // Where the words ask for show or encode, it does what that command does.
+    // If the words ask for show or encode, it does what that command does.
     ensures show { (hex : Bool) (limit : ℕ)
         → Asks (map S.text words.entry.now) (codes "show") hex limit
         → RanShow hex limit (R.log r.old) (R.log r.new) (W.log w.old) (W.log w.new) (E.log e.old)
@@ -275,7 +278,7 @@ pub fn run_command<S: AsStr, R: Source, W: Sink, E: Sink>(
         → RanEncode hex limit (R.log r.old) (R.log r.new) (W.log w.old) (W.log w.new) (E.log e.old)
         (E.log e.new) result }
 
-    // Where they ask for epc, it does what epc does with the text.
+    // If they ask for epc, it does what epc does with the text.
     ensures epc { (text : List ℕ) → AsksEpc (map S.text words.entry.now) text
         → RanEpc text (R.log r.old) (R.log r.new) (W.log w.old) (W.log w.new) (E.log e.old)
         (E.log e.new) result }

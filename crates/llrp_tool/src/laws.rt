@@ -1,5 +1,5 @@
-//! What holds of the parse of the words. What holds of every listing, of what `epc` prints, and of both ends of a connection is
-//! in the layers below and re-exported here.
+//! Laws of how the words are parsed. Those of listings, of what `epc` prints, and of both ends of a
+//! connection are in the crates below, and are exported again here.
 
 ghost use Rattle.std.specs.Prelude.{Bool, List, Some, codes, true, ◌≡◌, ℕ};
 ghost use Rattle.llrp_tool.specs.Words.{Asks, AsksEpc, command_in, name_in, parses};
@@ -14,13 +14,14 @@ pub use llrp_listing::laws::{
     prints_back,
 };
 
-/// Where the parse of the words succeeds and names epc, its text is there.
+/// If the words are parsed and name epc, its text is there.
 pub fn epc_has_text()
     ensures { (words : List (List ℕ)) → parses words ≡ true
         → name_in (command_in words) ≡ Some (codes "epc") → (text : List ℕ) × AsksEpc words text }
 {}
 
-/// Where the parse of the words succeeds and names show or encode, the words ask for it with --hex or without, and with one limit.
+/// If the words are parsed and name show or encode, they ask for it with --hex or without, and with
+/// one limit.
 pub fn show_and_encode_have_flag()
     ensures show { (words : List (List ℕ)) → parses words ≡ true
         → name_in (command_in words) ≡ Some (codes "show") → (hex : Bool) × (limit : ℕ)

@@ -25,8 +25,8 @@ pub enum NetworkCommand<'a> {
     Sim {
         port: u16,
     },
-    /// An inventory of the reader at this host and port, by a plan of these two numbers, checked or not.
-    /// A connection or a read that gets nothing for this many seconds fails.
+    /// An inventory of the reader at this host and port, by a plan with these two numbers, with a
+    /// check or without. A connection or a read fails if it gets nothing for this many seconds.
     Inventory {
         host: &'a str,
         port: u16,
@@ -35,7 +35,8 @@ pub enum NetworkCommand<'a> {
         check: bool,
         timeout: Option<u16>,
     },
-    /// An inventory of a simulated reader, by a script and a plan of these two numbers, checked or not.
+    /// An inventory of a simulated reader, by a script and a plan with these two numbers, with a
+    /// check or without.
     Loop {
         every: u16,
         polls: u16,
@@ -46,18 +47,19 @@ pub enum NetworkCommand<'a> {
 /// What the words ask for.
 #[derive(Drop)]
 pub enum Request<'a> {
-    /// The listing of a stream of bytes, or of hexadecimal digits. A longer message than this many octets is a
-    /// fault.
+    /// Lists a stream of bytes, or of hexadecimal digits. A message longer than this many octets is
+    /// a fault.
     Show { hex: bool, limit: u32 },
-    /// The bytes of a listing, or their hexadecimal digits. A longer message than this many octets is refused.
+    /// Writes the bytes of a listing, or their hexadecimal digits. A message longer than this many
+    /// octets is refused.
     Encode { hex: bool, limit: u32 },
-    /// The text of a word's digits, or the digits of a word's text.
+    /// Prints the text of a word's digits, or the digits of a word's text.
     Epc { text: &'a str },
     /// A command that the program runs itself.
     Network(NetworkCommand<'a>),
-    /// This text of help.
+    /// Prints this help.
     Help(String),
-    /// No command: this text says why.
+    /// Asks for no command; this text says why.
     Usage(String),
 }
 
@@ -82,7 +84,7 @@ fn hex_command<'a>(
         .arg(hex)
 }
 
-/// The option --limit, from 10 to the greatest number of octets of a message.
+/// The option --limit: from 10 to the greatest number of octets of a message.
 fn limit_option<'a>(alloc: Global) -> Arg<'a>
     ensures rule { rule_of result ≡ limit_rule }
     ensures local { result.global ≡ false }
@@ -110,7 +112,7 @@ fn stream_command<'a>(
     with_argument(command, limit_option(alloc))
 }
 
-/// The argument PORT, from 1 to 65,535, which must be given.
+/// The argument PORT, from 1 to 65,535, which is required.
 fn port_argument<'a>(alloc: Global, port: &'a str) -> Arg<'a>
     ensures rule { rule_of result ≡ port_rule }
     ensures local { result.global ≡ false }
@@ -121,7 +123,7 @@ fn port_argument<'a>(alloc: Global, port: &'a str) -> Arg<'a>
         .help(port)
 }
 
-/// An option with a number from 0 to 65,535, and what it is where it is not given.
+/// An option with a number from 0 to 65,535, and its value if it is not given.
 fn number_option<'a>(
     alloc: Global,
     name: &'a str,
@@ -163,7 +165,7 @@ fn timeout_option<'a>(alloc: Global) -> Arg<'a>
         .help("How long the reader may be silent; without it, for ever")
 }
 
-/// The command, if there is one, with one argument more.
+/// Adds an argument to the command, if there is one.
 fn with_argument<'a>(
     command: Result<Command<'a>, AllocError>,
     argument: Arg<'a>,
@@ -177,7 +179,7 @@ fn with_argument<'a>(
     command?.arg(argument)
 }
 
-/// The command, if there is one, with another one below it.
+/// Adds a command below the command, if there is one.
 fn with_command<'a>(
     command: Result<Command<'a>, AllocError>,
     below: Result<Command<'a>, AllocError>,
@@ -190,7 +192,7 @@ fn with_command<'a>(
     command?.subcommand(below?)
 }
 
-/// The command, if there is one, with the options that make a plan.
+/// Adds the options that make a plan to the command, if there is one.
 fn with_plan<'a>(
     alloc: Global,
     command: Result<Command<'a>, AllocError>,
@@ -212,7 +214,7 @@ fn with_plan<'a>(
     with_argument(with_argument(with_argument(command, every), polls), check)
 }
 
-/// The command with the arguments HOST and PORT.
+/// Adds the arguments HOST and PORT to the command.
 fn with_address<'a>(alloc: Global, command: Command<'a>) -> Result<Command<'a>, AllocError>
     ensures app { IfOk result (λ c. app_of c ≡ with_address (app_of command.entry)) }
     ensures local { (out-Command command.entry).has_globals ≡ false
@@ -225,7 +227,7 @@ fn with_address<'a>(alloc: Global, command: Command<'a>) -> Result<Command<'a>, 
     with_argument(command.arg(host), port)
 }
 
-/// The command show.
+/// The command `show`.
 fn show_command<'a>(alloc: Global) -> Result<Command<'a>, AllocError>
     ensures app { IfOk result (λ c. app_of c ≡ stream_app (codes "show")) }
     ensures local { IfOk result (λ c. (out-Command c).has_globals ≡ false) }
@@ -239,7 +241,7 @@ fn show_command<'a>(alloc: Global) -> Result<Command<'a>, AllocError>
     )
 }
 
-/// The command encode.
+/// The command `encode`.
 fn encode_command<'a>(alloc: Global) -> Result<Command<'a>, AllocError>
     ensures app { IfOk result (λ c. app_of c ≡ stream_app (codes "encode")) }
     ensures local { IfOk result (λ c. (out-Command c).has_globals ≡ false) }
@@ -253,7 +255,7 @@ fn encode_command<'a>(alloc: Global) -> Result<Command<'a>, AllocError>
     )
 }
 
-/// The command epc, whose one argument is TEXT, which must be given.
+/// The command `epc` with its one argument TEXT, which is required.
 fn epc_command<'a>(alloc: Global) -> Result<Command<'a>, AllocError>
     ensures app { IfOk result (λ c. app_of c ≡ text_app (codes "epc")) }
     ensures local { IfOk result (λ c. (out-Command c).has_globals ≡ false) }
@@ -267,7 +269,7 @@ fn epc_command<'a>(alloc: Global) -> Result<Command<'a>, AllocError>
         .arg(text)
 }
 
-/// The command sim.
+/// The command `sim`.
 fn sim_command<'a>(alloc: Global) -> Result<Command<'a>, AllocError>
     ensures app { IfOk result (λ c. app_of c ≡ port_app (codes "sim")) }
     ensures local { IfOk result (λ c. (out-Command c).has_globals ≡ false) }
@@ -278,7 +280,7 @@ fn sim_command<'a>(alloc: Global) -> Result<Command<'a>, AllocError>
         .arg(port_argument(alloc, "The port to listen on"))
 }
 
-/// The command inventory.
+/// The command `inventory`.
 fn inventory_command<'a>(alloc: Global) -> Result<Command<'a>, AllocError>
     ensures app { IfOk result (λ c. app_of c ≡ inventory_app) }
     ensures local { IfOk result (λ c. (out-Command c).has_globals ≡ false) }
@@ -290,7 +292,7 @@ fn inventory_command<'a>(alloc: Global) -> Result<Command<'a>, AllocError>
     with_argument(planned, timeout_option(alloc))
 }
 
-/// The command loop.
+/// The command `loop`.
 fn loop_command<'a>(alloc: Global) -> Result<Command<'a>, AllocError>
     ensures app { IfOk result (λ c. app_of c ≡ loop_app) }
     ensures local { IfOk result (λ c. (out-Command c).has_globals ≡ false) }
@@ -301,7 +303,7 @@ fn loop_command<'a>(alloc: Global) -> Result<Command<'a>, AllocError>
     with_plan(alloc, Ok(command))
 }
 
-/// The program before its commands.
+/// The program without its commands.
 fn top_command<'a>(alloc: Global) -> Result<Command<'a>, AllocError>
     ensures { IfOk result (λ c. app_of c ≡ top_app) }
 {
@@ -313,7 +315,7 @@ fn top_command<'a>(alloc: Global) -> Result<Command<'a>, AllocError>
         .bin_name("llrp")
 }
 
-/// The program before the commands that it runs itself.
+/// The program without the commands that it runs itself.
 fn streams_command<'a>(alloc: Global) -> Result<Command<'a>, AllocError>
     ensures { IfOk result (λ c. app_of c ≡ streams_app) }
 {
@@ -322,7 +324,7 @@ fn streams_command<'a>(alloc: Global) -> Result<Command<'a>, AllocError>
     with_command(with_both, epc_command(alloc))
 }
 
-/// The words that the program takes.
+/// The program with all its commands.
 fn llrp_command<'a>(alloc: Global) -> Result<Command<'a>, AllocError>
     ensures { IfOk result (λ c. app_of c ≡ llrp_app) }
 {
@@ -331,7 +333,7 @@ fn llrp_command<'a>(alloc: Global) -> Result<Command<'a>, AllocError>
     with_command(with_both, loop_command(alloc))
 }
 
-/// The number of an argument that the parse made sure of.
+/// The number of an argument, which the parse has checked.
 fn number(inner: &ArgMatches<'_>, id: &str) -> u16
     requires { HasNumberWord id.now (rows_of (found_of inner.now)) }
     ensures { (name : List ℕ) → HasNumber id.now (Some
@@ -340,7 +342,7 @@ fn number(inner: &ArgMatches<'_>, id: &str) -> u16
     inner.get_one::<u16>(id).unwrap()
 }
 
-/// The limit of a command over a stream, which the parse made sure of.
+/// The limit of a command over a stream, which the parse has checked.
 fn limit(inner: &ArgMatches<'_>) -> u32
     requires { HasLimitWord (codes "limit") (rows_of (found_of inner.now)) }
     ensures number { (name : List ℕ) → HasNumber (codes "limit")
@@ -350,7 +352,7 @@ fn limit(inner: &ArgMatches<'_>) -> u32
     inner.get_one::<u32>("limit").unwrap()
 }
 
-/// The number of an option that may be given, which the parse made sure of where it is.
+/// The number of an option, if it is given; the parse has checked it.
 fn optional_number(inner: &ArgMatches<'_>, id: &str) -> Option<u16>
     requires { MayHaveNumberWord id.now (rows_of (found_of inner.now)) }
     ensures { (name : List ℕ) → HasOptionalNumber id.now
@@ -359,7 +361,7 @@ fn optional_number(inner: &ArgMatches<'_>, id: &str) -> Option<u16>
     inner.get_one::<u16>(id)
 }
 
-/// The command of this name that the program runs itself.
+/// The command with this name, which the program runs itself.
 fn network_named<'a>(name: &str, inner: &ArgMatches<'a>) -> NetworkCommand<'a>
     requires { IsNetworkParse name.now (rows_of (found_of inner.now)) }
     ensures { IsNetwork (Some (name.now, rows_of (found_of inner.now))) result }
@@ -389,7 +391,7 @@ fn network_named<'a>(name: &str, inner: &ArgMatches<'a>) -> NetworkCommand<'a>
     }
 }
 
-/// The command of this name.
+/// The request for the command with this name.
 fn request_named<'a>(name: &str, inner: &ArgMatches<'a>) -> Request<'a>
     requires { IsParse name.now (rows_of (found_of inner.now)) }
     ensures request { IsRequest (Some (name.now, rows_of (found_of inner.now))) result }
@@ -415,7 +417,7 @@ fn request_named<'a>(name: &str, inner: &ArgMatches<'a>) -> Request<'a>
     }
 }
 
-/// The command that the words named.
+/// The request for the command that the words name.
 fn chosen<'a>(matches: &ArgMatches<'a>) -> Request<'a>
     requires { IsFound (subcommand_rows_of matches.now) }
     ensures request { IsRequest (subcommand_rows_of matches.now) result }
@@ -425,7 +427,7 @@ fn chosen<'a>(matches: &ArgMatches<'a>) -> Request<'a>
     request_named(name, inner)
 }
 
-/// What the words after the program's name ask for. The only error is that of memory.
+/// What the words after the program's name ask for. The only error is that memory ran out.
 pub fn request_of<'a, S: AsStr>(alloc: Global, words: &'a [S]) -> Result<Request<'a>, AllocError>
     ensures named { IfOk result (λ request. parses (map S.text words.entry.now) ≡ true
         → IsRequest (command_in (map S.text words.entry.now)) request) }
@@ -450,8 +452,8 @@ pub fn request_of<'a, S: AsStr>(alloc: Global, words: &'a [S]) -> Result<Request
     }
 }
 
-/// The command that the program runs itself, where the words after the program's name ask for one. The
-/// only error is that of memory.
+/// The command over sockets that the words after the program's name ask for, if they ask for one.
+/// The only error is that memory ran out.
 pub fn network_command<'a, S: AsStr>(
     alloc: Global,
     words: &'a [S],
@@ -464,8 +466,8 @@ pub fn network_command<'a, S: AsStr>(
     }
 }
 
-/// Whether the words ask for a command that reads standard input to its end, `show` or `encode`. The only error is
-/// that of memory.
+/// Whether the words ask for a command that reads standard input to its end, `show` or `encode`.
+/// The only error is that memory ran out.
 pub fn reads_input<S: AsStr>(alloc: Global, words: &[S]) -> Result<bool, AllocError>
     ensures { IfOk result (λ reads. IsTrue reads ↔ AsksForInput (map S.text words.entry.now)) }
 {

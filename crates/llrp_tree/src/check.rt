@@ -1,4 +1,5 @@
-//! The tests of a parameter's and a message's parts, in their order. Those of its own fields and tail are in `parts`.
+//! The tests of a parameter's and a message's children, lengths and levels, in their order. The
+//! tests of its own fields and tail are in `parts`.
 
 ghost use Rattle.std.specs.Prelude.{◌≡◌, ◌≤◌, ◌+◌, ◌*◌, ◌==◌, ◌||◌, length, map, []};
 ghost use Rattle.llrp_schema.specs.Schema.{field_rule, group_rule};
@@ -12,7 +13,7 @@ use crate::{MAX_DEPTH, MAX_LIMIT, MAX_OCTETS, Node, NodeFault};
 use arrayvec::ArrayVec;
 use llrp_schema::{Field, Group, Kind, MsgKind, ParamKind};
 
-/// The fields, in place.
+/// Copies the fields into an array.
 pub(crate) fn kept(fields: &[u128]) -> ArrayVec<u128, 12>
     requires { length fields.now ≤ 12 }
     ensures { result.items ≡ fields.now }
@@ -24,14 +25,14 @@ pub(crate) fn kept(fields: &[u128]) -> ArrayVec<u128, 12>
     kept
 }
 
-/// How large nodes in a row are.
+/// How many octets and levels nodes have together.
 #[derive(Clone, Copy, Debug)]
 pub(crate) struct Extent {
     pub octets: u128,
     pub levels: u8,
 }
 
-/// The octets and the levels of nodes, which are all lawful.
+/// The octets and the levels of nodes. Each node is lawful by its type.
 pub(crate) fn extent_of(nodes: &[Node]) -> Extent
     ensures octets { result.octets ≡ law.octets (forest nodes.now) }
     ensures bound { result.octets ≤ 65535 * length nodes.now }
@@ -61,7 +62,7 @@ fn count_fits(rules: &[Field], values: &[u128]) -> bool
     values.len() == count
 }
 
-/// Whether a kind is one of a group's.
+/// Whether a group has this kind.
 #[inline(always)]
 pub(crate) fn is_member(group: &Group, kind: ParamKind) -> bool
     ensures { result ≡ law.is_member (group_rule group.now) kind }
@@ -97,7 +98,7 @@ fn all_placed(groups: &[Group], nodes: &[Node]) -> bool
     true
 }
 
-/// How many nodes are of a group.
+/// How many of the nodes belong to a group.
 pub(crate) fn members(group: &Group, nodes: &[Node]) -> usize
     ensures value { result ≡ checks.members (group_rule group.now) nodes.now }
 {
@@ -124,7 +125,7 @@ fn none_too_many(groups: &[Group], nodes: &[Node]) -> bool
     true
 }
 
-/// Whether no group has fewer nodes than its least.
+/// Whether each group has as many nodes as it needs.
 #[tactic(auto, unfolding(crate::specs::Checks::none_missing))]
 pub(crate) fn none_missing(groups: &[Group], nodes: &[Node]) -> bool
     ensures { result ≡ checks.none_missing (map group_rule groups.now) nodes.now }
@@ -137,7 +138,7 @@ pub(crate) fn none_missing(groups: &[Group], nodes: &[Node]) -> bool
     true
 }
 
-/// The first fault of the parts by the table of their kind.
+/// The first test of the parts that fails by the tables.
 #[tactic(auto, unfolding(crate::specs::Checks::table_tests))]
 fn table_fault(
     kind: Kind,
@@ -172,7 +173,7 @@ fn table_fault(
     None
 }
 
-/// The first fault of the parts of a parameter, whose children have these levels.
+/// The first test of a parameter's parts that fails, given the levels of its children.
 #[tactic(auto, unfolding(crate::specs::Checks::first_fault))]
 pub(crate) fn first_fault(
     kind: ParamKind,
@@ -206,7 +207,7 @@ pub(crate) fn is_known_version(version: u8) -> bool
     version == 1 || version == 2
 }
 
-/// The first fault of the parts of a message of this many octets.
+/// The first test of a message's parts that fails, given its octets.
 pub(crate) fn first_message_fault(
     version: u8,
     kind: MsgKind,

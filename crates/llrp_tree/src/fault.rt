@@ -48,7 +48,7 @@ pub struct Fault {
     pub reason: Reason,
 }
 
-/// Why `decode_frame` has no message.
+/// Why `decode_frame` returns no message.
 #[derive(Clone, Copy, Debug, PartialEq, Eq)]
 pub enum FrameErr {
     /// The frame is not a message, and this is its first fault.

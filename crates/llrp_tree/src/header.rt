@@ -17,9 +17,9 @@ pub struct Header {
     pub version: u8,
     /// The kind of the message.
     pub kind: MsgKind,
-    /// The number of octets of the frame, the header's ten among them.
+    /// The number of octets of the frame, including the ten of the header.
     pub octets: u32,
-    /// The message's identifier.
+    /// The message's id.
     pub id: u32,
 }
 
@@ -35,9 +35,9 @@ fn ahead(bytes: &[u8], place: usize, width: u32) -> u128
     get(bytes, place, width)
 }
 
-/// What the header of every frame that begins with these bytes says, or the first check that it
-/// fails: reserved bits, version, type, and a length above `limit`. A length below ten octets is no
-/// fault here.
+/// Reads the header at the front of these bytes, whatever follows them, or returns the first check
+/// that it fails: reserved bits, version, type, and a length above `limit`. A length below ten
+/// octets is no fault here.
 pub fn read_header(bytes: &[u8], limit: u32) -> Result<Header, Fault>
     requires whole { 10 ≤ length bytes.now }
     ensures header { IfOk result (HasHeader limit bytes.now) }

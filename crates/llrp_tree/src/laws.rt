@@ -1,4 +1,4 @@
-//! Laws of lawful parameters and messages, and of what they spell.
+//! Laws of lawful parameters and messages, and of their octets.
 
 ghost use Rattle.std.specs.Prelude.{◌≡◌, ◌↔◌, ◌^◌, ◌<◌, ◌≤◌, ◌+◌, ◌*◌, ℕ, List, None, length};
 ghost use Rattle.llrp_schema.specs.declared.kinds.ParamKind.{ParamKind};
@@ -14,7 +14,7 @@ ghost use Rattle.llrp_tree.specs.FrameLaws.{OpenTreesAgree, FramesApart};
 ghost use Rattle.llrp_tree.specs.Deciding.{FaultsAreDecided, NoneIsDecidedBefore};
 ghost use Rattle.llrp_tree.specs.GrowthLaws.{FieldGrows, TailGrows, TlvOpens, TvOpens, TlvCloses, TvCloses};
 
-/// Parts are lawful exactly where none of the ordered tests fails.
+/// Parts are lawful exactly if none of the ordered tests fails.
 #[tactic(auto, using(crate::proofs::LawLemmas::lawful_exactly, crate::proofs::LawLemmas::message_exactly))]
 pub fn lawful_where_no_test_fails()
     ensures parameter { (kind : ParamKind) (fields tail : List ℕ) (children : Forest)
@@ -24,7 +24,7 @@ pub fn lawful_where_no_test_fails()
         IsLawfulMessage m ↔ (first_message_fault m.version m.kind m.fields m.children ≡ None) }
 {}
 
-/// What is spelled has as many octets as the length says.
+/// The octets of a message or parameter are as many as its length says.
 #[tactic(auto, using(crate::proofs::LengthLemmas::tree_length, crate::proofs::LengthLemmas::frame_length))]
 pub fn lengths_are_spelled()
     ensures parameter { (t : Tree) → length (tree_digits t) ≡ 8 * tree_octets t }
@@ -37,7 +37,7 @@ pub fn open_trees_agree()
     ensures { OpenTreesAgree }
 {}
 
-/// A frame has one message or one first fault, and no message's bytes begin those of another.
+/// A frame has one message or one first fault, and no message's octets begin another's.
 pub fn frames_apart()
     ensures { (limit : ℕ) → limit ≤ MAX_LIMIT → FramesApart limit }
 {}
@@ -50,14 +50,14 @@ pub fn open_trees_grow()
     ensures tv { TvOpens }
 {}
 
-/// A parameter that has all its parts is closed, and is then a child of the node around it.
+/// A parameter that has all its parts can be closed, and is then a child of the node around it.
 pub fn whole_parameters_close()
     ensures tlv { TlvCloses }
     ensures tv { TvCloses }
 {}
 
-/// A fault is decided at the end of the part that fails, and none before the next checks of an open
-/// tree are decided.
+/// A fault is decided at the end of the part that fails, and not before the next check of the open
+/// tree is decided.
 pub fn faults_are_decided()
     ensures at_end { FaultsAreDecided }
     ensures not_before { NoneIsDecidedBefore }

@@ -37,7 +37,7 @@ pub use writing::Spelling;
 /// The greatest number of levels of parameters in a message.
 pub const MAX_DEPTH: u8 = 16;
 
-/// The same number, for arrays that hold at most one item a level.
+/// The same number, for arrays with at most one item for each level.
 pub(crate) const LEVELS: usize = MAX_DEPTH as usize;
 
 /// The greatest number of octets of a message.

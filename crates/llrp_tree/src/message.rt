@@ -66,7 +66,7 @@ impl Message {
         self.version
     }
 
-    /// The message's identifier.
+    /// The message's id.
     pub fn id(&self) -> u32
         ensures { result ≡ self.now.id }
     {
@@ -80,14 +80,14 @@ impl Message {
         self.kind
     }
 
-    /// The plain fields in their order, the reserved ones left out.
+    /// The fields in their order, without the reserved ones.
     pub fn fields(&self) -> &[u128]
         ensures { result.now ≡ self.now.fields }
     {
         self.fields.as_slice()
     }
 
-    /// The plain field at a place.
+    /// The field with this index, reserved ones not counted.
     pub fn field(&self, i: usize) -> u128
         requires { i < length self.now.fields }
         ensures { result ≡ slice_index self.now.fields i }
@@ -102,7 +102,7 @@ impl Message {
         &self.children
     }
 
-    /// The children, handed over.
+    /// Takes the message apart and returns its children.
     pub fn into_children(self) -> Nodes
         ensures { result ≡ trees self.children }
     {
@@ -123,7 +123,7 @@ impl Message {
         let _ = &self.octets;
     }
 
-    /// The same message; an error where memory runs out.
+    /// A copy of the message. The error is that memory ran out.
     pub fn try_clone(&self, alloc: Global) -> Result<Message, AllocError>
         ensures { IfOk result (λ message. message ≡ self.now) }
     {
@@ -146,8 +146,8 @@ pub struct MsgRefusal {
 }
 
 impl Message {
-    /// The message of parts that are known to be lawful, with no test: what `Message::new` gives for
-    /// them.
+    /// Makes a message of parts that are proved to be lawful, without a test: the one that
+    /// `Message::new` makes of them.
     pub fn of_lawful(
         version: u8,
         id: u32,
@@ -184,7 +184,7 @@ impl Message {
         }
     }
 
-    /// The message of these parts, or the first test that they fail.
+    /// Makes a message of these parts, or returns the first test that they fail.
     pub fn new(
         version: u8,
         id: u32,

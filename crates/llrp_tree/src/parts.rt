@@ -10,7 +10,8 @@ ghost use Rattle.llrp_tree.specs.Checks as checks;
 use crate::NodeFault;
 use llrp_schema::{Field, Kind, ParamKind, Tail};
 
-/// Whether there is a value for each plain field, none above the greatest of its field.
+/// Whether there is a value for each field that is not reserved, and none is above the field's
+/// greatest.
 pub(crate) fn values_fit(rules: &[Field], values: &[u128]) -> bool
     ensures { result ≡ checks.values_fit (map field_rule rules.now) values.now }
 {
@@ -78,7 +79,7 @@ fn field_bits(rules: &[Field]) -> u128
     bits
 }
 
-/// The octets of the fields and the tail of a kind.
+/// How many octets the fields and the tail of a kind have.
 #[tactic(auto, unfolding(crate::specs::Lawful::body_octets))]
 pub(crate) fn body_octets(kind: Kind, tail: &[u8]) -> u128
     ensures value { result ≡ law.body_octets kind tail.now }
@@ -91,7 +92,7 @@ pub(crate) fn body_octets(kind: Kind, tail: &[u8]) -> u128
     field_bits(llrp_schema::fields(kind)) / 8 + count + tail.len() as u128
 }
 
-/// The octets of a parameter's head.
+/// How many octets a parameter's head has.
 pub(crate) fn head_octets(kind: ParamKind) -> u128
     ensures value { result ≡ law.head_octets kind }
     ensures few { result ≤ 4 }
@@ -99,8 +100,8 @@ pub(crate) fn head_octets(kind: ParamKind) -> u128
     if llrp_schema::is_tv(kind) { 1 } else { 4 }
 }
 
-/// The octets of a node without its children: its head or header, its fields, the count of its tail,
-/// and the tail. A message has no tail.
+/// How many octets a node has without its children: its head or header, its fields, the count of
+/// its tail, and the tail. A message has no tail.
 pub fn own_octets(kind: Kind, tail: &[u8]) -> u128
     ensures value { result ≡ law.own_octets kind tail.now }
     ensures bound { result < 2 ^ 101 }

@@ -1,4 +1,4 @@
-//! Frames, read from left to right.
+//! Reads frames from left to right.
 
 ghost use Rattle.std.specs.Prelude.{◌≡◌, ◌≤◌, length, MatchResult};
 ghost use Rattle.tag_bits.specs.Digits.{digits_of_bytes};
@@ -19,8 +19,8 @@ use arrayvec::ArrayVec;
 use llrp_schema::Kind;
 use std::alloc::Global;
 
-/// The message that has the frame (LLRP 1.1, section 17), or the frame's first fault; an error where
-/// memory runs out.
+/// Reads the message of a frame (LLRP 1.1, section 17). The error is the frame's first fault, or
+/// that memory ran out.
 pub fn decode_frame(alloc: Global, frame: &[u8], limit: u32) -> Result<Message, FrameErr>
     requires header { 10 ≤ length frame.now }
     requires own_length { number (digits_of_bytes frame.now) 16 32 ≡ length frame.now }

@@ -22,14 +22,14 @@ pub struct Start {
     pub from: usize,
 }
 
-/// The number that the digits of fields spell, and how many digits there are.
+/// The number that the bits of fields spell, and how many bits there are.
 #[derive(Clone, Copy, Debug)]
 struct Packed {
     number: u128,
     bits: u32,
 }
 
-/// The fields of a kind in one number.
+/// Joins the fields of a kind to one number.
 fn pack(rules: &[Field], values: &[u128]) -> Packed
     requires sound { is_sound (map field_rule rules.now) ≡ true }
     requires small { bits_of (map field_rule rules.now) ≤ 120 }
@@ -57,7 +57,7 @@ fn pack(rules: &[Field], values: &[u128]) -> Packed
     }
 }
 
-/// A field before others.
+/// Puts a field in front of others.
 fn joined(width: u32, value: u128, rest: Packed) -> Packed
     requires below { rest.number < 2 ^ rest.bits }
     requires value { value < 2 ^ width }
@@ -98,7 +98,7 @@ fn head(kind: ParamKind, octets: u32) -> Packed
     )
 }
 
-/// The count of a tail, where its form has one.
+/// The count of a tail, if its form has one.
 fn count(form: Tail, tail: &[u8]) -> Packed
     requires words { form ≡ Words → length tail.now / 2 ≤ 65535 }
     requires text { form ≡ Text → length tail.now ≤ 65535 }
@@ -119,7 +119,7 @@ fn count(form: Tail, tail: &[u8]) -> Packed
     }
 }
 
-/// A message's header: its version, kind, length and identifier.
+/// A message's header: its version, kind, length and id.
 fn header(version: u8, kind: MsgKind, octets: u32, id: u32) -> Packed
     requires version { version < 8 }
     ensures spelled { digits 80 result.number ≡ head_digits (message_head version kind octets id) }
@@ -135,7 +135,7 @@ fn header(version: u8, kind: MsgKind, octets: u32, id: u32) -> Packed
     joined(16, version as u128 * 1024 + number, rest)
 }
 
-/// The octets of a number's digits.
+/// The octets of a number's bits.
 fn as_octets(packed: Packed) -> Start
     requires below { packed.number < 2 ^ packed.bits }
     requires few { packed.bits ≤ 128 }
@@ -149,8 +149,8 @@ fn as_octets(packed: Packed) -> Start
     }
 }
 
-/// The octets of a parameter before its tail, where it has this many octets in all. A length of 0
-/// leaves room for one that is not known yet.
+/// The octets of a parameter before its tail, with this length. A length of 0 leaves room for one
+/// that is not known yet.
 pub fn parameter_start(kind: ParamKind, octets: u32, values: &[u128], tail: &[u8]) -> Start
     requires long { octets ≤ 65535 }
     requires values { values_fit (fields_of (Parameter kind)) values.now ≡ true }

@@ -1,4 +1,4 @@
-//! The octets of a message, as many at a time as there is room for.
+//! Writes the octets of a message, as many at a time as there is room for.
 
 ghost use Rattle.std.specs.Prelude.{◌≡◌, ◌≤◌, ◌<◌, ◌+◌, ◌-◌, [], ◌++◌, length, min, take, drop, IsTrue, ◌↔◌};
 ghost use Rattle.llrp_tree.specs.Tree.{forest};
@@ -14,7 +14,8 @@ use crate::starts::{start_of, start_of_message};
 use arrayvec::ArrayVec;
 use std::marker::Model;
 
-/// The rest of a node that was begun: the octets of `octets` from the place `from` on, then its tail.
+/// The rest of a node that has begun: the octets of `octets` from the place `from` on, then its
+/// tail.
 #[derive(Drop)]
 struct Begun<'a> {
     octets: [u8; 16],
@@ -98,7 +99,7 @@ fn copy_to(octets: &[u8], buf: &mut [u8], place: usize) -> usize
     count
 }
 
-/// Whether nothing is left of the node that was begun.
+/// Whether nothing is left of the node that has begun.
 fn is_finished(begun: &Begun) -> bool
     requires { begun.now.from ≤ length begun.now.octets }
     ensures { IsTrue result ↔ (rest_of begun.now ≡ []) }
@@ -109,7 +110,7 @@ fn is_finished(begun: &Begun) -> bool
     begun.tail.is_empty()
 }
 
-/// Moves octets of the node that was begun.
+/// Moves octets of the node that has begun.
 fn move_begun(begun: &mut Begun, buf: &mut [u8], place: usize) -> usize
     requires from { begun.old.from ≤ length begun.old.octets }
     requires room { place < length buf.old }
@@ -128,7 +129,8 @@ fn move_begun(begun: &mut Begun, buf: &mut [u8], place: usize) -> usize
     count
 }
 
-/// Moves octets of the node that was begun, or else of the next one: none only where nothing is left.
+/// Moves octets of the node that has begun, or else of the next one; it moves none only if nothing
+/// is left.
 fn move_some<'a>(begun: &mut Begun<'a>, rows: &mut Rows<'a>, buf: &mut [u8], place: usize) -> usize
     requires from { begun.old.from ≤ length begun.old.octets }
     requires deep { AreDeep 0 rows.old.items }
@@ -149,7 +151,7 @@ fn move_some<'a>(begun: &mut Begun<'a>, rows: &mut Rows<'a>, buf: &mut [u8], pla
     move_begun(begun, buf, place)
 }
 
-/// Moves octets until there is no more room, or nothing is left.
+/// Moves octets until there is no more room or nothing is left.
 fn move_all<'a>(begun: &mut Begun<'a>, rows: &mut Rows<'a>, buf: &mut [u8], place: usize) -> usize
     requires from { begun.old.from ≤ length begun.old.octets }
     requires deep { AreDeep 0 rows.old.items }
@@ -173,7 +175,8 @@ fn move_all<'a>(begun: &mut Begun<'a>, rows: &mut Rows<'a>, buf: &mut [u8], plac
 }
 
 impl<'a> Spelling<'a> {
-    /// The whole frame of a message, of which nothing is written yet (LLRP 1.1, section 17.1). Takes no memory.
+    /// The whole frame of a message, of which nothing is written yet (LLRP 1.1, section 17.1). It
+    /// takes no memory.
     pub fn new(message: &'a Message) -> Spelling<'a>
         ensures { Frame message.now result MAX_LIMIT }
     {
@@ -217,7 +220,7 @@ impl<'a> Spelling<'a> {
     }
 
     /// Moves the next octets to the front of `buf`, as many as there is room for, and returns their
-    /// number. The rest of `buf` stays as it was. Takes no memory.
+    /// number. The rest of `buf` stays as it was. It takes no memory.
     pub fn fill(&mut self, buf: &mut [u8]) -> usize
         ensures count { result ≡ min (length self.old) (length buf.old) }
         ensures left { self.new ≡ drop result self.old }

@@ -1,4 +1,4 @@
-//! Numbers of up to 128 bits that are anywhere among bytes.
+//! Numbers of up to 128 bits anywhere among bytes.
 
 ghost use Rattle.std.specs.Prelude.{◌≡◌, ℕ, ◌+◌, ◌*◌, ◌^◌, ◌<◌, ◌≤◌, length};
 ghost use Rattle.tag_bits.specs.Digits.{value, digits, digits_of_bytes, field, with_field};
@@ -6,8 +6,8 @@ ghost use Rattle.tag_bits.specs.Digits.{value, digits, digits_of_bytes, field, w
 use crate::octets::{fill, number_of, number_of_eight};
 use crate::parts::{part_of_eight, with_part};
 
-/// The octets of a field: it begins at bit `before` of the octet `first`, and the octet `last` has its
-/// last bits, up to its bit `kept`.
+/// Where a field is: it begins at bit `before` of the octet `first`, and its last bits are in the
+/// octet `last`, up to the bit `kept`.
 #[derive(Clone, Copy)]
 struct Span {
     first: usize,
@@ -36,7 +36,7 @@ fn span_of(place: usize, width: u32) -> Span
     }
 }
 
-/// The number of a field that begins at bit `before` of the octet `first`, from each of its octets.
+/// Reads a field that begins at bit `before` of the octet `first`, octet by octet.
 #[inline(never)]
 fn gather(bytes: &[u8], first: usize, before: u32, width: u32) -> u128
     requires least { 1 ≤ width }
@@ -53,8 +53,8 @@ fn gather(bytes: &[u8], first: usize, before: u32, width: u32) -> u128
     (whole << kept | part) & (u128::MAX >> (128 - width))
 }
 
-/// The number of a field of at most 64 bits that begins at bit `before` of the octet `first`. Most
-/// lie within eight octets, which are read as one.
+/// Reads a field of at most 64 bits that begins at bit `before` of the octet `first`. Most fields
+/// lie within eight octets, which are read as one number.
 #[inline(always)]
 fn get_narrow(bytes: &[u8], first: usize, before: u32, width: u32) -> u128
     requires least { 1 ≤ width }
@@ -71,7 +71,7 @@ fn get_narrow(bytes: &[u8], first: usize, before: u32, width: u32) -> u128
     }
 }
 
-/// The number of a field of more than 64 bits that begins at bit `before` of the octet `first`.
+/// Reads a field of more than 64 bits that begins at bit `before` of the octet `first`.
 #[inline(never)]
 fn get_wide(bytes: &[u8], first: usize, before: u32, width: u32) -> u128
     requires least { 65 ≤ width }
@@ -104,7 +104,7 @@ pub fn get(bytes: &[u8], place: usize, width: u32) -> u128
     }
 }
 
-/// The octet with `value` over its `width` bits from bit `place` on.
+/// The octet with `value` as its `width` bits from bit `place` on.
 fn octet_with(octet: u8, place: u32, width: u32, value: u128) -> u8
     requires within { place + width ≤ 8 }
     requires fits { value < 2 ^ width }
@@ -113,8 +113,8 @@ fn octet_with(octet: u8, place: u32, width: u32, value: u128) -> u8
     with_part(octet as u128, 8, place, width, value) as u8
 }
 
-/// Makes the `width` bits from bit `place` on those of `value`, and leaves all others; bit 0 is the
-/// most significant of the first byte (LLRP 1.1, binary encoding).
+/// Sets the `width` bits from bit `place` on to `value`, and leaves all others; bit 0 is the most
+/// significant of the first byte (LLRP 1.1, binary encoding).
 pub fn put(bytes: &mut [u8], place: usize, width: u32, value: u128)
     requires least { 1 ≤ width }
     requires most { width ≤ 128 }

@@ -27,7 +27,7 @@ pub fn number_of_eight(octets: &[u8]) -> u64
     number
 }
 
-/// Writes `number` over all the octets.
+/// Writes `number` into all of the octets.
 pub fn fill(octets: &mut [u8], number: u128)
     requires fits { number < 2 ^ (8 * length octets.old) }
     ensures { digits_of_bytes octets.new ≡ digits (8 * length octets.old) number }

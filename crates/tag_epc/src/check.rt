@@ -1,4 +1,4 @@
-//! Which numbers are an EPC's, and the first that is not.
+//! Checks whether numbers are an EPC's, and finds the first that is not.
 
 ghost use Rattle.std.specs.Prelude.{◌≡◌, ◌≢◌, ◌↔◌, ℕ, [], ◌∷◌, Some, IsTrue, IfOk, IfErr, MatchOption};
 ghost use Rattle.tag_epc.specs.Layout.{layout_of, row_at, last_segment, number_segments};
@@ -37,7 +37,8 @@ pub fn first_unfit<S: Scheme>(row: Row, company: u64, reference: u64, last: u64)
     }
 }
 
-/// Whether a last part fits: 0 where the segment is all zeros, else any number of its bits.
+/// Whether a last part fits: it has to be 0 if the segment is all zeros, and else fits the
+/// segment's bits.
 fn last_fits<S: Scheme>(last: u64) -> bool
     ensures { IsTrue result ↔ Fits (record { segment = last_segment S.layout; number = last }) }
 {
@@ -48,7 +49,7 @@ fn last_fits<S: Scheme>(last: u64) -> bool
     }
 }
 
-/// The parts of numbers that are an EPC's, or the first check that they fail.
+/// The parts of an EPC with these numbers, or the first check that they fail.
 pub fn checked<S: Scheme>(
     kind: Kind,
     filter: u8,
@@ -88,7 +89,7 @@ pub fn checked<S: Scheme>(
     }
 }
 
-/// The parts of numbers that are an EPC's of the scheme of a kind, or the first check that they fail.
+/// The same, for the scheme of a kind.
 pub fn checked_at(
     kind: Kind,
     filter: u8,
@@ -111,7 +112,7 @@ pub fn checked_at(
     )
 }
 
-/// The parts of numbers that are an EPC's of GID-96, or the first that does not fit.
+/// The parts of an EPC of GID-96 with these numbers, or the first that does not fit.
 pub fn checked_general(manager: u64, object_class: u64, serial: u64) -> Result<Parts, EpcFault>
     ensures ok { IfOk result (λ parts. parts ≡ Parts.General manager object_class serial) }
     ensures lawful { IfOk result (λ parts. IsLawful parts) }

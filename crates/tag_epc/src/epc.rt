@@ -13,8 +13,8 @@ use tag_bits::Word;
 /// The parts of an EPC.
 #[derive(Clone, Copy, PartialEq, Eq, Hash, Debug)]
 pub enum Parts {
-    /// Of a scheme with a company prefix: the reference is the part after the prefix, and `last` the
-    /// serial number, the extension, or 0 where the word ends in zeros.
+    /// Those of a scheme with a company prefix: the reference is the part after the prefix; `last`
+    /// is the serial number, the extension, or 0 if the word ends in zeros.
     Partitioned {
         kind: Kind,
         filter: u8,
@@ -23,7 +23,7 @@ pub enum Parts {
         reference: u64,
         last: u64,
     },
-    /// Of GID-96.
+    /// Those of GID-96.
     General {
         manager: u64,
         object_class: u64,
@@ -54,8 +54,8 @@ impl Epc {
     ghost use Rattle.tag_epc.specs.LawfulWord.{IsLawful, IsLawfulWord, HasWord, kind_of};
     ghost use Rattle.tag_epc.specs.Faults.{HasEpcFault, HasWordFault};
 
-    /// The EPC of a scheme with a company prefix of that many digits. `reference` is the part after the
-    /// prefix, and `last` the serial number or extension, or 0 where the word ends in zeros.
+    /// The EPC of a scheme with a company prefix of this many digits. `reference` is the part after
+    /// the prefix, and `last` the serial number or extension, or 0 if the word ends in zeros.
     ///
     /// The error is the first part that fails (EPC Tag Data Standard 1.13, section 14.5).
     pub fn partitioned(
@@ -78,8 +78,9 @@ impl Epc {
         Ok(Epc { parts })
     }
 
-    /// The EPC of GID-96 with these numbers. The error is the first that is too large: the manager number is
-    /// named `Prefix`, the object class as `Reference`, the serial number as `Last`.
+    /// The EPC of GID-96 with these numbers. The error is the first number that is too large:
+    /// `Prefix` for the manager number, `Reference` for the object class, `Last` for the serial
+    /// number.
     pub fn gid(manager: u64, object_class: u64, serial: u64) -> Result<Epc, EpcFault>
         ensures exactly { IsOk result ↔ IsLawful (Parts.General manager object_class serial) }
         ensures ok { IfOk result (λ e. e ≡ Parts.General manager object_class serial) }
@@ -90,7 +91,7 @@ impl Epc {
         Ok(Epc { parts })
     }
 
-    /// The EPC of parts that are an EPC's. Nothing is checked when it runs.
+    /// The EPC of parts that are proved to be an EPC's, without a check.
     pub fn of_parts(parts: Parts) -> Epc
         requires { IsLawful parts }
         ensures { result ≡ parts }
@@ -98,8 +99,8 @@ impl Epc {
         Epc { parts }
     }
 
-    /// The EPC that a word carries, or the word's first part that fails and its bit
-    /// (EPC Tag Data Standard 1.13, section 14).
+    /// The EPC that a word carries, or the first part of the word that fails, and its bit (EPC Tag
+    /// Data Standard 1.13, section 14).
     #[inline(always)]
     pub fn from_word(word: Word) -> Result<Epc, WordFault>
         ensures exactly { IsOk result ↔ IsLawfulWord word }

@@ -1,4 +1,4 @@
-//! Why numbers are not an EPC, and why a word has none.
+//! Why numbers are not an EPC's, and why a word carries no EPC.
 
 ghost use Rattle.std.specs.Prelude.{◌≡◌};
 
@@ -7,20 +7,20 @@ ghost use Rattle.std.specs.Prelude.{◌≡◌};
 pub enum EpcFault {
     /// The filter value is above 7.
     Filter,
-    /// The company prefix has not 6 to 12 digits.
+    /// The company prefix does not have 6 to 12 digits.
     Digits,
     /// The company prefix has more digits than given, or the manager number more than 28 bits.
     Prefix,
     /// The reference has more digits than the partition table gives it, or the object class more than 24 bits.
     Reference,
-    /// The last part has more bits than its segment, or is not 0 where the segment is all zeros.
+    /// The last part has more bits than its segment, or is not 0 although the segment is all zeros.
     Last,
 }
 
-/// The part of a word that no EPC has.
+/// The first part of a word that fails.
 #[derive(Clone, Copy, PartialEq, Eq, Hash, Debug)]
 pub enum WordReason {
-    /// The header is not a scheme's.
+    /// The header is not that of a scheme.
     Header,
     /// The partition value has no row.
     Partition,
@@ -28,7 +28,7 @@ pub enum WordReason {
     Prefix,
     /// The reference has more digits than the partition value says.
     Reference,
-    /// The last segment is not all zeros.
+    /// The last segment is not all zeros although it has to be.
     Zeros,
 }
 

@@ -1,5 +1,5 @@
-//! The schemes by name, and the way from a scheme's name to its layout. A new scheme has a line in each
-//! of the three lists below: the enum, the list of all kinds, and the macro.
+//! The schemes by name, and the way from a scheme's name to its layout. A new scheme gets a line in
+//! each of the three lists below: the enum, the list of all kinds, and the macro.
 
 ghost use Rattle.std.specs.Prelude.{◌≡◌, ◌≢◌, ℕ, MatchOption};
 
@@ -38,7 +38,7 @@ pub const KINDS: [Kind; 7] = [
     Kind::Gid,
 ];
 
-/// The generic function at the scheme of a kind, or a value for GID-96.
+/// Calls a generic function with the scheme of a kind, or gives a value for GID-96.
 #[macro_export]
 macro_rules! at_scheme {
     ($kind:expr, $f:ident($($argument:expr),*), $general:expr) => {

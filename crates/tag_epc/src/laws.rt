@@ -1,4 +1,4 @@
-//! Laws of the definitions.
+//! Laws of this crate's definitions.
 
 ghost use Rattle.std.specs.Prelude.{◌≡◌, ℕ, ◌^◌, ◌<◌};
 ghost use Rattle.tag_epc.specs.declared.epc.Parts.{Parts};

@@ -1,4 +1,4 @@
-//! The parts that a word carries.
+//! Reads the parts that a word carries.
 
 ghost use Rattle.std.specs.Prelude.{◌≡◌, ℕ, [], ◌++◌, Some, length, IfOk, IfErr};
 ghost use Rattle.tag_bits.specs.Digits.{digits};
@@ -15,7 +15,7 @@ use crate::kind::Kind;
 use crate::scheme::Scheme;
 use tag_bits::Word;
 
-/// The parts that a word carries, or its first part that fails.
+/// The parts that a word carries, or the first part that fails.
 #[inline(always)]
 pub fn parts_of(word: Word) -> Result<Parts, WordFault>
     ensures ok { IfOk result (λ parts. HasWord parts word) }

@@ -3,7 +3,8 @@
 ghost use Rattle.std.specs.Prelude.{◌≡◌, ℕ, ◌^◌, ◌≤◌, Bool, true, refl, slice_get};
 ghost use Rattle.tag_epc.specs.Layout.{partition_table};
 
-/// How a partition value parts company prefix and reference, each by its bits and decimal digits.
+/// How a partition value divides the bits and the decimal digits between company prefix and
+/// reference.
 #[derive(Clone, Copy, PartialEq, Eq, Debug)]
 pub struct Row {
     pub company_bits: u32,
@@ -38,7 +39,7 @@ pub trait Scheme {
     fn name() -> &'static str
         ensures { result.now ≡ layout.name };
 
-    /// The row of a partition value; none from 7 on.
+    /// The row of a partition value, or `None` from 7 on.
     fn row(partition: u8) -> Option<Row>
         ensures { result ≡ row_at layout partition };
 
@@ -54,7 +55,7 @@ pub trait Scheme {
 /// Bits of the company prefix by partition value, the same in each scheme.
 const COMPANY_BITS: [u32; 7] = [40, 37, 34, 30, 27, 24, 20];
 
-/// The row of a partition value, from a scheme's bits and digits of the reference.
+/// The row of a partition value, from the bits and digits of a scheme's references.
 fn row_of(partition: u8, bits: &[u32; 7], digits: &[u32; 7]) -> Option<Row>
     ensures { result ≡ slice_get (partition_table bits.now digits.now) partition }
 {

@@ -1,4 +1,4 @@
-//! The word that carries the parts of an EPC.
+//! Makes the word that carries the parts of an EPC.
 
 ghost use Rattle.std.specs.Prelude.{◌≡◌, ℕ, [], ◌∷◌, ◌++◌, Some};
 ghost use Rattle.tag_bits.specs.Digits.{word_digits};

@@ -1,4 +1,4 @@
-//! The components of a text between dots.
+//! Divides a text into its components, which dots separate.
 
 ghost use Rattle.std.specs.Prelude.{◌≡◌, ◌≢◌, ◌+◌, ◌<◌, ◌∷◌, [], length, MatchOption, IfSome, IfNone};
 ghost use Rattle.tag_uri.specs.TagText.{components};
@@ -15,7 +15,7 @@ fn cut<'a>(text: &'a str) -> (&'a str, Option<&'a str>)
     }
 }
 
-/// The components of a text of three.
+/// The components of a text that has three.
 pub fn three<'a>(text: &'a str) -> Option<(&'a str, &'a str, &'a str)>
     ensures some { IfSome result (λ x. components text.now ≡ x.0.now ∷ x.1.now ∷ x.2.now ∷ []) }
     ensures none { IfNone result (length (components text.now) ≢ 3) }
@@ -32,7 +32,7 @@ pub fn three<'a>(text: &'a str) -> Option<(&'a str, &'a str, &'a str)>
     Some((first, second, third))
 }
 
-/// The components of a text of four.
+/// The components of a text that has four.
 pub fn four<'a>(text: &'a str) -> Option<(&'a str, &'a str, &'a str, &'a str)>
     ensures some { IfSome result (λ x. components text.now ≡ x.0.now ∷ x.1.now ∷ x.2.now
         ∷ x.3.now ∷ []) }

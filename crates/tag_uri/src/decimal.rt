@@ -1,9 +1,9 @@
-//! The numbers of decimal text.
+//! Reads decimal numbers.
 
 ghost use Rattle.std.specs.Prelude.{◌≡◌, ℕ, ◌^◌, ◌<◌, ◌≤◌, length, MatchOption};
 ghost use Rattle.tag_uri.specs.Decimal.{AreDigits, decimal_value, padded};
 
-/// The number of a text of digits, where it has at most `width` bits.
+/// The number of a text of digits, if it has at most `width` bits.
 pub fn number_below(text: &str, width: u32) -> Option<u64>
     requires digits { AreDigits text.now }
     requires some { 0 < length text.now }
@@ -21,7 +21,7 @@ pub fn number_below(text: &str, width: u32) -> Option<u64>
     }
 }
 
-/// The number of at most twelve digits; 0 where there is none.
+/// The number of at most twelve digits; 0 of an empty text.
 pub fn number_of(text: &str) -> u64
     requires digits { AreDigits text.now }
     requires short { length text.now ≤ 12 }

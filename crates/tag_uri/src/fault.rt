@@ -2,12 +2,12 @@
 
 use std::fmt;
 
-/// The rules that refuse a text, in their order: the first that applies is named.
+/// The rules that refuse a text; the first in this order that applies is named.
 #[derive(Clone, Copy, PartialEq, Eq, Debug)]
 pub enum UriFault {
-    /// The text begins neither with `urn:epc:tag:` nor, where a raw URI is looked for, with `urn:epc:raw:`.
+    /// The text does not begin with `urn:epc:tag:` or, if a raw URI may come, with `urn:epc:raw:`.
     Start,
-    /// No name of a scheme with its colon follows.
+    /// No name of a scheme with its colon comes next.
     Scheme,
     /// The number of components between dots is not the scheme's.
     Parts,
@@ -15,13 +15,14 @@ pub enum UriFault {
     Digit,
     /// A number without fixed digits has two or more digits and begins with 0.
     LeadingZero,
-    /// The filter value is not one digit 0 to 7.
+    /// The filter value is not one digit from 0 to 7.
     Filter,
-    /// The company prefix has not 6 to 12 digits, or the reference not the table's number for it.
+    /// The company prefix does not have 6 to 12 digits, or the reference not as many as the table
+    /// has for it.
     Digits,
     /// A number without fixed digits has more bits than its segment.
     Range,
-    /// Not `96.x` and exactly 24 digits 0 to 9, A to F after `urn:epc:raw:`.
+    /// After `urn:epc:raw:` the text is not `96.x` and exactly 24 digits 0 to 9, A to F.
     RawForm,
     /// The word of a raw URI has a tag URI.
     RawOfLawful,

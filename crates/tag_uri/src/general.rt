@@ -33,7 +33,7 @@ pub fn read_general(text: &str) -> Result<Parts, UriFault>
     }
 }
 
-/// Whether one of the numbers has a character other than 0 to 9, or is empty.
+/// Whether one of the numbers is empty or has a character other than 0 to 9.
 fn have_stray(manager: &str, object_class: &str, serial: &str) -> bool
     ensures { result ≡ some_component stray (forms_of None) (manager.now ∷ object_class.now
         ∷ serial.now ∷ []) }
@@ -49,7 +49,7 @@ fn have_leading_zero(manager: &str, object_class: &str, serial: &str) -> bool
     is_zero_led(manager) || is_zero_led(object_class) || is_zero_led(serial)
 }
 
-/// The parts of the three numbers, where each has at most the bits of its segment.
+/// The parts with these three numbers, if each has at most the bits of its segment.
 fn parts_of(manager: &str, object_class: &str, serial: &str) -> Option<Parts>
     requires digits { some_component stray (forms_of None) (manager.now ∷ object_class.now
         ∷ serial.now ∷ []) ≡ false }

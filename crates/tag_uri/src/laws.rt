@@ -1,4 +1,4 @@
-//! Laws of the definitions.
+//! Laws of this crate's definitions.
 
 ghost use Rattle.std.specs.Prelude.{◌≡◌, ℕ, ◌^◌, ◌<◌, ◌≤◌, List};
 ghost use Rattle.tag_epc.specs.declared.epc.Parts.{Parts};
@@ -7,14 +7,14 @@ ghost use Rattle.tag_uri.specs.declared.fault.UriFault.{UriFault};
 ghost use Rattle.tag_uri.specs.Decimal.{padded, plain, IsPadded, IsPlain};
 ghost use Rattle.tag_uri.specs.TagText.{tag_uri, HasTagFault, HasFault, IsTextOf};
 
-/// A number below 10 ^ k has exactly one text of k digits, the sum of whose digits times their
-/// powers of ten it is.
+/// A number below 10 ^ k has exactly one text of k digits whose sum of digits times powers of ten
+/// is the number.
 pub fn one_padded_text()
     ensures is { (k n : ℕ) → n < 10 ^ k → IsPadded k n (padded k n) }
     ensures only { (k n : ℕ) (text : List ℕ) → n < 10 ^ k → IsPadded k n text → text ≡ padded k n }
 {}
 
-/// A number below 2 ^ 64 has exactly one plain text.
+/// A number below 2 ^ 64 has exactly one decimal text without leading zeros.
 pub fn one_plain_text()
     ensures is { (n : ℕ) → n < 2 ^ 64 → IsPlain n (plain n) }
     ensures only { (n : ℕ) (text : List ℕ) → n < 2 ^ 64 → IsPlain n text → text ≡ plain n }
@@ -36,7 +36,7 @@ pub fn one_text()
         → HasFault text fault → ⊥ }
 {}
 
-/// One rule at most refuses a text.
+/// At most one rule is the first to refuse a text.
 pub fn one_fault()
     ensures tag { (text : List ℕ) (f g : UriFault) → HasTagFault text f
         → HasTagFault text g → f ≡ g }

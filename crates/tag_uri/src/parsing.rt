@@ -1,4 +1,4 @@
-//! The EPC of a tag URI.
+//! Reads the EPC of a tag URI.
 
 ghost use Rattle.std.specs.Prelude.{◌≡◌, Ok, Some, IfOk, IfErr};
 ghost use Rattle.tag_epc.specs.declared.epc.Parts.{Parts};
@@ -43,7 +43,7 @@ fn read(text: &str) -> Result<Parts, UriFault>
     }
 }
 
-/// The parts of the EPC of a tag URI, or the first rule that refuses the text: each rule is looked at in turn.
+/// The same, looking at each rule in turn.
 #[inline(never)]
 fn read_by_rules(text: &str) -> Result<Parts, UriFault>
     ensures lawful { IfOk result (λ parts. IsLawful parts) }

@@ -13,7 +13,7 @@ use crate::rules::{is_no_filter, is_no_row, is_strange, is_stray, is_zero_led};
 use tag_epc::scheme::Scheme;
 use tag_epc::{Kind, Parts};
 
-/// The components of a text; none is the last where a scheme's last segment is all zeros.
+/// The components of a text; `None` as the last if the scheme's last segment is all zeros.
 #[derive(Clone, Copy)]
 pub struct Components<'a> {
     filter: &'a str,
@@ -22,7 +22,7 @@ pub struct Components<'a> {
     last: Option<&'a str>,
 }
 
-/// The components of a text: three where a scheme's last segment is all zeros, else four.
+/// The components of a text: three if the scheme's last segment is all zeros, four otherwise.
 fn split<'a>(text: &'a str, zero_tail: bool) -> Option<Components<'a>>
     ensures some { IfSome result (λ x. components text.now ≡ texts_of x) }
     ensures last { IfSome result (λ x. is_some x.last ≡ not zero_tail) }
@@ -48,7 +48,8 @@ fn split<'a>(text: &'a str, zero_tail: bool) -> Option<Components<'a>>
 }
 
 impl Components<'_> {
-    /// Whether a component has a character other than 0 to 9, or is empty and not the reference.
+    /// Whether a component has a character other than 0 to 9, or is empty although it is not the
+    /// reference.
     fn has_stray(&self) -> bool
         ensures { (w : ℕ) → result ≡ some_component stray (forms_with self.now w)
             (texts_of self.now) }
@@ -71,7 +72,7 @@ impl Components<'_> {
         }
     }
 
-    /// The number of the last component, where it has at most `width` bits; 0 where there is none.
+    /// The number of the last component, if it has at most `width` bits; 0 if there is none.
     fn last_below(&self, width: u32) -> Option<u64>
         requires digits { some_component stray (forms_with self.now width)
             (texts_of self.now) ≡ false }

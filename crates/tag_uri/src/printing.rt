@@ -1,5 +1,5 @@
-//! The tag URI of an EPC. Its components are written from the last to the first, since the last digits of
-//! each is where the text after it begins.
+//! Writes the tag URI of an EPC. The components are written from the last to the first, since each
+//! component ends where the text after it begins.
 
 ghost use Rattle.std.specs.Prelude.{◌≡◌, ℕ, ◌+◌, ◌^◌, ◌<◌, ◌≤◌, ◌++◌, ◌∷◌, [], Some, length, take, drop, if◌then◌else◌};
 ghost use Rattle.tag_epc.specs.Layout.{layout_of};
@@ -13,8 +13,8 @@ use arrayvec::ArrayString;
 use tag_epc::scheme::Scheme;
 use tag_epc::{Epc, Kind, Parts, at_scheme};
 
-/// The tag URI of an EPC, as `urn:epc:tag:sgtin-96:3.0614141.812345.6789`
-/// (EPC Tag Data Standard 1.13, section 12). It takes no memory: 64 octets hold each.
+/// The tag URI of an EPC, as `urn:epc:tag:sgtin-96:3.0614141.812345.6789` (EPC Tag Data Standard
+/// 1.13, section 12). It takes no memory; no tag URI is longer than 64 octets.
 pub fn print(epc: &Epc) -> ArrayString<64>
     ensures { result.bytes ≡ tag_uri epc.now }
 {
@@ -73,7 +73,7 @@ fn put_parts(room: &mut [u8], at: usize, parts: Parts) -> usize
     }
 }
 
-/// Writes what a tag URI begins with, up to the colon after the scheme's name.
+/// Writes the front of a tag URI, up to the colon after the scheme's name.
 #[inline(always)]
 fn put_start(room: &mut [u8], at: usize, name: &str) -> usize
     requires { at + 13 + length name.now ≤ length room.old }
@@ -86,7 +86,7 @@ fn put_start(room: &mut [u8], at: usize, name: &str) -> usize
     put_text(room, colon_at, &colon)
 }
 
-/// How many octets the last component takes with its dot: none where the last segment is all zeros.
+/// How many octets the last component and its dot take; 0 if the last segment is all zeros.
 #[inline(always)]
 fn tail_length(last: u64, zero_tail: bool) -> usize
     requires { last < 10 ^ 13 }
@@ -96,8 +96,8 @@ fn tail_length(last: u64, zero_tail: bool) -> usize
     if zero_tail { 0 } else { 1 + count_of(last) }
 }
 
-/// Writes a dot and the last number in front of `end`, but nothing where the last segment is all zeros,
-/// and returns where they begin.
+/// Writes a dot and the last number in front of `end`, or nothing if the last segment is all zeros,
+/// and returns where that begins.
 #[inline(always)]
 fn put_tail(room: &mut [u8], end: usize, last: u64, zero_tail: bool, tail: usize) -> usize
     requires fits { last < 10 ^ 13 }

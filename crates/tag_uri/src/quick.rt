@@ -1,4 +1,5 @@
-//! The EPC of a tag URI by the places of its dots. Where a text is not read so, the rules say why, or read it.
+//! Reads the EPC of a tag URI by the places of its dots. A text that cannot be read so is left to
+//! the rules, which read it or say why it is refused.
 
 ghost use Rattle.std.specs.Prelude.{◌≡◌, ℕ, ◌+◌, ◌^◌, ◌<◌, ◌≤◌, ◌++◌, ◌∷◌, [], Some, length, drop, IfSome, if◌then◌else◌};
 ghost use Rattle.tag_epc.specs.declared.kind.Kind.TheVariants.{Gid};
@@ -12,7 +13,7 @@ use tag_epc::kind::KINDS;
 use tag_epc::scheme::Scheme;
 use tag_epc::{Kind, Parts, at_scheme};
 
-/// The parts of the EPC of a tag URI, or nothing, which says nothing of the text.
+/// The parts of the EPC of a tag URI. `None` does not mean that the text is refused.
 #[inline(always)]
 pub fn quick_parts(text: &str) -> Option<Parts>
     ensures lawful { IfSome result (λ parts. IsLawful parts) }
@@ -47,7 +48,8 @@ fn quick_components(kind: Kind, text: &[u8], from: usize) -> Option<Parts>
     )
 }
 
-/// The scheme whose name and colon a text begins with, and the text after them.
+/// The scheme at the front of a text, which begins with its name and a colon, and the text after
+/// them.
 #[inline(always)]
 fn scheme_in_front<'a>(text: &'a str) -> Option<(Kind, &'a str)>
     ensures { IfSome result (λ x. text.now ≡ scheme_text x.0 x.1.now) }
@@ -63,8 +65,8 @@ fn scheme_in_front<'a>(text: &'a str) -> Option<(Kind, &'a str)>
     None
 }
 
-/// The filter value in front of a dot, where at least 13 octets follow: those of a company prefix of twelve
-/// digits with its dot.
+/// The filter value in front of a dot, if at least 13 octets follow: those of a company prefix of
+/// twelve digits with its dot.
 #[inline(always)]
 fn filter_at(text: &[u8], from: usize) -> Option<u8>
     requires { from ≤ length text.now }
@@ -89,7 +91,7 @@ fn filter_at(text: &[u8], from: usize) -> Option<u8>
     Some(octet - b'0')
 }
 
-/// How many octets are in front of a dot, of six to twelve.
+/// How many octets are in front of the next dot, from six to twelve.
 #[inline(always)]
 fn company_digits(text: &[u8], at: usize) -> Option<usize>
     requires { at + 13 ≤ length text.now }
@@ -105,8 +107,8 @@ fn company_digits(text: &[u8], at: usize) -> Option<usize>
     None
 }
 
-/// The number of the last component, from its dot to the end of the text, where it has at most `width`
-/// bits; 0 where a last segment is all zeros and the text ends.
+/// The number of the last component, from its dot to the end of the text, if it has at most `width`
+/// bits; 0 if the last segment is all zeros and the text ends here.
 #[inline(always)]
 fn last_from(text: &[u8], at: usize, zero_tail: bool, width: u32) -> Option<u64>
     requires ahead { 7 ≤ at }

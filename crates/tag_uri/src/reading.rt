@@ -1,4 +1,4 @@
-//! Decimal digits in front of a place of a text, eight octets at a time.
+//! Reads decimal digits in front of a place of a text, eight octets at a time.
 
 ghost use Rattle.std.specs.Prelude.{◌≡◌, ℕ, ◌+◌, ◌-◌, ◌^◌, ◌<◌, ◌≤◌, ◌++◌, ◌&&◌, ◌==◌, nat_lt, length, drop, slice_index, IfSome};
 ghost use Rattle.std.specs.Int.{w64, from_be_bytes};
@@ -7,8 +7,8 @@ ghost use Rattle.tag_uri.specs.Decimal.{padded, plain};
 /// Eight octets of the character `0`.
 const ZEROS: u64 = 0x3030_3030_3030_3030;
 
-/// The number of eight decimal digits, each an octet and the first the most significant; none where an
-/// octet is more than 9.
+/// The number of eight decimal digits, each an octet from 0 to 9 and the first the most
+/// significant; `None` if an octet is more than 9.
 #[inline(always)]
 fn number_of_eight(digits: u64) -> Option<u64>
     ensures below { IfSome result (λ n. n < 10 ^ 8) }
@@ -26,7 +26,7 @@ fn number_of_eight(digits: u64) -> Option<u64>
     Some(fours.wrapping_mul(0x1_0000_0000 + 10_000) >> 32)
 }
 
-/// The number of the last `count` of eight octets, where those are digits.
+/// The number of the last `count` of eight octets, if those are digits.
 #[inline(always)]
 fn number_of_last(octets: [u8; 8], count: usize) -> Option<u64>
     requires few { count ≤ 8 }
@@ -62,8 +62,8 @@ fn eight_before(text: &[u8], end: usize) -> [u8; 8]
     ]
 }
 
-/// The number of the `count` digits in front of `end`, at most 16, where those octets are digits. Seven
-/// octets more must be in front of them.
+/// The number of the `count` digits in front of `end`, at most 16, if those octets are digits. At
+/// least seven octets must come before the digits.
 #[inline(always)]
 pub fn digits_before(text: &[u8], end: usize, count: usize) -> Option<u64>
     requires few { count ≤ 16 }
@@ -98,8 +98,8 @@ fn is_zero_led(text: &[u8], from: usize, count: usize) -> bool
     count > 1 && text[from] == b'0'
 }
 
-/// The number between two places, where it is at most 16 digits without leading zeros. Seven octets
-/// more must be in front of them.
+/// The number between two places, if it has at most 16 digits and no leading zeros. At least seven
+/// octets must come before it.
 #[inline(always)]
 pub fn plain_between(text: &[u8], from: usize, end: usize) -> Option<u64>
     requires ahead { 7 ≤ from }

@@ -31,7 +31,7 @@ pub fn is_zero_led(text: &str) -> bool
     text.len() > 1 && text.as_bytes()[0] == b'0'
 }
 
-/// Whether a text is not one digit 0 to 7.
+/// Whether a text is anything but one digit from 0 to 7.
 pub fn is_no_filter(text: &str) -> bool
     ensures { result ≡ no_filter text.now }
 {

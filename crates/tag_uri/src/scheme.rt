@@ -1,4 +1,4 @@
-//! The scheme that a text names.
+//! Finds the scheme that a text names.
 
 ghost use Rattle.std.specs.Prelude.{◌≡◌, ℕ, List, MatchOption, IfSome, IfNone};
 ghost use Rattle.tag_epc.specs.Layout.{name_of};
@@ -7,7 +7,7 @@ ghost use Rattle.tag_uri.specs.TagText.{scheme_text};
 use tag_epc::Kind;
 use tag_epc::kind::KINDS;
 
-/// The scheme of a name.
+/// The scheme with this name.
 fn kind_named(name: &str) -> Option<Kind>
     ensures { MatchOption result ((kind : Kind) → name.now ≡ name_of kind
         → ⊥) (λ kind. name.now ≡ name_of kind) }
@@ -20,7 +20,8 @@ fn kind_named(name: &str) -> Option<Kind>
     None
 }
 
-/// The scheme whose name and colon a text begins with, and the text after them.
+/// The scheme at the front of a text, which begins with its name and a colon, and the text after
+/// them.
 pub fn scheme_of<'a>(text: &'a str) -> Option<(Kind, &'a str)>
     ensures some { IfSome result (λ x. text.now ≡ scheme_text x.0 x.1.now) }
     ensures none { IfNone result ((kind : Kind) (rest : List ℕ)

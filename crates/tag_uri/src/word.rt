@@ -1,4 +1,4 @@
-//! The text of a word.
+//! Texts of words, and words of texts.
 
 ghost use Rattle.std.specs.Prelude.{◌≡◌, ℕ, ◌+◌, ◌^◌, ◌<◌, ◌≤◌, ◌++◌, List, length, Ok, IfOk, IfErr};
 ghost use Rattle.tag_uri.specs.Room.{HasText};
@@ -13,7 +13,7 @@ use arrayvec::ArrayString;
 use tag_bits::Word;
 use tag_epc::Epc;
 
-/// The text of a word: the tag URI of its EPC, or its raw URI where it has none, as
+/// The text of a word: the tag URI of its EPC or, if it has none, its raw URI, as
 /// `urn:epc:raw:96.x3003A3529440000000000000` (EPC Tag Data Standard 1.13, section 12).
 pub fn text_of_word(word: Word) -> ArrayString<64>
     ensures { IsTextOf word result.bytes }
@@ -36,8 +36,8 @@ pub fn put_text_of_word(room: &mut [u8], at: usize, word: Word) -> usize
     }
 }
 
-/// The raw URI of a word, as `urn:epc:raw:96.x3003A3529440000000000000` (EPC Tag Data Standard 1.13,
-/// section 12). It is the word's text only where no EPC has the word.
+/// The raw URI of a word, as `urn:epc:raw:96.x3003A3529440000000000000` (EPC Tag Data Standard
+/// 1.13, section 12). It is the word's text only if the word carries no EPC.
 pub fn print_raw(word: Word) -> ArrayString<64>
     ensures { result.bytes ≡ raw_uri word }
 {
@@ -57,8 +57,9 @@ fn put_raw_uri(room: &mut [u8], at: usize, word: Word) -> usize
     put_hexadecimal(room, digits_at, word)
 }
 
-/// The word of a text, or the first rule that refuses it: those of raw URIs where it begins with
-/// `urn:epc:raw:`, else those of tag URIs (EPC Tag Data Standard 1.13, section 12).
+/// The word of a text, or the first rule that refuses it: one of the rules of raw URIs if it begins
+/// with `urn:epc:raw:`, and of those of tag URIs otherwise (EPC Tag Data Standard 1.13, section
+/// 12).
 pub fn word_of_text(text: &str) -> Result<Word, UriFault>
     ensures ok { IfOk result (λ word. IsTextOf word text.now) }
     ensures accepts { (word : ℕ) → word < 2 ^ 96 → IsTextOf word text.now → result ≡ Ok word }
@@ -88,7 +89,7 @@ fn read(text: &str) -> Result<Word, UriFault>
     }
 }
 
-/// The word of what follows the start of a raw URI.
+/// The word of a raw URI, read from what follows `urn:epc:raw:`.
 fn raw_word(rest: &str) -> Result<Word, UriFault>
     ensures ok { IfOk result (λ word. IsTextOf word (raw_start ++ rest.now)) }
     ensures err { IfErr result (λ fault. HasRawFault (raw_start ++ rest.now) fault) }

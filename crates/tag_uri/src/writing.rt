@@ -1,5 +1,6 @@
-//! Decimal digits in front of a place of lent room. A number's last digits are where the text after
-//! it begins, so no leading zero has to be looked for: what is written in front of them is written over.
+//! Writes decimal digits in front of a place of lent room. A number's last digits are where the
+//! text after it begins, so nothing has to be known of its leading zeros: what is written in front
+//! of the number is overwritten.
 
 ghost use Rattle.std.specs.Prelude.{◌≡◌, ℕ, ◌+◌, ◌-◌, ◌*◌, ◌/◌, ◌%◌, ◌^◌, ◌<◌, ◌≤◌, ◌++◌, ◌∷◌, length, take, drop};
 ghost use Rattle.tag_uri.specs.Decimal.{padded, plain};
@@ -9,7 +10,7 @@ ghost use Rattle.std.specs.Str.{IsUtf8};
 use arrayvec::ArrayString;
 use std::str;
 
-/// The digits of 0 to 99, two of each.
+/// The two digits of each number from 0 to 99.
 static PAIRS: [u8; 200] =
     *b"00010203040506070809101112131415161718192021222324252627282930313233343536373839404142434445464748495051525354555657585960616263646566676869707172737475767778798081828384858687888990919293949596979899";
 
@@ -59,7 +60,8 @@ fn put_eight(room: &mut [u8], end: usize, number: u32)
     put_four(room, end - 4, number / 10_000);
 }
 
-/// Writes the last digits of a number in front of `end`: twelve where `count` is at most that, else 16.
+/// Writes the last digits of a number in front of `end`: twelve if `count` is at most twelve, and
+/// 16 otherwise.
 #[inline(always)]
 fn put_many(room: &mut [u8], end: usize, number: u64, count: usize)
     requires fits { number < 10 ^ count }
@@ -125,7 +127,7 @@ pub fn text_before(room: &[u8; 64], end: usize) -> ArrayString<64>
     ensures { result.bytes ≡ take end room.now }
 {
     let mut text = ArrayString::new();
-    // That it is UTF-8 is proved, so it is not looked through again.
+    // It is proved to be UTF-8, so it need not be checked again.
     text.push_str(unsafe { str::from_utf8_unchecked(&room[..end]) });
     text
 }

@@ -3,27 +3,28 @@ use std::io::Read;
 use std::net::Shutdown;
 use std::test::Fail;
 
-/// A reader's acceptance of the connection.
+/// The event in which a reader accepts the connection.
 const ACCEPTED: &[u8] =
     b"\x04\x3f\0\0\0\x20\0\0\0\x01\0\xf6\0\x16\0\x80\0\x0c\0\0\0\0\0\0\0\0\x01\0\0\x06\0\0";
 
-/// What a reader says to a whole plan: the acceptance, responses, one report of one tag, and responses.
+/// What a reader sends during a whole plan: the acceptance, responses, one report of one tag, and
+/// responses.
 const ANSWERS: &[u8] =
     b"\x04\x3f\0\0\0\x20\0\0\0\x01\0\xf6\0\x16\0\x80\0\x0c\0\0\0\0\0\0\0\0\x01\0\0\x06\0\0\x04\x1e\0\0\0\x12\0\0\0\x01\x01\x1f\0\x08\0\0\0\0\x04\x22\0\0\0\x12\0\0\0\x02\x01\x1f\0\x08\0\0\0\0\x04\x20\0\0\0\x12\0\0\0\x03\x01\x1f\0\x08\0\0\0\0\x04\x3d\0\0\0\x20\0\0\0\x64\0\xf0\0\x16\x8d\x30\x74\x25\x7b\xf7\x19\x4e\x40\0\0\x1a\x85\x81\0\x01\x86\xc4\x04\x21\0\0\0\x12\0\0\0\x05\x01\x1f\0\x08\0\0\0\0\x04\x1f\0\0\0\x12\0\0\0\x06\x01\x1f\0\x08\0\0\0\0\x04\x04\0\0\0\x12\0\0\0\x07\x01\x1f\0\x08\0\0\0\0";
 
-/// What the client says first: ADD_ROSPEC.
+/// What the client sends first: ADD_ROSPEC.
 const ADD: &[u8] =
     b"\x04\x14\0\0\0\x4b\0\0\0\x01\0\xb1\0\x41\0\0\0\x01\0\0\0\xb2\0\x12\0\xb3\0\x05\0\0\xb6\0\x09\0\0\0\0\0\0\xb7\0\x18\0\x01\0\0\0\xb8\0\x09\0\0\0\0\0\0\xba\0\x07\0\x01\x01\0\xed\0\x0d\x02\0\0\0\xee\0\x06\x14\0";
 
-/// What the client says after that: ENABLE_ROSPEC, START_ROSPEC, GET_REPORT, STOP_ROSPEC, DELETE_ROSPEC
-/// and CLOSE_CONNECTION.
+/// What the client sends after that: ENABLE_ROSPEC, START_ROSPEC, GET_REPORT, STOP_ROSPEC,
+/// DELETE_ROSPEC and CLOSE_CONNECTION.
 const COMMANDS: &[u8] =
     b"\x04\x18\0\0\0\x0e\0\0\0\x02\0\0\0\x01\x04\x16\0\0\0\x0e\0\0\0\x03\0\0\0\x01\x04\x3c\0\0\0\x0a\0\0\0\x04\x04\x17\0\0\0\x0e\0\0\0\x05\0\0\0\x01\x04\x15\0\0\0\x0e\0\0\0\x06\0\0\0\x01\x04\x0e\0\0\0\x0a\0\0\0\x07";
 
 const LINES: &[u8] = b"urn:epc:tag:sgtin-96:3.0614141.812345.6789 1 -60\n= 1\ntotal 1 1\n";
 
-/// What the inventory answers where the reader said this beforehand and then ended its side, the lines
-/// of the tags, and what the reader gets.
+/// Runs the inventory with a reader that sent this beforehand and then closed its side. Returns how
+/// it ended, the lines of tags, and what the reader received.
 fn take(rt: &HostRuntime, said: &[u8]) -> Result<(Result<(), ToolErr>, Vec<u8>, Vec<u8>), Fail> {
     let alloc = rt.alloc();
     let listener = TcpListener::bind(rt, "127.0.0.1:0")?;

@@ -9,7 +9,8 @@ const ADD: &[u8] =
 const SAID: &[u8] =
     b"\x04\x3f\0\0\0\x20\0\0\0\x01\0\xf6\0\x16\0\x80\0\x0c\0\0\0\0\0\0\0\0\x01\0\0\x06\0\0\x08\x1e\0\0\0\x12\0\0\0\x02\x01\x1f\0\x08\0\0\0\0";
 
-/// What serving answers to a client that sent this and then ended its side, and all that the client gets.
+/// Serves a client that sent this and then closed its side. Returns how that ended, and everything
+/// that the client received.
 fn serve(rt: &HostRuntime, sent: &[u8]) -> Result<(Option<Result<(), ToolErr>>, Vec<u8>), Fail> {
     let alloc = rt.alloc();
     let listener = TcpListener::bind(rt, "127.0.0.1:0")?;

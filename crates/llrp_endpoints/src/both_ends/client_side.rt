@@ -17,9 +17,9 @@ use std::alloc::Global;
 #[derive(Drop)]
 pub(super) struct ClientSide {
     pub gathering: Gathering,
-    /// What it said and is not written yet.
+    /// What the client said that is not written yet.
     pub said: Vec<u8>,
-    /// The lines that are not reported yet.
+    /// The lines that are not written yet.
     pub lines: Vec<u8>,
     /// How many reads gave it bytes.
     pub reads: u32,
@@ -42,8 +42,9 @@ impl ClientSide {
         }
     }
 
-    /// Reads this many bytes and takes them as they come; the lines of the tags are written before the next
-    /// read. Returns whether the connection was closed as planned, after which nothing is read.
+    /// Reads this many bytes and takes them as they come; lines of tags are written before the next
+    /// read. Returns whether the connection was closed as planned, after which nothing more is
+    /// read.
     pub fn hear<R: Source, P: Sink>(
         &mut self,
         count: usize,

@@ -8,7 +8,7 @@ ghost use Rattle.llrp_listing.specs.declared.fault.ToolErr.TheVariants.{Write};
 use llrp_listing::{MOST_READS, READ_SIZE, ToolErr};
 use llrp_stream::{Sink, Source};
 
-/// Takes the first bytes off.
+/// Removes the first bytes.
 fn take_off(bytes: &mut Vec<u8>, count: usize)
     requires { count ≤ length bytes.old.items }
     ensures { bytes.new.items ≡ drop count bytes.old.items }
@@ -18,8 +18,8 @@ fn take_off(bytes: &mut Vec<u8>, count: usize)
     bytes.truncate(left);
 }
 
-/// Writes the first bytes, at most a piece, in one call, and takes off those that the sink took; the
-/// answer is their number. Nothing is written where there are none. The only error is `Write`.
+/// Writes the first bytes, at most 4,096, in one call, removes those that the sink took, and
+/// returns how many they were. Nothing is written if there are no bytes. The only error is `Write`.
 pub(super) fn write_piece<W: Sink>(said: &mut Vec<u8>, w: &mut W) -> Result<usize, ToolErr>
     requires { (W.log w.old).failures + 1 < 2 ^ 64 }
     ensures ok { IfOk result (λ n. WritesPiece said.old.items said.new.items (W.log w.old)
@@ -41,9 +41,9 @@ pub(super) fn write_piece<W: Sink>(said: &mut Vec<u8>, w: &mut W) -> Result<usiz
     }
 }
 
-/// Reads into a buffer, and answers how many bytes came; `reads` counts the reads that gave bytes. The
-/// errors are `Bound` where there were as many as there may be, `Read`, and `Early` where the source is
-/// at its end.
+/// Reads into a buffer, and returns how many bytes came; `reads` counts the reads that gave bytes.
+/// The errors are `Bound` if there were already as many reads as are allowed, `Read`, and `Early`
+/// if the source is at its end.
 pub(super) fn read_piece<R: Source>(
     r: &mut R,
     buffer: &mut [u8],

@@ -21,14 +21,14 @@ use std::alloc::Global;
 #[derive(Drop)]
 pub(super) struct ReaderSide {
     pub serving: Serving,
-    /// What it said and is not written yet.
+    /// What the reader said that is not written yet.
     pub said: Vec<u8>,
     /// How many reads gave it bytes.
     pub reads: u32,
 }
 
 impl ReaderSide {
-    /// The client connects. The only error is `Memory`.
+    /// Connects the client. The only error is `Memory`.
     pub fn new(alloc: Global, core: Reader, script: Script) -> Result<ReaderSide, ToolErr>
         requires { IsNewReader core }
         ensures ok { IfOk result (λ s. (e : Ends) → e.reader ≡ core → e.entries ≡ script
@@ -48,8 +48,8 @@ impl ReaderSide {
         })
     }
 
-    /// Reads this many bytes and takes them as they come. Where the client closed the connection they are
-    /// dropped.
+    /// Reads this many bytes and takes them as they come. Once the client closed the connection,
+    /// they are dropped.
     pub fn hear<R: Source>(&mut self, count: usize, r: &mut R) -> Result<(), ToolErr>
         requires a_piece { count ≤ 4096 }
         requires room { HasRoom (R.log r.old) self.old.reads }

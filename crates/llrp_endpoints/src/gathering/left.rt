@@ -12,28 +12,28 @@ use std::mem;
 /// The ROSpecID of a plan's ROSpec.
 const ROSPEC_ID: u32 = 1;
 
-/// What of a plan is left to do.
+/// What is left to do of a plan.
 #[derive(Drop)]
 pub enum Left {
     /// All of it.
     Adding(Plan),
-    /// To enable and start the ROSpec, and what follows.
+    /// Enabling and starting the ROSpec, and what follows.
     Enabling { polls: u16, checked: bool },
-    /// To start the ROSpec, and what follows.
+    /// Starting the ROSpec, and what follows.
     Starting { polls: u16, checked: bool },
-    /// To ask this many times for reports, to stop the ROSpec, and what follows.
+    /// Asking this many times for reports, stopping the ROSpec, and what follows.
     Polling { polls: u16, checked: bool },
-    /// To ask for the reader's ROSpecs if the plan is checked, and what follows.
+    /// Asking for the reader's ROSpecs if the plan is checked, and what follows.
     Checking { checked: bool },
-    /// To delete the ROSpec and close the connection.
+    /// Deleting the ROSpec and closing the connection.
     Deleting,
-    /// To close the connection.
+    /// Closing the connection.
     Closing,
     Nothing,
 }
 
 impl Left {
-    /// The next command and what is left after it, if one is left.
+    /// The next command, if one is left, and what is left after it.
     fn split(self) -> Option<(Command, Left)>
         ensures { Splits (commands_left self) result }
     {
@@ -83,7 +83,7 @@ impl Left {
     }
 }
 
-/// What is awaited after a command.
+/// What has to come after a command before the next one is sent.
 pub fn awaited_after(command: &Command) -> Awaits
     ensures { result ≡ awaited_after command.now }
 {

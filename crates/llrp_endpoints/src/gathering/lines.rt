@@ -31,7 +31,7 @@ fn push_word(text: &mut Vec<u8>, epc: &Node) -> Result<(), AllocError>
     Ok(())
 }
 
-/// Appends the number of bits of an EPCData and its octets, or `-` where it is absent.
+/// Appends the number of bits of an EPCData and its octets, or `-` if there is none.
 fn push_data(text: &mut Vec<u8>, part: Option<&Node>) -> Result<(), AllocError>
     requires { IsOfKind ParamKind.EpcData (behind part) }
     ensures { OnOk result (text.new.items ≡ text.old.items ++ data_text (behind part.entry)) }
@@ -58,7 +58,7 @@ fn push_epc(text: &mut Vec<u8>, tag: &Node) -> Result<(), AllocError>
     }
 }
 
-/// Appends a space and the antenna, or `-` where it is absent.
+/// Appends a space and the antenna, or `-` if there is none.
 fn push_antenna(text: &mut Vec<u8>, antenna: Option<&Node>) -> Result<(), AllocError>
     requires { IsOfKind ParamKind.AntennaId (behind antenna) }
     ensures { OnOk result (text.new.items ≡ text.old.items
@@ -70,7 +70,7 @@ fn push_antenna(text: &mut Vec<u8>, antenna: Option<&Node>) -> Result<(), AllocE
     }
 }
 
-/// Appends a space and the greatest RSSI, or `-` where it is absent.
+/// Appends a space and the greatest RSSI, or `-` if there is none.
 fn push_rssi(text: &mut Vec<u8>, rssi: Option<&Node>) -> Result<(), AllocError>
     requires { IsOfKind ParamKind.PeakRssi (behind rssi) }
     ensures { OnOk result (text.new.items ≡ text.old.items
@@ -102,7 +102,7 @@ fn push_count(text: &mut Vec<u8>, count: usize) -> Result<(), AllocError>
     text.extend_from_slice(b"\n")
 }
 
-/// The lines of a report: one for each tag, and how many there are.
+/// The lines of a report: one for each tag, and one with the number of tags.
 pub fn report_lines(alloc: Global, tags: &[Node]) -> Result<Vec<u8>, AllocError>
     ensures { IfOk result (λ text. AreReportLines tags.now text.items) }
 {

@@ -1,4 +1,4 @@
-//! What happens to a simulated reader, and the frames of what it says.
+//! Lets things happen to a simulated reader, and makes the frames of what it says.
 
 ghost use Rattle.std.specs.Prelude.{◌≡◌, ◌∷◌, IfErr, IfOk, OnOk, [], map};
 ghost use Rattle.llrp_session.specs.ReaderSteps.{event_of as event_handed};
@@ -12,8 +12,8 @@ use llrp_session::{Reader, ReaderIn, StepFault};
 use llrp_stream::Item;
 use std::alloc::Global;
 
-/// What happens to the reader at a moment. What it says is appended; a refused event changes nothing.
-/// The only error is `Memory`.
+/// Lets an event happen to the reader at a moment, and appends what it says; a refused event
+/// changes nothing. The only error is `Memory`.
 pub(super) fn happen(
     alloc: Global,
     core: &mut Reader,
@@ -59,8 +59,9 @@ pub(super) fn event_of(item: Item) -> ReaderIn
     }
 }
 
-/// Entries happen to the reader, each at its own moment; the answer is the moment of the last, or the
-/// one given. What the reader says is appended. The only error is `Memory`.
+/// Lets entries happen to the reader, each at its own moment, and appends what the reader says.
+/// Returns the moment of the last one, or the given moment if there are none. The only error is
+/// `Memory`.
 pub(super) fn happen_all(
     alloc: Global,
     core: &mut Reader,
@@ -82,7 +83,7 @@ pub(super) fn happen_all(
     Ok(moment)
 }
 
-/// How many of the first entries happen after no more items than these.
+/// How many of the first entries happen after this many items or fewer.
 pub(super) fn due(entries: &[Entry], taken: u64) -> usize
     ensures { IsDue entries.now taken result }
 {

@@ -22,7 +22,7 @@ pub(crate) struct ScriptedReader {
     script: Script,
     /// How many entries are done.
     done: usize,
-    /// How many items were taken; it stops at the greatest number, where no entry is left.
+    /// How many items were taken; at the greatest `u64`, where no entry is left, it stops counting.
     taken: u64,
     /// The moment of the last entry done.
     moment: u64,
@@ -43,7 +43,7 @@ impl ScriptedReader {
     ghost use Rattle.llrp_endpoints.specs.ServingStands.{Connects, DoesEntries, HasDone, HasTaken, IsNew, TakesItem, greatest_count};
     ghost use Rattle.llrp_stream.specs.declared.item.Item.{Item};
 
-    /// A reader as it was made, and its script.
+    /// A new reader and its script.
     pub fn new(alloc: Global, core: Reader, script: Script) -> ScriptedReader
         ensures { IsNew core script result }
     {
@@ -89,8 +89,8 @@ impl ScriptedReader {
         Ok(())
     }
 
-    /// Takes an item, and does the entries that are due after it, or none where the item closes the
-    /// connection; the answer is whether it does.
+    /// Takes an item, and then lets the entries happen that are due, unless the item closes the
+    /// connection. Returns whether it does.
     pub fn take(&mut self, item: Item, out: &mut Vec<u8>) -> Result<bool, ToolErr>
         ensures { (reader : Machine) (entries : List Entry) (items : List Item)
             → HasTaken reader entries items self.old

@@ -1,4 +1,4 @@
-//! A line that comes to its close: its tests, and what its parent keeps of it.
+//! Closes a line: its tests, and what the line above keeps of it.
 
 ghost use Rattle.std.specs.Prelude.{◌≡◌, ◌<◌, ◌+◌, ◌∷◌, List, None, Some, [], nat_le, ℕ};
 ghost use Rattle.llrp_schema.specs.declared.kinds.Kind.TheVariants.{Parameter};
@@ -16,7 +16,7 @@ use crate::encode::rows::Held;
 use llrp_schema::{Kind, ParamKind, Place, place, required};
 use llrp_tree::{MAX_DEPTH, MAX_LIMIT, MAX_OCTETS, NodeFault};
 
-/// Whether a parameter with this many levels below it, and of this many octets, is too large.
+/// The fault of a parameter with too many levels below it, or with too many octets.
 fn size_fault(levels: u8, octets: u32) -> Option<NodeFault>
     ensures { result ≡ first_failed ((nat_le (levels + 1) MAX_DEPTH, TooDeep)
         ∷ (nat_le octets MAX_OCTETS, TooLong) ∷ []) }
@@ -30,7 +30,7 @@ fn size_fault(levels: u8, octets: u32) -> Option<NodeFault>
     None
 }
 
-/// Whether a message of this many octets is too large.
+/// The fault of a message with too many octets.
 fn message_size_fault(octets: u32) -> Option<NodeFault>
     ensures { result ≡ first_failed ((nat_le octets MAX_LIMIT, TooLong) ∷ []) }
 {
@@ -40,7 +40,7 @@ fn message_size_fault(octets: u32) -> Option<NodeFault>
     None
 }
 
-/// Whether no group of a kind has fewer children than its least.
+/// Whether each group of a kind has as many children as it needs.
 fn is_enough(kind: Kind, seen: u32) -> bool
     ensures { (children : Forest) → AreSeen (groups_of kind) children seen
         → result ≡ none_missing (groups_of kind) (trees children) }
@@ -49,7 +49,7 @@ fn is_enough(kind: Kind, seen: u32) -> bool
     seen & bits == bits
 }
 
-/// The first test that fails of those that need all children.
+/// The first test that fails of those that come after the children.
 fn late_fault(held: &Held) -> Option<NodeFault>
     ensures { (n : OpenNode) → IsHeld held.now n → held.now.fault ≡ None
         → result ≡ node_fault n.line n.children }
@@ -63,7 +63,7 @@ fn late_fault(held: &Held) -> Option<NodeFault>
     }
 }
 
-/// The first test of a parameter or a message that fails, now that it has all its children.
+/// The first test that fails of a parameter or message that has all its children.
 pub fn fault_of(held: &Held) -> Option<NodeFault>
     ensures { (n : OpenNode) → IsHeld held.now n → result ≡ node_fault n.line n.children }
 {
@@ -73,7 +73,7 @@ pub fn fault_of(held: &Held) -> Option<NodeFault>
     }
 }
 
-/// The first fault, once a child is of a kind that no group has.
+/// The first fault, given that a child belongs to no group.
 fn misplaced(fault: Option<NodeFault>) -> NodeFault
     ensures { result ≡ after_misplaced fault }
 {
@@ -84,7 +84,7 @@ fn misplaced(fault: Option<NodeFault>) -> NodeFault
     }
 }
 
-/// The first fault, once a group has too many children.
+/// The first fault, given that a group has too many children.
 fn too_many(fault: Option<NodeFault>) -> NodeFault
     ensures { result ≡ after_too_many fault }
 {
@@ -94,14 +94,14 @@ fn too_many(fault: Option<NodeFault>) -> NodeFault
     }
 }
 
-/// What the children of a line are counted to: the first fault, and the groups that have one.
+/// The first fault, and the groups that have a child, after some children.
 #[derive(Clone, Copy)]
 pub struct Count {
     pub fault: Option<NodeFault>,
     pub seen: u32,
 }
 
-/// One child more of the group at a place.
+/// Counts one more child of the group at a place.
 fn count_at(place: Place, fault: Option<NodeFault>, seen: u32) -> Count
     requires { place.index < 32 }
     ensures { (line : NodeLine) (child : ParamKind) (before : Forest) (numbers tail : List ℕ)
@@ -118,7 +118,7 @@ fn count_at(place: Place, fault: Option<NodeFault>, seen: u32) -> Count
     Count { fault, seen }
 }
 
-/// One child more of a kind.
+/// Counts one more child of a kind.
 fn count_child(kind: Kind, fault: Option<NodeFault>, seen: u32, child: ParamKind) -> Count
     ensures { (line : NodeLine) (before : Forest) (numbers tail : List ℕ) (children : Forest)
         → kind ≡ line.kind → fault ≡ early_fault line before
@@ -134,7 +134,7 @@ fn count_child(kind: Kind, fault: Option<NodeFault>, seen: u32, child: ParamKind
     }
 }
 
-/// A parameter that is closed is the last child of the next line.
+/// Adds a closed parameter to the line above, as its last child.
 pub fn add_child(parent: Held, child: &Held, kind: ParamKind) -> Held
     requires { child.now.levels < 255 }
     ensures { (n p : OpenNode) → IsHeld child.now n → n.line.kind ≡ Parameter kind

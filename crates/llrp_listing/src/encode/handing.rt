@@ -1,4 +1,4 @@
-//! The octets of closed messages are handed on to a sink.
+//! Writes the octets of closed messages to a sink.
 
 ghost use Rattle.std.specs.Prelude.{◌+◌, ◌<◌, ◌≤◌, ◌≡◌, ◌^◌, IfErr, IsErrAnd, List, OnOk, drop, length, take, ℕ};
 ghost use Rattle.llrp_listing.specs.Copying.{Writes};
@@ -24,7 +24,7 @@ pub fn write_front<W: Sink>(writer: &Writer, w: &mut W) -> Result<(), ToolErr>
     write_all(w, front)
 }
 
-/// A line is refused, once the messages that are closed were written.
+/// Refuses a line, after the closed messages are written.
 pub fn refuse<W: Sink>(refused: Refused, writer: &Writer, w: &mut W) -> Result<(), ToolErr>
     requires sink { (W.log w.old).failures + 1 < 2 ^ 64 }
     requires front { (out : List ℕ) × Front writer.now out }
@@ -51,7 +51,7 @@ fn drop_front(room: &mut Vec<u8>, from: usize)
     room.truncate(end - from);
 }
 
-/// The octets of closed messages are handed on.
+/// Writes the octets of closed messages to the sink, and drops them from the buffer.
 pub fn pass_all<W: Sink>(writer: &mut Writer, w: &mut W) -> Result<(), ToolErr>
     requires sink { (W.log w.old).failures + 1 < 2 ^ 64 }
     requires rests { (out : List ℕ) × (ns : List OpenNode) × Rests writer.old out ns }
@@ -70,7 +70,7 @@ pub fn pass_all<W: Sink>(writer: &mut Writer, w: &mut W) -> Result<(), ToolErr>
     Ok(())
 }
 
-/// The octets of closed messages are handed on, once they are a large piece.
+/// Does the same once they are 64 KiB.
 pub fn pass_on<W: Sink>(writer: &mut Writer, w: &mut W) -> Result<(), ToolErr>
     requires sink { (W.log w.old).failures + 1 < 2 ^ 64 }
     requires rests { (out : List ℕ) × (ns : List OpenNode) × Rests writer.old out ns }

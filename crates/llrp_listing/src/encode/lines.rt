@@ -1,4 +1,4 @@
-//! A line that was read: its own tests, what is kept of it, and its octets.
+//! A line that was read: its own tests, its record, and its octets.
 
 ghost use Rattle.std.specs.Prelude.{◌≡◌, ◌∷◌, ◌++◌, ◌≤◌, IfOk, OnOk, [], drop, is_none, length, min, nat_le, true};
 ghost use Rattle.llrp_schema.specs.declared.kinds.Kind.TheVariants.{Message, Parameter};
@@ -16,28 +16,28 @@ use llrp_tree::{
 };
 use std::alloc::AllocError;
 
-/// The octets of a parameter's line, or the most that are counted.
+/// How many octets a parameter's line has, up to the greatest number that is counted.
 fn parameter_octets(kind: ParamKind, tail: &[u8]) -> u32
     ensures { result ≡ min (own_octets (Parameter kind) tail.now) MOST }
 {
     own_octets(Kind::Parameter(kind), tail).min(u32::MAX as u128) as u32
 }
 
-/// The octets of a message's line, or the most that are counted.
+/// How many octets a message's line has, up to the greatest number that is counted.
 fn message_octets(kind: MsgKind) -> u32
     ensures { result ≡ min (own_octets (Message kind) []) MOST }
 {
     own_octets(Kind::Message(kind), &[]).min(u32::MAX as u128) as u32
 }
 
-/// What is kept of a line that begins, and whether its octets were put after those of the others.
+/// The record of a line that begins, and whether its octets were put after the others.
 #[derive(Clone, Copy)]
 pub struct Begun {
     pub held: Held,
     pub put: bool,
 }
 
-/// What is kept of a line with nothing below it.
+/// The record of a line with nothing below it.
 fn first_of_line(kind: Kind, number: u64, fault: Option<NodeFault>, octets: u32) -> Begun
     ensures { result ≡ record {
       held = record {
@@ -68,7 +68,7 @@ fn first_of_line(kind: Kind, number: u64, fault: Option<NodeFault>, octets: u32)
     }
 }
 
-/// Appends the octets of a line: those before its tail, and the tail.
+/// Appends the octets of a line: those before its tail, then the tail.
 fn append(room: &mut Vec<u8>, start: &Start, tail: &[u8]) -> Result<(), AllocError>
     requires { start.now.from ≤ length start.now.octets }
     ensures { OnOk result (room.new.items ≡ (room.old.items ++ drop start.now.from start.now.octets)
@@ -79,7 +79,7 @@ fn append(room: &mut Vec<u8>, start: &Start, tail: &[u8]) -> Result<(), AllocErr
     room.extend_from_slice(tail)
 }
 
-/// The first test that fails of the value of a field.
+/// The first test that the value of a field fails.
 fn value_fault(rule: &Field, value: u128) -> Option<NodeFault>
     ensures { result ≡ first_failed ((nat_le value rule.now.greatest, Value) ∷ []) }
 {
@@ -89,7 +89,7 @@ fn value_fault(rule: &Field, value: u128) -> Option<NodeFault>
     None
 }
 
-/// Puts the octets of the line of a parameter with a type and a value alone, which was read, after others.
+/// Appends the octets of a parameter that has a type and a value alone.
 fn put_tv(
     room: &mut Vec<u8>,
     number: u64,
@@ -114,7 +114,7 @@ fn put_tv(
     Ok(begun)
 }
 
-/// Puts the octets of a parameter's line, which was read, after others.
+/// Appends the octets of a parameter's line.
 pub fn put_parameter(
     room: &mut Vec<u8>,
     number: u64,
@@ -135,7 +135,7 @@ pub fn put_parameter(
     put_tv(room, number, kind, *value)
 }
 
-/// The same for a parameter of any kind.
+/// Appends the octets of the line of a parameter of any kind.
 fn put_any(
     room: &mut Vec<u8>,
     number: u64,
@@ -157,7 +157,7 @@ fn put_any(
     Ok(begun)
 }
 
-/// Puts the octets of a message's line, which was read, after others.
+/// Appends the octets of a message's line.
 pub fn put_message(
     room: &mut Vec<u8>,
     number: u64,

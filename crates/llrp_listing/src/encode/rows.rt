@@ -1,4 +1,4 @@
-//! What is kept of the lines that are open.
+//! The records of open lines.
 
 ghost use Rattle.std.specs.Prelude.{◌≡◌, ◌≤◌, ◌∷◌, [], length, MatchOption};
 ghost use Rattle.llrp_tree.specs.declared.TheConstants.{MAX_DEPTH};
@@ -8,22 +8,22 @@ use arrayvec::ArrayVec;
 use llrp_schema::{Kind, MsgKind};
 use llrp_tree::{MAX_DEPTH, NodeFault};
 
-/// The most lines that are open at once: a message's, and one of each level of parameters.
+/// The most lines that are open at once: one of a message, and one of each level of parameters.
 pub const MOST_ROWS: usize = MAX_DEPTH as usize + 1;
 
-/// What is kept of a line that is open.
+/// The record of an open line.
 #[derive(Clone, Copy)]
 pub struct Held {
     pub kind: Kind,
     /// The line's number.
     pub number: u64,
-    /// The first test that it fails, of those that need no more children.
+    /// The first test that it fails, of those that further children cannot change.
     pub fault: Option<NodeFault>,
     /// The groups that have a child.
     pub seen: u32,
-    /// How many levels of whole parameters are below it.
+    /// How many levels of closed parameters are below it.
     pub levels: u8,
-    /// Its octets with those of the whole parameters below it.
+    /// How many octets it has, with the closed parameters below it.
     pub octets: u32,
 }
 
@@ -40,14 +40,14 @@ impl Default for Held {
     }
 }
 
-/// The lines that are open, the innermost last.
+/// The records of the open lines, the innermost last.
 #[derive(Drop)]
 pub struct Rows {
     pub items: ArrayVec<Held, MOST_ROWS>,
 }
 
 impl Rows {
-    /// No line is open.
+    /// No open line.
     pub fn new() -> Rows
         ensures { inner result ≡ [] }
     {
@@ -63,7 +63,7 @@ impl Rows {
         self.items.len()
     }
 
-    /// One line more is open.
+    /// Adds the record of one more open line.
     pub fn push(&mut self, held: Held)
         requires { length (inner self.old) ≤ MAX_DEPTH }
         ensures { inner self.new ≡ held ∷ inner self.old }
@@ -71,7 +71,7 @@ impl Rows {
         self.items.push(held);
     }
 
-    /// The innermost line.
+    /// Removes the record of the innermost line, and returns it.
     pub fn pop(&mut self) -> Option<Held>
         ensures { MatchOption result (inner self.old ≡ []) (λ held. inner self.old ≡ held
             ∷ inner self.new) }

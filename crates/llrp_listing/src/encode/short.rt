@@ -1,5 +1,6 @@
-//! Lines that are read once, from left to right: those of messages without fields, and those of parameters with one
-//! number at most and no tail. `None` says nothing of a line: `read_line` reads it, or says why it is refused.
+//! The short way to read a line, once from left to right. It reads the lines of messages without
+//! fields, and of parameters with at most one number and no tail. `None` does not mean that a line
+//! is refused: `read_line` then reads it, or says why it is refused.
 
 ghost use Rattle.std.specs.Prelude.{◌≡◌, ◌+◌, ◌∷◌, ◌++◌, ◌<◌, ◌≤◌, IfSome, IsTrue, Ok, [], length};
 ghost use Rattle.llrp_schema.specs.declared.kinds.Kind.TheVariants.{Message, Parameter};
@@ -18,7 +19,7 @@ use llrp_schema::{Field, Kind, MsgKind, ParamKind, Tail, msg_named, param_named}
 use llrp_tree::MAX_DEPTH;
 use std::str;
 
-/// What a line says that was read so.
+/// A line that was read by the short way.
 #[derive(Clone, Copy)]
 pub enum ShortLine {
     Message {
@@ -39,7 +40,7 @@ pub enum ShortLine {
     },
 }
 
-/// The value of a plain field.
+/// The value of a field that is not reserved.
 fn field_value(rule: &Field, word: &[u8]) -> Option<u128>
     ensures { IfSome result (λ n. ReadsNumber (field_form (field_rule rule.now)) word.now (Ok n)) }
 {
@@ -66,7 +67,7 @@ fn is_bare(kind: Kind) -> bool
     matches!(llrp_schema::tail(kind), Tail::Absent)
 }
 
-/// The number that a word is, where it is all that follows the name on the lines of a parameter.
+/// The number of a parameter's line whose name only this word follows.
 fn only_number(kind: ParamKind, word: &[u8]) -> Option<u128>
     ensures { IfSome result (λ n. AreAllNumbers kind (word.now ∷ []) (n ∷ [])) }
 {
@@ -82,7 +83,7 @@ fn only_number(kind: ParamKind, word: &[u8]) -> Option<u128>
     field_value(rule, word)
 }
 
-/// A level of one digit, from 1 on, that this many open lines allow.
+/// A level of one digit, from 1 up to the number of open lines.
 fn level_of(digit: u8, depth: usize) -> Option<usize>
     ensures digit { IfSome result (λ level. digit ≡ 48 + level) }
     ensures least { IfSome result (λ level. 1 ≤ level) }
@@ -100,7 +101,7 @@ fn level_of(digit: u8, depth: usize) -> Option<usize>
     Some(level)
 }
 
-/// The line of a parameter, by what follows its level.
+/// The line of a parameter, read from what follows its level.
 fn short_parameter(level: usize, rest: &[u8]) -> Option<ShortLine>
     requires least { 1 ≤ level }
     requires deep { level ≤ MAX_DEPTH }
@@ -137,7 +138,7 @@ fn version_of(digit: u8) -> Option<u8>
     }
 }
 
-/// The version that numbers begin with, and those after it.
+/// The version at the front of a message's numbers, and the numbers after it.
 fn version_ahead(numbers: &[u8]) -> Option<(u8, &[u8])>
     ensures digits { IfSome result (λ x. numbers.now ≡ (48 + x.0) ∷ 32 ∷ x.1.now) }
     ensures known { IfSome result (λ x. (1 ≤ x.0) × (x.0 ≤ 2)) }
@@ -149,7 +150,7 @@ fn version_ahead(numbers: &[u8]) -> Option<(u8, &[u8])>
     Some((version, rest))
 }
 
-/// The line of a message, by what follows its level.
+/// The line of a message, read from what follows its level.
 fn short_message(rest: &[u8]) -> Option<ShortLine>
     requires short { 2 + length rest.now ≤ LONGEST_LINE }
     ensures { IfSome result (λ line. SaysAt 0 (48 ∷ 32
@@ -172,7 +173,7 @@ fn short_message(rest: &[u8]) -> Option<ShortLine>
     })
 }
 
-/// What an ended line says, where this many lines are open, if it is such a line.
+/// Reads a whole line, below this many open lines, by the short way, if that can read it.
 pub fn read_short(line: &[u8], depth: usize) -> Option<ShortLine>
     ensures { IfSome result (λ short. SaysAt depth line.now (short_level short)
         (short_node short)) }

@@ -1,5 +1,5 @@
-//! A whole line that was read: its octets go after those of its open parents, the lines of its level or deeper are
-//! closed, and it is open.
+//! Takes a line that was read: closes the lines at its level or deeper, puts its octets after those
+//! of its parents, and opens it.
 
 ghost use Rattle.std.specs.Prelude.{◌≡◌, ◌∷◌, IfErr, OnOk, []};
 ghost use Rattle.llrp_schema.specs.declared.kinds.Kind.TheVariants.{Message, Parameter};
@@ -11,7 +11,7 @@ use crate::encode::writer::{Refused, Writer};
 use crate::line::Line;
 use llrp_schema::{MsgKind, ParamKind};
 
-/// The place where what a line says is kept.
+/// What a line says, wherever it is kept.
 #[derive(Clone, Copy)]
 pub enum Said<'a> {
     Message {
@@ -28,7 +28,7 @@ pub enum Said<'a> {
     },
 }
 
-/// What a line says that was read word by word.
+/// What a line that was read word by word says.
 pub fn said_by(line: &Line) -> Said<'_>
     ensures level { said_level result ≡ line_level line.now }
     ensures says { said_node result ≡ line_node line.now }
@@ -52,7 +52,7 @@ pub fn said_by(line: &Line) -> Said<'_>
 /// Why a line is not taken.
 #[derive(Clone, Copy)]
 pub enum TakeErr {
-    /// A line that it closes can't be closed.
+    /// A line that it closes fails a test.
     Refuses(Refused),
     /// Memory ran out.
     Memory,

@@ -1,4 +1,4 @@
-//! Lines that are open, and the octets that represent them.
+//! The open lines, and the octets of what is not written yet.
 
 ghost use Rattle.std.specs.Prelude.{◌≡◌, ◌+◌, ◌<◌, ◌≤◌, IfErr, List, OnErr, OnOk, [], length, true, false, ℕ};
 ghost use Rattle.llrp_tree.specs.declared.TheConstants.{MAX_DEPTH};
@@ -13,27 +13,27 @@ use crate::fault::Refusal;
 use llrp_schema::Kind;
 use std::alloc::Global;
 
-/// A line, by its number, that is refused.
+/// A refused line, by its number, and the reason.
 #[derive(Clone, Copy)]
 pub struct Refused {
     pub number: u64,
     pub reason: Refusal,
 }
 
-/// The octets of messages that are closed, and after them those of the lines that are open, with
-/// zeros where lengths will be.
+/// The octets of closed messages, followed by those of the open lines, which have zeros in place of
+/// the lengths that are not known yet.
 #[derive(Drop)]
 pub struct Writer {
     pub room: Vec<u8>,
     /// Where the octets of the open lines begin.
     pub from: usize,
-    /// Those octets are all there. If not, their message can't be closed.
+    /// Whether those octets are all there. If not, their message cannot be closed.
     pub kept: bool,
     pub rows: Rows,
     pub limit: u32,
 }
 
-/// Writes a number over two octets.
+/// Writes a number into two octets.
 fn put_two(room: &mut [u8], at: usize, number: u32)
     requires room { at + 2 ≤ length room.old }
     requires small { number < 65536 }
@@ -43,7 +43,7 @@ fn put_two(room: &mut [u8], at: usize, number: u32)
     room[at + 1] = (number % 256) as u8;
 }
 
-/// Writes a number over four octets.
+/// Writes a number into four octets.
 fn put_four(room: &mut [u8], at: usize, number: u32)
     requires { at + 4 ≤ length room.old }
     ensures { room.new ≡ with_four at number room.old }
@@ -52,7 +52,7 @@ fn put_four(room: &mut [u8], at: usize, number: u32)
     put_two(room, at + 2, number % 65536);
 }
 
-/// Writes the length of a parameter whose octets end at a place.
+/// Writes the length of a parameter whose octets end at this place.
 fn settle(room: &mut [u8], kept: bool, tv: bool, at: usize, octets: u32)
     requires room { at ≤ length room.old }
     requires octets { kept ≡ true → tv ≡ false → (4 ≤ octets) × (octets ≤ at) × (octets < 65536) }
@@ -70,7 +70,7 @@ fn is_kept(kept: bool, put: bool, octets: usize, limit: u32) -> bool
     kept && put && octets <= limit as usize
 }
 
-/// Leaves only the first octets, unless all are kept.
+/// Keeps only the first octets, unless all of them are there.
 fn cut(room: &mut Vec<u8>, from: usize, kept: bool)
     requires { from ≤ length room.old.items }
     ensures { room.new.items ≡ cut_to kept from room.old.items }
@@ -81,7 +81,7 @@ fn cut(room: &mut Vec<u8>, from: usize, kept: bool)
 }
 
 impl Writer {
-    /// Nothing is written, and no line is open.
+    /// Nothing is written yet, and no line is open.
     pub fn new(alloc: Global, limit: u32) -> Writer
         ensures rests { Rests result [] [] }
         ensures limit { result.limit ≡ limit }
@@ -95,7 +95,7 @@ impl Writer {
         }
     }
 
-    /// Closes the innermost line, of a parameter, whose octets end at a place.
+    /// Closes the innermost line, which is a parameter's and whose octets end at this place.
     fn close_top(&mut self, at: usize) -> Result<(), Refused>
         requires { HoldsAbove self.old at 1 }
         ensures closed { OnOk result (ClosesOne self.old self.new at) }
@@ -126,7 +126,7 @@ impl Writer {
         }
     }
 
-    /// Closes the innermost lines until this many are left open.
+    /// Closes the innermost lines until only this many are open.
     fn close_to(&mut self, depth: usize, at: usize) -> Result<(), Refused>
         requires least { 1 ≤ depth }
         requires some { HoldsSome self.old at }
@@ -143,7 +143,7 @@ impl Writer {
         Ok(())
     }
 
-    /// Closes the message, whose line alone is open, and whose octets end at a place.
+    /// Closes the message whose line is the only open one, and whose octets end at this place.
     fn close_message(&mut self, at: usize) -> Result<(), Refused>
         requires { HoldsMessage self.old at }
         ensures closed { OnOk result (ClosesMessage self.old self.new at) }
@@ -174,7 +174,7 @@ impl Writer {
         }
     }
 
-    /// Closes all lines whose octets end at a place.
+    /// Closes all lines, whose octets end at this place.
     pub fn close_all(&mut self, at: usize) -> Result<(), Refused>
         requires { HoldsSome self.old at }
         ensures closed { OnOk result ((out more : List ℕ) (ns : List OpenNode)
@@ -191,8 +191,8 @@ impl Writer {
         self.close_message(at)
     }
 
-    /// A line is open, whose octets end the room if they were put there. Octets that no message can
-    /// have are not kept.
+    /// Opens a line, whose octets are the last ones if they were put there. Octets that no message
+    /// can have are dropped.
     fn begin(&mut self, held: Held, put: bool)
         requires some { (at : ℕ) × HoldsSome self.old at }
         requires few { length (inner self.old.rows) ≤ MAX_DEPTH }
@@ -206,7 +206,7 @@ impl Writer {
         self.rows.push(held);
     }
 
-    /// A message's line is open, once all lines are closed, whose octets end at a place.
+    /// Closes all lines, whose octets end at this place, and opens a message's line.
     fn open_message(&mut self, held: Held, put: bool, at: usize) -> Result<(), Refused>
         requires { HoldsSome self.old at }
         ensures opened { OnOk result (Opens self.old self.new held put at 0) }
@@ -220,8 +220,8 @@ impl Writer {
         Ok(())
     }
 
-    /// A parameter's line is open, once those of its level or deeper are closed, whose octets end at
-    /// a place.
+    /// Closes the lines at this level or deeper, whose octets end at this place, and opens a
+    /// parameter's line.
     fn open_parameter(
         &mut self,
         level: usize,
@@ -242,8 +242,8 @@ impl Writer {
         Ok(())
     }
 
-    /// A line that was read is open, once those of its level or deeper are closed, whose octets end
-    /// at a place.
+    /// Closes the lines at this level or deeper, whose octets end at this place, and opens the line
+    /// that was read.
     pub fn open_line(
         &mut self,
         level: usize,

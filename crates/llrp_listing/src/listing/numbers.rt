@@ -1,4 +1,4 @@
-//! Numbers of a line.
+//! The numbers of a line.
 
 ghost use Rattle.std.specs.Prelude.{◌≡◌, ◌<◌, ◌++◌, ◌∷◌, OnOk, decimal};
 ghost use Rattle.llrp_listing.specs.NodeLine.{signed_text};
@@ -16,7 +16,7 @@ pub fn push_number(text: &mut Vec<u8>, number: u128) -> Result<(), AllocError>
     Ok(())
 }
 
-/// Appends a space and eight bits as the number that they are in two's complement.
+/// Appends a space and eight bits as a number in two's complement.
 pub fn push_signed(text: &mut Vec<u8>, bits: u128) -> Result<(), AllocError>
     requires { bits < 256 }
     ensures { OnOk result (text.new.items ≡ text.old.items ++ (32 ∷ signed_text bits)) }

@@ -1,4 +1,4 @@
-//! The tail of a parameter in its line.
+//! The tail of a parameter's line.
 
 ghost use Rattle.std.specs.Prelude.{◌≡◌, ◌+◌, ◌*◌, ◌++◌, OnOk, map, decimal};
 ghost use Rattle.std.specs.List.{join_with_byte};
@@ -51,7 +51,7 @@ fn push_octets(text: &mut Vec<u8>, octets: &[u8]) -> Result<(), AllocError>
     Ok(())
 }
 
-/// Appends a space and the text of a tail, where the kind has one.
+/// Appends a space and the text of a tail, if the kind has one.
 #[inline(always)]
 pub fn push_tail(text: &mut Vec<u8>, form: Tail, tail: &[u8]) -> Result<(), AllocError>
     ensures { OnOk result (text.new.items ≡ text.old.items ++ spaced (tail_texts form tail.now)) }

@@ -1,4 +1,4 @@
-//! Numbers in decimal, put at a place of lent room, two digits at a time.
+//! Numbers in decimal, put into lent room at a place, two digits at a time.
 
 ghost use Rattle.std.specs.Prelude.{◌≡◌, ◌+◌, ◌/◌, ◌%◌, ◌^◌, ◌<◌, ◌≤◌, [], ◌∷◌, length, decimal};
 ghost use Rattle.tag_uri.specs.Decimal.{padded};
@@ -8,7 +8,7 @@ ghost use Rattle.llrp_listing.specs.Place.{Puts};
 use crate::printing::place::{put_eight, put_last, put_octet, put_text, put_two};
 use itoa::Buffer;
 
-/// The digits of 0 to 99, two of each.
+/// The two digits of each number from 0 to 99.
 static PAIRS: [u8; 200] =
     *b"00010203040506070809101112131415161718192021222324252627282930313233343536373839404142434445464748495051525354555657585960616263646566676869707172737475767778798081828384858687888990919293949596979899";
 
@@ -194,7 +194,7 @@ pub(crate) fn put_number(room: &mut [u8], at: usize, number: u128) -> usize
     }
 }
 
-/// Puts eight bits as the number that they are in two's complement.
+/// Puts eight bits as a number in two's complement.
 #[inline(always)]
 pub(crate) fn put_signed(room: &mut [u8], at: usize, bits: u8) -> usize
     requires { at + 5 ≤ length room.old }

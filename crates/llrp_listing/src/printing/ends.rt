@@ -1,4 +1,4 @@
-//! The lines of frames that are not messages, and of a stream's end, put at a place of lent room.
+//! The lines of faulty frames and of a stream's end, put into lent room at a place.
 
 ghost use Rattle.std.specs.Prelude.{◌≡◌, ◌+◌, ◌≤◌, ◌++◌, [], ◌∷◌, decimal, length};
 ghost use Rattle.llrp_stream.specs.declared.item.End.TheVariants as at_end;
@@ -10,7 +10,7 @@ use crate::printing::place::{put_octet, put_text, put_two};
 use llrp_stream::End;
 use llrp_tree::{Fault, Reason};
 
-/// The word for a fault.
+/// The name of a fault.
 #[tactic(auto, unfolding(crate::specs::StreamListing::reason_name))]
 fn name_of(reason: Reason) -> &'static str
     ensures name { result.now ≡ reason_name reason }
@@ -35,7 +35,7 @@ fn name_of(reason: Reason) -> &'static str
     }
 }
 
-/// Puts a number and an octet after it.
+/// Puts a number, followed by an octet.
 fn put_ended(room: &mut [u8], at: usize, number: u64, end: u8) -> usize
     requires { at + 21 ≤ length room.old }
     ensures text { Puts room.old room.new at result (decimal number ++ (end ∷ [])) }
@@ -45,7 +45,7 @@ fn put_ended(room: &mut [u8], at: usize, number: u64, end: u8) -> usize
     put_octet(room, end_at, end)
 }
 
-/// Puts the word for a fault and the end of its line.
+/// Puts the name of a fault and the end of its line.
 fn put_reason(room: &mut [u8], at: usize, reason: Reason) -> usize
     requires { at + 17 ≤ length room.old }
     ensures text { Puts room.old room.new at result (reason_name reason ++ (10 ∷ [])) }
@@ -55,7 +55,7 @@ fn put_reason(room: &mut [u8], at: usize, reason: Reason) -> usize
     put_octet(room, end_at, b'\n')
 }
 
-/// Puts the line of a frame that is not a message.
+/// Puts the line of a faulty frame.
 pub(crate) fn put_fault(room: &mut [u8], at: usize, id: u32, fault: Fault) -> usize
     requires { at + 64 ≤ length room.old }
     ensures text { Puts room.old room.new at result (fault_text id fault) }
@@ -67,7 +67,7 @@ pub(crate) fn put_fault(room: &mut [u8], at: usize, id: u32, fault: Fault) -> us
     put_reason(room, name_at, fault.reason)
 }
 
-/// Puts the line of octets that are not a whole frame.
+/// Puts the line of the octets after the last whole frame.
 fn put_rest(room: &mut [u8], at: usize, octets: u64) -> usize
     requires { at + 64 ≤ length room.old }
     ensures text { Puts room.old room.new at result (end_text (at_end.Rest octets)) }

@@ -1,5 +1,5 @@
-//! Text put at a place of lent room. Each function returns the place after its text; what follows
-//! it is written over by what comes next.
+//! Puts text into lent room at a place. Each function returns the place after its text; what
+//! follows that place is overwritten by what is put next.
 
 ghost use Rattle.std.specs.Prelude.{◌≡◌, ◌+◌, ◌-◌, ◌<◌, ◌≤◌, [], ◌∷◌, length, take, drop};
 ghost use Rattle.llrp_listing.specs.Place.{Puts};
@@ -34,7 +34,7 @@ pub(crate) fn put_eight(room: &mut [u8], at: usize, octets: [u8; 8]) -> usize
     at + 8
 }
 
-/// Eight octets that begin with the last `count` of these.
+/// Eight octets, of which the first `count` are the last `count` of these.
 #[inline(always)]
 fn from_last(octets: [u8; 8], count: usize) -> [u8; 8]
     requires { count ≤ 8 }

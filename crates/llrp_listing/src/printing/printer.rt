@@ -14,7 +14,8 @@ use llrp_stream::{End, Listener, Sink};
 use llrp_tree::Fault;
 use std::alloc::{AllocError, Global};
 
-/// Appends the lines of what it receives to a text, and takes back those of a message that is given up.
+/// Appends the lines of what it receives to a text, and cuts off those of a message that is given
+/// up.
 #[derive(Drop)]
 pub(crate) struct Printer {
     text: Text,
@@ -34,7 +35,7 @@ impl Printer {
         }
     }
 
-    /// Appends the line of a frame that is not a message.
+    /// Appends the line of a faulty frame.
     pub(crate) fn push_fault(&mut self, id: u32, fault: Fault) -> Result<(), AllocError>
         ensures text { OnOk result (self.new.text ≡ self.old.text ++ fault_text id fault) }
         ensures mark { OnOk result (self.new.mark ≡ length self.new.text) }
@@ -54,7 +55,7 @@ impl Printer {
         Ok(())
     }
 
-    /// Hands on the text of what is whole.
+    /// Writes the text of whole frames to the sink.
     pub(crate) fn hand_on<W: Sink>(&mut self, w: &mut W) -> Result<(), ToolErr>
         requires within { self.old.mark ≤ length self.old.text }
         requires sink { (W.log w.old).failures + 1 < 2 ^ 64 }
@@ -69,7 +70,7 @@ impl Printer {
         Ok(())
     }
 
-    /// Hands on the text of what is whole, once it is a large piece.
+    /// Writes the text of whole frames to the sink once it is 64 KiB.
     pub(crate) fn hand_on_pieces<W: Sink>(&mut self, w: &mut W) -> Result<(), ToolErr>
         requires within { self.old.mark ≤ length self.old.text }
         requires sink { (W.log w.old).failures + 1 < 2 ^ 64 }

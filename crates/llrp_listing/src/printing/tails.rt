@@ -1,4 +1,4 @@
-//! The word of a tail, at the end of a text.
+//! The word of a tail, appended to a text.
 
 ghost use Rattle.std.specs.Prelude.{◌≡◌, ◌+◌, ◌*◌, ◌++◌, [], ◌∷◌, ℕ, List, OnOk, decimal, length};
 ghost use Rattle.hex.specs.Hex.{encode_lower};
@@ -12,7 +12,7 @@ use crate::printing::text::Text;
 use llrp_schema::Tail;
 use std::alloc::AllocError;
 
-/// Appends what the word of a tail begins with, after a space.
+/// Appends a space and what the word of a tail begins with.
 pub(crate) fn push_tail(text: &mut Text, form: Tail) -> Result<(), AllocError>
     ensures { OnOk result (text.new ≡ text.old ++ spaced (tail_texts form [])) }
 {
@@ -24,7 +24,7 @@ pub(crate) fn push_tail(text: &mut Text, form: Tail) -> Result<(), AllocError>
     }
 }
 
-/// Appends a word of two octets in decimal, after a comma where it is not the first.
+/// Appends a word of two octets in decimal, with a comma before it unless it is the first.
 fn push_word(text: &mut Text, high: u8, low: u8) -> Result<(), AllocError>
     ensures { OnOk result (MoreWords text.old text.new (high ∷ low ∷ [])) }
 {
@@ -56,7 +56,7 @@ fn push_hexadecimal(text: &mut Text, octets: &[u8]) -> Result<(), AllocError>
     Ok(())
 }
 
-/// Appends words of two octets in decimal, each after a comma but the first of the tail.
+/// Appends words of two octets in decimal, with a comma before each but the tail's first.
 fn push_words(text: &mut Text, octets: &[u8]) -> Result<(), AllocError>
     ensures { OnOk result ((n : ℕ) → length octets.now ≡ 2 * n
         → MoreWords text.old text.new octets.now) }

@@ -17,17 +17,18 @@ use llrp_tree::Fault;
 use std::alloc::{AllocError, Global};
 use std::marker::Model;
 
-/// How much room there is after a text before a piece is put there; no piece is so long.
+/// How much room the text has after it before something is put there; nothing that is put is
+/// longer.
 const ROOM: usize = 1024;
 
-/// How much room is made where there is too little.
+/// How much room is made when there is too little.
 const MORE_ROOM: usize = 4096;
 
-/// A text, in memory with room after it.
+/// A text, in memory that has room after it.
 #[derive(Drop)]
 pub(crate) struct Text {
     memory: Vec<u8>,
-    /// Where the text ends. What the memory holds after it means nothing.
+    /// Where the text ends. The bytes of the memory after it have no meaning.
     end: usize,
 }
 
@@ -39,7 +40,7 @@ impl Model for Text {
     ghost invariant = { λ t. t.end ≤ length t.memory.items };
 }
 
-/// Sees to it that there is room for a piece after a text.
+/// Makes sure that there is room after a text for what is put next.
 #[inline(always)]
 fn make_room(memory: &mut Vec<u8>, end: usize) -> Result<(), AllocError>
     requires { end ≤ length memory.old.items }
@@ -90,7 +91,7 @@ impl Text {
         self.end
     }
 
-    /// Keeps the first octets alone.
+    /// Keeps only the first octets.
     pub(crate) fn truncate(&mut self, count: usize)
         ensures { self.new ≡ take count self.old }
     {
@@ -99,7 +100,7 @@ impl Text {
         }
     }
 
-    /// Takes the first octets away; those after them move to the front.
+    /// Removes the first octets and moves those after them to the front.
     pub(crate) fn drop_front(&mut self, count: usize)
         requires { count ≤ length self.old }
         ensures { self.new ≡ drop count self.old }
@@ -179,7 +180,7 @@ impl Text {
         Ok(())
     }
 
-    /// Appends the line of a frame that is not a message.
+    /// Appends the line of a faulty frame.
     pub(crate) fn push_fault(&mut self, id: u32, fault: Fault) -> Result<(), AllocError>
         ensures { OnOk result (self.new ≡ self.old ++ fault_text id fault) }
     {
@@ -232,7 +233,7 @@ impl Text {
         Ok(())
     }
 
-    /// The last octet, or 0 of an empty text.
+    /// The last octet, or 0 if the text is empty.
     pub(crate) fn last(&self) -> u8
         ensures { result ≡ slice_index self.now (length self.now - 1) }
     {

@@ -1,4 +1,4 @@
-//! The words of a line, put at a place of lent room.
+//! The words of a line, put into lent room at a place.
 
 ghost use Rattle.std.specs.Prelude.{◌≡◌, ◌+◌, ◌^◌, ◌<◌, ◌≤◌, ◌++◌, [], ◌∷◌, ℕ, List, true, decimal, length};
 ghost use Rattle.llrp_tree.specs.declared.TheConstants.{MAX_DEPTH};

@@ -15,7 +15,7 @@ use crate::words::{ClientPhase, Command, Operation, Pending};
 use llrp_tree::{Message, Node, ParamKind};
 
 impl Client {
-    /// Why a command is refused. Want of memory comes after these.
+    /// Why a command is refused, apart from a lack of memory, which is found later.
     #[tactic(auto, unfolding(crate::specs::ClientMachine::command))]
     pub(super) fn refusal(&self, command: &Command) -> Option<CmdFault>
         requires { AddsRoSpec command.now }
@@ -33,7 +33,7 @@ impl Client {
         }
     }
 
-    /// Why a command is refused once the reader takes requests.
+    /// Why a command is refused while the reader takes requests.
     #[tactic(auto, using(crate::proofs::CommandLemmas::fits_within))]
     fn refusal_when_ready(&self, command: &Command) -> Option<CmdFault>
         requires { AddsRoSpec command.now }
@@ -90,7 +90,7 @@ impl Client {
     }
 }
 
-/// The refusal of a command where there is no memory.
+/// The refusal of a command for lack of memory.
 fn out_of_memory(command: Command) -> CmdRefusal
     ensures { result ≡ record { fault = CmdFault.Memory; command = command } }
 {
@@ -100,7 +100,7 @@ fn out_of_memory(command: Command) -> CmdRefusal
     }
 }
 
-/// Appends a message, for which there is room.
+/// Appends a message; there is room for it.
 fn append(out: &mut Vec<Message>, message: Message)
     requires { vec_len out.old < vec_capacity out.old }
     ensures { out.new.items ≡ out.old.items ++ message ∷ [] }
@@ -111,7 +111,7 @@ fn append(out: &mut Vec<Message>, message: Message)
     }
 }
 
-/// Whether the message of a command would be longer than the limit: only ADD_ROSPEC can be.
+/// Whether the message of a command is longer than the limit, which only ADD_ROSPEC can be.
 #[tactic(auto, unfolding(crate::specs::RoSpec::rospec_of))]
 fn is_over_limit(limit: u32, command: &Command) -> bool
     ensures { result ≡ machine.is_over_limit limit command.now }
@@ -122,7 +122,8 @@ fn is_over_limit(limit: u32, command: &Command) -> bool
     }
 }
 
-/// What waits for its response once the request of a command is sent under an id.
+/// The pending request once a command was sent under this id; `None` for GET_REPORT, which has no
+/// response.
 fn awaited(id: u32, command: &Command) -> Option<Pending>
     requires { AddsRoSpec command.now }
     ensures { result ≡ machine.awaited id command.now }

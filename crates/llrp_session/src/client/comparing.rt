@@ -1,4 +1,4 @@
-//! What a reader lists, compared with a client's view.
+//! Compares the ROSpecs that a reader lists with a client's view.
 
 ghost use Rattle.std.specs.Prelude.{◌≡◌};
 ghost use Rattle.std.specs.List.{list_any, list_all};
@@ -19,7 +19,8 @@ pub(super) fn rospecs_of(message: Message) -> Nodes
     Nodes::new(nodes)
 }
 
-/// What ROSpecs that a reader lists are taken for: the view, or another table.
+/// What the ROSpecs that a reader lists mean: `Table` if they are those of the view, and `Differs`
+/// otherwise.
 pub(super) fn compared(rospecs: Nodes, view: &[Viewed]) -> Taken
     ensures { result ≡ machine.compared rospecs view.now }
 {
@@ -30,14 +31,14 @@ pub(super) fn compared(rospecs: Nodes, view: &[Viewed]) -> Taken
     }
 }
 
-/// Whether ROSpecs name no id twice, and have exactly the ids and states of a view.
+/// Whether ROSpecs have no id twice, and have exactly the ids and states of a view.
 fn is_view(rospecs: &[Node], view: &[Viewed]) -> bool
     ensures { result ≡ machine.is_view rospecs.now view.now }
 {
     names_none_twice(rospecs) && are_seen(rospecs, view) && are_listed(view, rospecs)
 }
 
-/// Whether no two ROSpecs have one ROSpecID.
+/// Whether no two ROSpecs have the same id.
 fn names_none_twice(rospecs: &[Node]) -> bool
     ensures { result ≡ machine.names_none_twice rospecs.now }
 {
@@ -51,7 +52,7 @@ fn names_none_twice(rospecs: &[Node]) -> bool
     true
 }
 
-/// Whether one of some ROSpecs has the ROSpecID of another.
+/// Whether a ROSpec has the same id as one of the others.
 fn is_named(rospec: &Node, others: &[Node]) -> bool
     ensures { result ≡ list_any (machine.names_same rospec.now) others.now }
 {
@@ -60,14 +61,14 @@ fn is_named(rospec: &Node, others: &[Node]) -> bool
         .any(|other| field_at(rospec, 0) == field_at(other, 0))
 }
 
-/// Whether each of some ROSpecs is in a view.
+/// Whether each of these ROSpecs is in a view.
 fn are_seen(rospecs: &[Node], view: &[Viewed]) -> bool
     ensures { result ≡ list_all (λ t. list_any (machine.shows t) view.now) rospecs.now }
 {
     rospecs.iter().all(|rospec| is_seen(rospec, view))
 }
 
-/// Whether a ROSpec is in a view, with its state.
+/// Whether a ROSpec is in a view, in the same state.
 fn is_seen(rospec: &Node, view: &[Viewed]) -> bool
     ensures { result ≡ list_any (machine.shows rospec.now) view.now }
 {
@@ -81,14 +82,14 @@ fn are_listed(view: &[Viewed], rospecs: &[Node]) -> bool
     view.iter().all(|viewed| is_listed(viewed, rospecs))
 }
 
-/// Whether a ROSpec of a view is listed, with its state.
+/// Whether a ROSpec of a view is listed, in the same state.
 fn is_listed(viewed: &Viewed, rospecs: &[Node]) -> bool
     ensures { result ≡ list_any (λ t. machine.shows t viewed.now) rospecs.now }
 {
     rospecs.iter().any(|rospec| shows(rospec, viewed))
 }
 
-/// Whether a ROSpec that is listed has the id and the state of one of a view.
+/// Whether a listed ROSpec has the id and the state of this one of a view.
 fn shows(rospec: &Node, viewed: &Viewed) -> bool
     ensures { result ≡ machine.shows rospec.now viewed.now }
 {

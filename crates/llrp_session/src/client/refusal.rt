@@ -3,7 +3,7 @@
 use crate::words::Command;
 use llrp_tree::Message;
 
-/// Why a client refuses a command; where several hold, the first of these.
+/// Why a client refuses a command; the first in this order that applies.
 #[derive(Clone, Copy, Debug, PartialEq, Eq)]
 pub enum CmdFault {
     /// The connection is closed.
@@ -27,12 +27,12 @@ pub struct CmdRefusal {
     pub command: Command,
 }
 
-/// Why a client refuses a message; where several hold, the first of these.
+/// Why a client refuses a message; the first in this order that applies.
 #[derive(Clone, Copy, Debug, PartialEq, Eq)]
 pub enum TakeFault {
     /// The connection is closed.
     Closed,
-    /// A reader sends no such message now.
+    /// A reader does not send such a message now.
     Unexpected,
     /// Memory ran out.
     Memory,

@@ -1,4 +1,4 @@
-//! The messages of its reader that a client takes.
+//! How a client takes the messages of its reader.
 
 ghost use Rattle.std.specs.Prelude.{◌≡◌, false, ◌++◌, ◌∷◌, [], map, Ok, Err, Some, OnOk, OnErr, IfOk, IfErr, MatchResult};
 ghost use Rattle.llrp_session.specs.Words.{Acknowledges};
@@ -36,7 +36,8 @@ impl Client {
         }
     }
 
-    /// Takes the status of a ConnectionAttemptEvent: 0 accepts the connection, another refuses it.
+    /// Takes the status of a ConnectionAttemptEvent: 0 accepts the connection, any other refuses
+    /// it.
     fn attempted(&mut self, attempt: Option<u16>) -> Result<Taken, TakeFault>
         ensures step { IfOk result (λ taken. machine.attempted self.old attempt
             ≡ machine.takes taken self.new) }
@@ -57,7 +58,7 @@ impl Client {
         }
     }
 
-    /// Takes a message once the reader has accepted the connection.
+    /// Takes a message after the reader accepted the connection.
     pub(super) fn take_next(
         &mut self,
         message: Message,
@@ -86,7 +87,7 @@ impl Client {
         }
     }
 
-    /// Takes a response: that to the pending request.
+    /// Takes a response, which has to answer the pending request.
     fn answered(
         &mut self,
         operation: Operation,
@@ -108,7 +109,8 @@ impl Client {
         }
     }
 
-    /// Takes the response to the pending request. CLOSE_CONNECTION's closes, whatever its status.
+    /// Takes the response to the pending request. That to CLOSE_CONNECTION closes the connection,
+    /// whatever its status is.
     fn take_response(
         &mut self,
         operation: Operation,
@@ -134,7 +136,8 @@ impl Client {
         }
     }
 
-    /// Takes the response to GET_ROSPECS: with status 0 its ROSpecs are compared with the view, which stays.
+    /// Takes the response to GET_ROSPECS. If its status is 0, its ROSpecs are compared with the
+    /// view; the view stays as it is.
     fn listed(&mut self, status: u16, message: Message) -> Taken
         ensures { machine.listed self.old status (rospecs_in message.children)
             ≡ machine.takes result self.new }
@@ -147,7 +150,7 @@ impl Client {
         }
     }
 
-    /// Takes a status for the pending request; 0 grants it.
+    /// Takes the status that answers the pending request; 0 grants it.
     fn replied(&mut self, pending: Pending, status: u16) -> Result<Taken, TakeFault>
         ensures step { IfOk result (λ taken. machine.replied self.old pending status
             ≡ machine.takes taken self.new) }
@@ -167,7 +170,8 @@ impl Client {
         }
     }
 
-    /// Takes ERROR_MESSAGE: with the pending id, the request failed. The view stays.
+    /// Takes an ERROR_MESSAGE; with the pending id it means that the request failed. The view stays
+    /// as it is.
     fn failed(&mut self, id: u32, status: u16) -> Result<Taken, TakeFault>
         ensures step { IfOk result (λ taken. machine.failed self.old.pending self.old id status
             ≡ machine.takes taken self.new) }
@@ -199,7 +203,7 @@ impl Client {
         }
     }
 
-    /// Takes a ROSpecEvent; one of a ROSpec outside the view is only noted.
+    /// Takes a ROSpecEvent; one of a ROSpec that is not in the view is only noted.
     fn moved(&mut self, change: RoSpecChange) -> Taken
         ensures { machine.notified self.old false (change_by (Some change))
             ≡ machine.takes result self.new }
@@ -214,7 +218,7 @@ impl Client {
     }
 }
 
-/// What a message was taken for, or the message with the fault.
+/// What a message means, or a refusal that hands it back.
 fn handed_back(taken: Result<Taken, TakeFault>, message: Message) -> Result<Taken, TakeRefusal>
     ensures { MatchResult taken (λ taken. result ≡ Ok taken) (λ fault. result
         ≡ Err (record { fault = fault; message = message })) }
@@ -239,14 +243,14 @@ fn acknowledged(alloc: Global, id: u32, out: &mut Vec<Message>) -> Result<Taken,
     }
 }
 
-/// Whether a response is to a request: it has its id and its kind.
+/// Whether a response belongs to this request: it has its id and its kind.
 fn is_response_to(pending: Pending, id: u32, operation: Operation) -> bool
     ensures { result ≡ machine.is_response_to pending id operation }
 {
     pending.id == id && pending.operation == operation
 }
 
-/// Changes the view as a request that is granted does. Where memory runs out, nothing changes.
+/// Changes the view as the granted request does. If memory runs out, nothing changes.
 fn grant(view: &mut Vec<Viewed>, pending: Pending) -> Result<(), AllocError>
     ensures granted { OnOk result (view.new.items
         ≡ machine.granted pending.operation pending.rospec view.old.items) }
@@ -274,7 +278,7 @@ fn grant(view: &mut Vec<Viewed>, pending: Pending) -> Result<(), AllocError>
     }
 }
 
-/// The state after a ROSpecEvent: type 0 is a start, another an end.
+/// The state after a ROSpecEvent: type 0 is a start, any other an end.
 fn state_after(event: u8) -> RoState
     ensures { result ≡ machine.state_after event }
 {

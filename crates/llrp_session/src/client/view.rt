@@ -1,4 +1,4 @@
-//! A client's view: the ROSpecs that it added with their states, in rising order of ids.
+//! A client's view: the ROSpecs that it added and their states, ordered by id.
 
 ghost use Rattle.std.specs.Prelude.{◌≡◌, ◌<◌, ◌≤◌, length, slice_set, IfOk, IfErr, OnOk, OnErr};
 ghost use Rattle.std.specs.List.{insert};
@@ -7,7 +7,7 @@ ghost use Rattle.llrp_session.specs.Table as table;
 use crate::words::{RoState, Viewed};
 use std::alloc::AllocError;
 
-/// Whether a ROSpecID in a request names a ROSpec: 0 names all.
+/// Whether the ROSpecID of a request means this ROSpec: 0 means all.
 fn names(n: u32, id: u32) -> bool
     ensures { result ≡ table.names n id }
 {
@@ -27,7 +27,7 @@ pub(super) fn state(view: &[Viewed], id: u32) -> Option<RoState>
     None
 }
 
-/// Enters a ROSpec, Disabled. Where memory runs out, nothing changes.
+/// Adds a ROSpec, Disabled. If memory runs out, nothing changes.
 pub(super) fn enter(view: &mut Vec<Viewed>, id: u32) -> Result<(), AllocError>
     ensures entered { OnOk result (view.new.items ≡ table.enter_view id view.old.items) }
     ensures unchanged { OnErr result (view.new.items ≡ view.old.items) }
@@ -43,7 +43,7 @@ pub(super) fn enter(view: &mut Vec<Viewed>, id: u32) -> Result<(), AllocError>
     Ok(())
 }
 
-/// Where a ROSpec is in the view, or else where it is to be inserted.
+/// Where a ROSpec is in the view or, as the error, where it would be inserted.
 #[tactic(auto, using(crate::proofs::ViewLemmas::entering))]
 fn place(view: &[Viewed], id: u32) -> Result<usize, usize>
     ensures there { IfOk result (λ i. i < length view.now) }
@@ -64,14 +64,14 @@ fn place(view: &[Viewed], id: u32) -> Result<usize, usize>
     Err(view.len())
 }
 
-/// Removes a ROSpec, or all for 0.
+/// Removes a ROSpec, or all if the id is 0.
 pub(super) fn remove(view: &mut Vec<Viewed>, n: u32)
     ensures { view.new.items ≡ table.view_without n view.old.items }
 {
     view.retain(|viewed| !names(n, viewed.id));
 }
 
-/// Enables a ROSpec, or all for 0.
+/// Enables a ROSpec, or all if the id is 0.
 #[tactic(auto, using(crate::proofs::ViewLemmas::changing))]
 pub(super) fn enable(view: &mut Vec<Viewed>, n: u32)
     ensures { view.new.items ≡ table.change_view (table.enabling n) view.old.items }
@@ -81,7 +81,8 @@ pub(super) fn enable(view: &mut Vec<Viewed>, n: u32)
     }
 }
 
-/// The state of a ROSpec after one, or all for 0, was enabled: a Disabled one becomes Inactive.
+/// The state of a ROSpec after one was enabled, or all if the id is 0: a Disabled one becomes
+/// Inactive.
 fn enabled(n: u32, viewed: Viewed) -> RoState
     ensures { result ≡ table.enabling n viewed.id viewed.state }
 {
@@ -91,7 +92,7 @@ fn enabled(n: u32, viewed: Viewed) -> RoState
     }
 }
 
-/// Disables a ROSpec, or all for 0.
+/// Disables a ROSpec, or all if the id is 0.
 #[tactic(auto, using(crate::proofs::ViewLemmas::changing))]
 pub(super) fn disable(view: &mut Vec<Viewed>, n: u32)
     ensures { view.new.items ≡ table.change_view (table.disabling n) view.old.items }
@@ -101,7 +102,7 @@ pub(super) fn disable(view: &mut Vec<Viewed>, n: u32)
     }
 }
 
-/// The state of a ROSpec after one, or all for 0, was disabled.
+/// The state of a ROSpec after one was disabled, or all if the id is 0.
 fn disabled(n: u32, viewed: Viewed) -> RoState
     ensures { result ≡ table.disabling n viewed.id viewed.state }
 {
@@ -112,7 +113,7 @@ fn disabled(n: u32, viewed: Viewed) -> RoState
     }
 }
 
-/// Sets the state of a ROSpec, where it is there.
+/// Sets the state of a ROSpec, if it is in the view.
 #[tactic(auto, using(crate::proofs::ViewLemmas::changing))]
 pub(super) fn set(view: &mut Vec<Viewed>, id: u32, to: RoState)
     ensures { view.new.items ≡ table.change_view (table.setting id to) view.old.items }
@@ -122,7 +123,7 @@ pub(super) fn set(view: &mut Vec<Viewed>, id: u32, to: RoState)
     }
 }
 
-/// The state of a ROSpec after that of an id was set.
+/// The state of a ROSpec after the state of this id was set.
 fn moved(id: u32, to: RoState, viewed: Viewed) -> RoState
     ensures { result ≡ table.setting id to viewed.id viewed.state }
 {

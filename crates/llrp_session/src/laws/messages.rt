@@ -1,4 +1,4 @@
-//! Laws of the messages that the words of the machines are.
+//! Laws of the messages that reader and client send.
 
 ghost use Rattle.std.specs.Prelude.{◌≡◌, ◌<◌, ◌≤◌, ◌^◌, ℕ, List};
 ghost use Rattle.llrp_tree.specs.declared.TheConstants.{MAX_LIMIT};
@@ -11,7 +11,7 @@ ghost use Rattle.llrp_session.specs.World.{WorldEvent, run, opening};
 ghost use Rattle.llrp_session.specs.MessageWorld.{run_messages, message_opening, in_messages, AreOfRoSpecs, AreGiven, AreSendable};
 ghost use Rattle.llrp_session.specs.MessageAgreement.{AfterAllMessages, ViewCatchesUp, ViewIsTable, ReportsArrive, ReportsAreKept, ReaderHasHistory, OneActive, NothingIsUnexpected, PendingIsOnTheWay, NothingIsPending, TablesArrive, NoneDiffers};
 
-/// What is read in the message of a word is that word.
+/// What is read in a message is what the message was built from.
 #[tactic(auto, using(crate::proofs::MessageReading::heard_back, crate::proofs::MessageReading::request_back))]
 pub fn messages_read_back()
     ensures down { (m : ReaderMessage) → heard_of (reader_message m) ≡ heard m.word }
@@ -19,7 +19,7 @@ pub fn messages_read_back()
         → request_of (client_message m) ≡ request m.word }
 {}
 
-/// The message of a lawful word is lawful, and within every limit of at least 4,096 octets.
+/// A message built from lawful words is lawful, and within every limit of at least 4,096 octets.
 pub fn messages_are_lawful()
     ensures down { (limit : ℕ) (m : ReaderMessage) → 4096 ≤ limit → limit ≤ MAX_LIMIT
         → IsLawfulReaderMessage limit m → IsSendable limit (reader_message m) }
@@ -27,8 +27,8 @@ pub fn messages_are_lawful()
         → IsLawfulClientMessage limit m → IsSendable limit (client_message m) }
 {}
 
-/// The world in which messages are on the way runs exactly as the world in which words are, with the message of each word in
-/// its place.
+/// A world in which messages travel runs exactly as one in which words travel, with the message of
+/// each word in its place.
 #[tactic(auto, using(crate::proofs::MessageWorlds::runs_alike))]
 pub fn worlds_agree()
     ensures { (limit reader_first client_first : ℕ) (events : List WorldEvent)
@@ -37,8 +37,8 @@ pub fn worlds_agree()
         ≡ in_messages (run events (opening limit reader_first client_first)) }
 {}
 
-/// Whatever happens to a client and a reader, each message on its way is lawful and within the limit, so that making it is
-/// never refused but for memory.
+/// Whatever happens to a client and a reader, each message on its way is lawful and within the
+/// limit, so building it can fail only for lack of memory.
 pub fn messages_sent_are_lawful()
     ensures up { (limit reader_first client_first : ℕ) (events : List WorldEvent) → 4096 ≤ limit
         → limit ≤ MAX_LIMIT → reader_first < 2 ^ 32 → AreGiven events →
@@ -50,8 +50,8 @@ pub fn messages_sent_are_lawful()
         client_first)).down }
 {}
 
-/// Whatever happens to a client and a reader with whole messages on the way between them, the two ends agree; said of the
-/// messages that are sent.
+/// Whatever happens to a client and a reader while whole messages travel between them, the two ends
+/// agree; here said of the messages themselves.
 pub fn ends_agree_in_messages()
     ensures view_catches_up { AfterAllMessages ViewCatchesUp }
     ensures view_is_table { AfterAllMessages ViewIsTable }

@@ -1,4 +1,5 @@
-//! The end of a ROSpec: what is held is sent if its reports are, then the End event, and it is Inactive.
+//! The end of a ROSpec: the held reports are sent if it is to report at its end, then the End
+//! event, and it becomes Inactive.
 
 ghost use Rattle.std.specs.Prelude.{◌≡◌, ℕ, ◌≤◌, ◌+◌, ◌⊎◌, ◌==◌, Option, IfOk, vec_len, vec_capacity};
 ghost use Rattle.std.specs.Option.{option_copied};
@@ -19,19 +20,19 @@ use crate::words::RoState;
 use llrp_tree::Message;
 use std::alloc::AllocError;
 
-/// The end of a ROSpec, made ready.
+/// What the end of a ROSpec needs, made before anything changes.
 #[derive(Drop)]
 pub(crate) struct Ending {
     /// The ROSpecID.
     pub rospec: u32,
-    /// What is held is sent first.
+    /// Whether the held reports are sent first.
     pub reports: bool,
     /// The End event.
     pub event: Message,
 }
 
 impl Reader {
-    /// The active ROSpec, if an id names it.
+    /// The active ROSpec, if this id means it.
     pub(crate) fn active_named(&self, n: u32) -> Option<&RoSpec>
         ensures { option_copied result ≡ chosen (λ s. the_names n s.id)
             (the_active self.now.table) }
@@ -42,7 +43,7 @@ impl Reader {
         }
     }
 
-    /// The active ROSpec, if it has this ROSpecID.
+    /// The active ROSpec, if it has this id.
     pub(crate) fn active_of(&self, id: u32) -> Option<&RoSpec>
         ensures { option_copied result ≡ chosen (λ s. s.id == id) (the_active self.now.table) }
     {
@@ -52,7 +53,7 @@ impl Reader {
         }
     }
 
-    /// Whether something is held, and is sent at the end of a ROSpec.
+    /// Whether reports are held that are sent when a ROSpec ends.
     fn sends_at_end(&self, settings: &Settings) -> bool
         ensures { (s : TheRoSpec) → settings.now ≡ settings_of s → result ≡ the_test self.now s }
     {
@@ -60,7 +61,7 @@ impl Reader {
         (report.trigger == 1 || report.trigger == 2) && !self.held.is_empty()
     }
 
-    /// The end of a ROSpec, for a message of this version.
+    /// Prepares the end of a ROSpec, for messages of this version.
     fn end_of(&self, now: u64, version: u8, rospec: &RoSpec) -> Result<Ending, AllocError>
         requires { (version ≡ 1) ⊎ (version ≡ 2) }
         ensures { IfOk result (λ e. IsEnding now rospec.now
@@ -83,7 +84,7 @@ impl Reader {
         })
     }
 
-    /// The end of a ROSpec, if there is one.
+    /// Prepares the end of a ROSpec, if there is one to end.
     pub(crate) fn ending(
         &self,
         now: u64,
@@ -103,7 +104,7 @@ impl Reader {
         }
     }
 
-    /// A ROSpec ends.
+    /// Ends a ROSpec.
     #[tactic(auto, unfolding(crate::specs::ReaderMachine::end))]
     fn end(&mut self, ending: Ending, out: &mut Vec<Message>)
         requires { vec_len out.old + 2 ≤ vec_capacity out.old }
@@ -120,7 +121,7 @@ impl Reader {
         self.tell(ending.event, out);
     }
 
-    /// A ROSpec ends, if there is one.
+    /// Ends a ROSpec, if there is one to end.
     pub(crate) fn end_maybe(&mut self, ending: Option<Ending>, out: &mut Vec<Message>)
         requires { vec_len out.old + 2 ≤ vec_capacity out.old }
         ensures stands { (now : ℕ) (o : Option TheRoSpec) → IsEndingOf now o self.old ending

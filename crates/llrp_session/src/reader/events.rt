@@ -10,7 +10,8 @@ pub enum ReaderIn {
     Connect,
     /// A message of the client is taken.
     Take(Message),
-    /// A frame of the client is taken that is not a message, by its message id and the reason of its fault.
+    /// A frame of the client that is not a message is taken: its message id and the reason of its
+    /// fault.
     TakeBad { id: u32, reason: Reason },
     /// A tag is sighted.
     Seen(Sighting),
@@ -31,7 +32,7 @@ pub enum StepFault {
     Memory,
 }
 
-/// A step that is refused, with its event handed back.
+/// A refused step, with its event handed back.
 #[derive(Drop)]
 pub struct StepRefusal {
     pub fault: StepFault,

@@ -1,4 +1,4 @@
-//! What a reader does for the requests of its client.
+//! How a reader serves the requests of its client.
 
 ghost use Rattle.std.specs.Prelude.{◌≡◌, ◌≤◌, ◌+◌, ◌⊎◌, Option, OnOk, OnErr, IfErr, vec_len, vec_capacity};
 ghost use Rattle.llrp_session.specs.RoSpec.{RoSpec as TheRoSpec};
@@ -22,7 +22,7 @@ use crate::words::{Operation, ReaderPhase};
 use llrp_tree::Message;
 use std::alloc::AllocError;
 
-/// When a request is taken, and its message's version and id.
+/// When a request was taken, and the version and id of its message.
 #[derive(Clone, Copy)]
 pub(crate) struct Head {
     /// In microseconds.
@@ -32,7 +32,7 @@ pub(crate) struct Head {
 }
 
 impl Reader {
-    /// A response with a status, and nothing else.
+    /// Sends a response that has a status alone.
     pub(crate) fn respond(
         &mut self,
         head: Head,
@@ -55,7 +55,7 @@ impl Reader {
         Ok(())
     }
 
-    /// A ROSpec ends, if there is one, and then the response goes out: all is well.
+    /// Ends a ROSpec, if there is one to end, and then sends the response with status 0.
     pub(crate) fn end_and_respond(
         &mut self,
         head: Head,
@@ -80,7 +80,7 @@ impl Reader {
         Ok(())
     }
 
-    /// CLOSE_CONNECTION: the table stays, and no end is reported.
+    /// Serves CLOSE_CONNECTION: the table stays, and no end is reported.
     fn close(&mut self, head: Head, out: &mut Vec<Message>) -> Result<(), AllocError>
         requires version { (head.version ≡ 1) ⊎ (head.version ≡ 2) }
         requires room { vec_len out.old + 3 ≤ vec_capacity out.old }
@@ -94,7 +94,7 @@ impl Reader {
         Ok(())
     }
 
-    /// GET_ROSPECS: each ROSpec of the table is listed with its present state.
+    /// Serves GET_ROSPECS: lists each ROSpec of the table with its present state.
     fn list(&mut self, head: Head, out: &mut Vec<Message>) -> Result<(), AllocError>
         requires version { (head.version ≡ 1) ⊎ (head.version ≡ 2) }
         requires room { vec_len out.old + 3 ≤ vec_capacity out.old }
@@ -109,7 +109,7 @@ impl Reader {
         Ok(())
     }
 
-    /// A request that is not supported.
+    /// Answers a request that is not supported.
     fn refuse(&mut self, head: Head, out: &mut Vec<Message>) -> Result<(), AllocError>
         requires version { (head.version ≡ 1) ⊎ (head.version ≡ 2) }
         requires room { vec_len out.old + 3 ≤ vec_capacity out.old }
@@ -125,7 +125,7 @@ impl Reader {
         Ok(())
     }
 
-    /// A request other than ADD_ROSPEC.
+    /// Serves a request other than ADD_ROSPEC.
     #[tactic(auto, unfolding(crate::specs::ReaderMachine::serve))]
     fn serve(
         &mut self,
@@ -165,7 +165,7 @@ impl Reader {
         }
     }
 
-    /// A message is taken; it is handed back where memory runs out.
+    /// Takes a message. It is handed back if memory runs out.
     #[tactic(auto, unfolding(crate::specs::ReaderMachine::serve))]
     pub(crate) fn take(
         &mut self,

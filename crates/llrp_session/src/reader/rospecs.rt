@@ -1,4 +1,4 @@
-//! What a reader does for requests about ROSpecs.
+//! How a reader serves requests about ROSpecs.
 
 ghost use Rattle.std.specs.Prelude.{◌≡◌, ◌<◌, ◌≤◌, ◌+◌, ◌⊎◌, ◌++◌, ◌∷◌, [], ◌&&◌, OnOk, OnErr, IfOk, IfErr, is_none, vec_len, vec_capacity};
 ghost use Rattle.std.specs.Option.{option_map};
@@ -28,7 +28,7 @@ use crate::words::{Operation, RoState};
 use llrp_tree::Message;
 use std::alloc::AllocError;
 
-/// Whether a field has a value that no ROSpec may have here.
+/// Whether a field of a new ROSpec has a value that this reader does not take.
 fn has_bad_field(table: &[Entry], settings: &Settings) -> bool
     ensures { (s : TheRoSpec) → settings.now ≡ settings_of s
         → result ≡ machine.has_bad_field table.now s }
@@ -43,7 +43,7 @@ fn has_bad_field(table: &[Entry], settings: &Settings) -> bool
         || is_bad_report(settings.report)
 }
 
-/// Whether all ROSpecs of the table would not fit one message with a new one.
+/// Whether the ROSpecs of the table and a new one are too long for one message.
 fn is_too_long(limit: u32, table: &[Entry], octets: u32) -> bool
     requires least { 18 ≤ limit }
     requires within { octets_of table.now ≤ limit }
@@ -54,7 +54,7 @@ fn is_too_long(limit: u32, table: &[Entry], octets: u32) -> bool
 }
 
 impl Reader {
-    /// The status of an addition.
+    /// The status that answers an addition.
     fn add_status(&self, settings: &Settings) -> u16
         ensures { (s : TheRoSpec) → settings.now ≡ settings_of s
             → result ≡ machine.add_status self.now.limit self.now.table s }
@@ -68,7 +68,7 @@ impl Reader {
         }
     }
 
-    /// ADD_ROSPEC: the ROSpec is entered, Disabled. The message is handed back where memory runs out.
+    /// Serves ADD_ROSPEC: adds the ROSpec, Disabled. The message is handed back if memory runs out.
     pub(crate) fn add(
         &mut self,
         head: Head,
@@ -112,14 +112,15 @@ impl Reader {
         Ok(())
     }
 
-    /// The ROSpecs that are named leave the table.
+    /// Removes the ROSpecs that an id means.
     fn remove(&mut self, n: u32)
         ensures { self.new ≡ record self.old { table = the_without n self.old.table } }
     {
         table::remove(&mut self.table, n);
     }
 
-    /// DELETE_ROSPEC: those named are removed; the active one among them ends first.
+    /// Serves DELETE_ROSPEC: removes the ROSpecs that its id means; if the active one is among
+    /// them, it ends first.
     pub(crate) fn delete(
         &mut self,
         head: Head,
@@ -142,7 +143,8 @@ impl Reader {
         Ok(())
     }
 
-    /// DISABLE_ROSPEC: those named become Disabled; the active one among them ends first.
+    /// Serves DISABLE_ROSPEC: the ROSpecs that its id means become Disabled; if the active one is
+    /// among them, it ends first.
     pub(crate) fn disable(
         &mut self,
         head: Head,
@@ -165,7 +167,7 @@ impl Reader {
         Ok(())
     }
 
-    /// A ROSpec starts, with its event: it is Active from now on.
+    /// Starts a ROSpec, which is Active from now on, and sends its event.
     fn start(&mut self, now: u64, rospec: u32, event: Message, out: &mut Vec<Message>)
         requires { vec_len out.old < vec_capacity out.old }
         ensures reader { self.new ≡ (machine.start now rospec (begun self.old)).reader }
@@ -176,7 +178,7 @@ impl Reader {
         self.tell(event, out);
     }
 
-    /// The event of a start, for a message of this version.
+    /// The event of a start, in a message of this version.
     fn start_event(&self, head: Head, rospec: u32) -> Result<Message, AllocError>
         requires { (head.version ≡ 1) ⊎ (head.version ≡ 2) }
         ensures { IfOk result (λ m. m ≡ reader_message (record
@@ -191,7 +193,8 @@ impl Reader {
         )
     }
 
-    /// The ROSpec that an enabling starts: none while one is active.
+    /// The ROSpec that starts when these are enabled, if there is one; none starts while one is
+    /// active.
     fn started_by_enabling(&self, n: u32) -> Option<u32>
         ensures { result ≡ option_map (λ s. s.id) (started_by_enabling n self.now.table) }
     {
@@ -201,7 +204,8 @@ impl Reader {
         }
     }
 
-    /// ENABLE_ROSPEC: those named that are Disabled become Inactive, and after the response one may start.
+    /// Serves ENABLE_ROSPEC: of the ROSpecs that its id means, the Disabled ones become Inactive,
+    /// and after the response one may start.
     pub(crate) fn enable(
         &mut self,
         head: Head,
@@ -233,7 +237,7 @@ impl Reader {
         Ok(())
     }
 
-    /// Whether a ROSpec may start: it is Inactive, and none is active.
+    /// Whether a ROSpec may start: it is Inactive and no other is active.
     fn may_start(&self, id: u32) -> bool
         ensures { result ≡ machine.has_state is_inactive (the_state_of id self.now.table) && is_none
             (the_active self.now.table) }
@@ -242,7 +246,7 @@ impl Reader {
             && table::active(self.table()).is_none()
     }
 
-    /// START_ROSPEC: an Inactive one starts after the response if none is active.
+    /// Serves START_ROSPEC: an Inactive ROSpec starts after the response, if no other is active.
     pub(crate) fn start_rospec(
         &mut self,
         head: Head,
@@ -272,7 +276,7 @@ impl Reader {
         table::state_of(self.table(), id) == Some(RoState::Active)
     }
 
-    /// STOP_ROSPEC: the Active one ends before the response.
+    /// Serves STOP_ROSPEC: an Active ROSpec ends before the response.
     pub(crate) fn stop(
         &mut self,
         head: Head,

@@ -1,4 +1,5 @@
-//! What every step is made of: messages that go out where there is room, and changes that cannot fail.
+//! What every step is made of: sending messages for which there is room, and changes that cannot
+//! fail.
 
 ghost use Rattle.std.specs.Prelude.{◌≡◌, ◌<◌, ◌≤◌, ◌+◌, ◌++◌, ◌∷◌, [], ◌⊎◌, vec_len, vec_capacity};
 ghost use Rattle.llrp_tree.specs.declared.TheConstants.{MAX_LIMIT};
@@ -19,7 +20,7 @@ use llrp_tree::Message;
 use std::alloc::Global;
 use std::mem;
 
-/// One more message, where there is room for it.
+/// Appends a message; there is room for it.
 pub(crate) fn push_within(out: &mut Vec<Message>, message: Message)
     requires { vec_len out.old < vec_capacity out.old }
     ensures items { out.new.items ≡ out.old.items ++ message ∷ [] }
@@ -32,7 +33,7 @@ pub(crate) fn push_within(out: &mut Vec<Message>, message: Message)
     }
 }
 
-/// The own id after one: they go upward, and on from 1.
+/// The reader's own message id after this one; after the greatest comes 1.
 pub(crate) fn following_id(id: u32) -> u32
     ensures { result ≡ following id }
 {
@@ -52,14 +53,14 @@ impl Reader {
         self.alloc
     }
 
-    /// The next own id.
+    /// The id of the next message that it starts itself.
     pub(crate) fn next_id(&self) -> u32
         ensures { result ≡ self.now.next_id }
     {
         self.next_id
     }
 
-    /// The version of the last message taken.
+    /// The version of the last message that it took.
     pub(crate) fn version(&self) -> u8
         ensures version { result ≡ self.now.version }
         ensures known { (result ≡ 1) ⊎ (result ≡ 2) }
@@ -67,7 +68,7 @@ impl Reader {
         self.version
     }
 
-    /// The ROSpecs with their states.
+    /// The ROSpecs and their states.
     pub(crate) fn table(&self) -> &[Entry]
         ensures entries { result.now ≡ self.now.table }
         ensures fits { FitsLimit MAX_LIMIT result.now }
@@ -75,7 +76,7 @@ impl Reader {
         self.table.as_slice()
     }
 
-    /// The ROReportSpec that is in force for a ROSpec: its own, else the default.
+    /// The ROReportSpec in force for a ROSpec: its own or, if it has none, the default.
     pub(crate) fn effective_report(&self, settings: &Settings) -> ReportSpec
         ensures { (s : RoSpec) → settings.now ≡ settings_of s
             → result ≡ the_effective_report self.now s }
@@ -86,7 +87,7 @@ impl Reader {
         }
     }
 
-    /// A message of this version is taken.
+    /// Notes the version of a message that it takes.
     pub(crate) fn take_version(&mut self, version: u8)
         requires { (version ≡ 1) ⊎ (version ≡ 2) }
         ensures { self.new ≡ record self.old { version = version } }
@@ -94,7 +95,7 @@ impl Reader {
         self.version = version;
     }
 
-    /// States are changed.
+    /// Changes states of ROSpecs.
     pub(crate) fn change(&mut self, change: StateChange)
         ensures { self.new ≡ record self.old {
           table = the_change (changing change)
@@ -104,7 +105,7 @@ impl Reader {
         table::change(&mut self.table, change);
     }
 
-    /// One more message, under the next own id.
+    /// Sends a message that has the reader's own next id.
     pub(crate) fn tell(&mut self, message: Message, out: &mut Vec<Message>)
         requires { vec_len out.old < vec_capacity out.old }
         ensures reader { self.new ≡ record self.old { next_id = following self.old.next_id } }
@@ -116,7 +117,7 @@ impl Reader {
         self.next_id = following_id(self.next_id);
     }
 
-    /// All that is held, perhaps nothing, in one message.
+    /// Sends all held reports in one message, even if there are none.
     pub(crate) fn send_held(&mut self, out: &mut Vec<Message>)
         requires { vec_len out.old < vec_capacity out.old }
         ensures stands { Stands out.old.items (the_sending (begun self.old))

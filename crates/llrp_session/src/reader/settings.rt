@@ -1,4 +1,4 @@
-//! What a reader does for SET_READER_CONFIG.
+//! How a reader serves SET_READER_CONFIG.
 
 ghost use Rattle.std.specs.Prelude.{◌≡◌, ◌≤◌, ◌+◌, ◌⊎◌, OnOk, OnErr, vec_len, vec_capacity};
 ghost use Rattle.llrp_session.specs.ReadWords.{keepalive_by, config_by};
@@ -15,7 +15,7 @@ use crate::words::{Operation, ReportSpec};
 use llrp_tree::Message;
 use std::alloc::AllocError;
 
-/// No such ROReportTrigger: it is above 2.
+/// Whether the ROReportTrigger is above 2, which this reader does not take.
 pub(crate) fn is_bad_report(report: Option<ReportSpec>) -> bool
     ensures { result ≡ machine.is_bad_report report }
 {
@@ -25,7 +25,7 @@ pub(crate) fn is_bad_report(report: Option<ReportSpec>) -> bool
     }
 }
 
-/// A period of 0.
+/// Whether a periodic KeepaliveSpec has a period of 0.
 fn is_bad_keepalive(config: Config) -> bool
     ensures { result ≡ machine.is_bad_keepalive (config_by config).keepalive }
 {
@@ -36,7 +36,7 @@ fn is_bad_keepalive(config: Config) -> bool
 }
 
 impl Reader {
-    /// No keepalive, and the factory default.
+    /// Goes back to the factory default, without keepalives, if this is chosen.
     fn reset_if(&mut self, chosen: bool)
         ensures { self.new ≡ machine.reset_if chosen self.old }
     {
@@ -46,7 +46,7 @@ impl Reader {
         }
     }
 
-    /// A KeepaliveSpec is taken over.
+    /// Puts a KeepaliveSpec into force, if there is one.
     fn set_keepalive(&mut self, now: u64, spec: Option<KeepaliveSpec>)
         ensures { self.new ≡ machine.set_keepalive now (keepalive_by spec) self.old }
     {
@@ -59,7 +59,7 @@ impl Reader {
         }
     }
 
-    /// A ROReportSpec is taken over.
+    /// Puts a ROReportSpec into force, if there is one.
     fn set_report(&mut self, report: Option<ReportSpec>)
         ensures { self.new ≡ machine.set_report report self.old }
     {
@@ -68,7 +68,7 @@ impl Reader {
         }
     }
 
-    /// Settings are taken over.
+    /// Puts settings into force.
     #[tactic(auto, unfolding(crate::specs::ReaderMachine::configured))]
     fn set_config(&mut self, now: u64, config: Config)
         ensures { self.new ≡ machine.configured now (config_by config) self.old }
@@ -78,7 +78,7 @@ impl Reader {
         self.set_report(config.report);
     }
 
-    /// SET_READER_CONFIG: the table stays.
+    /// Serves SET_READER_CONFIG; the table stays as it is.
     pub(crate) fn configure(
         &mut self,
         head: Head,

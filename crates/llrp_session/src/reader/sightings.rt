@@ -1,4 +1,4 @@
-//! What a reader does when a tag is sighted.
+//! What a reader does when it sees a tag.
 
 ghost use Rattle.std.specs.Prelude.{◌≡◌, ◌<◌, ◌≤◌, ◌+◌, ◌⊎◌, OnOk, OnErr, length, vec_len, vec_capacity};
 ghost use Rattle.std.specs.Option.{option_copied};
@@ -19,7 +19,7 @@ use std::alloc::AllocError;
 /// The greatest number of reports that are held.
 const MOST_HELD: usize = 64;
 
-/// Whether enough reports are held for them to be sent.
+/// Whether this many held reports are enough to be sent.
 fn is_enough(report: &ReportSpec, count: usize) -> bool
     ensures { result ≡ the_test report.now count }
 {
@@ -27,7 +27,7 @@ fn is_enough(report: &ReportSpec, count: usize) -> bool
 }
 
 impl Reader {
-    /// The active ROSpec, if it lists the antenna of a sighting, or 0.
+    /// The active ROSpec, if it lists the antenna of the sighting or lists 0.
     fn counting(&self, sighting: &Sighting) -> Option<&RoSpec>
         ensures { option_copied result ≡ the_counting sighting.now (the_active self.now.table) }
     {
@@ -37,14 +37,14 @@ impl Reader {
         }
     }
 
-    /// Whether as many reports are held as there is room for.
+    /// Whether no further report can be held.
     fn is_full(&self) -> bool
         ensures { result ≡ the_is_full self.now }
     {
         self.held.len() >= MOST_HELD
     }
 
-    /// A sighting is dropped, where there is no room for it, and an event says so.
+    /// Drops a sighting for which there is no room, and sends an overflow event.
     fn overflow(&mut self, now: u64, out: &mut Vec<Message>) -> Result<(), AllocError>
         requires { vec_len out.old < vec_capacity out.old }
         ensures ok { OnOk result (Stands out.old.items (the_tell (Overflowed now) (begun self.old))
@@ -57,7 +57,7 @@ impl Reader {
         Ok(())
     }
 
-    /// One more report is held.
+    /// Holds one more report.
     fn hold(&mut self, tag: Node) -> Result<(), AllocError>
         requires report { IsReport tag }
         requires room { length self.old.held < most_held }
@@ -68,7 +68,7 @@ impl Reader {
         Ok(())
     }
 
-    /// What is held is sent if it is enough.
+    /// Sends the held reports if they are enough.
     fn send_if_enough(&mut self, report: &ReportSpec, out: &mut Vec<Message>)
         requires { vec_len out.old < vec_capacity out.old }
         ensures { Stands out.old.items (the_sending report.now (begun self.old))
@@ -79,7 +79,7 @@ impl Reader {
         }
     }
 
-    /// A tag is sighted.
+    /// Takes the sighting of a tag.
     #[tactic(auto, unfolding(crate::specs::ReaderMachine::see))]
     pub(crate) fn seen(
         &mut self,

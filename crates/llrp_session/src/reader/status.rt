@@ -20,7 +20,7 @@ pub(crate) const UNSUPPORTED_MESSAGE: u16 = 109;
 /// M_UnsupportedVersion.
 const UNSUPPORTED_VERSION: u16 = 110;
 
-/// The status that answers a frame, by the reason of its fault.
+/// The status that answers a faulty frame, by the reason of its fault.
 pub(crate) fn fault_status(reason: Reason) -> u16
     ensures { result ≡ the_fault_status reason }
 {

@@ -1,4 +1,4 @@
-//! The table of a reader: ROSpecs with their states, in rising order of their ids.
+//! The table of a reader: the ROSpecs and their states, ordered by id.
 
 ghost use Rattle.std.specs.Prelude.{◌≡◌, ◌<◌, ◌^◌, Option, None, Some, vec_len, vec_capacity};
 ghost use Rattle.std.specs.Option.{option_copied, option_map};
@@ -9,7 +9,7 @@ ghost use Rattle.llrp_session.specs.Table.{names as the_names, enabled as the_en
 use crate::reading::kept::RoSpec;
 use crate::words::RoState;
 
-/// A ROSpec with its state.
+/// A ROSpec and its state.
 #[derive(Drop)]
 pub(crate) struct Entry {
     pub spec: RoSpec,
@@ -19,22 +19,22 @@ pub(crate) struct Entry {
 /// A change of states.
 #[derive(Clone, Copy)]
 pub(crate) enum StateChange {
-    /// The ROSpecs that an id names become Inactive where they are Disabled.
+    /// Those ROSpecs that an id means and that are Disabled become Inactive.
     Enable(u32),
-    /// The ROSpecs that an id names become Disabled.
+    /// The ROSpecs that an id means become Disabled.
     Disable(u32),
-    /// The ROSpec of an id gets a state.
+    /// The ROSpec with this id gets a state.
     Set(u32, RoState),
 }
 
-/// 0 names every ROSpec.
+/// Whether `n` in a request means the ROSpec with this id: 0 means all.
 pub(crate) fn names(n: u32, id: u32) -> bool
     ensures { result ≡ the_names n id }
 {
     n == 0 || n == id
 }
 
-/// What enabling makes of a state.
+/// The state after enabling.
 fn enabled(state: RoState) -> RoState
     ensures { result ≡ the_enabled state }
 {
@@ -44,7 +44,7 @@ fn enabled(state: RoState) -> RoState
     }
 }
 
-/// What a change makes of the state of a ROSpec.
+/// The state of a ROSpec after a change.
 fn changed(change: StateChange, id: u32, state: RoState) -> RoState
     ensures { result ≡ changing change id state }
 {
@@ -59,7 +59,7 @@ fn changed(change: StateChange, id: u32, state: RoState) -> RoState
     }
 }
 
-/// Each state of a slice is changed.
+/// Makes a change to each state of a slice.
 fn change_each(table: &mut [Entry], change: StateChange)
     ensures { table.new ≡ the_change (changing change) table.old }
 {
@@ -68,7 +68,7 @@ fn change_each(table: &mut [Entry], change: StateChange)
     }
 }
 
-/// Each state is changed.
+/// Makes a change to each state of a table.
 pub(crate) fn change(table: &mut Vec<Entry>, change: StateChange)
     ensures { table.new.items ≡ the_change (changing change) table.old.items }
 {
@@ -88,7 +88,7 @@ pub(crate) fn state_of(table: &[Entry], id: u32) -> Option<RoState>
     None
 }
 
-/// Whether an id names all ROSpecs, perhaps none, or one of the table.
+/// Whether an id means one ROSpec of the table, or all (of which there may be none).
 pub(crate) fn is_known(table: &[Entry], n: u32) -> bool
     ensures { result ≡ the_is_known n table.now }
 {
@@ -108,7 +108,7 @@ pub(crate) fn active(table: &[Entry]) -> Option<&RoSpec>
     None
 }
 
-/// Whether a ROSpec is named, Disabled, and starts by itself.
+/// Whether a ROSpec is among those that `n` means, is Disabled, and starts by itself.
 fn is_immediate(entry: &Entry, n: u32) -> bool
     ensures { result ≡ the_is_immediate n entry.now }
 {
@@ -116,7 +116,7 @@ fn is_immediate(entry: &Entry, n: u32) -> bool
     names(n, settings.id) && entry.state == RoState::Disabled && settings.start_trigger == 1
 }
 
-/// The ROSpecID of the first ROSpec among those named that are Disabled and start by themselves.
+/// The id of the first ROSpec that `n` means, is Disabled and starts by itself.
 #[tactic(auto, unfolding(crate::specs::Table::first_immediate))]
 pub(crate) fn first_immediate(table: &[Entry], n: u32) -> Option<u32>
     ensures { result ≡ option_map (λ s. s.id) (the_first_immediate n table.now) }
@@ -129,7 +129,7 @@ pub(crate) fn first_immediate(table: &[Entry], n: u32) -> Option<u32>
     None
 }
 
-/// The lengths of all ROSpecs together, in octets.
+/// How many octets all ROSpecs have together.
 #[tactic(auto, unfolding(crate::specs::Table::octets_of))]
 pub(crate) fn octets_of(table: &[Entry]) -> u32
     requires { the_octets table.now < 2 ^ 32 }
@@ -142,14 +142,14 @@ pub(crate) fn octets_of(table: &[Entry]) -> u32
     octets
 }
 
-/// The ROSpecs that are named leave the table.
+/// Removes the ROSpecs that `n` means.
 pub(crate) fn remove(table: &mut Vec<Entry>, n: u32)
     ensures { table.new.items ≡ the_without n table.old.items }
 {
     table.retain(|entry| !names(n, entry.spec.settings().id));
 }
 
-/// The place of a new ROSpec: before the first of a greater id.
+/// Where a new ROSpec goes: before the first with a greater id.
 #[tactic(auto, unfolding(crate::specs::ReaderParts::place_of))]
 fn place_of(table: &[Entry], id: u32) -> usize
     ensures { result ≡ the_place id table.now }
@@ -164,7 +164,7 @@ fn place_of(table: &[Entry], id: u32) -> usize
     place
 }
 
-/// A new ROSpec is entered, Disabled. There is room for it.
+/// Adds a new ROSpec, Disabled; there is room for it.
 pub(crate) fn enter(table: &mut Vec<Entry>, spec: RoSpec)
     requires room { vec_len table.old < vec_capacity table.old }
     requires new { the_state_of spec.id table.old.items ≡ None }

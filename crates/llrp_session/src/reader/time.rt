@@ -18,14 +18,14 @@ use crate::words::Keepalive;
 use llrp_tree::Message;
 use std::alloc::AllocError;
 
-/// A moment this many milliseconds later; it stops at the greatest `u64`.
+/// The moment this many milliseconds later, at most the greatest `u64`.
 fn later(now: u64, ms: u32) -> u64
     ensures { result ≡ the_moment now ms }
 {
     now.saturating_add(1000 * ms as u64)
 }
 
-/// The next keepalive, after this one.
+/// The keepalive that is due next, after this moment.
 pub(crate) fn keepalive_from(now: u64, period: u32) -> Keepalive
     ensures { result ≡ the_keepalive now period }
 {
@@ -36,7 +36,7 @@ pub(crate) fn keepalive_from(now: u64, period: u32) -> Keepalive
 }
 
 impl Reader {
-    /// Whether the active ROSpec has run as long as its stop trigger says.
+    /// Whether the active ROSpec has run for as long as its stop trigger says.
     fn is_over(&self, now: u64, settings: &Settings) -> bool
         ensures { (s : TheRoSpec) → settings.now ≡ settings_of s
             → result ≡ the_test now self.now.started s }
@@ -44,7 +44,7 @@ impl Reader {
         settings.stop_trigger == 1 && later(self.started, settings.duration) <= now
     }
 
-    /// The active ROSpec, if it has run as long as its stop trigger says.
+    /// The active ROSpec, if it has run for as long as its stop trigger says.
     fn active_over(&self, now: u64) -> Option<&RoSpec>
         ensures { option_copied result ≡ chosen (the_test now self.now.started)
             (the_active self.now.table) }
@@ -55,7 +55,7 @@ impl Reader {
         }
     }
 
-    /// A keepalive is sent if one is due.
+    /// Sends a KEEPALIVE if one is due.
     fn keep_alive(&mut self, now: u64, out: &mut Vec<Message>)
         requires { vec_len out.old < vec_capacity out.old }
         ensures { (before : List MessageTree) (t : Turn) → Stands before t out.old.items self.old
@@ -70,7 +70,7 @@ impl Reader {
         }
     }
 
-    /// Time has passed.
+    /// Does what is due at this moment.
     #[tactic(auto, unfolding(crate::specs::ReaderMachine::tick))]
     pub(crate) fn tick(&mut self, now: u64, out: &mut Vec<Message>) -> Result<(), AllocError>
         requires { vec_len out.old + 3 ≤ vec_capacity out.old }

@@ -1,4 +1,4 @@
-//! Parameters that are looked for in a row, by their kind.
+//! Finds parameters among others by their kind.
 
 ghost use Rattle.std.specs.Prelude.{◌≡◌, ◌≤◌, Some, find as find_first};
 ghost use Rattle.llrp_session.specs.RoSpec.{is_kind as the_test, first_below as the_first_below, field as the_field};
@@ -28,7 +28,7 @@ pub fn first(kind: ParamKind, nodes: &Nodes) -> Option<&Node>
     None
 }
 
-/// The first child of a kind, below a parameter that may be absent.
+/// The first child of a kind below a parameter, which may be absent.
 pub(crate) fn first_below<'a>(kind: ParamKind, parent: Option<&'a Node>) -> Option<&'a Node>
     ensures first { behind result ≡ the_first_below kind (behind parent.entry) }
     ensures lawful { IsOfKind kind (behind result) }
@@ -39,14 +39,14 @@ pub(crate) fn first_below<'a>(kind: ParamKind, parent: Option<&'a Node>) -> Opti
     }
 }
 
-/// The plain field at a place; 0 where there is none.
+/// The field with this index, reserved ones not counted; 0 if there is none.
 pub(crate) fn field_at(node: &Node, i: usize) -> u128
     ensures { result ≡ the_field i (Some node.now) }
 {
     node.fields().get(i).copied().unwrap_or(0)
 }
 
-/// The plain field at a place of a parameter of a kind; 0 where it is absent.
+/// The same field of a parameter of a kind; 0 if the parameter is absent.
 pub fn field(kind: ParamKind, node: Option<&Node>, i: usize) -> u128
     requires { IsOfKind kind (behind node) }
     ensures value { result ≡ the_field i (behind node.entry) }

@@ -1,10 +1,10 @@
-//! A ROSpec that a reader keeps. Its file names no definition that speaks of a reader's table.
+//! A ROSpec that a reader keeps. This file names no definition about a reader's table.
 
 use super::words::Settings;
 use llrp_tree::Node;
 use std::marker::Model;
 
-/// A ROSpec, with what is read in it. Contracts see what the definitions read in it.
+/// A ROSpec, with the numbers that were read in it. Contracts see what the definitions read in it.
 #[derive(Drop)]
 pub(crate) struct RoSpec {
     pub(super) spec: Node,

@@ -12,7 +12,7 @@ use super::rospec::{report_spec, settings};
 use super::words::{Config, KeepaliveSpec, Request};
 use llrp_tree::{Message, MsgKind, Nodes, ParamKind};
 
-/// What the first KeepaliveSpec of a row says.
+/// The first KeepaliveSpec among some parameters.
 #[tactic(auto, unfolding(llrp_schema::specs::Schema::fields_of, llrp_schema::specs::Schema::rule_of, llrp_schema::specs::Schema::param_rule))]
 fn keepalive(nodes: &Nodes) -> Option<KeepaliveSpec>
     ensures { keepalive_by result ≡ reading.keepalive_where
@@ -26,7 +26,7 @@ fn keepalive(nodes: &Nodes) -> Option<KeepaliveSpec>
     })
 }
 
-/// What SET_READER_CONFIG says; its other parameters are passed over.
+/// Reads SET_READER_CONFIG; parameters that this reader does not use are ignored.
 fn config(message: &Message) -> Config
     requires { message.now.kind ≡ MsgKind.SetReaderConfig }
     ensures { config_by result ≡ reading.config_in message.now.fields message.now.children }
@@ -39,7 +39,7 @@ fn config(message: &Message) -> Config
     }
 }
 
-/// ADD_ROSPEC.
+/// Reads ADD_ROSPEC.
 fn addition(nodes: &Nodes) -> Request
     ensures { IsRequest result (reading.adding (find_first (is_kind ParamKind.RoSpec) nodes.now)) }
 {

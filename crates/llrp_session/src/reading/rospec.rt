@@ -19,7 +19,7 @@ use crate::words::{ContentSelector, ReportSpec, RoState};
 use llrp_tree::{Message, Node, Nodes, Octets, ParamKind};
 use std::alloc::{AllocError, Global};
 
-/// What a TagReportContentSelector selects.
+/// The parts that a TagReportContentSelector selects.
 fn selector(node: Option<&Node>) -> ContentSelector
     requires { IsOfKind ParamKind.TagReportContentSelector (behind node) }
     ensures { result ≡ spec.selector_in (behind node.entry) }
@@ -38,7 +38,7 @@ fn selector(node: Option<&Node>) -> ContentSelector
     }
 }
 
-/// What the first ROReportSpec of a row says.
+/// The first ROReportSpec among some parameters.
 #[tactic(auto, unfolding(crate::specs::RoSpec::report_spec_of, llrp_schema::specs::Schema::fields_of, llrp_schema::specs::Schema::rule_of, llrp_schema::specs::Schema::param_rule))]
 pub(crate) fn report_spec(nodes: &Nodes) -> Option<ReportSpec>
     ensures { result ≡ spec.report_spec_where (find_first
@@ -54,7 +54,7 @@ pub(crate) fn report_spec(nodes: &Nodes) -> Option<ReportSpec>
     })
 }
 
-/// An AISpec has a stop trigger other than 0.
+/// Whether an AISpec has a stop trigger other than 0.
 fn stops_by_itself(ai_spec: &Node) -> bool
     ensures { result ≡ spec.stops_by_itself ai_spec.now }
 {
@@ -62,7 +62,7 @@ fn stops_by_itself(ai_spec: &Node) -> bool
     field(kind, first(kind, ai_spec.children()), 0) != 0
 }
 
-/// One of the AISpecs of a row has a stop trigger other than 0.
+/// Whether one of the AISpecs among some parameters has a stop trigger other than 0.
 fn has_ai_stop(nodes: &Nodes) -> bool
     ensures { result ≡ list_any spec.stops_by_itself (filter
         (spec.is_kind ParamKind.AiSpec) nodes.now) }
@@ -75,7 +75,7 @@ fn has_ai_stop(nodes: &Nodes) -> bool
     false
 }
 
-/// What is read in a ROSpec, all but its antennas.
+/// Everything that is read in a ROSpec but its antennas.
 #[tactic(auto, unfolding(crate::specs::RoSpec::rospec_of, llrp_schema::specs::Schema::fields_of, llrp_schema::specs::Schema::rule_of, llrp_schema::specs::Schema::param_rule))]
 pub(crate) fn settings(node: &Node) -> Settings
     requires { node.now.kind ≡ ParamKind.RoSpec }
@@ -142,14 +142,14 @@ impl RoSpec {
         }
     }
 
-    /// What is read in it, all but its antennas.
+    /// Everything that is read in it but its antennas.
     pub(crate) fn settings(&self) -> &Settings
         ensures { result.now ≡ settings_of self.now }
     {
         &self.settings
     }
 
-    /// Whether its first AISpec lists an antenna, or 0.
+    /// Whether its first AISpec lists this antenna, or 0 for all.
     #[tactic(auto, unfolding(crate::specs::RoSpec::rospec_of))]
     pub(crate) fn lists_antenna(&self, antenna: u16) -> bool
         ensures { result ≡ the_test antenna self.now.antennas }
@@ -161,7 +161,7 @@ impl RoSpec {
     }
 }
 
-/// The CurrentState of a ROSpec.
+/// The number of CurrentState for a state.
 pub(crate) fn state_number(state: RoState) -> u128
     ensures number { result ≡ the_number state }
     ensures few { result ≤ 2 }
@@ -184,7 +184,7 @@ fn copies(alloc: Global, nodes: &Nodes) -> Result<Vec<Node>, AllocError>
     Ok(copies)
 }
 
-/// Whether the words of 16 bits in octets hold a number, or 0.
+/// Whether the 16-bit words in these octets have this antenna, or 0 for all.
 fn lists(octets: &[u8], antenna: u16) -> bool
     ensures { result ≡ the_test antenna (words_of octets.now) }
 {

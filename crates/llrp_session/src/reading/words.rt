@@ -2,32 +2,32 @@
 
 use crate::words::{Operation, ReportSpec};
 
-/// What is read in a ROSpec, all but its antennas (LLRP 1.1, section 11).
+/// Everything that is read in a ROSpec but its antennas (LLRP 1.1, section 11).
 #[derive(Clone, Copy)]
 pub(crate) struct Settings {
     pub id: u32,
-    /// 0 for Disabled.
+    /// 0 means Disabled.
     pub current_state: u8,
-    /// 0 for none, 1 for at once, 2 for periodic, 3 for a GPI.
+    /// 0: none; 1: at once; 2: periodic; 3: by a GPI.
     pub start_trigger: u8,
-    /// 0 for none, 1 for a duration, 2 for a GPI.
+    /// 0: none; 1: after a duration; 2: by a GPI.
     pub stop_trigger: u8,
-    /// Of the stop trigger, in milliseconds.
+    /// The duration of the stop trigger, in milliseconds.
     pub duration: u32,
-    /// An AISpec has a stop trigger other than 0.
+    /// Whether an AISpec has a stop trigger other than 0.
     pub has_ai_stop: bool,
     /// The InventoryParameterSpecID of the first AISpec's first InventoryParameterSpec.
     pub inventory: u16,
-    /// Its own ROReportSpec.
+    /// Its own ROReportSpec, if it has one.
     pub report: Option<ReportSpec>,
-    /// The ROSpec's length.
+    /// How many octets the ROSpec has.
     pub octets: u32,
 }
 
 /// A KeepaliveSpec (LLRP 1.1, section 13).
 #[derive(Clone, Copy)]
 pub(crate) struct KeepaliveSpec {
-    /// 0 for none, 1 for a period.
+    /// 0: none; 1: periodic.
     pub trigger: u8,
     /// In milliseconds.
     pub period: u32,
@@ -36,7 +36,7 @@ pub(crate) struct KeepaliveSpec {
 /// What is read in SET_READER_CONFIG.
 #[derive(Clone, Copy)]
 pub(crate) struct Config {
-    /// To the factory default first.
+    /// Whether the reader first goes back to the factory default.
     pub reset: bool,
     pub keepalive: Option<KeepaliveSpec>,
     pub report: Option<ReportSpec>,
@@ -45,7 +45,7 @@ pub(crate) struct Config {
 /// What a reader reads in a message.
 #[derive(Clone, Copy)]
 pub(crate) enum Request {
-    /// ADD_ROSPEC, with what is read in its ROSpec.
+    /// ADD_ROSPEC, with what was read in its ROSpec.
     AddRoSpec(Settings),
     DeleteRoSpec(u32),
     StartRoSpec(u32),
@@ -65,7 +65,7 @@ pub(crate) enum Request {
 /// What is read in a ROSpecEvent.
 #[derive(Clone, Copy)]
 pub(crate) struct RoSpecChange {
-    /// 0 for a start, 1 and 2 for an end.
+    /// 0: it started; 1 or 2: it ended.
     pub event: u8,
     pub id: u32,
 }
@@ -73,9 +73,9 @@ pub(crate) struct RoSpecChange {
 /// What is read in READER_EVENT_NOTIFICATION.
 #[derive(Clone, Copy)]
 pub(crate) struct Notification {
-    /// The status of a ConnectionAttemptEvent.
+    /// The status of a ConnectionAttemptEvent, if there is one.
     pub attempt: Option<u16>,
-    /// There is a ConnectionCloseEvent.
+    /// Whether there is a ConnectionCloseEvent.
     pub closes: bool,
     pub rospec: Option<RoSpecChange>,
 }
@@ -83,7 +83,8 @@ pub(crate) struct Notification {
 /// What a client reads in a message.
 #[derive(Clone, Copy)]
 pub(crate) enum Heard {
-    /// The response of an operation, with its status; the ROSpecs that it lists are among the message's children.
+    /// The response to an operation, with its status; ROSpecs that it lists are among the message's
+    /// children.
     Response(Operation, u16),
     /// ERROR_MESSAGE, with its status.
     Error(u16),

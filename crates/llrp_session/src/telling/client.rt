@@ -1,4 +1,4 @@
-//! The messages of a client. They have version 1, and carry the id that is given.
+//! The messages of a client. They have version 1 and the id that is given.
 
 ghost use Rattle.std.specs.Prelude.{◌≡◌, IfOk, IfErr, [], ◌∷◌};
 ghost use Rattle.llrp_tree.specs.Tree.{forest};
@@ -19,7 +19,7 @@ pub(crate) fn acknowledgement(alloc: Global, id: u32) -> Message
     message(1, id, MsgKind::KeepaliveAck, &[], Vec::new(alloc))
 }
 
-/// ADD_ROSPEC; the ROSpec is handed back where memory runs out.
+/// ADD_ROSPEC. The ROSpec is handed back if memory runs out.
 fn add(alloc: Global, id: u32, spec: Node) -> Result<Message, Command>
     requires { FitsMessage (Command.Add spec) }
     ensures ok { IfOk result (λ m. m ≡ client_message (record
@@ -36,7 +36,7 @@ fn add(alloc: Global, id: u32, spec: Node) -> Result<Message, Command>
     }
 }
 
-/// A message whose one field is a ROSpecID.
+/// A message whose only field is a ROSpecID.
 fn about(alloc: Global, id: u32, kind: MsgKind, rospec: u32) -> Message
     requires { IsLawfulMessage (record {
       version = 1;
@@ -66,7 +66,7 @@ fn keepalive_type(ms: u32) -> u128
     if ms == 0 { 0 } else { 1 }
 }
 
-/// SET_READER_CONFIG with a keepalive each `ms` milliseconds, or none for 0.
+/// SET_READER_CONFIG with a keepalive every `ms` milliseconds, or none if it is 0.
 fn set_keepalive(alloc: Global, id: u32, ms: u32) -> Result<Message, Command>
     ensures ok { IfOk result (λ m. m ≡ client_message (record
         { id = id; word = Asks (Command.SetKeepalive ms) })) }
@@ -80,7 +80,7 @@ fn set_keepalive(alloc: Global, id: u32, ms: u32) -> Result<Message, Command>
     }
 }
 
-/// The message of a command; the command is handed back where memory runs out.
+/// The message of a command. The command is handed back if memory runs out.
 pub(crate) fn command(alloc: Global, id: u32, command: Command) -> Result<Message, Command>
     requires { FitsMessage command }
     ensures ok { IfOk result (λ m. m ≡ client_message (record { id = id; word = Asks command })) }

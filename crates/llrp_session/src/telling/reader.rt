@@ -1,4 +1,5 @@
-//! The messages of a reader. Each carries the version and the id that are given; the only error is `Memory`.
+//! The messages of a reader. Each has the version and the id that are given; the only error is
+//! `Memory`.
 
 ghost use Rattle.std.specs.Prelude.{◌≡◌, ◌≤◌, ◌⊎◌, IfOk, OnOk, length, [], ◌∷◌, ◌++◌};
 ghost use Rattle.llrp_tree.specs.declared.TheConstants.{MAX_LIMIT};
@@ -16,7 +17,7 @@ use crate::words::Operation;
 use llrp_tree::{Message, MsgKind, Node, ParamKind};
 use std::alloc::{AllocError, Global};
 
-/// The kind of the response of an operation.
+/// The kind of the response to an operation.
 fn response_kind(operation: Operation) -> MsgKind
     ensures { result ≡ the_response_kind operation }
 {
@@ -33,7 +34,7 @@ fn response_kind(operation: Operation) -> MsgKind
     }
 }
 
-/// The response of an operation, with a status.
+/// The response to an operation, with a status.
 pub(crate) fn response(
     alloc: Global,
     version: u8,
@@ -50,7 +51,7 @@ pub(crate) fn response(
     Ok(message(version, id, response_kind(operation), &[], children))
 }
 
-/// GET_ROSPECS_RESPONSE with status 0, of the ROSpecs of a table.
+/// GET_ROSPECS_RESPONSE with status 0 and the ROSpecs of a table.
 pub(crate) fn table(
     alloc: Global,
     version: u8,
@@ -68,7 +69,7 @@ pub(crate) fn table(
     Ok(message(version, id, MsgKind::GetRoSpecsResponse, &[], children))
 }
 
-/// Appends the ROSpecs of a table, each as it was added, but with its present state.
+/// Appends the ROSpecs of a table, each as it was added but with its present state.
 fn append_rospecs(alloc: Global, entries: &[Entry], nodes: &mut Vec<Node>) -> Result<(), AllocError>
     ensures rospecs { OnOk result (nodes.new.items ≡ nodes.old.items ++ listing entries.now) }
     ensures told { OnOk result (AreToldOf entries.now) }
@@ -92,7 +93,7 @@ pub(crate) fn error(alloc: Global, version: u8, id: u32, status: u16) -> Result<
     Ok(message(version, id, MsgKind::ErrorMessage, &[], children))
 }
 
-/// RO_ACCESS_REPORT of these TagReportData. It takes no memory.
+/// RO_ACCESS_REPORT with these TagReportData. It takes no memory.
 pub(crate) fn report(version: u8, id: u32, tags: Vec<Node>) -> Message
     requires version { (version ≡ 1) ⊎ (version ≡ 2) }
     requires reports { AreReports tags.items }
@@ -151,7 +152,7 @@ fn notification(
     Ok(message(version, id, MsgKind::ReaderEventNotification, &[], children))
 }
 
-/// The connection is accepted.
+/// The event that the connection was accepted.
 pub(crate) fn accepted(alloc: Global, version: u8, id: u32, now: u64) -> Result<Message, AllocError>
     requires { (version ≡ 1) ⊎ (version ≡ 2) }
     ensures { IfOk result (λ m. m ≡ reader_message (record
@@ -161,7 +162,7 @@ pub(crate) fn accepted(alloc: Global, version: u8, id: u32, now: u64) -> Result<
     notification(alloc, version, id, now, event)
 }
 
-/// A ROSpec was started.
+/// The event that a ROSpec started.
 pub(crate) fn started(
     alloc: Global,
     version: u8,
@@ -177,7 +178,7 @@ pub(crate) fn started(
     notification(alloc, version, id, now, event)
 }
 
-/// A ROSpec was ended.
+/// The event that a ROSpec ended.
 pub(crate) fn ended(
     alloc: Global,
     version: u8,
@@ -193,7 +194,7 @@ pub(crate) fn ended(
     notification(alloc, version, id, now, event)
 }
 
-/// A sighting was dropped, where there was no room for it.
+/// The event that a sighting was dropped because there was no room for it.
 pub(crate) fn overflowed(
     alloc: Global,
     version: u8,

@@ -12,14 +12,14 @@ use crate::words::{ContentSelector, Sighting};
 use llrp_tree::{Node, ParamKind};
 use std::alloc::{AllocError, Global};
 
-/// The octet of a signed number, in two's complement.
+/// A signed number as an octet, in two's complement.
 fn signed_octet(number: i8) -> u8
     ensures { result ≡ the_octet number }
 {
     number.cast_unsigned()
 }
 
-/// Parts of a report.
+/// The parameters of a report.
 #[derive(Drop)]
 struct Parts {
     alloc: Global,
@@ -27,7 +27,7 @@ struct Parts {
 }
 
 impl Parts {
-    /// One more parameter of one value, if it is selected.
+    /// Adds a parameter with one value, if it is selected.
     fn push_if(&mut self, chosen: bool, kind: ParamKind, value: u128) -> Result<(), AllocError>
         requires { IsLawful (value_parameter kind value) }
         ensures { OnOk result (self.new.nodes.items ≡ self.old.nodes.items
@@ -39,7 +39,8 @@ impl Parts {
         Ok(())
     }
 
-    /// The parts of a report, where there are none yet: EPC-96, and then those that are selected, in the selector's order.
+    /// Adds the parameters of a report to none: EPC-96, and then those that are selected, in the
+    /// selector's order.
     fn push_all(
         &mut self,
         now: u64,
@@ -75,7 +76,7 @@ impl Parts {
     }
 }
 
-/// The parts of a report.
+/// The parameters of a report.
 fn report_parts(
     alloc: Global,
     now: u64,
@@ -103,7 +104,8 @@ fn known_to_fit(rospec: &RoSpec, sighting: &Sighting)
     let _antenna = sighting.antenna;
 }
 
-/// The TagReportData of what was sighted at a moment while a ROSpec was active; the only error is `Memory`.
+/// The TagReportData of a sighting at a moment while a ROSpec is active. The only error is
+/// `Memory`.
 pub(crate) fn tag_report(
     alloc: Global,
     now: u64,

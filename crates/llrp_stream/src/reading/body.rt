@@ -9,14 +9,14 @@ use crate::reading::reader::Reader;
 use arrayvec::ArrayVec;
 use llrp_tree::FrameErr;
 
-/// How far the body of a frame is read, and the octets of the part that is not whole.
+/// How far the body of a frame was read, and the octets of the part that is not whole yet.
 #[derive(Drop)]
 pub(crate) struct Body {
     pub reader: Reader,
     pub raw: ArrayVec<u8, 16>,
 }
 
-/// The octets, in place.
+/// Copies a few octets into an array.
 fn kept(octets: &[u8]) -> ArrayVec<u8, 16>
     requires { length octets.now ≤ 16 }
     ensures { result.items ≡ octets.now }
@@ -29,7 +29,7 @@ fn kept(octets: &[u8]) -> ArrayVec<u8, 16>
 }
 
 impl Body {
-    /// Nothing is begun.
+    /// A body of which nothing was read.
     pub(crate) fn new() -> Body
         ensures { result.raw.items ≡ [] }
     {
@@ -39,7 +39,7 @@ impl Body {
         }
     }
 
-    /// How many octets of the frame it was fed.
+    /// How many octets of the frame were fed.
     pub(crate) fn taken(&self) -> u32
         requires { self.now.reader.at ≤ MAX_LIMIT }
         ensures { result ≡ self.now.reader.at + length self.now.raw.items }
@@ -47,7 +47,7 @@ impl Body {
         self.reader.at + self.raw.len() as u32
     }
 
-    /// Keeps octets of a header.
+    /// Keeps these octets of a header.
     pub(crate) fn keep(&mut self, octets: &[u8])
         requires { length self.old.raw.items + length octets.now ≤ 16 }
         ensures raw { self.new.raw.items ≡ self.old.raw.items ++ octets.now }
@@ -56,7 +56,7 @@ impl Body {
         let _ = self.raw.try_extend_from_slice(octets);
     }
 
-    /// Takes one octet more, where a part is begun. Whether the message is whole.
+    /// Takes one octet of a part that has begun. Returns whether the message is whole.
     fn feed_octet<L: Listener>(&mut self, listener: &mut L, octet: u8) -> Result<bool, FrameErr>
         requires few { length self.old.raw.items < 16 }
         requires some { (was : List ℕ) × (front : List ℕ)
@@ -78,7 +78,8 @@ impl Body {
         Ok(false)
     }
 
-    /// Takes the octets of a piece, where no part is begun. Whether the message is whole.
+    /// Takes the octets of a piece that begins with a new part. Returns whether the message is
+    /// whole.
     fn feed_piece<L: Listener>(&mut self, listener: &mut L, piece: &[u8]) -> Result<bool, FrameErr>
         requires fresh { self.old.raw.items ≡ [] }
         requires some { (was : List ℕ) × (front : List ℕ)
@@ -99,7 +100,8 @@ impl Body {
         Ok(false)
     }
 
-    /// Takes the octets of a piece that goes no further than the frame. Whether the message is whole.
+    /// Takes the octets of a piece that goes no further than the frame. Returns whether the message
+    /// is whole.
     pub(crate) fn feed<L: Listener>(
         &mut self,
         listener: &mut L,

@@ -47,15 +47,15 @@ impl Builder {
         }
     }
 
-    /// What its open nodes weigh: two for each, the octets of their tails, and the weight of their whole
-    /// children.
+    /// What its open nodes weigh: two for each node, the octets of their tails, and the weight of
+    /// their closed children.
     pub(crate) fn weight(&self) -> u32
         ensures { result ≡ min (nodes_weight self.now.nodes) (2 ^ 32 - 1) }
     {
         self.nodes.weight()
     }
 
-    /// Hands over the message that is whole.
+    /// Takes the message that is whole, if there is one.
     pub(crate) fn take(&mut self) -> Option<Message>
         ensures value { result ≡ self.old.done }
         ensures after { self.new ≡ record self.old { done = None } }
@@ -63,7 +63,7 @@ impl Builder {
         self.done.take()
     }
 
-    /// Forgets all that it received.
+    /// Forgets everything that it received.
     pub(crate) fn clear(&mut self)
         ensures nodes { self.new.nodes ≡ [] }
         ensures done { self.new.done ≡ None }

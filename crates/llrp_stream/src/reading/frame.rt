@@ -1,4 +1,4 @@
-//! A frame whose header is whole, and its end.
+//! The beginning of a frame whose header is whole, and its end.
 
 ghost use Rattle.std.specs.Prelude.{◌≡◌, ◌≤◌, ℕ, List, [], length, OnOk};
 ghost use Rattle.llrp_tree.specs.declared.TheConstants.{MAX_LIMIT};
@@ -42,7 +42,7 @@ pub(crate) fn start<L: Listener>(
     Ok(())
 }
 
-/// Ends a message of which all is read.
+/// Ends a message that was read completely.
 pub(crate) fn finish<L: Listener>(reader: &Reader, listener: &mut L) -> Result<(), AllocError>
     requires { (was front : List ℕ) × (limit : ℕ)
         × IsComplete (L.stands listener.old was) reader.now front × AreOctets front

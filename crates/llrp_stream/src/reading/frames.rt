@@ -1,4 +1,4 @@
-//! The frames of a stream, one after another, whichever listener receives their parts.
+//! Reads the frames of a stream, one after another, for any listener.
 
 ghost use Rattle.std.specs.Prelude.{◌≡◌, ◌+◌, ◌^◌, ◌<◌, ◌≤◌, ◌++◌, ◌⊎◌, ℕ, List, [], None, Some, Err, IfErr, IfOk, IsSome, OnOk, false, length};
 ghost use Rattle.llrp_tree.specs.declared.TheConstants.{MAX_LIMIT};
@@ -24,26 +24,26 @@ use crate::reading::listener::Listener;
 use crate::state::State;
 use llrp_tree::{Fault, FrameErr, Header};
 
-/// What became of a frame.
+/// What a frame turned out to be.
 #[derive(Clone, Copy)]
 pub enum Outcome {
-    /// It has no fault, and the listener received its message.
+    /// A message, all of which the listener received.
     Whole,
-    /// It has the message's id and this first fault, and the listener has what it had before.
+    /// Faulty: its id and its first fault. The listener has what it had before the frame.
     Bad { id: u32, fault: Fault },
 }
 
-/// What a feed took.
+/// What a call of `feed` took and found.
 #[derive(Clone, Copy)]
 pub struct Came {
     /// How many bytes of the piece it took.
     pub used: usize,
-    /// What became of the frame that ends with them; none where no frame ends.
+    /// What the frame that ends with them turned out to be; `None` if no frame ends there.
     pub outcome: Option<Outcome>,
 }
 
 /// Reads a stream of LLRP frames piece by piece (LLRP 1.1, section 17), and gives a listener the
-/// parts of each message. Of the frame that is not whole it keeps at most 16 bytes.
+/// parts of each message. Of an unfinished frame it keeps at most 16 bytes.
 #[derive(Drop)]
 pub struct Frames {
     pub(crate) limit: u32,
@@ -51,7 +51,7 @@ pub struct Frames {
     pub(crate) body: Body,
 }
 
-/// The same, where this many octets of the piece were taken before.
+/// The same, with these octets of the piece added that were taken before.
 fn after(came: Came, taken: usize) -> Came
     requires { came.used + taken < 2 ^ 64 }
     ensures { result ≡ record { used = came.used + taken; outcome = came.outcome } }
@@ -62,7 +62,7 @@ fn after(came: Came, taken: usize) -> Came
     }
 }
 
-/// The state where these octets of a header came.
+/// The state after these octets of a header.
 fn before_body(octets: &[u8]) -> State
     ensures none { octets.now ≡ [] → result ≡ State.Between }
     ensures some { 0 < length octets.now → result ≡ State.Header }
@@ -126,7 +126,7 @@ impl Frames {
         }
     }
 
-    /// Gives up a frame with a fault, of which `count` octets were taken, and skips the rest of it.
+    /// Gives up a faulty frame of which `count` octets were taken, and skips the rest of it.
     fn give_up<L: Listener>(
         &mut self,
         listener: &mut L,
@@ -152,7 +152,7 @@ impl Frames {
         self.skip(count, header, piece)
     }
 
-    /// Goes on in a frame whose header passes its checks.
+    /// Goes on with a frame whose header passed its checks.
     fn go_on<L: Listener>(
         &mut self,
         listener: &mut L,
@@ -222,7 +222,7 @@ impl Frames {
         })
     }
 
-    /// Begins the body of a frame whose header is whole and passes its checks.
+    /// Begins the body of a frame whose header passed its checks.
     fn open<L: Listener>(
         &mut self,
         listener: &mut L,
@@ -282,7 +282,7 @@ impl Frames {
         }
     }
 
-    /// What a feed does, for each state.
+    /// Takes the octets of a piece, whatever the state is.
     fn advance<L: Listener>(&mut self, listener: &mut L, piece: &[u8]) -> Result<Came, FeedErr>
         requires least { 10 ≤ self.old.limit }
         requires most { self.old.limit ≤ MAX_LIMIT }
@@ -307,7 +307,7 @@ impl Frames {
         }
     }
 
-    /// Keeps nothing after an error.
+    /// Drops what is kept, after an error.
     fn stop(&mut self, error: FeedErr)
         ensures limit { self.new.limit ≡ self.old.limit }
         ensures raw { self.new.body.raw.items ≡ [] }
@@ -322,14 +322,14 @@ impl Frames {
         };
     }
 
-    /// Takes the bytes of a piece up to the end of the next frame, and returns what became of that frame;
-    /// without an outcome it took the whole piece. `Broken` comes with the sixth byte of a frame whose
-    /// length field is below 10, and from each later call; `Memory` where the listener was refused
-    /// memory, and `Dead` from each later call.
+    /// Takes the bytes of a piece up to the end of the next frame, and returns what that frame
+    /// turned out to be; if there is no outcome, it took the whole piece. The error is `Broken` at
+    /// the sixth byte of a frame whose length field is below 10, and from then on; it is `Memory`
+    /// if the listener ran out of memory, and `Dead` from then on.
     pub fn feed<L: Listener>(&mut self, listener: &mut L, piece: &[u8]) -> Result<Came, FeedErr>
         requires least { 10 ≤ limit_of self.old }
         requires most { limit_of self.old ≤ MAX_LIMIT }
-        // A front of a frame came, and the listener stands for what is read of it.
+        // The first octets of a frame came, and the listener has what was read of it.
         requires comes { Comes (L.begins listener.old) (L.stands listener.old) self.old }
         ensures limit { limit_of self.new ≡ limit_of self.old }
         ensures within { IfOk result (λ came. came.used ≤ length piece.now) }
@@ -350,8 +350,7 @@ impl Frames {
             }
         }
     }
-    /// How the stream ends if nothing follows what was fed; the rest is counted from the last frame's
-    /// end.
+    /// How the stream ends if no more bytes follow; `Rest` counts those after the last whole frame.
     pub fn finish(&self) -> End
         ensures stands { (front : List ℕ) → IsFrontOf self.now front → Ends front result }
         ensures broken { IsBroken self.now → result ≡ at_end.Broken }

@@ -1,4 +1,4 @@
-//! A node that is begun, as the engine keeps it.
+//! An open node, as the engine keeps it.
 
 ghost use Rattle.std.specs.Prelude.{◌≡◌, ◌+◌, ◌*◌, ◌<◌, ◌≤◌, ◌⊎◌, Bool, List, ◌++◌, MatchResult, true, false};
 ghost use Rattle.std.specs.Int.{bit_at};
@@ -18,19 +18,18 @@ use crate::reading::reader::bad;
 use llrp_schema::{Kind, MsgKind, ParamKind, Place, param_of_tlv, param_of_tv, place, required};
 use llrp_tree::{FrameErr, MAX_DEPTH, Reason};
 
-/// A node that is begun.
+/// An open node: a message or parameter that has begun.
 #[derive(Clone, Copy)]
 pub struct Level {
     pub kind: Kind,
     /// The octet of the frame at which it stops.
     pub stop: u32,
-    /// The groups of which a child has begun: bit k, from the lowest on, stands for the group with
-    /// index k.
+    /// The groups that have a child: bit k, from the lowest on, is set for the group with index k.
     pub seen: u32,
 }
 
 impl Default for Level {
-    /// Fills the places of a stack that no node has; nothing reads it.
+    /// Fills the unused places of a stack; it is never read.
     fn default() -> Level
         ensures { result ≡ record { kind = Message Keepalive; stop = 0; seen = 0 } }
     {
@@ -46,14 +45,14 @@ impl Default for Level {
 #[derive(Clone, Copy)]
 pub struct Placed {
     pub kind: ParamKind,
-    /// The groups of which its parent has children once it has begun, as in a `Level`.
+    /// The groups of its parent that have a child once it has begun, as in a `Level`.
     pub seen: u32,
 }
 
-/// What is read of a child's head.
+/// What was read of a child's head.
 #[derive(Clone, Copy)]
 pub enum Child {
-    /// It is not whole in the octets.
+    /// It is not whole yet.
     Unfinished,
     /// A parameter with type and value.
     Short(Placed),
@@ -61,7 +60,7 @@ pub enum Child {
     Long(Placed, usize),
 }
 
-/// A node that begins.
+/// A node that begins here.
 #[inline]
 pub(crate) fn begun(kind: Kind, stop: u32) -> Level
     ensures kind { result.kind ≡ kind }
@@ -75,7 +74,7 @@ pub(crate) fn begun(kind: Kind, stop: u32) -> Level
     }
 }
 
-/// Whether a group that takes one child at most has one.
+/// Whether a group that takes at most one child has one.
 #[inline]
 fn is_full(place: Place, seen: u32) -> bool
     requires { place.index < 32 }
@@ -88,8 +87,8 @@ fn is_full(place: Place, seen: u32) -> bool
     false
 }
 
-/// The kind of a child at a bit, this many levels below the message, whose type is at another bit;
-/// or the first check that it fails.
+/// Checks a child at bit `at`, this many levels below the message, whose type is at bit `type_at`.
+/// Returns its kind, or the first check that it fails.
 #[inline(always)]
 pub(crate) fn child_kind(
     found: Option<ParamKind>,
@@ -122,7 +121,7 @@ pub(crate) fn child_kind(
     })
 }
 
-/// Whether no group has fewer children than its least.
+/// Whether each group has as many children as it needs.
 #[inline]
 pub(crate) fn is_enough(parent: Kind, seen: u32) -> bool
     ensures { (children : Forest) → AreSeen (groups_of parent) children seen
@@ -132,7 +131,7 @@ pub(crate) fn is_enough(parent: Kind, seen: u32) -> bool
     seen & required == required
 }
 
-/// The head of a child at an octet of a node, this many levels below the message.
+/// Reads the head of a child at an octet of a node, this many levels below the message.
 #[inline(always)]
 pub(crate) fn child_head(
     octets: &[u8],

@@ -1,4 +1,4 @@
-//! Who receives the parts of a message.
+//! Listeners, which receive the parts of messages.
 
 ghost use Rattle.std.specs.Prelude.{◌≡◌, ◌+◌, ◌*◌, ◌^◌, ◌<◌, ◌≤◌, ◌⊎◌, ℕ, List, [], ◌∷◌, Option, None, OnOk, true, length};
 ghost use Rattle.llrp_schema.specs.Schema.{bits_of, field_rule, fields_of, is_tv};
@@ -15,15 +15,15 @@ use std::alloc::AllocError;
 
 /// Receives the parts of a message, in the order in which they are read.
 pub trait Listener {
-    /// With this of earlier messages, it received this open tree, and awaits more fields or octets
-    /// of a tail of the innermost node.
+    /// Holding this of earlier messages, it received this open tree, and awaits more fields or more
+    /// octets of the innermost node's tail.
     ghost begins: { Self → List ℕ → List Begun → Type 0 };
 
-    /// The same, where the innermost node has its fields and its tail; with no open tree it awaits a
-    /// message.
+    /// The same, where the innermost node has all its fields and its tail; without an open tree it
+    /// awaits a message.
     ghost stands: { Self → List ℕ → List Begun → Type 0 };
 
-    /// With this of earlier messages it received this message, and now it has that.
+    /// Holding this of earlier messages, it received this message, and now it holds that.
     ghost ends: { Self → List ℕ → MessageTree → List ℕ → Type 0 };
 
     /// A message begins.
@@ -96,7 +96,7 @@ pub trait Listener {
             → IsMessageOf b.head b.fields b.children m → (now : List ℕ) × stands self.new now []
             × ends self.new was m now) };
 
-    /// What it received of an unfinished message is to be forgotten.
+    /// Forgets what was received of an unfinished message.
     fn give_up(&mut self)
         ensures { (was : List ℕ) (t : List Begun) → (begins self.old was t)
             ⊎ (stands self.old was t) → stands self.new was [] };

@@ -1,4 +1,4 @@
-//! Numbers in octets, whatever follows them.
+//! Reads numbers from octets, whatever follows them.
 
 ghost use Rattle.std.specs.Prelude.{◌≡◌, ◌+◌, ◌*◌, ◌^◌, ◌<◌, ◌≤◌, Bool, List, ◌++◌, length};
 ghost use Rattle.tag_bits.specs.Digits.{digits_of_bytes};
@@ -85,7 +85,8 @@ pub(crate) fn from_bit(octets: &[u8], bit: usize, width: u32) -> u128
     ahead(octets, bit, width)
 }
 
-/// The number of this many bits from an octet on; the widths of the tables are read where they lie.
+/// The number of this many bits from an octet on. The widths of the tables are read by one load
+/// each.
 #[inline(always)]
 pub(crate) fn from_octet(octets: &[u8], at: u32, width: u32) -> u128
     requires some { 1 ≤ width }

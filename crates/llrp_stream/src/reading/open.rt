@@ -1,4 +1,4 @@
-//! The nodes of a message that are begun and not whole.
+//! The open nodes of a message.
 
 ghost use Rattle.std.specs.Prelude.{◌≡◌, ◌+◌, ◌-◌, ◌^◌, ◌<◌, ◌≤◌, ◌++◌, [], ◌∷◌, List, OnOk, OnErr, length, min, true};
 ghost use Rattle.llrp_schema.specs.declared.kinds.ParamKind.{ParamKind};
@@ -21,7 +21,7 @@ use std::marker::Model;
 /// The greatest number of nodes around the innermost one.
 pub(crate) const LEVELS: usize = MAX_DEPTH as usize;
 
-/// The parameter of a type and a value.
+/// The parameter with this type and value.
 fn parameter_of(alloc: Global, kind: ParamKind, value: u128) -> Node
     requires short { is_tv kind ≡ true }
     requires fits { value < 2 ^ bits_of (fields_of (of_kind.Parameter kind)) }
@@ -32,7 +32,7 @@ fn parameter_of(alloc: Global, kind: ParamKind, value: u128) -> Node
     Node::of_lawful(kind, &[value], tail, children)
 }
 
-/// A node that is begun, with the parts that are read so far; reserved fields are not kept.
+/// An open node with the parts that were read so far; reserved fields are not kept.
 #[derive(Drop)]
 pub(crate) struct OpenNode {
     kind: Kind,
@@ -66,7 +66,7 @@ impl MadeWith<Global> for OpenNode {
 }
 
 impl OpenNode {
-    /// A node of which nothing is read but its head.
+    /// A node of which only the head was read.
     fn new(alloc: Global, kind: Kind) -> OpenNode
         ensures { result ≡ fresh kind }
     {
@@ -78,7 +78,7 @@ impl OpenNode {
         }
     }
 
-    /// One plain value more.
+    /// Adds the value of a field that is not reserved.
     fn push_value(&mut self, value: u128)
         requires { length self.old.fields < 12 }
         ensures { self.new ≡ record self.old { fields = self.old.fields ++ value ∷ [] } }
@@ -86,7 +86,7 @@ impl OpenNode {
         self.fields.push(value);
     }
 
-    /// Some octets more of the tail.
+    /// Adds octets to the tail.
     fn push_octets(&mut self, octets: &[u8]) -> Result<(), AllocError>
         ensures ok { OnOk result
             (self.new ≡ record self.old { tail = self.old.tail ++ octets.now }) }
@@ -95,7 +95,7 @@ impl OpenNode {
         self.tail.extend_from_slice(octets)
     }
 
-    /// One child more.
+    /// Adds a child.
     fn push_child(&mut self, child: Node) -> Result<(), AllocError>
         ensures ok { OnOk result
             (self.new ≡ record self.old { children = add self.old.children child }) }
@@ -105,7 +105,7 @@ impl OpenNode {
         Ok(())
     }
 
-    /// The parameter that the parts make.
+    /// Makes a parameter of the parts.
     fn into_parameter(self) -> Node
         requires { (kind : ParamKind) × (self.kind ≡ of_kind.Parameter kind)
             × AreLawful kind self.fields self.tail self.children }
@@ -125,7 +125,7 @@ impl OpenNode {
         Node::of_lawful(kind, self.fields.as_slice(), tail, children)
     }
 
-    /// The message that the parts make, with a version and an identifier.
+    /// Makes a message of the parts, with a version and an id.
     fn into_message(self, version: u8, id: u32) -> Message
         requires { (kind : MsgKind) × (self.kind ≡ of_kind.Message kind)
             × IsLawfulMessage (message_of version id kind self) }
@@ -140,13 +140,13 @@ impl OpenNode {
     }
 }
 
-/// The chain of nodes that are begun, from the message to the innermost one, and what they weigh.
+/// The chain of open nodes, from the message to the innermost one, and what they weigh.
 #[derive(Drop)]
 pub(crate) struct OpenNodes {
     top: Option<OpenNode>,
     /// The nodes around the innermost one, the message first.
     outer: ArrayVec<OpenNode, LEVELS, Global>,
-    /// What they weigh, at most `u32::MAX`.
+    /// What they weigh, up to `u32::MAX`.
     weight: u32,
 }
 
@@ -168,7 +168,7 @@ impl Model for OpenNodes {
 }
 
 impl OpenNodes {
-    /// No node; it takes no memory.
+    /// No open node; it takes no memory.
     pub(crate) fn new(alloc: Global) -> OpenNodes
         ensures { result ≡ [] }
     {
@@ -179,7 +179,8 @@ impl OpenNodes {
         }
     }
 
-    /// What they weigh: two for each, the octets of their tails, and the weight of their children.
+    /// What they weigh: two for each node, the octets of their tails, and the weight of their
+    /// children.
     pub(crate) fn weight(&self) -> u32
         ensures { result ≡ min (nodes_weight self.now) (2 ^ 32 - 1) }
     {
@@ -197,7 +198,7 @@ impl OpenNodes {
         self.weight = self.weight.saturating_add(2);
     }
 
-    /// One plain value more in the innermost node.
+    /// Adds the value of a field that is not reserved to the innermost node.
     pub(crate) fn push_value(&mut self, value: u128)
         requires { HasRoom self.old }
         ensures { self.new ≡ with_value value self.old }
@@ -207,7 +208,7 @@ impl OpenNodes {
         }
     }
 
-    /// Some octets more of the innermost node's tail.
+    /// Adds octets to the tail of the innermost node.
     pub(crate) fn push_octets(&mut self, octets: &[u8]) -> Result<(), AllocError>
         ensures ok { OnOk result (self.new ≡ with_tail octets.now self.old) }
         ensures err { OnErr result (self.new ≡ self.old) }
@@ -220,7 +221,7 @@ impl OpenNodes {
         Ok(())
     }
 
-    /// A parameter of a type and a value more in the innermost node.
+    /// Adds a parameter of type and value to the innermost node.
     pub(crate) fn push_parameter(
         &mut self,
         alloc: Global,
@@ -267,7 +268,7 @@ impl OpenNodes {
         }
     }
 
-    /// The message of the one node; no node is left.
+    /// Makes a message of the only node, and leaves no node.
     pub(crate) fn finish(&mut self, version: u8, id: u32) -> Message
         requires { IsWholeMessage version id self.old }
         ensures value { (node : OpenParts) (kind : MsgKind) → self.old ≡ node ∷ []

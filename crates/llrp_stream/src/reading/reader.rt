@@ -1,4 +1,4 @@
-//! The engine.
+//! The engine: reads the body of a frame, one part a step.
 
 ghost use Rattle.std.specs.Prelude.{◌≡◌, ◌+◌, ◌*◌, ◌^◌, ◌<◌, ◌≤◌, ◌⊎◌, ℕ, Bool, List, [], ◌∷◌, ◌++◌, OnOk, MatchResult, length, drop, true, false, Ok, Some};
 ghost use Rattle.tag_bits.specs.Digits.{digits_of_bytes};
@@ -29,7 +29,7 @@ use llrp_tree::{Fault, FrameErr, Reason};
 /// What comes next in the innermost node.
 #[derive(Clone, Copy)]
 pub enum Stage {
-    /// The field at a place of its kind's, or its tail, or what comes after both.
+    /// The field with this index, or the tail, or what comes after both.
     Leading(u32),
     /// Octets of its tail, of which this many are left.
     Tail(u32),
@@ -40,7 +40,7 @@ pub enum Stage {
 /// What a step did.
 #[derive(Clone, Copy)]
 pub enum Step {
-    /// The next part is not whole in the octets.
+    /// None: the next part is not whole in the octets.
     Waits,
     /// It took this many octets.
     Goes(usize),
@@ -48,7 +48,7 @@ pub enum Step {
     Ends,
 }
 
-/// How far octets were read.
+/// How far the octets were read.
 #[derive(Clone, Copy)]
 pub struct Read {
     pub used: usize,
@@ -56,7 +56,7 @@ pub struct Read {
     pub whole: bool,
 }
 
-/// How far a frame is read.
+/// How far a frame was read.
 #[derive(Drop)]
 pub struct Reader {
     /// The octets of the frame.
@@ -64,7 +64,7 @@ pub struct Reader {
     /// The octet at which the next part begins, and the bit in it.
     pub at: u32,
     pub bit: u32,
-    /// The first plain field of the innermost node, once it is read.
+    /// The first field of the innermost node that is not reserved, once it was read.
     pub first: u128,
     pub stage: Stage,
     pub top: Level,
@@ -81,7 +81,7 @@ pub(crate) fn bad(bit: usize, reason: Reason) -> FrameErr
     })
 }
 
-/// The value of a field that begins at a bit of the octets, and at a bit of the frame.
+/// Reads the field at a bit of the octets, which is at another bit of the frame.
 fn field_value(
     octets: &[u8],
     bit: usize,
@@ -110,7 +110,7 @@ fn field_value(
     Ok(value)
 }
 
-/// The first field, where one more is read.
+/// The first field, now that one more was read.
 fn first_of(next: u32, value: u128, known: u128) -> u128
     ensures { (values : List ℕ) → length values ≡ next → known ≡ first values
         → result ≡ first (values ++ value ∷ []) }
@@ -118,7 +118,7 @@ fn first_of(next: u32, value: u128, known: u128) -> u128
     if next == 0 { value } else { known }
 }
 
-/// Whether a node of the kind ends after its field.
+/// Whether a node of this kind ends after its field.
 fn is_tv_kind(kind: Kind) -> bool
     ensures { result ≡ is_tv_kind kind }
 {
@@ -129,7 +129,7 @@ fn is_tv_kind(kind: Kind) -> bool
 }
 
 impl Reader {
-    /// Nothing is begun.
+    /// A reader that has read nothing.
     pub(crate) fn new() -> Reader {
         Reader {
             octets: 0,
@@ -190,7 +190,7 @@ impl Reader {
         Ok(Step::Goes(end / 8))
     }
 
-    /// Reads what comes next among the fields and the tail of the innermost node.
+    /// Reads the next field or the tail of the innermost node.
     fn leading<L: Listener>(
         &mut self,
         listener: &mut L,
@@ -224,7 +224,7 @@ impl Reader {
         self.begin_tail(listener, octets, form)
     }
 
-    /// Closes the innermost node, which is over.
+    /// Closes the innermost node, whose octets end here.
     fn close<L: Listener>(&mut self, listener: &mut L) -> Result<Step, FrameErr>
         requires stage { self.old.stage ≡ Stage.Children }
         requires stop { self.old.top.stop ≤ MAX_LIMIT }
@@ -250,7 +250,7 @@ impl Reader {
         Ok(Step::Goes(0))
     }
 
-    /// Begins a child whose head has this many octets, and which stops at an octet.
+    /// Enters a child whose head has this many octets, and which stops at this octet.
     fn enter<L: Listener>(
         &mut self,
         listener: &mut L,
@@ -316,7 +316,7 @@ impl Reader {
         }
     }
 
-    /// Closes the innermost node if it is over, and else begins a child of it.
+    /// Closes the innermost node if its octets end here, and begins a child of it otherwise.
     fn child_or_end<L: Listener>(
         &mut self,
         listener: &mut L,
@@ -344,7 +344,7 @@ impl Reader {
         self.begin(listener, octets)
     }
 
-    /// One step.
+    /// Reads one part, or a row of parameters of type and value.
     pub fn step<L: Listener>(&mut self, listener: &mut L, octets: &[u8]) -> Result<Step, FrameErr>
         requires { (was : List ℕ) × (front : List ℕ)
             × Are (L.begins listener.old was) (L.stands listener.old was) self.old front

@@ -1,4 +1,4 @@
-//! The tail of a node, which comes in pieces.
+//! Reads the tail of a node, which comes in pieces.
 
 ghost use Rattle.std.specs.Prelude.{◌≡◌, ◌≢◌, ◌+◌, ◌*◌, ◌<◌, ◌≤◌, ℕ, Bool, List, [], ◌∷◌, ◌++◌, not, length, drop, take, true, false};
 ghost use Rattle.tag_bits.specs.Digits.{digits_of_bytes};
@@ -17,7 +17,7 @@ use crate::reading::reader::{Reader, Stage, Step, bad};
 use llrp_schema::Tail;
 use llrp_tree::{FrameErr, Reason};
 
-/// How many octets there are in a tail and in the count before it.
+/// How many octets a tail has, and the count before it.
 #[derive(Clone, Copy)]
 pub(crate) struct TailSize {
     pub count: u32,
@@ -34,7 +34,7 @@ pub(crate) fn is_absent(form: Tail) -> bool
     }
 }
 
-/// The count of a tail of words; none where it is not whole in the octets.
+/// Reads the count of a tail of words; `None` if it is not whole in the octets.
 fn words_counted(octets: &[u8], at: usize, stop: usize) -> Result<Option<TailSize>, FrameErr>
     requires before { at ≤ stop }
     requires small { stop ≤ MAX_LIMIT }
@@ -58,7 +58,7 @@ fn words_counted(octets: &[u8], at: usize, stop: usize) -> Result<Option<TailSiz
     }))
 }
 
-/// The count of a tail of text; none where it is not whole in the octets.
+/// Reads the count of a tail of text; `None` if it is not whole in the octets.
 fn text_counted(octets: &[u8], at: usize, stop: usize) -> Result<Option<TailSize>, FrameErr>
     requires before { at ≤ stop }
     requires small { stop ≤ MAX_LIMIT }
@@ -82,7 +82,7 @@ fn text_counted(octets: &[u8], at: usize, stop: usize) -> Result<Option<TailSize
     }))
 }
 
-/// The octets of a tail of bits, which the first field of the node counts.
+/// The octets of a tail of bits, whose count is the first field of the node.
 fn bits_counted(known: u128, at: usize, stop: usize) -> Result<Option<TailSize>, FrameErr>
     requires after { 2 ≤ at }
     requires before { at ≤ stop }
@@ -100,8 +100,8 @@ fn bits_counted(known: u128, at: usize, stop: usize) -> Result<Option<TailSize>,
     }))
 }
 
-/// How many octets of a tail there are, by its count or by the first field of the node; none where the
-/// count is not whole in the octets.
+/// How many octets a tail has, by its count or by the first field of the node; `None` if the count
+/// is not whole in the octets.
 fn counted(
     octets: &[u8],
     at: usize,
@@ -125,7 +125,7 @@ fn counted(
     }
 }
 
-/// How many of the first octets are whole words, or whole characters.
+/// How many of the first octets are whole words or whole characters.
 fn whole_front(form: Tail, octets: &[u8]) -> usize
     requires has { has_tail form ≡ true }
     ensures { HasWhole form octets.now result }
@@ -140,8 +140,8 @@ fn whole_front(form: Tail, octets: &[u8]) -> usize
     }
 }
 
-/// Whether octets in which no character is whole do not begin one: there are no more octets of the
-/// text, or as many as a character has at most.
+/// Whether these octets, which hold no whole character, cannot begin one: the text has no more
+/// octets, or they are as many as the longest character has.
 fn is_faulty(form: Tail, octets: &[u8], left: u32) -> bool
     ensures text { result ≡ true → form ≡ Text }
     ensures many { result ≡ true → length octets.now < 4 → length octets.now ≡ left }
@@ -204,7 +204,7 @@ impl Reader {
         Ok(Step::Goes(0))
     }
 
-    /// Reads octets of a tail, of which this many are left.
+    /// Reads octets of a tail that has this many left.
     fn more_tail<L: Listener>(
         &mut self,
         listener: &mut L,

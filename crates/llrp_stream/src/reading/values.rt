@@ -1,4 +1,4 @@
-//! Parameters of type and value, each read as one part.
+//! Reads parameters of type and value, each as one part.
 
 ghost use Rattle.std.specs.Prelude.{◌≡◌, ◌+◌, ◌/◌, ◌≤◌, ℕ, List, OnOk, IfErr, IfOk, IfSome, MatchResult, drop, true, false, Ok};
 ghost use Rattle.llrp_schema.specs.declared.kinds.Kind.TheVariants.{Parameter};
@@ -17,7 +17,7 @@ use crate::reading::reader::Reader;
 use llrp_schema::{Kind, ParamKind, param_of_tv};
 use llrp_tree::FrameErr;
 
-/// The octets of the value of a parameter of type and value.
+/// How many octets the value of a parameter of type and value has.
 #[inline]
 fn value_octets(kind: ParamKind) -> usize
     requires { is_tv kind ≡ true }
@@ -27,8 +27,7 @@ fn value_octets(kind: ParamKind) -> usize
 }
 
 impl Reader {
-    /// The parameter of type and value that comes next, if it may be there and is whole in the
-    /// octets.
+    /// The next parameter of type and value, if it is allowed here and is whole in the octets.
     #[inline(always)]
     fn next_value(&self, octets: &[u8]) -> Option<Placed>
         requires { (children : Forest)
@@ -54,7 +53,8 @@ impl Reader {
         Some(placed)
     }
 
-    /// Reads a parameter of type and value that is whole in the octets, and returns how many it has.
+    /// Reads a parameter of type and value that is whole in the octets, and returns how many octets
+    /// it has.
     #[inline(always)]
     fn value<L: Listener>(
         &mut self,
@@ -90,8 +90,8 @@ impl Reader {
         Ok(1 + end)
     }
 
-    /// Reads the parameters of type and value that come next and are whole in the octets, and returns
-    /// how many octets they have.
+    /// Reads all parameters of type and value that come next and are whole in the octets, and
+    /// returns how many octets they have.
     pub(crate) fn values<L: Listener>(
         &mut self,
         listener: &mut L,

@@ -1,6 +1,6 @@
-//! What the help of each command says below its arguments.
+//! What the help of each command says after its arguments.
 
-/// Of show.
+/// The help of `show`.
 pub const SHOW_HELP: &str = "\
 Reads a stream of LLRP messages on standard input, and prints its listing on standard output:
   0 NAME VERSION ID FIELDS   a message
@@ -15,7 +15,7 @@ Example:
   $ echo 083E0000000A00000007 | llrp show --hex
   0 KEEPALIVE 2 7";
 
-/// Of encode.
+/// The help of `encode`.
 pub const ENCODE_HELP: &str = "\
 Reads a listing on standard input, a line 0 NAME VERSION ID for each message, and writes the bytes of
 the messages on standard output. A line that is refused ends the command with status 1, and is named
@@ -26,7 +26,7 @@ Example:
   $ echo 0 KEEPALIVE 2 7 | llrp encode --hex
   083E0000000A00000007";
 
-/// Of epc.
+/// The help of `epc`.
 pub const EPC_HELP: &str = "\
 Prints the text of a tag's 96-bit word, or the word of a text:
   24 hexadecimal digits   the word's tag URI; or its raw URI, and # REASON BIT, which is why it has no
@@ -40,7 +40,7 @@ Examples:
   $ llrp epc urn:epc:tag:sgtin-96:3.0614141.812345.6789
   3074257BF7194E4000001A85";
 
-/// Of sim.
+/// The help of `sim`.
 pub const SIM_HELP: &str = "\
 Reads a script of what the reader's antennas see on standard input, to its end. Then it listens on
 127.0.0.1 and serves one client as an LLRP reader. The lines of a script:
@@ -51,7 +51,7 @@ Reads a script of what the reader's antennas see on standard input, to its end. 
 Example:
   $ printf '2 5 tick\\n' | llrp sim 5084";
 
-/// Of inventory.
+/// The help of `inventory`.
 pub const INVENTORY_HELP: &str = "\
 Connects to an LLRP reader and asks it for its tags: it adds a ROSpec, enables and starts it, polls for
 reports, and stops and deletes it again. With --timeout, a connection or a read that gets nothing for
@@ -68,7 +68,7 @@ Reader firmware that loses a ROSpec, keeps an old one or reports a wrong state i
 Example:
   $ llrp inventory 127.0.0.1 5084 --polls 2";
 
-/// Of loop.
+/// The help of `loop`.
 pub const LOOP_HELP: &str = "\
 Reads a script on standard input, as sim does, and prints what inventory prints of the reader that acts
 by it. Both ends are in this program, and talk over one TCP connection. --check is as for inventory.

@@ -1,4 +1,4 @@
-//! What follows the head of a node.
+//! Reads what follows the head of a node.
 
 ghost use Rattle.std.specs.Prelude.{◌≡◌, ◌*◌, ◌≤◌, ℕ, List, [], ◌∷◌, length, false, true, MatchResult, unwrap_or};
 ghost use Rattle.tag_bits.specs.Digits.{digits_of_bytes};
@@ -19,7 +19,7 @@ use crate::{FrameErr, Kind, Node, Nodes, Octets, Reason};
 use arrayvec::ArrayVec;
 use std::alloc::Global;
 
-/// All of a node after its fields, and the octet after it.
+/// What a node has after its fields, and the octet after it.
 #[derive(Drop)]
 pub(crate) struct Body {
     pub tail: Octets,
@@ -27,7 +27,8 @@ pub(crate) struct Body {
     pub at: usize,
 }
 
-/// Reads a child that ends after its field, and appends it to its siblings; the octet after it.
+/// Reads a child that ends after its field, appends it to its siblings, and returns the octet after
+/// it.
 fn read_tv(
     alloc: Global,
     frame: &[u8],
@@ -61,8 +62,8 @@ fn read_tv(
     Ok(at)
 }
 
-/// Reads a child with a length, this many levels below the message, and appends it to its siblings; the
-/// octet after it.
+/// Reads a child with a length, this many levels below the message, appends it to its siblings, and
+/// returns the octet after it.
 #[cycle(read)]
 fn read_tlv(
     alloc: Global,
@@ -99,8 +100,8 @@ fn read_tlv(
     Ok(at)
 }
 
-/// The children for which room is made at first: for small children one for each four octets, and 16
-/// at most; in longer bodies one for each 32 octets.
+/// For how many children room is made at first: for short bodies one for each four octets, at most
+/// 16; for longer bodies one for each 32 octets.
 fn room_for(octets: usize) -> usize
     requires { octets ≤ MAX_LIMIT }
     ensures { 32 * result ≤ MAX_LIMIT }
@@ -108,8 +109,8 @@ fn room_for(octets: usize) -> usize
     (octets / 4).min(16).max(octets / 32)
 }
 
-/// What follows the head of a node of a kind, from one octet to another, this many levels below
-/// the message; the plain fields are put into `fields`.
+/// Reads what follows the head of a node of a kind, from one octet to another, this many levels
+/// below the message. The fields that are not reserved are put into `fields`.
 #[cycle(read)]
 pub(crate) fn read_body(
     alloc: Global,

@@ -1,4 +1,4 @@
-//! The heads of children.
+//! Reads the heads of children.
 
 ghost use Rattle.std.specs.Prelude.{◌≡◌, suc, ◌+◌, ◌*◌, ◌≤◌, ◌<◌, ℕ, List, [], ◌∷◌, length, drop, false, Option, MatchResult};
 ghost use Rattle.tag_bits.specs.Digits.{digits_of_bytes};
@@ -17,7 +17,7 @@ use crate::{FrameErr, Kind, MAX_DEPTH, Node, ParamKind, Reason};
 use llrp_schema::{param_of_tlv, param_of_tv};
 use tag_bits::get;
 
-/// A child of which the head is read.
+/// A child whose head was read.
 #[derive(Clone, Copy, Debug)]
 pub(crate) struct Child {
     pub kind: ParamKind,
@@ -27,7 +27,7 @@ pub(crate) struct Child {
     pub stop: usize,
 }
 
-/// The kind and the length of the child with type, length and value at an octet.
+/// Reads the kind and the length of the child with type, length and value at an octet.
 fn tlv_head(
     frame: &[u8],
     level: u8,
@@ -64,7 +64,7 @@ fn tlv_head(
     Ok((kind, octets))
 }
 
-/// The child that begins at an octet of a node at a level.
+/// Reads the head of the child at an octet of a node at a level.
 pub(crate) fn begin_child(
     frame: &[u8],
     level: u8,

@@ -1,4 +1,4 @@
-//! The fields of a node.
+//! Reads the fields of a node.
 
 ghost use Rattle.std.specs.Prelude.{◌≡◌, ◌+◌, ◌*◌, ◌≤◌, ℕ, List, [], ◌∷◌, length, drop, true, MatchResult};
 ghost use Rattle.tag_bits.specs.Digits.{digits_of_bytes};
@@ -16,7 +16,7 @@ use arrayvec::ArrayVec;
 use llrp_schema::Field;
 use tag_bits::get;
 
-/// The value of a field at a bit of a node that stops at another bit.
+/// Reads the field at a bit of a node that stops at another bit.
 pub(crate) fn field_at(frame: &[u8], at: usize, stop: usize, rule: &Field) -> Result<u128, FrameErr>
     requires before { at ≤ stop }
     requires small { length frame.now ≤ MAX_LIMIT }
@@ -43,8 +43,8 @@ pub(crate) fn field_at(frame: &[u8], at: usize, stop: usize, rule: &Field) -> Re
     Ok(value)
 }
 
-/// The value of the one field of a parameter with a type and a value alone, from one octet to another,
-/// and the octet after it.
+/// Reads the one field of a parameter with a type and a value alone, which is within these octets.
+/// Returns its value and the octet after it.
 #[inline(always)]
 pub(crate) fn read_value(
     frame: &[u8],
@@ -68,8 +68,8 @@ pub(crate) fn read_value(
     Ok((value, from + rule.width as usize / 8))
 }
 
-/// Reads the fields of a node of a kind, from one octet to another, and keeps the plain ones; the
-/// octet after them.
+/// Reads the fields of a node of a kind, which are within these octets, and keeps those that are
+/// not reserved. Returns the octet after them.
 pub(crate) fn read_fields(
     frame: &[u8],
     from: usize,

@@ -1,4 +1,4 @@
-//! Whether a child may begin in a node.
+//! Decides whether a child may begin in a node.
 
 ghost use Rattle.std.specs.Prelude.{◌≡◌, ◌+◌, ◌↔◌, false, not, IsNone, IfSome, Option, MatchResult};
 ghost use Rattle.llrp_schema.specs.Schema.{group_rule, groups_of};
@@ -14,7 +14,7 @@ use crate::fault::bad;
 use crate::{FrameErr, MAX_DEPTH, Node, ParamKind, Reason};
 use llrp_schema::{Group, Kind};
 
-/// Whether a group takes no more nodes.
+/// Whether a group can take no more nodes.
 pub(crate) fn is_full(group: &Group, nodes: &[Node]) -> bool
     ensures { result ≡ not (at_most group.now.most (count (group_rule group.now)
         (forest nodes.now) + 1)) }
@@ -25,7 +25,7 @@ pub(crate) fn is_full(group: &Group, nodes: &[Node]) -> bool
     }
 }
 
-/// The only group of a parent that has a kind.
+/// The only group of a parent that has this kind.
 #[tactic(auto, unfolding(crate::specs::OpenTree::takes_more))]
 fn group_of(parent: Kind, kind: ParamKind) -> Option<&'static Group>
     ensures none { IsNone result ↔ (has_place (groups_of parent) kind ≡ false) }
@@ -42,8 +42,8 @@ fn group_of(parent: Kind, kind: ParamKind) -> Option<&'static Group>
     None
 }
 
-/// The kind of a child at a bit, this many levels below the message, whose type is at another bit;
-/// or the first check that it fails.
+/// Checks a child at bit `at`, this many levels below the message, whose type is at another bit.
+/// Returns its kind, or the first check that it fails.
 pub(crate) fn child_kind(
     found: Option<ParamKind>,
     parent: Kind,

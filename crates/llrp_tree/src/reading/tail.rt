@@ -1,4 +1,4 @@
-//! The tail of a node.
+//! Reads the tail of a node.
 
 ghost use Rattle.std.specs.Prelude.{◌≡◌, ◌+◌, ◌*◌, ◌≤◌, ℕ, Bool, List, [], ◌∷◌, length, drop, Some, MatchResult, unwrap_or};
 ghost use Rattle.tag_bits.specs.Digits.{digits_of_bytes};
@@ -18,14 +18,14 @@ use llrp_schema::Tail;
 use std::alloc::Global;
 use tag_bits::get;
 
-/// From one octet to another.
+/// Octets from one place to another.
 #[derive(Clone, Copy, Debug)]
 pub(crate) struct Span {
     pub from: usize,
     pub to: usize,
 }
 
-/// The octets of a tail of words after its count at an octet.
+/// Finds the octets of a tail of words, whose count is at an octet.
 pub(crate) fn words_at(frame: &[u8], at: usize, stop: usize) -> Result<Span, FrameErr>
     requires before { at ≤ stop }
     requires small { length frame.now ≤ MAX_LIMIT }
@@ -48,7 +48,7 @@ pub(crate) fn words_at(frame: &[u8], at: usize, stop: usize) -> Result<Span, Fra
     })
 }
 
-/// The octets of a tail of text after its count at an octet.
+/// Finds the octets of a tail of text, whose count is at an octet.
 pub(crate) fn text_at(frame: &[u8], at: usize, stop: usize) -> Result<Span, FrameErr>
     requires before { at ≤ stop }
     requires small { length frame.now ≤ MAX_LIMIT }
@@ -75,7 +75,7 @@ pub(crate) fn text_at(frame: &[u8], at: usize, stop: usize) -> Result<Span, Fram
     }
 }
 
-/// The octets of a tail of bits at an octet, which the first of the fields counts.
+/// Finds the octets of a tail of bits at an octet, whose count is the first of the fields.
 pub(crate) fn bits_at(at: usize, stop: usize, fields: &[u128]) -> Result<Span, FrameErr>
     requires behind { 2 ≤ at }
     requires before { at ≤ stop }
@@ -98,7 +98,7 @@ pub(crate) fn bits_at(at: usize, stop: usize, fields: &[u128]) -> Result<Span, F
     })
 }
 
-/// The octets of the tail of a kind at an octet.
+/// Finds the octets of the tail of a kind at an octet.
 pub(crate) fn tail_at(
     frame: &[u8],
     at: usize,
@@ -123,14 +123,14 @@ pub(crate) fn tail_at(
     }
 }
 
-/// The tail of a node, and the octet after it.
+/// A tail that was read, and the octet after it.
 #[derive(Drop)]
 pub(crate) struct ReadTail {
     pub octets: Octets,
     pub at: usize,
 }
 
-/// The tail of a node of a kind after its fields.
+/// Reads the tail of a node of a kind after its fields.
 pub(crate) fn read_tail(
     alloc: Global,
     frame: &[u8],
