@@ -53,7 +53,12 @@ def raw_words():
 
 def refused_texts():
     """Returns the texts that the tests' table has refused, and the rules."""
-    return re.findall(r'\("([^"]*)",\s*"! (\w+)"\)', source("epc.rt").replace("\n", " "))
+    return re.findall(r'\(\s*"([^"]*)",\s*"! (\w+)",?\s*\)', source("epc.rt"))
+
+
+def counts_of_rows():
+    """Returns how many rows each table of the tests has, by its declaration."""
+    return {name: int(count) for name, count in re.findall(r"(?m)^static (\w+): \[[^;]*; (\d+)\]", source("epc.rt"))}
 
 
 def payloads(name):
@@ -85,7 +90,8 @@ def checks_of_header(llrp):
 
 def checks_of_tags(llrp, program):
     """Yields whether each word and its text are each other's, by both examples."""
-    yield "there are rows", len(tags()) == 10 and len(raw_words()) == 7 and len(refused_texts()) >= 5
+    found = {"TAGS": len(tags()), "RAW": len(raw_words()), "REFUSED": len(refused_texts())}
+    yield "all rows are found", found == {name: counts_of_rows()[name] for name in found} and min(found.values()) > 0
     for digits, text in tags():
         word = bytes.fromhex(digits)
         yield f"text of {digits}", llrp.text_and_fault(word) == (text, None)

@@ -10,7 +10,6 @@ something failed.
 """
 import os
 import re
-import shutil
 import subprocess
 import sys
 
@@ -82,17 +81,17 @@ def words_of(name, function):
 def checks_of_errors():
     """Yields whether each word that an error or a fault can say is explained."""
     sources = (
-        ("crates/llrp_listing/src/fault.rt", "names"),
-        ("crates/llrp_listing/src/fault.rt", "node_fault_name"),
-        ("crates/tag_uri/src/fault.rt", "name"),
-        ("crates/tag_epc/src/fault.rt", "name"),
-        ("crates/llrp_listing/src/printing/ends.rt", "name_of"),
-        ("crates/llrp_tool/src/command.rt", "write_error"),
+        ("crates/llrp_listing/src/fault.rt", "names", 9),
+        ("crates/llrp_listing/src/fault.rt", "node_fault_name", 8),
+        ("crates/tag_uri/src/fault.rt", "name", 10),
+        ("crates/tag_epc/src/fault.rt", "name", 5),
+        ("crates/llrp_listing/src/printing/ends.rt", "name_of", 15),
+        ("crates/llrp_tool/src/command.rt", "write_error", 11),
     )
     page, manual = text_of("docs/errors.md"), text_of("docs/llrp.1")
-    for name, function in sources:
+    for name, function, count in sources:
         found = words_of(name, function)
-        yield f"{name} has words", len(found) >= 5
+        yield f"{name} has words", len(found) == count
         for word in sorted(found):
             yield f"{word} in docs/errors.md", re.search(rf"`[^`]*\b{word}\b[^`]*`", page) is not None
             yield f"{word} in the manual page", re.search(rf"\b{word}\b", manual) is not None
@@ -101,10 +100,19 @@ def checks_of_errors():
 def checks_of_frames(program):
     """Yields whether each frame of docs/errors.md is listed by the line beside it."""
     rows = re.findall(r"`([0-9A-F ]{20,})`: `(! [^`]+)`", text_of("docs/errors.md"))
-    yield "docs/errors.md has frames", len(rows) >= 13
+    yield "docs/errors.md has frames", len(rows) == 13
     for digits, line in rows:
         done = subprocess.run([program, "show", "--hex"], capture_output=True, input=digits, text=True, timeout=60)
         yield f"{digits} is listed by {line}", (done.returncode, done.stdout) == (1, f"{line}\n")
+
+
+def checks_of_tags(program):
+    """Yields whether each word of docs/errors.md without a tag URI is answered by the line beside it."""
+    rows = re.findall(r"`([0-9A-F]{24})`: `(# [^`]+)`", text_of("docs/errors.md"))
+    yield "docs/errors.md has words", len(rows) == 5
+    for digits, line in rows:
+        done = subprocess.run([program, "epc", digits], capture_output=True, text=True, timeout=60)
+        yield f"{digits} is answered by {line}", (done.returncode, done.stdout) == (0, f"urn:epc:raw:96.x{digits}\n{line}\n")
 
 
 def checks_of_version(program):
@@ -133,15 +141,15 @@ def checks_of_script():
 
 
 def checks_of_manual():
-    """Yields whether the manual page has no fault."""
-    if shutil.which("mandoc"):
-        yield "mandoc has nothing to say", output("mandoc", "-T", "lint", "-W", "warning", "docs/llrp.1") == ""
+    """Yields whether the manual page is set without a warning."""
+    done = subprocess.run(["groff", "-mdoc", "-ww", "-z", "-Tutf8", "docs/llrp.1"], cwd=TOP, capture_output=True, text=True, timeout=60)
+    yield "groff has nothing to say", (done.returncode, done.stdout, done.stderr) == (0, "", "")
 
 
 def main():
     program = os.path.abspath(sys.argv[1] if len(sys.argv) > 1 else os.path.join(TOP, "crates/llrp/out/llrp"))
     results = [*checks(program), *checks_of_errors(), *checks_of_version(program), *checks_of_arguments(program)]
-    results += [*checks_of_frames(program), *checks_of_script(), *checks_of_manual()]
+    results += [*checks_of_frames(program), *checks_of_tags(program), *checks_of_script(), *checks_of_manual()]
     failed = [what for what, is_right in results if not is_right]
     for what in failed:
         print(f"WRONG: {what}")

@@ -88,7 +88,7 @@ CRATES = {
     "tag_uri": (60, 360, "texts of words"),
     "llrp_schema": (620, 520, "the tables of LLRP"),
     "llrp_tree": (430, 440, "messages, frames, faults"),
-    "llrp_stream": (390, 360, "the decoder"),
+    "llrp_stream": (390, 360, "reading streams"),
     "llrp_session": (640, 280, "reader and client"),
     "llrp_listing": (250, 280, "show, encode, epc"),
     "llrp_endpoints": (450, 200, "both ends over bytes"),
@@ -98,7 +98,7 @@ CRATES = {
 }
 WIDTH, HEIGHT = 160, 44
 # What a frame becomes at each crate that it comes through.
-FRAME = [("octets", "llrp_stream"), ("a message", "llrp_tree"), ("lines", "llrp_listing")]
+FRAME = [("octets, read into the parts of a message", "llrp_stream"), ("lines", "llrp_listing")]
 
 
 def uses():
