@@ -21,7 +21,7 @@
 extern "C" {
 #endif
 
-/* How many octets a tag's word has, and the room for each text of a word and for each name of a status. */
+/* The octets of a tag's word, and room enough for any text of a word and any name of a status. */
 #define LLRP_WORD_OCTETS 12
 #define LLRP_TEXT_ROOM 64
 #define LLRP_NAME_ROOM 16
@@ -32,16 +32,16 @@ extern "C" {
 /* How a call ends. */
 enum llrp_status {
     LLRP_OK = 0,
-    LLRP_FAULTY = 1, /* some frame is no message; the listing says which, and why */
+    LLRP_FAULTY = 1, /* some frame is not a message; the listing says which, and why */
     LLRP_BROKEN = 2, /* a length field below 10: no frame can be found there, nor after it */
     LLRP_ROOM = 3,   /* the room is too small */
-    LLRP_LENGTH = 4, /* an argument has another length than the call wants */
+    LLRP_LENGTH = 4, /* an argument does not have the length that the call needs */
     LLRP_UTF8 = 5,   /* the text is not UTF-8 */
     LLRP_LONG = 6,   /* the listing is too long: more than 1,000,000 pieces of 4,096 octets */
     LLRP_MEMORY = 7, /* memory ran out */
 
     /* Why a word has no tag URI: the part that fails (docs/errors.md). */
-    LLRP_HEADER = 16,    /* the first eight bits are no scheme's */
+    LLRP_HEADER = 16,    /* the first eight bits are not a scheme's */
     LLRP_PARTITION = 17, /* the partition value is 7 */
     LLRP_PREFIX = 18,    /* the company prefix has too many digits */
     LLRP_REFERENCE = 19, /* the reference has too many digits */
@@ -88,7 +88,8 @@ enum llrp_status {
  * text_room    at least LLRP_TEXT_ROOM
  *
  * LLRP_OK, or one of LLRP_HEADER to LLRP_ZEROS where the word has no tag URI: then its raw URI is written, and *bit is the first bit
- * of the part of the word that fails. LLRP_LENGTH and then LLRP_ROOM, where a length is wrong; nothing is written. */
+ * of the part of the word that fails. LLRP_LENGTH if word_length is wrong, else LLRP_ROOM if text_room is too small; then nothing is
+ * written. */
 uint32_t llrp_text_of_word(const uint8_t *word, size_t word_length, uint8_t *text, size_t text_room, size_t *count, uint32_t *bit);
 
 /* Writes the twelve octets of the word of a text to word.
@@ -97,36 +98,59 @@ uint32_t llrp_text_of_word(const uint8_t *word, size_t word_length, uint8_t *tex
  * word         room for the word
  * word_length  LLRP_WORD_OCTETS
  *
- * LLRP_OK, or the first rule that refuses the text, LLRP_START to LLRP_RAW_OF_LAWFUL. LLRP_LENGTH where word_length is another, and
- * then LLRP_UTF8 where the text is not UTF-8. Nothing is written unless the status is LLRP_OK. */
+ * LLRP_OK, or the first rule that refuses the text, LLRP_START to LLRP_RAW_OF_LAWFUL. LLRP_LENGTH if word_length is not
+ * LLRP_WORD_OCTETS, else LLRP_UTF8 if the text is not UTF-8. Nothing is written unless the status is LLRP_OK. */
 uint32_t llrp_word_of_text(const uint8_t *text, size_t text_length, uint8_t *word, size_t word_length);
 
-/* Writes the length of the first frame of a stream to *count, or 0 where the stream has fewer than the six octets that say so. The
+/* Writes the length of the first frame of a stream to *count, or 0 if the stream has fewer than the six octets that say so. The
  * frame is whole once the stream has *count octets. A length may be up to 4,294,967,295; a caller that does not want to keep that much
  * ends a connection whose frames are longer than LLRP_MOST_OCTETS.
  *
- * LLRP_OK, or LLRP_BROKEN where the length is below 10, and *count is 0. */
+ * stream         octets of a stream, from the first one of a frame on
+ * stream_length  how many there are
+ * count          where the length in octets is written
+ *
+ * LLRP_OK, or LLRP_BROKEN if the length is below 10; then *count is 0. */
 uint32_t llrp_frame_length(const uint8_t *stream, size_t stream_length, size_t *count);
 
 /* Writes the listing of the frames that are whole in a stream to listing, as `llrp show` prints it, its length to *written, and how
  * many octets the frames have to *used. Keep the octets after these, and pass them again with what comes after them.
  *
- * LLRP_OK where each frame is a message's, and LLRP_FAULTY where some are not. LLRP_BROKEN where a length field below 10 comes after
+ * stream         octets of a stream, from the first one of a frame on
+ * stream_length  how many there are
+ * listing        room for the listing; octets after it stay as they were
+ * listing_room   how many octets of room there are
+ * used           where the number of octets of the stream that were listed is written
+ * written        where the number of octets of the listing is written
+ *
+ * LLRP_OK if each frame is a message, and LLRP_FAULTY if some are not. LLRP_BROKEN if a length field below 10 comes after
  * the whole frames: their listing ends with the line ! BROKEN, and all of the stream is used.
- * LLRP_ROOM where the listing is longer than the room: nothing is written to listing, *used is 0, and *written is the room that the
+ * LLRP_ROOM if the listing is longer than the room: nothing is written to listing, *used is 0, and *written is the room that the
  * listing needs; call again with that much, or with fewer octets of the stream. LLRP_MEMORY: nothing is written, both counts are 0. */
 uint32_t llrp_list(const uint8_t *stream, size_t stream_length, uint8_t *listing, size_t listing_room, size_t *used, size_t *written);
 
 /* Writes the octets of the messages of a listing, as `llrp encode` does, to octets, how many they are to *written, and 0 to *line.
  *
+ * listing         lines as `llrp show` prints them, each ended by a line feed
+ * listing_length  how many octets the listing has
+ * octets          room for the octets of the messages; octets after them stay as they were
+ * octets_room     how many octets of room there are
+ * written         where the number of octets of the messages is written
+ * line            where the number of the refused line is written
+ *
  * LLRP_OK, or the first reason for which the listing is refused, LLRP_START to LLRP_RAW_OF_LAWFUL or LLRP_LINE to LLRP_NODE_TOO_LONG,
  * and *line is its line, counted from 1; nothing is written to octets, and *written is 0.
- * LLRP_ROOM where there are more octets than the room has: nothing is written to octets, and *written is the room that they need.
+ * LLRP_ROOM if there are more octets than the room has: nothing is written to octets, and *written is the room that they need.
  * LLRP_LONG and LLRP_MEMORY: nothing is written, *written and *line are 0. */
 uint32_t llrp_encode(const uint8_t *listing, size_t listing_length, uint8_t *octets, size_t octets_room, size_t *written, uint64_t *line);
 
-/* Writes the name of a status to name, as LeadingZero or Node Missing, and returns its length. name_room is at least LLRP_NAME_ROOM;
- * where it is smaller, or no status has the code, nothing is written and 0 is returned. docs/errors.md explains the names. */
+/* Writes the name of a status to name, such as LeadingZero or Node Missing, and returns its length. docs/errors.md explains the names.
+ *
+ * status     what one of the other functions returned
+ * name       room for the name; octets after it stay as they were
+ * name_room  at least LLRP_NAME_ROOM
+ *
+ * 0 if name_room is smaller or no status has the code; then nothing is written. */
 size_t llrp_name(uint32_t status, uint8_t *name, size_t name_room);
 
 #ifdef __cplusplus

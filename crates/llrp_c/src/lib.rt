@@ -1,5 +1,5 @@
 //! The static library for C, and for every language that can call C: tags and their texts, listings of streams, and streams of
-//! listings, over lent octets and numbers alone. No call keeps anything between two calls.
+//! listings, on buffers and numbers that the caller passes. No call keeps anything between two calls.
 //!
 //! Use it from any language but Rattle, whose programs call the crates below. `include/llrp.h` declares the functions, and
 //! docs/library.md says how to link them. C passes a slice as a pointer and then a length, and nothing for an allocator. Each

@@ -13,7 +13,7 @@ use tag_uri::UriFault;
 /// How a call ended. Its code is a constant of `include/llrp.h`.
 #[derive(Clone, Copy)]
 pub enum Status {
-    /// Well.
+    /// It succeeded.
     Done,
     /// Some frame is not a message.
     Faulty,

@@ -98,9 +98,10 @@ fn exchange<CR: Source, CW: Sink, RR: Source, RW: Sink, P: Sink>(
 ///
 /// Returns how many tags and reports there were, once the connection was closed as planned. The
 /// error is `Early` if the connection or an input ends before that, or if neither end has bytes to
-/// send; `Peer` for a status other than 0; `Strange` for a message that no reader sends then, or a
-/// frame with a fault other than an unknown type; `Broken` for a length field below 10 at either
-/// end. After `Read`, `Write`, `Bound` or `Memory`, each end wrote some first part of what it says.
+/// send; `Peer` for a status other than 0; `Strange` for an unexpected message, with a checked plan
+/// for a table that differs from the client's view, or a frame with a fault other than an unknown
+/// type; `Broken` for a length field below 10 at either end. After `Read`, `Write`, `Bound` or
+/// `Memory`, each end wrote some first part of what it says.
 pub fn run_loop<CR: Source, CW: Sink, RR: Source, RW: Sink, P: Sink>(
     alloc: Global,
     core: Reader,

@@ -59,9 +59,10 @@ fn gather<R: Source, W: Sink, T: Sink>(
 ///
 /// Returns how many tags and reports there were, once the connection was closed as planned. The
 /// error is `Early` if the input or the connection ends before that; `Peer` for a status other than
-/// 0; `Strange` for a message that no reader sends then, or a frame with a fault other than an
-/// unknown type; `Broken` for a length field below 10. After `Read`, `Write`, `Bound` or `Memory`,
-/// some first part of what the client says was written.
+/// 0; `Strange` for an unexpected message, with a checked plan for a table that differs from the
+/// client's view, or a frame with a fault other than an unknown type; `Broken` for a length field
+/// below 10. After `Read`, `Write`, `Bound` or `Memory`, some first part of what the client says
+/// was written.
 pub fn run_inventory<R: Source, W: Sink, T: Sink>(
     alloc: Global,
     plan: Plan,

@@ -1,5 +1,5 @@
 //! The two ends of an LLRP connection over bytes: a simulated reader that acts by a script, and a client that follows a plan.
-//! Sockets, files and words are not in here.
+//! Sockets, files and words are not part of it.
 //!
 //! Use it to test a client against a reader ([`run_serve`]), or to take inventory of a reader ([`run_inventory`]), over any
 //! transport. A [`Script`] says what the antennas see, and when; a [`Plan`] says what the client asks for. [`Serving`] and

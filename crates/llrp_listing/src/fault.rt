@@ -100,7 +100,7 @@ pub enum ToolErr {
     #[error("line {line} of the script is refused")]
     Script { line: u64 },
     /// A text is not hexadecimal digits in pairs.
-    #[error("the input is no pairs of hexadecimal digits")]
+    #[error("the input is not an even number of hexadecimal digits")]
     Hex,
     /// A read failed.
     #[error("reading failed")]
@@ -121,7 +121,7 @@ pub enum ToolErr {
     #[error("the reader answered with status {0}")]
     Peer(u16),
     /// The reader sent an unexpected message or a faulty frame.
-    #[error("the reader sent something strange")]
+    #[error("the reader sent an unexpected message or a faulty frame")]
     Strange,
     /// The input or the connection ended before the work was done.
     #[error("the input ended too early")]

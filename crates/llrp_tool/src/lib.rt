@@ -1,5 +1,5 @@
 //! The commands of `llrp`: what its words ask for, and each command over bytes and texts, with its exit status and its error's
-//! line. Sockets, files and the process are not in here.
+//! line. Sockets, files and the process are not part of it.
 //!
 //! Use it to put the commands into a program of your own. [`run_command`] does what the words ask for;
 //! [`network_command`] returns the command over sockets that they ask for, as a [`NetworkCommand`].

@@ -5,11 +5,11 @@ pub const SHOW_HELP: &str = "\
 Reads a stream of LLRP messages on standard input, and prints its listing on standard output:
   0 NAME VERSION ID FIELDS   a message
   LEVEL NAME FIELDS TAIL     a parameter, one level below its parent
-  ! ID BIT REASON            a frame that is no message: its id, its first fault and the fault's bit
-  ? N                        N bytes at the end that are no whole frame
+  ! ID BIT REASON            a frame that is not a message: its id, its first fault and the fault's bit
+  ? N                        N bytes of an unfinished frame at the end
   ! BROKEN                   a length below 10, at which the stream breaks off
 docs/errors.md explains each REASON. A frame of more octets than --limit is a fault; N is 10 to
-1,048,576. The status is 0 where all frames are messages, and 1 where some are not.
+1,048,576. The status is 0 if all frames are messages and the last one is whole, and 1 if not.
 
 Example:
   $ echo 083E0000000A00000007 | llrp show --hex
@@ -31,7 +31,7 @@ pub const EPC_HELP: &str = "\
 Prints the text of a tag's 96-bit word, or the word of a text:
   24 hexadecimal digits   the word's tag URI; or its raw URI, and # REASON BIT, which is why it has no
                           tag URI, and the first bit of the part that fails
-  any other text          the 24 digits of its word; or ! REASON, which is why it is the text of none
+  any other text          the 24 digits of its word; or ! REASON, which is why no word has this text
 docs/errors.md explains each REASON. The status is 1 for a text of no word, and 0 for every other.
 
 Examples:
