@@ -23,7 +23,7 @@ build_and_run() {
     fi
 }
 
-# So many copies of $work/million, one after another.
+# Copies of $work/million, one after another; the argument says how many.
 copies() {
     for ((n = 0; n < $1; n++)); do
         cat "$work/million"

@@ -1,10 +1,10 @@
 #!/usr/bin/env bash
 # Prints what it costs to write the text of a word, and to read the word of a text, in memory: instructions
 # under callgrind for each of the seven schemes, for words without a tag URI and for a mix of the schemes,
-# and words a second of the mix. It is the difference of a process that turns all words over a few times
-# more than another, so reading the lines is not in it. So many words of each, 2,100 if no argument says
-# otherwise. The texts must give the words back. A second argument is another program that does with its
-# standard input what `crates/epc_bench` does: its instructions are printed beside ours, in brackets.
+# and words a second of each. The instructions are the difference of a process that turns all words over a
+# few times more than another, so reading the lines is not in it. The first argument says how many words
+# there are of each kind, 2,100 by default. The texts must give the words back. A second argument is another
+# program that measures the same by itself: what it prints comes last.
 set -eu
 . "$(dirname "$0")/common.sh"
 count="${1:-2100}"
@@ -52,16 +52,7 @@ instructions_a_line() {
     echo "$(((many - few) / turns / count))"
 }
 
-# Ours for each line of a file, and in brackets those of the other program, which must write the same lines.
-compared() {
-    instructions_a_line "$loop" "$1"
-    if [ -n "$other" ]; then
-        "$other" < "$1" 2> /dev/null | cmp - "$2"
-        echo "($(instructions_a_line "$other" "$1"))"
-    fi
-}
-
-# The lines a second of a file, from the seconds of 2,000 turns.
+# The millions of lines of a file a second, from the seconds of 2,000 turns.
 lines_a_second() {
     local began ended
     with_turns 2000 "$1" > "$work/input"
@@ -69,21 +60,21 @@ lines_a_second() {
     "$loop" < "$work/input" > /dev/null 2>&1
     ended="$(date +%s%N)"
     awk -v count="$count" -v nanoseconds="$((ended - began))" \
-        'BEGIN { printf "%.1f million a second\n", count * 2000 * 1e3 / nanoseconds }'
+        'BEGIN { printf "%.1f", count * 2000 * 1e3 / nanoseconds }'
 }
 
 if ! (cd "$crate" && rt run < stdin) > "$work/build" 2>&1; then
     tail -n 20 "$work/build" >&2
     exit 2
 fi
-printf '%-8s %14s %14s\n' instructions 'word to text' 'text to word'
+printf '%-8s %14s %14s %14s %14s\n' '' 'word to text' 'text to word' 'million a s' 'and back'
 for kind in sgtin sscc sgln grai gdti gsrn gid raw mix; do
     make_words "$kind" > "$work/words"
     "$loop" < "$work/words" > "$work/texts" 2> /dev/null
     "$loop" < "$work/texts" > "$work/back" 2> /dev/null
     cmp "$work/back" "$work/words"
-    printf '%-12s %14s %14s\n' "$kind" "$(compared "$work/words" "$work/texts" | paste -sd ' ')" \
-        "$(compared "$work/texts" "$work/words" | paste -sd ' ')"
+    printf '%-8s %14s %14s %14s %14s\n' "$kind" \
+        "$(instructions_a_line "$loop" "$work/words")" "$(instructions_a_line "$loop" "$work/texts")" \
+        "$(lines_a_second "$work/words")" "$(lines_a_second "$work/texts")"
 done
-echo "mix, words to texts: $(lines_a_second "$work/words")"
-echo "mix, texts to words: $(lines_a_second "$work/texts")"
+[ -z "$other" ] || "$other"

@@ -1,14 +1,15 @@
 #!/usr/bin/env bash
-# Prints how many instructions `llrp show` takes for an octet of each kind of frames, under callgrind: reports
-# of tags with five parameters, reports of tags with all thirteen, KEEPALIVE messages, reader events, and reports
-# cut short in their last parameter. It is the difference of a process that reads the frames three times and
-# one that reads them once, so starting costs nothing. A first argument is another program with the same
-# command: its instructions are printed beside ours, and it is said where its listing differs.
+# Prints how many instructions `llrp show` takes for an octet of each kind of frames, and `llrp encode` for an octet
+# of their listing, under callgrind: reports of tags with five parameters, reports of tags with all thirteen, KEEPALIVE
+# messages, events that a ROSpec started, and reports cut short in their last parameter, which `encode` does not take.
+# It is the difference of a process that reads its input three times and one that reads it once, so starting costs
+# nothing. A first argument is another program with the same commands: its instructions are printed beside ours, and
+# it is said where what it writes differs.
 set -eu
 . "$(dirname "$0")/common.sh"
 other="${1:-}"
 
-# The hexadecimal digits of so many frames of a kind, whose ids count up.
+# The hexadecimal digits of frames of a kind, as many as the second argument says, whose ids count up.
 digits() {
     awk -v kind="$1" -v count="$2" '
     function report(id,    tag, text) {
@@ -42,28 +43,37 @@ digits() {
     }'
 }
 
-# The instructions of a program that lists a file.
+# The instructions of a program's command over a file.
 instructions() {
-    valgrind --tool=callgrind --callgrind-out-file=/dev/null "$1" show < "$2" 2>&1 > /dev/null |
+    valgrind --tool=callgrind --callgrind-out-file=/dev/null "$1" "$2" < "$3" 2>&1 > /dev/null |
         awk '/Collected/ { print $4 }'
 }
 
-# The instructions of a program for an octet of a file.
+# The instructions of a program's command for an octet of a file.
 an_octet() {
-    cat "$2" "$2" "$2" > "$work/thrice"
-    awk -v once="$(instructions "$1" "$2")" -v thrice="$(instructions "$1" "$work/thrice")" \
-        -v octets="$(stat -c %s "$2")" 'BEGIN { printf "%8.1f", (thrice - once) / (2 * octets) }'
+    cat "$3" "$3" "$3" > "$work/thrice"
+    awk -v once="$(instructions "$1" "$2" "$3")" -v thrice="$(instructions "$1" "$2" "$work/thrice")" \
+        -v octets="$(stat -c %s "$3")" 'BEGIN { printf "%8.1f", (thrice - once) / (2 * octets) }'
 }
 
-# The costs of a kind of frames, of which there are so many.
+# The cost of a command over a file, ours and the other program's.
+compared() {
+    printf '  %s %s' "$1" "$(an_octet "$program" "$1" "$2")"
+    if [ -n "$other" ]; then
+        "$program" "$1" < "$2" > "$work/ours" || true
+        "$other" "$1" < "$2" > "$work/theirs" || true
+        printf ' %s' "$(an_octet "$other" "$1" "$2")"
+        cmp -s "$work/ours" "$work/theirs" || printf ' (they differ)'
+    fi
+}
+
+# The costs of a kind of frames, of which there are as many as the second argument says.
 cost() {
     digits "$1" "$2" | xxd -r -p > "$work/frames"
-    printf '%-12s %s' "$1" "$(an_octet "$program" "$work/frames")"
-    if [ -n "$other" ]; then
-        "$program" show < "$work/frames" > "$work/ours" || true
-        "$other" show < "$work/frames" > "$work/theirs" || true
-        printf ' %s' "$(an_octet "$other" "$work/frames")"
-        cmp -s "$work/ours" "$work/theirs" || printf '  the listings differ'
+    printf '%-12s' "$1"
+    compared show "$work/frames"
+    if "$program" show < "$work/frames" > "$work/listing"; then
+        compared encode "$work/listing"
     fi
     printf '\n'
 }

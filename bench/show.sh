@@ -1,11 +1,14 @@
 #!/usr/bin/env bash
 # Prints the MB/s that `llrp show` takes in, and `llrp encode` on its listing, beside `cat`, `wc -l` and
 # `xxd -p` on the same bytes, and the peak memory of each: 200 MB of tag reports, or as many MB as the
-# first argument says. With `keepalive` as the second argument the frames are KEEPALIVE messages.
+# first argument says. With `keepalive` as the second argument the frames are KEEPALIVE messages, with
+# `report` they are tag reports. A third argument is another program with the same two commands, which is
+# measured in the same run.
 set -eu
 . "$(dirname "$0")/common.sh"
 size="${1:-200}"
 kind="${2:-report}"
+other="${3:-}"
 
 # The hexadecimal digits of a report of 100 tags, each with an SGTIN-96, its antenna, its signal
 # strength, the time when it was first seen, and how often it was: 10 + 100 * 34 octets.
@@ -42,5 +45,7 @@ measure 'wc -l' "$work/frames" wc -l
 measure 'xxd -p' "$work/frames" xxd -p
 measure 'llrp show' "$work/frames" "$program" show
 mv "$work/output" "$work/listing"
+[ -z "$other" ] || measure 'other show' "$work/frames" "$other" show
 measure 'llrp encode' "$work/listing" "$program" encode
 cmp "$work/output" "$work/frames"
+[ -z "$other" ] || measure 'other encode' "$work/listing" "$other" encode

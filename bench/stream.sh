@@ -1,12 +1,12 @@
 #!/usr/bin/env bash
 # Prints the instructions under callgrind that it takes to read an octet of a stream, for three streams: reports of 100
-# tags each, each tag an EPC-96 with AntennaID, PeakRSSI, FirstSeenTimestampUTC and TagSeenCount; connection attempt
-# events; and KEEPALIVE messages. First with a listener that does nothing, then by the decoder. It is the difference of
+# tags each, each tag an EPC-96 with AntennaID, PeakRSSI, FirstSeenTimestampUTC and TagSeenCount; events that a
+# ROSpec started; and KEEPALIVE messages. First with a listener that does nothing, then by the decoder. It is the difference of
 # a process that reads the stream three times and one that reads it twice, so starting is not in it.
 set -eu
 . "$(dirname "$0")/common.sh"
 
-# So many reports of 100 tags, each of 10 + 100 * 34 octets.
+# Reports of 100 tags, as many as the argument says, each of 10 + 100 * 34 octets.
 reports() {
     local id tag
     for ((id = 0; id < $1; id++)); do
@@ -18,7 +18,7 @@ reports() {
     done
 }
 
-# So many events of 39 octets.
+# Events of 39 octets that a ROSpec started, as many as the argument says.
 events() {
     local id
     for ((id = 0; id < $1; id++)); do
@@ -26,7 +26,7 @@ events() {
     done
 }
 
-# So many KEEPALIVE messages of 10 octets.
+# KEEPALIVE messages of 10 octets, as many as the argument says.
 keepalives() {
     local id
     for ((id = 0; id < $1; id++)); do
@@ -34,7 +34,7 @@ keepalives() {
     done
 }
 
-# The instructions of so many decodes and so many readings.
+# The instructions of this many decodes and this many readings.
 count() {
     valgrind --tool=callgrind --callgrind-out-file=/dev/null "$top/crates/stream_bench/out/stream_bench" "$1" "$2" \
         < "$work/stream" 2>&1 > "$work/output" | sed -n 's/.*refs: *//p' | tr -d ','
