@@ -34,6 +34,7 @@ use Rattle.llrp_stream.proofs.Reached.{stands_in}
 use Rattle.llrp_stream.proofs.FrontLemmas.{length_field-append, header_fault-append}
 use Rattle.llrp_stream.proofs.BuildingLemmas.{weigh_alike}
 use Rattle.llrp_stream.proofs.HeldLemmas.{held_within}
+use Rattle.llrp_stream.proofs.EngineHeld.{covers, undecided_reading}
 use Rattle.llrp_stream.proofs.FramesLemmas.{state_comes, reaches_settled}
 
 -- ---- what it stands for
@@ -184,14 +185,8 @@ weighs limit id body b front r =
     let t : List Begun = st.are.node ∷ st.are.outer in
     let own : open_weight t ≤ body.reader.at = held_within body.reader front st.are.node st.are.outer st.are.reads in
     let same : nodes_weight b.nodes ≡ open_weight t = weigh_alike b t (told_open b body.reader.stage t st.are.told) in
-    let back = ap (λ (x : List ℕ). length x) st.raw in
-    record {
-      nodes = omega arith;
-      all = omega (arith, back, length-drop body.reader.at front, st.are.reads.before);
-      more = r.awaits.short.more;
-      within = r.passed.within;
-      few = st.few;
-    }
+    let c = covers (HasOpen b) (HasOpen b) limit id body front r in
+    record { nodes = omega arith; all = c.all; more = c.more; within = c.within; few = c.few }
 
 pub held_front : (limit : ℕ) (s : State) (body : Body) (b : Building) (front : List ℕ) → ComesAt (HasOpen b) (HasOpen b) limit s body front → raw_octets (kept s body b) + kept_weight (kept s body b) ≤ length front
 held_front limit state.Between body b front k = omega arith
@@ -223,23 +218,10 @@ held_limit frames b k = elim k.comes [
 
 -- ---- nothing is kept from the octet on that decides a fault
 
-undecided_reading : (limit id : ℕ) (body : Body) (b : Building) (front more : List ℕ) → IsReading (HasOpen b) (HasOpen b) limit id body front → IsFrame (front ++ more) → FailsIn limit (front ++ more) (length front) → ⊥
-unfolding header_fault
-undecided_reading limit id body b front more r is f =
-    let are = r.awaits.stands_for.are in
-    let s : Stage = body.reader.stage in
-    let t : List Begun = settled s are.node ∷ are.outer in
-    let long : length (front ++ more) ≡ body.reader.octets = sym is.whole ∙ length_field-append front more (omega (arith, r.passed.long)) ∙ sym r.passed.octets_are in
-    let reach = reaches_settled s body.reader front are.node are.outer are.reads.stage in
-    let st = stands_in front more body.reader.octets t reach.0 reach.1 long in
-    let P : ℕ → Type 0 = λ k. 8 * length front < deciding t (drop k (digits_of_bytes (front ++ more))) in
-    let lt : P reach.0 = subst P (covered_length front body.reader.octets t reach.0 reach.1) (r.awaits.short.undecided more long) in
-    undecided_until limit (front ++ more) (length front) t reach.0 st (header_fault-append limit front more r.passed.long ∙ r.passed.passes) lt f
-
 pub held_decided : (limit : ℕ) (s : State) (body : Body) (b : Building) (front : List ℕ) → ComesAt (HasOpen b) (HasOpen b) limit s body front → IsDecided limit front → raw_octets (kept s body b) + kept_weight (kept s body b) ≡ 0
 held_decided limit state.Between body b front k d = refl
 held_decided limit state.Header body b front k d = absurd (let ten = fails_after_header limit (front ++ d.0) (length front) d.2 in omega (arith, k.2))
-held_decided limit (state.Reading id) body b front k d = absurd (undecided_reading limit id body b front d.0 k d.1 d.2)
+held_decided limit (state.Reading id) body b front k d = absurd (undecided_reading (HasOpen b) (HasOpen b) limit id body front d.0 k d.1 d.2)
 held_decided limit (state.Skipping count header) body b front k d = refl
 held_decided limit state.Broken body b front k d = refl
 held_decided limit state.Dead body b front k d = refl

@@ -36,7 +36,7 @@ use Rattle.llrp_stream.specs.Pieces.{Stands, Awaits}
 use Rattle.llrp_stream.specs.Frames.{IsPassed, IsBegun, IsReading, ComesAt, Comes, IsIdle, Gives, TakesOn, is_skipped, Goes, GoesOn, Begins, IsSkipping, SkipsTo, Stops}
 use Rattle.llrp_stream.proofs.FrontLemmas.{length_field-append, id_field-append, header_fault-append, frame_ends, faulty_is_skipped, skipped-append}
 use Rattle.llrp_stream.proofs.MoreOctets.{whole_ends}
-use Rattle.llrp_stream.proofs.Reached.{number_ahead}
+use Rattle.llrp_tree.proofs.HeaderLemmas.{number_ahead}
 use Rattle.llrp_stream.proofs.WholeFrames.{header_length}
 
 -- ---- a frame whose header passes

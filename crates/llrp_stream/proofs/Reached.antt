@@ -41,10 +41,3 @@ pub seen : (front more octets : List ℕ) (a bit : ℕ) → a ≤ length front �
 seen front more octets a bit le d =
     sym (drop-drop bit (8 * a) (digits_of_bytes (front ++ more)) ∙ ap (λ (k : ℕ). drop k (digits_of_bytes (front ++ more))) (omega arith))
     ∙ ap (λ (x : List Bool). drop bit x) (drop-bytes a (front ++ more) (let l = length-append front more in omega arith) ∙ ap (λ (x : List ℕ). digits_of_bytes x) (drop-append-le a front more le ∙ ap (λ (x : List ℕ). x ++ more) d) ∙ bytes-append octets more)
-
--- a number in octets is the same with more after them
-pub number_ahead : (octets : List ℕ) (later : List Bool) (place width : ℕ) → place + width ≤ 8 * length octets → value (take width (drop place (digits_of_bytes octets))) ≡ number (digits_of_bytes octets ++ later) place width
-number_ahead octets later place width le =
-    let long : length (digits_of_bytes octets) ≡ 8 * length octets = length-bytes octets in
-    let back : length (drop place (digits_of_bytes octets)) ≡ length (digits_of_bytes octets) - place = length-drop place (digits_of_bytes octets) in
-    ap value (sym (ap (λ (x : List Bool). take width x) (drop-append-le place (digits_of_bytes octets) later (omega arith)) ∙ take-append-le width (drop place (digits_of_bytes octets)) later (omega arith)))

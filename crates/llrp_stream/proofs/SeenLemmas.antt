@@ -19,6 +19,7 @@ use Rattle.llrp_tree.specs.Checks.{at_most}
 use Rattle.llrp_tree.specs.Spelling.{Head, message, tlv, tv}
 use Rattle.llrp_tree.specs.OpenTree.{Begun, kind_of, takes_more, is_enough}
 use Rattle.llrp_tree.proofs.LawLemmas.{both}
+use Rattle.llrp_tree.proofs.PlacedLemmas.{elsewhere, takes_in_place}
 use Rattle.llrp_stream.specs.Told.{with_child}
 use Rattle.llrp_stream.specs.declared.reading.reader.Reader.{Reader}
 use Rattle.llrp_stream.specs.Reading.{AreSeen, Reads, with_begun}
@@ -54,36 +55,6 @@ seen_value gs before kind v seen are = are
 pub seen_are : (r : Reader) (front : List ℕ) (b : Begun) (outer : List Begun) → Reads r front b outer → AreSeen (groups_of r.top.kind) b.children r.top.seen
 seen_are r front b outer rd = subst (λ (k : Kind). AreSeen (groups_of k) b.children r.top.seen) rd.level.kind rd.level.seen
 
--- ---- the group of a kind decides whether one more is taken
-
--- another group has not the kind
-elsewhere : (gs : List GroupRule) (kind : ParamKind) (place : Place) → IsPlace gs kind place → (k : ℕ) (d : GroupRule) → k < length gs → k ≢ place.index → is_member (get_or gs k d) kind ≡ false
-elsewhere gs kind place p k d lt ne =
-    (elim (is_member (get_or gs k d) kind) as (λ b. is_member (get_or gs k d) kind ≡ b → b ≡ false) [
-      | true ↦ λ e. absurd (ne (p.alone d k lt e))
-      | false ↦ λ e. refl
-    ]) refl
-
-and_true : (b : Bool) → (b && true) ≡ b
-and_true true = refl
-and_true false = refl
-
-all_take : (kind : ParamKind) (cs : Forest) (gs : List GroupRule) → ((k : ℕ) (d : GroupRule) → k < length gs → is_member (get_or gs k d) kind ≡ false) → takes_more gs kind cs ≡ true
-unfolding takes_more
-all_take kind cs [] f = refl
-all_take kind cs (g ∷ gs) f = rw (f 0 g (omega arith)) (all_take kind cs gs (λ k d lt. f (suc k) d (omega (arith, lt))))
-
-takes_at : (kind : ParamKind) (cs : Forest) (gs : List GroupRule) (i : ℕ) (d : GroupRule) → i < length gs → is_member (get_or gs i d) kind ≡ true → ((k : ℕ) (e : GroupRule) → k < length gs → k ≢ i → is_member (get_or gs k e) kind ≡ false)
-    → takes_more gs kind cs ≡ at_most (get_or gs i d).most (count (get_or gs i d) cs + 1)
-unfolding takes_more
-takes_at kind cs [] i d lt m f = absurd (omega (arith, lt))
-takes_at kind cs (g ∷ gs) zero d lt m f =
-    let others : takes_more gs kind cs ≡ true = all_take kind cs gs (λ k e le. f (suc k) e (omega (arith, le)) (λ z. absurd (omega (arith, z)))) in
-    rw (m, others) (and_true (at_most g.most (count g cs + 1)))
-takes_at kind cs (g ∷ gs) (suc i) d lt m f =
-    let lacks : is_member g kind ≡ false = f 0 g (omega arith) (λ z. absurd (omega (arith, z))) in
-    rw lacks (takes_at kind cs gs i d (omega (arith, lt)) m (λ k e le ne. f (suc k) e (omega (arith, le)) (λ z. ne (omega (arith, z)))))
-
 -- ---- a child begins
 
 module _ (parent : Kind) (kind : ParamKind) (place : Place) (p : IsPlace (groups_of parent) kind place) (cs : Forest) (seen : ℕ) (are : AreSeen (groups_of parent) cs seen) where
@@ -91,7 +62,7 @@ module _ (parent : Kind) (kind : ParamKind) (place : Place) (p : IsPlace (groups
   rule = get_or (groups_of parent) place.index no_rule
 
   takes_here : takes_more (groups_of parent) kind cs ≡ at_most rule.most (count rule cs + 1)
-  takes_here = takes_at kind cs (groups_of parent) place.index no_rule p.within (p.member no_rule) (elsewhere (groups_of parent) kind place p)
+  takes_here = takes_in_place (groups_of parent) kind place p cs no_rule
 
   seen_here : bit_at seen place.index ≡ min 1 (count rule cs)
   seen_here = are place.index no_rule p.within

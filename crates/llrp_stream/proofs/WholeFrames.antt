@@ -18,7 +18,8 @@ use Rattle.llrp_tree.specs.FirstFault.{number, header_checks}
 use Rattle.llrp_tree.specs.Standing.{leading, HeaderSays}
 use Rattle.llrp_tree.proofs.Telling.{all_hold}
 use Rattle.llrp_stream.specs.Front.{Reaches}
-use Rattle.llrp_stream.proofs.Reached.{reaches_in, number_ahead}
+use Rattle.llrp_stream.proofs.Reached.{reaches_in}
+use Rattle.llrp_tree.proofs.HeaderLemmas.{number_ahead}
 use Rattle.llrp_tree.proofs.Frames.{closes_frame, header_stands}
 use Rattle.llrp_stream.specs.declared.reading.reader.Reader.{Reader}
 use Rattle.llrp_stream.specs.Told.{IsReady, IsMessageOf}

@@ -1,5 +1,5 @@
 -- How far the current frame of a stream is read, whichever listener receives its parts.
-use Rattle.std.specs.Prelude.{◌≡◌, ℕ, ◌<◌, ◌≤◌, ◌⊎◌, Bool, true, false, List, [], ◌++◌, length, take, Option, Some, None, Result, Ok, Err}
+use Rattle.std.specs.Prelude.{◌≡◌, ℕ, ◌+◌, ◌*◌, ◌<◌, ◌≤◌, ◌⊎◌, Bool, true, false, List, [], ◌++◌, length, take, Option, Some, None, Result, Ok, Err}
 use Rattle.llrp_tree.specs.Tree.{MessageTree}
 use Rattle.llrp_tree.specs.Lawful.{AreOctets}
 use Rattle.llrp_tree.specs.Frame.{Frame}
@@ -61,6 +61,19 @@ limit_of frames = frames.limit
 -- the octets of the current frame that are kept as they are
 abbrev pub raw_of : Frames → List ℕ
 raw_of frames = frames.body.raw.items
+
+-- what is kept of the current frame in each state
+abbrev pub held_at : State → Body → ℕ
+held_at Between body = 0
+held_at Header body = length body.raw.items
+held_at (Reading id) body = length body.raw.items + 2 * (length body.reader.outer.items + 1)
+held_at (Skipping count header) body = 0
+held_at Broken body = 0
+held_at Dead body = 0
+
+-- what the engine keeps of the current frame: its raw octets, and two for each open node
+abbrev pub held_of : Frames → ℕ
+held_of frames = held_at frames.state frames.body
 
 -- this front came, whatever the listener received of it
 abbrev pub IsFrontOf : Frames → List ℕ → Type 0

@@ -6,7 +6,6 @@ mod frame;
 mod frames;
 mod level;
 mod listener;
-mod numbers;
 mod open;
 mod reader;
 mod tail;

@@ -8,7 +8,7 @@ ghost use Rattle.llrp_tree.specs.Tree.{forest};
 ghost use Rattle.llrp_tree.specs.Lawful as law;
 ghost use Rattle.llrp_tree.specs.Checks as checks;
 
-use crate::parts::{tail_fits, values_fit};
+use crate::parts::own_fault;
 use crate::{MAX_DEPTH, MAX_LIMIT, MAX_OCTETS, Node, NodeFault};
 use arrayvec::ArrayVec;
 use llrp_schema::{Field, Group, Kind, MsgKind, ParamKind};
@@ -155,11 +155,11 @@ fn table_fault(
     if !count_fits(rules, values) {
         return Some(NodeFault::FieldCount);
     }
-    if !version || !values_fit(rules, values) {
+    if !version {
         return Some(NodeFault::Value);
     }
-    if !tail_fits(llrp_schema::tail(kind), values, tail) {
-        return Some(NodeFault::Tail);
+    if let Some(fault) = own_fault(kind, values, tail) {
+        return Some(fault);
     }
     if !all_placed(groups, nodes) {
         return Some(NodeFault::Misplaced);

@@ -17,6 +17,7 @@ pub mod header;
 pub mod laws;
 pub mod message;
 pub mod node;
+pub mod numbers;
 pub mod parts;
 pub mod reading;
 pub mod spelling;
@@ -38,7 +39,7 @@ pub use writing::Spelling;
 pub const MAX_DEPTH: u8 = 16;
 
 /// The same number, for arrays with at most one item for each level.
-pub(crate) const LEVELS: usize = MAX_DEPTH as usize;
+pub const LEVELS: usize = MAX_DEPTH as usize;
 
 /// The greatest number of octets of a message.
 pub const MAX_LIMIT: u32 = 1_048_576;

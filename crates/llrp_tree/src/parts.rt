@@ -12,7 +12,7 @@ use llrp_schema::{Field, Kind, ParamKind, Tail};
 
 /// Whether there is a value for each field that is not reserved, and none is above the field's
 /// greatest.
-pub(crate) fn values_fit(rules: &[Field], values: &[u128]) -> bool
+fn values_fit(rules: &[Field], values: &[u128]) -> bool
     ensures { result ≡ checks.values_fit (map field_rule rules.now) values.now }
 {
     match rules {
@@ -40,7 +40,7 @@ fn is_utf8(octets: &[u8]) -> bool
 }
 
 /// Whether a tail has its form, and as many octets as that allows.
-pub(crate) fn tail_fits(form: Tail, values: &[u128], tail: &[u8]) -> bool
+fn tail_fits(form: Tail, values: &[u128], tail: &[u8]) -> bool
     ensures { result ≡ checks.tail_fits form values.now tail.now }
 {
     match form {

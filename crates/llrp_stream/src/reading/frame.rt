@@ -9,6 +9,7 @@ ghost use Rattle.llrp_tree.specs.Header.{HasHeader};
 ghost use Rattle.llrp_stream.specs.Reading.{IsComplete};
 ghost use Rattle.llrp_stream.specs.Pieces.{Stands};
 
+use crate::header::HEADER;
 use crate::reading::body::Body;
 use crate::reading::level::begun;
 use crate::reading::listener::Listener;
@@ -33,7 +34,7 @@ pub(crate) fn start<L: Listener>(
 {
     listener.message(header.version, header.kind, header.octets, header.id)?;
     body.reader.octets = header.octets;
-    body.reader.at = 10;
+    body.reader.at = HEADER as u32;
     body.reader.bit = 0;
     body.reader.first = 0;
     body.reader.stage = Stage::Leading(0);

@@ -10,11 +10,12 @@ ghost use Rattle.llrp_tree.specs.Lawful.{AreOctets};
 ghost use Rattle.llrp_tree.specs.Frame.{Frame};
 ghost use Rattle.llrp_stream.specs.declared.item.End.TheVariants as at_end;
 ghost use Rattle.llrp_stream.specs.Cuts.{Ends};
-ghost use Rattle.llrp_stream.specs.Frames.{Begins, Comes, ComesAt, ComesTo, Goes, GoesOn, IsBegun, IsBroken, IsDead, IsFrontOf, IsIdle, SkipsTo, Stops, limit_of, raw_of};
+ghost use Rattle.llrp_stream.specs.Frames.{Begins, Comes, ComesAt, ComesTo, Goes, GoesOn, IsBegun, IsBroken, IsDead, IsFrontOf, IsIdle, SkipsTo, Stops, held_of, limit_of, raw_of};
+ghost use Rattle.llrp_stream.specs.Decoding.{IsDecided};
 ghost use Rattle.llrp_stream.specs.Reading.{IsComplete};
 ghost use Rattle.llrp_stream.specs.Told.{Remains};
 ghost use Rattle.llrp_stream.specs.Headers.{IsSound};
-ghost use Rattle.llrp_stream.specs.Items.{IsSkipped};
+ghost use Rattle.llrp_stream.specs.Items.{HasHeaderFault, IsSkipped};
 
 use crate::header::{FaultyHeader, HEADER, Start, start_of};
 use crate::item::{End, FeedErr};
@@ -93,6 +94,29 @@ impl Frames {
         ensures few { result ≤ 16 }
     {
         self.body.raw.len() as u32
+    }
+
+    /// How much it keeps of the current frame, whichever listener receives its parts: its raw bytes,
+    /// and two for each open node. This is at most what was fed since the last frame ended, and 0
+    /// from the byte on that decides a fault of the frame.
+    pub fn held(&self) -> u32
+        ensures weight { result ≡ held_of self.now }
+        ensures within { (front : List ℕ) → IsFrontOf self.now front → 10 ≤ limit_of self.now
+            → result ≤ limit_of self.now }
+        ensures front { (front : List ℕ) → IsFrontOf self.now front → result ≤ length front }
+        ensures skipped { (front : List ℕ) → IsFrontOf self.now front
+            → HasHeaderFault (limit_of self.now) front → result ≡ 0 }
+        ensures decided { (front : List ℕ) → IsFrontOf self.now front
+            → IsDecided (limit_of self.now) front → result ≡ 0 }
+    {
+        match self.state {
+            State::Header => self.raw_octets(),
+            State::Reading { .. } => {
+                let open = self.body.reader.outer.len() as u32 + 1;
+                self.raw_octets() + 2 * open
+            }
+            State::Between | State::Skipping { .. } | State::Broken | State::Dead => 0,
+        }
     }
 
     /// Skips a frame of which `count` octets were taken.
@@ -350,6 +374,7 @@ impl Frames {
             }
         }
     }
+
     /// How the stream ends if no more bytes follow; `Rest` counts those after the last whole frame.
     pub fn finish(&self) -> End
         ensures stands { (front : List ℕ) → IsFrontOf self.now front → Ends front result }

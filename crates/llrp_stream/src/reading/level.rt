@@ -13,9 +13,9 @@ ghost use Rattle.llrp_tree.specs.FirstFault.{kind_checks};
 ghost use Rattle.llrp_tree.specs.Standing.{FailsFirst};
 ghost use Rattle.llrp_stream.specs.Reading.{AreSeen, IsPlaced, HeadSays};
 
-use crate::reading::numbers::{octet, word};
 use crate::reading::reader::bad;
 use llrp_schema::{Kind, MsgKind, ParamKind, Place, param_of_tlv, param_of_tv, place, required};
+use llrp_tree::numbers::{octet, word};
 use llrp_tree::{FrameErr, MAX_DEPTH, Reason};
 
 /// An open node: a message or parameter that has begun.

@@ -13,13 +13,10 @@ ghost use Rattle.llrp_stream.specs.OpenNodes.{fresh, with_value, with_tail, with
 
 use arrayvec::ArrayVec;
 use llrp_schema::{Kind, MsgKind, ParamKind};
-use llrp_tree::{MAX_DEPTH, Message, Node, Nodes, Octets};
+use llrp_tree::{LEVELS, Message, Node, Nodes, Octets};
 use std::alloc::{AllocError, Global};
 use std::default::MadeWith;
 use std::marker::Model;
-
-/// The greatest number of nodes around the innermost one.
-pub(crate) const LEVELS: usize = MAX_DEPTH as usize;
 
 /// The parameter with this type and value.
 fn parameter_of(alloc: Global, kind: ParamKind, value: u128) -> Node

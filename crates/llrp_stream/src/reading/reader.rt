@@ -19,12 +19,11 @@ ghost use Rattle.llrp_stream.specs.declared.reading.reader.Stage.TheVariants as 
 
 use crate::reading::level::{Child, Level, Placed, begun, child_head, is_enough};
 use crate::reading::listener::Listener;
-use crate::reading::numbers::from_bit;
-use crate::reading::open::LEVELS;
 use crate::reading::tail::is_absent;
 use arrayvec::ArrayVec;
 use llrp_schema::{Field, Kind};
-use llrp_tree::{Fault, FrameErr, Reason};
+use llrp_tree::numbers::from_bit;
+use llrp_tree::{Fault, FrameErr, LEVELS, Reason};
 
 /// What comes next in the innermost node.
 #[derive(Clone, Copy)]
@@ -68,6 +67,7 @@ pub struct Reader {
     pub first: u128,
     pub stage: Stage,
     pub top: Level,
+    /// The nodes around the innermost one, the message first.
     pub outer: ArrayVec<Level, LEVELS>,
 }
 

@@ -12,9 +12,9 @@ ghost use Rattle.llrp_stream.specs.Tails.{CountSays, HasWhole};
 ghost use Rattle.llrp_stream.specs.declared.reading.reader.Stage.TheVariants as Stage;
 
 use crate::reading::listener::Listener;
-use crate::reading::numbers::word;
 use crate::reading::reader::{Reader, Stage, Step, bad};
 use llrp_schema::Tail;
+use llrp_tree::numbers::word;
 use llrp_tree::{FrameErr, Reason};
 
 /// How many octets a tail has, and the count before it.

@@ -12,10 +12,10 @@ ghost use Rattle.llrp_stream.specs.declared.reading.reader.Stage.TheVariants as 
 
 use crate::reading::level::{Placed, child_kind};
 use crate::reading::listener::Listener;
-use crate::reading::numbers::{from_octet, octet};
 use crate::reading::reader::Reader;
 use llrp_schema::{Kind, ParamKind, param_of_tv};
 use llrp_tree::FrameErr;
+use llrp_tree::numbers::{from_octet, octet};
 
 /// How many octets the value of a parameter of type and value has.
 #[inline]

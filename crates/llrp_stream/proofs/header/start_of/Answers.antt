@@ -7,7 +7,7 @@ use Rattle.llrp_tree.proofs.OctetLemmas.{are_octets}
 use Rattle.llrp_stream.specs.Cuts.{length_field}
 use Rattle.llrp_stream.specs.Items.{id_field, header_fault}
 use Rattle.llrp_stream.proofs.HeaderLemmas.{four_octets}
-use Rattle.llrp_stream.proofs.Reached.{number_ahead}
+use Rattle.llrp_tree.proofs.HeaderLemmas.{number_ahead}
 use Rattle.llrp_stream.proofs.header.start_of.Goals as goal
 
 pub returns-then-octets : goal.returns-then-octets

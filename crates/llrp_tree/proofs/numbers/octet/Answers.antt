@@ -1,7 +1,7 @@
 use Rattle.std.proofs.Common.{sym}
 use Rattle.llrp_tree.proofs.OctetLemmas.{are_octets}
-use Rattle.llrp_stream.proofs.HeadLemmas.{octet_at}
-use Rattle.llrp_stream.proofs.reading.numbers.octet.Goals as goal
+use Rattle.llrp_tree.proofs.NumberLemmas.{octet_at}
+use Rattle.llrp_tree.proofs.numbers.octet.Goals as goal
 
 pub returns : goal.returns
 returns c = λ later. sym (octet_at c.args.octets.now later c.args.at (are_octets c.args.octets.now (λ i. c.type_inv.octets i)) c.requires)

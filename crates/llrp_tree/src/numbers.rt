@@ -1,4 +1,4 @@
-//! Reads numbers from octets, whatever follows them.
+//! Reads numbers from octets, whatever follows them; bit 0 is the most significant of the first octet.
 
 ghost use Rattle.std.specs.Prelude.{◌≡◌, ◌+◌, ◌*◌, ◌^◌, ◌<◌, ◌≤◌, Bool, List, ◌++◌, length};
 ghost use Rattle.tag_bits.specs.Digits.{digits_of_bytes};
@@ -6,7 +6,7 @@ ghost use Rattle.llrp_tree.specs.FirstFault.{number};
 
 use tag_bits::get;
 
-/// The number of this many bits from a bit on.
+/// The number of the `width` bits from bit `place` on.
 fn ahead(octets: &[u8], place: usize, width: u32) -> u128
     requires some { 1 ≤ width }
     requires narrow { width ≤ 128 }
@@ -18,9 +18,9 @@ fn ahead(octets: &[u8], place: usize, width: u32) -> u128
     get(octets, place, width)
 }
 
-/// The number in the octet at a place.
+/// The octet at a place, as a number.
 #[inline]
-pub(crate) fn octet(octets: &[u8], at: usize) -> u8
+pub fn octet(octets: &[u8], at: usize) -> u8
     requires { at < length octets.now }
     ensures { (later : List Bool)
         → result ≡ number (digits_of_bytes octets.now ++ later) (8 * at) 8 }
@@ -28,9 +28,9 @@ pub(crate) fn octet(octets: &[u8], at: usize) -> u8
     octets[at]
 }
 
-/// The number in the two octets from a place on.
+/// The number of the two octets from a place on.
 #[inline]
-pub(crate) fn word(octets: &[u8], at: usize) -> u16
+pub fn word(octets: &[u8], at: usize) -> u16
     requires { at + 2 ≤ length octets.now }
     ensures { (later : List Bool)
         → result ≡ number (digits_of_bytes octets.now ++ later) (8 * at) 16 }
@@ -38,7 +38,7 @@ pub(crate) fn word(octets: &[u8], at: usize) -> u16
     u16::from_be_bytes([octets[at], octets[at + 1]])
 }
 
-/// The number in the four octets from a place on.
+/// The number of the four octets from a place on.
 #[inline]
 fn four_octets(octets: &[u8], at: usize) -> u32
     requires { at + 4 ≤ length octets.now }
@@ -48,7 +48,7 @@ fn four_octets(octets: &[u8], at: usize) -> u32
     word(octets, at) as u32 * 65536 + word(octets, at + 2) as u32
 }
 
-/// The number in the eight octets from a place on.
+/// The number of the eight octets from a place on.
 #[inline]
 fn eight_octets(octets: &[u8], at: usize) -> u64
     requires { at + 8 ≤ length octets.now }
@@ -58,7 +58,7 @@ fn eight_octets(octets: &[u8], at: usize) -> u64
     four_octets(octets, at) as u64 * 4294967296 + four_octets(octets, at + 4) as u64
 }
 
-/// The number in the twelve octets from a place on.
+/// The number of the twelve octets from a place on.
 #[inline]
 fn twelve_octets(octets: &[u8], at: usize) -> u128
     requires { at + 12 ≤ length octets.now }
@@ -69,9 +69,9 @@ fn twelve_octets(octets: &[u8], at: usize) -> u128
     eight_octets(octets, at) as u128 * 4294967296 + four_octets(octets, at + 8) as u128
 }
 
-/// The number of this many bits from a bit of the octets on.
+/// The number of the `width` bits from a bit of the octets on.
 #[inline]
-pub(crate) fn from_bit(octets: &[u8], bit: usize, width: u32) -> u128
+pub fn from_bit(octets: &[u8], bit: usize, width: u32) -> u128
     requires some { 1 ≤ width }
     requires narrow { width ≤ 128 }
     requires within { bit + width ≤ 8 * length octets.now }
@@ -85,10 +85,10 @@ pub(crate) fn from_bit(octets: &[u8], bit: usize, width: u32) -> u128
     ahead(octets, bit, width)
 }
 
-/// The number of this many bits from an octet on. The widths of the tables are read by one load
-/// each.
+/// The number of the `width` bits from an octet on. Widths of 8, 16, 32, 64 and 96 bits, which most
+/// fields have, are read octet by octet without a loop.
 #[inline(always)]
-pub(crate) fn from_octet(octets: &[u8], at: u32, width: u32) -> u128
+pub fn from_octet(octets: &[u8], at: u32, width: u32) -> u128
     requires some { 1 ≤ width }
     requires narrow { width ≤ 128 }
     requires within { 8 * at + width ≤ 8 * length octets.now }

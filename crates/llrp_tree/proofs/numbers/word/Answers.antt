@@ -1,7 +1,7 @@
 use Rattle.std.proofs.Common.{sym, ◌∙◌}
 use Rattle.llrp_tree.proofs.OctetLemmas.{are_octets}
-use Rattle.llrp_stream.proofs.HeadLemmas.{word_at}
-use Rattle.llrp_stream.proofs.reading.numbers.word.Goals as goal
+use Rattle.llrp_tree.proofs.NumberLemmas.{word_at}
+use Rattle.llrp_tree.proofs.numbers.word.Goals as goal
 
 pub returns : goal.returns
 returns c = λ later.
