@@ -19,7 +19,7 @@ pub fn messages_read_back()
         → request_of (client_message m) ≡ request m.word }
 {}
 
-/// A message built from lawful words is lawful, and within every limit of at least 4,096 octets.
+/// A message built from lawful words is lawful, and within the limit, which is 4,096 octets or more.
 pub fn messages_are_lawful()
     ensures down { (limit : ℕ) (m : ReaderMessage) → 4096 ≤ limit → limit ≤ MAX_LIMIT
         → IsLawfulReaderMessage limit m → IsSendable limit (reader_message m) }
