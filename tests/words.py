@@ -115,6 +115,20 @@ def checks_of_tags(program):
         yield f"{digits} is answered by {line}", (done.returncode, done.stdout) == (0, f"urn:epc:raw:96.x{digits}\n{line}\n")
 
 
+def checks_of_limits(program):
+    """Yields whether the limits that are told are those of the code."""
+    tree, tool = text_of("crates/llrp_tree/src/lib.rt"), text_of("crates/llrp_tool/src/command.rt")
+    most, depth = (re.search(rf"pub const {name}: u\d+ = ([\d_]+);", tree)[1].replace("_", "") for name in ("MAX_LIMIT", "MAX_DEPTH"))
+    limit = re.search(r"pub const LIMIT: u32 = ([\d_]+);", tool)[1].replace("_", "")
+    for command in ("show", "encode"):
+        told = output(program, command, "--help")
+        yield f"{command}'s default limit", f"[default: {limit}]" in told
+        yield f"{command}'s greatest limit and depth", f"{int(most):,}" in told and f"{depth} levels" in told
+    yield "the greatest message of the library for C", f"#define LLRP_MOST_OCTETS {most}\n" in text_of("include/llrp.h")
+    for name in ("README.md", "docs/tables.md", "docs/errors.md", "docs/llrp.1"):
+        yield f"the limits in {name}", all(f"{int(it):,}" in text_of(name) for it in (most, limit)) and depth in text_of(name)
+
+
 def checks_of_version(program):
     """Yields whether the version is the source's, and said as help is."""
     version = re.search(r'const VERSION: &str = "([^"]+)"', text_of("crates/llrp_tool/src/words.rt"))[1]
@@ -149,7 +163,7 @@ def checks_of_manual():
 def main():
     program = os.path.abspath(sys.argv[1] if len(sys.argv) > 1 else os.path.join(TOP, "crates/llrp/out/llrp"))
     results = [*checks(program), *checks_of_errors(), *checks_of_version(program), *checks_of_arguments(program)]
-    results += [*checks_of_frames(program), *checks_of_tags(program), *checks_of_script(), *checks_of_manual()]
+    results += [*checks_of_frames(program), *checks_of_tags(program), *checks_of_limits(program), *checks_of_script(), *checks_of_manual()]
     failed = [what for what, is_right in results if not is_right]
     for what in failed:
         print(f"WRONG: {what}")
