@@ -1,5 +1,8 @@
 //! The program `llrp`: passes its words and its standard streams to the library of the command
 //! line, and exits with the status that this returns. It runs the commands over sockets itself.
+//!
+//! Read it to see what no contract covers: arguments, terminals, sockets and the exit status. The commands are in `llrp_tool`,
+//! the two ends of a connection in `llrp_endpoints`.
 #![tactic(auto)]
 
 mod ending;

@@ -127,7 +127,7 @@ pub enum Tail {
     Words,
     /// A count of 16 bits, and this many octets of UTF-8.
     Text,
-    /// As many bits as the last field says, filled up to whole octets.
+    /// As many bits as the only field says, filled up to whole octets.
     Bits,
 }
 
@@ -164,7 +164,7 @@ pub struct Place {
     pub once: bool,
 }
 
-/// The name of a kind, followed by spaces, so that a fixed number of octets can be copied.
+/// The name of a kind at the front of 32 octets, so that a fixed number of octets can be copied.
 #[derive(Clone, Copy, Debug)]
 pub struct Label {
     pub text: [u8; 32],

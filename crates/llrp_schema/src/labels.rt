@@ -103,7 +103,8 @@ static PARAMETERS: [Label; 54] = [
 ];
 
 /// Returns the name of a kind (LLRP 1.1, sections 17.1 and 17.2) at the front of 32 octets, so that
-/// a fixed number of them can be copied, and how many octets it has. Spaces follow the name.
+/// a fixed number of them can be copied, and how many octets it has. What follows the name has no
+/// meaning.
 ///
 /// The label of a KEEPALIVE has 9 octets.
 #[inline]

@@ -62,7 +62,7 @@ pub fn names_are_words()
     ensures short { (kind : Kind) → length (name_of kind) ≤ 32 }
 {}
 
-/// The fields of a kind, twelve at most, fill whole octets.
+/// The fields of a kind fill whole octets, at most twelve, and at most twelve are not reserved.
 #[tactic(auto, using(crate::proofs::TableLaws::whole_octets, crate::proofs::TableLaws::few_bits, crate::proofs::TableLaws::few_plain_fields))]
 pub fn fields_fill_octets()
     ensures whole { (kind : Kind) → bits_of (fields_of kind) % 8 ≡ 0 }

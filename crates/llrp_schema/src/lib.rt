@@ -1,7 +1,7 @@
 //! The messages and parameters of this profile of LLRP 1.1: each kind's number, name, fields, tail
 //! and groups of children, one row a kind.
 //!
-//! Use it where code has to know what LLRP's tables say, and nowhere write them again: all other crates are generic over it. A
+//! Use it where code has to know what LLRP's tables say, and nowhere write them again: the crates above are generic over it. A
 //! [`Kind`] is a message's [`MsgKind`] or a parameter's [`ParamKind`]; [`fields`], [`tail`] and [`groups`] give its row, and
 //! [`param_of_tlv`] and the like find a kind by its number.
 //!

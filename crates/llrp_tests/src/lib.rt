@@ -1,4 +1,7 @@
 //! Tests of what the libraries make public, the conformance vectors among them.
+//!
+//! Add a row here for each frame, listing, word or exchange that the standard or a reader gives; the modules are named after
+//! what they test. Expected values come from the standards, never from this project's own output. No crate uses it.
 #![tactic(auto)]
 
 #[cfg(test)]

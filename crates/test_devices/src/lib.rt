@@ -1,5 +1,8 @@
-//! What tests share: sources that give little a call and sinks that take little or have little room, each of which fails in one
-//! call, and three sightings.
+//! Devices that tests share: sources that give little a call, sinks that take little or have little room, each of which can fail
+//! in one call, and a script of three sightings.
+//!
+//! Use it in tests of calls over a source and a sink. [`Pieces`] gives a stream in pieces of one length after a first piece, and
+//! [`Room`] takes what fits into a fixed size; [`Dripping`] and [`Taking`] go an octet a call, and fail in the call of a number.
 #![tactic(auto)]
 
 mod sightings;
