@@ -6,7 +6,7 @@ use llrp_tool::Verdict;
 use std::test::*;
 
 /// What a client sends: the requests of one inventory in their order, and others.
-static REQUESTS: [Vector; 17] = [
+static REQUESTS: [Vector; 18] = [
     Vector {
         name: "the_rospec_of_a_plan",
         stream: "04140000004B00000001 00B10041000000010000 00B20012 00B3000500 00B600090000000000 00B7001800010000 00B800090000000000 00BA0007000101 00ED000D020000 00EE00061400",
@@ -92,10 +92,15 @@ static REQUESTS: [Vector; 17] = [
         stream: "08140000005400000002 00B1004A000000070300 00B20012 00B3000501 00B6000901000005DC 00B70021000200010003 00B800090000000000 00BA0007000501 00BA0007000601 00ED000D010002 00EE0006FFC0",
         listing: "0 ADD_ROSPEC 2 2\n1 ROSpec 7 3 0\n2 ROBoundarySpec\n3 ROSpecStartTrigger 1\n3 ROSpecStopTrigger 1 1500\n2 AISpec w1,3\n3 AISpecStopTrigger 0 0\n3 InventoryParameterSpec 5 1\n3 InventoryParameterSpec 6 1\n2 ROReportSpec 1 2\n3 TagReportContentSelector 1 1 1 1 1 1 1 1 1 1\n",
     },
+    Vector {
+        name: "get_rospecs_of_a_checked_plan",
+        stream: "041A0000000A00000006",
+        listing: "0 GET_ROSPECS 1 6\n",
+    },
 ];
 
 /// What a reader answers.
-static ANSWERS: [Vector; 13] = [
+static ANSWERS: [Vector; 17] = [
     Vector {
         name: "added",
         stream: "081E0000001200000002 011F000800000000",
@@ -160,6 +165,26 @@ static ANSWERS: [Vector; 13] = [
         name: "stopped_deleted_and_closed",
         stream: "04210000001200000005 011F000800000000 041F0000001200000006 011F000800000000 04040000001200000007 011F000800000000",
         listing: "0 STOP_ROSPEC_RESPONSE 1 5\n1 LLRPStatus 0 x\n0 DELETE_ROSPEC_RESPONSE 1 6\n1 LLRPStatus 0 x\n0 CLOSE_CONNECTION_RESPONSE 1 7\n1 LLRPStatus 0 x\n",
+    },
+    Vector {
+        name: "a_disabled_rospec_is_listed",
+        stream: "08240000004600000003 011F000800000000 00B10034000000010000 00B20012 00B3000500 00B600090000000000 00B7001800010000 00B800090000000000 00BA0007000101",
+        listing: "0 GET_ROSPECS_RESPONSE 2 3\n1 LLRPStatus 0 x\n1 ROSpec 1 0 0\n2 ROBoundarySpec\n3 ROSpecStartTrigger 0\n3 ROSpecStopTrigger 0 0\n2 AISpec w0\n3 AISpecStopTrigger 0 0\n3 InventoryParameterSpec 1 1\n",
+    },
+    Vector {
+        name: "an_enabled_rospec_is_listed",
+        stream: "08240000004600000004 011F000800000000 00B10034000000010001 00B20012 00B3000500 00B600090000000000 00B7001800010000 00B800090000000000 00BA0007000101",
+        listing: "0 GET_ROSPECS_RESPONSE 2 4\n1 LLRPStatus 0 x\n1 ROSpec 1 0 1\n2 ROBoundarySpec\n3 ROSpecStartTrigger 0\n3 ROSpecStopTrigger 0 0\n2 AISpec w0\n3 AISpecStopTrigger 0 0\n3 InventoryParameterSpec 1 1\n",
+    },
+    Vector {
+        name: "two_rospecs_are_listed",
+        stream: "08240000009000000003 011F000800000000 00B10034000000010000 00B20012 00B3000500 00B600090000000000 00B7001800010000 00B800090000000000 00BA0007000101 00B1004A000000070300 00B20012 00B3000501 00B6000901000005DC 00B70021000200010003 00B800090000000000 00BA0007000501 00BA0007000601 00ED000D010002 00EE0006FFC0",
+        listing: "0 GET_ROSPECS_RESPONSE 2 3\n1 LLRPStatus 0 x\n1 ROSpec 1 0 0\n2 ROBoundarySpec\n3 ROSpecStartTrigger 0\n3 ROSpecStopTrigger 0 0\n2 AISpec w0\n3 AISpecStopTrigger 0 0\n3 InventoryParameterSpec 1 1\n1 ROSpec 7 3 0\n2 ROBoundarySpec\n3 ROSpecStartTrigger 1\n3 ROSpecStopTrigger 1 1500\n2 AISpec w1,3\n3 AISpecStopTrigger 0 0\n3 InventoryParameterSpec 5 1\n3 InventoryParameterSpec 6 1\n2 ROReportSpec 1 2\n3 TagReportContentSelector 1 1 1 1 1 1 1 1 1 1\n",
+    },
+    Vector {
+        name: "the_rospec_of_a_checked_plan_is_listed",
+        stream: "04240000005300000006 011F000800000000 00B10041000000010001 00B20012 00B3000500 00B600090000000000 00B7001800010000 00B800090000000000 00BA0007000101 00ED000D020000 00EE00061400",
+        listing: "0 GET_ROSPECS_RESPONSE 1 6\n1 LLRPStatus 0 x\n1 ROSpec 1 0 1\n2 ROBoundarySpec\n3 ROSpecStartTrigger 0\n3 ROSpecStopTrigger 0 0\n2 AISpec w0\n3 AISpecStopTrigger 0 0\n3 InventoryParameterSpec 1 1\n2 ROReportSpec 2 0\n3 TagReportContentSelector 0 0 0 1 0 1 0 0 0 0\n",
     },
 ];
 

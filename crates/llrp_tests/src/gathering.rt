@@ -1,6 +1,7 @@
 //! Following a plan over pieces of a stream.
 
 ghost use Rattle.std.specs.Prelude.{◌≤◌};
+ghost use Rattle.llrp_tree.specs.declared.TheConstants.{MAX_LIMIT};
 
 use crate::octets::octets;
 use llrp_tool::{Gathering, ToolErr, checked_plan, standard_plan};
@@ -72,7 +73,7 @@ static REPORTS: [(&str, &[u8]); 5] = [
 /// A client of a plan of one poll.
 fn client(alloc: Global, limit: u32) -> Result<Gathering, ToolErr>
     requires least { 4096 ≤ limit }
-    requires most { limit ≤ 65536 }
+    requires most { limit ≤ MAX_LIMIT }
 {
     let plan = standard_plan(alloc, 0, 1)?;
     Ok(Gathering::new(alloc, plan, limit))

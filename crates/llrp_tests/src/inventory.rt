@@ -1,6 +1,7 @@
 //! Following a plan over devices.
 
 ghost use Rattle.std.specs.Prelude.{◌≤◌};
+ghost use Rattle.llrp_tree.specs.declared.TheConstants.{MAX_LIMIT};
 
 use crate::gathering::{ADD, CONNECTED, DOWN, ENABLE, LINES, UP};
 use crate::octets::{octets, spell};
@@ -120,7 +121,7 @@ pub(super) fn inventory_of(
     down: &[&str],
 ) -> Result<Inventory, ToolErr>
     requires least { 4096 ≤ limit }
-    requires most { limit ≤ 65536 }
+    requires most { limit ≤ MAX_LIMIT }
 {
     let down = octets(alloc, down)?;
     let mut up = Output::new(Vec::new(alloc));

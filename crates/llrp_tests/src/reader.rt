@@ -1,11 +1,12 @@
 //! Exchanges of the reader, octet by octet.
 
 ghost use Rattle.std.specs.Prelude.{◌≤◌};
+ghost use Rattle.llrp_tree.specs.declared.TheConstants.{MAX_LIMIT};
 
 use crate::octets::{are_spelled, decoded, octets};
 use llrp_session::{Reader, ReaderIn, RoState, Sighting, StepFault};
 use llrp_tool::ToolErr;
-use llrp_tree::{FrameErr, Message};
+use llrp_tree::{FrameErr, MAX_LIMIT, Message};
 use std::alloc::Global;
 use tag_bits::{Word, get};
 
@@ -432,7 +433,7 @@ fn steps_done(alloc: Global, reader: &mut Reader, steps: &[Step]) -> Result<usiz
 /// The same of a new reader of this limit, which it returns.
 fn steps_done_anew(alloc: Global, limit: u32, steps: &[Step]) -> Result<usize, ToolErr>
     requires least { 4096 ≤ limit }
-    requires most { limit ≤ 65536 }
+    requires most { limit ≤ MAX_LIMIT }
 {
     let mut reader = Reader::new(alloc, limit, 1);
     if reader.limit() != limit {
@@ -444,7 +445,7 @@ fn steps_done_anew(alloc: Global, limit: u32, steps: &[Step]) -> Result<usize, T
 #[test]
 fn exchanges(rt: HostRuntime) {
     for exchange in &EXCHANGES {
-        assert!(rt; 4096 <= exchange.limit && exchange.limit <= 65536);
+        assert!(rt; 4096 <= exchange.limit && exchange.limit <= MAX_LIMIT);
         let done = steps_done_anew(rt.alloc(), exchange.limit, exchange.steps);
         assert_eq!(rt; done, Ok(exchange.steps.len()), "at {}", exchange.name);
     }

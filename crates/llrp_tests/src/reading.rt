@@ -1,6 +1,7 @@
 //! Frames that are a message's, and the first faults of frames that are none.
 
 ghost use Rattle.std.specs.Prelude.{◌≤◌, ◌<◌};
+ghost use Rattle.llrp_tree.specs.declared.TheConstants.{MAX_LIMIT};
 
 use llrp_tree::{Fault, FrameErr, Message, Reason, decode_frame, encode_into};
 use std::alloc::Global;
@@ -25,7 +26,7 @@ const SGTIN_REPORT: [u8; 27] = [
 /// What `decode_frame` answers to octets whose length field is their number.
 fn decoded(rt: &impl Abort, alloc: Global, frame: &[u8], limit: u32) -> Result<Message, FrameErr>
     requires least { 10 ≤ limit }
-    requires most { limit ≤ 65536 }
+    requires most { limit ≤ MAX_LIMIT }
 {
     assert!(rt; frame.len() >= 10);
     let length = get(frame, 16, 32);

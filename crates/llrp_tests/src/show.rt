@@ -4,7 +4,7 @@ ghost use Rattle.std.specs.Prelude.{◌≤◌};
 ghost use Rattle.llrp_tree.specs.declared.TheConstants.{MAX_LIMIT};
 
 use crate::octets::octets;
-use llrp_tool::{Input, Output, ToolErr, Verdict, run_encode, run_show};
+use llrp_tool::{Input, Output, Refusal, ToolErr, Verdict, run_encode, run_show};
 use std::alloc::Global;
 use std::test::*;
 use test_devices::Pieces;
@@ -149,6 +149,19 @@ fn longest_message(rt: HostRuntime) -> Result<(), Fail> {
     let (verdict, text) = shown(&rt, stream.as_slice())?;
     assert!(rt; verdict == Verdict::Faulty);
     assert!(rt; text.as_slice() == b"! 1 16 MessageLength\n".as_slice());
+    Ok(())
+}
+
+#[test]
+fn longest_message_at_a_lower_limit(rt: HostRuntime) -> Result<(), Fail> {
+    let stream = longest_report(rt.alloc())?;
+    let (_, text) = shown_within(&rt, stream.as_slice(), 1_048_576)?;
+    let mut source = Input::new(text.as_slice());
+    let mut sink = Output::new(Vec::new(rt.alloc()));
+    let encoded = run_encode(rt.alloc(), &mut source, &mut sink, 65_536);
+    let reason = Refusal::OverLimit;
+    assert!(rt; encoded == Err(ToolErr::Listing { line: 1, reason }));
+    assert!(rt; sink.into_inner().is_empty());
     Ok(())
 }
 
