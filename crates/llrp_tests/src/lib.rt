@@ -9,6 +9,8 @@ mod both_ends;
 #[cfg(test)]
 mod client;
 #[cfg(test)]
+mod client_steps;
+#[cfg(test)]
 mod commands;
 #[cfg(test)]
 mod decoder;
@@ -41,6 +43,8 @@ mod reader;
 #[cfg(test)]
 mod reading;
 #[cfg(test)]
+mod reported_words;
+#[cfg(test)]
 mod script;
 #[cfg(test)]
 mod serve;
@@ -54,6 +58,8 @@ mod spelling;
 mod tables;
 #[cfg(test)]
 mod texts;
+#[cfg(test)]
+mod usage;
 #[cfg(test)]
 mod vectors;
 #[cfg(test)]

@@ -83,7 +83,7 @@ static FAULTY: [Row; 9] = [
         reason: Reason::Version,
     },
     Row {
-        name: "reserved bits behind a field",
+        name: "reserved bits after a field",
         frame: &[
             0x08, 0x03, 0, 0, 0, 0x14, 0, 0, 0, 5, 0x01, 0x00, 0xDC, 0, 9, 1, 0, 0, 3, 0xE8,
         ],
@@ -91,7 +91,7 @@ static FAULTY: [Row; 9] = [
         reason: Reason::Reserved,
     },
     Row {
-        name: "an octet behind the fields of a leaf",
+        name: "an octet after the fields of a leaf",
         frame: &[
             0x08, 0x03, 0, 0, 0, 0x15, 0, 0, 0, 5, 0x00, 0x00, 0xDC, 0, 0x0A, 1, 0, 0, 3, 0xE8, 0,
         ],

@@ -1,6 +1,7 @@
 //! Conformance vectors: streams as hexadecimal digits, and the listing of each.
 
 use crate::octets::octets;
+use crate::reported_words::WORDS;
 use crate::show::is_listed_cut;
 use llrp_tool::{Input, Output, ToolErr, Verdict, run_encode, run_show};
 use std::alloc::Global;
@@ -163,75 +164,6 @@ pub static LAWFUL: [Vector; 29] = [
     },
 ];
 
-/// Words of 96 bits, and the text of each.
-pub static WORDS: [(&'static str, &'static str, &'static str); 13] = [
-    (
-        "sgtin",
-        "3074257BF7194E4000001A85",
-        "urn:epc:tag:sgtin-96:3.0614141.812345.6789",
-    ),
-    (
-        "sgln_reference_of_no_digits",
-        "320000000000040000000000",
-        "urn:epc:tag:sgln-96:0.000000000001..0",
-    ),
-    (
-        "sgln_reference_out_of_range",
-        "320000000000060000000000",
-        "urn:epc:raw:96.x320000000000060000000000",
-    ),
-    (
-        "sgtin_prefix_out_of_range",
-        "3003A3529440000000000000",
-        "urn:epc:raw:96.x3003A3529440000000000000",
-    ),
-    (
-        "partition_seven",
-        "307C00000000000000000000",
-        "urn:epc:raw:96.x307C00000000000000000000",
-    ),
-    (
-        "gid_greatest",
-        "35FFFFFFFFFFFFFFFFFFFFFF",
-        "urn:epc:tag:gid-96:268435455.16777215.68719476735",
-    ),
-    (
-        "sscc_zero_tail",
-        "3114257BF400000001000000",
-        "urn:epc:tag:sscc-96:0.0614141.0000000001",
-    ),
-    (
-        "sscc_tail_not_zero",
-        "3114257BF400000001000001",
-        "urn:epc:raw:96.x3114257BF400000001000001",
-    ),
-    (
-        "grai_of_zeros",
-        "330000000000000000000000",
-        "urn:epc:tag:grai-96:0.000000000000..0",
-    ),
-    (
-        "gdti_of_zeros",
-        "2C0000000000000000000000",
-        "urn:epc:tag:gdti-96:0.000000000000..0",
-    ),
-    (
-        "gsrn_of_zeros",
-        "2D0000000000000000000000",
-        "urn:epc:tag:gsrn-96:0.000000000000.00000",
-    ),
-    (
-        "gsrn_tail_not_zero",
-        "2D54257BF4499602D2000001",
-        "urn:epc:raw:96.x2D54257BF4499602D2000001",
-    ),
-    (
-        "gdti_partition_seven",
-        "2C1C00000000000000000000",
-        "urn:epc:raw:96.x2C1C00000000000000000000",
-    ),
-];
-
 /// Streams in which some frame is not a message, or which end otherwise than with a frame.
 static FAULTY: [Vector; 33] = [
     Vector {
@@ -290,7 +222,7 @@ static FAULTY: [Vector; 33] = [
         listing: "? 26\n",
     },
     Vector {
-        name: "rest_behind_a_message",
+        name: "rest_after_a_message",
         stream: "083E0000000A00000007 08",
         listing: "0 KEEPALIVE 2 7\n? 1\n",
     },
