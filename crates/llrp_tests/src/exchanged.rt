@@ -1,6 +1,7 @@
 //! Conformance vectors of what a client and a reader send each other: requests and their answers, events
 //! and reports (LLRP 1.1, section 17).
 
+use crate::encode_cut::encodes_cut;
 use crate::vectors::{Vector, encodes, lists};
 use llrp_tool::Verdict;
 use std::test::*;
@@ -290,5 +291,18 @@ fn events_and_reports(rt: HostRuntime) {
             vector.name
         );
         assert!(rt; encodes(rt.alloc(), vector) == Ok(true), "{}", vector.name);
+    }
+}
+
+#[test]
+fn exchanged_listings_cut_anywhere(rt: HostRuntime) {
+    for vectors in [REQUESTS.as_slice(), ANSWERS.as_slice(), EVENTS.as_slice()] {
+        for vector in vectors {
+            assert!(rt;
+                encodes_cut(rt.alloc(), vector) == Ok(true),
+                "{}",
+                vector.name
+            );
+        }
     }
 }

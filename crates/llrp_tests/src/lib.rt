@@ -19,6 +19,8 @@ mod devices;
 #[cfg(test)]
 mod encode;
 #[cfg(test)]
+mod encode_cut;
+#[cfg(test)]
 mod epc;
 #[cfg(test)]
 mod epcs;
