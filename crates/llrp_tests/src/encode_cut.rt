@@ -1,11 +1,16 @@
-//! Listings that come in pieces.
+//! Listings that come in pieces, and what is written before the next read.
+
+ghost use Rattle.std.specs.Prelude.{◌≡◌, None};
+ghost use Rattle.llrp_stream.specs.Device.{new_source};
 
 use crate::octets::octets;
 use crate::vectors::{LAWFUL, Vector};
+use llrp_stream::Source;
 use llrp_tool::{Output, ToolErr, run_encode};
 use std::alloc::Global;
+use std::io;
 use std::test::*;
-use test_devices::Pieces;
+use test_devices::{Dripping, Pieces};
 
 /// The answer to a listing that comes in such pieces, and the octets written.
 pub(crate) fn encoded_in_pieces(
@@ -50,5 +55,131 @@ fn lawful_listings_cut_anywhere(rt: HostRuntime) {
             "{}",
             vector.name
         );
+    }
+}
+
+/// Gives a line a call, and fails in the call of this number, counted from 1.
+#[derive(Drop)]
+struct Lines<'a> {
+    rest: &'a [u8],
+    fails_in: u64,
+    calls: u64,
+    reads: u64,
+    ends: u64,
+    failures: u64,
+}
+
+impl<'a> Lines<'a> {
+    /// A source that fails in the call after this many lines.
+    fn after(rest: &'a [u8], lines: usize) -> Lines<'a>
+        ensures { ⟦<Lines<'a> as Source>⟧.log result ≡ new_source None }
+    {
+        Lines {
+            rest,
+            fails_in: (lines as u64).saturating_add(1),
+            calls: 0,
+            reads: 0,
+            ends: 0,
+            failures: 0,
+        }
+    }
+
+    /// How many octets the next line has, its end included.
+    fn line(&self) -> usize {
+        let mut length = 0usize;
+        for octet in self.rest {
+            length = length.saturating_add(1);
+            if *octet == b'\n' {
+                return length;
+            }
+        }
+        length
+    }
+}
+
+impl<'a> Source for Lines<'a> {
+    ghost log = { λ s. record { reads = s.reads; ends = s.ends; failures = s.failures; left = None } };
+
+    fn read(&mut self, buf: &mut [u8]) -> io::Result<usize> {
+        self.calls = self.calls.saturating_add(1);
+        if self.calls == self.fails_in {
+            self.failures += 1;
+            return Err(io::Error::from(io::ErrorKind::ConnectionReset));
+        }
+        let n = self.line().min(self.rest.len()).min(buf.len());
+        let (line, rest) = self.rest.split_at(n);
+        buf[..n].copy_from_slice(line);
+        self.rest = rest;
+        if n == 0 {
+            self.ends += 1;
+        } else {
+            self.reads += 1;
+        }
+        Ok(n)
+    }
+}
+
+/// Three messages in five lines, and the octets that each of them has.
+const FIVE_LINES: &[u8] = b"0 KEEPALIVE 2 7
+0 ERROR_MESSAGE 2 9
+1 LLRPStatus 100 x41c3a9
+0 KEEPALIVE_ACK 2 256
+0 GET_REPORT 2 1
+";
+
+const FOUR_MESSAGES: &str =
+    "083E0000000A00000007 08640000001500000009 011F000B0064000341C3A9 08480000000A00000100 083C0000000A00000001";
+
+/// How many octets the closed messages have once this many lines were read. A message is closed when the line of the next one
+/// was read: KEEPALIVE of 10 octets by the second line, ERROR_MESSAGE of 21 by the fourth, and KEEPALIVE_ACK of 10 by the fifth.
+fn closed_after(lines: usize) -> usize {
+    match lines {
+        0 | 1 => 0,
+        2 | 3 => 10,
+        4 => 31,
+        _ => 41,
+    }
+}
+
+/// Whether encoding from a source stops where reading fails, after the first this many octets of the messages were written.
+fn stops<R: Source>(alloc: Global, source: &mut R, count: usize) -> Result<bool, ToolErr> {
+    let messages = octets(alloc, &[FOUR_MESSAGES])?;
+    let mut sink = Output::new(Vec::new(alloc));
+    let answer = run_encode(alloc, source, &mut sink, 65_536);
+    let written = sink.into_inner();
+    Ok(
+        answer == Err(ToolErr::Read)
+            && written.len() == count
+            && messages.as_slice().starts_with(written.as_slice()),
+    )
+}
+
+#[test]
+fn closed_messages_are_written_before_the_next_line_is_read(rt: HostRuntime) {
+    for lines in 0..=5usize {
+        let mut source = Lines::after(FIVE_LINES, lines);
+        let stops = stops(rt.alloc(), &mut source, closed_after(lines));
+        assert!(rt; stops == Ok(true), "after {lines}");
+    }
+}
+
+/// How many lines end within the first this many octets.
+fn lines_within(listing: &[u8], count: usize) -> usize {
+    let mut lines = 0usize;
+    for octet in listing.iter().take(count) {
+        if *octet == b'\n' {
+            lines = lines.saturating_add(1);
+        }
+    }
+    lines
+}
+
+#[test]
+fn closed_messages_are_written_before_the_next_octet_is_read(rt: HostRuntime) {
+    for count in 0..=FIVE_LINES.len() {
+        let mut source = Dripping::after(FIVE_LINES, count);
+        let closed = closed_after(lines_within(FIVE_LINES, count));
+        let stops = stops(rt.alloc(), &mut source, closed);
+        assert!(rt; stops == Ok(true), "after {count}");
     }
 }
