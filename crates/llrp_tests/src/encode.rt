@@ -1,5 +1,9 @@
 //! Listings that are encoded or refused, and devices that fail.
 
+ghost use Rattle.std.specs.Prelude.{◌≤◌};
+ghost use Rattle.llrp_tree.specs.declared.TheConstants.{MAX_LIMIT};
+
+use crate::encode_cut::encoded_in_pieces;
 use crate::octets::octets;
 use llrp_tool::{Input, Output, Refusal, ToolErr, run_encode};
 use llrp_tree::NodeFault;
@@ -11,9 +15,21 @@ use test_devices::Taking;
 
 /// The answer to a listing, and the bytes written.
 fn encoded(alloc: Global, listing: &[u8]) -> (Result<(), ToolErr>, Vec<u8>) {
+    encoded_within(alloc, listing, 65536)
+}
+
+/// The same, at a limit.
+pub(crate) fn encoded_within(
+    alloc: Global,
+    listing: &[u8],
+    limit: u32,
+) -> (Result<(), ToolErr>, Vec<u8>)
+    requires least { 10 ≤ limit }
+    requires most { limit ≤ MAX_LIMIT }
+{
     let mut source = Input::new(listing);
     let mut sink = Output::new(Vec::new(alloc));
-    let answer = run_encode(alloc, &mut source, &mut sink, 65536);
+    let answer = run_encode(alloc, &mut source, &mut sink, limit);
     (answer, sink.into_inner())
 }
 
@@ -32,6 +48,29 @@ fn refuses(rt: &(impl Abort + AllocGlobal), listing: &[u8], line: u64, reason: R
         "at {line}"
     );
     assert!(rt; bytes.is_empty());
+}
+
+/// The first message of a listing is refused so; and also where a message comes before it, in pieces of 1, 7 and 4,096 octets,
+/// when that one is written and no more.
+pub(crate) fn refuses_anywhere(
+    rt: &(impl Abort + AllocGlobal),
+    listing: &[u8],
+    line: u64,
+    reason: Refusal,
+) -> Result<(), Fail> {
+    refuses(rt, listing, line, reason);
+    let mut after_a_message = Vec::from_slice(rt.alloc(), b"0 KEEPALIVE 2 7\n")?;
+    after_a_message.extend_from_slice(listing)?;
+    let line = line.saturating_add(1);
+    for size in [1, 7, 4096] {
+        let (answer, bytes) = encoded_in_pieces(rt.alloc(), after_a_message.as_slice(), size, size);
+        assert!(rt;
+            answer == Err(ToolErr::Listing { line, reason }),
+            "at {line} in pieces of {size}"
+        );
+        assert!(rt; bytes.as_slice() == b"\x08\x3e\0\0\0\x0a\0\0\0\x07".as_slice());
+    }
+    Ok(())
 }
 
 /// Listings of messages, and their bytes.
@@ -171,7 +210,7 @@ fn refusals_of_parameters(rt: HostRuntime) -> Result<(), Fail> {
             b"0 RO_ACCESS_REPORT 1 1\n1 TagReportData\n",
         )?;
         listing.extend_from_slice(third)?;
-        refuses(&rt, listing.as_slice(), *line, *reason);
+        refuses_anywhere(&rt, listing.as_slice(), *line, *reason)?;
     }
     Ok(())
 }
@@ -225,10 +264,11 @@ static LISTS_AND_CLOSINGS: [(&[u8], u64, Refusal); 11] = [
 ];
 
 #[test]
-fn refusals_of_lists_and_closings(rt: HostRuntime) {
+fn refusals_of_lists_and_closings(rt: HostRuntime) -> Result<(), Fail> {
     for (listing, line, reason) in &LISTS_AND_CLOSINGS {
-        refuses(&rt, listing, *line, *reason);
+        refuses_anywhere(&rt, listing, *line, *reason)?;
     }
+    Ok(())
 }
 
 /// A message longer than the limit is refused at its own line, and messages before it are written.

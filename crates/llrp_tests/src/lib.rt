@@ -37,6 +37,10 @@ mod hexadecimal;
 #[cfg(test)]
 mod inventory;
 #[cfg(test)]
+mod listing_epcs;
+#[cfg(test)]
+mod listing_nodes;
+#[cfg(test)]
 mod octets;
 #[cfg(test)]
 mod parts;
