@@ -30,11 +30,12 @@ Options:
 Reads a stream of LLRP messages on standard input, and prints its listing on standard output:
   0 NAME VERSION ID FIELDS   a message
   LEVEL NAME FIELDS TAIL     a parameter, one level below its parent
-  ! ID BIT REASON            a frame that is no message: its id, its first fault and the fault's bit
-  ? N                        N bytes at the end that are no whole frame
+  ! ID BIT REASON            a frame that is not a message: its id, its first fault and the fault's bit
+  ? N                        N bytes of an unfinished frame at the end
   ! BROKEN                   a length below 10, at which the stream breaks off
-docs/errors.md explains each REASON. A frame of more octets than --limit is a fault; N is 10 to
-1,048,576. The status is 0 where all frames are messages, and 1 where some are not.
+docs/errors.md explains each REASON. A frame of more octets than --limit is a fault, where N is 10 to
+1,048,576, and so are parameters nested more than 16 levels deep. The status is 0 if all frames are
+messages and the last one is whole, and 1 if not.
 
 Example:
   $ echo 083E0000000A00000007 | llrp show --hex
@@ -53,7 +54,7 @@ Options:
 Reads a listing on standard input, a line 0 NAME VERSION ID for each message, and writes the bytes of
 the messages on standard output. A line that is refused ends the command with status 1, and is named
 on standard error with the reason, which docs/errors.md explains; so is a message of more octets than
---limit. N is 10 to 1,048,576.
+--limit, where N is 10 to 1,048,576, or a parameter more than 16 levels deep.
 
 Example:
   $ echo 0 KEEPALIVE 2 7 | llrp encode --hex
@@ -73,7 +74,7 @@ Options:
 Prints the text of a tag's 96-bit word, or the word of a text:
   24 hexadecimal digits   the word's tag URI; or its raw URI, and # REASON BIT, which is why it has no
                           tag URI, and the first bit of the part that fails
-  any other text          the 24 digits of its word; or ! REASON, which is why it is the text of none
+  any other text          the 24 digits of its word; or ! REASON, which is why no word has this text
 docs/errors.md explains each REASON. The status is 1 for a text of no word, and 0 for every other.
 
 Examples:
@@ -122,13 +123,13 @@ Connects to an LLRP reader and asks it for its tags: it adds a ROSpec, enables a
 reports, and stops and deletes it again. With --timeout, a connection or a read that gets nothing for
 that many seconds ends the command. What it prints on standard output:
   TEXT ANTENNA RSSI        a tag: its tag URI, raw URI or bits N xHEX, its antenna, and its strength in
-                           dBm; - stands for one that the reader did not report
+                           dBm; - is written for one that the reader did not report
   = K                      the end of a report of K tags
   total TAGS REPORTS       the end of all reports
 
 With --check it asks the reader for its ROSpecs before it deletes its own. They have to be exactly those
-that it sees, each in the state that it sees; else it ends with the line llrp: strange and status 1.
-Reader firmware that loses a ROSpec, keeps an old one or reports a wrong state is found so.
+that it knows of, in the same states; otherwise it ends with the line llrp: strange and status 1. This
+finds reader firmware that loses a ROSpec, keeps an old one or reports a wrong state.
 
 Example:
   $ llrp inventory 127.0.0.1 5084 --polls 2
