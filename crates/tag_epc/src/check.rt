@@ -9,7 +9,7 @@ ghost use Rattle.tag_epc.specs.Numbers.{place_of_number};
 use crate::at_scheme;
 use crate::epc::Parts;
 use crate::fault::EpcFault;
-use crate::kind::Kind;
+use crate::kind::{GID_CLASS_BITS, GID_MANAGER_BITS, GID_SERIAL_BITS, Kind};
 use crate::scheme::{Row, Scheme, power};
 
 /// The numbers after a partition value.
@@ -118,11 +118,11 @@ pub fn checked_general(manager: u64, object_class: u64, serial: u64) -> Result<P
     ensures lawful { IfOk result (λ parts. IsLawful parts) }
     ensures err { IfErr result (λ f. HasEpcFault (Parts.General manager object_class serial) f) }
 {
-    if manager >> 28 != 0 {
+    if manager >> GID_MANAGER_BITS != 0 {
         Err(EpcFault::Prefix)
-    } else if object_class >> 24 != 0 {
+    } else if object_class >> GID_CLASS_BITS != 0 {
         Err(EpcFault::Reference)
-    } else if serial >> 36 != 0 {
+    } else if serial >> GID_SERIAL_BITS != 0 {
         Err(EpcFault::Last)
     } else {
         Ok(Parts::General {

@@ -11,7 +11,7 @@ use crate::bits::WordReader;
 use crate::check::{Number, first_unfit};
 use crate::epc::Parts;
 use crate::fault::{WordFault, WordReason};
-use crate::kind::Kind;
+use crate::kind::{GID_CLASS_BITS, GID_MANAGER_BITS, GID_SERIAL_BITS, Kind};
 use crate::scheme::Scheme;
 use tag_bits::Word;
 
@@ -70,9 +70,9 @@ fn general(reader: WordReader) -> Parts
     ensures { Spells result (digits 8 gid_header ++ reader) }
 {
     let mut reader = reader;
-    let manager = reader.take(28);
-    let object_class = reader.take(24);
-    let serial = reader.take(36);
+    let manager = reader.take(GID_MANAGER_BITS);
+    let object_class = reader.take(GID_CLASS_BITS);
+    let serial = reader.take(GID_SERIAL_BITS);
     Parts::General {
         manager,
         object_class,

@@ -8,7 +8,7 @@ ghost use Rattle.tag_epc.specs.LawfulWord.{IsLawful, HasWord, AllFit, fill, spel
 use crate::at_scheme;
 use crate::bits::WordWriter;
 use crate::epc::Parts;
-use crate::kind::{GID_HEADER, Kind};
+use crate::kind::{GID_CLASS_BITS, GID_HEADER, GID_MANAGER_BITS, GID_SERIAL_BITS, Kind};
 use crate::scheme::Scheme;
 use tag_bits::Word;
 
@@ -76,8 +76,8 @@ fn general(manager: u64, object_class: u64, serial: u64) -> Word
 {
     let mut writer = WordWriter::new();
     writer.push(8, GID_HEADER as u64);
-    writer.push(28, manager);
-    writer.push(24, object_class);
-    writer.push(36, serial);
+    writer.push(GID_MANAGER_BITS, manager);
+    writer.push(GID_CLASS_BITS, object_class);
+    writer.push(GID_SERIAL_BITS, serial);
     writer.word()
 }

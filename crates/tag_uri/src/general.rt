@@ -10,6 +10,7 @@ use crate::decimal::number_below;
 use crate::fault::UriFault;
 use crate::rules::{is_stray, is_zero_led};
 use tag_epc::Parts;
+use tag_epc::kind::{GID_CLASS_BITS, GID_MANAGER_BITS, GID_SERIAL_BITS};
 
 /// The parts of an EPC of GID-96 by its components, or the first rule that refuses them.
 pub fn read_general(text: &str) -> Result<Parts, UriFault>
@@ -62,9 +63,9 @@ fn parts_of(manager: &str, object_class: &str, serial: &str) -> Option<Parts>
     ensures ok { IfSome result (λ parts. components_of parts ≡ manager.now ∷ object_class.now
         ∷ serial.now ∷ []) }
 {
-    let manager = number_below(manager, 28)?;
-    let object_class = number_below(object_class, 24)?;
-    let serial = number_below(serial, 36)?;
+    let manager = number_below(manager, GID_MANAGER_BITS)?;
+    let object_class = number_below(object_class, GID_CLASS_BITS)?;
+    let serial = number_below(serial, GID_SERIAL_BITS)?;
     Some(Parts::General {
         manager,
         object_class,

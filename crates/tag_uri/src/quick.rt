@@ -9,7 +9,7 @@ ghost use Rattle.tag_uri.specs.Decimal.{plain};
 ghost use Rattle.tag_uri.specs.TagText.{tag_uri, tag_start, scheme_text};
 
 use crate::reading::{digits_before, plain_between};
-use tag_epc::kind::KINDS;
+use tag_epc::kind::{GID_CLASS_BITS, GID_MANAGER_BITS, GID_SERIAL_BITS, KINDS};
 use tag_epc::scheme::Scheme;
 use tag_epc::{Kind, Parts, at_scheme};
 
@@ -223,13 +223,13 @@ fn quick_general(text: &[u8], from: usize) -> Option<Parts>
     let Some(serial) = plain_between(text, second + 1, text.len()) else {
         return None;
     };
-    if manager >> 28 != 0 {
+    if manager >> GID_MANAGER_BITS != 0 {
         return None;
     }
-    if object_class >> 24 != 0 {
+    if object_class >> GID_CLASS_BITS != 0 {
         return None;
     }
-    if serial >> 36 != 0 {
+    if serial >> GID_SERIAL_BITS != 0 {
         return None;
     }
     Some(Parts::General {
