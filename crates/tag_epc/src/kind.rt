@@ -8,11 +8,13 @@ use crate::scheme::Scheme;
 /// The first eight bits of each word of GID-96.
 pub const GID_HEADER: u8 = 0x35;
 
-/// How many bits the parts of GID-96 have after the header: manager number, object class, serial number.
+/// How many bits the manager number of GID-96 has.
 pub const GID_MANAGER_BITS: u32 = 28;
 
+/// How many bits the object class of GID-96 has.
 pub const GID_CLASS_BITS: u32 = 24;
 
+/// How many bits the serial number of GID-96 has.
 pub const GID_SERIAL_BITS: u32 = 36;
 
 /// The schemes of 96-bit EPCs (EPC Tag Data Standard 1.13, section 14.2).
