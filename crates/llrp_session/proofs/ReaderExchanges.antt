@@ -7,7 +7,7 @@ use Rattle.llrp_tree.specs.declared.fault.Reason.TheVariants.{Version, MessageTy
 use Rattle.llrp_session.specs.RoSpec.{rospec_of, report_spec_of}
 use Rattle.llrp_session.specs.Table.{Disabled, Inactive, Active, change, without, enter, state_of, octets_of, active, first_immediate}
 use Rattle.llrp_session.specs.TagReport.{tag_report}
-use Rattle.llrp_session.specs.Words.{Adding, Starting, Stopping, Enabling, Disabling, Listing, Configuring, Closing, AddRoSpec, StartRoSpec, StopRoSpec, EnableRoSpec, DisableRoSpec, GetRoSpecs, SetReaderConfig, GetReports, CloseConnection, Unsupported, Response, Error, Report, KeepaliveSent, Accepted, Started, Ended, Overflowed, ReaderWord, ReaderMessage}
+use Rattle.llrp_session.specs.Words.{Adding, Starting, Stopping, Enabling, Disabling, Configuring, Closing, AddRoSpec, StartRoSpec, StopRoSpec, EnableRoSpec, DisableRoSpec, GetRoSpecs, SetReaderConfig, GetReports, CloseConnection, Unsupported, Response, Listed, Error, Report, KeepaliveSent, Accepted, Started, Ended, Overflowed, ReaderWord, ReaderMessage}
 use Rattle.llrp_session.specs.Refusal.{Closed, NotConnected, AlreadyUp}
 use Rattle.llrp_session.specs.ReaderMachine.{Reader, ReaderEvent, Connect, Take, TakeBad, Seen, Tick, new_reader, next, serve, end, configured, see, tick}
 use Rattle.llrp_session.specs.Sightings.{history, no_history}
@@ -98,6 +98,13 @@ pub enable_then_start : sent_by (connected (added ++ (0, Take 2 3 (EnableRoSpec 
     ≡ accepted ∷ message 2 2 (Response Adding 0) ∷ message 2 3 (Response Enabling 0) ∷ message 2 4 (Response Starting 0) ∷ message 2 2 (Started 5 1) ∷ []
 unfolding next serve end configured see tick change without enter state_of octets_of active first_immediate rospec_of report_spec_of tag_report number_of rule_of param_rule fields_of tail_of is_tv body_octets
 enable_then_start = refl
+
+-- GET_ROSPECS lists the ROSpec with the state that it has: Disabled, and Inactive once it is enabled
+pub get_rospecs : (sent_by (connected (added ++ (0, Take 2 3 GetRoSpecs) ∷ [])) ≡ accepted ∷ message 2 2 (Response Adding 0) ∷ message 2 3 (Listed (record { spec = rospec_of rospec; state = Disabled } ∷ [])) ∷ [])
+    × (sent_by (connected (added ++ (0, Take 2 3 (EnableRoSpec 1)) ∷ (0, Take 2 4 GetRoSpecs) ∷ []))
+    ≡ accepted ∷ message 2 2 (Response Adding 0) ∷ message 2 3 (Response Enabling 0) ∷ message 2 4 (Listed (record { spec = rospec_of rospec; state = Inactive } ∷ [])) ∷ [])
+unfolding next serve end configured see tick change without enter state_of octets_of active first_immediate rospec_of report_spec_of tag_report number_of rule_of param_rule fields_of tail_of is_tv body_octets
+get_rospecs = (refl, refl)
 
 -- a ROSpec with an immediate start trigger starts once it is enabled
 pub enable_starts : sent_by (connected running) ≡ started
