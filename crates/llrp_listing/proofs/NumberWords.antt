@@ -1,5 +1,6 @@
 -- What the words of numbers say.
-use Rattle.std.proofs.Common.{◌≡◌, ℕ, ◌-◌, ◌^◌, ◌<◌, ◌≤◌, ◌⊎◌, inl, inr, Bool, true, false, List, ◌∷◌, Some, None, Result, Ok, Err, refl, sym, ap, ◌∙◌, arith, decimal}
+use Rattle.std.proofs.Common.{◌≡◌, ℕ, ◌-◌, ◌^◌, ◌<◌, ◌≤◌, ◌⊎◌, inl, inr, Bool, true, false, List, ◌∷◌, Some, None, Result, Ok, Err, refl, sym, ap, ◌∙◌, arith, decimal, [], length, get_or, drop, take}
+use Rattle.std.proofs.lemmas.List.{take_all}
 use Rattle.std.specs.Prelude.{nat_lt, ◌&&◌}
 use Rattle.std.specs.Char.{is_ascii_digit}
 use Rattle.std.specs.Str.{all_ascii_digits}
@@ -100,6 +101,13 @@ signed_below ds (Err reason) h = (λ has. below has.0 has.1 has.2, h.0)
       | inl small ↦ no_minus n small ds (e ∙ signed_positive n small)
       | inr large ↦ h.1 n large (omega arith) (let t : 45 ∷ ds ≡ 45 ∷ decimal (256 - n) = e ∙ signed_negative n large in cc)
     ]
+
+-- a word that begins with a minus
+pub sign_first : (w : List ℕ) → 1 ≤ length w → get_or w 0 0 ≡ 45 → w ≡ 45 ∷ take (length w - 1) (drop 1 w)
+sign_first [] some e = absurd (omega (arith, some))
+sign_first (c ∷ w) some e =
+    let all : take (length (c ∷ w) - 1) w ≡ w = take_all (length (c ∷ w) - 1) w (omega arith) in
+    ap (λ (z : ℕ). z ∷ w) e ∙ ap (λ (z : List ℕ). 45 ∷ z) (sym all)
 
 -- what is read where there is no minus
 pub signed_from : (w : List ℕ) (r : Result ℕ Refusal) → ((ds : List ℕ) → w ≡ 45 ∷ ds → ⊥) → ReadsPositive w r → ReadsNumber Signed w r

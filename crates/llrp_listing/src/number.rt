@@ -1,18 +1,80 @@
 //! The numbers of a line, each read from its word.
 
-ghost use Rattle.std.specs.Prelude.{◌≡◌};
+ghost use Rattle.std.specs.Prelude.{◌≡◌, ◌<◌, ◌≤◌, ◌^◌, ◌++◌, IfSome, Some, None, if◌then◌else◌, length};
+ghost use Rattle.std.specs.Str.{all_ascii_digits};
+ghost use Rattle.std.specs.Str.Parse.{digits_value};
 ghost use Rattle.llrp_schema.specs.Schema.{field_rule};
+ghost use Rattle.tag_uri.specs.Decimal.{padded};
 ghost use Rattle.llrp_listing.specs.LineChecks.{ReadsNumber};
 ghost use Rattle.llrp_listing.specs.LineReading.{ReadsNegative, ReadsPositive};
 ghost use Rattle.llrp_listing.specs.NodeLine.{Epc, Id, Signed, Unsigned, Version, field_form};
-ghost use Rattle.llrp_listing.specs.Numeral.{numeral};
+ghost use Rattle.llrp_listing.specs.Numeral.{ReadsFront, numeral};
 
 use crate::fault::Refusal;
 use llrp_schema::Field;
-use tag_uri::word_of_text;
+use tag_uri::{number_of_last, word_of_text};
 
 /// How many bits the field of an EPC-96 has; no other field has as many.
 pub const EPC_BITS: u32 = 96;
+
+/// The number of the first eight octets, if those are digits, and the octets after them.
+fn eight_ahead(octets: &[u8]) -> Option<(u64, &[u8])>
+    ensures below { IfSome result (λ x. x.0 < 10 ^ 8) }
+    ensures digits { IfSome result (λ x. octets.now ≡ padded 8 x.0 ++ x.1.now) }
+{
+    let [a, b, c, d, e, f, g, h, after @ ..] = octets else {
+        return None;
+    };
+    let number = number_of_last([*a, *b, *c, *d, *e, *f, *g, *h], 8)?;
+    Some((number, after))
+}
+
+/// Reads digits, eight at a time, and returns their number and the octets after them.
+fn read_eights(digits: &[u8]) -> (u64, &[u8])
+    requires { length digits.now ≤ 19 }
+    ensures { ReadsFront digits.now result.1.now result.0 }
+{
+    let mut n: u64 = 0;
+    let mut rest = digits;
+    'eights: while let Some((eight, after)) = eight_ahead(rest) {
+        n = n * 100_000_000 + eight;
+        rest = after;
+    }
+    (n, rest)
+}
+
+/// The number of these digits, of which there are at most 19; `None` if an octet is no digit.
+fn short_number(digits: &[u8]) -> Option<u64>
+    requires { length digits.now ≤ 19 }
+    ensures { result ≡ (if all_ascii_digits digits.now then Some (digits_value 10 digits.now)
+        else None) }
+{
+    let (front, rest) = read_eights(digits);
+    let mut n = front;
+    for b in rest {
+        if !b.is_ascii_digit() {
+            return None;
+        }
+        n = n * 10 + (*b - b'0') as u64;
+    }
+    Some(n)
+}
+
+/// The same of at most 20 digits.
+fn long_number(digits: &[u8]) -> Option<u128>
+    requires { length digits.now ≤ 20 }
+    ensures { result ≡ (if all_ascii_digits digits.now then Some (digits_value 10 digits.now)
+        else None) }
+{
+    let mut n: u128 = 0;
+    for b in digits {
+        if !b.is_ascii_digit() {
+            return None;
+        }
+        n = n * 10 + (*b - b'0') as u128;
+    }
+    Some(n)
+}
 
 /// The number that the word is in decimal, with at most 20 digits.
 #[tactic(auto, unfolding(crate::specs::Numeral::numeral))]
@@ -22,14 +84,11 @@ pub fn numeral(word: &[u8]) -> Option<u128>
     if word.is_empty() || word.len() > 20 || (word.len() > 1 && word[0] == b'0') {
         return None;
     }
-    let mut n: u128 = 0;
-    for b in word {
-        if !b.is_ascii_digit() {
-            return None;
-        }
-        n = n * 10 + (*b - b'0') as u128;
+    if word.len() == 20 {
+        return long_number(word);
     }
-    Some(n)
+    let n = short_number(word)?;
+    Some(n as u128)
 }
 
 /// Reads a message's version, 1 or 2.
@@ -69,13 +128,16 @@ fn read_unsigned(word: &str) -> Result<u128, Refusal>
 }
 
 /// Reads a number from -128 to 127 as eight bits.
-fn read_signed(word: &str) -> Result<u128, Refusal>
+pub fn read_signed(word: &[u8]) -> Result<u128, Refusal>
     ensures { ReadsNumber Signed word.now result }
 {
-    match word.strip_prefix('-') {
-        Some(digits) => below_zero(digits.as_bytes()),
-        None => from_zero(word.as_bytes()),
+    let [first, digits @ ..] = word else {
+        return from_zero(word);
+    };
+    if *first != b'-' {
+        return from_zero(word);
     }
+    below_zero(digits)
 }
 
 /// Reads a number from 0 to 127 as eight bits.
@@ -105,7 +167,7 @@ fn below_zero(digits: &[u8]) -> Result<u128, Refusal>
 }
 
 /// Reads the 96 bits of an EPC.
-fn read_epc(word: &str) -> Result<u128, Refusal>
+pub fn read_epc(word: &str) -> Result<u128, Refusal>
     ensures { ReadsNumber Epc word.now result }
 {
     match word_of_text(word) {
@@ -121,7 +183,7 @@ pub fn read_field(field: &Field, word: &str) -> Result<u128, Refusal>
     if field.width == EPC_BITS {
         read_epc(word)
     } else if field.signed {
-        read_signed(word)
+        read_signed(word.as_bytes())
     } else {
         read_unsigned(word)
     }

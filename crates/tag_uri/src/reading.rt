@@ -28,7 +28,7 @@ fn number_of_eight(digits: u64) -> Option<u64>
 
 /// The number of the last `count` of eight octets, if those are digits.
 #[inline(always)]
-fn number_of_last(octets: [u8; 8], count: usize) -> Option<u64>
+pub fn number_of_last(octets: [u8; 8], count: usize) -> Option<u64>
     requires few { count ≤ 8 }
     ensures below { IfSome result (λ n. n < 10 ^ count) }
     ensures digits { IfSome result (λ n. drop (8 - count) octets ≡ padded count n) }

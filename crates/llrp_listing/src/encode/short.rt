@@ -9,11 +9,11 @@ ghost use Rattle.llrp_schema.specs.Schema.{field_rule, fields_of, name_of, tail_
 ghost use Rattle.llrp_tree.specs.declared.TheConstants.{MAX_DEPTH};
 ghost use Rattle.llrp_listing.specs.Encoder.{SaysAt};
 ghost use Rattle.llrp_listing.specs.LineChecks.{LONGEST_LINE, ReadsNumber};
-ghost use Rattle.llrp_listing.specs.NodeLine.{field_form};
+ghost use Rattle.llrp_listing.specs.NodeLine.{Epc, field_form};
 ghost use Rattle.llrp_listing.specs.ShortLines.{AreAllNumbers, short_level, short_node};
 
 use crate::line::LONGEST_LINE;
-use crate::number::{EPC_BITS, numeral, read_field};
+use crate::number::{EPC_BITS, numeral, read_epc, read_signed};
 use crate::spaced::split_once;
 use llrp_schema::{Field, Kind, MsgKind, ParamKind, Tail, msg_named, param_named};
 use llrp_tree::MAX_DEPTH;
@@ -44,13 +44,26 @@ pub enum ShortLine {
 fn field_value(rule: &Field, word: &[u8]) -> Option<u128>
     ensures { IfSome result (λ n. ReadsNumber (field_form (field_rule rule.now)) word.now (Ok n)) }
 {
-    if rule.width != EPC_BITS && !rule.signed {
+    if rule.width == EPC_BITS {
+        return epc_value(word);
+    }
+    if !rule.signed {
         return numeral(word);
     }
+    match read_signed(word) {
+        Ok(number) => Some(number),
+        Err(_) => None,
+    }
+}
+
+/// The 96 bits of an EPC.
+fn epc_value(word: &[u8]) -> Option<u128>
+    ensures { IfSome result (λ n. ReadsNumber Epc word.now (Ok n)) }
+{
     let Ok(text) = str::from_utf8(word) else {
         return None;
     };
-    match read_field(rule, text) {
+    match read_epc(text) {
         Ok(number) => Some(number),
         Err(_) => None,
     }
