@@ -57,6 +57,7 @@ pub fn pass_all<W: Sink>(writer: &mut Writer, w: &mut W) -> Result<(), ToolErr>
     requires rests { (out : List ℕ) × (ns : List OpenNode) × Rests writer.old out ns }
     ensures passed { OnOk result ((out : List ℕ) (ns : List OpenNode) → Rests writer.old out ns
         → PassesOn writer.new out ns (W.log w.old) (W.log w.new)) }
+    ensures none_left { OnOk result (writer.new.from ≡ 0) }
     ensures limit { writer.new.limit ≡ writer.old.limit }
     ensures failed { IfErr result (λ e. (out : List ℕ) (ns : List OpenNode)
         → Rests writer.old out ns → Writes out (W.log w.old) (W.log w.new) result) }

@@ -84,6 +84,7 @@ impl Writer {
     /// Nothing is written yet, and no line is open.
     pub fn new(alloc: Global, limit: u32) -> Writer
         ensures rests { Rests result [] [] }
+        ensures none_left { result.from ≡ 0 }
         ensures limit { result.limit ≡ limit }
     {
         Writer {
