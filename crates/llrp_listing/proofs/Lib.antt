@@ -35,6 +35,7 @@ pub mod Rows
 pub mod Running
 pub mod ShortLines
 pub mod ShortReading
+pub mod ShowAnswers
 pub mod ShowLemmas
 pub mod SplitWords
 pub mod Standing

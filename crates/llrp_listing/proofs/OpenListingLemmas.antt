@@ -103,7 +103,7 @@ more_plain (s ∷ rs) (u ∷ vs) v r others e f =
 next_form : (rs : List FieldRule) (vs : List ℕ) (r : FieldRule) (others : List FieldRule) → drop (length vs) rs ≡ r ∷ others → r.reserved ≡ false
     → drop (length (plain_values rs vs)) (map field_form (plain rs)) ≡ field_form r ∷ map field_form (plain others)
 next_form [] vs r others e f = absurd (none_dropped vs r others e)
-next_form (s ∷ rs) [] r others e f = (let same : s ≡ r = cc in let behind : rs ≡ others = cc in let g : s.reserved ≡ false = ap (λ (x : FieldRule). x.reserved) same ∙ f in rw g (ap (λ (x : FieldRule). field_form x ∷ map field_form (plain rs)) same ∙ ap (λ (x : List FieldRule). field_form r ∷ map field_form (plain x)) behind))
+next_form (s ∷ rs) [] r others e f = (let same : s ≡ r = cc in let after : rs ≡ others = cc in let g : s.reserved ≡ false = ap (λ (x : FieldRule). x.reserved) same ∙ f in rw g (ap (λ (x : FieldRule). field_form x ∷ map field_form (plain rs)) same ∙ ap (λ (x : List FieldRule). field_form r ∷ map field_form (plain x)) after))
 next_form (s ∷ rs) (u ∷ vs) r others e f =
     let rest = next_form rs vs r others e f in
     elim s.reserved as (λ b. drop (length (if b then plain_values rs vs else u ∷ plain_values rs vs)) (map field_form (cond (not b) (s ∷ plain rs) (plain rs))) ≡ field_form r ∷ map field_form (plain others)) [ true ↦ rest | false ↦ rest ]
@@ -329,14 +329,14 @@ pub reserved_of : (t : List Begun) (rule : FieldRule) (v : ℕ) (old : List ℕ)
 reserved_of [] rule v old o nx f = absurd o
 reserved_of (b ∷ outer) rule v old o nx f = reserved_begins b outer rule v old o nx f
 
-nothing_behind : (text : List ℕ) (n : ℕ) → n ≡ length text → drop n text ≡ []
-nothing_behind text n e = drop_all n text (omega arith)
+nothing_after : (text : List ℕ) (n : ℕ) → n ≡ length text → drop n text ≡ []
+nothing_after text n e = drop_all n text (omega arith)
 
 -- the text of a message that is whole was appended, and nothing follows
 pub appended : (mark new : ℕ) (text was : List ℕ) (b : Begun) (m : MessageTree) → new ≡ length text → mark ≤ length text → take mark text ≡ was → AreLines (message_lines m) (drop mark text)
     → (now : List ℕ) × (new ≤ length text) × (take new text ≡ now) × Opened [] (drop new text) × AppendsLines (message_lines m) was now
 appended mark new text was b m e le w a =
-    (text, omega arith, take_all new text (omega arith), nothing_behind text new e, (drop mark text, sym (take-append-drop mark text) ∙ ap (λ (x : List ℕ). x ++ drop mark text) w, a))
+    (text, omega arith, take_all new text (omega arith), nothing_after text new e, (drop mark text, sym (take-append-drop mark text) ∙ ap (λ (x : List ℕ). x ++ drop mark text) w, a))
 
 taken_back : (mark : ℕ) (text cut was : List ℕ) → cut ≡ take mark text → mark ≤ length text → take mark text ≡ was → (mark ≤ length cut) × (take mark cut ≡ was) × Opened [] (drop mark cut)
 taken_back mark text cut was e le w =

@@ -30,8 +30,8 @@ use Rattle.llrp_listing.proofs.OneText.{one_stream_listing}
 
 -- ---- a message's spelling is a frame
 
-length_behind : (v t n : ℕ) (rest : List Bool) → n < 2 ^ 32 → number (digits 3 0 ++ (digits 3 v ++ (digits 10 t ++ (digits 32 n ++ rest)))) 16 32 ≡ n
-length_behind v t n rest fits =
+length_after : (v t n : ℕ) (rest : List Bool) → n < 2 ^ 32 → number (digits 3 0 ++ (digits 3 v ++ (digits 10 t ++ (digits 32 n ++ rest)))) 16 32 ≡ n
+length_after v t n rest fits =
     let d : List Bool = digits 32 n ++ rest in
     let c : List Bool = digits 10 t ++ d in
     number_behind 3 0 13 32 (digits 3 v ++ c) ∙ number_behind 3 v 10 32 c ∙ number_behind 10 t 0 32 d ∙ number_own 32 n rest fits
@@ -41,7 +41,7 @@ length_spelled m long =
     let body : List Bool = body_digits (Message m.kind) m.fields [] ++ spell m.children in
     let fits : message_octets m < 2 ^ 32 = omega arith in
     ap (λ (ds : List Bool). number ds 16 32) (header_spread m.version m.kind (message_octets m) m.id body)
-    ∙ length_behind m.version (number_of (Message m.kind)) (message_octets m) (digits 32 m.id ++ body) fits
+    ∙ length_after m.version (number_of (Message m.kind)) (message_octets m) (digits 32 m.id ++ body) fits
 
 is_frame : (limit : ℕ) (m : MessageTree) (bytes : List ℕ) → Frame m bytes limit → IsFrame bytes
 unfolding length_field

@@ -1,6 +1,6 @@
 -- The listing of a stream as it comes.
 use Rattle.std.proofs.Common.{◌≡◌, ◌⊎◌, ◌≤◌, arith, length, ℕ, Bool, true, false, List, [], ◌∷◌, ◌++◌, take, drop, refl, sym, ap, subst, ◌∙◌, append_assoc, Err, Ok, inl, inr, Some, None}
-use Rattle.std.specs.Prelude.{◌&&◌, Option, Result, OnOk, IfErr, IfOk, MatchResult}
+use Rattle.std.specs.Prelude.{◌&&◌, Option, Result, OnOk, IfErr}
 use Rattle.std.specs.List.{flat_map, list_all}
 use Rattle.std.proofs.lemmas.List.{append-nil, take-append-drop, take_all, drop_all}
 use Rattle.std.proofs.lemmas.List.Concat.{flat_map-append}
@@ -13,7 +13,7 @@ use Rattle.llrp_stream.specs.declared.item.Item.TheVariants as of_item
 use Rattle.llrp_stream.specs.declared.item.End.{End}
 use Rattle.llrp_stream.specs.declared.item.End.TheVariants as at_end
 use Rattle.llrp_stream.specs.Cuts.{IsFrame, Breaks, Ends}
-use Rattle.llrp_stream.specs.Device.{SourceLog, SinkLog, Gave, Wrote}
+use Rattle.llrp_stream.specs.Device.{SinkLog, Wrote}
 use Rattle.llrp_stream.specs.declared.reading.frames.Frames.{Frames}
 use Rattle.llrp_stream.specs.declared.reading.frames.Outcome.{Outcome}
 use Rattle.llrp_stream.specs.declared.reading.frames.Outcome.TheVariants.{Whole, Bad}
@@ -28,13 +28,12 @@ use Rattle.llrp_listing.specs.declared.fault.ToolErr.TheVariants.{Listing, Scrip
 use Rattle.llrp_listing.specs.declared.fault.Verdict.{Verdict}
 use Rattle.llrp_listing.specs.declared.printing.printer.Printer.{Printer}
 use Rattle.llrp_listing.specs.declared.show.Lister.{Lister}
-use Rattle.llrp_listing.specs.Copying.{HandsOn, IsPrefix, Writes, ReadAll}
-use Rattle.llrp_listing.specs.Encoding.{WasRead}
-use Rattle.llrp_listing.specs.Lister.{Awaits, Holds, Tells, ListedSoFar, GoesOn, IsBrokenOff, Finishes, Feeds, KeepsFew, Lists, ListsOrFails}
+use Rattle.llrp_listing.specs.Copying.{HandsOn, IsPrefix, Writes}
+use Rattle.llrp_listing.specs.Lister.{Awaits, Holds, Tells, ListedSoFar, GoesOn, IsBrokenOff, Finishes, KeepsFew, Lists, ListsOrFails}
 use Rattle.llrp_listing.specs.OpenListing.{Begins, IsMarked, Opened}
 use Rattle.llrp_listing.specs.MessageListing.{message_lines}
 use Rattle.llrp_listing.specs.Printing.{AppendsItem, AppendsLines}
-use Rattle.llrp_listing.specs.Show.{verdict_of, Listed, BeginsListing, Stopped, WroteFrames, ShowStopped, Shows}
+use Rattle.llrp_listing.specs.Show.{verdict_of, Listed, BeginsListing, Stopped, WroteFrames}
 use Rattle.llrp_listing.specs.StreamListing.{IsItemText, AreItemTexts, IsStreamListing, end_text, fault_text, is_message, is_clean, is_lawful}
 use Rattle.llrp_listing.proofs.DeviceLemmas.{wrote_nothing, wrote_more, wrote_then_failed, same_failures}
 use Rattle.llrp_listing.proofs.EngineLemmas.{comes_so, comes_idle, comes_partial, few_kept, none_kept, tree_told}
@@ -465,53 +464,3 @@ further done rest piece after used e d =
 -- a piece stopped listing, as a part of a longer one
 pub stopped_there : (limit : ℕ) (bytes done rest piece : List ℕ) (old after : SinkLog) (e : ToolErr) → piece ≡ done ++ rest → Stopped limit ((bytes ++ done) ++ rest) old after e → Stopped limit (bytes ++ piece) old after e
 stopped_there limit bytes done rest piece old after e parts stopped = subst (λ (x : List ℕ). Stopped limit x old after e) (as_far bytes done rest piece parts) stopped
-
--- ---- a command
-
--- after a piece all may be finished
-pub fed_finishes : (limit : ℕ) (bytes : List ℕ) (old now : SinkLog) (lister : Lister) (goes_on : Bool) → Feeds limit bytes old now lister (Ok goes_on) → Finishes limit bytes old now lister
-fed_finishes limit bytes old now lister true fed = inl ([], fed)
-fed_finishes limit bytes old now lister false fed = inr fed
-
-pub finishes_failures : (limit : ℕ) (bytes : List ℕ) (old now : SinkLog) (lister : Lister) → Finishes limit bytes old now lister → now.failures ≡ old.failures
-finishes_failures limit bytes old now lister finishes = elim finishes [
-  | inl goes ↦ same_failures old now goes.1.listed.sent goes.1.listed.log
-  | inr broken ↦ same_failures old now broken.listed.sent broken.listed.log
-]
-
-stopped_reading : (limit : ℕ) (r0 r1 : SourceLog) (w0 w1 : SinkLog) (bytes : List ℕ) (e : ToolErr) → WasRead r0 r1 bytes → Stopped limit bytes w0 w1 e → ShowStopped limit r0 r1 w0 w1 e
-stopped_reading limit r0 r1 w0 w1 bytes Write read stopped = (bytes, read, stopped)
-stopped_reading limit r0 r1 w0 w1 bytes Memory read stopped = (bytes, read, stopped)
-stopped_reading limit r0 r1 w0 w1 bytes Read read stopped = absurd stopped.log
-stopped_reading limit r0 r1 w0 w1 bytes Bound read stopped = absurd stopped.log
-stopped_reading limit r0 r1 w0 w1 bytes Hex read stopped = absurd stopped.log
-stopped_reading limit r0 r1 w0 w1 bytes (Script line) read stopped = absurd stopped.log
-stopped_reading limit r0 r1 w0 w1 bytes Broken read stopped = absurd stopped.log
-stopped_reading limit r0 r1 w0 w1 bytes Early read stopped = absurd stopped.log
-stopped_reading limit r0 r1 w0 w1 bytes (Peer status) read stopped = absurd stopped.log
-stopped_reading limit r0 r1 w0 w1 bytes Strange read stopped = absurd stopped.log
-stopped_reading limit r0 r1 w0 w1 bytes (Listing line reason) read stopped = absurd stopped.log
-
--- listing stopped while it read
-pub shows_stopped : (limit k : ℕ) (r0 r1 : SourceLog) (w0 w1 : SinkLog) (bytes : List ℕ) (e : ToolErr) → Gave r0 r1 k bytes → Stopped limit bytes w0 w1 e → ShowStopped limit r0 r1 w0 w1 e
-shows_stopped limit k r0 r1 w0 w1 bytes e gave stopped = stopped_reading limit r0 r1 w0 w1 bytes e (inl (k, gave)) stopped
-
--- all was read
-pub shows_all : (limit : ℕ) (r0 r1 : SourceLog) (w0 w1 : SinkLog) (bytes : List ℕ) (answer : Result Verdict ToolErr) → ReadAll r0 r1 bytes
-    → MatchResult answer (λ verdict. Listed limit bytes w0 w1 verdict) (λ e. Stopped limit bytes w0 w1 e) → Shows limit r0 r1 w0 w1 answer
-shows_all limit r0 r1 w0 w1 bytes (Ok verdict) all listed = inl (bytes, all, listed)
-shows_all limit r0 r1 w0 w1 bytes (Err e) all stopped = stopped_reading limit r0 r1 w0 w1 bytes e (inr all) stopped
-
--- the stream broke
-pub shows_broken : (limit k : ℕ) (r0 r1 : SourceLog) (w0 w1 : SinkLog) (bytes : List ℕ) (answer : Result Verdict ToolErr) → Gave r0 r1 k bytes
-    → ((more : List ℕ) → MatchResult answer (λ verdict. Listed limit (bytes ++ more) w0 w1 verdict) (λ e. Stopped limit (bytes ++ more) w0 w1 e)) → Shows limit r0 r1 w0 w1 answer
-shows_broken limit k r0 r1 w0 w1 bytes (Ok verdict) gave listed = inr (k, bytes, gave, listed)
-shows_broken limit k r0 r1 w0 w1 bytes (Err e) gave stopped = shows_stopped limit k r0 r1 w0 w1 bytes e gave (subst (λ (x : List ℕ). Stopped limit x w0 w1 e) (append-nil bytes) (stopped []))
-
-pub listed_of : (limit : ℕ) (bytes : List ℕ) (w0 w1 : SinkLog) (answer : Result Verdict ToolErr) → MatchResult answer (λ verdict. Listed limit bytes w0 w1 verdict) (λ e. Stopped limit bytes w0 w1 e) → IfOk answer (λ verdict. Listed limit bytes w0 w1 verdict)
-listed_of limit bytes w0 w1 (Ok verdict) m = m
-listed_of limit bytes w0 w1 (Err e) m = tt
-
-pub stopped_of : (limit : ℕ) (bytes : List ℕ) (w0 w1 : SinkLog) (answer : Result Verdict ToolErr) → MatchResult answer (λ verdict. Listed limit bytes w0 w1 verdict) (λ e. Stopped limit bytes w0 w1 e) → IfErr answer (λ e. Stopped limit bytes w0 w1 e)
-stopped_of limit bytes w0 w1 (Ok verdict) m = tt
-stopped_of limit bytes w0 w1 (Err e) m = m

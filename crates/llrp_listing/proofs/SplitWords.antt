@@ -81,12 +81,12 @@ pub that_number : (w : List ℕ) (m n : ℕ) → Some m ≡ numeral w → n < 2 
 that_number w m n some lt e = let same : numeral w ≡ Some n = ap numeral e ∙ numeral_back n (omega arith) in cc
 
 -- after - comes the number's magnitude
-pub behind_sign : (digits : List ℕ) (z : ℤ) → FitsSigned w8 z → 45 ∷ digits ≡ signed_decimal z → (n : ℕ) × (z ≡ negsuc n) × (n < 128) × (digits ≡ decimal (suc n))
-behind_sign digits (pos n) f e = let t = f.sfits in absurd (no_sign n digits (omega (arith, t)) e)
+pub after_sign : (digits : List ℕ) (z : ℤ) → FitsSigned w8 z → 45 ∷ digits ≡ signed_decimal z → (n : ℕ) × (z ≡ negsuc n) × (n < 128) × (digits ≡ decimal (suc n))
+after_sign digits (pos n) f e = let t = f.sfits in absurd (no_sign n digits (omega (arith, t)) e)
   where
     no_sign : (n : ℕ) (digits : List ℕ) → n < 2 ^ 64 → 45 ∷ digits ≡ decimal n → ⊥
     no_sign n digits lt e = lacks_not 45 (decimal n) [] digits (decimal_lacks 45 n (omega arith) lt) (sym e)
-behind_sign digits (negsuc n) f e = let t = f.sfits in (n, refl, omega (arith, t), cc)
+after_sign digits (negsuc n) f e = let t = f.sfits in (n, refl, omega (arith, t), cc)
 
 -- ---- two words and what follows them
 

@@ -8,7 +8,6 @@ use Rattle.llrp_schema.specs.declared.kinds.Kind.TheVariants.{Message, Parameter
 use Rattle.llrp_listing.specs.ListingRules.{parameters_onto, parameters_of, message_of, lines_onto, row}
 use Rattle.llrp_listing.specs.MessageListing.{parameter_lines, message_lines, messages_lines}
 use Rattle.llrp_listing.specs.NodeLine.{NodeLine, parameter_line, message_line}
-use Rattle.llrp_listing.specs.OpenLines.{lines_below}
 use Rattle.llrp_listing.specs.OpenText.{Forest, end, node, nodes}
 use Rattle.llrp_listing.specs.OpenTextSteps.{join}
 

@@ -1,9 +1,8 @@
 //! Loops over sources and sinks.
 
-ghost use Rattle.std.specs.Prelude.{◌+◌, ◌<◌, ◌≡◌, ◌^◌, IfErr, IfOk, List, OnOk, [], length, ℕ};
-ghost use Rattle.llrp_listing.specs.Copying.{HandsOn, ReadAll, ReadStopped, Writes};
+ghost use Rattle.std.specs.Prelude.{◌+◌, ◌<◌, ◌≡◌, ◌^◌, IfErr, IfOk, List, OnOk, [], ℕ};
+ghost use Rattle.llrp_listing.specs.Copying.{ReadAll, ReadStopped, Writes};
 ghost use Rattle.llrp_stream.specs.Device.{IsFreshSource};
-ghost use Rattle.llrp_listing.specs.declared.copying.TheConstants.{PIECE_SIZE};
 
 use crate::fault::ToolErr;
 use llrp_stream::{Sink, Source};
@@ -66,19 +65,4 @@ pub fn hand_on<W: Sink>(gathered: &mut Vec<u8>, w: &mut W) -> Result<(), ToolErr
     write_all(w, gathered.as_slice())?;
     gathered.clear();
     Ok(())
-}
-
-/// Writes the buffer to the sink once it holds 64 KiB.
-pub fn hand_on_pieces<W: Sink>(gathered: &mut Vec<u8>, w: &mut W) -> Result<(), ToolErr>
-    requires { (W.log w.old).failures + 1 < 2 ^ 64 }
-    ensures handed { OnOk result (HandsOn gathered.old.items gathered.new.items (W.log w.old)
-        (W.log w.new)) }
-    ensures below_a_piece { OnOk result (length gathered.new.items < PIECE_SIZE) }
-    ensures failed { IfErr result (λ e. Writes gathered.old.items (W.log w.old)
-        (W.log w.new) result) }
-{
-    if gathered.len() < PIECE_SIZE {
-        return Ok(());
-    }
-    hand_on(gathered, w)
 }

@@ -126,6 +126,7 @@ impl Lister {
         Ok(verdict(self.lawful, end))
     }
 }
+
 /// Writes the listing of a stream. The errors are `Write` and `Memory`, after which some first part
 /// of the listing was written.
 pub fn list_stream<W: Sink>(

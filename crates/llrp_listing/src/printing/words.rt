@@ -8,14 +8,12 @@ ghost use Rattle.tag_uri.specs.TagText.{IsTextOf};
 ghost use Rattle.llrp_listing.specs.NodeLine.{field_form, number_forms, parameter_line, spaced, AreNumberTexts, IsLine, IsNumberText};
 ghost use Rattle.llrp_listing.specs.Place.{Puts};
 
+use crate::number::EPC_BITS;
 use crate::printing::decimal::{put_below_hundred, put_decimal, put_number, put_signed};
 use crate::printing::place::{put_first, put_octet};
 use llrp_schema::{Field, Kind, MsgKind, ParamKind, label};
 use tag_bits::Word;
 use tag_uri::put_text_of_word;
-
-/// The width of an EPC's word in bits.
-const EPC_WIDTH: u32 = 96;
 
 /// Puts a level, of one digit or two, and a space.
 #[inline(always)]
@@ -91,7 +89,7 @@ fn put_form(room: &mut [u8], at: usize, rule: &Field, number: u128) -> usize
         × Puts room.old room.new at result word }
     ensures most { result ≤ at + 64 }
 {
-    if rule.width == EPC_WIDTH {
+    if rule.width == EPC_BITS {
         put_epc(room, at, number)
     } else if rule.signed {
         put_signed(room, at, number as u8)

@@ -1,6 +1,6 @@
 use Rattle.std.proofs.Common.{[], arith}
 use Rattle.std.proofs.lemmas.Result.{err_from_is_err_and}
-use Rattle.llrp_listing.proofs.ShowLemmas.{fed_finishes, finishes_failures, listed_of, stopped_of}
+use Rattle.llrp_listing.proofs.ShowAnswers.{fed_finishes, finishes_failures, listed_of, stopped_of}
 use Rattle.llrp_listing.proofs.show.list_stream.Goals as goal
 
 pub feed-requires-clause-on : goal.feed-requires-clause-on

@@ -5,7 +5,8 @@ use Rattle.llrp_stream.specs.Device.{Took, Gave}
 use Rattle.llrp_listing.specs.Copying.{MOST_READS}
 use Rattle.llrp_listing.specs.Lister.{GoesOn, IsBrokenOff}
 use Rattle.llrp_listing.proofs.DeviceLemmas.{gave_nothing, read_more, failed_read, all_read}
-use Rattle.llrp_listing.proofs.ShowLemmas.{frames_written, shows_all, shows_broken, shows_stopped, broken_off, fed_finishes, finishes_failures}
+use Rattle.llrp_listing.proofs.ShowAnswers.{shows_all, shows_broken, shows_stopped, fed_finishes, finishes_failures}
+use Rattle.llrp_listing.proofs.ShowLemmas.{frames_written, broken_off}
 use Rattle.llrp_listing.proofs.show.run_show.Goals as goal
 
 pub loop-init : goal.loop-init
