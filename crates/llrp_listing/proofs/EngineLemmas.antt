@@ -10,9 +10,10 @@ use Rattle.llrp_stream.specs.declared.state.State.{State}
 use Rattle.llrp_stream.specs.declared.state.State.TheVariants as state
 use Rattle.llrp_stream.specs.declared.reading.frames.Frames.{Frames}
 use Rattle.llrp_stream.specs.Cuts.{IsPartial}
-use Rattle.llrp_stream.specs.Frames.{ComesAt, ComesTo, IsIdle, Stops, limit_of, raw_of}
+use Rattle.llrp_stream.specs.Frames.{ComesAt, ComesTo, IsIdle, Stops, held_at, held_of, limit_of, raw_of}
 use Rattle.llrp_stream.specs.Pieces.{Stands, Awaits, IsShort}
 use Rattle.llrp_stream.specs.Reading.{Are, Told}
+use Rattle.llrp_stream.proofs.EngineHeld.{held_limit}
 use Rattle.llrp_stream.proofs.FramesLemmas.{state_comes}
 
 module _ (b0 s0 b1 s1 : List Begun → Type 0) (begins : (t : List Begun) → b0 t → b1 t) (stands : (t : List Begun) → s0 t → s1 t) where
@@ -86,22 +87,18 @@ module _ (begins stands : List Begun → Type 0) where
   pub comes_idle : (frames : Frames) → IsIdle frames → stands [] → ComesTo begins stands frames []
   comes_idle frames i st = state_comes begins stands _ state.Between _ _ [] (sym i.0) (refl, i.1, st)
 
-  few_at : (limit : ℕ) (s : State) (body : Body) (front : List ℕ) → 10 ≤ limit → ComesAt begins stands limit s body front → (length body.raw.items ≤ 16) × (length body.raw.items ≤ limit)
-  few_at limit state.Between body front least k = (let none = ap (λ (x : List ℕ). length x) k.1 in (omega (arith, none), omega (arith, none)))
-  few_at limit state.Header body front least k = (let same = ap (λ (x : List ℕ). length x) k.0 in (omega (arith, same, k.2), omega (arith, same, k.2)))
-  few_at limit (state.Reading id) body front least k =
-      let st = k.awaits.stands_for in
-      let same = ap (λ (x : List ℕ). length x) st.raw in
-      let more : length front < body.reader.octets = k.awaits.short.more in
-      (omega (arith, st.few), omega (arith, same, length-drop body.reader.at front, more, k.passed.within))
-  few_at limit (state.Skipping count header) body front least k = (let none = ap (λ (x : List ℕ). length x) k.3 in (omega (arith, none), omega (arith, none)))
-  few_at limit state.Broken body front least k = absurd k
-  few_at limit state.Dead body front least k = absurd k
+  few_at : (limit : ℕ) (s : State) (body : Body) (front : List ℕ) → ComesAt begins stands limit s body front → length body.raw.items ≤ 16
+  few_at limit state.Between body front k = let none = ap (λ (x : List ℕ). length x) k.1 in omega (arith, none)
+  few_at limit state.Header body front k = let same = ap (λ (x : List ℕ). length x) k.0 in omega (arith, same, k.2)
+  few_at limit (state.Reading id) body front k = let few = k.awaits.stands_for.few in omega (arith, few)
+  few_at limit (state.Skipping count header) body front k = let none = ap (λ (x : List ℕ). length x) k.3 in omega (arith, none)
+  few_at limit state.Broken body front k = absurd k
+  few_at limit state.Dead body front k = absurd k
 
-  -- few octets are kept as they are
-  pub few_kept : (frames : Frames) (front : List ℕ) → 10 ≤ limit_of frames → ComesTo begins stands frames front → (length (raw_of frames) ≤ 16) × (length (raw_of frames) ≤ limit_of frames)
-  few_kept frames front least k = few_at _ _ _ front least k
+  -- few octets are kept as they are, and with the open nodes they are within the limit
+  pub few_kept : (frames : Frames) (front : List ℕ) → 10 ≤ limit_of frames → ComesTo begins stands frames front → (length (raw_of frames) ≤ 16) × (held_of frames ≤ limit_of frames)
+  few_kept frames front least k = (few_at frames.limit frames.state frames.body front k, held_limit begins stands frames.limit frames.state frames.body front least k)
 
 -- and none after a break
-pub none_kept : (frames : Frames) → Stops frames failure.Broken → raw_of frames ≡ []
-none_kept frames s = s.1
+pub none_kept : (frames : Frames) → Stops frames failure.Broken → (raw_of frames ≡ []) × (held_of frames ≡ 0)
+none_kept frames s = (s.1, ap (λ (x : State). held_at x frames.body) s.0)

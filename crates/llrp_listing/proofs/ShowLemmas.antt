@@ -254,7 +254,10 @@ goes_few limit bytes gathered old now lister least goes =
     record { few = k.0; within = omega (arith, k.1, e) }
 
 pub broken_few : (limit : ℕ) (lister : Lister) → Stops lister.frames failure.Broken → KeepsFew limit lister
-broken_few limit lister s = (let none = ap (λ (x : List ℕ). length x) (none_kept lister.frames s) in record { few = omega (arith, none); within = omega (arith, none) })
+broken_few limit lister s =
+    let kept = none_kept lister.frames s in
+    let none = ap (λ (x : List ℕ). length x) kept.0 in
+    record { few = omega (arith, none); within = omega (arith, kept.1) }
 
 -- a broken stream stays so, whatever follows
 pub broken_off : (limit : ℕ) (bytes more : List ℕ) (old now : SinkLog) (lister : Lister) → IsBrokenOff limit bytes old now lister → IsBrokenOff limit (bytes ++ more) old now lister

@@ -8,7 +8,7 @@ use Rattle.llrp_stream.specs.declared.item.Item.{Item}
 use Rattle.llrp_stream.specs.declared.reading.frames.Outcome.{Outcome}
 use Rattle.llrp_stream.specs.Cuts.{Breaks}
 use Rattle.llrp_stream.specs.Device.{SinkLog, Wrote}
-use Rattle.llrp_stream.specs.Frames.{ComesTo, Gives, IsBroken, limit_of, raw_of}
+use Rattle.llrp_stream.specs.Frames.{ComesTo, Gives, IsBroken, held_of, limit_of, raw_of}
 use Rattle.llrp_stream.specs.Items.{IsItemOf, ItemsSoFar}
 use Rattle.llrp_listing.specs.declared.fault.ToolErr.{ToolErr}
 use Rattle.llrp_listing.specs.declared.fault.ToolErr.TheVariants.{Memory}
@@ -62,10 +62,10 @@ pub record IsBrokenOff (limit : ℕ) (bytes : List ℕ) (old now : SinkLog) (lis
   pub broken : IsBroken lister.frames
   pub holds : Holds lister.printer gathered []
 
--- Of a frame that is not whole the engine keeps at most 16 octets as they are, and no more than the limit. All else that it keeps is of one size.
+-- Of a frame that is not whole the engine keeps at most 16 octets as they are; with two for each open node, that is no more than the limit.
 pub record KeepsFew (limit : ℕ) (lister : Lister) : Type 0 where
   pub few : length (raw_of lister.frames) ≤ 16
-  pub within : length (raw_of lister.frames) ≤ limit
+  pub within : held_of lister.frames ≤ limit
 
 -- it takes more of some stream
 abbrev pub CanGoOn : SinkLog → Lister → Type 0

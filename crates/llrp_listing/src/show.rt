@@ -90,7 +90,7 @@ impl Lister {
         ensures feeds { (limit : ℕ) (bytes gathered : List ℕ) (log : SinkLog)
             → GoesOn limit bytes gathered log (W.log w.old) self.old
             → Feeds limit (bytes ++ piece.now) log (W.log w.new) self.new result }
-        // What the engine keeps of a frame is never more than the limit.
+        // What the engine keeps of a frame is at most 16 octets as they are, and within the limit.
         ensures held { (limit : ℕ) (bytes gathered : List ℕ) (log : SinkLog)
             → GoesOn limit bytes gathered log (W.log w.old) self.old → 10 ≤ limit
             → OnOk result (KeepsFew limit self.new) }

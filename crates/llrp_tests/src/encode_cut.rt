@@ -1,7 +1,7 @@
 //! Listings that come in pieces, and what is written before the next read.
 
 ghost use Rattle.std.specs.Prelude.{◌≡◌, None};
-ghost use Rattle.llrp_stream.specs.Device.{new_source};
+ghost use Rattle.llrp_stream.specs.Device.{IsFreshSource, new_source};
 
 use crate::octets::octets;
 use crate::vectors::{LAWFUL, Vector};
@@ -119,7 +119,7 @@ impl<'a> Source for Lines<'a> {
     }
 }
 
-/// Three messages in five lines, and the octets that each of them has.
+/// Four messages in five lines.
 const FIVE_LINES: &[u8] = b"0 KEEPALIVE 2 7
 0 ERROR_MESSAGE 2 9
 1 LLRPStatus 100 x41c3a9
@@ -127,6 +127,7 @@ const FIVE_LINES: &[u8] = b"0 KEEPALIVE 2 7
 0 GET_REPORT 2 1
 ";
 
+/// The octets of these messages.
 const FOUR_MESSAGES: &str =
     "083E0000000A00000007 08640000001500000009 011F000B0064000341C3A9 08480000000A00000100 083C0000000A00000001";
 
@@ -142,7 +143,9 @@ fn closed_after(lines: usize) -> usize {
 }
 
 /// Whether encoding from a source stops where reading fails, after the first this many octets of the messages were written.
-fn stops<R: Source>(alloc: Global, source: &mut R, count: usize) -> Result<bool, ToolErr> {
+fn stops<R: Source>(alloc: Global, source: &mut R, count: usize) -> Result<bool, ToolErr>
+    requires { IsFreshSource (R.log source.old) }
+{
     let messages = octets(alloc, &[FOUR_MESSAGES])?;
     let mut sink = Output::new(Vec::new(alloc));
     let answer = run_encode(alloc, source, &mut sink, 65_536);

@@ -6,7 +6,8 @@ use std::alloc::Global;
 use std::test::*;
 use tag_uri::UriFault;
 
-/// Texts that no EPC-96 has, and the first rule that each breaks. The last text of a rule breaks a later one as well.
+/// Texts that no EPC-96 has, and the first rule that each breaks. Up to Digits, the last text of a rule breaks the next one as
+/// well.
 static TEXTS: [(&str, UriFault); 54] = [
     ("3074257BF7194E4000001A85", UriFault::Start),
     ("urn:epc:tag", UriFault::Start),
@@ -67,7 +68,7 @@ static TEXTS: [(&str, UriFault); 54] = [
         "urn:epc:tag:sgtin-96:3.0614141.81234.274877906944",
         UriFault::Digits,
     ),
-    // The last numbers have 38, 41 and 41 bits, and those of a GID 28, 24 and 36.
+    // The last number of a GRAI has 38 bits, that of an SGLN and of a GDTI 41, and the numbers of a GID have 28, 24 and 36.
     (
         "urn:epc:tag:grai-96:3.0614141.12345.274877906944",
         UriFault::Range,
