@@ -55,3 +55,13 @@ word_at octets later i are le =
     let low_at = ap (λ (n : ℕ). number (digits_of_bytes octets ++ later) n 8) next in
     let joined = number_joined (digits_of_bytes octets ++ later) (8 * i) 8 8 (omega arith) in
     omega arith
+
+-- four octets are one number
+pub four_at : (octets : List ℕ) (later : List Bool) (i : ℕ) → AreOctets octets → i + 4 ≤ length octets
+    → number (digits_of_bytes octets ++ later) (8 * i) 32 ≡ get_or octets i 0 * 16777216 + get_or octets (i + 1) 0 * 65536 + get_or octets (i + 2) 0 * 256 + get_or octets (i + 3) 0
+four_at octets later i are le =
+    let both = joined octets later i 2 2 le in
+    let upper = word_at octets later i are (omega (arith, le)) in
+    let lower = word_at octets later (i + 2) are (omega (arith, le)) in
+    let last : get_or octets (i + 2 + 1) 0 ≡ get_or octets (i + 3) 0 = ap (λ (k : ℕ). get_or octets k 0) (omega arith) in
+    omega (arith, both, upper, lower, last)

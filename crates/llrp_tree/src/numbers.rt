@@ -45,7 +45,7 @@ fn four_octets(octets: &[u8], at: usize) -> u32
     ensures { (later : List Bool)
         → result ≡ number (digits_of_bytes octets.now ++ later) (8 * at) 32 }
 {
-    word(octets, at) as u32 * 65536 + word(octets, at + 2) as u32
+    u32::from_be_bytes([octets[at], octets[at + 1], octets[at + 2], octets[at + 3]])
 }
 
 /// The number of the eight octets from a place on.
@@ -86,7 +86,7 @@ pub fn from_bit(octets: &[u8], bit: usize, width: u32) -> u128
 }
 
 /// The number of the `width` bits from an octet on. Widths of 8, 16, 32, 64 and 96 bits, which most
-/// fields have, are read octet by octet without a loop.
+/// fields have, are read by loads of one, two and four octets.
 #[inline(always)]
 pub fn from_octet(octets: &[u8], at: u32, width: u32) -> u128
     requires some { 1 ≤ width }

@@ -1,6 +1,8 @@
-use Rattle.std.proofs.Common.{arith}
-use Rattle.llrp_tree.proofs.NumberLemmas.{joined}
+use Rattle.std.proofs.Common.{sym, ◌∙◌}
+use Rattle.llrp_tree.proofs.OctetLemmas.{are_octets}
+use Rattle.llrp_tree.proofs.NumberLemmas.{four_at}
 use Rattle.llrp_tree.proofs.numbers.four_octets.Goals as goal
 
 pub returns : goal.returns
-returns c = λ later. omega (arith, joined c.args.octets.now later c.args.at 2 2 c.requires, c.word.ensures later, c.word-2.ensures later)
+returns c = λ later.
+    c.from_be_bytes.ensures ∙ sym (four_at c.args.octets.now later c.args.at (are_octets c.args.octets.now (λ i. c.type_inv.octets i)) c.requires)
