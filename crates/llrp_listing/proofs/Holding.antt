@@ -1,12 +1,10 @@
 -- What represents open lines, once one of them is closed.
 use Rattle.std.proofs.Common.{◌≡◌, ℕ, ◌+◌, ◌<◌, ◌≤◌, Bool, true, false, List, [], ◌∷◌, ◌++◌, length, None, sym, ap, ◌∙◌, subst, arith, length-append}
 use Rattle.std.specs.Prelude.{if◌then◌else◌}
-use Rattle.llrp_tree.specs.declared.TheConstants.{MAX_DEPTH}
 use Rattle.llrp_schema.specs.declared.kinds.ParamKind.{ParamKind}
 use Rattle.llrp_schema.specs.declared.kinds.Kind.TheVariants.{Parameter}
 use Rattle.llrp_schema.specs.Schema.{is_tv}
 use Rattle.llrp_tree.specs.Lawful.{AreLawful, head_octets}
-use Rattle.llrp_listing.proofs.Zips.{zip_length}
 use Rattle.llrp_listing.specs.declared.encode.rows.Held.{Held}
 use Rattle.llrp_listing.specs.declared.encode.writer.Writer.{Writer}
 use Rattle.llrp_listing.specs.Writer.{Holds, HoldsAbove, inner, settled}
@@ -21,10 +19,6 @@ held_one rows rest top n outer e h = subst (λ (r : List Held). AreHeld r (n ∷
 
 pub held_two : (rows rest0 rest : List Held) (top parent : Held) (n p : OpenNode) (outer : List OpenNode) → rows ≡ top ∷ rest0 → rest0 ≡ parent ∷ rest → AreHeld rows (n ∷ p ∷ outer) → IsHeld top n × (IsHeld parent p × AreHeld rest outer)
 held_two rows rest0 rest top parent n p outer e f h = subst (λ (r : List Held). AreHeld r (n ∷ p ∷ outer)) (e ∙ ap (λ (r : List Held). top ∷ r) f) h
-
--- there are few records
-pub few_held : (writer : Writer) (at : ℕ) (out more : List ℕ) (ns : List OpenNode) → Holds writer at out more ns → length (inner writer.rows) ≤ MAX_DEPTH + 1
-few_held writer at out more ns h = omega (arith, h.few, zip_length IsHeld (inner writer.rows) ns h.rows)
 
 -- the two innermost lines
 pub record Two (writer : Writer) (at : ℕ) (top : Held) : Type 0 where

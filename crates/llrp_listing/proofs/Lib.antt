@@ -31,6 +31,7 @@ pub mod PlaceLemmas
 pub mod PrintingLemmas
 pub mod PrintsBack
 pub mod Putting
+pub mod Records
 pub mod Rows
 pub mod Running
 pub mod ShortLines

@@ -17,7 +17,7 @@ use tag_uri::{number_of_last, word_of_text};
 /// How many bits the field of an EPC-96 has; no other field has as many.
 pub const EPC_BITS: u32 = 96;
 
-/// The number of the first eight octets, if those are digits, and the octets after them.
+/// Returns the number of the first eight octets, if those are digits, and the octets after them.
 fn eight_ahead(octets: &[u8]) -> Option<(u64, &[u8])>
     ensures below { IfSome result (λ x. x.0 < 10 ^ 8) }
     ensures digits { IfSome result (λ x. octets.now ≡ padded 8 x.0 ++ x.1.now) }
@@ -43,7 +43,8 @@ fn read_eights(digits: &[u8]) -> (u64, &[u8])
     (n, rest)
 }
 
-/// The number of these digits, of which there are at most 19; `None` if an octet is no digit.
+/// Returns the number of these digits, of which there are at most 19; `None` if an octet is no
+/// digit.
 fn short_number(digits: &[u8]) -> Option<u64>
     requires { length digits.now ≤ 19 }
     ensures { result ≡ (if all_ascii_digits digits.now then Some (digits_value 10 digits.now)
@@ -60,7 +61,7 @@ fn short_number(digits: &[u8]) -> Option<u64>
     Some(n)
 }
 
-/// The same of at most 20 digits.
+/// Does the same for at most 20 digits, in 128 bits.
 fn long_number(digits: &[u8]) -> Option<u128>
     requires { length digits.now ≤ 20 }
     ensures { result ≡ (if all_ascii_digits digits.now then Some (digits_value 10 digits.now)

@@ -134,11 +134,11 @@ fn count_child(kind: Kind, fault: Option<NodeFault>, seen: u32, child: ParamKind
     }
 }
 
-/// Adds a closed parameter to the line above, as its last child.
-pub fn add_child(parent: Held, child: &Held, kind: ParamKind) -> Held
+/// Returns the record of the line above, with a closed parameter as its last child.
+pub fn add_child(parent: &Held, child: &Held, kind: ParamKind) -> Held
     requires { child.now.levels < 255 }
     ensures { (n p : OpenNode) → IsHeld child.now n → n.line.kind ≡ Parameter kind
-        → node_fault n.line n.children ≡ None → IsHeld parent p
+        → node_fault n.line n.children ≡ None → IsHeld parent.now p
         → IsHeld result (with_child kind n p) }
 {
     let count = count_child(parent.kind, parent.fault, parent.seen, kind);

@@ -1,6 +1,6 @@
 //! The records of open lines.
 
-ghost use Rattle.std.specs.Prelude.{◌≡◌, ◌≤◌, ◌∷◌, [], length, MatchOption};
+ghost use Rattle.std.specs.Prelude.{◌≡◌, ◌≤◌, ◌∷◌, [], drop, length, MatchOption};
 ghost use Rattle.llrp_tree.specs.declared.TheConstants.{MAX_DEPTH};
 ghost use Rattle.llrp_listing.specs.Writer.{inner};
 
@@ -77,5 +77,22 @@ impl Rows {
             ∷ inner self.new) }
     {
         self.items.pop()
+    }
+
+    /// Returns the record of the innermost line.
+    pub fn top(&self) -> Option<&Held>
+        ensures { MatchOption result (inner self.now ≡ []) (λ held. inner self.now ≡ held.now
+            ∷ drop 1 (inner self.now)) }
+    {
+        self.items.as_slice().last()
+    }
+
+    /// Puts a record in place of the innermost line's.
+    pub fn set_top(&mut self, held: Held)
+        requires { 1 ≤ length (inner self.old) }
+        ensures { inner self.new ≡ held ∷ drop 1 (inner self.old) }
+    {
+        let last = self.items.len() - 1;
+        self.items.as_mut_slice()[last] = held;
     }
 }

@@ -56,7 +56,7 @@ fn field_value(rule: &Field, word: &[u8]) -> Option<u128>
     }
 }
 
-/// The 96 bits of an EPC.
+/// Reads the 96 bits of an EPC.
 fn epc_value(word: &[u8]) -> Option<u128>
     ensures { IfSome result (λ n. ReadsNumber Epc word.now (Ok n)) }
 {

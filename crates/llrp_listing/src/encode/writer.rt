@@ -107,7 +107,7 @@ impl Writer {
         let Some(top) = self.rows.pop() else {
             unreachable!()
         };
-        let Some(parent) = self.rows.pop() else {
+        let Some(parent) = self.rows.top() else {
             unreachable!()
         };
         let Kind::Parameter(kind) = top.kind else {
@@ -121,7 +121,8 @@ impl Writer {
             None => {
                 let tv = llrp_schema::is_tv(kind);
                 settle(self.room.as_mut_slice(), self.kept, tv, at, top.octets);
-                self.rows.push(add_child(parent, &top, kind));
+                let parent = add_child(parent, &top, kind);
+                self.rows.set_top(parent);
                 Ok(())
             }
         }

@@ -1,4 +1,4 @@
-use Rattle.std.proofs.Common.{◌≡◌, ℕ, List, ◌∷◌, length, None, refl, sym, ap, ◌∙◌, subst, arith}
+use Rattle.std.proofs.Common.{◌≡◌, ℕ, List, ◌∷◌, length, drop, None, refl, sym, ap, ◌∙◌, subst, arith}
 use Rattle.llrp_schema.specs.declared.kinds.ParamKind.{ParamKind}
 use Rattle.llrp_schema.specs.declared.kinds.Kind.TheVariants.{Parameter}
 use Rattle.llrp_tree.proofs.SpelledLemmas.{refilled}
@@ -8,7 +8,7 @@ use Rattle.std.specs.Vec.{vec_len, with_items}
 use Rattle.llrp_listing.specs.declared.encode.writer.Writer.{Writer}
 use Rattle.llrp_listing.specs.Writer.{Holds, inner, settled}
 use Rattle.llrp_listing.specs.OpenNodes.{OpenNode, IsHeld, node_fault, with_child}
-use Rattle.llrp_listing.proofs.Holding.{two, held_one, held_two, spare_at, few_levels, holds_closed, within, few_held}
+use Rattle.llrp_listing.proofs.Holding.{two, held_one, held_two, spare_at, few_levels, holds_closed, within}
 use Rattle.llrp_listing.proofs.LineSteps.{parameter_closes}
 use Rattle.llrp_listing.proofs.encode.writer.Writer.close_top.Goals as goal
 
@@ -33,28 +33,26 @@ settle-requires-clause-octets c =
     let w = two c.args.self.now c.args.at c.in-Some.top (inner c.pop.new.self) c.in-Some.ensures c.requires in
     spare_at c.args.self.now c.args.at w.out w.more w.n w.p w.outer w.holds c.in-Some.top w.is_top c.in-Parameter.kind (is_kind c.in-Some.top w.n c.in-Parameter.kind w.is_top c.in-Parameter.is) (sym (c.fault_of.ensures w.n w.is_top) ∙ c.in-None.is) c.is_tv-tv.result c.is_tv-tv.ensures
 
-pub add_child-requires : goal.add_child-requires
-add_child-requires c =
+pub add_child-parent-requires : goal.add_child-parent-requires
+add_child-parent-requires c =
     let w = two c.args.self.now c.args.at c.in-Some.top (inner c.pop.new.self) c.in-Some.ensures c.requires in
     few_levels c.args.self.now c.args.at w.out w.more w.n w.p w.outer w.holds c.in-Some.top w.is_top c.in-Parameter.kind (is_kind c.in-Some.top w.n c.in-Parameter.kind w.is_top c.in-Parameter.is) (sym (c.fault_of.ensures w.n w.is_top) ∙ c.in-None.is)
 
-pub push-requires : goal.push-requires
-push-requires c =
-    let few = few_held c.args.self.now c.args.at c.requires.0 c.requires.1 c.requires.2 c.requires.3 in
-    omega (arith, few, ap (λ (r : List Held). length r) c.in-Some.ensures, ap (λ (r : List Held). length r) c.in-Some-pop.ensures)
+pub set_top-requires : goal.set_top-requires
+set_top-requires c = omega (arith, ap (λ (r : List Held). length r) c.in-Some-top.ensures)
 
 pub returns-in-None-clause-closed : goal.returns-in-None-clause-closed
 returns-in-None-clause-closed c = λ out more n p outer kind h is.
-    let all = held_two (inner c.args.self.now.rows) (inner c.pop.new.self) (inner c.pop-2.new.self) c.in-Some.top c.in-Some-pop.parent n p outer c.in-Some.ensures c.in-Some-pop.ensures h.rows in
+    let all = held_two (inner c.args.self.now.rows) (inner c.pop.new.self) (drop 1 (inner c.pop.new.self)) c.in-Some.top c.in-Some-top.parent.now n p outer c.in-Some.ensures c.in-Some-top.ensures h.rows in
     let fine : node_fault n.line n.children ≡ None = sym (c.fault_of.ensures n all.0) ∙ c.in-None.is in
     let k = same_kind c.in-Some.top n c.in-Parameter.kind kind all.0 c.in-Parameter.is is in
     let own = is_kind c.in-Some.top n c.in-Parameter.kind all.0 c.in-Parameter.is in
-    let child = c.add_child.ensures n p all.0 own fine all.1.0 in
-    let new : Writer = record c.args.self.now { room = with_items c.args.self.now.room c.settle.new.room; rows = c.push.new.self } in
+    let child = c.add_child-parent.ensures n p all.0 own fine all.1.0 in
+    let new : Writer = record c.args.self.now { room = with_items c.args.self.now.room c.settle.new.room; rows = c.set_top.new.self } in
     let room : new.room.items ≡ settled c.args.self.now.kept c.is_tv-tv.result c.args.at c.in-Some.top.octets c.args.self.now.room.items =
     refilled (vec_len c.args.self.now.room) c.settle.new.room c.args.self.now.room.items (omega (arith, c.args.self.now.room.ok)) (c.settle.auto.room ∙ ap (λ (x : List ℕ). length x) c.as_mut_slice.ensures.value)
     ∙ c.settle.ensures ∙ ap (λ (x : List ℕ). settled c.args.self.now.kept c.is_tv-tv.result c.args.at c.in-Some.top.octets x) c.as_mut_slice.ensures.value in (
       fine,
       subst (λ (x : ParamKind). Holds new c.args.at out more (with_child x n p ∷ outer)) k
-          (holds_closed c.args.self.now c.args.at out more n p outer h c.in-Some.top all.0 c.in-Parameter.kind own fine new c.is_tv-tv.result c.add_child.result (inner c.pop-2.new.self) c.is_tv-tv.ensures room refl refl refl c.push.ensures child all.1.1),
+          (holds_closed c.args.self.now c.args.at out more n p outer h c.in-Some.top all.0 c.in-Parameter.kind own fine new c.is_tv-tv.result c.add_child-parent.result (drop 1 (inner c.pop.new.self)) c.is_tv-tv.ensures room refl refl refl c.set_top.ensures child all.1.1),
     )
