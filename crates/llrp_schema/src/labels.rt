@@ -107,7 +107,7 @@ static PARAMETERS: [Label; 54] = [
 /// meaning.
 ///
 /// The label of a KEEPALIVE has 9 octets.
-#[inline]
+#[inline(always)]
 pub fn label(kind: Kind) -> &'static Label
     ensures name { take result.now.octets result.now.text ≡ name_of kind }
     ensures within { result.now.octets ≤ 32 }
@@ -119,6 +119,7 @@ pub fn label(kind: Kind) -> &'static Label
 }
 
 /// The name of a message.
+#[inline(always)]
 #[tactic(auto, unfolding(crate::specs::Schema::name_of, crate::specs::Schema::rule_of, crate::specs::Schema::message_rule))]
 fn message_label(kind: MsgKind) -> &'static Label
     ensures name { take result.now.octets result.now.text ≡ name_of (Kind.Message kind) }
@@ -128,6 +129,7 @@ fn message_label(kind: MsgKind) -> &'static Label
 }
 
 /// The name of a parameter.
+#[inline(always)]
 #[tactic(auto, unfolding(crate::specs::Schema::name_of, crate::specs::Schema::rule_of, crate::specs::Schema::param_rule))]
 fn parameter_label(kind: ParamKind) -> &'static Label
     ensures name { take result.now.octets result.now.text ≡ name_of (Kind.Parameter kind) }

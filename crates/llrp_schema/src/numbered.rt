@@ -7,6 +7,7 @@ use crate::kinds::{Kind, MsgKind, ParamKind};
 use crate::tables::number;
 
 /// The message with this number, if the profile has one (LLRP 1.1, section 17.1).
+#[inline(always)]
 #[tactic(auto, unfolding(crate::specs::Schema::message_with_number, crate::specs::Schema::message_kinds, crate::specs::Schema::number_of, crate::specs::Schema::rule_of, crate::specs::Schema::message_rule))]
 pub fn msg_of(number: u16) -> Option<MsgKind>
     ensures { result ≡ message_with_number number }
@@ -43,6 +44,7 @@ pub fn msg_of(number: u16) -> Option<MsgKind>
 
 /// The parameter with type, length and value that has this number, if the profile has one (LLRP
 /// 1.1, section 17.2).
+#[inline(always)]
 #[tactic(auto, unfolding(crate::specs::Schema::tlv_with_number, crate::specs::Schema::param_kinds, crate::specs::Schema::is_tv, crate::specs::Schema::number_of, crate::specs::Schema::rule_of, crate::specs::Schema::param_rule))]
 pub fn param_of_tlv(number: u16) -> Option<ParamKind>
     ensures { result ≡ tlv_with_number number }
@@ -93,6 +95,7 @@ pub fn param_of_tlv(number: u16) -> Option<ParamKind>
 
 /// The parameter with a type and a value alone that has this number, if the profile has one (LLRP
 /// 1.1, section 17.2).
+#[inline(always)]
 #[tactic(auto, unfolding(crate::specs::Schema::tv_with_number, crate::specs::Schema::param_kinds, crate::specs::Schema::is_tv, crate::specs::Schema::number_of, crate::specs::Schema::rule_of, crate::specs::Schema::param_rule))]
 pub fn param_of_tv(number: u8) -> Option<ParamKind>
     ensures { result ≡ tv_with_number number }
@@ -118,6 +121,7 @@ pub fn param_of_tv(number: u8) -> Option<ParamKind>
 }
 
 /// Whether a parameter has a type and a value alone, and no length.
+#[inline(always)]
 #[tactic(auto, unfolding(crate::specs::Schema::is_tv))]
 pub fn is_tv(kind: ParamKind) -> bool
     ensures { result ≡ is_tv kind }

@@ -34,7 +34,7 @@ macro_rules! often {
 ///
 /// An AntennaID is in the second group of a TagReportData, which takes one: its place is
 /// `Some(Place { index: 1, once: true })`. A ROSpec is in none of them.
-#[inline]
+#[inline(always)]
 pub fn place(parent: Kind, child: ParamKind) -> Option<Place>
     ensures none { IfNone result (has_place (groups_of parent) child ≡ false) }
     ensures some { IfSome result (IsPlace (groups_of parent) child) }
@@ -48,7 +48,7 @@ pub fn place(parent: Kind, child: ParamKind) -> Option<Place>
 ///
 /// A ROSpec needs a ROBoundarySpec (its first group) and an AISpec (its second), and may have a
 /// ROReportSpec: `required` returns `0b011`.
-#[inline]
+#[inline(always)]
 pub fn required(kind: Kind) -> u32
     ensures { AreRequired (groups_of kind) result }
 {
@@ -56,6 +56,7 @@ pub fn required(kind: Kind) -> u32
 }
 
 /// The least numbers of a kind's groups, each as a bit.
+#[inline(always)]
 #[tactic(auto, unfolding(crate::specs::Schema::groups_of, crate::specs::Schema::rule_of, crate::specs::Schema::message_rule, crate::specs::Schema::param_rule))]
 fn least_bits(kind: Kind) -> u32
     ensures { result ≡ least_bits (groups_of kind) }
@@ -87,6 +88,7 @@ fn least_bits(kind: Kind) -> u32
 }
 
 /// The place of the first group that has the child's kind.
+#[inline(always)]
 fn first_place(parent: Kind, child: ParamKind) -> Option<Place>
     ensures { result ≡ first_place (groups_of parent) child }
 {
@@ -122,6 +124,7 @@ fn in_message(parent: MsgKind, child: ParamKind) -> Option<Place>
 
 /// The place of a child of a parameter.
 #[tactic(auto, unfolding(crate::specs::Schema::groups_of, crate::specs::Schema::rule_of, crate::specs::Schema::param_rule))]
+#[inline(always)]
 fn in_parameter(parent: ParamKind, child: ParamKind) -> Option<Place>
     ensures { result ≡ first_place (groups_of (Kind.Parameter parent)) child }
 {
@@ -349,6 +352,7 @@ fn in_tag_report_content_selector(child: ParamKind) -> Option<Place>
 
 /// The place of a child of `TagReportData`.
 #[tactic(auto, unfolding(crate::specs::Schema::groups_of, crate::specs::Schema::rule_of, crate::specs::Schema::param_rule, crate::specs::Schema::number_of))]
+#[inline(always)]
 fn in_tag_report_data(child: ParamKind) -> Option<Place>
     ensures { result ≡ first_place (groups_of (Kind.Parameter TagReportData)) child }
 {

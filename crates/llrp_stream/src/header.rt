@@ -30,6 +30,7 @@ pub(crate) enum Start {
 }
 
 /// Reads the header at the front of a frame.
+#[inline(always)]
 pub(crate) fn start_of(bytes: &[u8], limit: u32) -> Start
     ensures { Starts limit bytes.now result }
 {

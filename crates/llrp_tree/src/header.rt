@@ -24,6 +24,7 @@ pub struct Header {
 /// Reads the header at the front of these bytes, whatever follows them, or returns the first check
 /// that it fails: reserved bits, version, type, and a length above `limit`. A length below ten
 /// octets is no fault here.
+#[inline]
 pub fn read_header(bytes: &[u8], limit: u32) -> Result<Header, Fault>
     requires whole { 10 ≤ length bytes.now }
     ensures header { IfOk result (HasHeader limit bytes.now) }

@@ -40,6 +40,7 @@ impl Body {
     }
 
     /// How many octets of the frame were fed.
+    #[inline(always)]
     pub(crate) fn taken(&self) -> u32
         requires { self.now.reader.at ≤ MAX_LIMIT }
         ensures { result ≡ self.now.reader.at + length self.now.raw.items }
@@ -48,6 +49,7 @@ impl Body {
     }
 
     /// Keeps these octets of a header.
+    #[inline(always)]
     pub(crate) fn keep(&mut self, octets: &[u8])
         requires { length self.old.raw.items + length octets.now ≤ 16 }
         ensures raw { self.new.raw.items ≡ self.old.raw.items ++ octets.now }
@@ -80,6 +82,7 @@ impl Body {
 
     /// Takes the octets of a piece that begins with a new part. Returns whether the message is
     /// whole.
+    #[inline(always)]
     fn feed_piece<L: Listener>(&mut self, listener: &mut L, piece: &[u8]) -> Result<bool, FrameErr>
         requires fresh { self.old.raw.items ≡ [] }
         requires some { (was : List ℕ) × (front : List ℕ)
@@ -102,6 +105,7 @@ impl Body {
 
     /// Takes the octets of a piece that goes no further than the frame. Returns whether the message
     /// is whole.
+    #[inline(always)]
     pub(crate) fn feed<L: Listener>(
         &mut self,
         listener: &mut L,

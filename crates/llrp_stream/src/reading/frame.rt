@@ -19,6 +19,7 @@ use llrp_tree::Header;
 use std::alloc::AllocError;
 
 /// Begins a frame with this header.
+#[inline(always)]
 pub(crate) fn start<L: Listener>(
     body: &mut Body,
     listener: &mut L,
@@ -44,6 +45,7 @@ pub(crate) fn start<L: Listener>(
 }
 
 /// Ends a message that was read completely.
+#[inline(always)]
 pub(crate) fn finish<L: Listener>(reader: &Reader, listener: &mut L) -> Result<(), AllocError>
     requires { (was front : List ℕ) × (limit : ℕ)
         × IsComplete (L.stands listener.old was) reader.now front × AreOctets front

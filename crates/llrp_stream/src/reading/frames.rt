@@ -53,6 +53,7 @@ pub struct Frames {
 }
 
 /// The same, with these octets of the piece added that were taken before.
+#[inline(always)]
 fn after(came: Came, taken: usize) -> Came
     requires { came.used + taken < 2 ^ 64 }
     ensures { result ≡ record { used = came.used + taken; outcome = came.outcome } }
@@ -64,6 +65,7 @@ fn after(came: Came, taken: usize) -> Came
 }
 
 /// The state after these octets of a header.
+#[inline(always)]
 fn before_body(octets: &[u8]) -> State
     ensures none { octets.now ≡ [] → result ≡ State.Between }
     ensures some { 0 < length octets.now → result ≡ State.Header }
@@ -177,6 +179,7 @@ impl Frames {
     }
 
     /// Goes on with a frame whose header passed its checks.
+    #[inline(always)]
     fn go_on<L: Listener>(
         &mut self,
         listener: &mut L,
@@ -219,6 +222,7 @@ impl Frames {
     }
 
     /// Ends a frame whose message has all its parts.
+    #[inline(always)]
     fn end<L: Listener>(&mut self, listener: &mut L, used: usize) -> Result<Came, FeedErr>
         requires most { self.old.limit ≤ MAX_LIMIT }
         requires some { (was front : List ℕ)
@@ -247,6 +251,7 @@ impl Frames {
     }
 
     /// Begins the body of a frame whose header passed its checks.
+    #[inline(always)]
     fn open<L: Listener>(
         &mut self,
         listener: &mut L,
@@ -270,6 +275,7 @@ impl Frames {
     }
 
     /// Takes octets of a header, and what comes after it.
+    #[inline(always)]
     fn begin<L: Listener>(&mut self, listener: &mut L, piece: &[u8]) -> Result<Came, FeedErr>
         requires most { self.old.limit ≤ MAX_LIMIT }
         requires short { length self.old.body.raw.items < 10 }
@@ -307,6 +313,7 @@ impl Frames {
     }
 
     /// Takes the octets of a piece, whatever the state is.
+    #[inline(always)]
     fn advance<L: Listener>(&mut self, listener: &mut L, piece: &[u8]) -> Result<Came, FeedErr>
         requires least { 10 ≤ self.old.limit }
         requires most { self.old.limit ≤ MAX_LIMIT }

@@ -82,6 +82,7 @@ pub(crate) fn bad(bit: usize, reason: Reason) -> FrameErr
 }
 
 /// Reads the field at a bit of the octets, which is at another bit of the frame.
+#[inline(always)]
 fn field_value(
     octets: &[u8],
     bit: usize,
@@ -111,6 +112,7 @@ fn field_value(
 }
 
 /// The first field, now that one more was read.
+#[inline(always)]
 fn first_of(next: u32, value: u128, known: u128) -> u128
     ensures { (values : List ℕ) → length values ≡ next → known ≡ first values
         → result ≡ first (values ++ value ∷ []) }
@@ -119,6 +121,7 @@ fn first_of(next: u32, value: u128, known: u128) -> u128
 }
 
 /// Whether a node of this kind ends after its field.
+#[inline(always)]
 fn is_tv_kind(kind: Kind) -> bool
     ensures { result ≡ is_tv_kind kind }
 {
@@ -143,6 +146,7 @@ impl Reader {
     }
 
     /// Reads a field.
+    #[inline(always)]
     fn field<L: Listener>(
         &mut self,
         listener: &mut L,
@@ -191,6 +195,7 @@ impl Reader {
     }
 
     /// Reads the next field or the tail of the innermost node.
+    #[inline(always)]
     fn leading<L: Listener>(
         &mut self,
         listener: &mut L,
@@ -225,6 +230,7 @@ impl Reader {
     }
 
     /// Closes the innermost node, whose octets end here.
+    #[inline(always)]
     fn close<L: Listener>(&mut self, listener: &mut L) -> Result<Step, FrameErr>
         requires stage { self.old.stage ≡ Stage.Children }
         requires stop { self.old.top.stop ≤ MAX_LIMIT }
@@ -251,6 +257,7 @@ impl Reader {
     }
 
     /// Enters a child whose head has this many octets, and which stops at this octet.
+    #[inline(always)]
     fn enter<L: Listener>(
         &mut self,
         listener: &mut L,
@@ -286,6 +293,7 @@ impl Reader {
     }
 
     /// Begins a child of the innermost node.
+    #[inline(always)]
     fn begin<L: Listener>(&mut self, listener: &mut L, octets: &[u8]) -> Result<Step, FrameErr>
         requires stage { self.old.stage ≡ Stage.Children }
         requires stop { self.old.top.stop ≤ MAX_LIMIT }
@@ -317,6 +325,7 @@ impl Reader {
     }
 
     /// Closes the innermost node if its octets end here, and begins a child of it otherwise.
+    #[inline(always)]
     fn child_or_end<L: Listener>(
         &mut self,
         listener: &mut L,
@@ -345,6 +354,7 @@ impl Reader {
     }
 
     /// Reads one part, or a row of parameters of type and value.
+    #[inline(always)]
     pub fn step<L: Listener>(&mut self, listener: &mut L, octets: &[u8]) -> Result<Step, FrameErr>
         requires { (was : List ℕ) × (front : List ℕ)
             × Are (L.begins listener.old was) (L.stands listener.old was) self.old front
