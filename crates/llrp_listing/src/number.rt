@@ -18,6 +18,7 @@ use tag_uri::{number_of_last, word_of_text};
 pub const EPC_BITS: u32 = 96;
 
 /// Returns the number of the first eight octets, if those are digits, and the octets after them.
+#[inline(always)]
 fn eight_ahead(octets: &[u8]) -> Option<(u64, &[u8])>
     ensures below { IfSome result (λ x. x.0 < 10 ^ 8) }
     ensures digits { IfSome result (λ x. octets.now ≡ padded 8 x.0 ++ x.1.now) }
@@ -30,6 +31,7 @@ fn eight_ahead(octets: &[u8]) -> Option<(u64, &[u8])>
 }
 
 /// Reads digits, eight at a time, and returns their number and the octets after them.
+#[inline(always)]
 fn read_eights(digits: &[u8]) -> (u64, &[u8])
     requires { length digits.now ≤ 19 }
     ensures { ReadsFront digits.now result.1.now result.0 }
@@ -45,6 +47,7 @@ fn read_eights(digits: &[u8]) -> (u64, &[u8])
 
 /// Returns the number of these digits, of which there are at most 19; `None` if an octet is no
 /// digit.
+#[inline(always)]
 fn short_number(digits: &[u8]) -> Option<u64>
     requires { length digits.now ≤ 19 }
     ensures { result ≡ (if all_ascii_digits digits.now then Some (digits_value 10 digits.now)
@@ -78,6 +81,7 @@ fn long_number(digits: &[u8]) -> Option<u128>
 }
 
 /// The number that the word is in decimal, with at most 20 digits.
+#[inline(always)]
 #[tactic(auto, unfolding(crate::specs::Numeral::numeral))]
 pub fn numeral(word: &[u8]) -> Option<u128>
     ensures { result ≡ numeral word.now }
@@ -129,6 +133,7 @@ fn read_unsigned(word: &str) -> Result<u128, Refusal>
 }
 
 /// Reads a number from -128 to 127 as eight bits.
+#[inline(always)]
 pub fn read_signed(word: &[u8]) -> Result<u128, Refusal>
     ensures { ReadsNumber Signed word.now result }
 {
@@ -142,6 +147,7 @@ pub fn read_signed(word: &[u8]) -> Result<u128, Refusal>
 }
 
 /// Reads a number from 0 to 127 as eight bits.
+#[inline(always)]
 fn from_zero(digits: &[u8]) -> Result<u128, Refusal>
     ensures { ReadsPositive digits.now result }
 {
@@ -155,6 +161,7 @@ fn from_zero(digits: &[u8]) -> Result<u128, Refusal>
 }
 
 /// Reads a number from -128 to -1 as eight bits, from the digits after its sign.
+#[inline(always)]
 fn below_zero(digits: &[u8]) -> Result<u128, Refusal>
     ensures { ReadsNegative digits.now result }
 {

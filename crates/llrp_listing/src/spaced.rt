@@ -6,6 +6,7 @@ ghost use Rattle.llrp_listing.specs.Splits.{IsSplit, Lacks, words, words_in};
 use memchr::memchr;
 
 /// The bytes before the first such byte and those after it; `None` if there is no such byte.
+#[inline(always)]
 pub fn split_once(bytes: &[u8], byte: u8) -> Option<(&[u8], &[u8])>
     ensures { MatchOption result (Lacks byte bytes.now)
         (λ parts. IsSplit byte bytes.now parts.0.now parts.1.now) }

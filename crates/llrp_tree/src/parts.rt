@@ -68,6 +68,7 @@ pub fn own_fault(kind: Kind, values: &[u128], tail: &[u8]) -> Option<NodeFault>
     None
 }
 
+#[inline(always)]
 fn field_bits(rules: &[Field]) -> u128
     ensures value { result ≡ bits_of (map field_rule rules.now) }
     ensures bound { result ≤ 4294967295 * length rules.now }
@@ -80,6 +81,7 @@ fn field_bits(rules: &[Field]) -> u128
 }
 
 /// How many octets the fields and the tail of a kind have.
+#[inline(always)]
 #[tactic(auto, unfolding(crate::specs::Lawful::body_octets))]
 pub(crate) fn body_octets(kind: Kind, tail: &[u8]) -> u128
     ensures value { result ≡ law.body_octets kind tail.now }
@@ -93,6 +95,7 @@ pub(crate) fn body_octets(kind: Kind, tail: &[u8]) -> u128
 }
 
 /// How many octets a parameter's head has.
+#[inline(always)]
 pub(crate) fn head_octets(kind: ParamKind) -> u128
     ensures value { result ≡ law.head_octets kind }
     ensures few { result ≤ 4 }
@@ -102,6 +105,7 @@ pub(crate) fn head_octets(kind: ParamKind) -> u128
 
 /// How many octets a node has without its children: its head or header, its fields, the count of
 /// its tail, and the tail. A message has no tail.
+#[inline(always)]
 pub fn own_octets(kind: Kind, tail: &[u8]) -> u128
     ensures value { result ≡ law.own_octets kind tail.now }
     ensures bound { result < 2 ^ 101 }

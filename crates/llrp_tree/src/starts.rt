@@ -30,6 +30,7 @@ struct Packed {
 }
 
 /// Joins the fields of a kind to one number.
+#[inline(always)]
 fn pack(rules: &[Field], values: &[u128]) -> Packed
     requires sound { is_sound (map field_rule rules.now) ≡ true }
     requires small { bits_of (map field_rule rules.now) ≤ 120 }
@@ -58,6 +59,7 @@ fn pack(rules: &[Field], values: &[u128]) -> Packed
 }
 
 /// Puts a field in front of others.
+#[inline(always)]
 fn joined(width: u32, value: u128, rest: Packed) -> Packed
     requires below { rest.number < 2 ^ rest.bits }
     requires value { value < 2 ^ width }
@@ -75,6 +77,7 @@ fn joined(width: u32, value: u128, rest: Packed) -> Packed
 }
 
 /// The head of a parameter of this length.
+#[inline(always)]
 fn head(kind: ParamKind, octets: u32) -> Packed
     requires long { octets ≤ 65535 }
     ensures spelled { digits result.bits result.number ≡ head_digits (head_of kind octets) }
@@ -136,6 +139,7 @@ fn header(version: u8, kind: MsgKind, octets: u32, id: u32) -> Packed
 }
 
 /// The octets of a number's bits.
+#[inline(always)]
 fn as_octets(packed: Packed) -> Start
     requires below { packed.number < 2 ^ packed.bits }
     requires few { packed.bits ≤ 128 }
@@ -168,6 +172,7 @@ pub fn parameter_start(kind: ParamKind, octets: u32, values: &[u128], tail: &[u8
 }
 
 /// The octets of a parameter with type and value (TV), by the rule of its one field.
+#[inline(always)]
 pub fn tv_start(kind: ParamKind, rule: &Field, value: u128) -> Start
     requires rule { IsOnlyField kind (field_rule rule.now) }
     requires value { value < 2 ^ rule.now.width }

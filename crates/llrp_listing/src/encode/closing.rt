@@ -17,6 +17,7 @@ use llrp_schema::{Kind, ParamKind, Place, place, required};
 use llrp_tree::{MAX_DEPTH, MAX_LIMIT, MAX_OCTETS, NodeFault};
 
 /// The fault of a parameter with too many levels below it, or with too many octets.
+#[inline(always)]
 fn size_fault(levels: u8, octets: u32) -> Option<NodeFault>
     ensures { result ≡ first_failed ((nat_le (levels + 1) MAX_DEPTH, TooDeep)
         ∷ (nat_le octets MAX_OCTETS, TooLong) ∷ []) }
@@ -41,6 +42,7 @@ fn message_size_fault(octets: u32) -> Option<NodeFault>
 }
 
 /// Whether each group of a kind has as many children as it needs.
+#[inline(always)]
 fn is_enough(kind: Kind, seen: u32) -> bool
     ensures { (children : Forest) → AreSeen (groups_of kind) children seen
         → result ≡ none_missing (groups_of kind) (trees children) }
@@ -50,6 +52,7 @@ fn is_enough(kind: Kind, seen: u32) -> bool
 }
 
 /// The first test that fails of those that come after the children.
+#[inline(always)]
 fn late_fault(held: &Held) -> Option<NodeFault>
     ensures { (n : OpenNode) → IsHeld held.now n → held.now.fault ≡ None
         → result ≡ node_fault n.line n.children }
@@ -64,6 +67,7 @@ fn late_fault(held: &Held) -> Option<NodeFault>
 }
 
 /// The first test that fails of a parameter or message that has all its children.
+#[inline(always)]
 pub fn fault_of(held: &Held) -> Option<NodeFault>
     ensures { (n : OpenNode) → IsHeld held.now n → result ≡ node_fault n.line n.children }
 {
@@ -74,6 +78,7 @@ pub fn fault_of(held: &Held) -> Option<NodeFault>
 }
 
 /// The first fault, given that a child belongs to no group.
+#[inline(always)]
 fn misplaced(fault: Option<NodeFault>) -> NodeFault
     ensures { result ≡ after_misplaced fault }
 {
@@ -85,6 +90,7 @@ fn misplaced(fault: Option<NodeFault>) -> NodeFault
 }
 
 /// The first fault, given that a group has too many children.
+#[inline(always)]
 fn too_many(fault: Option<NodeFault>) -> NodeFault
     ensures { result ≡ after_too_many fault }
 {
@@ -102,6 +108,7 @@ pub struct Count {
 }
 
 /// Counts one more child of the group at a place.
+#[inline(always)]
 fn count_at(place: Place, fault: Option<NodeFault>, seen: u32) -> Count
     requires { place.index < 32 }
     ensures { (line : NodeLine) (child : ParamKind) (before : Forest) (numbers tail : List ℕ)
@@ -119,6 +126,7 @@ fn count_at(place: Place, fault: Option<NodeFault>, seen: u32) -> Count
 }
 
 /// Counts one more child of a kind.
+#[inline(always)]
 fn count_child(kind: Kind, fault: Option<NodeFault>, seen: u32, child: ParamKind) -> Count
     ensures { (line : NodeLine) (before : Forest) (numbers tail : List ℕ) (children : Forest)
         → kind ≡ line.kind → fault ≡ early_fault line before
@@ -135,6 +143,7 @@ fn count_child(kind: Kind, fault: Option<NodeFault>, seen: u32, child: ParamKind
 }
 
 /// Returns the record of the line above, with a closed parameter as its last child.
+#[inline(always)]
 pub fn add_child(parent: &Held, child: &Held, kind: ParamKind) -> Held
     requires { child.now.levels < 255 }
     ensures { (n p : OpenNode) → IsHeld child.now n → n.line.kind ≡ Parameter kind

@@ -72,6 +72,7 @@ pub fn pass_all<W: Sink>(writer: &mut Writer, w: &mut W) -> Result<(), ToolErr>
 }
 
 /// Does the same once they are 64 KiB.
+#[inline(always)]
 pub fn pass_on<W: Sink>(writer: &mut Writer, w: &mut W) -> Result<(), ToolErr>
     requires sink { (W.log w.old).failures + 1 < 2 ^ 64 }
     requires rests { (out : List ℕ) × (ns : List OpenNode) × Rests writer.old out ns }

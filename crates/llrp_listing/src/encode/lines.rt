@@ -17,6 +17,7 @@ use llrp_tree::{
 use std::alloc::AllocError;
 
 /// How many octets a parameter's line has, up to the greatest number that is counted.
+#[inline(always)]
 fn parameter_octets(kind: ParamKind, tail: &[u8]) -> u32
     ensures { result ≡ min (own_octets (Parameter kind) tail.now) MOST }
 {
@@ -24,6 +25,7 @@ fn parameter_octets(kind: ParamKind, tail: &[u8]) -> u32
 }
 
 /// How many octets a message's line has, up to the greatest number that is counted.
+#[inline(always)]
 fn message_octets(kind: MsgKind) -> u32
     ensures { result ≡ min (own_octets (Message kind) []) MOST }
 {
@@ -38,6 +40,7 @@ pub struct Begun {
 }
 
 /// The record of a line with nothing below it.
+#[inline(always)]
 fn first_of_line(kind: Kind, number: u64, fault: Option<NodeFault>, octets: u32) -> Begun
     ensures { result ≡ record {
       held = record {
@@ -69,6 +72,7 @@ fn first_of_line(kind: Kind, number: u64, fault: Option<NodeFault>, octets: u32)
 }
 
 /// Appends the octets of a line: those before its tail, then the tail.
+#[inline(always)]
 fn append(room: &mut Vec<u8>, start: &Start, tail: &[u8]) -> Result<(), AllocError>
     requires { start.now.from ≤ length start.now.octets }
     ensures { OnOk result (room.new.items ≡ (room.old.items ++ drop start.now.from start.now.octets)
@@ -80,6 +84,7 @@ fn append(room: &mut Vec<u8>, start: &Start, tail: &[u8]) -> Result<(), AllocErr
 }
 
 /// The first test that the value of a field fails.
+#[inline(always)]
 fn value_fault(rule: &Field, value: u128) -> Option<NodeFault>
     ensures { result ≡ first_failed ((nat_le value rule.now.greatest, Value) ∷ []) }
 {
@@ -90,6 +95,7 @@ fn value_fault(rule: &Field, value: u128) -> Option<NodeFault>
 }
 
 /// Appends the octets of a parameter that has a type and a value alone.
+#[inline(always)]
 fn put_tv(
     room: &mut Vec<u8>,
     number: u64,
@@ -115,6 +121,7 @@ fn put_tv(
 }
 
 /// Appends the octets of a parameter's line.
+#[inline(always)]
 pub fn put_parameter(
     room: &mut Vec<u8>,
     number: u64,
@@ -158,6 +165,7 @@ fn put_any(
 }
 
 /// Appends the octets of a message's line.
+#[inline(always)]
 pub fn put_message(
     room: &mut Vec<u8>,
     number: u64,

@@ -57,6 +57,7 @@ impl Rows {
     }
 
     /// How many lines are open.
+    #[inline(always)]
     pub fn depth(&self) -> usize
         ensures { result ≡ length (inner self.now) }
     {
@@ -64,6 +65,7 @@ impl Rows {
     }
 
     /// Adds the record of one more open line.
+    #[inline(always)]
     pub fn push(&mut self, held: Held)
         requires { length (inner self.old) ≤ MAX_DEPTH }
         ensures { inner self.new ≡ held ∷ inner self.old }
@@ -72,6 +74,7 @@ impl Rows {
     }
 
     /// Removes the record of the innermost line, and returns it.
+    #[inline(always)]
     pub fn pop(&mut self) -> Option<Held>
         ensures { MatchOption result (inner self.old ≡ []) (λ held. inner self.old ≡ held
             ∷ inner self.new) }
@@ -80,6 +83,7 @@ impl Rows {
     }
 
     /// Returns the record of the innermost line.
+    #[inline(always)]
     pub fn top(&self) -> Option<&Held>
         ensures { MatchOption result (inner self.now ≡ []) (λ held. inner self.now ≡ held.now
             ∷ drop 1 (inner self.now)) }
@@ -88,6 +92,7 @@ impl Rows {
     }
 
     /// Puts a record in place of the innermost line's.
+    #[inline(always)]
     pub fn set_top(&mut self, held: Held)
         requires { 1 ≤ length (inner self.old) }
         ensures { inner self.new ≡ held ∷ drop 1 (inner self.old) }

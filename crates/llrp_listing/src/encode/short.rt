@@ -41,6 +41,7 @@ pub enum ShortLine {
 }
 
 /// The value of a field that is not reserved.
+#[inline(always)]
 fn field_value(rule: &Field, word: &[u8]) -> Option<u128>
     ensures { IfSome result (λ n. ReadsNumber (field_form (field_rule rule.now)) word.now (Ok n)) }
 {
@@ -57,6 +58,7 @@ fn field_value(rule: &Field, word: &[u8]) -> Option<u128>
 }
 
 /// Reads the 96 bits of an EPC.
+#[inline(always)]
 fn epc_value(word: &[u8]) -> Option<u128>
     ensures { IfSome result (λ n. ReadsNumber Epc word.now (Ok n)) }
 {
@@ -70,6 +72,7 @@ fn epc_value(word: &[u8]) -> Option<u128>
 }
 
 /// Whether the lines of a kind have no field and no tail.
+#[inline(always)]
 fn is_bare(kind: Kind) -> bool
     ensures fields { IsTrue result → fields_of kind ≡ [] }
     ensures tail { IsTrue result → tail_of kind ≡ Absent }
@@ -81,6 +84,7 @@ fn is_bare(kind: Kind) -> bool
 }
 
 /// The number of a parameter's line whose name only this word follows.
+#[inline(always)]
 fn only_number(kind: ParamKind, word: &[u8]) -> Option<u128>
     ensures { IfSome result (λ n. AreAllNumbers kind (word.now ∷ []) (n ∷ [])) }
 {
@@ -97,6 +101,7 @@ fn only_number(kind: ParamKind, word: &[u8]) -> Option<u128>
 }
 
 /// A level of one digit, from 1 up to the number of open lines.
+#[inline(always)]
 fn level_of(digit: u8, depth: usize) -> Option<usize>
     ensures digit { IfSome result (λ level. digit ≡ 48 + level) }
     ensures least { IfSome result (λ level. 1 ≤ level) }
@@ -115,6 +120,7 @@ fn level_of(digit: u8, depth: usize) -> Option<usize>
 }
 
 /// The line of a parameter, read from what follows its level.
+#[inline(always)]
 fn short_parameter(level: usize, rest: &[u8]) -> Option<ShortLine>
     requires least { 1 ≤ level }
     requires deep { level ≤ MAX_DEPTH }
@@ -140,6 +146,7 @@ fn short_parameter(level: usize, rest: &[u8]) -> Option<ShortLine>
 }
 
 /// A message's version of one digit.
+#[inline(always)]
 fn version_of(digit: u8) -> Option<u8>
     ensures digit { IfSome result (λ version. digit ≡ 48 + version) }
     ensures known { IfSome result (λ version. (1 ≤ version) × (version ≤ 2)) }
@@ -152,6 +159,7 @@ fn version_of(digit: u8) -> Option<u8>
 }
 
 /// The version at the front of a message's numbers, and the numbers after it.
+#[inline(always)]
 fn version_ahead(numbers: &[u8]) -> Option<(u8, &[u8])>
     ensures digits { IfSome result (λ x. numbers.now ≡ (48 + x.0) ∷ 32 ∷ x.1.now) }
     ensures known { IfSome result (λ x. (1 ≤ x.0) × (x.0 ≤ 2)) }
@@ -164,6 +172,7 @@ fn version_ahead(numbers: &[u8]) -> Option<(u8, &[u8])>
 }
 
 /// The line of a message, read from what follows its level.
+#[inline(always)]
 fn short_message(rest: &[u8]) -> Option<ShortLine>
     requires short { 2 + length rest.now ≤ LONGEST_LINE }
     ensures { IfSome result (λ line. SaysAt 0 (48 ∷ 32
@@ -187,6 +196,7 @@ fn short_message(rest: &[u8]) -> Option<ShortLine>
 }
 
 /// Reads a whole line, below this many open lines, by the short way, if that can read it.
+#[inline(always)]
 pub fn read_short(line: &[u8], depth: usize) -> Option<ShortLine>
     ensures { IfSome result (λ short. SaysAt depth line.now (short_level short)
         (short_node short)) }

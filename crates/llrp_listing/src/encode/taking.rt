@@ -59,6 +59,7 @@ pub enum TakeErr {
 }
 
 /// Takes a parameter's line.
+#[inline(always)]
 pub fn take_parameter(
     writer: &mut Writer,
     level: usize,
@@ -89,6 +90,7 @@ pub fn take_parameter(
 }
 
 /// Takes a message's line.
+#[inline(always)]
 pub fn take_message(
     writer: &mut Writer,
     number: u64,
@@ -120,6 +122,7 @@ pub fn take_message(
 }
 
 /// Takes a line.
+#[inline(always)]
 pub fn take(writer: &mut Writer, number: u64, said: Said<'_>) -> Result<(), TakeErr>
     requires said { IsSaid (said_node said) }
     requires stands { RestsDeep writer.old (said_level said) }

@@ -34,6 +34,7 @@ pub struct Writer {
 }
 
 /// Writes a number into two octets.
+#[inline(always)]
 fn put_two(room: &mut [u8], at: usize, number: u32)
     requires room { at + 2 ≤ length room.old }
     requires small { number < 65536 }
@@ -44,6 +45,7 @@ fn put_two(room: &mut [u8], at: usize, number: u32)
 }
 
 /// Writes a number into four octets.
+#[inline(always)]
 fn put_four(room: &mut [u8], at: usize, number: u32)
     requires { at + 4 ≤ length room.old }
     ensures { room.new ≡ with_four at number room.old }
@@ -53,6 +55,7 @@ fn put_four(room: &mut [u8], at: usize, number: u32)
 }
 
 /// Writes the length of a parameter whose octets end at this place.
+#[inline(always)]
 fn settle(room: &mut [u8], kept: bool, tv: bool, at: usize, octets: u32)
     requires room { at ≤ length room.old }
     requires octets { kept ≡ true → tv ≡ false → (4 ≤ octets) × (octets ≤ at) × (octets < 65536) }
@@ -64,6 +67,7 @@ fn settle(room: &mut [u8], kept: bool, tv: bool, at: usize, octets: u32)
 }
 
 /// Whether the octets of all open lines are kept.
+#[inline(always)]
 fn is_kept(kept: bool, put: bool, octets: usize, limit: u32) -> bool
     ensures { result ≡ all_kept kept put octets limit }
 {
@@ -71,6 +75,7 @@ fn is_kept(kept: bool, put: bool, octets: usize, limit: u32) -> bool
 }
 
 /// Keeps only the first octets, unless all of them are there.
+#[inline(always)]
 fn cut(room: &mut Vec<u8>, from: usize, kept: bool)
     requires { from ≤ length room.old.items }
     ensures { room.new.items ≡ cut_to kept from room.old.items }
@@ -97,6 +102,7 @@ impl Writer {
     }
 
     /// Closes the innermost line, which is a parameter's and whose octets end at this place.
+    #[inline(always)]
     fn close_top(&mut self, at: usize) -> Result<(), Refused>
         requires { HoldsAbove self.old at 1 }
         ensures closed { OnOk result (ClosesOne self.old self.new at) }
@@ -129,6 +135,7 @@ impl Writer {
     }
 
     /// Closes the innermost lines until only this many are open.
+    #[inline(always)]
     fn close_to(&mut self, depth: usize, at: usize) -> Result<(), Refused>
         requires least { 1 ≤ depth }
         requires some { HoldsSome self.old at }
@@ -195,6 +202,7 @@ impl Writer {
 
     /// Opens a line, whose octets are the last ones if they were put there. Octets that no message
     /// can have are dropped.
+    #[inline(always)]
     fn begin(&mut self, held: Held, put: bool)
         requires some { (at : ℕ) × HoldsSome self.old at }
         requires few { length (inner self.old.rows) ≤ MAX_DEPTH }
@@ -209,6 +217,7 @@ impl Writer {
     }
 
     /// Closes all lines, whose octets end at this place, and opens a message's line.
+    #[inline(always)]
     fn open_message(&mut self, held: Held, put: bool, at: usize) -> Result<(), Refused>
         requires { HoldsSome self.old at }
         ensures opened { OnOk result (Opens self.old self.new held put at 0) }
@@ -224,6 +233,7 @@ impl Writer {
 
     /// Closes the lines at this level or deeper, whose octets end at this place, and opens a
     /// parameter's line.
+    #[inline(always)]
     fn open_parameter(
         &mut self,
         level: usize,
@@ -246,6 +256,7 @@ impl Writer {
 
     /// Closes the lines at this level or deeper, whose octets end at this place, and opens the line
     /// that was read.
+    #[inline(always)]
     pub fn open_line(
         &mut self,
         level: usize,
