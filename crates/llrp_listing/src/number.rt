@@ -64,7 +64,8 @@ fn short_number(digits: &[u8]) -> Option<u64>
     Some(n)
 }
 
-/// Does the same for at most 20 digits, in 128 bits.
+/// Does the same for at most 20 digits, in 128 bits. Few numbers are as long, so it stays apart.
+#[inline(never)]
 fn long_number(digits: &[u8]) -> Option<u128>
     requires { length digits.now ≤ 20 }
     ensures { result ≡ (if all_ascii_digits digits.now then Some (digits_value 10 digits.now)
