@@ -80,6 +80,9 @@ fn append(room: &mut Vec<u8>, start: &Start, tail: &[u8]) -> Result<(), AllocErr
 {
     let (_, octets) = start.octets.as_slice().split_at(start.from);
     room.extend_from_slice(octets)?;
+    if tail.is_empty() {
+        return Ok(());
+    }
     room.extend_from_slice(tail)
 }
 
