@@ -26,7 +26,8 @@ fn number_of_eight(digits: u64) -> Option<u64>
     Some(fours.wrapping_mul(0x1_0000_0000 + 10_000) >> 32)
 }
 
-/// The number of the last `count` of eight octets, if those are digits.
+/// Returns the number of the last `count` of eight octets, if those are digits. `None` does not mean
+/// that they are not.
 #[inline(always)]
 pub fn number_of_last(octets: [u8; 8], count: usize) -> Option<u64>
     requires few { count ≤ 8 }
