@@ -1,14 +1,12 @@
 -- What a decoder stands for by its fields, and what it keeps at most.
-use Rattle.std.proofs.Common.{◌≡◌, ◌⊎◌, inl, inr, ℕ, ◌+◌, ◌*◌, ◌<◌, ◌≤◌, List, [], ◌∷◌, ◌++◌, length, drop, Option, Some, None, refl, sym, ap, subst, ◌∙◌, arith, length-drop}
+use Rattle.std.proofs.Common.{◌≡◌, ◌⊎◌, inl, inr, ℕ, ◌+◌, ◌<◌, ◌≤◌, List, [], ◌∷◌, ◌++◌, length, Option, Some, None, refl, sym, ap, subst, ◌∙◌, arith}
 use Rattle.std.specs.Prelude.{IsSome, Err}
-use Rattle.tag_bits.specs.Digits.{digits_of_bytes}
 use Rattle.llrp_tree.specs.declared.fault.Fault.{Fault}
 use Rattle.llrp_tree.specs.declared.TheConstants.{MAX_LIMIT}
 use Rattle.llrp_tree.specs.Tree.{MessageTree}
 use Rattle.llrp_tree.specs.OpenTree.{Begun}
-use Rattle.llrp_tree.specs.Deciding.{deciding, FailsIn}
 use Rattle.llrp_tree.specs.Weight.{open_weight}
-use Rattle.llrp_tree.proofs.Undecided.{undecided_until, fails_after_header}
+use Rattle.llrp_tree.proofs.Undecided.{fails_after_header}
 use Rattle.llrp_stream.specs.declared.item.FeedErr.{FeedErr}
 use Rattle.llrp_stream.specs.declared.item.FeedErr.TheVariants as failure
 use Rattle.llrp_stream.specs.declared.item.Item.{Item}
@@ -22,20 +20,16 @@ use Rattle.llrp_stream.specs.declared.reading.frames.Outcome.TheVariants.{Whole,
 use Rattle.llrp_stream.specs.declared.state.State.{State}
 use Rattle.llrp_stream.specs.declared.state.State.TheVariants as state
 use Rattle.llrp_stream.specs.Building.{Building, HasOpen, nodes_weight}
-use Rattle.llrp_stream.specs.Cuts.{IsFrame}
-use Rattle.llrp_stream.specs.Items.{header_fault, HasHeaderFault}
-use Rattle.llrp_stream.specs.Reading.{Told, settled}
+use Rattle.llrp_stream.specs.Items.{HasHeaderFault}
+use Rattle.llrp_stream.specs.Reading.{Told}
 use Rattle.llrp_stream.specs.Frames.{IsReading, ComesAt, IsIdle, TakesOn, Goes, is_skipped, Stops}
 use Rattle.llrp_stream.specs.Decoding.{broken, dead, Keeps, Stands, raw_octets, kept_weight, weight, IsDecided, is_skipping}
 use Rattle.llrp_stream.specs.Feeding.{Takes, Feeds}
 use Rattle.llrp_stream.specs.Keeping.{kept, decoder, IsKept}
-use Rattle.llrp_stream.proofs.Bounds.{covered_length}
-use Rattle.llrp_stream.proofs.Reached.{stands_in}
-use Rattle.llrp_stream.proofs.FrontLemmas.{length_field-append, header_fault-append}
 use Rattle.llrp_stream.proofs.BuildingLemmas.{weigh_alike}
 use Rattle.llrp_stream.proofs.HeldLemmas.{held_within}
 use Rattle.llrp_stream.proofs.EngineHeld.{covers, undecided_reading}
-use Rattle.llrp_stream.proofs.FramesLemmas.{state_comes, reaches_settled}
+use Rattle.llrp_stream.proofs.FramesLemmas.{state_comes}
 
 -- ---- what it stands for
 

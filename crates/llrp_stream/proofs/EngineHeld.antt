@@ -1,5 +1,5 @@
 -- What the engine keeps of a frame, whichever listener receives its parts.
-use Rattle.std.proofs.Common.{◌≡◌, ◌⊎◌, ℕ, ◌+◌, ◌*◌, ◌<◌, ◌≤◌, List, [], ◌∷◌, ◌++◌, length, drop, refl, sym, ap, subst, ◌∙◌, arith, length-drop}
+use Rattle.std.proofs.Common.{◌≡◌, ℕ, ◌+◌, ◌*◌, ◌<◌, ◌≤◌, List, [], ◌∷◌, ◌++◌, length, drop, refl, sym, ap, subst, ◌∙◌, arith, length-drop}
 use Rattle.std.proofs.lemmas.List.{length-reverse}
 use Rattle.tag_bits.specs.Digits.{digits_of_bytes}
 use Rattle.llrp_tree.specs.OpenTree.{Begun, kind_of}
@@ -7,7 +7,6 @@ use Rattle.llrp_tree.specs.Deciding.{deciding, FailsIn}
 use Rattle.llrp_tree.specs.Weight.{open_weight}
 use Rattle.llrp_tree.proofs.Undecided.{undecided_until, fails_after_header}
 use Rattle.llrp_stream.specs.declared.reading.body.Body.{Body}
-use Rattle.llrp_stream.specs.declared.reading.level.Level.{Level}
 use Rattle.llrp_stream.specs.declared.reading.reader.Stage.{Stage}
 use Rattle.llrp_stream.specs.declared.reading.frames.Frames.{Frames}
 use Rattle.llrp_stream.specs.declared.state.State.{State}

@@ -1,11 +1,10 @@
 -- A front of a frame, and each frame that begins with it.
-use Rattle.std.proofs.Common.{◌≡◌, ℕ, ◌+◌, ◌-◌, ◌*◌, ◌≤◌, Bool, List, ◌++◌, length, take, drop, sym, ap, ◌∙◌, arith, length-append, length-drop}
+use Rattle.std.proofs.Common.{◌≡◌, ℕ, ◌+◌, ◌-◌, ◌*◌, ◌≤◌, Bool, List, ◌++◌, length, take, drop, sym, ap, ◌∙◌, arith, length-append}
 use Rattle.std.proofs.lemmas.List.{take-append-le, drop-append-le, drop-drop, length-replicate}
 use Rattle.std.proofs.Math.ListN.{replicate}
-use Rattle.tag_bits.specs.Digits.{value, digits_of_bytes}
+use Rattle.tag_bits.specs.Digits.{digits_of_bytes}
 use Rattle.tag_bits.proofs.ByteLemmas.{length-bytes, bytes-append, drop-bytes}
 use Rattle.llrp_tree.specs.OpenTree.{Begun}
-use Rattle.llrp_tree.specs.FirstFault.{number}
 use Rattle.llrp_tree.specs.Standing.{Stands}
 use Rattle.llrp_stream.specs.Front.{Reaches}
 

@@ -11,9 +11,8 @@ use Rattle.llrp_schema.specs.declared.kinds.Tail.{Tail}
 use Rattle.llrp_schema.specs.declared.kinds.Tail.TheVariants.{Absent, Words, Text, Bits}
 use Rattle.llrp_schema.specs.Schema.{FieldRule, fields_of, tail_of}
 use Rattle.llrp_tree.specs.declared.fault.Reason.{Reason}
-use Rattle.llrp_tree.specs.Tree.{Forest, none, MessageTree}
+use Rattle.llrp_tree.specs.Tree.{Forest, none}
 use Rattle.llrp_tree.specs.Lawful.{count_octets}
-use Rattle.llrp_tree.specs.Frame.{Frame}
 use Rattle.llrp_tree.specs.Spelling.{Head, message, tlv, tv, head_digits, field_digits, spell}
 use Rattle.llrp_tree.specs.OpenTree.{Begun, kind_of, groups, leading_digits, part, covers, Due, AField, ATail, Rest, due, plain_values, is_enough, IsHead, IsOpenTree, parts}
 use Rattle.llrp_tree.specs.FirstFault.{number, tail_at, tail_end, tail_length, tv_kind, tlv_kind, tlv_octets, first_digit, first_failing, checks, Turn, ReadField, ReadTail, Close, NoChild, BeginTv, BeginTlv, turn_of, turn, is_over, has_none, next_fault, header_checks, FirstFault, BodyFault}
@@ -27,7 +26,6 @@ use Rattle.llrp_tree.proofs.LastPart.{field_covered, tail_covered}
 use Rattle.llrp_tree.proofs.Openings.{begun_covered}
 use Rattle.llrp_tree.proofs.Agreement.{shrinks, agree, IsEnd, not_both}
 use Rattle.llrp_tree.proofs.Growing.{stops_within}
-use Rattle.llrp_tree.proofs.Frames as frames
 use Rattle.llrp_tree.proofs.Frames.{fails_next}
 use Rattle.llrp_tree.proofs.Totality.{child_closes, as_leading, no_field_in, field_first, tail_first}
 
