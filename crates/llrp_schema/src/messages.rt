@@ -213,7 +213,6 @@ static ERROR_MESSAGE: Definition = Definition {
 };
 
 /// The row of a message.
-#[inline(always)]
 #[tactic(auto, unfolding(crate::specs::Schema::message_rule))]
 pub fn message(kind: MsgKind) -> &'static Definition
     ensures { kind_rule result.now ≡ message_rule kind }

@@ -7,7 +7,6 @@ use crate::kinds::{Definition, ParamKind};
 use crate::{tlv, tv};
 
 /// The row of a parameter.
-#[inline(always)]
 #[tactic(auto, unfolding(crate::specs::Schema::param_rule))]
 pub fn parameter(kind: ParamKind) -> &'static Definition
     ensures { kind_rule result.now ≡ param_rule kind }

@@ -8,7 +8,6 @@ use crate::messages::message;
 use crate::parameters::parameter;
 
 /// The row of a kind.
-#[inline(always)]
 #[tactic(auto, unfolding(crate::specs::Schema::rule_of))]
 fn definition(kind: Kind) -> &'static Definition
     ensures { kind_rule result.now ≡ rule_of kind }
@@ -20,7 +19,6 @@ fn definition(kind: Kind) -> &'static Definition
 }
 
 /// The number that a kind has in the header of a message or parameter.
-#[inline(always)]
 #[tactic(auto, unfolding(crate::specs::Schema::number_of))]
 pub fn number(kind: Kind) -> u16
     ensures { result ≡ number_of kind }
@@ -37,7 +35,6 @@ pub fn name(kind: Kind) -> &'static str
 }
 
 /// The fields of a kind in the order in which they are sent, reserved ones included.
-#[inline(always)]
 #[tactic(auto, unfolding(crate::specs::Schema::fields_of))]
 pub fn fields(kind: Kind) -> &'static [Field]
     ensures { map field_rule result.now ≡ fields_of kind }
@@ -46,7 +43,6 @@ pub fn fields(kind: Kind) -> &'static [Field]
 }
 
 /// What a kind has between its fields and its children; a message has nothing there.
-#[inline(always)]
 #[tactic(auto, unfolding(crate::specs::Schema::tail_of))]
 pub fn tail(kind: Kind) -> Tail
     ensures { result ≡ tail_of kind }
@@ -55,7 +51,6 @@ pub fn tail(kind: Kind) -> Tail
 }
 
 /// The groups of children of a kind, in the order in which a missing child is looked for.
-#[inline(always)]
 #[tactic(auto, unfolding(crate::specs::Schema::groups_of))]
 pub fn groups(kind: Kind) -> &'static [Group]
     ensures { map group_rule result.now ≡ groups_of kind }

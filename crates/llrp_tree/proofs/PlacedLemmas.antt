@@ -1,10 +1,8 @@
 -- The one group that has a kind decides whether a node takes more of it.
-use Rattle.std.proofs.Common.{◌≡◌, ◌≢◌, ℕ, zero, suc, ◌+◌, ◌<◌, ◌&&◌, Bool, true, false, List, [], ◌∷◌, length, map, get_or, refl, sym, ap, ◌∙◌, arith}
-use Rattle.std.proofs.lemmas.List.{get_or-map, length-map}
+use Rattle.std.proofs.Common.{◌≡◌, ◌≢◌, ℕ, zero, suc, ◌+◌, ◌<◌, ◌&&◌, Bool, true, false, List, [], ◌∷◌, length, get_or, refl, arith}
 use Rattle.llrp_schema.specs.declared.kinds.ParamKind.{ParamKind}
 use Rattle.llrp_schema.specs.declared.kinds.Place.{Place}
-use Rattle.llrp_schema.specs.declared.kinds.Group.{Group}
-use Rattle.llrp_schema.specs.Schema.{GroupRule, group_rule}
+use Rattle.llrp_schema.specs.Schema.{GroupRule}
 use Rattle.llrp_schema.specs.Places.{IsPlace}
 use Rattle.llrp_tree.specs.Tree.{Forest}
 use Rattle.llrp_tree.specs.Lawful.{count, is_member}
@@ -41,12 +39,3 @@ takes_at kind cs (g ∷ gs) (suc i) d lt m f =
 
 pub takes_in_place : (gs : List GroupRule) (kind : ParamKind) (place : Place) → IsPlace gs kind place → (cs : Forest) (d : GroupRule) → takes_more gs kind cs ≡ at_most (get_or gs place.index d).most (count (get_or gs place.index d) cs + 1)
 takes_in_place gs kind place p cs d = takes_at kind cs gs place.index d p.within (p.member d) (elsewhere gs kind place p)
-
--- the same of the group in the tables of the code
-pub takes_in_group : (groups : List Group) (gs : List GroupRule) (kind : ParamKind) (place : Place) → map group_rule groups ≡ gs → IsPlace gs kind place → (cs : Forest) (d : Group) → takes_more gs kind cs ≡ at_most (get_or groups place.index d).most (count (group_rule (get_or groups place.index d)) cs + 1)
-takes_in_group groups gs kind place same p cs d =
-    let long : length (map group_rule groups) ≡ length gs = ap (λ (x : List GroupRule). length x) same in
-    let here : get_or gs place.index (group_rule d) ≡ group_rule (get_or groups place.index d) =
-    ap (λ (x : List GroupRule). get_or x place.index (group_rule d)) (sym same)
-    ∙ get_or-map group_rule groups place.index d (group_rule d) (omega (arith, p.within, long, length-map groups group_rule)) in
-    takes_in_place gs kind place p cs (group_rule d) ∙ ap (λ (g : GroupRule). at_most g.most (count g cs + 1)) here

@@ -87,7 +87,6 @@ fn get_wide(bytes: &[u8], first: usize, before: u32, width: u32) -> u128
 
 /// The number of the `width` bits from bit `place` on, bit 0 being the most significant of the first
 /// byte (LLRP 1.1, binary encoding).
-#[inline(always)]
 pub fn get(bytes: &[u8], place: usize, width: u32) -> u128
     requires least { 1 ≤ width }
     requires most { width ≤ 128 }

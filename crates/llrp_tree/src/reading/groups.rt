@@ -9,10 +9,10 @@ ghost use Rattle.llrp_tree.specs.OpenTree.{takes_more};
 ghost use Rattle.llrp_tree.specs.FirstFault.{kind_checks};
 ghost use Rattle.llrp_tree.specs.Standing.{FailsFirst, KindPasses};
 
-use crate::check::members;
+use crate::check::{is_member, members};
 use crate::fault::bad;
 use crate::{FrameErr, MAX_DEPTH, Node, ParamKind, Reason};
-use llrp_schema::{Group, Kind, place};
+use llrp_schema::{Group, Kind};
 
 /// Whether a group can take no more nodes.
 pub(crate) fn is_full(group: &Group, nodes: &[Node]) -> bool
@@ -25,17 +25,22 @@ pub(crate) fn is_full(group: &Group, nodes: &[Node]) -> bool
     }
 }
 
-/// The only group of a parent that has this kind.
+/// The only group of a parent that has this kind. It is looked for from the first group on: in short
+/// nodes that is quicker than `place` and a look at the group.
+#[tactic(auto, unfolding(crate::specs::OpenTree::takes_more))]
 fn group_of(parent: Kind, kind: ParamKind) -> Option<&'static Group>
     ensures none { IsNone result ↔ (has_place (groups_of parent) kind ≡ false) }
     ensures some { IfSome result (λ group. (children : Forest)
         → takes_more (groups_of parent) kind children
         ≡ at_most group.now.most (count (group_rule group.now) children + 1)) }
 {
-    let Some(place) = place(parent, kind) else {
-        return None;
-    };
-    Some(&llrp_schema::groups(parent)[place.index as usize])
+    let groups = llrp_schema::groups(parent);
+    for group in groups {
+        if is_member(group, kind) {
+            return Some(group);
+        }
+    }
+    None
 }
 
 /// Checks a child at bit `at`, this many levels below the message, whose type is at another bit.
