@@ -213,7 +213,7 @@ fn faults_of_closed_lines(rt: HostRuntime) -> Result<(), Fail> {
     Ok(())
 }
 
-/// A fault is told before the limit is looked at.
+/// A fault is returned before the limit is looked at.
 #[test]
 fn faults_of_messages_over_the_limit(rt: HostRuntime) {
     let listing = b"0 ADD_ROSPEC_RESPONSE 2 2\n1 LLRPStatus 0 x\n1 LLRPStatus 0 x\n";
@@ -289,7 +289,7 @@ fn longest_texts(rt: HostRuntime) -> Result<(), Fail> {
 }
 
 /// Numbers of an AISpec's antennas, what comes below it, and the answers: no list has more than 65,535 words, and with them
-/// its octets are too many, which is told last.
+/// its octets are too many, which is returned last.
 static ANTENNAS: [(usize, &[u8], Answer); 4] = [
     (
         65_535,
