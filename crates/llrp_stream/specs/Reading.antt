@@ -1,5 +1,5 @@
 -- What the engine keeps of a front of a frame.
-use Rattle.std.specs.Prelude.{Some, get_or, nat_le, ◌≡◌, ℕ, ◌+◌, ◌-◌, ◌*◌, ◌<◌, ◌≤◌, ◌⊎◌, Bool, true, false, List, [], ◌∷◌, ◌++◌, length, drop, reverse, Result, Ok, Err, Option, min}
+use Rattle.std.specs.Prelude.{Some, get_or, nat_le, ◌≡◌, ℕ, ◌+◌, ◌-◌, ◌*◌, ◌<◌, ◌≤◌, ◌⊎◌, Bool, true, false, List, [], ◌∷◌, ◌++◌, length, drop, reverse, Result, Ok, Err, Option, min, IfOk, MatchResult}
 use Rattle.tag_bits.specs.Digits.{digits_of_bytes}
 use Rattle.llrp_schema.specs.Schema.{GroupRule, bits_of, fields_of, groups_of, is_tv}
 use Rattle.std.specs.Int.{bit_at}
@@ -10,7 +10,8 @@ use Rattle.llrp_schema.specs.declared.kinds.Kind.{Kind}
 use Rattle.llrp_schema.specs.declared.kinds.Kind.TheVariants.{Message, Parameter}
 use Rattle.llrp_stream.specs.declared.reading.level.Placed.{Placed}
 use Rattle.llrp_schema.specs.declared.kinds.ParamKind.{ParamKind}
-use Rattle.llrp_tree.specs.declared.fault.FrameErr.TheVariants.{Bad}
+use Rattle.llrp_schema.specs.declared.kinds.ParamKind.TheVariants.{TagReportData}
+use Rattle.llrp_tree.specs.declared.fault.FrameErr.TheVariants.{Bad, Memory}
 use Rattle.llrp_tree.specs.declared.fault.Reason.TheVariants.{Extra}
 use Rattle.llrp_tree.specs.FirstFault.{octets_at, tail_length, first_digit, tv_kind, kind_checks, tlv_checks, has_none, is_over}
 use Rattle.llrp_tree.specs.Standing.{FailsFirst, KindPasses, TlvPasses}
@@ -193,6 +194,38 @@ pub record IsWholeValue (r : Reader) (octets : List ℕ) (children : Forest) (le
 -- the same, by the bits of the innermost node's groups
 abbrev pub IsNextWhole : Reader → List ℕ → Placed → Type 0
 IsNextWhole r octets placed = (children : Forest) → AreSeen (groups_of r.top.kind) children r.top.seen → IsWholeValue r octets children (length r.outer.items + 1) placed
+
+-- ---- parameters of type and value in a row
+
+-- The octets begin with a parameter of type and value, which has this kind.
+pub record BeginsValue (octets : List ℕ) (kind : ParamKind) : Type 0 where
+  pub some : 1 ≤ length octets
+  pub short : is_tv kind ≡ true
+  pub digit : (later : List Bool) → first_digit (digits_of_bytes octets ++ later) ≡ true
+  pub found : (later : List Bool) → tv_kind (digits_of_bytes octets ++ later) ≡ Some kind
+
+-- Such parameters may come next: the innermost node is a TagReportData of the message and awaits a child or its end, and this many of the octets are in it.
+pub record AwaitsValues (r : Reader) (octets : List ℕ) (left : ℕ) : Type 0 where
+  pub stage : r.stage ≡ Children
+  pub stop : r.top.stop ≤ MAX_LIMIT
+  pub kind : r.top.kind ≡ Parameter TagReportData
+  pub second : length r.outer.items ≡ 1
+  pub within : left ≤ length octets
+  pub near : r.at + left ≤ r.top.stop
+  pub seen : (children : Forest) × AreSeen (groups_of r.top.kind) children r.top.seen
+
+-- The innermost node and those around it are the same, but for the children of the innermost.
+pub record KeepsNode (old new : Reader) : Type 0 where
+  pub stage : new.stage ≡ old.stage
+  pub kind : new.top.kind ≡ old.top.kind
+  pub stop : new.top.stop ≡ old.top.stop
+  pub outer : new.outer ≡ old.outer
+
+-- Some such parameters were taken, or none, or memory ran out. A listener received what the first two relations say, and now what the last two say.
+pub record TakesValues (begins0 stands0 begins stands : List ℕ → List Begun → Type 0) (old new : Reader) (octets : List ℕ) (left : ℕ) (result : Result ℕ FrameErr) : Type 0 where
+  pub keeps : KeepsNode old new
+  pub used : IfOk result (λ used. (used ≤ left) × (new.at ≡ old.at + used))
+  pub takes : (was front : List ℕ) → Are (begins0 was) (stands0 was) old front → drop old.at front ≡ octets → MatchResult result (Takes (begins was) (stands was) old new front octets) (λ error. error ≡ Memory)
 
 -- ---- the head of a child
 

@@ -51,10 +51,10 @@ pub returns-then-used-gt0 : goal.returns-then-used-gt0
 returns-then-used-gt0 g c = λ was front b outer rd told d.
     let r : Reader = c.args.self.now in
     let a : Are (g.L.Listener.begins c.args.listener.now was) (g.L.Listener.stands c.args.listener.now was) r front = record { node = b; outer = outer; reads = rd; told = subst (λ (x : Stage). Told (g.L.Listener.begins c.args.listener.now was) (g.L.Listener.stands c.args.listener.now was) x (b ∷ outer)) (sym c.requires.stage) told } in
-    moved _ _ _ _ r c.values.new.self front c.args.octets.now c.in_ok-used.used a (c.in_ok-used.ensures.takes was front a d) c.if-used-gt0.true c.requires.stage c.in_ok-used.ensures.stage c.in_ok-used.ensures.outer
+    moved _ _ _ _ r c.values.new.self front c.args.octets.now c.in_ok-used.used a (c.in_ok-used.ensures.takes was front a d) c.if-used-gt0.true c.requires.stage c.in_ok-used.ensures.keeps.stage c.in_ok-used.ensures.keeps.outer
 
 pub begin-requires-clause-stage : goal.begin-requires-clause-stage
-begin-requires-clause-stage g c = c.in_ok-used.ensures.stage ∙ c.requires.stage
+begin-requires-clause-stage g c = c.in_ok-used.ensures.keeps.stage ∙ c.requires.stage
 
 pub begin-requires-clause-some : goal.begin-requires-clause-some
 begin-requires-clause-some g c =

@@ -1,44 +1,56 @@
-use Rattle.std.proofs.Common.{◌≡◌, ℕ, ◌+◌, ◌≤◌, Bool, true, false, List, [], ◌∷◌, ◌++◌, length, Option, sym, ap, ◌∙◌, subst, arith}
-use Rattle.std.specs.Prelude.{◌==◌}
+use Rattle.std.proofs.Common.{◌≡◌, ℕ, ◌+◌, ◌≤◌, Bool, true, List, ◌++◌, length, Option, Some, refl, sym, ap, ◌∙◌, subst, arith}
 use Rattle.tag_bits.specs.Digits.{digits_of_bytes}
+use Rattle.llrp_schema.specs.declared.kinds.Kind.{Kind}
+use Rattle.llrp_schema.specs.declared.kinds.Kind.TheVariants.{Parameter}
 use Rattle.llrp_schema.specs.declared.kinds.ParamKind.{ParamKind}
-use Rattle.llrp_schema.specs.Schema.{groups_of, is_tv, tv_with_number}
-use Rattle.llrp_schema.proofs.TableLaws.{tv_found}
+use Rattle.llrp_schema.specs.declared.kinds.ParamKind.TheVariants.{TagReportData}
+use Rattle.llrp_schema.specs.Schema.{groups_of, is_tv}
+use Rattle.llrp_tree.specs.Tree.{Forest}
 use Rattle.llrp_tree.specs.FirstFault.{tv_kind}
-use Rattle.llrp_tree.proofs.ChildLemmas.{digit_is_one}
-use Rattle.llrp_stream.specs.Reading.{IsPlaced}
-use Rattle.llrp_stream.proofs.HeadLemmas.{short_digit, short_type}
+use Rattle.llrp_stream.specs.declared.reading.level.Placed.{Placed}
+use Rattle.llrp_stream.specs.declared.reading.reader.Reader.{Reader}
+use Rattle.llrp_stream.specs.Reading.{AreSeen, AwaitsValues, BeginsValue, IsPlaced}
 use Rattle.llrp_stream.proofs.ValuePart.{width_is}
 use Rattle.llrp_stream.proofs.reading.reader.Reader.next_value.Goals as goal
 
-some_octet : (xs : List ℕ) → (length xs == 0) ≡ false → 1 ≤ length xs
-some_octet [] e = absurd (let z : true ≡ false = e in cc)
-some_octet (x ∷ xs) e = omega arith
+some_same : (a b : ParamKind) → Some a ≡ Some b → a ≡ b
+some_same a b e = cc
+
+-- what is known of the one that may begin
+placed_short : (r : Reader) (octets : List ℕ) (left : ℕ) (kind : ParamKind) (placed : Placed) → AwaitsValues r octets left → BeginsValue octets kind → ((children : Forest) → AreSeen (groups_of (Parameter TagReportData)) children r.top.seen → IsPlaced (Some kind) (groups_of (Parameter TagReportData)) children 2 placed) → is_tv placed.kind ≡ true
+placed_short r octets left kind placed a b f =
+    let s = a.seen in
+    let p = f s.0 (subst (λ (x : Kind). AreSeen (groups_of x) s.0 r.top.seen) a.kind s.1) in
+    subst (λ (k : ParamKind). is_tv k ≡ true) (some_same kind placed.kind p.passes.is) b.short
 
 pub value_octets-end-requires : goal.value_octets-end-requires
-value_octets-end-requires c = ((tv_found _ c.in-Ok.placed.kind).0 (sym c.param_of_tv-found.ensures ∙ (c.in-Ok.ensures c.requires.0 c.requires.1).passes.is)).0
+value_octets-end-requires c = placed_short c.args.self.now c.args.octets.now c.args.left c.args.kind c.in-Ok.placed c.requires.awaits c.requires.begins c.in-Ok.ensures
 
 pub overflow_add-end : goal.overflow_add-end
 overflow_add-end c =
-    let short : is_tv c.in-Ok.placed.kind ≡ true = ((tv_found _ c.in-Ok.placed.kind).0 (sym c.param_of_tv-found.ensures ∙ (c.in-Ok.ensures c.requires.0 c.requires.1).passes.is)).0 in
+    let short = placed_short c.args.self.now c.args.octets.now c.args.left c.args.kind c.in-Ok.placed c.requires.awaits c.requires.begins c.in-Ok.ensures in
     let w = width_is c.in-Ok.placed.kind short in
     omega (arith, w.most, c.value_octets-end.ensures)
 
-pub returns : goal.returns
-returns c = λ children are.
+pub returns-clause-next : goal.returns-clause-next
+returns-clause-next c = λ children are.
     let octets : List ℕ = c.args.octets.now in
-    let k : ParamKind = c.in-Ok.placed.kind in
-    let one = some_octet octets (sym c.is_empty.ensures ∙ c.if-is_empty.false) in
-    let short : is_tv k ≡ true = ((tv_found _ k).0 (sym c.param_of_tv-found.ensures ∙ (c.in-Ok.ensures c.requires.0 c.requires.1).passes.is)).0 in
-    let w = width_is k short in
-    let found = λ (later : List Bool). c.param_of_tv-found.ensures ∙ ap tv_with_number (short_type octets later one c.octet-first.result (c.octet-first.ensures later) c.if-first-lt128.false) in
-    let level : c.len.result + 1 ≡ length c.args.self.now.outer.items + 1 = omega (arith, c.len.ensures.value) in
+    let r : Reader = c.args.self.now in
+    let a = c.requires.awaits in
+    let b = c.requires.begins in
+    let placed : Placed = c.in-Ok.placed in
+    let short = placed_short r octets c.args.left c.args.kind placed a b c.in-Ok.ensures in
+    let w = width_is placed.kind short in
+    let p : IsPlaced (Some c.args.kind) (groups_of (Parameter TagReportData)) children 2 placed = c.in-Ok.ensures children (subst (λ (x : Kind). AreSeen (groups_of x) children r.top.seen) a.kind are) in
+    let level : 2 ≡ length r.outer.items + 1 = omega (arith, a.second) in
+    let here : IsPlaced (Some c.args.kind) (groups_of r.top.kind) children (length r.outer.items + 1) placed = subst (λ (n : ℕ). IsPlaced (Some c.args.kind) (groups_of r.top.kind) children n placed) level (subst (λ (x : Kind). IsPlaced (Some c.args.kind) (groups_of x) children 2 placed) (sym a.kind) p) in
     record {
       short = short;
-      digit = λ later. digit_is_one (digits_of_bytes octets ++ later) (λ z. (let o = short_digit octets later one c.octet-first.result (c.octet-first.ensures later) c.if-first-lt128.false in omega arith));
-      may_begin = λ later.
-          subst (λ (n : ℕ). IsPlaced (tv_kind (digits_of_bytes octets ++ later)) (groups_of c.args.self.now.top.kind) children n c.in-Ok.placed) level
-          (subst (λ (f : Option ParamKind). IsPlaced f (groups_of c.args.self.now.top.kind) children (c.len.result + 1) c.in-Ok.placed) (found later) (c.in-Ok.ensures children are));
-      whole = omega (arith, w.octets, c.value_octets-end.ensures, c.if-octets-end.false);
-      inside = omega (arith, w.octets, c.value_octets-end.ensures, c.if-self-end.false, c.if-self.false);
+      digit = b.digit;
+      may_begin = λ later. subst (λ (f : Option ParamKind). IsPlaced f (groups_of r.top.kind) children (length r.outer.items + 1) placed) (sym (b.found later)) here;
+      whole = omega (arith, w.octets, c.value_octets-end.ensures, c.if-left-end.false, a.within);
+      inside = omega (arith, w.octets, c.value_octets-end.ensures, c.if-left-end.false, a.near);
     }
+
+pub returns-clause-fits : goal.returns-clause-fits
+returns-clause-fits c = omega (arith, c.value_octets-end.ensures, c.if-left-end.false)

@@ -29,11 +29,6 @@ from_octet-value-requires-clause-narrow g c =
     let w = width_is c.args.child.kind n.short in
     omega (arith, w.most, c.value_octets-end.ensures)
 
-pub value-requires-clause-deep : goal.value-requires-clause-deep
-value-requires-clause-deep g c =
-    let n = c.requires.next c.requires.seen.0 c.requires.seen.1 in
-    omega (arith, (n.may_begin []).passes.deep, c.len.ensures.value)
-
 pub value-requires-clause-fits : goal.value-requires-clause-fits
 value-requires-clause-fits g c =
     let n = c.requires.next c.requires.seen.0 c.requires.seen.1 in
@@ -61,7 +56,7 @@ returns-clause-takes g c = λ was front a d.
     let rc = value_reaches k n.short r front b outer rd c.requires.stage octets d c.requires.long passes v n.inside n.whole is fits in
     let nx = is_next_value k n.short r front b outer rd c.requires.stage octets d c.requires.long passes v fits in
     let told = subst (λ (x : Stage). Told (g.L.Listener.begins c.args.listener.now was) (g.L.Listener.stands c.args.listener.now was) x (b ∷ outer)) c.requires.stage a.told in
-    let heard = c.in_ok-value.ensures was (b ∷ outer) told (omega (arith, few, c.len.ensures.value)) nx in
+    let heard = c.in_ok-value.ensures was (b ∷ outer) told (omega (arith, few, c.requires.second)) nx in
     let s = resting r front b outer rd c.requires.stage in
     let children : Forest = and b.children k (v ∷ []) [] none in
     let node : Begun = begun b.head b.stop b.fields b.tail children in

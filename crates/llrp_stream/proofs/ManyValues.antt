@@ -1,0 +1,85 @@
+-- Parameters of type and value in a row, as the engine takes them.
+use Rattle.std.proofs.Common.{◌≡◌, ℕ, ◌+◌, ◌-◌, ◌*◌, ◌/◌, ◌≤◌, false, List, length, drop, refl, sym, ap, ◌∙◌, subst, arith, zero, suc, length-drop}
+use Rattle.std.specs.Prelude.{Result, Ok, Err, OnOk, IfOk, IfErr}
+use Rattle.llrp_schema.specs.declared.kinds.Kind.{Kind}
+use Rattle.llrp_schema.specs.declared.kinds.Kind.TheVariants.{Parameter}
+use Rattle.llrp_schema.specs.declared.kinds.ParamKind.TheVariants.{TagReportData}
+use Rattle.llrp_schema.specs.Schema.{is_tv, number_of, rule_of, param_rule}
+use Rattle.llrp_tree.specs.declared.fault.FrameErr.{FrameErr}
+use Rattle.llrp_tree.specs.declared.fault.FrameErr.TheVariants.{Memory}
+use Rattle.llrp_tree.specs.OpenTree.{Begun}
+use Rattle.llrp_tree.specs.Standing.{is_tv_kind}
+use Rattle.llrp_stream.specs.declared.reading.reader.Reader.{Reader}
+use Rattle.llrp_stream.specs.Reading.{Are, AwaitsValues, KeepsNode, Takes, TakenSoFar, TakesValues}
+use Rattle.llrp_stream.proofs.MoreOctets.{behind_on}
+use Rattle.llrp_stream.proofs.SeenLemmas.{seen_are}
+
+report_long : is_tv_kind (Parameter TagReportData) ≡ false
+unfolding is_tv number_of rule_of param_rule
+report_long = refl
+
+pub long_report : (k : Kind) → k ≡ Parameter TagReportData → is_tv_kind k ≡ false
+long_report k e = ap is_tv_kind e ∙ report_long
+
+pub kept : (r : Reader) → KeepsNode r r
+kept r = record { stage = refl; kind = refl; stop = refl; outer = refl }
+
+pub kept_on : (a b c : Reader) → KeepsNode a b → KeepsNode b c → KeepsNode a c
+kept_on a b c x y = record { stage = y.stage ∙ x.stage; kind = y.kind ∙ x.kind; stop = y.stop ∙ x.stop; outer = y.outer ∙ x.outer }
+
+module _ (begins0 stands0 begins stands : List ℕ → List Begun → Type 0) where
+  -- one was taken, or memory ran out
+  pub one_taken : (old new : Reader) (octets : List ℕ) (left n : ℕ) (result : Result ℕ FrameErr) → n ≤ left → KeepsNode old new
+      → OnOk result ((was front : List ℕ) → Are (begins0 was) (stands0 was) old front → drop old.at front ≡ octets → Takes (begins was) (stands was) old new front octets n)
+      → IfOk result (λ used. used ≡ n) → IfErr result (λ error. error ≡ Memory) → IfOk result (λ used. new.at ≡ old.at + used)
+      → TakesValues begins0 stands0 begins stands old new octets left result
+  one_taken old new octets left n (Ok used) fits k t e m p = record {
+    keeps = k;
+    used = (omega (arith, fits, e), p);
+    takes = λ was front a d. subst (λ (x : ℕ). Takes (begins was) (stands was) old new front octets x) (sym e) (t was front a d);
+  }
+  one_taken old new octets left n (Err error) fits k t e m p = record { keeps = k; used = tt; takes = λ was front a d. m }
+
+-- none was taken
+pub none_taken : (begins stands : List ℕ → List Begun → Type 0) (r : Reader) (octets : List ℕ) (left : ℕ) → TakesValues begins stands begins stands r r octets left (Ok 0)
+none_taken begins stands r octets left = record {
+  keeps = kept r;
+  used = (omega arith, omega arith);
+  takes = λ was front a d. record { within = omega arith; are = a; place = omega arith; same = refl };
+}
+
+pub some_taken : (result : Result ℕ FrameErr) (n : ℕ) → IfOk result (λ used. used ≡ 1 + n) → result ≡ Ok 0 → ⊥
+some_taken (Ok zero) n e f = absurd (omega (arith, e))
+some_taken (Ok (suc m)) n e f = absurd cc
+some_taken (Err error) n e f = absurd cc
+
+-- ---- one after another
+
+-- what is left, after some were taken
+pub awaits_on : (begins stands : List Begun → Type 0) (old r : Reader) (front octets rest : List ℕ) (near left : ℕ) → AwaitsValues old octets near → KeepsNode old r → left ≤ length rest → r.at + left ≡ old.at + near
+    → Are begins stands r front → AwaitsValues r rest left
+awaits_on begins stands old r front octets rest near left a k within at are = record {
+  stage = k.stage ∙ a.stage;
+  stop = omega (arith, k.stop, a.stop);
+  kind = k.kind ∙ a.kind;
+  second = ap (λ x. length x.items) k.outer ∙ a.second;
+  within = within;
+  near = omega (arith, k.stop, a.near, at);
+  seen = (are.node.children, seen_are r front are.node are.outer are.reads);
+}
+
+-- one more was taken
+pub one_more : (begins stands b2 s2 : List Begun → Type 0) (old mid new : Reader) (front octets rest back : List ℕ) (used : ℕ) → length rest ≤ length octets → TakenSoFar b2 s2 old mid front octets rest → Takes begins stands mid new front rest used → back ≡ drop used rest → TakenSoFar begins stands old new front octets back
+one_more begins stands b2 s2 old mid new front octets rest back used le s t e =
+    let l = length-drop used rest in
+    let m = ap (λ (x : List ℕ). length x) e in
+    record {
+      takes = record { within = omega arith; are = t.are; place = omega (arith, l, m, t.place, t.within, s.takes.place, le); same = t.same ∙ s.takes.same };
+      behind = behind_on front rest mid.at used new.at s.behind t.place ∙ sym e;
+    }
+
+-- how many octets were taken in all
+pub taken_in_all : (begins stands : List Begun → Type 0) (old new : Reader) (front octets rest : List ℕ) (near left : ℕ) → length rest + near ≡ length octets + left → left ≤ near → TakenSoFar begins stands old new front octets rest → Takes begins stands old new front octets (near - left)
+taken_in_all begins stands old new front octets rest near left e le t =
+    let same : length octets - length rest ≡ near - left = omega (arith, e, le) in
+    subst (λ (n : ℕ). Takes begins stands old new front octets n) same t.takes
