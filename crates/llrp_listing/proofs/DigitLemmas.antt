@@ -75,3 +75,8 @@ short_two n below = plain_short 2 n below (omega arith) (omega arith)
 pub eight_of : (n : ℕ) (ab cd ef gh : List ℕ) → n < 10 ^ 8 → ab ≡ pair_of (n / 10000 / 100) → cd ≡ pair_of (n / 10000 % 100) → ef ≡ pair_of (n % 10000 / 100) → gh ≡ pair_of (n % 10000 % 100)
     → get_or ab 0 0 ∷ get_or ab 1 0 ∷ get_or cd 0 0 ∷ get_or cd 1 0 ∷ get_or ef 0 0 ∷ get_or ef 1 0 ∷ get_or gh 0 0 ∷ get_or gh 1 0 ∷ [] ≡ padded 8 n
 eight_of n ab cd ef gh below e f g h = rw (e, f, g, h) (eight_digits n _ _ _ _ _ _ _ _ below refl refl refl refl refl refl refl refl)
+
+-- the same, put pair by pair
+pub eight_pairs : (n : ℕ) (ab cd ef gh : List ℕ) → n < 10 ^ 8 → ab ≡ pair_of (n / 10000 / 100) → cd ≡ pair_of (n / 10000 % 100) → ef ≡ pair_of (n % 10000 / 100) → gh ≡ pair_of (n % 10000 % 100)
+    → ((ab ++ cd) ++ ef) ++ gh ≡ padded 8 n
+eight_pairs n ab cd ef gh below e f g h = rw (e, f, g, h) (eight_digits n _ _ _ _ _ _ _ _ below refl refl refl refl refl refl refl refl)

@@ -54,3 +54,12 @@ moved_front count end xs le within =
     let whole : count + left ≡ end = omega arith in
     let same : left ≡ 0 + left = omega arith in
     ap (λ (k : ℕ). take k (paste xs 0 (drop count xs) left)) same ∙ take-paste xs 0 (drop count xs) left (omega arith) long ∙ sym (drop-take count left xs) ∙ ap (λ (k : ℕ). drop count (take k xs)) whole
+
+-- the same, where it is copied to a front that it does not reach
+pub moved_apart : (from end : ℕ) (xs front back new : List ℕ) → from ≤ end → end ≤ length xs → back ≡ drop from xs → new ≡ take (end - from) back → take (end - from) ((new ++ drop (end - from) front) ++ back) ≡ drop from (take end xs)
+moved_apart from end xs front back new le within b n =
+    let left : ℕ = end - from in
+    let behind : length back ≡ length xs - from = ap (λ (x : List ℕ). length x) b ∙ length-drop from xs in
+    let long : length new ≡ left = ap (λ (x : List ℕ). length x) n ∙ length-take-le left back (omega (arith, behind)) in
+    let whole : from + left ≡ end = omega arith in
+    ap (λ (x : List ℕ). take left x) (append_assoc new (drop left front) back) ∙ take_at new (drop left front ++ back) left long ∙ n ∙ ap (λ (x : List ℕ). take left x) b ∙ sym (drop-take from left xs) ∙ ap (λ (k : ℕ). drop from (take k xs)) whole

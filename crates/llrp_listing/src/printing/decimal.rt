@@ -5,7 +5,7 @@ ghost use Rattle.tag_uri.specs.Decimal.{padded};
 ghost use Rattle.llrp_listing.specs.NodeLine.{signed_text};
 ghost use Rattle.llrp_listing.specs.Place.{Puts};
 
-use crate::printing::place::{put_eight, put_last, put_octet, put_text, put_two};
+use crate::printing::place::{put_last, put_octet, put_text, put_two};
 use itoa::Buffer;
 
 /// The two digits of each number from 0 to 99.
@@ -35,6 +35,22 @@ fn eight(number: u32) -> [u8; 8]
     let [e, f] = pair(lower / 100);
     let [g, h] = pair(lower % 100);
     [a, b, c, d, e, f, g, h]
+}
+
+/// Puts the eight digits of a number below 10 ^ 8.
+#[inline(always)]
+fn put_eight_digits(room: &mut [u8], at: usize, number: u32) -> usize
+    requires fits { number < 10 ^ 8 }
+    requires room { at + 8 ≤ length room.old }
+    ensures text { Puts room.old room.new at result (padded 8 number) }
+    ensures ends { result ≡ at + 8 }
+{
+    let upper = number / 10_000;
+    let lower = number % 10_000;
+    let second_at = put_two(room, at, pair(upper / 100));
+    let third_at = put_two(room, second_at, pair(upper % 100));
+    let fourth_at = put_two(room, third_at, pair(lower / 100));
+    put_two(room, fourth_at, pair(lower % 100))
 }
 
 /// Puts a number below 100.
@@ -108,6 +124,9 @@ fn put_short(room: &mut [u8], at: usize, number: u32) -> usize
     ensures text { Puts room.old room.new at result (decimal number) }
     ensures most { result ≤ at + 8 }
 {
+    if number >= 10_000_000 {
+        return put_eight_digits(room, at, number);
+    }
     put_last(room, at, eight(number), count_of(number))
 }
 
@@ -122,7 +141,7 @@ fn put_long(room: &mut [u8], at: usize, number: u64) -> usize
     let high = number / 100_000_000;
     let low = (number % 100_000_000) as u32;
     let low_at = put_upper(room, at, high);
-    put_eight(room, low_at, eight(low))
+    put_eight_digits(room, low_at, low)
 }
 
 /// Puts a number of at most 12 digits.
@@ -150,7 +169,7 @@ fn put_higher(room: &mut [u8], at: usize, number: u64) -> usize
     ensures most { result ≤ at + 12 }
 {
     let low_at = put_few(room, at, (number / 100_000_000) as u32);
-    put_eight(room, low_at, eight((number % 100_000_000) as u32))
+    put_eight_digits(room, low_at, (number % 100_000_000) as u32)
 }
 
 /// Puts a number. 20 octets of the room may change.

@@ -58,15 +58,51 @@ pub(crate) fn put_last(room: &mut [u8], at: usize, octets: [u8; 8], count: usize
     at + count
 }
 
-/// Puts the first `count` of 32 octets. 32 octets of the room may change.
+/// Puts 16 octets.
+#[inline(always)]
+fn put_sixteen(room: &mut [u8], at: usize, octets: [u8; 16]) -> usize
+    requires { at + 16 ≤ length room.old }
+    ensures { Puts room.old room.new at result octets }
+{
+    room[at..at + 16].copy_from_slice(&octets);
+    at + 16
+}
+
+/// Puts 32 octets.
+#[inline(always)]
+fn put_all(room: &mut [u8], at: usize, octets: [u8; 32]) -> usize
+    requires { at + 32 ≤ length room.old }
+    ensures { Puts room.old room.new at result octets }
+{
+    room[at..at + 32].copy_from_slice(&octets);
+    at + 32
+}
+
+/// The first 16 of 32 octets.
+#[inline(always)]
+fn first_half(octets: [u8; 32]) -> [u8; 16]
+    ensures { result ≡ take 16 octets }
+{
+    let mut half = [0; 16];
+    half.copy_from_slice(&octets[..16]);
+    half
+}
+
+/// Puts the first `count` of 32 octets. 32 octets of the room may change, but no more than 16 where
+/// the count is so small.
 #[inline(always)]
 pub(crate) fn put_first(room: &mut [u8], at: usize, octets: [u8; 32], count: usize) -> usize
     requires few { count ≤ 32 }
     requires room { at + 32 ≤ length room.old }
     ensures { Puts room.old room.new at result (take count octets) }
 {
-    room[at..at + 32].copy_from_slice(&octets);
-    at + count
+    if count <= 16 {
+        put_sixteen(room, at, first_half(octets));
+        at + count
+    } else {
+        put_all(room, at, octets);
+        at + count
+    }
 }
 
 /// Puts a text.
@@ -78,4 +114,21 @@ pub(crate) fn put_text(room: &mut [u8], at: usize, text: &[u8]) -> usize
     let end = at + text.len();
     room[at..end].copy_from_slice(text);
     end
+}
+
+/// Moves what is between two places to the front. Where it does not reach its new place, it is copied
+/// at once, which takes a small part of the time.
+pub(crate) fn move_front(room: &mut [u8], from: usize, end: usize)
+    requires order { from ≤ end }
+    requires within { end ≤ length room.old }
+    ensures text { take (end - from) room.new ≡ drop from (take end room.old) }
+    ensures same { length room.new ≡ length room.old }
+{
+    let left = end - from;
+    if left <= from {
+        let (front, back) = room.split_at_mut(from);
+        front[..left].copy_from_slice(&back[..left]);
+    } else {
+        room.copy_within(from..end, 0);
+    }
 }

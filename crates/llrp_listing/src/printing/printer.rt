@@ -99,7 +99,7 @@ impl Listener for Printer {
 
     ghost ends = { λ self was m now. AppendsLines (message_lines m) was now };
 
-    #[inline]
+    #[inline(always)]
     fn message(
         &mut self,
         version: u8,
@@ -110,12 +110,12 @@ impl Listener for Printer {
         self.text.push_header(version, kind, id)
     }
 
-    #[inline]
+    #[inline(always)]
     fn parameter(&mut self, level: u8, kind: ParamKind) -> Result<(), AllocError> {
         self.text.push_start(level, Kind::Parameter(kind))
     }
 
-    #[inline]
+    #[inline(always)]
     fn field(&mut self, rule: &Field, value: u128) -> Result<(), AllocError> {
         if rule.reserved {
             return Ok(());
@@ -131,12 +131,12 @@ impl Listener for Printer {
         push_octets(&mut self.text, form, octets)
     }
 
-    #[inline]
+    #[inline(always)]
     fn ready(&mut self) -> Result<(), AllocError> {
         self.text.push(b'\n')
     }
 
-    #[inline]
+    #[inline(always)]
     fn value(&mut self, level: u8, kind: ParamKind, value: u128) -> Result<(), AllocError> {
         self.text.push_value_line(level, kind, value)
     }

@@ -9,7 +9,7 @@ ghost use Rattle.llrp_listing.specs.StreamListing.{end_text, fault_text};
 
 use crate::printing::decimal::put_decimal;
 use crate::printing::ends::{put_end, put_fault};
-use crate::printing::place::{put_octet, put_two};
+use crate::printing::place::{move_front, put_octet, put_two};
 use crate::printing::words::{put_field, put_header, put_start, put_value_line};
 use llrp_schema::{Field, Kind, MsgKind, ParamKind};
 use llrp_stream::End;
@@ -108,9 +108,8 @@ impl Text {
         if count == 0 {
             return;
         }
-        let end = self.end;
-        self.memory.as_mut_slice().copy_within(count..end, 0);
-        self.end = end - count;
+        move_front(self.memory.as_mut_slice(), count, self.end);
+        self.end -= count;
     }
 
     /// Appends the first four words of a message's line.
