@@ -41,3 +41,9 @@ module _ (octets : List ℕ) (later : List Bool) (two : 2 ≤ length octets) (he
 
   pub long_type : head < 1024 → head ≡ number (digits_of_bytes octets ++ later) 6 10
   long_type lt = let a = head_joined in let b = reserved_none lt in omega arith
+
+  pub long_head : head < 1024 → number (digits_of_bytes octets ++ later) 0 1 ≡ 0
+  long_head lt =
+      let zeros = reserved_none lt in
+      let joined = number_joined (digits_of_bytes octets ++ later) 0 1 5 (let fits = room octets later in omega arith) in
+      omega arith

@@ -1,7 +1,8 @@
 -- What the engine keeps of a front of a frame.
 use Rattle.std.specs.Prelude.{Some, get_or, nat_le, ◌≡◌, ℕ, ◌+◌, ◌-◌, ◌*◌, ◌<◌, ◌≤◌, ◌⊎◌, Bool, true, false, List, [], ◌∷◌, ◌++◌, length, drop, reverse, Result, Ok, Err, Option, min, IfOk, MatchResult}
 use Rattle.tag_bits.specs.Digits.{digits_of_bytes}
-use Rattle.llrp_schema.specs.Schema.{GroupRule, bits_of, fields_of, groups_of, is_tv}
+use Rattle.llrp_schema.specs.Schema.{GroupRule, bits_of, fields_of, groups_of, is_tv, tail_of}
+use Rattle.llrp_schema.specs.declared.kinds.Tail.TheVariants.{Absent}
 use Rattle.std.specs.Int.{bit_at}
 use Rattle.llrp_tree.specs.declared.TheConstants.{MAX_LIMIT}
 use Rattle.llrp_tree.specs.declared.fault.FrameErr.{FrameErr}
@@ -194,6 +195,11 @@ pub record IsWholeValue (r : Reader) (octets : List ℕ) (children : Forest) (le
 -- the same, by the bits of the innermost node's groups
 abbrev pub IsNextWhole : Reader → List ℕ → Placed → Type 0
 IsNextWhole r octets placed = (children : Forest) → AreSeen (groups_of r.top.kind) children r.top.seen → IsWholeValue r octets children (length r.outer.items + 1) placed
+
+-- A kind has neither fields nor a tail.
+pub record IsBare (kind : Kind) : Type 0 where
+  pub fields : fields_of kind ≡ []
+  pub tail : tail_of kind ≡ Absent
 
 -- ---- parameters of type and value in a row
 

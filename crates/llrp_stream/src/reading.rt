@@ -1,5 +1,6 @@
 //! Reads a frame part by part, in whatever pieces its octets come.
 
+mod bare;
 mod body;
 mod builder;
 mod frame;

@@ -130,8 +130,8 @@ fn put_short(room: &mut [u8], at: usize, number: u32) -> usize
     put_last(room, at, eight(number), count_of(number))
 }
 
-/// Puts a number of 9 to 20 digits.
-#[inline(always)]
+/// Puts a number of 9 to 20 digits. It stays a call, so that what calls it is small enough to be inlined.
+#[inline(never)]
 fn put_long(room: &mut [u8], at: usize, number: u64) -> usize
     requires long { 10 ^ 8 ≤ number }
     requires room { at + 20 ≤ length room.old }

@@ -1,11 +1,12 @@
 //! An open node, as the engine keeps it.
 
-ghost use Rattle.std.specs.Prelude.{◌≡◌, ◌+◌, ◌*◌, ◌<◌, ◌≤◌, ◌⊎◌, Bool, List, ◌++◌, MatchResult, true, false};
+ghost use Rattle.std.specs.Prelude.{◌≡◌, ◌+◌, ◌*◌, ◌<◌, ◌≤◌, ◌⊎◌, Bool, List, ◌++◌, IfSome, MatchResult, Ok, Some, true, false};
 ghost use Rattle.std.specs.Int.{bit_at};
 ghost use Rattle.tag_bits.specs.Digits.{digits_of_bytes};
 ghost use Rattle.llrp_schema.specs.declared.kinds.Kind.TheVariants.{Message};
 ghost use Rattle.llrp_schema.specs.declared.kinds.MsgKind.TheVariants.{Keepalive};
-ghost use Rattle.llrp_schema.specs.Schema.{groups_of};
+ghost use Rattle.llrp_schema.specs.Schema.{groups_of, tlv_with_number};
+ghost use Rattle.llrp_stream.specs.declared.reading.level.Child.TheVariants.{Long};
 ghost use Rattle.llrp_tree.specs.declared.TheConstants.{MAX_LIMIT};
 ghost use Rattle.llrp_tree.specs.Tree.{Forest, none};
 ghost use Rattle.llrp_tree.specs.OpenTree.{is_enough};
@@ -178,4 +179,45 @@ pub(crate) fn child_head(
         return Err(bad(bit + 16, Reason::ParamLength));
     }
     Ok(Child::Long(placed, size))
+}
+
+/// Reads the head of a child of a known kind at an octet of a message. Returns the groups of the message that
+/// have a child once it has begun, and its length; `None` where another child comes, the head is not
+/// whole, or a check fails. Where parent and kind are written at the call, the compiler knows the
+/// child's place.
+#[inline(always)]
+pub(crate) fn known_head(
+    octets: &[u8],
+    at: usize,
+    stop: usize,
+    parent: Kind,
+    seen: u32,
+    number: u16,
+    kind: ParamKind,
+) -> Option<(u32, usize)>
+    requires before { at < stop }
+    requires small { stop ≤ MAX_LIMIT }
+    requires known { tlv_with_number number ≡ Some kind }
+    requires some { (children : Forest) × AreSeen (groups_of parent) children seen }
+    requires few { number < 1024 }
+    ensures { IfSome result (λ found. (children : Forest) (later : List Bool)
+        → AreSeen (groups_of parent) children seen
+        → HeadSays (groups_of parent) children 1 (8 * at) (8 * stop) (digits_of_bytes octets.now
+        ++ later) octets.now (Ok (Long (record { kind = kind; seen = found.0 }) found.1))) }
+{
+    if octets.len() < 4 || stop - at < 4 {
+        return None;
+    }
+    let head = word(octets, 0);
+    if head != number {
+        return None;
+    }
+    let Ok(placed) = child_kind(Some(kind), parent, seen, 1, 0, 0) else {
+        return None;
+    };
+    let size = word(octets, 2) as usize;
+    if size < 4 || stop - at < size {
+        return None;
+    }
+    Some((placed.seen, size))
 }

@@ -1,6 +1,6 @@
 //! The engine: reads the body of a frame, one part a step.
 
-ghost use Rattle.std.specs.Prelude.{◌≡◌, ◌+◌, ◌*◌, ◌^◌, ◌<◌, ◌≤◌, ◌⊎◌, ℕ, Bool, List, [], ◌∷◌, ◌++◌, OnOk, MatchResult, length, drop, true, false, Ok, Some};
+ghost use Rattle.std.specs.Prelude.{◌≡◌, ◌+◌, ◌*◌, ◌^◌, ◌<◌, ◌≤◌, ◌⊎◌, ℕ, Bool, List, [], ◌∷◌, ◌++◌, OnOk, IfErr, IfOk, MatchResult, length, drop, true, false, Ok, Some};
 ghost use Rattle.tag_bits.specs.Digits.{digits_of_bytes};
 ghost use Rattle.llrp_tree.specs.declared.TheConstants.{MAX_DEPTH, MAX_LIMIT};
 ghost use Rattle.llrp_schema.specs.Schema.{FieldRule, field_rule, fields_of, groups_of};
@@ -11,7 +11,8 @@ ghost use Rattle.llrp_schema.specs.declared.kinds.Kind.TheVariants.{Parameter};
 ghost use Rattle.llrp_stream.specs.Front.{Reaches};
 ghost use Rattle.llrp_tree.specs.FirstFault.{number, field_checks};
 ghost use Rattle.llrp_tree.specs.Standing.{FailsFirst, leading, is_tv_kind};
-ghost use Rattle.llrp_tree.specs.declared.fault.FrameErr.TheVariants.{Bad};
+ghost use Rattle.llrp_tree.specs.declared.fault.FrameErr.TheVariants.{Bad, Memory};
+ghost use Rattle.llrp_stream.specs.declared.reading.reader.Step.TheVariants as Step;
 ghost use Rattle.llrp_stream.specs.Told.{with_field, IsNextField};
 ghost use Rattle.llrp_stream.specs.Reading.{AreSeen, Reads, Are, Steps, with_begun};
 ghost use Rattle.llrp_stream.specs.Pieces.{ReadsOn};
@@ -258,7 +259,7 @@ impl Reader {
 
     /// Enters a child whose head has this many octets, and which stops at this octet.
     #[inline(always)]
-    fn enter<L: Listener>(
+    pub(crate) fn enter<L: Listener>(
         &mut self,
         listener: &mut L,
         child: Placed,
@@ -271,7 +272,7 @@ impl Reader {
         requires some { 1 ≤ used }
         requires told { (was : List ℕ) × (t : List Begun) × L.stands listener.old was t
             × (length t ≡ length self.old.outer.items + 1) }
-        ensures { (was : List ℕ) (front octets : List ℕ) (b : Begun) (outer : List Begun) (h : Head)
+        ensures steps { (was : List ℕ) (front octets : List ℕ) (b : Begun) (outer : List Begun) (h : Head)
             → Reads self.old front b outer → L.stands listener.old was (b ∷ outer)
             → drop self.old.at front ≡ octets → kind_of h ≡ Parameter child.kind
             → AreSeen (groups_of self.old.top.kind) (with_begun b.children (Parameter child.kind))
@@ -280,6 +281,10 @@ impl Reader {
             (8 * (self.old.at + used)) → used ≤ length octets
             → Steps (L.begins listener.new was) (L.stands listener.new was) self.old self.new front
             octets result }
+        ensures goes { IfOk result (λ step. step ≡ Step.Goes used) }
+        ensures memory { IfErr result (λ error. error ≡ Memory) }
+        ensures kind { OnOk result (self.new.top.kind ≡ Parameter child.kind) }
+        ensures stage { OnOk result (self.new.stage ≡ Stage.Leading 0) }
     {
         let level = self.outer.len() as u8 + 1;
         listener.parameter(level, child.kind)?;
@@ -294,7 +299,11 @@ impl Reader {
 
     /// Begins a child of the innermost node.
     #[inline(always)]
-    fn begin<L: Listener>(&mut self, listener: &mut L, octets: &[u8]) -> Result<Step, FrameErr>
+    pub(crate) fn begin<L: Listener>(
+        &mut self,
+        listener: &mut L,
+        octets: &[u8],
+    ) -> Result<Step, FrameErr>
         requires stage { self.old.stage ≡ Stage.Children }
         requires stop { self.old.top.stop ≤ MAX_LIMIT }
         requires some { (front : List ℕ) × (b : Begun) × (outer : List Begun)
@@ -350,7 +359,7 @@ impl Reader {
         if used > 0 {
             return Ok(Step::Goes(used));
         }
-        self.begin(listener, octets)
+        self.begin_any(listener, octets)
     }
 
     /// Reads one part, or a row of parameters of type and value.

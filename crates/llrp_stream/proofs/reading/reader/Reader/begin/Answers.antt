@@ -98,7 +98,7 @@ returns-in-Short g c = λ was front b outer rd told d.
     let rc = short_reaches r front b outer rd c.requires.stage c.args.octets.now d c.requires.room c.requires.long k (f []).0 (λ later. ((f later).2, (f later).3)) in
     let place : 8 * r.at + 8 ≡ 8 * (r.at + 1) = omega arith in
     let rc2 = subst (λ (n : ℕ). Reaches front r.octets (leading (tv k) n [] ∷ b ∷ outer) (8 * r.at + 8)) rd.level.stop rc in
-    c.enter.ensures was front c.args.octets.now b outer (tv k) rd told d refl (f []).4 (subst (λ (n : ℕ). Reaches front r.octets (leading (tv k) (8 * r.top.stop) [] ∷ b ∷ outer) n) place rc2) (f []).0
+    c.enter.ensures.steps was front c.args.octets.now b outer (tv k) rd told d refl (f []).4 (subst (λ (n : ℕ). Reaches front r.octets (leading (tv k) (8 * r.top.stop) [] ∷ b ∷ outer) n) place rc2) (f []).0
 
 pub returns-in-Long : goal.returns-in-Long
 returns-in-Long g c = λ was front b outer rd told d.
@@ -112,4 +112,4 @@ returns-in-Long g c = λ was front b outer rd told d.
     let place : 8 * r.at + 32 ≡ 8 * (r.at + 4) = omega arith in
     let end : 8 * r.at + 8 * n ≡ 8 * (r.at + n) = omega arith in
     let rc2 = subst (λ (m : ℕ). Reaches front r.octets (leading (tlv k n) m [] ∷ b ∷ outer) (8 * r.at + 32)) end rc in
-    c.enter-in-Long.ensures was front c.args.octets.now b outer (tlv k n) rd told d refl (f []).4 (subst (λ (m : ℕ). Reaches front r.octets (leading (tlv k n) (8 * (r.at + n)) [] ∷ b ∷ outer) m) place rc2) (f []).0
+    c.enter-in-Long.ensures.steps was front c.args.octets.now b outer (tlv k n) rd told d refl (f []).4 (subst (λ (m : ℕ). Reaches front r.octets (leading (tlv k n) (8 * (r.at + n)) [] ∷ b ∷ outer) m) place rc2) (f []).0

@@ -53,11 +53,11 @@ returns-then-used-gt0 g c = λ was front b outer rd told d.
     let a : Are (g.L.Listener.begins c.args.listener.now was) (g.L.Listener.stands c.args.listener.now was) r front = record { node = b; outer = outer; reads = rd; told = subst (λ (x : Stage). Told (g.L.Listener.begins c.args.listener.now was) (g.L.Listener.stands c.args.listener.now was) x (b ∷ outer)) (sym c.requires.stage) told } in
     moved _ _ _ _ r c.values.new.self front c.args.octets.now c.in_ok-used.used a (c.in_ok-used.ensures.takes was front a d) c.if-used-gt0.true c.requires.stage c.in_ok-used.ensures.keeps.stage c.in_ok-used.ensures.keeps.outer
 
-pub begin-requires-clause-stage : goal.begin-requires-clause-stage
-begin-requires-clause-stage g c = c.in_ok-used.ensures.keeps.stage ∙ c.requires.stage
+pub begin_any-requires-clause-stage : goal.begin_any-requires-clause-stage
+begin_any-requires-clause-stage g c = c.in_ok-used.ensures.keeps.stage ∙ c.requires.stage
 
-pub begin-requires-clause-some : goal.begin-requires-clause-some
-begin-requires-clause-some g c =
+pub begin_any-requires-clause-some : goal.begin_any-requires-clause-some
+begin_any-requires-clause-some g c =
     let w = c.requires.some in
     let zero : c.in_ok-used.used ≡ 0 = omega (arith, c.if-used-gt0.false) in
     let e = c.in_ok-used.ensures.none (ap (λ (n : ℕ). Ok n) zero) in
@@ -67,5 +67,5 @@ pub returns : goal.returns
 returns g c = λ was front b outer rd told d.
     let zero : c.in_ok-used.used ≡ 0 = omega (arith, c.if-used-gt0.false) in
     let e = c.in_ok-used.ensures.none (ap (λ (n : ℕ). Ok n) zero) in
-    let steps = c.begin.ensures was front b outer (subst (λ (r : Reader). Reads r front b outer) (sym e.0) rd) (subst (λ l. g.L.Listener.stands l was (b ∷ outer)) (sym e.1) told) (subst (λ (r : Reader). drop r.at front ≡ c.args.octets.now) (sym e.0) d) in
-    subst (λ (r : Reader). Steps (g.L.Listener.begins c.begin.new.listener was) (g.L.Listener.stands c.begin.new.listener was) r c.begin.new.self front c.args.octets.now c.begin.result) e.0 steps
+    let steps = c.begin_any.ensures was front b outer (subst (λ (r : Reader). Reads r front b outer) (sym e.0) rd) (subst (λ l. g.L.Listener.stands l was (b ∷ outer)) (sym e.1) told) (subst (λ (r : Reader). drop r.at front ≡ c.args.octets.now) (sym e.0) d) in
+    subst (λ (r : Reader). Steps (g.L.Listener.begins c.begin_any.new.listener was) (g.L.Listener.stands c.begin_any.new.listener was) r c.begin_any.new.self front c.args.octets.now c.begin_any.result) e.0 steps

@@ -28,8 +28,8 @@ enter_work r n left used one fit z b o s = let e = ap rank s in let m = some_ran
 pub parameter-requires-clause-some : goal.parameter-requires-clause-some
 parameter-requires-clause-some g c = let w = c.requires.told in (w.0, w.1, w.2, omega (arith, w.3, c.len.ensures.value))
 
-pub returns : goal.returns
-returns g c = λ was front octets b outer h rd told d k placed rc used.
+pub returns-clause-steps : goal.returns-clause-steps
+returns-clause-steps g c = λ was front octets b outer h rd told d k placed rc used.
     let lo : length octets ≡ length front - c.args.self.now.at = sym (ap (λ (x : List ℕ). length x) d) ∙ length-drop c.args.self.now.at front in
     let deep : length c.args.self.now.outer.items ≡ length outer = sym (length-reverse c.args.self.now.outer.items) ∙ levels_length (reverse c.args.self.now.outer.items) (kind_of b.head) outer rd.levels in
     let place : 8 * (c.args.self.now.at + c.args.used) ≡ 8 * (c.args.self.now.at + c.args.used) + c.args.self.now.bit = omega (arith, c.requires.aligned) in

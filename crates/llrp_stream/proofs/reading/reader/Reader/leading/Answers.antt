@@ -25,6 +25,7 @@ use Rattle.llrp_stream.specs.declared.reading.reader.Reader.{Reader}
 use Rattle.llrp_stream.specs.Reading.{IsAtStage, IsLeading, rank, work}
 use Rattle.llrp_stream.proofs.CoveredOctets.{covered_octets}
 use Rattle.llrp_stream.proofs.Bounds.{few_fields, fields_in, leading_few}
+use Rattle.llrp_stream.proofs.ReadyPart.{resting, aligned, ready_work}
 use Rattle.llrp_stream.proofs.reading.reader.Reader.leading.Goals as goal
 
 rule_here : (fs : List Field) (kind : Kind) (i : ℕ) (d : Field) → map field_rule fs ≡ fields_of kind → i < length fs → drop i (fields_of kind) ≡ field_rule (get_or fs i d) ∷ drop (suc i) (map field_rule fs)
@@ -35,23 +36,6 @@ rule_here fs kind i d same lt =
 
 all_read : (fs : List Field) (kind : Kind) (n : ℕ) → map field_rule fs ≡ fields_of kind → length fs ≤ n → drop n (fields_of kind) ≡ []
 all_read fs kind n same le = let a = length-map fs field_rule in let b = ap (λ (x : List FieldRule). length x) same in drop_all n (fields_of kind) (omega arith)
-
-resting : (b : Begun) (kind : Kind) → kind_of b.head ≡ kind → b.tail ≡ None → drop (length b.fields) (fields_of kind) ≡ [] → tail_of kind ≡ Absent → due b ≡ Rest
-unfolding due
-resting b kind k t e a =
-    ap (λ (j : Kind). field_due (drop (length b.fields) (fields_of j)) (tail_due (tail_of j) b.tail)) k
-    ∙ ap (λ (x : List FieldRule). field_due x (tail_due (tail_of kind) b.tail)) e
-    ∙ ap (λ (x : Tail). tail_due x b.tail) a ∙ ap (λ (x : Option (List ℕ)). tail_due Absent x) t
-
-aligned : (front : List ℕ) (n : ℕ) (b : Begun) (outer : List Begun) (a bit : ℕ) → Reaches front n (b ∷ outer) (8 * a + bit) → due b ≡ Rest → bit < 8 → bit ≡ 0
-aligned front n b outer a bit r d lt =
-    let c = covered_octets b outer r.is_open d in
-    let long = length_covered (covers (b ∷ outer)) (8 * a + bit) (digits_of_bytes front) r.covered (let l = length-bytes front in omega (arith, r.within)) in
-    omega (arith, c.1, long)
-
-ready_work : (r n : Reader) (left : ℕ) → n.bit ≡ r.bit → n.outer ≡ r.outer → rank r.stage ≡ 3 → rank n.stage ≡ 1 → work n (left - 0) < work r left
-unfolding work
-ready_work r n left b o s t = let e = ap (λ (x : ArrayVec Level). length x.items) o in omega arith
 
 pub field-requires-clause-place : goal.field-requires-clause-place
 field-requires-clause-place g c = let a = few_fields c.args.self.now.top.kind in let b = length-map c.fields-rules.result.now field_rule in let e = ap (λ (x : List FieldRule). length x) c.fields-rules.ensures in omega (arith, c.if-next-rules.true)

@@ -1,0 +1,65 @@
+-- A child without fields and tail, begun and made ready in one step.
+use Rattle.std.proofs.Common.{◌≡◌, ℕ, ◌+◌, ◌-◌, ◌*◌, ◌<◌, ◌≤◌, Bool, List, [], ◌∷◌, ◌++◌, Ok, Some, refl, sym, ap, ◌∙◌, subst, arith, length, drop, length-drop}
+use Rattle.tag_bits.specs.Digits.{digits_of_bytes}
+use Rattle.llrp_schema.specs.declared.kinds.Kind.{Kind}
+use Rattle.llrp_schema.specs.declared.kinds.Kind.TheVariants.{Parameter}
+use Rattle.llrp_schema.specs.declared.kinds.ParamKind.TheVariants.{ReaderEventNotificationData, TagReportData}
+use Rattle.llrp_schema.specs.Schema.{fields_of, groups_of, is_tv, number_of, param_kinds, param_rule, rule_of, tail_of, tlv_with_number}
+use Rattle.llrp_tree.specs.Tree.{Forest}
+use Rattle.llrp_tree.specs.OpenTree.{Begun}
+use Rattle.llrp_stream.specs.declared.reading.level.Placed.{Placed}
+use Rattle.llrp_stream.specs.declared.reading.level.Child.TheVariants as child
+use Rattle.llrp_stream.specs.declared.reading.reader.Reader.{Reader}
+use Rattle.llrp_stream.specs.declared.reading.reader.Stage.TheVariants as stage
+use Rattle.llrp_stream.specs.Reading.{AreSeen, HeadSays, IsBare, Moves, Reads, work}
+use Rattle.llrp_stream.proofs.ChildPart.{outer_length}
+use Rattle.llrp_stream.proofs.SeenLemmas.{seen_are}
+
+-- what is seen of the children of a node of a known kind
+pub seen_at : (r : Reader) (front : List ℕ) (b : Begun) (outer : List Begun) → Reads r front b outer → (parent : Kind) → r.top.kind ≡ parent → AreSeen (groups_of parent) b.children r.top.seen
+seen_at r front b outer rd parent e = subst (λ (k : Kind). AreSeen (groups_of k) b.children r.top.seen) e (seen_are r front b outer rd)
+
+-- what a head says at the first level, said of the node that is innermost
+pub says_long : (r : Reader) (front : List ℕ) (b : Begun) (outer : List Begun) → Reads r front b outer → (parent : Kind) → r.top.kind ≡ parent → length r.outer.items ≡ 0 → r.stage ≡ stage.Children → (octets : List ℕ) (placed : Placed) (n : ℕ)
+    → ((children : Forest) (later : List Bool) → AreSeen (groups_of parent) children r.top.seen → HeadSays (groups_of parent) children 1 (8 * r.at) (8 * r.top.stop) (digits_of_bytes octets ++ later) octets (Ok (child.Long placed n)))
+    → (later : List Bool) → HeadSays (groups_of r.top.kind) b.children (length outer + 1) (8 * r.at) (8 * r.top.stop) (digits_of_bytes octets ++ later) octets (Ok (child.Long placed n))
+says_long r front b outer rd parent e none s octets placed n f = λ later.
+    let few = outer_length r front b outer rd s in
+    let level : 1 ≡ length outer + 1 = omega (arith, few, none) in
+    subst (λ (m : ℕ). HeadSays (groups_of r.top.kind) b.children m (8 * r.at) (8 * r.top.stop) (digits_of_bytes octets ++ later) octets (Ok (child.Long placed n))) level
+    (subst (λ (k : Kind). HeadSays (groups_of k) b.children 1 (8 * r.at) (8 * r.top.stop) (digits_of_bytes octets ++ later) octets (Ok (child.Long placed n))) (sym e)
+    (f b.children later (seen_at r front b outer rd parent e)))
+
+-- a step of some octets, and one of none after it
+pub moved_twice : (b0 s0 begins stands : List Begun → Type 0) (old mid new : Reader) (front octets : List ℕ) (used : ℕ) → Moves b0 s0 old mid front octets used → Moves begins stands mid new front (drop used octets) 0 → Moves begins stands old new front octets used
+moved_twice b0 s0 begins stands old mid new front octets used m n =
+    let long = length-drop used octets in
+    let less = n.less in
+    let rest : length (drop used octets) - 0 ≡ length octets - used = omega (arith, long) in
+    let first : work new (length octets - used) < work mid (length (drop used octets)) = subst (λ (k : ℕ). work new k < work mid (length (drop used octets))) rest less in
+    let second : work mid (length (drop used octets)) < work old (length octets) = subst (λ (k : ℕ). work mid k < work old (length octets)) (sym long) m.less in
+    record {
+      within = m.within;
+      are = n.are;
+      place = omega (arith, m.place, n.place);
+      same = n.same ∙ m.same;
+      less = omega (arith, first, second);
+    }
+
+-- ---- the rows of the tables
+
+pub report_number : tlv_with_number 240 ≡ Some TagReportData
+unfolding tlv_with_number param_kinds is_tv number_of rule_of param_rule
+report_number = refl
+
+pub event_number : tlv_with_number 246 ≡ Some ReaderEventNotificationData
+unfolding tlv_with_number param_kinds is_tv number_of rule_of param_rule
+event_number = refl
+
+pub report_bare : IsBare (Parameter TagReportData)
+unfolding fields_of tail_of rule_of param_rule
+report_bare = record { fields = refl; tail = refl }
+
+pub event_bare : IsBare (Parameter ReaderEventNotificationData)
+unfolding fields_of tail_of rule_of param_rule
+event_bare = record { fields = refl; tail = refl }

@@ -1,0 +1,161 @@
+//! Begins the most frequent children of messages, which have neither fields nor a tail, in one step.
+
+ghost use Rattle.std.specs.Prelude.{◌≡◌, ◌+◌, ◌<◌, ◌≤◌, ℕ, List, [], ◌∷◌, IfErr, OnOk, Ok, Some, drop, length, true, false};
+ghost use Rattle.llrp_schema.specs.declared.kinds.Kind.TheVariants.{Parameter};
+ghost use Rattle.llrp_schema.specs.declared.kinds.Tail.TheVariants.{Absent};
+ghost use Rattle.llrp_schema.specs.Schema.{fields_of, tail_of, tlv_with_number};
+ghost use Rattle.llrp_tree.specs.declared.TheConstants.{MAX_LIMIT};
+ghost use Rattle.llrp_tree.specs.declared.fault.FrameErr.TheVariants.{Memory};
+ghost use Rattle.llrp_tree.specs.OpenTree.{Begun};
+ghost use Rattle.llrp_tree.specs.Standing.{is_tv_kind};
+ghost use Rattle.llrp_stream.specs.Reading.{IsBare, Moves, Reads, Steps};
+ghost use Rattle.llrp_stream.specs.declared.reading.reader.Stage.TheVariants as Stage;
+
+use crate::reading::level::{Placed, known_head};
+use crate::reading::listener::Listener;
+use crate::reading::reader::{Reader, Stage, Step};
+use llrp_schema::{Kind, MsgKind, ParamKind};
+use llrp_tree::FrameErr;
+
+impl Reader {
+    /// Ends the leading parts of the innermost node, which has neither fields nor a tail.
+    #[inline(always)]
+    fn bare<L: Listener>(&mut self, listener: &mut L) -> Result<(), FrameErr>
+        requires stage { self.old.stage ≡ Stage.Leading 0 }
+        requires bare { IsBare self.old.top.kind }
+        ensures moves { OnOk result ((was front octets : List ℕ) (b : Begun) (outer : List Begun)
+            → Reads self.old front b outer → L.begins listener.old was (b ∷ outer)
+            → drop self.old.at front ≡ octets
+            → Moves (L.begins listener.new was) (L.stands listener.new was) self.old self.new front
+            octets 0) }
+        ensures memory { IfErr result (λ error. error ≡ Memory) }
+    {
+        listener.ready()?;
+        self.stage = Stage::Children;
+        Ok(())
+    }
+
+    /// Begins a child of the message that has neither fields nor a tail, if it comes next, its head is
+    /// whole and it passes its checks. Returns whether it began.
+    #[inline(always)]
+    fn begin_bare<L: Listener>(
+        &mut self,
+        listener: &mut L,
+        octets: &[u8],
+        parent: Kind,
+        number: u16,
+        kind: ParamKind,
+    ) -> Result<bool, FrameErr>
+        requires stage { self.old.stage ≡ Stage.Children }
+        requires stop { self.old.top.stop ≤ MAX_LIMIT }
+        requires some { (front : List ℕ) × (b : Begun) × (outer : List Begun)
+            × Reads self.old front b outer × (was : List ℕ)
+            × L.stands listener.old was (b ∷ outer) }
+        requires room { self.old.at < self.old.top.stop }
+        requires long { is_tv_kind self.old.top.kind ≡ false }
+        requires parent { self.old.top.kind ≡ parent }
+        requires first { length self.old.outer.items ≡ 0 }
+        requires known { tlv_with_number number ≡ Some kind }
+        requires few { number < 1024 }
+        requires bare { IsBare (Parameter kind) }
+        ensures begins { result ≡ Ok true → (was front : List ℕ) (b : Begun) (outer : List Begun)
+            → Reads self.old front b outer → L.stands listener.old was (b ∷ outer)
+            → drop self.old.at front ≡ octets.now
+            → Moves (L.begins listener.new was) (L.stands listener.new was) self.old self.new front
+            octets.now 4 }
+        ensures none { result ≡ Ok false → (self.new ≡ self.old) × (listener.new ≡ listener.old) }
+        ensures memory { IfErr result (λ error. error ≡ Memory) }
+    {
+        let found = known_head(
+            octets,
+            self.at as usize,
+            self.top.stop as usize,
+            parent,
+            self.top.seen,
+            number,
+            kind,
+        );
+        let Some((seen, size)) = found else {
+            return Ok(false);
+        };
+        let stop = self.at + size as u32;
+        self.enter(listener, Placed { kind, seen }, 4, stop)?;
+        self.bare(listener)?;
+        Ok(true)
+    }
+
+    /// Begins the one child of the most frequent messages, if it comes next, its head is whole and it
+    /// passes its checks. Returns whether it began.
+    #[inline(always)]
+    pub(crate) fn begin_known<L: Listener>(
+        &mut self,
+        listener: &mut L,
+        octets: &[u8],
+    ) -> Result<bool, FrameErr>
+        requires stage { self.old.stage ≡ Stage.Children }
+        requires stop { self.old.top.stop ≤ MAX_LIMIT }
+        requires some { (front : List ℕ) × (b : Begun) × (outer : List Begun)
+            × Reads self.old front b outer × (was : List ℕ)
+            × L.stands listener.old was (b ∷ outer) }
+        requires room { self.old.at < self.old.top.stop }
+        requires long { is_tv_kind self.old.top.kind ≡ false }
+        ensures begins { result ≡ Ok true → (was front : List ℕ) (b : Begun) (outer : List Begun)
+            → Reads self.old front b outer → L.stands listener.old was (b ∷ outer)
+            → drop self.old.at front ≡ octets.now
+            → Moves (L.begins listener.new was) (L.stands listener.new was) self.old self.new front
+            octets.now 4 }
+        ensures none { result ≡ Ok false → (self.new ≡ self.old) × (listener.new ≡ listener.old) }
+        ensures memory { IfErr result (λ error. error ≡ Memory) }
+    {
+        if !self.outer.is_empty() {
+            return Ok(false);
+        }
+        let Kind::Message(kind) = self.top.kind else {
+            return Ok(false);
+        };
+        match kind {
+            MsgKind::RoAccessReport => self.begin_bare(
+                listener,
+                octets,
+                Kind::Message(MsgKind::RoAccessReport),
+                240,
+                ParamKind::TagReportData,
+            ),
+            MsgKind::ReaderEventNotification => self.begin_bare(
+                listener,
+                octets,
+                Kind::Message(MsgKind::ReaderEventNotification),
+                246,
+                ParamKind::ReaderEventNotificationData,
+            ),
+            _ => Ok(false),
+        }
+    }
+
+    /// Begins a child of the innermost node.
+    #[inline(always)]
+    pub(crate) fn begin_any<L: Listener>(
+        &mut self,
+        listener: &mut L,
+        octets: &[u8],
+    ) -> Result<Step, FrameErr>
+        requires stage { self.old.stage ≡ Stage.Children }
+        requires stop { self.old.top.stop ≤ MAX_LIMIT }
+        requires some { (front : List ℕ) × (b : Begun) × (outer : List Begun)
+            × Reads self.old front b outer × (was : List ℕ)
+            × L.stands listener.old was (b ∷ outer) }
+        requires room { self.old.at < self.old.top.stop }
+        requires long { is_tv_kind self.old.top.kind ≡ false }
+        ensures { (was : List ℕ) (front : List ℕ) (b : Begun) (outer : List Begun)
+            → Reads self.old front b outer → L.stands listener.old was (b ∷ outer)
+            → drop self.old.at front ≡ octets.now
+            → Steps (L.begins listener.new was) (L.stands listener.new was) self.old self.new front
+            octets.now result }
+    {
+        let begun = self.begin_known(listener, octets)?;
+        if begun {
+            return Ok(Step::Goes(4));
+        }
+        self.begin(listener, octets)
+    }
+}
