@@ -1,5 +1,5 @@
 -- Parameters of type and value in a row, as the engine takes them.
-use Rattle.std.proofs.Common.{◌≡◌, ℕ, ◌+◌, ◌-◌, ◌*◌, ◌/◌, ◌≤◌, false, List, length, drop, refl, sym, ap, ◌∙◌, subst, arith, zero, suc, length-drop}
+use Rattle.std.proofs.Common.{◌≡◌, ℕ, ◌+◌, ◌-◌, ◌*◌, ◌/◌, ◌<◌, ◌≤◌, ◌⊎◌, inl, inr, false, List, length, drop, refl, sym, ap, ◌∙◌, subst, arith, zero, suc, length-drop}
 use Rattle.std.specs.Prelude.{Result, Ok, Err, OnOk, IfOk, IfErr}
 use Rattle.llrp_schema.specs.declared.kinds.Kind.{Kind}
 use Rattle.llrp_schema.specs.declared.kinds.Kind.TheVariants.{Parameter}
@@ -10,9 +10,13 @@ use Rattle.llrp_tree.specs.declared.fault.FrameErr.TheVariants.{Memory}
 use Rattle.llrp_tree.specs.OpenTree.{Begun}
 use Rattle.llrp_tree.specs.Standing.{is_tv_kind}
 use Rattle.llrp_stream.specs.declared.reading.reader.Reader.{Reader}
-use Rattle.llrp_stream.specs.Reading.{Are, AwaitsValues, KeepsNode, Takes, TakenSoFar, TakesValues}
+use Rattle.llrp_stream.specs.Reading.{Are, AwaitsValues, KeepsNode, Moves, Takes, TakenSoFar, TakesValues, rank, work}
 use Rattle.llrp_stream.proofs.MoreOctets.{behind_on}
 use Rattle.llrp_stream.proofs.SeenLemmas.{seen_are}
+use Rattle.llrp_stream.proofs.ChildPart.{resting}
+use Rattle.arrayvec.specs.ArrayVec.{ArrayVec}
+use Rattle.llrp_stream.specs.declared.reading.level.Level.{Level}
+use Rattle.llrp_stream.specs.declared.reading.reader.Stage.TheVariants.{Children}
 
 report_long : is_tv_kind (Parameter TagReportData) ≡ false
 unfolding is_tv number_of rule_of param_rule
@@ -83,3 +87,58 @@ pub taken_in_all : (begins stands : List Begun → Type 0) (old new : Reader) (f
 taken_in_all begins stands old new front octets rest near left e le t =
     let same : length octets - length rest ≡ near - left = omega (arith, e, le) in
     subst (λ (n : ℕ). Takes begins stands old new front octets n) same t.takes
+
+-- ---- a head, and the parameters of type and value after it
+
+-- no more is left to do, where only octets were taken
+work_at_most : (r n : Reader) (left used : ℕ) → used ≤ left → r.bit ≡ 0 → n.bit ≡ 0 → KeepsNode r n → work n (left - used) ≤ work r left
+unfolding work
+work_at_most r n left used fit b m k = let e = ap rank k.stage in let f = ap (λ (x : ArrayVec Level). length x.items) k.outer in omega arith
+
+work_less : (r n : Reader) (left used : ℕ) → 0 < used → used ≤ left → r.bit ≡ 0 → n.bit ≡ 0 → KeepsNode r n → work n (left - used) < work r left
+unfolding work
+work_less r n left used some fit b m k = let e = ap rank k.stage in let f = ap (λ (x : ArrayVec Level). length x.items) k.outer in omega arith
+
+module _ (begins stands : List Begun → Type 0) where
+  aligned_at : (r : Reader) (front : List ℕ) → Are begins stands r front → r.stage ≡ Children → r.bit ≡ 0
+  aligned_at r front a s = (resting r front a.node a.outer a.reads s).aligned
+
+-- What a head is: it was taken, and then there is less to do; or there was none, and nothing changed.
+pub record HeadTaken (begins stands : List Begun → Type 0) (old mid : Reader) (front octets : List ℕ) (head : ℕ) : Type 0 where
+  pub within : head ≤ length octets
+  pub are : Are begins stands mid front
+  pub place : mid.at ≡ old.at + head
+  pub same : mid.octets ≡ old.octets
+  pub less : ((0 < head) × (work mid (length octets - head) < work old (length octets))) ⊎ ((head ≡ 0) × (mid ≡ old))
+
+pub head_taken : (head : ℕ) (begins stands : List Begun → Type 0) (old mid : Reader) (front octets : List ℕ) → (0 < head → Moves begins stands old mid front octets head) → (head ≡ 0 → (mid ≡ old) × Are begins stands old front) → HeadTaken begins stands old mid front octets head
+head_taken zero begins stands old mid front octets f e =
+    let x = e refl in
+    record {
+      within = omega arith;
+      are = subst (λ (r : Reader). Are begins stands r front) (sym x.0) x.1;
+      place = omega (arith, ap (λ (r : Reader). r.at) x.0);
+      same = ap (λ (r : Reader). r.octets) x.0;
+      less = inr (refl, x.0);
+    }
+head_taken (suc n) begins stands old mid front octets f e =
+    let m = f (omega arith) in
+    record { within = m.within; are = m.are; place = m.place; same = m.same; less = inl (omega arith, m.less) }
+
+pub moved_on : (b0 s0 begins stands : List Begun → Type 0) (old mid new : Reader) (front octets rest : List ℕ) (head used : ℕ) → rest ≡ drop head octets → HeadTaken b0 s0 old mid front octets head → mid.stage ≡ Children → Takes begins stands mid new front rest used → KeepsNode mid new → 0 < head + used → Moves begins stands old new front octets (head + used)
+moved_on b0 s0 begins stands old mid new front octets rest head used e h s t k some =
+    let long : length rest ≡ length octets - head = ap (λ (x : List ℕ). length x) e ∙ length-drop head octets in
+    let bit = aligned_at b0 s0 mid front h.are s in
+    let last = aligned_at begins stands new front t.are (k.stage ∙ s) in
+    let fits = t.within in
+    let left : length octets - (head + used) ≡ length rest - used = omega (arith, long) in
+    record {
+      within = omega (arith, h.within, long, fits);
+      are = t.are;
+      place = omega (arith, t.place, h.place);
+      same = t.same ∙ h.same;
+      less = elim h.less [
+        | inl x ↦ (let m = work_at_most mid new (length rest) used fits bit last k in let y = subst (λ (n : ℕ). work mid n < work old (length octets)) (sym long) x.1 in let z = ap (λ (n : ℕ). work new n) left in omega (arith, m, y, z))
+        | inr x ↦ (let m = work_less mid new (length rest) used (omega (arith, some, x.0)) fits bit last k in let y = ap (λ (r : Reader). work r (length octets)) x.1 in let w = ap (λ (n : ℕ). work mid n) (let q : length rest ≡ length octets = omega (arith, long, x.0) in q) in let z = ap (λ (n : ℕ). work new n) left in omega (arith, m, y, z, w))
+      ];
+    }

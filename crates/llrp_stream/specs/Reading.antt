@@ -196,6 +196,12 @@ pub record IsWholeValue (r : Reader) (octets : List ℕ) (children : Forest) (le
 abbrev pub IsNextWhole : Reader → List ℕ → Placed → Type 0
 IsNextWhole r octets placed = (children : Forest) → AreSeen (groups_of r.top.kind) children r.top.seen → IsWholeValue r octets children (length r.outer.items + 1) placed
 
+-- The innermost node awaits a child or its end, at or before its stop.
+pub record Rests (r : Reader) : Type 0 where
+  pub stage : r.stage ≡ Children
+  pub stop : r.top.stop ≤ MAX_LIMIT
+  pub before : r.at ≤ r.top.stop
+
 -- A kind has neither fields nor a tail.
 pub record IsBare (kind : Kind) : Type 0 where
   pub fields : fields_of kind ≡ []

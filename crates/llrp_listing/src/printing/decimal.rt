@@ -179,7 +179,9 @@ pub(crate) fn put_decimal(room: &mut [u8], at: usize, number: u64) -> usize
     ensures text { Puts room.old room.new at result (decimal number) }
     ensures most { result ≤ at + 20 }
 {
-    if number < 10_000 {
+    if number < 10 {
+        put_octet(room, at, b'0' + number as u8)
+    } else if number < 10_000 {
         put_few(room, at, number as u32)
     } else if number < 100_000_000 {
         put_short(room, at, number as u32)

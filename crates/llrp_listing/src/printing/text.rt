@@ -48,7 +48,7 @@ fn make_room(memory: &mut Vec<u8>, end: usize) -> Result<(), AllocError>
     ensures within { end ≤ length memory.new.items }
     ensures room { OnOk result (end + 1024 ≤ length memory.new.items) }
 {
-    if memory.len() - end >= ROOM {
+    if end + ROOM <= memory.len() {
         return Ok(());
     }
     grow(memory, end)

@@ -1,6 +1,6 @@
 //! Begins the most frequent children of messages, which have neither fields nor a tail, in one step.
 
-ghost use Rattle.std.specs.Prelude.{◌≡◌, ◌+◌, ◌<◌, ◌≤◌, ℕ, List, [], ◌∷◌, IfErr, OnOk, Ok, Some, drop, length, true, false};
+ghost use Rattle.std.specs.Prelude.{◌≡◌, ◌+◌, ◌<◌, ◌≤◌, ℕ, List, [], ◌∷◌, IfErr, IfOk, OnOk, Ok, Some, drop, length, false};
 ghost use Rattle.llrp_schema.specs.declared.kinds.Kind.TheVariants.{Parameter};
 ghost use Rattle.llrp_schema.specs.declared.kinds.Tail.TheVariants.{Absent};
 ghost use Rattle.llrp_schema.specs.Schema.{fields_of, tail_of, tlv_with_number};
@@ -8,12 +8,12 @@ ghost use Rattle.llrp_tree.specs.declared.TheConstants.{MAX_LIMIT};
 ghost use Rattle.llrp_tree.specs.declared.fault.FrameErr.TheVariants.{Memory};
 ghost use Rattle.llrp_tree.specs.OpenTree.{Begun};
 ghost use Rattle.llrp_tree.specs.Standing.{is_tv_kind};
-ghost use Rattle.llrp_stream.specs.Reading.{IsBare, Moves, Reads, Steps};
+ghost use Rattle.llrp_stream.specs.Reading.{IsBare, Moves, Reads, Rests};
 ghost use Rattle.llrp_stream.specs.declared.reading.reader.Stage.TheVariants as Stage;
 
 use crate::reading::level::{Placed, known_head};
 use crate::reading::listener::Listener;
-use crate::reading::reader::{Reader, Stage, Step};
+use crate::reading::reader::{Reader, Stage};
 use llrp_schema::{Kind, MsgKind, ParamKind};
 use llrp_tree::FrameErr;
 
@@ -29,6 +29,9 @@ impl Reader {
             → Moves (L.begins listener.new was) (L.stands listener.new was) self.old self.new front
             octets 0) }
         ensures memory { IfErr result (λ error. error ≡ Memory) }
+        ensures stage { OnOk result (self.new.stage ≡ Stage.Children) }
+        ensures top { self.new.top ≡ self.old.top }
+        ensures place { self.new.at ≡ self.old.at }
     {
         listener.ready()?;
         self.stage = Stage::Children;
@@ -36,7 +39,7 @@ impl Reader {
     }
 
     /// Begins a child of the message that has neither fields nor a tail, if it comes next, its head is
-    /// whole and it passes its checks. Returns whether it began.
+    /// whole and it passes its checks. Returns how many octets its head has, or 0.
     #[inline(always)]
     fn begin_bare<L: Listener>(
         &mut self,
@@ -45,7 +48,7 @@ impl Reader {
         parent: Kind,
         number: u16,
         kind: ParamKind,
-    ) -> Result<bool, FrameErr>
+    ) -> Result<usize, FrameErr>
         requires stage { self.old.stage ≡ Stage.Children }
         requires stop { self.old.top.stop ≤ MAX_LIMIT }
         requires some { (front : List ℕ) × (b : Begun) × (outer : List Begun)
@@ -58,13 +61,14 @@ impl Reader {
         requires known { tlv_with_number number ≡ Some kind }
         requires few { number < 1024 }
         requires bare { IsBare (Parameter kind) }
-        ensures begins { result ≡ Ok true → (was front : List ℕ) (b : Begun) (outer : List Begun)
-            → Reads self.old front b outer → L.stands listener.old was (b ∷ outer)
-            → drop self.old.at front ≡ octets.now
+        ensures moves { IfOk result (λ used. 0 < used → (was front : List ℕ) (b : Begun)
+            (outer : List Begun) → Reads self.old front b outer
+            → L.stands listener.old was (b ∷ outer) → drop self.old.at front ≡ octets.now
             → Moves (L.begins listener.new was) (L.stands listener.new was) self.old self.new front
-            octets.now 4 }
-        ensures none { result ≡ Ok false → (self.new ≡ self.old) × (listener.new ≡ listener.old) }
+            octets.now used) }
+        ensures none { result ≡ Ok 0 → (self.new ≡ self.old) × (listener.new ≡ listener.old) }
         ensures memory { IfErr result (λ error. error ≡ Memory) }
+        ensures rests { IfOk result (λ used. Rests self.new) }
     {
         let found = known_head(
             octets,
@@ -76,22 +80,22 @@ impl Reader {
             kind,
         );
         let Some((seen, size)) = found else {
-            return Ok(false);
+            return Ok(0);
         };
         let stop = self.at + size as u32;
         self.enter(listener, Placed { kind, seen }, 4, stop)?;
         self.bare(listener)?;
-        Ok(true)
+        Ok(4)
     }
 
     /// Begins the one child of the most frequent messages, if it comes next, its head is whole and it
-    /// passes its checks. Returns whether it began.
+    /// passes its checks. Returns how many octets its head has, or 0.
     #[inline(always)]
     pub(crate) fn begin_known<L: Listener>(
         &mut self,
         listener: &mut L,
         octets: &[u8],
-    ) -> Result<bool, FrameErr>
+    ) -> Result<usize, FrameErr>
         requires stage { self.old.stage ≡ Stage.Children }
         requires stop { self.old.top.stop ≤ MAX_LIMIT }
         requires some { (front : List ℕ) × (b : Begun) × (outer : List Begun)
@@ -99,19 +103,20 @@ impl Reader {
             × L.stands listener.old was (b ∷ outer) }
         requires room { self.old.at < self.old.top.stop }
         requires long { is_tv_kind self.old.top.kind ≡ false }
-        ensures begins { result ≡ Ok true → (was front : List ℕ) (b : Begun) (outer : List Begun)
-            → Reads self.old front b outer → L.stands listener.old was (b ∷ outer)
-            → drop self.old.at front ≡ octets.now
+        ensures moves { IfOk result (λ used. 0 < used → (was front : List ℕ) (b : Begun)
+            (outer : List Begun) → Reads self.old front b outer
+            → L.stands listener.old was (b ∷ outer) → drop self.old.at front ≡ octets.now
             → Moves (L.begins listener.new was) (L.stands listener.new was) self.old self.new front
-            octets.now 4 }
-        ensures none { result ≡ Ok false → (self.new ≡ self.old) × (listener.new ≡ listener.old) }
+            octets.now used) }
+        ensures none { result ≡ Ok 0 → (self.new ≡ self.old) × (listener.new ≡ listener.old) }
         ensures memory { IfErr result (λ error. error ≡ Memory) }
+        ensures rests { IfOk result (λ used. Rests self.new) }
     {
         if !self.outer.is_empty() {
-            return Ok(false);
+            return Ok(0);
         }
         let Kind::Message(kind) = self.top.kind else {
-            return Ok(false);
+            return Ok(0);
         };
         match kind {
             MsgKind::RoAccessReport => self.begin_bare(
@@ -128,34 +133,7 @@ impl Reader {
                 246,
                 ParamKind::ReaderEventNotificationData,
             ),
-            _ => Ok(false),
+            _ => Ok(0),
         }
-    }
-
-    /// Begins a child of the innermost node.
-    #[inline(always)]
-    pub(crate) fn begin_any<L: Listener>(
-        &mut self,
-        listener: &mut L,
-        octets: &[u8],
-    ) -> Result<Step, FrameErr>
-        requires stage { self.old.stage ≡ Stage.Children }
-        requires stop { self.old.top.stop ≤ MAX_LIMIT }
-        requires some { (front : List ℕ) × (b : Begun) × (outer : List Begun)
-            × Reads self.old front b outer × (was : List ℕ)
-            × L.stands listener.old was (b ∷ outer) }
-        requires room { self.old.at < self.old.top.stop }
-        requires long { is_tv_kind self.old.top.kind ≡ false }
-        ensures { (was : List ℕ) (front : List ℕ) (b : Begun) (outer : List Begun)
-            → Reads self.old front b outer → L.stands listener.old was (b ∷ outer)
-            → drop self.old.at front ≡ octets.now
-            → Steps (L.begins listener.new was) (L.stands listener.new was) self.old self.new front
-            octets.now result }
-    {
-        let begun = self.begin_known(listener, octets)?;
-        if begun {
-            return Ok(Step::Goes(4));
-        }
-        self.begin(listener, octets)
     }
 }

@@ -275,7 +275,6 @@ impl Frames {
     }
 
     /// Takes octets of a header, and what comes after it.
-    #[inline(always)]
     fn begin<L: Listener>(&mut self, listener: &mut L, piece: &[u8]) -> Result<Came, FeedErr>
         requires most { self.old.limit ≤ MAX_LIMIT }
         requires short { length self.old.body.raw.items < 10 }
@@ -312,6 +311,81 @@ impl Frames {
         }
     }
 
+    /// Begins the body of a frame whose header passed its checks and lies in the piece itself.
+    #[inline(always)]
+    fn open_here<L: Listener>(
+        &mut self,
+        listener: &mut L,
+        header: Header,
+        _front: &[u8],
+        piece: &[u8],
+    ) -> Result<Came, FeedErr>
+        requires most { self.old.limit ≤ MAX_LIMIT }
+        requires fresh { self.old.body.raw.items ≡ [] }
+        requires whole { length _front.now ≡ 10 }
+        requires sound { IsSound self.old.limit _front.now header }
+        requires told { (was : List ℕ) × L.stands listener.old was [] }
+        ensures limit { self.new.limit ≡ self.old.limit }
+        ensures within { IfOk result (λ came. came.used ≤ length piece.now) }
+        ensures takes { (was : List ℕ) → L.stands listener.old was []
+            → GoesOn (L.begins listener.new was) (L.stands listener.new was)
+            (L.ends listener.new was) (λ now. L.stands listener.new now []) self.old.limit
+            _front.now piece.now self.new result }
+    {
+        start(&mut self.body, listener, &header)?;
+        self.go_on(listener, header.id, piece)
+    }
+
+    /// Takes a header that lies whole in the piece, of which it keeps nothing, and what comes after it.
+    #[inline(always)]
+    fn begin_here<L: Listener>(&mut self, listener: &mut L, piece: &[u8]) -> Result<Came, FeedErr>
+        requires most { self.old.limit ≤ MAX_LIMIT }
+        requires fresh { self.old.body.raw.items ≡ [] }
+        requires whole { 10 ≤ length piece.now }
+        requires told { (was : List ℕ) × L.stands listener.old was [] }
+        ensures limit { self.new.limit ≡ self.old.limit }
+        ensures within { IfOk result (λ came. came.used ≤ length piece.now) }
+        ensures progress { IfOk result (λ came. IsSome came.outcome → 0 < came.used) }
+        ensures takes { (was : List ℕ) → L.stands listener.old was []
+            → Begins (L.begins listener.new was) (L.stands listener.new was)
+            (L.ends listener.new was) (λ now. L.stands listener.new now []) self.old.limit []
+            piece.now self.new result }
+    {
+        let (near, rest) = piece.split_at(HEADER);
+        match start_of(near, self.limit) {
+            Start::Breaking => Err(FeedErr::Broken),
+            Start::Short => unreachable!(),
+            Start::Faulty(header) => {
+                let came = self.skip(HEADER as u32, header, rest);
+                Ok(after(came, HEADER))
+            }
+            Start::Sound(header) => {
+                let came = self.open_here(listener, header, near, rest)?;
+                Ok(after(came, HEADER))
+            }
+        }
+    }
+
+    /// Takes octets of a header, wherever it lies, and what comes after it.
+    #[inline(always)]
+    fn begin_any<L: Listener>(&mut self, listener: &mut L, piece: &[u8]) -> Result<Came, FeedErr>
+        requires most { self.old.limit ≤ MAX_LIMIT }
+        requires short { length self.old.body.raw.items < 10 }
+        requires told { (was : List ℕ) × L.stands listener.old was [] }
+        ensures limit { self.new.limit ≡ self.old.limit }
+        ensures within { IfOk result (λ came. came.used ≤ length piece.now) }
+        ensures progress { IfOk result (λ came. IsSome came.outcome → 0 < came.used) }
+        ensures takes { (was : List ℕ) → L.stands listener.old was []
+            → Begins (L.begins listener.new was) (L.stands listener.new was)
+            (L.ends listener.new was) (λ now. L.stands listener.new now []) self.old.limit
+            self.old.body.raw.items piece.now self.new result }
+    {
+        if self.body.raw.is_empty() && piece.len() >= HEADER {
+            return self.begin_here(listener, piece);
+        }
+        self.begin(listener, piece)
+    }
+
     /// Takes the octets of a piece, whatever the state is.
     #[inline(always)]
     fn advance<L: Listener>(&mut self, listener: &mut L, piece: &[u8]) -> Result<Came, FeedErr>
@@ -330,7 +404,7 @@ impl Frames {
         ensures dead { self.old.state ≡ State.Dead → result ≡ Err failure.Dead }
     {
         match self.state {
-            State::Between | State::Header => self.begin(listener, piece),
+            State::Between | State::Header => self.begin_any(listener, piece),
             State::Reading { id } => self.go_on(listener, id, piece),
             State::Skipping { count, header } => Ok(self.skip(count, header, piece)),
             State::Broken => Err(FeedErr::Broken),

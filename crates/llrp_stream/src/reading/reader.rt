@@ -285,6 +285,8 @@ impl Reader {
         ensures memory { IfErr result (λ error. error ≡ Memory) }
         ensures kind { OnOk result (self.new.top.kind ≡ Parameter child.kind) }
         ensures stage { OnOk result (self.new.stage ≡ Stage.Leading 0) }
+        ensures stop { OnOk result (self.new.top.stop ≡ stop) }
+        ensures place { OnOk result (self.new.at ≡ self.old.at + used) }
     {
         let level = self.outer.len() as u8 + 1;
         listener.parameter(level, child.kind)?;
@@ -299,11 +301,7 @@ impl Reader {
 
     /// Begins a child of the innermost node.
     #[inline(always)]
-    pub(crate) fn begin<L: Listener>(
-        &mut self,
-        listener: &mut L,
-        octets: &[u8],
-    ) -> Result<Step, FrameErr>
+    fn begin<L: Listener>(&mut self, listener: &mut L, octets: &[u8]) -> Result<Step, FrameErr>
         requires stage { self.old.stage ≡ Stage.Children }
         requires stop { self.old.top.stop ≤ MAX_LIMIT }
         requires some { (front : List ℕ) × (b : Begun) × (outer : List Begun)
@@ -355,11 +353,14 @@ impl Reader {
         if over {
             return self.close(listener);
         }
-        let used = self.values(listener, octets)?;
-        if used > 0 {
-            return Ok(Step::Goes(used));
+        let head = self.begin_known(listener, octets)?;
+        let rest = octets.split_at(head).1;
+        let used = self.values(listener, rest)?;
+        let all = head + used;
+        if all > 0 {
+            return Ok(Step::Goes(all));
         }
-        self.begin_any(listener, octets)
+        self.begin(listener, octets)
     }
 
     /// Reads one part, or a row of parameters of type and value.

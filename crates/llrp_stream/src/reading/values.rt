@@ -75,11 +75,8 @@ fn kind_of_value(octets: &[u8], left: usize) -> Option<ParamKind>
     if left == 0 {
         return None;
     }
-    let first = octet(octets, 0);
-    if first < 128 {
-        return None;
-    }
-    param_of_tv(first - 128)
+    // No type is above 127, so an octet below 128 has none.
+    param_of_tv(octet(octets, 0).wrapping_sub(128))
 }
 
 /// Reads a parameter of a kind by a copy of `value_of` for each kind that a TagReportData may have: in

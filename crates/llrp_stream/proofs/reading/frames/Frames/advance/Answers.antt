@@ -6,11 +6,11 @@ use Rattle.llrp_stream.specs.Frames.{is_skipped}
 use Rattle.llrp_stream.proofs.FramesLemmas.{at_start, state_comes, starts_of, came_so, begun_of, start_unskipped, not_start, begins_takes, goes_on_goes, goes_on_progress, skip_takes}
 use Rattle.llrp_stream.proofs.reading.frames.Frames.advance.Goals as goal
 
-pub begin-requires-clause-short : goal.begin-requires-clause-short
-begin-requires-clause-short g c = (starts_of (g.L.Listener.begins c.args.listener.now) (g.L.Listener.stands c.args.listener.now) c.args.self.now c.in-Between.is c.requires.comes).0
+pub begin_any-requires-clause-short : goal.begin_any-requires-clause-short
+begin_any-requires-clause-short g c = (starts_of (g.L.Listener.begins c.args.listener.now) (g.L.Listener.stands c.args.listener.now) c.args.self.now c.in-Between.is c.requires.comes).0
 
-pub begin-requires-clause-told : goal.begin-requires-clause-told
-begin-requires-clause-told g c = (starts_of (g.L.Listener.begins c.args.listener.now) (g.L.Listener.stands c.args.listener.now) c.args.self.now c.in-Between.is c.requires.comes).1
+pub begin_any-requires-clause-told : goal.begin_any-requires-clause-told
+begin_any-requires-clause-told g c = (starts_of (g.L.Listener.begins c.args.listener.now) (g.L.Listener.stands c.args.listener.now) c.args.self.now c.in-Between.is c.requires.comes).1
 
 pub go_on-requires-clause-some : goal.go_on-requires-clause-some
 go_on-requires-clause-some g c =
@@ -26,7 +26,7 @@ skip-requires-clause-inside g c = (let w = came_so (g.L.Listener.begins c.args.l
 pub returns-in-Between-clause-takes : goal.returns-in-Between-clause-takes
 returns-in-Between-clause-takes g c = λ was front k.
     let q = at_start (g.L.Listener.begins c.args.listener.now was) (g.L.Listener.stands c.args.listener.now was) c.args.self.now.limit c.args.self.now.state c.args.self.now.body front c.in-Between.is k in
-    begins_takes (g.L.Listener.begins c.begin.new.listener was) (g.L.Listener.stands c.begin.new.listener was) (g.L.Listener.ends c.begin.new.listener was) (λ now. g.L.Listener.stands c.begin.new.listener now []) c.args.self.now c.begin.new.self front c.args.piece.now c.args.self.now.body.raw.items c.begin.result q.0 (start_unskipped c.args.self.now.state c.in-Between.is) (c.begin.ensures.takes was q.2)
+    begins_takes (g.L.Listener.begins c.begin_any.new.listener was) (g.L.Listener.stands c.begin_any.new.listener was) (g.L.Listener.ends c.begin_any.new.listener was) (λ now. g.L.Listener.stands c.begin_any.new.listener now []) c.args.self.now c.begin_any.new.self front c.args.piece.now c.args.self.now.body.raw.items c.begin_any.result q.0 (start_unskipped c.args.self.now.state c.in-Between.is) (c.begin_any.ensures.takes was q.2)
 
 pub returns-in-Between-clause-broken : goal.returns-in-Between-clause-broken
 returns-in-Between-clause-broken g c = λ e. absurd (not_start c.args.self.now.state c.in-Between.is (inl e))

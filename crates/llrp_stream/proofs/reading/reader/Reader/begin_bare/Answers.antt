@@ -8,6 +8,7 @@ use Rattle.llrp_tree.specs.Spelling.{tlv}
 use Rattle.llrp_tree.specs.OpenTree.{Begun}
 use Rattle.llrp_tree.specs.Standing.{leading}
 use Rattle.llrp_stream.specs.declared.reading.level.Child.TheVariants as child
+use Rattle.llrp_stream.specs.declared.reading.level.Level.{Level}
 use Rattle.llrp_stream.specs.declared.reading.reader.Reader.{Reader}
 use Rattle.llrp_stream.specs.declared.reading.reader.Stage.{Stage}
 use Rattle.llrp_stream.specs.declared.reading.reader.Step.{Step}
@@ -44,8 +45,8 @@ enter-requires-clause-fits g c =
     let h = c.in-Some.ensures w.1.children [] (seen_at c.args.self.now w.0 w.1 w.2 w.3 c.args.parent c.requires.parent) in
     omega (arith, h.3.room, c.requires.stop)
 
-pub returns-clause-begins : goal.returns-clause-begins
-returns-clause-begins g c = λ _ was front b outer rd told d.
+pub returns-clause-moves : goal.returns-clause-moves
+returns-clause-moves g c = λ _ was front b outer rd told d.
     let r : Reader = c.args.self.now in
     let octets : List ℕ = c.args.octets.now in
     let n : ℕ = c.in-Some.size in
@@ -61,3 +62,14 @@ returns-clause-begins g c = λ _ was front b outer rd told d.
     let begins = subst (λ (x : Stage). Told (g.L.Listener.begins c.enter.new.listener was) (g.L.Listener.stands c.enter.new.listener was) x (a.node ∷ a.outer)) c.in_ok-enter.ensures.stage a.told in
     let behind : drop c.enter.new.self.at front ≡ drop 4 octets = behind_on front octets r.at 4 c.enter.new.self.at d goes.place in
     moved_twice _ _ _ _ r c.enter.new.self c.bare.new.self front octets 4 goes (c.in_ok-bare.ensures.moves was front (drop 4 octets) a.node a.outer a.reads begins behind)
+
+pub returns-clause-rests : goal.returns-clause-rests
+returns-clause-rests g c =
+    let w = c.requires.some in
+    let h = c.in-Some.ensures w.1.children [] (seen_at c.args.self.now w.0 w.1 w.2 w.3 c.args.parent c.requires.parent) in
+    let stop = ap (λ (l : Level). l.stop) c.bare.ensures.top in
+    record {
+      stage = c.in_ok-bare.ensures.stage;
+      stop = omega (arith, stop, c.in_ok-enter.ensures.stop, h.3.most, c.requires.stop);
+      before = omega (arith, stop, c.in_ok-enter.ensures.stop, c.in_ok-enter.ensures.place, c.bare.ensures.place, h.3.least);
+    }

@@ -1,33 +1,15 @@
-use Rattle.std.proofs.Common.{◌≡◌, ℕ, ◌-◌, ◌<◌, ◌≤◌, List, ◌∷◌, length, drop, Ok, sym, ap, ◌∙◌, subst, arith}
+use Rattle.std.proofs.Common.{◌≡◌, ℕ, ◌-◌, ◌<◌, ◌≤◌, List, ◌∷◌, length, drop, Ok, sym, ap, ◌∙◌, subst, arith, length-drop}
 use Rattle.std.proofs.lemmas.Result.{err_from_is_err_and}
-use Rattle.arrayvec.specs.ArrayVec.{ArrayVec}
 use Rattle.llrp_tree.specs.OpenTree.{Begun}
 use Rattle.llrp_tree.specs.declared.fault.FrameErr.{FrameErr}
-use Rattle.llrp_stream.specs.declared.reading.level.Level.{Level}
 use Rattle.llrp_stream.specs.declared.reading.reader.Reader.{Reader}
 use Rattle.llrp_stream.specs.declared.reading.reader.Stage.{Stage}
 use Rattle.llrp_stream.specs.declared.reading.reader.Stage.TheVariants.{Children}
 use Rattle.llrp_stream.specs.Front.{FailsWith}
-use Rattle.llrp_stream.specs.Reading.{Reads, Are, Moves, Steps, Takes, Told, rank, work}
-use Rattle.llrp_stream.proofs.ChildPart.{resting}
+use Rattle.llrp_stream.specs.Reading.{Reads, Are, Steps, Told}
+use Rattle.llrp_stream.proofs.ManyValues.{HeadTaken, head_taken, moved_on}
+use Rattle.llrp_stream.proofs.MoreOctets.{behind_on}
 use Rattle.llrp_stream.proofs.reading.reader.Reader.child_or_end.Goals as goal
-
-aligned_at : (begins stands : List Begun → Type 0) (r : Reader) (front : List ℕ) → Are begins stands r front → r.stage ≡ Children → r.bit ≡ 0
-aligned_at begins stands r front a s = (resting r front a.node a.outer a.reads s).aligned
-
-less_left : (r n : Reader) (left used : ℕ) → 0 < used → used ≤ left → r.bit ≡ 0 → n.bit ≡ 0 → n.outer ≡ r.outer → n.stage ≡ r.stage → work n (left - used) < work r left
-unfolding work
-less_left r n left used some fit b m o s = let e = ap rank s in let f = ap (λ (x : ArrayVec Level). length x.items) o in omega arith
-
--- what is taken by a step
-moved : (begins stands b2 s2 : List Begun → Type 0) (r n : Reader) (front octets : List ℕ) (used : ℕ) → Are b2 s2 r front → Takes begins stands r n front octets used → 0 < used → r.stage ≡ Children → n.stage ≡ r.stage → n.outer ≡ r.outer → Moves begins stands r n front octets used
-moved begins stands b2 s2 r n front octets used a t some s e o = record {
-  within = t.within;
-  are = t.are;
-  place = t.place;
-  same = t.same;
-  less = less_left r n (length octets) used some t.within (aligned_at b2 s2 r front a s) (aligned_at begins stands n front t.are (e ∙ s)) o e;
-}
 
 pub close-requires-clause-some : goal.close-requires-clause-some
 close-requires-clause-some g c = let w = c.requires.some in (w.0, w.1, w.2, w.3, w.4, w.5)
@@ -35,37 +17,82 @@ close-requires-clause-some g c = let w = c.requires.some in (w.0, w.1, w.2, w.3,
 pub returns-then-over : goal.returns-then-over
 returns-then-over g c = λ was front b outer rd told d. c.close.ensures was front c.args.octets.now b outer rd told d
 
+are_here : (begins stands : List Begun → Type 0) (r : Reader) (front : List ℕ) (b : Begun) (outer : List Begun) → Reads r front b outer → r.stage ≡ Children → stands (b ∷ outer) → Are begins stands r front
+are_here begins stands r front b outer rd s told = record { node = b; outer = outer; reads = rd; told = subst (λ (x : Stage). Told begins stands x (b ∷ outer)) (sym s) told }
+
+pub returns-in_err-head : goal.returns-in_err-head
+returns-in_err-head g c = λ was front b outer rd told d.
+    let p = err_from_is_err_and c.from_residual.result c.from_residual.ensures.1 in
+    rw (p.1, p.2) (subst (λ (e : FrameErr). FailsWith (g.L.Listener.begins c.begin_known.new.listener was) (g.L.Listener.stands c.begin_known.new.listener was) front c.args.self.now.octets e) (sym c.in_err-head.ensures.memory) tt)
+
+pub split_at-requires : goal.split_at-requires
+split_at-requires g c =
+    let w = c.requires.some in let was = w.4 in let front = w.0 in let b = w.1 in let outer = w.2 in let rd = w.3 in let told = w.5 in let d = w.6 in
+    let h = (head_taken c.in_ok-head.head (g.L.Listener.begins c.begin_known.new.listener was) (g.L.Listener.stands c.begin_known.new.listener was) c.args.self.now c.begin_known.new.self front c.args.octets.now
+    (λ lt. c.in_ok-head.ensures.moves lt was front b outer rd told d)
+    (λ z. (let e = c.in_ok-head.ensures.none (ap (λ (n : ℕ). Ok n) z) in (e.0, subst (λ l. Are (g.L.Listener.begins l was) (g.L.Listener.stands l was) c.args.self.now front) (sym e.1) (are_here _ _ c.args.self.now front b outer rd c.requires.stage told))))) in
+    h.within
+
+pub values-requires-clause-stage : goal.values-requires-clause-stage
+values-requires-clause-stage g c = c.in_ok-head.ensures.rests.stage
+
+pub values-requires-clause-stop : goal.values-requires-clause-stop
+values-requires-clause-stop g c = c.in_ok-head.ensures.rests.stop
+
+pub values-requires-clause-before : goal.values-requires-clause-before
+values-requires-clause-before g c = c.in_ok-head.ensures.rests.before
+
 pub values-requires-clause-some : goal.values-requires-clause-some
 values-requires-clause-some g c =
-    let w = c.requires.some in
-    (w.4, w.0, record { node = w.1; outer = w.2; reads = w.3; told = subst (λ (x : Stage). Told (g.L.Listener.begins c.args.listener.now w.4) (g.L.Listener.stands c.args.listener.now w.4) x (w.1 ∷ w.2)) (sym c.requires.stage) w.5 }, w.6)
+    let w = c.requires.some in let was = w.4 in let front = w.0 in let b = w.1 in let outer = w.2 in let rd = w.3 in let told = w.5 in let d = w.6 in
+    let h = (head_taken c.in_ok-head.head (g.L.Listener.begins c.begin_known.new.listener was) (g.L.Listener.stands c.begin_known.new.listener was) c.args.self.now c.begin_known.new.self front c.args.octets.now
+    (λ lt. c.in_ok-head.ensures.moves lt was front b outer rd told d)
+    (λ z. (let e = c.in_ok-head.ensures.none (ap (λ (n : ℕ). Ok n) z) in (e.0, subst (λ l. Are (g.L.Listener.begins l was) (g.L.Listener.stands l was) c.args.self.now front) (sym e.1) (are_here _ _ c.args.self.now front b outer rd c.requires.stage told))))) in
+    (was, front, h.are, behind_on front c.args.octets.now c.args.self.now.at c.in_ok-head.head c.begin_known.new.self.at d h.place ∙ sym c.split_at.ensures.back)
 
 pub returns-in_err-used : goal.returns-in_err-used
 returns-in_err-used g c = λ was front b outer rd told d.
-    let r : Reader = c.args.self.now in
-    let a : Are (g.L.Listener.begins c.args.listener.now was) (g.L.Listener.stands c.args.listener.now was) r front = record { node = b; outer = outer; reads = rd; told = subst (λ (x : Stage). Told (g.L.Listener.begins c.args.listener.now was) (g.L.Listener.stands c.args.listener.now was) x (b ∷ outer)) (sym c.requires.stage) told } in
-    let p = err_from_is_err_and c.from_residual.result c.from_residual.ensures.1 in
-    rw (p.1, p.2) (subst (λ (e : FrameErr). FailsWith (g.L.Listener.begins c.values.new.listener was) (g.L.Listener.stands c.values.new.listener was) front r.octets e) (sym (c.in_err-used.ensures.takes was front a d)) tt)
+    let h = (head_taken c.in_ok-head.head (g.L.Listener.begins c.begin_known.new.listener was) (g.L.Listener.stands c.begin_known.new.listener was) c.args.self.now c.begin_known.new.self front c.args.octets.now
+    (λ lt. c.in_ok-head.ensures.moves lt was front b outer rd told d)
+    (λ z. (let e = c.in_ok-head.ensures.none (ap (λ (n : ℕ). Ok n) z) in (e.0, subst (λ l. Are (g.L.Listener.begins l was) (g.L.Listener.stands l was) c.args.self.now front) (sym e.1) (are_here _ _ c.args.self.now front b outer rd c.requires.stage told))))) in
+    let p = err_from_is_err_and c.from_residual-in_err-used.result c.from_residual-in_err-used.ensures.1 in
+    rw (p.1, p.2) (subst (λ (e : FrameErr). FailsWith (g.L.Listener.begins c.values.new.listener was) (g.L.Listener.stands c.values.new.listener was) front c.args.self.now.octets e) (sym (c.in_err-used.ensures.takes was front h.are (behind_on front c.args.octets.now c.args.self.now.at c.in_ok-head.head c.begin_known.new.self.at d h.place ∙ sym c.split_at.ensures.back))) tt)
 
-pub returns-then-used-gt0 : goal.returns-then-used-gt0
-returns-then-used-gt0 g c = λ was front b outer rd told d.
-    let r : Reader = c.args.self.now in
-    let a : Are (g.L.Listener.begins c.args.listener.now was) (g.L.Listener.stands c.args.listener.now was) r front = record { node = b; outer = outer; reads = rd; told = subst (λ (x : Stage). Told (g.L.Listener.begins c.args.listener.now was) (g.L.Listener.stands c.args.listener.now was) x (b ∷ outer)) (sym c.requires.stage) told } in
-    moved _ _ _ _ r c.values.new.self front c.args.octets.now c.in_ok-used.used a (c.in_ok-used.ensures.takes was front a d) c.if-used-gt0.true c.requires.stage c.in_ok-used.ensures.keeps.stage c.in_ok-used.ensures.keeps.outer
+pub overflow_add-all : goal.overflow_add-all
+overflow_add-all g c =
+    let w = c.requires.some in let was = w.4 in let front = w.0 in let b = w.1 in let outer = w.2 in let rd = w.3 in let told = w.5 in let d = w.6 in
+    let h = (head_taken c.in_ok-head.head (g.L.Listener.begins c.begin_known.new.listener was) (g.L.Listener.stands c.begin_known.new.listener was) c.args.self.now c.begin_known.new.self front c.args.octets.now
+    (λ lt. c.in_ok-head.ensures.moves lt was front b outer rd told d)
+    (λ z. (let e = c.in_ok-head.ensures.none (ap (λ (n : ℕ). Ok n) z) in (e.0, subst (λ l. Are (g.L.Listener.begins l was) (g.L.Listener.stands l was) c.args.self.now front) (sym e.1) (are_here _ _ c.args.self.now front b outer rd c.requires.stage told))))) in
+    let t = c.in_ok-used.ensures.takes was front h.are (behind_on front c.args.octets.now c.args.self.now.at c.in_ok-head.head c.begin_known.new.self.at d h.place ∙ sym c.split_at.ensures.back) in
+    let long = length-drop c.in_ok-head.head c.args.octets.now in
+    let rest = ap (λ (x : List ℕ). length x) c.split_at.ensures.back in
+    omega (arith, h.within, t.within, long, rest)
 
-pub begin_any-requires-clause-stage : goal.begin_any-requires-clause-stage
-begin_any-requires-clause-stage g c = c.in_ok-used.ensures.keeps.stage ∙ c.requires.stage
+pub returns-then-all-gt0 : goal.returns-then-all-gt0
+returns-then-all-gt0 g c = λ was front b outer rd told d.
+    let h = (head_taken c.in_ok-head.head (g.L.Listener.begins c.begin_known.new.listener was) (g.L.Listener.stands c.begin_known.new.listener was) c.args.self.now c.begin_known.new.self front c.args.octets.now
+    (λ lt. c.in_ok-head.ensures.moves lt was front b outer rd told d)
+    (λ z. (let e = c.in_ok-head.ensures.none (ap (λ (n : ℕ). Ok n) z) in (e.0, subst (λ l. Are (g.L.Listener.begins l was) (g.L.Listener.stands l was) c.args.self.now front) (sym e.1) (are_here _ _ c.args.self.now front b outer rd c.requires.stage told))))) in
+    let t = c.in_ok-used.ensures.takes was front h.are (behind_on front c.args.octets.now c.args.self.now.at c.in_ok-head.head c.begin_known.new.self.at d h.place ∙ sym c.split_at.ensures.back) in
+    moved_on _ _ _ _ c.args.self.now c.begin_known.new.self c.values.new.self front c.args.octets.now c.split_at.result.1.now c.in_ok-head.head c.in_ok-used.used c.split_at.ensures.back h c.in_ok-head.ensures.rests.stage t c.in_ok-used.ensures.keeps c.if-all-gt0.true
 
-pub begin_any-requires-clause-some : goal.begin_any-requires-clause-some
-begin_any-requires-clause-some g c =
+pub begin-requires-clause-stage : goal.begin-requires-clause-stage
+begin-requires-clause-stage g c = c.in_ok-used.ensures.keeps.stage ∙ c.in_ok-head.ensures.rests.stage
+
+pub begin-requires-clause-some : goal.begin-requires-clause-some
+begin-requires-clause-some g c =
     let w = c.requires.some in
-    let zero : c.in_ok-used.used ≡ 0 = omega (arith, c.if-used-gt0.false) in
-    let e = c.in_ok-used.ensures.none (ap (λ (n : ℕ). Ok n) zero) in
-    (w.0, w.1, w.2, subst (λ (r : Reader). Reads r w.0 w.1 w.2) (sym e.0) w.3, w.4, subst (λ l. g.L.Listener.stands l w.4 (w.1 ∷ w.2)) (sym e.1) w.5)
+    let none : (c.in_ok-head.head ≡ 0) × (c.in_ok-used.used ≡ 0) = (omega (arith, c.if-all-gt0.false), omega (arith, c.if-all-gt0.false)) in
+    let e = c.in_ok-head.ensures.none (ap (λ (n : ℕ). Ok n) none.0) in
+    let f = c.in_ok-used.ensures.none (ap (λ (n : ℕ). Ok n) none.1) in
+    (w.0, w.1, w.2, subst (λ (r : Reader). Reads r w.0 w.1 w.2) (sym (f.0 ∙ e.0)) w.3, w.4, subst (λ l. g.L.Listener.stands l w.4 (w.1 ∷ w.2)) (sym (f.1 ∙ e.1)) w.5)
 
 pub returns : goal.returns
 returns g c = λ was front b outer rd told d.
-    let zero : c.in_ok-used.used ≡ 0 = omega (arith, c.if-used-gt0.false) in
-    let e = c.in_ok-used.ensures.none (ap (λ (n : ℕ). Ok n) zero) in
-    let steps = c.begin_any.ensures was front b outer (subst (λ (r : Reader). Reads r front b outer) (sym e.0) rd) (subst (λ l. g.L.Listener.stands l was (b ∷ outer)) (sym e.1) told) (subst (λ (r : Reader). drop r.at front ≡ c.args.octets.now) (sym e.0) d) in
-    subst (λ (r : Reader). Steps (g.L.Listener.begins c.begin_any.new.listener was) (g.L.Listener.stands c.begin_any.new.listener was) r c.begin_any.new.self front c.args.octets.now c.begin_any.result) e.0 steps
+    let none : (c.in_ok-head.head ≡ 0) × (c.in_ok-used.used ≡ 0) = (omega (arith, c.if-all-gt0.false), omega (arith, c.if-all-gt0.false)) in
+    let e = c.in_ok-head.ensures.none (ap (λ (n : ℕ). Ok n) none.0) in
+    let f = c.in_ok-used.ensures.none (ap (λ (n : ℕ). Ok n) none.1) in
+    let same = f.0 ∙ e.0 in
+    let steps = c.begin.ensures was front b outer (subst (λ (r : Reader). Reads r front b outer) (sym same) rd) (subst (λ l. g.L.Listener.stands l was (b ∷ outer)) (sym (f.1 ∙ e.1)) told) (subst (λ (r : Reader). drop r.at front ≡ c.args.octets.now) (sym same) d) in
+    subst (λ (r : Reader). Steps (g.L.Listener.begins c.begin.new.listener was) (g.L.Listener.stands c.begin.new.listener was) r c.begin.new.self front c.args.octets.now c.begin.result) same steps
