@@ -67,6 +67,13 @@ passed_first limit bytes header body ten s os e =
       octets = os;
     }
 
+-- they are a frame, where its length is ten
+pub bare_frame : (limit : ℕ) (bytes : List ℕ) (header : Header) → length bytes ≡ 10 → IsSound limit bytes header → header.octets ≡ 10 → IsFrame bytes
+unfolding length_field
+bare_frame limit bytes header ten s e =
+    let l = header_length limit bytes header.version header.kind header.octets header.id ten (λ later. s.says later) in
+    record { header = s.long; whole = sym l.0 ∙ e ∙ sym ten }
+
 -- where its message is whole it is a frame
 pub whole_frame : (stands : List Begun → Type 0) (limit id : ℕ) (old : Body) (r : Reader) (front more : List ℕ) → IsPassed limit id old front → r.octets ≡ old.reader.octets → IsComplete stands r (front ++ more) → IsFrame (front ++ more)
 whole_frame stands limit id old r front more p e w =

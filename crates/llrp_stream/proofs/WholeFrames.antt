@@ -1,17 +1,21 @@
 -- A message of which all is read has its frame.
-use Rattle.std.proofs.Common.{◌≡◌, ℕ, ◌*◌, ◌≤◌, List, [], ◌∷◌, ◌++◌, Bool, length, Option, refl, sym, ap, subst, ◌∙◌, arith}
+use Rattle.std.proofs.Common.{◌≡◌, ℕ, ◌*◌, ◌≤◌, List, [], ◌∷◌, ◌++◌, Bool, true, length, Option, refl, sym, ap, subst, ◌∙◌, arith}
 use Rattle.std.proofs.lemmas.List.{append-nil}
 use Rattle.tag_bits.specs.Digits.{digits_of_bytes}
 use Rattle.llrp_schema.specs.declared.kinds.Kind.TheVariants.{Message}
-use Rattle.llrp_schema.specs.Schema.{fields_of}
+use Rattle.llrp_schema.specs.declared.kinds.Tail.TheVariants.{Absent}
+use Rattle.llrp_schema.specs.Schema.{fields_of, groups_of, tail_of}
 use Rattle.llrp_tree.specs.declared.TheConstants.{MAX_LIMIT}
-use Rattle.llrp_tree.specs.Tree.{Forest, MessageTree}
+use Rattle.llrp_tree.specs.Tree.{Forest, MessageTree, none}
 use Rattle.llrp_tree.specs.Lawful.{AreOctets}
 use Rattle.llrp_tree.specs.Frame.{Frame}
 use Rattle.llrp_tree.specs.Spelling.{Head, message, tlv, tv}
-use Rattle.llrp_tree.specs.OpenTree.{Begun, plain_values, IsHead, IsOpenTree}
+use Rattle.llrp_tree.specs.OpenTree.{Begun, plain_values, is_enough, IsHead, IsOpenTree}
 use Rattle.llrp_tree.specs.Standing.{Stands, Closes, begun, end_of}
-use Rattle.std.proofs.lemmas.Bool.{leb-true}
+use Rattle.std.proofs.lemmas.Bool.{le-leb, leb-true}
+use Rattle.llrp_tree.specs.Header.{HasHeader}
+use Rattle.llrp_tree.specs.declared.header.Header.{Header}
+use Rattle.llrp_stream.proofs.ReadyPart.{resting}
 use Rattle.tag_bits.proofs.ByteLemmas.{length-bytes, bytes-append}
 use Rattle.llrp_schema.specs.declared.kinds.MsgKind.{MsgKind}
 use Rattle.llrp_tree.specs.FirstFault.{number, header_checks}
@@ -75,3 +79,16 @@ pub header_length : (limit : ℕ) (header : List ℕ) (v : ℕ) (k : MsgKind) (n
 header_length limit header v k n id ten says =
     let s = says [] in
     ((says []).octets_is ∙ sym (number_ahead header [] 16 32 (omega (arith, ten))), within_limit limit (digits_of_bytes header ++ []) v k n id s)
+
+-- ---- a message that ends with its header
+
+pub bare_complete : (stands : List Begun → Type 0) (r : Reader) (bytes : List ℕ) (limit : ℕ) (h : Header) → h.octets ≡ 10 → length bytes ≡ 10 → HasHeader limit bytes h → fields_of (Message h.kind) ≡ [] → tail_of (Message h.kind) ≡ Absent → is_enough (groups_of (Message h.kind)) none ≡ true
+    → stands (leading (message h.version h.kind h.octets h.id) (8 * h.octets) [] ∷ []) → IsComplete stands (record r { octets = h.octets; at = 10 }) bytes
+bare_complete stands r bytes limit h e ten says fields tail enough told = record {
+  node = leading (message h.version h.kind h.octets h.id) (8 * h.octets) [];
+  ready = resting (leading (message h.version h.kind h.octets h.id) (8 * h.octets) []) (Message h.kind) refl refl fields tail;
+  reaches = header_reaches limit bytes h.version h.kind h.octets h.id ten (omega (arith, e)) says;
+  over = le-leb (8 * h.octets) 80 (omega (arith, e));
+  enough = enough;
+  told = told;
+}

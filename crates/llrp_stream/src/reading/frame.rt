@@ -1,8 +1,12 @@
 //! The beginning of a frame whose header is whole, and its end.
 
-ghost use Rattle.std.specs.Prelude.{◌≡◌, ◌≤◌, ℕ, List, [], length, OnOk};
+ghost use Rattle.std.specs.Prelude.{◌≡◌, ◌≤◌, ℕ, List, [], length, OnOk, Ok, true, false};
+ghost use Rattle.llrp_schema.specs.declared.kinds.Kind.TheVariants.{Message};
+ghost use Rattle.llrp_schema.specs.declared.kinds.Tail.TheVariants.{Absent};
+ghost use Rattle.llrp_schema.specs.Schema.{fields_of, groups_of, tail_of};
+ghost use Rattle.llrp_tree.specs.OpenTree.{is_enough};
 ghost use Rattle.llrp_tree.specs.declared.TheConstants.{MAX_LIMIT};
-ghost use Rattle.llrp_tree.specs.Tree.{MessageTree};
+ghost use Rattle.llrp_tree.specs.Tree.{MessageTree, none};
 ghost use Rattle.llrp_tree.specs.Lawful.{AreOctets};
 ghost use Rattle.llrp_tree.specs.Frame.{Frame};
 ghost use Rattle.llrp_tree.specs.Header.{HasHeader};
@@ -14,7 +18,7 @@ use crate::reading::body::Body;
 use crate::reading::level::begun;
 use crate::reading::listener::Listener;
 use crate::reading::reader::{Reader, Stage};
-use llrp_schema::Kind;
+use llrp_schema::{Kind, MsgKind};
 use llrp_tree::Header;
 use std::alloc::AllocError;
 
@@ -42,6 +46,48 @@ pub(crate) fn start<L: Listener>(
     body.reader.top = begun(Kind::Message(header.kind), header.octets);
     body.reader.outer.clear();
     Ok(())
+}
+
+/// Whether a message is a frequent one that has neither fields nor a tail and needs no child, so that it may end with its header.
+#[inline(always)]
+#[tactic(auto, unfolding(llrp_schema::specs::Schema::fields_of, llrp_schema::specs::Schema::tail_of, llrp_schema::specs::Schema::groups_of, llrp_schema::specs::Schema::rule_of, llrp_schema::specs::Schema::message_rule, llrp_tree::specs::OpenTree::is_enough))]
+fn may_be_bare(kind: MsgKind) -> bool
+    ensures fields { result ≡ true → fields_of (Message kind) ≡ [] }
+    ensures tail { result ≡ true → tail_of (Message kind) ≡ Absent }
+    ensures enough { result ≡ true → is_enough (groups_of (Message kind)) none ≡ true }
+{
+    match kind {
+        MsgKind::Keepalive => true,
+        MsgKind::KeepaliveAck => true,
+        _ => false,
+    }
+}
+
+/// Receives a message that ends with its header, if it may. Returns whether it was received.
+#[inline(always)]
+pub(crate) fn receive_bare<L: Listener>(
+    _reader: &Reader,
+    listener: &mut L,
+    header: &Header,
+) -> Result<bool, AllocError>
+    requires told { (was : List ℕ) × L.stands listener.old was [] }
+    requires says { (bytes : List ℕ) × (limit : ℕ) × (length bytes ≡ 10)
+        × HasHeader limit bytes header.now × AreOctets bytes × (limit ≤ MAX_LIMIT) }
+    ensures ends { result ≡ Ok true → header.now.octets ≡ 10 }
+    ensures gives { result ≡ Ok true → (was bytes : List ℕ) (limit : ℕ)
+        → L.stands listener.old was [] → length bytes ≡ 10 → HasHeader limit bytes header.now
+        → AreOctets bytes → limit ≤ MAX_LIMIT → (m : MessageTree) × Frame m bytes limit
+        × (now : List ℕ) × L.ends listener.new was m now × L.stands listener.new now [] }
+    ensures none { result ≡ Ok false → listener.new ≡ listener.old }
+{
+    let bare = may_be_bare(header.kind);
+    if !bare || header.octets != HEADER as u32 {
+        return Ok(false);
+    }
+    listener.message(header.version, header.kind, header.octets, header.id)?;
+    listener.ready()?;
+    listener.end()?;
+    Ok(true)
 }
 
 /// Ends a message that was read completely.

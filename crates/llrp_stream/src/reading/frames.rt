@@ -20,7 +20,7 @@ ghost use Rattle.llrp_stream.specs.Items.{HasHeaderFault, IsSkipped};
 use crate::header::{FaultyHeader, HEADER, Start, start_of};
 use crate::item::{End, FeedErr};
 use crate::reading::body::Body;
-use crate::reading::frame::{finish, start};
+use crate::reading::frame::{finish, receive_bare, start};
 use crate::reading::listener::Listener;
 use crate::state::State;
 use llrp_tree::{Fault, FrameErr, Header};
@@ -332,6 +332,14 @@ impl Frames {
             (L.ends listener.new was) (λ now. L.stands listener.new now []) self.old.limit
             _front.now piece.now self.new result }
     {
+        let received = receive_bare(&self.body.reader, listener, &header)?;
+        if received {
+            self.state = State::Between;
+            return Ok(Came {
+                used: 0,
+                outcome: Some(Outcome::Whole),
+            });
+        }
         start(&mut self.body, listener, &header)?;
         self.go_on(listener, header.id, piece)
     }
