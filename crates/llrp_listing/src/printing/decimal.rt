@@ -22,6 +22,15 @@ fn pair(number: u32) -> [u8; 2]
     [PAIRS[from], PAIRS[from + 1]]
 }
 
+/// How many hundreds a number below 10,000 has; a product and a shift take its place.
+#[inline(always)]
+fn hundreds(number: u32) -> u32
+    requires { number < 10000 }
+    ensures { result ≡ number / 100 }
+{
+    number * 5243 >> 19
+}
+
 /// The eight digits of a number below 10 ^ 8.
 #[inline(always)]
 fn eight(number: u32) -> [u8; 8]
@@ -47,10 +56,12 @@ fn put_eight_digits(room: &mut [u8], at: usize, number: u32) -> usize
 {
     let upper = number / 10_000;
     let lower = number % 10_000;
-    let second_at = put_two(room, at, pair(upper / 100));
-    let third_at = put_two(room, second_at, pair(upper % 100));
-    let fourth_at = put_two(room, third_at, pair(lower / 100));
-    put_two(room, fourth_at, pair(lower % 100))
+    let first = hundreds(upper);
+    let third = hundreds(lower);
+    let second_at = put_two(room, at, pair(first));
+    let third_at = put_two(room, second_at, pair(upper - 100 * first));
+    let fourth_at = put_two(room, third_at, pair(third));
+    put_two(room, fourth_at, pair(lower - 100 * third))
 }
 
 /// Puts a number below 100.
@@ -179,14 +190,14 @@ pub(crate) fn put_decimal(room: &mut [u8], at: usize, number: u64) -> usize
     ensures text { Puts room.old room.new at result (decimal number) }
     ensures most { result ≤ at + 20 }
 {
-    if number < 10 {
+    if number >= 100_000_000 {
+        put_long(room, at, number)
+    } else if number < 10 {
         put_octet(room, at, b'0' + number as u8)
     } else if number < 10_000 {
         put_few(room, at, number as u32)
-    } else if number < 100_000_000 {
-        put_short(room, at, number as u32)
     } else {
-        put_long(room, at, number)
+        put_short(room, at, number as u32)
     }
 }
 

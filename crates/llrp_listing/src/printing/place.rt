@@ -116,8 +116,24 @@ pub(crate) fn put_text(room: &mut [u8], at: usize, text: &[u8]) -> usize
     end
 }
 
+/// Copies octets, no more than 1,024 in one call: of more the C library makes one instruction, which is
+/// slower up to some thousands.
+fn copy_apart(to: &mut [u8], from: &[u8])
+    requires { length to.old ≡ length from.now }
+    ensures { to.new ≡ from.now }
+{
+    if from.len() <= 1024 {
+        to.copy_from_slice(from);
+        return;
+    }
+    let (near, far) = from.split_at(1024);
+    let (first, others) = to.split_at_mut(1024);
+    first.copy_from_slice(near);
+    copy_apart(others, far);
+}
+
 /// Moves what is between two places to the front. Where it does not reach its new place, it is copied
-/// at once, which takes a small part of the time.
+/// without regard to order, which takes a small part of the time.
 pub(crate) fn move_front(room: &mut [u8], from: usize, end: usize)
     requires order { from ≤ end }
     requires within { end ≤ length room.old }
@@ -127,7 +143,7 @@ pub(crate) fn move_front(room: &mut [u8], from: usize, end: usize)
     let left = end - from;
     if left <= from {
         let (front, back) = room.split_at_mut(from);
-        front[..left].copy_from_slice(&back[..left]);
+        copy_apart(&mut front[..left], &back[..left]);
     } else {
         room.copy_within(from..end, 0);
     }

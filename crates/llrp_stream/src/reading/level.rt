@@ -6,6 +6,7 @@ ghost use Rattle.tag_bits.specs.Digits.{digits_of_bytes};
 ghost use Rattle.llrp_schema.specs.declared.kinds.Kind.TheVariants.{Message};
 ghost use Rattle.llrp_schema.specs.declared.kinds.MsgKind.TheVariants.{Keepalive};
 ghost use Rattle.llrp_schema.specs.Schema.{groups_of, tlv_with_number};
+ghost use Rattle.llrp_schema.specs.Places.{AreRequired};
 ghost use Rattle.llrp_stream.specs.declared.reading.level.Child.TheVariants.{Long};
 ghost use Rattle.llrp_tree.specs.declared.TheConstants.{MAX_LIMIT};
 ghost use Rattle.llrp_tree.specs.Tree.{Forest, none};
@@ -122,14 +123,28 @@ pub(crate) fn child_kind(
     })
 }
 
+/// The groups of a kind that need a child; for the most frequent kind by one comparison.
+#[inline(always)]
+fn needed(kind: Kind) -> u32
+    ensures { AreRequired (groups_of kind) result }
+{
+    match kind {
+        Kind::Message(_) => required(kind),
+        Kind::Parameter(parameter) => match parameter {
+            ParamKind::TagReportData => required(Kind::Parameter(ParamKind::TagReportData)),
+            _ => required(kind),
+        },
+    }
+}
+
 /// Whether each group has as many children as it needs.
 #[inline]
 pub(crate) fn is_enough(parent: Kind, seen: u32) -> bool
     ensures { (children : Forest) → AreSeen (groups_of parent) children seen
         → result ≡ is_enough (groups_of parent) children }
 {
-    let required = required(parent);
-    seen & required == required
+    let needed = needed(parent);
+    seen & needed == needed
 }
 
 /// Reads the head of a child at an octet of a node, this many levels below the message.

@@ -4,7 +4,7 @@ use Rattle.llrp_listing.proofs.printing.place.move_front.Goals as goal
 
 pub returns-then-left-from-clause-text : goal.returns-then-left-from-clause-text
 returns-then-left-from-clause-text c =
-    moved_apart c.args.from c.args.end c.args.room.now c.split_at_mut-front.result.0.now c.split_at_mut-front.result.1.now c.copy_from_slice.new.self c.requires.order c.requires.within c.split_at_mut-front.ensures.back c.copy_from_slice.ensures.after
+    moved_apart c.args.from c.args.end c.args.room.now c.split_at_mut-front.result.0.now c.split_at_mut-front.result.1.now c.copy_apart.new.to c.requires.order c.requires.within c.split_at_mut-front.ensures.back c.copy_apart.ensures
 
 pub returns-else-left-from-clause-text : goal.returns-else-left-from-clause-text
 returns-else-left-from-clause-text c =
