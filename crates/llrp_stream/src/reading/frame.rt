@@ -22,7 +22,21 @@ use llrp_schema::{Kind, MsgKind};
 use llrp_tree::Header;
 use std::alloc::AllocError;
 
-/// Begins a frame with this header.
+/// Whether a message is one of those that come most often with children, which have neither fields nor a tail.
+#[inline(always)]
+#[tactic(auto, unfolding(llrp_schema::specs::Schema::fields_of, llrp_schema::specs::Schema::tail_of, llrp_schema::specs::Schema::rule_of, llrp_schema::specs::Schema::message_rule))]
+fn is_bare(kind: MsgKind) -> bool
+    ensures fields { result ≡ true → fields_of (Message kind) ≡ [] }
+    ensures tail { result ≡ true → tail_of (Message kind) ≡ Absent }
+{
+    match kind {
+        MsgKind::RoAccessReport => true,
+        MsgKind::ReaderEventNotification => true,
+        _ => false,
+    }
+}
+
+/// Begins a frame with this header. The line of a bare message is ended at once.
 #[inline(always)]
 pub(crate) fn start<L: Listener>(
     body: &mut Body,
@@ -45,6 +59,12 @@ pub(crate) fn start<L: Listener>(
     body.reader.stage = Stage::Leading(0);
     body.reader.top = begun(Kind::Message(header.kind), header.octets);
     body.reader.outer.clear();
+    let bare = is_bare(header.kind);
+    if bare {
+        listener.ready()?;
+        body.reader.stage = Stage::Children;
+        return Ok(());
+    }
     Ok(())
 }
 
