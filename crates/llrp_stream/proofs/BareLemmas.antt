@@ -3,7 +3,7 @@ use Rattle.std.proofs.Common.{◌≡◌, ℕ, ◌+◌, ◌-◌, ◌*◌, ◌<◌
 use Rattle.tag_bits.specs.Digits.{digits_of_bytes}
 use Rattle.llrp_schema.specs.declared.kinds.Kind.{Kind}
 use Rattle.llrp_schema.specs.declared.kinds.Kind.TheVariants.{Parameter}
-use Rattle.llrp_schema.specs.declared.kinds.ParamKind.TheVariants.{ReaderEventNotificationData, TagReportData}
+use Rattle.llrp_schema.specs.declared.kinds.ParamKind.TheVariants.{ReaderEventNotificationData, RoSpecEvent, TagReportData, UtcTimestamp}
 use Rattle.llrp_schema.specs.Schema.{fields_of, groups_of, is_tv, number_of, param_kinds, param_rule, rule_of, tail_of, tlv_with_number}
 use Rattle.llrp_tree.specs.Tree.{Forest}
 use Rattle.llrp_tree.specs.OpenTree.{Begun}
@@ -20,14 +20,14 @@ pub seen_at : (r : Reader) (front : List ℕ) (b : Begun) (outer : List Begun) �
 seen_at r front b outer rd parent e = subst (λ (k : Kind). AreSeen (groups_of k) b.children r.top.seen) e (seen_are r front b outer rd)
 
 -- what a head says at the first level, said of the node that is innermost
-pub says_long : (r : Reader) (front : List ℕ) (b : Begun) (outer : List Begun) → Reads r front b outer → (parent : Kind) → r.top.kind ≡ parent → length r.outer.items ≡ 0 → r.stage ≡ stage.Children → (octets : List ℕ) (placed : Placed) (n : ℕ)
-    → ((children : Forest) (later : List Bool) → AreSeen (groups_of parent) children r.top.seen → HeadSays (groups_of parent) children 1 (8 * r.at) (8 * r.top.stop) (digits_of_bytes octets ++ later) octets (Ok (child.Long placed n)))
+pub says_long : (r : Reader) (front : List ℕ) (b : Begun) (outer : List Begun) → Reads r front b outer → (parent : Kind) (level : ℕ) → r.top.kind ≡ parent → length r.outer.items + 1 ≡ level → r.stage ≡ stage.Children → (octets : List ℕ) (placed : Placed) (n : ℕ)
+    → ((children : Forest) (later : List Bool) → AreSeen (groups_of parent) children r.top.seen → HeadSays (groups_of parent) children level (8 * r.at) (8 * r.top.stop) (digits_of_bytes octets ++ later) octets (Ok (child.Long placed n)))
     → (later : List Bool) → HeadSays (groups_of r.top.kind) b.children (length outer + 1) (8 * r.at) (8 * r.top.stop) (digits_of_bytes octets ++ later) octets (Ok (child.Long placed n))
-says_long r front b outer rd parent e none s octets placed n f = λ later.
+says_long r front b outer rd parent level e deep s octets placed n f = λ later.
     let few = outer_length r front b outer rd s in
-    let level : 1 ≡ length outer + 1 = omega (arith, few, none) in
-    subst (λ (m : ℕ). HeadSays (groups_of r.top.kind) b.children m (8 * r.at) (8 * r.top.stop) (digits_of_bytes octets ++ later) octets (Ok (child.Long placed n))) level
-    (subst (λ (k : Kind). HeadSays (groups_of k) b.children 1 (8 * r.at) (8 * r.top.stop) (digits_of_bytes octets ++ later) octets (Ok (child.Long placed n))) (sym e)
+    let same : level ≡ length outer + 1 = omega (arith, few, deep) in
+    subst (λ (m : ℕ). HeadSays (groups_of r.top.kind) b.children m (8 * r.at) (8 * r.top.stop) (digits_of_bytes octets ++ later) octets (Ok (child.Long placed n))) same
+    (subst (λ (k : Kind). HeadSays (groups_of k) b.children level (8 * r.at) (8 * r.top.stop) (digits_of_bytes octets ++ later) octets (Ok (child.Long placed n))) (sym e)
     (f b.children later (seen_at r front b outer rd parent e)))
 
 -- a step of some octets, and one of none after it
@@ -63,3 +63,11 @@ report_bare = record { fields = refl; tail = refl }
 pub event_bare : IsBare (Parameter ReaderEventNotificationData)
 unfolding fields_of tail_of rule_of param_rule
 event_bare = record { fields = refl; tail = refl }
+
+pub time_number : tlv_with_number 128 ≡ Some UtcTimestamp
+unfolding tlv_with_number param_kinds is_tv number_of rule_of param_rule
+time_number = refl
+
+pub spec_event_number : tlv_with_number 249 ≡ Some RoSpecEvent
+unfolding tlv_with_number param_kinds is_tv number_of rule_of param_rule
+spec_event_number = refl

@@ -1,21 +1,37 @@
 //! Begins the most frequent children of messages, which have neither fields nor a tail, in one step.
 
-ghost use Rattle.std.specs.Prelude.{◌≡◌, ◌+◌, ◌<◌, ◌≤◌, ℕ, List, [], ◌∷◌, IfErr, IfOk, OnOk, Ok, Some, drop, length, false};
+ghost use Rattle.std.specs.Prelude.{◌≡◌, ◌+◌, ◌<◌, ◌≤◌, ℕ, List, [], ◌∷◌, IfErr, IfOk, OnOk, Ok, Some, drop, length, true, false};
 ghost use Rattle.llrp_schema.specs.declared.kinds.Kind.TheVariants.{Parameter};
+ghost use Rattle.llrp_schema.specs.declared.kinds.ParamKind.TheVariants.{ReaderEventNotificationData};
 ghost use Rattle.llrp_schema.specs.declared.kinds.Tail.TheVariants.{Absent};
 ghost use Rattle.llrp_schema.specs.Schema.{fields_of, tail_of, tlv_with_number};
 ghost use Rattle.llrp_tree.specs.declared.TheConstants.{MAX_LIMIT};
 ghost use Rattle.llrp_tree.specs.declared.fault.FrameErr.TheVariants.{Memory};
 ghost use Rattle.llrp_tree.specs.OpenTree.{Begun};
 ghost use Rattle.llrp_tree.specs.Standing.{is_tv_kind};
-ghost use Rattle.llrp_stream.specs.Reading.{IsBare, Moves, Reads, Rests};
+ghost use Rattle.llrp_stream.specs.Reading.{IsBare, Moves, Reads, Rests, Steps};
 ghost use Rattle.llrp_stream.specs.declared.reading.reader.Stage.TheVariants as Stage;
 
 use crate::reading::level::{Placed, known_head};
 use crate::reading::listener::Listener;
-use crate::reading::reader::{Reader, Stage};
+use crate::reading::reader::{Reader, Stage, Step};
 use llrp_schema::{Kind, MsgKind, ParamKind};
 use llrp_tree::FrameErr;
+use llrp_tree::numbers::word;
+
+/// Whether a node is a ReaderEventNotificationData.
+#[inline(always)]
+fn is_event_data(kind: Kind) -> bool
+    ensures { result ≡ true → kind ≡ Parameter ReaderEventNotificationData }
+{
+    match kind {
+        Kind::Message(_) => false,
+        Kind::Parameter(kind) => match kind {
+            ParamKind::ReaderEventNotificationData => true,
+            _ => false,
+        },
+    }
+}
 
 impl Reader {
     /// Ends the leading parts of the innermost node, which has neither fields nor a tail.
@@ -76,6 +92,7 @@ impl Reader {
             self.top.stop as usize,
             parent,
             self.top.seen,
+            1,
             number,
             kind,
         );
@@ -135,5 +152,115 @@ impl Reader {
             ),
             _ => Ok(0),
         }
+    }
+
+    /// Begins a child of a known kind, if it comes next, its head is whole and it passes its checks.
+    /// Returns how many octets its head has, or 0.
+    #[inline(always)]
+    fn begin_kind<L: Listener>(
+        &mut self,
+        listener: &mut L,
+        octets: &[u8],
+        parent: Kind,
+        number: u16,
+        kind: ParamKind,
+    ) -> Result<usize, FrameErr>
+        requires stage { self.old.stage ≡ Stage.Children }
+        requires stop { self.old.top.stop ≤ MAX_LIMIT }
+        requires some { (front : List ℕ) × (b : Begun) × (outer : List Begun)
+            × Reads self.old front b outer × (was : List ℕ)
+            × L.stands listener.old was (b ∷ outer) }
+        requires room { self.old.at < self.old.top.stop }
+        requires long { is_tv_kind self.old.top.kind ≡ false }
+        requires parent { self.old.top.kind ≡ parent }
+        requires second { length self.old.outer.items ≡ 1 }
+        requires known { tlv_with_number number ≡ Some kind }
+        requires few { number < 1024 }
+        ensures moves { IfOk result (λ used. 0 < used → (was front : List ℕ) (b : Begun)
+            (outer : List Begun) → Reads self.old front b outer
+            → L.stands listener.old was (b ∷ outer) → drop self.old.at front ≡ octets.now
+            → Moves (L.begins listener.new was) (L.stands listener.new was) self.old self.new front
+            octets.now used) }
+        ensures none { result ≡ Ok 0 → (self.new ≡ self.old) × (listener.new ≡ listener.old) }
+        ensures memory { IfErr result (λ error. error ≡ Memory) }
+    {
+        let found = known_head(
+            octets,
+            self.at as usize,
+            self.top.stop as usize,
+            parent,
+            self.top.seen,
+            2,
+            number,
+            kind,
+        );
+        let Some((seen, size)) = found else {
+            return Ok(0);
+        };
+        let stop = self.at + size as u32;
+        self.enter(listener, Placed { kind, seen }, 4, stop)?;
+        Ok(4)
+    }
+
+    /// Begins one of the two children that most events have, if it comes next, its head is whole and
+    /// it passes its checks. Returns how many octets its head has, or 0.
+    #[inline(always)]
+    fn begin_in_event<L: Listener>(
+        &mut self,
+        listener: &mut L,
+        octets: &[u8],
+    ) -> Result<usize, FrameErr>
+        requires stage { self.old.stage ≡ Stage.Children }
+        requires stop { self.old.top.stop ≤ MAX_LIMIT }
+        requires some { (front : List ℕ) × (b : Begun) × (outer : List Begun)
+            × Reads self.old front b outer × (was : List ℕ)
+            × L.stands listener.old was (b ∷ outer) }
+        requires room { self.old.at < self.old.top.stop }
+        requires long { is_tv_kind self.old.top.kind ≡ false }
+        ensures moves { IfOk result (λ used. 0 < used → (was front : List ℕ) (b : Begun)
+            (outer : List Begun) → Reads self.old front b outer
+            → L.stands listener.old was (b ∷ outer) → drop self.old.at front ≡ octets.now
+            → Moves (L.begins listener.new was) (L.stands listener.new was) self.old self.new front
+            octets.now used) }
+        ensures none { result ≡ Ok 0 → (self.new ≡ self.old) × (listener.new ≡ listener.old) }
+        ensures memory { IfErr result (λ error. error ≡ Memory) }
+    {
+        let is_event = is_event_data(self.top.kind);
+        if !is_event || self.outer.len() != 1 || octets.len() < 2 {
+            return Ok(0);
+        }
+        let parent = Kind::Parameter(ParamKind::ReaderEventNotificationData);
+        match word(octets, 0) {
+            128 => self.begin_kind(listener, octets, parent, 128, ParamKind::UtcTimestamp),
+            249 => self.begin_kind(listener, octets, parent, 249, ParamKind::RoSpecEvent),
+            _ => Ok(0),
+        }
+    }
+
+    /// Begins a child of the innermost node.
+    #[inline(always)]
+    pub(crate) fn begin_any<L: Listener>(
+        &mut self,
+        listener: &mut L,
+        octets: &[u8],
+    ) -> Result<Step, FrameErr>
+        requires stage { self.old.stage ≡ Stage.Children }
+        requires stop { self.old.top.stop ≤ MAX_LIMIT }
+        requires some { (front : List ℕ) × (b : Begun) × (outer : List Begun)
+            × Reads self.old front b outer × (was : List ℕ)
+            × L.stands listener.old was (b ∷ outer) }
+        requires room { self.old.at < self.old.top.stop }
+        requires long { is_tv_kind self.old.top.kind ≡ false }
+        ensures { (was : List ℕ) (front : List ℕ) (b : Begun) (outer : List Begun)
+            → Reads self.old front b outer → L.stands listener.old was (b ∷ outer)
+            → drop self.old.at front ≡ octets.now
+            → Steps (L.begins listener.new was) (L.stands listener.new was) self.old self.new front
+            octets.now result }
+    {
+        let head = self.begin_in_event(listener, octets)?;
+        if head > 0 {
+            return Ok(Step::Goes(head));
+        }
+        self.begin(listener, octets)
     }
 }

@@ -196,7 +196,7 @@ pub(crate) fn child_head(
     Ok(Child::Long(placed, size))
 }
 
-/// Reads the head of a child of a known kind at an octet of a message. Returns the groups of the message that
+/// Reads the head of a child of a known kind at an octet of its parent. Returns the groups of the parent that
 /// have a child once it has begun, and its length; `None` where another child comes, the head is not
 /// whole, or a check fails. Where parent and kind are written at the call, the compiler knows the
 /// child's place.
@@ -207,6 +207,7 @@ pub(crate) fn known_head(
     stop: usize,
     parent: Kind,
     seen: u32,
+    level: u8,
     number: u16,
     kind: ParamKind,
 ) -> Option<(u32, usize)>
@@ -217,7 +218,7 @@ pub(crate) fn known_head(
     requires few { number < 1024 }
     ensures { IfSome result (λ found. (children : Forest) (later : List Bool)
         → AreSeen (groups_of parent) children seen
-        → HeadSays (groups_of parent) children 1 (8 * at) (8 * stop) (digits_of_bytes octets.now
+        → HeadSays (groups_of parent) children level (8 * at) (8 * stop) (digits_of_bytes octets.now
         ++ later) octets.now (Ok (Long (record { kind = kind; seen = found.0 }) found.1))) }
 {
     if octets.len() < 4 || stop - at < 4 {
@@ -227,7 +228,7 @@ pub(crate) fn known_head(
     if head != number {
         return None;
     }
-    let Ok(placed) = child_kind(Some(kind), parent, seen, 1, 0, 0) else {
+    let Ok(placed) = child_kind(Some(kind), parent, seen, level, 0, 0) else {
         return None;
     };
     let size = word(octets, 2) as usize;

@@ -301,7 +301,11 @@ impl Reader {
 
     /// Begins a child of the innermost node.
     #[inline(always)]
-    fn begin<L: Listener>(&mut self, listener: &mut L, octets: &[u8]) -> Result<Step, FrameErr>
+    pub(crate) fn begin<L: Listener>(
+        &mut self,
+        listener: &mut L,
+        octets: &[u8],
+    ) -> Result<Step, FrameErr>
         requires stage { self.old.stage ≡ Stage.Children }
         requires stop { self.old.top.stop ≤ MAX_LIMIT }
         requires some { (front : List ℕ) × (b : Begun) × (outer : List Begun)
@@ -360,7 +364,7 @@ impl Reader {
         if all > 0 {
             return Ok(Step::Goes(all));
         }
-        self.begin(listener, octets)
+        self.begin_any(listener, octets)
     }
 
     /// Reads one part, or a row of parameters of type and value.

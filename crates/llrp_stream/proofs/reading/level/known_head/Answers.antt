@@ -32,16 +32,16 @@ returns c = λ children later cs.
     let zeros = reserved_none octets later (omega (arith, four)) c.word-head.result (c.word-head.ensures later) small in
     let no = digit_is_zero rest (sym (long_head octets later (omega (arith, four)) c.word-head.result (c.word-head.ensures later) small)) in
     let found : Some kind ≡ tlv_kind rest = sym c.requires.known ∙ ap tlv_with_number (sym is ∙ long_type octets later (omega (arith, four)) c.word-head.result (c.word-head.ensures later) small) in
-    let p : IsPlaced (Some kind) gs children 1 c.in-Ok.placed = c.in-Ok.ensures children cs in
+    let p : IsPlaced (Some kind) gs children c.args.level c.in-Ok.placed = c.in-Ok.ensures children cs in
     let same : c.in-Ok.placed.kind ≡ kind = sym (some_same kind c.in-Ok.placed.kind p.passes.is) in
-    let passes : KindPasses (Some kind) gs children 1 kind = subst (λ (k : ParamKind). KindPasses (Some kind) gs children 1 k) same p.passes in (
+    let passes : KindPasses (Some kind) gs children c.args.level kind = subst (λ (k : ParamKind). KindPasses (Some kind) gs children c.args.level k) same p.passes in (
       four,
       some_groups gs kind passes.has,
       no,
       record {
         room = omega (arith, c.if-stop-at-lt4.false, c.requires.before);
         zeros = zeros;
-        placed = subst (λ (f : Option ParamKind). KindPasses f gs children 1 kind) found passes;
+        placed = subst (λ (f : Option ParamKind). KindPasses f gs children c.args.level kind) found passes;
         octets_are = c.word-size.ensures later;
         least = c.if-size-lt4.false;
         most = omega (arith, c.if-stop-at.false, c.requires.before);

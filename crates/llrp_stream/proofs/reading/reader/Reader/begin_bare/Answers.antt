@@ -51,7 +51,7 @@ returns-clause-moves g c = λ _ was front b outer rd told d.
     let octets : List ℕ = c.args.octets.now in
     let n : ℕ = c.in-Some.size in
     let few = outer_length r front b outer rd c.requires.stage in
-    let f = says_long r front b outer rd c.args.parent c.requires.parent c.requires.first c.requires.stage octets (record { kind = c.args.kind; seen = c.in-Some.seen }) n c.in-Some.ensures in
+    let f = says_long r front b outer rd c.args.parent 1 c.requires.parent (omega (arith, c.requires.first)) c.requires.stage octets (record { kind = c.args.kind; seen = c.in-Some.seen }) n c.in-Some.ensures in
     let rc = long_reaches r front b outer rd c.requires.stage octets d c.requires.room c.requires.long c.args.kind n (f []).0 (λ later. (f later).3) in
     let place : 8 * r.at + 32 ≡ 8 * (r.at + 4) = omega arith in
     let end : 8 * r.at + 8 * n ≡ 8 * (r.at + n) = omega arith in

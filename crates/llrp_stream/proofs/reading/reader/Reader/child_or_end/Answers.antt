@@ -77,11 +77,11 @@ returns-then-all-gt0 g c = λ was front b outer rd told d.
     let t = c.in_ok-used.ensures.takes was front h.are (behind_on front c.args.octets.now c.args.self.now.at c.in_ok-head.head c.begin_known.new.self.at d h.place ∙ sym c.split_at.ensures.back) in
     moved_on _ _ _ _ c.args.self.now c.begin_known.new.self c.values.new.self front c.args.octets.now c.split_at.result.1.now c.in_ok-head.head c.in_ok-used.used c.split_at.ensures.back h c.in_ok-head.ensures.rests.stage t c.in_ok-used.ensures.keeps c.if-all-gt0.true
 
-pub begin-requires-clause-stage : goal.begin-requires-clause-stage
-begin-requires-clause-stage g c = c.in_ok-used.ensures.keeps.stage ∙ c.in_ok-head.ensures.rests.stage
+pub begin_any-requires-clause-stage : goal.begin_any-requires-clause-stage
+begin_any-requires-clause-stage g c = c.in_ok-used.ensures.keeps.stage ∙ c.in_ok-head.ensures.rests.stage
 
-pub begin-requires-clause-some : goal.begin-requires-clause-some
-begin-requires-clause-some g c =
+pub begin_any-requires-clause-some : goal.begin_any-requires-clause-some
+begin_any-requires-clause-some g c =
     let w = c.requires.some in
     let none : (c.in_ok-head.head ≡ 0) × (c.in_ok-used.used ≡ 0) = (omega (arith, c.if-all-gt0.false), omega (arith, c.if-all-gt0.false)) in
     let e = c.in_ok-head.ensures.none (ap (λ (n : ℕ). Ok n) none.0) in
@@ -94,5 +94,5 @@ returns g c = λ was front b outer rd told d.
     let e = c.in_ok-head.ensures.none (ap (λ (n : ℕ). Ok n) none.0) in
     let f = c.in_ok-used.ensures.none (ap (λ (n : ℕ). Ok n) none.1) in
     let same = f.0 ∙ e.0 in
-    let steps = c.begin.ensures was front b outer (subst (λ (r : Reader). Reads r front b outer) (sym same) rd) (subst (λ l. g.L.Listener.stands l was (b ∷ outer)) (sym (f.1 ∙ e.1)) told) (subst (λ (r : Reader). drop r.at front ≡ c.args.octets.now) (sym same) d) in
-    subst (λ (r : Reader). Steps (g.L.Listener.begins c.begin.new.listener was) (g.L.Listener.stands c.begin.new.listener was) r c.begin.new.self front c.args.octets.now c.begin.result) same steps
+    let steps = c.begin_any.ensures was front b outer (subst (λ (r : Reader). Reads r front b outer) (sym same) rd) (subst (λ l. g.L.Listener.stands l was (b ∷ outer)) (sym (f.1 ∙ e.1)) told) (subst (λ (r : Reader). drop r.at front ≡ c.args.octets.now) (sym same) d) in
+    subst (λ (r : Reader). Steps (g.L.Listener.begins c.begin_any.new.listener was) (g.L.Listener.stands c.begin_any.new.listener was) r c.begin_any.new.self front c.args.octets.now c.begin_any.result) same steps

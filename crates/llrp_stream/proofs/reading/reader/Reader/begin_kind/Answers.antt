@@ -1,0 +1,66 @@
+use Rattle.std.proofs.Common.{◌≡◌, ℕ, ◌+◌, ◌-◌, ◌*◌, ◌<◌, ◌≤◌, Bool, true, false, List, [], ◌∷◌, ◌++◌, Ok, refl, sym, ap, ◌∙◌, subst, arith, length, drop, length-drop}
+use Rattle.tag_bits.specs.Digits.{digits_of_bytes}
+use Rattle.llrp_schema.specs.declared.kinds.Kind.{Kind}
+use Rattle.llrp_schema.specs.declared.kinds.Kind.TheVariants.{Parameter}
+use Rattle.llrp_schema.specs.Schema.{groups_of}
+use Rattle.llrp_tree.specs.Tree.{Forest}
+use Rattle.llrp_tree.specs.Spelling.{tlv}
+use Rattle.llrp_tree.specs.OpenTree.{Begun}
+use Rattle.llrp_tree.specs.Standing.{leading}
+use Rattle.llrp_stream.specs.declared.reading.level.Child.TheVariants as child
+use Rattle.llrp_stream.specs.declared.reading.level.Level.{Level}
+use Rattle.llrp_stream.specs.declared.reading.reader.Reader.{Reader}
+use Rattle.llrp_stream.specs.declared.reading.reader.Stage.{Stage}
+use Rattle.llrp_stream.specs.declared.reading.reader.Step.{Step}
+use Rattle.llrp_stream.specs.declared.reading.reader.Step.TheVariants.{Goes}
+use Rattle.llrp_stream.specs.declared.reading.reader.Stage.TheVariants as stage
+use Rattle.llrp_stream.specs.Front.{Reaches}
+use Rattle.llrp_stream.specs.Reading.{AreSeen, HeadSays, IsBare, Moves, Reads, Steps, Told}
+use Rattle.llrp_stream.proofs.BareLemmas.{seen_at, says_long, moved_twice}
+use Rattle.llrp_stream.proofs.ChildPart.{outer_length, long_reaches}
+use Rattle.llrp_stream.proofs.MoreOctets.{behind_on}
+use Rattle.llrp_stream.proofs.SeenLemmas.{seen_are}
+use Rattle.llrp_stream.proofs.reading.reader.Reader.begin_kind.Goals as goal
+
+pub known_head-found-requires-clause-some : goal.known_head-found-requires-clause-some
+known_head-found-requires-clause-some g c =
+    let w = c.requires.some in
+    (w.1.children, seen_at c.args.self.now w.0 w.1 w.2 w.3 c.args.parent c.requires.parent)
+
+pub overflow_cast-stop : goal.overflow_cast-stop
+overflow_cast-stop g c =
+    let w = c.requires.some in
+    let h = c.in-Some.ensures w.1.children [] (seen_at c.args.self.now w.0 w.1 w.2 w.3 c.args.parent c.requires.parent) in
+    omega (arith, h.3.most, c.requires.stop)
+
+pub overflow_add-stop : goal.overflow_add-stop
+overflow_add-stop g c =
+    let w = c.requires.some in
+    let h = c.in-Some.ensures w.1.children [] (seen_at c.args.self.now w.0 w.1 w.2 w.3 c.args.parent c.requires.parent) in
+    omega (arith, h.3.most, c.requires.stop)
+
+pub enter-requires-clause-fits : goal.enter-requires-clause-fits
+enter-requires-clause-fits g c =
+    let w = c.requires.some in
+    let h = c.in-Some.ensures w.1.children [] (seen_at c.args.self.now w.0 w.1 w.2 w.3 c.args.parent c.requires.parent) in
+    omega (arith, h.3.room, c.requires.stop)
+
+pub returns-clause-moves : goal.returns-clause-moves
+returns-clause-moves g c = λ _ was front b outer rd told d.
+    let r : Reader = c.args.self.now in
+    let octets : List ℕ = c.args.octets.now in
+    let n : ℕ = c.in-Some.size in
+    let few = outer_length r front b outer rd c.requires.stage in
+    let f = says_long r front b outer rd c.args.parent 2 c.requires.parent (omega (arith, c.requires.second)) c.requires.stage octets (record { kind = c.args.kind; seen = c.in-Some.seen }) n c.in-Some.ensures in
+    let rc = long_reaches r front b outer rd c.requires.stage octets d c.requires.room c.requires.long c.args.kind n (f []).0 (λ later. (f later).3) in
+    let place : 8 * r.at + 32 ≡ 8 * (r.at + 4) = omega arith in
+    let end : 8 * r.at + 8 * n ≡ 8 * (r.at + n) = omega arith in
+    let rc2 = subst (λ (m : ℕ). Reaches front r.octets (leading (tlv c.args.kind n) m [] ∷ b ∷ outer) (8 * r.at + 32)) end rc in
+    let entered = c.in_ok-enter.ensures.steps was front octets b outer (tlv c.args.kind n) rd told d refl (f []).4 (subst (λ (m : ℕ). Reaches front r.octets (leading (tlv c.args.kind n) (8 * (r.at + n)) [] ∷ b ∷ outer) m) place rc2) (f []).0 in
+    subst (λ (x : Step). Steps (g.L.Listener.begins c.enter.new.listener was) (g.L.Listener.stands c.enter.new.listener was) r c.enter.new.self front octets (Ok x)) c.in_ok-enter.ensures.goes entered
+
+pub enter-requires-clause-told : goal.enter-requires-clause-told
+enter-requires-clause-told g c =
+    let w = c.requires.some in
+    let few = outer_length c.args.self.now w.0 w.1 w.2 w.3 c.requires.stage in
+    (w.4, w.1 ∷ w.2, w.5, omega (arith, few))
