@@ -1,19 +1,28 @@
 -- A child without fields and tail, begun and made ready in one step.
 use Rattle.std.proofs.Common.{◌≡◌, ℕ, ◌+◌, ◌-◌, ◌*◌, ◌<◌, ◌≤◌, Bool, List, [], ◌∷◌, ◌++◌, Ok, Some, refl, sym, ap, ◌∙◌, subst, arith, length, drop, length-drop}
+use Rattle.std.specs.Prelude.{IfSome, Option}
 use Rattle.tag_bits.specs.Digits.{digits_of_bytes}
 use Rattle.llrp_schema.specs.declared.kinds.Kind.{Kind}
+use Rattle.llrp_schema.specs.declared.kinds.ParamKind.{ParamKind}
 use Rattle.llrp_schema.specs.declared.kinds.Kind.TheVariants.{Parameter}
 use Rattle.llrp_schema.specs.declared.kinds.ParamKind.TheVariants.{ReaderEventNotificationData, RoSpecEvent, TagReportData, UtcTimestamp}
 use Rattle.llrp_schema.specs.Schema.{fields_of, groups_of, is_tv, number_of, param_kinds, param_rule, rule_of, tail_of, tlv_with_number}
+use Rattle.llrp_tree.specs.declared.fault.FrameErr.{FrameErr}
 use Rattle.llrp_tree.specs.Tree.{Forest}
 use Rattle.llrp_tree.specs.OpenTree.{Begun}
 use Rattle.llrp_stream.specs.declared.reading.level.Placed.{Placed}
 use Rattle.llrp_stream.specs.declared.reading.level.Child.TheVariants as child
 use Rattle.llrp_stream.specs.declared.reading.reader.Reader.{Reader}
 use Rattle.llrp_stream.specs.declared.reading.reader.Stage.TheVariants as stage
-use Rattle.llrp_stream.specs.Reading.{AreSeen, HeadSays, IsBare, Moves, Reads, work}
+use Rattle.llrp_stream.specs.Reading.{AreSeen, HeadFails, HeadSays, IsBare, Moves, Reads, work}
 use Rattle.llrp_stream.proofs.ChildPart.{outer_length}
 use Rattle.llrp_stream.proofs.SeenLemmas.{seen_are}
+
+-- what is known of the head of a child that was found
+pub known_says : (r : Reader) (parent : Kind) (level : ℕ) (octets : List ℕ) (kind : ParamKind) (found : Option (ℕ × ℕ)) (x : ℕ × ℕ)
+    → IfSome found (λ head. (children : Forest) (later : List Bool) → AreSeen (groups_of parent) children r.top.seen → HeadSays (groups_of parent) children level (8 * r.at) (8 * r.top.stop) (digits_of_bytes octets ++ later) octets (Ok (child.Long (record { kind = kind; seen = head.0 }) head.1)))
+    → found ≡ Some x → (children : Forest) (later : List Bool) → AreSeen (groups_of parent) children r.top.seen → HeadSays (groups_of parent) children level (8 * r.at) (8 * r.top.stop) (digits_of_bytes octets ++ later) octets (Ok (child.Long (record { kind = kind; seen = x.0 }) x.1))
+known_says r parent level octets kind found x h e = subst (λ (y : Option (ℕ × ℕ)). IfSome y (λ head. (children : Forest) (later : List Bool) → AreSeen (groups_of parent) children r.top.seen → HeadSays (groups_of parent) children level (8 * r.at) (8 * r.top.stop) (digits_of_bytes octets ++ later) octets (Ok (child.Long (record { kind = kind; seen = head.0 }) head.1)))) e h
 
 -- what is seen of the children of a node of a known kind
 pub seen_at : (r : Reader) (front : List ℕ) (b : Begun) (outer : List Begun) → Reads r front b outer → (parent : Kind) → r.top.kind ≡ parent → AreSeen (groups_of parent) b.children r.top.seen
@@ -29,6 +38,17 @@ says_long r front b outer rd parent level e deep s octets placed n f = λ later.
     subst (λ (m : ℕ). HeadSays (groups_of r.top.kind) b.children m (8 * r.at) (8 * r.top.stop) (digits_of_bytes octets ++ later) octets (Ok (child.Long placed n))) same
     (subst (λ (k : Kind). HeadSays (groups_of k) b.children level (8 * r.at) (8 * r.top.stop) (digits_of_bytes octets ++ later) octets (Ok (child.Long placed n))) (sym e)
     (f b.children later (seen_at r front b outer rd parent e)))
+
+-- the same, where it fails
+pub fails_here : (r : Reader) (front : List ℕ) (b : Begun) (outer : List Begun) → Reads r front b outer → (parent : Kind) (level : ℕ) → r.top.kind ≡ parent → length r.outer.items + 1 ≡ level → r.stage ≡ stage.Children → (octets : List ℕ) (e : FrameErr)
+    → ((children : Forest) (later : List Bool) → AreSeen (groups_of parent) children r.top.seen → HeadFails (groups_of parent) children level (8 * r.at) (8 * r.top.stop) (digits_of_bytes octets ++ later) e)
+    → (later : List Bool) → HeadFails (groups_of r.top.kind) b.children (length outer + 1) (8 * r.at) (8 * r.top.stop) (digits_of_bytes octets ++ later) e
+fails_here r front b outer rd parent level is deep s octets e f = λ later.
+    let few = outer_length r front b outer rd s in
+    let same : level ≡ length outer + 1 = omega (arith, few, deep) in
+    subst (λ (m : ℕ). HeadFails (groups_of r.top.kind) b.children m (8 * r.at) (8 * r.top.stop) (digits_of_bytes octets ++ later) e) same
+    (subst (λ (k : Kind). HeadFails (groups_of k) b.children level (8 * r.at) (8 * r.top.stop) (digits_of_bytes octets ++ later) e) (sym is)
+    (f b.children later (seen_at r front b outer rd parent is)))
 
 -- a step of some octets, and one of none after it
 pub moved_twice : (b0 s0 begins stands : List Begun → Type 0) (old mid new : Reader) (front octets : List ℕ) (used : ℕ) → Moves b0 s0 old mid front octets used → Moves begins stands mid new front (drop used octets) 0 → Moves begins stands old new front octets used

@@ -9,6 +9,7 @@ ghost use Rattle.llrp_tree.specs.declared.TheConstants.{MAX_LIMIT};
 ghost use Rattle.llrp_tree.specs.declared.fault.FrameErr.TheVariants.{Memory};
 ghost use Rattle.llrp_tree.specs.OpenTree.{Begun};
 ghost use Rattle.llrp_tree.specs.Standing.{is_tv_kind};
+ghost use Rattle.llrp_stream.specs.Front.{FailsWith};
 ghost use Rattle.llrp_stream.specs.Reading.{IsBare, Moves, Reads, Rests, Steps};
 ghost use Rattle.llrp_stream.specs.declared.reading.reader.Stage.TheVariants as Stage;
 
@@ -83,7 +84,11 @@ impl Reader {
             → Moves (L.begins listener.new was) (L.stands listener.new was) self.old self.new front
             octets.now used) }
         ensures none { result ≡ Ok 0 → (self.new ≡ self.old) × (listener.new ≡ listener.old) }
-        ensures memory { IfErr result (λ error. error ≡ Memory) }
+        ensures fails { IfErr result (λ error. (was front : List ℕ) (b : Begun) (outer : List Begun)
+            → Reads self.old front b outer → L.stands listener.old was (b ∷ outer)
+            → drop self.old.at front ≡ octets.now
+            → FailsWith (L.begins listener.new was) (L.stands listener.new was) front
+            self.old.octets error) }
         ensures rests { IfOk result (λ used. Rests self.new) }
     {
         let found = known_head(
@@ -95,7 +100,7 @@ impl Reader {
             1,
             number,
             kind,
-        );
+        )?;
         let Some((seen, size)) = found else {
             return Ok(0);
         };
@@ -126,7 +131,11 @@ impl Reader {
             → Moves (L.begins listener.new was) (L.stands listener.new was) self.old self.new front
             octets.now used) }
         ensures none { result ≡ Ok 0 → (self.new ≡ self.old) × (listener.new ≡ listener.old) }
-        ensures memory { IfErr result (λ error. error ≡ Memory) }
+        ensures fails { IfErr result (λ error. (was front : List ℕ) (b : Begun) (outer : List Begun)
+            → Reads self.old front b outer → L.stands listener.old was (b ∷ outer)
+            → drop self.old.at front ≡ octets.now
+            → FailsWith (L.begins listener.new was) (L.stands listener.new was) front
+            self.old.octets error) }
         ensures rests { IfOk result (λ used. Rests self.new) }
     {
         if !self.outer.is_empty() {
@@ -182,7 +191,11 @@ impl Reader {
             → Moves (L.begins listener.new was) (L.stands listener.new was) self.old self.new front
             octets.now used) }
         ensures none { result ≡ Ok 0 → (self.new ≡ self.old) × (listener.new ≡ listener.old) }
-        ensures memory { IfErr result (λ error. error ≡ Memory) }
+        ensures fails { IfErr result (λ error. (was front : List ℕ) (b : Begun) (outer : List Begun)
+            → Reads self.old front b outer → L.stands listener.old was (b ∷ outer)
+            → drop self.old.at front ≡ octets.now
+            → FailsWith (L.begins listener.new was) (L.stands listener.new was) front
+            self.old.octets error) }
     {
         let found = known_head(
             octets,
@@ -193,7 +206,7 @@ impl Reader {
             2,
             number,
             kind,
-        );
+        )?;
         let Some((seen, size)) = found else {
             return Ok(0);
         };
@@ -223,7 +236,11 @@ impl Reader {
             → Moves (L.begins listener.new was) (L.stands listener.new was) self.old self.new front
             octets.now used) }
         ensures none { result ≡ Ok 0 → (self.new ≡ self.old) × (listener.new ≡ listener.old) }
-        ensures memory { IfErr result (λ error. error ≡ Memory) }
+        ensures fails { IfErr result (λ error. (was front : List ℕ) (b : Begun) (outer : List Begun)
+            → Reads self.old front b outer → L.stands listener.old was (b ∷ outer)
+            → drop self.old.at front ≡ octets.now
+            → FailsWith (L.begins listener.new was) (L.stands listener.new was) front
+            self.old.octets error) }
     {
         let is_event = is_event_data(self.top.kind);
         if !is_event || self.outer.len() != 1 || octets.len() < 2 {

@@ -1,6 +1,6 @@
 //! An open node, as the engine keeps it.
 
-ghost use Rattle.std.specs.Prelude.{◌≡◌, ◌+◌, ◌*◌, ◌<◌, ◌≤◌, ◌⊎◌, Bool, List, ◌++◌, IfSome, MatchResult, Ok, Some, true, false};
+ghost use Rattle.std.specs.Prelude.{◌≡◌, ◌+◌, ◌*◌, ◌<◌, ◌≤◌, ◌⊎◌, Bool, List, ◌++◌, IfErr, IfOk, IfSome, MatchResult, Ok, Some, true, false};
 ghost use Rattle.std.specs.Int.{bit_at};
 ghost use Rattle.tag_bits.specs.Digits.{digits_of_bytes};
 ghost use Rattle.llrp_schema.specs.declared.kinds.Kind.TheVariants.{Message};
@@ -13,7 +13,7 @@ ghost use Rattle.llrp_tree.specs.Tree.{Forest, none};
 ghost use Rattle.llrp_tree.specs.OpenTree.{is_enough};
 ghost use Rattle.llrp_tree.specs.FirstFault.{kind_checks};
 ghost use Rattle.llrp_tree.specs.Standing.{FailsFirst};
-ghost use Rattle.llrp_stream.specs.Reading.{AreSeen, IsPlaced, HeadSays};
+ghost use Rattle.llrp_stream.specs.Reading.{AreSeen, IsPlaced, HeadFails, HeadSays};
 
 use crate::reading::reader::bad;
 use llrp_schema::{Kind, MsgKind, ParamKind, Place, param_of_tlv, param_of_tv, place, required};
@@ -197,8 +197,8 @@ pub(crate) fn child_head(
 }
 
 /// Reads the head of a child of a known kind at an octet of its parent. Returns the groups of the parent that
-/// have a child once it has begun, and its length; `None` where another child comes, the head is not
-/// whole, or a check fails. Where parent and kind are written at the call, the compiler knows the
+/// have a child once it has begun, and its length, or the fault of its length; `None` where another child comes, the
+/// head is not whole, or another check fails. Where parent and kind are written at the call, the compiler knows the
 /// child's place.
 #[inline(always)]
 pub(crate) fn known_head(
@@ -210,30 +210,37 @@ pub(crate) fn known_head(
     level: u8,
     number: u16,
     kind: ParamKind,
-) -> Option<(u32, usize)>
+) -> Result<Option<(u32, usize)>, FrameErr>
     requires before { at < stop }
     requires small { stop ≤ MAX_LIMIT }
     requires known { tlv_with_number number ≡ Some kind }
     requires some { (children : Forest) × AreSeen (groups_of parent) children seen }
     requires few { number < 1024 }
-    ensures { IfSome result (λ found. (children : Forest) (later : List Bool)
+    ensures says { IfOk result (λ found. IfSome found (λ head. (children : Forest) (later : List Bool)
         → AreSeen (groups_of parent) children seen
         → HeadSays (groups_of parent) children level (8 * at) (8 * stop) (digits_of_bytes octets.now
-        ++ later) octets.now (Ok (Long (record { kind = kind; seen = found.0 }) found.1))) }
+        ++ later) octets.now (Ok (Long (record { kind = kind; seen = head.0 }) head.1)))) }
+    ensures fails { IfErr result (λ error. (children : Forest) (later : List Bool)
+        → AreSeen (groups_of parent) children seen
+        → HeadFails (groups_of parent) children level (8 * at) (8 * stop)
+        (digits_of_bytes octets.now ++ later) error) }
 {
     if octets.len() < 4 || stop - at < 4 {
-        return None;
+        return Ok(None);
     }
     let head = word(octets, 0);
     if head != number {
-        return None;
+        return Ok(None);
     }
     let Ok(placed) = child_kind(Some(kind), parent, seen, level, 0, 0) else {
-        return None;
+        return Ok(None);
     };
     let size = word(octets, 2) as usize;
-    if size < 4 || stop - at < size {
-        return None;
+    if size < 4 {
+        return Err(bad(8 * at + 16, Reason::ParamLength));
     }
-    Some((placed.seen, size))
+    if stop - at < size {
+        return Err(bad(8 * at + 16, Reason::ParamLength));
+    }
+    Ok(Some((placed.seen, size)))
 }

@@ -10,7 +10,7 @@ use Rattle.llrp_stream.proofs.reading.reader.Reader.begin_any.Goals as goal
 pub returns-in_err-head : goal.returns-in_err-head
 returns-in_err-head g c = λ was front b outer rd told d.
     let p = err_from_is_err_and c.from_residual.result c.from_residual.ensures.1 in
-    rw (p.1, p.2) (subst (λ (e : FrameErr). FailsWith (g.L.Listener.begins c.begin_in_event.new.listener was) (g.L.Listener.stands c.begin_in_event.new.listener was) front c.args.self.now.octets e) (sym c.in_err-head.ensures.memory) tt)
+    rw (p.1, p.2) (c.in_err-head.ensures.fails was front b outer rd told d)
 
 pub returns-then-head-gt0 : goal.returns-then-head-gt0
 returns-then-head-gt0 g c = λ was front b outer rd told d. c.in_ok-head.ensures.moves c.if-head-gt0.true was front b outer rd told d

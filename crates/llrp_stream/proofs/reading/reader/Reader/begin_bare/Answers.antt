@@ -1,4 +1,5 @@
-use Rattle.std.proofs.Common.{◌≡◌, ℕ, ◌+◌, ◌-◌, ◌*◌, ◌<◌, ◌≤◌, Bool, true, false, List, [], ◌∷◌, ◌++◌, Ok, refl, sym, ap, ◌∙◌, subst, arith, length, drop, length-drop}
+use Rattle.std.proofs.Common.{◌≡◌, inr, ℕ, ◌+◌, ◌-◌, ◌*◌, ◌<◌, ◌≤◌, Bool, true, false, List, [], ◌∷◌, ◌++◌, Ok, refl, sym, ap, ◌∙◌, subst, arith, length, drop, length-drop}
+use Rattle.std.proofs.lemmas.Result.{err_from_is_err_and}
 use Rattle.tag_bits.specs.Digits.{digits_of_bytes}
 use Rattle.llrp_schema.specs.declared.kinds.Kind.{Kind}
 use Rattle.llrp_schema.specs.declared.kinds.Kind.TheVariants.{Parameter}
@@ -16,33 +17,33 @@ use Rattle.llrp_stream.specs.declared.reading.reader.Step.TheVariants.{Goes}
 use Rattle.llrp_stream.specs.declared.reading.reader.Stage.TheVariants as stage
 use Rattle.llrp_stream.specs.Front.{Reaches}
 use Rattle.llrp_stream.specs.Reading.{AreSeen, HeadSays, IsBare, Moves, Reads, Steps, Told}
-use Rattle.llrp_stream.proofs.BareLemmas.{seen_at, says_long, moved_twice}
-use Rattle.llrp_stream.proofs.ChildPart.{outer_length, long_reaches}
-use Rattle.llrp_stream.proofs.MoreOctets.{behind_on}
+use Rattle.llrp_stream.proofs.BareLemmas.{fails_here, seen_at, known_says, says_long, moved_twice}
+use Rattle.llrp_stream.proofs.ChildPart.{head_tells, outer_length, long_reaches}
+use Rattle.llrp_stream.proofs.MoreOctets.{behind_on, fails_with}
 use Rattle.llrp_stream.proofs.SeenLemmas.{seen_are}
 use Rattle.llrp_stream.proofs.reading.reader.Reader.begin_bare.Goals as goal
 
-pub known_head-found-requires-clause-some : goal.known_head-found-requires-clause-some
-known_head-found-requires-clause-some g c =
+pub known_head-requires-clause-some : goal.known_head-requires-clause-some
+known_head-requires-clause-some g c =
     let w = c.requires.some in
     (w.1.children, seen_at c.args.self.now w.0 w.1 w.2 w.3 c.args.parent c.requires.parent)
 
 pub overflow_cast-stop : goal.overflow_cast-stop
 overflow_cast-stop g c =
     let w = c.requires.some in
-    let h = c.in-Some.ensures w.1.children [] (seen_at c.args.self.now w.0 w.1 w.2 w.3 c.args.parent c.requires.parent) in
+    let h = (known_says c.args.self.now c.args.parent 1 c.args.octets.now c.args.kind c.in_ok-found.found _ c.in_ok-found.ensures.says c.in-Some.is) w.1.children [] (seen_at c.args.self.now w.0 w.1 w.2 w.3 c.args.parent c.requires.parent) in
     omega (arith, h.3.most, c.requires.stop)
 
 pub overflow_add-stop : goal.overflow_add-stop
 overflow_add-stop g c =
     let w = c.requires.some in
-    let h = c.in-Some.ensures w.1.children [] (seen_at c.args.self.now w.0 w.1 w.2 w.3 c.args.parent c.requires.parent) in
+    let h = (known_says c.args.self.now c.args.parent 1 c.args.octets.now c.args.kind c.in_ok-found.found _ c.in_ok-found.ensures.says c.in-Some.is) w.1.children [] (seen_at c.args.self.now w.0 w.1 w.2 w.3 c.args.parent c.requires.parent) in
     omega (arith, h.3.most, c.requires.stop)
 
 pub enter-requires-clause-fits : goal.enter-requires-clause-fits
 enter-requires-clause-fits g c =
     let w = c.requires.some in
-    let h = c.in-Some.ensures w.1.children [] (seen_at c.args.self.now w.0 w.1 w.2 w.3 c.args.parent c.requires.parent) in
+    let h = (known_says c.args.self.now c.args.parent 1 c.args.octets.now c.args.kind c.in_ok-found.found _ c.in_ok-found.ensures.says c.in-Some.is) w.1.children [] (seen_at c.args.self.now w.0 w.1 w.2 w.3 c.args.parent c.requires.parent) in
     omega (arith, h.3.room, c.requires.stop)
 
 pub returns-clause-moves : goal.returns-clause-moves
@@ -51,7 +52,7 @@ returns-clause-moves g c = λ _ was front b outer rd told d.
     let octets : List ℕ = c.args.octets.now in
     let n : ℕ = c.in-Some.size in
     let few = outer_length r front b outer rd c.requires.stage in
-    let f = says_long r front b outer rd c.args.parent 1 c.requires.parent (omega (arith, c.requires.first)) c.requires.stage octets (record { kind = c.args.kind; seen = c.in-Some.seen }) n c.in-Some.ensures in
+    let f = says_long r front b outer rd c.args.parent 1 c.requires.parent (omega (arith, c.requires.first)) c.requires.stage octets (record { kind = c.args.kind; seen = c.in-Some.seen }) n (known_says c.args.self.now c.args.parent 1 c.args.octets.now c.args.kind c.in_ok-found.found _ c.in_ok-found.ensures.says c.in-Some.is) in
     let rc = long_reaches r front b outer rd c.requires.stage octets d c.requires.room c.requires.long c.args.kind n (f []).0 (λ later. (f later).3) in
     let place : 8 * r.at + 32 ≡ 8 * (r.at + 4) = omega arith in
     let end : 8 * r.at + 8 * n ≡ 8 * (r.at + n) = omega arith in
@@ -66,10 +67,18 @@ returns-clause-moves g c = λ _ was front b outer rd told d.
 pub returns-clause-rests : goal.returns-clause-rests
 returns-clause-rests g c =
     let w = c.requires.some in
-    let h = c.in-Some.ensures w.1.children [] (seen_at c.args.self.now w.0 w.1 w.2 w.3 c.args.parent c.requires.parent) in
+    let h = (known_says c.args.self.now c.args.parent 1 c.args.octets.now c.args.kind c.in_ok-found.found _ c.in_ok-found.ensures.says c.in-Some.is) w.1.children [] (seen_at c.args.self.now w.0 w.1 w.2 w.3 c.args.parent c.requires.parent) in
     let stop = ap (λ (l : Level). l.stop) c.bare.ensures.top in
     record {
       stage = c.in_ok-bare.ensures.stage;
       stop = omega (arith, stop, c.in_ok-enter.ensures.stop, h.3.most, c.requires.stop);
       before = omega (arith, stop, c.in_ok-enter.ensures.stop, c.in_ok-enter.ensures.place, c.bare.ensures.place, h.3.least);
     }
+
+pub returns-in_err-found-clause-fails : goal.returns-in_err-found-clause-fails
+returns-in_err-found-clause-fails g c =
+    let p = err_from_is_err_and c.from_residual.result c.from_residual.ensures.1 in
+    rw (p.1, p.2) (λ was front b outer rd told d. (
+    let r : Reader = c.args.self.now in
+    fails_with _ _ front r.octets c.in_err-found.field-0.0 (head_tells r front b outer rd c.requires.stage c.args.octets.now d c.requires.room c.requires.long c.in_err-found.field-0.0
+    (fails_here r front b outer rd c.args.parent 1 c.requires.parent (omega (arith, c.requires.first)) c.requires.stage c.args.octets.now c.in_err-found.field-0.0 c.in_err-found.ensures.fails)) (b ∷ outer, inr told)))

@@ -23,7 +23,7 @@ are_here begins stands r front b outer rd s told = record { node = b; outer = ou
 pub returns-in_err-head : goal.returns-in_err-head
 returns-in_err-head g c = λ was front b outer rd told d.
     let p = err_from_is_err_and c.from_residual.result c.from_residual.ensures.1 in
-    rw (p.1, p.2) (subst (λ (e : FrameErr). FailsWith (g.L.Listener.begins c.begin_known.new.listener was) (g.L.Listener.stands c.begin_known.new.listener was) front c.args.self.now.octets e) (sym c.in_err-head.ensures.memory) tt)
+    rw (p.1, p.2) (c.in_err-head.ensures.fails was front b outer rd told d)
 
 pub split_at-requires : goal.split_at-requires
 split_at-requires g c =
