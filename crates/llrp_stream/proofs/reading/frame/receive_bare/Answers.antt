@@ -1,5 +1,4 @@
-use Rattle.std.proofs.Common.{◌≡◌, ◌≤◌, ℕ, Bool, true, false, List, [], length, Ok, refl, sym, ap, ◌∙◌, arith}
-use Rattle.llrp_stream.specs.declared.reading.reader.Reader.{Reader}
+use Rattle.std.proofs.Common.{◌≡◌, true}
 use Rattle.llrp_stream.proofs.WholeFrames.{bare_complete, frame_of, header_length, ready_of}
 use Rattle.llrp_stream.proofs.reading.frame.receive_bare.Goals as goal
 

@@ -1,14 +1,12 @@
-use Rattle.std.proofs.Common.{◌≡◌, inl, inr, ◌+◌, ◌*◌, ◌<◌, ◌≤◌, ℕ, Bool, false, true, List, [], ◌∷◌, ◌++◌, length, Option, Some, refl, sym, ap, ◌∙◌, subst, arith}
+use Rattle.std.proofs.Common.{◌≡◌, inl, inr, ◌*◌, ◌<◌, ◌≤◌, ℕ, Bool, false, true, List, [], ◌∷◌, ◌++◌, length, Option, Some, refl, sym, ap, ◌∙◌, subst, arith}
 use Rattle.tag_bits.specs.Digits.{digits_of_bytes}
 use Rattle.llrp_schema.specs.declared.kinds.ParamKind.{ParamKind}
 use Rattle.llrp_schema.specs.declared.kinds.Kind.TheVariants.{Parameter}
 use Rattle.llrp_schema.specs.Schema.{GroupRule, groups_of, tlv_with_number}
 use Rattle.llrp_tree.specs.Lawful.{has_place}
-use Rattle.llrp_tree.specs.Tree.{Forest}
-use Rattle.llrp_tree.specs.FirstFault.{number, has_none, tlv_kind}
+use Rattle.llrp_tree.specs.FirstFault.{has_none, tlv_kind}
 use Rattle.llrp_tree.specs.Standing.{KindPasses}
 use Rattle.llrp_tree.proofs.ChildLemmas.{digit_is_zero, length_fails}
-use Rattle.llrp_stream.specs.declared.reading.level.Placed.{Placed}
 use Rattle.llrp_stream.specs.Reading.{AreSeen, IsPlaced, with_begun}
 use Rattle.llrp_stream.proofs.HeadLemmas.{long_head, reserved_none, long_type}
 use Rattle.llrp_stream.proofs.reading.level.known_head.Goals as goal

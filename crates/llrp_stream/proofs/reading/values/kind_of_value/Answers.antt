@@ -1,11 +1,10 @@
-use Rattle.std.proofs.Common.{◌≡◌, ℕ, ◌+◌, ◌-◌, ◌%◌, ◌^◌, ◌<◌, ◌≤◌, Bool, true, List, ◌++◌, length, Option, Some, None, sym, ap, ◌∙◌, arith, subst}
+use Rattle.std.proofs.Common.{◌≡◌, ℕ, ◌+◌, ◌-◌, ◌%◌, ◌^◌, ◌<◌, ◌≤◌, Bool, List, ◌++◌, length, Option, Some, None, sym, ap, ◌∙◌, arith}
 use Rattle.std.specs.Prelude.{IfSome}
 use Rattle.tag_bits.specs.Digits.{digits_of_bytes}
-use Rattle.llrp_schema.specs.declared.kinds.Kind.TheVariants.{Parameter}
 use Rattle.llrp_schema.specs.declared.kinds.ParamKind.{ParamKind}
-use Rattle.llrp_schema.specs.Schema.{tv_with_number, is_tv, number_of}
+use Rattle.llrp_schema.specs.Schema.{tv_with_number}
 use Rattle.llrp_schema.proofs.TableLaws.{tv_found}
-use Rattle.llrp_tree.specs.FirstFault.{number, first_digit, tv_kind}
+use Rattle.llrp_tree.specs.FirstFault.{number}
 use Rattle.llrp_tree.proofs.ChildLemmas.{digit_is_one}
 use Rattle.llrp_tree.proofs.SpellingLemmas.{tv_number}
 use Rattle.llrp_stream.specs.Reading.{BeginsValue}

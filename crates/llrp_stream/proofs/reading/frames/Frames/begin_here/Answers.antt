@@ -1,4 +1,4 @@
-use Rattle.std.proofs.Common.{◌≡◌, ℕ, ◌+◌, ◌≤◌, ◌++◌, List, [], length, take, drop, refl, sym, ap, subst, ◌∙◌, arith, length-append, append_assoc}
+use Rattle.std.proofs.Common.{◌≡◌, ℕ, ◌++◌, List, [], take, drop, ap, subst, ◌∙◌}
 use Rattle.std.proofs.lemmas.List.{take-append-drop}
 use Rattle.std.proofs.lemmas.Result.{err_from_is_err_and}
 use Rattle.llrp_stream.specs.Cuts.{Breaks}

@@ -1,4 +1,4 @@
-use Rattle.std.proofs.Common.{◌≡◌, ℕ, ◌+◌, ◌*◌, List, [], ◌∷◌, refl, ap, ◌∙◌, subst, arith, length, drop}
+use Rattle.std.proofs.Common.{◌≡◌, ℕ, ◌+◌, ◌*◌, List, [], ◌∷◌, refl, ap, subst, arith, length, drop}
 use Rattle.std.proofs.lemmas.List.{drop_all}
 use Rattle.llrp_schema.specs.Schema.{FieldRule, fields_of}
 use Rattle.llrp_tree.specs.OpenTree.{Begun, due, Rest}

@@ -1,9 +1,6 @@
-use Rattle.std.proofs.Common.{◌≡◌, ℕ, List, ◌∷◌, Ok, sym, ap, subst, drop, arith}
+use Rattle.std.proofs.Common.{◌≡◌, ℕ, ◌∷◌, Ok, sym, ap, subst, drop, arith}
 use Rattle.std.proofs.lemmas.Result.{err_from_is_err_and}
-use Rattle.llrp_tree.specs.OpenTree.{Begun}
-use Rattle.llrp_tree.specs.declared.fault.FrameErr.{FrameErr}
 use Rattle.llrp_stream.specs.declared.reading.reader.Reader.{Reader}
-use Rattle.llrp_stream.specs.Front.{FailsWith}
 use Rattle.llrp_stream.specs.Reading.{Reads, Steps}
 use Rattle.llrp_stream.proofs.reading.reader.Reader.begin_any.Goals as goal
 

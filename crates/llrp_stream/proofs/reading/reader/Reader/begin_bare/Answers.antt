@@ -1,26 +1,16 @@
-use Rattle.std.proofs.Common.{◌≡◌, inr, ℕ, ◌+◌, ◌-◌, ◌*◌, ◌<◌, ◌≤◌, Bool, true, false, List, [], ◌∷◌, ◌++◌, Ok, refl, sym, ap, ◌∙◌, subst, arith, length, drop, length-drop}
+use Rattle.std.proofs.Common.{◌≡◌, inr, ℕ, ◌+◌, ◌*◌, List, [], ◌∷◌, Ok, refl, ap, subst, arith, drop}
 use Rattle.std.proofs.lemmas.Result.{err_from_is_err_and}
-use Rattle.tag_bits.specs.Digits.{digits_of_bytes}
-use Rattle.llrp_schema.specs.declared.kinds.Kind.{Kind}
-use Rattle.llrp_schema.specs.declared.kinds.Kind.TheVariants.{Parameter}
-use Rattle.llrp_schema.specs.Schema.{groups_of}
-use Rattle.llrp_tree.specs.Tree.{Forest}
 use Rattle.llrp_tree.specs.Spelling.{tlv}
-use Rattle.llrp_tree.specs.OpenTree.{Begun}
 use Rattle.llrp_tree.specs.Standing.{leading}
-use Rattle.llrp_stream.specs.declared.reading.level.Child.TheVariants as child
 use Rattle.llrp_stream.specs.declared.reading.level.Level.{Level}
 use Rattle.llrp_stream.specs.declared.reading.reader.Reader.{Reader}
 use Rattle.llrp_stream.specs.declared.reading.reader.Stage.{Stage}
 use Rattle.llrp_stream.specs.declared.reading.reader.Step.{Step}
-use Rattle.llrp_stream.specs.declared.reading.reader.Step.TheVariants.{Goes}
-use Rattle.llrp_stream.specs.declared.reading.reader.Stage.TheVariants as stage
 use Rattle.llrp_stream.specs.Front.{Reaches}
-use Rattle.llrp_stream.specs.Reading.{AreSeen, HeadSays, IsBare, Moves, Reads, Steps, Told}
+use Rattle.llrp_stream.specs.Reading.{Moves, Steps, Told}
 use Rattle.llrp_stream.proofs.BareLemmas.{fails_here, seen_at, known_says, says_long, moved_twice}
 use Rattle.llrp_stream.proofs.ChildPart.{head_tells, outer_length, long_reaches}
 use Rattle.llrp_stream.proofs.MoreOctets.{behind_on, fails_with}
-use Rattle.llrp_stream.proofs.SeenLemmas.{seen_are}
 use Rattle.llrp_stream.proofs.reading.reader.Reader.begin_bare.Goals as goal
 
 pub known_head-requires-clause-some : goal.known_head-requires-clause-some

@@ -1,4 +1,3 @@
-use Rattle.std.proofs.Common.{◌≡◌, true}
 use Rattle.llrp_stream.proofs.BareLemmas.{time_number, spec_event_number}
 use Rattle.llrp_stream.proofs.reading.reader.Reader.begin_in_event.Goals as goal
 

@@ -1,4 +1,4 @@
-use Rattle.std.proofs.Common.{◌≡◌, ℕ, ◌-◌, ◌<◌, ◌≤◌, List, ◌∷◌, length, drop, Ok, sym, ap, ◌∙◌, subst, arith, length-drop}
+use Rattle.std.proofs.Common.{◌≡◌, ℕ, List, ◌∷◌, length, drop, Ok, sym, ap, ◌∙◌, subst, arith, length-drop}
 use Rattle.std.proofs.lemmas.Result.{err_from_is_err_and}
 use Rattle.llrp_tree.specs.OpenTree.{Begun}
 use Rattle.llrp_tree.specs.declared.fault.FrameErr.{FrameErr}
@@ -7,7 +7,7 @@ use Rattle.llrp_stream.specs.declared.reading.reader.Stage.{Stage}
 use Rattle.llrp_stream.specs.declared.reading.reader.Stage.TheVariants.{Children}
 use Rattle.llrp_stream.specs.Front.{FailsWith}
 use Rattle.llrp_stream.specs.Reading.{Reads, Are, Steps, Told}
-use Rattle.llrp_stream.proofs.ManyValues.{HeadTaken, head_taken, moved_on}
+use Rattle.llrp_stream.proofs.ManyValues.{head_taken, moved_on}
 use Rattle.llrp_stream.proofs.MoreOctets.{behind_on}
 use Rattle.llrp_stream.proofs.reading.reader.Reader.child_or_end.Goals as goal
 

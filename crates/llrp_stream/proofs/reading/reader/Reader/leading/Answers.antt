@@ -1,29 +1,22 @@
-use Rattle.std.proofs.Common.{suc, ◌≡◌, ℕ, ◌+◌, ◌-◌, ◌*◌, ◌<◌, ◌≤◌, true, false, List, [], ◌∷◌, Option, None, refl, sym, ap, ◌∙◌, subst, arith, length, drop, get_or, drop-cons}
+use Rattle.std.proofs.Common.{suc, ◌≡◌, ℕ, ◌+◌, ◌*◌, ◌<◌, ◌≤◌, true, false, List, [], ◌∷◌, refl, sym, ap, ◌∙◌, subst, arith, length, drop, get_or, drop-cons}
 use Rattle.std.proofs.Math.ListN.{get_or-map}
 use Rattle.std.proofs.lemmas.List.{drop_all, length-map}
 use Rattle.std.specs.Prelude.{not, map}
-use Rattle.tag_bits.specs.Digits.{digits_of_bytes}
 use Rattle.llrp_schema.specs.declared.kinds.Field.{Field}
 use Rattle.llrp_schema.specs.declared.kinds.Kind.{Kind}
 use Rattle.llrp_schema.specs.Schema.{FieldRule, field_rule, fields_of}
 use Rattle.llrp_tree.specs.OpenTree.{Begun, kind_of, due, Rest}
-use Rattle.llrp_stream.specs.declared.reading.level.Level.{Level}
 use Rattle.llrp_stream.specs.Front.{Reaches}
 use Rattle.llrp_stream.specs.Reading.{Reads}
-use Rattle.llrp_tree.specs.OpenTree.{covers, has_tail, field_due, tail_due}
-use Rattle.llrp_schema.specs.Schema.{tail_of}
+use Rattle.llrp_tree.specs.OpenTree.{has_tail}
 use Rattle.llrp_schema.specs.declared.kinds.Tail.{Tail}
 use Rattle.llrp_schema.specs.declared.kinds.Tail.TheVariants.{Absent, Words, Text, Bits}
 use Rattle.llrp_tree.proofs.ReadingLemmas.{rule_width}
 use Rattle.llrp_schema.proofs.TableLaws.{signed_fields}
-use Rattle.llrp_tree.proofs.ReadDigits.{length_covered}
-use Rattle.tag_bits.proofs.ByteLemmas.{length-bytes}
 use Rattle.llrp_stream.specs.declared.reading.reader.Stage.{Stage}
 use Rattle.llrp_stream.specs.declared.reading.reader.Stage.TheVariants as stage
-use Rattle.arrayvec.specs.ArrayVec.{ArrayVec}
 use Rattle.llrp_stream.specs.declared.reading.reader.Reader.{Reader}
-use Rattle.llrp_stream.specs.Reading.{IsAtStage, IsLeading, rank, work}
-use Rattle.llrp_stream.proofs.CoveredOctets.{covered_octets}
+use Rattle.llrp_stream.specs.Reading.{IsAtStage, IsLeading, rank}
 use Rattle.llrp_stream.proofs.Bounds.{few_fields, fields_in, leading_few}
 use Rattle.llrp_stream.proofs.ReadyPart.{resting, aligned, ready_work}
 use Rattle.llrp_stream.proofs.reading.reader.Reader.leading.Goals as goal

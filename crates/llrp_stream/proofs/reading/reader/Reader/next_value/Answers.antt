@@ -1,12 +1,10 @@
-use Rattle.std.proofs.Common.{◌≡◌, ℕ, ◌+◌, ◌≤◌, Bool, true, List, ◌++◌, length, Option, Some, refl, sym, ap, ◌∙◌, subst, arith}
-use Rattle.tag_bits.specs.Digits.{digits_of_bytes}
+use Rattle.std.proofs.Common.{◌≡◌, ℕ, ◌+◌, true, List, length, Option, Some, sym, subst, arith}
 use Rattle.llrp_schema.specs.declared.kinds.Kind.{Kind}
 use Rattle.llrp_schema.specs.declared.kinds.Kind.TheVariants.{Parameter}
 use Rattle.llrp_schema.specs.declared.kinds.ParamKind.{ParamKind}
 use Rattle.llrp_schema.specs.declared.kinds.ParamKind.TheVariants.{TagReportData}
 use Rattle.llrp_schema.specs.Schema.{groups_of, is_tv}
 use Rattle.llrp_tree.specs.Tree.{Forest}
-use Rattle.llrp_tree.specs.FirstFault.{tv_kind}
 use Rattle.llrp_stream.specs.declared.reading.level.Placed.{Placed}
 use Rattle.llrp_stream.specs.declared.reading.reader.Reader.{Reader}
 use Rattle.llrp_stream.specs.Reading.{AreSeen, AwaitsValues, BeginsValue, IsPlaced}

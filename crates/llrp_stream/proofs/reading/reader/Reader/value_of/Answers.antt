@@ -1,7 +1,7 @@
-use Rattle.std.proofs.Common.{◌≡◌, ℕ, ◌+◌, ◌/◌, false, List, ◌∙◌, refl}
+use Rattle.std.proofs.Common.{◌+◌, ◌/◌}
 use Rattle.llrp_schema.specs.declared.kinds.Kind.TheVariants.{Parameter}
 use Rattle.llrp_schema.specs.Schema.{bits_of, fields_of}
-use Rattle.llrp_stream.proofs.ManyValues.{long_report, one_taken, none_taken, some_taken}
+use Rattle.llrp_stream.proofs.ManyValues.{long_report, one_taken, some_taken}
 use Rattle.llrp_stream.proofs.reading.reader.Reader.value_of.Goals as goal
 
 pub value-requires-clause-stage : goal.value-requires-clause-stage
