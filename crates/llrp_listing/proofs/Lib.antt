@@ -10,6 +10,7 @@ pub mod EncoderSteps
 pub mod DigitLemmas
 pub mod EngineLemmas
 pub mod EpcLemmas
+pub mod Fronts
 pub mod GroupBits
 pub mod Growing
 pub mod HexadecimalLemmas
@@ -21,6 +22,7 @@ pub mod LineSteps
 pub mod LineWords
 pub mod Listed
 pub mod MessageSteps
+pub mod NamedLines
 pub mod NodeFaults
 pub mod NumberWords
 pub mod Numerals

@@ -1,5 +1,5 @@
 -- What a line says that is read once, from left to right.
-use Rattle.std.proofs.Common.{◌≡◌, ℕ, ◌+◌, ◌^◌, ◌<◌, ◌≤◌, List, [], ◌∷◌, ◌++◌, length, map, Option, Some, None, Ok, false, get_or, refl, sym, ap, subst, ◌∙◌, arith, decimal}
+use Rattle.std.proofs.Common.{◌≡◌, ℕ, ◌+◌, ◌^◌, ◌<◌, ◌≤◌, List, [], ◌∷◌, ◌++◌, length, drop, map, Option, Some, None, Ok, false, get_or, refl, sym, ap, subst, ◌∙◌, arith, decimal}
 use Rattle.std.specs.Prelude.{IfSome, ◌⊎◌, ◌==◌, filter, not}
 use Rattle.std.proofs.lemmas.Bool.{ne_eqb}
 use Rattle.std.proofs.lemmas.Fmt.{decimal_digit}
@@ -19,7 +19,7 @@ use Rattle.llrp_listing.specs.LineChecks.{AreInForm, IsTailOf, LONGEST_LINE, Rea
 use Rattle.llrp_listing.specs.NodeLine.{AreNumberTexts, Id, NumberForm, Unsigned, Version, field_form, number_forms, parameter_line, spaced, tail_texts}
 use Rattle.llrp_listing.specs.Numeral.{numeral}
 use Rattle.llrp_listing.specs.ShortLines.{AreAllNumbers}
-use Rattle.llrp_listing.proofs.NumberWords.{id_read, unsigned_read}
+use Rattle.llrp_listing.proofs.NumberWords.{unsigned_read}
 
 -- ---- names
 
@@ -94,11 +94,10 @@ parameter_says level kind ws ns rest least deep one short all e = (
   omega arith,
 )
 
-pub message_says : (kind : MsgKind) (version id : ℕ) (digits rest : List ℕ) → (1 ≤ version) × (version ≤ 2) → id < 2 ^ 32 → numeral digits ≡ Some id → 2 + length rest ≤ LONGEST_LINE → fields_of (Message kind) ≡ [] → 32 ∷ rest ≡ spaced (name_of (Message kind) ∷ ((48 + version) ∷ []) ∷ digits ∷ [])
+pub message_says : (kind : MsgKind) (version id : ℕ) (digits rest : List ℕ) → (1 ≤ version) × (version ≤ 2) → id < 2 ^ 32 → digits ≡ decimal id → 2 + length rest ≤ LONGEST_LINE → fields_of (Message kind) ≡ [] → 32 ∷ rest ≡ spaced (name_of (Message kind) ∷ ((48 + version) ∷ []) ∷ digits ∷ [])
     → SaysAt 0 (48 ∷ 32 ∷ rest) 0 (record { kind = Message kind; numbers = version ∷ id ∷ []; tail = [] })
 message_says kind version id digits rest known small is short none e =
     let forms : number_forms (Message kind) ≡ Version ∷ Id ∷ [] = message_forms kind none in
-    let read = id_read digits id is small in
     let ws : List (List ℕ) = ((48 + version) ∷ []) ∷ digits ∷ [] in
     let absent : tail_of (Message kind) ≡ Absent = message_tail kind in (
       record {
@@ -107,7 +106,7 @@ message_says kind version id digits rest known small is short none e =
         placed = refl;
         numbers = subst (λ (fs : List NumberForm). AreInForm fs (version ∷ id ∷ [])) (sym forms) (which version known.0 known.1, (small, tt));
         tail = no_tail_of (tail_of (Message kind)) absent;
-        text = record { numbers = ws; are = subst (λ (fs : List NumberForm). AreNumberTexts fs (version ∷ id ∷ []) ws) (sym forms) (sym (decimal_digit version (omega (arith, known.1))), (read.1, tt)); text_is = line_text (Message kind) ws rest 0 (omega arith) absent e };
+        text = record { numbers = ws; are = subst (λ (fs : List NumberForm). AreNumberTexts fs (version ∷ id ∷ []) ws) (sym forms) (sym (decimal_digit version (omega (arith, known.1))), (is, tt)); text_is = line_text (Message kind) ws rest 0 (omega arith) absent e };
       },
       omega arith,
     )
@@ -118,6 +117,10 @@ message_says kind version id digits rest known small is short none e =
 pub unsigned_value : (rule : Field) (w : List ℕ) (r : Option ℕ) → field_form (field_rule rule) ≡ Unsigned → r ≡ numeral w → IfSome r (λ n. ReadsNumber (field_form (field_rule rule)) w (Ok n))
 unsigned_value rule w None form e = tt
 unsigned_value rule w (Some n) form e = subst (λ (f : NumberForm). ReadsNumber f w (Ok n)) (sym form) (unsigned_read w n (sym e))
+
+-- the same of a word from a place of a line on
+pub long_value : (rule : Field) (line word : List ℕ) (from : ℕ) (r : Option ℕ) → field_form (field_rule rule) ≡ Unsigned → word ≡ drop from line → r ≡ numeral word → IfSome r (λ n. ReadsNumber (field_form (field_rule rule)) (drop from line) (Ok n))
+long_value rule line word from r form is e = subst (λ (w : List ℕ). IfSome r (λ n. ReadsNumber (field_form (field_rule rule)) w (Ok n))) is (unsigned_value rule word r form e)
 
 -- no other word of 96 bits, and no sign
 pub is_unsigned : (rule : Field) → (rule.width ≡ 96 → ⊥) → rule.signed ≡ false → field_form (field_rule rule) ≡ Unsigned

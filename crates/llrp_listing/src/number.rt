@@ -1,6 +1,6 @@
 //! The numbers of a line, each read from its word.
 
-ghost use Rattle.std.specs.Prelude.{◌≡◌, ◌<◌, ◌≤◌, ◌^◌, ◌++◌, IfSome, Some, None, if◌then◌else◌, length};
+ghost use Rattle.std.specs.Prelude.{◌≡◌, ◌<◌, ◌≤◌, ◌^◌, ◌++◌, IfSome, Ok, Some, None, decimal, drop, if◌then◌else◌, length};
 ghost use Rattle.std.specs.Str.{all_ascii_digits};
 ghost use Rattle.std.specs.Str.Parse.{digits_value};
 ghost use Rattle.llrp_schema.specs.Schema.{field_rule};
@@ -12,7 +12,7 @@ ghost use Rattle.llrp_listing.specs.Numeral.{ReadsFront, numeral};
 
 use crate::fault::Refusal;
 use llrp_schema::Field;
-use tag_uri::{number_of_last, word_of_text};
+use tag_uri::{number_of_last, plain_between, word_of_text};
 
 /// How many bits the field of an EPC-96 has; no other field has as many.
 pub const EPC_BITS: u32 = 96;
@@ -95,6 +95,40 @@ pub fn numeral(word: &[u8]) -> Option<u128>
     }
     let n = short_number(word)?;
     Some(n as u128)
+}
+
+/// The number from a place of a line to its end, of at most 16 digits. `None` does not mean that none
+/// is there.
+#[inline(always)]
+pub fn number_from(line: &[u8], from: usize) -> Option<u64>
+    requires { from ≤ length line.now }
+    ensures { IfSome result (λ n. drop from line.now ≡ decimal n) }
+{
+    if from < 7 {
+        return None;
+    }
+    plain_between(line, from, line.len())
+}
+
+/// The eight bits of a number from -128 to 127, from a place of a line to its end. `None` does not
+/// mean that none is there.
+#[inline(always)]
+pub fn signed_from(line: &[u8], from: usize) -> Option<u64>
+    requires { from < length line.now }
+    ensures { IfSome result (λ n. ReadsNumber Signed (drop from line.now) (Ok n)) }
+{
+    if line[from] == b'-' {
+        let size = number_from(line, from + 1)?;
+        if size == 0 || size > 128 {
+            return None;
+        }
+        return Some(256 - size);
+    }
+    let number = number_from(line, from)?;
+    if number > 127 {
+        return None;
+    }
+    Some(number)
 }
 
 /// Reads a message's version, 1 or 2.

@@ -1,6 +1,7 @@
 -- The octets that messages and parameters spell, and those that are still to be written of a message.
 use Rattle.std.specs.Prelude.{◌≡◌, ℕ, zero, suc, ◌+◌, ◌-◌, ◌^◌, ◌<◌, ◌≤◌, List, [], ◌∷◌, ◌++◌, length, take, drop, Bool, true, false}
 use Rattle.std.specs.Borrow.{Bor}
+use Rattle.std.specs.Int.{w64, to_be_bytes}
 use Rattle.tag_bits.specs.Digits.{value}
 use Rattle.llrp_schema.specs.declared.kinds.Kind.{Kind}
 use Rattle.llrp_schema.specs.declared.kinds.MsgKind.{MsgKind}
@@ -9,6 +10,7 @@ use Rattle.llrp_schema.specs.declared.kinds.Kind.TheVariants.{Message, Parameter
 use Rattle.llrp_schema.specs.Schema.{FieldRule, fields_of, is_tv, tail_of}
 use Rattle.llrp_tree.specs.declared.TheConstants.{MAX_DEPTH}
 use Rattle.llrp_tree.specs.declared.starts.Start.{Start}
+use Rattle.llrp_tree.specs.declared.starts.Front.{Front}
 use Rattle.llrp_tree.specs.declared.writing.Begun.{Begun}
 use Rattle.llrp_tree.specs.Tree.{Forest, MessageTree, Tree, forest}
 use Rattle.llrp_tree.specs.Lawful.{octets, levels, message_octets, tree_octets}
@@ -58,6 +60,14 @@ pub record IsOnlyField (kind : ParamKind) (rule : FieldRule) : Type 0 where
 -- These octets have the digits.
 abbrev pub Holds : Start → List Bool → Type 0
 Holds start ds = Appends [] (drop start.from start.octets) ds
+
+-- eight octets of a number, and then eight of another
+abbrev pub both_halves : ℕ → ℕ → List ℕ
+both_halves upper lower = to_be_bytes w64 upper ++ to_be_bytes w64 lower
+
+-- The first of these octets have the digits.
+abbrev pub IsInFront : Front → List Bool → Type 0
+IsInFront front ds = Appends [] (take front.count (both_halves front.upper front.lower)) ds
 
 -- what is left of a node that was begun: of the octets before its tail, and of the tail
 abbrev pub unfinished : List ℕ → ℕ → List ℕ → List ℕ

@@ -32,7 +32,10 @@ pub use node::{Node, NodeFault, NodeRefusal, Nodes, Octets};
 pub use parts::{own_fault, own_octets};
 pub use reading::decode_frame;
 pub use spelling::{EncodeErr, encode_into};
-pub use starts::{Start, message_start, parameter_start, tv_start};
+pub use starts::{
+    Front, Start, message_front, message_start, parameter_front, parameter_start, tv_front,
+    tv_start,
+};
 pub use writing::Spelling;
 
 /// The greatest number of levels of parameters in a message.

@@ -8,7 +8,7 @@ ghost use Rattle.llrp_schema.specs.Schema.{bits_of, field_rule, fields_of, tail_
 ghost use Rattle.llrp_tree.specs.Lawful.{count_octets, head_octets};
 ghost use Rattle.llrp_tree.specs.Checks.{values_fit};
 ghost use Rattle.llrp_tree.specs.Spelling.{head_of, head_digits, count_digits, message as message_head};
-ghost use Rattle.llrp_tree.specs.Spelled.{Holds, IsOnlyField, all_fields, message_start, message_start_digits, parameter_start, start_digits};
+ghost use Rattle.llrp_tree.specs.Spelled.{Holds, IsInFront, IsOnlyField, all_fields, message_start, message_start_digits, parameter_start, start_digits};
 ghost use Rattle.llrp_tree.specs.Writing.{is_sound};
 
 use crate::message::Message;
@@ -20,6 +20,16 @@ use llrp_schema::{Field, Kind, MsgKind, ParamKind, Tail};
 pub struct Start {
     pub octets: [u8; 16],
     pub from: usize,
+}
+
+/// What comes before the tail of a node, as the first octets of sixteen: eight of them are those of
+/// `upper`, and the others those of `lower`, each with its most significant octet first.
+#[derive(Clone, Copy)]
+pub struct Front {
+    pub upper: u64,
+    pub lower: u64,
+    /// How many of the octets come before the tail.
+    pub count: usize,
 }
 
 /// The number that the bits of fields spell, and how many bits there are.
@@ -153,6 +163,46 @@ fn as_octets(packed: Packed) -> Start
     }
 }
 
+/// The octets of a number's bits, in front.
+#[inline(always)]
+fn in_front(packed: Packed) -> Front
+    requires below { packed.number < 2 ^ packed.bits }
+    requires some { 8 ≤ packed.bits }
+    requires few { packed.bits ≤ 128 }
+    requires whole { packed.bits % 8 ≡ 0 }
+    ensures spelled { IsInFront result (digits packed.bits packed.number) }
+    ensures few { result.count ≤ 16 }
+{
+    let all = packed.number << (128 - packed.bits);
+    Front {
+        upper: (all >> 64) as u64,
+        lower: (all % 0x1_0000_0000_0000_0000) as u64,
+        count: packed.bits as usize / 8,
+    }
+}
+
+/// The bits of a parameter before its tail, with this length.
+#[inline(always)]
+fn parameter_bits(kind: ParamKind, octets: u32, values: &[u128], tail: &[u8]) -> Packed
+    requires long { octets ≤ 65535 }
+    requires values { values_fit (fields_of (Parameter kind)) values.now ≡ true }
+    requires words { tail_of (Parameter kind) ≡ Words → length tail.now / 2 ≤ 65535 }
+    requires text { tail_of (Parameter kind) ≡ Text → length tail.now ≤ 65535 }
+    ensures spelled { digits result.bits result.number ≡ parameter_start kind octets values.now
+        tail.now }
+    ensures below { result.number < 2 ^ result.bits }
+    ensures some { 8 ≤ result.bits }
+    ensures few { result.bits ≤ 128 }
+    ensures whole { result.bits % 8 ≡ 0 }
+{
+    let whole = Kind::Parameter(kind);
+    let count = count(llrp_schema::tail(whole), tail);
+    let fields = pack(llrp_schema::fields(whole), values);
+    let leading = joined(fields.bits, fields.number, count);
+    let head = head(kind, octets);
+    joined(head.bits, head.number, leading)
+}
+
 /// The octets of a parameter before its tail, with this length. A length of 0 leaves room for one
 /// that is not known yet.
 pub fn parameter_start(kind: ParamKind, octets: u32, values: &[u128], tail: &[u8]) -> Start
@@ -163,12 +213,38 @@ pub fn parameter_start(kind: ParamKind, octets: u32, values: &[u128], tail: &[u8
     ensures spelled { Holds result (parameter_start kind octets values.now tail.now) }
     ensures some { result.from < length result.octets }
 {
-    let whole = Kind::Parameter(kind);
-    let count = count(llrp_schema::tail(whole), tail);
-    let fields = pack(llrp_schema::fields(whole), values);
-    let leading = joined(fields.bits, fields.number, count);
-    let head = head(kind, octets);
-    as_octets(joined(head.bits, head.number, leading))
+    as_octets(parameter_bits(kind, octets, values, tail))
+}
+
+/// The same in front, with a length of 0, which leaves room for one that is not known yet.
+#[inline(always)]
+pub fn parameter_front(kind: ParamKind, values: &[u128], tail: &[u8]) -> Front
+    requires values { values_fit (fields_of (Parameter kind)) values.now ≡ true }
+    requires words { tail_of (Parameter kind) ≡ Words → length tail.now / 2 ≤ 65535 }
+    requires text { tail_of (Parameter kind) ≡ Text → length tail.now ≤ 65535 }
+    ensures spelled { IsInFront result (parameter_start kind 0 values.now tail.now) }
+    ensures few { result.count ≤ 16 }
+{
+    in_front(parameter_bits(kind, 0, values, tail))
+}
+
+/// The bits of a parameter with type and value (TV), by the rule of its one field.
+#[inline(always)]
+fn tv_bits(kind: ParamKind, rule: &Field, value: u128) -> Packed
+    requires rule { IsOnlyField kind (field_rule rule.now) }
+    requires value { value < 2 ^ rule.now.width }
+    ensures spelled { digits result.bits result.number ≡ parameter_start kind 0 (value ∷ []) [] }
+    ensures below { result.number < 2 ^ result.bits }
+    ensures some { 8 ≤ result.bits }
+    ensures few { result.bits ≤ 104 }
+    ensures whole { result.bits % 8 ≡ 0 }
+{
+    let head = head(kind, 0);
+    let value = Packed {
+        number: value,
+        bits: rule.width,
+    };
+    joined(head.bits, head.number, value)
 }
 
 /// The octets of a parameter with type and value (TV), by the rule of its one field.
@@ -179,12 +255,35 @@ pub fn tv_start(kind: ParamKind, rule: &Field, value: u128) -> Start
     ensures spelled { Holds result (parameter_start kind 0 (value ∷ []) []) }
     ensures some { result.from < length result.octets }
 {
-    let head = head(kind, 0);
-    let value = Packed {
-        number: value,
-        bits: rule.width,
-    };
-    as_octets(joined(head.bits, head.number, value))
+    as_octets(tv_bits(kind, rule, value))
+}
+
+/// The same in front.
+#[inline(always)]
+pub fn tv_front(kind: ParamKind, rule: &Field, value: u128) -> Front
+    requires rule { IsOnlyField kind (field_rule rule.now) }
+    requires value { value < 2 ^ rule.now.width }
+    ensures spelled { IsInFront result (parameter_start kind 0 (value ∷ []) []) }
+    ensures few { result.count ≤ 16 }
+{
+    in_front(tv_bits(kind, rule, value))
+}
+
+/// The bits of a message before its parameters: its header, with this length, and its fields.
+#[inline(always)]
+fn message_bits(version: u8, kind: MsgKind, octets: u32, id: u32, values: &[u128]) -> Packed
+    requires version { version < 8 }
+    requires values { values_fit (fields_of (AsMessage kind)) values.now ≡ true }
+    ensures spelled { digits result.bits result.number ≡ message_start version kind octets id
+        values.now }
+    ensures below { result.number < 2 ^ result.bits }
+    ensures some { 8 ≤ result.bits }
+    ensures few { result.bits ≤ 128 }
+    ensures whole { result.bits % 8 ≡ 0 }
+{
+    let fields = pack(llrp_schema::fields(Kind::Message(kind)), values);
+    let header = header(version, kind, octets, id);
+    joined(80, header.number, fields)
 }
 
 /// The octets of a message before its parameters: its header, with this length, and its fields. A
@@ -195,9 +294,18 @@ pub fn message_start(version: u8, kind: MsgKind, octets: u32, id: u32, values: &
     ensures spelled { Holds result (message_start version kind octets id values.now) }
     ensures from { result.from ≤ length result.octets }
 {
-    let fields = pack(llrp_schema::fields(Kind::Message(kind)), values);
-    let header = header(version, kind, octets, id);
-    as_octets(joined(80, header.number, fields))
+    as_octets(message_bits(version, kind, octets, id, values))
+}
+
+/// The same in front, with a length of 0, which leaves room for one that is not known yet.
+#[inline(always)]
+pub fn message_front(version: u8, kind: MsgKind, id: u32, values: &[u128]) -> Front
+    requires version { version < 8 }
+    requires values { values_fit (fields_of (AsMessage kind)) values.now ≡ true }
+    ensures spelled { IsInFront result (message_start version kind 0 id values.now) }
+    ensures few { result.count ≤ 16 }
+{
+    in_front(message_bits(version, kind, 0, id, values))
 }
 
 /// The octets of a parameter before its tail.

@@ -29,5 +29,5 @@ mod writing;
 pub use fault::UriFault;
 pub use parsing::parse;
 pub use printing::{print, put_tag_uri};
-pub use reading::number_of_last;
+pub use reading::{number_of_last, plain_between};
 pub use word::{print_raw, put_text_of_word, text_of_word, word_of_text};

@@ -1,18 +1,19 @@
 //! A line that was read: its own tests, its record, and its octets.
 
-ghost use Rattle.std.specs.Prelude.{◌≡◌, ◌∷◌, ◌++◌, ◌≤◌, IfOk, OnOk, [], drop, is_none, length, min, nat_le, true};
+ghost use Rattle.std.specs.Prelude.{◌≡◌, ◌∷◌, ◌++◌, ◌≤◌, IfOk, OnOk, [], is_none, min, nat_le, take, true};
 ghost use Rattle.llrp_schema.specs.declared.kinds.Kind.TheVariants.{Message, Parameter};
 ghost use Rattle.llrp_schema.specs.Schema.{is_tv};
 ghost use Rattle.llrp_tree.specs.declared.node.NodeFault.TheVariants.{Value};
 ghost use Rattle.llrp_tree.specs.Checks.{first_failed};
 ghost use Rattle.llrp_tree.specs.Lawful.{own_octets};
+ghost use Rattle.llrp_tree.specs.Spelled.{both_halves};
 ghost use Rattle.llrp_listing.specs.OpenNodes.{IsSaid, MOST};
 ghost use Rattle.llrp_listing.specs.LineOctets.{Puts};
 
 use crate::encode::rows::Held;
 use llrp_schema::{Field, Kind, MsgKind, ParamKind};
 use llrp_tree::{
-    NodeFault, Start, message_start, own_fault, own_octets, parameter_start, tv_start,
+    Front, NodeFault, message_front, own_fault, own_octets, parameter_front, tv_front,
 };
 use std::alloc::AllocError;
 
@@ -71,15 +72,29 @@ fn first_of_line(kind: Kind, number: u64, fault: Option<NodeFault>, octets: u32)
     }
 }
 
+/// Appends the octets before a line's tail. All sixteen are appended, and then those cut off that
+/// do not belong to it, so that the number of octets that are copied is always the same.
+#[inline(always)]
+fn append_front(room: &mut Vec<u8>, front: &Front) -> Result<(), AllocError>
+    requires { front.now.count ≤ 16 }
+    ensures { OnOk result (room.new.items ≡ room.old.items
+        ++ take front.now.count (both_halves front.now.upper front.now.lower)) }
+{
+    let end = room.len() + front.count;
+    room.extend_from_slice(&front.upper.to_be_bytes())?;
+    room.extend_from_slice(&front.lower.to_be_bytes())?;
+    room.truncate(end);
+    Ok(())
+}
+
 /// Appends the octets of a line: those before its tail, then the tail.
 #[inline(always)]
-fn append(room: &mut Vec<u8>, start: &Start, tail: &[u8]) -> Result<(), AllocError>
-    requires { start.now.from ≤ length start.now.octets }
-    ensures { OnOk result (room.new.items ≡ (room.old.items ++ drop start.now.from start.now.octets)
-        ++ tail.now) }
+fn append(room: &mut Vec<u8>, front: &Front, tail: &[u8]) -> Result<(), AllocError>
+    requires { front.now.count ≤ 16 }
+    ensures { OnOk result (room.new.items ≡ (room.old.items
+        ++ take front.now.count (both_halves front.now.upper front.now.lower)) ++ tail.now) }
 {
-    let (_, octets) = start.octets.as_slice().split_at(start.from);
-    room.extend_from_slice(octets)?;
+    append_front(room, front)?;
     if tail.is_empty() {
         return Ok(());
     }
@@ -117,8 +132,8 @@ fn put_tv(
     let octets = 1 + rule.width / 8;
     let begun = first_of_line(Kind::Parameter(kind), number, fault, octets);
     if begun.put {
-        let start = tv_start(kind, rule, value);
-        append(room, &start, &[])?;
+        let front = tv_front(kind, rule, value);
+        append(room, &front, &[])?;
     }
     Ok(begun)
 }
@@ -161,8 +176,8 @@ fn put_any(
     let octets = parameter_octets(kind, tail);
     let begun = first_of_line(Kind::Parameter(kind), number, fault, octets);
     if begun.put {
-        let start = parameter_start(kind, 0, values, tail);
-        append(room, &start, tail)?;
+        let front = parameter_front(kind, values, tail);
+        append(room, &front, tail)?;
     }
     Ok(begun)
 }
@@ -190,8 +205,8 @@ pub fn put_message(
     let octets = message_octets(kind);
     let begun = first_of_line(Kind::Message(kind), number, fault, octets);
     if begun.put {
-        let start = message_start(version, kind, 0, id, values);
-        append(room, &start, &[])?;
+        let front = message_front(version, kind, id, values);
+        append(room, &front, &[])?;
     }
     Ok(begun)
 }

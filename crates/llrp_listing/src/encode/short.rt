@@ -2,7 +2,7 @@
 //! fields, and of parameters with at most one number and no tail. `None` does not mean that a line
 //! is refused: `read_line` then reads it, or says why it is refused.
 
-ghost use Rattle.std.specs.Prelude.{◌≡◌, ◌+◌, ◌∷◌, ◌++◌, ◌<◌, ◌≤◌, IfSome, IsTrue, Ok, [], length};
+ghost use Rattle.std.specs.Prelude.{◌≡◌, ◌+◌, ◌∷◌, ◌++◌, ◌<◌, ◌≤◌, IfSome, IsTrue, Ok, [], drop, length, take};
 ghost use Rattle.llrp_schema.specs.declared.kinds.Kind.TheVariants.{Message, Parameter};
 ghost use Rattle.llrp_schema.specs.declared.kinds.Tail.TheVariants.{Absent};
 ghost use Rattle.llrp_schema.specs.Schema.{field_rule, fields_of, name_of, tail_of};
@@ -12,8 +12,9 @@ ghost use Rattle.llrp_listing.specs.LineChecks.{LONGEST_LINE, ReadsNumber};
 ghost use Rattle.llrp_listing.specs.NodeLine.{Epc, field_form};
 ghost use Rattle.llrp_listing.specs.ShortLines.{AreAllNumbers, short_level, short_node};
 
+use crate::encode::guess::Guess;
 use crate::line::LONGEST_LINE;
-use crate::number::{EPC_BITS, numeral, read_epc, read_signed};
+use crate::number::{EPC_BITS, number_from, numeral, read_epc, read_signed, signed_from};
 use crate::spaced::split_once;
 use llrp_schema::{Field, Kind, MsgKind, ParamKind, Tail, msg_named, param_named};
 use llrp_tree::MAX_DEPTH;
@@ -38,23 +39,6 @@ pub enum ShortLine {
         kind: ParamKind,
         number: u128,
     },
-}
-
-/// The value of a field that is not reserved.
-#[inline(always)]
-fn field_value(rule: &Field, word: &[u8]) -> Option<u128>
-    ensures { IfSome result (λ n. ReadsNumber (field_form (field_rule rule.now)) word.now (Ok n)) }
-{
-    if rule.width == EPC_BITS {
-        return epc_value(word);
-    }
-    if !rule.signed {
-        return numeral(word);
-    }
-    match read_signed(word) {
-        Ok(number) => Some(number),
-        Err(_) => None,
-    }
 }
 
 /// Reads the 96 bits of an EPC.
@@ -83,10 +67,33 @@ fn is_bare(kind: Kind) -> bool
     matches!(llrp_schema::tail(kind), Tail::Absent)
 }
 
-/// The number of a parameter's line whose name only this word follows.
+/// The value of a field that is not reserved, from a place of a line to its end.
 #[inline(always)]
-fn only_number(kind: ParamKind, word: &[u8]) -> Option<u128>
-    ensures { IfSome result (λ n. AreAllNumbers kind (word.now ∷ []) (n ∷ [])) }
+fn value_from(rule: &Field, line: &[u8], from: usize) -> Option<u128>
+    requires { from < length line.now }
+    ensures { IfSome result (λ n. ReadsNumber (field_form (field_rule rule.now))
+        (drop from line.now) (Ok n)) }
+{
+    if rule.width == EPC_BITS {
+        return epc_value(line.split_at(from).1);
+    }
+    if rule.signed {
+        return match signed_from(line, from) {
+            Some(number) => Some(number as u128),
+            None => None,
+        };
+    }
+    match number_from(line, from) {
+        Some(number) => Some(number as u128),
+        None => numeral(line.split_at(from).1),
+    }
+}
+
+/// The number of a parameter's line, from a place of the line to its end.
+#[inline(always)]
+fn only_number(kind: ParamKind, line: &[u8], from: usize) -> Option<u128>
+    requires { from < length line.now }
+    ensures { IfSome result (λ n. AreAllNumbers kind (drop from line.now ∷ []) (n ∷ [])) }
 {
     let Tail::Absent = llrp_schema::tail(Kind::Parameter(kind)) else {
         return None;
@@ -97,7 +104,7 @@ fn only_number(kind: ParamKind, word: &[u8]) -> Option<u128>
     if rule.reserved {
         return None;
     }
-    field_value(rule, word)
+    value_from(rule, line, from)
 }
 
 /// A level of one digit, from 1 up to the number of open lines.
@@ -119,30 +126,109 @@ fn level_of(digit: u8, depth: usize) -> Option<usize>
     Some(level)
 }
 
-/// The line of a parameter, read from what follows its level.
+/// The first octets of a text.
 #[inline(always)]
-fn short_parameter(level: usize, rest: &[u8]) -> Option<ShortLine>
+fn first_octets(text: &[u8; 32], octets: usize) -> &[u8]
+    requires { octets ≤ 32 }
+    ensures { result.now ≡ take octets text.now }
+{
+    text.as_slice().split_at(octets).0
+}
+
+/// The place after the name of a kind, if that follows the level of a line and its space.
+#[inline(always)]
+fn name_end(line: &[u8], kind: Kind) -> Option<usize>
+    requires { 2 ≤ length line.now }
+    ensures within { IfSome result (λ end. end ≤ length line.now) }
+    ensures named { IfSome result (λ end. drop 2 line.now ≡ name_of kind ++ drop end line.now) }
+{
+    let label = llrp_schema::label(kind);
+    let octets = label.octets as usize;
+    let (_, rest) = line.split_at(2);
+    if rest.len() < octets {
+        return None;
+    }
+    let (name, _) = rest.split_at(octets);
+    let front = first_octets(&label.text, octets);
+    if name != front {
+        return None;
+    }
+    Some(2 + octets)
+}
+
+/// The line of a parameter of this kind, if it has the kind's name.
+#[inline(always)]
+fn parameter_named(level: usize, line: &[u8], kind: ParamKind) -> Option<ShortLine>
     requires least { 1 ≤ level }
     requires deep { level ≤ MAX_DEPTH }
     requires one { level < 10 }
-    requires short { 2 + length rest.now ≤ LONGEST_LINE }
-    ensures { IfSome result (λ line. SaysAt level ((48 + level) ∷ 32
-        ∷ rest.now) (short_level line) (short_node line)) }
+    requires short { length line.now ≤ LONGEST_LINE }
+    requires starts { line.now ≡ (48 + level) ∷ 32 ∷ drop 2 line.now }
+    ensures { IfSome result (λ short. SaysAt level line.now (short_level short)
+        (short_node short)) }
 {
-    let Some((name, word)) = split_once(rest, b' ') else {
-        let kind = param_named(rest)?;
+    let end = name_end(line, Kind::Parameter(kind))?;
+    if end == line.len() {
         if !is_bare(Kind::Parameter(kind)) {
             return None;
         }
         return Some(ShortLine::Bare { level, kind });
-    };
-    let kind = param_named(name)?;
-    let number = only_number(kind, word)?;
+    }
+    if line[end] != b' ' {
+        return None;
+    }
+    if end + 1 == line.len() {
+        return None;
+    }
+    let number = only_number(kind, line, end + 1)?;
     Some(ShortLine::Number {
         level,
         kind,
         number,
     })
+}
+
+/// The kind of a parameter whose name follows the level of a line and its space, whatever follows the name.
+fn kind_named(line: &[u8]) -> Option<ParamKind>
+    requires { 2 ≤ length line.now }
+{
+    let (_, rest) = line.split_at(2);
+    match split_once(rest, b' ') {
+        Some((name, _)) => param_named(name),
+        None => param_named(rest),
+    }
+}
+
+/// The line of a parameter: of the kind that is expected, or of the one whose name it has.
+#[inline(always)]
+fn short_parameter(level: usize, line: &[u8], expected: ParamKind) -> Option<ShortLine>
+    requires least { 1 ≤ level }
+    requires deep { level ≤ MAX_DEPTH }
+    requires one { level < 10 }
+    requires short { length line.now ≤ LONGEST_LINE }
+    requires starts { line.now ≡ (48 + level) ∷ 32 ∷ drop 2 line.now }
+    ensures { IfSome result (λ short. SaysAt level line.now (short_level short)
+        (short_node short)) }
+{
+    match parameter_named(level, line, expected) {
+        Some(short) => Some(short),
+        None => other_parameter(level, line),
+    }
+}
+
+/// The line of a parameter, by its name.
+#[inline(never)]
+fn other_parameter(level: usize, line: &[u8]) -> Option<ShortLine>
+    requires least { 1 ≤ level }
+    requires deep { level ≤ MAX_DEPTH }
+    requires one { level < 10 }
+    requires short { length line.now ≤ LONGEST_LINE }
+    requires starts { line.now ≡ (48 + level) ∷ 32 ∷ drop 2 line.now }
+    ensures { IfSome result (λ short. SaysAt level line.now (short_level short)
+        (short_node short)) }
+{
+    let kind = kind_named(line)?;
+    parameter_named(level, line, kind)
 }
 
 /// A message's version of one digit.
@@ -158,33 +244,41 @@ fn version_of(digit: u8) -> Option<u8>
     }
 }
 
-/// The version at the front of a message's numbers, and the numbers after it.
+/// A message's version, between two spaces at a place of a line.
 #[inline(always)]
-fn version_ahead(numbers: &[u8]) -> Option<(u8, &[u8])>
-    ensures digits { IfSome result (λ x. numbers.now ≡ (48 + x.0) ∷ 32 ∷ x.1.now) }
-    ensures known { IfSome result (λ x. (1 ≤ x.0) × (x.0 ≤ 2)) }
+fn version_at(line: &[u8], at: usize) -> Option<u8>
+    requires { at ≤ length line.now }
+    ensures within { IfSome result (λ version. at + 3 ≤ length line.now) }
+    ensures digits { IfSome result (λ version. drop at line.now ≡ 32 ∷ (48 + version) ∷ 32
+        ∷ drop (at + 3) line.now) }
+    ensures known { IfSome result (λ version. (1 ≤ version) × (version ≤ 2)) }
 {
-    let [digit, b' ', rest @ ..] = numbers else {
-        return None;
-    };
-    let version = version_of(*digit)?;
-    Some((version, rest))
-}
-
-/// The line of a message, read from what follows its level.
-#[inline(always)]
-fn short_message(rest: &[u8]) -> Option<ShortLine>
-    requires short { 2 + length rest.now ≤ LONGEST_LINE }
-    ensures { IfSome result (λ line. SaysAt 0 (48 ∷ 32
-        ∷ rest.now) (short_level line) (short_node line)) }
-{
-    let (name, numbers) = split_once(rest, b' ')?;
-    let (version, digits) = version_ahead(numbers)?;
-    let id = numeral(digits)?;
-    if id > u32::MAX as u128 {
+    if line.len() - at < 3 {
         return None;
     }
-    let kind = msg_named(name)?;
+    if line[at] != b' ' {
+        return None;
+    }
+    if line[at + 2] != b' ' {
+        return None;
+    }
+    let version = version_of(line[at + 1])?;
+    Some(version)
+}
+
+/// The line of a message of this kind, if it has the kind's name.
+#[inline(always)]
+fn message_named(line: &[u8], kind: MsgKind) -> Option<ShortLine>
+    requires short { length line.now ≤ LONGEST_LINE }
+    requires starts { line.now ≡ 48 ∷ 32 ∷ drop 2 line.now }
+    ensures { IfSome result (λ short. SaysAt 0 line.now (short_level short) (short_node short)) }
+{
+    let end = name_end(line, Kind::Message(kind))?;
+    let version = version_at(line, end)?;
+    let id = number_from(line, end + 3)?;
+    if id > u32::MAX as u64 {
+        return None;
+    }
     if !is_bare(Kind::Message(kind)) {
         return None;
     }
@@ -195,21 +289,48 @@ fn short_message(rest: &[u8]) -> Option<ShortLine>
     })
 }
 
-/// Reads a whole line, below this many open lines, by the short way, if that can read it.
+/// The line of a message, by its name.
+#[inline(never)]
+fn other_message(line: &[u8]) -> Option<ShortLine>
+    requires short { length line.now ≤ LONGEST_LINE }
+    requires starts { line.now ≡ 48 ∷ 32 ∷ drop 2 line.now }
+    ensures { IfSome result (λ short. SaysAt 0 line.now (short_level short) (short_node short)) }
+{
+    let (_, rest) = line.split_at(2);
+    let (name, _) = split_once(rest, b' ')?;
+    let kind = msg_named(name)?;
+    message_named(line, kind)
+}
+
+/// The line of a message: of the kind that is expected, or of the one whose name it has.
 #[inline(always)]
-pub fn read_short(line: &[u8], depth: usize) -> Option<ShortLine>
+fn short_message(line: &[u8], expected: MsgKind) -> Option<ShortLine>
+    requires short { length line.now ≤ LONGEST_LINE }
+    requires starts { line.now ≡ 48 ∷ 32 ∷ drop 2 line.now }
+    ensures { IfSome result (λ short. SaysAt 0 line.now (short_level short) (short_node short)) }
+{
+    match message_named(line, expected) {
+        Some(short) => Some(short),
+        None => other_message(line),
+    }
+}
+
+/// Reads a whole line, below this many open lines, by the short way, if that can read it. The kinds
+/// that are expected are tried first.
+#[inline(always)]
+pub fn read_short(line: &[u8], depth: usize, guess: &Guess) -> Option<ShortLine>
     ensures { IfSome result (λ short. SaysAt depth line.now (short_level short)
         (short_node short)) }
 {
     if line.len() > LONGEST_LINE {
         return None;
     }
-    let [digit, b' ', rest @ ..] = line else {
+    let [digit, b' ', ..] = line else {
         return None;
     };
     if *digit == b'0' {
-        return short_message(rest);
+        return short_message(line, guess.message());
     }
     let level = level_of(*digit, depth)?;
-    short_parameter(level, rest)
+    short_parameter(level, line, guess.parameter())
 }
