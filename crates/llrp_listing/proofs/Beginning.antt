@@ -22,6 +22,7 @@ use Rattle.llrp_listing.specs.OpenTextSteps.{depth, push}
 use Rattle.llrp_listing.proofs.Closings.{all_closed_more, begins_parameter, closed_trans}
 use Rattle.llrp_listing.proofs.Growing.{covers_pop}
 use Rattle.llrp_listing.proofs.Rows.{spells_nothing}
+use Rattle.llrp_listing.specs.declared.encode.lines.Begun.{Begun}
 use Rattle.llrp_listing.specs.declared.encode.rows.Held.{Held}
 use Rattle.llrp_listing.specs.declared.encode.writer.Refused.{Refused}
 use Rattle.llrp_listing.specs.declared.encode.writer.Writer.{Writer}
@@ -198,6 +199,10 @@ opens_parameter limit level mid new at held put out more ns line number least t 
     }
 
 -- ---- octets that are put after others
+
+-- a line that can begin, by what is kept of it
+pub begun_can : (begun is : Begun) (more : List ℕ) (line : NodeLine) (number : ℕ) → begun ≡ is → CanBegin is.held is.put more line number → CanBegin begun.held begun.put more line number
+begun_can begun is more line number e can = subst (λ (b : Begun). CanBegin b.held b.put more line number) (sym e) can
 
 pub put_after : (old mid : Writer) (at : ℕ) (out more : List ℕ) (ns : List OpenNode) → Holds old (length old.room.items) out [] ns → at ≡ length old.room.items → mid.room.items ≡ old.room.items ++ more → mid.from ≡ old.from → mid.kept ≡ old.kept → mid.limit ≡ old.limit → inner mid.rows ≡ inner old.rows → Holds mid at out more ns
 put_after old mid at out more ns h e room from kept limit rows = record {

@@ -23,6 +23,7 @@ pub mod LineWords
 pub mod Listed
 pub mod MessageSteps
 pub mod NamedLines
+pub mod NearLemmas
 pub mod NodeFaults
 pub mod NumberWords
 pub mod Numerals

@@ -121,12 +121,14 @@ both_pass true false e = absurd cc
 both_pass false b e = absurd cc
 
 -- what passed, once there is no fault
-pub passed : (kind : Kind) (values tail : List ℕ) (fault : Option NodeFault) (put : Bool) → fault ≡ two_tests kind values tail → put ≡ is_none fault → put ≡ true → (values_fit (fields_of kind) values ≡ true) × (tail_fits (tail_of kind) values tail ≡ true)
-passed kind values tail fault put f p t = on fault f (sym p ∙ t)
-  where
-    on : (fault : Option NodeFault) → fault ≡ two_tests kind values tail → is_none fault ≡ true → (values_fit (fields_of kind) values ≡ true) × (tail_fits (tail_of kind) values tail ≡ true)
-    on None f e = both_pass (values_fit (fields_of kind) values) (tail_fits (tail_of kind) values tail) (sym f)
-    on (Some x) f e = absurd cc
+pub passed : (kind : Kind) (values tail : List ℕ) (fault : Option NodeFault) → fault ≡ two_tests kind values tail → fault ≡ None → (values_fit (fields_of kind) values ≡ true) × (tail_fits (tail_of kind) values tail ≡ true)
+passed kind values tail fault f none = both_pass (values_fit (fields_of kind) values) (tail_fits (tail_of kind) values tail) (sym f ∙ none)
+
+-- a kind without fields and tail has nothing that can fail
+pub bare_passes : (kind : ParamKind) → fields_of (Parameter kind) ≡ [] → tail_of (Parameter kind) ≡ form.Absent → None ≡ two_tests (Parameter kind) [] []
+bare_passes kind e f =
+    sym (ap (λ (rules : List FieldRule). first_failed ((values_fit rules [], Value) ∷ (tail_fits (tail_of (Parameter kind)) [] [], BadTail) ∷ [])) e
+    ∙ ap (λ (t : Tail). first_failed ((values_fit [] [], Value) ∷ (tail_fits t [] [], BadTail) ∷ [])) f)
 
 pub words_fit : (f : Tail) (values tail : List ℕ) → tail_fits f values tail ≡ true → f ≡ form.Words → length tail / 2 ≤ 65535
 words_fit f values tail e is = let p = both _ (nat_le (length tail / 2) 65535) (sym (ap (λ (x : Tail). tail_fits x values tail) is) ∙ e) in leb-true (length tail / 2) 65535 p.1

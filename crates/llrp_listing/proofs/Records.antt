@@ -1,5 +1,5 @@
 -- The record of the innermost line.
-use Rattle.std.proofs.Common.{◌≡◌, ℕ, zero, suc, ◌-◌, ◌≤◌, List, [], ◌∷◌, ◌++◌, length, take, drop, refl, sym, ap, ◌∙◌, arith, length-append}
+use Rattle.std.proofs.Common.{◌≡◌, ℕ, zero, suc, ◌-◌, ◌≤◌, List, [], ◌∷◌, ◌++◌, length, take, drop, get_or, refl, sym, ap, ◌∙◌, arith, length-append}
 use Rattle.std.specs.Prelude.{reverse, slice_set}
 use Rattle.std.specs.List.{refill}
 use Rattle.std.proofs.Math.Seq.{take-append_seam}
@@ -40,3 +40,25 @@ top_set xs now count held some e f =
     ∙ ap (λ (z : List Held). reverse z) (refilled (take i xs ++ (held ∷ [])) xs same)
     ∙ reverse-append (take i xs) (held ∷ [])
     ∙ ap (λ (z : List Held). held ∷ z) (sym (outside xs i long))
+
+-- the last of some elements
+at_end : (ys : List Held) (x d : Held) (i : ℕ) → length ys ≡ i → get_or (ys ++ (x ∷ [])) i d ≡ x
+at_end [] x d zero e = refl
+at_end [] x d (suc i) e = absurd (omega (arith, e))
+at_end (y ∷ ys) x d zero e = absurd (omega (arith, e))
+at_end (y ∷ ys) x d (suc i) e = at_end ys x d i (omega (arith, e))
+
+same_line : (top held : Held) → held.kind ≡ top.kind → held.number ≡ top.number → record held { kind = top.kind; number = top.number } ≡ held
+same_line top held k n = λ i. record held { kind = sym k i; number = sym n i }
+
+-- the innermost record is changed to one of the same line
+pub top_changed : (xs now : List Held) (count : ℕ) (held d : Held) → 1 ≤ count → count ≡ length xs → now ≡ xs → ((top : Held) (rest : List Held) → reverse xs ≡ top ∷ rest → (held.kind ≡ top.kind) × (held.number ≡ top.number))
+    → reverse (refill (length xs) xs (slice_set now (count - 1) (record held { kind = (get_or now (count - 1) d).kind; number = (get_or now (count - 1) d).number }))) ≡ held ∷ drop 1 (reverse xs)
+top_changed xs now count held d some e f line =
+    let i = length xs - 1 in
+    let long : length xs ≡ suc i = omega (arith, some, e) in
+    let t = last_apart xs i long in
+    let there : get_or now (count - 1) d ≡ t.0 = ap (λ (k : ℕ). get_or now (k - 1) d) e ∙ ap (λ (z : List Held). get_or z i d) (f ∙ t.1) ∙ at_end (take i xs) t.0 d i (length-take-le i xs (omega (arith, long))) in
+    let same = line t.0 (reverse (take i xs)) (ap (λ (z : List Held). reverse z) t.1 ∙ reverse-append (take i xs) (t.0 ∷ [])) in
+    let is = same_line (get_or now (count - 1) d) held (same.0 ∙ ap (λ (h : Held). h.kind) (sym there)) (same.1 ∙ ap (λ (h : Held). h.number) (sym there)) in
+    ap (λ (h : Held). reverse (refill (length xs) xs (slice_set now (count - 1) h))) is ∙ top_set xs now count held some e f

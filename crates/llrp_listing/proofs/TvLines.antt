@@ -79,11 +79,6 @@ value_below kind rule value fault o e none = lt_of_le_ones rule.width (subst (λ
     on true h = refl
     on false h = absurd cc
 
--- what is put has no fault
-pub none_put : (fault : Option NodeFault) → is_none fault ≡ true → fault ≡ None
-none_put None e = refl
-none_put (Some fault) e = absurd cc
-
 -- ---- a line of one value without a tail
 
 pub one_number : (values : List ℕ) (d : ℕ) → 1 ≤ length values → length values < 2 → values ≡ get_or values 0 d ∷ []

@@ -1,7 +1,9 @@
 -- The octets of a line that begins.
-use Rattle.std.specs.Prelude.{◌≡◌, ℕ, List, ◌++◌}
+use Rattle.std.specs.Prelude.{◌≡◌, ℕ, List, ◌++◌, is_none}
+use Rattle.llrp_schema.specs.declared.kinds.Kind.{Kind}
 use Rattle.llrp_listing.specs.NodeLine.{NodeLine}
 use Rattle.llrp_listing.specs.declared.encode.lines.Begun.{Begun}
+use Rattle.llrp_listing.specs.declared.encode.lines.Own.{Own}
 use Rattle.llrp_listing.specs.Writer.{CanBegin}
 
 -- The line's octets were appended, and it can begin.
@@ -9,3 +11,11 @@ pub record Puts (old new : List ℕ) (begun : Begun) (line : NodeLine) (number :
   pub more : List ℕ
   pub appended : new ≡ old ++ more
   pub can : CanBegin begun.held begun.put more line number
+
+-- what is kept of a line with nothing below it
+abbrev pub begun_line : Kind → ℕ → Own → Begun
+begun_line kind number own = record { held = record { kind = kind; number = number; fault = own.fault; seen = 0; levels = 0; octets = own.octets }; put = is_none own.fault }
+
+-- the same, whatever the line's number is
+abbrev pub PutsOwn : List ℕ → List ℕ → Own → NodeLine → Type 0
+PutsOwn old new own line = (number : ℕ) → Puts old new (begun_line line.kind number own) line number

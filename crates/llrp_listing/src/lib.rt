@@ -20,6 +20,7 @@ mod hexadecimal;
 pub mod laws;
 mod line;
 mod listing;
+mod near;
 mod number;
 mod printing;
 mod show;

@@ -119,7 +119,10 @@ pub fn signed_from(line: &[u8], from: usize) -> Option<u64>
 {
     if line[from] == b'-' {
         let size = number_from(line, from + 1)?;
-        if size == 0 || size > 128 {
+        if size == 0 {
+            return None;
+        }
+        if size > 128 {
             return None;
         }
         return Some(256 - size);

@@ -1,7 +1,8 @@
 -- The octets of a number at the front of sixteen.
-use Rattle.std.proofs.Common.{◌≡◌, ℕ, zero, suc, ◌+◌, ◌-◌, ◌*◌, ◌/◌, ◌%◌, ◌^◌, ◌<◌, ◌≤◌, List, [], ◌∷◌, ◌++◌, Bool, refl, sym, ap, ◌∙◌, subst, arith, length, take, length-append}
+use Rattle.std.proofs.Common.{◌≡◌, ℕ, zero, suc, ◌+◌, ◌-◌, ◌*◌, ◌/◌, ◌%◌, ◌^◌, ◌<◌, ◌≤◌, List, [], ◌∷◌, ◌++◌, Bool, refl, sym, ap, ◌∙◌, subst, arith, append_assoc, length, take, length-append}
 use Rattle.std.specs.Int.{bytes_high_first}
-use Rattle.std.proofs.lemmas.Nat.{pow-add, pow_pos, shr_below, mod_below}
+use Rattle.std.proofs.lemmas.Nat.{pow_pos, shr_below, mod_below}
+use Rattle.std.proofs.Math.Nat.{pow-le-pow_right}
 use Rattle.tag_bits.specs.Digits.{digits, digits_of_bytes}
 use Rattle.tag_bits.proofs.DigitLemmas.{digits-join, digits-split, length-digits, take-seam}
 use Rattle.tag_bits.proofs.ByteLemmas.{bytes-append, take-bytes}
@@ -53,4 +54,35 @@ front_octets bits n some few whole lt =
           ∙ ap (λ (x : ℕ). take x (digits_of_bytes bytes)) eight
           ∙ ap (λ (x : List Bool). take bits x) seen
           ∙ take-seam bits (digits bits n) (digits j 0) (length-digits bits n);
+    }
+
+-- a number of at most 64 bits is 64 bits wide
+pub small_number : (n bits : ℕ) → n < 2 ^ bits → bits ≤ 64 → n < 2 ^ 64
+small_number n bits lt few = let p : 2 ^ bits ≤ 2 ^ 64 = pow-le-pow_right (omega arith) few in omega (arith, lt, p)
+
+-- the same of eight octets, and eight zeros after them
+pub narrow_octets : (bits n upper : ℕ) → 8 ≤ bits → bits ≤ 64 → bits % 8 ≡ 0 → n < 2 ^ bits → upper ≡ n * 2 ^ (64 - bits) % 2 ^ 64 → Appends [] (take (bits / 8) (both_halves upper 0)) (digits bits n)
+narrow_octets bits n upper some few whole lt e =
+    let j = 64 - bits in
+    let w : bits + j ≡ 64 = omega arith in
+    let fits : n * 2 ^ j + 0 < 2 ^ 64 = subst (λ (x : ℕ). n * 2 ^ j + 0 < 2 ^ x) w (below_joined bits j n 0 lt (pow_pos j)) in
+    let is : upper ≡ n * 2 ^ j + 0 = e ∙ omega (arith, fits) in
+    let below : upper < 2 ^ 64 = omega (arith, fits, is) in
+    let bytes = both_halves upper 0 in
+    let long : length bytes ≡ 16 = length-append (bytes_high_first 8 upper) (bytes_high_first 8 0) in
+    let zeros = digits_of_bytes (bytes_high_first 8 0) in
+    let seen : digits_of_bytes bytes ≡ digits bits n ++ (digits j 0 ++ zeros) =
+    bytes-append (bytes_high_first 8 upper) (bytes_high_first 8 0)
+    ∙ ap (λ (x : List Bool). x ++ zeros) (bytes_spell 8 upper below ∙ ap (λ (x : ℕ). digits 64 x) is ∙ ap (λ (x : ℕ). digits x (n * 2 ^ j + 0)) (sym w) ∙ digits-join bits j n 0 lt (pow_pos j))
+    ∙ append_assoc (digits bits n) (digits j 0) zeros in
+    let eight : 8 * (bits / 8) ≡ bits = omega arith in
+    record {
+      more = take (bits / 8) bytes;
+      whole = refl;
+      octets = octets_first (bits / 8) bytes (octets-append (bytes_high_first 8 upper) (bytes_high_first 8 0) (bytes_are_octets 8 upper) (bytes_are_octets 8 0));
+      spelled =
+          sym (take-bytes (bits / 8) bytes (omega (arith, long)))
+          ∙ ap (λ (x : ℕ). take x (digits_of_bytes bytes)) eight
+          ∙ ap (λ (x : List Bool). take bits x) seen
+          ∙ take-seam bits (digits bits n) (digits j 0 ++ zeros) (length-digits bits n);
     }

@@ -33,8 +33,8 @@ pub use parts::{own_fault, own_octets};
 pub use reading::decode_frame;
 pub use spelling::{EncodeErr, encode_into};
 pub use starts::{
-    Front, Start, message_front, message_start, parameter_front, parameter_start, tv_front,
-    tv_start,
+    Front, Start, bare_front, message_front, message_start, parameter_front, parameter_start,
+    tv_front, tv_start,
 };
 pub use writing::Spelling;
 

@@ -3,9 +3,9 @@
 ghost use Rattle.std.specs.Prelude.{◌≡◌, ◌≤◌, ◌<◌, ◌+◌, ◌*◌, ◌/◌, ◌%◌, ◌^◌, ◌++◌, ◌∷◌, [], length, map, true};
 ghost use Rattle.tag_bits.specs.Digits.{digits};
 ghost use Rattle.llrp_schema.specs.declared.kinds.Kind.TheVariants.{Message as AsMessage, Parameter};
-ghost use Rattle.llrp_schema.specs.declared.kinds.Tail.TheVariants.{Text, Words};
+ghost use Rattle.llrp_schema.specs.declared.kinds.Tail.TheVariants.{Absent, Text, Words};
 ghost use Rattle.llrp_schema.specs.Schema.{bits_of, field_rule, fields_of, tail_of};
-ghost use Rattle.llrp_tree.specs.Lawful.{count_octets, head_octets};
+ghost use Rattle.llrp_tree.specs.Lawful.{count_octets, head_octets, own_octets};
 ghost use Rattle.llrp_tree.specs.Checks.{values_fit};
 ghost use Rattle.llrp_tree.specs.Spelling.{head_of, head_digits, count_digits, message as message_head};
 ghost use Rattle.llrp_tree.specs.Spelled.{Holds, IsInFront, IsOnlyField, all_fields, message_start, message_start_digits, parameter_start, start_digits};
@@ -172,12 +172,22 @@ fn in_front(packed: Packed) -> Front
     requires whole { packed.bits % 8 ≡ 0 }
     ensures spelled { IsInFront result (digits packed.bits packed.number) }
     ensures few { result.count ≤ 16 }
+    ensures count { result.count ≡ packed.bits / 8 }
 {
+    let count = packed.bits as usize / 8;
+    if packed.bits <= 64 {
+        let upper = (packed.number as u64) << (64 - packed.bits);
+        return Front {
+            upper,
+            lower: 0,
+            count,
+        };
+    }
     let all = packed.number << (128 - packed.bits);
     Front {
         upper: (all >> 64) as u64,
         lower: (all % 0x1_0000_0000_0000_0000) as u64,
-        count: packed.bits as usize / 8,
+        count,
     }
 }
 
@@ -226,6 +236,18 @@ pub fn parameter_front(kind: ParamKind, values: &[u128], tail: &[u8]) -> Front
     ensures few { result.count ≤ 16 }
 {
     in_front(parameter_bits(kind, 0, values, tail))
+}
+
+/// The same of a parameter that has neither fields nor a tail.
+#[inline(always)]
+pub fn bare_front(kind: ParamKind) -> Front
+    requires fields { fields_of (Parameter kind) ≡ [] }
+    requires tail { tail_of (Parameter kind) ≡ Absent }
+    ensures spelled { IsInFront result (parameter_start kind 0 [] []) }
+    ensures few { result.count ≤ 16 }
+    ensures all { result.count ≡ own_octets (Parameter kind) [] }
+{
+    in_front(head(kind, 0))
 }
 
 /// The bits of a parameter with type and value (TV), by the rule of its one field.

@@ -146,7 +146,8 @@ fn count_child(kind: Kind, fault: Option<NodeFault>, seen: u32, child: ParamKind
 #[inline(always)]
 pub fn add_child(parent: &Held, child: &Held, kind: ParamKind) -> Held
     requires { child.now.levels < 255 }
-    ensures { (n p : OpenNode) → IsHeld child.now n → n.line.kind ≡ Parameter kind
+    ensures same { (result.kind ≡ parent.now.kind) × (result.number ≡ parent.now.number) }
+    ensures held { (n p : OpenNode) → IsHeld child.now n → n.line.kind ≡ Parameter kind
         → node_fault n.line n.children ≡ None → IsHeld parent.now p
         → IsHeld result (with_child kind n p) }
 {

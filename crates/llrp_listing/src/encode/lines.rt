@@ -1,19 +1,20 @@
 //! A line that was read: its own tests, its record, and its octets.
 
-ghost use Rattle.std.specs.Prelude.{◌≡◌, ◌∷◌, ◌++◌, ◌≤◌, IfOk, OnOk, [], is_none, min, nat_le, take, true};
+ghost use Rattle.std.specs.Prelude.{◌≡◌, ◌∷◌, ◌++◌, ◌≤◌, IfOk, IsTrue, OnOk, [], min, nat_le, take, true};
 ghost use Rattle.llrp_schema.specs.declared.kinds.Kind.TheVariants.{Message, Parameter};
-ghost use Rattle.llrp_schema.specs.Schema.{is_tv};
+ghost use Rattle.llrp_schema.specs.declared.kinds.Tail.TheVariants.{Absent};
+ghost use Rattle.llrp_schema.specs.Schema.{fields_of, is_tv, tail_of};
 ghost use Rattle.llrp_tree.specs.declared.node.NodeFault.TheVariants.{Value};
 ghost use Rattle.llrp_tree.specs.Checks.{first_failed};
 ghost use Rattle.llrp_tree.specs.Lawful.{own_octets};
 ghost use Rattle.llrp_tree.specs.Spelled.{both_halves};
 ghost use Rattle.llrp_listing.specs.OpenNodes.{IsSaid, MOST};
-ghost use Rattle.llrp_listing.specs.LineOctets.{Puts};
+ghost use Rattle.llrp_listing.specs.LineOctets.{PutsOwn, begun_line};
 
 use crate::encode::rows::Held;
-use llrp_schema::{Field, Kind, MsgKind, ParamKind};
+use llrp_schema::{Field, Kind, MsgKind, ParamKind, Tail};
 use llrp_tree::{
-    Front, NodeFault, message_front, own_fault, own_octets, parameter_front, tv_front,
+    Front, NodeFault, bare_front, message_front, own_fault, own_octets, parameter_front, tv_front,
 };
 use std::alloc::AllocError;
 
@@ -40,35 +41,28 @@ pub struct Begun {
     pub put: bool,
 }
 
+/// The first test of its own that a line fails, and how many octets it has.
+#[derive(Clone, Copy)]
+pub struct Own {
+    pub fault: Option<NodeFault>,
+    pub octets: u32,
+}
+
 /// The record of a line with nothing below it.
 #[inline(always)]
-fn first_of_line(kind: Kind, number: u64, fault: Option<NodeFault>, octets: u32) -> Begun
-    ensures { result ≡ record {
-      held = record {
-        kind = kind;
-        number = number;
-        fault = fault;
-        seen = 0;
-        levels = 0;
-        octets = octets;
-      };
-      put = is_none fault;
-    } }
+pub fn begun_by(kind: Kind, number: u64, own: Own) -> Begun
+    ensures { result ≡ begun_line kind number own }
 {
-    let put = match fault {
-        Some(_) => false,
-        None => true,
-    };
     Begun {
         held: Held {
             kind,
             number,
-            fault,
+            fault: own.fault,
             seen: 0,
             levels: 0,
-            octets,
+            octets: own.octets,
         },
-        put,
+        put: own.fault.is_none(),
     }
 }
 
@@ -112,101 +106,140 @@ fn value_fault(rule: &Field, value: u128) -> Option<NodeFault>
     None
 }
 
+/// Whether the lines of a kind have no field and no tail.
+#[inline(always)]
+pub fn is_bare(kind: Kind) -> bool
+    ensures fields { IsTrue result → fields_of kind ≡ [] }
+    ensures tail { IsTrue result → tail_of kind ≡ Absent }
+{
+    if !llrp_schema::fields(kind).is_empty() {
+        return false;
+    }
+    matches!(llrp_schema::tail(kind), Tail::Absent)
+}
+
+/// Appends the octets of a parameter that has neither fields nor a tail.
+#[inline(always)]
+fn put_bare(room: &mut Vec<u8>, kind: ParamKind) -> Result<Own, AllocError>
+    requires fields { fields_of (Parameter kind) ≡ [] }
+    requires tail { tail_of (Parameter kind) ≡ Absent }
+    requires said { IsSaid (record { kind = Parameter kind; numbers = []; tail = [] }) }
+    ensures { IfOk result (λ own. PutsOwn room.old.items room.new.items own
+        (record { kind = Parameter kind; numbers = []; tail = [] })) }
+{
+    let front = bare_front(kind);
+    append_front(room, &front)?;
+    Ok(Own {
+        fault: None,
+        octets: front.count as u32,
+    })
+}
+
 /// Appends the octets of a parameter that has a type and a value alone.
 #[inline(always)]
-fn put_tv(
-    room: &mut Vec<u8>,
-    number: u64,
-    kind: ParamKind,
-    value: u128,
-) -> Result<Begun, AllocError>
+fn put_tv(room: &mut Vec<u8>, kind: ParamKind, value: u128) -> Result<Own, AllocError>
     requires tv { is_tv kind ≡ true }
     requires said { IsSaid (record { kind = Parameter kind; numbers = value ∷ []; tail = [] }) }
-    ensures { IfOk result (λ begun. Puts room.old.items room.new.items begun
-        (record { kind = Parameter kind; numbers = value ∷ []; tail = [] }) number) }
+    ensures { IfOk result (λ own. PutsOwn room.old.items room.new.items own
+        (record { kind = Parameter kind; numbers = value ∷ []; tail = [] })) }
 {
     let [rule] = llrp_schema::fields(Kind::Parameter(kind)) else {
-        return put_any(room, number, kind, &[value], &[]);
+        return put_any(room, kind, &[value], &[]);
     };
-    let fault = value_fault(rule, value);
     let octets = 1 + rule.width / 8;
-    let begun = first_of_line(Kind::Parameter(kind), number, fault, octets);
-    if begun.put {
-        let front = tv_front(kind, rule, value);
-        append(room, &front, &[])?;
+    let fault = value_fault(rule, value);
+    match fault {
+        Some(_) => Ok(Own { fault, octets }),
+        None => {
+            let front = tv_front(kind, rule, value);
+            append_front(room, &front)?;
+            Ok(Own { fault, octets })
+        }
     }
-    Ok(begun)
 }
 
 /// Appends the octets of a parameter's line.
 #[inline(always)]
 pub fn put_parameter(
     room: &mut Vec<u8>,
-    number: u64,
     kind: ParamKind,
     values: &[u128],
     tail: &[u8],
-) -> Result<Begun, AllocError>
+) -> Result<Own, AllocError>
     requires { IsSaid (record { kind = Parameter kind; numbers = values.now; tail = tail.now }) }
-    ensures { IfOk result (λ begun. Puts room.old.items room.new.items begun
-        (record { kind = Parameter kind; numbers = values.now; tail = tail.now }) number) }
+    ensures { IfOk result (λ own. PutsOwn room.old.items room.new.items own
+        (record { kind = Parameter kind; numbers = values.now; tail = tail.now })) }
 {
-    let [value] = values else {
-        return put_any(room, number, kind, values, tail);
-    };
-    if tail.len() > 0 || !llrp_schema::is_tv(kind) {
-        return put_any(room, number, kind, values, tail);
+    if tail.len() > 0 {
+        return put_any(room, kind, values, tail);
     }
-    put_tv(room, number, kind, *value)
+    match values {
+        [] => {
+            if !is_bare(Kind::Parameter(kind)) {
+                return put_any(room, kind, values, tail);
+            }
+            put_bare(room, kind)
+        }
+        [value] => {
+            if !llrp_schema::is_tv(kind) {
+                return put_any(room, kind, values, tail);
+            }
+            put_tv(room, kind, *value)
+        }
+        _ => put_any(room, kind, values, tail),
+    }
 }
 
 /// Appends the octets of the line of a parameter of any kind.
+#[inline(never)]
 fn put_any(
     room: &mut Vec<u8>,
-    number: u64,
     kind: ParamKind,
     values: &[u128],
     tail: &[u8],
-) -> Result<Begun, AllocError>
+) -> Result<Own, AllocError>
     requires { IsSaid (record { kind = Parameter kind; numbers = values.now; tail = tail.now }) }
-    ensures { IfOk result (λ begun. Puts room.old.items room.new.items begun
-        (record { kind = Parameter kind; numbers = values.now; tail = tail.now }) number) }
+    ensures { IfOk result (λ own. PutsOwn room.old.items room.new.items own
+        (record { kind = Parameter kind; numbers = values.now; tail = tail.now })) }
 {
     let fault = own_fault(Kind::Parameter(kind), values, tail);
     let octets = parameter_octets(kind, tail);
-    let begun = first_of_line(Kind::Parameter(kind), number, fault, octets);
-    if begun.put {
-        let front = parameter_front(kind, values, tail);
-        append(room, &front, tail)?;
+    match fault {
+        Some(_) => Ok(Own { fault, octets }),
+        None => {
+            let front = parameter_front(kind, values, tail);
+            append(room, &front, tail)?;
+            Ok(Own { fault, octets })
+        }
     }
-    Ok(begun)
 }
 
 /// Appends the octets of a message's line.
 #[inline(always)]
 pub fn put_message(
     room: &mut Vec<u8>,
-    number: u64,
     kind: MsgKind,
     version: u8,
     id: u32,
     values: &[u128],
-) -> Result<Begun, AllocError>
+) -> Result<Own, AllocError>
     requires { IsSaid (record {
       kind = Message kind;
       numbers = version ∷ id
           ∷ values.now;
       tail = [];
     }) }
-    ensures { IfOk result (λ begun. Puts room.old.items room.new.items begun
-        (record { kind = Message kind; numbers = version ∷ id ∷ values.now; tail = [] }) number) }
+    ensures { IfOk result (λ own. PutsOwn room.old.items room.new.items own
+        (record { kind = Message kind; numbers = version ∷ id ∷ values.now; tail = [] })) }
 {
     let fault = own_fault(Kind::Message(kind), values, &[]);
     let octets = message_octets(kind);
-    let begun = first_of_line(Kind::Message(kind), number, fault, octets);
-    if begun.put {
-        let front = message_front(version, kind, id, values);
-        append(room, &front, &[])?;
+    match fault {
+        Some(_) => Ok(Own { fault, octets }),
+        None => {
+            let front = message_front(version, kind, id, values);
+            append(room, &front, &[])?;
+            Ok(Own { fault, octets })
+        }
     }
-    Ok(begun)
 }

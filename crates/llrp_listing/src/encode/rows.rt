@@ -1,7 +1,8 @@
 //! The records of open lines.
 
-ghost use Rattle.std.specs.Prelude.{◌≡◌, ◌≤◌, ◌∷◌, [], drop, length, MatchOption};
+ghost use Rattle.std.specs.Prelude.{◌≡◌, ◌≤◌, ◌∷◌, List, [], drop, length, MatchOption};
 ghost use Rattle.llrp_tree.specs.declared.TheConstants.{MAX_DEPTH};
+ghost use Rattle.llrp_listing.specs.declared.encode.rows.Held.{Held};
 ghost use Rattle.llrp_listing.specs.Writer.{inner};
 
 use arrayvec::ArrayVec;
@@ -91,13 +92,19 @@ impl Rows {
         self.items.as_slice().last()
     }
 
-    /// Puts a record in place of the innermost line's.
+    /// Puts a record in place of the innermost line's, which is one of the same line.
     #[inline(always)]
     pub fn set_top(&mut self, held: Held)
-        requires { 1 ≤ length (inner self.old) }
+        requires some { 1 ≤ length (inner self.old) }
+        requires kind { (top : Held) (rest : List Held) → inner self.old ≡ top ∷ rest
+            → (held.kind ≡ top.kind) × (held.number ≡ top.number) }
         ensures { inner self.new ≡ held ∷ drop 1 (inner self.old) }
     {
         let last = self.items.len() - 1;
-        self.items.as_mut_slice()[last] = held;
+        let top = &mut self.items.as_mut_slice()[last];
+        top.fault = held.fault;
+        top.seen = held.seen;
+        top.levels = held.levels;
+        top.octets = held.octets;
     }
 }

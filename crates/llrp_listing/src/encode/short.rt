@@ -13,10 +13,12 @@ ghost use Rattle.llrp_listing.specs.NodeLine.{Epc, field_form};
 ghost use Rattle.llrp_listing.specs.ShortLines.{AreAllNumbers, short_level, short_node};
 
 use crate::encode::guess::Guess;
+use crate::encode::lines::is_bare;
 use crate::line::LONGEST_LINE;
+use crate::near::octets_alike;
 use crate::number::{EPC_BITS, number_from, numeral, read_epc, read_signed, signed_from};
 use crate::spaced::split_once;
-use llrp_schema::{Field, Kind, MsgKind, ParamKind, Tail, msg_named, param_named};
+use llrp_schema::{Field, Kind, Label, MsgKind, ParamKind, Tail, msg_named, param_named};
 use llrp_tree::MAX_DEPTH;
 use std::str;
 
@@ -53,18 +55,6 @@ fn epc_value(word: &[u8]) -> Option<u128>
         Ok(number) => Some(number),
         Err(_) => None,
     }
-}
-
-/// Whether the lines of a kind have no field and no tail.
-#[inline(always)]
-fn is_bare(kind: Kind) -> bool
-    ensures fields { IsTrue result → fields_of kind ≡ [] }
-    ensures tail { IsTrue result → tail_of kind ≡ Absent }
-{
-    if !llrp_schema::fields(kind).is_empty() {
-        return false;
-    }
-    matches!(llrp_schema::tail(kind), Tail::Absent)
 }
 
 /// The value of a field that is not reserved, from a place of a line to its end.
@@ -126,48 +116,64 @@ fn level_of(digit: u8, depth: usize) -> Option<usize>
     Some(level)
 }
 
-/// The first octets of a text.
+/// The first octets of a row.
 #[inline(always)]
-fn first_octets(text: &[u8; 32], octets: usize) -> &[u8]
+fn first_octets(row: &[u8; 32], octets: usize) -> &[u8]
     requires { octets ≤ 32 }
-    ensures { result.now ≡ take octets text.now }
+    ensures { result.now ≡ take octets row.now }
 {
-    text.as_slice().split_at(octets).0
+    row.as_slice().split_at(octets).0
+}
+
+/// Whether the name of a kind follows the level of a line and its space. It is compared at once where
+/// the text that the line begins is long enough.
+#[inline(always)]
+fn has_name(line: &[u8], text: &[u8], label: &Label) -> bool
+    requires line { take (length line.now) text.now ≡ line.now }
+    requires octets { label.now.octets ≤ 32 }
+    requires long { 2 + label.now.octets ≤ length line.now }
+    ensures { IsTrue result → take label.now.octets (drop 2 line.now) ≡ take label.now.octets
+        label.now.text }
+{
+    let octets = label.octets as usize;
+    if text.len() < 34 {
+        let (name, _) = line.split_at(2).1.split_at(octets);
+        return name == first_octets(&label.text, octets);
+    }
+    octets_alike(text.split_at(2).1, &label.text) >= label.octets as u32
 }
 
 /// The place after the name of a kind, if that follows the level of a line and its space.
 #[inline(always)]
-fn name_end(line: &[u8], kind: Kind) -> Option<usize>
-    requires { 2 ≤ length line.now }
+fn name_end(line: &[u8], text: &[u8], kind: Kind) -> Option<usize>
+    requires line { take (length line.now) text.now ≡ line.now }
     ensures within { IfSome result (λ end. end ≤ length line.now) }
     ensures named { IfSome result (λ end. drop 2 line.now ≡ name_of kind ++ drop end line.now) }
 {
     let label = llrp_schema::label(kind);
-    let octets = label.octets as usize;
-    let (_, rest) = line.split_at(2);
-    if rest.len() < octets {
+    let end = 2 + label.octets as usize;
+    if line.len() < end {
         return None;
     }
-    let (name, _) = rest.split_at(octets);
-    let front = first_octets(&label.text, octets);
-    if name != front {
+    if !has_name(line, text, label) {
         return None;
     }
-    Some(2 + octets)
+    Some(end)
 }
 
 /// The line of a parameter of this kind, if it has the kind's name.
 #[inline(always)]
-fn parameter_named(level: usize, line: &[u8], kind: ParamKind) -> Option<ShortLine>
+fn parameter_named(level: usize, line: &[u8], text: &[u8], kind: ParamKind) -> Option<ShortLine>
     requires least { 1 ≤ level }
     requires deep { level ≤ MAX_DEPTH }
     requires one { level < 10 }
+    requires text { take (length line.now) text.now ≡ line.now }
     requires short { length line.now ≤ LONGEST_LINE }
     requires starts { line.now ≡ (48 + level) ∷ 32 ∷ drop 2 line.now }
     ensures { IfSome result (λ short. SaysAt level line.now (short_level short)
         (short_node short)) }
 {
-    let end = name_end(line, Kind::Parameter(kind))?;
+    let end = name_end(line, text, Kind::Parameter(kind))?;
     if end == line.len() {
         if !is_bare(Kind::Parameter(kind)) {
             return None;
@@ -201,34 +207,36 @@ fn kind_named(line: &[u8]) -> Option<ParamKind>
 
 /// The line of a parameter: of the kind that is expected, or of the one whose name it has.
 #[inline(always)]
-fn short_parameter(level: usize, line: &[u8], expected: ParamKind) -> Option<ShortLine>
+fn short_parameter(level: usize, line: &[u8], text: &[u8], expected: ParamKind) -> Option<ShortLine>
     requires least { 1 ≤ level }
     requires deep { level ≤ MAX_DEPTH }
     requires one { level < 10 }
+    requires text { take (length line.now) text.now ≡ line.now }
     requires short { length line.now ≤ LONGEST_LINE }
     requires starts { line.now ≡ (48 + level) ∷ 32 ∷ drop 2 line.now }
     ensures { IfSome result (λ short. SaysAt level line.now (short_level short)
         (short_node short)) }
 {
-    match parameter_named(level, line, expected) {
+    match parameter_named(level, line, text, expected) {
         Some(short) => Some(short),
-        None => other_parameter(level, line),
+        None => other_parameter(level, line, text),
     }
 }
 
 /// The line of a parameter, by its name.
 #[inline(never)]
-fn other_parameter(level: usize, line: &[u8]) -> Option<ShortLine>
+fn other_parameter(level: usize, line: &[u8], text: &[u8]) -> Option<ShortLine>
     requires least { 1 ≤ level }
     requires deep { level ≤ MAX_DEPTH }
     requires one { level < 10 }
+    requires text { take (length line.now) text.now ≡ line.now }
     requires short { length line.now ≤ LONGEST_LINE }
     requires starts { line.now ≡ (48 + level) ∷ 32 ∷ drop 2 line.now }
     ensures { IfSome result (λ short. SaysAt level line.now (short_level short)
         (short_node short)) }
 {
     let kind = kind_named(line)?;
-    parameter_named(level, line, kind)
+    parameter_named(level, line, text, kind)
 }
 
 /// A message's version of one digit.
@@ -268,12 +276,13 @@ fn version_at(line: &[u8], at: usize) -> Option<u8>
 
 /// The line of a message of this kind, if it has the kind's name.
 #[inline(always)]
-fn message_named(line: &[u8], kind: MsgKind) -> Option<ShortLine>
+fn message_named(line: &[u8], text: &[u8], kind: MsgKind) -> Option<ShortLine>
+    requires text { take (length line.now) text.now ≡ line.now }
     requires short { length line.now ≤ LONGEST_LINE }
     requires starts { line.now ≡ 48 ∷ 32 ∷ drop 2 line.now }
     ensures { IfSome result (λ short. SaysAt 0 line.now (short_level short) (short_node short)) }
 {
-    let end = name_end(line, Kind::Message(kind))?;
+    let end = name_end(line, text, Kind::Message(kind))?;
     let version = version_at(line, end)?;
     let id = number_from(line, end + 3)?;
     if id > u32::MAX as u64 {
@@ -291,7 +300,8 @@ fn message_named(line: &[u8], kind: MsgKind) -> Option<ShortLine>
 
 /// The line of a message, by its name.
 #[inline(never)]
-fn other_message(line: &[u8]) -> Option<ShortLine>
+fn other_message(line: &[u8], text: &[u8]) -> Option<ShortLine>
+    requires text { take (length line.now) text.now ≡ line.now }
     requires short { length line.now ≤ LONGEST_LINE }
     requires starts { line.now ≡ 48 ∷ 32 ∷ drop 2 line.now }
     ensures { IfSome result (λ short. SaysAt 0 line.now (short_level short) (short_node short)) }
@@ -299,26 +309,28 @@ fn other_message(line: &[u8]) -> Option<ShortLine>
     let (_, rest) = line.split_at(2);
     let (name, _) = split_once(rest, b' ')?;
     let kind = msg_named(name)?;
-    message_named(line, kind)
+    message_named(line, text, kind)
 }
 
 /// The line of a message: of the kind that is expected, or of the one whose name it has.
 #[inline(always)]
-fn short_message(line: &[u8], expected: MsgKind) -> Option<ShortLine>
+fn short_message(line: &[u8], text: &[u8], expected: MsgKind) -> Option<ShortLine>
+    requires text { take (length line.now) text.now ≡ line.now }
     requires short { length line.now ≤ LONGEST_LINE }
     requires starts { line.now ≡ 48 ∷ 32 ∷ drop 2 line.now }
     ensures { IfSome result (λ short. SaysAt 0 line.now (short_level short) (short_node short)) }
 {
-    match message_named(line, expected) {
+    match message_named(line, text, expected) {
         Some(short) => Some(short),
-        None => other_message(line),
+        None => other_message(line, text),
     }
 }
 
-/// Reads a whole line, below this many open lines, by the short way, if that can read it. The kinds
-/// that are expected are tried first.
+/// Reads a whole line, at the front of a text and below this many open lines, by the short way, if that can read
+/// it. The kinds that are expected are tried first.
 #[inline(always)]
-pub fn read_short(line: &[u8], depth: usize, guess: &Guess) -> Option<ShortLine>
+pub fn read_short(line: &[u8], text: &[u8], depth: usize, guess: &Guess) -> Option<ShortLine>
+    requires { take (length line.now) text.now ≡ line.now }
     ensures { IfSome result (λ short. SaysAt depth line.now (short_level short)
         (short_node short)) }
 {
@@ -329,8 +341,8 @@ pub fn read_short(line: &[u8], depth: usize, guess: &Guess) -> Option<ShortLine>
         return None;
     };
     if *digit == b'0' {
-        return short_message(line, guess.message());
+        return short_message(line, text, guess.message());
     }
     let level = level_of(*digit, depth)?;
-    short_parameter(level, line, guess.parameter())
+    short_parameter(level, line, text, guess.parameter())
 }

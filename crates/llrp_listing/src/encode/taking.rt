@@ -6,10 +6,10 @@ ghost use Rattle.llrp_schema.specs.declared.kinds.Kind.TheVariants.{Message, Par
 ghost use Rattle.llrp_listing.specs.OpenNodes.{IsSaid};
 ghost use Rattle.llrp_listing.specs.Taking.{RestsDeep, TakeFails, Takes, line_level, line_node, said_level, said_node};
 
-use crate::encode::lines::{put_message, put_parameter};
+use crate::encode::lines::{begun_by, put_message, put_parameter};
 use crate::encode::writer::{Refused, Writer};
 use crate::line::Line;
-use llrp_schema::{MsgKind, ParamKind};
+use llrp_schema::{Kind, MsgKind, ParamKind};
 
 /// What a line says, wherever it is kept.
 #[derive(Clone, Copy)]
@@ -80,12 +80,15 @@ pub fn take_parameter(
     ensures stopped { IfErr result (TakeFails writer.old writer.new level) }
 {
     let at = writer.room.len();
-    match put_parameter(&mut writer.room, number, kind, values, tail) {
+    match put_parameter(&mut writer.room, kind, values, tail) {
         Err(_) => Err(TakeErr::Memory),
-        Ok(begun) => match writer.open_line(level, begun.held, begun.put, at) {
-            Ok(()) => Ok(()),
-            Err(refused) => Err(TakeErr::Refuses(refused)),
-        },
+        Ok(own) => {
+            let begun = begun_by(Kind::Parameter(kind), number, own);
+            match writer.open_line(level, begun.held, begun.put, at) {
+                Ok(()) => Ok(()),
+                Err(refused) => Err(TakeErr::Refuses(refused)),
+            }
+        }
     }
 }
 
@@ -112,12 +115,15 @@ pub fn take_message(
     ensures stopped { IfErr result (TakeFails writer.old writer.new 0) }
 {
     let at = writer.room.len();
-    match put_message(&mut writer.room, number, kind, version, id, values) {
+    match put_message(&mut writer.room, kind, version, id, values) {
         Err(_) => Err(TakeErr::Memory),
-        Ok(begun) => match writer.open_line(0, begun.held, begun.put, at) {
-            Ok(()) => Ok(()),
-            Err(refused) => Err(TakeErr::Refuses(refused)),
-        },
+        Ok(own) => {
+            let begun = begun_by(Kind::Message(kind), number, own);
+            match writer.open_line(0, begun.held, begun.put, at) {
+                Ok(()) => Ok(()),
+                Err(refused) => Err(TakeErr::Refuses(refused)),
+            }
+        }
     }
 }
 

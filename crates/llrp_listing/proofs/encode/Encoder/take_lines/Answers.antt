@@ -1,5 +1,6 @@
-use Rattle.std.proofs.Common.{◌≡◌, ◌++◌, ◌∷◌, [], ℕ, List, refl, sym, ap, ◌∙◌, arith, append_assoc, length-append, subst}
+use Rattle.std.proofs.Common.{◌≡◌, ◌++◌, ◌∷◌, [], ℕ, List, refl, sym, ap, ◌∙◌, arith, append_assoc, length, length-append, subst, take}
 use Rattle.std.specs.Prelude.{MatchResult}
+use Rattle.std.proofs.Math.Seq.{take-append_seam}
 use Rattle.std.proofs.lemmas.List.{append-nil}
 use Rattle.std.proofs.lemmas.Result.{err_from_is_err_and}
 use Rattle.llrp_listing.specs.Encoder.{Stopped}
@@ -63,3 +64,8 @@ end_line-requires-clause-stands g c = let (start, text, s) = c.requires.stands i
 
 pub go_on-requires-clause-stands : goal.go_on-requires-clause-stands
 go_on-requires-clause-stands g c = let (start, text, s) = c.requires.stands in (start, text ++ c.lines.invariant.taken, c.lines.invariant.stands start text s)
+
+pub end_line-requires-clause-ahead : goal.end_line-requires-clause-ahead
+end_line-requires-clause-ahead g c =
+    let part = c.in-Some.part.now in
+    ap (λ (z : List ℕ). take (length part) z) c.in-Some.ensures.1 ∙ take-append_seam part (10 ∷ c.in-Some.after.now)

@@ -18,8 +18,8 @@ is_lawful held n kind h is fine =
 octets_of : (n : OpenNode) (kind : ParamKind) → n.line.kind ≡ Parameter kind → node_octets n ≡ head_octets kind + body_octets (Parameter kind) n.line.tail + octets n.children
 octets_of n kind is = ap (λ (k : Kind). own_octets k n.line.tail + octets n.children) is
 
-pub returns : goal.returns
-returns c = λ n p h is fine old.
+pub returns-clause-held : goal.returns-clause-held
+returns-clause-held c = λ n p h is fine old.
     let counted = c.count_child-count.ensures p.line p.children n.line.numbers n.line.tail n.children old.kind old.fault old.seen in
     record {
       kind = old.kind;

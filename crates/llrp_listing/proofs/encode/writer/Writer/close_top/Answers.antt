@@ -1,4 +1,4 @@
-use Rattle.std.proofs.Common.{◌≡◌, ℕ, List, ◌∷◌, length, drop, None, refl, sym, ap, ◌∙◌, subst, arith}
+use Rattle.std.proofs.Common.{◌≡◌, ℕ, List, ◌∷◌, length, drop, get_or, None, refl, sym, ap, ◌∙◌, subst, arith}
 use Rattle.llrp_schema.specs.declared.kinds.ParamKind.{ParamKind}
 use Rattle.llrp_schema.specs.declared.kinds.Kind.TheVariants.{Parameter}
 use Rattle.llrp_tree.proofs.SpelledLemmas.{refilled}
@@ -38,8 +38,13 @@ add_child-parent-requires c =
     let w = two c.args.self.now c.args.at c.in-Some.top (inner c.pop.new.self) c.in-Some.ensures c.requires in
     few_levels c.args.self.now c.args.at w.out w.more w.n w.p w.outer w.holds c.in-Some.top w.is_top c.in-Parameter.kind (is_kind c.in-Some.top w.n c.in-Parameter.kind w.is_top c.in-Parameter.is) (sym (c.fault_of.ensures w.n w.is_top) ∙ c.in-None.is)
 
-pub set_top-requires : goal.set_top-requires
-set_top-requires c = omega (arith, ap (λ (r : List Held). length r) c.in-Some-top.ensures)
+pub set_top-requires-clause-some : goal.set_top-requires-clause-some
+set_top-requires-clause-some c = omega (arith, ap (λ (r : List Held). length r) c.in-Some-top.ensures)
+
+pub set_top-requires-clause-kind : goal.set_top-requires-clause-kind
+set_top-requires-clause-kind c = λ top rest e.
+    let same : c.in-Some-top.parent.now ≡ top = ap (λ (r : List Held). get_or r 0 top) (sym c.in-Some-top.ensures ∙ e) in
+    (c.add_child-parent.ensures.same.0 ∙ ap (λ (h : Held). h.kind) same, c.add_child-parent.ensures.same.1 ∙ ap (λ (h : Held). h.number) same)
 
 pub returns-in-None-clause-closed : goal.returns-in-None-clause-closed
 returns-in-None-clause-closed c = λ out more n p outer kind h is.
@@ -47,7 +52,7 @@ returns-in-None-clause-closed c = λ out more n p outer kind h is.
     let fine : node_fault n.line n.children ≡ None = sym (c.fault_of.ensures n all.0) ∙ c.in-None.is in
     let k = same_kind c.in-Some.top n c.in-Parameter.kind kind all.0 c.in-Parameter.is is in
     let own = is_kind c.in-Some.top n c.in-Parameter.kind all.0 c.in-Parameter.is in
-    let child = c.add_child-parent.ensures n p all.0 own fine all.1.0 in
+    let child = c.add_child-parent.ensures.held n p all.0 own fine all.1.0 in
     let new : Writer = record c.args.self.now { room = with_items c.args.self.now.room c.settle.new.room; rows = c.set_top.new.self } in
     let room : new.room.items ≡ settled c.args.self.now.kept c.is_tv-tv.result c.args.at c.in-Some.top.octets c.args.self.now.room.items =
     refilled (vec_len c.args.self.now.room) c.settle.new.room c.args.self.now.room.items (omega (arith, c.args.self.now.room.ok)) (c.settle.auto.room ∙ ap (λ (x : List ℕ). length x) c.as_mut_slice.ensures.value)
