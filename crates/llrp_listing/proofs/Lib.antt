@@ -24,6 +24,7 @@ pub mod Listed
 pub mod MessageSteps
 pub mod NamedLines
 pub mod NearLemmas
+pub mod SpacedNumbers
 pub mod NodeFaults
 pub mod NumberWords
 pub mod Numerals

@@ -13,7 +13,7 @@ use Rattle.llrp_listing.specs.ShortLines.{AreAllNumbers}
 use Rattle.llrp_listing.proofs.ShortReading.{message_says, no_words, one_word, parameter_says, two_words}
 
 -- the octet at a place, and those after it
-one_octet : (line : List ℕ) (at octet : ℕ) → at < length line → get_or line at 0 ≡ octet → drop at line ≡ octet ∷ drop (at + 1) line
+pub one_octet : (line : List ℕ) (at octet : ℕ) → at < length line → get_or line at 0 ≡ octet → drop at line ≡ octet ∷ drop (at + 1) line
 one_octet line at octet lt e = drop_more line at 0 lt ∙ ap (λ (z : ℕ). z ∷ drop (at + 1) line) e
 
 pub three_octets : (line : List ℕ) (at a b c : ℕ) → at + 3 ≤ length line → get_or line at 0 ≡ a → get_or line (at + 1) 0 ≡ b → get_or line (at + 2) 0 ≡ c → drop at line ≡ a ∷ b ∷ c ∷ drop (at + 3) line
@@ -33,7 +33,7 @@ pub word_follows : (line name : List ℕ) (end : ℕ) → drop 2 line ≡ name +
 word_follows line name end e lt s = e ∙ ap (λ (z : List ℕ). name ++ z) (one_octet line end 32 lt s)
 
 -- a line of a parameter at its level
-says : (level : ℕ) (kind : ParamKind) (ws : List (List ℕ)) (ns line : List ℕ) → 1 ≤ level → level ≤ MAX_DEPTH → level < 10 → length line ≤ LONGEST_LINE → AreAllNumbers kind ws ns → line ≡ (48 + level) ∷ 32 ∷ drop 2 line → 32 ∷ drop 2 line ≡ spaced (name_of (Parameter kind) ∷ ws)
+pub says : (level : ℕ) (kind : ParamKind) (ws : List (List ℕ)) (ns line : List ℕ) → 1 ≤ level → level ≤ MAX_DEPTH → level < 10 → length line ≤ LONGEST_LINE → AreAllNumbers kind ws ns → line ≡ (48 + level) ∷ 32 ∷ drop 2 line → 32 ∷ drop 2 line ≡ spaced (name_of (Parameter kind) ∷ ws)
     → SaysAt level line level (parameter_line kind ns [])
 says level kind ws ns line least deep one short all starts e =
     let long : length line ≡ 2 + length (drop 2 line) = ap (λ (z : List ℕ). length z) starts ∙ omega arith in

@@ -1,12 +1,13 @@
 -- The first octets of a text, up to a byte, and those that are a row's.
-use Rattle.std.proofs.Common.{◌≡◌, ℕ, zero, suc, ◌+◌, ◌<◌, ◌≤◌, Bool, true, false, cond, eqb, not, List, [], ◌∷◌, ◌++◌, length, map, take, drop, get_or, refl, sym, ap, ◌∙◌, subst, arith}
+use Rattle.std.proofs.Common.{◌≡◌, ℕ, zero, suc, ◌+◌, ◌<◌, ◌≤◌, Bool, true, false, cond, eqb, not, List, [], ◌∷◌, ◌++◌, length, map, take, drop, get_or, refl, sym, ap, ◌∙◌, append_assoc, subst, arith}
 use Rattle.std.specs.Prelude.{◌==◌}
 use Rattle.std.specs.List.{prefix_len}
 use lib.Count.{count_trailing_zeros}
 use Rattle.std.specs.Simd.Lanes.{mask_l, zip2}
 use Rattle.std.proofs.lemmas.Simd.{leading_from_mask_l, length-zip2, trailing_mask_l}
 use Rattle.std.proofs.lemmas.Bool.{eqb-true}
-use Rattle.std.proofs.lemmas.List.{drop-drop, drop_more, length-take, take-append-drop}
+use Rattle.std.proofs.lemmas.List.{drop-drop, drop_more, length-take, take-append-drop, take_all}
+use Rattle.std.proofs.Math.Seq.{take-add}
 use Rattle.std.proofs.lemmas.List.Sums.{prefix_len-le-length, prefix_len_stops}
 use Rattle.llrp_listing.specs.Splits.{IsSplit, Lacks}
 
@@ -58,6 +59,31 @@ split_parts byte n bytes before rest after long e lt b r a =
     let s = split_there byte n bytes long e lt in
     let end : drop (n + 1) bytes ≡ after = sym (a ∙ ap (λ (z : List ℕ). drop 1 z) r ∙ drop-drop 1 n bytes) in
     subst (λ (z : List ℕ). IsSplit byte bytes before z) end (subst (λ (z : List ℕ). IsSplit byte bytes z (drop (n + 1) bytes)) (sym b) s)
+
+-- there is no such byte where all octets come before the first one
+all_lack : (byte : ℕ) (xs : List ℕ) → length xs ≤ prefix_len (λ x. not (x == byte)) xs → Lacks byte xs
+all_lack byte xs le =
+    let whole : take (prefix_len (λ x. not (x == byte)) xs) xs ≡ xs = take_all (prefix_len (λ x. not (x == byte)) xs) xs le in
+    subst (Lacks byte) whole (before_lacks byte xs)
+
+lacks_append : (byte : ℕ) (xs ys : List ℕ) → Lacks byte xs → Lacks byte ys → Lacks byte (xs ++ ys)
+lacks_append byte [] ys l m = m
+lacks_append byte (x ∷ xs) ys l m = (l.0, lacks_append byte xs ys l.1 m)
+
+-- the bytes round the first such byte, which comes later
+pub later_parts : (byte n : ℕ) (bytes others before rest after : List ℕ) → 32 ≤ length bytes → 32 ≤ prefix_len (λ x. not (x == byte)) (take 32 bytes) → others ≡ drop 32 bytes → 32 ≤ length others → n ≡ prefix_len (λ x. not (x == byte)) (take 32 others) → n < 32
+    → before ≡ take (32 + n) bytes → rest ≡ drop (32 + n) bytes → after ≡ drop 1 rest → IsSplit byte bytes before after
+later_parts byte n bytes others before rest after long none o far e lt b r a =
+    let s = split_there byte n others far e lt in
+    let front = take 32 bytes in
+    let own : Lacks byte front = all_lack byte front (omega (arith, length-take 32 bytes, none)) in
+    let first : before ≡ front ++ take n others = b ∙ take-add 32 n bytes ∙ ap (λ (z : List ℕ). front ++ take n z) (sym o) in
+    let sums : 32 + n + 1 ≡ 32 + (n + 1) = omega arith in
+    let end : after ≡ drop (n + 1) others = a ∙ ap (λ (z : List ℕ). drop 1 z) r ∙ drop-drop 1 (32 + n) bytes ∙ ap (λ (i : ℕ). drop i bytes) sums ∙ sym (ap (λ (z : List ℕ). drop (n + 1) z) o ∙ drop-drop (n + 1) 32 bytes) in (
+      subst (Lacks byte) (sym first) (lacks_append byte front (take n others) own s.0),
+      sym (take-append-drop 32 bytes) ∙ ap (λ (z : List ℕ). front ++ z) (sym o ∙ s.1) ∙ sym (append_assoc front (take n others) (byte ∷ drop (n + 1) others))
+          ∙ ap (λ (z : List ℕ). z ++ (byte ∷ drop (n + 1) others)) (sym first) ∙ ap (λ (z : List ℕ). before ++ (byte ∷ z)) (sym end),
+    )
 
 -- octets that do not differ are alike
 pub alike : (xs ys : List ℕ) (k : ℕ) → length xs ≡ length ys → k ≤ prefix_len (λ b. not b) (zip2 differ xs ys) → take k xs ≡ take k ys

@@ -1,5 +1,5 @@
 -- Lines that are read once, from left to right.
-use Rattle.std.specs.Prelude.{◌≡◌, ℕ, List, [], ◌∷◌}
+use Rattle.std.specs.Prelude.{◌≡◌, ℕ, List, [], ◌∷◌, ◌++◌, drop}
 use Rattle.llrp_schema.specs.declared.kinds.ParamKind.{ParamKind}
 use Rattle.llrp_schema.specs.declared.kinds.Kind.TheVariants as kinds
 use Rattle.llrp_schema.specs.declared.kinds.Tail.TheVariants.{Absent}
@@ -7,7 +7,7 @@ use Rattle.llrp_schema.specs.Schema.{tail_of}
 use Rattle.llrp_listing.specs.declared.encode.short.ShortLine.{ShortLine}
 use Rattle.llrp_listing.specs.declared.encode.short.ShortLine.TheVariants.{Message, Bare, Number}
 use Rattle.llrp_listing.specs.LineChecks.{AreInForm}
-use Rattle.llrp_listing.specs.NodeLine.{AreNumberTexts, NodeLine, number_forms, parameter_line}
+use Rattle.llrp_listing.specs.NodeLine.{AreNumberTexts, NodeLine, NumberForm, number_forms, parameter_line, spaced}
 
 -- the level of what a line says, and what it says
 abbrev pub short_level : ShortLine → ℕ
@@ -25,3 +25,12 @@ pub record AreAllNumbers (kind : ParamKind) (ws : List (List ℕ)) (numbers : Li
   pub in_form : AreInForm (number_forms (kinds.Parameter kind)) numbers
   pub are : AreNumberTexts (number_forms (kinds.Parameter kind)) numbers ws
   pub no_tail : tail_of (kinds.Parameter kind) ≡ Absent
+
+-- From a place of a line up to another there are the texts of numbers, with a space before each, and the numbers were appended.
+pub record AreSpaced (forms : List NumberForm) (line : List ℕ) (from end : ℕ) (old new : List ℕ) : Type 0 where
+  pub words : List (List ℕ)
+  pub numbers : List ℕ
+  pub added : new ≡ old ++ numbers
+  pub in_form : AreInForm forms numbers
+  pub are : AreNumberTexts forms numbers words
+  pub text : drop from line ≡ spaced words ++ drop end line

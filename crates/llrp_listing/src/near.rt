@@ -54,9 +54,30 @@ pub fn split_near(bytes: &[u8], byte: u8) -> Option<(&[u8], &[u8])>
     }
     let place = octets_before(bytes, byte) as usize;
     if place >= NEAR {
-        return split_once(bytes, byte);
+        return split_later(bytes, byte);
     }
     let (before, rest) = bytes.split_at(place);
+    let (_, after) = rest.split_at(1);
+    Some((before, after))
+}
+
+/// The same where the byte is not among the first 32.
+#[inline(always)]
+fn split_later(bytes: &[u8], byte: u8) -> Option<(&[u8], &[u8])>
+    requires long { 32 ≤ length bytes.now }
+    requires none { 32 ≤ prefix_len (λ x. not (x == byte)) (take 32 bytes.now) }
+    ensures { MatchOption result (Lacks byte bytes.now)
+        (λ parts. IsSplit byte bytes.now parts.0.now parts.1.now) }
+{
+    let (_, others) = bytes.split_at(NEAR);
+    if others.len() < NEAR {
+        return split_once(bytes, byte);
+    }
+    let place = octets_before(others, byte) as usize;
+    if place >= NEAR {
+        return split_once(bytes, byte);
+    }
+    let (before, rest) = bytes.split_at(NEAR + place);
     let (_, after) = rest.split_at(1);
     Some((before, after))
 }

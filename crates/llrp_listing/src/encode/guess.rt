@@ -2,6 +2,7 @@
 //! line's kind before is tried first. Nothing rests on it: a line's name is always compared.
 
 use crate::encode::short::ShortLine;
+use crate::line::Line;
 use llrp_schema::{MsgKind, ParamKind};
 
 /// How many kinds of parameters there are.
@@ -40,7 +41,18 @@ impl Guess {
         self.after[self.last as usize]
     }
 
-    /// Keeps the kind of a line.
+    /// Keeps the kind of a line that was read word by word.
+    pub fn note_line(&mut self, line: &Line) {
+        match line {
+            Line::Message(line) => self.message = line.kind,
+            Line::Parameter(line) => {
+                self.after[self.last as usize] = line.kind;
+                self.last = line.kind;
+            }
+        }
+    }
+
+    /// Keeps the kind of a line that was read by the short way.
     #[inline(always)]
     pub fn note(&mut self, line: &ShortLine) {
         match line {

@@ -66,8 +66,8 @@ pub fn begun_by(kind: Kind, number: u64, own: Own) -> Begun
     }
 }
 
-/// Appends the octets before a line's tail. All sixteen are appended, and then those cut off that
-/// do not belong to it, so that the number of octets that are copied is always the same.
+/// Appends the octets before a line's tail. Eight or sixteen are appended, and then those cut off
+/// that do not belong to it, so that a fixed number of octets is copied.
 #[inline(always)]
 fn append_front(room: &mut Vec<u8>, front: &Front) -> Result<(), AllocError>
     requires { front.now.count ≤ 16 }
@@ -76,6 +76,10 @@ fn append_front(room: &mut Vec<u8>, front: &Front) -> Result<(), AllocError>
 {
     let end = room.len() + front.count;
     room.extend_from_slice(&front.upper.to_be_bytes())?;
+    if front.count <= 8 {
+        room.truncate(end);
+        return Ok(());
+    }
     room.extend_from_slice(&front.lower.to_be_bytes())?;
     room.truncate(end);
     Ok(())

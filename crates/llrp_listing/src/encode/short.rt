@@ -145,7 +145,7 @@ fn has_name(line: &[u8], text: &[u8], label: &Label) -> bool
 
 /// The place after the name of a kind, if that follows the level of a line and its space.
 #[inline(always)]
-fn name_end(line: &[u8], text: &[u8], kind: Kind) -> Option<usize>
+pub fn name_end(line: &[u8], text: &[u8], kind: Kind) -> Option<usize>
     requires line { take (length line.now) text.now ≡ line.now }
     ensures within { IfSome result (λ end. end ≤ length line.now) }
     ensures named { IfSome result (λ end. drop 2 line.now ≡ name_of kind ++ drop end line.now) }
@@ -161,19 +161,35 @@ fn name_end(line: &[u8], text: &[u8], kind: Kind) -> Option<usize>
     Some(end)
 }
 
-/// The line of a parameter of this kind, if it has the kind's name.
+/// The level of a parameter's line, which has one digit and a space after it.
 #[inline(always)]
-fn parameter_named(level: usize, line: &[u8], text: &[u8], kind: ParamKind) -> Option<ShortLine>
+pub fn level_ahead(line: &[u8], depth: usize) -> Option<usize>
+    ensures starts { IfSome result (λ level. line.now ≡ (48 + level) ∷ 32 ∷ drop 2 line.now) }
+    ensures least { IfSome result (λ level. 1 ≤ level) }
+    ensures open { IfSome result (λ level. level ≤ depth) }
+    ensures deep { IfSome result (λ level. level ≤ MAX_DEPTH) }
+    ensures one { IfSome result (λ level. level < 10) }
+{
+    let [digit, b' ', ..] = line else {
+        return None;
+    };
+    let level = level_of(*digit, depth)?;
+    Some(level)
+}
+
+/// The line of a parameter of this kind, whose name ends at this place.
+#[inline(always)]
+fn parameter_after(level: usize, line: &[u8], kind: ParamKind, end: usize) -> Option<ShortLine>
     requires least { 1 ≤ level }
     requires deep { level ≤ MAX_DEPTH }
     requires one { level < 10 }
-    requires text { take (length line.now) text.now ≡ line.now }
     requires short { length line.now ≤ LONGEST_LINE }
     requires starts { line.now ≡ (48 + level) ∷ 32 ∷ drop 2 line.now }
+    requires within { end ≤ length line.now }
+    requires named { drop 2 line.now ≡ name_of (Parameter kind) ++ drop end line.now }
     ensures { IfSome result (λ short. SaysAt level line.now (short_level short)
         (short_node short)) }
 {
-    let end = name_end(line, text, Kind::Parameter(kind))?;
     if end == line.len() {
         if !is_bare(Kind::Parameter(kind)) {
             return None;
@@ -195,7 +211,7 @@ fn parameter_named(level: usize, line: &[u8], text: &[u8], kind: ParamKind) -> O
 }
 
 /// The kind of a parameter whose name follows the level of a line and its space, whatever follows the name.
-fn kind_named(line: &[u8]) -> Option<ParamKind>
+pub fn kind_named(line: &[u8]) -> Option<ParamKind>
     requires { 2 ≤ length line.now }
 {
     let (_, rest) = line.split_at(2);
@@ -217,8 +233,8 @@ fn short_parameter(level: usize, line: &[u8], text: &[u8], expected: ParamKind) 
     ensures { IfSome result (λ short. SaysAt level line.now (short_level short)
         (short_node short)) }
 {
-    match parameter_named(level, line, text, expected) {
-        Some(short) => Some(short),
+    match name_end(line, text, Kind::Parameter(expected)) {
+        Some(end) => parameter_after(level, line, expected, end),
         None => other_parameter(level, line, text),
     }
 }
@@ -236,7 +252,8 @@ fn other_parameter(level: usize, line: &[u8], text: &[u8]) -> Option<ShortLine>
         (short_node short)) }
 {
     let kind = kind_named(line)?;
-    parameter_named(level, line, text, kind)
+    let end = name_end(line, text, Kind::Parameter(kind))?;
+    parameter_after(level, line, kind, end)
 }
 
 /// A message's version of one digit.

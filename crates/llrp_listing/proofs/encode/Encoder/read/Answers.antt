@@ -11,7 +11,7 @@ pub returns-then-is_empty-clause-read : goal.returns-then-is_empty-clause-read
 returns-then-is_empty-clause-read c =
     let none : length c.args.self.now.line.items ≡ 0 = grind (arith, c.is_empty.ensures, c.if-is_empty.true) in
     let empty : c.args.self.now.line.items ≡ [] = none_items c.args.self.now.line.items none in
-    rw empty (subst (λ (depth : ℕ). ReadsLine depth c.args.part.now c.read_line.result) c.depth-depth.ensures c.read_line.ensures)
+    rw empty (subst (λ (depth : ℕ). ReadsLine depth c.args.part.now c.read_whole.result) c.depth-depth.ensures c.read_whole.ensures)
 
 pub returns-then-is_too_long-clause-read : goal.returns-then-is_too_long-clause-read
 returns-then-is_too_long-clause-read c =
