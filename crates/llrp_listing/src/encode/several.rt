@@ -9,7 +9,7 @@ ghost use Rattle.llrp_listing.specs.Encoder.{SaysAt};
 ghost use Rattle.llrp_listing.specs.LineReading.{ReadsLine, forms_of, parameter_node};
 ghost use Rattle.llrp_listing.specs.ShortLines.{AreSpaced};
 
-use crate::encode::short::{kind_named, level_ahead, name_end};
+use crate::encode::short::{kind_ahead, level_ahead};
 use crate::line::{LONGEST_LINE, Line, LineErr, ParameterLine, read_line};
 use crate::number::EPC_BITS;
 use arrayvec::ArrayVec;
@@ -87,21 +87,6 @@ fn numbers_from(
     }
 }
 
-/// The kind of a parameter's line and the place after its name.
-fn kind_ahead(line: &[u8], expected: ParamKind) -> Option<(ParamKind, usize)>
-    requires { 2 ≤ length line.now }
-    ensures within { IfSome result (λ x. x.1 ≤ length line.now) }
-    ensures named { IfSome result (λ x. drop 2 line.now ≡ name_of (Parameter x.0)
-        ++ drop x.1 line.now) }
-{
-    if let Some(end) = name_end(line, line, Kind::Parameter(expected)) {
-        return Some((expected, end));
-    }
-    let kind = kind_named(line)?;
-    let end = name_end(line, line, Kind::Parameter(kind))?;
-    Some((kind, end))
-}
-
 /// Reads the line of a parameter, below this many open lines.
 fn read_several(
     alloc: Global,
@@ -115,7 +100,7 @@ fn read_several(
         return None;
     }
     let level = level_ahead(line, depth)?;
-    let (kind, end) = kind_ahead(line, expected)?;
+    let (kind, end) = kind_ahead(line, line, expected)?;
     let Tail::Absent = llrp_schema::tail(Kind::Parameter(kind)) else {
         return None;
     };

@@ -145,7 +145,7 @@ fn has_name(line: &[u8], text: &[u8], label: &Label) -> bool
 
 /// The place after the name of a kind, if that follows the level of a line and its space.
 #[inline(always)]
-pub fn name_end(line: &[u8], text: &[u8], kind: Kind) -> Option<usize>
+fn name_end(line: &[u8], text: &[u8], kind: Kind) -> Option<usize>
     requires line { take (length line.now) text.now ≡ line.now }
     ensures within { IfSome result (λ end. end ≤ length line.now) }
     ensures named { IfSome result (λ end. drop 2 line.now ≡ name_of kind ++ drop end line.now) }
@@ -211,7 +211,7 @@ fn parameter_after(level: usize, line: &[u8], kind: ParamKind, end: usize) -> Op
 }
 
 /// The kind of a parameter whose name follows the level of a line and its space, whatever follows the name.
-pub fn kind_named(line: &[u8]) -> Option<ParamKind>
+fn kind_named(line: &[u8]) -> Option<ParamKind>
     requires { 2 ≤ length line.now }
 {
     let (_, rest) = line.split_at(2);
@@ -221,7 +221,35 @@ pub fn kind_named(line: &[u8]) -> Option<ParamKind>
     }
 }
 
-/// The line of a parameter: of the kind that is expected, or of the one whose name it has.
+/// The kind of a parameter's line and the place after its name, by the name.
+#[inline(never)]
+fn other_kind(line: &[u8]) -> Option<(ParamKind, usize)>
+    requires { 2 ≤ length line.now }
+    ensures within { IfSome result (λ x. x.1 ≤ length line.now) }
+    ensures named { IfSome result (λ x. drop 2 line.now ≡ name_of (Parameter x.0)
+        ++ drop x.1 line.now) }
+{
+    let kind = kind_named(line)?;
+    let end = name_end(line, line, Kind::Parameter(kind))?;
+    Some((kind, end))
+}
+
+/// The same for a line at the front of a text. The kind that is expected is tried first.
+#[inline(always)]
+pub fn kind_ahead(line: &[u8], text: &[u8], expected: ParamKind) -> Option<(ParamKind, usize)>
+    requires text { take (length line.now) text.now ≡ line.now }
+    requires long { 2 ≤ length line.now }
+    ensures within { IfSome result (λ x. x.1 ≤ length line.now) }
+    ensures named { IfSome result (λ x. drop 2 line.now ≡ name_of (Parameter x.0)
+        ++ drop x.1 line.now) }
+{
+    match name_end(line, text, Kind::Parameter(expected)) {
+        Some(end) => Some((expected, end)),
+        None => other_kind(line),
+    }
+}
+
+/// The line of a parameter. The kind that is expected is tried first.
 #[inline(always)]
 fn short_parameter(level: usize, line: &[u8], text: &[u8], expected: ParamKind) -> Option<ShortLine>
     requires least { 1 ≤ level }
@@ -230,29 +258,11 @@ fn short_parameter(level: usize, line: &[u8], text: &[u8], expected: ParamKind) 
     requires text { take (length line.now) text.now ≡ line.now }
     requires short { length line.now ≤ LONGEST_LINE }
     requires starts { line.now ≡ (48 + level) ∷ 32 ∷ drop 2 line.now }
+    requires long { 2 ≤ length line.now }
     ensures { IfSome result (λ short. SaysAt level line.now (short_level short)
         (short_node short)) }
 {
-    match name_end(line, text, Kind::Parameter(expected)) {
-        Some(end) => parameter_after(level, line, expected, end),
-        None => other_parameter(level, line, text),
-    }
-}
-
-/// The line of a parameter, by its name.
-#[inline(never)]
-fn other_parameter(level: usize, line: &[u8], text: &[u8]) -> Option<ShortLine>
-    requires least { 1 ≤ level }
-    requires deep { level ≤ MAX_DEPTH }
-    requires one { level < 10 }
-    requires text { take (length line.now) text.now ≡ line.now }
-    requires short { length line.now ≤ LONGEST_LINE }
-    requires starts { line.now ≡ (48 + level) ∷ 32 ∷ drop 2 line.now }
-    ensures { IfSome result (λ short. SaysAt level line.now (short_level short)
-        (short_node short)) }
-{
-    let kind = kind_named(line)?;
-    let end = name_end(line, text, Kind::Parameter(kind))?;
+    let (kind, end) = kind_ahead(line, text, expected)?;
     parameter_after(level, line, kind, end)
 }
 
