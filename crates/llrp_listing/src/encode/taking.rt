@@ -4,12 +4,15 @@
 ghost use Rattle.std.specs.Prelude.{◌≡◌, ◌∷◌, IfErr, OnOk, []};
 ghost use Rattle.llrp_schema.specs.declared.kinds.Kind.TheVariants.{Message, Parameter};
 ghost use Rattle.llrp_listing.specs.OpenNodes.{IsSaid};
+ghost use Rattle.llrp_listing.specs.ShortLines.{short_level, short_node};
 ghost use Rattle.llrp_listing.specs.Taking.{RestsDeep, TakeFails, Takes, line_level, line_node, said_level, said_node};
 
 use crate::encode::lines::{begun_by, put_message, put_parameter};
+use crate::encode::short::ShortLine;
 use crate::encode::writer::{Refused, Writer};
 use crate::line::Line;
 use llrp_schema::{Kind, MsgKind, ParamKind};
+use std::slice::from_ref;
 
 /// What a line says, wherever it is kept.
 #[derive(Clone, Copy)]
@@ -45,6 +48,38 @@ pub fn said_by(line: &Line) -> Said<'_>
             kind: line.kind,
             fields: line.fields.as_slice(),
             tail: line.tail.as_slice(),
+        },
+    }
+}
+
+/// What a line that was read by the short way says.
+#[inline(always)]
+pub fn said_short(line: &ShortLine) -> Said<'_>
+    ensures level { said_level result ≡ short_level line.now }
+    ensures says { said_node result ≡ short_node line.now }
+{
+    match line {
+        ShortLine::Message { kind, version, id } => Said::Message {
+            kind: *kind,
+            version: *version,
+            id: *id,
+            fields: &[],
+        },
+        ShortLine::Bare { level, kind } => Said::Parameter {
+            level: *level,
+            kind: *kind,
+            fields: &[],
+            tail: &[],
+        },
+        ShortLine::Number {
+            level,
+            kind,
+            number,
+        } => Said::Parameter {
+            level: *level,
+            kind: *kind,
+            fields: from_ref(number),
+            tail: &[],
         },
     }
 }

@@ -1,18 +1,24 @@
-use Rattle.std.proofs.Common.{◌++◌, length, subst}
-use Rattle.llrp_listing.specs.declared.encode.short.ShortLine.{ShortLine}
+use Rattle.std.proofs.Common.{ℕ, ◌++◌, length, sym, subst}
 use Rattle.llrp_listing.specs.Encoder.{SaysAt}
-use Rattle.llrp_listing.specs.OpenNodes.{entries}
-use Rattle.llrp_listing.specs.ShortLines.{short_level, short_node}
+use Rattle.llrp_listing.specs.NodeLine.{NodeLine}
+use Rattle.llrp_listing.specs.OpenNodes.{IsSaid, entries}
+use Rattle.llrp_listing.specs.ShortLines.{short_level}
+use Rattle.llrp_listing.specs.Standing.{CanTake}
+use Rattle.llrp_listing.specs.Taking.{said_node}
 use Rattle.llrp_listing.proofs.encode.Encoder.take_short.Goals as goal
 
-pub returns-in-Message-clause-stands : goal.returns-in-Message-clause-stands
-returns-in-Message-clause-stands g c = λ start text begun part out ns r s n ok.
-    c.take_line.ensures.stands start text begun part out ns r s n (subst (λ (l : ShortLine). SaysAt (length (entries ns)) (begun ++ part) (short_level l) (short_node l)) c.in-Message.is ok)
+pub take_line-requires-clause-said : goal.take_line-requires-clause-said
+take_line-requires-clause-said g c = subst (λ (line : NodeLine). IsSaid line) (sym c.said_short.ensures.says) c.requires.said
 
-pub returns-in-Bare-clause-stands : goal.returns-in-Bare-clause-stands
-returns-in-Bare-clause-stands g c = λ start text begun part out ns r s n ok.
-    c.take_line-in-Bare.ensures.stands start text begun part out ns r s n (subst (λ (l : ShortLine). SaysAt (length (entries ns)) (begun ++ part) (short_level l) (short_node l)) c.in-Bare.is ok)
+pub take_line-requires-clause-can : goal.take_line-requires-clause-can
+take_line-requires-clause-can g c =
+    let x = c.said_short in
+    subst (λ (level : ℕ). CanTake c.args.self.now.writer level (said_node x.result)) (sym x.ensures.level) (subst (λ (line : NodeLine). CanTake c.args.self.now.writer (short_level c.args.line) line) (sym x.ensures.says) c.requires.can)
 
-pub returns-in-Number-clause-stands : goal.returns-in-Number-clause-stands
-returns-in-Number-clause-stands g c = λ start text begun part out ns r s n ok.
-    c.take_line-in-Number.ensures.stands start text begun part out ns r s n (subst (λ (l : ShortLine). SaysAt (length (entries ns)) (begun ++ part) (short_level l) (short_node l)) c.in-Number.is ok)
+pub returns-clause-stands : goal.returns-clause-stands
+returns-clause-stands g c = λ start text begun part out ns r s n ok.
+    let x = c.said_short in
+    let bytes = begun ++ part in
+    let depth = length (entries ns) in
+    c.take_line.ensures.stands start text begun part out ns r s n
+    (subst (λ (level : ℕ). SaysAt depth bytes level (said_node x.result)) (sym x.ensures.level) (subst (λ (line : NodeLine). SaysAt depth bytes (short_level c.args.line) line) (sym x.ensures.says) ok))
