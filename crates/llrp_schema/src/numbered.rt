@@ -3,8 +3,7 @@
 ghost use Rattle.std.specs.Prelude.{◌≡◌};
 ghost use Rattle.llrp_schema.specs.Schema.{is_tv, message_with_number, tlv_with_number, tv_with_number};
 
-use crate::kinds::{Kind, MsgKind, ParamKind};
-use crate::tables::number;
+use crate::kinds::{MsgKind, ParamKind};
 
 /// The message with this number, if the profile has one (LLRP 1.1, section 17.1).
 #[inline(always)]
@@ -122,9 +121,26 @@ pub fn param_of_tv(number: u8) -> Option<ParamKind>
 
 /// Whether a parameter has a type and a value alone, and no length.
 #[inline(always)]
-#[tactic(auto, unfolding(crate::specs::Schema::is_tv))]
+#[tactic(auto, unfolding(crate::specs::Schema::is_tv, crate::specs::Schema::number_of, crate::specs::Schema::rule_of, crate::specs::Schema::param_rule))]
 pub fn is_tv(kind: ParamKind) -> bool
     ensures { result ≡ is_tv kind }
 {
-    number(Kind::Parameter(kind)) < 128
+    match kind {
+        ParamKind::AntennaId
+        | ParamKind::FirstSeenTimestampUtc
+        | ParamKind::FirstSeenTimestampUptime
+        | ParamKind::LastSeenTimestampUtc
+        | ParamKind::LastSeenTimestampUptime
+        | ParamKind::PeakRssi
+        | ParamKind::ChannelIndex
+        | ParamKind::TagSeenCount
+        | ParamKind::RoSpecId
+        | ParamKind::InventoryParameterSpecId
+        | ParamKind::C1G2Crc
+        | ParamKind::C1G2Pc
+        | ParamKind::Epc96
+        | ParamKind::SpecIndex
+        | ParamKind::AccessSpecId => true,
+        _ => false,
+    }
 }
