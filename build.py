@@ -61,11 +61,11 @@ class Progress:
         self.is_terminal = sys.stderr.isatty()
         self.shown, self.last, self.failed = "", None, None
         self.note_begun()
+        sys.stderr.write(f"llrp: proving {len(crates)} crates, and building the program\n")
+        sys.stderr.write("llrp: meanwhile, in another terminal: ./llrp --unproved WORDS answers without the proofs\n")
+        sys.stderr.flush()
         if self.is_terminal:
             self.show()
-        else:
-            sys.stderr.write(f"llrp: proving {len(crates)} crates, and building the program\n")
-            sys.stderr.flush()
 
     def running(self):
         """Returns the crates that are being proved: of the first that are not done, those that wait for none."""
