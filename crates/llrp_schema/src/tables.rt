@@ -8,7 +8,6 @@ use crate::messages::message;
 use crate::parameters::parameter;
 
 /// The row of a kind.
-#[inline(always)]
 #[tactic(auto, unfolding(crate::specs::Schema::rule_of))]
 fn definition(kind: Kind) -> &'static Definition
     ensures { kind_rule result.now ≡ rule_of kind }
