@@ -27,6 +27,6 @@ heap=$(dirname "$(rt doc)")/c/liblibc_c.a
 mkdir -p "$top/out"
 rm -f "$top/out/libllrp_c.a"
 printf 'create %s\naddlib %s\naddlib %s\nsave\nend\n' "$top/out/libllrp_c.a" "$archive" "$heap" | ar -M
-cc -shared -Wl,-Bsymbolic -o "$top/out/libllrp_c.so" -Wl,--whole-archive "$top/out/libllrp_c.a" -Wl,--no-whole-archive
+cc -shared -Wl,-Bsymbolic -Wl,-soname,libllrp_c.so -o "$top/out/libllrp_c.so" -Wl,--whole-archive "$top/out/libllrp_c.a" -Wl,--no-whole-archive
 # The moment at which the build began, so that a source that was edited meanwhile is newer.
 touch -d "@$began" "$top/out/libllrp_c.so"
