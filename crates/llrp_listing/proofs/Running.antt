@@ -1,5 +1,5 @@
 -- How encode ends.
-use Rattle.std.proofs.Common.{◌≡◌, ℕ, ◌+◌, ◌<◌, List, [], Option, Some, None, Result, Ok, Err, sym, ap, subst, ◌∙◌, inl, inr}
+use Rattle.std.proofs.Common.{◌≡◌, ℕ, ◌+◌, ◌<◌, List, length, [], Option, Some, None, Result, Ok, Err, sym, ap, subst, ◌∙◌, inl, inr}
 use Rattle.std.specs.Prelude.{MatchResult, OnOk, IfErr}
 use Rattle.std.proofs.lemmas.List.{append-nil}
 use Rattle.std.specs.Io.KnownBytes.{Consumes, Keeps}
@@ -19,9 +19,9 @@ keeps_consumes (Some xs) None k = absurd k
 keeps_consumes (Some xs) (Some ys) k = sym k
 
 -- a read failed
-pub read_failed : (limit k : ℕ) (r0 mid r1 : SourceLog) (w0 w1 : SinkLog) (text : List ℕ) (es : List Entry) (number : ℕ) (line out : List ℕ) → Gave r0 mid k text → StandsAt limit w0 w1 text es number line out
+pub read_failed : (limit k : ℕ) (r0 mid r1 : SourceLog) (w0 w1 : SinkLog) (text : List ℕ) (es : List Entry) (number : ℕ) (line out : List ℕ) → Gave r0 mid k text → StandsAt limit w0 w1 text es number line out → length out ≡ 0
     → (r1 ≡ record mid { failures = mid.failures + 1; left = r1.left }) → Keeps mid.left r1.left → EncodeStopped limit r0 r1 w0 w1 Read
-read_failed limit k r0 mid r1 w0 w1 text es number line out gave s failed keeps = (
+read_failed limit k r0 mid r1 w0 w1 text es number line out gave s none failed keeps = (
   k,
   text,
   s.handed,
@@ -30,12 +30,12 @@ read_failed limit k r0 mid r1 w0 w1 text es number line out gave s failed keeps 
     bytes_are = subst (Consumes r0.left r1.left) (append-nil text) (consumes_more r0.left mid.left r1.left text [] gave.bytes_are (keeps_consumes mid.left r1.left keeps));
   },
   s.log,
-  handed_all s,
+  handed_all s none,
 )
 
 -- there were too many reads
-pub read_bound : (limit : ℕ) (r0 r1 : SourceLog) (w0 w1 : SinkLog) (text : List ℕ) (es : List Entry) (number : ℕ) (line out : List ℕ) (k : ℕ) → k ≡ MOST_READS → Gave r0 r1 k text → StandsAt limit w0 w1 text es number line out → EncodeStopped limit r0 r1 w0 w1 Bound
-read_bound limit r0 r1 w0 w1 text es number line out k is gave s = (text, s.handed, subst (λ (n : ℕ). Gave r0 r1 n text) is gave, s.log, handed_all s)
+pub read_bound : (limit : ℕ) (r0 r1 : SourceLog) (w0 w1 : SinkLog) (text : List ℕ) (es : List Entry) (number : ℕ) (line out : List ℕ) (k : ℕ) → k ≡ MOST_READS → Gave r0 r1 k text → StandsAt limit w0 w1 text es number line out → length out ≡ 0 → EncodeStopped limit r0 r1 w0 w1 Bound
+read_bound limit r0 r1 w0 w1 text es number line out k is gave s none = (text, s.handed, subst (λ (n : ℕ). Gave r0 r1 n text) is gave, s.log, handed_all s none)
 
 -- a read met the end
 pub read_end : (r0 mid r1 : SourceLog) (k : ℕ) (text : List ℕ) → Gave r0 mid k text → Took mid r1 [] → k < MOST_READS → ReadAll r0 r1 text

@@ -8,8 +8,8 @@ use Rattle.llrp_listing.specs.declared.fault.ToolErr.{ToolErr}
 use Rattle.llrp_listing.specs.declared.fault.ToolErr.TheVariants.{Listing, Script, Hex, Read, Write, Bound, Broken, Memory, Peer, Strange, Early}
 use Rattle.llrp_listing.specs.Copying.{MOST_READS, ReadAll, GaveAndFailed, IsPrefix}
 use Rattle.llrp_stream.specs.Device.{SourceLog, SinkLog, Gave, Wrote, WroteAndFailed}
-use Rattle.llrp_listing.specs.FirstRefusal.{Opens, Refused}
-use Rattle.llrp_listing.specs.Lines.{TextLine, lines_of}
+use Rattle.llrp_listing.specs.FirstRefusal.{IsLastOpen, Opens, Refused}
+use Rattle.llrp_listing.specs.Lines.{NoLf, TextLine, lines_of}
 use Rattle.llrp_listing.specs.ListingRules.{rules_for, row}
 use Rattle.llrp_listing.specs.MessageListing.{IsListingOf}
 use Rattle.llrp_listing.specs.NodeLine.{NodeLine}
@@ -45,6 +45,18 @@ pub record BeginsEncoding (limit : ℕ) (front bytes : List ℕ) : Type 0 where
   pub spelled : AreSpelled limit messages spellings
   pub begins : IsPrefix bytes spellings
 
+-- The bytes are the spellings of all messages that are closed in each text that begins so: an open text covers each line that has ended,
+-- and its last line is open.
+pub record EncodesClosed (limit : ℕ) (front bytes : List ℕ) : Type 0 where
+  pub opened : OpenText NodeLine
+  pub line : List ℕ
+  pub unended : NoLf line
+  pub opens : (more : List ℕ) → Opens (rules_for limit) (lines_of (front ++ more)) opened (lines_of (line ++ more))
+  pub last : IsLastOpen opened
+  pub messages : List MessageTree
+  pub whole : opened.whole ≡ row messages
+  pub spelled : AreSpelled limit messages bytes
+
 -- what was read: the front that some reads gave, or the whole text
 abbrev pub WasRead : SourceLog → SourceLog → List ℕ → Type 0
 WasRead r0 r1 front = ((n : ℕ) × Gave r0 r1 n front) ⊎ ReadAll r0 r1 front
@@ -65,8 +77,8 @@ WritingFailed limit r0 r1 bytes =
 abbrev pub EncodeStopped : ℕ → SourceLog → SourceLog → SinkLog → SinkLog → ToolErr → Type 0
 EncodeStopped limit r0 r1 w0 w1 (Listing line reason) = (bytes : List ℕ) × Wrote w0 w1 bytes × ListingRefused limit r0 r1 line reason bytes
 EncodeStopped limit r0 r1 w0 w1 Write = (bytes : List ℕ) × WroteAndFailed w0 w1 bytes × WritingFailed limit r0 r1 bytes
-EncodeStopped limit r0 r1 w0 w1 Read = (n : ℕ) × (front bytes : List ℕ) × GaveAndFailed r0 r1 n front × Wrote w0 w1 bytes × BeginsEncoding limit front bytes
-EncodeStopped limit r0 r1 w0 w1 Bound = (front bytes : List ℕ) × Gave r0 r1 MOST_READS front × Wrote w0 w1 bytes × BeginsEncoding limit front bytes
+EncodeStopped limit r0 r1 w0 w1 Read = (n : ℕ) × (front bytes : List ℕ) × GaveAndFailed r0 r1 n front × Wrote w0 w1 bytes × EncodesClosed limit front bytes
+EncodeStopped limit r0 r1 w0 w1 Bound = (front bytes : List ℕ) × Gave r0 r1 MOST_READS front × Wrote w0 w1 bytes × EncodesClosed limit front bytes
 EncodeStopped limit r0 r1 w0 w1 Memory = (front bytes : List ℕ) × WasRead r0 r1 front × Wrote w0 w1 bytes × BeginsEncoding limit front bytes
 EncodeStopped limit r0 r1 w0 w1 (Script line) = ⊥
 EncodeStopped limit r0 r1 w0 w1 Broken = ⊥
