@@ -37,7 +37,7 @@ enum llrp_status {
     LLRP_ROOM = 3,   /* the room is too small */
     LLRP_LENGTH = 4, /* an argument does not have the length that the call needs */
     LLRP_UTF8 = 5,   /* the text is not UTF-8 */
-    LLRP_LONG = 6,   /* the listing is too long: more than 1,000,000 pieces of 4,096 octets */
+    LLRP_LONG = 6,   /* the listing is too long: 1,000,000 pieces of 4,096 octets, or more */
     LLRP_MEMORY = 7, /* memory ran out */
 
     /* Why a word has no tag URI: the part that fails (docs/errors.md). */

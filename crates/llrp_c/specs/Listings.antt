@@ -8,6 +8,7 @@ use Rattle.llrp_stream.specs.declared.item.End.TheVariants as at_end
 use Rattle.llrp_stream.specs.Cuts.{IsPartial}
 use Rattle.llrp_stream.specs.Items.{Items}
 use Rattle.llrp_listing.specs.declared.fault.Refusal.{Refusal}
+use Rattle.llrp_listing.specs.Copying.{MOST_READS}
 use Rattle.llrp_listing.specs.Encoding.{Encodes, Refuses}
 use Rattle.llrp_listing.specs.StreamListing.{IsStreamListing, is_lawful}
 use Rattle.llrp_c.specs.declared.status.Status.{Status}
@@ -48,11 +49,11 @@ abbrev pub IsUnwritten : (old new : List ℕ) (count line : ℕ) → Type 0
 IsUnwritten old new count line = (new ≡ old) × (count ≡ 0) × (line ≡ 0)
 
 -- The octets of the listing were written; or there are more than the room has, and their number is returned; or the listing is refused at
--- this line, for this reason; or memory ran out, or the listing is too long.
+-- this line, for this reason; or memory ran out; or the listing, of at least 1,000,000 octets, is too long.
 abbrev pub WritesOctets : (listing old new : List ℕ) (count line code : ℕ) → Type 0
 WritesOctets listing old new count line code =
     ((octets : List ℕ) × Encodes MAX_LIMIT listing octets × HasText old new 0 count octets × (line ≡ 0) × (code ≡ code_of Done))
     ⊎ ((octets : List ℕ) × Encodes MAX_LIMIT listing octets × (length old < length octets) × (count ≡ length octets)
     × (new ≡ old) × (line ≡ 0) × (code ≡ code_of Room))
     ⊎ ((reason : Refusal) × (octets : List ℕ) × Refuses MAX_LIMIT listing line reason octets × (new ≡ old) × (count ≡ 0) × (code ≡ code_of (status_of reason)))
-    ⊎ (IsUnwritten old new count line × ((code ≡ code_of Memory) ⊎ (code ≡ code_of Long)))
+    ⊎ (IsUnwritten old new count line × ((code ≡ code_of Memory) ⊎ ((MOST_READS ≤ length listing) × (code ≡ code_of Long))))

@@ -1,5 +1,5 @@
 -- What the calls for listings are made of.
-use Rattle.std.specs.Prelude.{◌≡◌, ℕ, ◌⊎◌, Bool, true, false, List}
+use Rattle.std.specs.Prelude.{◌≡◌, ℕ, ◌≤◌, Bool, true, false, List, length}
 use Rattle.llrp_tree.specs.declared.TheConstants.{MAX_LIMIT}
 use Rattle.llrp_stream.specs.declared.item.Item.{Item}
 use Rattle.llrp_stream.specs.declared.item.End.{End}
@@ -8,6 +8,7 @@ use Rattle.llrp_listing.specs.declared.fault.ToolErr.{ToolErr}
 use Rattle.llrp_listing.specs.declared.fault.ToolErr.TheVariants.{Listing, Script, Hex, Read, Write, Bound, Memory, Broken, Peer, Strange, Early}
 use Rattle.llrp_listing.specs.declared.fault.Verdict.{Verdict}
 use Rattle.llrp_listing.specs.declared.fault.Verdict.TheVariants.{Lawful, Faulty}
+use Rattle.llrp_listing.specs.Copying.{MOST_READS}
 use Rattle.llrp_listing.specs.Encoding.{Refuses}
 use Rattle.llrp_listing.specs.Show.{verdict_of}
 use Rattle.llrp_listing.specs.StreamListing.{IsStreamListing, is_lawful}
@@ -29,11 +30,11 @@ listed_status true verdict = status.Broken
 listed_status false Lawful = status.Done
 listed_status false Faulty = status.Faulty
 
--- why the octets of a listing in memory are not there
+-- why the octets of a listing in memory are not there; one that is too long has an octet for each of the most reads
 abbrev pub EncodeFails : List ℕ → ToolErr → Type 0
 EncodeFails listing (Listing line reason) = (octets : List ℕ) × Refuses MAX_LIMIT listing line reason octets
 EncodeFails listing Write = Unit {0}
-EncodeFails listing Bound = Unit {0}
+EncodeFails listing Bound = MOST_READS ≤ length listing
 EncodeFails listing Memory = Unit {0}
 EncodeFails listing Read = ⊥
 EncodeFails listing (Script line) = ⊥

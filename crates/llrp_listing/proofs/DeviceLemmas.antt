@@ -1,5 +1,5 @@
 -- What reads and writes do to the logs.
-use Rattle.std.proofs.Common.{◌≡◌, ℕ, ◌+◌, ◌<◌, List, [], ◌∷◌, ◌++◌, length, Option, Some, None, refl, sym, ap, subst, ◌∙◌, arith, append_assoc, add-zero}
+use Rattle.std.proofs.Common.{◌≡◌, ℕ, ◌+◌, ◌<◌, List, [], ◌∷◌, ◌++◌, length, Option, Some, None, refl, sym, ap, subst, ◌∙◌, arith, append_assoc, add-zero, length-append}
 use Rattle.std.specs.Io.KnownBytes.{Appends, Consumes, Keeps}
 use Rattle.std.proofs.lemmas.List.{append-nil}
 use Rattle.llrp_stream.specs.Device.{SourceLog, SinkLog, Took, Gave, Put, Wrote, WroteAndFailed}
@@ -20,7 +20,7 @@ consumes_nothing None = tt
 consumes_nothing (Some xs) = refl
 
 pub gave_nothing : (log : SourceLog) → Gave log log 0 []
-gave_nothing log = record { counts = rw (add-zero log.reads) refl; bytes_are = consumes_nothing log.left }
+gave_nothing log = record { some = omega arith; counts = rw (add-zero log.reads) refl; bytes_are = consumes_nothing log.left }
 
 -- one more read that gave bytes
 pub read_more : (old mid new : SourceLog) (k : ℕ) (all bs : List ℕ) → Gave old mid k all → Took mid new bs → 0 < length bs → Gave old new (k + 1) (all ++ bs)
@@ -28,6 +28,7 @@ read_more old mid new k all bs so took some =
     let is = some_took mid new bs some took in
     let reads : old.reads + k + 1 ≡ old.reads + (k + 1) = omega arith in
     record {
+      some = omega (arith, so.some, some, length-append all bs);
       counts = is.0 ∙ ap (λ (x : SourceLog). record x { reads = x.reads + 1; left = new.left }) so.counts ∙ rw reads refl;
       bytes_are = consumes_more old.left mid.left new.left all bs so.bytes_are is.1;
     }
