@@ -1,5 +1,6 @@
 #!/usr/bin/env python3
-"""Builds the examples for C and Python over the library for C, and runs them on the rows of the tests and on a capture.
+"""Builds the examples for C and Python over the library for C, and runs them on the rows of the tests and on a capture; calls each
+function through the header; and compiles or runs what README.md and docs/library.md show.
 
 usage: tests/library.py
 
@@ -12,6 +13,7 @@ import subprocess
 import sys
 import tempfile
 
+from counting import finish_results, text_of
 from refusing import TOP
 from vectors import source, vectors
 
@@ -20,20 +22,83 @@ import llrp as binding  # noqa: E402  (the module that testers copy)
 
 CFLAGS = ["-std=c11", "-Wall", "-Wextra", "-Wpedantic", "-Werror", "-g", "-fsanitize=address,undefined", "-fno-sanitize-recover=all"]
 HEADER = "include/llrp.h"
+# How many cases there are: the functions of the header, the rows of the tests' tables, and what is compared of each.
+LEAST = 550
+# How the header writes a parameter of the library's source, without `alloc`, which the toolchain passes.
+IN_C = {
+    "&[u8]": "const uint8_t *{0}, size_t {0}_length",
+    "&mut usize": "size_t *{0}",
+    "&mut u32": "uint32_t *{0}",
+    "&mut u64": "uint64_t *{0}",
+    "u32": "uint32_t {0}",
+}
+RESULTS = {"u32": "uint32_t", "usize": "size_t"}
 
 
-def text_of(name):
-    with open(os.path.join(TOP, name), encoding="utf-8") as file:
-        return file.read()
-
-
-def build(folder):
-    """Builds the library and the example for C, and returns the example's path."""
-    subprocess.run([os.path.join(TOP, "library.sh")], check=True)
-    program = os.path.join(folder, "tags")
-    words = ["cc", *CFLAGS, "-I", "include", "examples/c/tags.c", "out/libllrp_c.a", "-o", program]
+def build(folder, source_file):
+    """Builds a program for C over the library, and returns its path."""
+    program = os.path.join(folder, os.path.basename(source_file).removesuffix(".c"))
+    words = ["cc", *CFLAGS, "-I", "include", source_file, "out/libllrp_c.a", "-o", program]
     subprocess.run(words, cwd=TOP, check=True)
     return program
+
+
+def declarations():
+    """Returns how the header declares each function of the library's source."""
+    text = "".join(text_of(f"crates/llrp_c/src/{name}") for name in sorted(os.listdir(os.path.join(TOP, "crates/llrp_c/src"))))
+    declared = []
+    for name, parameters, result in re.findall(r'pub extern "C" fn (\w+)\(([^)]*)\) -> (\w+)', text):
+        pairs = re.findall(r"(\w+): ([^,]+?)(?:,|$)", parameters.strip())
+        words = []
+        for parameter, kind in pairs:
+            if kind == "&mut [u8]":
+                room = "length" if parameter == "word" else "room"
+                words.append(f"uint8_t *{parameter}, size_t {parameter}_{room}")
+            elif parameter != "alloc":
+                words.append(IN_C[kind].format("status" if parameter == "code" else parameter))
+        declared.append(f"{RESULTS[result]} {name}({', '.join(words)});")
+    return declared
+
+
+def checks_of_calls(folder):
+    """Yields whether the header declares what the source has, and whether each function answers through it."""
+    declared = declarations()
+    yield "six functions", len(declared) == 6
+    found = re.findall(r"(?m)^\w+ llrp_\w+\(.*\);$", text_of(HEADER))
+    yield "the header's declarations", sorted(found) == sorted(declared)
+    status, out, err = run(build(folder, "tests/calls.c"))
+    yield f"calls through the header: {out}{err}", (status, out, err) == (0, "13 passed, 0 failed\n", "")
+
+
+class Stub:
+    """A library that has too little room at first, and refuses a line above 2^32."""
+
+    LISTING, LINE = b"0 KEEPALIVE 2 7\n" * 100, 2**32 + 1
+
+    def llrp_list(self, _stream, _length, room, length, used, written):
+        written._obj.value = len(self.LISTING)
+        if length < len(self.LISTING):
+            return binding.ROOM
+        room.raw, used._obj.value = self.LISTING.ljust(length, b"\0"), 10
+        return binding.OK
+
+    def llrp_encode(self, _listing, _length, _octets, length, written, line):
+        if length < 5000:
+            written._obj.value = 5000
+            return binding.ROOM
+        line._obj.value = self.LINE
+        return 50
+
+    def llrp_name(self, status, _name, _room):
+        return 0
+
+
+def checks_of_binding(llrp):
+    """Yields whether the module for Python calls again with more room, and keeps the number of a line whole."""
+    real, llrp.library = llrp.library, Stub()
+    yield "more room for a listing", llrp.list(b"\x08") == (Stub.LISTING.decode(), 10, True)
+    yield "a line above 2^32", refused(llrp.encode, "") == ("", Stub.LINE)
+    llrp.library = real
 
 
 def run(program, *words, given=b""):
@@ -166,29 +231,79 @@ def checks_of_capture(llrp, program):
         yield f"capture and back, {first}", llrp.encode(listing) == stream
 
 
-def checks_of_documents():
-    """Yields whether docs/library.md shows the code that the gate builds."""
+def snippet(name, heading):
+    """Returns the indented block of a document after a line."""
+    return re.sub(r"(?m)^    ", "", re.search(r"\n\n((?:    .*\n)+)", text_of(name).split(heading)[1])[1])
+
+
+def runs_in_python(code, names):
+    """Runs lines of Python with these names. Returns what each expression, or the name of an assignment whose comment is a value,
+    gives, and its comment."""
+    found = []
+    for line in code.splitlines():
+        statement, _, comment = re.match(r"(.*?)(\s+# (.*))?$", line).groups()
+        target = re.match(r"([\w, ]+) = ", statement)
+        exec(statement, names)
+        if comment and (target is None or comment.startswith("(")):
+            found.append((eval(target[1] if target else statement, names), comment))
+    return found
+
+
+def checks_of_documents(folder):
+    """Yields whether docs/library.md shows the code that the gate builds, and what it and README.md show compiles and runs."""
     shown = re.findall(r"(?s)```rust\n(.*?)```", text_of("docs/library.md"))
     yield "the code of docs/library.md", shown == [text_of("crates/tag_texts/src/main.rt")]
+    yield from checks_of_c(folder)
+    yield from checks_of_python()
+
+
+def checks_of_c(folder):
+    """Yields whether the C of README.md gives the word, and the commands of docs/library.md do as it says."""
+    include, body = snippet("README.md", "In C:").split("\n", 1)
+    path = os.path.join(folder, "readme.c")
+    with open(path, "w", encoding="utf-8") as file:
+        file.write(f"{include}\n#include <stdio.h>\n#include <string.h>\nint main(void) {{\n{body}")
+        file.write('printf("%u ", status);\nfor (int i = 0; i < 12; i++) printf("%02X", word[i]);\nreturn 0;\n}\n')
+    yield "the C of README.md", run(build(folder, path)) == (0, "0 3074257BF7194E4000001A85", "")
+    commands = snippet("docs/library.md", "### From C").splitlines()
+    yield "the commands of docs/library.md", len(commands) == 3
+    wanted = ["", "3074257BF7194E4000001A85 urn:epc:tag:sgtin-96:3.0614141.812345.6789\n", text_of("examples/report.txt")]
+    for command, text in zip(commands, wanted):
+        done = subprocess.run(["bash", "-o", "pipefail", "-c", command], cwd=TOP, capture_output=True, text=True, timeout=600)
+        yield command, (done.returncode, done.stdout, done.stderr) == (0, text, "")
+
+
+def checks_of_python():
+    """Yields whether the Python of README.md runs, and that of docs/library.md gives what its comments say."""
+    here = os.getcwd()
+    os.chdir(TOP)
+    names = {"received": bytes.fromhex("083E0000000A00000007 08")}
+    runs_in_python(snippet("README.md", "In Python, with"), names)
+    yield "the Python of README.md", names["received"] == b"\x08" and names["sent"].hex() == "04480000000a00000007"
+    code = snippet("docs/library.md", "### From Python")
+    found = runs_in_python(code, {})
+    os.chdir(here)
+    yield "the Python of docs/library.md", len(found) == 3
+    for value, comment in found:
+        yield f"docs/library.md: {comment}", value == eval(comment)
 
 
 def main():
+    subprocess.run([os.path.join(TOP, "library.sh")], check=True)
     with tempfile.TemporaryDirectory() as folder:
-        program = build(folder)
+        program = build(folder, "examples/c/tags.c")
         llrp = binding.Llrp(os.path.join(TOP, "out/libllrp_c.so"))
         results = [
+            *checks_of_calls(folder),
             *checks_of_header(llrp),
             *checks_of_tags(llrp, program),
             *checks_of_streams(llrp, program),
             *checks_of_refusals(llrp),
+            *checks_of_binding(llrp),
             *checks_of_capture(llrp, program),
-            *checks_of_documents(),
+            *checks_of_documents(folder),
         ]
-    failed = [what for what, is_right in results if not is_right]
-    for what in failed:
-        print(f"WRONG: {what}")
-    print(f"{len(results) - len(failed)} passed, {len(failed)} failed")
-    return 1 if failed else 0
+    return finish_results(results, LEAST)
 
 
 if __name__ == "__main__":

@@ -1,0 +1,83 @@
+/* Calls each function of include/llrp.h, once with enough room and once with too little. tests/library.py builds it, and it takes
+ * no argument. The types below are those that the library has, so a declaration with other ones does not compile. */
+#include "llrp.h"
+
+#include <stdio.h>
+#include <string.h>
+
+static uint32_t (*const text_of_word)(const uint8_t *, size_t, uint8_t *, size_t, size_t *, uint32_t *) = llrp_text_of_word;
+static uint32_t (*const word_of_text)(const uint8_t *, size_t, uint8_t *, size_t) = llrp_word_of_text;
+static uint32_t (*const frame_length)(const uint8_t *, size_t, size_t *) = llrp_frame_length;
+static uint32_t (*const list)(const uint8_t *, size_t, uint8_t *, size_t, size_t *, size_t *) = llrp_list;
+static uint32_t (*const encode)(const uint8_t *, size_t, uint8_t *, size_t, size_t *, uint64_t *) = llrp_encode;
+static size_t (*const name_of)(uint32_t, uint8_t *, size_t) = llrp_name;
+
+/* The word, its text, two frames and an octet of the next, and their listing. */
+static const uint8_t WORD[] = {0x30, 0x74, 0x25, 0x7B, 0xF7, 0x19, 0x4E, 0x40, 0x00, 0x00, 0x1A, 0x85};
+static const char TEXT[] = "urn:epc:tag:sgtin-96:3.0614141.812345.6789";
+static const uint8_t STREAM[] = {8, 0x3E, 0, 0, 0, 10, 0, 0, 0, 7, 8, 0x3E, 0, 0, 0, 10, 0, 0, 0, 8, 8};
+static const char LISTING[] = "0 KEEPALIVE 2 7\n0 KEEPALIVE 2 8\n";
+static const char REFUSED[] = "0 KEEPALIVE 2 7\n0 KEEPALIV 2 7\n";
+enum { TEXT_LENGTH = sizeof TEXT - 1, LISTING_LENGTH = sizeof LISTING - 1, FRAMES_LENGTH = 20, UNTOUCHED = 0xA5 };
+
+static int passed, failed;
+static uint8_t out[256];
+
+/* Fills the room, so that what a call writes beyond its answer is seen. */
+static void clear(void) { memset(out, UNTOUCHED, sizeof out); }
+
+/* Whether the room has these octets, and nothing was written after them. */
+static int holds(const void *octets, size_t length) {
+    for (size_t i = length; i < sizeof out; i++) {
+        if (out[i] != UNTOUCHED) return 0;
+    }
+    return memcmp(out, octets, length) == 0;
+}
+
+static void check(const char *what, int is_right) {
+    passed += is_right;
+    failed += !is_right;
+    if (!is_right) printf("WRONG: %s\n", what);
+    clear();
+}
+
+static const uint8_t *octets_of(const char *text) { return (const uint8_t *)text; }
+
+static void check_tags(void) {
+    size_t count = 99;
+    uint32_t bit = 99, status = text_of_word(WORD, sizeof WORD, out, LLRP_TEXT_ROOM, &count, &bit);
+    check("text", status == LLRP_OK && count == TEXT_LENGTH && bit == 0 && holds(TEXT, TEXT_LENGTH));
+    status = text_of_word(WORD, sizeof WORD, out, LLRP_TEXT_ROOM - 1, &count, &bit);
+    check("text, too little room", status == LLRP_ROOM && holds("", 0));
+    status = word_of_text(octets_of(TEXT), TEXT_LENGTH, out, LLRP_WORD_OCTETS);
+    check("word", status == LLRP_OK && holds(WORD, sizeof WORD));
+    status = word_of_text(octets_of(TEXT), TEXT_LENGTH, out, LLRP_WORD_OCTETS - 1);
+    check("word, too little room", status == LLRP_LENGTH && holds("", 0));
+    check("name", name_of(LLRP_NODE_MISSING, out, LLRP_NAME_ROOM) == 12 && holds("Node Missing", 12));
+    check("name, too little room", name_of(LLRP_NODE_MISSING, out, LLRP_NAME_ROOM - 1) == 0 && holds("", 0));
+}
+
+static void check_streams(void) {
+    size_t count = 99, used = 99, written = 99;
+    uint64_t line = 99;
+    check("length", frame_length(STREAM, sizeof STREAM, &count) == LLRP_OK && count == 10);
+    check("length, too few octets", frame_length(STREAM, 5, &count) == LLRP_OK && count == 0);
+    uint32_t status = list(STREAM, sizeof STREAM, out, LISTING_LENGTH, &used, &written);
+    check("list", status == LLRP_OK && used == FRAMES_LENGTH && written == LISTING_LENGTH && holds(LISTING, LISTING_LENGTH));
+    status = list(STREAM, sizeof STREAM, out, LISTING_LENGTH - 1, &used, &written);
+    check("list, too little room", status == LLRP_ROOM && used == 0 && written == LISTING_LENGTH && holds("", 0));
+    status = encode(octets_of(LISTING), LISTING_LENGTH, out, FRAMES_LENGTH, &written, &line);
+    check("encode", status == LLRP_OK && written == FRAMES_LENGTH && line == 0 && holds(STREAM, FRAMES_LENGTH));
+    status = encode(octets_of(LISTING), LISTING_LENGTH, out, FRAMES_LENGTH - 1, &written, &line);
+    check("encode, too little room", status == LLRP_ROOM && written == FRAMES_LENGTH && line == 0 && holds("", 0));
+    status = encode(octets_of(REFUSED), sizeof REFUSED - 1, out, sizeof out, &written, &line);
+    check("encode, a line that is refused", status == LLRP_NAME && written == 0 && line == 2 && holds("", 0));
+}
+
+int main(void) {
+    clear();
+    check_tags();
+    check_streams();
+    printf("%d passed, %d failed\n", passed, failed);
+    return failed > 0;
+}
