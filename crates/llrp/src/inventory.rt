@@ -1,7 +1,7 @@
 //! The command `inventory`: follows a plan with a reader over TCP.
 
-ghost use Rattle.std.specs.Prelude.{◌<◌, ◌^◌, IfErr};
-ghost use Rattle.llrp.specs.Network.{IsPlanError, RunsPlan};
+ghost use Rattle.std.specs.Prelude.{◌<◌, ◌^◌};
+ghost use Rattle.llrp.specs.Network.{FollowsPlan, RunsPlan};
 
 use crate::network::{conclude, plan_of};
 use crate::progress::Progress;
@@ -31,7 +31,8 @@ pub fn take_inventory<W: Sink>(
     report: &mut W,
 ) -> Result<(), ToolErr>
     requires { (W.log report.old).failures < 2 ^ 63 }
-    ensures { IfErr result IsPlanError }
+    ensures { FollowsPlan (record { every = every; polls = polls; checked = check })
+        (W.log report.old) (W.log report.new) result }
 {
     let plan = plan_of(alloc, every, polls, check)?;
     let mut source = Input::new(stream);
@@ -77,7 +78,9 @@ pub fn inventory<
 ) -> Result<u8, ToolErr>
     requires report { (⟦<Progress<W, T> as Sink>⟧.log report.old).failures < 2 ^ 63 }
     requires errors { (E.log e.old).failures < 2 ^ 63 }
-    ensures { RunsPlan (E.log e.old) (E.log e.new) result }
+    ensures { RunsPlan (record { every = every; polls = polls; checked = check })
+        (⟦<Progress<W, T> as Sink>⟧.log report.old) (⟦<Progress<W, T> as Sink>⟧.log report.new)
+        (E.log e.old) (E.log e.new) result }
 {
     let outcome = match connect(net, target) {
         Some(stream) => {

@@ -1,9 +1,9 @@
 //! The command `loop`: a simulated reader and a client over one TCP connection from the program to
 //! itself.
 
-ghost use Rattle.std.specs.Prelude.{◌<◌, ◌^◌, IfErr};
+ghost use Rattle.std.specs.Prelude.{◌<◌, ◌^◌};
 ghost use Rattle.llrp_stream.specs.Device.{IsFreshSource};
-ghost use Rattle.llrp.specs.Network.{IsPlanError, MayEnd, RunsScript};
+ghost use Rattle.llrp.specs.Network.{MayRunBoth, RunsBoth, RunsBothEnds};
 
 use crate::network::{FIRST_ID, conclude, plan_of, read_script};
 use crate::progress::Progress;
@@ -42,7 +42,8 @@ impl Connection {
         report: &mut W,
     ) -> Result<(), ToolErr>
         requires { (W.log report.old).failures < 2 ^ 63 }
-        ensures { IfErr result IsPlanError }
+        ensures { RunsBoth (record { every = every; polls = polls; checked = check })
+            (W.log report.old) (W.log report.new) script result }
     {
         let plan = plan_of(alloc, every, polls, check)?;
         let core = Reader::new(alloc, LIMIT, FIRST_ID);
@@ -79,7 +80,9 @@ fn run_script<N: Net<Listener = TcpListener, Stream = TcpStream>, W: Sink + Drop
     report: &mut Progress<W, T>,
 ) -> Option<Result<(), ToolErr>>
     requires { (⟦<Progress<W, T> as Sink>⟧.log report.old).failures < 2 ^ 63 }
-    ensures { MayEnd IsPlanError result }
+    ensures { MayRunBoth (record { every = every; polls = polls; checked = check })
+        (⟦<Progress<W, T> as Sink>⟧.log report.old) (⟦<Progress<W, T> as Sink>⟧.log report.new)
+        script result }
 {
     let connection = Connection::open(net)?;
     report.show();
@@ -111,8 +114,9 @@ pub fn run_both_ends<
     requires source { IsFreshSource (R.log r.old) }
     requires report { (⟦<Progress<W, T> as Sink>⟧.log report.old).failures < 2 ^ 63 }
     requires errors { (E.log e.old).failures < 2 ^ 63 }
-    ensures { RunsScript IsPlanError (R.log r.old) (R.log r.new) (E.log e.old)
-        (E.log e.new) result }
+    ensures { RunsBothEnds (record { every = every; polls = polls; checked = check })
+        (R.log r.old) (R.log r.new) (⟦<Progress<W, T> as Sink>⟧.log report.old)
+        (⟦<Progress<W, T> as Sink>⟧.log report.new) (E.log e.old) (E.log e.new) result }
 {
     let outcome = match read_script(alloc, r) {
         Ok(script) => run_script(net, alloc, script, every, polls, check, report),

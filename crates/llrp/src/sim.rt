@@ -2,7 +2,7 @@
 
 ghost use Rattle.std.specs.Prelude.{◌<◌, ◌^◌};
 ghost use Rattle.llrp_stream.specs.Device.{IsFreshSource};
-ghost use Rattle.llrp.specs.Network.{IsServingError, MayEnd, RunsScript};
+ghost use Rattle.llrp.specs.Network.{MayServe, RunsSim};
 
 use crate::network::{FIRST_ID, conclude, read_script};
 use llrp_session::Reader;
@@ -16,7 +16,7 @@ pub fn serve_next(
     listener: &TcpListener,
     script: Script,
 ) -> Option<Result<(), ToolErr>>
-    ensures { MayEnd IsServingError result }
+    ensures { MayServe script result }
 {
     let (stream, _) = listener.accept().ok()?;
     let mut source = Input::new(&stream);
@@ -33,7 +33,7 @@ fn serve_at<N: Net<Listener = TcpListener, Stream = TcpStream>>(
     port: u16,
     script: Script,
 ) -> Option<Result<(), ToolErr>>
-    ensures { MayEnd IsServingError result }
+    ensures { MayServe script result }
 {
     let listener = TcpListener::bind(net, ("127.0.0.1", port)).ok()?;
     serve_next(alloc, &listener, script)
@@ -51,8 +51,7 @@ pub fn sim<N: Net<Listener = TcpListener, Stream = TcpStream>, R: Source, E: Sin
 ) -> Result<u8, ToolErr>
     requires source { IsFreshSource (R.log r.old) }
     requires errors { (E.log e.old).failures < 2 ^ 63 }
-    ensures { RunsScript IsServingError (R.log r.old) (R.log r.new) (E.log e.old)
-        (E.log e.new) result }
+    ensures { RunsSim (R.log r.old) (R.log r.new) (E.log e.old) (E.log e.new) result }
 {
     let outcome = match read_script(alloc, r) {
         Ok(script) => serve_at(net, alloc, port, script),
