@@ -13,7 +13,8 @@ use tag_epc::kind::{GID_CLASS_BITS, GID_MANAGER_BITS, GID_SERIAL_BITS, KINDS};
 use tag_epc::scheme::Scheme;
 use tag_epc::{Kind, Parts, at_scheme};
 
-/// The parts of the EPC of a tag URI. `None` does not mean that the text is refused.
+/// The parts of the EPC of a tag URI. `None` does not mean that the text is refused: it is then read
+/// by the rules, so only speed depends on when it comes.
 #[inline(always)]
 pub fn quick_parts(text: &str) -> Option<Parts>
     ensures lawful { IfSome result (λ parts. IsLawful parts) }

@@ -27,7 +27,7 @@ fn number_of_eight(digits: u64) -> Option<u64>
 }
 
 /// Returns the number of the last `count` of eight octets, if those are digits. `None` does not mean
-/// that they are not.
+/// that they are not: callers then read them another way, so only speed depends on when it comes.
 #[inline(always)]
 pub fn number_of_last(octets: [u8; 8], count: usize) -> Option<u64>
     requires few { count ≤ 8 }
@@ -64,7 +64,7 @@ fn eight_before(text: &[u8], end: usize) -> [u8; 8]
 }
 
 /// The number of the `count` digits in front of `end`, at most 16, if those octets are digits. At
-/// least seven octets must come before the digits.
+/// least seven octets must come before the digits. Only speed depends on when `None` comes.
 #[inline(always)]
 pub fn digits_before(text: &[u8], end: usize, count: usize) -> Option<u64>
     requires few { count ≤ 16 }
@@ -100,7 +100,7 @@ fn is_zero_led(text: &[u8], from: usize, count: usize) -> bool
 }
 
 /// The number between two places, if it has at most 16 digits and no leading zeros. At least seven
-/// octets must come before it.
+/// octets must come before it. Only speed depends on when `None` comes.
 #[inline(always)]
 pub fn plain_between(text: &[u8], from: usize, end: usize) -> Option<u64>
     requires ahead { 7 ≤ from }

@@ -353,8 +353,9 @@ fn short_message(line: &[u8], text: &[u8], expected: MsgKind) -> Option<ShortLin
     }
 }
 
-/// Reads a whole line, at the front of a text and below this many open lines, by the short way, if that can read
-/// it. The kinds that are expected are tried first.
+/// Reads a whole line, at the front of a text and below this many open lines, by the short way, if
+/// that can read it. The kinds that are expected are tried first. A line for which this is `None` is
+/// read word by word, so only speed depends on when it comes.
 #[inline(always)]
 pub fn read_short(line: &[u8], text: &[u8], depth: usize, guess: &Guess) -> Option<ShortLine>
     requires { take (length line.now) text.now ≡ line.now }
