@@ -268,6 +268,7 @@ def checks_of_c(folder):
     commands = snippet("docs/library.md", "### From C").splitlines()
     yield "the commands of docs/library.md", len(commands) == 3
     wanted = ["", "3074257BF7194E4000001A85 urn:epc:tag:sgtin-96:3.0614141.812345.6789\n", text_of("examples/report.txt")]
+    subprocess.run(["rm", "-f", "out/tags"], cwd=TOP, check=True)
     for command, text in zip(commands, wanted):
         done = subprocess.run(["bash", "-o", "pipefail", "-c", command], cwd=TOP, capture_output=True, text=True, timeout=600)
         yield command, (done.returncode, done.stdout, done.stderr) == (0, text, "")

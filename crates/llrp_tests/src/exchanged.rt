@@ -2,7 +2,7 @@
 //! and reports (LLRP 1.1, section 17).
 
 use crate::encode_cut::encodes_cut;
-use crate::vectors::{Vector, encodes, lists};
+use crate::vectors::{Vector, encodes, lists, lists_cut};
 use llrp_tool::Verdict;
 use std::test::*;
 
@@ -295,9 +295,14 @@ fn events_and_reports(rt: HostRuntime) {
 }
 
 #[test]
-fn exchanged_listings_cut_anywhere(rt: HostRuntime) {
+fn exchanged_streams_and_listings_cut_anywhere(rt: HostRuntime) {
     for vectors in [REQUESTS.as_slice(), ANSWERS.as_slice(), EVENTS.as_slice()] {
         for vector in vectors {
+            assert!(rt;
+                lists_cut(rt.alloc(), vector, Verdict::Lawful) == Ok(true),
+                "{}",
+                vector.name
+            );
             assert!(rt;
                 encodes_cut(rt.alloc(), vector) == Ok(true),
                 "{}",

@@ -422,7 +422,7 @@ fn lawful_listings_back(rt: HostRuntime) {
 }
 
 /// Whether a vector has its listing wherever its stream is cut into two, and octet by octet.
-fn lists_cut(alloc: Global, vector: &Vector, verdict: Verdict) -> Result<bool, ToolErr> {
+pub(crate) fn lists_cut(alloc: Global, vector: &Vector, verdict: Verdict) -> Result<bool, ToolErr> {
     let stream = octets(alloc, &[vector.stream])?;
     let listing = vector.listing.as_bytes();
     Ok(is_listed_cut(alloc, stream.as_slice(), listing, verdict))

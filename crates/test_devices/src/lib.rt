@@ -2,7 +2,8 @@
 //! in one call, and a script of three sightings.
 //!
 //! Use it in tests of calls over a source and a sink. [`Pieces`] gives a stream in pieces of one length after a first piece, and
-//! [`Room`] takes what fits into a fixed size; [`Dripping`] and [`Taking`] go an octet a call, and fail in the call of a number.
+//! [`Room`] takes what fits into a fixed size; [`Dripping`] and [`Taking`] go an octet a call and [`Lines`] a line, and fail in the call
+//! of a number.
 #![tactic(auto)]
 
 mod sightings;
@@ -11,7 +12,7 @@ mod sources;
 
 pub use sightings::{THREE_LINES, THREE_SIGHTINGS};
 pub use sinks::{Failure, Gulping, Room, Taking};
-pub use sources::{Dripping, Pieces};
+pub use sources::{Dripping, Lines, Pieces};
 
 /// No call fails.
 pub const NEVER: u64 = u64::MAX;

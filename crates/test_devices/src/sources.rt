@@ -60,6 +60,66 @@ impl<'a> Source for Dripping<'a> {
     }
 }
 
+/// Gives a line a call, and fails in the call of this number, counted from 1.
+#[derive(Drop)]
+pub struct Lines<'a> {
+    rest: &'a [u8],
+    fails_in: u64,
+    calls: u64,
+    reads: u64,
+    ends: u64,
+    failures: u64,
+}
+
+impl<'a> Lines<'a> {
+    /// A source that fails in the call after this many lines.
+    pub fn after(rest: &'a [u8], lines: usize) -> Lines<'a>
+        ensures { ⟦<Lines<'a> as Source>⟧.log result ≡ new_source None }
+    {
+        Lines {
+            rest,
+            fails_in: (lines as u64).saturating_add(1),
+            calls: 0,
+            reads: 0,
+            ends: 0,
+            failures: 0,
+        }
+    }
+
+    /// How many octets the next line has, its end included.
+    fn line(&self) -> usize {
+        let mut length = 0usize;
+        for octet in self.rest {
+            length = length.saturating_add(1);
+            if *octet == b'\n' {
+                return length;
+            }
+        }
+        length
+    }
+}
+
+impl<'a> Source for Lines<'a> {
+    ghost log = { λ s. record { reads = s.reads; ends = s.ends; failures = s.failures; left = None } };
+
+    fn read(&mut self, buf: &mut [u8]) -> io::Result<usize> {
+        self.calls = self.calls.saturating_add(1);
+        if self.calls == self.fails_in {
+            self.failures += 1;
+            return Err(io::Error::from(io::ErrorKind::ConnectionReset));
+        }
+        let n = self.line().min(self.rest.len()).min(buf.len());
+        let (line, rest) = self.rest.split_at(n);
+        buf[..n].copy_from_slice(line);
+        self.rest = rest;
+        match n {
+            0 => self.ends += 1,
+            _ => self.reads += 1,
+        }
+        Ok(n)
+    }
+}
+
 /// Gives a first piece, and then pieces of another size.
 #[derive(Drop)]
 pub struct Pieces<'a> {
