@@ -10,12 +10,15 @@ import os
 import subprocess
 import sys
 
+from counting import finish
 from refusing import TOP
 from vectors import octets_of, vectors
 
 # Frames up to this length are cut and changed at each octet, longer ones cut at this many places at each end.
 LONGEST = 100
 PLACES = 40
+# How many rows there are.
+LEAST = 370
 
 
 def header(kind, octets, number):
@@ -123,8 +126,7 @@ def main():
         else:
             passed += 1
             print(f"{name}: {told[0][:100]}")
-    print(f"{passed} passed, {failed} failed")
-    return 1 if failed else 0
+    return finish(passed, failed, LEAST)
 
 
 if __name__ == "__main__":

@@ -1,10 +1,13 @@
 """The exchanges of the reader's and the client's tests, read from their source: for each step, the steps up to it."""
 import re
+import sys
 
 from vectors import all_found, source
 
 EVENT = r'(Does::Connect|Does::Tick|Does::Seen\(\d+\)|Does::Take\("[^"]*"\)|[A-Z_]+)'
 STEP = r"CONNECTS|Step::Sends\(Request::\w+(?:\(\w+\))?|Step::Takes\(\w+|Step::Refuses|Step::Faults"
+# How many exchanges each file has.
+EXCHANGES = {"reader.rt": 12, "client.rt": 25}
 # What the program refusals calls the commands whose names it does not take from the tests.
 COMMANDS = {"SetKeepalive": "keepalive", "GetReport": "report", "GetRospecs": "rospecs"}
 
@@ -16,10 +19,10 @@ def constants(text, form, kind):
     return {name: digits.replace(" ", "") for name, digits in found}
 
 
-def exchanges(text):
-    """Returns the name and the source of each exchange: as many as the array that holds them is long."""
+def exchanges(name, text):
+    """Returns the name and the source of each exchange: as many as the array that holds them is long, and as there have to be."""
     there = int(re.search(r"\[Exchange; (\d+)\]", text)[1])
-    bodies = all_found("exchanges", re.findall(r"    Exchange \{(.*?)\n    \},", text, re.S), there)
+    bodies = all_found("exchanges", re.findall(r"    Exchange \{(.*?)\n    \},", text, re.S), max(there, EXCHANGES[name]))
     return [(re.search(r'name: "([^"]*)"', body)[1], body) for body in bodies]
 
 
@@ -27,7 +30,7 @@ def all_steps(name, body, form, word):
     """Returns what a form finds in an exchange; ends the script where it does not find each step that begins with the word."""
     found = re.findall(form, body)
     there = len(re.findall(word, body))
-    return all_found(f'steps of "{name}"', found, there) if there else []
+    return all_found(f'steps of "{name}"', found, there)
 
 
 def fronts(name, call, words):
@@ -52,7 +55,7 @@ def reader_rows():
     text = source("reader.rt")
     known = constants(text, r'const (\w+): Does =\s*Does::Take\(\s*"([^"]*)",?\s*\);', "Does")
     rows = []
-    for name, body in exchanges(text):
+    for name, body in exchanges("reader.rt", text):
         steps = all_steps(name, body, r"Step::Sends\(\s*([\d_]+),\s*" + EVENT, r"Step::Sends\b")
         rows += fronts(name, "step", [f"{now.replace('_', '')}@{event(term, known)}" for now, term in steps])
     started = ["0@connect", f"1@{known['ADD_POLLED']}", f"4@{known['ENABLE']}", f"5@{known['START']}"]
@@ -71,14 +74,16 @@ def reader_rows():
 
 
 def command(term, known):
-    """Returns the program's word for a step of the client, or None where it is none."""
+    """Returns the program's word for a step of the client, or None for what the client refuses; ends the script at any other."""
+    if term in ("Step::Refuses", "Step::Faults"):
+        return None
     if term == "CONNECTS":
         return f"take:{known['ACCEPTED']}"
     if term.startswith("Step::Takes("):
         return f"take:{known[term.removeprefix('Step::Takes(')]}"
     request = re.match(r"Step::Sends\(Request::(\w+)(?:\((\w+)\))?", term)
     if request is None:
-        return None
+        sys.exit(f"WRONG: the step {term} of the client's tests cannot be read")
     argument = known.get(request[2], request[2] or "")
     return f"{COMMANDS.get(request[1], request[1].lower())}:{argument}"
 
@@ -88,7 +93,7 @@ def client_rows():
     text = source("client.rt")
     known = constants(text, r'const (\w+): &str =\s*"([^"]*)";', "&str")
     rows = []
-    for name, body in exchanges(text):
+    for name, body in exchanges("client.rt", text):
         first_id = re.search(r"first_id: ([\d_]+),", body)[1].replace("_", "")
         words = [command(term, known) for term in all_steps(name, body, STEP, r"\bStep::(?!Views)|\bCONNECTS\b")]
         done = [word for word in words if word is not None]

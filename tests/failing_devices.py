@@ -19,7 +19,11 @@ import sys
 import termios
 import time
 
-TOP = os.path.dirname(os.path.dirname(os.path.realpath(__file__)))
+from counting import finish
+from refusing import TOP
+
+# How many runs there are: with each device, and with a peer that does each of three things after each octet.
+LEAST = 1421
 # How long a run may take, and how long a peer that pauses does nothing, in seconds.
 LONGEST, PAUSE = 20, 0.02
 # How many connections at a time.
@@ -431,8 +435,7 @@ def main():
         passed, failed = passed + well, failed + (not well)
         if not well:
             print(f"FAILED: {name}", flush=True)
-    print(f"{passed} passed, {failed} failed")
-    return 1 if failed else 0
+    return finish(passed, failed, LEAST)
 
 
 if __name__ == "__main__":

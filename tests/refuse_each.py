@@ -9,12 +9,14 @@ memory has to answer Memory. The last line is `N passed, M failed`; the status i
 """
 import collections
 import os
+import re
 import sys
 import tempfile
 
+from counting import finish
 from exchanges import client_rows, reader_rows
 from refusing import TESTS, TOP, build_library, each_refused, run
-from vectors import vectors
+from vectors import all_found, vectors
 
 # Calls that write: after Memory a front of what they write with enough memory was written.
 WRITING = ("show", "list", "serve", "inventory", "epc")
@@ -24,6 +26,8 @@ OTHERS = ("decode", "feed", "encode", "clone", "clone-node", "step", "client", "
 WITHOUT_MEMORY = ("write", "skip")
 # Machines over bytes: they answer their error again, and append nothing then.
 ENDS = ("serving", "gathering")
+# How many runs there are at least: two for each row.
+LEAST = 1864
 
 
 def frame_rows():
@@ -50,8 +54,9 @@ def frame_rows():
 def end_rows():
     """Returns the rows of the two ends of a connection and of texts: a name, a call and its words, split by tabs."""
     with open(os.path.join(TESTS, "ends.rows"), encoding="utf-8") as file:
-        lines = [line.rstrip("\n").split("\t") for line in file if line.strip() and not line.startswith("#")]
-    return [(name, call, words) for name, call, *words in lines]
+        count, *lines = [line.rstrip("\n").split("\t") for line in file if line.strip()]
+    there = int(re.fullmatch(r"# (\d+) rows: name, call and words, split by tabs", count[0])[1])
+    return [(name, call, words) for name, call, *words in all_found("rows of tests/ends.rows", lines, there)]
 
 
 def lines_of(ended):
@@ -149,8 +154,7 @@ def main():
             f"{call}: {count['rows']} rows, {count['requests']} requests for memory; "
             f"{count['memory']} runs answered Memory, {count['same']} as with enough memory"
         )
-    print(f"{total['passed']} passed, {total['failed']} failed")
-    return 1 if total["failed"] else 0
+    return finish(total["passed"], total["failed"], LEAST)
 
 
 if __name__ == "__main__":

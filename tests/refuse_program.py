@@ -12,10 +12,13 @@ import os
 import sys
 import tempfile
 
+from counting import finish
 from refusing import TOP, build_library, each_refused, run
 
 KEPT = "as with enough memory"
 REFUSED = "llrp: memory"
+# How many runs there are at least: some hundred for each row, one for each request.
+LEAST = 2000
 
 
 def example(name):
@@ -76,8 +79,7 @@ def main():
                 failed += 1
                 print(f"FAILED: {name}: no run ended with {REFUSED}, so no request of it was refused")
             print(f"{name}: status {ample.status}, {ample.requests} requests; {seen[REFUSED]} runs {REFUSED}, {seen[KEPT]} {KEPT}")
-    print(f"{passed} passed, {failed} failed")
-    return 1 if failed else 0
+    return finish(passed, failed, LEAST)
 
 
 if __name__ == "__main__":
