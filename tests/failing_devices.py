@@ -323,6 +323,32 @@ def take_inventory(program, count, how):
         return (*end(run), sent)
 
 
+def inventory_from(program, frames):
+    """Returns the status and the error line of `inventory`, whose reader sends these frames and closes."""
+    with socket.create_server(("127.0.0.1", 0)) as listener:
+        run = start(program, ["inventory", "127.0.0.1", str(listener.getsockname()[1]), "--every", "2"])
+        listener.settimeout(LONGEST)
+        peer, _ = listener.accept()
+        with peer:
+            peer.settimeout(LONGEST)
+            peer.sendall(octets(frames))
+            peer.shutdown(socket.SHUT_WR)
+            read_to_end(peer)
+        status, _, err = end(run)
+        return status, err.decode()
+
+
+def sim_to(program, stream):
+    """Returns the status and the error line of `sim`, whose client sends this stream and closes."""
+    run, peer = listening(program)
+    with peer:
+        peer.sendall(stream)
+        peer.shutdown(socket.SHUT_WR)
+        read_to_end(peer)
+    status, _, err = end(run)
+    return status, err.decode()
+
+
 def inventories_well(program, count, how):
     status, out, err, sent = take_inventory(program, count, how)
     if how == "pauses" or (how == "closes" and count == len(DOWN)):

@@ -1,7 +1,7 @@
 #!/usr/bin/env python3
-"""Compares the commands and flags that the program's help names with the manual page and the completions, and the words of its
-errors with the manual page and docs/errors.md; lists the frames of docs/errors.md; gives the program arguments that are no UTF-8;
-compares the copies of the script of three sightings with its file; and looks for faults of the manual page, where mandoc is there.
+"""Compares the commands and flags that the program's help names with the manual page, README.md and the completions of bash, zsh and
+fish, which these shells answer; gives the program arguments that are no UTF-8; compares limits and other figures, and the copies of
+the script of three sightings; and has groff look for faults of the manual page.
 
 usage: tests/words.py [PROGRAM]
 
@@ -13,8 +13,10 @@ import re
 import subprocess
 import sys
 
+from counting import finish_results, text_of
 from refusing import TOP
 
+LEAST = 65
 BASH = """
 source completions/llrp.bash
 COMP_WORDS=(llrp {command} '')
@@ -24,13 +26,26 @@ printf '%s\\n' "${{COMPREPLY[@]}}"
 """
 
 
+ZSH = """
+_arguments() {{ print -rl -- "$@" }}
+_describe() {{ print -rl -- ${{(P)2}} }}
+words=(llrp {command} '')
+CURRENT=$#words
+source completions/_llrp
+"""
+FISH = "source completions/llrp.fish; complete -C 'llrp {command}'; complete -C 'llrp {command}-'; complete -C 'llrp {command}--'"
+
+
 def output(*words):
     return subprocess.run(words, cwd=TOP, capture_output=True, text=True, timeout=60).stdout
 
 
-def text_of(name):
-    with open(os.path.join(TOP, name), encoding="utf-8") as file:
-        return file.read()
+def completed(command):
+    """Yields each shell, and the commands and long flags that it offers after a command, or at first where that is empty."""
+    yield "bash", set(output("bash", "-c", BASH.format(command=command)).split())
+    for shell, text in (("zsh", output("zsh", "-fc", ZSH.format(command=command))),
+                        ("fish", output("fish", "--no-config", "-c", FISH.format(command=f"{command} " if command else "")))):
+        yield shell, {re.split(r"[:\t[]", line)[0] for line in text.splitlines() if re.match(r"--|[a-z]+(:[A-Z]|\t|$)", line)}
 
 
 def commands_in(text):
@@ -44,75 +59,43 @@ def flags_in(text):
     return set(re.findall(r"--[a-z]+", text.split("Options:\n")[1].split("\n\n")[0]))
 
 
-def checks(program):
-    """Yields what is compared, and whether it is as it should be."""
+def flags_of(program):
+    """Returns the long flags of each command, and under "" those of none."""
     top = output(program, "--help")
-    commands, manual = commands_in(top), text_of("docs/llrp.1").replace("\\-", "-")
-    shells = {name: text_of(f"completions/{name}") for name in ("llrp.bash", "_llrp", "llrp.fish")}
-    yield "bash completes the commands", set(output("bash", "-c", BASH.format(command="")).split()) == commands | flags_in(top)
-    for command in sorted(commands):
-        yield f"{command} in the manual page", f".Cm {command}" in manual
-        for name, text in shells.items():
-            yield f"{command} in {name}", re.search(rf"\b{command}\b", text) is not None
-        if command == "help":
-            continue
-        flags = flags_in(output(program, command, "--help"))
-        usage = re.search(rf"(?m)^\.Cm {command}\n((?:\.(?:Op|Ar) .*\n)*)", manual.split(".Sh DESCRIPTION")[0])
-        yield f"{command}'s flags in the synopsis", set(re.findall(r"--[a-z]+", usage[1].replace("Fl -", "--"))) == flags - {"--help"}
-        yield f"bash completes {command}", set(output("bash", "-c", BASH.format(command=command)).split()) == flags
-        for flag in sorted(flags):
-            yield f"{flag} in the manual page", f"Fl {flag[1:]}" in manual
-            yield f"{flag} in _llrp", flag in shells["_llrp"]
-            yield f"{flag} in llrp.fish", f"-l {flag[2:]}" in shells["llrp.fish"]
-    for flag in sorted(flags_in(top)):
-        yield f"{flag} in the manual page", f"Fl {flag[1:]}" in manual
-        yield f"{flag} in llrp.fish", f"-l {flag[2:]}" in shells["llrp.fish"]
-        yield f"{flag} in _llrp", flag in shells["_llrp"]
-    known = {flag for command in commands - {"help"} for flag in flags_in(output(program, command, "--help"))} | flags_in(top)
-    yield "no other flag in the completions", set(re.findall(r"--[a-z]+", "".join(shells.values()))) <= known
+    commands = sorted(commands_in(top) - {"help"})
+    return {"": flags_in(top), **{command: flags_in(output(program, command, "--help")) for command in commands}}
 
 
-def words_of(name, function):
-    """Returns the words that a function of a source gives for faults."""
-    body = re.split(rf"fn {function}\b", text_of(name))[1].split("\n    }\n")[0]
-    return set(re.findall(r'"(?:llrp: )?([A-Za-z0-9]+)', body))
+def checks(program):
+    """Yields whether the manual page, README.md and each completion have exactly the commands and flags of the program."""
+    flags = flags_of(program)
+    commands = set(flags) - {""}
+    yield "six commands", len(commands) == 6
+    for shell, name in (("bash", "llrp.bash"), ("zsh", "_llrp"), ("fish", "llrp.fish")):
+        done = subprocess.run([shell, "-n", f"completions/{name}"], cwd=TOP, capture_output=True, timeout=60)
+        yield f"{shell} -n", (done.returncode, done.stderr) == (0, b"")
+    for command, wanted in flags.items():
+        for shell, found in completed(command):
+            yield f"{shell} completes '{command}': {sorted(found)}", found == wanted | ({*commands, "help"} if command == "" else set())
+    for shell, found in completed("help"):
+        yield f"{shell} completes help: {sorted(found)}", commands <= found <= commands | {"--help", "help"}
+    yield from checks_of_pages(flags)
 
 
-def checks_of_errors():
-    """Yields whether each word that an error or a fault can say is explained."""
-    sources = (
-        ("crates/llrp_listing/src/fault.rt", "names", 9),
-        ("crates/llrp_listing/src/fault.rt", "node_fault_name", 8),
-        ("crates/tag_uri/src/fault.rt", "name", 10),
-        ("crates/tag_epc/src/fault.rt", "name", 5),
-        ("crates/llrp_listing/src/printing/ends.rt", "name_of", 15),
-        ("crates/llrp_tool/src/command.rt", "write_error", 11),
-    )
-    page, manual = text_of("docs/errors.md"), text_of("docs/llrp.1")
-    for name, function, count in sources:
-        found = words_of(name, function)
-        yield f"{name} has words", len(found) == count
-        for word in sorted(found):
-            yield f"{word} in docs/errors.md", re.search(rf"`[^`]*\b{word}\b[^`]*`", page) is not None
-            yield f"{word} in the manual page", re.search(rf"\b{word}\b", manual) is not None
-
-
-def checks_of_frames(program):
-    """Yields whether each frame of docs/errors.md is listed by the line beside it."""
-    rows = re.findall(r"`([0-9A-F ]{20,})`: `(! [^`]+)`", text_of("docs/errors.md"))
-    yield "docs/errors.md has frames", len(rows) == 13
-    for digits, line in rows:
-        done = subprocess.run([program, "show", "--hex"], capture_output=True, input=digits, text=True, timeout=60)
-        yield f"{digits} is listed by {line}", (done.returncode, done.stdout) == (1, f"{line}\n")
-
-
-def checks_of_tags(program):
-    """Yields whether each word of docs/errors.md without a tag URI is answered by the line beside it."""
-    rows = re.findall(r"`([0-9A-F]{24})`: `(# [^`]+)`", text_of("docs/errors.md"))
-    yield "docs/errors.md has words", len(rows) == 5
-    for digits, line in rows:
-        done = subprocess.run([program, "epc", digits], capture_output=True, text=True, timeout=60)
-        yield f"{digits} is answered by {line}", (done.returncode, done.stdout) == (0, f"urn:epc:raw:96.x{digits}\n{line}\n")
+def checks_of_pages(flags):
+    """Yields whether the manual page and the table of README.md have the commands, and the flags of each."""
+    manual = text_of("docs/llrp.1").replace("\\-", "-")
+    synopsis, described = manual.split(".Sh DESCRIPTION")
+    usages = re.findall(r"(?m)^\.Cm (\w+)\n((?:\.(?:Op|Ar) .*\n)*)", synopsis)
+    yield "the synopsis", sorted(name for name, _ in usages) == sorted({*flags, "help"} - {""})
+    table = re.findall(r"(?m)^\| `llrp (\w+)([^`]*)` \|", text_of("README.md"))
+    yield "the table of README.md", sorted(name for name, _ in table) == sorted(set(flags) - {""})
+    for name, usage in [*((name, usage.replace("Fl -", "--")) for name, usage in usages if name != "help"), *table]:
+        yield f"the flags of {name}", set(re.findall(r"--[a-z]+", usage)) == flags[name] - {"--help"}
+    listed = [re.findall(r"(?m)^\.It (?:Cm|Fl) (.*)$", part) for part in described.split(".Sh EXIT STATUS")[0].split("The options are")]
+    yield "the entries of commands", sorted(it.split()[0] for it in listed[0]) == sorted(set(flags) - {""})
+    options = sorted("-" + re.search(r"-[a-z]+", it.split(", Fl ")[-1])[0] for it in listed[1])
+    yield "the entries of options", options == sorted(set.union(*flags.values()))
 
 
 def checks_of_limits(program):
@@ -127,6 +110,19 @@ def checks_of_limits(program):
     yield "the greatest message of the library for C", f"#define LLRP_MOST_OCTETS {most}\n" in text_of("include/llrp.h")
     for name in ("README.md", "docs/tables.md", "docs/errors.md", "docs/llrp.1"):
         yield f"the limits in {name}", all(f"{int(it):,}" in text_of(name) for it in (most, limit)) and depth in text_of(name)
+
+
+def checks_of_figures():
+    """Yields whether README.md counts the crates of the program and the functions for C as they are."""
+    readme, words = text_of("README.md"), {6: "six", 11: "eleven"}
+    sys.path.insert(0, TOP)
+    import build  # (the script that knows which crates are below another)
+
+    uses = build.dependencies()
+    crates = len(build.below("llrp", uses)) + 1
+    yield "how many crates make up the program", f"{words.get(crates)} crates that make up the program" in readme
+    functions = len(re.findall(r"(?m)^\w+ llrp_\w+\(", text_of("include/llrp.h")))
+    yield "how many functions the header has", f"declares {words.get(functions)} functions" in readme
 
 
 def checks_of_version(program):
@@ -162,13 +158,9 @@ def checks_of_manual():
 
 def main():
     program = os.path.abspath(sys.argv[1] if len(sys.argv) > 1 else os.path.join(TOP, "crates/llrp/out/llrp"))
-    results = [*checks(program), *checks_of_errors(), *checks_of_version(program), *checks_of_arguments(program)]
-    results += [*checks_of_frames(program), *checks_of_tags(program), *checks_of_limits(program), *checks_of_script(), *checks_of_manual()]
-    failed = [what for what, is_right in results if not is_right]
-    for what in failed:
-        print(f"WRONG: {what}")
-    print(f"{len(results) - len(failed)} passed, {len(failed)} failed")
-    return 1 if failed else 0
+    parts = (checks, checks_of_version, checks_of_arguments, checks_of_limits)
+    results = [it for part in parts for it in part(program)]
+    return finish_results([*results, *checks_of_figures(), *checks_of_script(), *checks_of_manual()], LEAST)
 
 
 if __name__ == "__main__":

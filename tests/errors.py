@@ -1,0 +1,189 @@
+#!/usr/bin/env python3
+"""Compares the tables of docs/errors.md and the lists of the manual page with the words that the sources have, row by row, and runs
+the examples of docs/errors.md.
+
+usage: tests/errors.py [PROGRAM]
+
+PROGRAM is llrp, crates/llrp/out/llrp where none is given. The last line is `N passed, M failed`; the status is 1 if something failed.
+"""
+import os
+import re
+import subprocess
+import sys
+
+from counting import finish_results, text_of
+from damage import nested_errors
+from failing_devices import ANSWERS, free_port, inventory_from, sim_to
+from refusing import TOP
+
+LEAST = 89
+PAGE = "docs/errors.md"
+# Where the words of each table are: the source, its function, and how many it has.
+LINES = ("crates/llrp_tool/src/command.rt", "write_error", 11)
+REASONS = ("crates/llrp_listing/src/fault.rt", "names", 9)
+NODES = ("crates/llrp_listing/src/fault.rt", "node_fault_name", 8)
+RULES = ("crates/tag_uri/src/fault.rt", "name", 10)
+PARTS = ("crates/tag_epc/src/fault.rt", "name", 5)
+FRAMES = ("crates/llrp_listing/src/printing/ends.rt", "name_of", 15)
+# The head of each table of the page, and the line before each list of the manual page.
+TABLES = {
+    "| Line |": LINES,
+    "| Reason | What is wrong | A listing": REASONS,
+    "| After `Node` |": NODES,
+    "| Rule |": RULES,
+    "| Reason | What is wrong | A word": PARTS,
+    "| Reason | What is wrong | A frame": FRAMES,
+}
+LISTS = {
+    "An error is one line on standard error:": LINES,
+    "refuses a line:": REASONS,
+    "Why the text of a tag is refused:": RULES,
+    "Why a word has no tag URI:": PARTS,
+    "Why a frame is not a message:": FRAMES,
+}
+# The lines before an example, and the number of the line that is refused.
+REPORT = "0 RO_ACCESS_REPORT 1 1\n"
+TAG = REPORT + "1 TagReportData\n"
+ADD = "0 ADD_ROSPEC 1 1\n"
+BEFORE = {
+    ("Line", 1): "",
+    ("Level", 1): "",
+    ("Name", 1): "",
+    ("Fields", 1): "",
+    ("Number", 1): "",
+    ("Tail", 3): ADD + "1 ROSpec 1 0 0\n",
+    ("Epc RULE", 3): TAG,
+    ("Node FaultName", 2): REPORT,
+    ("OverLimit", 1): "",
+    ("Value", 2): ADD,
+    ("Node Tail", 3): TAG,
+    ("Misplaced", 1): "",
+    ("TooMany", 2): TAG + "2 EPC-96 urn:epc:tag:gid-96:1.2.3\n2 AntennaID 1\n",
+    ("Missing", 2): REPORT,
+    ("TooLong", 2): TAG + "2 EPC-96 urn:epc:tag:gid-96:1.2.3\n" + "2 C1G2-CRC 7439\n" * 21840,
+}
+
+
+def words_of(name, function, count):
+    """Returns the words that a function of a source gives, without what is put in for a number."""
+    body = re.split(rf"fn {function}\b", text_of(name))[1].split("\n    }\n")[0]
+    found = {re.match(r"(llrp: )?(\w+)", it)[2] for it in re.findall(r'"((?:llrp: )?[A-Za-z0-9][^"\\]*)', body)}
+    return found if len(found) == count else set()
+
+
+def rows(head):
+    """Returns the cells of each row of the page's table with this head."""
+    table = text_of(PAGE).split(f"\n{head}")[1].split("\n\n")[0]
+    return [[cell.strip() for cell in line.strip("|").split(" | ")] for line in table.splitlines()[2:]]
+
+
+def entries(before):
+    """Returns the entries of the manual page's list after a line."""
+    listed = text_of("docs/llrp.1").split(f"\n{before}\n")[1].split("\n.El\n")[0]
+    return [it for line in re.findall(r"(?m)^\.It (.*)$", listed) for it in line.split(" , ")]
+
+
+def first_words(names):
+    """Returns the first word of each name, without the program's own."""
+    return sorted(re.sub(r"^llrp: ", "", it.strip("`| ")).split()[0].rstrip(":") for it in names)
+
+
+def checks_of_rows():
+    """Yields whether each table and each list has exactly the words of its source; llrp: network is said by the program itself."""
+    for where, names in [(TABLES, lambda head: [row[0] for row in rows(head)]), (LISTS, entries)]:
+        for head, source in where.items():
+            wanted = words_of(*source) | ({"network"} if source == LINES else set())
+            yield f"the source of {head}", len(wanted) >= source[2]
+            yield f"the rows after {head}", first_words(names(head)) == sorted(wanted)
+    yield "the exit statuses", [row[0] for row in rows("| Exit status |")] == ["0", "1", "2", "3", "125"]
+    nodes = re.search(r"is not lawful: ([^.]*)\.", text_of("docs/llrp.1").replace("\n", " "))[1]
+    yield "the faults after Node in the manual page", set(re.findall(r"[A-Z]\w+", nodes)) == words_of(*NODES)
+
+
+def run(program, *words, given=b""):
+    """Returns the status, and what was written to standard output and standard error."""
+    given = given.encode() if isinstance(given, str) else given
+    done = subprocess.run([program, *words], capture_output=True, input=given, timeout=60)
+    return done.returncode, done.stdout, done.stderr.decode()
+
+
+def refused_by(program, reason, line, listing, *words):
+    """Whether encode refuses a listing at a line for a reason."""
+    status, _, error = run(program, "encode", *words, given=listing)
+    return (status, error) == (1, f"llrp: line {line}: {reason}\n")
+
+
+def checks_of_listings(program):
+    """Yields whether each listing of the page is refused for the reason beside it, at its line."""
+    twice = {"Tail": "Node Tail"}
+    for head, of_node in (("| Reason | What is wrong | A listing", False), ("| After `Node` |", True)):
+        for name, _, example in rows(head):
+            name = name.strip("`")
+            row = twice.get(name, name) if of_node else name
+            if example.startswith("none: "):
+                continue
+            line, before = next((line, before) for (key, line), before in BEFORE.items() if key == row)
+            reason = f"Node {name}" if of_node else {"Epc RULE": "Epc LeadingZero", "Node FaultName": "Node Missing"}.get(name, name)
+            shown = "\n".join(re.findall(r"`(\d+ [^`]*)`", example.split(": 18")[0]))
+            words = ["--limit", re.search(r"--limit (\d+)", example)[1]] if "--limit" in example else []
+            end_line = "" if "without a line feed" in example else "\n"
+            yield f"{reason}: {shown}", refused_by(program, reason, line, before + shown + (end_line if shown else ""), *words)
+
+
+def checks_of_tags(program):
+    """Yields whether each text is refused by the rule beside it, and each word has the line beside it."""
+    for rule, _, example in rows("| Rule |"):
+        text = example.strip("`")
+        rule = rule.strip("`")
+        yield f"{text} is refused by {rule}", run(program, "epc", text) == (1, f"! {rule}\n".encode(), "")
+        line = f"{TAG}2 EPC-96 {text}\n"
+        yield f"{text} is refused in a listing", refused_by(program, f"Epc {rule}", 3, line)
+    for part, _, example in rows("| Reason | What is wrong | A word"):
+        digits, line = re.fullmatch(r"`([0-9A-F]{24})`: `(# [^`]+)`", example).groups()
+        wanted = f"urn:epc:raw:96.x{digits}\n{line}\n".encode()
+        yield f"{digits} is answered by {line}", line.split()[1] == part.strip("`") and run(program, "epc", digits) == (0, wanted, "")
+
+
+def checks_of_frames(program):
+    """Yields whether each frame is listed by the line beside it."""
+    for reason, _, example in rows("| Reason | What is wrong | A frame"):
+        *digits, line = re.findall(r"`([^`]+)`", example)
+        if digits:
+            frame = bytes.fromhex(digits[0])
+        else:
+            frame = nested_errors(16)
+        more = re.search(r"and ([\d,]+) octets more", example)
+        frame += bytes(int(more[1].replace(",", ""))) if more else b""
+        is_right = line.split()[3] == reason.strip("`") and run(program, "show", given=frame) == (1, f"{line}\n".encode(), "")
+        yield f"{reason} is listed by {line}", is_right
+
+
+def checks_of_lines(program):
+    """Yields whether each example of an error of a run ends with its line; `bound` would take a million reads, and `memory` is
+    what tests/refuse_program.py is for."""
+    example = {row[0].strip("`").split()[1].rstrip(":"): row[2] for row in rows("| Line |")}
+    code = {name: re.findall(r"`([^`]*)`", text) for name, text in example.items()}
+    listing = TAG + "2 EPC-96 urn:epc:tag:sgtin-96:3.0614141.812345.007\n"
+    yield "line", run(program, "encode", given=listing)[::2] == (1, code["line"][0] + "\n")
+    yield "script", run(program, "loop", given=code["script"][0] + "\n") == (1, b"", "llrp: script line 1\n")
+    yield "hex", run(program, "show", "--hex", given=code["hex"][0]) == (1, b"", "llrp: hex\n")
+    with open("/dev/full", "wb") as full:
+        done = subprocess.run([program, "epc", "0" * 24], stdout=full, stderr=subprocess.PIPE, timeout=60)
+    yield "write", (done.returncode, done.stderr) == (3, b"llrp: write\n")
+    yield "network", run(program, "inventory", "127.0.0.1", str(free_port())) == (3, b"", "llrp: network\n")
+    yield "broken", sim_to(program, bytes.fromhex(code["broken"][0])) == (1, "llrp: broken\n")
+    refusal = "041E0000001200000001 011F000800650000"
+    yield "status", inventory_from(program, [ANSWERS[0], refusal]) == (1, code["status"][0] + "\n")
+    yield "strange", inventory_from(program, [*ANSWERS[:2], ANSWERS[1]]) == (1, "llrp: strange\n")
+    yield "strange, a reserved bit", inventory_from(program, ["283E0000000A00000007"]) == (1, "llrp: strange\n")
+    yield "early", inventory_from(program, ANSWERS[:1]) == (1, "llrp: early\n")
+
+
+def main():
+    program = os.path.abspath(sys.argv[1] if len(sys.argv) > 1 else os.path.join(TOP, "crates/llrp/out/llrp"))
+    parts = (checks_of_listings, checks_of_tags, checks_of_frames, checks_of_lines)
+    return finish_results([*checks_of_rows(), *(it for part in parts for it in part(program))], LEAST)
+
+
+if __name__ == "__main__":
+    sys.exit(main())
