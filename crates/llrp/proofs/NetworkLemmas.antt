@@ -10,7 +10,7 @@ use Rattle.llrp_endpoints.specs.Plan.{Plan}
 use Rattle.llrp_endpoints.specs.RunInventory.{RunsInventory}
 use Rattle.llrp_endpoints.specs.RunLoop.{RunsLoop, Traffic, Way}
 use Rattle.llrp_endpoints.specs.RunServe.{RunsServe}
-use Rattle.llrp_tool.specs.declared.command.TheConstants.{LIMIT}
+use Rattle.llrp_commands.specs.declared.command.TheConstants.{LIMIT}
 use Rattle.llrp.specs.declared.network.TheConstants.{FIRST_ID}
 use Rattle.llrp.specs.Network.{FollowsPlan, RunsBoth, Serves, unnumbered}
 

@@ -3,7 +3,7 @@ use Rattle.std.specs.Prelude.{◌≡◌, ℕ, ◌⊎◌, List}
 use Rattle.llrp_stream.specs.Device.{SinkLog, Wrote, WroteAndFailed}
 use Rattle.llrp_listing.specs.Copying.{IsPrefix}
 use Rattle.llrp_listing.specs.declared.fault.ToolErr.TheVariants.{Memory}
-use Rattle.llrp_tool.specs.Command.{error_line}
+use Rattle.llrp_commands.specs.Command.{error_line}
 
 -- The exit status is 3. The line of refused memory was written to the sink for errors, or a write failed after a front of it.
 abbrev pub EndsWithoutMemory : SinkLog → SinkLog → ℕ → Type 0

@@ -6,8 +6,8 @@ use Rattle.llrp_listing.specs.declared.fault.ToolErr.{ToolErr}
 use Rattle.llrp_listing.specs.declared.fault.ToolErr.TheVariants.{Write, Memory}
 use Rattle.llrp_endpoints.specs.declared.script.Entry.{Entry}
 use Rattle.llrp_endpoints.specs.declared.summary.Summary.{Summary}
-use Rattle.llrp_tool.specs.Command.{Answers, fine_status}
-use Rattle.llrp_tool.specs.declared.command.TheConstants.{LIMIT}
+use Rattle.llrp_commands.specs.Command.{Answers, fine_status}
+use Rattle.llrp_commands.specs.declared.command.TheConstants.{LIMIT}
 use Rattle.llrp_listing.specs.Copying.{IsPrefix, ReadAll, ReadStopped}
 use Rattle.llrp_endpoints.specs.Plan.{Plan}
 use Rattle.llrp_endpoints.specs.RunInventory.{RunsInventory}

@@ -1,0 +1,113 @@
+-- What the arguments of a parse are read as.
+use Rattle.std.proofs.Common.{◌≡◌, ◌∙◌, ℕ, ◌==◌, ◌<◌, ◌≤◌, ◌^◌, ◌⊎◌, inl, inr, Bool, true, false, cond, List, [], ◌∷◌, Option, Some, None, refl, sym, ap, subst, arith, codes}
+use Rattle.std.specs.Prelude.{Result, Ok, option_map, unwrap_or, pos, ◌≤ℤ◌, neg_ℤ}
+use Rattle.std.specs.Str.{bytes_eq}
+use Rattle.std.specs.Str.Parse.{IsNumeral, ParsesUnsigned, digits_value, signed_digits_value, without_leading_plus}
+use Rattle.std.proofs.lemmas.Int.{ints}
+use Rattle.std.proofs.lemmas.Slice.Eq.{bytes_eq-Decides}
+use Rattle.std.proofs.lemmas.Str.Parse.{digit_from_value, without_leading_plus_none}
+use Rattle.clap.specs.Matches.{ReadsOne}
+use Rattle.clap.specs.Values.{IsSignedIn}
+use Rattle.clap.specs.Words.{Row, Text, without_minus}
+use Rattle.clap.proofs.CallerReads.{signed_reads}
+use Rattle.llrp_tree.specs.declared.TheConstants.{MAX_LIMIT}
+use Rattle.llrp_commands.specs.Parse.{HasFlagWord, HasNumberIn, HasStreamWords, HasWord, IsFound, IsNetworkParse, IsParse}
+use Rattle.llrp_commands.specs.Words.{IsFlag, HasFlag, HasNumber, hex_in, name_in, word_in}
+
+-- two texts that a test distinguishes
+pub differs : (a b : Text) → bytes_eq a b ≡ false → a ≡ b → ⊥
+differs a b e same =
+    let bad : true ≡ false = sym ((bytes_eq-Decides a b).1 same) ∙ e in
+    cc
+
+no_plus : (ds : List ℕ) → IsNumeral 10 ds → without_leading_plus ds ≡ ds
+no_plus [] h = refl
+no_plus (d ∷ ds) h = without_leading_plus_none (d ∷ ds) (λ (e : d ≡ 43). omega (arith, digit_from_value d h.1.0))
+
+-- a word of a number that is not negative spells what its digits are worth
+spelled : (low high : ℕ) (t : List ℕ) → IsSignedIn (pos low) (pos high) t → signed_digits_value 10 t ≡ pos (digits_value 10 (without_leading_plus (without_minus t)))
+spelled low high [] h = refl
+spelled low high (x ∷ xs) h = go (x == 45) h.0 h.2
+  where
+    go : (b : Bool) → IsNumeral 10 (cond b xs (without_leading_plus (x ∷ xs))) → pos low ≤ℤ cond b (neg_ℤ (pos (digits_value 10 (cond b xs (without_leading_plus (x ∷ xs)))))) (pos (digits_value 10 (cond b xs (without_leading_plus (x ∷ xs)))))
+        → cond b (neg_ℤ (pos (digits_value 10 (cond b xs (without_leading_plus (x ∷ xs)))))) (pos (digits_value 10 (cond b xs (without_leading_plus (x ∷ xs)))))
+        ≡ pos (digits_value 10 (without_leading_plus (unwrap_or (cond b (Some xs) None) (x ∷ xs))))
+    go true f least =
+        let none : digits_value 10 xs ≡ 0 = omega (arith, ints) in
+        rw (no_plus xs f, none) refl
+    go false f least = refl
+
+-- an argument that the parse made sure of reads as the number that its word spells
+pub reads_number : (E : Type 0) (G : List ℕ → Result ℕ E → Type 0) (k low high : ℕ) (t : List ℕ) (r : Option ℕ) → ReadsOne G (without_minus t) r → ((u : List ℕ) (x : Result ℕ E) → G u x → ParsesUnsigned k 10 u x)
+    → high < 2 ^ k → IsSignedIn (pos low) (pos high) t → (n : ℕ) × (r ≡ Some n) × (signed_digits_value 10 t ≡ pos n) × (low ≤ n) × (n ≤ high)
+reads_number E G k low high t r read only fits passed =
+    let got = signed_reads E G k low high t r read only fits passed in
+    let here : G (without_minus t) (Ok got.0) = subst (λ (o : Option ℕ). ReadsOne G (without_minus t) o) got.1 read in
+    (got.0, got.1, spelled low high t passed ∙ ap pos (sym (only (without_minus t) (Ok got.0) here).1), got.2, got.3)
+
+-- the number that the word of an argument spells
+number_of_word : (low high : ℕ) (id name : Text) (rows : List Row) → HasNumberIn low high id rows → (n : ℕ) × HasNumber id (Some (name, rows)) n
+number_of_word low high id name rows h = (digits_value 10 (without_leading_plus (without_minus h.word)), ap (option_map (signed_digits_value 10)) h.given ∙ ap (λ z. Some z) (spelled low high h.word h.spells))
+
+-- what is neither sim nor loop is inventory, with its host
+pub inventory_there : (name : Text) (rows : List Row) → IsNetworkParse name rows → (name ≡ codes "sim" → ⊥) → (name ≡ codes "loop" → ⊥) → (name ≡ codes "inventory") × HasWord (codes "HOST") rows
+inventory_there name rows (inl h) no_sim no_loop = absurd (no_sim h.0)
+inventory_there name rows (inr (inl h)) no_sim no_loop = (h.0, h.1)
+inventory_there name rows (inr (inr h)) no_sim no_loop = absurd (no_loop h.0)
+
+-- epc has its text
+pub text_of_epc : (name : Text) (rows : List Row) → IsParse name rows → name ≡ codes "epc" → HasWord (codes "TEXT") rows
+text_of_epc name rows (inl h) e = absurd (differs (codes "show") (codes "epc") refl (sym h.0 ∙ e))
+text_of_epc name rows (inr (inl h)) e = absurd (differs (codes "encode") (codes "epc") refl (sym h.0 ∙ e))
+text_of_epc name rows (inr (inr (inl h))) e = h.1
+text_of_epc name rows (inr (inr (inr (inl h)))) e = absurd (differs (codes "sim") (codes "epc") refl (sym h.0 ∙ e))
+text_of_epc name rows (inr (inr (inr (inr (inl h))))) e = absurd (differs (codes "inventory") (codes "epc") refl (sym h.0 ∙ e))
+text_of_epc name rows (inr (inr (inr (inr (inr h))))) e = absurd (differs (codes "loop") (codes "epc") refl (sym h.0 ∙ e))
+
+-- what was found, by its name and its rows
+pub found_as : (name : Text) (rows : List Row) (found : Option (Text × List Row)) → Some name ≡ option_map (λ p. p.0) found → Some rows ≡ option_map (λ p. p.1) found → found ≡ Some (name, rows)
+found_as name rows None e f = cc
+found_as name rows (Some p) e f =
+    let a : name ≡ p.0 = cc in
+    let b : rows ≡ p.1 = cc in
+    ap (λ (n : Text). Some (n, p.1)) (sym a) ∙ ap (λ (rs : List Row). Some (name, rs)) (sym b)
+
+-- where epc was found its text is there
+pub found_text : (found : Option (Text × List Row)) → IsFound found → name_in found ≡ Some (codes "epc") → (text : Text) × (word_in (codes "TEXT") found ≡ Some text)
+found_text None h e = absurd h
+found_text (Some p) h e = text_of_epc p.0 p.1 h (let same : p.0 ≡ codes "epc" = cc in same)
+
+-- show and encode have their flag and their limit
+pub stream_words_of : (name : Text) (rows : List Row) → IsParse name rows → (name ≡ codes "show") ⊎ (name ≡ codes "encode") → HasStreamWords rows
+stream_words_of name rows (inl h) e = h.1
+stream_words_of name rows (inr (inl h)) e = h.1
+stream_words_of name rows (inr (inr (inl h))) (inl e) = absurd (differs (codes "epc") (codes "show") refl (sym h.0 ∙ e))
+stream_words_of name rows (inr (inr (inl h))) (inr e) = absurd (differs (codes "epc") (codes "encode") refl (sym h.0 ∙ e))
+stream_words_of name rows (inr (inr (inr (inl h)))) (inl e) = absurd (differs (codes "sim") (codes "show") refl (sym h.0 ∙ e))
+stream_words_of name rows (inr (inr (inr (inl h)))) (inr e) = absurd (differs (codes "sim") (codes "encode") refl (sym h.0 ∙ e))
+stream_words_of name rows (inr (inr (inr (inr (inl h))))) (inl e) = absurd (differs (codes "inventory") (codes "show") refl (sym h.0 ∙ e))
+stream_words_of name rows (inr (inr (inr (inr (inl h))))) (inr e) = absurd (differs (codes "inventory") (codes "encode") refl (sym h.0 ∙ e))
+stream_words_of name rows (inr (inr (inr (inr (inr h))))) (inl e) = absurd (differs (codes "loop") (codes "show") refl (sym h.0 ∙ e))
+stream_words_of name rows (inr (inr (inr (inr (inr h))))) (inr e) = absurd (differs (codes "loop") (codes "encode") refl (sym h.0 ∙ e))
+
+-- where show or encode was found its flag is there
+pub found_flag : (found : Option (Text × List Row)) → IsFound found → (name_in found ≡ Some (codes "show")) ⊎ (name_in found ≡ Some (codes "encode")) → (hex : Bool) × IsFlag (hex_in found) hex
+found_flag None h e = absurd h
+found_flag (Some p) h (inl e) = (stream_words_of p.0 p.1 h (inl (let same : p.0 ≡ codes "show" = cc in same))).0
+found_flag (Some p) h (inr e) = (stream_words_of p.0 p.1 h (inr (let same : p.0 ≡ codes "encode" = cc in same))).0
+
+-- and its limit
+pub found_limit : (found : Option (Text × List Row)) → IsFound found → (name_in found ≡ Some (codes "show")) ⊎ (name_in found ≡ Some (codes "encode")) → (limit : ℕ) × HasNumber (codes "limit") found limit
+found_limit None h e = absurd h
+found_limit (Some p) h (inl e) = number_of_word 10 MAX_LIMIT (codes "limit") p.0 p.1 (stream_words_of p.0 p.1 h (inl (let same : p.0 ≡ codes "show" = cc in same))).1
+found_limit (Some p) h (inr e) = number_of_word 10 MAX_LIMIT (codes "limit") p.0 p.1 (stream_words_of p.0 p.1 h (inr (let same : p.0 ≡ codes "encode" = cc in same))).1
+
+-- a plan has its flag
+pub flag_of_plan : (name : Text) (rows : List Row) → IsNetworkParse name rows → (name ≡ codes "sim" → ⊥) → HasFlagWord (codes "check") rows
+flag_of_plan name rows (inl h) no_sim = absurd (no_sim h.0)
+flag_of_plan name rows (inr (inl h)) no_sim = h.3.2
+flag_of_plan name rows (inr (inr h)) no_sim = h.1.2
+
+-- a flag that reads what it says is what it says
+pub reads_flag : (found : Option Text) (flag : Bool) → HasFlag found flag → (given : Bool) × IsFlag found given → IsFlag found flag
+reads_flag found flag reads (given, is) = subst (IsFlag found) (sym (reads given is)) is

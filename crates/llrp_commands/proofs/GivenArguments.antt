@@ -1,0 +1,332 @@
+-- A parse of the program's words that succeeds has found a command, with the arguments that it needs.
+use Rattle.std.proofs.Common.{◌≡◌, ◌∙◌, ℕ, ◌<◌, ◌&&◌, ◌||◌, ◌⊎◌, inl, inr, Bool, true, false, cond, not, List, [], ◌∷◌, is_some, Option, Some, None, refl, sym, ap, subst, arith, codes, length}
+use Rattle.std.specs.Prelude.{IfSome, find, fold, option_and_then, option_map, pos, slice_get}
+use Rattle.std.specs.Option.{option_map_or}
+use Rattle.std.specs.Str.{bytes_eq}
+use Rattle.std.proofs.lemmas.Int.{ints}
+use Rattle.std.proofs.lemmas.Slice.Eq.{bytes_eq-Decides}
+use Rattle.clap.specs.Lexer.{long_of, short_of}
+use Rattle.clap.specs.Values.{IsSignedIn, read_as, reading_of}
+use Rattle.clap.specs.Facts.{parser_of_value}
+use Rattle.clap.specs.ValueTests.{accepts}
+use Rattle.clap.specs.declared.builder.value_parser.ValueParser.{ValueParser}
+use Rattle.clap.specs.declared.builder.value_parser.ValueParser.TheVariants.{Signed, Bool as BoolParser}
+use Rattle.clap.specs.declared.error.kind.ErrorKind.{ErrorKind}
+use Rattle.clap.specs.Kinds.{Kinds, or_else}
+use Rattle.clap.specs.Faults.{fault_of, defaults_fault, entered_fault, level_fault, other_fault, settle_fault, step_fault, turn_fault, walk_fault, word_fault}
+use Rattle.clap.specs.Simple.{Shape, argument_words, built, entered, label_of, names_of, rows_at, filled, help_rule, with_index, built_leaf, inherited}
+use Rattle.clap.specs.Walk.{Held, Names, Outcome, done, waits, plain, refused, Row, Rule, Step, next, trailing, subcommand, value, Text, Waiting, idle, option, positional, Walk, answers_to, arg_by_id, nothing_held, rows_after}
+use Rattle.clap.specs.Walk.{subcommand_met, subcommand_or_other, word_met, to_positional, after_step, walked, walked_from, walk, walk_from, arg_by_index, arg_by_long, bundle, long_met, settled, finished}
+use Rattle.clap.specs.Walk.{one_of, row_text, plain_word, after_flag, long_or_other, short_or_plain}
+use Rattle.clap.proofs.ValueTestLemmas.{accepts-Accepts}
+use Rattle.llrp_tree.specs.declared.TheConstants.{MAX_LIMIT}
+use Rattle.llrp_commands.specs.Parse.{HasFlagWord, HasLimitWord, HasNumberWord, HasStreamWords, HasWord, IsFound, IsParse, MayHaveNumberWord}
+use Rattle.llrp_commands.specs.Words.{command_in, stream_app, hex_rule, limit_rule, check_rule, host_rule, inventory_app, llrp_app, loop_app, number_rule, port_app, port_rule, text_app, text_rule, top_app, timeout_rule}
+use Rattle.llrp_commands.proofs.ReadRows.{AllFound, AllUsesPass, HasRead, IsAmong, LevelPasses, both, subcommand_there, flag_passes, has_read, help_passes, level_passes, set_passes, uses_pass}
+
+-- ---- a walk without a fault does not stop at help
+
+-- the step enters no help
+abbrev EntersNoHelp : Step → Type 0
+EntersNoHelp (subcommand name) = bytes_eq name (codes "help") ≡ false
+EntersNoHelp (next waiting) = Unit {0}
+EntersNoHelp (trailing position) = Unit {0}
+EntersNoHelp value = Unit {0}
+
+-- where the walk stopped is not help
+abbrev IsNoHelp : Option (Text × List Text) → Type 0
+IsNoHelp stop = IfSome stop (λ p. bytes_eq p.0 (codes "help") ≡ false)
+
+plain_no_help : (c : List Rule) (waiting : Waiting) (word : Text) (h : Held) → EntersNoHelp (plain_word c waiting word h).1
+plain_no_help c idle word h = tt
+plain_no_help c positional word h = tt
+plain_no_help c (option id) word h = tt
+
+after_flag_no_help : (c : List Rule) (waiting : Waiting) (word : Text) (h : Held) (o : Outcome) → EntersNoHelp (after_flag c waiting word h o).1
+after_flag_no_help c waiting word h done = tt
+after_flag_no_help c waiting word h (waits id) = tt
+after_flag_no_help c waiting word h plain = plain_no_help c waiting word h
+after_flag_no_help c waiting word h refused = plain_no_help c waiting word h
+
+flag_word_no_help : (c : List Rule) (waiting : Waiting) (word : Text) (o : Option (Text × Option Text)) (h : Held) → EntersNoHelp (long_or_other c waiting word o h).1
+flag_word_no_help c waiting word (Some p) h = after_flag_no_help c waiting word (long_met c (arg_by_long c p.0) p.1 h).0 (long_met c (arg_by_long c p.0) p.1 h).1
+flag_word_no_help c waiting word None h = go (short_of word)
+  where
+    go : (o : Option Text) → EntersNoHelp (short_or_plain c waiting word o h).1
+    go None = plain_no_help c waiting word h
+    go (Some flags) = after_flag_no_help c waiting word (bundle c flags h).0 (bundle c flags h).1
+
+word_no_help : (s : Shape) → s.disable_help_subcommand ≡ false → (names : Names) (is_trailing : Bool) (waiting : Waiting) (position : ℕ) (word : Text) (h : Held)
+    → word_fault s names is_trailing waiting word h ≡ [] → EntersNoHelp (word_met s.rules names is_trailing waiting position word h).1
+word_no_help s offers names true waiting position word h pass = tt
+word_no_help s offers names false waiting position word h pass = go (subcommand_met names waiting word) pass
+  where
+    other : (b : Bool) → EntersNoHelp (cond b (h, trailing position) (long_or_other s.rules waiting word (long_of word) h)).1
+    other true = tt
+    other false = flag_word_no_help s.rules waiting word (long_of word) h
+
+    none : (b d : Bool) (k : ErrorKind) (l : Kinds) → d ≡ false → cond (b && not d) (k ∷ l) [] ≡ [] → b ≡ false
+    none true true k l e f = absurd (cc)
+    none true false k l e f = cc
+    none false d k l e f = refl
+
+    go : (o : Option Text) → other_fault s o word h ≡ [] → EntersNoHelp (subcommand_or_other s.rules o waiting position word h).1
+    go (Some name) f = none (bytes_eq name (codes "help")) s.disable_help_subcommand _ _ offers f
+    go None f = other (bytes_eq word (45 ∷ 45 ∷ []))
+
+step_no_help : (s : Shape) (word : Text) (w : Walk) (h : Held) (step : Step) → EntersNoHelp step → IsNoHelp w.stopped → IsNoHelp (after_step s.rules word w h step).stopped
+step_no_help s word w h (next waiting) e stop = stop
+step_no_help s word w h (trailing position) e stop = stop
+step_no_help s word w h (subcommand name) e stop = e
+step_no_help s word w h value e stop = go (arg_by_index s.rules w.position)
+  where
+    go : (o : Option Rule) → IsNoHelp (to_positional s.rules o word w h).stopped
+    go None = stop
+    go (Some a) = tt
+
+turn_no_help : (s : Shape) → s.disable_help_subcommand ≡ false → (names : Names) (w : Walk) (word : Text) → turn_fault s names w word ≡ [] → IsNoHelp w.stopped → IsNoHelp (walked s.rules names w word).stopped
+unfolding walked
+turn_no_help s offers names w word pass stop = go w.stopped stop pass
+  where
+    go : (o : Option (Text × List Text)) → IsNoHelp o → cond (is_some o) [] (or_else (word_fault s names w.is_trailing w.waiting word w.held)
+        (step_fault s w.position (word_met s.rules names w.is_trailing w.waiting w.position word w.held).0 (word_met s.rules names w.is_trailing w.waiting w.position word w.held).1)) ≡ []
+        → IsNoHelp (walked_from s.rules names o w word).stopped
+    go (Some p) helpless f = helpless
+    go None helpless f =
+        let parts = both (word_fault s names w.is_trailing w.waiting word w.held) _ f in
+        let met = word_met s.rules names w.is_trailing w.waiting w.position word w.held in
+        step_no_help s word w met.0 met.1 (word_no_help s offers names w.is_trailing w.waiting w.position word w.held parts.0) stop
+
+walk_no_help : (s : Shape) → s.disable_help_subcommand ≡ false → (names : Names) (w : Walk) (words : List Text) → walk_fault s names w words ≡ [] → IsNoHelp w.stopped → IsNoHelp (fold (walked s.rules names) w words).stopped
+unfolding walk_fault
+walk_no_help s offers names w [] pass stop = stop
+walk_no_help s offers names w (word ∷ rest) pass stop =
+    let parts = both (turn_fault s names w word) _ pass in
+    walk_no_help s offers names (walked s.rules names w word) rest parts.1 (turn_no_help s offers names w word parts.0 stop)
+
+-- ---- what a command's arguments give
+
+word_there : (a : Rule) (rows : List Row) → HasRead a rows → HasWord a.id rows
+word_there a rows r = (r.word, r.given)
+
+from_zero : (low high : ℕ) (t : Text) → IsSignedIn (pos low) (pos high) t → IsSignedIn (pos 0) (pos high) t
+from_zero low high t h = (h.0, h.1, omega (arith, ints, h.2), h.3)
+
+number_there : (a : Rule) (rows : List Row) (low : ℕ) → a.parser ≡ Some (Signed (pos low) (pos 65535)) → HasRead a rows → HasNumberWord a.id rows
+number_there a rows low is r =
+    record {
+      word = r.word;
+      given = r.given;
+      read = r.read ∙ ap (λ (p : Option ValueParser). Some (read_as (reading_of (parser_of_value p)) r.word)) is;
+      spells = from_zero low 65535 r.word (accepts-Accepts a.ignore_case (Signed (pos low) (pos 65535)) r.word (ap (λ (p : Option ValueParser). accepts a.ignore_case (parser_of_value p) r.word) (sym is) ∙ r.taken));
+    }
+
+limit_there : (a : Rule) (rows : List Row) → a.parser ≡ Some (Signed (pos 10) (pos MAX_LIMIT)) → HasRead a rows → HasLimitWord a.id rows
+limit_there a rows is r =
+    record {
+      word = r.word;
+      given = r.given;
+      read = r.read ∙ ap (λ (p : Option ValueParser). Some (read_as (reading_of (parser_of_value p)) r.word)) is;
+      spells = accepts-Accepts a.ignore_case (Signed (pos 10) (pos MAX_LIMIT)) r.word (ap (λ (p : Option ValueParser). accepts a.ignore_case (parser_of_value p) r.word) (sym is) ∙ r.taken);
+    }
+
+may_number : (a : Rule) (rows : List Row) (low : ℕ) → a.parser ≡ Some (Signed (pos low) (pos 65535)) → (find (λ (r : Row). bytes_eq r.id a.id) rows ≡ None) ⊎ HasRead a rows → MayHaveNumberWord a.id rows
+may_number a rows low is (inl none) = inl (ap (option_and_then row_text) none, ap (option_and_then (λ (r : Row). slice_get r.values 0)) none)
+may_number a rows low is (inr r) = inr (number_there a rows low is r)
+
+-- a flag's word is one of two
+flag_word : (name : Text) (a : Rule) (rows : List Row) → a.id ≡ name → a.parser ≡ Some BoolParser → HasRead a rows → HasFlagWord name rows
+flag_word name a rows id is r =
+    let read : one_of name rows ≡ Some r.word = ap (λ (t : Text). one_of t rows) (sym id) ∙ r.read ∙ ap (λ (p : Option ValueParser). Some (read_as (reading_of (parser_of_value p)) r.word)) is in
+    let taken : (bytes_eq r.word (codes "true") || bytes_eq r.word (codes "false")) ≡ true = ap (λ (p : Option ValueParser). accepts a.ignore_case (parser_of_value p) r.word) (sym is) ∙ r.taken in
+    go (bytes_eq r.word (codes "true")) refl read taken
+  where
+    go : (b : Bool) → bytes_eq r.word (codes "true") ≡ b → one_of name rows ≡ Some r.word → (b || bytes_eq r.word (codes "false")) ≡ true → HasFlagWord name rows
+    go true e read t = (true, read ∙ ap (λ (w : Text). Some w) ((bytes_eq-Decides r.word (codes "true")).0 e))
+    go false e read t = (false, inl (read ∙ ap (λ (w : Text). Some w) ((bytes_eq-Decides r.word (codes "false")).0 t)))
+
+-- a command of this name gives what it needs
+abbrev Gives : Shape → Type 0
+Gives s = (name : Text) (words : List Text) → bytes_eq name (codes "help") ≡ false → answers_to name (label_of s) ≡ true → level_fault s [] nothing_held words false [] ≡ [] → IsParse s.name (rows_after s.rules [] words)
+
+abbrev AllGive : List Shape → Type 0
+AllGive [] = Unit {0}
+AllGive (s ∷ ss) = Gives s × AllGive ss
+
+found_parse : (subs : List Shape) → AllGive subs → (name : Text) (words : List Text) → bytes_eq name (codes "help") ≡ false
+    → option_map_or (λ s. level_fault s [] nothing_held words false []) (find (λ s. answers_to name (label_of s)) subs) [] ≡ []
+    → IfSome (option_map (λ s. rows_at s words) (find (λ s. answers_to name (label_of s)) subs)) (λ p. IsParse p.0 p.1)
+found_parse [] all name words helpless pass = tt
+found_parse (s ∷ ss) all name words helpless pass = go (found_parse ss all.1 name words helpless) (answers_to name (label_of s)) refl pass
+  where
+    go : (option_map_or (λ s. level_fault s [] nothing_held words false []) (find (λ s. answers_to name (label_of s)) ss) [] ≡ []
+        → IfSome (option_map (λ s. rows_at s words) (find (λ s. answers_to name (label_of s)) ss)) (λ p. IsParse p.0 p.1))
+        → (b : Bool) → answers_to name (label_of s) ≡ b → option_map_or (λ s. level_fault s [] nothing_held words false []) (cond b (Some s) (find (λ s. answers_to name (label_of s)) ss)) [] ≡ []
+        → IfSome (option_map (λ s. rows_at s words) (cond b (Some s) (find (λ s. answers_to name (label_of s)) ss))) (λ p. IsParse p.0 p.1)
+    go later true e f = all.0 name words helpless e f
+    go later false e f = later f
+
+-- the arguments of the commands, as the built program has them
+abbrev the_text : Rule
+the_text = with_index 1 (filled text_rule)
+
+abbrev the_port : ℕ → Rule
+the_port place = with_index place (filled port_rule)
+
+abbrev the_host : Rule
+the_host = with_index 1 (filled host_rule)
+
+abbrev the_number : ℕ → Text → Text → Rule
+the_number place name default = with_index place (filled (number_rule name default))
+
+abbrev the_timeout : Rule
+the_timeout = with_index 3 (filled timeout_rule)
+
+abbrev the_help : ℕ → Rule
+the_help place = with_index place (filled help_rule)
+
+-- a command with these arguments
+module _ (s : Shape) (uses : AllUsesPass s.rules s.rules) (found : AllFound s.rules s.rules) (words : List Text) (pass : level_fault s [] nothing_held words false [] ≡ []) where
+  rows : List Row
+  rows = rows_after s.rules [] words
+
+  level : LevelPasses s (rows_after s.rules [] words)
+  level = level_passes s (λ p a e. uses_pass s.rules s.rules uses p a e) found words pass
+
+  pub required_read : s.subcommand_negates_reqs ≡ false → (a : Rule) → arg_by_id s.rules a.id ≡ Some a → IsAmong a s.rules → a.required ≡ true → HasRead a (rows_after s.rules [] words)
+  required_read keeps a by_id among wanted = has_read s.rules a (rows_after s.rules [] words) by_id level.sound (level.required a among wanted keeps)
+
+  pub default_read : (a : Rule) → arg_by_id s.rules a.id ≡ Some a → IsAmong a s.rules → 0 < length a.defaults → HasRead a (rows_after s.rules [] words)
+  default_read a by_id among lt = has_read s.rules a (rows_after s.rules [] words) by_id level.sound (level.defaults a among lt)
+
+  pub optional_read : (a : Rule) → arg_by_id s.rules a.id ≡ Some a → (find (λ (r : Row). bytes_eq r.id a.id) (rows_after s.rules [] words) ≡ None) ⊎ HasRead a (rows_after s.rules [] words)
+  optional_read a by_id = go (find (λ (r : Row). bytes_eq r.id a.id) (rows_after s.rules [] words)) refl
+    where
+      go : (o : Option Row) → find (λ (r : Row). bytes_eq r.id a.id) (rows_after s.rules [] words) ≡ o → (find (λ (r : Row). bytes_eq r.id a.id) (rows_after s.rules [] words) ≡ None) ⊎ HasRead a (rows_after s.rules [] words)
+      go None e = inl e
+      go (Some r) e = inr (has_read s.rules a (rows_after s.rules [] words) by_id level.sound (r, e))
+
+help_gives : (aliases : List Text) (name : Text) → aliases ≡ [] → bytes_eq name (codes "help") ≡ false → answers_to name (codes "help", aliases) ≡ true → ⊥
+help_gives [] name e helpless met = go (bytes_eq (codes "help") name) refl met
+  where
+    go : (b : Bool) → bytes_eq (codes "help") name ≡ b → (b || false) ≡ true → ⊥
+    go true is f =
+        let same : bytes_eq name (codes "help") ≡ true = (bytes_eq-Decides name (codes "help")).1 (sym ((bytes_eq-Decides (codes "help") name).0 is)) in
+        let bad : true ≡ false = sym same ∙ helpless in
+        cc
+    go false is f = cc
+help_gives (a ∷ rest) name e helpless met = cc
+
+-- ---- the program's commands
+
+-- a command of the program, as it is built
+abbrev built_sub : Shape → Shape
+built_sub s = built_leaf (inherited top_app.top s)
+
+abbrev the_hex : Rule
+the_hex = with_index 1 (filled hex_rule)
+
+abbrev the_limit : Rule
+the_limit = with_index 1 (filled limit_rule)
+
+-- show and encode, which have the flag and the limit
+has_stream_words : (s : Shape) → s.rules ≡ the_hex ∷ the_limit ∷ the_help 1 ∷ [] → (words : List Text) → level_fault s [] nothing_held words false [] ≡ [] → HasStreamWords (rows_after s.rules [] words)
+has_stream_words s e words pass =
+    let c : List Rule = the_hex ∷ the_limit ∷ the_help 1 ∷ [] in
+    let uses : AllUsesPass c c = (flag_passes c the_hex refl refl (omega arith), (set_passes c the_limit refl refl refl, (help_passes c (the_help 1) refl, tt))) in
+    let found : AllFound c c = (refl, (refl, (refl, tt))) in
+    let all_use : AllUsesPass s.rules s.rules = subst (λ (x : List Rule). AllUsesPass x x) (sym e) uses in
+    let all_found : AllFound s.rules s.rules = subst (λ (x : List Rule). AllFound x x) (sym e) found in
+    let hex_among : IsAmong the_hex s.rules = subst (IsAmong the_hex) (sym e) (inl refl) in
+    let hex_by_id : arg_by_id s.rules the_hex.id ≡ Some the_hex = subst (λ (x : List Rule). arg_by_id x the_hex.id ≡ Some the_hex) (sym e) refl in
+    let limit_among : IsAmong the_limit s.rules = subst (IsAmong the_limit) (sym e) (inr (inl refl)) in
+    let limit_by_id : arg_by_id s.rules the_limit.id ≡ Some the_limit = subst (λ (x : List Rule). arg_by_id x the_limit.id ≡ Some the_limit) (sym e) refl in (
+      flag_word (codes "hex") the_hex (rows_after s.rules [] words) refl refl (default_read s all_use all_found words pass the_hex hex_by_id hex_among (omega arith)),
+      limit_there the_limit (rows_after s.rules [] words) refl (default_read s all_use all_found words pass the_limit limit_by_id limit_among (omega arith)),
+    )
+
+epc_gives : Gives (built_sub (text_app (codes "epc")).top)
+epc_gives name words helpless met pass =
+    let s = built_sub (text_app (codes "epc")).top in
+    let uses : AllUsesPass s.rules s.rules = (set_passes s.rules the_text refl refl refl, (help_passes s.rules (the_help 2) refl, tt)) in
+    inr (inr (inl (refl, word_there the_text _ (required_read s uses (refl, (refl, tt)) words pass refl the_text refl (inl refl) refl))))
+
+sim_gives : Gives (built_sub (port_app (codes "sim")).top)
+sim_gives name words helpless met pass =
+    let s = built_sub (port_app (codes "sim")).top in
+    let uses : AllUsesPass s.rules s.rules = (set_passes s.rules (the_port 1) refl refl refl, (help_passes s.rules (the_help 2) refl, tt)) in
+    inr (inr (inr (inl (refl, number_there (the_port 1) _ 1 refl (required_read s uses (refl, (refl, tt)) words pass refl (the_port 1) refl (inl refl) refl)))))
+
+abbrev the_every : ℕ → Rule
+the_every place = the_number place (codes "every") (codes "0")
+
+abbrev the_polls : ℕ → Rule
+the_polls place = the_number place (codes "polls") (codes "1")
+
+abbrev the_check : ℕ → Rule
+the_check place = with_index place (filled check_rule)
+
+inventory_gives : Gives (built_sub inventory_app.top)
+inventory_gives name words helpless met pass =
+    let s = built_sub inventory_app.top in
+    let c = s.rules in
+    let uses : AllUsesPass c c = (
+      set_passes c the_host refl refl refl,
+      (set_passes c (the_port 2) refl refl refl, (set_passes c (the_every 3) refl refl refl, (set_passes c (the_polls 3) refl refl refl, (flag_passes c (the_check 3) refl refl (omega arith), (set_passes c the_timeout refl refl refl, (help_passes c (the_help 3) refl, tt)))))),
+    ) in
+    let found : AllFound c c = (refl, (refl, (refl, (refl, (refl, (refl, (refl, tt))))))) in
+    let host = required_read s uses found words pass refl the_host refl (inl refl) refl in
+    let port = required_read s uses found words pass refl (the_port 2) refl (inr (inl refl)) refl in
+    let every = default_read s uses found words pass (the_every 3) refl (inr (inr (inl refl))) (omega arith) in
+    let polls = default_read s uses found words pass (the_polls 3) refl (inr (inr (inr (inl refl)))) (omega arith) in
+    let check = default_read s uses found words pass (the_check 3) refl (inr (inr (inr (inr (inl refl))))) (omega arith) in
+    let timeout = optional_read s uses found words pass the_timeout refl in
+    inr (inr (inr (inr (inl (
+      refl,
+      word_there the_host _ host,
+      number_there (the_port 2) _ 1 refl port,
+      (number_there (the_every 3) _ 0 refl every, number_there (the_polls 3) _ 0 refl polls, flag_word (codes "check") (the_check 3) _ refl refl check),
+      may_number the_timeout _ 1 refl timeout,
+    )))))
+
+loop_gives : Gives (built_sub loop_app.top)
+loop_gives name words helpless met pass =
+    let s = built_sub loop_app.top in
+    let c = s.rules in
+    let uses : AllUsesPass c c = (set_passes c (the_every 1) refl refl refl, (set_passes c (the_polls 1) refl refl refl, (flag_passes c (the_check 1) refl refl (omega arith), (help_passes c (the_help 1) refl, tt)))) in
+    let found : AllFound c c = (refl, (refl, (refl, (refl, tt)))) in
+    let every = default_read s uses found words pass (the_every 1) refl (inl refl) (omega arith) in
+    let polls = default_read s uses found words pass (the_polls 1) refl (inr (inl refl)) (omega arith) in
+    let check = default_read s uses found words pass (the_check 1) refl (inr (inr (inl refl))) (omega arith) in
+    inr (inr (inr (inr (inr (refl, (number_there (the_every 1) _ 0 refl every, number_there (the_polls 1) _ 0 refl polls, flag_word (codes "check") (the_check 1) _ refl refl check))))))
+
+all_give : AllGive (built llrp_app).subs
+unfolding llrp_app
+all_give = (
+  λ name words helpless met pass. inl (refl, has_stream_words (built_sub (stream_app (codes "show")).top) refl words pass),
+  (
+    λ name words helpless met pass. inr (inl (refl, has_stream_words (built_sub (stream_app (codes "encode")).top) refl words pass)),
+    (epc_gives, (sim_gives, (inventory_gives, (loop_gives, (λ name words helpless met pass. absurd (help_gives [] name refl helpless met), tt))))),
+  ),
+)
+
+-- where the parse succeeds a command was found, with what it needs
+pub found_if_parsed : (words : List Text) → fault_of llrp_app words ≡ [] → IsFound (command_in words)
+unfolding llrp_app command_in
+found_if_parsed words pass =
+    let top = (built llrp_app).top in
+    let names = names_of (built llrp_app) in
+    let end = walk top.rules names nothing_held (argument_words llrp_app words) in
+    let p0 = both (walk_fault top names (walk_from nothing_held) (argument_words llrp_app words)) _ pass in
+    let p1 = both (entered_fault (built llrp_app) end.stopped) _ p0.1 in
+    let p2 = both (settle_fault top.rules top.args_override_self end.held) _ p1.1 in
+    let p3 = both (defaults_fault (settled top.rules end.held).rows top.rules) _ p2.1 in
+    entered_parse end.stopped (walk_no_help top refl names (walk_from nothing_held) (argument_words llrp_app words) p0.0 tt) p1.0 (subcommand_there top (finished top.rules end.held) (is_some (entered (built llrp_app) end.stopped)) p3.1)
+  where
+    there : (o : Option (Text × List Row)) → IfSome o (λ p. IsParse p.0 p.1) → (not (is_some o) && true) ≡ false → IsFound o
+    there None h e = cc
+    there (Some p) h e = h
+
+    entered_parse : (stop : Option (Text × List Text)) → IsNoHelp stop → entered_fault (built llrp_app) stop ≡ [] → (not (is_some (entered (built llrp_app) stop)) && true) ≡ false → IsFound (entered (built llrp_app) stop)
+    entered_parse None helpless f e = cc
+    entered_parse (Some p) helpless f e = there (entered (built llrp_app) (Some p)) (found_parse (built llrp_app).subs all_give p.0 p.1 helpless f) e

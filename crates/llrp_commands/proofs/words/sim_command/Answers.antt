@@ -1,0 +1,19 @@
+use Rattle.std.proofs.Common.{ap, ap₂, codes, ◌≡◌, ◌∙◌, Bool, false}
+use Rattle.std.specs.Prelude.{◌||◌}
+use Rattle.clap.specs.declared.builder.command.Command.{Command}
+use Rattle.clap.specs.declared.builder.command.Command.TheViews.{out-Command}
+use Rattle.clap.specs.declared.builder.command.Command.TheOpen.{Command-F}
+use Rattle.clap.specs.Words.{app_of, with_rule, new_app}
+use Rattle.clap.specs.Simple.{app_of_fields}
+use Rattle.std.proofs.lemmas.Result.{IfOk-weaker}
+use Rattle.llrp_commands.proofs.words.sim_command.Goals as goal
+
+pub returns-clause-app : goal.returns-clause-app
+returns-clause-app c =
+    let top_is : app_of c.after_help.result ≡ new_app (codes "sim") = ap app_of_fields c.after_help.ensures ∙ ap app_of_fields c.about.ensures ∙ c.new.ensures.app in
+    IfOk-weaker c.arg.result _ _ (λ r h. h.shape c.port_argument.ensures.local ∙ ap₂ with_rule top_is c.port_argument.ensures.rule) c.arg.ensures
+
+pub returns-clause-local : goal.returns-clause-local
+returns-clause-local c =
+    let top_is : (out-Command c.after_help.result).has_globals ≡ false = ap (λ (f : Command-F Command). f.has_globals) c.after_help.ensures ∙ ap (λ (f : Command-F Command). f.has_globals) c.about.ensures ∙ c.new.ensures.local in
+    IfOk-weaker c.arg.result _ _ (λ r h. h.globals ∙ ap₂ (λ (a b : Bool). a || b) top_is c.port_argument.ensures.local) c.arg.ensures

@@ -1,0 +1,19 @@
+//! The commands of `llrp`: what its words ask for, and each command over bytes and texts, with its exit status and its error's
+//! line. Sockets, files and the process are not part of it, and neither are both ends of a connection, so that this crate is proved
+//! beside theirs; `llrp_tool` exports both.
+//!
+//! Use it to put the commands into a program of your own. [`run_command`] does what the words ask for;
+//! [`network_command`] returns the command over sockets that they ask for, as a [`NetworkCommand`].
+//!
+//! ```
+//! let words = ["epc", "3074257BF7194E4000001A85"];
+//! let status = run_command(alloc, &words, &mut input, &mut output, &mut errors)?;  // 0, and the text was written to output
+//! ```
+#![tactic(auto)]
+
+mod command;
+pub mod laws;
+mod words;
+
+pub use command::{LIMIT, USAGE, answer, run_command};
+pub use words::{NetworkCommand, network_command, reads_input};
