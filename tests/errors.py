@@ -19,7 +19,7 @@ from refusing import TOP
 LEAST = 89
 PAGE = "docs/errors.md"
 # Where the words of each table are: the source, its function, and how many it has.
-LINES = ("crates/llrp_tool/src/command.rt", "write_error", 11)
+LINES = ("crates/llrp_commands/src/command.rt", "write_error", 11)
 REASONS = ("crates/llrp_listing/src/fault.rt", "names", 9)
 NODES = ("crates/llrp_listing/src/fault.rt", "node_fault_name", 8)
 RULES = ("crates/tag_uri/src/fault.rt", "name", 10)

@@ -100,7 +100,7 @@ def checks_of_pages(flags):
 
 def checks_of_limits(program):
     """Yields whether the limits that are told are those of the code."""
-    tree, tool = text_of("crates/llrp_tree/src/lib.rt"), text_of("crates/llrp_tool/src/command.rt")
+    tree, tool = text_of("crates/llrp_tree/src/lib.rt"), text_of("crates/llrp_commands/src/command.rt")
     most, depth = (re.search(rf"pub const {name}: u\d+ = ([\d_]+);", tree)[1].replace("_", "") for name in ("MAX_LIMIT", "MAX_DEPTH"))
     limit = re.search(r"pub const LIMIT: u32 = ([\d_]+);", tool)[1].replace("_", "")
     for command in ("show", "encode"):
@@ -127,7 +127,7 @@ def checks_of_figures():
 
 def checks_of_version(program):
     """Yields whether the version is the source's, and said as help is."""
-    version = re.search(r'const VERSION: &str = "([^"]+)"', text_of("crates/llrp_tool/src/words.rt"))[1]
+    version = re.search(r'const VERSION: &str = "([^"]+)"', text_of("crates/llrp_commands/src/words.rt"))[1]
     done = subprocess.run([program, "--version"], capture_output=True, text=True, timeout=60)
     yield "version", (done.returncode, done.stdout, done.stderr) == (0, f"llrp {version}\n", "")
     alone = subprocess.run([program], capture_output=True, text=True, timeout=60)

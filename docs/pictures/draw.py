@@ -92,9 +92,10 @@ CRATES = {
     "llrp_session": (640, 280, "reader and client"),
     "llrp_listing": (250, 280, "show, encode, epc"),
     "llrp_endpoints": (450, 200, "both ends over bytes"),
-    "llrp_tool": (350, 120, "the command line"),
+    "llrp_commands": (200, 200, "the command line"),
+    "llrp_tool": (350, 120, "both under one name"),
     "llrp": (350, 40, "the program"),
-    "llrp_c": (60, 200, "the library for C"),
+    "llrp_c": (20, 200, "the library for C"),
 }
 WIDTH, HEIGHT = 160, 44
 # What a frame becomes at each crate that it comes through.
