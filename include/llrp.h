@@ -5,6 +5,8 @@
  *
  *  - A pointer that is followed by a length points to that many octets; no pointer is null, not even for a length of 0.
  *  - What a call writes to does not overlap anything else that is passed to it.
+ *  - Pointers to a size_t, uint32_t or uint64_t are aligned as their types ask.
+ *  - During a call nobody else writes to what is passed to it, or reads what it writes to.
  *  - Texts are octets with a length. No zero octet ends them, neither those that are passed nor those that are written.
  *
  * No call keeps anything between two calls, so calls from several threads need no lock. llrp_list and llrp_encode take memory by
@@ -88,8 +90,8 @@ enum llrp_status {
  * text_room    at least LLRP_TEXT_ROOM
  *
  * LLRP_OK, or one of LLRP_HEADER to LLRP_ZEROS where the word has no tag URI: then its raw URI is written, and *bit is the first bit
- * of the part of the word that fails. LLRP_LENGTH if word_length is wrong, else LLRP_ROOM if text_room is too small; then nothing is
- * written. */
+ * of the part of the word that fails. LLRP_LENGTH if word_length is wrong, else LLRP_ROOM if text_room is too small; then
+ * nothing is written, and *count and *bit stay as they were. */
 uint32_t llrp_text_of_word(const uint8_t *word, size_t word_length, uint8_t *text, size_t text_room, size_t *count, uint32_t *bit);
 
 /* Writes the twelve octets of the word of a text to word.
@@ -139,7 +141,9 @@ uint32_t llrp_list(const uint8_t *stream, size_t stream_length, uint8_t *listing
  * line            where the number of the refused line is written
  *
  * LLRP_OK, or the first reason for which the listing is refused, LLRP_START to LLRP_RAW_OF_LAWFUL or LLRP_LINE to LLRP_NODE_TOO_LONG,
- * and *line is its line, counted from 1; nothing is written to octets, and *written is 0.
+ * and *line is its line, counted from 1; nothing is written to octets, and *written is 0. A message longer than LLRP_MOST_OCTETS is
+ * LLRP_NODE_TOO_LONG. LLRP_OVER_LIMIT, LLRP_NODE_FIELD_COUNT and LLRP_NODE_TOO_DEEP never come from here: there is no other limit, and
+ * LLRP_FIELDS and LLRP_LEVEL come first.
  * LLRP_ROOM if there are more octets than the room has: nothing is written to octets, and *written is the room that they need.
  * LLRP_LONG and LLRP_MEMORY: nothing is written, *written and *line are 0. */
 uint32_t llrp_encode(const uint8_t *listing, size_t listing_length, uint8_t *octets, size_t octets_room, size_t *written, uint64_t *line);

@@ -7,8 +7,9 @@ The frame is that of examples/report.hex, and the crates are those of crates.txt
 `N passed, M failed`, and the status is 1 where a picture is not what this script draws.
 """
 import os
+import re
 import sys
-from html import escape
+from html import escape, unescape
 
 DOCS = os.path.dirname(os.path.dirname(os.path.realpath(__file__)))
 TOP = os.path.dirname(DOCS)
@@ -36,7 +37,20 @@ def box(x, y, width, height, fill):
     return f'<rect x="{x}" y="{y}" width="{width}" height="{height}" rx="3" fill="{fill}" stroke="{PALE}"/>'
 
 
+def room_of(words, kind):
+    """Returns more than the width of a text: that of its size, with three fifths of it for each character."""
+    return len(words) * (11 if "small" in kind else 13) * 3 / 5
+
+
+def cut_off(width, parts):
+    """Returns the texts that do not end before the right edge of a picture."""
+    texts = re.findall(r'<text x="(\d+)" y="\d+" class="([^"]*)"[^>]*>([^<]*)</text>', "\n".join(parts))
+    ends = [(int(x) + room_of(unescape(words), kind) / (2 if "middle" in kind else 1), words) for x, kind, words in texts]
+    return [words for end, words in ends if end > width]
+
+
 def picture(width, height, title, parts):
+    assert not cut_off(width, parts), cut_off(width, parts)
     head = f'<svg xmlns="http://www.w3.org/2000/svg" viewBox="0 0 {width} {height}" width="{width}" height="{height}" role="img">'
     return "\n".join([head, f"<title>{escape(title)}</title>", STYLE, f'<rect width="{width}" height="{height}" fill="white"/>', *parts, "</svg>", ""])
 
@@ -130,9 +144,10 @@ def crates():
         x, y, _ = CRATES[crate]
         parts += [f'<circle cx="{x + WIDTH}" cy="{y}" r="10" fill="{WAY}"/>', f'<text x="{x + WIDTH}" y="{y + 5}" class="middle" style="fill: white">{number}</text>']
     way = "; ".join(f"{number} {what} ({crate})" for number, (what, crate) in enumerate(FRAME, 1))
-    parts.append(text(16, 590, f"An arrow leads to a crate that is used. The way of a frame through show: {way}.", "small"))
+    parts.append(text(16, 590, "An arrow leads to a crate that is used.", "small"))
+    parts.append(text(16, 606, f"The way of a frame through show: {way}.", "small"))
     tip = f'<defs><marker id="tip" viewBox="0 0 10 10" refX="9" refY="5" markerWidth="7" markerHeight="7" orient="auto"><path d="M 0 0 L 10 5 L 0 10 z" fill="{PALE}"/></marker></defs>'
-    return picture(820, 606, "The crates, and the way of a frame through them", [tip, *parts])
+    return picture(820, 622, "The crates, and the way of a frame through them", [tip, *parts])
 
 
 def main():
