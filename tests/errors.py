@@ -16,7 +16,7 @@ from damage import nested_errors
 from failing_devices import ANSWERS, free_port, inventory_from, sim_to
 from refusing import TOP
 
-LEAST = 89
+LEAST = 90
 PAGE = "docs/errors.md"
 # Where the words of each table are: the source, its function, and how many it has.
 LINES = ("crates/llrp_commands/src/command.rt", "write_error", 11)
@@ -96,6 +96,9 @@ def checks_of_rows():
             yield f"the source of {head}", len(wanted) >= source[2]
             yield f"the rows after {head}", first_words(names(head)) == sorted(wanted)
     yield "the exit statuses", [row[0] for row in rows("| Exit status |")] == ["0", "1", "2", "3", "125"]
+    statuses = re.findall(r"(?m)^    LLRP_(\w+) = (\d+)", text_of("include/llrp.h"))
+    of_calls = sorted(name.title() for name, code in statuses if int(code) < 16)
+    yield "the names of the library for C alone", first_words(row[0] for row in rows("| Name |")) == of_calls
     nodes = re.search(r"is not lawful: ([^.]*)\.", text_of("docs/llrp.1").replace("\n", " "))[1]
     yield "the faults after Node in the manual page", set(re.findall(r"[A-Z]\w+", nodes)) == words_of(*NODES)
 
