@@ -15,7 +15,7 @@ use crate::number::{numeral, read_field, read_id, read_version};
 use crate::spaced::{count_words, first_word};
 use crate::tail::read_tail;
 use arrayvec::ArrayVec;
-use llrp_schema::{Field, Kind, MsgKind, ParamKind, Tail, msg_named, param_named};
+use llrp_schema::{Field, Kind, MsgKind, ParamKind, Tail, msg_with_name, param_with_name};
 use llrp_tree::{MAX_DEPTH, Octets};
 use std::alloc::{AllocError, AllocFailed, Global};
 use std::str;
@@ -100,12 +100,12 @@ fn read_kind(level: usize, name: &str) -> Option<Kind>
 {
     let octets = name.as_bytes();
     if level == 0 {
-        match msg_named(octets) {
+        match msg_with_name(octets) {
             Some(kind) => Some(Kind::Message(kind)),
             None => None,
         }
     } else {
-        match param_named(octets) {
+        match param_with_name(octets) {
             Some(kind) => Some(Kind::Parameter(kind)),
             None => None,
         }

@@ -8,7 +8,7 @@
 //! ```
 //! let kind = Kind::Parameter(ParamKind::AntennaId);
 //! let width = fields(kind)[0].width;        // 16 bits
-//! let found = param_named(b"AntennaID");    // Some(ParamKind::AntennaId)
+//! let found = param_named("AntennaID");     // Some(ParamKind::AntennaId)
 //! ```
 #![tactic(auto)]
 
@@ -27,7 +27,7 @@ mod tv;
 
 pub use kinds::{Field, Group, Kind, Label, MsgKind, ParamKind, Place, Tail};
 pub use labels::label;
-pub use named::{msg_named, param_named};
+pub use named::{msg_named, msg_with_name, param_named, param_with_name};
 pub use numbered::{is_tv, msg_of, param_of_tlv, param_of_tv};
 pub use places::{place, required};
 pub use tables::{fields, groups, name, number, tail};

@@ -8,15 +8,29 @@ ghost use Rattle.llrp_schema.specs.Schema.{name_of, message_kinds, param_kinds, 
 use crate::kinds::{Kind, MsgKind, ParamKind};
 use crate::labels::label;
 
+/// The message with this name, if the profile has one (LLRP 1.1, section 17.1).
+pub fn msg_named(name: &str) -> Option<MsgKind>
+    ensures { result ≡ message_with_name name.now }
+{
+    msg_with_name(name.as_bytes())
+}
+
+/// The parameter with this name, if the profile has one (LLRP 1.1, section 17.2).
+pub fn param_named(name: &str) -> Option<ParamKind>
+    ensures { result ≡ param_with_name name.now }
+{
+    param_with_name(name.as_bytes())
+}
+
 /// The message with this name, given as octets, if the profile has one.
-pub fn msg_named(name: &[u8]) -> Option<MsgKind>
+pub fn msg_with_name(name: &[u8]) -> Option<MsgKind>
     ensures { result ≡ message_with_name name.now }
 {
     first_message(messages_of_length(name.len()), name)
 }
 
 /// The parameter with this name, given as octets, if the profile has one.
-pub fn param_named(name: &[u8]) -> Option<ParamKind>
+pub fn param_with_name(name: &[u8]) -> Option<ParamKind>
     ensures { result ≡ param_with_name name.now }
 {
     first_parameter(parameters_of_length(name.len()), name)

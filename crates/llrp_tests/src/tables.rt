@@ -143,10 +143,10 @@ static PARAMETERS_BY_NAME: [(&str, Option<ParamKind>); 9] = [
 #[test]
 fn kinds_are_found_by_name(rt: HostRuntime) {
     for (name, wanted) in MESSAGES_BY_NAME {
-        assert!(rt; msg_named(name.as_bytes()) == wanted);
+        assert!(rt; msg_named(name) == wanted);
     }
     for (name, wanted) in PARAMETERS_BY_NAME {
-        assert!(rt; param_named(name.as_bytes()) == wanted);
+        assert!(rt; param_named(name) == wanted);
     }
 }
 

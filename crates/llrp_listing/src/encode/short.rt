@@ -18,7 +18,7 @@ use crate::line::LONGEST_LINE;
 use crate::near::octets_alike;
 use crate::number::{EPC_BITS, number_from, numeral, read_epc, read_signed, signed_from};
 use crate::spaced::split_once;
-use llrp_schema::{Field, Kind, Label, MsgKind, ParamKind, Tail, msg_named, param_named};
+use llrp_schema::{Field, Kind, Label, MsgKind, ParamKind, Tail, msg_with_name, param_with_name};
 use llrp_tree::MAX_DEPTH;
 use std::str;
 
@@ -216,8 +216,8 @@ fn kind_named(line: &[u8]) -> Option<ParamKind>
 {
     let (_, rest) = line.split_at(2);
     match split_once(rest, b' ') {
-        Some((name, _)) => param_named(name),
-        None => param_named(rest),
+        Some((name, _)) => param_with_name(name),
+        None => param_with_name(rest),
     }
 }
 
@@ -335,7 +335,7 @@ fn other_message(line: &[u8], text: &[u8]) -> Option<ShortLine>
 {
     let (_, rest) = line.split_at(2);
     let (name, _) = split_once(rest, b' ')?;
-    let kind = msg_named(name)?;
+    let kind = msg_with_name(name)?;
     message_named(line, text, kind)
 }
 

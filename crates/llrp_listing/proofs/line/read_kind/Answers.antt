@@ -9,8 +9,8 @@ returns-in-Some c = (c.if-level-eq0.true, sym c.as_bytes-octets.ensures.value �
 pub returns-in-None : goal.returns-in-None
 returns-in-None c = no_message c.args.level c.args.name.now c.if-level-eq0.true (c.in-None.ensures ∙ ap message_with_name c.as_bytes-octets.ensures.value)
 
-pub returns-in-Some-param_named : goal.returns-in-Some-param_named
-returns-in-Some-param_named c = (omega arith, sym c.as_bytes-octets.ensures.value ∙ parameter_named c.as_bytes-octets.result.now c.in-Some-param_named.kind c.in-Some-param_named.ensures)
+pub returns-in-Some-param_with_name : goal.returns-in-Some-param_with_name
+returns-in-Some-param_with_name c = (omega arith, sym c.as_bytes-octets.ensures.value ∙ parameter_named c.as_bytes-octets.result.now c.in-Some-param_with_name.kind c.in-Some-param_with_name.ensures)
 
-pub returns-in-None-param_named : goal.returns-in-None-param_named
-returns-in-None-param_named c = no_parameter c.args.level c.args.name.now (omega arith) (c.in-None-param_named.ensures ∙ ap param_with_name c.as_bytes-octets.ensures.value)
+pub returns-in-None-param_with_name : goal.returns-in-None-param_with_name
+returns-in-None-param_with_name c = no_parameter c.args.level c.args.name.now (omega arith) (c.in-None-param_with_name.ensures ∙ ap param_with_name c.as_bytes-octets.ensures.value)

@@ -3,7 +3,7 @@ use Rattle.std.proofs.Common.{◌∙◌}
 use Rattle.llrp_schema.specs.declared.kinds.Kind.TheVariants.{Parameter}
 use Rattle.llrp_schema.specs.Schema.{name_of, param_kinds, param_with_name}
 use Rattle.llrp_schema.proofs.SchemaLemmas.{find_of_length}
-use Rattle.llrp_schema.proofs.named.param_named.Goals as goal
+use Rattle.llrp_schema.proofs.named.param_with_name.Goals as goal
 
 pub returns : goal.returns
 unfolding param_with_name

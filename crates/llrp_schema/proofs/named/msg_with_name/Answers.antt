@@ -3,7 +3,7 @@ use Rattle.std.proofs.Common.{◌∙◌}
 use Rattle.llrp_schema.specs.declared.kinds.Kind.TheVariants.{Message}
 use Rattle.llrp_schema.specs.Schema.{name_of, message_kinds, message_with_name}
 use Rattle.llrp_schema.proofs.SchemaLemmas.{find_of_length}
-use Rattle.llrp_schema.proofs.named.msg_named.Goals as goal
+use Rattle.llrp_schema.proofs.named.msg_with_name.Goals as goal
 
 pub returns : goal.returns
 unfolding message_with_name
