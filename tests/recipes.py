@@ -18,6 +18,7 @@ import tempfile
 import threading
 import time
 
+from counting import finish
 from documents import MARK, examples, free_port
 from refusing import TOP
 
@@ -191,8 +192,8 @@ def main():
     wrong += [] if client_works(program) else ["examples/python/client.py"]
     for it in wrong:
         print(f"WRONG: {it}")
-    print(f"{len(ran) + 3 - len(wrong)} passed, {len(wrong)} failed")
-    return 1 if wrong else 0
+    # (the unit file and the client besides)
+    return finish(max(len(ran) + 2 - len(wrong), 0), len(wrong), COMMANDS + 2)
 
 
 if __name__ == "__main__":
