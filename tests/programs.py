@@ -20,15 +20,15 @@ import time
 from counting import finish_results, text_of
 from refusing import TOP
 
-LEAST = 59
+LEAST = 60
 # What stubs of the toolchain do: each notes where and with which words it is called; then it proves and links, or fails in one of these.
 CALLED = 'echo "${PWD##*/} $*" >>"$(dirname "$0")/calls"\n'
-LINKS = 'mkdir -p out; printf "#!/bin/sh\\necho built" >out/llrp; chmod +x out/llrp'
+LINKS = 'mkdir -p out; printf "#!/bin/sh\\necho built \\$*; exit 5" >out/llrp; chmod +x out/llrp'
 PROVES = 'if [ "$1" = all ]; then echo "== tag_bits"; echo "logic=proved"; touch edited.rt; else {}; fi'
 REFUSES = 'echo "== tag_bits"; echo "src/lib.rt:1:1: error: no proof"; echo "logic=not-proved"; exit 1'
 FAILURES = {
     "not proved": (REFUSES, "the crate tag_bits is not proved, so the program was not built\nsrc/lib.rt:1:1: error: no proof\n"),
-    "an end without a word": ("exit 2", "the crate llrp is not proved"),
+    "an end without a word": (f'if [ "$1" = all ]; then exit 2; else {LINKS}; fi', "the crate llrp is not proved"),
     "no program": (PROVES.format("true"), "the crate llrp is not proved"),
     "an end while it links": (PROVES.format(f"{LINKS}; exit 2"), "the crate llrp is not proved"),
 }
@@ -141,23 +141,28 @@ def checks_of_failures(folder):
         for name, status in (("./build.py", 1), ("./llrp", 125)):
             found, out, err = run(name, cwd=copy_of_sources(folder, f"{what} {name[2:]}"), PATH=path)
             yield f"{name}, {what}", (found, out) == (status, "") and told in err
-    waits = Toolchain(folder, "exec sleep 60")
+    waits = Toolchain(folder, 'echo $$ >"$(dirname "$0")/process"; exec sleep 60')
     yield "./llrp, Ctrl-C", interrupted(copy_of_sources(folder, "interrupted"), waits) == 130
+    yield "what goes on after Ctrl-C", not goes_on(int(octets_of(os.path.join(waits.place, "process"))))
 
 
 def interrupted(copy, waits):
-    """Returns the status of ./llrp after Ctrl-C while it proves, or none where what it began goes on."""
-    how = {"cwd": copy, "env": {**os.environ, "PATH": waits.path}, "stdin": subprocess.DEVNULL, "stderr": subprocess.PIPE}
+    """Returns the status of ./llrp after Ctrl-C while it proves."""
+    how = {"cwd": copy, "env": {**os.environ, "PATH": waits.path}, "stdin": subprocess.DEVNULL, "stderr": subprocess.DEVNULL}
     process = subprocess.Popen(["./llrp"], start_new_session=True, **how)
-    while not waits.calls():
+    while not os.path.exists(os.path.join(waits.place, "process")):
         time.sleep(0.02)
     os.killpg(process.pid, signal.SIGINT)
-    # (its standard error is open for as long as one of its processes runs)
+    return process.wait(20)
+
+
+def goes_on(process):
+    """Returns whether a process still runs, and ends it."""
     try:
-        process.communicate(timeout=20)
-    except subprocess.TimeoutExpired:
-        return None
-    return process.returncode
+        os.kill(process, signal.SIGKILL)
+        return True
+    except ProcessLookupError:
+        return False
 
 
 def checks_of_build(folder):
@@ -167,15 +172,15 @@ def checks_of_build(folder):
     yield "./build.py, proved", (found, out) == (0, "") and "proved crate 1 of 12: tag_bits" in err
     calls = re.fullmatch("llrp all check --jobs [1-4]\nllrp run --jobs 1 -- --help", "\n".join(proves.calls()))
     yield "what ./build.py calls", calls is not None
-    yield "./llrp runs what is built", run("./llrp", cwd=copy, PATH=refuses.path) == (0, "built\n", "")
+    yield "./llrp runs what is built", run("./llrp", "x", cwd=copy, PATH=refuses.path) == (5, "built x\n", "")
     later(os.path.join(copy, "crates/llrp/out/later.antt"))
-    yield "./llrp looks at sources alone", run("./llrp", cwd=copy, PATH=refuses.path) == (0, "built\n", "")
+    yield "./llrp looks at sources alone", run("./llrp", "x", cwd=copy, PATH=refuses.path) == (5, "built x\n", "")
     for name in ("crates/llrp/later.rt", "crates/tag_bits/later.antt", "crates.txt"):
         later(os.path.join(copy, name))
         yield f"./llrp builds anew after a change of {name}", run("./llrp", cwd=copy, PATH=refuses.path)[0] == 125
         os.utime(os.path.join(copy, name), (1e9, 1e9))
     copy = copy_of_sources(folder, "edited")
-    yield "./llrp builds and runs", run("./llrp", cwd=copy, PATH=proves.path)[:2] == (0, "built\n")
+    yield "./llrp builds and runs", run("./llrp", "x", cwd=copy, PATH=proves.path)[:2] == (5, "built x\n")
     yield "./llrp builds anew after a change during the build", run("./llrp", cwd=copy, PATH=refuses.path)[0] == 125
 
 
