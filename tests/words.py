@@ -1,7 +1,7 @@
 #!/usr/bin/env python3
 """Compares the commands and flags that the program's help names with the manual page, README.md and the completions of bash, zsh and
 fish, which these shells answer; gives the program arguments that are no UTF-8; compares limits and other figures, and the copies of
-the script of three sightings; and has groff look for faults of the manual page.
+the script of three sightings; looks for the files that the pages name; and has groff look for faults of the manual page.
 
 usage: tests/words.py [PROGRAM]
 
@@ -16,7 +16,7 @@ import sys
 from counting import finish_results, text_of
 from refusing import TOP
 
-LEAST = 65
+LEAST = 66
 BASH = """
 source completions/llrp.bash
 COMP_WORDS=(llrp {command} '')
@@ -150,6 +150,20 @@ def checks_of_script():
         yield f"the three sightings in {name}", all(line in text_of(name) for line in lines)
 
 
+def files_named(page):
+    """Yields the paths of the files that a page links to, or names with the folder that they are in."""
+    text = text_of(page)
+    yield from (os.path.join(os.path.dirname(page), it) for it in re.findall(r"\]\(([^)#:]+)", text))
+    yield from re.findall(r"`((?:bench|completions|crates|docs|examples|include|tests)/[\w./-]+)`", text)
+
+
+def checks_of_files():
+    """Yields whether each file that a page names is there."""
+    pages = ["README.md", "CONTRIBUTING.md", *(f"docs/{it}" for it in os.listdir(os.path.join(TOP, "docs")) if it.endswith(".md"))]
+    missing = [(page, it) for page in pages for it in files_named(page) if not os.path.exists(os.path.join(TOP, it))]
+    yield f"the files that pages name: {missing}", not missing
+
+
 def checks_of_manual():
     """Yields whether the manual page is set without a warning."""
     done = subprocess.run(["groff", "-mdoc", "-ww", "-z", "-Tutf8", "docs/llrp.1"], cwd=TOP, capture_output=True, text=True, timeout=60)
@@ -159,8 +173,9 @@ def checks_of_manual():
 def main():
     program = os.path.abspath(sys.argv[1] if len(sys.argv) > 1 else os.path.join(TOP, "crates/llrp/out/llrp"))
     parts = (checks, checks_of_version, checks_of_arguments, checks_of_limits)
-    results = [it for part in parts for it in part(program)]
-    return finish_results([*results, *checks_of_figures(), *checks_of_script(), *checks_of_manual()], LEAST)
+    others = (checks_of_figures, checks_of_script, checks_of_files, checks_of_manual)
+    results = [*(it for part in parts for it in part(program)), *(it for part in others for it in part())]
+    return finish_results(results, LEAST)
 
 
 if __name__ == "__main__":
