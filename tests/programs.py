@@ -238,28 +238,31 @@ def checks_of_install(folder):
 
 
 def are_right(lines, names, figures):
-    """Whether there is a line for each name, with figures of this form, none of which is 0."""
+    """Whether there is a line for each name, with figures of this form, none of which is 0; no two lines have the same instructions."""
     rests = [line[len(name) :] for line, name in zip(lines, names) if line.startswith(name)]
     positive = all(float(it) > 0 for rest in rests for it in re.findall(r"\d[\d.]*", rest))
-    return len(lines) == len(names) == len(rests) and all(re.fullmatch(figures, it) for it in rests) and positive
+    counted = [it for it in rests if " MB" not in it]
+    are_apart = len(set(counted)) == len(counted)
+    return len(lines) == len(names) == len(rests) and all(re.fullmatch(figures, it) for it in rests) and positive and are_apart
 
 
-def checks_of_benchmarks():
-    """Yields whether each benchmark ends well, with the lines that it should print and figures in each."""
+def checks_of_benchmarks(folder):
+    """Yields whether each benchmark ends well, with the lines that it should print and figures in each, and leaves no file."""
     scripts = sorted(name for name in os.listdir(os.path.join(TOP, "bench")) if name != "common.sh")
     yield "all benchmarks", scripts == sorted(name for name, *_ in BENCHMARKS)
     for name, words, environment, names, figures in BENCHMARKS:
-        status, out, err = run(f"bench/{name}", *words, **environment)
+        room = tempfile.mkdtemp(dir=folder)
+        status, out, err = run(f"bench/{name}", *words, TMPDIR=room, **environment)
         lines = [line for line in out.splitlines() if line and not HEADING.match(line)]
-        is_right = status == 0 and are_right(lines, names, figures)
+        is_right = status == 0 and are_right(lines, names, figures) and not os.listdir(room)
         yield f"bench/{name}: status {status}, {out[-200:]!r} {err[-200:]!r}", is_right
 
 
 def main():
     program = os.path.abspath(sys.argv[1] if len(sys.argv) > 1 else os.path.join(TOP, "crates/llrp/out/llrp"))
     with tempfile.TemporaryDirectory() as folder:
-        parts = (checks_of_failures, checks_of_build, checks_of_unproved, checks_of_library, checks_of_install)
-        results = [*checks_of_llrp(program, folder), *(it for part in parts for it in part(folder)), *checks_of_benchmarks()]
+        parts = (checks_of_failures, checks_of_build, checks_of_unproved, checks_of_library, checks_of_install, checks_of_benchmarks)
+        results = [*checks_of_llrp(program, folder), *(it for part in parts for it in part(folder))]
     return finish_results(results, LEAST)
 
 
