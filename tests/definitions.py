@@ -1,0 +1,189 @@
+"""Reads the definitions of crates/*/specs and the contracts of crates/*/src, and finds which definitions a contract reaches.
+
+Names are compared as texts, so a definition that has the name of a variable counts too: what is found is at most too much.
+"""
+
+import dataclasses
+import pathlib
+import re
+
+WORD = re.compile(r"[^\s(){}\[\],;:]+")
+USE = re.compile(r"^ *(?:pub |ghost )*use Rattle\.(\w+)\.specs\.([^{;\n]+?)(?:\.\{([^}]*)\})?(?: as (\w+))?;? *(?:--.*)?$", re.M)
+HEAD = re.compile(r"^(?!pub mod |pub use )(?:(?:pub|abbrev|unfoldable|data|record) )+([^\s:(){}]+)|^([^\s:(){}]+) :")
+FUNCTION = re.compile(r'^( *)(pub )?(?:pub\(\w+\) )?(?:const |unsafe |extern "C" )*fn (\w+)')
+
+
+@dataclasses.dataclass(eq=False)
+class Definition:
+    """A definition with the comment above it."""
+    crate: str
+    module: str
+    name: str
+    lines: list
+
+    def key(self):
+        """Its crate, the name of its module without a folder, and its name."""
+        return self.crate, self.module.split(".")[-1], self.name
+
+
+@dataclasses.dataclass(eq=False)
+class Module:
+    """A file of specs/: its definitions by their names, and those that its constructors belong to."""
+    crate: str
+    name: str
+    path: pathlib.Path
+    text: str
+    imports: dict
+    definitions: dict = dataclasses.field(default_factory=dict)
+    constructors: dict = dataclasses.field(default_factory=dict)
+
+    def subject(self):
+        """The module's name without its folder."""
+        return self.name.split(".")[-1]
+
+    def folder(self):
+        """Where it stands: nothing for specs/ itself."""
+        return self.name.rpartition(".")[0]
+
+
+def imports_of(text):
+    """Each name that a text imports from specs of a crate of the repository, with all paths that it may stand for."""
+    found = {}
+    for crate, path, names, alias in USE.findall(text):
+        path = path.split(".")
+        if alias:
+            found.setdefault(alias, set()).add((crate, *path))
+        for name in filter(None, map(str.strip, names.split(","))):
+            original, _, renamed = name.partition(" as ")
+            found.setdefault(renamed or original, set()).add((crate, *path, original))
+    return found
+
+
+def read_module(crate, path, specs):
+    """Reads a file of definitions."""
+    text = path.read_text()
+    module = Module(crate, ".".join(path.relative_to(specs).with_suffix("").parts), path, text, imports_of(text))
+    current, comment = None, []
+    for line in text.split("\n"):
+        head = HEAD.match(line)
+        if line.startswith("--"):
+            comment.append(line)
+        elif not line or re.match(r"(pub )?use ", line):
+            comment = []
+        elif head:
+            current = Definition(crate, module.name, head[1] or head[2], [*comment, line])
+            module.definitions[current.name] = current
+            comment = []
+        elif current:
+            current.lines.append(line)
+            constructor = re.match(r" +(\S+) :", line)
+            if constructor and "data" in next(l for l in current.lines if HEAD.match(l)).split():
+                module.constructors[constructor[1]] = current
+    return module
+
+
+class Tree:
+    """All definitions and all contracts of a repository."""
+
+    def __init__(self, root):
+        self.modules = {}  # by their crate and name
+        for specs in sorted(root.glob("crates/*/specs")):
+            for path in sorted(specs.rglob("*.antt")):
+                module = read_module(specs.parent.name, path, specs)
+                if module.definitions:
+                    self.modules[module.crate, module.name] = module
+        self.contracts = {}  # by their function's path
+        self.public = []
+        for source in sorted(root.glob("crates/*/src")):
+            if any(crate == source.parent.name for crate, _ in self.modules):
+                self.read_contracts(source)
+
+    def read_contracts(self, source):
+        """Reads the contracts of a crate's functions, and which of them other crates may call. A program has no other crate above
+        it: its `pub` functions count, since the pages name them."""
+        crate = source.parent.name
+        library = source / "lib.rt"
+        root = library.read_text() if library.exists() else ""
+        open_modules = set(re.findall(r"(?m)^pub mod (\w+);", root))
+        exported = set(re.findall(r"\w+", " ".join(re.findall(r"(?ms)^pub use ([^;]+);", root))))
+        for path in sorted(source.rglob("*.rt")):
+            lines = path.read_text().split("\n")
+            module = path.relative_to(source).with_suffix("").parts
+            imports = imports_of("\n".join(lines))
+            owner, is_trait = "", False
+            for number, line in enumerate(lines):
+                if re.match(r"(pub )?(impl|trait)\b", line):
+                    header = plain(" ".join(lines[number:number + 12]).split("{")[0])
+                    owner, is_trait = header.split(":")[0].split()[-1], " for " in header or "trait " in header
+                    if line.startswith("pub trait") and (owner in exported or module[0] in open_modules):
+                        self.public.append((imports, "\n".join(lines[number:lines.index("}", number)])))
+                elif line == "}":
+                    owner, is_trait = "", False
+                function = FUNCTION.match(line)
+                if not function:
+                    continue
+                text = contract_at(lines, number)
+                self.contracts[f"{crate}::{owner or module[0]}::{function[3]}"] = imports, text
+                if not owner and module[0] != "laws":
+                    self.contracts[f"{crate}::{function[3]}"] = imports, text
+                name = owner or function[3]
+                seen = name in exported or module[0] in open_modules or not library.exists() or 'extern "C"' in line
+                if seen and (function[2] or is_trait):
+                    self.public.append((imports, text))
+
+    def find(self, crate, *path):
+        """The definition at a path, if it is one: a definition's name, or a constructor's, after its module's."""
+        for size in range(1, len(path)):
+            module = self.modules.get((crate, ".".join(path[:size])))
+            if module:
+                name = path[size]
+                if name in module.definitions or name in module.constructors:
+                    return module.definitions.get(name) or module.constructors[name]
+                for target in module.imports.get(name, ()):
+                    return self.find(*target, *path[size + 1:])
+        return None
+
+    def named_in(self, text, imports, module=None):
+        """The definitions that a text names."""
+        found = set()
+        for word in WORD.findall(re.sub(r"(?m)(?:^|(?<= ))(?:--|//).*", "", text)):
+            first, *rest = word.split(".")
+            if module and (first in module.definitions or first in module.constructors):
+                found.add(module.definitions.get(first) or module.constructors[first])
+            for target in imports.get(first, ()):
+                found |= {self.find(*target), self.find(*target, *rest)}
+        return found - {None}
+
+    def reached_from(self, contracts, handed_on):
+        """All definitions that contracts reach, but for those that are only handed on and what these alone reach."""
+        reached, left = set(), set()
+        for imports, text in contracts:
+            left |= self.named_in(text, imports)
+        while left:
+            definition = left.pop()
+            if definition.key() not in handed_on:
+                reached.add(definition)
+                module = self.modules[definition.crate, definition.module]
+                left |= self.named_in("\n".join(definition.lines), module.imports, module) - reached
+        return reached
+
+
+def plain(header):
+    """The header of an impl or a trait without its type arguments."""
+    while "<" in header and header != (header := re.sub(r"<[^<>]*>", "", header)):
+        pass
+    return header.replace("->", "")
+
+
+def contract_at(lines, number):
+    """A function's header and clauses: up to the line with the brace that opens its body, or the semicolon of a declaration."""
+    indent = FUNCTION.match(lines[number])[1]
+    text = []
+    for line in lines[number:]:
+        if line in (indent + "{", indent + "{}"):
+            break
+        text.append(line)
+        ends_header = line.endswith("{") and not re.match(r" *(requires|ensures)", line) and (len(text) == 1 or line.startswith(indent + ")"))
+        if ends_header or line.endswith(";") and "\n".join(text).count("{") == "\n".join(text).count("}"):
+            break
+    return "\n".join(text)
