@@ -27,15 +27,16 @@ PROMISES = {
     "4 frames": "llrp_tree::decode_frame llrp_tree::encode_into llrp_tree::laws::frames_apart",
     "5 show": "llrp_listing::run_show llrp_stream::laws::one_listing",
     "6 encode": "llrp_listing::run_encode llrp_listing::laws::prints_back",
-    "7 decoder": "llrp_stream::laws::pieces_are_the_stream llrp_stream::Decoder::held/weight/within/raw",
+    "7 decoder": "llrp_stream::Decoder::new llrp_stream::Decoder::feed llrp_stream::Decoder::finish llrp_stream::laws::pieces_are_the_stream"
+                 " llrp_stream::Decoder::held/weight/within/raw",
     "8 both ends": "llrp_endpoints::run_serve llrp_endpoints::run_inventory llrp_endpoints::run_loop",
     "9 agreement": "llrp_endpoints::laws::ends_agree",
     "10 C": "llrp_c::llrp_text_of_word llrp_c::llrp_word_of_text llrp_c::llrp_list llrp_c::llrp_encode llrp_c::llrp_frame_length"
             " llrp_c::llrp_name",
 }
 
-# Relations that a caller only hands from one call to the next: whatever they say, the contracts say the same of the octets. So
-# what they are made of is not believed.
+# Relations that a caller only hands from one call to the next: a constructor gives one, and the other calls ask for it. Whatever it
+# says, their contracts say the same of the octets, so what it is made of is not believed.
 HANDED_ON = {("llrp_stream", "Decoding", "Stands")}
 
 

@@ -37,6 +37,10 @@ class Module:
     definitions: dict = dataclasses.field(default_factory=dict)
     constructors: dict = dataclasses.field(default_factory=dict)
 
+    def own(self, name):
+        """Its definition with this name, or with this constructor."""
+        return self.definitions.get(name) or self.constructors.get(name)
+
     def subject(self):
         """The module's name without its folder."""
         return self.name.split(".")[-1]
@@ -63,7 +67,7 @@ def read_module(crate, path, specs):
     """Reads a file of definitions."""
     text = path.read_text()
     module = Module(crate, ".".join(path.relative_to(specs).with_suffix("").parts), path, text, imports_of(text))
-    current, comment = None, []
+    current, is_data, comment = None, False, []
     for line in text.split("\n"):
         head = HEAD.match(line)
         if line.startswith("--"):
@@ -73,11 +77,11 @@ def read_module(crate, path, specs):
         elif head:
             current = Definition(crate, module.name, head[1] or head[2], [*comment, line])
             module.definitions[current.name] = current
-            comment = []
+            is_data, comment = "data" in line.split(":")[0].split(), []
         elif current:
             current.lines.append(line)
             constructor = re.match(r" +(\S+) :", line)
-            if constructor and "data" in next(l for l in current.lines if HEAD.match(l)).split():
+            if constructor and is_data:
                 module.constructors[constructor[1]] = current
     return module
 
@@ -99,37 +103,25 @@ class Tree:
                 self.read_contracts(source)
 
     def read_contracts(self, source):
-        """Reads the contracts of a crate's functions, and which of them other crates may call. A program has no other crate above
-        it: its `pub` functions count, since the pages name them."""
-        crate = source.parent.name
-        library = source / "lib.rt"
-        root = library.read_text() if library.exists() else ""
-        open_modules = set(re.findall(r"(?m)^pub mod (\w+);", root))
-        exported = set(re.findall(r"\w+", " ".join(re.findall(r"(?ms)^pub use ([^;]+);", root))))
+        """Reads the contracts of a crate's functions, and those of its public traits."""
+        crate, is_exported = source.parent.name, exports_of(source)
         for path in sorted(source.rglob("*.rt")):
             lines = path.read_text().split("\n")
-            module = path.relative_to(source).with_suffix("").parts
+            module = path.relative_to(source).with_suffix("").parts[0]
             imports = imports_of("\n".join(lines))
-            owner, is_trait = "", False
-            for number, line in enumerate(lines):
-                if re.match(r"(pub )?(impl|trait)\b", line):
-                    header = plain(" ".join(lines[number:number + 12]).split("{")[0])
-                    owner, is_trait = header.split(":")[0].split()[-1], " for " in header or "trait " in header
-                    if line.startswith("pub trait") and (owner in exported or module[0] in open_modules):
-                        self.public.append((imports, "\n".join(lines[number:lines.index("}", number)])))
-                elif line == "}":
-                    owner, is_trait = "", False
-                function = FUNCTION.match(line)
+            for number, owner, is_trait in items_of(lines):
+                function = FUNCTION.match(lines[number])
                 if not function:
+                    if is_exported(module, owner):
+                        self.public.append((imports, "\n".join(lines[number:lines.index("}", number)])))
                     continue
-                text = contract_at(lines, number)
-                self.contracts[f"{crate}::{owner or module[0]}::{function[3]}"] = imports, text
-                if not owner and module[0] != "laws":
-                    self.contracts[f"{crate}::{function[3]}"] = imports, text
-                name = owner or function[3]
-                seen = name in exported or module[0] in open_modules or not library.exists() or 'extern "C"' in line
-                if seen and (function[2] or is_trait):
-                    self.public.append((imports, text))
+                contract = imports, contract_at(lines, number)
+                self.contracts[f"{crate}::{owner or module}::{function[3]}"] = contract
+                if not owner and module != "laws":
+                    self.contracts[f"{crate}::{function[3]}"] = contract
+                is_called = is_exported(module, owner or function[3]) and (function[2] or is_trait)
+                if is_called or 'extern "C"' in lines[number]:
+                    self.public.append(contract)
 
     def find(self, crate, *path):
         """The definition at a path, if it is one: a definition's name, or a constructor's, after its module's."""
@@ -137,10 +129,8 @@ class Tree:
             module = self.modules.get((crate, ".".join(path[:size])))
             if module:
                 name = path[size]
-                if name in module.definitions or name in module.constructors:
-                    return module.definitions.get(name) or module.constructors[name]
-                for target in module.imports.get(name, ()):
-                    return self.find(*target, *path[size + 1:])
+                exported = [self.find(*target, *path[size + 1:]) for target in module.imports.get(name, ())]
+                return module.own(name) or next(filter(None, exported), None)
         return None
 
     def named_in(self, text, imports, module=None):
@@ -148,10 +138,10 @@ class Tree:
         found = set()
         for word in WORD.findall(re.sub(r"(?m)(?:^|(?<= ))(?:--|//).*", "", text)):
             first, *rest = word.split(".")
-            if module and (first in module.definitions or first in module.constructors):
-                found.add(module.definitions.get(first) or module.constructors[first])
-            for target in imports.get(first, ()):
-                found |= {self.find(*target), self.find(*target, *rest)}
+            if module:
+                found.add(module.own(first))
+            for path in imports.get(first, ()):
+                found |= {self.find(*path), self.find(*path, *rest)}
         return found - {None}
 
     def reached_from(self, contracts, handed_on):
@@ -166,6 +156,30 @@ class Tree:
                 module = self.modules[definition.crate, definition.module]
                 left |= self.named_in("\n".join(definition.lines), module.imports, module) - reached
         return reached
+
+
+def exports_of(source):
+    """Returns whether other crates may name an item, by its outermost module and its name: a `pub mod` of the library has it, or a
+    `pub use`. No crate is above a program: there all `pub` functions count, since the pages name them."""
+    library = source / "lib.rt"
+    root = library.read_text() if library.exists() else ""
+    modules = set(re.findall(r"(?m)^pub mod (\w+);", root))
+    names = set(re.findall(r"\w+", " ".join(re.findall(r"(?ms)^pub use ([^;]+);", root))))
+    return lambda module, name: not library.exists() or module in modules or name in names
+
+
+def items_of(lines):
+    """Yields the line of each function of a source, and of each public trait, with the type or trait around it and whether that is a
+    trait, or an impl of one."""
+    owner, is_trait = "", False
+    for number, line in enumerate(lines):
+        if re.match(r"(pub )?(impl|trait)\b", line):
+            header = plain(" ".join(lines[number:number + 12]).split("{")[0])
+            owner, is_trait = header.split(":")[0].split()[-1], " for " in header or "trait " in header
+        elif line == "}":
+            owner, is_trait = "", False
+        if FUNCTION.match(line) or line.startswith("pub trait"):
+            yield number, owner, is_trait
 
 
 def plain(header):
