@@ -20,7 +20,7 @@ import time
 from counting import finish_results, text_of
 from refusing import TOP
 
-LEAST = 60
+LEAST = 61
 # What stubs of the toolchain do: each notes where and with which words it is called; then it proves and links, or fails in one of these.
 CALLED = 'echo "${PWD##*/} $*" >>"$(dirname "$0")/calls"\n'
 LINKS = 'mkdir -p out; printf "#!/bin/sh\\necho built \\$*; exit 5" >out/llrp; chmod +x out/llrp'
@@ -229,6 +229,8 @@ def checks_of_install(folder):
         is_right = os.access(path, os.X_OK) == (name == "bin/llrp") and octets_of(path) == octets_of(os.path.join(TOP, INSTALLED[name]))
         yield f"installed {name}", is_right
     yield "the installed program runs", run(os.path.join(prefix, "bin/llrp"), "--version")[0] == 0
+    status, out, err = run("./install.sh", PREFIX=os.path.join(prefix, "bin/llrp"))
+    yield "install.sh, where PREFIX is no folder", status != 0 and out == "" and err != ""
     for where, below in (("/usr", "/usr"), ("", "/usr/local")):
         package = tempfile.mkdtemp(dir=folder)
         found = run("./install.sh", DESTDIR=package, PREFIX=where)[:2]
