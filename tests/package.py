@@ -14,13 +14,13 @@ from counting import finish_results
 from refusing import TOP
 
 # How many things are checked.
-LEAST = 7
+LEAST = 8
 TAG, WORD = "urn:epc:tag:sgtin-96:3.0614141.812345.6789", "3074257BF7194E4000001A85"
 
 
-def output_of(*words, **environment):
+def output_of(*words, cwd=TOP, **environment):
     """Returns what a command prints, without the last line feed."""
-    done = subprocess.run(words, env={**os.environ, **environment}, cwd=TOP, capture_output=True, text=True, timeout=120)
+    done = subprocess.run(words, env={**os.environ, **environment}, cwd=cwd, capture_output=True, text=True, timeout=120)
     if done.returncode:
         print(f"{' '.join(words)} ended with status {done.returncode}:\n{done.stdout}{done.stderr}")
     return done.stdout.rstrip("\n")
@@ -40,6 +40,11 @@ def checks(package, folder):
     unpacked = {it.removesuffix(".gz") if "/man/" in it else it for it in files_below(root)}
     added = {f"usr/share/doc/llrp/{name}" for name in ("NEWS.gz", "changelog.gz", "copyright")}
     yield "the package holds what install.sh installs", unpacked == files_below(installed) | added
+
+    yield "the package needs the C library alone", output_of("dpkg-deb", "-f", package, "Depends") == "libc6"
+    output_of("dpkg-deb", "-e", package, os.path.join(root, "DEBIAN"))
+    summed = [line.removesuffix(": OK") for line in output_of("md5sum", "-c", "DEBIAN/md5sums", cwd=root).splitlines()]
+    yield "each file has its sum", sorted(summed) == sorted(it for it in files_below(root) if not it.startswith("DEBIAN/"))
 
     version = output_of("dpkg-deb", "-f", package, "Version")
     yield "the program runs", output_of(f"{root}/usr/bin/llrp", "--version") == f"llrp {version}"
