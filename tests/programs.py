@@ -243,7 +243,7 @@ def are_right(lines, names, figures):
     """Whether there is a line for each name, with figures of this form, none of which is 0; no two lines have the same instructions."""
     rests = [line[len(name) :] for line, name in zip(lines, names) if line.startswith(name)]
     positive = all(float(it) > 0 for rest in rests for it in re.findall(r"\d[\d.]*", rest))
-    counted = [it for it in rests if " MB" not in it]
+    counted = [tuple(it.split()) for it in rests if " MB" not in it]
     are_apart = len(set(counted)) == len(counted)
     return len(lines) == len(names) == len(rests) and all(re.fullmatch(figures, it) for it in rests) and positive and are_apart
 
