@@ -1,15 +1,11 @@
 -- Bytes are served in one way.
 use Rattle.std.proofs.Common.{◌≡◌, ℕ, ◌≤◌, true, false, List, [], ◌∷◌, ◌++◌, length, refl, sym, ap, subst, ◌∙◌, append_assoc, arith, inl, inr, ◌⊎◌}
-use Rattle.std.specs.Prelude.{◌==◌, Some}
 use Rattle.std.specs.List.{AllByRecursion, AllZip}
-use Rattle.std.proofs.lemmas.Bool.{eqb-true}
-use Rattle.std.proofs.lemmas.Bool.Decides.{nat_tests}
 use Rattle.std.proofs.lemmas.List.Concat.{flat_map-append}
+use denote.Enum.Bare.{sameb, same_true, true_same}
 use Rattle.llrp_schema.specs.declared.kinds.MsgKind.{MsgKind}
 use Rattle.llrp_schema.specs.declared.kinds.MsgKind.TheVariants.{CloseConnection}
-use Rattle.llrp_schema.specs.declared.kinds.Kind.TheVariants.{Message}
-use Rattle.llrp_schema.specs.Schema.{number_of, message_with_number}
-use Rattle.llrp_schema.proofs.TableLaws.{message_at_number}
+use Rattle.llrp_schema.specs.contracts.kinds.MsgKind.{the_type}
 use Rattle.llrp_tree.specs.declared.TheConstants.{MAX_LIMIT}
 use Rattle.llrp_tree.specs.Tree.{MessageTree}
 use Rattle.llrp_tree.specs.Lawful.{AreOctets}
@@ -32,24 +28,16 @@ NoneCloses items = AllByRecursion (λ item. Closes item → ⊥) items
 
 -- ---- the first CLOSE_CONNECTION
 
-differ : (m n : ℕ) → m ≡ n → (m == n) ≡ false → ⊥
-differ m n same apart = grind (arith, nat_tests)
+is_kind_or_not : (a b : MsgKind) → (a ≡ b) ⊎ (a ≡ b → ⊥)
+is_kind_or_not a b =
+    elim (sameb the_type a b) as (λ t. sameb the_type a b ≡ t → (a ≡ b) ⊎ (a ≡ b → ⊥)) [
+      | true ↦ λ e. inl (same_true the_type tt a b e)
+      | false ↦ λ e. inr (λ k. absurd (let both : true ≡ false = sym (true_same the_type a b k) ∙ e in cc))
+    ] refl
 
 closes_or_not : (item : Item) → Closes item ⊎ (Closes item → ⊥)
 closes_or_not (Bad id fault) = inr (λ c. c)
-closes_or_not (Msg m) =
-    elim (number_of (Message CloseConnection) == number_of (Message m.kind)) as (λ b. (number_of (Message CloseConnection) == number_of (Message m.kind)) ≡ b → (m.kind ≡ CloseConnection) ⊎ ((m.kind ≡ CloseConnection) → ⊥)) [
-      | true ↦ λ e. inl (same (eqb-true _ _ e))
-      | false ↦ λ e. inr (λ k. apart k e)
-    ] refl
-  where
-    same : number_of (Message CloseConnection) ≡ number_of (Message m.kind) → m.kind ≡ CloseConnection
-    same e =
-        let both : Some m.kind ≡ Some CloseConnection = sym (message_at_number m.kind) ∙ ap message_with_number (sym e) ∙ message_at_number CloseConnection in
-        cc
-
-    apart : m.kind ≡ CloseConnection → (number_of (Message CloseConnection) == number_of (Message m.kind)) ≡ false → ⊥
-    apart k e = differ (number_of (Message CloseConnection)) (number_of (Message m.kind)) (ap (λ (x : MsgKind). number_of (Message x)) (sym k)) e
+closes_or_not (Msg m) = is_kind_or_not m.kind CloseConnection
 
 -- A first one that closes, and what comes before and after it.
 record FirstClosing (items : List Item) : Type 0 where

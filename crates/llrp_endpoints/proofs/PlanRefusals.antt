@@ -4,7 +4,7 @@ use Rattle.std.specs.Prelude.{nat_lt, replicate, Option, None, Some, is_some, Re
 use Rattle.std.specs.List.{AllByRecursion}
 use Rattle.std.proofs.lemmas.Bool.Decides.{nat_tests}
 use Rattle.std.proofs.lemmas.List.{length-append}
-use Rattle.llrp_schema.specs.Schema.{number_of, rule_of, param_rule, fields_of, is_tv, tail_of}
+use Rattle.llrp_schema.specs.Schema.{number_of, rule_of, param_rule, fields_of, is_tv, tail_of, key_of, profile_of}
 use Rattle.llrp_tree.specs.Tree.{Tree}
 use Rattle.llrp_tree.specs.Lawful.{body_octets}
 use Rattle.llrp_tree.specs.declared.fault.Reason.{Reason}
@@ -42,7 +42,7 @@ abbrev IsWithin : ℕ → Command → Type 0
 IsWithin limit k = is_over_limit limit k ≡ false
 
 octets_of_rospec : (every : ℕ) → (rospec_of (rospec every)).octets ≡ 65
-unfolding rospec_of rospec body_octets number_of rule_of param_rule fields_of is_tv tail_of
+unfolding rospec_of rospec body_octets number_of key_of profile_of rule_of param_rule fields_of is_tv tail_of
 octets_of_rospec every = refl
 
 not_above : (a b : ℕ) → b ≤ a → nat_lt a b ≡ false

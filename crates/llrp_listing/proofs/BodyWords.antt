@@ -8,7 +8,7 @@ use Rattle.llrp_schema.specs.declared.kinds.MsgKind.{MsgKind}
 use Rattle.llrp_schema.specs.declared.kinds.ParamKind.{ParamKind}
 use Rattle.llrp_schema.specs.declared.kinds.Kind.TheVariants.{Message, Parameter}
 use Rattle.llrp_schema.specs.declared.kinds.Tail.{Tail}
-use Rattle.llrp_schema.specs.declared.kinds.Tail.TheVariants.{Absent, Words, Text, Bits}
+use Rattle.llrp_schema.specs.declared.kinds.Tail.TheVariants.{Absent, Words, Text, Bits, Data}
 use Rattle.llrp_schema.specs.Schema.{FieldRule, field_rule, fields_of, tail_of}
 use Rattle.llrp_listing.specs.declared.fault.Refusal.{Refusal}
 use Rattle.llrp_listing.specs.declared.line.LineErr.{LineErr}
@@ -165,6 +165,7 @@ nothing_left Absent h = (refl, refl)
 nothing_left Words h = absurd (omega arith)
 nothing_left Text h = absurd (omega arith)
 nothing_left Bits h = absurd (omega arith)
+nothing_left Data h = absurd (omega arith)
 
 -- one word is left, which is the tail's or isn't
 pub word_left : (form : Tail) (line : List ℕ) (r : Result (List ℕ) LineErr) → length (words line) ≡ tail_count form → MatchResult r (IsTailWord form line) (IsNoTail (IsTailWord form line)) → ReadsRest form (words line) r
@@ -175,6 +176,7 @@ word_left form line r count h = on (words line) refl r h
     few Words = omega arith
     few Text = omega arith
     few Bits = omega arith
+    few Data = omega arith
 
     on : (ws : List (List ℕ)) → words line ≡ ws → (r : Result (List ℕ) LineErr) → MatchResult r (IsTailWord form line) (IsNoTail (IsTailWord form line)) → ReadsRest form ws r
     on [] e r h = absurd (omega (arith, some_word line, ap length e))

@@ -8,7 +8,7 @@ use Rattle.hex.proofs.HexLemmas.{decode_of-encode_lower}
 use Rattle.llrp_schema.specs.declared.kinds.Kind.{Kind}
 use Rattle.llrp_schema.specs.declared.kinds.Kind.TheVariants.{Message, Parameter}
 use Rattle.llrp_schema.specs.declared.kinds.Tail.{Tail}
-use Rattle.llrp_schema.specs.declared.kinds.Tail.TheVariants.{Absent, Words, Text, Bits}
+use Rattle.llrp_schema.specs.declared.kinds.Tail.TheVariants.{Absent, Words, Text, Bits, Data}
 use Rattle.llrp_schema.specs.Schema.{name_of, tail_of}
 use Rattle.llrp_schema.proofs.TableLaws.{names}
 use Rattle.llrp_tree.specs.Lawful.{AreOctets}
@@ -84,6 +84,7 @@ body_holds [] form [] [] tail p h t = on form t
     on Words t = ((tail, t, refl), tt)
     on Text t = ((tail, t, refl), tt)
     on Bits t = ((tail, t, refl), tt)
+    on Data t = ((tail, t, refl), tt)
 body_holds [] form [] (w ∷ ws) tail p h t = absurd h
 body_holds [] form (n ∷ ns) ws tail p h t = absurd h
 body_holds (f ∷ fs) form [] ws tail p h t = absurd h
@@ -95,6 +96,7 @@ tail_length Absent tail = refl
 tail_length Words tail = refl
 tail_length Text tail = refl
 tail_length Bits tail = refl
+tail_length Data tail = refl
 
 -- a line that says something passes all checks
 record Holds (d : ℕ) (bytes : List ℕ) (kind : Kind) : Type 0 where
@@ -203,6 +205,7 @@ tail_same Absent t u p q e = p ∙ sym q
 tail_same Words t u p q e = octets_same t u p.0 q.0 p.1.0 q.1.0 p.1.1 q.1.1 (join_same (words_of t) (words_of u) (words_small t p.0) (words_small u q.0) (ap (λ (z : List (List ℕ)). drop 1 (get_or z 0 [])) e))
 tail_same Text t u p q e = lower_same t u p q (ap (λ (z : List (List ℕ)). drop 1 (get_or z 0 [])) e)
 tail_same Bits t u p q e = lower_same t u p q (ap (λ (z : List (List ℕ)). drop 1 (get_or z 0 [])) e)
+tail_same Data t u p q e = lower_same t u p q (ap (λ (z : List (List ℕ)). drop 1 (get_or z 0 [])) e)
 
 same_parts : (fs : List NumberForm) (form : Tail) (ms ns : List ℕ) (vs ws : List (List ℕ)) (t u : List ℕ) → AreInForm fs ms → AreInForm fs ns → AreNumberTexts fs ms vs → AreNumberTexts fs ns ws → IsTailOf form t → IsTailOf form u
     → vs ++ tail_texts form t ≡ ws ++ tail_texts form u → (ms ≡ ns) × (t ≡ u)

@@ -6,7 +6,7 @@ use Rattle.std.proofs.Math.Nat.{le-max_left, le-max_right, max-le}
 use Rattle.llrp_schema.specs.declared.kinds.Kind.{Kind}
 use Rattle.llrp_schema.specs.declared.kinds.Kind.TheVariants.{Message, Parameter}
 use Rattle.llrp_schema.specs.declared.kinds.Tail.{Tail}
-use Rattle.llrp_schema.specs.declared.kinds.Tail.TheVariants.{Absent, Words, Text, Bits}
+use Rattle.llrp_schema.specs.declared.kinds.Tail.TheVariants.{Absent, Words, Text, Bits, Data}
 use Rattle.llrp_schema.specs.Schema.{FieldRule, fields_of, plain_fields_of, rule_of, message_rule, param_rule, message_kinds, param_kinds, tail_of}
 use Rattle.llrp_schema.proofs.TableLaws.{every_rule}
 use Rattle.llrp_tree.specs.declared.TheConstants.{MAX_DEPTH}
@@ -46,8 +46,8 @@ abbrev fits : FieldRule → Bool
 fits r = fits_form (field_form r) r.greatest
 
 all_fit : (kind : Kind) → list_all fits (plain_fields_of kind) ≡ true
-unfolding fields_of rule_of message_rule param_rule message_kinds param_kinds
-all_fit kind = every_rule (λ row. list_all fits (filter (λ field. not field.reserved) row.fields)) refl refl kind
+unfolding fields_of rule_of message_rule param_rule message_kinds whole_message_kinds param_kinds whole_param_kinds
+all_fit kind = every_rule (λ row. list_all fits (filter (λ field. not field.reserved) row.fields)) (refl, refl) (refl, refl) kind
 
 below : (v g m : ℕ) → nat_lt g m ≡ true → v ≤ g → v < m
 below v g m h le = grind arith
@@ -78,6 +78,7 @@ tail_form Absent fields tail t os = t
 tail_form Words fields tail t os = (os, (t.0, t.2))
 tail_form Text fields tail t os = os
 tail_form Bits fields tail t os = os
+tail_form Data fields tail t os = os
 
 -- ---- lines that can be said
 

@@ -10,7 +10,7 @@ use Rattle.std.proofs.lemmas.List.Folds.{list_all-append}
 use Rattle.hex.specs.Hex.{encode_lower, encode_with, lower_digits}
 use Rattle.llrp_schema.specs.declared.kinds.Kind.{Kind}
 use Rattle.llrp_schema.specs.declared.kinds.Tail.{Tail}
-use Rattle.llrp_schema.specs.declared.kinds.Tail.TheVariants.{Absent, Words, Text, Bits}
+use Rattle.llrp_schema.specs.declared.kinds.Tail.TheVariants.{Absent, Words, Text, Bits, Data}
 use Rattle.llrp_schema.specs.Schema.{name_of, tail_of}
 use Rattle.llrp_schema.proofs.TableLaws.{name_visible}
 use Rattle.llrp_tree.specs.declared.TheConstants.{MAX_DEPTH}
@@ -91,6 +91,7 @@ tail_visible Absent tail h = tt
 tail_visible Words tail h = (list_visible (words_of tail) (words_small tail h.0), tt)
 tail_visible Text tail h = (lower_visible tail h, tt)
 tail_visible Bits tail h = (lower_visible tail h, tt)
+tail_visible Data tail h = (lower_visible tail h, tt)
 
 names_visible : (kind : Kind) → are_visible (name_of kind) ≡ true
 names_visible kind = on (name_of kind) (name_visible kind)

@@ -102,7 +102,7 @@ map_same [] = refl
 map_same (b ∷ bs) = ap (λ (z : List Bool). b ∷ z) (map_same bs)
 
 -- the same by a mask of those that differ, of a text and a row of 32
-module _ (text row : List ℕ) (long : 32 ≤ length text) (whole : length row ≡ 32) where
+module _ (text row : List ℕ) (long : 32 ≤ length text) (whole : 32 ≤ length row) where
   abbrev marked : List Bool
   marked = zip2 differ (take 32 text) (take 32 row)
 

@@ -296,3 +296,4 @@ tail_octets form.Absent tail h = subst AreOctets (sym h) tt
 tail_octets form.Words tail h = h.0
 tail_octets form.Text tail h = h
 tail_octets form.Bits tail h = h
+tail_octets form.Data tail h = h

@@ -8,7 +8,7 @@ use Rattle.llrp_schema.specs.declared.kinds.ParamKind.{ParamKind}
 use Rattle.llrp_schema.specs.declared.kinds.Kind.{Kind}
 use Rattle.llrp_schema.specs.declared.kinds.Kind.TheVariants.{Message, Parameter}
 use Rattle.llrp_schema.specs.declared.kinds.Tail.{Tail}
-use Rattle.llrp_schema.specs.declared.kinds.Tail.TheVariants.{Absent, Words, Text, Bits}
+use Rattle.llrp_schema.specs.declared.kinds.Tail.TheVariants.{Absent, Words, Text, Bits, Data}
 use Rattle.llrp_schema.specs.Schema.{FieldRule, fields_of, tail_of, name_of}
 use Rattle.llrp_tree.specs.Tree.{Forest, none, MessageTree}
 use Rattle.llrp_tree.specs.Lawful.{AreInRange, AreOctets}
@@ -201,6 +201,7 @@ whole_texts Absent None e = refl
 whole_texts Words None e = absurd cc
 whole_texts Text None e = absurd cc
 whole_texts Bits None e = absurd cc
+whole_texts Data None e = absurd cc
 whole_texts form (Some os) e = refl
 
 rearranged : (a b c d : List ℕ) → (((a ++ b) ++ (c ++ d)) ++ 10 ∷ []) ≡ a ++ ((b ++ (c ++ d)) ++ (10 ∷ []))
@@ -377,6 +378,7 @@ told_none Absent = tt
 told_none Words = (tt, (0, refl))
 told_none Text = tt
 told_none Bits = tt
+told_none Data = tt
 
 told_first : (f : Tail) (tail : Option (List ℕ)) → tail ≡ None → AreTold f (unwrap_or tail [] ++ [])
 told_first f tail e = subst (λ (x : Option (List ℕ)). AreTold f (unwrap_or x [] ++ [])) (sym e) (told_none f)
@@ -389,6 +391,7 @@ told_more Words before octets t os whole = (
 )
 told_more Text before octets t os whole = tt
 told_more Bits before octets t os whole = tt
+told_more Data before octets t os whole = tt
 
 told_next : (f g : Tail) (tail : Option (List ℕ)) (before octets : List ℕ) → tail ≡ Some before → f ≡ g → AreTold g before → AreOctets octets → AreWhole g octets → AreTold f (unwrap_or tail [] ++ octets)
 told_next f g tail before octets e same t os whole =

@@ -8,7 +8,7 @@ use Rattle.hex.proofs.HexLemmas.{length-encode_with}
 use Rattle.llrp_schema.specs.declared.kinds.Kind.{Kind}
 use Rattle.llrp_schema.specs.declared.kinds.Kind.TheVariants.{Message, Parameter}
 use Rattle.llrp_schema.specs.declared.kinds.Tail.{Tail}
-use Rattle.llrp_schema.specs.declared.kinds.Tail.TheVariants.{Absent, Words, Text, Bits}
+use Rattle.llrp_schema.specs.declared.kinds.Tail.TheVariants.{Absent, Words, Text, Bits, Data}
 use Rattle.llrp_schema.specs.Schema.{name_of, tail_of}
 use Rattle.llrp_schema.proofs.TableLaws.{name_short}
 use Rattle.llrp_tree.specs.declared.TheConstants.{MAX_DEPTH}
@@ -74,6 +74,7 @@ tail_short Absent tail h le = omega arith
 tail_short Words tail h le = omega (arith, le, list_short (words_of tail) (words_small tail h.0), words_count tail)
 tail_short Text tail h le = omega (arith, le, length-encode_with lower_digits tail)
 tail_short Bits tail h le = omega (arith, le, length-encode_with lower_digits tail)
+tail_short Data tail h le = omega (arith, le, length-encode_with lower_digits tail)
 
 forms_few : (kind : Kind) → length (number_forms kind) ≤ 14
 forms_few (Message kind) = omega (arith, message_forms kind, few_forms (Message kind))

@@ -8,7 +8,7 @@ use Rattle.std.proofs.lemmas.Grind.{flat_map-append}
 use Rattle.std.proofs.lemmas.List.{append-nil, map-append, get_or_at}
 use Rattle.hex.specs.Hex.{encode_with, encode_lower, lower_digits}
 use Rattle.llrp_schema.specs.declared.kinds.Tail.{Tail}
-use Rattle.llrp_schema.specs.declared.kinds.Tail.TheVariants.{Words, Text, Bits}
+use Rattle.llrp_schema.specs.declared.kinds.Tail.TheVariants.{Words, Text, Bits, Data}
 use Rattle.llrp_tree.specs.Tree.{words_of}
 use Rattle.llrp_tree.specs.Lawful.{AreOctets}
 use Rattle.llrp_tree.proofs.OctetLemmas.{octets-append}
@@ -199,6 +199,9 @@ text_tail old new octets f = λ front before told e. hex_grown old new octets fr
 pub bits_tail : (old new octets : List ℕ) → new ≡ old ++ encode_lower octets → MoreTail Bits old new octets
 bits_tail old new octets f = λ front before told e. hex_grown old new octets front before f e
 
+pub data_tail : (old new octets : List ℕ) → new ≡ old ++ encode_lower octets → MoreTail Data old new octets
+data_tail old new octets f = λ front before told e. hex_grown old new octets front before f e
+
 -- ---- what the word of a tail begins with
 
 x_before : 32 ∷ 120 ∷ [] ≡ spaced ((120 ∷ encode_lower []) ∷ [])
@@ -210,3 +213,6 @@ text_started form e = x_before ∙ ap (λ (f : Tail). spaced (tail_texts f [])) 
 
 pub bits_started : (form : Tail) → form ≡ Bits → 32 ∷ 120 ∷ [] ≡ spaced (tail_texts form [])
 bits_started form e = x_before ∙ ap (λ (f : Tail). spaced (tail_texts f [])) (sym e)
+
+pub data_started : (form : Tail) → form ≡ Data → 32 ∷ 120 ∷ [] ≡ spaced (tail_texts form [])
+data_started form e = x_before ∙ ap (λ (f : Tail). spaced (tail_texts f [])) (sym e)

@@ -4,7 +4,7 @@ use Rattle.std.specs.List.{list_all}
 use Rattle.llrp_schema.specs.declared.kinds.Kind.{Kind}
 use Rattle.llrp_schema.specs.declared.kinds.Kind.TheVariants.{Message, Parameter}
 use Rattle.llrp_schema.specs.declared.kinds.Tail.{Tail}
-use Rattle.llrp_schema.specs.declared.kinds.Tail.TheVariants.{Absent, Words, Text, Bits}
+use Rattle.llrp_schema.specs.declared.kinds.Tail.TheVariants.{Absent, Words, Text, Bits, Data}
 use Rattle.llrp_schema.specs.Schema.{name_of, tail_of}
 use Rattle.llrp_tree.specs.declared.TheConstants.{MAX_DEPTH}
 use Rattle.llrp_tree.specs.Lawful.{AreOctets}
@@ -57,6 +57,7 @@ IsTailOf Absent tail = tail ≡ []
 IsTailOf Words tail = AreOctets tail × ((n : ℕ) × (length tail ≡ 2 * n))
 IsTailOf Text tail = AreOctets tail
 IsTailOf Bits tail = AreOctets tail
+IsTailOf Data tail = AreOctets tail
 
 -- The bytes, with the LF after them, are the text of a line at this level.
 pub record SaysNode (bytes : List ℕ) (level : ℕ) (line : NodeLine) : Type 0 where
@@ -100,6 +101,7 @@ tail_count Absent = 0
 tail_count Words = 1
 tail_count Text = 1
 tail_count Bits = 1
+tail_count Data = 1
 
 -- how many words the line of a kind has: level, name, numbers and tail
 abbrev pub word_count : Kind → ℕ

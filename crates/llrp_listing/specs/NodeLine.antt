@@ -6,7 +6,7 @@ use Rattle.llrp_schema.specs.declared.kinds.ParamKind.{ParamKind}
 use Rattle.llrp_schema.specs.declared.kinds.Kind.{Kind}
 use Rattle.llrp_schema.specs.declared.kinds.Kind.TheVariants.{Message, Parameter}
 use Rattle.llrp_schema.specs.declared.kinds.Tail.{Tail}
-use Rattle.llrp_schema.specs.declared.kinds.Tail.TheVariants.{Absent, Words, Text, Bits}
+use Rattle.llrp_schema.specs.declared.kinds.Tail.TheVariants.{Absent, Words, Text, Bits, Data}
 use Rattle.llrp_schema.specs.Schema.{FieldRule, name_of, plain_fields_of, tail_of}
 use Rattle.llrp_tree.specs.Tree.{MessageTree, words_of}
 use Rattle.tag_uri.specs.TagText.{IsTextOf}
@@ -81,6 +81,7 @@ tail_texts Absent tail = []
 tail_texts Words tail = word_list_text tail ∷ []
 tail_texts Text tail = octets_text tail ∷ []
 tail_texts Bits tail = octets_text tail ∷ []
+tail_texts Data tail = octets_text tail ∷ []
 
 -- ---- lines
 

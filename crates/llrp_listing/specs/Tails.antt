@@ -1,7 +1,7 @@
 -- How the word of a tail grows.
 use Rattle.std.specs.Prelude.{◌≡◌, ℕ, ◌*◌, List, ◌++◌, length}
 use Rattle.llrp_schema.specs.declared.kinds.Tail.{Tail}
-use Rattle.llrp_schema.specs.declared.kinds.Tail.TheVariants.{Absent, Words, Text, Bits}
+use Rattle.llrp_schema.specs.declared.kinds.Tail.TheVariants.{Absent, Words, Text, Bits, Data}
 use Rattle.llrp_tree.specs.Lawful.{AreOctets}
 use Rattle.llrp_listing.specs.NodeLine.{spaced, tail_texts, word_list_text}
 
@@ -11,6 +11,7 @@ AreTold Absent octets = Unit {0}
 AreTold Words octets = AreOctets octets × ((n : ℕ) × (length octets ≡ 2 * n))
 AreTold Text octets = Unit {0}
 AreTold Bits octets = Unit {0}
+AreTold Data octets = Unit {0}
 
 -- a text that ends with a list of words ends with the list of some octets more
 abbrev pub MoreWords : List ℕ → List ℕ → List ℕ → Type 0

@@ -145,7 +145,7 @@ fn tail_count(kind: Kind) -> usize
 {
     match llrp_schema::tail(kind) {
         Tail::Absent => 0,
-        Tail::Words | Tail::Text | Tail::Bits => 1,
+        Tail::Words | Tail::Text | Tail::Bits | Tail::Data => 1,
     }
 }
 

@@ -28,12 +28,13 @@ fn octets_before(text: &[u8], byte: u8) -> u32
 
 /// How many of the first octets of a text are those of a row.
 #[inline(always)]
-pub fn octets_alike(text: &[u8], row: &[u8; 32]) -> u32
-    requires { 32 ≤ length text.now }
+pub fn octets_alike(text: &[u8], row: &[u8]) -> u32
+    requires text { 32 ≤ length text.now }
+    requires row { 32 ≤ length row.now }
     ensures { (k : ℕ) → k ≤ result → take k text.now ≡ take k row.now }
 {
     let marks = u8x32::from_slice(text)
-        .simd_ne(u8x32::from_slice(row.as_slice()))
+        .simd_ne(u8x32::from_slice(row))
         .to_bitmask();
     if marks == 0 {
         32

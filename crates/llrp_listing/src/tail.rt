@@ -100,6 +100,6 @@ pub fn read_tail(alloc: Global, form: Tail, word: &str) -> Result<Octets, LineEr
     match form {
         Tail::Absent => Err(LineErr::Refused(Refusal::Tail)),
         Tail::Words => read_words(alloc, word),
-        Tail::Text | Tail::Bits => read_octets(alloc, word),
+        Tail::Text | Tail::Bits | Tail::Data => read_octets(alloc, word),
     }
 }

@@ -8,10 +8,12 @@ use Rattle.llrp_schema.specs.declared.kinds.ParamKind.{ParamKind}
 use Rattle.llrp_schema.specs.declared.kinds.Kind.{Kind}
 use Rattle.llrp_schema.specs.declared.kinds.Kind.TheVariants.{Parameter}
 use Rattle.llrp_schema.specs.declared.kinds.Place.{Place}
-use Rattle.llrp_schema.specs.Schema.{GroupRule, number_of, groups_of, rule_of, message_rule, param_rule, message_kinds, param_kinds}
+use Rattle.llrp_schema.specs.declared.kinds.Profile.{Profile}
+use Rattle.llrp_schema.specs.declared.kinds.Profile.TheVariants.{Own, Whole}
+use Rattle.llrp_schema.specs.Schema.{GroupRule, number_of, groups_of, rule_of, message_rule, param_rule, message_kinds, param_kinds, whole_message_kinds, whole_param_kinds, key_of, profile_of}
 use Rattle.llrp_schema.specs.Places.{is_member, has_place, IsPlace, AreRequired, further, first_place, least_bits}
 use Rattle.llrp_schema.proofs.SchemaLemmas.{not_true, pairs_all, All-from_list_all}
-use Rattle.llrp_schema.proofs.TableLaws.{param_numbers, every_rule}
+use Rattle.llrp_schema.proofs.TableLaws.{param_keys, every_rule}
 
 -- the most of a group is one, where there is a bound
 abbrev pub is_one : Option ℕ → Bool
@@ -24,16 +26,16 @@ share_none g h = list_all (λ kind. not (is_member h kind)) g.members
 
 -- no two groups of one parent share a kind
 pub parent_apart : (parent : Kind) → pairs_all share_none (groups_of parent) ≡ true
-unfolding groups_of rule_of message_rule param_rule message_kinds param_kinds number_of
-parent_apart parent = every_rule (λ row. pairs_all share_none row.groups) refl refl parent
+unfolding groups_of rule_of message_rule param_rule message_kinds param_kinds whole_message_kinds whole_param_kinds number_of key_of profile_of
+parent_apart parent = every_rule (λ row. pairs_all share_none row.groups) (refl, refl) (refl, refl) parent
 
 -- a group that shares none with one that has the kind has it not
-lacks : (kind : ParamKind) (h : GroupRule) (members : List ParamKind) → list_all (λ m. not (is_member h m)) members ≡ true → list_any (λ m. number_of (Parameter m) == number_of (Parameter kind)) members ≡ true → is_member h kind ≡ false
+lacks : (kind : ParamKind) (h : GroupRule) (members : List ParamKind) → list_all (λ m. not (is_member h m)) members ≡ true → list_any (λ m. key_of m == key_of kind) members ≡ true → is_member h kind ≡ false
 lacks kind h [] none has = absurd cc
 lacks kind h (m ∷ members) none has =
     let p = and_parts (not (is_member h m)) (list_all (λ k. not (is_member h k)) members) none in
-    (elim (number_of (Parameter m) == number_of (Parameter kind)) as (λ b. (number_of (Parameter m) == number_of (Parameter kind)) ≡ b → (b || list_any (λ k. number_of (Parameter k) == number_of (Parameter kind)) members) ≡ true → is_member h kind ≡ false) [
-      | true ↦ λ e rest. ap (λ k. is_member h k) (sym (param_numbers m kind (eqb-true (number_of (Parameter m)) (number_of (Parameter kind)) e))) ∙ not_true (is_member h m) p.0
+    (elim (key_of m == key_of kind) as (λ b. (key_of m == key_of kind) ≡ b → (b || list_any (λ k. key_of k == key_of kind) members) ≡ true → is_member h kind ≡ false) [
+      | true ↦ λ e rest. ap (λ k. is_member h k) (sym (param_keys m kind (eqb-true (key_of m) (key_of kind) e))) ∙ not_true (is_member h m) p.0
       | false ↦ λ e rest. lacks kind h members p.1 rest
     ]) refl has
 
@@ -131,13 +133,13 @@ least_are_required (g ∷ groups) few =
 
 -- a group takes one child at most, or any number of them
 pub parent_takes_one : (parent : Kind) → list_all (λ g. is_one g.most) (groups_of parent) ≡ true
-unfolding groups_of rule_of message_rule param_rule message_kinds param_kinds
-parent_takes_one parent = every_rule (λ row. list_all (λ g. is_one g.most) row.groups) refl refl parent
+unfolding groups_of rule_of message_rule param_rule message_kinds param_kinds whole_message_kinds whole_param_kinds
+parent_takes_one parent = every_rule (λ row. list_all (λ g. is_one g.most) row.groups) (refl, refl) (refl, refl) parent
 
 -- a group needs one child at most
 pub parent_needs_one : (parent : Kind) → list_all (λ g. nat_le g.least 1) (groups_of parent) ≡ true
-unfolding groups_of rule_of message_rule param_rule message_kinds param_kinds
-parent_needs_one parent = every_rule (λ row. list_all (λ g. nat_le g.least 1) row.groups) refl refl parent
+unfolding groups_of rule_of message_rule param_rule message_kinds param_kinds whole_message_kinds whole_param_kinds
+parent_needs_one parent = every_rule (λ row. list_all (λ g. nat_le g.least 1) row.groups) (refl, refl) (refl, refl) parent
 
 -- what follows from the tests of a group's numbers
 one_or_any : (most : Option ℕ) → is_one most ≡ true → (most ≡ None) ⊎ (most ≡ Some 1)
@@ -151,9 +153,9 @@ pub takes_one_or_any : (kind : Kind) → All (λ group. (group.most ≡ None) �
 takes_one_or_any kind = All-from_list_all (λ group. is_one group.most) (λ group. (group.most ≡ None) ⊎ (group.most ≡ Some 1)) (λ group. one_or_any group.most) (groups_of kind) (parent_takes_one kind)
 
 -- a kind has 15 groups at most
-pub few_groups : (kind : Kind) → length (groups_of kind) ≤ 15
-unfolding groups_of rule_of message_rule param_rule message_kinds param_kinds
-few_groups kind = leb-true (length (groups_of kind)) 15 (every_rule (λ row. nat_le (length row.groups) 15) refl refl kind)
+pub few_groups : (kind : Kind) → length (groups_of kind) ≤ 18
+unfolding groups_of rule_of message_rule param_rule message_kinds param_kinds whole_message_kinds whole_param_kinds
+few_groups kind = leb-true (length (groups_of kind)) 18 (every_rule (λ row. nat_le (length row.groups) 18) (refl, refl) (refl, refl) kind)
 
 -- what is said of a place, where there is none
 pub place_none : (found : Option Place) (N : Type 0) (P : Place → Type 0) → MatchOption found N P → IfNone found N
@@ -164,3 +166,39 @@ place_none (Some place) N P says = tt
 pub place_some : (found : Option Place) (N : Type 0) (P : Place → Type 0) → MatchOption found N P → IfSome found P
 place_some None N P says = tt
 place_some (Some place) N P says = says
+
+-- whether two profiles are the same
+abbrev same_profile : Profile → Profile → Bool
+same_profile Own Own = true
+same_profile Own Whole = false
+same_profile Whole Own = false
+same_profile Whole Whole = true
+
+profiles_same : (p q : Profile) → same_profile p q ≡ true → p ≡ q
+profiles_same Own Own e = refl
+profiles_same Own Whole e = cc e
+profiles_same Whole Own e = cc e
+profiles_same Whole Whole e = refl
+
+member_profile : (q : Profile) (k : ParamKind) (ms : List ParamKind) → list_all (λ m. same_profile (profile_of (Parameter m)) q) ms ≡ true → list_any (λ m. key_of m == key_of k) ms ≡ true → profile_of (Parameter k) ≡ q
+member_profile q k [] all has = cc has
+member_profile q k (m ∷ ms) all has =
+    let p = and_parts (same_profile (profile_of (Parameter m)) q) (list_all (λ n. same_profile (profile_of (Parameter n)) q) ms) all in
+    (elim (key_of m == key_of k) as (λ b. (key_of m == key_of k) ≡ b → (b || list_any (λ n. key_of n == key_of k) ms) ≡ true → profile_of (Parameter k) ≡ q) [
+      | true ↦ λ e rest. sym (ap (λ x. profile_of (Parameter x)) (param_keys m k (eqb-true (key_of m) (key_of k) e))) ∙ profiles_same (profile_of (Parameter m)) q p.0
+      | false ↦ λ e rest. member_profile q k ms p.1 rest
+    ]) refl has
+
+groups_profile : (q : Profile) (k : ParamKind) (gs : List GroupRule) → list_all (λ g. list_all (λ m. same_profile (profile_of (Parameter m)) q) g.members) gs ≡ true → has_place gs k ≡ true → profile_of (Parameter k) ≡ q
+groups_profile q k [] all has = cc has
+groups_profile q k (g ∷ gs) all has =
+    let p = and_parts (list_all (λ m. same_profile (profile_of (Parameter m)) q) g.members) (list_all (λ h. list_all (λ m. same_profile (profile_of (Parameter m)) q) h.members) gs) all in
+    (elim (is_member g k) as (λ b. is_member g k ≡ b → (b || has_place gs k) ≡ true → profile_of (Parameter k) ≡ q) [
+      | true ↦ λ e rest. member_profile q k g.members p.0 e
+      | false ↦ λ e rest. groups_profile q k gs p.1 rest
+    ]) refl has
+
+-- a child is of its parent's profile
+pub child_profile : (parent : Kind) (k : ParamKind) → has_place (groups_of parent) k ≡ true → profile_of (Parameter k) ≡ profile_of parent
+unfolding groups_of profile_of rule_of message_rule param_rule message_kinds param_kinds whole_message_kinds whole_param_kinds
+child_profile parent k has = groups_profile (profile_of parent) k (groups_of parent) (every_rule (λ row. list_all (λ g. list_all (λ m. same_profile (profile_of (Parameter m)) row.profile) g.members) row.groups) (refl, refl) (refl, refl) parent) has

@@ -55,6 +55,11 @@ pub list_all-filter : {X : Type 0} (test : X → Bool) (xs : List X) → list_al
 list_all-filter test [] = refl
 list_all-filter test (x ∷ xs) = list_all-cond test (test x) x (filter test xs) (λ passes. passes) (list_all-filter test xs)
 
+-- every element of a thinned list passes a test that every element passes
+pub list_all-thinned : {X : Type 0} (test kept : X → Bool) (xs : List X) → list_all test xs ≡ true → list_all test (filter kept xs) ≡ true
+list_all-thinned test kept [] pass = refl
+list_all-thinned test kept (x ∷ xs) pass = let parts = and_parts (test x) (list_all test xs) pass in list_all-cond test (kept x) x (filter kept xs) (λ _. parts.0) (list_all-thinned test kept xs parts.1)
+
 -- a fact that follows from a test holds of each element where all pass
 pub All-from_list_all : {X : Type 0} (test : X → Bool) (P : X → Type 0) → ((x : X) → test x ≡ true → P x) → (xs : List X) → list_all test xs ≡ true → All P xs
 All-from_list_all test P tells xs pass = λ k d below. tells (slice_index_or xs k d) (AllPass-from_list_all test xs pass k d below)

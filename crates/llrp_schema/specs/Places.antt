@@ -3,13 +3,12 @@ use Rattle.std.specs.Prelude.{◌≡◌, ℕ, suc, ◌+◌, ◌*◌, ◌<◌, �
 use Rattle.std.specs.Int.{bit_at}
 use Rattle.std.specs.List.{list_any}
 use Rattle.llrp_schema.specs.declared.kinds.ParamKind.{ParamKind}
-use Rattle.llrp_schema.specs.declared.kinds.Kind.TheVariants.{Parameter}
 use Rattle.llrp_schema.specs.declared.kinds.Place.{Place}
-use Rattle.llrp_schema.specs.Schema.{GroupRule, number_of}
+use Rattle.llrp_schema.specs.Schema.{GroupRule, key_of}
 
 -- the kind is one of the group's
 abbrev pub is_member : GroupRule → ParamKind → Bool
-is_member group kind = list_any (λ m. number_of (Parameter m) == number_of (Parameter kind)) group.members
+is_member group kind = list_any (λ m. key_of m == key_of kind) group.members
 
 -- a group has the kind
 abbrev pub has_place : List GroupRule → ParamKind → Bool

@@ -1,15 +1,17 @@
 -- The messages and parameters of LLRP 1.1 in this profile: each kind's number, name, fields, tail and groups of children, one row a kind.
 use Prim.Native.String.{String}
-use Rattle.std.specs.Prelude.{ℕ, Bool, true, false, not, List, [], ◌∷◌, codes, Option, Some, None, map, filter, find, sum_by, ◌^◌, ◌-◌, ◌==◌, nat_lt, nat_eq}
+use Rattle.std.specs.Prelude.{ℕ, Bool, true, false, not, List, [], ◌∷◌, codes, Option, Some, None, map, filter, find, sum_by, ◌^◌, ◌+◌, ◌-◌, ◌==◌, nat_lt, nat_eq}
 use Rattle.std.specs.Cmp.Lexicographic.{pointwise}
 use Rattle.llrp_schema.specs.declared.kinds.MsgKind.{MsgKind}
-use Rattle.llrp_schema.specs.declared.kinds.MsgKind.TheVariants.{SetReaderConfig, CloseConnectionResponse, SetReaderConfigResponse, CloseConnection, AddRoSpec, DeleteRoSpec, StartRoSpec, StopRoSpec, EnableRoSpec, DisableRoSpec, GetRoSpecs, AddRoSpecResponse, DeleteRoSpecResponse, StartRoSpecResponse, StopRoSpecResponse, EnableRoSpecResponse, DisableRoSpecResponse, GetRoSpecsResponse, GetReport, RoAccessReport, Keepalive, ReaderEventNotification, EnableEventsAndReports, KeepaliveAck, ErrorMessage}
+use Rattle.llrp_schema.specs.declared.kinds.MsgKind.TheVariants.{SetReaderConfig, CloseConnectionResponse, SetReaderConfigResponse, CloseConnection, AddRoSpec, DeleteRoSpec, StartRoSpec, StopRoSpec, EnableRoSpec, DisableRoSpec, GetRoSpecs, AddRoSpecResponse, DeleteRoSpecResponse, StartRoSpecResponse, StopRoSpecResponse, EnableRoSpecResponse, DisableRoSpecResponse, GetRoSpecsResponse, GetReport, RoAccessReport, Keepalive, ReaderEventNotification, EnableEventsAndReports, KeepaliveAck, ErrorMessage, WholeGetReaderCapabilities, WholeGetReaderConfig, WholeSetReaderConfig, WholeCloseConnectionResponse, WholeGetReaderCapabilitiesResponse, WholeGetReaderConfigResponse, WholeSetReaderConfigResponse, WholeCloseConnection, WholeAddRoSpec, WholeDeleteRoSpec, WholeStartRoSpec, WholeStopRoSpec, WholeEnableRoSpec, WholeDisableRoSpec, WholeGetRoSpecs, WholeAddRoSpecResponse, WholeDeleteRoSpecResponse, WholeStartRoSpecResponse, WholeStopRoSpecResponse, WholeEnableRoSpecResponse, WholeDisableRoSpecResponse, WholeGetRoSpecsResponse, WholeAddAccessSpec, WholeDeleteAccessSpec, WholeEnableAccessSpec, WholeDisableAccessSpec, WholeGetAccessSpecs, WholeClientRequestOp, WholeGetSupportedVersion, WholeSetProtocolVersion, WholeAddAccessSpecResponse, WholeDeleteAccessSpecResponse, WholeEnableAccessSpecResponse, WholeDisableAccessSpecResponse, WholeGetAccessSpecsResponse, WholeClientRequestOpResponse, WholeGetSupportedVersionResponse, WholeSetProtocolVersionResponse, WholeGetReport, WholeRoAccessReport, WholeKeepalive, WholeReaderEventNotification, WholeEnableEventsAndReports, WholeKeepaliveAck, WholeErrorMessage, WholeCustomMessage}
 use Rattle.llrp_schema.specs.declared.kinds.ParamKind.{ParamKind}
-use Rattle.llrp_schema.specs.declared.kinds.ParamKind.TheVariants.{AntennaId, FirstSeenTimestampUtc, FirstSeenTimestampUptime, LastSeenTimestampUtc, LastSeenTimestampUptime, PeakRssi, ChannelIndex, TagSeenCount, RoSpecId, InventoryParameterSpecId, C1G2Crc, C1G2Pc, Epc96, SpecIndex, AccessSpecId, UtcTimestamp, Uptime, RoSpec, RoBoundarySpec, RoSpecStartTrigger, PeriodicTriggerValue, GpiTriggerValue, RoSpecStopTrigger, AiSpec, AiSpecStopTrigger, TagObservationTrigger, InventoryParameterSpec, KeepaliveSpec, AntennaConfiguration, RfReceiver, RfTransmitter, EventsAndReports, RoReportSpec, TagReportContentSelector, TagReportData, EpcData, ReaderEventNotificationSpec, EventNotificationState, ReaderEventNotificationData, GpiEvent, RoSpecEvent, ReportBufferLevelWarningEvent, ReportBufferOverflowErrorEvent, AiSpecEvent, AntennaEvent, ConnectionAttemptEvent, ConnectionCloseEvent, LlrpStatus, FieldError, ParameterError, C1G2InventoryCommand, C1G2RfControl, C1G2SingulationControl, C1G2EpcMemorySelector}
+use Rattle.llrp_schema.specs.declared.kinds.ParamKind.TheVariants.{AntennaId, FirstSeenTimestampUtc, FirstSeenTimestampUptime, LastSeenTimestampUtc, LastSeenTimestampUptime, PeakRssi, ChannelIndex, TagSeenCount, RoSpecId, InventoryParameterSpecId, C1G2Crc, C1G2Pc, Epc96, SpecIndex, AccessSpecId, UtcTimestamp, Uptime, RoSpec, RoBoundarySpec, RoSpecStartTrigger, PeriodicTriggerValue, GpiTriggerValue, RoSpecStopTrigger, AiSpec, AiSpecStopTrigger, TagObservationTrigger, InventoryParameterSpec, KeepaliveSpec, AntennaConfiguration, RfReceiver, RfTransmitter, EventsAndReports, RoReportSpec, TagReportContentSelector, TagReportData, EpcData, ReaderEventNotificationSpec, EventNotificationState, ReaderEventNotificationData, GpiEvent, RoSpecEvent, ReportBufferLevelWarningEvent, ReportBufferOverflowErrorEvent, AiSpecEvent, AntennaEvent, ConnectionAttemptEvent, ConnectionCloseEvent, LlrpStatus, FieldError, ParameterError, C1G2InventoryCommand, C1G2RfControl, C1G2SingulationControl, C1G2EpcMemorySelector, WholeAntennaId, WholeFirstSeenTimestampUtc, WholeFirstSeenTimestampUptime, WholeLastSeenTimestampUtc, WholeLastSeenTimestampUptime, WholePeakRssi, WholeChannelIndex, WholeTagSeenCount, WholeRoSpecId, WholeInventoryParameterSpecId, WholeC1G2Crc, WholeC1G2Pc, WholeEpc96, WholeSpecIndex, WholeClientRequestOpSpecResult, WholeAccessSpecId, WholeOpSpecID, WholeC1G2SingulationDetails, WholeC1g2xpcw1, WholeC1g2xpcw2, WholeUtcTimestamp, WholeUptime, WholeGeneralDeviceCapabilities, WholeReceiveSensitivityTableEntry, WholePerAntennaAirProtocol, WholeGpioCapabilities, WholeLlrpCapabilities, WholeRegulatoryCapabilities, WholeUhfBandCapabilities, WholeTransmitPowerLevelTableEntry, WholeFrequencyInformation, WholeFrequencyHopTable, WholeFixedFrequencyTable, WholePerAntennaReceiveSensitivityRange, WholeRoSpec, WholeRoBoundarySpec, WholeRoSpecStartTrigger, WholePeriodicTriggerValue, WholeGpiTriggerValue, WholeRoSpecStopTrigger, WholeAiSpec, WholeAiSpecStopTrigger, WholeTagObservationTrigger, WholeInventoryParameterSpec, WholeRfSurveySpec, WholeRfSurveySpecStopTrigger, WholeAccessSpec, WholeAccessSpecStopTrigger, WholeAccessCommand, WholeClientRequestOpSpec, WholeClientRequestResponse, WholeLlrpConfigurationStateValue, WholeIdentification, WholeGpoWriteData, WholeKeepaliveSpec, WholeAntennaProperties, WholeAntennaConfiguration, WholeRfReceiver, WholeRfTransmitter, WholeGpiPortCurrentState, WholeEventsAndReports, WholeRoReportSpec, WholeTagReportContentSelector, WholeAccessReportSpec, WholeTagReportData, WholeEpcData, WholeRfSurveyReportData, WholeFrequencyRssiLevelEntry, WholeReaderEventNotificationSpec, WholeEventNotificationState, WholeReaderEventNotificationData, WholeHoppingEvent, WholeGpiEvent, WholeRoSpecEvent, WholeReportBufferLevelWarningEvent, WholeReportBufferOverflowErrorEvent, WholeReaderExceptionEvent, WholeRfSurveyEvent, WholeAiSpecEvent, WholeAntennaEvent, WholeConnectionAttemptEvent, WholeConnectionCloseEvent, WholeLlrpStatus, WholeFieldError, WholeParameterError, WholeC1G2LlrpCapabilities, WholeC1G2UhfRfModeTable, WholeC1G2UhfRfModeTableEntry, WholeC1G2InventoryCommand, WholeC1G2Filter, WholeC1G2TagInventoryMask, WholeC1G2TagInventoryStateAwareFilterAction, WholeC1G2TagInventoryStateUnawareFilterAction, WholeC1G2RfControl, WholeC1G2SingulationControl, WholeC1G2TagInventoryStateAwareSingulationAction, WholeC1G2TagSpec, WholeC1G2TargetTag, WholeC1G2Read, WholeC1G2Write, WholeC1G2Kill, WholeC1G2Lock, WholeC1G2LockPayload, WholeC1G2BlockErase, WholeC1G2BlockWrite, WholeC1G2EpcMemorySelector, WholeC1G2ReadOpSpecResult, WholeC1G2WriteOpSpecResult, WholeC1G2KillOpSpecResult, WholeC1G2LockOpSpecResult, WholeC1G2BlockEraseOpSpecResult, WholeC1G2BlockWriteOpSpecResult, WholeLoopSpec, WholeSpecLoopEvent, WholeC1G2Recommission, WholeC1G2BlockPermalock, WholeC1G2GetBlockPermalockStatus, WholeC1G2RecommissionOpSpecResult, WholeC1G2BlockPermalockOpSpecResult, WholeC1G2GetBlockPermalockStatusOpSpecResult, WholeMaximumReceiveSensitivity, WholeRfSurveyFrequencyCapabilities, WholeCustom}
 use Rattle.llrp_schema.specs.declared.kinds.Kind.{Kind}
 use Rattle.llrp_schema.specs.declared.kinds.Kind.TheVariants.{Message, Parameter}
+use Rattle.llrp_schema.specs.declared.kinds.Profile.{Profile}
+use Rattle.llrp_schema.specs.declared.kinds.Profile.TheVariants.{Own, Whole}
 use Rattle.llrp_schema.specs.declared.kinds.Tail.{Tail}
-use Rattle.llrp_schema.specs.declared.kinds.Tail.TheVariants.{Absent, Words, Text, Bits}
+use Rattle.llrp_schema.specs.declared.kinds.Tail.TheVariants.{Absent, Words, Text, Bits, Data}
 use Rattle.llrp_schema.specs.declared.kinds.Field.{Field}
 use Rattle.llrp_schema.specs.declared.kinds.Group.{Group}
 use Rattle.llrp_schema.specs.declared.kinds.Definition.{Definition}
@@ -30,6 +32,7 @@ pub record GroupRule : Type 0 where
 
 -- a row of the tables
 pub record KindRule : Type 0 where
+  pub profile : Profile
   pub number : ℕ
   pub name : List ℕ
   pub fields : List FieldRule
@@ -46,7 +49,7 @@ group_rule group = record { members = group.members.now; least = group.least; mo
 
 -- what a row of the program says
 abbrev pub kind_rule : Definition → KindRule
-kind_rule row = record { number = row.number; name = row.name.now; fields = map field_rule row.fields.now; tail = row.tail; groups = map group_rule row.groups.now }
+kind_rule row = record { profile = row.profile; number = row.number; name = row.name.now; fields = map field_rule row.fields.now; tail = row.tail; groups = map group_rule row.groups.now }
 
 -- a field whose lawful values go from 0 to the greatest
 abbrev pub field_to : String → ℕ → ℕ → FieldRule
@@ -76,6 +79,14 @@ one kind = one_of (kind ∷ [])
 abbrev pub one_or_more : ParamKind → GroupRule
 one_or_more kind = record { members = kind ∷ []; least = 1; most = None }
 
+-- one child or more, each of one of the kinds
+abbrev pub some_of : List ParamKind → GroupRule
+some_of kinds = record { members = kinds; least = 1; most = None }
+
+-- children of the kinds in any number
+abbrev pub any_of : List ParamKind → GroupRule
+any_of kinds = record { members = kinds; least = 0; most = None }
+
 -- one child of the kind or none
 abbrev pub at_most_one : ParamKind → GroupRule
 at_most_one kind = record { members = kind ∷ []; least = 0; most = Some 1 }
@@ -86,7 +97,7 @@ any_number kind = record { members = kind ∷ []; least = 0; most = None }
 
 -- a parameter with type, length and value: its number, name, fields, tail and groups
 abbrev tlv : ℕ → String → List FieldRule → Tail → List GroupRule → KindRule
-tlv number name fields tail groups = record { number = number; name = codes name; fields = fields; tail = tail; groups = groups }
+tlv number name fields tail groups = record { profile = Own; number = number; name = codes name; fields = fields; tail = tail; groups = groups }
 
 -- a message: its number, name, fields and groups
 abbrev message : ℕ → String → List FieldRule → List GroupRule → KindRule
@@ -99,6 +110,10 @@ tv number name width = tlv number name (field name width ∷ []) Absent []
 -- a parameter with type and value whose field is signed
 abbrev signed_tv : ℕ → String → ℕ → KindRule
 signed_tv number name width = tlv number name (signed name width ∷ []) Absent []
+
+-- a row of the whole standard
+abbrev of_whole : KindRule → KindRule
+of_whole rule = record { profile = Whole; number = rule.number; name = rule.name; fields = rule.fields; tail = rule.tail; groups = rule.groups }
 
 -- the messages (LLRP 1.1, section 17.1)
 unfoldable pub message_rule : MsgKind → KindRule
@@ -134,6 +149,98 @@ message_rule ReaderEventNotification = message 63 "READER_EVENT_NOTIFICATION" []
 message_rule EnableEventsAndReports = message 64 "ENABLE_EVENTS_AND_REPORTS" [] []
 message_rule KeepaliveAck = message 72 "KEEPALIVE_ACK" [] []
 message_rule ErrorMessage = message 100 "ERROR_MESSAGE" [] (one LlrpStatus ∷ [])
+message_rule WholeGetReaderCapabilities = of_whole (message 1 "GET_READER_CAPABILITIES" (field_to "RequestedData" 8 4 ∷ [])
+    (any_number WholeCustom ∷ []))
+message_rule WholeGetReaderConfig = of_whole (message 2 "GET_READER_CONFIG" (field "AntennaID" 16 ∷ field_to "RequestedData" 8 11 ∷ field "GPIPortNum" 16 ∷ field "GPOPortNum" 16 ∷ [])
+    (any_number WholeCustom ∷ []))
+message_rule WholeSetReaderConfig = of_whole (message 3 "SET_READER_CONFIG" (field "ResetToFactoryDefault" 1 ∷ reserved 7 ∷ [])
+    (at_most_one WholeKeepaliveSpec ∷ at_most_one WholeEventsAndReports ∷ at_most_one WholeRoReportSpec ∷ at_most_one WholeReaderEventNotificationSpec ∷ any_number WholeAntennaConfiguration ∷ any_number WholeAntennaProperties ∷ at_most_one WholeAccessReportSpec ∷ any_number WholeGpoWriteData ∷ any_number WholeGpiPortCurrentState ∷ any_number WholeCustom ∷ []))
+message_rule WholeCloseConnectionResponse = of_whole (message 4 "CLOSE_CONNECTION_RESPONSE" []
+    (one WholeLlrpStatus ∷ []))
+message_rule WholeGetReaderCapabilitiesResponse = of_whole (message 11 "GET_READER_CAPABILITIES_RESPONSE" []
+    (one WholeLlrpStatus ∷ at_most_one WholeGeneralDeviceCapabilities ∷ at_most_one WholeLlrpCapabilities ∷ at_most_one WholeRegulatoryCapabilities ∷ at_most_one WholeC1G2LlrpCapabilities ∷ any_number WholeCustom ∷ []))
+message_rule WholeGetReaderConfigResponse = of_whole (message 12 "GET_READER_CONFIG_RESPONSE" []
+    (one WholeLlrpStatus ∷ at_most_one WholeIdentification ∷ any_number WholeAntennaProperties ∷ any_number WholeAntennaConfiguration ∷ at_most_one WholeReaderEventNotificationSpec ∷ at_most_one WholeRoReportSpec ∷ at_most_one WholeAccessReportSpec ∷ at_most_one WholeLlrpConfigurationStateValue ∷ at_most_one WholeKeepaliveSpec ∷ any_number WholeGpiPortCurrentState ∷ any_number WholeGpoWriteData ∷ at_most_one WholeEventsAndReports ∷ any_number WholeCustom ∷ []))
+message_rule WholeSetReaderConfigResponse = of_whole (message 13 "SET_READER_CONFIG_RESPONSE" []
+    (one WholeLlrpStatus ∷ []))
+message_rule WholeCloseConnection = of_whole (message 14 "CLOSE_CONNECTION" []
+    [])
+message_rule WholeAddRoSpec = of_whole (message 20 "ADD_ROSPEC" []
+    (one WholeRoSpec ∷ []))
+message_rule WholeDeleteRoSpec = of_whole (message 21 "DELETE_ROSPEC" (field "ROSpecID" 32 ∷ [])
+    [])
+message_rule WholeStartRoSpec = of_whole (message 22 "START_ROSPEC" (field "ROSpecID" 32 ∷ [])
+    [])
+message_rule WholeStopRoSpec = of_whole (message 23 "STOP_ROSPEC" (field "ROSpecID" 32 ∷ [])
+    [])
+message_rule WholeEnableRoSpec = of_whole (message 24 "ENABLE_ROSPEC" (field "ROSpecID" 32 ∷ [])
+    [])
+message_rule WholeDisableRoSpec = of_whole (message 25 "DISABLE_ROSPEC" (field "ROSpecID" 32 ∷ [])
+    [])
+message_rule WholeGetRoSpecs = of_whole (message 26 "GET_ROSPECS" []
+    [])
+message_rule WholeAddRoSpecResponse = of_whole (message 30 "ADD_ROSPEC_RESPONSE" []
+    (one WholeLlrpStatus ∷ []))
+message_rule WholeDeleteRoSpecResponse = of_whole (message 31 "DELETE_ROSPEC_RESPONSE" []
+    (one WholeLlrpStatus ∷ []))
+message_rule WholeStartRoSpecResponse = of_whole (message 32 "START_ROSPEC_RESPONSE" []
+    (one WholeLlrpStatus ∷ []))
+message_rule WholeStopRoSpecResponse = of_whole (message 33 "STOP_ROSPEC_RESPONSE" []
+    (one WholeLlrpStatus ∷ []))
+message_rule WholeEnableRoSpecResponse = of_whole (message 34 "ENABLE_ROSPEC_RESPONSE" []
+    (one WholeLlrpStatus ∷ []))
+message_rule WholeDisableRoSpecResponse = of_whole (message 35 "DISABLE_ROSPEC_RESPONSE" []
+    (one WholeLlrpStatus ∷ []))
+message_rule WholeGetRoSpecsResponse = of_whole (message 36 "GET_ROSPECS_RESPONSE" []
+    (one WholeLlrpStatus ∷ any_number WholeRoSpec ∷ []))
+message_rule WholeAddAccessSpec = of_whole (message 40 "ADD_ACCESSSPEC" []
+    (one WholeAccessSpec ∷ []))
+message_rule WholeDeleteAccessSpec = of_whole (message 41 "DELETE_ACCESSSPEC" (field "AccessSpecID" 32 ∷ [])
+    [])
+message_rule WholeEnableAccessSpec = of_whole (message 42 "ENABLE_ACCESSSPEC" (field "AccessSpecID" 32 ∷ [])
+    [])
+message_rule WholeDisableAccessSpec = of_whole (message 43 "DISABLE_ACCESSSPEC" (field "AccessSpecID" 32 ∷ [])
+    [])
+message_rule WholeGetAccessSpecs = of_whole (message 44 "GET_ACCESSSPECS" []
+    [])
+message_rule WholeClientRequestOp = of_whole (message 45 "CLIENT_REQUEST_OP" []
+    (one WholeTagReportData ∷ []))
+message_rule WholeGetSupportedVersion = of_whole (message 46 "GET_SUPPORTED_VERSION" []
+    [])
+message_rule WholeSetProtocolVersion = of_whole (message 47 "SET_PROTOCOL_VERSION" (field "ProtocolVersion" 8 ∷ [])
+    [])
+message_rule WholeAddAccessSpecResponse = of_whole (message 50 "ADD_ACCESSSPEC_RESPONSE" []
+    (one WholeLlrpStatus ∷ []))
+message_rule WholeDeleteAccessSpecResponse = of_whole (message 51 "DELETE_ACCESSSPEC_RESPONSE" []
+    (one WholeLlrpStatus ∷ []))
+message_rule WholeEnableAccessSpecResponse = of_whole (message 52 "ENABLE_ACCESSSPEC_RESPONSE" []
+    (one WholeLlrpStatus ∷ []))
+message_rule WholeDisableAccessSpecResponse = of_whole (message 53 "DISABLE_ACCESSSPEC_RESPONSE" []
+    (one WholeLlrpStatus ∷ []))
+message_rule WholeGetAccessSpecsResponse = of_whole (message 54 "GET_ACCESSSPECS_RESPONSE" []
+    (one WholeLlrpStatus ∷ any_number WholeAccessSpec ∷ []))
+message_rule WholeClientRequestOpResponse = of_whole (message 55 "CLIENT_REQUEST_OP_RESPONSE" []
+    (one WholeClientRequestResponse ∷ []))
+message_rule WholeGetSupportedVersionResponse = of_whole (message 56 "GET_SUPPORTED_VERSION_RESPONSE" (field "CurrentVersion" 8 ∷ field "SupportedVersion" 8 ∷ [])
+    (one WholeLlrpStatus ∷ []))
+message_rule WholeSetProtocolVersionResponse = of_whole (message 57 "SET_PROTOCOL_VERSION_RESPONSE" []
+    (one WholeLlrpStatus ∷ []))
+message_rule WholeGetReport = of_whole (message 60 "GET_REPORT" []
+    [])
+message_rule WholeRoAccessReport = of_whole (message 61 "RO_ACCESS_REPORT" []
+    (any_number WholeTagReportData ∷ any_number WholeRfSurveyReportData ∷ any_number WholeCustom ∷ []))
+message_rule WholeKeepalive = of_whole (message 62 "KEEPALIVE" []
+    [])
+message_rule WholeReaderEventNotification = of_whole (message 63 "READER_EVENT_NOTIFICATION" []
+    (one WholeReaderEventNotificationData ∷ []))
+message_rule WholeEnableEventsAndReports = of_whole (message 64 "ENABLE_EVENTS_AND_REPORTS" []
+    [])
+message_rule WholeKeepaliveAck = of_whole (message 72 "KEEPALIVE_ACK" []
+    [])
+message_rule WholeErrorMessage = of_whole (message 100 "ERROR_MESSAGE" []
+    (one WholeLlrpStatus ∷ []))
+message_rule WholeCustomMessage = of_whole (message 1023 "CUSTOM_MESSAGE" (field "VendorIdentifier" 32 ∷ field "MessageSubtype" 8 ∷ [])
+    [])
 
 -- the parameters (LLRP 1.1, section 17.2)
 unfoldable pub param_rule : ParamKind → KindRule
@@ -239,11 +346,344 @@ param_rule C1G2SingulationControl = tlv 336 "C1G2SingulationControl"
     (field "Session" 2 ∷ reserved 6 ∷ field "Population" 16 ∷ field "TransitTime" 32 ∷ []) Absent []
 param_rule C1G2EpcMemorySelector = tlv 348 "C1G2EPCMemorySelector" (field "Selector" 8 ∷ []) Absent
     []
+param_rule WholeAntennaId = of_whole (tv 1 "AntennaID" 16)
+param_rule WholeFirstSeenTimestampUtc = of_whole (tv 2 "FirstSeenTimestampUTC" 64)
+param_rule WholeFirstSeenTimestampUptime = of_whole (tv 3 "FirstSeenTimestampUptime" 64)
+param_rule WholeLastSeenTimestampUtc = of_whole (tv 4 "LastSeenTimestampUTC" 64)
+param_rule WholeLastSeenTimestampUptime = of_whole (tv 5 "LastSeenTimestampUptime" 64)
+param_rule WholePeakRssi = of_whole (signed_tv 6 "PeakRSSI" 8)
+param_rule WholeChannelIndex = of_whole (tv 7 "ChannelIndex" 16)
+param_rule WholeTagSeenCount = of_whole (tv 8 "TagSeenCount" 16)
+param_rule WholeRoSpecId = of_whole (tv 9 "ROSpecID" 32)
+param_rule WholeInventoryParameterSpecId = of_whole (tv 10 "InventoryParameterSpecID" 16)
+param_rule WholeC1G2Crc = of_whole (tv 11 "C1G2-CRC" 16)
+param_rule WholeC1G2Pc = of_whole (tv 12 "C1G2-PC" 16)
+param_rule WholeEpc96 = of_whole (tv 13 "EPC-96" 96)
+param_rule WholeSpecIndex = of_whole (tv 14 "SpecIndex" 16)
+param_rule WholeClientRequestOpSpecResult = of_whole (tv 15 "ClientRequestOpSpecResult" 16)
+param_rule WholeAccessSpecId = of_whole (tv 16 "AccessSpecID" 32)
+param_rule WholeOpSpecID = of_whole (tv 17 "OpSpecID" 16)
+param_rule WholeC1G2SingulationDetails = of_whole (tv 18 "C1G2SingulationDetails" 32)
+param_rule WholeC1g2xpcw1 = of_whole (tv 19 "C1G2XPCW1" 16)
+param_rule WholeC1g2xpcw2 = of_whole (tv 20 "C1G2XPCW2" 16)
+param_rule WholeUtcTimestamp = of_whole (tlv 128 "UTCTimestamp"
+    (field "Microseconds" 64 ∷ []) Absent
+    [])
+param_rule WholeUptime = of_whole (tlv 129 "Uptime"
+    (field "Microseconds" 64 ∷ []) Absent
+    [])
+param_rule WholeGeneralDeviceCapabilities = of_whole (tlv 137 "GeneralDeviceCapabilities"
+    (field "MaxNumberOfAntennaSupported" 16 ∷ field "CanSetAntennaProperties" 1 ∷ field "HasUTCClockCapability" 1 ∷ reserved 14 ∷ field "DeviceManufacturerName" 32 ∷ field "ModelName" 32 ∷ []) Text
+    (one_or_more WholeReceiveSensitivityTableEntry ∷ any_number WholePerAntennaReceiveSensitivityRange ∷ one WholeGpioCapabilities ∷ one_or_more WholePerAntennaAirProtocol ∷ at_most_one WholeMaximumReceiveSensitivity ∷ []))
+param_rule WholeReceiveSensitivityTableEntry = of_whole (tlv 139 "ReceiveSensitivityTableEntry"
+    (field "Index" 16 ∷ field "ReceiveSensitivityValue" 16 ∷ []) Absent
+    [])
+param_rule WholePerAntennaAirProtocol = of_whole (tlv 140 "PerAntennaAirProtocol"
+    (field "AntennaID" 16 ∷ field "Count" 16 ∷ []) Data
+    [])
+param_rule WholeGpioCapabilities = of_whole (tlv 141 "GPIOCapabilities"
+    (field "NumGPIs" 16 ∷ field "NumGPOs" 16 ∷ []) Absent
+    [])
+param_rule WholeLlrpCapabilities = of_whole (tlv 142 "LLRPCapabilities"
+    (field "CanDoRFSurvey" 1 ∷ field "CanReportBufferFillWarning" 1 ∷ field "SupportsClientRequestOpSpec" 1 ∷ field "CanDoTagInventoryStateAwareSingulation" 1 ∷ field "SupportsEventAndReportHolding" 1 ∷ reserved 3 ∷ field "MaxNumPriorityLevelsSupported" 8 ∷ field "ClientRequestOpSpecTimeout" 16 ∷ field "MaxNumROSpecs" 32 ∷ field "MaxNumSpecsPerROSpec" 32 ∷ []) Data
+    [])
+param_rule WholeRegulatoryCapabilities = of_whole (tlv 143 "RegulatoryCapabilities"
+    (field "CountryCode" 16 ∷ field "CommunicationsStandard" 16 ∷ []) Absent
+    (at_most_one WholeUhfBandCapabilities ∷ any_number WholeCustom ∷ []))
+param_rule WholeUhfBandCapabilities = of_whole (tlv 144 "UHFBandCapabilities"
+    [] Absent
+    (one_or_more WholeTransmitPowerLevelTableEntry ∷ one WholeFrequencyInformation ∷ one_or_more WholeC1G2UhfRfModeTable ∷ at_most_one WholeRfSurveyFrequencyCapabilities ∷ []))
+param_rule WholeTransmitPowerLevelTableEntry = of_whole (tlv 145 "TransmitPowerLevelTableEntry"
+    (field "Index" 16 ∷ field "TransmitPowerValue" 16 ∷ []) Absent
+    [])
+param_rule WholeFrequencyInformation = of_whole (tlv 146 "FrequencyInformation"
+    (field "Hopping" 1 ∷ reserved 7 ∷ []) Absent
+    (any_number WholeFrequencyHopTable ∷ at_most_one WholeFixedFrequencyTable ∷ []))
+param_rule WholeFrequencyHopTable = of_whole (tlv 147 "FrequencyHopTable"
+    (field "HopTableID" 8 ∷ reserved 8 ∷ field "Count" 16 ∷ []) Data
+    [])
+param_rule WholeFixedFrequencyTable = of_whole (tlv 148 "FixedFrequencyTable"
+    (field "Count" 16 ∷ []) Data
+    [])
+param_rule WholePerAntennaReceiveSensitivityRange = of_whole (tlv 149 "PerAntennaReceiveSensitivityRange"
+    (field "AntennaID" 16 ∷ field "ReceiveSensitivityIndexMin" 16 ∷ field "ReceiveSensitivityIndexMax" 16 ∷ []) Absent
+    [])
+param_rule WholeRoSpec = of_whole (tlv 177 "ROSpec"
+    (field "ROSpecID" 32 ∷ field_to "Priority" 8 7 ∷ field_to "CurrentState" 8 2 ∷ []) Absent
+    (one WholeRoBoundarySpec ∷ some_of (WholeAiSpec ∷ WholeRfSurveySpec ∷ WholeLoopSpec ∷ WholeCustom ∷ []) ∷ at_most_one WholeRoReportSpec ∷ []))
+param_rule WholeRoBoundarySpec = of_whole (tlv 178 "ROBoundarySpec"
+    [] Absent
+    (one WholeRoSpecStartTrigger ∷ one WholeRoSpecStopTrigger ∷ []))
+param_rule WholeRoSpecStartTrigger = of_whole (tlv 179 "ROSpecStartTrigger"
+    (field_to "ROSpecStartTriggerType" 8 3 ∷ []) Absent
+    (at_most_one WholePeriodicTriggerValue ∷ at_most_one WholeGpiTriggerValue ∷ []))
+param_rule WholePeriodicTriggerValue = of_whole (tlv 180 "PeriodicTriggerValue"
+    (field "Offset" 32 ∷ field "Period" 32 ∷ []) Absent
+    (at_most_one WholeUtcTimestamp ∷ []))
+param_rule WholeGpiTriggerValue = of_whole (tlv 181 "GPITriggerValue"
+    (field "GPIPortNum" 16 ∷ field "GPIEvent" 1 ∷ reserved 7 ∷ field "Timeout" 32 ∷ []) Absent
+    [])
+param_rule WholeRoSpecStopTrigger = of_whole (tlv 182 "ROSpecStopTrigger"
+    (field_to "ROSpecStopTriggerType" 8 2 ∷ field "DurationTriggerValue" 32 ∷ []) Absent
+    (at_most_one WholeGpiTriggerValue ∷ []))
+param_rule WholeAiSpec = of_whole (tlv 183 "AISpec"
+    [] Words
+    (one WholeAiSpecStopTrigger ∷ one_or_more WholeInventoryParameterSpec ∷ any_number WholeCustom ∷ []))
+param_rule WholeAiSpecStopTrigger = of_whole (tlv 184 "AISpecStopTrigger"
+    (field_to "AISpecStopTriggerType" 8 3 ∷ field "DurationTrigger" 32 ∷ []) Absent
+    (at_most_one WholeGpiTriggerValue ∷ at_most_one WholeTagObservationTrigger ∷ []))
+param_rule WholeTagObservationTrigger = of_whole (tlv 185 "TagObservationTrigger"
+    (field "TriggerType" 8 ∷ reserved 8 ∷ field "NumberOfTags" 16 ∷ field "NumberOfAttempts" 16 ∷ field "T" 16 ∷ field "Timeout" 32 ∷ []) Absent
+    [])
+param_rule WholeInventoryParameterSpec = of_whole (tlv 186 "InventoryParameterSpec"
+    (field "InventoryParameterSpecID" 16 ∷ field "ProtocolID" 8 ∷ []) Absent
+    (any_number WholeAntennaConfiguration ∷ any_number WholeCustom ∷ []))
+param_rule WholeRfSurveySpec = of_whole (tlv 187 "RFSurveySpec"
+    (field "AntennaID" 16 ∷ field "StartFrequency" 32 ∷ field "EndFrequency" 32 ∷ []) Absent
+    (one WholeRfSurveySpecStopTrigger ∷ any_number WholeCustom ∷ []))
+param_rule WholeRfSurveySpecStopTrigger = of_whole (tlv 188 "RFSurveySpecStopTrigger"
+    (field_to "StopTriggerType" 8 2 ∷ field "DurationPeriod" 32 ∷ field "N" 32 ∷ []) Absent
+    [])
+param_rule WholeAccessSpec = of_whole (tlv 207 "AccessSpec"
+    (field "AccessSpecID" 32 ∷ field "AntennaID" 16 ∷ field "ProtocolID" 8 ∷ field "CurrentState" 1 ∷ reserved 7 ∷ field "ROSpecID" 32 ∷ []) Absent
+    (one WholeAccessSpecStopTrigger ∷ one WholeAccessCommand ∷ at_most_one WholeAccessReportSpec ∷ any_number WholeCustom ∷ []))
+param_rule WholeAccessSpecStopTrigger = of_whole (tlv 208 "AccessSpecStopTrigger"
+    (field_to "AccessSpecStopTrigger" 8 1 ∷ field "OperationCountValue" 16 ∷ []) Absent
+    [])
+param_rule WholeAccessCommand = of_whole (tlv 209 "AccessCommand"
+    [] Absent
+    (one WholeC1G2TagSpec ∷ some_of (WholeC1G2Read ∷ WholeC1G2Write ∷ WholeC1G2Kill ∷ WholeC1G2Lock ∷ WholeC1G2BlockErase ∷ WholeC1G2BlockWrite ∷ WholeC1G2Recommission ∷ WholeC1G2BlockPermalock ∷ WholeC1G2GetBlockPermalockStatus ∷ WholeClientRequestOpSpec ∷ []) ∷ any_number WholeCustom ∷ []))
+param_rule WholeClientRequestOpSpec = of_whole (tlv 210 "ClientRequestOpSpec"
+    (field "OpSpecID" 16 ∷ []) Absent
+    [])
+param_rule WholeClientRequestResponse = of_whole (tlv 211 "ClientRequestResponse"
+    (field "AccessSpecID" 32 ∷ []) Absent
+    (one WholeEpcData ∷ any_of (WholeC1G2Read ∷ WholeC1G2Write ∷ WholeC1G2Kill ∷ WholeC1G2Lock ∷ WholeC1G2BlockErase ∷ WholeC1G2BlockWrite ∷ WholeC1G2Recommission ∷ WholeC1G2BlockPermalock ∷ WholeC1G2GetBlockPermalockStatus ∷ []) ∷ []))
+param_rule WholeLlrpConfigurationStateValue = of_whole (tlv 217 "LLRPConfigurationStateValue"
+    (field "LLRPConfigurationStateValue" 32 ∷ []) Absent
+    [])
+param_rule WholeIdentification = of_whole (tlv 218 "Identification"
+    (field_to "IDType" 8 1 ∷ field "Count" 16 ∷ []) Data
+    [])
+param_rule WholeGpoWriteData = of_whole (tlv 219 "GPOWriteData"
+    (field "GPOPortNumber" 16 ∷ field "GPOData" 1 ∷ reserved 7 ∷ []) Absent
+    [])
+param_rule WholeKeepaliveSpec = of_whole (tlv 220 "KeepaliveSpec"
+    (field_to "KeepaliveTriggerType" 8 1 ∷ field "PeriodicTriggerValue" 32 ∷ []) Absent
+    [])
+param_rule WholeAntennaProperties = of_whole (tlv 221 "AntennaProperties"
+    (field "AntennaConnected" 1 ∷ reserved 7 ∷ field "AntennaID" 16 ∷ field "AntennaGain" 16 ∷ []) Absent
+    [])
+param_rule WholeAntennaConfiguration = of_whole (tlv 222 "AntennaConfiguration"
+    (field "AntennaID" 16 ∷ []) Absent
+    (at_most_one WholeRfReceiver ∷ at_most_one WholeRfTransmitter ∷ any_number WholeC1G2InventoryCommand ∷ any_number WholeCustom ∷ []))
+param_rule WholeRfReceiver = of_whole (tlv 223 "RFReceiver"
+    (field "ReceiverSensitivity" 16 ∷ []) Absent
+    [])
+param_rule WholeRfTransmitter = of_whole (tlv 224 "RFTransmitter"
+    (field "HopTableID" 16 ∷ field "ChannelIndex" 16 ∷ field "TransmitPower" 16 ∷ []) Absent
+    [])
+param_rule WholeGpiPortCurrentState = of_whole (tlv 225 "GPIPortCurrentState"
+    (field "GPIPortNum" 16 ∷ field "GPIConfig" 1 ∷ reserved 7 ∷ field_to "State" 8 2 ∷ []) Absent
+    [])
+param_rule WholeEventsAndReports = of_whole (tlv 226 "EventsAndReports"
+    (field "HoldEventsAndReportsUponReconnect" 1 ∷ reserved 7 ∷ []) Absent
+    [])
+param_rule WholeRoReportSpec = of_whole (tlv 237 "ROReportSpec"
+    (field "ROReportTrigger" 8 ∷ field "N" 16 ∷ []) Absent
+    (one WholeTagReportContentSelector ∷ any_number WholeCustom ∷ []))
+param_rule WholeTagReportContentSelector = of_whole (tlv 238 "TagReportContentSelector"
+    (field "EnableROSpecID" 1 ∷ field "EnableSpecIndex" 1 ∷ field "EnableInventoryParameterSpecID" 1 ∷ field "EnableAntennaID" 1 ∷ field "EnableChannelIndex" 1 ∷ field "EnablePeakRSSI" 1 ∷ field "EnableFirstSeenTimestamp" 1 ∷ field "EnableLastSeenTimestamp" 1 ∷ field "EnableTagSeenCount" 1 ∷ field "EnableAccessSpecID" 1 ∷ reserved 6 ∷ []) Absent
+    (any_number WholeC1G2EpcMemorySelector ∷ []))
+param_rule WholeAccessReportSpec = of_whole (tlv 239 "AccessReportSpec"
+    (field_to "AccessReportTrigger" 8 1 ∷ []) Absent
+    [])
+param_rule WholeTagReportData = of_whole (tlv 240 "TagReportData"
+    [] Absent
+    (one_of (WholeEpcData ∷ WholeEpc96 ∷ []) ∷ at_most_one WholeAntennaId ∷ at_most_one WholeFirstSeenTimestampUtc ∷ at_most_one WholeFirstSeenTimestampUptime ∷ at_most_one WholeLastSeenTimestampUtc ∷ at_most_one WholeLastSeenTimestampUptime ∷ at_most_one WholePeakRssi ∷ at_most_one WholeChannelIndex ∷ at_most_one WholeTagSeenCount ∷ at_most_one WholeRoSpecId ∷ at_most_one WholeInventoryParameterSpecId ∷ at_most_one WholeSpecIndex ∷ at_most_one WholeAccessSpecId ∷ any_number WholeC1G2Crc ∷ any_number WholeC1G2Pc ∷ any_of (WholeC1g2xpcw1 ∷ WholeC1g2xpcw2 ∷ []) ∷ any_of (WholeC1G2ReadOpSpecResult ∷ WholeC1G2WriteOpSpecResult ∷ WholeC1G2KillOpSpecResult ∷ WholeC1G2LockOpSpecResult ∷ WholeC1G2BlockEraseOpSpecResult ∷ WholeC1G2BlockWriteOpSpecResult ∷ WholeC1G2RecommissionOpSpecResult ∷ WholeC1G2BlockPermalockOpSpecResult ∷ WholeC1G2GetBlockPermalockStatusOpSpecResult ∷ WholeClientRequestOpSpecResult ∷ []) ∷ any_number WholeCustom ∷ []))
+param_rule WholeEpcData = of_whole (tlv 241 "EPCData"
+    (field "BitCount" 16 ∷ []) Bits
+    [])
+param_rule WholeRfSurveyReportData = of_whole (tlv 242 "RFSurveyReportData"
+    [] Absent
+    (at_most_one WholeRoSpecId ∷ at_most_one WholeSpecIndex ∷ one_or_more WholeFrequencyRssiLevelEntry ∷ any_number WholeCustom ∷ []))
+param_rule WholeFrequencyRssiLevelEntry = of_whole (tlv 243 "FrequencyRSSILevelEntry"
+    (field "Frequency" 32 ∷ field "Bandwidth" 32 ∷ signed "AverageRSSI" 8 ∷ signed "PeakRSSI" 8 ∷ []) Absent
+    (one_of (WholeUtcTimestamp ∷ WholeUptime ∷ []) ∷ []))
+param_rule WholeReaderEventNotificationSpec = of_whole (tlv 244 "ReaderEventNotificationSpec"
+    [] Absent
+    (one_or_more WholeEventNotificationState ∷ []))
+param_rule WholeEventNotificationState = of_whole (tlv 245 "EventNotificationState"
+    (field "EventType" 16 ∷ field "NotificationState" 1 ∷ reserved 7 ∷ []) Absent
+    [])
+param_rule WholeReaderEventNotificationData = of_whole (tlv 246 "ReaderEventNotificationData"
+    [] Absent
+    (one_of (WholeUtcTimestamp ∷ WholeUptime ∷ []) ∷ at_most_one WholeGpiEvent ∷ at_most_one WholeRoSpecEvent ∷ at_most_one WholeReportBufferLevelWarningEvent ∷ at_most_one WholeReportBufferOverflowErrorEvent ∷ at_most_one WholeAiSpecEvent ∷ at_most_one WholeAntennaEvent ∷ at_most_one WholeConnectionAttemptEvent ∷ at_most_one WholeConnectionCloseEvent ∷ at_most_one WholeHoppingEvent ∷ at_most_one WholeReaderExceptionEvent ∷ at_most_one WholeRfSurveyEvent ∷ at_most_one WholeSpecLoopEvent ∷ any_number WholeCustom ∷ []))
+param_rule WholeHoppingEvent = of_whole (tlv 247 "HoppingEvent"
+    (field "HopTableID" 16 ∷ field "NextChannelIndex" 16 ∷ []) Absent
+    [])
+param_rule WholeGpiEvent = of_whole (tlv 248 "GPIEvent"
+    (field "GPIPortNumber" 16 ∷ field "GPIEvent" 1 ∷ reserved 7 ∷ []) Absent
+    [])
+param_rule WholeRoSpecEvent = of_whole (tlv 249 "ROSpecEvent"
+    (field_to "EventType" 8 2 ∷ field "ROSpecID" 32 ∷ field "PreemptingROSpecID" 32 ∷ []) Absent
+    [])
+param_rule WholeReportBufferLevelWarningEvent = of_whole (tlv 250 "ReportBufferLevelWarningEvent"
+    (field "ReportBufferPercentageFull" 8 ∷ []) Absent
+    [])
+param_rule WholeReportBufferOverflowErrorEvent = of_whole (tlv 251 "ReportBufferOverflowErrorEvent"
+    [] Absent
+    [])
+param_rule WholeReaderExceptionEvent = of_whole (tlv 252 "ReaderExceptionEvent"
+    [] Text
+    (at_most_one WholeRoSpecId ∷ at_most_one WholeSpecIndex ∷ at_most_one WholeInventoryParameterSpecId ∷ at_most_one WholeAntennaId ∷ at_most_one WholeAccessSpecId ∷ at_most_one WholeOpSpecID ∷ any_number WholeCustom ∷ []))
+param_rule WholeRfSurveyEvent = of_whole (tlv 253 "RFSurveyEvent"
+    (field_to "EventType" 8 1 ∷ field "ROSpecID" 32 ∷ field "SpecIndex" 16 ∷ []) Absent
+    [])
+param_rule WholeAiSpecEvent = of_whole (tlv 254 "AISpecEvent"
+    (field "EventType" 8 ∷ field "ROSpecID" 32 ∷ field "SpecIndex" 16 ∷ []) Absent
+    (at_most_one WholeC1G2SingulationDetails ∷ []))
+param_rule WholeAntennaEvent = of_whole (tlv 255 "AntennaEvent"
+    (field "EventType" 8 ∷ field "AntennaID" 16 ∷ []) Absent
+    [])
+param_rule WholeConnectionAttemptEvent = of_whole (tlv 256 "ConnectionAttemptEvent"
+    (field_to "Status" 16 4 ∷ []) Absent
+    [])
+param_rule WholeConnectionCloseEvent = of_whole (tlv 257 "ConnectionCloseEvent"
+    [] Absent
+    [])
+param_rule WholeLlrpStatus = of_whole (tlv 287 "LLRPStatus"
+    (field "StatusCode" 16 ∷ []) Text
+    (at_most_one WholeFieldError ∷ at_most_one WholeParameterError ∷ []))
+param_rule WholeFieldError = of_whole (tlv 288 "FieldError"
+    (field "FieldNum" 16 ∷ field "ErrorCode" 16 ∷ []) Absent
+    [])
+param_rule WholeParameterError = of_whole (tlv 289 "ParameterError"
+    (field "ParameterType" 16 ∷ field "ErrorCode" 16 ∷ []) Absent
+    (at_most_one WholeFieldError ∷ at_most_one WholeParameterError ∷ []))
+param_rule WholeC1G2LlrpCapabilities = of_whole (tlv 327 "C1G2LLRPCapabilities"
+    (field "CanSupportBlockErase" 1 ∷ field "CanSupportBlockWrite" 1 ∷ field "CanSupportBlockPermalock" 1 ∷ field "CanSupportTagRecommissioning" 1 ∷ field "CanSupportUMIMethod2" 1 ∷ field "CanSupportXPC" 1 ∷ reserved 2 ∷ field "MaxNumSelectFiltersPerQuery" 16 ∷ []) Absent
+    [])
+param_rule WholeC1G2UhfRfModeTable = of_whole (tlv 328 "C1G2UHFRFModeTable"
+    [] Absent
+    (one_or_more WholeC1G2UhfRfModeTableEntry ∷ []))
+param_rule WholeC1G2UhfRfModeTableEntry = of_whole (tlv 329 "C1G2UHFRFModeTableEntry"
+    (field "ModeIdentifier" 32 ∷ field "DRValue" 1 ∷ field "EPCHAGTCConformance" 1 ∷ reserved 6 ∷ field_to "MValue" 8 3 ∷ field_to "ForwardLinkModulation" 8 2 ∷ field_to "SpectralMaskIndicator" 8 3 ∷ field "BDRValue" 32 ∷ []) Data
+    [])
+param_rule WholeC1G2InventoryCommand = of_whole (tlv 330 "C1G2InventoryCommand"
+    (field "TagInventoryStateAware" 1 ∷ reserved 7 ∷ []) Absent
+    (at_most_one WholeC1G2RfControl ∷ at_most_one WholeC1G2SingulationControl ∷ any_number WholeC1G2Filter ∷ any_number WholeCustom ∷ []))
+param_rule WholeC1G2Filter = of_whole (tlv 331 "C1G2Filter"
+    (field_to "T" 2 2 ∷ reserved 6 ∷ []) Absent
+    (one WholeC1G2TagInventoryMask ∷ at_most_one WholeC1G2TagInventoryStateAwareFilterAction ∷ at_most_one WholeC1G2TagInventoryStateUnawareFilterAction ∷ []))
+param_rule WholeC1G2TagInventoryMask = of_whole (tlv 332 "C1G2TagInventoryMask"
+    (field "MB" 2 ∷ reserved 6 ∷ field "Pointer" 16 ∷ field "Count" 16 ∷ []) Data
+    [])
+param_rule WholeC1G2TagInventoryStateAwareFilterAction = of_whole (tlv 333 "C1G2TagInventoryStateAwareFilterAction"
+    (field_to "Target" 8 4 ∷ field_to "Action" 8 7 ∷ []) Absent
+    [])
+param_rule WholeC1G2TagInventoryStateUnawareFilterAction = of_whole (tlv 334 "C1G2TagInventoryStateUnawareFilterAction"
+    (field_to "Action" 8 5 ∷ []) Absent
+    [])
+param_rule WholeC1G2RfControl = of_whole (tlv 335 "C1G2RFControl"
+    (field "ModeIndex" 16 ∷ field "Tari" 16 ∷ []) Absent
+    [])
+param_rule WholeC1G2SingulationControl = of_whole (tlv 336 "C1G2SingulationControl"
+    (field "Session" 2 ∷ reserved 6 ∷ field "TagPopulation" 16 ∷ field "TagTransitTime" 32 ∷ []) Absent
+    (at_most_one WholeC1G2TagInventoryStateAwareSingulationAction ∷ []))
+param_rule WholeC1G2TagInventoryStateAwareSingulationAction = of_whole (tlv 337 "C1G2TagInventoryStateAwareSingulationAction"
+    (field "I" 1 ∷ field "S" 1 ∷ field "S_All" 1 ∷ reserved 5 ∷ []) Absent
+    [])
+param_rule WholeC1G2TagSpec = of_whole (tlv 338 "C1G2TagSpec"
+    [] Absent
+    (one_or_more WholeC1G2TargetTag ∷ []))
+param_rule WholeC1G2TargetTag = of_whole (tlv 339 "C1G2TargetTag"
+    (field "MB" 2 ∷ field "Match" 1 ∷ reserved 5 ∷ field "Pointer" 16 ∷ field "Count" 16 ∷ []) Data
+    [])
+param_rule WholeC1G2Read = of_whole (tlv 341 "C1G2Read"
+    (field "OpSpecID" 16 ∷ field "AccessPassword" 32 ∷ field "MB" 2 ∷ reserved 6 ∷ field "WordPointer" 16 ∷ field "WordCount" 16 ∷ []) Absent
+    [])
+param_rule WholeC1G2Write = of_whole (tlv 342 "C1G2Write"
+    (field "OpSpecID" 16 ∷ field "AccessPassword" 32 ∷ field "MB" 2 ∷ reserved 6 ∷ field "WordPointer" 16 ∷ []) Words
+    [])
+param_rule WholeC1G2Kill = of_whole (tlv 343 "C1G2Kill"
+    (field "OpSpecID" 16 ∷ field "KillPassword" 32 ∷ []) Absent
+    [])
+param_rule WholeC1G2Lock = of_whole (tlv 344 "C1G2Lock"
+    (field "OpSpecID" 16 ∷ field "AccessPassword" 32 ∷ []) Absent
+    (one_or_more WholeC1G2LockPayload ∷ []))
+param_rule WholeC1G2LockPayload = of_whole (tlv 345 "C1G2LockPayload"
+    (field_to "Privilege" 8 3 ∷ field_to "DataField" 8 4 ∷ []) Absent
+    [])
+param_rule WholeC1G2BlockErase = of_whole (tlv 346 "C1G2BlockErase"
+    (field "OpSpecID" 16 ∷ field "AccessPassword" 32 ∷ field "MB" 2 ∷ reserved 6 ∷ field "WordPointer" 16 ∷ field "WordCount" 16 ∷ []) Absent
+    [])
+param_rule WholeC1G2BlockWrite = of_whole (tlv 347 "C1G2BlockWrite"
+    (field "OpSpecID" 16 ∷ field "AccessPassword" 32 ∷ field "MB" 2 ∷ reserved 6 ∷ field "WordPointer" 16 ∷ []) Words
+    [])
+param_rule WholeC1G2EpcMemorySelector = of_whole (tlv 348 "C1G2EPCMemorySelector"
+    (field "Selector" 8 ∷ []) Absent
+    [])
+param_rule WholeC1G2ReadOpSpecResult = of_whole (tlv 349 "C1G2ReadOpSpecResult"
+    (field "Result" 8 ∷ field "OpSpecID" 16 ∷ []) Words
+    [])
+param_rule WholeC1G2WriteOpSpecResult = of_whole (tlv 350 "C1G2WriteOpSpecResult"
+    (field "Result" 8 ∷ field "OpSpecID" 16 ∷ field "NumWordsWritten" 16 ∷ []) Absent
+    [])
+param_rule WholeC1G2KillOpSpecResult = of_whole (tlv 351 "C1G2KillOpSpecResult"
+    (field "Result" 8 ∷ field "OpSpecID" 16 ∷ []) Absent
+    [])
+param_rule WholeC1G2LockOpSpecResult = of_whole (tlv 352 "C1G2LockOpSpecResult"
+    (field "Result" 8 ∷ field "OpSpecID" 16 ∷ []) Absent
+    [])
+param_rule WholeC1G2BlockEraseOpSpecResult = of_whole (tlv 353 "C1G2BlockEraseOpSpecResult"
+    (field "Result" 8 ∷ field "OpSpecID" 16 ∷ []) Absent
+    [])
+param_rule WholeC1G2BlockWriteOpSpecResult = of_whole (tlv 354 "C1G2BlockWriteOpSpecResult"
+    (field "Result" 8 ∷ field "OpSpecID" 16 ∷ field "NumWordsWritten" 16 ∷ []) Absent
+    [])
+param_rule WholeLoopSpec = of_whole (tlv 355 "LoopSpec"
+    (field "LoopCount" 32 ∷ []) Absent
+    [])
+param_rule WholeSpecLoopEvent = of_whole (tlv 356 "SpecLoopEvent"
+    (field "ROSpecID" 32 ∷ field "LoopCount" 32 ∷ []) Absent
+    [])
+param_rule WholeC1G2Recommission = of_whole (tlv 357 "C1G2Recommission"
+    (field "OpSpecID" 16 ∷ field "KillPassword" 32 ∷ reserved 5 ∷ field "SB3" 1 ∷ field "SB2" 1 ∷ field "LSB" 1 ∷ []) Absent
+    [])
+param_rule WholeC1G2BlockPermalock = of_whole (tlv 358 "C1G2BlockPermalock"
+    (field "OpSpecID" 16 ∷ field "AccessPassword" 32 ∷ field "MB" 2 ∷ reserved 6 ∷ field "BlockPointer" 16 ∷ []) Words
+    [])
+param_rule WholeC1G2GetBlockPermalockStatus = of_whole (tlv 359 "C1G2GetBlockPermalockStatus"
+    (field "OpSpecID" 16 ∷ field "AccessPassword" 32 ∷ field "MB" 2 ∷ reserved 6 ∷ field "BlockPointer" 16 ∷ field "BlockRange" 16 ∷ []) Absent
+    [])
+param_rule WholeC1G2RecommissionOpSpecResult = of_whole (tlv 360 "C1G2RecommissionOpSpecResult"
+    (field "Result" 8 ∷ field "OpSpecID" 16 ∷ []) Absent
+    [])
+param_rule WholeC1G2BlockPermalockOpSpecResult = of_whole (tlv 361 "C1G2BlockPermalockOpSpecResult"
+    (field "Result" 8 ∷ field "OpSpecID" 16 ∷ []) Absent
+    [])
+param_rule WholeC1G2GetBlockPermalockStatusOpSpecResult = of_whole (tlv 362 "C1G2GetBlockPermalockStatusOpSpecResult"
+    (field "Result" 8 ∷ field "OpSpecID" 16 ∷ []) Words
+    [])
+param_rule WholeMaximumReceiveSensitivity = of_whole (tlv 363 "MaximumReceiveSensitivity"
+    (field "MaximumSensitivityValue" 16 ∷ []) Absent
+    [])
+param_rule WholeRfSurveyFrequencyCapabilities = of_whole (tlv 365 "RFSurveyFrequencyCapabilities"
+    (field "MinimumFrequency" 32 ∷ field "MaximumFrequency" 32 ∷ []) Absent
+    [])
+param_rule WholeCustom = of_whole (tlv 1023 "Custom"
+    (field "VendorIdentifier" 32 ∷ field "ParameterSubtype" 32 ∷ []) Data
+    [])
 
 -- the row of a kind
 unfoldable pub rule_of : Kind → KindRule
 rule_of (Message kind) = message_rule kind
 rule_of (Parameter kind) = param_rule kind
+
+-- whether a kind is of the profile or of the whole standard
+unfoldable pub profile_of : Kind → Profile
+profile_of kind = (rule_of kind).profile
 
 -- the number that a kind has in a header
 unfoldable pub number_of : Kind → ℕ
@@ -277,7 +717,7 @@ bits_of fields = sum_by (λ field. field.width) fields
 unfoldable pub is_tv : ParamKind → Bool
 is_tv kind = nat_lt (number_of (Parameter kind)) 128
 
--- every kind of message
+-- every kind of message of the profile
 unfoldable pub message_kinds : List MsgKind
 message_kinds =
     SetReaderConfig ∷ CloseConnectionResponse ∷ SetReaderConfigResponse ∷ CloseConnection ∷
@@ -286,7 +726,7 @@ message_kinds =
     EnableRoSpecResponse ∷ DisableRoSpecResponse ∷ GetRoSpecsResponse ∷ GetReport ∷ RoAccessReport ∷ Keepalive ∷
     ReaderEventNotification ∷ EnableEventsAndReports ∷ KeepaliveAck ∷ ErrorMessage ∷ []
 
--- every kind of parameter
+-- every kind of parameter of the profile
 unfoldable pub param_kinds : List ParamKind
 param_kinds =
     AntennaId ∷ FirstSeenTimestampUtc ∷ FirstSeenTimestampUptime ∷ LastSeenTimestampUtc ∷
@@ -302,22 +742,66 @@ param_kinds =
     ParameterError ∷ C1G2InventoryCommand ∷ C1G2RfControl ∷ C1G2SingulationControl ∷
     C1G2EpcMemorySelector ∷ []
 
+-- every kind of message of the whole standard
+unfoldable pub whole_message_kinds : List MsgKind
+whole_message_kinds =
+    WholeGetReaderCapabilities ∷ WholeGetReaderConfig ∷ WholeSetReaderConfig ∷ WholeCloseConnectionResponse ∷ WholeGetReaderCapabilitiesResponse ∷ WholeGetReaderConfigResponse ∷ WholeSetReaderConfigResponse ∷ WholeCloseConnection ∷ WholeAddRoSpec ∷ WholeDeleteRoSpec ∷ WholeStartRoSpec ∷ WholeStopRoSpec ∷ WholeEnableRoSpec ∷ WholeDisableRoSpec ∷ WholeGetRoSpecs ∷ WholeAddRoSpecResponse ∷ WholeDeleteRoSpecResponse ∷ WholeStartRoSpecResponse ∷ WholeStopRoSpecResponse ∷ WholeEnableRoSpecResponse ∷ WholeDisableRoSpecResponse ∷ WholeGetRoSpecsResponse ∷ WholeAddAccessSpec ∷ WholeDeleteAccessSpec ∷ WholeEnableAccessSpec ∷ WholeDisableAccessSpec ∷ WholeGetAccessSpecs ∷ WholeClientRequestOp ∷ WholeGetSupportedVersion ∷ WholeSetProtocolVersion ∷ WholeAddAccessSpecResponse ∷ WholeDeleteAccessSpecResponse ∷ WholeEnableAccessSpecResponse ∷ WholeDisableAccessSpecResponse ∷ WholeGetAccessSpecsResponse ∷ WholeClientRequestOpResponse ∷ WholeGetSupportedVersionResponse ∷ WholeSetProtocolVersionResponse ∷ WholeGetReport ∷ WholeRoAccessReport ∷ WholeKeepalive ∷ WholeReaderEventNotification ∷ WholeEnableEventsAndReports ∷ WholeKeepaliveAck ∷ WholeErrorMessage ∷ WholeCustomMessage ∷ []
+
+-- every kind of parameter of the whole standard
+unfoldable pub whole_param_kinds : List ParamKind
+whole_param_kinds =
+    WholeAntennaId ∷ WholeFirstSeenTimestampUtc ∷ WholeFirstSeenTimestampUptime ∷ WholeLastSeenTimestampUtc ∷ WholeLastSeenTimestampUptime ∷ WholePeakRssi ∷ WholeChannelIndex ∷ WholeTagSeenCount ∷ WholeRoSpecId ∷ WholeInventoryParameterSpecId ∷ WholeC1G2Crc ∷ WholeC1G2Pc ∷ WholeEpc96 ∷ WholeSpecIndex ∷ WholeClientRequestOpSpecResult ∷ WholeAccessSpecId ∷ WholeOpSpecID ∷ WholeC1G2SingulationDetails ∷ WholeC1g2xpcw1 ∷ WholeC1g2xpcw2 ∷ WholeUtcTimestamp ∷ WholeUptime ∷ WholeGeneralDeviceCapabilities ∷ WholeReceiveSensitivityTableEntry ∷ WholePerAntennaAirProtocol ∷ WholeGpioCapabilities ∷ WholeLlrpCapabilities ∷ WholeRegulatoryCapabilities ∷ WholeUhfBandCapabilities ∷ WholeTransmitPowerLevelTableEntry ∷ WholeFrequencyInformation ∷ WholeFrequencyHopTable ∷ WholeFixedFrequencyTable ∷ WholePerAntennaReceiveSensitivityRange ∷ WholeRoSpec ∷ WholeRoBoundarySpec ∷ WholeRoSpecStartTrigger ∷ WholePeriodicTriggerValue ∷ WholeGpiTriggerValue ∷ WholeRoSpecStopTrigger ∷ WholeAiSpec ∷ WholeAiSpecStopTrigger ∷ WholeTagObservationTrigger ∷ WholeInventoryParameterSpec ∷ WholeRfSurveySpec ∷ WholeRfSurveySpecStopTrigger ∷ WholeAccessSpec ∷ WholeAccessSpecStopTrigger ∷ WholeAccessCommand ∷ WholeClientRequestOpSpec ∷ WholeClientRequestResponse ∷ WholeLlrpConfigurationStateValue ∷ WholeIdentification ∷ WholeGpoWriteData ∷ WholeKeepaliveSpec ∷ WholeAntennaProperties ∷ WholeAntennaConfiguration ∷ WholeRfReceiver ∷ WholeRfTransmitter ∷ WholeGpiPortCurrentState ∷ WholeEventsAndReports ∷ WholeRoReportSpec ∷ WholeTagReportContentSelector ∷ WholeAccessReportSpec ∷ WholeTagReportData ∷ WholeEpcData ∷ WholeRfSurveyReportData ∷ WholeFrequencyRssiLevelEntry ∷ WholeReaderEventNotificationSpec ∷ WholeEventNotificationState ∷ WholeReaderEventNotificationData ∷ WholeHoppingEvent ∷ WholeGpiEvent ∷ WholeRoSpecEvent ∷ WholeReportBufferLevelWarningEvent ∷ WholeReportBufferOverflowErrorEvent ∷ WholeReaderExceptionEvent ∷ WholeRfSurveyEvent ∷ WholeAiSpecEvent ∷ WholeAntennaEvent ∷ WholeConnectionAttemptEvent ∷ WholeConnectionCloseEvent ∷ WholeLlrpStatus ∷ WholeFieldError ∷ WholeParameterError ∷ WholeC1G2LlrpCapabilities ∷ WholeC1G2UhfRfModeTable ∷ WholeC1G2UhfRfModeTableEntry ∷ WholeC1G2InventoryCommand ∷ WholeC1G2Filter ∷ WholeC1G2TagInventoryMask ∷ WholeC1G2TagInventoryStateAwareFilterAction ∷ WholeC1G2TagInventoryStateUnawareFilterAction ∷ WholeC1G2RfControl ∷ WholeC1G2SingulationControl ∷ WholeC1G2TagInventoryStateAwareSingulationAction ∷ WholeC1G2TagSpec ∷ WholeC1G2TargetTag ∷ WholeC1G2Read ∷ WholeC1G2Write ∷ WholeC1G2Kill ∷ WholeC1G2Lock ∷ WholeC1G2LockPayload ∷ WholeC1G2BlockErase ∷ WholeC1G2BlockWrite ∷ WholeC1G2EpcMemorySelector ∷ WholeC1G2ReadOpSpecResult ∷ WholeC1G2WriteOpSpecResult ∷ WholeC1G2KillOpSpecResult ∷ WholeC1G2LockOpSpecResult ∷ WholeC1G2BlockEraseOpSpecResult ∷ WholeC1G2BlockWriteOpSpecResult ∷ WholeLoopSpec ∷ WholeSpecLoopEvent ∷ WholeC1G2Recommission ∷ WholeC1G2BlockPermalock ∷ WholeC1G2GetBlockPermalockStatus ∷ WholeC1G2RecommissionOpSpecResult ∷ WholeC1G2BlockPermalockOpSpecResult ∷ WholeC1G2GetBlockPermalockStatusOpSpecResult ∷ WholeMaximumReceiveSensitivity ∷ WholeRfSurveyFrequencyCapabilities ∷ WholeCustom ∷ []
+
+-- the messages and the parameters of each
+abbrev pub messages_of : Profile → List MsgKind
+messages_of Own = message_kinds
+messages_of Whole = whole_message_kinds
+
+abbrev pub params_of : Profile → List ParamKind
+params_of Own = param_kinds
+params_of Whole = whole_param_kinds
+
+-- the numbers of the profile stay as they are, those of the whole standard are above them
+abbrev pub key_in : Profile → ℕ → ℕ
+key_in Own number = number
+key_in Whole number = 1024 + number
+
+-- a number that no two kinds of parameter share
+unfoldable pub key_of : ParamKind → ℕ
+key_of kind = key_in (profile_of (Parameter kind)) (number_of (Parameter kind))
+
 -- the message with a number
-unfoldable pub message_with_number : ℕ → Option MsgKind
-message_with_number number = find (λ kind. number_of (Message kind) == number) message_kinds
+unfoldable pub message_in : Profile → ℕ → Option MsgKind
+message_in p number = find (λ kind. number_of (Message kind) == number) (messages_of p)
 
 -- the parameter with type, length and value that has a number
-unfoldable pub tlv_with_number : ℕ → Option ParamKind
-tlv_with_number number = find (λ kind. number_of (Parameter kind) == number) (filter (λ kind. not (is_tv kind)) param_kinds)
+unfoldable pub tlv_in : Profile → ℕ → Option ParamKind
+tlv_in p number = find (λ kind. number_of (Parameter kind) == number) (filter (λ kind. not (is_tv kind)) (params_of p))
 
 -- the parameter with type and value that has a number
-unfoldable pub tv_with_number : ℕ → Option ParamKind
-tv_with_number number = find (λ kind. number_of (Parameter kind) == number) (filter is_tv param_kinds)
+unfoldable pub tv_in : Profile → ℕ → Option ParamKind
+tv_in p number = find (λ kind. number_of (Parameter kind) == number) (filter is_tv (params_of p))
 
 -- the message with a name
-unfoldable pub message_with_name : List ℕ → Option MsgKind
-message_with_name name = find (λ kind. pointwise nat_eq (name_of (Message kind)) name) message_kinds
+unfoldable pub message_named_in : Profile → List ℕ → Option MsgKind
+message_named_in p name = find (λ kind. pointwise nat_eq (name_of (Message kind)) name) (messages_of p)
 
 -- the parameter with a name
-unfoldable pub param_with_name : List ℕ → Option ParamKind
-param_with_name name = find (λ kind. pointwise nat_eq (name_of (Parameter kind)) name) param_kinds
+unfoldable pub param_named_in : Profile → List ℕ → Option ParamKind
+param_named_in p name = find (λ kind. pointwise nat_eq (name_of (Parameter kind)) name) (params_of p)
+
+-- the same of the profile
+abbrev pub message_with_number : ℕ → Option MsgKind
+message_with_number number = message_in Own number
+
+abbrev pub tlv_with_number : ℕ → Option ParamKind
+tlv_with_number number = tlv_in Own number
+
+abbrev pub tv_with_number : ℕ → Option ParamKind
+tv_with_number number = tv_in Own number
+
+abbrev pub message_with_name : List ℕ → Option MsgKind
+message_with_name name = message_named_in Own name
+
+abbrev pub param_with_name : List ℕ → Option ParamKind
+param_with_name name = param_named_in Own name

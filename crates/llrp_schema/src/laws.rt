@@ -5,43 +5,55 @@ ghost use Rattle.llrp_schema.specs.declared.kinds.MsgKind.{MsgKind};
 ghost use Rattle.llrp_schema.specs.declared.kinds.ParamKind.{ParamKind};
 ghost use Rattle.llrp_schema.specs.declared.kinds.Kind.{Kind};
 ghost use Rattle.llrp_schema.specs.declared.kinds.Kind.TheVariants.{Message, Parameter};
-ghost use Rattle.llrp_schema.specs.declared.kinds.Tail.TheVariants.{Absent, Bits};
-ghost use Rattle.llrp_schema.specs.Schema.{FieldRule, number_of, name_of, fields_of, plain_fields_of, bits_of, tail_of, groups_of, is_tv, field, message_with_number, tlv_with_number, tv_with_number, message_with_name, param_with_name};
+ghost use Rattle.llrp_schema.specs.declared.kinds.Tail.TheVariants.{Absent, Bits, Data};
+ghost use Rattle.llrp_schema.specs.declared.kinds.Profile.{Profile};
+ghost use Rattle.llrp_schema.specs.declared.kinds.Profile.TheVariants.{Own};
+ghost use Rattle.llrp_schema.specs.Schema.{FieldRule, number_of, name_of, fields_of, plain_fields_of, bits_of, tail_of, groups_of, is_tv, field, profile_of, message_in, tlv_in, tv_in, message_named_in, param_named_in};
+ghost use Rattle.llrp_schema.specs.Places.{has_place};
 
-/// No two messages have the same number, and no two parameters have.
-#[tactic(auto, using(crate::proofs::TableLaws::message_numbers, crate::proofs::TableLaws::param_numbers))]
+/// No two messages of one profile have the same number, and no two parameters have.
+#[tactic(auto, using(crate::proofs::TableLaws::message_numbers_in, crate::proofs::TableLaws::param_numbers_in))]
 pub fn numbers_are_distinct()
-    ensures message { (a b : MsgKind) → number_of (Message a) ≡ number_of (Message b) → a ≡ b }
-    ensures parameter { (a b : ParamKind) → number_of (Parameter a)
+    ensures message { (a b : MsgKind) → profile_of (Message a) ≡ profile_of (Message b) → number_of (Message a) ≡ number_of (Message b) → a ≡ b }
+    ensures parameter { (a b : ParamKind) → profile_of (Parameter a) ≡ profile_of (Parameter b) → number_of (Parameter a)
         ≡ number_of (Parameter b) → a ≡ b }
 {}
 
-/// No two kinds have the same name.
-#[tactic(auto, using(crate::proofs::TableLaws::names))]
+/// No two kinds of one profile have the same name.
 pub fn names_are_distinct()
-    ensures { (a b : Kind) → name_of a ≡ name_of b → a ≡ b }
+    ensures { (a b : Kind) → profile_of a ≡ profile_of b → name_of a ≡ name_of b → a ≡ b }
 {}
 
-/// A look-up by number finds exactly the kind with this number.
-#[tactic(auto, using(crate::proofs::TableLaws::message_found))]
+/// A look-up by number finds exactly the kind of the profile with this number.
 pub fn numbers_are_found()
-    ensures message { (number : ℕ) (kind : MsgKind) →
-        (message_with_number number ≡ Some kind) ↔ (number_of (Message kind) ≡ number) }
-    ensures tlv { (number : ℕ) (kind : ParamKind) →
-        (tlv_with_number number ≡ Some kind) ↔
-        ((is_tv kind ≡ false) × (number_of (Parameter kind) ≡ number)) }
-    ensures tv { (number : ℕ) (kind : ParamKind) →
-        (tv_with_number number ≡ Some kind) ↔
-        ((is_tv kind ≡ true) × (number_of (Parameter kind) ≡ number)) }
+    ensures message { (profile : Profile) (number : ℕ) (kind : MsgKind) →
+        (message_in profile number ≡ Some kind) ↔
+        ((profile_of (Message kind) ≡ profile) × (number_of (Message kind) ≡ number)) }
+    ensures tlv { (profile : Profile) (number : ℕ) (kind : ParamKind) →
+        (tlv_in profile number ≡ Some kind) ↔
+        ((profile_of (Parameter kind) ≡ profile) × (is_tv kind ≡ false)
+        × (number_of (Parameter kind) ≡ number)) }
+    ensures tv { (profile : Profile) (number : ℕ) (kind : ParamKind) →
+        (tv_in profile number ≡ Some kind) ↔
+        ((profile_of (Parameter kind) ≡ profile) × (is_tv kind ≡ true)
+        × (number_of (Parameter kind) ≡ number)) }
 {}
 
-/// A look-up by name finds exactly the kind with this name.
-#[tactic(auto, using(crate::proofs::TableLaws::message_name_found, crate::proofs::TableLaws::param_name_found))]
+/// A look-up by name finds exactly the kind of the profile with this name.
 pub fn names_are_found()
-    ensures message { (name : List ℕ) (kind : MsgKind) →
-        (message_with_name name ≡ Some kind) ↔ (name_of (Message kind) ≡ name) }
-    ensures parameter { (name : List ℕ) (kind : ParamKind) →
-        (param_with_name name ≡ Some kind) ↔ (name_of (Parameter kind) ≡ name) }
+    ensures message { (profile : Profile) (name : List ℕ) (kind : MsgKind) →
+        (message_named_in profile name ≡ Some kind) ↔
+        ((profile_of (Message kind) ≡ profile) × (name_of (Message kind) ≡ name)) }
+    ensures parameter { (profile : Profile) (name : List ℕ) (kind : ParamKind) →
+        (param_named_in profile name ≡ Some kind) ↔
+        ((profile_of (Parameter kind) ≡ profile) × (name_of (Parameter kind) ≡ name)) }
+{}
+
+/// A child is of the profile of its parent: no kind of one is a child of a kind of the other.
+#[tactic(auto, using(crate::proofs::PlaceLemmas::child_profile))]
+pub fn children_are_of_one_profile()
+    ensures { (parent : Kind) (child : ParamKind) → has_place (groups_of parent) child ≡ true →
+        profile_of (Parameter child) ≡ profile_of parent }
 {}
 
 /// The number of a message, or of a parameter with a length, fits the 10 bits of its header. That
@@ -53,13 +65,14 @@ pub fn numbers_fit_headers()
 {}
 
 /// A name begins with an upper-case letter, has no space and no control character, and is short.
-#[tactic(auto, using(crate::proofs::TableLaws::name_begins, crate::proofs::TableLaws::name_visible, crate::proofs::TableLaws::name_short))]
+#[tactic(auto, using(crate::proofs::TableLaws::name_begins, crate::proofs::TableLaws::name_visible, crate::proofs::TableLaws::name_short, crate::proofs::TableLaws::own_name_short))]
 pub fn names_are_words()
     ensures begins { (kind : Kind) →
         (first : ℕ) × (rest : List ℕ) × (name_of kind ≡ first ∷ rest) × (65 ≤ first)
         × (first ≤ 90) }
     ensures visible { (kind : Kind) → All (λ c. (33 ≤ c) × (c ≤ 126)) (name_of kind) }
-    ensures short { (kind : Kind) → length (name_of kind) ≤ 32 }
+    ensures short { (kind : Kind) → length (name_of kind) ≤ 48 }
+    ensures own { (kind : Kind) → profile_of kind ≡ Own → length (name_of kind) ≤ 32 }
 {}
 
 /// The fields of a kind fill whole octets, at most twelve, and at most twelve are not reserved.
@@ -98,12 +111,15 @@ pub fn tv_is_one_field()
     ensures groups { (kind : ParamKind) → is_tv kind ≡ true → groups_of (Parameter kind) ≡ [] }
 {}
 
-/// A message has no tail. A parameter whose tail is bits has one field, which counts them.
-#[tactic(auto, using(crate::proofs::TableLaws::message_tail, crate::proofs::TableLaws::bits_field))]
+/// A message has no tail. A parameter whose tail is bits has one field, which counts them; one whose
+/// tail goes up to its end has no children.
+#[tactic(auto, using(crate::proofs::TableLaws::message_tail, crate::proofs::TableLaws::bits_field, crate::proofs::TableLaws::data_groups))]
 pub fn tails_are_of_parameters()
     ensures message { (kind : MsgKind) → tail_of (Message kind) ≡ Absent }
     ensures bits { (kind : ParamKind) → tail_of (Parameter kind) ≡ Bits →
         fields_of (Parameter kind) ≡ field "BitCount" 16 ∷ [] }
+    ensures data { (kind : ParamKind) → tail_of (Parameter kind) ≡ Data →
+        groups_of (Parameter kind) ≡ [] }
 {}
 
 /// A group has members, and its least number is at most its greatest. No kind is in two groups of
@@ -126,5 +142,5 @@ pub fn groups_are_narrow()
     ensures least { (kind : Kind) → All (λ group. group.least ≤ 1) (groups_of kind) }
     ensures most { (kind : Kind) →
         All (λ group. (group.most ≡ None) ⊎ (group.most ≡ Some 1)) (groups_of kind) }
-    ensures few { (kind : Kind) → length (groups_of kind) ≤ 15 }
+    ensures few { (kind : Kind) → length (groups_of kind) ≤ 18 }
 {}

@@ -24,10 +24,15 @@ mod rows;
 mod tables;
 mod tlv;
 mod tv;
+mod whole;
 
-pub use kinds::{Field, Group, Kind, Label, MsgKind, ParamKind, Place, Tail};
+pub use kinds::{Field, Group, Kind, Label, MsgKind, ParamKind, Place, Profile, Tail};
 pub use labels::label;
-pub use named::{msg_named, msg_with_name, param_named, param_with_name};
-pub use numbered::{is_tv, msg_of, param_of_tlv, param_of_tv};
+pub use named::{
+    msg_named, msg_with_name, msg_with_name_in, param_named, param_with_name, param_with_name_in,
+};
+pub use numbered::{
+    is_tv, msg_of, msg_of_in, param_of_tlv, param_of_tlv_in, param_of_tv, param_of_tv_in,
+};
 pub use places::{place, required};
-pub use tables::{fields, groups, name, number, tail};
+pub use tables::{fields, groups, name, number, profile, tail};

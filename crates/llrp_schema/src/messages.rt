@@ -3,10 +3,12 @@
 ghost use Rattle.std.specs.Prelude.{◌≡◌};
 ghost use Rattle.llrp_schema.specs.Schema.{kind_rule, message_rule};
 
-use crate::kinds::{Definition, Field, Group, MsgKind, ParamKind, Tail};
+use crate::kinds::{Definition, Field, Group, MsgKind, ParamKind, Profile, Tail};
 use crate::rows::{any_number, at_most_one, field, one, reserved};
+use crate::whole;
 
 static SET_READER_CONFIG: Definition = Definition {
+    profile: Profile::Own,
     number: 3,
     name: "SET_READER_CONFIG",
     fields: &[field!("ResetToFactoryDefault", 1), reserved!(7)],
@@ -21,6 +23,7 @@ static SET_READER_CONFIG: Definition = Definition {
 };
 
 static CLOSE_CONNECTION_RESPONSE: Definition = Definition {
+    profile: Profile::Own,
     number: 4,
     name: "CLOSE_CONNECTION_RESPONSE",
     fields: &[],
@@ -29,6 +32,7 @@ static CLOSE_CONNECTION_RESPONSE: Definition = Definition {
 };
 
 static SET_READER_CONFIG_RESPONSE: Definition = Definition {
+    profile: Profile::Own,
     number: 13,
     name: "SET_READER_CONFIG_RESPONSE",
     fields: &[],
@@ -37,6 +41,7 @@ static SET_READER_CONFIG_RESPONSE: Definition = Definition {
 };
 
 static CLOSE_CONNECTION: Definition = Definition {
+    profile: Profile::Own,
     number: 14,
     name: "CLOSE_CONNECTION",
     fields: &[],
@@ -45,6 +50,7 @@ static CLOSE_CONNECTION: Definition = Definition {
 };
 
 static ADD_RO_SPEC: Definition = Definition {
+    profile: Profile::Own,
     number: 20,
     name: "ADD_ROSPEC",
     fields: &[],
@@ -53,6 +59,7 @@ static ADD_RO_SPEC: Definition = Definition {
 };
 
 static DELETE_RO_SPEC: Definition = Definition {
+    profile: Profile::Own,
     number: 21,
     name: "DELETE_ROSPEC",
     fields: &[field!("ROSpecID", 32)],
@@ -61,6 +68,7 @@ static DELETE_RO_SPEC: Definition = Definition {
 };
 
 static START_RO_SPEC: Definition = Definition {
+    profile: Profile::Own,
     number: 22,
     name: "START_ROSPEC",
     fields: &[field!("ROSpecID", 32)],
@@ -69,6 +77,7 @@ static START_RO_SPEC: Definition = Definition {
 };
 
 static STOP_RO_SPEC: Definition = Definition {
+    profile: Profile::Own,
     number: 23,
     name: "STOP_ROSPEC",
     fields: &[field!("ROSpecID", 32)],
@@ -77,6 +86,7 @@ static STOP_RO_SPEC: Definition = Definition {
 };
 
 static ENABLE_RO_SPEC: Definition = Definition {
+    profile: Profile::Own,
     number: 24,
     name: "ENABLE_ROSPEC",
     fields: &[field!("ROSpecID", 32)],
@@ -85,6 +95,7 @@ static ENABLE_RO_SPEC: Definition = Definition {
 };
 
 static DISABLE_RO_SPEC: Definition = Definition {
+    profile: Profile::Own,
     number: 25,
     name: "DISABLE_ROSPEC",
     fields: &[field!("ROSpecID", 32)],
@@ -93,6 +104,7 @@ static DISABLE_RO_SPEC: Definition = Definition {
 };
 
 static GET_RO_SPECS: Definition = Definition {
+    profile: Profile::Own,
     number: 26,
     name: "GET_ROSPECS",
     fields: &[],
@@ -101,6 +113,7 @@ static GET_RO_SPECS: Definition = Definition {
 };
 
 static ADD_RO_SPEC_RESPONSE: Definition = Definition {
+    profile: Profile::Own,
     number: 30,
     name: "ADD_ROSPEC_RESPONSE",
     fields: &[],
@@ -109,6 +122,7 @@ static ADD_RO_SPEC_RESPONSE: Definition = Definition {
 };
 
 static DELETE_RO_SPEC_RESPONSE: Definition = Definition {
+    profile: Profile::Own,
     number: 31,
     name: "DELETE_ROSPEC_RESPONSE",
     fields: &[],
@@ -117,6 +131,7 @@ static DELETE_RO_SPEC_RESPONSE: Definition = Definition {
 };
 
 static START_RO_SPEC_RESPONSE: Definition = Definition {
+    profile: Profile::Own,
     number: 32,
     name: "START_ROSPEC_RESPONSE",
     fields: &[],
@@ -125,6 +140,7 @@ static START_RO_SPEC_RESPONSE: Definition = Definition {
 };
 
 static STOP_RO_SPEC_RESPONSE: Definition = Definition {
+    profile: Profile::Own,
     number: 33,
     name: "STOP_ROSPEC_RESPONSE",
     fields: &[],
@@ -133,6 +149,7 @@ static STOP_RO_SPEC_RESPONSE: Definition = Definition {
 };
 
 static ENABLE_RO_SPEC_RESPONSE: Definition = Definition {
+    profile: Profile::Own,
     number: 34,
     name: "ENABLE_ROSPEC_RESPONSE",
     fields: &[],
@@ -141,6 +158,7 @@ static ENABLE_RO_SPEC_RESPONSE: Definition = Definition {
 };
 
 static DISABLE_RO_SPEC_RESPONSE: Definition = Definition {
+    profile: Profile::Own,
     number: 35,
     name: "DISABLE_ROSPEC_RESPONSE",
     fields: &[],
@@ -149,6 +167,7 @@ static DISABLE_RO_SPEC_RESPONSE: Definition = Definition {
 };
 
 static GET_RO_SPECS_RESPONSE: Definition = Definition {
+    profile: Profile::Own,
     number: 36,
     name: "GET_ROSPECS_RESPONSE",
     fields: &[],
@@ -157,6 +176,7 @@ static GET_RO_SPECS_RESPONSE: Definition = Definition {
 };
 
 static GET_REPORT: Definition = Definition {
+    profile: Profile::Own,
     number: 60,
     name: "GET_REPORT",
     fields: &[],
@@ -165,6 +185,7 @@ static GET_REPORT: Definition = Definition {
 };
 
 static RO_ACCESS_REPORT: Definition = Definition {
+    profile: Profile::Own,
     number: 61,
     name: "RO_ACCESS_REPORT",
     fields: &[],
@@ -173,6 +194,7 @@ static RO_ACCESS_REPORT: Definition = Definition {
 };
 
 static KEEPALIVE: Definition = Definition {
+    profile: Profile::Own,
     number: 62,
     name: "KEEPALIVE",
     fields: &[],
@@ -181,6 +203,7 @@ static KEEPALIVE: Definition = Definition {
 };
 
 static READER_EVENT_NOTIFICATION: Definition = Definition {
+    profile: Profile::Own,
     number: 63,
     name: "READER_EVENT_NOTIFICATION",
     fields: &[],
@@ -189,6 +212,7 @@ static READER_EVENT_NOTIFICATION: Definition = Definition {
 };
 
 static ENABLE_EVENTS_AND_REPORTS: Definition = Definition {
+    profile: Profile::Own,
     number: 64,
     name: "ENABLE_EVENTS_AND_REPORTS",
     fields: &[],
@@ -197,6 +221,7 @@ static ENABLE_EVENTS_AND_REPORTS: Definition = Definition {
 };
 
 static KEEPALIVE_ACK: Definition = Definition {
+    profile: Profile::Own,
     number: 72,
     name: "KEEPALIVE_ACK",
     fields: &[],
@@ -205,6 +230,7 @@ static KEEPALIVE_ACK: Definition = Definition {
 };
 
 static ERROR_MESSAGE: Definition = Definition {
+    profile: Profile::Own,
     number: 100,
     name: "ERROR_MESSAGE",
     fields: &[],
@@ -243,5 +269,53 @@ pub fn message(kind: MsgKind) -> &'static Definition
         MsgKind::EnableEventsAndReports => &ENABLE_EVENTS_AND_REPORTS,
         MsgKind::KeepaliveAck => &KEEPALIVE_ACK,
         MsgKind::ErrorMessage => &ERROR_MESSAGE,
+        MsgKind::WholeGetReaderCapabilities => &whole::messages::GET_READER_CAPABILITIES,
+        MsgKind::WholeGetReaderConfig => &whole::messages::GET_READER_CONFIG,
+        MsgKind::WholeSetReaderConfig => &whole::messages::SET_READER_CONFIG,
+        MsgKind::WholeCloseConnectionResponse => &whole::messages::CLOSE_CONNECTION_RESPONSE,
+        MsgKind::WholeGetReaderCapabilitiesResponse =>
+            &whole::messages::GET_READER_CAPABILITIES_RESPONSE,
+        MsgKind::WholeGetReaderConfigResponse => &whole::messages::GET_READER_CONFIG_RESPONSE,
+        MsgKind::WholeSetReaderConfigResponse => &whole::messages::SET_READER_CONFIG_RESPONSE,
+        MsgKind::WholeCloseConnection => &whole::messages::CLOSE_CONNECTION,
+        MsgKind::WholeAddRoSpec => &whole::messages::ADD_RO_SPEC,
+        MsgKind::WholeDeleteRoSpec => &whole::messages::DELETE_RO_SPEC,
+        MsgKind::WholeStartRoSpec => &whole::messages::START_RO_SPEC,
+        MsgKind::WholeStopRoSpec => &whole::messages::STOP_RO_SPEC,
+        MsgKind::WholeEnableRoSpec => &whole::messages::ENABLE_RO_SPEC,
+        MsgKind::WholeDisableRoSpec => &whole::messages::DISABLE_RO_SPEC,
+        MsgKind::WholeGetRoSpecs => &whole::messages::GET_RO_SPECS,
+        MsgKind::WholeAddRoSpecResponse => &whole::messages::ADD_RO_SPEC_RESPONSE,
+        MsgKind::WholeDeleteRoSpecResponse => &whole::messages::DELETE_RO_SPEC_RESPONSE,
+        MsgKind::WholeStartRoSpecResponse => &whole::messages::START_RO_SPEC_RESPONSE,
+        MsgKind::WholeStopRoSpecResponse => &whole::messages::STOP_RO_SPEC_RESPONSE,
+        MsgKind::WholeEnableRoSpecResponse => &whole::messages::ENABLE_RO_SPEC_RESPONSE,
+        MsgKind::WholeDisableRoSpecResponse => &whole::messages::DISABLE_RO_SPEC_RESPONSE,
+        MsgKind::WholeGetRoSpecsResponse => &whole::messages::GET_RO_SPECS_RESPONSE,
+        MsgKind::WholeAddAccessSpec => &whole::messages::ADD_ACCESS_SPEC,
+        MsgKind::WholeDeleteAccessSpec => &whole::messages::DELETE_ACCESS_SPEC,
+        MsgKind::WholeEnableAccessSpec => &whole::messages::ENABLE_ACCESS_SPEC,
+        MsgKind::WholeDisableAccessSpec => &whole::messages::DISABLE_ACCESS_SPEC,
+        MsgKind::WholeGetAccessSpecs => &whole::messages::GET_ACCESS_SPECS,
+        MsgKind::WholeClientRequestOp => &whole::messages::CLIENT_REQUEST_OP,
+        MsgKind::WholeGetSupportedVersion => &whole::messages::GET_SUPPORTED_VERSION,
+        MsgKind::WholeSetProtocolVersion => &whole::messages::SET_PROTOCOL_VERSION,
+        MsgKind::WholeAddAccessSpecResponse => &whole::messages::ADD_ACCESS_SPEC_RESPONSE,
+        MsgKind::WholeDeleteAccessSpecResponse => &whole::messages::DELETE_ACCESS_SPEC_RESPONSE,
+        MsgKind::WholeEnableAccessSpecResponse => &whole::messages::ENABLE_ACCESS_SPEC_RESPONSE,
+        MsgKind::WholeDisableAccessSpecResponse => &whole::messages::DISABLE_ACCESS_SPEC_RESPONSE,
+        MsgKind::WholeGetAccessSpecsResponse => &whole::messages::GET_ACCESS_SPECS_RESPONSE,
+        MsgKind::WholeClientRequestOpResponse => &whole::messages::CLIENT_REQUEST_OP_RESPONSE,
+        MsgKind::WholeGetSupportedVersionResponse =>
+            &whole::messages::GET_SUPPORTED_VERSION_RESPONSE,
+        MsgKind::WholeSetProtocolVersionResponse => &whole::messages::SET_PROTOCOL_VERSION_RESPONSE,
+        MsgKind::WholeGetReport => &whole::messages::GET_REPORT,
+        MsgKind::WholeRoAccessReport => &whole::messages::RO_ACCESS_REPORT,
+        MsgKind::WholeKeepalive => &whole::messages::KEEPALIVE,
+        MsgKind::WholeReaderEventNotification => &whole::messages::READER_EVENT_NOTIFICATION,
+        MsgKind::WholeEnableEventsAndReports => &whole::messages::ENABLE_EVENTS_AND_REPORTS,
+        MsgKind::WholeKeepaliveAck => &whole::messages::KEEPALIVE_ACK,
+        MsgKind::WholeErrorMessage => &whole::messages::ERROR_MESSAGE,
+        MsgKind::WholeCustomMessage => &whole::messages::CUSTOM_MESSAGE,
     }
 }

@@ -4,7 +4,7 @@ ghost use Rattle.std.specs.Prelude.{◌≡◌};
 ghost use Rattle.llrp_schema.specs.Schema.{kind_rule, param_rule};
 
 use crate::kinds::{Definition, ParamKind};
-use crate::{tlv, tv};
+use crate::{tlv, tv, whole};
 
 /// The row of a parameter.
 #[tactic(auto, unfolding(crate::specs::Schema::param_rule))]
@@ -66,5 +66,149 @@ pub fn parameter(kind: ParamKind) -> &'static Definition
         ParamKind::C1G2RfControl => &tlv::C1G2_RF_CONTROL,
         ParamKind::C1G2SingulationControl => &tlv::C1G2_SINGULATION_CONTROL,
         ParamKind::C1G2EpcMemorySelector => &tlv::C1G2_EPC_MEMORY_SELECTOR,
+        ParamKind::WholeAntennaId => &whole::tv::ANTENNA_ID,
+        ParamKind::WholeFirstSeenTimestampUtc => &whole::tv::FIRST_SEEN_TIMESTAMP_UTC,
+        ParamKind::WholeFirstSeenTimestampUptime => &whole::tv::FIRST_SEEN_TIMESTAMP_UPTIME,
+        ParamKind::WholeLastSeenTimestampUtc => &whole::tv::LAST_SEEN_TIMESTAMP_UTC,
+        ParamKind::WholeLastSeenTimestampUptime => &whole::tv::LAST_SEEN_TIMESTAMP_UPTIME,
+        ParamKind::WholePeakRssi => &whole::tv::PEAK_RSSI,
+        ParamKind::WholeChannelIndex => &whole::tv::CHANNEL_INDEX,
+        ParamKind::WholeTagSeenCount => &whole::tv::TAG_SEEN_COUNT,
+        ParamKind::WholeRoSpecId => &whole::tv::RO_SPEC_ID,
+        ParamKind::WholeInventoryParameterSpecId => &whole::tv::INVENTORY_PARAMETER_SPEC_ID,
+        ParamKind::WholeC1G2Crc => &whole::tv::C1G2_CRC,
+        ParamKind::WholeC1G2Pc => &whole::tv::C1G2_PC,
+        ParamKind::WholeEpc96 => &whole::tv::EPC96,
+        ParamKind::WholeSpecIndex => &whole::tv::SPEC_INDEX,
+        ParamKind::WholeClientRequestOpSpecResult => &whole::tv::CLIENT_REQUEST_OP_SPEC_RESULT,
+        ParamKind::WholeAccessSpecId => &whole::tv::ACCESS_SPEC_ID,
+        ParamKind::WholeOpSpecID => &whole::tv::OP_SPEC_ID,
+        ParamKind::WholeC1G2SingulationDetails => &whole::tv::C1G2_SINGULATION_DETAILS,
+        ParamKind::WholeC1g2xpcw1 => &whole::tv::C1G2XPCW1,
+        ParamKind::WholeC1g2xpcw2 => &whole::tv::C1G2XPCW2,
+        ParamKind::WholeUtcTimestamp => &whole::capabilities::UTC_TIMESTAMP,
+        ParamKind::WholeUptime => &whole::capabilities::UPTIME,
+        ParamKind::WholeGeneralDeviceCapabilities =>
+            &whole::capabilities::GENERAL_DEVICE_CAPABILITIES,
+        ParamKind::WholeReceiveSensitivityTableEntry =>
+            &whole::capabilities::RECEIVE_SENSITIVITY_TABLE_ENTRY,
+        ParamKind::WholePerAntennaAirProtocol => &whole::capabilities::PER_ANTENNA_AIR_PROTOCOL,
+        ParamKind::WholeGpioCapabilities => &whole::capabilities::GPIO_CAPABILITIES,
+        ParamKind::WholeLlrpCapabilities => &whole::capabilities::LLRP_CAPABILITIES,
+        ParamKind::WholeRegulatoryCapabilities => &whole::capabilities::REGULATORY_CAPABILITIES,
+        ParamKind::WholeUhfBandCapabilities => &whole::capabilities::UHF_BAND_CAPABILITIES,
+        ParamKind::WholeTransmitPowerLevelTableEntry =>
+            &whole::capabilities::TRANSMIT_POWER_LEVEL_TABLE_ENTRY,
+        ParamKind::WholeFrequencyInformation => &whole::capabilities::FREQUENCY_INFORMATION,
+        ParamKind::WholeFrequencyHopTable => &whole::capabilities::FREQUENCY_HOP_TABLE,
+        ParamKind::WholeFixedFrequencyTable => &whole::capabilities::FIXED_FREQUENCY_TABLE,
+        ParamKind::WholePerAntennaReceiveSensitivityRange =>
+            &whole::capabilities::PER_ANTENNA_RECEIVE_SENSITIVITY_RANGE,
+        ParamKind::WholeRoSpec => &whole::operations::RO_SPEC,
+        ParamKind::WholeRoBoundarySpec => &whole::operations::RO_BOUNDARY_SPEC,
+        ParamKind::WholeRoSpecStartTrigger => &whole::operations::RO_SPEC_START_TRIGGER,
+        ParamKind::WholePeriodicTriggerValue => &whole::operations::PERIODIC_TRIGGER_VALUE,
+        ParamKind::WholeGpiTriggerValue => &whole::operations::GPI_TRIGGER_VALUE,
+        ParamKind::WholeRoSpecStopTrigger => &whole::operations::RO_SPEC_STOP_TRIGGER,
+        ParamKind::WholeAiSpec => &whole::operations::AI_SPEC,
+        ParamKind::WholeAiSpecStopTrigger => &whole::operations::AI_SPEC_STOP_TRIGGER,
+        ParamKind::WholeTagObservationTrigger => &whole::operations::TAG_OBSERVATION_TRIGGER,
+        ParamKind::WholeInventoryParameterSpec => &whole::operations::INVENTORY_PARAMETER_SPEC,
+        ParamKind::WholeRfSurveySpec => &whole::operations::RF_SURVEY_SPEC,
+        ParamKind::WholeRfSurveySpecStopTrigger => &whole::operations::RF_SURVEY_SPEC_STOP_TRIGGER,
+        ParamKind::WholeAccessSpec => &whole::operations::ACCESS_SPEC,
+        ParamKind::WholeAccessSpecStopTrigger => &whole::operations::ACCESS_SPEC_STOP_TRIGGER,
+        ParamKind::WholeAccessCommand => &whole::operations::ACCESS_COMMAND,
+        ParamKind::WholeClientRequestOpSpec => &whole::operations::CLIENT_REQUEST_OP_SPEC,
+        ParamKind::WholeClientRequestResponse => &whole::operations::CLIENT_REQUEST_RESPONSE,
+        ParamKind::WholeLlrpConfigurationStateValue =>
+            &whole::operations::LLRP_CONFIGURATION_STATE_VALUE,
+        ParamKind::WholeIdentification => &whole::operations::IDENTIFICATION,
+        ParamKind::WholeGpoWriteData => &whole::operations::GPO_WRITE_DATA,
+        ParamKind::WholeKeepaliveSpec => &whole::operations::KEEPALIVE_SPEC,
+        ParamKind::WholeAntennaProperties => &whole::operations::ANTENNA_PROPERTIES,
+        ParamKind::WholeAntennaConfiguration => &whole::operations::ANTENNA_CONFIGURATION,
+        ParamKind::WholeRfReceiver => &whole::operations::RF_RECEIVER,
+        ParamKind::WholeRfTransmitter => &whole::operations::RF_TRANSMITTER,
+        ParamKind::WholeGpiPortCurrentState => &whole::operations::GPI_PORT_CURRENT_STATE,
+        ParamKind::WholeEventsAndReports => &whole::operations::EVENTS_AND_REPORTS,
+        ParamKind::WholeRoReportSpec => &whole::reports::RO_REPORT_SPEC,
+        ParamKind::WholeTagReportContentSelector => &whole::reports::TAG_REPORT_CONTENT_SELECTOR,
+        ParamKind::WholeAccessReportSpec => &whole::reports::ACCESS_REPORT_SPEC,
+        ParamKind::WholeTagReportData => &whole::reports::TAG_REPORT_DATA,
+        ParamKind::WholeEpcData => &whole::reports::EPC_DATA,
+        ParamKind::WholeRfSurveyReportData => &whole::reports::RF_SURVEY_REPORT_DATA,
+        ParamKind::WholeFrequencyRssiLevelEntry => &whole::reports::FREQUENCY_RSSI_LEVEL_ENTRY,
+        ParamKind::WholeReaderEventNotificationSpec =>
+            &whole::reports::READER_EVENT_NOTIFICATION_SPEC,
+        ParamKind::WholeEventNotificationState => &whole::reports::EVENT_NOTIFICATION_STATE,
+        ParamKind::WholeReaderEventNotificationData =>
+            &whole::reports::READER_EVENT_NOTIFICATION_DATA,
+        ParamKind::WholeHoppingEvent => &whole::reports::HOPPING_EVENT,
+        ParamKind::WholeGpiEvent => &whole::reports::GPI_EVENT,
+        ParamKind::WholeRoSpecEvent => &whole::reports::RO_SPEC_EVENT,
+        ParamKind::WholeReportBufferLevelWarningEvent =>
+            &whole::reports::REPORT_BUFFER_LEVEL_WARNING_EVENT,
+        ParamKind::WholeReportBufferOverflowErrorEvent =>
+            &whole::reports::REPORT_BUFFER_OVERFLOW_ERROR_EVENT,
+        ParamKind::WholeReaderExceptionEvent => &whole::reports::READER_EXCEPTION_EVENT,
+        ParamKind::WholeRfSurveyEvent => &whole::reports::RF_SURVEY_EVENT,
+        ParamKind::WholeAiSpecEvent => &whole::reports::AI_SPEC_EVENT,
+        ParamKind::WholeAntennaEvent => &whole::reports::ANTENNA_EVENT,
+        ParamKind::WholeConnectionAttemptEvent => &whole::reports::CONNECTION_ATTEMPT_EVENT,
+        ParamKind::WholeConnectionCloseEvent => &whole::reports::CONNECTION_CLOSE_EVENT,
+        ParamKind::WholeLlrpStatus => &whole::reports::LLRP_STATUS,
+        ParamKind::WholeFieldError => &whole::reports::FIELD_ERROR,
+        ParamKind::WholeParameterError => &whole::reports::PARAMETER_ERROR,
+        ParamKind::WholeC1G2LlrpCapabilities => &whole::air_protocol::C1G2_LLRP_CAPABILITIES,
+        ParamKind::WholeC1G2UhfRfModeTable => &whole::air_protocol::C1G2_UHF_RF_MODE_TABLE,
+        ParamKind::WholeC1G2UhfRfModeTableEntry =>
+            &whole::air_protocol::C1G2_UHF_RF_MODE_TABLE_ENTRY,
+        ParamKind::WholeC1G2InventoryCommand => &whole::air_protocol::C1G2_INVENTORY_COMMAND,
+        ParamKind::WholeC1G2Filter => &whole::air_protocol::C1G2_FILTER,
+        ParamKind::WholeC1G2TagInventoryMask => &whole::air_protocol::C1G2_TAG_INVENTORY_MASK,
+        ParamKind::WholeC1G2TagInventoryStateAwareFilterAction =>
+            &whole::air_protocol::C1G2_TAG_INVENTORY_STATE_AWARE_FILTER_ACTION,
+        ParamKind::WholeC1G2TagInventoryStateUnawareFilterAction =>
+            &whole::air_protocol::C1G2_TAG_INVENTORY_STATE_UNAWARE_FILTER_ACTION,
+        ParamKind::WholeC1G2RfControl => &whole::air_protocol::C1G2_RF_CONTROL,
+        ParamKind::WholeC1G2SingulationControl => &whole::air_protocol::C1G2_SINGULATION_CONTROL,
+        ParamKind::WholeC1G2TagInventoryStateAwareSingulationAction =>
+            &whole::air_protocol::C1G2_TAG_INVENTORY_STATE_AWARE_SINGULATION_ACTION,
+        ParamKind::WholeC1G2TagSpec => &whole::air_protocol::C1G2_TAG_SPEC,
+        ParamKind::WholeC1G2TargetTag => &whole::air_protocol::C1G2_TARGET_TAG,
+        ParamKind::WholeC1G2Read => &whole::air_protocol::C1G2_READ,
+        ParamKind::WholeC1G2Write => &whole::air_protocol::C1G2_WRITE,
+        ParamKind::WholeC1G2Kill => &whole::air_protocol::C1G2_KILL,
+        ParamKind::WholeC1G2Lock => &whole::air_protocol::C1G2_LOCK,
+        ParamKind::WholeC1G2LockPayload => &whole::air_protocol::C1G2_LOCK_PAYLOAD,
+        ParamKind::WholeC1G2BlockErase => &whole::air_protocol::C1G2_BLOCK_ERASE,
+        ParamKind::WholeC1G2BlockWrite => &whole::air_protocol::C1G2_BLOCK_WRITE,
+        ParamKind::WholeC1G2EpcMemorySelector => &whole::air_protocol::C1G2_EPC_MEMORY_SELECTOR,
+        ParamKind::WholeC1G2ReadOpSpecResult => &whole::air_protocol::C1G2_READ_OP_SPEC_RESULT,
+        ParamKind::WholeC1G2WriteOpSpecResult => &whole::air_protocol::C1G2_WRITE_OP_SPEC_RESULT,
+        ParamKind::WholeC1G2KillOpSpecResult => &whole::air_protocol::C1G2_KILL_OP_SPEC_RESULT,
+        ParamKind::WholeC1G2LockOpSpecResult => &whole::air_protocol::C1G2_LOCK_OP_SPEC_RESULT,
+        ParamKind::WholeC1G2BlockEraseOpSpecResult =>
+            &whole::air_protocol::C1G2_BLOCK_ERASE_OP_SPEC_RESULT,
+        ParamKind::WholeC1G2BlockWriteOpSpecResult =>
+            &whole::air_protocol::C1G2_BLOCK_WRITE_OP_SPEC_RESULT,
+        ParamKind::WholeLoopSpec => &whole::air_protocol::LOOP_SPEC,
+        ParamKind::WholeSpecLoopEvent => &whole::air_protocol::SPEC_LOOP_EVENT,
+        ParamKind::WholeC1G2Recommission => &whole::air_protocol::C1G2_RECOMMISSION,
+        ParamKind::WholeC1G2BlockPermalock => &whole::air_protocol::C1G2_BLOCK_PERMALOCK,
+        ParamKind::WholeC1G2GetBlockPermalockStatus =>
+            &whole::air_protocol::C1G2_GET_BLOCK_PERMALOCK_STATUS,
+        ParamKind::WholeC1G2RecommissionOpSpecResult =>
+            &whole::air_protocol::C1G2_RECOMMISSION_OP_SPEC_RESULT,
+        ParamKind::WholeC1G2BlockPermalockOpSpecResult =>
+            &whole::air_protocol::C1G2_BLOCK_PERMALOCK_OP_SPEC_RESULT,
+        ParamKind::WholeC1G2GetBlockPermalockStatusOpSpecResult =>
+            &whole::air_protocol::C1G2_GET_BLOCK_PERMALOCK_STATUS_OP_SPEC_RESULT,
+        ParamKind::WholeMaximumReceiveSensitivity =>
+            &whole::air_protocol::MAXIMUM_RECEIVE_SENSITIVITY,
+        ParamKind::WholeRfSurveyFrequencyCapabilities =>
+            &whole::air_protocol::RF_SURVEY_FREQUENCY_CAPABILITIES,
+        ParamKind::WholeCustom => &whole::air_protocol::CUSTOM,
     }
 }

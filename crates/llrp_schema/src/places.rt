@@ -1,12 +1,14 @@
 //! The group of a parent in which a child is counted, and the groups that need a child.
 
-ghost use Rattle.std.specs.Prelude.{◌≡◌, false, IfNone, IfSome, [], ◌∷◌};
+ghost use Rattle.std.specs.Prelude.{◌≡◌, ◌≤◌, ◌<◌, ◌==◌, ◌^◌, nat_le, true, false, IfNone, IfSome, [], ◌∷◌, length, map};
+ghost use Rattle.std.specs.List.{list_all, list_any};
 ghost use Rattle.llrp_schema.specs.declared.kinds.MsgKind.TheVariants.{SetReaderConfig, AddRoSpec, GetRoSpecsResponse, RoAccessReport, ReaderEventNotification};
 ghost use Rattle.llrp_schema.specs.declared.kinds.ParamKind.TheVariants.{RoSpec, RoBoundarySpec, RoSpecStartTrigger, PeriodicTriggerValue, RoSpecStopTrigger, AiSpec, AiSpecStopTrigger, InventoryParameterSpec, AntennaConfiguration, RoReportSpec, TagReportContentSelector, TagReportData, ReaderEventNotificationSpec, ReaderEventNotificationData, LlrpStatus, ParameterError, C1G2InventoryCommand};
-ghost use Rattle.llrp_schema.specs.Schema.{groups_of, one};
+ghost use Rattle.llrp_schema.specs.Schema.{groups_of, group_rule, key_of, one};
 ghost use Rattle.llrp_schema.specs.Places.{has_place, first_place, least_bits, IsPlace, AreRequired};
 
-use crate::kinds::{Kind, MsgKind, ParamKind, Place};
+use crate::kinds::{Group, Kind, MsgKind, ParamKind, Place, Profile};
+use crate::tables::{groups, number, profile};
 
 /// A place in a group that takes one child at most.
 macro_rules! once {
@@ -57,33 +59,66 @@ pub fn required(kind: Kind) -> u32
 
 /// The least numbers of a kind's groups, each as a bit.
 #[inline(always)]
-#[tactic(auto, unfolding(crate::specs::Schema::groups_of, crate::specs::Schema::rule_of, crate::specs::Schema::message_rule, crate::specs::Schema::param_rule))]
 fn least_bits(kind: Kind) -> u32
     ensures { result ≡ least_bits (groups_of kind) }
 {
     match kind {
-        Kind::Message(
-            MsgKind::CloseConnectionResponse
-            | MsgKind::SetReaderConfigResponse
-            | MsgKind::AddRoSpec
-            | MsgKind::AddRoSpecResponse
-            | MsgKind::DeleteRoSpecResponse
-            | MsgKind::StartRoSpecResponse
-            | MsgKind::StopRoSpecResponse
-            | MsgKind::EnableRoSpecResponse
-            | MsgKind::DisableRoSpecResponse
-            | MsgKind::GetRoSpecsResponse
-            | MsgKind::ReaderEventNotification
-            | MsgKind::ErrorMessage,
-        ) => 0b1,
-        Kind::Parameter(ParamKind::RoSpec | ParamKind::RoBoundarySpec | ParamKind::AiSpec) => 0b11,
-        Kind::Parameter(
-            ParamKind::RoReportSpec
-            | ParamKind::TagReportData
-            | ParamKind::ReaderEventNotificationSpec
-            | ParamKind::ReaderEventNotificationData,
-        ) => 0b1,
-        _ => 0,
+        Kind::Message(kind) => message_bits(kind),
+        Kind::Parameter(kind) => parameter_bits(kind),
+    }
+}
+
+/// The least numbers of a message's groups, each as a bit.
+#[inline(always)]
+#[tactic(auto, unfolding(crate::specs::Schema::groups_of, crate::specs::Schema::rule_of, crate::specs::Schema::message_rule))]
+fn message_bits(kind: MsgKind) -> u32
+    ensures { result ≡ least_bits (groups_of (Kind.Message kind)) }
+{
+    match kind {
+        MsgKind::CloseConnectionResponse
+        | MsgKind::SetReaderConfigResponse
+        | MsgKind::AddRoSpec
+        | MsgKind::AddRoSpecResponse
+        | MsgKind::DeleteRoSpecResponse
+        | MsgKind::StartRoSpecResponse
+        | MsgKind::StopRoSpecResponse
+        | MsgKind::EnableRoSpecResponse
+        | MsgKind::DisableRoSpecResponse
+        | MsgKind::GetRoSpecsResponse
+        | MsgKind::ReaderEventNotification
+        | MsgKind::ErrorMessage => 0b1,
+        _ if (kind as usize) < 25 => 0,
+        _ => least_bits_among(groups(Kind::Message(kind))),
+    }
+}
+
+/// The least numbers of a parameter's groups, each as a bit.
+#[inline(always)]
+#[tactic(auto, unfolding(crate::specs::Schema::groups_of, crate::specs::Schema::rule_of, crate::specs::Schema::param_rule))]
+fn parameter_bits(kind: ParamKind) -> u32
+    ensures { result ≡ least_bits (groups_of (Kind.Parameter kind)) }
+{
+    match kind {
+        ParamKind::RoSpec | ParamKind::RoBoundarySpec | ParamKind::AiSpec => 0b11,
+        ParamKind::RoReportSpec
+        | ParamKind::TagReportData
+        | ParamKind::ReaderEventNotificationSpec
+        | ParamKind::ReaderEventNotificationData => 0b1,
+        _ if (kind as usize) < 54 => 0,
+        _ => least_bits_among(groups(Kind::Parameter(kind))),
+    }
+}
+
+/// The least numbers of some groups, each as a bit.
+fn least_bits_among(groups: &[Group]) -> u32
+    requires few { length groups.now ≤ 18 }
+    requires narrow { list_all (λ group. nat_le group.least 1) (map group_rule groups.now) ≡ true }
+    ensures bits { result ≡ least_bits (map group_rule groups.now) }
+    ensures within { result < 2 ^ length groups.now }
+{
+    match groups.split_first() {
+        None => 0,
+        Some((group, rest)) => group.least + 2 * least_bits_among(rest),
     }
 }
 
@@ -95,6 +130,47 @@ fn first_place(parent: Kind, child: ParamKind) -> Option<Place>
     match parent {
         Kind::Message(kind) => in_message(kind, child),
         Kind::Parameter(kind) => in_parameter(kind, child),
+    }
+}
+
+/// The place of a child among some groups: that of the first group that has its kind.
+fn place_among(groups: &[Group], child: ParamKind) -> Option<Place>
+    requires few { length groups.now ≤ 18 }
+    ensures place { result ≡ first_place (map group_rule groups.now) child }
+    ensures within { IfSome result (λ place. place.index < length groups.now) }
+{
+    let (group, rest) = groups.split_first()?;
+    if has_member(group.members, child) {
+        return Some(Place {
+            index: 0,
+            once: group.most.is_some(),
+        });
+    }
+    let place = place_among(rest, child)?;
+    Some(Place {
+        index: place.index + 1,
+        once: place.once,
+    })
+}
+
+/// Whether a kind is one of some kinds.
+fn has_member(members: &[ParamKind], child: ParamKind) -> bool
+    ensures { result ≡ list_any (λ member. key_of member == key_of child) members.now }
+{
+    let wanted = key(child);
+    members.iter().any(|member| key(*member) == wanted)
+}
+
+/// A number that no two kinds of parameter share.
+#[inline(always)]
+#[tactic(auto, unfolding(crate::specs::Schema::key_of), using(crate::proofs::TableLaws::param_number_fits))]
+fn key(kind: ParamKind) -> u16
+    ensures { result ≡ key_of kind }
+{
+    let number = number(Kind::Parameter(kind));
+    match profile(Kind::Parameter(kind)) {
+        Profile::Own => number,
+        Profile::Whole => 1024 + number,
     }
 }
 
@@ -118,7 +194,7 @@ fn in_message(parent: MsgKind, child: ParamKind) -> Option<Place>
         | MsgKind::EnableRoSpecResponse
         | MsgKind::DisableRoSpecResponse
         | MsgKind::ErrorMessage => in_response(child),
-        _ => None,
+        _ => place_among(groups(Kind::Message(parent)), child),
     }
 }
 
@@ -146,12 +222,12 @@ fn in_parameter(parent: ParamKind, child: ParamKind) -> Option<Place>
         ParamKind::LlrpStatus => in_llrp_status(child),
         ParamKind::ParameterError => in_parameter_error(child),
         ParamKind::C1G2InventoryCommand => in_c1g2_inventory_command(child),
-        _ => None,
+        _ => place_among(groups(Kind::Parameter(parent)), child),
     }
 }
 
 /// The place of a child of a message whose only child is a status.
-#[tactic(auto, unfolding(crate::specs::Schema::groups_of, crate::specs::Schema::rule_of, crate::specs::Schema::param_rule, crate::specs::Schema::number_of))]
+#[tactic(auto, unfolding(crate::specs::Schema::groups_of, crate::specs::Schema::rule_of, crate::specs::Schema::param_rule, crate::specs::Schema::number_of, crate::specs::Schema::profile_of, crate::specs::Schema::key_of))]
 fn in_response(child: ParamKind) -> Option<Place>
     ensures { result ≡ first_place (one LlrpStatus ∷ []) child }
 {
@@ -162,7 +238,7 @@ fn in_response(child: ParamKind) -> Option<Place>
 }
 
 /// The place of a child of `SetReaderConfig`.
-#[tactic(auto, unfolding(crate::specs::Schema::groups_of, crate::specs::Schema::rule_of, crate::specs::Schema::message_rule, crate::specs::Schema::param_rule, crate::specs::Schema::number_of))]
+#[tactic(auto, unfolding(crate::specs::Schema::groups_of, crate::specs::Schema::rule_of, crate::specs::Schema::message_rule, crate::specs::Schema::param_rule, crate::specs::Schema::number_of, crate::specs::Schema::profile_of, crate::specs::Schema::key_of))]
 fn in_set_reader_config(child: ParamKind) -> Option<Place>
     ensures { result ≡ first_place (groups_of (Kind.Message SetReaderConfig)) child }
 {
@@ -177,7 +253,7 @@ fn in_set_reader_config(child: ParamKind) -> Option<Place>
 }
 
 /// The place of a child of `AddRoSpec`.
-#[tactic(auto, unfolding(crate::specs::Schema::groups_of, crate::specs::Schema::rule_of, crate::specs::Schema::message_rule, crate::specs::Schema::param_rule, crate::specs::Schema::number_of))]
+#[tactic(auto, unfolding(crate::specs::Schema::groups_of, crate::specs::Schema::rule_of, crate::specs::Schema::message_rule, crate::specs::Schema::param_rule, crate::specs::Schema::number_of, crate::specs::Schema::profile_of, crate::specs::Schema::key_of))]
 fn in_add_ro_spec(child: ParamKind) -> Option<Place>
     ensures { result ≡ first_place (groups_of (Kind.Message AddRoSpec)) child }
 {
@@ -188,7 +264,7 @@ fn in_add_ro_spec(child: ParamKind) -> Option<Place>
 }
 
 /// The place of a child of `GetRoSpecsResponse`.
-#[tactic(auto, unfolding(crate::specs::Schema::groups_of, crate::specs::Schema::rule_of, crate::specs::Schema::message_rule, crate::specs::Schema::param_rule, crate::specs::Schema::number_of))]
+#[tactic(auto, unfolding(crate::specs::Schema::groups_of, crate::specs::Schema::rule_of, crate::specs::Schema::message_rule, crate::specs::Schema::param_rule, crate::specs::Schema::number_of, crate::specs::Schema::profile_of, crate::specs::Schema::key_of))]
 fn in_get_ro_specs_response(child: ParamKind) -> Option<Place>
     ensures { result ≡ first_place (groups_of (Kind.Message GetRoSpecsResponse)) child }
 {
@@ -200,7 +276,7 @@ fn in_get_ro_specs_response(child: ParamKind) -> Option<Place>
 }
 
 /// The place of a child of `RoAccessReport`.
-#[tactic(auto, unfolding(crate::specs::Schema::groups_of, crate::specs::Schema::rule_of, crate::specs::Schema::message_rule, crate::specs::Schema::param_rule, crate::specs::Schema::number_of))]
+#[tactic(auto, unfolding(crate::specs::Schema::groups_of, crate::specs::Schema::rule_of, crate::specs::Schema::message_rule, crate::specs::Schema::param_rule, crate::specs::Schema::number_of, crate::specs::Schema::profile_of, crate::specs::Schema::key_of))]
 fn in_ro_access_report(child: ParamKind) -> Option<Place>
     ensures { result ≡ first_place (groups_of (Kind.Message RoAccessReport)) child }
 {
@@ -211,7 +287,7 @@ fn in_ro_access_report(child: ParamKind) -> Option<Place>
 }
 
 /// The place of a child of `ReaderEventNotification`.
-#[tactic(auto, unfolding(crate::specs::Schema::groups_of, crate::specs::Schema::rule_of, crate::specs::Schema::message_rule, crate::specs::Schema::param_rule, crate::specs::Schema::number_of))]
+#[tactic(auto, unfolding(crate::specs::Schema::groups_of, crate::specs::Schema::rule_of, crate::specs::Schema::message_rule, crate::specs::Schema::param_rule, crate::specs::Schema::number_of, crate::specs::Schema::profile_of, crate::specs::Schema::key_of))]
 fn in_reader_event_notification(child: ParamKind) -> Option<Place>
     ensures { result ≡ first_place (groups_of (Kind.Message ReaderEventNotification)) child }
 {
@@ -222,7 +298,7 @@ fn in_reader_event_notification(child: ParamKind) -> Option<Place>
 }
 
 /// The place of a child of `RoSpec`.
-#[tactic(auto, unfolding(crate::specs::Schema::groups_of, crate::specs::Schema::rule_of, crate::specs::Schema::param_rule, crate::specs::Schema::number_of))]
+#[tactic(auto, unfolding(crate::specs::Schema::groups_of, crate::specs::Schema::rule_of, crate::specs::Schema::param_rule, crate::specs::Schema::number_of, crate::specs::Schema::profile_of, crate::specs::Schema::key_of))]
 fn in_ro_spec(child: ParamKind) -> Option<Place>
     ensures { result ≡ first_place (groups_of (Kind.Parameter RoSpec)) child }
 {
@@ -235,7 +311,7 @@ fn in_ro_spec(child: ParamKind) -> Option<Place>
 }
 
 /// The place of a child of `RoBoundarySpec`.
-#[tactic(auto, unfolding(crate::specs::Schema::groups_of, crate::specs::Schema::rule_of, crate::specs::Schema::param_rule, crate::specs::Schema::number_of))]
+#[tactic(auto, unfolding(crate::specs::Schema::groups_of, crate::specs::Schema::rule_of, crate::specs::Schema::param_rule, crate::specs::Schema::number_of, crate::specs::Schema::profile_of, crate::specs::Schema::key_of))]
 fn in_ro_boundary_spec(child: ParamKind) -> Option<Place>
     ensures { result ≡ first_place (groups_of (Kind.Parameter RoBoundarySpec)) child }
 {
@@ -247,7 +323,7 @@ fn in_ro_boundary_spec(child: ParamKind) -> Option<Place>
 }
 
 /// The place of a child of `RoSpecStartTrigger`.
-#[tactic(auto, unfolding(crate::specs::Schema::groups_of, crate::specs::Schema::rule_of, crate::specs::Schema::param_rule, crate::specs::Schema::number_of))]
+#[tactic(auto, unfolding(crate::specs::Schema::groups_of, crate::specs::Schema::rule_of, crate::specs::Schema::param_rule, crate::specs::Schema::number_of, crate::specs::Schema::profile_of, crate::specs::Schema::key_of))]
 fn in_ro_spec_start_trigger(child: ParamKind) -> Option<Place>
     ensures { result ≡ first_place (groups_of (Kind.Parameter RoSpecStartTrigger)) child }
 {
@@ -259,7 +335,7 @@ fn in_ro_spec_start_trigger(child: ParamKind) -> Option<Place>
 }
 
 /// The place of a child of `PeriodicTriggerValue`.
-#[tactic(auto, unfolding(crate::specs::Schema::groups_of, crate::specs::Schema::rule_of, crate::specs::Schema::param_rule, crate::specs::Schema::number_of))]
+#[tactic(auto, unfolding(crate::specs::Schema::groups_of, crate::specs::Schema::rule_of, crate::specs::Schema::param_rule, crate::specs::Schema::number_of, crate::specs::Schema::profile_of, crate::specs::Schema::key_of))]
 fn in_periodic_trigger_value(child: ParamKind) -> Option<Place>
     ensures { result ≡ first_place (groups_of (Kind.Parameter PeriodicTriggerValue)) child }
 {
@@ -270,7 +346,7 @@ fn in_periodic_trigger_value(child: ParamKind) -> Option<Place>
 }
 
 /// The place of a child of `RoSpecStopTrigger`.
-#[tactic(auto, unfolding(crate::specs::Schema::groups_of, crate::specs::Schema::rule_of, crate::specs::Schema::param_rule, crate::specs::Schema::number_of))]
+#[tactic(auto, unfolding(crate::specs::Schema::groups_of, crate::specs::Schema::rule_of, crate::specs::Schema::param_rule, crate::specs::Schema::number_of, crate::specs::Schema::profile_of, crate::specs::Schema::key_of))]
 fn in_ro_spec_stop_trigger(child: ParamKind) -> Option<Place>
     ensures { result ≡ first_place (groups_of (Kind.Parameter RoSpecStopTrigger)) child }
 {
@@ -281,7 +357,7 @@ fn in_ro_spec_stop_trigger(child: ParamKind) -> Option<Place>
 }
 
 /// The place of a child of `AiSpec`.
-#[tactic(auto, unfolding(crate::specs::Schema::groups_of, crate::specs::Schema::rule_of, crate::specs::Schema::param_rule, crate::specs::Schema::number_of))]
+#[tactic(auto, unfolding(crate::specs::Schema::groups_of, crate::specs::Schema::rule_of, crate::specs::Schema::param_rule, crate::specs::Schema::number_of, crate::specs::Schema::profile_of, crate::specs::Schema::key_of))]
 fn in_ai_spec(child: ParamKind) -> Option<Place>
     ensures { result ≡ first_place (groups_of (Kind.Parameter AiSpec)) child }
 {
@@ -293,7 +369,7 @@ fn in_ai_spec(child: ParamKind) -> Option<Place>
 }
 
 /// The place of a child of `AiSpecStopTrigger`.
-#[tactic(auto, unfolding(crate::specs::Schema::groups_of, crate::specs::Schema::rule_of, crate::specs::Schema::param_rule, crate::specs::Schema::number_of))]
+#[tactic(auto, unfolding(crate::specs::Schema::groups_of, crate::specs::Schema::rule_of, crate::specs::Schema::param_rule, crate::specs::Schema::number_of, crate::specs::Schema::profile_of, crate::specs::Schema::key_of))]
 fn in_ai_spec_stop_trigger(child: ParamKind) -> Option<Place>
     ensures { result ≡ first_place (groups_of (Kind.Parameter AiSpecStopTrigger)) child }
 {
@@ -305,7 +381,7 @@ fn in_ai_spec_stop_trigger(child: ParamKind) -> Option<Place>
 }
 
 /// The place of a child of `InventoryParameterSpec`.
-#[tactic(auto, unfolding(crate::specs::Schema::groups_of, crate::specs::Schema::rule_of, crate::specs::Schema::param_rule, crate::specs::Schema::number_of))]
+#[tactic(auto, unfolding(crate::specs::Schema::groups_of, crate::specs::Schema::rule_of, crate::specs::Schema::param_rule, crate::specs::Schema::number_of, crate::specs::Schema::profile_of, crate::specs::Schema::key_of))]
 fn in_inventory_parameter_spec(child: ParamKind) -> Option<Place>
     ensures { result ≡ first_place (groups_of (Kind.Parameter InventoryParameterSpec)) child }
 {
@@ -316,7 +392,7 @@ fn in_inventory_parameter_spec(child: ParamKind) -> Option<Place>
 }
 
 /// The place of a child of `AntennaConfiguration`.
-#[tactic(auto, unfolding(crate::specs::Schema::groups_of, crate::specs::Schema::rule_of, crate::specs::Schema::param_rule, crate::specs::Schema::number_of))]
+#[tactic(auto, unfolding(crate::specs::Schema::groups_of, crate::specs::Schema::rule_of, crate::specs::Schema::param_rule, crate::specs::Schema::number_of, crate::specs::Schema::profile_of, crate::specs::Schema::key_of))]
 fn in_antenna_configuration(child: ParamKind) -> Option<Place>
     ensures { result ≡ first_place (groups_of (Kind.Parameter AntennaConfiguration)) child }
 {
@@ -329,7 +405,7 @@ fn in_antenna_configuration(child: ParamKind) -> Option<Place>
 }
 
 /// The place of a child of `RoReportSpec`.
-#[tactic(auto, unfolding(crate::specs::Schema::groups_of, crate::specs::Schema::rule_of, crate::specs::Schema::param_rule, crate::specs::Schema::number_of))]
+#[tactic(auto, unfolding(crate::specs::Schema::groups_of, crate::specs::Schema::rule_of, crate::specs::Schema::param_rule, crate::specs::Schema::number_of, crate::specs::Schema::profile_of, crate::specs::Schema::key_of))]
 fn in_ro_report_spec(child: ParamKind) -> Option<Place>
     ensures { result ≡ first_place (groups_of (Kind.Parameter RoReportSpec)) child }
 {
@@ -340,7 +416,7 @@ fn in_ro_report_spec(child: ParamKind) -> Option<Place>
 }
 
 /// The place of a child of `TagReportContentSelector`.
-#[tactic(auto, unfolding(crate::specs::Schema::groups_of, crate::specs::Schema::rule_of, crate::specs::Schema::param_rule, crate::specs::Schema::number_of))]
+#[tactic(auto, unfolding(crate::specs::Schema::groups_of, crate::specs::Schema::rule_of, crate::specs::Schema::param_rule, crate::specs::Schema::number_of, crate::specs::Schema::profile_of, crate::specs::Schema::key_of))]
 fn in_tag_report_content_selector(child: ParamKind) -> Option<Place>
     ensures { result ≡ first_place (groups_of (Kind.Parameter TagReportContentSelector)) child }
 {
@@ -351,7 +427,7 @@ fn in_tag_report_content_selector(child: ParamKind) -> Option<Place>
 }
 
 /// The place of a child of `TagReportData`.
-#[tactic(auto, unfolding(crate::specs::Schema::groups_of, crate::specs::Schema::rule_of, crate::specs::Schema::param_rule, crate::specs::Schema::number_of))]
+#[tactic(auto, unfolding(crate::specs::Schema::groups_of, crate::specs::Schema::rule_of, crate::specs::Schema::param_rule, crate::specs::Schema::number_of, crate::specs::Schema::profile_of, crate::specs::Schema::key_of))]
 #[inline(always)]
 fn in_tag_report_data(child: ParamKind) -> Option<Place>
     ensures { result ≡ first_place (groups_of (Kind.Parameter TagReportData)) child }
@@ -377,7 +453,7 @@ fn in_tag_report_data(child: ParamKind) -> Option<Place>
 }
 
 /// The place of a child of `ReaderEventNotificationSpec`.
-#[tactic(auto, unfolding(crate::specs::Schema::groups_of, crate::specs::Schema::rule_of, crate::specs::Schema::param_rule, crate::specs::Schema::number_of))]
+#[tactic(auto, unfolding(crate::specs::Schema::groups_of, crate::specs::Schema::rule_of, crate::specs::Schema::param_rule, crate::specs::Schema::number_of, crate::specs::Schema::profile_of, crate::specs::Schema::key_of))]
 fn in_reader_event_notification_spec(child: ParamKind) -> Option<Place>
     ensures { result ≡ first_place (groups_of (Kind.Parameter ReaderEventNotificationSpec)) child }
 {
@@ -388,7 +464,7 @@ fn in_reader_event_notification_spec(child: ParamKind) -> Option<Place>
 }
 
 /// The place of a child of `ReaderEventNotificationData`.
-#[tactic(auto, unfolding(crate::specs::Schema::groups_of, crate::specs::Schema::rule_of, crate::specs::Schema::param_rule, crate::specs::Schema::number_of))]
+#[tactic(auto, unfolding(crate::specs::Schema::groups_of, crate::specs::Schema::rule_of, crate::specs::Schema::param_rule, crate::specs::Schema::number_of, crate::specs::Schema::profile_of, crate::specs::Schema::key_of))]
 fn in_reader_event_notification_data(child: ParamKind) -> Option<Place>
     ensures { result ≡ first_place (groups_of (Kind.Parameter ReaderEventNotificationData)) child }
 {
@@ -407,7 +483,7 @@ fn in_reader_event_notification_data(child: ParamKind) -> Option<Place>
 }
 
 /// The place of a child of `LlrpStatus`.
-#[tactic(auto, unfolding(crate::specs::Schema::groups_of, crate::specs::Schema::rule_of, crate::specs::Schema::param_rule, crate::specs::Schema::number_of))]
+#[tactic(auto, unfolding(crate::specs::Schema::groups_of, crate::specs::Schema::rule_of, crate::specs::Schema::param_rule, crate::specs::Schema::number_of, crate::specs::Schema::profile_of, crate::specs::Schema::key_of))]
 fn in_llrp_status(child: ParamKind) -> Option<Place>
     ensures { result ≡ first_place (groups_of (Kind.Parameter LlrpStatus)) child }
 {
@@ -419,7 +495,7 @@ fn in_llrp_status(child: ParamKind) -> Option<Place>
 }
 
 /// The place of a child of `ParameterError`.
-#[tactic(auto, unfolding(crate::specs::Schema::groups_of, crate::specs::Schema::rule_of, crate::specs::Schema::param_rule, crate::specs::Schema::number_of))]
+#[tactic(auto, unfolding(crate::specs::Schema::groups_of, crate::specs::Schema::rule_of, crate::specs::Schema::param_rule, crate::specs::Schema::number_of, crate::specs::Schema::profile_of, crate::specs::Schema::key_of))]
 fn in_parameter_error(child: ParamKind) -> Option<Place>
     ensures { result ≡ first_place (groups_of (Kind.Parameter ParameterError)) child }
 {
@@ -431,7 +507,7 @@ fn in_parameter_error(child: ParamKind) -> Option<Place>
 }
 
 /// The place of a child of `C1G2InventoryCommand`.
-#[tactic(auto, unfolding(crate::specs::Schema::groups_of, crate::specs::Schema::rule_of, crate::specs::Schema::param_rule, crate::specs::Schema::number_of))]
+#[tactic(auto, unfolding(crate::specs::Schema::groups_of, crate::specs::Schema::rule_of, crate::specs::Schema::param_rule, crate::specs::Schema::number_of, crate::specs::Schema::profile_of, crate::specs::Schema::key_of))]
 fn in_c1g2_inventory_command(child: ParamKind) -> Option<Place>
     ensures { result ≡ first_place (groups_of (Kind.Parameter C1G2InventoryCommand)) child }
 {

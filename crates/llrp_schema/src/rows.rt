@@ -91,6 +91,7 @@ macro_rules! any_number {
 macro_rules! tv {
     ($number:literal, $name:literal, $field:expr) => {
         Definition {
+            profile: Profile::Own,
             number: $number,
             name: $name,
             fields: &[$field],
@@ -100,11 +101,61 @@ macro_rules! tv {
     };
 }
 
+/// A parameter with a type and a value alone, by its number, its name and its one field.
+macro_rules! whole_tv {
+    ($number:literal, $name:literal, $field:expr) => {
+        Definition {
+            profile: Profile::Whole,
+            number: $number,
+            name: $name,
+            fields: &[$field],
+            tail: Tail::Absent,
+            groups: &[],
+        }
+    };
+}
+
+/// One child or more, each of one of the kinds.
+macro_rules! some_of {
+    ($($kind:ident),+) => {
+        Group {
+            members: &[$(ParamKind::$kind),+],
+            least: 1,
+            most: None,
+        }
+    };
+}
+
+/// Children of the kinds in any number.
+macro_rules! any_of {
+    ($($kind:ident),+) => {
+        Group {
+            members: &[$(ParamKind::$kind),+],
+            least: 0,
+            most: None,
+        }
+    };
+}
+
+/// A name with its length, and spaces after it.
+macro_rules! label {
+    ($octets:literal, $text:literal) => {
+        Label {
+            text: *$text,
+            octets: $octets,
+        }
+    };
+}
+
 pub(crate) use any_number;
+pub(crate) use any_of;
 pub(crate) use at_most_one;
 pub(crate) use field;
+pub(crate) use label;
 pub(crate) use one;
 pub(crate) use one_or_more;
 pub(crate) use reserved;
 pub(crate) use signed;
+pub(crate) use some_of;
 pub(crate) use tv;
+pub(crate) use whole_tv;

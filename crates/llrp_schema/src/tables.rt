@@ -1,9 +1,9 @@
 //! What the tables say about a kind; one function serves messages and parameters.
 
 ghost use Rattle.std.specs.Prelude.{◌≡◌, map};
-ghost use Rattle.llrp_schema.specs.Schema.{field_rule, group_rule, kind_rule, rule_of, number_of, name_of, fields_of, tail_of, groups_of};
+ghost use Rattle.llrp_schema.specs.Schema.{field_rule, group_rule, kind_rule, rule_of, number_of, name_of, fields_of, tail_of, groups_of, profile_of};
 
-use crate::kinds::{Definition, Field, Group, Kind, Tail};
+use crate::kinds::{Definition, Field, Group, Kind, MsgKind, ParamKind, Profile, Tail};
 use crate::messages::message;
 use crate::parameters::parameter;
 
@@ -15,6 +15,45 @@ fn definition(kind: Kind) -> &'static Definition
     match kind {
         Kind::Message(kind) => message(kind),
         Kind::Parameter(kind) => parameter(kind),
+    }
+}
+
+/// Whether a kind is of the profile or of the whole standard.
+#[inline(always)]
+pub fn profile(kind: Kind) -> Profile
+    ensures { result ≡ profile_of kind }
+{
+    match kind {
+        Kind::Message(kind) => message_profile(kind),
+        Kind::Parameter(kind) => parameter_profile(kind),
+    }
+}
+
+/// Whether a message is of the profile, whose messages come first.
+#[inline(always)]
+#[tactic(auto, unfolding(crate::specs::Schema::profile_of, crate::specs::Schema::rule_of, crate::specs::Schema::message_rule))]
+fn message_profile(kind: MsgKind) -> Profile
+    ensures { result ≡ profile_of (Kind.Message kind) }
+{
+    let index = kind as usize;
+    if index < 25 {
+        Profile::Own
+    } else {
+        Profile::Whole
+    }
+}
+
+/// Whether a parameter is of the profile, whose parameters come first.
+#[inline(always)]
+#[tactic(auto, unfolding(crate::specs::Schema::profile_of, crate::specs::Schema::rule_of, crate::specs::Schema::param_rule))]
+fn parameter_profile(kind: ParamKind) -> Profile
+    ensures { result ≡ profile_of (Kind.Parameter kind) }
+{
+    let index = kind as usize;
+    if index < 54 {
+        Profile::Own
+    } else {
+        Profile::Whole
     }
 }
 

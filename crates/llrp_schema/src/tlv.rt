@@ -1,9 +1,10 @@
 //! The rows of the parameters with type, length and value (LLRP 1.1, section 17.2).
 
-use crate::kinds::{Definition, Field, Group, ParamKind, Tail};
+use crate::kinds::{Definition, Field, Group, ParamKind, Profile, Tail};
 use crate::rows::{any_number, at_most_one, field, one, one_or_more, reserved};
 
 pub static UTC_TIMESTAMP: Definition = Definition {
+    profile: Profile::Own,
     number: 128,
     name: "UTCTimestamp",
     fields: &[field!("Microseconds", 64)],
@@ -12,6 +13,7 @@ pub static UTC_TIMESTAMP: Definition = Definition {
 };
 
 pub static UPTIME: Definition = Definition {
+    profile: Profile::Own,
     number: 129,
     name: "Uptime",
     fields: &[field!("Microseconds", 64)],
@@ -20,6 +22,7 @@ pub static UPTIME: Definition = Definition {
 };
 
 pub static RO_SPEC: Definition = Definition {
+    profile: Profile::Own,
     number: 177,
     name: "ROSpec",
     fields: &[
@@ -36,6 +39,7 @@ pub static RO_SPEC: Definition = Definition {
 };
 
 pub static RO_BOUNDARY_SPEC: Definition = Definition {
+    profile: Profile::Own,
     number: 178,
     name: "ROBoundarySpec",
     fields: &[],
@@ -44,6 +48,7 @@ pub static RO_BOUNDARY_SPEC: Definition = Definition {
 };
 
 pub static RO_SPEC_START_TRIGGER: Definition = Definition {
+    profile: Profile::Own,
     number: 179,
     name: "ROSpecStartTrigger",
     fields: &[field!("Type", 8, 3)],
@@ -55,6 +60,7 @@ pub static RO_SPEC_START_TRIGGER: Definition = Definition {
 };
 
 pub static PERIODIC_TRIGGER_VALUE: Definition = Definition {
+    profile: Profile::Own,
     number: 180,
     name: "PeriodicTriggerValue",
     fields: &[field!("Offset", 32), field!("Period", 32)],
@@ -63,6 +69,7 @@ pub static PERIODIC_TRIGGER_VALUE: Definition = Definition {
 };
 
 pub static GPI_TRIGGER_VALUE: Definition = Definition {
+    profile: Profile::Own,
     number: 181,
     name: "GPITriggerValue",
     fields: &[
@@ -76,6 +83,7 @@ pub static GPI_TRIGGER_VALUE: Definition = Definition {
 };
 
 pub static RO_SPEC_STOP_TRIGGER: Definition = Definition {
+    profile: Profile::Own,
     number: 182,
     name: "ROSpecStopTrigger",
     fields: &[field!("Type", 8, 2), field!("Duration", 32)],
@@ -84,6 +92,7 @@ pub static RO_SPEC_STOP_TRIGGER: Definition = Definition {
 };
 
 pub static AI_SPEC: Definition = Definition {
+    profile: Profile::Own,
     number: 183,
     name: "AISpec",
     fields: &[],
@@ -95,6 +104,7 @@ pub static AI_SPEC: Definition = Definition {
 };
 
 pub static AI_SPEC_STOP_TRIGGER: Definition = Definition {
+    profile: Profile::Own,
     number: 184,
     name: "AISpecStopTrigger",
     fields: &[field!("Type", 8, 3), field!("Duration", 32)],
@@ -106,6 +116,7 @@ pub static AI_SPEC_STOP_TRIGGER: Definition = Definition {
 };
 
 pub static TAG_OBSERVATION_TRIGGER: Definition = Definition {
+    profile: Profile::Own,
     number: 185,
     name: "TagObservationTrigger",
     fields: &[
@@ -121,6 +132,7 @@ pub static TAG_OBSERVATION_TRIGGER: Definition = Definition {
 };
 
 pub static INVENTORY_PARAMETER_SPEC: Definition = Definition {
+    profile: Profile::Own,
     number: 186,
     name: "InventoryParameterSpec",
     fields: &[field!("ID", 16), field!("ProtocolID", 8)],
@@ -129,6 +141,7 @@ pub static INVENTORY_PARAMETER_SPEC: Definition = Definition {
 };
 
 pub static KEEPALIVE_SPEC: Definition = Definition {
+    profile: Profile::Own,
     number: 220,
     name: "KeepaliveSpec",
     fields: &[field!("Type", 8, 1), field!("Period", 32)],
@@ -137,6 +150,7 @@ pub static KEEPALIVE_SPEC: Definition = Definition {
 };
 
 pub static ANTENNA_CONFIGURATION: Definition = Definition {
+    profile: Profile::Own,
     number: 222,
     name: "AntennaConfiguration",
     fields: &[field!("AntennaID", 16)],
@@ -149,6 +163,7 @@ pub static ANTENNA_CONFIGURATION: Definition = Definition {
 };
 
 pub static RF_RECEIVER: Definition = Definition {
+    profile: Profile::Own,
     number: 223,
     name: "RFReceiver",
     fields: &[field!("Sensitivity", 16)],
@@ -157,6 +172,7 @@ pub static RF_RECEIVER: Definition = Definition {
 };
 
 pub static RF_TRANSMITTER: Definition = Definition {
+    profile: Profile::Own,
     number: 224,
     name: "RFTransmitter",
     fields: &[
@@ -169,6 +185,7 @@ pub static RF_TRANSMITTER: Definition = Definition {
 };
 
 pub static EVENTS_AND_REPORTS: Definition = Definition {
+    profile: Profile::Own,
     number: 226,
     name: "EventsAndReports",
     fields: &[field!("Hold", 1), reserved!(7)],
@@ -177,6 +194,7 @@ pub static EVENTS_AND_REPORTS: Definition = Definition {
 };
 
 pub static RO_REPORT_SPEC: Definition = Definition {
+    profile: Profile::Own,
     number: 237,
     name: "ROReportSpec",
     fields: &[field!("Trigger", 8), field!("N", 16)],
@@ -185,6 +203,7 @@ pub static RO_REPORT_SPEC: Definition = Definition {
 };
 
 pub static TAG_REPORT_CONTENT_SELECTOR: Definition = Definition {
+    profile: Profile::Own,
     number: 238,
     name: "TagReportContentSelector",
     fields: &[
@@ -205,6 +224,7 @@ pub static TAG_REPORT_CONTENT_SELECTOR: Definition = Definition {
 };
 
 pub static TAG_REPORT_DATA: Definition = Definition {
+    profile: Profile::Own,
     number: 240,
     name: "TagReportData",
     fields: &[],
@@ -229,6 +249,7 @@ pub static TAG_REPORT_DATA: Definition = Definition {
 };
 
 pub static EPC_DATA: Definition = Definition {
+    profile: Profile::Own,
     number: 241,
     name: "EPCData",
     fields: &[field!("BitCount", 16)],
@@ -237,6 +258,7 @@ pub static EPC_DATA: Definition = Definition {
 };
 
 pub static READER_EVENT_NOTIFICATION_SPEC: Definition = Definition {
+    profile: Profile::Own,
     number: 244,
     name: "ReaderEventNotificationSpec",
     fields: &[],
@@ -245,6 +267,7 @@ pub static READER_EVENT_NOTIFICATION_SPEC: Definition = Definition {
 };
 
 pub static EVENT_NOTIFICATION_STATE: Definition = Definition {
+    profile: Profile::Own,
     number: 245,
     name: "EventNotificationState",
     fields: &[field!("EventType", 16), field!("State", 1), reserved!(7)],
@@ -253,6 +276,7 @@ pub static EVENT_NOTIFICATION_STATE: Definition = Definition {
 };
 
 pub static READER_EVENT_NOTIFICATION_DATA: Definition = Definition {
+    profile: Profile::Own,
     number: 246,
     name: "ReaderEventNotificationData",
     fields: &[],
@@ -271,6 +295,7 @@ pub static READER_EVENT_NOTIFICATION_DATA: Definition = Definition {
 };
 
 pub static GPI_EVENT: Definition = Definition {
+    profile: Profile::Own,
     number: 248,
     name: "GPIEvent",
     fields: &[field!("Port", 16), field!("Event", 1), reserved!(7)],
@@ -279,6 +304,7 @@ pub static GPI_EVENT: Definition = Definition {
 };
 
 pub static RO_SPEC_EVENT: Definition = Definition {
+    profile: Profile::Own,
     number: 249,
     name: "ROSpecEvent",
     fields: &[
@@ -291,6 +317,7 @@ pub static RO_SPEC_EVENT: Definition = Definition {
 };
 
 pub static REPORT_BUFFER_LEVEL_WARNING_EVENT: Definition = Definition {
+    profile: Profile::Own,
     number: 250,
     name: "ReportBufferLevelWarningEvent",
     fields: &[field!("Percent", 8)],
@@ -299,6 +326,7 @@ pub static REPORT_BUFFER_LEVEL_WARNING_EVENT: Definition = Definition {
 };
 
 pub static REPORT_BUFFER_OVERFLOW_ERROR_EVENT: Definition = Definition {
+    profile: Profile::Own,
     number: 251,
     name: "ReportBufferOverflowErrorEvent",
     fields: &[],
@@ -307,6 +335,7 @@ pub static REPORT_BUFFER_OVERFLOW_ERROR_EVENT: Definition = Definition {
 };
 
 pub static AI_SPEC_EVENT: Definition = Definition {
+    profile: Profile::Own,
     number: 254,
     name: "AISpecEvent",
     fields: &[
@@ -319,6 +348,7 @@ pub static AI_SPEC_EVENT: Definition = Definition {
 };
 
 pub static ANTENNA_EVENT: Definition = Definition {
+    profile: Profile::Own,
     number: 255,
     name: "AntennaEvent",
     fields: &[field!("Type", 8), field!("AntennaID", 16)],
@@ -327,6 +357,7 @@ pub static ANTENNA_EVENT: Definition = Definition {
 };
 
 pub static CONNECTION_ATTEMPT_EVENT: Definition = Definition {
+    profile: Profile::Own,
     number: 256,
     name: "ConnectionAttemptEvent",
     fields: &[field!("Status", 16, 4)],
@@ -335,6 +366,7 @@ pub static CONNECTION_ATTEMPT_EVENT: Definition = Definition {
 };
 
 pub static CONNECTION_CLOSE_EVENT: Definition = Definition {
+    profile: Profile::Own,
     number: 257,
     name: "ConnectionCloseEvent",
     fields: &[],
@@ -343,6 +375,7 @@ pub static CONNECTION_CLOSE_EVENT: Definition = Definition {
 };
 
 pub static LLRP_STATUS: Definition = Definition {
+    profile: Profile::Own,
     number: 287,
     name: "LLRPStatus",
     fields: &[field!("StatusCode", 16)],
@@ -351,6 +384,7 @@ pub static LLRP_STATUS: Definition = Definition {
 };
 
 pub static FIELD_ERROR: Definition = Definition {
+    profile: Profile::Own,
     number: 288,
     name: "FieldError",
     fields: &[field!("FieldNumber", 16), field!("ErrorCode", 16)],
@@ -359,6 +393,7 @@ pub static FIELD_ERROR: Definition = Definition {
 };
 
 pub static PARAMETER_ERROR: Definition = Definition {
+    profile: Profile::Own,
     number: 289,
     name: "ParameterError",
     fields: &[field!("ParameterType", 16), field!("ErrorCode", 16)],
@@ -367,6 +402,7 @@ pub static PARAMETER_ERROR: Definition = Definition {
 };
 
 pub static C1G2_INVENTORY_COMMAND: Definition = Definition {
+    profile: Profile::Own,
     number: 330,
     name: "C1G2InventoryCommand",
     fields: &[field!("StateAware", 1), reserved!(7)],
@@ -378,6 +414,7 @@ pub static C1G2_INVENTORY_COMMAND: Definition = Definition {
 };
 
 pub static C1G2_RF_CONTROL: Definition = Definition {
+    profile: Profile::Own,
     number: 335,
     name: "C1G2RFControl",
     fields: &[field!("ModeIndex", 16), field!("Tari", 16)],
@@ -386,6 +423,7 @@ pub static C1G2_RF_CONTROL: Definition = Definition {
 };
 
 pub static C1G2_SINGULATION_CONTROL: Definition = Definition {
+    profile: Profile::Own,
     number: 336,
     name: "C1G2SingulationControl",
     fields: &[
@@ -399,6 +437,7 @@ pub static C1G2_SINGULATION_CONTROL: Definition = Definition {
 };
 
 pub static C1G2_EPC_MEMORY_SELECTOR: Definition = Definition {
+    profile: Profile::Own,
     number: 348,
     name: "C1G2EPCMemorySelector",
     fields: &[field!("Selector", 8)],

@@ -6,7 +6,7 @@ use Rattle.llrp_schema.specs.declared.kinds.MsgKind.TheVariants as kinds
 use Rattle.llrp_schema.specs.declared.kinds.ParamKind.{ParamKind}
 use Rattle.llrp_schema.specs.declared.kinds.ParamKind.TheVariants.{RoSpec}
 use Rattle.llrp_schema.specs.declared.kinds.Kind.TheVariants.{Message, Parameter}
-use Rattle.llrp_schema.specs.Schema.{GroupRule, one, number_of, rule_of, message_rule, groups_of, fields_of, plain_fields_of}
+use Rattle.llrp_schema.specs.Schema.{GroupRule, one, number_of, rule_of, message_rule, groups_of, fields_of, plain_fields_of, key_of, profile_of}
 use Rattle.llrp_tree.specs.Tree.{Forest, none, and, Tree, MessageTree, trees}
 use Rattle.llrp_tree.specs.Lawful.{is_member, count, ArePlaced, NoneTooMany, NoneMissing, IsLawfulMessage}
 use Rattle.llrp_tree.proofs.LawLemmas.{range_length, same_number}
@@ -38,7 +38,7 @@ nothing [] h = refl
 nothing (t ∷ ts) h = absurd (omega arith)
 
 only_in : (f : Forest) → ArePlaced (groups_of (Message kinds.AddRoSpec)) f → NoneTooMany (groups_of (Message kinds.AddRoSpec)) f → NoneMissing (groups_of (Message kinds.AddRoSpec)) f → Only RoSpec f
-unfolding ArePlaced NoneTooMany NoneMissing count groups_of rule_of message_rule number_of
+unfolding ArePlaced NoneTooMany NoneMissing count groups_of rule_of message_rule number_of key_of profile_of
 only_in none p m l = absurd (omega (arith, l.0))
 only_in (and before kind fields tail children) p m l =
     let t : Tree = record { kind = kind; fields = fields; tail = tail; children = children } in
@@ -66,7 +66,7 @@ adds _ fields row rospec e = absurd cc
 
 found : (row : Forest) (t rospec : Tree) → trees row ≡ t ∷ [] → t.kind ≡ RoSpec → adding (first_in RoSpec row) ≡ AddRoSpec rospec → rospec ≡ t
 found row t rospec only k e =
-    let is : is_kind RoSpec t ≡ true = same_number (number_of (Parameter RoSpec)) (number_of (Parameter t.kind)) (ap (λ (x : ParamKind). number_of (Parameter x)) (sym k)) in
+    let is : is_kind RoSpec t ≡ true = same_number (key_of RoSpec) (key_of t.kind) (ap key_of (sym k)) in
     let first : first_in RoSpec row ≡ Some t = ap (find (is_kind RoSpec)) only ∙ ap (λ (b : Bool). cond b (Some t) None) is in
     let here : AddRoSpec t ≡ AddRoSpec rospec = sym (ap adding first) ∙ e in cc
 

@@ -3,8 +3,8 @@ use Rattle.std.proofs.Common.{◌≡◌, ℕ, zero, suc, ◌≤◌, List, [], �
 use Rattle.std.proofs.lemmas.Bool.{eqb-true}
 use Rattle.llrp_schema.specs.declared.kinds.ParamKind.{ParamKind}
 use Rattle.llrp_schema.specs.declared.kinds.Kind.TheVariants.{Parameter}
-use Rattle.llrp_schema.specs.Schema.{FieldRule, plain_fields_of, number_of}
-use Rattle.llrp_schema.proofs.TableLaws.{param_numbers}
+use Rattle.llrp_schema.specs.Schema.{FieldRule, plain_fields_of, key_of}
+use Rattle.llrp_schema.proofs.TableLaws.{param_keys}
 use Rattle.llrp_tree.specs.Tree.{Tree}
 use Rattle.llrp_tree.specs.Lawful.{AreInRange, IsLawful}
 use Rattle.llrp_session.specs.RoSpec.{is_kind}
@@ -23,4 +23,4 @@ field_within kind t i e h = subst (λ (k : ParamKind). get_or t.fields i 0 ≤ g
 
 -- a parameter that passes the test is of the kind
 pub kind_of_test : (kind : ParamKind) (t : Tree) → is_kind kind t ≡ true → t.kind ≡ kind
-kind_of_test kind t e = sym (param_numbers kind t.kind (eqb-true (number_of (Parameter kind)) (number_of (Parameter t.kind)) e))
+kind_of_test kind t e = sym (param_keys kind t.kind (eqb-true (key_of kind) (key_of t.kind) e))

@@ -5,8 +5,8 @@ use Rattle.std.proofs.lemmas.Bool.{eqb-true}
 use Rattle.llrp_schema.specs.declared.kinds.ParamKind.{ParamKind}
 use Rattle.llrp_schema.specs.declared.kinds.ParamKind.TheVariants.{RoSpec as RoSpecKind, AiSpec, InventoryParameterSpec}
 use Rattle.llrp_schema.specs.declared.kinds.Kind.TheVariants.{Parameter}
-use Rattle.llrp_schema.specs.Schema.{FieldRule, rule_of, param_rule, fields_of, plain_fields_of, number_of}
-use Rattle.llrp_schema.proofs.TableLaws.{param_numbers}
+use Rattle.llrp_schema.specs.Schema.{FieldRule, rule_of, param_rule, fields_of, plain_fields_of, key_of}
+use Rattle.llrp_schema.proofs.TableLaws.{param_keys}
 use Rattle.llrp_tree.specs.Tree.{Forest, none, and, Tree, trees}
 use Rattle.llrp_tree.specs.Lawful.{AreInRange, AllLawful, IsLawful}
 use Rattle.llrp_session.specs.RoSpec.{is_kind, first_in, first_below, field, rospec_of}
@@ -44,7 +44,7 @@ found-find : (kind : ParamKind) (ts : List Tree) → AllAreLawful ts → IsFound
 found-find kind [] h = tt
 found-find kind (t ∷ ts) h =
     elim (is_kind kind t) as (λ b. is_kind kind t ≡ b → IsFound kind (cond b (Some t) (find (is_kind kind) ts))) [
-      | true ↦ λ e. (sym (param_numbers kind t.kind (eqb-true (number_of (Parameter kind)) (number_of (Parameter t.kind)) e)), h.0)
+      | true ↦ λ e. (sym (param_keys kind t.kind (eqb-true (key_of kind) (key_of t.kind) e)), h.0)
       | false ↦ λ e. found-find kind ts h.1
     ] refl
 

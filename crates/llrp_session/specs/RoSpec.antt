@@ -3,8 +3,7 @@ use Rattle.std.specs.Prelude.{ℕ, ◌==◌, Bool, not, List, [], filter, find, 
 use Rattle.std.specs.List.{list_any}
 use Rattle.llrp_schema.specs.declared.kinds.ParamKind.{ParamKind}
 use Rattle.llrp_schema.specs.declared.kinds.ParamKind.TheVariants.{RoBoundarySpec, RoSpecStartTrigger, RoSpecStopTrigger, AiSpec, AiSpecStopTrigger, InventoryParameterSpec, RoReportSpec, TagReportContentSelector}
-use Rattle.llrp_schema.specs.declared.kinds.Kind.TheVariants.{Parameter}
-use Rattle.llrp_schema.specs.Schema.{number_of}
+use Rattle.llrp_schema.specs.Schema.{key_of}
 use Rattle.llrp_tree.specs.Tree.{Tree, Forest, trees, words_of}
 use Rattle.llrp_tree.specs.Lawful.{tree_octets}
 pub use Rattle.llrp_session.specs.declared.words.ContentSelector.{ContentSelector}
@@ -13,7 +12,7 @@ pub use Rattle.llrp_session.specs.declared.words.ReportSpec.{ReportSpec}
 -- ---- the parts of a parameter
 
 abbrev pub is_kind : ParamKind → Tree → Bool
-is_kind kind t = number_of (Parameter kind) == number_of (Parameter t.kind)
+is_kind kind t = key_of kind == key_of t.kind
 
 -- among parameters in a row, those of a kind, in their order
 abbrev pub all_in : ParamKind → Forest → List Tree

@@ -5,7 +5,7 @@ use Rattle.std.proofs.lemmas.Bool.{leb-true}
 use Rattle.tag_bits.specs.Digits.{digits_of_bytes}
 use Rattle.tag_bits.proofs.ByteLemmas.{length-bytes}
 use Rattle.llrp_schema.specs.declared.kinds.Kind.{Kind}
-use Rattle.llrp_schema.specs.Schema.{FieldRule, fields_of, rule_of, message_rule, param_rule, message_kinds, param_kinds}
+use Rattle.llrp_schema.specs.Schema.{FieldRule, fields_of, rule_of, message_rule, param_rule, message_kinds, param_kinds, whole_message_kinds, whole_param_kinds}
 use Rattle.llrp_schema.proofs.TableLaws.{every_rule}
 use Rattle.llrp_tree.specs.declared.TheConstants.{MAX_LIMIT}
 use Rattle.llrp_tree.specs.OpenTree.{Begun, kind_of, covers, AreLeading, IsOpenTree}
@@ -19,8 +19,8 @@ use Rattle.llrp_stream.specs.Front.{Reaches}
 use Rattle.llrp_stream.specs.Reading.{Reads, bit_of, settled, IsAtStage, IsLeading}
 
 pub few_fields : (kind : Kind) → length (fields_of kind) ≤ 16
-unfolding fields_of rule_of message_rule param_rule message_kinds param_kinds
-few_fields kind = leb-true (length (fields_of kind)) 16 (every_rule (λ row. nat_le (length row.fields) 16) refl refl kind)
+unfolding fields_of rule_of message_rule param_rule message_kinds param_kinds whole_message_kinds whole_param_kinds
+few_fields kind = leb-true (length (fields_of kind)) 16 (every_rule (λ row. nat_le (length row.fields) 16) (refl, refl) (refl, refl) kind)
 
 pub covered_length : (front : List ℕ) (n : ℕ) (t : List Begun) (at : ℕ) → Reaches front n t at → length (covers t) ≡ at
 covered_length front n t at r = length_covered (covers t) at (digits_of_bytes front) r.covered (let l = length-bytes front in omega (arith, r.within))

@@ -5,13 +5,14 @@ use Rattle.std.proofs.lemmas.List.{reverse-append, length-reverse}
 use Rattle.tag_bits.specs.Digits.{digits_of_bytes}
 use Rattle.llrp_schema.specs.declared.kinds.Kind.{Kind}
 use Rattle.llrp_schema.specs.declared.kinds.ParamKind.{ParamKind}
-use Rattle.llrp_schema.specs.Schema.{groups_of, is_tv}
+use Rattle.llrp_schema.specs.declared.kinds.Profile.TheVariants.{Own}
+use Rattle.llrp_schema.specs.Schema.{profile_of, groups_of, is_tv}
 use Rattle.llrp_tree.specs.declared.fault.FrameErr.{FrameErr}
 use Rattle.llrp_tree.specs.declared.fault.FrameErr.TheVariants.{Bad}
 use Rattle.llrp_tree.specs.declared.fault.Reason.TheVariants.{Missing}
 use Rattle.llrp_tree.specs.Tree.{Forest}
 use Rattle.llrp_tree.specs.Spelling.{Head, message, tlv, tv}
-use Rattle.llrp_tree.specs.OpenTree.{Begun, kind_of, groups, due, Rest, is_enough, IsHead, IsOpenTree}
+use Rattle.llrp_tree.specs.OpenTree.{root_of, Begun, kind_of, groups, due, Rest, is_enough, IsHead, IsOpenTree}
 use Rattle.llrp_tree.specs.FirstFault.{first_digit, has_none, tv_kind, first_failing, checks, Close, is_over}
 use Rattle.llrp_tree.specs.Standing.{Stands, Closes, begun, leading, Tells, KindPasses, TlvPasses, is_tv_kind}
 use Rattle.llrp_tree.proofs.Steps.{closed}
@@ -27,7 +28,7 @@ use Rattle.llrp_stream.specs.declared.reading.reader.Stage.TheVariants.{Children
 use Rattle.llrp_stream.specs.Front.{Reaches, TellsAll}
 use Rattle.llrp_stream.specs.Told.{with_child}
 use Rattle.llrp_stream.specs.Reading.{Reads, IsAtStage, IsResting, IsLevel, AreLevels, HeadFails, with_begun}
-use Rattle.llrp_stream.proofs.Reached.{stands_in, reaches_in, seen}
+use Rattle.llrp_stream.proofs.Reached.{own_tells, stands_in, reaches_in, seen}
 use Rattle.std.proofs.lemmas.Bool.{lt-leb}
 use Rattle.llrp_stream.specs.Front.{IsUndecided}
 use Rattle.llrp_stream.proofs.WaitLemmas.{child_waits}
@@ -110,17 +111,17 @@ module _ (r : Reader) (front : List ℕ) (b : Begun) (outer : List Begun) (rd : 
     before_stop : 8 * r.at < b.stop
     before_stop = omega (arith, rd.level.stop)
 
-    pub head_tells : (e : FrameErr) → ((later : List Bool) → HeadFails (groups_of r.top.kind) b.children (length outer + 1) (8 * r.at) (8 * r.top.stop) (digits_of_bytes octets ++ later) e) → TellsAll front r.octets e
+    pub head_tells : (e : FrameErr) → ((later : List Bool) → HeadFails (profile_of r.top.kind) (groups_of r.top.kind) b.children (length outer + 1) (8 * r.at) (8 * r.top.stop) (digits_of_bytes octets ++ later) e) → TellsAll front r.octets e
     head_tells e f = λ more long_is.
         let ds : List Bool = digits_of_bytes (front ++ more) in
-        let P : ℕ → List Bool → Type 0 = λ n rest. HeadFails (groups_of r.top.kind) b.children (length outer + 1) (8 * r.at) n rest e in
+        let P : ℕ → List Bool → Type 0 = λ n rest. HeadFails (profile_of r.top.kind) (groups_of r.top.kind) b.children (length outer + 1) (8 * r.at) n rest e in
         let g : P b.stop (drop (8 * r.at) ds) = subst (λ (n : ℕ). P n (drop (8 * r.at) ds)) (sym rd.level.stop) (subst (λ (x : List Bool). P (8 * r.top.stop) x) (sym (here more)) (f (digits_of_bytes more))) in
         let st = stands_now more long_is in
         elim g [
-          | inl x ↦ extra_tells ds b.head b.stop b.fields b.tail b.children outer (8 * r.at) r.top.kind (length outer) rd.level.kind refl resting.ready st before_stop long e x.0 x.1
+          | inl x ↦ own_tells b.head outer ds e resting.reaches.root (extra_tells ds b.head b.stop b.fields b.tail b.children outer (8 * r.at) r.top.kind (length outer) rd.level.kind refl resting.ready st before_stop long e x.0 x.1)
           | inr y ↦ elim y [
-            | inl x ↦ tv_tells ds b.head b.stop b.fields b.tail b.children outer (8 * r.at) r.top.kind (length outer) rd.level.kind refl resting.ready st before_stop long e x.0 x.1 x.2
-            | inr x ↦ tlv_tells ds b.head b.stop b.fields b.tail b.children outer (8 * r.at) r.top.kind (length outer) rd.level.kind refl resting.ready st before_stop long e x.0 x.1 x.2
+            | inl x ↦ own_tells b.head outer ds e resting.reaches.root (tv_tells ds b.head b.stop b.fields b.tail b.children outer (8 * r.at) r.top.kind (length outer) rd.level.kind refl resting.ready st before_stop long e x.0 x.1 x.2)
+            | inr x ↦ own_tells b.head outer ds e resting.reaches.root (tlv_tells ds b.head b.stop b.fields b.tail b.children outer (8 * r.at) r.top.kind (length outer) rd.level.kind refl resting.ready st before_stop long e x.0 x.1 x.2)
           ]
         ]
 
@@ -139,21 +140,21 @@ module _ (r : Reader) (front : List ℕ) (b : Begun) (outer : List Begun) (rd : 
           | inr w ↦ inr (ap first_digit (here more) ∙ w.0, omega (arith, w.1, rd.level.stop))
         ])
 
-    pub short_reaches : (k : ParamKind) → 1 ≤ length octets → ((later : List Bool) → (first_digit (digits_of_bytes octets ++ later) ≡ true) × KindPasses (tv_kind (digits_of_bytes octets ++ later)) (groups_of r.top.kind) b.children (length outer + 1) k)
+    pub short_reaches : (k : ParamKind) → 1 ≤ length octets → ((later : List Bool) → (first_digit (digits_of_bytes octets ++ later) ≡ true) × KindPasses (tv_kind (profile_of r.top.kind) (digits_of_bytes octets ++ later)) (groups_of r.top.kind) b.children (length outer + 1) k)
         → Reaches front r.octets (leading (tv k) b.stop [] ∷ b ∷ outer) (8 * r.at + 8)
     short_reaches k one f =
-        reaches_in front r.octets (leading (tv k) b.stop [] ∷ b ∷ outer) (8 * r.at + 8) resting.reaches.fits (let z = room_of in omega (arith, rd.before)) (λ more long_is.
+        reaches_in front r.octets (leading (tv k) b.stop [] ∷ b ∷ outer) (8 * r.at + 8) resting.reaches.fits (let z = room_of in omega (arith, rd.before)) resting.reaches.root (λ more long_is.
         let ds : List Bool = digits_of_bytes (front ++ more) in
-        let P : List Bool → Type 0 = λ rest. (first_digit rest ≡ true) × KindPasses (tv_kind rest) (groups_of r.top.kind) b.children (length outer + 1) k in
+        let P : List Bool → Type 0 = λ rest. (first_digit rest ≡ true) × KindPasses (tv_kind (profile_of r.top.kind) rest) (groups_of r.top.kind) b.children (length outer + 1) k in
         let g : P (drop (8 * r.at) ds) = subst P (sym (here more)) (f (digits_of_bytes more)) in
         tv_begun ds b.head b.stop b.fields b.tail b.children outer (8 * r.at) r.top.kind (length outer) rd.level.kind refl resting.ready (stands_now more long_is) before_stop long k g.0 g.1)
 
-    pub long_reaches : (k : ParamKind) (n : ℕ) → 4 ≤ length octets → ((later : List Bool) → TlvPasses (groups_of r.top.kind) b.children (length outer + 1) (8 * r.at) (8 * r.top.stop) (digits_of_bytes octets ++ later) k n)
+    pub long_reaches : (k : ParamKind) (n : ℕ) → 4 ≤ length octets → ((later : List Bool) → TlvPasses (profile_of r.top.kind) (groups_of r.top.kind) b.children (length outer + 1) (8 * r.at) (8 * r.top.stop) (digits_of_bytes octets ++ later) k n)
         → Reaches front r.octets (leading (tlv k n) (8 * r.at + 8 * n) [] ∷ b ∷ outer) (8 * r.at + 32)
     long_reaches k n four f =
-        reaches_in front r.octets (leading (tlv k n) (8 * r.at + 8 * n) [] ∷ b ∷ outer) (8 * r.at + 32) resting.reaches.fits (let z = room_of in omega (arith, rd.before)) (λ more long_is.
+        reaches_in front r.octets (leading (tlv k n) (8 * r.at + 8 * n) [] ∷ b ∷ outer) (8 * r.at + 32) resting.reaches.fits (let z = room_of in omega (arith, rd.before)) resting.reaches.root (λ more long_is.
         let ds : List Bool = digits_of_bytes (front ++ more) in
-        let P : ℕ → List Bool → Type 0 = λ m rest. TlvPasses (groups_of r.top.kind) b.children (length outer + 1) (8 * r.at) m rest k n in
+        let P : ℕ → List Bool → Type 0 = λ m rest. TlvPasses (profile_of r.top.kind) (groups_of r.top.kind) b.children (length outer + 1) (8 * r.at) m rest k n in
         let g : P b.stop (drop (8 * r.at) ds) = subst (λ (m : ℕ). P m (drop (8 * r.at) ds)) (sym rd.level.stop) (subst (λ (x : List Bool). P (8 * r.top.stop) x) (sym (here more)) (f (digits_of_bytes more))) in
         tlv_begun ds b.head b.stop b.fields b.tail b.children outer (8 * r.at) r.top.kind (length outer) rd.level.kind refl resting.ready (stands_now more long_is) before_stop long k n g)
 
@@ -170,12 +171,12 @@ module _ (r : Reader) (front : List ℕ) (b : Begun) (outer : List Begun) (rd : 
     missing_tell e few told = λ more long_is.
         let ds : List Bool = digits_of_bytes (front ++ more) in
         let is : e ≡ Bad (record { bit = b.stop; reason = Missing }) = told ∙ ap (λ (n : ℕ). Bad (record { bit = n; reason = Missing })) (sym rd.level.stop) in
-        subst (Tells ds) (sym is) (fault_is ds b outer (8 * r.at) Close b.stop Missing (stands_now more long_is) (closing_turn b (8 * r.at) (drop (8 * r.at) ds) resting.ready over_is) (missing_first b (length (b ∷ outer)) (8 * r.at) (drop (8 * r.at) ds) few))
+        subst (Tells Own ds) (sym is) (own_tells b.head outer ds (Bad (record { bit = b.stop; reason = Missing })) resting.reaches.root (fault_is ds b outer (8 * r.at) Close b.stop Missing (stands_now more long_is) (closing_turn b (8 * r.at) (drop (8 * r.at) ds) resting.ready over_is) (missing_first b (length (b ∷ outer)) (8 * r.at) (drop (8 * r.at) ds) few)))
 
     pub closed_reaches : (p : Begun) (os : List Begun) → outer ≡ p ∷ os → is_enough (groups b) b.children ≡ true
         → Reaches front r.octets (begun p.head p.stop p.fields p.tail (with_child p.children b.head b.fields b.tail b.children) ∷ os) (8 * r.at)
     closed_reaches p os e enough =
-        reaches_in front r.octets (begun p.head p.stop p.fields p.tail (with_child p.children b.head b.fields b.tail b.children) ∷ os) (8 * r.at) resting.reaches.fits (omega (arith, rd.before)) (λ more long_is.
+        reaches_in front r.octets (begun p.head p.stop p.fields p.tail (with_child p.children b.head b.fields b.tail b.children) ∷ os) (8 * r.at) resting.reaches.fits (omega (arith, rd.before)) (subst (λ (x : List Begun). root_of b.head x ≡ Own) e resting.reaches.root) (λ more long_is.
         let ds : List Bool = digits_of_bytes (front ++ more) in
         let c : Closes ds b (p ∷ os) (8 * r.at) = record { stands = subst (λ (x : List Begun). Stands ds (b ∷ x) (8 * r.at)) e (stands_now more long_is); ready = resting.ready; over = over_is; enough = enough } in
         subst (λ (x : Forest). Stands ds (begun p.head p.stop p.fields p.tail x ∷ os) (8 * r.at)) (with_child_is p.children b.head b.fields b.tail b.children)

@@ -6,6 +6,7 @@ use Rattle.llrp_tree.specs.declared.TheConstants.{MAX_LIMIT}
 use Rattle.llrp_tree.specs.Tree.{MessageTree}
 use Rattle.llrp_tree.specs.OpenTree.{Begun}
 use Rattle.llrp_tree.specs.Weight.{open_weight}
+use Rattle.llrp_schema.specs.declared.kinds.Profile.TheVariants.{Own}
 use Rattle.llrp_tree.proofs.Undecided.{fails_after_header}
 use Rattle.llrp_stream.specs.declared.item.FeedErr.{FeedErr}
 use Rattle.llrp_stream.specs.declared.item.FeedErr.TheVariants as failure
@@ -214,7 +215,7 @@ held_limit frames b k = elim k.comes [
 
 pub held_decided : (limit : ℕ) (s : State) (body : Body) (b : Building) (front : List ℕ) → ComesAt (HasOpen b) (HasOpen b) limit s body front → IsDecided limit front → raw_octets (kept s body b) + kept_weight (kept s body b) ≡ 0
 held_decided limit state.Between body b front k d = refl
-held_decided limit state.Header body b front k d = absurd (let ten = fails_after_header limit (front ++ d.0) (length front) d.2 in omega (arith, k.2))
+held_decided limit state.Header body b front k d = absurd (let ten = fails_after_header Own limit (front ++ d.0) (length front) d.2 in omega (arith, k.2))
 held_decided limit (state.Reading id) body b front k d = absurd (undecided_reading (HasOpen b) (HasOpen b) limit id body front d.0 k d.1 d.2)
 held_decided limit (state.Skipping count header) body b front k d = refl
 held_decided limit state.Broken body b front k d = refl

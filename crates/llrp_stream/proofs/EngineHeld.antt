@@ -5,6 +5,7 @@ use Rattle.tag_bits.specs.Digits.{digits_of_bytes}
 use Rattle.llrp_tree.specs.OpenTree.{Begun, kind_of}
 use Rattle.llrp_tree.specs.Deciding.{deciding, FailsIn}
 use Rattle.llrp_tree.specs.Weight.{open_weight}
+use Rattle.llrp_schema.specs.declared.kinds.Profile.TheVariants.{Own}
 use Rattle.llrp_tree.proofs.Undecided.{undecided_until, fails_after_header}
 use Rattle.llrp_stream.specs.declared.reading.body.Body.{Body}
 use Rattle.llrp_stream.specs.declared.reading.reader.Stage.{Stage}
@@ -52,7 +53,7 @@ module _ (begins stands : List Begun → Type 0) where
         few = st.few;
       }
 
-  pub undecided_reading : (limit id : ℕ) (body : Body) (front more : List ℕ) → IsReading begins stands limit id body front → IsFrame (front ++ more) → FailsIn limit (front ++ more) (length front) → ⊥
+  pub undecided_reading : (limit id : ℕ) (body : Body) (front more : List ℕ) → IsReading begins stands limit id body front → IsFrame (front ++ more) → FailsIn Own limit (front ++ more) (length front) → ⊥
   unfolding header_fault
   undecided_reading limit id body front more r is f =
       let are = r.awaits.stands_for.are in
@@ -63,7 +64,7 @@ module _ (begins stands : List Begun → Type 0) where
       let st = stands_in front more body.reader.octets t reach.0 reach.1 long in
       let P : ℕ → Type 0 = λ k. 8 * length front < deciding t (drop k (digits_of_bytes (front ++ more))) in
       let lt : P reach.0 = subst P (covered_length front body.reader.octets t reach.0 reach.1) (r.awaits.short.undecided more long) in
-      undecided_until limit (front ++ more) (length front) t reach.0 st (header_fault-append limit front more r.passed.long ∙ r.passed.passes) lt f
+      undecided_until Own limit (front ++ more) (length front) t reach.0 st reach.1.root (header_fault-append limit front more r.passed.long ∙ r.passed.passes) lt f
 
   pub held_front : (limit : ℕ) (s : State) (body : Body) (front : List ℕ) → ComesAt begins stands limit s body front → held_at s body ≤ length front
   held_front limit state.Between body front k = omega arith
@@ -83,7 +84,7 @@ module _ (begins stands : List Begun → Type 0) where
 
   pub held_decided : (limit : ℕ) (s : State) (body : Body) (front : List ℕ) → ComesAt begins stands limit s body front → IsDecided limit front → held_at s body ≡ 0
   held_decided limit state.Between body front k d = refl
-  held_decided limit state.Header body front k d = absurd (let ten = fails_after_header limit (front ++ d.0) (length front) d.2 in omega (arith, k.2))
+  held_decided limit state.Header body front k d = absurd (let ten = fails_after_header Own limit (front ++ d.0) (length front) d.2 in omega (arith, k.2))
   held_decided limit (state.Reading id) body front k d = absurd (undecided_reading limit id body front d.0 k d.1 d.2)
   held_decided limit (state.Skipping count header) body front k d = refl
   held_decided limit state.Broken body front k d = refl

@@ -17,7 +17,7 @@ use Rattle.llrp_stream.specs.declared.reading.reader.Stage.TheVariants.{Leading}
 use Rattle.llrp_stream.specs.Front.{Reaches, TellsAll}
 use Rattle.llrp_stream.specs.Told.{IsNextField}
 use Rattle.llrp_stream.specs.Reading.{Reads, bit_of, IsAtStage, IsLeading}
-use Rattle.llrp_stream.proofs.Reached.{stands_in, reaches_in, seen}
+use Rattle.llrp_stream.proofs.Reached.{own_tells, stands_in, reaches_in, seen}
 use Rattle.llrp_stream.specs.Front.{IsUndecided}
 use Rattle.llrp_stream.proofs.WaitLemmas.{field_waits}
 
@@ -43,7 +43,7 @@ module _ (r : Reader) (front : List ℕ) (b : Begun) (outer : List Begun) (octet
       let ds : List Bool = digits_of_bytes (front ++ more) in
       let there = seen front more octets r.at r.bit rd.before d in
       let g : FailsFirst (field_checks rule (bit_of r) b.stop (drop (bit_of r) ds)) e = subst (λ (x : List Bool). FailsFirst (field_checks rule (bit_of r) b.stop x) e) (sym there) (subst (λ (n : ℕ). FailsFirst (field_checks rule (bit_of r) n (drop r.bit (digits_of_bytes octets ++ digits_of_bytes more))) e) (sym rd.level.stop) (f (digits_of_bytes more))) in
-      field_tells ds r.top.kind b.head b.stop b.fields outer (bit_of r) rule others e rd.level.kind next_is (stands_leading more long) g
+      own_tells b.head outer ds e staged.reaches.root (field_tells ds r.top.kind b.head b.stop b.fields outer (bit_of r) rule others e rd.level.kind next_is (stands_leading more long) g)
 
   pub field_undecided : bit_of r + rule.width ≤ 8 * r.top.stop → 8 * length octets < r.bit + rule.width → IsUndecided front r.octets (b ∷ outer)
   field_undecided room lt =
@@ -57,7 +57,7 @@ module _ (r : Reader) (front : List ℕ) (b : Begun) (outer : List Begun) (octet
       → Reaches front r.octets (leading b.head b.stop (b.fields ++ v ∷ []) ∷ outer) (bit_of r + rule.width)
   field_reaches v room within is fit =
       let lo : length octets ≡ length front - r.at = sym (ap (λ (x : List ℕ). length x) d) ∙ length-drop r.at front in
-      reaches_in front r.octets (leading b.head b.stop (b.fields ++ v ∷ []) ∷ outer) (bit_of r + rule.width) staged.reaches.fits (omega (arith, rd.before)) (λ more long.
+      reaches_in front r.octets (leading b.head b.stop (b.fields ++ v ∷ []) ∷ outer) (bit_of r + rule.width) staged.reaches.fits (omega (arith, rd.before)) staged.reaches.root (λ more long.
       let ds : List Bool = digits_of_bytes (front ++ more) in
       let there = seen front more octets r.at r.bit rd.before d in
       field_grows ds r.top.kind b.head b.stop b.fields (b.fields ++ v ∷ []) outer (bit_of r) rule others v rd.level.kind next_is (omega (arith, rd.level.stop)) (is (digits_of_bytes more) ∙ ap (λ (x : List Bool). number x 0 rule.width) (sym there)) fit refl (stands_leading more long))

@@ -12,6 +12,7 @@ use Rattle.llrp_tree.specs.Tree.{MessageTree}
 use Rattle.llrp_tree.specs.Lawful.{AreOctets}
 use Rattle.llrp_tree.specs.FirstFault.{first_failing, header_checks}
 use Rattle.llrp_tree.specs.OpenTree.{Begun}
+use Rattle.llrp_schema.specs.declared.kinds.Profile.TheVariants.{Own}
 use Rattle.llrp_tree.proofs.Frames.{fault_of_frame}
 use Rattle.llrp_tree.proofs.OctetLemmas.{octets-append}
 use Rattle.llrp_stream.specs.declared.header.FaultyHeader.{FaultyHeader}
@@ -92,7 +93,7 @@ failed_skipped limit id count body front more fault p e tells =
       id_is = p.id_is ∙ sym (id_field-append front more p.long);
       faulty = λ later is.
           let long : length ((front ++ more) ++ later) ≡ body.reader.octets = sym is.whole ∙ length_field-append (front ++ more) later (omega (arith, ten)) ∙ length_field-append front more (omega (arith, p.long)) ∙ sym p.octets_are in
-          fault_of_frame limit ((front ++ more) ++ later) fault.bit fault.reason (header_fault-append limit (front ++ more) later ten ∙ header_fault-append limit front more p.long ∙ p.passes) (tells later long);
+          fault_of_frame Own limit ((front ++ more) ++ later) fault.bit fault.reason (header_fault-append limit (front ++ more) later ten ∙ header_fault-append limit front more p.long ∙ p.passes) (tells later long);
     }
 
 -- ---- a frame that is skipped

@@ -5,6 +5,7 @@ use Rattle.std.proofs.lemmas.List.{take-append-drop, length-take-le, length-drop
 use Rattle.llrp_tree.specs.declared.TheConstants.{MAX_LIMIT}
 use Rattle.llrp_tree.specs.Lawful.{AreOctets}
 use Rattle.llrp_tree.specs.FrameLaws.{IsWhole}
+use Rattle.llrp_schema.specs.declared.kinds.Profile.TheVariants.{Own}
 use Rattle.llrp_tree.proofs.Totality.{either}
 use Rattle.llrp_stream.specs.declared.item.Item.{Item}
 use Rattle.llrp_stream.specs.declared.item.Item.TheVariants.{Msg, Bad}
@@ -30,8 +31,8 @@ item_of : (limit : ℕ) (frame : List ℕ) → limit ≤ MAX_LIMIT → AreOctets
 unfolding length_field
 item_of limit frame le octets is =
     let whole : IsWhole frame = record { octets = octets; header = is.header; own_length = is.whole } in
-    elim (either limit le frame whole) [
-      | inl lawful ↦ (Msg lawful.0, lawful.1)
+    elim (either Own limit le frame whole) [
+      | inl lawful ↦ (Msg lawful.0, record { frame = lawful.1; own = lawful.2 })
       | inr faulty ↦ (Bad (id_field frame) (record { bit = faulty.0; reason = faulty.1 }), (refl, faulty.2))
     ]
 

@@ -4,7 +4,8 @@ use Rattle.std.specs.Prelude.{Result, Ok, Err, OnOk, IfOk, IfErr}
 use Rattle.llrp_schema.specs.declared.kinds.Kind.{Kind}
 use Rattle.llrp_schema.specs.declared.kinds.Kind.TheVariants.{Parameter}
 use Rattle.llrp_schema.specs.declared.kinds.ParamKind.TheVariants.{TagReportData}
-use Rattle.llrp_schema.specs.Schema.{is_tv, number_of, rule_of, param_rule}
+use Rattle.llrp_schema.specs.declared.kinds.Profile.TheVariants.{Own}
+use Rattle.llrp_schema.specs.Schema.{is_tv, number_of, rule_of, param_rule, profile_of}
 use Rattle.llrp_tree.specs.declared.fault.FrameErr.{FrameErr}
 use Rattle.llrp_tree.specs.declared.fault.FrameErr.TheVariants.{Memory}
 use Rattle.llrp_tree.specs.OpenTree.{Begun}
@@ -21,6 +22,14 @@ use Rattle.llrp_stream.specs.declared.reading.reader.Stage.TheVariants.{Children
 report_long : is_tv_kind (Parameter TagReportData) ≡ false
 unfolding is_tv number_of rule_of param_rule
 report_long = refl
+
+-- a TagReportData is of the profile
+report_own : profile_of (Parameter TagReportData) ≡ Own
+unfolding profile_of rule_of param_rule
+report_own = refl
+
+pub own_report : (k : Kind) → k ≡ Parameter TagReportData → profile_of k ≡ Own
+own_report k e = ap profile_of e ∙ report_own
 
 pub long_report : (k : Kind) → k ≡ Parameter TagReportData → is_tv_kind k ≡ false
 long_report k e = ap is_tv_kind e ∙ report_long

@@ -1,11 +1,12 @@
 -- More octets of a frame.
-use Rattle.std.proofs.Common.{◌≡◌, ℕ, ◌+◌, ◌*◌, ◌≤◌, Bool, true, List, [], ◌∷◌, ◌++◌, length, take, drop, refl, sym, ap, subst, ◌∙◌, arith, append_assoc, length-append}
+use Rattle.std.proofs.Common.{◌≡◌, ℕ, ◌+◌, ◌-◌, ◌*◌, ◌≤◌, Bool, true, List, [], ◌∷◌, ◌++◌, length, take, drop, refl, sym, ap, subst, ◌∙◌, arith, append_assoc, length-append}
 use Rattle.std.specs.Prelude.{nat_le}
 use Rattle.std.proofs.lemmas.Bool.{leb-true}
 use Rattle.std.proofs.lemmas.List.{take-append-le, drop-append-le, drop-drop}
 use Rattle.tag_bits.specs.Digits.{digits_of_bytes}
 use Rattle.tag_bits.proofs.ByteLemmas.{length-bytes, bytes-append}
 use Rattle.llrp_tree.specs.declared.fault.FrameErr.{FrameErr}
+use Rattle.llrp_schema.specs.declared.kinds.Profile.TheVariants.{Own}
 use Rattle.llrp_tree.specs.Spelling.{Head, message, tlv, tv}
 use Rattle.llrp_tree.specs.OpenTree.{Begun, rules, form, plain_values, IsHead, IsOpenTree}
 use Rattle.llrp_tree.specs.Lawful.{count_octets}
@@ -29,6 +30,7 @@ reaches_more front more n t at le r =
       within = omega (arith, r.within);
       ends = r.ends;
       fits = le;
+      root = r.root;
     }
 
 stage_more : (s : Stage) (r : Reader) (front more : List ℕ) (b : Begun) (outer : List Begun) → length (front ++ more) ≤ r.octets → IsAtStage s r front b outer → IsAtStage s r (front ++ more) b outer
@@ -46,7 +48,7 @@ stage_more (Tail left) r front more b outer le i =
       aligned = i.aligned;
       place = i.place;
       reaches = reaches_more front more r.octets (leading b.head b.stop b.fields ∷ outer) (8 * i.from) le i.reaches;
-      length_is = λ later. ap (λ (x : List Bool). tail_length (form b) (plain_values (rules b) b.fields) x) (on (8 * i.from) (omega (arith, within)) later) ∙ i.length_is (digits_of_bytes more ++ later);
+      length_is = λ later. ap (λ (x : List Bool). tail_length (form b) (plain_values (rules b) b.fields) (b.stop - 8 * i.from) x) (on (8 * i.from) (omega (arith, within)) later) ∙ i.length_is (digits_of_bytes more ++ later);
       inside = i.inside;
       before = let l = length-append front more in omega (arith, i.before);
       read = λ later. ap (λ (x : List Bool). octets_at (length i.so_far) x) (on (8 * (i.from + count_octets (form b))) (omega (arith, i.before, long)) later) ∙ i.read (digits_of_bytes more ++ later);
@@ -66,7 +68,7 @@ module _ (begins stands : List Begun → Type 0) (r : Reader) where
 pub tells_more : (front more : List ℕ) (n : ℕ) (e : FrameErr) → TellsAll front n e → TellsAll (front ++ more) n e
 tells_more front more n e f = λ later long.
     let same = append_assoc front more later in
-    subst (λ (x : List ℕ). Tells (digits_of_bytes x) e) (sym same) (f (more ++ later) (sym (ap (λ (x : List ℕ). length x) same) ∙ long))
+    subst (λ (x : List ℕ). Tells Own (digits_of_bytes x) e) (sym same) (f (more ++ later) (sym (ap (λ (x : List ℕ). length x) same) ∙ long))
 
 pub fails_with : (begins stands : List Begun → Type 0) (front : List ℕ) (n : ℕ) (e : FrameErr) → TellsAll front n e → Remains begins stands → FailsWith begins stands front n e
 fails_with begins stands front n Memory f r = tt

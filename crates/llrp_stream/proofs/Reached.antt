@@ -1,11 +1,15 @@
 -- A front of a frame, and each frame that begins with it.
-use Rattle.std.proofs.Common.{◌≡◌, ℕ, ◌+◌, ◌-◌, ◌*◌, ◌≤◌, Bool, List, ◌++◌, length, take, drop, sym, ap, ◌∙◌, arith, length-append}
+use Rattle.std.proofs.Common.{◌≡◌, ℕ, ◌+◌, ◌-◌, ◌*◌, ◌≤◌, Bool, List, ◌++◌, length, take, drop, sym, ap, subst, ◌∙◌, arith, length-append}
 use Rattle.std.proofs.lemmas.List.{take-append-le, drop-append-le, drop-drop, length-replicate}
 use Rattle.std.proofs.Math.ListN.{replicate}
 use Rattle.tag_bits.specs.Digits.{digits_of_bytes}
 use Rattle.tag_bits.proofs.ByteLemmas.{length-bytes, bytes-append, drop-bytes}
-use Rattle.llrp_tree.specs.OpenTree.{Begun}
-use Rattle.llrp_tree.specs.Standing.{Stands}
+use Rattle.llrp_schema.specs.declared.kinds.Profile.TheVariants.{Own}
+use Rattle.llrp_tree.specs.OpenTree.{Begun, root_of, root_profile}
+use Rattle.llrp_tree.specs.Standing.{Stands, Tells}
+use Rattle.llrp_tree.specs.Spelling.{Head}
+use Rattle.llrp_tree.specs.declared.fault.FrameErr.{FrameErr}
+use Rattle.llrp_schema.specs.declared.kinds.Profile.{Profile}
 use Rattle.llrp_stream.specs.Front.{Reaches}
 
 pub stands_in : (front more : List ℕ) (n : ℕ) (t : List Begun) (at : ℕ) → Reaches front n t at → length (front ++ more) ≡ n → Stands (digits_of_bytes (front ++ more)) t at
@@ -20,8 +24,12 @@ stands_in front more n t at r e =
       ends = r.ends ∙ omega arith;
     }
 
-pub reaches_in : (front : List ℕ) (n : ℕ) (t : List Begun) (at : ℕ) → length front ≤ n → at ≤ 8 * length front → ((more : List ℕ) → length (front ++ more) ≡ n → Stands (digits_of_bytes (front ++ more)) t at) → Reaches front n t at
-reaches_in front n t at le within f =
+-- a fault of a frame whose message is of the profile
+pub own_tells : (h : Head) (outer : List Begun) (ds : List Bool) (e : FrameErr) → root_of h outer ≡ Own → Tells (root_of h outer) ds e → Tells Own ds e
+own_tells h outer ds e own t = subst (λ (p : Profile). Tells p ds e) own t
+
+pub reaches_in : (front : List ℕ) (n : ℕ) (t : List Begun) (at : ℕ) → length front ≤ n → at ≤ 8 * length front → root_profile t ≡ Own → ((more : List ℕ) → length (front ++ more) ≡ n → Stands (digits_of_bytes (front ++ more)) t at) → Reaches front n t at
+reaches_in front n t at le within own f =
     let more : List ℕ = replicate (n - length front) 0 in
     let e : length (front ++ more) ≡ n = length-append front more ∙ ap (λ (k : ℕ). length front + k) (length-replicate (n - length front) 0) ∙ omega arith in
     let st = f more e in
@@ -33,6 +41,7 @@ reaches_in front n t at le within f =
       within = within;
       ends = st.ends ∙ all ∙ ap (λ (k : ℕ). 8 * k) e;
       fits = le;
+      root = own;
     }
 
 -- what follows a place

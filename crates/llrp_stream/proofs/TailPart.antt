@@ -12,7 +12,7 @@ use Rattle.tag_bits.proofs.ByteLemmas.{length-bytes, bytes-append, bytes-cons, d
 use Rattle.llrp_schema.specs.declared.kinds.Kind.{Kind}
 use Rattle.llrp_schema.specs.declared.kinds.Kind.TheVariants.{Message, Parameter}
 use Rattle.llrp_schema.specs.declared.kinds.Tail.{Tail}
-use Rattle.llrp_schema.specs.declared.kinds.Tail.TheVariants.{Absent, Words, Text, Bits}
+use Rattle.llrp_schema.specs.declared.kinds.Tail.TheVariants.{Absent, Words, Text, Bits, Data}
 use Rattle.llrp_schema.specs.Schema.{FieldRule, field, bits_of, fields_of, tail_of}
 use Rattle.llrp_schema.proofs.TableLaws.{whole_octets, message_tail, bits_field}
 use Rattle.llrp_tree.specs.declared.fault.FrameErr.{FrameErr}
@@ -37,7 +37,7 @@ use Rattle.llrp_stream.specs.Front.{Reaches, TellsAll, IsUndecided}
 use Rattle.llrp_stream.specs.Told.{AreWhole, IsBeforeTail, IsInTail}
 use Rattle.llrp_stream.specs.Tails.{HasWhole}
 use Rattle.llrp_stream.specs.Reading.{Reads, bit_of, settled, rank, work, IsAtStage, IsLeading, IsTailing}
-use Rattle.llrp_stream.proofs.Reached.{stands_in, reaches_in}
+use Rattle.llrp_stream.proofs.Reached.{own_tells, stands_in, reaches_in}
 use Rattle.llrp_stream.proofs.Bounds.{covered_length}
 use Rattle.llrp_stream.proofs.CoveredOctets.{IsOctets, covered_octets, outer_within}
 use Rattle.llrp_stream.proofs.WaitLemmas.{count_waits, tail_waits}
@@ -138,12 +138,12 @@ all_tell : (front : List ℕ) (n : ℕ) (h : Head) (stop : ℕ) (vs : List ℕ) 
 unfolding checks
 all_tell front n h stop vs outer at e reach all has f = λ more long.
     let ds : List Bool = digits_of_bytes (front ++ more) in
-    tells ds (leading h stop vs) outer at ReadTail e (stands_in front more n (leading h stop vs ∷ outer) at reach long) (tail_turn h stop vs [] outer [] at (drop at ds) all has) (f more long)
+    own_tells h outer ds e reach.root (tells ds (leading h stop vs) outer at ReadTail e (stands_in front more n (leading h stop vs ∷ outer) at reach long) (tail_turn h stop vs [] outer [] at (drop at ds) all has) (f more long))
 
-text_fails : (fields : List ℕ) (at stop : ℕ) (rest : List Bool) (bit : ℕ) → at + 16 ≤ stop → tail_end Text fields at rest ≤ stop → is_utf8 (tail_at Text fields rest) ≡ false
-    → at + 16 + 8 * utf8_valid_len (tail_at Text fields rest) ≡ bit → FailsFirst (tail_checks Text fields at stop rest) (Bad (record { bit = bit; reason = Utf8 }))
+text_fails : (fields : List ℕ) (at stop : ℕ) (rest : List Bool) (bit : ℕ) → at + 16 ≤ stop → tail_end Text fields at stop rest ≤ stop → is_utf8 (tail_at Text fields (stop - at) rest) ≡ false
+    → at + 16 + 8 * utf8_valid_len (tail_at Text fields (stop - at) rest) ≡ bit → FailsFirst (tail_checks Text fields at stop rest) (Bad (record { bit = bit; reason = Utf8 }))
 text_fails fields at stop rest bit room le bad e =
-    rw (le-leb (at + 16) stop room, le-leb (tail_end Text fields at rest) stop le, bad) (ap (λ (n : ℕ). Some (n, Utf8)) e)
+    rw (le-leb (at + 16) stop room, le-leb (tail_end Text fields at stop rest) stop le, bad) (ap (λ (n : ℕ). Some (n, Utf8)) e)
 
 -- ---- what is whole of some octets
 
@@ -152,24 +152,28 @@ none_whole Absent h = absurd cc
 none_whole Words h = (0, refl)
 none_whole Text h = IsUtf8-nil
 none_whole Bits h = tt
+none_whole Data h = tt
 
 pub used_within : (f : Tail) (near : List ℕ) (used : ℕ) → HasWhole f near used → used ≤ length near
 used_within Absent near used h = absurd h
 used_within Words near used h = omega (arith, h)
 used_within Text near used h = let l = utf8_valid_len_le near in omega (arith, h, l)
 used_within Bits near used h = omega (arith, h)
+used_within Data near used h = omega (arith, h)
 
 pub piece_whole : (f : Tail) (near : List ℕ) (used : ℕ) → HasWhole f near used → AreWhole f (take used near)
 piece_whole Absent near used h = absurd h
 piece_whole Words near used h = (length near / 2, length-take-le used near (omega (arith, h)) ∙ omega (arith, h))
 piece_whole Text near used h = subst (λ (n : ℕ). IsUtf8 (take n near)) (sym h) (valid_is_text near)
 piece_whole Bits near used h = tt
+piece_whole Data near used h = tt
 
 more_whole : (f : Tail) (xs ys : List ℕ) → AreWhole f xs → AreWhole f ys → AreWhole f (xs ++ ys)
 more_whole Absent xs ys a b = absurd a
 more_whole Words xs ys a b = (a.0 + b.0, length-append xs ys ∙ omega (arith, a.1, b.1))
 more_whole Text xs ys a b = IsUtf8-append xs ys a b
 more_whole Bits xs ys a b = tt
+more_whole Data xs ys a b = tt
 
 -- fewer than 4 octets are all that are left
 pub far_of : (n left : ℕ) → (n < 4 → n ≡ left) → (n ≡ left) ⊎ (4 ≤ n)
@@ -185,6 +189,7 @@ few_there Absent near there left h e some even text = absurd h
 few_there Words near there left h e some even text = let w = even refl in (omega (arith, h, e, some, w.1), omega (arith, h, e, some, w.1))
 few_there Text near there left h e some even text = let t = text refl in (omega (arith, e, t.0), omega (arith, e, t.0, t.1))
 few_there Bits near there left h e some even text = (omega (arith, h, e, some), omega (arith, h, e, some))
+few_there Data near there left h e some even text = (omega (arith, h, e, some), omega (arith, h, e, some))
 
 first_one : (vs : List ℕ) → first vs ≡ first (plain_values (field "BitCount" 16 ∷ []) vs)
 first_one [] = refl
@@ -247,16 +252,16 @@ module _ (r : Reader) (front : List ℕ) (b : Begun) (outer : List Begun) (shape
       (subst (λ (n : ℕ). FailsFirst (tail_checks (form b) plain (8 * r.at) n x) e) (sym rd.level.stop)
       (subst (λ (t : Tail). FailsFirst (tail_checks t plain (8 * r.at) (8 * r.top.stop) x) e) (sym shape_is) (g (digits_of_bytes more)))))
 
-  pub count_undecided : (octets : List ℕ) → drop r.at front ≡ octets → shape ≢ Bits → 8 * r.at + 16 ≤ 8 * r.top.stop → length octets < 2 → IsUndecided front r.octets (settled r.stage b ∷ outer)
-  count_undecided octets d ne room few =
+  pub count_undecided : (octets : List ℕ) → drop r.at front ≡ octets → shape ≢ Bits → shape ≢ Data → 8 * r.at + 16 ≤ 8 * r.top.stop → length octets < 2 → IsUndecided front r.octets (settled r.stage b ∷ outer)
+  count_undecided octets d ne nd room few =
       let lo : length octets ≡ length front - r.at = sym (ap (λ (x : List ℕ). length x) d) ∙ length-drop r.at front in
       let stop = rd.level.stop in
-      let w = count_waits front r.octets b.head b.stop b.fields outer (8 * r.at) bare_reaches none_left has_one (λ e. ne (sym shape_is ∙ e)) (omega (arith, room, stop)) (omega (arith, lo, few)) in
+      let w = count_waits front r.octets b.head b.stop b.fields outer (8 * r.at) bare_reaches none_left has_one (λ e. ne (sym shape_is ∙ e)) (λ e. nd (sym shape_is ∙ e)) (omega (arith, room, stop)) (omega (arith, lo, few)) in
       subst (λ (x : Stage). IsUndecided front r.octets (settled x b ∷ outer)) (sym s) (subst (λ (x : Begun). IsUndecided front r.octets (x ∷ outer)) (sym led.bare) w)
 
   pub tail_begun : (octets : List ℕ) (now : Reader) (count left : ℕ) → drop r.at front ≡ octets → now.at ≡ r.at + count → now.bit ≡ r.bit → now.octets ≡ r.octets
       → count ≡ count_octets shape → count ≤ length octets → 8 * r.at + 8 * (count + left) ≤ 8 * r.top.stop
-      → ((later : List Bool) → left ≡ tail_length shape (plain_values (rules b) b.fields) (digits_of_bytes octets ++ later))
+      → ((later : List Bool) → left ≡ tail_length shape (plain_values (rules b) b.fields) (8 * r.top.stop - 8 * r.at) (digits_of_bytes octets ++ later))
       → IsTailing left now front (begun b.head b.stop b.fields (Some []) none) outer
   tail_begun octets now count left d at bit same c fits room many =
       let lo : length octets ≡ length front - r.at = sym (ap (λ (x : List ℕ). length x) d) ∙ length-drop r.at front in
@@ -273,8 +278,8 @@ module _ (r : Reader) (front : List ℕ) (b : Begun) (outer : List Begun) (shape
         aligned = bit ∙ at_octet;
         place = at ∙ omega (arith, c, size);
         reaches = subst (λ (n : ℕ). Reaches front n (leading b.head b.stop b.fields ∷ outer) (8 * r.at)) (sym same) bare_reaches;
-        length_is = λ later. ap (λ (x : List Bool). tail_length (form b) plain (x ++ later)) (drop-bytes r.at front le ∙ ap (λ (x : List ℕ). digits_of_bytes x) d)
-            ∙ ap (λ (t : Tail). tail_length t plain (digits_of_bytes octets ++ later)) shape_is ∙ (sym (many later) ∙ omega arith);
+        length_is = λ later. ap (λ (n : ℕ). tail_length (form b) plain (n - 8 * r.at) (drop (8 * r.at) (digits_of_bytes front) ++ later)) stop ∙ ap (λ (x : List Bool). tail_length (form b) plain (8 * r.top.stop - 8 * r.at) (x ++ later)) (drop-bytes r.at front le ∙ ap (λ (x : List ℕ). digits_of_bytes x) d)
+            ∙ ap (λ (t : Tail). tail_length t plain (8 * r.top.stop - 8 * r.at) (digits_of_bytes octets ++ later)) shape_is ∙ (sym (many later) ∙ omega arith);
         inside = omega (arith, at, room, stop);
         before = omega (arith, at, lo, le, fits);
         read = λ later. none_at (drop (8 * (r.at + count_octets (form b))) (digits_of_bytes front) ++ later);
@@ -297,10 +302,10 @@ module _ (left : ℕ) (r : Reader) (front : List ℕ) (b : Begun) (outer : List 
   none_more : drop (length b.fields) (rules b) ≡ []
   none_more = drop_all (rules b) (length b.fields) t.all_fields
 
-  long_tail : (more : List ℕ) → tail_length (form b) plain (drop (8 * t.from) (digits_of_bytes (front ++ more))) ≡ length t.so_far + left
-  long_tail more = ap (λ (x : List Bool). tail_length (form b) plain x) (on front more t.from (let l = start in omega (arith, l))) ∙ t.length_is (digits_of_bytes more)
+  long_tail : (more : List ℕ) → tail_length (form b) plain (b.stop - 8 * t.from) (drop (8 * t.from) (digits_of_bytes (front ++ more))) ≡ length t.so_far + left
+  long_tail more = ap (λ (x : List Bool). tail_length (form b) plain (b.stop - 8 * t.from) x) (on front more t.from (let l = start in omega (arith, l))) ∙ t.length_is (digits_of_bytes more)
 
-  end_is : (more : List ℕ) → tail_end (form b) plain (8 * t.from) (drop (8 * t.from) (digits_of_bytes (front ++ more))) ≡ 8 * (r.at + left)
+  end_is : (more : List ℕ) → tail_end (form b) plain (8 * t.from) b.stop (drop (8 * t.from) (digits_of_bytes (front ++ more))) ≡ 8 * (r.at + left)
   end_is more = let l = long_tail more in let p = t.place in omega (arith, l, p)
 
   tail_from : (more : List ℕ) → drop (8 * count_octets (form b)) (drop (8 * t.from) (digits_of_bytes (front ++ more))) ≡ drop (8 * (t.from + count_octets (form b))) (digits_of_bytes front) ++ digits_of_bytes more
@@ -314,18 +319,18 @@ module _ (left : ℕ) (r : Reader) (front : List ℕ) (b : Begun) (outer : List 
   pub ended : left ≡ 0 → Reaches front r.octets (b ∷ outer) (8 * r.at)
   ended z =
       let le = t.before in
-      reaches_in front r.octets (b ∷ outer) (8 * r.at) t.reaches.fits (omega (arith, le)) (λ more long.
+      reaches_in front r.octets (b ∷ outer) (8 * r.at) t.reaches.fits (omega (arith, le)) t.reaches.root (λ more long.
       let ds : List Bool = digits_of_bytes (front ++ more) in
       let rest : List Bool = drop (8 * t.from) ds in
       let e = end_is more in
-      let to : tail_end (form b) plain (8 * t.from) rest ≡ 8 * r.at = e ∙ omega (arith, z) in
-      let many : tail_length (form b) plain rest ≡ length t.so_far = long_tail more ∙ omega (arith, z) in
-      let is : tail_at (form b) plain rest ≡ t.so_far = ap (λ (k : ℕ). octets_at k (drop (8 * count_octets (form b)) rest)) many ∙ ap (λ (x : List Bool). octets_at (length t.so_far) x) (tail_from more) ∙ t.read (digits_of_bytes more) in
+      let to : tail_end (form b) plain (8 * t.from) b.stop rest ≡ 8 * r.at = e ∙ omega (arith, z) in
+      let many : tail_length (form b) plain (b.stop - 8 * t.from) rest ≡ length t.so_far = long_tail more ∙ omega (arith, z) in
+      let is : tail_at (form b) plain (b.stop - 8 * t.from) rest ≡ t.so_far = ap (λ (k : ℕ). octets_at k (drop (8 * count_octets (form b)) rest)) many ∙ ap (λ (x : List Bool). octets_at (length t.so_far) x) (tail_from more) ∙ t.read (digits_of_bytes more) in
       let inside = t.inside in
       let g = grow_tail b.head b.stop b.fields outer ds (8 * t.from) (stands_in front more r.octets (leading b.head b.stop b.fields ∷ outer) (8 * t.from) t.reaches long) t.all_fields t.has (omega (arith, e, inside)) (λ x. ap is_utf8 is ∙ is_utf8-from_IsUtf8 t.so_far (text_of x)) in
       subst (λ (x : Begun). Stands ds (x ∷ outer) (8 * r.at)) (sym t.is)
       (subst (λ (n : ℕ). Stands ds (begun b.head b.stop b.fields (Some t.so_far) none ∷ outer) n) to
-      (subst (λ (x : List ℕ). Stands ds (begun b.head b.stop b.fields (Some x) none ∷ outer) (tail_end (form b) plain (8 * t.from) rest)) is g)))
+      (subst (λ (x : List ℕ). Stands ds (begun b.head b.stop b.fields (Some x) none ∷ outer) (tail_end (form b) plain (8 * t.from) b.stop rest)) is g)))
 
   done_due : (os : List ℕ) → due (begun b.head b.stop b.fields (Some os) none) ≡ Rest
   unfolding due
@@ -345,14 +350,14 @@ module _ (left : ℕ) (r : Reader) (front : List ℕ) (b : Begun) (outer : List 
   even_left e =
       let xs : List Bool = drop (8 * t.from) (digits_of_bytes front) ++ [] in
       let u : AreWhole Words t.so_far = subst (λ (f : Tail). AreWhole f t.so_far) e t.units in
-      let l : tail_length Words plain xs ≡ length t.so_far + left = ap (λ (f : Tail). tail_length f plain xs) (sym e) ∙ t.length_is [] in
+      let l : tail_length Words plain (b.stop - 8 * t.from) xs ≡ length t.so_far + left = ap (λ (f : Tail). tail_length f plain (b.stop - 8 * t.from) xs) (sym e) ∙ t.length_is [] in
       (value (take 16 (drop 0 xs)) - u.0, omega (arith, l, u.1))
 
   pub is_in_tail : (shape : Tail) → form b ≡ shape → IsInTail (b ∷ outer) shape
   is_in_tail shape e = record { node = b; outer = outer; tree_is = refl; form_is = e; so_far = t.so_far; tail_is = ap (λ (x : Begun). x.tail) t.is }
 
   -- the whole tail: what is read, and what is left
-  whole_tail : (more : List ℕ) → tail_at (form b) plain (drop (8 * t.from) (digits_of_bytes (front ++ more))) ≡ t.so_far ++ octets_at left (drop (8 * r.at) (digits_of_bytes (front ++ more)))
+  whole_tail : (more : List ℕ) → tail_at (form b) plain (b.stop - 8 * t.from) (drop (8 * t.from) (digits_of_bytes (front ++ more))) ≡ t.so_far ++ octets_at left (drop (8 * r.at) (digits_of_bytes (front ++ more)))
   whole_tail more =
       let ds : List Bool = digits_of_bytes (front ++ more) in
       let c : ℕ = 8 * count_octets (form b) in
@@ -385,12 +390,12 @@ module _ (left : ℕ) (r : Reader) (front : List ℕ) (b : Begun) (outer : List 
       let within : length near ≤ length others = omega (arith, many, long_near) in
       let len = valid_is t.so_far near others valid begins one within nothing reached in
       let bad = not_text t.so_far near others valid begins one within nothing reached in
-      let tail : tail_at Text plain rest ≡ t.so_far ++ others = ap (λ (f : Tail). tail_at f plain rest) (sym e) ∙ whole_tail more ∙ ap (λ (y : List Bool). t.so_far ++ octets_at left y) there in
-      let end : tail_end Text plain (8 * t.from) rest ≡ 8 * (r.at + left) = ap (λ (f : Tail). tail_end f plain (8 * t.from) rest) (sym e) ∙ end_is more in
+      let tail : tail_at Text plain (b.stop - 8 * t.from) rest ≡ t.so_far ++ others = ap (λ (f : Tail). tail_at f plain (b.stop - 8 * t.from) rest) (sym e) ∙ whole_tail more ∙ ap (λ (y : List Bool). t.so_far ++ octets_at left y) there in
+      let end : tail_end Text plain (8 * t.from) b.stop rest ≡ 8 * (r.at + left) = ap (λ (f : Tail). tail_end f plain (8 * t.from) b.stop rest) (sym e) ∙ end_is more in
       let size : count_octets (form b) ≡ 2 = ap count_octets e in
       let place = t.place in
       let inside = t.inside in
-      let valid_len : utf8_valid_len (tail_at Text plain rest) ≡ length t.so_far = ap utf8_valid_len tail ∙ len in
+      let valid_len : utf8_valid_len (tail_at Text plain (b.stop - 8 * t.from) rest) ≡ length t.so_far = ap utf8_valid_len tail ∙ len in
       subst (λ (f : Tail). FailsFirst (tail_checks f plain (8 * t.from) b.stop rest) (Bad (record { bit = 8 * r.at; reason = Utf8 }))) (sym e)
       (text_fails plain (8 * t.from) b.stop rest (8 * r.at) (omega (arith, place, size, inside)) (omega (arith, end, inside)) (ap is_utf8 tail ∙ bad) (omega (arith, valid_len, place, size))))
 

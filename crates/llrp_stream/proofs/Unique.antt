@@ -5,6 +5,7 @@ use Rattle.std.proofs.lemmas.List.{take_at, drop_at, length-append, append-nil}
 use Rattle.llrp_tree.specs.declared.fault.Fault.{Fault}
 use Rattle.llrp_tree.specs.declared.fault.Reason.{Reason}
 use Rattle.llrp_tree.specs.Frame.{Frame}
+use Rattle.llrp_schema.specs.declared.kinds.Profile.TheVariants.{Own}
 use Rattle.llrp_tree.proofs.Frames.{no_prefix, one_fault, not_both}
 use Rattle.llrp_stream.specs.declared.item.Item.{Item}
 use Rattle.llrp_stream.specs.declared.item.Item.TheVariants.{Msg, Bad}
@@ -17,11 +18,11 @@ use Rattle.llrp_stream.proofs.FrontLemmas.{length_field-append}
 
 -- a frame has one item
 pub same_item : (limit : ℕ) (frame : List ℕ) (item other : Item) → IsItemOf limit frame item → IsItemOf limit frame other → item ≡ other
-same_item limit frame (Msg m) (Msg k) p q = ap Msg (no_prefix limit frame [] m k p (subst (λ (x : List ℕ). Frame k x limit) (sym (append-nil frame)) q)).0
-same_item limit frame (Msg m) (Bad id fault) p q = absurd (not_both limit frame m fault.bit fault.reason p q.1)
-same_item limit frame (Bad id fault) (Msg k) p q = absurd (not_both limit frame k fault.bit fault.reason q p.1)
+same_item limit frame (Msg m) (Msg k) p q = ap Msg (no_prefix limit frame [] m k (p.own ∙ sym q.own) p.frame (subst (λ (x : List ℕ). Frame k x limit) (sym (append-nil frame)) q.frame)).0
+same_item limit frame (Msg m) (Bad id fault) p q = absurd (not_both Own limit frame m fault.bit fault.reason p.own p.frame q.1)
+same_item limit frame (Bad id fault) (Msg k) p q = absurd (not_both Own limit frame k fault.bit fault.reason q.own q.frame p.1)
 same_item limit frame (Bad id fault) (Bad number other) p q =
-    let same = one_fault limit frame fault.bit other.bit fault.reason other.reason p.1 q.1 in
+    let same = one_fault Own limit frame fault.bit other.bit fault.reason other.reason p.1 q.1 in
     let faults : fault ≡ other = ap (λ (b : ℕ). let f : Fault = record { bit = b; reason = fault.reason } in f) same.0 ∙ ap (λ (r : Reason). let f : Fault = record { bit = other.bit; reason = r } in f) same.1 in
     ap (λ (n : ℕ). Bad n fault) (p.0 ∙ sym q.0) ∙ ap (λ (f : Fault). Bad number f) faults
 

@@ -4,7 +4,7 @@ use Rattle.std.specs.Prelude.{nat_le, if◌then◌else◌}
 use Rattle.std.proofs.lemmas.Bool.{le-leb}
 use Rattle.tag_bits.specs.Digits.{digits_of_bytes}
 use Rattle.llrp_schema.specs.declared.kinds.Tail.{Tail}
-use Rattle.llrp_schema.specs.declared.kinds.Tail.TheVariants.{Absent, Words, Text, Bits}
+use Rattle.llrp_schema.specs.declared.kinds.Tail.TheVariants.{Absent, Words, Text, Bits, Data}
 use Rattle.llrp_schema.specs.Schema.{FieldRule, fields_of, tail_of}
 use Rattle.llrp_tree.specs.Spelling.{Head}
 use Rattle.llrp_tree.specs.OpenTree.{Begun, kind_of, groups, has_tail, plain_values, due, Rest, covers}
@@ -35,29 +35,31 @@ field_waits front n h stop vs outer at r after reach nx room lt =
     undecided front n (leading h stop vs) outer at reach (λ more long.
     (ReadField r, field_turn h stop vs 0 outer [] r after nx at (drop at (digits_of_bytes (front ++ more))), rw (le-leb (at + r.width) stop room) lt))
 
-count_bit : (form : Tail) (fields : List ℕ) (at stop : ℕ) (rest : List Bool) → has_tail form ≡ true → form ≢ Bits → at + 16 ≤ stop → at + 16 ≤ deciding_tail form fields at stop rest
-count_bit Absent fields at stop rest h ne le = absurd cc
-count_bit Words fields at stop rest h ne le =
-    rw (le-leb (at + 16) stop le) (elim (nat_le (tail_end Words fields at rest) stop) as (λ b. at + 16 ≤ (if b then tail_end Words fields at rest else at + 16)) [ true ↦ omega arith | false ↦ omega arith ])
-count_bit Text fields at stop rest h ne le =
-    rw (le-leb (at + 16) stop le) (elim (nat_le (tail_end Text fields at rest) stop) as (λ b. at + 16 ≤ (if b then tail_end Text fields at rest else at + 16)) [ true ↦ omega arith | false ↦ omega arith ])
-count_bit Bits fields at stop rest h ne le = absurd (ne refl)
+count_bit : (form : Tail) (fields : List ℕ) (at stop : ℕ) (rest : List Bool) → has_tail form ≡ true → form ≢ Bits → form ≢ Data → at + 16 ≤ stop → at + 16 ≤ deciding_tail form fields at stop rest
+count_bit Absent fields at stop rest h ne nd le = absurd cc
+count_bit Words fields at stop rest h ne nd le =
+    rw (le-leb (at + 16) stop le) (elim (nat_le (tail_end Words fields at stop rest) stop) as (λ b. at + 16 ≤ (if b then tail_end Words fields at stop rest else at + 16)) [ true ↦ omega arith | false ↦ omega arith ])
+count_bit Text fields at stop rest h ne nd le =
+    rw (le-leb (at + 16) stop le) (elim (nat_le (tail_end Text fields at stop rest) stop) as (λ b. at + 16 ≤ (if b then tail_end Text fields at stop rest else at + 16)) [ true ↦ omega arith | false ↦ omega arith ])
+count_bit Bits fields at stop rest h ne nd le = absurd (ne refl)
+count_bit Data fields at stop rest h ne nd le = absurd (nd refl)
 
-end_bit : (form : Tail) (fields : List ℕ) (at stop : ℕ) (rest : List Bool) → has_tail form ≡ true → tail_end form fields at rest ≤ stop → deciding_tail form fields at stop rest ≡ tail_end form fields at rest
+end_bit : (form : Tail) (fields : List ℕ) (at stop : ℕ) (rest : List Bool) → has_tail form ≡ true → tail_end form fields at stop rest ≤ stop → deciding_tail form fields at stop rest ≡ tail_end form fields at stop rest
 end_bit Absent fields at stop rest h le = absurd cc
-end_bit Words fields at stop rest h le = let a : at + 16 ≤ stop = omega arith in rw (le-leb (at + 16) stop a, le-leb (tail_end Words fields at rest) stop le) refl
-end_bit Text fields at stop rest h le = let a : at + 16 ≤ stop = omega arith in rw (le-leb (at + 16) stop a, le-leb (tail_end Text fields at rest) stop le) refl
-end_bit Bits fields at stop rest h le = rw (le-leb (tail_end Bits fields at rest) stop le) refl
+end_bit Words fields at stop rest h le = let a : at + 16 ≤ stop = omega arith in rw (le-leb (at + 16) stop a, le-leb (tail_end Words fields at stop rest) stop le) refl
+end_bit Text fields at stop rest h le = let a : at + 16 ≤ stop = omega arith in rw (le-leb (at + 16) stop a, le-leb (tail_end Text fields at stop rest) stop le) refl
+end_bit Bits fields at stop rest h le = rw (le-leb (tail_end Bits fields at stop rest) stop le) refl
+end_bit Data fields at stop rest h le = refl
 
 module _ (front : List ℕ) (n : ℕ) (h : Head) (stop : ℕ) (vs : List ℕ) (outer : List Begun) (at : ℕ) (reach : Reaches front n (leading h stop vs ∷ outer) at)
     (all : drop (length vs) (fields_of (kind_of h)) ≡ []) (has : has_tail (tail_of (kind_of h)) ≡ true) where
-  pub count_waits : tail_of (kind_of h) ≢ Bits → at + 16 ≤ stop → 8 * length front < at + 16 → IsUndecided front n (leading h stop vs ∷ outer)
-  count_waits ne room lt =
+  pub count_waits : tail_of (kind_of h) ≢ Bits → tail_of (kind_of h) ≢ Data → at + 16 ≤ stop → 8 * length front < at + 16 → IsUndecided front n (leading h stop vs ∷ outer)
+  count_waits ne nd room lt =
       undecided front n (leading h stop vs) outer at reach (λ more long.
       let rest : List Bool = drop at (digits_of_bytes (front ++ more)) in
-      (ReadTail, tail_turn h stop vs [] outer [] at rest all has, (let a = count_bit (tail_of (kind_of h)) (plain_values (fields_of (kind_of h)) vs) at stop rest has ne room in omega arith)))
+      (ReadTail, tail_turn h stop vs [] outer [] at rest all has, (let a = count_bit (tail_of (kind_of h)) (plain_values (fields_of (kind_of h)) vs) at stop rest has ne nd room in omega arith)))
 
-  pub tail_waits : ((more : List ℕ) → length (front ++ more) ≡ n → (tail_end (tail_of (kind_of h)) (plain_values (fields_of (kind_of h)) vs) at (drop at (digits_of_bytes (front ++ more))) ≤ stop) × (8 * length front < tail_end (tail_of (kind_of h)) (plain_values (fields_of (kind_of h)) vs) at (drop at (digits_of_bytes (front ++ more)))))
+  pub tail_waits : ((more : List ℕ) → length (front ++ more) ≡ n → (tail_end (tail_of (kind_of h)) (plain_values (fields_of (kind_of h)) vs) at stop (drop at (digits_of_bytes (front ++ more))) ≤ stop) × (8 * length front < tail_end (tail_of (kind_of h)) (plain_values (fields_of (kind_of h)) vs) at stop (drop at (digits_of_bytes (front ++ more)))))
       → IsUndecided front n (leading h stop vs ∷ outer)
   tail_waits f =
       undecided front n (leading h stop vs) outer at reach (λ more long.

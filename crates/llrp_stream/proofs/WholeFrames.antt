@@ -8,9 +8,9 @@ use Rattle.llrp_schema.specs.Schema.{fields_of, groups_of, tail_of}
 use Rattle.llrp_tree.specs.declared.TheConstants.{MAX_LIMIT}
 use Rattle.llrp_tree.specs.Tree.{Forest, MessageTree, none}
 use Rattle.llrp_tree.specs.Lawful.{AreOctets}
-use Rattle.llrp_tree.specs.Frame.{Frame}
+use Rattle.llrp_stream.specs.Items.{FrameOf}
 use Rattle.llrp_tree.specs.Spelling.{Head, message, tlv, tv}
-use Rattle.llrp_tree.specs.OpenTree.{Begun, plain_values, is_enough, IsHead, IsOpenTree}
+use Rattle.llrp_tree.specs.OpenTree.{root_of, Begun, plain_values, is_enough, IsHead, IsOpenTree}
 use Rattle.llrp_tree.specs.Standing.{Stands, Closes, begun, end_of}
 use Rattle.std.proofs.lemmas.Bool.{le-leb, leb-true}
 use Rattle.llrp_tree.specs.Header.{HasHeader}
@@ -19,6 +19,8 @@ use Rattle.llrp_stream.proofs.ReadyPart.{resting}
 use Rattle.tag_bits.proofs.ByteLemmas.{length-bytes, bytes-append}
 use Rattle.llrp_schema.specs.declared.kinds.MsgKind.{MsgKind}
 use Rattle.llrp_tree.specs.FirstFault.{number, header_checks}
+use Rattle.llrp_schema.proofs.TableLaws.{message_found_in}
+use Rattle.llrp_schema.specs.declared.kinds.Profile.TheVariants.{Own}
 use Rattle.llrp_tree.specs.Standing.{leading, HeaderSays}
 use Rattle.llrp_tree.proofs.Telling.{all_hold}
 use Rattle.llrp_stream.specs.Front.{Reaches}
@@ -31,16 +33,16 @@ use Rattle.llrp_stream.specs.Reading.{IsComplete}
 use Rattle.llrp_stream.proofs.Reached.{stands_in}
 use Rattle.llrp_stream.proofs.MoreOctets.{whole_ends}
 
-closed_by : (h : Head) (stop : ℕ) (vs : List ℕ) (tail : Option (List ℕ)) (cs : Forest) (front : List ℕ) (limit at : ℕ) → IsHead h stop [] → stop ≡ 8 * length front → Closes (digits_of_bytes front) (begun h stop vs tail cs) [] at → AreOctets front → length front ≤ limit → limit ≤ MAX_LIMIT
-    → (m : MessageTree) × IsMessageOf h vs cs m × Frame m front limit
-closed_by (message v k n id) stop vs tail cs front limit at i e c o le most =
+closed_by : (h : Head) (stop : ℕ) (vs : List ℕ) (tail : Option (List ℕ)) (cs : Forest) (front : List ℕ) (limit at : ℕ) → IsHead h stop [] → root_of h [] ≡ Own → stop ≡ 8 * length front → Closes (digits_of_bytes front) (begun h stop vs tail cs) [] at → AreOctets front → length front ≤ limit → limit ≤ MAX_LIMIT
+    → (m : MessageTree) × IsMessageOf h vs cs m × FrameOf m front limit
+closed_by (message v k n id) stop vs tail cs front limit at i own e c o le most =
     let size : n ≡ length front = omega (arith, i.stops) in (
       record { version = v; id = id; kind = k; fields = plain_values (fields_of (Message k)) vs; children = cs },
       refl,
-      closes_frame limit front v k n id vs tail cs at most o (sym size) (omega (arith, size, le)) (subst (λ (x : ℕ). Closes (digits_of_bytes front) (begun (message v k n id) x vs tail cs) [] at) i.stops c),
+      record { frame = closes_frame limit front v k n id vs tail cs at most o (sym size) (omega (arith, size, le)) (subst (λ (x : ℕ). Closes (digits_of_bytes front) (begun (message v k n id) x vs tail cs) [] at) i.stops c); own = own },
     )
-closed_by (tlv k n) stop vs tail cs front limit at i e c o le most = absurd i
-closed_by (tv k) stop vs tail cs front limit at i e c o le most = absurd i
+closed_by (tlv k n) stop vs tail cs front limit at i own e c o le most = absurd i
+closed_by (tv k) stop vs tail cs front limit at i own e c o le most = absurd i
 
 head_alone : (b : Begun) → IsOpenTree (b ∷ []) → IsHead b.head b.stop []
 unfolding IsOpenTree
@@ -51,12 +53,12 @@ unfolding end_of
 end_alone b = refl
 
 pub frame_of : (stands : List Begun → Type 0) (r : Reader) (front : List ℕ) (limit : ℕ) (w : IsComplete stands r front) → AreOctets front → r.octets ≤ limit → limit ≤ MAX_LIMIT
-    → (m : MessageTree) × IsMessageOf w.node.head w.node.fields w.node.children m × Frame m front limit
+    → (m : MessageTree) × IsMessageOf w.node.head w.node.fields w.node.children m × FrameOf m front limit
 frame_of stands r front limit w o le most =
     let e = whole_ends stands r front w in
     let st = stands_in front [] r.octets (w.node ∷ []) (8 * r.at) w.reaches (ap (λ (x : List ℕ). length x) (append-nil front) ∙ e) in
     let st2 = subst (λ (x : List ℕ). Stands (digits_of_bytes x) (w.node ∷ []) (8 * r.at)) (append-nil front) st in
-    closed_by w.node.head w.node.stop w.node.fields w.node.tail w.node.children front limit (8 * r.at) (head_alone w.node w.reaches.is_open) (sym (end_alone w.node) ∙ w.reaches.ends ∙ ap (λ (n : ℕ). 8 * n) (sym e))
+    closed_by w.node.head w.node.stop w.node.fields w.node.tail w.node.children front limit (8 * r.at) (head_alone w.node w.reaches.is_open) w.reaches.root (sym (end_alone w.node) ∙ w.reaches.ends ∙ ap (λ (n : ℕ). 8 * n) (sym e))
     (record { stands = st2; ready = w.ready; over = w.over; enough = w.enough }) o (omega (arith, e, le)) most
 
 pub ready_of : (stands : List Begun → Type 0) (r : Reader) (front : List ℕ) (w : IsComplete stands r front) → IsReady (w.node ∷ [])
@@ -70,10 +72,10 @@ within_limit limit ds v k n id s = (let a = leb-true (number ds 16 32) limit (al
 pub header_reaches : (limit : ℕ) (header : List ℕ) (v : ℕ) (k : MsgKind) (n id : ℕ) → length header ≡ 10 → 10 ≤ n → ((later : List Bool) → HeaderSays limit (digits_of_bytes header ++ later) v k n id)
     → Reaches header n (leading (message v k n id) (8 * n) [] ∷ []) 80
 header_reaches limit header v k n id ten least says =
-    reaches_in header n (leading (message v k n id) (8 * n) [] ∷ []) 80 (omega (arith, ten)) (omega (arith, ten)) (λ more long.
+    reaches_in header n (leading (message v k n id) (8 * n) [] ∷ []) 80 (omega (arith, ten)) (omega (arith, ten)) ((message_found_in Own (number (digits_of_bytes header ++ []) 6 10) k (says []).kind_is).0) (λ more long.
     let ds : List Bool = digits_of_bytes (header ++ more) in
     let h = subst (λ (x : List Bool). HeaderSays limit x v k n id) (sym (bytes-append header more)) (says (digits_of_bytes more)) in
-    header_stands limit ds v k n id h (length-bytes (header ++ more) ∙ ap (λ (x : ℕ). 8 * x) long) least)
+    header_stands Own limit ds v k n id h (length-bytes (header ++ more) ∙ ap (λ (x : ℕ). 8 * x) long) least)
 
 pub header_length : (limit : ℕ) (header : List ℕ) (v : ℕ) (k : MsgKind) (n id : ℕ) → length header ≡ 10 → ((later : List Bool) → HeaderSays limit (digits_of_bytes header ++ later) v k n id) → (n ≡ number (digits_of_bytes header) 16 32) × (n ≤ limit)
 header_length limit header v k n id ten says =

@@ -1,5 +1,6 @@
 -- What a decoder stands for, whatever it keeps.
 use Rattle.std.specs.Prelude.{◌≡◌, ℕ, ◌+◌, Bool, true, false, List, [], ◌++◌, length}
+use Rattle.llrp_schema.specs.declared.kinds.Profile.TheVariants.{Own}
 use Rattle.llrp_tree.specs.declared.fault.Fault.{Fault}
 use Rattle.llrp_tree.specs.Deciding.{FailsIn}
 use Rattle.llrp_stream.specs.declared.reading.body.Body.{Body}
@@ -65,7 +66,7 @@ weight decoder = raw_octets decoder.kept + kept_weight decoder.kept
 
 -- the front decides a fault of a frame that begins with it
 abbrev pub IsDecided : ℕ → List ℕ → Type 0
-IsDecided limit front = (more : List ℕ) × IsFrame (front ++ more) × FailsIn limit (front ++ more) (length front)
+IsDecided limit front = (more : List ℕ) × IsFrame (front ++ more) × FailsIn Own limit (front ++ more) (length front)
 
 abbrev pub is_skipping : Kept → Bool
 is_skipping between = false

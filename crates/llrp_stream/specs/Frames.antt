@@ -2,7 +2,6 @@
 use Rattle.std.specs.Prelude.{◌≡◌, ℕ, ◌+◌, ◌*◌, ◌<◌, ◌≤◌, ◌⊎◌, Bool, true, false, List, [], ◌++◌, length, take, Option, Some, None, Result, Ok, Err}
 use Rattle.llrp_tree.specs.Tree.{MessageTree}
 use Rattle.llrp_tree.specs.Lawful.{AreOctets}
-use Rattle.llrp_tree.specs.Frame.{Frame}
 use Rattle.llrp_tree.specs.FirstFault.{FirstFault}
 use Rattle.llrp_tree.specs.OpenTree.{Begun}
 use Rattle.llrp_stream.specs.declared.item.FeedErr.{FeedErr}
@@ -15,7 +14,7 @@ use Rattle.llrp_stream.specs.declared.reading.frames.Outcome.TheVariants.{Whole,
 use Rattle.llrp_stream.specs.declared.state.State.{State}
 use Rattle.llrp_stream.specs.declared.state.State.TheVariants.{Between, Header, Reading, Skipping, Broken, Dead}
 use Rattle.llrp_stream.specs.Cuts.{length_field, IsFrame, IsPartial, Breaks}
-use Rattle.llrp_stream.specs.Items.{id_field, header_fault, IsSkipped}
+use Rattle.llrp_stream.specs.Items.{FrameOf, id_field, header_fault, IsSkipped}
 use Rattle.llrp_stream.specs.Pieces.{Stands, Awaits}
 
 -- The front is of a frame whose header passes its checks and has this id, and the frame's length is known.
@@ -93,7 +92,7 @@ IsIdle frames = (frames.state ≡ Between) × (frames.body.raw.items ≡ [])
 
 -- what became of a frame: the listener received its message, and has that; or it has a fault, and the listener has what it had
 abbrev pub Gives : (stands : List Begun → Type 0) (ends : MessageTree → List ℕ → Type 0) (rests : List ℕ → Type 0) → ℕ → List ℕ → Outcome → Type 0
-Gives stands ends rests limit frame Whole = (m : MessageTree) × Frame m frame limit × (now : List ℕ) × ends m now × rests now
+Gives stands ends rests limit frame Whole = (m : MessageTree) × FrameOf m frame limit × (now : List ℕ) × ends m now × rests now
 Gives stands ends rests limit frame (Bad id fault) = (id ≡ id_field frame) × FirstFault frame limit fault.bit fault.reason × stands []
 
 -- what a feed took: without an outcome the whole piece, which now belongs to the front; with one the bytes up to the frame's end

@@ -2,6 +2,10 @@
 use Rattle.std.specs.Prelude.{◌≡◌, ◌≢◌, ℕ, ◌≤◌, List, ◌++◌, length, Option, None}
 use Rattle.std.specs.List.{AllByRecursion, AllZip}
 use Rattle.tag_bits.specs.Digits.{digits_of_bytes}
+use Rattle.llrp_schema.specs.declared.kinds.Profile.TheVariants.{Own}
+use Rattle.llrp_schema.specs.declared.kinds.Kind.TheVariants.{Message}
+use Rattle.llrp_schema.specs.Schema.{profile_of}
+use Rattle.llrp_tree.specs.Tree.{MessageTree}
 use Rattle.llrp_tree.specs.Frame.{Frame}
 use Rattle.llrp_tree.specs.declared.fault.Reason.{Reason}
 use Rattle.llrp_tree.specs.declared.fault.Fault.{Fault}
@@ -15,9 +19,14 @@ use Rattle.llrp_stream.specs.Cuts.{length_field, IsFrame, joined, Cuts}
 unfoldable pub id_field : List ℕ → ℕ
 id_field frame = number (digits_of_bytes frame) 48 32
 
+-- A frame spells a message of the profile.
+pub record FrameOf (m : MessageTree) (bytes : List ℕ) (limit : ℕ) : Type 0 where
+  pub frame : Frame m bytes limit
+  pub own : profile_of (Message m.kind) ≡ Own
+
 -- the item of a frame: the message that it spells, or its id and its first fault
 abbrev pub IsItemOf : ℕ → List ℕ → Item → Type 0
-IsItemOf limit frame (Msg message) = Frame message frame limit
+IsItemOf limit frame (Msg message) = FrameOf message frame limit
 IsItemOf limit frame (Bad id fault) = (id ≡ id_field frame) × FirstFault frame limit fault.bit fault.reason
 
 -- the first check that a frame's header fails, and its bit

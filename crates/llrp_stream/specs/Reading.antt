@@ -1,7 +1,9 @@
 -- What the engine keeps of a front of a frame.
 use Rattle.std.specs.Prelude.{Some, get_or, nat_le, ◌≡◌, ℕ, ◌+◌, ◌-◌, ◌*◌, ◌<◌, ◌≤◌, ◌⊎◌, Bool, true, false, List, [], ◌∷◌, ◌++◌, length, drop, reverse, Result, Ok, Err, Option, min, IfOk, MatchResult}
 use Rattle.tag_bits.specs.Digits.{digits_of_bytes}
-use Rattle.llrp_schema.specs.Schema.{GroupRule, bits_of, fields_of, groups_of, is_tv, tail_of}
+use Rattle.llrp_schema.specs.declared.kinds.Profile.{Profile}
+use Rattle.llrp_schema.specs.declared.kinds.Profile.TheVariants.{Own}
+use Rattle.llrp_schema.specs.Schema.{GroupRule, bits_of, fields_of, groups_of, is_tv, profile_of, tail_of}
 use Rattle.llrp_schema.specs.declared.kinds.Tail.TheVariants.{Absent}
 use Rattle.std.specs.Int.{bit_at}
 use Rattle.llrp_tree.specs.declared.TheConstants.{MAX_LIMIT}
@@ -73,7 +75,7 @@ pub record IsTailing (left : ℕ) (r : Reader) (front : List ℕ) (b : Begun) (o
   pub aligned : r.bit ≡ 0
   pub place : r.at ≡ from + count_octets (form b) + length so_far
   pub reaches : Reaches front r.octets (leading b.head b.stop b.fields ∷ outer) (8 * from)
-  pub length_is : (later : List Bool) → tail_length (form b) (plain_values (rules b) b.fields) (drop (8 * from) (digits_of_bytes front) ++ later) ≡ length so_far + left
+  pub length_is : (later : List Bool) → tail_length (form b) (plain_values (rules b) b.fields) (b.stop - 8 * from) (drop (8 * from) (digits_of_bytes front) ++ later) ≡ length so_far + left
   pub inside : 8 * (r.at + left) ≤ b.stop
   pub before : r.at ≤ length front
   pub read : (later : List Bool) → octets_at (length so_far) (drop (8 * (from + count_octets (form b))) (digits_of_bytes front) ++ later) ≡ so_far
@@ -166,11 +168,11 @@ pub record IsPlaced (found : Option ParamKind) (groups : List GroupRule) (childr
   pub seen : AreSeen groups (with_begun children (Parameter placed.kind)) placed.seen
 
 -- a check of a head fails first
-abbrev pub HeadFails : (groups : List GroupRule) (children : Forest) (level at stop : ℕ) (rest : List Bool) → FrameErr → Type 0
-HeadFails groups children level at stop rest e =
+abbrev pub HeadFails : (p : Profile) (groups : List GroupRule) (children : Forest) (level at stop : ℕ) (rest : List Bool) → FrameErr → Type 0
+HeadFails p groups children level at stop rest e =
     ((has_none groups ≡ true) × (e ≡ Bad (record { bit = at; reason = Extra })))
-    ⊎ ((has_none groups ≡ false) × (first_digit rest ≡ true) × FailsFirst (kind_checks (tv_kind rest) groups children level at (at + 1)) e)
-    ⊎ ((has_none groups ≡ false) × (first_digit rest ≡ false) × FailsFirst (tlv_checks groups children level at stop rest) e)
+    ⊎ ((has_none groups ≡ false) × (first_digit rest ≡ true) × FailsFirst (kind_checks (tv_kind p rest) groups children level at (at + 1)) e)
+    ⊎ ((has_none groups ≡ false) × (first_digit rest ≡ false) × FailsFirst (tlv_checks p groups children level at stop rest) e)
 
 -- Some whole parameters of type and value were taken, of this many octets, or none.
 pub record Takes (begins stands : List Begun → Type 0) (old new : Reader) (front octets : List ℕ) (used : ℕ) : Type 0 where
@@ -188,7 +190,7 @@ pub record TakenSoFar (begins stands : List Begun → Type 0) (old new : Reader)
 pub record IsWholeValue (r : Reader) (octets : List ℕ) (children : Forest) (level : ℕ) (placed : Placed) : Type 0 where
   pub short : is_tv placed.kind ≡ true
   pub digit : (later : List Bool) → first_digit (digits_of_bytes octets ++ later) ≡ true
-  pub may_begin : (later : List Bool) → IsPlaced (tv_kind (digits_of_bytes octets ++ later)) (groups_of r.top.kind) children level placed
+  pub may_begin : (later : List Bool) → IsPlaced (tv_kind (profile_of r.top.kind) (digits_of_bytes octets ++ later)) (groups_of r.top.kind) children level placed
   pub whole : 8 + bits_of (fields_of (Parameter placed.kind)) ≤ 8 * length octets
   pub inside : 8 * r.at + 8 + bits_of (fields_of (Parameter placed.kind)) ≤ 8 * r.top.stop
 
@@ -214,7 +216,7 @@ pub record BeginsValue (octets : List ℕ) (kind : ParamKind) : Type 0 where
   pub some : 1 ≤ length octets
   pub short : is_tv kind ≡ true
   pub digit : (later : List Bool) → first_digit (digits_of_bytes octets ++ later) ≡ true
-  pub found : (later : List Bool) → tv_kind (digits_of_bytes octets ++ later) ≡ Some kind
+  pub found : (later : List Bool) → tv_kind Own (digits_of_bytes octets ++ later) ≡ Some kind
 
 -- Such parameters may come next: the innermost node is a TagReportData of the message and awaits a child or its end, and this many of the octets are in it.
 pub record AwaitsValues (r : Reader) (octets : List ℕ) (left : ℕ) : Type 0 where
@@ -242,8 +244,8 @@ pub record TakesValues (begins0 stands0 begins stands : List ℕ → List Begun 
 -- ---- the head of a child
 
 -- what is read of a head
-abbrev pub HeadSays : (groups : List GroupRule) (children : Forest) (level at stop : ℕ) (rest : List Bool) (octets : List ℕ) → Result Child FrameErr → Type 0
-HeadSays groups children level at stop rest octets (Ok child.Unfinished) = (length octets < 4) × (at + 8 * length octets < stop) × (has_none groups ≡ false) × ((octets ≡ []) ⊎ ((first_digit rest ≡ false) × (at + 32 ≤ stop)))
-HeadSays groups children level at stop rest octets (Ok (child.Short placed)) = (1 ≤ length octets) × (has_none groups ≡ false) × (first_digit rest ≡ true) × KindPasses (tv_kind rest) groups children level placed.kind × AreSeen groups (with_begun children (Parameter placed.kind)) placed.seen
-HeadSays groups children level at stop rest octets (Ok (child.Long placed size)) = (4 ≤ length octets) × (has_none groups ≡ false) × (first_digit rest ≡ false) × TlvPasses groups children level at stop rest placed.kind size × AreSeen groups (with_begun children (Parameter placed.kind)) placed.seen
-HeadSays groups children level at stop rest octets (Err e) = HeadFails groups children level at stop rest e
+abbrev pub HeadSays : (p : Profile) (groups : List GroupRule) (children : Forest) (level at stop : ℕ) (rest : List Bool) (octets : List ℕ) → Result Child FrameErr → Type 0
+HeadSays p groups children level at stop rest octets (Ok child.Unfinished) = (length octets < 4) × (at + 8 * length octets < stop) × (has_none groups ≡ false) × ((octets ≡ []) ⊎ ((first_digit rest ≡ false) × (at + 32 ≤ stop)))
+HeadSays p groups children level at stop rest octets (Ok (child.Short placed)) = (1 ≤ length octets) × (has_none groups ≡ false) × (first_digit rest ≡ true) × KindPasses (tv_kind p rest) groups children level placed.kind × AreSeen groups (with_begun children (Parameter placed.kind)) placed.seen
+HeadSays p groups children level at stop rest octets (Ok (child.Long placed size)) = (4 ≤ length octets) × (has_none groups ≡ false) × (first_digit rest ≡ false) × TlvPasses p groups children level at stop rest placed.kind size × AreSeen groups (with_begun children (Parameter placed.kind)) placed.seen
+HeadSays p groups children level at stop rest octets (Err e) = HeadFails p groups children level at stop rest e

@@ -4,7 +4,7 @@ use Rattle.std.specs.Str.{IsUtf8}
 use Rattle.llrp_schema.specs.declared.kinds.ParamKind.{ParamKind}
 use Rattle.llrp_schema.specs.declared.kinds.Kind.TheVariants.{Message, Parameter}
 use Rattle.llrp_schema.specs.declared.kinds.Tail.{Tail}
-use Rattle.llrp_schema.specs.declared.kinds.Tail.TheVariants.{Absent, Words, Text, Bits}
+use Rattle.llrp_schema.specs.declared.kinds.Tail.TheVariants.{Absent, Words, Text, Bits, Data}
 use Rattle.llrp_schema.specs.Schema.{FieldRule, fields_of, plain_fields_of, tail_of}
 use Rattle.llrp_tree.specs.Tree.{Forest, none, and, Tree, MessageTree}
 use Rattle.llrp_tree.specs.Lawful.{AreInRange, IsLawful, IsLawfulMessage}
@@ -94,6 +94,7 @@ AreWhole Absent octets = ⊥
 AreWhole Words octets = (words : ℕ) × (length octets ≡ 2 * words)
 AreWhole Text octets = IsUtf8 octets
 AreWhole Bits octets = Unit {0}
+AreWhole Data octets = Unit {0}
 
 -- the parameter of a node of which all is read
 abbrev pub tree_of : ParamKind → Begun → Tree

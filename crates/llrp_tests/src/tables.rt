@@ -305,8 +305,8 @@ fn required_groups_are_bits(rt: HostRuntime) {
 fn labels_are_names(rt: HostRuntime) {
     let message = label(Kind::Message(MsgKind::Keepalive));
     assert_eq!(rt; message.octets, 9);
-    assert!(rt; message.text == *b"KEEPALIVE                       ");
+    assert!(rt; message.text == *b"KEEPALIVE                                       ");
     let parameter = label(Kind::Parameter(ParamKind::ReportBufferOverflowErrorEvent));
     assert_eq!(rt; parameter.octets, 30);
-    assert!(rt; parameter.text == *b"ReportBufferOverflowErrorEvent  ");
+    assert!(rt; parameter.text == *b"ReportBufferOverflowErrorEvent                  ");
 }

@@ -6,11 +6,11 @@ use Rattle.tag_bits.specs.Digits.{value, digits}
 use Rattle.llrp_schema.specs.declared.kinds.MsgKind.{MsgKind}
 use Rattle.llrp_schema.specs.declared.kinds.ParamKind.{ParamKind}
 use Rattle.llrp_schema.specs.declared.kinds.Kind.TheVariants.{Message}
-use Rattle.llrp_schema.specs.Schema.{number_of}
-use Rattle.llrp_schema.proofs.TableLaws.{message_number_fits, message_numbers}
+use Rattle.llrp_schema.specs.Schema.{number_of, profile_of}
+use Rattle.llrp_schema.proofs.TableLaws.{message_number_fits, message_numbers_in}
 use Rattle.llrp_tree.specs.Tree.{Forest, none, and}
 use Rattle.llrp_tree.specs.Spelling.{Head, message, tlv, tv, head_digits, spell}
-use Rattle.llrp_tree.specs.OpenTree.{Begun, leading_digits, part, covers, due, Rest, IsHeader, IsHead, IsOpenNode, IsOpenTree, parts, whole_parts, tail_parts}
+use Rattle.llrp_tree.specs.OpenTree.{root_profile, Begun, leading_digits, part, covers, due, Rest, IsHeader, IsHead, IsOpenNode, IsOpenTree, parts, whole_parts, tail_parts}
 use Rattle.llrp_tree.specs.FirstFault.{next_fault}
 use Rattle.llrp_tree.proofs.ReadDigits.{drop_own, number_own}
 use Rattle.llrp_tree.proofs.Steps.{Step, Fails, Grows, Ends, next, begin}
@@ -82,16 +82,16 @@ regroup : (v : ℕ) (t : MsgKind) (n id : ℕ) (x : List Bool) → head_digits (
 unfolding head_digits
 regroup v t n id x = simp append_assoc
 
-same_message : (v : ℕ) (t : MsgKind) (n id v2 : ℕ) (t2 : MsgKind) (n2 id2 : ℕ) (x y : List Bool) → v < 2 ^ 3 → n < 2 ^ 32 → id < 2 ^ 32 → v2 < 2 ^ 3 → n2 < 2 ^ 32 → id2 < 2 ^ 32
+same_message : (v : ℕ) (t : MsgKind) (n id v2 : ℕ) (t2 : MsgKind) (n2 id2 : ℕ) (x y : List Bool) → v < 2 ^ 3 → n < 2 ^ 32 → id < 2 ^ 32 → v2 < 2 ^ 3 → n2 < 2 ^ 32 → id2 < 2 ^ 32 → profile_of (Message t) ≡ profile_of (Message t2)
     → head_digits (message v t n id) ++ x ≡ head_digits (message v2 t2 n2 id2) ++ y → (message v t n id ≡ message v2 t2 n2 id2) × (n ≡ n2)
-same_message v t n id v2 t2 n2 id2 x y lv ln lid lv2 ln2 lid2 e =
+same_message v t n id v2 t2 n2 id2 x y lv ln lid lv2 ln2 lid2 p e =
     let e0 = sym (regroup v t n id x) ∙ e ∙ regroup v2 t2 n2 id2 y in
     let e1 = same_number 3 0 0 _ _ (omega arith) (omega arith) e0 in
     let e2 = same_number 3 v v2 _ _ lv lv2 e1.1 in
     let e3 = same_number 10 (number_of (Message t)) (number_of (Message t2)) _ _ (message_number_fits t) (message_number_fits t2) e2.1 in
     let e4 = same_number 32 n n2 _ _ ln ln2 e3.1 in
     let e5 = same_number 32 id id2 _ _ lid lid2 e4.1 in
-    let a : v ≡ v2 = e2.0 in let b : t ≡ t2 = message_numbers t t2 e3.0 in let c : n ≡ n2 = e4.0 in let d : id ≡ id2 = e5.0 in
+    let a : v ≡ v2 = e2.0 in let b : t ≡ t2 = message_numbers_in t t2 p e3.0 in let c : n ≡ n2 = e4.0 in let d : id ≡ id2 = e5.0 in
     (cc, c)
 
 -- a tree of one part is a message's head
@@ -130,20 +130,23 @@ head_covered h stop = append-nil (head_digits h)
 
 -- ---- agreement
 
-pub agree : (n : ℕ) (t u : List Begun) (r s : List Bool) → IsOpenTree t → IsOpenTree u → parts t ≡ suc n → parts u ≡ suc n → covers t ++ r ≡ covers u ++ s → (t ≡ u) × (r ≡ s)
-agree zero t u r s st su pt pu e =
+first_root : (t : List Begun) (a : IsFirst t) → root_profile t ≡ profile_of (Message a.kind)
+first_root t a = ap root_profile a.is
+
+pub agree : (n : ℕ) (t u : List Begun) (r s : List Bool) → IsOpenTree t → IsOpenTree u → parts t ≡ suc n → parts u ≡ suc n → root_profile t ≡ root_profile u → covers t ++ r ≡ covers u ++ s → (t ≡ u) × (r ≡ s)
+agree zero t u r s st su pt pu roots e =
     let a = first t st pt in
     let b = first u su pu in
     let ct : covers t ≡ head_digits (message a.version a.kind a.octets a.id) = ap covers a.is ∙ head_covered (message a.version a.kind a.octets a.id) (8 * a.octets) in
     let cu : covers u ≡ head_digits (message b.version b.kind b.octets b.id) = ap covers b.is ∙ head_covered (message b.version b.kind b.octets b.id) (8 * b.octets) in
-    let heads = same_message a.version a.kind a.octets a.id b.version b.kind b.octets b.id r s (version_small a.version a.header.known_version) a.header.octets_fit a.header.id_fits (version_small b.version b.header.known_version) b.header.octets_fit b.header.id_fits
+    let heads = same_message a.version a.kind a.octets a.id b.version b.kind b.octets b.id r s (version_small a.version a.header.known_version) a.header.octets_fit a.header.id_fits (version_small b.version b.header.known_version) b.header.octets_fit b.header.id_fits (sym (first_root t a) ∙ roots ∙ first_root u b)
     (sym (ap (λ (x : List Bool). x ++ r) ct) ∙ e ∙ ap (λ (x : List Bool). x ++ s) cu) in
     let same : t ≡ u = a.is ∙ (ap (λ (h : Head). begin h (8 * a.octets) ∷ []) heads.0 ∙ ap (λ (n : ℕ). begin (message b.version b.kind b.octets b.id) (8 * n) ∷ []) heads.1) ∙ sym b.is in
     (same, append_cancel_left (covers u) r s (sym (ap (λ (x : List Begun). covers x ++ r) same) ∙ e))
-agree (suc n) t u r s st su pt pu e =
+agree (suc n) t u r s st su pt pu roots e =
     let a = shrinks t r n st pt in
     let b = shrinks u s n su pu in
-    let ih = agree n a.tree b.tree a.left b.left a.is_open b.is_open a.fewer b.fewer (a.same ∙ e ∙ sym b.same) in
+    let ih = agree n a.tree b.tree a.left b.left a.is_open b.is_open a.fewer b.fewer (a.root ∙ roots ∙ sym b.root) (a.same ∙ e ∙ sym b.same) in
     let step : Grows t ≡ Grows u = sym a.step ∙ (ap (λ (x : List Begun). next x a.left) ih.0 ∙ ap (λ (x : List Bool). next b.tree x) ih.1) ∙ b.step in
     let same : t ≡ u = cc step in
     (same, append_cancel_left (covers u) r s (sym (ap (λ (x : List Begun). covers x ++ r) same) ∙ e))
@@ -154,18 +157,18 @@ no_parts [] e = refl
 no_parts (b ∷ outer) e = absurd (omega arith)
 
 -- two open trees with equally many parts are equal
-pub agree_at : (n : ℕ) (t u : List Begun) (r s : List Bool) → IsOpenTree t → IsOpenTree u → parts t ≡ n → parts u ≡ n → covers t ++ r ≡ covers u ++ s → t ≡ u
-agree_at zero t u r s st su pt pu e = no_parts t pt ∙ sym (no_parts u pu)
-agree_at (suc n) t u r s st su pt pu e = (agree n t u r s st su pt pu e).0
+pub agree_at : (n : ℕ) (t u : List Begun) (r s : List Bool) → IsOpenTree t → IsOpenTree u → parts t ≡ n → parts u ≡ n → root_profile t ≡ root_profile u → covers t ++ r ≡ covers u ++ s → t ≡ u
+agree_at zero t u r s st su pt pu roots e = no_parts t pt ∙ sym (no_parts u pu)
+agree_at (suc n) t u r s st su pt pu roots e = (agree n t u r s st su pt pu roots e).0
 
 -- a tree with more parts came by a step from one with fewer
 earlier : (k n : ℕ) (t : List Begun) (r : List Bool) → IsOpenTree t → parts t ≡ suc (suc (k + n))
-    → (tree : List Begun) × (left : List Bool) × (grown : List Begun) × IsOpenTree tree × (parts tree ≡ suc n) × (covers tree ++ left ≡ covers t ++ r) × (next tree left ≡ Grows grown)
-earlier zero n t r s e = let a = shrinks t r n s (omega arith) in (a.tree, a.left, t, a.is_open, a.fewer, a.same, a.step)
+    → (tree : List Begun) × (left : List Bool) × (grown : List Begun) × IsOpenTree tree × (parts tree ≡ suc n) × (covers tree ++ left ≡ covers t ++ r) × (next tree left ≡ Grows grown) × (root_profile tree ≡ root_profile t)
+earlier zero n t r s e = let a = shrinks t r n s (omega arith) in (a.tree, a.left, t, a.is_open, a.fewer, a.same, a.step, a.root)
 earlier (suc k) n t r s e =
     let a = shrinks t r (suc (k + n)) s (omega arith) in
     let b = earlier k n a.tree a.left a.is_open a.fewer in
-    (b.0, b.1, b.2, b.3, b.4, b.5 ∙ a.same, b.6)
+    (b.0, b.1, b.2, b.3, b.4, b.5 ∙ a.same, b.6, b.7 ∙ a.root)
 
 abbrev pub IsEnd : Step → Type 0
 IsEnd (Grows t) = ⊥
@@ -177,21 +180,21 @@ unfolding next next_fault parts
 has_part [] r e = absurd e
 has_part (b ∷ outer) r e = (parts outer + (length b.fields + tail_parts b.tail + whole_parts b.children), omega arith)
 
-pub not_both : (t u : List Begun) (r s : List Bool) → IsOpenTree t → IsOpenTree u → covers t ++ r ≡ covers u ++ s → IsEnd (next t r) → parts t < parts u → ⊥
-not_both t u r s st su e end lt =
+pub not_both : (t u : List Begun) (r s : List Bool) → IsOpenTree t → IsOpenTree u → root_profile t ≡ root_profile u → covers t ++ r ≡ covers u ++ s → IsEnd (next t r) → parts t < parts u → ⊥
+not_both t u r s st su roots e end lt =
     let n = has_part t r end in
     let k : ℕ = parts u - parts t - 1 in
     let total : parts u ≡ suc (suc (k + n.0)) = omega (arith, n.1) in
     let b = earlier k n.0 u s su total in
-    let a = agree n.0 t b.0 r b.1 st b.3 n.1 b.4 (e ∙ sym b.5) in
+    let a = agree n.0 t b.0 r b.1 st b.3 n.1 b.4 (roots ∙ sym b.7) (e ∙ sym b.5) in
     let step : next t r ≡ Grows b.2 = ap (λ (x : List Begun). next x r) a.0 ∙ ap (λ (x : List Bool). next b.0 x) a.1 ∙ b.6 in
     subst IsEnd step end
 
 -- only one open tree is at an end
-pub one_end : (t u : List Begun) (r s : List Bool) → IsOpenTree t → IsOpenTree u → covers t ++ r ≡ covers u ++ s → IsEnd (next t r) → IsEnd (next u s) → (t ≡ u) × (r ≡ s)
-one_end t u r s st su e et eu =
+pub one_end : (t u : List Begun) (r s : List Bool) → IsOpenTree t → IsOpenTree u → root_profile t ≡ root_profile u → covers t ++ r ≡ covers u ++ s → IsEnd (next t r) → IsEnd (next u s) → (t ≡ u) × (r ≡ s)
+one_end t u r s st su roots e et eu =
     elim (cases_order (parts t) (parts u)) [
-      | inl same ↦ (let n = has_part t r et in agree n.0 t u r s st su n.1 (sym same ∙ n.1) e)
-      | inr (inl lt) ↦ absurd (not_both t u r s st su e et lt)
-      | inr (inr gt) ↦ absurd (not_both u t s r su st (sym e) eu gt)
+      | inl same ↦ (let n = has_part t r et in agree n.0 t u r s st su n.1 (sym same ∙ n.1) roots e)
+      | inr (inl lt) ↦ absurd (not_both t u r s st su roots e et lt)
+      | inr (inr gt) ↦ absurd (not_both u t s r su st (sym roots) (sym e) eu gt)
     ]

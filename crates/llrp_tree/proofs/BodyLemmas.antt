@@ -9,8 +9,8 @@ use Rattle.llrp_schema.specs.declared.kinds.MsgKind.{MsgKind}
 use Rattle.llrp_schema.specs.declared.kinds.Kind.{Kind}
 use Rattle.llrp_schema.specs.declared.kinds.Kind.TheVariants.{Message, Parameter}
 use Rattle.llrp_schema.specs.declared.kinds.Tail.{Tail}
-use Rattle.llrp_schema.proofs.TableLaws.{tv_tail, tv_groups}
-use Rattle.llrp_schema.specs.Schema.{GroupRule, fields_of, tail_of, groups_of, is_tv}
+use Rattle.llrp_schema.proofs.TableLaws.{message_found_in, tv_tail, tv_groups}
+use Rattle.llrp_schema.specs.Schema.{profile_of, GroupRule, fields_of, tail_of, groups_of, is_tv}
 use Rattle.llrp_tree.specs.declared.TheConstants.{MAX_LIMIT}
 use Rattle.llrp_tree.specs.declared.fault.Reason.TheVariants.{Missing}
 use Rattle.llrp_tree.specs.declared.fault.FrameErr.{FrameErr}
@@ -20,9 +20,10 @@ use Rattle.llrp_tree.specs.Lawful.{AreOctets, IsLawful}
 use Rattle.llrp_tree.specs.Checks.{none_missing}
 use Rattle.llrp_tree.specs.Spelling.{Head, message, tlv, tv, spread}
 use Rattle.llrp_tree.specs.Frame.{Frame}
-use Rattle.llrp_tree.specs.OpenTree.{Begun, kind_of, groups, due, Rest, as_read, is_enough, IsHead, IsOpenTree}
-use Rattle.llrp_tree.specs.FirstFault.{number, first_failing, checks, Close, is_over, header_checks}
-use Rattle.llrp_tree.specs.Standing.{Stands, Closes, begun, leading, Tells, IsFirst, Begins, HeaderSays, is_tv_kind}
+use Rattle.llrp_schema.specs.declared.kinds.Profile.{Profile}
+use Rattle.llrp_tree.specs.OpenTree.{root_of, Begun, kind_of, groups, due, Rest, as_read, is_enough, IsHead, IsOpenTree}
+use Rattle.llrp_tree.specs.FirstFault.{number, first_failing, checks, Close, is_over, header_checks_in}
+use Rattle.llrp_tree.specs.Standing.{Stands, Closes, begun, leading, Tells, IsFirstIn, Begins, HeaderSaysIn, HasFault, is_tv_kind}
 use Rattle.llrp_tree.proofs.TreeLemmas.{forest-push}
 use Rattle.llrp_tree.proofs.Steps.{closed, with_child}
 use Rattle.llrp_tree.proofs.Leading.{plain, length-spread, drop_all}
@@ -103,10 +104,10 @@ module _ (ds : List Bool) (h : Head) (stop : ℕ) (kind : Kind) (ws os : List �
   over : is_over h (nat_le stop at) ≡ true
   over = over_at h kind stop at e done outer (head_of_tree here outer st.is_open)
 
-  pub missing_tells : (r : FrameErr) → none_missing (groups_of kind) children ≡ false → r ≡ Bad (record { bit = stop; reason = Missing }) → Tells ds r
+  pub missing_tells : (r : FrameErr) → none_missing (groups_of kind) children ≡ false → r ≡ Bad (record { bit = stop; reason = Missing }) → Tells (root_of h outer) ds r
   missing_tells r few told =
       let isnt : is_enough (groups_of (kind_of h)) (forest children) ≡ false = ap (λ (j : Kind). is_enough (groups_of j) (forest children)) e ∙ sym (enough_is (groups_of kind) children) ∙ few in
-      subst (Tells ds) (sym told) (fault_is ds here outer at Close stop Missing st (closing_turn here at (drop at ds) (rest_due h stop kind ws os (forest children) e) over) (missing_first here (length (here ∷ outer)) at (drop at ds) isnt))
+      subst (Tells (root_of h outer) ds) (sym told) (fault_is ds here outer at Close stop Missing st (closing_turn here at (drop at ds) (rest_due h stop kind ws os (forest children) e) over) (missing_first here (length (here ∷ outer)) at (drop at ds) isnt))
 
   pub closes_here : none_missing (groups_of kind) children ≡ true → Closes ds here outer at
   closes_here enough =
@@ -128,25 +129,28 @@ tv_stands ds p outer at hb stop k ws os cs no_octets no_child e short l st =
 
 -- ---- the frame
 
-module _ (bytes : List ℕ) (limit v : ℕ) (k : MsgKind) (n id : ℕ) (s : HeaderSays limit (digits_of_bytes bytes) v k n id) (own : number (digits_of_bytes bytes) 16 32 ≡ length bytes) (ten : 10 ≤ length bytes) where
+module _ (p : Profile) (bytes : List ℕ) (limit v : ℕ) (k : MsgKind) (n id : ℕ) (s : HeaderSaysIn p limit (digits_of_bytes bytes) v k n id) (own : number (digits_of_bytes bytes) 16 32 ≡ length bytes) (ten : 10 ≤ length bytes) where
   pub is_length : n ≡ length bytes
   is_length = s.octets_is ∙ own
 
   pub frame_stands : Stands (digits_of_bytes bytes) (leading (message v k n id) (8 * length bytes) [] ∷ []) (8 * 10)
   frame_stands =
       let long : length (digits_of_bytes bytes) ≡ 8 * n = length-bytes bytes ∙ ap (λ (x : ℕ). 8 * x) (sym is_length) in
-      let st = header_stands limit (digits_of_bytes bytes) v k n id s long (omega (arith, is_length, ten)) in
+      let st = header_stands p limit (digits_of_bytes bytes) v k n id s long (omega (arith, is_length, ten)) in
       subst (λ (x : ℕ). Stands (digits_of_bytes bytes) (leading (message v k n id) (8 * x) [] ∷ []) 80) is_length st
 
   pub frame_begins : Begins bytes (Message k) 0 10 (length bytes)
   frame_begins = record { head = message v k n id; outer = []; of_kind = refl; at_level = refl; stands = frame_stands }
 
   pub within_limit : n ≤ limit
-  within_limit = (let a = leb-true (number (digits_of_bytes bytes) 16 32) limit (all_hold (header_checks limit (digits_of_bytes bytes)) s.passes).1.1.1.0 in omega (arith, s.octets_is))
+  within_limit = (let a = leb-true (number (digits_of_bytes bytes) 16 32) limit (all_hold (header_checks_in p limit (digits_of_bytes bytes)) s.passes).1.1.1.0 in omega (arith, s.octets_is))
 
-  pub body_tells : (e : FrameErr) → Tells (digits_of_bytes bytes) e → IsFirst bytes limit e
+  pub of_profile : profile_of (Message k) ≡ p
+  of_profile = (message_found_in p (number (digits_of_bytes bytes) 6 10) k s.kind_is).0
+
+  pub body_tells : (e : FrameErr) → Tells (profile_of (Message k)) (digits_of_bytes bytes) e → IsFirstIn p bytes limit e
   body_tells Memory f = tt
-  body_tells (Bad x) f = fault_of_frame limit bytes x.bit x.reason s.passes f
+  body_tells (Bad x) f = fault_of_frame p limit bytes x.bit x.reason s.passes (subst (λ (q : Profile). HasFault q (digits_of_bytes bytes) x.bit x.reason) of_profile f)
 
   pub body_is_frame : (ws os : List ℕ) (cs : Forest) (at : ℕ) → limit ≤ MAX_LIMIT → AreOctets bytes → length ws ≡ length (plain (fields_of (Message k))) → Closes (digits_of_bytes bytes) (open_body (message v k n id) (8 * length bytes) (Message k) ws os cs) [] at
       → Frame (record { version = v; id = id; kind = k; fields = ws; children = cs }) bytes limit

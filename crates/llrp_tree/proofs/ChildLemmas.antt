@@ -1,5 +1,5 @@
 -- The head of a child, as a step of an open tree.
-use Rattle.std.proofs.Common.{◌≡◌, ℕ, ◌+◌, ◌*◌, ◌<◌, ◌≤◌, Bool, true, false, ◌&&◌, ◌⊎◌, inl, inr, List, [], ◌∷◌, ◌++◌, length, take, drop, map, Option, Some, refl, sym, ap, subst, ◌∙◌, arith}
+use Rattle.std.proofs.Common.{◌≡◌, ℕ, ◌+◌, ◌-◌, ◌*◌, ◌<◌, ◌≤◌, Bool, true, false, ◌&&◌, ◌⊎◌, inl, inr, List, [], ◌∷◌, ◌++◌, length, take, drop, map, Option, Some, refl, sym, ap, subst, ◌∙◌, arith}
 use Rattle.std.specs.Prelude.{nat_le, if◌then◌else◌}
 use Rattle.std.specs.Str.{is_utf8, IsUtf8}
 use Rattle.std.specs.Str.Lossy.{utf8_valid_len}
@@ -10,8 +10,9 @@ use Rattle.tag_bits.specs.Digits.{value, digits_of_bytes, field}
 use Rattle.llrp_schema.specs.declared.kinds.ParamKind.{ParamKind}
 use Rattle.llrp_schema.specs.declared.kinds.Kind.{Kind}
 use Rattle.llrp_schema.specs.declared.kinds.Tail.TheVariants.{Text}
+use Rattle.llrp_schema.specs.declared.kinds.Profile.{Profile}
 use Rattle.llrp_schema.specs.declared.kinds.Group.{Group}
-use Rattle.llrp_schema.specs.Schema.{GroupRule, group_rule, groups_of, is_tv}
+use Rattle.llrp_schema.specs.Schema.{GroupRule, group_rule, groups_of, profile_of, is_tv}
 use Rattle.llrp_tree.specs.declared.TheConstants.{MAX_DEPTH}
 use Rattle.llrp_tree.specs.declared.fault.Reason.{Reason}
 use Rattle.llrp_tree.specs.declared.fault.Reason.TheVariants.{Extra, ParamLength, Utf8}
@@ -20,7 +21,7 @@ use Rattle.llrp_tree.specs.declared.fault.FrameErr.TheVariants.{Memory, Bad}
 use Rattle.llrp_tree.specs.Tree.{Forest}
 use Rattle.llrp_tree.specs.Lawful.{AreOctets, has_place}
 use Rattle.llrp_tree.specs.Spelling.{Head, message, tlv, tv}
-use Rattle.llrp_tree.specs.OpenTree.{Begun, kind_of, due, Rest, takes_more, MayBegin, IsHead, IsOpenTree}
+use Rattle.llrp_tree.specs.OpenTree.{root_of, Begun, kind_of, due, Rest, takes_more, MayBegin, IsHead, IsOpenTree}
 use Rattle.llrp_tree.specs.FirstFault.{number, tail_at, tail_end, tv_kind, tlv_kind, tlv_octets, first_digit, Check, first_failing, tail_checks, kind_checks, tlv_checks, checks, Turn, Close, NoChild, BeginTv, BeginTlv, turn, is_over, has_none}
 use Rattle.llrp_tree.specs.Standing.{Stands, begun, leading, FailsFirst, Tells, KindPasses, TlvPasses, TailSpans, is_tv_kind}
 use Rattle.llrp_tree.proofs.OctetLemmas.{not_utf8}
@@ -35,7 +36,7 @@ module _ (bs : List ℕ) (fields : List ℕ) (at stop n : ℕ) (o : AreOctets bs
   abbrev rest : List Bool
   rest = drop (8 * at) (digits_of_bytes bs)
 
-  text_octets : tail_at Text fields rest ≡ os
+  text_octets : tail_at Text fields (8 * stop - 8 * at) rest ≡ os
   text_octets =
       let place : 16 + 8 * at ≡ 8 * (at + 2) = omega arith in
       ap (λ (k : ℕ). Rattle.llrp_tree.specs.FirstFault.octets_at k (drop 16 rest)) (sym is)
@@ -47,13 +48,13 @@ module _ (bs : List ℕ) (fields : List ℕ) (at stop n : ℕ) (o : AreOctets bs
 
   pub text_fails : (v : ℕ) (e : FrameErr) → (IsUtf8 os → ⊥) → v ≡ utf8_valid_len os → e ≡ Bad (record { bit = 8 * (at + 2 + v); reason = Utf8 }) → FailsFirst (tail_checks Text fields (8 * at) (8 * stop) rest) e
   text_fails v e none_text valid told =
-      let bad : is_utf8 (tail_at Text fields rest) ≡ false = ap is_utf8 text_octets ∙ sym (not_utf8 os none_text) in
-      let len : utf8_valid_len (tail_at Text fields rest) ≡ v = ap utf8_valid_len text_octets ∙ sym valid in
-      let bit : 8 * at + 16 + 8 * utf8_valid_len (tail_at Text fields rest) ≡ 8 * (at + 2 + v) = omega (arith, len) in
+      let bad : is_utf8 (tail_at Text fields (8 * stop - 8 * at) rest) ≡ false = ap is_utf8 text_octets ∙ sym (not_utf8 os none_text) in
+      let len : utf8_valid_len (tail_at Text fields (8 * stop - 8 * at) rest) ≡ v = ap utf8_valid_len text_octets ∙ sym valid in
+      let bit : 8 * at + 16 + 8 * utf8_valid_len (tail_at Text fields (8 * stop - 8 * at) rest) ≡ 8 * (at + 2 + v) = omega (arith, len) in
       let room : 8 * at + 16 ≤ 8 * stop = omega (arith, fit) in
-      let ends : tail_end Text fields (8 * at) rest ≤ 8 * stop = omega (arith, fit, is) in
+      let ends : tail_end Text fields (8 * at) (8 * stop) rest ≤ 8 * stop = omega (arith, fit, is) in
       subst (FailsFirst (tail_checks Text fields (8 * at) (8 * stop) rest)) (sym told)
-      (rw (le-leb (8 * at + 16) (8 * stop) room, le-leb (tail_end Text fields (8 * at) rest) (8 * stop) ends, bad) (ap (λ (m : ℕ). let p : Option (ℕ × Reason) = Some (m, Utf8) in p) bit))
+      (rw (le-leb (8 * at + 16) (8 * stop) room, le-leb (tail_end Text fields (8 * at) (8 * stop) rest) (8 * stop) ends, bad) (ap (λ (m : ℕ). let p : Option (ℕ × Reason) = Some (m, Utf8) in p) bit))
 
 -- ---- the checks of a head with a length
 
@@ -67,15 +68,15 @@ and_not : (b : Bool) → (b && false) ≡ false
 and_not true = refl
 and_not false = refl
 
-module _ (gs : List GroupRule) (cs : Forest) (level at stop : ℕ) (rest : List Bool) (room : at + 32 ≤ stop) (zeros : number rest 0 6 ≡ 0) where
-  pub kind_fails : (e : FrameErr) → FailsFirst (kind_checks (tlv_kind rest) gs cs level at (at + 6)) e → FailsFirst (tlv_checks gs cs level at stop rest) e
+module _ (pr : Profile) (gs : List GroupRule) (cs : Forest) (level at stop : ℕ) (rest : List Bool) (room : at + 32 ≤ stop) (zeros : number rest 0 6 ≡ 0) where
+  pub kind_fails : (e : FrameErr) → FailsFirst (kind_checks (tlv_kind pr rest) gs cs level at (at + 6)) e → FailsFirst (tlv_checks pr gs cs level at stop rest) e
   kind_fails Memory f = f
-  kind_fails (Bad x) f = rw (le-leb (at + 32) stop room, zeros) (first_before (kind_checks (tlv_kind rest) gs cs level at (at + 6)) _ (x.bit, x.reason) f)
+  kind_fails (Bad x) f = rw (le-leb (at + 32) stop room, zeros) (first_before (kind_checks (tlv_kind pr rest) gs cs level at (at + 6)) _ (x.bit, x.reason) f)
 
-  module _ (k : ParamKind) (p : KindPasses (tlv_kind rest) gs cs level k) (n : ℕ) (is : n ≡ tlv_octets rest) where
-    pub length_fails : (e : FrameErr) → (n < 4) ⊎ (stop < at + 8 * n) → e ≡ Bad (record { bit = at + 16; reason = ParamLength }) → FailsFirst (tlv_checks gs cs level at stop rest) e
-    length_fails e (inl lt) told = subst (FailsFirst (tlv_checks gs cs level at stop rest)) (sym told) (rw (le-leb (at + 32) stop room, zeros, p.is, ← is, p.has, p.takes, le-leb level MAX_DEPTH p.deep, lt-leb 4 n lt) refl)
-    length_fails e (inr lt) told = subst (FailsFirst (tlv_checks gs cs level at stop rest)) (sym told) (rw (le-leb (at + 32) stop room, zeros, p.is, ← is, p.has, p.takes, le-leb level MAX_DEPTH p.deep, lt-leb (at + 8 * n) stop lt, and_not (nat_le 4 n)) refl)
+  module _ (k : ParamKind) (p : KindPasses (tlv_kind pr rest) gs cs level k) (n : ℕ) (is : n ≡ tlv_octets rest) where
+    pub length_fails : (e : FrameErr) → (n < 4) ⊎ (stop < at + 8 * n) → e ≡ Bad (record { bit = at + 16; reason = ParamLength }) → FailsFirst (tlv_checks pr gs cs level at stop rest) e
+    length_fails e (inl lt) told = subst (FailsFirst (tlv_checks pr gs cs level at stop rest)) (sym told) (rw (le-leb (at + 32) stop room, zeros, p.is, ← is, p.has, p.takes, le-leb level MAX_DEPTH p.deep, lt-leb 4 n lt) refl)
+    length_fails e (inr lt) told = subst (FailsFirst (tlv_checks pr gs cs level at stop rest)) (sym told) (rw (le-leb (at + 32) stop room, zeros, p.is, ← is, p.has, p.takes, le-leb level MAX_DEPTH p.deep, lt-leb (at + 8 * n) stop lt, and_not (nat_le 4 n)) refl)
 
 -- ---- a child that begins
 
@@ -132,8 +133,8 @@ module _ (ds : List Bool) (h : Head) (stop : ℕ) (fs : List ℕ) (tl : Option (
   unfolding checks
   extra_first = refl
 
-  pub extra_tells : (e : FrameErr) → has_none (groups_of parent) ≡ true → e ≡ Bad (record { bit = at; reason = Extra }) → Tells ds e
-  extra_tells e g told = subst (Tells ds) (sym told) (fault_is ds here outer at NoChild at Extra st (extra_turn g) extra_first)
+  pub extra_tells : (e : FrameErr) → has_none (groups_of parent) ≡ true → e ≡ Bad (record { bit = at; reason = Extra }) → Tells (root_of h outer) ds e
+  extra_tells e g told = subst (Tells (root_of h outer) ds) (sym told) (fault_is ds here outer at NoChild at Extra st (extra_turn g) extra_first)
 
   tv_turn : has_none (groups_of parent) ≡ false → first_digit (drop at ds) ≡ true → turn here at (drop at ds) ≡ BeginTv
   unfolding turn
@@ -146,18 +147,18 @@ module _ (ds : List Bool) (h : Head) (stop : ℕ) (fs : List ℕ) (tl : Option (
   at_level : level + 1 ≡ length (here ∷ outer)
   at_level = omega (arith, l)
 
-  pub tv_tells : (e : FrameErr) → has_none (groups_of parent) ≡ false → first_digit (drop at ds) ≡ true → FailsFirst (kind_checks (tv_kind (drop at ds)) (groups_of parent) siblings (level + 1) at (at + 1)) e → Tells ds e
+  pub tv_tells : (e : FrameErr) → has_none (groups_of parent) ≡ false → first_digit (drop at ds) ≡ true → FailsFirst (kind_checks (tv_kind (profile_of parent) (drop at ds)) (groups_of parent) siblings (level + 1) at (at + 1)) e → Tells (root_of h outer) ds e
   unfolding checks
   tv_tells e g z f =
-      let P : Kind → Type 0 = λ j. FailsFirst (kind_checks (tv_kind (drop at ds)) (groups_of j) siblings (length (here ∷ outer)) at (at + 1)) e in
-      let Q : ℕ → Type 0 = λ n. FailsFirst (kind_checks (tv_kind (drop at ds)) (groups_of parent) siblings n at (at + 1)) e in
+      let P : Kind → Type 0 = λ j. FailsFirst (kind_checks (tv_kind (profile_of j) (drop at ds)) (groups_of j) siblings (length (here ∷ outer)) at (at + 1)) e in
+      let Q : ℕ → Type 0 = λ n. FailsFirst (kind_checks (tv_kind (profile_of parent) (drop at ds)) (groups_of parent) siblings n at (at + 1)) e in
       tells ds here outer at BeginTv e st (tv_turn g z) (subst P (sym k) (subst Q at_level f))
 
-  pub tlv_tells : (e : FrameErr) → has_none (groups_of parent) ≡ false → first_digit (drop at ds) ≡ false → FailsFirst (tlv_checks (groups_of parent) siblings (level + 1) at stop (drop at ds)) e → Tells ds e
+  pub tlv_tells : (e : FrameErr) → has_none (groups_of parent) ≡ false → first_digit (drop at ds) ≡ false → FailsFirst (tlv_checks (profile_of parent) (groups_of parent) siblings (level + 1) at stop (drop at ds)) e → Tells (root_of h outer) ds e
   unfolding checks
   tlv_tells e g z f =
-      let P : Kind → Type 0 = λ j. FailsFirst (tlv_checks (groups_of j) siblings (length (here ∷ outer)) at stop (drop at ds)) e in
-      let Q : ℕ → Type 0 = λ n. FailsFirst (tlv_checks (groups_of parent) siblings n at stop (drop at ds)) e in
+      let P : Kind → Type 0 = λ j. FailsFirst (tlv_checks (profile_of j) (groups_of j) siblings (length (here ∷ outer)) at stop (drop at ds)) e in
+      let Q : ℕ → Type 0 = λ n. FailsFirst (tlv_checks (profile_of parent) (groups_of parent) siblings n at stop (drop at ds)) e in
       tells ds here outer at BeginTlv e st (tlv_turn g z) (subst P (sym k) (subst Q at_level f))
 
   may_begin : (found : Option ParamKind) (c : ParamKind) → KindPasses found (groups_of parent) siblings (level + 1) c → MayBegin here c
@@ -166,10 +167,10 @@ module _ (ds : List Bool) (h : Head) (stop : ℕ) (fs : List ℕ) (tl : Option (
       let Q : Kind → Type 0 = λ j. takes_more (groups_of j) c siblings ≡ true in
       record { ready = d; has = subst P (sym k) p.has; more = subst Q (sym k) p.takes }
 
-  pub tv_begun : (c : ParamKind) → first_digit (drop at ds) ≡ true → KindPasses (tv_kind (drop at ds)) (groups_of parent) siblings (level + 1) c → Stands ds (leading (tv c) stop [] ∷ here ∷ outer) (at + 8)
-  tv_begun c z p = grow_tv here outer ds at c st (octet_left ds here outer at st d lt) z p.is (may_begin (tv_kind (drop at ds)) c p) (omega (arith, p.deep, at_level))
+  pub tv_begun : (c : ParamKind) → first_digit (drop at ds) ≡ true → KindPasses (tv_kind (profile_of parent) (drop at ds)) (groups_of parent) siblings (level + 1) c → Stands ds (leading (tv c) stop [] ∷ here ∷ outer) (at + 8)
+  tv_begun c z p = grow_tv here outer ds at c st (octet_left ds here outer at st d lt) z (subst (λ (j : Kind). tv_kind (profile_of j) (drop at ds) ≡ Some c) (sym k) p.is) (may_begin (tv_kind (profile_of parent) (drop at ds)) c p) (omega (arith, p.deep, at_level))
 
-  pub tlv_begun : (c : ParamKind) (n : ℕ) → TlvPasses (groups_of parent) siblings (level + 1) at stop (drop at ds) c n → Stands ds (leading (tlv c n) (at + 8 * n) [] ∷ here ∷ outer) (at + 32)
+  pub tlv_begun : (c : ParamKind) (n : ℕ) → TlvPasses (profile_of parent) (groups_of parent) siblings (level + 1) at stop (drop at ds) c n → Stands ds (leading (tlv c n) (at + 8 * n) [] ∷ here ∷ outer) (at + 32)
   tlv_begun c n p =
       let P : ℕ → Type 0 = λ m. Stands ds (leading (tlv c m) (at + 8 * m) [] ∷ here ∷ outer) (at + 32) in
-      subst P (sym p.octets_are) (grow_tlv here outer ds at c st p.room p.zeros p.placed.is (may_begin (tlv_kind (drop at ds)) c p.placed) (omega (arith, p.placed.deep, at_level)) (omega (arith, p.least, p.octets_are)) (omega (arith, p.most, p.octets_are)))
+      subst P (sym p.octets_are) (grow_tlv here outer ds at c st p.room p.zeros (subst (λ (j : Kind). tlv_kind (profile_of j) (drop at ds) ≡ Some c) (sym k) p.placed.is) (may_begin (tlv_kind (profile_of parent) (drop at ds)) c p.placed) (omega (arith, p.placed.deep, at_level)) (omega (arith, p.least, p.octets_are)) (omega (arith, p.most, p.octets_are)))

@@ -6,7 +6,7 @@ use Rattle.std.specs.Str.Lossy.{utf8_valid_len}
 use Rattle.std.proofs.lemmas.Bool.{leb-true}
 use Rattle.llrp_schema.specs.declared.kinds.ParamKind.{ParamKind}
 use Rattle.llrp_schema.specs.declared.kinds.Tail.{Tail}
-use Rattle.llrp_schema.specs.declared.kinds.Tail.TheVariants.{Absent, Words, Text, Bits}
+use Rattle.llrp_schema.specs.declared.kinds.Tail.TheVariants.{Absent, Words, Text, Bits, Data}
 use Rattle.llrp_schema.specs.Schema.{FieldRule, GroupRule}
 use Rattle.llrp_tree.specs.declared.TheConstants.{MAX_DEPTH}
 use Rattle.llrp_tree.specs.declared.fault.Reason.{Reason}
@@ -14,7 +14,7 @@ use Rattle.llrp_tree.specs.declared.fault.Reason.TheVariants.{Reserved, Short, V
 use Rattle.llrp_tree.specs.Tree.{Forest}
 use Rattle.llrp_tree.specs.Lawful.{has_place}
 use Rattle.llrp_tree.specs.Spelling.{Head, message, tlv, tv}
-use Rattle.llrp_tree.specs.OpenTree.{Begun, kind_of, groups, covers, Due, AField, ATail, Rest, due, takes_more, is_enough, IsHead, IsOpenTree}
+use Rattle.llrp_tree.specs.OpenTree.{profile, Begun, kind_of, groups, covers, Due, AField, ATail, Rest, due, takes_more, is_enough, IsHead, IsOpenTree}
 use Rattle.llrp_tree.specs.FirstFault.{check, Check, first_failing, tail_at, tail_end, tlv_kind, tlv_octets, tail_checks, kind_checks, checks, ReadField, BeginTlv, turn_of, turn, is_over, has_none, first_digit, next_fault}
 use Rattle.llrp_tree.specs.Deciding.{deciding_tail, deciding_of, deciding, failing_tail, failing_part, failing_end, FaultsAreDecided}
 use Rattle.llrp_tree.proofs.Openings.{tv_has_none}
@@ -36,32 +36,33 @@ field_decided r b at rest true false false bit reason e = (let same : Value ≡ 
 
 -- ---- tails
 
-counted_decided : (form : Tail) (fields : List ℕ) (at : ℕ) (rest : List Bool) (more : List Check) (short fits : Bool) (bit : ℕ) (reason : Reason)
-    → at + 16 ≡ failing_tail Count form fields at rest → (first_failing more ≡ Some (bit, reason) → reason ≡ Utf8)
+counted_decided : (form : Tail) (fields : List ℕ) (at stop : ℕ) (rest : List Bool) (more : List Check) (short fits : Bool) (bit : ℕ) (reason : Reason)
+    → at + 16 ≡ failing_tail Count form fields at stop rest → (first_failing more ≡ Some (bit, reason) → reason ≡ Utf8)
     → first_failing (check short at Short ∷ check fits at Count ∷ more) ≡ Some (bit, reason)
-    → (if short then (if fits then tail_end form fields at rest else at + 16) else at) ≡ failing_tail reason form fields at rest
-counted_decided form fields at rest more false fits bit reason c u e = (let same : Short ≡ reason = ap reason_in e in subst (λ (x : Reason). at ≡ failing_tail x form fields at rest) same refl)
-counted_decided form fields at rest more true false bit reason c u e = (let same : Count ≡ reason = ap reason_in e in subst (λ (x : Reason). at + 16 ≡ failing_tail x form fields at rest) same c)
-counted_decided form fields at rest more true true bit reason c u e = subst (λ (x : Reason). tail_end form fields at rest ≡ failing_tail x form fields at rest) (sym (u e)) refl
+    → (if short then (if fits then tail_end form fields at stop rest else at + 16) else at) ≡ failing_tail reason form fields at stop rest
+counted_decided form fields at stop rest more false fits bit reason c u e = (let same : Short ≡ reason = ap reason_in e in subst (λ (x : Reason). at ≡ failing_tail x form fields at stop rest) same refl)
+counted_decided form fields at stop rest more true false bit reason c u e = (let same : Count ≡ reason = ap reason_in e in subst (λ (x : Reason). at + 16 ≡ failing_tail x form fields at stop rest) same c)
+counted_decided form fields at stop rest more true true bit reason c u e = subst (λ (x : Reason). tail_end form fields at stop rest ≡ failing_tail x form fields at stop rest) (sym (u e)) refl
 
 not_text : (holds : Bool) (at bit : ℕ) (reason : Reason) → first_failing (check holds at Utf8 ∷ []) ≡ Some (bit, reason) → reason ≡ Utf8
 not_text true at bit reason e = absurd cc
 not_text false at bit reason e = sym (ap reason_in e)
 
-bits_decided : (fields : List ℕ) (at : ℕ) (rest : List Bool) (fits : Bool) (bit : ℕ) (reason : Reason)
-    → first_failing (check fits (at - 16) Count ∷ []) ≡ Some (bit, reason) → (if fits then tail_end Bits fields at rest else at) ≡ failing_tail reason Bits fields at rest
-bits_decided fields at rest true bit reason e = absurd cc
-bits_decided fields at rest false bit reason e = (let same : Count ≡ reason = ap reason_in e in subst (λ (x : Reason). at ≡ failing_tail x Bits fields at rest) same (omega arith))
+bits_decided : (fields : List ℕ) (at stop : ℕ) (rest : List Bool) (fits : Bool) (bit : ℕ) (reason : Reason)
+    → first_failing (check fits (at - 16) Count ∷ []) ≡ Some (bit, reason) → (if fits then tail_end Bits fields at stop rest else at) ≡ failing_tail reason Bits fields at stop rest
+bits_decided fields at stop rest true bit reason e = absurd cc
+bits_decided fields at stop rest false bit reason e = (let same : Count ≡ reason = ap reason_in e in subst (λ (x : Reason). at ≡ failing_tail x Bits fields at stop rest) same (omega arith))
 
 tail_decided : (form : Tail) (fields : List ℕ) (at stop : ℕ) (rest : List Bool) (bit : ℕ) (reason : Reason) → first_failing (tail_checks form fields at stop rest) ≡ Some (bit, reason)
-    → deciding_tail form fields at stop rest ≡ failing_tail reason form fields at rest
+    → deciding_tail form fields at stop rest ≡ failing_tail reason form fields at stop rest
 tail_decided Absent fields at stop rest bit reason e = absurd cc
-tail_decided Words fields at stop rest bit reason e = counted_decided Words fields at rest [] _ _ bit reason refl (λ f. absurd cc) e
+tail_decided Words fields at stop rest bit reason e = counted_decided Words fields at stop rest [] _ _ bit reason refl (λ f. absurd cc) e
 tail_decided Text fields at stop rest bit reason e =
-    let text : List ℕ = tail_at Text fields rest in
+    let text : List ℕ = tail_at Text fields (stop - at) rest in
     let found : ℕ = at + 16 + 8 * utf8_valid_len text in
-    counted_decided Text fields at rest (check (is_utf8 text) found Utf8 ∷ []) _ _ bit reason refl (not_text (is_utf8 text) found bit reason) e
-tail_decided Bits fields at stop rest bit reason e = bits_decided fields at rest _ bit reason e
+    counted_decided Text fields at stop rest (check (is_utf8 text) found Utf8 ∷ []) _ _ bit reason refl (not_text (is_utf8 text) found bit reason) e
+tail_decided Bits fields at stop rest bit reason e = bits_decided fields at stop rest _ bit reason e
+tail_decided Data fields at stop rest bit reason e = absurd cc
 
 -- ---- the head of a child
 
@@ -123,8 +124,8 @@ module _ (b : Begun) (outer : List Begun) (rest : List Bool) (bit : ℕ) (reason
   by_turn Rest false true z eo e = refl
   by_turn Rest false false true eo e = refl
   by_turn Rest false false false eo e = (let fits : Bool = nat_le 4 (tlv_octets rest) && nat_le (at + 8 * tlv_octets rest) b.stop in
-      let more : List Check = kind_checks (tlv_kind rest) (groups b) b.children (length (b ∷ outer)) at (at + 6) ++ check fits (at + 16) ParamLength ∷ [] in
-      head_decided b at rest _ _ more bit reason (kind_reason (tlv_kind rest) (groups b) b.children (length (b ∷ outer)) at (at + 6) fits bit reason) e)
+      let more : List Check = kind_checks (tlv_kind (profile b) rest) (groups b) b.children (length (b ∷ outer)) at (at + 6) ++ check fits (at + 16) ParamLength ∷ [] in
+      head_decided b at rest _ _ more bit reason (kind_reason (tlv_kind (profile b) rest) (groups b) b.children (length (b ∷ outer)) at (at + 6) fits bit reason) e)
 
 pub faults_are_decided : FaultsAreDecided
 unfolding next_fault deciding failing_end turn

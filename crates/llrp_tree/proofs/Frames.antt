@@ -10,8 +10,8 @@ use Rattle.llrp_schema.specs.declared.kinds.MsgKind.{MsgKind}
 use Rattle.llrp_schema.specs.declared.kinds.Kind.TheVariants.{Message}
 use Rattle.llrp_schema.specs.declared.kinds.Tail.{Tail}
 use Rattle.llrp_schema.specs.declared.kinds.Tail.TheVariants.{Absent}
-use Rattle.llrp_schema.specs.Schema.{fields_of, tail_of, groups_of, number_of, message_with_number}
-use Rattle.llrp_schema.proofs.TableLaws.{message_at_number, message_found, message_tail, message_number_fits}
+use Rattle.llrp_schema.specs.Schema.{profile_of, message_in as find_message, fields_of, tail_of, groups_of, number_of}
+use Rattle.llrp_schema.proofs.TableLaws.{message_at_number, message_found_in, message_tail, message_number_fits}
 use Rattle.llrp_tree.specs.declared.TheConstants.{MAX_DEPTH, MAX_LIMIT}
 use Rattle.llrp_tree.specs.declared.fault.Reason.{Reason}
 use Rattle.llrp_tree.specs.declared.fault.Reason.TheVariants.{Reserved}
@@ -19,9 +19,10 @@ use Rattle.llrp_tree.specs.Tree.{Forest, none, and, MessageTree}
 use Rattle.llrp_tree.specs.Lawful.{levels, message_octets, AreOctets, IsTail, ArePlaced, AllLawful, IsLawfulMessage}
 use Rattle.llrp_tree.specs.Spelling.{Head, message, tlv, tv, head_digits, spread, body_digits, spell, message_digits}
 use Rattle.llrp_tree.specs.Frame.{Frame}
+use Rattle.llrp_schema.specs.declared.kinds.Profile.{Profile}
 use Rattle.llrp_tree.specs.OpenTree.{Begun, kind_of, leading_digits, part, covers, Rest, tail_due, due, plain_values, IsReadTail, as_read, IsHeader, IsOpenNode, IsOpenTree}
-use Rattle.llrp_tree.specs.FirstFault.{number, first_failing, Close, next_fault, header_checks, FirstFault}
-use Rattle.llrp_tree.specs.Standing.{end_of, Stands, HasFault, Closes, begun, leading, HeaderSays}
+use Rattle.llrp_tree.specs.FirstFault.{number, first_failing, Close, next_fault, header_checks_in, FirstFaultIn}
+use Rattle.llrp_tree.specs.Standing.{end_of, Stands, HasFault, Closes, begun, leading, HeaderSaysIn}
 use Rattle.llrp_tree.proofs.Steps.{Fails, Ends, next}
 use Rattle.llrp_tree.proofs.Leading.{plain-spread, leading_spread, length-spread, drop_all, plain_in_range}
 use Rattle.llrp_tree.proofs.ReadDigits.{number_own, number_behind, length_covered, value_at, digits_take}
@@ -34,9 +35,9 @@ use Rattle.llrp_tree.proofs.Telling.{AllHold, all_hold}
 
 -- ---- headers
 
-passes : (limit : ℕ) (ds : List Bool) → (number ds 0 3 == 0) ≡ true → ((number ds 3 3 == 1) || (number ds 3 3 == 2)) ≡ true → is_some (message_with_number (number ds 6 10)) ≡ true → nat_le (number ds 16 32) limit ≡ true
-    → first_failing (header_checks limit ds) ≡ None
-passes limit ds a b c d = rw (a, b, c, d) refl
+passes : (p : Profile) (limit : ℕ) (ds : List Bool) → (number ds 0 3 == 0) ≡ true → ((number ds 3 3 == 1) || (number ds 3 3 == 2)) ≡ true → is_some (find_message p (number ds 6 10)) ≡ true → nat_le (number ds 16 32) limit ≡ true
+    → first_failing (header_checks_in p limit ds) ≡ None
+passes p limit ds a b c d = rw (a, b, c, d) refl
 
 version_known : (v : ℕ) → (v ≡ 1) ⊎ (v ≡ 2) → ((v == 1) || (v == 2)) ≡ true
 version_known v (inl e) = rw e refl
@@ -47,8 +48,8 @@ unfolding head_digits
 header_spread v k n id x = simp append_assoc
 
 -- a message's header passes
-header_passes : (limit v : ℕ) (k : MsgKind) (n id : ℕ) (x : List Bool) → (v ≡ 1) ⊎ (v ≡ 2) → n < 2 ^ 32 → n ≤ limit → first_failing (header_checks limit (head_digits (message v k n id) ++ x)) ≡ None
-header_passes limit v k n id x lv ln fit =
+header_passes : (p : Profile) (limit v : ℕ) (k : MsgKind) (n id : ℕ) (x : List Bool) → (v ≡ 1) ⊎ (v ≡ 2) → n < 2 ^ 32 → n ≤ limit → profile_of (Message k) ≡ p → first_failing (header_checks_in p limit (head_digits (message v k n id) ++ x)) ≡ None
+header_passes p limit v k n id x lv ln fit own =
     let t : ℕ = number_of (Message k) in
     let e : List Bool = digits 32 id ++ x in
     let d : List Bool = digits 32 n ++ e in
@@ -60,8 +61,8 @@ header_passes limit v k n id x lv ln fit =
     let r1 : number ds 3 3 ≡ v = number_behind 3 0 0 3 b ∙ number_own 3 v c small in
     let r2 : number ds 6 10 ≡ t = number_behind 3 0 3 10 b ∙ number_behind 3 v 0 10 c ∙ number_own 10 t d (message_number_fits k) in
     let r3 : number ds 16 32 ≡ n = number_behind 3 0 13 32 b ∙ number_behind 3 v 10 32 c ∙ number_behind 10 t 0 32 d ∙ number_own 32 n e ln in
-    subst (λ (y : List Bool). first_failing (header_checks limit y) ≡ None) (sym (header_spread v k n id x))
-    (passes limit ds (ap (λ (m : ℕ). m == 0) r0) (ap (λ (m : ℕ). (m == 1) || (m == 2)) r1 ∙ version_known v lv) (ap is_some (ap message_with_number r2 ∙ message_at_number k)) (ap (λ (m : ℕ). nat_le m limit) r3 ∙ le-leb n limit fit))
+    subst (λ (y : List Bool). first_failing (header_checks_in p limit y) ≡ None) (sym (header_spread v k n id x))
+    (passes p limit ds (ap (λ (m : ℕ). m == 0) r0) (ap (λ (m : ℕ). (m == 1) || (m == 2)) r1 ∙ version_known v lv) (ap is_some (ap (find_message p) r2 ∙ subst (λ q. find_message q (number_of (Message k)) ≡ Some k) own (message_at_number k))) (ap (λ (m : ℕ). nat_le m limit) r3 ∙ le-leb n limit fit))
 
 -- ---- a message's frame as an open tree that is at its end
 
@@ -99,7 +100,7 @@ frame_ends m bytes limit x f =
     let at : ℕ = length (covers (whole m ∷ [])) in
     let long : at ≡ 8 * n = ap (λ (y : List Bool). length y) c ∙ length-message_digits m in
     record {
-      is_open = (record { head = record { known_version = l.version; octets_fit = omega (arith, l.long); id_fits = l.id; stops = refl }; fields = leading_spread (fields_of (Message m.kind)) m.fields (are_rules (Message m.kind)) l.obeys.ranges; tail = tt; tail_after = inl refl; children_after = inr (whole_due m); lawful = l.children; placed = l.obeys.placed; most = l.obeys.most; deep = omega (arith, few_levels m.children l.children); inside = omega (arith, long) }, tt);
+      is_open = (record { head = record { known_version = l.version; octets_fit = omega (arith, l.long); id_fits = l.id; stops = refl }; fields = leading_spread (fields_of (Message m.kind)) m.fields (are_rules (Message m.kind)) l.obeys.ranges; tail = tt; filled = λ e. inl refl; tail_after = inl refl; children_after = inr (whole_due m); lawful = l.children; placed = l.obeys.placed; most = l.obeys.most; deep = omega (arith, few_levels m.children l.children); inside = omega (arith, long) }, tt);
       covered = c ∙ sym f.spelled;
       ends = next_is (whole m) [] x Close (closing_turn (whole m) at x (whole_due m) (le-leb (8 * n) at (omega (arith, long)))) (closing_passes (whole m) 1 at x (enough_to (groups_of (Message m.kind)) m.children l.obeys.least));
     }
@@ -123,12 +124,12 @@ no_bytes : (bytes : List ℕ) → digits_of_bytes bytes ≡ [] → bytes ≡ []
 no_bytes [] e = refl
 no_bytes (b ∷ bytes) e = absurd (let a = length-bytes (b ∷ bytes) in let z = ap (λ (x : List Bool). length x) e in omega arith)
 
-pub no_prefix : (limit : ℕ) (bytes more : List ℕ) (m k : MessageTree) → Frame m bytes limit → Frame k (bytes ++ more) limit → (m ≡ k) × (more ≡ [])
-no_prefix limit bytes more m k f g =
+pub no_prefix : (limit : ℕ) (bytes more : List ℕ) (m k : MessageTree) → profile_of (Message m.kind) ≡ profile_of (Message k.kind) → Frame m bytes limit → Frame k (bytes ++ more) limit → (m ≡ k) × (more ≡ [])
+no_prefix limit bytes more m k roots f g =
     let x : List Bool = digits_of_bytes more in
     let a = frame_ends m bytes limit x f in
     let b = frame_ends k (bytes ++ more) limit [] g in
-    let same = one_end (whole m ∷ []) (whole k ∷ []) x [] a.is_open b.is_open (ap (λ (y : List Bool). y ++ x) a.covered ∙ sym (bytes-append bytes more) ∙ sym b.covered ∙ sym (append-nil (covers (whole k ∷ [])))) (subst IsEnd (sym a.ends) tt) (subst IsEnd (sym b.ends) tt) in
+    let same = one_end (whole m ∷ []) (whole k ∷ []) x [] a.is_open b.is_open roots (ap (λ (y : List Bool). y ++ x) a.covered ∙ sym (bytes-append bytes more) ∙ sym b.covered ∙ sym (append-nil (covers (whole k ∷ [])))) (subst IsEnd (sym a.ends) tt) (subst IsEnd (sym b.ends) tt) in
     (sym (message_back m m f.lawful) ∙ ap (message_in m) same.0 ∙ message_back m k g.lawful, no_bytes more same.1)
 
 pub fails_next : (t : List Begun) (r : List Bool) (bit : ℕ) (reason : Reason) → next_fault t r ≡ Some (bit, reason) → next t r ≡ Fails bit reason
@@ -144,26 +145,26 @@ same_fault a b bit bit2 reason reason2 e x y =
     let z : ◌≡◌ {A = Option (ℕ × Reason)} (Some (bit, reason)) (Some (bit2, reason2)) = sym x ∙ e ∙ y in
     (ap (λ (o : Option (ℕ × Reason)). (fault_in o).0) z, ap (λ (o : Option (ℕ × Reason)). (fault_in o).1) z)
 
-pub one_fault : (limit : ℕ) (bytes : List ℕ) (bit bit2 : ℕ) (reason reason2 : Reason) → FirstFault bytes limit bit reason → FirstFault bytes limit bit2 reason2 → (bit ≡ bit2) × (reason ≡ reason2)
-one_fault limit bytes bit bit2 reason reason2 (inl a) (inl b) = same_fault _ _ bit bit2 reason reason2 refl a b
-one_fault limit bytes bit bit2 reason reason2 (inl a) (inr b) = absurd (let h = b.header in cc)
-one_fault limit bytes bit bit2 reason reason2 (inr a) (inl b) = absurd (let h = a.header in cc)
-one_fault limit bytes bit bit2 reason reason2 (inr a) (inr b) =
+pub one_fault : (p : Profile) (limit : ℕ) (bytes : List ℕ) (bit bit2 : ℕ) (reason reason2 : Reason) → FirstFaultIn p bytes limit bit reason → FirstFaultIn p bytes limit bit2 reason2 → (bit ≡ bit2) × (reason ≡ reason2)
+one_fault p limit bytes bit bit2 reason reason2 (inl a) (inl b) = same_fault _ _ bit bit2 reason reason2 refl a b
+one_fault p limit bytes bit bit2 reason reason2 (inl a) (inr b) = absurd (let h = b.header in cc)
+one_fault p limit bytes bit bit2 reason reason2 (inr a) (inl b) = absurd (let h = a.header in cc)
+one_fault p limit bytes bit bit2 reason reason2 (inr a) (inr b) =
     let x = fails_next a.tree a.rest bit reason a.fails in
     let y = fails_next b.tree b.rest bit2 reason2 b.fails in
-    let same = one_end a.tree b.tree a.rest b.rest a.is_open b.is_open (a.covered ∙ sym b.covered) (subst IsEnd (sym x) tt) (subst IsEnd (sym y) tt) in
+    let same = one_end a.tree b.tree a.rest b.rest a.is_open b.is_open (a.root ∙ sym b.root) (a.covered ∙ sym b.covered) (subst IsEnd (sym x) tt) (subst IsEnd (sym y) tt) in
     same_fault (next_fault a.tree a.rest) (next_fault b.tree b.rest) bit bit2 reason reason2 (ap (λ (t : List Begun). next_fault t a.rest) same.0 ∙ ap (λ (r : List Bool). next_fault b.tree r) same.1) a.fails b.fails
 
-pub not_both : (limit : ℕ) (bytes : List ℕ) (m : MessageTree) (bit : ℕ) (reason : Reason) → Frame m bytes limit → FirstFault bytes limit bit reason → ⊥
-not_both limit bytes m bit reason f (inl a) =
+pub not_both : (p : Profile) (limit : ℕ) (bytes : List ℕ) (m : MessageTree) (bit : ℕ) (reason : Reason) → profile_of (Message m.kind) ≡ p → Frame m bytes limit → FirstFaultIn p bytes limit bit reason → ⊥
+not_both p limit bytes m bit reason own f (inl a) =
     let l = f.lawful in
     let long : length bytes ≡ message_octets m = (let x = length-bytes bytes in let y = ap (λ (x : List Bool). length x) f.spelled in let z = length-message_digits m in omega arith) in
-    let h : first_failing (header_checks limit (digits_of_bytes bytes)) ≡ None = subst (λ (y : List Bool). first_failing (header_checks limit y) ≡ None) (sym f.spelled) (header_passes limit m.version m.kind (message_octets m) m.id (body_digits (Message m.kind) m.fields [] ++ spell m.children) l.version (omega (arith, l.long)) (omega (arith, f.short, long))) in
+    let h : first_failing (header_checks_in p limit (digits_of_bytes bytes)) ≡ None = subst (λ (y : List Bool). first_failing (header_checks_in p limit y) ≡ None) (sym f.spelled) (header_passes p limit m.version m.kind (message_octets m) m.id (body_digits (Message m.kind) m.fields [] ++ spell m.children) l.version (omega (arith, l.long)) (omega (arith, f.short, long)) own) in
     absurd (let z : ◌≡◌ {A = Option (ℕ × Reason)} None (Some (bit, reason)) = sym h ∙ a in cc)
-not_both limit bytes m bit reason f (inr a) =
+not_both p limit bytes m bit reason own f (inr a) =
     let b = frame_ends m bytes limit [] f in
     let x = fails_next a.tree a.rest bit reason a.fails in
-    let same = one_end a.tree (whole m ∷ []) a.rest [] a.is_open b.is_open (a.covered ∙ sym b.covered ∙ sym (append-nil (covers (whole m ∷ [])))) (subst IsEnd (sym x) tt) (subst IsEnd (sym b.ends) tt) in
+    let same = one_end a.tree (whole m ∷ []) a.rest [] a.is_open b.is_open (a.root ∙ sym own) (a.covered ∙ sym b.covered ∙ sym (append-nil (covers (whole m ∷ [])))) (subst IsEnd (sym x) tt) (subst IsEnd (sym b.ends) tt) in
     let z : Fails bit reason ≡ Ends (whole m) = sym x ∙ (ap (λ (t : List Begun). next t a.rest) same.0 ∙ ap (λ (r : List Bool). next (whole m ∷ []) r) same.1) ∙ b.ends in
     absurd cc
 
@@ -184,13 +185,13 @@ which_version : (v : ℕ) → ((v == 1) || (v == 2)) ≡ true → (v ≡ 1) ⊎ 
 which_version v e =
     (elim (v == 1) as (λ b. (v == 1) ≡ b → (b || (v == 2)) ≡ true → (v ≡ 1) ⊎ (v ≡ 2)) [ true ↦ λ f g. inl (eqb-true v 1 f) | false ↦ λ f g. inr (eqb-true v 2 g) ]) refl e
 
-module _ (limit : ℕ) (ds : List Bool) (v : ℕ) (k : MsgKind) (n id : ℕ) (h : HeaderSays limit ds v k n id) (long : length ds ≡ 8 * n) (ten : 10 ≤ n) where
-  held : AllHold (header_checks limit ds)
-  held = all_hold (header_checks limit ds) h.passes
+module _ (p : Profile) (limit : ℕ) (ds : List Bool) (v : ℕ) (k : MsgKind) (n id : ℕ) (h : HeaderSaysIn p limit ds v k n id) (long : length ds ≡ 8 * n) (ten : 10 ≤ n) where
+  held : AllHold (header_checks_in p limit ds)
+  held = all_hold (header_checks_in p limit ds) h.passes
 
   start_covers : covers (leading (message v k n id) (8 * n) [] ∷ []) ≡ take 80 ds
   unfolding covers part leading_digits spell
-  start_covers = append-nil (head_digits (message v k n id)) ∙ rw (h.version_is, h.octets_is, h.id_is) (header_is ds k (omega arith) (eqb-true (number ds 0 3) 0 held.0) ((message_found (number ds 6 10) k).0 h.kind_is))
+  start_covers = append-nil (head_digits (message v k n id)) ∙ rw (h.version_is, h.octets_is, h.id_is) (header_is ds k (omega arith) (eqb-true (number ds 0 3) 0 held.0) ((message_found_in p (number ds 6 10) k h.kind_is).1))
 
   pub header_stands : Stands ds (leading (message v k n id) (8 * n) [] ∷ []) 80
   unfolding IsOpenTree ArePlaced end_of
@@ -200,15 +201,15 @@ module _ (limit : ℕ) (ds : List Bool) (v : ℕ) (k : MsgKind) (n id : ℕ) (h 
       let l = length_covered (covers (leading (message v k n id) (8 * n) [] ∷ [])) 80 ds start_covers (omega arith) in
       let lv : (v ≡ 1) ⊎ (v ≡ 2) = subst (λ (x : ℕ). (x ≡ 1) ⊎ (x ≡ 2)) (sym h.version_is) (which_version (number ds 3 3) held.1.0) in
       record {
-        is_open = (record { head = record { known_version = lv; octets_fit = ln; id_fits = li; stops = refl }; fields = tt; tail = tt; tail_after = inl refl; children_after = inl refl; lawful = tt; placed = tt; most = most_none (groups_of (Message k)); deep = omega arith; inside = omega arith }, tt);
+        is_open = (record { head = record { known_version = lv; octets_fit = ln; id_fits = li; stops = refl }; fields = tt; tail = tt; filled = λ e. inl refl; tail_after = inl refl; children_after = inl refl; lawful = tt; placed = tt; most = most_none (groups_of (Message k)); deep = omega arith; inside = omega arith }, tt);
         covered = start_covers;
         within = omega arith;
         ends = sym long;
       }
 
-pub fault_of_frame : (limit : ℕ) (bytes : List ℕ) (bit : ℕ) (reason : Reason) → first_failing (header_checks limit (digits_of_bytes bytes)) ≡ None → HasFault (digits_of_bytes bytes) bit reason → FirstFault bytes limit bit reason
-fault_of_frame limit bytes bit reason h x =
-    inr (record { header = h; tree = x.tree; rest = drop x.at (digits_of_bytes bytes); is_open = x.stands.is_open; covered = ap (λ (y : List Bool). y ++ drop x.at (digits_of_bytes bytes)) x.stands.covered ∙ take-append-drop x.at (digits_of_bytes bytes); fails = x.fails })
+pub fault_of_frame : (p : Profile) (limit : ℕ) (bytes : List ℕ) (bit : ℕ) (reason : Reason) → first_failing (header_checks_in p limit (digits_of_bytes bytes)) ≡ None → HasFault p (digits_of_bytes bytes) bit reason → FirstFaultIn p bytes limit bit reason
+fault_of_frame p limit bytes bit reason h x =
+    inr (record { header = h; root = x.root; tree = x.tree; rest = drop x.at (digits_of_bytes bytes); is_open = x.stands.is_open; covered = ap (λ (y : List Bool). y ++ drop x.at (digits_of_bytes bytes)) x.stands.covered ∙ take-append-drop x.at (digits_of_bytes bytes); fails = x.fails })
 
 no_message_tail : (form : Tail) (fields : List ℕ) (tail : Option (List ℕ)) → form ≡ Absent → IsReadTail form fields tail → unwrap_or tail [] ≡ []
 no_message_tail form fields None e x = refl

@@ -1,29 +1,31 @@
 -- How an open tree grows by one part, where the part passes its checks.
-use Rattle.std.proofs.Common.{◌≡◌, ℕ, ◌+◌, ◌*◌, ◌/◌, ◌^◌, ◌<◌, ◌≤◌, Bool, true, false, inl, inr, List, [], ◌∷◌, ◌++◌, length, take, drop, Option, Some, None, refl, sym, ap, ◌∙◌, arith, length-append, length-drop}
+use Rattle.std.proofs.Common.{◌≡◌, ℕ, ◌+◌, ◌-◌, ◌*◌, ◌/◌, ◌^◌, ◌<◌, ◌≤◌, Bool, true, false, inl, inr, List, [], ◌∷◌, ◌++◌, length, take, drop, Option, Some, None, refl, sym, ap, ◌∙◌, arith, length-append, length-drop}
 use Rattle.std.specs.Prelude.{unwrap_or}
 use Rattle.std.specs.Str.{is_utf8}
 use Rattle.std.proofs.lemmas.Str.{IsUtf8-from_is_utf8}
+use Rattle.std.proofs.lemmas.List.{append-nil}
 use Rattle.std.proofs.Math.Seq.{take-add}
 use Rattle.tag_bits.specs.Digits.{digits, digits_of_bytes}
 use Rattle.llrp_schema.specs.declared.kinds.ParamKind.{ParamKind}
+use Rattle.llrp_schema.specs.declared.kinds.Kind.{Kind}
 use Rattle.llrp_schema.specs.declared.kinds.Kind.TheVariants.{Parameter}
 use Rattle.llrp_schema.specs.declared.kinds.Tail.{Tail}
-use Rattle.llrp_schema.specs.declared.kinds.Tail.TheVariants.{Absent, Words, Text, Bits}
-use Rattle.llrp_schema.specs.Schema.{FieldRule, GroupRule, fields_of, tail_of, groups_of, number_of, is_tv}
-use Rattle.llrp_schema.proofs.TableLaws.{tlv_found, tv_found, tv_groups, tv_tail, few_bits}
+use Rattle.llrp_schema.specs.declared.kinds.Tail.TheVariants.{Absent, Words, Text, Bits, Data}
+use Rattle.llrp_schema.specs.Schema.{FieldRule, GroupRule, fields_of, bits_of, tail_of, groups_of, number_of, is_tv}
+use Rattle.llrp_schema.proofs.TableLaws.{tlv_found_in, tv_found_in, tv_groups, tv_tail, few_bits, message_tail, whole_octets}
 use Rattle.llrp_tree.specs.declared.TheConstants.{MAX_DEPTH, MAX_OCTETS}
 use Rattle.llrp_tree.specs.Tree.{Forest, none, and}
 use Rattle.llrp_tree.specs.Lawful.{levels, octets, head_octets, body_octets, count_octets, first, IsTail, has_place, ArePlaced, NoneTooMany, AreLawful}
-use Rattle.llrp_tree.specs.Spelling.{Head, message, tlv, tv, head_digits, head_of, count_digits, tail_digits, body_digits, spell}
-use Rattle.llrp_tree.specs.OpenTree.{Begun, kind_of, leading_digits, part, covers, Rest, has_tail, tail_due, due, in_range, AreLeading, plain_values, IsReadTail, is_enough, MayBegin, IsTlvHead, IsTvHead, IsHead, IsOpenTree}
+use Rattle.llrp_tree.specs.Spelling.{Head, message, tlv, tv, head_digits, head_of, count_digits, field_digits, tail_digits, body_digits, spell}
+use Rattle.llrp_tree.specs.OpenTree.{profile, Begun, kind_of, leading_digits, part, covers, Rest, has_tail, tail_due, due, in_range, AreLeading, plain_values, IsReadTail, is_enough, MayBegin, IsTlvHead, IsTvHead, IsHead, IsOpenTree}
 use Rattle.llrp_tree.specs.FirstFault.{number, tail_length, tail_at, tail_end, tv_kind, tlv_kind, tlv_octets, first_digit}
 use Rattle.llrp_tree.specs.Standing.{end_of, Stands, begun, leading}
 use Rattle.llrp_tree.proofs.Steps.{begin, with_child}
-use Rattle.llrp_tree.proofs.Leading.{more_leading, plain_in_range}
+use Rattle.llrp_tree.proofs.Leading.{more_leading, plain_in_range, length-fields}
 use Rattle.llrp_tree.proofs.ReadDigits.{covers_more, length_covered, digits_at, value_at, digits_take, length-octets_at, are_octets_at, octets_spelled}
 use Rattle.llrp_tree.proofs.GroupLemmas.{most_none, most_after, enough_from}
 use Rattle.llrp_tree.proofs.LengthLemmas.{length-tlv, length-body_digits, length-spell}
-use Rattle.llrp_tree.proofs.WholeNodes.{closed_digits, no_field_due, whole_tail}
+use Rattle.llrp_tree.proofs.WholeNodes.{closed_digits, no_field_due, whole_tail, data_childless}
 use Rattle.llrp_tree.proofs.LastPart.{field_covered, tail_covered, closed_covered, size}
 use Rattle.llrp_tree.proofs.Openings.{begun_covered}
 
@@ -60,7 +62,7 @@ module _ (h : Head) (stop : ℕ) (vs : List ℕ) (outer : List Begun) (ds : List
       let covered : covers (leading h stop (vs ++ v ∷ []) ∷ outer) ≡ take (at + w) ds = covers_more (covers (leading h stop vs ∷ outer)) (covers (leading h stop (vs ++ v ∷ []) ∷ outer)) (digits w v) at w ds st.covered (field_covered h stop vs v outer [] w m.1) (digits_at at w ds within) in
       let long = length_covered (covers (leading h stop (vs ++ v ∷ []) ∷ outer)) (at + w) ds covered within in
       record {
-        is_open = (record { head = s.head; fields = m.0; tail = tt; tail_after = inl refl; children_after = inl refl; lawful = s.lawful; placed = s.placed; most = s.most; deep = s.deep; inside = omega arith }, st.is_open.1);
+        is_open = (record { head = s.head; fields = m.0; tail = tt; filled = λ e. inl refl; tail_after = inl refl; children_after = inl refl; lawful = s.lawful; placed = s.placed; most = s.most; deep = s.deep; inside = omega arith }, st.is_open.1);
         covered = covered;
         within = within;
         ends = same_end h stop (vs ++ v ∷ []) vs None None none none outer ∙ st.ends;
@@ -69,30 +71,54 @@ module _ (h : Head) (stop : ℕ) (vs : List ℕ) (outer : List Begun) (ds : List
 -- ---- a tail
 
 -- what a tail's count covers has the tail's form
-pub tail_is : (form : Tail) (fields : List ℕ) (xs : List Bool) → has_tail form ≡ true → 8 * (count_octets form + tail_length form fields xs) ≤ length xs → (form ≡ Text → is_utf8 (tail_at form fields xs) ≡ true) → IsTail form fields (tail_at form fields xs)
-tail_is Absent fields xs e le u = absurd cc
-tail_is Words fields xs e le u = (number xs 0 16, (let a = value_at 0 16 xs (omega arith) in omega arith), length-octets_at (2 * number xs 0 16) (drop 16 xs))
-tail_is Text fields xs e le u = ((let a = value_at 0 16 xs (omega arith) in let b = length-octets_at (number xs 0 16) (drop 16 xs) in omega arith), IsUtf8-from_is_utf8 (tail_at Text fields xs) (u refl))
-tail_is Bits fields xs e le u = length-octets_at ((first fields + 7) / 8) (drop 0 xs)
+pub tail_is : (form : Tail) (fields : List ℕ) (room : ℕ) (xs : List Bool) → has_tail form ≡ true → 8 * (count_octets form + tail_length form fields room xs) ≤ length xs → (form ≡ Text → is_utf8 (tail_at form fields room xs) ≡ true) → IsTail form fields (tail_at form fields room xs)
+tail_is Absent fields room xs e le u = absurd cc
+tail_is Words fields room xs e le u = (number xs 0 16, (let a = value_at 0 16 xs (omega arith) in omega arith), length-octets_at (2 * number xs 0 16) (drop 16 xs))
+tail_is Text fields room xs e le u = ((let a = value_at 0 16 xs (omega arith) in let b = length-octets_at (number xs 0 16) (drop 16 xs) in omega arith), IsUtf8-from_is_utf8 (tail_at Text fields room xs) (u refl))
+tail_is Bits fields room xs e le u = length-octets_at ((first fields + 7) / 8) (drop 0 xs)
+tail_is Data fields room xs e le u = tt
 
-count_spelled : (form : Tail) (fields : List ℕ) (xs : List Bool) → 8 * (count_octets form + tail_length form fields xs) ≤ length xs → count_digits form (tail_at form fields xs) ≡ take (8 * count_octets form) xs
-count_spelled Absent fields xs le = refl
-count_spelled Words fields xs le =
+count_spelled : (form : Tail) (fields : List ℕ) (room : ℕ) (xs : List Bool) → 8 * (count_octets form + tail_length form fields room xs) ≤ length xs → count_digits form (tail_at form fields room xs) ≡ take (8 * count_octets form) xs
+count_spelled Absent fields room xs le = refl
+count_spelled Words fields room xs le =
     let b = length-octets_at (2 * number xs 0 16) (drop 16 xs) in
-    let half : length (tail_at Words fields xs) / 2 ≡ number xs 0 16 = omega arith in
+    let half : length (tail_at Words fields room xs) / 2 ≡ number xs 0 16 = omega arith in
     ap (λ (n : ℕ). digits 16 n) half ∙ digits_take 16 xs (omega arith)
-count_spelled Text fields xs le =
+count_spelled Text fields room xs le =
     ap (λ (n : ℕ). digits 16 n) (length-octets_at (number xs 0 16) (drop 16 xs)) ∙ digits_take 16 xs (omega arith)
-count_spelled Bits fields xs le = refl
+count_spelled Bits fields room xs le = refl
+count_spelled Data fields room xs le = refl
 
-tail_spelled : (form : Tail) (fields : List ℕ) (xs : List Bool) → 8 * (count_octets form + tail_length form fields xs) ≤ length xs → tail_digits form (tail_at form fields xs) ≡ take (8 * (count_octets form + tail_length form fields xs)) xs
-tail_spelled form fields xs le =
+tail_spelled : (form : Tail) (fields : List ℕ) (room : ℕ) (xs : List Bool) → 8 * (count_octets form + tail_length form fields room xs) ≤ length xs → tail_digits form (tail_at form fields room xs) ≡ take (8 * (count_octets form + tail_length form fields room xs)) xs
+tail_spelled form fields room xs le =
     let c : ℕ = 8 * count_octets form in
-    let n : ℕ = tail_length form fields xs in
+    let n : ℕ = tail_length form fields room xs in
     let total : 8 * (count_octets form + n) ≡ c + 8 * n = omega arith in
-    ap (λ (x : List Bool). x ++ digits_of_bytes (tail_at form fields xs)) (count_spelled form fields xs le)
+    ap (λ (x : List Bool). x ++ digits_of_bytes (tail_at form fields room xs)) (count_spelled form fields room xs le)
     ∙ ap (λ (x : List Bool). take c xs ++ x) (octets_spelled n (drop c xs) (omega (arith, length-drop c xs)))
     ∙ sym (take-add c (8 * n) xs) ∙ ap (λ (k : ℕ). take k xs) (sym total)
+
+length-leading : (kind : Kind) (vs : List ℕ) → length vs ≡ length (fields_of kind) → length (leading_digits kind vs None ++ spell none) ≡ bits_of (fields_of kind)
+unfolding leading_digits spell
+length-leading kind vs all =
+    let digits_are : List Bool = field_digits (fields_of kind) vs in
+    ap (λ (x : List Bool). length x) (append-nil (digits_are ++ []) ∙ append-nil digits_are) ∙ length-fields (fields_of kind) vs all
+
+-- whole octets are left for data
+data_room : (h : Head) (stop : ℕ) (vs : List ℕ) (outer : List Begun) → IsOpenTree (leading h stop vs ∷ outer) → length vs ≡ length (fields_of (kind_of h)) → tail_of (kind_of h) ≡ Data
+    → (n : ℕ) × (stop ≡ length (covers (leading h stop vs ∷ outer)) + 8 * n)
+unfolding IsOpenTree covers part
+data_room (message v k n id) stop vs outer s all e = absurd (let z : Absent ≡ Data = sym (message_tail k) ∙ e in cc)
+data_room (tlv k n) stop vs [] s all e = absurd s.0.head
+data_room (tlv k n) stop vs (p ∷ outer) s all e =
+    let body : List Bool = leading_digits (Parameter k) vs None ++ spell none in
+    let grown = length-append (covers (p ∷ outer)) (head_digits (tlv k n) ++ body) in
+    let both = length-append (head_digits (tlv k n)) body in
+    let bits = length-leading (Parameter k) vs all in
+    let f : IsTlvHead k n stop p outer = s.0.head in
+    (n - 4 - bits_of (fields_of (Parameter k)) / 8, omega (arith, grown, both, bits, length-tlv k n, whole_octets (Parameter k), f.stops, s.0.inside))
+data_room (tv k) stop vs [] s all e = absurd s.0.head
+data_room (tv k) stop vs (p ∷ outer) s all e = absurd (let f : IsTvHead k stop p outer = s.0.head in let z : Absent ≡ Data = sym (tv_tail k f.kind_is_tv) ∙ e in cc)
 
 module _ (h : Head) (stop : ℕ) (vs : List ℕ) (outer : List Begun) (ds : List Bool) (at : ℕ) where
   abbrev pub tailed : Option (List ℕ) → Begun
@@ -102,26 +128,32 @@ module _ (h : Head) (stop : ℕ) (vs : List ℕ) (outer : List Begun) (ds : List
   plain = plain_values (fields_of (kind_of h)) vs
 
   pub grow_tail : Stands ds (tailed None ∷ outer) at → length vs ≡ length (fields_of (kind_of h)) → has_tail (tail_of (kind_of h)) ≡ true
-      → tail_end (tail_of (kind_of h)) (plain_values (fields_of (kind_of h)) vs) at (drop at ds) ≤ stop
-      → (tail_of (kind_of h) ≡ Text → is_utf8 (tail_at (tail_of (kind_of h)) (plain_values (fields_of (kind_of h)) vs) (drop at ds)) ≡ true)
-      → Stands ds (tailed (Some (tail_at (tail_of (kind_of h)) (plain_values (fields_of (kind_of h)) vs) (drop at ds))) ∷ outer) (tail_end (tail_of (kind_of h)) (plain_values (fields_of (kind_of h)) vs) at (drop at ds))
+      → tail_end (tail_of (kind_of h)) (plain_values (fields_of (kind_of h)) vs) at stop (drop at ds) ≤ stop
+      → (tail_of (kind_of h) ≡ Text → is_utf8 (tail_at (tail_of (kind_of h)) (plain_values (fields_of (kind_of h)) vs) (stop - at) (drop at ds)) ≡ true)
+      → Stands ds (tailed (Some (tail_at (tail_of (kind_of h)) (plain_values (fields_of (kind_of h)) vs) (stop - at) (drop at ds))) ∷ outer) (tail_end (tail_of (kind_of h)) (plain_values (fields_of (kind_of h)) vs) at stop (drop at ds))
   unfolding IsOpenTree
   grow_tail st all has le text =
       let s = st.is_open.0 in
       let f : Tail = tail_of (kind_of h) in
       let rest : List Bool = drop at ds in
-      let n : ℕ = tail_length f plain rest in
+      let n : ℕ = tail_length f plain (stop - at) rest in
       let w : ℕ = 8 * (count_octets f + n) in
-      let os : List ℕ = tail_at f plain rest in
+      let os : List ℕ = tail_at f plain (stop - at) rest in
       let far = stops_within (tailed None) outer st.is_open in
       let within : at + w ≤ length ds = omega (arith, st.ends) in
       let room : w ≤ length rest = omega (arith, length-drop at ds) in
-      let is = tail_is f plain rest has room text in
-      let next = tail_spelled f plain rest room in
+      let is = tail_is f plain (stop - at) rest has room text in
+      let next = tail_spelled f plain (stop - at) rest room in
       let covered : covers (tailed (Some os) ∷ outer) ≡ take (at + w) ds = covers_more (covers (tailed None ∷ outer)) (covers (tailed (Some os) ∷ outer)) (tail_digits f os) at w ds st.covered (tail_covered h stop vs os outer []) next in
       let long = length_covered (covers (tailed (Some os) ∷ outer)) (at + w) ds covered within in
+      let was = length_covered (covers (tailed None ∷ outer)) at ds st.covered st.within in
+      let ends_at : f ≡ Data → length (covers (tailed (Some os) ∷ outer)) ≡ stop = λ e. (
+      let size : w ≡ 8 * (0 + (stop - at) / 8) = ap (λ (g : Tail). 8 * (count_octets g + tail_length g plain (stop - at) rest)) e in
+      let room_is = data_room h stop vs outer st.is_open all e in
+      omega (arith, long, was, size, room_is.1)
+      ) in
       record {
-        is_open = (record { head = s.head; fields = s.fields; tail = (has, is, are_octets_at n (drop (8 * count_octets f) rest) (omega (arith, length-drop (8 * count_octets f) rest))); tail_after = inr all; children_after = inl refl; lawful = s.lawful; placed = s.placed; most = s.most; deep = s.deep; inside = omega arith }, st.is_open.1);
+        is_open = (record { head = s.head; fields = s.fields; tail = (has, is, are_octets_at n (drop (8 * count_octets f) rest) (omega (arith, length-drop (8 * count_octets f) rest))); filled = λ e. inr (ends_at e); tail_after = inr all; children_after = inl refl; lawful = s.lawful; placed = s.placed; most = s.most; deep = s.deep; inside = omega arith }, st.is_open.1);
         covered = covered;
         within = within;
         ends = same_end h stop vs vs (Some os) None none none outer ∙ st.ends;
@@ -154,9 +186,9 @@ tv_is_next k (d ∷ xs) le e type =
 module _ (p : Begun) (outer : List Begun) (ds : List Bool) (at : ℕ) where
   begun_open : (hb : Head) (stop_b : ℕ) → Stands ds (p ∷ outer) at → IsHead hb stop_b (p ∷ outer) → length (p ∷ outer) ≤ MAX_DEPTH → length (covers (begin hb stop_b ∷ p ∷ outer)) ≤ stop_b → IsOpenTree (begin hb stop_b ∷ p ∷ outer)
   unfolding IsOpenTree ArePlaced
-  begun_open hb stop_b st f deep inside = (record { head = f; fields = tt; tail = tt; tail_after = inl refl; children_after = inl refl; lawful = tt; placed = tt; most = most_none (groups_of (kind_of hb)); deep = omega (arith, deep); inside = inside }, st.is_open)
+  begun_open hb stop_b st f deep inside = (record { head = f; fields = tt; tail = tt; filled = λ e. inl refl; tail_after = inl refl; children_after = inl refl; lawful = tt; placed = tt; most = most_none (groups_of (kind_of hb)); deep = omega (arith, deep); inside = inside }, st.is_open)
 
-  pub grow_tlv : (k : ParamKind) → Stands ds (p ∷ outer) at → at + 32 ≤ p.stop → number (drop at ds) 0 6 ≡ 0 → tlv_kind (drop at ds) ≡ Some k → MayBegin p k → length (p ∷ outer) ≤ MAX_DEPTH
+  pub grow_tlv : (k : ParamKind) → Stands ds (p ∷ outer) at → at + 32 ≤ p.stop → number (drop at ds) 0 6 ≡ 0 → tlv_kind (profile p) (drop at ds) ≡ Some k → MayBegin p k → length (p ∷ outer) ≤ MAX_DEPTH
       → 4 ≤ tlv_octets (drop at ds) → at + 8 * tlv_octets (drop at ds) ≤ p.stop
       → Stands ds (begin (tlv k (tlv_octets (drop at ds))) (at + 8 * tlv_octets (drop at ds)) ∷ p ∷ outer) (at + 32)
   unfolding end_of
@@ -167,7 +199,7 @@ module _ (p : Begun) (outer : List Begun) (ds : List Bool) (at : ℕ) where
       let far = stops_within p outer st.is_open in
       let within : at + 32 ≤ length ds = omega (arith, st.ends) in
       let left : 32 ≤ length rest = omega (arith, length-drop at ds) in
-      let is = (tlv_found (number rest 6 10) k).0 found in
+      let is = tlv_found_in (profile p) (number rest 6 10) k found in
       let head = tlv_is_next k rest left zeros is.1 in
       let covered : covers (begin (tlv k n) stop_b ∷ p ∷ outer) ≡ take (at + 32) ds = covers_more (covers (p ∷ outer)) (covers (begin (tlv k n) stop_b ∷ p ∷ outer)) (head_digits (tlv k n)) at 32 ds st.covered (begun_covered p outer [] (tlv k n) stop_b) head in
       let long = length_covered (covers (begin (tlv k n) stop_b ∷ p ∷ outer)) (at + 32) ds covered within in
@@ -180,7 +212,7 @@ module _ (p : Begun) (outer : List Begun) (ds : List Bool) (at : ℕ) where
         ends = st.ends;
       }
 
-  pub grow_tv : (k : ParamKind) → Stands ds (p ∷ outer) at → at + 8 ≤ p.stop → first_digit (drop at ds) ≡ true → tv_kind (drop at ds) ≡ Some k → MayBegin p k → length (p ∷ outer) ≤ MAX_DEPTH
+  pub grow_tv : (k : ParamKind) → Stands ds (p ∷ outer) at → at + 8 ≤ p.stop → first_digit (drop at ds) ≡ true → tv_kind (profile p) (drop at ds) ≡ Some k → MayBegin p k → length (p ∷ outer) ≤ MAX_DEPTH
       → Stands ds (begin (tv k) p.stop ∷ p ∷ outer) (at + 8)
   unfolding end_of
   grow_tv k st room one found o deep =
@@ -188,7 +220,7 @@ module _ (p : Begun) (outer : List Begun) (ds : List Bool) (at : ℕ) where
       let far = stops_within p outer st.is_open in
       let within : at + 8 ≤ length ds = omega (arith, st.ends) in
       let left : 8 ≤ length rest = omega (arith, length-drop at ds) in
-      let is = (tv_found (number rest 1 7) k).0 found in
+      let is = tv_found_in (profile p) (number rest 1 7) k found in
       let head = tv_is_next k rest left one is.1 in
       let covered : covers (begin (tv k) p.stop ∷ p ∷ outer) ≡ take (at + 8) ds = covers_more (covers (p ∷ outer)) (covers (begin (tv k) p.stop ∷ p ∷ outer)) (head_digits (tv k)) at 8 ds st.covered (begun_covered p outer [] (tv k) p.stop) head in
       let long = length_covered (covers (begin (tv k) p.stop ∷ p ∷ outer)) (at + 8) ds covered within in
@@ -259,7 +291,7 @@ module _ (h : Head) (stop : ℕ) (fs : List ℕ) (tl : Option (List ℕ)) (befor
       let covered : covers (over (with_child before k vs tail cs) ∷ outer) ≡ take at ds = sym c ∙ st.covered in
       let long = length_covered (covers (over (with_child before k vs tail cs) ∷ outer)) at ds covered st.within in
       record {
-        is_open = (record { head = p.head; fields = p.fields; tail = p.tail; tail_after = p.tail_after; children_after = inr (same_due before (with_child before k vs tail cs) o.ready); lawful = (p.lawful, w, s.lawful); placed = (p.placed, o.has); most = most_after (groups_of (kind_of h)) before k (plain_values (fields_of (Parameter k)) vs) (unwrap_or tail []) cs p.most o.more; deep = omega (arith, p.deep, s.deep); inside = omega arith }, st.is_open.1.1);
+        is_open = (record { head = p.head; fields = p.fields; tail = p.tail; filled = λ e. absurd (data_childless (kind_of h) k e o.has); tail_after = p.tail_after; children_after = inr (same_due before (with_child before k vs tail cs) o.ready); lawful = (p.lawful, w, s.lawful); placed = (p.placed, o.has); most = most_after (groups_of (kind_of h)) before k (plain_values (fields_of (Parameter k)) vs) (unwrap_or tail []) cs p.most o.more; deep = omega (arith, p.deep, s.deep); inside = omega arith }, st.is_open.1.1);
         covered = covered;
         within = st.within;
         ends = same_end h stop fs fs tl tl (with_child before k vs tail cs) before outer ∙ st.ends;

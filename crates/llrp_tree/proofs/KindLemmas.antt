@@ -8,10 +8,9 @@ use denote.Enum.Bare.{sameb, same_true, true_same}
 use Rattle.llrp_schema.specs.declared.kinds.ParamKind.{ParamKind}
 use Rattle.llrp_schema.specs.contracts.kinds.ParamKind.{the_type}
 use Rattle.llrp_schema.specs.declared.kinds.Kind.{Kind}
-use Rattle.llrp_schema.specs.declared.kinds.Kind.TheVariants.{Parameter}
-use Rattle.llrp_schema.specs.Schema.{GroupRule, groups_of, number_of, rule_of, message_rule, param_rule, message_kinds, param_kinds}
+use Rattle.llrp_schema.specs.Schema.{GroupRule, groups_of, number_of, rule_of, message_rule, param_rule, message_kinds, param_kinds, whole_message_kinds, whole_param_kinds, key_of, profile_of}
 use Rattle.llrp_schema.proofs.SchemaLemmas.{not_true}
-use Rattle.llrp_schema.proofs.TableLaws.{param_numbers, every_rule}
+use Rattle.llrp_schema.proofs.TableLaws.{param_keys, every_rule}
 use Rattle.llrp_tree.specs.Tree.{Forest}
 use Rattle.llrp_tree.specs.Lawful.{is_member, count}
 use Rattle.llrp_tree.specs.Checks.{at_most}
@@ -22,13 +21,13 @@ decides_same : (a b : ParamKind) → Decides (sameb the_type a b) (a ≡ b)
 decides_same a b = (same_true the_type tt a b, true_same the_type a b)
 
 -- two kinds are the same where their numbers are
-same_by_number : (a b : ParamKind) → sameb the_type a b ≡ (number_of (Parameter a) == number_of (Parameter b))
+pub same_by_number : (a b : ParamKind) → sameb the_type a b ≡ (key_of a == key_of b)
 same_by_number a b =
     same_from_decides _ _ (decides_same a b)
-    (Decides-like _ (param_numbers a b) (λ e. ap (λ k. number_of (Parameter k)) e) (Decides-eqb (number_of (Parameter a)) (number_of (Parameter b))))
+    (Decides-like _ (param_keys a b) (λ e. ap key_of e) (Decides-eqb (key_of a) (key_of b)))
 
 -- a list has a kind where it has the kind's number
-pub found_by_number : (kinds : List ParamKind) (kind : ParamKind) → list_any (λ k. sameb the_type k kind) kinds ≡ list_any (λ k. number_of (Parameter k) == number_of (Parameter kind)) kinds
+pub found_by_number : (kinds : List ParamKind) (kind : ParamKind) → list_any (λ k. sameb the_type k kind) kinds ≡ list_any (λ k. key_of k == key_of kind) kinds
 found_by_number [] kind = refl
 found_by_number (k ∷ kinds) kind = rw (same_by_number k kind, found_by_number kinds kind) refl
 
@@ -54,16 +53,16 @@ are_apart (g ∷ groups) = list_all (share_none g) groups && are_apart groups
 
 -- no two groups of one parent share a kind
 pub parent_apart : (parent : Kind) → are_apart (groups_of parent) ≡ true
-unfolding groups_of rule_of message_rule param_rule message_kinds param_kinds number_of
-parent_apart parent = every_rule (λ row. are_apart row.groups) refl refl parent
+unfolding groups_of rule_of message_rule param_rule message_kinds param_kinds whole_message_kinds whole_param_kinds number_of key_of profile_of
+parent_apart parent = every_rule (λ row. are_apart row.groups) (refl, refl) (refl, refl) parent
 
 -- a group that shares none with one that has the kind has it not
-lacks : (kind : ParamKind) (h : GroupRule) (members : List ParamKind) → list_all (λ m. not (is_member h m)) members ≡ true → list_any (λ m. number_of (Parameter m) == number_of (Parameter kind)) members ≡ true → is_member h kind ≡ false
+lacks : (kind : ParamKind) (h : GroupRule) (members : List ParamKind) → list_all (λ m. not (is_member h m)) members ≡ true → list_any (λ m. key_of m == key_of kind) members ≡ true → is_member h kind ≡ false
 lacks kind h [] none has = absurd cc
 lacks kind h (m ∷ members) none has =
     let p = both (not (is_member h m)) (list_all (λ k. not (is_member h k)) members) none in
-    (elim (number_of (Parameter m) == number_of (Parameter kind)) as (λ b. (number_of (Parameter m) == number_of (Parameter kind)) ≡ b → (b || list_any (λ k. number_of (Parameter k) == number_of (Parameter kind)) members) ≡ true → is_member h kind ≡ false) [
-      | true ↦ λ e rest. ap (λ k. is_member h k) (sym (param_numbers m kind ((Decides-eqb (number_of (Parameter m)) (number_of (Parameter kind))).0 e))) ∙ not_true (is_member h m) p.0
+    (elim (key_of m == key_of kind) as (λ b. (key_of m == key_of kind) ≡ b → (b || list_any (λ k. key_of k == key_of kind) members) ≡ true → is_member h kind ≡ false) [
+      | true ↦ λ e rest. ap (λ k. is_member h k) (sym (param_keys m kind ((Decides-eqb (key_of m) (key_of kind)).0 e))) ∙ not_true (is_member h m) p.0
       | false ↦ λ e rest. lacks kind h members p.1 rest
     ]) refl has
 

@@ -1,5 +1,5 @@
 -- An open tree that has more than its first head came by one step from one with a part less.
-use Rattle.std.proofs.Common.{◌≡◌, ℕ, ◌+◌, ◌*◌, ◌/◌, ◌≤◌, max, Bool, true, false, inl, inr, List, [], ◌∷◌, ◌++◌, length, take, drop, Option, Some, None, refl, sym, ap, subst, ◌∙◌, arith, append_assoc, length-append}
+use Rattle.std.proofs.Common.{◌≡◌, ℕ, ◌+◌, ◌-◌, ◌*◌, ◌/◌, ◌≤◌, max, Bool, true, false, inl, inr, List, [], ◌∷◌, ◌++◌, length, take, drop, Option, Some, None, refl, sym, ap, subst, ◌∙◌, arith, append_assoc, length-append}
 use Rattle.std.specs.Prelude.{nat_le, unwrap_or}
 use Rattle.std.proofs.lemmas.List.{append-nil}
 use Rattle.std.proofs.lemmas.Bool.{le-leb}
@@ -10,20 +10,21 @@ use Rattle.llrp_schema.specs.declared.kinds.ParamKind.{ParamKind}
 use Rattle.llrp_schema.specs.declared.kinds.Kind.{Kind}
 use Rattle.llrp_schema.specs.declared.kinds.Kind.TheVariants.{Parameter}
 use Rattle.llrp_schema.specs.declared.kinds.Tail.{Tail}
-use Rattle.llrp_schema.specs.declared.kinds.Tail.TheVariants.{Absent, Words, Text, Bits}
-use Rattle.llrp_schema.specs.Schema.{FieldRule, fields_of, tail_of, groups_of, is_tv}
+use Rattle.llrp_schema.specs.declared.kinds.Tail.TheVariants.{Absent, Words, Text, Bits, Data}
+use Rattle.llrp_schema.specs.Schema.{profile_of, FieldRule, fields_of, tail_of, groups_of, is_tv}
+use Rattle.llrp_schema.proofs.TableLaws.{tv_tail}
 use Rattle.llrp_tree.specs.declared.TheConstants.{MAX_DEPTH}
 use Rattle.llrp_tree.specs.declared.fault.Reason.{Reason}
 use Rattle.llrp_tree.specs.Tree.{Forest, none, and}
 use Rattle.llrp_tree.specs.Lawful.{levels, octets, head_octets, body_octets, count_octets, AreOctets, IsTail, ArePlaced, Obeys, AreLawful, AllLawful}
 use Rattle.llrp_tree.specs.Spelling.{Head, tlv, tv, head_digits, head_of, spread, field_digits, tail_digits, body_digits, spell}
-use Rattle.llrp_tree.specs.OpenTree.{Begun, kind_of, form, groups, leading_digits, part, covers, Rest, has_tail, due, in_range, plain_values, is_enough, MayBegin, IsHead, IsOpenNode, IsOpenTree, tail_parts, as_read, whole_parts, parts}
+use Rattle.llrp_tree.specs.OpenTree.{root_profile, Begun, kind_of, form, groups, leading_digits, part, covers, Rest, has_tail, due, in_range, plain_values, is_enough, MayBegin, IsHead, IsOpenNode, IsOpenTree, tail_parts, as_read, whole_parts, parts}
 use Rattle.llrp_tree.specs.FirstFault.{number, octets_at, tail_length, tail_at, tail_end, first_failing, tail_checks, checks, Turn, ReadField, ReadTail, Close, turn, is_over, next_fault}
 use Rattle.llrp_tree.proofs.Leading.{last_field, drop_all, length-spread, plain-spread, leading_spread}
 use Rattle.llrp_tree.proofs.ReadDigits.{drop_own, number_own, length-more, octets_again}
 use Rattle.llrp_tree.proofs.GroupLemmas.{most_before, takes_one_more, enough_to}
 use Rattle.llrp_tree.proofs.LengthLemmas.{length-tlv, length-tail_digits, length-body_digits, length-spell}
-use Rattle.llrp_tree.proofs.WholeNodes.{are_rules, read_is_rest, read_again, is_read_tail, read_body}
+use Rattle.llrp_tree.proofs.WholeNodes.{are_rules, read_is_rest, read_again, is_read_tail, read_body, data_childless}
 use Rattle.llrp_tree.proofs.Steps.{Grows, closed, unless_failed, grown, next}
 
 -- the tree with a part less
@@ -34,6 +35,15 @@ pub record Before (t : List Begun) (rest : List Bool) (n : ℕ) : Type 0 where
   pub same : covers tree ++ left ≡ covers t ++ rest
   pub step : next tree left ≡ Grows t
   pub fewer : parts tree ≡ n
+  pub root : root_profile tree ≡ root_profile t
+
+-- the message stays where the innermost node changes
+pub same_root : (b c : Begun) (outer : List Begun) → kind_of b.head ≡ kind_of c.head → root_profile (b ∷ outer) ≡ root_profile (c ∷ outer)
+same_root b c [] e = ap profile_of e
+same_root b c (p ∷ outer) e = refl
+
+pub inner_root : (b p : Begun) (outer : List Begun) → root_profile (b ∷ p ∷ outer) ≡ root_profile (p ∷ outer)
+inner_root b p outer = refl
 
 pub next_is : (b : Begun) (outer : List Begun) (rest : List Bool) (tn : Turn)
     → turn b (length (covers (b ∷ outer))) rest ≡ tn
@@ -76,39 +86,43 @@ module _ (h : Head) (stop : ℕ) (init : List ℕ) (v : ℕ) (outer : List Begun
       record {
         tree = with_fields init ∷ outer;
         left = digits w v ++ rest;
-        is_open = (record { head = s.head; fields = l.leading; tail = tt; tail_after = inl refl; children_after = inl refl; lawful = s.lawful; placed = s.placed; most = s.most; deep = s.deep; inside = omega arith }, outer_open);
+        is_open = (record { head = s.head; fields = l.leading; tail = tt; filled = λ e. inl refl; tail_after = inl refl; children_after = inl refl; lawful = s.lawful; placed = s.placed; most = s.most; deep = s.deep; inside = omega arith }, outer_open);
         same = rw c (sym (append_assoc (covers (with_fields init ∷ outer)) (digits w v) rest));
         step = next_is (with_fields init) outer (digits w v ++ rest) (ReadField l.rule) (field_turn l.rule l.after l.at (length (covers (with_fields init ∷ outer))) (digits w v ++ rest)) (field_passes l.rule (length (covers (with_fields init ∷ outer))) (digits w v ++ rest) in_time (ap (in_range l.rule) read ∙ l.fit))
             ∙ ap (λ (u : ℕ). Grows (with_fields (init ++ u ∷ []) ∷ outer)) read;
         fewer = omega arith;
+        root = same_root (with_fields init) (with_fields (init ++ v ∷ [])) outer refl;
       }
 
 -- ---- the last part is a tail
 
-pub tail_passes : (form : Tail) (fields : List ℕ) (at stop : ℕ) (ds : List Bool) → has_tail form ≡ true → tail_end form fields at ds ≤ stop → IsTail form fields (tail_at form fields ds) → first_failing (tail_checks form fields at stop ds) ≡ None
+pub tail_passes : (form : Tail) (fields : List ℕ) (at stop : ℕ) (ds : List Bool) → has_tail form ≡ true → tail_end form fields at stop ds ≤ stop → IsTail form fields (tail_at form fields (stop - at) ds) → first_failing (tail_checks form fields at stop ds) ≡ None
 tail_passes Absent fields at stop ds e le t = absurd cc
-tail_passes Words fields at stop ds e le t = rw (le-leb (at + 16) stop (omega arith), le-leb (tail_end Words fields at ds) stop le) refl
-tail_passes Text fields at stop ds e le t = rw (le-leb (at + 16) stop (omega arith), le-leb (tail_end Text fields at ds) stop le, is_utf8-from_IsUtf8 (tail_at Text fields ds) t.1) refl
-tail_passes Bits fields at stop ds e le t = rw (le-leb (tail_end Bits fields at ds) stop le) refl
+tail_passes Words fields at stop ds e le t = rw (le-leb (at + 16) stop (omega arith), le-leb (tail_end Words fields at stop ds) stop le) refl
+tail_passes Text fields at stop ds e le t = rw (le-leb (at + 16) stop (omega arith), le-leb (tail_end Text fields at stop ds) stop le, is_utf8-from_IsUtf8 (tail_at Text fields (stop - at) ds) t.1) refl
+tail_passes Bits fields at stop ds e le t = rw (le-leb (tail_end Bits fields at stop ds) stop le) refl
+tail_passes Data fields at stop ds e le t = refl
 
 -- a tail is read as it is spelled
-pub tail_length_again : (form : Tail) (fields os : List ℕ) (rest : List Bool) → IsTail form fields os → tail_length form fields (tail_digits form os ++ rest) ≡ length os
-tail_length_again Absent fields os rest t = sym (ap (λ (x : List ℕ). length x) t)
-tail_length_again Words fields os rest t =
+pub tail_length_again : (form : Tail) (fields os : List ℕ) (room : ℕ) (rest : List Bool) → IsTail form fields os → (form ≡ Data → room ≡ 8 * length os) → tail_length form fields room (tail_digits form os ++ rest) ≡ length os
+tail_length_again Absent fields os room rest t full = sym (ap (λ (x : List ℕ). length x) t)
+tail_length_again Words fields os room rest t full =
     let m : number (tail_digits Words os ++ rest) 0 16 ≡ length os / 2 = ap (λ (x : List Bool). value (take 16 x)) (append_assoc (digits 16 (length os / 2)) (digits_of_bytes os) rest) ∙ number_own 16 (length os / 2) (digits_of_bytes os ++ rest) (omega (arith, t.1, t.2)) in
     omega (arith, m, t.2)
-tail_length_again Text fields os rest t = ap (λ (x : List Bool). value (take 16 x)) (append_assoc (digits 16 (length os)) (digits_of_bytes os) rest) ∙ number_own 16 (length os) (digits_of_bytes os ++ rest) (omega (arith, t.0))
-tail_length_again Bits fields os rest t = sym t
+tail_length_again Text fields os room rest t full = ap (λ (x : List Bool). value (take 16 x)) (append_assoc (digits 16 (length os)) (digits_of_bytes os) rest) ∙ number_own 16 (length os) (digits_of_bytes os ++ rest) (omega (arith, t.0))
+tail_length_again Bits fields os room rest t full = sym t
+tail_length_again Data fields os room rest t full = (let all = full refl in omega arith)
 
 behind_count : (form : Tail) (os : List ℕ) (rest : List Bool) → drop (8 * count_octets form) (tail_digits form os ++ rest) ≡ digits_of_bytes os ++ rest
 behind_count Absent os rest = refl
 behind_count Words os rest = ap (λ (x : List Bool). drop 16 x) (append_assoc (digits 16 (length os / 2)) (digits_of_bytes os) rest) ∙ drop_own 16 (length os / 2) (digits_of_bytes os ++ rest)
 behind_count Text os rest = ap (λ (x : List Bool). drop 16 x) (append_assoc (digits 16 (length os)) (digits_of_bytes os) rest) ∙ drop_own 16 (length os) (digits_of_bytes os ++ rest)
 behind_count Bits os rest = refl
+behind_count Data os rest = refl
 
-pub tail_again : (form : Tail) (fields os : List ℕ) (rest : List Bool) → IsTail form fields os → AreOctets os → tail_at form fields (tail_digits form os ++ rest) ≡ os
-tail_again form fields os rest t o =
-    ap (λ (n : ℕ). octets_at n (drop (8 * count_octets form) (tail_digits form os ++ rest))) (tail_length_again form fields os rest t)
+pub tail_again : (form : Tail) (fields os : List ℕ) (room : ℕ) (rest : List Bool) → IsTail form fields os → (form ≡ Data → room ≡ 8 * length os) → AreOctets os → tail_at form fields room (tail_digits form os ++ rest) ≡ os
+tail_again form fields os room rest t full o =
+    ap (λ (n : ℕ). octets_at n (drop (8 * count_octets form) (tail_digits form os ++ rest))) (tail_length_again form fields os room rest t full)
     ∙ ap (λ (x : List Bool). octets_at (length os) x) (behind_count form os rest)
     ∙ octets_again os rest o
 
@@ -138,17 +152,19 @@ module _ (h : Head) (stop : ℕ) (vs : List ℕ) (os : List ℕ) (outer : List B
       let at : ℕ = length (covers (with_tail None ∷ outer)) in
       let ds : List Bool = tail_digits f os ++ rest in
       let long : length (covers (with_tail (Some os) ∷ outer)) ≡ at + 8 * (count_octets f + length os) = ap (λ (x : List Bool). length x) tail_covered ∙ length-more (covers (with_tail None ∷ outer)) (tail_digits f os) (8 * (count_octets f + length os)) (length-tail_digits f os) in
-      let many = tail_length_again f plain os rest t.1 in
-      let again = tail_again f plain os rest t.1 t.2 in
-      let in_time : tail_end f plain at ds ≤ stop = omega (arith, s.inside, long, many) in
+      let full : f ≡ Data → stop - at ≡ 8 * length os = λ e. elim (s.filled e) [ inl bad ↦ absurd cc | inr is ↦ (let uncounted = ap count_octets e in omega (arith, is, long, uncounted)) ] in
+      let many = tail_length_again f plain os (stop - at) rest t.1 full in
+      let again = tail_again f plain os (stop - at) rest t.1 full t.2 in
+      let in_time : tail_end f plain at stop ds ≤ stop = omega (arith, s.inside, long, many) in
       record {
         tree = with_tail None ∷ outer;
         left = ds;
-        is_open = (record { head = s.head; fields = s.fields; tail = tt; tail_after = inl refl; children_after = inl refl; lawful = s.lawful; placed = s.placed; most = s.most; deep = s.deep; inside = omega (arith, s.inside, long) }, outer_open);
+        is_open = (record { head = s.head; fields = s.fields; tail = tt; filled = λ e. inl refl; tail_after = inl refl; children_after = inl refl; lawful = s.lawful; placed = s.placed; most = s.most; deep = s.deep; inside = omega (arith, s.inside, long) }, outer_open);
         same = rw tail_covered (sym (append_assoc (covers (with_tail None ∷ outer)) (tail_digits f os) rest));
         step = next_is (with_tail None) outer ds ReadTail (tail_turn at ds (drop_all (fields_of (kind_of h)) (length vs) all_fields) t.0) (tail_passes_here at ds (tail_passes f plain at stop ds t.0 in_time (subst (λ (x : List ℕ). IsTail f plain x) (sym again) t.1)))
             ∙ ap (λ (u : List ℕ). Grows (with_tail (Some u) ∷ outer)) again;
         fewer = omega arith;
+        root = same_root (with_tail None) (with_tail (Some os)) outer refl;
       }
 
 -- ---- the last part is the closing of the last child
@@ -200,9 +216,10 @@ module _ (h : Head) (stop : ℕ) (fs : List ℕ) (tl : Option (List ℕ)) (befor
       → length (covers (child hb stop_b ∷ parent before ∷ outer)) ≤ stop_b
       → length (covers (parent before ∷ outer)) ≤ length (covers (child hb stop_b ∷ parent before ∷ outer))
       → closed before hb (spread (fields_of (kind_of hb)) vs) (as_read (tail_of (kind_of hb)) tail) cs ≡ and before k vs tail cs
+      → (tail_of (kind_of hb) ≡ Data → length (covers (child hb stop_b ∷ parent before ∷ outer)) ≡ stop_b)
       → Before (parent (and before k vs tail cs) ∷ outer) rest (parts outer + (1 + length fs + tail_parts tl + whole_parts before) + (1 + length (fields_of (kind_of hb)) + tail_parts (as_read (tail_of (kind_of hb)) tail) + whole_parts cs))
   unfolding IsOpenTree parts ArePlaced
-  closing_before hb stop_b w cs_lawful s outer_open ready c head over inside longer is =
+  closing_before hb stop_b w cs_lawful s outer_open ready c head over inside longer is full =
       let at : ℕ = length (covers (child hb stop_b ∷ parent before ∷ outer)) in
       let kind : Kind = kind_of hb in
       let total : at ≡ length (covers (parent (and before k vs tail cs) ∷ outer)) = ap (λ (x : List Bool). length x) c in
@@ -213,9 +230,9 @@ module _ (h : Head) (stop : ℕ) (fs : List ℕ) (tl : Option (List ℕ)) (befor
         tree = child hb stop_b ∷ parent before ∷ outer;
         left = rest;
         is_open = (
-          record { head = head; fields = leading_spread (fields_of kind) vs (are_rules kind) w.ranges; tail = is_read_tail (tail_of kind) (plain_values (fields_of kind) (spread (fields_of kind) vs)) tail values w.bytes; tail_after = inr many; children_after = inr (child_due hb stop_b); lawful = cs_lawful; placed = w.placed; most = w.most; deep = omega (arith, deep); inside = inside },
+          record { head = head; fields = leading_spread (fields_of kind) vs (are_rules kind) w.ranges; tail = is_read_tail (tail_of kind) (plain_values (fields_of kind) (spread (fields_of kind) vs)) tail values w.bytes; filled = λ e. inr (full e); tail_after = inr many; children_after = inr (child_due hb stop_b); lawful = cs_lawful; placed = w.placed; most = w.most; deep = omega (arith, deep); inside = inside },
           (
-            record { head = s.head; fields = s.fields; tail = s.tail; tail_after = s.tail_after; children_after = inr ready; lawful = s.lawful.0; placed = s.placed.0; most = most_before (groups_of (kind_of h)) before k vs tail cs s.most; deep = omega (arith, deep); inside = omega (arith, s.inside, total, longer) },
+            record { head = s.head; fields = s.fields; tail = s.tail; filled = λ e. absurd (data_childless (kind_of h) k e s.placed.1); tail_after = s.tail_after; children_after = inr ready; lawful = s.lawful.0; placed = s.placed.0; most = most_before (groups_of (kind_of h)) before k vs tail cs s.most; deep = omega (arith, deep); inside = omega (arith, s.inside, total, longer) },
             outer_open,
           ),
         );
@@ -223,6 +240,7 @@ module _ (h : Head) (stop : ℕ) (fs : List ℕ) (tl : Option (List ℕ)) (befor
         step = next_is (child hb stop_b) (parent before ∷ outer) rest Close (closing_turn (child hb stop_b) at rest (child_due hb stop_b) over) (closing_passes (child hb stop_b) (length (child hb stop_b ∷ parent before ∷ outer)) at rest (enough_to (groups_of kind) cs w.least))
             ∙ ap (λ (x : Forest). Grows (parent x ∷ outer)) is;
         fewer = omega (arith, many);
+        root = inner_root (child hb stop_b) (parent before) outer ∙ same_root (parent before) (parent (and before k vs tail cs)) outer refl;
       }
 
   pub child_before : IsOpenNode (parent (and before k vs tail cs)) outer → IsOpenTree outer → due (parent before) ≡ Rest
@@ -243,7 +261,7 @@ module _ (h : Head) (stop : ℕ) (fs : List ℕ) (tl : Option (List ℕ)) (befor
             let c = closed_covered h stop fs tl before outer (tv k) stop (spread (fields_of (Parameter k)) vs) (as_read (tail_of (Parameter k)) tail) k vs tail cs is_head body in
             let total : length (covers (child (tv k) stop ∷ parent before ∷ outer)) ≡ length (covers (parent (and before k vs tail cs) ∷ outer)) = ap (λ (x : List Bool). length x) c in
             let longer = length-append (covers (parent before ∷ outer)) (head_digits (tv k) ++ inner) in
-            closing_before (tv k) stop w.obeys s.lawful.2 s outer_open ready c (record { kind_is_tv = f; stops = refl; deep = omega (arith, deep); may_begin = may }) refl (omega (arith, s.inside, total)) (omega (arith, longer)) again
+            closing_before (tv k) stop w.obeys s.lawful.2 s outer_open ready c (record { kind_is_tv = f; stops = refl; deep = omega (arith, deep); may_begin = may }) refl (omega (arith, s.inside, total)) (omega (arith, longer)) again (λ e. absurd (let z : Absent ≡ Data = sym (tv_tail k f) ∙ e in cc))
         | false ↦ λ f.
             let four : head_octets k ≡ 4 = rw f refl in
             let n : ℕ = size k tail cs in
@@ -255,5 +273,5 @@ module _ (h : Head) (stop : ℕ) (fs : List ℕ) (tl : Option (List ℕ)) (befor
             let own = length-append (head_digits (tlv k n)) inner in
             let long : length (covers (child (tlv k n) stop_b ∷ parent before ∷ outer)) ≡ stop_b = omega (arith, longer, own, inner_long, length-tlv k n, four) in
             closing_before (tlv k n) stop_b w.obeys s.lawful.2 s outer_open ready c (record { kind_is_tlv = f; least = omega (arith, four); most = omega (arith, w.long); stops = refl; within = omega (arith, s.inside, total, long); deep = omega (arith, deep); may_begin = may })
-            (le-leb stop_b (length (covers (child (tlv k n) stop_b ∷ parent before ∷ outer))) (omega (arith, long))) (omega (arith, long)) (omega (arith, long)) again
+            (le-leb stop_b (length (covers (child (tlv k n) stop_b ∷ parent before ∷ outer))) (omega (arith, long))) (omega (arith, long)) (omega (arith, long)) again (λ e. long)
       ]) refl

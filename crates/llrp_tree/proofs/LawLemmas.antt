@@ -11,7 +11,7 @@ use Rattle.llrp_schema.specs.declared.kinds.MsgKind.{MsgKind}
 use Rattle.llrp_schema.specs.declared.kinds.Kind.{Kind}
 use Rattle.llrp_schema.specs.declared.kinds.Kind.TheVariants.{Message, Parameter}
 use Rattle.llrp_schema.specs.declared.kinds.Tail.{Tail}
-use Rattle.llrp_schema.specs.declared.kinds.Tail.TheVariants.{Absent, Words, Text, Bits}
+use Rattle.llrp_schema.specs.declared.kinds.Tail.TheVariants.{Absent, Words, Text, Bits, Data}
 use Rattle.llrp_schema.specs.Schema.{FieldRule, GroupRule, fields_of, plain_fields_of, groups_of, tail_of}
 use Rattle.llrp_tree.specs.declared.node.NodeFault.{NodeFault}
 use Rattle.llrp_tree.specs.Tree.{Forest, none, and, Tree, MessageTree, trees}
@@ -65,12 +65,14 @@ tail_from Words values tail e = let p = both (length tail % 2 == 0) (nat_le (len
     (length tail / 2, leb-true (length tail / 2) 65535 p.1, (let z = eqb-true (length tail % 2) 0 p.0 in omega arith))
 tail_from Text values tail e = let p = both (nat_le (length tail) 65535) _ e in (leb-true (length tail) 65535 p.0, IsUtf8-from_is_utf8 tail p.1)
 tail_from Bits values tail e = eqb-true (length tail) ((first values + 7) / 8) e
+tail_from Data values tail e = tt
 
 tail_to : (form : Tail) (values tail : List ℕ) → IsTail form values tail → tail_fits form values tail ≡ true
 tail_to Absent values tail h = rw h refl
 tail_to Words values tail h = both_true (length tail % 2 == 0) (nat_le (length tail / 2) 65535) (same_number (length tail % 2) 0 (omega (arith, h.2))) (le-leb (length tail / 2) 65535 (omega (arith, h.1, h.2)))
 tail_to Text values tail h = both_true (nat_le (length tail) 65535) _ (le-leb (length tail) 65535 h.0) (is_utf8-from_IsUtf8 tail h.1)
 tail_to Bits values tail h = same_number (length tail) ((first values + 7) / 8) h
+tail_to Data values tail h = refl
 
 -- ---- groups
 

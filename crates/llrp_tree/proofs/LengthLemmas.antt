@@ -10,7 +10,7 @@ use Rattle.llrp_schema.specs.declared.kinds.MsgKind.{MsgKind}
 use Rattle.llrp_schema.specs.declared.kinds.Kind.{Kind}
 use Rattle.llrp_schema.specs.declared.kinds.Kind.TheVariants.{Message, Parameter}
 use Rattle.llrp_schema.specs.declared.kinds.Tail.{Tail}
-use Rattle.llrp_schema.specs.declared.kinds.Tail.TheVariants.{Absent, Words, Text, Bits}
+use Rattle.llrp_schema.specs.declared.kinds.Tail.TheVariants.{Absent, Words, Text, Bits, Data}
 use Rattle.llrp_schema.specs.Schema.{FieldRule, fields_of, tail_of, number_of, bits_of, is_tv}
 use Rattle.llrp_schema.proofs.TableLaws.{whole_octets}
 use Rattle.llrp_tree.specs.Tree.{Forest, none, and, Tree, MessageTree}
@@ -36,6 +36,7 @@ length-tail_digits Absent tail = length-bytes tail ∙ omega arith
 length-tail_digits Words tail = length-append (digits 16 (length tail / 2)) (digits_of_bytes tail) ∙ omega (arith, length-digits 16 (length tail / 2), length-bytes tail)
 length-tail_digits Text tail = length-append (digits 16 (length tail)) (digits_of_bytes tail) ∙ omega (arith, length-digits 16 (length tail), length-bytes tail)
 length-tail_digits Bits tail = length-bytes tail ∙ omega arith
+length-tail_digits Data tail = length-bytes tail ∙ omega arith
 
 pub length-body_digits : (kind : Kind) (values tail : List ℕ) → length (body_digits kind values tail) ≡ 8 * body_octets kind tail
 unfolding body_digits body_octets

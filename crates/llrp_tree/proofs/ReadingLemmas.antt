@@ -12,7 +12,7 @@ use Rattle.tag_bits.specs.Digits.{digits_of_bytes}
 use Rattle.tag_bits.proofs.ByteLemmas.{bytes-cons, drop-bytes}
 use Rattle.llrp_schema.specs.declared.kinds.Kind.{Kind}
 use Rattle.llrp_schema.specs.declared.kinds.Tail.{Tail}
-use Rattle.llrp_schema.specs.declared.kinds.Tail.TheVariants.{Absent, Words, Text, Bits}
+use Rattle.llrp_schema.specs.declared.kinds.Tail.TheVariants.{Absent, Words, Text, Bits, Data}
 use Rattle.llrp_schema.specs.declared.kinds.Field.{Field}
 use Rattle.llrp_schema.specs.Schema.{FieldRule, GroupRule, field_rule, bits_of, fields_of, tail_of}
 use Rattle.llrp_schema.proofs.TableLaws.{field_widths, few_plain_fields}
@@ -22,7 +22,7 @@ use Rattle.llrp_tree.specs.Tree.{none, Tree, forest}
 use Rattle.llrp_tree.specs.Lawful.{first, count_octets, AreOctets, is_member, has_place, count, AllLawful, IsLawful, IsLawfulMessage}
 use Rattle.llrp_tree.specs.Checks.{members, at_most, none_missing}
 use Rattle.llrp_tree.specs.Spelling.{Head, spread}
-use Rattle.llrp_tree.specs.OpenTree.{Begun, kind_of, has_tail, in_range, plain_values, as_read, is_enough}
+use Rattle.llrp_tree.specs.OpenTree.{root_of, Begun, kind_of, has_tail, in_range, plain_values, as_read, is_enough}
 use Rattle.llrp_tree.specs.FirstFault.{number, octets_at, tail_length, tail_at, tail_end, field_checks, tail_checks, checks, Turn, ReadField, ReadTail, turn}
 use Rattle.llrp_tree.specs.Standing.{Stands, begun, leading, FailsFirst, Tells, TailSpans}
 use Rattle.llrp_tree.proofs.TreeLemmas.{trees-forest}
@@ -57,12 +57,12 @@ enough_is (g ∷ gs) ts = rw (counted g ts, enough_is gs ts) refl
 
 -- what follows from a field's check
 pub tells : (ds : List Bool) (b : Begun) (outer : List Begun) (at : ℕ) (tn : Turn) (e : FrameErr) → Stands ds (b ∷ outer) at → turn b at (drop at ds) ≡ tn
-    → FailsFirst (checks tn (length (b ∷ outer)) b at (drop at ds)) e → Tells ds e
+    → FailsFirst (checks tn (length (b ∷ outer)) b at (drop at ds)) e → Tells (root_of b.head outer) ds e
 tells ds b outer at tn Memory st t f = tt
 tells ds b outer at tn (Bad x) st t f = fault_is ds b outer at tn x.bit x.reason st t f
 
 pub field_tells : (ds : List Bool) (kind : Kind) (h : Head) (stop : ℕ) (vs : List ℕ) (outer : List Begun) (at : ℕ) (r : FieldRule) (after : List FieldRule) (e : FrameErr)
-    → kind_of h ≡ kind → drop (length vs) (fields_of kind) ≡ r ∷ after → Stands ds (leading h stop vs ∷ outer) at → FailsFirst (field_checks r at stop (drop at ds)) e → Tells ds e
+    → kind_of h ≡ kind → drop (length vs) (fields_of kind) ≡ r ∷ after → Stands ds (leading h stop vs ∷ outer) at → FailsFirst (field_checks r at stop (drop at ds)) e → Tells (root_of h outer) ds e
 unfolding checks
 field_tells ds kind h stop vs outer at r after e k d st x =
     tells ds (leading h stop vs) outer at (ReadField r) e st (field_turn h stop vs 0 outer [] r after (ap (λ (j : Kind). drop (length vs) (fields_of j)) k ∙ d) at (drop at ds)) x
@@ -124,10 +124,10 @@ pub octets_are : (bs : List ℕ) (from n : ℕ) → AreOctets bs → from + n �
 octets_are bs from n o le = ap (λ (x : List Bool). octets_at n x) (drop-bytes from bs (omega arith)) ∙ octets_first n (drop from bs) (octets_behind from bs o) (omega (arith, length-drop from bs))
 
 tail_octets_are : (form : Tail) (fields bs : List ℕ) (at from to stop : ℕ) → AreOctets bs → stop ≤ length bs → TailSpans form fields (8 * at) (8 * stop) (drop (8 * at) (digits_of_bytes bs)) (8 * from) (8 * to)
-    → tail_at form fields (drop (8 * at) (digits_of_bytes bs)) ≡ take (to - from) (drop from bs)
+    → tail_at form fields (8 * stop - 8 * at) (drop (8 * at) (digits_of_bytes bs)) ≡ take (to - from) (drop from bs)
 tail_octets_are form fields bs at from to stop o le s =
     let rest : List Bool = drop (8 * at) (digits_of_bytes bs) in
-    let n : ℕ = tail_length form fields rest in
+    let n : ℕ = tail_length form fields (8 * stop - 8 * at) rest in
     let is_from : from ≡ at + count_octets form = omega (arith, s.begins) in
     let many : n ≡ to - from = omega (arith, s.begins, s.ends) in
     let place : 8 * count_octets form + 8 * at ≡ 8 * from = omega arith in
@@ -140,6 +140,7 @@ is_absent Absent e = refl
 is_absent Words e = absurd cc
 is_absent Text e = absurd cc
 is_absent Bits e = absurd cc
+is_absent Data e = absurd cc
 
 fails_with_tail : (form : Tail) (fields : List ℕ) (at stop : ℕ) (ds : List Bool) (e : FrameErr) → FailsFirst (tail_checks form fields at stop ds) e → has_tail form ≡ true
 fails_with_tail Absent fields at stop ds Memory f = absurd f
@@ -147,12 +148,18 @@ fails_with_tail Absent fields at stop ds (Bad x) f = absurd cc
 fails_with_tail Words fields at stop ds e f = refl
 fails_with_tail Text fields at stop ds e f = refl
 fails_with_tail Bits fields at stop ds e f = refl
+fails_with_tail Data fields at stop ds Memory f = absurd f
+fails_with_tail Data fields at stop ds (Bad x) f = absurd cc
+
+-- data has all octets up to the stop
+pub data_spans : (fields : List ℕ) (at stop : ℕ) (rest : List Bool) → at ≤ stop → TailSpans Data fields (8 * at) (8 * stop) rest (8 * at) (8 * stop)
+data_spans fields at stop rest le = record { begins = omega arith; ends = omega arith; within = omega arith; text = λ e. absurd cc }
 
 all_spread : (rules : List FieldRule) (ws : List ℕ) → drop (length (spread rules ws)) rules ≡ []
 all_spread rules ws = drop_all rules (length (spread rules ws)) (length-spread rules ws)
 
 pub tail_tells : (ds : List Bool) (kind : Kind) (h : Head) (stop : ℕ) (ws : List ℕ) (outer : List Begun) (at : ℕ) (e : FrameErr)
-    → kind_of h ≡ kind → length ws ≡ length (plain (fields_of kind)) → Stands ds (leading h stop (spread (fields_of kind) ws) ∷ outer) at → FailsFirst (tail_checks (tail_of kind) ws at stop (drop at ds)) e → Tells ds e
+    → kind_of h ≡ kind → length ws ≡ length (plain (fields_of kind)) → Stands ds (leading h stop (spread (fields_of kind) ws) ∷ outer) at → FailsFirst (tail_checks (tail_of kind) ws at stop (drop at ds)) e → Tells (root_of h outer) ds e
 unfolding checks
 tail_tells ds kind h stop ws outer at e k l st f =
     let rules : List FieldRule = fields_of kind in
@@ -177,14 +184,14 @@ tail_grows bs h stop ws outer at from to os l o le s is st =
     let back = plain-spread_all rules ws l in
     (elim (has_tail form) as (λ b. has_tail form ≡ b → Stands ds (begun h (8 * stop) vs (if b then Some os else None) none ∷ outer) (8 * to)) [
       | true ↦ λ has.
-          let again : tail_at form (plain_values rules vs) rest ≡ os = ap (λ (x : List ℕ). tail_at form x rest) back ∙ tail_octets_are form ws bs at from to stop o le s ∙ sym is in
-          let end : tail_end form (plain_values rules vs) (8 * at) rest ≡ 8 * to = ap (λ (x : List ℕ). tail_end form x (8 * at) rest) back ∙ sym s.ends in
+          let again : tail_at form (plain_values rules vs) (8 * stop - 8 * at) rest ≡ os = ap (λ (x : List ℕ). tail_at form x (8 * stop - 8 * at) rest) back ∙ tail_octets_are form ws bs at from to stop o le s ∙ sym is in
+          let end : tail_end form (plain_values rules vs) (8 * at) (8 * stop) rest ≡ 8 * to = ap (λ (x : List ℕ). tail_end form x (8 * at) (8 * stop) rest) back ∙ sym s.ends in
           let within = s.within in
-          let g = grow_tail h (8 * stop) vs outer ds (8 * at) st (length-spread rules ws) has (omega (arith, end)) (λ t. ap (λ (x : List ℕ). is_utf8 (tail_at form x rest)) back ∙ s.text t) in
-          subst (λ (x : List ℕ). Stands ds (begun h (8 * stop) vs (Some x) none ∷ outer) (8 * to)) again (subst (λ (n : ℕ). Stands ds (begun h (8 * stop) vs (Some (tail_at form (plain_values rules vs) rest)) none ∷ outer) n) end g)
+          let g = grow_tail h (8 * stop) vs outer ds (8 * at) st (length-spread rules ws) has (omega (arith, end)) (λ t. ap (λ (x : List ℕ). is_utf8 (tail_at form x (8 * stop - 8 * at) rest)) back ∙ s.text t) in
+          subst (λ (x : List ℕ). Stands ds (begun h (8 * stop) vs (Some x) none ∷ outer) (8 * to)) again (subst (λ (n : ℕ). Stands ds (begun h (8 * stop) vs (Some (tail_at form (plain_values rules vs) (8 * stop - 8 * at) rest)) none ∷ outer) n) end g)
       | false ↦ λ has.
           let absent = is_absent form has in
-          let end : 8 * to ≡ 8 * at = s.ends ∙ ap (λ (f : Tail). tail_end f ws (8 * at) rest) absent ∙ omega arith in
+          let end : 8 * to ≡ 8 * at = s.ends ∙ ap (λ (f : Tail). tail_end f ws (8 * at) (8 * stop) rest) absent ∙ omega arith in
           subst (λ (n : ℕ). Stands ds (begun h (8 * stop) vs None none ∷ outer) n) (sym end) st
     ]) refl
 
@@ -274,7 +281,7 @@ module _ (ds : List Bool) (fs : List Field) (kind : Kind) (i : ℕ) (d : Field) 
   abbrev rule : FieldRule
   rule = field_rule (get_or fs i d)
 
-  pub rule_tells : (e : FrameErr) → FailsFirst (field_checks (field_rule (get_or fs i d)) at stop (drop at ds)) e → Tells ds e
+  pub rule_tells : (e : FrameErr) → FailsFirst (field_checks (field_rule (get_or fs i d)) at stop (drop at ds)) e → Tells (root_of h outer) ds e
   rule_tells e f = field_tells ds kind h stop (spread (take i (map field_rule fs)) ws) outer at rule (drop (suc i) (map field_rule fs)) e k (rule_at fs kind i d ws same lt) st f
 
   module _ (fit : at + (get_or fs i d).width ≤ stop) (is : v ≡ number (drop at ds) 0 (get_or fs i d).width) (ranges : in_range (field_rule (get_or fs i d)) v ≡ true) where

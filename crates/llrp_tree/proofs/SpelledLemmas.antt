@@ -13,16 +13,17 @@ use Rattle.llrp_schema.specs.declared.kinds.ParamKind.{ParamKind}
 use Rattle.llrp_schema.specs.declared.kinds.MsgKind.{MsgKind}
 use Rattle.llrp_schema.specs.declared.kinds.Kind.TheVariants.{Message, Parameter}
 use Rattle.llrp_schema.specs.Schema.{fields_of, tail_of}
-use Rattle.llrp_schema.proofs.TableLaws.{every_message, every_parameter, whole_octets}
-use Rattle.std.proofs.lemmas.Bool.{leb-true}
+use Rattle.llrp_schema.specs.declared.kinds.Tail.{Tail}
+use Rattle.llrp_schema.specs.declared.kinds.Tail.TheVariants.{Absent, Words, Text, Bits, Data}
+use Rattle.llrp_schema.proofs.TableLaws.{few_bits, whole_octets}
 use Rattle.std.proofs.lemmas.List.{take_rest}
-use Rattle.std.specs.Prelude.{nat_le, if◌then◌else◌, true, ◌/◌, ◌%◌}
+use Rattle.std.specs.Prelude.{if◌then◌else◌, true, ◌/◌, ◌%◌}
 use Rattle.std.specs.Int.{bytes_high_first}
-use Rattle.llrp_schema.specs.Schema.{bits_of, is_tv, rule_of, message_rule, param_rule, message_kinds, param_kinds}
+use Rattle.llrp_schema.specs.Schema.{bits_of, is_tv}
 use Rattle.llrp_tree.proofs.SpellingLemmas.{appends_same, appends_number, whole_number, whole_digits}
 use Rattle.llrp_tree.specs.declared.TheConstants.{LEVELS, MAX_DEPTH}
 use Rattle.llrp_tree.specs.Tree.{Forest, none, and, Tree, MessageTree, add, add_all, forest, trees}
-use Rattle.llrp_tree.specs.Lawful.{octets, head_octets, count_octets, levels, AreOctets, AllLawful, tree_octets, message_octets}
+use Rattle.llrp_tree.specs.Lawful.{octets, head_octets, body_octets, count_octets, own_octets, levels, AreOctets, AllLawful, tree_octets, message_octets}
 use Rattle.llrp_tree.specs.Spelling.{message, spread, field_digits, count_digits, body_digits, head_of, head_digits, spell, tree_digits, message_digits}
 use Rattle.llrp_tree.specs.Spelled.{octets_in, spelled, leading_digits, message_start, parameter_start, unfinished, following, AreDeep, Moves}
 use Rattle.llrp_tree.specs.Writing.{Appends}
@@ -185,39 +186,50 @@ empty_row (t ∷ ts) octets h = absurd (omega arith)
 
 -- ---- heads and fields
 
--- a parameter's fields and count have 96 bits together at most
-pub short_leading : (kind : ParamKind) → bits_of (fields_of (Parameter kind)) + 8 * count_octets (tail_of (Parameter kind)) ≤ 96
-unfolding fields_of tail_of rule_of param_rule param_kinds
-short_leading kind = leb-true (bits_of (fields_of (Parameter kind)) + 8 * count_octets (tail_of (Parameter kind))) 96 (every_parameter (λ row. nat_le (bits_of row.fields + 8 * count_octets row.tail) 96) refl kind)
+-- a count has two octets at most
+few_counted : (form : Tail) → count_octets form ≤ 2
+few_counted Absent = omega arith
+few_counted Words = omega arith
+few_counted Text = omega arith
+few_counted Bits = omega arith
+few_counted Data = omega arith
 
--- a message's fields have 48
-pub short_message : (kind : MsgKind) → bits_of (fields_of (Message kind)) ≤ 48
-unfolding fields_of rule_of message_rule message_kinds
-short_message kind = leb-true (bits_of (fields_of (Message kind))) 48 (every_message (λ row. nat_le (bits_of row.fields) 48) refl kind)
+-- a parameter's fields and count fill octets, 14 at most
+pub leading_fits : (kind : ParamKind) → (bits_of (fields_of (Parameter kind)) + 8 * count_octets (tail_of (Parameter kind)) ≤ 112) × ((bits_of (fields_of (Parameter kind)) + 8 * count_octets (tail_of (Parameter kind))) % 8 ≡ 0)
+leading_fits kind = (omega (arith, few_bits (Parameter kind), few_counted (tail_of (Parameter kind))), omega (arith, whole_octets (Parameter kind)))
 
 head_bounds : (kind : ParamKind) → (1 ≤ head_octets kind) × (head_octets kind ≤ 4)
 head_bounds kind = elim (is_tv kind) as (λ b. (1 ≤ (if b then 1 else 4)) × ((if b then 1 else 4) ≤ 4)) [ true ↦ (omega arith, omega arith) | false ↦ (omega arith, omega arith) ]
 
--- how many bits come before the tail of a parameter
-pub record StartBits (h l w b c : ℕ) : Type 0 where
+-- how many bits come before the tail of a parameter, where they fill sixteen octets at most
+pub record StartBits (h l w : ℕ) : Type 0 where
   pub few : l ≤ 120
   pub small : h + l ≤ 128
-  pub leading : b + c ≤ 128
   pub whole : w % 8 ≡ 0
-  pub some : 1 ≤ w / 8
+  pub some : 8 ≤ w
 
-pub start_bits : (kind : ParamKind) (h b c l w : ℕ) → h ≡ 8 * head_octets kind → b ≡ bits_of (fields_of (Parameter kind)) → c ≡ 8 * count_octets (tail_of (Parameter kind)) → l ≡ b + c → w ≡ h + l → StartBits h l w b c
-start_bits kind h b c l w eh eb ec el ew =
-    let s = short_leading kind in
+pub start_bits : (kind : ParamKind) (h l w : ℕ) → own_octets (Parameter kind) [] ≤ 16 → h ≡ 8 * head_octets kind → l ≡ bits_of (fields_of (Parameter kind)) + 8 * count_octets (tail_of (Parameter kind)) → w ≡ h + l → StartBits h l w
+unfolding body_octets
+start_bits kind h l w short eh el ew =
     let hb = head_bounds kind in
     let octets8 : bits_of (fields_of (Parameter kind)) % 8 ≡ 0 = whole_octets (Parameter kind) in
     record {
-      few = omega (arith, s, eb, ec, el);
-      small = omega (arith, s, eh, eb, ec, el, hb.1);
-      leading = omega (arith, s, eb, ec);
-      whole = omega (arith, octets8, eh, eb, ec, el, ew);
+      few = omega (arith, short, octets8, eh, el, hb.0);
+      small = omega (arith, short, octets8, eh, el);
+      whole = omega (arith, octets8, eh, el, ew);
       some = omega (arith, eh, ew, hb.0);
     }
+
+-- the bits of a head
+pub head_fits : (kind : ParamKind) (h : ℕ) → h ≡ 8 * head_octets kind → (8 ≤ h) × (h ≤ 32) × (h % 8 ≡ 0)
+head_fits kind h eh = let hb = head_bounds kind in (omega (arith, eh, hb.0), omega (arith, eh, hb.1), omega (arith, eh))
+
+-- the same of a message's fields
+pub message_bits : (kind : MsgKind) (l : ℕ) → own_octets (Message kind) [] ≤ 16 → l ≡ bits_of (fields_of (Message kind)) → (l ≤ 48) × (l % 8 ≡ 0)
+unfolding body_octets
+message_bits kind l short el =
+    let octets8 : bits_of (fields_of (Message kind)) % 8 ≡ 0 = whole_octets (Message kind) in
+    (omega (arith, short, octets8, el), omega (arith, octets8, el))
 
 -- the same parts have the same digits
 pub same_parameter : (k l : ParamKind) (m n : ℕ) (fs gs ts us : List ℕ) → k ≡ l → m ≡ n → fs ≡ gs → ts ≡ us → parameter_start k m fs ts ≡ parameter_start l n gs us
@@ -236,6 +248,24 @@ last_octets bytes bits n few whole lt e =
     let rest : drop (16 - bits / 8) bytes ≡ take (16 - (16 - bits / 8)) (drop (16 - bits / 8) bytes) =
     sym (take_rest bytes (16 - bits / 8)) ∙ ap (λ (i : ℕ). take (i - (16 - bits / 8)) (drop (16 - bits / 8) bytes)) size in
     appends_same _ _ _ _ (appends_number [] (drop (16 - bits / 8) bytes) bytes (bits / 8) n (omega (arith, few)) (whole_number n bits whole lt) e rest) (whole_digits n bits whole)
+
+-- the same where eight octets come before them
+pub last_behind : (all bytes : List ℕ) (bits n : ℕ) → bits ≤ 128 → bits % 8 ≡ 0 → n < 2 ^ bits → bytes ≡ bytes_high_first 16 n → drop 8 all ≡ bytes → Appends [] (drop (24 - bits / 8) all) (digits bits n)
+last_behind all bytes bits n few whole lt e behind = subst (λ (x : List ℕ). Appends [] x (digits bits n)) (sym (behind_eight all bytes (bits / 8) (omega (arith, few)) behind)) (last_octets bytes bits n few whole lt e)
+  where
+    behind_eight : (all bytes : List ℕ) (k : ℕ) → k ≤ 16 → drop 8 all ≡ bytes → drop (24 - k) all ≡ drop (16 - k) bytes
+    behind_eight all bytes k few e =
+        let place : 24 - k ≡ 8 + (16 - k) = omega arith in
+        ap (λ (i : ℕ). drop i all) place ∙ sym (drop-drop (16 - k) 8 all) ∙ ap (λ (x : List ℕ). drop (16 - k) x) e
+
+-- the octets of two numbers, one after the other
+pub one_after_other : (all xs ys : List ℕ) (ds es : List Bool) → all ≡ xs ++ ys → Appends [] xs ds → Appends [] ys es → Appends [] all (ds ++ es)
+one_after_other all xs ys ds es e p q = record {
+  more = p.more ++ q.more;
+  whole = e ∙ ap (λ (x : List ℕ). x ++ ys) p.whole ∙ ap (λ (x : List ℕ). p.more ++ x) q.whole;
+  octets = octets-append p.more q.more p.octets q.octets;
+  spelled = bytes-append p.more q.more ∙ ap (λ (x : List Bool). x ++ digits_of_bytes q.more) p.spelled ∙ ap (λ (x : List Bool). ds ++ x) q.spelled;
+}
 
 -- ---- the parts of a row
 

@@ -1,5 +1,5 @@
 -- How an open tree grows by one part.
-use Rattle.std.proofs.Common.{ℕ, ◌+◌, ◌*◌, Bool, List, [], ◌∷◌, ◌++◌, length, Option, Some, None}
+use Rattle.std.proofs.Common.{ℕ, ◌+◌, ◌-◌, ◌*◌, Bool, List, [], ◌∷◌, ◌++◌, length, Option, Some, None}
 use Rattle.std.specs.Prelude.{unwrap_or}
 use Rattle.llrp_schema.specs.declared.kinds.ParamKind.{ParamKind}
 use Rattle.llrp_schema.specs.declared.kinds.Kind.TheVariants.{Parameter}
@@ -7,7 +7,7 @@ use Rattle.llrp_schema.specs.Schema.{fields_of}
 use Rattle.llrp_tree.specs.declared.fault.Reason.{Reason}
 use Rattle.llrp_tree.specs.Tree.{Forest, none, and}
 use Rattle.llrp_tree.specs.Spelling.{Head, message, tlv, tv}
-use Rattle.llrp_tree.specs.OpenTree.{Begun, rules, form, covers, plain_values}
+use Rattle.llrp_tree.specs.OpenTree.{Begun, rules, form, profile, covers, plain_values}
 use Rattle.llrp_tree.specs.FirstFault.{number, tail_at, tv_kind, tlv_kind, tlv_octets, Turn, ReadField, ReadTail, Close, NoChild, BeginTv, BeginTlv, turn, next_fault}
 
 pub data Step : Type 0 where
@@ -42,11 +42,11 @@ begun_tlv (Some kind) octets at b outer = Grows (begin (tlv kind octets) (at + 8
 
 abbrev pub grown : Turn → Begun → List Begun → ℕ → List Bool → Step
 grown (ReadField r) b outer at rest = Grows (record b { fields = b.fields ++ number rest 0 r.width ∷ [] } ∷ outer)
-grown ReadTail b outer at rest = Grows (record b { tail = Some (tail_at (form b) (plain_values (rules b) b.fields) rest) } ∷ outer)
+grown ReadTail b outer at rest = Grows (record b { tail = Some (tail_at (form b) (plain_values (rules b) b.fields) (b.stop - at) rest) } ∷ outer)
 grown Close b outer at rest = close b outer
 grown NoChild b outer at rest = Ends b
-grown BeginTv b outer at rest = begun_tv (tv_kind rest) b outer
-grown BeginTlv b outer at rest = begun_tlv (tlv_kind rest) (tlv_octets rest) at b outer
+grown BeginTv b outer at rest = begun_tv (tv_kind (profile b) rest) b outer
+grown BeginTlv b outer at rest = begun_tlv (tlv_kind (profile b) rest) (tlv_octets rest) at b outer
 
 abbrev pub unless_failed : Option (ℕ × Reason) → Step → Step
 unless_failed None s = s

@@ -1,17 +1,17 @@
 -- Checks, one after another, at a reader's place.
-use Rattle.std.proofs.Common.{◌≡◌, ℕ, ◌≤◌, Bool, true, false, List, [], ◌∷◌, ◌++◌, length, drop, Option, Some, None, refl, sym, ap, subst, ◌∙◌}
+use Rattle.std.proofs.Common.{◌≡◌, ℕ, ◌-◌, ◌≤◌, Bool, true, false, List, [], ◌∷◌, ◌++◌, length, drop, Option, Some, None, refl, sym, ap, subst, ◌∙◌, arith}
 use Rattle.std.specs.Prelude.{if◌then◌else◌}
 use Rattle.std.specs.Str.{is_utf8}
 use Rattle.std.proofs.lemmas.Bool.{leb-true}
 use Rattle.llrp_schema.specs.declared.kinds.ParamKind.{ParamKind}
 use Rattle.llrp_schema.specs.declared.kinds.Tail.{Tail}
-use Rattle.llrp_schema.specs.declared.kinds.Tail.TheVariants.{Absent, Words, Text, Bits}
+use Rattle.llrp_schema.specs.declared.kinds.Tail.TheVariants.{Absent, Words, Text, Bits, Data}
 use Rattle.llrp_schema.specs.Schema.{GroupRule}
 use Rattle.llrp_tree.specs.declared.TheConstants.{MAX_DEPTH}
 use Rattle.llrp_tree.specs.declared.fault.Reason.{Reason}
 use Rattle.llrp_tree.specs.Tree.{Forest}
 use Rattle.llrp_tree.specs.Lawful.{has_place}
-use Rattle.llrp_tree.specs.OpenTree.{Begun, covers, has_tail, takes_more}
+use Rattle.llrp_tree.specs.OpenTree.{root_of, Begun, covers, has_tail, takes_more}
 use Rattle.llrp_tree.specs.FirstFault.{Check, first_failing, tail_end, tail_at, tail_checks, kind_checks, checks, Turn, turn, next_fault}
 use Rattle.llrp_tree.specs.Standing.{Stands, HasFault}
 use Rattle.llrp_tree.proofs.ReadDigits.{length_covered}
@@ -28,11 +28,12 @@ all_hold (c ∷ cs) e =
     elim c.holds as M [ true ↦ λ h f. (h, all_hold cs f) | false ↦ λ h f. absurd cc ]) refl e
 
 -- what the checks of a tail say where they hold
-pub tail_checked : (form : Tail) (fields : List ℕ) (at stop : ℕ) (ds : List Bool) → has_tail form ≡ true → AllHold (tail_checks form fields at stop ds) → (tail_end form fields at ds ≤ stop) × (form ≡ Text → is_utf8 (tail_at form fields ds) ≡ true)
-tail_checked Absent fields at stop ds e p = absurd cc
-tail_checked Words fields at stop ds e p = (leb-true (tail_end Words fields at ds) stop p.1.0, λ t. absurd cc)
-tail_checked Text fields at stop ds e p = (leb-true (tail_end Text fields at ds) stop p.1.0, λ t. p.1.1.0)
-tail_checked Bits fields at stop ds e p = (leb-true (tail_end Bits fields at ds) stop p.0, λ t. absurd cc)
+pub tail_checked : (form : Tail) (fields : List ℕ) (at stop : ℕ) (ds : List Bool) → at ≤ stop → has_tail form ≡ true → AllHold (tail_checks form fields at stop ds) → (tail_end form fields at stop ds ≤ stop) × (form ≡ Text → is_utf8 (tail_at form fields (stop - at) ds) ≡ true)
+tail_checked Absent fields at stop ds le e p = absurd cc
+tail_checked Words fields at stop ds le e p = (leb-true (tail_end Words fields at stop ds) stop p.1.0, λ t. absurd cc)
+tail_checked Text fields at stop ds le e p = (leb-true (tail_end Text fields at stop ds) stop p.1.0, λ t. p.1.1.0)
+tail_checked Bits fields at stop ds le e p = (leb-true (tail_end Bits fields at stop ds) stop p.0, λ t. absurd cc)
+tail_checked Data fields at stop ds le e p = (omega arith, λ t. absurd cc)
 
 -- and those of a child's kind
 pub record KindPasses (found : Option ParamKind) (gs : List GroupRule) (cs : Forest) (level : ℕ) (more : List Check) : Type 0 where
@@ -49,9 +50,9 @@ kind_checked (Some kind) gs cs level at type_at more p = record { kind = kind; i
 
 -- a check that fails at a reader's place is the fault of the digits
 pub fault_is : (ds : List Bool) (b : Begun) (outer : List Begun) (at : ℕ) (tn : Turn) (bit : ℕ) (reason : Reason) → Stands ds (b ∷ outer) at → turn b at (drop at ds) ≡ tn
-    → first_failing (checks tn (length (b ∷ outer)) b at (drop at ds)) ≡ Some (bit, reason) → HasFault ds bit reason
+    → first_failing (checks tn (length (b ∷ outer)) b at (drop at ds)) ≡ Some (bit, reason) → HasFault (root_of b.head outer) ds bit reason
 unfolding next_fault
 fault_is ds b outer at tn bit reason st e f =
     let long = length_covered (covers (b ∷ outer)) at ds st.covered st.within in
     let M : ℕ → Type 0 = λ n. first_failing (checks (turn b n (drop at ds)) (length (b ∷ outer)) b n (drop at ds)) ≡ Some (bit, reason) in
-    record { tree = b ∷ outer; at = at; stands = st; fails = subst M (sym long) (ap (λ (u : Turn). first_failing (checks u (length (b ∷ outer)) b at (drop at ds))) e ∙ f) }
+    record { tree = b ∷ outer; at = at; stands = st; fails = subst M (sym long) (ap (λ (u : Turn). first_failing (checks u (length (b ∷ outer)) b at (drop at ds))) e ∙ f); root = refl }

@@ -8,17 +8,20 @@ use Rattle.tag_bits.proofs.ByteLemmas.{length-bytes}
 use Rattle.llrp_schema.specs.declared.kinds.MsgKind.{MsgKind}
 use Rattle.llrp_schema.specs.declared.kinds.Kind.{Kind}
 use Rattle.llrp_schema.specs.declared.kinds.Tail.{Tail}
-use Rattle.llrp_schema.specs.declared.kinds.Tail.TheVariants.{Absent, Words, Text, Bits}
-use Rattle.llrp_schema.specs.Schema.{FieldRule, fields_of, tail_of, message_with_number}
+use Rattle.llrp_schema.specs.declared.kinds.Tail.TheVariants.{Absent, Words, Text, Bits, Data}
+use Rattle.llrp_schema.specs.Schema.{FieldRule, fields_of, tail_of, message_in, profile_of}
 use Rattle.llrp_tree.specs.declared.TheConstants.{MAX_LIMIT}
 use Rattle.llrp_tree.specs.declared.fault.Reason.{Reason}
 use Rattle.llrp_tree.specs.Tree.{Forest, none, MessageTree}
 use Rattle.llrp_tree.specs.Lawful.{octets, body_octets}
 use Rattle.llrp_tree.specs.Spelling.{Head, message, tlv, tv, head_digits, spell}
 use Rattle.llrp_tree.specs.Frame.{Frame}
-use Rattle.llrp_tree.specs.OpenTree.{Begun, kind_of, groups, leading_digits, part, covers, Due, AField, ATail, Rest, has_tail, tail_due, field_due, due, plain_values, IsHead, IsOpenNode, IsOpenTree}
-use Rattle.llrp_tree.specs.FirstFault.{number, tail_at, tail_end, tv_kind, tlv_kind, tlv_octets, first_digit, Check, first_failing, kind_checks, checks, ReadField, ReadTail, Close, NoChild, BeginTv, BeginTlv, turn, turn_of, is_over, has_none, header_checks, FirstFault}
-use Rattle.llrp_tree.specs.Standing.{Stands, HasFault, Closes, begun, leading, HeaderSays}
+use Rattle.llrp_schema.specs.declared.kinds.Profile.{Profile}
+use Rattle.llrp_schema.proofs.TableLaws.{message_found_in}
+use Rattle.llrp_schema.specs.declared.kinds.Kind.TheVariants.{Message}
+use Rattle.llrp_tree.specs.OpenTree.{root_of, profile, Begun, kind_of, groups, leading_digits, part, covers, Due, AField, ATail, Rest, has_tail, tail_due, field_due, due, plain_values, IsHead, IsOpenNode, IsOpenTree}
+use Rattle.llrp_tree.specs.FirstFault.{number, tail_at, tail_end, tv_kind, tlv_kind, tlv_octets, first_digit, Check, first_failing, kind_checks, checks, ReadField, ReadTail, Close, NoChild, BeginTv, BeginTlv, turn, turn_of, is_over, has_none, header_checks_in, FirstFaultIn}
+use Rattle.llrp_tree.specs.Standing.{Stands, HasFault, Closes, begun, leading, HeaderSaysIn}
 use Rattle.llrp_tree.specs.FrameLaws.{IsWhole}
 use Rattle.llrp_tree.proofs.Steps.{begin, closed}
 use Rattle.llrp_tree.proofs.Leading.{drop_all, leading_length, wide_at}
@@ -118,6 +121,7 @@ no_field_in Absent None r e = cc
 no_field_in Words None r e = cc
 no_field_in Text None r e = cc
 no_field_in Bits None r e = cc
+no_field_in Data None r e = cc
 no_field_in form (Some os) r e = cc
 
 pub field_first : (rules : List FieldRule) (after : Due) (r : FieldRule) → field_due rules after ≡ AField r → (after ≡ AField r → ⊥) → (more : List FieldRule) × (rules ≡ r ∷ more)
@@ -130,6 +134,7 @@ tail_first [] Absent None e = absurd cc
 tail_first [] Words None e = (refl, refl, refl)
 tail_first [] Text None e = (refl, refl, refl)
 tail_first [] Bits None e = (refl, refl, refl)
+tail_first [] Data None e = (refl, refl, refl)
 tail_first [] form (Some os) e = absurd cc
 
 -- ---- one step after another
@@ -143,18 +148,18 @@ abbrev pub pending : List Begun → ℕ
 pending [] = 0
 pending (b ∷ outer) = pending outer + (1 + unread b.tail)
 
-abbrev pub SomeFault : List Bool → Type 0
-SomeFault ds = (bit : ℕ) × (reason : Reason) × HasFault ds bit reason
+abbrev pub SomeFault : Profile → List Bool → Type 0
+SomeFault p ds = (bit : ℕ) × (reason : Reason) × HasFault p ds bit reason
 
-abbrev pub Ended : List Bool → Type 0
-Ended ds = (b : Begun) × (at : ℕ) × Closes ds b [] at
+abbrev pub Ended : Profile → List Bool → Type 0
+Ended p ds = (b : Begun) × (at : ℕ) × Closes ds b [] at × (root_of b.head [] ≡ p)
 
 module _ (ds : List Bool) where
   abbrev pub Goes : ℕ → Type 0
-  Goes fuel = (b : Begun) (outer : List Begun) (at : ℕ) → Stands ds (b ∷ outer) at → 3 * (length ds - at) + pending (b ∷ outer) < fuel → Ended ds ⊎ SomeFault ds
+  Goes fuel = (b : Begun) (outer : List Begun) (at : ℕ) → Stands ds (b ∷ outer) at → 3 * (length ds - at) + pending (b ∷ outer) < fuel → Ended (root_of b.head outer) ds ⊎ SomeFault (root_of b.head outer) ds
 
   on_field : (fuel : ℕ) → Goes fuel → (b : Begun) (outer : List Begun) (at : ℕ) (r : FieldRule) → Stands ds (b ∷ outer) at → 3 * (length ds - at) + pending (b ∷ outer) < suc fuel → due b ≡ AField r
-      → AllHold (checks (ReadField r) (length (b ∷ outer)) b at (drop at ds)) → Ended ds ⊎ SomeFault ds
+      → AllHold (checks (ReadField r) (length (b ∷ outer)) b at (drop at ds)) → Ended (root_of b.head outer) ds ⊎ SomeFault (root_of b.head outer) ds
   unfolding checks due IsOpenTree
   on_field fuel goes b outer at r st lt d p =
       let s = st.is_open.0 in
@@ -169,7 +174,7 @@ module _ (ds : List Bool) where
       goes (leading b.head b.stop (b.fields ++ number (drop at ds) 0 r.width ∷ [])) outer (at + r.width) g (let a = g.within in omega arith)
 
   on_tail : (fuel : ℕ) → Goes fuel → (b : Begun) (outer : List Begun) (at : ℕ) → Stands ds (b ∷ outer) at → 3 * (length ds - at) + pending (b ∷ outer) < suc fuel → due b ≡ ATail
-      → AllHold (checks ReadTail (length (b ∷ outer)) b at (drop at ds)) → Ended ds ⊎ SomeFault ds
+      → AllHold (checks ReadTail (length (b ∷ outer)) b at (drop at ds)) → Ended (root_of b.head outer) ds ⊎ SomeFault (root_of b.head outer) ds
   unfolding checks due IsOpenTree
   on_tail fuel goes b outer at st lt d p =
       let s = st.is_open.0 in
@@ -180,15 +185,16 @@ module _ (ds : List Bool) where
       let nc : b.children ≡ none = elim s.children_after [ inl e ↦ e | inr rest ↦ absurd (let y : ATail ≡ Rest = sym d ∙ rest in cc) ] in
       let st2 : Stands ds (leading b.head b.stop b.fields ∷ outer) at = subst (λ (x : Begun). Stands ds (x ∷ outer) at) (as_leading b q.2 nc) st in
       let all = leading_length rules b.fields s.fields q.0 in
-      let told = tail_checked form plain at b.stop (drop at ds) q.1 p in
+      let long = length_covered (covers (b ∷ outer)) at ds st.covered st.within in
+      let told = tail_checked form plain at b.stop (drop at ds) (omega (arith, s.inside, long)) q.1 p in
       let g = grow_tail b.head b.stop b.fields outer ds at st2 all q.1 told.0 told.1 in
       let same : unread b.tail ≡ 1 = ap unread q.2 in
-      goes (begun b.head b.stop b.fields (Some (tail_at form plain (drop at ds))) none) outer (tail_end form plain at (drop at ds)) g (let a = g.within in omega arith)
+      goes (begun b.head b.stop b.fields (Some (tail_at form plain (b.stop - at) (drop at ds))) none) outer (tail_end form plain at b.stop (drop at ds)) g (let a = g.within in omega arith)
 
   on_close : (fuel : ℕ) → Goes fuel → (b : Begun) (outer : List Begun) (at : ℕ) → Stands ds (b ∷ outer) at → 3 * (length ds - at) + pending (b ∷ outer) < suc fuel → due b ≡ Rest → is_over b.head (nat_le b.stop at) ≡ true
-      → AllHold (checks Close (length (b ∷ outer)) b at (drop at ds)) → Ended ds ⊎ SomeFault ds
+      → AllHold (checks Close (length (b ∷ outer)) b at (drop at ds)) → Ended (root_of b.head outer) ds ⊎ SomeFault (root_of b.head outer) ds
   unfolding checks
-  on_close fuel goes b [] at st lt d o p = inl (b, at, record { stands = st; ready = d; over = o; enough = p.0 })
+  on_close fuel goes b [] at st lt d o p = inl (b, at, record { stands = st; ready = d; over = o; enough = p.0 }, refl)
   on_close fuel goes b (q ∷ outer) at st lt d o p =
       let c : Closes ds b (q ∷ outer) at = record { stands = st; ready = d; over = o; enough = p.0 } in
       let g = child_closes ds q.head q.stop q.fields q.tail q.children b.fields b.tail b.children outer at b.head b.stop c in
@@ -199,20 +205,20 @@ module _ (ds : List Bool) where
   no_child level b at rest p = (let e : false ≡ true = p.0 in cc)
 
   on_tv : (fuel : ℕ) → Goes fuel → (b : Begun) (outer : List Begun) (at : ℕ) → Stands ds (b ∷ outer) at → 3 * (length ds - at) + pending (b ∷ outer) < suc fuel → due b ≡ Rest → at < b.stop → first_digit (drop at ds) ≡ true
-      → AllHold (checks BeginTv (length (b ∷ outer)) b at (drop at ds)) → Ended ds ⊎ SomeFault ds
+      → AllHold (checks BeginTv (length (b ∷ outer)) b at (drop at ds)) → Ended (root_of b.head outer) ds ⊎ SomeFault (root_of b.head outer) ds
   unfolding checks
   on_tv fuel goes b outer at st lt d before one p =
-      let cs : List Check = kind_checks (tv_kind (drop at ds)) (groups b) b.children (length (b ∷ outer)) at (at + 1) in
-      let k = kind_checked (tv_kind (drop at ds)) (groups b) b.children (length (b ∷ outer)) at (at + 1) [] (subst AllHold (sym (append-nil cs)) p) in
+      let cs : List Check = kind_checks (tv_kind (profile b) (drop at ds)) (groups b) b.children (length (b ∷ outer)) at (at + 1) in
+      let k = kind_checked (tv_kind (profile b) (drop at ds)) (groups b) b.children (length (b ∷ outer)) at (at + 1) [] (subst AllHold (sym (append-nil cs)) p) in
       let g = grow_tv b outer ds at k.kind st (octet_left ds b outer at st d before) one k.is (record { ready = d; has = k.has; more = k.takes }) k.deep in
       goes (begin (tv k.kind) b.stop) (b ∷ outer) (at + 8) g (let a = g.within in omega arith)
 
   on_tlv : (fuel : ℕ) → Goes fuel → (b : Begun) (outer : List Begun) (at : ℕ) → Stands ds (b ∷ outer) at → 3 * (length ds - at) + pending (b ∷ outer) < suc fuel → due b ≡ Rest
-      → AllHold (checks BeginTlv (length (b ∷ outer)) b at (drop at ds)) → Ended ds ⊎ SomeFault ds
+      → AllHold (checks BeginTlv (length (b ∷ outer)) b at (drop at ds)) → Ended (root_of b.head outer) ds ⊎ SomeFault (root_of b.head outer) ds
   unfolding checks
   on_tlv fuel goes b outer at st lt d p =
       let n : ℕ = tlv_octets (drop at ds) in
-      let k = kind_checked (tlv_kind (drop at ds)) (groups b) b.children (length (b ∷ outer)) at (at + 6) _ p.1.1 in
+      let k = kind_checked (tlv_kind (profile b) (drop at ds)) (groups b) b.children (length (b ∷ outer)) at (at + 6) _ p.1.1 in
       let last = both (nat_le 4 n) (nat_le (at + 8 * n) b.stop) k.others.0 in
       let g = grow_tlv b outer ds at k.kind st (leb-true (at + 32) b.stop p.0) (eqb-true (number (drop at ds) 0 6) 0 p.1.0) k.is (record { ready = d; has = k.has; more = k.takes }) k.deep (leb-true 4 n last.0) (leb-true (at + 8 * n) b.stop last.1) in
       goes (begin (tlv k.kind n) (at + 8 * n)) (b ∷ outer) (at + 32) g (let a = g.within in omega arith)
@@ -224,7 +230,7 @@ module _ (ds : List Bool) where
 
   by_turn : (fuel : ℕ) → Goes fuel → (b : Begun) (outer : List Begun) (at : ℕ) → Stands ds (b ∷ outer) at → 3 * (length ds - at) + pending (b ∷ outer) < suc fuel
       → (d : Due) (o n z : Bool) → due b ≡ d → is_over b.head (nat_le b.stop at) ≡ o → first_digit (drop at ds) ≡ z
-      → AllHold (checks (turn_of d o n z) (length (b ∷ outer)) b at (drop at ds)) → Ended ds ⊎ SomeFault ds
+      → AllHold (checks (turn_of d o n z) (length (b ∷ outer)) b at (drop at ds)) → Ended (root_of b.head outer) ds ⊎ SomeFault (root_of b.head outer) ds
   by_turn fuel goes b outer at st lt (AField r) o n z ed eo ez p = on_field fuel goes b outer at r st lt ed p
   by_turn fuel goes b outer at st lt ATail o n z ed eo ez p = on_tail fuel goes b outer at st lt ed p
   by_turn fuel goes b outer at st lt Rest true n z ed eo ez p = on_close fuel goes b outer at st lt ed eo p
@@ -236,7 +242,7 @@ module _ (ds : List Bool) where
   unfolding turn
   decides zero b outer at st lt = absurd (omega arith)
   decides (suc fuel) b outer at st lt =
-      (let M : Option (ℕ × Reason) → Type 0 = λ x. first_failing (checks (turn b at (drop at ds)) (length (b ∷ outer)) b at (drop at ds)) ≡ x → Ended ds ⊎ SomeFault ds in
+      (let M : Option (ℕ × Reason) → Type 0 = λ x. first_failing (checks (turn b at (drop at ds)) (length (b ∷ outer)) b at (drop at ds)) ≡ x → Ended (root_of b.head outer) ds ⊎ SomeFault (root_of b.head outer) ds in
       elim (first_failing (checks (turn b at (drop at ds)) (length (b ∷ outer)) b at (drop at ds))) as M [
         | Some f ↦ λ e. inr (f.0, f.1, fault_is ds b outer at (turn b at (drop at ds)) f.0 f.1 st refl e)
         | None ↦ λ e. by_turn fuel (decides fuel) b outer at st lt (due b) (is_over b.head (nat_le b.stop at)) (has_none (groups b)) (first_digit (drop at ds)) refl refl refl (all_hold (checks (turn b at (drop at ds)) (length (b ∷ outer)) b at (drop at ds)) e)
@@ -250,37 +256,38 @@ is_header (Some kind) e = (kind, refl)
 
 -- the message at the end of the digits
 ended_frame : (limit : ℕ) (bytes : List ℕ) (h : Head) (stop : ℕ) (vs : List ℕ) (tail : Option (List ℕ)) (cs : Forest) (at : ℕ) → limit ≤ MAX_LIMIT → IsWhole bytes → length bytes ≤ limit
-    → Closes (digits_of_bytes bytes) (begun h stop vs tail cs) [] at → (m : MessageTree) × Frame m bytes limit
+    → Closes (digits_of_bytes bytes) (begun h stop vs tail cs) [] at → (m : MessageTree) × Frame m bytes limit × (profile_of (Message m.kind) ≡ root_of h [])
 unfolding IsOpenTree Rattle.llrp_tree.specs.Standing.end_of
 ended_frame limit bytes (message v k n id) stop vs tail cs at le w fit c =
     let s = c.stands.is_open.0.head in
     let long = length-bytes bytes in
     let own : length bytes ≡ n = (let e : stop ≡ length (digits_of_bytes bytes) = c.stands.ends in omega (arith, s.stops)) in
-    (_, closes_frame limit bytes v k n id vs tail cs at le w.octets own (omega (arith, own)) (subst (λ (x : ℕ). Closes (digits_of_bytes bytes) (begun (message v k n id) x vs tail cs) [] at) s.stops c))
+    (_, closes_frame limit bytes v k n id vs tail cs at le w.octets own (omega (arith, own)) (subst (λ (x : ℕ). Closes (digits_of_bytes bytes) (begun (message v k n id) x vs tail cs) [] at) s.stops c), refl)
 ended_frame limit bytes (tlv k n) stop vs tail cs at le w fit c = absurd c.stands.is_open.0.head
 ended_frame limit bytes (tv k) stop vs tail cs at le w fit c = absurd c.stands.is_open.0.head
 
-abbrev Outcome : (limit : ℕ) → List ℕ → Type 0
-Outcome limit bytes = ((m : MessageTree) × Frame m bytes limit) ⊎ ((bit : ℕ) × (reason : Reason) × FirstFault bytes limit bit reason)
+abbrev Outcome : Profile → (limit : ℕ) → List ℕ → Type 0
+Outcome p limit bytes = ((m : MessageTree) × Frame m bytes limit × (profile_of (Message m.kind) ≡ p)) ⊎ ((bit : ℕ) × (reason : Reason) × FirstFaultIn p bytes limit bit reason)
 
-behind_header : (limit : ℕ) (bytes : List ℕ) → limit ≤ MAX_LIMIT → IsWhole bytes → first_failing (header_checks limit (digits_of_bytes bytes)) ≡ None → Outcome limit bytes
-behind_header limit bytes le w passes =
+behind_header : (p : Profile) (limit : ℕ) (bytes : List ℕ) → limit ≤ MAX_LIMIT → IsWhole bytes → first_failing (header_checks_in p limit (digits_of_bytes bytes)) ≡ None → Outcome p limit bytes
+behind_header p limit bytes le w passes =
     let ds : List Bool = digits_of_bytes bytes in
-    let held = all_hold (header_checks limit ds) passes in
-    let found = is_header (message_with_number (number ds 6 10)) held.1.1.0 in
+    let held = all_hold (header_checks_in p limit ds) passes in
+    let found = is_header (message_in p (number ds 6 10)) held.1.1.0 in
     let fit : length bytes ≤ limit = (let a = leb-true (number ds 16 32) limit held.1.1.1.0 in omega (arith, w.own_length)) in
     let long : length ds ≡ 8 * number ds 16 32 = length-bytes bytes ∙ ap (λ (n : ℕ). 8 * n) (sym w.own_length) in
-    let h : HeaderSays limit ds (number ds 3 3) found.0 (number ds 16 32) (number ds 48 32) = record { passes = passes; version_is = refl; kind_is = found.1; octets_is = refl; id_is = refl } in
+    let h : HeaderSaysIn p limit ds (number ds 3 3) found.0 (number ds 16 32) (number ds 48 32) = record { passes = passes; version_is = refl; kind_is = found.1; octets_is = refl; id_is = refl } in
+    let own : profile_of (Message found.0) ≡ p = (message_found_in p (number ds 6 10) found.0 found.1).0 in
     let b : Begun = leading (message (number ds 3 3) found.0 (number ds 16 32) (number ds 48 32)) (8 * number ds 16 32) [] in
-    let st : Stands ds (b ∷ []) 80 = header_stands limit ds (number ds 3 3) found.0 (number ds 16 32) (number ds 48 32) h long (omega (arith, w.own_length, w.header)) in
+    let st : Stands ds (b ∷ []) 80 = header_stands p limit ds (number ds 3 3) found.0 (number ds 16 32) (number ds 48 32) h long (omega (arith, w.own_length, w.header)) in
     elim (decides ds (3 * (length ds - 80) + 3) b [] 80 st (omega arith)) [
-      | inl e ↦ inl (ended_frame limit bytes e.0.head e.0.stop e.0.fields e.0.tail e.0.children e.1 le w fit e.2)
-      | inr f ↦ inr (f.0, f.1, fault_of_frame limit bytes f.0 f.1 passes f.2)
+      | inl e ↦ (let m = ended_frame limit bytes e.0.head e.0.stop e.0.fields e.0.tail e.0.children e.1 le w fit e.2 in inl (m.0, m.1, m.2 ∙ e.3 ∙ own))
+      | inr f ↦ inr (f.0, f.1, fault_of_frame p limit bytes f.0 f.1 passes (subst (λ (q : Profile). HasFault q ds f.0 f.1) own f.2))
     ]
 
-pub either : (limit : ℕ) → limit ≤ MAX_LIMIT → (bytes : List ℕ) → IsWhole bytes → ((m : MessageTree) × Frame m bytes limit) ⊎ ((bit : ℕ) × (reason : Reason) × FirstFault bytes limit bit reason)
-either limit le bytes w =
-    (elim (first_failing (header_checks limit (digits_of_bytes bytes))) as (λ x. first_failing (header_checks limit (digits_of_bytes bytes)) ≡ x → Outcome limit bytes) [
-      | None ↦ λ e. behind_header limit bytes le w e
+pub either : (p : Profile) (limit : ℕ) → limit ≤ MAX_LIMIT → (bytes : List ℕ) → IsWhole bytes → ((m : MessageTree) × Frame m bytes limit × (profile_of (Message m.kind) ≡ p)) ⊎ ((bit : ℕ) × (reason : Reason) × FirstFaultIn p bytes limit bit reason)
+either p limit le bytes w =
+    (elim (first_failing (header_checks_in p limit (digits_of_bytes bytes))) as (λ x. first_failing (header_checks_in p limit (digits_of_bytes bytes)) ≡ x → Outcome p limit bytes) [
+      | None ↦ λ e. behind_header p limit bytes le w e
       | Some f ↦ λ e. inr (f.0, f.1, inl e)
     ]) refl

@@ -8,14 +8,15 @@ use Rattle.tag_bits.specs.Digits.{digits, digits_of_bytes}
 use Rattle.tag_bits.proofs.DigitLemmas.{length-digits, take-seam}
 use Rattle.llrp_schema.specs.declared.kinds.ParamKind.{ParamKind}
 use Rattle.llrp_schema.specs.declared.kinds.Tail.{Tail}
-use Rattle.llrp_schema.specs.declared.kinds.Tail.TheVariants.{Absent, Words, Text, Bits}
+use Rattle.llrp_schema.specs.declared.kinds.Tail.TheVariants.{Absent, Words, Text, Bits, Data}
 use Rattle.llrp_schema.specs.Schema.{FieldRule, fields_of, tail_of}
 use Rattle.llrp_tree.specs.declared.fault.Reason.{Reason}
 use Rattle.llrp_tree.specs.Tree.{Forest, none}
 use Rattle.llrp_tree.specs.Lawful.{count_octets}
 use Rattle.llrp_tree.specs.Spelling.{Head, message, tlv, tv, head_digits, field_digits, spell}
-use Rattle.llrp_tree.specs.OpenTree.{Begun, kind_of, groups, leading_digits, part, covers, Due, AField, ATail, Rest, due, plain_values, is_enough, IsHead, IsOpenTree, parts}
-use Rattle.llrp_tree.specs.FirstFault.{number, tail_at, tail_end, tail_length, tv_kind, tlv_kind, tlv_octets, first_digit, first_failing, checks, Turn, ReadField, ReadTail, Close, NoChild, BeginTv, BeginTlv, turn_of, turn, is_over, has_none, next_fault, header_checks, FirstFault, BodyFault}
+use Rattle.llrp_schema.specs.declared.kinds.Profile.{Profile}
+use Rattle.llrp_tree.specs.OpenTree.{root_profile, profile, Begun, kind_of, groups, leading_digits, part, covers, Due, AField, ATail, Rest, due, plain_values, is_enough, IsHead, IsOpenTree, parts}
+use Rattle.llrp_tree.specs.FirstFault.{number, tail_at, tail_end, tail_length, tv_kind, tlv_kind, tlv_octets, first_digit, first_failing, checks, Turn, ReadField, ReadTail, Close, NoChild, BeginTv, BeginTlv, turn_of, turn, is_over, has_none, next_fault, header_checks_in, FirstFaultIn}
 use Rattle.llrp_tree.specs.Standing.{end_of, Stands, begun, leading}
 use Rattle.llrp_tree.specs.Deciding.{deciding_tail, deciding_of, deciding, BodyFailsIn, FailsIn}
 use Rattle.llrp_tree.proofs.ReadDigits.{length_covered, length-more, length-octets_at}
@@ -41,15 +42,17 @@ either_least false x y least a b = b
 
 tail_from : (form : Tail) (fields : List ℕ) (at stop : ℕ) (rest : List Bool) → at ≤ deciding_tail form fields at stop rest
 tail_from Absent fields at stop rest = omega arith
-tail_from Words fields at stop rest = either_least (nat_le (at + 16) stop) (if nat_le (tail_end Words fields at rest) stop then tail_end Words fields at rest else at + 16) at at (either_least (nat_le (tail_end Words fields at rest) stop) (tail_end Words fields at rest) (at + 16) at (omega arith) (omega arith)) (omega arith)
-tail_from Text fields at stop rest = either_least (nat_le (at + 16) stop) (if nat_le (tail_end Text fields at rest) stop then tail_end Text fields at rest else at + 16) at at (either_least (nat_le (tail_end Text fields at rest) stop) (tail_end Text fields at rest) (at + 16) at (omega arith) (omega arith)) (omega arith)
-tail_from Bits fields at stop rest = either_least (nat_le (tail_end Bits fields at rest) stop) (tail_end Bits fields at rest) at at (omega arith) (omega arith)
+tail_from Words fields at stop rest = either_least (nat_le (at + 16) stop) (if nat_le (tail_end Words fields at stop rest) stop then tail_end Words fields at stop rest else at + 16) at at (either_least (nat_le (tail_end Words fields at stop rest) stop) (tail_end Words fields at stop rest) (at + 16) at (omega arith) (omega arith)) (omega arith)
+tail_from Text fields at stop rest = either_least (nat_le (at + 16) stop) (if nat_le (tail_end Text fields at stop rest) stop then tail_end Text fields at stop rest else at + 16) at at (either_least (nat_le (tail_end Text fields at stop rest) stop) (tail_end Text fields at stop rest) (at + 16) at (omega arith) (omega arith)) (omega arith)
+tail_from Bits fields at stop rest = either_least (nat_le (tail_end Bits fields at stop rest) stop) (tail_end Bits fields at stop rest) at at (omega arith) (omega arith)
+tail_from Data fields at stop rest = omega arith
 
-tail_to : (form : Tail) (fields : List ℕ) (at stop : ℕ) (rest : List Bool) → deciding_tail form fields at stop rest ≤ tail_end form fields at rest
+tail_to : (form : Tail) (fields : List ℕ) (at stop : ℕ) (rest : List Bool) → deciding_tail form fields at stop rest ≤ tail_end form fields at stop rest
 tail_to Absent fields at stop rest = omega arith
-tail_to Words fields at stop rest = either_most (nat_le (at + 16) stop) (if nat_le (tail_end Words fields at rest) stop then tail_end Words fields at rest else at + 16) at (tail_end Words fields at rest) (either_most (nat_le (tail_end Words fields at rest) stop) (tail_end Words fields at rest) (at + 16) (tail_end Words fields at rest) (omega arith) (omega arith)) (omega arith)
-tail_to Text fields at stop rest = either_most (nat_le (at + 16) stop) (if nat_le (tail_end Text fields at rest) stop then tail_end Text fields at rest else at + 16) at (tail_end Text fields at rest) (either_most (nat_le (tail_end Text fields at rest) stop) (tail_end Text fields at rest) (at + 16) (tail_end Text fields at rest) (omega arith) (omega arith)) (omega arith)
-tail_to Bits fields at stop rest = either_most (nat_le (tail_end Bits fields at rest) stop) (tail_end Bits fields at rest) at (tail_end Bits fields at rest) (omega arith) (omega arith)
+tail_to Words fields at stop rest = either_most (nat_le (at + 16) stop) (if nat_le (tail_end Words fields at stop rest) stop then tail_end Words fields at stop rest else at + 16) at (tail_end Words fields at stop rest) (either_most (nat_le (tail_end Words fields at stop rest) stop) (tail_end Words fields at stop rest) (at + 16) (tail_end Words fields at stop rest) (omega arith) (omega arith)) (omega arith)
+tail_to Text fields at stop rest = either_most (nat_le (at + 16) stop) (if nat_le (tail_end Text fields at stop rest) stop then tail_end Text fields at stop rest else at + 16) at (tail_end Text fields at stop rest) (either_most (nat_le (tail_end Text fields at stop rest) stop) (tail_end Text fields at stop rest) (at + 16) (tail_end Text fields at stop rest) (omega arith) (omega arith)) (omega arith)
+tail_to Bits fields at stop rest = either_most (nat_le (tail_end Bits fields at stop rest) stop) (tail_end Bits fields at stop rest) at (tail_end Bits fields at stop rest) (omega arith) (omega arith)
+tail_to Data fields at stop rest = omega arith
 
 turn_from : (tn : Turn) (b : Begun) (at : ℕ) (rest : List Bool) → at ≤ deciding_of tn b at rest
 turn_from (ReadField r) b at rest = either_least (nat_le (at + r.width) b.stop) (at + r.width) at at (omega arith) (omega arith)
@@ -112,12 +115,12 @@ module _ (b : Begun) (outer : List Begun) (rest : List Bool) (u : List Begun) (s
       let form : Tail = tail_of (kind_of b.head) in
       let rules : List FieldRule = fields_of (kind_of b.head) in
       let plain : List ℕ = plain_values rules b.fields in
-      let os : List ℕ = tail_at form plain rest in
+      let os : List ℕ = tail_at form plain (b.stop - at) rest in
       let q = tail_first (drop (length b.fields) rules) form b.tail d in
       let nc : b.children ≡ none = elim s.0.children_after [ inl x ↦ x | inr ready ↦ absurd (let y : ATail ≡ Rest = sym d ∙ ready in cc) ] in
       let was : length (covers (leading b.head b.stop b.fields ∷ outer)) ≡ at = ap (λ (x : Begun). length (covers (x ∷ outer))) (sym (as_leading b q.2 nc)) in
       let now = ap (λ (x : List Bool). length x) (tail_covered b.head b.stop b.fields os outer []) ∙ length-more (covers (leading b.head b.stop b.fields ∷ outer)) _ (8 * (count_octets form + length os)) (length-tail_digits form os) in
-      let many = length-octets_at (tail_length form plain rest) (drop (8 * count_octets form) rest) in
+      let many = length-octets_at (tail_length form plain (b.stop - at) rest) (drop (8 * count_octets form) rest) in
       let is : begun b.head b.stop b.fields (Some os) none ∷ outer ≡ u = ap (λ (x : Forest). begun b.head b.stop b.fields (Some os) x ∷ outer) (sym nc) ∙ grown_is _ e in
       let far = ap (λ (x : List Begun). length (covers x)) is in
       let to = tail_to form plain at b.stop rest in
@@ -162,8 +165,8 @@ module _ (b : Begun) (outer : List Begun) (rest : List Bool) (u : List Begun) (s
   by_turn ATail o n z ed eo p e = on_tail b outer rest u s ed e
   by_turn Rest true n z ed eo p e = closing b outer rest u s ed eo (enough_of _ _ _ p) e
   by_turn Rest false true z ed eo p e = absurd cc
-  by_turn Rest false false true ed eo p e = on_tv b outer rest u s (tv_kind rest) e
-  by_turn Rest false false false ed eo p e = (let far = on_tlv b outer rest u s (tlv_kind rest) (tlv_octets rest) e in either_most (nat_le (here + 32) b.stop) (here + 32) (here + 8) (length (covers u)) far (omega arith))
+  by_turn Rest false false true ed eo p e = on_tv b outer rest u s (tv_kind (profile b) rest) e
+  by_turn Rest false false false ed eo p e = (let far = on_tlv b outer rest u s (tlv_kind (profile b) rest) (tlv_octets rest) e in either_most (nat_le (here + 32) b.stop) (here + 32) (here + 8) (length (covers u)) far (omega arith))
 
   unfailed : (f : Option (ℕ × Reason)) (g : Step) → unless_failed f g ≡ Grows u → (f ≡ None) × (g ≡ Grows u)
   unfailed None g e = (refl, e)
@@ -187,14 +190,14 @@ tree_step [] rest u s e = none_decided rest (length (covers u))
 tree_step (b ∷ outer) rest u s e = step_decided b outer rest u s e
 
 -- an open tree with more parts covers what decides the next checks of one with fewer
-later : (k n : ℕ) (u : List Begun) (after : List Bool) → IsOpenTree u → parts u ≡ suc (suc (k + n)) → (t : List Begun) (rest : List Bool) → IsOpenTree t → parts t ≡ suc n → covers t ++ rest ≡ covers u ++ after → deciding t rest ≤ length (covers u)
-later zero n u after su pu t rest st pt e =
+later : (k n : ℕ) (u : List Begun) (after : List Bool) → IsOpenTree u → parts u ≡ suc (suc (k + n)) → (t : List Begun) (rest : List Bool) → IsOpenTree t → parts t ≡ suc n → root_profile t ≡ root_profile u → covers t ++ rest ≡ covers u ++ after → deciding t rest ≤ length (covers u)
+later zero n u after su pu t rest st pt roots e =
     let a = shrinks u after n su (omega (arith, pu)) in
-    let same = agree n t a.tree rest a.left st a.is_open pt a.fewer (e ∙ sym a.same) in
+    let same = agree n t a.tree rest a.left st a.is_open pt a.fewer (roots ∙ sym a.root) (e ∙ sym a.same) in
     rw (same.0, same.1) (tree_step a.tree a.left u a.is_open a.step)
-later (suc k) n u after su pu t rest st pt e =
+later (suc k) n u after su pu t rest st pt roots e =
     let a = shrinks u after (suc (k + n)) su (omega (arith, pu)) in
-    let before = later k n a.tree a.left a.is_open a.fewer t rest st pt (e ∙ sym a.same) in
+    let before = later k n a.tree a.left a.is_open a.fewer t rest st pt (roots ∙ sym a.root) (e ∙ sym a.same) in
     let own = covered_decided a.tree a.left in
     let step = tree_step a.tree a.left u a.is_open a.step in
     omega arith
@@ -206,11 +209,11 @@ some_part (b ∷ outer) rest lt = (parts (b ∷ outer) - 1, omega arith)
 
 -- ---- faults of a frame
 
-module _ (limit : ℕ) (bytes : List ℕ) (octets : ℕ) (t : List Begun) (at : ℕ) (st : Stands (digits_of_bytes bytes) t at) where
+module _ (p : Profile) (limit : ℕ) (bytes : List ℕ) (octets : ℕ) (t : List Begun) (at : ℕ) (st : Stands (digits_of_bytes bytes) t at) (r : root_profile t ≡ p) where
   abbrev rest : List Bool
   rest = drop at (digits_of_bytes bytes)
 
-  undecided_body : 8 * octets < deciding t rest → BodyFailsIn limit bytes octets → ⊥
+  undecided_body : 8 * octets < deciding t rest → BodyFailsIn p limit bytes octets → ⊥
   undecided_body lt f =
       let u : List Begun = f.fault.tree in
       let after : List Bool = f.fault.rest in
@@ -221,18 +224,18 @@ module _ (limit : ℕ) (bytes : List ℕ) (octets : ℕ) (t : List Begun) (at : 
       let decided = f.decided in
       elim (cases_order (parts t) (parts u)) [
         | inl same ↦
-            let g = agree n.0 t u rest after st.is_open f.fault.is_open n.1 (sym same ∙ n.1) e in
+            let g = agree n.0 t u rest after st.is_open f.fault.is_open n.1 (sym same ∙ n.1) (r ∙ sym f.fault.root) e in
             let equal : deciding t rest ≡ deciding u after = ap (λ (x : List Begun). deciding x rest) g.0 ∙ ap (λ (x : List Bool). deciding u x) g.1 in
             absurd (omega arith)
         | inr (inl fewer) ↦
             let k : ℕ = parts u - parts t - 1 in
-            let far = later k n.0 u after f.fault.is_open (omega (arith, n.1)) t rest st.is_open n.1 e in
+            let far = later k n.0 u after f.fault.is_open (omega (arith, n.1)) t rest st.is_open n.1 (r ∙ sym f.fault.root) e in
             absurd (omega arith)
-        | inr (inr more) ↦ not_both u t after rest f.fault.is_open st.is_open (sym e) end more
+        | inr (inr more) ↦ not_both u t after rest f.fault.is_open st.is_open (f.fault.root ∙ sym r) (sym e) end more
       ]
 
   -- where the next checks of an open tree are not decided by a frame's first octets, these decide no fault of the frame
-  pub undecided_until : first_failing (header_checks limit (digits_of_bytes bytes)) ≡ None → 8 * octets < deciding t rest → FailsIn limit bytes octets → ⊥
+  pub undecided_until : first_failing (header_checks_in p limit (digits_of_bytes bytes)) ≡ None → 8 * octets < deciding t rest → FailsIn p limit bytes octets → ⊥
   undecided_until passes lt (inl f) = f.0 passes
   undecided_until passes lt (inr f) = undecided_body lt f
 
@@ -261,18 +264,18 @@ header_decided [] rest bit reason s e = absurd cc
 header_decided (b ∷ outer) rest bit reason s e = (let a = header_covered b outer s in let d = covered_decided (b ∷ outer) rest in omega arith)
 
 -- fewer octets than a header decide no fault
-pub fails_after_header : (limit : ℕ) (frame : List ℕ) (octets : ℕ) → FailsIn limit frame octets → 10 ≤ octets
-fails_after_header limit frame octets (inl f) = f.1
-fails_after_header limit frame octets (inr f) = (let d = header_decided f.fault.tree f.fault.rest f.bit f.reason f.fault.is_open f.fault.fails in omega (arith, f.decided))
+pub fails_after_header : (p : Profile) (limit : ℕ) (frame : List ℕ) (octets : ℕ) → FailsIn p limit frame octets → 10 ≤ octets
+fails_after_header p limit frame octets (inl f) = f.1
+fails_after_header p limit frame octets (inr f) = (let d = header_decided f.fault.tree f.fault.rest f.bit f.reason f.fault.is_open f.fault.fails in omega (arith, f.decided))
 
 -- a frame with a fault that is decided has a first fault
-pub fails_first : (limit : ℕ) (frame : List ℕ) (octets : ℕ) → FailsIn limit frame octets → (bit : ℕ) × (reason : Reason) × FirstFault frame limit bit reason
-fails_first limit frame octets (inl f) =
-    (elim (first_failing (header_checks limit (digits_of_bytes frame))) as (λ x. first_failing (header_checks limit (digits_of_bytes frame)) ≡ x → (bit : ℕ) × (reason : Reason) × FirstFault frame limit bit reason) [
+pub fails_first : (p : Profile) (limit : ℕ) (frame : List ℕ) (octets : ℕ) → FailsIn p limit frame octets → (bit : ℕ) × (reason : Reason) × FirstFaultIn p frame limit bit reason
+fails_first p limit frame octets (inl f) =
+    (elim (first_failing (header_checks_in p limit (digits_of_bytes frame))) as (λ x. first_failing (header_checks_in p limit (digits_of_bytes frame)) ≡ x → (bit : ℕ) × (reason : Reason) × FirstFaultIn p frame limit bit reason) [
       | None ↦ λ e. absurd (f.0 e)
       | Some x ↦ λ e. (x.0, x.1, inl e)
     ]) refl
-fails_first limit frame octets (inr f) = (f.bit, f.reason, inr f.fault)
+fails_first p limit frame octets (inr f) = (f.bit, f.reason, inr f.fault)
 
 -- what decides the next checks, by what is read next
 pub deciding_is : (b : Begun) (outer : List Begun) (at : ℕ) (rest : List Bool) (tn : Turn) → length (covers (b ∷ outer)) ≡ at → turn b at rest ≡ tn → deciding (b ∷ outer) rest ≡ deciding_of tn b at rest

@@ -7,7 +7,7 @@ use Rattle.llrp_schema.specs.declared.kinds.MsgKind.{MsgKind}
 use Rattle.llrp_schema.specs.declared.kinds.Kind.{Kind}
 use Rattle.llrp_schema.specs.declared.kinds.Kind.TheVariants.{Message, Parameter}
 use Rattle.llrp_schema.specs.declared.kinds.Tail.{Tail}
-use Rattle.llrp_schema.specs.declared.kinds.Tail.TheVariants.{Absent, Words, Text, Bits}
+use Rattle.llrp_schema.specs.declared.kinds.Tail.TheVariants.{Absent, Words, Text, Bits, Data}
 use Rattle.llrp_schema.specs.Schema.{FieldRule, GroupRule, fields_of, groups_of, tail_of}
 use Rattle.llrp_tree.specs.declared.TheConstants.{MAX_DEPTH, MAX_LIMIT, MAX_OCTETS}
 use Rattle.llrp_tree.specs.declared.node.NodeFault.{NodeFault}
@@ -29,6 +29,7 @@ tail_fits Absent values tail = length tail == 0
 tail_fits Words values tail = (length tail % 2 == 0) && nat_le (length tail / 2) 65535
 tail_fits Text values tail = nat_le (length tail) 65535 && is_utf8 tail
 tail_fits Bits values tail = length tail == (first values + 7) / 8
+tail_fits Data values tail = true
 
 abbrev pub members : GroupRule → List Tree → ℕ
 members g ts = count_by (λ t. is_member g t.kind) ts

@@ -2,22 +2,24 @@
 use Rattle.std.specs.Prelude.{◌≡◌, ◌≢◌, ℕ, ◌+◌, ◌*◌, ◌<◌, ◌≤◌, ◌⊎◌, Bool, if◌then◌else◌, nat_le, List, [], ◌∷◌, length, drop, Some, None}
 use Rattle.tag_bits.specs.Digits.{digits_of_bytes}
 use Rattle.llrp_schema.specs.declared.kinds.Tail.{Tail}
-use Rattle.llrp_schema.specs.declared.kinds.Tail.TheVariants.{Absent, Words, Text, Bits}
+use Rattle.llrp_schema.specs.declared.kinds.Tail.TheVariants.{Absent, Words, Text, Bits, Data}
 use Rattle.llrp_tree.specs.declared.fault.Reason.{Reason}
 use Rattle.llrp_tree.specs.declared.fault.Reason.TheVariants.{Short, Count, Utf8}
 use Rattle.llrp_tree.specs.Lawful.{count_octets}
-use Rattle.llrp_tree.specs.OpenTree.{Begun, rules, form, plain_values, covers, IsOpenTree}
-use Rattle.llrp_tree.specs.FirstFault.{Turn, ReadField, ReadTail, Close, NoChild, BeginTv, BeginTlv, turn, tail_end, first_failing, header_checks, next_fault, BodyFault}
+use Rattle.llrp_schema.specs.declared.kinds.Profile.{Profile}
+use Rattle.llrp_tree.specs.OpenTree.{root_profile, Begun, rules, form, plain_values, covers, IsOpenTree}
+use Rattle.llrp_tree.specs.FirstFault.{Turn, ReadField, ReadTail, Close, NoChild, BeginTv, BeginTlv, turn, tail_end, first_failing, header_checks_in, next_fault, BodyFaultIn}
 use Rattle.llrp_tree.specs.Standing.{Stands}
 
 -- ---- what decides the next checks
 
--- the bit up to which a tail is decided: the end of the tail if that is within the stop, else the end of its count if that is, else where the tail begins
+-- the bit up to which a tail is decided: the end of the tail if that is within the stop, else the end of its count if that is, else where the tail begins; data is decided at its end, which is the stop
 abbrev pub deciding_tail : Tail → List ℕ → (at stop : ℕ) → List Bool → ℕ
 deciding_tail Absent fields at stop rest = at
-deciding_tail Words fields at stop rest = if nat_le (at + 16) stop then (if nat_le (tail_end Words fields at rest) stop then tail_end Words fields at rest else at + 16) else at
-deciding_tail Text fields at stop rest = if nat_le (at + 16) stop then (if nat_le (tail_end Text fields at rest) stop then tail_end Text fields at rest else at + 16) else at
-deciding_tail Bits fields at stop rest = if nat_le (tail_end Bits fields at rest) stop then tail_end Bits fields at rest else at
+deciding_tail Words fields at stop rest = if nat_le (at + 16) stop then (if nat_le (tail_end Words fields at stop rest) stop then tail_end Words fields at stop rest else at + 16) else at
+deciding_tail Text fields at stop rest = if nat_le (at + 16) stop then (if nat_le (tail_end Text fields at stop rest) stop then tail_end Text fields at stop rest else at + 16) else at
+deciding_tail Bits fields at stop rest = if nat_le (tail_end Bits fields at stop rest) stop then tail_end Bits fields at stop rest else at
+deciding_tail Data fields at stop rest = tail_end Data fields at stop rest
 
 -- the bit up to which what is read next is decided: a field, a tail or the head of a child ends there; nothing more is needed where a node is closed or has no children
 abbrev pub deciding_of : Turn → Begun → (at : ℕ) → List Bool → ℕ
@@ -34,29 +36,29 @@ deciding [] rest = 0
 deciding (b ∷ outer) rest = let at = length (covers (b ∷ outer)) in deciding_of (turn b at rest) b at rest
 
 -- A check after the header fails first, and the frame's first octets decide it.
-pub record BodyFailsIn (limit : ℕ) (frame : List ℕ) (octets : ℕ) : Type 0 where
+pub record BodyFailsIn (p : Profile) (limit : ℕ) (frame : List ℕ) (octets : ℕ) : Type 0 where
   pub bit : ℕ
   pub reason : Reason
-  pub fault : BodyFault (digits_of_bytes frame) limit bit reason
+  pub fault : BodyFaultIn p (digits_of_bytes frame) limit bit reason
   pub decided : deciding fault.tree fault.rest ≤ 8 * octets
 
 -- a frame has a fault, and its first octets decide it: the ten of the header for one there
-abbrev pub FailsIn : (limit : ℕ) → List ℕ → (octets : ℕ) → Type 0
-FailsIn limit frame octets = ((first_failing (header_checks limit (digits_of_bytes frame)) ≢ None) × (10 ≤ octets)) ⊎ BodyFailsIn limit frame octets
+abbrev pub FailsIn : Profile → (limit : ℕ) → List ℕ → (octets : ℕ) → Type 0
+FailsIn p limit frame octets = ((first_failing (header_checks_in p limit (digits_of_bytes frame)) ≢ None) × (10 ≤ octets)) ⊎ BodyFailsIn p limit frame octets
 
 -- ---- the same by the reason of the fault
 
 -- the end of what fails of a tail: the text for Utf8, the count for Count (that of bits is the field before the tail), and nothing of the tail for Short
-abbrev pub failing_tail : Reason → Tail → List ℕ → (at : ℕ) → List Bool → ℕ
-failing_tail Utf8 form fields at rest = tail_end form fields at rest
-failing_tail Count form fields at rest = at + 8 * count_octets form
-failing_tail reason form fields at rest = at
+abbrev pub failing_tail : Reason → Tail → List ℕ → (at stop : ℕ) → List Bool → ℕ
+failing_tail Utf8 form fields at stop rest = tail_end form fields at stop rest
+failing_tail Count form fields at stop rest = at + 8 * count_octets form
+failing_tail reason form fields at stop rest = at
 
 -- the end of the failing part, by what is read next and the reason: nothing of a field for Short, and else the field; the node for Missing; nothing more for Extra; a child's first octet for Short of its head, and else the head
 abbrev pub failing_part : Turn → Reason → Begun → (at : ℕ) → List Bool → ℕ
 failing_part (ReadField r) Short b at rest = at
 failing_part (ReadField r) reason b at rest = at + r.width
-failing_part ReadTail reason b at rest = failing_tail reason (form b) (plain_values (rules b) b.fields) at rest
+failing_part ReadTail reason b at rest = failing_tail reason (form b) (plain_values (rules b) b.fields) at b.stop rest
 failing_part Close reason b at rest = b.stop
 failing_part NoChild reason b at rest = at
 failing_part BeginTv reason b at rest = at + 8
@@ -74,8 +76,9 @@ FaultsAreDecided = (tree : List Begun) (rest : List Bool) (bit : ℕ) (reason : 
 
 -- Where a frame's first octets do not decide the next checks of an open tree, they decide no fault of the frame.
 abbrev pub NoneIsDecidedBefore : Type 0
-NoneIsDecidedBefore = (limit : ℕ) (frame : List ℕ) (octets : ℕ) (tree : List Begun) (at : ℕ)
+NoneIsDecidedBefore = (p : Profile) (limit : ℕ) (frame : List ℕ) (octets : ℕ) (tree : List Begun) (at : ℕ)
     → Stands (digits_of_bytes frame) tree at
-    → first_failing (header_checks limit (digits_of_bytes frame)) ≡ None
+    → root_profile tree ≡ p
+    → first_failing (header_checks_in p limit (digits_of_bytes frame)) ≡ None
     → 8 * octets < deciding tree (drop at (digits_of_bytes frame))
-    → FailsIn limit frame octets → ⊥
+    → FailsIn p limit frame octets → ⊥

@@ -1,19 +1,21 @@
 -- The first fault of a frame: the checks in the order in which a frame is read, and the first of them that fails.
+use Rattle.llrp_schema.specs.declared.kinds.Profile.{Profile}
+use Rattle.llrp_schema.specs.declared.kinds.Profile.TheVariants.{Own}
 use Rattle.std.specs.Prelude.{◌≡◌, ℕ, zero, suc, ◌+◌, ◌-◌, ◌*◌, ◌/◌, ◌⊎◌, Bool, true, false, ◌&&◌, ◌||◌, if◌then◌else◌, nat_le, ◌==◌, is_some, List, [], ◌∷◌, ◌++◌, length, take, drop, Option, Some, None}
 use Rattle.std.specs.Str.{is_utf8}
 use Rattle.std.specs.Str.Lossy.{utf8_valid_len}
 use Rattle.tag_bits.specs.Digits.{value, digits_of_bytes, field}
 use Rattle.llrp_schema.specs.declared.kinds.ParamKind.{ParamKind}
 use Rattle.llrp_schema.specs.declared.kinds.Tail.{Tail}
-use Rattle.llrp_schema.specs.declared.kinds.Tail.TheVariants.{Absent, Words, Text, Bits}
-use Rattle.llrp_schema.specs.Schema.{FieldRule, GroupRule, message_with_number, tlv_with_number, tv_with_number}
+use Rattle.llrp_schema.specs.declared.kinds.Tail.TheVariants.{Absent, Words, Text, Bits, Data}
+use Rattle.llrp_schema.specs.Schema.{FieldRule, GroupRule, message_in, tlv_in, tv_in}
 use Rattle.llrp_tree.specs.declared.TheConstants.{MAX_DEPTH}
 use Rattle.llrp_tree.specs.declared.fault.Reason.{Reason}
 use Rattle.llrp_tree.specs.declared.fault.Reason.TheVariants.{Reserved, Version, MessageType, MessageLength, Short, Value, Count, Utf8, ParamType, Misplaced, TooMany, TooDeep, ParamLength, Extra, Missing}
 use Rattle.llrp_tree.specs.Tree.{Forest}
 use Rattle.llrp_tree.specs.Lawful.{first, count_octets, has_place}
 use Rattle.llrp_tree.specs.Spelling.{Head, message, tlv, tv}
-use Rattle.llrp_tree.specs.OpenTree.{Begun, rules, form, groups, covers, Due, AField, ATail, Rest, due, in_range, plain_values, takes_more, is_enough, IsOpenTree}
+use Rattle.llrp_tree.specs.OpenTree.{root_profile, Begun, rules, form, groups, profile, covers, Due, AField, ATail, Rest, due, in_range, plain_values, takes_more, is_enough, IsOpenTree}
 
 -- ---- what is in the digits from a bit on
 
@@ -26,21 +28,22 @@ unfoldable pub octets_at : ℕ → List Bool → List ℕ
 octets_at zero rest = []
 octets_at (suc n) rest = value (take 8 rest) ∷ octets_at n (drop 8 rest)
 
--- the octets of a tail after its count, by that count, or by the field of the bits that a tail of bits has
-abbrev pub tail_length : Tail → List ℕ → List Bool → ℕ
-tail_length Absent fields rest = 0
-tail_length Words fields rest = 2 * number rest 0 16
-tail_length Text fields rest = number rest 0 16
-tail_length Bits fields rest = (first fields + 7) / 8
+-- the octets of a tail after its count, by that count, by the field of the bits that a tail of bits has, or by the bits up to the node's stop
+abbrev pub tail_length : Tail → List ℕ → (room : ℕ) → List Bool → ℕ
+tail_length Absent fields room rest = 0
+tail_length Words fields room rest = 2 * number rest 0 16
+tail_length Text fields room rest = number rest 0 16
+tail_length Bits fields room rest = (first fields + 7) / 8
+tail_length Data fields room rest = room / 8
 
-abbrev pub tail_at : Tail → List ℕ → List Bool → List ℕ
-tail_at form fields rest = octets_at (tail_length form fields rest) (drop (8 * count_octets form) rest)
+abbrev pub tail_at : Tail → List ℕ → (room : ℕ) → List Bool → List ℕ
+tail_at form fields room rest = octets_at (tail_length form fields room rest) (drop (8 * count_octets form) rest)
 
-abbrev pub tv_kind : List Bool → Option ParamKind
-tv_kind rest = tv_with_number (number rest 1 7)
+abbrev pub tv_kind : Profile → List Bool → Option ParamKind
+tv_kind p rest = tv_in p (number rest 1 7)
 
-abbrev pub tlv_kind : List Bool → Option ParamKind
-tlv_kind rest = tlv_with_number (number rest 6 10)
+abbrev pub tlv_kind : Profile → List Bool → Option ParamKind
+tlv_kind p rest = tlv_in p (number rest 6 10)
 
 abbrev pub tlv_octets : List Bool → ℕ
 tlv_octets rest = number rest 16 16
@@ -72,21 +75,22 @@ field_checks r at stop rest =
     ∷ check (in_range r (number rest 0 r.width)) at (if r.reserved then Reserved else Value) ∷ []
 
 -- the bit after a tail
-abbrev pub tail_end : Tail → List ℕ → ℕ → List Bool → ℕ
-tail_end form fields at rest = at + 8 * (count_octets form + tail_length form fields rest)
+abbrev pub tail_end : Tail → List ℕ → (at stop : ℕ) → List Bool → ℕ
+tail_end form fields at stop rest = at + 8 * (count_octets form + tail_length form fields (stop - at) rest)
 
--- a tail: its count and what it counts end before the node's stop or there, and text is UTF-8 (the fault is at the first octet from which no well-formed sequence begins)
+-- a tail: its count and what it counts end before the node's stop or there, and text is UTF-8 (the fault is at the first octet from which no well-formed sequence begins); data always ends at the stop
 abbrev pub tail_checks : Tail → List ℕ → (at stop : ℕ) → List Bool → List Check
 tail_checks Absent fields at stop rest = []
 tail_checks Words fields at stop rest =
     check (nat_le (at + 16) stop) at Short
-    ∷ check (nat_le (tail_end Words fields at rest) stop) at Count ∷ []
+    ∷ check (nat_le (tail_end Words fields at stop rest) stop) at Count ∷ []
 tail_checks Text fields at stop rest =
     check (nat_le (at + 16) stop) at Short
-    ∷ check (nat_le (tail_end Text fields at rest) stop) at Count
-    ∷ check (is_utf8 (tail_at Text fields rest)) (at + 16 + 8 * utf8_valid_len (tail_at Text fields rest)) Utf8 ∷ []
+    ∷ check (nat_le (tail_end Text fields at stop rest) stop) at Count
+    ∷ check (is_utf8 (tail_at Text fields (stop - at) rest)) (at + 16 + 8 * utf8_valid_len (tail_at Text fields (stop - at) rest)) Utf8 ∷ []
 tail_checks Bits fields at stop rest =
-    check (nat_le (tail_end Bits fields at rest) stop) (at - 16) Count ∷ []
+    check (nat_le (tail_end Bits fields at stop rest) stop) (at - 16) Count ∷ []
+tail_checks Data fields at stop rest = []
 
 -- a child's kind: it is in the table, a group has it, none of its groups is full, and its level is one that there may be
 abbrev pub kind_checks : Option ParamKind → List GroupRule → Forest → (level at type_at : ℕ) → List Check
@@ -97,15 +101,15 @@ kind_checks (Some kind) groups children level at type_at =
     ∷ check (nat_le level MAX_DEPTH) at TooDeep ∷ []
 
 -- a child with type and value
-abbrev pub tv_checks : List GroupRule → Forest → (level at : ℕ) → List Bool → List Check
-tv_checks groups children level at rest = kind_checks (tv_kind rest) groups children level at (at + 1)
+abbrev pub tv_checks : Profile → List GroupRule → Forest → (level at : ℕ) → List Bool → List Check
+tv_checks p groups children level at rest = kind_checks (tv_kind p rest) groups children level at (at + 1)
 
 -- a child with type, length and value: its head ends before the parent's stop or there, and so does the child
-abbrev pub tlv_checks : List GroupRule → Forest → (level at stop : ℕ) → List Bool → List Check
-tlv_checks groups children level at stop rest =
+abbrev pub tlv_checks : Profile → List GroupRule → Forest → (level at stop : ℕ) → List Bool → List Check
+tlv_checks p groups children level at stop rest =
     check (nat_le (at + 32) stop) at Short
     ∷ check (number rest 0 6 == 0) at Reserved
-    ∷ (kind_checks (tlv_kind rest) groups children level at (at + 6)
+    ∷ (kind_checks (tlv_kind p rest) groups children level at (at + 6)
     ++ check (nat_le 4 (tlv_octets rest) && nat_le (at + 8 * tlv_octets rest) stop) (at + 16) ParamLength ∷ [])
 
 -- ---- what is done next in a node
@@ -144,8 +148,8 @@ checks (ReadField r) level b at rest = field_checks r at b.stop rest
 checks ReadTail level b at rest = tail_checks (form b) (plain_values (rules b) b.fields) at b.stop rest
 checks Close level b at rest = check (is_enough (groups b) b.children) b.stop Missing ∷ []
 checks NoChild level b at rest = check false at Extra ∷ []
-checks BeginTv level b at rest = tv_checks (groups b) b.children level at rest
-checks BeginTlv level b at rest = tlv_checks (groups b) b.children level at b.stop rest
+checks BeginTv level b at rest = tv_checks (profile b) (groups b) b.children level at rest
+checks BeginTlv level b at rest = tlv_checks (profile b) (groups b) b.children level at b.stop rest
 
 -- the first check that fails of those that are made next in the innermost node of an open tree, with the digits after it
 unfoldable pub next_fault : List Begun → List Bool → Option (ℕ × Reason)
@@ -157,22 +161,31 @@ next_fault (b ∷ outer) rest =
 -- ---- the fault of a frame
 
 -- the checks of a header: no reserved bit is set, the version is 1 or 2, the type is in the table, and the length is within the limit
-abbrev pub header_checks : (limit : ℕ) → List Bool → List Check
-header_checks limit ds =
+abbrev pub header_checks_in : Profile → (limit : ℕ) → List Bool → List Check
+header_checks_in p limit ds =
     check (number ds 0 3 == 0) 0 Reserved
     ∷ check ((number ds 3 3 == 1) || (number ds 3 3 == 2)) 3 Version
-    ∷ check (is_some (message_with_number (number ds 6 10))) 6 MessageType
+    ∷ check (is_some (message_in p (number ds 6 10))) 6 MessageType
     ∷ check (nat_le (number ds 16 32) limit) 16 MessageLength ∷ []
 
+-- the same of the profile
+abbrev pub header_checks : (limit : ℕ) → List Bool → List Check
+header_checks limit ds = header_checks_in Own limit ds
+
 -- The header passes, and an open tree covers the first digits, whose next checks fail first at the bit, for the reason.
-pub record BodyFault (ds : List Bool) (limit bit : ℕ) (reason : Reason) : Type 0 where
-  pub header : first_failing (header_checks limit ds) ≡ None
+pub record BodyFaultIn (p : Profile) (ds : List Bool) (limit bit : ℕ) (reason : Reason) : Type 0 where
+  pub header : first_failing (header_checks_in p limit ds) ≡ None
   pub tree : List Begun
   pub rest : List Bool
   pub is_open : IsOpenTree tree
+  pub root : root_profile tree ≡ p
   pub covered : covers tree ++ rest ≡ ds
   pub fails : next_fault tree rest ≡ Some (bit, reason)
 
 -- the bytes of a frame have this first fault, in the header or after it
+abbrev pub FirstFaultIn : Profile → List ℕ → (limit bit : ℕ) → Reason → Type 0
+FirstFaultIn p bytes limit bit reason = (first_failing (header_checks_in p limit (digits_of_bytes bytes)) ≡ Some (bit, reason)) ⊎ BodyFaultIn p (digits_of_bytes bytes) limit bit reason
+
+-- the same of the profile
 abbrev pub FirstFault : List ℕ → (limit bit : ℕ) → Reason → Type 0
-FirstFault bytes limit bit reason = (first_failing (header_checks limit (digits_of_bytes bytes)) ≡ Some (bit, reason)) ⊎ BodyFault (digits_of_bytes bytes) limit bit reason
+FirstFault bytes limit bit reason = FirstFaultIn Own bytes limit bit reason

@@ -2,15 +2,18 @@
 use Rattle.std.specs.Prelude.{◌≡◌, ℕ, ◌≤◌, ◌⊎◌, Bool, List, [], ◌++◌, length}
 use Rattle.tag_bits.specs.Digits.{digits_of_bytes}
 use Rattle.llrp_tree.specs.declared.fault.Reason.{Reason}
+use Rattle.llrp_schema.specs.declared.kinds.Profile.{Profile}
+use Rattle.llrp_schema.specs.declared.kinds.Kind.TheVariants.{Message}
+use Rattle.llrp_schema.specs.Schema.{profile_of}
 use Rattle.llrp_tree.specs.Tree.{MessageTree}
 use Rattle.llrp_tree.specs.Lawful.{AreOctets}
 use Rattle.llrp_tree.specs.Frame.{Frame}
-use Rattle.llrp_tree.specs.OpenTree.{Begun, covers, IsOpenTree, parts}
-use Rattle.llrp_tree.specs.FirstFault.{number, FirstFault}
+use Rattle.llrp_tree.specs.OpenTree.{Begun, covers, IsOpenTree, parts, root_profile}
+use Rattle.llrp_tree.specs.FirstFault.{number, FirstFaultIn}
 
 -- Two open trees with equally many counted parts that cover the first of the same digits are equal.
 abbrev pub OpenTreesAgree : Type 0
-OpenTreesAgree = (t u : List Begun) (r s : List Bool) → IsOpenTree t → IsOpenTree u → parts t ≡ parts u → covers t ++ r ≡ covers u ++ s → t ≡ u
+OpenTreesAgree = (t u : List Begun) (r s : List Bool) → IsOpenTree t → IsOpenTree u → root_profile t ≡ root_profile u → parts t ≡ parts u → covers t ++ r ≡ covers u ++ s → t ≡ u
 
 -- bytes that a stream's reader takes for a frame: a whole header, whose length is theirs
 pub record IsWhole (bytes : List ℕ) : Type 0 where
@@ -19,8 +22,8 @@ pub record IsWhole (bytes : List ℕ) : Type 0 where
   pub own_length : number (digits_of_bytes bytes) 16 32 ≡ length bytes
 
 -- Whole bytes are a message's or have a first fault, never both. Neither has a second, and no message's bytes begin those of another.
-pub record FramesApart (limit : ℕ) : Type 0 where
-  pub either : (bytes : List ℕ) → IsWhole bytes → ((m : MessageTree) × Frame m bytes limit) ⊎ ((bit : ℕ) × (reason : Reason) × FirstFault bytes limit bit reason)
-  pub not_both : (bytes : List ℕ) (m : MessageTree) (bit : ℕ) (reason : Reason) → Frame m bytes limit → FirstFault bytes limit bit reason → ⊥
-  pub one_fault : (bytes : List ℕ) (bit bit2 : ℕ) (reason reason2 : Reason) → FirstFault bytes limit bit reason → FirstFault bytes limit bit2 reason2 → (bit ≡ bit2) × (reason ≡ reason2)
-  pub no_prefix : (bytes more : List ℕ) (m k : MessageTree) → Frame m bytes limit → Frame k (bytes ++ more) limit → (m ≡ k) × (more ≡ [])
+pub record FramesApart (p : Profile) (limit : ℕ) : Type 0 where
+  pub either : (bytes : List ℕ) → IsWhole bytes → ((m : MessageTree) × Frame m bytes limit × (profile_of (Message m.kind) ≡ p)) ⊎ ((bit : ℕ) × (reason : Reason) × FirstFaultIn p bytes limit bit reason)
+  pub not_both : (bytes : List ℕ) (m : MessageTree) (bit : ℕ) (reason : Reason) → profile_of (Message m.kind) ≡ p → Frame m bytes limit → FirstFaultIn p bytes limit bit reason → ⊥
+  pub one_fault : (bytes : List ℕ) (bit bit2 : ℕ) (reason reason2 : Reason) → FirstFaultIn p bytes limit bit reason → FirstFaultIn p bytes limit bit2 reason2 → (bit ≡ bit2) × (reason ≡ reason2)
+  pub no_prefix : (bytes more : List ℕ) (m k : MessageTree) → profile_of (Message m.kind) ≡ profile_of (Message k.kind) → Frame m bytes limit → Frame k (bytes ++ more) limit → (m ≡ k) × (more ≡ [])

@@ -1,5 +1,5 @@
 -- How an open tree grows by one part. In each law the innermost node is one of which these fields, tail and children are read, and `at` is the bit up to which the digits are covered.
-use Rattle.std.specs.Prelude.{◌≡◌, ℕ, ◌+◌, ◌*◌, ◌≤◌, Bool, true, List, [], ◌∷◌, ◌++◌, length, drop, Option, Some, unwrap_or}
+use Rattle.std.specs.Prelude.{◌≡◌, ℕ, ◌+◌, ◌-◌, ◌*◌, ◌≤◌, Bool, true, List, [], ◌∷◌, ◌++◌, length, drop, Option, Some, unwrap_or}
 use Rattle.std.specs.Str.{is_utf8}
 use Rattle.llrp_schema.specs.declared.kinds.ParamKind.{ParamKind}
 use Rattle.llrp_schema.specs.declared.kinds.Kind.TheVariants.{Parameter}
@@ -8,7 +8,7 @@ use Rattle.llrp_schema.specs.Schema.{FieldRule, fields_of, groups_of, tail_of}
 use Rattle.llrp_tree.specs.declared.TheConstants.{MAX_DEPTH}
 use Rattle.llrp_tree.specs.Tree.{Forest, none, and}
 use Rattle.llrp_tree.specs.Spelling.{Head, tlv, tv}
-use Rattle.llrp_tree.specs.OpenTree.{Begun, kind_of, Rest, has_tail, due, in_range, plain_values, is_enough, MayBegin}
+use Rattle.llrp_tree.specs.OpenTree.{Begun, kind_of, Rest, has_tail, due, in_range, plain_values, is_enough, MayBegin, profile}
 use Rattle.llrp_tree.specs.FirstFault.{number, tail_at, tail_end, tv_kind, tlv_kind, tlv_octets, first_digit}
 use Rattle.llrp_tree.specs.Standing.{Stands, begun, leading}
 
@@ -27,9 +27,9 @@ TailGrows = (h : Head) (stop : ℕ) (fields : List ℕ) (outer : List Begun) (ds
     → Stands ds (leading h stop fields ∷ outer) at
     → length fields ≡ length (fields_of (kind_of h))
     → has_tail (tail_of (kind_of h)) ≡ true
-    → tail_end (tail_of (kind_of h)) (plain_values (fields_of (kind_of h)) fields) at (drop at ds) ≤ stop
-    → (tail_of (kind_of h) ≡ Text → is_utf8 (tail_at (tail_of (kind_of h)) (plain_values (fields_of (kind_of h)) fields) (drop at ds)) ≡ true)
-    → Stands ds (begun h stop fields (Some (tail_at (tail_of (kind_of h)) (plain_values (fields_of (kind_of h)) fields) (drop at ds))) none ∷ outer) (tail_end (tail_of (kind_of h)) (plain_values (fields_of (kind_of h)) fields) at (drop at ds))
+    → tail_end (tail_of (kind_of h)) (plain_values (fields_of (kind_of h)) fields) at stop (drop at ds) ≤ stop
+    → (tail_of (kind_of h) ≡ Text → is_utf8 (tail_at (tail_of (kind_of h)) (plain_values (fields_of (kind_of h)) fields) (stop - at) (drop at ds)) ≡ true)
+    → Stands ds (begun h stop fields (Some (tail_at (tail_of (kind_of h)) (plain_values (fields_of (kind_of h)) fields) (stop - at) (drop at ds))) none ∷ outer) (tail_end (tail_of (kind_of h)) (plain_values (fields_of (kind_of h)) fields) at stop (drop at ds))
 
 -- A child with type, length and value whose head passes its checks begins: the open tree with that child innermost covers the 32 digits of the head.
 abbrev pub TlvOpens : Type 0
@@ -37,7 +37,7 @@ TlvOpens = (parent : Begun) (outer : List Begun) (ds : List Bool) (at : ℕ) (ki
     → Stands ds (parent ∷ outer) at
     → at + 32 ≤ parent.stop
     → number (drop at ds) 0 6 ≡ 0
-    → tlv_kind (drop at ds) ≡ Some kind
+    → tlv_kind (profile parent) (drop at ds) ≡ Some kind
     → MayBegin parent kind
     → length (parent ∷ outer) ≤ MAX_DEPTH
     → 4 ≤ tlv_octets (drop at ds)
@@ -50,7 +50,7 @@ TvOpens = (parent : Begun) (outer : List Begun) (ds : List Bool) (at : ℕ) (kin
     → Stands ds (parent ∷ outer) at
     → at + 8 ≤ parent.stop
     → first_digit (drop at ds) ≡ true
-    → tv_kind (drop at ds) ≡ Some kind
+    → tv_kind (profile parent) (drop at ds) ≡ Some kind
     → MayBegin parent kind
     → length (parent ∷ outer) ≤ MAX_DEPTH
     → Stands ds (leading (tv kind) parent.stop [] ∷ parent ∷ outer) (at + 8)

@@ -5,7 +5,7 @@ use Rattle.llrp_schema.specs.declared.kinds.ParamKind.{ParamKind}
 use Rattle.llrp_schema.specs.declared.kinds.Kind.{Kind}
 use Rattle.llrp_schema.specs.declared.kinds.Kind.TheVariants.{Message, Parameter}
 use Rattle.llrp_schema.specs.declared.kinds.Tail.{Tail}
-use Rattle.llrp_schema.specs.declared.kinds.Tail.TheVariants.{Absent, Words, Text, Bits}
+use Rattle.llrp_schema.specs.declared.kinds.Tail.TheVariants.{Absent, Words, Text, Bits, Data}
 use Rattle.llrp_schema.specs.Schema.{FieldRule, GroupRule, fields_of, plain_fields_of, bits_of, groups_of, tail_of, is_tv}
 pub use Rattle.llrp_schema.specs.Places.{is_member, has_place}
 use Rattle.llrp_tree.specs.declared.TheConstants.{MAX_DEPTH, MAX_LIMIT, MAX_OCTETS}
@@ -24,6 +24,7 @@ count_octets Absent = 0
 count_octets Words = 2
 count_octets Text = 2
 count_octets Bits = 0
+count_octets Data = 0
 
 -- the octets of the fields of a kind and of its tail
 unfoldable pub body_octets : Kind → List ℕ → ℕ
@@ -71,12 +72,13 @@ abbrev pub others : List ℕ → List ℕ
 others [] = []
 others (v ∷ values) = values
 
--- The tail has its form. That of bits is filled up to whole octets; the first field counts them.
+-- The tail has its form. That of bits is filled up to whole octets; the first field counts them. Data is any octets.
 abbrev pub IsTail : Tail → List ℕ → List ℕ → Type 0
 IsTail Absent fields tail = tail ≡ []
 IsTail Words fields tail = (words : ℕ) × (words ≤ 65535) × (length tail ≡ 2 * words)
 IsTail Text fields tail = (length tail ≤ 65535) × IsUtf8 tail
 IsTail Bits fields tail = length tail ≡ (first fields + 7) / 8
+IsTail Data fields tail = Unit {0}
 
 -- how many parameters of a row are of a group
 unfoldable pub count : GroupRule → Forest → ℕ

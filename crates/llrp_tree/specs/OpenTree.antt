@@ -1,12 +1,14 @@
 -- Open trees: how far a frame is read.
+use Rattle.llrp_schema.specs.declared.kinds.Profile.{Profile}
+use Rattle.llrp_schema.specs.declared.kinds.Profile.TheVariants.{Own}
 use Rattle.std.specs.Prelude.{◌≡◌, ℕ, ◌+◌, ◌*◌, ◌^◌, ◌<◌, ◌≤◌, ◌⊎◌, Bool, true, false, not, ◌||◌, if◌then◌else◌, nat_le, ◌==◌, List, [], ◌∷◌, ◌++◌, length, drop, Option, Some, None}
 use Rattle.std.specs.List.{list_all}
 use Rattle.llrp_schema.specs.declared.kinds.ParamKind.{ParamKind}
 use Rattle.llrp_schema.specs.declared.kinds.Kind.{Kind}
 use Rattle.llrp_schema.specs.declared.kinds.Kind.TheVariants.{Message, Parameter}
 use Rattle.llrp_schema.specs.declared.kinds.Tail.{Tail}
-use Rattle.llrp_schema.specs.declared.kinds.Tail.TheVariants.{Absent, Words, Text, Bits}
-use Rattle.llrp_schema.specs.Schema.{FieldRule, GroupRule, fields_of, tail_of, groups_of, is_tv}
+use Rattle.llrp_schema.specs.declared.kinds.Tail.TheVariants.{Absent, Words, Text, Bits, Data}
+use Rattle.llrp_schema.specs.Schema.{FieldRule, GroupRule, fields_of, tail_of, groups_of, profile_of, is_tv}
 use Rattle.llrp_tree.specs.declared.TheConstants.{MAX_DEPTH}
 use Rattle.llrp_tree.specs.Tree.{Forest, none, and}
 use Rattle.llrp_tree.specs.Lawful.{levels, AreOctets, IsTail, is_member, has_place, count, ArePlaced, NoneTooMany, AllLawful}
@@ -36,6 +38,19 @@ form b = tail_of (kind_of b.head)
 
 abbrev pub groups : Begun → List GroupRule
 groups b = groups_of (kind_of b.head)
+
+-- whether it is of the profile or of the whole standard
+abbrev pub profile : Begun → Profile
+profile b = profile_of (kind_of b.head)
+
+-- that of the message, which is begun outermost
+abbrev pub root_of : Head → List Begun → Profile
+root_of h [] = profile_of (kind_of h)
+root_of h (p ∷ outer) = root_of p.head outer
+
+abbrev pub root_profile : List Begun → Profile
+root_profile [] = Own
+root_profile (b ∷ outer) = root_of b.head outer
 
 -- ---- what is covered
 
@@ -70,6 +85,7 @@ has_tail Absent = false
 has_tail Words = true
 has_tail Text = true
 has_tail Bits = true
+has_tail Data = true
 
 abbrev pub tail_due : Tail → Option (List ℕ) → Due
 tail_due form None = if has_tail form then ATail else Rest
@@ -153,11 +169,12 @@ IsHead (tlv kind octets) stop (p ∷ outer) = IsTlvHead kind octets stop p outer
 IsHead (tv kind) stop [] = ⊥
 IsHead (tv kind) stop (p ∷ outer) = IsTvHead kind stop p outer
 
--- A begun node inside others: all its parts pass, a tail is read after all fields and children after the tail, and what is covered ends before the stop or there.
+-- A begun node inside others: all its parts pass, a tail is read after all fields and children after the tail, data that is read ends at the stop, and what is covered ends before the stop or there.
 pub record IsOpenNode (b : Begun) (outer : List Begun) : Type 0 where
   pub head : IsHead b.head b.stop outer
   pub fields : AreLeading (rules b) b.fields
   pub tail : IsReadTail (form b) (plain_values (rules b) b.fields) b.tail
+  pub filled : form b ≡ Data → (b.tail ≡ None) ⊎ (length (covers (b ∷ outer)) ≡ b.stop)
   pub tail_after : (b.tail ≡ None) ⊎ (length b.fields ≡ length (rules b))
   pub children_after : (b.children ≡ none) ⊎ (due b ≡ Rest)
   pub lawful : AllLawful b.children

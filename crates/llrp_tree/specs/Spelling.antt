@@ -6,7 +6,7 @@ use Rattle.llrp_schema.specs.declared.kinds.MsgKind.{MsgKind}
 use Rattle.llrp_schema.specs.declared.kinds.Kind.{Kind}
 use Rattle.llrp_schema.specs.declared.kinds.Kind.TheVariants.{Message, Parameter}
 use Rattle.llrp_schema.specs.declared.kinds.Tail.{Tail}
-use Rattle.llrp_schema.specs.declared.kinds.Tail.TheVariants.{Absent, Words, Text, Bits}
+use Rattle.llrp_schema.specs.declared.kinds.Tail.TheVariants.{Absent, Words, Text, Bits, Data}
 use Rattle.llrp_schema.specs.Schema.{FieldRule, fields_of, tail_of, number_of, is_tv}
 use Rattle.llrp_tree.specs.Tree.{Forest, none, and, Tree, MessageTree}
 use Rattle.llrp_tree.specs.Lawful.{head_octets, body_octets, octets, message_octets, first, others}
@@ -43,6 +43,7 @@ count_digits Absent tail = []
 count_digits Words tail = digits 16 (length tail / 2)
 count_digits Text tail = digits 16 (length tail)
 count_digits Bits tail = []
+count_digits Data tail = []
 
 abbrev pub tail_digits : Tail → List ℕ → List Bool
 tail_digits form tail = count_digits form tail ++ digits_of_bytes tail

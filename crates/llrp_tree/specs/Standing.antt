@@ -1,5 +1,7 @@
 -- The place of a reader in the digits of a frame, and what the functions that read it promise.
-use Rattle.std.specs.Prelude.{◌≡◌, ℕ, ◌+◌, ◌*◌, ◌≤◌, Bool, true, false, nat_le, List, [], ◌∷◌, length, take, drop, Option, Some, None}
+use Rattle.llrp_schema.specs.declared.kinds.Profile.{Profile}
+use Rattle.llrp_schema.specs.declared.kinds.Profile.TheVariants.{Own}
+use Rattle.std.specs.Prelude.{◌≡◌, ℕ, ◌+◌, ◌-◌, ◌*◌, ◌≤◌, Bool, true, false, nat_le, List, [], ◌∷◌, length, take, drop, Option, Some, None}
 use Rattle.std.specs.Str.{is_utf8}
 use Rattle.tag_bits.specs.Digits.{digits_of_bytes}
 use Rattle.llrp_schema.specs.declared.kinds.MsgKind.{MsgKind}
@@ -8,7 +10,7 @@ use Rattle.llrp_schema.specs.declared.kinds.Kind.{Kind}
 use Rattle.llrp_schema.specs.declared.kinds.Kind.TheVariants.{Message, Parameter}
 use Rattle.llrp_schema.specs.declared.kinds.Tail.{Tail}
 use Rattle.llrp_schema.specs.declared.kinds.Tail.TheVariants.{Text}
-use Rattle.llrp_schema.specs.Schema.{GroupRule, is_tv, message_with_number}
+use Rattle.llrp_schema.specs.Schema.{GroupRule, is_tv, message_in}
 use Rattle.llrp_tree.specs.declared.TheConstants.{MAX_DEPTH}
 use Rattle.llrp_tree.specs.declared.fault.Reason.{Reason}
 use Rattle.llrp_tree.specs.declared.fault.FrameErr.{FrameErr}
@@ -16,8 +18,8 @@ use Rattle.llrp_tree.specs.declared.fault.FrameErr.TheVariants.{Memory, Bad}
 use Rattle.llrp_tree.specs.Tree.{Forest, none}
 use Rattle.llrp_tree.specs.Lawful.{has_place, count_octets}
 use Rattle.llrp_tree.specs.Spelling.{Head}
-use Rattle.llrp_tree.specs.OpenTree.{Begun, kind_of, groups, covers, due, Rest, takes_more, is_enough, IsOpenTree}
-use Rattle.llrp_tree.specs.FirstFault.{number, tail_at, tail_end, tlv_kind, tlv_octets, Check, first_failing, next_fault, is_over, header_checks, FirstFault}
+use Rattle.llrp_tree.specs.OpenTree.{root_profile, Begun, kind_of, groups, covers, due, Rest, takes_more, is_enough, IsOpenTree}
+use Rattle.llrp_tree.specs.FirstFault.{number, tail_at, tail_end, tlv_kind, tlv_octets, Check, first_failing, next_fault, is_over, header_checks_in, FirstFaultIn}
 
 -- the bit at which the message ends
 unfoldable pub end_of : List Begun → ℕ
@@ -33,11 +35,12 @@ pub record Stands (ds : List Bool) (t : List Begun) (at : ℕ) : Type 0 where
   pub ends : end_of t ≡ length ds
 
 -- Somewhere in the digits the next checks of an open tree fail, first so.
-pub record HasFault (ds : List Bool) (bit : ℕ) (reason : Reason) : Type 0 where
+pub record HasFault (p : Profile) (ds : List Bool) (bit : ℕ) (reason : Reason) : Type 0 where
   pub tree : List Begun
   pub at : ℕ
   pub stands : Stands ds tree at
   pub fails : next_fault tree (drop at ds) ≡ Some (bit, reason)
+  pub root : root_profile tree ≡ p
 
 -- The innermost node has all its parts, and is at its stop.
 pub record Closes (ds : List Bool) (b : Begun) (outer : List Begun) (at : ℕ) : Type 0 where
@@ -55,12 +58,16 @@ abbrev pub leading : Head → ℕ → List ℕ → Begun
 leading h stop fields = begun h stop fields None none
 
 -- The header passes its checks, and says these numbers.
-pub record HeaderSays (limit : ℕ) (ds : List Bool) (version : ℕ) (kind : MsgKind) (octets id : ℕ) : Type 0 where
-  pub passes : first_failing (header_checks limit ds) ≡ None
+pub record HeaderSaysIn (p : Profile) (limit : ℕ) (ds : List Bool) (version : ℕ) (kind : MsgKind) (octets id : ℕ) : Type 0 where
+  pub passes : first_failing (header_checks_in p limit ds) ≡ None
   pub version_is : version ≡ number ds 3 3
-  pub kind_is : message_with_number (number ds 6 10) ≡ Some kind
+  pub kind_is : message_in p (number ds 6 10) ≡ Some kind
   pub octets_is : octets ≡ number ds 16 32
   pub id_is : id ≡ number ds 48 32
+
+-- the same of the profile
+abbrev pub HeaderSays : ℕ → List Bool → ℕ → MsgKind → ℕ → ℕ → Type 0
+HeaderSays limit ds version kind octets id = HeaderSaysIn Own limit ds version kind octets id
 
 -- the error is the first of the checks to fail
 abbrev pub FailsFirst : List Check → FrameErr → Type 0
@@ -68,14 +75,18 @@ FailsFirst checks Memory = ⊥
 FailsFirst checks (Bad fault) = first_failing checks ≡ Some (fault.bit, fault.reason)
 
 -- the error is the fault of the digits, or says that memory ran out
-abbrev pub Tells : List Bool → FrameErr → Type 0
-Tells ds Memory = Unit {0}
-Tells ds (Bad fault) = HasFault ds fault.bit fault.reason
+abbrev pub Tells : Profile → List Bool → FrameErr → Type 0
+Tells p ds Memory = Unit {0}
+Tells p ds (Bad fault) = HasFault p ds fault.bit fault.reason
 
 -- the error is the first fault of a frame, or says that memory ran out
+abbrev pub IsFirstIn : Profile → List ℕ → ℕ → FrameErr → Type 0
+IsFirstIn p bytes limit Memory = Unit {0}
+IsFirstIn p bytes limit (Bad fault) = FirstFaultIn p bytes limit fault.bit fault.reason
+
+-- the same of the profile
 abbrev pub IsFirst : List ℕ → ℕ → FrameErr → Type 0
-IsFirst bytes limit Memory = Unit {0}
-IsFirst bytes limit (Bad fault) = FirstFault bytes limit fault.bit fault.reason
+IsFirst bytes limit e = IsFirstIn Own bytes limit e
 
 -- A node of the kind begins at the octet, this many levels below the message.
 pub record Begins (bytes : List ℕ) (kind : Kind) (level from stop : ℕ) : Type 0 where
@@ -103,10 +114,10 @@ pub record KindPasses (found : Option ParamKind) (groups : List GroupRule) (chil
   pub deep : level ≤ MAX_DEPTH
 
 -- A head of a child with type, length and value passes its checks.
-pub record TlvPasses (groups : List GroupRule) (children : Forest) (level at stop : ℕ) (rest : List Bool) (kind : ParamKind) (octets : ℕ) : Type 0 where
+pub record TlvPasses (p : Profile) (groups : List GroupRule) (children : Forest) (level at stop : ℕ) (rest : List Bool) (kind : ParamKind) (octets : ℕ) : Type 0 where
   pub room : at + 32 ≤ stop
   pub zeros : number rest 0 6 ≡ 0
-  pub placed : KindPasses (tlv_kind rest) groups children level kind
+  pub placed : KindPasses (tlv_kind p rest) groups children level kind
   pub octets_are : octets ≡ tlv_octets rest
   pub least : 4 ≤ octets
   pub most : at + 8 * octets ≤ stop
@@ -119,6 +130,6 @@ is_tv_kind (Parameter kind) = is_tv kind
 -- A tail's octets go from one bit to another, and it passes its checks.
 pub record TailSpans (form : Tail) (fields : List ℕ) (at stop : ℕ) (rest : List Bool) (from to : ℕ) : Type 0 where
   pub begins : from ≡ at + 8 * count_octets form
-  pub ends : to ≡ tail_end form fields at rest
+  pub ends : to ≡ tail_end form fields at stop rest
   pub within : to ≤ stop
-  pub text : form ≡ Text → is_utf8 (tail_at form fields rest) ≡ true
+  pub text : form ≡ Text → is_utf8 (tail_at form fields (stop - at) rest) ≡ true

@@ -1,12 +1,13 @@
 //! The header of a frame.
 
 ghost use Rattle.std.specs.Prelude.{◌≤◌, length, IfOk, IfErr};
-ghost use Rattle.llrp_tree.specs.Header.{HasHeader, HasHeaderFault};
+ghost use Rattle.llrp_tree.specs.Header.{HasHeader, HasHeaderFault, HasHeaderIn, HasHeaderFaultIn};
 
 use crate::check::is_known_version;
 use crate::fault::fault_at;
 use crate::numbers::{from_bit, from_octet};
-use crate::{Fault, MsgKind, Reason, msg_of};
+use crate::{Fault, MsgKind, Reason};
+use llrp_schema::{Profile, msg_of_in};
 
 /// What the header of a frame says (LLRP 1.1, section 17.1).
 #[derive(Clone, Copy, Debug)]
@@ -30,6 +31,16 @@ pub fn read_header(bytes: &[u8], limit: u32) -> Result<Header, Fault>
     ensures header { IfOk result (HasHeader limit bytes.now) }
     ensures fault { IfErr result (HasHeaderFault limit bytes.now) }
 {
+    read_header_in(Profile::Own, bytes, limit)
+}
+
+/// Reads the header of a frame of a profile.
+#[inline]
+pub fn read_header_in(profile: Profile, bytes: &[u8], limit: u32) -> Result<Header, Fault>
+    requires whole { 10 ≤ length bytes.now }
+    ensures header { IfOk result (HasHeaderIn profile limit bytes.now) }
+    ensures fault { IfErr result (HasHeaderFaultIn profile limit bytes.now) }
+{
     let reserved = from_bit(bytes, 0, 3);
     if reserved != 0 {
         return Err(fault_at(0, Reason::Reserved));
@@ -40,7 +51,7 @@ pub fn read_header(bytes: &[u8], limit: u32) -> Result<Header, Fault>
         return Err(fault_at(3, Reason::Version));
     }
     let number = from_bit(bytes, 6, 10) as u16;
-    let Some(kind) = msg_of(number) else {
+    let Some(kind) = msg_of_in(profile, number) else {
         return Err(fault_at(6, Reason::MessageType));
     };
     let octets = from_octet(bytes, 2, 32) as u32;

@@ -26,11 +26,11 @@ pub mod writing;
 
 pub use fault::{Fault, FrameErr, Reason};
 pub use header::{Header, read_header};
-pub use llrp_schema::{Kind, MsgKind, ParamKind, msg_of};
+pub use llrp_schema::{Kind, MsgKind, ParamKind, Profile, msg_of};
 pub use message::{Message, MsgRefusal};
 pub use node::{Node, NodeFault, NodeRefusal, Nodes, Octets};
 pub use parts::{own_fault, own_octets};
-pub use reading::decode_frame;
+pub use reading::{decode_frame, decode_frame_in};
 pub use spelling::{EncodeErr, encode_into};
 pub use starts::{
     Front, Start, bare_front, message_front, message_start, parameter_front, parameter_start,

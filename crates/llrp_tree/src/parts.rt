@@ -51,6 +51,7 @@ fn tail_fits(form: Tail, values: &[u128], tail: &[u8]) -> bool
             [] => tail.len() == 0,
             [bits, ..] => tail.len() as u128 == bits / 8 + (bits % 8 + 7) / 8,
         },
+        Tail::Data => true,
     }
 }
 
@@ -89,7 +90,7 @@ pub(crate) fn body_octets(kind: Kind, tail: &[u8]) -> u128
 {
     let count: u128 = match llrp_schema::tail(kind) {
         Tail::Words | Tail::Text => 2,
-        Tail::Absent | Tail::Bits => 0,
+        Tail::Absent | Tail::Bits | Tail::Data => 0,
     };
     field_bits(llrp_schema::fields(kind)) / 8 + count + tail.len() as u128
 }

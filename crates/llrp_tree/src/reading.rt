@@ -5,7 +5,9 @@ ghost use Rattle.tag_bits.specs.Digits.{digits_of_bytes};
 ghost use Rattle.llrp_tree.specs.declared.TheConstants.{MAX_LIMIT};
 ghost use Rattle.llrp_tree.specs.Frame.{Frame};
 ghost use Rattle.llrp_tree.specs.FirstFault.{number};
-ghost use Rattle.llrp_tree.specs.Standing.{IsFirst};
+ghost use Rattle.llrp_tree.specs.Standing.{IsFirst, IsFirstIn};
+ghost use Rattle.llrp_schema.specs.declared.kinds.Kind.TheVariants.{Message as AsMessage};
+ghost use Rattle.llrp_schema.specs.Schema.{profile_of};
 
 mod body;
 mod children;
@@ -13,10 +15,10 @@ mod fields;
 mod groups;
 mod tail;
 
-use crate::header::read_header;
+use crate::header::read_header_in;
 use crate::{FrameErr, MAX_LIMIT, Message};
 use arrayvec::ArrayVec;
-use llrp_schema::Kind;
+use llrp_schema::{Kind, Profile};
 use std::alloc::Global;
 
 /// Reads the message of a frame (LLRP 1.1, section 17). The error is the frame's first fault, or
@@ -28,7 +30,24 @@ pub fn decode_frame(alloc: Global, frame: &[u8], limit: u32) -> Result<Message, 
     requires most { limit ≤ MAX_LIMIT }
     ensures { MatchResult result (λ m. Frame m frame.now limit) (IsFirst frame.now limit) }
 {
-    let header = read_header(frame, limit)?;
+    decode_frame_in(alloc, Profile::Own, frame, limit)
+}
+
+/// Reads the message of a frame of a profile.
+pub fn decode_frame_in(
+    alloc: Global,
+    profile: Profile,
+    frame: &[u8],
+    limit: u32,
+) -> Result<Message, FrameErr>
+    requires header { 10 ≤ length frame.now }
+    requires own_length { number (digits_of_bytes frame.now) 16 32 ≡ length frame.now }
+    requires least { 10 ≤ limit }
+    requires most { limit ≤ MAX_LIMIT }
+    ensures { MatchResult result (λ m. Frame m frame.now limit
+        × (profile_of (AsMessage m.kind) ≡ profile)) (IsFirstIn profile frame.now limit) }
+{
+    let header = read_header_in(profile, frame, limit)?;
     let mut fields = ArrayVec::new();
     let body = body::read_body(
         alloc,

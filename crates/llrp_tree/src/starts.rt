@@ -1,6 +1,6 @@
 //! The octets of a node before its tail: its head, its fields and the count of its tail.
 
-ghost use Rattle.std.specs.Prelude.{◌≡◌, ◌≤◌, ◌<◌, ◌+◌, ◌*◌, ◌/◌, ◌%◌, ◌^◌, ◌++◌, ◌∷◌, [], length, map, true};
+ghost use Rattle.std.specs.Prelude.{◌≡◌, ◌≤◌, ◌<◌, ◌+◌, ◌-◌, ◌*◌, ◌/◌, ◌%◌, ◌^◌, ◌++◌, ◌∷◌, [], drop, length, map, true};
 ghost use Rattle.tag_bits.specs.Digits.{digits};
 ghost use Rattle.llrp_schema.specs.declared.kinds.Kind.TheVariants.{Message as AsMessage, Parameter};
 ghost use Rattle.llrp_schema.specs.declared.kinds.Tail.TheVariants.{Absent, Text, Words};
@@ -8,7 +8,7 @@ ghost use Rattle.llrp_schema.specs.Schema.{bits_of, field_rule, fields_of, tail_
 ghost use Rattle.llrp_tree.specs.Lawful.{count_octets, head_octets, own_octets};
 ghost use Rattle.llrp_tree.specs.Checks.{values_fit};
 ghost use Rattle.llrp_tree.specs.Spelling.{head_of, head_digits, count_digits, message as message_head};
-ghost use Rattle.llrp_tree.specs.Spelled.{Holds, IsInFront, IsOnlyField, all_fields, message_start, message_start_digits, parameter_start, start_digits};
+ghost use Rattle.llrp_tree.specs.Spelled.{Holds, IsInFront, IsOnlyField, all_fields, leading_digits, message_start, message_start_digits, parameter_start, start_digits};
 ghost use Rattle.llrp_tree.specs.Writing.{is_sound};
 
 use crate::message::Message;
@@ -18,7 +18,7 @@ use llrp_schema::{Field, Kind, MsgKind, ParamKind, Tail};
 /// What comes before the tail of a node: the octets of `octets` from the place `from` on.
 #[derive(Clone, Copy)]
 pub struct Start {
-    pub octets: [u8; 16],
+    pub octets: [u8; 24],
     pub from: usize,
 }
 
@@ -128,7 +128,7 @@ fn count(form: Tail, tail: &[u8]) -> Packed
             number: tail.len() as u128,
             bits: 16,
         },
-        Tail::Absent | Tail::Bits => Packed { number: 0, bits: 0 },
+        Tail::Absent | Tail::Bits | Tail::Data => Packed { number: 0, bits: 0 },
     }
 }
 
@@ -148,6 +148,28 @@ fn header(version: u8, kind: MsgKind, octets: u32, id: u32) -> Packed
     joined(16, version as u128 * 1024 + number, rest)
 }
 
+/// Sixteen octets after eight others.
+#[inline(always)]
+fn behind_eight(octets: [u8; 16]) -> [u8; 24]
+    ensures { drop 8 result ≡ octets }
+{
+    let mut all = [0; 24];
+    all[8..24].copy_from_slice(&octets);
+    all
+}
+
+/// Puts the last `count` of sixteen octets in front of a place.
+fn put_last(all: [u8; 24], to: usize, octets: [u8; 16], count: usize) -> [u8; 24]
+    requires few { count ≤ 16 }
+    requires room { count ≤ to }
+    requires within { to ≤ 24 }
+    ensures { drop (to - count) result ≡ drop (16 - count) octets ++ drop to all }
+{
+    let mut filled = all;
+    filled[to - count..to].copy_from_slice(&octets[16 - count..16]);
+    filled
+}
+
 /// The octets of a number's bits.
 #[inline(always)]
 fn as_octets(packed: Packed) -> Start
@@ -158,9 +180,50 @@ fn as_octets(packed: Packed) -> Start
     ensures from { result.from + packed.bits / 8 ≡ length result.octets }
 {
     Start {
-        octets: packed.number.to_be_bytes(),
-        from: 16 - packed.bits as usize / 8,
+        octets: behind_eight(packed.number.to_be_bytes()),
+        from: 24 - packed.bits as usize / 8,
     }
+}
+
+/// The octets of two numbers' bits, one after the other.
+fn as_more_octets(head: Packed, rest: Packed) -> Start
+    requires below { head.number < 2 ^ head.bits }
+    requires few { head.bits ≤ 128 }
+    requires whole { head.bits % 8 ≡ 0 }
+    requires rest_below { rest.number < 2 ^ rest.bits }
+    requires rest_few { rest.bits ≤ 128 }
+    requires rest_whole { rest.bits % 8 ≡ 0 }
+    requires fits { head.bits + rest.bits ≤ 192 }
+    ensures spelled { Holds result (digits head.bits head.number ++ digits rest.bits rest.number) }
+    ensures from { result.from + head.bits / 8 + rest.bits / 8 ≡ length result.octets }
+{
+    let behind = 24 - rest.bits as usize / 8;
+    let count = head.bits as usize / 8;
+    let octets = behind_eight(rest.number.to_be_bytes());
+    Start {
+        octets: put_last(octets, behind, head.number.to_be_bytes(), count),
+        from: behind - count,
+    }
+}
+
+/// The octets of a head and of what comes behind it.
+#[inline(always)]
+fn both_octets(head: Packed, rest: Packed) -> Start
+    requires below { head.number < 2 ^ head.bits }
+    requires some { 8 ≤ head.bits }
+    requires few { head.bits ≤ 128 }
+    requires whole { head.bits % 8 ≡ 0 }
+    requires rest_below { rest.number < 2 ^ rest.bits }
+    requires rest_few { rest.bits ≤ 128 }
+    requires rest_whole { rest.bits % 8 ≡ 0 }
+    requires fits { head.bits + rest.bits ≤ 192 }
+    ensures spelled { Holds result (digits head.bits head.number ++ digits rest.bits rest.number) }
+    ensures some { result.from < length result.octets }
+{
+    if head.bits + rest.bits <= 128 {
+        return as_octets(joined(head.bits, head.number, rest));
+    }
+    as_more_octets(head, rest)
 }
 
 /// The octets of a number's bits, in front.
@@ -191,10 +254,29 @@ fn in_front(packed: Packed) -> Front
     }
 }
 
+/// The bits of a parameter's fields and of the count of its tail.
+#[inline(always)]
+fn leading_bits(kind: ParamKind, values: &[u128], tail: &[u8]) -> Packed
+    requires values { values_fit (fields_of (Parameter kind)) values.now ≡ true }
+    requires words { tail_of (Parameter kind) ≡ Words → length tail.now / 2 ≤ 65535 }
+    requires text { tail_of (Parameter kind) ≡ Text → length tail.now ≤ 65535 }
+    ensures spelled { digits result.bits result.number ≡ leading_digits (Parameter kind) values.now
+        tail.now }
+    ensures below { result.number < 2 ^ result.bits }
+    ensures bits { result.bits ≡ bits_of (fields_of (Parameter kind))
+        + 8 * count_octets (tail_of (Parameter kind)) }
+{
+    let whole = Kind::Parameter(kind);
+    let count = count(llrp_schema::tail(whole), tail);
+    let fields = pack(llrp_schema::fields(whole), values);
+    joined(fields.bits, fields.number, count)
+}
+
 /// The bits of a parameter before its tail, with this length.
 #[inline(always)]
 fn parameter_bits(kind: ParamKind, octets: u32, values: &[u128], tail: &[u8]) -> Packed
     requires long { octets ≤ 65535 }
+    requires short { own_octets (Parameter kind) [] ≤ 16 }
     requires values { values_fit (fields_of (Parameter kind)) values.now ≡ true }
     requires words { tail_of (Parameter kind) ≡ Words → length tail.now / 2 ≤ 65535 }
     requires text { tail_of (Parameter kind) ≡ Text → length tail.now ≤ 65535 }
@@ -205,10 +287,7 @@ fn parameter_bits(kind: ParamKind, octets: u32, values: &[u128], tail: &[u8]) ->
     ensures few { result.bits ≤ 128 }
     ensures whole { result.bits % 8 ≡ 0 }
 {
-    let whole = Kind::Parameter(kind);
-    let count = count(llrp_schema::tail(whole), tail);
-    let fields = pack(llrp_schema::fields(whole), values);
-    let leading = joined(fields.bits, fields.number, count);
+    let leading = leading_bits(kind, values, tail);
     let head = head(kind, octets);
     joined(head.bits, head.number, leading)
 }
@@ -223,12 +302,14 @@ pub fn parameter_start(kind: ParamKind, octets: u32, values: &[u128], tail: &[u8
     ensures spelled { Holds result (parameter_start kind octets values.now tail.now) }
     ensures some { result.from < length result.octets }
 {
-    as_octets(parameter_bits(kind, octets, values, tail))
+    both_octets(head(kind, octets), leading_bits(kind, values, tail))
 }
 
-/// The same in front, with a length of 0, which leaves room for one that is not known yet.
+/// The same in front, with a length of 0, which leaves room for one that is not known yet, where
+/// these are at most sixteen octets.
 #[inline(always)]
 pub fn parameter_front(kind: ParamKind, values: &[u128], tail: &[u8]) -> Front
+    requires short { own_octets (Parameter kind) [] ≤ 16 }
     requires values { values_fit (fields_of (Parameter kind)) values.now ≡ true }
     requires words { tail_of (Parameter kind) ≡ Words → length tail.now / 2 ≤ 65535 }
     requires text { tail_of (Parameter kind) ≡ Text → length tail.now ≤ 65535 }
@@ -294,6 +375,7 @@ pub fn tv_front(kind: ParamKind, rule: &Field, value: u128) -> Front
 /// The bits of a message before its parameters: its header, with this length, and its fields.
 #[inline(always)]
 fn message_bits(version: u8, kind: MsgKind, octets: u32, id: u32, values: &[u128]) -> Packed
+    requires short { own_octets (AsMessage kind) [] ≤ 16 }
     requires version { version < 8 }
     requires values { values_fit (fields_of (AsMessage kind)) values.now ≡ true }
     ensures spelled { digits result.bits result.number ≡ message_start version kind octets id
@@ -316,12 +398,15 @@ pub fn message_start(version: u8, kind: MsgKind, octets: u32, id: u32, values: &
     ensures spelled { Holds result (message_start version kind octets id values.now) }
     ensures from { result.from ≤ length result.octets }
 {
-    as_octets(message_bits(version, kind, octets, id, values))
+    let fields = pack(llrp_schema::fields(Kind::Message(kind)), values);
+    both_octets(header(version, kind, octets, id), fields)
 }
 
-/// The same in front, with a length of 0, which leaves room for one that is not known yet.
+/// The same in front, with a length of 0, which leaves room for one that is not known yet, where
+/// these are at most sixteen octets.
 #[inline(always)]
 pub fn message_front(version: u8, kind: MsgKind, id: u32, values: &[u128]) -> Front
+    requires short { own_octets (AsMessage kind) [] ≤ 16 }
     requires version { version < 8 }
     requires values { values_fit (fields_of (AsMessage kind)) values.now ≡ true }
     ensures spelled { IsInFront result (message_start version kind 0 id values.now) }

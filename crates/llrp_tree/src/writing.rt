@@ -18,7 +18,7 @@ use std::marker::Model;
 /// tail.
 #[derive(Drop)]
 struct Begun<'a> {
-    octets: [u8; 16],
+    octets: [u8; 24],
     from: usize,
     tail: &'a [u8],
 }

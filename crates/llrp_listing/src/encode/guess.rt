@@ -6,7 +6,7 @@ use crate::line::Line;
 use llrp_schema::{MsgKind, ParamKind};
 
 /// How many kinds of parameters there are.
-const KINDS: usize = 54;
+const KINDS: usize = 177;
 
 /// The kinds of the last lines, and those that came after each.
 #[derive(Clone, Copy)]

@@ -1,6 +1,6 @@
 //! A line that was read: its own tests, its record, and its octets.
 
-ghost use Rattle.std.specs.Prelude.{◌≡◌, ◌∷◌, ◌++◌, ◌≤◌, IfOk, IsTrue, OnOk, [], min, nat_le, take, true};
+ghost use Rattle.std.specs.Prelude.{◌≡◌, ◌∷◌, ◌++◌, ◌≤◌, IfOk, IsTrue, OnOk, [], drop, length, min, nat_le, take, true};
 ghost use Rattle.llrp_schema.specs.declared.kinds.Kind.TheVariants.{Message, Parameter};
 ghost use Rattle.llrp_schema.specs.declared.kinds.Tail.TheVariants.{Absent};
 ghost use Rattle.llrp_schema.specs.Schema.{fields_of, is_tv, tail_of};
@@ -14,7 +14,8 @@ ghost use Rattle.llrp_listing.specs.LineOctets.{PutsOwn, begun_line};
 use crate::encode::rows::Held;
 use llrp_schema::{Field, Kind, MsgKind, ParamKind, Tail};
 use llrp_tree::{
-    Front, NodeFault, bare_front, message_front, own_fault, own_octets, parameter_front, tv_front,
+    Front, NodeFault, Start, bare_front, message_front, message_start, own_fault, own_octets,
+    parameter_front, parameter_start, tv_front,
 };
 use std::alloc::AllocError;
 
@@ -96,6 +97,16 @@ fn append(room: &mut Vec<u8>, front: &Front, tail: &[u8]) -> Result<(), AllocErr
     if tail.is_empty() {
         return Ok(());
     }
+    room.extend_from_slice(tail)
+}
+
+/// The same, where those before the tail are more than sixteen.
+fn append_start(room: &mut Vec<u8>, start: &Start, tail: &[u8]) -> Result<(), AllocError>
+    requires { start.now.from ≤ length start.now.octets }
+    ensures { OnOk result (room.new.items ≡ (room.old.items
+        ++ drop start.now.from start.now.octets) ++ tail.now) }
+{
+    room.extend_from_slice(start.octets.as_slice().split_at(start.from).1)?;
     room.extend_from_slice(tail)
 }
 
@@ -211,6 +222,11 @@ fn put_any(
     match fault {
         Some(_) => Ok(Own { fault, octets }),
         None => {
+            if own_octets(Kind::Parameter(kind), &[]) > 16 {
+                let start = parameter_start(kind, 0, values, tail);
+                append_start(room, &start, tail)?;
+                return Ok(Own { fault, octets });
+            }
             let front = parameter_front(kind, values, tail);
             append(room, &front, tail)?;
             Ok(Own { fault, octets })
@@ -241,6 +257,11 @@ pub fn put_message(
     match fault {
         Some(_) => Ok(Own { fault, octets }),
         None => {
+            if own_octets(Kind::Message(kind), &[]) > 16 {
+                let start = message_start(version, kind, 0, id, values);
+                append_start(room, &start, &[])?;
+                return Ok(Own { fault, octets });
+            }
             let front = message_front(version, kind, id, values);
             append(room, &front, &[])?;
             Ok(Own { fault, octets })

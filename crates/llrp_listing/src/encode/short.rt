@@ -118,8 +118,8 @@ fn level_of(digit: u8, depth: usize) -> Option<usize>
 
 /// The first octets of a row.
 #[inline(always)]
-fn first_octets(row: &[u8; 32], octets: usize) -> &[u8]
-    requires { octets ≤ 32 }
+fn first_octets(row: &[u8; 48], octets: usize) -> &[u8]
+    requires { octets ≤ 48 }
     ensures { result.now ≡ take octets row.now }
 {
     row.as_slice().split_at(octets).0
@@ -130,17 +130,17 @@ fn first_octets(row: &[u8; 32], octets: usize) -> &[u8]
 #[inline(always)]
 fn has_name(line: &[u8], text: &[u8], label: &Label) -> bool
     requires line { take (length line.now) text.now ≡ line.now }
-    requires octets { label.now.octets ≤ 32 }
+    requires octets { label.now.octets ≤ 48 }
     requires long { 2 + label.now.octets ≤ length line.now }
     ensures { IsTrue result → take label.now.octets (drop 2 line.now) ≡ take label.now.octets
         label.now.text }
 {
     let octets = label.octets as usize;
-    if text.len() < 34 {
+    if text.len() < 34 || octets > 32 {
         let (name, _) = line.split_at(2).1.split_at(octets);
         return name == first_octets(&label.text, octets);
     }
-    octets_alike(text.split_at(2).1, &label.text) >= label.octets as u32
+    octets_alike(text.split_at(2).1, first_octets(&label.text, 32)) >= label.octets as u32
 }
 
 /// The place after the name of a kind, if that follows the level of a line and its space.

@@ -62,7 +62,7 @@ pub fn push_tail(text: &mut Vec<u8>, form: Tail, tail: &[u8]) -> Result<(), Allo
             text.extend_from_slice(b" w")?;
             push_words(text, tail)
         }
-        Tail::Text | Tail::Bits => {
+        Tail::Text | Tail::Bits | Tail::Data => {
             text.extend_from_slice(b" x")?;
             push_octets(text, tail)
         }

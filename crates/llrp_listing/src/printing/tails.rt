@@ -21,6 +21,7 @@ pub(crate) fn push_tail(text: &mut Text, form: Tail) -> Result<(), AllocError>
         Tail::Words => text.push_two(*b" w"),
         Tail::Text => text.push_two(*b" x"),
         Tail::Bits => text.push_two(*b" x"),
+        Tail::Data => text.push_two(*b" x"),
     }
 }
 
@@ -80,5 +81,6 @@ pub(crate) fn push_octets(text: &mut Text, form: Tail, octets: &[u8]) -> Result<
         Tail::Words => push_words(text, octets),
         Tail::Text => push_hexadecimal(text, octets),
         Tail::Bits => push_hexadecimal(text, octets),
+        Tail::Data => push_hexadecimal(text, octets),
     }
 }

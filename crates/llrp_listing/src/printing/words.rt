@@ -1,6 +1,6 @@
 //! The words of a line, put into lent room at a place.
 
-ghost use Rattle.std.specs.Prelude.{◌≡◌, ◌+◌, ◌^◌, ◌<◌, ◌≤◌, ◌++◌, [], ◌∷◌, ℕ, List, true, decimal, length};
+ghost use Rattle.std.specs.Prelude.{◌≡◌, ◌+◌, ◌^◌, ◌<◌, ◌≤◌, ◌++◌, [], ◌∷◌, ℕ, List, true, decimal, length, take};
 ghost use Rattle.llrp_tree.specs.declared.TheConstants.{MAX_DEPTH};
 ghost use Rattle.llrp_schema.specs.declared.kinds.Kind.TheVariants.{Message as MessageKind, Parameter as ParameterKind};
 ghost use Rattle.llrp_schema.specs.Schema.{field_rule, name_of, fields_of, bits_of, is_tv};
@@ -10,8 +10,8 @@ ghost use Rattle.llrp_listing.specs.Place.{Puts};
 
 use crate::number::EPC_BITS;
 use crate::printing::decimal::{put_below_hundred, put_decimal, put_number, put_signed};
-use crate::printing::place::{put_first, put_octet};
-use llrp_schema::{Field, Kind, MsgKind, ParamKind, label};
+use crate::printing::place::{put_first, put_octet, put_text};
+use llrp_schema::{Field, Kind, Label, MsgKind, ParamKind, label};
 use tag_bits::Word;
 use tag_uri::put_text_of_word;
 
@@ -27,17 +27,41 @@ fn put_level(room: &mut [u8], at: usize, level: u8) -> usize
     put_octet(room, space_at, b' ')
 }
 
+/// The first 32 octets of a label, which have all of a name of the profile.
+#[inline(always)]
+fn near_half(octets: &[u8; 48]) -> [u8; 32]
+    ensures { result ≡ take 32 octets.now }
+{
+    let mut near = [0; 32];
+    near.copy_from_slice(octets.as_slice().split_at(32).0);
+    near
+}
+
+/// Puts a kind's name.
+#[inline(always)]
+fn put_label(room: &mut [u8], at: usize, label: &Label) -> usize
+    requires octets { label.now.octets ≤ 48 }
+    requires room { at + 48 ≤ length room.old }
+    ensures { Puts room.old room.new at result (take label.now.octets label.now.text) }
+{
+    let octets = label.octets as usize;
+    if octets <= 32 {
+        return put_first(room, at, near_half(&label.text), octets);
+    }
+    put_text(room, at, label.text.as_slice().split_at(octets).0)
+}
+
 /// Puts the first two words of a line: the level and the kind's name.
 #[inline(always)]
 pub(crate) fn put_start(room: &mut [u8], at: usize, level: u8, kind: Kind) -> usize
     requires deep { level ≤ MAX_DEPTH }
-    requires room { at + 35 ≤ length room.old }
+    requires room { at + 51 ≤ length room.old }
     ensures text { Puts room.old room.new at result (decimal level ++ spaced (name_of kind ∷ [])) }
-    ensures most { result ≤ at + 35 }
+    ensures most { result ≤ at + 51 }
 {
     let label = label(kind);
     let name_at = put_level(room, at, level);
-    put_first(room, name_at, label.text, label.octets as usize)
+    put_label(room, name_at, label)
 }
 
 /// Puts a space and a number.
@@ -54,11 +78,11 @@ fn put_spaced(room: &mut [u8], at: usize, number: u64) -> usize
 /// Puts the first four words of a message's line: the level, the name, the version and the id.
 #[inline(always)]
 pub(crate) fn put_header(room: &mut [u8], at: usize, version: u8, kind: MsgKind, id: u32) -> usize
-    requires { at + 77 ≤ length room.old }
+    requires { at + 93 ≤ length room.old }
     ensures text { Puts room.old room.new at result ((decimal 0
         ++ spaced (name_of (MessageKind kind) ∷ []))
         ++ ((32 ∷ decimal version) ++ (32 ∷ decimal id))) }
-    ensures most { result ≤ at + 77 }
+    ensures most { result ≤ at + 93 }
 {
     let version_at = put_start(room, at, 0, Kind::Message(kind));
     let id_at = put_spaced(room, version_at, version as u64);
@@ -141,10 +165,10 @@ pub(crate) fn put_value_line(
     requires deep { level ≤ MAX_DEPTH }
     requires tv { is_tv kind ≡ true }
     requires fits { value < 2 ^ bits_of (fields_of (ParameterKind kind)) }
-    requires room { at + 101 ≤ length room.old }
+    requires room { at + 117 ≤ length room.old }
     ensures text { (line : List ℕ) × IsLine (level, parameter_line kind (value ∷ []) []) line
         × Puts room.old room.new at result line }
-    ensures most { result ≤ at + 101 }
+    ensures most { result ≤ at + 117 }
 {
     let space_at = put_start(room, at, level, Kind::Parameter(kind));
     let value_at = put_octet(room, space_at, b' ');

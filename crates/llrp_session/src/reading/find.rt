@@ -4,14 +4,14 @@ ghost use Rattle.std.specs.Prelude.{◌≡◌, ◌≤◌, Some, find as find_fir
 ghost use Rattle.llrp_session.specs.RoSpec.{is_kind as the_test, first_below as the_first_below, field as the_field};
 ghost use Rattle.llrp_session.specs.ReadWords.{behind, IsOfKind, greatest};
 
-use llrp_schema::Kind;
 use llrp_tree::{Node, Nodes, ParamKind};
 
 /// Whether a parameter is of a kind.
+#[tactic(auto, using(llrp_tree::proofs::KindLemmas::same_by_number))]
 pub(crate) fn is_kind(kind: ParamKind, node: &Node) -> bool
     ensures { result ≡ the_test kind node.now }
 {
-    llrp_schema::number(Kind::Parameter(kind)) == llrp_schema::number(Kind::Parameter(node.kind()))
+    kind == node.kind()
 }
 
 /// The first parameter of a kind.

@@ -4,7 +4,7 @@ ghost use Rattle.std.specs.Prelude.{◌≡◌, ◌+◌, ◌<◌, ◌≤◌, ℕ,
 ghost use Rattle.llrp_schema.specs.declared.kinds.Kind.TheVariants.{Parameter};
 ghost use Rattle.llrp_schema.specs.declared.kinds.ParamKind.TheVariants.{ReaderEventNotificationData};
 ghost use Rattle.llrp_schema.specs.declared.kinds.Tail.TheVariants.{Absent};
-ghost use Rattle.llrp_schema.specs.Schema.{fields_of, tail_of, tlv_with_number};
+ghost use Rattle.llrp_schema.specs.Schema.{fields_of, profile_of, tail_of, tlv_in};
 ghost use Rattle.llrp_tree.specs.declared.TheConstants.{MAX_LIMIT};
 ghost use Rattle.llrp_tree.specs.declared.fault.FrameErr.TheVariants.{Memory};
 ghost use Rattle.llrp_tree.specs.OpenTree.{Begun};
@@ -75,7 +75,7 @@ impl Reader {
         requires long { is_tv_kind self.old.top.kind ≡ false }
         requires parent { self.old.top.kind ≡ parent }
         requires first { length self.old.outer.items ≡ 0 }
-        requires known { tlv_with_number number ≡ Some kind }
+        requires known { tlv_in (profile_of parent) number ≡ Some kind }
         requires few { number < 1024 }
         requires bare { IsBare (Parameter kind) }
         ensures moves { IfOk result (λ used. 0 < used → (was front : List ℕ) (b : Begun)
@@ -183,7 +183,7 @@ impl Reader {
         requires long { is_tv_kind self.old.top.kind ≡ false }
         requires parent { self.old.top.kind ≡ parent }
         requires second { length self.old.outer.items ≡ 1 }
-        requires known { tlv_with_number number ≡ Some kind }
+        requires known { tlv_in (profile_of parent) number ≡ Some kind }
         requires few { number < 1024 }
         ensures moves { IfOk result (λ used. 0 < used → (was front : List ℕ) (b : Begun)
             (outer : List Begun) → Reads self.old front b outer

@@ -8,7 +8,7 @@ ghost use Rattle.llrp_tree.specs.OpenTree.{is_enough};
 ghost use Rattle.llrp_tree.specs.declared.TheConstants.{MAX_LIMIT};
 ghost use Rattle.llrp_tree.specs.Tree.{MessageTree, none};
 ghost use Rattle.llrp_tree.specs.Lawful.{AreOctets};
-ghost use Rattle.llrp_tree.specs.Frame.{Frame};
+ghost use Rattle.llrp_stream.specs.Items.{FrameOf};
 ghost use Rattle.llrp_tree.specs.Header.{HasHeader};
 ghost use Rattle.llrp_stream.specs.Reading.{IsComplete};
 ghost use Rattle.llrp_stream.specs.Pieces.{Stands};
@@ -96,7 +96,7 @@ pub(crate) fn receive_bare<L: Listener>(
     ensures ends { result ≡ Ok true → header.now.octets ≡ 10 }
     ensures gives { result ≡ Ok true → (was bytes : List ℕ) (limit : ℕ)
         → L.stands listener.old was [] → length bytes ≡ 10 → HasHeader limit bytes header.now
-        → AreOctets bytes → limit ≤ MAX_LIMIT → (m : MessageTree) × Frame m bytes limit
+        → AreOctets bytes → limit ≤ MAX_LIMIT → (m : MessageTree) × FrameOf m bytes limit
         × (now : List ℕ) × L.ends listener.new was m now × L.stands listener.new now [] }
     ensures none { result ≡ Ok false → listener.new ≡ listener.old }
 {
@@ -119,7 +119,7 @@ pub(crate) fn finish<L: Listener>(reader: &Reader, listener: &mut L) -> Result<(
     ensures { OnOk result ((was front : List ℕ) (limit : ℕ)
         → IsComplete (L.stands listener.old was) reader.now front → AreOctets front
         → reader.now.octets ≤ limit → limit ≤ MAX_LIMIT
-        → (m : MessageTree) × Frame m front limit × (now : List ℕ) × L.ends listener.new was m now
+        → (m : MessageTree) × FrameOf m front limit × (now : List ℕ) × L.ends listener.new was m now
         × L.stands listener.new now []) }
 {
     listener.end()?;

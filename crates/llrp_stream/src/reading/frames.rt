@@ -7,7 +7,7 @@ ghost use Rattle.llrp_stream.specs.declared.item.FeedErr.TheVariants as failure;
 ghost use Rattle.llrp_stream.specs.declared.state.State.TheVariants as State;
 ghost use Rattle.llrp_stream.specs.declared.reading.frames.Outcome.TheVariants as Outcome;
 ghost use Rattle.llrp_tree.specs.Lawful.{AreOctets};
-ghost use Rattle.llrp_tree.specs.Frame.{Frame};
+ghost use Rattle.llrp_stream.specs.Items.{FrameOf};
 ghost use Rattle.llrp_stream.specs.declared.item.End.TheVariants as at_end;
 ghost use Rattle.llrp_stream.specs.Cuts.{Ends};
 ghost use Rattle.llrp_stream.specs.Frames.{Begins, Comes, ComesAt, ComesTo, Goes, GoesOn, IsBegun, IsBroken, IsDead, IsFrontOf, IsIdle, SkipsTo, Stops, held_of, limit_of, raw_of};
@@ -238,7 +238,7 @@ impl Frames {
         ensures gives { OnOk result ((was front : List ℕ)
             → IsComplete (L.stands listener.old was) self.old.body.reader front → AreOctets front
             → self.old.body.reader.octets ≤ self.old.limit
-            → (m : MessageTree) × Frame m front self.old.limit × (now : List ℕ)
+            → (m : MessageTree) × FrameOf m front self.old.limit × (now : List ℕ)
             × L.ends listener.new was m now × L.stands listener.new now []) }
     {
         finish(&self.body.reader, listener)?;

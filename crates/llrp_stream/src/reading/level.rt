@@ -5,7 +5,7 @@ ghost use Rattle.std.specs.Int.{bit_at};
 ghost use Rattle.tag_bits.specs.Digits.{digits_of_bytes};
 ghost use Rattle.llrp_schema.specs.declared.kinds.Kind.TheVariants.{Message};
 ghost use Rattle.llrp_schema.specs.declared.kinds.MsgKind.TheVariants.{Keepalive};
-ghost use Rattle.llrp_schema.specs.Schema.{groups_of, tlv_with_number};
+ghost use Rattle.llrp_schema.specs.Schema.{groups_of, profile_of, tlv_in, tv_in};
 ghost use Rattle.llrp_schema.specs.Places.{AreRequired};
 ghost use Rattle.llrp_stream.specs.declared.reading.level.Child.TheVariants.{Long};
 ghost use Rattle.llrp_tree.specs.declared.TheConstants.{MAX_LIMIT};
@@ -16,7 +16,7 @@ ghost use Rattle.llrp_tree.specs.Standing.{FailsFirst};
 ghost use Rattle.llrp_stream.specs.Reading.{AreSeen, IsPlaced, HeadFails, HeadSays};
 
 use crate::reading::reader::bad;
-use llrp_schema::{Kind, MsgKind, ParamKind, Place, param_of_tlv, param_of_tv, place, required};
+use llrp_schema::{Kind, MsgKind, ParamKind, Place, param_of_tlv_in, param_of_tv_in, place, profile, required};
 use llrp_tree::numbers::{octet, word};
 use llrp_tree::{FrameErr, MAX_DEPTH, Reason};
 
@@ -147,6 +147,23 @@ pub(crate) fn is_enough(parent: Kind, seen: u32) -> bool
     seen & needed == needed
 }
 
+/// The parameter with a type and a value alone that has this number among those of its parent's
+/// profile.
+#[inline(always)]
+fn short_child(parent: Kind, number: u8) -> Option<ParamKind>
+    ensures { result ≡ tv_in (profile_of parent) number }
+{
+    param_of_tv_in(profile(parent), number)
+}
+
+/// The same of a parameter with type, length and value.
+#[inline(always)]
+fn long_child(parent: Kind, number: u16) -> Option<ParamKind>
+    ensures { result ≡ tlv_in (profile_of parent) number }
+{
+    param_of_tlv_in(profile(parent), number)
+}
+
 /// Reads the head of a child at an octet of a node, this many levels below the message.
 #[inline(always)]
 pub(crate) fn child_head(
@@ -160,7 +177,7 @@ pub(crate) fn child_head(
     requires before { at < stop }
     requires small { stop ≤ MAX_LIMIT }
     ensures { (children : Forest) (later : List Bool) → AreSeen (groups_of parent) children seen
-        → HeadSays (groups_of parent) children level (8 * at) (8 * stop) (digits_of_bytes octets.now
+        → HeadSays (profile_of parent) (groups_of parent) children level (8 * at) (8 * stop) (digits_of_bytes octets.now
         ++ later) octets.now result }
 {
     let bit = 8 * at;
@@ -172,7 +189,7 @@ pub(crate) fn child_head(
     }
     let first = octet(octets, 0);
     if first >= 128 {
-        let placed = child_kind(param_of_tv(first - 128), parent, seen, level, bit, bit + 1)?;
+        let placed = child_kind(short_child(parent, first - 128), parent, seen, level, bit, bit + 1)?;
         return Ok(Child::Short(placed));
     }
     if stop - at < 4 {
@@ -185,7 +202,7 @@ pub(crate) fn child_head(
     if head >= 1024 {
         return Err(bad(bit, Reason::Reserved));
     }
-    let placed = child_kind(param_of_tlv(head), parent, seen, level, bit, bit + 6)?;
+    let placed = child_kind(long_child(parent, head), parent, seen, level, bit, bit + 6)?;
     let size = word(octets, 2) as usize;
     if size < 4 {
         return Err(bad(bit + 16, Reason::ParamLength));
@@ -213,16 +230,16 @@ pub(crate) fn known_head(
 ) -> Result<Option<(u32, usize)>, FrameErr>
     requires before { at < stop }
     requires small { stop ≤ MAX_LIMIT }
-    requires known { tlv_with_number number ≡ Some kind }
+    requires known { tlv_in (profile_of parent) number ≡ Some kind }
     requires some { (children : Forest) × AreSeen (groups_of parent) children seen }
     requires few { number < 1024 }
     ensures says { IfOk result (λ found. IfSome found (λ head. (children : Forest) (later : List Bool)
         → AreSeen (groups_of parent) children seen
-        → HeadSays (groups_of parent) children level (8 * at) (8 * stop) (digits_of_bytes octets.now
+        → HeadSays (profile_of parent) (groups_of parent) children level (8 * at) (8 * stop) (digits_of_bytes octets.now
         ++ later) octets.now (Ok (Long (record { kind = kind; seen = head.0 }) head.1)))) }
     ensures fails { IfErr result (λ error. (children : Forest) (later : List Bool)
         → AreSeen (groups_of parent) children seen
-        → HeadFails (groups_of parent) children level (8 * at) (8 * stop)
+        → HeadFails (profile_of parent) (groups_of parent) children level (8 * at) (8 * stop)
         (digits_of_bytes octets.now ++ later) error) }
 {
     if octets.len() < 4 || stop - at < 4 {

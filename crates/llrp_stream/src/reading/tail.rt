@@ -30,7 +30,7 @@ pub(crate) fn is_absent(form: Tail) -> bool
 {
     match form {
         Tail::Absent => true,
-        Tail::Words | Tail::Text | Tail::Bits => false,
+        Tail::Words | Tail::Text | Tail::Bits | Tail::Data => false,
     }
 }
 
@@ -100,8 +100,8 @@ fn bits_counted(known: u128, at: usize, stop: usize) -> Result<Option<TailSize>,
     }))
 }
 
-/// How many octets a tail has, by its count or by the first field of the node; `None` if the count
-/// is not whole in the octets.
+/// How many octets a tail has, by its count, by the first field of the node or by its stop; `None`
+/// if the count is not whole in the octets.
 fn counted(
     octets: &[u8],
     at: usize,
@@ -121,6 +121,10 @@ fn counted(
         Tail::Words => words_counted(octets, at, stop),
         Tail::Text => text_counted(octets, at, stop),
         Tail::Bits => bits_counted(known, at, stop),
+        Tail::Data => Ok(Some(TailSize {
+            count: 0,
+            octets: (stop - at) as u32,
+        })),
         Tail::Absent => Ok(None),
     }
 }
@@ -136,7 +140,7 @@ fn whole_front(form: Tail, octets: &[u8]) -> usize
             Ok(_) => octets.len(),
             Err(error) => error.valid_up_to(),
         },
-        Tail::Bits | Tail::Absent => octets.len(),
+        Tail::Bits | Tail::Data | Tail::Absent => octets.len(),
     }
 }
 
@@ -150,7 +154,7 @@ fn is_faulty(form: Tail, octets: &[u8], left: u32) -> bool
 {
     match form {
         Tail::Text => octets.len() >= 4 || octets.len() == left as usize,
-        Tail::Words | Tail::Bits | Tail::Absent => false,
+        Tail::Words | Tail::Bits | Tail::Data | Tail::Absent => false,
     }
 }
 

@@ -7,7 +7,7 @@ ghost use Rattle.llrp_schema.specs.Schema.{fields_of, plain_fields_of, tail_of, 
 ghost use Rattle.llrp_tree.specs.declared.TheConstants.{MAX_DEPTH, MAX_LIMIT};
 ghost use Rattle.llrp_tree.specs.Tree.{forest};
 ghost use Rattle.llrp_tree.specs.Spelling.{Head, spread};
-ghost use Rattle.llrp_tree.specs.OpenTree.{Begun, kind_of, as_read};
+ghost use Rattle.llrp_tree.specs.OpenTree.{root_of, Begun, kind_of, as_read};
 ghost use Rattle.llrp_tree.specs.Standing.{Stands, Closes, begun, leading, Begins, BeginsBehind, Tells, is_tv_kind};
 
 use super::children::{Child, begin_child};
@@ -49,7 +49,8 @@ fn read_tv(
         ∷ outer) (8 * child.at)
         → MatchResult result (λ at. Stands (digits_of_bytes frame.now)
         (begun parent.head parent.stop parent.fields parent.tail (forest siblings.new.items)
-        ∷ outer) (8 * at)) (Tells (digits_of_bytes frame.now)) }
+        ∷ outer) (8 * at)) (Tells (root_of parent.head outer)
+        (digits_of_bytes frame.now)) }
 {
     let (value, at) = read_value(frame, child.at, child.stop, child.kind)?;
     let tail = Octets::new(Vec::new(alloc));
@@ -89,7 +90,8 @@ fn read_tlv(
         ∷ outer) (8 * child.at)
         → MatchResult result (λ at. Stands (digits_of_bytes frame.now)
         (begun parent.head parent.stop parent.fields parent.tail (forest siblings.new.items)
-        ∷ outer) (8 * at)) (Tells (digits_of_bytes frame.now)) }
+        ∷ outer) (8 * at)) (Tells (root_of parent.head outer)
+        (digits_of_bytes frame.now)) }
 {
     let mut fields = ArrayVec::new();
     let kind = Kind::Parameter(child.kind);
@@ -139,7 +141,7 @@ pub(crate) fn read_body(
         → MatchResult result (λ x. Closes (digits_of_bytes frame.now)
         (begun h (8 * stop) (spread (fields_of kind) fields.new.items)
         (as_read (tail_of kind) x.tail) (forest x.children)) outer (8 * x.at))
-        (Tells (digits_of_bytes frame.now)) }
+        (Tells (root_of h outer) (digits_of_bytes frame.now)) }
 {
     let behind = read_fields(frame, from, stop, kind, fields)?;
     let tail = read_tail(alloc, frame, behind, stop, kind, fields.as_slice())?;

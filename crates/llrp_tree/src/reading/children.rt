@@ -3,10 +3,10 @@
 ghost use Rattle.std.specs.Prelude.{◌≡◌, suc, ◌+◌, ◌*◌, ◌≤◌, ◌<◌, ℕ, List, [], ◌∷◌, length, drop, false, Option, MatchResult};
 ghost use Rattle.tag_bits.specs.Digits.{digits_of_bytes};
 ghost use Rattle.llrp_schema.specs.declared.kinds.Kind.TheVariants.{Parameter};
-ghost use Rattle.llrp_schema.specs.Schema.{groups_of};
+ghost use Rattle.llrp_schema.specs.Schema.{groups_of, profile_of};
 ghost use Rattle.llrp_tree.specs.Tree.{forest};
 ghost use Rattle.llrp_tree.specs.Spelling.{Head};
-ghost use Rattle.llrp_tree.specs.OpenTree.{Begun, kind_of, due, Rest};
+ghost use Rattle.llrp_tree.specs.OpenTree.{root_of, Begun, kind_of, due, Rest};
 ghost use Rattle.llrp_tree.specs.declared.TheConstants.{MAX_DEPTH, MAX_LIMIT};
 ghost use Rattle.llrp_tree.specs.FirstFault.{tlv_checks};
 ghost use Rattle.llrp_tree.specs.Standing.{Stands, begun, leading, FailsFirst, Tells, TlvPasses, is_tv_kind};
@@ -14,7 +14,7 @@ ghost use Rattle.llrp_tree.specs.Standing.{Stands, begun, leading, FailsFirst, T
 use super::groups::child_kind;
 use crate::fault::bad;
 use crate::{FrameErr, Kind, MAX_DEPTH, Node, ParamKind, Reason};
-use llrp_schema::{param_of_tlv, param_of_tv};
+use llrp_schema::{param_of_tlv_in, param_of_tv_in};
 use tag_bits::get;
 
 /// A child whose head was read.
@@ -39,9 +39,9 @@ fn tlv_head(
     requires before { at < stop }
     requires small { length frame.now ≤ MAX_LIMIT }
     requires inside { stop ≤ length frame.now }
-    ensures { MatchResult result (λ x. TlvPasses (groups_of parent) (forest siblings.now) level
+    ensures { MatchResult result (λ x. TlvPasses (profile_of parent) (groups_of parent) (forest siblings.now) level
         (8 * at) (8 * stop) (drop (8 * at) (digits_of_bytes frame.now)) x.0 x.1)
-        (FailsFirst (tlv_checks (groups_of parent) (forest siblings.now) level (8 * at) (8 * stop)
+        (FailsFirst (tlv_checks (profile_of parent) (groups_of parent) (forest siblings.now) level (8 * at) (8 * stop)
         (drop (8 * at) (digits_of_bytes frame.now)))) }
 {
     let bit = 8 * at;
@@ -53,7 +53,15 @@ fn tlv_head(
         return Err(bad(bit, Reason::Reserved));
     }
     let number = get(frame, bit + 6, 10) as u16;
-    let kind = child_kind(param_of_tlv(number), parent, siblings, level, bit, bit + 6)?;
+    let profile = llrp_schema::profile(parent);
+    let kind = child_kind(
+        param_of_tlv_in(profile, number),
+        parent,
+        siblings,
+        level,
+        bit,
+        bit + 6,
+    )?;
     let octets = get(frame, bit + 16, 16) as usize;
     if octets < 4 {
         return Err(bad(bit + 16, Reason::ParamLength));
@@ -88,7 +96,8 @@ pub(crate) fn begin_child(
         → MatchResult result (λ c. (hb : Head) × (kind_of hb ≡ Parameter c.kind)
         × Stands (digits_of_bytes frame.now) (leading hb (8 * c.stop) []
         ∷ begun h (8 * stop) fields tail (forest siblings.now)
-        ∷ outer) (8 * c.at)) (Tells (digits_of_bytes frame.now)) }
+        ∷ outer) (8 * c.at)) (Tells (root_of h outer)
+        (digits_of_bytes frame.now)) }
 {
     let bit = 8 * at;
     if llrp_schema::groups(parent).len() == 0 {
@@ -97,8 +106,9 @@ pub(crate) fn begin_child(
     let first = get(frame, bit, 1);
     if first != 0 {
         let number = get(frame, bit + 1, 7) as u8;
+        let profile = llrp_schema::profile(parent);
         let kind = child_kind(
-            param_of_tv(number),
+            param_of_tv_in(profile, number),
             parent,
             siblings,
             level + 1,

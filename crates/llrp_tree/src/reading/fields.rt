@@ -6,7 +6,7 @@ ghost use Rattle.llrp_schema.specs.declared.kinds.Kind.TheVariants.{Parameter};
 ghost use Rattle.llrp_schema.specs.Schema.{field_rule, fields_of, plain_fields_of, bits_of, is_tv};
 ghost use Rattle.llrp_tree.specs.declared.TheConstants.{MAX_LIMIT};
 ghost use Rattle.llrp_tree.specs.Spelling.{Head, spread};
-ghost use Rattle.llrp_tree.specs.OpenTree.{Begun, kind_of, in_range};
+ghost use Rattle.llrp_tree.specs.OpenTree.{root_of, Begun, kind_of, in_range};
 ghost use Rattle.llrp_tree.specs.FirstFault.{number, field_checks};
 ghost use Rattle.llrp_tree.specs.Standing.{Stands, leading, FailsFirst, Tells};
 
@@ -61,7 +61,8 @@ pub(crate) fn read_value(
         → Stands (digits_of_bytes frame.now) (leading h (8 * stop) [] ∷ outer) (8 * from)
         → MatchResult result (λ x. Stands (digits_of_bytes frame.now)
         (leading h (8 * stop) (spread (fields_of (Parameter kind)) (x.0 ∷ []))
-        ∷ outer) (8 * x.1)) (Tells (digits_of_bytes frame.now)) }
+        ∷ outer) (8 * x.1)) (Tells (root_of h outer)
+        (digits_of_bytes frame.now)) }
 {
     let rule = &llrp_schema::fields(Kind::Parameter(kind))[0];
     let value = field_at(frame, 8 * from, 8 * stop, rule)?;
@@ -90,7 +91,8 @@ pub(crate) fn read_fields(
         → Stands (digits_of_bytes frame.now) (leading h (8 * stop) [] ∷ outer) (8 * from)
         → MatchResult result (λ at. Stands (digits_of_bytes frame.now)
         (leading h (8 * stop) (spread (fields_of kind) values.new.items)
-        ∷ outer) (8 * at)) (Tells (digits_of_bytes frame.now)) }
+        ∷ outer) (8 * at)) (Tells (root_of h outer)
+        (digits_of_bytes frame.now)) }
 {
     let rules = llrp_schema::fields(kind);
     let mut at = 8 * from;

@@ -8,7 +8,7 @@ ghost use Rattle.llrp_tree.specs.declared.TheConstants.{MAX_LIMIT};
 ghost use Rattle.llrp_tree.specs.Tree.{none};
 ghost use Rattle.llrp_tree.specs.Lawful.{AreOctets};
 ghost use Rattle.llrp_tree.specs.Spelling.{Head, spread};
-ghost use Rattle.llrp_tree.specs.OpenTree.{Begun, kind_of, due, Rest, as_read};
+ghost use Rattle.llrp_tree.specs.OpenTree.{root_of, Begun, kind_of, due, Rest, as_read};
 ghost use Rattle.llrp_tree.specs.FirstFault.{tail_checks};
 ghost use Rattle.llrp_tree.specs.Standing.{Stands, begun, leading, FailsFirst, Tells, TailSpans};
 
@@ -120,6 +120,7 @@ pub(crate) fn tail_at(
         Tail::Words => words_at(frame, at, stop),
         Tail::Text => text_at(frame, at, stop),
         Tail::Bits => bits_at(at, stop, fields),
+        Tail::Data => Ok(Span { from: at, to: stop }),
     }
 }
 
@@ -150,7 +151,8 @@ pub(crate) fn read_tail(
         (spread (fields_of kind) fields.now) ∷ outer) (8 * at)
         → MatchResult result (λ x. Stands (digits_of_bytes frame.now)
         (begun h (8 * stop) (spread (fields_of kind) fields.now) (as_read (tail_of kind) x.octets)
-        none ∷ outer) (8 * x.at)) (Tells (digits_of_bytes frame.now)) }
+        none ∷ outer) (8 * x.at)) (Tells (root_of h outer)
+        (digits_of_bytes frame.now)) }
     ensures whole { MatchResult result (λ x. unwrap_or (as_read (tail_of kind) x.octets) []
         ≡ x.octets) (λ _. Unit {0}) }
 {

@@ -4,4 +4,4 @@ use Rattle.llrp_tree.proofs.Totality.{either}
 use Rattle.llrp_tree.proofs.laws.frames_apart.Goals as goal
 
 pub returns : goal.returns
-returns c = λ limit le. record { either = either limit le; not_both = not_both limit; one_fault = one_fault limit; no_prefix = no_prefix limit }
+returns c = λ p limit le. record { either = either p limit le; not_both = not_both p limit; one_fault = one_fault p limit; no_prefix = no_prefix limit }

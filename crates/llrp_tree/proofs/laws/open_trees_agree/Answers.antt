@@ -5,4 +5,4 @@ use Rattle.llrp_tree.proofs.Agreement.{agree_at}
 use Rattle.llrp_tree.proofs.laws.open_trees_agree.Goals as goal
 
 pub returns : goal.returns
-returns c = λ t u r s st su same e. agree_at (parts u) t u r s st su same refl e
+returns c = λ t u r s st su roots same e. agree_at (parts u) t u r s st su same refl roots e

@@ -1,5 +1,5 @@
 use Rattle.std.proofs.Common.{refl}
-use Rattle.llrp_tree.proofs.FrontLemmas.{front_octets, narrow_octets, small_number}
+use Rattle.llrp_tree.proofs.FrontLemmas.{front_octets, narrow_octets}
 use Rattle.llrp_tree.proofs.starts.in_front.Goals as goal
 
 pub returns-then-packed-le64-clause-spelled : goal.returns-then-packed-le64-clause-spelled

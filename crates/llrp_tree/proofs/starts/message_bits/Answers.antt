@@ -10,7 +10,7 @@ use Rattle.llrp_schema.specs.declared.kinds.Kind.TheVariants.{Message}
 use Rattle.llrp_schema.specs.Schema.{fields_of, bits_of}
 use Rattle.llrp_schema.proofs.TableLaws.{few_bits, whole_octets}
 use Rattle.llrp_tree.proofs.SpellingLemmas.{sound_fields}
-use Rattle.llrp_tree.proofs.SpelledLemmas.{short_message}
+use Rattle.llrp_tree.proofs.SpelledLemmas.{message_bits}
 use Rattle.llrp_tree.proofs.starts.message_bits.Goals as goal
 
 pub pack-fields-requires-clause-sound : goal.pack-fields-requires-clause-sound
@@ -20,13 +20,13 @@ pub pack-fields-requires-clause-small : goal.pack-fields-requires-clause-small
 pack-fields-requires-clause-small c = rw c.fields.ensures (omega (arith, few_bits (Message c.args.kind)))
 
 pub joined-requires-clause-few : goal.joined-requires-clause-few
-joined-requires-clause-few c = let b = rw c.fields.ensures at c.pack-fields.ensures.bits in omega (arith, short_message c.args.kind, b)
+joined-requires-clause-few c = let b = rw c.fields.ensures at c.pack-fields.ensures.bits in omega (arith, (message_bits c.args.kind c.pack-fields.result.bits c.requires.short b).0, b)
 
 pub joined-requires-clause-small : goal.joined-requires-clause-small
-joined-requires-clause-small c = let b = rw c.fields.ensures at c.pack-fields.ensures.bits in omega (arith, short_message c.args.kind, b)
+joined-requires-clause-small c = let b = rw c.fields.ensures at c.pack-fields.ensures.bits in omega (arith, (message_bits c.args.kind c.pack-fields.result.bits c.requires.short b).0, b)
 
 pub returns-clause-few : goal.returns-clause-few
-returns-clause-few c = let b = rw c.fields.ensures at c.pack-fields.ensures.bits in omega (arith, short_message c.args.kind, b, c.joined.ensures.bits)
+returns-clause-few c = let b = rw c.fields.ensures at c.pack-fields.ensures.bits in omega (arith, (message_bits c.args.kind c.pack-fields.result.bits c.requires.short b).0, b, c.joined.ensures.bits)
 
 pub returns-clause-whole : goal.returns-clause-whole
 returns-clause-whole c =

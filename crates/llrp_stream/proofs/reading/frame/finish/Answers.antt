@@ -5,7 +5,7 @@ pub end-requires : goal.end-requires
 end-requires g c =
     let w = c.requires in
     let f = frame_of _ c.args.reader.now w.1 w.2 w.3 w.4 w.5 w.6 in
-    (w.0, record { node = w.3.node; message = f.0; is = f.1; lawful = f.2.lawful; told = w.3.told })
+    (w.0, record { node = w.3.node; message = f.0; is = f.1; lawful = f.2.frame.lawful; told = w.3.told })
 
 pub returns : goal.returns
 returns g c = λ was front limit w o le most.

@@ -13,7 +13,7 @@ end-requires g c =
     let w = bare_complete (g.L.Listener.stands c.ready.new.self v.0) c.args._reader.now s.0 s.1 h ten s.2 s.3 (c.may_be_bare-bare.ensures.fields bare) (c.may_be_bare-bare.ensures.tail bare) (c.may_be_bare-bare.ensures.enough bare) told in
     let l = header_length s.1 s.0 h.version h.kind h.octets h.id s.2 s.3 in
     let f = frame_of _ _ s.0 s.1 w s.4 l.1 s.5 in
-    (v.0, record { node = w.node; message = f.0; is = f.1; lawful = f.2.lawful; told = w.told })
+    (v.0, record { node = w.node; message = f.0; is = f.1; lawful = f.2.frame.lawful; told = w.told })
 
 pub returns-clause-gives : goal.returns-clause-gives
 returns-clause-gives g c = λ _ was bytes limit st ten says o most.

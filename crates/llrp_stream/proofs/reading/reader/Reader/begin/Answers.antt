@@ -1,7 +1,7 @@
 use Rattle.std.proofs.Common.{◌≡◌, inr, ℕ, ◌+◌, ◌*◌, ◌<◌, Bool, List, [], ◌∷◌, ◌++◌, Ok, refl, sym, subst, arith, length}
 use Rattle.std.proofs.lemmas.Result.{err_from_is_err_and}
 use Rattle.tag_bits.specs.Digits.{digits_of_bytes}
-use Rattle.llrp_schema.specs.Schema.{groups_of}
+use Rattle.llrp_schema.specs.Schema.{groups_of, profile_of}
 use Rattle.llrp_tree.specs.Tree.{Forest}
 use Rattle.llrp_tree.specs.Spelling.{tlv, tv}
 use Rattle.llrp_tree.specs.OpenTree.{Begun}
@@ -28,11 +28,11 @@ returns-in_err-child g c = λ was front b outer rd told d.
     let few = outer_length c.args.self.now front b outer rd c.requires.stage in
     let is : c.len.result + 1 ≡ length outer + 1 = omega (arith, few, c.len.ensures.value) in
     rw (p.1, p.2) (fails_with _ _ front c.args.self.now.octets c.in_err-child.field-0.0 (head_tells c.args.self.now front b outer rd c.requires.stage c.args.octets.now d c.requires.room c.requires.long c.in_err-child.field-0.0
-    (λ later. subst (λ (n : ℕ). HeadFails (groups_of c.args.self.now.top.kind) b.children n (8 * c.args.self.now.at) (8 * c.args.self.now.top.stop) (digits_of_bytes c.args.octets.now ++ later) c.in_err-child.field-0.0) is (c.in_err-child.ensures b.children later (seen_are c.args.self.now front b outer rd)))) (b ∷ outer, inr told))
+    (λ later. subst (λ (n : ℕ). HeadFails (profile_of c.args.self.now.top.kind) (groups_of c.args.self.now.top.kind) b.children n (8 * c.args.self.now.at) (8 * c.args.self.now.top.stop) (digits_of_bytes c.args.octets.now ++ later) c.in_err-child.field-0.0) is (c.in_err-child.ensures b.children later (seen_are c.args.self.now front b outer rd)))) (b ∷ outer, inr told))
 
 says : (r : Rattle.llrp_stream.specs.declared.reading.reader.Reader.Reader) (os : List ℕ) (later : List Bool) (lv : ℕ) (cs : Forest) (x y : Child) → x ≡ y
-    → HeadSays (groups_of r.top.kind) cs lv (8 * r.at) (8 * r.top.stop) (digits_of_bytes os ++ later) os (Ok x) → HeadSays (groups_of r.top.kind) cs lv (8 * r.at) (8 * r.top.stop) (digits_of_bytes os ++ later) os (Ok y)
-says r os later lv cs x y e h = subst (λ (z : Child). HeadSays (groups_of r.top.kind) cs lv (8 * r.at) (8 * r.top.stop) (digits_of_bytes os ++ later) os (Ok z)) e h
+    → HeadSays (profile_of r.top.kind) (groups_of r.top.kind) cs lv (8 * r.at) (8 * r.top.stop) (digits_of_bytes os ++ later) os (Ok x) → HeadSays (profile_of r.top.kind) (groups_of r.top.kind) cs lv (8 * r.at) (8 * r.top.stop) (digits_of_bytes os ++ later) os (Ok y)
+says r os later lv cs x y e h = subst (λ (z : Child). HeadSays (profile_of r.top.kind) (groups_of r.top.kind) cs lv (8 * r.at) (8 * r.top.stop) (digits_of_bytes os ++ later) os (Ok z)) e h
 
 told_of : (r : Rattle.llrp_stream.specs.declared.reading.reader.Reader.Reader) (front : List ℕ) (b : Begun) (outer : List Begun) (rd : Reads r front b outer) → r.stage ≡ stage.Children → length (b ∷ outer) ≡ length r.outer.items + 1
 told_of r front b outer rd s = let few = outer_length r front b outer rd s in omega (arith, few)
@@ -93,7 +93,7 @@ returns-in-Short g c = λ was front b outer rd told d.
     let r = c.args.self.now in
     let few = outer_length r front b outer rd c.requires.stage in
     let is : c.len.result + 1 ≡ length outer + 1 = omega (arith, few, c.len.ensures.value) in
-    let f = λ (later : List Bool). says r c.args.octets.now later (length outer + 1) b.children c.in_ok-child.child (child.Short c.in-Short.placed) c.in-Short.is (subst (λ (n : ℕ). HeadSays (groups_of r.top.kind) b.children n (8 * r.at) (8 * r.top.stop) (digits_of_bytes c.args.octets.now ++ later) c.args.octets.now (Ok c.in_ok-child.child)) is (c.in_ok-child.ensures b.children later (seen_are r front b outer rd))) in
+    let f = λ (later : List Bool). says r c.args.octets.now later (length outer + 1) b.children c.in_ok-child.child (child.Short c.in-Short.placed) c.in-Short.is (subst (λ (n : ℕ). HeadSays (profile_of r.top.kind) (groups_of r.top.kind) b.children n (8 * r.at) (8 * r.top.stop) (digits_of_bytes c.args.octets.now ++ later) c.args.octets.now (Ok c.in_ok-child.child)) is (c.in_ok-child.ensures b.children later (seen_are r front b outer rd))) in
     let k : ParamKind = c.in-Short.placed.kind in
     let rc = short_reaches r front b outer rd c.requires.stage c.args.octets.now d c.requires.room c.requires.long k (f []).0 (λ later. ((f later).2, (f later).3)) in
     let place : 8 * r.at + 8 ≡ 8 * (r.at + 1) = omega arith in
@@ -107,7 +107,7 @@ returns-in-Long g c = λ was front b outer rd told d.
     let is : c.len.result + 1 ≡ length outer + 1 = omega (arith, few, c.len.ensures.value) in
     let k : ParamKind = c.in-Long.placed.kind in
     let n : ℕ = c.in-Long.size in
-    let f = λ (later : List Bool). says r c.args.octets.now later (length outer + 1) b.children c.in_ok-child.child (child.Long c.in-Long.placed c.in-Long.size) c.in-Long.is (subst (λ (m : ℕ). HeadSays (groups_of r.top.kind) b.children m (8 * r.at) (8 * r.top.stop) (digits_of_bytes c.args.octets.now ++ later) c.args.octets.now (Ok c.in_ok-child.child)) is (c.in_ok-child.ensures b.children later (seen_are r front b outer rd))) in
+    let f = λ (later : List Bool). says r c.args.octets.now later (length outer + 1) b.children c.in_ok-child.child (child.Long c.in-Long.placed c.in-Long.size) c.in-Long.is (subst (λ (m : ℕ). HeadSays (profile_of r.top.kind) (groups_of r.top.kind) b.children m (8 * r.at) (8 * r.top.stop) (digits_of_bytes c.args.octets.now ++ later) c.args.octets.now (Ok c.in_ok-child.child)) is (c.in_ok-child.ensures b.children later (seen_are r front b outer rd))) in
     let rc = long_reaches r front b outer rd c.requires.stage c.args.octets.now d c.requires.room c.requires.long k n (f []).0 (λ later. (f later).3) in
     let place : 8 * r.at + 32 ≡ 8 * (r.at + 4) = omega arith in
     let end : 8 * r.at + 8 * n ≡ 8 * (r.at + n) = omega arith in

@@ -2,7 +2,7 @@ use Rattle.std.proofs.Common.{◌≡◌, ◌≢◌, inl, ℕ, ◌+◌, ◌-◌, 
 use Rattle.std.specs.Prelude.{unwrap_or}
 use Rattle.std.proofs.lemmas.Result.{err_from_is_err_and}
 use Rattle.llrp_schema.specs.declared.kinds.Tail.{Tail}
-use Rattle.llrp_schema.specs.declared.kinds.Tail.TheVariants.{Bits}
+use Rattle.llrp_schema.specs.declared.kinds.Tail.TheVariants.{Bits, Data}
 use Rattle.llrp_schema.specs.Schema.{fields_of}
 use Rattle.llrp_tree.specs.Tree.{none}
 use Rattle.llrp_tree.specs.Lawful.{count_octets}
@@ -22,10 +22,10 @@ use Rattle.llrp_stream.proofs.MoreOctets.{fails_with}
 use Rattle.llrp_stream.proofs.TailPart.{led, after_two, known, is_before_tail, count_tells, count_undecided, tail_begun, tail_work}
 use Rattle.llrp_stream.proofs.reading.reader.Reader.begin_tail.Goals as goal
 
-none_says : (shape : Tail) (fields : List ℕ) (at stop : ℕ) (rest : List Bool) (octets : List ℕ) (o : Option TailSize) → o ≡ None → CountSays shape fields at stop rest octets (Ok o) → (length octets < 2) × (shape ≢ Bits) × (at + 16 ≤ stop)
+none_says : (shape : Tail) (fields : List ℕ) (at stop : ℕ) (rest : List Bool) (octets : List ℕ) (o : Option TailSize) → o ≡ None → CountSays shape fields at stop rest octets (Ok o) → (length octets < 2) × (shape ≢ Bits) × (shape ≢ Data) × (at + 16 ≤ stop)
 none_says shape fields at stop rest octets o e h = subst (λ (x : Option TailSize). CountSays shape fields at stop rest octets (Ok x)) e h
 
-some_says : (shape : Tail) (fields : List ℕ) (at stop : ℕ) (rest : List Bool) (octets : List ℕ) (o : Option TailSize) (c : TailSize) → o ≡ Some c → CountSays shape fields at stop rest octets (Ok o) → (c.count ≡ count_octets shape) × (c.count ≤ length octets) × (c.octets ≡ tail_length shape fields rest) × (at + 8 * (c.count + c.octets) ≤ stop)
+some_says : (shape : Tail) (fields : List ℕ) (at stop : ℕ) (rest : List Bool) (octets : List ℕ) (o : Option TailSize) (c : TailSize) → o ≡ Some c → CountSays shape fields at stop rest octets (Ok o) → (c.count ≡ count_octets shape) × (c.count ≤ length octets) × (c.octets ≡ tail_length shape fields (stop - at) rest) × (at + 8 * (c.count + c.octets) ≤ stop)
 some_says shape fields at stop rest octets o c e h = subst (λ (x : Option TailSize). CountSays shape fields at stop rest octets (Ok x)) e h
 
 pub counted-requires-clause-after : goal.counted-requires-clause-after
@@ -62,8 +62,8 @@ returns-in_default g c = λ was front b outer rd told d.
       are = record { node = b; outer = outer; reads = rd; told = subst (λ (x : Stage). Told (g.L.Listener.begins c.args.listener.now was) (g.L.Listener.stands c.args.listener.now was) x (b ∷ outer)) (sym c.requires.stage) told };
       place = refl;
       same = refl;
-      short = omega (arith, h.0, h.2, s);
-      undecided = count_undecided r front b outer c.args.form rd c.requires.stage c.requires.form c.requires.has c.args.octets.now d h.1 h.2 h.0;
+      short = omega (arith, h.0, h.3, s);
+      undecided = count_undecided r front b outer c.args.form rd c.requires.stage c.requires.form c.requires.has c.args.octets.now d h.1 h.2 h.3 h.0;
     }
 
 pub overflow_add-self : goal.overflow_add-self

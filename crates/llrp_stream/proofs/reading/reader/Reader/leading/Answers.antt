@@ -10,7 +10,7 @@ use Rattle.llrp_stream.specs.Front.{Reaches}
 use Rattle.llrp_stream.specs.Reading.{Reads}
 use Rattle.llrp_tree.specs.OpenTree.{has_tail}
 use Rattle.llrp_schema.specs.declared.kinds.Tail.{Tail}
-use Rattle.llrp_schema.specs.declared.kinds.Tail.TheVariants.{Absent, Words, Text, Bits}
+use Rattle.llrp_schema.specs.declared.kinds.Tail.TheVariants.{Absent, Words, Text, Bits, Data}
 use Rattle.llrp_tree.proofs.ReadingLemmas.{rule_width}
 use Rattle.llrp_schema.proofs.TableLaws.{signed_fields}
 use Rattle.llrp_stream.specs.declared.reading.reader.Stage.{Stage}
@@ -58,12 +58,14 @@ no_tail Absent e = refl
 no_tail Words e = absurd (let z : false ≡ true = e in cc)
 no_tail Text e = absurd (let z : false ≡ true = e in cc)
 no_tail Bits e = absurd (let z : false ≡ true = e in cc)
+no_tail Data e = absurd (let z : false ≡ true = e in cc)
 
 some_tail : (form : Tail) → not (has_tail form) ≡ false → has_tail form ≡ true
 some_tail Absent e = absurd (let z : true ≡ false = e in cc)
 some_tail Words e = refl
 some_tail Text e = refl
 some_tail Bits e = refl
+some_tail Data e = refl
 
 all_fields : (fs : List Field) (kind : Kind) (n : ℕ) → map field_rule fs ≡ fields_of kind → length fs ≤ n → n ≤ length (fields_of kind) → n ≡ length (fields_of kind)
 all_fields fs kind n same le most = let a = length-map fs field_rule in let b = ap (λ (x : List FieldRule). length x) same in omega (arith, le, most)

@@ -1,4 +1,4 @@
-use Rattle.std.proofs.Common.{◌≡◌, ℕ, ◌+◌, true, List, length, Option, Some, sym, subst, arith}
+use Rattle.std.proofs.Common.{◌≡◌, ℕ, ◌+◌, ◌++◌, true, List, length, Option, Some, sym, ap, ◌∙◌, subst, arith}
 use Rattle.llrp_schema.specs.declared.kinds.Kind.{Kind}
 use Rattle.llrp_schema.specs.declared.kinds.Kind.TheVariants.{Parameter}
 use Rattle.llrp_schema.specs.declared.kinds.ParamKind.{ParamKind}
@@ -9,6 +9,10 @@ use Rattle.llrp_stream.specs.declared.reading.level.Placed.{Placed}
 use Rattle.llrp_stream.specs.declared.reading.reader.Reader.{Reader}
 use Rattle.llrp_stream.specs.Reading.{AreSeen, AwaitsValues, BeginsValue, IsPlaced}
 use Rattle.llrp_stream.proofs.ValuePart.{width_is}
+use Rattle.llrp_stream.proofs.ManyValues.{own_report}
+use Rattle.llrp_schema.specs.declared.kinds.Profile.{Profile}
+use Rattle.llrp_tree.specs.FirstFault.{tv_kind}
+use Rattle.tag_bits.specs.Digits.{digits_of_bytes}
 use Rattle.llrp_stream.proofs.reading.reader.Reader.next_value.Goals as goal
 
 some_same : (a b : ParamKind) → Some a ≡ Some b → a ≡ b
@@ -45,7 +49,7 @@ returns-clause-next c = λ children are.
     record {
       short = short;
       digit = b.digit;
-      may_begin = λ later. subst (λ (f : Option ParamKind). IsPlaced f (groups_of r.top.kind) children (length r.outer.items + 1) placed) (sym (b.found later)) here;
+      may_begin = λ later. subst (λ (f : Option ParamKind). IsPlaced f (groups_of r.top.kind) children (length r.outer.items + 1) placed) (sym (ap (λ (q : Profile). tv_kind q (digits_of_bytes octets ++ later)) (own_report r.top.kind a.kind) ∙ b.found later)) here;
       whole = omega (arith, w.octets, c.value_octets-end.ensures, c.if-left-end.false, a.within);
       inside = omega (arith, w.octets, c.value_octets-end.ensures, c.if-left-end.false, a.near);
     }

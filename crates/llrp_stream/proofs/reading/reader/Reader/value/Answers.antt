@@ -3,7 +3,7 @@ use Rattle.tag_bits.specs.Digits.{digits_of_bytes}
 use Rattle.llrp_schema.specs.declared.kinds.Kind.{Kind}
 use Rattle.llrp_schema.specs.declared.kinds.Kind.TheVariants.{Parameter}
 use Rattle.llrp_schema.specs.declared.kinds.ParamKind.{ParamKind}
-use Rattle.llrp_schema.specs.Schema.{bits_of, fields_of, groups_of}
+use Rattle.llrp_schema.specs.Schema.{profile_of, bits_of, fields_of, groups_of}
 use Rattle.llrp_tree.specs.Tree.{Forest, none, and}
 use Rattle.llrp_tree.specs.OpenTree.{Begun}
 use Rattle.llrp_tree.specs.Standing.{begun, KindPasses}
@@ -52,7 +52,7 @@ returns-clause-takes g c = λ was front a d.
     let is = λ (later : List Bool). c.from_octet-value.ensures.value later ∙ ap (λ (m : ℕ). number (digits_of_bytes octets ++ later) 8 m) bits in
     let few = outer_length r front b outer rd c.requires.stage in
     let level : length r.outer.items + 1 ≡ length outer + 1 = omega (arith, few) in
-    let passes : (later : List Bool) → (first_digit (digits_of_bytes octets ++ later) ≡ true) × KindPasses (tv_kind (digits_of_bytes octets ++ later)) (groups_of r.top.kind) b.children (length outer + 1) k = λ later. (n.digit later, subst (λ (m : ℕ). KindPasses (tv_kind (digits_of_bytes octets ++ later)) (groups_of r.top.kind) b.children m k) level (n.may_begin later).passes) in
+    let passes : (later : List Bool) → (first_digit (digits_of_bytes octets ++ later) ≡ true) × KindPasses (tv_kind (profile_of r.top.kind) (digits_of_bytes octets ++ later)) (groups_of r.top.kind) b.children (length outer + 1) k = λ later. (n.digit later, subst (λ (m : ℕ). KindPasses (tv_kind (profile_of r.top.kind) (digits_of_bytes octets ++ later)) (groups_of r.top.kind) b.children m k) level (n.may_begin later).passes) in
     let rc = value_reaches k n.short r front b outer rd c.requires.stage octets d c.requires.long passes v n.inside n.whole is fits in
     let nx = is_next_value k n.short r front b outer rd c.requires.stage octets d c.requires.long passes v fits in
     let told = subst (λ (x : Stage). Told (g.L.Listener.begins c.args.listener.now was) (g.L.Listener.stands c.args.listener.now was) x (b ∷ outer)) c.requires.stage a.told in
