@@ -10,14 +10,14 @@ use Rattle.llrp_schema.specs.declared.kinds.Kind.TheVariants.{Message, Parameter
 use Rattle.llrp_schema.specs.declared.kinds.Tail.{Tail}
 use Rattle.llrp_schema.specs.declared.kinds.Tail.TheVariants.{Absent, Words, Text, Bits, Data}
 use Rattle.llrp_schema.specs.Schema.{name_of, tail_of}
-use Rattle.llrp_schema.proofs.TableLaws.{names}
+use Rattle.llrp_schema.proofs.TableLaws.{names_in}
 use Rattle.llrp_tree.specs.Lawful.{AreOctets}
 use Rattle.tag_uri.proofs.TextLaws.{one_fault, words_apart}
 use Rattle.llrp_listing.specs.declared.fault.Refusal.{Refusal}
 use Rattle.llrp_listing.specs.declared.fault.Refusal.TheVariants as refusal
 use Rattle.llrp_listing.specs.Checks.{Check, FirstFailing, AllHold}
 use Rattle.llrp_listing.specs.FirstRefusal.{AreClear}
-use Rattle.llrp_listing.specs.LineChecks.{word, IsInForm, AreInForm, IsTailOf, SaysNode, SaysLine, IsNamed, start_checks, tail_count, word_count, TellsNumber, tail_checks, body_checks, kind_checks, RefusesLineItself}
+use Rattle.llrp_listing.specs.LineChecks.{word, IsInForm, AreInForm, IsTailOf, SaysNode, SaysLine, IsName, IsNamed, start_checks, tail_count, word_count, TellsNumber, tail_checks, body_checks, kind_checks, RefusesLineItself}
 use Rattle.llrp_listing.specs.Lines.{TextLine, Ended, Unended}
 use Rattle.llrp_listing.specs.ListingRules.{rules_for}
 use Rattle.llrp_tree.specs.Tree.{words_of}
@@ -70,11 +70,14 @@ start_tells d bytes = (one_told refusal.Line, (one_told refusal.Level, (one_told
 -- ---- the words that a line says
 
 one_kind : (ws : List (List ℕ)) (a b : Kind) → IsNamed ws a → IsNamed ws b → a ≡ b
-one_kind ws a b p q = names a b (sym (name ws a p) ∙ name ws b q)
+one_kind ws a b p q = on (name ws a p) (name ws b q)
   where
-    name : (ws : List (List ℕ)) (k : Kind) → IsNamed ws k → word ws 1 ≡ name_of k
+    name : (ws : List (List ℕ)) (k : Kind) → IsNamed ws k → IsName (word ws 1) k
     name ws (Message kind) p = p.1
     name ws (Parameter kind) p = p.1
+
+    on : IsName (word ws 1) a → IsName (word ws 1) b → a ≡ b
+    on m n = names_in a b (m.0 ∙ sym n.0) (sym m.1 ∙ n.1)
 
 body_holds : (fs : List NumberForm) (form : Tail) (ns : List ℕ) (ws : List (List ℕ)) (tail : List ℕ) → AreInForm fs ns → AreNumberTexts fs ns ws → IsTailOf form tail → AllHold (body_checks fs form (ws ++ tail_texts form tail))
 body_holds [] form [] [] tail p h t = on form t
@@ -108,7 +111,7 @@ said_holds : (d : ℕ) (bytes : List ℕ) (level : ℕ) (line : NodeLine) → Sa
 said_holds d bytes level line s le =
     let texts = s.text.numbers in
     let ws = said_words bytes level line s in
-    let named : IsNamed (words bytes) line.kind = subst (λ (z : List (List ℕ)). IsNamed z line.kind) (sym ws) (named_name level (decimal level) (name_of line.kind) (texts ++ tail_texts (tail_of line.kind) line.tail) line.kind refl s.deep s.placed refl) in
+    let named : IsNamed (words bytes) line.kind = subst (λ (z : List (List ℕ)). IsNamed z line.kind) (sym ws) (named_name level (decimal level) (name_of line.kind) (texts ++ tail_texts (tail_of line.kind) line.tail) line.kind refl s.deep s.placed (s.own, refl)) in
     let count : length (words bytes) ≡ word_count line.kind = omega (arith, ap length ws, length-append texts (tail_texts (tail_of line.kind) line.tail), texts_length (number_forms line.kind) line.numbers texts s.text.are, tail_length (tail_of line.kind) line.tail) in
     record {
       starts = ((s.short, said_printed bytes level line s), ((level, ap (λ (z : List (List ℕ)). word z 0) ws, s.deep, le), ((line.kind, named), tt)));
@@ -235,7 +238,7 @@ one_said (Ended bytes) e f p q =
     let n : name_of a.kind ≡ name_of b.kind = ap (λ (z : List (List ℕ)). get_or z 1 []) all in
     let rest : p.text.numbers ++ tail_texts (tail_of a.kind) a.tail ≡ q.text.numbers ++ tail_texts (tail_of b.kind) b.tail = ap (drop 2) all in
     let level : e.0 ≡ f.0 = one_number e.0 f.0 (omega (arith, p.deep)) (omega (arith, q.deep)) l in
-    let kind : a.kind ≡ b.kind = names a.kind b.kind n in
+    let kind : a.kind ≡ b.kind = names_in a.kind b.kind (p.own ∙ sym q.own) n in
     let parts = same_parts (number_forms b.kind) (tail_of b.kind) a.numbers b.numbers p.text.numbers q.text.numbers a.tail b.tail
     (subst (λ (k : Kind). AreInForm (number_forms k) a.numbers) kind p.numbers) q.numbers
     (subst (λ (k : Kind). AreNumberTexts (number_forms k) a.numbers p.text.numbers) kind p.text.are) q.text.are

@@ -67,14 +67,14 @@ says_can ns bytes level line h = record { placed = h.0.placed; within = omega (a
 
 -- what a line says may be said
 pub says_said : (depth : ℕ) (bytes : List ℕ) (level : ℕ) (line : NodeLine) → SaysAt depth bytes level line → IsSaid line
-says_said depth bytes level line h = record { numbers = h.0.numbers; tail = h.0.tail }
+says_said depth bytes level line h = record { own = h.0.own; numbers = h.0.numbers; tail = h.0.tail }
 
 -- as many lines are open as there are records
 pub says_entries : (writer : Writer) (out : List ℕ) (ns : List OpenNode) (bytes : List ℕ) (level : ℕ) (line : NodeLine) → Rests writer out ns → SaysAt (length (inner writer.rows)) bytes level line → SaysAt (length (entries ns)) bytes level line
 says_entries writer out ns bytes level line h says = (says.0, omega (arith, says.1, zip_length IsHeld (inner writer.rows) ns h.rows, length_entries ns))
 
 -- what is read of a line
-read_says : (depth : ℕ) (bytes : List ℕ) (line : Line) → SaidIs depth bytes line → SaysAt depth bytes (line_level line) (line_node line)
+pub read_says : (depth : ℕ) (bytes : List ℕ) (line : Line) → SaidIs depth bytes line → SaysAt depth bytes (line_level line) (line_node line)
 read_says depth bytes (said.Message line) h = (h, omega arith)
 read_says depth bytes (said.Parameter line) h = h
 

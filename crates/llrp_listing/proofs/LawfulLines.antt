@@ -5,18 +5,21 @@ use Rattle.std.specs.List.{AllZip, flat_map, list_all}
 use Rattle.std.proofs.Math.Nat.{le-max_left, le-max_right, max-le}
 use Rattle.llrp_schema.specs.declared.kinds.Kind.{Kind}
 use Rattle.llrp_schema.specs.declared.kinds.Kind.TheVariants.{Message, Parameter}
+use Rattle.llrp_schema.specs.declared.kinds.Profile.{Profile}
+use Rattle.llrp_schema.specs.declared.kinds.Profile.TheVariants.{Own}
 use Rattle.llrp_schema.specs.declared.kinds.Tail.{Tail}
 use Rattle.llrp_schema.specs.declared.kinds.Tail.TheVariants.{Absent, Words, Text, Bits, Data}
-use Rattle.llrp_schema.specs.Schema.{FieldRule, fields_of, plain_fields_of, rule_of, message_rule, param_rule, message_kinds, param_kinds, tail_of}
+use Rattle.llrp_schema.specs.Schema.{FieldRule, fields_of, groups_of, plain_fields_of, profile_of, rule_of, message_rule, param_rule, message_kinds, param_kinds, whole_message_kinds, whole_param_kinds, tail_of}
+use Rattle.llrp_schema.proofs.PlaceLemmas.{child_profile}
 use Rattle.llrp_schema.proofs.TableLaws.{every_rule}
 use Rattle.llrp_tree.specs.declared.TheConstants.{MAX_DEPTH}
 use Rattle.llrp_tree.specs.Tree as tree
 use Rattle.llrp_tree.specs.Tree.{MessageTree}
-use Rattle.llrp_tree.specs.Lawful.{levels, body_octets, AreInRange, AreOctets, IsTail, AreLawful, AllLawful, IsLawfulMessage, message_octets}
+use Rattle.llrp_tree.specs.Lawful.{levels, body_octets, AreInRange, AreOctets, ArePlaced, IsTail, AreLawful, AllLawful, IsLawfulMessage, message_octets}
 use Rattle.llrp_tree.specs.Checks.{first_fault, first_message_fault}
-use Rattle.llrp_tree.specs.Frame.{Frame}
 use Rattle.llrp_tree.proofs.LawLemmas.{lawful_exactly, message_exactly}
 use Rattle.llrp_tree.proofs.LengthLemmas.{frame_length}
+use Rattle.llrp_stream.specs.Items.{FrameOf}
 use Rattle.llrp_listing.specs.declared.fault.Refusal.TheVariants.{OverLimit}
 use Rattle.llrp_listing.specs.Encoding.{AreSpelled}
 use Rattle.llrp_listing.specs.FirstRefusal.{AllClose, Lists}
@@ -129,13 +132,37 @@ message_well m l = (
   parameters_well 1 m.children (omega arith) (omega (arith, few_levels m.children l.children)) l.children,
 )
 
+-- ---- they are of one profile
+
+-- each line is of a kind of the profile
+abbrev AreOf : Profile → List (ℕ × NodeLine) → Type 0
+AreOf p [] = Unit {0}
+AreOf p (e ∷ es) = (profile_of e.1.kind ≡ p) × AreOf p es
+
+of_append : (p : Profile) (a b : List (ℕ × NodeLine)) → AreOf p a → AreOf p b → AreOf p (a ++ b)
+of_append p [] b h k = k
+of_append p (e ∷ a) b h k = (h.0, of_append p a b h.1 k)
+
+-- parameters are of the profile of what they are below
+parameters_of_profile : (p : Profile) (level : ℕ) (parent : Kind) (f : tree.Forest) → profile_of parent ≡ p → ArePlaced (groups_of parent) f → AllLawful f → AreOf p (parameter_lines level f)
+unfolding ArePlaced
+parameters_of_profile p level parent tree.none is placed h = tt
+parameters_of_profile p level parent (tree.and before kind fields tail children) is placed h =
+    let here : profile_of (Parameter kind) ≡ p = child_profile parent kind placed.1 ∙ is in
+    of_append p (parameter_lines level before) ((level, parameter_line kind fields tail) ∷ parameter_lines (suc level) children) (parameters_of_profile p level parent before is placed.0 h.0)
+    (here, parameters_of_profile p (suc level) (Parameter kind) children here h.1.obeys.placed h.2)
+
+message_of_profile : (p : Profile) (m : MessageTree) → profile_of (Message m.kind) ≡ p → IsLawfulMessage m → AreOf p (message_lines m)
+message_of_profile p m is l = (is, parameters_of_profile p 1 (Message m.kind) m.children is l.obeys.placed l.children)
+
 -- ---- they are said
 
-said_line : (e : ℕ × NodeLine) (t : List ℕ) → (z : IsLine e t) → Well e → SaysNode (decimal e.0 ++ spaced (rest_words e.1 z.numbers)) e.0 e.1
-said_line e t z w = record {
+said_line : (e : ℕ × NodeLine) (t : List ℕ) → (z : IsLine e t) → profile_of e.1.kind ≡ Own → Well e → SaysNode (decimal e.0 ++ spaced (rest_words e.1 z.numbers)) e.0 e.1
+said_line e t z own w = record {
   short = line_short e.0 e.1 z.numbers w.deep w.numbers z.are w.tail w.few;
   deep = w.deep;
   placed = w.placed;
+  own = own;
   numbers = w.numbers;
   tail = w.tail;
   text = record { numbers = z.numbers; are = z.are; text_is = append_assoc (decimal e.0) (spaced (rest_words e.1 z.numbers)) (10 ∷ []) };
@@ -145,23 +172,22 @@ said_line e t z w = record {
 pub line_bound : (e : ℕ × NodeLine) (t : List ℕ) → IsLine e t → Well e → length t ≤ suc LONGEST_LINE
 line_bound e t z w =
     let bytes = decimal e.0 ++ spaced (rest_words e.1 z.numbers) in
-    let s : SaysNode bytes e.0 e.1 = said_line e t z w in
     let is : t ≡ bytes ++ (10 ∷ []) = z.text_is ∙ sym (append_assoc (decimal e.0) (spaced (rest_words e.1 z.numbers)) (10 ∷ [])) in
-    omega (arith, ap length is, length-append bytes (10 ∷ []), s.short)
+    omega (arith, ap length is, length-append bytes (10 ∷ []), line_short e.0 e.1 z.numbers w.deep w.numbers z.are w.tail w.few)
 
-said_lines : (es : List (ℕ × NodeLine)) (ts : List (List ℕ)) → AllZip IsLine es ts → AllWell es → AllZip SaysLine (lines_of (flat_map (λ line. line) ts)) es
+said_lines : (es : List (ℕ × NodeLine)) (ts : List (List ℕ)) → AllZip IsLine es ts → AreOf Own es → AllWell es → AllZip SaysLine (lines_of (flat_map (λ line. line) ts)) es
 unfolding lines_of
-said_lines [] [] z w = tt
-said_lines [] (t ∷ ts) z w = absurd z
-said_lines (e ∷ es) [] z w = absurd z
-said_lines (e ∷ es) (t ∷ ts) z w =
+said_lines [] [] z o w = tt
+said_lines [] (t ∷ ts) z o w = absurd z
+said_lines (e ∷ es) [] z o w = absurd z
+said_lines (e ∷ es) (t ∷ ts) z o w =
     let texts = z.0.numbers in
     let bytes = decimal e.0 ++ spaced (rest_words e.1 texts) in
     let more = flat_map (λ (line : List ℕ). line) ts in
     let is : t ≡ bytes ++ (10 ∷ []) = z.0.text_is ∙ sym (append_assoc (decimal e.0) (spaced (rest_words e.1 texts)) (10 ∷ [])) in
     let printed = line_printed (decimal e.0) (rest_words e.1 texts) (level_visible e.0 w.0.deep) (rest_visible e.1 texts w.0.numbers z.0.are w.0.tail) in
     let cut : lines_of (t ++ more) ≡ Ended bytes ∷ lines_of more = ap (λ (x : List ℕ). lines_of (x ++ more)) is ∙ ap lines_of (append_assoc bytes (10 ∷ []) more) ∙ ended bytes more (printed_no_lf bytes printed) in
-    subst (λ (x : List TextLine). AllZip SaysLine x (e ∷ es)) (sym cut) (said_line e t z.0 w.0, said_lines es ts z.1 w.1)
+    subst (λ (x : List TextLine). AllZip SaysLine x (e ∷ es)) (sym cut) (said_line e t z.0 o.0 w.0, said_lines es ts z.1 o.1 w.1)
 
 -- ---- they can be closed
 
@@ -180,25 +206,30 @@ message_closes limit m l le =
     within : (limit n : ℕ) → n ≤ limit → (if nat_lt limit n then Some OverLimit else None) ≡ None
     within limit n le = let f : nat_lt limit n ≡ false = grind arith in rw f refl
 
--- the messages with these frames
+-- the messages of the profile with these frames
 abbrev Frames : ℕ → List MessageTree → List (List ℕ) → Type 0
-Frames limit ms frames = AllZip (λ m frame. Frame m frame limit) ms frames
+Frames limit ms frames = AllZip (λ m frame. FrameOf m frame limit) ms frames
 
 row_closes : (limit : ℕ) (ms : List MessageTree) (frames : List (List ℕ)) → Frames limit ms frames → AllClose (closing limit) (row ms)
 row_closes limit [] frames z = tt
 row_closes limit (m ∷ ms) [] z = absurd z
 row_closes limit (m ∷ ms) (b ∷ frames) z =
-    (message_closes limit m z.0.lawful (omega (arith, frame_length m b limit z.0, z.0.short)), parameters_close limit m.children end z.0.lawful.children tt, row_closes limit ms frames z.1)
+    (message_closes limit m z.0.frame.lawful (omega (arith, frame_length m b limit z.0.frame, z.0.frame.short)), parameters_close limit m.children end z.0.frame.lawful.children tt, row_closes limit ms frames z.1)
 
 row_well : (limit : ℕ) (ms : List MessageTree) (frames : List (List ℕ)) → Frames limit ms frames → AllWell (messages_lines ms)
 row_well limit [] frames z = tt
 row_well limit (m ∷ ms) [] z = absurd z
-row_well limit (m ∷ ms) (b ∷ frames) z = well_append (message_lines m) (messages_lines ms) (message_well m z.0.lawful) (row_well limit ms frames z.1)
+row_well limit (m ∷ ms) (b ∷ frames) z = well_append (message_lines m) (messages_lines ms) (message_well m z.0.frame.lawful) (row_well limit ms frames z.1)
+
+row_own : (limit : ℕ) (ms : List MessageTree) (frames : List (List ℕ)) → Frames limit ms frames → AreOf Own (messages_lines ms)
+row_own limit [] frames z = tt
+row_own limit (m ∷ ms) [] z = absurd z
+row_own limit (m ∷ ms) (b ∷ frames) z = of_append Own (message_lines m) (messages_lines ms) (message_of_profile Own m z.0.own z.0.frame.lawful) (row_own limit ms frames z.1)
 
 -- the listing of messages lists their lines
 pub lists : (limit : ℕ) (text bytes : List ℕ) (ms : List MessageTree) → IsListingOf ms text → AreSpelled limit ms bytes → Lists (rules_for limit) (lines_of text) (row ms)
 lists limit text bytes ms l s =
-    let said : AllZip SaysLine (lines_of text) (messages_lines ms) = subst (λ (t : List ℕ). AllZip SaysLine (lines_of t) (messages_lines ms)) (sym l.text_is) (said_lines (messages_lines ms) l.texts l.each (row_well limit ms s.frames s.each)) in
+    let said : AllZip SaysLine (lines_of text) (messages_lines ms) = subst (λ (t : List ℕ). AllZip SaysLine (lines_of t) (messages_lines ms)) (sym l.text_is) (said_lines (messages_lines ms) l.texts l.each (row_own limit ms s.frames s.each) (row_well limit ms s.frames s.each)) in
     record { says = subst (λ (es : List (ℕ × NodeLine)). AllZip SaysLine (lines_of text) es) (sym (nodes_row ms)) said; close = row_closes limit ms s.frames s.each }
 
 -- each line is that long at most

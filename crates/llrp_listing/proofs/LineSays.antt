@@ -13,7 +13,7 @@ use Rattle.llrp_schema.specs.declared.kinds.Kind.{Kind}
 use Rattle.llrp_schema.specs.declared.kinds.Kind.TheVariants.{Message, Parameter}
 use Rattle.llrp_schema.specs.declared.kinds.Tail.{Tail}
 use Rattle.llrp_schema.specs.declared.kinds.Tail.TheVariants.{Absent}
-use Rattle.llrp_schema.specs.Schema.{name_of, tail_of}
+use Rattle.llrp_schema.specs.Schema.{name_of, profile_of, tail_of}
 use Rattle.llrp_schema.proofs.TableLaws.{message_tail}
 use Rattle.llrp_listing.specs.declared.fault.Refusal.{Refusal}
 use Rattle.llrp_listing.specs.declared.fault.Refusal.TheVariants as refusal
@@ -70,7 +70,7 @@ module _ (depth : ℕ) (bytes : List ℕ) (start : Start) (short : length bytes 
   level_word = ap (λ (z : List (List ℕ)). word z 0) s.are
 
   is_named : IsNamed (words bytes) start.kind
-  is_named = subst (λ (z : List (List ℕ)). IsNamed z start.kind) (sym s.are) (named_name start.level (decimal start.level) (name_of start.kind) (words_in start.words) start.kind refl s.deep s.placed refl)
+  is_named = subst (λ (z : List (List ℕ)). IsNamed z start.kind) (sym s.are) (named_name start.level (decimal start.level) (name_of start.kind) (words_in start.words) start.kind refl s.deep s.placed (s.own, refl))
 
   starts : AllHold (start_checks depth bytes)
   starts = ((short, printed), ((start.level, level_word, s.deep, s.within), ((start.kind, is_named), tt)))
@@ -117,6 +117,7 @@ module _ (depth : ℕ) (bytes : List ℕ) (start : Start) (short : length bytes 
         short = short;
         deep = omega arith;
         placed = refl;
+        own = ap profile_of (sym same) ∙ s.own;
         numbers = r.in_form;
         tail = no_tail (tail_of (Message line.kind)) absent;
         text = record { numbers = r.texts; are = r.are; text_is = line_text bytes (decimal 0) (name_of (Message line.kind) ∷ (r.texts ++ tail_texts (tail_of (Message line.kind)) [])) all };
@@ -136,6 +137,7 @@ module _ (depth : ℕ) (bytes : List ℕ) (start : Start) (short : length bytes 
           short = short;
           deep = omega (arith, s.deep, level);
           placed = omega (arith, placed, level);
+          own = ap profile_of (sym same) ∙ s.own;
           numbers = r.in_form;
           tail = subst (λ (k : ParamKind). IsTailOf (tail_of (Parameter k)) line.tail) (sym h.kind_is) h.tail;
           text = record { numbers = r.texts; are = r.are; text_is = line_text bytes (decimal line.level) (name_of (Parameter line.kind) ∷ (r.texts ++ tail_texts (tail_of (Parameter line.kind)) line.tail)) all };

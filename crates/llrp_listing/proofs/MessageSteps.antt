@@ -9,7 +9,7 @@ use Rattle.llrp_schema.specs.declared.kinds.Kind.{Kind}
 use Rattle.llrp_schema.specs.declared.kinds.Kind.TheVariants.{Message}
 use Rattle.llrp_schema.specs.declared.kinds.Tail.{Tail}
 use Rattle.llrp_schema.specs.declared.kinds.Tail.TheVariants.{Absent}
-use Rattle.llrp_schema.specs.Schema.{number_of, tail_of}
+use Rattle.llrp_schema.specs.Schema.{number_of, profile_of, tail_of}
 use Rattle.llrp_schema.proofs.TableLaws.{message_tail}
 use Rattle.llrp_tree.specs.declared.TheConstants.{MAX_LIMIT}
 use Rattle.llrp_tree.specs.Checks.{first_message_fault}
@@ -282,5 +282,5 @@ module _ (writer : Writer) (at : ℕ) (out more : List ℕ) (n : OpenNode) (h : 
             kept = rw (kept, there.0) bytes-nil;
           };
           closed = all_closed kind n is writer.limit alone.0.said fine fits;
-          appended = record { bytes = frame; spelled = spells_one writer.limit (of_line kind n is) frame f; more = refl };
+          appended = record { bytes = frame; spelled = spells_one writer.limit (of_line kind n is) frame (record { frame = f; own = ap profile_of (sym is) ∙ alone.0.said.own }); more = refl };
         }

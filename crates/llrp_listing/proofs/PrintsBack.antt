@@ -61,7 +61,7 @@ pub are_frames : (limit : ℕ) (messages : List MessageTree) (frames : List (Lis
 are_frames limit [] [] h = tt
 are_frames limit [] (f ∷ frames) h = absurd h
 are_frames limit (m ∷ messages) [] h = absurd h
-are_frames limit (m ∷ messages) (f ∷ frames) h = (is_frame limit m f h.0, are_frames limit messages frames h.1)
+are_frames limit (m ∷ messages) (f ∷ frames) h = (is_frame limit m f h.0.frame, are_frames limit messages frames h.1)
 
 pub are_items : (limit : ℕ) (messages : List MessageTree) (frames : List (List ℕ)) → AreSpellings limit messages frames → AllZip (IsItemOf limit) frames (as_items messages)
 are_items limit [] [] h = tt

@@ -8,10 +8,11 @@ use Rattle.llrp_schema.specs.declared.kinds.MsgKind.{MsgKind}
 use Rattle.llrp_schema.specs.declared.kinds.ParamKind.{ParamKind}
 use Rattle.llrp_schema.specs.declared.kinds.Kind.{Kind}
 use Rattle.llrp_schema.specs.declared.kinds.Kind.TheVariants.{Message, Parameter}
+use Rattle.llrp_schema.specs.declared.kinds.Profile.TheVariants.{Own}
 use Rattle.llrp_schema.specs.declared.kinds.Tail.{Tail}
 use Rattle.llrp_schema.specs.declared.kinds.Tail.TheVariants.{Absent}
 use Rattle.llrp_schema.specs.declared.kinds.Field.{Field}
-use Rattle.llrp_schema.specs.Schema.{FieldRule, field_rule, fields_of, name_of, tail_of}
+use Rattle.llrp_schema.specs.Schema.{FieldRule, field_rule, fields_of, name_of, profile_of, tail_of}
 use Rattle.llrp_schema.proofs.TableLaws.{message_tail}
 use Rattle.llrp_tree.specs.declared.TheConstants.{MAX_DEPTH}
 use Rattle.llrp_listing.specs.Encoder.{SaysAt}
@@ -80,13 +81,14 @@ line_text kind numbers rest level small absent e =
     ap (λ (z : List ℕ). (48 + level) ∷ (z ++ (10 ∷ []))) (e ∙ sym (ap (λ (z : List (List ℕ)). spaced (name_of kind ∷ z)) tails))
     ∙ sym (ap (λ (d : List ℕ). d ++ (spaced (name_of kind ∷ (numbers ++ tail_texts (tail_of kind) [])) ++ (10 ∷ []))) (decimal_digit level small))
 
-pub parameter_says : (level : ℕ) (kind : ParamKind) (ws : List (List ℕ)) (ns rest : List ℕ) → 1 ≤ level → level ≤ MAX_DEPTH → level < 10 → 2 + length rest ≤ LONGEST_LINE → AreAllNumbers kind ws ns → 32 ∷ rest ≡ spaced (name_of (Parameter kind) ∷ ws)
+pub parameter_says : (level : ℕ) (kind : ParamKind) (ws : List (List ℕ)) (ns rest : List ℕ) → profile_of (Parameter kind) ≡ Own → 1 ≤ level → level ≤ MAX_DEPTH → level < 10 → 2 + length rest ≤ LONGEST_LINE → AreAllNumbers kind ws ns → 32 ∷ rest ≡ spaced (name_of (Parameter kind) ∷ ws)
     → SaysAt level ((48 + level) ∷ 32 ∷ rest) level (parameter_line kind ns [])
-parameter_says level kind ws ns rest least deep one short all e = (
+parameter_says level kind ws ns rest own least deep one short all e = (
   record {
     short = omega (arith, short);
     deep = deep;
     placed = least;
+    own = own;
     numbers = all.in_form;
     tail = no_tail_of (tail_of (Parameter kind)) all.no_tail;
     text = record { numbers = ws; are = all.are; text_is = line_text (Parameter kind) ws rest level one all.no_tail e };
@@ -94,9 +96,9 @@ parameter_says level kind ws ns rest least deep one short all e = (
   omega arith,
 )
 
-pub message_says : (kind : MsgKind) (version id : ℕ) (digits rest : List ℕ) → (1 ≤ version) × (version ≤ 2) → id < 2 ^ 32 → digits ≡ decimal id → 2 + length rest ≤ LONGEST_LINE → fields_of (Message kind) ≡ [] → 32 ∷ rest ≡ spaced (name_of (Message kind) ∷ ((48 + version) ∷ []) ∷ digits ∷ [])
+pub message_says : (kind : MsgKind) (version id : ℕ) (digits rest : List ℕ) → profile_of (Message kind) ≡ Own → (1 ≤ version) × (version ≤ 2) → id < 2 ^ 32 → digits ≡ decimal id → 2 + length rest ≤ LONGEST_LINE → fields_of (Message kind) ≡ [] → 32 ∷ rest ≡ spaced (name_of (Message kind) ∷ ((48 + version) ∷ []) ∷ digits ∷ [])
     → SaysAt 0 (48 ∷ 32 ∷ rest) 0 (record { kind = Message kind; numbers = version ∷ id ∷ []; tail = [] })
-message_says kind version id digits rest known small is short none e =
+message_says kind version id digits rest own known small is short none e =
     let forms : number_forms (Message kind) ≡ Version ∷ Id ∷ [] = message_forms kind none in
     let ws : List (List ℕ) = ((48 + version) ∷ []) ∷ digits ∷ [] in
     let absent : tail_of (Message kind) ≡ Absent = message_tail kind in (
@@ -104,6 +106,7 @@ message_says kind version id digits rest known small is short none e =
         short = omega (arith, short);
         deep = omega arith;
         placed = refl;
+        own = own;
         numbers = subst (λ (fs : List NumberForm). AreInForm fs (version ∷ id ∷ [])) (sym forms) (which version known.0 known.1, (small, tt));
         tail = no_tail_of (tail_of (Message kind)) absent;
         text = record { numbers = ws; are = subst (λ (fs : List NumberForm). AreNumberTexts fs (version ∷ id ∷ []) ws) (sym forms) (sym (decimal_digit version (omega (arith, known.1))), (is, tt)); text_is = line_text (Message kind) ws rest 0 (omega arith) absent e };

@@ -2,11 +2,11 @@
 use Rattle.std.specs.Prelude.{◌≡◌, ℕ, ◌⊎◌, List, ◌++◌}
 use Rattle.std.specs.List.{flat_map, AllZip}
 use Rattle.llrp_tree.specs.Tree.{MessageTree}
-use Rattle.llrp_tree.specs.Frame.{Frame}
 use Rattle.llrp_listing.specs.declared.fault.Refusal.{Refusal}
 use Rattle.llrp_listing.specs.declared.fault.ToolErr.{ToolErr}
 use Rattle.llrp_listing.specs.declared.fault.ToolErr.TheVariants.{Listing, Script, Hex, Read, Write, Bound, Broken, Memory, Peer, Strange, Early}
 use Rattle.llrp_listing.specs.Copying.{MOST_READS, ReadAll, GaveAndFailed, IsPrefix}
+use Rattle.llrp_stream.specs.Items.{FrameOf}
 use Rattle.llrp_stream.specs.Device.{SourceLog, SinkLog, Gave, Wrote, WroteAndFailed}
 use Rattle.llrp_listing.specs.FirstRefusal.{IsLastOpen, Opens, Refused}
 use Rattle.llrp_listing.specs.Lines.{NoLf, TextLine, lines_of}
@@ -15,10 +15,10 @@ use Rattle.llrp_listing.specs.MessageListing.{IsListingOf}
 use Rattle.llrp_listing.specs.NodeLine.{NodeLine}
 use Rattle.llrp_listing.specs.OpenText.{OpenText}
 
--- The bytes are the spellings of these lawful messages in order, each within the limit.
+-- The bytes are the spellings of these lawful messages of the profile in order, each within the limit.
 pub record AreSpelled (limit : ℕ) (messages : List MessageTree) (bytes : List ℕ) : Type 0 where
   pub frames : List (List ℕ)
-  pub each : AllZip (λ m frame. Frame m frame limit) messages frames
+  pub each : AllZip (λ m frame. FrameOf m frame limit) messages frames
   pub bytes_are : bytes ≡ flat_map (λ frame. frame) frames
 
 -- The text is the listing of messages, and the bytes are their spellings.

@@ -3,9 +3,10 @@ use Rattle.std.specs.Prelude.{◌≡◌, ◌≢◌, ◌⊎◌, ◌<◌, ◌≤�
 use Rattle.std.specs.List.{list_all}
 use Rattle.llrp_schema.specs.declared.kinds.Kind.{Kind}
 use Rattle.llrp_schema.specs.declared.kinds.Kind.TheVariants.{Message, Parameter}
+use Rattle.llrp_schema.specs.declared.kinds.Profile.TheVariants.{Own}
 use Rattle.llrp_schema.specs.declared.kinds.Tail.{Tail}
 use Rattle.llrp_schema.specs.declared.kinds.Tail.TheVariants.{Absent, Words, Text, Bits, Data}
-use Rattle.llrp_schema.specs.Schema.{name_of, tail_of}
+use Rattle.llrp_schema.specs.Schema.{name_of, profile_of, tail_of}
 use Rattle.llrp_tree.specs.declared.TheConstants.{MAX_DEPTH}
 use Rattle.llrp_tree.specs.Lawful.{AreOctets}
 use Rattle.tag_uri.specs.declared.fault.UriFault.{UriFault}
@@ -59,11 +60,12 @@ IsTailOf Text tail = AreOctets tail
 IsTailOf Bits tail = AreOctets tail
 IsTailOf Data tail = AreOctets tail
 
--- The bytes, with the LF after them, are the text of a line at this level.
+-- The bytes, with the LF after them, are the text of a line of the profile at this level.
 pub record SaysNode (bytes : List ℕ) (level : ℕ) (line : NodeLine) : Type 0 where
   pub short : length bytes ≤ LONGEST_LINE
   pub deep : level ≤ MAX_DEPTH
   pub placed : IsPlaced level line.kind
+  pub own : profile_of line.kind ≡ Own
   pub numbers : AreInForm (number_forms line.kind) line.numbers
   pub tail : IsTailOf (tail_of line.kind) line.tail
   pub text : IsLine (level, line) (bytes ++ (10 ∷ []))
@@ -79,10 +81,14 @@ SaysLine (Unended bytes) e = ⊥
 abbrev pub HasLevel : ℕ → List (List ℕ) → Type 0
 HasLevel depth ws = (level : ℕ) × (word ws 0 ≡ decimal level) × (level ≤ MAX_DEPTH) × (level ≤ depth)
 
+-- the word is the name of a kind of the profile
+abbrev pub IsName : List ℕ → Kind → Type 0
+IsName w kind = (profile_of kind ≡ Own) × (w ≡ name_of kind)
+
 -- the second word is the kind's name: at level 0 a message's, and at any other a parameter's
 abbrev pub IsNamed : List (List ℕ) → Kind → Type 0
-IsNamed ws (Message kind) = (word ws 0 ≡ decimal 0) × (word ws 1 ≡ name_of (Message kind))
-IsNamed ws (Parameter kind) = (word ws 0 ≢ decimal 0) × (word ws 1 ≡ name_of (Parameter kind))
+IsNamed ws (Message kind) = (word ws 0 ≡ decimal 0) × IsName (word ws 1) (Message kind)
+IsNamed ws (Parameter kind) = (word ws 0 ≢ decimal 0) × IsName (word ws 1) (Parameter kind)
 
 abbrev pub HasName : List (List ℕ) → Type 0
 HasName ws = (kind : Kind) × IsNamed ws kind

@@ -7,9 +7,10 @@ use Rattle.llrp_schema.specs.declared.kinds.MsgKind.{MsgKind}
 use Rattle.llrp_schema.specs.declared.kinds.ParamKind.{ParamKind}
 use Rattle.llrp_schema.specs.declared.kinds.Kind.{Kind}
 use Rattle.llrp_schema.specs.declared.kinds.Kind.TheVariants.{Message, Parameter}
+use Rattle.llrp_schema.specs.declared.kinds.Profile.TheVariants.{Own}
 use Rattle.llrp_schema.specs.declared.kinds.Tail.{Tail}
 use Rattle.llrp_schema.specs.declared.kinds.Tail.TheVariants.{Words}
-use Rattle.llrp_schema.specs.Schema.{FieldRule, name_of, tail_of}
+use Rattle.llrp_schema.specs.Schema.{FieldRule, name_of, profile_of, tail_of}
 use Rattle.llrp_tree.specs.declared.TheConstants.{MAX_DEPTH}
 use Rattle.llrp_tree.specs.Lawful.{AreOctets}
 use Rattle.llrp_listing.specs.declared.fault.Refusal.{Refusal}
@@ -22,7 +23,7 @@ use Rattle.llrp_listing.specs.declared.line.MessageLine.{MessageLine}
 use Rattle.llrp_listing.specs.declared.line.ParameterLine.{ParameterLine}
 use Rattle.llrp_listing.specs.declared.line.Start.{Start}
 use Rattle.llrp_listing.specs.Checks.{FirstFailing}
-use Rattle.llrp_listing.specs.LineChecks.{SaysNode, IsPlaced, AreInForm, IsTailOf, HasLevel, HasName, tail_checks, body_checks, RefusesLineItself}
+use Rattle.llrp_listing.specs.LineChecks.{SaysNode, IsPlaced, IsName, AreInForm, IsTailOf, HasLevel, HasName, tail_checks, body_checks, RefusesLineItself}
 use Rattle.llrp_listing.specs.Lines.{Ended}
 use Rattle.llrp_listing.specs.Splits.{words, words_in}
 use Rattle.llrp_tree.specs.Tree.{words_of}
@@ -39,14 +40,15 @@ IsLevel depth w None = (level : ℕ) → w ≡ decimal level → level ≤ MAX_D
 IsLevel depth w (Some level) = (w ≡ decimal level) × (level ≤ MAX_DEPTH) × (level ≤ depth)
 
 abbrev pub IsKindNamed : ℕ → List ℕ → Option Kind → Type 0
-IsKindNamed level name None = (kind : Kind) → IsPlaced level kind → name ≡ name_of kind → ⊥
-IsKindNamed level name (Some kind) = IsPlaced level kind × (name ≡ name_of kind)
+IsKindNamed level name None = (kind : Kind) → IsPlaced level kind → IsName name kind → ⊥
+IsKindNamed level name (Some kind) = IsPlaced level kind × IsName name kind
 
 -- The words begin with a level and a name, and these words follow.
 pub record Starts (depth : ℕ) (bytes : List ℕ) (start : Start) : Type 0 where
   pub deep : start.level ≤ MAX_DEPTH
   pub within : start.level ≤ depth
   pub placed : IsPlaced start.level start.kind
+  pub own : profile_of start.kind ≡ Own
   pub are : words bytes ≡ decimal start.level ∷ name_of start.kind ∷ words_in start.words
 
 abbrev pub ReadsStart : ℕ → List ℕ → Result Start Refusal → Type 0

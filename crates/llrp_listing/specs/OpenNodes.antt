@@ -6,7 +6,8 @@ use Rattle.tag_bits.specs.Digits.{digits_of_bytes}
 use Rattle.llrp_schema.specs.declared.kinds.ParamKind.{ParamKind}
 use Rattle.llrp_schema.specs.declared.kinds.Kind.{Kind}
 use Rattle.llrp_schema.specs.declared.kinds.Kind.TheVariants.{Message, Parameter}
-use Rattle.llrp_schema.specs.Schema.{GroupRule, fields_of, groups_of, tail_of}
+use Rattle.llrp_schema.specs.declared.kinds.Profile.TheVariants.{Own}
+use Rattle.llrp_schema.specs.Schema.{GroupRule, fields_of, groups_of, profile_of, tail_of}
 use Rattle.llrp_tree.specs.declared.node.NodeFault.{NodeFault}
 use Rattle.llrp_tree.specs.declared.node.NodeFault.TheVariants.{FieldCount, Value, Tail as BadTail, Misplaced, TooMany, Missing, TooDeep, TooLong}
 use Rattle.llrp_tree.specs.Checks.{count_fits, values_fit, tail_fits, all_placed, none_too_many, first_failed, first_fault, first_message_fault}
@@ -132,6 +133,7 @@ MOST = 2 ^ 32 - 1
 
 -- What a line says may be said.
 pub record IsSaid (line : NodeLine) : Type 0 where
+  pub own : profile_of line.kind ≡ Own
   pub numbers : AreInForm (number_forms line.kind) line.numbers
   pub tail : IsTailOf (tail_of line.kind) line.tail
 

@@ -1,18 +1,17 @@
 -- What holds of every listing.
 use Rattle.std.specs.Prelude.{◌≡◌, ℕ, List}
 use Rattle.std.specs.List.{AllZip}
-use Rattle.llrp_tree.specs.Frame.{Frame}
 use Rattle.llrp_tree.specs.Tree.{MessageTree}
 use Rattle.llrp_stream.specs.declared.item.Item.{Item}
 use Rattle.llrp_stream.specs.declared.item.End.{End}
 use Rattle.llrp_stream.specs.Cuts.{joined}
-use Rattle.llrp_stream.specs.Items.{Items}
+use Rattle.llrp_stream.specs.Items.{FrameOf, Items}
 use Rattle.llrp_listing.specs.MessageListing.{IsListingOf}
 use Rattle.llrp_listing.specs.StreamListing.{IsStreamListing}
 
--- each of the frames is the spelling of a message, in order, and within the limit
+-- each of the frames is the spelling of a message of the profile, in order, and within the limit
 abbrev pub AreSpellings : ℕ → List MessageTree → List (List ℕ) → Type 0
-AreSpellings limit messages frames = AllZip (λ message frame. Frame message frame limit) messages frames
+AreSpellings limit messages frames = AllZip (λ message frame. FrameOf message frame limit) messages frames
 
 -- The text is a listing of the stream, and the only one.
 pub record IsOnlyListing (limit : ℕ) (stream text : List ℕ) : Type 0 where

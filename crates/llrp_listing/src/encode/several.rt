@@ -3,8 +3,9 @@
 
 ghost use Rattle.std.specs.Prelude.{◌≡◌, ◌+◌, ◌^◌, ◌∷◌, ◌++◌, ◌<◌, ◌≤◌, IfSome, decimal, drop, length, map};
 ghost use Rattle.arrayvec.specs.ArrayVec.{array_vec_len};
-ghost use Rattle.llrp_schema.specs.Schema.{field_rule, name_of};
+ghost use Rattle.llrp_schema.specs.Schema.{field_rule, name_of, profile_of};
 ghost use Rattle.llrp_schema.specs.declared.kinds.Kind.TheVariants.{Parameter};
+ghost use Rattle.llrp_schema.specs.declared.kinds.Profile.TheVariants.{Own};
 ghost use Rattle.llrp_listing.specs.Encoder.{SaysAt};
 ghost use Rattle.llrp_listing.specs.LineReading.{ReadsLine, forms_of, parameter_node};
 ghost use Rattle.llrp_listing.specs.ShortLines.{AreSpaced};
@@ -94,6 +95,7 @@ fn read_several(
     depth: usize,
     expected: ParamKind,
 ) -> Option<ParameterLine>
+    requires { profile_of (Parameter expected) ≡ Own }
     ensures { IfSome result (λ read. SaysAt depth line.now read.level (parameter_node read)) }
 {
     if line.len() > LONGEST_LINE {
@@ -126,6 +128,7 @@ pub fn read_whole(
     depth: usize,
     expected: ParamKind,
 ) -> Result<Line, LineErr>
+    requires { profile_of (Parameter expected) ≡ Own }
     ensures { ReadsLine depth line.now result }
 {
     match read_several(alloc, line, depth, expected) {

@@ -4,8 +4,9 @@
 
 ghost use Rattle.std.specs.Prelude.{◌≡◌, ◌+◌, ◌∷◌, ◌++◌, ◌<◌, ◌≤◌, IfSome, IsTrue, Ok, [], drop, length, take};
 ghost use Rattle.llrp_schema.specs.declared.kinds.Kind.TheVariants.{Message, Parameter};
+ghost use Rattle.llrp_schema.specs.declared.kinds.Profile.TheVariants.{Own};
 ghost use Rattle.llrp_schema.specs.declared.kinds.Tail.TheVariants.{Absent};
-ghost use Rattle.llrp_schema.specs.Schema.{field_rule, fields_of, name_of, tail_of};
+ghost use Rattle.llrp_schema.specs.Schema.{field_rule, fields_of, name_of, profile_of, tail_of};
 ghost use Rattle.llrp_tree.specs.declared.TheConstants.{MAX_DEPTH};
 ghost use Rattle.llrp_listing.specs.Encoder.{SaysAt};
 ghost use Rattle.llrp_listing.specs.LineChecks.{LONGEST_LINE, ReadsNumber};
@@ -180,6 +181,7 @@ pub fn level_ahead(line: &[u8], depth: usize) -> Option<usize>
 /// The line of a parameter of this kind, whose name ends at this place.
 #[inline(always)]
 fn parameter_after(level: usize, line: &[u8], kind: ParamKind, end: usize) -> Option<ShortLine>
+    requires own { profile_of (Parameter kind) ≡ Own }
     requires least { 1 ≤ level }
     requires deep { level ≤ MAX_DEPTH }
     requires one { level < 10 }
@@ -213,6 +215,7 @@ fn parameter_after(level: usize, line: &[u8], kind: ParamKind, end: usize) -> Op
 /// The kind of a parameter whose name follows the level of a line and its space, whatever follows the name.
 fn kind_named(line: &[u8]) -> Option<ParamKind>
     requires { 2 ≤ length line.now }
+    ensures { IfSome result (λ kind. profile_of (Parameter kind) ≡ Own) }
 {
     let (_, rest) = line.split_at(2);
     match split_once(rest, b' ') {
@@ -225,6 +228,7 @@ fn kind_named(line: &[u8]) -> Option<ParamKind>
 #[inline(never)]
 fn other_kind(line: &[u8]) -> Option<(ParamKind, usize)>
     requires { 2 ≤ length line.now }
+    ensures own { IfSome result (λ x. profile_of (Parameter x.0) ≡ Own) }
     ensures within { IfSome result (λ x. x.1 ≤ length line.now) }
     ensures named { IfSome result (λ x. drop 2 line.now ≡ name_of (Parameter x.0)
         ++ drop x.1 line.now) }
@@ -237,8 +241,10 @@ fn other_kind(line: &[u8]) -> Option<(ParamKind, usize)>
 /// The same for a line at the front of a text. The kind that is expected is tried first.
 #[inline(always)]
 pub fn kind_ahead(line: &[u8], text: &[u8], expected: ParamKind) -> Option<(ParamKind, usize)>
+    requires own { profile_of (Parameter expected) ≡ Own }
     requires text { take (length line.now) text.now ≡ line.now }
     requires long { 2 ≤ length line.now }
+    ensures own { IfSome result (λ x. profile_of (Parameter x.0) ≡ Own) }
     ensures within { IfSome result (λ x. x.1 ≤ length line.now) }
     ensures named { IfSome result (λ x. drop 2 line.now ≡ name_of (Parameter x.0)
         ++ drop x.1 line.now) }
@@ -252,6 +258,7 @@ pub fn kind_ahead(line: &[u8], text: &[u8], expected: ParamKind) -> Option<(Para
 /// The line of a parameter. The kind that is expected is tried first.
 #[inline(always)]
 fn short_parameter(level: usize, line: &[u8], text: &[u8], expected: ParamKind) -> Option<ShortLine>
+    requires own { profile_of (Parameter expected) ≡ Own }
     requires least { 1 ≤ level }
     requires deep { level ≤ MAX_DEPTH }
     requires one { level < 10 }
@@ -304,6 +311,7 @@ fn version_at(line: &[u8], at: usize) -> Option<u8>
 /// The line of a message of this kind, if it has the kind's name.
 #[inline(always)]
 fn message_named(line: &[u8], text: &[u8], kind: MsgKind) -> Option<ShortLine>
+    requires own { profile_of (Message kind) ≡ Own }
     requires text { take (length line.now) text.now ≡ line.now }
     requires short { length line.now ≤ LONGEST_LINE }
     requires starts { line.now ≡ 48 ∷ 32 ∷ drop 2 line.now }
@@ -342,6 +350,7 @@ fn other_message(line: &[u8], text: &[u8]) -> Option<ShortLine>
 /// The line of a message: of the kind that is expected, or of the one whose name it has.
 #[inline(always)]
 fn short_message(line: &[u8], text: &[u8], expected: MsgKind) -> Option<ShortLine>
+    requires own { profile_of (Message expected) ≡ Own }
     requires text { take (length line.now) text.now ≡ line.now }
     requires short { length line.now ≤ LONGEST_LINE }
     requires starts { line.now ≡ 48 ∷ 32 ∷ drop 2 line.now }

@@ -1,8 +1,11 @@
 use Rattle.std.proofs.Common.{◌++◌, Ok, Err}
 use Rattle.llrp_listing.specs.Taking.{said_level, said_node}
 use Rattle.llrp_listing.proofs.Standing.{line_result}
-use Rattle.llrp_listing.proofs.EncoderSteps.{never_ok, read_at, rests_front, said_says, says_can, says_said, some_front}
+use Rattle.llrp_listing.proofs.EncoderSteps.{never_ok, read_at, read_says, rests_front, said_says, says_can, says_said, some_front}
 use Rattle.llrp_listing.proofs.encode.Encoder.end_any_line.Goals as goal
+
+pub note_line-requires : goal.note_line-requires
+note_line-requires g c = (read_says _ _ c.in-Ok.line c.in-Ok.ensures.read).0.own
 
 pub take_line-requires-clause-said : goal.take_line-requires-clause-said
 take_line-requires-clause-said g c =
