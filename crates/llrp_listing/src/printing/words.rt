@@ -147,8 +147,8 @@ fn put_value(room: &mut [u8], at: usize, kind: ParamKind, value: u128) -> usize
     ensures most { result ≤ at + 64 }
 {
     match kind {
-        ParamKind::Epc96 => put_epc(room, at, value),
-        ParamKind::PeakRssi => put_signed(room, at, value as u8),
+        ParamKind::Epc96 | ParamKind::WholeEpc96 => put_epc(room, at, value),
+        ParamKind::PeakRssi | ParamKind::WholePeakRssi => put_signed(room, at, value as u8),
         _ => put_decimal(room, at, value as u64),
     }
 }

@@ -1,5 +1,5 @@
 use Rattle.std.proofs.Common.{arith}
-use Rattle.llrp_listing.proofs.TableLemmas.{epc_fits, rssi_fits, other_fits, epc_text, rssi_text, other_text}
+use Rattle.llrp_listing.proofs.TableLemmas.{epc_fits, rssi_fits, other_fits, epc_text, neither, rssi_text, other_text}
 use Rattle.llrp_listing.proofs.printing.words.put_value.Goals as goal
 
 pub put_epc-requires-clause-fits : goal.put_epc-requires-clause-fits
@@ -9,7 +9,7 @@ pub overflow_cast-value : goal.overflow_cast-value
 overflow_cast-value c = omega (arith, rssi_fits c.args.kind c.args.value c.in-PeakRssi.is c.requires.fits)
 
 pub overflow_cast-value-in_default : goal.overflow_cast-value-in_default
-overflow_cast-value-in_default c = omega (arith, other_fits c.args.kind c.args.value c.requires.tv c.in_default.not-Epc96 c.in_default.not-PeakRssi c.requires.fits)
+overflow_cast-value-in_default c = omega (arith, other_fits c.args.kind c.args.value c.requires.tv (neither c.in_default.not-Epc96 c.in_default.not-WholeEpc96) (neither c.in_default.not-PeakRssi c.in_default.not-WholePeakRssi) c.requires.fits)
 
 pub returns-in-Epc96-clause-text : goal.returns-in-Epc96-clause-text
 returns-in-Epc96-clause-text c =
@@ -21,6 +21,6 @@ returns-in-PeakRssi-clause-text c = (_, rssi_text c.args.kind c.args.value c.in-
 
 pub returns-in_default : goal.returns-in_default
 returns-in_default c = record {
-  text = (_, other_text c.args.kind c.args.value c.requires.tv c.in_default.not-Epc96 c.in_default.not-PeakRssi, c.put_decimal.ensures.text);
+  text = (_, other_text c.args.kind c.args.value c.requires.tv (neither c.in_default.not-Epc96 c.in_default.not-WholeEpc96) (neither c.in_default.not-PeakRssi c.in_default.not-WholePeakRssi), c.put_decimal.ensures.text);
   most = omega (arith, c.put_decimal.ensures.most);
 }
