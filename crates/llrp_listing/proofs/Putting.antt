@@ -12,7 +12,8 @@ use Rattle.llrp_schema.specs.declared.kinds.Kind.{Kind}
 use Rattle.llrp_schema.specs.declared.kinds.Kind.TheVariants.{Message, Parameter}
 use Rattle.llrp_schema.specs.declared.kinds.Tail.{Tail}
 use Rattle.llrp_schema.specs.declared.kinds.Tail.TheVariants as form
-use Rattle.llrp_schema.specs.Schema.{GroupRule, FieldRule, fields_of, groups_of, tail_of}
+use Rattle.llrp_schema.specs.declared.kinds.Profile.TheVariants.{Own}
+use Rattle.llrp_schema.specs.Schema.{GroupRule, FieldRule, fields_of, groups_of, profile_of, tail_of}
 use Rattle.llrp_tree.specs.declared.node.NodeFault.{NodeFault}
 use Rattle.llrp_tree.specs.declared.node.NodeFault.TheVariants.{FieldCount, Value, Tail as BadTail, Misplaced, TooMany}
 use Rattle.llrp_tree.specs.Checks.{all_placed, at_most, count_fits, first_failed, members, none_too_many, tail_fits, values_fit}
@@ -22,6 +23,7 @@ use Rattle.llrp_tree.specs.Spelling.{body_digits, count_digits, head_digits, hea
 use Rattle.llrp_tree.specs.Tree as tree
 use Rattle.llrp_tree.specs.Writing.{Appends}
 use Rattle.llrp_tree.proofs.LawLemmas.{both}
+use Rattle.llrp_tree.proofs.OwnLemmas.{short_message, short_parameter}
 use Rattle.llrp_listing.specs.LineChecks.{AreInForm, IsInForm}
 use Rattle.llrp_listing.specs.NodeLine.{NodeLine, NumberForm, field_form, number_forms}
 use Rattle.llrp_listing.specs.declared.encode.lines.Begun.{Begun}
@@ -137,6 +139,11 @@ pub text_fits : (f : Tail) (values tail : List ℕ) → tail_fits f values tail 
 text_fits f values tail e is = let p = both (nat_le (length tail) 65535) _ (sym (ap (λ (x : Tail). tail_fits x values tail) is) ∙ e) in leb-true (length tail) 65535 p.0
 
 -- ---- its octets
+
+-- those before the tail are sixteen at most in the profile
+pub own_short : (kind : Kind) → profile_of kind ≡ Own → own_octets kind [] ≤ 16
+own_short (Message kind) own = short_message kind own
+own_short (Parameter kind) own = short_parameter kind own
 
 parameter_spelled : (kind : ParamKind) (values tail start : List ℕ) → digits_of_bytes start ≡ parameter_start kind 0 values tail → digits_of_bytes (start ++ tail) ≡ line_digits (Parameter kind) values tail
 unfolding line_digits body_digits

@@ -1,6 +1,7 @@
 -- The octets of a line that begins.
-use Rattle.std.specs.Prelude.{◌≡◌, ℕ, List, ◌++◌, is_none}
+use Rattle.std.specs.Prelude.{◌≡◌, ℕ, Bool, List, [], ◌++◌, is_none}
 use Rattle.llrp_schema.specs.declared.kinds.Kind.{Kind}
+use Rattle.llrp_tree.specs.Writing.{Appends}
 use Rattle.llrp_listing.specs.NodeLine.{NodeLine}
 use Rattle.llrp_listing.specs.declared.encode.lines.Begun.{Begun}
 use Rattle.llrp_listing.specs.declared.encode.lines.Own.{Own}
@@ -19,3 +20,9 @@ begun_line kind number own = record { held = record { kind = kind; number = numb
 -- the same, whatever the line's number is
 abbrev pub PutsOwn : List ℕ → List ℕ → Own → NodeLine → Type 0
 PutsOwn old new own line = (number : ℕ) → Puts old new (begun_line line.kind number own) line number
+
+-- Octets of these digits were appended, and then a tail.
+pub record PutsStart (old new : List ℕ) (ds : List Bool) (tail : List ℕ) : Type 0 where
+  pub start : List ℕ
+  pub octets : Appends [] start ds
+  pub appended : new ≡ (old ++ start) ++ tail

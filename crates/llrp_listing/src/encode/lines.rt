@@ -1,18 +1,18 @@
 //! A line that was read: its own tests, its record, and its octets.
 
-ghost use Rattle.std.specs.Prelude.{◌≡◌, ◌∷◌, ◌++◌, ◌≤◌, IfOk, IsTrue, OnOk, [], drop, length, min, nat_le, take, true};
+ghost use Rattle.std.specs.Prelude.{◌≡◌, ◌∷◌, ◌++◌, ◌≤◌, ◌<◌, ◌/◌, IfOk, IsTrue, OnOk, [], drop, length, min, nat_le, take, true};
 ghost use Rattle.llrp_schema.specs.declared.kinds.Kind.TheVariants.{Message, Parameter};
-ghost use Rattle.llrp_schema.specs.declared.kinds.Tail.TheVariants.{Absent};
+ghost use Rattle.llrp_schema.specs.declared.kinds.Tail.TheVariants.{Absent, Text, Words};
 ghost use Rattle.llrp_schema.specs.Schema.{fields_of, is_tv, tail_of};
 ghost use Rattle.llrp_tree.specs.declared.node.NodeFault.TheVariants.{Value};
-ghost use Rattle.llrp_tree.specs.Checks.{first_failed};
+ghost use Rattle.llrp_tree.specs.Checks.{first_failed, values_fit};
 ghost use Rattle.llrp_tree.specs.Lawful.{own_octets};
-ghost use Rattle.llrp_tree.specs.Spelled.{both_halves};
+ghost use Rattle.llrp_tree.specs.Spelled.{both_halves, message_start, parameter_start};
 ghost use Rattle.llrp_listing.specs.OpenNodes.{IsSaid, MOST};
-ghost use Rattle.llrp_listing.specs.LineOctets.{PutsOwn, begun_line};
+ghost use Rattle.llrp_listing.specs.LineOctets.{PutsOwn, PutsStart, begun_line};
 
 use crate::encode::rows::Held;
-use llrp_schema::{Field, Kind, MsgKind, ParamKind, Tail};
+use llrp_schema::{Field, Kind, MsgKind, ParamKind, Profile, Tail};
 use llrp_tree::{
     Front, NodeFault, Start, bare_front, message_front, message_start, own_fault, own_octets,
     parameter_front, parameter_start, tv_front,
@@ -100,7 +100,7 @@ fn append(room: &mut Vec<u8>, front: &Front, tail: &[u8]) -> Result<(), AllocErr
     room.extend_from_slice(tail)
 }
 
-/// The same, where those before the tail are more than sixteen.
+/// The same, where the octets before the tail may be more than sixteen.
 fn append_start(room: &mut Vec<u8>, start: &Start, tail: &[u8]) -> Result<(), AllocError>
     requires { start.now.from ≤ length start.now.octets }
     ensures { OnOk result (room.new.items ≡ (room.old.items
@@ -108,6 +108,96 @@ fn append_start(room: &mut Vec<u8>, start: &Start, tail: &[u8]) -> Result<(), Al
 {
     room.extend_from_slice(start.octets.as_slice().split_at(start.from).1)?;
     room.extend_from_slice(tail)
+}
+
+/// Whether the octets before the tail of such a line are sixteen at most. In the profile they always
+/// are, so they are not counted.
+#[inline(always)]
+fn fits_front(kind: Kind) -> bool
+    ensures { IsTrue result → own_octets kind [] ≤ 16 }
+{
+    match llrp_schema::profile(kind) {
+        Profile::Own => true,
+        Profile::Whole => own_octets(kind, &[]) <= 16,
+    }
+}
+
+/// Appends the octets of a parameter's line.
+#[inline(always)]
+fn append_parameter(
+    room: &mut Vec<u8>,
+    kind: ParamKind,
+    values: &[u128],
+    tail: &[u8],
+) -> Result<(), AllocError>
+    requires values { values_fit (fields_of (Parameter kind)) values.now ≡ true }
+    requires words { tail_of (Parameter kind) ≡ Words → length tail.now / 2 ≤ 65535 }
+    requires text { tail_of (Parameter kind) ≡ Text → length tail.now ≤ 65535 }
+    ensures { OnOk result (PutsStart room.old.items room.new.items
+        (parameter_start kind 0 values.now tail.now) tail.now) }
+{
+    if !fits_front(Kind::Parameter(kind)) {
+        return append_long_parameter(room, kind, values, tail);
+    }
+    let front = parameter_front(kind, values, tail);
+    append(room, &front, tail)
+}
+
+/// The same, however many octets come before the tail.
+#[inline(never)]
+fn append_long_parameter(
+    room: &mut Vec<u8>,
+    kind: ParamKind,
+    values: &[u128],
+    tail: &[u8],
+) -> Result<(), AllocError>
+    requires values { values_fit (fields_of (Parameter kind)) values.now ≡ true }
+    requires words { tail_of (Parameter kind) ≡ Words → length tail.now / 2 ≤ 65535 }
+    requires text { tail_of (Parameter kind) ≡ Text → length tail.now ≤ 65535 }
+    ensures { OnOk result (PutsStart room.old.items room.new.items
+        (parameter_start kind 0 values.now tail.now) tail.now) }
+{
+    let start = parameter_start(kind, 0, values, tail);
+    append_start(room, &start, tail)
+}
+
+/// Appends the octets of a message's line.
+#[inline(always)]
+fn append_message(
+    room: &mut Vec<u8>,
+    version: u8,
+    kind: MsgKind,
+    id: u32,
+    values: &[u128],
+) -> Result<(), AllocError>
+    requires version { version < 8 }
+    requires values { values_fit (fields_of (Message kind)) values.now ≡ true }
+    ensures { OnOk result (PutsStart room.old.items room.new.items
+        (message_start version kind 0 id values.now) []) }
+{
+    if !fits_front(Kind::Message(kind)) {
+        return append_long_message(room, version, kind, id, values);
+    }
+    let front = message_front(version, kind, id, values);
+    append(room, &front, &[])
+}
+
+/// The same, however many octets there are.
+#[inline(never)]
+fn append_long_message(
+    room: &mut Vec<u8>,
+    version: u8,
+    kind: MsgKind,
+    id: u32,
+    values: &[u128],
+) -> Result<(), AllocError>
+    requires version { version < 8 }
+    requires values { values_fit (fields_of (Message kind)) values.now ≡ true }
+    ensures { OnOk result (PutsStart room.old.items room.new.items
+        (message_start version kind 0 id values.now) []) }
+{
+    let start = message_start(version, kind, 0, id, values);
+    append_start(room, &start, &[])
 }
 
 /// The first test that the value of a field fails.
@@ -222,13 +312,7 @@ fn put_any(
     match fault {
         Some(_) => Ok(Own { fault, octets }),
         None => {
-            if own_octets(Kind::Parameter(kind), &[]) > 16 {
-                let start = parameter_start(kind, 0, values, tail);
-                append_start(room, &start, tail)?;
-                return Ok(Own { fault, octets });
-            }
-            let front = parameter_front(kind, values, tail);
-            append(room, &front, tail)?;
+            append_parameter(room, kind, values, tail)?;
             Ok(Own { fault, octets })
         }
     }
@@ -257,13 +341,7 @@ pub fn put_message(
     match fault {
         Some(_) => Ok(Own { fault, octets }),
         None => {
-            if own_octets(Kind::Message(kind), &[]) > 16 {
-                let start = message_start(version, kind, 0, id, values);
-                append_start(room, &start, &[])?;
-                return Ok(Own { fault, octets });
-            }
-            let front = message_front(version, kind, id, values);
-            append(room, &front, &[])?;
+            append_message(room, version, kind, id, values)?;
             Ok(Own { fault, octets })
         }
     }

@@ -5,15 +5,16 @@ use Rattle.llrp_tree.specs.declared.node.NodeFault.{NodeFault}
 use Rattle.llrp_listing.proofs.Putting.{own_message, passed, puts_message, puts_nothing, small_version}
 use Rattle.llrp_listing.proofs.encode.lines.put_message.Goals as goal
 
-pub message_front-front-requires-clause-version : goal.message_front-front-requires-clause-version
-message_front-front-requires-clause-version c = small_version c.args.kind c.args.version c.args.id c.args.values.now c.requires
+pub append_message-requires-clause-version : goal.append_message-requires-clause-version
+append_message-requires-clause-version c = small_version c.args.kind c.args.version c.args.id c.args.values.now c.requires
 
-pub message_front-front-requires-clause-values : goal.message_front-front-requires-clause-values
-message_front-front-requires-clause-values c = (passed (Message c.args.kind) c.args.values.now [] c.own_fault-fault.result c.own_fault-fault.ensures c.in-None.is).0
+pub append_message-requires-clause-values : goal.append_message-requires-clause-values
+append_message-requires-clause-values c = (passed (Message c.args.kind) c.args.values.now [] c.own_fault-fault.result c.own_fault-fault.ensures c.in-None.is).0
 
-pub returns-in_ok-append-in-None : goal.returns-in_ok-append-in-None
-returns-in_ok-append-in-None c = λ number.
-    puts_message c.args.kind c.args.version c.args.id c.args.values.now _ c.args.room.now.items c.append.new.room.items number c.own_fault-fault.result c.message_octets-octets.result _ c.requires c.own_fault-fault.ensures c.message_octets-octets.ensures refl c.message_front-front.ensures.spelled c.in_ok-append-in-None.ensures
+pub returns-in_ok-append_message-in-None : goal.returns-in_ok-append_message-in-None
+returns-in_ok-append_message-in-None c = λ number.
+    let p = c.in_ok-append_message-in-None.ensures in
+    puts_message c.args.kind c.args.version c.args.id c.args.values.now p.start c.args.room.now.items c.append_message.new.room.items number c.own_fault-fault.result c.message_octets-octets.result _ c.requires c.own_fault-fault.ensures c.message_octets-octets.ensures refl p.octets p.appended
 
 pub returns-in-Some : goal.returns-in-Some
 returns-in-Some c = λ number.
