@@ -1,4 +1,4 @@
-use Rattle.std.proofs.Common.{drop, [], ◌∷◌, ◌+◌, refl, arith}
+use Rattle.std.proofs.Common.{drop, ◌+◌, refl, arith}
 use Rattle.llrp_schema.specs.declared.kinds.Kind.TheVariants.{Parameter}
 use Rattle.llrp_schema.specs.Schema.{name_of}
 use Rattle.llrp_listing.proofs.NamedLines.{bare_says, name_last, number_says, word_follows}
