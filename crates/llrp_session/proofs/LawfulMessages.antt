@@ -8,6 +8,7 @@ use Rattle.llrp_schema.specs.declared.kinds.MsgKind.{MsgKind}
 use Rattle.llrp_schema.specs.declared.kinds.MsgKind.TheVariants.{GetRoSpecs, GetRoSpecsResponse, RoAccessReport, Keepalive, ReaderEventNotification, ErrorMessage, AddRoSpec, DeleteRoSpec, StartRoSpec, StopRoSpec, EnableRoSpec, DisableRoSpec, SetReaderConfig, GetReport as GetReportMessage, CloseConnection, KeepaliveAck}
 use Rattle.llrp_schema.specs.declared.kinds.ParamKind.TheVariants.{LlrpStatus, ReaderEventNotificationData, UtcTimestamp, RoSpecEvent, ReportBufferOverflowErrorEvent, ConnectionAttemptEvent, KeepaliveSpec as KeepaliveSpecParameter}
 use Rattle.llrp_schema.specs.declared.kinds.Kind.TheVariants.{Message}
+use Rattle.llrp_schema.specs.declared.kinds.Profile.TheVariants.{Own}
 use Rattle.llrp_schema.specs.Schema.{number_of, rule_of, message_rule, param_rule, fields_of, tail_of, groups_of, is_tv, key_of, profile_of}
 use Rattle.llrp_tree.specs.declared.TheConstants.{MAX_LIMIT}
 use Rattle.llrp_tree.specs.Tree.{Forest, none, Tree, add, add_all, forest}
@@ -72,11 +73,23 @@ unfolding first_message_fault
 any_version v (inl e) kind values f h = rw e h
 any_version v (inr e) kind values f h = rw e h
 
-sendable : (v id : ℕ) (kind : MsgKind) (values : List ℕ) (f : Forest) (limit : ℕ) → (v ≡ 1) ⊎ (v ≡ 2) → id < 2 ^ 32 → AllLawful f → first_message_fault 1 kind values f ≡ None
+sendable : (v id : ℕ) (kind : MsgKind) (values : List ℕ) (f : Forest) (limit : ℕ) → profile_of (Message kind) ≡ Own → (v ≡ 1) ⊎ (v ≡ 2) → id < 2 ^ 32 → AllLawful f → first_message_fault 1 kind values f ≡ None
     → message_octets (record { version = v; id = id; kind = kind; fields = values; children = f }) ≤ limit
     → IsSendable limit (record { version = v; id = id; kind = kind; fields = values; children = f })
-sendable v id kind values f limit version small children passes short =
-    record { lawful = message_from v id kind values f small children (any_version v version kind values f passes); within = short }
+sendable v id kind values f limit own version small children passes short =
+    record { own = own; lawful = message_from v id kind values f small children (any_version v version kind values f passes); within = short }
+
+response_own : (operation : Operation) → profile_of (Message (response_kind operation)) ≡ Own
+unfolding profile_of rule_of message_rule
+response_own Adding = refl
+response_own Deleting = refl
+response_own Starting = refl
+response_own Stopping = refl
+response_own Enabling = refl
+response_own Disabling = refl
+response_own Configuring = refl
+response_own Closing = refl
+response_own Listing = refl
 
 response_passes : (operation : Operation) (status : ℕ) → first_message_fault 1 (response_kind operation) [] (forest (status_parameter status ∷ [])) ≡ None
 unfolding first_message_fault table_tests all_placed none_too_many none_missing rule_of message_rule param_rule number_of key_of profile_of fields_of tail_of groups_of is_tv body_octets
@@ -125,6 +138,7 @@ unfolding ArePlaced NoneTooMany NoneMissing rule_of message_rule number_of key_o
 report_sendable v id tags limit l version small h few =
     let long = reports_octets none tags h in
     record {
+      own = refl;
       lawful = record {
         version = version;
         id = small;
@@ -145,6 +159,7 @@ table_sendable v id table limit m version small told fits =
     let long = listing_octets status table told in
     let statuses = statuses-listing status table in
     record {
+      own = refl;
       lawful = record {
         version = version;
         id = small;
@@ -160,23 +175,23 @@ table_sendable v id table limit m version small told fits =
 word_sends : (v id : ℕ) (word : ReaderWord) (limit : ℕ) → 4096 ≤ limit → limit ≤ MAX_LIMIT → (v ≡ 1) ⊎ (v ≡ 2) → id < 2 ^ 32 → IsLawfulReaderWord limit word → IsSendable limit (reader_message (record { version = v; id = id; word = word }))
 unfolding reader_message first_message_fault table_tests all_placed none_too_many none_missing rule_of message_rule param_rule number_of key_of profile_of fields_of tail_of groups_of is_tv body_octets
 word_sends v id (Response operation status) limit l m version small h =
-    sendable v id (response_kind operation) [] (forest (status_parameter status ∷ [])) limit version small (tt, status_lawful status h, tt) (response_passes operation status) (let e = response_octets operation status in omega (arith, e))
+    sendable v id (response_kind operation) [] (forest (status_parameter status ∷ [])) limit (response_own operation) version small (tt, status_lawful status h, tt) (response_passes operation status) (let e = response_octets operation status in omega (arith, e))
 word_sends v id (Listed table) limit l m version small h = table_sendable v id table limit m version small h.0 h.1
 word_sends v id (Error status) limit l m version small h =
-    sendable v id ErrorMessage [] (forest (status_parameter status ∷ [])) limit version small (tt, status_lawful status h, tt) refl (omega arith)
+    sendable v id ErrorMessage [] (forest (status_parameter status ∷ [])) limit refl version small (tt, status_lawful status h, tt) refl (omega arith)
 word_sends v id (Report tags) limit l m version small h = report_sendable v id tags limit l version small h.0 h.1
-word_sends v id KeepaliveSent limit l m version small h = sendable v id Keepalive [] none limit version small tt refl (omega arith)
+word_sends v id KeepaliveSent limit l m version small h = sendable v id Keepalive [] none limit refl version small tt refl (omega arith)
 word_sends v id (Accepted now) limit l m version small h =
-    sendable v id ReaderEventNotification [] (forest (notification_data now (parameter ConnectionAttemptEvent (0 ∷ []) []) ∷ [])) limit version small
+    sendable v id ReaderEventNotification [] (forest (notification_data now (parameter ConnectionAttemptEvent (0 ∷ []) []) ∷ [])) limit refl version small
     (tt, attempt_data_lawful now, ((tt, time_lawful now h, tt), attempt_lawful, tt)) refl (omega arith)
 word_sends v id (Started now k) limit l m version small h =
-    sendable v id ReaderEventNotification [] (forest (notification_data now (rospec_event 0 k) ∷ [])) limit version small
+    sendable v id ReaderEventNotification [] (forest (notification_data now (rospec_event 0 k) ∷ [])) limit refl version small
     (tt, change_data_lawful now 0 k, ((tt, time_lawful now h.0, tt), change_lawful 0 k (omega arith) h.1, tt)) refl (omega arith)
 word_sends v id (Ended now k) limit l m version small h =
-    sendable v id ReaderEventNotification [] (forest (notification_data now (rospec_event 1 k) ∷ [])) limit version small
+    sendable v id ReaderEventNotification [] (forest (notification_data now (rospec_event 1 k) ∷ [])) limit refl version small
     (tt, change_data_lawful now 1 k, ((tt, time_lawful now h.0, tt), change_lawful 1 k (omega arith) h.1, tt)) refl (omega arith)
 word_sends v id (Overflowed now) limit l m version small h =
-    sendable v id ReaderEventNotification [] (forest (notification_data now (parameter ReportBufferOverflowErrorEvent [] []) ∷ [])) limit version small
+    sendable v id ReaderEventNotification [] (forest (notification_data now (parameter ReportBufferOverflowErrorEvent [] []) ∷ [])) limit refl version small
     (tt, overflow_data_lawful now, ((tt, time_lawful now h, tt), overflow_lawful, tt)) refl (omega arith)
 
 pub reader_sends : (limit : ℕ) (m : ReaderMessage) → 4096 ≤ limit → limit ≤ MAX_LIMIT → IsLawfulReaderMessage limit m → IsSendable limit (reader_message m)
@@ -197,6 +212,7 @@ add_sendable id limit spec l small h =
     let placed : has_place (groups_of (Message AddRoSpec)) spec.kind ≡ true = rw h.kind refl in
     let long = h.within in
     record {
+      own = refl;
       lawful = record {
         version = inl refl;
         id = small;
@@ -208,26 +224,26 @@ add_sendable id limit spec l small h =
     }
 
 -- a message of one field of 32 bits
-named_sendable : (id limit rospec : ℕ) (kind : MsgKind) → 4096 ≤ limit → id < 2 ^ 32 → first_message_fault 1 kind (rospec ∷ []) none ≡ None → body_octets (Message kind) [] ≡ 4
+named_sendable : (id limit rospec : ℕ) (kind : MsgKind) → profile_of (Message kind) ≡ Own → 4096 ≤ limit → id < 2 ^ 32 → first_message_fault 1 kind (rospec ∷ []) none ≡ None → body_octets (Message kind) [] ≡ 4
     → IsSendable limit (record { version = 1; id = id; kind = kind; fields = rospec ∷ []; children = none })
-named_sendable id limit rospec kind l small passes long = sendable 1 id kind (rospec ∷ []) none limit (inl refl) small tt passes (omega (arith, long))
+named_sendable id limit rospec kind own l small passes long = sendable 1 id kind (rospec ∷ []) none limit own (inl refl) small tt passes (omega (arith, long))
 
 client_word_sends : (id limit : ℕ) (word : ClientWord) → 4096 ≤ limit → limit ≤ MAX_LIMIT → id < 2 ^ 32 → IsLawfulClientWord limit word → IsSendable limit (client_message (record { id = id; word = word }))
 unfolding client_message first_message_fault table_tests all_placed none_too_many none_missing rule_of message_rule param_rule number_of key_of profile_of fields_of tail_of groups_of is_tv body_octets
 client_word_sends id limit (Asks (Add spec)) l m small h = add_sendable id limit spec m small h
-client_word_sends id limit (Asks (Delete n)) l m small h = let e = le-leb n 4294967295 (omega arith) in named_sendable id limit n DeleteRoSpec l small (rw e refl) refl
-client_word_sends id limit (Asks (Start n)) l m small h = let e = le-leb n 4294967295 (omega arith) in named_sendable id limit n StartRoSpec l small (rw e refl) refl
-client_word_sends id limit (Asks (Stop n)) l m small h = let e = le-leb n 4294967295 (omega arith) in named_sendable id limit n StopRoSpec l small (rw e refl) refl
-client_word_sends id limit (Asks (Enable n)) l m small h = let e = le-leb n 4294967295 (omega arith) in named_sendable id limit n EnableRoSpec l small (rw e refl) refl
-client_word_sends id limit (Asks (Disable n)) l m small h = let e = le-leb n 4294967295 (omega arith) in named_sendable id limit n DisableRoSpec l small (rw e refl) refl
-client_word_sends id limit (Asks GetRospecs) l m small h = sendable 1 id GetRoSpecs [] none limit (inl refl) small tt refl (omega arith)
+client_word_sends id limit (Asks (Delete n)) l m small h = let e = le-leb n 4294967295 (omega arith) in named_sendable id limit n DeleteRoSpec refl l small (rw e refl) refl
+client_word_sends id limit (Asks (Start n)) l m small h = let e = le-leb n 4294967295 (omega arith) in named_sendable id limit n StartRoSpec refl l small (rw e refl) refl
+client_word_sends id limit (Asks (Stop n)) l m small h = let e = le-leb n 4294967295 (omega arith) in named_sendable id limit n StopRoSpec refl l small (rw e refl) refl
+client_word_sends id limit (Asks (Enable n)) l m small h = let e = le-leb n 4294967295 (omega arith) in named_sendable id limit n EnableRoSpec refl l small (rw e refl) refl
+client_word_sends id limit (Asks (Disable n)) l m small h = let e = le-leb n 4294967295 (omega arith) in named_sendable id limit n DisableRoSpec refl l small (rw e refl) refl
+client_word_sends id limit (Asks GetRospecs) l m small h = sendable 1 id GetRoSpecs [] none limit refl (inl refl) small tt refl (omega arith)
 client_word_sends id limit (Asks (SetKeepalive ms)) l m small h =
     let k = keepalive_fits ms h in
-    sendable 1 id SetReaderConfig (0 ∷ []) (forest (parameter KeepaliveSpecParameter ((keepalive_each ms).trigger ∷ (keepalive_each ms).period ∷ []) [] ∷ [])) limit (inl refl) small
+    sendable 1 id SetReaderConfig (0 ∷ []) (forest (parameter KeepaliveSpecParameter ((keepalive_each ms).trigger ∷ (keepalive_each ms).period ∷ []) [] ∷ [])) limit refl (inl refl) small
     (tt, keepalive_lawful (keepalive_each ms).trigger (keepalive_each ms).period k.0 k.1, tt) refl (omega arith)
-client_word_sends id limit (Asks GetReport) l m small h = sendable 1 id GetReportMessage [] none limit (inl refl) small tt refl (omega arith)
-client_word_sends id limit (Asks Close) l m small h = sendable 1 id CloseConnection [] none limit (inl refl) small tt refl (omega arith)
-client_word_sends id limit Acknowledges l m small h = sendable 1 id KeepaliveAck [] none limit (inl refl) small tt refl (omega arith)
+client_word_sends id limit (Asks GetReport) l m small h = sendable 1 id GetReportMessage [] none limit refl (inl refl) small tt refl (omega arith)
+client_word_sends id limit (Asks Close) l m small h = sendable 1 id CloseConnection [] none limit refl (inl refl) small tt refl (omega arith)
+client_word_sends id limit Acknowledges l m small h = sendable 1 id KeepaliveAck [] none limit refl (inl refl) small tt refl (omega arith)
 
 pub client_sends : (limit : ℕ) (m : ClientMessage) → 4096 ≤ limit → limit ≤ MAX_LIMIT → IsLawfulClientMessage limit m → IsSendable limit (client_message m)
 client_sends limit m l g h = client_word_sends m.id limit m.word l g h.id h.word

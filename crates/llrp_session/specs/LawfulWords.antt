@@ -1,6 +1,9 @@
 -- Which words have a message: each number is one that its type holds, a ROSpec is lawful, and reports are few and short.
 use Rattle.std.specs.Prelude.{◌≡◌, ℕ, ◌+◌, ◌^◌, ◌<◌, ◌≤◌, ◌⊎◌, List, [], ◌∷◌, length}
 use Rattle.llrp_schema.specs.declared.kinds.ParamKind.TheVariants.{RoSpec, TagReportData}
+use Rattle.llrp_schema.specs.declared.kinds.Kind.TheVariants.{Message}
+use Rattle.llrp_schema.specs.declared.kinds.Profile.TheVariants.{Own}
+use Rattle.llrp_schema.specs.Schema.{profile_of}
 use Rattle.llrp_tree.specs.declared.TheConstants.{MAX_LIMIT}
 use Rattle.llrp_tree.specs.Tree.{Tree, MessageTree}
 use Rattle.llrp_tree.specs.Lawful.{IsLawful, IsLawfulMessage, tree_octets, message_octets}
@@ -9,8 +12,9 @@ use Rattle.llrp_session.specs.Table.{Entry, octets_of}
 use Rattle.llrp_session.specs.Words.{Command, Add, Delete, Start, Stop, Enable, Disable, GetRospecs, SetKeepalive, GetReport, Close, ReaderWord, Response, Listed, Error, Report, KeepaliveSent, Accepted, Started, Ended, Overflowed, ReaderMessage, ClientWord, Asks, Acknowledges, ClientMessage}
 use Rattle.llrp_session.specs.ReaderMachine.{most_held}
 
--- a message that may be sent: a lawful one, within the limit
+-- a message that may be sent: a lawful one of the profile, within the limit
 pub record IsSendable (limit : ℕ) (m : MessageTree) : Type 0 where
+  pub own : profile_of (Message m.kind) ≡ Own
   pub lawful : IsLawfulMessage m
   pub within : message_octets m ≤ limit
 
