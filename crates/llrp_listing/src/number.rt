@@ -117,8 +117,9 @@ pub fn signed_from(line: &[u8], from: usize) -> Option<u64>
     requires { from < length line.now }
     ensures { IfSome result (λ n. ReadsNumber Signed (drop from line.now) (Ok n)) }
 {
-    if line[from] == b'-' {
-        let size = number_from(line, from + 1)?;
+    let negative = line[from] == b'-';
+    let size = number_from(line, from + negative as usize)?;
+    if negative {
         if size == 0 {
             return None;
         }
@@ -127,11 +128,10 @@ pub fn signed_from(line: &[u8], from: usize) -> Option<u64>
         }
         return Some(256 - size);
     }
-    let number = number_from(line, from)?;
-    if number > 127 {
+    if size > 127 {
         return None;
     }
-    Some(number)
+    Some(size)
 }
 
 /// Reads a message's version, 1 or 2.

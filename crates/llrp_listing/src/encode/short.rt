@@ -11,6 +11,7 @@ ghost use Rattle.llrp_tree.specs.declared.TheConstants.{MAX_DEPTH};
 ghost use Rattle.llrp_listing.specs.Encoder.{SaysAt};
 ghost use Rattle.llrp_listing.specs.LineChecks.{LONGEST_LINE, ReadsNumber};
 ghost use Rattle.llrp_listing.specs.NodeLine.{Epc, field_form};
+ghost use Rattle.llrp_listing.specs.Numeral.{numeral};
 ghost use Rattle.llrp_listing.specs.ShortLines.{AreAllNumbers, short_level, short_node};
 
 use crate::encode::guess::Guess;
@@ -58,6 +59,15 @@ fn epc_value(word: &[u8]) -> Option<u128>
     }
 }
 
+/// The number of a word that `number_from` does not read, which has more than sixteen digits or comes soon in a line. It is a call
+/// of its own, since with it `read_short` would be too large to be inlined.
+#[inline(never)]
+fn other_number(word: &[u8]) -> Option<u128>
+    ensures { result ≡ numeral word.now }
+{
+    numeral(word)
+}
+
 /// The value of a field that is not reserved, from a place of a line to its end.
 #[inline(always)]
 fn value_from(rule: &Field, line: &[u8], from: usize) -> Option<u128>
@@ -76,7 +86,7 @@ fn value_from(rule: &Field, line: &[u8], from: usize) -> Option<u128>
     }
     match number_from(line, from) {
         Some(number) => Some(number as u128),
-        None => numeral(line.split_at(from).1),
+        None => other_number(line.split_at(from).1),
     }
 }
 
