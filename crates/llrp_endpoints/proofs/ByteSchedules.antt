@@ -26,7 +26,7 @@ use Rattle.llrp_session.proofs.SendableWorlds.{given_events, sent_up, sent_down}
 use Rattle.llrp_session.proofs.MessagesAgree as messages
 use Rattle.llrp_endpoints.specs.Sending.{AreFrames}
 use Rattle.llrp_endpoints.specs.ByteWorld.{Way, ByteWorld, ByteEvent, Happens, ReadsUp, ReadsDown, Sends, Steps, Runs, apart, reader_hears, client_hears, byte_opening, IsGivenEvent, AreGivenEvents}
-use Rattle.llrp_endpoints.specs.EndsAgree.{IsInBytes, Schedule, IsGivenSchedule, RunsTo, AfterAllBytes, EachScheduleRuns, EachEventHappens, BytesAreMessages, IsARunOfMessages, NothingIsUnexpected, ViewIsTable, ViewCatchesUp, AreOnTheWay, ReportsArrive, ReportsAreKept, PendingIsOnTheWay, NothingIsPending, TablesArrive}
+use Rattle.llrp_endpoints.specs.EndsAgree.{IsInBytes, Schedule, IsGivenSchedule, RunsTo, AfterAllBytes, EachScheduleRuns, EachEventHappens, BytesAreMessages, IsARunOfMessages, NothingIsUnexpected, ViewIsTable, ViewCatchesUp, AreOnTheWay, ReportsArrive, ReportsAreKept, PendingIsOnTheWay, NothingIsPending, TablesArrive, AreOwn}
 use Rattle.llrp_endpoints.proofs.SendingLemmas.{frames_none}
 use Rattle.llrp_endpoints.proofs.FrameFronts.{no_messages, one_list}
 use Rattle.llrp_endpoints.proofs.WaysOfMessages.{last_sendable, next_are_messages}
@@ -243,31 +243,38 @@ view_catches_up s w new g r step =
     view_is_table longer new given run (step.1.0.coming ∙ none_behind w.down.coming) ∙ ap (λ (reader : Reader). states reader.table) same
 
 -- the messages on a way are determined
-same_way : (a b : List MessageTree) (way : Way) → AreOnTheWay a way → AreOnTheWay b way → a ≡ b
-same_way a b way p q = one_list a b p.frames q.frames p.each q.each (sym p.whole ∙ q.whole)
+own_of : (limit : ℕ) (ms : List MessageTree) → AreSendable limit ms → AreOwn ms
+own_of limit [] s = tt
+own_of limit (m ∷ ms) s = (s.0.own, own_of limit ms s.1)
+
+same_way : (a b : List MessageTree) (way : Way) → AreOwn a → AreOwn b → AreOnTheWay a way → AreOnTheWay b way → a ≡ b
+same_way a b way x y p q = one_list a b p.frames q.frames x y p.each q.each (sym p.whole ∙ q.whole)
 
 pub reports_arrive : AfterAllBytes ReportsArrive
-reports_arrive s w g r down is =
+reports_arrive s w g r down own is =
     let p = reached s w g r in
+    let may = may_send s g p.events p.given in
     let m : MessageWorld = run_messages p.events (start_of s) in
     subst (λ (ends : MessageWorld). ends.handed_out ++ tags_in_messages down ≡ ends.reported) (sym p.in_bytes.ends)
-    (subst (λ (ms : List MessageTree). m.handed_out ++ tags_in_messages ms ≡ m.reported) (same_way m.down down w.down p.in_bytes.down is)
+    (subst (λ (ms : List MessageTree). m.handed_out ++ tags_in_messages ms ≡ m.reported) (same_way m.down down w.down (own_of s.limit m.down may.1) own p.in_bytes.down is)
     (messages.reports_arrive s.limit s.reader_first s.client_first p.events (given_events p.events p.given)))
 
 pub reports_are_kept : AfterAllBytes ReportsAreKept
-reports_are_kept s w g r down is =
+reports_are_kept s w g r down own is =
     let p = reached s w g r in
+    let may = may_send s g p.events p.given in
     let m : MessageWorld = run_messages p.events (start_of s) in
     subst (λ (ends : MessageWorld). (ends.handed_out ++ tags_in_messages down) ++ ends.reader.held ≡ ends.kept) (sym p.in_bytes.ends)
-    (subst (λ (ms : List MessageTree). (m.handed_out ++ tags_in_messages ms) ++ m.reader.held ≡ m.kept) (same_way m.down down w.down p.in_bytes.down is)
+    (subst (λ (ms : List MessageTree). (m.handed_out ++ tags_in_messages ms) ++ m.reader.held ≡ m.kept) (same_way m.down down w.down (own_of s.limit m.down may.1) own p.in_bytes.down is)
     (messages.reports_are_kept s.limit s.reader_first s.client_first p.events (given_events p.events p.given)))
 
 pub tables_arrive : AfterAllBytes TablesArrive
-tables_arrive s w g r down is =
+tables_arrive s w g r down own is =
     let p = reached s w g r in
+    let may = may_send s g p.events p.given in
     let m : MessageWorld = run_messages p.events (start_of s) in
     subst (λ (ends : MessageWorld). ends.tables ++ tables_in_messages down ≡ ends.listed) (sym p.in_bytes.ends)
-    (subst (λ (ms : List MessageTree). m.tables ++ tables_in_messages ms ≡ m.listed) (same_way m.down down w.down p.in_bytes.down is)
+    (subst (λ (ms : List MessageTree). m.tables ++ tables_in_messages ms ≡ m.listed) (same_way m.down down w.down (own_of s.limit m.down may.1) own p.in_bytes.down is)
     (messages.tables_arrive s.limit s.reader_first s.client_first p.events (given_events p.events p.given)))
 
 pub none_differs : AfterAllBytes (λ w. NoneDiffers w.ends)
@@ -287,12 +294,13 @@ one_active s w g r =
     subst OneActive (sym p.in_bytes.ends) (messages.one_active s.limit s.reader_first s.client_first p.events (given_events p.events p.given))
 
 pub pending_is_on_the_way : AfterAllBytes PendingIsOnTheWay
-pending_is_on_the_way s w g r up down goes comes =
+pending_is_on_the_way s w g r up down own_up own_down goes comes =
     let p = reached s w g r in
+    let may = may_send s g p.events p.given in
     let m : MessageWorld = run_messages p.events (start_of s) in
     subst (λ (ends : MessageWorld). IsOnTheWay ends.client.pending up down) (sym p.in_bytes.ends)
-    (subst (λ (ms : List MessageTree). IsOnTheWay m.client.pending ms down) (same_way m.up up w.up p.in_bytes.up goes)
-    (subst (λ (ms : List MessageTree). IsOnTheWay m.client.pending m.up ms) (same_way m.down down w.down p.in_bytes.down comes)
+    (subst (λ (ms : List MessageTree). IsOnTheWay m.client.pending ms down) (same_way m.up up w.up (own_of s.limit m.up may.0) own_up p.in_bytes.up goes)
+    (subst (λ (ms : List MessageTree). IsOnTheWay m.client.pending m.up ms) (same_way m.down down w.down (own_of s.limit m.down may.1) own_down p.in_bytes.down comes)
     (messages.pending_is_on_the_way s.limit s.reader_first s.client_first p.events (given_events p.events p.given))))
 
 pub nothing_is_pending : AfterAllBytes NothingIsPending

@@ -10,14 +10,16 @@ use Rattle.llrp_stream.specs.declared.item.Item.{Item}
 use Rattle.llrp_stream.specs.declared.item.Item.TheVariants.{Msg}
 use Rattle.llrp_stream.specs.declared.item.End.TheVariants.{Clean}
 use Rattle.llrp_stream.specs.Cuts.{length_field, IsFrame, IsPartial, joined}
-use Rattle.llrp_stream.specs.Items.{Items, ItemsSoFar}
+use Rattle.llrp_stream.specs.Items.{FrameOf, Items, ItemsSoFar}
 use Rattle.llrp_stream.proofs.FrontLemmas.{length_field-append}
 use Rattle.llrp_stream.proofs.ItemLemmas.{below_or_not}
 use Rattle.llrp_stream.proofs.PrefixLemmas.{cut, partial, end_of, ends}
 use Rattle.llrp_stream.proofs.Unique.{one_cut, same_items}
 use Rattle.llrp_session.specs.MessageWorld.{AreSendable}
-use Rattle.llrp_listing.proofs.PrintsBack.{are_frames, are_items}
+use Rattle.llrp_listing.specs.PrintingLaws.{AreSpellings}
+use Rattle.llrp_listing.proofs.PrintsBack as spellings
 use Rattle.llrp_endpoints.specs.Sending.{AreFrames}
+use Rattle.llrp_endpoints.specs.EndsAgree.{AreOwn}
 
 pub record FrontOf (limit : ℕ) (messages : List MessageTree) (bytes later : List ℕ) : Type 0 where
   pub first : List MessageTree
@@ -28,11 +30,11 @@ pub record FrontOf (limit : ℕ) (messages : List MessageTree) (bytes later : Li
   pub unfinished : IsPartial front
   pub left : AreFrames rest (front ++ later)
 
-pub within : (limit : ℕ) (m : MessageTree) (frame : List ℕ) → AreSendable limit (m ∷ []) → Frame m frame MAX_LIMIT → Frame m frame limit
+pub within : (limit : ℕ) (m : MessageTree) (frame : List ℕ) → AreSendable limit (m ∷ []) → Frame m frame MAX_LIMIT → FrameOf m frame limit
 within limit m frame s f =
     let long = spelled_length m frame f.spelled in
     let fits = s.0.within in
-    record { lawful = f.lawful; octets = f.octets; spelled = f.spelled; short = omega (arith, long, fits) }
+    record { frame = record { lawful = f.lawful; octets = f.octets; spelled = f.spelled; short = omega (arith, long, fits) }; own = s.0.own }
 
 -- nothing is whole where the front is shorter than the first frame
 none_whole : (limit : ℕ) (messages : List MessageTree) (bytes later : List ℕ) → AreFrames messages (bytes ++ later) → IsPartial bytes → FrontOf limit messages bytes later
@@ -47,7 +49,7 @@ none_whole limit messages bytes later f p = record {
 }
 
 pub is_frame : (m : MessageTree) (frame : List ℕ) → Frame m frame MAX_LIMIT → IsFrame frame
-is_frame m frame f = (are_frames MAX_LIMIT (m ∷ []) (frame ∷ []) (f, tt)).0
+is_frame m frame f = spellings.is_frame MAX_LIMIT m frame f
 
 begins : (limit : ℕ) (m : MessageTree) (messages : List MessageTree) (f : List ℕ) (frames : List (List ℕ)) (bytes later : List ℕ)
     → AllZip (λ m frame. Frame m frame MAX_LIMIT) (m ∷ messages) (f ∷ frames) → bytes ++ later ≡ joined (f ∷ frames) → length bytes < length f → FrontOf limit (m ∷ messages) bytes later
@@ -113,18 +115,24 @@ same_messages (x ∷ xs) (y ∷ ys) e =
     let more : map Msg xs ≡ map Msg ys = cc in
     ap₂ (λ (z : MessageTree) (zs : List MessageTree). z ∷ zs) first (same_messages xs ys more)
 
--- bytes are the frames of one list of messages
-pub one_list : (a b : List MessageTree) (xs ys : List (List ℕ)) → AllZip (λ m frame. Frame m frame MAX_LIMIT) a xs → AllZip (λ m frame. Frame m frame MAX_LIMIT) b ys → joined xs ≡ joined ys → a ≡ b
-one_list a b xs ys p q e =
-    let items : Items MAX_LIMIT (joined xs) (map Msg a) Clean = clean a xs p in
-    let others : Items MAX_LIMIT (joined xs) (map Msg b) Clean = subst (λ (bytes : List ℕ). Items MAX_LIMIT bytes (map Msg b) Clean) (sym e) (clean b ys q) in
+are_spelled : (messages : List MessageTree) (frames : List (List ℕ)) → AreOwn messages → AllZip (λ m frame. Frame m frame MAX_LIMIT) messages frames → AreSpellings MAX_LIMIT messages frames
+are_spelled [] [] own each = tt
+are_spelled [] (f ∷ frames) own each = absurd each
+are_spelled (m ∷ messages) [] own each = absurd each
+are_spelled (m ∷ messages) (f ∷ frames) own each = (record { frame = each.0; own = own.0 }, are_spelled messages frames own.1 each.1)
+
+-- bytes are the frames of one list of messages of the profile
+pub one_list : (a b : List MessageTree) (xs ys : List (List ℕ)) → AreOwn a → AreOwn b → AllZip (λ m frame. Frame m frame MAX_LIMIT) a xs → AllZip (λ m frame. Frame m frame MAX_LIMIT) b ys → joined xs ≡ joined ys → a ≡ b
+one_list a b xs ys own_a own_b p q e =
+    let items : Items MAX_LIMIT (joined xs) (map Msg a) Clean = clean a xs own_a p in
+    let others : Items MAX_LIMIT (joined xs) (map Msg b) Clean = subst (λ (bytes : List ℕ). Items MAX_LIMIT bytes (map Msg b) Clean) (sym e) (clean b ys own_b q) in
     sym (same_messages b a (same_items MAX_LIMIT (joined xs) (map Msg a) (map Msg b) Clean Clean items others).0)
   where
-    clean : (messages : List MessageTree) (frames : List (List ℕ)) → AllZip (λ m frame. Frame m frame MAX_LIMIT) messages frames → Items MAX_LIMIT (joined frames) (map Msg messages) Clean
-    clean messages frames each = record {
+    clean : (messages : List MessageTree) (frames : List (List ℕ)) → AreOwn messages → AllZip (λ m frame. Frame m frame MAX_LIMIT) messages frames → Items MAX_LIMIT (joined frames) (map Msg messages) Clean
+    clean messages frames own each = record {
       frames = frames;
-      cut = record { tail = []; whole = sym (append-nil (joined frames)); each = are_frames MAX_LIMIT messages frames each; ends = refl };
-      each = are_items MAX_LIMIT messages frames each;
+      cut = record { tail = []; whole = sym (append-nil (joined frames)); each = spellings.are_frames MAX_LIMIT messages frames (are_spelled messages frames own each); ends = refl };
+      each = spellings.are_items MAX_LIMIT messages frames (are_spelled messages frames own each);
     }
 
 -- ---- bytes are read in one way

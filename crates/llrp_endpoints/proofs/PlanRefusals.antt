@@ -17,7 +17,7 @@ use Rattle.llrp_session.specs.declared.words.Command.TheVariants.{Add, Delete, S
 use Rattle.llrp_session.specs.declared.words.Pending.{Pending}
 use Rattle.llrp_session.specs.declared.words.Taken.{Taken}
 use Rattle.llrp_session.specs.declared.words.Taken.TheVariants.{Connected, Refused, Reply, Tags, Table, Differs, Event, Note, Kept, Closed as ConnectionEnded}
-use Rattle.llrp_session.specs.Refusal.{Refusal, Busy, OverLimit, IdsSpent, Unexpected}
+use Rattle.llrp_session.specs.Refusal.{Refusal, Busy, OverLimit, IdsSpent}
 use Rattle.llrp_session.specs.RoSpec.{rospec_of}
 use Rattle.llrp_session.specs.Words.{Heard}
 use Rattle.llrp_session.specs.ClientMachine.{Client, Sending, Taking, take, command, sending, sent_unless, refused_in, is_over_limit, are_spent, awaited}

@@ -20,7 +20,7 @@ within limit (m ∷ messages) [] s h = absurd h
 within limit (m ∷ messages) (f ∷ frames) s h =
     let long = spelled_length m f h.0.spelled in
     let fits = s.0.within in
-    (record { lawful = h.0.lawful; octets = h.0.octets; spelled = h.0.spelled; short = omega (arith, long, fits) }, within limit messages frames s.1 h.1)
+    (record { frame = record { lawful = h.0.lawful; octets = h.0.octets; spelled = h.0.spelled; short = omega (arith, long, fits) }; own = s.0.own }, within limit messages frames s.1 h.1)
 
 pub frames_read_back : (limit : ℕ) (messages : List MessageTree) (bytes : List ℕ) → AreSendable limit messages → AreFrames messages bytes → ItemsSoFar limit bytes (as_items messages) []
 frames_read_back limit messages bytes s p =

@@ -113,7 +113,7 @@ have_ids : (limit : ℕ) (frames : List (List ℕ)) (items : List Item) → AllZ
 have_ids limit [] [] are = tt
 have_ids limit [] (i ∷ items) are = absurd are
 have_ids limit (f ∷ frames) [] are = absurd are
-have_ids limit (f ∷ frames) (Msg m ∷ items) are = (are.0.lawful.id, have_ids limit frames items are.1)
+have_ids limit (f ∷ frames) (Msg m ∷ items) are = (are.0.frame.lawful.id, have_ids limit frames items are.1)
 have_ids limit (f ∷ frames) (Bad id fault ∷ items) are = (tt, have_ids limit frames items are.1)
 
 -- ---- the plan

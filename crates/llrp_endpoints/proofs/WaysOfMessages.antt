@@ -41,7 +41,7 @@ front_is limit (m ∷ rest) [] front later s each e p = absurd each
 front_is limit (m ∷ rest) (f ∷ frames) front later s each e p =
     let lt = frame_is_longer m f (joined frames) front later each.0 e p in
     let c = cut f (joined frames) front later (sym e) (omega (arith, lt)) in
-    inr (record { message = m; later = c.middle; frame = subst (λ (x : List ℕ). Frame m x limit) c.first (within limit m f (s.0, tt) each.0); unfinished = p })
+    inr (record { message = m; later = c.middle; frame = subst (λ (x : List ℕ). Frame m x limit) c.first (within limit m f (s.0, tt) each.0).frame; unfinished = p })
 
 pub last_sendable : (limit : ℕ) (a b : List MessageTree) → AreSendable limit (a ++ b) → AreSendable limit b
 last_sendable limit [] b s = s

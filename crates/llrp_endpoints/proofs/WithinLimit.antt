@@ -69,7 +69,7 @@ unfolding id_field
 id_fits frame is = value_at 48 32 (digits_of_bytes frame) (omega (arith, is.header, length-bytes frame))
 
 item_fits : (limit : ℕ) (frame : List ℕ) (item : Item) → IsFrame frame → IsItemOf limit frame item → IsLawfulReaderEvent (taking item)
-item_fits limit frame (Msg m) is f = (f.lawful.version, f.lawful.id, lawful_request m f.lawful)
+item_fits limit frame (Msg m) is f = (f.frame.lawful.version, f.frame.lawful.id, lawful_request m f.frame.lawful)
 item_fits limit frame (Bad id fault) is f = subst (λ (n : ℕ). n < 2 ^ 32) (sym f.0) (id_fits frame is)
 
 items_fit : (limit : ℕ) (frames : List (List ℕ)) (items : List Item) → AllByRecursion IsFrame frames → AllZip (IsItemOf limit) frames items → AllByRecursion (λ item. IsLawfulReaderEvent (taking item)) items

@@ -1,6 +1,9 @@
 -- The two ends agree, whatever happens and however the bytes between them are cut.
 use Rattle.std.specs.Prelude.{◌≡◌, ℕ, ◌<◌, ◌≤◌, ◌^◌, ◌⊎◌, List, [], ◌++◌, length, map, take, None}
 use Rattle.std.specs.List.{AllByRecursion}
+use Rattle.llrp_schema.specs.declared.kinds.Kind.TheVariants.{Message}
+use Rattle.llrp_schema.specs.declared.kinds.Profile.TheVariants.{Own}
+use Rattle.llrp_schema.specs.Schema.{profile_of}
 use Rattle.llrp_tree.specs.declared.TheConstants.{MAX_LIMIT}
 use Rattle.llrp_tree.specs.Tree.{MessageTree}
 use Rattle.llrp_tree.specs.Frame.{Frame}
@@ -18,6 +21,10 @@ use Rattle.llrp_endpoints.specs.ByteWorld.{Way, ByteWorld, ByteEvent, ReadsDown,
 -- the messages that are on a way, those that are half read among them
 abbrev pub AreOnTheWay : List MessageTree → Way → Type 0
 AreOnTheWay messages way = AreFrames messages (way.read ++ way.coming)
+
+-- messages of the profile: the octets of some are also those of a message of the whole standard
+abbrev pub AreOwn : List MessageTree → Type 0
+AreOwn messages = AllByRecursion (λ m. profile_of (Message m.kind) ≡ Own) messages
 
 -- The same two ends, and the same messages on the way.
 pub record IsInBytes (m : MessageWorld) (w : ByteWorld) : Type 0 where
@@ -104,19 +111,19 @@ ViewCatchesUp = (s : Schedule) (w new : ByteWorld) → IsGivenSchedule s → Run
 
 -- the reports delivered, followed by those on the way down, are the reports sent, in order, each once
 abbrev pub ReportsArrive : ByteWorld → Type 0
-ReportsArrive w = (down : List MessageTree) → AreOnTheWay down w.down → w.ends.handed_out ++ tags_in_messages down ≡ w.ends.reported
+ReportsArrive w = (down : List MessageTree) → AreOwn down → AreOnTheWay down w.down → w.ends.handed_out ++ tags_in_messages down ≡ w.ends.reported
 
 -- with those held they are the reports of the sightings that counted and were not dropped
 abbrev pub ReportsAreKept : ByteWorld → Type 0
-ReportsAreKept w = (down : List MessageTree) → AreOnTheWay down w.down → (w.ends.handed_out ++ tags_in_messages down) ++ w.ends.reader.held ≡ w.ends.kept
+ReportsAreKept w = (down : List MessageTree) → AreOwn down → AreOnTheWay down w.down → (w.ends.handed_out ++ tags_in_messages down) ++ w.ends.reader.held ≡ w.ends.kept
 
 -- the tables that the client took, followed by those on the way down, are the reader's table as it was at each GET_ROSPECS, in order
 abbrev pub TablesArrive : ByteWorld → Type 0
-TablesArrive w = (down : List MessageTree) → AreOnTheWay down w.down → w.ends.tables ++ tables_in_messages down ≡ w.ends.listed
+TablesArrive w = (down : List MessageTree) → AreOwn down → AreOnTheWay down w.down → w.ends.tables ++ tables_in_messages down ≡ w.ends.listed
 
 -- the pending request is on the way up, or its one response on the way down, never both; without one neither way has any
 abbrev pub PendingIsOnTheWay : ByteWorld → Type 0
-PendingIsOnTheWay w = (up down : List MessageTree) → AreOnTheWay up w.up → AreOnTheWay down w.down → IsOnTheWay w.ends.client.pending up down
+PendingIsOnTheWay w = (up down : List MessageTree) → AreOwn up → AreOwn down → AreOnTheWay up w.up → AreOnTheWay down w.down → IsOnTheWay w.ends.client.pending up down
 
 -- with no byte on either way nothing is pending
 abbrev pub NothingIsPending : ByteWorld → Type 0

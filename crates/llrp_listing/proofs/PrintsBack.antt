@@ -43,7 +43,7 @@ length_spelled m long =
     ap (λ (ds : List Bool). number ds 16 32) (header_spread m.version m.kind (message_octets m) m.id body)
     ∙ length_after m.version (number_of (Message m.kind)) (message_octets m) (digits 32 m.id ++ body) fits
 
-is_frame : (limit : ℕ) (m : MessageTree) (bytes : List ℕ) → Frame m bytes limit → IsFrame bytes
+pub is_frame : (limit : ℕ) (m : MessageTree) (bytes : List ℕ) → Frame m bytes limit → IsFrame bytes
 unfolding length_field
 is_frame limit m bytes f =
     let long = frame_length m bytes limit f in
