@@ -1,5 +1,5 @@
 -- A line that was read, as what is kept of it and its octets.
-use Rattle.std.proofs.Common.{◌≡◌, ℕ, suc, ◌/◌, ◌<◌, ◌≤◌, min, Bool, true, false, List, [], ◌∷◌, ◌++◌, length, map, filter, not, Option, Some, None, refl, sym, ap, ◌∙◌, subst, arith, inl, inr, append_assoc, eq-eqb}
+use Rattle.std.proofs.Common.{◌≡◌, ℕ, suc, ◌+◌, ◌/◌, ◌<◌, ◌≤◌, min, Bool, true, false, List, [], ◌∷◌, ◌++◌, length, map, filter, not, Option, Some, None, refl, sym, ap, ◌∙◌, subst, arith, inl, inr, append_assoc, eq-eqb}
 use Rattle.std.specs.Prelude.{nat_le, ◌&&◌, ◌||◌, ◌==◌, is_none}
 use Rattle.std.proofs.lemmas.Bool.{le-leb, leb-true}
 use Rattle.std.proofs.lemmas.List.{append-nil, length-map}
@@ -13,11 +13,12 @@ use Rattle.llrp_schema.specs.declared.kinds.Kind.TheVariants.{Message, Parameter
 use Rattle.llrp_schema.specs.declared.kinds.Tail.{Tail}
 use Rattle.llrp_schema.specs.declared.kinds.Tail.TheVariants as form
 use Rattle.llrp_schema.specs.declared.kinds.Profile.TheVariants.{Own}
-use Rattle.llrp_schema.specs.Schema.{GroupRule, FieldRule, fields_of, groups_of, profile_of, tail_of}
+use Rattle.llrp_schema.specs.Schema.{GroupRule, FieldRule, bits_of, fields_of, groups_of, profile_of, tail_of}
 use Rattle.llrp_tree.specs.declared.node.NodeFault.{NodeFault}
 use Rattle.llrp_tree.specs.declared.node.NodeFault.TheVariants.{FieldCount, Value, Tail as BadTail, Misplaced, TooMany}
 use Rattle.llrp_tree.specs.Checks.{all_placed, at_most, count_fits, first_failed, members, none_too_many, tail_fits, values_fit}
-use Rattle.llrp_tree.specs.Lawful.{AreOctets, count, own_octets}
+use Rattle.llrp_schema.proofs.TableLaws.{message_tail}
+use Rattle.llrp_tree.specs.Lawful.{AreOctets, body_octets, count, count_octets, own_octets}
 use Rattle.llrp_tree.specs.Spelled.{all_fields, message_start, parameter_start}
 use Rattle.llrp_tree.specs.Spelling.{body_digits, count_digits, head_digits, head_of, message}
 use Rattle.llrp_tree.specs.Tree as tree
@@ -127,10 +128,17 @@ pub passed : (kind : Kind) (values tail : List ℕ) (fault : Option NodeFault) �
 passed kind values tail fault f none = both_pass (values_fit (fields_of kind) values) (tail_fits (tail_of kind) values tail) (sym f ∙ none)
 
 -- a kind without fields and tail has nothing that can fail
-pub bare_passes : (kind : ParamKind) → fields_of (Parameter kind) ≡ [] → tail_of (Parameter kind) ≡ form.Absent → None ≡ two_tests (Parameter kind) [] []
+pub bare_passes : (kind : Kind) → fields_of kind ≡ [] → tail_of kind ≡ form.Absent → None ≡ two_tests kind [] []
 bare_passes kind e f =
-    sym (ap (λ (rules : List FieldRule). first_failed ((values_fit rules [], Value) ∷ (tail_fits (tail_of (Parameter kind)) [] [], BadTail) ∷ [])) e
+    sym (ap (λ (rules : List FieldRule). first_failed ((values_fit rules [], Value) ∷ (tail_fits (tail_of kind) [] [], BadTail) ∷ [])) e
     ∙ ap (λ (t : Tail). first_failed ((values_fit [] [], Value) ∷ (tail_fits t [] [], BadTail) ∷ [])) f)
+
+-- a message without fields is its header
+pub bare_message : (kind : MsgKind) → fields_of (Message kind) ≡ [] → own_octets (Message kind) [] ≡ 10
+unfolding body_octets
+bare_message kind e =
+    ap (λ (rules : List FieldRule). 10 + (bits_of rules / 8 + count_octets (tail_of (Message kind)) + 0)) e
+    ∙ ap (λ (t : Tail). 10 + (0 + count_octets t + 0)) (message_tail kind)
 
 pub words_fit : (f : Tail) (values tail : List ℕ) → tail_fits f values tail ≡ true → f ≡ form.Words → length tail / 2 ≤ 65535
 words_fit f values tail e is = let p = both _ (nat_le (length tail / 2) 65535) (sym (ap (λ (x : Tail). tail_fits x values tail) is) ∙ e) in leb-true (length tail / 2) 65535 p.1

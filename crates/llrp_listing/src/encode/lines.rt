@@ -318,9 +318,63 @@ fn put_any(
     }
 }
 
+/// Appends the octets of a message that has no fields.
+#[inline(always)]
+fn put_bare_message(
+    room: &mut Vec<u8>,
+    kind: MsgKind,
+    version: u8,
+    id: u32,
+) -> Result<Own, AllocError>
+    requires fields { fields_of (Message kind) ≡ [] }
+    requires said { IsSaid (record {
+      kind = Message kind;
+      numbers = version ∷ id ∷ [];
+      tail = [];
+    }) }
+    ensures { IfOk result (λ own. PutsOwn room.old.items room.new.items own
+        (record { kind = Message kind; numbers = version ∷ id ∷ []; tail = [] })) }
+{
+    let front = message_front(version, kind, id, &[]);
+    append_front(room, &front)?;
+    Ok(Own {
+        fault: None,
+        octets: 10,
+    })
+}
+
 /// Appends the octets of a message's line.
 #[inline(always)]
 pub fn put_message(
+    room: &mut Vec<u8>,
+    kind: MsgKind,
+    version: u8,
+    id: u32,
+    values: &[u128],
+) -> Result<Own, AllocError>
+    requires { IsSaid (record {
+      kind = Message kind;
+      numbers = version ∷ id
+          ∷ values.now;
+      tail = [];
+    }) }
+    ensures { IfOk result (λ own. PutsOwn room.old.items room.new.items own
+        (record { kind = Message kind; numbers = version ∷ id ∷ values.now; tail = [] })) }
+{
+    match values {
+        [] => {
+            if !is_bare(Kind::Message(kind)) {
+                return put_any_message(room, kind, version, id, values);
+            }
+            put_bare_message(room, kind, version, id)
+        }
+        _ => put_any_message(room, kind, version, id, values),
+    }
+}
+
+/// Appends the octets of the line of a message of any kind.
+#[inline(never)]
+fn put_any_message(
     room: &mut Vec<u8>,
     kind: MsgKind,
     version: u8,

@@ -3,7 +3,7 @@ use Rattle.std.specs.Prelude.{is_none}
 use Rattle.llrp_schema.specs.declared.kinds.Kind.TheVariants.{Message}
 use Rattle.llrp_tree.specs.declared.node.NodeFault.{NodeFault}
 use Rattle.llrp_listing.proofs.Putting.{own_message, passed, puts_message, puts_nothing, small_version}
-use Rattle.llrp_listing.proofs.encode.lines.put_message.Goals as goal
+use Rattle.llrp_listing.proofs.encode.lines.put_any_message.Goals as goal
 
 pub append_message-requires-clause-version : goal.append_message-requires-clause-version
 append_message-requires-clause-version c = small_version c.args.kind c.args.version c.args.id c.args.values.now c.requires
