@@ -120,54 +120,20 @@ pub fn param_of_tv(number: u8) -> Option<ParamKind>
     }
 }
 
-/// Whether a parameter has a type and a value alone, and no length.
+/// Whether a parameter has a type and a value alone, and no length. In each set they come first.
 #[inline(always)]
 #[tactic(auto, unfolding(crate::specs::Schema::is_tv, crate::specs::Schema::number_of, crate::specs::Schema::rule_of, crate::specs::Schema::param_rule))]
 pub fn is_tv(kind: ParamKind) -> bool
     ensures { result ≡ is_tv kind }
 {
-    match kind {
-        ParamKind::AntennaId
-        | ParamKind::FirstSeenTimestampUtc
-        | ParamKind::FirstSeenTimestampUptime
-        | ParamKind::LastSeenTimestampUtc
-        | ParamKind::LastSeenTimestampUptime
-        | ParamKind::PeakRssi
-        | ParamKind::ChannelIndex
-        | ParamKind::TagSeenCount
-        | ParamKind::RoSpecId
-        | ParamKind::InventoryParameterSpecId
-        | ParamKind::C1G2Crc
-        | ParamKind::C1G2Pc
-        | ParamKind::Epc96
-        | ParamKind::SpecIndex
-        | ParamKind::AccessSpecId
-        | ParamKind::WholeAntennaId
-        | ParamKind::WholeFirstSeenTimestampUtc
-        | ParamKind::WholeFirstSeenTimestampUptime
-        | ParamKind::WholeLastSeenTimestampUtc
-        | ParamKind::WholeLastSeenTimestampUptime
-        | ParamKind::WholePeakRssi
-        | ParamKind::WholeChannelIndex
-        | ParamKind::WholeTagSeenCount
-        | ParamKind::WholeRoSpecId
-        | ParamKind::WholeInventoryParameterSpecId
-        | ParamKind::WholeC1G2Crc
-        | ParamKind::WholeC1G2Pc
-        | ParamKind::WholeEpc96
-        | ParamKind::WholeSpecIndex
-        | ParamKind::WholeClientRequestOpSpecResult
-        | ParamKind::WholeAccessSpecId
-        | ParamKind::WholeOpSpecID
-        | ParamKind::WholeC1G2SingulationDetails
-        | ParamKind::WholeC1g2xpcw1
-        | ParamKind::WholeC1g2xpcw2 => true,
+    match kind as usize {
+        0..=14 | 54..=73 => true,
         _ => false,
     }
 }
 
 /// The kind of the whole standard with this number.
-#[inline(always)]
+#[inline(never)]
 #[tactic(auto, unfolding(crate::specs::Schema::message_in, crate::specs::Schema::whole_message_kinds, crate::specs::Schema::is_tv, crate::specs::Schema::number_of, crate::specs::Schema::rule_of, crate::specs::Schema::message_rule))]
 fn whole_msg_of(number: u16) -> Option<MsgKind>
     ensures { result ≡ message_in Whole number }
@@ -235,7 +201,7 @@ pub fn msg_of_in(profile: Profile, number: u16) -> Option<MsgKind>
 }
 
 /// The parameter of the whole standard with this number.
-#[inline(always)]
+#[inline(never)]
 #[tactic(auto, unfolding(crate::specs::Schema::tlv_in, crate::specs::Schema::whole_param_kinds, crate::specs::Schema::is_tv, crate::specs::Schema::number_of, crate::specs::Schema::rule_of, crate::specs::Schema::param_rule))]
 fn whole_param_of_tlv(number: u16) -> Option<ParamKind>
     ensures { result ≡ tlv_in Whole number }
@@ -370,7 +336,7 @@ pub fn param_of_tlv_in(profile: Profile, number: u16) -> Option<ParamKind>
 }
 
 /// The kind of the whole standard with this number.
-#[inline(always)]
+#[inline(never)]
 #[tactic(auto, unfolding(crate::specs::Schema::tv_in, crate::specs::Schema::whole_param_kinds, crate::specs::Schema::is_tv, crate::specs::Schema::number_of, crate::specs::Schema::rule_of, crate::specs::Schema::param_rule))]
 fn whole_param_of_tv(number: u8) -> Option<ParamKind>
     ensures { result ≡ tv_in Whole number }

@@ -88,7 +88,7 @@ fn message_bits(kind: MsgKind) -> u32
         | MsgKind::ReaderEventNotification
         | MsgKind::ErrorMessage => 0b1,
         _ if (kind as usize) < 25 => 0,
-        _ => least_bits_among(groups(Kind::Message(kind))),
+        _ => bits_in_row(Kind::Message(kind)),
     }
 }
 
@@ -105,8 +105,16 @@ fn parameter_bits(kind: ParamKind) -> u32
         | ParamKind::ReaderEventNotificationSpec
         | ParamKind::ReaderEventNotificationData => 0b1,
         _ if (kind as usize) < 54 => 0,
-        _ => least_bits_among(groups(Kind::Parameter(kind))),
+        _ => bits_in_row(Kind::Parameter(kind)),
     }
+}
+
+/// The least numbers of the groups in a kind's row, each as a bit.
+#[inline(never)]
+fn bits_in_row(kind: Kind) -> u32
+    ensures { result ≡ least_bits (groups_of kind) }
+{
+    least_bits_among(groups(kind))
 }
 
 /// The least numbers of some groups, each as a bit.
@@ -131,6 +139,14 @@ fn first_place(parent: Kind, child: ParamKind) -> Option<Place>
         Kind::Message(kind) => in_message(kind, child),
         Kind::Parameter(kind) => in_parameter(kind, child),
     }
+}
+
+/// The place of a child among the groups in its parent's row.
+#[inline(never)]
+fn place_in_row(parent: Kind, child: ParamKind) -> Option<Place>
+    ensures { result ≡ first_place (groups_of parent) child }
+{
+    place_among(groups(parent), child)
 }
 
 /// The place of a child among some groups: that of the first group that has its kind.
@@ -194,7 +210,7 @@ fn in_message(parent: MsgKind, child: ParamKind) -> Option<Place>
         | MsgKind::EnableRoSpecResponse
         | MsgKind::DisableRoSpecResponse
         | MsgKind::ErrorMessage => in_response(child),
-        _ => place_among(groups(Kind::Message(parent)), child),
+        _ => place_in_row(Kind::Message(parent), child),
     }
 }
 
@@ -222,7 +238,7 @@ fn in_parameter(parent: ParamKind, child: ParamKind) -> Option<Place>
         ParamKind::LlrpStatus => in_llrp_status(child),
         ParamKind::ParameterError => in_parameter_error(child),
         ParamKind::C1G2InventoryCommand => in_c1g2_inventory_command(child),
-        _ => place_among(groups(Kind::Parameter(parent)), child),
+        _ => place_in_row(Kind::Parameter(parent), child),
     }
 }
 
