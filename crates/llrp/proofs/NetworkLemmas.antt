@@ -1,7 +1,8 @@
 -- What runs over sockets say of devices as new.
 use Rattle.std.proofs.Common.{◌≡◌, List, ℕ, None, refl, inr}
 use Rattle.std.specs.Prelude.{Result}
-use Rattle.llrp_stream.specs.Device.{SourceLog, SinkLog, new_sink, new_source}
+use Rattle.llrp_stream.specs.Device.{SourceLog, SinkLog}
+use Rattle.llrp_stream.specs.Calls.Device.{new_sink, new_source}
 use Rattle.llrp_session.specs.ReaderMachine.{Reader, new_reader}
 use Rattle.llrp_listing.specs.declared.fault.ToolErr.{ToolErr}
 use Rattle.llrp_endpoints.specs.declared.script.Entry.{Entry}
@@ -12,7 +13,7 @@ use Rattle.llrp_endpoints.specs.RunLoop.{RunsLoop, Traffic, Way}
 use Rattle.llrp_endpoints.specs.RunServe.{RunsServe}
 use Rattle.llrp_commands.specs.declared.command.TheConstants.{LIMIT}
 use Rattle.llrp.specs.declared.network.TheConstants.{FIRST_ID}
-use Rattle.llrp.specs.Network.{FollowsPlan, RunsBoth, Serves, unnumbered}
+use Rattle.llrp.specs.Calls.Network.{FollowsPlan, RunsBoth, Serves, unnumbered}
 
 pub serves : (entries : List Entry) (core : Reader) (r0 r1 : SourceLog) (w0 w1 : SinkLog) (bytes : List ℕ) (outcome : Result (Unit {0}) ToolErr) → core ≡ new_reader LIMIT FIRST_ID → r0 ≡ new_source None → w0 ≡ new_sink None
     → RunsServe core entries r0 r1 w0 w1 bytes outcome → Serves entries outcome

@@ -1,7 +1,7 @@
 //! Ends a run whose memory ran out before its command was known.
 
 ghost use Rattle.std.specs.Prelude.{◌<◌, ◌^◌};
-ghost use Rattle.llrp.specs.Ending.{EndsWithoutMemory};
+ghost use Rattle.llrp.specs.Calls.Ending.{EndsWithoutMemory};
 
 use crate::network::FAILED;
 use llrp_tool::{Sink, ToolErr, answer};

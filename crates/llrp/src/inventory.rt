@@ -1,7 +1,7 @@
 //! The command `inventory`: follows a plan with a reader over TCP.
 
 ghost use Rattle.std.specs.Prelude.{◌<◌, ◌^◌};
-ghost use Rattle.llrp.specs.Network.{FollowsPlan, RunsPlan};
+ghost use Rattle.llrp.specs.Calls.Network.{FollowsPlan, RunsPlan};
 
 use crate::network::{conclude, plan_of};
 use crate::progress::Progress;

@@ -3,7 +3,7 @@
 
 ghost use Rattle.std.specs.Prelude.{◌<◌, ◌^◌};
 ghost use Rattle.llrp_stream.specs.Device.{IsFreshSource};
-ghost use Rattle.llrp.specs.Network.{MayRunBoth, RunsBoth, RunsBothEnds};
+ghost use Rattle.llrp.specs.Calls.Network.{MayRunBoth, RunsBoth, RunsBothEnds};
 
 use crate::network::{FIRST_ID, conclude, plan_of, read_script};
 use crate::progress::Progress;

@@ -3,7 +3,7 @@
 ghost use Rattle.std.specs.Prelude.{◌≡◌, ◌+◌, ◌<◌, ◌^◌, IfErr, IfOk};
 ghost use Rattle.llrp_listing.specs.declared.fault.ToolErr.TheVariants.{Memory};
 ghost use Rattle.llrp_stream.specs.Device.{IsFreshSource};
-ghost use Rattle.llrp.specs.Network.{Concludes, ReadsScript};
+ghost use Rattle.llrp.specs.Calls.Network.{Concludes, ReadsScript};
 
 use llrp_tool::{
     Plan, Script, Sink, Source, ToolErr, answer, checked_plan, read_all, standard_plan, write_all,

@@ -2,7 +2,7 @@
 
 ghost use Rattle.std.specs.Prelude.{◌<◌, ◌^◌};
 ghost use Rattle.llrp_stream.specs.Device.{IsFreshSource};
-ghost use Rattle.llrp.specs.Network.{MayServe, RunsSim};
+ghost use Rattle.llrp.specs.Calls.Network.{MayServe, RunsSim};
 
 use crate::network::{FIRST_ID, conclude, read_script};
 use llrp_session::Reader;

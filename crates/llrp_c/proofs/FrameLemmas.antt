@@ -17,9 +17,9 @@ use Rattle.llrp_listing.specs.StreamListing.{IsStreamListing, is_lawful}
 use Rattle.llrp_c.specs.declared.frames.Next.{Next}
 use Rattle.llrp_c.specs.declared.frames.Next.TheVariants.{Whole}
 use Rattle.llrp_c.specs.declared.status.Status.{Status}
-use Rattle.llrp_c.specs.Frames.{AreFrames, BeginsWith, IsLeft}
+use Rattle.llrp_c.specs.Private.Frames.{AreFrames, BeginsWith, IsLeft}
 use Rattle.llrp_c.specs.Listings.{IsListing, lawful_status}
-use Rattle.llrp_c.specs.Parts.{HasListing, listed_status}
+use Rattle.llrp_c.specs.Private.Parts.{HasListing, listed_status}
 
 -- a length field and as many octets are a frame
 pub whole_frame : (octets : ℕ) (stream : List ℕ) → 10 ≤ octets → octets ≡ length_field stream → octets ≤ length stream → IsFrame (take octets stream)

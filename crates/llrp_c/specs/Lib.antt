@@ -1,5 +1,4 @@
-pub mod Frames
 pub mod Listings
-pub mod Parts
 pub mod Status
 pub mod Tags
+pub mod Private

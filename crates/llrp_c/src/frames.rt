@@ -3,7 +3,7 @@
 ghost use Rattle.std.specs.Prelude.{◌≡◌, ◌<◌, ◌≤◌, drop, length};
 ghost use Rattle.llrp_stream.specs.Cuts.{Breaks, length_field};
 ghost use Rattle.llrp_c.specs.declared.status.Status.TheVariants.{Broken, Done};
-ghost use Rattle.llrp_c.specs.Frames.{AreFrames, BeginsWith, IsLeft};
+ghost use Rattle.llrp_c.specs.Private.Frames.{AreFrames, BeginsWith, IsLeft};
 ghost use Rattle.llrp_c.specs.Status.{code_of};
 
 use crate::status::Status;

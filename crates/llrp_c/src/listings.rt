@@ -3,7 +3,7 @@
 ghost use Rattle.std.specs.Prelude.{◌≡◌, ◌≤◌, if◌then◌else◌, length, IfSome, MatchResult};
 ghost use Rattle.llrp_tree.specs.declared.TheConstants.{MAX_LIMIT};
 ghost use Rattle.llrp_listing.specs.Encoding.{Encodes};
-ghost use Rattle.llrp_c.specs.Parts.{EncodeFails, HasListing, Stops, listed_status};
+ghost use Rattle.llrp_c.specs.Private.Parts.{EncodeFails, HasListing, Stops, listed_status};
 ghost use Rattle.llrp_c.specs.Listings.{IsListing, Lists, WritesOctets};
 
 use crate::frames::{Frames, whole_frames};

@@ -1,7 +1,7 @@
 //! A source over octets in memory.
 
 ghost use Rattle.std.specs.Prelude.{◌≡◌, Some};
-ghost use Rattle.llrp_stream.specs.Device.{new_source};
+ghost use Rattle.llrp_stream.specs.Calls.Device.{new_source};
 
 use llrp_stream::Source;
 use std::io;

@@ -5,8 +5,9 @@ use Rattle.std.proofs.lemmas.List.{drop_more, take-append-drop}
 use Rattle.std.proofs.lemmas.List.Concat.{flat_map-append}
 use Rattle.llrp_listing.specs.declared.fault.ToolErr.{ToolErr}
 use Rattle.llrp_listing.specs.declared.fault.ToolErr.TheVariants.{Listing, Script, Hex, Read, Write, Bound, Memory, Broken, Peer, Strange, Early}
-use Rattle.llrp_commands.specs.Command.{NotEncoded, memory_error}
-use Rattle.llrp_listing.specs.Copying.{Writes}
+use Rattle.llrp_commands.specs.Calls.Command.{NotEncoded}
+use Rattle.llrp_commands.specs.Private.Command.{memory_error}
+use Rattle.llrp_listing.specs.Calls.Copying.{Writes}
 use Rattle.llrp_stream.specs.Device.{SourceLog, SinkLog, Wrote}
 use Rattle.llrp_listing.specs.Encoding.{EncodeStopped}
 use Rattle.llrp_listing.proofs.DeviceLemmas.{wrote_then_failed}

@@ -11,8 +11,9 @@ use Rattle.clap.specs.Values.{IsSignedIn}
 use Rattle.clap.specs.Words.{Row, Text, without_minus}
 use Rattle.clap.proofs.CallerReads.{signed_reads}
 use Rattle.llrp_tree.specs.declared.TheConstants.{MAX_LIMIT}
-use Rattle.llrp_commands.specs.Parse.{HasFlagWord, HasNumberIn, HasStreamWords, HasWord, IsFound, IsNetworkParse, IsParse}
-use Rattle.llrp_commands.specs.Words.{IsFlag, HasFlag, HasNumber, hex_in, name_in, word_in}
+use Rattle.llrp_commands.specs.Private.Parse.{HasFlagWord, HasNumberIn, HasStreamWords, HasWord, IsFound, IsNetworkParse, IsParse}
+use Rattle.llrp_commands.specs.Calls.Words.{IsFlag, HasNumber, hex_in, name_in, word_in}
+use Rattle.llrp_commands.specs.Private.Words.{HasFlag}
 
 -- two texts that a test distinguishes
 pub differs : (a b : Text) → bytes_eq a b ≡ false → a ≡ b → ⊥

@@ -20,8 +20,8 @@ use Rattle.clap.specs.Walk.{subcommand_met, subcommand_or_other, word_met, to_po
 use Rattle.clap.specs.Walk.{one_of, row_text, plain_word, after_flag, long_or_other, short_or_plain}
 use Rattle.clap.proofs.ValueTestLemmas.{accepts-Accepts}
 use Rattle.llrp_tree.specs.declared.TheConstants.{MAX_LIMIT}
-use Rattle.llrp_commands.specs.Parse.{HasFlagWord, HasLimitWord, HasNumberWord, HasStreamWords, HasWord, IsFound, IsParse, MayHaveNumberWord}
-use Rattle.llrp_commands.specs.Words.{command_in, stream_app, hex_rule, limit_rule, check_rule, host_rule, inventory_app, llrp_app, loop_app, number_rule, port_app, port_rule, text_app, text_rule, top_app, timeout_rule}
+use Rattle.llrp_commands.specs.Private.Parse.{HasFlagWord, HasLimitWord, HasNumberWord, HasStreamWords, HasWord, IsFound, IsParse, MayHaveNumberWord}
+use Rattle.llrp_commands.specs.Calls.Words.{command_in, stream_app, hex_rule, limit_rule, check_rule, host_rule, inventory_app, llrp_app, loop_app, number_rule, port_app, port_rule, text_app, text_rule, top_app, timeout_rule}
 use Rattle.llrp_commands.proofs.ReadRows.{AllFound, AllUsesPass, HasRead, IsAmong, LevelPasses, both, subcommand_there, flag_passes, has_read, help_passes, level_passes, set_passes, uses_pass}
 
 -- ---- a walk without a fault does not stop at help

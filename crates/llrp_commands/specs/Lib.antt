@@ -1,3 +1,2 @@
-pub mod Command
-pub mod Parse
-pub mod Words
+pub mod Calls
+pub mod Private

@@ -4,10 +4,11 @@
 ghost use Rattle.std.specs.Prelude.{◌+◌, ◌<◌, ◌≤◌, ◌^◌, ◌≡◌, Bool, IfErr, IfOk, List, MatchResult, codes, map, string_bytes, ℕ};
 ghost use Rattle.std.specs.List.{flat_map};
 ghost use Rattle.llrp_tree.specs.declared.TheConstants.{MAX_LIMIT};
-ghost use Rattle.llrp_commands.specs.Command.{Answers, DoesEncode, DoesShow, EncodesDigits, FailsAsTold, Gathers, LeftAlone, RanEncode, RanEpc, RanShow, ShowsDigits, digit_line, error_line, error_status, fine_status, memory_error, status_of, verdict_status};
-ghost use Rattle.llrp_listing.specs.Copying.{Writes};
+ghost use Rattle.llrp_commands.specs.Calls.Command.{Answers, DoesEncode, DoesShow, EncodesDigits, FailsAsTold, LeftAlone, RanEncode, RanEpc, RanShow, ShowsDigits, digit_line, error_line, error_status, fine_status, status_of, verdict_status};
+ghost use Rattle.llrp_commands.specs.Private.Command.{Gathers, memory_error};
+ghost use Rattle.llrp_listing.specs.Calls.Copying.{Writes};
 ghost use Rattle.llrp_stream.specs.Device.{IsFreshSource};
-ghost use Rattle.llrp_commands.specs.Words.{Asks, AsksElsewhere, AsksEpc};
+ghost use Rattle.llrp_commands.specs.Calls.Words.{Asks, AsksElsewhere, AsksEpc};
 
 use crate::words::{Request, request_of};
 use itoa::Buffer;

@@ -1,7 +1,7 @@
 //! Laws of how the words are parsed.
 
 ghost use Rattle.std.specs.Prelude.{Bool, List, Some, codes, true, ◌≡◌, ℕ};
-ghost use Rattle.llrp_commands.specs.Words.{Asks, AsksEpc, command_in, name_in, parses};
+ghost use Rattle.llrp_commands.specs.Calls.Words.{Asks, AsksEpc, command_in, name_in, parses};
 
 /// If the words are parsed and name epc, its text is there.
 pub fn epc_has_text()

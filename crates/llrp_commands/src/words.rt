@@ -3,8 +3,9 @@
 ghost use Rattle.std.specs.Prelude.{◌≡◌, ◌↔◌, IfOk, IfSome, IsTrue, List, Some, codes, false, map, true, ℕ};
 ghost use Rattle.clap.specs.Words.{App, app_of, found_of, rows_of, rule_of, subcommand_rows_of, with_rule, with_subcommand};
 ghost use Rattle.clap.specs.declared.builder.command.Command.TheViews.{out-Command};
-ghost use Rattle.llrp_commands.specs.Parse.{HasLimitWord, HasNumberWord, IsFound, IsNetworkParse, IsParse, IsText, MayHaveNumberWord};
-ghost use Rattle.llrp_commands.specs.Words.{AsksForInput, HasLimit, HasNumber, HasOptionalNumber, IsLimit, IsNetwork, IsRequest, NetworkAsked, check_rule, command_in, hex_app, inventory_app, limit_rule, llrp_app, loop_app, number_rule, parses, port_app, port_rule, stream_app, streams_app, text_app, timeout_rule, top_app, with_address, with_plan};
+ghost use Rattle.llrp_commands.specs.Private.Parse.{HasLimitWord, HasNumberWord, IsFound, IsNetworkParse, IsParse, IsText, MayHaveNumberWord};
+ghost use Rattle.llrp_commands.specs.Calls.Words.{AsksForInput, HasNumber, HasOptionalNumber, IsNetwork, NetworkAsked, check_rule, command_in, hex_app, inventory_app, limit_rule, llrp_app, loop_app, number_rule, parses, port_app, port_rule, stream_app, streams_app, text_app, timeout_rule, top_app, with_address, with_plan};
+ghost use Rattle.llrp_commands.specs.Private.Words.{HasLimit, IsLimit, IsRequest};
 
 mod help;
 

@@ -14,10 +14,11 @@ use Rattle.llrp_session.specs.declared.words.Command.TheVariants.{Add, Start, St
 use Rattle.llrp_session.specs.ReaderMachine.{next, serve, end, configured, see, tick}
 use Rattle.llrp_session.specs.ClientMachine.{take, command}
 use Rattle.llrp_session.specs.Sightings.{tags_of}
-use Rattle.llrp_session.specs.World.{World, WorldEvent, Connects, Commands, DeliversUp, DeliversDown, Sees, Ticks, run, happens}
-use Rattle.llrp_session.specs.Agreement.{OneActive, ReportsArrive, ViewIsTable}
+use Rattle.llrp_session.specs.Calls.World.{World, run, happens}
+use Rattle.llrp_session.specs.World.{WorldEvent, Connects, Commands, DeliversUp, DeliversDown, Sees, Ticks}
+use Rattle.llrp_session.specs.Calls.Agreement.{OneActive, ReportsArrive, ViewIsTable}
 use Rattle.llrp_session.proofs.Examples.{node, rospec, immediate_rospec, reporting_rospec, sighting_of, first_sighting}
-use Rattle.llrp_counterexamples.specs.WrongMachines.{AfterAllBy, right, happens_by, run_by, moves_on_failure, hands_out_first, tells_end_last, starts_beside}
+use Rattle.llrp_counterexamples.specs.Calls.WrongMachines.{AfterAllBy, right, happens_by, run_by, moves_on_failure, hands_out_first, tells_end_last, starts_beside}
 
 -- ---- the same world
 

@@ -1,9 +1,10 @@
 //! With one mistake in the reader or in the client, some list of events leads to two ends that do not agree.
 
 ghost use Rattle.std.specs.Prelude.{◌≡◌, List};
-ghost use Rattle.llrp_session.specs.World.{World, WorldEvent, run};
-ghost use Rattle.llrp_session.specs.Agreement.{OneActive, ReportsArrive, ViewIsTable};
-ghost use Rattle.llrp_counterexamples.specs.WrongMachines.{AfterAllBy, hands_out_first, moves_on_failure, right, run_by, starts_beside, tells_end_last};
+ghost use Rattle.llrp_session.specs.Calls.World.{World, run};
+ghost use Rattle.llrp_session.specs.World.{WorldEvent};
+ghost use Rattle.llrp_session.specs.Calls.Agreement.{OneActive, ReportsArrive, ViewIsTable};
+ghost use Rattle.llrp_counterexamples.specs.Calls.WrongMachines.{AfterAllBy, hands_out_first, moves_on_failure, right, run_by, starts_beside, tells_end_last};
 
 /// With the machines without a mistake it is the world of `ends_agree_whole`.
 pub fn same_world()

@@ -21,7 +21,7 @@ struct Started {
 }
 
 impl Model for Started {
-    ghost use Rattle.llrp_endpoints.specs.ServingStands.{HasStarted};
+    ghost use Rattle.llrp_endpoints.specs.Calls.ServingStands.{HasStarted};
 
     ghost Value = { Unit {0} };
 

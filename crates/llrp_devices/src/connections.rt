@@ -2,7 +2,7 @@
 //! for (LLRP 1.1, section 17.1).
 
 ghost use Rattle.std.specs.Prelude.{◌≡◌, [], None, Some};
-ghost use Rattle.llrp_stream.specs.Device.{new_sink, new_source};
+ghost use Rattle.llrp_stream.specs.Calls.Device.{new_sink, new_source};
 
 use crate::tally::{Tally, is_front};
 use llrp_session::Reader;

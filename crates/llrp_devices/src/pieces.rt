@@ -1,6 +1,6 @@
 //! The two ends of a connection, each of which is handed the other's bytes in pieces.
 
-ghost use Rattle.llrp_endpoints.specs.ServingStands.{HasStarted};
+ghost use Rattle.llrp_endpoints.specs.Calls.ServingStands.{HasStarted};
 
 use crate::tally::Tally;
 use llrp_session::Reader;

@@ -11,7 +11,8 @@ use Rattle.llrp_session.specs.ClientMachine.{Sending, Taking, command, take as c
 use Rattle.llrp_session.specs.Reading.{heard_of, request_of}
 use Rattle.llrp_session.specs.Sightings.{kept_by}
 use Rattle.llrp_session.specs.World.{WorldEvent, Connects, Commands, DeliversUp, DeliversDown, Sees, Ticks, listed_by, tags_handed_out, tables_shown, tables_differing}
-use Rattle.llrp_session.specs.MessageWorld.{MessageWorld, tags_in_messages, stepped, reader_does, commanded, took, message_happens, run_messages, IsGiven, AreGiven, AreSendable}
+use Rattle.llrp_session.specs.MessageWorld.{MessageWorld, tags_in_messages, stepped, reader_does, commanded, took, message_happens, run_messages, IsGiven, AreGiven}
+use Rattle.llrp_session.specs.Calls.MessageWorld.{AreSendable}
 use Rattle.llrp_endpoints.specs.Sending.{AreFrames}
 use Rattle.llrp_endpoints.specs.ByteWorld.{Way, ByteWorld, Happens, ReadsUp, ReadsDown, Reads, Sends, Steps, apart, reader_hears, client_hears}
 use Rattle.llrp_endpoints.specs.EndsAgree.{AreOnTheWay, IsInBytes}

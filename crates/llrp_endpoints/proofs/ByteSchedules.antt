@@ -12,16 +12,17 @@ use Rattle.llrp_tree.proofs.LengthLemmas.{length-message_digits}
 use Rattle.llrp_tree.proofs.ReadDigits.{length-octets_at, are_octets_at, octets_spelled}
 use Rattle.llrp_stream.specs.Cuts.{IsPartial}
 use Rattle.llrp_session.specs.Refusal.{Refusal}
-use Rattle.llrp_session.specs.Agreement.{IsTaken}
+use Rattle.llrp_session.specs.MessageAgreement.{IsTaken}
 use Rattle.llrp_session.specs.MessageAgreement.{MessagesAreTaken, IsOnTheWay, ReaderHasHistory, OneActive, NoneDiffers}
 use Rattle.llrp_session.specs.ClientMachine.{Client, Taking, take as client_takes}
 use Rattle.llrp_session.specs.ReaderMachine.{Reader}
 use Rattle.llrp_session.specs.ClientMessages.{client_message}
 use Rattle.llrp_session.specs.Reading.{heard_of}
 use Rattle.llrp_session.specs.Table.{states}
-use Rattle.llrp_session.specs.LawfulWords.{IsSendable}
+use Rattle.llrp_session.specs.Calls.LawfulWords.{IsSendable}
 use Rattle.llrp_session.specs.World.{WorldEvent, tags_handed_out, tables_shown, tables_differing}
-use Rattle.llrp_session.specs.MessageWorld.{MessageWorld, tags_in_messages, tables_in_messages, took, message_happens, run_messages, message_opening, AreGiven, AreSendable}
+use Rattle.llrp_session.specs.MessageWorld.{MessageWorld, tags_in_messages, tables_in_messages, took, message_happens, run_messages, message_opening, AreGiven}
+use Rattle.llrp_session.specs.Calls.MessageWorld.{AreSendable}
 use Rattle.llrp_session.proofs.SendableWorlds.{given_events, sent_up, sent_down}
 use Rattle.llrp_session.proofs.MessagesAgree as messages
 use Rattle.llrp_endpoints.specs.Sending.{AreFrames}

@@ -6,10 +6,11 @@ use Rattle.llrp_listing.specs.declared.fault.ToolErr.{ToolErr}
 use Rattle.llrp_listing.specs.declared.fault.ToolErr.TheVariants.{Listing, Script, Hex, Read, Write, Bound, Broken, Memory, Peer, Strange, Early}
 use Rattle.llrp_endpoints.specs.declared.gathering.Gathering.{Gathering}
 use Rattle.llrp_endpoints.specs.declared.gathering.Phase.TheVariants.{Open, Closed}
-use Rattle.llrp_listing.specs.Copying.{Writes, WasGiven}
-use Rattle.llrp_endpoints.specs.EndsStand.{spoken, heard, ReadsNone, Given, ClientStands, ClientStops}
+use Rattle.llrp_listing.specs.Calls.Copying.{Writes}
+use Rattle.llrp_listing.specs.Copying.{WasGiven}
+use Rattle.llrp_endpoints.specs.Private.EndsStand.{spoken, heard, ReadsNone, Given, ClientStands, ClientStops}
 use Rattle.llrp_endpoints.specs.Gathering.{Course}
-use Rattle.llrp_endpoints.specs.GatheringStands.{IsOpen, Counts, Moves, MovesSome, Feeds, phase_left}
+use Rattle.llrp_endpoints.specs.Calls.GatheringStands.{IsOpen, Counts, Moves, MovesSome, Feeds, phase_left}
 use Rattle.llrp_endpoints.specs.Plan.{Plan}
 use Rattle.llrp_endpoints.specs.RunInventory.{Says, Ended, BeginsSaying}
 use Rattle.llrp_endpoints.specs.RunLoop.{Ends, Traffic, SaidAll, ClientAwaits}

@@ -15,7 +15,7 @@ use Rattle.llrp_stream.proofs.FrontLemmas.{length_field-append}
 use Rattle.llrp_stream.proofs.ItemLemmas.{below_or_not}
 use Rattle.llrp_stream.proofs.PrefixLemmas.{cut, partial, end_of, ends}
 use Rattle.llrp_stream.proofs.Unique.{one_cut, same_items}
-use Rattle.llrp_session.specs.MessageWorld.{AreSendable}
+use Rattle.llrp_session.specs.Calls.MessageWorld.{AreSendable}
 use Rattle.llrp_listing.specs.PrintingLaws.{AreSpellings}
 use Rattle.llrp_listing.proofs.PrintsBack as spellings
 use Rattle.llrp_endpoints.specs.Sending.{AreFrames}

@@ -6,7 +6,8 @@ use Rattle.std.proofs.lemmas.List.{append-nil, take-append-drop}
 use Rattle.llrp_tree.specs.Tree.{Tree}
 use Rattle.llrp_stream.specs.declared.item.Item.{Item}
 use Rattle.llrp_stream.specs.Cuts.{Breaks}
-use Rattle.llrp_stream.specs.Decoding.{DecoderState, Stands}
+use Rattle.llrp_stream.specs.Decoding.{DecoderState}
+use Rattle.llrp_stream.specs.Calls.Decoding.{Stands}
 use Rattle.llrp_stream.specs.declared.item.FeedErr.{FeedErr}
 use Rattle.llrp_stream.specs.declared.item.FeedErr.TheVariants as decoder
 use Rattle.llrp_stream.specs.Feeding.{Takes, Feeds as decoder_feeds}
@@ -18,8 +19,9 @@ use Rattle.llrp_endpoints.specs.declared.gathering.Gathering.{Gathering}
 use Rattle.llrp_endpoints.specs.declared.gathering.Phase.{Phase}
 use Rattle.llrp_endpoints.specs.Plan.{Plan}
 use Rattle.llrp_endpoints.specs.Gathering.{Course, begun, after_item, goes, follow, Gathers}
-use Rattle.llrp_listing.specs.Fault.{error_by}
-use Rattle.llrp_endpoints.specs.GatheringStands.{Holds, StandsFor, Stops, Does, Fails, Feeds}
+use Rattle.llrp_listing.specs.Calls.Fault.{error_by}
+use Rattle.llrp_endpoints.specs.Calls.GatheringStands.{Holds, StandsFor, Stops, Fails, Feeds}
+use Rattle.llrp_endpoints.specs.Private.GatheringStands.{Does}
 use Rattle.llrp_endpoints.proofs.GatheringLemmas.{open_text, some_all, still, moves_on, stops_after}
 
 -- ---- items

@@ -7,7 +7,7 @@ use Rattle.llrp_tree.specs.Tree.{Tree, MessageTree}
 use Rattle.llrp_session.specs.declared.words.Command.{Command}
 use Rattle.llrp_session.specs.declared.client.refusal.CmdFault.{CmdFault}
 use Rattle.llrp_session.specs.declared.client.refusal.CmdFault.TheVariants as cmd
-use Rattle.llrp_session.specs.ClientSteps.{IsCmdFault}
+use Rattle.llrp_session.specs.Calls.ClientSteps.{IsCmdFault}
 use Rattle.llrp_session.specs.ClientMachine.{Client, Sending, command}
 use Rattle.llrp_session.specs.ClientMessages.{client_message}
 use Rattle.llrp_session.specs.Refusal.{Refusal}
@@ -18,10 +18,13 @@ use Rattle.llrp_endpoints.specs.declared.gathering.Gathering.{Gathering}
 use Rattle.llrp_endpoints.specs.declared.gathering.left.Left.{Left}
 use Rattle.llrp_endpoints.specs.declared.gathering.Phase.{Phase}
 use Rattle.llrp_endpoints.specs.declared.gathering.Phase.TheVariants.{Open, Failed}
-use Rattle.llrp_endpoints.specs.Sending.{Adds, AddsSome}
+use Rattle.llrp_endpoints.specs.Sending.{Adds}
+use Rattle.llrp_endpoints.specs.Calls.Sending.{AddsSome}
 use Rattle.llrp_endpoints.specs.TagLines.{AreReports, AreReportLines}
 use Rattle.llrp_endpoints.specs.Gathering.{Course, ends, awaited_after, sends_by, sends, goes_on}
-use Rattle.llrp_endpoints.specs.GatheringStands.{commands_left, Holds, closing_text, Moves, MovesSome, Stops, Does, error_by_command}
+use Rattle.llrp_endpoints.specs.Calls.GatheringStands.{commands_left, Holds, Moves, MovesSome, Stops}
+use Rattle.llrp_endpoints.specs.Gathering.{closing_text}
+use Rattle.llrp_endpoints.specs.Private.GatheringStands.{Does, error_by_command}
 use Rattle.llrp_endpoints.proofs.SendingLemmas.{adds_none, adds_more}
 use Rattle.llrp_listing.proofs.Zips.{zip_append}
 

@@ -11,7 +11,7 @@ use Rattle.llrp_session.specs.declared.words.Taken.{Taken}
 use Rattle.llrp_session.specs.declared.words.Taken.TheVariants.{Connected, Refused, Reply, Tags, Table, Differs, Event, Note, Kept, Closed as ConnectionEnded}
 use Rattle.llrp_session.specs.declared.client.refusal.TakeFault.{TakeFault}
 use Rattle.llrp_session.specs.declared.client.refusal.TakeFault.TheVariants as tf
-use Rattle.llrp_session.specs.ClientSteps.{IsTakeFault}
+use Rattle.llrp_session.specs.Calls.ClientSteps.{IsTakeFault}
 use Rattle.llrp_session.specs.ClientMachine.{Sending, Taking, command}
 use Rattle.llrp_session.specs.ClientMessages.{client_message}
 use Rattle.llrp_session.specs.Refusal.{Refusal}
@@ -24,10 +24,13 @@ use Rattle.llrp_endpoints.specs.declared.gathering.Gathering.{Gathering}
 use Rattle.llrp_endpoints.specs.declared.summary.Summary.{Summary}
 use Rattle.llrp_endpoints.specs.declared.gathering.Phase.{Phase}
 use Rattle.llrp_endpoints.specs.declared.gathering.Phase.TheVariants.{Open, Closed, Failed}
-use Rattle.llrp_endpoints.specs.Sending.{Adds, AddsSome}
+use Rattle.llrp_endpoints.specs.Sending.{Adds}
+use Rattle.llrp_endpoints.specs.Calls.Sending.{AddsSome}
 use Rattle.llrp_endpoints.specs.TagLines.{AreReportLines, tags_in, tag_count, report_count, greatest_count, total_line}
 use Rattle.llrp_endpoints.specs.Gathering.{Course, ends, ended, sends_by, sends, goes_on, reported, after, after_taking, after_bad}
-use Rattle.llrp_endpoints.specs.GatheringStands.{Holds, closing_text, Moves, MovesSome, Does, error_by_message}
+use Rattle.llrp_endpoints.specs.Calls.GatheringStands.{Holds, Moves, MovesSome}
+use Rattle.llrp_endpoints.specs.Gathering.{closing_text}
+use Rattle.llrp_endpoints.specs.Private.GatheringStands.{Does, error_by_message}
 use Rattle.llrp_endpoints.proofs.SendingLemmas.{adds_none}
 use Rattle.llrp_endpoints.proofs.GatheringLemmas.{reports_none, reports_one, open_text, still, none_moved, does_after}
 

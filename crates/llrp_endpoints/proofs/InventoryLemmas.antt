@@ -2,7 +2,8 @@
 use Rattle.std.proofs.Common.{◌≡◌, ℕ, ◌+◌, ◌<◌, Bool, true, false, List, [], ◌++◌, length, map, Result, Ok, Err, refl, sym, ap, subst, ◌∙◌, append_assoc, inl, inr, arith}
 use Rattle.std.proofs.lemmas.List.{append-nil, map-append}
 use Rattle.llrp_tree.specs.Tree.{Tree, MessageTree}
-use Rattle.llrp_stream.specs.Device.{SourceLog, SinkLog, Took, Gave, Wrote}
+use Rattle.llrp_stream.specs.Device.{SourceLog, SinkLog, Gave, Wrote}
+use Rattle.llrp_stream.specs.Calls.Device.{Took}
 use Rattle.llrp_session.specs.Words.{ClientMessage}
 use Rattle.llrp_session.specs.ClientMessages.{client_message}
 use Rattle.llrp_listing.specs.declared.fault.ToolErr.{ToolErr}
@@ -10,9 +11,11 @@ use Rattle.llrp_listing.specs.declared.fault.ToolErr.TheVariants.{Listing, Scrip
 use Rattle.llrp_endpoints.specs.declared.gathering.Gathering.{Gathering}
 use Rattle.llrp_endpoints.specs.declared.gathering.Phase.TheVariants.{Open}
 use Rattle.llrp_endpoints.specs.declared.summary.Summary.{Summary}
-use Rattle.llrp_listing.specs.Copying.{MOST_READS, IsPrefix, GaveAndFailed, Writes, WasGiven}
+use Rattle.llrp_listing.specs.Copying.{MOST_READS, IsPrefix, GaveAndFailed, WasGiven}
+use Rattle.llrp_listing.specs.Calls.Copying.{Writes}
 use Rattle.llrp_endpoints.specs.Gathering.{Course, begun}
-use Rattle.llrp_endpoints.specs.GatheringStands.{closing_text, IsOpen, Counts, Moves, MovesSome, Feeds, phase_left}
+use Rattle.llrp_endpoints.specs.Gathering.{closing_text}
+use Rattle.llrp_endpoints.specs.Calls.GatheringStands.{IsOpen, Counts, Moves, MovesSome, Feeds, phase_left}
 use Rattle.llrp_endpoints.specs.Plan.{Plan}
 use Rattle.llrp_endpoints.specs.RunInventory.{Says, SaysSome, Awaits, WroteAll, BeginsSaying, RunsInventory}
 use Rattle.llrp_endpoints.specs.Sending.{AreFrames, Adds}

@@ -10,8 +10,8 @@ use Rattle.llrp_listing.specs.declared.fault.ToolErr.{ToolErr}
 use Rattle.llrp_listing.specs.declared.fault.ToolErr.TheVariants.{Listing, Script, Hex, Read, Write, Bound, Broken, Memory, Peer, Strange, Early}
 use Rattle.llrp_endpoints.specs.declared.summary.Summary.{Summary}
 use Rattle.llrp_listing.specs.Copying.{ReadAll, WasGiven}
-use Rattle.llrp_endpoints.specs.EndsStand.{WritesPiece, Given, HasRoom, ReaderStands, ReaderStops, ReaderHears, ClientStands, ClientStops, ClientHears}
-use Rattle.llrp_endpoints.specs.GatheringStands.{Counts}
+use Rattle.llrp_endpoints.specs.Private.EndsStand.{WritesPiece, Given, HasRoom, ReaderStands, ReaderStops, ReaderHears, ClientStands, ClientStops, ClientHears}
+use Rattle.llrp_endpoints.specs.Calls.GatheringStands.{Counts}
 use Rattle.llrp_endpoints.specs.RunLoop.{Ends, Way, Devices, Traffic, Passed, Fine, GivenAndFailed, GivenByMost, ReaderGoes, ClientAwaits, RunsLoop}
 use Rattle.llrp_endpoints.specs.RunServe.{BeginsFrames}
 use Rattle.llrp_endpoints.specs.Sending.{AreFrames}

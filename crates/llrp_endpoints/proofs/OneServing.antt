@@ -21,7 +21,7 @@ use Rattle.llrp_stream.proofs.Unique.{after_front, After}
 use Rattle.llrp_session.specs.ReaderMachine.{Reader}
 use Rattle.llrp_endpoints.specs.declared.script.Entry.{Entry}
 use Rattle.llrp_endpoints.specs.Serving.{Closes, Standing, waiting, closed, ended, early, broken, StandsAt, StaysOpen, HasClosed, Serves, run, said, events, closing_events}
-use Rattle.llrp_endpoints.specs.ServingLaws.{IsServedInOneWay}
+use Rattle.llrp_endpoints.specs.Calls.ServingLaws.{IsServedInOneWay}
 
 abbrev NoneCloses : List Item → Type 0
 NoneCloses items = AllByRecursion (λ item. Closes item → ⊥) items

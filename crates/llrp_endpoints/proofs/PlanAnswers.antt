@@ -23,7 +23,7 @@ use Rattle.llrp_endpoints.specs.declared.gathering.Phase.{Phase}
 use Rattle.llrp_endpoints.specs.declared.gathering.Phase.TheVariants.{Open}
 use Rattle.llrp_endpoints.specs.Plan.{Plan, commands}
 use Rattle.llrp_endpoints.specs.Gathering.{Course, begun, awaited_after, after_item, goes}
-use Rattle.llrp_endpoints.specs.PlanLaws.{course_of, asked, numbered, SendsInOrder, Accepts, Answers, ListsView, IsAwaitedAfter, SendsOne, SendsWhereAwaited, LeadsOn}
+use Rattle.llrp_endpoints.specs.Calls.PlanLaws.{course_of, asked, numbered, SendsInOrder, Accepts, Answers, ListsView, IsAwaitedAfter, SendsOne, SendsWhereAwaited, LeadsOn}
 use Rattle.llrp_endpoints.proofs.PlanCommands.{last_closes, length-numbered, numbered-last, same_last}
 use Rattle.llrp_endpoints.proofs.PlanSteps.{Standing, StandsIn, order_in}
 use Rattle.llrp_endpoints.proofs.PlanFollowing.{Steps, item_so, stands_so, follow-append}

@@ -11,7 +11,8 @@ use Rattle.llrp_session.specs.declared.words.Operation.TheVariants.{Adding, Dele
 use Rattle.llrp_session.specs.declared.words.Taken.TheVariants.{Connected, Reply, Tags, Closed as ConnectionEnded}
 use Rattle.llrp_session.specs.Refusal.{Refusal}
 use Rattle.llrp_session.specs.RoSpec.{rospec_of}
-use Rattle.llrp_session.specs.Words.{ReaderWord, Response, Error, Report as ReportSent, Accepted, ReaderMessage, heard}
+use Rattle.llrp_session.specs.Words.{ReaderWord, Response, Error, Report as ReportSent, Accepted, ReaderMessage}
+use Rattle.llrp_session.specs.Calls.Words.{heard}
 use Rattle.llrp_session.specs.ClientMachine.{Client, Taking, take, takes, failed, unexpected, awaited, cleared, closed, granted, new_client}
 use Rattle.llrp_session.specs.Reading.{heard_of}
 use Rattle.llrp_session.specs.ReaderMessages.{reader_message}
@@ -23,7 +24,7 @@ use Rattle.llrp_endpoints.specs.declared.gathering.Phase.{Phase}
 use Rattle.llrp_endpoints.specs.declared.gathering.Phase.TheVariants.{Open, Closed}
 use Rattle.llrp_endpoints.specs.Plan.{Plan, rospec, checking, commands}
 use Rattle.llrp_endpoints.specs.Gathering.{Course, begun, ended, awaited_after, after_taking, after_item, goes, follow}
-use Rattle.llrp_endpoints.specs.PlanLaws.{CanEnd}
+use Rattle.llrp_endpoints.specs.Calls.PlanLaws.{CanEnd}
 use Rattle.llrp_endpoints.proofs.PlanCommands.{last_closes, closes_last}
 use Rattle.llrp_endpoints.proofs.PlanSteps.{Standing, StandsIn, begins}
 use Rattle.llrp_endpoints.proofs.PlanFollowing.{item_so}

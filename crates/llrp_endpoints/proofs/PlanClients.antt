@@ -15,7 +15,7 @@ use Rattle.llrp_session.specs.declared.words.Taken.TheVariants.{Connected, Refus
 use Rattle.llrp_session.specs.Words.{RoSpecChange, Heard, HeardResponse, HeardError, HeardReport, HeardKeepalive, HeardNotification, HeardOther, Notification, ClientMessage}
 use Rattle.llrp_session.specs.ClientMachine.{Client, Taking, take, take_in, take_ready, take_fresh, attempted, answered, failed, notified, take_response, replied, listed, is_view, takes, unexpected, cleared, closed, granted, is_response_to, event_of, moved}
 use Rattle.llrp_session.specs.Table.{viewed_state}
-use Rattle.llrp_endpoints.specs.PlanLaws.{is_command, Accepts, Responds, ListsView, Refuses, TellsEnd}
+use Rattle.llrp_endpoints.specs.Calls.PlanLaws.{is_command, Accepts, Responds, ListsView, Refuses, TellsEnd}
 
 -- ---- the client before and after
 

@@ -6,7 +6,7 @@ use Rattle.llrp_session.specs.declared.words.Command.{Command}
 use Rattle.llrp_session.specs.declared.words.Command.TheVariants.{Add, Delete, Start, Stop, Enable, Disable, GetRospecs, SetKeepalive, GetReport, Close}
 use Rattle.llrp_session.specs.Words.{Asks, ClientMessage}
 use Rattle.llrp_endpoints.specs.Plan.{Plan, rospec, checking, commands}
-use Rattle.llrp_endpoints.specs.PlanLaws.{numbered}
+use Rattle.llrp_endpoints.specs.Calls.PlanLaws.{numbered}
 
 -- ---- how many there are
 

@@ -10,7 +10,8 @@ use Rattle.llrp_stream.specs.declared.item.Item.TheVariants.{Msg, Bad}
 use Rattle.llrp_stream.specs.declared.item.End.{End}
 use Rattle.llrp_stream.specs.declared.item.End.TheVariants.{Clean, Rest, Broken, Dead}
 use Rattle.llrp_stream.specs.Cuts.{Ends, joined, Cuts}
-use Rattle.llrp_stream.specs.StreamLaws.{HasOneListing, ItemsGrow}
+use Rattle.llrp_stream.specs.StreamLaws.{HasOneListing}
+use Rattle.llrp_stream.specs.Calls.StreamLaws.{ItemsGrow}
 use Rattle.llrp_stream.proofs.ItemLemmas.{has_one_listing}
 use Rattle.llrp_stream.proofs.RunLemmas.{items_grow}
 use Rattle.llrp_stream.proofs.Unique.{one_cut}
@@ -22,7 +23,7 @@ use Rattle.llrp_endpoints.specs.declared.gathering.Phase.{Phase}
 use Rattle.llrp_endpoints.specs.declared.gathering.Phase.TheVariants.{Open, Closed, Failed}
 use Rattle.llrp_endpoints.specs.Plan.{Plan}
 use Rattle.llrp_endpoints.specs.Gathering.{Course, begun, ends, after, after_taking, after_bad, after_item, goes, follow}
-use Rattle.llrp_endpoints.specs.PlanLaws.{course_of, HasNoFrame, HasOneCourse, GoesOn, CoursesGoOn}
+use Rattle.llrp_endpoints.specs.Calls.PlanLaws.{course_of, HasNoFrame, HasOneCourse, GoesOn, CoursesGoOn}
 use Rattle.llrp_endpoints.proofs.GatheringSteps.{More, no_more, more_more, after_more}
 use Rattle.llrp_endpoints.proofs.PlanFollowing.{bad_either, follow-append, stays}
 

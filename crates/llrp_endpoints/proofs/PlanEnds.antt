@@ -13,7 +13,7 @@ use Rattle.llrp_endpoints.specs.declared.gathering.Phase.{Phase}
 use Rattle.llrp_endpoints.specs.declared.gathering.Phase.TheVariants.{Open, Closed, Failed}
 use Rattle.llrp_endpoints.specs.Plan.{Plan}
 use Rattle.llrp_endpoints.specs.Gathering.{Course, begun, after, after_taking, after_item, goes, follow}
-use Rattle.llrp_endpoints.specs.PlanLaws.{course_of, IsOtherTable, IsTakenStrangely, IsStrangeTo, MetStrange, StrangeIsTheReaders}
+use Rattle.llrp_endpoints.specs.Calls.PlanLaws.{course_of, IsOtherTable, IsTakenStrangely, IsStrangeTo, MetStrange, StrangeIsTheReaders}
 use Rattle.llrp_endpoints.proofs.GatheringSteps.{bad_is_strange}
 use Rattle.llrp_endpoints.proofs.PlanSteps.{Standing, StandsIn}
 use Rattle.llrp_endpoints.proofs.PlanFollowing.{stands_so, follow-append, stays}

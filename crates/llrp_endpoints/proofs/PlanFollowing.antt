@@ -13,7 +13,7 @@ use Rattle.llrp_endpoints.specs.declared.gathering.Phase.{Phase}
 use Rattle.llrp_endpoints.specs.declared.gathering.Phase.TheVariants.{Open, Closed, Failed}
 use Rattle.llrp_endpoints.specs.Plan.{Plan}
 use Rattle.llrp_endpoints.specs.Gathering.{Course, begun, ends, after_bad, after_item, goes, follow}
-use Rattle.llrp_endpoints.specs.PlanLaws.{course_of, asked, SendsInOrder, SendsOne, SendsOneByOne}
+use Rattle.llrp_endpoints.specs.Calls.PlanLaws.{course_of, asked, SendsInOrder, SendsOne, SendsOneByOne}
 use Rattle.llrp_endpoints.proofs.PlanClients.{TakesOr, takes_or}
 use Rattle.llrp_endpoints.proofs.PlanSteps.{HasAll, Standing, StandsIn, order_in, begins, in_phase, failed_order}
 use Rattle.llrp_endpoints.proofs.PlanTakings.{Follows, taking_so}

@@ -18,7 +18,7 @@ use Rattle.llrp_endpoints.specs.declared.gathering.Awaits.TheVariants.{Report}
 use Rattle.llrp_endpoints.specs.declared.gathering.Phase.TheVariants.{Open}
 use Rattle.llrp_endpoints.specs.Plan.{Plan}
 use Rattle.llrp_endpoints.specs.Gathering.{Course, awaited_after, sends_by, sends, goes_on, reported, after, after_taking, after_item}
-use Rattle.llrp_endpoints.specs.PlanLaws.{LeadsOn}
+use Rattle.llrp_endpoints.specs.Calls.PlanLaws.{LeadsOn}
 use Rattle.llrp_endpoints.proofs.PlanClients.{Takes, TakesOr}
 use Rattle.llrp_endpoints.proofs.PlanSteps.{Standing}
 use Rattle.llrp_endpoints.proofs.PlanFollowing.{takes_so}

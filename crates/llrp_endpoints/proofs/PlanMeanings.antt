@@ -20,7 +20,7 @@ use Rattle.llrp_endpoints.specs.declared.gathering.Phase.{Phase}
 use Rattle.llrp_endpoints.specs.declared.gathering.Phase.TheVariants.{Open, Closed, Failed}
 use Rattle.llrp_endpoints.specs.Plan.{Plan, commands}
 use Rattle.llrp_endpoints.specs.Gathering.{Course, ends, ended, awaited_after, sends_by, sends, goes_on, reported, after, after_taking, after_bad, after_item}
-use Rattle.llrp_endpoints.specs.PlanLaws.{course_of, asked, numbered, RespondsToLast, TellsStatus, TellsEnd, Told, IsDone, IsEarly, EndsMean}
+use Rattle.llrp_endpoints.specs.Calls.PlanLaws.{course_of, asked, numbered, RespondsToLast, TellsStatus, TellsEnd, Told, IsDone, IsEarly, EndsMean}
 use Rattle.llrp_endpoints.proofs.PlanClients.{not_zero, Replies, TakesFor, Takes, TakesOr}
 use Rattle.llrp_endpoints.proofs.PlanCommands.{closes_last}
 use Rattle.llrp_endpoints.proofs.PlanSteps.{Standing}

@@ -29,7 +29,7 @@ use Rattle.llrp_endpoints.specs.declared.gathering.Phase.{Phase}
 use Rattle.llrp_endpoints.specs.declared.gathering.Phase.TheVariants.{Open, Failed}
 use Rattle.llrp_endpoints.specs.Plan.{Plan, rospec, checking, commands}
 use Rattle.llrp_endpoints.specs.Gathering.{Course, ends, ended, sends_by, sends, goes_on, reported, after, after_taking, after_bad, after_item}
-use Rattle.llrp_endpoints.specs.PlanLaws.{course_of, LeadsOn, TakesEachCommand, IsOtherTable, IsTakenStrangely, IsStrangeTo}
+use Rattle.llrp_endpoints.specs.Calls.PlanLaws.{course_of, LeadsOn, TakesEachCommand, IsOtherTable, IsTakenStrangely, IsStrangeTo}
 use Rattle.llrp_endpoints.proofs.PlanClients.{TakesFor, Takes, TakesOr}
 use Rattle.llrp_endpoints.proofs.PlanCommands.{length-commands}
 use Rattle.llrp_endpoints.proofs.PlanSteps.{Standing, StandsIn}

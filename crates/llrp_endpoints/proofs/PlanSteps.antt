@@ -15,7 +15,7 @@ use Rattle.llrp_endpoints.specs.declared.gathering.Phase.{Phase}
 use Rattle.llrp_endpoints.specs.declared.gathering.Phase.TheVariants.{Open, Closed, Failed}
 use Rattle.llrp_endpoints.specs.Plan.{Plan, commands}
 use Rattle.llrp_endpoints.specs.Gathering.{Course, begun, ends, awaited_after, sends_by, sends, goes_on}
-use Rattle.llrp_endpoints.specs.PlanLaws.{is_command, asked, numbered, SendsInOrder}
+use Rattle.llrp_endpoints.specs.Calls.PlanLaws.{is_command, asked, numbered, SendsInOrder}
 use Rattle.llrp_endpoints.proofs.PlanCommands.{polls_in, numbered-last}
 
 -- ---- an open course

@@ -23,7 +23,7 @@ use Rattle.llrp_endpoints.specs.declared.gathering.Phase.{Phase}
 use Rattle.llrp_endpoints.specs.declared.gathering.Phase.TheVariants.{Open, Closed, Failed}
 use Rattle.llrp_endpoints.specs.Plan.{Plan, rospec, commands}
 use Rattle.llrp_endpoints.specs.Gathering.{Course, ends, ended, awaited_after, goes_on, reported, after, after_taking}
-use Rattle.llrp_endpoints.specs.PlanLaws.{is_command, asked, numbered, SendsInOrder, Answers, ListsView, IsAwaitedAfter}
+use Rattle.llrp_endpoints.specs.Calls.PlanLaws.{is_command, asked, numbered, SendsInOrder, Answers, ListsView, IsAwaitedAfter}
 use Rattle.llrp_endpoints.proofs.PlanClients.{Replies, Joins, IsAnswered, HandsOut, Stays, TakesFor, TakesOr}
 use Rattle.llrp_endpoints.proofs.PlanCommands.{poll_of, polls_in, polls_in-append, polls_in-commands, one_at_most, last_closes, numbered-last}
 use Rattle.llrp_endpoints.proofs.PlanSteps.{Begins, HasAll, Last, Waits, Standing, StandsIn, MaySend, Goes, in_phase, same_order, failed_order, sent_next, goes}

@@ -8,7 +8,7 @@ use Rattle.llrp_tree.specs.Frame.{Frame}
 use Rattle.llrp_tree.proofs.LengthLemmas.{spelled_length}
 use Rattle.llrp_stream.specs.Cuts.{joined}
 use Rattle.llrp_stream.specs.Items.{ItemsSoFar}
-use Rattle.llrp_session.specs.MessageWorld.{AreSendable}
+use Rattle.llrp_session.specs.Calls.MessageWorld.{AreSendable}
 use Rattle.llrp_listing.specs.PrintingLaws.{AreSpellings}
 use Rattle.llrp_endpoints.specs.Sending.{AreFrames}
 use Rattle.llrp_listing.proofs.PrintsBack.{as_items, are_frames, are_items}

@@ -10,11 +10,11 @@ use Rattle.llrp_listing.specs.declared.fault.ToolErr.{ToolErr}
 use Rattle.llrp_listing.specs.declared.fault.ToolErr.TheVariants.{Listing, Script, Hex, Read, Write, Bound, Broken, Memory, Peer, Strange, Early}
 use Rattle.llrp_endpoints.specs.declared.script.Entry.{Entry}
 use Rattle.llrp_endpoints.specs.declared.serving.Serving.{Serving}
-use Rattle.llrp_endpoints.specs.EndsStand.{spoken, heard, IsServing, ReadsNone, Given, ReaderStands, ReaderStops}
+use Rattle.llrp_endpoints.specs.Private.EndsStand.{spoken, heard, IsServing, ReadsNone, Given, ReaderStands, ReaderStops}
 use Rattle.llrp_endpoints.specs.RunLoop.{Ends, Traffic, ReaderGoes}
 use Rattle.llrp_endpoints.specs.Sending.{AreFrames, Adds}
 use Rattle.llrp_endpoints.specs.Serving.{HasClosed}
-use Rattle.llrp_endpoints.specs.ServingStands.{IsOpen, IsClosed, Starts, Feeds}
+use Rattle.llrp_endpoints.specs.Calls.ServingStands.{IsOpen, IsClosed, Starts, Feeds}
 use Rattle.llrp_endpoints.proofs.HearingLemmas.{Hearing, hearing_none, hearing_more, was_given}
 use Rattle.llrp_endpoints.proofs.SendingLemmas.{frames_append}
 

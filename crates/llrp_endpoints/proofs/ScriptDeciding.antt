@@ -14,9 +14,10 @@ use Rattle.llrp_session.specs.declared.words.Sighting.{Sighting}
 use Rattle.llrp_endpoints.specs.declared.script.Action.{Action}
 use Rattle.llrp_endpoints.specs.declared.script.Action.TheVariants.{Seen, Tick}
 use Rattle.llrp_endpoints.specs.declared.script.Entry.{Entry}
-use Rattle.llrp_listing.specs.Splits.{Lacks, IsSplit}
-use Rattle.llrp_endpoints.specs.Script.{IsSightingLine, IsActionLine, IsEntryLine, IsSightingInRange, IsActionInRange, IsInRange, IsTextOfAll, IsLawful, IsScript, MOST_ENTRIES, MayFollow, Begins, Continues, NoneContinues, IsRefusedAt}
-use Rattle.llrp_endpoints.specs.ScriptLaws.{ScriptOrRefused}
+use Rattle.llrp_listing.specs.Calls.Splits.{Lacks, IsSplit}
+use Rattle.llrp_endpoints.specs.Calls.Script.{IsSightingLine, IsActionLine, IsEntryLine, IsSightingInRange, IsActionInRange, IsInRange, IsTextOfAll, IsLawful, IsScript, MOST_ENTRIES, Begins, Continues, NoneContinues, IsRefusedAt}
+use Rattle.llrp_endpoints.specs.Private.Script.{MayFollow}
+use Rattle.llrp_endpoints.specs.Calls.ScriptLaws.{ScriptOrRefused}
 use Rattle.llrp_endpoints.proofs.ScriptEntries.{no_line, next_line, may_not, lawful_push}
 use Rattle.llrp_endpoints.proofs.ScriptTexts.{begins_none, begins_more, shorter, begins_all, refused_at}
 use Rattle.llrp_endpoints.proofs.ScriptUnique as unique

@@ -14,8 +14,9 @@ use Rattle.llrp_session.specs.declared.words.Sighting.{Sighting}
 use Rattle.llrp_endpoints.specs.declared.script.Action.{Action}
 use Rattle.llrp_endpoints.specs.declared.script.Action.TheVariants.{Seen, Tick}
 use Rattle.llrp_endpoints.specs.declared.script.Entry.{Entry}
-use Rattle.llrp_listing.specs.Splits.{Lacks, IsSplit}
-use Rattle.llrp_endpoints.specs.Script.{IsSightingLine, IsActionLine, IsEntryLine, IsSightingInRange, IsActionInRange, IsInRange, IsLawful, MOST_ENTRIES, MayFollow, Continues, NoneContinues}
+use Rattle.llrp_listing.specs.Calls.Splits.{Lacks, IsSplit}
+use Rattle.llrp_endpoints.specs.Calls.Script.{IsSightingLine, IsActionLine, IsEntryLine, IsSightingInRange, IsActionInRange, IsInRange, IsLawful, MOST_ENTRIES, Continues, NoneContinues}
+use Rattle.llrp_endpoints.specs.Private.Script.{MayFollow}
 use Rattle.llrp_listing.proofs.SplitWords.{one_split, lacks_not, lacks_append, decimal_lacks, signed_lacks}
 use Rattle.llrp_endpoints.proofs.WordTexts.{text_lacks}
 

@@ -6,8 +6,8 @@ use Rattle.llrp_session.specs.declared.words.Sighting.{Sighting}
 use Rattle.llrp_endpoints.specs.declared.script.Action.{Action}
 use Rattle.llrp_endpoints.specs.declared.script.Action.TheVariants.{Seen, Tick}
 use Rattle.llrp_endpoints.specs.declared.script.Entry.{Entry}
-use Rattle.llrp_listing.specs.Splits.{Lacks, IsSplit}
-use Rattle.llrp_endpoints.specs.Script.{IsSightingLine, IsActionLine, IsEntryLine, IsSightingInRange, IsInRange}
+use Rattle.llrp_listing.specs.Calls.Splits.{Lacks, IsSplit}
+use Rattle.llrp_endpoints.specs.Calls.Script.{IsSightingLine, IsActionLine, IsEntryLine, IsSightingInRange, IsInRange}
 use Rattle.llrp_listing.proofs.SplitWords.{lacks_not, one_split, decimal_lacks, signed_lacks, two_words, no_second}
 
 -- ---- sightings

@@ -2,7 +2,7 @@
 use Rattle.std.proofs.Common.{◌≡◌, ℕ, ◌+◌, ◌<◌, List, [], ◌∷◌, ◌++◌, length, refl, sym, ap, subst, ◌∙◌, arith, append_assoc, length-append}
 use Rattle.std.proofs.lemmas.List.{append-nil}
 use Rattle.llrp_endpoints.specs.declared.script.Entry.{Entry}
-use Rattle.llrp_endpoints.specs.Script.{IsEntryLine, IsTextOfAll, IsScript, Begins, Continues, NoneContinues, IsRefusedAt}
+use Rattle.llrp_endpoints.specs.Calls.Script.{IsEntryLine, IsTextOfAll, IsScript, Begins, Continues, NoneContinues, IsRefusedAt}
 use Rattle.llrp_endpoints.proofs.ScriptEntries.{no_entries}
 
 -- no entries have no text

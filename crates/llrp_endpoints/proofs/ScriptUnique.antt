@@ -4,7 +4,7 @@ use Rattle.std.specs.Prelude.{All}
 use Rattle.std.proofs.lemmas.List.{append-nil}
 use Rattle.std.proofs.lemmas.List.Elements.{All-head, All-tail}
 use Rattle.llrp_endpoints.specs.declared.script.Entry.{Entry}
-use Rattle.llrp_endpoints.specs.Script.{IsEntryLine, IsInRange, IsTextOfAll, IsLawful, IsScript, Begins, NoneContinues, IsRefusedAt}
+use Rattle.llrp_endpoints.specs.Calls.Script.{IsEntryLine, IsInRange, IsTextOfAll, IsLawful, IsScript, Begins, NoneContinues, IsRefusedAt}
 use Rattle.llrp_listing.proofs.SplitWords.{one_split}
 use Rattle.llrp_endpoints.proofs.ScriptEntries.{lawful_front, one_entry, line_lacks}
 

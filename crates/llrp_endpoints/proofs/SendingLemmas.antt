@@ -11,7 +11,8 @@ use Rattle.llrp_tree.specs.FirstFault.{octets_at}
 use Rattle.llrp_tree.proofs.LengthLemmas.{spelled_length}
 use Rattle.llrp_tree.proofs.ReadDigits.{octets_again}
 use Rattle.llrp_stream.specs.Cuts.{joined}
-use Rattle.llrp_endpoints.specs.Sending.{AreFrames, Adds, AddsSome}
+use Rattle.llrp_endpoints.specs.Sending.{AreFrames, Adds}
+use Rattle.llrp_endpoints.specs.Calls.Sending.{AddsSome}
 use Rattle.llrp_listing.proofs.Zips.{zip_append}
 
 pub frames_none : AreFrames [] []

@@ -16,9 +16,10 @@ use Rattle.llrp_session.specs.Words.{ClientMessage}
 use Rattle.llrp_session.specs.ClientMachine.{Sending, Taking, command, take}
 use Rattle.llrp_session.specs.ClientMessages.{client_message}
 use Rattle.llrp_session.specs.Reading.{heard_of}
-use Rattle.llrp_session.specs.LawfulWords.{IsLawfulClientMessage}
-use Rattle.llrp_session.specs.LawfulStates.{IsGivenCommand, AreLawfulClientMessages}
-use Rattle.llrp_session.specs.MessageWorld.{AreSendable}
+use Rattle.llrp_session.specs.Calls.LawfulWords.{IsLawfulClientMessage}
+use Rattle.llrp_session.specs.MessageWorld.{IsGivenCommand}
+use Rattle.llrp_session.specs.Calls.LawfulStates.{AreLawfulClientMessages}
+use Rattle.llrp_session.specs.Calls.MessageWorld.{AreSendable}
 use Rattle.llrp_session.proofs.LawfulMessages.{client_sends}
 use Rattle.llrp_session.proofs.LawfulClients.{command_is_lawful, answer_is_lawful}
 use Rattle.llrp_session.proofs.MessageWorlds.{Says, says_taken}

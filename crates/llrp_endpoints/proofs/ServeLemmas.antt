@@ -3,18 +3,21 @@ use Rattle.std.proofs.Common.{◌≡◌, ◌≢◌, ℕ, ◌+◌, ◌<◌, ◌�
 use Rattle.std.proofs.lemmas.List.{append-nil}
 use Rattle.std.specs.Io.KnownBytes.{Consumes}
 use Rattle.llrp_tree.specs.Tree.{MessageTree}
-use Rattle.llrp_stream.specs.Device.{SourceLog, SinkLog, Took, Gave, Wrote}
+use Rattle.llrp_stream.specs.Device.{SourceLog, SinkLog, Gave, Wrote}
+use Rattle.llrp_stream.specs.Calls.Device.{Took}
 use Rattle.llrp_session.specs.ReaderMachine.{Reader}
 use Rattle.llrp_listing.specs.declared.fault.ToolErr.{ToolErr}
 use Rattle.llrp_listing.specs.declared.fault.ToolErr.TheVariants.{Listing, Script, Hex, Read, Write, Bound, Broken, Memory, Peer, Strange, Early}
 use Rattle.llrp_endpoints.specs.declared.script.Entry.{Entry}
 use Rattle.llrp_endpoints.specs.declared.serving.Serving.{Serving}
 use Rattle.llrp_endpoints.specs.declared.serving.Phase.TheVariants.{New}
-use Rattle.llrp_listing.specs.Copying.{MOST_READS, GaveAndFailed, ReadAll, Writes, WasGiven}
+use Rattle.llrp_listing.specs.Copying.{MOST_READS, GaveAndFailed, ReadAll, WasGiven}
+use Rattle.llrp_listing.specs.Calls.Copying.{Writes}
 use Rattle.llrp_endpoints.specs.Serving.{Happening, happening, entries_at, closing_events, run, said, waiting, broken, StaysOpen, HasClosed, BeginsServing}
 use Rattle.llrp_endpoints.proofs.ServingEvents.{events-snoc}
 use Rattle.llrp_endpoints.specs.Sending.{AreFrames, Adds}
-use Rattle.llrp_endpoints.specs.ServingStands.{IsFresh, IsOpen, Starts, Feeds, Goes, Finishes}
+use Rattle.llrp_endpoints.specs.Calls.ServingStands.{IsFresh, IsOpen, Starts, Feeds, Goes}
+use Rattle.llrp_endpoints.specs.Private.ServingStands.{Finishes}
 use Rattle.llrp_endpoints.specs.RunServe.{BeginsFrames, RunsServe, WroteAll}
 use Rattle.llrp_endpoints.proofs.ActingLemmas.{said-append}
 use Rattle.llrp_endpoints.proofs.SendingLemmas.{frames_append}

@@ -10,9 +10,9 @@ use Rattle.llrp_stream.specs.declared.item.Item.{Item}
 use Rattle.llrp_session.specs.ReaderMachine.{Connect}
 use Rattle.llrp_endpoints.specs.declared.script.Entry.{Entry}
 use Rattle.llrp_endpoints.specs.declared.serving.scripted.ScriptedReader.{ScriptedReader}
-use Rattle.llrp_endpoints.specs.Script.{IsInRange}
+use Rattle.llrp_endpoints.specs.Calls.Script.{IsInRange}
 use Rattle.llrp_endpoints.specs.Serving.{Happening, happening, taking, entries_at, moment_after, last_moment, events_from, events, closing_events}
-use Rattle.llrp_endpoints.specs.ServingStands.{HasDone, greatest_count}
+use Rattle.llrp_endpoints.specs.Calls.ServingStands.{HasDone, greatest_count}
 use Rattle.llrp_endpoints.proofs.ActingLemmas.{last_moment-append}
 
 -- ---- elements

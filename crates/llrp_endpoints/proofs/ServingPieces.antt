@@ -7,7 +7,8 @@ use Rattle.llrp_stream.specs.declared.item.Item.{Item}
 use Rattle.llrp_stream.specs.declared.item.Fed.{Fed}
 use Rattle.llrp_stream.specs.declared.item.FeedErr.{FeedErr}
 use Rattle.llrp_stream.specs.declared.item.FeedErr.TheVariants as decoder
-use Rattle.llrp_stream.specs.Decoding.{DecoderState, Stands}
+use Rattle.llrp_stream.specs.Decoding.{DecoderState}
+use Rattle.llrp_stream.specs.Calls.Decoding.{Stands}
 use Rattle.llrp_stream.specs.Feeding.{Takes, Feeds}
 use Rattle.llrp_stream.specs.Items.{ItemsSoFar}
 use Rattle.llrp_stream.proofs.RunLemmas.{items_grow}
@@ -17,10 +18,12 @@ use Rattle.llrp_endpoints.specs.declared.script.Entry.{Entry}
 use Rattle.llrp_endpoints.specs.declared.serving.scripted.ScriptedReader.{ScriptedReader}
 use Rattle.llrp_endpoints.specs.declared.serving.Serving.{Serving}
 use Rattle.llrp_endpoints.specs.Serving.{events, run, said, Closes}
-use Rattle.llrp_listing.specs.Fault.{error_by}
+use Rattle.llrp_listing.specs.Calls.Fault.{error_by}
 use Rattle.llrp_endpoints.specs.Sending.{Adds}
-use Rattle.llrp_endpoints.specs.Acting.{DidSome, phase_after}
-use Rattle.llrp_endpoints.specs.ServingStands.{HasTaken, StandsFor, IsFresh, HasFailed, Connects, Starts, TakesItem, Goes, Fails, Feeds as FeedsOn}
+use Rattle.llrp_endpoints.specs.Private.Acting.{DidSome}
+use Rattle.llrp_endpoints.specs.Calls.Acting.{phase_after}
+use Rattle.llrp_endpoints.specs.Calls.ServingStands.{HasTaken, StandsFor, IsFresh, HasFailed, Starts, Goes, Fails, Feeds as FeedsOn}
+use Rattle.llrp_endpoints.specs.Private.ServingStands.{Connects, TakesItem}
 use Rattle.llrp_endpoints.specs.declared.serving.Phase.TheVariants.{Open}
 use Rattle.llrp_endpoints.proofs.SendingLemmas.{adds_none, adds_more}
 

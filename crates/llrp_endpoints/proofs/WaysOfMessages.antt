@@ -13,7 +13,7 @@ use Rattle.llrp_stream.proofs.FrontLemmas.{length_field-append}
 use Rattle.llrp_stream.proofs.ItemLemmas.{below_or_not}
 use Rattle.llrp_stream.proofs.PrefixLemmas.{cut, end_of, ends}
 use Rattle.llrp_stream.proofs.Unique.{After, after_front, none_left}
-use Rattle.llrp_session.specs.MessageWorld.{AreSendable}
+use Rattle.llrp_session.specs.Calls.MessageWorld.{AreSendable}
 use Rattle.llrp_endpoints.specs.ByteWorld.{Way}
 use Rattle.llrp_endpoints.specs.EndsAgree.{AreOnTheWay, IsMessage, IsFrontOfMessage, NextAreMessages}
 use Rattle.llrp_endpoints.proofs.FrameFronts.{within, is_frame}

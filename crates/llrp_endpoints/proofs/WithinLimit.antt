@@ -17,15 +17,15 @@ use Rattle.llrp_session.specs.ReaderMachine.{Reader, Turn, next}
 use Rattle.llrp_session.specs.ReaderMessages.{reader_message}
 use Rattle.llrp_session.specs.TagReport.{signed_octet}
 use Rattle.llrp_session.specs.Words.{ReaderMessage}
-use Rattle.llrp_session.specs.LawfulStates.{IsLawfulReader, IsLawfulReaderEvent, AreLawfulReaderMessages}
-use Rattle.llrp_session.specs.MessageWorld.{AreSendable}
+use Rattle.llrp_session.specs.Calls.LawfulStates.{IsLawfulReader, IsLawfulReaderEvent, AreLawfulReaderMessages}
+use Rattle.llrp_session.specs.Calls.MessageWorld.{AreSendable}
 use Rattle.llrp_session.proofs.LawfulReaders.{reader_as_new, reader_says_lawful}
 use Rattle.llrp_session.proofs.LawfulRequests.{lawful_request}
 use Rattle.llrp_session.proofs.LawfulMessages.{reader_sends}
 use Rattle.llrp_endpoints.specs.declared.script.Action.{Action}
 use Rattle.llrp_endpoints.specs.declared.script.Action.TheVariants.{Seen, Tick}
 use Rattle.llrp_endpoints.specs.declared.script.Entry.{Entry}
-use Rattle.llrp_endpoints.specs.Script.{IsInRange, IsActionInRange, IsLawful}
+use Rattle.llrp_endpoints.specs.Calls.Script.{IsInRange, IsActionInRange, IsLawful}
 use Rattle.llrp_endpoints.specs.Serving.{Happening, event_in, happening, taking, entries_at, last_moment, events_from, events, turn_or_none, run, BeginsServing, IsNewReader}
 use Rattle.llrp_tree.specs.declared.TheConstants.{MAX_LIMIT}
 

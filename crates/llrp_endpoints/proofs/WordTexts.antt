@@ -11,7 +11,7 @@ use Rattle.std.proofs.lemmas.Str.Ascii.{IsAscii-from_all}
 use Rattle.std.specs.Borrow.{Bor}
 use Rattle.tag_uri.specs.TagText.{IsTextOf}
 use Rattle.tag_uri.proofs.TextBytes.{is_visible, visible, text_visible}
-use Rattle.llrp_listing.specs.Splits.{Lacks}
+use Rattle.llrp_listing.specs.Calls.Splits.{Lacks}
 use Rattle.llrp_listing.proofs.SplitWords.{left, right}
 
 -- visible characters are ASCII

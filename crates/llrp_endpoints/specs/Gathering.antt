@@ -20,6 +20,13 @@ use Rattle.llrp_endpoints.specs.declared.gathering.Awaits.TheVariants.{Answer, R
 use Rattle.llrp_endpoints.specs.declared.gathering.Phase.{Phase}
 use Rattle.llrp_endpoints.specs.declared.gathering.Phase.TheVariants.{Open, Closed, Failed}
 use Rattle.llrp_endpoints.specs.Plan.{Plan, commands}
+use Rattle.llrp_endpoints.specs.TagLines.{total_line}
+
+-- the last line, where the connection was closed
+abbrev pub closing_text : Phase → List (List Tree) → List ℕ
+closing_text Closed reports = total_line reports
+closing_text Open reports = []
+closing_text (Failed error) reports = []
 
 -- how far it is
 pub record Course : Type 0 where

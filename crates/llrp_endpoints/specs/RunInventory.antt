@@ -11,7 +11,7 @@ use Rattle.llrp_endpoints.specs.declared.gathering.Phase.TheVariants.{Open, Clos
 use Rattle.llrp_endpoints.specs.declared.summary.Summary.{Summary}
 use Rattle.llrp_listing.specs.Copying.{MOST_READS, ReadAll, GaveAndFailed, IsPrefix, WasGiven}
 use Rattle.llrp_endpoints.specs.Gathering.{Course, Gathers}
-use Rattle.llrp_endpoints.specs.GatheringStands.{closing_text}
+use Rattle.llrp_endpoints.specs.Gathering.{closing_text}
 use Rattle.llrp_endpoints.specs.Plan.{Plan}
 use Rattle.llrp_endpoints.specs.Sending.{AreFrames}
 use Rattle.llrp_endpoints.specs.TagLines.{AreReports, summary_of}

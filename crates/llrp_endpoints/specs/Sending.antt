@@ -17,10 +17,3 @@ pub record Adds (messages : List MessageTree) (old new : List ℕ) : Type 0 wher
   pub text : List ℕ
   pub frames : AreFrames messages text
   pub whole : new ≡ old ++ text
-
--- new is old with the frames of the first of these messages at its end
-pub record AddsSome (messages : List MessageTree) (old new : List ℕ) : Type 0 where
-  pub first : List MessageTree
-  pub later : List MessageTree
-  pub parts : messages ≡ first ++ later
-  pub adds : Adds first old new

@@ -4,10 +4,10 @@
 ghost use Rattle.std.specs.Prelude.{◌<◌, ◌↔◌, ◌≡◌, ◌≤◌, ◌^◌, [], IsTrue};
 ghost use Rattle.llrp_tree.specs.declared.TheConstants.{MAX_LIMIT};
 ghost use Rattle.llrp_stream.specs.Device.{IsFreshSource};
-ghost use Rattle.llrp_endpoints.specs.EndsStand.{ClientStands, ReaderStands};
+ghost use Rattle.llrp_endpoints.specs.Private.EndsStand.{ClientStands, ReaderStands};
 ghost use Rattle.llrp_endpoints.specs.RunLoop.{Ends, RunsLoop, Traffic};
 ghost use Rattle.llrp_endpoints.specs.Serving.{IsNewReader};
-ghost use Rattle.llrp_endpoints.specs.ServingStands.{HasStarted};
+ghost use Rattle.llrp_endpoints.specs.Calls.ServingStands.{HasStarted};
 
 mod client_side;
 mod pieces;

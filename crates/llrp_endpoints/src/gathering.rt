@@ -6,7 +6,8 @@ ghost use Rattle.llrp_tree.specs.declared.TheConstants.{MAX_LIMIT};
 ghost use Rattle.llrp_tree.specs.Tree.{Tree};
 ghost use Rattle.llrp_listing.specs.declared.fault.ToolErr.{ToolErr as Error};
 ghost use Rattle.llrp_endpoints.specs.Gathering.{Course};
-ghost use Rattle.llrp_endpoints.specs.GatheringStands.{error_by_command, error_by_message, phase_left};
+ghost use Rattle.llrp_endpoints.specs.Private.GatheringStands.{error_by_command, error_by_message};
+ghost use Rattle.llrp_endpoints.specs.Calls.GatheringStands.{phase_left};
 ghost use Rattle.llrp_endpoints.specs.Plan.{Plan as ThePlan};
 
 mod left;
@@ -62,7 +63,8 @@ impl Gathering {
     ghost use Rattle.std.specs.Prelude.{[], true};
     ghost use Rattle.llrp_endpoints.specs.declared.gathering.Phase.TheVariants.{Open};
     ghost use Rattle.llrp_endpoints.specs.Gathering.{after, after_item, begun, goes_on};
-    ghost use Rattle.llrp_endpoints.specs.GatheringStands.{Counts, Does, Feeds, HasFailed, Holds, IsClosed, IsConnected, IsLeftBy, IsOpen, KeepsOthers, StandsFor};
+    ghost use Rattle.llrp_endpoints.specs.Calls.GatheringStands.{Counts, Feeds, HasFailed, Holds, IsClosed, IsConnected, IsLeftBy, IsOpen, StandsFor};
+    ghost use Rattle.llrp_endpoints.specs.Private.GatheringStands.{Does, KeepsOthers};
     ghost use Rattle.llrp_endpoints.specs.TagLines.{summary_of};
 
     /// A client at the beginning of a plan. Its first message id is 1, and no frame may be longer

@@ -4,7 +4,7 @@ ghost use Rattle.std.specs.Prelude.{◌≡◌, ◌<◌, ◌≤◌, ◌^◌, [], 
 ghost use Rattle.llrp_stream.specs.Device.{IsFreshSource};
 ghost use Rattle.llrp_tree.specs.declared.TheConstants.{MAX_LIMIT};
 ghost use Rattle.llrp_endpoints.specs.Gathering.{begun};
-ghost use Rattle.llrp_endpoints.specs.GatheringStands.{IsOpen};
+ghost use Rattle.llrp_endpoints.specs.Calls.GatheringStands.{IsOpen};
 ghost use Rattle.llrp_endpoints.specs.Plan.{Plan as ThePlan};
 ghost use Rattle.llrp_endpoints.specs.RunInventory.{RunsInventory};
 

@@ -8,10 +8,10 @@ ghost use Rattle.llrp_stream.specs.declared.item.Item.{Item};
 ghost use Rattle.llrp_endpoints.specs.EndsAgree.{AfterAllBytes, BytesAreMessages, EachEventHappens, EachScheduleRuns, IsARunOfMessages, NothingIsUnexpected, ViewCatchesUp, ViewIsTable, ReportsArrive, ReportsAreKept, PendingIsOnTheWay, NothingIsPending, TablesArrive};
 ghost use Rattle.llrp_session.specs.MessageAgreement.{ReaderHasHistory, OneActive, NoneDiffers};
 ghost use Rattle.llrp_endpoints.specs.Plan.{Plan};
-ghost use Rattle.llrp_endpoints.specs.PlanLaws.{course_of, TakesEachCommand, StrangeIsTheReaders, HasOneCourse, CoursesGoOn, SendsInOrder, EndsMean, SendsOneByOne, SendsWhereAwaited, SendsWithinLimit, CanEnd};
-ghost use Rattle.llrp_endpoints.specs.Script.{IsLawful, IsScript};
-ghost use Rattle.llrp_endpoints.specs.ScriptLaws.{ScriptOrRefused};
-ghost use Rattle.llrp_endpoints.specs.ServingLaws.{FramesReadBack, IsServedInOneWay, OneTextOfFrames, SaysWithinLimit};
+ghost use Rattle.llrp_endpoints.specs.Calls.PlanLaws.{course_of, TakesEachCommand, StrangeIsTheReaders, HasOneCourse, CoursesGoOn, SendsInOrder, EndsMean, SendsOneByOne, SendsWhereAwaited, SendsWithinLimit, CanEnd};
+ghost use Rattle.llrp_endpoints.specs.Calls.Script.{IsLawful, IsScript};
+ghost use Rattle.llrp_endpoints.specs.Calls.ScriptLaws.{ScriptOrRefused};
+ghost use Rattle.llrp_endpoints.specs.Calls.ServingLaws.{FramesReadBack, IsServedInOneWay, OneTextOfFrames, SaysWithinLimit};
 ghost use Rattle.llrp_endpoints.specs.declared.script.Entry.{Entry};
 
 /// Each lawful list of entries has exactly one script, and a text is the script of at most one

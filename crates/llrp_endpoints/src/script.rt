@@ -2,7 +2,8 @@
 
 ghost use Rattle.std.specs.Prelude.{◌++◌, ◌<◌, ◌^◌, ◌∷◌, ◌≡◌, ◌↔◌, IfErr, IfOk, IsTrue, MatchOption, [], ℕ};
 ghost use Rattle.tag_uri.specs.TagText.{IsTextOf};
-ghost use Rattle.llrp_endpoints.specs.Script.{Continues, IsActionInRange, IsActionLine, IsEntryLine, IsInRange, IsLawful, IsScript, IsSightingInRange, IsSightingLine, MayFollow, NoneContinues, ParseStopped};
+ghost use Rattle.llrp_endpoints.specs.Calls.Script.{Continues, IsActionInRange, IsActionLine, IsEntryLine, IsInRange, IsLawful, IsScript, IsSightingInRange, IsSightingLine, NoneContinues, ParseStopped};
+ghost use Rattle.llrp_endpoints.specs.Private.Script.{MayFollow};
 
 use llrp_listing::{ToolErr, number_of, signed_byte_of, split_once};
 use llrp_session::Sighting;
@@ -44,7 +45,7 @@ pub struct Script {
 impl Model for Script {
     ghost use Rattle.std.specs.Prelude.{List};
     ghost use Rattle.llrp_endpoints.specs.declared.script.Entry.{Entry};
-    ghost use Rattle.llrp_endpoints.specs.Script.{IsLawful};
+    ghost use Rattle.llrp_endpoints.specs.Calls.Script.{IsLawful};
 
     ghost Value = { List Entry };
 

@@ -1,7 +1,8 @@
 //! The frames of messages.
 
 ghost use Rattle.std.specs.Prelude.{◌≡◌, IfErr, OnOk};
-ghost use Rattle.llrp_endpoints.specs.Sending.{Adds, AddsSome};
+ghost use Rattle.llrp_endpoints.specs.Sending.{Adds};
+ghost use Rattle.llrp_endpoints.specs.Calls.Sending.{AddsSome};
 ghost use Rattle.llrp_listing.specs.declared.fault.ToolErr.TheVariants.{Memory};
 
 use llrp_listing::ToolErr;

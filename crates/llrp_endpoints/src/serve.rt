@@ -6,7 +6,7 @@ ghost use Rattle.llrp_stream.specs.Device.{IsFreshSource};
 ghost use Rattle.llrp_endpoints.specs.declared.script.Entry.{Entry};
 ghost use Rattle.llrp_endpoints.specs.RunServe.{RunsServe};
 ghost use Rattle.llrp_endpoints.specs.Serving.{IsNewReader};
-ghost use Rattle.llrp_endpoints.specs.ServingStands.{HasNotStarted, IsFresh};
+ghost use Rattle.llrp_endpoints.specs.Calls.ServingStands.{HasNotStarted, IsFresh};
 
 use crate::script::Script;
 use crate::serving::Serving;

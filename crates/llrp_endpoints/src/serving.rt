@@ -11,7 +11,7 @@ ghost use Rattle.llrp_endpoints.specs.Serving.{BeginsServing, Closes, IsNewReade
 ghost use Rattle.llrp_endpoints.specs.declared.script.Entry.{Entry};
 ghost use Rattle.llrp_listing.specs.declared.fault.ToolErr.{ToolErr as Error};
 ghost use Rattle.llrp_listing.specs.declared.fault.ToolErr.TheVariants.{Memory};
-ghost use Rattle.llrp_endpoints.specs.Acting.{phase_after as the_phase_after};
+ghost use Rattle.llrp_endpoints.specs.Calls.Acting.{phase_after as the_phase_after};
 
 use crate::script::Script;
 use llrp_listing::{ToolErr, error_of};
@@ -55,7 +55,8 @@ fn phase_after(answer: Result<bool, ToolErr>) -> Phase
 
 impl Serving {
     ghost use Rattle.llrp_endpoints.specs.Sending.{Adds};
-    ghost use Rattle.llrp_endpoints.specs.ServingStands.{Feeds, Finishes, Goes, HasFailed, HasNotStarted, HasStarted, IsClosed, IsFresh, IsOpen, StandsFor, Starts};
+    ghost use Rattle.llrp_endpoints.specs.Calls.ServingStands.{Feeds, Goes, HasFailed, HasNotStarted, HasStarted, IsClosed, IsFresh, IsOpen, StandsFor, Starts};
+    ghost use Rattle.llrp_endpoints.specs.Private.ServingStands.{Finishes};
 
     /// A reader that `Reader::new` made, and its script. It takes no memory.
     pub fn new(alloc: Global, core: Reader, script: Script) -> Serving

@@ -9,16 +9,17 @@ use Rattle.tag_bits.proofs.ByteLemmas.{bytes-append, length-bytes}
 use Rattle.llrp_tree.specs.declared.TheConstants.{MAX_DEPTH}
 use Rattle.llrp_schema.specs.declared.kinds.Kind.{Kind}
 use Rattle.llrp_schema.specs.declared.kinds.Kind.TheVariants.{Message, Parameter}
-use Rattle.llrp_tree.specs.Lawful.{AreOctets, octets, own_octets}
+use Rattle.llrp_tree.specs.Lawful.{AreOctets, octets}
+use Rattle.llrp_tree.specs.Calls.Lawful.{own_octets}
 use Rattle.llrp_tree.specs.Spelling.{body_digits, head_digits, message, spell}
 use Rattle.llrp_tree.specs.Tree.{MessageTree}
 use Rattle.llrp_tree.proofs.LengthLemmas.{length-body_digits, length-message_head, length-spell}
-use Rattle.llrp_listing.specs.Encoder.{Appended}
+use Rattle.llrp_listing.specs.Private.Encoder.{Appended}
 use Rattle.llrp_listing.specs.LineChecks.{IsPlaced}
 use Rattle.llrp_listing.specs.NodeLine.{NodeLine}
-use Rattle.llrp_listing.specs.OpenLines.{AllClosed, Begins, Closed, Entry, IsSound, entry, lines_below, open_of}
+use Rattle.llrp_listing.specs.Private.OpenLines.{AllClosed, Begins, Closed, Entry, IsSound, entry, lines_below, open_of}
 use Rattle.llrp_listing.specs.OpenText.{covers}
-use Rattle.llrp_listing.specs.OpenTextSteps.{depth, push}
+use Rattle.llrp_listing.specs.Private.OpenTextSteps.{depth, push}
 use Rattle.llrp_listing.proofs.Closings.{all_closed_more, begins_parameter, closed_trans}
 use Rattle.llrp_listing.proofs.Growing.{covers_pop}
 use Rattle.llrp_listing.proofs.Rows.{spells_nothing}
@@ -26,8 +27,8 @@ use Rattle.llrp_listing.specs.declared.encode.lines.Begun.{Begun}
 use Rattle.llrp_listing.specs.declared.encode.rows.Held.{Held}
 use Rattle.llrp_listing.specs.declared.encode.writer.Refused.{Refused}
 use Rattle.llrp_listing.specs.declared.encode.writer.Writer.{Writer}
-use Rattle.llrp_listing.specs.Writer.{CanBegin, CanStandAt, ClosedAll, ClosedTo, Fails, Front, Holds, KeepsFront, BeginsLine, OpensLine, all_kept, cut_to, inner}
-use Rattle.llrp_listing.specs.OpenNodes.{AreHeld, AreKept, IsChain, IsDoomed, IsPut, OpenNode, chain_digits, chain_octets, entries, line_digits, new_node, node_digits}
+use Rattle.llrp_listing.specs.Private.Writer.{CanBegin, CanStandAt, ClosedAll, ClosedTo, Fails, Front, Holds, KeepsFront, BeginsLine, OpensLine, all_kept, cut_to, inner}
+use Rattle.llrp_listing.specs.Private.OpenNodes.{AreHeld, AreKept, IsChain, IsDoomed, IsPut, OpenNode, chain_digits, chain_octets, entries, line_digits, new_node, node_digits}
 use Rattle.llrp_schema.specs.declared.kinds.ParamKind.{ParamKind}
 use Rattle.llrp_listing.proofs.Chains.{length-line, octets_append}
 use Rattle.llrp_listing.proofs.LineSteps.{length_entries}

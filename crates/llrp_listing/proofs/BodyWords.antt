@@ -9,16 +9,19 @@ use Rattle.llrp_schema.specs.declared.kinds.ParamKind.{ParamKind}
 use Rattle.llrp_schema.specs.declared.kinds.Kind.TheVariants.{Message, Parameter}
 use Rattle.llrp_schema.specs.declared.kinds.Tail.{Tail}
 use Rattle.llrp_schema.specs.declared.kinds.Tail.TheVariants.{Absent, Words, Text, Bits, Data}
-use Rattle.llrp_schema.specs.Schema.{FieldRule, field_rule, fields_of, tail_of}
+use Rattle.llrp_schema.specs.Schema.{FieldRule, fields_of, tail_of}
+use Rattle.llrp_schema.specs.Calls.Schema.{field_rule}
 use Rattle.llrp_listing.specs.declared.fault.Refusal.{Refusal}
 use Rattle.llrp_listing.specs.declared.line.LineErr.{LineErr}
 use Rattle.llrp_listing.specs.declared.line.LineErr.TheVariants.{Refused, Memory}
 use Rattle.llrp_listing.specs.declared.line.ParameterLine.{ParameterLine}
 use Rattle.llrp_listing.specs.Checks.{FirstFailing}
-use Rattle.llrp_listing.specs.LineChecks.{IsInForm, AreInForm, ReadsNumber, body_checks, tail_checks, tail_count}
-use Rattle.llrp_listing.specs.LineReading.{AreRead, IsNoTail, IsParameterRead, IsTailWord, ReadsFields, ReadsMessage, ReadsParameter, ReadsRest, forms_of}
+use Rattle.llrp_listing.specs.LineChecks.{IsInForm, AreInForm, body_checks, tail_checks, tail_count}
+use Rattle.llrp_listing.specs.Private.LineChecks.{ReadsNumber}
+use Rattle.llrp_listing.specs.Private.LineReading.{AreRead, IsNoTail, IsParameterRead, IsTailWord, ReadsFields, ReadsMessage, ReadsParameter, ReadsRest, forms_of}
 use Rattle.llrp_listing.specs.NodeLine.{NumberForm, Version, Id, field_form, number_forms, IsNumberText, AreNumberTexts}
-use Rattle.llrp_listing.specs.Splits.{words, words_in}
+use Rattle.llrp_listing.specs.Lines.{words}
+use Rattle.llrp_listing.specs.Private.Splits.{words_in}
 use Rattle.llrp_listing.proofs.LineWords.{message_forms}
 use Rattle.llrp_listing.proofs.WordLemmas.{only_word, some_word}
 

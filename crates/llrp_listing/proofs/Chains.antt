@@ -10,12 +10,13 @@ use Rattle.llrp_schema.specs.declared.kinds.ParamKind.{ParamKind}
 use Rattle.llrp_schema.specs.declared.kinds.Kind.{Kind}
 use Rattle.llrp_schema.specs.declared.kinds.Kind.TheVariants.{Parameter}
 use Rattle.llrp_schema.specs.Schema.{is_tv, number_of}
-use Rattle.llrp_tree.specs.Lawful.{AreOctets, body_octets, head_octets, octets, own_octets}
+use Rattle.llrp_tree.specs.Lawful.{AreOctets, body_octets, head_octets, octets}
+use Rattle.llrp_tree.specs.Calls.Lawful.{own_octets}
 use Rattle.llrp_tree.specs.Spelling.{body_digits, head_digits, head_of, spell, tlv, tv}
 use Rattle.llrp_tree.specs.Tree as tree
 use Rattle.llrp_tree.proofs.LengthLemmas.{length-body_digits, length-head, length-spell}
-use Rattle.llrp_listing.specs.Writer.{settled, with_two}
-use Rattle.llrp_listing.specs.OpenNodes.{AreKept, IsDoomed, OpenNode, chain_digits, chain_octets, line_digits, node_digits, node_fault, node_octets, with_child}
+use Rattle.llrp_listing.specs.Private.Writer.{settled, with_two}
+use Rattle.llrp_listing.specs.Private.OpenNodes.{AreKept, IsDoomed, OpenNode, chain_digits, chain_octets, line_digits, node_digits, node_fault, node_octets, with_child}
 use Rattle.llrp_listing.proofs.NodeFaults.{own_told}
 
 -- ---- lists of octets

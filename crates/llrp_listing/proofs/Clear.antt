@@ -16,13 +16,13 @@ use Rattle.tag_uri.proofs.TextLaws.{one_fault, words_apart}
 use Rattle.llrp_listing.specs.declared.fault.Refusal.{Refusal}
 use Rattle.llrp_listing.specs.declared.fault.Refusal.TheVariants as refusal
 use Rattle.llrp_listing.specs.Checks.{Check, FirstFailing, AllHold}
-use Rattle.llrp_listing.specs.FirstRefusal.{AreClear}
+use Rattle.llrp_listing.specs.Private.FirstRefusal.{AreClear}
 use Rattle.llrp_listing.specs.LineChecks.{word, IsInForm, AreInForm, IsTailOf, SaysNode, SaysLine, IsName, IsNamed, start_checks, tail_count, word_count, TellsNumber, tail_checks, body_checks, kind_checks, RefusesLineItself}
 use Rattle.llrp_listing.specs.Lines.{TextLine, Ended, Unended}
 use Rattle.llrp_listing.specs.ListingRules.{rules_for}
 use Rattle.llrp_tree.specs.Tree.{words_of}
 use Rattle.llrp_listing.specs.NodeLine.{NodeLine, NumberForm, Version, Id, Unsigned, Signed, Epc, number_forms, signed_text, IsNumberText, AreNumberTexts, tail_texts}
-use Rattle.llrp_listing.specs.Splits.{words}
+use Rattle.llrp_listing.specs.Lines.{words}
 use Rattle.llrp_listing.proofs.BodyWords.{texts_length}
 use Rattle.llrp_listing.proofs.DecimalWords.{digits_of, one_number}
 use Rattle.llrp_listing.proofs.LineShape.{rest_words, said_words, said_printed}

@@ -6,9 +6,9 @@ use Rattle.llrp_tree.specs.Tree.{MessageTree}
 use Rattle.llrp_listing.specs.FirstRefusal.{AllClose, Sound}
 use Rattle.llrp_listing.specs.ListingRules.{closing, lines_onto, row}
 use Rattle.llrp_listing.specs.NodeLine.{NodeLine, message_line}
-use Rattle.llrp_listing.specs.OpenLines.{Entry, entry, lines_below, chain, open_over, open_of, AreNumbered, IsSound, Closed, CanClose, Begins, AllClosed}
+use Rattle.llrp_listing.specs.Private.OpenLines.{Entry, entry, lines_below, chain, open_over, open_of, AreNumbered, IsSound, Closed, CanClose, Begins, AllClosed}
 use Rattle.llrp_listing.specs.OpenText.{Forest, end, node, Begun, OpenText, covers}
-use Rattle.llrp_listing.specs.OpenTextSteps.{join, text_of, add_to, close_in, cut, depth}
+use Rattle.llrp_listing.specs.Private.OpenTextSteps.{join, text_of, add_to, close_in, cut, depth}
 use Rattle.llrp_listing.proofs.Growing.{cut_all, cut_cut, covers_pop}
 use Rattle.llrp_listing.proofs.TreeLines.{row_more}
 

@@ -10,7 +10,7 @@ use Rattle.std.proofs.lemmas.List.{take_all}
 use Rattle.std.proofs.lemmas.Int.Digits.{digits_value_more}
 use Rattle.std.proofs.lemmas.Fmt.{decimal_digit, decimal_step_wide, decimal_by_steps_wide, decimal_is_IsNumeral_wide, length-decimal-le_wide}
 use Rattle.std.proofs.lemmas.Str.Parse.{digit_at}
-use Rattle.llrp_listing.specs.Numeral.{numeral, is_numeral}
+use Rattle.llrp_listing.specs.Private.Numeral.{numeral, is_numeral}
 
 digit : (c : ℕ) → (48 ≤ c) × (c ≤ 57) → digit_value c ≡ c - 48
 digit c r = grind arith

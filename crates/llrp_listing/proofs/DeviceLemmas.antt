@@ -2,7 +2,8 @@
 use Rattle.std.proofs.Common.{◌≡◌, ℕ, ◌+◌, ◌<◌, List, [], ◌∷◌, ◌++◌, length, Option, Some, None, refl, sym, ap, subst, ◌∙◌, arith, append_assoc, add-zero, length-append}
 use Rattle.std.specs.Io.KnownBytes.{Appends, Consumes, Keeps}
 use Rattle.std.proofs.lemmas.List.{append-nil}
-use Rattle.llrp_stream.specs.Device.{SourceLog, SinkLog, Took, Gave, Put, Wrote, WroteAndFailed}
+use Rattle.llrp_stream.specs.Device.{SourceLog, SinkLog, Gave, Wrote, WroteAndFailed}
+use Rattle.llrp_stream.specs.Calls.Device.{Took, Put}
 use Rattle.llrp_listing.specs.Copying.{MOST_READS, GaveAndFailed, ReadAll}
 
 some_took : (old new : SourceLog) (bs : List ℕ) → 0 < length bs → Took old new bs → (new ≡ record old { reads = old.reads + 1; left = new.left }) × Consumes old.left new.left bs

@@ -6,21 +6,21 @@ use Rattle.llrp_listing.specs.declared.fault.ToolErr.{ToolErr}
 use Rattle.llrp_listing.specs.declared.line.Line.{Line}
 use Rattle.llrp_listing.specs.declared.line.Line.TheVariants as said
 use Rattle.llrp_listing.specs.declared.line.LineErr.{LineErr}
-use Rattle.llrp_listing.specs.Copying.{Writes}
-use Rattle.llrp_listing.specs.Encoder.{Finished, SaysAt, StandsAt, Stopped}
-use Rattle.llrp_listing.specs.LineReading.{ReadsLine, SaidIs}
+use Rattle.llrp_listing.specs.Calls.Copying.{Writes}
+use Rattle.llrp_listing.specs.Private.Encoder.{Finished, SaysAt, StandsAt, Stopped}
+use Rattle.llrp_listing.specs.Private.LineReading.{ReadsLine, SaidIs}
 use Rattle.llrp_listing.specs.NodeLine.{NodeLine}
-use Rattle.llrp_listing.specs.Splits.{Lacks}
+use Rattle.llrp_listing.specs.Calls.Splits.{Lacks}
 use Rattle.llrp_listing.proofs.DeviceLemmas.{same_failures}
 use Rattle.llrp_listing.proofs.Standing.{goes_on, handed_on, handing_stops, line_more, pieces_stop}
 use Rattle.llrp_listing.proofs.Zips.{zip_length}
 use Rattle.llrp_listing.specs.declared.encode.Encoder.{Encoder}
 use Rattle.llrp_listing.specs.declared.encode.writer.Writer.{Writer}
-use Rattle.llrp_listing.specs.Writer.{CanStandAt, ClosedAll, Front, Holds, OpensLine, inner}
-use Rattle.llrp_listing.specs.Standing.{Stands, StandsSome}
-use Rattle.llrp_listing.specs.Handing.{PassesOn}
-use Rattle.llrp_listing.specs.OpenNodes.{IsHeld, IsSaid, OpenNode, entries, new_node}
-use Rattle.llrp_listing.specs.Taking.{Rests, line_level, line_node, said_level, said_node}
+use Rattle.llrp_listing.specs.Private.Writer.{CanStandAt, ClosedAll, Front, Holds, OpensLine, inner}
+use Rattle.llrp_listing.specs.Private.Standing.{Stands, StandsSome}
+use Rattle.llrp_listing.specs.Private.Handing.{PassesOn}
+use Rattle.llrp_listing.specs.Private.OpenNodes.{IsHeld, IsSaid, OpenNode, entries, new_node}
+use Rattle.llrp_listing.specs.Private.Taking.{Rests, line_level, line_node, said_level, said_node}
 use Rattle.llrp_listing.specs.declared.encode.taking.Said.{Said}
 use Rattle.llrp_listing.proofs.LineSteps.{length_entries}
 

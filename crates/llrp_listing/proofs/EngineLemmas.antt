@@ -10,9 +10,9 @@ use Rattle.llrp_stream.specs.declared.state.State.{State}
 use Rattle.llrp_stream.specs.declared.state.State.TheVariants as state
 use Rattle.llrp_stream.specs.declared.reading.frames.Frames.{Frames}
 use Rattle.llrp_stream.specs.Cuts.{IsPartial}
-use Rattle.llrp_stream.specs.Frames.{ComesAt, ComesTo, IsIdle, Stops, held_at, held_of, limit_of, raw_of}
-use Rattle.llrp_stream.specs.Pieces.{Stands, Awaits, IsShort}
-use Rattle.llrp_stream.specs.Reading.{Are, Told}
+use Rattle.llrp_stream.specs.Calls.Frames.{ComesAt, ComesTo, IsIdle, Stops, held_at, held_of, limit_of, raw_of}
+use Rattle.llrp_stream.specs.Calls.Pieces.{Stands, Awaits, IsShort}
+use Rattle.llrp_stream.specs.Calls.Reading.{Are, Told}
 use Rattle.llrp_stream.proofs.EngineHeld.{held_limit}
 use Rattle.llrp_stream.proofs.FramesLemmas.{state_comes}
 

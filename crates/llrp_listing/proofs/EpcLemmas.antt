@@ -16,9 +16,9 @@ use Rattle.llrp_stream.specs.Device.{SinkLog}
 use Rattle.llrp_listing.specs.declared.fault.ToolErr.{ToolErr}
 use Rattle.llrp_listing.specs.declared.fault.ToolErr.TheVariants.{Listing, Script, Hex, Read, Write, Bound, Broken, Memory, Peer, Strange, Early}
 use Rattle.llrp_listing.specs.declared.fault.Verdict.{Verdict}
-use Rattle.llrp_listing.specs.Copying.{Writes}
-use Rattle.llrp_listing.specs.EpcLines.{AreDigitsOf, Prints, PrintsEpc}
-use Rattle.llrp_listing.specs.Hexadecimal.{IsHexDigit, SpellBytes}
+use Rattle.llrp_listing.specs.Calls.Copying.{Writes}
+use Rattle.llrp_listing.specs.Calls.EpcLines.{AreDigitsOf, Prints, PrintsEpc}
+use Rattle.llrp_listing.specs.Calls.Hexadecimal.{IsHexDigit, SpellBytes}
 use Rattle.llrp_listing.proofs.HexadecimalLemmas.{ok_if_spelled, spelled_if_ok}
 use Rattle.llrp_listing.proofs.WordDigits.{twelve, word_text, bytes_spelled}
 

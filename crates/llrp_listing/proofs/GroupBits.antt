@@ -11,13 +11,14 @@ use Rattle.llrp_schema.specs.declared.kinds.ParamKind.{ParamKind}
 use Rattle.llrp_schema.specs.declared.kinds.Kind.{Kind}
 use Rattle.llrp_schema.specs.declared.kinds.Place.{Place}
 use Rattle.llrp_schema.specs.Schema.{GroupRule, groups_of}
-use Rattle.llrp_schema.specs.Places.{AreRequired, IsPlace, is_member}
+use Rattle.llrp_schema.specs.Calls.Places.{AreRequired, IsPlace}
+use Rattle.llrp_schema.specs.Schema.{is_member}
 use Rattle.llrp_schema.proofs.PlaceLemmas.{needs_one_at_most}
 use Rattle.llrp_tree.specs.Tree.{Forest, trees}
 use Rattle.llrp_tree.specs.Lawful.{count}
 use Rattle.llrp_tree.specs.Checks.{none_missing, members}
 use Rattle.llrp_tree.proofs.LawLemmas.{both, both_true, count-members}
-use Rattle.llrp_listing.specs.OpenNodes.{AreSeen}
+use Rattle.llrp_listing.specs.Private.OpenNodes.{AreSeen}
 
 -- ---- tests at places
 

@@ -3,7 +3,7 @@ use Rattle.std.proofs.Common.{◌≡◌, ℕ, zero, suc, ◌+◌, ◌-◌, ◌�
 use Rattle.std.proofs.lemmas.List.{append-nil}
 use Rattle.llrp_listing.specs.OpenText.{Forest, end, node, nodes, Begun, OpenText, chain_nodes, covers}
 use Rattle.llrp_listing.specs.FirstRefusal.{LastOpen, IsLastOpen}
-use Rattle.llrp_listing.specs.OpenTextSteps.{join, text_of, add_to, add, close_in, close, pop, depth, cut, push, put}
+use Rattle.llrp_listing.specs.Private.OpenTextSteps.{join, text_of, add_to, add, close_in, close, pop, depth, cut, push, put}
 
 pub join_end : {H : Type 0} (f : Forest H) → join f end ≡ f
 join_end end = refl

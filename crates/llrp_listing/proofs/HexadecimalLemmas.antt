@@ -7,7 +7,7 @@ use Rattle.hex.specs.Hex.{hex_digit_value, decode_pairs, decode_of, pair_value, 
 use Rattle.hex.specs.declared.error.FromHexError.{FromHexError}
 use Rattle.hex.proofs.HexLemmas.{decode_of-ok, decode_of-even}
 use Rattle.hex.proofs.Pairs.{cons_byte, decode_pairs-ok_pair}
-use Rattle.llrp_listing.specs.Hexadecimal.{is_space, IsHexDigit, IsHexOf, IsNoHex, SpellBytes}
+use Rattle.llrp_listing.specs.Calls.Hexadecimal.{is_space, IsHexDigit, IsHexOf, IsNoHex, SpellBytes}
 
 -- what an `Ok` after a step shows
 bind_ok : {A B : Type 0} (r : Result A FromHexError) (f : A → Result B FromHexError) (y : B) → (r >>= f) ≡ Ok y → (x : A) × (r ≡ Ok x) × (f x ≡ Ok y)

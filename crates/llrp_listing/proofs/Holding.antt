@@ -7,8 +7,8 @@ use Rattle.llrp_schema.specs.Schema.{is_tv}
 use Rattle.llrp_tree.specs.Lawful.{AreLawful, head_octets}
 use Rattle.llrp_listing.specs.declared.encode.rows.Held.{Held}
 use Rattle.llrp_listing.specs.declared.encode.writer.Writer.{Writer}
-use Rattle.llrp_listing.specs.Writer.{Holds, HoldsAbove, inner, settled}
-use Rattle.llrp_listing.specs.OpenNodes.{AreHeld, AreKept, IsChain, IsHeld, OpenNode, node_fault, with_child}
+use Rattle.llrp_listing.specs.Private.Writer.{Holds, HoldsAbove, inner, settled}
+use Rattle.llrp_listing.specs.Private.OpenNodes.{AreHeld, AreKept, IsChain, IsHeld, OpenNode, node_fault, with_child}
 use Rattle.llrp_listing.proofs.Chains.{kept_closed, kept_within, settled_inside, settled_octets, length-settled, size_is, own_size}
 use Rattle.llrp_listing.proofs.LineSteps.{parameter_lawful}
 

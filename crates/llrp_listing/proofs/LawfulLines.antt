@@ -22,10 +22,11 @@ use Rattle.llrp_tree.proofs.LengthLemmas.{frame_length}
 use Rattle.llrp_stream.specs.Items.{FrameOf}
 use Rattle.llrp_listing.specs.declared.fault.Refusal.TheVariants.{OverLimit}
 use Rattle.llrp_listing.specs.Encoding.{AreSpelled}
-use Rattle.llrp_listing.specs.FirstRefusal.{AllClose, Lists}
+use Rattle.llrp_listing.specs.FirstRefusal.{AllClose}
+use Rattle.llrp_listing.specs.Calls.FirstRefusal.{Lists}
 use Rattle.llrp_listing.specs.LineChecks.{LONGEST_LINE, IsPlaced, IsInForm, AreInForm, IsTailOf, SaysNode, SaysLine}
 use Rattle.llrp_listing.specs.Lines.{TextLine, Ended, lines_of}
-use Rattle.llrp_listing.specs.ListingLaws.{AreShort}
+use Rattle.llrp_listing.specs.Calls.ListingLaws.{AreShort}
 use Rattle.llrp_listing.specs.ListingRules.{closing, node_refusal, message_refusal, lines_onto, row, rules_for}
 use Rattle.llrp_listing.specs.MessageListing.{parameter_lines, message_lines, messages_lines, IsListingOf}
 use Rattle.llrp_listing.specs.NodeLine.{NodeLine, NumberForm, Version, Id, Unsigned, Signed, Epc, field_form, number_forms, spaced, message_line, parameter_line, IsLine}

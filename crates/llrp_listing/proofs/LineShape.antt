@@ -20,7 +20,8 @@ use Rattle.llrp_listing.specs.LineChecks.{is_printed, IsInForm, AreInForm, IsTai
 use Rattle.llrp_listing.specs.Lines.{NoLf}
 use Rattle.llrp_tree.specs.Tree.{words_of}
 use Rattle.llrp_listing.specs.NodeLine.{NodeLine, NumberForm, Version, Id, Unsigned, Signed, Epc, number_forms, signed_text, IsNumberText, AreNumberTexts, tail_texts, spaced}
-use Rattle.llrp_listing.specs.Splits.{Lacks, words}
+use Rattle.llrp_listing.specs.Calls.Splits.{Lacks}
+use Rattle.llrp_listing.specs.Lines.{words}
 use Rattle.llrp_listing.proofs.DecimalWords.{digits_of, left, right}
 use Rattle.llrp_listing.proofs.TailWords.{below-at, AreSmall, words_small}
 use Rattle.llrp_listing.proofs.WordLemmas.{one_part, first_part}

@@ -9,18 +9,18 @@ use Rattle.llrp_tree.specs.Lawful.{AreLawful}
 use Rattle.llrp_tree.proofs.LawLemmas.{lawful_from}
 use Rattle.llrp_listing.specs.ListingRules.{closing, kind_closing, lines_onto, node_refusal}
 use Rattle.llrp_listing.specs.NodeLine.{NodeLine, parameter_line}
-use Rattle.llrp_listing.specs.OpenLines.{Closed, Entry, entry, open_over}
+use Rattle.llrp_listing.specs.Private.OpenLines.{Closed, Entry, entry, open_over}
 use Rattle.llrp_listing.specs.OpenText.{Forest, end, node}
-use Rattle.llrp_listing.specs.OpenTextSteps.{join}
+use Rattle.llrp_listing.specs.Private.OpenTextSteps.{join}
 use Rattle.llrp_listing.proofs.Closings.{close_sound, closed_none, closed_trans, length_chain}
 use Rattle.llrp_listing.proofs.Zips.{zip_length}
 use Rattle.llrp_listing.proofs.Growing.{cut_one}
 use Rattle.llrp_listing.proofs.TreeLines.{lines_join, parameters_back}
 use Rattle.llrp_listing.specs.declared.encode.rows.Held.{Held}
-use Rattle.llrp_listing.specs.OpenNodes.{IsHeld, OpenNode, entries, entry_of, kind_fault, node_fault, with_child}
+use Rattle.llrp_listing.specs.Private.OpenNodes.{IsHeld, OpenNode, entries, entry_of, kind_fault, node_fault, with_child}
 use Rattle.llrp_listing.specs.declared.encode.writer.Refused.{Refused}
 use Rattle.llrp_listing.specs.declared.encode.writer.Writer.{Writer}
-use Rattle.llrp_listing.specs.Writer.{ClosedSoFar, ClosesOne, Fails, FailsOne, Holds, inner}
+use Rattle.llrp_listing.specs.Private.Writer.{ClosedSoFar, ClosesOne, Fails, FailsOne, Holds, inner}
 use Rattle.llrp_listing.proofs.NodeFaults.{tail_octets}
 
 -- ---- whether a line can be closed

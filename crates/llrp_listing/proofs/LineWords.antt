@@ -7,15 +7,16 @@ use Rattle.llrp_schema.specs.declared.kinds.ParamKind.{ParamKind}
 use Rattle.llrp_schema.specs.declared.kinds.Kind.{Kind}
 use Rattle.llrp_schema.specs.declared.kinds.Kind.TheVariants.{Message, Parameter}
 use Rattle.llrp_schema.specs.declared.kinds.Profile.TheVariants.{Own}
-use Rattle.llrp_schema.specs.Schema.{name_of, fields_of, plain_fields_of, profile_of, message_with_name, param_with_name}
+use Rattle.llrp_schema.specs.Schema.{name_of, fields_of, plain_fields_of, profile_of}
+use Rattle.llrp_schema.specs.Calls.Schema.{message_with_name, param_with_name}
 use Rattle.llrp_schema.proofs.TableLaws.{message_name_found, param_name_found, few_plain_fields, name_begins}
 use Rattle.llrp_tree.specs.declared.TheConstants.{MAX_DEPTH}
 use Rattle.llrp_listing.specs.declared.fault.Refusal.TheVariants as refusal
 use Rattle.llrp_listing.specs.LineChecks.{word, IsPlaced, HasLevel, IsName, IsNamed}
-use Rattle.llrp_listing.specs.LineReading.{IsLevel, IsKindNamed, ReadsStart, forms_of}
+use Rattle.llrp_listing.specs.Private.LineReading.{IsLevel, IsKindNamed, ReadsStart, forms_of}
 use Rattle.llrp_listing.specs.NodeLine.{number_forms, field_form}
-use Rattle.llrp_listing.specs.Numeral.{numeral}
-use Rattle.llrp_listing.specs.Splits.{words}
+use Rattle.llrp_listing.specs.Private.Numeral.{numeral}
+use Rattle.llrp_listing.specs.Lines.{words}
 use Rattle.llrp_listing.proofs.DecimalWords.{numeral_is, no_text, same_number, one_number}
 
 -- ---- names

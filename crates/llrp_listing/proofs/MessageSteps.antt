@@ -14,7 +14,8 @@ use Rattle.llrp_schema.proofs.TableLaws.{message_tail}
 use Rattle.llrp_tree.specs.declared.TheConstants.{MAX_LIMIT}
 use Rattle.llrp_tree.specs.Checks.{first_message_fault}
 use Rattle.llrp_tree.specs.Frame.{Frame}
-use Rattle.llrp_tree.specs.Lawful.{AreOctets, IsLawfulMessage, message_octets, octets, own_octets}
+use Rattle.llrp_tree.specs.Lawful.{AreOctets, IsLawfulMessage, message_octets, octets}
+use Rattle.llrp_tree.specs.Calls.Lawful.{own_octets}
 use Rattle.llrp_tree.specs.Spelling.{body_digits, head_digits, message_digits, spell}
 use Rattle.llrp_tree.specs.Tree as tree
 use Rattle.llrp_tree.specs.Tree.{MessageTree, trees}
@@ -25,7 +26,7 @@ use Rattle.llrp_listing.specs.declared.fault.Refusal.TheVariants.{OverLimit}
 use Rattle.llrp_listing.specs.LineChecks.{AreInForm, IsTailOf}
 use Rattle.llrp_listing.specs.ListingRules.{closing, kind_closing, lines_onto, message_refusal}
 use Rattle.llrp_listing.specs.NodeLine.{NodeLine, number_forms, message_line}
-use Rattle.llrp_listing.specs.OpenLines.{AllClosed, CanClose, entry, lines_below}
+use Rattle.llrp_listing.specs.Private.OpenLines.{AllClosed, CanClose, entry, lines_below}
 use Rattle.llrp_listing.specs.OpenText.{end}
 use Rattle.llrp_listing.proofs.Closings.{all_closed_one, closed_none}
 use Rattle.llrp_listing.proofs.Rows.{spells_one}
@@ -33,8 +34,8 @@ use Rattle.llrp_listing.proofs.TreeLines.{parameters_back}
 use Rattle.llrp_listing.specs.declared.encode.rows.Held.{Held}
 use Rattle.llrp_listing.specs.declared.encode.writer.Refused.{Refused}
 use Rattle.llrp_listing.specs.declared.encode.writer.Writer.{Writer}
-use Rattle.llrp_listing.specs.Writer.{ClosedAll, Fails, Holds, inner, with_four, with_two}
-use Rattle.llrp_listing.specs.OpenNodes.{AreHeld, AreKept, IsDoomed, IsHeld, IsSaid, OpenNode, chain_digits, chain_octets, entries, entry_of, kind_fault, line_digits, node_fault, node_octets}
+use Rattle.llrp_listing.specs.Private.Writer.{ClosedAll, Fails, Holds, inner, with_four, with_two}
+use Rattle.llrp_listing.specs.Private.OpenNodes.{AreHeld, AreKept, IsDoomed, IsHeld, IsSaid, OpenNode, chain_digits, chain_octets, entries, entry_of, kind_fault, line_digits, node_fault, node_octets}
 use Rattle.llrp_listing.proofs.Chains.{digits_two, length-two, octets_two, splice, two_inside}
 use Rattle.llrp_listing.proofs.NodeFaults.{own_told}
 

@@ -9,7 +9,7 @@ use Rattle.std.proofs.lemmas.Bool.{eqb-true}
 use Rattle.std.proofs.lemmas.List.{drop-drop, drop_more, length-take, take-append-drop, take_all}
 use Rattle.std.proofs.Math.Seq.{take-add}
 use Rattle.std.proofs.lemmas.List.Sums.{prefix_len-le-length, prefix_len_stops}
-use Rattle.llrp_listing.specs.Splits.{IsSplit, Lacks}
+use Rattle.llrp_listing.specs.Calls.Splits.{IsSplit, Lacks}
 
 -- no such byte comes before the first one
 before_lacks : (byte : ℕ) (xs : List ℕ) → Lacks byte (take (prefix_len (λ x. not (x == byte)) xs) xs)

@@ -17,16 +17,17 @@ use Rattle.llrp_tree.specs.declared.node.NodeFault.{NodeFault}
 use Rattle.llrp_tree.specs.declared.node.NodeFault.TheVariants.{FieldCount, Value, Tail as BadTail, Misplaced, TooMany, Missing}
 use Rattle.llrp_tree.specs.Tree.{Forest, and, Tree, trees}
 use Rattle.llrp_tree.specs.Lawful.{AreOctets, count, has_place, is_member}
-use Rattle.llrp_tree.specs.Checks.{all_placed, at_most, count_fits, first_failed, first_fault, first_message_fault, members, none_missing, none_too_many, table_tests, tail_fits, values_fit}
+use Rattle.llrp_tree.specs.Checks.{all_placed, count_fits, first_failed, first_fault, first_message_fault, members, none_missing, none_too_many, table_tests, tail_fits, values_fit}
+use Rattle.llrp_tree.specs.Lawful.{at_most}
 use Rattle.llrp_tree.specs.OpenTree.{takes_more}
 use Rattle.llrp_tree.proofs.LawLemmas.{count-members}
 use Rattle.llrp_tree.proofs.TestLemmas.{failed_before, passed_before}
 use Rattle.llrp_listing.specs.LineChecks.{IsTailOf}
 use Rattle.llrp_listing.specs.NodeLine.{NodeLine}
 use Rattle.llrp_schema.specs.declared.kinds.Place.{Place}
-use Rattle.llrp_schema.specs.Places.{IsPlace}
+use Rattle.llrp_schema.specs.Calls.Places.{IsPlace}
 use Rattle.llrp_listing.proofs.GroupBits.{most_here, most_of, only_here}
-use Rattle.llrp_listing.specs.OpenNodes.{AreSeen, IsCounted, MOST, after_misplaced, after_too_many, early_fault, early_tests, node_fault, own_fault, own_tail, own_tests, size_tests, values_of, version_fits}
+use Rattle.llrp_listing.specs.Private.OpenNodes.{AreSeen, IsCounted, MOST, after_misplaced, after_too_many, early_fault, early_tests, node_fault, own_fault, own_tail, own_tests, size_tests, values_of, version_fits}
 
 -- ---- all tests
 

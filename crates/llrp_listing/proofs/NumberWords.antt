@@ -6,10 +6,11 @@ use Rattle.std.specs.Char.{is_ascii_digit}
 use Rattle.std.specs.Str.{all_ascii_digits}
 use Rattle.llrp_listing.specs.declared.fault.Refusal.{Refusal}
 use Rattle.llrp_listing.specs.declared.fault.Refusal.TheVariants as refusal
-use Rattle.llrp_listing.specs.LineChecks.{IsInForm, ReadsNumber}
-use Rattle.llrp_listing.specs.LineReading.{ReadsNegative, ReadsPositive}
+use Rattle.llrp_listing.specs.LineChecks.{IsInForm}
+use Rattle.llrp_listing.specs.Private.LineChecks.{ReadsNumber}
+use Rattle.llrp_listing.specs.Private.LineReading.{ReadsNegative, ReadsPositive}
 use Rattle.llrp_listing.specs.NodeLine.{Version, Id, Unsigned, Signed, signed_text}
-use Rattle.llrp_listing.specs.Numeral.{numeral}
+use Rattle.llrp_listing.specs.Private.Numeral.{numeral}
 use Rattle.llrp_listing.proofs.DecimalWords.{digits_of, numeral_is, no_text, same_number}
 
 -- a number of each decimal form is below 10 ^ 20

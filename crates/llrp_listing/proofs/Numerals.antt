@@ -13,7 +13,7 @@ use Rattle.std.proofs.lemmas.Str.{digit_value_digit}
 use Rattle.std.proofs.lemmas.Str.Parse.{tells_all_ascii_digits}
 use Rattle.tag_uri.specs.Decimal.{padded}
 use Rattle.tag_uri.proofs.DecimalLemmas.{last_part, length-padded, mod_small}
-use Rattle.llrp_listing.specs.Numeral.{ReadsFront}
+use Rattle.llrp_listing.specs.Private.Numeral.{ReadsFront}
 
 -- ---- lists of digits
 

@@ -6,7 +6,7 @@ use Rattle.tag_uri.proofs.HexadecimalLemmas.{one_number}
 use Rattle.tag_uri.proofs.TextLaws.{one_fault, text_or_fault, texts_same, words_apart}
 use Rattle.llrp_listing.specs.declared.fault.Verdict.{Verdict}
 use Rattle.llrp_listing.specs.declared.fault.Verdict.TheVariants.{Lawful, Faulty}
-use Rattle.llrp_listing.specs.EpcLines.{AreDigitsOf, AreWordLines, IsRemark, IsTextLine, Prints, line, refusal_line, remark_line}
+use Rattle.llrp_listing.specs.Calls.EpcLines.{AreDigitsOf, AreWordLines, IsRemark, IsTextLine, Prints, line, refusal_line, remark_line}
 
 one_word : (text : List ℕ) (v w : ℕ) → AreDigitsOf text v → AreDigitsOf text w → v ≡ w
 one_word text v w p q = one_number v w p.below q.below (sym p.raised ∙ q.raised)

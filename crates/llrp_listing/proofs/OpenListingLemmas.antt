@@ -15,17 +15,17 @@ use Rattle.llrp_tree.specs.Lawful.{AreInRange, AreOctets}
 use Rattle.llrp_tree.proofs.OctetLemmas.{octets-append}
 use Rattle.llrp_tree.specs.Spelling.{Head, message, tlv, tv}
 use Rattle.llrp_tree.specs.OpenTree.{Begun, kind_of, plain_values, rules, form, due, Rest, tail_due, has_tail, AreLeading, IsReadTail, IsHead, IsOpenTree}
-use Rattle.llrp_tree.specs.Standing.{leading}
+use Rattle.llrp_tree.specs.Calls.Standing.{leading}
 use Rattle.llrp_schema.proofs.TableLaws.{message_tail}
 use Rattle.llrp_tree.proofs.Leading.{plain_in_range}
 use Rattle.llrp_tree.proofs.WholeNodes.{no_field_due}
 use Rattle.llrp_listing.specs.NodeLine.{NodeLine, NumberForm, number_forms, field_form, IsNumberText, AreNumberTexts, tail_texts, spaced, IsLine, message_line, parameter_line}
 use Rattle.llrp_listing.specs.MessageListing.{AreLines, parameter_lines, message_lines}
-use Rattle.llrp_listing.specs.Printing.{AppendsLines}
+use Rattle.llrp_listing.specs.Private.Printing.{AppendsLines}
 use Rattle.llrp_listing.proofs.PrintingLemmas.{lines_append}
-use Rattle.llrp_stream.specs.Told.{with_field, with_child, with_closed, with_value, with_octets, IsNextField, IsNextValue, IsBeforeTail, IsInTail, AreWhole, IsReady, IsMessageOf}
-use Rattle.llrp_listing.specs.Tails.{AreTold, MoreTail}
-use Rattle.llrp_listing.specs.OpenListing.{AreFirstTexts, first_numbers, numbers_of, read_texts, IsBegunLine, Opened, Begins}
+use Rattle.llrp_stream.specs.Calls.Told.{with_field, with_child, with_closed, with_value, with_octets, IsNextField, IsNextValue, IsBeforeTail, IsInTail, AreWhole, IsReady, IsMessageOf}
+use Rattle.llrp_listing.specs.Private.Tails.{AreTold, MoreTail}
+use Rattle.llrp_listing.specs.Private.OpenListing.{AreFirstTexts, first_numbers, numbers_of, read_texts, IsBegunLine, Opened, Begins}
 
 -- ---- a text that grew
 

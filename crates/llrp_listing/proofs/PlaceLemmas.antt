@@ -5,7 +5,7 @@ use Rattle.std.proofs.lemmas.List.{append-nil, drop-take, length-take-le, take_a
 use Rattle.std.proofs.lemmas.List.Edits.{take-paste}
 use Rattle.std.proofs.Math.Seq.{take-append-add}
 use Rattle.tag_uri.specs.Room.{HasText}
-use Rattle.llrp_listing.specs.Place.{Puts}
+use Rattle.llrp_listing.specs.Private.Place.{Puts}
 
 -- ---- texts
 

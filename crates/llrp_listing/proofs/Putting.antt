@@ -16,21 +16,23 @@ use Rattle.llrp_schema.specs.declared.kinds.Profile.TheVariants.{Own}
 use Rattle.llrp_schema.specs.Schema.{GroupRule, FieldRule, bits_of, fields_of, groups_of, profile_of, tail_of}
 use Rattle.llrp_tree.specs.declared.node.NodeFault.{NodeFault}
 use Rattle.llrp_tree.specs.declared.node.NodeFault.TheVariants.{FieldCount, Value, Tail as BadTail, Misplaced, TooMany}
-use Rattle.llrp_tree.specs.Checks.{all_placed, at_most, count_fits, first_failed, members, none_too_many, tail_fits, values_fit}
+use Rattle.llrp_tree.specs.Checks.{all_placed, count_fits, first_failed, members, none_too_many, tail_fits, values_fit}
+use Rattle.llrp_tree.specs.Lawful.{at_most}
 use Rattle.llrp_schema.proofs.TableLaws.{message_tail}
-use Rattle.llrp_tree.specs.Lawful.{AreOctets, body_octets, count, count_octets, own_octets}
-use Rattle.llrp_tree.specs.Spelled.{all_fields, message_start, parameter_start}
+use Rattle.llrp_tree.specs.Lawful.{AreOctets, body_octets, count, count_octets}
+use Rattle.llrp_tree.specs.Calls.Lawful.{own_octets}
+use Rattle.llrp_tree.specs.Calls.Spelled.{all_fields, message_start, parameter_start}
 use Rattle.llrp_tree.specs.Spelling.{body_digits, count_digits, head_digits, head_of, message}
 use Rattle.llrp_tree.specs.Tree as tree
-use Rattle.llrp_tree.specs.Writing.{Appends}
+use Rattle.llrp_tree.specs.Calls.Writing.{Appends}
 use Rattle.llrp_tree.proofs.LawLemmas.{both}
 use Rattle.llrp_tree.proofs.OwnLemmas.{short_message, short_parameter}
 use Rattle.llrp_listing.specs.LineChecks.{AreInForm, IsInForm}
 use Rattle.llrp_listing.specs.NodeLine.{NodeLine, NumberForm, field_form, number_forms}
 use Rattle.llrp_listing.specs.declared.encode.lines.Begun.{Begun}
-use Rattle.llrp_listing.specs.Writer.{CanBegin}
-use Rattle.llrp_listing.specs.OpenNodes.{AreSeen, IsPut, IsSaid, MOST, early_fault, line_digits, own_fault, own_tail, own_tests, values_of, version_fits}
-use Rattle.llrp_listing.specs.LineOctets.{Puts}
+use Rattle.llrp_listing.specs.Private.Writer.{CanBegin}
+use Rattle.llrp_listing.specs.Private.OpenNodes.{AreSeen, IsPut, IsSaid, MOST, early_fault, line_digits, own_fault, own_tail, own_tests, values_of, version_fits}
+use Rattle.llrp_listing.specs.Private.LineOctets.{Puts}
 use Rattle.llrp_listing.proofs.Chains.{octets_append}
 use Rattle.llrp_listing.proofs.NodeFaults.{tail_octets}
 

@@ -6,10 +6,11 @@ use Rattle.std.specs.Io.KnownBytes.{Consumes, Keeps}
 use Rattle.llrp_listing.specs.declared.fault.ToolErr.{ToolErr}
 use Rattle.llrp_listing.specs.declared.fault.ToolErr.TheVariants.{Listing, Script, Hex, Read, Write, Bound, Memory, Broken, Peer, Strange, Early}
 use Rattle.llrp_listing.specs.Copying.{MOST_READS, ReadAll}
-use Rattle.llrp_stream.specs.Device.{SourceLog, SinkLog, Gave, Took}
-use Rattle.llrp_listing.specs.Encoder.{StandsAt, Stopped, StoppedAtEnd, WroteEncoding}
+use Rattle.llrp_stream.specs.Device.{SourceLog, SinkLog, Gave}
+use Rattle.llrp_stream.specs.Calls.Device.{Took}
+use Rattle.llrp_listing.specs.Private.Encoder.{StandsAt, Stopped, StoppedAtEnd, WroteEncoding}
 use Rattle.llrp_listing.specs.Encoding.{EncodeStopped, Encoded}
-use Rattle.llrp_listing.specs.OpenLines.{Entry}
+use Rattle.llrp_listing.specs.Private.OpenLines.{Entry}
 use Rattle.llrp_listing.proofs.DeviceLemmas.{consumes_more}
 use Rattle.llrp_listing.proofs.Standing.{handed_all}
 

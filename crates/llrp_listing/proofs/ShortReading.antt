@@ -12,14 +12,16 @@ use Rattle.llrp_schema.specs.declared.kinds.Profile.TheVariants.{Own}
 use Rattle.llrp_schema.specs.declared.kinds.Tail.{Tail}
 use Rattle.llrp_schema.specs.declared.kinds.Tail.TheVariants.{Absent}
 use Rattle.llrp_schema.specs.declared.kinds.Field.{Field}
-use Rattle.llrp_schema.specs.Schema.{FieldRule, field_rule, fields_of, name_of, profile_of, tail_of}
+use Rattle.llrp_schema.specs.Schema.{FieldRule, fields_of, name_of, profile_of, tail_of}
+use Rattle.llrp_schema.specs.Calls.Schema.{field_rule}
 use Rattle.llrp_schema.proofs.TableLaws.{message_tail}
 use Rattle.llrp_tree.specs.declared.TheConstants.{MAX_DEPTH}
-use Rattle.llrp_listing.specs.Encoder.{SaysAt}
-use Rattle.llrp_listing.specs.LineChecks.{AreInForm, IsTailOf, LONGEST_LINE, ReadsNumber}
+use Rattle.llrp_listing.specs.Private.Encoder.{SaysAt}
+use Rattle.llrp_listing.specs.LineChecks.{AreInForm, IsTailOf, LONGEST_LINE}
+use Rattle.llrp_listing.specs.Private.LineChecks.{ReadsNumber}
 use Rattle.llrp_listing.specs.NodeLine.{AreNumberTexts, Id, NumberForm, Unsigned, Version, field_form, number_forms, parameter_line, spaced, tail_texts}
-use Rattle.llrp_listing.specs.Numeral.{numeral}
-use Rattle.llrp_listing.specs.ShortLines.{AreAllNumbers}
+use Rattle.llrp_listing.specs.Private.Numeral.{numeral}
+use Rattle.llrp_listing.specs.Private.ShortLines.{AreAllNumbers}
 use Rattle.llrp_listing.proofs.NumberWords.{unsigned_read}
 
 -- ---- names

@@ -9,7 +9,7 @@ use Rattle.llrp_listing.specs.declared.fault.Verdict.{Verdict}
 use Rattle.llrp_listing.specs.declared.show.Lister.{Lister}
 use Rattle.llrp_listing.specs.Copying.{ReadAll}
 use Rattle.llrp_listing.specs.Encoding.{WasRead}
-use Rattle.llrp_listing.specs.Lister.{Feeds, Finishes}
+use Rattle.llrp_listing.specs.Private.Lister.{Feeds, Finishes}
 use Rattle.llrp_listing.specs.Show.{Listed, ShowStopped, Shows, Stopped}
 use Rattle.llrp_listing.proofs.DeviceLemmas.{same_failures}
 

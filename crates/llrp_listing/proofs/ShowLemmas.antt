@@ -17,7 +17,7 @@ use Rattle.llrp_stream.specs.Device.{SinkLog, Wrote}
 use Rattle.llrp_stream.specs.declared.reading.frames.Frames.{Frames}
 use Rattle.llrp_stream.specs.declared.reading.frames.Outcome.{Outcome}
 use Rattle.llrp_stream.specs.declared.reading.frames.Outcome.TheVariants.{Whole, Bad}
-use Rattle.llrp_stream.specs.Frames.{ComesTo, IsBroken, IsFrontOf, IsIdle, Stops, TakesOn, limit_of}
+use Rattle.llrp_stream.specs.Calls.Frames.{ComesTo, IsBroken, IsFrontOf, IsIdle, Stops, TakesOn, limit_of}
 use Rattle.llrp_stream.specs.Items.{IsItemOf, Items, ItemsSoFar}
 use Rattle.llrp_stream.proofs.FrontLemmas.{no_frame_breaks}
 use Rattle.llrp_stream.proofs.RunLemmas.{items_grow}
@@ -28,11 +28,13 @@ use Rattle.llrp_listing.specs.declared.fault.ToolErr.TheVariants.{Listing, Scrip
 use Rattle.llrp_listing.specs.declared.fault.Verdict.{Verdict}
 use Rattle.llrp_listing.specs.declared.printing.printer.Printer.{Printer}
 use Rattle.llrp_listing.specs.declared.show.Lister.{Lister}
-use Rattle.llrp_listing.specs.Copying.{HandsOn, IsPrefix, Writes}
-use Rattle.llrp_listing.specs.Lister.{Awaits, Holds, Tells, ListedSoFar, GoesOn, IsBrokenOff, Finishes, KeepsFew, Lists, ListsOrFails}
-use Rattle.llrp_listing.specs.OpenListing.{Begins, IsMarked, Opened}
+use Rattle.llrp_listing.specs.Private.Copying.{HandsOn}
+use Rattle.llrp_listing.specs.Copying.{IsPrefix}
+use Rattle.llrp_listing.specs.Calls.Copying.{Writes}
+use Rattle.llrp_listing.specs.Private.Lister.{Awaits, Holds, Tells, ListedSoFar, GoesOn, IsBrokenOff, Finishes, KeepsFew, Lists, ListsOrFails}
+use Rattle.llrp_listing.specs.Private.OpenListing.{Begins, IsMarked, Opened}
 use Rattle.llrp_listing.specs.MessageListing.{message_lines}
-use Rattle.llrp_listing.specs.Printing.{AppendsItem, AppendsLines}
+use Rattle.llrp_listing.specs.Private.Printing.{AppendsItem, AppendsLines}
 use Rattle.llrp_listing.specs.Show.{verdict_of, Listed, BeginsListing, Stopped, WroteFrames}
 use Rattle.llrp_listing.specs.StreamListing.{IsItemText, AreItemTexts, IsStreamListing, end_text, fault_text, is_message, is_clean, is_lawful}
 use Rattle.llrp_listing.proofs.DeviceLemmas.{wrote_nothing, wrote_more, wrote_then_failed, same_failures}

@@ -6,13 +6,14 @@ use Rattle.llrp_schema.specs.declared.kinds.ParamKind.{ParamKind}
 use Rattle.llrp_schema.specs.declared.kinds.Profile.TheVariants.{Own}
 use Rattle.llrp_schema.specs.declared.kinds.Tail.TheVariants.{Absent}
 use Rattle.llrp_schema.specs.declared.kinds.Kind.TheVariants.{Parameter}
-use Rattle.llrp_schema.specs.Schema.{FieldRule, field_rule, fields_of, name_of, profile_of, tail_of}
+use Rattle.llrp_schema.specs.Schema.{FieldRule, fields_of, name_of, profile_of, tail_of}
+use Rattle.llrp_schema.specs.Calls.Schema.{field_rule}
 use Rattle.llrp_tree.specs.declared.TheConstants.{MAX_DEPTH}
-use Rattle.llrp_listing.specs.Encoder.{SaysAt}
+use Rattle.llrp_listing.specs.Private.Encoder.{SaysAt}
 use Rattle.llrp_listing.specs.LineChecks.{AreInForm, IsInForm, LONGEST_LINE}
-use Rattle.llrp_listing.specs.LineReading.{forms_of}
+use Rattle.llrp_listing.specs.Private.LineReading.{forms_of}
 use Rattle.llrp_listing.specs.NodeLine.{AreNumberTexts, IsNumberText, NumberForm, Unsigned, number_forms, parameter_line, spaced}
-use Rattle.llrp_listing.specs.ShortLines.{AreAllNumbers, AreSpaced}
+use Rattle.llrp_listing.specs.Private.ShortLines.{AreAllNumbers, AreSpaced}
 use Rattle.llrp_listing.proofs.NamedLines.{says}
 
 -- no field, no number

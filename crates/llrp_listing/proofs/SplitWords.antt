@@ -7,8 +7,8 @@ use Rattle.std.specs.Int.{w8}
 use Rattle.std.specs.Str.{all_ascii_digits, bytes_eq}
 use Rattle.std.proofs.lemmas.Bool.{eq-eqb, ne_eqb}
 use Rattle.std.proofs.lemmas.Slice.Eq.{bytes_eq-Decides}
-use Rattle.llrp_listing.specs.Splits.{Lacks, IsSplit}
-use Rattle.llrp_listing.specs.Numeral.{numeral}
+use Rattle.llrp_listing.specs.Calls.Splits.{Lacks, IsSplit}
+use Rattle.llrp_listing.specs.Private.Numeral.{numeral}
 use Rattle.llrp_listing.proofs.DecimalWords.{digits_of, numeral_back}
 
 -- both of two tests

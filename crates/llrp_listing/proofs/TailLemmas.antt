@@ -14,7 +14,7 @@ use Rattle.llrp_tree.specs.Lawful.{AreOctets}
 use Rattle.llrp_tree.proofs.OctetLemmas.{octets-append}
 use Rattle.llrp_listing.specs.NodeLine.{spaced, tail_texts, word_list_text}
 use Rattle.llrp_listing.proofs.PrintingLemmas.{other_words}
-use Rattle.llrp_listing.specs.Tails.{MoreWords, MoreTail}
+use Rattle.llrp_listing.specs.Private.Tails.{MoreWords, MoreTail}
 
 -- ---- words
 

@@ -10,14 +10,14 @@ use Rattle.hex.specs.Hex.{IsBytes, encode_lower, encode_with, lower_digits, deco
 use Rattle.hex.specs.declared.error.FromHexError.{FromHexError}
 use Rattle.hex.proofs.HexLemmas.{decode_of-encode_lower}
 use Rattle.llrp_tree.specs.Lawful.{AreOctets}
-use Rattle.llrp_listing.specs.Hexadecimal.{IsHexDigit, SpellBytes}
+use Rattle.llrp_listing.specs.Calls.Hexadecimal.{IsHexDigit, SpellBytes}
 use Rattle.llrp_schema.specs.declared.kinds.Tail.TheVariants.{Words, Text}
 use Rattle.llrp_listing.specs.declared.fault.Refusal.TheVariants as refusal
 use Rattle.llrp_listing.specs.declared.line.LineErr.{LineErr}
 use Rattle.llrp_listing.specs.declared.line.LineErr.TheVariants.{Refused, Memory}
-use Rattle.llrp_listing.specs.LineReading.{AppendsWord, AreDigitsOf, IsNoTail, IsNoWord, IsTailWord, IsWordList, has_capital}
+use Rattle.llrp_listing.specs.Private.LineReading.{AppendsWord, AreDigitsOf, IsNoTail, IsNoWord, IsTailWord, IsWordList, has_capital}
 use Rattle.llrp_tree.specs.Tree.{words_of}
-use Rattle.llrp_listing.specs.Splits.{Lacks}
+use Rattle.llrp_listing.specs.Calls.Splits.{Lacks}
 use Rattle.llrp_listing.proofs.DecimalWords.{digits_of, left, right}
 use Rattle.llrp_listing.proofs.HexadecimalLemmas.{spelled_if_ok}
 use Rattle.llrp_listing.proofs.WordLemmas.{one_part, first_part}

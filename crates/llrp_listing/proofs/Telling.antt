@@ -4,8 +4,10 @@ use Rattle.std.specs.List.{AllZip}
 use Rattle.std.proofs.lemmas.List.{append-nil}
 use Rattle.std.proofs.lemmas.Bool.{cases_order}
 use Rattle.llrp_listing.specs.OpenText.{Forest, end, node, nodes, Begun, OpenText, covers}
-use Rattle.llrp_listing.specs.FirstRefusal.{Rules, AreClear, AllClose, Sound, RefusesLine, RefusesClosing, Opens, Lists, Refused, HasOneAnswer}
-use Rattle.llrp_listing.specs.OpenTextSteps.{join, text_of, add_to, close_in, close, pop, depth, cut, put}
+use Rattle.llrp_listing.specs.FirstRefusal.{Rules, AllClose, Sound, RefusesLine, RefusesClosing, Opens, Refused}
+use Rattle.llrp_listing.specs.Private.FirstRefusal.{AreClear}
+use Rattle.llrp_listing.specs.Calls.FirstRefusal.{Lists, HasOneAnswer}
+use Rattle.llrp_listing.specs.Private.OpenTextSteps.{join, text_of, add_to, close_in, close, pop, depth, cut, put}
 use Rattle.llrp_listing.proofs.Growing.{run, empty, run_append, Fits, fits_middle, cut_cut, made, last_open}
 
 module _ {H R : Type 0} (closing : H → Forest H → Option R) where

@@ -9,7 +9,7 @@ use Rattle.llrp_listing.specs.ListingRules.{parameters_onto, parameters_of, mess
 use Rattle.llrp_listing.specs.MessageListing.{parameter_lines, message_lines, messages_lines}
 use Rattle.llrp_listing.specs.NodeLine.{NodeLine, parameter_line, message_line}
 use Rattle.llrp_listing.specs.OpenText.{Forest, end, node, nodes}
-use Rattle.llrp_listing.specs.OpenTextSteps.{join}
+use Rattle.llrp_listing.specs.Private.OpenTextSteps.{join}
 
 -- parameters in a row, and then others
 abbrev both : tree.Forest → tree.Forest → tree.Forest

@@ -8,15 +8,17 @@ use Rattle.llrp_schema.specs.declared.kinds.ParamKind.{ParamKind}
 use Rattle.llrp_schema.specs.declared.kinds.Kind.TheVariants.{Parameter}
 use Rattle.llrp_schema.specs.declared.kinds.Tail.{Tail}
 use Rattle.llrp_schema.specs.declared.kinds.Tail.TheVariants.{Absent}
-use Rattle.llrp_schema.specs.Schema.{FieldRule, field_rule, fields_of, is_tv, tail_of}
+use Rattle.llrp_schema.specs.Schema.{FieldRule, fields_of, is_tv, tail_of}
+use Rattle.llrp_schema.specs.Calls.Schema.{field_rule}
 use Rattle.llrp_schema.proofs.TableLaws.{tv_field, tv_tail}
 use Rattle.llrp_tree.specs.declared.node.NodeFault.{NodeFault}
 use Rattle.llrp_tree.specs.declared.node.NodeFault.TheVariants.{Tail as BadTail, Value}
 use Rattle.llrp_tree.specs.Checks.{first_failed, tail_fits, values_fit}
-use Rattle.llrp_tree.specs.Lawful.{body_octets, count_octets, own_octets}
-use Rattle.llrp_tree.specs.Spelled.{IsOnlyField}
+use Rattle.llrp_tree.specs.Lawful.{body_octets, count_octets}
+use Rattle.llrp_tree.specs.Calls.Lawful.{own_octets}
+use Rattle.llrp_tree.specs.Calls.Spelled.{IsOnlyField}
 use Rattle.llrp_tree.proofs.TvLemmas.{few_width, field_width, head_bits}
-use Rattle.llrp_listing.specs.OpenNodes.{MOST}
+use Rattle.llrp_listing.specs.Private.OpenNodes.{MOST}
 
 -- ---- the one field
 

@@ -3,7 +3,8 @@ use Rattle.std.proofs.Common.{◌≡◌, ℕ, suc, ◌+◌, ◌<◌, Bool, true,
 use Rattle.std.specs.Prelude.{◌==◌}
 use Rattle.std.specs.List.{slice_split, onto_first, position_or_len, before_first, after_first, join_with_byte}
 use Rattle.std.proofs.lemmas.List.Splits.{slice_split_first, length-slice_split, join_with_byte-slice_split}
-use Rattle.llrp_listing.specs.Splits.{Lacks, IsSplit, words}
+use Rattle.llrp_listing.specs.Calls.Splits.{Lacks, IsSplit}
+use Rattle.llrp_listing.specs.Lines.{words}
 
 module _ (p : ℕ → Bool) where
   alone : (xs : List ℕ) → position_or_len p xs ≡ length xs → slice_split p xs ≡ xs ∷ []

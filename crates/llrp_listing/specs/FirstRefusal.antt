@@ -1,19 +1,13 @@
 -- Which texts list trees, and the first refusal of a text that lists none.
 use Rattle.std.specs.Prelude.{◌≡◌, ℕ, suc, ◌≤◌, List, [], ◌∷◌, ◌++◌, length, Option, Some, None, ◌⊎◌}
 use Rattle.std.specs.List.{AllZip}
-use Rattle.llrp_listing.specs.OpenText.{Forest, end, node, nodes, Begun, OpenText, covers}
+use Rattle.llrp_listing.specs.OpenText.{Forest, end, node, Begun, OpenText, covers}
 
 -- What a line says, a level and a head; why a line is refused by itself where this many lines are open; why a node can't be closed.
 pub record Rules (H X R : Type 0) : Type 1 where
   pub Says : X → ℕ × H → Type 0
   pub Refuses : ℕ → X → R → Type 0
   pub closing : H → Forest H → Option R
-
--- each line, where this many lines are open, says one thing of a level that they allow, or is refused for one reason
-pub record AreClear {H X R : Type 0} (rules : Rules H X R) : Type 0 where
-  pub one_said : (x : X) (e f : ℕ × H) → rules.Says x e → rules.Says x f → e ≡ f
-  pub one_reason : (d : ℕ) (x : X) (a b : R) → rules.Refuses d x a → rules.Refuses d x b → a ≡ b
-  pub not_both : (d : ℕ) (x : X) (e : ℕ × H) (a : R) → rules.Says x e → e.0 ≤ d → rules.Refuses d x a → ⊥
 
 -- each of the trees, and each below it, can be closed
 abbrev pub AllClose : {H R : Type 0} → (H → Forest H → Option R) → Forest H → Type 0
@@ -28,11 +22,6 @@ ChainCloses closing (b ∷ outer) = AllClose closing b.below × ChainCloses clos
 -- all that is whole in an open text can be closed
 abbrev pub Sound : {H R : Type 0} → (H → Forest H → Option R) → OpenText H → Type 0
 Sound closing o = AllClose closing o.whole × ChainCloses closing o.chain
-
--- The lines are those of these trees, and each of the trees can be closed.
-pub record Lists {H X R : Type 0} (rules : Rules H X R) (lines : List X) (trees : Forest H) : Type 0 where
-  pub says : AllZip rules.Says lines (nodes 0 trees)
-  pub close : AllClose rules.closing trees
 
 -- An open text covers the lines before the rest, and all that is whole in it can be closed.
 pub record Opens {H X R : Type 0} (rules : Rules H X R) (lines : List X) (o : OpenText H) (rest : List X) : Type 0 where
@@ -73,9 +62,3 @@ pub record Refused {H X R : Type 0} (rules : Rules H X R) (lines : List X) (numb
   pub opens : Opens rules lines opened rest
   pub whole : opened.whole ≡ trees
   pub refuses : RefusesLine rules opened rest number reason ⊎ RefusesClosing rules opened.whole opened.chain rest number reason
-
--- Lines list one row of trees at most or have one first refusal at most, and never both.
-pub record HasOneAnswer {H X R : Type 0} (rules : Rules H X R) (lines : List X) : Type 0 where
-  pub one_listing : (f g : Forest H) → Lists rules lines f → Lists rules lines g → f ≡ g
-  pub one_refusal : (f g : Forest H) (m n : ℕ) (a b : R) → Refused rules lines m a f → Refused rules lines n b g → (m ≡ n) × (a ≡ b) × (f ≡ g)
-  pub not_both : (f g : Forest H) (number : ℕ) (reason : R) → Lists rules lines f → Refused rules lines number reason g → ⊥

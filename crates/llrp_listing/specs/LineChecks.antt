@@ -1,5 +1,5 @@
 -- What a line of a listing says, and why one is refused by itself.
-use Rattle.std.specs.Prelude.{◌≡◌, ◌≢◌, ◌⊎◌, ◌<◌, ◌≤◌, ℕ, ◌+◌, ◌*◌, ◌^◌, nat_le, ◌&&◌, IsTrue, Bool, List, [], ◌∷◌, ◌++◌, length, drop, get_or, decimal, Result, Ok, Err}
+use Rattle.std.specs.Prelude.{◌≡◌, ◌≢◌, ◌⊎◌, ◌<◌, ◌≤◌, ℕ, ◌+◌, ◌*◌, ◌^◌, nat_le, ◌&&◌, IsTrue, Bool, List, [], ◌∷◌, ◌++◌, length, drop, get_or, decimal}
 use Rattle.std.specs.List.{list_all}
 use Rattle.llrp_schema.specs.declared.kinds.Kind.{Kind}
 use Rattle.llrp_schema.specs.declared.kinds.Kind.TheVariants.{Message, Parameter}
@@ -14,8 +14,7 @@ use Rattle.tag_uri.specs.TagText.{HasFault}
 use Rattle.llrp_listing.specs.declared.fault.Refusal.{Refusal}
 use Rattle.llrp_listing.specs.declared.fault.Refusal.TheVariants as refusal
 use Rattle.llrp_listing.specs.Checks.{Check, check, FirstFailing, AllHold}
-use Rattle.llrp_listing.specs.Lines.{TextLine, Ended, Unended}
-use Rattle.llrp_listing.specs.Splits.{words}
+use Rattle.llrp_listing.specs.Lines.{TextLine, Ended, Unended, words}
 use Rattle.llrp_listing.specs.NodeLine.{NodeLine, NumberForm, Version, Id, Unsigned, Signed, Epc, number_forms, IsNumberText, tail_texts, IsLine}
 
 -- the most bytes of a line before its LF
@@ -128,11 +127,6 @@ TellsNumber Id w reason = reason ≡ refusal.Number
 TellsNumber Unsigned w reason = reason ≡ refusal.Number
 TellsNumber Signed w reason = reason ≡ refusal.Number
 TellsNumber Epc w reason = TellsEpc w reason
-
--- what is read of the word of a number: the number, or the reason that is given for the word
-abbrev pub ReadsNumber : NumberForm → List ℕ → Result ℕ Refusal → Type 0
-ReadsNumber form w (Ok n) = IsInForm form n × IsNumberText form n w
-ReadsNumber form w (Err reason) = (¬ HasNumber form w) × TellsNumber form w reason
 
 -- the word is the text of a tail
 abbrev pub HasTail : Tail → List ℕ → Type 0

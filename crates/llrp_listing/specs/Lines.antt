@@ -1,6 +1,10 @@
 -- The lines of a text.
 use Rattle.std.specs.Prelude.{◌≡◌, ℕ, ◌==◌, false, cond, List, [], ◌∷◌}
-use Rattle.std.specs.List.{AllByRecursion}
+use Rattle.std.specs.List.{AllByRecursion, slice_split}
+
+-- the words of a line: the parts round its spaces
+abbrev pub words : List ℕ → List (List ℕ)
+words bytes = slice_split (λ b. b == 32) bytes
 
 -- a line without its LF: each is ended by one, save perhaps the last
 pub data TextLine : Type 0 where

@@ -24,11 +24,3 @@ pub record IsOnlyListing (limit : ℕ) (stream text : List ℕ) : Type 0 where
 -- the listing of messages is that of the stream of their spellings
 abbrev pub PrintsBack : Type 0
 PrintsBack = (limit : ℕ) (messages : List MessageTree) (text : List ℕ) (frames : List (List ℕ)) → IsListingOf messages text → AreSpellings limit messages frames → IsOnlyListing limit (joined frames) text
-
--- messages have one listing
-abbrev pub OneTextOfMessages : Type 0
-OneTextOfMessages = (messages : List MessageTree) (s t : List ℕ) → IsListingOf messages s → IsListingOf messages t → s ≡ t
-
--- items and an end have one listing
-abbrev pub OneTextOfItems : Type 0
-OneTextOfItems = (items : List Item) (end : End) (s t : List ℕ) → IsStreamListing items end s → IsStreamListing items end t → s ≡ t

@@ -1,7 +1,8 @@
 //! Loops over sources and sinks.
 
 ghost use Rattle.std.specs.Prelude.{◌+◌, ◌<◌, ◌≡◌, ◌^◌, IfErr, IfOk, List, OnOk, [], ℕ};
-ghost use Rattle.llrp_listing.specs.Copying.{ReadAll, ReadStopped, Writes};
+ghost use Rattle.llrp_listing.specs.Copying.{ReadAll};
+ghost use Rattle.llrp_listing.specs.Calls.Copying.{ReadStopped, Writes};
 ghost use Rattle.llrp_stream.specs.Device.{IsFreshSource};
 
 use crate::fault::ToolErr;

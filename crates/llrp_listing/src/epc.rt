@@ -3,7 +3,7 @@
 ghost use Rattle.std.specs.Prelude.{◌≡◌, ◌++◌, ◌+◌, ◌^◌, ◌<◌, List, ℕ, IfNone, IfOk, IfSome, OnOk};
 ghost use Rattle.tag_bits.specs.Digits.{digits_of_bytes, word_digits};
 ghost use Rattle.tag_uri.specs.Hexadecimal.{hexadecimal};
-ghost use Rattle.llrp_listing.specs.EpcLines.{AreDigitsOf, AreWordLines, IsRemark, IsTextLine, Prints, PrintsEpc, line, refusal_line, remark_line};
+ghost use Rattle.llrp_listing.specs.Calls.EpcLines.{AreDigitsOf, AreWordLines, IsRemark, IsTextLine, Prints, PrintsEpc, line, refusal_line, remark_line};
 
 use crate::copying::write_all;
 use crate::fault::{ToolErr, Verdict};

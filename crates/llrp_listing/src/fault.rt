@@ -2,7 +2,7 @@
 
 ghost use Rattle.std.specs.Prelude.{◌≡◌, ◌++◌, Some};
 ghost use Rattle.llrp_listing.specs.declared.fault.ToolErr.TheVariants.{Memory};
-ghost use Rattle.llrp_listing.specs.Fault.{error_by};
+ghost use Rattle.llrp_listing.specs.Calls.Fault.{error_by};
 ghost use Rattle.llrp_listing.specs.Refused.{node_fault_name, refusal_name};
 
 use llrp_stream::FeedErr;

@@ -1,7 +1,7 @@
 //! Bytes as hexadecimal digits.
 
 ghost use Rattle.std.specs.Prelude.{◌≡◌, ◌⊎◌, IfErr, IfOk};
-ghost use Rattle.llrp_listing.specs.Hexadecimal.{IsHexOf, IsNoHex, is_space};
+ghost use Rattle.llrp_listing.specs.Calls.Hexadecimal.{IsHexOf, IsNoHex, is_space};
 
 use crate::fault::ToolErr;
 use hex::FromHexError;

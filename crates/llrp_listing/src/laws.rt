@@ -3,9 +3,10 @@
 ghost use Rattle.std.specs.Prelude.{List, ◌≡◌, ℕ};
 ghost use Rattle.llrp_tree.specs.Tree.{MessageTree};
 ghost use Rattle.llrp_listing.specs.declared.fault.Verdict.{Verdict};
-ghost use Rattle.llrp_listing.specs.EpcLines.{Prints};
-ghost use Rattle.llrp_listing.specs.ListingLaws.{HasShortLines, ListedOrRefused};
-ghost use Rattle.llrp_listing.specs.PrintingLaws.{OneTextOfItems, OneTextOfMessages, PrintsBack};
+ghost use Rattle.llrp_listing.specs.Calls.EpcLines.{Prints};
+ghost use Rattle.llrp_listing.specs.Calls.ListingLaws.{HasShortLines, ListedOrRefused};
+ghost use Rattle.llrp_listing.specs.Calls.PrintingLaws.{OneTextOfItems, OneTextOfMessages};
+ghost use Rattle.llrp_listing.specs.PrintingLaws.{PrintsBack};
 
 /// A text is the listing of at most one list of messages within the limit, or has at most one first
 /// refusal, and never both.

@@ -2,11 +2,12 @@
 
 ghost use Rattle.std.specs.Prelude.{◌≡◌, ◌≤◌, ◌+◌, ◌*◌, length, map, filter, not, MatchOption, MatchResult, OnOk};
 ghost use Rattle.arrayvec.specs.ArrayVec.{array_vec_len};
-ghost use Rattle.llrp_schema.specs.Schema.{field_rule, tail_of};
+ghost use Rattle.llrp_schema.specs.Calls.Schema.{field_rule};
+ghost use Rattle.llrp_schema.specs.Schema.{tail_of};
 ghost use Rattle.llrp_schema.specs.declared.kinds.Kind.TheVariants.{Message, Parameter};
 ghost use Rattle.llrp_listing.specs.LineChecks.{IsPlaced, RefusesLineItself, is_printed, tail_count, word_count};
-ghost use Rattle.llrp_listing.specs.LineReading.{IsKindNamed, IsLevel, ReadsFields, ReadsLine, ReadsMessage, ReadsParameter, ReadsRest, ReadsStart, forms_of};
-ghost use Rattle.llrp_listing.specs.Splits.{words_in};
+ghost use Rattle.llrp_listing.specs.Private.LineReading.{IsKindNamed, IsLevel, ReadsFields, ReadsLine, ReadsMessage, ReadsParameter, ReadsRest, ReadsStart, forms_of};
+ghost use Rattle.llrp_listing.specs.Private.Splits.{words_in};
 ghost use Rattle.llrp_listing.specs.NodeLine.{number_forms};
 ghost use Rattle.llrp_listing.specs.declared.line.LineErr.TheVariants.{Memory, Refused};
 

@@ -2,7 +2,7 @@
 
 ghost use Rattle.std.specs.Prelude.{◌≡◌, ◌≤◌, ◌==◌, ℕ, MatchOption, length, not, take};
 ghost use Rattle.std.specs.List.{prefix_len};
-ghost use Rattle.llrp_listing.specs.Splits.{IsSplit, Lacks};
+ghost use Rattle.llrp_listing.specs.Calls.Splits.{IsSplit, Lacks};
 
 use crate::spaced::split_once;
 use std::simd::prelude::*;
@@ -62,7 +62,7 @@ pub fn split_near(bytes: &[u8], byte: u8) -> Option<(&[u8], &[u8])>
     Some((before, after))
 }
 
-/// The same where the byte is not among the first 32.
+/// Splits at the first such byte, if it is not among the first 32.
 #[inline(always)]
 fn split_later(bytes: &[u8], byte: u8) -> Option<(&[u8], &[u8])>
     requires long { 32 ≤ length bytes.now }

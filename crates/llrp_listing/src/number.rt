@@ -3,12 +3,12 @@
 ghost use Rattle.std.specs.Prelude.{◌≡◌, ◌<◌, ◌≤◌, ◌^◌, ◌++◌, IfSome, Ok, Some, None, decimal, drop, if◌then◌else◌, length};
 ghost use Rattle.std.specs.Str.{all_ascii_digits};
 ghost use Rattle.std.specs.Str.Parse.{digits_value};
-ghost use Rattle.llrp_schema.specs.Schema.{field_rule};
+ghost use Rattle.llrp_schema.specs.Calls.Schema.{field_rule};
 ghost use Rattle.tag_uri.specs.Decimal.{padded};
-ghost use Rattle.llrp_listing.specs.LineChecks.{ReadsNumber};
-ghost use Rattle.llrp_listing.specs.LineReading.{ReadsNegative, ReadsPositive};
+ghost use Rattle.llrp_listing.specs.Private.LineChecks.{ReadsNumber};
+ghost use Rattle.llrp_listing.specs.Private.LineReading.{ReadsNegative, ReadsPositive};
 ghost use Rattle.llrp_listing.specs.NodeLine.{Epc, Id, Signed, Unsigned, Version, field_form};
-ghost use Rattle.llrp_listing.specs.Numeral.{ReadsFront, numeral};
+ghost use Rattle.llrp_listing.specs.Private.Numeral.{ReadsFront, numeral};
 
 use crate::fault::Refusal;
 use llrp_schema::Field;
@@ -64,7 +64,7 @@ fn short_number(digits: &[u8]) -> Option<u64>
     Some(n)
 }
 
-/// Does the same for at most 20 digits, in 128 bits. Few numbers are as long, so it stays apart.
+/// The number of at most 20 digits, in 128 bits. It is kept out of line: few numbers have so many.
 #[inline(never)]
 fn long_number(digits: &[u8]) -> Option<u128>
     requires { length digits.now ≤ 20 }
@@ -83,7 +83,7 @@ fn long_number(digits: &[u8]) -> Option<u128>
 
 /// The number that the word is in decimal, with at most 20 digits.
 #[inline(always)]
-#[tactic(auto, unfolding(crate::specs::Numeral::numeral))]
+#[tactic(auto, unfolding(crate::specs::Private::Numeral::numeral))]
 pub fn numeral(word: &[u8]) -> Option<u128>
     ensures { result ≡ numeral word.now }
 {

@@ -37,7 +37,7 @@ impl Lister {
     ghost use Rattle.std.specs.Prelude.{[], OnOk, length};
     ghost use Rattle.llrp_tree.specs.declared.TheConstants.{MAX_LIMIT};
     ghost use Rattle.llrp_stream.specs.declared.reading.frames.Outcome.TheVariants.{Bad};
-    ghost use Rattle.llrp_listing.specs.Lister.{CanGoOn, Feeds, Finishes, GoesOn, KeepsFew, ListsOrFails, Tells};
+    ghost use Rattle.llrp_listing.specs.Private.Lister.{CanGoOn, Feeds, Finishes, GoesOn, KeepsFew, ListsOrFails, Tells};
 
     /// A lister of a stream of which nothing was read. Frames longer than `limit` octets are
     /// faulty.

@@ -1,7 +1,9 @@
 //! Splits a line into its words.
 
 ghost use Rattle.std.specs.Prelude.{◌∷◌, ◌≡◌, MatchOption, [], length};
-ghost use Rattle.llrp_listing.specs.Splits.{IsSplit, Lacks, words, words_in};
+ghost use Rattle.llrp_listing.specs.Calls.Splits.{IsSplit, Lacks};
+ghost use Rattle.llrp_listing.specs.Lines.{words};
+ghost use Rattle.llrp_listing.specs.Private.Splits.{words_in};
 
 use memchr::memchr;
 

@@ -2,7 +2,7 @@
 
 ghost use Rattle.std.specs.Prelude.{◌≡◌, MatchResult};
 ghost use Rattle.llrp_schema.specs.declared.kinds.Tail.TheVariants.{Text, Words};
-ghost use Rattle.llrp_listing.specs.LineReading.{AppendsWord, AreDigitsOf, IsNoTail, IsNoWord, IsTailWord, IsWordList, has_capital};
+ghost use Rattle.llrp_listing.specs.Private.LineReading.{AppendsWord, AreDigitsOf, IsNoTail, IsNoWord, IsTailWord, IsWordList, has_capital};
 
 use crate::fault::Refusal;
 use crate::line::LineErr;

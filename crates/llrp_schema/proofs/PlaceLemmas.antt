@@ -11,7 +11,9 @@ use Rattle.llrp_schema.specs.declared.kinds.Place.{Place}
 use Rattle.llrp_schema.specs.declared.kinds.Profile.{Profile}
 use Rattle.llrp_schema.specs.declared.kinds.Profile.TheVariants.{Own, Whole}
 use Rattle.llrp_schema.specs.Schema.{GroupRule, number_of, groups_of, rule_of, message_rule, param_rule, message_kinds, param_kinds, whole_message_kinds, whole_param_kinds, key_of, profile_of}
-use Rattle.llrp_schema.specs.Places.{is_member, has_place, IsPlace, AreRequired, further, first_place, least_bits}
+use Rattle.llrp_schema.specs.Schema.{is_member, has_place}
+use Rattle.llrp_schema.specs.Calls.Places.{IsPlace, AreRequired}
+use Rattle.llrp_schema.specs.Private.Places.{further, first_place, least_bits}
 use Rattle.llrp_schema.proofs.SchemaLemmas.{not_true, pairs_all, All-from_list_all}
 use Rattle.llrp_schema.proofs.TableLaws.{param_keys, every_rule}
 

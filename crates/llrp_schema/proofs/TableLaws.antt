@@ -15,7 +15,8 @@ use Rattle.llrp_schema.specs.declared.kinds.Tail.{Tail}
 use Rattle.llrp_schema.specs.declared.kinds.Tail.TheVariants.{Absent, Words, Text, Bits, Data}
 use Rattle.llrp_schema.specs.declared.kinds.Kind.{Kind}
 use Rattle.llrp_schema.specs.declared.kinds.Kind.TheVariants.{Message, Parameter}
-use Rattle.llrp_schema.specs.Schema.{FieldRule, GroupRule, KindRule, field, number_of, name_of, fields_of, tail_of, groups_of, rule_of, message_rule, param_rule, message_kinds, param_kinds, is_tv, message_in, tlv_in, tv_in, message_named_in, param_named_in, messages_of, params_of, profile_of, key_of, key_in, whole_message_kinds, whole_param_kinds, bits_of, plain_fields_of}
+use Rattle.llrp_schema.specs.Schema.{FieldRule, GroupRule, KindRule, field, number_of, name_of, fields_of, tail_of, groups_of, rule_of, message_rule, param_rule, message_kinds, param_kinds, is_tv, message_in, tlv_in, tv_in, messages_of, params_of, profile_of, key_of, key_in, whole_message_kinds, whole_param_kinds, bits_of, plain_fields_of}
+use Rattle.llrp_schema.specs.Calls.Schema.{message_named_in, param_named_in}
 use Rattle.llrp_schema.proofs.SchemaLemmas.{find-all, find-passes, list_all-filter, list_all-thinned, not_true, implied, same_split, All-from_list_all, AllPairs-from_pairs_all, pairs_all}
 
 -- a message is found at its number

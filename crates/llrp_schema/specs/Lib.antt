@@ -1,2 +1,3 @@
 pub mod Schema
-pub mod Places
+pub mod Calls
+pub mod Private

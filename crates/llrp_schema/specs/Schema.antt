@@ -1,7 +1,6 @@
 -- The messages and parameters of LLRP 1.1 in this profile: each kind's number, name, fields, tail and groups of children, one row a kind.
 use Prim.Native.String.{String}
-use Rattle.std.specs.Prelude.{ℕ, Bool, true, false, not, List, [], ◌∷◌, codes, Option, Some, None, map, filter, find, sum_by, ◌^◌, ◌+◌, ◌-◌, ◌==◌, nat_lt, nat_eq}
-use Rattle.std.specs.Cmp.Lexicographic.{pointwise}
+use Rattle.std.specs.Prelude.{ℕ, Bool, true, false, not, List, [], ◌∷◌, codes, Option, Some, None, filter, find, sum_by, ◌^◌, ◌+◌, ◌-◌, ◌==◌, nat_lt}
 use Rattle.llrp_schema.specs.declared.kinds.MsgKind.{MsgKind}
 use Rattle.llrp_schema.specs.declared.kinds.MsgKind.TheVariants.{SetReaderConfig, CloseConnectionResponse, SetReaderConfigResponse, CloseConnection, AddRoSpec, DeleteRoSpec, StartRoSpec, StopRoSpec, EnableRoSpec, DisableRoSpec, GetRoSpecs, AddRoSpecResponse, DeleteRoSpecResponse, StartRoSpecResponse, StopRoSpecResponse, EnableRoSpecResponse, DisableRoSpecResponse, GetRoSpecsResponse, GetReport, RoAccessReport, Keepalive, ReaderEventNotification, EnableEventsAndReports, KeepaliveAck, ErrorMessage, WholeGetReaderCapabilities, WholeGetReaderConfig, WholeSetReaderConfig, WholeCloseConnectionResponse, WholeGetReaderCapabilitiesResponse, WholeGetReaderConfigResponse, WholeSetReaderConfigResponse, WholeCloseConnection, WholeAddRoSpec, WholeDeleteRoSpec, WholeStartRoSpec, WholeStopRoSpec, WholeEnableRoSpec, WholeDisableRoSpec, WholeGetRoSpecs, WholeAddRoSpecResponse, WholeDeleteRoSpecResponse, WholeStartRoSpecResponse, WholeStopRoSpecResponse, WholeEnableRoSpecResponse, WholeDisableRoSpecResponse, WholeGetRoSpecsResponse, WholeAddAccessSpec, WholeDeleteAccessSpec, WholeEnableAccessSpec, WholeDisableAccessSpec, WholeGetAccessSpecs, WholeClientRequestOp, WholeGetSupportedVersion, WholeSetProtocolVersion, WholeAddAccessSpecResponse, WholeDeleteAccessSpecResponse, WholeEnableAccessSpecResponse, WholeDisableAccessSpecResponse, WholeGetAccessSpecsResponse, WholeClientRequestOpResponse, WholeGetSupportedVersionResponse, WholeSetProtocolVersionResponse, WholeGetReport, WholeRoAccessReport, WholeKeepalive, WholeReaderEventNotification, WholeEnableEventsAndReports, WholeKeepaliveAck, WholeErrorMessage, WholeCustomMessage}
 use Rattle.llrp_schema.specs.declared.kinds.ParamKind.{ParamKind}
@@ -12,9 +11,7 @@ use Rattle.llrp_schema.specs.declared.kinds.Profile.{Profile}
 use Rattle.llrp_schema.specs.declared.kinds.Profile.TheVariants.{Own, Whole}
 use Rattle.llrp_schema.specs.declared.kinds.Tail.{Tail}
 use Rattle.llrp_schema.specs.declared.kinds.Tail.TheVariants.{Absent, Words, Text, Bits, Data}
-use Rattle.llrp_schema.specs.declared.kinds.Field.{Field}
-use Rattle.llrp_schema.specs.declared.kinds.Group.{Group}
-use Rattle.llrp_schema.specs.declared.kinds.Definition.{Definition}
+use Rattle.std.specs.List.{list_any}
 
 -- a field: its name, its width in bits, whether it is reserved, its greatest lawful value, and whether its bits are a signed number
 pub record FieldRule : Type 0 where
@@ -38,18 +35,6 @@ pub record KindRule : Type 0 where
   pub fields : List FieldRule
   pub tail : Tail
   pub groups : List GroupRule
-
--- what a field of the program says
-abbrev pub field_rule : Field → FieldRule
-field_rule field = record { name = field.name.now; width = field.width; reserved = field.reserved; greatest = field.greatest; signed = field.signed }
-
--- what a group of the program says
-abbrev pub group_rule : Group → GroupRule
-group_rule group = record { members = group.members.now; least = group.least; most = group.most }
-
--- what a row of the program says
-abbrev pub kind_rule : Definition → KindRule
-kind_rule row = record { profile = row.profile; number = row.number; name = row.name.now; fields = map field_rule row.fields.now; tail = row.tail; groups = map group_rule row.groups.now }
 
 -- a field whose lawful values go from 0 to the greatest
 abbrev pub field_to : String → ℕ → ℕ → FieldRule
@@ -770,6 +755,14 @@ key_in Whole number = 1024 + number
 unfoldable pub key_of : ParamKind → ℕ
 key_of kind = key_in (profile_of (Parameter kind)) (number_of (Parameter kind))
 
+-- the kind is one of the group's
+abbrev pub is_member : GroupRule → ParamKind → Bool
+is_member group kind = list_any (λ m. key_of m == key_of kind) group.members
+
+-- a group has the kind
+abbrev pub has_place : List GroupRule → ParamKind → Bool
+has_place groups kind = list_any (λ g. is_member g kind) groups
+
 -- the message with a number
 unfoldable pub message_in : Profile → ℕ → Option MsgKind
 message_in p number = find (λ kind. number_of (Message kind) == number) (messages_of p)
@@ -781,27 +774,3 @@ tlv_in p number = find (λ kind. number_of (Parameter kind) == number) (filter (
 -- the parameter with type and value that has a number
 unfoldable pub tv_in : Profile → ℕ → Option ParamKind
 tv_in p number = find (λ kind. number_of (Parameter kind) == number) (filter is_tv (params_of p))
-
--- the message with a name
-unfoldable pub message_named_in : Profile → List ℕ → Option MsgKind
-message_named_in p name = find (λ kind. pointwise nat_eq (name_of (Message kind)) name) (messages_of p)
-
--- the parameter with a name
-unfoldable pub param_named_in : Profile → List ℕ → Option ParamKind
-param_named_in p name = find (λ kind. pointwise nat_eq (name_of (Parameter kind)) name) (params_of p)
-
--- the same of the profile
-abbrev pub message_with_number : ℕ → Option MsgKind
-message_with_number number = message_in Own number
-
-abbrev pub tlv_with_number : ℕ → Option ParamKind
-tlv_with_number number = tlv_in Own number
-
-abbrev pub tv_with_number : ℕ → Option ParamKind
-tv_with_number number = tv_in Own number
-
-abbrev pub message_with_name : List ℕ → Option MsgKind
-message_with_name name = message_named_in Own name
-
-abbrev pub param_with_name : List ℕ → Option ParamKind
-param_with_name name = param_named_in Own name

@@ -8,8 +8,9 @@ ghost use Rattle.llrp_schema.specs.declared.kinds.Kind.TheVariants.{Message, Par
 ghost use Rattle.llrp_schema.specs.declared.kinds.Tail.TheVariants.{Absent, Bits, Data};
 ghost use Rattle.llrp_schema.specs.declared.kinds.Profile.{Profile};
 ghost use Rattle.llrp_schema.specs.declared.kinds.Profile.TheVariants.{Own};
-ghost use Rattle.llrp_schema.specs.Schema.{FieldRule, number_of, name_of, fields_of, plain_fields_of, bits_of, tail_of, groups_of, is_tv, field, profile_of, message_in, tlv_in, tv_in, message_named_in, param_named_in};
-ghost use Rattle.llrp_schema.specs.Places.{has_place};
+ghost use Rattle.llrp_schema.specs.Schema.{FieldRule, number_of, name_of, fields_of, plain_fields_of, bits_of, tail_of, groups_of, is_tv, field, profile_of, message_in, tlv_in, tv_in};
+ghost use Rattle.llrp_schema.specs.Calls.Schema.{message_named_in, param_named_in};
+ghost use Rattle.llrp_schema.specs.Schema.{has_place};
 
 /// No two messages of one profile have the same number, and no two parameters have.
 #[tactic(auto, using(crate::proofs::TableLaws::message_numbers_in, crate::proofs::TableLaws::param_numbers_in))]

@@ -1,7 +1,8 @@
 //! The rows of the messages (LLRP 1.1, section 17.1).
 
 ghost use Rattle.std.specs.Prelude.{◌≡◌};
-ghost use Rattle.llrp_schema.specs.Schema.{kind_rule, message_rule};
+ghost use Rattle.llrp_schema.specs.Private.Schema.{kind_rule};
+ghost use Rattle.llrp_schema.specs.Schema.{message_rule};
 
 use crate::kinds::{Definition, Field, Group, MsgKind, ParamKind, Profile, Tail};
 use crate::rows::{any_number, at_most_one, field, one, reserved};

@@ -3,7 +3,8 @@
 
 ghost use Rattle.std.specs.Prelude.{◌≡◌, ◌≤◌, ◌==◌, length, filter, find, nat_eq, nat_le, take};
 ghost use Rattle.std.specs.Cmp.Lexicographic.{pointwise};
-ghost use Rattle.llrp_schema.specs.Schema.{name_of, message_kinds, param_kinds, message_with_name, param_with_name, message_named_in, param_named_in, whole_message_kinds, whole_param_kinds};
+ghost use Rattle.llrp_schema.specs.Schema.{name_of, message_kinds, param_kinds, whole_message_kinds, whole_param_kinds};
+ghost use Rattle.llrp_schema.specs.Calls.Schema.{message_with_name, param_with_name, message_named_in, param_named_in};
 
 use crate::kinds::{Kind, MsgKind, ParamKind, Profile};
 use crate::labels::label;

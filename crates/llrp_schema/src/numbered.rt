@@ -1,7 +1,8 @@
 //! Looks up kinds by their numbers.
 
 ghost use Rattle.std.specs.Prelude.{◌≡◌, ◌==◌, not, find, drop, filter};
-ghost use Rattle.llrp_schema.specs.Schema.{number_of, whole_param_kinds, is_tv, message_with_number, tlv_with_number, tv_with_number, message_in, tlv_in, tv_in};
+ghost use Rattle.llrp_schema.specs.Schema.{number_of, whole_param_kinds, is_tv, message_in, tlv_in, tv_in};
+ghost use Rattle.llrp_schema.specs.Calls.Schema.{message_with_number, tlv_with_number, tv_with_number};
 ghost use Rattle.llrp_schema.specs.declared.kinds.Profile.TheVariants.{Whole};
 
 use crate::kinds::{Kind, MsgKind, ParamKind, Profile};

@@ -1,7 +1,8 @@
 //! The row of each parameter.
 
 ghost use Rattle.std.specs.Prelude.{◌≡◌};
-ghost use Rattle.llrp_schema.specs.Schema.{kind_rule, param_rule};
+ghost use Rattle.llrp_schema.specs.Private.Schema.{kind_rule};
+ghost use Rattle.llrp_schema.specs.Schema.{param_rule};
 
 use crate::kinds::{Definition, ParamKind};
 use crate::{tlv, tv, whole};

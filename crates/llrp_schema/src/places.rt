@@ -4,8 +4,11 @@ ghost use Rattle.std.specs.Prelude.{◌≡◌, ◌≤◌, ◌<◌, ◌==◌, ◌
 ghost use Rattle.std.specs.List.{list_all, list_any};
 ghost use Rattle.llrp_schema.specs.declared.kinds.MsgKind.TheVariants.{SetReaderConfig, AddRoSpec, GetRoSpecsResponse, RoAccessReport, ReaderEventNotification};
 ghost use Rattle.llrp_schema.specs.declared.kinds.ParamKind.TheVariants.{RoSpec, RoBoundarySpec, RoSpecStartTrigger, PeriodicTriggerValue, RoSpecStopTrigger, AiSpec, AiSpecStopTrigger, InventoryParameterSpec, AntennaConfiguration, RoReportSpec, TagReportContentSelector, TagReportData, ReaderEventNotificationSpec, ReaderEventNotificationData, LlrpStatus, ParameterError, C1G2InventoryCommand};
-ghost use Rattle.llrp_schema.specs.Schema.{groups_of, group_rule, key_of, one};
-ghost use Rattle.llrp_schema.specs.Places.{has_place, first_place, least_bits, IsPlace, AreRequired};
+ghost use Rattle.llrp_schema.specs.Schema.{groups_of, key_of, one};
+ghost use Rattle.llrp_schema.specs.Calls.Schema.{group_rule};
+ghost use Rattle.llrp_schema.specs.Schema.{has_place};
+ghost use Rattle.llrp_schema.specs.Private.Places.{first_place, least_bits};
+ghost use Rattle.llrp_schema.specs.Calls.Places.{IsPlace, AreRequired};
 
 use crate::kinds::{Group, Kind, MsgKind, ParamKind, Place, Profile};
 use crate::tables::{groups, number, profile};

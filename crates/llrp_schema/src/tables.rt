@@ -1,7 +1,9 @@
 //! What the tables say about a kind; one function serves messages and parameters.
 
 ghost use Rattle.std.specs.Prelude.{◌≡◌, map};
-ghost use Rattle.llrp_schema.specs.Schema.{field_rule, group_rule, kind_rule, rule_of, number_of, name_of, fields_of, tail_of, groups_of, profile_of};
+ghost use Rattle.llrp_schema.specs.Calls.Schema.{field_rule, group_rule};
+ghost use Rattle.llrp_schema.specs.Private.Schema.{kind_rule};
+ghost use Rattle.llrp_schema.specs.Schema.{rule_of, number_of, name_of, fields_of, tail_of, groups_of, profile_of};
 
 use crate::kinds::{Definition, Field, Group, Kind, MsgKind, ParamKind, Profile, Tail};
 use crate::messages::message;

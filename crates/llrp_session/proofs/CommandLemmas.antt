@@ -6,7 +6,8 @@ use Rattle.llrp_tree.specs.declared.TheConstants.{MAX_LIMIT}
 use Rattle.llrp_tree.specs.Lawful.{tree_octets}
 use Rattle.llrp_session.specs.RoSpec.{rospec_of}
 use Rattle.llrp_session.specs.Words.{Command, Add, Delete, Start, Stop, Enable, Disable, GetRospecs, SetKeepalive, GetReport, Close}
-use Rattle.llrp_session.specs.LawfulWords.{AddsRoSpec, FitsMessage}
+use Rattle.llrp_session.specs.Calls.LawfulWords.{AddsRoSpec}
+use Rattle.llrp_session.specs.Private.LawfulWords.{FitsMessage}
 use Rattle.llrp_session.specs.ClientMachine.{is_over_limit}
 
 within_limit : (limit octets : ℕ) → limit ≤ MAX_LIMIT → nat_lt limit (10 + octets) ≡ false → 10 + octets ≤ MAX_LIMIT

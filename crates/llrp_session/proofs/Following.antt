@@ -7,10 +7,11 @@ use Rattle.llrp_tree.specs.Tree.{Tree}
 use Rattle.llrp_session.specs.RoSpec.{RoSpec, ReportSpec, rospec_of}
 use Rattle.llrp_session.specs.Table.{Entry, Inactive, Active, states, listing, change, change_view, without, enter, names, setting, enabling, disabling, active, first_immediate, is_active, is_inactive, state_of}
 use Rattle.llrp_session.specs.TagReport.{Sighting, tag_report}
-use Rattle.llrp_session.specs.Words.{ReaderWord, Response, Listed, Report, KeepaliveSent, Started, Ended, Overflowed, ReaderMessage, heard, Command, Add, Delete, Start, Stop, Enable, Disable, GetRospecs, SetKeepalive, GetReport, Close, requested, Operation, Adding, Deleting, Starting, Stopping, Enabling, Disabling, Listing, Configuring, Closing, keepalive_each, KeepaliveSpec, Config}
+use Rattle.llrp_session.specs.Words.{ReaderWord, Response, Listed, Report, KeepaliveSent, Started, Ended, Overflowed, ReaderMessage, Command, Add, Delete, Start, Stop, Enable, Disable, GetRospecs, SetKeepalive, GetReport, Close, requested, Operation, Adding, Deleting, Starting, Stopping, Enabling, Disabling, Listing, Configuring, Closing, keepalive_each, KeepaliveSpec, Config}
+use Rattle.llrp_session.specs.Calls.Words.{heard}
 use Rattle.llrp_session.specs.ReaderMachine.{Reader, Turn, Keepalive, Up, tell, reply, with_reader, with_table, send_held, set_state, start, end, end_if, start_if_idle, serve, see, tick, keep_alive, keepalive_from, configured, is_known, add_status, effective_report, sends_at_end, has_state, is_bad_report, is_bad_keepalive, hold, send_if_enough, is_enough, is_full, is_over, reset_if, set_keepalive, set_report}
 use Rattle.llrp_session.specs.ClientMachine.{Client, Ready, Pending, Taking, Tags, Note, Reply, take, take_in, take_ready, granted, awaited, take_response, replied, takes, unexpected, is_response_to, cleared, answered, listed, moved}
-use Rattle.llrp_session.specs.Agreement.{taken_in, and_then}
+use Rattle.llrp_session.specs.Calls.Agreement.{taken_in, and_then}
 use Rattle.llrp_session.proofs.States.{states-change, states-without, states-enter}
 
 -- messages one after another

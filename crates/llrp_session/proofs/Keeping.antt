@@ -4,15 +4,18 @@ use Rattle.std.specs.Prelude.{◌==◌, ◌&&◌, ◌||◌, not, nat_le, Option,
 use Rattle.std.proofs.lemmas.Bool.Decides.{nat_tests}
 use Rattle.llrp_tree.specs.Tree.{Tree}
 use Rattle.llrp_session.specs.RoSpec.{RoSpec, rospec_of}
-use Rattle.llrp_session.specs.Table.{RoState, Entry, Inactive, Active, change, without, enter, names, setting, enabling, disabling, active, first_immediate, is_active, is_inactive, state_of, listing, active_count, IsRising, AllAbove}
+use Rattle.llrp_session.specs.Table.{RoState, Entry, Inactive, Active, change, without, enter, names, setting, enabling, disabling, active, first_immediate, is_active, is_inactive, state_of, listing, active_count}
+use Rattle.llrp_session.specs.Calls.Table.{IsRising, AllAbove}
 use Rattle.llrp_session.specs.TagReport.{Sighting, tag_report}
-use Rattle.llrp_session.specs.Words.{Response, KeepaliveSent, Overflowed, Ended, ReaderMessage, heard, Adding, Deleting, Starting, Stopping, Enabling, Disabling, Configuring, Request, AddRoSpec, DeleteRoSpec, StartRoSpec, StopRoSpec, EnableRoSpec, DisableRoSpec, GetRoSpecs, SetReaderConfig, GetReports, CloseConnection, NoRequest, Unsupported}
+use Rattle.llrp_session.specs.Words.{Response, KeepaliveSent, Overflowed, Ended, ReaderMessage, Adding, Deleting, Starting, Stopping, Enabling, Disabling, Configuring, Request, AddRoSpec, DeleteRoSpec, StartRoSpec, StopRoSpec, EnableRoSpec, DisableRoSpec, GetRoSpecs, SetReaderConfig, GetReports, CloseConnection, NoRequest, Unsupported}
+use Rattle.llrp_session.specs.Calls.Words.{heard}
 use Rattle.llrp_session.specs.Refusal.{Refusal}
 use Rattle.llrp_session.specs.ReaderMachine.{Reader, Turn, Keepalive, ReaderPhase, Waiting, Up, Down, tell, reply, with_reader, with_table, send_held, set_state, start, end, end_if, start_if_idle, serve, see, tick, keep_alive, keepalive_from, configured, begun, is_known, add_status, is_too_long, effective_report, sends_at_end, has_state, is_bad_report, is_bad_keepalive, hold, send_if_enough, is_enough, is_over, is_full, counting, ReaderEvent, Connect, Take, TakeBad, Seen, Tick, next, next_in, connect}
-use Rattle.llrp_session.specs.Sightings.{tags_in, tags_of, is_overflow, overflows, report_by, counted_in, kept_by, dropped_by, History, history, goes_on, extended, no_history, AfterAllEvents, ReportsInOrder, OverflowsTold, HoldsFewEnough, OneActive}
+use Rattle.llrp_session.specs.Sightings.{tags_in, tags_of, report_by, counted_in, kept_by, dropped_by, History, history, goes_on, extended, no_history}
+use Rattle.llrp_session.specs.Calls.Sightings.{is_overflow, overflows, AfterAllEvents, ReportsInOrder, OverflowsTold, HoldsFewEnough, OneActive}
 use Rattle.llrp_session.specs.World.{table_heard, listed_for, listed_in, listed_by}
-use Rattle.llrp_session.specs.Agreement.{tables_of}
-use Rattle.llrp_session.specs.TableLaws.{EachOnce}
+use Rattle.llrp_session.specs.Calls.Agreement.{tables_of}
+use Rattle.llrp_session.specs.Calls.TableLaws.{EachOnce}
 use Rattle.llrp_session.proofs.Following.{same-configured}
 use Rattle.llrp_session.proofs.StandingTogether.{tags_of-append}
 use Rattle.llrp_session.proofs.Orderly.{IsOrderly, AllAbove-change, AllAbove-without, AllAbove-enter, IsRising-change, IsRising-without, IsRising-enter, active_count-change, active_count-without, active_count-enter, Calms, calms-off, calms-enabling, calms-disabling, no_active, active_count-start}

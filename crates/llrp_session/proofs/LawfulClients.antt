@@ -8,8 +8,9 @@ use Rattle.llrp_session.specs.RoSpec.{rospec_of}
 use Rattle.llrp_session.specs.Words.{Operation, Adding, Deleting, Starting, Stopping, Enabling, Disabling, Listing, Configuring, Closing, Command, Add, Delete, Start, Stop, Enable, Disable, GetRospecs, SetKeepalive, GetReport, Close, Heard, HeardResponse, HeardError, HeardReport, HeardKeepalive, HeardNotification, HeardOther, RoSpecChange}
 use Rattle.llrp_session.specs.Refusal.{Refusal, Busy, OverLimit, IdsSpent}
 use Rattle.llrp_session.specs.ClientMachine.{Client, ClientPhase, Fresh, Ready, Closed, Pending, Sending, Taking, command, sent_unless, refused_in, is_over_limit, are_spent, take, take_in, attempted, answered, take_response, failed, notified, is_response_to, unexpected, takes, cleared, closed, Connected, Refused, Reply}
-use Rattle.llrp_session.specs.LawfulWords.{IsLawfulCommand, IsLawfulClientMessage}
-use Rattle.llrp_session.specs.LawfulStates.{IsGivenCommand, AreLawfulClientMessages}
+use Rattle.llrp_session.specs.Calls.LawfulWords.{IsLawfulCommand, IsLawfulClientMessage}
+use Rattle.llrp_session.specs.MessageWorld.{IsGivenCommand}
+use Rattle.llrp_session.specs.Calls.LawfulStates.{AreLawfulClientMessages}
 
 -- ---- commands
 

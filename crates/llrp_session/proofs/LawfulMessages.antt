@@ -19,7 +19,7 @@ use Rattle.llrp_session.specs.Table.{Entry, listing}
 use Rattle.llrp_session.specs.Words.{Operation, Adding, Deleting, Starting, Stopping, Enabling, Disabling, Listing, Configuring, Closing, Add, Delete, Start, Stop, Enable, Disable, GetRospecs, SetKeepalive, GetReport, Close, ReaderWord, Response, Listed, Error, Report, KeepaliveSent, Accepted, Started, Ended, Overflowed, ReaderMessage, ClientWord, Asks, Acknowledges, ClientMessage, KeepaliveSpec, keepalive_each}
 use Rattle.llrp_session.specs.ReaderMessages.{parameter, status_parameter, notification_data, rospec_event, response_kind, reader_message}
 use Rattle.llrp_session.specs.ClientMessages.{client_message}
-use Rattle.llrp_session.specs.LawfulWords.{IsSendable, AreReports, AreToldOf, FitsLimit, IsLawfulReaderWord, IsLawfulReaderMessage, IsLawfulRoSpec, IsLawfulClientWord, IsLawfulClientMessage}
+use Rattle.llrp_session.specs.Calls.LawfulWords.{IsSendable, AreReports, AreToldOf, FitsLimit, IsLawfulReaderWord, IsLawfulReaderMessage, IsLawfulRoSpec, IsLawfulClientWord, IsLawfulClientMessage}
 use Rattle.llrp_session.proofs.ListedLemmas.{listing_placed, listing_lawful, listing_octets, statuses-listing}
 
 -- ---- parameters

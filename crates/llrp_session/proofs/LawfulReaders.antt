@@ -13,8 +13,9 @@ use Rattle.llrp_session.specs.ReaderMachine.{Reader, Turn, Keepalive, ReaderPhas
 use Rattle.llrp_session.specs.Refusal.{Refusal}
 use Rattle.llrp_session.proofs.ToldOfLawful.{told_of_lawful}
 use Rattle.llrp_session.proofs.ReportLemmas.{report_of_sighting}
-use Rattle.llrp_session.specs.LawfulWords.{IsReport, AreReports, IsToldOf, AreToldOf, FitsLimit, IsLawfulReaderWord, IsLawfulReaderMessage}
-use Rattle.llrp_session.specs.LawfulStates.{IsLawfulReader, IsLawfulSighting, IsLawfulRequest, IsLawfulReaderEvent, AreLawfulReaderMessages}
+use Rattle.llrp_session.specs.Calls.LawfulWords.{IsReport, AreReports, IsToldOf, AreToldOf, FitsLimit, IsLawfulReaderWord, IsLawfulReaderMessage}
+use Rattle.llrp_session.specs.Calls.LawfulStates.{IsLawfulReader, IsLawfulRequest, IsLawfulReaderEvent, AreLawfulReaderMessages}
+use Rattle.llrp_session.specs.MessageWorld.{IsLawfulSighting}
 use Rattle.llrp_session.proofs.TableChanges.{octets-change, octets-without, octets-enter}
 use Rattle.llrp_session.proofs.Adding.{added-fits}
 use Rattle.llrp_session.proofs.Following.{same-configured}

@@ -10,7 +10,7 @@ use Rattle.llrp_tree.specs.Tree.{Tree, Forest, MessageTree}
 use Rattle.llrp_tree.specs.Lawful.{AreInRange, AllLawful, IsLawfulMessage}
 use Rattle.llrp_session.specs.RoSpec.{first_in}
 use Rattle.llrp_session.specs.Reading.{adding, request_in, request_of}
-use Rattle.llrp_session.specs.LawfulStates.{IsLawfulRequest}
+use Rattle.llrp_session.specs.Calls.LawfulStates.{IsLawfulRequest}
 use Rattle.llrp_session.proofs.ToldOfLawful.{IsFound, found-first_in, first_in_range}
 
 lawful-adding : (o : Option Tree) → IsFound RoSpec o → IsLawfulRequest (adding o)

@@ -11,8 +11,8 @@ use Rattle.llrp_tree.specs.Tree.{Forest, Tree, add, add_all}
 use Rattle.llrp_tree.specs.Lawful.{octets, body_octets, tree_octets, count, ArePlaced, AreLawful, AllLawful, IsLawful}
 use Rattle.llrp_session.specs.RoSpec.{field}
 use Rattle.llrp_session.specs.Table.{Entry, RoState, Disabled, Inactive, Active, state_number, as_listed, listing, octets_of}
-use Rattle.llrp_session.specs.ReadWords.{greatest}
-use Rattle.llrp_session.specs.LawfulWords.{IsToldOf, AreToldOf}
+use Rattle.llrp_session.specs.Calls.ReadWords.{greatest}
+use Rattle.llrp_session.specs.Calls.LawfulWords.{IsToldOf, AreToldOf}
 use Rattle.llrp_session.proofs.ReadFields.{field_within}
 
 pub state_number-le : (s : RoState) → state_number s ≤ 2

@@ -10,7 +10,7 @@ use Rattle.llrp_tree.proofs.TreeLemmas.{forest-trees}
 use Rattle.llrp_tree.proofs.LawLemmas.{lawful_to}
 use Rattle.llrp_session.specs.RoSpec.{RoSpec, rospec_of, field}
 use Rattle.llrp_session.specs.Table.{RoState, state_number, as_listed}
-use Rattle.llrp_session.specs.LawfulWords.{IsToldOf}
+use Rattle.llrp_session.specs.Calls.LawfulWords.{IsToldOf}
 use Rattle.llrp_session.proofs.ListedLemmas.{listed_lawful}
 
 pub same_listed : (t : Tree) (spec : RoSpec) (s : RoState) (id priority number : ℕ) (tail : List ℕ) (row : List Tree) → rospec_of t ≡ spec

@@ -5,7 +5,8 @@ use Rattle.std.specs.List.{list_any, list_all}
 use Rattle.std.proofs.lemmas.Bool.{eq-eqb}
 use Rattle.std.proofs.lemmas.Bool.Decides.{nat_tests}
 use Rattle.llrp_tree.specs.Tree.{Tree}
-use Rattle.llrp_session.specs.Table.{Entry, Viewed, RoState, states, state_number, as_listed, listing, AllAbove, IsRising}
+use Rattle.llrp_session.specs.Table.{Entry, Viewed, RoState, states, state_number, as_listed, listing}
+use Rattle.llrp_session.specs.Calls.Table.{AllAbove, IsRising}
 use Rattle.llrp_session.specs.ClientMachine.{shows, names_same, names_none_twice, is_view}
 
 and_true : (a b : Bool) → a ≡ true → b ≡ true → (a && b) ≡ true

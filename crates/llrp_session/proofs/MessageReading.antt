@@ -7,11 +7,12 @@ use Rattle.llrp_tree.specs.Tree.{Tree, forest}
 use Rattle.llrp_schema.specs.declared.kinds.ParamKind.TheVariants.{RoSpec, LlrpStatus}
 use Rattle.llrp_session.specs.RoSpec.{is_kind, field}
 use Rattle.llrp_session.specs.Table.{Entry, as_listed, listing}
-use Rattle.llrp_session.specs.Words.{Adding, Deleting, Starting, Stopping, Enabling, Disabling, Listing, Configuring, Closing, Add, Delete, Start, Stop, Enable, Disable, GetRospecs, SetKeepalive, GetReport, Close, ReaderWord, Response, Listed, Error, Report, KeepaliveSent, Accepted, Started, Ended, Overflowed, ReaderMessage, HeardReport, HeardResponse, ClientWord, Asks, Acknowledges, ClientMessage, heard, request}
+use Rattle.llrp_session.specs.Words.{Adding, Deleting, Starting, Stopping, Enabling, Disabling, Listing, Configuring, Closing, Add, Delete, Start, Stop, Enable, Disable, GetRospecs, SetKeepalive, GetReport, Close, ReaderWord, Response, Listed, Error, Report, KeepaliveSent, Accepted, Started, Ended, Overflowed, ReaderMessage, HeardReport, HeardResponse, ClientWord, Asks, Acknowledges, ClientMessage, request}
+use Rattle.llrp_session.specs.Calls.Words.{heard}
 use Rattle.llrp_session.specs.ReaderMessages.{status_parameter, reader_message}
 use Rattle.llrp_session.specs.ClientMessages.{client_message}
 use Rattle.llrp_session.specs.Reading.{request_of, status_in, rospecs_in, heard_of}
-use Rattle.llrp_session.specs.LawfulWords.{SaysRoSpec}
+use Rattle.llrp_session.specs.Calls.LawfulWords.{SaysRoSpec}
 
 -- ---- the response that lists a table
 

@@ -3,19 +3,22 @@ use Rattle.std.proofs.Common.{◌≡◌, ℕ, List, [], ◌∷◌, ◌++◌, ref
 use Rattle.std.specs.Prelude.{map, Result, Ok, Err, Option, None, Some, if◌then◌else◌, Bool, true, false, ◌==◌}
 use Rattle.std.proofs.lemmas.List.{map-append}
 use Rattle.llrp_tree.specs.Tree.{Tree}
-use Rattle.llrp_session.specs.Words.{Operation, Adding, Deleting, Starting, Stopping, Enabling, Disabling, Listing, Configuring, Closing, Request, RoSpecChange, Command, Response, Listed, Error, Report, KeepaliveSent, Accepted, Started, Ended, Overflowed, ReaderWord, ReaderMessage, ClientMessage, heard, request, Heard, HeardResponse, HeardError, HeardReport, HeardKeepalive, HeardNotification, HeardOther}
+use Rattle.llrp_session.specs.Words.{Operation, Adding, Deleting, Starting, Stopping, Enabling, Disabling, Listing, Configuring, Closing, Request, RoSpecChange, Command, Response, Listed, Error, Report, KeepaliveSent, Accepted, Started, Ended, Overflowed, ReaderWord, ReaderMessage, ClientMessage, request, Heard, HeardResponse, HeardError, HeardReport, HeardKeepalive, HeardNotification, HeardOther}
+use Rattle.llrp_session.specs.Calls.Words.{heard}
 use Rattle.llrp_session.specs.Refusal.{Refusal}
 use Rattle.llrp_session.specs.ReaderMachine.{Turn, ReaderEvent, Connect, Take, Seen, Tick, next}
 use Rattle.llrp_session.specs.Sightings.{tags_in, tags_of, kept_by}
 use Rattle.llrp_session.specs.ClientMachine.{Client, ClientPhase, Fresh, Ready, Closed, Pending, Connected, Refused, Reply, Sending, Taking, command, take, sent_unless, refused_in, take_response, replied, granted, answered, unexpected, is_response_to, failed, takes, cleared, closed, notified, attempted, take_in}
-use Rattle.llrp_session.specs.World as words
-use Rattle.llrp_session.specs.Agreement.{tables_of}
-use Rattle.llrp_session.specs.World.{World, table_heard, listed_by, WorldEvent, Connects, Commands, DeliversUp, DeliversDown, Sees, Ticks, run, opening}
+use Rattle.llrp_session.specs.Calls.World as words
+use Rattle.llrp_session.specs.Calls.Agreement.{tables_of}
+use Rattle.llrp_session.specs.Calls.World.{World, run, opening}
+use Rattle.llrp_session.specs.World.{table_heard, listed_by, WorldEvent, Connects, Commands, DeliversUp, DeliversDown, Sees, Ticks}
 use Rattle.llrp_session.specs.ReaderMessages.{reader_message}
 use Rattle.llrp_session.specs.ClientMessages.{client_message}
 use Rattle.llrp_session.specs.Reading.{heard_of}
-use Rattle.llrp_session.specs.LawfulWords.{AddsRoSpec, SaysRoSpec}
-use Rattle.llrp_session.specs.MessageWorld.{tags_heard, tags_in_messages, tables_in_messages, stepped, reader_does, commanded, took, delivered_up, delivered_down, message_happens, run_messages, message_opening, in_messages, IsOfRoSpecs, AreOfRoSpecs}
+use Rattle.llrp_session.specs.Calls.LawfulWords.{AddsRoSpec, SaysRoSpec}
+use Rattle.llrp_session.specs.MessageWorld.{tags_heard, tags_in_messages, tables_in_messages, stepped, reader_does, commanded, took, delivered_up, delivered_down, message_happens, run_messages, message_opening}
+use Rattle.llrp_session.specs.Calls.MessageWorld.{in_messages, IsOfRoSpecs, AreOfRoSpecs}
 use Rattle.llrp_session.proofs.MessageReading.{heard_back, request_back}
 
 -- ---- the TagReportData in messages are those of the words

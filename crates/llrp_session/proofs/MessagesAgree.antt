@@ -2,17 +2,21 @@
 use Rattle.std.proofs.Common.{◌≡◌, ℕ, List, [], ◌∷◌, ◌++◌, Bool, refl, sym, ap, ◌∙◌, subst, inl, inr}
 use Rattle.std.specs.Prelude.{map, Result, Ok, Err, Option, None, Some, if◌then◌else◌}
 use Rattle.llrp_tree.specs.Tree.{Tree}
-use Rattle.llrp_session.specs.Words.{Add, Delete, Start, Stop, Enable, Disable, GetRospecs, SetKeepalive, GetReport, Close, Request, Heard, Response, Listed, Error, Report, KeepaliveSent, Accepted, Started, Ended, Overflowed, ReaderWord, ReaderMessage, ClientWord, Asks, Acknowledges, ClientMessage, heard, request}
+use Rattle.llrp_session.specs.Words.{Add, Delete, Start, Stop, Enable, Disable, GetRospecs, SetKeepalive, GetReport, Close, Request, Heard, Response, Listed, Error, Report, KeepaliveSent, Accepted, Started, Ended, Overflowed, ReaderWord, ReaderMessage, ClientWord, Asks, Acknowledges, ClientMessage, request}
+use Rattle.llrp_session.specs.Calls.Words.{heard}
 use Rattle.llrp_session.specs.Refusal.{Refusal}
 use Rattle.llrp_session.specs.ClientMachine.{Client, Pending, Taking, take}
-use Rattle.llrp_session.specs.World.{World, run, opening}
-use Rattle.llrp_session.specs.Agreement as words
-use Rattle.llrp_session.specs.Agreement.{AfterAll, and_then, taken_in, IsTaken, AreTaken, as_list, awaited_by, requests, is_response, responses}
+use Rattle.llrp_session.specs.Calls.World.{World, run, opening}
+use Rattle.llrp_session.specs.Calls.Agreement as words
+use Rattle.llrp_session.specs.Calls.Agreement.{AfterAll, and_then, taken_in, AreTaken, awaited_by, requests, is_response, responses}
+use Rattle.llrp_session.specs.MessageAgreement.{IsTaken, as_list}
 use Rattle.llrp_session.specs.ReaderMessages.{reader_message}
 use Rattle.llrp_session.specs.ClientMessages.{client_message}
 use Rattle.llrp_session.specs.Reading.{request_of, heard_of}
-use Rattle.llrp_session.specs.MessageWorld.{MessageWorld, in_messages}
-use Rattle.llrp_session.specs.MessageAgreement.{AfterAllMessages, messages_taken_in, ViewCatchesUp, ViewIsTable, ReportsArrive, ReportsAreKept, ReaderHasHistory, OneActive, MessagesAreTaken, NothingIsUnexpected, awaited_of, requests_in, hears_response, responses_in, IsOnTheWay, PendingIsOnTheWay, NothingIsPending, TablesArrive, NoneDiffers}
+use Rattle.llrp_session.specs.MessageWorld.{MessageWorld}
+use Rattle.llrp_session.specs.Calls.MessageWorld.{in_messages}
+use Rattle.llrp_session.specs.Calls.MessageAgreement.{AfterAllMessages, messages_taken_in, ViewCatchesUp, ViewIsTable, ReportsArrive, ReportsAreKept, NothingIsUnexpected, PendingIsOnTheWay, NothingIsPending, TablesArrive}
+use Rattle.llrp_session.specs.MessageAgreement.{ReaderHasHistory, OneActive, MessagesAreTaken, awaited_of, requests_in, hears_response, responses_in, IsOnTheWay, NoneDiffers}
 use Rattle.llrp_session.proofs.MessageReading.{heard_back, request_back}
 use Rattle.llrp_session.proofs.MessageWorlds.{AllSay, same_tags, same_tables, runs_alike, run_says}
 use Rattle.llrp_session.proofs.Worlds as proved

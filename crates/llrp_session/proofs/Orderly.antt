@@ -3,7 +3,8 @@ use Rattle.std.proofs.Common.{◌≡◌, ℕ, suc, ◌<◌, ◌≤◌, refl, sym
 use Rattle.std.specs.Prelude.{◌==◌, nat_lt, None, Some}
 use Rattle.std.proofs.lemmas.Bool.Decides.{nat_tests}
 use Rattle.llrp_session.specs.RoSpec.{RoSpec}
-use Rattle.llrp_session.specs.Table.{RoState, Entry, Disabled, Inactive, Active, change, without, enter, names, setting, enabling, enabled, disabling, active, is_active, active_count, AllAbove, IsRising}
+use Rattle.llrp_session.specs.Table.{RoState, Entry, Disabled, Inactive, Active, change, without, enter, names, setting, enabling, enabled, disabling, active, is_active, active_count}
+use Rattle.llrp_session.specs.Calls.Table.{AllAbove, IsRising}
 
 -- Each id is there once and above 0, and one entry at most is active.
 pub record IsOrderly (table : List Entry) : Type 0 where

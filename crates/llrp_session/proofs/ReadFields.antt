@@ -8,7 +8,7 @@ use Rattle.llrp_schema.proofs.TableLaws.{param_keys}
 use Rattle.llrp_tree.specs.Tree.{Tree}
 use Rattle.llrp_tree.specs.Lawful.{AreInRange, IsLawful}
 use Rattle.llrp_session.specs.RoSpec.{is_kind}
-use Rattle.llrp_session.specs.ReadWords.{greatest_at, greatest}
+use Rattle.llrp_session.specs.Calls.ReadWords.{greatest_at, greatest}
 
 range_at : (rules : List FieldRule) (values : List ℕ) (i : ℕ) → AreInRange rules values → get_or values i 0 ≤ greatest_at rules i
 range_at [] [] i h = omega arith

@@ -8,9 +8,9 @@ use Rattle.llrp_tree.specs.Tree.{Forest, none, Tree, add, add_all, forest}
 use Rattle.llrp_tree.specs.Lawful.{levels, octets, tree_octets, body_octets, is_member, count, has_place, ArePlaced, NoneTooMany, NoneMissing, AllLawful, IsLawful}
 use Rattle.llrp_session.specs.RoSpec.{RoSpec, ContentSelector}
 use Rattle.llrp_session.specs.TagReport.{Sighting, value_parameter, if_selected, report_parts, signed_octet, tag_report}
-use Rattle.llrp_session.specs.LawfulWords.{IsReport}
-use Rattle.llrp_session.specs.LawfulWords.{IsToldOf}
-use Rattle.llrp_session.specs.LawfulStates.{IsLawfulSighting}
+use Rattle.llrp_session.specs.Calls.LawfulWords.{IsReport}
+use Rattle.llrp_session.specs.Calls.LawfulWords.{IsToldOf}
+use Rattle.llrp_session.specs.MessageWorld.{IsLawfulSighting}
 
 -- ---- parts of a TagReportData
 

@@ -3,17 +3,21 @@ use Rattle.std.proofs.Common.{◌≡◌, ℕ, ◌<◌, ◌≤◌, ◌^◌, List,
 use Rattle.std.specs.Prelude.{map, Result, Ok, Err, Option, None, Some, IfOk}
 use Rattle.llrp_tree.specs.declared.TheConstants.{MAX_LIMIT}
 use Rattle.llrp_tree.specs.Tree.{Tree}
-use Rattle.llrp_session.specs.Words.{Command, Add, Delete, Start, Stop, Enable, Disable, GetRospecs, SetKeepalive, GetReport, Close, ReaderMessage, ClientMessage, ClientWord, Asks, Acknowledges, heard, request}
+use Rattle.llrp_session.specs.Words.{Command, Add, Delete, Start, Stop, Enable, Disable, GetRospecs, SetKeepalive, GetReport, Close, ReaderMessage, ClientMessage, ClientWord, Asks, Acknowledges, request}
+use Rattle.llrp_session.specs.Calls.Words.{heard}
 use Rattle.llrp_session.specs.Refusal.{Refusal}
 use Rattle.llrp_session.specs.ReaderMachine.{Turn, ReaderEvent, Connect, Take, Seen, Tick, next}
 use Rattle.llrp_session.specs.Sightings.{kept_by}
 use Rattle.llrp_session.specs.ClientMachine.{Client, Sending, Taking, command, take, sent_unless, refused_in}
-use Rattle.llrp_session.specs.World.{World, WorldEvent, Connects, Commands, DeliversUp, DeliversDown, Sees, Ticks, listed_by, stepped, reader_does, commanded, took, delivered_up, delivered_down, happens, run, opening}
+use Rattle.llrp_session.specs.Calls.World.{World, stepped, reader_does, commanded, took, delivered_up, delivered_down, happens, run, opening}
+use Rattle.llrp_session.specs.World.{WorldEvent, Connects, Commands, DeliversUp, DeliversDown, Sees, Ticks, listed_by}
 use Rattle.llrp_session.specs.ReaderMessages.{reader_message}
 use Rattle.llrp_session.specs.ClientMessages.{client_message}
-use Rattle.llrp_session.specs.LawfulWords.{IsLawfulClientWord, IsLawfulClientMessage, AddsRoSpec}
-use Rattle.llrp_session.specs.LawfulStates.{IsLawfulReader, IsLawfulRequest, IsLawfulReaderEvent, AreLawfulReaderMessages, IsGivenCommand, AreLawfulClientMessages}
-use Rattle.llrp_session.specs.MessageWorld.{run_messages, message_opening, IsOfRoSpecs, AreOfRoSpecs, IsGiven, AreGiven, AreSendable}
+use Rattle.llrp_session.specs.Calls.LawfulWords.{IsLawfulClientWord, IsLawfulClientMessage, AddsRoSpec}
+use Rattle.llrp_session.specs.Calls.LawfulStates.{IsLawfulReader, IsLawfulRequest, IsLawfulReaderEvent, AreLawfulReaderMessages, AreLawfulClientMessages}
+use Rattle.llrp_session.specs.MessageWorld.{IsGivenCommand}
+use Rattle.llrp_session.specs.MessageWorld.{run_messages, message_opening, IsGiven, AreGiven}
+use Rattle.llrp_session.specs.Calls.MessageWorld.{IsOfRoSpecs, AreOfRoSpecs, AreSendable}
 use Rattle.llrp_session.proofs.LawfulMessages.{reader_sends, client_sends}
 use Rattle.llrp_session.proofs.LawfulReaders.{reader_as_new, reader_says_lawful}
 use Rattle.llrp_session.proofs.LawfulClients.{command_is_lawful, answer_is_lawful}

@@ -4,13 +4,16 @@ use Rattle.std.specs.Prelude.{◌+◌, Option, None, Some, is_some, Ok, Err}
 use Rattle.llrp_tree.specs.Tree.{Tree}
 use Rattle.llrp_session.specs.Table.{states, active}
 use Rattle.llrp_session.specs.TagReport.{Sighting}
-use Rattle.llrp_session.specs.Words.{Accepted, ReaderMessage, heard, Command, Add, Delete, Start, Stop, Enable, Disable, GetRospecs, SetKeepalive, GetReport, Close, request, ClientWord, Asks, Acknowledges, ClientMessage, Closing}
+use Rattle.llrp_session.specs.Words.{Accepted, ReaderMessage, Command, Add, Delete, Start, Stop, Enable, Disable, GetRospecs, SetKeepalive, GetReport, Close, request, ClientWord, Asks, Acknowledges, ClientMessage, Closing}
+use Rattle.llrp_session.specs.Calls.Words.{heard}
 use Rattle.llrp_session.specs.Refusal.{Refusal, Busy, OverLimit, IdsSpent}
 use Rattle.llrp_session.specs.ReaderMachine.{Reader, Turn, ReaderPhase, Waiting, Up, Down, ReaderEvent, Connect, Take, Seen, Tick, next, next_in, connect, serve, counting, begun}
 use Rattle.llrp_session.specs.Sightings.{tags_of, tags_in, kept_by}
 use Rattle.llrp_session.specs.ClientMachine.{Client, ClientPhase, Fresh, Ready, Closed, Pending, sending, command, sent_unless, refused_in, awaited, take, take_in, is_over_limit, are_spent, closed, cleared}
-use Rattle.llrp_session.specs.World.{World, WorldEvent, Connects, Commands, DeliversUp, DeliversDown, Sees, Ticks, listed_by, happens, run, opening, stepped, commanded, took, delivered_up, delivered_down, tags_handed_out}
-use Rattle.llrp_session.specs.Agreement.{taken_in, and_then, requests, as_list, awaited_by, IsOnTheWay}
+use Rattle.llrp_session.specs.Calls.World.{World, happens, run, opening, stepped, commanded, took, delivered_up, delivered_down}
+use Rattle.llrp_session.specs.World.{WorldEvent, Connects, Commands, DeliversUp, DeliversDown, Sees, Ticks, listed_by, tags_handed_out}
+use Rattle.llrp_session.specs.Calls.Agreement.{taken_in, and_then, requests, awaited_by, IsOnTheWay}
+use Rattle.llrp_session.specs.MessageAgreement.{as_list}
 use Rattle.llrp_session.proofs.Following.{Follows, taken_in-append, follows-serve, follows-see, follows-tick, follows-send_held, ClosesNot, awaited_response, request_with}
 use Rattle.llrp_session.proofs.TakingIn.{with_pending, settled, awaited_once, hands_out}
 

@@ -5,8 +5,8 @@ use Rattle.std.specs.List.{insert}
 use Rattle.llrp_tree.specs.Tree.{Tree}
 use Rattle.llrp_session.specs.RoSpec.{RoSpec}
 use Rattle.llrp_session.specs.Table.{Entry, RoState, Disabled, names, change, without, enter, state_of, octets_of}
-use Rattle.llrp_session.specs.LawfulWords.{AreReports, IsReport}
-use Rattle.llrp_session.specs.ReaderParts.{place_of}
+use Rattle.llrp_session.specs.Calls.LawfulWords.{AreReports, IsReport}
+use Rattle.llrp_session.specs.Private.ReaderParts.{place_of}
 
 -- ---- a loop that changes the states from the front
 

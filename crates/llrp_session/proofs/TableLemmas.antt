@@ -7,7 +7,7 @@ use Rattle.llrp_schema.specs.declared.kinds.ParamKind.TheVariants.{RoSpec as RoS
 use Rattle.llrp_tree.specs.Tree.{none}
 use Rattle.llrp_session.specs.RoSpec.{RoSpec}
 use Rattle.llrp_session.specs.Table.{Entry, Viewed, RoState, Disabled, states, names, state_of, enter, change, without, viewed_state, enter_view, change_view, view_without}
-use Rattle.llrp_session.specs.TableLaws.{EntersOne, ChangesEach, RemovesThoseNamed, EntersOneInView, ChangesEachInView, RemovesThoseNamedInView, SeesEach}
+use Rattle.llrp_session.specs.Calls.TableLaws.{EntersOne, ChangesEach, RemovesThoseNamed, EntersOneInView, ChangesEachInView, RemovesThoseNamedInView, SeesEach}
 use Rattle.llrp_session.proofs.States.{states-enter, states-change, states-without}
 
 same_as : (a b c : ℕ) → (a == b) ≡ true → (c == a) ≡ false → (c == b) ≡ false

@@ -2,14 +2,17 @@
 use Rattle.std.proofs.Common.{◌≡◌, ℕ, ◌≤◌, length, refl, sym, ◌∙◌, ap, subst, Bool, true, false, cond, List, [], ◌∷◌, ◌++◌, append_assoc, append-nil}
 use Rattle.std.specs.Prelude.{◌==◌, Option, None, Some, is_some, Result, Ok, Err}
 use Rattle.llrp_tree.specs.Tree.{Tree}
-use Rattle.llrp_session.specs.Table.{Entry, RoState, states, listing, IsRising}
-use Rattle.llrp_session.specs.Words.{ReaderWord, Response, Listed, Error, Report, KeepaliveSent, Accepted, Started, Ended, Overflowed, ReaderMessage, Operation, Adding, Deleting, Starting, Stopping, Enabling, Disabling, Listing, Configuring, Closing, RoSpecChange, Heard, HeardResponse, HeardError, HeardReport, HeardKeepalive, HeardNotification, HeardOther, heard, GetRoSpecs, Command, Add, Delete, Start, Stop, Enable, Disable, GetRospecs, SetKeepalive, GetReport, Close, ClientWord, Asks, Acknowledges, ClientMessage, request}
+use Rattle.llrp_session.specs.Table.{Entry, RoState, states, listing}
+use Rattle.llrp_session.specs.Calls.Table.{IsRising}
+use Rattle.llrp_session.specs.Words.{ReaderWord, Response, Listed, Error, Report, KeepaliveSent, Accepted, Started, Ended, Overflowed, ReaderMessage, Operation, Adding, Deleting, Starting, Stopping, Enabling, Disabling, Listing, Configuring, Closing, RoSpecChange, Heard, HeardResponse, HeardError, HeardReport, HeardKeepalive, HeardNotification, HeardOther, GetRoSpecs, Command, Add, Delete, Start, Stop, Enable, Disable, GetRospecs, SetKeepalive, GetReport, Close, ClientWord, Asks, Acknowledges, ClientMessage, request}
+use Rattle.llrp_session.specs.Calls.Words.{heard}
 use Rattle.llrp_session.specs.Refusal.{Refusal, Busy, OverLimit, IdsSpent}
 use Rattle.llrp_session.specs.ReaderMachine.{Reader, Turn, ReaderPhase, Waiting, Up, Down, ReaderEvent, Connect, Take, TakeBad, Seen, Tick, next, next_in, serve}
 use Rattle.llrp_session.specs.Sightings.{kept_by}
 use Rattle.llrp_session.specs.ClientMachine.{Client, ClientPhase, Fresh, Ready, Closed, Connected, Refused, Reply, Table, Differs, Event, Note, Pending, Sending, Taking, take, take_in, take_response, answered, failed, notified, attempted, event_of, unexpected, is_response_to, is_view, takes, cleared, closed, listed, sending, command, sent_unless, refused_in, is_over_limit, are_spent}
-use Rattle.llrp_session.specs.World.{World, WorldEvent, Connects, Commands, DeliversUp, DeliversDown, Sees, Ticks, table_heard, listed_for, listed_in, listed_by, tables_shown, tables_differing, happens, run, opening, stepped, commanded, took, delivered_up, delivered_down, reader_does}
-use Rattle.llrp_session.specs.Agreement.{taken_in, and_then, is_response, responses, tables_of}
+use Rattle.llrp_session.specs.Calls.World.{World, happens, run, opening, stepped, commanded, took, delivered_up, delivered_down, reader_does}
+use Rattle.llrp_session.specs.World.{WorldEvent, Connects, Commands, DeliversUp, DeliversDown, Sees, Ticks, table_heard, listed_for, listed_in, listed_by, tables_shown, tables_differing}
+use Rattle.llrp_session.specs.Calls.Agreement.{taken_in, and_then, is_response, responses, tables_of}
 use Rattle.llrp_session.proofs.Following.{taken_in-append}
 use Rattle.llrp_session.proofs.TakingIn.{settled}
 use Rattle.llrp_session.proofs.Orderly.{IsOrderly}

@@ -4,12 +4,13 @@ use Rattle.std.specs.Prelude.{◌==◌, Option, None, Some, Result, Ok, Err}
 use Rattle.std.proofs.lemmas.Bool.Decides.{nat_tests}
 use Rattle.llrp_tree.specs.Tree.{Tree}
 use Rattle.llrp_session.specs.Table.{RoState, listing}
-use Rattle.llrp_session.specs.Words.{ReaderWord, Response, Listed, Error, Report, KeepaliveSent, Accepted, Started, Ended, Overflowed, ReaderMessage, heard, Operation, Adding, Deleting, Starting, Stopping, Enabling, Disabling, Listing, Configuring, Closing, RoSpecChange}
+use Rattle.llrp_session.specs.Words.{ReaderWord, Response, Listed, Error, Report, KeepaliveSent, Accepted, Started, Ended, Overflowed, ReaderMessage, Operation, Adding, Deleting, Starting, Stopping, Enabling, Disabling, Listing, Configuring, Closing, RoSpecChange}
+use Rattle.llrp_session.specs.Calls.Words.{heard}
 use Rattle.llrp_session.specs.Refusal.{Refusal}
 use Rattle.llrp_session.specs.Sightings.{tags_in}
 use Rattle.llrp_session.specs.ClientMachine.{Client, ClientPhase, Fresh, Ready, Closed, Pending, Taking, Reply, Table, Differs, is_view, take, take_in, granted, take_response, replied, takes, unexpected, is_response_to, cleared, answered, failed, event_of}
 use Rattle.llrp_session.specs.World.{tags_handed_out}
-use Rattle.llrp_session.specs.Agreement.{taken_in, and_then, requests, responses, is_response}
+use Rattle.llrp_session.specs.Calls.Agreement.{taken_in, and_then, requests, responses, is_response}
 
 same_taking : (a b : Taking) → (let r : Result Taking Refusal = Ok a in r ≡ Ok b) → a ≡ b
 same_taking a b e = cc

@@ -9,7 +9,7 @@ use Rattle.llrp_schema.specs.declared.kinds.ParamKind.TheVariants.{KeepaliveSpec
 use Rattle.llrp_session.specs.Words.{SetKeepalive, Asks, ReaderWord, ReaderMessage, ClientWord, ClientMessage, keepalive_each}
 use Rattle.llrp_session.specs.ReaderMessages.{parameter, reader_kind, reader_parameters, reader_message}
 use Rattle.llrp_session.specs.ClientMessages.{client_kind, client_fields, client_parameters, client_message}
-use Rattle.llrp_session.specs.LawfulWords.{IsLawfulReaderWord, IsLawfulClientWord}
+use Rattle.llrp_session.specs.Calls.LawfulWords.{IsLawfulReaderWord, IsLawfulClientWord}
 use Rattle.llrp_session.proofs.LawfulMessages.{reader_sends, client_sends}
 
 pub reader_told : (version id : ℕ) (kind : MsgKind) (items : List Tree) (word : ReaderWord) → kind ≡ reader_kind word → items ≡ reader_parameters word

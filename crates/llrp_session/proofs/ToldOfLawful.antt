@@ -10,7 +10,7 @@ use Rattle.llrp_schema.proofs.TableLaws.{param_keys}
 use Rattle.llrp_tree.specs.Tree.{Forest, none, and, Tree, trees}
 use Rattle.llrp_tree.specs.Lawful.{AreInRange, AllLawful, IsLawful}
 use Rattle.llrp_session.specs.RoSpec.{is_kind, first_in, first_below, field, rospec_of}
-use Rattle.llrp_session.specs.LawfulWords.{IsToldOf}
+use Rattle.llrp_session.specs.Calls.LawfulWords.{IsToldOf}
 
 -- the greatest value of the first field
 abbrev pub first_greatest : List FieldRule → ℕ

@@ -11,8 +11,9 @@ use Rattle.llrp_session.specs.Words.{Command, Add, Delete, Start, Stop, Enable, 
 use Rattle.llrp_session.specs.ReaderMachine.{Down, next, serve, end, configured, see, tick}
 use Rattle.llrp_session.specs.ClientMachine.{Closed, take, command}
 use Rattle.llrp_session.specs.Sightings.{tags_of}
-use Rattle.llrp_session.specs.World.{World, WorldEvent, Connects, Commands, DeliversUp, DeliversDown, Sees, run, opening}
-use Rattle.llrp_session.specs.Agreement.{requests, responses}
+use Rattle.llrp_session.specs.Calls.World.{World, run, opening}
+use Rattle.llrp_session.specs.World.{WorldEvent, Connects, Commands, DeliversUp, DeliversDown, Sees}
+use Rattle.llrp_session.specs.Calls.Agreement.{requests, responses}
 use Rattle.llrp_session.proofs.Examples.{reporting_rospec, sighting_of, tag_data, first_sighting, first_report}
 
 -- a command, taken at a moment, and the one message that answers it

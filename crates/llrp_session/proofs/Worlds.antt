@@ -2,14 +2,18 @@
 use Rattle.std.proofs.Common.{◌≡◌, ℕ, ◌≤◌, refl, sym, ◌∙◌, ap, subst, List, [], ◌∷◌, ◌++◌, length, inl, inr, arith, append_assoc}
 use Rattle.std.specs.Prelude.{Option, None, Some, Result, Ok, Err}
 use Rattle.llrp_tree.specs.Tree.{Tree}
-use Rattle.llrp_session.specs.Table.{IsRising, AllAbove, active_count}
-use Rattle.llrp_session.specs.Words.{ReaderMessage, ClientMessage, heard, request}
+use Rattle.llrp_session.specs.Calls.Table.{IsRising, AllAbove}
+use Rattle.llrp_session.specs.Table.{active_count}
+use Rattle.llrp_session.specs.Words.{ReaderMessage, ClientMessage, request}
+use Rattle.llrp_session.specs.Calls.Words.{heard}
 use Rattle.llrp_session.specs.Refusal.{Refusal}
 use Rattle.llrp_session.specs.ReaderMachine.{Reader, Turn, ReaderEvent, Connect, Take, Seen, Tick, next}
 use Rattle.llrp_session.specs.Sightings.{tags_of, kept_by, dropped_by, History, history, goes_on, extended, no_history}
 use Rattle.llrp_session.specs.ClientMachine.{Client, Pending, Sending, Taking, take, command}
-use Rattle.llrp_session.specs.World.{World, WorldEvent, Connects, Commands, DeliversUp, DeliversDown, Sees, Ticks, listed_by, happens, run, opening, stepped, commanded, took, delivered_up, delivered_down, reader_does}
-use Rattle.llrp_session.specs.Agreement.{AfterAll, ViewCatchesUp, ViewIsTable, ReportsArrive, ReportsAreKept, ReaderHasHistory, OneActive, NothingIsUnexpected, PendingIsOnTheWay, NothingIsPending, TablesArrive, NoneDiffers, IsTaken, AreTaken, taken_in, and_then, requests, responses, IsOnTheWay}
+use Rattle.llrp_session.specs.Calls.World.{World, happens, run, opening, stepped, commanded, took, delivered_up, delivered_down, reader_does}
+use Rattle.llrp_session.specs.World.{WorldEvent, Connects, Commands, DeliversUp, DeliversDown, Sees, Ticks, listed_by}
+use Rattle.llrp_session.specs.Calls.Agreement.{AfterAll, ViewCatchesUp, ViewIsTable, ReportsArrive, ReportsAreKept, ReaderHasHistory, OneActive, NothingIsUnexpected, PendingIsOnTheWay, NothingIsPending, TablesArrive, NoneDiffers, AreTaken, taken_in, and_then, requests, responses, IsOnTheWay}
+use Rattle.llrp_session.specs.MessageAgreement.{IsTaken}
 use Rattle.llrp_session.proofs.StandingTogether.{StandsTogether, together-happens, together-run, together-opening, on_the_way, tags_of-append}
 use Rattle.llrp_session.proofs.Orderly.{IsOrderly}
 use Rattle.llrp_session.proofs.Keeping.{KeptNext, kept-next}

@@ -1,41 +1,23 @@
 -- The two ends agree, in the messages that are sent.
-use Rattle.std.specs.Prelude.{◌≡◌, ◌≤◌, ◌⊎◌, ℕ, Bool, true, false, List, [], ◌∷◌, ◌++◌, Option, None, Some, if◌then◌else◌}
+use Rattle.std.specs.Prelude.{◌≡◌, ◌≤◌, ◌⊎◌, ℕ, Bool, true, false, List, [], ◌∷◌, ◌++◌, Option, None, Some, if◌then◌else◌, Result, Ok, Err}
 use Rattle.llrp_tree.specs.Tree.{MessageTree}
 use Rattle.llrp_session.specs.RoSpec.{rospec_of}
-use Rattle.llrp_session.specs.Table.{states, active_count}
+use Rattle.llrp_session.specs.Table.{active_count}
 use Rattle.llrp_session.specs.Words.{Adding, Deleting, Starting, Stopping, Enabling, Disabling, Listing, Configuring, Closing, Request, AddRoSpec, DeleteRoSpec, StartRoSpec, StopRoSpec, EnableRoSpec, DisableRoSpec, GetRoSpecs, SetReaderConfig, GetReports, CloseConnection, NoRequest, Unsupported, Heard, HeardResponse, HeardError}
 use Rattle.llrp_session.specs.ReaderMachine.{ReaderEvent}
 use Rattle.llrp_session.specs.Sightings.{tags_of, history, no_history}
-use Rattle.llrp_session.specs.ClientMachine.{Client, Pending, take, waits_for}
-use Rattle.llrp_session.specs.World.{WorldEvent}
-use Rattle.llrp_session.specs.Agreement.{and_then, IsTaken, as_list}
+use Rattle.llrp_session.specs.ClientMachine.{Client, Pending, take, waits_for, Taking}
 use Rattle.llrp_session.specs.Reading.{request_of, heard_of}
-use Rattle.llrp_session.specs.MessageWorld.{MessageWorld, tags_in_messages, tables_in_messages, run_messages, message_opening, AreOfRoSpecs}
+use Rattle.llrp_session.specs.MessageWorld.{MessageWorld}
+use Rattle.llrp_session.specs.Refusal.{Refusal}
 
--- what holds after every list of events, from two ends as new, if what a client adds is always a ROSpec
-abbrev pub AfterAllMessages : (MessageWorld → Type 0) → Type 0
-AfterAllMessages P = (limit reader_first client_first : ℕ) (events : List WorldEvent) → AreOfRoSpecs events → P (run_messages events (message_opening limit reader_first client_first))
+abbrev pub as_list : Option Pending → List Pending
+as_list None = []
+as_list (Some p) = p ∷ []
 
--- the client once it took these messages; none where it refuses one of them
-abbrev pub messages_taken_in : List MessageTree → Client → Option Client
-messages_taken_in [] c = Some c
-messages_taken_in (m ∷ ms) c = and_then (take c m.id (heard_of m)) (messages_taken_in ms)
-
--- (a) taking in what is on the way down makes the client's view the reader's table of states
-abbrev pub ViewCatchesUp : MessageWorld → Type 0
-ViewCatchesUp w = (c : Client) × (messages_taken_in w.down w.client ≡ Some c) × (c.view ≡ states w.reader.table)
-
--- with nothing on the way down they are equal
-abbrev pub ViewIsTable : MessageWorld → Type 0
-ViewIsTable w = w.down ≡ [] → w.client.view ≡ states w.reader.table
-
--- (b) the reports delivered, followed by those on the way down, are the reports sent, in order, each once
-abbrev pub ReportsArrive : MessageWorld → Type 0
-ReportsArrive w = w.handed_out ++ tags_in_messages w.down ≡ w.reported
-
--- with those held they are the reports of the sightings that counted and were not dropped
-abbrev pub ReportsAreKept : MessageWorld → Type 0
-ReportsAreKept w = (w.handed_out ++ tags_in_messages w.down) ++ w.reader.held ≡ w.kept
+abbrev pub IsTaken : Result Taking Refusal → (Client → Type 0) → Type 0
+IsTaken (Err refusal) P = ⊥
+IsTaken (Ok k) P = P k.client
 
 -- these are the reports of `sightings_kept`: some history of a reader as new ends with this reader, sent these reports, and kept these
 pub record ReaderHasHistory (w : MessageWorld) : Type 0 where
@@ -54,10 +36,6 @@ OneActive w = active_count w.reader.table ≤ 1
 abbrev pub MessagesAreTaken : List MessageTree → Client → Type 0
 MessagesAreTaken [] c = Unit {0}
 MessagesAreTaken (m ∷ ms) c = IsTaken (take c m.id (heard_of m)) (MessagesAreTaken ms)
-
--- (d) the client never meets an unexpected message, nor one after its closing
-abbrev pub NothingIsUnexpected : MessageWorld → Type 0
-NothingIsUnexpected w = MessagesAreTaken w.down w.client
 
 -- ---- the pending request
 
@@ -96,19 +74,7 @@ IsOnTheWay None up down = (requests_in up ≡ []) × (responses_in down ≡ [])
 IsOnTheWay (Some p) up down =
     ((requests_in up ≡ p ∷ []) × (responses_in down ≡ [])) ⊎ ((requests_in up ≡ []) × (responses_in down ≡ p.id ∷ []))
 
--- (e) the pending request is on the way up, or its one response on the way down, never both; without one neither does any
-abbrev pub PendingIsOnTheWay : MessageWorld → Type 0
-PendingIsOnTheWay w = IsOnTheWay w.client.pending w.up w.down
-
--- with nothing on the way nothing is pending
-abbrev pub NothingIsPending : MessageWorld → Type 0
-NothingIsPending w = w.up ≡ [] → w.down ≡ [] → w.client.pending ≡ None
-
 -- ---- the reader's table
-
--- (f) the tables that the client took, followed by those on the way down, are the reader's table as it was at each GET_ROSPECS, in order
-abbrev pub TablesArrive : MessageWorld → Type 0
-TablesArrive w = w.tables ++ tables_in_messages w.down ≡ w.listed
 
 -- the client never took one that differs from its view
 abbrev pub NoneDiffers : MessageWorld → Type 0

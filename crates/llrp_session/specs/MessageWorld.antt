@@ -1,17 +1,35 @@
 -- The world of both ends in which messages are on the way, and are read where they arrive.
-use Rattle.std.specs.Prelude.{ℕ, ◌<◌, ◌^◌, List, [], ◌∷◌, ◌++◌, map, Result, Ok, Err}
+use Rattle.std.specs.Prelude.{ℕ, ◌<◌, ◌^◌, List, [], ◌∷◌, ◌++◌, map, Result, Ok, Err, ◌≡◌}
 use Rattle.llrp_tree.specs.Tree.{Tree, MessageTree}
-use Rattle.llrp_session.specs.Words.{Heard, HeardReport}
+use Rattle.llrp_session.specs.Words.{Heard, HeardReport, Command, Add, Delete, Start, Stop, Enable, Disable, GetRospecs, SetKeepalive, GetReport, Close}
 use Rattle.llrp_session.specs.Refusal.{Refusal}
 use Rattle.llrp_session.specs.ReaderMachine.{Reader, Turn, ReaderEvent, Connect, Take, Seen, Tick, next, new_reader}
 use Rattle.llrp_session.specs.Sightings.{kept_by}
 use Rattle.llrp_session.specs.ClientMachine.{Client, Sending, Taking, command, take, new_client}
-use Rattle.llrp_session.specs.World.{World, WorldEvent, Connects, Commands, DeliversUp, DeliversDown, Sees, Ticks, table_heard, listed_by, tags_handed_out, tables_shown, tables_differing}
+use Rattle.llrp_session.specs.World.{WorldEvent, Connects, Commands, DeliversUp, DeliversDown, Sees, Ticks, table_heard, listed_by, tags_handed_out, tables_shown, tables_differing}
 use Rattle.llrp_session.specs.ReaderMessages.{reader_message}
 use Rattle.llrp_session.specs.ClientMessages.{client_message}
 use Rattle.llrp_session.specs.Reading.{request_of, heard_of}
-use Rattle.llrp_session.specs.LawfulWords.{IsSendable, AddsRoSpec}
-use Rattle.llrp_session.specs.LawfulStates.{IsGivenCommand, IsLawfulSighting}
+use Rattle.llrp_schema.specs.declared.kinds.ParamKind.TheVariants.{RoSpec as RoSpecKind}
+use Rattle.llrp_tree.specs.Lawful.{IsLawful}
+use Rattle.llrp_session.specs.TagReport.{Sighting, signed_octet}
+
+abbrev pub IsGivenCommand : Command → Type 0
+IsGivenCommand (Add spec) = (spec.kind ≡ RoSpecKind) × IsLawful spec
+IsGivenCommand (Delete id) = id < 2 ^ 32
+IsGivenCommand (Start id) = id < 2 ^ 32
+IsGivenCommand (Stop id) = id < 2 ^ 32
+IsGivenCommand (Enable id) = id < 2 ^ 32
+IsGivenCommand (Disable id) = id < 2 ^ 32
+IsGivenCommand GetRospecs = Unit {0}
+IsGivenCommand (SetKeepalive ms) = ms < 2 ^ 32
+IsGivenCommand GetReport = Unit {0}
+IsGivenCommand Close = Unit {0}
+
+pub record IsLawfulSighting (g : Sighting) : Type 0 where
+  pub antenna : g.antenna < 2 ^ 16
+  pub rssi : signed_octet g.rssi < 2 ^ 8
+  pub epc : g.epc < 2 ^ 96
 
 pub record MessageWorld : Type 0 where
   pub reader : Reader
@@ -102,32 +120,6 @@ message_opening limit reader_first client_first = record {
   listed = [];
 }
 
--- ---- the law
-
--- a world over words, with the message of each word on the way
-abbrev pub in_messages : World → MessageWorld
-in_messages w = record {
-  reader = w.reader;
-  client = w.client;
-  up = map client_message w.up;
-  down = map reader_message w.down;
-  handed_out = w.handed_out;
-  reported = w.reported;
-  kept = w.kept;
-  tables = w.tables;
-  differing = w.differing;
-  listed = w.listed;
-}
-
-abbrev pub IsOfRoSpecs : WorldEvent → Type 0
-IsOfRoSpecs (Commands k) = AddsRoSpec k
-IsOfRoSpecs _ = Unit {0}
-
--- each ROSpec that is added is a ROSpec
-abbrev pub AreOfRoSpecs : List WorldEvent → Type 0
-AreOfRoSpecs [] = Unit {0}
-AreOfRoSpecs (e ∷ es) = IsOfRoSpecs e × AreOfRoSpecs es
-
 -- ---- what is on its way may be sent
 
 -- an event whose numbers are those that their types hold, and whose ROSpec is lawful
@@ -142,7 +134,3 @@ IsGiven (Ticks now) = now < 2 ^ 64
 abbrev pub AreGiven : List WorldEvent → Type 0
 AreGiven [] = Unit {0}
 AreGiven (e ∷ es) = IsGiven e × AreGiven es
-
-abbrev pub AreSendable : ℕ → List MessageTree → Type 0
-AreSendable limit [] = Unit {0}
-AreSendable limit (m ∷ ms) = IsSendable limit m × AreSendable limit ms

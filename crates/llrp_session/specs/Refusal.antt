@@ -1,4 +1,4 @@
--- Why a machine refuses an event, a command or a message. Want of memory is none of these: it is the code's alone.
+-- Why a machine refuses an event, a command or a message. Memory is not among them: it is the code's alone.
 
 pub data Refusal : Type 0 where
   Closed : Refusal  -- the connection is closed

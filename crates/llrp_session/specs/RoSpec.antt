@@ -26,7 +26,7 @@ first_in kind row = find (is_kind kind) (trees row)
 abbrev pub first_of : ParamKind → Tree → Option Tree
 first_of kind t = first_in kind t.children
 
--- the same below a parameter that may be absent
+-- the first child of a kind below a parameter that may be absent
 abbrev pub first_below : ParamKind → Option Tree → Option Tree
 first_below kind o = option_and_then (first_of kind) o
 

@@ -1,12 +1,12 @@
 -- No sighting that counts is lost without an event, and none is reported twice.
-use Rattle.std.specs.Prelude.{◌≡◌, ◌≤◌, ℕ, suc, ◌+◌, Bool, true, false, List, [], ◌∷◌, ◌++◌, length, Option, None, Some, Result, Ok, Err, if◌then◌else◌}
+use Rattle.std.specs.Prelude.{ℕ, ◌+◌, List, [], ◌∷◌, ◌++◌, length, Option, None, Some, Result, Ok, Err, if◌then◌else◌}
 use Rattle.llrp_tree.specs.Tree.{Tree}
 use Rattle.llrp_session.specs.RoSpec.{RoSpec}
-use Rattle.llrp_session.specs.Table.{active, active_count}
+use Rattle.llrp_session.specs.Table.{active}
 use Rattle.llrp_session.specs.TagReport.{Sighting, tag_report}
-use Rattle.llrp_session.specs.Words.{ReaderWord, Report, Overflowed, ReaderMessage}
+use Rattle.llrp_session.specs.Words.{ReaderWord, Report, ReaderMessage}
 use Rattle.llrp_session.specs.Refusal.{Refusal}
-use Rattle.llrp_session.specs.ReaderMachine.{Reader, ReaderPhase, Up, Turn, ReaderEvent, Seen, effective_report, counting, is_full, most_held, new_reader, next}
+use Rattle.llrp_session.specs.ReaderMachine.{Reader, ReaderPhase, Up, Turn, ReaderEvent, Seen, effective_report, counting, is_full, new_reader, next}
 
 -- ---- what is sent
 
@@ -18,15 +18,6 @@ tags_in _ = []
 unfoldable pub tags_of : List ReaderMessage → List Tree
 tags_of [] = []
 tags_of (m ∷ ms) = tags_in m.word ++ tags_of ms
-
-abbrev pub is_overflow : ReaderWord → Bool
-is_overflow (Overflowed now) = true
-is_overflow _ = false
-
--- how many overflow events are among messages
-unfoldable pub overflows : List ReaderMessage → ℕ
-overflows [] = 0
-overflows (m ∷ ms) = if is_overflow m.word then suc (overflows ms) else overflows ms
 
 -- ---- what is sighted
 
@@ -43,7 +34,7 @@ counted_in _ now _ r = []
 abbrev pub counted : ℕ → ReaderEvent → Reader → List Tree
 counted now e r = counted_in r.phase now e r
 
--- the same, if there is room for it
+-- the report of an event that is a sighting that counts, if there is room for it
 abbrev pub kept_by : ℕ → ReaderEvent → Reader → List Tree
 kept_by now e r = if is_full r then [] else counted now e r
 
@@ -74,23 +65,3 @@ history (e ∷ es) h = history es (goes_on h e)
 
 abbrev pub no_history : ℕ → ℕ → History
 no_history limit first_id = record { reader = new_reader limit first_id; sent = []; kept = []; dropped = 0 }
-
--- ---- the law
-
--- what holds after every list of events, from a reader as new
-abbrev pub AfterAllEvents : (History → Type 0) → Type 0
-AfterAllEvents P = (limit first_id : ℕ) (events : List (ℕ × ReaderEvent)) → P (history events (no_history limit first_id))
-
--- the reports sent, followed by those held, are those of the sightings that counted and were not dropped, in order, each once
-abbrev pub ReportsInOrder : History → Type 0
-ReportsInOrder h = tags_of h.sent ++ h.reader.held ≡ h.kept
-
--- one overflow event was sent for each sighting that was dropped
-abbrev pub OverflowsTold : History → Type 0
-OverflowsTold h = overflows h.sent ≡ h.dropped
-
-abbrev pub HoldsFewEnough : History → Type 0
-HoldsFewEnough h = length h.reader.held ≤ most_held
-
-abbrev pub OneActive : History → Type 0
-OneActive h = active_count h.reader.table ≤ 1

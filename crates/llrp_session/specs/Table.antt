@@ -1,5 +1,5 @@
 -- ROSpecs with their states, in rising order of their ids: a reader's table, and a client's view of it.
-use Rattle.std.specs.Prelude.{ℕ, ◌<◌, suc, ◌+◌, ◌==◌, nat_lt, Bool, true, false, ◌||◌, ◌&&◌, List, [], ◌∷◌, Option, None, Some, if◌then◌else◌}
+use Rattle.std.specs.Prelude.{ℕ, suc, ◌+◌, ◌==◌, nat_lt, Bool, true, false, ◌||◌, ◌&&◌, List, [], ◌∷◌, Option, None, Some, if◌then◌else◌}
 use Rattle.llrp_schema.specs.declared.kinds.ParamKind.TheVariants.{RoSpec as RoSpecKind}
 use Rattle.llrp_tree.specs.Tree.{Tree}
 use Rattle.llrp_session.specs.RoSpec.{RoSpec, field}
@@ -137,13 +137,3 @@ viewed_state id (v ∷ vs) = if id == v.id then Some v.state else viewed_state i
 unfoldable pub active_count : List Entry → ℕ
 active_count [] = 0
 active_count (e ∷ es) = if is_active e.state then suc (active_count es) else active_count es
-
--- each id is above this one
-unfoldable pub AllAbove : ℕ → List Entry → Type 0
-AllAbove n [] = Unit {0}
-AllAbove n (e ∷ es) = (n < e.spec.id) × AllAbove n es
-
--- the ids rise, so each is there once
-unfoldable pub IsRising : List Entry → Type 0
-IsRising [] = Unit {0}
-IsRising (e ∷ es) = AllAbove e.spec.id es × IsRising es

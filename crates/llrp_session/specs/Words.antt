@@ -1,8 +1,8 @@
 -- What a client and a reader say to each other, and what each reads in a message.
-use Rattle.std.specs.Prelude.{ℕ, ◌==◌, Bool, false, List, [], Option, None, Some, if◌then◌else◌}
+use Rattle.std.specs.Prelude.{ℕ, ◌==◌, Bool, false, List, Option, None, Some, if◌then◌else◌}
 use Rattle.llrp_tree.specs.Tree.{Tree}
 use Rattle.llrp_session.specs.RoSpec.{ReportSpec}
-use Rattle.llrp_session.specs.Table.{Entry, listing}
+use Rattle.llrp_session.specs.Table.{Entry}
 pub use Rattle.llrp_session.specs.declared.words.Operation.{Operation}
 pub use Rattle.llrp_session.specs.declared.words.Operation.TheVariants.{Adding, Deleting, Starting, Stopping, Enabling, Disabling, Listing, Configuring, Closing}
 pub use Rattle.llrp_session.specs.declared.words.Command.{Command}
@@ -74,17 +74,6 @@ pub data Heard : Type 0 where
   HeardKeepalive : Heard
   HeardNotification : Notification → Heard
   HeardOther : Heard  -- any other kind of message
-
-abbrev pub heard : ReaderWord → Heard
-heard (Response operation status) = HeardResponse operation status []
-heard (Listed table) = HeardResponse Listing 0 (listing table)
-heard (Error status) = HeardError status
-heard (Report tags) = HeardReport tags
-heard KeepaliveSent = HeardKeepalive
-heard (Accepted now) = HeardNotification (record { attempt = Some 0; closes = false; rospec = None })
-heard (Started now id) = HeardNotification (record { attempt = None; closes = false; rospec = Some (record { event = 0; id = id }) })
-heard (Ended now id) = HeardNotification (record { attempt = None; closes = false; rospec = Some (record { event = 1; id = id }) })
-heard (Overflowed now) = HeardNotification (record { attempt = None; closes = false; rospec = None })
 
 -- ---- what a client says
 

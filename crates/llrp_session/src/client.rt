@@ -3,11 +3,11 @@
 ghost use Rattle.std.specs.Prelude.{◌≡◌, ◌≤◌, ◌++◌, ◌∷◌, [], map, Ok, OnOk, OnErr, IfOk, IfErr};
 ghost use Rattle.llrp_session.specs.Words.{Asks};
 ghost use Rattle.llrp_session.specs.Table.{viewed_state};
-ghost use Rattle.llrp_session.specs.LawfulWords.{AddsRoSpec};
+ghost use Rattle.llrp_session.specs.Calls.LawfulWords.{AddsRoSpec};
 ghost use Rattle.llrp_session.specs.ClientMessages.{client_message};
 ghost use Rattle.llrp_session.specs.Reading.{heard_of};
 ghost use Rattle.llrp_session.specs.ClientMachine as machine;
-ghost use Rattle.llrp_session.specs.ClientSteps.{IsCmdFault, IsTakeFault, sent_by};
+ghost use Rattle.llrp_session.specs.Calls.ClientSteps.{IsCmdFault, IsTakeFault, sent_by};
 
 mod commands;
 mod comparing;

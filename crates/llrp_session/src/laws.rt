@@ -3,17 +3,18 @@
 mod messages;
 
 ghost use Rattle.std.specs.Prelude.{◌≡◌, ℕ, ◌^◌, ◌<◌, ◌≤◌, length, IfOk};
-ghost use Rattle.llrp_session.specs.Sightings.{AfterAllEvents, ReportsInOrder, OverflowsTold, HoldsFewEnough, OneActive as OneIsActive};
+ghost use Rattle.llrp_session.specs.Calls.Sightings.{AfterAllEvents, ReportsInOrder, OverflowsTold, HoldsFewEnough, OneActive as OneIsActive};
 ghost use Rattle.llrp_session.specs.Words.{Command, Heard};
 ghost use Rattle.llrp_session.specs.ReaderMachine.{Reader, ReaderEvent, new_reader, next};
 ghost use Rattle.llrp_session.specs.ClientMachine.{Client, command, take};
-ghost use Rattle.llrp_session.specs.LawfulWords.{IsLawfulClientMessage};
+ghost use Rattle.llrp_session.specs.Calls.LawfulWords.{IsLawfulClientMessage};
 ghost use Rattle.llrp_tree.specs.Lawful.{IsLawfulMessage};
 ghost use Rattle.llrp_tree.specs.Tree.{MessageTree};
 ghost use Rattle.llrp_session.specs.Reading.{request_of};
-ghost use Rattle.llrp_session.specs.LawfulStates.{IsLawfulReader, IsLawfulReaderEvent, IsLawfulRequest, AreLawfulReaderMessages, IsGivenCommand, AreLawfulClientMessages};
-ghost use Rattle.llrp_session.specs.TableLaws.{EntersOne, ChangesEach, RemovesThoseNamed, EntersOneInView, ChangesEachInView, RemovesThoseNamedInView, SeesEach, EachOnce};
-ghost use Rattle.llrp_session.specs.Agreement.{AfterAll, ViewCatchesUp, ViewIsTable, ReportsArrive, ReportsAreKept, ReaderHasHistory, OneActive, NothingIsUnexpected, PendingIsOnTheWay, NothingIsPending, TablesArrive, NoneDiffers};
+ghost use Rattle.llrp_session.specs.Calls.LawfulStates.{IsLawfulReader, IsLawfulReaderEvent, IsLawfulRequest, AreLawfulReaderMessages, AreLawfulClientMessages};
+ghost use Rattle.llrp_session.specs.MessageWorld.{IsGivenCommand};
+ghost use Rattle.llrp_session.specs.Calls.TableLaws.{EntersOne, ChangesEach, RemovesThoseNamed, EntersOneInView, ChangesEachInView, RemovesThoseNamedInView, SeesEach, EachOnce};
+ghost use Rattle.llrp_session.specs.Calls.Agreement.{AfterAll, ViewCatchesUp, ViewIsTable, ReportsArrive, ReportsAreKept, ReaderHasHistory, OneActive, NothingIsUnexpected, PendingIsOnTheWay, NothingIsPending, TablesArrive, NoneDiffers};
 
 pub use messages::{
     ends_agree_in_messages, messages_are_lawful, messages_read_back, messages_sent_are_lawful,

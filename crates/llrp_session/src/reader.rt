@@ -20,7 +20,7 @@ ghost use Rattle.llrp_tree.specs.declared.TheConstants.{MAX_LIMIT};
 ghost use Rattle.llrp_session.specs.Table.{state_of as the_state_of};
 ghost use Rattle.llrp_session.specs.ReaderMachine.{new_reader, next, happen as the_happening, connect as the_connect, begun, reply, fault_status as the_fault_status};
 ghost use Rattle.llrp_session.specs.Words.{Error};
-ghost use Rattle.llrp_session.specs.ReaderSteps.{event_of, Stands, Turns, IsFault};
+ghost use Rattle.llrp_session.specs.Calls.ReaderSteps.{event_of, Stands, Turns, IsFault};
 
 use crate::telling::reader as telling;
 use crate::words::{ContentSelector, Keepalive, ReaderPhase, ReportSpec, RoState};
@@ -49,14 +49,14 @@ pub struct Reader {
 
 impl Model for Reader {
     ghost use Rattle.std.specs.Coded.{codes};
-    ghost use Rattle.llrp_tree.specs.Stored.{tree_code};
+    ghost use Rattle.llrp_tree.specs.Private.Stored.{tree_code};
     ghost use Rattle.llrp_session.specs.ReaderMachine.{Reader as Machine};
 
     ghost Value = { Machine };
 
     ghost coded = { Prim.hlevel (codes, tree_code) };
 
-    ghost use Rattle.llrp_session.specs.ReaderParts.{IsKept};
+    ghost use Rattle.llrp_session.specs.Private.ReaderParts.{IsKept};
 
     ghost view = { λ a. record {
       limit = a.limit;

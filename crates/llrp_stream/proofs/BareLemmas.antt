@@ -15,7 +15,8 @@ use Rattle.llrp_stream.specs.declared.reading.level.Placed.{Placed}
 use Rattle.llrp_stream.specs.declared.reading.level.Child.TheVariants as child
 use Rattle.llrp_stream.specs.declared.reading.reader.Reader.{Reader}
 use Rattle.llrp_stream.specs.declared.reading.reader.Stage.TheVariants as stage
-use Rattle.llrp_stream.specs.Reading.{AreSeen, HeadFails, HeadSays, IsBare, Moves, Reads, work}
+use Rattle.llrp_stream.specs.Calls.Reading.{AreSeen, Reads}
+use Rattle.llrp_stream.specs.Private.Reading.{HeadFails, HeadSays, IsBare, Moves, work}
 use Rattle.llrp_stream.proofs.ChildPart.{outer_length}
 use Rattle.llrp_stream.proofs.SeenLemmas.{seen_are}
 

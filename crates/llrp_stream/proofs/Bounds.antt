@@ -9,14 +9,14 @@ use Rattle.llrp_schema.specs.Schema.{FieldRule, fields_of, rule_of, message_rule
 use Rattle.llrp_schema.proofs.TableLaws.{every_rule}
 use Rattle.llrp_tree.specs.declared.TheConstants.{MAX_LIMIT}
 use Rattle.llrp_tree.specs.OpenTree.{Begun, kind_of, covers, AreLeading, IsOpenTree}
-use Rattle.llrp_tree.specs.Standing.{end_of}
+use Rattle.llrp_tree.specs.Calls.Standing.{end_of}
 use Rattle.llrp_tree.proofs.ReadDigits.{length_covered}
 use Rattle.llrp_tree.proofs.Growing.{stops_within}
 use Rattle.llrp_stream.specs.declared.reading.reader.Reader.{Reader}
 use Rattle.llrp_stream.specs.declared.reading.reader.Stage.{Stage}
 use Rattle.llrp_stream.specs.declared.reading.reader.Stage.TheVariants.{Leading, Tail, Children}
-use Rattle.llrp_stream.specs.Front.{Reaches}
-use Rattle.llrp_stream.specs.Reading.{Reads, bit_of, settled, IsAtStage, IsLeading}
+use Rattle.llrp_stream.specs.Calls.Front.{Reaches}
+use Rattle.llrp_stream.specs.Calls.Reading.{Reads, bit_of, settled, IsAtStage, IsLeading}
 
 pub few_fields : (kind : Kind) → length (fields_of kind) ≤ 16
 unfolding fields_of rule_of message_rule param_rule message_kinds param_kinds whole_message_kinds whole_param_kinds

@@ -8,15 +8,16 @@ use Rattle.llrp_schema.specs.declared.kinds.Kind.TheVariants.{Parameter}
 use Rattle.llrp_schema.specs.Schema.{FieldRule, fields_of}
 use Rattle.llrp_schema.proofs.TableLaws.{few_plain_fields}
 use Rattle.llrp_tree.specs.Tree.{Forest, and, MessageTree}
-use Rattle.llrp_tree.specs.Weight.{open_weight}
+use Rattle.llrp_tree.specs.Private.Weight.{open_weight}
 use Rattle.llrp_tree.specs.Spelling.{Head, message, tlv, tv}
 use Rattle.llrp_tree.specs.OpenTree.{Begun, kind_of, rules, plain_values}
-use Rattle.llrp_tree.specs.Standing.{begun}
+use Rattle.llrp_tree.specs.Calls.Standing.{begun}
 use Rattle.llrp_tree.proofs.Leading.{plain}
-use Rattle.llrp_stream.specs.Told.{with_field, with_closed, IsNextField, CanClose}
-use Rattle.llrp_stream.specs.Told.{with_child as with_parameter}
-use Rattle.llrp_stream.specs.Building.{OpenParts, Building, parts_of, IsOf, HasHeader, HasOpen, nodes_weight}
-use Rattle.llrp_stream.specs.OpenNodes.{with_value, with_child, nested, AreNested, HasRoom, IsWholeParameter}
+use Rattle.llrp_stream.specs.Calls.Told.{with_field, with_closed, IsNextField, CanClose}
+use Rattle.llrp_stream.specs.Calls.Told.{with_child as with_parameter}
+use Rattle.llrp_stream.specs.Building.{OpenParts, Building, nodes_weight}
+use Rattle.llrp_stream.specs.Private.Building.{parts_of, IsOf, HasHeader, HasOpen}
+use Rattle.llrp_stream.specs.Private.OpenNodes.{with_value, with_child, nested, AreNested, HasRoom, IsWholeParameter}
 
 -- ---- weight
 

@@ -14,7 +14,8 @@ use Rattle.llrp_tree.specs.Tree.{Forest}
 use Rattle.llrp_tree.specs.Spelling.{Head, message, tlv, tv}
 use Rattle.llrp_tree.specs.OpenTree.{root_of, Begun, kind_of, groups, due, Rest, is_enough, IsHead, IsOpenTree}
 use Rattle.llrp_tree.specs.FirstFault.{first_digit, has_none, tv_kind, first_failing, checks, Close, is_over}
-use Rattle.llrp_tree.specs.Standing.{Stands, Closes, begun, leading, Tells, KindPasses, TlvPasses, is_tv_kind}
+use Rattle.llrp_tree.specs.Calls.Standing.{Stands, begun, leading}
+use Rattle.llrp_tree.specs.Private.Standing.{Closes, Tells, KindPasses, TlvPasses, is_tv_kind}
 use Rattle.llrp_tree.proofs.Steps.{closed}
 use Rattle.llrp_tree.proofs.Telling.{fault_is}
 use Rattle.llrp_tree.proofs.LastPart.{closing_turn}
@@ -25,12 +26,14 @@ use Rattle.llrp_stream.specs.declared.reading.level.Level.{Level}
 use Rattle.llrp_stream.specs.declared.reading.reader.Reader.{Reader}
 use Rattle.llrp_stream.specs.declared.reading.reader.Stage.{Stage}
 use Rattle.llrp_stream.specs.declared.reading.reader.Stage.TheVariants.{Children}
-use Rattle.llrp_stream.specs.Front.{Reaches, TellsAll}
-use Rattle.llrp_stream.specs.Told.{with_child}
-use Rattle.llrp_stream.specs.Reading.{Reads, IsAtStage, IsResting, IsLevel, AreLevels, HeadFails, with_begun}
+use Rattle.llrp_stream.specs.Calls.Front.{Reaches}
+use Rattle.llrp_stream.specs.Private.Front.{TellsAll}
+use Rattle.llrp_stream.specs.Calls.Told.{with_child}
+use Rattle.llrp_stream.specs.Calls.Reading.{Reads, IsAtStage, IsResting, IsLevel, AreLevels, with_begun}
+use Rattle.llrp_stream.specs.Private.Reading.{HeadFails}
 use Rattle.llrp_stream.proofs.Reached.{own_tells, stands_in, reaches_in, seen}
 use Rattle.std.proofs.lemmas.Bool.{lt-leb}
-use Rattle.llrp_stream.specs.Front.{IsUndecided}
+use Rattle.llrp_stream.specs.Calls.Front.{IsUndecided}
 use Rattle.llrp_stream.proofs.WaitLemmas.{child_waits}
 
 pub levels_length : (ls : List Level) (kind : Kind) (outer : List Begun) → AreLevels ls kind outer → length ls ≡ length outer

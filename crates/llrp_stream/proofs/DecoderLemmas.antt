@@ -5,7 +5,7 @@ use Rattle.llrp_tree.specs.declared.fault.Fault.{Fault}
 use Rattle.llrp_tree.specs.declared.TheConstants.{MAX_LIMIT}
 use Rattle.llrp_tree.specs.Tree.{MessageTree}
 use Rattle.llrp_tree.specs.OpenTree.{Begun}
-use Rattle.llrp_tree.specs.Weight.{open_weight}
+use Rattle.llrp_tree.specs.Private.Weight.{open_weight}
 use Rattle.llrp_schema.specs.declared.kinds.Profile.TheVariants.{Own}
 use Rattle.llrp_tree.proofs.Undecided.{fails_after_header}
 use Rattle.llrp_stream.specs.declared.item.FeedErr.{FeedErr}
@@ -20,13 +20,16 @@ use Rattle.llrp_stream.specs.declared.reading.frames.Outcome.{Outcome}
 use Rattle.llrp_stream.specs.declared.reading.frames.Outcome.TheVariants.{Whole, Bad}
 use Rattle.llrp_stream.specs.declared.state.State.{State}
 use Rattle.llrp_stream.specs.declared.state.State.TheVariants as state
-use Rattle.llrp_stream.specs.Building.{Building, HasOpen, nodes_weight}
-use Rattle.llrp_stream.specs.Items.{HasHeaderFault}
-use Rattle.llrp_stream.specs.Reading.{Told}
-use Rattle.llrp_stream.specs.Frames.{IsReading, ComesAt, IsIdle, TakesOn, Goes, is_skipped, Stops}
-use Rattle.llrp_stream.specs.Decoding.{broken, dead, Keeps, Stands, raw_octets, kept_weight, weight, IsDecided, is_skipping}
+use Rattle.llrp_stream.specs.Building.{Building, nodes_weight}
+use Rattle.llrp_stream.specs.Private.Building.{HasOpen}
+use Rattle.llrp_stream.specs.Calls.Items.{HasHeaderFault}
+use Rattle.llrp_stream.specs.Calls.Reading.{Told}
+use Rattle.llrp_stream.specs.Calls.Frames.{IsReading, ComesAt, IsIdle, TakesOn, Goes, is_skipped, Stops}
+use Rattle.llrp_stream.specs.Decoding.{broken, dead, raw_octets, kept_weight, weight, is_skipping}
+use Rattle.llrp_stream.specs.Private.Decoding.{Keeps}
+use Rattle.llrp_stream.specs.Calls.Decoding.{Stands, IsDecided}
 use Rattle.llrp_stream.specs.Feeding.{Takes, Feeds}
-use Rattle.llrp_stream.specs.Keeping.{kept, decoder, IsKept}
+use Rattle.llrp_stream.specs.Private.Keeping.{kept, decoder, IsKept}
 use Rattle.llrp_stream.proofs.BuildingLemmas.{weigh_alike}
 use Rattle.llrp_stream.proofs.HeldLemmas.{held_within}
 use Rattle.llrp_stream.proofs.EngineHeld.{covers, undecided_reading}

@@ -3,8 +3,8 @@ use Rattle.std.proofs.Common.{◌≡◌, ℕ, ◌+◌, ◌*◌, ◌<◌, ◌≤�
 use Rattle.std.proofs.lemmas.List.{length-reverse}
 use Rattle.tag_bits.specs.Digits.{digits_of_bytes}
 use Rattle.llrp_tree.specs.OpenTree.{Begun, kind_of}
-use Rattle.llrp_tree.specs.Deciding.{deciding, FailsIn}
-use Rattle.llrp_tree.specs.Weight.{open_weight}
+use Rattle.llrp_tree.specs.Calls.Deciding.{deciding, FailsIn}
+use Rattle.llrp_tree.specs.Private.Weight.{open_weight}
 use Rattle.llrp_schema.specs.declared.kinds.Profile.TheVariants.{Own}
 use Rattle.llrp_tree.proofs.Undecided.{undecided_until, fails_after_header}
 use Rattle.llrp_stream.specs.declared.reading.body.Body.{Body}
@@ -13,10 +13,10 @@ use Rattle.llrp_stream.specs.declared.reading.frames.Frames.{Frames}
 use Rattle.llrp_stream.specs.declared.state.State.{State}
 use Rattle.llrp_stream.specs.declared.state.State.TheVariants as state
 use Rattle.llrp_stream.specs.Cuts.{IsFrame}
-use Rattle.llrp_stream.specs.Items.{header_fault, HasHeaderFault}
-use Rattle.llrp_stream.specs.Reading.{settled}
-use Rattle.llrp_stream.specs.Frames.{IsReading, ComesAt, IsFrontOf, held_at, held_of}
-use Rattle.llrp_stream.specs.Decoding.{IsDecided}
+use Rattle.llrp_stream.specs.Calls.Items.{header_fault, HasHeaderFault}
+use Rattle.llrp_stream.specs.Calls.Reading.{settled}
+use Rattle.llrp_stream.specs.Calls.Frames.{IsReading, ComesAt, IsFrontOf, held_at, held_of}
+use Rattle.llrp_stream.specs.Calls.Decoding.{IsDecided}
 use Rattle.llrp_stream.proofs.Bounds.{covered_length}
 use Rattle.llrp_stream.proofs.ChildPart.{levels_length}
 use Rattle.llrp_stream.proofs.Reached.{stands_in}

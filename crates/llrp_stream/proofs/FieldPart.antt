@@ -9,16 +9,18 @@ use Rattle.llrp_tree.specs.declared.fault.FrameErr.TheVariants.{Bad}
 use Rattle.llrp_tree.specs.declared.fault.Reason.TheVariants.{Short}
 use Rattle.llrp_tree.specs.OpenTree.{Begun, kind_of, in_range}
 use Rattle.llrp_tree.specs.FirstFault.{number, field_checks}
-use Rattle.llrp_tree.specs.Standing.{Stands, leading, FailsFirst}
+use Rattle.llrp_tree.specs.Calls.Standing.{Stands, leading}
+use Rattle.llrp_tree.specs.Private.Standing.{FailsFirst}
 use Rattle.llrp_tree.proofs.ReadingLemmas.{field_tells, field_grows}
 use Rattle.llrp_stream.specs.declared.reading.reader.Reader.{Reader}
 use Rattle.llrp_stream.specs.declared.reading.reader.Stage.{Stage}
 use Rattle.llrp_stream.specs.declared.reading.reader.Stage.TheVariants.{Leading}
-use Rattle.llrp_stream.specs.Front.{Reaches, TellsAll}
-use Rattle.llrp_stream.specs.Told.{IsNextField}
-use Rattle.llrp_stream.specs.Reading.{Reads, bit_of, IsAtStage, IsLeading}
+use Rattle.llrp_stream.specs.Calls.Front.{Reaches}
+use Rattle.llrp_stream.specs.Private.Front.{TellsAll}
+use Rattle.llrp_stream.specs.Calls.Told.{IsNextField}
+use Rattle.llrp_stream.specs.Calls.Reading.{Reads, bit_of, IsAtStage, IsLeading}
 use Rattle.llrp_stream.proofs.Reached.{own_tells, stands_in, reaches_in, seen}
-use Rattle.llrp_stream.specs.Front.{IsUndecided}
+use Rattle.llrp_stream.specs.Calls.Front.{IsUndecided}
 use Rattle.llrp_stream.proofs.WaitLemmas.{field_waits}
 
 pub short_fails : (r : FieldRule) (at stop : ℕ) (rest : List Bool) (e : FrameErr) → stop < at + r.width → e ≡ Bad (record { bit = at; reason = Short }) → FailsFirst (field_checks r at stop rest) e

@@ -10,7 +10,8 @@ use Rattle.llrp_tree.specs.declared.fault.FrameErr.TheVariants as frame_err
 use Rattle.llrp_tree.specs.declared.header.Header.{Header}
 use Rattle.llrp_tree.specs.Tree.{MessageTree}
 use Rattle.llrp_tree.specs.Lawful.{AreOctets}
-use Rattle.llrp_tree.specs.FirstFault.{first_failing, header_checks}
+use Rattle.llrp_tree.specs.FirstFault.{first_failing}
+use Rattle.llrp_tree.specs.Calls.FirstFault.{header_checks}
 use Rattle.llrp_tree.specs.OpenTree.{Begun}
 use Rattle.llrp_schema.specs.declared.kinds.Profile.TheVariants.{Own}
 use Rattle.llrp_tree.proofs.Frames.{fault_of_frame}
@@ -27,14 +28,18 @@ use Rattle.llrp_stream.specs.declared.reading.frames.Outcome.TheVariants.{Whole,
 use Rattle.llrp_stream.specs.declared.state.State.{State}
 use Rattle.llrp_stream.specs.declared.state.State.TheVariants as state
 use Rattle.llrp_stream.specs.Cuts.{length_field, IsFrame, IsPartial}
-use Rattle.llrp_stream.specs.Items.{id_field, header_fault, IsSkipped}
-use Rattle.llrp_stream.specs.Headers.{IsFaulty, IsSound}
-use Rattle.llrp_stream.specs.Front.{Reaches, TellsAll}
+use Rattle.llrp_stream.specs.Items.{id_field}
+use Rattle.llrp_stream.specs.Calls.Items.{header_fault, IsSkipped}
+use Rattle.llrp_stream.specs.Private.Headers.{IsFaulty, IsSound}
+use Rattle.llrp_stream.specs.Calls.Front.{Reaches}
+use Rattle.llrp_stream.specs.Private.Front.{TellsAll}
 use Rattle.llrp_stream.specs.declared.reading.reader.Stage.{Stage}
 use Rattle.llrp_stream.specs.declared.reading.reader.Stage.TheVariants as stage
-use Rattle.llrp_stream.specs.Reading.{IsComplete, IsAtStage, settled}
-use Rattle.llrp_stream.specs.Pieces.{Stands, Awaits}
-use Rattle.llrp_stream.specs.Frames.{IsPassed, IsBegun, IsReading, ComesAt, Comes, IsIdle, Gives, TakesOn, is_skipped, Goes, GoesOn, Begins, IsSkipping, SkipsTo, Stops}
+use Rattle.llrp_stream.specs.Private.Reading.{IsComplete}
+use Rattle.llrp_stream.specs.Calls.Reading.{IsAtStage, settled}
+use Rattle.llrp_stream.specs.Calls.Pieces.{Stands, Awaits}
+use Rattle.llrp_stream.specs.Calls.Frames.{IsPassed, IsReading, ComesAt, Comes, IsIdle, Gives, TakesOn, is_skipped, Goes, Stops}
+use Rattle.llrp_stream.specs.Private.Frames.{IsBegun, GoesOn, Begins, IsSkipping, SkipsTo}
 use Rattle.llrp_stream.proofs.FrontLemmas.{length_field-append, id_field-append, header_fault-append, frame_ends, faulty_is_skipped, skipped-append}
 use Rattle.llrp_stream.proofs.MoreOctets.{whole_ends}
 use Rattle.llrp_tree.proofs.HeaderLemmas.{number_ahead}

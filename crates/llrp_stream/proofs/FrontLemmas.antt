@@ -5,8 +5,9 @@ use Rattle.llrp_tree.specs.declared.fault.Fault.{Fault}
 use Rattle.llrp_tree.specs.FirstFault.{FirstFault}
 use Rattle.llrp_stream.specs.declared.header.FaultyHeader.{FaultyHeader}
 use Rattle.llrp_stream.specs.Cuts.{length_field, IsFrame, Breaks}
-use Rattle.llrp_stream.specs.Items.{id_field, header_fault, IsSkipped}
-use Rattle.llrp_stream.specs.Headers.{IsFaulty}
+use Rattle.llrp_stream.specs.Items.{id_field}
+use Rattle.llrp_stream.specs.Calls.Items.{header_fault, IsSkipped}
+use Rattle.llrp_stream.specs.Private.Headers.{IsFaulty}
 use Rattle.llrp_stream.proofs.HeaderLemmas.{number-append}
 
 pub length_field-append : (xs ys : List ℕ) → 6 ≤ length xs → length_field (xs ++ ys) ≡ length_field xs

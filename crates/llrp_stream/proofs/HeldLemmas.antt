@@ -12,16 +12,17 @@ use Rattle.llrp_tree.specs.Tree.{Forest}
 use Rattle.llrp_tree.specs.Lawful.{head_octets}
 use Rattle.llrp_tree.specs.Spelling.{Head, message, tlv, tv, head_digits, field_digits, tail_digits, spell}
 use Rattle.llrp_tree.specs.OpenTree.{Begun, kind_of, leading_digits, part, covers, Rest, due, tail_due, plain_values, AreLeading, IsHead, IsOpenNode, IsOpenTree}
-use Rattle.llrp_tree.specs.Standing.{begun, leading}
-use Rattle.llrp_tree.specs.Weight.{weight, open_weight}
+use Rattle.llrp_tree.specs.Calls.Standing.{begun, leading}
+use Rattle.llrp_tree.specs.Weight.{weight}
+use Rattle.llrp_tree.specs.Private.Weight.{open_weight}
 use Rattle.llrp_tree.proofs.LengthLemmas.{length-message_head, length-tlv, length-tv, length-tail_digits, length-body_digits, length-spell}
 use Rattle.llrp_tree.proofs.WeightLemmas.{own_octets, weight_within}
 use Rattle.llrp_tree.proofs.WholeNodes.{closed_digits, no_field_due}
 use Rattle.llrp_stream.specs.declared.reading.reader.Reader.{Reader}
 use Rattle.llrp_stream.specs.declared.reading.reader.Stage.{Stage}
 use Rattle.llrp_stream.specs.declared.reading.reader.Stage.TheVariants as stage
-use Rattle.llrp_stream.specs.Front.{Reaches}
-use Rattle.llrp_stream.specs.Reading.{Reads, IsAtStage}
+use Rattle.llrp_stream.specs.Calls.Front.{Reaches}
+use Rattle.llrp_stream.specs.Calls.Reading.{Reads, IsAtStage}
 
 -- ---- one begun node
 

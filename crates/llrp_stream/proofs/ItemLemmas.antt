@@ -13,7 +13,8 @@ use Rattle.llrp_stream.specs.declared.item.End.{End}
 use Rattle.llrp_stream.specs.declared.item.End.TheVariants.{Clean, Rest, Broken}
 use Rattle.llrp_stream.specs.Cuts.{length_field, IsFrame, Ends, joined}
 use Rattle.llrp_stream.specs.Items.{id_field, IsItemOf, Items}
-use Rattle.llrp_stream.specs.StreamLaws.{HasOneItem, HasOneListing}
+use Rattle.llrp_stream.specs.Calls.StreamLaws.{HasOneItem}
+use Rattle.llrp_stream.specs.StreamLaws.{HasOneListing}
 use Rattle.llrp_stream.proofs.FrontLemmas.{length_field-append}
 use Rattle.llrp_stream.proofs.HeaderLemmas.{octets-drop}
 use Rattle.llrp_stream.proofs.Unique.{same_item, same_items}

@@ -9,9 +9,10 @@ use Rattle.llrp_schema.specs.Schema.{is_tv, number_of, rule_of, param_rule, prof
 use Rattle.llrp_tree.specs.declared.fault.FrameErr.{FrameErr}
 use Rattle.llrp_tree.specs.declared.fault.FrameErr.TheVariants.{Memory}
 use Rattle.llrp_tree.specs.OpenTree.{Begun}
-use Rattle.llrp_tree.specs.Standing.{is_tv_kind}
+use Rattle.llrp_tree.specs.Private.Standing.{is_tv_kind}
 use Rattle.llrp_stream.specs.declared.reading.reader.Reader.{Reader}
-use Rattle.llrp_stream.specs.Reading.{Are, AwaitsValues, KeepsNode, Moves, Takes, TakenSoFar, TakesValues, rank, work}
+use Rattle.llrp_stream.specs.Calls.Reading.{Are}
+use Rattle.llrp_stream.specs.Private.Reading.{AwaitsValues, KeepsNode, Moves, Takes, TakenSoFar, TakesValues, rank, work}
 use Rattle.llrp_stream.proofs.MoreOctets.{behind_on}
 use Rattle.llrp_stream.proofs.SeenLemmas.{seen_are}
 use Rattle.llrp_stream.proofs.ChildPart.{resting}

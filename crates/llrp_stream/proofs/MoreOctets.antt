@@ -11,14 +11,17 @@ use Rattle.llrp_tree.specs.Spelling.{Head, message, tlv, tv}
 use Rattle.llrp_tree.specs.OpenTree.{Begun, rules, form, plain_values, IsHead, IsOpenTree}
 use Rattle.llrp_tree.specs.Lawful.{count_octets}
 use Rattle.llrp_tree.specs.FirstFault.{tail_length, octets_at, is_over}
-use Rattle.llrp_tree.specs.Standing.{leading, end_of, Tells}
+use Rattle.llrp_tree.specs.Calls.Standing.{leading, end_of}
+use Rattle.llrp_tree.specs.Private.Standing.{Tells}
 use Rattle.llrp_tree.specs.declared.fault.FrameErr.TheVariants.{Memory, Bad}
-use Rattle.llrp_stream.specs.Told.{Remains}
+use Rattle.llrp_stream.specs.Private.Told.{Remains}
 use Rattle.llrp_stream.specs.declared.reading.reader.Reader.{Reader}
 use Rattle.llrp_stream.specs.declared.reading.reader.Stage.{Stage}
 use Rattle.llrp_stream.specs.declared.reading.reader.Stage.TheVariants.{Leading, Tail, Children}
-use Rattle.llrp_stream.specs.Front.{Reaches, TellsAll, FailsWith}
-use Rattle.llrp_stream.specs.Reading.{Reads, Are, IsComplete, IsAtStage}
+use Rattle.llrp_stream.specs.Calls.Front.{Reaches}
+use Rattle.llrp_stream.specs.Private.Front.{TellsAll, FailsWith}
+use Rattle.llrp_stream.specs.Calls.Reading.{Reads, Are, IsAtStage}
+use Rattle.llrp_stream.specs.Private.Reading.{IsComplete}
 
 pub reaches_more : (front more : List ℕ) (n : ℕ) (t : List Begun) (at : ℕ) → length (front ++ more) ≤ n → Reaches front n t at → Reaches (front ++ more) n t at
 reaches_more front more n t at le r =

@@ -6,9 +6,11 @@ use Rattle.llrp_tree.specs.OpenTree.{Begun}
 use Rattle.llrp_tree.specs.declared.fault.FrameErr.{FrameErr}
 use Rattle.llrp_stream.specs.declared.reading.reader.Reader.{Reader}
 use Rattle.llrp_stream.specs.declared.reading.body.Body.{Body}
-use Rattle.llrp_stream.specs.Front.{FailsWith}
-use Rattle.llrp_stream.specs.Reading.{Are, IsComplete}
-use Rattle.llrp_stream.specs.Pieces.{Stands, Awaits, IsShort, ReadOn, FedSoFar}
+use Rattle.llrp_stream.specs.Private.Front.{FailsWith}
+use Rattle.llrp_stream.specs.Calls.Reading.{Are}
+use Rattle.llrp_stream.specs.Private.Reading.{IsComplete}
+use Rattle.llrp_stream.specs.Calls.Pieces.{Stands, Awaits, IsShort}
+use Rattle.llrp_stream.specs.Private.Pieces.{ReadOn, FedSoFar}
 use Rattle.llrp_stream.proofs.MoreOctets.{are_more, behind_more, behind_on, fails_more, whole_ends}
 
 module _ (begins stands : List Begun → Type 0) (old : Body) (front piece : List ℕ) (st : Stands begins stands old front) (le : length (front ++ piece) ≤ old.reader.octets) where

@@ -7,7 +7,7 @@ use Rattle.llrp_stream.specs.declared.item.End.{End}
 use Rattle.llrp_stream.specs.declared.item.End.TheVariants.{Clean, Rest}
 use Rattle.llrp_stream.specs.Cuts.{IsFrame, IsPartial, Ends, joined}
 use Rattle.llrp_stream.specs.Items.{IsItemOf, Items}
-use Rattle.llrp_stream.specs.StreamLaws.{EndsWithin, IsFront}
+use Rattle.llrp_stream.specs.Calls.StreamLaws.{EndsWithin, IsFront}
 use Rattle.llrp_stream.proofs.FrontLemmas.{length_field-append}
 use Rattle.llrp_stream.proofs.ItemLemmas.{below_or_not}
 

@@ -6,11 +6,12 @@ use Rattle.tag_bits.specs.Digits.{digits_of_bytes}
 use Rattle.tag_bits.proofs.ByteLemmas.{length-bytes, bytes-append, drop-bytes}
 use Rattle.llrp_schema.specs.declared.kinds.Profile.TheVariants.{Own}
 use Rattle.llrp_tree.specs.OpenTree.{Begun, root_of, root_profile}
-use Rattle.llrp_tree.specs.Standing.{Stands, Tells}
+use Rattle.llrp_tree.specs.Calls.Standing.{Stands}
+use Rattle.llrp_tree.specs.Private.Standing.{Tells}
 use Rattle.llrp_tree.specs.Spelling.{Head}
 use Rattle.llrp_tree.specs.declared.fault.FrameErr.{FrameErr}
 use Rattle.llrp_schema.specs.declared.kinds.Profile.{Profile}
-use Rattle.llrp_stream.specs.Front.{Reaches}
+use Rattle.llrp_stream.specs.Calls.Front.{Reaches}
 
 pub stands_in : (front more : List ℕ) (n : ℕ) (t : List Begun) (at : ℕ) → Reaches front n t at → length (front ++ more) ≡ n → Stands (digits_of_bytes (front ++ more)) t at
 stands_in front more n t at r e =

@@ -11,8 +11,8 @@ use Rattle.llrp_tree.proofs.ReadDigits.{length_covered}
 use Rattle.arrayvec.specs.ArrayVec.{ArrayVec}
 use Rattle.llrp_stream.specs.declared.reading.level.Level.{Level}
 use Rattle.llrp_stream.specs.declared.reading.reader.Reader.{Reader}
-use Rattle.llrp_stream.specs.Front.{Reaches}
-use Rattle.llrp_stream.specs.Reading.{rank, work}
+use Rattle.llrp_stream.specs.Calls.Front.{Reaches}
+use Rattle.llrp_stream.specs.Private.Reading.{rank, work}
 use Rattle.llrp_stream.proofs.CoveredOctets.{covered_octets}
 
 pub resting : (b : Begun) (kind : Kind) → kind_of b.head ≡ kind → b.tail ≡ None → drop (length b.fields) (fields_of kind) ≡ [] → tail_of kind ≡ Absent → due b ≡ Rest

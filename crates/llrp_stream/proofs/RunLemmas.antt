@@ -10,9 +10,10 @@ use Rattle.llrp_stream.specs.declared.item.FeedErr.{FeedErr}
 use Rattle.llrp_stream.specs.declared.item.FeedErr.TheVariants.{Broken, Memory, Dead}
 use Rattle.llrp_stream.specs.Cuts.{IsFrame, Breaks, Ends, joined}
 use Rattle.llrp_stream.specs.Items.{IsItemOf, Items, ItemsSoFar}
-use Rattle.llrp_stream.specs.Decoding.{DecoderState, Stands, IsBroken}
+use Rattle.llrp_stream.specs.Decoding.{DecoderState, IsBroken}
+use Rattle.llrp_stream.specs.Calls.Decoding.{Stands}
 use Rattle.llrp_stream.specs.Feeding.{Takes, Feeds, Feed, GivesNone, TakesPiece, TakesPieces, Finishes}
-use Rattle.llrp_stream.specs.StreamLaws.{ItemsGrow}
+use Rattle.llrp_stream.specs.Calls.StreamLaws.{ItemsGrow}
 use Rattle.llrp_stream.proofs.FrontLemmas.{no_frame_breaks}
 use Rattle.llrp_stream.proofs.Unique.{after_front}
 

@@ -11,18 +11,18 @@ use Rattle.llrp_schema.specs.declared.kinds.Kind.{Kind}
 use Rattle.llrp_schema.specs.declared.kinds.Kind.TheVariants.{Parameter}
 use Rattle.llrp_schema.specs.declared.kinds.Place.{Place}
 use Rattle.llrp_schema.specs.Schema.{GroupRule, groups_of}
-use Rattle.llrp_schema.specs.Places.{IsPlace, AreRequired}
+use Rattle.llrp_schema.specs.Calls.Places.{IsPlace, AreRequired}
 use Rattle.llrp_schema.proofs.PlaceLemmas.{needs_one_at_most, takes_one_or_any}
 use Rattle.llrp_tree.specs.Tree.{Forest, none, and}
 use Rattle.llrp_tree.specs.Lawful.{count, is_member}
-use Rattle.llrp_tree.specs.Checks.{at_most}
+use Rattle.llrp_tree.specs.Lawful.{at_most}
 use Rattle.llrp_tree.specs.Spelling.{Head, message, tlv, tv}
 use Rattle.llrp_tree.specs.OpenTree.{Begun, kind_of, takes_more, is_enough}
 use Rattle.llrp_tree.proofs.LawLemmas.{both}
 use Rattle.llrp_tree.proofs.PlacedLemmas.{elsewhere, takes_in_place}
-use Rattle.llrp_stream.specs.Told.{with_child}
+use Rattle.llrp_stream.specs.Calls.Told.{with_child}
 use Rattle.llrp_stream.specs.declared.reading.reader.Reader.{Reader}
-use Rattle.llrp_stream.specs.Reading.{AreSeen, Reads, with_begun}
+use Rattle.llrp_stream.specs.Calls.Reading.{AreSeen, Reads, with_begun}
 
 abbrev no_rule : GroupRule
 no_rule = record { members = []; least = 0; most = None }

@@ -9,9 +9,9 @@ use Rattle.llrp_stream.specs.declared.reading.reader.Stage.TheVariants as stage
 use Rattle.llrp_stream.specs.declared.state.State.{State}
 use Rattle.llrp_stream.specs.declared.state.State.TheVariants as state
 use Rattle.llrp_stream.specs.Cuts.{IsPartial}
-use Rattle.llrp_stream.specs.Reading.{Are, Told}
-use Rattle.llrp_stream.specs.Pieces.{Stands}
-use Rattle.llrp_stream.specs.Frames.{IsReading, ComesAt, IsFrontOf}
+use Rattle.llrp_stream.specs.Calls.Reading.{Are, Told}
+use Rattle.llrp_stream.specs.Calls.Pieces.{Stands}
+use Rattle.llrp_stream.specs.Calls.Frames.{IsReading, ComesAt, IsFrontOf}
 use Rattle.llrp_stream.proofs.FramesLemmas.{state_comes, within}
 
 abbrev any : List Begun → Type 0

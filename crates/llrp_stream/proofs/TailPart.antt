@@ -23,7 +23,8 @@ use Rattle.llrp_tree.specs.Lawful.{AreOctets, count_octets, first}
 use Rattle.llrp_tree.specs.Spelling.{Head, message, tlv, tv, head_digits, field_digits, spell}
 use Rattle.llrp_tree.specs.OpenTree.{Begun, kind_of, rules, form, leading_digits, part, covers, has_tail, plain_values, due, Rest, IsHead, IsOpenTree}
 use Rattle.llrp_tree.specs.FirstFault.{octets_at, tail_length, tail_at, tail_end, tail_checks, checks, ReadTail}
-use Rattle.llrp_tree.specs.Standing.{Stands, begun, leading, FailsFirst}
+use Rattle.llrp_tree.specs.Calls.Standing.{Stands, begun, leading}
+use Rattle.llrp_tree.specs.Private.Standing.{FailsFirst}
 use Rattle.llrp_tree.proofs.Leading.{length-fields, drop_all}
 use Rattle.llrp_tree.proofs.LengthLemmas.{length-message_head, length-tlv, length-tv}
 use Rattle.llrp_tree.proofs.ReadDigits.{length-octets_at, number_own, drop_own}
@@ -33,10 +34,12 @@ use Rattle.llrp_tree.proofs.Growing.{grow_tail}
 use Rattle.llrp_stream.specs.declared.reading.reader.Reader.{Reader}
 use Rattle.llrp_stream.specs.declared.reading.reader.Stage.{Stage}
 use Rattle.llrp_stream.specs.declared.reading.reader.Stage.TheVariants as stage
-use Rattle.llrp_stream.specs.Front.{Reaches, TellsAll, IsUndecided}
-use Rattle.llrp_stream.specs.Told.{AreWhole, IsBeforeTail, IsInTail}
-use Rattle.llrp_stream.specs.Tails.{HasWhole}
-use Rattle.llrp_stream.specs.Reading.{Reads, bit_of, settled, rank, work, IsAtStage, IsLeading, IsTailing}
+use Rattle.llrp_stream.specs.Calls.Front.{Reaches, IsUndecided}
+use Rattle.llrp_stream.specs.Private.Front.{TellsAll}
+use Rattle.llrp_stream.specs.Calls.Told.{AreWhole, IsBeforeTail, IsInTail}
+use Rattle.llrp_stream.specs.Private.Tails.{HasWhole}
+use Rattle.llrp_stream.specs.Calls.Reading.{Reads, bit_of, settled, IsAtStage, IsLeading, IsTailing}
+use Rattle.llrp_stream.specs.Private.Reading.{rank, work}
 use Rattle.llrp_stream.proofs.Reached.{own_tells, stands_in, reaches_in}
 use Rattle.llrp_stream.proofs.Bounds.{covered_length}
 use Rattle.llrp_stream.proofs.CoveredOctets.{IsOctets, covered_octets, outer_within}

@@ -13,7 +13,7 @@ use Rattle.llrp_stream.specs.declared.item.End.{End}
 use Rattle.llrp_stream.specs.declared.item.End.TheVariants.{Clean, Rest, Broken, Dead}
 use Rattle.llrp_stream.specs.Cuts.{length_field, IsFrame, Ends, joined}
 use Rattle.llrp_stream.specs.Items.{IsItemOf, Items}
-use Rattle.llrp_stream.specs.StreamLaws.{IsCutInOneWay}
+use Rattle.llrp_stream.specs.Calls.StreamLaws.{IsCutInOneWay}
 use Rattle.llrp_stream.proofs.FrontLemmas.{length_field-append}
 
 -- a frame has one item

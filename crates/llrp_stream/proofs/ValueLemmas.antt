@@ -11,9 +11,10 @@ use Rattle.llrp_tree.specs.Tree.{none}
 use Rattle.llrp_tree.specs.Lawful.{AreInRange, IsTail, ArePlaced, NoneTooMany, NoneMissing, count_octets, head_octets, body_octets, AreLawful, AllLawful}
 use Rattle.llrp_tree.proofs.Leading.{plain}
 use Rattle.llrp_tree.specs.OpenTree.{Begun}
-use Rattle.llrp_stream.specs.Told.{with_value, IsNextValue}
-use Rattle.llrp_stream.specs.Building.{OpenParts, Building, HasHeader, HasOpen, parts_of}
-use Rattle.llrp_stream.specs.OpenNodes.{with_parameter}
+use Rattle.llrp_stream.specs.Calls.Told.{with_value, IsNextValue}
+use Rattle.llrp_stream.specs.Building.{OpenParts, Building}
+use Rattle.llrp_stream.specs.Private.Building.{HasHeader, HasOpen, parts_of}
+use Rattle.llrp_stream.specs.Private.OpenNodes.{with_parameter}
 
 one_in_range : (r : FieldRule) (value : ℕ) → r.reserved ≡ false → r.greatest ≡ 2 ^ r.width - 1 → value < 2 ^ bits_of (r ∷ []) → AreInRange (plain (r ∷ [])) (value ∷ [])
 one_in_range r value e g fit =

@@ -9,22 +9,24 @@ use Rattle.llrp_schema.specs.declared.kinds.Kind.{Kind}
 use Rattle.llrp_schema.specs.declared.kinds.Kind.TheVariants.{Parameter}
 use Rattle.llrp_schema.specs.declared.kinds.ParamKind.{ParamKind}
 use Rattle.llrp_schema.specs.declared.kinds.Tail.{Tail}
-use Rattle.llrp_schema.specs.Schema.{profile_of, FieldRule, GroupRule, field_rule, fields_of, tail_of, groups_of, bits_of, is_tv}
+use Rattle.llrp_schema.specs.Schema.{profile_of, FieldRule, GroupRule, fields_of, tail_of, groups_of, bits_of, is_tv}
+use Rattle.llrp_schema.specs.Calls.Schema.{field_rule}
 use Rattle.llrp_schema.proofs.TableLaws.{tv_field, tv_tail, tv_groups, field_widths, whole_octets}
 use Rattle.llrp_tree.specs.Tree.{none, and}
 use Rattle.llrp_tree.specs.Spelling.{tv}
 use Rattle.llrp_tree.specs.OpenTree.{Begun, due, Rest, field_due, tail_due, in_range, plain_values, is_enough, takes_more, MayBegin}
 use Rattle.llrp_tree.specs.Lawful.{has_place}
 use Rattle.llrp_tree.specs.FirstFault.{number, first_digit, tv_kind}
-use Rattle.llrp_tree.specs.Standing.{Stands, Closes, begun, leading, KindPasses, is_tv_kind}
+use Rattle.llrp_tree.specs.Calls.Standing.{Stands, begun, leading}
+use Rattle.llrp_tree.specs.Private.Standing.{Closes, KindPasses, is_tv_kind}
 use Rattle.llrp_tree.proofs.ChildLemmas.{tv_begun}
 use Rattle.llrp_tree.proofs.ReadingLemmas.{field_grows}
 use Rattle.llrp_tree.proofs.Totality.{child_closes}
 use Rattle.llrp_stream.specs.declared.reading.reader.Reader.{Reader}
 use Rattle.llrp_stream.specs.declared.reading.reader.Stage.TheVariants.{Children}
-use Rattle.llrp_stream.specs.Front.{Reaches}
-use Rattle.llrp_stream.specs.Told.{IsNextValue}
-use Rattle.llrp_stream.specs.Reading.{Reads}
+use Rattle.llrp_stream.specs.Calls.Front.{Reaches}
+use Rattle.llrp_stream.specs.Calls.Told.{IsNextValue}
+use Rattle.llrp_stream.specs.Calls.Reading.{Reads}
 use Rattle.llrp_stream.proofs.Reached.{reaches_in, seen}
 use Rattle.llrp_stream.proofs.ChildPart.{resting, stands_now}
 use Rattle.llrp_stream.proofs.ValueLemmas.{value_in_range}

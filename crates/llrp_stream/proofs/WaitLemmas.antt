@@ -9,10 +9,10 @@ use Rattle.llrp_schema.specs.Schema.{FieldRule, fields_of, tail_of}
 use Rattle.llrp_tree.specs.Spelling.{Head}
 use Rattle.llrp_tree.specs.OpenTree.{Begun, kind_of, groups, has_tail, plain_values, due, Rest, covers}
 use Rattle.llrp_tree.specs.FirstFault.{Turn, ReadField, ReadTail, BeginTv, BeginTlv, turn, turn_of, tail_end, first_digit, has_none, is_over}
-use Rattle.llrp_tree.specs.Standing.{leading}
+use Rattle.llrp_tree.specs.Calls.Standing.{leading}
 use Rattle.llrp_tree.proofs.LastPart.{field_turn, tail_turn}
-use Rattle.llrp_tree.specs.Deciding.{deciding_tail, deciding_of, deciding}
-use Rattle.llrp_stream.specs.Front.{Reaches, IsUndecided}
+use Rattle.llrp_tree.specs.Calls.Deciding.{deciding_tail, deciding_of, deciding}
+use Rattle.llrp_stream.specs.Calls.Front.{Reaches, IsUndecided}
 use Rattle.llrp_stream.proofs.Bounds.{covered_length}
 
 deciding_is : (b : Begun) (outer : List Begun) (at : ℕ) (rest : List Bool) (tn : Turn) → length (covers (b ∷ outer)) ≡ at → turn b at rest ≡ tn → deciding (b ∷ outer) rest ≡ deciding_of tn b at rest

@@ -11,25 +11,28 @@ use Rattle.llrp_tree.specs.Lawful.{AreOctets}
 use Rattle.llrp_stream.specs.Items.{FrameOf}
 use Rattle.llrp_tree.specs.Spelling.{Head, message, tlv, tv}
 use Rattle.llrp_tree.specs.OpenTree.{root_of, Begun, plain_values, is_enough, IsHead, IsOpenTree}
-use Rattle.llrp_tree.specs.Standing.{Stands, Closes, begun, end_of}
+use Rattle.llrp_tree.specs.Calls.Standing.{Stands, begun, end_of}
+use Rattle.llrp_tree.specs.Private.Standing.{Closes}
 use Rattle.std.proofs.lemmas.Bool.{le-leb, leb-true}
-use Rattle.llrp_tree.specs.Header.{HasHeader}
+use Rattle.llrp_tree.specs.Calls.Header.{HasHeader}
 use Rattle.llrp_tree.specs.declared.header.Header.{Header}
 use Rattle.llrp_stream.proofs.ReadyPart.{resting}
 use Rattle.tag_bits.proofs.ByteLemmas.{length-bytes, bytes-append}
 use Rattle.llrp_schema.specs.declared.kinds.MsgKind.{MsgKind}
-use Rattle.llrp_tree.specs.FirstFault.{number, header_checks}
+use Rattle.llrp_tree.specs.FirstFault.{number}
+use Rattle.llrp_tree.specs.Calls.FirstFault.{header_checks}
 use Rattle.llrp_schema.proofs.TableLaws.{message_found_in}
 use Rattle.llrp_schema.specs.declared.kinds.Profile.TheVariants.{Own}
-use Rattle.llrp_tree.specs.Standing.{leading, HeaderSays}
+use Rattle.llrp_tree.specs.Calls.Standing.{leading}
+use Rattle.llrp_tree.specs.Private.Standing.{HeaderSays}
 use Rattle.llrp_tree.proofs.Telling.{all_hold}
-use Rattle.llrp_stream.specs.Front.{Reaches}
+use Rattle.llrp_stream.specs.Calls.Front.{Reaches}
 use Rattle.llrp_stream.proofs.Reached.{reaches_in}
 use Rattle.llrp_tree.proofs.HeaderLemmas.{number_ahead}
 use Rattle.llrp_tree.proofs.Frames.{closes_frame, header_stands}
 use Rattle.llrp_stream.specs.declared.reading.reader.Reader.{Reader}
-use Rattle.llrp_stream.specs.Told.{IsReady, IsMessageOf}
-use Rattle.llrp_stream.specs.Reading.{IsComplete}
+use Rattle.llrp_stream.specs.Calls.Told.{IsReady, IsMessageOf}
+use Rattle.llrp_stream.specs.Private.Reading.{IsComplete}
 use Rattle.llrp_stream.proofs.Reached.{stands_in}
 use Rattle.llrp_stream.proofs.MoreOctets.{whole_ends}
 

@@ -1,13 +1,8 @@
 -- What a decoder stands for, whatever it keeps.
-use Rattle.std.specs.Prelude.{◌≡◌, ℕ, ◌+◌, Bool, true, false, List, [], ◌++◌, length}
-use Rattle.llrp_schema.specs.declared.kinds.Profile.TheVariants.{Own}
+use Rattle.std.specs.Prelude.{◌≡◌, ℕ, ◌+◌, Bool, true, false, List, length}
 use Rattle.llrp_tree.specs.declared.fault.Fault.{Fault}
-use Rattle.llrp_tree.specs.Deciding.{FailsIn}
 use Rattle.llrp_stream.specs.declared.reading.body.Body.{Body}
-use Rattle.llrp_stream.specs.Building.{Building, HasOpen, nodes_weight}
-use Rattle.llrp_stream.specs.Cuts.{IsFrame, IsPartial}
-use Rattle.llrp_stream.specs.Items.{IsSkipped}
-use Rattle.llrp_stream.specs.Frames.{IsReading}
+use Rattle.llrp_stream.specs.Building.{Building, nodes_weight}
 
 -- what a decoder keeps
 pub data Kept : Type 0 where
@@ -27,20 +22,6 @@ pub data Kept : Type 0 where
 pub record DecoderState : Type 0 where
   pub limit : ℕ
   pub kept : Kept
-
--- what is kept is of this front: of one whose header passes its checks, an open tree, perhaps a begun tail, and raw bytes, which together are the front
-abbrev pub Keeps : ℕ → Kept → List ℕ → Type 0
-Keeps limit between front = front ≡ []
-Keeps limit (header bytes) front = front ≡ bytes
-Keeps limit (reading id body open_nodes) front = IsReading (HasOpen open_nodes) (HasOpen open_nodes) limit id body front
-Keeps limit (skipping count octets id fault) front = IsSkipped limit count octets id fault front
-Keeps limit broken front = ⊥
-Keeps limit dead front = ⊥
-
--- The decoder stands for the bytes of an unfinished frame: it goes on from them, whatever pieces they came in.
-pub record Stands (decoder : DecoderState) (front : List ℕ) : Type 0 where
-  pub unfinished : IsPartial front
-  pub keeps : Keeps decoder.limit decoder.kept front
 
 -- how many raw bytes
 abbrev pub raw_octets : Kept → ℕ
@@ -63,10 +44,6 @@ kept_weight dead = 0
 -- what a decoder weighs: its raw bytes and its nodes
 abbrev pub weight : DecoderState → ℕ
 weight decoder = raw_octets decoder.kept + kept_weight decoder.kept
-
--- the front decides a fault of a frame that begins with it
-abbrev pub IsDecided : ℕ → List ℕ → Type 0
-IsDecided limit front = (more : List ℕ) × IsFrame (front ++ more) × FailsIn Own limit (front ++ more) (length front)
 
 abbrev pub is_skipping : Kept → Bool
 is_skipping between = false

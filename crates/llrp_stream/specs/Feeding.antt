@@ -8,7 +8,8 @@ use Rattle.llrp_stream.specs.declared.item.FeedErr.{FeedErr}
 use Rattle.llrp_stream.specs.declared.item.FeedErr.TheVariants.{Broken, Memory, Dead}
 use Rattle.llrp_stream.specs.Cuts.{IsFrame, Breaks, Ends}
 use Rattle.llrp_stream.specs.Items.{IsItemOf}
-use Rattle.llrp_stream.specs.Decoding.{DecoderState, Stands, IsBroken, IsDead, is_skipping}
+use Rattle.llrp_stream.specs.Decoding.{DecoderState, IsBroken, IsDead, is_skipping}
+use Rattle.llrp_stream.specs.Calls.Decoding.{Stands}
 
 -- What a feed took: without an item the whole piece, which now belongs to the front; with an item the bytes up to the frame's end, and it is that frame's.
 abbrev pub Takes : (limit : ℕ) → (front piece : List ℕ) → DecoderState → (used : ℕ) → Option Item → Type 0

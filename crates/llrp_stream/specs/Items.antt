@@ -1,5 +1,5 @@
 -- What a stream holds: each frame's message or fault, and the end.
-use Rattle.std.specs.Prelude.{◌≡◌, ◌≢◌, ℕ, ◌≤◌, List, ◌++◌, length, Option, None}
+use Rattle.std.specs.Prelude.{◌≡◌, ℕ, List, ◌++◌}
 use Rattle.std.specs.List.{AllByRecursion, AllZip}
 use Rattle.tag_bits.specs.Digits.{digits_of_bytes}
 use Rattle.llrp_schema.specs.declared.kinds.Profile.TheVariants.{Own}
@@ -7,13 +7,11 @@ use Rattle.llrp_schema.specs.declared.kinds.Kind.TheVariants.{Message}
 use Rattle.llrp_schema.specs.Schema.{profile_of}
 use Rattle.llrp_tree.specs.Tree.{MessageTree}
 use Rattle.llrp_tree.specs.Frame.{Frame}
-use Rattle.llrp_tree.specs.declared.fault.Reason.{Reason}
-use Rattle.llrp_tree.specs.declared.fault.Fault.{Fault}
-use Rattle.llrp_tree.specs.FirstFault.{number, first_failing, header_checks, FirstFault}
+use Rattle.llrp_tree.specs.FirstFault.{number, FirstFault}
 use Rattle.llrp_stream.specs.declared.item.Item.{Item}
 use Rattle.llrp_stream.specs.declared.item.Item.TheVariants.{Msg, Bad}
 use Rattle.llrp_stream.specs.declared.item.End.{End}
-use Rattle.llrp_stream.specs.Cuts.{length_field, IsFrame, joined, Cuts}
+use Rattle.llrp_stream.specs.Cuts.{IsFrame, joined, Cuts}
 
 -- the id that is at bit 48 of a frame
 unfoldable pub id_field : List ℕ → ℕ
@@ -28,21 +26,6 @@ pub record FrameOf (m : MessageTree) (bytes : List ℕ) (limit : ℕ) : Type 0 w
 abbrev pub IsItemOf : ℕ → List ℕ → Item → Type 0
 IsItemOf limit frame (Msg message) = FrameOf message frame limit
 IsItemOf limit frame (Bad id fault) = (id ≡ id_field frame) × FirstFault frame limit fault.bit fault.reason
-
--- the first check that a frame's header fails, and its bit
-unfoldable pub header_fault : ℕ → List ℕ → Option (ℕ × Reason)
-header_fault limit bytes = first_failing (header_checks limit (digits_of_bytes bytes))
-
--- a whole header that fails a check
-abbrev pub HasHeaderFault : ℕ → List ℕ → Type 0
-HasHeaderFault limit front = (10 ≤ length front) × (header_fault limit front ≢ None)
-
--- The front has the kept count, length field and id, and every frame that begins with it has the kept fault.
-pub record IsSkipped (limit count octets id : ℕ) (fault : Fault) (front : List ℕ) : Type 0 where
-  pub count_is : count ≡ length front
-  pub octets_are : octets ≡ length_field front
-  pub id_is : id ≡ id_field front
-  pub faulty : (more : List ℕ) → IsFrame (front ++ more) → FirstFault (front ++ more) limit fault.bit fault.reason
 
 -- the items of a stream, one a frame, and its end
 pub record Items (limit : ℕ) (stream : List ℕ) (items : List Item) (end : End) : Type 0 where

@@ -25,9 +25,9 @@ pub struct Decoder {
 
 impl Model for Decoder {
     ghost use Rattle.std.specs.Coded.{codes};
-    ghost use Rattle.llrp_tree.specs.Stored.{forest_code};
+    ghost use Rattle.llrp_tree.specs.Private.Stored.{forest_code};
     ghost use Rattle.llrp_stream.specs.Decoding.{DecoderState};
-    ghost use Rattle.llrp_stream.specs.Keeping.{decoder, IsKept};
+    ghost use Rattle.llrp_stream.specs.Private.Keeping.{decoder, IsKept};
 
     ghost Value = { DecoderState };
 
@@ -61,9 +61,10 @@ impl Decoder {
     ghost use Rattle.llrp_stream.specs.declared.item.End.TheVariants as at_end;
     ghost use Rattle.llrp_stream.specs.declared.item.FeedErr.TheVariants.{Broken, Dead};
     ghost use Rattle.llrp_stream.specs.Cuts.{Ends};
-    ghost use Rattle.llrp_stream.specs.Decoding.{IsBroken, IsDead, IsDecided, Stands, raw_octets, weight};
+    ghost use Rattle.llrp_stream.specs.Decoding.{IsBroken, IsDead, raw_octets, weight};
+    ghost use Rattle.llrp_stream.specs.Calls.Decoding.{IsDecided, Stands};
     ghost use Rattle.llrp_stream.specs.Feeding.{Feeds};
-    ghost use Rattle.llrp_stream.specs.Items.{HasHeaderFault};
+    ghost use Rattle.llrp_stream.specs.Calls.Items.{HasHeaderFault};
 
     /// A decoder that was fed nothing; it takes no memory. A frame of more than `limit` octets is
     /// faulty.

@@ -1,7 +1,8 @@
 //! Sources and sinks: where bytes come from and go to, with a count of what happened to them.
 
 ghost use Rattle.std.specs.Prelude.{◌≡◌, ◌+◌, ◌^◌, ◌<◌, length};
-ghost use Rattle.llrp_stream.specs.Device.{CanRead, ReadStep, SinkLog, SourceLog, WriteStep, new_sink, new_source};
+ghost use Rattle.llrp_stream.specs.Calls.Device.{CanRead, ReadStep, WriteStep, new_sink, new_source};
+ghost use Rattle.llrp_stream.specs.Device.{SinkLog, SourceLog};
 
 use std::io;
 use std::io::{Read, Write};

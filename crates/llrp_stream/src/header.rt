@@ -1,6 +1,6 @@
 //! The first octets of a frame.
 
-ghost use Rattle.llrp_stream.specs.Headers.{Starts};
+ghost use Rattle.llrp_stream.specs.Private.Headers.{Starts};
 
 use byteorder::{BigEndian, ByteOrder};
 use llrp_tree::{Fault, Header, read_header};

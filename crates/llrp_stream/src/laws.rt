@@ -4,7 +4,8 @@ ghost use Rattle.std.specs.Prelude.{List, ◌≤◌, ℕ};
 ghost use Rattle.llrp_tree.specs.Lawful.{AreOctets};
 ghost use Rattle.llrp_tree.specs.declared.TheConstants.{MAX_LIMIT};
 ghost use Rattle.llrp_stream.specs.Cuts.{IsFrame};
-ghost use Rattle.llrp_stream.specs.StreamLaws.{HasOneItem, HasOneListing, IsCutInOneWay, ItemsGrow, PiecesAreTheStream, PrefixOfFrames};
+ghost use Rattle.llrp_stream.specs.Calls.StreamLaws.{HasOneItem, IsCutInOneWay, ItemsGrow, PrefixOfFrames};
+ghost use Rattle.llrp_stream.specs.StreamLaws.{HasOneListing, PiecesAreTheStream};
 
 /// Each frame has one message or exactly one first fault, and never both.
 #[tactic(auto, using(crate::proofs::ItemLemmas::has_one_item))]

@@ -1,7 +1,7 @@
 //! Steps of an exchange of a client with its reader, and whether a client does them.
 
 ghost use Rattle.std.specs.Prelude.{◌≤◌};
-ghost use Rattle.llrp_session.specs.LawfulWords.{AddsRoSpec};
+ghost use Rattle.llrp_session.specs.Calls.LawfulWords.{AddsRoSpec};
 
 use crate::octets::{are_spelled, decoded, octets};
 use llrp_session::{Client, CmdFault, Command, RoState, TakeFault, Taken};

@@ -1,7 +1,7 @@
 //! Serving one client.
 
 ghost use Rattle.std.specs.Prelude.{IfOk};
-ghost use Rattle.llrp_endpoints.specs.ServingStands.{HasStarted};
+ghost use Rattle.llrp_endpoints.specs.Calls.ServingStands.{HasStarted};
 
 use crate::octets::{octets, spell};
 use llrp_session::Reader;

@@ -10,7 +10,8 @@ use Rattle.llrp_schema.specs.Schema.{number_of, profile_of}
 use Rattle.llrp_schema.proofs.TableLaws.{message_number_fits, message_numbers_in}
 use Rattle.llrp_tree.specs.Tree.{Forest, none, and}
 use Rattle.llrp_tree.specs.Spelling.{Head, message, tlv, tv, head_digits, spell}
-use Rattle.llrp_tree.specs.OpenTree.{root_profile, Begun, leading_digits, part, covers, due, Rest, IsHeader, IsHead, IsOpenNode, IsOpenTree, parts, whole_parts, tail_parts}
+use Rattle.llrp_tree.specs.OpenTree.{root_profile, Begun, leading_digits, part, covers, due, Rest, IsHeader, IsHead, IsOpenNode, IsOpenTree}
+use Rattle.llrp_tree.specs.Calls.OpenTree.{parts, whole_parts, tail_parts}
 use Rattle.llrp_tree.specs.FirstFault.{next_fault}
 use Rattle.llrp_tree.proofs.ReadDigits.{drop_own, number_own}
 use Rattle.llrp_tree.proofs.Steps.{Step, Fails, Grows, Ends, next, begin}

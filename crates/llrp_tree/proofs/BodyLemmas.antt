@@ -21,9 +21,12 @@ use Rattle.llrp_tree.specs.Checks.{none_missing}
 use Rattle.llrp_tree.specs.Spelling.{Head, message, tlv, tv, spread}
 use Rattle.llrp_tree.specs.Frame.{Frame}
 use Rattle.llrp_schema.specs.declared.kinds.Profile.{Profile}
-use Rattle.llrp_tree.specs.OpenTree.{root_of, Begun, kind_of, groups, due, Rest, as_read, is_enough, IsHead, IsOpenTree}
+use Rattle.llrp_tree.specs.OpenTree.{root_of, Begun, kind_of, groups, due, Rest, is_enough, IsHead, IsOpenTree}
+use Rattle.llrp_tree.specs.Calls.OpenTree.{as_read}
 use Rattle.llrp_tree.specs.FirstFault.{number, first_failing, checks, Close, is_over, header_checks_in}
-use Rattle.llrp_tree.specs.Standing.{Stands, Closes, begun, leading, Tells, IsFirstIn, Begins, HeaderSaysIn, HasFault, is_tv_kind}
+use Rattle.llrp_tree.specs.Calls.Standing.{Stands, begun, leading, HeaderSaysIn}
+use Rattle.llrp_tree.specs.Private.Standing.{Closes, Tells, Begins, HasFault, is_tv_kind}
+use Rattle.llrp_tree.specs.FirstFault.{IsFirstIn}
 use Rattle.llrp_tree.proofs.TreeLemmas.{forest-push}
 use Rattle.llrp_tree.proofs.Steps.{closed, with_child}
 use Rattle.llrp_tree.proofs.Leading.{plain, length-spread, drop_all}

@@ -12,7 +12,8 @@ use Rattle.llrp_schema.specs.declared.kinds.Kind.{Kind}
 use Rattle.llrp_schema.specs.declared.kinds.Tail.TheVariants.{Text}
 use Rattle.llrp_schema.specs.declared.kinds.Profile.{Profile}
 use Rattle.llrp_schema.specs.declared.kinds.Group.{Group}
-use Rattle.llrp_schema.specs.Schema.{GroupRule, group_rule, groups_of, profile_of, is_tv}
+use Rattle.llrp_schema.specs.Schema.{GroupRule, groups_of, profile_of, is_tv}
+use Rattle.llrp_schema.specs.Calls.Schema.{group_rule}
 use Rattle.llrp_tree.specs.declared.TheConstants.{MAX_DEPTH}
 use Rattle.llrp_tree.specs.declared.fault.Reason.{Reason}
 use Rattle.llrp_tree.specs.declared.fault.Reason.TheVariants.{Extra, ParamLength, Utf8}
@@ -23,7 +24,8 @@ use Rattle.llrp_tree.specs.Lawful.{AreOctets, has_place}
 use Rattle.llrp_tree.specs.Spelling.{Head, message, tlv, tv}
 use Rattle.llrp_tree.specs.OpenTree.{root_of, Begun, kind_of, due, Rest, takes_more, MayBegin, IsHead, IsOpenTree}
 use Rattle.llrp_tree.specs.FirstFault.{number, tail_at, tail_end, tv_kind, tlv_kind, tlv_octets, first_digit, Check, first_failing, tail_checks, kind_checks, tlv_checks, checks, Turn, Close, NoChild, BeginTv, BeginTlv, turn, is_over, has_none}
-use Rattle.llrp_tree.specs.Standing.{Stands, begun, leading, FailsFirst, Tells, KindPasses, TlvPasses, TailSpans, is_tv_kind}
+use Rattle.llrp_tree.specs.Calls.Standing.{Stands, begun, leading}
+use Rattle.llrp_tree.specs.Private.Standing.{FailsFirst, Tells, KindPasses, TlvPasses, TailSpans, is_tv_kind}
 use Rattle.llrp_tree.proofs.OctetLemmas.{not_utf8}
 use Rattle.llrp_tree.proofs.Growing.{grow_tlv, grow_tv}
 use Rattle.llrp_tree.proofs.Telling.{fault_is}

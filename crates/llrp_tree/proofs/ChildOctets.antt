@@ -7,7 +7,7 @@ use Rattle.llrp_tree.specs.Tree.{Forest, and}
 use Rattle.llrp_tree.specs.Lawful.{head_octets, tree_octets}
 use Rattle.llrp_tree.specs.Spelling.{Head, message, tlv, tv, head_digits}
 use Rattle.llrp_tree.specs.OpenTree.{Begun, kind_of, part, covers, IsHead, IsOpenTree}
-use Rattle.llrp_tree.specs.Standing.{Stands, begun, leading}
+use Rattle.llrp_tree.specs.Calls.Standing.{Stands, begun, leading}
 use Rattle.llrp_tree.proofs.ReadDigits.{length_covered}
 use Rattle.llrp_tree.proofs.LengthLemmas.{length-spell, length-tlv, length-tv}
 use Rattle.llrp_tree.proofs.Openings.{begun_covered}

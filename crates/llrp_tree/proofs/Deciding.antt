@@ -16,7 +16,7 @@ use Rattle.llrp_tree.specs.Lawful.{has_place}
 use Rattle.llrp_tree.specs.Spelling.{Head, message, tlv, tv}
 use Rattle.llrp_tree.specs.OpenTree.{profile, Begun, kind_of, groups, covers, Due, AField, ATail, Rest, due, takes_more, is_enough, IsHead, IsOpenTree}
 use Rattle.llrp_tree.specs.FirstFault.{check, Check, first_failing, tail_at, tail_end, tlv_kind, tlv_octets, tail_checks, kind_checks, checks, ReadField, BeginTlv, turn_of, turn, is_over, has_none, first_digit, next_fault}
-use Rattle.llrp_tree.specs.Deciding.{deciding_tail, deciding_of, deciding, failing_tail, failing_part, failing_end, FaultsAreDecided}
+use Rattle.llrp_tree.specs.Calls.Deciding.{deciding_tail, deciding_of, deciding, failing_tail, failing_part, failing_end, FaultsAreDecided}
 use Rattle.llrp_tree.proofs.Openings.{tv_has_none}
 
 -- the reason that checks give

@@ -20,9 +20,11 @@ use Rattle.llrp_tree.specs.Lawful.{levels, message_octets, AreOctets, IsTail, Ar
 use Rattle.llrp_tree.specs.Spelling.{Head, message, tlv, tv, head_digits, spread, body_digits, spell, message_digits}
 use Rattle.llrp_tree.specs.Frame.{Frame}
 use Rattle.llrp_schema.specs.declared.kinds.Profile.{Profile}
-use Rattle.llrp_tree.specs.OpenTree.{Begun, kind_of, leading_digits, part, covers, Rest, tail_due, due, plain_values, IsReadTail, as_read, IsHeader, IsOpenNode, IsOpenTree}
+use Rattle.llrp_tree.specs.OpenTree.{Begun, kind_of, leading_digits, part, covers, Rest, tail_due, due, plain_values, IsReadTail, IsHeader, IsOpenNode, IsOpenTree}
+use Rattle.llrp_tree.specs.Calls.OpenTree.{as_read}
 use Rattle.llrp_tree.specs.FirstFault.{number, first_failing, Close, next_fault, header_checks_in, FirstFaultIn}
-use Rattle.llrp_tree.specs.Standing.{end_of, Stands, HasFault, Closes, begun, leading, HeaderSaysIn}
+use Rattle.llrp_tree.specs.Calls.Standing.{end_of, Stands, begun, leading, HeaderSaysIn}
+use Rattle.llrp_tree.specs.Private.Standing.{HasFault, Closes}
 use Rattle.llrp_tree.proofs.Steps.{Fails, Ends, next}
 use Rattle.llrp_tree.proofs.Leading.{plain-spread, leading_spread, length-spread, drop_all, plain_in_range}
 use Rattle.llrp_tree.proofs.ReadDigits.{number_own, number_behind, length_covered, value_at, digits_take}

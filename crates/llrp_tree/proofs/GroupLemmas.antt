@@ -6,7 +6,7 @@ use Rattle.llrp_schema.specs.declared.kinds.ParamKind.{ParamKind}
 use Rattle.llrp_schema.specs.Schema.{GroupRule}
 use Rattle.llrp_tree.specs.Tree.{Forest, none, and}
 use Rattle.llrp_tree.specs.Lawful.{is_member, count, IsAtMost, NoneTooMany, NoneMissing}
-use Rattle.llrp_tree.specs.Checks.{at_most}
+use Rattle.llrp_tree.specs.Lawful.{at_most}
 use Rattle.llrp_tree.specs.OpenTree.{takes_more, is_enough}
 use Rattle.llrp_tree.proofs.LawLemmas.{both, both_true}
 

@@ -19,7 +19,7 @@ use Rattle.llrp_tree.specs.Lawful.{levels, octets, head_octets, body_octets, cou
 use Rattle.llrp_tree.specs.Spelling.{Head, message, tlv, tv, head_digits, head_of, count_digits, field_digits, tail_digits, body_digits, spell}
 use Rattle.llrp_tree.specs.OpenTree.{profile, Begun, kind_of, leading_digits, part, covers, Rest, has_tail, tail_due, due, in_range, AreLeading, plain_values, IsReadTail, is_enough, MayBegin, IsTlvHead, IsTvHead, IsHead, IsOpenTree}
 use Rattle.llrp_tree.specs.FirstFault.{number, tail_length, tail_at, tail_end, tv_kind, tlv_kind, tlv_octets, first_digit}
-use Rattle.llrp_tree.specs.Standing.{end_of, Stands, begun, leading}
+use Rattle.llrp_tree.specs.Calls.Standing.{end_of, Stands, begun, leading}
 use Rattle.llrp_tree.proofs.Steps.{begin, with_child}
 use Rattle.llrp_tree.proofs.Leading.{more_leading, plain_in_range, length-fields}
 use Rattle.llrp_tree.proofs.ReadDigits.{covers_more, length_covered, digits_at, value_at, digits_take, length-octets_at, are_octets_at, octets_spelled}

@@ -7,8 +7,8 @@ use Rattle.llrp_schema.specs.declared.kinds.Profile.{Profile}
 use Rattle.llrp_tree.specs.declared.fault.Fault.{Fault}
 use Rattle.llrp_tree.specs.declared.header.Header.{Header}
 use Rattle.llrp_tree.specs.FirstFault.{number, first_failing, header_checks_in, FirstFaultIn}
-use Rattle.llrp_tree.specs.Standing.{HeaderSaysIn}
-use Rattle.llrp_tree.specs.Header.{HasHeaderIn, HasHeaderFaultIn}
+use Rattle.llrp_tree.specs.Calls.Standing.{HeaderSaysIn}
+use Rattle.llrp_tree.specs.Calls.Header.{HasHeaderIn, HasHeaderFaultIn}
 
 -- a number in bytes is the same with more digits after them
 pub number_ahead : (bytes : List ℕ) (later : List Bool) (place width : ℕ) → place + width ≤ 8 * length bytes → value (take width (drop place (digits_of_bytes bytes))) ≡ number (digits_of_bytes bytes ++ later) place width

@@ -13,7 +13,7 @@ use Rattle.llrp_schema.proofs.SchemaLemmas.{not_true}
 use Rattle.llrp_schema.proofs.TableLaws.{param_keys, every_rule}
 use Rattle.llrp_tree.specs.Tree.{Forest}
 use Rattle.llrp_tree.specs.Lawful.{is_member, count}
-use Rattle.llrp_tree.specs.Checks.{at_most}
+use Rattle.llrp_tree.specs.Lawful.{at_most}
 use Rattle.llrp_tree.specs.OpenTree.{takes_more}
 use Rattle.llrp_tree.proofs.LawLemmas.{both, both_true}
 

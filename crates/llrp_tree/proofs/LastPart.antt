@@ -18,7 +18,8 @@ use Rattle.llrp_tree.specs.declared.fault.Reason.{Reason}
 use Rattle.llrp_tree.specs.Tree.{Forest, none, and}
 use Rattle.llrp_tree.specs.Lawful.{levels, octets, head_octets, body_octets, count_octets, AreOctets, IsTail, ArePlaced, Obeys, AreLawful, AllLawful}
 use Rattle.llrp_tree.specs.Spelling.{Head, tlv, tv, head_digits, head_of, spread, field_digits, tail_digits, body_digits, spell}
-use Rattle.llrp_tree.specs.OpenTree.{root_profile, Begun, kind_of, form, groups, leading_digits, part, covers, Rest, has_tail, due, in_range, plain_values, is_enough, MayBegin, IsHead, IsOpenNode, IsOpenTree, tail_parts, as_read, whole_parts, parts}
+use Rattle.llrp_tree.specs.OpenTree.{root_profile, Begun, kind_of, form, groups, leading_digits, part, covers, Rest, has_tail, due, in_range, plain_values, is_enough, MayBegin, IsHead, IsOpenNode, IsOpenTree}
+use Rattle.llrp_tree.specs.Calls.OpenTree.{tail_parts, as_read, whole_parts, parts}
 use Rattle.llrp_tree.specs.FirstFault.{number, octets_at, tail_length, tail_at, tail_end, first_failing, tail_checks, checks, Turn, ReadField, ReadTail, Close, turn, is_over, next_fault}
 use Rattle.llrp_tree.proofs.Leading.{last_field, drop_all, length-spread, plain-spread, leading_spread}
 use Rattle.llrp_tree.proofs.ReadDigits.{drop_own, number_own, length-more, octets_again}

@@ -16,7 +16,8 @@ use Rattle.llrp_schema.specs.Schema.{FieldRule, GroupRule, fields_of, plain_fiel
 use Rattle.llrp_tree.specs.declared.node.NodeFault.{NodeFault}
 use Rattle.llrp_tree.specs.Tree.{Forest, none, and, Tree, MessageTree, trees}
 use Rattle.llrp_tree.specs.Lawful.{AreInRange, AreOctets, first, IsTail, is_member, has_place, count, ArePlaced, IsAtMost, NoneTooMany, NoneMissing, Obeys, AreLawful, AllLawful, IsLawfulMessage}
-use Rattle.llrp_tree.specs.Checks.{values_fit, tail_fits, members, at_most, all_placed, none_too_many, none_missing, table_tests, first_fault, first_message_fault}
+use Rattle.llrp_tree.specs.Checks.{values_fit, tail_fits, members, all_placed, none_too_many, none_missing, table_tests, first_fault, first_message_fault}
+use Rattle.llrp_tree.specs.Lawful.{at_most}
 use Rattle.llrp_tree.proofs.TestLemmas.{AllPass, all_pass, none_fails}
 
 pub both : (a b : Bool) → (a && b) ≡ true → (a ≡ true) × (b ≡ true)

@@ -16,7 +16,8 @@ use Rattle.llrp_schema.proofs.TableLaws.{whole_octets}
 use Rattle.llrp_tree.specs.Tree.{Forest, none, and, Tree, MessageTree}
 use Rattle.llrp_tree.specs.Lawful.{head_octets, count_octets, body_octets, octets, tree_octets, message_octets, first, others}
 use Rattle.llrp_tree.specs.Frame.{Frame}
-use Rattle.llrp_tree.specs.Spelling.{message, tlv, tv, head_of, head_digits, spread, field_digits, tail_digits, body_digits, spell, tree_digits, message_digits}
+use Rattle.llrp_tree.specs.Spelling.{message, tlv, tv, head_of, head_digits, spread, field_digits, tail_digits, body_digits, spell, message_digits}
+use Rattle.llrp_tree.specs.Calls.Spelling.{tree_digits}
 
 length-step : (r : FieldRule) (rules : List FieldRule) (v : ℕ) (ds : List Bool) → length ds ≡ bits_of rules → length (digits r.width v ++ ds) ≡ bits_of (r ∷ rules)
 length-step r rules v ds h =

@@ -3,12 +3,13 @@ use Rattle.std.proofs.Common.{◌≡◌, ℕ, ◌+◌, ◌%◌, ◌<◌, ◌≤�
 use Rattle.llrp_schema.specs.declared.kinds.Kind.TheVariants.{Parameter}
 use Rattle.llrp_schema.specs.declared.kinds.ParamKind.{ParamKind}
 use Rattle.llrp_schema.specs.declared.kinds.Field.{Field}
-use Rattle.llrp_schema.specs.Schema.{FieldRule, field_rule, bits_of, fields_of, is_tv}
+use Rattle.llrp_schema.specs.Schema.{FieldRule, bits_of, fields_of, is_tv}
+use Rattle.llrp_schema.specs.Calls.Schema.{field_rule}
 use Rattle.llrp_schema.proofs.TableLaws.{tv_field, whole_octets}
 use Rattle.llrp_tree.specs.Spelling.{Head, spread}
 use Rattle.llrp_tree.specs.OpenTree.{Begun, kind_of, in_range}
 use Rattle.llrp_tree.specs.FirstFault.{number}
-use Rattle.llrp_tree.specs.Standing.{Stands, leading}
+use Rattle.llrp_tree.specs.Calls.Standing.{Stands, leading}
 use Rattle.llrp_tree.proofs.Leading.{plain}
 use Rattle.llrp_tree.proofs.ReadingLemmas.{all_taken, plain-one, width_more, plain_grows}
 

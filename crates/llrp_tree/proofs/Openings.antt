@@ -12,7 +12,8 @@ use Rattle.llrp_schema.proofs.PlaceLemmas.{child_profile}
 use Rattle.llrp_tree.specs.declared.TheConstants.{MAX_DEPTH}
 use Rattle.llrp_tree.specs.Lawful.{has_place}
 use Rattle.llrp_tree.specs.Spelling.{Head, message, tlv, tv, head_digits, spell}
-use Rattle.llrp_tree.specs.OpenTree.{Begun, profile, kind_of, leading_digits, part, covers, MayBegin, IsTlvHead, IsTvHead, IsHead, IsOpenTree, parts}
+use Rattle.llrp_tree.specs.OpenTree.{Begun, profile, kind_of, leading_digits, part, covers, MayBegin, IsTlvHead, IsTvHead, IsHead, IsOpenTree}
+use Rattle.llrp_tree.specs.Calls.OpenTree.{parts}
 use Rattle.llrp_tree.specs.FirstFault.{number, tv_kind, tlv_kind, tlv_octets, first_digit, first_failing, checks, BeginTv, BeginTlv, turn, is_over, has_none}
 use Rattle.llrp_tree.proofs.ReadDigits.{number_own, number_behind, length-more}
 use Rattle.llrp_tree.proofs.LengthLemmas.{length-tv}

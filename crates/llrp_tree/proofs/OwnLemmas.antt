@@ -12,7 +12,8 @@ use Rattle.llrp_schema.specs.declared.kinds.Tail.TheVariants.{Absent, Words, Tex
 use Rattle.llrp_schema.specs.Schema.{bits_of, fields_of, tail_of, profile_of, rule_of, message_rule, param_rule, message_kinds, whole_message_kinds, param_kinds, whole_param_kinds}
 use Rattle.llrp_schema.proofs.SchemaLemmas.{implied}
 use Rattle.llrp_schema.proofs.TableLaws.{every_message, every_parameter, message_tail}
-use Rattle.llrp_tree.specs.Lawful.{head_octets, body_octets, count_octets, own_octets}
+use Rattle.llrp_tree.specs.Lawful.{head_octets, body_octets, count_octets}
+use Rattle.llrp_tree.specs.Calls.Lawful.{own_octets}
 use Rattle.llrp_tree.proofs.SpelledLemmas.{head_fits}
 
 abbrev is_own : Profile → Bool

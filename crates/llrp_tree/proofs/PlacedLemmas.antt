@@ -3,10 +3,10 @@ use Rattle.std.proofs.Common.{◌≡◌, ◌≢◌, ℕ, zero, suc, ◌+◌, ◌
 use Rattle.llrp_schema.specs.declared.kinds.ParamKind.{ParamKind}
 use Rattle.llrp_schema.specs.declared.kinds.Place.{Place}
 use Rattle.llrp_schema.specs.Schema.{GroupRule}
-use Rattle.llrp_schema.specs.Places.{IsPlace}
+use Rattle.llrp_schema.specs.Calls.Places.{IsPlace}
 use Rattle.llrp_tree.specs.Tree.{Forest}
 use Rattle.llrp_tree.specs.Lawful.{count, is_member}
-use Rattle.llrp_tree.specs.Checks.{at_most}
+use Rattle.llrp_tree.specs.Lawful.{at_most}
 use Rattle.llrp_tree.specs.OpenTree.{takes_more}
 
 -- another group has not the kind

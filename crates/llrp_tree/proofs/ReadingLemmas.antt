@@ -14,17 +14,21 @@ use Rattle.llrp_schema.specs.declared.kinds.Kind.{Kind}
 use Rattle.llrp_schema.specs.declared.kinds.Tail.{Tail}
 use Rattle.llrp_schema.specs.declared.kinds.Tail.TheVariants.{Absent, Words, Text, Bits, Data}
 use Rattle.llrp_schema.specs.declared.kinds.Field.{Field}
-use Rattle.llrp_schema.specs.Schema.{FieldRule, GroupRule, field_rule, bits_of, fields_of, tail_of}
+use Rattle.llrp_schema.specs.Schema.{FieldRule, GroupRule, bits_of, fields_of, tail_of}
+use Rattle.llrp_schema.specs.Calls.Schema.{field_rule}
 use Rattle.llrp_schema.proofs.TableLaws.{field_widths, few_plain_fields}
 use Rattle.llrp_tree.specs.declared.fault.FrameErr.{FrameErr}
 use Rattle.llrp_tree.specs.declared.fault.FrameErr.TheVariants.{Memory, Bad}
 use Rattle.llrp_tree.specs.Tree.{none, Tree, forest}
 use Rattle.llrp_tree.specs.Lawful.{first, count_octets, AreOctets, is_member, has_place, count, AllLawful, IsLawful, IsLawfulMessage}
-use Rattle.llrp_tree.specs.Checks.{members, at_most, none_missing}
+use Rattle.llrp_tree.specs.Checks.{members, none_missing}
+use Rattle.llrp_tree.specs.Lawful.{at_most}
 use Rattle.llrp_tree.specs.Spelling.{Head, spread}
-use Rattle.llrp_tree.specs.OpenTree.{root_of, Begun, kind_of, has_tail, in_range, plain_values, as_read, is_enough}
+use Rattle.llrp_tree.specs.OpenTree.{root_of, Begun, kind_of, has_tail, in_range, plain_values, is_enough}
+use Rattle.llrp_tree.specs.Calls.OpenTree.{as_read}
 use Rattle.llrp_tree.specs.FirstFault.{number, octets_at, tail_length, tail_at, tail_end, field_checks, tail_checks, checks, Turn, ReadField, ReadTail, turn}
-use Rattle.llrp_tree.specs.Standing.{Stands, begun, leading, FailsFirst, Tells, TailSpans}
+use Rattle.llrp_tree.specs.Calls.Standing.{Stands, begun, leading}
+use Rattle.llrp_tree.specs.Private.Standing.{FailsFirst, Tells, TailSpans}
 use Rattle.llrp_tree.proofs.TreeLemmas.{trees-forest}
 use Rattle.llrp_tree.proofs.LawLemmas.{count-members}
 use Rattle.llrp_tree.proofs.Leading.{plain, length-spread, drop_all}

@@ -23,10 +23,13 @@ use Rattle.llrp_schema.specs.Schema.{bits_of, is_tv}
 use Rattle.llrp_tree.proofs.SpellingLemmas.{appends_same, appends_number, whole_number, whole_digits}
 use Rattle.llrp_tree.specs.declared.TheConstants.{LEVELS, MAX_DEPTH}
 use Rattle.llrp_tree.specs.Tree.{Forest, none, and, Tree, MessageTree, add, add_all, forest, trees}
-use Rattle.llrp_tree.specs.Lawful.{octets, head_octets, body_octets, count_octets, own_octets, levels, AreOctets, AllLawful, tree_octets, message_octets}
-use Rattle.llrp_tree.specs.Spelling.{message, spread, field_digits, count_digits, body_digits, head_of, head_digits, spell, tree_digits, message_digits}
-use Rattle.llrp_tree.specs.Spelled.{octets_in, spelled, leading_digits, message_start, parameter_start, unfinished, following, AreDeep, Moves}
-use Rattle.llrp_tree.specs.Writing.{Appends}
+use Rattle.llrp_tree.specs.Lawful.{octets, head_octets, body_octets, count_octets, levels, AreOctets, AllLawful, tree_octets, message_octets}
+use Rattle.llrp_tree.specs.Calls.Lawful.{own_octets}
+use Rattle.llrp_tree.specs.Spelling.{message, spread, field_digits, count_digits, body_digits, head_of, head_digits, spell, message_digits}
+use Rattle.llrp_tree.specs.Calls.Spelling.{tree_digits}
+use Rattle.llrp_tree.specs.Private.Spelled.{octets_in, spelled, unfinished, following, AreDeep, Moves}
+use Rattle.llrp_tree.specs.Calls.Spelled.{leading_digits, message_start, parameter_start}
+use Rattle.llrp_tree.specs.Calls.Writing.{Appends}
 use Rattle.llrp_tree.proofs.OctetLemmas.{octets-append}
 use Rattle.llrp_tree.proofs.TreeLemmas.{forest-trees}
 use Rattle.llrp_tree.proofs.LengthLemmas.{length-spell}

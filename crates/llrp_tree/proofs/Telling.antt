@@ -13,7 +13,8 @@ use Rattle.llrp_tree.specs.Tree.{Forest}
 use Rattle.llrp_tree.specs.Lawful.{has_place}
 use Rattle.llrp_tree.specs.OpenTree.{root_of, Begun, covers, has_tail, takes_more}
 use Rattle.llrp_tree.specs.FirstFault.{Check, first_failing, tail_end, tail_at, tail_checks, kind_checks, checks, Turn, turn, next_fault}
-use Rattle.llrp_tree.specs.Standing.{Stands, HasFault}
+use Rattle.llrp_tree.specs.Calls.Standing.{Stands}
+use Rattle.llrp_tree.specs.Private.Standing.{HasFault}
 use Rattle.llrp_tree.proofs.ReadDigits.{length_covered}
 
 -- each check holds

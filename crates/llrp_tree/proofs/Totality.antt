@@ -21,7 +21,8 @@ use Rattle.llrp_schema.proofs.TableLaws.{message_found_in}
 use Rattle.llrp_schema.specs.declared.kinds.Kind.TheVariants.{Message}
 use Rattle.llrp_tree.specs.OpenTree.{root_of, profile, Begun, kind_of, groups, leading_digits, part, covers, Due, AField, ATail, Rest, has_tail, tail_due, field_due, due, plain_values, IsHead, IsOpenNode, IsOpenTree}
 use Rattle.llrp_tree.specs.FirstFault.{number, tail_at, tail_end, tv_kind, tlv_kind, tlv_octets, first_digit, Check, first_failing, kind_checks, checks, ReadField, ReadTail, Close, NoChild, BeginTv, BeginTlv, turn, turn_of, is_over, has_none, header_checks_in, FirstFaultIn}
-use Rattle.llrp_tree.specs.Standing.{Stands, HasFault, Closes, begun, leading, HeaderSaysIn}
+use Rattle.llrp_tree.specs.Calls.Standing.{Stands, begun, leading, HeaderSaysIn}
+use Rattle.llrp_tree.specs.Private.Standing.{HasFault, Closes}
 use Rattle.llrp_tree.specs.FrameLaws.{IsWhole}
 use Rattle.llrp_tree.proofs.Steps.{begin, closed}
 use Rattle.llrp_tree.proofs.Leading.{drop_all, leading_length, wide_at}
@@ -257,7 +258,7 @@ is_header (Some kind) e = (kind, refl)
 -- the message at the end of the digits
 ended_frame : (limit : ℕ) (bytes : List ℕ) (h : Head) (stop : ℕ) (vs : List ℕ) (tail : Option (List ℕ)) (cs : Forest) (at : ℕ) → limit ≤ MAX_LIMIT → IsWhole bytes → length bytes ≤ limit
     → Closes (digits_of_bytes bytes) (begun h stop vs tail cs) [] at → (m : MessageTree) × Frame m bytes limit × (profile_of (Message m.kind) ≡ root_of h [])
-unfolding IsOpenTree Rattle.llrp_tree.specs.Standing.end_of
+unfolding IsOpenTree Rattle.llrp_tree.specs.Calls.Standing.end_of
 ended_frame limit bytes (message v k n id) stop vs tail cs at le w fit c =
     let s = c.stands.is_open.0.head in
     let long = length-bytes bytes in

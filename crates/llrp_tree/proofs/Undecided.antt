@@ -15,10 +15,11 @@ use Rattle.llrp_tree.specs.Tree.{Forest, none}
 use Rattle.llrp_tree.specs.Lawful.{count_octets}
 use Rattle.llrp_tree.specs.Spelling.{Head, message, tlv, tv, head_digits, field_digits, spell}
 use Rattle.llrp_schema.specs.declared.kinds.Profile.{Profile}
-use Rattle.llrp_tree.specs.OpenTree.{root_profile, profile, Begun, kind_of, groups, leading_digits, part, covers, Due, AField, ATail, Rest, due, plain_values, is_enough, IsHead, IsOpenTree, parts}
+use Rattle.llrp_tree.specs.OpenTree.{root_profile, profile, Begun, kind_of, groups, leading_digits, part, covers, Due, AField, ATail, Rest, due, plain_values, is_enough, IsHead, IsOpenTree}
+use Rattle.llrp_tree.specs.Calls.OpenTree.{parts}
 use Rattle.llrp_tree.specs.FirstFault.{number, tail_at, tail_end, tail_length, tv_kind, tlv_kind, tlv_octets, first_digit, first_failing, checks, Turn, ReadField, ReadTail, Close, NoChild, BeginTv, BeginTlv, turn_of, turn, is_over, has_none, next_fault, header_checks_in, FirstFaultIn}
-use Rattle.llrp_tree.specs.Standing.{end_of, Stands, begun, leading}
-use Rattle.llrp_tree.specs.Deciding.{deciding_tail, deciding_of, deciding, BodyFailsIn, FailsIn}
+use Rattle.llrp_tree.specs.Calls.Standing.{end_of, Stands, begun, leading}
+use Rattle.llrp_tree.specs.Calls.Deciding.{deciding_tail, deciding_of, deciding, BodyFailsIn, FailsIn}
 use Rattle.llrp_tree.proofs.ReadDigits.{length_covered, length-more, length-octets_at}
 use Rattle.llrp_tree.proofs.LengthLemmas.{length-message_head, length-tlv, length-tv, length-tail_digits}
 use Rattle.llrp_tree.proofs.Leading.{drop_all}

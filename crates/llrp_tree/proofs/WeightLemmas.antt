@@ -8,7 +8,8 @@ use Rattle.llrp_schema.proofs.TableLaws.{tv_field, whole_octets}
 use Rattle.llrp_tree.specs.Tree.{Forest, none, and, MessageTree}
 use Rattle.llrp_tree.specs.Lawful.{octets, head_octets, body_octets}
 use Rattle.llrp_tree.specs.Frame.{Frame}
-use Rattle.llrp_tree.specs.Weight.{weight, message_weight}
+use Rattle.llrp_tree.specs.Weight.{weight}
+use Rattle.llrp_tree.specs.Calls.Weight.{message_weight}
 use Rattle.llrp_tree.proofs.LengthLemmas.{frame_length}
 use Rattle.llrp_tree.proofs.Leading.{AreRules}
 use Rattle.llrp_tree.proofs.WholeNodes.{are_rules}

@@ -13,7 +13,8 @@ use Rattle.llrp_schema.specs.Schema.{whole_message_kinds, whole_param_kinds, Fie
 use Rattle.llrp_schema.proofs.TableLaws.{every_rule, message_tail, data_groups}
 use Rattle.llrp_tree.specs.Lawful.{AreOctets, IsTail, has_place}
 use Rattle.llrp_tree.specs.Spelling.{spread, field_digits, tail_digits, body_digits}
-use Rattle.llrp_tree.specs.OpenTree.{tail_due, field_due, Due, Rest, read_digits, leading_digits, AreLeading, plain_values, IsReadTail, as_read}
+use Rattle.llrp_tree.specs.OpenTree.{tail_due, field_due, Due, Rest, read_digits, leading_digits, AreLeading, plain_values, IsReadTail}
+use Rattle.llrp_tree.specs.Calls.OpenTree.{as_read}
 use Rattle.llrp_tree.proofs.LawLemmas.{both}
 use Rattle.llrp_tree.proofs.Leading.{AreRules, spread-plain}
 

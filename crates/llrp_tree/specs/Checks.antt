@@ -13,7 +13,7 @@ use Rattle.llrp_tree.specs.declared.TheConstants.{MAX_DEPTH, MAX_LIMIT, MAX_OCTE
 use Rattle.llrp_tree.specs.declared.node.NodeFault.{NodeFault}
 use Rattle.llrp_tree.specs.declared.node.NodeFault.TheVariants.{FieldCount, Value, Tail as BadTail, Misplaced, TooMany, Missing, TooDeep, TooLong}
 use Rattle.llrp_tree.specs.Tree.{Forest, Tree, trees}
-use Rattle.llrp_tree.specs.Lawful.{levels, head_octets, body_octets, octets, first, is_member, has_place}
+use Rattle.llrp_tree.specs.Lawful.{levels, head_octets, body_octets, octets, first, is_member, has_place, at_most}
 
 abbrev pub count_fits : List FieldRule → List ℕ → Bool
 count_fits rules values = length values == length (filter (λ r. not r.reserved) rules)
@@ -34,10 +34,6 @@ tail_fits Data values tail = true
 abbrev pub members : GroupRule → List Tree → ℕ
 members g ts = count_by (λ t. is_member g t.kind) ts
 
-abbrev pub at_most : Option ℕ → ℕ → Bool
-at_most None n = true
-at_most (Some most) n = nat_le n most
-
 unfoldable pub all_placed : List GroupRule → List Tree → Bool
 all_placed gs ts = list_all (λ t. has_place gs t.kind) ts
 
@@ -51,10 +47,6 @@ none_missing gs ts = list_all (λ g. nat_le g.least (members g ts)) gs
 abbrev pub first_failed : List (Bool × NodeFault) → Option NodeFault
 first_failed [] = None
 first_failed (t ∷ ts) = if t.0 then first_failed ts else Some t.1
-
--- the tests of a node's own values and tail, the first of which a message's version may fail besides
-abbrev pub own_tests : Kind → List ℕ → List ℕ → List (Bool × NodeFault)
-own_tests kind values tail = (values_fit (fields_of kind) values, Value) ∷ (tail_fits (tail_of kind) values tail, BadTail) ∷ []
 
 -- the tests by the table of a kind
 unfoldable pub table_tests : Kind → Bool → List ℕ → List ℕ → List Tree → List (Bool × NodeFault)

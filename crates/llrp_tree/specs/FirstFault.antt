@@ -16,6 +16,8 @@ use Rattle.llrp_tree.specs.Tree.{Forest}
 use Rattle.llrp_tree.specs.Lawful.{first, count_octets, has_place}
 use Rattle.llrp_tree.specs.Spelling.{Head, message, tlv, tv}
 use Rattle.llrp_tree.specs.OpenTree.{root_profile, Begun, rules, form, groups, profile, covers, Due, AField, ATail, Rest, due, in_range, plain_values, takes_more, is_enough, IsOpenTree}
+use Rattle.llrp_tree.specs.declared.fault.FrameErr.{FrameErr}
+use Rattle.llrp_tree.specs.declared.fault.FrameErr.TheVariants.{Memory, Bad}
 
 -- ---- what is in the digits from a bit on
 
@@ -168,10 +170,6 @@ header_checks_in p limit ds =
     ∷ check (is_some (message_in p (number ds 6 10))) 6 MessageType
     ∷ check (nat_le (number ds 16 32) limit) 16 MessageLength ∷ []
 
--- the same of the profile
-abbrev pub header_checks : (limit : ℕ) → List Bool → List Check
-header_checks limit ds = header_checks_in Own limit ds
-
 -- The header passes, and an open tree covers the first digits, whose next checks fail first at the bit, for the reason.
 pub record BodyFaultIn (p : Profile) (ds : List Bool) (limit bit : ℕ) (reason : Reason) : Type 0 where
   pub header : first_failing (header_checks_in p limit ds) ≡ None
@@ -185,6 +183,15 @@ pub record BodyFaultIn (p : Profile) (ds : List Bool) (limit bit : ℕ) (reason 
 -- the bytes of a frame have this first fault, in the header or after it
 abbrev pub FirstFaultIn : Profile → List ℕ → (limit bit : ℕ) → Reason → Type 0
 FirstFaultIn p bytes limit bit reason = (first_failing (header_checks_in p limit (digits_of_bytes bytes)) ≡ Some (bit, reason)) ⊎ BodyFaultIn p (digits_of_bytes bytes) limit bit reason
+
+-- the error is the first fault of a frame, or says that memory ran out
+abbrev pub IsFirstIn : Profile → List ℕ → ℕ → FrameErr → Type 0
+IsFirstIn p bytes limit Memory = Unit {0}
+IsFirstIn p bytes limit (Bad fault) = FirstFaultIn p bytes limit fault.bit fault.reason
+
+-- the same of the profile
+abbrev pub IsFirst : List ℕ → ℕ → FrameErr → Type 0
+IsFirst bytes limit e = IsFirstIn Own bytes limit e
 
 -- the same of the profile
 abbrev pub FirstFault : List ℕ → (limit bit : ℕ) → Reason → Type 0

@@ -1,5 +1,5 @@
 -- What holds of every frame.
-use Rattle.std.specs.Prelude.{◌≡◌, ℕ, ◌≤◌, ◌⊎◌, Bool, List, [], ◌++◌, length}
+use Rattle.std.specs.Prelude.{◌≡◌, ℕ, ◌≤◌, ◌⊎◌, List, [], ◌++◌, length}
 use Rattle.tag_bits.specs.Digits.{digits_of_bytes}
 use Rattle.llrp_tree.specs.declared.fault.Reason.{Reason}
 use Rattle.llrp_schema.specs.declared.kinds.Profile.{Profile}
@@ -8,12 +8,7 @@ use Rattle.llrp_schema.specs.Schema.{profile_of}
 use Rattle.llrp_tree.specs.Tree.{MessageTree}
 use Rattle.llrp_tree.specs.Lawful.{AreOctets}
 use Rattle.llrp_tree.specs.Frame.{Frame}
-use Rattle.llrp_tree.specs.OpenTree.{Begun, covers, IsOpenTree, parts, root_profile}
 use Rattle.llrp_tree.specs.FirstFault.{number, FirstFaultIn}
-
--- Two open trees with equally many counted parts that cover the first of the same digits are equal.
-abbrev pub OpenTreesAgree : Type 0
-OpenTreesAgree = (t u : List Begun) (r s : List Bool) → IsOpenTree t → IsOpenTree u → root_profile t ≡ root_profile u → parts t ≡ parts u → covers t ++ r ≡ covers u ++ s → t ≡ u
 
 -- bytes that a stream's reader takes for a frame: a whole header, whose length is theirs
 pub record IsWhole (bytes : List ℕ) : Type 0 where

@@ -1,5 +1,5 @@
 -- Lawful parameters and messages.
-use Rattle.std.specs.Prelude.{◌≡◌, ℕ, ◌+◌, ◌*◌, ◌/◌, ◌^◌, ◌<◌, ◌≤◌, ◌⊎◌, max, List, [], ◌∷◌, length, true, if◌then◌else◌, Option, None, Some}
+use Rattle.std.specs.Prelude.{◌≡◌, ℕ, ◌+◌, ◌*◌, ◌/◌, ◌^◌, ◌<◌, ◌≤◌, ◌⊎◌, max, List, [], ◌∷◌, length, true, if◌then◌else◌, Option, None, Some, Bool, nat_le}
 use Rattle.std.specs.Str.{IsUtf8}
 use Rattle.llrp_schema.specs.declared.kinds.ParamKind.{ParamKind}
 use Rattle.llrp_schema.specs.declared.kinds.Kind.{Kind}
@@ -7,11 +7,15 @@ use Rattle.llrp_schema.specs.declared.kinds.Kind.TheVariants.{Message, Parameter
 use Rattle.llrp_schema.specs.declared.kinds.Tail.{Tail}
 use Rattle.llrp_schema.specs.declared.kinds.Tail.TheVariants.{Absent, Words, Text, Bits, Data}
 use Rattle.llrp_schema.specs.Schema.{FieldRule, GroupRule, fields_of, plain_fields_of, bits_of, groups_of, tail_of, is_tv}
-pub use Rattle.llrp_schema.specs.Places.{is_member, has_place}
+pub use Rattle.llrp_schema.specs.Schema.{is_member, has_place}
 use Rattle.llrp_tree.specs.declared.TheConstants.{MAX_DEPTH, MAX_LIMIT, MAX_OCTETS}
 use Rattle.llrp_tree.specs.Tree.{Forest, none, and, Tree, MessageTree}
 
 -- ---- levels and octets
+
+abbrev pub at_most : Option ℕ → ℕ → Bool
+at_most None n = true
+at_most (Some most) n = nat_le n most
 
 -- how many levels of parameters there are
 abbrev pub levels : Forest → ℕ
@@ -32,11 +36,6 @@ body_octets kind tail = bits_of (fields_of kind) / 8 + count_octets (tail_of kin
 
 abbrev pub head_octets : ParamKind → ℕ
 head_octets kind = if is_tv kind then 1 else 4
-
--- the octets of a node without its children
-abbrev pub own_octets : Kind → List ℕ → ℕ
-own_octets (Message kind) tail = 10 + body_octets (Message kind) []
-own_octets (Parameter kind) tail = head_octets kind + body_octets (Parameter kind) tail
 
 -- how many octets parameters take
 abbrev pub octets : Forest → ℕ

@@ -10,9 +10,8 @@ use Rattle.llrp_schema.specs.declared.kinds.Tail.{Tail}
 use Rattle.llrp_schema.specs.declared.kinds.Tail.TheVariants.{Absent, Words, Text, Bits, Data}
 use Rattle.llrp_schema.specs.Schema.{FieldRule, GroupRule, fields_of, tail_of, groups_of, profile_of, is_tv}
 use Rattle.llrp_tree.specs.declared.TheConstants.{MAX_DEPTH}
-use Rattle.llrp_tree.specs.Tree.{Forest, none, and}
-use Rattle.llrp_tree.specs.Lawful.{levels, AreOctets, IsTail, is_member, has_place, count, ArePlaced, NoneTooMany, AllLawful}
-use Rattle.llrp_tree.specs.Checks.{at_most}
+use Rattle.llrp_tree.specs.Tree.{Forest, none}
+use Rattle.llrp_tree.specs.Lawful.{levels, AreOctets, IsTail, is_member, has_place, count, ArePlaced, NoneTooMany, AllLawful, at_most}
 use Rattle.llrp_tree.specs.Spelling.{Head, message, tlv, tv, head_digits, field_digits, tail_digits, spell}
 
 -- A node that is begun: its head, the bit at which it stops, its leading fields, reserved ones among them, its tail if that is read, and whole children.
@@ -187,22 +186,3 @@ pub record IsOpenNode (b : Begun) (outer : List Begun) : Type 0 where
 unfoldable pub IsOpenTree : List Begun → Type 0
 IsOpenTree [] = Unit {0}
 IsOpenTree (b ∷ outer) = IsOpenNode b outer × IsOpenTree outer
-
--- ---- the counted parts: heads, fields, tails and closings
-
-abbrev pub tail_parts : Option (List ℕ) → ℕ
-tail_parts None = 0
-tail_parts (Some octets) = 1
-
--- a tail that a kind has is read
-abbrev pub as_read : Tail → List ℕ → Option (List ℕ)
-as_read form octets = if has_tail form then Some octets else None
-
-unfoldable pub whole_parts : Forest → ℕ
-whole_parts none = 0
-whole_parts (and before kind fields tail children) = whole_parts before + (2 + length (fields_of (Parameter kind)) + tail_parts (as_read (tail_of (Parameter kind)) tail) + whole_parts children)
-
--- how many parts an open tree has
-unfoldable pub parts : List Begun → ℕ
-parts [] = 0
-parts (b ∷ outer) = parts outer + (1 + length b.fields + tail_parts b.tail + whole_parts b.children)

@@ -8,7 +8,7 @@ use Rattle.llrp_schema.specs.declared.kinds.Kind.TheVariants.{Message, Parameter
 use Rattle.llrp_schema.specs.declared.kinds.Tail.{Tail}
 use Rattle.llrp_schema.specs.declared.kinds.Tail.TheVariants.{Absent, Words, Text, Bits, Data}
 use Rattle.llrp_schema.specs.Schema.{FieldRule, fields_of, tail_of, number_of, is_tv}
-use Rattle.llrp_tree.specs.Tree.{Forest, none, and, Tree, MessageTree}
+use Rattle.llrp_tree.specs.Tree.{Forest, none, and, MessageTree}
 use Rattle.llrp_tree.specs.Lawful.{head_octets, body_octets, octets, message_octets, first, others}
 
 -- The start of a node: of a message, of a TLV of this many octets, of a TV.
@@ -57,9 +57,6 @@ unfoldable pub spell : Forest → List Bool
 spell none = []
 spell (and before kind fields tail children) =
     spell before ++ (head_digits (head_of kind (head_octets kind + body_octets (Parameter kind) tail + octets children)) ++ (body_digits (Parameter kind) fields tail ++ spell children))
-
-abbrev pub tree_digits : Tree → List Bool
-tree_digits t = head_digits (head_of t.kind (head_octets t.kind + body_octets (Parameter t.kind) t.tail + octets t.children)) ++ (body_digits (Parameter t.kind) t.fields t.tail ++ spell t.children)
 
 abbrev pub message_digits : MessageTree → List Bool
 message_digits m = head_digits (message m.version m.kind (message_octets m) m.id) ++ (body_digits (Message m.kind) m.fields [] ++ spell m.children)

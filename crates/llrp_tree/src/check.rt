@@ -2,7 +2,7 @@
 //! tests of its own fields and tail are in `parts`.
 
 ghost use Rattle.std.specs.Prelude.{◌≡◌, ◌≤◌, ◌+◌, ◌*◌, ◌==◌, ◌||◌, length, map, []};
-ghost use Rattle.llrp_schema.specs.Schema.{field_rule, group_rule};
+ghost use Rattle.llrp_schema.specs.Calls.Schema.{field_rule, group_rule};
 ghost use Rattle.llrp_schema.specs.declared.kinds.Kind.TheVariants.{Message, Parameter};
 ghost use Rattle.llrp_tree.specs.Tree.{forest};
 ghost use Rattle.llrp_tree.specs.Lawful as law;

@@ -1,7 +1,7 @@
 //! The header of a frame.
 
 ghost use Rattle.std.specs.Prelude.{◌≤◌, length, IfOk, IfErr};
-ghost use Rattle.llrp_tree.specs.Header.{HasHeader, HasHeaderFault, HasHeaderIn, HasHeaderFaultIn};
+ghost use Rattle.llrp_tree.specs.Calls.Header.{HasHeader, HasHeaderFault, HasHeaderIn, HasHeaderFaultIn};
 
 use crate::check::is_known_version;
 use crate::fault::fault_at;

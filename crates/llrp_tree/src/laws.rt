@@ -9,15 +9,17 @@ ghost use Rattle.llrp_schema.specs.declared.kinds.Profile.TheVariants.{Own};
 ghost use Rattle.llrp_schema.specs.declared.kinds.Tail.TheVariants.{Data};
 ghost use Rattle.llrp_schema.specs.Schema.{profile_of, tail_of};
 ghost use Rattle.llrp_tree.specs.Tree.{Forest, Tree, MessageTree};
-ghost use Rattle.llrp_tree.specs.Lawful.{AreOctets, AreLawful, AllLawful, IsLawfulMessage, own_octets, tree_octets, message_octets};
+ghost use Rattle.llrp_tree.specs.Lawful.{AreOctets, AreLawful, AllLawful, IsLawfulMessage, tree_octets, message_octets};
+ghost use Rattle.llrp_tree.specs.Calls.Lawful.{own_octets};
 ghost use Rattle.llrp_tree.specs.Checks.{first_fault, first_message_fault};
-ghost use Rattle.llrp_tree.specs.Spelling.{tree_digits};
+ghost use Rattle.llrp_tree.specs.Calls.Spelling.{tree_digits};
 ghost use Rattle.llrp_tree.specs.Frame.{Frame};
 ghost use Rattle.llrp_tree.specs.declared.TheConstants.{MAX_LIMIT};
-ghost use Rattle.llrp_tree.specs.Weight.{message_weight};
-ghost use Rattle.llrp_tree.specs.FrameLaws.{OpenTreesAgree, FramesApart};
-ghost use Rattle.llrp_tree.specs.Deciding.{FaultsAreDecided, NoneIsDecidedBefore};
-ghost use Rattle.llrp_tree.specs.GrowthLaws.{FieldGrows, TailGrows, TlvOpens, TvOpens, TlvCloses, TvCloses};
+ghost use Rattle.llrp_tree.specs.Calls.Weight.{message_weight};
+ghost use Rattle.llrp_tree.specs.Calls.FrameLaws.{OpenTreesAgree};
+ghost use Rattle.llrp_tree.specs.FrameLaws.{FramesApart};
+ghost use Rattle.llrp_tree.specs.Calls.Deciding.{FaultsAreDecided, NoneIsDecidedBefore};
+ghost use Rattle.llrp_tree.specs.Calls.GrowthLaws.{FieldGrows, TailGrows, TlvOpens, TvOpens, TlvCloses, TvCloses};
 
 /// Parts are lawful exactly if none of the ordered tests fails.
 #[tactic(auto, using(crate::proofs::LawLemmas::lawful_exactly, crate::proofs::LawLemmas::message_exactly))]

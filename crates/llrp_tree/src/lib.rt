@@ -1,7 +1,7 @@
 //! Lawful LLRP messages and parameters as trees, and the bytes that each spells.
 //!
 //! Use it to build messages and to send them, or to read a frame that is whole. A [`Message`] has parameters below it, each a
-//! [`Node`]; who holds one knows that all of it is lawful: fields in their ranges, children where the tables have them, lengths
+//! [`Node`]; a value of this type is lawful throughout: fields in their ranges, children where the tables have them, lengths
 //! and levels within their bounds. [`encode_into`] writes a message's one spelling, [`decode_frame`] reads it back or names the
 //! first fault with its bit.
 //!

@@ -26,7 +26,7 @@ pub struct Message {
 impl Model for Message {
     ghost use Rattle.std.specs.Prelude.{◌≡◌};
     ghost use Rattle.llrp_tree.specs.Tree.{MessageTree, forest};
-    ghost use Rattle.llrp_tree.specs.Stored.{message_code};
+    ghost use Rattle.llrp_tree.specs.Private.Stored.{message_code};
     ghost use Rattle.llrp_tree.specs.Lawful as law;
 
     ghost Value = { MessageTree };

@@ -2,9 +2,12 @@
 
 ghost use Rattle.std.specs.Prelude.{◌≡◌, ◌≤◌, ◌<◌, ◌*◌, ◌^◌, length, map, [], ◌∷◌, true};
 ghost use Rattle.std.specs.Str.{is_utf8};
-ghost use Rattle.llrp_schema.specs.Schema.{bits_of, field_rule, fields_of, tail_of};
+ghost use Rattle.llrp_schema.specs.Schema.{bits_of, fields_of, tail_of};
+ghost use Rattle.llrp_schema.specs.Calls.Schema.{field_rule};
 ghost use Rattle.llrp_tree.specs.declared.node.NodeFault.TheVariants.{Tail as BadTail, Value};
+ghost use Rattle.llrp_tree.specs.Calls.Lawful as law_calls;
 ghost use Rattle.llrp_tree.specs.Lawful as law;
+ghost use Rattle.llrp_tree.specs.Calls.Checks as checks_calls;
 ghost use Rattle.llrp_tree.specs.Checks as checks;
 
 use crate::NodeFault;
@@ -58,7 +61,7 @@ fn tail_fits(form: Tail, values: &[u128], tail: &[u8]) -> bool
 /// The first test that fails of a node's own values and tail: `Value`, then `Tail`. The tests of its
 /// children and of its length come after these.
 pub fn own_fault(kind: Kind, values: &[u128], tail: &[u8]) -> Option<NodeFault>
-    ensures { result ≡ checks.first_failed (checks.own_tests kind values.now tail.now) }
+    ensures { result ≡ checks.first_failed (checks_calls.own_tests kind values.now tail.now) }
 {
     if !values_fit(llrp_schema::fields(kind), values) {
         return Some(NodeFault::Value);
@@ -108,7 +111,7 @@ pub(crate) fn head_octets(kind: ParamKind) -> u128
 /// its tail, and the tail. A message has no tail.
 #[inline(always)]
 pub fn own_octets(kind: Kind, tail: &[u8]) -> u128
-    ensures value { result ≡ law.own_octets kind tail.now }
+    ensures value { result ≡ law_calls.own_octets kind tail.now }
     ensures bound { result < 2 ^ 101 }
 {
     match kind {

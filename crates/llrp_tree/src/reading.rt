@@ -5,7 +5,7 @@ ghost use Rattle.tag_bits.specs.Digits.{digits_of_bytes};
 ghost use Rattle.llrp_tree.specs.declared.TheConstants.{MAX_LIMIT};
 ghost use Rattle.llrp_tree.specs.Frame.{Frame};
 ghost use Rattle.llrp_tree.specs.FirstFault.{number};
-ghost use Rattle.llrp_tree.specs.Standing.{IsFirst, IsFirstIn};
+ghost use Rattle.llrp_tree.specs.FirstFault.{IsFirst, IsFirstIn};
 ghost use Rattle.llrp_schema.specs.declared.kinds.Kind.TheVariants.{Message as AsMessage};
 ghost use Rattle.llrp_schema.specs.Schema.{profile_of};
 

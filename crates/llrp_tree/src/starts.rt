@@ -4,12 +4,15 @@ ghost use Rattle.std.specs.Prelude.{◌≡◌, ◌≤◌, ◌<◌, ◌+◌, ◌-
 ghost use Rattle.tag_bits.specs.Digits.{digits};
 ghost use Rattle.llrp_schema.specs.declared.kinds.Kind.TheVariants.{Message as AsMessage, Parameter};
 ghost use Rattle.llrp_schema.specs.declared.kinds.Tail.TheVariants.{Absent, Text, Words};
-ghost use Rattle.llrp_schema.specs.Schema.{bits_of, field_rule, fields_of, tail_of};
-ghost use Rattle.llrp_tree.specs.Lawful.{count_octets, head_octets, own_octets};
+ghost use Rattle.llrp_schema.specs.Schema.{bits_of, fields_of, tail_of};
+ghost use Rattle.llrp_schema.specs.Calls.Schema.{field_rule};
+ghost use Rattle.llrp_tree.specs.Lawful.{count_octets, head_octets};
+ghost use Rattle.llrp_tree.specs.Calls.Lawful.{own_octets};
 ghost use Rattle.llrp_tree.specs.Checks.{values_fit};
 ghost use Rattle.llrp_tree.specs.Spelling.{head_of, head_digits, count_digits, message as message_head};
-ghost use Rattle.llrp_tree.specs.Spelled.{Holds, IsInFront, IsOnlyField, all_fields, leading_digits, message_start, message_start_digits, parameter_start, start_digits};
-ghost use Rattle.llrp_tree.specs.Writing.{is_sound};
+ghost use Rattle.llrp_tree.specs.Calls.Spelled.{Holds, IsInFront, IsOnlyField, all_fields, leading_digits, message_start, parameter_start};
+ghost use Rattle.llrp_tree.specs.Private.Spelled.{message_start_digits, start_digits};
+ghost use Rattle.llrp_tree.specs.Private.Writing.{is_sound};
 
 use crate::message::Message;
 use crate::node::Node;
@@ -305,8 +308,8 @@ pub fn parameter_start(kind: ParamKind, octets: u32, values: &[u128], tail: &[u8
     both_octets(head(kind, octets), leading_bits(kind, values, tail))
 }
 
-/// The same in front, with a length of 0, which leaves room for one that is not known yet, where
-/// these are at most sixteen octets.
+/// The octets of a parameter before its tail, in two numbers of 64 bits, with a length of 0: it
+/// leaves room for one that is not known yet.
 #[inline(always)]
 pub fn parameter_front(kind: ParamKind, values: &[u128], tail: &[u8]) -> Front
     requires short { own_octets (Parameter kind) [] ≤ 16 }
@@ -319,7 +322,8 @@ pub fn parameter_front(kind: ParamKind, values: &[u128], tail: &[u8]) -> Front
     in_front(parameter_bits(kind, 0, values, tail))
 }
 
-/// The same of a parameter that has neither fields nor a tail.
+/// All octets of a parameter that has neither fields nor a tail, in two numbers of 64 bits, with a
+/// length of 0.
 #[inline(always)]
 pub fn bare_front(kind: ParamKind) -> Front
     requires fields { fields_of (Parameter kind) ≡ [] }
@@ -361,7 +365,7 @@ pub fn tv_start(kind: ParamKind, rule: &Field, value: u128) -> Start
     as_octets(tv_bits(kind, rule, value))
 }
 
-/// The same in front.
+/// The octets of a parameter with type and value (TV), in two numbers of 64 bits.
 #[inline(always)]
 pub fn tv_front(kind: ParamKind, rule: &Field, value: u128) -> Front
     requires rule { IsOnlyField kind (field_rule rule.now) }
@@ -402,8 +406,8 @@ pub fn message_start(version: u8, kind: MsgKind, octets: u32, id: u32, values: &
     both_octets(header(version, kind, octets, id), fields)
 }
 
-/// The same in front, with a length of 0, which leaves room for one that is not known yet, where
-/// these are at most sixteen octets.
+/// The octets of a message before its parameters, in two numbers of 64 bits, with a length of 0: it
+/// leaves room for one that is not known yet.
 #[inline(always)]
 pub fn message_front(version: u8, kind: MsgKind, id: u32, values: &[u128]) -> Front
     requires short { own_octets (AsMessage kind) [] ≤ 16 }

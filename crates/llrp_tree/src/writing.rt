@@ -3,7 +3,7 @@
 ghost use Rattle.std.specs.Prelude.{◌≡◌, ◌≤◌, ◌<◌, ◌+◌, ◌-◌, [], ◌++◌, length, min, take, drop, IsTrue, ◌↔◌};
 ghost use Rattle.llrp_tree.specs.Tree.{forest};
 ghost use Rattle.llrp_tree.specs.Lawful.{levels};
-ghost use Rattle.llrp_tree.specs.Spelled.{rest_of, still_owed, following, spelled, AreDeep, Moves};
+ghost use Rattle.llrp_tree.specs.Private.Spelled.{rest_of, still_owed, following, spelled, AreDeep, Moves};
 ghost use Rattle.llrp_tree.specs.Frame.{Frame};
 ghost use Rattle.llrp_tree.specs.declared.TheConstants.{MAX_DEPTH, MAX_LIMIT};
 
@@ -36,7 +36,7 @@ pub struct Spelling<'a> {
 
 impl<'a> Model for Spelling<'a> {
     ghost use Rattle.std.specs.Prelude.{◌≡◌, ◌≤◌, ℕ, List, length};
-    ghost use Rattle.llrp_tree.specs.Spelled.{still_owed, AreDeep};
+    ghost use Rattle.llrp_tree.specs.Private.Spelled.{still_owed, AreDeep};
 
     ghost Value = { List ℕ };
 

@@ -2,7 +2,7 @@
 //! up to that call.
 
 ghost use Rattle.std.specs.Prelude.{IfOk};
-ghost use Rattle.llrp_session.specs.LawfulWords.{AddsRoSpec};
+ghost use Rattle.llrp_session.specs.Calls.LawfulWords.{AddsRoSpec};
 
 use crate::octets::{allow_growths, message_of, octets_of, print_octets, refuse_growths, spelled};
 use anyhow::{Context, Result, bail};

@@ -6,7 +6,8 @@ use Rattle.std.proofs.lemmas.List.{length-take, length-drop, drop-take, take-tak
 use Rattle.std.proofs.lemmas.Nat.{shr_below, and_mask, or_mod, or_shifted, shl_whole}
 use Rattle.std.proofs.lemmas.Nat.Bits.{ones_shr}
 use Rattle.std.proofs.lemmas.Slice.{take-put_mid, drop-put_mid}
-use Rattle.tag_bits.specs.Digits.{value, digits, digits_of_bytes, field, with_field}
+use Rattle.tag_bits.specs.Digits.{value, digits, digits_of_bytes, field}
+use Rattle.tag_bits.specs.Calls.Digits.{with_field}
 use Rattle.tag_bits.proofs.ByteLemmas.{length-bytes, bytes-cons, bytes-append, take-bytes, drop-bytes, take_within, drop_within}
 use Rattle.tag_bits.proofs.DigitLemmas.{length-digits, value-digits, value-below, value-append, digits_from, digits-join, digits-split, take-digits, value-drop, drop-seam}
 use Rattle.tag_bits.proofs.WordLemmas.{two_below, mask_is}

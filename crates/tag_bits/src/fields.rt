@@ -1,7 +1,8 @@
 //! Numbers of up to 128 bits anywhere among bytes.
 
 ghost use Rattle.std.specs.Prelude.{◌≡◌, ℕ, ◌+◌, ◌*◌, ◌^◌, ◌<◌, ◌≤◌, length};
-ghost use Rattle.tag_bits.specs.Digits.{value, digits, digits_of_bytes, field, with_field};
+ghost use Rattle.tag_bits.specs.Digits.{value, digits, digits_of_bytes, field};
+ghost use Rattle.tag_bits.specs.Calls.Digits.{with_field};
 
 use crate::octets::{fill, number_of, number_of_eight};
 use crate::parts::{part_of_eight, with_part};

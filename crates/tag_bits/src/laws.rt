@@ -1,7 +1,8 @@
 //! Laws of this crate's definitions, over every value.
 
 ghost use Rattle.std.specs.Prelude.{◌≡◌, ℕ, ◌^◌, ◌<◌, Bool, List};
-ghost use Rattle.tag_bits.specs.Digits.{digits, AreDigits};
+ghost use Rattle.tag_bits.specs.Digits.{digits};
+ghost use Rattle.tag_bits.specs.Calls.Digits.{AreDigits};
 
 /// Each number below 2 ^ w has exactly one list of w binary digits, the most significant first,
 /// whose sum of digits times powers of two is the number (LLRP 1.1 and TDS 1.13, binary encoding).

@@ -1,7 +1,8 @@
 //! Parts of a number of fewer than 128 bits; bit 0 is its most significant.
 
 ghost use Rattle.std.specs.Prelude.{◌≡◌, ℕ, ◌+◌, ◌*◌, ◌^◌, ◌<◌, ◌≤◌};
-ghost use Rattle.tag_bits.specs.Digits.{value, digits, field, with_field};
+ghost use Rattle.tag_bits.specs.Digits.{value, digits, field};
+ghost use Rattle.tag_bits.specs.Calls.Digits.{with_field};
 
 /// The number of the `width` bits from bit `place` on, out of `total` bits.
 pub fn part_of(number: u128, total: u32, place: u32, width: u32) -> u128

@@ -10,10 +10,12 @@ use Rattle.tag_epc.specs.declared.check.Number.TheVariants.{Company, Reference, 
 use Rattle.tag_epc.specs.declared.epc.Parts.TheVariants.{Partitioned, General}
 use Rattle.tag_epc.specs.declared.fault.WordReason.TheVariants as word
 use Rattle.tag_epc.specs.declared.fault.WordFault.{WordFault}
-use Rattle.tag_epc.specs.Layout.{Layout, is_sound, layout_of, header_of, row_at, plain, leading_segments, gid_header, gid_segments}
+use Rattle.tag_epc.specs.Layout.{Layout, layout_of, header_of, row_at, plain, leading_segments, gid_header, gid_segments}
+use Rattle.tag_epc.specs.Calls.Layout.{is_sound}
 use Rattle.tag_epc.specs.LawfulWord.{fill, Fits, AllFit, spell, HasPartition, IsLawful, Spells}
-use Rattle.tag_epc.specs.Faults.{FirstUnfit, HasUnfit, HasUnfitAt, HasFault, Fails, place_of}
-use Rattle.tag_epc.specs.Numbers.{place_of_number}
+use Rattle.tag_epc.specs.Faults.{FirstUnfit, HasUnfitAt, HasFault, Fails, place_of}
+use Rattle.tag_epc.specs.Calls.Faults.{HasUnfit}
+use Rattle.tag_epc.specs.Private.Numbers.{place_of_number}
 use Rattle.tag_epc.proofs.Soundness.{IsSound, sound}
 use Rattle.tag_epc.proofs.UnfitLemmas.{numbers, fits_plain}
 use Rattle.tag_epc.proofs.OneReading.{row_fields, one_fields}

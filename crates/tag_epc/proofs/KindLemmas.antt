@@ -4,7 +4,8 @@ use Rattle.std.proofs.lemmas.Bool.{ltb-true}
 use Rattle.std.specs.Prelude.{slice_get}
 use Rattle.tag_epc.specs.declared.kind.Kind.{Kind}
 use Rattle.tag_epc.specs.declared.kind.Kind.TheVariants.{Sgtin}
-use Rattle.tag_epc.specs.Layout.{every_kind, header_of}
+use Rattle.tag_epc.specs.Private.Layout.{every_kind}
+use Rattle.tag_epc.specs.Layout.{header_of}
 
 -- how many kinds come before the one with a header
 abbrev pub place_in : List Kind → ℕ → ℕ

@@ -15,7 +15,8 @@ use Rattle.tag_epc.specs.declared.fault.WordReason.TheVariants as word
 use Rattle.tag_epc.specs.declared.fault.WordFault.{WordFault}
 use Rattle.tag_epc.specs.Layout.{Layout, layout_of, header_of, row_at, plain, leading_segments, number_segments}
 use Rattle.tag_epc.specs.LawfulWord.{Field, fill, spell, AllFit, HasPartition, HasFields, IsLawful, IsLawfulWord, kind_of}
-use Rattle.tag_epc.specs.Faults.{FirstUnfit, HasUnfit, HasEpcFault, HasNoScheme, HasNoRow, HasUnfitAt, Fails, place_of, AllRead, HasWordFault}
+use Rattle.tag_epc.specs.Faults.{FirstUnfit, HasNoScheme, HasNoRow, HasUnfitAt, Fails, place_of, AllRead, HasWordFault}
+use Rattle.tag_epc.specs.Calls.Faults.{HasUnfit, HasEpcFault}
 use Rattle.tag_epc.proofs.Soundness.{layout_sound}
 use Rattle.tag_epc.proofs.FieldLemmas.{all_read, fit_or_unfit, one_unfit, same_part, same_numbers}
 use Rattle.tag_epc.proofs.OneReading.{header_below, header_is, Begins, header_first, fields_begin, spell-append, one_beginning, one_fields, one_reading}

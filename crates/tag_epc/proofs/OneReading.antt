@@ -11,7 +11,8 @@ use Rattle.tag_epc.specs.declared.kind.Kind.TheVariants.{Gid}
 use Rattle.tag_epc.specs.declared.epc.Parts.{Parts}
 use Rattle.tag_epc.specs.declared.epc.Parts.TheVariants.{Partitioned, General}
 use Rattle.tag_epc.proofs.KindLemmas.{listed, place_in}
-use Rattle.tag_epc.specs.Layout.{every_kind, Layout, layout_of, header_of, row_at, leading_segments, number_segments, gid_segments, gid_header}
+use Rattle.tag_epc.specs.Private.Layout.{every_kind}
+use Rattle.tag_epc.specs.Layout.{Layout, layout_of, header_of, row_at, leading_segments, number_segments, gid_segments, gid_header}
 use Rattle.tag_epc.specs.LawfulWord.{Field, fill, spell, HasFields, IsLawful, Spells, HasWord, kind_of}
 use Rattle.tag_epc.specs.Faults.{AllRead}
 use Rattle.tag_epc.proofs.Soundness.{layout_sound}

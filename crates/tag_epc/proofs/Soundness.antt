@@ -5,7 +5,8 @@ use Rattle.std.proofs.lemmas.Bool.{leb-true, eqb-true}
 use Rattle.tag_epc.specs.declared.scheme.Row.{Row}
 use Rattle.tag_epc.specs.declared.kind.Kind.{Kind}
 use Rattle.tag_epc.specs.declared.kind.Kind.TheVariants.{Gid}
-use Rattle.tag_epc.specs.Layout.{Layout, row_at, row_is_sound, rows_are_sound, is_sound, layout_of}
+use Rattle.tag_epc.specs.Layout.{Layout, row_at, layout_of}
+use Rattle.tag_epc.specs.Calls.Layout.{row_is_sound, rows_are_sound, is_sound}
 
 -- a row's segments fill the word, and each number of its decimal digits has as many binary digits
 pub record FitsRow (l : Layout) (p : ℕ) (r : Row) : Type 0 where

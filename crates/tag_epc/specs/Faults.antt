@@ -1,11 +1,8 @@
 -- The first fault of a word that no EPC has, and of numbers that are no EPC's.
-use Rattle.std.specs.Prelude.{◌≡◌, ◌≢◌, ℕ, ◌^◌, ◌<◌, ◌≤◌, List, Bool, [], ◌∷◌, ◌++◌, length, take, Some, None, slice_get, codes}
+use Rattle.std.specs.Prelude.{◌≡◌, ◌≢◌, ℕ, ◌^◌, ◌<◌, List, Bool, [], ◌∷◌, ◌++◌, length, take, Some, None, slice_get, codes}
 use Rattle.tag_bits.specs.Digits.{word_digits}
 use Rattle.tag_epc.specs.declared.kind.Kind.{Kind}
 use Rattle.tag_epc.specs.declared.epc.Parts.{Parts}
-use Rattle.tag_epc.specs.declared.epc.Parts.TheVariants.{Partitioned, General}
-use Rattle.tag_epc.specs.declared.fault.EpcFault.{EpcFault}
-use Rattle.tag_epc.specs.declared.fault.EpcFault.TheVariants as epc
 use Rattle.tag_epc.specs.declared.fault.WordReason.{WordReason}
 use Rattle.tag_epc.specs.declared.fault.WordReason.TheVariants as word
 use Rattle.tag_epc.specs.declared.fault.WordFault.{WordFault}
@@ -18,25 +15,6 @@ pub record FirstUnfit (fields : List Field) (place : ℕ) : Type 0 where
   pub stands : slice_get fields place ≡ Some unfit
   pub before : AllFit (take place fields)
   pub fails : ¬ Fits unfit
-
--- the first number of an EPC that does not fit is the one at `place` of its fields
-pub record HasUnfit (epc : Parts) (place : ℕ) : Type 0 where
-  pub fields : List Field
-  pub has : HasFields epc fields
-  pub first : FirstUnfit fields place
-
--- the first check that numbers fail: filter value, digits of the company prefix, company prefix, reference, last segment
-abbrev pub HasEpcFault : Parts → EpcFault → Type 0
-HasEpcFault (Partitioned kind filter company_digits company reference last) epc.Filter = 8 ≤ filter
-HasEpcFault (Partitioned kind filter company_digits company reference last) epc.Digits = (filter < 8) × ¬ ((6 ≤ company_digits) × (company_digits ≤ 12))
-HasEpcFault (Partitioned kind filter company_digits company reference last) epc.Prefix = HasUnfit (Partitioned kind filter company_digits company reference last) 3
-HasEpcFault (Partitioned kind filter company_digits company reference last) epc.Reference = HasUnfit (Partitioned kind filter company_digits company reference last) 4
-HasEpcFault (Partitioned kind filter company_digits company reference last) epc.Last = HasUnfit (Partitioned kind filter company_digits company reference last) 5
-HasEpcFault (General manager object_class serial) epc.Filter = ⊥
-HasEpcFault (General manager object_class serial) epc.Digits = ⊥
-HasEpcFault (General manager object_class serial) epc.Prefix = HasUnfit (General manager object_class serial) 1
-HasEpcFault (General manager object_class serial) epc.Reference = HasUnfit (General manager object_class serial) 2
-HasEpcFault (General manager object_class serial) epc.Last = HasUnfit (General manager object_class serial) 3
 
 -- the fields after the header of a word are a filter value and a partition value that has no row
 pub record HasNoRow (fields : List Field) : Type 0 where

@@ -1,5 +1,5 @@
 -- The segments of 96-bit EPCs. Source: EPC Tag Data Standard 1.13, section 14.5, "EPC Binary coding tables".
-use Rattle.std.specs.Prelude.{ℕ, ◌+◌, ◌^◌, nat_le, ◌==◌, ◌&&◌, Bool, true, false, List, [], ◌∷◌, length, Option, Some, None, option_map, unwrap_or, slice_get, codes}
+use Rattle.std.specs.Prelude.{ℕ, Bool, true, false, List, [], ◌∷◌, Option, Some, None, option_map, unwrap_or, slice_get, codes}
 use Rattle.tag_epc.specs.declared.kind.Kind.{Kind}
 use Rattle.tag_epc.specs.declared.kind.Kind.TheVariants.{Sgtin, Sscc, Sgln, Grai, Gdti, Gsrn, Gid}
 use Rattle.tag_epc.specs.declared.scheme.Row.{Row}
@@ -107,10 +107,6 @@ layout_of Gdti = Some gdti_96
 layout_of Gsrn = Some gsrn_96
 layout_of Gid = None
 
--- each scheme once
-abbrev pub every_kind : List Kind
-every_kind = Sgtin ∷ Sscc ∷ Sgln ∷ Grai ∷ Gdti ∷ Gsrn ∷ Gid ∷ []
-
 -- the row of a partition value, for those that there are
 abbrev pub row_at : Layout → ℕ → Option Row
 row_at l p = slice_get l.rows p
@@ -147,20 +143,3 @@ header_of k = unwrap_or (option_map (λ l. l.header) (layout_of k)) gid_header
 -- a scheme's name in tag URIs
 abbrev pub name_of : Kind → List ℕ
 name_of k = unwrap_or (option_map (λ l. l.name) (layout_of k)) (codes "gid-96")
-
--- whether a row's segments fill the word, and each number of its decimal digits has as many binary digits
-abbrev pub row_is_sound : Layout → ℕ → Row → Bool
-row_is_sound l p r =
-    (8 + 3 + 3 + r.company_bits + r.reference_bits + l.last_bits == 96)
-    && nat_le (10 ^ r.company_digits) (2 ^ r.company_bits)
-    && nat_le (10 ^ r.reference_digits) (2 ^ r.reference_bits)
-    && (r.company_digits + p == 12) && nat_le r.reference_digits 12
-
--- whether the rows from a partition value on are sound
-abbrev pub rows_are_sound : Layout → ℕ → List Row → Bool
-rows_are_sound l p [] = true
-rows_are_sound l p (r ∷ rs) = row_is_sound l p r && rows_are_sound l (p + 1) rs
-
--- whether a layout has a header of eight bits, and seven sound rows
-abbrev pub is_sound : Layout → Bool
-is_sound l = nat_le l.header 255 && (length l.rows == 7) && nat_le l.last_bits 63 && rows_are_sound l 0 l.rows

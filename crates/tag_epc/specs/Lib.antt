@@ -1,4 +1,5 @@
 pub mod Layout
 pub mod LawfulWord
 pub mod Faults
-pub mod Numbers
+pub mod Calls
+pub mod Private

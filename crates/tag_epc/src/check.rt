@@ -3,8 +3,9 @@
 ghost use Rattle.std.specs.Prelude.{◌≡◌, ◌≢◌, ◌↔◌, ℕ, [], ◌∷◌, Some, IsTrue, IfOk, IfErr, MatchOption};
 ghost use Rattle.tag_epc.specs.Layout.{layout_of, row_at, last_segment, number_segments};
 ghost use Rattle.tag_epc.specs.LawfulWord.{fill, Fits, AllFit, IsLawful};
-ghost use Rattle.tag_epc.specs.Faults.{FirstUnfit, HasEpcFault};
-ghost use Rattle.tag_epc.specs.Numbers.{place_of_number};
+ghost use Rattle.tag_epc.specs.Faults.{FirstUnfit};
+ghost use Rattle.tag_epc.specs.Calls.Faults.{HasEpcFault};
+ghost use Rattle.tag_epc.specs.Private.Numbers.{place_of_number};
 
 use crate::at_scheme;
 use crate::epc::Parts;
@@ -89,7 +90,7 @@ pub fn checked<S: Scheme>(
     }
 }
 
-/// The same, for the scheme of a kind.
+/// The parts of an EPC of the scheme of a kind, or the first one that fails.
 pub fn checked_at(
     kind: Kind,
     filter: u8,

@@ -52,7 +52,8 @@ impl Model for Epc {
 
 impl Epc {
     ghost use Rattle.tag_epc.specs.LawfulWord.{IsLawful, IsLawfulWord, HasWord, kind_of};
-    ghost use Rattle.tag_epc.specs.Faults.{HasEpcFault, HasWordFault};
+    ghost use Rattle.tag_epc.specs.Calls.Faults.{HasEpcFault};
+    ghost use Rattle.tag_epc.specs.Faults.{HasWordFault};
 
     /// The EPC of a scheme with a company prefix of this many digits. `reference` is the part after
     /// the prefix, and `last` the serial number or extension, or 0 if the word ends in zeros.

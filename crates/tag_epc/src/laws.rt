@@ -5,7 +5,8 @@ ghost use Rattle.tag_epc.specs.declared.epc.Parts.{Parts};
 ghost use Rattle.tag_epc.specs.declared.fault.EpcFault.{EpcFault};
 ghost use Rattle.tag_epc.specs.declared.fault.WordFault.{WordFault};
 ghost use Rattle.tag_epc.specs.LawfulWord.{HasWord, IsLawful, IsLawfulWord};
-ghost use Rattle.tag_epc.specs.Faults.{HasEpcFault, HasWordFault};
+ghost use Rattle.tag_epc.specs.Calls.Faults.{HasEpcFault};
+ghost use Rattle.tag_epc.specs.Faults.{HasWordFault};
 
 /// A lawful EPC has one word, and a lawful word one EPC.
 pub fn one_word_one_epc()

@@ -16,7 +16,8 @@ pub struct Row {
 /// A scheme with a company prefix: its word is a header of 8 bits, a filter value of 3, a partition
 /// value of 3, company prefix and reference by the partition value's row, and a last segment.
 pub trait Scheme {
-    ghost use Rattle.tag_epc.specs.Layout.{Layout, row_at, is_sound};
+    ghost use Rattle.tag_epc.specs.Layout.{Layout, row_at};
+    ghost use Rattle.tag_epc.specs.Calls.Layout.{is_sound};
 
     ghost layout: { Layout };
 

@@ -7,7 +7,7 @@ use Rattle.tag_uri.specs.TagText.{components, is_strange as strange}
 use Rattle.std.proofs.lemmas.Str.Parse.{tells_all_ascii_digits}
 use Rattle.std.specs.Str.{all_ascii_digits}
 use Rattle.std.specs.Char.{is_ascii_digit}
-use Rattle.tag_uri.specs.Decimal.{AreDigits}
+use Rattle.tag_uri.specs.Calls.Decimal.{AreDigits}
 
 module _ (p : ℕ → Bool) where
   alone : (xs : List ℕ) → position_or_len p xs ≡ length xs → slice_split p xs ≡ xs ∷ []

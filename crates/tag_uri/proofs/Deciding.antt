@@ -10,7 +10,9 @@ use Rattle.tag_epc.specs.declared.kind.Kind.TheVariants.{Gid}
 use Rattle.tag_epc.specs.declared.scheme.Row.{Row}
 use Rattle.tag_epc.specs.declared.epc.Parts.{Parts}
 use Rattle.tag_epc.specs.declared.epc.Parts.TheVariants.{Partitioned, General}
-use Rattle.tag_epc.specs.Layout.{Layout, every_kind, layout_of, row_at, is_sound}
+use Rattle.tag_epc.specs.Layout.{Layout, layout_of, row_at}
+use Rattle.tag_epc.specs.Private.Layout.{every_kind}
+use Rattle.tag_epc.specs.Calls.Layout.{is_sound}
 use Rattle.tag_epc.proofs.KindLemmas.{below as within, listed, place_of}
 use Rattle.tag_epc.specs.LawfulWord.{IsLawful, HasWord, spell}
 use Rattle.tag_epc.proofs.OneReading.{has_word as lawful_word, one_fields}

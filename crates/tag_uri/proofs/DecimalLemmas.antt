@@ -9,7 +9,8 @@ use Rattle.std.proofs.lemmas.Str.Parse.{IsDigitsTest, IsNumeralModel, WeighsDigi
 use Rattle.std.specs.Str.Parse.{ParsesUnsigned}
 use Rattle.std.proofs.lemmas.Bool.{cases_lt, lt-ltb, eq-eqb}
 use Rattle.std.specs.Prelude.{replicate, true, false, nat_lt, ◌==◌}
-use Rattle.tag_uri.specs.Decimal.{AreDigits, decimal_value, padded, IsPadded, IsPlain}
+use Rattle.tag_uri.specs.Calls.Decimal.{AreDigits, IsPadded, IsPlain}
+use Rattle.tag_uri.specs.Decimal.{decimal_value, padded}
 use Rattle.tag_uri.specs.TagText.{is_zero_led}
 
 weighs : WeighsDigits decimal_value

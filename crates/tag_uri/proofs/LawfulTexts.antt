@@ -9,10 +9,12 @@ use Rattle.std.proofs.Math.Nat.{pow-le-pow_right}
 use Rattle.tag_epc.specs.declared.kind.Kind.{Kind}
 use Rattle.tag_epc.specs.declared.scheme.Row.{Row}
 use Rattle.tag_epc.specs.declared.epc.Parts.TheVariants.{Partitioned, General}
-use Rattle.tag_epc.specs.Layout.{Layout, layout_of, is_sound}
+use Rattle.tag_epc.specs.Layout.{Layout, layout_of}
+use Rattle.tag_epc.specs.Calls.Layout.{is_sound}
 use Rattle.tag_epc.specs.LawfulWord.{IsLawful}
 use Rattle.tag_epc.proofs.Soundness.{sound as is_sound_layout}
-use Rattle.tag_uri.specs.Decimal.{AreDigits, decimal_value, padded, plain}
+use Rattle.tag_uri.specs.Calls.Decimal.{AreDigits}
+use Rattle.tag_uri.specs.Decimal.{decimal_value, padded, plain}
 use Rattle.tag_uri.specs.TagText.{Form, Filter, Company, Reference, Number, refusal, first_rule, forms_of, is_strange, is_zero_led, is_no_filter, is_no_row, reference_digits, partitioned_components}
 use Rattle.tag_uri.proofs.DecimalLemmas.{digits-padded, length-padded, value-padded, mod_small, plain_is, no_zero}
 use Rattle.tag_uri.proofs.ReadLemmas.{FitsLast, bool_cases}

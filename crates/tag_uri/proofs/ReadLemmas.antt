@@ -8,13 +8,15 @@ use Rattle.std.proofs.lemmas.Nat.{pow_pos}
 use Rattle.tag_epc.specs.declared.kind.Kind.{Kind}
 use Rattle.tag_epc.specs.declared.scheme.Row.{Row}
 use Rattle.tag_epc.specs.declared.epc.Parts.TheVariants.{Partitioned}
-use Rattle.tag_epc.specs.Layout.{Layout, layout_of, is_sound, number_segments}
+use Rattle.tag_epc.specs.Layout.{Layout, layout_of, number_segments}
+use Rattle.tag_epc.specs.Calls.Layout.{is_sound}
 use Rattle.tag_epc.specs.LawfulWord.{IsLawful, fill, AllFit}
 use Rattle.tag_epc.proofs.Soundness.{sound as is_sound_layout}
 use Rattle.tag_uri.specs.declared.partitioned.Components.{Components}
-use Rattle.tag_uri.specs.Decimal.{AreDigits, decimal_value, padded, plain}
+use Rattle.tag_uri.specs.Calls.Decimal.{AreDigits}
+use Rattle.tag_uri.specs.Decimal.{decimal_value, padded, plain}
 use Rattle.tag_uri.specs.TagText.{Number, some_component, is_stray, has_leading_zero, is_strange, is_zero_led, is_no_filter, reference_digits, partitioned_components}
-use Rattle.tag_uri.specs.ComponentForms.{texts_of, forms_with, LastIs}
+use Rattle.tag_uri.specs.Private.ComponentForms.{texts_of, forms_with, LastIs}
 use Rattle.tag_uri.proofs.ComponentLemmas.{digits_of_not_strange}
 use Rattle.tag_uri.proofs.DecimalLemmas.{plain_text}
 use Rattle.tag_uri.proofs.RowDigits.{RowOf, row_fits, reference_digits-at, not_false}

@@ -3,7 +3,8 @@ use Rattle.std.proofs.Common.{◌≡◌, ℕ, zero, suc, ◌+◌, ◌-◌, ◌<�
 use Rattle.std.specs.Prelude.{◌==◌, ◌⊎◌, slice_get, option_map}
 use Rattle.std.proofs.lemmas.Bool.{eqb-true, ne_eqb, eq-eqb, cases_lt}
 use Rattle.tag_epc.specs.declared.scheme.Row.{Row}
-use Rattle.tag_epc.specs.Layout.{Layout, row_at, is_sound}
+use Rattle.tag_epc.specs.Layout.{Layout, row_at}
+use Rattle.tag_epc.specs.Calls.Layout.{is_sound}
 use Rattle.tag_epc.proofs.Soundness.{FitsRow, sound as is_sound_layout}
 use Rattle.tag_uri.specs.TagText.{reference_digits, is_no_row}
 

@@ -10,7 +10,7 @@ use Rattle.tag_uri.specs.declared.fault.UriFault.TheVariants as fault
 use Rattle.tag_uri.specs.declared.partitioned.Components.{Components}
 use Rattle.tag_uri.specs.TagText.{Form, Filter, Company, Reference, Number, forms_of, refusal, first_rule, some_component, is_stray, has_leading_zero, is_wrong_filter, has_wrong_digits, is_over, is_no_filter, is_no_row, is_strange, is_zero_led}
 use Rattle.tag_uri.specs.Decimal.{decimal_value}
-use Rattle.tag_uri.specs.ComponentForms.{texts_of}
+use Rattle.tag_uri.specs.Private.ComponentForms.{texts_of}
 
 abbrev Last : Type 0
 Last = Option (Bor (List ℕ))

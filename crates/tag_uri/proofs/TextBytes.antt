@@ -9,7 +9,7 @@ use Rattle.tag_epc.specs.declared.kind.Kind.TheVariants.{Sgtin}
 use Rattle.tag_epc.specs.declared.epc.Parts.{Parts}
 use Rattle.tag_epc.specs.Layout.{name_of}
 use Rattle.tag_epc.specs.LawfulWord.{IsLawful, kind_of}
-use Rattle.tag_uri.specs.Decimal.{AreDigits}
+use Rattle.tag_uri.specs.Calls.Decimal.{AreDigits}
 use Rattle.tag_uri.specs.Hexadecimal.{hexadecimal, is_upper_digit}
 use Rattle.tag_uri.specs.TagText.{tag_uri, components_of, raw_uri, IsTextOf}
 use Rattle.tag_uri.proofs.HexadecimalLemmas.{word_digits_of}

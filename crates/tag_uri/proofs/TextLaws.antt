@@ -10,13 +10,16 @@ use Rattle.tag_epc.specs.declared.kind.Kind.{Kind}
 use Rattle.tag_epc.specs.declared.kind.Kind.TheVariants.{Sgtin, Gid}
 use Rattle.tag_epc.specs.declared.epc.Parts.{Parts}
 use Rattle.tag_epc.specs.declared.epc.Parts.TheVariants.{Partitioned, General}
-use Rattle.tag_epc.specs.Layout.{Layout, every_kind, layout_of, name_of, is_sound}
+use Rattle.tag_epc.specs.Layout.{Layout, layout_of, name_of}
+use Rattle.tag_epc.specs.Private.Layout.{every_kind}
+use Rattle.tag_epc.specs.Calls.Layout.{is_sound}
 use Rattle.tag_epc.specs.LawfulWord.{IsLawful, HasWord, kind_of}
 use Rattle.tag_bits.specs.Digits.{word_digits}
 use Rattle.tag_epc.proofs.OneReading.{one_word, one_epc}
 use Rattle.tag_uri.specs.declared.fault.UriFault.{UriFault}
 use Rattle.tag_uri.specs.declared.fault.UriFault.TheVariants as fault
-use Rattle.tag_uri.specs.Decimal.{AreDigits, padded, plain}
+use Rattle.tag_uri.specs.Calls.Decimal.{AreDigits}
+use Rattle.tag_uri.specs.Decimal.{padded, plain}
 use Rattle.tag_uri.specs.Hexadecimal.{hexadecimal}
 use Rattle.tag_uri.specs.TagText.{tag_uri, tag_start, scheme_text, components, components_of, partitioned_components, reference_digits, refusal, first_rule, HasTagFault, HasWrongComponents, raw_uri, raw_start, raw_length, IsTextOf, AreWordDigits, HasRawFault, HasFault}
 use Rattle.tag_uri.proofs.ComponentLemmas.{joined}

@@ -12,7 +12,8 @@ use Rattle.tag_epc.specs.declared.scheme.Row.{Row}
 use Rattle.tag_epc.specs.declared.epc.Parts.TheVariants.{Partitioned, General}
 use Rattle.tag_epc.specs.Layout.{Layout, layout_of, name_of}
 use Rattle.tag_epc.specs.LawfulWord.{IsLawful, kind_of}
-use Rattle.tag_uri.specs.Decimal.{AreDigits, padded, plain}
+use Rattle.tag_uri.specs.Calls.Decimal.{AreDigits}
+use Rattle.tag_uri.specs.Decimal.{padded, plain}
 use Rattle.tag_uri.specs.Hexadecimal.{hexadecimal, is_upper_digit}
 use Rattle.tag_uri.specs.TagText.{IsTextOf, tag_uri, raw_uri, components_of, reference_digits}
 use Rattle.tag_uri.proofs.DecimalLemmas.{length-padded}

@@ -13,7 +13,8 @@ use Rattle.tag_epc.specs.declared.kind.Kind.TheVariants.{Gid}
 use Rattle.tag_epc.specs.declared.scheme.Row.{Row}
 use Rattle.tag_epc.specs.declared.epc.Parts.{Parts}
 use Rattle.tag_epc.specs.declared.epc.Parts.TheVariants.{Partitioned, General}
-use Rattle.tag_epc.specs.Layout.{Layout, layout_of, name_of, row_at, is_sound}
+use Rattle.tag_epc.specs.Layout.{Layout, layout_of, name_of, row_at}
+use Rattle.tag_epc.specs.Calls.Layout.{is_sound}
 use Rattle.tag_uri.specs.Decimal.{padded, plain}
 use Rattle.tag_uri.specs.Room.{HasText}
 use Rattle.tag_epc.specs.LawfulWord.{IsLawful}

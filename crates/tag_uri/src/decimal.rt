@@ -1,7 +1,8 @@
 //! Reads decimal numbers.
 
 ghost use Rattle.std.specs.Prelude.{◌≡◌, ℕ, ◌^◌, ◌<◌, ◌≤◌, length, MatchOption};
-ghost use Rattle.tag_uri.specs.Decimal.{AreDigits, decimal_value, padded};
+ghost use Rattle.tag_uri.specs.Calls.Decimal.{AreDigits};
+ghost use Rattle.tag_uri.specs.Decimal.{decimal_value, padded};
 
 /// The number of a text of digits, if it has at most `width` bits.
 pub fn number_below(text: &str, width: u32) -> Option<u64>

@@ -4,7 +4,8 @@ ghost use Rattle.std.specs.Prelude.{◌≡◌, ℕ, ◌^◌, ◌<◌, ◌≤◌,
 ghost use Rattle.tag_epc.specs.declared.epc.Parts.{Parts};
 ghost use Rattle.tag_epc.specs.LawfulWord.{IsLawful};
 ghost use Rattle.tag_uri.specs.declared.fault.UriFault.{UriFault};
-ghost use Rattle.tag_uri.specs.Decimal.{padded, plain, IsPadded, IsPlain};
+ghost use Rattle.tag_uri.specs.Decimal.{padded, plain};
+ghost use Rattle.tag_uri.specs.Calls.Decimal.{IsPadded, IsPlain};
 ghost use Rattle.tag_uri.specs.TagText.{tag_uri, HasTagFault, HasFault, IsTextOf};
 
 /// A number below 10 ^ k has exactly one text of k digits whose sum of digits times powers of ten

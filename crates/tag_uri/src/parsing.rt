@@ -43,7 +43,8 @@ fn read(text: &str) -> Result<Parts, UriFault>
     }
 }
 
-/// The same, looking at each rule in turn.
+/// The parts of the EPC that a text is the tag URI of, or the first rule that refuses it; looks at
+/// each rule in turn.
 #[inline(never)]
 fn read_by_rules(text: &str) -> Result<Parts, UriFault>
     ensures lawful { IfOk result (λ parts. IsLawful parts) }

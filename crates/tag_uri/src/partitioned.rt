@@ -4,7 +4,7 @@ ghost use Rattle.std.specs.Prelude.{◌≡◌, ◌≢◌, if◌then◌else◌, �
 ghost use Rattle.tag_epc.specs.Layout.{layout_of};
 ghost use Rattle.tag_epc.specs.LawfulWord.{IsLawful, kind_of};
 ghost use Rattle.tag_uri.specs.TagText.{components, components_of, refusal, some_component, is_stray as stray, has_leading_zero as leading_zero, is_over as over};
-ghost use Rattle.tag_uri.specs.ComponentForms.{texts_of, forms_with, LastIs};
+ghost use Rattle.tag_uri.specs.Private.ComponentForms.{texts_of, forms_with, LastIs};
 
 use crate::components::{four, three};
 use crate::decimal::{number_below, number_of};

@@ -2,8 +2,8 @@
 //! in one call, and a script of three sightings.
 //!
 //! Use it in tests of calls over a source and a sink. [`Pieces`] gives a stream in pieces of one length after a first piece, and
-//! [`Room`] takes what fits into a fixed size; [`Dripping`] and [`Taking`] go an octet a call and [`Lines`] a line, and fail in the call
-//! of a number.
+//! [`Room`] takes what fits into a fixed size; [`Dripping`] and [`Taking`] move one octet a call and [`Lines`] a line, and fail in
+//! the n-th.
 #![tactic(auto)]
 
 mod sightings;

@@ -1,7 +1,7 @@
 //! Sinks that take little a call, or have room for so much.
 
 ghost use Rattle.std.specs.Prelude.{◌≡◌, [], IfOk, None, Some};
-ghost use Rattle.llrp_stream.specs.Device.{new_sink};
+ghost use Rattle.llrp_stream.specs.Calls.Device.{new_sink};
 
 use llrp_stream::Sink;
 use std::alloc::{AllocError, Global};

@@ -1,7 +1,7 @@
 //! Sources that give little a call.
 
 ghost use Rattle.std.specs.Prelude.{◌≡◌, None};
-ghost use Rattle.llrp_stream.specs.Device.{new_source};
+ghost use Rattle.llrp_stream.specs.Calls.Device.{new_source};
 
 use llrp_stream::Source;
 use std::io;

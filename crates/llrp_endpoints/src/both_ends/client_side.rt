@@ -3,7 +3,7 @@
 ghost use Rattle.std.specs.Prelude.{◌≡◌, ◌≤◌, ◌<◌, ◌^◌, [], OnOk};
 ghost use Rattle.llrp_stream.specs.Device.{SinkLog, SourceLog};
 ghost use Rattle.llrp_tree.specs.declared.TheConstants.{MAX_LIMIT};
-ghost use Rattle.llrp_endpoints.specs.EndsStand.{ClientHears, ClientStands, Given, HasRoom};
+ghost use Rattle.llrp_endpoints.specs.Private.EndsStand.{ClientHears, ClientStands, Given, HasRoom};
 ghost use Rattle.llrp_endpoints.specs.RunLoop.{Ends, Traffic};
 
 use super::pieces::read_piece;

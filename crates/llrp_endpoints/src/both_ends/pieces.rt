@@ -2,7 +2,7 @@
 
 ghost use Rattle.std.specs.Prelude.{◌≡◌, ◌<◌, ◌≤◌, ◌^◌, ◌+◌, ◌++◌, [], IfErr, IfOk, List, OnOk, drop, length, take, ℕ};
 ghost use Rattle.llrp_stream.specs.Device.{SourceLog, WroteAndFailed};
-ghost use Rattle.llrp_endpoints.specs.EndsStand.{Given, HasRoom, ReadsNone, WritesPiece};
+ghost use Rattle.llrp_endpoints.specs.Private.EndsStand.{Given, HasRoom, ReadsNone, WritesPiece};
 ghost use Rattle.llrp_listing.specs.declared.fault.ToolErr.TheVariants.{Write};
 
 use llrp_listing::{MOST_READS, READ_SIZE, ToolErr};

@@ -2,11 +2,11 @@
 
 ghost use Rattle.std.specs.Prelude.{◌≡◌, ◌<◌, ◌≤◌, [], IfErr, IfOk, List, OnOk, ℕ};
 ghost use Rattle.llrp_stream.specs.Device.{SourceLog};
-ghost use Rattle.llrp_endpoints.specs.EndsStand.{Given, HasRoom, ReaderHears, ReaderStands};
+ghost use Rattle.llrp_endpoints.specs.Private.EndsStand.{Given, HasRoom, ReaderHears, ReaderStands};
 ghost use Rattle.llrp_endpoints.specs.RunLoop.{Ends, Traffic};
 ghost use Rattle.llrp_endpoints.specs.RunServe.{BeginsFrames};
 ghost use Rattle.llrp_endpoints.specs.Serving.{IsNewReader};
-ghost use Rattle.llrp_endpoints.specs.ServingStands.{HasStarted};
+ghost use Rattle.llrp_endpoints.specs.Calls.ServingStands.{HasStarted};
 ghost use Rattle.llrp_listing.specs.declared.fault.ToolErr.TheVariants.{Memory};
 
 use super::pieces::read_piece;

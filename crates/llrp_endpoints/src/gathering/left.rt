@@ -1,7 +1,8 @@
 //! The commands of a plan that are not sent yet.
 
 ghost use Rattle.std.specs.Prelude.{◌≡◌};
-ghost use Rattle.llrp_endpoints.specs.GatheringStands.{Splits, TakesFirst, commands_left};
+ghost use Rattle.llrp_endpoints.specs.Private.GatheringStands.{Splits, TakesFirst};
+ghost use Rattle.llrp_endpoints.specs.Calls.GatheringStands.{commands_left};
 ghost use Rattle.llrp_endpoints.specs.Gathering.{awaited_after};
 
 use super::Awaits;

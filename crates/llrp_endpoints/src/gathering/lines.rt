@@ -2,7 +2,7 @@
 
 ghost use Rattle.std.specs.Prelude.{◌≡◌, ◌++◌, ◌∷◌, IfOk, List, OnOk, Some, slice_index, ℕ};
 ghost use Rattle.llrp_tree.specs.Tree.{Tree};
-ghost use Rattle.llrp_session.specs.ReadWords.{IsOfKind, behind};
+ghost use Rattle.llrp_session.specs.Calls.ReadWords.{IsOfKind, behind};
 ghost use Rattle.llrp_session.specs.RoSpec.{first_of};
 ghost use Rattle.tag_uri.specs.TagText.{IsTextOf};
 ghost use Rattle.llrp_endpoints.specs.TagLines.{AreReportLines, IsEpcText, IsTagLine, antenna_text, count_line, data_text, rssi_text, summary_of, total_line as the_total_line};

@@ -1,8 +1,8 @@
-//! Lets things happen to a simulated reader, and makes the frames of what it says.
+//! Gives events to the simulated reader, and appends the frames of its messages.
 
 ghost use Rattle.std.specs.Prelude.{◌≡◌, ◌∷◌, IfErr, IfOk, OnOk, [], map};
-ghost use Rattle.llrp_session.specs.ReaderSteps.{event_of as event_handed};
-ghost use Rattle.llrp_endpoints.specs.Acting.{Did, DidSome, IsDue};
+ghost use Rattle.llrp_session.specs.Calls.ReaderSteps.{event_of as event_handed};
+ghost use Rattle.llrp_endpoints.specs.Private.Acting.{Did, DidSome, IsDue};
 ghost use Rattle.llrp_endpoints.specs.Serving.{event_in as event_by, happening, last_moment, taking};
 
 use crate::script::{Action, Entry};

@@ -2,7 +2,7 @@
 
 ghost use Rattle.std.specs.Prelude.{◌≡◌, ◌+◌, ◌++◌, ◌≤◌, ◌↔◌, [], IfErr, IsTrue, List, OnOk, length, map, min, ℕ};
 ghost use Rattle.llrp_session.specs.ReaderMachine.{Reader as Machine};
-ghost use Rattle.llrp_endpoints.specs.Acting.{DidSome};
+ghost use Rattle.llrp_endpoints.specs.Private.Acting.{DidSome};
 ghost use Rattle.llrp_endpoints.specs.Serving.{Closes, entries_at, events, happening};
 ghost use Rattle.llrp_endpoints.specs.declared.script.Entry.{Entry};
 
@@ -40,7 +40,8 @@ fn closes(item: &Item) -> bool
 }
 
 impl ScriptedReader {
-    ghost use Rattle.llrp_endpoints.specs.ServingStands.{Connects, DoesEntries, HasDone, HasTaken, IsNew, TakesItem, greatest_count};
+    ghost use Rattle.llrp_endpoints.specs.Private.ServingStands.{Connects, DoesEntries, TakesItem};
+    ghost use Rattle.llrp_endpoints.specs.Calls.ServingStands.{HasDone, HasTaken, IsNew, greatest_count};
     ghost use Rattle.llrp_stream.specs.declared.item.Item.{Item};
 
     /// A new reader and its script.

@@ -5,8 +5,8 @@ ghost use Rattle.std.specs.Prelude.{◌≡◌, All};
 ghost use Rattle.llrp_schema.specs.declared.kinds.Kind.TheVariants.{Message, Parameter};
 ghost use Rattle.llrp_schema.specs.declared.kinds.Profile.TheVariants.{Own};
 ghost use Rattle.llrp_schema.specs.Schema.{profile_of};
-ghost use Rattle.llrp_listing.specs.ShortLines.{short_node};
-ghost use Rattle.llrp_listing.specs.Taking.{line_node};
+ghost use Rattle.llrp_listing.specs.Private.ShortLines.{short_node};
+ghost use Rattle.llrp_listing.specs.Private.Taking.{line_node};
 
 use crate::encode::short::ShortLine;
 use crate::line::Line;

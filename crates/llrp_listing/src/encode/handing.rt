@@ -1,12 +1,12 @@
 //! Writes the octets of closed messages to a sink.
 
 ghost use Rattle.std.specs.Prelude.{◌+◌, ◌<◌, ◌≤◌, ◌≡◌, ◌^◌, IfErr, IsErrAnd, List, OnOk, drop, length, take, ℕ};
-ghost use Rattle.llrp_listing.specs.Copying.{Writes};
-ghost use Rattle.llrp_listing.specs.Encoder.{Refusing};
-ghost use Rattle.llrp_listing.specs.Writer.{Front};
-ghost use Rattle.llrp_listing.specs.Handing.{PassesOn};
-ghost use Rattle.llrp_listing.specs.OpenNodes.{OpenNode};
-ghost use Rattle.llrp_listing.specs.Taking.{Rests};
+ghost use Rattle.llrp_listing.specs.Calls.Copying.{Writes};
+ghost use Rattle.llrp_listing.specs.Private.Encoder.{Refusing};
+ghost use Rattle.llrp_listing.specs.Private.Writer.{Front};
+ghost use Rattle.llrp_listing.specs.Private.Handing.{PassesOn};
+ghost use Rattle.llrp_listing.specs.Private.OpenNodes.{OpenNode};
+ghost use Rattle.llrp_listing.specs.Private.Taking.{Rests};
 
 use crate::copying::{PIECE_SIZE, write_all};
 use crate::encode::writer::{Refused, Writer};
@@ -71,7 +71,7 @@ pub fn pass_all<W: Sink>(writer: &mut Writer, w: &mut W) -> Result<(), ToolErr>
     Ok(())
 }
 
-/// Does the same once they are 64 KiB.
+/// Writes and drops the octets of closed messages once there are 64 KiB of them.
 #[inline(always)]
 pub fn pass_on<W: Sink>(writer: &mut Writer, w: &mut W) -> Result<(), ToolErr>
     requires sink { (W.log w.old).failures + 1 < 2 ^ 64 }

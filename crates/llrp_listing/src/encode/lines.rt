@@ -6,10 +6,10 @@ ghost use Rattle.llrp_schema.specs.declared.kinds.Tail.TheVariants.{Absent, Text
 ghost use Rattle.llrp_schema.specs.Schema.{fields_of, is_tv, tail_of};
 ghost use Rattle.llrp_tree.specs.declared.node.NodeFault.TheVariants.{Value};
 ghost use Rattle.llrp_tree.specs.Checks.{first_failed, values_fit};
-ghost use Rattle.llrp_tree.specs.Lawful.{own_octets};
-ghost use Rattle.llrp_tree.specs.Spelled.{both_halves, message_start, parameter_start};
-ghost use Rattle.llrp_listing.specs.OpenNodes.{IsSaid, MOST};
-ghost use Rattle.llrp_listing.specs.LineOctets.{PutsOwn, PutsStart, begun_line};
+ghost use Rattle.llrp_tree.specs.Calls.Lawful.{own_octets};
+ghost use Rattle.llrp_tree.specs.Calls.Spelled.{both_halves, message_start, parameter_start};
+ghost use Rattle.llrp_listing.specs.Private.OpenNodes.{IsSaid, MOST};
+ghost use Rattle.llrp_listing.specs.Private.LineOctets.{PutsOwn, PutsStart, begun_line};
 
 use crate::encode::rows::Held;
 use llrp_schema::{Field, Kind, MsgKind, ParamKind, Profile, Tail};

@@ -3,7 +3,7 @@
 ghost use Rattle.std.specs.Prelude.{◌≡◌, ◌≤◌, ◌∷◌, List, [], drop, length, MatchOption};
 ghost use Rattle.llrp_tree.specs.declared.TheConstants.{MAX_DEPTH};
 ghost use Rattle.llrp_listing.specs.declared.encode.rows.Held.{Held};
-ghost use Rattle.llrp_listing.specs.Writer.{inner};
+ghost use Rattle.llrp_listing.specs.Private.Writer.{inner};
 
 use arrayvec::ArrayVec;
 use llrp_schema::{Kind, MsgKind};

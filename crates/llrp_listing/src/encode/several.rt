@@ -3,12 +3,13 @@
 
 ghost use Rattle.std.specs.Prelude.{◌≡◌, ◌+◌, ◌^◌, ◌∷◌, ◌++◌, ◌<◌, ◌≤◌, IfSome, decimal, drop, length, map};
 ghost use Rattle.arrayvec.specs.ArrayVec.{array_vec_len};
-ghost use Rattle.llrp_schema.specs.Schema.{field_rule, name_of, profile_of};
+ghost use Rattle.llrp_schema.specs.Calls.Schema.{field_rule};
+ghost use Rattle.llrp_schema.specs.Schema.{name_of, profile_of};
 ghost use Rattle.llrp_schema.specs.declared.kinds.Kind.TheVariants.{Parameter};
 ghost use Rattle.llrp_schema.specs.declared.kinds.Profile.TheVariants.{Own};
-ghost use Rattle.llrp_listing.specs.Encoder.{SaysAt};
-ghost use Rattle.llrp_listing.specs.LineReading.{ReadsLine, forms_of, parameter_node};
-ghost use Rattle.llrp_listing.specs.ShortLines.{AreSpaced};
+ghost use Rattle.llrp_listing.specs.Private.Encoder.{SaysAt};
+ghost use Rattle.llrp_listing.specs.Private.LineReading.{ReadsLine, forms_of, parameter_node};
+ghost use Rattle.llrp_listing.specs.Private.ShortLines.{AreSpaced};
 
 use crate::encode::short::{kind_ahead, level_ahead};
 use crate::line::{LONGEST_LINE, Line, LineErr, ParameterLine, read_line};

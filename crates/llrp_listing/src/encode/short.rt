@@ -6,13 +6,15 @@ ghost use Rattle.std.specs.Prelude.{◌≡◌, ◌+◌, ◌∷◌, ◌++◌, ◌
 ghost use Rattle.llrp_schema.specs.declared.kinds.Kind.TheVariants.{Message, Parameter};
 ghost use Rattle.llrp_schema.specs.declared.kinds.Profile.TheVariants.{Own};
 ghost use Rattle.llrp_schema.specs.declared.kinds.Tail.TheVariants.{Absent};
-ghost use Rattle.llrp_schema.specs.Schema.{field_rule, fields_of, name_of, profile_of, tail_of};
+ghost use Rattle.llrp_schema.specs.Calls.Schema.{field_rule};
+ghost use Rattle.llrp_schema.specs.Schema.{fields_of, name_of, profile_of, tail_of};
 ghost use Rattle.llrp_tree.specs.declared.TheConstants.{MAX_DEPTH};
-ghost use Rattle.llrp_listing.specs.Encoder.{SaysAt};
-ghost use Rattle.llrp_listing.specs.LineChecks.{LONGEST_LINE, ReadsNumber};
+ghost use Rattle.llrp_listing.specs.Private.Encoder.{SaysAt};
+ghost use Rattle.llrp_listing.specs.LineChecks.{LONGEST_LINE};
+ghost use Rattle.llrp_listing.specs.Private.LineChecks.{ReadsNumber};
 ghost use Rattle.llrp_listing.specs.NodeLine.{Epc, field_form};
-ghost use Rattle.llrp_listing.specs.Numeral.{numeral};
-ghost use Rattle.llrp_listing.specs.ShortLines.{AreAllNumbers, short_level, short_node};
+ghost use Rattle.llrp_listing.specs.Private.Numeral.{numeral};
+ghost use Rattle.llrp_listing.specs.Private.ShortLines.{AreAllNumbers, short_level, short_node};
 
 use crate::encode::guess::Guess;
 use crate::encode::lines::is_bare;
@@ -248,7 +250,8 @@ fn other_kind(line: &[u8]) -> Option<(ParamKind, usize)>
     Some((kind, end))
 }
 
-/// The same for a line at the front of a text. The kind that is expected is tried first.
+/// The kind of a parameter's line at the start of a text, and the place after its name. The kind
+/// that is expected is tried first.
 #[inline(always)]
 pub fn kind_ahead(line: &[u8], text: &[u8], expected: ParamKind) -> Option<(ParamKind, usize)>
     requires own { profile_of (Parameter expected) ≡ Own }

@@ -3,9 +3,9 @@
 
 ghost use Rattle.std.specs.Prelude.{◌≡◌, ◌∷◌, IfErr, OnOk, []};
 ghost use Rattle.llrp_schema.specs.declared.kinds.Kind.TheVariants.{Message, Parameter};
-ghost use Rattle.llrp_listing.specs.OpenNodes.{IsSaid};
-ghost use Rattle.llrp_listing.specs.ShortLines.{short_level, short_node};
-ghost use Rattle.llrp_listing.specs.Taking.{RestsDeep, TakeFails, Takes, line_level, line_node, said_level, said_node};
+ghost use Rattle.llrp_listing.specs.Private.OpenNodes.{IsSaid};
+ghost use Rattle.llrp_listing.specs.Private.ShortLines.{short_level, short_node};
+ghost use Rattle.llrp_listing.specs.Private.Taking.{RestsDeep, TakeFails, Takes, line_level, line_node, said_level, said_node};
 
 use crate::encode::lines::{begun_by, put_message, put_parameter};
 use crate::encode::short::ShortLine;

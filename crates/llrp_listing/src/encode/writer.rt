@@ -3,9 +3,9 @@
 ghost use Rattle.std.specs.Prelude.{◌≡◌, ◌+◌, ◌<◌, ◌≤◌, IfErr, List, OnErr, OnOk, [], length, true, false, ℕ};
 ghost use Rattle.llrp_tree.specs.declared.TheConstants.{MAX_DEPTH};
 ghost use Rattle.llrp_listing.specs.NodeLine.{NodeLine};
-ghost use Rattle.llrp_listing.specs.Writer.{BeginsLine, ClosedAll, ClosedTo, ClosesMessage, ClosesOne, Fails, FailsMessage, FailsOne, Holds, HoldsAbove, HoldsDeep, HoldsMessage, HoldsSome, KeepsFront, Opens, all_kept, cut_to, inner, settled, with_four, with_two};
-ghost use Rattle.llrp_listing.specs.OpenNodes.{OpenNode};
-ghost use Rattle.llrp_listing.specs.Taking.{Rests};
+ghost use Rattle.llrp_listing.specs.Private.Writer.{BeginsLine, ClosedAll, ClosedTo, ClosesMessage, ClosesOne, Fails, FailsMessage, FailsOne, Holds, HoldsAbove, HoldsDeep, HoldsMessage, HoldsSome, KeepsFront, Opens, all_kept, cut_to, inner, settled, with_four, with_two};
+ghost use Rattle.llrp_listing.specs.Private.OpenNodes.{OpenNode};
+ghost use Rattle.llrp_listing.specs.Private.Taking.{Rests};
 
 use crate::encode::closing::{add_child, fault_of};
 use crate::encode::rows::{Held, Rows};

@@ -3,7 +3,7 @@
 ghost use Rattle.std.specs.Prelude.{◌≡◌, ◌+◌, ◌/◌, ◌%◌, ◌^◌, ◌<◌, ◌≤◌, [], ◌∷◌, length, decimal};
 ghost use Rattle.tag_uri.specs.Decimal.{padded};
 ghost use Rattle.llrp_listing.specs.NodeLine.{signed_text};
-ghost use Rattle.llrp_listing.specs.Place.{Puts};
+ghost use Rattle.llrp_listing.specs.Private.Place.{Puts};
 
 use crate::printing::place::{put_last, put_octet, put_text, put_two};
 use itoa::Buffer;

@@ -2,7 +2,7 @@
 
 ghost use Rattle.std.specs.Prelude.{◌≡◌, ◌+◌, ◌≤◌, ◌++◌, [], ◌∷◌, decimal, length};
 ghost use Rattle.llrp_stream.specs.declared.item.End.TheVariants as at_end;
-ghost use Rattle.llrp_listing.specs.Place.{Puts};
+ghost use Rattle.llrp_listing.specs.Private.Place.{Puts};
 ghost use Rattle.llrp_listing.specs.StreamListing.{end_text, fault_text, reason_name};
 
 use crate::printing::decimal::put_decimal;

@@ -2,7 +2,7 @@
 //! follows that place is overwritten by what is put next.
 
 ghost use Rattle.std.specs.Prelude.{◌≡◌, ◌+◌, ◌-◌, ◌<◌, ◌≤◌, [], ◌∷◌, length, take, drop};
-ghost use Rattle.llrp_listing.specs.Place.{Puts};
+ghost use Rattle.llrp_listing.specs.Private.Place.{Puts};
 
 /// Puts an octet.
 #[inline(always)]

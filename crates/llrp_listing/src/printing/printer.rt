@@ -1,8 +1,9 @@
 //! The listener that prints.
 
 ghost use Rattle.std.specs.Prelude.{◌≡◌, ◌+◌, ◌^◌, ◌<◌, ◌≤◌, ◌++◌, ℕ, List, [], OnOk, IfErr, length, take, drop};
-ghost use Rattle.llrp_listing.specs.Copying.{HandsOn, Writes};
-ghost use Rattle.llrp_listing.specs.OpenListing.{IsMarked, Opened};
+ghost use Rattle.llrp_listing.specs.Private.Copying.{HandsOn};
+ghost use Rattle.llrp_listing.specs.Calls.Copying.{Writes};
+ghost use Rattle.llrp_listing.specs.Private.OpenListing.{IsMarked, Opened};
 ghost use Rattle.llrp_listing.specs.StreamListing.{end_text, fault_text};
 
 use crate::copying::{PIECE_SIZE, write_all};
@@ -90,8 +91,8 @@ impl Printer {
 
 impl Listener for Printer {
     ghost use Rattle.llrp_listing.specs.MessageListing.{message_lines};
-    ghost use Rattle.llrp_listing.specs.OpenListing.{Begins, IsMarked, Opened};
-    ghost use Rattle.llrp_listing.specs.Printing.{AppendsLines};
+    ghost use Rattle.llrp_listing.specs.Private.OpenListing.{Begins, IsMarked, Opened};
+    ghost use Rattle.llrp_listing.specs.Private.Printing.{AppendsLines};
 
     ghost begins = { λ self was t. IsMarked self.mark self.text was (Begins t) };
 

@@ -5,8 +5,8 @@ ghost use Rattle.hex.specs.Hex.{encode_lower};
 ghost use Rattle.llrp_schema.specs.declared.kinds.Tail.TheVariants.{Words as InWords};
 ghost use Rattle.llrp_tree.specs.Lawful.{AreOctets};
 ghost use Rattle.llrp_listing.specs.NodeLine.{spaced, tail_texts, word_list_text};
-ghost use Rattle.llrp_stream.specs.Told.{AreWhole};
-ghost use Rattle.llrp_listing.specs.Tails.{MoreWords, MoreTail};
+ghost use Rattle.llrp_stream.specs.Calls.Told.{AreWhole};
+ghost use Rattle.llrp_listing.specs.Private.Tails.{MoreWords, MoreTail};
 
 use crate::printing::text::Text;
 use llrp_schema::Tail;

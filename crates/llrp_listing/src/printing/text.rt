@@ -3,7 +3,8 @@
 ghost use Rattle.std.specs.Prelude.{◌≡◌, ◌+◌, ◌-◌, ◌^◌, ◌<◌, ◌≤◌, ◌++◌, [], ◌∷◌, ℕ, List, OnOk, true, decimal, length, take, drop, slice_index};
 ghost use Rattle.llrp_tree.specs.declared.TheConstants.{MAX_DEPTH};
 ghost use Rattle.llrp_schema.specs.declared.kinds.Kind.TheVariants.{Message as MessageKind, Parameter as ParameterKind};
-ghost use Rattle.llrp_schema.specs.Schema.{field_rule, name_of, fields_of, bits_of, is_tv};
+ghost use Rattle.llrp_schema.specs.Calls.Schema.{field_rule};
+ghost use Rattle.llrp_schema.specs.Schema.{name_of, fields_of, bits_of, is_tv};
 ghost use Rattle.llrp_listing.specs.NodeLine.{field_form, parameter_line, spaced, IsLine, IsNumberText};
 ghost use Rattle.llrp_listing.specs.StreamListing.{end_text, fault_text};
 

@@ -3,10 +3,11 @@
 ghost use Rattle.std.specs.Prelude.{◌≡◌, ◌+◌, ◌^◌, ◌<◌, ◌≤◌, ◌++◌, [], ◌∷◌, ℕ, List, true, decimal, length, take};
 ghost use Rattle.llrp_tree.specs.declared.TheConstants.{MAX_DEPTH};
 ghost use Rattle.llrp_schema.specs.declared.kinds.Kind.TheVariants.{Message as MessageKind, Parameter as ParameterKind};
-ghost use Rattle.llrp_schema.specs.Schema.{field_rule, name_of, fields_of, bits_of, is_tv};
+ghost use Rattle.llrp_schema.specs.Calls.Schema.{field_rule};
+ghost use Rattle.llrp_schema.specs.Schema.{name_of, fields_of, bits_of, is_tv};
 ghost use Rattle.tag_uri.specs.TagText.{IsTextOf};
 ghost use Rattle.llrp_listing.specs.NodeLine.{field_form, number_forms, parameter_line, spaced, AreNumberTexts, IsLine, IsNumberText};
-ghost use Rattle.llrp_listing.specs.Place.{Puts};
+ghost use Rattle.llrp_listing.specs.Private.Place.{Puts};
 
 use crate::number::EPC_BITS;
 use crate::printing::decimal::{put_below_hundred, put_decimal, put_number, put_signed};

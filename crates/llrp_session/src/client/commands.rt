@@ -3,10 +3,11 @@
 ghost use Rattle.std.specs.Prelude.{◌≡◌, ◌<◌, ◌^◌, ◌++◌, ◌∷◌, [], Ok, OnOk, OnErr, IfNone, IfSome, IfErr, vec_len, vec_capacity};
 ghost use Rattle.llrp_session.specs.Words.{Asks};
 ghost use Rattle.llrp_session.specs.RoSpec.{rospec_of};
-ghost use Rattle.llrp_session.specs.LawfulWords.{AddsRoSpec, FitsMessage};
+ghost use Rattle.llrp_session.specs.Calls.LawfulWords.{AddsRoSpec};
+ghost use Rattle.llrp_session.specs.Private.LawfulWords.{FitsMessage};
 ghost use Rattle.llrp_session.specs.ClientMessages.{client_message};
 ghost use Rattle.llrp_session.specs.ClientMachine as machine;
-ghost use Rattle.llrp_session.specs.ClientSteps.{IsCmdFault};
+ghost use Rattle.llrp_session.specs.Calls.ClientSteps.{IsCmdFault};
 
 use super::{Client, CmdFault, CmdRefusal};
 use crate::reading::find::field;

@@ -4,9 +4,9 @@ ghost use Rattle.std.specs.Prelude.{◌≡◌, false, ◌++◌, ◌∷◌, [], m
 ghost use Rattle.llrp_session.specs.Words.{Acknowledges};
 ghost use Rattle.llrp_session.specs.ClientMessages.{client_message};
 ghost use Rattle.llrp_session.specs.Reading.{heard_of, rospecs_in};
-ghost use Rattle.llrp_session.specs.ReadWords.{change_by, notification_by};
+ghost use Rattle.llrp_session.specs.Private.ReadWords.{change_by, notification_by};
 ghost use Rattle.llrp_session.specs.ClientMachine as machine;
-ghost use Rattle.llrp_session.specs.ClientSteps.{IsTakeFault, sent_by};
+ghost use Rattle.llrp_session.specs.Calls.ClientSteps.{IsTakeFault, sent_by};
 
 use super::comparing::{compared, rospecs_of};
 use super::{Client, TakeFault, TakeRefusal, view};

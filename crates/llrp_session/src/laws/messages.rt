@@ -2,14 +2,18 @@
 
 ghost use Rattle.std.specs.Prelude.{◌≡◌, ◌<◌, ◌≤◌, ◌^◌, ℕ, List};
 ghost use Rattle.llrp_tree.specs.declared.TheConstants.{MAX_LIMIT};
-ghost use Rattle.llrp_session.specs.Words.{ReaderMessage, ClientMessage, heard, request};
+ghost use Rattle.llrp_session.specs.Words.{ReaderMessage, ClientMessage, request};
+ghost use Rattle.llrp_session.specs.Calls.Words.{heard};
 ghost use Rattle.llrp_session.specs.ReaderMessages.{reader_message};
 ghost use Rattle.llrp_session.specs.ClientMessages.{client_message};
 ghost use Rattle.llrp_session.specs.Reading.{request_of, heard_of};
-ghost use Rattle.llrp_session.specs.LawfulWords.{IsSendable, IsLawfulReaderMessage, IsLawfulClientMessage, SaysRoSpec};
-ghost use Rattle.llrp_session.specs.World.{WorldEvent, run, opening};
-ghost use Rattle.llrp_session.specs.MessageWorld.{run_messages, message_opening, in_messages, AreOfRoSpecs, AreGiven, AreSendable};
-ghost use Rattle.llrp_session.specs.MessageAgreement.{AfterAllMessages, ViewCatchesUp, ViewIsTable, ReportsArrive, ReportsAreKept, ReaderHasHistory, OneActive, NothingIsUnexpected, PendingIsOnTheWay, NothingIsPending, TablesArrive, NoneDiffers};
+ghost use Rattle.llrp_session.specs.Calls.LawfulWords.{IsSendable, IsLawfulReaderMessage, IsLawfulClientMessage, SaysRoSpec};
+ghost use Rattle.llrp_session.specs.World.{WorldEvent};
+ghost use Rattle.llrp_session.specs.Calls.World.{run, opening};
+ghost use Rattle.llrp_session.specs.MessageWorld.{run_messages, message_opening, AreGiven};
+ghost use Rattle.llrp_session.specs.Calls.MessageWorld.{in_messages, AreOfRoSpecs, AreSendable};
+ghost use Rattle.llrp_session.specs.Calls.MessageAgreement.{AfterAllMessages, ViewCatchesUp, ViewIsTable, ReportsArrive, ReportsAreKept, NothingIsUnexpected, PendingIsOnTheWay, NothingIsPending, TablesArrive};
+ghost use Rattle.llrp_session.specs.MessageAgreement.{ReaderHasHistory, OneActive, NoneDiffers};
 
 /// What is read in a message is what the message was built from.
 #[tactic(auto, using(crate::proofs::MessageReading::heard_back, crate::proofs::MessageReading::request_back))]

@@ -5,10 +5,10 @@ ghost use Rattle.std.specs.Prelude.{◌≡◌, ℕ, ◌≤◌, ◌+◌, ◌⊎�
 ghost use Rattle.std.specs.Option.{option_copied};
 ghost use Rattle.llrp_session.specs.RoSpec.{RoSpec as TheRoSpec};
 ghost use Rattle.llrp_session.specs.Table.{names as the_names, active as the_active};
-ghost use Rattle.llrp_session.specs.Settings.{settings_of};
+ghost use Rattle.llrp_session.specs.Private.Settings.{settings_of};
 ghost use Rattle.llrp_session.specs.ReaderMachine.{begun, sends_at_end as the_test};
-ghost use Rattle.llrp_session.specs.ReaderParts.{chosen, end_of, IsEnding, IsEndingOf};
-ghost use Rattle.llrp_session.specs.ReaderSteps.{Stands};
+ghost use Rattle.llrp_session.specs.Private.ReaderParts.{chosen, end_of, IsEnding, IsEndingOf};
+ghost use Rattle.llrp_session.specs.Calls.ReaderSteps.{Stands};
 
 use super::Reader;
 use super::sending::following_id;

@@ -5,11 +5,11 @@ ghost use Rattle.llrp_session.specs.RoSpec.{RoSpec as TheRoSpec};
 ghost use Rattle.llrp_session.specs.Words as words;
 ghost use Rattle.llrp_session.specs.Words.{Response, Error};
 ghost use Rattle.llrp_session.specs.Reading.{request_of as the_request};
-ghost use Rattle.llrp_session.specs.ReadWords.{IsRequest};
+ghost use Rattle.llrp_session.specs.Private.ReadWords.{IsRequest};
 ghost use Rattle.llrp_session.specs.ReaderMachine as machine;
 ghost use Rattle.llrp_session.specs.ReaderMachine.{reply};
-ghost use Rattle.llrp_session.specs.ReaderParts.{IsEndingOf, IsOther, end_of, taken};
-ghost use Rattle.llrp_session.specs.ReaderSteps.{Stands};
+ghost use Rattle.llrp_session.specs.Private.ReaderParts.{IsEndingOf, IsOther, end_of, taken};
+ghost use Rattle.llrp_session.specs.Calls.ReaderSteps.{Stands};
 
 use super::Reader;
 use super::ending::Ending;

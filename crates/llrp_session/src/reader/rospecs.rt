@@ -8,12 +8,12 @@ ghost use Rattle.llrp_session.specs.Table.{is_inactive, is_active, without as th
 ghost use Rattle.llrp_session.specs.Words as words;
 ghost use Rattle.llrp_session.specs.Words.{Started};
 ghost use Rattle.llrp_session.specs.Reading.{request_of as the_request};
-ghost use Rattle.llrp_session.specs.Settings.{settings_of};
+ghost use Rattle.llrp_session.specs.Private.Settings.{settings_of};
 ghost use Rattle.llrp_session.specs.ReaderMessages.{reader_message};
 ghost use Rattle.llrp_session.specs.ReaderMachine as machine;
 ghost use Rattle.llrp_session.specs.ReaderMachine.{begun};
-ghost use Rattle.llrp_session.specs.ReaderParts.{started_by_enabling, taken};
-ghost use Rattle.llrp_session.specs.ReaderSteps.{Stands};
+ghost use Rattle.llrp_session.specs.Private.ReaderParts.{started_by_enabling, taken};
+ghost use Rattle.llrp_session.specs.Calls.ReaderSteps.{Stands};
 
 use super::Reader;
 use super::requests::Head;

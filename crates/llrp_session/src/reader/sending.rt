@@ -6,10 +6,10 @@ ghost use Rattle.llrp_tree.specs.declared.TheConstants.{MAX_LIMIT};
 ghost use Rattle.llrp_session.specs.Table.{change as the_change};
 ghost use Rattle.llrp_session.specs.ReaderMachine.{following, begun, send_held as the_sending, effective_report as the_effective_report};
 ghost use Rattle.llrp_session.specs.RoSpec.{RoSpec};
-ghost use Rattle.llrp_session.specs.Settings.{settings_of};
-ghost use Rattle.llrp_session.specs.LawfulWords.{FitsLimit};
-ghost use Rattle.llrp_session.specs.ReaderParts.{changing};
-ghost use Rattle.llrp_session.specs.ReaderSteps.{Stands};
+ghost use Rattle.llrp_session.specs.Private.Settings.{settings_of};
+ghost use Rattle.llrp_session.specs.Calls.LawfulWords.{FitsLimit};
+ghost use Rattle.llrp_session.specs.Private.ReaderParts.{changing};
+ghost use Rattle.llrp_session.specs.Calls.ReaderSteps.{Stands};
 
 use super::Reader;
 use super::table::{self, Entry, StateChange};

@@ -1,10 +1,10 @@
 //! How a reader serves SET_READER_CONFIG.
 
 ghost use Rattle.std.specs.Prelude.{◌≡◌, ◌≤◌, ◌+◌, ◌⊎◌, OnOk, OnErr, vec_len, vec_capacity};
-ghost use Rattle.llrp_session.specs.ReadWords.{keepalive_by, config_by};
+ghost use Rattle.llrp_session.specs.Private.ReadWords.{keepalive_by, config_by};
 ghost use Rattle.llrp_session.specs.ReaderMachine as machine;
-ghost use Rattle.llrp_session.specs.ReaderParts.{taken};
-ghost use Rattle.llrp_session.specs.ReaderSteps.{Stands};
+ghost use Rattle.llrp_session.specs.Private.ReaderParts.{taken};
+ghost use Rattle.llrp_session.specs.Calls.ReaderSteps.{Stands};
 
 use super::requests::Head;
 use super::status::{FIELD_ERROR, SUCCESS};

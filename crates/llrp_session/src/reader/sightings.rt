@@ -2,11 +2,11 @@
 
 ghost use Rattle.std.specs.Prelude.{◌≡◌, ◌<◌, ◌≤◌, ◌+◌, ◌⊎◌, OnOk, OnErr, length, vec_len, vec_capacity};
 ghost use Rattle.std.specs.Option.{option_copied};
-ghost use Rattle.llrp_session.specs.LawfulWords.{IsReport};
+ghost use Rattle.llrp_session.specs.Calls.LawfulWords.{IsReport};
 ghost use Rattle.llrp_session.specs.Table.{active as the_active};
 ghost use Rattle.llrp_session.specs.Words.{Overflowed};
 ghost use Rattle.llrp_session.specs.ReaderMachine.{begun, tell as the_tell, see, counting as the_counting, is_enough as the_test, most_held, is_full as the_is_full, send_if_enough as the_sending, hold as the_hold};
-ghost use Rattle.llrp_session.specs.ReaderSteps.{Stands};
+ghost use Rattle.llrp_session.specs.Calls.ReaderSteps.{Stands};
 
 use super::{Reader, table};
 use crate::reading::kept::RoSpec;

@@ -3,7 +3,7 @@
 ghost use Rattle.std.specs.Prelude.{◌≡◌, ◌<◌, ◌^◌, Option, None, Some, vec_len, vec_capacity};
 ghost use Rattle.std.specs.Option.{option_copied, option_map};
 ghost use Rattle.llrp_session.specs.ReaderMachine.{is_known as the_is_known};
-ghost use Rattle.llrp_session.specs.ReaderParts.{changing, is_immediate as the_is_immediate, place_of as the_place};
+ghost use Rattle.llrp_session.specs.Private.ReaderParts.{changing, is_immediate as the_is_immediate, place_of as the_place};
 ghost use Rattle.llrp_session.specs.Table.{names as the_names, enabled as the_enabled, state_of as the_state_of, active as the_active, first_immediate as the_first_immediate, octets_of as the_octets, change as the_change, without as the_without, enter as the_enter};
 
 use crate::reading::kept::RoSpec;
@@ -150,7 +150,7 @@ pub(crate) fn remove(table: &mut Vec<Entry>, n: u32)
 }
 
 /// Where a new ROSpec goes: before the first with a greater id.
-#[tactic(auto, unfolding(crate::specs::ReaderParts::place_of))]
+#[tactic(auto, unfolding(crate::specs::Private::ReaderParts::place_of))]
 fn place_of(table: &[Entry], id: u32) -> usize
     ensures { result ≡ the_place id table.now }
 {

@@ -5,10 +5,10 @@ ghost use Rattle.std.specs.Option.{option_copied};
 ghost use Rattle.llrp_tree.specs.Tree.{MessageTree};
 ghost use Rattle.llrp_session.specs.RoSpec.{RoSpec as TheRoSpec};
 ghost use Rattle.llrp_session.specs.Table.{active as the_active};
-ghost use Rattle.llrp_session.specs.Settings.{settings_of};
+ghost use Rattle.llrp_session.specs.Private.Settings.{settings_of};
 ghost use Rattle.llrp_session.specs.ReaderMachine.{Turn, begun, later as the_moment, keepalive_from as the_keepalive, is_over as the_test, keep_alive as the_keeping, tick as the_tick};
-ghost use Rattle.llrp_session.specs.ReaderParts.{chosen};
-ghost use Rattle.llrp_session.specs.ReaderSteps.{Stands};
+ghost use Rattle.llrp_session.specs.Private.ReaderParts.{chosen};
+ghost use Rattle.llrp_session.specs.Calls.ReaderSteps.{Stands};
 
 use super::{Reader, table};
 use crate::reading::kept::RoSpec;

@@ -2,7 +2,7 @@
 
 ghost use Rattle.std.specs.Prelude.{◌≡◌, ◌≤◌, Some, find as find_first};
 ghost use Rattle.llrp_session.specs.RoSpec.{is_kind as the_test, first_below as the_first_below, field as the_field};
-ghost use Rattle.llrp_session.specs.ReadWords.{behind, IsOfKind, greatest};
+ghost use Rattle.llrp_session.specs.Calls.ReadWords.{behind, IsOfKind, greatest};
 
 use llrp_tree::{Node, Nodes, ParamKind};
 
@@ -46,7 +46,8 @@ pub(crate) fn field_at(node: &Node, i: usize) -> u128
     node.fields().get(i).copied().unwrap_or(0)
 }
 
-/// The same field of a parameter of a kind; 0 if the parameter is absent.
+/// The field with this index of a parameter of a kind, reserved ones not counted; 0 if the
+/// parameter is absent.
 pub fn field(kind: ParamKind, node: Option<&Node>, i: usize) -> u128
     requires { IsOfKind kind (behind node) }
     ensures value { result ≡ the_field i (behind node.entry) }

@@ -3,7 +3,8 @@
 ghost use Rattle.std.specs.Prelude.{◌≡◌, find as find_first};
 ghost use Rattle.llrp_session.specs.RoSpec.{is_kind, field as the_field};
 ghost use Rattle.llrp_session.specs.Reading as reading;
-ghost use Rattle.llrp_session.specs.ReadWords.{heard_by, notification_by, change_by, behind, IsOfKind};
+ghost use Rattle.llrp_session.specs.Private.ReadWords.{heard_by, notification_by, change_by};
+ghost use Rattle.llrp_session.specs.Calls.ReadWords.{behind, IsOfKind};
 
 use super::find::{field, first, first_below};
 use super::words::{Heard, Notification, RoSpecChange};

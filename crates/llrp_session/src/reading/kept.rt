@@ -14,10 +14,10 @@ pub(crate) struct RoSpec {
 impl Model for RoSpec {
     ghost use Rattle.std.specs.Prelude.{◌≡◌};
     ghost use Rattle.std.specs.Coded.{codes};
-    ghost use Rattle.llrp_tree.specs.Stored.{tree_code};
+    ghost use Rattle.llrp_tree.specs.Private.Stored.{tree_code};
     ghost use Rattle.llrp_schema.specs.declared.kinds.ParamKind.TheVariants as kinds;
     ghost use Rattle.llrp_session.specs.RoSpec.{RoSpec as RoSpecValue, rospec_of};
-    ghost use Rattle.llrp_session.specs.Settings.{settings_of};
+    ghost use Rattle.llrp_session.specs.Private.Settings.{settings_of};
 
     ghost Value = { RoSpecValue };
 

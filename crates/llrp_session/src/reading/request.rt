@@ -5,7 +5,7 @@ ghost use Rattle.llrp_session.specs.RoSpec.{is_kind};
 ghost use Rattle.llrp_schema.specs.declared.kinds.Kind.TheVariants.{Message as MessageOf};
 ghost use Rattle.llrp_schema.specs.Schema.{plain_fields_of, field as field_rule};
 ghost use Rattle.llrp_session.specs.Reading as reading;
-ghost use Rattle.llrp_session.specs.ReadWords.{IsRequest, config_by, keepalive_by};
+ghost use Rattle.llrp_session.specs.Private.ReadWords.{IsRequest, config_by, keepalive_by};
 
 use super::find::{field, first};
 use super::rospec::{report_spec, settings};

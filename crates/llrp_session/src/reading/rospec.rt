@@ -4,10 +4,10 @@ ghost use Rattle.std.specs.Prelude.{◌≡◌, ◌≤◌, IfOk, find as find_fir
 ghost use Rattle.std.specs.List.{list_any};
 ghost use Rattle.llrp_tree.specs.Tree.{Tree, words_of};
 ghost use Rattle.llrp_session.specs.RoSpec as spec;
-ghost use Rattle.llrp_session.specs.ReadWords.{behind, IsOfKind};
-ghost use Rattle.llrp_session.specs.Settings.{settings_of};
+ghost use Rattle.llrp_session.specs.Calls.ReadWords.{behind, IsOfKind};
+ghost use Rattle.llrp_session.specs.Private.Settings.{settings_of};
 ghost use Rattle.llrp_session.specs.Table.{as_listed, state_number as the_number};
-ghost use Rattle.llrp_session.specs.LawfulWords.{IsToldOf};
+ghost use Rattle.llrp_session.specs.Calls.LawfulWords.{IsToldOf};
 ghost use Rattle.llrp_session.specs.Words.{AddRoSpec};
 ghost use Rattle.llrp_session.specs.Reading.{request_of};
 ghost use Rattle.llrp_session.specs.ReaderMachine.{lists_antenna as the_test};

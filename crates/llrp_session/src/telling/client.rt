@@ -5,7 +5,7 @@ ghost use Rattle.llrp_tree.specs.Tree.{forest};
 ghost use Rattle.llrp_tree.specs.Lawful.{IsLawfulMessage};
 ghost use Rattle.llrp_session.specs.Words.{Asks, Acknowledges, keepalive_each};
 ghost use Rattle.llrp_session.specs.ClientMessages.{client_message};
-ghost use Rattle.llrp_session.specs.LawfulWords.{FitsMessage};
+ghost use Rattle.llrp_session.specs.Private.LawfulWords.{FitsMessage};
 
 use super::{leaf, message, only};
 use crate::words::Command;

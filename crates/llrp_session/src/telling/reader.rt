@@ -9,7 +9,7 @@ ghost use Rattle.llrp_session.specs.ReaderMachine.{most_held};
 ghost use Rattle.llrp_session.specs.Table.{listing};
 ghost use Rattle.llrp_session.specs.Words.{Response, Listed, Error, Report, KeepaliveSent, Accepted, Started, Ended, Overflowed};
 ghost use Rattle.llrp_session.specs.ReaderMessages.{response_kind as the_response_kind, notification_data, reader_message};
-ghost use Rattle.llrp_session.specs.LawfulWords.{AreReports, AreToldOf, FitsLimit};
+ghost use Rattle.llrp_session.specs.Calls.LawfulWords.{AreReports, AreToldOf, FitsLimit};
 
 use super::{leaf, message, only, pair, parameter};
 use crate::reader::table::Entry;

@@ -3,8 +3,8 @@
 ghost use Rattle.std.specs.Prelude.{◌≡◌, ◌≤◌, [], ◌∷◌, ◌++◌, OnOk, IfOk};
 ghost use Rattle.llrp_tree.specs.Lawful.{IsLawful};
 ghost use Rattle.llrp_session.specs.TagReport.{signed_octet as the_octet, value_parameter, if_selected, report_parts as the_parts, tag_report as the_report};
-ghost use Rattle.llrp_session.specs.LawfulWords.{IsReport, IsToldOf};
-ghost use Rattle.llrp_session.specs.LawfulStates.{IsLawfulSighting};
+ghost use Rattle.llrp_session.specs.Calls.LawfulWords.{IsReport, IsToldOf};
+ghost use Rattle.llrp_session.specs.MessageWorld.{IsLawfulSighting};
 
 use super::{leaf, parameter};
 use crate::reading::kept::RoSpec;

@@ -8,9 +8,10 @@ ghost use Rattle.llrp_schema.specs.Schema.{fields_of, profile_of, tail_of, tlv_i
 ghost use Rattle.llrp_tree.specs.declared.TheConstants.{MAX_LIMIT};
 ghost use Rattle.llrp_tree.specs.declared.fault.FrameErr.TheVariants.{Memory};
 ghost use Rattle.llrp_tree.specs.OpenTree.{Begun};
-ghost use Rattle.llrp_tree.specs.Standing.{is_tv_kind};
-ghost use Rattle.llrp_stream.specs.Front.{FailsWith};
-ghost use Rattle.llrp_stream.specs.Reading.{IsBare, Moves, Reads, Rests, Steps};
+ghost use Rattle.llrp_tree.specs.Private.Standing.{is_tv_kind};
+ghost use Rattle.llrp_stream.specs.Private.Front.{FailsWith};
+ghost use Rattle.llrp_stream.specs.Private.Reading.{IsBare, Moves, Rests, Steps};
+ghost use Rattle.llrp_stream.specs.Calls.Reading.{Reads};
 ghost use Rattle.llrp_stream.specs.declared.reading.reader.Stage.TheVariants as Stage;
 
 use crate::reading::level::{Placed, known_head};

@@ -2,7 +2,8 @@
 
 ghost use Rattle.llrp_tree.specs.declared.TheConstants.{MAX_LIMIT};
 ghost use Rattle.std.specs.Prelude.{◌+◌, ◌≡◌, ◌<◌, ◌≤◌, ◌++◌, [], ◌∷◌, ℕ, List, length};
-ghost use Rattle.llrp_stream.specs.Pieces.{Stands, Feeds};
+ghost use Rattle.llrp_stream.specs.Calls.Pieces.{Stands};
+ghost use Rattle.llrp_stream.specs.Private.Pieces.{Feeds};
 
 use crate::reading::listener::Listener;
 use crate::reading::reader::Reader;

@@ -22,7 +22,7 @@ pub(crate) struct Builder {
 
 impl Model for Builder {
     ghost use Rattle.std.specs.Coded.{codes};
-    ghost use Rattle.llrp_tree.specs.Stored.{forest_code};
+    ghost use Rattle.llrp_tree.specs.Private.Stored.{forest_code};
     ghost use Rattle.llrp_stream.specs.Building.{Building};
 
     ghost Value = { Building };
@@ -75,7 +75,7 @@ impl Builder {
 
 impl Listener for Builder {
     ghost use Rattle.std.specs.Prelude.{◌≡◌, [], Some};
-    ghost use Rattle.llrp_stream.specs.Building.{HasOpen};
+    ghost use Rattle.llrp_stream.specs.Private.Building.{HasOpen};
 
     ghost begins = { λ self was t. HasOpen self t };
 

@@ -9,9 +9,9 @@ ghost use Rattle.llrp_tree.specs.declared.TheConstants.{MAX_LIMIT};
 ghost use Rattle.llrp_tree.specs.Tree.{MessageTree, none};
 ghost use Rattle.llrp_tree.specs.Lawful.{AreOctets};
 ghost use Rattle.llrp_stream.specs.Items.{FrameOf};
-ghost use Rattle.llrp_tree.specs.Header.{HasHeader};
-ghost use Rattle.llrp_stream.specs.Reading.{IsComplete};
-ghost use Rattle.llrp_stream.specs.Pieces.{Stands};
+ghost use Rattle.llrp_tree.specs.Calls.Header.{HasHeader};
+ghost use Rattle.llrp_stream.specs.Private.Reading.{IsComplete};
+ghost use Rattle.llrp_stream.specs.Calls.Pieces.{Stands};
 
 use crate::header::HEADER;
 use crate::reading::body::Body;

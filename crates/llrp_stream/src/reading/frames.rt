@@ -10,12 +10,13 @@ ghost use Rattle.llrp_tree.specs.Lawful.{AreOctets};
 ghost use Rattle.llrp_stream.specs.Items.{FrameOf};
 ghost use Rattle.llrp_stream.specs.declared.item.End.TheVariants as at_end;
 ghost use Rattle.llrp_stream.specs.Cuts.{Ends};
-ghost use Rattle.llrp_stream.specs.Frames.{Begins, Comes, ComesAt, ComesTo, Goes, GoesOn, IsBegun, IsBroken, IsDead, IsFrontOf, IsIdle, SkipsTo, Stops, held_of, limit_of, raw_of};
-ghost use Rattle.llrp_stream.specs.Decoding.{IsDecided};
-ghost use Rattle.llrp_stream.specs.Reading.{IsComplete};
-ghost use Rattle.llrp_stream.specs.Told.{Remains};
-ghost use Rattle.llrp_stream.specs.Headers.{IsSound};
-ghost use Rattle.llrp_stream.specs.Items.{HasHeaderFault, IsSkipped};
+ghost use Rattle.llrp_stream.specs.Private.Frames.{Begins, GoesOn, IsBegun, SkipsTo};
+ghost use Rattle.llrp_stream.specs.Calls.Frames.{Comes, ComesAt, ComesTo, Goes, IsBroken, IsDead, IsFrontOf, IsIdle, Stops, held_of, limit_of, raw_of};
+ghost use Rattle.llrp_stream.specs.Calls.Decoding.{IsDecided};
+ghost use Rattle.llrp_stream.specs.Private.Reading.{IsComplete};
+ghost use Rattle.llrp_stream.specs.Private.Told.{Remains};
+ghost use Rattle.llrp_stream.specs.Private.Headers.{IsSound};
+ghost use Rattle.llrp_stream.specs.Calls.Items.{HasHeaderFault, IsSkipped};
 
 use crate::header::{FaultyHeader, HEADER, Start, start_of};
 use crate::item::{End, FeedErr};
@@ -52,7 +53,7 @@ pub struct Frames {
     pub(crate) body: Body,
 }
 
-/// The same, with these octets of the piece added that were taken before.
+/// Adds the octets of the piece that were taken before.
 #[inline(always)]
 fn after(came: Came, taken: usize) -> Came
     requires { came.used + taken < 2 ^ 64 }

@@ -6,17 +6,20 @@ ghost use Rattle.tag_bits.specs.Digits.{digits_of_bytes};
 ghost use Rattle.llrp_schema.specs.declared.kinds.Kind.TheVariants.{Message};
 ghost use Rattle.llrp_schema.specs.declared.kinds.MsgKind.TheVariants.{Keepalive};
 ghost use Rattle.llrp_schema.specs.Schema.{groups_of, profile_of, tlv_in, tv_in};
-ghost use Rattle.llrp_schema.specs.Places.{AreRequired};
+ghost use Rattle.llrp_schema.specs.Calls.Places.{AreRequired};
 ghost use Rattle.llrp_stream.specs.declared.reading.level.Child.TheVariants.{Long};
 ghost use Rattle.llrp_tree.specs.declared.TheConstants.{MAX_LIMIT};
 ghost use Rattle.llrp_tree.specs.Tree.{Forest, none};
 ghost use Rattle.llrp_tree.specs.OpenTree.{is_enough};
 ghost use Rattle.llrp_tree.specs.FirstFault.{kind_checks};
-ghost use Rattle.llrp_tree.specs.Standing.{FailsFirst};
-ghost use Rattle.llrp_stream.specs.Reading.{AreSeen, IsPlaced, HeadFails, HeadSays};
+ghost use Rattle.llrp_tree.specs.Private.Standing.{FailsFirst};
+ghost use Rattle.llrp_stream.specs.Calls.Reading.{AreSeen};
+ghost use Rattle.llrp_stream.specs.Private.Reading.{IsPlaced, HeadFails, HeadSays};
 
 use crate::reading::reader::bad;
-use llrp_schema::{Kind, MsgKind, ParamKind, Place, param_of_tlv_in, param_of_tv_in, place, profile, required};
+use llrp_schema::{
+    Kind, MsgKind, ParamKind, Place, param_of_tlv_in, param_of_tv_in, place, profile, required,
+};
 use llrp_tree::numbers::{octet, word};
 use llrp_tree::{FrameErr, MAX_DEPTH, Reason};
 
@@ -189,7 +192,14 @@ pub(crate) fn child_head(
     }
     let first = octet(octets, 0);
     if first >= 128 {
-        let placed = child_kind(short_child(parent, first - 128), parent, seen, level, bit, bit + 1)?;
+        let placed = child_kind(
+            short_child(parent, first - 128),
+            parent,
+            seen,
+            level,
+            bit,
+            bit + 1,
+        )?;
         return Ok(Child::Short(placed));
     }
     if stop - at < 4 {

@@ -1,14 +1,15 @@
 //! Listeners, which receive the parts of messages.
 
 ghost use Rattle.std.specs.Prelude.{◌≡◌, ◌+◌, ◌*◌, ◌^◌, ◌<◌, ◌≤◌, ◌⊎◌, ℕ, List, [], ◌∷◌, Option, None, OnOk, true, length};
-ghost use Rattle.llrp_schema.specs.Schema.{bits_of, field_rule, fields_of, is_tv};
+ghost use Rattle.llrp_schema.specs.Schema.{bits_of, fields_of, is_tv};
+ghost use Rattle.llrp_schema.specs.Calls.Schema.{field_rule};
 ghost use Rattle.llrp_tree.specs.declared.TheConstants.{MAX_DEPTH};
 ghost use Rattle.llrp_tree.specs.Tree.{none, MessageTree};
 ghost use Rattle.llrp_tree.specs.Spelling.{Head, message, tlv, tv};
 ghost use Rattle.llrp_tree.specs.OpenTree.{Begun, kind_of};
-ghost use Rattle.llrp_tree.specs.Standing.{leading};
+ghost use Rattle.llrp_tree.specs.Calls.Standing.{leading};
 ghost use Rattle.llrp_schema.specs.declared.kinds.Kind.TheVariants.{Parameter};
-ghost use Rattle.llrp_stream.specs.Told.{with_field, with_octets, with_value, with_closed, AreWhole, CanClose, CanEnd, IsNextField, IsNextValue, IsBeforeTail, IsInTail, IsReady, IsMessageOf};
+ghost use Rattle.llrp_stream.specs.Calls.Told.{with_field, with_octets, with_value, with_closed, AreWhole, CanClose, CanEnd, IsNextField, IsNextValue, IsBeforeTail, IsInTail, IsReady, IsMessageOf};
 
 use llrp_schema::{Field, MsgKind, ParamKind, Tail};
 use std::alloc::AllocError;

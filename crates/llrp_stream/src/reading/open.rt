@@ -9,7 +9,7 @@ ghost use Rattle.llrp_schema.specs.Schema.{bits_of, fields_of, is_tv};
 ghost use Rattle.llrp_tree.specs.Tree.{none, add};
 ghost use Rattle.llrp_tree.specs.Lawful.{AreLawful, IsLawfulMessage};
 ghost use Rattle.llrp_stream.specs.Building.{OpenParts, nodes_weight};
-ghost use Rattle.llrp_stream.specs.OpenNodes.{fresh, with_value, with_tail, with_parameter, with_child, message_of, HasRoom, IsWholeParameter, IsWholeMessage};
+ghost use Rattle.llrp_stream.specs.Private.OpenNodes.{fresh, with_value, with_tail, with_parameter, with_child, message_of, HasRoom, IsWholeParameter, IsWholeMessage};
 
 use arrayvec::ArrayVec;
 use llrp_schema::{Kind, MsgKind, ParamKind};
@@ -41,7 +41,7 @@ pub(crate) struct OpenNode {
 impl Model for OpenNode {
     ghost use Rattle.std.specs.Coded.{codes};
     ghost use Rattle.llrp_tree.specs.Tree.{forest};
-    ghost use Rattle.llrp_tree.specs.Stored.{forest_code};
+    ghost use Rattle.llrp_tree.specs.Private.Stored.{forest_code};
     ghost use Rattle.llrp_stream.specs.Building.{OpenParts};
 
     ghost Value = { OpenParts };
@@ -150,9 +150,9 @@ pub(crate) struct OpenNodes {
 impl Model for OpenNodes {
     ghost use Rattle.std.specs.Prelude.{◌≡◌, ◌-◌, ◌^◌, List, min};
     ghost use Rattle.std.specs.Coded.{codes};
-    ghost use Rattle.llrp_tree.specs.Stored.{forest_code};
+    ghost use Rattle.llrp_tree.specs.Private.Stored.{forest_code};
     ghost use Rattle.llrp_stream.specs.Building.{OpenParts, nodes_weight};
-    ghost use Rattle.llrp_stream.specs.OpenNodes.{AreNested, nested};
+    ghost use Rattle.llrp_stream.specs.Private.OpenNodes.{AreNested, nested};
 
     ghost Value = { List OpenParts };
 

@@ -3,19 +3,22 @@
 ghost use Rattle.std.specs.Prelude.{◌≡◌, ◌+◌, ◌*◌, ◌^◌, ◌<◌, ◌≤◌, ◌⊎◌, ℕ, Bool, List, [], ◌∷◌, ◌++◌, OnOk, IfErr, IfOk, MatchResult, length, drop, true, false, Ok, Some};
 ghost use Rattle.tag_bits.specs.Digits.{digits_of_bytes};
 ghost use Rattle.llrp_tree.specs.declared.TheConstants.{MAX_DEPTH, MAX_LIMIT};
-ghost use Rattle.llrp_schema.specs.Schema.{FieldRule, field_rule, fields_of, groups_of};
+ghost use Rattle.llrp_schema.specs.Schema.{FieldRule, fields_of, groups_of};
+ghost use Rattle.llrp_schema.specs.Calls.Schema.{field_rule};
 ghost use Rattle.llrp_tree.specs.Lawful.{first};
 ghost use Rattle.llrp_tree.specs.OpenTree.{Begun, kind_of, in_range};
 ghost use Rattle.llrp_tree.specs.Spelling.{Head};
 ghost use Rattle.llrp_schema.specs.declared.kinds.Kind.TheVariants.{Parameter};
-ghost use Rattle.llrp_stream.specs.Front.{Reaches};
+ghost use Rattle.llrp_stream.specs.Calls.Front.{Reaches};
 ghost use Rattle.llrp_tree.specs.FirstFault.{number, field_checks};
-ghost use Rattle.llrp_tree.specs.Standing.{FailsFirst, leading, is_tv_kind};
+ghost use Rattle.llrp_tree.specs.Private.Standing.{FailsFirst, is_tv_kind};
+ghost use Rattle.llrp_tree.specs.Calls.Standing.{leading};
 ghost use Rattle.llrp_tree.specs.declared.fault.FrameErr.TheVariants.{Bad, Memory};
 ghost use Rattle.llrp_stream.specs.declared.reading.reader.Step.TheVariants as Step;
-ghost use Rattle.llrp_stream.specs.Told.{with_field, IsNextField};
-ghost use Rattle.llrp_stream.specs.Reading.{AreSeen, Reads, Are, Steps, with_begun};
-ghost use Rattle.llrp_stream.specs.Pieces.{ReadsOn};
+ghost use Rattle.llrp_stream.specs.Calls.Told.{with_field, IsNextField};
+ghost use Rattle.llrp_stream.specs.Calls.Reading.{AreSeen, Reads, Are, with_begun};
+ghost use Rattle.llrp_stream.specs.Private.Reading.{Steps};
+ghost use Rattle.llrp_stream.specs.Private.Pieces.{ReadsOn};
 ghost use Rattle.llrp_stream.specs.declared.reading.reader.Stage.TheVariants as Stage;
 
 use crate::reading::level::{Child, Level, Placed, begun, child_head, is_enough};

@@ -7,8 +7,9 @@ ghost use Rattle.llrp_schema.specs.declared.kinds.Tail.TheVariants.{Words, Text,
 ghost use Rattle.llrp_tree.specs.declared.TheConstants.{MAX_LIMIT};
 ghost use Rattle.llrp_tree.specs.Lawful.{first};
 ghost use Rattle.llrp_tree.specs.OpenTree.{Begun, has_tail};
-ghost use Rattle.llrp_stream.specs.Reading.{Reads, Steps};
-ghost use Rattle.llrp_stream.specs.Tails.{CountSays, HasWhole};
+ghost use Rattle.llrp_stream.specs.Calls.Reading.{Reads};
+ghost use Rattle.llrp_stream.specs.Private.Reading.{Steps};
+ghost use Rattle.llrp_stream.specs.Private.Tails.{CountSays, HasWhole};
 ghost use Rattle.llrp_stream.specs.declared.reading.reader.Stage.TheVariants as Stage;
 
 use crate::reading::listener::Listener;

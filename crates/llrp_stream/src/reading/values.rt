@@ -7,8 +7,9 @@ ghost use Rattle.llrp_schema.specs.Schema.{bits_of, fields_of, groups_of, is_tv}
 ghost use Rattle.llrp_tree.specs.declared.TheConstants.{MAX_LIMIT};
 ghost use Rattle.llrp_tree.specs.declared.fault.FrameErr.TheVariants.{Memory};
 ghost use Rattle.llrp_tree.specs.Tree.{Forest};
-ghost use Rattle.llrp_tree.specs.Standing.{is_tv_kind};
-ghost use Rattle.llrp_stream.specs.Reading.{Are, AreSeen, AwaitsValues, BeginsValue, IsNextWhole, KeepsNode, Takes, TakesValues};
+ghost use Rattle.llrp_tree.specs.Private.Standing.{is_tv_kind};
+ghost use Rattle.llrp_stream.specs.Calls.Reading.{Are, AreSeen};
+ghost use Rattle.llrp_stream.specs.Private.Reading.{AwaitsValues, BeginsValue, IsNextWhole, KeepsNode, Takes, TakesValues};
 ghost use Rattle.llrp_stream.specs.declared.reading.reader.Stage.TheVariants as Stage;
 
 use crate::reading::level::{Placed, child_kind};
@@ -44,7 +45,7 @@ fn value_octets(kind: ParamKind) -> usize
     }
 }
 
-/// The same, by the table of fields.
+/// How many octets the value of a parameter of type and value has, by the table of fields.
 fn width_octets(kind: ParamKind) -> usize
     requires { is_tv kind ≡ true }
     ensures { result ≡ bits_of (fields_of (Parameter kind)) / 8 }

@@ -7,8 +7,10 @@ ghost use Rattle.llrp_schema.specs.Schema.{fields_of, plain_fields_of, tail_of, 
 ghost use Rattle.llrp_tree.specs.declared.TheConstants.{MAX_DEPTH, MAX_LIMIT};
 ghost use Rattle.llrp_tree.specs.Tree.{forest};
 ghost use Rattle.llrp_tree.specs.Spelling.{Head, spread};
-ghost use Rattle.llrp_tree.specs.OpenTree.{root_of, Begun, kind_of, as_read};
-ghost use Rattle.llrp_tree.specs.Standing.{Stands, Closes, begun, leading, Begins, BeginsBehind, Tells, is_tv_kind};
+ghost use Rattle.llrp_tree.specs.OpenTree.{root_of, Begun, kind_of};
+ghost use Rattle.llrp_tree.specs.Calls.OpenTree.{as_read};
+ghost use Rattle.llrp_tree.specs.Calls.Standing.{Stands, begun, leading};
+ghost use Rattle.llrp_tree.specs.Private.Standing.{Closes, Begins, BeginsBehind, Tells, is_tv_kind};
 
 use super::children::{Child, begin_child};
 use super::fields::{read_fields, read_value};

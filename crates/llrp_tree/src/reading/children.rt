@@ -9,7 +9,8 @@ ghost use Rattle.llrp_tree.specs.Spelling.{Head};
 ghost use Rattle.llrp_tree.specs.OpenTree.{root_of, Begun, kind_of, due, Rest};
 ghost use Rattle.llrp_tree.specs.declared.TheConstants.{MAX_DEPTH, MAX_LIMIT};
 ghost use Rattle.llrp_tree.specs.FirstFault.{tlv_checks};
-ghost use Rattle.llrp_tree.specs.Standing.{Stands, begun, leading, FailsFirst, Tells, TlvPasses, is_tv_kind};
+ghost use Rattle.llrp_tree.specs.Calls.Standing.{Stands, begun, leading};
+ghost use Rattle.llrp_tree.specs.Private.Standing.{FailsFirst, Tells, TlvPasses, is_tv_kind};
 
 use super::groups::child_kind;
 use crate::fault::bad;

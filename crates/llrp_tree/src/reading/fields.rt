@@ -3,12 +3,14 @@
 ghost use Rattle.std.specs.Prelude.{◌≡◌, ◌+◌, ◌*◌, ◌≤◌, ℕ, List, [], ◌∷◌, length, drop, true, MatchResult};
 ghost use Rattle.tag_bits.specs.Digits.{digits_of_bytes};
 ghost use Rattle.llrp_schema.specs.declared.kinds.Kind.TheVariants.{Parameter};
-ghost use Rattle.llrp_schema.specs.Schema.{field_rule, fields_of, plain_fields_of, bits_of, is_tv};
+ghost use Rattle.llrp_schema.specs.Calls.Schema.{field_rule};
+ghost use Rattle.llrp_schema.specs.Schema.{fields_of, plain_fields_of, bits_of, is_tv};
 ghost use Rattle.llrp_tree.specs.declared.TheConstants.{MAX_LIMIT};
 ghost use Rattle.llrp_tree.specs.Spelling.{Head, spread};
 ghost use Rattle.llrp_tree.specs.OpenTree.{root_of, Begun, kind_of, in_range};
 ghost use Rattle.llrp_tree.specs.FirstFault.{number, field_checks};
-ghost use Rattle.llrp_tree.specs.Standing.{Stands, leading, FailsFirst, Tells};
+ghost use Rattle.llrp_tree.specs.Calls.Standing.{Stands, leading};
+ghost use Rattle.llrp_tree.specs.Private.Standing.{FailsFirst, Tells};
 
 use crate::fault::bad;
 use crate::{FrameErr, Kind, ParamKind, Reason};

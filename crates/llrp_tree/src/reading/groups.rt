@@ -1,13 +1,14 @@
 //! Decides whether a child may begin in a node.
 
 ghost use Rattle.std.specs.Prelude.{◌≡◌, ◌+◌, ◌↔◌, false, not, IsNone, IfSome, Option, MatchResult};
-ghost use Rattle.llrp_schema.specs.Schema.{group_rule, groups_of};
+ghost use Rattle.llrp_schema.specs.Calls.Schema.{group_rule};
+ghost use Rattle.llrp_schema.specs.Schema.{groups_of};
 ghost use Rattle.llrp_tree.specs.Tree.{Forest, forest};
 ghost use Rattle.llrp_tree.specs.Lawful.{count, has_place};
-ghost use Rattle.llrp_tree.specs.Checks.{at_most};
+ghost use Rattle.llrp_tree.specs.Lawful.{at_most};
 ghost use Rattle.llrp_tree.specs.OpenTree.{takes_more};
 ghost use Rattle.llrp_tree.specs.FirstFault.{kind_checks};
-ghost use Rattle.llrp_tree.specs.Standing.{FailsFirst, KindPasses};
+ghost use Rattle.llrp_tree.specs.Private.Standing.{FailsFirst, KindPasses};
 
 use crate::check::{is_member, members};
 use crate::fault::bad;

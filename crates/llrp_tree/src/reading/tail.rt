@@ -8,9 +8,11 @@ ghost use Rattle.llrp_tree.specs.declared.TheConstants.{MAX_LIMIT};
 ghost use Rattle.llrp_tree.specs.Tree.{none};
 ghost use Rattle.llrp_tree.specs.Lawful.{AreOctets};
 ghost use Rattle.llrp_tree.specs.Spelling.{Head, spread};
-ghost use Rattle.llrp_tree.specs.OpenTree.{root_of, Begun, kind_of, due, Rest, as_read};
+ghost use Rattle.llrp_tree.specs.OpenTree.{root_of, Begun, kind_of, due, Rest};
+ghost use Rattle.llrp_tree.specs.Calls.OpenTree.{as_read};
 ghost use Rattle.llrp_tree.specs.FirstFault.{tail_checks};
-ghost use Rattle.llrp_tree.specs.Standing.{Stands, begun, leading, FailsFirst, Tells, TailSpans};
+ghost use Rattle.llrp_tree.specs.Calls.Standing.{Stands, begun, leading};
+ghost use Rattle.llrp_tree.specs.Private.Standing.{FailsFirst, Tells, TailSpans};
 
 use crate::fault::bad;
 use crate::{FrameErr, Kind, Octets, Reason};

@@ -1,5 +1,5 @@
 use Rattle.std.proofs.Common.{refl}
-use Rattle.llrp.specs.Network.{MayFollow}
+use Rattle.llrp.specs.Calls.Network.{MayFollow}
 use Rattle.llrp.proofs.inventory.inventory.Goals.{in-Some, in-None}
 use Rattle.llrp.proofs.inventory.inventory.Goals as goal
 

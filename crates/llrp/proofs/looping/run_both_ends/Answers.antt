@@ -1,5 +1,5 @@
 use Rattle.std.proofs.Common.{◌≡◌, refl}
-use Rattle.llrp.specs.Network.{GoesOnWith, MayRunBoth}
+use Rattle.llrp.specs.Calls.Network.{GoesOnWith, MayRunBoth}
 use Rattle.llrp.proofs.looping.run_both_ends.Goals.{in-Ok, in-Err}
 use Rattle.llrp.proofs.looping.run_both_ends.Goals as goal
 

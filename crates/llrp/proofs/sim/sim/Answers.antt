@@ -1,5 +1,5 @@
 use Rattle.std.proofs.Common.{refl}
-use Rattle.llrp.specs.Network.{GoesOnWith, MayServe}
+use Rattle.llrp.specs.Calls.Network.{GoesOnWith, MayServe}
 use Rattle.llrp.proofs.sim.sim.Goals.{in-Ok, in-Err}
 use Rattle.llrp.proofs.sim.sim.Goals as goal
 

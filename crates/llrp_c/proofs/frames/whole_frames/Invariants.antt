@@ -1,5 +1,5 @@
 use Rattle.std.proofs.Common.{length, ◌-◌}
-use Rattle.llrp_c.specs.Frames.{AreFrames}
+use Rattle.llrp_c.specs.Private.Frames.{AreFrames}
 use Rattle.llrp_c.proofs.frames.whole_frames.Given as goal
 
 abbrev pub invariant-loop-more : goal.invariant-loop-more

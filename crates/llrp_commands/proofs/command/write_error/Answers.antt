@@ -1,6 +1,6 @@
 use Rattle.std.proofs.Common.{◌≡◌, ℕ, List, ◌++◌, ap, ap₂, sym, subst, ◌∙◌, append_assoc, codes, decimal}
-use Rattle.llrp_commands.specs.Command.{error_line}
-use Rattle.llrp_listing.specs.Copying.{Writes}
+use Rattle.llrp_commands.specs.Calls.Command.{error_line}
+use Rattle.llrp_listing.specs.Calls.Copying.{Writes}
 use Rattle.llrp_listing.specs.Refused.{refusal_name}
 use Rattle.llrp_commands.proofs.command.write_error.Goals as goal
 

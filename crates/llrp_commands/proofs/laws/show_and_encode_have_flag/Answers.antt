@@ -1,5 +1,5 @@
 use Rattle.std.proofs.Common.{inl, inr}
-use Rattle.llrp_commands.specs.Words.{command_in}
+use Rattle.llrp_commands.specs.Calls.Words.{command_in}
 use Rattle.llrp_commands.proofs.ArgumentLemmas.{found_flag, found_limit}
 use Rattle.llrp_commands.proofs.CommandLemmas.{no_fault}
 use Rattle.llrp_commands.proofs.GivenArguments.{found_if_parsed}

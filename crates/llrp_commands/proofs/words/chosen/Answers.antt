@@ -1,7 +1,7 @@
 use Rattle.std.proofs.Common.{◌∙◌, ap, sym, subst}
 use Rattle.std.specs.Prelude.{option_map}
 use Rattle.clap.specs.Words.{found_of, rows_of, subcommand_rows_of}
-use Rattle.llrp_commands.specs.Parse.{IsFound}
+use Rattle.llrp_commands.specs.Private.Parse.{IsFound}
 use Rattle.llrp_commands.proofs.ArgumentLemmas.{found_as}
 use Rattle.llrp_commands.proofs.CommandLemmas.{names_are}
 use Rattle.llrp_commands.proofs.words.chosen.Goals as goal

@@ -6,7 +6,7 @@ use Rattle.clap.specs.declared.builder.command.Command.TheOpen.{Command-F}
 use Rattle.clap.specs.Words.{rule_of, app_of, with_rule, new_app}
 use Rattle.clap.specs.Simple.{app_of_fields}
 use Rattle.std.proofs.lemmas.Result.{IfOk-weaker}
-use Rattle.llrp_commands.specs.Words.{hex_rule}
+use Rattle.llrp_commands.specs.Calls.Words.{hex_rule}
 use Rattle.llrp_commands.proofs.words.hex_command.Goals as goal
 
 pub returns-clause-app : goal.returns-clause-app

@@ -2,7 +2,7 @@ use Rattle.std.proofs.Common.{ap, codes, ◌≡◌, ◌∙◌}
 use Rattle.clap.specs.Words.{Rule, app_of, new_app, with_rule}
 use Rattle.clap.specs.Simple.{app_of_fields}
 use Rattle.std.proofs.lemmas.Result.{IfOk-weaker}
-use Rattle.llrp_commands.specs.Words.{inventory_app, with_address, with_plan}
+use Rattle.llrp_commands.specs.Calls.Words.{inventory_app, with_address, with_plan}
 use Rattle.llrp_commands.proofs.words.inventory_command.Goals as goal
 
 pub returns-clause-app : goal.returns-clause-app

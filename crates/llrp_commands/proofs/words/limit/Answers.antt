@@ -4,7 +4,7 @@ use Rattle.std.specs.Str.Parse.{signed_digits_value, ParsesUnsigned, ExplainsUns
 use Rattle.clap.specs.Words.{found_of, without_minus}
 use Rattle.clap.proofs.WalkLemmas.{one_text-rows}
 use Rattle.llrp_tree.specs.declared.TheConstants.{MAX_LIMIT}
-use Rattle.llrp_commands.specs.Words.{IsLimit}
+use Rattle.llrp_commands.specs.Private.Words.{IsLimit}
 use Rattle.llrp_commands.proofs.ArgumentLemmas.{reads_number}
 use Rattle.llrp_commands.proofs.words.limit.Goals as goal
 

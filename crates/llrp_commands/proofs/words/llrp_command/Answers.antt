@@ -1,4 +1,4 @@
-use Rattle.llrp_commands.specs.Words.{llrp_app}
+use Rattle.llrp_commands.specs.Calls.Words.{llrp_app}
 use Rattle.llrp_commands.proofs.words.llrp_command.Goals as goal
 
 pub returns : goal.returns

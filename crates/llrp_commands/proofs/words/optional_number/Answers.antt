@@ -3,7 +3,7 @@ use Rattle.std.specs.Prelude.{option_map, pos}
 use Rattle.std.specs.Str.Parse.{signed_digits_value, ParsesUnsigned, ExplainsUnsignedError, HasUnsignedDigitsIfOk}
 use Rattle.clap.specs.Words.{found_of, rows_of, without_minus}
 use Rattle.clap.proofs.WalkLemmas.{one_text-rows}
-use Rattle.llrp_commands.specs.Words.{HasOptionalNumber}
+use Rattle.llrp_commands.specs.Calls.Words.{HasOptionalNumber}
 use Rattle.llrp_commands.proofs.ArgumentLemmas.{reads_number}
 use Rattle.llrp_commands.proofs.words.optional_number.Goals as goal
 

@@ -2,8 +2,8 @@ use Rattle.std.proofs.Common.{ap, subst, sym, ◌∙◌, Option, List, map}
 use Rattle.clap.specs.Faults.{fault_of}
 use Rattle.clap.specs.Words.{App, Row, Text, is_simple}
 use Rattle.clap.specs.Faults.{is_simple_and_free}
-use Rattle.llrp_commands.specs.Parse.{IsFound}
-use Rattle.llrp_commands.specs.Words.{IsRequest}
+use Rattle.llrp_commands.specs.Private.Parse.{IsFound}
+use Rattle.llrp_commands.specs.Private.Words.{IsRequest}
 use Rattle.llrp_commands.proofs.CommandLemmas.{is_free_program, is_simple_program, found_in, only_memory, parsed_without_fault}
 use Rattle.llrp_commands.proofs.GivenArguments.{found_if_parsed}
 use Rattle.llrp_commands.proofs.words.request_of.Goals as goal

@@ -1,7 +1,7 @@
 use Rattle.std.proofs.Common.{ap, ◌≡◌, ◌∙◌}
 use Rattle.clap.specs.Words.{Rule, app_of, with_rule}
 use Rattle.std.proofs.lemmas.Result.{IfOk-weaker}
-use Rattle.llrp_commands.specs.Words.{hex_app, stream_app}
+use Rattle.llrp_commands.specs.Calls.Words.{hex_app, stream_app}
 use Rattle.llrp_commands.proofs.words.stream_command.Goals as goal
 
 pub returns-clause-app : goal.returns-clause-app

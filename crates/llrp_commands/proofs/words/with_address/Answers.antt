@@ -1,7 +1,7 @@
 use Rattle.std.proofs.Common.{rules, ap₂, ◌≡◌, ◌∙◌}
 use Rattle.clap.specs.Words.{Rule, app_of, rule_of, with_rule}
 use Rattle.std.proofs.lemmas.Result.{IfOk-weaker}
-use Rattle.llrp_commands.specs.Words.{host_rule}
+use Rattle.llrp_commands.specs.Calls.Words.{host_rule}
 use Rattle.llrp_commands.proofs.words.with_address.Goals as goal
 
 pub returns-clause-app : goal.returns-clause-app

@@ -1,6 +1,6 @@
 use Rattle.std.proofs.Common.{ap, ap₂, ◌∙◌, codes}
 use Rattle.clap.specs.Words.{Rule, rule_of, with_rule}
-use Rattle.llrp_commands.specs.Words.{number_rule}
+use Rattle.llrp_commands.specs.Calls.Words.{number_rule}
 use Rattle.std.proofs.lemmas.Result.{IfOk-weaker}
 use Rattle.llrp_commands.proofs.words.with_plan.Goals as goal
 

@@ -1,7 +1,7 @@
 use Rattle.std.proofs.Common.{◌+◌, ◌-◌, ◌<◌, ◌^◌, ◌≢◌, []}
 use Rattle.llrp_endpoints.specs.declared.serving.Phase.TheVariants.{New}
 use Rattle.llrp_listing.specs.Copying.{MOST_READS}
-use Rattle.llrp_endpoints.specs.EndsStand.{ClientStands, HasRoom, ReaderStands}
+use Rattle.llrp_endpoints.specs.Private.EndsStand.{ClientStands, HasRoom, ReaderStands}
 use Rattle.llrp_endpoints.specs.RunLoop.{Ends}
 use Rattle.llrp_endpoints.proofs.LoopLemmas.{State}
 use Rattle.llrp_endpoints.proofs.both_ends.exchange.Given as goal

@@ -1,7 +1,7 @@
 use Rattle.std.proofs.Common.{◌≡◌, List, ℕ, [], take, Ok, Err, subst, ap, arith}
 use Rattle.std.proofs.lemmas.List.{length-take}
 use Rattle.std.proofs.lemmas.Result.{err_from_is_err_and}
-use Rattle.llrp_stream.specs.Device.{Took}
+use Rattle.llrp_stream.specs.Calls.Device.{Took}
 use Rattle.llrp_listing.proofs.DeviceLemmas.{failed_read}
 use Rattle.llrp_endpoints.proofs.InventoryLemmas.{so_far, read_failed, at_the_end, too_long, piece, sent_in_part, told_in_part, piece_failed, piece_closed, piece_open}
 use Rattle.llrp_endpoints.proofs.inventory.gather.Goals as goal

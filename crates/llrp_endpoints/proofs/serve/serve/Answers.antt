@@ -1,7 +1,7 @@
 use Rattle.std.proofs.Common.{◌≡◌, List, ℕ, [], take, Ok, Err, subst, ap, arith}
 use Rattle.std.proofs.lemmas.List.{length-take}
 use Rattle.std.proofs.lemmas.Result.{err_from_is_err_and}
-use Rattle.llrp_stream.specs.Device.{Took}
+use Rattle.llrp_stream.specs.Calls.Device.{Took}
 use Rattle.llrp_listing.proofs.DeviceLemmas.{failed_read}
 use Rattle.llrp_endpoints.proofs.ServeLemmas.{so_far, read_failed, too_long, start_unwritten, start_failed, started, piece, piece_unwritten, piece_failed, piece_closed, piece_open, at_the_end}
 use Rattle.llrp_endpoints.proofs.serve.serve.Goals as goal

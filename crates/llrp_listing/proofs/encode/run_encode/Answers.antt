@@ -1,7 +1,7 @@
 use Rattle.std.proofs.Common.{ℕ, subst, ◌∙◌}
 use Rattle.std.proofs.lemmas.Result.{err_from_is_err_and}
 use Rattle.std.specs.Prelude.{MatchResult}
-use Rattle.llrp_listing.specs.Encoder.{StoppedAtEnd, WroteEncoding}
+use Rattle.llrp_listing.specs.Private.Encoder.{StoppedAtEnd, WroteEncoding}
 use Rattle.llrp_listing.specs.Encoding.{EncodeStopped}
 use Rattle.llrp_listing.proofs.Running.{ends_ok, ends_err}
 use Rattle.llrp_listing.proofs.encode.run_encode.Goals as goal

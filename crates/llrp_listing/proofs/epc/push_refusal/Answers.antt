@@ -1,6 +1,6 @@
 use Rattle.std.proofs.Common.{codes, ◌∙◌}
 use Rattle.tag_uri.specs.TagText.{fault_name}
-use Rattle.llrp_listing.specs.EpcLines.{refusal_line}
+use Rattle.llrp_listing.specs.Calls.EpcLines.{refusal_line}
 use Rattle.llrp_listing.proofs.TextLemmas.{grown_thrice, with_part}
 use Rattle.llrp_listing.proofs.epc.push_refusal.Goals as goal
 

@@ -1,6 +1,6 @@
 use Rattle.std.proofs.Common.{codes, decimal, ◌∙◌}
 use Rattle.tag_epc.specs.Faults.{reason_name}
-use Rattle.llrp_listing.specs.EpcLines.{remark_line}
+use Rattle.llrp_listing.specs.Calls.EpcLines.{remark_line}
 use Rattle.llrp_listing.proofs.TextLemmas.{grown_by_five, with_part}
 use Rattle.llrp_listing.proofs.epc.push_remark.Goals as goal
 

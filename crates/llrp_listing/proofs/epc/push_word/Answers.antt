@@ -1,7 +1,7 @@
 use Rattle.std.proofs.Common.{◌++◌, [], ap, inl, inr, refl, sym, ℕ, List}
 use Rattle.std.proofs.lemmas.List.{append-nil}
 use Rattle.std.proofs.lemmas.Result.{on_ok_weaker}
-use Rattle.llrp_listing.specs.EpcLines.{line, remark_line}
+use Rattle.llrp_listing.specs.Calls.EpcLines.{line, remark_line}
 use Rattle.llrp_listing.proofs.TextLemmas.{grown, with_part}
 use Rattle.llrp_listing.proofs.epc.push_word.Goals as goal
 

@@ -1,6 +1,6 @@
 use Rattle.std.proofs.Common.{◌<◌, ◌^◌, ℕ, rules, ap, sym, ◌∙◌}
 use Rattle.std.specs.Result.{result_ok}
-use Rattle.llrp_listing.specs.EpcLines.{AreDigitsOf}
+use Rattle.llrp_listing.specs.Calls.EpcLines.{AreDigitsOf}
 use Rattle.llrp_listing.proofs.EpcLemmas.{digits_decode, decoded_digits, some_ok}
 use Rattle.llrp_listing.proofs.epc.word_of_digits.Goals as goal
 

@@ -1,6 +1,6 @@
 use Rattle.std.proofs.Common.{rules, ◌≡◌, refl, inl, inr, ◌∙◌}
 use Rattle.std.specs.Prelude.{filter, not}
-use Rattle.llrp_listing.specs.Hexadecimal.{is_space}
+use Rattle.llrp_listing.specs.Calls.Hexadecimal.{is_space}
 use Rattle.llrp_listing.proofs.HexadecimalLemmas.{is_hex, is_no_hex}
 use Rattle.llrp_listing.proofs.hexadecimal.bytes_of_hex.Goals as goal
 

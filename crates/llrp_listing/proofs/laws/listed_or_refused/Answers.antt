@@ -1,4 +1,4 @@
-use Rattle.llrp_listing.specs.FirstRefusal.{HasOneAnswer}
+use Rattle.llrp_listing.specs.Calls.FirstRefusal.{HasOneAnswer}
 use Rattle.llrp_listing.specs.Lines.{lines_of}
 use Rattle.llrp_listing.specs.ListingRules.{rules_for, row}
 use Rattle.llrp_listing.proofs.Clear.{clear}

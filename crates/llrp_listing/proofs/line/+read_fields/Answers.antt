@@ -1,9 +1,9 @@
 use Rattle.std.proofs.Common.{◌≡◌, [], ◌∷◌, List, Option, Ok, length, sym, ap, subst, ◌∙◌, arith}
 use Rattle.std.proofs.lemmas.List.{append-nil}
 use Rattle.std.proofs.lemmas.Result.{err_from_is_err_and}
-use Rattle.llrp_listing.specs.LineReading.{ReadsFields}
+use Rattle.llrp_listing.specs.Private.LineReading.{ReadsFields}
 use Rattle.llrp_listing.specs.NodeLine.{NumberForm}
-use Rattle.llrp_listing.specs.Splits.{words_in}
+use Rattle.llrp_listing.specs.Private.Splits.{words_in}
 use Rattle.llrp_listing.proofs.BodyWords.{fewer_fields, field_bad, fields_more, forms_none, forms_plain, forms_reserved, read_none}
 use Rattle.llrp_listing.proofs.line.+read_fields.Goals as goal
 

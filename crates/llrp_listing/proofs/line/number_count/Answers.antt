@@ -1,7 +1,7 @@
 use Rattle.std.proofs.Common.{◌+◌, List, ℕ, sym, ◌∙◌, ap, arith, length}
 use Rattle.llrp_schema.specs.declared.kinds.Kind.{Kind}
 use Rattle.llrp_schema.specs.Schema.{FieldRule, fields_of}
-use Rattle.llrp_listing.specs.LineReading.{forms_of}
+use Rattle.llrp_listing.specs.Private.LineReading.{forms_of}
 use Rattle.llrp_listing.specs.NodeLine.{number_forms}
 use Rattle.llrp_listing.proofs.LineWords.{few_forms, message_forms, parameter_forms}
 use Rattle.llrp_listing.proofs.line.number_count.Goals as goal

@@ -1,6 +1,6 @@
 use Rattle.std.proofs.Common.{◌≡◌, ◌+◌, ◌≤◌, length, drop, map}
-use Rattle.llrp_schema.specs.Schema.{field_rule}
-use Rattle.llrp_listing.specs.LineReading.{forms_of}
+use Rattle.llrp_schema.specs.Calls.Schema.{field_rule}
+use Rattle.llrp_listing.specs.Private.LineReading.{forms_of}
 use Rattle.llrp_listing.proofs.line.plain_count.Given as goal
 
 abbrev pub invariant-loop-rule : goal.invariant-loop-rule

@@ -1,5 +1,5 @@
 use Rattle.std.proofs.Common.{◌∙◌, ap, arith, sym}
-use Rattle.llrp_schema.specs.Schema.{message_with_name, param_with_name}
+use Rattle.llrp_schema.specs.Calls.Schema.{message_with_name, param_with_name}
 use Rattle.llrp_listing.proofs.LineWords.{message_named, parameter_named, no_message, no_parameter}
 use Rattle.llrp_listing.proofs.line.read_kind.Goals as goal
 

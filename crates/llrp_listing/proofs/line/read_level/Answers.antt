@@ -1,5 +1,5 @@
 use Rattle.std.proofs.Common.{sym, ap, ◌∙◌, arith}
-use Rattle.llrp_listing.specs.Numeral.{numeral}
+use Rattle.llrp_listing.specs.Private.Numeral.{numeral}
 use Rattle.llrp_listing.proofs.LineWords.{no_level, other_level, level_is}
 use Rattle.llrp_listing.proofs.line.read_level.Goals as goal
 

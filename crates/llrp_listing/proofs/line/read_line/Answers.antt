@@ -1,7 +1,7 @@
 use Rattle.std.proofs.Common.{◌≡◌, List, ℕ, Err, true, sym, ◌∙◌, subst, arith}
 use Rattle.std.proofs.lemmas.Result.{err_from_is_err_and}
 use Rattle.llrp_listing.specs.LineChecks.{is_printed}
-use Rattle.llrp_listing.specs.LineReading.{ReadsStart, Starts}
+use Rattle.llrp_listing.specs.Private.LineReading.{ReadsStart, Starts}
 use Rattle.llrp_listing.proofs.LineSays.{printed_utf8, start_bad, count_bad, message_bad, parameter_bad, message_said, parameter_said, message_count}
 use Rattle.llrp_listing.proofs.line.read_line.Goals as goal
 

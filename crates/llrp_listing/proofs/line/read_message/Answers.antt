@@ -1,9 +1,10 @@
 use Rattle.std.proofs.Common.{◌≡◌, ◌∷◌, List, ℕ, Option, length, map, ap, ◌∙◌, arith, refl}
 use Rattle.std.proofs.lemmas.Result.{err_from_is_err_and}
 use Rattle.llrp_schema.specs.declared.kinds.Kind.TheVariants.{Message}
-use Rattle.llrp_schema.specs.Schema.{FieldRule, field_rule}
-use Rattle.llrp_listing.specs.Splits.{words_in}
-use Rattle.llrp_listing.specs.LineReading.{forms_of}
+use Rattle.llrp_schema.specs.Schema.{FieldRule}
+use Rattle.llrp_schema.specs.Calls.Schema.{field_rule}
+use Rattle.llrp_listing.specs.Private.Splits.{words_in}
+use Rattle.llrp_listing.specs.Private.LineReading.{forms_of}
 use Rattle.llrp_listing.proofs.BodyWords.{version_bad, id_bad, fields_bad, message_read}
 use Rattle.llrp_listing.proofs.LineWords.{few_forms, message_forms}
 use Rattle.llrp_listing.proofs.line.read_message.Goals as goal

@@ -1,9 +1,10 @@
 use Rattle.std.proofs.Common.{◌≡◌, List, length, map, ap, arith, refl}
 use Rattle.std.proofs.lemmas.Result.{err_from_is_err_and}
 use Rattle.llrp_schema.specs.declared.kinds.Kind.TheVariants.{Parameter}
-use Rattle.llrp_schema.specs.Schema.{FieldRule, field_rule}
-use Rattle.llrp_listing.specs.Splits.{words_in}
-use Rattle.llrp_listing.specs.LineReading.{forms_of}
+use Rattle.llrp_schema.specs.Schema.{FieldRule}
+use Rattle.llrp_schema.specs.Calls.Schema.{field_rule}
+use Rattle.llrp_listing.specs.Private.Splits.{words_in}
+use Rattle.llrp_listing.specs.Private.LineReading.{forms_of}
 use Rattle.llrp_listing.proofs.BodyWords.{parameter_fields_bad, rest_count, parameter_tail_bad, parameter_read}
 use Rattle.llrp_listing.proofs.LineWords.{few_forms, parameter_forms}
 use Rattle.llrp_listing.proofs.line.read_parameter.Goals as goal

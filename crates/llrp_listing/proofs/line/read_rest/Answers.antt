@@ -1,6 +1,7 @@
 use Rattle.std.proofs.Common.{◌≡◌, [], List, ℕ, Ok, length, ap, sym, ◌∙◌, subst}
-use Rattle.llrp_listing.specs.Splits.{words_in, words}
-use Rattle.llrp_listing.specs.LineReading.{ReadsRest}
+use Rattle.llrp_listing.specs.Private.Splits.{words_in}
+use Rattle.llrp_listing.specs.Lines.{words}
+use Rattle.llrp_listing.specs.Private.LineReading.{ReadsRest}
 use Rattle.llrp_listing.proofs.BodyWords.{nothing_left, word_left}
 use Rattle.llrp_listing.proofs.line.read_rest.Goals as goal
 

@@ -1,5 +1,5 @@
 use Rattle.std.proofs.Common.{◌≡◌, ◌∷◌, []}
-use Rattle.llrp_listing.specs.Splits.{words}
+use Rattle.llrp_listing.specs.Lines.{words}
 use Rattle.llrp_listing.proofs.LineWords.{start_no_word, start_no_kind}
 use Rattle.llrp_listing.proofs.line.read_start.Goals as goal
 

@@ -1,5 +1,5 @@
 use Rattle.std.proofs.Common.{length}
-use Rattle.llrp_listing.specs.Numeral.{ReadsFront}
+use Rattle.llrp_listing.specs.Private.Numeral.{ReadsFront}
 use Rattle.llrp_listing.proofs.number.read_eights.Given as goal
 
 abbrev pub invariant-eights : goal.invariant-eights

@@ -1,5 +1,5 @@
 use Rattle.std.proofs.Common.{◌≡◌, ◌-◌, ◌∷◌, List, ℕ, length, drop, take, subst, sym, arith}
-use Rattle.llrp_listing.specs.LineChecks.{ReadsNumber}
+use Rattle.llrp_listing.specs.Private.LineChecks.{ReadsNumber}
 use Rattle.llrp_listing.specs.NodeLine.{Signed}
 use Rattle.llrp_listing.proofs.NumberWords.{sign_first, signed_below}
 use Rattle.llrp_listing.proofs.number.read_signed.Goals as goal

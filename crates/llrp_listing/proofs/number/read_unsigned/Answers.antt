@@ -1,5 +1,5 @@
 use Rattle.std.proofs.Common.{sym, ap, ◌∙◌}
-use Rattle.llrp_listing.specs.Numeral.{numeral}
+use Rattle.llrp_listing.specs.Private.Numeral.{numeral}
 use Rattle.llrp_listing.proofs.NumberWords.{unsigned_none, unsigned_read}
 use Rattle.llrp_listing.proofs.number.read_unsigned.Goals as goal
 

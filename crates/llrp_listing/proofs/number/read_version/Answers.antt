@@ -1,5 +1,5 @@
 use Rattle.std.proofs.Common.{sym, ap, ◌∙◌, arith}
-use Rattle.llrp_listing.specs.Numeral.{numeral}
+use Rattle.llrp_listing.specs.Private.Numeral.{numeral}
 use Rattle.llrp_listing.proofs.NumberWords.{version_none, version_other, version_read}
 use Rattle.llrp_listing.proofs.number.read_version.Goals as goal
 

@@ -1,5 +1,5 @@
 use Rattle.std.proofs.Common.{drop}
-use Rattle.llrp_listing.specs.Numeral.{ReadsFront}
+use Rattle.llrp_listing.specs.Private.Numeral.{ReadsFront}
 use Rattle.llrp_listing.proofs.number.short_number.Given as goal
 
 abbrev pub invariant-loop-b : goal.invariant-loop-b

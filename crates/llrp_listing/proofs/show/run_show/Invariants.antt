@@ -1,6 +1,6 @@
 use Rattle.std.proofs.Common.{ℕ, List, []}
 use Rattle.llrp_stream.specs.Device.{Gave}
-use Rattle.llrp_listing.specs.Lister.{GoesOn}
+use Rattle.llrp_listing.specs.Private.Lister.{GoesOn}
 use Rattle.llrp_listing.proofs.show.run_show.Given as goal
 
 abbrev pub invariant-loop : goal.invariant-loop

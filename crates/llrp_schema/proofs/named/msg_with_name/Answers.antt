@@ -1,7 +1,8 @@
 -- The kinds whose names have this length hold the one that has the name.
 use Rattle.std.proofs.Common.{◌∙◌}
 use Rattle.llrp_schema.specs.declared.kinds.Kind.TheVariants.{Message}
-use Rattle.llrp_schema.specs.Schema.{name_of, message_kinds, message_named_in}
+use Rattle.llrp_schema.specs.Schema.{name_of, message_kinds}
+use Rattle.llrp_schema.specs.Calls.Schema.{message_named_in}
 use Rattle.llrp_schema.proofs.SchemaLemmas.{find_of_length}
 use Rattle.llrp_schema.proofs.named.msg_with_name.Goals as goal
 

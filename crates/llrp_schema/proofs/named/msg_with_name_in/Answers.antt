@@ -2,7 +2,8 @@
 use Rattle.std.proofs.Common.{ap, sym, ◌∙◌, find, nat_eq}
 use Rattle.std.specs.Cmp.Lexicographic.{pointwise}
 use Rattle.llrp_schema.specs.declared.kinds.Kind.TheVariants.{Message}
-use Rattle.llrp_schema.specs.Schema.{name_of, message_named_in}
+use Rattle.llrp_schema.specs.Schema.{name_of}
+use Rattle.llrp_schema.specs.Calls.Schema.{message_named_in}
 use Rattle.llrp_schema.proofs.named.msg_with_name_in.Goals as goal
 
 pub returns-in-Whole : goal.returns-in-Whole

@@ -1,7 +1,8 @@
 -- The kinds whose names have this length hold the one that has the name.
 use Rattle.std.proofs.Common.{◌∙◌}
 use Rattle.llrp_schema.specs.declared.kinds.Kind.TheVariants.{Parameter}
-use Rattle.llrp_schema.specs.Schema.{name_of, param_kinds, param_named_in}
+use Rattle.llrp_schema.specs.Schema.{name_of, param_kinds}
+use Rattle.llrp_schema.specs.Calls.Schema.{param_named_in}
 use Rattle.llrp_schema.proofs.SchemaLemmas.{find_of_length}
 use Rattle.llrp_schema.proofs.named.param_with_name.Goals as goal
 

@@ -2,7 +2,8 @@
 use Rattle.std.proofs.Common.{ap, sym, ◌∙◌, find, nat_eq}
 use Rattle.std.specs.Cmp.Lexicographic.{pointwise}
 use Rattle.llrp_schema.specs.declared.kinds.Kind.TheVariants.{Parameter}
-use Rattle.llrp_schema.specs.Schema.{name_of, param_named_in}
+use Rattle.llrp_schema.specs.Schema.{name_of}
+use Rattle.llrp_schema.specs.Calls.Schema.{param_named_in}
 use Rattle.llrp_schema.proofs.named.param_with_name_in.Goals as goal
 
 pub returns-in-Whole : goal.returns-in-Whole

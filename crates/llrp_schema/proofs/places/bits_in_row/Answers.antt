@@ -3,7 +3,8 @@ use Rattle.std.proofs.Common.{arith, ap, length, ◌∙◌}
 use Rattle.std.specs.List.{list_all}
 use Rattle.std.specs.Prelude.{nat_le}
 use Rattle.std.proofs.lemmas.List.{length-map}
-use Rattle.llrp_schema.specs.Schema.{GroupRule, group_rule}
+use Rattle.llrp_schema.specs.Schema.{GroupRule}
+use Rattle.llrp_schema.specs.Calls.Schema.{group_rule}
 use Rattle.llrp_schema.proofs.PlaceLemmas.{few_groups, parent_needs_one}
 use Rattle.llrp_schema.proofs.places.bits_in_row.Goals as goal
 

@@ -1,7 +1,8 @@
 -- The first group that has a kind is the only one.
 use Rattle.std.proofs.Common.{◌≡◌, MatchOption, false}
 use Rattle.llrp_schema.specs.Schema.{groups_of}
-use Rattle.llrp_schema.specs.Places.{has_place, IsPlace}
+use Rattle.llrp_schema.specs.Schema.{has_place}
+use Rattle.llrp_schema.specs.Calls.Places.{IsPlace}
 use Rattle.llrp_schema.proofs.PlaceLemmas.{parent_apart, parent_takes_one, first_is_place, place_none, place_some}
 use Rattle.llrp_schema.proofs.places.place.Goals as goal
 

@@ -1,7 +1,7 @@
 -- A kind has few groups.
 use Rattle.std.proofs.Common.{arith, ap, length}
 use Rattle.std.proofs.lemmas.List.{length-map}
-use Rattle.llrp_schema.specs.Schema.{group_rule}
+use Rattle.llrp_schema.specs.Calls.Schema.{group_rule}
 use Rattle.llrp_schema.proofs.PlaceLemmas.{few_groups}
 use Rattle.llrp_schema.proofs.places.place_in_row.Goals as goal
 

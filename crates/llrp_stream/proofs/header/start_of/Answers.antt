@@ -2,10 +2,12 @@
 use Rattle.std.proofs.Common.{◌≡◌, Bool, List, [], Some, sym, subst, ◌∙◌, arith, inr}
 use Rattle.std.proofs.lemmas.List.{append-nil}
 use Rattle.tag_bits.specs.Digits.{digits_of_bytes}
-use Rattle.llrp_tree.specs.FirstFault.{first_failing, header_checks}
+use Rattle.llrp_tree.specs.FirstFault.{first_failing}
+use Rattle.llrp_tree.specs.Calls.FirstFault.{header_checks}
 use Rattle.llrp_tree.proofs.OctetLemmas.{are_octets}
 use Rattle.llrp_stream.specs.Cuts.{length_field}
-use Rattle.llrp_stream.specs.Items.{id_field, header_fault}
+use Rattle.llrp_stream.specs.Items.{id_field}
+use Rattle.llrp_stream.specs.Calls.Items.{header_fault}
 use Rattle.llrp_stream.proofs.HeaderLemmas.{four_octets}
 use Rattle.llrp_tree.proofs.HeaderLemmas.{number_ahead}
 use Rattle.llrp_stream.proofs.header.start_of.Goals as goal

@@ -1,6 +1,6 @@
 use Rattle.std.proofs.Common.{◌≡◌, ◌+◌, ◌≤◌, map, drop, length, not}
 use Rattle.std.specs.Prelude.{filter}
-use Rattle.llrp_schema.specs.Schema.{field_rule}
+use Rattle.llrp_schema.specs.Calls.Schema.{field_rule}
 use Rattle.llrp_tree.proofs.check.count_fits.Given as goal
 
 abbrev pub invariant-loop-rule : goal.invariant-loop-rule

@@ -2,7 +2,7 @@ use Rattle.std.proofs.Common.{◌≡◌, drop}
 use Rattle.std.specs.List.{list_any}
 use denote.Enum.Bare.{sameb}
 use Rattle.llrp_schema.specs.contracts.kinds.ParamKind.{the_type}
-use Rattle.llrp_schema.specs.Schema.{group_rule}
+use Rattle.llrp_schema.specs.Calls.Schema.{group_rule}
 use Rattle.llrp_tree.specs.Lawful.{is_member}
 use Rattle.llrp_tree.proofs.check.is_member.Given as goal
 

@@ -1,5 +1,5 @@
 use Rattle.std.proofs.Common.{◌≡◌, ◌+◌, ◌≤◌, drop}
-use Rattle.llrp_schema.specs.Schema.{group_rule}
+use Rattle.llrp_schema.specs.Calls.Schema.{group_rule}
 use Rattle.llrp_tree.specs.Checks.{members}
 use Rattle.llrp_tree.proofs.check.members.Given as goal
 

@@ -1,6 +1,6 @@
 -- Equally many parts, so the same open tree.
 use Rattle.std.proofs.Common.{refl}
-use Rattle.llrp_tree.specs.OpenTree.{parts}
+use Rattle.llrp_tree.specs.Calls.OpenTree.{parts}
 use Rattle.llrp_tree.proofs.Agreement.{agree_at}
 use Rattle.llrp_tree.proofs.laws.open_trees_agree.Goals as goal
 

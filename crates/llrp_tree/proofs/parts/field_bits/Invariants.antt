@@ -1,5 +1,6 @@
 use Rattle.std.proofs.Common.{◌≡◌, ◌+◌, ◌*◌, ◌≤◌, map, drop}
-use Rattle.llrp_schema.specs.Schema.{field_rule, bits_of}
+use Rattle.llrp_schema.specs.Calls.Schema.{field_rule}
+use Rattle.llrp_schema.specs.Schema.{bits_of}
 use Rattle.llrp_tree.proofs.parts.field_bits.Given as goal
 
 abbrev pub invariant-loop-rule : goal.invariant-loop-rule

@@ -4,7 +4,7 @@ use Rattle.tag_bits.specs.Digits.{digits}
 use Rattle.llrp_schema.specs.declared.kinds.Tail.{Tail}
 use Rattle.llrp_schema.specs.Schema.{tail_of}
 use Rattle.llrp_schema.proofs.TableLaws.{message_tail}
-use Rattle.llrp_tree.specs.Spelled.{all_fields}
+use Rattle.llrp_tree.specs.Calls.Spelled.{all_fields}
 use Rattle.llrp_tree.specs.Spelling.{count_digits, head_digits, message}
 use Rattle.llrp_schema.specs.declared.kinds.Kind.TheVariants.{Message}
 use Rattle.llrp_schema.specs.Schema.{fields_of, bits_of}

@@ -5,7 +5,7 @@ use Rattle.llrp_schema.specs.declared.kinds.Tail.{Tail}
 use Rattle.llrp_schema.specs.declared.kinds.Kind.TheVariants.{Message}
 use Rattle.llrp_schema.specs.Schema.{fields_of, tail_of}
 use Rattle.llrp_schema.proofs.TableLaws.{few_bits, message_tail, whole_octets}
-use Rattle.llrp_tree.specs.Spelled.{all_fields}
+use Rattle.llrp_tree.specs.Calls.Spelled.{all_fields}
 use Rattle.llrp_tree.specs.Spelling.{count_digits, head_digits, message}
 use Rattle.llrp_tree.proofs.SpellingLemmas.{appends_same, sound_fields}
 use Rattle.llrp_tree.proofs.starts.message_start.Goals as goal

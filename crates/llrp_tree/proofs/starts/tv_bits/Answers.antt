@@ -1,6 +1,6 @@
 use Rattle.std.proofs.Common.{ℕ, ◌++◌, ◌∙◌, Bool, List, ap, arith}
 use Rattle.tag_bits.specs.Digits.{digits}
-use Rattle.llrp_schema.specs.Schema.{field_rule}
+use Rattle.llrp_schema.specs.Calls.Schema.{field_rule}
 use Rattle.llrp_tree.specs.Spelling.{head_digits, head_of}
 use Rattle.llrp_tree.proofs.TvLemmas.{few_width, head_bits, value_digits, whole_width}
 use Rattle.llrp_tree.proofs.starts.tv_bits.Goals as goal

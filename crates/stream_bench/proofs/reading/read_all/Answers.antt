@@ -5,7 +5,7 @@ use Rattle.llrp_tree.specs.OpenTree.{Begun}
 use Rattle.llrp_stream.specs.declared.reading.frames.Frames.{Frames}
 use Rattle.llrp_stream.specs.declared.reading.frames.Outcome.{Outcome}
 use Rattle.llrp_stream.specs.declared.state.State.TheVariants as state
-use Rattle.llrp_stream.specs.Frames.{ComesTo, IsIdle, TakesOn}
+use Rattle.llrp_stream.specs.Calls.Frames.{ComesTo, IsIdle, TakesOn}
 use Rattle.llrp_stream.proofs.FramesLemmas.{state_comes}
 use Rattle.stream_bench.proofs.reading.read_all.Goals as goal
 

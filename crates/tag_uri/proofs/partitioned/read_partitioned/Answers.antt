@@ -2,7 +2,7 @@ use Rattle.std.proofs.Common.{◌≡◌, not, true, sym, ap, ◌∙◌, arith}
 use Rattle.tag_epc.proofs.Soundness.{sound as is_sound_layout}
 use Rattle.tag_uri.specs.declared.fault.UriFault.TheVariants as fault
 use Rattle.tag_uri.specs.TagText.{some_component, is_over}
-use Rattle.tag_uri.specs.ComponentForms.{forms_with, texts_of, LastIs}
+use Rattle.tag_uri.specs.Private.ComponentForms.{forms_with, texts_of, LastIs}
 use Rattle.tag_uri.proofs.RuleLemmas.{refused, wrong_count, digit_first, zero_first, filter_first, digits_first, range_first}
 use Rattle.tag_uri.proofs.ReadLemmas.{no_stray, one_digit, filter_below, fits_last, lawful, same_components}
 use Rattle.tag_uri.proofs.RowDigits.{few_digits, row_of_digits}

@@ -1,7 +1,8 @@
 use Rattle.std.proofs.Common.{◌≡◌, ◌≤◌, ◌++◌, List, ℕ, [], take, drop, length, sym, ap, subst, ◌∙◌, arith}
 use Rattle.std.proofs.lemmas.List.{length-take, take-take, take-append-drop}
-use Rattle.llrp_stream.specs.Device.{SinkLog, Put}
-use Rattle.llrp_endpoints.specs.EndsStand.{WritesPiece}
+use Rattle.llrp_stream.specs.Device.{SinkLog}
+use Rattle.llrp_stream.specs.Calls.Device.{Put}
+use Rattle.llrp_endpoints.specs.Private.EndsStand.{WritesPiece}
 use Rattle.llrp_listing.proofs.DeviceLemmas.{wrote_nothing, write_more}
 use Rattle.llrp_endpoints.proofs.both_ends.pieces.write_piece.Goals as goal
 

@@ -1,6 +1,6 @@
 use Rattle.std.proofs.Common.{subst, false, Ok}
 use Rattle.llrp_endpoints.specs.Gathering.{Course}
-use Rattle.llrp_endpoints.specs.GatheringStands.{Does}
+use Rattle.llrp_endpoints.specs.Private.GatheringStands.{Does}
 use Rattle.llrp_endpoints.proofs.GatheringSteps.{passed, passes, peer, strange}
 use Rattle.llrp_endpoints.proofs.gathering.Gathering.follow.Goals as goal
 

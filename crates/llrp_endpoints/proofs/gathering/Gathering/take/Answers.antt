@@ -1,7 +1,7 @@
 use Rattle.std.proofs.Common.{subst, false, Ok, Err, rules}
 use Rattle.llrp_listing.specs.declared.fault.ToolErr.TheVariants.{Strange}
 use Rattle.llrp_endpoints.specs.Gathering.{Course}
-use Rattle.llrp_endpoints.specs.GatheringStands.{Does}
+use Rattle.llrp_endpoints.specs.Private.GatheringStands.{Does}
 use Rattle.llrp_endpoints.proofs.GatheringSteps.{passed, strange, bad_passes, bad_is_strange}
 use Rattle.llrp_endpoints.proofs.gathering.Gathering.take.Goals as goal
 

@@ -5,8 +5,9 @@ use Rattle.std.proofs.lemmas.Result.{err_from_is_err_and}
 use Rattle.llrp_stream.specs.declared.item.Item.{Item}
 use Rattle.llrp_stream.specs.Feeding.{Takes}
 use Rattle.llrp_endpoints.specs.Gathering.{after_item}
-use Rattle.llrp_listing.specs.Fault.{error_by}
-use Rattle.llrp_endpoints.specs.GatheringStands.{Does, Fails, Feeds}
+use Rattle.llrp_listing.specs.Calls.Fault.{error_by}
+use Rattle.llrp_endpoints.specs.Private.GatheringStands.{Does}
+use Rattle.llrp_endpoints.specs.Calls.GatheringStands.{Fails, Feeds}
 use Rattle.llrp_endpoints.proofs.GatheringFeeds.{went_nowhere, piece_kept, decoder_fails, item_fails, item_closes, item_goes, holds_fed, all_done, nothing_left}
 use Rattle.llrp_endpoints.proofs.gathering.Gathering.take_all.Goals as goal
 

@@ -1,7 +1,7 @@
 use Rattle.std.proofs.Common.{◌≡◌, ◌++◌, ℕ, List, length, Ok, false}
 use Rattle.llrp_endpoints.specs.Plan.{Plan}
 use Rattle.llrp_endpoints.specs.Gathering.{Course}
-use Rattle.llrp_endpoints.specs.GatheringStands.{StandsFor, Feeds}
+use Rattle.llrp_endpoints.specs.Calls.GatheringStands.{StandsFor, Feeds}
 use Rattle.llrp_endpoints.proofs.gathering.Gathering.take_all.Given as goal
 
 abbrev pub invariant-loop-rest : goal.invariant-loop-rest

@@ -3,7 +3,7 @@ use Rattle.std.proofs.lemmas.Result.{err_from_is_err_and}
 use Rattle.llrp_tree.specs.Tree.{MessageTree}
 use Rattle.llrp_session.specs.ClientMachine.{Client, Taking, take}
 use Rattle.llrp_session.specs.ClientMessages.{client_message}
-use Rattle.llrp_session.specs.ClientSteps.{sent_by}
+use Rattle.llrp_session.specs.Calls.ClientSteps.{sent_by}
 use Rattle.llrp_session.specs.Reading.{heard_of}
 use Rattle.llrp_endpoints.proofs.GatheringSteps.{message_refused, answered_some, answered_all, taken_in}
 use Rattle.llrp_endpoints.proofs.gathering.Gathering.take_message.Goals as goal

@@ -1,7 +1,7 @@
 use Rattle.std.proofs.Common.{◌≡◌, ℕ, ◌+◌, ◌<◌, List, length, subst, sym, rules, tests, arith}
 use Rattle.std.proofs.lemmas.Grind.{common_steps}
 use Rattle.llrp_endpoints.specs.declared.script.Entry.{Entry}
-use Rattle.llrp_endpoints.specs.Script.{Begins, Continues, NoneContinues, IsRefusedAt}
+use Rattle.llrp_endpoints.specs.Calls.Script.{Begins, Continues, NoneContinues, IsRefusedAt}
 use Rattle.llrp_endpoints.proofs.ScriptTexts.{begins_more, refused_at}
 use Rattle.llrp_endpoints.proofs.script.Script.parse.Goals as goal
 

@@ -1,5 +1,5 @@
 use Rattle.std.proofs.Common.{length}
-use Rattle.llrp_endpoints.specs.Script.{Begins}
+use Rattle.llrp_endpoints.specs.Calls.Script.{Begins}
 use Rattle.llrp_endpoints.proofs.script.Script.parse.Given as goal
 
 abbrev pub invariant-lines : goal.invariant-lines

@@ -2,7 +2,7 @@ use Rattle.std.proofs.Common.{ℕ, List, length}
 use Rattle.llrp_tree.specs.Tree.{MessageTree}
 use Rattle.llrp_session.specs.ReaderMachine.{Reader}
 use Rattle.llrp_endpoints.specs.declared.script.Entry.{Entry}
-use Rattle.llrp_endpoints.specs.ServingStands.{StandsFor}
+use Rattle.llrp_endpoints.specs.Calls.ServingStands.{StandsFor}
 use Rattle.llrp_endpoints.proofs.ServingPieces.{SoFar}
 use Rattle.llrp_endpoints.proofs.serving.Serving.take_all.Given as goal
 

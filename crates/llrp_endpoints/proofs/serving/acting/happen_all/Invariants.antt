@@ -1,5 +1,5 @@
 use Rattle.std.proofs.Common.{◌≡◌, take, map}
-use Rattle.llrp_endpoints.specs.Acting.{Did}
+use Rattle.llrp_endpoints.specs.Private.Acting.{Did}
 use Rattle.llrp_endpoints.specs.Serving.{happening, last_moment}
 use Rattle.llrp_endpoints.proofs.serving.acting.happen_all.Given as goal
 

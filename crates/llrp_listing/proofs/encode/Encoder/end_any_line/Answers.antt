@@ -1,5 +1,5 @@
 use Rattle.std.proofs.Common.{◌++◌, Ok, Err}
-use Rattle.llrp_listing.specs.Taking.{said_level, said_node}
+use Rattle.llrp_listing.specs.Private.Taking.{said_level, said_node}
 use Rattle.llrp_listing.proofs.Standing.{line_result}
 use Rattle.llrp_listing.proofs.EncoderSteps.{never_ok, read_at, read_says, rests_front, said_says, says_can, says_said, some_front}
 use Rattle.llrp_listing.proofs.encode.Encoder.end_any_line.Goals as goal

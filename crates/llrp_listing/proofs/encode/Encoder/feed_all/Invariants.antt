@@ -1,6 +1,6 @@
 use Rattle.std.proofs.Common.{◌≡◌, ◌≤◌, ◌*◌, ℕ, List}
 use Rattle.llrp_stream.specs.Device.{Gave}
-use Rattle.llrp_listing.specs.Standing.{Stands}
+use Rattle.llrp_listing.specs.Private.Standing.{Stands}
 use Rattle.llrp_listing.proofs.encode.Encoder.feed_all.Given as goal
 
 abbrev pub invariant-loop : goal.invariant-loop

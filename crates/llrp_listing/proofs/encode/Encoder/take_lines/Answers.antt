@@ -3,9 +3,9 @@ use Rattle.std.specs.Prelude.{MatchResult}
 use Rattle.std.proofs.Math.Seq.{take-append_seam}
 use Rattle.std.proofs.lemmas.List.{append-nil}
 use Rattle.std.proofs.lemmas.Result.{err_from_is_err_and}
-use Rattle.llrp_listing.specs.Encoder.{Stopped}
+use Rattle.llrp_listing.specs.Private.Encoder.{Stopped}
 use Rattle.llrp_listing.proofs.Standing.{piece_left, piece_parts, stopped_more}
-use Rattle.llrp_listing.specs.Standing.{Stands}
+use Rattle.llrp_listing.specs.Private.Standing.{Stands}
 use Rattle.llrp_listing.proofs.encode.Encoder.take_lines.Goals as goal
 
 pub lines-init : goal.lines-init

@@ -1,6 +1,6 @@
 use Rattle.std.proofs.Common.{◌≡◌, ◌≤◌, ◌+◌, ◌++◌, ℕ, List, length}
 use Rattle.llrp_stream.specs.Device.{SinkLog}
-use Rattle.llrp_listing.specs.Standing.{Stands}
+use Rattle.llrp_listing.specs.Private.Standing.{Stands}
 use Rattle.llrp_listing.proofs.encode.Encoder.take_lines.Given as goal
 
 abbrev pub invariant-lines : goal.invariant-lines

@@ -1,10 +1,10 @@
 use Rattle.std.proofs.Common.{ℕ, ◌++◌, length, sym, subst}
-use Rattle.llrp_listing.specs.Encoder.{SaysAt}
+use Rattle.llrp_listing.specs.Private.Encoder.{SaysAt}
 use Rattle.llrp_listing.specs.NodeLine.{NodeLine}
-use Rattle.llrp_listing.specs.OpenNodes.{IsSaid, entries}
-use Rattle.llrp_listing.specs.ShortLines.{short_level}
-use Rattle.llrp_listing.specs.Standing.{CanTake}
-use Rattle.llrp_listing.specs.Taking.{said_node}
+use Rattle.llrp_listing.specs.Private.OpenNodes.{IsSaid, entries}
+use Rattle.llrp_listing.specs.Private.ShortLines.{short_level}
+use Rattle.llrp_listing.specs.Private.Standing.{CanTake}
+use Rattle.llrp_listing.specs.Private.Taking.{said_node}
 use Rattle.llrp_listing.proofs.encode.Encoder.take_short.Goals as goal
 
 pub take_line-requires-clause-said : goal.take_line-requires-clause-said

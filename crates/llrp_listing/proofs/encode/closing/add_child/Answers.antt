@@ -3,10 +3,11 @@ use Rattle.llrp_schema.specs.declared.kinds.Kind.{Kind}
 use Rattle.llrp_schema.specs.declared.kinds.Kind.TheVariants.{Parameter}
 use Rattle.llrp_schema.specs.declared.kinds.ParamKind.{ParamKind}
 use Rattle.llrp_schema.specs.Schema.{tail_of}
-use Rattle.llrp_tree.specs.Lawful.{AreLawful, body_octets, head_octets, octets, own_octets}
+use Rattle.llrp_tree.specs.Lawful.{AreLawful, body_octets, head_octets, octets}
+use Rattle.llrp_tree.specs.Calls.Lawful.{own_octets}
 use Rattle.llrp_tree.proofs.LawLemmas.{lawful_from}
 use Rattle.llrp_listing.specs.declared.encode.rows.Held.{Held}
-use Rattle.llrp_listing.specs.OpenNodes.{IsHeld, OpenNode, kind_fault, node_fault, node_octets}
+use Rattle.llrp_listing.specs.Private.OpenNodes.{IsHeld, OpenNode, kind_fault, node_fault, node_octets}
 use Rattle.llrp_listing.proofs.NodeFaults.{tail_octets}
 use Rattle.llrp_listing.proofs.encode.closing.add_child.Goals as goal
 

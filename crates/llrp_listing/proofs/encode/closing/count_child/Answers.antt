@@ -1,7 +1,8 @@
 use Rattle.std.proofs.Common.{◌≡◌, false, Some, ap, subst, arith}
 use Rattle.llrp_schema.specs.declared.kinds.Kind.{Kind}
 use Rattle.llrp_schema.specs.Schema.{groups_of}
-use Rattle.llrp_schema.specs.Places.{IsPlace, has_place}
+use Rattle.llrp_schema.specs.Calls.Places.{IsPlace}
+use Rattle.llrp_schema.specs.Schema.{has_place}
 use Rattle.llrp_schema.proofs.PlaceLemmas.{few_groups}
 use Rattle.llrp_listing.proofs.NodeFaults.{count_misplaced}
 use Rattle.llrp_listing.proofs.encode.closing.count_child.Goals as goal

@@ -1,8 +1,8 @@
 use Rattle.std.proofs.Common.{ℕ, ◌-◌, List, Option, Some, None, length, map, take, drop, get_or}
 use Rattle.std.specs.Prelude.{IfSome}
-use Rattle.llrp_schema.specs.Schema.{field_rule}
-use Rattle.llrp_listing.specs.LineReading.{forms_of}
-use Rattle.llrp_listing.specs.ShortLines.{AreSpaced}
+use Rattle.llrp_schema.specs.Calls.Schema.{field_rule}
+use Rattle.llrp_listing.specs.Private.LineReading.{forms_of}
+use Rattle.llrp_listing.specs.Private.ShortLines.{AreSpaced}
 use Rattle.llrp_listing.proofs.BodyWords.{forms_none, forms_plain}
 use Rattle.llrp_listing.proofs.ShortReading.{is_unsigned}
 use Rattle.llrp_listing.proofs.SpacedNumbers.{more_spaced, none_spaced}

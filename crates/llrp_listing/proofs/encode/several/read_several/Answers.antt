@@ -1,7 +1,7 @@
 use Rattle.std.proofs.Common.{List, length, sym, ap, ◌∙◌, arith}
 use Rattle.llrp_schema.specs.declared.kinds.Kind.TheVariants.{Parameter}
 use Rattle.llrp_schema.specs.Schema.{FieldRule}
-use Rattle.llrp_listing.specs.LineReading.{forms_of}
+use Rattle.llrp_listing.specs.Private.LineReading.{forms_of}
 use Rattle.llrp_listing.proofs.LineWords.{few_forms}
 use Rattle.llrp_listing.proofs.SpacedNumbers.{several_says}
 use Rattle.llrp_listing.proofs.encode.several.read_several.Goals as goal

@@ -1,8 +1,8 @@
 use Rattle.std.proofs.Common.{sym, subst}
 use Rattle.std.proofs.lemmas.Result.{on_ok_weaker}
 use Rattle.llrp_schema.specs.declared.kinds.Tail.{Tail}
-use Rattle.llrp_stream.specs.Told.{AreWhole}
-use Rattle.llrp_listing.specs.Tails.{MoreTail}
+use Rattle.llrp_stream.specs.Calls.Told.{AreWhole}
+use Rattle.llrp_listing.specs.Private.Tails.{MoreTail}
 use Rattle.llrp_listing.proofs.TailLemmas.{words_tail, text_tail, bits_tail, data_tail}
 use Rattle.llrp_listing.proofs.printing.tails.push_octets.Goals as goal
 

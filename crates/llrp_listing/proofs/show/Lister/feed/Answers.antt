@@ -2,7 +2,7 @@ use Rattle.std.proofs.Common.{◌∙◌, inl, arith, refl, sym, ◌++◌, [], ta
 use Rattle.std.proofs.lemmas.List.{append-nil}
 use Rattle.std.proofs.lemmas.Result.{err_from_is_err_and}
 use Rattle.llrp_listing.specs.declared.show.Lister.{Lister}
-use Rattle.llrp_listing.specs.Lister.{GoesOn, IsBrokenOff}
+use Rattle.llrp_listing.specs.Private.Lister.{GoesOn, IsBrokenOff}
 use Rattle.llrp_listing.proofs.ShowLemmas.{as_far, broken_few, goes_few, further, stopped_there, memory_stopped, piece_breaks, piece_listed, piece_stopped, frame_listed, frame_stopped, frame_within, piece_within, takes_frame, takes_none, lists_failures}
 use Rattle.llrp_listing.proofs.show.Lister.feed.Goals as goal
 

@@ -1,6 +1,6 @@
 use Rattle.std.proofs.Common.{◌≡◌, ℕ, List, ◌++◌, length}
 use Rattle.llrp_stream.specs.Device.{SinkLog}
-use Rattle.llrp_listing.specs.Lister.{GoesOn}
+use Rattle.llrp_listing.specs.Private.Lister.{GoesOn}
 use Rattle.llrp_listing.proofs.show.Lister.feed.Given as goal
 
 abbrev pub invariant-frames : goal.invariant-frames

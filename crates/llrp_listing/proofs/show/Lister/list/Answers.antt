@@ -1,6 +1,6 @@
 use Rattle.std.proofs.Common.{refl, subst}
 use Rattle.llrp_stream.specs.declared.reading.frames.Outcome.{Outcome}
-use Rattle.llrp_listing.specs.Lister.{Tells}
+use Rattle.llrp_listing.specs.Private.Lister.{Tells}
 use Rattle.llrp_listing.proofs.ShowLemmas.{whole_listed}
 use Rattle.llrp_listing.proofs.show.Lister.list.Goals as goal
 

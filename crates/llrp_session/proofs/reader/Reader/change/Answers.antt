@@ -1,5 +1,5 @@
 use Rattle.std.proofs.Common.{arith, ap}
-use Rattle.llrp_session.specs.ReaderParts.{changing}
+use Rattle.llrp_session.specs.Private.ReaderParts.{changing}
 use Rattle.llrp_session.specs.Table.{octets_of}
 use Rattle.llrp_session.proofs.TableChanges.{octets-change}
 use Rattle.llrp_session.proofs.reader.Reader.change.Goals as goal

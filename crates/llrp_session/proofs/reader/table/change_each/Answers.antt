@@ -1,6 +1,6 @@
 use Rattle.std.proofs.Common.{refl, ◌∙◌, ap, arith, get_or}
 use Rattle.llrp_session.specs.Table.{change}
-use Rattle.llrp_session.specs.ReaderParts.{changing}
+use Rattle.llrp_session.specs.Private.ReaderParts.{changing}
 use Rattle.llrp_session.proofs.TableChanges.{changed_one, changed_all}
 use Rattle.llrp_session.proofs.reader.table.change_each.Goals as goal
 

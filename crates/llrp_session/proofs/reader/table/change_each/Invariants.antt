@@ -1,6 +1,6 @@
 use Rattle.std.proofs.Common.{◌≡◌, ◌++◌, take, drop}
 use Rattle.llrp_session.specs.Table.{change}
-use Rattle.llrp_session.specs.ReaderParts.{changing}
+use Rattle.llrp_session.specs.Private.ReaderParts.{changing}
 use Rattle.llrp_session.proofs.reader.table.change_each.Given as goal
 
 abbrev pub invariant-loop-entry : goal.invariant-loop-entry

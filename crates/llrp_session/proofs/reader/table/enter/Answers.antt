@@ -1,7 +1,7 @@
 use Rattle.std.proofs.Common.{◌≡◌, sym, ◌∙◌, ap, arith, length}
 use Rattle.std.specs.List.{insert}
 use Rattle.llrp_session.specs.Table.{Disabled}
-use Rattle.llrp_session.specs.ReaderParts.{place_of}
+use Rattle.llrp_session.specs.Private.ReaderParts.{place_of}
 use Rattle.llrp_session.proofs.TableChanges.{place-le, enter-insert}
 use Rattle.llrp_session.proofs.reader.table.enter.Goals as goal
 

@@ -1,5 +1,5 @@
 use Rattle.std.proofs.Common.{◌≡◌, ◌+◌, drop}
-use Rattle.llrp_session.specs.ReaderParts.{place_of}
+use Rattle.llrp_session.specs.Private.ReaderParts.{place_of}
 use Rattle.llrp_session.proofs.reader.table.place_of.Given as goal
 
 abbrev pub invariant-loop-entry : goal.invariant-loop-entry

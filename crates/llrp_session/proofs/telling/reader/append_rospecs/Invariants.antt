@@ -1,6 +1,6 @@
 use Rattle.std.proofs.Common.{◌≡◌, ◌++◌, take}
 use Rattle.llrp_session.specs.Table.{listing}
-use Rattle.llrp_session.specs.LawfulWords.{AreToldOf}
+use Rattle.llrp_session.specs.Calls.LawfulWords.{AreToldOf}
 use Rattle.llrp_session.proofs.telling.reader.append_rospecs.Given as goal
 
 abbrev pub invariant-loop-entry : goal.invariant-loop-entry

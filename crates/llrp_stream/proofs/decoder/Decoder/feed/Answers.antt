@@ -2,9 +2,10 @@ use Rattle.std.proofs.Common.{◌≡◌, [], refl, sym, ap, subst}
 use Rattle.std.specs.Prelude.{Err}
 use Rattle.llrp_stream.specs.declared.item.FeedErr.TheVariants as failure
 use Rattle.llrp_stream.specs.declared.state.State.{State}
-use Rattle.llrp_stream.specs.Decoding.{DecoderState, Stands}
+use Rattle.llrp_stream.specs.Decoding.{DecoderState}
+use Rattle.llrp_stream.specs.Calls.Decoding.{Stands}
 use Rattle.llrp_stream.specs.Feeding.{Feeds}
-use Rattle.llrp_stream.specs.Keeping.{kept, decoder}
+use Rattle.llrp_stream.specs.Private.Keeping.{kept, decoder}
 use Rattle.llrp_stream.proofs.DecoderLemmas.{kept_comes, takes_item, kept_fed, kept_failed, feeds_failed, state_broken, state_dead, some_outcome}
 use Rattle.llrp_stream.proofs.decoder.Decoder.feed.Goals as goal
 

@@ -1,5 +1,5 @@
 use Rattle.std.proofs.Common.{sym}
-use Rattle.llrp_stream.specs.Building.{HasOpen}
+use Rattle.llrp_stream.specs.Private.Building.{HasOpen}
 use Rattle.llrp_stream.proofs.DecoderLemmas.{kept_comes, state_broken, state_dead}
 use Rattle.llrp_stream.proofs.StreamEnd.{front_of}
 use Rattle.llrp_stream.proofs.decoder.Decoder.finish.Goals as goal

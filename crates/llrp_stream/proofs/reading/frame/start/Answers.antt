@@ -3,9 +3,9 @@ use Rattle.std.proofs.lemmas.List.{drop_all}
 use Rattle.std.specs.Prelude.{reverse}
 use Rattle.llrp_schema.specs.declared.kinds.Kind.TheVariants.{Message}
 use Rattle.llrp_tree.specs.Spelling.{message}
-use Rattle.llrp_tree.specs.Standing.{leading}
+use Rattle.llrp_tree.specs.Calls.Standing.{leading}
 use Rattle.llrp_stream.specs.declared.reading.level.Level.{Level}
-use Rattle.llrp_stream.specs.Reading.{AreLevels}
+use Rattle.llrp_stream.specs.Calls.Reading.{AreLevels}
 use Rattle.llrp_stream.proofs.ReadyPart.{resting}
 use Rattle.llrp_stream.proofs.WholeFrames.{header_reaches, header_length}
 use Rattle.llrp_stream.proofs.reading.frame.start.Goals as goal

@@ -11,7 +11,7 @@ use Rattle.llrp_tree.specs.declared.fault.FrameErr.TheVariants.{Bad}
 use Rattle.llrp_tree.specs.declared.fault.Reason.TheVariants.{Short, Reserved}
 use Rattle.llrp_tree.specs.Tree.{Forest}
 use Rattle.llrp_tree.specs.FirstFault.{number, kind_checks, tlv_checks}
-use Rattle.llrp_tree.specs.Standing.{FailsFirst, KindPasses}
+use Rattle.llrp_tree.specs.Private.Standing.{FailsFirst, KindPasses}
 use Rattle.llrp_tree.proofs.ChildLemmas.{some_of, digit_is_one, digit_is_zero, kind_fails, length_fails}
 use Rattle.llrp_stream.proofs.HeadLemmas.{short_digit, short_type, long_digit, reserved_some, reserved_none, long_type}
 use Rattle.llrp_stream.proofs.reading.level.child_head.Goals as goal

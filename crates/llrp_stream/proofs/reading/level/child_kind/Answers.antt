@@ -10,7 +10,7 @@ use Rattle.llrp_tree.specs.Tree.{Forest, none}
 use Rattle.llrp_tree.specs.Lawful.{has_place}
 use Rattle.llrp_tree.specs.OpenTree.{takes_more}
 use Rattle.llrp_tree.specs.FirstFault.{kind_checks}
-use Rattle.llrp_tree.specs.Standing.{FailsFirst}
+use Rattle.llrp_tree.specs.Private.Standing.{FailsFirst}
 use Rattle.llrp_schema.proofs.PlaceLemmas.{few_groups}
 use Rattle.llrp_stream.proofs.SeenLemmas.{takes_not, takes_if, seen_more}
 use Rattle.llrp_stream.proofs.reading.level.child_kind.Goals as goal

@@ -5,9 +5,10 @@ use Rattle.llrp_schema.specs.declared.kinds.Kind.TheVariants.{Parameter}
 use Rattle.llrp_schema.specs.Schema.{GroupRule, groups_of, profile_of, tlv_in}
 use Rattle.llrp_tree.specs.Lawful.{has_place}
 use Rattle.llrp_tree.specs.FirstFault.{has_none, tlv_kind}
-use Rattle.llrp_tree.specs.Standing.{KindPasses}
+use Rattle.llrp_tree.specs.Private.Standing.{KindPasses}
 use Rattle.llrp_tree.proofs.ChildLemmas.{digit_is_zero, length_fails}
-use Rattle.llrp_stream.specs.Reading.{AreSeen, IsPlaced, with_begun}
+use Rattle.llrp_stream.specs.Calls.Reading.{AreSeen, with_begun}
+use Rattle.llrp_stream.specs.Private.Reading.{IsPlaced}
 use Rattle.llrp_stream.proofs.HeadLemmas.{long_head, reserved_none, long_type}
 use Rattle.llrp_stream.proofs.reading.level.known_head.Goals as goal
 

@@ -3,12 +3,12 @@ use Rattle.std.specs.Prelude.{IfSome}
 use Rattle.tag_bits.specs.Digits.{digits_of_bytes}
 use Rattle.llrp_schema.specs.declared.kinds.ParamKind.{ParamKind}
 use Rattle.llrp_schema.specs.declared.kinds.Profile.TheVariants.{Own}
-use Rattle.llrp_schema.specs.Schema.{tv_with_number}
+use Rattle.llrp_schema.specs.Calls.Schema.{tv_with_number}
 use Rattle.llrp_schema.proofs.TableLaws.{tv_found_in}
 use Rattle.llrp_tree.specs.FirstFault.{number}
 use Rattle.llrp_tree.proofs.ChildLemmas.{digit_is_one}
 use Rattle.llrp_tree.proofs.SpellingLemmas.{tv_number}
-use Rattle.llrp_stream.specs.Reading.{BeginsValue}
+use Rattle.llrp_stream.specs.Private.Reading.{BeginsValue}
 use Rattle.llrp_stream.proofs.HeadLemmas.{short_digit, short_type}
 use Rattle.llrp_stream.proofs.reading.values.kind_of_value.Goals as goal
 

@@ -2,12 +2,15 @@
 use Rattle.std.proofs.Common.{rules, ◌≡◌, Bool, ◌+◌, ◌*◌, inr, List, ◌∷◌, map, arith, sym, ap, ◌∙◌, subst}
 use Rattle.std.proofs.lemmas.Result.{err_from_is_err_and}
 use Rattle.tag_bits.specs.Digits.{digits_of_bytes}
-use Rattle.llrp_schema.specs.Schema.{GroupRule, group_rule, fields_of, tail_of}
+use Rattle.llrp_schema.specs.Schema.{GroupRule, fields_of, tail_of}
+use Rattle.llrp_schema.specs.Calls.Schema.{group_rule}
 use Rattle.llrp_tree.specs.Tree.{Tree, forest}
 use Rattle.llrp_tree.specs.Checks.{none_missing}
 use Rattle.llrp_tree.specs.Spelling.{spread}
-use Rattle.llrp_tree.specs.OpenTree.{Begun, as_read}
-use Rattle.llrp_tree.specs.Standing.{BeginsBehind, Closes, begun}
+use Rattle.llrp_tree.specs.OpenTree.{Begun}
+use Rattle.llrp_tree.specs.Calls.OpenTree.{as_read}
+use Rattle.llrp_tree.specs.Private.Standing.{BeginsBehind, Closes}
+use Rattle.llrp_tree.specs.Calls.Standing.{begun}
 use Rattle.std.specs.Prelude.{if◌then◌else◌}
 use Rattle.llrp_tree.specs.Lawful.{head_octets}
 use Rattle.llrp_tree.proofs.ChildOctets.{child_octets}

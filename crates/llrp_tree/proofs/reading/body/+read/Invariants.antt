@@ -3,9 +3,10 @@ use Rattle.tag_bits.specs.Digits.{digits_of_bytes}
 use Rattle.llrp_schema.specs.Schema.{fields_of, tail_of}
 use Rattle.llrp_tree.specs.Tree.{forest}
 use Rattle.llrp_tree.specs.Spelling.{Head, spread}
-use Rattle.llrp_tree.specs.OpenTree.{Begun, kind_of, as_read}
+use Rattle.llrp_tree.specs.OpenTree.{Begun, kind_of}
+use Rattle.llrp_tree.specs.Calls.OpenTree.{as_read}
 use Rattle.llrp_tree.specs.declared.TheConstants.{MAX_DEPTH}
-use Rattle.llrp_tree.specs.Standing.{Stands, begun, leading}
+use Rattle.llrp_tree.specs.Calls.Standing.{Stands, begun, leading}
 use Rattle.llrp_tree.proofs.reading.body.+read.Given as goal
 
 abbrev pub decreases-read_body : goal.decreases-read_body

@@ -7,7 +7,7 @@ use Rattle.llrp_schema.specs.Schema.{fields_of}
 use Rattle.llrp_tree.specs.Tree.{Tree, forest}
 use Rattle.llrp_tree.specs.Lawful.{head_octets}
 use Rattle.llrp_tree.specs.Spelling.{spread}
-use Rattle.llrp_tree.specs.Standing.{Stands, leading}
+use Rattle.llrp_tree.specs.Calls.Standing.{Stands, leading}
 use Rattle.llrp_tree.proofs.ChildOctets.{child_octets}
 use Rattle.llrp_tree.proofs.OneField.{one_plain_field}
 use Rattle.llrp_tree.proofs.BodyLemmas.{tv_stands, child_lawful, child_pushed}

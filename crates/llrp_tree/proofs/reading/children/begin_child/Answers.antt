@@ -7,7 +7,8 @@ use Rattle.llrp_schema.specs.Schema.{groups_of, profile_of, tv_in}
 use Rattle.llrp_tree.specs.Tree.{forest}
 use Rattle.llrp_tree.specs.Spelling.{tlv, tv}
 use Rattle.llrp_tree.specs.FirstFault.{kind_checks}
-use Rattle.llrp_tree.specs.Standing.{Stands, begun, leading, FailsFirst, KindPasses}
+use Rattle.llrp_tree.specs.Calls.Standing.{Stands, begun, leading}
+use Rattle.llrp_tree.specs.Private.Standing.{FailsFirst, KindPasses}
 use Rattle.llrp_tree.proofs.ChildLemmas.{number_on, none_of, some_of, digit_is_one, digit_is_zero, extra_tells, tv_tells, tlv_tells, tv_begun, tlv_begun}
 use Rattle.llrp_tree.proofs.reading.children.begin_child.Goals as goal
 

@@ -6,7 +6,7 @@ use Rattle.llrp_schema.specs.declared.kinds.ParamKind.{ParamKind}
 use Rattle.llrp_schema.specs.Schema.{groups_of, profile_of, tlv_in}
 use Rattle.llrp_tree.specs.Tree.{forest}
 use Rattle.llrp_tree.specs.FirstFault.{kind_checks}
-use Rattle.llrp_tree.specs.Standing.{FailsFirst, KindPasses}
+use Rattle.llrp_tree.specs.Private.Standing.{FailsFirst, KindPasses}
 use Rattle.llrp_tree.proofs.ChildLemmas.{number_on, kind_fails, length_fails}
 use Rattle.llrp_tree.proofs.reading.children.tlv_head.Goals as goal
 

@@ -4,10 +4,11 @@ use Rattle.std.proofs.lemmas.Result.{err_from_is_err_and}
 use Rattle.arrayvec.specs.ArrayVec.{ArrayVec}
 use Rattle.tag_bits.specs.Digits.{digits_of_bytes}
 use Rattle.llrp_schema.specs.declared.kinds.Field.{Field}
-use Rattle.llrp_schema.specs.Schema.{FieldRule, field_rule, bits_of}
+use Rattle.llrp_schema.specs.Schema.{FieldRule, bits_of}
+use Rattle.llrp_schema.specs.Calls.Schema.{field_rule}
 use Rattle.llrp_schema.proofs.TableLaws.{whole_octets}
 use Rattle.llrp_tree.specs.Spelling.{spread}
-use Rattle.llrp_tree.specs.Standing.{Stands, leading}
+use Rattle.llrp_tree.specs.Calls.Standing.{Stands, leading}
 use Rattle.llrp_tree.proofs.ReadingLemmas.{rule_width, rule_tells, plain_has_room, width_more, count_plain, count_reserved, plain_grows, reserved_grows, all_taken}
 use Rattle.llrp_tree.proofs.reading.fields.read_fields.Goals as goal
 use Rattle.llrp_tree.proofs.reading.fields.read_fields.Goals.{then-not-rule, else-not-rule}

@@ -1,9 +1,10 @@
 use Rattle.std.proofs.Common.{◌≡◌, ◌+◌, ◌*◌, ◌≤◌, List, [], ◌∷◌, length, take, map}
 use Rattle.tag_bits.specs.Digits.{digits_of_bytes}
-use Rattle.llrp_schema.specs.Schema.{field_rule, bits_of}
+use Rattle.llrp_schema.specs.Calls.Schema.{field_rule}
+use Rattle.llrp_schema.specs.Schema.{bits_of}
 use Rattle.llrp_tree.specs.Spelling.{Head, spread}
 use Rattle.llrp_tree.specs.OpenTree.{Begun, kind_of}
-use Rattle.llrp_tree.specs.Standing.{Stands, leading}
+use Rattle.llrp_tree.specs.Calls.Standing.{Stands, leading}
 use Rattle.llrp_tree.proofs.Leading.{plain}
 use Rattle.llrp_tree.proofs.reading.fields.read_fields.Given as goal
 

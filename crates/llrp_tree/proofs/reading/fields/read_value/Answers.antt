@@ -6,7 +6,7 @@ use Rattle.llrp_schema.specs.declared.kinds.Kind.TheVariants.{Parameter}
 use Rattle.llrp_schema.specs.declared.kinds.Field.{Field}
 use Rattle.llrp_schema.specs.Schema.{fields_of}
 use Rattle.llrp_tree.specs.Spelling.{spread}
-use Rattle.llrp_tree.specs.Standing.{Stands, leading}
+use Rattle.llrp_tree.specs.Calls.Standing.{Stands, leading}
 use Rattle.llrp_tree.proofs.ReadingLemmas.{rule_width, rule_tells}
 use Rattle.llrp_tree.proofs.OneField.{one_rule, whole_width, value_stands}
 use Rattle.llrp_tree.proofs.reading.fields.read_value.Goals as goal

@@ -1,5 +1,5 @@
 use Rattle.std.proofs.Common.{refl, sym, ap, ◌∙◌, map, drop, drop-cons}
-use Rattle.llrp_schema.specs.Schema.{group_rule}
+use Rattle.llrp_schema.specs.Calls.Schema.{group_rule}
 use Rattle.llrp_tree.proofs.KindLemmas.{parent_apart, first_decides}
 use Rattle.llrp_tree.proofs.reading.groups.group_of.Goals as goal
 

@@ -1,6 +1,7 @@
 -- The groups before have not the kind; those that are left share none.
 use Rattle.std.proofs.Common.{◌≡◌, map, drop, true}
-use Rattle.llrp_schema.specs.Schema.{group_rule, groups_of}
+use Rattle.llrp_schema.specs.Calls.Schema.{group_rule}
+use Rattle.llrp_schema.specs.Schema.{groups_of}
 use Rattle.llrp_tree.specs.Tree.{Forest}
 use Rattle.llrp_tree.specs.Lawful.{has_place}
 use Rattle.llrp_tree.specs.OpenTree.{takes_more}

@@ -1,4 +1,4 @@
-use Rattle.llrp_schema.specs.Schema.{group_rule}
+use Rattle.llrp_schema.specs.Calls.Schema.{group_rule}
 use Rattle.llrp_tree.proofs.ReadingLemmas.{full_is}
 use Rattle.llrp_tree.proofs.reading.groups.is_full.Goals as goal
 

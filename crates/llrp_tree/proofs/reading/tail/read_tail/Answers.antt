@@ -4,7 +4,7 @@ use Rattle.std.proofs.lemmas.Result.{err_from_is_err_and}
 use Rattle.tag_bits.specs.Digits.{digits_of_bytes}
 use Rattle.llrp_schema.specs.declared.kinds.Tail.{Tail}
 use Rattle.llrp_tree.specs.FirstFault.{tail_checks}
-use Rattle.llrp_tree.specs.Standing.{FailsFirst, TailSpans}
+use Rattle.llrp_tree.specs.Private.Standing.{FailsFirst, TailSpans}
 use Rattle.llrp_tree.proofs.OctetLemmas.{are_octets}
 use Rattle.llrp_tree.proofs.ReadingLemmas.{tail_tells, tail_grown}
 use Rattle.llrp_tree.proofs.reading.tail.read_tail.Goals as goal

@@ -1,6 +1,6 @@
 use Rattle.std.proofs.Common.{◌≡◌, ◌≤◌, ◌<◌, ℕ, List}
 use Rattle.llrp_stream.specs.Device.{SourceLog, SinkLog}
-use Rattle.llrp_endpoints.specs.EndsStand.{Given, HasRoom, ClientStands}
+use Rattle.llrp_endpoints.specs.Private.EndsStand.{Given, HasRoom, ClientStands}
 use Rattle.llrp_endpoints.specs.RunLoop.{Ends}
 use Rattle.llrp_endpoints.proofs.ClientSideLemmas.{ClientSoFar}
 use Rattle.llrp_endpoints.proofs.both_ends.client_side.ClientSide.hear.Given as goal

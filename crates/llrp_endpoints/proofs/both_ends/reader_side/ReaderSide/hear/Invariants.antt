@@ -1,7 +1,7 @@
 use Rattle.std.proofs.Common.{◌≡◌, ◌<◌, ◌≤◌, ◌≢◌, ℕ, List}
 use Rattle.llrp_stream.specs.Device.{SourceLog}
 use Rattle.llrp_endpoints.specs.declared.serving.Phase.TheVariants.{New}
-use Rattle.llrp_endpoints.specs.EndsStand.{Given, HasRoom, ReaderStands}
+use Rattle.llrp_endpoints.specs.Private.EndsStand.{Given, HasRoom, ReaderStands}
 use Rattle.llrp_endpoints.specs.RunLoop.{Ends}
 use Rattle.llrp_endpoints.proofs.ReaderSideLemmas.{ReaderSoFar}
 use Rattle.llrp_endpoints.proofs.both_ends.reader_side.ReaderSide.hear.Given as goal

@@ -4,8 +4,8 @@ use Rattle.std.proofs.lemmas.Result.{err_from_is_err_and}
 use Rattle.llrp_listing.proofs.Zips.{zip_length}
 use Rattle.llrp_listing.specs.declared.encode.writer.Refused.{Refused}
 use Rattle.llrp_listing.specs.declared.encode.writer.Writer.{Writer}
-use Rattle.llrp_listing.specs.Writer.{ClosedAll, Fails, Holds, inner}
-use Rattle.llrp_listing.specs.OpenNodes.{IsHeld, OpenNode}
+use Rattle.llrp_listing.specs.Private.Writer.{ClosedAll, Fails, Holds, inner}
+use Rattle.llrp_listing.specs.Private.OpenNodes.{IsHeld, OpenNode}
 use Rattle.llrp_listing.proofs.Beginning.{all_closed_later, all_closed_none, fails_later, fails_lower, front_later, one_left}
 use Rattle.llrp_listing.proofs.encode.writer.Writer.close_all.Goals as goal
 

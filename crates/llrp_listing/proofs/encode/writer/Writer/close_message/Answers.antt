@@ -3,8 +3,8 @@ use Rattle.std.specs.Vec.{vec_len, with_items}
 use Rattle.llrp_tree.proofs.SpelledLemmas.{refilled}
 use Rattle.llrp_listing.specs.ListingRules.{message_refusal}
 use Rattle.llrp_listing.specs.declared.encode.writer.Writer.{Writer}
-use Rattle.llrp_listing.specs.Writer.{inner, with_four}
-use Rattle.llrp_listing.specs.OpenNodes.{node_fault}
+use Rattle.llrp_listing.specs.Private.Writer.{inner, with_four}
+use Rattle.llrp_listing.specs.Private.OpenNodes.{node_fault}
 use Rattle.llrp_listing.proofs.MessageSteps.{alone, closes_over, message_closed, message_closes, message_fails, message_small, of_line, room_for_four}
 use Rattle.llrp_listing.proofs.encode.writer.Writer.close_message.Goals as goal
 

@@ -1,8 +1,8 @@
 use Rattle.std.proofs.Common.{◌≡◌, ◌≤◌, ◌<◌, List, ℕ, length, refl, ◌∙◌, arith}
 use Rattle.std.proofs.lemmas.Result.{err_from_is_err_and}
 use Rattle.llrp_listing.specs.declared.encode.writer.Writer.{Writer}
-use Rattle.llrp_listing.specs.Writer.{ClosedSoFar, Holds, inner}
-use Rattle.llrp_listing.specs.OpenNodes.{IsHeld, OpenNode}
+use Rattle.llrp_listing.specs.Private.Writer.{ClosedSoFar, Holds, inner}
+use Rattle.llrp_listing.specs.Private.OpenNodes.{IsHeld, OpenNode}
 use Rattle.llrp_listing.proofs.Zips.{zip_length}
 use Rattle.llrp_listing.proofs.LineSteps.{left_shorter, so_far_more, so_far_none, stops_at}
 use Rattle.llrp_listing.proofs.encode.writer.Writer.close_to.Goals as goal

@@ -1,6 +1,6 @@
 use Rattle.std.proofs.Common.{◌≡◌, ℕ, List, length}
-use Rattle.llrp_listing.specs.Writer.{ClosedSoFar, Holds, inner}
-use Rattle.llrp_listing.specs.OpenNodes.{OpenNode}
+use Rattle.llrp_listing.specs.Private.Writer.{ClosedSoFar, Holds, inner}
+use Rattle.llrp_listing.specs.Private.OpenNodes.{OpenNode}
 use Rattle.llrp_listing.proofs.encode.writer.Writer.close_to.Given as goal
 
 abbrev pub invariant-lines : goal.invariant-lines

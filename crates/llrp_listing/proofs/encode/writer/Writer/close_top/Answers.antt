@@ -6,8 +6,8 @@ use Rattle.llrp_listing.specs.ListingRules.{node_refusal}
 use Rattle.llrp_listing.specs.declared.encode.rows.Held.{Held}
 use Rattle.std.specs.Vec.{vec_len, with_items}
 use Rattle.llrp_listing.specs.declared.encode.writer.Writer.{Writer}
-use Rattle.llrp_listing.specs.Writer.{Holds, inner, settled}
-use Rattle.llrp_listing.specs.OpenNodes.{OpenNode, IsHeld, node_fault, with_child}
+use Rattle.llrp_listing.specs.Private.Writer.{Holds, inner, settled}
+use Rattle.llrp_listing.specs.Private.OpenNodes.{OpenNode, IsHeld, node_fault, with_child}
 use Rattle.llrp_listing.proofs.Holding.{two, held_one, held_two, spare_at, few_levels, holds_closed, within}
 use Rattle.llrp_listing.proofs.LineSteps.{parameter_closes}
 use Rattle.llrp_listing.proofs.encode.writer.Writer.close_top.Goals as goal

@@ -1,6 +1,6 @@
 use Rattle.std.proofs.Common.{[], List, ℕ, length, refl, ap, arith}
 use Rattle.tag_bits.proofs.ByteLemmas.{bytes-nil}
-use Rattle.llrp_listing.specs.OpenNodes.{chain_digits}
+use Rattle.llrp_listing.specs.Private.OpenNodes.{chain_digits}
 use Rattle.llrp_listing.proofs.encode.writer.Writer.new.Goals as goal
 
 pub returns-clause-rests : goal.returns-clause-rests

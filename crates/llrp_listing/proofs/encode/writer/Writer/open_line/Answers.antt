@@ -1,7 +1,7 @@
 use Rattle.std.proofs.Common.{List, ℕ, sym, subst}
 use Rattle.std.specs.Prelude.{IfErr, OnOk}
-use Rattle.llrp_listing.specs.Writer.{Fails, Holds, Opens}
-use Rattle.llrp_listing.specs.OpenNodes.{OpenNode}
+use Rattle.llrp_listing.specs.Private.Writer.{Fails, Holds, Opens}
+use Rattle.llrp_listing.specs.Private.OpenNodes.{OpenNode}
 use Rattle.llrp_listing.proofs.encode.writer.Writer.open_line.Goals as goal
 
 pub returns-then-level-eq0-clause-opened : goal.returns-then-level-eq0-clause-opened

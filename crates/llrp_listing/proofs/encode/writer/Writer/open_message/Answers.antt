@@ -1,7 +1,7 @@
 use Rattle.std.proofs.Common.{[], arith}
 use Rattle.llrp_listing.proofs.Zips.{zip_length}
-use Rattle.llrp_listing.specs.Writer.{inner}
-use Rattle.llrp_listing.specs.OpenNodes.{IsHeld}
+use Rattle.llrp_listing.specs.Private.Writer.{inner}
+use Rattle.llrp_listing.specs.Private.OpenNodes.{IsHeld}
 use Rattle.llrp_listing.proofs.Beginning.{opens_message}
 use Rattle.llrp_listing.proofs.encode.writer.Writer.open_message.Goals as goal
 

@@ -1,8 +1,8 @@
 use Rattle.std.proofs.Common.{arith}
 use Rattle.std.proofs.lemmas.Result.{err_from_is_err_and}
 use Rattle.llrp_listing.proofs.Zips.{zip_length}
-use Rattle.llrp_listing.specs.Writer.{inner}
-use Rattle.llrp_listing.specs.OpenNodes.{IsHeld}
+use Rattle.llrp_listing.specs.Private.Writer.{inner}
+use Rattle.llrp_listing.specs.Private.OpenNodes.{IsHeld}
 use Rattle.llrp_listing.proofs.Beginning.{opens_parameter}
 use Rattle.llrp_listing.proofs.encode.writer.Writer.open_parameter.Goals as goal
 

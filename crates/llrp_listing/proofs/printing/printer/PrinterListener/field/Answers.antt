@@ -1,6 +1,6 @@
 use Rattle.std.proofs.Common.{◌∙◌}
 use Rattle.std.proofs.lemmas.Result.{on_ok_weaker}
-use Rattle.llrp_schema.specs.Schema.{field_rule}
+use Rattle.llrp_schema.specs.Calls.Schema.{field_rule}
 use Rattle.llrp_listing.proofs.OpenListingLemmas.{grown_drop, grown_take, grown_long, field_of, reserved_of}
 use Rattle.llrp_listing.proofs.printing.printer.PrinterListener.field.Goals as goal
 

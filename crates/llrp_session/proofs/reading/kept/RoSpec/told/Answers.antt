@@ -1,5 +1,5 @@
 use Rattle.std.proofs.Common.{subst}
-use Rattle.llrp_session.specs.LawfulWords.{IsToldOf}
+use Rattle.llrp_session.specs.Calls.LawfulWords.{IsToldOf}
 use Rattle.llrp_session.proofs.ToldOfLawful.{told_of_lawful}
 use Rattle.llrp_session.proofs.reading.kept.RoSpec.told.Goals as goal
 

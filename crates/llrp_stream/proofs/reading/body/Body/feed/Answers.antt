@@ -2,14 +2,14 @@ use Rattle.std.proofs.Common.{◌≡◌, ℕ, ◌≤◌, Bool, true, false, inl,
 use Rattle.std.proofs.lemmas.Result.{err_from_is_err_and}
 use Rattle.std.proofs.lemmas.List.{append-nil}
 use Rattle.llrp_tree.specs.OpenTree.{Begun}
-use Rattle.llrp_stream.specs.Reading.{IsComplete}
-use Rattle.llrp_stream.specs.Pieces.{Stands, Awaits}
+use Rattle.llrp_stream.specs.Private.Reading.{IsComplete}
+use Rattle.llrp_stream.specs.Calls.Pieces.{Stands, Awaits}
 use Rattle.llrp_stream.proofs.PieceLemmas.{chunk_fits, chunk_fed, chunk_whole, chunk_tells, head_split, parts_first, parts_last}
 use Rattle.llrp_tree.specs.declared.fault.FrameErr.{FrameErr}
 use Rattle.std.specs.Prelude.{Result, Err, ◌==◌}
 use Rattle.std.proofs.lemmas.Bool.{eqb-true}
 use Rattle.llrp_stream.specs.declared.reading.body.Body.{Body}
-use Rattle.llrp_stream.specs.Pieces.{Feeds}
+use Rattle.llrp_stream.specs.Private.Pieces.{Feeds}
 use Rattle.llrp_stream.proofs.reading.body.Body.feed.Goals as goal
 
 fed_all : (begins stands : List Begun → Type 0) (start old new : Body) (front piece done rest : List ℕ) (result : Result Bool FrameErr) → piece ≡ done ++ rest → length (front ++ piece) ≤ start.reader.octets → old.reader.octets ≡ start.reader.octets

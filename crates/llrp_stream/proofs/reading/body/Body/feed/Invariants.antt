@@ -1,5 +1,6 @@
 use Rattle.std.proofs.Common.{ℕ, ◌≤◌, List, ◌++◌, length}
-use Rattle.llrp_stream.specs.Pieces.{Stands, FedSoFar}
+use Rattle.llrp_stream.specs.Calls.Pieces.{Stands}
+use Rattle.llrp_stream.specs.Private.Pieces.{FedSoFar}
 use Rattle.llrp_stream.proofs.reading.body.Body.feed.Given as goal
 
 abbrev pub invariant-raw : goal.invariant-raw

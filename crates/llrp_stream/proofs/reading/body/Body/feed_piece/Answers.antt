@@ -1,7 +1,7 @@
 use Rattle.std.proofs.Common.{◌≡◌, ℕ, ◌≤◌, List, [], ◌++◌, sym, ap, ◌∙◌, arith, length-drop, length, drop}
 use Rattle.std.proofs.lemmas.Result.{err_from_is_err_and}
 use Rattle.llrp_tree.specs.OpenTree.{Begun}
-use Rattle.llrp_stream.specs.Pieces.{Stands}
+use Rattle.llrp_stream.specs.Calls.Pieces.{Stands}
 use Rattle.llrp_stream.proofs.PieceLemmas.{are_then, behind_then, stands_on, short_of}
 use Rattle.llrp_stream.specs.declared.reading.body.Body.{Body}
 use Rattle.llrp_stream.proofs.reading.body.Body.feed_piece.Goals as goal

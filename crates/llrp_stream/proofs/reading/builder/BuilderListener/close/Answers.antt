@@ -1,8 +1,9 @@
 use Rattle.std.proofs.Common.{ℕ, sym, subst, List}
 use Rattle.std.specs.Prelude.{OnOk}
 use Rattle.llrp_tree.specs.OpenTree.{Begun}
-use Rattle.llrp_stream.specs.Told.{CanClose, IsReady, with_closed}
-use Rattle.llrp_stream.specs.Building.{Building, HasOpen}
+use Rattle.llrp_stream.specs.Calls.Told.{CanClose, IsReady, with_closed}
+use Rattle.llrp_stream.specs.Building.{Building}
+use Rattle.llrp_stream.specs.Private.Building.{HasOpen}
 use Rattle.llrp_stream.proofs.BuildingLemmas.{can_close, closed_on_ok}
 use Rattle.llrp_stream.proofs.reading.builder.BuilderListener.close.Goals as goal
 

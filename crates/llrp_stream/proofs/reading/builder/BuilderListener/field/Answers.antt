@@ -1,6 +1,7 @@
 use Rattle.std.proofs.Common.{sym, subst}
-use Rattle.llrp_schema.specs.Schema.{field_rule}
-use Rattle.llrp_stream.specs.Building.{Building, HasOpen}
+use Rattle.llrp_schema.specs.Calls.Schema.{field_rule}
+use Rattle.llrp_stream.specs.Building.{Building}
+use Rattle.llrp_stream.specs.Private.Building.{HasOpen}
 use Rattle.llrp_stream.proofs.BuildingLemmas.{has_room, plain_field, reserved_field}
 use Rattle.llrp_stream.proofs.reading.builder.BuilderListener.field.Goals as goal
 

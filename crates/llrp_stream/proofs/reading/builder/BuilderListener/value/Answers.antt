@@ -1,8 +1,9 @@
 use Rattle.std.proofs.Common.{◌≡◌, ℕ, List, length, subst}
 use Rattle.std.specs.Prelude.{OnOk}
 use Rattle.llrp_tree.specs.OpenTree.{Begun}
-use Rattle.llrp_stream.specs.Told.{IsNextValue, with_value}
-use Rattle.llrp_stream.specs.Building.{Building, HasOpen}
+use Rattle.llrp_stream.specs.Calls.Told.{IsNextValue, with_value}
+use Rattle.llrp_stream.specs.Building.{Building}
+use Rattle.llrp_stream.specs.Private.Building.{HasOpen}
 use Rattle.llrp_stream.proofs.ValueLemmas.{valued_on_ok}
 use Rattle.llrp_stream.proofs.reading.builder.BuilderListener.value.Goals as goal
 

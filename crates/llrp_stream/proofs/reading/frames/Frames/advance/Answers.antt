@@ -2,7 +2,7 @@ use Rattle.std.proofs.Common.{[], sym, ap, ◌∙◌, arith, inl, inr}
 use Rattle.llrp_stream.specs.declared.reading.body.Body.{Body}
 use Rattle.llrp_stream.specs.declared.state.State.{State}
 use Rattle.llrp_stream.specs.declared.state.State.TheVariants as state
-use Rattle.llrp_stream.specs.Frames.{is_skipped}
+use Rattle.llrp_stream.specs.Calls.Frames.{is_skipped}
 use Rattle.llrp_stream.proofs.FramesLemmas.{at_start, state_comes, starts_of, came_so, begun_of, start_unskipped, not_start, begins_takes, goes_on_goes, goes_on_progress, skip_takes}
 use Rattle.llrp_stream.proofs.reading.frames.Frames.advance.Goals as goal
 

@@ -2,7 +2,7 @@ use Rattle.std.proofs.Common.{◌≡◌, ℕ, ◌≤◌, ◌++◌, List, [], len
 use Rattle.std.proofs.lemmas.List.{take-append-drop}
 use Rattle.std.proofs.lemmas.Result.{err_from_is_err_and}
 use Rattle.llrp_stream.specs.Cuts.{Breaks}
-use Rattle.llrp_stream.specs.Headers.{IsSound}
+use Rattle.llrp_stream.specs.Private.Headers.{IsSound}
 use Rattle.llrp_stream.proofs.FrontLemmas.{no_frame_breaks}
 use Rattle.llrp_stream.proofs.FramesLemmas.{near_is, begins_short, begins_faulty, begins_behind, begins_fails}
 use Rattle.llrp_stream.proofs.reading.frames.Frames.begin.Goals as goal

@@ -1,5 +1,5 @@
 use Rattle.std.proofs.Common.{◌≡◌, List, ℕ, [], ◌∷◌, length, refl, sym, subst, ◌∙◌, arith, eqb-true}
-use Rattle.llrp_stream.specs.Frames.{Begins}
+use Rattle.llrp_stream.specs.Private.Frames.{Begins}
 use Rattle.llrp_stream.proofs.reading.frames.Frames.begin_any.Goals as goal
 
 no_octets : (xs : List ℕ) → length xs ≡ 0 → xs ≡ []

@@ -1,8 +1,8 @@
 use Rattle.std.proofs.Common.{Ok, Bool, ℕ, ◌+◌, ◌≤◌, ◌++◌, List, [], length, refl, sym, subst, arith, length-append}
 use Rattle.llrp_tree.specs.declared.fault.FrameErr.{FrameErr}
 use Rattle.llrp_tree.specs.Lawful.{AreOctets}
-use Rattle.llrp_stream.specs.Front.{FailsWith}
-use Rattle.llrp_stream.specs.Pieces.{Feeds}
+use Rattle.llrp_stream.specs.Private.Front.{FailsWith}
+use Rattle.llrp_stream.specs.Private.Pieces.{Feeds}
 use Rattle.llrp_stream.specs.declared.state.State.TheVariants as state
 use Rattle.llrp_tree.proofs.OctetLemmas.{are_octets, octets-append}
 use Rattle.llrp_stream.proofs.FramesLemmas.{within, near_is, octets-take, whole_frame, goes_on_reading, goes_on_end, goes_on_failed, on_ok}

@@ -2,7 +2,7 @@ use Rattle.std.proofs.Common.{◌≡◌, ℕ, Bool, true, false, List, [], Ok, r
 use Rattle.std.proofs.lemmas.List.{append-nil}
 use Rattle.std.proofs.lemmas.Result.{err_from_is_err_and}
 use Rattle.llrp_stream.specs.Cuts.{IsFrame}
-use Rattle.llrp_stream.specs.Frames.{Gives}
+use Rattle.llrp_stream.specs.Calls.Frames.{Gives}
 use Rattle.llrp_stream.specs.declared.reading.frames.Outcome.TheVariants.{Whole}
 use Rattle.llrp_stream.proofs.FramesLemmas.{bare_frame, passed_first}
 use Rattle.llrp_stream.proofs.reading.frames.Frames.open_here.Goals as goal

@@ -1,7 +1,7 @@
 use Rattle.std.proofs.Common.{◌≡◌, ℕ, ◌-◌, List, length, Ok, sym, ap, subst, arith, length-drop}
 use Rattle.std.proofs.lemmas.Result.{err_from_is_err_and}
 use Rattle.llrp_stream.specs.declared.reading.reader.Reader.{Reader}
-use Rattle.llrp_stream.specs.Reading.{Takes}
+use Rattle.llrp_stream.specs.Private.Reading.{Takes}
 use Rattle.llrp_stream.proofs.ManyValues.{awaits_on, kept_on, one_more, taken_in_all}
 use Rattle.llrp_stream.proofs.reading.reader.Reader.all_values.Goals as goal
 

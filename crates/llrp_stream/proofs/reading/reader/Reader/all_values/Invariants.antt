@@ -1,5 +1,6 @@
 use Rattle.std.proofs.Common.{◌≡◌, ◌+◌, ◌≤◌, ℕ, List, length, drop}
-use Rattle.llrp_stream.specs.Reading.{Are, KeepsNode, TakenSoFar}
+use Rattle.llrp_stream.specs.Calls.Reading.{Are}
+use Rattle.llrp_stream.specs.Private.Reading.{KeepsNode, TakenSoFar}
 use Rattle.llrp_stream.proofs.reading.reader.Reader.all_values.Given as goal
 
 abbrev pub invariant-values : goal.invariant-values

@@ -2,8 +2,9 @@ use Rattle.std.proofs.Common.{◌≡◌, ℕ, ◌+◌, ◌*◌, List, [], ◌∷
 use Rattle.std.proofs.lemmas.List.{drop_all}
 use Rattle.llrp_schema.specs.Schema.{FieldRule, fields_of}
 use Rattle.llrp_tree.specs.OpenTree.{Begun, due, Rest}
-use Rattle.llrp_stream.specs.Front.{Reaches}
-use Rattle.llrp_stream.specs.Reading.{IsAtStage, IsLeading, rank}
+use Rattle.llrp_stream.specs.Calls.Front.{Reaches}
+use Rattle.llrp_stream.specs.Calls.Reading.{IsAtStage, IsLeading}
+use Rattle.llrp_stream.specs.Private.Reading.{rank}
 use Rattle.llrp_stream.specs.declared.reading.reader.Reader.{Reader}
 use Rattle.llrp_stream.specs.declared.reading.reader.Stage.{Stage}
 use Rattle.llrp_stream.proofs.ReadyPart.{resting, aligned, ready_work}

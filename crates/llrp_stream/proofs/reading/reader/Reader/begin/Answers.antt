@@ -5,10 +5,11 @@ use Rattle.llrp_schema.specs.Schema.{groups_of, profile_of}
 use Rattle.llrp_tree.specs.Tree.{Forest}
 use Rattle.llrp_tree.specs.Spelling.{tlv, tv}
 use Rattle.llrp_tree.specs.OpenTree.{Begun}
-use Rattle.llrp_tree.specs.Standing.{leading}
+use Rattle.llrp_tree.specs.Calls.Standing.{leading}
 use Rattle.llrp_stream.specs.declared.reading.level.Child.{Child}
-use Rattle.llrp_stream.specs.Front.{Reaches, IsUndecided}
-use Rattle.llrp_stream.specs.Reading.{Reads, HeadSays, HeadFails, settled, Told}
+use Rattle.llrp_stream.specs.Calls.Front.{Reaches, IsUndecided}
+use Rattle.llrp_stream.specs.Calls.Reading.{Reads, settled, Told}
+use Rattle.llrp_stream.specs.Private.Reading.{HeadSays, HeadFails}
 use Rattle.llrp_stream.specs.declared.reading.reader.Stage.{Stage}
 use Rattle.llrp_schema.specs.declared.kinds.ParamKind.{ParamKind}
 use Rattle.llrp_stream.specs.declared.reading.level.Child.TheVariants as child

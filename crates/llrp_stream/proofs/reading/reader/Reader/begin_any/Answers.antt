@@ -1,7 +1,8 @@
 use Rattle.std.proofs.Common.{◌≡◌, ℕ, ◌∷◌, Ok, sym, ap, subst, drop, arith}
 use Rattle.std.proofs.lemmas.Result.{err_from_is_err_and}
 use Rattle.llrp_stream.specs.declared.reading.reader.Reader.{Reader}
-use Rattle.llrp_stream.specs.Reading.{Reads, Steps}
+use Rattle.llrp_stream.specs.Calls.Reading.{Reads}
+use Rattle.llrp_stream.specs.Private.Reading.{Steps}
 use Rattle.llrp_stream.proofs.reading.reader.Reader.begin_any.Goals as goal
 
 pub returns-in_err-head : goal.returns-in_err-head

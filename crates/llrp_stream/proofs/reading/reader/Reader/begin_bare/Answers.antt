@@ -1,13 +1,14 @@
 use Rattle.std.proofs.Common.{◌≡◌, inr, ℕ, ◌+◌, ◌*◌, List, [], ◌∷◌, Ok, refl, ap, subst, arith, drop}
 use Rattle.std.proofs.lemmas.Result.{err_from_is_err_and}
 use Rattle.llrp_tree.specs.Spelling.{tlv}
-use Rattle.llrp_tree.specs.Standing.{leading}
+use Rattle.llrp_tree.specs.Calls.Standing.{leading}
 use Rattle.llrp_stream.specs.declared.reading.level.Level.{Level}
 use Rattle.llrp_stream.specs.declared.reading.reader.Reader.{Reader}
 use Rattle.llrp_stream.specs.declared.reading.reader.Stage.{Stage}
 use Rattle.llrp_stream.specs.declared.reading.reader.Step.{Step}
-use Rattle.llrp_stream.specs.Front.{Reaches}
-use Rattle.llrp_stream.specs.Reading.{Moves, Steps, Told}
+use Rattle.llrp_stream.specs.Calls.Front.{Reaches}
+use Rattle.llrp_stream.specs.Private.Reading.{Moves, Steps}
+use Rattle.llrp_stream.specs.Calls.Reading.{Told}
 use Rattle.llrp_stream.proofs.BareLemmas.{fails_here, seen_at, known_says, says_long, moved_twice}
 use Rattle.llrp_stream.proofs.ChildPart.{head_tells, outer_length, long_reaches}
 use Rattle.llrp_stream.proofs.MoreOctets.{behind_on, fails_with}

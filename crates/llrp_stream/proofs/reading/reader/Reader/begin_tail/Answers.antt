@@ -7,7 +7,7 @@ use Rattle.llrp_schema.specs.Schema.{fields_of}
 use Rattle.llrp_tree.specs.Tree.{none}
 use Rattle.llrp_tree.specs.Lawful.{count_octets}
 use Rattle.llrp_tree.specs.OpenTree.{Begun, rules, groups, plain_values}
-use Rattle.llrp_tree.specs.Standing.{begun}
+use Rattle.llrp_tree.specs.Calls.Standing.{begun}
 use Rattle.llrp_tree.specs.declared.fault.FrameErr.{FrameErr}
 use Rattle.llrp_stream.specs.declared.reading.reader.Reader.{Reader}
 use Rattle.llrp_stream.specs.declared.reading.reader.Stage.{Stage}
@@ -15,8 +15,9 @@ use Rattle.llrp_stream.specs.declared.reading.reader.Stage.TheVariants as stage
 use Rattle.tag_bits.specs.Digits.{digits_of_bytes}
 use Rattle.llrp_tree.specs.FirstFault.{tail_length}
 use Rattle.llrp_stream.specs.declared.reading.tail.TailSize.{TailSize}
-use Rattle.llrp_stream.specs.Tails.{CountSays}
-use Rattle.llrp_stream.specs.Reading.{AreSeen, rank, Told}
+use Rattle.llrp_stream.specs.Private.Tails.{CountSays}
+use Rattle.llrp_stream.specs.Calls.Reading.{AreSeen, Told}
+use Rattle.llrp_stream.specs.Private.Reading.{rank}
 use Rattle.llrp_stream.proofs.Bounds.{before_stop, stop_within}
 use Rattle.llrp_stream.proofs.MoreOctets.{fails_with}
 use Rattle.llrp_stream.proofs.TailPart.{led, after_two, known, is_before_tail, count_tells, count_undecided, tail_begun, tail_work}

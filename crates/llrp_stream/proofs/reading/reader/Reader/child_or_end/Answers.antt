@@ -5,8 +5,9 @@ use Rattle.llrp_tree.specs.declared.fault.FrameErr.{FrameErr}
 use Rattle.llrp_stream.specs.declared.reading.reader.Reader.{Reader}
 use Rattle.llrp_stream.specs.declared.reading.reader.Stage.{Stage}
 use Rattle.llrp_stream.specs.declared.reading.reader.Stage.TheVariants.{Children}
-use Rattle.llrp_stream.specs.Front.{FailsWith}
-use Rattle.llrp_stream.specs.Reading.{Reads, Are, Steps, Told}
+use Rattle.llrp_stream.specs.Private.Front.{FailsWith}
+use Rattle.llrp_stream.specs.Calls.Reading.{Reads, Are, Told}
+use Rattle.llrp_stream.specs.Private.Reading.{Steps}
 use Rattle.llrp_stream.proofs.ManyValues.{head_taken, moved_on}
 use Rattle.llrp_stream.proofs.MoreOctets.{behind_on}
 use Rattle.llrp_stream.proofs.reading.reader.Reader.child_or_end.Goals as goal

@@ -8,10 +8,11 @@ use Rattle.llrp_tree.specs.Tree.{Forest, and}
 use Rattle.llrp_tree.specs.Lawful.{AllLawful, IsLawful}
 use Rattle.llrp_tree.specs.Spelling.{Head, message, tlv, tv}
 use Rattle.llrp_tree.specs.OpenTree.{Begun, kind_of, groups, is_enough, plain_values, IsHead, IsOpenTree}
-use Rattle.llrp_tree.specs.Standing.{begun}
-use Rattle.llrp_stream.specs.Front.{Reaches}
-use Rattle.llrp_stream.specs.Told.{with_child, with_closed}
-use Rattle.llrp_stream.specs.Reading.{IsResting, IsAtStage, Told, rank, work}
+use Rattle.llrp_tree.specs.Calls.Standing.{begun}
+use Rattle.llrp_stream.specs.Calls.Front.{Reaches}
+use Rattle.llrp_stream.specs.Calls.Told.{with_child, with_closed}
+use Rattle.llrp_stream.specs.Calls.Reading.{IsResting, IsAtStage, Told}
+use Rattle.llrp_stream.specs.Private.Reading.{rank, work}
 use Rattle.llrp_stream.specs.declared.reading.reader.Reader.{Reader}
 use Rattle.llrp_stream.specs.declared.reading.reader.Stage.{Stage}
 use Rattle.llrp_stream.proofs.SeenLemmas.{seen_are, seen_closed}

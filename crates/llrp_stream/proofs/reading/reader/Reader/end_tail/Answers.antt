@@ -1,7 +1,8 @@
 use Rattle.std.proofs.Common.{◌∷◌, length, refl, ap, subst, arith}
 use Rattle.llrp_stream.specs.declared.reading.reader.Reader.{Reader}
 use Rattle.llrp_stream.specs.declared.reading.reader.Stage.{Stage}
-use Rattle.llrp_stream.specs.Reading.{IsAtStage, IsTailing, rank}
+use Rattle.llrp_stream.specs.Calls.Reading.{IsAtStage, IsTailing}
+use Rattle.llrp_stream.specs.Private.Reading.{rank}
 use Rattle.llrp_stream.proofs.TailPart.{ended, ready_due, tail_work}
 use Rattle.llrp_stream.proofs.reading.reader.Reader.end_tail.Goals as goal
 

@@ -5,14 +5,14 @@ use Rattle.llrp_schema.specs.declared.kinds.Kind.{Kind}
 use Rattle.llrp_schema.specs.Schema.{groups_of}
 use Rattle.llrp_tree.specs.Tree.{none}
 use Rattle.llrp_tree.specs.OpenTree.{kind_of}
-use Rattle.llrp_tree.specs.Standing.{leading}
+use Rattle.llrp_tree.specs.Calls.Standing.{leading}
 use Rattle.llrp_stream.specs.declared.reading.level.Level.{Level}
-use Rattle.llrp_stream.specs.Front.{Reaches}
-use Rattle.llrp_stream.specs.Reading.{AreSeen, with_begun, AreLevels, IsLevel}
+use Rattle.llrp_stream.specs.Calls.Front.{Reaches}
+use Rattle.llrp_stream.specs.Calls.Reading.{AreSeen, with_begun, AreLevels, IsLevel}
 use Rattle.llrp_stream.specs.declared.reading.reader.Reader.{Reader}
 use Rattle.llrp_stream.specs.declared.reading.reader.Stage.{Stage}
 use Rattle.llrp_stream.specs.declared.reading.reader.Stage.TheVariants as stage
-use Rattle.llrp_stream.specs.Reading.{rank, work}
+use Rattle.llrp_stream.specs.Private.Reading.{rank, work}
 use Rattle.llrp_stream.proofs.ChildPart.{levels_length, pushed}
 use Rattle.llrp_stream.proofs.reading.reader.Reader.enter.Goals as goal
 

@@ -1,13 +1,14 @@
 use Rattle.std.proofs.Common.{◌≡◌, ℕ, ◌+◌, ◌-◌, ◌*◌, ◌/◌, ◌%◌, ◌≤◌, ◌<◌, inl, List, [], ◌∷◌, ◌++◌, sym, ap, ◌∙◌, subst, refl, arith, length-drop, length-append, length}
 use Rattle.std.proofs.lemmas.Result.{err_from_is_err_and}
 use Rattle.llrp_tree.specs.OpenTree.{Begun, groups}
-use Rattle.llrp_tree.specs.Standing.{begun, leading}
-use Rattle.llrp_schema.specs.Schema.{field_rule}
-use Rattle.llrp_stream.specs.Front.{Reaches, IsUndecided}
+use Rattle.llrp_tree.specs.Calls.Standing.{begun, leading}
+use Rattle.llrp_schema.specs.Calls.Schema.{field_rule}
+use Rattle.llrp_stream.specs.Calls.Front.{Reaches, IsUndecided}
 use Rattle.arrayvec.specs.ArrayVec.{ArrayVec}
 use Rattle.llrp_stream.specs.declared.reading.level.Level.{Level}
 use Rattle.llrp_stream.specs.declared.reading.reader.Reader.{Reader}
-use Rattle.llrp_stream.specs.Reading.{AreSeen, rank, work, settled, Told}
+use Rattle.llrp_stream.specs.Calls.Reading.{AreSeen, settled, Told}
+use Rattle.llrp_stream.specs.Private.Reading.{rank, work}
 use Rattle.llrp_stream.specs.declared.reading.reader.Stage.{Stage}
 use Rattle.llrp_stream.proofs.Bounds.{stop_within}
 use Rattle.llrp_stream.proofs.FieldPart.{short_fails, staged, field_all_tell, field_reaches, field_undecided, is_next_field}

@@ -4,10 +4,11 @@ use Rattle.std.proofs.lemmas.List.{drop_all, length-map}
 use Rattle.std.specs.Prelude.{not, map}
 use Rattle.llrp_schema.specs.declared.kinds.Field.{Field}
 use Rattle.llrp_schema.specs.declared.kinds.Kind.{Kind}
-use Rattle.llrp_schema.specs.Schema.{FieldRule, field_rule, fields_of}
+use Rattle.llrp_schema.specs.Schema.{FieldRule, fields_of}
+use Rattle.llrp_schema.specs.Calls.Schema.{field_rule}
 use Rattle.llrp_tree.specs.OpenTree.{Begun, kind_of, due, Rest}
-use Rattle.llrp_stream.specs.Front.{Reaches}
-use Rattle.llrp_stream.specs.Reading.{Reads}
+use Rattle.llrp_stream.specs.Calls.Front.{Reaches}
+use Rattle.llrp_stream.specs.Calls.Reading.{Reads}
 use Rattle.llrp_tree.specs.OpenTree.{has_tail}
 use Rattle.llrp_schema.specs.declared.kinds.Tail.{Tail}
 use Rattle.llrp_schema.specs.declared.kinds.Tail.TheVariants.{Absent, Words, Text, Bits, Data}
@@ -16,7 +17,8 @@ use Rattle.llrp_schema.proofs.TableLaws.{signed_fields}
 use Rattle.llrp_stream.specs.declared.reading.reader.Stage.{Stage}
 use Rattle.llrp_stream.specs.declared.reading.reader.Stage.TheVariants as stage
 use Rattle.llrp_stream.specs.declared.reading.reader.Reader.{Reader}
-use Rattle.llrp_stream.specs.Reading.{IsAtStage, IsLeading, rank}
+use Rattle.llrp_stream.specs.Calls.Reading.{IsAtStage, IsLeading}
+use Rattle.llrp_stream.specs.Private.Reading.{rank}
 use Rattle.llrp_stream.proofs.Bounds.{few_fields, fields_in, leading_few}
 use Rattle.llrp_stream.proofs.ReadyPart.{resting, aligned, ready_work}
 use Rattle.llrp_stream.proofs.reading.reader.Reader.leading.Goals as goal

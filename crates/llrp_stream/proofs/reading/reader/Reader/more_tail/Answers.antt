@@ -6,16 +6,18 @@ use Rattle.llrp_schema.specs.declared.kinds.Tail.TheVariants.{Text}
 use Rattle.llrp_schema.specs.Schema.{tail_of}
 use Rattle.llrp_tree.specs.Tree.{none}
 use Rattle.llrp_tree.specs.OpenTree.{Begun, form, groups, has_tail}
-use Rattle.llrp_tree.specs.Standing.{begun}
+use Rattle.llrp_tree.specs.Calls.Standing.{begun}
 use Rattle.llrp_tree.specs.declared.fault.FrameErr.{FrameErr}
 use Rattle.llrp_tree.proofs.OctetLemmas.{are_octets}
 use Rattle.llrp_stream.specs.declared.reading.reader.Reader.{Reader}
 use Rattle.llrp_stream.specs.declared.reading.reader.Stage.{Stage}
 use Rattle.llrp_stream.specs.declared.reading.reader.Stage.TheVariants as stage
-use Rattle.llrp_stream.specs.Front.{TellsAll, IsUndecided}
-use Rattle.llrp_stream.specs.Told.{AreWhole}
-use Rattle.llrp_stream.specs.Tails.{HasWhole}
-use Rattle.llrp_stream.specs.Reading.{AreSeen, IsAtStage, IsTailing, settled, rank, Told}
+use Rattle.llrp_stream.specs.Private.Front.{TellsAll}
+use Rattle.llrp_stream.specs.Calls.Front.{IsUndecided}
+use Rattle.llrp_stream.specs.Calls.Told.{AreWhole}
+use Rattle.llrp_stream.specs.Private.Tails.{HasWhole}
+use Rattle.llrp_stream.specs.Calls.Reading.{AreSeen, IsAtStage, IsTailing, settled, Told}
+use Rattle.llrp_stream.specs.Private.Reading.{rank}
 use Rattle.llrp_stream.proofs.Bounds.{stop_within}
 use Rattle.llrp_stream.proofs.MoreOctets.{fails_with}
 use Rattle.llrp_stream.proofs.TailPart.{far_of, used_within, piece_whole, tail_undecided, is_in_tail, text_tells, went_on, waits_few, more_work}

@@ -7,7 +7,8 @@ use Rattle.llrp_schema.specs.Schema.{groups_of, is_tv}
 use Rattle.llrp_tree.specs.Tree.{Forest}
 use Rattle.llrp_stream.specs.declared.reading.level.Placed.{Placed}
 use Rattle.llrp_stream.specs.declared.reading.reader.Reader.{Reader}
-use Rattle.llrp_stream.specs.Reading.{AreSeen, AwaitsValues, BeginsValue, IsPlaced}
+use Rattle.llrp_stream.specs.Calls.Reading.{AreSeen}
+use Rattle.llrp_stream.specs.Private.Reading.{AwaitsValues, BeginsValue, IsPlaced}
 use Rattle.llrp_stream.proofs.ValuePart.{width_is}
 use Rattle.llrp_stream.proofs.ManyValues.{own_report}
 use Rattle.llrp_schema.specs.declared.kinds.Profile.{Profile}

@@ -4,8 +4,8 @@ use Rattle.llrp_tree.specs.OpenTree.{Begun}
 use Rattle.llrp_stream.specs.declared.reading.reader.Reader.{Reader}
 use Rattle.llrp_stream.specs.declared.reading.reader.Step.{Step}
 use Rattle.llrp_stream.specs.declared.reading.reader.Step.TheVariants.{Waits, Goes, Ends}
-use Rattle.llrp_stream.specs.Front.{FailsWith}
-use Rattle.llrp_stream.specs.Reading.{Steps, work}
+use Rattle.llrp_stream.specs.Private.Front.{FailsWith}
+use Rattle.llrp_stream.specs.Private.Reading.{Steps, work}
 use Rattle.llrp_stream.proofs.MoreOctets.{behind_on}
 use Rattle.llrp_stream.proofs.reading.reader.Reader.read.Goals as goal
 

@@ -1,6 +1,7 @@
 use Rattle.std.proofs.Common.{◌≡◌, ℕ, List, length, drop}
-use Rattle.llrp_stream.specs.Reading.{Are, work}
-use Rattle.llrp_stream.specs.Pieces.{ReadSoFar}
+use Rattle.llrp_stream.specs.Calls.Reading.{Are}
+use Rattle.llrp_stream.specs.Private.Reading.{work}
+use Rattle.llrp_stream.specs.Private.Pieces.{ReadSoFar}
 use Rattle.llrp_stream.proofs.reading.reader.Reader.read.Given as goal
 
 abbrev pub invariant-parts : goal.invariant-parts

@@ -1,5 +1,5 @@
 use Rattle.std.proofs.Common.{subst, ◌∷◌}
-use Rattle.llrp_stream.specs.Reading.{Told}
+use Rattle.llrp_stream.specs.Calls.Reading.{Told}
 use Rattle.llrp_stream.specs.declared.reading.reader.Stage.{Stage}
 use Rattle.llrp_stream.proofs.Bounds.{stop_small, before_stop}
 use Rattle.llrp_stream.proofs.reading.reader.Reader.step.Goals as goal

@@ -6,12 +6,13 @@ use Rattle.llrp_schema.specs.declared.kinds.ParamKind.{ParamKind}
 use Rattle.llrp_schema.specs.Schema.{profile_of, bits_of, fields_of, groups_of}
 use Rattle.llrp_tree.specs.Tree.{Forest, none, and}
 use Rattle.llrp_tree.specs.OpenTree.{Begun}
-use Rattle.llrp_tree.specs.Standing.{begun, KindPasses}
+use Rattle.llrp_tree.specs.Calls.Standing.{begun}
+use Rattle.llrp_tree.specs.Private.Standing.{KindPasses}
 use Rattle.llrp_tree.specs.FirstFault.{number, first_digit, tv_kind}
 use Rattle.llrp_stream.specs.declared.reading.reader.Reader.{Reader}
 use Rattle.llrp_stream.specs.declared.reading.reader.Stage.{Stage}
-use Rattle.llrp_stream.specs.Front.{Reaches}
-use Rattle.llrp_stream.specs.Reading.{AreSeen, IsAtStage, IsResting, Told}
+use Rattle.llrp_stream.specs.Calls.Front.{Reaches}
+use Rattle.llrp_stream.specs.Calls.Reading.{AreSeen, IsAtStage, IsResting, Told}
 use Rattle.llrp_stream.proofs.ChildPart.{resting, outer_length, same_due}
 use Rattle.llrp_stream.proofs.SeenLemmas.{seen_are, seen_value}
 use Rattle.llrp_stream.proofs.ValuePart.{width_is, value_reaches, is_next_value}

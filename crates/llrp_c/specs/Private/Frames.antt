@@ -1,0 +1,24 @@
+-- How the whole frames of a stream are found.
+use Rattle.std.specs.Prelude.{◌≡◌, ℕ, ◌≤◌, Bool, true, false, List, length, take}
+use Rattle.std.specs.List.{AllByRecursion}
+use Rattle.llrp_stream.specs.Cuts.{Breaks, IsFrame, IsPartial, joined}
+use Rattle.llrp_c.specs.declared.frames.Next.{Next}
+use Rattle.llrp_c.specs.declared.frames.Next.TheVariants.{Whole, Partial, Break}
+
+-- what a stream begins with: a whole frame of this many octets, less than a frame, or what no frame begins with
+abbrev pub BeginsWith : List ℕ → Next → Type 0
+BeginsWith stream (Whole octets) = (octets ≤ length stream) × IsFrame (take octets stream)
+BeginsWith stream Partial = IsPartial stream
+BeginsWith stream Break = Breaks stream
+
+-- what is left after the whole frames of a stream
+abbrev pub IsLeft : Bool → List ℕ → Type 0
+IsLeft false rest = IsPartial rest
+IsLeft true rest = Breaks rest
+
+-- the first octets of a stream are frames
+pub record AreFrames (stream : List ℕ) (octets : ℕ) : Type 0 where
+  pub within : octets ≤ length stream
+  pub frames : List (List ℕ)
+  pub each : AllByRecursion IsFrame frames
+  pub joined_are : take octets stream ≡ joined frames

@@ -1,0 +1,71 @@
+-- What a parse that succeeds is sure to have found.
+use Rattle.std.specs.Prelude.{◌≡◌, ◌⊎◌, ℕ, pos, List, Bool, Option, Some, None, codes}
+use Rattle.clap.specs.Words.{Row, Text, first_of, without_minus}
+use Rattle.clap.specs.Values.{IsSignedIn}
+use Rattle.clap.specs.Walk.{one_of}
+use Rattle.llrp_tree.specs.declared.TheConstants.{MAX_LIMIT}
+use Rattle.llrp_commands.specs.Calls.Words.{IsFlag}
+use Rattle.llrp_commands.specs.declared.words.Request.{Request}
+use Rattle.llrp_commands.specs.declared.words.Request.TheVariants.{Show, Encode, Epc, Network, Help, Usage}
+
+-- the argument has a word
+abbrev pub HasWord : Text → List Row → Type 0
+HasWord id rows = (word : Text) × (first_of id rows ≡ Some word)
+
+-- The argument has a word that spells a number in a range, and is read as one without a sign.
+pub record HasNumberIn (low high : ℕ) (id : Text) (rows : List Row) : Type 0 where
+  pub word : Text
+  pub given : first_of id rows ≡ Some word
+  pub read : one_of id rows ≡ Some (without_minus word)
+  pub spells : IsSignedIn (pos low) (pos high) word
+
+-- the argument has a word that spells a number to 65,535
+abbrev pub HasNumberWord : Text → List Row → Type 0
+HasNumberWord id rows = HasNumberIn 0 65535 id rows
+
+-- the argument has a word that spells a limit on the octets of a message
+abbrev pub HasLimitWord : Text → List Row → Type 0
+HasLimitWord id rows = HasNumberIn 10 MAX_LIMIT id rows
+
+-- a flag says that it was given, or that it was not
+abbrev pub HasFlagWord : Text → List Row → Type 0
+HasFlagWord id rows = (given : Bool) × IsFlag (one_of id rows) given
+
+-- an option that may be given: it has no word, or one that spells a number to 65,535
+abbrev pub MayHaveNumberWord : Text → List Row → Type 0
+MayHaveNumberWord id rows = ((one_of id rows ≡ None) × (first_of id rows ≡ None)) ⊎ HasNumberWord id rows
+
+-- both numbers of a plan are there, and its flag
+abbrev pub HasPlan : List Row → Type 0
+HasPlan rows = HasNumberWord (codes "every") rows × HasNumberWord (codes "polls") rows × HasFlagWord (codes "check") rows
+
+-- sim, inventory or loop, with what they need
+abbrev pub IsNetworkParse : Text → List Row → Type 0
+IsNetworkParse name rows =
+    ((name ≡ codes "sim") × HasNumberWord (codes "PORT") rows)
+    ⊎ ((name ≡ codes "inventory") × HasWord (codes "HOST") rows × HasNumberWord (codes "PORT") rows × HasPlan rows × MayHaveNumberWord (codes "timeout") rows)
+    ⊎ ((name ≡ codes "loop") × HasPlan rows)
+
+-- the flag and the limit of a command over a stream
+abbrev pub HasStreamWords : List Row → Type 0
+HasStreamWords rows = HasFlagWord (codes "hex") rows × HasLimitWord (codes "limit") rows
+
+-- a command, with what it needs
+abbrev pub IsParse : Text → List Row → Type 0
+IsParse name rows =
+    ((name ≡ codes "show") × HasStreamWords rows) ⊎ ((name ≡ codes "encode") × HasStreamWords rows)
+    ⊎ ((name ≡ codes "epc") × HasWord (codes "TEXT") rows) ⊎ IsNetworkParse name rows
+
+-- a command was found, with what it needs
+abbrev pub IsFound : Option (Text × List Row) → Type 0
+IsFound None = ⊥
+IsFound (Some p) = IsParse p.0 p.1
+
+-- what is requested is a text of help or usage
+abbrev pub IsText : Request → Type 0
+IsText (Show hex limit) = ⊥
+IsText (Encode hex limit) = ⊥
+IsText (Epc text) = ⊥
+IsText (Network command) = ⊥
+IsText (Help text) = Unit {0}
+IsText (Usage text) = Unit {0}

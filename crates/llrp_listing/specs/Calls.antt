@@ -1,0 +1,9 @@
+-- What public contracts say that no promise of README rests on.
+pub mod Copying
+pub mod EpcLines
+pub mod Fault
+pub mod FirstRefusal
+pub mod Hexadecimal
+pub mod ListingLaws
+pub mod PrintingLaws
+pub mod Splits

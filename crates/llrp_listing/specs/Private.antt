@@ -1,0 +1,22 @@
+-- Words of private functions: no public contract names one.
+pub mod Copying
+pub mod Encoder
+pub mod FirstRefusal
+pub mod Handing
+pub mod LineChecks
+pub mod LineOctets
+pub mod LineReading
+pub mod Lister
+pub mod Numeral
+pub mod OpenLines
+pub mod OpenNodes
+pub mod OpenListing
+pub mod OpenTextSteps
+pub mod Place
+pub mod Printing
+pub mod ShortLines
+pub mod Splits
+pub mod Standing
+pub mod Taking
+pub mod Writer
+pub mod Tails

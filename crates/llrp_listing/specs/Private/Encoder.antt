@@ -1,0 +1,109 @@
+-- The state of an encoder after a front of a text, and how it stops.
+use Rattle.std.specs.Prelude.{◌≡◌, ℕ, ◌≤◌, ◌⊎◌, List, ◌++◌, length}
+use Rattle.std.specs.List.{AllZip}
+use Rattle.llrp_tree.specs.Tree.{MessageTree}
+use Rattle.llrp_listing.specs.declared.line.LineErr.{LineErr}
+use Rattle.llrp_listing.specs.declared.line.LineErr.TheVariants as unread
+use Rattle.llrp_listing.specs.declared.fault.Refusal.{Refusal}
+use Rattle.llrp_listing.specs.declared.fault.ToolErr.{ToolErr}
+use Rattle.llrp_listing.specs.declared.fault.ToolErr.TheVariants.{Listing, Script, Broken, Peer, Strange, Early, Hex, Read, Write, Bound, Memory}
+use Rattle.llrp_listing.specs.Copying.{IsPrefix}
+use Rattle.llrp_stream.specs.Device.{SinkLog, Wrote, WroteAndFailed}
+use Rattle.llrp_listing.specs.Encoding.{AreSpelled, BeginsEncoding, Encodes, Refuses}
+use Rattle.llrp_listing.specs.FirstRefusal.{IsLastOpen}
+use Rattle.llrp_listing.specs.LineChecks.{SaysLine, SaysNode}
+use Rattle.llrp_listing.specs.Lines.{TextLine, lines_of, NoLf}
+use Rattle.llrp_listing.specs.ListingRules.{row}
+use Rattle.llrp_listing.specs.NodeLine.{NodeLine}
+use Rattle.llrp_listing.specs.Private.OpenLines.{Entry, open_of, AreNumbered, IsSound, Begins, AllClosed}
+use Rattle.llrp_listing.specs.OpenText.{covers}
+
+-- the bytes are a line at a level that this many open lines allow
+abbrev pub SaysAt : ℕ → List ℕ → ℕ → NodeLine → Type 0
+SaysAt depth bytes level line = SaysNode bytes level line × (level ≤ depth)
+
+-- The state of an encoder after a front of a text: these messages are closed, and their bytes were handed on or are gathered in out.
+pub record StandsAt (limit : ℕ) (start now : SinkLog) (text : List ℕ) (entries : List Entry) (number : ℕ) (line out : List ℕ) : Type 0 where
+  pub done : List MessageTree
+  pub front : List TextLine
+  pub cuts : (more : List ℕ) → lines_of (text ++ more) ≡ front ++ lines_of (line ++ more)
+  pub no_lf : NoLf line
+  pub says : AllZip SaysLine front (covers (open_of done entries))
+  pub counted : number ≡ length front
+  pub last : IsLastOpen (open_of done entries)
+  pub sound : IsSound limit (open_of done entries)
+  pub numbered : AreNumbered (row done) entries
+  pub spellings : List ℕ
+  pub spelled : AreSpelled limit done spellings
+  pub handed : List ℕ
+  pub gathered : spellings ≡ handed ++ out
+  pub log : Wrote start now handed
+
+-- the encoder stopped after this front of a text
+abbrev pub Stopped : ℕ → SinkLog → SinkLog → List ℕ → ToolErr → Type 0
+Stopped limit w0 w1 front (Listing line reason) = (bytes : List ℕ) × Wrote w0 w1 bytes × ((more : List ℕ) → Refuses limit (front ++ more) line reason bytes)
+Stopped limit w0 w1 front Write = (bytes : List ℕ) × WroteAndFailed w0 w1 bytes × BeginsEncoding limit front bytes
+Stopped limit w0 w1 front Memory = (bytes : List ℕ) × Wrote w0 w1 bytes × BeginsEncoding limit front bytes
+Stopped limit w0 w1 front Read = ⊥
+Stopped limit w0 w1 front Bound = ⊥
+Stopped limit w0 w1 front Hex = ⊥
+Stopped limit w0 w1 front (Script line) = ⊥
+Stopped limit w0 w1 front Broken = ⊥
+Stopped limit w0 w1 front Early = ⊥
+Stopped limit w0 w1 front (Peer status) = ⊥
+Stopped limit w0 w1 front Strange = ⊥
+
+-- the encoder stopped at the end of this text
+abbrev pub StoppedAtEnd : ℕ → SinkLog → SinkLog → List ℕ → ToolErr → Type 0
+StoppedAtEnd limit w0 w1 text (Listing line reason) = (bytes : List ℕ) × Wrote w0 w1 bytes × Refuses limit text line reason bytes
+StoppedAtEnd limit w0 w1 text Write = (bytes : List ℕ) × WroteAndFailed w0 w1 bytes × (BeginsEncoding limit text bytes ⊎ ((spellings : List ℕ) × Encodes limit text spellings × IsPrefix bytes spellings))
+StoppedAtEnd limit w0 w1 text Memory = (bytes : List ℕ) × Wrote w0 w1 bytes × BeginsEncoding limit text bytes
+StoppedAtEnd limit w0 w1 text Read = ⊥
+StoppedAtEnd limit w0 w1 text Bound = ⊥
+StoppedAtEnd limit w0 w1 text Hex = ⊥
+StoppedAtEnd limit w0 w1 text (Script line) = ⊥
+StoppedAtEnd limit w0 w1 text Broken = ⊥
+StoppedAtEnd limit w0 w1 text Early = ⊥
+StoppedAtEnd limit w0 w1 text (Peer status) = ⊥
+StoppedAtEnd limit w0 w1 text Strange = ⊥
+
+-- the encoding of the text was written
+abbrev pub WroteEncoding : ℕ → SinkLog → SinkLog → List ℕ → Type 0
+WroteEncoding limit w0 w1 text = (bytes : List ℕ) × Encodes limit text bytes × Wrote w0 w1 bytes
+
+-- this line is refused: all that was gathered was written, or a front of it
+abbrev pub Refusing : ℕ → List ℕ → Refusal → SinkLog → SinkLog → ToolErr → Type 0
+Refusing number out why w0 w1 (Listing line reason) = (line ≡ number) × (reason ≡ why) × Wrote w0 w1 out
+Refusing number out why w0 w1 Write = (front : List ℕ) × IsPrefix front out × WroteAndFailed w0 w1 front
+Refusing number out why w0 w1 Memory = ⊥
+Refusing number out why w0 w1 Read = ⊥
+Refusing number out why w0 w1 Bound = ⊥
+Refusing number out why w0 w1 Hex = ⊥
+Refusing number out why w0 w1 (Script line) = ⊥
+Refusing number out why w0 w1 Broken = ⊥
+Refusing number out why w0 w1 Early = ⊥
+Refusing number out why w0 w1 (Peer status) = ⊥
+Refusing number out why w0 w1 Strange = ⊥
+
+-- what is returned where a line is not read
+abbrev pub RefusingLine : LineErr → ℕ → List ℕ → SinkLog → SinkLog → ToolErr → Type 0
+RefusingLine (unread.Refused reason) number out w0 w1 e = Refusing number out reason w0 w1 e
+RefusingLine unread.Memory number out w0 w1 e = (e ≡ Memory) × (w1 ≡ w0)
+
+-- messages' frames were appended
+pub record Appended (limit : ℕ) (messages : List MessageTree) (old new : List ℕ) : Type 0 where
+  pub bytes : List ℕ
+  pub spelled : AreSpelled limit messages bytes
+  pub more : new ≡ old ++ bytes
+
+-- The next line is open, and the messages closed before it are appended.
+pub record Opened (limit : ℕ) (old new : List Entry) (level : ℕ) (line : NodeLine) (number : ℕ) (out0 out1 : List ℕ) : Type 0 where
+  pub messages : List MessageTree
+  pub begins : Begins limit old new level line number messages
+  pub appended : Appended limit messages out0 out1
+
+-- All lines are closed, and the messages are appended.
+pub record Finished (limit : ℕ) (old : List Entry) (out0 out1 : List ℕ) : Type 0 where
+  pub messages : List MessageTree
+  pub closed : AllClosed limit old messages
+  pub appended : Appended limit messages out0 out1

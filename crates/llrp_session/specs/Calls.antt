@@ -1,0 +1,14 @@
+-- What public contracts say that no promise of README rests on.
+pub mod Table
+pub mod Words
+pub mod Sightings
+pub mod World
+pub mod Agreement
+pub mod TableLaws
+pub mod LawfulWords
+pub mod LawfulStates
+pub mod MessageWorld
+pub mod ReadWords
+pub mod MessageAgreement
+pub mod ReaderSteps
+pub mod ClientSteps

@@ -1,0 +1,11 @@
+-- What public contracts say that no promise of README rests on.
+pub mod Decoding
+pub mod Device
+pub mod Frames
+pub mod Front
+pub mod Items
+pub mod Pieces
+pub mod Reading
+pub mod StreamLaws
+pub mod Told
+pub mod Writing

@@ -1,0 +1,118 @@
+-- How far the current frame of a stream is read, whichever listener receives its parts.
+use Rattle.std.specs.Prelude.{◌≡◌, ℕ, ◌+◌, ◌*◌, ◌<◌, ◌≤◌, ◌⊎◌, Bool, true, false, List, [], ◌++◌, length, take, Option, Some, None, Result, Ok, Err}
+use Rattle.llrp_tree.specs.Tree.{MessageTree}
+use Rattle.llrp_tree.specs.Lawful.{AreOctets}
+use Rattle.llrp_tree.specs.FirstFault.{FirstFault}
+use Rattle.llrp_tree.specs.OpenTree.{Begun}
+use Rattle.llrp_stream.specs.declared.item.FeedErr.{FeedErr}
+use Rattle.llrp_stream.specs.declared.item.FeedErr.TheVariants as failure
+use Rattle.llrp_stream.specs.declared.reading.body.Body.{Body}
+use Rattle.llrp_stream.specs.declared.reading.frames.Came.{Came}
+use Rattle.llrp_stream.specs.declared.reading.frames.Frames.{Frames}
+use Rattle.llrp_stream.specs.declared.reading.frames.Outcome.{Outcome}
+use Rattle.llrp_stream.specs.declared.reading.frames.Outcome.TheVariants.{Whole, Bad}
+use Rattle.llrp_stream.specs.declared.state.State.{State}
+use Rattle.llrp_stream.specs.declared.state.State.TheVariants.{Between, Header, Reading, Skipping, Broken, Dead}
+use Rattle.llrp_stream.specs.Cuts.{length_field, IsFrame, IsPartial, Breaks}
+use Rattle.llrp_stream.specs.Items.{FrameOf, id_field}
+use Rattle.llrp_stream.specs.Calls.Items.{header_fault, IsSkipped}
+use Rattle.llrp_stream.specs.Calls.Pieces.{Awaits}
+
+-- The front is of a frame whose header passes its checks and has this id, and the frame's length is known.
+pub record IsPassed (limit id : ℕ) (body : Body) (front : List ℕ) : Type 0 where
+  pub long : 10 ≤ length front
+  pub octets_are : body.reader.octets ≡ length_field front
+  pub within : body.reader.octets ≤ limit
+  pub id_is : id ≡ id_field front
+  pub passes : header_fault limit front ≡ None
+  pub octets : AreOctets front
+
+-- The listener received an open tree, which with the raw octets covers a front of such a frame that is not the whole frame and decides no fault of it.
+pub record IsReading (begins stands : List Begun → Type 0) (limit id : ℕ) (body : Body) (front : List ℕ) : Type 0 where
+  pub passed : IsPassed limit id body front
+  pub awaits : Awaits begins stands body front
+
+-- this front came of the current frame, and the listener received what is whole in it
+abbrev pub ComesAt : (begins stands : List Begun → Type 0) → ℕ → State → Body → List ℕ → Type 0
+ComesAt begins stands limit Between body front = (front ≡ []) × (body.raw.items ≡ []) × stands []
+ComesAt begins stands limit Header body front = (body.raw.items ≡ front) × (0 < length front) × (length front < 10) × IsPartial front × stands []
+ComesAt begins stands limit (Reading id) body front = IsReading begins stands limit id body front
+ComesAt begins stands limit (Skipping count header) body front = IsSkipped limit count header.octets header.id header.fault front × (10 ≤ count) × (count < header.octets) × (body.raw.items ≡ []) × stands []
+ComesAt begins stands limit Broken body front = ⊥
+ComesAt begins stands limit Dead body front = ⊥
+
+-- this front came of the current frame of a stream, and the listener received what is whole in it
+abbrev pub ComesTo : (begins stands : List Begun → Type 0) → Frames → List ℕ → Type 0
+ComesTo begins stands frames front = ComesAt begins stands frames.limit frames.state frames.body front
+
+-- there is such a front, or nothing comes any more
+abbrev pub Comes : (begins stands : List ℕ → List Begun → Type 0) → Frames → Type 0
+Comes begins stands frames = ((was front : List ℕ) × ComesAt (begins was) (stands was) frames.limit frames.state frames.body front) ⊎ ((frames.state ≡ Broken) ⊎ (frames.state ≡ Dead))
+
+-- a frame may have this many octets at most
+abbrev pub limit_of : Frames → ℕ
+limit_of frames = frames.limit
+
+-- the octets of the current frame that are kept as they are
+abbrev pub raw_of : Frames → List ℕ
+raw_of frames = frames.body.raw.items
+
+-- what is kept of the current frame in each state
+abbrev pub held_at : State → Body → ℕ
+held_at Between body = 0
+held_at Header body = length body.raw.items
+held_at (Reading id) body = length body.raw.items + 2 * (length body.reader.outer.items + 1)
+held_at (Skipping count header) body = 0
+held_at Broken body = 0
+held_at Dead body = 0
+
+-- what the engine keeps of the current frame: its raw octets, and two for each open node
+abbrev pub held_of : Frames → ℕ
+held_of frames = held_at frames.state frames.body
+
+-- this front came, whatever the listener received of it
+abbrev pub IsFrontOf : Frames → List ℕ → Type 0
+IsFrontOf frames front = ComesAt (λ tree. Unit {0}) (λ tree. Unit {0}) frames.limit frames.state frames.body front
+
+-- a length field was below 10
+abbrev pub IsBroken : Frames → Type 0
+IsBroken frames = frames.state ≡ Broken
+
+-- a growth was refused
+abbrev pub IsDead : Frames → Type 0
+IsDead frames = frames.state ≡ Dead
+
+-- no frame is begun
+abbrev pub IsIdle : Frames → Type 0
+IsIdle frames = (frames.state ≡ Between) × (frames.body.raw.items ≡ [])
+
+-- what became of a frame: the listener received its message, and has that; or it has a fault, and the listener has what it had
+abbrev pub Gives : (stands : List Begun → Type 0) (ends : MessageTree → List ℕ → Type 0) (rests : List ℕ → Type 0) → ℕ → List ℕ → Outcome → Type 0
+Gives stands ends rests limit frame Whole = (m : MessageTree) × FrameOf m frame limit × (now : List ℕ) × ends m now × rests now
+Gives stands ends rests limit frame (Bad id fault) = (id ≡ id_field frame) × FirstFault frame limit fault.bit fault.reason × stands []
+
+-- what a feed took: without an outcome the whole piece, which now belongs to the front; with one the bytes up to the frame's end
+abbrev pub TakesOn : (begins stands : List Begun → Type 0) (ends : MessageTree → List ℕ → Type 0) (rests : List ℕ → Type 0) → ℕ → (front piece : List ℕ) → Frames → (used : ℕ) → Option Outcome → Type 0
+TakesOn begins stands ends rests limit front piece new used None = (used ≡ length piece) × ComesAt begins stands limit new.state new.body (front ++ piece)
+TakesOn begins stands ends rests limit front piece new used (Some outcome) = (used ≤ length piece) × IsFrame (front ++ take used piece) × Gives stands ends rests limit (front ++ take used piece) outcome × IsIdle new
+
+abbrev pub is_skipped : State → Bool
+is_skipped Between = false
+is_skipped Header = false
+is_skipped (Reading id) = false
+is_skipped (Skipping count header) = true
+is_skipped Broken = false
+is_skipped Dead = false
+
+-- what a feed does where a front came: it takes bytes, or the front with the piece is no front of a frame and the listener has what it had, or a growth was refused (never while it skips)
+abbrev pub Goes : (begins stands : List Begun → Type 0) (ends : MessageTree → List ℕ → Type 0) (rests : List ℕ → Type 0) → (old new : Frames) → (front piece : List ℕ) → Result Came FeedErr → Type 0
+Goes begins stands ends rests old new front piece (Ok came) = TakesOn begins stands ends rests old.limit front piece new came.used came.outcome
+Goes begins stands ends rests old new front piece (Err failure.Broken) = Breaks (front ++ piece) × stands []
+Goes begins stands ends rests old new front piece (Err failure.Memory) = is_skipped old.state ≡ false
+Goes begins stands ends rests old new front piece (Err failure.Dead) = ⊥
+
+-- nothing is kept after an error
+abbrev pub Stops : Frames → FeedErr → Type 0
+Stops frames failure.Broken = (frames.state ≡ Broken) × (frames.body.raw.items ≡ [])
+Stops frames failure.Memory = (frames.state ≡ Dead) × (frames.body.raw.items ≡ [])
+Stops frames failure.Dead = (frames.state ≡ Dead) × (frames.body.raw.items ≡ [])

@@ -1,0 +1,13 @@
+-- Words of private functions: no public contract names one.
+pub mod Building
+pub mod Decoding
+pub mod Frames
+pub mod Front
+pub mod Headers
+pub mod Keeping
+pub mod OpenNodes
+pub mod Pieces
+pub mod Reading
+pub mod Tails
+pub mod Told
+pub mod Writing

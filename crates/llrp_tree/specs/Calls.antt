@@ -1,0 +1,14 @@
+-- What public contracts say that no promise of README rests on.
+pub mod Lawful
+pub mod Checks
+pub mod Spelling
+pub mod Writing
+pub mod OpenTree
+pub mod FirstFault
+pub mod FrameLaws
+pub mod Standing
+pub mod Weight
+pub mod Spelled
+pub mod GrowthLaws
+pub mod Deciding
+pub mod Header
