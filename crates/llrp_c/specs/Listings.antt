@@ -8,7 +8,7 @@ use Rattle.llrp_stream.specs.declared.item.End.TheVariants as at_end
 use Rattle.llrp_stream.specs.Cuts.{IsPartial}
 use Rattle.llrp_stream.specs.Items.{Items}
 use Rattle.llrp_listing.specs.declared.fault.Refusal.{Refusal}
-use Rattle.llrp_listing.specs.Copying.{MOST_READS}
+use Rattle.llrp_listing.specs.declared.copying.TheConstants.{MOST_READS}
 use Rattle.llrp_listing.specs.Encoding.{Encodes, Refuses}
 use Rattle.llrp_listing.specs.StreamListing.{IsStreamListing, is_lawful}
 use Rattle.llrp_c.specs.declared.status.Status.{Status}

@@ -11,7 +11,8 @@ use Rattle.llrp_listing.specs.declared.fault.ToolErr.TheVariants.{Listing, Scrip
 use Rattle.llrp_endpoints.specs.declared.gathering.Gathering.{Gathering}
 use Rattle.llrp_endpoints.specs.declared.gathering.Phase.TheVariants.{Open}
 use Rattle.llrp_endpoints.specs.declared.summary.Summary.{Summary}
-use Rattle.llrp_listing.specs.Copying.{MOST_READS, IsPrefix, GaveAndFailed, WasGiven}
+use Rattle.llrp_listing.specs.Copying.{IsPrefix, GaveAndFailed, WasGiven}
+use Rattle.llrp_listing.specs.declared.copying.TheConstants.{MOST_READS}
 use Rattle.llrp_listing.specs.Calls.Copying.{Writes}
 use Rattle.llrp_endpoints.specs.Gathering.{Course, begun}
 use Rattle.llrp_endpoints.specs.Gathering.{closing_text}

@@ -11,7 +11,8 @@ use Rattle.llrp_listing.specs.declared.fault.ToolErr.TheVariants.{Listing, Scrip
 use Rattle.llrp_endpoints.specs.declared.script.Entry.{Entry}
 use Rattle.llrp_endpoints.specs.declared.serving.Serving.{Serving}
 use Rattle.llrp_endpoints.specs.declared.serving.Phase.TheVariants.{New}
-use Rattle.llrp_listing.specs.Copying.{MOST_READS, GaveAndFailed, ReadAll, WasGiven}
+use Rattle.llrp_listing.specs.Copying.{GaveAndFailed, ReadAll, WasGiven}
+use Rattle.llrp_listing.specs.declared.copying.TheConstants.{MOST_READS}
 use Rattle.llrp_listing.specs.Calls.Copying.{Writes}
 use Rattle.llrp_endpoints.specs.Serving.{Happening, happening, entries_at, closing_events, run, said, waiting, broken, StaysOpen, HasClosed, BeginsServing}
 use Rattle.llrp_endpoints.proofs.ServingEvents.{events-snoc}

@@ -9,7 +9,8 @@ use Rattle.llrp_listing.specs.declared.fault.ToolErr.TheVariants.{Listing, Scrip
 use Rattle.llrp_endpoints.specs.declared.gathering.Phase.{Phase}
 use Rattle.llrp_endpoints.specs.declared.gathering.Phase.TheVariants.{Open, Closed, Failed}
 use Rattle.llrp_endpoints.specs.declared.summary.Summary.{Summary}
-use Rattle.llrp_listing.specs.Copying.{MOST_READS, ReadAll, GaveAndFailed, IsPrefix, WasGiven}
+use Rattle.llrp_listing.specs.Copying.{ReadAll, GaveAndFailed, IsPrefix, WasGiven}
+use Rattle.llrp_listing.specs.declared.copying.TheConstants.{MOST_READS}
 use Rattle.llrp_endpoints.specs.Gathering.{Course, Gathers}
 use Rattle.llrp_endpoints.specs.Gathering.{closing_text}
 use Rattle.llrp_endpoints.specs.Plan.{Plan}

@@ -9,7 +9,8 @@ use Rattle.llrp_endpoints.specs.declared.gathering.Phase.{Phase}
 use Rattle.llrp_endpoints.specs.declared.gathering.Phase.TheVariants.{Closed, Failed}
 use Rattle.llrp_endpoints.specs.declared.script.Entry.{Entry}
 use Rattle.llrp_endpoints.specs.declared.summary.Summary.{Summary}
-use Rattle.llrp_listing.specs.Copying.{MOST_READS, ReadAll, GaveAndFailed, IsPrefix, WasGiven}
+use Rattle.llrp_listing.specs.Copying.{ReadAll, GaveAndFailed, IsPrefix, WasGiven}
+use Rattle.llrp_listing.specs.declared.copying.TheConstants.{MOST_READS}
 use Rattle.llrp_endpoints.specs.Gathering.{Course}
 use Rattle.llrp_endpoints.specs.Plan.{Plan}
 use Rattle.llrp_endpoints.specs.RunInventory.{Says, Awaits, BreaksOff, Ended, BeginsSaying}

@@ -4,7 +4,8 @@ use Rattle.std.specs.Io.KnownBytes.{Appends, Consumes, Keeps}
 use Rattle.std.proofs.lemmas.List.{append-nil}
 use Rattle.llrp_stream.specs.Device.{SourceLog, SinkLog, Gave, Wrote, WroteAndFailed}
 use Rattle.llrp_stream.specs.Calls.Device.{Took, Put}
-use Rattle.llrp_listing.specs.Copying.{MOST_READS, GaveAndFailed, ReadAll}
+use Rattle.llrp_listing.specs.Copying.{GaveAndFailed, ReadAll}
+use Rattle.llrp_listing.specs.declared.copying.TheConstants.{MOST_READS}
 
 some_took : (old new : SourceLog) (bs : List ℕ) → 0 < length bs → Took old new bs → (new ≡ record old { reads = old.reads + 1; left = new.left }) × Consumes old.left new.left bs
 some_took old new [] some took = absurd (omega arith)

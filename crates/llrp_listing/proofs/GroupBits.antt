@@ -18,7 +18,7 @@ use Rattle.llrp_tree.specs.Tree.{Forest, trees}
 use Rattle.llrp_tree.specs.Lawful.{count}
 use Rattle.llrp_tree.specs.Checks.{none_missing, members}
 use Rattle.llrp_tree.proofs.LawLemmas.{both, both_true, count-members}
-use Rattle.llrp_listing.specs.Private.OpenNodes.{AreSeen}
+use Rattle.llrp_stream.specs.Calls.Reading.{AreSeen}
 
 -- ---- tests at places
 

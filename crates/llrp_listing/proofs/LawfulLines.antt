@@ -24,7 +24,8 @@ use Rattle.llrp_listing.specs.declared.fault.Refusal.TheVariants.{OverLimit}
 use Rattle.llrp_listing.specs.Encoding.{AreSpelled}
 use Rattle.llrp_listing.specs.FirstRefusal.{AllClose}
 use Rattle.llrp_listing.specs.Calls.FirstRefusal.{Lists}
-use Rattle.llrp_listing.specs.LineChecks.{LONGEST_LINE, IsPlaced, IsInForm, AreInForm, IsTailOf, SaysNode, SaysLine}
+use Rattle.llrp_listing.specs.LineChecks.{IsPlaced, IsInForm, AreInForm, IsTailOf, SaysNode, SaysLine}
+use Rattle.llrp_listing.specs.declared.line.TheConstants.{LONGEST_LINE}
 use Rattle.llrp_listing.specs.Lines.{TextLine, Ended, lines_of}
 use Rattle.llrp_listing.specs.Calls.ListingLaws.{AreShort}
 use Rattle.llrp_listing.specs.ListingRules.{closing, node_refusal, message_refusal, lines_onto, row, rules_for}

@@ -24,7 +24,8 @@ use Rattle.llrp_listing.specs.declared.line.MessageLine.{MessageLine}
 use Rattle.llrp_listing.specs.declared.line.ParameterLine.{ParameterLine}
 use Rattle.llrp_listing.specs.declared.line.Start.{Start}
 use Rattle.llrp_listing.specs.Checks.{FirstFailing, AllHold}
-use Rattle.llrp_listing.specs.LineChecks.{LONGEST_LINE, is_printed, word, body_checks, IsPlaced, IsNamed, IsTailOf, start_checks, tail_count, word_count}
+use Rattle.llrp_listing.specs.LineChecks.{is_printed, word, body_checks, IsPlaced, IsNamed, IsTailOf, start_checks, tail_count, word_count}
+use Rattle.llrp_listing.specs.declared.line.TheConstants.{LONGEST_LINE}
 use Rattle.llrp_listing.specs.Private.LineReading.{AreRead, ReadsLine, ReadsMessage, ReadsParameter, ReadsStart, Starts}
 use Rattle.llrp_listing.specs.NodeLine.{number_forms, tail_texts, spaced}
 use Rattle.llrp_listing.specs.Lines.{words}

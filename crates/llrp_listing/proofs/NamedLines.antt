@@ -8,7 +8,7 @@ use Rattle.llrp_schema.specs.declared.kinds.Profile.TheVariants.{Own}
 use Rattle.llrp_schema.specs.Schema.{fields_of, name_of, profile_of}
 use Rattle.llrp_tree.specs.declared.TheConstants.{MAX_DEPTH}
 use Rattle.llrp_listing.specs.Private.Encoder.{SaysAt}
-use Rattle.llrp_listing.specs.LineChecks.{LONGEST_LINE}
+use Rattle.llrp_listing.specs.declared.line.TheConstants.{LONGEST_LINE}
 use Rattle.llrp_listing.specs.NodeLine.{parameter_line, spaced}
 use Rattle.llrp_listing.specs.Private.ShortLines.{AreAllNumbers}
 use Rattle.llrp_listing.proofs.ShortReading.{message_says, no_words, one_word, parameter_says, two_words}

@@ -27,7 +27,8 @@ use Rattle.llrp_listing.specs.NodeLine.{NodeLine}
 use Rattle.llrp_schema.specs.declared.kinds.Place.{Place}
 use Rattle.llrp_schema.specs.Calls.Places.{IsPlace}
 use Rattle.llrp_listing.proofs.GroupBits.{most_here, most_of, only_here}
-use Rattle.llrp_listing.specs.Private.OpenNodes.{AreSeen, IsCounted, MOST, after_misplaced, after_too_many, early_fault, early_tests, node_fault, own_fault, own_tail, own_tests, size_tests, values_of, version_fits}
+use Rattle.llrp_listing.specs.Private.OpenNodes.{IsCounted, MOST, after_misplaced, after_too_many, early_fault, early_tests, node_fault, own_fault, own_tail, own_tests, size_tests, values_of, version_fits}
+use Rattle.llrp_stream.specs.Calls.Reading.{AreSeen}
 
 -- ---- all tests
 

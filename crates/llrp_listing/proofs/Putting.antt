@@ -31,7 +31,8 @@ use Rattle.llrp_listing.specs.LineChecks.{AreInForm, IsInForm}
 use Rattle.llrp_listing.specs.NodeLine.{NodeLine, NumberForm, field_form, number_forms}
 use Rattle.llrp_listing.specs.declared.encode.lines.Begun.{Begun}
 use Rattle.llrp_listing.specs.Private.Writer.{CanBegin}
-use Rattle.llrp_listing.specs.Private.OpenNodes.{AreSeen, IsPut, IsSaid, MOST, early_fault, line_digits, own_fault, own_tail, own_tests, values_of, version_fits}
+use Rattle.llrp_listing.specs.Private.OpenNodes.{IsPut, IsSaid, MOST, early_fault, line_digits, own_fault, own_tail, own_tests, values_of, version_fits}
+use Rattle.llrp_stream.specs.Calls.Reading.{AreSeen}
 use Rattle.llrp_listing.specs.Private.LineOctets.{Puts}
 use Rattle.llrp_listing.proofs.Chains.{octets_append}
 use Rattle.llrp_listing.proofs.NodeFaults.{tail_octets}

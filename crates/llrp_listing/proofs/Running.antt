@@ -5,7 +5,8 @@ use Rattle.std.proofs.lemmas.List.{append-nil}
 use Rattle.std.specs.Io.KnownBytes.{Consumes, Keeps}
 use Rattle.llrp_listing.specs.declared.fault.ToolErr.{ToolErr}
 use Rattle.llrp_listing.specs.declared.fault.ToolErr.TheVariants.{Listing, Script, Hex, Read, Write, Bound, Memory, Broken, Peer, Strange, Early}
-use Rattle.llrp_listing.specs.Copying.{MOST_READS, ReadAll}
+use Rattle.llrp_listing.specs.Copying.{ReadAll}
+use Rattle.llrp_listing.specs.declared.copying.TheConstants.{MOST_READS}
 use Rattle.llrp_stream.specs.Device.{SourceLog, SinkLog, Gave}
 use Rattle.llrp_stream.specs.Calls.Device.{Took}
 use Rattle.llrp_listing.specs.Private.Encoder.{StandsAt, Stopped, StoppedAtEnd, WroteEncoding}

@@ -13,7 +13,8 @@ use Rattle.llrp_schema.specs.Schema.{name_of, tail_of}
 use Rattle.llrp_schema.proofs.TableLaws.{name_short}
 use Rattle.llrp_tree.specs.declared.TheConstants.{MAX_DEPTH}
 use Rattle.tag_uri.proofs.TextShape.{text_short}
-use Rattle.llrp_listing.specs.LineChecks.{LONGEST_LINE, IsInForm, AreInForm, IsTailOf}
+use Rattle.llrp_listing.specs.LineChecks.{IsInForm, AreInForm, IsTailOf}
+use Rattle.llrp_listing.specs.declared.line.TheConstants.{LONGEST_LINE}
 use Rattle.llrp_tree.specs.Tree.{words_of}
 use Rattle.llrp_listing.specs.NodeLine.{NodeLine, NumberForm, Version, Id, Unsigned, Signed, Epc, number_forms, signed_text, IsNumberText, AreNumberTexts, tail_texts, spaced}
 use Rattle.llrp_listing.proofs.LineShape.{rest_words}

@@ -17,7 +17,8 @@ use Rattle.llrp_schema.specs.Calls.Schema.{field_rule}
 use Rattle.llrp_schema.proofs.TableLaws.{message_tail}
 use Rattle.llrp_tree.specs.declared.TheConstants.{MAX_DEPTH}
 use Rattle.llrp_listing.specs.Private.Encoder.{SaysAt}
-use Rattle.llrp_listing.specs.LineChecks.{AreInForm, IsTailOf, LONGEST_LINE}
+use Rattle.llrp_listing.specs.LineChecks.{AreInForm, IsTailOf}
+use Rattle.llrp_listing.specs.declared.line.TheConstants.{LONGEST_LINE}
 use Rattle.llrp_listing.specs.Private.LineChecks.{ReadsNumber}
 use Rattle.llrp_listing.specs.NodeLine.{AreNumberTexts, Id, NumberForm, Unsigned, Version, field_form, number_forms, parameter_line, spaced, tail_texts}
 use Rattle.llrp_listing.specs.Private.Numeral.{numeral}

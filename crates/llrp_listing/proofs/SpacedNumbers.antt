@@ -10,7 +10,8 @@ use Rattle.llrp_schema.specs.Schema.{FieldRule, fields_of, name_of, profile_of, 
 use Rattle.llrp_schema.specs.Calls.Schema.{field_rule}
 use Rattle.llrp_tree.specs.declared.TheConstants.{MAX_DEPTH}
 use Rattle.llrp_listing.specs.Private.Encoder.{SaysAt}
-use Rattle.llrp_listing.specs.LineChecks.{AreInForm, IsInForm, LONGEST_LINE}
+use Rattle.llrp_listing.specs.LineChecks.{AreInForm, IsInForm}
+use Rattle.llrp_listing.specs.declared.line.TheConstants.{LONGEST_LINE}
 use Rattle.llrp_listing.specs.Private.LineReading.{forms_of}
 use Rattle.llrp_listing.specs.NodeLine.{AreNumberTexts, IsNumberText, NumberForm, Unsigned, number_forms, parameter_line, spaced}
 use Rattle.llrp_listing.specs.Private.ShortLines.{AreAllNumbers, AreSpaced}

@@ -2,10 +2,7 @@
 use Rattle.std.specs.Prelude.{◌≡◌, ℕ, ◌+◌, ◌<◌, ◌≤◌, List, ◌++◌}
 use Rattle.std.specs.Io.KnownBytes.{IsAtEnd, Consumes}
 use Rattle.llrp_stream.specs.Device.{SourceLog, Gave}
-
--- the most reads of one source that give bytes
-abbrev pub MOST_READS : ℕ
-MOST_READS = 1000000
+use Rattle.llrp_listing.specs.declared.copying.TheConstants.{MOST_READS}
 
 -- All that the source had left was read, until a read met its end.
 pub record ReadAll (old new : SourceLog) (bytes : List ℕ) : Type 0 where

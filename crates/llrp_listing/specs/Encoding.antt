@@ -4,8 +4,9 @@ use Rattle.std.specs.List.{flat_map, AllZip}
 use Rattle.llrp_tree.specs.Tree.{MessageTree}
 use Rattle.llrp_listing.specs.declared.fault.Refusal.{Refusal}
 use Rattle.llrp_listing.specs.declared.fault.ToolErr.{ToolErr}
-use Rattle.llrp_listing.specs.declared.fault.ToolErr.TheVariants.{Listing, Script, Hex, Read, Write, Bound, Broken, Memory, Peer, Strange, Early}
-use Rattle.llrp_listing.specs.Copying.{MOST_READS, ReadAll, GaveAndFailed, IsPrefix}
+use Rattle.llrp_listing.specs.declared.fault.ToolErr.TheVariants.{Listing, Read, Write, Bound, Memory}
+use Rattle.llrp_listing.specs.Copying.{ReadAll, GaveAndFailed, IsPrefix}
+use Rattle.llrp_listing.specs.declared.copying.TheConstants.{MOST_READS}
 use Rattle.llrp_stream.specs.Items.{FrameOf}
 use Rattle.llrp_stream.specs.Device.{SourceLog, SinkLog, Gave, Wrote, WroteAndFailed}
 use Rattle.llrp_listing.specs.FirstRefusal.{IsLastOpen, Opens, Refused}
@@ -80,12 +81,7 @@ EncodeStopped limit r0 r1 w0 w1 Write = (bytes : List ℕ) × WroteAndFailed w0 
 EncodeStopped limit r0 r1 w0 w1 Read = (n : ℕ) × (front bytes : List ℕ) × GaveAndFailed r0 r1 n front × Wrote w0 w1 bytes × EncodesClosed limit front bytes
 EncodeStopped limit r0 r1 w0 w1 Bound = (front bytes : List ℕ) × Gave r0 r1 MOST_READS front × Wrote w0 w1 bytes × EncodesClosed limit front bytes
 EncodeStopped limit r0 r1 w0 w1 Memory = (front bytes : List ℕ) × WasRead r0 r1 front × Wrote w0 w1 bytes × BeginsEncoding limit front bytes
-EncodeStopped limit r0 r1 w0 w1 (Script line) = ⊥
-EncodeStopped limit r0 r1 w0 w1 Broken = ⊥
-EncodeStopped limit r0 r1 w0 w1 Early = ⊥
-EncodeStopped limit r0 r1 w0 w1 (Peer status) = ⊥
-EncodeStopped limit r0 r1 w0 w1 Strange = ⊥
-EncodeStopped limit r0 r1 w0 w1 Hex = ⊥
+EncodeStopped limit r0 r1 w0 w1 _ = ⊥
 
 -- All was read until a read met the end, and the encoding of the text was written.
 pub record Encoded (limit : ℕ) (r0 r1 : SourceLog) (w0 w1 : SinkLog) : Type 0 where

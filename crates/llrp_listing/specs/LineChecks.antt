@@ -13,13 +13,10 @@ use Rattle.tag_uri.specs.declared.fault.UriFault.{UriFault}
 use Rattle.tag_uri.specs.TagText.{HasFault}
 use Rattle.llrp_listing.specs.declared.fault.Refusal.{Refusal}
 use Rattle.llrp_listing.specs.declared.fault.Refusal.TheVariants as refusal
+use Rattle.llrp_listing.specs.declared.line.TheConstants.{LONGEST_LINE}
 use Rattle.llrp_listing.specs.Checks.{Check, check, FirstFailing, AllHold}
 use Rattle.llrp_listing.specs.Lines.{TextLine, Ended, Unended, words}
 use Rattle.llrp_listing.specs.NodeLine.{NodeLine, NumberForm, Version, Id, Unsigned, Signed, Epc, number_forms, IsNumberText, tail_texts, IsLine}
-
--- the most bytes of a line before its LF
-abbrev pub LONGEST_LINE : ℕ
-LONGEST_LINE = 262144
 
 -- each byte is a space or a printed ASCII character
 abbrev pub is_printed : List ℕ → Bool
@@ -47,9 +44,8 @@ IsInForm Epc n = n < 2 ^ 96
 -- a number for each form, and of that form
 abbrev pub AreInForm : List NumberForm → List ℕ → Type 0
 AreInForm [] [] = Unit {0}
-AreInForm [] (n ∷ ns) = ⊥
-AreInForm (f ∷ fs) [] = ⊥
 AreInForm (f ∷ fs) (n ∷ ns) = IsInForm f n × AreInForm fs ns
+AreInForm _ _ = ⊥
 
 -- octets that a word can mean, two for each word of 16 bits
 abbrev pub IsTailOf : Tail → List ℕ → Type 0

@@ -59,11 +59,8 @@ IsNumberText Epc n text = IsTextOf n text
 -- the texts of numbers, one for each
 abbrev pub AreNumberTexts : List NumberForm → List ℕ → List (List ℕ) → Type 0
 AreNumberTexts [] [] [] = Unit {0}
-AreNumberTexts [] [] (w ∷ ws) = ⊥
-AreNumberTexts [] (n ∷ ns) ws = ⊥
-AreNumberTexts (f ∷ fs) [] ws = ⊥
-AreNumberTexts (f ∷ fs) (n ∷ ns) [] = ⊥
 AreNumberTexts (f ∷ fs) (n ∷ ns) (w ∷ ws) = IsNumberText f n w × AreNumberTexts fs ns ws
+AreNumberTexts _ _ _ = ⊥
 
 -- ---- tails
 

@@ -6,10 +6,11 @@ use Rattle.llrp_stream.specs.Device.{SourceLog, SinkLog, Gave, Wrote, WroteAndFa
 use Rattle.llrp_stream.specs.Cuts.{IsPartial}
 use Rattle.llrp_stream.specs.Items.{Items, ItemsSoFar}
 use Rattle.llrp_listing.specs.declared.fault.ToolErr.{ToolErr}
-use Rattle.llrp_listing.specs.declared.fault.ToolErr.TheVariants.{Listing, Script, Hex, Read, Write, Bound, Broken, Memory, Peer, Strange, Early}
+use Rattle.llrp_listing.specs.declared.fault.ToolErr.TheVariants.{Read, Write, Bound, Memory}
 use Rattle.llrp_listing.specs.declared.fault.Verdict.{Verdict}
 use Rattle.llrp_listing.specs.declared.fault.Verdict.TheVariants.{Lawful, Faulty}
-use Rattle.llrp_listing.specs.Copying.{MOST_READS, ReadAll, GaveAndFailed, IsPrefix}
+use Rattle.llrp_listing.specs.Copying.{ReadAll, GaveAndFailed, IsPrefix}
+use Rattle.llrp_listing.specs.declared.copying.TheConstants.{MOST_READS}
 use Rattle.llrp_listing.specs.Encoding.{WasRead}
 use Rattle.llrp_listing.specs.StreamListing.{AreItemTexts, IsStreamListing, is_lawful}
 
@@ -36,15 +37,7 @@ BeginsListing limit bytes front = (items : List Item) (end : End) (text : List �
 abbrev pub ListStopped : SinkLog → SinkLog → List ℕ → ToolErr → Type 0
 ListStopped old new front Write = WroteAndFailed old new front
 ListStopped old new front Memory = Wrote old new front
-ListStopped old new front Read = ⊥
-ListStopped old new front Bound = ⊥
-ListStopped old new front (Script line) = ⊥
-ListStopped old new front Broken = ⊥
-ListStopped old new front Early = ⊥
-ListStopped old new front (Peer status) = ⊥
-ListStopped old new front Strange = ⊥
-ListStopped old new front Hex = ⊥
-ListStopped old new front (Listing line reason) = ⊥
+ListStopped old new front _ = ⊥
 
 -- A front of the listing of the bytes was written.
 pub record Stopped (limit : ℕ) (bytes : List ℕ) (old new : SinkLog) (error : ToolErr) : Type 0 where
@@ -69,13 +62,7 @@ ShowStopped limit r0 r1 w0 w1 Read = (n : ℕ) × (bytes : List ℕ) × GaveAndF
 ShowStopped limit r0 r1 w0 w1 Bound = (bytes : List ℕ) × Gave r0 r1 MOST_READS bytes × WroteFrames limit bytes w0 w1
 ShowStopped limit r0 r1 w0 w1 Write = (bytes : List ℕ) × WasRead r0 r1 bytes × Stopped limit bytes w0 w1 Write
 ShowStopped limit r0 r1 w0 w1 Memory = (bytes : List ℕ) × WasRead r0 r1 bytes × Stopped limit bytes w0 w1 Memory
-ShowStopped limit r0 r1 w0 w1 Hex = ⊥
-ShowStopped limit r0 r1 w0 w1 (Script line) = ⊥
-ShowStopped limit r0 r1 w0 w1 Broken = ⊥
-ShowStopped limit r0 r1 w0 w1 Early = ⊥
-ShowStopped limit r0 r1 w0 w1 (Peer status) = ⊥
-ShowStopped limit r0 r1 w0 w1 Strange = ⊥
-ShowStopped limit r0 r1 w0 w1 (Listing line reason) = ⊥
+ShowStopped limit r0 r1 w0 w1 _ = ⊥
 
 -- all was read, or a front in which the stream breaks: whatever follows, the listing is the same
 abbrev pub ReadEnough : ℕ → SourceLog → SourceLog → SinkLog → SinkLog → Verdict → Type 0

@@ -8,7 +8,7 @@ use Rattle.llrp_listing.specs.declared.fault.ToolErr.{ToolErr}
 use Rattle.llrp_listing.specs.declared.fault.ToolErr.TheVariants.{Listing, Script, Hex, Read, Write, Bound, Memory, Broken, Peer, Strange, Early}
 use Rattle.llrp_listing.specs.declared.fault.Verdict.{Verdict}
 use Rattle.llrp_listing.specs.declared.fault.Verdict.TheVariants.{Lawful, Faulty}
-use Rattle.llrp_listing.specs.Copying.{MOST_READS}
+use Rattle.llrp_listing.specs.declared.copying.TheConstants.{MOST_READS}
 use Rattle.llrp_listing.specs.Encoding.{Refuses}
 use Rattle.llrp_listing.specs.Show.{verdict_of}
 use Rattle.llrp_listing.specs.StreamListing.{IsStreamListing, is_lawful}

@@ -5,7 +5,8 @@ use Rattle.llrp_listing.specs.declared.fault.ToolErr.{ToolErr}
 use Rattle.llrp_listing.specs.declared.fault.ToolErr.TheVariants.{Listing, Script, Hex, Read, Write, Bound, Memory, Broken, Peer, Strange, Early}
 use Rattle.llrp_listing.specs.declared.fault.Verdict.{Verdict}
 use Rattle.llrp_listing.specs.declared.fault.Verdict.TheVariants.{Lawful, Faulty}
-use Rattle.llrp_listing.specs.Copying.{MOST_READS, GaveAndFailed, IsPrefix, ReadAll}
+use Rattle.llrp_listing.specs.Copying.{GaveAndFailed, IsPrefix, ReadAll}
+use Rattle.llrp_listing.specs.declared.copying.TheConstants.{MOST_READS}
 use Rattle.llrp_listing.specs.Calls.Copying.{ReadStopped}
 use Rattle.llrp_stream.specs.Device.{SourceLog, SinkLog, Gave, Wrote, WroteAndFailed}
 use Rattle.llrp_listing.specs.Encoding.{Encoded, Encodes, EncodeStopped, ListingRefused, WasRead}

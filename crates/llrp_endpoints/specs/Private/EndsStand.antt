@@ -11,7 +11,8 @@ use Rattle.llrp_endpoints.specs.declared.both_ends.reader_side.ReaderSide.{Reade
 use Rattle.llrp_endpoints.specs.declared.gathering.Gathering.{Gathering}
 use Rattle.llrp_endpoints.specs.declared.script.Entry.{Entry}
 use Rattle.llrp_endpoints.specs.declared.serving.Serving.{Serving}
-use Rattle.llrp_listing.specs.Copying.{MOST_READS, ReadAll, WasGiven}
+use Rattle.llrp_listing.specs.Copying.{ReadAll, WasGiven}
+use Rattle.llrp_listing.specs.declared.copying.TheConstants.{MOST_READS}
 use Rattle.llrp_endpoints.specs.Gathering.{Course}
 use Rattle.llrp_endpoints.specs.Calls.GatheringStands.{IsOpen as Follows, Counts}
 use Rattle.llrp_endpoints.specs.RunInventory.{Says, Ended}

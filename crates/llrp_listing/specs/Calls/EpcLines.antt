@@ -9,7 +9,7 @@ use Rattle.tag_uri.specs.declared.fault.UriFault.{UriFault}
 use Rattle.tag_uri.specs.Hexadecimal.{hexadecimal}
 use Rattle.tag_uri.specs.TagText.{IsTextOf, HasFault, fault_name}
 use Rattle.llrp_listing.specs.declared.fault.ToolErr.{ToolErr}
-use Rattle.llrp_listing.specs.declared.fault.ToolErr.TheVariants.{Listing, Script, Hex, Read, Write, Bound, Broken, Memory, Peer, Strange, Early}
+use Rattle.llrp_listing.specs.declared.fault.ToolErr.TheVariants.{Write, Memory}
 use Rattle.llrp_listing.specs.declared.fault.Verdict.{Verdict}
 use Rattle.llrp_listing.specs.declared.fault.Verdict.TheVariants.{Lawful, Faulty}
 use Rattle.llrp_listing.specs.Copying.{IsPrefix}
@@ -60,12 +60,4 @@ abbrev pub PrintsEpc : List ℕ → SinkLog → SinkLog → Result Verdict ToolE
 PrintsEpc text w0 w1 (Ok verdict) = (lines : List ℕ) × Prints text verdict lines × Wrote w0 w1 lines
 PrintsEpc text w0 w1 (Err Write) = (verdict : Verdict) × (lines front : List ℕ) × Prints text verdict lines × IsPrefix front lines × WroteAndFailed w0 w1 front
 PrintsEpc text w0 w1 (Err Memory) = w1 ≡ w0
-PrintsEpc text w0 w1 (Err Read) = ⊥
-PrintsEpc text w0 w1 (Err Bound) = ⊥
-PrintsEpc text w0 w1 (Err Hex) = ⊥
-PrintsEpc text w0 w1 (Err (Listing line reason)) = ⊥
-PrintsEpc text w0 w1 (Err (Script line)) = ⊥
-PrintsEpc text w0 w1 (Err Broken) = ⊥
-PrintsEpc text w0 w1 (Err Early) = ⊥
-PrintsEpc text w0 w1 (Err (Peer status)) = ⊥
-PrintsEpc text w0 w1 (Err Strange) = ⊥
+PrintsEpc text w0 w1 (Err _) = ⊥

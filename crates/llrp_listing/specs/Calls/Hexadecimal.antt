@@ -12,10 +12,8 @@ IsHexDigit byte n = ((n < 10) × (byte ≡ 48 + n)) ⊎ ((10 ≤ n) × (n < 16) 
 -- the digits spell the bytes: two digits a byte, the first the more significant
 abbrev pub SpellBytes : List ℕ → List ℕ → Type 0
 SpellBytes [] [] = Unit {0}
-SpellBytes [] (byte ∷ bytes) = ⊥
-SpellBytes (digit ∷ []) bytes = ⊥
-SpellBytes (first ∷ (second ∷ digits)) [] = ⊥
 SpellBytes (first ∷ (second ∷ digits)) (byte ∷ bytes) = (high low : ℕ) × IsHexDigit first high × IsHexDigit second low × (byte ≡ 16 * high + low) × SpellBytes digits bytes
+SpellBytes _ _ = ⊥
 
 -- the text is digits that spell the bytes, once its spaces are left out
 abbrev pub IsHexOf : List ℕ → List ℕ → Type 0

@@ -7,7 +7,7 @@ use Rattle.llrp_listing.specs.declared.fault.Refusal.{Refusal}
 use Rattle.llrp_listing.specs.Encoding.{AreSpelled}
 use Rattle.llrp_listing.specs.FirstRefusal.{Refused}
 use Rattle.llrp_listing.specs.Calls.FirstRefusal.{HasOneAnswer}
-use Rattle.llrp_listing.specs.LineChecks.{LONGEST_LINE}
+use Rattle.llrp_listing.specs.declared.line.TheConstants.{LONGEST_LINE}
 use Rattle.llrp_listing.specs.Lines.{lines_of}
 use Rattle.llrp_listing.specs.ListingRules.{rules_for, row}
 use Rattle.llrp_listing.specs.MessageListing.{message_lines, IsListingOf}

@@ -6,7 +6,7 @@ use Rattle.llrp_listing.specs.declared.line.LineErr.{LineErr}
 use Rattle.llrp_listing.specs.declared.line.LineErr.TheVariants as unread
 use Rattle.llrp_listing.specs.declared.fault.Refusal.{Refusal}
 use Rattle.llrp_listing.specs.declared.fault.ToolErr.{ToolErr}
-use Rattle.llrp_listing.specs.declared.fault.ToolErr.TheVariants.{Listing, Script, Broken, Peer, Strange, Early, Hex, Read, Write, Bound, Memory}
+use Rattle.llrp_listing.specs.declared.fault.ToolErr.TheVariants.{Listing, Write, Memory}
 use Rattle.llrp_listing.specs.Copying.{IsPrefix}
 use Rattle.llrp_stream.specs.Device.{SinkLog, Wrote, WroteAndFailed}
 use Rattle.llrp_listing.specs.Encoding.{AreSpelled, BeginsEncoding, Encodes, Refuses}
@@ -44,28 +44,14 @@ abbrev pub Stopped : ℕ → SinkLog → SinkLog → List ℕ → ToolErr → Ty
 Stopped limit w0 w1 front (Listing line reason) = (bytes : List ℕ) × Wrote w0 w1 bytes × ((more : List ℕ) → Refuses limit (front ++ more) line reason bytes)
 Stopped limit w0 w1 front Write = (bytes : List ℕ) × WroteAndFailed w0 w1 bytes × BeginsEncoding limit front bytes
 Stopped limit w0 w1 front Memory = (bytes : List ℕ) × Wrote w0 w1 bytes × BeginsEncoding limit front bytes
-Stopped limit w0 w1 front Read = ⊥
-Stopped limit w0 w1 front Bound = ⊥
-Stopped limit w0 w1 front Hex = ⊥
-Stopped limit w0 w1 front (Script line) = ⊥
-Stopped limit w0 w1 front Broken = ⊥
-Stopped limit w0 w1 front Early = ⊥
-Stopped limit w0 w1 front (Peer status) = ⊥
-Stopped limit w0 w1 front Strange = ⊥
+Stopped limit w0 w1 front _ = ⊥
 
 -- the encoder stopped at the end of this text
 abbrev pub StoppedAtEnd : ℕ → SinkLog → SinkLog → List ℕ → ToolErr → Type 0
 StoppedAtEnd limit w0 w1 text (Listing line reason) = (bytes : List ℕ) × Wrote w0 w1 bytes × Refuses limit text line reason bytes
 StoppedAtEnd limit w0 w1 text Write = (bytes : List ℕ) × WroteAndFailed w0 w1 bytes × (BeginsEncoding limit text bytes ⊎ ((spellings : List ℕ) × Encodes limit text spellings × IsPrefix bytes spellings))
 StoppedAtEnd limit w0 w1 text Memory = (bytes : List ℕ) × Wrote w0 w1 bytes × BeginsEncoding limit text bytes
-StoppedAtEnd limit w0 w1 text Read = ⊥
-StoppedAtEnd limit w0 w1 text Bound = ⊥
-StoppedAtEnd limit w0 w1 text Hex = ⊥
-StoppedAtEnd limit w0 w1 text (Script line) = ⊥
-StoppedAtEnd limit w0 w1 text Broken = ⊥
-StoppedAtEnd limit w0 w1 text Early = ⊥
-StoppedAtEnd limit w0 w1 text (Peer status) = ⊥
-StoppedAtEnd limit w0 w1 text Strange = ⊥
+StoppedAtEnd limit w0 w1 text _ = ⊥
 
 -- the encoding of the text was written
 abbrev pub WroteEncoding : ℕ → SinkLog → SinkLog → List ℕ → Type 0
@@ -75,15 +61,7 @@ WroteEncoding limit w0 w1 text = (bytes : List ℕ) × Encodes limit text bytes 
 abbrev pub Refusing : ℕ → List ℕ → Refusal → SinkLog → SinkLog → ToolErr → Type 0
 Refusing number out why w0 w1 (Listing line reason) = (line ≡ number) × (reason ≡ why) × Wrote w0 w1 out
 Refusing number out why w0 w1 Write = (front : List ℕ) × IsPrefix front out × WroteAndFailed w0 w1 front
-Refusing number out why w0 w1 Memory = ⊥
-Refusing number out why w0 w1 Read = ⊥
-Refusing number out why w0 w1 Bound = ⊥
-Refusing number out why w0 w1 Hex = ⊥
-Refusing number out why w0 w1 (Script line) = ⊥
-Refusing number out why w0 w1 Broken = ⊥
-Refusing number out why w0 w1 Early = ⊥
-Refusing number out why w0 w1 (Peer status) = ⊥
-Refusing number out why w0 w1 Strange = ⊥
+Refusing number out why w0 w1 _ = ⊥
 
 -- what is returned where a line is not read
 abbrev pub RefusingLine : LineErr → ℕ → List ℕ → SinkLog → SinkLog → ToolErr → Type 0

@@ -12,10 +12,8 @@ use Rattle.llrp_listing.specs.Private.Tails.{AreTold}
 -- the texts of the first numbers of a line
 abbrev pub AreFirstTexts : List NumberForm → List ℕ → List (List ℕ) → Type 0
 AreFirstTexts forms [] [] = Unit {0}
-AreFirstTexts forms [] (w ∷ ws) = ⊥
-AreFirstTexts [] (n ∷ ns) ws = ⊥
-AreFirstTexts (f ∷ fs) (n ∷ ns) [] = ⊥
 AreFirstTexts (f ∷ fs) (n ∷ ns) (w ∷ ws) = IsNumberText f n w × AreFirstTexts fs ns ws
+AreFirstTexts _ _ _ = ⊥
 
 -- the numbers that are read of a begun node's line
 abbrev pub first_numbers : Head → List ℕ → List ℕ

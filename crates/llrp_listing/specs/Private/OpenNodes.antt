@@ -1,13 +1,12 @@
 -- Lines that are open: the whole parameters below each, the small record that is kept of each, and the octets that represent all.
-use Rattle.std.specs.Prelude.{◌≡◌, ℕ, ◌+◌, ◌<◌, ◌^◌, ◌-◌, min, nat_le, ◌⊎◌, ◌==◌, ◌||◌, ◌&&◌, Bool, true, false, List, [], ◌∷◌, ◌++◌, length, drop, get_or, Option, Some, None}
-use Rattle.std.specs.Int.{bit_at}
+use Rattle.std.specs.Prelude.{◌≡◌, ℕ, ◌+◌, ◌<◌, ◌^◌, ◌-◌, min, nat_le, ◌⊎◌, ◌==◌, ◌||◌, ◌&&◌, Bool, true, false, List, [], ◌∷◌, ◌++◌, drop, get_or, Option, Some, None}
 use Rattle.std.specs.List.{AllZip}
 use Rattle.tag_bits.specs.Digits.{digits_of_bytes}
 use Rattle.llrp_schema.specs.declared.kinds.ParamKind.{ParamKind}
 use Rattle.llrp_schema.specs.declared.kinds.Kind.{Kind}
 use Rattle.llrp_schema.specs.declared.kinds.Kind.TheVariants.{Message, Parameter}
 use Rattle.llrp_schema.specs.declared.kinds.Profile.TheVariants.{Own}
-use Rattle.llrp_schema.specs.Schema.{GroupRule, fields_of, groups_of, profile_of, tail_of}
+use Rattle.llrp_schema.specs.Schema.{fields_of, groups_of, profile_of, tail_of}
 use Rattle.llrp_tree.specs.declared.node.NodeFault.{NodeFault}
 use Rattle.llrp_tree.specs.declared.node.NodeFault.TheVariants.{FieldCount, Value, Tail as BadTail, Misplaced, TooMany, Missing, TooDeep, TooLong}
 use Rattle.llrp_tree.specs.Checks.{count_fits, values_fit, tail_fits, all_placed, none_too_many, first_failed, first_fault, first_message_fault}
@@ -16,6 +15,7 @@ use Rattle.llrp_tree.specs.Calls.Lawful.{own_octets}
 use Rattle.llrp_tree.specs.Spelling.{message, head_of, head_digits, body_digits, spell}
 use Rattle.llrp_tree.specs.Tree as tree
 use Rattle.llrp_tree.specs.Tree.{Tree, trees}
+use Rattle.llrp_stream.specs.Calls.Reading.{AreSeen}
 use Rattle.llrp_listing.specs.LineChecks.{AreInForm, IsTailOf}
 use Rattle.llrp_listing.specs.ListingRules.{lines_onto}
 use Rattle.llrp_listing.specs.NodeLine.{NodeLine, number_forms}
@@ -137,10 +137,6 @@ pub record IsSaid (line : NodeLine) : Type 0 where
   pub own : profile_of line.kind ≡ Own
   pub numbers : AreInForm (number_forms line.kind) line.numbers
   pub tail : IsTailOf (tail_of line.kind) line.tail
-
--- bit k says whether there is a child of group k
-abbrev pub AreSeen : List GroupRule → tree.Forest → ℕ → Type 0
-AreSeen groups children seen = (k : ℕ) (d : GroupRule) → k < length groups → bit_at seen k ≡ min 1 (count (get_or groups k d) children)
 
 -- The record is that of an open line.
 pub record IsHeld (held : Held) (n : OpenNode) : Type 0 where

@@ -10,7 +10,8 @@ ghost use Rattle.llrp_tree.specs.Checks.{first_failed, none_missing};
 ghost use Rattle.llrp_tree.specs.Tree.{Forest, and, trees};
 ghost use Rattle.llrp_listing.specs.NodeLine.{NodeLine};
 ghost use Rattle.llrp_schema.specs.Calls.Places.{IsPlace};
-ghost use Rattle.llrp_listing.specs.Private.OpenNodes.{AreSeen, IsCounted, IsHeld, OpenNode, after_misplaced, after_too_many, early_fault, node_fault, with_child};
+ghost use Rattle.llrp_listing.specs.Private.OpenNodes.{IsCounted, IsHeld, OpenNode, after_misplaced, after_too_many, early_fault, node_fault, with_child};
+ghost use Rattle.llrp_stream.specs.Calls.Reading.{AreSeen};
 
 use crate::encode::rows::Held;
 use llrp_schema::{Kind, ParamKind, Place, place, required};

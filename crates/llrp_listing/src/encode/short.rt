@@ -10,7 +10,7 @@ ghost use Rattle.llrp_schema.specs.Calls.Schema.{field_rule};
 ghost use Rattle.llrp_schema.specs.Schema.{fields_of, name_of, profile_of, tail_of};
 ghost use Rattle.llrp_tree.specs.declared.TheConstants.{MAX_DEPTH};
 ghost use Rattle.llrp_listing.specs.Private.Encoder.{SaysAt};
-ghost use Rattle.llrp_listing.specs.LineChecks.{LONGEST_LINE};
+ghost use Rattle.llrp_listing.specs.declared.line.TheConstants.{LONGEST_LINE};
 ghost use Rattle.llrp_listing.specs.Private.LineChecks.{ReadsNumber};
 ghost use Rattle.llrp_listing.specs.NodeLine.{Epc, field_form};
 ghost use Rattle.llrp_listing.specs.Private.Numeral.{numeral};

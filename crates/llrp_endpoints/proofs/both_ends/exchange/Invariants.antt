@@ -1,6 +1,6 @@
 use Rattle.std.proofs.Common.{◌+◌, ◌-◌, ◌<◌, ◌^◌, ◌≢◌, []}
 use Rattle.llrp_endpoints.specs.declared.serving.Phase.TheVariants.{New}
-use Rattle.llrp_listing.specs.Copying.{MOST_READS}
+use Rattle.llrp_listing.specs.declared.copying.TheConstants.{MOST_READS}
 use Rattle.llrp_endpoints.specs.Private.EndsStand.{ClientStands, HasRoom, ReaderStands}
 use Rattle.llrp_endpoints.specs.RunLoop.{Ends}
 use Rattle.llrp_endpoints.proofs.LoopLemmas.{State}

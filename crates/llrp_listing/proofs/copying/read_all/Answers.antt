@@ -4,7 +4,7 @@ use Rattle.std.proofs.lemmas.List.{length-take}
 use Rattle.std.proofs.lemmas.Result.{err_from_is_err_and}
 use Rattle.llrp_stream.specs.Device.{Gave}
 use Rattle.llrp_stream.specs.Calls.Device.{Took}
-use Rattle.llrp_listing.specs.Copying.{MOST_READS}
+use Rattle.llrp_listing.specs.declared.copying.TheConstants.{MOST_READS}
 use Rattle.llrp_listing.proofs.DeviceLemmas.{all_read, failed_read, gave_nothing, read_more}
 use Rattle.llrp_listing.proofs.copying.read_all.Goals as goal
 

@@ -3,7 +3,7 @@ use Rattle.std.proofs.lemmas.List.{length-take}
 use Rattle.std.proofs.lemmas.Result.{err_from_is_err_and}
 use Rattle.llrp_stream.specs.Calls.Device.{Took}
 use Rattle.llrp_stream.specs.Device.{Gave}
-use Rattle.llrp_listing.specs.Copying.{MOST_READS}
+use Rattle.llrp_listing.specs.declared.copying.TheConstants.{MOST_READS}
 use Rattle.llrp_listing.specs.Private.Lister.{GoesOn, IsBrokenOff}
 use Rattle.llrp_listing.proofs.DeviceLemmas.{gave_nothing, read_more, failed_read, all_read}
 use Rattle.llrp_listing.proofs.ShowAnswers.{shows_all, shows_broken, shows_stopped, fed_finishes, finishes_failures}

@@ -1,6 +1,6 @@
 use Rattle.std.proofs.Common.{◌≡◌, ◌<◌, ◌+◌, ◌++◌, [], ℕ, length, arith, subst, length-append}
 use Rattle.std.proofs.lemmas.Result.{err_from_is_err_and}
-use Rattle.llrp_listing.specs.LineChecks.{LONGEST_LINE}
+use Rattle.llrp_listing.specs.declared.line.TheConstants.{LONGEST_LINE}
 use Rattle.llrp_listing.specs.Private.LineReading.{ReadsLine}
 use Rattle.llrp_listing.specs.Private.Writer.{inner}
 use Rattle.llrp_listing.proofs.Closings.{none_items}

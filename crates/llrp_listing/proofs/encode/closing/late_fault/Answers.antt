@@ -9,7 +9,8 @@ use Rattle.llrp_tree.specs.Checks.{first_failed, none_missing}
 use Rattle.llrp_tree.specs.Tree.{trees}
 use Rattle.llrp_tree.specs.Lawful.{levels}
 use Rattle.llrp_listing.specs.declared.encode.rows.Held.{Held}
-use Rattle.llrp_listing.specs.Private.OpenNodes.{AreSeen, IsHeld, OpenNode, node_octets, size_tests}
+use Rattle.llrp_listing.specs.Private.OpenNodes.{IsHeld, OpenNode, node_octets, size_tests}
+use Rattle.llrp_stream.specs.Calls.Reading.{AreSeen}
 use Rattle.llrp_listing.proofs.NodeFaults.{missing_told, size_told, size_test}
 use Rattle.llrp_listing.proofs.encode.closing.late_fault.Goals as goal
 
