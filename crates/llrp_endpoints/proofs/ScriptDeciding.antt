@@ -15,7 +15,8 @@ use Rattle.llrp_endpoints.specs.declared.script.Action.{Action}
 use Rattle.llrp_endpoints.specs.declared.script.Action.TheVariants.{Seen, Tick}
 use Rattle.llrp_endpoints.specs.declared.script.Entry.{Entry}
 use Rattle.llrp_listing.specs.Calls.Splits.{Lacks, IsSplit}
-use Rattle.llrp_endpoints.specs.Calls.Script.{IsSightingLine, IsActionLine, IsEntryLine, IsSightingInRange, IsActionInRange, IsInRange, IsTextOfAll, IsLawful, IsScript, MOST_ENTRIES, Begins, Continues, NoneContinues, IsRefusedAt}
+use Rattle.llrp_endpoints.specs.Calls.Script.{IsSightingLine, IsActionLine, IsEntryLine, IsSightingInRange, IsActionInRange, IsInRange, IsTextOfAll, IsLawful, IsScript, Begins, Continues, NoneContinues, IsRefusedAt}
+use Rattle.llrp_endpoints.specs.declared.script.TheConstants.{MOST_ENTRIES}
 use Rattle.llrp_endpoints.specs.Private.Script.{MayFollow}
 use Rattle.llrp_endpoints.specs.Calls.ScriptLaws.{ScriptOrRefused}
 use Rattle.llrp_endpoints.proofs.ScriptEntries.{no_line, next_line, may_not, lawful_push}

@@ -15,7 +15,8 @@ use Rattle.llrp_endpoints.specs.declared.script.Action.{Action}
 use Rattle.llrp_endpoints.specs.declared.script.Action.TheVariants.{Seen, Tick}
 use Rattle.llrp_endpoints.specs.declared.script.Entry.{Entry}
 use Rattle.llrp_listing.specs.Calls.Splits.{Lacks, IsSplit}
-use Rattle.llrp_endpoints.specs.Calls.Script.{IsSightingLine, IsActionLine, IsEntryLine, IsSightingInRange, IsActionInRange, IsInRange, IsLawful, MOST_ENTRIES, Continues, NoneContinues}
+use Rattle.llrp_endpoints.specs.Calls.Script.{IsSightingLine, IsActionLine, IsEntryLine, IsSightingInRange, IsActionInRange, IsInRange, IsLawful, Continues, NoneContinues}
+use Rattle.llrp_endpoints.specs.declared.script.TheConstants.{MOST_ENTRIES}
 use Rattle.llrp_endpoints.specs.Private.Script.{MayFollow}
 use Rattle.llrp_listing.proofs.SplitWords.{one_split, lacks_not, lacks_append, decimal_lacks, signed_lacks}
 use Rattle.llrp_endpoints.proofs.WordTexts.{text_lacks}

@@ -12,7 +12,8 @@ use Rattle.llrp_endpoints.specs.declared.script.Entry.{Entry}
 use Rattle.llrp_endpoints.specs.declared.serving.scripted.ScriptedReader.{ScriptedReader}
 use Rattle.llrp_endpoints.specs.Calls.Script.{IsInRange}
 use Rattle.llrp_endpoints.specs.Serving.{Happening, happening, taking, entries_at, moment_after, last_moment, events_from, events, closing_events}
-use Rattle.llrp_endpoints.specs.Calls.ServingStands.{HasDone, greatest_count}
+use Rattle.llrp_endpoints.specs.Calls.ServingStands.{HasDone}
+use Rattle.llrp_endpoints.specs.TagLines.{greatest_count}
 use Rattle.llrp_endpoints.proofs.ActingLemmas.{last_moment-append}
 
 -- ---- elements

@@ -11,7 +11,8 @@ use Rattle.llrp_endpoints.specs.declared.script.Entry.{Entry}
 use Rattle.llrp_endpoints.specs.declared.serving.scripted.ScriptedReader.{ScriptedReader}
 use Rattle.llrp_endpoints.specs.Serving.{Happening, happening, taking, entries_at, moment_after, last_moment, events, closing_events, run, said, Closes}
 use Rattle.llrp_endpoints.specs.Private.Acting.{Did, DidSome, IsDue}
-use Rattle.llrp_endpoints.specs.Calls.ServingStands.{HasDone, HasTaken, IsNew, greatest_count}
+use Rattle.llrp_endpoints.specs.Calls.ServingStands.{HasDone, HasTaken, IsNew}
+use Rattle.llrp_endpoints.specs.TagLines.{greatest_count}
 use Rattle.llrp_endpoints.specs.Private.ServingStands.{Connects, TakesItem, DoesEntries}
 use Rattle.llrp_endpoints.proofs.ActingLemmas.{said-append, reader-append, did_more, some_more, some_first}
 use Rattle.llrp_endpoints.proofs.ServingEvents.{events-snoc, events-none, moment_of_done, DueNow, due_now, done_more, left_of}

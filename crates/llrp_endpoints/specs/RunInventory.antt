@@ -5,7 +5,7 @@ use Rattle.llrp_stream.specs.Cuts.{IsPartial, Breaks}
 use Rattle.llrp_stream.specs.Device.{SourceLog, SinkLog, Gave, Wrote, WroteAndFailed}
 use Rattle.llrp_session.specs.ClientMessages.{client_message}
 use Rattle.llrp_listing.specs.declared.fault.ToolErr.{ToolErr}
-use Rattle.llrp_listing.specs.declared.fault.ToolErr.TheVariants.{Listing, Script, Hex, Read, Write, Bound, Broken, Memory, Peer, Strange, Early}
+use Rattle.llrp_listing.specs.declared.fault.ToolErr.TheVariants.{Read, Write, Bound, Broken, Memory, Peer, Strange, Early}
 use Rattle.llrp_endpoints.specs.declared.gathering.Phase.{Phase}
 use Rattle.llrp_endpoints.specs.declared.gathering.Phase.TheVariants.{Open, Closed, Failed}
 use Rattle.llrp_endpoints.specs.declared.summary.Summary.{Summary}
@@ -82,6 +82,4 @@ RunsInventory limit plan r0 r1 w0 w1 t0 t1 bytes (Err Read) = ((n : ℕ) × Gave
 RunsInventory limit plan r0 r1 w0 w1 t0 t1 bytes (Err Bound) = Gave r0 r1 MOST_READS bytes × (course : Course) × Awaits limit plan bytes course × WroteAll course w0 w1 t0 t1
 RunsInventory limit plan r0 r1 w0 w1 t0 t1 bytes (Err Write) = WasGiven r0 r1 bytes × (frames text : List ℕ) × BeginsSaying limit plan bytes frames text × StoppedWriting frames text w0 w1 t0 t1
 RunsInventory limit plan r0 r1 w0 w1 t0 t1 bytes (Err Memory) = WasGiven r0 r1 bytes × (frames text : List ℕ) × BeginsSaying limit plan bytes frames text × Wrote w0 w1 frames × Wrote t0 t1 text
-RunsInventory limit plan r0 r1 w0 w1 t0 t1 bytes (Err (Listing line reason)) = ⊥
-RunsInventory limit plan r0 r1 w0 w1 t0 t1 bytes (Err (Script line)) = ⊥
-RunsInventory limit plan r0 r1 w0 w1 t0 t1 bytes (Err Hex) = ⊥
+RunsInventory limit plan r0 r1 w0 w1 t0 t1 bytes (Err _) = ⊥

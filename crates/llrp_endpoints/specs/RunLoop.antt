@@ -4,7 +4,7 @@ use Rattle.llrp_tree.specs.Tree.{MessageTree}
 use Rattle.llrp_stream.specs.Device.{SourceLog, SinkLog, Gave, Wrote, WroteAndFailed}
 use Rattle.llrp_session.specs.ReaderMachine.{Reader}
 use Rattle.llrp_listing.specs.declared.fault.ToolErr.{ToolErr}
-use Rattle.llrp_listing.specs.declared.fault.ToolErr.TheVariants.{Listing, Script, Hex, Read, Write, Bound, Broken, Memory, Peer, Strange, Early}
+use Rattle.llrp_listing.specs.declared.fault.ToolErr.TheVariants.{Read, Write, Bound, Broken, Memory, Peer, Strange, Early}
 use Rattle.llrp_endpoints.specs.declared.gathering.Phase.{Phase}
 use Rattle.llrp_endpoints.specs.declared.gathering.Phase.TheVariants.{Closed, Failed}
 use Rattle.llrp_endpoints.specs.declared.script.Entry.{Entry}
@@ -145,6 +145,4 @@ RunsLoop e old new down up (Err Write) =
 RunsLoop e old new down up (Err Memory) =
     (BothFine old new down up × ReaderGoes e down up × ((lines : List ℕ) × ClientBegins e down up lines × Wrote old.report new.report lines))
     ⊎ (BothFine old new down up × ReaderBegins e down up × ClientAwaits e down up old.report new.report)
-RunsLoop e old new down up (Err (Listing line reason)) = ⊥
-RunsLoop e old new down up (Err (Script line)) = ⊥
-RunsLoop e old new down up (Err Hex) = ⊥
+RunsLoop e old new down up (Err _) = ⊥

@@ -4,7 +4,7 @@ use Rattle.llrp_tree.specs.Tree.{MessageTree}
 use Rattle.llrp_stream.specs.Device.{SourceLog, SinkLog, Gave, Wrote, WroteAndFailed}
 use Rattle.llrp_session.specs.ReaderMachine.{Reader}
 use Rattle.llrp_listing.specs.declared.fault.ToolErr.{ToolErr}
-use Rattle.llrp_listing.specs.declared.fault.ToolErr.TheVariants.{Listing, Script, Hex, Read, Write, Bound, Broken, Memory, Peer, Strange, Early}
+use Rattle.llrp_listing.specs.declared.fault.ToolErr.TheVariants.{Read, Write, Bound, Broken, Memory, Early}
 use Rattle.llrp_endpoints.specs.declared.script.Entry.{Entry}
 use Rattle.llrp_listing.specs.Copying.{ReadAll, GaveAndFailed, IsPrefix, WasGiven}
 use Rattle.llrp_listing.specs.declared.copying.TheConstants.{MOST_READS}
@@ -28,13 +28,9 @@ BeginsFrames reader entries bytes text = (messages : List MessageTree) × Begins
 abbrev pub RunsServe : Reader → List Entry → SourceLog → SourceLog → SinkLog → SinkLog → List ℕ → Result (Unit {0}) ToolErr → Type 0
 RunsServe reader entries r0 r1 w0 w1 bytes (Ok u) = (WasGiven r0 r1 bytes × WroteAll reader entries bytes closed w0 w1) ⊎ (ReadAll r0 r1 bytes × WroteAll reader entries bytes ended w0 w1)
 RunsServe reader entries r0 r1 w0 w1 bytes (Err Early) = ReadAll r0 r1 bytes × WroteAll reader entries bytes early w0 w1
-RunsServe reader entries r0 r1 w0 w1 bytes (Err (Peer status)) = ⊥
-RunsServe reader entries r0 r1 w0 w1 bytes (Err Strange) = ⊥
 RunsServe reader entries r0 r1 w0 w1 bytes (Err Broken) = WasGiven r0 r1 bytes × WroteAll reader entries bytes broken w0 w1
 RunsServe reader entries r0 r1 w0 w1 bytes (Err Read) = ((n : ℕ) × GaveAndFailed r0 r1 n bytes) × WroteAll reader entries bytes waiting w0 w1
 RunsServe reader entries r0 r1 w0 w1 bytes (Err Bound) = Gave r0 r1 MOST_READS bytes × WroteAll reader entries bytes waiting w0 w1
 RunsServe reader entries r0 r1 w0 w1 bytes (Err Write) = WasGiven r0 r1 bytes × (text front : List ℕ) × BeginsFrames reader entries bytes text × IsPrefix front text × WroteAndFailed w0 w1 front
 RunsServe reader entries r0 r1 w0 w1 bytes (Err Memory) = WasGiven r0 r1 bytes × (text : List ℕ) × BeginsFrames reader entries bytes text × Wrote w0 w1 text
-RunsServe reader entries r0 r1 w0 w1 bytes (Err (Listing line reason)) = ⊥
-RunsServe reader entries r0 r1 w0 w1 bytes (Err (Script line)) = ⊥
-RunsServe reader entries r0 r1 w0 w1 bytes (Err Hex) = ⊥
+RunsServe reader entries r0 r1 w0 w1 bytes (Err _) = ⊥

@@ -52,7 +52,7 @@ pub record AreReports (reports : List (List Tree)) (text : List ℕ) : Type 0 wh
   pub each : AllZip AreReportLines reports texts
   pub text_is : text ≡ flat_map (λ report. report) texts
 
--- the greatest number that is printed
+-- the greatest number that is counted to
 abbrev pub greatest_count : ℕ
 greatest_count = 18446744073709551615
 

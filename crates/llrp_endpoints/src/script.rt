@@ -14,7 +14,7 @@ use tag_bits::Word;
 use tag_uri::word_of_text;
 
 /// The most entries of a script.
-const MOST_ENTRIES: usize = 10_000;
+pub const MOST_ENTRIES: usize = 10_000;
 
 /// What happens to the reader.
 #[derive(Clone, Copy, Debug, PartialEq, Eq)]

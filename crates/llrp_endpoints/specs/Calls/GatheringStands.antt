@@ -8,7 +8,7 @@ use Rattle.llrp_session.specs.declared.words.Command.TheVariants.{Enable, Start,
 use Rattle.llrp_session.specs.Words.{ClientMessage}
 use Rattle.llrp_session.specs.ClientMessages.{client_message}
 use Rattle.llrp_listing.specs.declared.fault.ToolErr.{ToolErr}
-use Rattle.llrp_listing.specs.declared.fault.ToolErr.TheVariants.{Listing, Script, Hex, Read, Write, Bound, Broken, Memory, Peer, Strange, Early}
+use Rattle.llrp_listing.specs.declared.fault.ToolErr.TheVariants.{Broken, Memory, Peer, Strange, Early}
 use Rattle.llrp_endpoints.specs.declared.gathering.Gathering.{Gathering}
 use Rattle.llrp_endpoints.specs.declared.gathering.left.Left.{Left}
 use Rattle.llrp_endpoints.specs.declared.gathering.left.Left.TheVariants.{Adding, Enabling, Starting, Polling, Checking, Deleting, Closing, Nothing}
@@ -115,13 +115,7 @@ Stops old new o0 o1 r0 r1 Memory = MovesSome old new o0 o1 r0 r1
 Stops old new o0 o1 r0 r1 (Peer status) = (new.phase ≡ Failed (Peer status)) × Moves old new o0 o1 r0 r1
 Stops old new o0 o1 r0 r1 Strange = (new.phase ≡ Failed Strange) × Moves old new o0 o1 r0 r1
 Stops old new o0 o1 r0 r1 Early = (new.phase ≡ Failed Early) × Moves old new o0 o1 r0 r1
-Stops old new o0 o1 r0 r1 Broken = ⊥
-Stops old new o0 o1 r0 r1 (Listing line reason) = ⊥
-Stops old new o0 o1 r0 r1 (Script line) = ⊥
-Stops old new o0 o1 r0 r1 Hex = ⊥
-Stops old new o0 o1 r0 r1 Read = ⊥
-Stops old new o0 o1 r0 r1 Write = ⊥
-Stops old new o0 o1 r0 r1 Bound = ⊥
+Stops old new o0 o1 r0 r1 _ = ⊥
 
 -- ---- a feed
 

@@ -13,7 +13,7 @@ use Rattle.llrp_session.specs.declared.words.Operation.{Operation}
 use Rattle.llrp_session.specs.declared.words.Operation.TheVariants.{Listing, Closing}
 use Rattle.llrp_session.specs.declared.words.Pending.{Pending}
 use Rattle.llrp_session.specs.declared.words.Taken.{Taken}
-use Rattle.llrp_session.specs.declared.words.Taken.TheVariants.{Connected, Refused, Reply, Tags, Table, Differs, Event, Note, Kept, Closed as ConnectionEnded}
+use Rattle.llrp_session.specs.declared.words.Taken.TheVariants.{Connected, Reply, Tags, Table, Differs}
 use Rattle.llrp_session.specs.declared.words.Viewed.{Viewed}
 use Rattle.llrp_session.specs.Words.{ClientWord, Asks, Acknowledges, ClientMessage, ReaderMessage, Notification, Heard, HeardResponse, HeardError, HeardReport, HeardNotification}
 use Rattle.llrp_session.specs.ClientMachine.{Client, Taking, take, command, sending, awaited, is_response_to, is_view}
@@ -41,12 +41,7 @@ LeadsOn Connected awaits = Unit {0}
 LeadsOn (Reply status) awaits = status ≡ 0
 LeadsOn (Tags tags) awaits = awaits ≡ Report
 LeadsOn (Table rospecs) awaits = Unit {0}
-LeadsOn (Differs rospecs) awaits = ⊥
-LeadsOn (Refused status) awaits = ⊥
-LeadsOn (Event id state) awaits = ⊥
-LeadsOn Note awaits = ⊥
-LeadsOn Kept awaits = ⊥
-LeadsOn ConnectionEnded awaits = ⊥
+LeadsOn _ awaits = ⊥
 
 -- The message is taken so, and leads on to this command of the plan.
 pub record LeadsTo (c : Course) (m : MessageTree) (taking : Taking) (k : Command) : Type 0 where

@@ -5,11 +5,12 @@ use Rattle.std.specs.Int.{w8}
 use Rattle.std.specs.List.Sorted.{IsNonDecreasingBy}
 use Rattle.tag_uri.specs.TagText.{IsTextOf}
 use Rattle.llrp_listing.specs.declared.fault.ToolErr.{ToolErr}
-use Rattle.llrp_listing.specs.declared.fault.ToolErr.TheVariants.{Listing, Script, Hex, Read, Write, Bound, Broken, Memory, Peer, Strange, Early}
+use Rattle.llrp_listing.specs.declared.fault.ToolErr.TheVariants.{Script, Memory}
 use Rattle.llrp_session.specs.declared.words.Sighting.{Sighting}
 use Rattle.llrp_endpoints.specs.declared.script.Action.{Action}
 use Rattle.llrp_endpoints.specs.declared.script.Action.TheVariants.{Seen, Tick}
 use Rattle.llrp_endpoints.specs.declared.script.Entry.{Entry}
+use Rattle.llrp_endpoints.specs.declared.script.TheConstants.{MOST_ENTRIES}
 
 -- the text of a sighting: antenna, RSSI, and the one text of its word
 abbrev pub IsSightingLine : Sighting → List ℕ → Type 0
@@ -45,10 +46,6 @@ pub record IsInRange (e : Entry) : Type 0 where
   pub after : e.after < 2 ^ 64
   pub now : e.now < 2 ^ 64
   pub action : IsActionInRange e.action
-
--- the most entries of a script
-abbrev pub MOST_ENTRIES : ℕ
-MOST_ENTRIES = 10000
 
 -- Entries whose numbers are in range, in which neither AFTER nor NOW falls, and not too many.
 pub record IsLawful (entries : List Entry) : Type 0 where
@@ -92,12 +89,4 @@ pub record IsRefusedAt (text : List ℕ) (line : ℕ) : Type 0 where
 abbrev pub ParseStopped : List ℕ → ToolErr → Type 0
 ParseStopped text (Script line) = IsRefusedAt text line
 ParseStopped text Memory = Unit {0}
-ParseStopped text (Listing line reason) = ⊥
-ParseStopped text Hex = ⊥
-ParseStopped text Read = ⊥
-ParseStopped text Write = ⊥
-ParseStopped text Bound = ⊥
-ParseStopped text Broken = ⊥
-ParseStopped text Early = ⊥
-ParseStopped text (Peer status) = ⊥
-ParseStopped text Strange = ⊥
+ParseStopped text _ = ⊥

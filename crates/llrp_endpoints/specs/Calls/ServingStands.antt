@@ -6,7 +6,7 @@ use Rattle.llrp_stream.specs.Calls.Decoding.{Stands}
 use Rattle.llrp_stream.specs.declared.item.Item.{Item}
 use Rattle.llrp_session.specs.ReaderMachine.{Reader}
 use Rattle.llrp_listing.specs.declared.fault.ToolErr.{ToolErr}
-use Rattle.llrp_listing.specs.declared.fault.ToolErr.TheVariants.{Listing, Script, Hex, Read, Write, Bound, Broken, Memory, Peer, Strange, Early}
+use Rattle.llrp_listing.specs.declared.fault.ToolErr.TheVariants.{Broken, Memory}
 use Rattle.llrp_endpoints.specs.declared.script.Entry.{Entry}
 use Rattle.llrp_endpoints.specs.declared.serving.scripted.ScriptedReader.{ScriptedReader}
 use Rattle.llrp_endpoints.specs.declared.serving.Serving.{Serving}
@@ -14,11 +14,8 @@ use Rattle.llrp_endpoints.specs.declared.serving.Phase.TheVariants.{New, Open, C
 use Rattle.llrp_endpoints.specs.Calls.Script.{IsLawful}
 use Rattle.llrp_endpoints.specs.Serving.{events, last_moment, run, waiting, closed, broken, StaysOpen, Serves, BeginsServing}
 use Rattle.llrp_endpoints.specs.Sending.{Adds}
+use Rattle.llrp_endpoints.specs.TagLines.{greatest_count}
 use Rattle.llrp_endpoints.specs.Calls.Acting.{phase_after}
-
--- the greatest number of items that is counted; no entry is after more
-abbrev pub greatest_count : ℕ
-greatest_count = 18446744073709551615
 
 -- Of the entries those after fewer items than this are done, and the others are left.
 pub record HasDone (count : ℕ) (entries : List Entry) (s : ScriptedReader) : Type 0 where
@@ -91,15 +88,7 @@ Starts reader entries new out0 out1 (Err error) = (error ≡ Memory) × (message
 abbrev pub Fails : Reader → List Entry → List ℕ → List MessageTree → ToolErr → Type 0
 Fails reader entries bytes messages Broken = Serves reader entries bytes messages broken
 Fails reader entries bytes messages Memory = BeginsServing reader entries bytes messages
-Fails reader entries bytes messages (Listing line reason) = ⊥
-Fails reader entries bytes messages (Script line) = ⊥
-Fails reader entries bytes messages Hex = ⊥
-Fails reader entries bytes messages Read = ⊥
-Fails reader entries bytes messages Write = ⊥
-Fails reader entries bytes messages Bound = ⊥
-Fails reader entries bytes messages Early = ⊥
-Fails reader entries bytes messages (Peer status) = ⊥
-Fails reader entries bytes messages Strange = ⊥
+Fails reader entries bytes messages _ = ⊥
 
 -- What a feed makes of it: it goes on, the client closed the connection, or it ended by an error.
 abbrev pub Goes : Reader → List Entry → List ℕ → List MessageTree → Serving → Result Bool ToolErr → Type 0

@@ -3,7 +3,7 @@ use Rattle.std.specs.Prelude.{◌≡◌, ℕ, ◌+◌, ◌<◌, ◌≤◌, ◌^�
 use Rattle.llrp_tree.specs.Tree.{MessageTree}
 use Rattle.llrp_stream.specs.Device.{SourceLog, SinkLog, Gave, Wrote}
 use Rattle.llrp_listing.specs.declared.fault.ToolErr.{ToolErr}
-use Rattle.llrp_listing.specs.declared.fault.ToolErr.TheVariants.{Listing, Script, Hex, Read, Write, Bound, Broken, Memory, Peer, Strange, Early}
+use Rattle.llrp_listing.specs.declared.fault.ToolErr.TheVariants.{Read, Write, Bound, Broken, Memory, Peer, Strange, Early}
 use Rattle.llrp_endpoints.specs.declared.gathering.Phase.TheVariants.{Closed, Failed}
 use Rattle.llrp_session.specs.ReaderMachine.{Reader}
 use Rattle.llrp_endpoints.specs.declared.both_ends.client_side.ClientSide.{ClientSide}
@@ -42,14 +42,7 @@ abbrev pub ReadsNone : SourceLog → SourceLog → List ℕ → ToolErr → Type
 ReadsNone r0 r1 bytes Read = GivenAndFailed r0 r1 bytes
 ReadsNone r0 r1 bytes Bound = GivenByMost r0 r1 bytes
 ReadsNone r0 r1 bytes Early = ReadAll r0 r1 bytes
-ReadsNone r0 r1 bytes Write = ⊥
-ReadsNone r0 r1 bytes Broken = ⊥
-ReadsNone r0 r1 bytes Memory = ⊥
-ReadsNone r0 r1 bytes (Peer status) = ⊥
-ReadsNone r0 r1 bytes Strange = ⊥
-ReadsNone r0 r1 bytes (Listing line reason) = ⊥
-ReadsNone r0 r1 bytes (Script line) = ⊥
-ReadsNone r0 r1 bytes Hex = ⊥
+ReadsNone r0 r1 bytes _ = ⊥
 
 -- there is room in the counts of a source for all reads that are left
 pub record HasRoom (log : SourceLog) (reads : ℕ) : Type 0 where
@@ -85,12 +78,7 @@ ReaderStops e r0 r1 down up Memory = WasGiven r0 r1 up.read × ReaderBegins e do
 ReaderStops e r0 r1 down up Read = GivenAndFailed r0 r1 up.read × ReaderGoes e down up
 ReaderStops e r0 r1 down up Bound = GivenByMost r0 r1 up.read × ReaderGoes e down up
 ReaderStops e r0 r1 down up Early = ReadAll r0 r1 up.read × ReaderGoes e down up
-ReaderStops e r0 r1 down up Write = ⊥
-ReaderStops e r0 r1 down up (Peer status) = ⊥
-ReaderStops e r0 r1 down up Strange = ⊥
-ReaderStops e r0 r1 down up (Listing line reason) = ⊥
-ReaderStops e r0 r1 down up (Script line) = ⊥
-ReaderStops e r0 r1 down up Hex = ⊥
+ReaderStops e r0 r1 down up _ = ⊥
 
 -- It read this many bytes more, and took them; or it stopped before.
 abbrev pub ReaderHears : Ends → SourceLog → SourceLog → Traffic → Traffic → ℕ → ReaderSide → Result (Unit {0}) ToolErr → Type 0
@@ -121,9 +109,7 @@ ClientStops e r0 r1 p0 p1 down up Memory = WasGiven r0 r1 down.read × (lines : 
 ClientStops e r0 r1 p0 p1 down up Read = GivenAndFailed r0 r1 down.read × ClientAwaits e down up p0 p1
 ClientStops e r0 r1 p0 p1 down up Bound = GivenByMost r0 r1 down.read × ClientAwaits e down up p0 p1
 ClientStops e r0 r1 p0 p1 down up Write = WasGiven r0 r1 down.read × ReportFailed e down up p0 p1
-ClientStops e r0 r1 p0 p1 down up (Listing line reason) = ⊥
-ClientStops e r0 r1 p0 p1 down up (Script line) = ⊥
-ClientStops e r0 r1 p0 p1 down up Hex = ⊥
+ClientStops e r0 r1 p0 p1 down up _ = ⊥
 
 -- It read this many bytes more, and took them; or the connection was closed as planned; or it stopped before.
 abbrev pub ClientHears : Ends → SourceLog → SourceLog → SinkLog → SinkLog → Traffic → Traffic → ℕ → ClientSide → Result Bool ToolErr → Type 0

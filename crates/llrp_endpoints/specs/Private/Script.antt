@@ -1,7 +1,7 @@
 -- Beside Calls/Script: words of private functions.
 use Rattle.std.specs.Prelude.{ℕ, ◌<◌, ◌≤◌, List, length, All}
 use Rattle.llrp_endpoints.specs.declared.script.Entry.{Entry}
-use Rattle.llrp_endpoints.specs.Calls.Script.{MOST_ENTRIES}
+use Rattle.llrp_endpoints.specs.declared.script.TheConstants.{MOST_ENTRIES}
 
 -- there is room for an entry after these, and these AFTER and NOW do not fall
 pub record MayFollow (entries : List Entry) (after now : ℕ) : Type 0 where

@@ -4,7 +4,7 @@ use Rattle.llrp_tree.specs.Tree.{MessageTree}
 use Rattle.llrp_stream.specs.declared.item.Item.{Item}
 use Rattle.llrp_session.specs.ReaderMachine.{Reader}
 use Rattle.llrp_listing.specs.declared.fault.ToolErr.{ToolErr}
-use Rattle.llrp_listing.specs.declared.fault.ToolErr.TheVariants.{Listing, Script, Hex, Read, Write, Bound, Broken, Memory, Peer, Strange, Early}
+use Rattle.llrp_listing.specs.declared.fault.ToolErr.TheVariants.{Memory, Early}
 use Rattle.llrp_endpoints.specs.declared.script.Entry.{Entry}
 use Rattle.llrp_endpoints.specs.declared.serving.scripted.ScriptedReader.{ScriptedReader}
 use Rattle.llrp_endpoints.specs.Serving.{happening, entries_at, events, closing_events, run, said, ended, early, Closes, Serves}
@@ -18,16 +18,7 @@ use Rattle.llrp_endpoints.specs.Calls.ServingStands.{HasDone, HasTaken}
 abbrev pub Finishes : Reader → List Entry → List ℕ → List MessageTree → Result (Unit {0}) ToolErr → Type 0
 Finishes reader entries bytes messages (Ok u) = Serves reader entries bytes messages ended
 Finishes reader entries bytes messages (Err Early) = Serves reader entries bytes messages early
-Finishes reader entries bytes messages (Err (Peer status)) = ⊥
-Finishes reader entries bytes messages (Err Strange) = ⊥
-Finishes reader entries bytes messages (Err Broken) = ⊥
-Finishes reader entries bytes messages (Err Memory) = ⊥
-Finishes reader entries bytes messages (Err (Listing line reason)) = ⊥
-Finishes reader entries bytes messages (Err (Script line)) = ⊥
-Finishes reader entries bytes messages (Err Hex) = ⊥
-Finishes reader entries bytes messages (Err Read) = ⊥
-Finishes reader entries bytes messages (Err Write) = ⊥
-Finishes reader entries bytes messages (Err Bound) = ⊥
+Finishes reader entries bytes messages (Err _) = ⊥
 
 -- ---- their parts
 

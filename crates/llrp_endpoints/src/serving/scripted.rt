@@ -41,7 +41,8 @@ fn closes(item: &Item) -> bool
 
 impl ScriptedReader {
     ghost use Rattle.llrp_endpoints.specs.Private.ServingStands.{Connects, DoesEntries, TakesItem};
-    ghost use Rattle.llrp_endpoints.specs.Calls.ServingStands.{HasDone, HasTaken, IsNew, greatest_count};
+    ghost use Rattle.llrp_endpoints.specs.Calls.ServingStands.{HasDone, HasTaken, IsNew};
+    ghost use Rattle.llrp_endpoints.specs.TagLines.{greatest_count};
     ghost use Rattle.llrp_stream.specs.declared.item.Item.{Item};
 
     /// A new reader and its script.
