@@ -83,13 +83,7 @@ NotEncoded limit r0 r1 (Listing line reason) = (bytes : List ℕ) × ListingRefu
 NotEncoded limit r0 r1 Read = (n : ℕ) × (front : List ℕ) × GaveAndFailed r0 r1 n front
 NotEncoded limit r0 r1 Bound = (front : List ℕ) × Gave r0 r1 MOST_READS front
 NotEncoded limit r0 r1 Memory = (front : List ℕ) × WasRead r0 r1 front
-NotEncoded limit r0 r1 Write = ⊥
-NotEncoded limit r0 r1 (Script line) = ⊥
-NotEncoded limit r0 r1 Broken = ⊥
-NotEncoded limit r0 r1 Early = ⊥
-NotEncoded limit r0 r1 Hex = ⊥
-NotEncoded limit r0 r1 (Peer status) = ⊥
-NotEncoded limit r0 r1 Strange = ⊥
+NotEncoded limit r0 r1 _ = ⊥
 
 -- a front of the digits of the encoding was written, and then a write failed
 abbrev pub DigitsUnwritten : ℕ → SourceLog → SourceLog → SinkLog → SinkLog → Type 0

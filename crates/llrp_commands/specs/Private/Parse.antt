@@ -6,7 +6,7 @@ use Rattle.clap.specs.Walk.{one_of}
 use Rattle.llrp_tree.specs.declared.TheConstants.{MAX_LIMIT}
 use Rattle.llrp_commands.specs.Calls.Words.{IsFlag}
 use Rattle.llrp_commands.specs.declared.words.Request.{Request}
-use Rattle.llrp_commands.specs.declared.words.Request.TheVariants.{Show, Encode, Epc, Network, Help, Usage}
+use Rattle.llrp_commands.specs.declared.words.Request.TheVariants.{Help, Usage}
 
 -- the argument has a word
 abbrev pub HasWord : Text → List Row → Type 0
@@ -63,9 +63,6 @@ IsFound (Some p) = IsParse p.0 p.1
 
 -- what is requested is a text of help or usage
 abbrev pub IsText : Request → Type 0
-IsText (Show hex limit) = ⊥
-IsText (Encode hex limit) = ⊥
-IsText (Epc text) = ⊥
-IsText (Network command) = ⊥
 IsText (Help text) = Unit {0}
 IsText (Usage text) = Unit {0}
+IsText _ = ⊥

@@ -29,5 +29,4 @@ IsRequest found (Show hex limit) = (name_in found ≡ Some (codes "show")) × Ha
 IsRequest found (Encode hex limit) = (name_in found ≡ Some (codes "encode")) × HasFlag (hex_in found) hex × HasNumber (codes "limit") found limit
 IsRequest found (Epc text) = (name_in found ≡ Some (codes "epc")) × (word_in (codes "TEXT") found ≡ Some text.now)
 IsRequest found (Network command) = IsNetwork found command
-IsRequest found (Help text) = ⊥
-IsRequest found (Usage text) = ⊥
+IsRequest found _ = ⊥
