@@ -24,8 +24,7 @@ lawful_status false = Faulty
 abbrev pub EndsAt : (stream : List ℕ) (used : ℕ) (items : List Item) → End → Status → Type 0
 EndsAt stream used items at_end.Clean status = IsPartial (drop used stream) × (status ≡ lawful_status (is_lawful items at_end.Clean))
 EndsAt stream used items at_end.Broken status = (used ≡ length stream) × (status ≡ Broken)
-EndsAt stream used items (at_end.Rest n) status = ⊥
-EndsAt stream used items at_end.Dead status = ⊥
+EndsAt stream used items _ status = ⊥
 
 -- The text is the listing of a stream's first octets: of its whole frames, or of all of it where it breaks after them.
 pub record IsListing (stream : List ℕ) (used : ℕ) (text : List ℕ) (status : Status) : Type 0 where

@@ -36,13 +36,7 @@ EncodeFails listing (Listing line reason) = (octets : List ℕ) × Refuses MAX_L
 EncodeFails listing Write = Unit {0}
 EncodeFails listing Bound = MOST_READS ≤ length listing
 EncodeFails listing Memory = Unit {0}
-EncodeFails listing Read = ⊥
-EncodeFails listing (Script line) = ⊥
-EncodeFails listing Hex = ⊥
-EncodeFails listing Broken = ⊥
-EncodeFails listing (Peer number) = ⊥
-EncodeFails listing Strange = ⊥
-EncodeFails listing Early = ⊥
+EncodeFails listing _ = ⊥
 
 -- the line and the status that say why a listing has no octets
 abbrev pub Stops : ToolErr → ℕ → Status → Type 0
