@@ -1,4 +1,6 @@
 //! Begins the most frequent children of messages, which have neither fields nor a tail, in one step.
+//! `Reader::begin` is the general way. Here the kind is known, so the compiler knows its place and its name, and
+//! the head, the fields and the tail are one step in place of three.
 
 ghost use Rattle.std.specs.Prelude.{◌≡◌, ◌+◌, ◌<◌, ◌≤◌, ℕ, List, [], ◌∷◌, IfErr, IfOk, OnOk, Ok, Some, drop, length, true, false};
 ghost use Rattle.llrp_schema.specs.declared.kinds.Kind.TheVariants.{Parameter};

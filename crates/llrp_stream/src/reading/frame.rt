@@ -83,7 +83,8 @@ fn may_be_bare(kind: MsgKind) -> bool
     }
 }
 
-/// Receives a message that ends with its header, if it may. Returns whether it was received.
+/// Receives a message that ends with its header, if it may. Returns whether it was received. The engine
+/// would receive it too; this spares a KEEPALIVE its steps.
 #[inline(always)]
 pub(crate) fn receive_bare<L: Listener>(
     _reader: &Reader,
