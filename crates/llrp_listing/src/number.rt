@@ -64,7 +64,7 @@ fn short_number(digits: &[u8]) -> Option<u64>
     Some(n)
 }
 
-/// The number of at most 20 digits, in 128 bits. It is kept out of line: few numbers have so many.
+/// The number of at most 20 digits, in 128 bits. It is a call of its own, since few numbers have so many digits.
 #[inline(never)]
 fn long_number(digits: &[u8]) -> Option<u128>
     requires { length digits.now ≤ 20 }

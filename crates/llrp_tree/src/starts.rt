@@ -209,7 +209,7 @@ fn as_more_octets(head: Packed, rest: Packed) -> Start
     }
 }
 
-/// The octets of a head and of what comes behind it.
+/// The octets of a head and of what comes after it.
 #[inline(always)]
 fn both_octets(head: Packed, rest: Packed) -> Start
     requires below { head.number < 2 ^ head.bits }
