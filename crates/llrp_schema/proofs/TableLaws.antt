@@ -1,5 +1,5 @@
 -- The laws of the tables: each is a test that the checker computes at every row, and the fact that follows from it.
-use Rattle.std.proofs.Common.{arith, ◌≡◌, ℕ, ◌<◌, ◌≤◌, ◌%◌, ◌^◌, ◌-◌, ◌↔◌, Bool, true, false, not, ◌&&◌, ◌||◌, List, [], ◌∷◌, Option, Some, None, IfSome, cond, length, filter, nat_eq, nat_lt, nat_le, ◌==◌, refl, sym, ap, ◌∙◌, eq-eqb, eqb-true}
+use Rattle.std.proofs.Common.{arith, ◌≡◌, ◌⊎◌, inl, inr, ℕ, ◌<◌, ◌≤◌, ◌%◌, ◌^◌, ◌-◌, ◌↔◌, Bool, true, false, not, ◌&&◌, ◌||◌, List, [], ◌∷◌, Option, Some, None, IfSome, cond, length, filter, nat_eq, nat_lt, nat_le, ◌==◌, refl, sym, ap, ◌∙◌, eq-eqb, eqb-true}
 use Rattle.std.proofs.lemmas.Option.{same_Some, none-some}
 use Rattle.std.proofs.lemmas.Bool.{and_parts, ltb-true, leb-true}
 use Rattle.std.proofs.lemmas.List.Elements.{All-contains}
@@ -15,7 +15,7 @@ use Rattle.llrp_schema.specs.declared.kinds.Tail.{Tail}
 use Rattle.llrp_schema.specs.declared.kinds.Tail.TheVariants.{Absent, Words, Text, Bits, Data}
 use Rattle.llrp_schema.specs.declared.kinds.Kind.{Kind}
 use Rattle.llrp_schema.specs.declared.kinds.Kind.TheVariants.{Message, Parameter}
-use Rattle.llrp_schema.specs.Schema.{FieldRule, GroupRule, KindRule, field, number_of, name_of, fields_of, tail_of, groups_of, rule_of, message_rule, param_rule, message_kinds, param_kinds, is_tv, message_in, tlv_in, tv_in, messages_of, params_of, profile_of, key_of, key_in, whole_message_kinds, whole_param_kinds, bits_of, plain_fields_of}
+use Rattle.llrp_schema.specs.Schema.{FieldRule, GroupRule, KindRule, any_field, number_of, name_of, fields_of, tail_of, groups_of, rule_of, message_rule, param_rule, message_kinds, param_kinds, is_tv, message_in, tlv_in, tv_in, messages_of, params_of, profile_of, key_of, key_in, whole_message_kinds, whole_param_kinds, bits_of, plain_fields_of}
 use Rattle.llrp_schema.specs.Calls.Schema.{message_named_in, param_named_in}
 use Rattle.llrp_schema.proofs.SchemaLemmas.{find-all, find-passes, list_all-filter, list_all-thinned, not_true, implied, same_split, All-from_list_all, AllPairs-from_pairs_all, pairs_all}
 
@@ -273,54 +273,54 @@ few_bits kind = leb-true (bits_of (fields_of kind)) 96 (every_rule (λ row. nat_
 -- a kind has twelve plain fields at most
 pub few_plain_fields : (kind : Kind) → length (plain_fields_of kind) ≤ 12
 unfolding fields_of rule_of message_rule param_rule message_kinds param_kinds whole_message_kinds whole_param_kinds
-few_plain_fields kind = leb-true (length (plain_fields_of kind)) 12 (every_rule (λ row. nat_le (length (filter (λ field. not field.reserved) row.fields)) 12) (refl, refl) (refl, refl) kind)
+few_plain_fields kind = leb-true (length (plain_fields_of kind)) 12 (every_rule (λ row. nat_le (length (filter (λ any_field. not any_field.reserved) row.fields)) 12) (refl, refl) (refl, refl) kind)
 
 -- a test of fields that passes at every row, and what follows from it
-every_field : (test : FieldRule → Bool) (P : FieldRule → Type 0) → ((field : FieldRule) → test field ≡ true → P field) → ((kind : Kind) → list_all test (rule_of kind).fields ≡ true) → (kind : Kind) → All P (fields_of kind)
+every_field : (test : FieldRule → Bool) (P : FieldRule → Type 0) → ((any_field : FieldRule) → test any_field ≡ true → P any_field) → ((kind : Kind) → list_all test (rule_of kind).fields ≡ true) → (kind : Kind) → All P (fields_of kind)
 unfolding fields_of
 every_field test P tells pass kind = All-from_list_all test P tells (fields_of kind) (pass kind)
 
 -- a field has 1 to 96 bits
-pub field_widths : (kind : Kind) → All (λ field. (1 ≤ field.width) × (field.width ≤ 96)) (fields_of kind)
+pub field_widths : (kind : Kind) → All (λ any_field. (1 ≤ any_field.width) × (any_field.width ≤ 96)) (fields_of kind)
 unfolding rule_of message_rule param_rule message_kinds param_kinds whole_message_kinds whole_param_kinds
-field_widths = every_field (λ field. nat_le 1 field.width && nat_le field.width 96) (λ field. (1 ≤ field.width) × (field.width ≤ 96)) (λ field test. let parts = and_parts (nat_le 1 field.width) (nat_le field.width 96) test in (leb-true 1 field.width parts.0, leb-true field.width 96 parts.1)) (every_rule (λ row. list_all (λ field. nat_le 1 field.width && nat_le field.width 96) row.fields) (refl, refl) (refl, refl))
+field_widths = every_field (λ any_field. nat_le 1 any_field.width && nat_le any_field.width 96) (λ any_field. (1 ≤ any_field.width) × (any_field.width ≤ 96)) (λ any_field test. let parts = and_parts (nat_le 1 any_field.width) (nat_le any_field.width 96) test in (leb-true 1 any_field.width parts.0, leb-true any_field.width 96 parts.1)) (every_rule (λ row. list_all (λ any_field. nat_le 1 any_field.width && nat_le any_field.width 96) row.fields) (refl, refl) (refl, refl))
 
 -- the greatest value of a field fits its bits
-pub field_values : (kind : Kind) → All (λ field. field.greatest < 2 ^ field.width) (fields_of kind)
+pub field_values : (kind : Kind) → All (λ any_field. any_field.greatest < 2 ^ any_field.width) (fields_of kind)
 unfolding rule_of message_rule param_rule message_kinds param_kinds whole_message_kinds whole_param_kinds
-field_values = every_field (λ field. nat_lt field.greatest (2 ^ field.width)) (λ field. field.greatest < 2 ^ field.width) (λ field. ltb-true field.greatest (2 ^ field.width)) (every_rule (λ row. list_all (λ field. nat_lt field.greatest (2 ^ field.width)) row.fields) (refl, refl) (refl, refl))
+field_values = every_field (λ any_field. nat_lt any_field.greatest (2 ^ any_field.width)) (λ any_field. any_field.greatest < 2 ^ any_field.width) (λ any_field. ltb-true any_field.greatest (2 ^ any_field.width)) (every_rule (λ row. list_all (λ any_field. nat_lt any_field.greatest (2 ^ any_field.width)) row.fields) (refl, refl) (refl, refl))
 
 -- a reserved field holds zero alone
-pub reserved_fields : (kind : Kind) → All (λ field. field.reserved ≡ true → field.greatest ≡ 0) (fields_of kind)
+pub reserved_fields : (kind : Kind) → All (λ any_field. any_field.reserved ≡ true → any_field.greatest ≡ 0) (fields_of kind)
 unfolding rule_of message_rule param_rule message_kinds param_kinds whole_message_kinds whole_param_kinds
-reserved_fields = every_field (λ field. not field.reserved || nat_eq field.greatest 0) (λ field. field.reserved ≡ true → field.greatest ≡ 0) (λ field test is_reserved. eqb-true field.greatest 0 (implied field.reserved (nat_eq field.greatest 0) test is_reserved)) (every_rule (λ row. list_all (λ field. not field.reserved || nat_eq field.greatest 0) row.fields) (refl, refl) (refl, refl))
+reserved_fields = every_field (λ any_field. not any_field.reserved || nat_eq any_field.greatest 0) (λ any_field. any_field.reserved ≡ true → any_field.greatest ≡ 0) (λ any_field test is_reserved. eqb-true any_field.greatest 0 (implied any_field.reserved (nat_eq any_field.greatest 0) test is_reserved)) (every_rule (λ row. list_all (λ any_field. not any_field.reserved || nat_eq any_field.greatest 0) row.fields) (refl, refl) (refl, refl))
 
 -- a signed field is plain, of 8 bits, and each of its values is lawful
-pub signed_fields : (kind : Kind) → All (λ field. field.signed ≡ true → (field.reserved ≡ false) × (field.width ≡ 8) × (field.greatest ≡ 255)) (fields_of kind)
+pub signed_fields : (kind : Kind) → All (λ any_field. any_field.signed ≡ true → (any_field.reserved ≡ false) × (any_field.width ≡ 8) × (any_field.greatest ≡ 255)) (fields_of kind)
 unfolding rule_of message_rule param_rule message_kinds param_kinds whole_message_kinds whole_param_kinds
-signed_fields = every_field (λ field. not field.signed || (not field.reserved && (nat_eq field.width 8 && nat_eq field.greatest 255))) (λ field. field.signed ≡ true → (field.reserved ≡ false) × (field.width ≡ 8) × (field.greatest ≡ 255)) tells (every_rule (λ row. list_all (λ field. not field.signed || (not field.reserved && (nat_eq field.width 8 && nat_eq field.greatest 255))) row.fields) (refl, refl) (refl, refl))
+signed_fields = every_field (λ any_field. not any_field.signed || (not any_field.reserved && (nat_eq any_field.width 8 && nat_eq any_field.greatest 255))) (λ any_field. any_field.signed ≡ true → (any_field.reserved ≡ false) × (any_field.width ≡ 8) × (any_field.greatest ≡ 255)) tells (every_rule (λ row. list_all (λ any_field. not any_field.signed || (not any_field.reserved && (nat_eq any_field.width 8 && nat_eq any_field.greatest 255))) row.fields) (refl, refl) (refl, refl))
   where
-    tells : (field : FieldRule) → (not field.signed || (not field.reserved && (nat_eq field.width 8 && nat_eq field.greatest 255))) ≡ true → field.signed ≡ true → (field.reserved ≡ false) × (field.width ≡ 8) × (field.greatest ≡ 255)
-    tells field test is_signed =
-        let all = implied field.signed (not field.reserved && (nat_eq field.width 8 && nat_eq field.greatest 255)) test is_signed in
-        let parts = and_parts (not field.reserved) (nat_eq field.width 8 && nat_eq field.greatest 255) all in
-        let numbers = and_parts (nat_eq field.width 8) (nat_eq field.greatest 255) parts.1 in
-        (not_true field.reserved parts.0, eqb-true field.width 8 numbers.0, eqb-true field.greatest 255 numbers.1)
+    tells : (any_field : FieldRule) → (not any_field.signed || (not any_field.reserved && (nat_eq any_field.width 8 && nat_eq any_field.greatest 255))) ≡ true → any_field.signed ≡ true → (any_field.reserved ≡ false) × (any_field.width ≡ 8) × (any_field.greatest ≡ 255)
+    tells any_field test is_signed =
+        let all = implied any_field.signed (not any_field.reserved && (nat_eq any_field.width 8 && nat_eq any_field.greatest 255)) test is_signed in
+        let parts = and_parts (not any_field.reserved) (nat_eq any_field.width 8 && nat_eq any_field.greatest 255) all in
+        let numbers = and_parts (nat_eq any_field.width 8) (nat_eq any_field.greatest 255) parts.1 in
+        (not_true any_field.reserved parts.0, eqb-true any_field.width 8 numbers.0, eqb-true any_field.greatest 255 numbers.1)
 
 -- whether the fields are one alone, which is plain and of which every value is lawful
 abbrev is_one_plain : List FieldRule → Bool
 is_one_plain [] = false
-is_one_plain (field ∷ []) = not field.reserved && nat_eq field.greatest (2 ^ field.width - 1)
-is_one_plain (field ∷ other ∷ more) = false
+is_one_plain (any_field ∷ []) = not any_field.reserved && nat_eq any_field.greatest (2 ^ any_field.width - 1)
+is_one_plain (any_field ∷ other ∷ more) = false
 
 -- what follows from that test
-one_plain : (fields : List FieldRule) → is_one_plain fields ≡ true → (field : FieldRule) × (fields ≡ field ∷ []) × (field.reserved ≡ false) × (field.greatest ≡ 2 ^ field.width - 1)
+one_plain : (fields : List FieldRule) → is_one_plain fields ≡ true → (any_field : FieldRule) × (fields ≡ any_field ∷ []) × (any_field.reserved ≡ false) × (any_field.greatest ≡ 2 ^ any_field.width - 1)
 one_plain [] test = cc test
-one_plain (field ∷ []) test = let parts = and_parts (not field.reserved) (nat_eq field.greatest (2 ^ field.width - 1)) test in (field, refl, not_true field.reserved parts.0, eqb-true field.greatest (2 ^ field.width - 1) parts.1)
-one_plain (field ∷ other ∷ more) test = cc test
+one_plain (any_field ∷ []) test = let parts = and_parts (not any_field.reserved) (nat_eq any_field.greatest (2 ^ any_field.width - 1)) test in (any_field, refl, not_true any_field.reserved parts.0, eqb-true any_field.greatest (2 ^ any_field.width - 1) parts.1)
+one_plain (any_field ∷ other ∷ more) test = cc test
 
 -- a parameter with a type and a value alone has one field, which is plain, and whose values are all lawful
-pub tv_field : (kind : ParamKind) → is_tv kind ≡ true → (field : FieldRule) × (fields_of (Parameter kind) ≡ field ∷ []) × (field.reserved ≡ false) × (field.greatest ≡ 2 ^ field.width - 1)
+pub tv_field : (kind : ParamKind) → is_tv kind ≡ true → (any_field : FieldRule) × (fields_of (Parameter kind) ≡ any_field ∷ []) × (any_field.reserved ≡ false) × (any_field.greatest ≡ 2 ^ any_field.width - 1)
 unfolding is_tv number_of fields_of rule_of param_rule param_kinds whole_param_kinds
 tv_field kind short = one_plain (fields_of (Parameter kind)) (implied (nat_lt (number_of (Parameter kind)) 128) (is_one_plain (fields_of (Parameter kind))) (every_parameter (λ row. not (nat_lt row.number 128) || is_one_plain row.fields) (refl, refl) kind) short)
 
@@ -360,13 +360,18 @@ pub tv_groups : (kind : ParamKind) → is_tv kind ≡ true → groups_of (Parame
 unfolding is_tv number_of groups_of rule_of param_rule param_kinds whole_param_kinds
 tv_groups kind short = empty (groups_of (Parameter kind)) (implied (nat_lt (number_of (Parameter kind)) 128) (is_empty (groups_of (Parameter kind))) (every_parameter (λ row. not (nat_lt row.number 128) || is_empty row.groups) (refl, refl) kind) short)
 
--- a message has no tail
-pub message_tail : (kind : MsgKind) → tail_of (Message kind) ≡ Absent
-unfolding tail_of rule_of message_rule message_kinds whole_message_kinds
-message_tail kind = absent (tail_of (Message kind)) (every_message (λ row. is_absent row.tail) (refl, refl) kind)
+-- whether a rule is of the profile
+abbrev is_own : Profile → Bool
+is_own Own = true
+is_own Whole = false
+
+-- a message of the profile has no tail
+pub message_tail : (kind : MsgKind) → profile_of (Message kind) ≡ Own → tail_of (Message kind) ≡ Absent
+unfolding tail_of profile_of rule_of message_rule message_kinds whole_message_kinds
+message_tail kind own = absent (tail_of (Message kind)) (implied (is_own (profile_of (Message kind))) (is_absent (tail_of (Message kind))) (every_message (λ row. not (is_own row.profile) || is_absent row.tail) (refl, refl) kind) (ap is_own own))
 
 -- the bits of a tail are counted by the one field
-pub bits_field : (kind : ParamKind) → tail_of (Parameter kind) ≡ Bits → fields_of (Parameter kind) ≡ field "BitCount" 16 ∷ []
+pub bits_field : (kind : ParamKind) → tail_of (Parameter kind) ≡ Bits → fields_of (Parameter kind) ≡ any_field "BitCount" 16 ∷ []
 unfolding tail_of fields_of rule_of param_rule
 bits_field EpcData same = refl
 bits_field WholeEpcData same = refl
@@ -380,10 +385,23 @@ is_data Text = false
 is_data Bits = false
 is_data Data = true
 
--- a parameter with data has no group
-pub data_groups : (kind : ParamKind) → tail_of (Parameter kind) ≡ Data → groups_of (Parameter kind) ≡ []
-unfolding tail_of groups_of rule_of param_rule param_kinds whole_param_kinds
-data_groups kind same = empty (groups_of (Parameter kind)) (implied (is_data (tail_of (Parameter kind))) (is_empty (groups_of (Parameter kind))) (every_parameter (λ row. not (is_data row.tail) || is_empty row.groups) (refl, refl) kind) (ap is_data same))
+-- a message has no tail, or data
+either : (form : Tail) → is_absent form || is_data form ≡ true → (form ≡ Absent) ⊎ (form ≡ Data)
+either Absent test = inl refl
+either Words test = cc test
+either Text test = cc test
+either Bits test = cc test
+either Data test = inr refl
+
+pub message_form : (kind : MsgKind) → (tail_of (Message kind) ≡ Absent) ⊎ (tail_of (Message kind) ≡ Data)
+unfolding tail_of rule_of message_rule message_kinds whole_message_kinds
+message_form kind = either (tail_of (Message kind)) (every_message (λ row. is_absent row.tail || is_data row.tail) (refl, refl) kind)
+
+-- a node with data has no group
+pub data_groups : (kind : Kind) → tail_of kind ≡ Data → groups_of kind ≡ []
+unfolding tail_of groups_of rule_of message_rule param_rule message_kinds whole_message_kinds param_kinds whole_param_kinds
+data_groups (Message kind) same = empty (groups_of (Message kind)) (implied (is_data (tail_of (Message kind))) (is_empty (groups_of (Message kind))) (every_message (λ row. not (is_data row.tail) || is_empty row.groups) (refl, refl) kind) (ap is_data same))
+data_groups (Parameter kind) same = empty (groups_of (Parameter kind)) (implied (is_data (tail_of (Parameter kind))) (is_empty (groups_of (Parameter kind))) (every_parameter (λ row. not (is_data row.tail) || is_empty row.groups) (refl, refl) kind) (ap is_data same))
 
 -- a test of groups that passes at every row, and what follows from it
 pub every_group : (test : GroupRule → Bool) (P : GroupRule → Type 0) → ((group : GroupRule) → test group ≡ true → P group) → ((kind : Kind) → list_all test (rule_of kind).groups ≡ true) → (kind : Kind) → All P (groups_of kind)

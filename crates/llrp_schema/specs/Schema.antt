@@ -41,8 +41,8 @@ abbrev pub field_to : String → ℕ → ℕ → FieldRule
 field_to name width greatest = record { name = codes name; width = width; reserved = false; greatest = greatest; signed = false }
 
 -- a field of which every value is lawful
-abbrev pub field : String → ℕ → FieldRule
-field name width = field_to name width (2 ^ width - 1)
+abbrev pub any_field : String → ℕ → FieldRule
+any_field name width = field_to name width (2 ^ width - 1)
 
 -- a field whose bits are a number in two's complement
 abbrev pub signed : String → ℕ → FieldRule
@@ -88,9 +88,13 @@ tlv number name fields tail groups = record { profile = Own; number = number; na
 abbrev message : ℕ → String → List FieldRule → List GroupRule → KindRule
 message number name fields groups = tlv number name fields Absent groups
 
+-- a message with data after its fields, up to its end: its number, name and fields
+abbrev message_with_data : ℕ → String → List FieldRule → KindRule
+message_with_data number name fields = tlv number name fields Data []
+
 -- a parameter with type and value: its number, its name, which is that of its one field, and the field's width
 abbrev tv : ℕ → String → ℕ → KindRule
-tv number name width = tlv number name (field name width ∷ []) Absent []
+tv number name width = tlv number name (any_field name width ∷ []) Absent []
 
 -- a parameter with type and value whose field is signed
 abbrev signed_tv : ℕ → String → ℕ → KindRule
@@ -103,7 +107,7 @@ of_whole rule = record { profile = Whole; number = rule.number; name = rule.name
 -- the messages (LLRP 1.1, section 17.1)
 unfoldable pub message_rule : MsgKind → KindRule
 message_rule SetReaderConfig = message 3 "SET_READER_CONFIG"
-    (field "ResetToFactoryDefault" 1 ∷ reserved 7 ∷ [])
+    (any_field "ResetToFactoryDefault" 1 ∷ reserved 7 ∷ [])
     (at_most_one KeepaliveSpec ∷ at_most_one EventsAndReports ∷ at_most_one RoReportSpec ∷
     at_most_one ReaderEventNotificationSpec ∷ any_number AntennaConfiguration ∷ [])
 message_rule CloseConnectionResponse = message 4 "CLOSE_CONNECTION_RESPONSE" []
@@ -112,11 +116,11 @@ message_rule SetReaderConfigResponse = message 13 "SET_READER_CONFIG_RESPONSE" [
     (one LlrpStatus ∷ [])
 message_rule CloseConnection = message 14 "CLOSE_CONNECTION" [] []
 message_rule AddRoSpec = message 20 "ADD_ROSPEC" [] (one RoSpec ∷ [])
-message_rule DeleteRoSpec = message 21 "DELETE_ROSPEC" (field "ROSpecID" 32 ∷ []) []
-message_rule StartRoSpec = message 22 "START_ROSPEC" (field "ROSpecID" 32 ∷ []) []
-message_rule StopRoSpec = message 23 "STOP_ROSPEC" (field "ROSpecID" 32 ∷ []) []
-message_rule EnableRoSpec = message 24 "ENABLE_ROSPEC" (field "ROSpecID" 32 ∷ []) []
-message_rule DisableRoSpec = message 25 "DISABLE_ROSPEC" (field "ROSpecID" 32 ∷ []) []
+message_rule DeleteRoSpec = message 21 "DELETE_ROSPEC" (any_field "ROSpecID" 32 ∷ []) []
+message_rule StartRoSpec = message 22 "START_ROSPEC" (any_field "ROSpecID" 32 ∷ []) []
+message_rule StopRoSpec = message 23 "STOP_ROSPEC" (any_field "ROSpecID" 32 ∷ []) []
+message_rule EnableRoSpec = message 24 "ENABLE_ROSPEC" (any_field "ROSpecID" 32 ∷ []) []
+message_rule DisableRoSpec = message 25 "DISABLE_ROSPEC" (any_field "ROSpecID" 32 ∷ []) []
 message_rule GetRoSpecs = message 26 "GET_ROSPECS" [] []
 message_rule AddRoSpecResponse = message 30 "ADD_ROSPEC_RESPONSE" [] (one LlrpStatus ∷ [])
 message_rule DeleteRoSpecResponse = message 31 "DELETE_ROSPEC_RESPONSE" [] (one LlrpStatus ∷ [])
@@ -136,9 +140,9 @@ message_rule KeepaliveAck = message 72 "KEEPALIVE_ACK" [] []
 message_rule ErrorMessage = message 100 "ERROR_MESSAGE" [] (one LlrpStatus ∷ [])
 message_rule WholeGetReaderCapabilities = of_whole (message 1 "GET_READER_CAPABILITIES" (field_to "RequestedData" 8 4 ∷ [])
     (any_number WholeCustom ∷ []))
-message_rule WholeGetReaderConfig = of_whole (message 2 "GET_READER_CONFIG" (field "AntennaID" 16 ∷ field_to "RequestedData" 8 11 ∷ field "GPIPortNum" 16 ∷ field "GPOPortNum" 16 ∷ [])
+message_rule WholeGetReaderConfig = of_whole (message 2 "GET_READER_CONFIG" (any_field "AntennaID" 16 ∷ field_to "RequestedData" 8 11 ∷ any_field "GPIPortNum" 16 ∷ any_field "GPOPortNum" 16 ∷ [])
     (any_number WholeCustom ∷ []))
-message_rule WholeSetReaderConfig = of_whole (message 3 "SET_READER_CONFIG" (field "ResetToFactoryDefault" 1 ∷ reserved 7 ∷ [])
+message_rule WholeSetReaderConfig = of_whole (message 3 "SET_READER_CONFIG" (any_field "ResetToFactoryDefault" 1 ∷ reserved 7 ∷ [])
     (at_most_one WholeKeepaliveSpec ∷ at_most_one WholeEventsAndReports ∷ at_most_one WholeRoReportSpec ∷ at_most_one WholeReaderEventNotificationSpec ∷ any_number WholeAntennaConfiguration ∷ any_number WholeAntennaProperties ∷ at_most_one WholeAccessReportSpec ∷ any_number WholeGpoWriteData ∷ any_number WholeGpiPortCurrentState ∷ any_number WholeCustom ∷ []))
 message_rule WholeCloseConnectionResponse = of_whole (message 4 "CLOSE_CONNECTION_RESPONSE" []
     (one WholeLlrpStatus ∷ []))
@@ -152,15 +156,15 @@ message_rule WholeCloseConnection = of_whole (message 14 "CLOSE_CONNECTION" []
     [])
 message_rule WholeAddRoSpec = of_whole (message 20 "ADD_ROSPEC" []
     (one WholeRoSpec ∷ []))
-message_rule WholeDeleteRoSpec = of_whole (message 21 "DELETE_ROSPEC" (field "ROSpecID" 32 ∷ [])
+message_rule WholeDeleteRoSpec = of_whole (message 21 "DELETE_ROSPEC" (any_field "ROSpecID" 32 ∷ [])
     [])
-message_rule WholeStartRoSpec = of_whole (message 22 "START_ROSPEC" (field "ROSpecID" 32 ∷ [])
+message_rule WholeStartRoSpec = of_whole (message 22 "START_ROSPEC" (any_field "ROSpecID" 32 ∷ [])
     [])
-message_rule WholeStopRoSpec = of_whole (message 23 "STOP_ROSPEC" (field "ROSpecID" 32 ∷ [])
+message_rule WholeStopRoSpec = of_whole (message 23 "STOP_ROSPEC" (any_field "ROSpecID" 32 ∷ [])
     [])
-message_rule WholeEnableRoSpec = of_whole (message 24 "ENABLE_ROSPEC" (field "ROSpecID" 32 ∷ [])
+message_rule WholeEnableRoSpec = of_whole (message 24 "ENABLE_ROSPEC" (any_field "ROSpecID" 32 ∷ [])
     [])
-message_rule WholeDisableRoSpec = of_whole (message 25 "DISABLE_ROSPEC" (field "ROSpecID" 32 ∷ [])
+message_rule WholeDisableRoSpec = of_whole (message 25 "DISABLE_ROSPEC" (any_field "ROSpecID" 32 ∷ [])
     [])
 message_rule WholeGetRoSpecs = of_whole (message 26 "GET_ROSPECS" []
     [])
@@ -180,11 +184,11 @@ message_rule WholeGetRoSpecsResponse = of_whole (message 36 "GET_ROSPECS_RESPONS
     (one WholeLlrpStatus ∷ any_number WholeRoSpec ∷ []))
 message_rule WholeAddAccessSpec = of_whole (message 40 "ADD_ACCESSSPEC" []
     (one WholeAccessSpec ∷ []))
-message_rule WholeDeleteAccessSpec = of_whole (message 41 "DELETE_ACCESSSPEC" (field "AccessSpecID" 32 ∷ [])
+message_rule WholeDeleteAccessSpec = of_whole (message 41 "DELETE_ACCESSSPEC" (any_field "AccessSpecID" 32 ∷ [])
     [])
-message_rule WholeEnableAccessSpec = of_whole (message 42 "ENABLE_ACCESSSPEC" (field "AccessSpecID" 32 ∷ [])
+message_rule WholeEnableAccessSpec = of_whole (message 42 "ENABLE_ACCESSSPEC" (any_field "AccessSpecID" 32 ∷ [])
     [])
-message_rule WholeDisableAccessSpec = of_whole (message 43 "DISABLE_ACCESSSPEC" (field "AccessSpecID" 32 ∷ [])
+message_rule WholeDisableAccessSpec = of_whole (message 43 "DISABLE_ACCESSSPEC" (any_field "AccessSpecID" 32 ∷ [])
     [])
 message_rule WholeGetAccessSpecs = of_whole (message 44 "GET_ACCESSSPECS" []
     [])
@@ -192,7 +196,7 @@ message_rule WholeClientRequestOp = of_whole (message 45 "CLIENT_REQUEST_OP" []
     (one WholeTagReportData ∷ []))
 message_rule WholeGetSupportedVersion = of_whole (message 46 "GET_SUPPORTED_VERSION" []
     [])
-message_rule WholeSetProtocolVersion = of_whole (message 47 "SET_PROTOCOL_VERSION" (field "ProtocolVersion" 8 ∷ [])
+message_rule WholeSetProtocolVersion = of_whole (message 47 "SET_PROTOCOL_VERSION" (any_field "ProtocolVersion" 8 ∷ [])
     [])
 message_rule WholeAddAccessSpecResponse = of_whole (message 50 "ADD_ACCESSSPEC_RESPONSE" []
     (one WholeLlrpStatus ∷ []))
@@ -206,7 +210,7 @@ message_rule WholeGetAccessSpecsResponse = of_whole (message 54 "GET_ACCESSSPECS
     (one WholeLlrpStatus ∷ any_number WholeAccessSpec ∷ []))
 message_rule WholeClientRequestOpResponse = of_whole (message 55 "CLIENT_REQUEST_OP_RESPONSE" []
     (one WholeClientRequestResponse ∷ []))
-message_rule WholeGetSupportedVersionResponse = of_whole (message 56 "GET_SUPPORTED_VERSION_RESPONSE" (field "CurrentVersion" 8 ∷ field "SupportedVersion" 8 ∷ [])
+message_rule WholeGetSupportedVersionResponse = of_whole (message 56 "GET_SUPPORTED_VERSION_RESPONSE" (any_field "CurrentVersion" 8 ∷ any_field "SupportedVersion" 8 ∷ [])
     (one WholeLlrpStatus ∷ []))
 message_rule WholeSetProtocolVersionResponse = of_whole (message 57 "SET_PROTOCOL_VERSION_RESPONSE" []
     (one WholeLlrpStatus ∷ []))
@@ -224,8 +228,7 @@ message_rule WholeKeepaliveAck = of_whole (message 72 "KEEPALIVE_ACK" []
     [])
 message_rule WholeErrorMessage = of_whole (message 100 "ERROR_MESSAGE" []
     (one WholeLlrpStatus ∷ []))
-message_rule WholeCustomMessage = of_whole (message 1023 "CUSTOM_MESSAGE" (field "VendorIdentifier" 32 ∷ field "MessageSubtype" 8 ∷ [])
-    [])
+message_rule WholeCustomMessage = of_whole (message_with_data 1023 "CUSTOM_MESSAGE" (any_field "VendorIdentifier" 32 ∷ any_field "MessageSubtype" 8 ∷ []))
 
 -- the parameters (LLRP 1.1, section 17.2)
 unfoldable pub param_rule : ParamKind → KindRule
@@ -244,46 +247,46 @@ param_rule C1G2Pc = tv 12 "C1G2-PC" 16
 param_rule Epc96 = tv 13 "EPC-96" 96
 param_rule SpecIndex = tv 14 "SpecIndex" 16
 param_rule AccessSpecId = tv 16 "AccessSpecID" 32
-param_rule UtcTimestamp = tlv 128 "UTCTimestamp" (field "Microseconds" 64 ∷ []) Absent []
-param_rule Uptime = tlv 129 "Uptime" (field "Microseconds" 64 ∷ []) Absent []
+param_rule UtcTimestamp = tlv 128 "UTCTimestamp" (any_field "Microseconds" 64 ∷ []) Absent []
+param_rule Uptime = tlv 129 "Uptime" (any_field "Microseconds" 64 ∷ []) Absent []
 param_rule RoSpec = tlv 177 "ROSpec"
-    (field "ROSpecID" 32 ∷ field_to "Priority" 8 7 ∷ field_to "CurrentState" 8 2 ∷ []) Absent
+    (any_field "ROSpecID" 32 ∷ field_to "Priority" 8 7 ∷ field_to "CurrentState" 8 2 ∷ []) Absent
     (one RoBoundarySpec ∷ one_or_more AiSpec ∷ at_most_one RoReportSpec ∷ [])
 param_rule RoBoundarySpec = tlv 178 "ROBoundarySpec" [] Absent
     (one RoSpecStartTrigger ∷ one RoSpecStopTrigger ∷ [])
 param_rule RoSpecStartTrigger = tlv 179 "ROSpecStartTrigger" (field_to "Type" 8 3 ∷ []) Absent
     (at_most_one PeriodicTriggerValue ∷ at_most_one GpiTriggerValue ∷ [])
 param_rule PeriodicTriggerValue = tlv 180 "PeriodicTriggerValue"
-    (field "Offset" 32 ∷ field "Period" 32 ∷ []) Absent (at_most_one UtcTimestamp ∷ [])
+    (any_field "Offset" 32 ∷ any_field "Period" 32 ∷ []) Absent (at_most_one UtcTimestamp ∷ [])
 param_rule GpiTriggerValue = tlv 181 "GPITriggerValue"
-    (field "Port" 16 ∷ field "Event" 1 ∷ reserved 7 ∷ field "Timeout" 32 ∷ []) Absent []
+    (any_field "Port" 16 ∷ any_field "Event" 1 ∷ reserved 7 ∷ any_field "Timeout" 32 ∷ []) Absent []
 param_rule RoSpecStopTrigger = tlv 182 "ROSpecStopTrigger"
-    (field_to "Type" 8 2 ∷ field "Duration" 32 ∷ []) Absent (at_most_one GpiTriggerValue ∷ [])
+    (field_to "Type" 8 2 ∷ any_field "Duration" 32 ∷ []) Absent (at_most_one GpiTriggerValue ∷ [])
 param_rule AiSpec = tlv 183 "AISpec" [] Words
     (one AiSpecStopTrigger ∷ one_or_more InventoryParameterSpec ∷ [])
 param_rule AiSpecStopTrigger = tlv 184 "AISpecStopTrigger"
-    (field_to "Type" 8 3 ∷ field "Duration" 32 ∷ []) Absent
+    (field_to "Type" 8 3 ∷ any_field "Duration" 32 ∷ []) Absent
     (at_most_one GpiTriggerValue ∷ at_most_one TagObservationTrigger ∷ [])
 param_rule TagObservationTrigger = tlv 185 "TagObservationTrigger"
-    (field "Type" 8 ∷ reserved 8 ∷ field "NumberOfTags" 16 ∷ field "NumberOfAttempts" 16 ∷
-    field "T" 16 ∷ field "Timeout" 32 ∷ []) Absent []
+    (any_field "Type" 8 ∷ reserved 8 ∷ any_field "NumberOfTags" 16 ∷ any_field "NumberOfAttempts" 16 ∷
+    any_field "T" 16 ∷ any_field "Timeout" 32 ∷ []) Absent []
 param_rule InventoryParameterSpec = tlv 186 "InventoryParameterSpec"
-    (field "ID" 16 ∷ field "ProtocolID" 8 ∷ []) Absent (any_number AntennaConfiguration ∷ [])
-param_rule KeepaliveSpec = tlv 220 "KeepaliveSpec" (field_to "Type" 8 1 ∷ field "Period" 32 ∷ [])
+    (any_field "ID" 16 ∷ any_field "ProtocolID" 8 ∷ []) Absent (any_number AntennaConfiguration ∷ [])
+param_rule KeepaliveSpec = tlv 220 "KeepaliveSpec" (field_to "Type" 8 1 ∷ any_field "Period" 32 ∷ [])
     Absent []
-param_rule AntennaConfiguration = tlv 222 "AntennaConfiguration" (field "AntennaID" 16 ∷ []) Absent
+param_rule AntennaConfiguration = tlv 222 "AntennaConfiguration" (any_field "AntennaID" 16 ∷ []) Absent
     (at_most_one RfReceiver ∷ at_most_one RfTransmitter ∷ any_number C1G2InventoryCommand ∷ [])
-param_rule RfReceiver = tlv 223 "RFReceiver" (field "Sensitivity" 16 ∷ []) Absent []
+param_rule RfReceiver = tlv 223 "RFReceiver" (any_field "Sensitivity" 16 ∷ []) Absent []
 param_rule RfTransmitter = tlv 224 "RFTransmitter"
-    (field "HopTableID" 16 ∷ field "ChannelIndex" 16 ∷ field "Power" 16 ∷ []) Absent []
-param_rule EventsAndReports = tlv 226 "EventsAndReports" (field "Hold" 1 ∷ reserved 7 ∷ []) Absent
+    (any_field "HopTableID" 16 ∷ any_field "ChannelIndex" 16 ∷ any_field "Power" 16 ∷ []) Absent []
+param_rule EventsAndReports = tlv 226 "EventsAndReports" (any_field "Hold" 1 ∷ reserved 7 ∷ []) Absent
     []
-param_rule RoReportSpec = tlv 237 "ROReportSpec" (field "Trigger" 8 ∷ field "N" 16 ∷ []) Absent
+param_rule RoReportSpec = tlv 237 "ROReportSpec" (any_field "Trigger" 8 ∷ any_field "N" 16 ∷ []) Absent
     (one TagReportContentSelector ∷ [])
 param_rule TagReportContentSelector = tlv 238 "TagReportContentSelector"
-    (field "ROSpecID" 1 ∷ field "SpecIndex" 1 ∷ field "InventoryParameterSpecID" 1 ∷
-    field "AntennaID" 1 ∷ field "ChannelIndex" 1 ∷ field "PeakRSSI" 1 ∷ field "FirstSeen" 1 ∷
-    field "LastSeen" 1 ∷ field "TagSeenCount" 1 ∷ field "AccessSpecID" 1 ∷ reserved 6 ∷ []) Absent
+    (any_field "ROSpecID" 1 ∷ any_field "SpecIndex" 1 ∷ any_field "InventoryParameterSpecID" 1 ∷
+    any_field "AntennaID" 1 ∷ any_field "ChannelIndex" 1 ∷ any_field "PeakRSSI" 1 ∷ any_field "FirstSeen" 1 ∷
+    any_field "LastSeen" 1 ∷ any_field "TagSeenCount" 1 ∷ any_field "AccessSpecID" 1 ∷ reserved 6 ∷ []) Absent
     (any_number C1G2EpcMemorySelector ∷ [])
 param_rule TagReportData = tlv 240 "TagReportData" [] Absent
     (one_of (Epc96 ∷ EpcData ∷ []) ∷ at_most_one AntennaId ∷ at_most_one FirstSeenTimestampUtc ∷
@@ -291,45 +294,45 @@ param_rule TagReportData = tlv 240 "TagReportData" [] Absent
     at_most_one LastSeenTimestampUptime ∷ at_most_one PeakRssi ∷ at_most_one ChannelIndex ∷
     at_most_one TagSeenCount ∷ at_most_one RoSpecId ∷ at_most_one InventoryParameterSpecId ∷
     at_most_one SpecIndex ∷ at_most_one AccessSpecId ∷ any_number C1G2Crc ∷ any_number C1G2Pc ∷ [])
-param_rule EpcData = tlv 241 "EPCData" (field "BitCount" 16 ∷ []) Bits []
+param_rule EpcData = tlv 241 "EPCData" (any_field "BitCount" 16 ∷ []) Bits []
 param_rule ReaderEventNotificationSpec = tlv 244 "ReaderEventNotificationSpec" [] Absent
     (one_or_more EventNotificationState ∷ [])
 param_rule EventNotificationState = tlv 245 "EventNotificationState"
-    (field "EventType" 16 ∷ field "State" 1 ∷ reserved 7 ∷ []) Absent []
+    (any_field "EventType" 16 ∷ any_field "State" 1 ∷ reserved 7 ∷ []) Absent []
 param_rule ReaderEventNotificationData = tlv 246 "ReaderEventNotificationData" [] Absent
     (one_of (UtcTimestamp ∷ Uptime ∷ []) ∷ at_most_one GpiEvent ∷ at_most_one RoSpecEvent ∷
     at_most_one ReportBufferLevelWarningEvent ∷ at_most_one ReportBufferOverflowErrorEvent ∷
     at_most_one AiSpecEvent ∷ at_most_one AntennaEvent ∷ at_most_one ConnectionAttemptEvent ∷
     at_most_one ConnectionCloseEvent ∷ [])
-param_rule GpiEvent = tlv 248 "GPIEvent" (field "Port" 16 ∷ field "Event" 1 ∷ reserved 7 ∷ [])
+param_rule GpiEvent = tlv 248 "GPIEvent" (any_field "Port" 16 ∷ any_field "Event" 1 ∷ reserved 7 ∷ [])
     Absent []
 param_rule RoSpecEvent = tlv 249 "ROSpecEvent"
-    (field_to "Type" 8 2 ∷ field "ROSpecID" 32 ∷ field "PreemptingROSpecID" 32 ∷ []) Absent []
+    (field_to "Type" 8 2 ∷ any_field "ROSpecID" 32 ∷ any_field "PreemptingROSpecID" 32 ∷ []) Absent []
 param_rule ReportBufferLevelWarningEvent = tlv 250 "ReportBufferLevelWarningEvent"
-    (field "Percent" 8 ∷ []) Absent []
+    (any_field "Percent" 8 ∷ []) Absent []
 param_rule ReportBufferOverflowErrorEvent = tlv 251 "ReportBufferOverflowErrorEvent" [] Absent []
 param_rule AiSpecEvent = tlv 254 "AISpecEvent"
-    (field "Type" 8 ∷ field "ROSpecID" 32 ∷ field "SpecIndex" 16 ∷ []) Absent []
-param_rule AntennaEvent = tlv 255 "AntennaEvent" (field "Type" 8 ∷ field "AntennaID" 16 ∷ []) Absent
+    (any_field "Type" 8 ∷ any_field "ROSpecID" 32 ∷ any_field "SpecIndex" 16 ∷ []) Absent []
+param_rule AntennaEvent = tlv 255 "AntennaEvent" (any_field "Type" 8 ∷ any_field "AntennaID" 16 ∷ []) Absent
     []
 param_rule ConnectionAttemptEvent = tlv 256 "ConnectionAttemptEvent" (field_to "Status" 16 4 ∷ [])
     Absent []
 param_rule ConnectionCloseEvent = tlv 257 "ConnectionCloseEvent" [] Absent []
-param_rule LlrpStatus = tlv 287 "LLRPStatus" (field "StatusCode" 16 ∷ []) Text
+param_rule LlrpStatus = tlv 287 "LLRPStatus" (any_field "StatusCode" 16 ∷ []) Text
     (at_most_one FieldError ∷ at_most_one ParameterError ∷ [])
-param_rule FieldError = tlv 288 "FieldError" (field "FieldNumber" 16 ∷ field "ErrorCode" 16 ∷ [])
+param_rule FieldError = tlv 288 "FieldError" (any_field "FieldNumber" 16 ∷ any_field "ErrorCode" 16 ∷ [])
     Absent []
 param_rule ParameterError = tlv 289 "ParameterError"
-    (field "ParameterType" 16 ∷ field "ErrorCode" 16 ∷ []) Absent
+    (any_field "ParameterType" 16 ∷ any_field "ErrorCode" 16 ∷ []) Absent
     (at_most_one FieldError ∷ at_most_one ParameterError ∷ [])
 param_rule C1G2InventoryCommand = tlv 330 "C1G2InventoryCommand"
-    (field "StateAware" 1 ∷ reserved 7 ∷ []) Absent
+    (any_field "StateAware" 1 ∷ reserved 7 ∷ []) Absent
     (at_most_one C1G2RfControl ∷ at_most_one C1G2SingulationControl ∷ [])
-param_rule C1G2RfControl = tlv 335 "C1G2RFControl" (field "ModeIndex" 16 ∷ field "Tari" 16 ∷ [])
+param_rule C1G2RfControl = tlv 335 "C1G2RFControl" (any_field "ModeIndex" 16 ∷ any_field "Tari" 16 ∷ [])
     Absent []
 param_rule C1G2SingulationControl = tlv 336 "C1G2SingulationControl"
-    (field "Session" 2 ∷ reserved 6 ∷ field "Population" 16 ∷ field "TransitTime" 32 ∷ []) Absent []
-param_rule C1G2EpcMemorySelector = tlv 348 "C1G2EPCMemorySelector" (field "Selector" 8 ∷ []) Absent
+    (any_field "Session" 2 ∷ reserved 6 ∷ any_field "Population" 16 ∷ any_field "TransitTime" 32 ∷ []) Absent []
+param_rule C1G2EpcMemorySelector = tlv 348 "C1G2EPCMemorySelector" (any_field "Selector" 8 ∷ []) Absent
     []
 param_rule WholeAntennaId = of_whole (tv 1 "AntennaID" 16)
 param_rule WholeFirstSeenTimestampUtc = of_whole (tv 2 "FirstSeenTimestampUTC" 64)
@@ -352,49 +355,49 @@ param_rule WholeC1G2SingulationDetails = of_whole (tv 18 "C1G2SingulationDetails
 param_rule WholeC1g2xpcw1 = of_whole (tv 19 "C1G2XPCW1" 16)
 param_rule WholeC1g2xpcw2 = of_whole (tv 20 "C1G2XPCW2" 16)
 param_rule WholeUtcTimestamp = of_whole (tlv 128 "UTCTimestamp"
-    (field "Microseconds" 64 ∷ []) Absent
+    (any_field "Microseconds" 64 ∷ []) Absent
     [])
 param_rule WholeUptime = of_whole (tlv 129 "Uptime"
-    (field "Microseconds" 64 ∷ []) Absent
+    (any_field "Microseconds" 64 ∷ []) Absent
     [])
 param_rule WholeGeneralDeviceCapabilities = of_whole (tlv 137 "GeneralDeviceCapabilities"
-    (field "MaxNumberOfAntennaSupported" 16 ∷ field "CanSetAntennaProperties" 1 ∷ field "HasUTCClockCapability" 1 ∷ reserved 14 ∷ field "DeviceManufacturerName" 32 ∷ field "ModelName" 32 ∷ []) Text
+    (any_field "MaxNumberOfAntennaSupported" 16 ∷ any_field "CanSetAntennaProperties" 1 ∷ any_field "HasUTCClockCapability" 1 ∷ reserved 14 ∷ any_field "DeviceManufacturerName" 32 ∷ any_field "ModelName" 32 ∷ []) Text
     (one_or_more WholeReceiveSensitivityTableEntry ∷ any_number WholePerAntennaReceiveSensitivityRange ∷ one WholeGpioCapabilities ∷ one_or_more WholePerAntennaAirProtocol ∷ at_most_one WholeMaximumReceiveSensitivity ∷ []))
 param_rule WholeReceiveSensitivityTableEntry = of_whole (tlv 139 "ReceiveSensitivityTableEntry"
-    (field "Index" 16 ∷ field "ReceiveSensitivityValue" 16 ∷ []) Absent
+    (any_field "Index" 16 ∷ any_field "ReceiveSensitivityValue" 16 ∷ []) Absent
     [])
 param_rule WholePerAntennaAirProtocol = of_whole (tlv 140 "PerAntennaAirProtocol"
-    (field "AntennaID" 16 ∷ field "Count" 16 ∷ []) Data
+    (any_field "AntennaID" 16 ∷ any_field "Count" 16 ∷ []) Data
     [])
 param_rule WholeGpioCapabilities = of_whole (tlv 141 "GPIOCapabilities"
-    (field "NumGPIs" 16 ∷ field "NumGPOs" 16 ∷ []) Absent
+    (any_field "NumGPIs" 16 ∷ any_field "NumGPOs" 16 ∷ []) Absent
     [])
 param_rule WholeLlrpCapabilities = of_whole (tlv 142 "LLRPCapabilities"
-    (field "CanDoRFSurvey" 1 ∷ field "CanReportBufferFillWarning" 1 ∷ field "SupportsClientRequestOpSpec" 1 ∷ field "CanDoTagInventoryStateAwareSingulation" 1 ∷ field "SupportsEventAndReportHolding" 1 ∷ reserved 3 ∷ field "MaxNumPriorityLevelsSupported" 8 ∷ field "ClientRequestOpSpecTimeout" 16 ∷ field "MaxNumROSpecs" 32 ∷ field "MaxNumSpecsPerROSpec" 32 ∷ []) Data
+    (any_field "CanDoRFSurvey" 1 ∷ any_field "CanReportBufferFillWarning" 1 ∷ any_field "SupportsClientRequestOpSpec" 1 ∷ any_field "CanDoTagInventoryStateAwareSingulation" 1 ∷ any_field "SupportsEventAndReportHolding" 1 ∷ reserved 3 ∷ any_field "MaxNumPriorityLevelsSupported" 8 ∷ any_field "ClientRequestOpSpecTimeout" 16 ∷ any_field "MaxNumROSpecs" 32 ∷ any_field "MaxNumSpecsPerROSpec" 32 ∷ []) Data
     [])
 param_rule WholeRegulatoryCapabilities = of_whole (tlv 143 "RegulatoryCapabilities"
-    (field "CountryCode" 16 ∷ field "CommunicationsStandard" 16 ∷ []) Absent
+    (any_field "CountryCode" 16 ∷ any_field "CommunicationsStandard" 16 ∷ []) Absent
     (at_most_one WholeUhfBandCapabilities ∷ any_number WholeCustom ∷ []))
 param_rule WholeUhfBandCapabilities = of_whole (tlv 144 "UHFBandCapabilities"
     [] Absent
     (one_or_more WholeTransmitPowerLevelTableEntry ∷ one WholeFrequencyInformation ∷ one_or_more WholeC1G2UhfRfModeTable ∷ at_most_one WholeRfSurveyFrequencyCapabilities ∷ []))
 param_rule WholeTransmitPowerLevelTableEntry = of_whole (tlv 145 "TransmitPowerLevelTableEntry"
-    (field "Index" 16 ∷ field "TransmitPowerValue" 16 ∷ []) Absent
+    (any_field "Index" 16 ∷ any_field "TransmitPowerValue" 16 ∷ []) Absent
     [])
 param_rule WholeFrequencyInformation = of_whole (tlv 146 "FrequencyInformation"
-    (field "Hopping" 1 ∷ reserved 7 ∷ []) Absent
+    (any_field "Hopping" 1 ∷ reserved 7 ∷ []) Absent
     (any_number WholeFrequencyHopTable ∷ at_most_one WholeFixedFrequencyTable ∷ []))
 param_rule WholeFrequencyHopTable = of_whole (tlv 147 "FrequencyHopTable"
-    (field "HopTableID" 8 ∷ reserved 8 ∷ field "Count" 16 ∷ []) Data
+    (any_field "HopTableID" 8 ∷ reserved 8 ∷ any_field "Count" 16 ∷ []) Data
     [])
 param_rule WholeFixedFrequencyTable = of_whole (tlv 148 "FixedFrequencyTable"
-    (field "Count" 16 ∷ []) Data
+    (any_field "Count" 16 ∷ []) Data
     [])
 param_rule WholePerAntennaReceiveSensitivityRange = of_whole (tlv 149 "PerAntennaReceiveSensitivityRange"
-    (field "AntennaID" 16 ∷ field "ReceiveSensitivityIndexMin" 16 ∷ field "ReceiveSensitivityIndexMax" 16 ∷ []) Absent
+    (any_field "AntennaID" 16 ∷ any_field "ReceiveSensitivityIndexMin" 16 ∷ any_field "ReceiveSensitivityIndexMax" 16 ∷ []) Absent
     [])
 param_rule WholeRoSpec = of_whole (tlv 177 "ROSpec"
-    (field "ROSpecID" 32 ∷ field_to "Priority" 8 7 ∷ field_to "CurrentState" 8 2 ∷ []) Absent
+    (any_field "ROSpecID" 32 ∷ field_to "Priority" 8 7 ∷ field_to "CurrentState" 8 2 ∷ []) Absent
     (one WholeRoBoundarySpec ∷ some_of (WholeAiSpec ∷ WholeRfSurveySpec ∷ WholeLoopSpec ∷ WholeCustom ∷ []) ∷ at_most_one WholeRoReportSpec ∷ []))
 param_rule WholeRoBoundarySpec = of_whole (tlv 178 "ROBoundarySpec"
     [] Absent
@@ -403,82 +406,82 @@ param_rule WholeRoSpecStartTrigger = of_whole (tlv 179 "ROSpecStartTrigger"
     (field_to "ROSpecStartTriggerType" 8 3 ∷ []) Absent
     (at_most_one WholePeriodicTriggerValue ∷ at_most_one WholeGpiTriggerValue ∷ []))
 param_rule WholePeriodicTriggerValue = of_whole (tlv 180 "PeriodicTriggerValue"
-    (field "Offset" 32 ∷ field "Period" 32 ∷ []) Absent
+    (any_field "Offset" 32 ∷ any_field "Period" 32 ∷ []) Absent
     (at_most_one WholeUtcTimestamp ∷ []))
 param_rule WholeGpiTriggerValue = of_whole (tlv 181 "GPITriggerValue"
-    (field "GPIPortNum" 16 ∷ field "GPIEvent" 1 ∷ reserved 7 ∷ field "Timeout" 32 ∷ []) Absent
+    (any_field "GPIPortNum" 16 ∷ any_field "GPIEvent" 1 ∷ reserved 7 ∷ any_field "Timeout" 32 ∷ []) Absent
     [])
 param_rule WholeRoSpecStopTrigger = of_whole (tlv 182 "ROSpecStopTrigger"
-    (field_to "ROSpecStopTriggerType" 8 2 ∷ field "DurationTriggerValue" 32 ∷ []) Absent
+    (field_to "ROSpecStopTriggerType" 8 2 ∷ any_field "DurationTriggerValue" 32 ∷ []) Absent
     (at_most_one WholeGpiTriggerValue ∷ []))
 param_rule WholeAiSpec = of_whole (tlv 183 "AISpec"
     [] Words
     (one WholeAiSpecStopTrigger ∷ one_or_more WholeInventoryParameterSpec ∷ any_number WholeCustom ∷ []))
 param_rule WholeAiSpecStopTrigger = of_whole (tlv 184 "AISpecStopTrigger"
-    (field_to "AISpecStopTriggerType" 8 3 ∷ field "DurationTrigger" 32 ∷ []) Absent
+    (field_to "AISpecStopTriggerType" 8 3 ∷ any_field "DurationTrigger" 32 ∷ []) Absent
     (at_most_one WholeGpiTriggerValue ∷ at_most_one WholeTagObservationTrigger ∷ []))
 param_rule WholeTagObservationTrigger = of_whole (tlv 185 "TagObservationTrigger"
-    (field "TriggerType" 8 ∷ reserved 8 ∷ field "NumberOfTags" 16 ∷ field "NumberOfAttempts" 16 ∷ field "T" 16 ∷ field "Timeout" 32 ∷ []) Absent
+    (any_field "TriggerType" 8 ∷ reserved 8 ∷ any_field "NumberOfTags" 16 ∷ any_field "NumberOfAttempts" 16 ∷ any_field "T" 16 ∷ any_field "Timeout" 32 ∷ []) Absent
     [])
 param_rule WholeInventoryParameterSpec = of_whole (tlv 186 "InventoryParameterSpec"
-    (field "InventoryParameterSpecID" 16 ∷ field "ProtocolID" 8 ∷ []) Absent
+    (any_field "InventoryParameterSpecID" 16 ∷ any_field "ProtocolID" 8 ∷ []) Absent
     (any_number WholeAntennaConfiguration ∷ any_number WholeCustom ∷ []))
 param_rule WholeRfSurveySpec = of_whole (tlv 187 "RFSurveySpec"
-    (field "AntennaID" 16 ∷ field "StartFrequency" 32 ∷ field "EndFrequency" 32 ∷ []) Absent
+    (any_field "AntennaID" 16 ∷ any_field "StartFrequency" 32 ∷ any_field "EndFrequency" 32 ∷ []) Absent
     (one WholeRfSurveySpecStopTrigger ∷ any_number WholeCustom ∷ []))
 param_rule WholeRfSurveySpecStopTrigger = of_whole (tlv 188 "RFSurveySpecStopTrigger"
-    (field_to "StopTriggerType" 8 2 ∷ field "DurationPeriod" 32 ∷ field "N" 32 ∷ []) Absent
+    (field_to "StopTriggerType" 8 2 ∷ any_field "DurationPeriod" 32 ∷ any_field "N" 32 ∷ []) Absent
     [])
 param_rule WholeAccessSpec = of_whole (tlv 207 "AccessSpec"
-    (field "AccessSpecID" 32 ∷ field "AntennaID" 16 ∷ field "ProtocolID" 8 ∷ field "CurrentState" 1 ∷ reserved 7 ∷ field "ROSpecID" 32 ∷ []) Absent
+    (any_field "AccessSpecID" 32 ∷ any_field "AntennaID" 16 ∷ any_field "ProtocolID" 8 ∷ any_field "CurrentState" 1 ∷ reserved 7 ∷ any_field "ROSpecID" 32 ∷ []) Absent
     (one WholeAccessSpecStopTrigger ∷ one WholeAccessCommand ∷ at_most_one WholeAccessReportSpec ∷ any_number WholeCustom ∷ []))
 param_rule WholeAccessSpecStopTrigger = of_whole (tlv 208 "AccessSpecStopTrigger"
-    (field_to "AccessSpecStopTrigger" 8 1 ∷ field "OperationCountValue" 16 ∷ []) Absent
+    (field_to "AccessSpecStopTrigger" 8 1 ∷ any_field "OperationCountValue" 16 ∷ []) Absent
     [])
 param_rule WholeAccessCommand = of_whole (tlv 209 "AccessCommand"
     [] Absent
     (one WholeC1G2TagSpec ∷ some_of (WholeC1G2Read ∷ WholeC1G2Write ∷ WholeC1G2Kill ∷ WholeC1G2Lock ∷ WholeC1G2BlockErase ∷ WholeC1G2BlockWrite ∷ WholeC1G2Recommission ∷ WholeC1G2BlockPermalock ∷ WholeC1G2GetBlockPermalockStatus ∷ WholeClientRequestOpSpec ∷ []) ∷ any_number WholeCustom ∷ []))
 param_rule WholeClientRequestOpSpec = of_whole (tlv 210 "ClientRequestOpSpec"
-    (field "OpSpecID" 16 ∷ []) Absent
+    (any_field "OpSpecID" 16 ∷ []) Absent
     [])
 param_rule WholeClientRequestResponse = of_whole (tlv 211 "ClientRequestResponse"
-    (field "AccessSpecID" 32 ∷ []) Absent
+    (any_field "AccessSpecID" 32 ∷ []) Absent
     (one WholeEpcData ∷ any_of (WholeC1G2Read ∷ WholeC1G2Write ∷ WholeC1G2Kill ∷ WholeC1G2Lock ∷ WholeC1G2BlockErase ∷ WholeC1G2BlockWrite ∷ WholeC1G2Recommission ∷ WholeC1G2BlockPermalock ∷ WholeC1G2GetBlockPermalockStatus ∷ []) ∷ []))
 param_rule WholeLlrpConfigurationStateValue = of_whole (tlv 217 "LLRPConfigurationStateValue"
-    (field "LLRPConfigurationStateValue" 32 ∷ []) Absent
+    (any_field "LLRPConfigurationStateValue" 32 ∷ []) Absent
     [])
 param_rule WholeIdentification = of_whole (tlv 218 "Identification"
-    (field_to "IDType" 8 1 ∷ field "Count" 16 ∷ []) Data
+    (field_to "IDType" 8 1 ∷ any_field "Count" 16 ∷ []) Data
     [])
 param_rule WholeGpoWriteData = of_whole (tlv 219 "GPOWriteData"
-    (field "GPOPortNumber" 16 ∷ field "GPOData" 1 ∷ reserved 7 ∷ []) Absent
+    (any_field "GPOPortNumber" 16 ∷ any_field "GPOData" 1 ∷ reserved 7 ∷ []) Absent
     [])
 param_rule WholeKeepaliveSpec = of_whole (tlv 220 "KeepaliveSpec"
-    (field_to "KeepaliveTriggerType" 8 1 ∷ field "PeriodicTriggerValue" 32 ∷ []) Absent
+    (field_to "KeepaliveTriggerType" 8 1 ∷ any_field "PeriodicTriggerValue" 32 ∷ []) Absent
     [])
 param_rule WholeAntennaProperties = of_whole (tlv 221 "AntennaProperties"
-    (field "AntennaConnected" 1 ∷ reserved 7 ∷ field "AntennaID" 16 ∷ field "AntennaGain" 16 ∷ []) Absent
+    (any_field "AntennaConnected" 1 ∷ reserved 7 ∷ any_field "AntennaID" 16 ∷ any_field "AntennaGain" 16 ∷ []) Absent
     [])
 param_rule WholeAntennaConfiguration = of_whole (tlv 222 "AntennaConfiguration"
-    (field "AntennaID" 16 ∷ []) Absent
+    (any_field "AntennaID" 16 ∷ []) Absent
     (at_most_one WholeRfReceiver ∷ at_most_one WholeRfTransmitter ∷ any_number WholeC1G2InventoryCommand ∷ any_number WholeCustom ∷ []))
 param_rule WholeRfReceiver = of_whole (tlv 223 "RFReceiver"
-    (field "ReceiverSensitivity" 16 ∷ []) Absent
+    (any_field "ReceiverSensitivity" 16 ∷ []) Absent
     [])
 param_rule WholeRfTransmitter = of_whole (tlv 224 "RFTransmitter"
-    (field "HopTableID" 16 ∷ field "ChannelIndex" 16 ∷ field "TransmitPower" 16 ∷ []) Absent
+    (any_field "HopTableID" 16 ∷ any_field "ChannelIndex" 16 ∷ any_field "TransmitPower" 16 ∷ []) Absent
     [])
 param_rule WholeGpiPortCurrentState = of_whole (tlv 225 "GPIPortCurrentState"
-    (field "GPIPortNum" 16 ∷ field "GPIConfig" 1 ∷ reserved 7 ∷ field_to "State" 8 2 ∷ []) Absent
+    (any_field "GPIPortNum" 16 ∷ any_field "GPIConfig" 1 ∷ reserved 7 ∷ field_to "State" 8 2 ∷ []) Absent
     [])
 param_rule WholeEventsAndReports = of_whole (tlv 226 "EventsAndReports"
-    (field "HoldEventsAndReportsUponReconnect" 1 ∷ reserved 7 ∷ []) Absent
+    (any_field "HoldEventsAndReportsUponReconnect" 1 ∷ reserved 7 ∷ []) Absent
     [])
 param_rule WholeRoReportSpec = of_whole (tlv 237 "ROReportSpec"
-    (field "ROReportTrigger" 8 ∷ field "N" 16 ∷ []) Absent
+    (any_field "ROReportTrigger" 8 ∷ any_field "N" 16 ∷ []) Absent
     (one WholeTagReportContentSelector ∷ any_number WholeCustom ∷ []))
 param_rule WholeTagReportContentSelector = of_whole (tlv 238 "TagReportContentSelector"
-    (field "EnableROSpecID" 1 ∷ field "EnableSpecIndex" 1 ∷ field "EnableInventoryParameterSpecID" 1 ∷ field "EnableAntennaID" 1 ∷ field "EnableChannelIndex" 1 ∷ field "EnablePeakRSSI" 1 ∷ field "EnableFirstSeenTimestamp" 1 ∷ field "EnableLastSeenTimestamp" 1 ∷ field "EnableTagSeenCount" 1 ∷ field "EnableAccessSpecID" 1 ∷ reserved 6 ∷ []) Absent
+    (any_field "EnableROSpecID" 1 ∷ any_field "EnableSpecIndex" 1 ∷ any_field "EnableInventoryParameterSpecID" 1 ∷ any_field "EnableAntennaID" 1 ∷ any_field "EnableChannelIndex" 1 ∷ any_field "EnablePeakRSSI" 1 ∷ any_field "EnableFirstSeenTimestamp" 1 ∷ any_field "EnableLastSeenTimestamp" 1 ∷ any_field "EnableTagSeenCount" 1 ∷ any_field "EnableAccessSpecID" 1 ∷ reserved 6 ∷ []) Absent
     (any_number WholeC1G2EpcMemorySelector ∷ []))
 param_rule WholeAccessReportSpec = of_whole (tlv 239 "AccessReportSpec"
     (field_to "AccessReportTrigger" 8 1 ∷ []) Absent
@@ -487,34 +490,34 @@ param_rule WholeTagReportData = of_whole (tlv 240 "TagReportData"
     [] Absent
     (one_of (WholeEpcData ∷ WholeEpc96 ∷ []) ∷ at_most_one WholeAntennaId ∷ at_most_one WholeFirstSeenTimestampUtc ∷ at_most_one WholeFirstSeenTimestampUptime ∷ at_most_one WholeLastSeenTimestampUtc ∷ at_most_one WholeLastSeenTimestampUptime ∷ at_most_one WholePeakRssi ∷ at_most_one WholeChannelIndex ∷ at_most_one WholeTagSeenCount ∷ at_most_one WholeRoSpecId ∷ at_most_one WholeInventoryParameterSpecId ∷ at_most_one WholeSpecIndex ∷ at_most_one WholeAccessSpecId ∷ any_number WholeC1G2Crc ∷ any_number WholeC1G2Pc ∷ any_of (WholeC1g2xpcw1 ∷ WholeC1g2xpcw2 ∷ []) ∷ any_of (WholeC1G2ReadOpSpecResult ∷ WholeC1G2WriteOpSpecResult ∷ WholeC1G2KillOpSpecResult ∷ WholeC1G2LockOpSpecResult ∷ WholeC1G2BlockEraseOpSpecResult ∷ WholeC1G2BlockWriteOpSpecResult ∷ WholeC1G2RecommissionOpSpecResult ∷ WholeC1G2BlockPermalockOpSpecResult ∷ WholeC1G2GetBlockPermalockStatusOpSpecResult ∷ WholeClientRequestOpSpecResult ∷ []) ∷ any_number WholeCustom ∷ []))
 param_rule WholeEpcData = of_whole (tlv 241 "EPCData"
-    (field "BitCount" 16 ∷ []) Bits
+    (any_field "BitCount" 16 ∷ []) Bits
     [])
 param_rule WholeRfSurveyReportData = of_whole (tlv 242 "RFSurveyReportData"
     [] Absent
     (at_most_one WholeRoSpecId ∷ at_most_one WholeSpecIndex ∷ one_or_more WholeFrequencyRssiLevelEntry ∷ any_number WholeCustom ∷ []))
 param_rule WholeFrequencyRssiLevelEntry = of_whole (tlv 243 "FrequencyRSSILevelEntry"
-    (field "Frequency" 32 ∷ field "Bandwidth" 32 ∷ signed "AverageRSSI" 8 ∷ signed "PeakRSSI" 8 ∷ []) Absent
+    (any_field "Frequency" 32 ∷ any_field "Bandwidth" 32 ∷ signed "AverageRSSI" 8 ∷ signed "PeakRSSI" 8 ∷ []) Absent
     (one_of (WholeUtcTimestamp ∷ WholeUptime ∷ []) ∷ []))
 param_rule WholeReaderEventNotificationSpec = of_whole (tlv 244 "ReaderEventNotificationSpec"
     [] Absent
     (one_or_more WholeEventNotificationState ∷ []))
 param_rule WholeEventNotificationState = of_whole (tlv 245 "EventNotificationState"
-    (field "EventType" 16 ∷ field "NotificationState" 1 ∷ reserved 7 ∷ []) Absent
+    (any_field "EventType" 16 ∷ any_field "NotificationState" 1 ∷ reserved 7 ∷ []) Absent
     [])
 param_rule WholeReaderEventNotificationData = of_whole (tlv 246 "ReaderEventNotificationData"
     [] Absent
     (one_of (WholeUtcTimestamp ∷ WholeUptime ∷ []) ∷ at_most_one WholeGpiEvent ∷ at_most_one WholeRoSpecEvent ∷ at_most_one WholeReportBufferLevelWarningEvent ∷ at_most_one WholeReportBufferOverflowErrorEvent ∷ at_most_one WholeAiSpecEvent ∷ at_most_one WholeAntennaEvent ∷ at_most_one WholeConnectionAttemptEvent ∷ at_most_one WholeConnectionCloseEvent ∷ at_most_one WholeHoppingEvent ∷ at_most_one WholeReaderExceptionEvent ∷ at_most_one WholeRfSurveyEvent ∷ at_most_one WholeSpecLoopEvent ∷ any_number WholeCustom ∷ []))
 param_rule WholeHoppingEvent = of_whole (tlv 247 "HoppingEvent"
-    (field "HopTableID" 16 ∷ field "NextChannelIndex" 16 ∷ []) Absent
+    (any_field "HopTableID" 16 ∷ any_field "NextChannelIndex" 16 ∷ []) Absent
     [])
 param_rule WholeGpiEvent = of_whole (tlv 248 "GPIEvent"
-    (field "GPIPortNumber" 16 ∷ field "GPIEvent" 1 ∷ reserved 7 ∷ []) Absent
+    (any_field "GPIPortNumber" 16 ∷ any_field "GPIEvent" 1 ∷ reserved 7 ∷ []) Absent
     [])
 param_rule WholeRoSpecEvent = of_whole (tlv 249 "ROSpecEvent"
-    (field_to "EventType" 8 2 ∷ field "ROSpecID" 32 ∷ field "PreemptingROSpecID" 32 ∷ []) Absent
+    (field_to "EventType" 8 2 ∷ any_field "ROSpecID" 32 ∷ any_field "PreemptingROSpecID" 32 ∷ []) Absent
     [])
 param_rule WholeReportBufferLevelWarningEvent = of_whole (tlv 250 "ReportBufferLevelWarningEvent"
-    (field "ReportBufferPercentageFull" 8 ∷ []) Absent
+    (any_field "ReportBufferPercentageFull" 8 ∷ []) Absent
     [])
 param_rule WholeReportBufferOverflowErrorEvent = of_whole (tlv 251 "ReportBufferOverflowErrorEvent"
     [] Absent
@@ -523,13 +526,13 @@ param_rule WholeReaderExceptionEvent = of_whole (tlv 252 "ReaderExceptionEvent"
     [] Text
     (at_most_one WholeRoSpecId ∷ at_most_one WholeSpecIndex ∷ at_most_one WholeInventoryParameterSpecId ∷ at_most_one WholeAntennaId ∷ at_most_one WholeAccessSpecId ∷ at_most_one WholeOpSpecID ∷ any_number WholeCustom ∷ []))
 param_rule WholeRfSurveyEvent = of_whole (tlv 253 "RFSurveyEvent"
-    (field_to "EventType" 8 1 ∷ field "ROSpecID" 32 ∷ field "SpecIndex" 16 ∷ []) Absent
+    (field_to "EventType" 8 1 ∷ any_field "ROSpecID" 32 ∷ any_field "SpecIndex" 16 ∷ []) Absent
     [])
 param_rule WholeAiSpecEvent = of_whole (tlv 254 "AISpecEvent"
-    (field "EventType" 8 ∷ field "ROSpecID" 32 ∷ field "SpecIndex" 16 ∷ []) Absent
+    (any_field "EventType" 8 ∷ any_field "ROSpecID" 32 ∷ any_field "SpecIndex" 16 ∷ []) Absent
     (at_most_one WholeC1G2SingulationDetails ∷ []))
 param_rule WholeAntennaEvent = of_whole (tlv 255 "AntennaEvent"
-    (field "EventType" 8 ∷ field "AntennaID" 16 ∷ []) Absent
+    (any_field "EventType" 8 ∷ any_field "AntennaID" 16 ∷ []) Absent
     [])
 param_rule WholeConnectionAttemptEvent = of_whole (tlv 256 "ConnectionAttemptEvent"
     (field_to "Status" 16 4 ∷ []) Absent
@@ -538,31 +541,31 @@ param_rule WholeConnectionCloseEvent = of_whole (tlv 257 "ConnectionCloseEvent"
     [] Absent
     [])
 param_rule WholeLlrpStatus = of_whole (tlv 287 "LLRPStatus"
-    (field "StatusCode" 16 ∷ []) Text
+    (any_field "StatusCode" 16 ∷ []) Text
     (at_most_one WholeFieldError ∷ at_most_one WholeParameterError ∷ []))
 param_rule WholeFieldError = of_whole (tlv 288 "FieldError"
-    (field "FieldNum" 16 ∷ field "ErrorCode" 16 ∷ []) Absent
+    (any_field "FieldNum" 16 ∷ any_field "ErrorCode" 16 ∷ []) Absent
     [])
 param_rule WholeParameterError = of_whole (tlv 289 "ParameterError"
-    (field "ParameterType" 16 ∷ field "ErrorCode" 16 ∷ []) Absent
+    (any_field "ParameterType" 16 ∷ any_field "ErrorCode" 16 ∷ []) Absent
     (at_most_one WholeFieldError ∷ at_most_one WholeParameterError ∷ []))
 param_rule WholeC1G2LlrpCapabilities = of_whole (tlv 327 "C1G2LLRPCapabilities"
-    (field "CanSupportBlockErase" 1 ∷ field "CanSupportBlockWrite" 1 ∷ field "CanSupportBlockPermalock" 1 ∷ field "CanSupportTagRecommissioning" 1 ∷ field "CanSupportUMIMethod2" 1 ∷ field "CanSupportXPC" 1 ∷ reserved 2 ∷ field "MaxNumSelectFiltersPerQuery" 16 ∷ []) Absent
+    (any_field "CanSupportBlockErase" 1 ∷ any_field "CanSupportBlockWrite" 1 ∷ any_field "CanSupportBlockPermalock" 1 ∷ any_field "CanSupportTagRecommissioning" 1 ∷ any_field "CanSupportUMIMethod2" 1 ∷ any_field "CanSupportXPC" 1 ∷ reserved 2 ∷ any_field "MaxNumSelectFiltersPerQuery" 16 ∷ []) Absent
     [])
 param_rule WholeC1G2UhfRfModeTable = of_whole (tlv 328 "C1G2UHFRFModeTable"
     [] Absent
     (one_or_more WholeC1G2UhfRfModeTableEntry ∷ []))
 param_rule WholeC1G2UhfRfModeTableEntry = of_whole (tlv 329 "C1G2UHFRFModeTableEntry"
-    (field "ModeIdentifier" 32 ∷ field "DRValue" 1 ∷ field "EPCHAGTCConformance" 1 ∷ reserved 6 ∷ field_to "MValue" 8 3 ∷ field_to "ForwardLinkModulation" 8 2 ∷ field_to "SpectralMaskIndicator" 8 3 ∷ field "BDRValue" 32 ∷ []) Data
+    (any_field "ModeIdentifier" 32 ∷ any_field "DRValue" 1 ∷ any_field "EPCHAGTCConformance" 1 ∷ reserved 6 ∷ field_to "MValue" 8 3 ∷ field_to "ForwardLinkModulation" 8 2 ∷ field_to "SpectralMaskIndicator" 8 3 ∷ any_field "BDRValue" 32 ∷ []) Data
     [])
 param_rule WholeC1G2InventoryCommand = of_whole (tlv 330 "C1G2InventoryCommand"
-    (field "TagInventoryStateAware" 1 ∷ reserved 7 ∷ []) Absent
+    (any_field "TagInventoryStateAware" 1 ∷ reserved 7 ∷ []) Absent
     (at_most_one WholeC1G2RfControl ∷ at_most_one WholeC1G2SingulationControl ∷ any_number WholeC1G2Filter ∷ any_number WholeCustom ∷ []))
 param_rule WholeC1G2Filter = of_whole (tlv 331 "C1G2Filter"
     (field_to "T" 2 2 ∷ reserved 6 ∷ []) Absent
     (one WholeC1G2TagInventoryMask ∷ at_most_one WholeC1G2TagInventoryStateAwareFilterAction ∷ at_most_one WholeC1G2TagInventoryStateUnawareFilterAction ∷ []))
 param_rule WholeC1G2TagInventoryMask = of_whole (tlv 332 "C1G2TagInventoryMask"
-    (field "MB" 2 ∷ reserved 6 ∷ field "Pointer" 16 ∷ field "Count" 16 ∷ []) Data
+    (any_field "MB" 2 ∷ reserved 6 ∷ any_field "Pointer" 16 ∷ any_field "Count" 16 ∷ []) Data
     [])
 param_rule WholeC1G2TagInventoryStateAwareFilterAction = of_whole (tlv 333 "C1G2TagInventoryStateAwareFilterAction"
     (field_to "Target" 8 4 ∷ field_to "Action" 8 7 ∷ []) Absent
@@ -571,94 +574,94 @@ param_rule WholeC1G2TagInventoryStateUnawareFilterAction = of_whole (tlv 334 "C1
     (field_to "Action" 8 5 ∷ []) Absent
     [])
 param_rule WholeC1G2RfControl = of_whole (tlv 335 "C1G2RFControl"
-    (field "ModeIndex" 16 ∷ field "Tari" 16 ∷ []) Absent
+    (any_field "ModeIndex" 16 ∷ any_field "Tari" 16 ∷ []) Absent
     [])
 param_rule WholeC1G2SingulationControl = of_whole (tlv 336 "C1G2SingulationControl"
-    (field "Session" 2 ∷ reserved 6 ∷ field "TagPopulation" 16 ∷ field "TagTransitTime" 32 ∷ []) Absent
+    (any_field "Session" 2 ∷ reserved 6 ∷ any_field "TagPopulation" 16 ∷ any_field "TagTransitTime" 32 ∷ []) Absent
     (at_most_one WholeC1G2TagInventoryStateAwareSingulationAction ∷ []))
 param_rule WholeC1G2TagInventoryStateAwareSingulationAction = of_whole (tlv 337 "C1G2TagInventoryStateAwareSingulationAction"
-    (field "I" 1 ∷ field "S" 1 ∷ field "S_All" 1 ∷ reserved 5 ∷ []) Absent
+    (any_field "I" 1 ∷ any_field "S" 1 ∷ any_field "S_All" 1 ∷ reserved 5 ∷ []) Absent
     [])
 param_rule WholeC1G2TagSpec = of_whole (tlv 338 "C1G2TagSpec"
     [] Absent
     (one_or_more WholeC1G2TargetTag ∷ []))
 param_rule WholeC1G2TargetTag = of_whole (tlv 339 "C1G2TargetTag"
-    (field "MB" 2 ∷ field "Match" 1 ∷ reserved 5 ∷ field "Pointer" 16 ∷ field "Count" 16 ∷ []) Data
+    (any_field "MB" 2 ∷ any_field "Match" 1 ∷ reserved 5 ∷ any_field "Pointer" 16 ∷ any_field "Count" 16 ∷ []) Data
     [])
 param_rule WholeC1G2Read = of_whole (tlv 341 "C1G2Read"
-    (field "OpSpecID" 16 ∷ field "AccessPassword" 32 ∷ field "MB" 2 ∷ reserved 6 ∷ field "WordPointer" 16 ∷ field "WordCount" 16 ∷ []) Absent
+    (any_field "OpSpecID" 16 ∷ any_field "AccessPassword" 32 ∷ any_field "MB" 2 ∷ reserved 6 ∷ any_field "WordPointer" 16 ∷ any_field "WordCount" 16 ∷ []) Absent
     [])
 param_rule WholeC1G2Write = of_whole (tlv 342 "C1G2Write"
-    (field "OpSpecID" 16 ∷ field "AccessPassword" 32 ∷ field "MB" 2 ∷ reserved 6 ∷ field "WordPointer" 16 ∷ []) Words
+    (any_field "OpSpecID" 16 ∷ any_field "AccessPassword" 32 ∷ any_field "MB" 2 ∷ reserved 6 ∷ any_field "WordPointer" 16 ∷ []) Words
     [])
 param_rule WholeC1G2Kill = of_whole (tlv 343 "C1G2Kill"
-    (field "OpSpecID" 16 ∷ field "KillPassword" 32 ∷ []) Absent
+    (any_field "OpSpecID" 16 ∷ any_field "KillPassword" 32 ∷ []) Absent
     [])
 param_rule WholeC1G2Lock = of_whole (tlv 344 "C1G2Lock"
-    (field "OpSpecID" 16 ∷ field "AccessPassword" 32 ∷ []) Absent
+    (any_field "OpSpecID" 16 ∷ any_field "AccessPassword" 32 ∷ []) Absent
     (one_or_more WholeC1G2LockPayload ∷ []))
 param_rule WholeC1G2LockPayload = of_whole (tlv 345 "C1G2LockPayload"
     (field_to "Privilege" 8 3 ∷ field_to "DataField" 8 4 ∷ []) Absent
     [])
 param_rule WholeC1G2BlockErase = of_whole (tlv 346 "C1G2BlockErase"
-    (field "OpSpecID" 16 ∷ field "AccessPassword" 32 ∷ field "MB" 2 ∷ reserved 6 ∷ field "WordPointer" 16 ∷ field "WordCount" 16 ∷ []) Absent
+    (any_field "OpSpecID" 16 ∷ any_field "AccessPassword" 32 ∷ any_field "MB" 2 ∷ reserved 6 ∷ any_field "WordPointer" 16 ∷ any_field "WordCount" 16 ∷ []) Absent
     [])
 param_rule WholeC1G2BlockWrite = of_whole (tlv 347 "C1G2BlockWrite"
-    (field "OpSpecID" 16 ∷ field "AccessPassword" 32 ∷ field "MB" 2 ∷ reserved 6 ∷ field "WordPointer" 16 ∷ []) Words
+    (any_field "OpSpecID" 16 ∷ any_field "AccessPassword" 32 ∷ any_field "MB" 2 ∷ reserved 6 ∷ any_field "WordPointer" 16 ∷ []) Words
     [])
 param_rule WholeC1G2EpcMemorySelector = of_whole (tlv 348 "C1G2EPCMemorySelector"
-    (field "Selector" 8 ∷ []) Absent
+    (any_field "Selector" 8 ∷ []) Absent
     [])
 param_rule WholeC1G2ReadOpSpecResult = of_whole (tlv 349 "C1G2ReadOpSpecResult"
-    (field "Result" 8 ∷ field "OpSpecID" 16 ∷ []) Words
+    (any_field "Result" 8 ∷ any_field "OpSpecID" 16 ∷ []) Words
     [])
 param_rule WholeC1G2WriteOpSpecResult = of_whole (tlv 350 "C1G2WriteOpSpecResult"
-    (field "Result" 8 ∷ field "OpSpecID" 16 ∷ field "NumWordsWritten" 16 ∷ []) Absent
+    (any_field "Result" 8 ∷ any_field "OpSpecID" 16 ∷ any_field "NumWordsWritten" 16 ∷ []) Absent
     [])
 param_rule WholeC1G2KillOpSpecResult = of_whole (tlv 351 "C1G2KillOpSpecResult"
-    (field "Result" 8 ∷ field "OpSpecID" 16 ∷ []) Absent
+    (any_field "Result" 8 ∷ any_field "OpSpecID" 16 ∷ []) Absent
     [])
 param_rule WholeC1G2LockOpSpecResult = of_whole (tlv 352 "C1G2LockOpSpecResult"
-    (field "Result" 8 ∷ field "OpSpecID" 16 ∷ []) Absent
+    (any_field "Result" 8 ∷ any_field "OpSpecID" 16 ∷ []) Absent
     [])
 param_rule WholeC1G2BlockEraseOpSpecResult = of_whole (tlv 353 "C1G2BlockEraseOpSpecResult"
-    (field "Result" 8 ∷ field "OpSpecID" 16 ∷ []) Absent
+    (any_field "Result" 8 ∷ any_field "OpSpecID" 16 ∷ []) Absent
     [])
 param_rule WholeC1G2BlockWriteOpSpecResult = of_whole (tlv 354 "C1G2BlockWriteOpSpecResult"
-    (field "Result" 8 ∷ field "OpSpecID" 16 ∷ field "NumWordsWritten" 16 ∷ []) Absent
+    (any_field "Result" 8 ∷ any_field "OpSpecID" 16 ∷ any_field "NumWordsWritten" 16 ∷ []) Absent
     [])
 param_rule WholeLoopSpec = of_whole (tlv 355 "LoopSpec"
-    (field "LoopCount" 32 ∷ []) Absent
+    (any_field "LoopCount" 32 ∷ []) Absent
     [])
 param_rule WholeSpecLoopEvent = of_whole (tlv 356 "SpecLoopEvent"
-    (field "ROSpecID" 32 ∷ field "LoopCount" 32 ∷ []) Absent
+    (any_field "ROSpecID" 32 ∷ any_field "LoopCount" 32 ∷ []) Absent
     [])
 param_rule WholeC1G2Recommission = of_whole (tlv 357 "C1G2Recommission"
-    (field "OpSpecID" 16 ∷ field "KillPassword" 32 ∷ reserved 5 ∷ field "SB3" 1 ∷ field "SB2" 1 ∷ field "LSB" 1 ∷ []) Absent
+    (any_field "OpSpecID" 16 ∷ any_field "KillPassword" 32 ∷ reserved 5 ∷ any_field "SB3" 1 ∷ any_field "SB2" 1 ∷ any_field "LSB" 1 ∷ []) Absent
     [])
 param_rule WholeC1G2BlockPermalock = of_whole (tlv 358 "C1G2BlockPermalock"
-    (field "OpSpecID" 16 ∷ field "AccessPassword" 32 ∷ field "MB" 2 ∷ reserved 6 ∷ field "BlockPointer" 16 ∷ []) Words
+    (any_field "OpSpecID" 16 ∷ any_field "AccessPassword" 32 ∷ any_field "MB" 2 ∷ reserved 6 ∷ any_field "BlockPointer" 16 ∷ []) Words
     [])
 param_rule WholeC1G2GetBlockPermalockStatus = of_whole (tlv 359 "C1G2GetBlockPermalockStatus"
-    (field "OpSpecID" 16 ∷ field "AccessPassword" 32 ∷ field "MB" 2 ∷ reserved 6 ∷ field "BlockPointer" 16 ∷ field "BlockRange" 16 ∷ []) Absent
+    (any_field "OpSpecID" 16 ∷ any_field "AccessPassword" 32 ∷ any_field "MB" 2 ∷ reserved 6 ∷ any_field "BlockPointer" 16 ∷ any_field "BlockRange" 16 ∷ []) Absent
     [])
 param_rule WholeC1G2RecommissionOpSpecResult = of_whole (tlv 360 "C1G2RecommissionOpSpecResult"
-    (field "Result" 8 ∷ field "OpSpecID" 16 ∷ []) Absent
+    (any_field "Result" 8 ∷ any_field "OpSpecID" 16 ∷ []) Absent
     [])
 param_rule WholeC1G2BlockPermalockOpSpecResult = of_whole (tlv 361 "C1G2BlockPermalockOpSpecResult"
-    (field "Result" 8 ∷ field "OpSpecID" 16 ∷ []) Absent
+    (any_field "Result" 8 ∷ any_field "OpSpecID" 16 ∷ []) Absent
     [])
 param_rule WholeC1G2GetBlockPermalockStatusOpSpecResult = of_whole (tlv 362 "C1G2GetBlockPermalockStatusOpSpecResult"
-    (field "Result" 8 ∷ field "OpSpecID" 16 ∷ []) Words
+    (any_field "Result" 8 ∷ any_field "OpSpecID" 16 ∷ []) Words
     [])
 param_rule WholeMaximumReceiveSensitivity = of_whole (tlv 363 "MaximumReceiveSensitivity"
-    (field "MaximumSensitivityValue" 16 ∷ []) Absent
+    (any_field "MaximumSensitivityValue" 16 ∷ []) Absent
     [])
 param_rule WholeRfSurveyFrequencyCapabilities = of_whole (tlv 365 "RFSurveyFrequencyCapabilities"
-    (field "MinimumFrequency" 32 ∷ field "MaximumFrequency" 32 ∷ []) Absent
+    (any_field "MinimumFrequency" 32 ∷ any_field "MaximumFrequency" 32 ∷ []) Absent
     [])
 param_rule WholeCustom = of_whole (tlv 1023 "Custom"
-    (field "VendorIdentifier" 32 ∷ field "ParameterSubtype" 32 ∷ []) Data
+    (any_field "VendorIdentifier" 32 ∷ any_field "ParameterSubtype" 32 ∷ []) Data
     [])
 
 -- the row of a kind
@@ -692,11 +695,11 @@ groups_of kind = (rule_of kind).groups
 
 -- the fields that are not reserved
 abbrev pub plain_fields_of : Kind → List FieldRule
-plain_fields_of kind = filter (λ field. not field.reserved) (fields_of kind)
+plain_fields_of kind = filter (λ any_field. not any_field.reserved) (fields_of kind)
 
 -- the bits of some fields together
 abbrev pub bits_of : List FieldRule → ℕ
-bits_of fields = sum_by (λ field. field.width) fields
+bits_of fields = sum_by (λ any_field. any_field.width) fields
 
 -- whether a parameter has a type and a value alone, with no length: the numbers below 128 are theirs
 unfoldable pub is_tv : ParamKind → Bool

@@ -354,11 +354,11 @@ pub struct Label {
 
 /// A row of the tables: everything that they say about a kind.
 #[derive(Clone, Copy, Debug)]
-pub struct Definition {
-    pub profile: Profile,
-    pub number: u16,
-    pub name: &'static str,
-    pub fields: &'static [Field],
-    pub tail: Tail,
-    pub groups: &'static [Group],
+pub(crate) struct Definition {
+    pub(crate) profile: Profile,
+    pub(crate) number: u16,
+    pub(crate) name: &'static str,
+    pub(crate) fields: &'static [Field],
+    pub(crate) tail: Tail,
+    pub(crate) groups: &'static [Group],
 }

@@ -4,7 +4,7 @@ ghost use Rattle.std.specs.Prelude.{◌≡◌, ◌≤◌, take};
 ghost use Rattle.llrp_schema.specs.Schema.{name_of};
 
 use crate::kinds::{Kind, Label, MsgKind, ParamKind};
-use crate::rows::label;
+use crate::row_macros::label;
 use crate::whole::labels;
 
 /// The names of the messages of the profile, in the order in which `MsgKind` lists them.

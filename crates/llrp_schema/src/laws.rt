@@ -8,7 +8,7 @@ ghost use Rattle.llrp_schema.specs.declared.kinds.Kind.TheVariants.{Message, Par
 ghost use Rattle.llrp_schema.specs.declared.kinds.Tail.TheVariants.{Absent, Bits, Data};
 ghost use Rattle.llrp_schema.specs.declared.kinds.Profile.{Profile};
 ghost use Rattle.llrp_schema.specs.declared.kinds.Profile.TheVariants.{Own};
-ghost use Rattle.llrp_schema.specs.Schema.{FieldRule, number_of, name_of, fields_of, plain_fields_of, bits_of, tail_of, groups_of, is_tv, field, profile_of, message_in, tlv_in, tv_in};
+ghost use Rattle.llrp_schema.specs.Schema.{FieldRule, number_of, name_of, fields_of, plain_fields_of, bits_of, tail_of, groups_of, is_tv, any_field, profile_of, message_in, tlv_in, tv_in};
 ghost use Rattle.llrp_schema.specs.Calls.Schema.{message_named_in, param_named_in};
 ghost use Rattle.llrp_schema.specs.Schema.{has_place};
 
@@ -88,16 +88,16 @@ pub fn fields_fill_octets()
 /// signed field is not reserved and has 8 bits, all of whose values are lawful.
 #[tactic(auto, using(crate::proofs::TableLaws::field_widths, crate::proofs::TableLaws::field_values, crate::proofs::TableLaws::reserved_fields, crate::proofs::TableLaws::signed_fields))]
 pub fn fields_are_sound()
-    ensures width { (kind : Kind) → All (λ field. (1 ≤ field.width)
-        × (field.width ≤ 96)) (fields_of kind) }
-    ensures value { (kind : Kind) → All (λ field. field.greatest
-        < 2 ^ field.width) (fields_of kind) }
-    ensures reserved { (kind : Kind) → All (λ field. field.reserved ≡ true
-        → field.greatest ≡ 0) (fields_of kind) }
+    ensures width { (kind : Kind) → All (λ any_field. (1 ≤ any_field.width)
+        × (any_field.width ≤ 96)) (fields_of kind) }
+    ensures value { (kind : Kind) → All (λ any_field. any_field.greatest
+        < 2 ^ any_field.width) (fields_of kind) }
+    ensures reserved { (kind : Kind) → All (λ any_field. any_field.reserved ≡ true
+        → any_field.greatest ≡ 0) (fields_of kind) }
     ensures signed { (kind : Kind) →
         All
-        (λ field. field.signed ≡ true →
-        (field.reserved ≡ false) × (field.width ≡ 8) × (field.greatest ≡ 255))
+        (λ any_field. any_field.signed ≡ true →
+        (any_field.reserved ≡ false) × (any_field.width ≡ 8) × (any_field.greatest ≡ 255))
         (fields_of kind) }
 {}
 
@@ -106,21 +106,23 @@ pub fn fields_are_sound()
 #[tactic(auto, using(crate::proofs::TableLaws::tv_field, crate::proofs::TableLaws::tv_tail, crate::proofs::TableLaws::tv_groups))]
 pub fn tv_is_one_field()
     ensures field { (kind : ParamKind) → is_tv kind ≡ true →
-        (field : FieldRule) × (fields_of (Parameter kind) ≡ field ∷ []) ×
-        (field.reserved ≡ false) × (field.greatest ≡ 2 ^ field.width - 1) }
+        (any_field : FieldRule) × (fields_of (Parameter kind) ≡ any_field ∷ []) ×
+        (any_field.reserved ≡ false) × (any_field.greatest ≡ 2 ^ any_field.width - 1) }
     ensures tail { (kind : ParamKind) → is_tv kind ≡ true → tail_of (Parameter kind) ≡ Absent }
     ensures groups { (kind : ParamKind) → is_tv kind ≡ true → groups_of (Parameter kind) ≡ [] }
 {}
 
-/// A message has no tail. A parameter whose tail is bits has one field, which counts them; one whose
-/// tail goes up to its end has no children.
-#[tactic(auto, using(crate::proofs::TableLaws::message_tail, crate::proofs::TableLaws::bits_field, crate::proofs::TableLaws::data_groups))]
-pub fn tails_are_of_parameters()
-    ensures message { (kind : MsgKind) → tail_of (Message kind) ≡ Absent }
+/// A message of the profile has no tail, and any other none or data. A parameter whose tail is bits
+/// has one field, which counts them; a node whose tail goes up to its end has no children.
+#[tactic(auto, using(crate::proofs::TableLaws::message_tail, crate::proofs::TableLaws::message_form, crate::proofs::TableLaws::bits_field, crate::proofs::TableLaws::data_groups))]
+pub fn tails_are_of_kinds()
+    ensures message { (kind : MsgKind) → profile_of (Message kind) ≡ Own →
+        tail_of (Message kind) ≡ Absent }
+    ensures form { (kind : MsgKind) →
+        (tail_of (Message kind) ≡ Absent) ⊎ (tail_of (Message kind) ≡ Data) }
     ensures bits { (kind : ParamKind) → tail_of (Parameter kind) ≡ Bits →
-        fields_of (Parameter kind) ≡ field "BitCount" 16 ∷ [] }
-    ensures data { (kind : ParamKind) → tail_of (Parameter kind) ≡ Data →
-        groups_of (Parameter kind) ≡ [] }
+        fields_of (Parameter kind) ≡ any_field "BitCount" 16 ∷ [] }
+    ensures data { (kind : Kind) → tail_of kind ≡ Data → groups_of kind ≡ [] }
 {}
 
 /// A group has members, and its least number is at most its greatest. No kind is in two groups of

@@ -12,27 +12,29 @@
 //! ```
 #![tactic(auto)]
 
+mod by_name;
+mod by_number;
 mod kinds;
 mod labels;
 pub mod laws;
 mod messages;
-mod named;
-mod numbered;
 mod parameters;
 mod places;
-mod rows;
+mod row_macros;
+mod seen;
 mod tables;
 mod tlv;
 mod tv;
 mod whole;
 
-pub use kinds::{Field, Group, Kind, Label, MsgKind, ParamKind, Place, Profile, Tail};
-pub use labels::label;
-pub use named::{
+pub use by_name::{
     msg_named, msg_with_name, msg_with_name_in, param_named, param_with_name, param_with_name_in,
 };
-pub use numbered::{
+pub use by_number::{
     is_tv, msg_of, msg_of_in, param_of_tlv, param_of_tlv_in, param_of_tv, param_of_tv_in,
 };
+pub use kinds::{Field, Group, Kind, Label, MsgKind, ParamKind, Place, Profile, Tail};
+pub use labels::label;
 pub use places::{place, required};
+pub use seen::Seen;
 pub use tables::{fields, groups, name, number, profile, tail};

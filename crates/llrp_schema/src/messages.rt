@@ -5,7 +5,7 @@ ghost use Rattle.llrp_schema.specs.Private.Schema.{kind_rule};
 ghost use Rattle.llrp_schema.specs.Schema.{message_rule};
 
 use crate::kinds::{Definition, Field, Group, MsgKind, ParamKind, Profile, Tail};
-use crate::rows::{any_number, at_most_one, field, one, reserved};
+use crate::row_macros::{any_number, at_most_one, field, one, reserved};
 use crate::whole;
 
 static SET_READER_CONFIG: Definition = Definition {

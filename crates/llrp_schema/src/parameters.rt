@@ -9,7 +9,7 @@ use crate::{tlv, tv, whole};
 
 /// The row of a parameter.
 #[tactic(auto, unfolding(crate::specs::Schema::param_rule))]
-pub fn parameter(kind: ParamKind) -> &'static Definition
+pub(crate) fn parameter(kind: ParamKind) -> &'static Definition
     ensures { kind_rule result.now ≡ param_rule kind }
 {
     match kind {

@@ -1,9 +1,9 @@
 //! The rows of the parameters with type, length and value (LLRP 1.1, section 17.2).
 
 use crate::kinds::{Definition, Field, Group, ParamKind, Profile, Tail};
-use crate::rows::{any_number, at_most_one, field, one, one_or_more, reserved};
+use crate::row_macros::{any_number, at_most_one, field, one, one_or_more, reserved};
 
-pub static UTC_TIMESTAMP: Definition = Definition {
+pub(crate) static UTC_TIMESTAMP: Definition = Definition {
     profile: Profile::Own,
     number: 128,
     name: "UTCTimestamp",
@@ -12,7 +12,7 @@ pub static UTC_TIMESTAMP: Definition = Definition {
     groups: &[],
 };
 
-pub static UPTIME: Definition = Definition {
+pub(crate) static UPTIME: Definition = Definition {
     profile: Profile::Own,
     number: 129,
     name: "Uptime",
@@ -21,7 +21,7 @@ pub static UPTIME: Definition = Definition {
     groups: &[],
 };
 
-pub static RO_SPEC: Definition = Definition {
+pub(crate) static RO_SPEC: Definition = Definition {
     profile: Profile::Own,
     number: 177,
     name: "ROSpec",
@@ -38,7 +38,7 @@ pub static RO_SPEC: Definition = Definition {
     ],
 };
 
-pub static RO_BOUNDARY_SPEC: Definition = Definition {
+pub(crate) static RO_BOUNDARY_SPEC: Definition = Definition {
     profile: Profile::Own,
     number: 178,
     name: "ROBoundarySpec",
@@ -47,7 +47,7 @@ pub static RO_BOUNDARY_SPEC: Definition = Definition {
     groups: &[one!(RoSpecStartTrigger), one!(RoSpecStopTrigger)],
 };
 
-pub static RO_SPEC_START_TRIGGER: Definition = Definition {
+pub(crate) static RO_SPEC_START_TRIGGER: Definition = Definition {
     profile: Profile::Own,
     number: 179,
     name: "ROSpecStartTrigger",
@@ -59,7 +59,7 @@ pub static RO_SPEC_START_TRIGGER: Definition = Definition {
     ],
 };
 
-pub static PERIODIC_TRIGGER_VALUE: Definition = Definition {
+pub(crate) static PERIODIC_TRIGGER_VALUE: Definition = Definition {
     profile: Profile::Own,
     number: 180,
     name: "PeriodicTriggerValue",
@@ -68,7 +68,7 @@ pub static PERIODIC_TRIGGER_VALUE: Definition = Definition {
     groups: &[at_most_one!(UtcTimestamp)],
 };
 
-pub static GPI_TRIGGER_VALUE: Definition = Definition {
+pub(crate) static GPI_TRIGGER_VALUE: Definition = Definition {
     profile: Profile::Own,
     number: 181,
     name: "GPITriggerValue",
@@ -82,7 +82,7 @@ pub static GPI_TRIGGER_VALUE: Definition = Definition {
     groups: &[],
 };
 
-pub static RO_SPEC_STOP_TRIGGER: Definition = Definition {
+pub(crate) static RO_SPEC_STOP_TRIGGER: Definition = Definition {
     profile: Profile::Own,
     number: 182,
     name: "ROSpecStopTrigger",
@@ -91,7 +91,7 @@ pub static RO_SPEC_STOP_TRIGGER: Definition = Definition {
     groups: &[at_most_one!(GpiTriggerValue)],
 };
 
-pub static AI_SPEC: Definition = Definition {
+pub(crate) static AI_SPEC: Definition = Definition {
     profile: Profile::Own,
     number: 183,
     name: "AISpec",
@@ -103,7 +103,7 @@ pub static AI_SPEC: Definition = Definition {
     ],
 };
 
-pub static AI_SPEC_STOP_TRIGGER: Definition = Definition {
+pub(crate) static AI_SPEC_STOP_TRIGGER: Definition = Definition {
     profile: Profile::Own,
     number: 184,
     name: "AISpecStopTrigger",
@@ -115,7 +115,7 @@ pub static AI_SPEC_STOP_TRIGGER: Definition = Definition {
     ],
 };
 
-pub static TAG_OBSERVATION_TRIGGER: Definition = Definition {
+pub(crate) static TAG_OBSERVATION_TRIGGER: Definition = Definition {
     profile: Profile::Own,
     number: 185,
     name: "TagObservationTrigger",
@@ -131,7 +131,7 @@ pub static TAG_OBSERVATION_TRIGGER: Definition = Definition {
     groups: &[],
 };
 
-pub static INVENTORY_PARAMETER_SPEC: Definition = Definition {
+pub(crate) static INVENTORY_PARAMETER_SPEC: Definition = Definition {
     profile: Profile::Own,
     number: 186,
     name: "InventoryParameterSpec",
@@ -140,7 +140,7 @@ pub static INVENTORY_PARAMETER_SPEC: Definition = Definition {
     groups: &[any_number!(AntennaConfiguration)],
 };
 
-pub static KEEPALIVE_SPEC: Definition = Definition {
+pub(crate) static KEEPALIVE_SPEC: Definition = Definition {
     profile: Profile::Own,
     number: 220,
     name: "KeepaliveSpec",
@@ -149,7 +149,7 @@ pub static KEEPALIVE_SPEC: Definition = Definition {
     groups: &[],
 };
 
-pub static ANTENNA_CONFIGURATION: Definition = Definition {
+pub(crate) static ANTENNA_CONFIGURATION: Definition = Definition {
     profile: Profile::Own,
     number: 222,
     name: "AntennaConfiguration",
@@ -162,7 +162,7 @@ pub static ANTENNA_CONFIGURATION: Definition = Definition {
     ],
 };
 
-pub static RF_RECEIVER: Definition = Definition {
+pub(crate) static RF_RECEIVER: Definition = Definition {
     profile: Profile::Own,
     number: 223,
     name: "RFReceiver",
@@ -171,7 +171,7 @@ pub static RF_RECEIVER: Definition = Definition {
     groups: &[],
 };
 
-pub static RF_TRANSMITTER: Definition = Definition {
+pub(crate) static RF_TRANSMITTER: Definition = Definition {
     profile: Profile::Own,
     number: 224,
     name: "RFTransmitter",
@@ -184,7 +184,7 @@ pub static RF_TRANSMITTER: Definition = Definition {
     groups: &[],
 };
 
-pub static EVENTS_AND_REPORTS: Definition = Definition {
+pub(crate) static EVENTS_AND_REPORTS: Definition = Definition {
     profile: Profile::Own,
     number: 226,
     name: "EventsAndReports",
@@ -193,7 +193,7 @@ pub static EVENTS_AND_REPORTS: Definition = Definition {
     groups: &[],
 };
 
-pub static RO_REPORT_SPEC: Definition = Definition {
+pub(crate) static RO_REPORT_SPEC: Definition = Definition {
     profile: Profile::Own,
     number: 237,
     name: "ROReportSpec",
@@ -202,7 +202,7 @@ pub static RO_REPORT_SPEC: Definition = Definition {
     groups: &[one!(TagReportContentSelector)],
 };
 
-pub static TAG_REPORT_CONTENT_SELECTOR: Definition = Definition {
+pub(crate) static TAG_REPORT_CONTENT_SELECTOR: Definition = Definition {
     profile: Profile::Own,
     number: 238,
     name: "TagReportContentSelector",
@@ -223,7 +223,7 @@ pub static TAG_REPORT_CONTENT_SELECTOR: Definition = Definition {
     groups: &[any_number!(C1G2EpcMemorySelector)],
 };
 
-pub static TAG_REPORT_DATA: Definition = Definition {
+pub(crate) static TAG_REPORT_DATA: Definition = Definition {
     profile: Profile::Own,
     number: 240,
     name: "TagReportData",
@@ -248,7 +248,7 @@ pub static TAG_REPORT_DATA: Definition = Definition {
     ],
 };
 
-pub static EPC_DATA: Definition = Definition {
+pub(crate) static EPC_DATA: Definition = Definition {
     profile: Profile::Own,
     number: 241,
     name: "EPCData",
@@ -257,7 +257,7 @@ pub static EPC_DATA: Definition = Definition {
     groups: &[],
 };
 
-pub static READER_EVENT_NOTIFICATION_SPEC: Definition = Definition {
+pub(crate) static READER_EVENT_NOTIFICATION_SPEC: Definition = Definition {
     profile: Profile::Own,
     number: 244,
     name: "ReaderEventNotificationSpec",
@@ -266,7 +266,7 @@ pub static READER_EVENT_NOTIFICATION_SPEC: Definition = Definition {
     groups: &[one_or_more!(EventNotificationState)],
 };
 
-pub static EVENT_NOTIFICATION_STATE: Definition = Definition {
+pub(crate) static EVENT_NOTIFICATION_STATE: Definition = Definition {
     profile: Profile::Own,
     number: 245,
     name: "EventNotificationState",
@@ -275,7 +275,7 @@ pub static EVENT_NOTIFICATION_STATE: Definition = Definition {
     groups: &[],
 };
 
-pub static READER_EVENT_NOTIFICATION_DATA: Definition = Definition {
+pub(crate) static READER_EVENT_NOTIFICATION_DATA: Definition = Definition {
     profile: Profile::Own,
     number: 246,
     name: "ReaderEventNotificationData",
@@ -294,7 +294,7 @@ pub static READER_EVENT_NOTIFICATION_DATA: Definition = Definition {
     ],
 };
 
-pub static GPI_EVENT: Definition = Definition {
+pub(crate) static GPI_EVENT: Definition = Definition {
     profile: Profile::Own,
     number: 248,
     name: "GPIEvent",
@@ -303,7 +303,7 @@ pub static GPI_EVENT: Definition = Definition {
     groups: &[],
 };
 
-pub static RO_SPEC_EVENT: Definition = Definition {
+pub(crate) static RO_SPEC_EVENT: Definition = Definition {
     profile: Profile::Own,
     number: 249,
     name: "ROSpecEvent",
@@ -316,7 +316,7 @@ pub static RO_SPEC_EVENT: Definition = Definition {
     groups: &[],
 };
 
-pub static REPORT_BUFFER_LEVEL_WARNING_EVENT: Definition = Definition {
+pub(crate) static REPORT_BUFFER_LEVEL_WARNING_EVENT: Definition = Definition {
     profile: Profile::Own,
     number: 250,
     name: "ReportBufferLevelWarningEvent",
@@ -325,7 +325,7 @@ pub static REPORT_BUFFER_LEVEL_WARNING_EVENT: Definition = Definition {
     groups: &[],
 };
 
-pub static REPORT_BUFFER_OVERFLOW_ERROR_EVENT: Definition = Definition {
+pub(crate) static REPORT_BUFFER_OVERFLOW_ERROR_EVENT: Definition = Definition {
     profile: Profile::Own,
     number: 251,
     name: "ReportBufferOverflowErrorEvent",
@@ -334,7 +334,7 @@ pub static REPORT_BUFFER_OVERFLOW_ERROR_EVENT: Definition = Definition {
     groups: &[],
 };
 
-pub static AI_SPEC_EVENT: Definition = Definition {
+pub(crate) static AI_SPEC_EVENT: Definition = Definition {
     profile: Profile::Own,
     number: 254,
     name: "AISpecEvent",
@@ -347,7 +347,7 @@ pub static AI_SPEC_EVENT: Definition = Definition {
     groups: &[],
 };
 
-pub static ANTENNA_EVENT: Definition = Definition {
+pub(crate) static ANTENNA_EVENT: Definition = Definition {
     profile: Profile::Own,
     number: 255,
     name: "AntennaEvent",
@@ -356,7 +356,7 @@ pub static ANTENNA_EVENT: Definition = Definition {
     groups: &[],
 };
 
-pub static CONNECTION_ATTEMPT_EVENT: Definition = Definition {
+pub(crate) static CONNECTION_ATTEMPT_EVENT: Definition = Definition {
     profile: Profile::Own,
     number: 256,
     name: "ConnectionAttemptEvent",
@@ -365,7 +365,7 @@ pub static CONNECTION_ATTEMPT_EVENT: Definition = Definition {
     groups: &[],
 };
 
-pub static CONNECTION_CLOSE_EVENT: Definition = Definition {
+pub(crate) static CONNECTION_CLOSE_EVENT: Definition = Definition {
     profile: Profile::Own,
     number: 257,
     name: "ConnectionCloseEvent",
@@ -374,7 +374,7 @@ pub static CONNECTION_CLOSE_EVENT: Definition = Definition {
     groups: &[],
 };
 
-pub static LLRP_STATUS: Definition = Definition {
+pub(crate) static LLRP_STATUS: Definition = Definition {
     profile: Profile::Own,
     number: 287,
     name: "LLRPStatus",
@@ -383,7 +383,7 @@ pub static LLRP_STATUS: Definition = Definition {
     groups: &[at_most_one!(FieldError), at_most_one!(ParameterError)],
 };
 
-pub static FIELD_ERROR: Definition = Definition {
+pub(crate) static FIELD_ERROR: Definition = Definition {
     profile: Profile::Own,
     number: 288,
     name: "FieldError",
@@ -392,7 +392,7 @@ pub static FIELD_ERROR: Definition = Definition {
     groups: &[],
 };
 
-pub static PARAMETER_ERROR: Definition = Definition {
+pub(crate) static PARAMETER_ERROR: Definition = Definition {
     profile: Profile::Own,
     number: 289,
     name: "ParameterError",
@@ -401,7 +401,7 @@ pub static PARAMETER_ERROR: Definition = Definition {
     groups: &[at_most_one!(FieldError), at_most_one!(ParameterError)],
 };
 
-pub static C1G2_INVENTORY_COMMAND: Definition = Definition {
+pub(crate) static C1G2_INVENTORY_COMMAND: Definition = Definition {
     profile: Profile::Own,
     number: 330,
     name: "C1G2InventoryCommand",
@@ -413,7 +413,7 @@ pub static C1G2_INVENTORY_COMMAND: Definition = Definition {
     ],
 };
 
-pub static C1G2_RF_CONTROL: Definition = Definition {
+pub(crate) static C1G2_RF_CONTROL: Definition = Definition {
     profile: Profile::Own,
     number: 335,
     name: "C1G2RFControl",
@@ -422,7 +422,7 @@ pub static C1G2_RF_CONTROL: Definition = Definition {
     groups: &[],
 };
 
-pub static C1G2_SINGULATION_CONTROL: Definition = Definition {
+pub(crate) static C1G2_SINGULATION_CONTROL: Definition = Definition {
     profile: Profile::Own,
     number: 336,
     name: "C1G2SingulationControl",
@@ -436,7 +436,7 @@ pub static C1G2_SINGULATION_CONTROL: Definition = Definition {
     groups: &[],
 };
 
-pub static C1G2_EPC_MEMORY_SELECTOR: Definition = Definition {
+pub(crate) static C1G2_EPC_MEMORY_SELECTOR: Definition = Definition {
     profile: Profile::Own,
     number: 348,
     name: "C1G2EPCMemorySelector",

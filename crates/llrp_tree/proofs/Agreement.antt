@@ -9,7 +9,7 @@ use Rattle.llrp_schema.specs.declared.kinds.Kind.TheVariants.{Message}
 use Rattle.llrp_schema.specs.Schema.{number_of, profile_of}
 use Rattle.llrp_schema.proofs.TableLaws.{message_number_fits, message_numbers_in}
 use Rattle.llrp_tree.specs.Tree.{Forest, none, and}
-use Rattle.llrp_tree.specs.Spelling.{Head, message, tlv, tv, head_digits, spell}
+use Rattle.llrp_tree.specs.Spelling.{Head, message, tlv, tv, head_digits, forest_digits}
 use Rattle.llrp_tree.specs.OpenTree.{root_profile, Begun, leading_digits, part, covers, due, Rest, IsHeader, IsHead, IsOpenNode, IsOpenTree}
 use Rattle.llrp_tree.specs.Calls.OpenTree.{parts, whole_parts, tail_parts}
 use Rattle.llrp_tree.specs.FirstFault.{next_fault}
@@ -126,7 +126,7 @@ first [] s e = absurd (omega arith)
 first (b ∷ outer) s e = first_at b.head b.stop b.fields b.tail b.children outer s.0.head e
 
 head_covered : (h : Head) (stop : ℕ) → covers (begin h stop ∷ []) ≡ head_digits h
-unfolding covers part leading_digits spell
+unfolding covers part leading_digits forest_digits
 head_covered h stop = append-nil (head_digits h)
 
 -- ---- agreement

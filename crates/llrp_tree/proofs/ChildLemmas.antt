@@ -22,15 +22,16 @@ use Rattle.llrp_tree.specs.declared.fault.FrameErr.TheVariants.{Memory, Bad}
 use Rattle.llrp_tree.specs.Tree.{Forest}
 use Rattle.llrp_tree.specs.Lawful.{AreOctets, has_place}
 use Rattle.llrp_tree.specs.Spelling.{Head, message, tlv, tv}
-use Rattle.llrp_tree.specs.OpenTree.{root_of, Begun, kind_of, due, Rest, takes_more, MayBegin, IsHead, IsOpenTree}
-use Rattle.llrp_tree.specs.FirstFault.{number, tail_at, tail_end, tv_kind, tlv_kind, tlv_octets, first_digit, Check, first_failing, tail_checks, kind_checks, tlv_checks, checks, Turn, Close, NoChild, BeginTv, BeginTlv, turn, is_over, has_none}
-use Rattle.llrp_tree.specs.Calls.Standing.{Stands, begun, leading}
+use Rattle.llrp_tree.specs.OpenTree.{root_of, Begun, kind_of_head, due, Rest, takes_more, MayBegin, IsHead, IsOpenTree}
+use Rattle.llrp_tree.specs.FirstFault.{number, tail_at, tail_end, tv_kind, tlv_kind, tlv_octets, first_digit, Check, first_failing, tail_checks, kind_checks, tlv_checks, checks, NextPart, Close, NoChild, BeginTv, BeginTlv, next_part, has_ended, has_none}
+use Rattle.llrp_tree.specs.Calls.Standing.{IsAt, begin_node, leading}
 use Rattle.llrp_tree.specs.Private.Standing.{FailsFirst, Tells, KindPasses, TlvPasses, TailSpans, is_tv_kind}
 use Rattle.llrp_tree.proofs.OctetLemmas.{not_utf8}
 use Rattle.llrp_tree.proofs.Growing.{grow_tlv, grow_tv}
 use Rattle.llrp_tree.proofs.Telling.{fault_is}
 use Rattle.llrp_tree.proofs.Totality.{octet_left}
 use Rattle.llrp_tree.proofs.ReadingLemmas.{tells, octets_are}
+use Rattle.llrp_tree.proofs.BodyLemmas.{head_of_tree as outer_head}
 
 -- ---- text
 
@@ -66,7 +67,7 @@ first_before (x ∷ xs) ys f e =
     (elim x.holds as (λ b. (if b then first_failing xs else Some (x.bit, x.reason)) ≡ Some f → (if b then first_failing (xs ++ ys) else Some (x.bit, x.reason)) ≡ Some f)
     [ true ↦ λ h. first_before xs ys f h | false ↦ λ h. h ]) e
 
-and_not : (b : Bool) → (b && false) ≡ false
+pub and_not : (b : Bool) → (b && false) ≡ false
 and_not true = refl
 and_not false = refl
 
@@ -106,29 +107,25 @@ digit_is_one [] e = absurd (e refl)
 digit_is_one (true ∷ xs) e = refl
 digit_is_one (false ∷ xs) e = absurd (e (omega arith))
 
-not_over_yet : (h : Head) (kind : Kind) (stop at : ℕ) (outer : List Begun) → IsHead h stop outer → kind_of h ≡ kind → is_tv_kind kind ≡ false → at < stop → is_over h (nat_le stop at) ≡ false
+not_over_yet : (h : Head) (kind : Kind) (stop at : ℕ) (outer : List Begun) → IsHead h stop outer → kind_of_head h ≡ kind → is_tv_kind kind ≡ false → at < stop → has_ended h (nat_le stop at) ≡ false
 not_over_yet (message v k n id) kind stop at outer i e f lt = lt-leb stop at lt
 not_over_yet (tlv k n) kind stop at outer i e f lt = lt-leb stop at lt
 not_over_yet (tv k) kind stop at [] i e f lt = absurd i
 not_over_yet (tv k) kind stop at (p ∷ outer) i e f lt = absurd (let z : is_tv k ≡ false = ap is_tv_kind e ∙ f in let y = i.kind_is_tv in cc)
 
-outer_head : (b : Begun) (outer : List Begun) → IsOpenTree (b ∷ outer) → IsHead b.head b.stop outer
-unfolding IsOpenTree
-outer_head b outer s = s.0.head
-
 module _ (ds : List Bool) (h : Head) (stop : ℕ) (fs : List ℕ) (tl : Option (List ℕ)) (siblings : Forest) (outer : List Begun) (at : ℕ) (parent : Kind) (level : ℕ)
-    (k : kind_of h ≡ parent) (l : length outer ≡ level) (d : due (begun h stop fs tl siblings) ≡ Rest) (st : Stands ds (begun h stop fs tl siblings ∷ outer) at) (lt : at < stop) (long : is_tv_kind parent ≡ false) where
+    (k : kind_of_head h ≡ parent) (l : length outer ≡ level) (d : due (begin_node h stop fs tl siblings) ≡ Rest) (st : IsAt ds (begin_node h stop fs tl siblings ∷ outer) at) (lt : at < stop) (long : is_tv_kind parent ≡ false) where
   abbrev pub here : Begun
-  here = begun h stop fs tl siblings
+  here = begin_node h stop fs tl siblings
 
-  over : is_over h (nat_le stop at) ≡ false
+  over : has_ended h (nat_le stop at) ≡ false
   over = not_over_yet h parent stop at outer (outer_head here outer st.is_open) k long lt
 
-  some_groups : (b : Bool) → has_none (groups_of parent) ≡ b → has_none (groups_of (kind_of h)) ≡ b
+  some_groups : (b : Bool) → has_none (groups_of parent) ≡ b → has_none (groups_of (kind_of_head h)) ≡ b
   some_groups b e = ap (λ (j : Kind). has_none (groups_of j)) k ∙ e
 
-  extra_turn : has_none (groups_of parent) ≡ true → turn here at (drop at ds) ≡ NoChild
-  unfolding turn
+  extra_turn : has_none (groups_of parent) ≡ true → next_part here at (drop at ds) ≡ NoChild
+  unfolding next_part
   extra_turn g = rw (d, over, some_groups true g) refl
 
   extra_first : first_failing (checks NoChild (length (here ∷ outer)) here at (drop at ds)) ≡ Some (at, Extra)
@@ -138,12 +135,12 @@ module _ (ds : List Bool) (h : Head) (stop : ℕ) (fs : List ℕ) (tl : Option (
   pub extra_tells : (e : FrameErr) → has_none (groups_of parent) ≡ true → e ≡ Bad (record { bit = at; reason = Extra }) → Tells (root_of h outer) ds e
   extra_tells e g told = subst (Tells (root_of h outer) ds) (sym told) (fault_is ds here outer at NoChild at Extra st (extra_turn g) extra_first)
 
-  tv_turn : has_none (groups_of parent) ≡ false → first_digit (drop at ds) ≡ true → turn here at (drop at ds) ≡ BeginTv
-  unfolding turn
+  tv_turn : has_none (groups_of parent) ≡ false → first_digit (drop at ds) ≡ true → next_part here at (drop at ds) ≡ BeginTv
+  unfolding next_part
   tv_turn g z = rw (d, over, some_groups false g, z) refl
 
-  tlv_turn : has_none (groups_of parent) ≡ false → first_digit (drop at ds) ≡ false → turn here at (drop at ds) ≡ BeginTlv
-  unfolding turn
+  tlv_turn : has_none (groups_of parent) ≡ false → first_digit (drop at ds) ≡ false → next_part here at (drop at ds) ≡ BeginTlv
+  unfolding next_part
   tlv_turn g z = rw (d, over, some_groups false g, z) refl
 
   at_level : level + 1 ≡ length (here ∷ outer)
@@ -169,10 +166,10 @@ module _ (ds : List Bool) (h : Head) (stop : ℕ) (fs : List ℕ) (tl : Option (
       let Q : Kind → Type 0 = λ j. takes_more (groups_of j) c siblings ≡ true in
       record { ready = d; has = subst P (sym k) p.has; more = subst Q (sym k) p.takes }
 
-  pub tv_begun : (c : ParamKind) → first_digit (drop at ds) ≡ true → KindPasses (tv_kind (profile_of parent) (drop at ds)) (groups_of parent) siblings (level + 1) c → Stands ds (leading (tv c) stop [] ∷ here ∷ outer) (at + 8)
+  pub tv_begun : (c : ParamKind) → first_digit (drop at ds) ≡ true → KindPasses (tv_kind (profile_of parent) (drop at ds)) (groups_of parent) siblings (level + 1) c → IsAt ds (leading (tv c) stop [] ∷ here ∷ outer) (at + 8)
   tv_begun c z p = grow_tv here outer ds at c st (octet_left ds here outer at st d lt) z (subst (λ (j : Kind). tv_kind (profile_of j) (drop at ds) ≡ Some c) (sym k) p.is) (may_begin (tv_kind (profile_of parent) (drop at ds)) c p) (omega (arith, p.deep, at_level))
 
-  pub tlv_begun : (c : ParamKind) (n : ℕ) → TlvPasses (profile_of parent) (groups_of parent) siblings (level + 1) at stop (drop at ds) c n → Stands ds (leading (tlv c n) (at + 8 * n) [] ∷ here ∷ outer) (at + 32)
+  pub tlv_begun : (c : ParamKind) (n : ℕ) → TlvPasses (profile_of parent) (groups_of parent) siblings (level + 1) at stop (drop at ds) c n → IsAt ds (leading (tlv c n) (at + 8 * n) [] ∷ here ∷ outer) (at + 32)
   tlv_begun c n p =
-      let P : ℕ → Type 0 = λ m. Stands ds (leading (tlv c m) (at + 8 * m) [] ∷ here ∷ outer) (at + 32) in
+      let P : ℕ → Type 0 = λ m. IsAt ds (leading (tlv c m) (at + 8 * m) [] ∷ here ∷ outer) (at + 32) in
       subst P (sym p.octets_are) (grow_tlv here outer ds at c st p.room p.zeros (subst (λ (j : Kind). tlv_kind (profile_of j) (drop at ds) ≡ Some c) (sym k) p.placed.is) (may_begin (tlv_kind (profile_of parent) (drop at ds)) c p.placed) (omega (arith, p.placed.deep, at_level)) (omega (arith, p.least, p.octets_are)) (omega (arith, p.most, p.octets_are)))

@@ -14,8 +14,8 @@ use Rattle.llrp_tree.specs.declared.fault.Reason.TheVariants.{Reserved, Short, V
 use Rattle.llrp_tree.specs.Tree.{Forest}
 use Rattle.llrp_tree.specs.Lawful.{has_place}
 use Rattle.llrp_tree.specs.Spelling.{Head, message, tlv, tv}
-use Rattle.llrp_tree.specs.OpenTree.{profile, Begun, kind_of, groups, covers, Due, AField, ATail, Rest, due, takes_more, is_enough, IsHead, IsOpenTree}
-use Rattle.llrp_tree.specs.FirstFault.{check, Check, first_failing, tail_at, tail_end, tlv_kind, tlv_octets, tail_checks, kind_checks, checks, ReadField, BeginTlv, turn_of, turn, is_over, has_none, first_digit, next_fault}
+use Rattle.llrp_tree.specs.OpenTree.{profile, Begun, kind_of_head, groups, covers, Due, AField, ATail, Rest, due, takes_more, is_enough, IsHead, IsOpenTree}
+use Rattle.llrp_tree.specs.FirstFault.{check, Check, first_failing, tail_at, tail_end, tlv_kind, tlv_octets, tail_checks, kind_checks, checks, ReadField, BeginTlv, turn_of, next_part, has_ended, has_none, first_digit, next_fault}
 use Rattle.llrp_tree.specs.Calls.Deciding.{deciding_tail, deciding_of, deciding, failing_tail, failing_part, failing_end, FaultsAreDecided}
 use Rattle.llrp_tree.proofs.Openings.{tv_has_none}
 
@@ -97,10 +97,10 @@ none_missing : (gs : List GroupRule) (children : Forest) → gs ≡ [] → is_en
 unfolding is_enough
 none_missing gs children e = rw e refl
 
-missing_at_stop : (b : Begun) (outer : List Begun) → IsHead b.head b.stop outer → length (covers (b ∷ outer)) ≤ b.stop → is_over b.head (nat_le b.stop (length (covers (b ∷ outer)))) ≡ true → is_enough (groups b) b.children ≡ false → length (covers (b ∷ outer)) ≡ b.stop
+missing_at_stop : (b : Begun) (outer : List Begun) → IsHead b.head b.stop outer → length (covers (b ∷ outer)) ≤ b.stop → has_ended b.head (nat_le b.stop (length (covers (b ∷ outer)))) ≡ true → is_enough (groups b) b.children ≡ false → length (covers (b ∷ outer)) ≡ b.stop
 missing_at_stop b outer i inside o few = by_head b.head b.stop (length (covers (b ∷ outer))) (b.children) outer i inside o few
   where
-    by_head : (h : Head) (stop at : ℕ) (children : Forest) (outer : List Begun) → IsHead h stop outer → at ≤ stop → is_over h (nat_le stop at) ≡ true → is_enough (Rattle.llrp_schema.specs.Schema.groups_of (kind_of h)) children ≡ false → at ≡ stop
+    by_head : (h : Head) (stop at : ℕ) (children : Forest) (outer : List Begun) → IsHead h stop outer → at ≤ stop → has_ended h (nat_le stop at) ≡ true → is_enough (Rattle.llrp_schema.specs.Schema.groups_of (kind_of_head h)) children ≡ false → at ≡ stop
     by_head (message v k n id) stop at children outer i inside o few = (let le = leb-true stop at o in omega arith)
     by_head (tlv k n) stop at children outer i inside o few = (let le = leb-true stop at o in omega arith)
     by_head (tv k) stop at children outer i inside o few = absurd (let all = none_missing _ children (tv_has_none k stop outer i) in cc)
@@ -115,7 +115,7 @@ module _ (b : Begun) (outer : List Begun) (rest : List Bool) (bit : ℕ) (reason
   abbrev at : ℕ
   at = length (covers (b ∷ outer))
 
-  by_turn : (d : Due) (o n z : Bool) → is_over b.head (nat_le b.stop at) ≡ o → first_failing (checks (turn_of d o n z) (length (b ∷ outer)) b at rest) ≡ Some (bit, reason)
+  by_turn : (d : Due) (o n z : Bool) → has_ended b.head (nat_le b.stop at) ≡ o → first_failing (checks (turn_of d o n z) (length (b ∷ outer)) b at rest) ≡ Some (bit, reason)
       → deciding_of (turn_of d o n z) b at rest ≡ failing_part (turn_of d o n z) reason b at rest
   unfolding checks IsOpenTree
   by_turn (AField r) o n z eo e = field_decided r b at rest _ _ r.reserved bit reason e
@@ -128,6 +128,6 @@ module _ (b : Begun) (outer : List Begun) (rest : List Bool) (bit : ℕ) (reason
       head_decided b at rest _ _ more bit reason (kind_reason (tlv_kind (profile b) rest) (groups b) b.children (length (b ∷ outer)) at (at + 6) fits bit reason) e)
 
 pub faults_are_decided : FaultsAreDecided
-unfolding next_fault deciding failing_end turn
+unfolding next_fault deciding failing_end next_part
 faults_are_decided [] rest bit reason s e = absurd cc
-faults_are_decided (b ∷ outer) rest bit reason s e = by_turn b outer rest bit reason s (due b) (is_over b.head (nat_le b.stop (length (covers (b ∷ outer))))) (has_none (groups b)) (first_digit rest) refl e
+faults_are_decided (b ∷ outer) rest bit reason s e = by_turn b outer rest bit reason s (due b) (has_ended b.head (nat_le b.stop (length (covers (b ∷ outer))))) (has_none (groups b)) (first_digit rest) refl e

@@ -8,42 +8,37 @@ use Rattle.tag_bits.specs.Digits.{digits, digits_of_bytes}
 use Rattle.tag_bits.proofs.ByteLemmas.{length-bytes, bytes-append}
 use Rattle.llrp_schema.specs.declared.kinds.MsgKind.{MsgKind}
 use Rattle.llrp_schema.specs.declared.kinds.Kind.TheVariants.{Message}
-use Rattle.llrp_schema.specs.declared.kinds.Tail.{Tail}
-use Rattle.llrp_schema.specs.declared.kinds.Tail.TheVariants.{Absent}
 use Rattle.llrp_schema.specs.Schema.{profile_of, message_in as find_message, fields_of, tail_of, groups_of, number_of}
-use Rattle.llrp_schema.proofs.TableLaws.{message_at_number, message_found_in, message_tail, message_number_fits}
+use Rattle.llrp_schema.proofs.TableLaws.{message_at_number, message_found_in, message_number_fits}
 use Rattle.llrp_tree.specs.declared.TheConstants.{MAX_DEPTH, MAX_LIMIT}
 use Rattle.llrp_tree.specs.declared.fault.Reason.{Reason}
 use Rattle.llrp_tree.specs.declared.fault.Reason.TheVariants.{Reserved}
 use Rattle.llrp_tree.specs.Tree.{Forest, none, and, MessageTree}
-use Rattle.llrp_tree.specs.Lawful.{levels, message_octets, AreOctets, IsTail, ArePlaced, AllLawful, IsLawfulMessage}
-use Rattle.llrp_tree.specs.Spelling.{Head, message, tlv, tv, head_digits, spread, body_digits, spell, message_digits}
+use Rattle.llrp_tree.specs.Lawful.{levels, message_octets, AreOctets, ArePlaced, AllLawful, IsLawfulMessage}
+use Rattle.llrp_tree.specs.Spelling.{Head, message, tlv, tv, head_digits, spread, body_digits, forest_digits, message_digits}
 use Rattle.llrp_tree.specs.Frame.{Frame}
 use Rattle.llrp_schema.specs.declared.kinds.Profile.{Profile}
-use Rattle.llrp_tree.specs.OpenTree.{Begun, kind_of, leading_digits, part, covers, Rest, tail_due, due, plain_values, IsReadTail, IsHeader, IsOpenNode, IsOpenTree}
+use Rattle.llrp_tree.specs.OpenTree.{Begun, leading_digits, part, covers, Rest, due, plain_values, IsReadTail, IsHeader, IsOpenTree}
 use Rattle.llrp_tree.specs.Calls.OpenTree.{as_read}
 use Rattle.llrp_tree.specs.FirstFault.{number, first_failing, Close, next_fault, header_checks_in, FirstFaultIn}
-use Rattle.llrp_tree.specs.Calls.Standing.{end_of, Stands, begun, leading, HeaderSaysIn}
-use Rattle.llrp_tree.specs.Private.Standing.{HasFault, Closes}
+use Rattle.llrp_tree.specs.Calls.Standing.{end_of, IsAt, begin_node, leading, HeaderSaysIn}
+use Rattle.llrp_tree.specs.Private.Standing.{IsFaultOf, Closes}
 use Rattle.llrp_tree.proofs.Steps.{Fails, Ends, next}
 use Rattle.llrp_tree.proofs.Leading.{plain-spread, leading_spread, length-spread, drop_all, plain_in_range}
 use Rattle.llrp_tree.proofs.ReadDigits.{number_own, number_behind, length_covered, value_at, digits_take}
 use Rattle.llrp_tree.proofs.GroupLemmas.{most_none, enough_from, enough_to}
 use Rattle.llrp_tree.proofs.LengthLemmas.{length-message_head, length-body_digits, length-spell, length-message_digits}
-use Rattle.llrp_tree.proofs.WholeNodes.{are_rules, read_body, closed_digits, no_field_due, whole_tail}
+use Rattle.llrp_tree.proofs.WholeNodes.{are_rules, read_body, read_is_rest, read_again, is_read_tail, closed_digits, no_field_due, whole_tail}
 use Rattle.llrp_tree.proofs.LastPart.{next_is, closing_turn, closing_passes}
 use Rattle.llrp_tree.proofs.Agreement.{IsEnd, one_end, version_small}
 use Rattle.llrp_tree.proofs.Telling.{AllHold, all_hold}
+use Rattle.llrp_tree.proofs.LawLemmas.{version_from as which_version, version_to as version_known}
 
 -- ---- headers
 
 passes : (p : Profile) (limit : ℕ) (ds : List Bool) → (number ds 0 3 == 0) ≡ true → ((number ds 3 3 == 1) || (number ds 3 3 == 2)) ≡ true → is_some (find_message p (number ds 6 10)) ≡ true → nat_le (number ds 16 32) limit ≡ true
     → first_failing (header_checks_in p limit ds) ≡ None
 passes p limit ds a b c d = rw (a, b, c, d) refl
-
-version_known : (v : ℕ) → (v ≡ 1) ⊎ (v ≡ 2) → ((v == 1) || (v == 2)) ≡ true
-version_known v (inl e) = rw e refl
-version_known v (inr e) = rw e refl
 
 pub header_spread : (v : ℕ) (k : MsgKind) (n id : ℕ) (x : List Bool) → head_digits (message v k n id) ++ x ≡ digits 3 0 ++ (digits 3 v ++ (digits 10 (number_of (Message k)) ++ (digits 32 n ++ (digits 32 id ++ x))))
 unfolding head_digits
@@ -68,25 +63,23 @@ header_passes p limit v k n id x lv ln fit own =
 
 -- ---- a message's frame as an open tree that is at its end
 
-message_body : (m : MessageTree) → IsLawfulMessage m → leading_digits (Message m.kind) (spread (fields_of (Message m.kind)) m.fields) None ≡ body_digits (Message m.kind) m.fields []
-message_body m l =
-    let no_tail : as_read (tail_of (Message m.kind)) [] ≡ None = ap (λ (f : Tail). as_read f []) (message_tail m.kind) in
-    ap (λ (o : Option (List ℕ)). leading_digits (Message m.kind) (spread (fields_of (Message m.kind)) m.fields) o) (sym no_tail) ∙ read_body (Message m.kind) m.fields [] l.obeys.form
+message_body : (m : MessageTree) → IsLawfulMessage m → leading_digits (Message m.kind) (spread (fields_of (Message m.kind)) m.fields) (as_read (tail_of (Message m.kind)) m.tail) ≡ body_digits (Message m.kind) m.fields m.tail
+message_body m l = read_body (Message m.kind) m.fields m.tail l.obeys.form
 
-few_levels : (f : Forest) → AllLawful f → levels f ≤ MAX_DEPTH
+pub few_levels : (f : Forest) → AllLawful f → levels f ≤ MAX_DEPTH
 few_levels none l = omega arith
 few_levels (and before k vs tail cs) l = let ih = few_levels before l.0 in omega (arith, l.1.deep)
 
 abbrev pub whole : MessageTree → Begun
-whole m = begun (message m.version m.kind (message_octets m) m.id) (8 * message_octets m) (spread (fields_of (Message m.kind)) m.fields) None m.children
+whole m = begin_node (message m.version m.kind (message_octets m) m.id) (8 * message_octets m) (spread (fields_of (Message m.kind)) m.fields) (as_read (tail_of (Message m.kind)) m.tail) m.children
 
 whole_covers : (m : MessageTree) → IsLawfulMessage m → covers (whole m ∷ []) ≡ message_digits m
 unfolding covers part
-whole_covers m l = ap (λ (x : List Bool). head_digits (message m.version m.kind (message_octets m) m.id) ++ (x ++ spell m.children)) (message_body m l)
+whole_covers m l = ap (λ (x : List Bool). head_digits (message m.version m.kind (message_octets m) m.id) ++ (x ++ forest_digits m.children)) (message_body m l)
 
 whole_due : (m : MessageTree) → due (whole m) ≡ Rest
 unfolding due
-whole_due m = rw (drop_all (fields_of (Message m.kind)) (length (spread (fields_of (Message m.kind)) m.fields)) (length-spread (fields_of (Message m.kind)) m.fields), message_tail m.kind) refl
+whole_due m = rw (drop_all (fields_of (Message m.kind)) (length (spread (fields_of (Message m.kind)) m.fields)) (length-spread (fields_of (Message m.kind)) m.fields)) (read_is_rest (tail_of (Message m.kind)) m.tail)
 
 record Ending (b : Begun) (ds x : List Bool) : Type 0 where
   pub is_open : IsOpenTree (b ∷ [])
@@ -102,7 +95,7 @@ frame_ends m bytes limit x f =
     let at : ℕ = length (covers (whole m ∷ [])) in
     let long : at ≡ 8 * n = ap (λ (y : List Bool). length y) c ∙ length-message_digits m in
     record {
-      is_open = (record { head = record { known_version = l.version; octets_fit = omega (arith, l.long); id_fits = l.id; stops = refl }; fields = leading_spread (fields_of (Message m.kind)) m.fields (are_rules (Message m.kind)) l.obeys.ranges; tail = tt; filled = λ e. inl refl; tail_after = inl refl; children_after = inr (whole_due m); lawful = l.children; placed = l.obeys.placed; most = l.obeys.most; deep = omega (arith, few_levels m.children l.children); inside = omega (arith, long) }, tt);
+      is_open = (record { head = record { known_version = l.version; octets_fit = omega (arith, l.long); id_fits = l.id; stops = refl }; fields = leading_spread (fields_of (Message m.kind)) m.fields (are_rules (Message m.kind)) l.obeys.ranges; tail = subst (λ (vs : List ℕ). IsReadTail (tail_of (Message m.kind)) vs (as_read (tail_of (Message m.kind)) m.tail)) (sym (plain-spread (fields_of (Message m.kind)) m.fields l.obeys.ranges)) (is_read_tail (tail_of (Message m.kind)) m.fields m.tail l.obeys.form l.obeys.bytes); filled = λ e. inr long; tail_after = inr (length-spread (fields_of (Message m.kind)) m.fields); children_after = inr (whole_due m); lawful = l.children; placed = l.obeys.placed; most = l.obeys.most; deep = omega (arith, few_levels m.children l.children); inside = omega (arith, long) }, tt);
       covered = c ∙ sym f.spelled;
       ends = next_is (whole m) [] x Close (closing_turn (whole m) at x (whole_due m) (le-leb (8 * n) at (omega (arith, long)))) (closing_passes (whole m) 1 at x (enough_to (groups_of (Message m.kind)) m.children l.obeys.least));
     }
@@ -110,17 +103,19 @@ frame_ends m bytes limit x f =
 -- ---- what two frames cannot share
 
 -- the message of a begun one, or another where a parameter is begun
-abbrev message_from : MessageTree → Head → List ℕ → Forest → MessageTree
-message_from other (message v k n id) fields cs = record { version = v; id = id; kind = k; fields = plain_values (fields_of (Message k)) fields; children = cs }
-message_from other (tlv k n) fields cs = other
-message_from other (tv k) fields cs = other
+abbrev message_from : MessageTree → Head → List ℕ → Option (List ℕ) → Forest → MessageTree
+message_from other (message v k n id) fields tail cs = record { version = v; id = id; kind = k; fields = plain_values (fields_of (Message k)) fields; tail = unwrap_or tail []; children = cs }
+message_from other (tlv k n) fields tail cs = other
+message_from other (tv k) fields tail cs = other
 
 abbrev message_in : MessageTree → List Begun → MessageTree
 message_in other [] = other
-message_in other (b ∷ outer) = message_from other b.head b.fields b.children
+message_in other (b ∷ outer) = message_from other b.head b.fields b.tail b.children
 
 message_back : (other m : MessageTree) → IsLawfulMessage m → message_in other (whole m ∷ []) ≡ m
-message_back other m l = ap (λ (fields : List ℕ). let r : MessageTree = record { version = m.version; id = m.id; kind = m.kind; fields = fields; children = m.children } in r) (plain-spread (fields_of (Message m.kind)) m.fields l.obeys.ranges)
+message_back other m l =
+    ap (λ (fields : List ℕ). let r : MessageTree = record { version = m.version; id = m.id; kind = m.kind; fields = fields; tail = unwrap_or (as_read (tail_of (Message m.kind)) m.tail) []; children = m.children } in r) (plain-spread (fields_of (Message m.kind)) m.fields l.obeys.ranges)
+    ∙ ap (λ (tail : List ℕ). let r : MessageTree = record { version = m.version; id = m.id; kind = m.kind; fields = m.fields; tail = tail; children = m.children } in r) (read_again (tail_of (Message m.kind)) m.fields m.tail l.obeys.form)
 
 no_bytes : (bytes : List ℕ) → digits_of_bytes bytes ≡ [] → bytes ≡ []
 no_bytes [] e = refl
@@ -161,7 +156,7 @@ pub not_both : (p : Profile) (limit : ℕ) (bytes : List ℕ) (m : MessageTree) 
 not_both p limit bytes m bit reason own f (inl a) =
     let l = f.lawful in
     let long : length bytes ≡ message_octets m = (let x = length-bytes bytes in let y = ap (λ (x : List Bool). length x) f.spelled in let z = length-message_digits m in omega arith) in
-    let h : first_failing (header_checks_in p limit (digits_of_bytes bytes)) ≡ None = subst (λ (y : List Bool). first_failing (header_checks_in p limit y) ≡ None) (sym f.spelled) (header_passes p limit m.version m.kind (message_octets m) m.id (body_digits (Message m.kind) m.fields [] ++ spell m.children) l.version (omega (arith, l.long)) (omega (arith, f.short, long)) own) in
+    let h : first_failing (header_checks_in p limit (digits_of_bytes bytes)) ≡ None = subst (λ (y : List Bool). first_failing (header_checks_in p limit y) ≡ None) (sym f.spelled) (header_passes p limit m.version m.kind (message_octets m) m.id (body_digits (Message m.kind) m.fields m.tail ++ forest_digits m.children) l.version (omega (arith, l.long)) (omega (arith, f.short, long)) own) in
     absurd (let z : ◌≡◌ {A = Option (ℕ × Reason)} None (Some (bit, reason)) = sym h ∙ a in cc)
 not_both p limit bytes m bit reason own f (inr a) =
     let b = frame_ends m bytes limit [] f in
@@ -183,19 +178,15 @@ header_is ds k le z t =
     let e = digits_take 32 (drop 48 ds) (omega (arith, length-drop 48 ds)) in
     rw (a, b, c, d, e) (sym (take-add 48 32 ds ∙ ap (λ (x : List Bool). x ++ take 32 (drop 48 ds)) (take-add 16 32 ds ∙ ap (λ (x : List Bool). x ++ take 32 (drop 16 ds)) (take-add 6 10 ds ∙ ap (λ (x : List Bool). x ++ take 10 (drop 6 ds)) (take-add 3 3 ds)))))
 
-which_version : (v : ℕ) → ((v == 1) || (v == 2)) ≡ true → (v ≡ 1) ⊎ (v ≡ 2)
-which_version v e =
-    (elim (v == 1) as (λ b. (v == 1) ≡ b → (b || (v == 2)) ≡ true → (v ≡ 1) ⊎ (v ≡ 2)) [ true ↦ λ f g. inl (eqb-true v 1 f) | false ↦ λ f g. inr (eqb-true v 2 g) ]) refl e
-
 module _ (p : Profile) (limit : ℕ) (ds : List Bool) (v : ℕ) (k : MsgKind) (n id : ℕ) (h : HeaderSaysIn p limit ds v k n id) (long : length ds ≡ 8 * n) (ten : 10 ≤ n) where
   held : AllHold (header_checks_in p limit ds)
   held = all_hold (header_checks_in p limit ds) h.passes
 
   start_covers : covers (leading (message v k n id) (8 * n) [] ∷ []) ≡ take 80 ds
-  unfolding covers part leading_digits spell
+  unfolding covers part leading_digits forest_digits
   start_covers = append-nil (head_digits (message v k n id)) ∙ rw (h.version_is, h.octets_is, h.id_is) (header_is ds k (omega arith) (eqb-true (number ds 0 3) 0 held.0) ((message_found_in p (number ds 6 10) k h.kind_is).1))
 
-  pub header_stands : Stands ds (leading (message v k n id) (8 * n) [] ∷ []) 80
+  pub header_stands : IsAt ds (leading (message v k n id) (8 * n) [] ∷ []) 80
   unfolding IsOpenTree ArePlaced end_of
   header_stands =
       let ln : n < 2 ^ 32 = (let a = value_at 16 32 ds (omega arith) in omega (arith, h.octets_is)) in
@@ -209,46 +200,42 @@ module _ (p : Profile) (limit : ℕ) (ds : List Bool) (v : ℕ) (k : MsgKind) (n
         ends = sym long;
       }
 
-pub fault_of_frame : (p : Profile) (limit : ℕ) (bytes : List ℕ) (bit : ℕ) (reason : Reason) → first_failing (header_checks_in p limit (digits_of_bytes bytes)) ≡ None → HasFault p (digits_of_bytes bytes) bit reason → FirstFaultIn p bytes limit bit reason
+pub fault_of_frame : (p : Profile) (limit : ℕ) (bytes : List ℕ) (bit : ℕ) (reason : Reason) → first_failing (header_checks_in p limit (digits_of_bytes bytes)) ≡ None → IsFaultOf p (digits_of_bytes bytes) bit reason → FirstFaultIn p bytes limit bit reason
 fault_of_frame p limit bytes bit reason h x =
     inr (record { header = h; root = x.root; tree = x.tree; rest = drop x.at (digits_of_bytes bytes); is_open = x.stands.is_open; covered = ap (λ (y : List Bool). y ++ drop x.at (digits_of_bytes bytes)) x.stands.covered ∙ take-append-drop x.at (digits_of_bytes bytes); fails = x.fails })
 
-no_message_tail : (form : Tail) (fields : List ℕ) (tail : Option (List ℕ)) → form ≡ Absent → IsReadTail form fields tail → unwrap_or tail [] ≡ []
-no_message_tail form fields None e x = refl
-no_message_tail form fields (Some os) e x = absurd (let z : Rattle.llrp_tree.specs.OpenTree.has_tail Absent ≡ true = ap Rattle.llrp_tree.specs.OpenTree.has_tail (sym e) ∙ x.0 in cc)
-
 -- a message of which all is read, where the digits end
 pub closes_frame : (limit : ℕ) (bytes : List ℕ) (v : ℕ) (k : MsgKind) (n id : ℕ) (vs : List ℕ) (tail : Option (List ℕ)) (cs : Forest) (at : ℕ) → limit ≤ MAX_LIMIT → AreOctets bytes → length bytes ≡ n → n ≤ limit
-    → Closes (digits_of_bytes bytes) (begun (message v k n id) (8 * n) vs tail cs) [] at → Frame (record { version = v; id = id; kind = k; fields = plain_values (fields_of (Message k)) vs; children = cs }) bytes limit
+    → Closes (digits_of_bytes bytes) (begin_node (message v k n id) (8 * n) vs tail cs) [] at → Frame (record { version = v; id = id; kind = k; fields = plain_values (fields_of (Message k)) vs; tail = unwrap_or tail []; children = cs }) bytes limit
 unfolding IsOpenTree covers part due
 closes_frame limit bytes v k n id vs tail cs at le os own fit c =
     let ds : List Bool = digits_of_bytes bytes in
     let s = c.stands.is_open.0 in
     let plain : List ℕ = plain_values (fields_of (Message k)) vs in
-    let m : MessageTree = record { version = v; id = id; kind = k; fields = plain; children = cs } in
+    let os' : List ℕ = unwrap_or tail [] in
+    let m : MessageTree = record { version = v; id = id; kind = k; fields = plain; tail = os'; children = cs } in
     let f : IsHeader v n id (8 * n) = s.head in
     let r = no_field_due (drop (length vs) (fields_of (Message k))) _ c.ready in
-    let nt = no_message_tail (tail_of (Message k)) plain tail (message_tail k) s.tail in
     let w = whole_tail (tail_of (Message k)) plain tail s.tail r.1 in
-    let body : leading_digits (Message k) vs tail ≡ body_digits (Message k) plain [] = closed_digits (Message k) vs tail s.fields r.0 r.1 ∙ ap (λ (x : List ℕ). body_digits (Message k) plain x) nt in
+    let body : leading_digits (Message k) vs tail ≡ body_digits (Message k) plain os' = closed_digits (Message k) vs tail s.fields r.0 r.1 in
     let long : length ds ≡ 8 * n = length-bytes bytes ∙ ap (λ (x : ℕ). 8 * x) own in
     let end : 8 * n ≤ at = leb-true (8 * n) at c.over in
     let all : take at ds ≡ ds = (let e : at ≡ length ds = omega (arith, c.stands.within, long, end) in ap (λ (j : ℕ). take j ds) e ∙ take-length ds) in
-    let read : ds ≡ head_digits (message v k n id) ++ (body_digits (Message k) plain [] ++ spell cs) = sym all ∙ sym c.stands.covered ∙ ap (λ (x : List Bool). head_digits (message v k n id) ++ (x ++ spell cs)) body in
+    let read : ds ≡ head_digits (message v k n id) ++ (body_digits (Message k) plain os' ++ forest_digits cs) = sym all ∙ sym c.stands.covered ∙ ap (λ (x : List Bool). head_digits (message v k n id) ++ (x ++ forest_digits cs)) body in
     let is_size : n ≡ message_octets m =
-    (let a = length-append (head_digits (message v k n id)) (body_digits (Message k) plain [] ++ spell cs) in
-    let b = length-append (body_digits (Message k) plain []) (spell cs) in
+    (let a = length-append (head_digits (message v k n id)) (body_digits (Message k) plain os' ++ forest_digits cs) in
+    let b = length-append (body_digits (Message k) plain os') (forest_digits cs) in
     let total = ap (λ (x : List Bool). length x) read in
-    omega (arith, a, b, total, long, length-message_head v k n id, length-body_digits (Message k) plain [], length-spell cs)) in
+    omega (arith, a, b, total, long, length-message_head v k n id, length-body_digits (Message k) plain os', length-spell cs)) in
     record {
       lawful = record {
         version = f.known_version;
         id = f.id_fits;
-        obeys = record { ranges = plain_in_range (fields_of (Message k)) vs s.fields r.0; form = subst (λ (x : List ℕ). IsTail (tail_of (Message k)) plain x) nt w.0; bytes = tt; placed = s.placed; most = s.most; least = enough_from (groups_of (Message k)) cs c.enough };
+        obeys = record { ranges = plain_in_range (fields_of (Message k)) vs s.fields r.0; form = w.0; bytes = w.1; placed = s.placed; most = s.most; least = enough_from (groups_of (Message k)) cs c.enough };
         children = s.lawful;
         long = omega (arith, is_size, fit, le);
       };
       octets = os;
-      spelled = read ∙ ap (λ (j : ℕ). head_digits (message v k j id) ++ (body_digits (Message k) plain [] ++ spell cs)) is_size;
+      spelled = read ∙ ap (λ (j : ℕ). head_digits (message v k j id) ++ (body_digits (Message k) plain os' ++ forest_digits cs)) is_size;
       short = omega (arith, own, fit);
     }

@@ -7,7 +7,7 @@ use Rattle.tag_bits.specs.Digits.{digits, digits_of_bytes}
 use Rattle.tag_bits.proofs.DigitLemmas.{digits-join, digits-split, length-digits, take-seam}
 use Rattle.tag_bits.proofs.ByteLemmas.{bytes-append, take-bytes}
 use Rattle.llrp_tree.specs.Lawful.{AreOctets}
-use Rattle.llrp_tree.specs.Calls.Spelled.{both_halves}
+use Rattle.llrp_tree.specs.Calls.HeadOctets.{both_halves}
 use Rattle.llrp_tree.specs.Calls.Writing.{Appends}
 use Rattle.llrp_tree.proofs.OctetLemmas.{octets-append}
 use Rattle.llrp_tree.proofs.SpellingLemmas.{below_joined, bytes_are_octets, bytes_spell, shift_fits}

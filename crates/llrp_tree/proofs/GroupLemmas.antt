@@ -8,7 +8,7 @@ use Rattle.llrp_tree.specs.Tree.{Forest, none, and}
 use Rattle.llrp_tree.specs.Lawful.{is_member, count, IsAtMost, NoneTooMany, NoneMissing}
 use Rattle.llrp_tree.specs.Lawful.{at_most}
 use Rattle.llrp_tree.specs.OpenTree.{takes_more, is_enough}
-use Rattle.llrp_tree.proofs.LawLemmas.{both, both_true}
+use Rattle.llrp_tree.proofs.LawLemmas.{both, both_true, most_to as at_most_to, most_from as at_most_from}
 
 most_less : (m : Option ℕ) (n : ℕ) → IsAtMost (n + 1) m → IsAtMost n m
 most_less None n h = tt
@@ -17,14 +17,6 @@ most_less (Some m) n h = omega (arith, h)
 most_zero : (m : Option ℕ) → IsAtMost 0 m
 most_zero None = tt
 most_zero (Some m) = omega arith
-
-at_most_from : (m : Option ℕ) (n : ℕ) → at_most m n ≡ true → IsAtMost n m
-at_most_from None n e = tt
-at_most_from (Some m) n e = leb-true n m e
-
-at_most_to : (m : Option ℕ) (n : ℕ) → IsAtMost n m → at_most m n ≡ true
-at_most_to None n h = refl
-at_most_to (Some m) n h = le-leb n m h
 
 pub most_none : (gs : List GroupRule) → NoneTooMany gs none
 unfolding NoneTooMany count

@@ -8,29 +8,29 @@ use Rattle.std.proofs.Math.Seq.{take-add}
 use Rattle.tag_bits.specs.Digits.{digits, digits_of_bytes}
 use Rattle.llrp_schema.specs.declared.kinds.ParamKind.{ParamKind}
 use Rattle.llrp_schema.specs.declared.kinds.Kind.{Kind}
-use Rattle.llrp_schema.specs.declared.kinds.Kind.TheVariants.{Parameter}
+use Rattle.llrp_schema.specs.declared.kinds.Kind.TheVariants.{Message, Parameter}
 use Rattle.llrp_schema.specs.declared.kinds.Tail.{Tail}
 use Rattle.llrp_schema.specs.declared.kinds.Tail.TheVariants.{Absent, Words, Text, Bits, Data}
 use Rattle.llrp_schema.specs.Schema.{FieldRule, GroupRule, fields_of, bits_of, tail_of, groups_of, number_of, is_tv}
-use Rattle.llrp_schema.proofs.TableLaws.{tlv_found_in, tv_found_in, tv_groups, tv_tail, few_bits, message_tail, whole_octets}
+use Rattle.llrp_schema.proofs.TableLaws.{tlv_found_in, tv_found_in, tv_groups, tv_tail, few_bits, whole_octets}
 use Rattle.llrp_tree.specs.declared.TheConstants.{MAX_DEPTH, MAX_OCTETS}
 use Rattle.llrp_tree.specs.Tree.{Forest, none, and}
 use Rattle.llrp_tree.specs.Lawful.{levels, octets, head_octets, body_octets, count_octets, first, IsTail, has_place, ArePlaced, NoneTooMany, AreLawful}
-use Rattle.llrp_tree.specs.Spelling.{Head, message, tlv, tv, head_digits, head_of, count_digits, field_digits, tail_digits, body_digits, spell}
-use Rattle.llrp_tree.specs.OpenTree.{profile, Begun, kind_of, leading_digits, part, covers, Rest, has_tail, tail_due, due, in_range, AreLeading, plain_values, IsReadTail, is_enough, MayBegin, IsTlvHead, IsTvHead, IsHead, IsOpenTree}
+use Rattle.llrp_tree.specs.Spelling.{Head, message, tlv, tv, head_digits, head_of, count_digits, field_digits, tail_digits, body_digits, forest_digits}
+use Rattle.llrp_tree.specs.OpenTree.{profile, Begun, kind_of_head, leading_digits, part, covers, Rest, has_tail, tail_due, due, in_range, AreLeading, plain_values, IsReadTail, is_enough, MayBegin, IsHeader, IsTlvHead, IsTvHead, IsHead, IsOpenTree}
 use Rattle.llrp_tree.specs.FirstFault.{number, tail_length, tail_at, tail_end, tv_kind, tlv_kind, tlv_octets, first_digit}
-use Rattle.llrp_tree.specs.Calls.Standing.{end_of, Stands, begun, leading}
+use Rattle.llrp_tree.specs.Calls.Standing.{end_of, IsAt, begin_node, leading}
 use Rattle.llrp_tree.proofs.Steps.{begin, with_child}
 use Rattle.llrp_tree.proofs.Leading.{more_leading, plain_in_range, length-fields}
 use Rattle.llrp_tree.proofs.ReadDigits.{covers_more, length_covered, digits_at, value_at, digits_take, length-octets_at, are_octets_at, octets_spelled}
 use Rattle.llrp_tree.proofs.GroupLemmas.{most_none, most_after, enough_from}
-use Rattle.llrp_tree.proofs.LengthLemmas.{length-tlv, length-body_digits, length-spell}
+use Rattle.llrp_tree.proofs.LengthLemmas.{length-tlv, length-message_head, length-body_digits, length-spell}
 use Rattle.llrp_tree.proofs.WholeNodes.{closed_digits, no_field_due, whole_tail, data_childless}
 use Rattle.llrp_tree.proofs.LastPart.{field_covered, tail_covered, closed_covered, size}
 use Rattle.llrp_tree.proofs.Openings.{begun_covered}
 
 pub same_end : (h : Head) (stop : ℕ) (vs ws : List ℕ) (tl tm : Option (List ℕ)) (cs ds : Forest) (outer : List Begun)
-    → end_of (begun h stop vs tl cs ∷ outer) ≡ end_of (begun h stop ws tm ds ∷ outer)
+    → end_of (begin_node h stop vs tl cs ∷ outer) ≡ end_of (begin_node h stop ws tm ds ∷ outer)
 unfolding end_of
 same_end h stop vs ws tl tm cs ds [] = refl
 same_end h stop vs ws tl tm cs ds (p ∷ outer) = refl
@@ -49,16 +49,16 @@ stops_within b (p ∷ outer) s = let a = stops_within p outer s.1 in let i = inn
 -- ---- a field
 
 module _ (h : Head) (stop : ℕ) (vs : List ℕ) (outer : List Begun) (ds : List Bool) (at : ℕ) where
-  pub grow_field : (r : FieldRule) (after : List FieldRule) → Stands ds (leading h stop vs ∷ outer) at → drop (length vs) (fields_of (kind_of h)) ≡ r ∷ after
+  pub grow_field : (r : FieldRule) (after : List FieldRule) → IsAt ds (leading h stop vs ∷ outer) at → drop (length vs) (fields_of (kind_of_head h)) ≡ r ∷ after
       → at + r.width ≤ stop → in_range r (number (drop at ds) 0 r.width) ≡ true
-      → Stands ds (leading h stop (vs ++ number (drop at ds) 0 r.width ∷ []) ∷ outer) (at + r.width)
+      → IsAt ds (leading h stop (vs ++ number (drop at ds) 0 r.width ∷ []) ∷ outer) (at + r.width)
   unfolding IsOpenTree
   grow_field r after st e le fit =
       let s = st.is_open.0 in
       let w : ℕ = r.width in
       let v : ℕ = number (drop at ds) 0 w in
       let within : at + w ≤ length ds = (let a = stops_within (leading h stop vs) outer st.is_open in omega (arith, st.ends)) in
-      let m = more_leading (fields_of (kind_of h)) vs r after v e s.fields (value_at at w ds within) fit in
+      let m = more_leading (fields_of (kind_of_head h)) vs r after v e s.fields (value_at at w ds within) fit in
       let covered : covers (leading h stop (vs ++ v ∷ []) ∷ outer) ≡ take (at + w) ds = covers_more (covers (leading h stop vs ∷ outer)) (covers (leading h stop (vs ++ v ∷ []) ∷ outer)) (digits w v) at w ds st.covered (field_covered h stop vs v outer [] w m.1) (digits_at at w ds within) in
       let long = length_covered (covers (leading h stop (vs ++ v ∷ []) ∷ outer)) (at + w) ds covered within in
       record {
@@ -98,20 +98,26 @@ tail_spelled form fields room xs le =
     ∙ ap (λ (x : List Bool). take c xs ++ x) (octets_spelled n (drop c xs) (omega (arith, length-drop c xs)))
     ∙ sym (take-add c (8 * n) xs) ∙ ap (λ (k : ℕ). take k xs) (sym total)
 
-length-leading : (kind : Kind) (vs : List ℕ) → length vs ≡ length (fields_of kind) → length (leading_digits kind vs None ++ spell none) ≡ bits_of (fields_of kind)
-unfolding leading_digits spell
+length-leading : (kind : Kind) (vs : List ℕ) → length vs ≡ length (fields_of kind) → length (leading_digits kind vs None ++ forest_digits none) ≡ bits_of (fields_of kind)
+unfolding leading_digits forest_digits
 length-leading kind vs all =
     let digits_are : List Bool = field_digits (fields_of kind) vs in
     ap (λ (x : List Bool). length x) (append-nil (digits_are ++ []) ∙ append-nil digits_are) ∙ length-fields (fields_of kind) vs all
 
 -- whole octets are left for data
-data_room : (h : Head) (stop : ℕ) (vs : List ℕ) (outer : List Begun) → IsOpenTree (leading h stop vs ∷ outer) → length vs ≡ length (fields_of (kind_of h)) → tail_of (kind_of h) ≡ Data
+data_room : (h : Head) (stop : ℕ) (vs : List ℕ) (outer : List Begun) → IsOpenTree (leading h stop vs ∷ outer) → length vs ≡ length (fields_of (kind_of_head h)) → tail_of (kind_of_head h) ≡ Data
     → (n : ℕ) × (stop ≡ length (covers (leading h stop vs ∷ outer)) + 8 * n)
 unfolding IsOpenTree covers part
-data_room (message v k n id) stop vs outer s all e = absurd (let z : Absent ≡ Data = sym (message_tail k) ∙ e in cc)
+data_room (message v k n id) stop vs [] s all e =
+    let body : List Bool = leading_digits (Message k) vs None ++ forest_digits none in
+    let both = length-append (head_digits (message v k n id)) body in
+    let bits = length-leading (Message k) vs all in
+    let f : IsHeader v n id stop = s.0.head in
+    (n - 10 - bits_of (fields_of (Message k)) / 8, omega (arith, both, bits, length-message_head v k n id, whole_octets (Message k), f.stops, s.0.inside))
+data_room (message v k n id) stop vs (p ∷ outer) s all e = absurd s.0.head
 data_room (tlv k n) stop vs [] s all e = absurd s.0.head
 data_room (tlv k n) stop vs (p ∷ outer) s all e =
-    let body : List Bool = leading_digits (Parameter k) vs None ++ spell none in
+    let body : List Bool = leading_digits (Parameter k) vs None ++ forest_digits none in
     let grown = length-append (covers (p ∷ outer)) (head_digits (tlv k n) ++ body) in
     let both = length-append (head_digits (tlv k n)) body in
     let bits = length-leading (Parameter k) vs all in
@@ -122,19 +128,19 @@ data_room (tv k) stop vs (p ∷ outer) s all e = absurd (let f : IsTvHead k stop
 
 module _ (h : Head) (stop : ℕ) (vs : List ℕ) (outer : List Begun) (ds : List Bool) (at : ℕ) where
   abbrev pub tailed : Option (List ℕ) → Begun
-  tailed t = begun h stop vs t none
+  tailed t = begin_node h stop vs t none
 
   abbrev plain : List ℕ
-  plain = plain_values (fields_of (kind_of h)) vs
+  plain = plain_values (fields_of (kind_of_head h)) vs
 
-  pub grow_tail : Stands ds (tailed None ∷ outer) at → length vs ≡ length (fields_of (kind_of h)) → has_tail (tail_of (kind_of h)) ≡ true
-      → tail_end (tail_of (kind_of h)) (plain_values (fields_of (kind_of h)) vs) at stop (drop at ds) ≤ stop
-      → (tail_of (kind_of h) ≡ Text → is_utf8 (tail_at (tail_of (kind_of h)) (plain_values (fields_of (kind_of h)) vs) (stop - at) (drop at ds)) ≡ true)
-      → Stands ds (tailed (Some (tail_at (tail_of (kind_of h)) (plain_values (fields_of (kind_of h)) vs) (stop - at) (drop at ds))) ∷ outer) (tail_end (tail_of (kind_of h)) (plain_values (fields_of (kind_of h)) vs) at stop (drop at ds))
+  pub grow_tail : IsAt ds (tailed None ∷ outer) at → length vs ≡ length (fields_of (kind_of_head h)) → has_tail (tail_of (kind_of_head h)) ≡ true
+      → tail_end (tail_of (kind_of_head h)) (plain_values (fields_of (kind_of_head h)) vs) at stop (drop at ds) ≤ stop
+      → (tail_of (kind_of_head h) ≡ Text → is_utf8 (tail_at (tail_of (kind_of_head h)) (plain_values (fields_of (kind_of_head h)) vs) (stop - at) (drop at ds)) ≡ true)
+      → IsAt ds (tailed (Some (tail_at (tail_of (kind_of_head h)) (plain_values (fields_of (kind_of_head h)) vs) (stop - at) (drop at ds))) ∷ outer) (tail_end (tail_of (kind_of_head h)) (plain_values (fields_of (kind_of_head h)) vs) at stop (drop at ds))
   unfolding IsOpenTree
   grow_tail st all has le text =
       let s = st.is_open.0 in
-      let f : Tail = tail_of (kind_of h) in
+      let f : Tail = tail_of (kind_of_head h) in
       let rest : List Bool = drop at ds in
       let n : ℕ = tail_length f plain (stop - at) rest in
       let w : ℕ = 8 * (count_octets f + n) in
@@ -184,13 +190,13 @@ tv_is_next k (d ∷ xs) le e type =
     rw (a, b) refl
 
 module _ (p : Begun) (outer : List Begun) (ds : List Bool) (at : ℕ) where
-  begun_open : (hb : Head) (stop_b : ℕ) → Stands ds (p ∷ outer) at → IsHead hb stop_b (p ∷ outer) → length (p ∷ outer) ≤ MAX_DEPTH → length (covers (begin hb stop_b ∷ p ∷ outer)) ≤ stop_b → IsOpenTree (begin hb stop_b ∷ p ∷ outer)
+  begun_open : (hb : Head) (stop_b : ℕ) → IsAt ds (p ∷ outer) at → IsHead hb stop_b (p ∷ outer) → length (p ∷ outer) ≤ MAX_DEPTH → length (covers (begin hb stop_b ∷ p ∷ outer)) ≤ stop_b → IsOpenTree (begin hb stop_b ∷ p ∷ outer)
   unfolding IsOpenTree ArePlaced
-  begun_open hb stop_b st f deep inside = (record { head = f; fields = tt; tail = tt; filled = λ e. inl refl; tail_after = inl refl; children_after = inl refl; lawful = tt; placed = tt; most = most_none (groups_of (kind_of hb)); deep = omega (arith, deep); inside = inside }, st.is_open)
+  begun_open hb stop_b st f deep inside = (record { head = f; fields = tt; tail = tt; filled = λ e. inl refl; tail_after = inl refl; children_after = inl refl; lawful = tt; placed = tt; most = most_none (groups_of (kind_of_head hb)); deep = omega (arith, deep); inside = inside }, st.is_open)
 
-  pub grow_tlv : (k : ParamKind) → Stands ds (p ∷ outer) at → at + 32 ≤ p.stop → number (drop at ds) 0 6 ≡ 0 → tlv_kind (profile p) (drop at ds) ≡ Some k → MayBegin p k → length (p ∷ outer) ≤ MAX_DEPTH
+  pub grow_tlv : (k : ParamKind) → IsAt ds (p ∷ outer) at → at + 32 ≤ p.stop → number (drop at ds) 0 6 ≡ 0 → tlv_kind (profile p) (drop at ds) ≡ Some k → MayBegin p k → length (p ∷ outer) ≤ MAX_DEPTH
       → 4 ≤ tlv_octets (drop at ds) → at + 8 * tlv_octets (drop at ds) ≤ p.stop
-      → Stands ds (begin (tlv k (tlv_octets (drop at ds))) (at + 8 * tlv_octets (drop at ds)) ∷ p ∷ outer) (at + 32)
+      → IsAt ds (begin (tlv k (tlv_octets (drop at ds))) (at + 8 * tlv_octets (drop at ds)) ∷ p ∷ outer) (at + 32)
   unfolding end_of
   grow_tlv k st room zeros found o deep four fit =
       let rest : List Bool = drop at ds in
@@ -212,8 +218,8 @@ module _ (p : Begun) (outer : List Begun) (ds : List Bool) (at : ℕ) where
         ends = st.ends;
       }
 
-  pub grow_tv : (k : ParamKind) → Stands ds (p ∷ outer) at → at + 8 ≤ p.stop → first_digit (drop at ds) ≡ true → tv_kind (profile p) (drop at ds) ≡ Some k → MayBegin p k → length (p ∷ outer) ≤ MAX_DEPTH
-      → Stands ds (begin (tv k) p.stop ∷ p ∷ outer) (at + 8)
+  pub grow_tv : (k : ParamKind) → IsAt ds (p ∷ outer) at → at + 8 ≤ p.stop → first_digit (drop at ds) ≡ true → tv_kind (profile p) (drop at ds) ≡ Some k → MayBegin p k → length (p ∷ outer) ≤ MAX_DEPTH
+      → IsAt ds (begin (tv k) p.stop ∷ p ∷ outer) (at + 8)
   unfolding end_of
   grow_tv k st room one found o deep =
       let rest : List Bool = drop at ds in
@@ -268,22 +274,22 @@ tv_short k fields tail cs f t p =
 
 module _ (h : Head) (stop : ℕ) (fs : List ℕ) (tl : Option (List ℕ)) (before : Forest) (vs : List ℕ) (tail : Option (List ℕ)) (cs : Forest) (outer : List Begun) (ds : List Bool) (at : ℕ) where
   abbrev pub over : Forest → Begun
-  over ns = begun h stop fs tl ns
+  over ns = begin_node h stop fs tl ns
 
   abbrev pub under : Head → ℕ → Begun
-  under hb stop_b = begun hb stop_b vs tail cs
+  under hb stop_b = begin_node hb stop_b vs tail cs
 
   pub same_due : (ns ms : Forest) → due (over ns) ≡ Rest → due (over ms) ≡ Rest
   unfolding due
   same_due ns ms e = e
 
-  pub all_read : (hb : Head) (stop_b : ℕ) → due (under hb stop_b) ≡ Rest → (drop (length vs) (fields_of (kind_of hb)) ≡ []) × (tail_due (tail_of (kind_of hb)) tail ≡ Rest)
+  pub all_read : (hb : Head) (stop_b : ℕ) → due (under hb stop_b) ≡ Rest → (drop (length vs) (fields_of (kind_of_head hb)) ≡ []) × (tail_due (tail_of (kind_of_head hb)) tail ≡ Rest)
   unfolding due
-  all_read hb stop_b d = no_field_due (drop (length vs) (fields_of (kind_of hb))) _ d
+  all_read hb stop_b d = no_field_due (drop (length vs) (fields_of (kind_of_head hb))) _ d
 
-  closed_stands : (hb : Head) (stop_b : ℕ) (k : ParamKind) → Stands ds (under hb stop_b ∷ over before ∷ outer) at
+  closed_stands : (hb : Head) (stop_b : ℕ) (k : ParamKind) → IsAt ds (under hb stop_b ∷ over before ∷ outer) at
       → covers (under hb stop_b ∷ over before ∷ outer) ≡ covers (over (with_child before k vs tail cs) ∷ outer)
-      → AreLawful k (plain_values (fields_of (Parameter k)) vs) (unwrap_or tail []) cs → MayBegin (over before) k → at ≤ stop → Stands ds (over (with_child before k vs tail cs) ∷ outer) at
+      → AreLawful k (plain_values (fields_of (Parameter k)) vs) (unwrap_or tail []) cs → MayBegin (over before) k → at ≤ stop → IsAt ds (over (with_child before k vs tail cs) ∷ outer) at
   unfolding IsOpenTree ArePlaced end_of
   closed_stands hb stop_b k st c w o le =
       let s = st.is_open.0 in
@@ -291,14 +297,14 @@ module _ (h : Head) (stop : ℕ) (fs : List ℕ) (tl : Option (List ℕ)) (befor
       let covered : covers (over (with_child before k vs tail cs) ∷ outer) ≡ take at ds = sym c ∙ st.covered in
       let long = length_covered (covers (over (with_child before k vs tail cs) ∷ outer)) at ds covered st.within in
       record {
-        is_open = (record { head = p.head; fields = p.fields; tail = p.tail; filled = λ e. absurd (data_childless (kind_of h) k e o.has); tail_after = p.tail_after; children_after = inr (same_due before (with_child before k vs tail cs) o.ready); lawful = (p.lawful, w, s.lawful); placed = (p.placed, o.has); most = most_after (groups_of (kind_of h)) before k (plain_values (fields_of (Parameter k)) vs) (unwrap_or tail []) cs p.most o.more; deep = omega (arith, p.deep, s.deep); inside = omega arith }, st.is_open.1.1);
+        is_open = (record { head = p.head; fields = p.fields; tail = p.tail; filled = λ e. absurd (data_childless (kind_of_head h) k e o.has); tail_after = p.tail_after; children_after = inr (same_due before (with_child before k vs tail cs) o.ready); lawful = (p.lawful, w, s.lawful); placed = (p.placed, o.has); most = most_after (groups_of (kind_of_head h)) before k (plain_values (fields_of (Parameter k)) vs) (unwrap_or tail []) cs p.most o.more; deep = omega (arith, p.deep, s.deep); inside = omega arith }, st.is_open.1.1);
         covered = covered;
         within = st.within;
         ends = same_end h stop fs fs tl tl (with_child before k vs tail cs) before outer ∙ st.ends;
       }
 
-  pub close_tlv : (k : ParamKind) (n stop_b : ℕ) → Stands ds (under (tlv k n) stop_b ∷ over before ∷ outer) at → due (under (tlv k n) stop_b) ≡ Rest → at ≡ stop_b → is_enough (groups_of (Parameter k)) cs ≡ true
-      → Stands ds (over (with_child before k vs tail cs) ∷ outer) at
+  pub close_tlv : (k : ParamKind) (n stop_b : ℕ) → IsAt ds (under (tlv k n) stop_b ∷ over before ∷ outer) at → due (under (tlv k n) stop_b) ≡ Rest → at ≡ stop_b → is_enough (groups_of (Parameter k)) cs ≡ true
+      → IsAt ds (over (with_child before k vs tail cs) ∷ outer) at
   unfolding IsOpenTree covers part
   close_tlv k n stop_b st d e enough =
       let s = st.is_open.0 in
@@ -306,8 +312,8 @@ module _ (h : Head) (stop : ℕ) (fs : List ℕ) (tl : Option (List ℕ)) (befor
       let r = all_read (tlv k n) stop_b d in
       let os : List ℕ = unwrap_or tail [] in
       let own = closed_digits (Parameter k) vs tail s.fields r.0 r.1 in
-      let body : List Bool = leading_digits (Parameter k) vs tail ++ spell cs in
-      let body_long : length body ≡ 8 * (body_octets (Parameter k) os + octets cs) = ap (λ (x : List Bool). length (x ++ spell cs)) own ∙ (let a = length-append (body_digits (Parameter k) (plain_values (fields_of (Parameter k)) vs) os) (spell cs) in let b = length-body_digits (Parameter k) (plain_values (fields_of (Parameter k)) vs) os in let c = length-spell cs in omega arith) in
+      let body : List Bool = leading_digits (Parameter k) vs tail ++ forest_digits cs in
+      let body_long : length body ≡ 8 * (body_octets (Parameter k) os + octets cs) = ap (λ (x : List Bool). length (x ++ forest_digits cs)) own ∙ (let a = length-append (body_digits (Parameter k) (plain_values (fields_of (Parameter k)) vs) os) (forest_digits cs) in let b = length-body_digits (Parameter k) (plain_values (fields_of (Parameter k)) vs) os in let c = length-spell cs in omega arith) in
       let grown = length-append (covers (over before ∷ outer)) (head_digits (tlv k n) ++ body) in
       let both = length-append (head_digits (tlv k n)) body in
       let was : length (covers (under (tlv k n) stop_b ∷ over before ∷ outer)) ≡ at = length_covered (covers (under (tlv k n) stop_b ∷ over before ∷ outer)) at ds st.covered st.within in
@@ -319,8 +325,8 @@ module _ (h : Head) (stop : ℕ) (fs : List ℕ) (tl : Option (List ℕ)) (befor
       (lawful_child k vs tail cs s.fields s.tail s.placed s.most r.0 r.1 enough (omega (arith, s.deep)) (omega (arith, f.most, is_size)))
       f.may_begin (omega (arith, f.within))
 
-  pub close_tv : (k : ParamKind) (stop_b : ℕ) → Stands ds (under (tv k) stop_b ∷ over before ∷ outer) at → due (under (tv k) stop_b) ≡ Rest → is_enough (groups_of (Parameter k)) cs ≡ true
-      → Stands ds (over (with_child before k vs tail cs) ∷ outer) at
+  pub close_tv : (k : ParamKind) (stop_b : ℕ) → IsAt ds (under (tv k) stop_b ∷ over before ∷ outer) at → due (under (tv k) stop_b) ≡ Rest → is_enough (groups_of (Parameter k)) cs ≡ true
+      → IsAt ds (over (with_child before k vs tail cs) ∷ outer) at
   unfolding IsOpenTree
   close_tv k stop_b st d enough =
       let s = st.is_open.0 in

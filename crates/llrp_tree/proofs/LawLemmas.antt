@@ -100,11 +100,11 @@ placed_to gs none h = refl
 placed_to gs (and before k vs tail cs) h =
     list_all-append (λ t. has_place gs t.kind) (trees before) (record { kind = k; fields = vs; tail = tail; children = cs } ∷ []) ∙ both_true _ _ (placed_to gs before h.0) (both_true (has_place gs k) true h.1 refl)
 
-most_from : (m : Option ℕ) (n : ℕ) → at_most m n ≡ true → IsAtMost n m
+pub most_from : (m : Option ℕ) (n : ℕ) → at_most m n ≡ true → IsAtMost n m
 most_from None n e = tt
 most_from (Some m) n e = leb-true n m e
 
-most_to : (m : Option ℕ) (n : ℕ) → IsAtMost n m → at_most m n ≡ true
+pub most_to : (m : Option ℕ) (n : ℕ) → IsAtMost n m → at_most m n ≡ true
 most_to None n h = refl
 most_to (Some m) n h = le-leb n m h
 
@@ -166,43 +166,44 @@ unfolding first_fault
 lawful_to kind values tail f h =
     none_fails _ (all_pass_both (table_tests (Parameter kind) true values tail (trees f)) _ (obeys_to (Parameter kind) true values tail f refl h.obeys) (le-leb _ _ h.deep, (le-leb _ _ h.long, tt)))
 
-version_test : (version : Bool) (kind : MsgKind) (values : List ℕ) (f : Forest) → AllPass (table_tests (Message kind) version values [] (trees f)) → version ≡ true
+version_test : (version : Bool) (kind : MsgKind) (values tail : List ℕ) (f : Forest) → AllPass (table_tests (Message kind) version values tail (trees f)) → version ≡ true
 unfolding table_tests
-version_test version kind values f p = (both version (values_fit (fields_of (Message kind)) values) p.1.0).0
+version_test version kind values tail f p = (both version (values_fit (fields_of (Message kind)) values) p.1.0).0
 
-version_from : (v : ℕ) → ((v == 1) || (v == 2)) ≡ true → (v ≡ 1) ⊎ (v ≡ 2)
+pub version_from : (v : ℕ) → ((v == 1) || (v == 2)) ≡ true → (v ≡ 1) ⊎ (v ≡ 2)
 version_from v e =
     (elim (v == 1) as (λ b. (v == 1) ≡ b → (b || (v == 2)) ≡ true → (v ≡ 1) ⊎ (v ≡ 2)) [ true ↦ λ h g. inl (eqb-true v 1 h) | false ↦ λ h g. inr (eqb-true v 2 g) ]) refl e
 
-version_to : (v : ℕ) → (v ≡ 1) ⊎ (v ≡ 2) → ((v == 1) || (v == 2)) ≡ true
+pub version_to : (v : ℕ) → (v ≡ 1) ⊎ (v ≡ 2) → ((v == 1) || (v == 2)) ≡ true
 version_to v (inl e) = rw e refl
 version_to v (inr e) = rw e refl
 
-pub message_from : (v id : ℕ) (kind : MsgKind) (values : List ℕ) (f : Forest) → id < 2 ^ 32 → AllLawful f → first_message_fault v kind values f ≡ None
-    → IsLawfulMessage (record { version = v; id = id; kind = kind; fields = values; children = f })
+pub message_from : (v id : ℕ) (kind : MsgKind) (values tail : List ℕ) (f : Forest) → id < 2 ^ 32 → AreOctets tail → AllLawful f → first_message_fault v kind values tail f ≡ None
+    → IsLawfulMessage (record { version = v; id = id; kind = kind; fields = values; tail = tail; children = f })
 unfolding first_message_fault
-message_from v id kind values f small cs e =
-    let p = all_pass_append (table_tests (Message kind) ((v == 1) || (v == 2)) values [] (trees f)) _ (all_pass _ e) in
-    record { version = version_from v (version_test ((v == 1) || (v == 2)) kind values f p.0); id = small; obeys = obeys_from (Message kind) ((v == 1) || (v == 2)) values [] f tt p.0; children = cs; long = leb-true _ _ p.1.0 }
+message_from v id kind values tail f small os cs e =
+    let p = all_pass_append (table_tests (Message kind) ((v == 1) || (v == 2)) values tail (trees f)) _ (all_pass _ e) in
+    record { version = version_from v (version_test ((v == 1) || (v == 2)) kind values tail f p.0); id = small; obeys = obeys_from (Message kind) ((v == 1) || (v == 2)) values tail f os p.0; children = cs; long = leb-true _ _ p.1.0 }
 
-pub message_to : (m : MessageTree) → IsLawfulMessage m → first_message_fault m.version m.kind m.fields m.children ≡ None
+pub message_to : (m : MessageTree) → IsLawfulMessage m → first_message_fault m.version m.kind m.fields m.tail m.children ≡ None
 unfolding first_message_fault
 message_to m h =
-    none_fails _ (all_pass_both (table_tests (Message m.kind) ((m.version == 1) || (m.version == 2)) m.fields [] (trees m.children)) _ (obeys_to (Message m.kind) ((m.version == 1) || (m.version == 2)) m.fields [] m.children (version_to m.version h.version) h.obeys) (le-leb _ _ h.long, tt))
+    none_fails _ (all_pass_both (table_tests (Message m.kind) ((m.version == 1) || (m.version == 2)) m.fields m.tail (trees m.children)) _ (obeys_to (Message m.kind) ((m.version == 1) || (m.version == 2)) m.fields m.tail m.children (version_to m.version h.version) h.obeys) (le-leb _ _ h.long, tt))
 
 -- the same, as `Node::new` has it
 pub lawful_parts : (kind : ParamKind) (values tail : List ℕ) (f : Forest) (lent : List ℕ) (row : Forest) → lent ≡ tail → row ≡ f → AreOctets lent → None ≡ first_fault kind values lent row → AreLawful kind values tail f
 lawful_parts kind values tail f lent row same same_row os e =
     subst (λ (x : List ℕ). AreLawful kind values x f) same (subst (λ (x : Forest). AreLawful kind values lent x) same_row (lawful_from kind values lent row os (sym e)))
 
--- the same, as `Message::new` has it
-pub message_parts : (v id : ℕ) (kind : MsgKind) (values : List ℕ) (f row : Forest) → row ≡ f → id < 2 ^ 32 → AllLawful row → None ≡ first_message_fault v kind values row
-    → IsLawfulMessage (record { version = v; id = id; kind = kind; fields = values; children = f })
-message_parts v id kind values f row same small cs e =
-    subst (λ (x : Forest). IsLawfulMessage (record { version = v; id = id; kind = kind; fields = values; children = x })) same (message_from v id kind values row small cs (sym e))
+-- the same, as `Message::checked` has it
+pub message_parts : (v id : ℕ) (kind : MsgKind) (values tail : List ℕ) (f : Forest) (lent : List ℕ) (row : Forest) → lent ≡ tail → row ≡ f → id < 2 ^ 32 → AreOctets lent → AllLawful row → None ≡ first_message_fault v kind values lent row
+    → IsLawfulMessage (record { version = v; id = id; kind = kind; fields = values; tail = tail; children = f })
+message_parts v id kind values tail f lent row same_tail same small os cs e =
+    subst (λ (x : List ℕ). IsLawfulMessage (record { version = v; id = id; kind = kind; fields = values; tail = x; children = f })) same_tail
+    (subst (λ (x : Forest). IsLawfulMessage (record { version = v; id = id; kind = kind; fields = values; tail = lent; children = x })) same (message_from v id kind values lent row small os cs (sym e)))
 
 pub lawful_exactly : (kind : ParamKind) (values tail : List ℕ) (f : Forest) → AreOctets tail → AreLawful kind values tail f ↔ (first_fault kind values tail f ≡ None)
 lawful_exactly kind values tail f os = (lawful_to kind values tail f, lawful_from kind values tail f os)
 
-pub message_exactly : (m : MessageTree) → m.id < 2 ^ 32 → AllLawful m.children → IsLawfulMessage m ↔ (first_message_fault m.version m.kind m.fields m.children ≡ None)
-message_exactly m small cs = (message_to m, message_from m.version m.id m.kind m.fields m.children small cs)
+pub message_exactly : (m : MessageTree) → m.id < 2 ^ 32 → AreOctets m.tail → AllLawful m.children → IsLawfulMessage m ↔ (first_message_fault m.version m.kind m.fields m.tail m.children ≡ None)
+message_exactly m small os cs = (message_to m, message_from m.version m.id m.kind m.fields m.tail m.children small os cs)

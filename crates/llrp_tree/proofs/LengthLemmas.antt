@@ -16,7 +16,7 @@ use Rattle.llrp_schema.proofs.TableLaws.{whole_octets}
 use Rattle.llrp_tree.specs.Tree.{Forest, none, and, Tree, MessageTree}
 use Rattle.llrp_tree.specs.Lawful.{head_octets, count_octets, body_octets, octets, tree_octets, message_octets, first, others}
 use Rattle.llrp_tree.specs.Frame.{Frame}
-use Rattle.llrp_tree.specs.Spelling.{message, tlv, tv, head_of, head_digits, spread, field_digits, tail_digits, body_digits, spell, message_digits}
+use Rattle.llrp_tree.specs.Spelling.{message, tlv, tv, head_of, head_digits, spread, field_digits, tail_digits, body_digits, forest_digits, message_digits}
 use Rattle.llrp_tree.specs.Calls.Spelling.{tree_digits}
 
 length-step : (r : FieldRule) (rules : List FieldRule) (v : ℕ) (ds : List Bool) → length ds ≡ bits_of rules → length (digits r.width v ++ ds) ≡ bits_of (r ∷ rules)
@@ -70,21 +70,21 @@ length-message_head v kind n id =
 whole : (head body children : List Bool) (h b c : ℕ) → length head ≡ 8 * h → length body ≡ 8 * b → length children ≡ 8 * c → length (head ++ (body ++ children)) ≡ 8 * (h + b + c)
 whole head body children h b c e f g = length-append head (body ++ children) ∙ omega (arith, length-append body children)
 
-pub length-spell : (f : Forest) → length (spell f) ≡ 8 * octets f
-unfolding spell
+pub length-spell : (f : Forest) → length (forest_digits f) ≡ 8 * octets f
+unfolding forest_digits
 length-spell none = refl
 length-spell (and before kind fields tail children) =
     let n : ℕ = head_octets kind + body_octets (Parameter kind) tail + octets children in
-    let own = whole (head_digits (head_of kind n)) (body_digits (Parameter kind) fields tail) (spell children) (head_octets kind) (body_octets (Parameter kind) tail) (octets children) (length-head kind n) (length-body_digits (Parameter kind) fields tail) (length-spell children) in
-    length-append (spell before) (head_digits (head_of kind n) ++ (body_digits (Parameter kind) fields tail ++ spell children)) ∙ omega (arith, own, length-spell before)
+    let own = whole (head_digits (head_of kind n)) (body_digits (Parameter kind) fields tail) (forest_digits children) (head_octets kind) (body_octets (Parameter kind) tail) (octets children) (length-head kind n) (length-body_digits (Parameter kind) fields tail) (length-spell children) in
+    length-append (forest_digits before) (head_digits (head_of kind n) ++ (body_digits (Parameter kind) fields tail ++ forest_digits children)) ∙ omega (arith, own, length-spell before)
 
 pub tree_length : (t : Tree) → length (tree_digits t) ≡ 8 * tree_octets t
 tree_length t =
-    whole (head_digits (head_of t.kind (tree_octets t))) (body_digits (Parameter t.kind) t.fields t.tail) (spell t.children) (head_octets t.kind) (body_octets (Parameter t.kind) t.tail) (octets t.children) (length-head t.kind (tree_octets t)) (length-body_digits (Parameter t.kind) t.fields t.tail) (length-spell t.children)
+    whole (head_digits (head_of t.kind (tree_octets t))) (body_digits (Parameter t.kind) t.fields t.tail) (forest_digits t.children) (head_octets t.kind) (body_octets (Parameter t.kind) t.tail) (octets t.children) (length-head t.kind (tree_octets t)) (length-body_digits (Parameter t.kind) t.fields t.tail) (length-spell t.children)
 
 pub length-message_digits : (m : MessageTree) → length (message_digits m) ≡ 8 * message_octets m
 length-message_digits m =
-    whole (head_digits (message m.version m.kind (message_octets m) m.id)) (body_digits (Message m.kind) m.fields []) (spell m.children) 10 (body_octets (Message m.kind) []) (octets m.children) (length-message_head m.version m.kind (message_octets m) m.id ∙ refl) (length-body_digits (Message m.kind) m.fields []) (length-spell m.children)
+    whole (head_digits (message m.version m.kind (message_octets m) m.id)) (body_digits (Message m.kind) m.fields m.tail) (forest_digits m.children) 10 (body_octets (Message m.kind) m.tail) (octets m.children) (length-message_head m.version m.kind (message_octets m) m.id ∙ refl) (length-body_digits (Message m.kind) m.fields m.tail) (length-spell m.children)
 
 -- octets that spell a message are as many as its length says
 pub spelled_length : (m : MessageTree) (bytes : List ℕ) → digits_of_bytes bytes ≡ message_digits m → length bytes ≡ message_octets m

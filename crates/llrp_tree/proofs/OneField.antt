@@ -7,9 +7,9 @@ use Rattle.llrp_schema.specs.Schema.{FieldRule, bits_of, fields_of, is_tv}
 use Rattle.llrp_schema.specs.Calls.Schema.{field_rule}
 use Rattle.llrp_schema.proofs.TableLaws.{tv_field, whole_octets}
 use Rattle.llrp_tree.specs.Spelling.{Head, spread}
-use Rattle.llrp_tree.specs.OpenTree.{Begun, kind_of, in_range}
+use Rattle.llrp_tree.specs.OpenTree.{Begun, kind_of_head, in_range}
 use Rattle.llrp_tree.specs.FirstFault.{number}
-use Rattle.llrp_tree.specs.Calls.Standing.{Stands, leading}
+use Rattle.llrp_tree.specs.Calls.Standing.{IsAt, leading}
 use Rattle.llrp_tree.proofs.Leading.{plain}
 use Rattle.llrp_tree.proofs.ReadingLemmas.{all_taken, plain-one, width_more, plain_grows}
 
@@ -42,9 +42,9 @@ module _ (fs : List Field) (kind : ParamKind) (d : Field) (short : is_tv kind �
       let one = width_more fs 0 d some_rule in
       omega (arith, all, one, whole_octets (Parameter kind))
 
-  pub value_stands : (ds : List Bool) (h : Head) (stop : ℕ) (outer : List Begun) (at v : ℕ) → kind_of h ≡ Parameter kind → Stands ds (leading h stop [] ∷ outer) at
+  pub value_stands : (ds : List Bool) (h : Head) (stop : ℕ) (outer : List Begun) (at v : ℕ) → kind_of_head h ≡ Parameter kind → IsAt ds (leading h stop [] ∷ outer) at
       → at + (get_or fs 0 d).width ≤ stop → v ≡ number (drop at ds) 0 (get_or fs 0 d).width → in_range (field_rule (get_or fs 0 d)) v ≡ true
-      → Stands ds (leading h stop (spread (fields_of (Parameter kind)) (v ∷ [])) ∷ outer) (at + (get_or fs 0 d).width)
+      → IsAt ds (leading h stop (spread (fields_of (Parameter kind)) (v ∷ [])) ∷ outer) (at + (get_or fs 0 d).width)
   value_stands ds h stop outer at v k st fit is ranges =
-      subst (λ (rules : List FieldRule). Stands ds (leading h stop (spread rules (v ∷ [])) ∷ outer) (at + (get_or fs 0 d).width)) all_are_taken
+      subst (λ (rules : List FieldRule). IsAt ds (leading h stop (spread rules (v ∷ [])) ∷ outer) (at + (get_or fs 0 d).width)) all_are_taken
       (plain_grows ds fs (Parameter kind) 0 d h stop [] outer at v same some_rule k st fit is ranges (v ∷ []) its.1 refl refl)

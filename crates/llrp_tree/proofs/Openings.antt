@@ -11,10 +11,10 @@ use Rattle.llrp_schema.proofs.TableLaws.{tlv_at_number, tv_at_number, tv_groups,
 use Rattle.llrp_schema.proofs.PlaceLemmas.{child_profile}
 use Rattle.llrp_tree.specs.declared.TheConstants.{MAX_DEPTH}
 use Rattle.llrp_tree.specs.Lawful.{has_place}
-use Rattle.llrp_tree.specs.Spelling.{Head, message, tlv, tv, head_digits, spell}
-use Rattle.llrp_tree.specs.OpenTree.{Begun, profile, kind_of, leading_digits, part, covers, MayBegin, IsTlvHead, IsTvHead, IsHead, IsOpenTree}
+use Rattle.llrp_tree.specs.Spelling.{Head, message, tlv, tv, head_digits, forest_digits}
+use Rattle.llrp_tree.specs.OpenTree.{Begun, profile, kind_of_head, leading_digits, part, covers, MayBegin, IsTlvHead, IsTvHead, IsHead, IsOpenTree}
 use Rattle.llrp_tree.specs.Calls.OpenTree.{parts}
-use Rattle.llrp_tree.specs.FirstFault.{number, tv_kind, tlv_kind, tlv_octets, first_digit, first_failing, checks, BeginTv, BeginTlv, turn, is_over, has_none}
+use Rattle.llrp_tree.specs.FirstFault.{number, tv_kind, tlv_kind, tlv_octets, first_digit, first_failing, checks, BeginTv, BeginTlv, next_part, has_ended, has_none}
 use Rattle.llrp_tree.proofs.ReadDigits.{number_own, number_behind, length-more}
 use Rattle.llrp_tree.proofs.LengthLemmas.{length-tv}
 use Rattle.llrp_tree.proofs.SpellingLemmas.{tv_number}
@@ -72,7 +72,7 @@ tv_has_none k stop [] h = absurd h
 tv_has_none k stop (p ∷ outer) h = tv_groups k h.kind_is_tv
 
 -- a node that has a group for a child isn't over before its stop
-pub not_over : (h : Head) (k : ParamKind) (stop at : ℕ) (outer : List Begun) → IsHead h stop outer → has_place (groups_of (kind_of h)) k ≡ true → at < stop → is_over h (nat_le stop at) ≡ false
+pub not_over : (h : Head) (k : ParamKind) (stop at : ℕ) (outer : List Begun) → IsHead h stop outer → has_place (groups_of (kind_of_head h)) k ≡ true → at < stop → has_ended h (nat_le stop at) ≡ false
 not_over (message v m n id) k stop at outer i e lt = lt-leb stop at lt
 not_over (tlv j n) k stop at outer i e lt = lt-leb stop at lt
 not_over (tv j) k stop at outer i e lt = absurd (let f = ap (λ (gs : List GroupRule). has_place gs k) (tv_has_none j stop outer i) in cc)
@@ -83,19 +83,19 @@ has_one k (g ∷ gs) e = refl
 
 -- a child that may begin in a node is looked for in the node's profile
 tlv_there : (p : Begun) (k : ParamKind) (n : ℕ) (ds : List Bool) → ReadsTlv k n ds → MayBegin p k → tlv_kind (profile p) ds ≡ Some k
-tlv_there p k n ds r o = ap (λ q. tlv_kind q ds) (sym (child_profile (kind_of p.head) k o.has)) ∙ r.type
+tlv_there p k n ds r o = ap (λ q. tlv_kind q ds) (sym (child_profile (kind_of_head p.head) k o.has)) ∙ r.type
 
 tv_there : (p : Begun) (k : ParamKind) (ds : List Bool) → ReadsTv k ds → MayBegin p k → tv_kind (profile p) ds ≡ Some k
-tv_there p k ds r o = ap (λ q. tv_kind q ds) (sym (child_profile (kind_of p.head) k o.has)) ∙ r.type
+tv_there p k ds r o = ap (λ q. tv_kind q ds) (sym (child_profile (kind_of_head p.head) k o.has)) ∙ r.type
 
 module _ (p : Begun) (outer : List Begun) (rest : List Bool) where
   pub begun_covered : (hb : Head) (stop_b : ℕ) → covers (begin hb stop_b ∷ p ∷ outer) ≡ covers (p ∷ outer) ++ head_digits hb
-  unfolding covers part leading_digits spell
+  unfolding covers part leading_digits forest_digits
   begun_covered hb stop_b = ap (λ (x : List Bool). covers (p ∷ outer) ++ x) (append-nil (head_digits hb))
 
-  opening_turn : (k : ParamKind) (at : ℕ) (ds : List Bool) (digit : Bool) → IsHead p.head p.stop outer → MayBegin p k → at < p.stop → first_digit ds ≡ digit → turn p at ds ≡ (if digit then BeginTv else BeginTlv)
-  unfolding turn
-  opening_turn k at ds digit i o lt e = rw (o.ready, not_over p.head k p.stop at outer i o.has lt, has_one k (groups_of (kind_of p.head)) o.has, e) refl
+  opening_turn : (k : ParamKind) (at : ℕ) (ds : List Bool) (digit : Bool) → IsHead p.head p.stop outer → MayBegin p k → at < p.stop → first_digit ds ≡ digit → next_part p at ds ≡ (if digit then BeginTv else BeginTlv)
+  unfolding next_part
+  opening_turn k at ds digit i o lt e = rw (o.ready, not_over p.head k p.stop at outer i o.has lt, has_one k (groups_of (kind_of_head p.head)) o.has, e) refl
 
   tlv_passes : (k : ParamKind) (n at : ℕ) (ds : List Bool) → ReadsTlv k n ds → MayBegin p k → 4 ≤ n → at + 8 * n ≤ p.stop → length (p ∷ outer) ≤ MAX_DEPTH
       → first_failing (checks BeginTlv (length (p ∷ outer)) p at ds) ≡ None

@@ -11,7 +11,8 @@ use Rattle.llrp_schema.specs.declared.kinds.Tail.{Tail}
 use Rattle.llrp_schema.specs.declared.kinds.Tail.TheVariants.{Absent, Words, Text, Bits, Data}
 use Rattle.llrp_schema.specs.Schema.{bits_of, fields_of, tail_of, profile_of, rule_of, message_rule, param_rule, message_kinds, whole_message_kinds, param_kinds, whole_param_kinds}
 use Rattle.llrp_schema.proofs.SchemaLemmas.{implied}
-use Rattle.llrp_schema.proofs.TableLaws.{every_message, every_parameter, message_tail}
+use Rattle.llrp_schema.proofs.TableLaws.{every_message, every_parameter}
+use Rattle.llrp_tree.proofs.MessageTails.{uncounted}
 use Rattle.llrp_tree.specs.Lawful.{head_octets, body_octets, count_octets}
 use Rattle.llrp_tree.specs.Calls.Lawful.{own_octets}
 use Rattle.llrp_tree.proofs.SpelledLemmas.{head_fits}
@@ -44,7 +45,7 @@ short_parameter kind own = (let head = head_fits kind (8 * head_octets kind) ref
 
 pub short_message : (kind : MsgKind) → profile_of (Message kind) ≡ Own → own_octets (Message kind) [] ≤ 16
 unfolding body_octets
-short_message kind own = (let uncounted = ap count_octets (message_tail kind) in omega (arith, few_message_bits_own kind own, uncounted))
+short_message kind own = (omega (arith, few_message_bits_own kind own, uncounted kind))
 
 -- and no data
 pub no_data : (kind : ParamKind) → profile_of (Parameter kind) ≡ Own → tail_of (Parameter kind) ≡ Data → ⊥

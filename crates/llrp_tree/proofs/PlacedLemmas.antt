@@ -17,7 +17,7 @@ elsewhere gs kind place p k d lt ne =
       | false ↦ λ e. refl
     ]) refl
 
-and_true : (b : Bool) → (b && true) ≡ b
+pub and_true : (b : Bool) → (b && true) ≡ b
 and_true true = refl
 and_true false = refl
 

@@ -20,14 +20,14 @@ use Rattle.llrp_schema.proofs.TableLaws.{field_widths, few_plain_fields}
 use Rattle.llrp_tree.specs.declared.fault.FrameErr.{FrameErr}
 use Rattle.llrp_tree.specs.declared.fault.FrameErr.TheVariants.{Memory, Bad}
 use Rattle.llrp_tree.specs.Tree.{none, Tree, forest}
-use Rattle.llrp_tree.specs.Lawful.{first, count_octets, AreOctets, is_member, has_place, count, AllLawful, IsLawful, IsLawfulMessage}
+use Rattle.llrp_tree.specs.Lawful.{first, count_octets, AreOctets, is_member, has_place, count, AllLawful, IsLawfulTree, IsLawfulMessage}
 use Rattle.llrp_tree.specs.Checks.{members, none_missing}
 use Rattle.llrp_tree.specs.Lawful.{at_most}
 use Rattle.llrp_tree.specs.Spelling.{Head, spread}
-use Rattle.llrp_tree.specs.OpenTree.{root_of, Begun, kind_of, has_tail, in_range, plain_values, is_enough}
+use Rattle.llrp_tree.specs.OpenTree.{root_of, Begun, kind_of_head, has_tail, in_range, plain_values, is_enough}
 use Rattle.llrp_tree.specs.Calls.OpenTree.{as_read}
-use Rattle.llrp_tree.specs.FirstFault.{number, octets_at, tail_length, tail_at, tail_end, field_checks, tail_checks, checks, Turn, ReadField, ReadTail, turn}
-use Rattle.llrp_tree.specs.Calls.Standing.{Stands, begun, leading}
+use Rattle.llrp_tree.specs.FirstFault.{number, octets_at, tail_length, tail_at, tail_end, field_checks, tail_checks, checks, NextPart, ReadField, ReadTail, next_part}
+use Rattle.llrp_tree.specs.Calls.Standing.{IsAt, begin_node, leading}
 use Rattle.llrp_tree.specs.Private.Standing.{FailsFirst, Tells, TailSpans}
 use Rattle.llrp_tree.proofs.TreeLemmas.{trees-forest}
 use Rattle.llrp_tree.proofs.LawLemmas.{count-members}
@@ -60,23 +60,23 @@ enough_is (g ∷ gs) ts = rw (counted g ts, enough_is gs ts) refl
 -- ---- fields
 
 -- what follows from a field's check
-pub tells : (ds : List Bool) (b : Begun) (outer : List Begun) (at : ℕ) (tn : Turn) (e : FrameErr) → Stands ds (b ∷ outer) at → turn b at (drop at ds) ≡ tn
+pub tells : (ds : List Bool) (b : Begun) (outer : List Begun) (at : ℕ) (tn : NextPart) (e : FrameErr) → IsAt ds (b ∷ outer) at → next_part b at (drop at ds) ≡ tn
     → FailsFirst (checks tn (length (b ∷ outer)) b at (drop at ds)) e → Tells (root_of b.head outer) ds e
 tells ds b outer at tn Memory st t f = tt
 tells ds b outer at tn (Bad x) st t f = fault_is ds b outer at tn x.bit x.reason st t f
 
 pub field_tells : (ds : List Bool) (kind : Kind) (h : Head) (stop : ℕ) (vs : List ℕ) (outer : List Begun) (at : ℕ) (r : FieldRule) (after : List FieldRule) (e : FrameErr)
-    → kind_of h ≡ kind → drop (length vs) (fields_of kind) ≡ r ∷ after → Stands ds (leading h stop vs ∷ outer) at → FailsFirst (field_checks r at stop (drop at ds)) e → Tells (root_of h outer) ds e
+    → kind_of_head h ≡ kind → drop (length vs) (fields_of kind) ≡ r ∷ after → IsAt ds (leading h stop vs ∷ outer) at → FailsFirst (field_checks r at stop (drop at ds)) e → Tells (root_of h outer) ds e
 unfolding checks
 field_tells ds kind h stop vs outer at r after e k d st x =
     tells ds (leading h stop vs) outer at (ReadField r) e st (field_turn h stop vs 0 outer [] r after (ap (λ (j : Kind). drop (length vs) (fields_of j)) k ∙ d) at (drop at ds)) x
 
 pub field_grows : (ds : List Bool) (kind : Kind) (h : Head) (stop : ℕ) (vs ws : List ℕ) (outer : List Begun) (at : ℕ) (r : FieldRule) (after : List FieldRule) (n : ℕ)
-    → kind_of h ≡ kind → drop (length vs) (fields_of kind) ≡ r ∷ after → at + r.width ≤ stop → n ≡ number (drop at ds) 0 r.width → in_range r n ≡ true → ws ≡ vs ++ n ∷ []
-    → Stands ds (leading h stop vs ∷ outer) at → Stands ds (leading h stop ws ∷ outer) (at + r.width)
+    → kind_of_head h ≡ kind → drop (length vs) (fields_of kind) ≡ r ∷ after → at + r.width ≤ stop → n ≡ number (drop at ds) 0 r.width → in_range r n ≡ true → ws ≡ vs ++ n ∷ []
+    → IsAt ds (leading h stop vs ∷ outer) at → IsAt ds (leading h stop ws ∷ outer) (at + r.width)
 field_grows ds kind h stop vs ws outer at r after n k d le is fit push st =
     let g = grow_field h stop vs outer ds at r after st (ap (λ (j : Kind). drop (length vs) (fields_of j)) k ∙ d) le (ap (in_range r) (sym is) ∙ fit) in
-    let P : List ℕ → Type 0 = λ x. Stands ds (leading h stop x ∷ outer) (at + r.width) in
+    let P : List ℕ → Type 0 = λ x. IsAt ds (leading h stop x ∷ outer) (at + r.width) in
     subst P (ap (λ (m : ℕ). vs ++ m ∷ []) (sym is) ∙ sym push) g
 
 -- one rule more: a plain field has a value more, a reserved one is zero
@@ -163,7 +163,7 @@ all_spread : (rules : List FieldRule) (ws : List ℕ) → drop (length (spread r
 all_spread rules ws = drop_all rules (length (spread rules ws)) (length-spread rules ws)
 
 pub tail_tells : (ds : List Bool) (kind : Kind) (h : Head) (stop : ℕ) (ws : List ℕ) (outer : List Begun) (at : ℕ) (e : FrameErr)
-    → kind_of h ≡ kind → length ws ≡ length (plain (fields_of kind)) → Stands ds (leading h stop (spread (fields_of kind) ws) ∷ outer) at → FailsFirst (tail_checks (tail_of kind) ws at stop (drop at ds)) e → Tells (root_of h outer) ds e
+    → kind_of_head h ≡ kind → length ws ≡ length (plain (fields_of kind)) → IsAt ds (leading h stop (spread (fields_of kind) ws) ∷ outer) at → FailsFirst (tail_checks (tail_of kind) ws at stop (drop at ds)) e → Tells (root_of h outer) ds e
 unfolding checks
 tail_tells ds kind h stop ws outer at e k l st f =
     let rules : List FieldRule = fields_of kind in
@@ -175,39 +175,39 @@ tail_tells ds kind h stop ws outer at e k l st f =
     (tail_turn h stop vs [] outer [] at (drop at ds) (ap (λ (j : Kind). drop (length vs) (fields_of j)) k ∙ all_spread rules ws) (ap (λ (j : Kind). has_tail (tail_of j)) k ∙ has))
     (subst P (sym k) (subst (λ (x : List ℕ). FailsFirst (tail_checks (tail_of kind) x at stop (drop at ds)) e) (sym back) f))
 
-pub tail_grows : (bs : List ℕ) (h : Head) (stop : ℕ) (ws : List ℕ) (outer : List Begun) (at from to : ℕ) (os : List ℕ) → length ws ≡ length (plain (fields_of (kind_of h))) → AreOctets bs → stop ≤ length bs
-    → TailSpans (tail_of (kind_of h)) ws (8 * at) (8 * stop) (drop (8 * at) (digits_of_bytes bs)) (8 * from) (8 * to) → os ≡ take (to - from) (drop from bs)
-    → Stands (digits_of_bytes bs) (leading h (8 * stop) (spread (fields_of (kind_of h)) ws) ∷ outer) (8 * at)
-    → Stands (digits_of_bytes bs) (begun h (8 * stop) (spread (fields_of (kind_of h)) ws) (as_read (tail_of (kind_of h)) os) none ∷ outer) (8 * to)
+pub tail_grows : (bs : List ℕ) (h : Head) (stop : ℕ) (ws : List ℕ) (outer : List Begun) (at from to : ℕ) (os : List ℕ) → length ws ≡ length (plain (fields_of (kind_of_head h))) → AreOctets bs → stop ≤ length bs
+    → TailSpans (tail_of (kind_of_head h)) ws (8 * at) (8 * stop) (drop (8 * at) (digits_of_bytes bs)) (8 * from) (8 * to) → os ≡ take (to - from) (drop from bs)
+    → IsAt (digits_of_bytes bs) (leading h (8 * stop) (spread (fields_of (kind_of_head h)) ws) ∷ outer) (8 * at)
+    → IsAt (digits_of_bytes bs) (begin_node h (8 * stop) (spread (fields_of (kind_of_head h)) ws) (as_read (tail_of (kind_of_head h)) os) none ∷ outer) (8 * to)
 tail_grows bs h stop ws outer at from to os l o le s is st =
     let ds : List Bool = digits_of_bytes bs in
-    let form : Tail = tail_of (kind_of h) in
-    let rules : List FieldRule = fields_of (kind_of h) in
+    let form : Tail = tail_of (kind_of_head h) in
+    let rules : List FieldRule = fields_of (kind_of_head h) in
     let vs : List ℕ = spread rules ws in
     let rest : List Bool = drop (8 * at) ds in
     let back = plain-spread_all rules ws l in
-    (elim (has_tail form) as (λ b. has_tail form ≡ b → Stands ds (begun h (8 * stop) vs (if b then Some os else None) none ∷ outer) (8 * to)) [
+    (elim (has_tail form) as (λ b. has_tail form ≡ b → IsAt ds (begin_node h (8 * stop) vs (if b then Some os else None) none ∷ outer) (8 * to)) [
       | true ↦ λ has.
           let again : tail_at form (plain_values rules vs) (8 * stop - 8 * at) rest ≡ os = ap (λ (x : List ℕ). tail_at form x (8 * stop - 8 * at) rest) back ∙ tail_octets_are form ws bs at from to stop o le s ∙ sym is in
           let end : tail_end form (plain_values rules vs) (8 * at) (8 * stop) rest ≡ 8 * to = ap (λ (x : List ℕ). tail_end form x (8 * at) (8 * stop) rest) back ∙ sym s.ends in
           let within = s.within in
           let g = grow_tail h (8 * stop) vs outer ds (8 * at) st (length-spread rules ws) has (omega (arith, end)) (λ t. ap (λ (x : List ℕ). is_utf8 (tail_at form x (8 * stop - 8 * at) rest)) back ∙ s.text t) in
-          subst (λ (x : List ℕ). Stands ds (begun h (8 * stop) vs (Some x) none ∷ outer) (8 * to)) again (subst (λ (n : ℕ). Stands ds (begun h (8 * stop) vs (Some (tail_at form (plain_values rules vs) (8 * stop - 8 * at) rest)) none ∷ outer) n) end g)
+          subst (λ (x : List ℕ). IsAt ds (begin_node h (8 * stop) vs (Some x) none ∷ outer) (8 * to)) again (subst (λ (n : ℕ). IsAt ds (begin_node h (8 * stop) vs (Some (tail_at form (plain_values rules vs) (8 * stop - 8 * at) rest)) none ∷ outer) n) end g)
       | false ↦ λ has.
           let absent = is_absent form has in
           let end : 8 * to ≡ 8 * at = s.ends ∙ ap (λ (f : Tail). tail_end f ws (8 * at) (8 * stop) rest) absent ∙ omega arith in
-          subst (λ (n : ℕ). Stands ds (begun h (8 * stop) vs None none ∷ outer) n) (sym end) st
+          subst (λ (n : ℕ). IsAt ds (begin_node h (8 * stop) vs None none ∷ outer) n) (sym end) st
     ]) refl
 
-pub tail_grown : (bs : List ℕ) (kind : Kind) (h : Head) (stop : ℕ) (ws : List ℕ) (outer : List Begun) (at from to : ℕ) (os : List ℕ) → kind_of h ≡ kind → length ws ≡ length (plain (fields_of kind)) → AreOctets bs → stop ≤ length bs
+pub tail_grown : (bs : List ℕ) (kind : Kind) (h : Head) (stop : ℕ) (ws : List ℕ) (outer : List Begun) (at from to : ℕ) (os : List ℕ) → kind_of_head h ≡ kind → length ws ≡ length (plain (fields_of kind)) → AreOctets bs → stop ≤ length bs
     → TailSpans (tail_of kind) ws (8 * at) (8 * stop) (drop (8 * at) (digits_of_bytes bs)) (8 * from) (8 * to) → os ≡ take (to - from) (drop from bs)
-    → Stands (digits_of_bytes bs) (leading h (8 * stop) (spread (fields_of kind) ws) ∷ outer) (8 * at)
-    → Stands (digits_of_bytes bs) (begun h (8 * stop) (spread (fields_of kind) ws) (as_read (tail_of kind) os) none ∷ outer) (8 * to)
+    → IsAt (digits_of_bytes bs) (leading h (8 * stop) (spread (fields_of kind) ws) ∷ outer) (8 * at)
+    → IsAt (digits_of_bytes bs) (begin_node h (8 * stop) (spread (fields_of kind) ws) (as_read (tail_of kind) os) none ∷ outer) (8 * to)
 tail_grown bs kind h stop ws outer at from to os k =
     let P : Kind → Type 0 = λ j. length ws ≡ length (plain (fields_of j)) → AreOctets bs → stop ≤ length bs
     → TailSpans (tail_of j) ws (8 * at) (8 * stop) (drop (8 * at) (digits_of_bytes bs)) (8 * from) (8 * to) → os ≡ take (to - from) (drop from bs)
-    → Stands (digits_of_bytes bs) (leading h (8 * stop) (spread (fields_of j) ws) ∷ outer) (8 * at)
-    → Stands (digits_of_bytes bs) (begun h (8 * stop) (spread (fields_of j) ws) (as_read (tail_of j) os) none ∷ outer) (8 * to) in
+    → IsAt (digits_of_bytes bs) (leading h (8 * stop) (spread (fields_of j) ws) ∷ outer) (8 * at)
+    → IsAt (digits_of_bytes bs) (begin_node h (8 * stop) (spread (fields_of j) ws) (as_read (tail_of j) os) none ∷ outer) (8 * to) in
     subst P k (tail_grows bs h stop ws outer at from to os)
 
 -- ---- the rules of a kind, as the code has them
@@ -281,7 +281,7 @@ count_reserved fs i d lt e =
 
 -- what a loop over the rules has read, with one field more
 module _ (ds : List Bool) (fs : List Field) (kind : Kind) (i : ℕ) (d : Field) (h : Head) (stop : ℕ) (ws : List ℕ) (outer : List Begun) (at v : ℕ)
-    (same : map field_rule fs ≡ fields_of kind) (lt : i < length fs) (k : kind_of h ≡ kind) (st : Stands ds (leading h stop (spread (take i (map field_rule fs)) ws) ∷ outer) at) where
+    (same : map field_rule fs ≡ fields_of kind) (lt : i < length fs) (k : kind_of_head h ≡ kind) (st : IsAt ds (leading h stop (spread (take i (map field_rule fs)) ws) ∷ outer) at) where
   abbrev rule : FieldRule
   rule = field_rule (get_or fs i d)
 
@@ -289,13 +289,13 @@ module _ (ds : List Bool) (fs : List Field) (kind : Kind) (i : ℕ) (d : Field) 
   rule_tells e f = field_tells ds kind h stop (spread (take i (map field_rule fs)) ws) outer at rule (drop (suc i) (map field_rule fs)) e k (rule_at fs kind i d ws same lt) st f
 
   module _ (fit : at + (get_or fs i d).width ≤ stop) (is : v ≡ number (drop at ds) 0 (get_or fs i d).width) (ranges : in_range (field_rule (get_or fs i d)) v ≡ true) where
-    grown_to : (us : List ℕ) → us ≡ spread (take i (map field_rule fs)) ws ++ v ∷ [] → Stands ds (leading h stop us ∷ outer) (at + (get_or fs i d).width)
+    grown_to : (us : List ℕ) → us ≡ spread (take i (map field_rule fs)) ws ++ v ∷ [] → IsAt ds (leading h stop us ∷ outer) (at + (get_or fs i d).width)
     grown_to us e = field_grows ds kind h stop (spread (take i (map field_rule fs)) ws) us outer at rule (drop (suc i) (map field_rule fs)) v k (rule_at fs kind i d ws same lt) fit is ranges e st
 
-    pub plain_grows : (news : List ℕ) → (get_or fs i d).reserved ≡ false → length ws ≡ length (plain (take i (map field_rule fs))) → news ≡ ws ++ v ∷ [] → Stands ds (leading h stop (spread (take (i + 1) (map field_rule fs)) news) ∷ outer) (at + (get_or fs i d).width)
+    pub plain_grows : (news : List ℕ) → (get_or fs i d).reserved ≡ false → length ws ≡ length (plain (take i (map field_rule fs))) → news ≡ ws ++ v ∷ [] → IsAt ds (leading h stop (spread (take (i + 1) (map field_rule fs)) news) ∷ outer) (at + (get_or fs i d).width)
     plain_grows news e l push = grown_to (spread (take (i + 1) (map field_rule fs)) news) (ap (λ (x : List FieldRule). spread x news) (taken_more fs i d lt) ∙ ap (λ (x : List ℕ). spread (take i (map field_rule fs) ++ rule ∷ []) x) push ∙ spread-plain_more (take i (map field_rule fs)) rule ws v e l)
 
-    pub reserved_grows : (get_or fs i d).reserved ≡ true → Stands ds (leading h stop (spread (take (i + 1) (map field_rule fs)) ws) ∷ outer) (at + (get_or fs i d).width)
+    pub reserved_grows : (get_or fs i d).reserved ≡ true → IsAt ds (leading h stop (spread (take (i + 1) (map field_rule fs)) ws) ∷ outer) (at + (get_or fs i d).width)
     reserved_grows e =
         let zero_is : v ≡ 0 = eqb-true v 0 (sym (ap (λ (b : Bool). if b then v == 0 else nat_le v (get_or fs i d).greatest) e) ∙ ranges) in
         grown_to (spread (take (i + 1) (map field_rule fs)) ws) (ap (λ (x : List FieldRule). spread x ws) (taken_more fs i d lt) ∙ spread-reserved_more (take i (map field_rule fs)) rule ws e ∙ ap (λ (n : ℕ). spread (take i (map field_rule fs)) ws ++ n ∷ []) (sym zero_is))

@@ -25,14 +25,16 @@ use Rattle.llrp_tree.specs.declared.TheConstants.{LEVELS, MAX_DEPTH}
 use Rattle.llrp_tree.specs.Tree.{Forest, none, and, Tree, MessageTree, add, add_all, forest, trees}
 use Rattle.llrp_tree.specs.Lawful.{octets, head_octets, body_octets, count_octets, levels, AreOctets, AllLawful, tree_octets, message_octets}
 use Rattle.llrp_tree.specs.Calls.Lawful.{own_octets}
-use Rattle.llrp_tree.specs.Spelling.{message, spread, field_digits, count_digits, body_digits, head_of, head_digits, spell, message_digits}
+use Rattle.llrp_tree.specs.Spelling.{message, spread, field_digits, count_digits, body_digits, head_of, head_digits, forest_digits, message_digits}
 use Rattle.llrp_tree.specs.Calls.Spelling.{tree_digits}
-use Rattle.llrp_tree.specs.Private.Spelled.{octets_in, spelled, unfinished, following, AreDeep, Moves}
-use Rattle.llrp_tree.specs.Calls.Spelled.{leading_digits, message_start, parameter_start}
+use Rattle.llrp_tree.specs.Private.HeadOctets.{octets_in, spelled, unfinished, following, AreDeep, Moves}
+use Rattle.llrp_tree.specs.Calls.HeadOctets.{leading_digits, message_start, parameter_start}
 use Rattle.llrp_tree.specs.Calls.Writing.{Appends}
 use Rattle.llrp_tree.proofs.OctetLemmas.{octets-append}
 use Rattle.llrp_tree.proofs.TreeLemmas.{forest-trees}
+use Rattle.llrp_tree.proofs.MessageTails.{no_count}
 use Rattle.llrp_tree.proofs.LengthLemmas.{length-spell}
+use Rattle.llrp_tree.proofs.Frames.{few_levels}
 
 -- ---- digits in groups of eight
 
@@ -74,42 +76,42 @@ same_octets (x ∷ xs) (y ∷ ys) h g e =
 
 -- ---- rows of parameters
 
-pub spelled_digits : (f : Forest) → digits_of_bytes (spelled f) ≡ spell f
+pub spelled_digits : (f : Forest) → digits_of_bytes (spelled f) ≡ forest_digits f
 unfolding spelled
-spelled_digits f = octets_spell (octets f) (spell f) (length-spell f)
+spelled_digits f = octets_spell (octets f) (forest_digits f) (length-spell f)
 
 pub spelled_are : (f : Forest) → AreOctets (spelled f)
 unfolding spelled
-spelled_are f = octets_are (octets f) (spell f)
+spelled_are f = octets_are (octets f) (forest_digits f)
 
 pub spelled_none : spelled none ≡ []
 unfolding spelled
 spelled_none = refl
 
-spell-none : spell none ≡ []
-unfolding spell
+spell-none : forest_digits none ≡ []
+unfolding forest_digits
 spell-none = refl
 
-spell-add : (f : Forest) (t : Tree) → spell (add f t) ≡ spell f ++ tree_digits t
-unfolding spell
+spell-add : (f : Forest) (t : Tree) → forest_digits (add f t) ≡ forest_digits f ++ tree_digits t
+unfolding forest_digits
 spell-add f t = refl
 
-spell-onto : (before : Forest) (ts : List Tree) → spell (add_all before ts) ≡ spell before ++ spell (forest ts)
-spell-onto before [] = sym (append-nil (spell before)) ∙ ap (λ (d : List Bool). spell before ++ d) (sym spell-none)
+spell-onto : (before : Forest) (ts : List Tree) → forest_digits (add_all before ts) ≡ forest_digits before ++ forest_digits (forest ts)
+spell-onto before [] = sym (append-nil (forest_digits before)) ∙ ap (λ (d : List Bool). forest_digits before ++ d) (sym spell-none)
 spell-onto before (t ∷ ts) =
-    let own : spell (forest (t ∷ ts)) ≡ tree_digits t ++ spell (forest ts) =
-    spell-onto (add none t) ts ∙ ap (λ (d : List Bool). d ++ spell (forest ts)) (spell-add none t ∙ ap (λ (d : List Bool). d ++ tree_digits t) spell-none) in
-    spell-onto (add before t) ts ∙ ap (λ (d : List Bool). d ++ spell (forest ts)) (spell-add before t)
-    ∙ append_assoc (spell before) (tree_digits t) (spell (forest ts)) ∙ ap (λ (d : List Bool). spell before ++ d) (sym own)
+    let own : forest_digits (forest (t ∷ ts)) ≡ tree_digits t ++ forest_digits (forest ts) =
+    spell-onto (add none t) ts ∙ ap (λ (d : List Bool). d ++ forest_digits (forest ts)) (spell-add none t ∙ ap (λ (d : List Bool). d ++ tree_digits t) spell-none) in
+    spell-onto (add before t) ts ∙ ap (λ (d : List Bool). d ++ forest_digits (forest ts)) (spell-add before t)
+    ∙ append_assoc (forest_digits before) (tree_digits t) (forest_digits (forest ts)) ∙ ap (λ (d : List Bool). forest_digits before ++ d) (sym own)
 
-pub spell-first : (t : Tree) (ts : List Tree) → spell (forest (t ∷ ts)) ≡ tree_digits t ++ spell (forest ts)
+pub spell-first : (t : Tree) (ts : List Tree) → forest_digits (forest (t ∷ ts)) ≡ tree_digits t ++ forest_digits (forest ts)
 spell-first t ts =
-    spell-onto (add none t) ts ∙ ap (λ (d : List Bool). d ++ spell (forest ts)) (spell-add none t ∙ ap (λ (d : List Bool). d ++ tree_digits t) spell-none)
+    spell-onto (add none t) ts ∙ ap (λ (d : List Bool). d ++ forest_digits (forest ts)) (spell-add none t ∙ ap (λ (d : List Bool). d ++ tree_digits t) spell-none)
 
 regrouped : (h f k t c r : List Bool) → (h ++ ((f ++ (k ++ t)) ++ c)) ++ r ≡ (h ++ (f ++ k)) ++ (t ++ (c ++ r))
 regrouped h f k t c r = simp append_assoc refl
 
-tree_parts : (t : Tree) → tree_digits t ≡ head_digits (head_of t.kind (tree_octets t)) ++ ((field_digits (fields_of (Parameter t.kind)) (spread (fields_of (Parameter t.kind)) t.fields) ++ (count_digits (tail_of (Parameter t.kind)) t.tail ++ digits_of_bytes t.tail)) ++ spell t.children)
+tree_parts : (t : Tree) → tree_digits t ≡ head_digits (head_of t.kind (tree_octets t)) ++ ((field_digits (fields_of (Parameter t.kind)) (spread (fields_of (Parameter t.kind)) t.fields) ++ (count_digits (tail_of (Parameter t.kind)) t.tail ++ digits_of_bytes t.tail)) ++ forest_digits t.children)
 unfolding body_digits
 tree_parts t = refl
 
@@ -121,8 +123,8 @@ first_node t ts start h g e =
     let h2 : List Bool = head_digits (head_of t.kind (tree_octets t)) in
     let f2 : List Bool = field_digits (fields_of (Parameter t.kind)) (spread (fields_of (Parameter t.kind)) t.fields) in
     let k2 : List Bool = count_digits (tail_of (Parameter t.kind)) t.tail in
-    let c2 : List Bool = spell t.children in
-    let r2 : List Bool = spell (forest ts) in
+    let c2 : List Bool = forest_digits t.children in
+    let r2 : List Bool = forest_digits (forest ts) in
     let rest : digits_of_bytes (spelled t.children ++ spelled (forest ts)) ≡ c2 ++ r2 =
     bytes-append (spelled t.children) (spelled (forest ts)) ∙ ap (λ (d : List Bool). d ++ digits_of_bytes (spelled (forest ts))) (spelled_digits t.children) ∙ ap (λ (d : List Bool). c2 ++ d) (spelled_digits (forest ts)) in
     let right : digits_of_bytes (start ++ (t.tail ++ (spelled t.children ++ spelled (forest ts)))) ≡ (h2 ++ (f2 ++ k2)) ++ (digits_of_bytes t.tail ++ (c2 ++ r2)) =
@@ -394,30 +396,31 @@ zeros_filled out bytes grown filled n place left eg ep el en ef =
 
 -- ---- whole messages
 
-pub few_levels : (f : Forest) → AllLawful f → levels f ≤ MAX_DEPTH
-few_levels none l = omega arith
-few_levels (and before k vs tail cs) l = let ih = few_levels before l.0 in omega (arith, l.1.deep)
-
-whole_message : (m : MessageTree) → (head_digits (message m.version m.kind (message_octets m) m.id) ++ leading_digits (Message m.kind) m.fields []) ++ spell m.children ≡ message_digits m
+whole_message : (m : MessageTree) → ((head_digits (message m.version m.kind (message_octets m) m.id) ++ leading_digits (Message m.kind) m.fields []) ++ digits_of_bytes m.tail) ++ forest_digits m.children ≡ message_digits m
 unfolding body_digits
 whole_message m =
     let h2 : List Bool = head_digits (message m.version m.kind (message_octets m) m.id) in
     let f2 : List Bool = field_digits (fields_of (Message m.kind)) (spread (fields_of (Message m.kind)) m.fields) in
     let k2 : List Bool = count_digits (tail_of (Message m.kind)) [] in
-    append_assoc h2 (f2 ++ k2) (spell m.children)
-    ∙ ap (λ (d : List Bool). h2 ++ ((f2 ++ d) ++ spell m.children)) (sym (append-nil k2) ∙ ap (λ (d : List Bool). k2 ++ d) (sym bytes-nil))
+    let t2 : List Bool = digits_of_bytes m.tail in
+    append_assoc (h2 ++ (f2 ++ k2)) t2 (forest_digits m.children) ∙ append_assoc h2 (f2 ++ k2) (t2 ++ forest_digits m.children)
+    ∙ ap (λ (d : List Bool). h2 ++ d) (sym (append_assoc (f2 ++ k2) t2 (forest_digits m.children)))
+    ∙ ap (λ (d : List Bool). h2 ++ (d ++ forest_digits m.children)) (append_assoc f2 k2 t2)
+    ∙ ap (λ (d : List Bool). h2 ++ ((f2 ++ (d ++ t2)) ++ forest_digits m.children)) (no_count m.kind [] ∙ sym (no_count m.kind m.tail))
 
-pub message_spelled : (m : MessageTree) (bytes : List ℕ) (from : ℕ) (lent : List Tree) (after : List ℕ)
+pub message_spelled : (m : MessageTree) (bytes : List ℕ) (from : ℕ) (tail : List ℕ) (lent : List Tree) (after : List ℕ)
     → Appends [] (drop from bytes) (head_digits (message m.version m.kind (message_octets m) m.id) ++ leading_digits (Message m.kind) m.fields [])
-    → lent ≡ trees m.children → after ≡ spelled (forest lent) ++ []
-    → AreOctets (unfinished bytes from [] ++ after) × (digits_of_bytes (unfinished bytes from [] ++ after) ≡ message_digits m)
-message_spelled m bytes from lent after s el ea =
+    → tail ≡ m.tail → AreOctets m.tail → lent ≡ trees m.children → after ≡ spelled (forest lent) ++ []
+    → AreOctets (unfinished bytes from tail ++ after) × (digits_of_bytes (unfinished bytes from tail ++ after) ≡ message_digits m)
+message_spelled m bytes from tail lent after s et os el ea =
     let later : after ≡ spelled m.children = ea ∙ append-nil (spelled (forest lent)) ∙ ap (λ (ts : List Tree). spelled (forest ts)) el ∙ ap spelled (forest-trees m.children) in
-    let all : unfinished bytes from [] ++ after ≡ s.more ++ spelled m.children =
-    ap (λ (x : List ℕ). x ++ after) (append-nil (drop from bytes) ∙ s.whole) ∙ ap (λ (x : List ℕ). s.more ++ x) later in (
-      subst (λ (x : List ℕ). AreOctets x) (sym all) (octets-append s.more (spelled m.children) s.octets (spelled_are m.children)),
-      ap digits_of_bytes all ∙ bytes-append s.more (spelled m.children) ∙ ap (λ (d : List Bool). d ++ digits_of_bytes (spelled m.children)) s.spelled
-          ∙ ap (λ (d : List Bool). (head_digits (message m.version m.kind (message_octets m) m.id) ++ leading_digits (Message m.kind) m.fields []) ++ d) (spelled_digits m.children)
+    let all : unfinished bytes from tail ++ after ≡ (s.more ++ m.tail) ++ spelled m.children =
+    ap (λ (x : List ℕ). (x ++ tail) ++ after) s.whole ∙ ap (λ (x : List ℕ). (s.more ++ x) ++ after) et ∙ ap (λ (x : List ℕ). (s.more ++ m.tail) ++ x) later in
+    let front : List Bool = head_digits (message m.version m.kind (message_octets m) m.id) ++ leading_digits (Message m.kind) m.fields [] in (
+      subst (λ (x : List ℕ). AreOctets x) (sym all) (octets-append (s.more ++ m.tail) (spelled m.children) (octets-append s.more m.tail s.octets os) (spelled_are m.children)),
+      ap digits_of_bytes all ∙ bytes-append (s.more ++ m.tail) (spelled m.children)
+          ∙ ap (λ (d : List Bool). d ++ digits_of_bytes (spelled m.children)) (bytes-append s.more m.tail ∙ ap (λ (d : List Bool). d ++ digits_of_bytes m.tail) s.spelled)
+          ∙ ap (λ (d : List Bool). (front ++ digits_of_bytes m.tail) ++ d) (spelled_digits m.children)
           ∙ whole_message m,
     )
 

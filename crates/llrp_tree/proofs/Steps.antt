@@ -8,7 +8,7 @@ use Rattle.llrp_tree.specs.declared.fault.Reason.{Reason}
 use Rattle.llrp_tree.specs.Tree.{Forest, none, and}
 use Rattle.llrp_tree.specs.Spelling.{Head, message, tlv, tv}
 use Rattle.llrp_tree.specs.OpenTree.{Begun, rules, form, profile, covers, plain_values}
-use Rattle.llrp_tree.specs.FirstFault.{number, tail_at, tv_kind, tlv_kind, tlv_octets, Turn, ReadField, ReadTail, Close, NoChild, BeginTv, BeginTlv, turn, next_fault}
+use Rattle.llrp_tree.specs.FirstFault.{number, tail_at, tv_kind, tlv_kind, tlv_octets, NextPart, ReadField, ReadTail, Close, NoChild, BeginTv, BeginTlv, next_part, next_fault}
 
 pub data Step : Type 0 where
   Fails : (bit : ℕ) (reason : Reason) → Step
@@ -40,7 +40,7 @@ abbrev pub begun_tlv : Option ParamKind → (octets at : ℕ) → Begun → List
 begun_tlv None octets at b outer = Ends b
 begun_tlv (Some kind) octets at b outer = Grows (begin (tlv kind octets) (at + 8 * octets) ∷ b ∷ outer)
 
-abbrev pub grown : Turn → Begun → List Begun → ℕ → List Bool → Step
+abbrev pub grown : NextPart → Begun → List Begun → ℕ → List Bool → Step
 grown (ReadField r) b outer at rest = Grows (record b { fields = b.fields ++ number rest 0 r.width ∷ [] } ∷ outer)
 grown ReadTail b outer at rest = Grows (record b { tail = Some (tail_at (form b) (plain_values (rules b) b.fields) (b.stop - at) rest) } ∷ outer)
 grown Close b outer at rest = close b outer
@@ -54,7 +54,7 @@ unless_failed (Some f) s = Fails f.0 f.1
 
 abbrev pub grown_chain : List Begun → List Bool → Step
 grown_chain [] rest = Grows []
-grown_chain (b ∷ outer) rest = grown (turn b (length (covers (b ∷ outer))) rest) b outer (length (covers (b ∷ outer))) rest
+grown_chain (b ∷ outer) rest = grown (next_part b (length (covers (b ∷ outer))) rest) b outer (length (covers (b ∷ outer))) rest
 
 -- one step from left to right
 unfoldable pub next : List Begun → List Bool → Step

@@ -12,9 +12,9 @@ use Rattle.llrp_tree.specs.declared.fault.Reason.{Reason}
 use Rattle.llrp_tree.specs.Tree.{Forest}
 use Rattle.llrp_tree.specs.Lawful.{has_place}
 use Rattle.llrp_tree.specs.OpenTree.{root_of, Begun, covers, has_tail, takes_more}
-use Rattle.llrp_tree.specs.FirstFault.{Check, first_failing, tail_end, tail_at, tail_checks, kind_checks, checks, Turn, turn, next_fault}
-use Rattle.llrp_tree.specs.Calls.Standing.{Stands}
-use Rattle.llrp_tree.specs.Private.Standing.{HasFault}
+use Rattle.llrp_tree.specs.FirstFault.{Check, first_failing, tail_end, tail_at, tail_checks, kind_checks, checks, NextPart, next_part, next_fault}
+use Rattle.llrp_tree.specs.Calls.Standing.{IsAt}
+use Rattle.llrp_tree.specs.Private.Standing.{IsFaultOf}
 use Rattle.llrp_tree.proofs.ReadDigits.{length_covered}
 
 -- each check holds
@@ -50,10 +50,10 @@ kind_checked None gs cs level at type_at more p = absurd (let e : false ≡ true
 kind_checked (Some kind) gs cs level at type_at more p = record { kind = kind; is = refl; has = p.0; takes = p.1.0; deep = leb-true level MAX_DEPTH p.1.1.0; others = p.1.1.1 }
 
 -- a check that fails at a reader's place is the fault of the digits
-pub fault_is : (ds : List Bool) (b : Begun) (outer : List Begun) (at : ℕ) (tn : Turn) (bit : ℕ) (reason : Reason) → Stands ds (b ∷ outer) at → turn b at (drop at ds) ≡ tn
-    → first_failing (checks tn (length (b ∷ outer)) b at (drop at ds)) ≡ Some (bit, reason) → HasFault (root_of b.head outer) ds bit reason
+pub fault_is : (ds : List Bool) (b : Begun) (outer : List Begun) (at : ℕ) (tn : NextPart) (bit : ℕ) (reason : Reason) → IsAt ds (b ∷ outer) at → next_part b at (drop at ds) ≡ tn
+    → first_failing (checks tn (length (b ∷ outer)) b at (drop at ds)) ≡ Some (bit, reason) → IsFaultOf (root_of b.head outer) ds bit reason
 unfolding next_fault
 fault_is ds b outer at tn bit reason st e f =
     let long = length_covered (covers (b ∷ outer)) at ds st.covered st.within in
-    let M : ℕ → Type 0 = λ n. first_failing (checks (turn b n (drop at ds)) (length (b ∷ outer)) b n (drop at ds)) ≡ Some (bit, reason) in
-    record { tree = b ∷ outer; at = at; stands = st; fails = subst M (sym long) (ap (λ (u : Turn). first_failing (checks u (length (b ∷ outer)) b at (drop at ds))) e ∙ f); root = refl }
+    let M : ℕ → Type 0 = λ n. first_failing (checks (next_part b n (drop at ds)) (length (b ∷ outer)) b n (drop at ds)) ≡ Some (bit, reason) in
+    record { tree = b ∷ outer; at = at; stands = st; fails = subst M (sym long) (ap (λ (u : NextPart). first_failing (checks u (length (b ∷ outer)) b at (drop at ds))) e ∙ f); root = refl }

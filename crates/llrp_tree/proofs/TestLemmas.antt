@@ -70,22 +70,22 @@ module _ (kind : ParamKind) (values tail : List ℕ) (nodes : List Tree) where
   no_fault e lt le = behind_table None e (rw (le-leb (levels (forest nodes) + 1) MAX_DEPTH (omega arith), le-leb whole MAX_OCTETS le) refl)
 
 -- what follows from a message's tests
-module _ (version : ℕ) (kind : MsgKind) (values : List ℕ) (nodes : List Tree) (known : Bool) (is : known ≡ ((version == 1) || (version == 2))) where
+module _ (version : ℕ) (kind : MsgKind) (values tail : List ℕ) (nodes : List Tree) (known : Bool) (is : known ≡ ((version == 1) || (version == 2))) where
   abbrev message_table : List (Bool × NodeFault)
-  message_table = table_tests (Message kind) known values [] nodes
+  message_table = table_tests (Message kind) known values tail nodes
 
   abbrev message_length : ℕ
-  message_length = 10 + body_octets (Message kind) [] + octets (forest nodes)
+  message_length = 10 + body_octets (Message kind) tail + octets (forest nodes)
 
-  told_message : (f : Option NodeFault) → f ≡ first_failed (message_table ++ (nat_le message_length MAX_LIMIT, TooLong) ∷ []) → f ≡ first_message_fault version kind values (forest nodes)
+  told_message : (f : Option NodeFault) → f ≡ first_failed (message_table ++ (nat_le message_length MAX_LIMIT, TooLong) ∷ []) → f ≡ first_message_fault version kind values tail (forest nodes)
   unfolding first_message_fault
   told_message f e = rw (trees-forest nodes, ← is) e
 
-  pub by_message_table : (f : NodeFault) → Some f ≡ first_failed message_table → Some f ≡ first_message_fault version kind values (forest nodes)
+  pub by_message_table : (f : NodeFault) → Some f ≡ first_failed message_table → Some f ≡ first_message_fault version kind values tail (forest nodes)
   by_message_table f e = told_message (Some f) (sym (failed_before message_table _ f (sym e)))
 
-  pub by_message_length : None ≡ first_failed message_table → MAX_LIMIT < message_length → Some TooLong ≡ first_message_fault version kind values (forest nodes)
+  pub by_message_length : None ≡ first_failed message_table → MAX_LIMIT < message_length → Some TooLong ≡ first_message_fault version kind values tail (forest nodes)
   by_message_length e le = told_message (Some TooLong) (ap (λ (b : Bool). first_failed ((b, TooLong) ∷ [])) (sym (lt-leb message_length MAX_LIMIT le)) ∙ sym (passed_before message_table _ (sym e)))
 
-  pub no_message_fault : None ≡ first_failed message_table → message_length ≤ MAX_LIMIT → None ≡ first_message_fault version kind values (forest nodes)
+  pub no_message_fault : None ≡ first_failed message_table → message_length ≤ MAX_LIMIT → None ≡ first_message_fault version kind values tail (forest nodes)
   no_message_fault e le = told_message None (ap (λ (b : Bool). first_failed ((b, TooLong) ∷ [])) (sym (le-leb message_length MAX_LIMIT le)) ∙ sym (passed_before message_table _ (sym e)))

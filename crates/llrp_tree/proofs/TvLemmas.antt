@@ -10,7 +10,7 @@ use Rattle.llrp_schema.specs.declared.kinds.Tail.TheVariants.{Absent}
 use Rattle.llrp_schema.specs.Schema.{FieldRule, bits_of, fields_of, tail_of}
 use Rattle.llrp_schema.proofs.TableLaws.{few_bits, tv_tail, whole_octets}
 use Rattle.llrp_tree.specs.Lawful.{head_octets}
-use Rattle.llrp_tree.specs.Calls.Spelled.{IsOnlyField, all_fields, leading_digits}
+use Rattle.llrp_tree.specs.Calls.HeadOctets.{IsOnlyField, all_fields, leading_digits}
 use Rattle.llrp_tree.specs.Spelling.{count_digits}
 
 -- ---- its bits

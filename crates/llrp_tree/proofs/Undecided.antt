@@ -13,12 +13,12 @@ use Rattle.llrp_schema.specs.Schema.{FieldRule, fields_of, tail_of}
 use Rattle.llrp_tree.specs.declared.fault.Reason.{Reason}
 use Rattle.llrp_tree.specs.Tree.{Forest, none}
 use Rattle.llrp_tree.specs.Lawful.{count_octets}
-use Rattle.llrp_tree.specs.Spelling.{Head, message, tlv, tv, head_digits, field_digits, spell}
+use Rattle.llrp_tree.specs.Spelling.{Head, message, tlv, tv, head_digits, field_digits, forest_digits}
 use Rattle.llrp_schema.specs.declared.kinds.Profile.{Profile}
-use Rattle.llrp_tree.specs.OpenTree.{root_profile, profile, Begun, kind_of, groups, leading_digits, part, covers, Due, AField, ATail, Rest, due, plain_values, is_enough, IsHead, IsOpenTree}
+use Rattle.llrp_tree.specs.OpenTree.{root_profile, profile, Begun, kind_of_head, groups, leading_digits, part, covers, Due, AField, ATail, Rest, due, plain_values, is_enough, IsHead, IsOpenTree}
 use Rattle.llrp_tree.specs.Calls.OpenTree.{parts}
-use Rattle.llrp_tree.specs.FirstFault.{number, tail_at, tail_end, tail_length, tv_kind, tlv_kind, tlv_octets, first_digit, first_failing, checks, Turn, ReadField, ReadTail, Close, NoChild, BeginTv, BeginTlv, turn_of, turn, is_over, has_none, next_fault, header_checks_in, FirstFaultIn}
-use Rattle.llrp_tree.specs.Calls.Standing.{end_of, Stands, begun, leading}
+use Rattle.llrp_tree.specs.FirstFault.{number, tail_at, tail_end, tail_length, tv_kind, tlv_kind, tlv_octets, first_digit, first_failing, checks, NextPart, ReadField, ReadTail, Close, NoChild, BeginTv, BeginTlv, turn_of, next_part, has_ended, has_none, next_fault, header_checks_in, FirstFaultIn}
+use Rattle.llrp_tree.specs.Calls.Standing.{end_of, IsAt, begin_node, leading}
 use Rattle.llrp_tree.specs.Calls.Deciding.{deciding_tail, deciding_of, deciding, BodyFailsIn, FailsIn}
 use Rattle.llrp_tree.proofs.ReadDigits.{length_covered, length-more, length-octets_at}
 use Rattle.llrp_tree.proofs.LengthLemmas.{length-message_head, length-tlv, length-tv, length-tail_digits}
@@ -55,7 +55,7 @@ tail_to Text fields at stop rest = either_most (nat_le (at + 16) stop) (if nat_l
 tail_to Bits fields at stop rest = either_most (nat_le (tail_end Bits fields at stop rest) stop) (tail_end Bits fields at stop rest) at (tail_end Bits fields at stop rest) (omega arith) (omega arith)
 tail_to Data fields at stop rest = omega arith
 
-turn_from : (tn : Turn) (b : Begun) (at : ℕ) (rest : List Bool) → at ≤ deciding_of tn b at rest
+turn_from : (tn : NextPart) (b : Begun) (at : ℕ) (rest : List Bool) → at ≤ deciding_of tn b at rest
 turn_from (ReadField r) b at rest = either_least (nat_le (at + r.width) b.stop) (at + r.width) at at (omega arith) (omega arith)
 turn_from ReadTail b at rest = tail_from _ _ at b.stop rest
 turn_from Close b at rest = omega arith
@@ -66,7 +66,7 @@ turn_from BeginTlv b at rest = either_least (nat_le (at + 32) b.stop) (at + 32) 
 pub covered_decided : (t : List Begun) (rest : List Bool) → length (covers t) ≤ deciding t rest
 unfolding deciding covers
 covered_decided [] rest = omega arith
-covered_decided (b ∷ outer) rest = turn_from (turn b (length (covers (b ∷ outer))) rest) b (length (covers (b ∷ outer))) rest
+covered_decided (b ∷ outer) rest = turn_from (next_part b (length (covers (b ∷ outer))) rest) b (length (covers (b ∷ outer))) rest
 
 -- ---- a step
 
@@ -78,7 +78,7 @@ one_more [] (i ∷ fields) v r after e = absurd cc
 one_more (q ∷ rules) (i ∷ fields) v r after e = ap (λ (x : List Bool). digits q.width i ++ x) (one_more rules fields v r after e) ∙ sym (append_assoc (digits q.width i) (field_digits rules fields) (digits r.width v))
 
 -- digits that an open tree covers
-stands_somewhere : (b : Begun) (outer : List Begun) → IsOpenTree (b ∷ outer) → (ds : List Bool) × Stands ds (b ∷ outer) (length (covers (b ∷ outer)))
+stands_somewhere : (b : Begun) (outer : List Begun) → IsOpenTree (b ∷ outer) → (ds : List Bool) × IsAt ds (b ∷ outer) (length (covers (b ∷ outer)))
 unfolding IsOpenTree
 stands_somewhere b outer s =
     let read : List Bool = covers (b ∷ outer) in
@@ -100,7 +100,7 @@ module _ (b : Begun) (outer : List Begun) (rest : List Bool) (u : List Begun) (s
   unfolding due IsOpenTree
   on_field r d e =
       let v : ℕ = number rest 0 r.width in
-      let rules : List FieldRule = fields_of (kind_of b.head) in
+      let rules : List FieldRule = fields_of (kind_of_head b.head) in
       let q = field_first (drop (length b.fields) rules) _ r d (no_field_in _ b.tail r) in
       let nt : b.tail ≡ None = elim s.0.tail_after [ inl x ↦ x | inr all ↦ absurd (let z = drop_all rules (length b.fields) all in let y : ◌≡◌ {A = List FieldRule} [] (r ∷ q.0) = sym z ∙ q.1 in cc) ] in
       let nc : b.children ≡ none = elim s.0.children_after [ inl x ↦ x | inr ready ↦ absurd (let y : AField r ≡ Rest = sym d ∙ ready in cc) ] in
@@ -113,8 +113,8 @@ module _ (b : Begun) (outer : List Begun) (rest : List Bool) (u : List Begun) (s
   on_tail : due b ≡ ATail → grown ReadTail b outer at rest ≡ Grows u → deciding_of ReadTail b at rest ≤ length (covers u)
   unfolding due IsOpenTree
   on_tail d e =
-      let form : Tail = tail_of (kind_of b.head) in
-      let rules : List FieldRule = fields_of (kind_of b.head) in
+      let form : Tail = tail_of (kind_of_head b.head) in
+      let rules : List FieldRule = fields_of (kind_of_head b.head) in
       let plain : List ℕ = plain_values rules b.fields in
       let os : List ℕ = tail_at form plain (b.stop - at) rest in
       let q = tail_first (drop (length b.fields) rules) form b.tail d in
@@ -122,7 +122,7 @@ module _ (b : Begun) (outer : List Begun) (rest : List Bool) (u : List Begun) (s
       let was : length (covers (leading b.head b.stop b.fields ∷ outer)) ≡ at = ap (λ (x : Begun). length (covers (x ∷ outer))) (sym (as_leading b q.2 nc)) in
       let now = ap (λ (x : List Bool). length x) (tail_covered b.head b.stop b.fields os outer []) ∙ length-more (covers (leading b.head b.stop b.fields ∷ outer)) _ (8 * (count_octets form + length os)) (length-tail_digits form os) in
       let many = length-octets_at (tail_length form plain (b.stop - at) rest) (drop (8 * count_octets form) rest) in
-      let is : begun b.head b.stop b.fields (Some os) none ∷ outer ≡ u = ap (λ (x : Forest). begun b.head b.stop b.fields (Some os) x ∷ outer) (sym nc) ∙ grown_is _ e in
+      let is : begin_node b.head b.stop b.fields (Some os) none ∷ outer ≡ u = ap (λ (x : Forest). begin_node b.head b.stop b.fields (Some os) x ∷ outer) (sym nc) ∙ grown_is _ e in
       let far = ap (λ (x : List Begun). length (covers x)) is in
       let to = tail_to form plain at b.stop rest in
       omega arith
@@ -145,7 +145,7 @@ enough_of : (enough : Bool) (stop : ℕ) (reason : Reason) → first_failing (Ra
 enough_of true stop reason e = refl
 enough_of false stop reason e = absurd cc
 
-closing : (b : Begun) (outer : List Begun) (rest : List Bool) (u : List Begun) → IsOpenTree (b ∷ outer) → due b ≡ Rest → is_over b.head (nat_le b.stop (length (covers (b ∷ outer)))) ≡ true → is_enough (groups b) b.children ≡ true
+closing : (b : Begun) (outer : List Begun) (rest : List Bool) (u : List Begun) → IsOpenTree (b ∷ outer) → due b ≡ Rest → has_ended b.head (nat_le b.stop (length (covers (b ∷ outer)))) ≡ true → is_enough (groups b) b.children ≡ true
     → grown Close b outer (length (covers (b ∷ outer))) rest ≡ Grows u → length (covers (b ∷ outer)) ≤ length (covers u)
 closing b [] rest u s d o enough e = absurd cc
 closing b (p ∷ outer) rest u s d o enough e =
@@ -159,7 +159,7 @@ module _ (b : Begun) (outer : List Begun) (rest : List Bool) (u : List Begun) (s
   abbrev here : ℕ
   here = length (covers (b ∷ outer))
 
-  by_turn : (d : Due) (o n z : Bool) → due b ≡ d → is_over b.head (nat_le b.stop here) ≡ o → first_failing (checks (turn_of d o n z) (length (b ∷ outer)) b here rest) ≡ None
+  by_turn : (d : Due) (o n z : Bool) → due b ≡ d → has_ended b.head (nat_le b.stop here) ≡ o → first_failing (checks (turn_of d o n z) (length (b ∷ outer)) b here rest) ≡ None
       → grown (turn_of d o n z) b outer here rest ≡ Grows u → deciding_of (turn_of d o n z) b here rest ≤ length (covers u)
   unfolding checks
   by_turn (AField r) o n z ed eo p e = on_field b outer rest u s r ed e
@@ -175,10 +175,10 @@ module _ (b : Begun) (outer : List Begun) (rest : List Bool) (u : List Begun) (s
 
   -- a part that passes its checks is decided where it ends
   pub step_decided : next (b ∷ outer) rest ≡ Grows u → deciding (b ∷ outer) rest ≤ length (covers u)
-  unfolding next next_fault deciding turn
+  unfolding next next_fault deciding next_part
   step_decided e =
-      let p = unfailed (first_failing (checks (turn b here rest) (length (b ∷ outer)) b here rest)) (grown (turn b here rest) b outer here rest) e in
-      by_turn (due b) (is_over b.head (nat_le b.stop here)) (has_none (groups b)) (first_digit rest) refl refl p.0 p.1
+      let p = unfailed (first_failing (checks (next_part b here rest) (length (b ∷ outer)) b here rest)) (grown (next_part b here rest) b outer here rest) e in
+      by_turn (due b) (has_ended b.head (nat_le b.stop here)) (has_none (groups b)) (first_digit rest) refl refl p.0 p.1
 
 -- ---- an open tree with more parts
 
@@ -210,7 +210,7 @@ some_part (b ∷ outer) rest lt = (parts (b ∷ outer) - 1, omega arith)
 
 -- ---- faults of a frame
 
-module _ (p : Profile) (limit : ℕ) (bytes : List ℕ) (octets : ℕ) (t : List Begun) (at : ℕ) (st : Stands (digits_of_bytes bytes) t at) (r : root_profile t ≡ p) where
+module _ (p : Profile) (limit : ℕ) (bytes : List ℕ) (octets : ℕ) (t : List Begun) (at : ℕ) (st : IsAt (digits_of_bytes bytes) t at) (r : root_profile t ≡ p) where
   abbrev rest : List Bool
   rest = drop at (digits_of_bytes bytes)
 
@@ -242,17 +242,17 @@ module _ (p : Profile) (limit : ℕ) (bytes : List ℕ) (octets : ℕ) (t : List
 
 -- ---- what a fault that is decided says of the frame
 
-part_of : (h : Head) (stop : ℕ) → IsHead h stop [] → length (head_digits h) ≡ 80
+pub part_of : (h : Head) (stop : ℕ) → IsHead h stop [] → length (head_digits h) ≡ 80
 part_of (message v k n id) stop i = length-message_head v k n id
 part_of (tlv k n) stop i = absurd i
 part_of (tv k) stop i = absurd i
 
 -- an open tree covers the message's header
-header_covered : (b : Begun) (outer : List Begun) → IsOpenTree (b ∷ outer) → 80 ≤ length (covers (b ∷ outer))
+pub header_covered : (b : Begun) (outer : List Begun) → IsOpenTree (b ∷ outer) → 80 ≤ length (covers (b ∷ outer))
 unfolding IsOpenTree covers part
 header_covered b [] s =
     let own = part_of b.head b.stop s.0.head in
-    let long = length-append (head_digits b.head) (leading_digits (kind_of b.head) b.fields b.tail ++ spell b.children) in
+    let long = length-append (head_digits b.head) (leading_digits (kind_of_head b.head) b.fields b.tail ++ forest_digits b.children) in
     omega arith
 header_covered b (p ∷ outer) s =
     let before = header_covered p outer s.1 in
@@ -279,6 +279,6 @@ fails_first p limit frame octets (inl f) =
 fails_first p limit frame octets (inr f) = (f.bit, f.reason, inr f.fault)
 
 -- what decides the next checks, by what is read next
-pub deciding_is : (b : Begun) (outer : List Begun) (at : ℕ) (rest : List Bool) (tn : Turn) → length (covers (b ∷ outer)) ≡ at → turn b at rest ≡ tn → deciding (b ∷ outer) rest ≡ deciding_of tn b at rest
+pub deciding_is : (b : Begun) (outer : List Begun) (at : ℕ) (rest : List Bool) (tn : NextPart) → length (covers (b ∷ outer)) ≡ at → next_part b at rest ≡ tn → deciding (b ∷ outer) rest ≡ deciding_of tn b at rest
 unfolding deciding
-deciding_is b outer at rest tn long e = ap (λ (n : ℕ). deciding_of (turn b n rest) b n rest) long ∙ ap (λ (x : Turn). deciding_of x b at rest) e
+deciding_is b outer at rest tn long e = ap (λ (n : ℕ). deciding_of (next_part b n rest) b n rest) long ∙ ap (λ (x : NextPart). deciding_of x b at rest) e

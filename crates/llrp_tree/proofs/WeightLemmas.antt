@@ -39,4 +39,5 @@ weight_within none = omega arith
 weight_within (and before k vs tail cs) = omega (arith, weight_within before, weight_within cs, own_octets k tail)
 
 pub frame_weight : (m : MessageTree) (bytes : List ℕ) (limit : ℕ) → Frame m bytes limit → message_weight m ≤ length bytes
+unfolding body_octets
 frame_weight m bytes limit f = omega (arith, frame_length m bytes limit f, weight_within m.children)

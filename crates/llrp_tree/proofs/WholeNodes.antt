@@ -5,12 +5,11 @@ use Rattle.std.proofs.lemmas.Bool.{ltb-true}
 use Rattle.tag_bits.specs.Digits.{digits_of_bytes}
 use Rattle.tag_bits.proofs.ByteLemmas.{bytes-nil}
 use Rattle.llrp_schema.specs.declared.kinds.Kind.{Kind}
-use Rattle.llrp_schema.specs.declared.kinds.Kind.TheVariants.{Message, Parameter}
 use Rattle.llrp_schema.specs.declared.kinds.ParamKind.{ParamKind}
 use Rattle.llrp_schema.specs.declared.kinds.Tail.{Tail}
 use Rattle.llrp_schema.specs.declared.kinds.Tail.TheVariants.{Absent, Words, Text, Bits, Data}
 use Rattle.llrp_schema.specs.Schema.{whole_message_kinds, whole_param_kinds, FieldRule, GroupRule, fields_of, tail_of, groups_of, rule_of, message_rule, param_rule, message_kinds, param_kinds}
-use Rattle.llrp_schema.proofs.TableLaws.{every_rule, message_tail, data_groups}
+use Rattle.llrp_schema.proofs.TableLaws.{every_rule, data_groups}
 use Rattle.llrp_tree.specs.Lawful.{AreOctets, IsTail, has_place}
 use Rattle.llrp_tree.specs.Spelling.{spread, field_digits, tail_digits, body_digits}
 use Rattle.llrp_tree.specs.OpenTree.{tail_due, field_due, Due, Rest, read_digits, leading_digits, AreLeading, plain_values, IsReadTail}
@@ -38,8 +37,7 @@ are_rules kind = rules_pass (fields_of kind) (every_rule (λ row. rules_test row
 
 -- a kind with data has no place for a child
 pub data_childless : (kind : Kind) (child : ParamKind) → tail_of kind ≡ Data → has_place (groups_of kind) child ≡ true → ⊥
-data_childless (Message kind) child e h = absurd (let z : Absent ≡ Data = sym (message_tail kind) ∙ e in cc)
-data_childless (Parameter kind) child e h = absurd (let z : false ≡ true = ap (λ (x : List GroupRule). has_place x child) (sym (data_groups kind e)) ∙ h in cc)
+data_childless kind child e h = absurd (let z : false ≡ true = ap (λ (x : List GroupRule). has_place x child) (sym (data_groups kind e)) ∙ h in cc)
 
 -- ---- from begun nodes of which all is read to whole ones
 

@@ -4,11 +4,10 @@ pub mod Checks
 pub mod Spelling
 pub mod Writing
 pub mod OpenTree
-pub mod FirstFault
 pub mod FrameLaws
 pub mod Standing
 pub mod Weight
-pub mod Spelled
+pub mod HeadOctets
 pub mod GrowthLaws
 pub mod Deciding
 pub mod Header

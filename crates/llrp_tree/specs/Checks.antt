@@ -68,8 +68,8 @@ first_fault kind values tail children =
     ∷ [])
 
 -- the first fault of these parts of a message, whose children are lawful
-unfoldable pub first_message_fault : ℕ → MsgKind → List ℕ → Forest → Option NodeFault
-first_message_fault version kind values children =
-    first_failed (table_tests (Message kind) ((version == 1) || (version == 2)) values [] (trees children)
-    ++ (nat_le (10 + body_octets (Message kind) [] + octets children) MAX_LIMIT, TooLong)
+unfoldable pub first_message_fault : ℕ → MsgKind → List ℕ → List ℕ → Forest → Option NodeFault
+first_message_fault version kind values tail children =
+    first_failed (table_tests (Message kind) ((version == 1) || (version == 2)) values tail (trees children)
+    ++ (nat_le (10 + body_octets (Message kind) tail + octets children) MAX_LIMIT, TooLong)
     ∷ [])

@@ -117,35 +117,35 @@ tlv_checks p groups children level at stop rest =
 -- ---- what is done next in a node
 
 -- a field or the tail is read, the node is closed, octets are left where there is no child, or a child is begun
-pub data Turn : Type 0 where
-  ReadField : FieldRule → Turn
-  ReadTail : Turn
-  Close : Turn
-  NoChild : Turn
-  BeginTv : Turn
-  BeginTlv : Turn
+pub data NextPart : Type 0 where
+  ReadField : FieldRule → NextPart
+  ReadTail : NextPart
+  Close : NextPart
+  NoChild : NextPart
+  BeginTv : NextPart
+  BeginTlv : NextPart
 
 -- a parameter with type and value has no length, and ends after its field
-abbrev pub is_over : Head → Bool → Bool
-is_over (message version kind octets id) at_stop = at_stop
-is_over (tlv kind octets) at_stop = at_stop
-is_over (tv kind) at_stop = true
+abbrev pub has_ended : Head → Bool → Bool
+has_ended (message version kind octets id) at_stop = at_stop
+has_ended (tlv kind octets) at_stop = at_stop
+has_ended (tv kind) at_stop = true
 
 abbrev pub has_none : List GroupRule → Bool
 has_none [] = true
 has_none (g ∷ groups) = false
 
 -- a child begins with the digit 1 if it has type and value alone
-abbrev pub turn_of : Due → (over has_no_groups digit : Bool) → Turn
+abbrev pub turn_of : Due → (over has_no_groups digit : Bool) → NextPart
 turn_of (AField r) over has_no_groups digit = ReadField r
 turn_of ATail over has_no_groups digit = ReadTail
 turn_of Rest over has_no_groups digit = if over then Close else (if has_no_groups then NoChild else (if digit then BeginTv else BeginTlv))
 
-unfoldable pub turn : Begun → ℕ → List Bool → Turn
-turn b at rest = turn_of (due b) (is_over b.head (nat_le b.stop at)) (has_none (groups b)) (first_digit rest)
+unfoldable pub next_part : Begun → ℕ → List Bool → NextPart
+next_part b at rest = turn_of (due b) (has_ended b.head (nat_le b.stop at)) (has_none (groups b)) (first_digit rest)
 
 -- the checks of each, in their order
-unfoldable pub checks : Turn → (level : ℕ) → Begun → (at : ℕ) → List Bool → List Check
+unfoldable pub checks : NextPart → (level : ℕ) → Begun → (at : ℕ) → List Bool → List Check
 checks (ReadField r) level b at rest = field_checks r at b.stop rest
 checks ReadTail level b at rest = tail_checks (form b) (plain_values (rules b) b.fields) at b.stop rest
 checks Close level b at rest = check (is_enough (groups b) b.children) b.stop Missing ∷ []
@@ -158,7 +158,7 @@ unfoldable pub next_fault : List Begun → List Bool → Option (ℕ × Reason)
 next_fault [] rest = None
 next_fault (b ∷ outer) rest =
     let at = length (covers (b ∷ outer)) in
-    first_failing (checks (turn b at rest) (length (b ∷ outer)) b at rest)
+    first_failing (checks (next_part b at rest) (length (b ∷ outer)) b at rest)
 
 -- ---- the fault of a frame
 
@@ -192,7 +192,3 @@ IsFirstIn p bytes limit (Bad fault) = FirstFaultIn p bytes limit fault.bit fault
 -- the same of the profile
 abbrev pub IsFirst : List ℕ → ℕ → FrameErr → Type 0
 IsFirst bytes limit e = IsFirstIn Own bytes limit e
-
--- the same of the profile
-abbrev pub FirstFault : List ℕ → (limit bit : ℕ) → Reason → Type 0
-FirstFault bytes limit bit reason = FirstFaultIn Own bytes limit bit reason

@@ -46,7 +46,7 @@ abbrev pub tree_octets : Tree → ℕ
 tree_octets t = head_octets t.kind + body_octets (Parameter t.kind) t.tail + octets t.children
 
 abbrev pub message_octets : MessageTree → ℕ
-message_octets m = 10 + body_octets (Message m.kind) [] + octets m.children
+message_octets m = 10 + body_octets (Message m.kind) m.tail + octets m.children
 
 -- ---- the rules of a kind
 
@@ -125,12 +125,12 @@ abbrev pub AllLawful : Forest → Type 0
 AllLawful none = Unit {0}
 AllLawful (and before kind fields tail children) = AllLawful before × AreLawful kind fields tail children × AllLawful children
 
-abbrev pub IsLawful : Tree → Type 0
-IsLawful t = AreLawful t.kind t.fields t.tail t.children × AllLawful t.children
+abbrev pub IsLawfulTree : Tree → Type 0
+IsLawfulTree t = AreLawful t.kind t.fields t.tail t.children × AllLawful t.children
 
 pub record IsLawfulMessage (m : MessageTree) : Type 0 where
   pub version : (m.version ≡ 1) ⊎ (m.version ≡ 2)
   pub id : m.id < 2 ^ 32
-  pub obeys : Obeys (Message m.kind) m.fields [] m.children
+  pub obeys : Obeys (Message m.kind) m.fields m.tail m.children
   pub children : AllLawful m.children
   pub long : message_octets m ≤ MAX_LIMIT

@@ -12,7 +12,7 @@ use Rattle.llrp_schema.specs.Schema.{FieldRule, GroupRule, fields_of, tail_of, g
 use Rattle.llrp_tree.specs.declared.TheConstants.{MAX_DEPTH}
 use Rattle.llrp_tree.specs.Tree.{Forest, none}
 use Rattle.llrp_tree.specs.Lawful.{levels, AreOctets, IsTail, is_member, has_place, count, ArePlaced, NoneTooMany, AllLawful, at_most}
-use Rattle.llrp_tree.specs.Spelling.{Head, message, tlv, tv, head_digits, field_digits, tail_digits, spell}
+use Rattle.llrp_tree.specs.Spelling.{Head, message, tlv, tv, head_digits, field_digits, tail_digits, forest_digits}
 
 -- A node that is begun: its head, the bit at which it stops, its leading fields, reserved ones among them, its tail if that is read, and whole children.
 pub record Begun : Type 0 where
@@ -23,28 +23,28 @@ pub record Begun : Type 0 where
   pub children : Forest
 
 -- the kind of the node that a head begins
-abbrev pub kind_of : Head → Kind
-kind_of (message version kind octets id) = Message kind
-kind_of (tlv kind octets) = Parameter kind
-kind_of (tv kind) = Parameter kind
+abbrev pub kind_of_head : Head → Kind
+kind_of_head (message version kind octets id) = Message kind
+kind_of_head (tlv kind octets) = Parameter kind
+kind_of_head (tv kind) = Parameter kind
 
 -- what the tables say of a begun node
 abbrev pub rules : Begun → List FieldRule
-rules b = fields_of (kind_of b.head)
+rules b = fields_of (kind_of_head b.head)
 
 abbrev pub form : Begun → Tail
-form b = tail_of (kind_of b.head)
+form b = tail_of (kind_of_head b.head)
 
 abbrev pub groups : Begun → List GroupRule
-groups b = groups_of (kind_of b.head)
+groups b = groups_of (kind_of_head b.head)
 
 -- whether it is of the profile or of the whole standard
 abbrev pub profile : Begun → Profile
-profile b = profile_of (kind_of b.head)
+profile b = profile_of (kind_of_head b.head)
 
 -- that of the message, which is begun outermost
 abbrev pub root_of : Head → List Begun → Profile
-root_of h [] = profile_of (kind_of h)
+root_of h [] = profile_of (kind_of_head h)
 root_of h (p ∷ outer) = root_of p.head outer
 
 abbrev pub root_profile : List Begun → Profile
@@ -64,7 +64,7 @@ leading_digits kind fields tail = field_digits (fields_of kind) fields ++ read_d
 
 -- the digits of a begun node's own parts in order
 unfoldable pub part : Begun → List Bool
-part b = head_digits b.head ++ (leading_digits (kind_of b.head) b.fields b.tail ++ spell b.children)
+part b = head_digits b.head ++ (leading_digits (kind_of_head b.head) b.fields b.tail ++ forest_digits b.children)
 
 -- An open tree is a chain of begun nodes, each inside the next one of the list: the innermost first, the message last. It covers the digits of their parts, the message's first.
 unfoldable pub covers : List Begun → List Bool

@@ -3,4 +3,5 @@ pub mod Stored
 pub mod Writing
 pub mod Standing
 pub mod Weight
-pub mod Spelled
+pub mod HeadOctets
+pub mod Reading

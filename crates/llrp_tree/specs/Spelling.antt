@@ -53,10 +53,10 @@ unfoldable pub body_digits : Kind → List ℕ → List ℕ → List Bool
 body_digits kind fields tail = field_digits (fields_of kind) (spread (fields_of kind) fields) ++ tail_digits (tail_of kind) tail
 
 -- parameters in a row spell their digits in order
-unfoldable pub spell : Forest → List Bool
-spell none = []
-spell (and before kind fields tail children) =
-    spell before ++ (head_digits (head_of kind (head_octets kind + body_octets (Parameter kind) tail + octets children)) ++ (body_digits (Parameter kind) fields tail ++ spell children))
+unfoldable pub forest_digits : Forest → List Bool
+forest_digits none = []
+forest_digits (and before kind fields tail children) =
+    forest_digits before ++ (head_digits (head_of kind (head_octets kind + body_octets (Parameter kind) tail + octets children)) ++ (body_digits (Parameter kind) fields tail ++ forest_digits children))
 
 abbrev pub message_digits : MessageTree → List Bool
-message_digits m = head_digits (message m.version m.kind (message_octets m) m.id) ++ (body_digits (Message m.kind) m.fields [] ++ spell m.children)
+message_digits m = head_digits (message m.version m.kind (message_octets m) m.id) ++ (body_digits (Message m.kind) m.fields m.tail ++ forest_digits m.children)

@@ -15,12 +15,13 @@ pub record Tree : Type 0 where
   pub tail : List ℕ
   pub children : Forest
 
--- one message
+-- one message: its plain fields, the octets of its tail, which a message of the profile has not, and its parameters
 pub record MessageTree : Type 0 where
   pub version : ℕ
   pub id : ℕ
   pub kind : MsgKind
   pub fields : List ℕ
+  pub tail : List ℕ
   pub children : Forest
 
 -- one more parameter in the row

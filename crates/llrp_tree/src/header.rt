@@ -3,10 +3,10 @@
 ghost use Rattle.std.specs.Prelude.{◌≤◌, length, IfOk, IfErr};
 ghost use Rattle.llrp_tree.specs.Calls.Header.{HasHeader, HasHeaderFault, HasHeaderIn, HasHeaderFaultIn};
 
-use crate::check::is_known_version;
+use crate::child_checks::is_known_version;
 use crate::fault::fault_at;
 use crate::numbers::{from_bit, from_octet};
-use crate::{Fault, MsgKind, Reason};
+use crate::{Fault, HEADER_OCTETS, MsgKind, Reason};
 use llrp_schema::{Profile, msg_of_in};
 
 /// What the header of a frame says (LLRP 1.1, section 17.1).
@@ -27,7 +27,7 @@ pub struct Header {
 /// octets is no fault here.
 #[inline]
 pub fn read_header(bytes: &[u8], limit: u32) -> Result<Header, Fault>
-    requires whole { 10 ≤ length bytes.now }
+    requires whole { HEADER_OCTETS ≤ length bytes.now }
     ensures header { IfOk result (HasHeader limit bytes.now) }
     ensures fault { IfErr result (HasHeaderFault limit bytes.now) }
 {
@@ -35,9 +35,9 @@ pub fn read_header(bytes: &[u8], limit: u32) -> Result<Header, Fault>
 }
 
 /// Reads the header of a frame of a profile.
-#[inline]
+#[inline(always)]
 pub fn read_header_in(profile: Profile, bytes: &[u8], limit: u32) -> Result<Header, Fault>
-    requires whole { 10 ≤ length bytes.now }
+    requires whole { HEADER_OCTETS ≤ length bytes.now }
     ensures header { IfOk result (HasHeaderIn profile limit bytes.now) }
     ensures fault { IfErr result (HasHeaderFaultIn profile limit bytes.now) }
 {

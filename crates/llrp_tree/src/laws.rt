@@ -27,8 +27,8 @@ pub fn lawful_where_no_test_fails()
     ensures parameter { (kind : ParamKind) (fields tail : List ℕ) (children : Forest)
         → AreOctets tail →
         AreLawful kind fields tail children ↔ (first_fault kind fields tail children ≡ None) }
-    ensures message { (m : MessageTree) → m.id < 2 ^ 32 → AllLawful m.children →
-        IsLawfulMessage m ↔ (first_message_fault m.version m.kind m.fields m.children ≡ None) }
+    ensures message { (m : MessageTree) → m.id < 2 ^ 32 → AreOctets m.tail → AllLawful m.children →
+        IsLawfulMessage m ↔ (first_message_fault m.version m.kind m.fields m.tail m.children ≡ None) }
 {}
 
 /// The octets of a message or parameter are as many as its length says.

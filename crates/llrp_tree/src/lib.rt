@@ -11,38 +11,41 @@
 //! ```
 #![tactic(auto)]
 
-mod check;
-pub mod fault;
-pub mod header;
+mod child_checks;
+mod decode;
+mod encode;
+mod fault;
+mod header;
+mod heads;
 pub mod laws;
-pub mod message;
-pub mod node;
+mod message;
+mod node;
 pub mod numbers;
-pub mod parts;
-pub mod reading;
-pub mod spelling;
-pub mod starts;
-pub mod writing;
+mod own_parts;
+mod spelling;
 
+pub use decode::{decode_frame, decode_frame_in};
+pub use encode::{EncodeErr, encode_into};
 pub use fault::{Fault, FrameErr, Reason};
-pub use header::{Header, read_header};
+pub use header::{Header, read_header, read_header_in};
+pub use heads::{
+    Front, HeadOctets, bare_front, message_front, message_start, parameter_front, parameter_start,
+    tv_front, tv_start,
+};
 pub use llrp_schema::{Kind, MsgKind, ParamKind, Profile, msg_of};
 pub use message::{Message, MsgRefusal};
 pub use node::{Node, NodeFault, NodeRefusal, Nodes, Octets};
-pub use parts::{own_fault, own_octets};
-pub use reading::{decode_frame, decode_frame_in};
-pub use spelling::{EncodeErr, encode_into};
-pub use starts::{
-    Front, Start, bare_front, message_front, message_start, parameter_front, parameter_start,
-    tv_front, tv_start,
-};
-pub use writing::Spelling;
+pub use own_parts::{own_fault, own_octets};
+pub use spelling::Spelling;
 
 /// The greatest number of levels of parameters in a message.
 pub const MAX_DEPTH: u8 = 16;
 
 /// The same number, for arrays with at most one item for each level.
 pub const LEVELS: usize = MAX_DEPTH as usize;
+
+/// How many octets the header of a message has, which is also the length of the shortest message.
+pub const HEADER_OCTETS: usize = 10;
 
 /// The greatest number of octets of a message.
 pub const MAX_LIMIT: u32 = 1_048_576;

@@ -10,11 +10,11 @@
 //! ```
 #![tactic(auto)]
 
-pub mod fields;
+mod fields;
 pub mod laws;
 mod octets;
 mod parts;
-pub mod word;
+mod word;
 
 pub use fields::{get, put};
 pub use word::Word;

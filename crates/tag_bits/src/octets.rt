@@ -4,7 +4,7 @@ ghost use Rattle.std.specs.Prelude.{◌≡◌, ℕ, ◌*◌, ◌^◌, ◌<◌, �
 ghost use Rattle.tag_bits.specs.Digits.{value, digits, digits_of_bytes};
 
 /// The number that the octets spell.
-pub fn number_of(octets: &[u8]) -> u128
+pub(crate) fn number_of(octets: &[u8]) -> u128
     requires { length octets.now ≤ 16 }
     ensures { result ≡ value (digits_of_bytes octets.now) }
 {
@@ -16,7 +16,7 @@ pub fn number_of(octets: &[u8]) -> u128
 }
 
 /// The number that eight octets spell.
-pub fn number_of_eight(octets: &[u8]) -> u64
+pub(crate) fn number_of_eight(octets: &[u8]) -> u64
     requires { length octets.now ≡ 8 }
     ensures { result ≡ value (digits_of_bytes octets.now) }
 {
@@ -28,7 +28,7 @@ pub fn number_of_eight(octets: &[u8]) -> u64
 }
 
 /// Writes `number` into all of the octets.
-pub fn fill(octets: &mut [u8], number: u128)
+pub(crate) fn fill(octets: &mut [u8], number: u128)
     requires fits { number < 2 ^ (8 * length octets.old) }
     ensures { digits_of_bytes octets.new ≡ digits (8 * length octets.old) number }
 {

@@ -5,7 +5,7 @@ ghost use Rattle.tag_bits.specs.Digits.{value, digits, field};
 ghost use Rattle.tag_bits.specs.Calls.Digits.{with_field};
 
 /// The number of the `width` bits from bit `place` on, out of `total` bits.
-pub fn part_of(number: u128, total: u32, place: u32, width: u32) -> u128
+pub(crate) fn part_of(number: u128, total: u32, place: u32, width: u32) -> u128
     requires room { total < 128 }
     requires whole { number < 2 ^ total }
     requires within { place + width ≤ total }
@@ -17,7 +17,7 @@ pub fn part_of(number: u128, total: u32, place: u32, width: u32) -> u128
 }
 
 /// The number of the `width` bits from bit `place` on, out of 64 bits.
-pub fn part_of_eight(number: u64, place: u32, width: u32) -> u64
+pub(crate) fn part_of_eight(number: u64, place: u32, width: u32) -> u64
     requires some { 1 ≤ width }
     requires within { place + width ≤ 64 }
     ensures { result ≡ value (field (digits 64 number) place width) }
@@ -26,7 +26,7 @@ pub fn part_of_eight(number: u64, place: u32, width: u32) -> u64
 }
 
 /// The number whose `width` bits from bit `place` on, out of `total` bits, are those of `value`.
-pub fn with_part(number: u128, total: u32, place: u32, width: u32, value: u128) -> u128
+pub(crate) fn with_part(number: u128, total: u32, place: u32, width: u32, value: u128) -> u128
     requires room { total < 128 }
     requires whole { number < 2 ^ total }
     requires within { place + width ≤ total }

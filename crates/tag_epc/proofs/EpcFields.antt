@@ -5,15 +5,15 @@ use Rattle.tag_bits.specs.Digits.{digits, word_digits}
 use Rattle.tag_bits.proofs.DigitLemmas.{length-digits}
 use Rattle.tag_epc.specs.declared.scheme.Row.{Row}
 use Rattle.tag_epc.specs.declared.kind.Kind.{Kind}
-use Rattle.tag_epc.specs.declared.check.Number.{Number}
-use Rattle.tag_epc.specs.declared.check.Number.TheVariants.{Company, Reference, Last}
+use Rattle.tag_epc.specs.declared.lawful_parts.Number.{Number}
+use Rattle.tag_epc.specs.declared.lawful_parts.Number.TheVariants.{Company, Reference, Last}
 use Rattle.tag_epc.specs.declared.epc.Parts.TheVariants.{Partitioned, General}
 use Rattle.tag_epc.specs.declared.fault.WordReason.TheVariants as word
 use Rattle.tag_epc.specs.declared.fault.WordFault.{WordFault}
-use Rattle.tag_epc.specs.Layout.{Layout, layout_of, header_of, row_at, plain, leading_segments, gid_header, gid_segments}
+use Rattle.tag_epc.specs.Layout.{Layout, layout_of, header_of, row_at, plain_segment, leading_segments, gid_header, gid_segments}
 use Rattle.tag_epc.specs.Calls.Layout.{is_sound}
-use Rattle.tag_epc.specs.LawfulWord.{fill, Fits, AllFit, spell, HasPartition, IsLawful, Spells}
-use Rattle.tag_epc.specs.Faults.{FirstUnfit, HasUnfitAt, HasFault, Fails, place_of}
+use Rattle.tag_epc.specs.LawfulWord.{fill, Fits, AllFit, fields_digits, HasPartition, IsLawfulEpc, Spells}
+use Rattle.tag_epc.specs.Faults.{FirstUnfit, HasUnfitAt, HasDigitsFault, Fails, place_of}
 use Rattle.tag_epc.specs.Calls.Faults.{HasUnfit}
 use Rattle.tag_epc.specs.Private.Numbers.{place_of_number}
 use Rattle.tag_epc.proofs.Soundness.{IsSound, sound}
@@ -37,7 +37,7 @@ row_has k l r f p d c t n a e = record { layout = l; row = r; partition = p; sch
 
 -- the three leading fields fit
 leading_fit : (k : Kind) (l : Layout) (r : Row) (f p : ℕ) → Placed k l r f p
-    → Fits (record { segment = plain 8; number = l.header }) × Fits (record { segment = plain 3; number = f }) × Fits (record { segment = plain 3; number = p })
+    → Fits (record { segment = plain_segment 8; number = l.header }) × Fits (record { segment = plain_segment 3; number = f }) × Fits (record { segment = plain_segment 3; number = p })
 leading_fit k l r f p a = let s = a.sound.rows p r a.row in (fits_plain 8 l.header a.sound.header, fits_plain 3 f a.filter, fits_plain 3 p (omega (arith, s.partition)))
 
 -- a number after the partition value that does not fit, among all fields
@@ -54,13 +54,13 @@ epc_unfit k l r f p d c t n told m a e is u =
     record { fields = row_fields l r f p c t n; has = row_has k l r f p d c t n a e; first = behind_leading k l r f p c t n (place_of_number m) a first }
 
 -- numbers that all fit
-pub epc_lawful : (k : Kind) (l : Layout) (r : Row) (f p d c t n : ℕ) → Placed k l r f p → p + d ≡ 12 → AllFit (numbers l r c t n) → IsLawful (Partitioned k f d c t n)
+pub epc_lawful : (k : Kind) (l : Layout) (r : Row) (f p d c t n : ℕ) → Placed k l r f p → p + d ≡ 12 → AllFit (numbers l r c t n) → IsLawfulEpc (Partitioned k f d c t n)
 epc_lawful k l r f p d c t n a e fit =
     let front = leading_fit k l r f p a in
     record { fields = row_fields l r f p c t n; has = row_has k l r f p d c t n a e; fit = (front.0, (front.1, (front.2, fit))) }
 
 -- a lawful EPC's fields are those of its row
-pub lawful_fields : (k : Kind) (l : Layout) (r : Row) (f p d c t n : ℕ) → layout_of k ≡ Some l → row_at l p ≡ Some r → p + d ≡ 12 → (a : IsLawful (Partitioned k f d c t n)) → a.fields ≡ row_fields l r f p c t n
+pub lawful_fields : (k : Kind) (l : Layout) (r : Row) (f p d c t n : ℕ) → layout_of k ≡ Some l → row_at l p ≡ Some r → p + d ≡ 12 → (a : IsLawfulEpc (Partitioned k f d c t n)) → a.fields ≡ row_fields l r f p c t n
 lawful_fields k l r f p d c t n scheme row e a =
     one_fields (Partitioned k f d c t n) a.fields (row_fields l r f p c t n) a.has (record { layout = l; row = r; partition = p; scheme = scheme; placed = row; counted = e; filled = refl })
 
@@ -69,7 +69,7 @@ pub manager_unfit : (m o s : ℕ) → 2 ^ 28 ≤ m → HasUnfit (General m o s) 
 manager_unfit m o s h = record {
   fields = fill gid_segments (gid_header ∷ m ∷ o ∷ s ∷ []);
   has = refl;
-  first = record { unfit = record { segment = plain 28; number = m }; stands = refl; before = (fits_plain 8 gid_header (omega arith), tt); fails = λ f. let b : m < 2 ^ 28 = f.bits in omega arith };
+  first = record { unfit = record { segment = plain_segment 28; number = m }; stands = refl; before = (fits_plain 8 gid_header (omega arith), tt); fails = λ f. let b : m < 2 ^ 28 = f.bits in omega arith };
 }
 
 -- an object class of GID-96 that does not fit
@@ -77,7 +77,7 @@ pub class_unfit : (m o s : ℕ) → m < 2 ^ 28 → 2 ^ 24 ≤ o → HasUnfit (Ge
 class_unfit m o s a h = record {
   fields = fill gid_segments (gid_header ∷ m ∷ o ∷ s ∷ []);
   has = refl;
-  first = record { unfit = record { segment = plain 24; number = o }; stands = refl; before = (fits_plain 8 gid_header (omega arith), (fits_plain 28 m a, tt)); fails = λ f. let b : o < 2 ^ 24 = f.bits in omega arith };
+  first = record { unfit = record { segment = plain_segment 24; number = o }; stands = refl; before = (fits_plain 8 gid_header (omega arith), (fits_plain 28 m a, tt)); fails = λ f. let b : o < 2 ^ 24 = f.bits in omega arith };
 }
 
 -- a serial number of GID-96 that does not fit
@@ -85,7 +85,7 @@ pub serial_unfit : (m o s : ℕ) → m < 2 ^ 28 → o < 2 ^ 24 → 2 ^ 36 ≤ s 
 serial_unfit m o s a b h = record {
   fields = fill gid_segments (gid_header ∷ m ∷ o ∷ s ∷ []);
   has = refl;
-  first = record { unfit = record { segment = plain 36; number = s }; stands = refl; before = (fits_plain 8 gid_header (omega arith), (fits_plain 28 m a, (fits_plain 24 o b, tt))); fails = λ f. let d : s < 2 ^ 36 = f.bits in omega arith };
+  first = record { unfit = record { segment = plain_segment 36; number = s }; stands = refl; before = (fits_plain 8 gid_header (omega arith), (fits_plain 28 m a, (fits_plain 24 o b, tt))); fails = λ f. let d : s < 2 ^ 36 = f.bits in omega arith };
 }
 
 -- what is read after a header: filter value, partition value, and the numbers of the row
@@ -114,7 +114,7 @@ cut l r f p c t n w r0 r1 r2 r3 r4 r5 bits a b d e x0 x1 x2 x3 x4 done = record 
 }
 
 -- the digits of a word after a scheme's header
-cut_spelled : (l : Layout) (r : Row) (f p c t n : ℕ) (ds : List Bool) → Cut l r f p c t n ds → digits 8 l.header ++ ds ≡ spell (row_fields l r f p c t n)
+cut_spelled : (l : Layout) (r : Row) (f p c t n : ℕ) (ds : List Bool) → Cut l r f p c t n ds → digits 8 l.header ++ ds ≡ fields_digits (row_fields l r f p c t n)
 cut_spelled l r f p c t n ds a = ap (λ (x : List Bool). digits 8 l.header ++ x) a.digits_are
 
 -- a word that is read whole, and whose numbers all fit
@@ -141,18 +141,18 @@ reason_fails Reference l r f p c t n a = a
 reason_fails Last l r f p c t n a = a
 
 -- the first bit of a number
-number_bit : (m : Number) (l : Layout) (r : Row) (f p c t n : ℕ) → (fault_of m r).bit ≡ length (spell (take (place_of (fault_of m r).reason) (row_fields l r f p c t n)))
+number_bit : (m : Number) (l : Layout) (r : Row) (f p c t n : ℕ) → (fault_of m r).bit ≡ length (fields_digits (take (place_of (fault_of m r).reason) (row_fields l r f p c t n)))
 number_bit Company l r f p c t n = simp (length-append, length-digits) refl
 number_bit Reference l r f p c t n = simp (length-append, length-digits) (omega arith)
 number_bit Last l r f p c t n = simp (length-append, length-digits) (omega arith)
 
 -- a word that is read whole, and of whose numbers one does not fit
 cut_unfit : (k : Kind) (l : Layout) (r : Row) (f p c t n : ℕ) (ds : List Bool) (m : Number) → Placed k l r f p → Cut l r f p c t n ds → FirstUnfit (numbers l r c t n) (place_of_number m)
-    → HasFault (digits 8 l.header ++ ds) (fault_of m r)
+    → HasDigitsFault (digits 8 l.header ++ ds) (fault_of m r)
 cut_unfit k l r f p c t n ds m a x u = let s = a.sound.rows p r a.row in record {
   fields = row_fields l r f p c t n;
   rest = [];
-  spelled = cut_spelled l r f p c t n ds x ∙ sym (append-nil (spell (row_fields l r f p c t n)));
+  spelled = cut_spelled l r f p c t n ds x ∙ sym (append-nil (fields_digits (row_fields l r f p c t n)));
   read = (a.sound.header, (a.filter, (x.partition, (x.company, (x.reference, (x.last, tt))))));
   fails = reason_fails m l r f p c t n (record { epc = Partitioned k f r.company_digits c t n; has = row_has k l r f p r.company_digits c t n a (omega (arith, s.digits)); first = behind_leading k l r f p c t n (place_of_number m) a u });
   bit = number_bit m l r f p c t n;
@@ -160,16 +160,16 @@ cut_unfit k l r f p c t n ds m a x u = let s = a.sound.rows p r a.row in record 
 
 -- the same, where the fault and its number are known
 pub cut_fault : (k : Kind) (l : Layout) (r : Row) (f p c t n : ℕ) (ds : List Bool) (told m : Number) (fault : WordFault) → Placed k l r f p → Cut l r f p c t n ds → told ≡ m → fault ≡ fault_of m r
-    → FirstUnfit (numbers l r c t n) (place_of_number told) → HasFault (digits 8 l.header ++ ds) fault
+    → FirstUnfit (numbers l r c t n) (place_of_number told) → HasDigitsFault (digits 8 l.header ++ ds) fault
 cut_fault k l r f p c t n ds told m fault a x is same u =
-    subst (λ (z : WordFault). HasFault (digits 8 l.header ++ ds) z) (sym same)
+    subst (λ (z : WordFault). HasDigitsFault (digits 8 l.header ++ ds) z) (sym same)
     (cut_unfit k l r f p c t n ds m a x (subst (λ (z : Number). FirstUnfit (numbers l r c t n) (place_of_number z)) is u))
 
 -- a word whose partition value has no row
 pub row_fault : (k : Kind) (l : Layout) (f p : ℕ) (r0 r1 r2 : List Bool) (fault : WordFault) (found : Option Row) → layout_of k ≡ Some l → is_sound l ≡ true → f < 2 ^ 3 → p < 2 ^ 3
     → r0 ≡ digits 3 f ++ r1 → r1 ≡ digits 3 p ++ r2 → found ≡ row_at l p → found ≡ None → fault ≡ record { bit = 11; reason = word.Partition }
-    → HasFault (digits 8 l.header ++ r0) fault
-row_fault k l f p r0 r1 r2 fault found scheme s a b x0 x1 at none same = subst (λ (z : WordFault). HasFault (digits 8 l.header ++ r0) z) (sym same) (record {
+    → HasDigitsFault (digits 8 l.header ++ r0) fault
+row_fault k l f p r0 r1 r2 fault found scheme s a b x0 x1 at none same = subst (λ (z : WordFault). HasDigitsFault (digits 8 l.header ++ r0) z) (sym same) (record {
   fields = fill leading_segments (l.header ∷ f ∷ p ∷ []);
   rest = r2;
   spelled = rw (x0, x1) (simp append_assoc refl);
@@ -180,9 +180,9 @@ row_fault k l f p r0 r1 r2 fault found scheme s a b x0 x1 at none same = subst (
 
 -- a word whose header is no scheme's
 pub header_fault : (w h : ℕ) (r0 r1 : List Bool) (fault : WordFault) → r0 ≡ word_digits w → r0 ≡ digits 8 h ++ r1 → h < 2 ^ 8 → ((k : Kind) → header_of k ≡ h → ⊥)
-    → fault ≡ record { bit = 0; reason = word.Header } → HasFault (word_digits w) fault
-header_fault w h r0 r1 fault e x below none same = subst (λ (z : WordFault). HasFault (word_digits w) z) (sym same) (record {
-  fields = fill (plain 8 ∷ []) (h ∷ []);
+    → fault ≡ record { bit = 0; reason = word.Header } → HasDigitsFault (word_digits w) fault
+header_fault w h r0 r1 fault e x below none same = subst (λ (z : WordFault). HasDigitsFault (word_digits w) z) (sym same) (record {
+  fields = fill (plain_segment 8 ∷ []) (h ∷ []);
   rest = r1;
   spelled = sym e ∙ x ∙ ap (λ (ds : List Bool). ds ++ r1) (sym (append-nil (digits 8 h)));
   read = (below, tt);
@@ -200,18 +200,18 @@ gid_spelled m o s r0 r1 r2 r3 a b d x0 x1 x2 done = record {
 
 -- the fields of a row written one after another
 pub written : (l : Layout) (r : Row) (f p c t n h w : ℕ) (d0 d1 d2 d3 d4 d5 d6 : List Bool) → h ≡ l.header → w ≡ l.last_bits → d0 ≡ [] → d1 ≡ d0 ++ digits 8 h → d2 ≡ d1 ++ digits 3 f → d3 ≡ d2 ++ digits 3 p
-    → d4 ≡ d3 ++ digits r.company_bits c → d5 ≡ d4 ++ digits r.reference_bits t → d6 ≡ d5 ++ digits w n → d6 ≡ spell (row_fields l r f p c t n)
+    → d4 ≡ d3 ++ digits r.company_bits c → d5 ≡ d4 ++ digits r.reference_bits t → d6 ≡ d5 ++ digits w n → d6 ≡ fields_digits (row_fields l r f p c t n)
 written l r f p c t n h w d0 d1 d2 d3 d4 d5 d6 header bits e0 e1 e2 e3 e4 e5 e6 = rw (e6, e5, e4, e3, e2, e1, e0, header, bits) (simp (append_assoc, append-nil) refl)
 
 -- the word of an EPC with a company prefix
-pub written_word : (k : Kind) (l : Layout) (r : Row) (f p d c t n : ℕ) (found : Option Row) (ds : List Bool) → layout_of k ≡ Some l → found ≡ row_at l p → found ≡ Some r → p + d ≡ 12 → IsLawful (Partitioned k f d c t n)
-    → ds ≡ spell (row_fields l r f p c t n) → Spells (Partitioned k f d c t n) ds
-written_word k l r f p d c t n found ds scheme at is e a x = record { lawful = a; spelled = x ∙ ap spell (sym (lawful_fields k l r f p d c t n scheme (sym at ∙ is) e a)) }
+pub written_word : (k : Kind) (l : Layout) (r : Row) (f p d c t n : ℕ) (found : Option Row) (ds : List Bool) → layout_of k ≡ Some l → found ≡ row_at l p → found ≡ Some r → p + d ≡ 12 → IsLawfulEpc (Partitioned k f d c t n)
+    → ds ≡ fields_digits (row_fields l r f p c t n) → Spells (Partitioned k f d c t n) ds
+written_word k l r f p d c t n found ds scheme at is e a x = record { lawful = a; spelled = x ∙ ap fields_digits (sym (lawful_fields k l r f p d c t n scheme (sym at ∙ is) e a)) }
 
 -- the word of an EPC of GID-96
 pub written_gid : (m o s : ℕ) (d0 d1 d2 d3 d4 ds : List Bool) → d0 ≡ [] → d1 ≡ d0 ++ digits 8 gid_header → d2 ≡ d1 ++ digits 28 m → d3 ≡ d2 ++ digits 24 o → d4 ≡ d3 ++ digits 36 s → ds ≡ d4
-    → IsLawful (General m o s) → Spells (General m o s) ds
+    → IsLawfulEpc (General m o s) → Spells (General m o s) ds
 written_gid m o s d0 d1 d2 d3 d4 ds e0 e1 e2 e3 e4 e a = record {
   lawful = a;
-  spelled = let all : ds ≡ spell (fill gid_segments (gid_header ∷ m ∷ o ∷ s ∷ [])) = rw (e, e4, e3, e2, e1, e0) (simp (append_assoc, append-nil) refl) in all ∙ ap spell (sym a.has);
+  spelled = let all : ds ≡ fields_digits (fill gid_segments (gid_header ∷ m ∷ o ∷ s ∷ [])) = rw (e, e4, e3, e2, e1, e0) (simp (append_assoc, append-nil) refl) in all ∙ ap fields_digits (sym a.has);
 }

@@ -5,7 +5,7 @@ use Rattle.std.proofs.lemmas.List.{append_assoc}
 use Rattle.tag_bits.specs.Digits.{digits}
 use Rattle.tag_bits.proofs.DigitLemmas.{length-digits, digits-injective, take-seam, drop-seam}
 use Rattle.tag_epc.specs.Layout.{Segment}
-use Rattle.tag_epc.specs.LawfulWord.{Field, fill, Fits, AllFit, spell}
+use Rattle.tag_epc.specs.LawfulWord.{Field, fill, Fits, AllFit, fields_digits}
 use Rattle.tag_epc.specs.Faults.{FirstUnfit, AllRead}
 
 -- numbers that fit have no more than their binary digits
@@ -46,14 +46,14 @@ same_part w a b xs ys p q e = (
 
 -- equal digits of the same segments give the same numbers
 pub same_numbers : (ss : List Segment) (ms ns : List ℕ) (xs ys : List Bool) → length ms ≡ length ss → length ns ≡ length ss
-    → AllRead (fill ss ms) → AllRead (fill ss ns) → spell (fill ss ms) ++ xs ≡ spell (fill ss ns) ++ ys → (ms ≡ ns) × (xs ≡ ys)
+    → AllRead (fill ss ms) → AllRead (fill ss ns) → fields_digits (fill ss ms) ++ xs ≡ fields_digits (fill ss ns) ++ ys → (ms ≡ ns) × (xs ≡ ys)
 same_numbers [] [] [] xs ys l k a b e = (refl, e)
 same_numbers [] [] (n ∷ ns) xs ys l k a b e = absurd (omega arith)
 same_numbers [] (m ∷ ms) ns xs ys l k a b e = absurd (omega arith)
 same_numbers (s ∷ ss) [] ns xs ys l k a b e = absurd (omega arith)
 same_numbers (s ∷ ss) (m ∷ ms) [] xs ys l k a b e = absurd (omega arith)
 same_numbers (s ∷ ss) (m ∷ ms) (n ∷ ns) xs ys l k a b e =
-    let split : digits s.width m ++ (spell (fill ss ms) ++ xs) ≡ digits s.width n ++ (spell (fill ss ns) ++ ys) = sym (append_assoc (digits s.width m) (spell (fill ss ms)) xs) ∙ e ∙ append_assoc (digits s.width n) (spell (fill ss ns)) ys in
-    let first = same_part s.width m n (spell (fill ss ms) ++ xs) (spell (fill ss ns) ++ ys) a.0 b.0 split in
+    let split : digits s.width m ++ (fields_digits (fill ss ms) ++ xs) ≡ digits s.width n ++ (fields_digits (fill ss ns) ++ ys) = sym (append_assoc (digits s.width m) (fields_digits (fill ss ms)) xs) ∙ e ∙ append_assoc (digits s.width n) (fields_digits (fill ss ns)) ys in
+    let first = same_part s.width m n (fields_digits (fill ss ms) ++ xs) (fields_digits (fill ss ns) ++ ys) a.0 b.0 split in
     let rest = same_numbers ss ms ns xs ys (omega arith) (omega arith) a.1 b.1 first.1 in
     (ap (λ (x : ℕ). x ∷ ms) first.0 ∙ ap (λ (x : List ℕ). n ∷ x) rest.0, rest.1)

@@ -24,7 +24,7 @@ pub record IsSound (l : Layout) : Type 0 where
   pub rows : (p : ℕ) (r : Row) → row_at l p ≡ Some r → FitsRow l p r
 
 -- both tests hold
-both : (a b : Bool) → (a && b) ≡ true → (a ≡ true) × (b ≡ true)
+pub both : (a b : Bool) → (a && b) ≡ true → (a ≡ true) × (b ≡ true)
 both true b h = (refl, h)
 both false b h = cc
 

@@ -5,7 +5,7 @@ use Rattle.std.proofs.lemmas.Bool.{eqb-true, eq-eqb}
 use Rattle.std.proofs.Math.Nat.{div-eq_of_lt}
 use Rattle.std.proofs.lemmas.Nat.{pow_pos, shr_split, mod_below}
 use Rattle.tag_epc.specs.declared.scheme.Row.{Row}
-use Rattle.tag_epc.specs.Layout.{Layout, fixed, plain, last_decimals, last_segment, number_segments}
+use Rattle.tag_epc.specs.Layout.{Layout, fixed, plain_segment, last_decimals, last_segment, number_segments}
 use Rattle.tag_epc.specs.LawfulWord.{Field, Fits, AllFit, fill}
 use Rattle.tag_epc.specs.Faults.{FirstUnfit}
 use Rattle.tag_epc.proofs.Soundness.{FitsRow}
@@ -15,7 +15,7 @@ pub fits_fixed : (w k n : ℕ) → 10 ^ k ≤ 2 ^ w → n < 10 ^ k → Fits (rec
 fits_fixed w k n room h = record { bits = omega arith; decimals = h }
 
 -- a number in a segment of any number
-pub fits_plain : (w n : ℕ) → n < 2 ^ w → Fits (record { segment = plain w; number = n })
+pub fits_plain : (w n : ℕ) → n < 2 ^ w → Fits (record { segment = plain_segment w; number = n })
 fits_plain w n h = record { bits = h; decimals = tt }
 
 -- a last part of any number of its bits

@@ -6,8 +6,8 @@ use Rattle.tag_epc.specs.declared.epc.Parts.{Parts}
 use Rattle.tag_epc.specs.declared.fault.WordReason.{WordReason}
 use Rattle.tag_epc.specs.declared.fault.WordReason.TheVariants as word
 use Rattle.tag_epc.specs.declared.fault.WordFault.{WordFault}
-use Rattle.tag_epc.specs.Layout.{Layout, layout_of, header_of, row_at, plain, leading_segments}
-use Rattle.tag_epc.specs.LawfulWord.{Field, fill, Fits, AllFit, spell, HasFields}
+use Rattle.tag_epc.specs.Layout.{Layout, layout_of, header_of, row_at, plain_segment, leading_segments}
+use Rattle.tag_epc.specs.LawfulWord.{Field, fill, Fits, AllFit, fields_digits, HasFields}
 
 -- the fields before the one at `place` fit, and that one does not
 pub record FirstUnfit (fields : List Field) (place : ℕ) : Type 0 where
@@ -29,7 +29,7 @@ pub record HasNoRow (fields : List Field) : Type 0 where
 -- the fields have the header of no scheme
 pub record HasNoScheme (fields : List Field) : Type 0 where
   pub header : ℕ
-  pub filled : fields ≡ fill (plain 8 ∷ []) (header ∷ [])
+  pub filled : fields ≡ fill (plain_segment 8 ∷ []) (header ∷ [])
   pub unknown : (kind : Kind) → header_of kind ≢ header
 
 -- the fields are those of an EPC, but for the one at `place`, the first that does not fit
@@ -47,12 +47,12 @@ Fails word.Reference fields = HasUnfitAt 4 fields
 Fails word.Zeros fields = HasUnfitAt 5 fields
 
 -- the name of the part that fails
-abbrev pub reason_name : WordReason → List ℕ
-reason_name word.Header = codes "Header"
-reason_name word.Partition = codes "Partition"
-reason_name word.Prefix = codes "Prefix"
-reason_name word.Reference = codes "Reference"
-reason_name word.Zeros = codes "Zeros"
+abbrev pub word_fault_name : WordReason → List ℕ
+word_fault_name word.Header = codes "Header"
+word_fault_name word.Partition = codes "Partition"
+word_fault_name word.Prefix = codes "Prefix"
+word_fault_name word.Reference = codes "Reference"
+word_fault_name word.Zeros = codes "Zeros"
 
 -- how many fields come before the one that fails
 abbrev pub place_of : WordReason → ℕ
@@ -68,14 +68,14 @@ AllRead [] = Unit {0}
 AllRead (f ∷ fs) = (f.number < 2 ^ f.segment.width) × AllRead fs
 
 -- the first field that fails of the digits of a word, and its first bit
-pub record HasFault (ds : List Bool) (fault : WordFault) : Type 0 where
+pub record HasDigitsFault (ds : List Bool) (fault : WordFault) : Type 0 where
   pub fields : List Field
   pub rest : List Bool
-  pub spelled : ds ≡ spell fields ++ rest
+  pub spelled : ds ≡ fields_digits fields ++ rest
   pub read : AllRead fields
   pub fails : Fails fault.reason fields
-  pub bit : fault.bit ≡ length (spell (take (place_of fault.reason) fields))
+  pub bit : fault.bit ≡ length (fields_digits (take (place_of fault.reason) fields))
 
 -- the first part of a word that fails, and its first bit
 abbrev pub HasWordFault : ℕ → WordFault → Type 0
-HasWordFault word fault = HasFault (word_digits word) fault
+HasWordFault word fault = HasDigitsFault (word_digits word) fault

@@ -35,9 +35,9 @@ AllFit [] = Unit {0}
 AllFit (f ∷ fs) = Fits f × AllFit fs
 
 -- the binary digits of the fields, one after another
-abbrev pub spell : List Field → List Bool
-spell [] = []
-spell (f ∷ fs) = digits f.segment.width f.number ++ spell fs
+abbrev pub fields_digits : List Field → List Bool
+fields_digits [] = []
+fields_digits (f ∷ fs) = digits f.segment.width f.number ++ fields_digits fs
 
 -- the fields of an EPC with a company prefix, whose digits and partition value make 12
 pub record HasPartition (kind : Kind) (filter company_digits company reference last : ℕ) (fields : List Field) : Type 0 where
@@ -55,15 +55,15 @@ HasFields (Partitioned kind filter company_digits company reference last) fields
 HasFields (General manager object_class serial) fields = fields ≡ fill gid_segments (gid_header ∷ manager ∷ object_class ∷ serial ∷ [])
 
 -- an EPC whose numbers all fit their segments
-pub record IsLawful (epc : Parts) : Type 0 where
+pub record IsLawfulEpc (epc : Parts) : Type 0 where
   pub fields : List Field
   pub has : HasFields epc fields
   pub fit : AllFit fields
 
 -- the EPC is lawful, and the digits are those of its fields
 pub record Spells (epc : Parts) (ds : List Bool) : Type 0 where
-  pub lawful : IsLawful epc
-  pub spelled : ds ≡ spell lawful.fields
+  pub lawful : IsLawfulEpc epc
+  pub spelled : ds ≡ fields_digits lawful.fields
 
 -- the EPC has the word
 abbrev pub HasWord : Parts → ℕ → Type 0
@@ -74,6 +74,6 @@ abbrev pub IsLawfulWord : ℕ → Type 0
 IsLawfulWord word = (epc : Parts) × HasWord epc word
 
 -- the scheme of an EPC
-abbrev pub kind_of : Parts → Kind
-kind_of (Partitioned kind filter company_digits company reference last) = kind
-kind_of (General manager object_class serial) = Gid
+abbrev pub kind_of_parts : Parts → Kind
+kind_of_parts (Partitioned kind filter company_digits company reference last) = kind
+kind_of_parts (General manager object_class serial) = Gid

@@ -10,8 +10,8 @@ pub record Segment : Type 0 where
   pub decimals : Option ℕ
 
 -- a segment of any number
-abbrev pub plain : ℕ → Segment
-plain w = record { width = w; decimals = None }
+abbrev pub plain_segment : ℕ → Segment
+plain_segment w = record { width = w; decimals = None }
 
 -- a segment of a number of this many decimal digits
 abbrev pub fixed : ℕ → ℕ → Segment
@@ -113,7 +113,7 @@ row_at l p = slice_get l.rows p
 
 -- header, filter value and partition value
 abbrev pub leading_segments : List Segment
-leading_segments = plain 8 ∷ plain 3 ∷ plain 3 ∷ []
+leading_segments = plain_segment 8 ∷ plain_segment 3 ∷ plain_segment 3 ∷ []
 
 -- a last segment that is all zeros has no decimal digits
 abbrev pub last_decimals : Bool → Option ℕ
@@ -130,7 +130,7 @@ number_segments l r = fixed r.company_bits r.company_digits ∷ fixed r.referenc
 
 -- GID-96: header, manager number, object class and serial number (14.5, "General Identifier")
 abbrev pub gid_segments : List Segment
-gid_segments = plain 8 ∷ plain 28 ∷ plain 24 ∷ plain 36 ∷ []
+gid_segments = plain_segment 8 ∷ plain_segment 28 ∷ plain_segment 24 ∷ plain_segment 36 ∷ []
 
 -- the header of GID-96
 abbrev pub gid_header : ℕ
@@ -141,5 +141,5 @@ abbrev pub header_of : Kind → ℕ
 header_of k = unwrap_or (option_map (λ l. l.header) (layout_of k)) gid_header
 
 -- a scheme's name in tag URIs
-abbrev pub name_of : Kind → List ℕ
-name_of k = unwrap_or (option_map (λ l. l.name) (layout_of k)) (codes "gid-96")
+abbrev pub scheme_name : Kind → List ℕ
+scheme_name k = unwrap_or (option_map (λ l. l.name) (layout_of k)) (codes "gid-96")

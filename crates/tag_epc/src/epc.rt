@@ -2,11 +2,11 @@
 
 ghost use Rattle.std.specs.Prelude.{◌≡◌, ◌≢◌, ◌↔◌, ℕ, IsOk, IfOk, IfErr};
 
-use crate::check::{checked_at, checked_general};
 use crate::fault::{EpcFault, WordFault};
+use crate::from_word::parts_of;
 use crate::kind::Kind;
-use crate::read::parts_of;
-use crate::write::word_of;
+use crate::lawful_parts::{checked_at, checked_general};
+use crate::to_word::word_of;
 use std::marker::Model;
 use tag_bits::Word;
 
@@ -39,19 +39,19 @@ pub struct Epc {
 
 impl Model for Epc {
     ghost use Rattle.tag_epc.specs.declared.epc.Parts.{Parts};
-    ghost use Rattle.tag_epc.specs.LawfulWord.{IsLawful};
+    ghost use Rattle.tag_epc.specs.LawfulWord.{IsLawfulEpc};
 
     ghost Value = { Parts };
 
     ghost view = { λ a. a.parts };
 
-    ghost invariant = { λ a. IsLawful a.parts };
+    ghost invariant = { λ a. IsLawfulEpc a.parts };
 
     ghost inverse = { λ parts. record { parts = parts } };
 }
 
 impl Epc {
-    ghost use Rattle.tag_epc.specs.LawfulWord.{IsLawful, IsLawfulWord, HasWord, kind_of};
+    ghost use Rattle.tag_epc.specs.LawfulWord.{IsLawfulEpc, IsLawfulWord, HasWord, kind_of_parts};
     ghost use Rattle.tag_epc.specs.Calls.Faults.{HasEpcFault};
     ghost use Rattle.tag_epc.specs.Faults.{HasWordFault};
 
@@ -68,7 +68,7 @@ impl Epc {
         last: u64,
     ) -> Result<Epc, EpcFault>
         requires has_company_prefix { kind ≢ Kind.Gid }
-        ensures exactly { IsOk result ↔ IsLawful (Parts.Partitioned kind filter company_digits
+        ensures exactly { IsOk result ↔ IsLawfulEpc (Parts.Partitioned kind filter company_digits
             company reference last) }
         ensures ok { IfOk result (λ e. e ≡ Parts.Partitioned kind filter company_digits company
             reference last) }
@@ -83,7 +83,7 @@ impl Epc {
     /// `Prefix` for the manager number, `Reference` for the object class, `Last` for the serial
     /// number.
     pub fn gid(manager: u64, object_class: u64, serial: u64) -> Result<Epc, EpcFault>
-        ensures exactly { IsOk result ↔ IsLawful (Parts.General manager object_class serial) }
+        ensures exactly { IsOk result ↔ IsLawfulEpc (Parts.General manager object_class serial) }
         ensures ok { IfOk result (λ e. e ≡ Parts.General manager object_class serial) }
         ensures err { IfErr result (λ f. HasEpcFault (Parts.General manager
             object_class serial) f) }
@@ -94,7 +94,7 @@ impl Epc {
 
     /// The EPC of parts that are proved to be an EPC's, without a check.
     pub fn of_parts(parts: Parts) -> Epc
-        requires { IsLawful parts }
+        requires { IsLawfulEpc parts }
         ensures { result ≡ parts }
     {
         Epc { parts }
@@ -122,7 +122,7 @@ impl Epc {
 
     /// The scheme.
     pub fn kind(&self) -> Kind
-        ensures { result ≡ kind_of self.now }
+        ensures { result ≡ kind_of_parts self.now }
     {
         match self.parts {
             Parts::Partitioned { kind, .. } => kind,
@@ -133,7 +133,7 @@ impl Epc {
     /// The parts.
     pub fn parts(&self) -> Parts
         ensures parts { result ≡ self.now }
-        ensures lawful { IsLawful result }
+        ensures lawful { IsLawfulEpc result }
     {
         self.parts
     }

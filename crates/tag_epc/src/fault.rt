@@ -40,11 +40,11 @@ pub struct WordFault {
 }
 
 impl WordReason {
-    ghost use Rattle.tag_epc.specs.Faults.{reason_name};
+    ghost use Rattle.tag_epc.specs.Faults.{word_fault_name};
 
     /// The name of the part.
     pub fn name(self) -> &'static str
-        ensures { result.now ≡ reason_name self }
+        ensures { result.now ≡ word_fault_name self }
     {
         match self {
             WordReason::Header => "Header",

@@ -64,11 +64,11 @@ macro_rules! at_scheme {
 }
 
 impl Kind {
-    ghost use Rattle.tag_epc.specs.Layout.{name_of, header_of};
+    ghost use Rattle.tag_epc.specs.Layout.{scheme_name, header_of};
 
     /// The scheme's name in tag URIs, as `sgtin-96`.
     pub fn name(self) -> &'static str
-        ensures { result.now ≡ name_of self }
+        ensures { result.now ≡ scheme_name self }
     {
         at_scheme!(self, name_under(), "gid-96")
     }

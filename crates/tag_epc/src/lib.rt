@@ -11,15 +11,15 @@
 //! ```
 #![tactic(auto)]
 
-mod bits;
-mod check;
-pub mod epc;
-pub mod fault;
+mod bit_cursor;
+mod epc;
+mod fault;
+mod from_word;
 pub mod kind;
+mod lawful_parts;
 pub mod laws;
-mod read;
 pub mod scheme;
-mod write;
+mod to_word;
 
 pub use epc::{Epc, Parts};
 pub use fault::{EpcFault, WordFault, WordReason};

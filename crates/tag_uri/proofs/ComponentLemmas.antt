@@ -56,11 +56,11 @@ all_are : (text : List ℕ) → all_ascii_digits text ≡ true → AreDigits tex
 all_are [] h = tt
 all_are (c ∷ cs) h = let p = tells_all_ascii_digits.parts c cs h in (p.0, all_are cs p.1)
 
-not_false : (b : Bool) → not b ≡ false → b ≡ true
+pub not_false : (b : Bool) → not b ≡ false → b ≡ true
 not_false true h = refl
 not_false false h = cc
 
-or_false : (a b : Bool) → (a || b) ≡ false → (a ≡ false) × (b ≡ false)
+pub or_false : (a b : Bool) → (a || b) ≡ false → (a ≡ false) × (b ≡ false)
 or_false true b h = cc
 or_false false b h = (refl, h)
 

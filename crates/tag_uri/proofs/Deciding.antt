@@ -14,11 +14,11 @@ use Rattle.tag_epc.specs.Layout.{Layout, layout_of, row_at}
 use Rattle.tag_epc.specs.Private.Layout.{every_kind}
 use Rattle.tag_epc.specs.Calls.Layout.{is_sound}
 use Rattle.tag_epc.proofs.KindLemmas.{below as within, listed, place_of}
-use Rattle.tag_epc.specs.LawfulWord.{IsLawful, HasWord, spell}
+use Rattle.tag_epc.specs.LawfulWord.{IsLawfulEpc, HasWord, fields_digits}
 use Rattle.tag_epc.proofs.OneReading.{has_word as lawful_word, one_fields}
 use Rattle.tag_uri.specs.TagText.{tag_uri, raw_uri, IsTextOf}
 use Rattle.tag_uri.proofs.GeneralLemmas.{lawful as lawful_general}
-use Rattle.tag_uri.proofs.PrintLemmas.{at_row, general_below, has_row}
+use Rattle.tag_uri.proofs.PrintLemmas.{at_row, general_below, has_row, same_some}
 use Rattle.tag_uri.proofs.ReadLemmas.{FitsLast, bool_cases, lawful as lawful_partitioned}
 use Rattle.tag_uri.proofs.RowDigits.{option_cases}
 use Rattle.tag_uri.proofs.TextLaws.{sound_of}
@@ -55,9 +55,6 @@ kinds P d = elim (below (λ i. P (kind_at i)) (length every_kind) (λ i lt. d (k
   | inr never ↦ inr (λ h. never (place_of h.0, within h.0, subst P (sym (ap (λ (o : Option Kind). unwrap_or o Gid) (listed h.0))) h.1))
 ]
 
-same_some : {A : Type 0} (a b : A) → ◌≡◌ {A = Option A} (Some a) (Some b) → a ≡ b
-same_some a b e = cc
-
 -- below this a last part fits
 abbrev last_bound : Layout → ℕ
 last_bound l = cond l.zero_tail 1 (2 ^ l.last_bits)
@@ -75,11 +72,11 @@ below_fits l n h = elim (bool_cases l.zero_tail) [
 ]
 
 -- some lawful EPC of which a fact holds that is decided for each
-module _ (P : Parts → Type 0) (decide : (epc : Parts) → IsLawful epc → Decided (P epc)) where
+module _ (P : Parts → Type 0) (decide : (epc : Parts) → IsLawfulEpc epc → Decided (P epc)) where
   abbrev Here : Parts → Type 0
-  Here epc = IsLawful epc × P epc
+  Here epc = IsLawfulEpc epc × P epc
 
-  here : (epc : Parts) → IsLawful epc → Decided (Here epc)
+  here : (epc : Parts) → IsLawfulEpc epc → Decided (Here epc)
   here epc h = elim (decide epc h) [ inl p ↦ inl (h, p) | inr never ↦ inr (λ x. never x.1) ]
 
   -- of a scheme, a filter value and this many digits of the company prefix
@@ -140,7 +137,7 @@ module _ (P : Parts → Type 0) (decide : (epc : Parts) → IsLawful epc → Dec
         | inr never ↦ inr (λ h. let b = general_below h.0 h.1 h.2 h.3.0 in never (h.0, b.0, (h.1, b.1, (h.2, b.2, h.3))))
       ]
 
-  pub some_epc : Decided ((epc : Parts) × IsLawful epc × P epc)
+  pub some_epc : Decided ((epc : Parts) × IsLawfulEpc epc × P epc)
   some_epc = elim (kinds OfKind of_kind) [
     | inl h ↦ inl (Partitioned h.0 h.1.0 h.1.1 h.1.2.0 h.1.2.1 h.1.2.2, h.1.2.3.0, h.1.2.3.1)
     | inr a ↦ elim of_general [
@@ -171,10 +168,10 @@ same_bits (x ∷ xs) (y ∷ ys) = elim (same_bit x y) [
     same_bit false true = inr (λ e. cc)
 
 -- some EPC has the word, or none has
-word_decided : (w : ℕ) → Decided ((epc : Parts) × IsLawful epc × HasWord epc w)
-word_decided w = some_epc (λ epc. HasWord epc w) (λ epc h. elim (same_bits (word_digits w) (spell h.fields)) [
+word_decided : (w : ℕ) → Decided ((epc : Parts) × IsLawfulEpc epc × HasWord epc w)
+word_decided w = some_epc (λ epc. HasWord epc w) (λ epc h. elim (same_bits (word_digits w) (fields_digits h.fields)) [
   | inl e ↦ inl (record { lawful = h; spelled = e })
-  | inr never ↦ inr (λ x. never (x.spelled ∙ ap spell (one_fields epc x.lawful.fields h.fields x.lawful.has h.has)))
+  | inr never ↦ inr (λ x. never (x.spelled ∙ ap fields_digits (one_fields epc x.lawful.fields h.fields x.lawful.has h.has)))
 ])
 
 -- ---- texts
@@ -208,7 +205,7 @@ text_decided text = elim (some_epc (λ epc. text ≡ tag_uri epc) (λ epc h. sam
       ]
     ]
 
-    none : (((epc : Parts) × IsLawful epc × (text ≡ tag_uri epc)) → ⊥) → (Below (2 ^ 96) (IsRawOf text) → ⊥) → (w : ℕ) → w < 2 ^ 96 → IsTextOf w text → ⊥
+    none : (((epc : Parts) × IsLawfulEpc epc × (text ≡ tag_uri epc)) → ⊥) → (Below (2 ^ 96) (IsRawOf text) → ⊥) → (w : ℕ) → w < 2 ^ 96 → IsTextOf w text → ⊥
     none no_uri no_raw w lt (inl a) = no_uri (a.0, a.1.lawful, a.2)
     none no_uri no_raw w lt (inr b) = no_raw (w, lt, (b.1, b.0))
 

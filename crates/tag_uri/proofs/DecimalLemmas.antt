@@ -12,6 +12,7 @@ use Rattle.std.specs.Prelude.{replicate, true, false, nat_lt, ◌==◌}
 use Rattle.tag_uri.specs.Calls.Decimal.{AreDigits, IsPadded, IsPlain}
 use Rattle.tag_uri.specs.Decimal.{decimal_value, padded}
 use Rattle.tag_uri.specs.TagText.{is_zero_led}
+use Rattle.tag_epc.proofs.UnfitLemmas.{below_shifted as shifted_below}
 
 weighs : WeighsDigits decimal_value
 unfolding decimal_value
@@ -104,11 +105,6 @@ parse_over bs r e w h is d some narrow =
 
 pub parse_is : {E : Type 0} (bs : List ℕ) (r : Result ℕ E) (n : ℕ) → ParsesUnsigned 64 10 bs r → r ≡ Ok n → AreDigits bs → n ≡ decimal_value bs
 parse_is bs r n h is d = (rw is at (parse_digits own 64 bs r h d)).1
-
-pub shifted_below : (n k : ℕ) → n / 2 ^ k ≡ 0 → n < 2 ^ k
-shifted_below n k h =
-    let e : 0 * 2 ^ k + n % 2 ^ k ≡ n = rw h at (shr_split n k) in
-    omega (arith, e, mod_below n (2 ^ k) (pow_pos k))
 
 pub shifted_over : (n k : ℕ) → (n / 2 ^ k ≡ 0 → ⊥) → 2 ^ k ≤ n
 shifted_over n k h = elim (cases_lt n (2 ^ k)) [ inl lt ↦ absurd (h (div-eq_of_lt lt)) | inr ge ↦ omega arith ]

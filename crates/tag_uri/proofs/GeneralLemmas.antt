@@ -4,12 +4,13 @@ use Rattle.std.specs.Prelude.{◌==◌, nat_le}
 use Rattle.std.proofs.lemmas.Bool.{ne_eqb, le-leb, lt-leb}
 use Rattle.std.proofs.Math.Nat.{pow-le-pow_right}
 use Rattle.tag_epc.specs.declared.epc.Parts.TheVariants.{General}
-use Rattle.tag_epc.specs.LawfulWord.{IsLawful}
+use Rattle.tag_epc.specs.LawfulWord.{IsLawfulEpc}
 use Rattle.tag_uri.specs.declared.fault.UriFault.TheVariants as fault
 use Rattle.tag_uri.specs.Decimal.{decimal_value, plain}
-use Rattle.tag_uri.specs.TagText.{refusal, forms_of, some_component, is_stray, has_leading_zero, is_over, is_zero_led}
+use Rattle.tag_uri.specs.TagText.{refusal, forms_of, some_component, is_stray, has_leading_zero, is_above, is_zero_led}
 use Rattle.tag_uri.proofs.DecimalLemmas.{plain_text}
-use Rattle.tag_uri.proofs.ReadLemmas.{SomeDigits, not_stray, or_false}
+use Rattle.tag_uri.proofs.ReadLemmas.{SomeDigits, not_stray}
+use Rattle.tag_uri.proofs.ComponentLemmas.{or_false}
 
 pub wrong_count : (cs : List (List ℕ)) → (length cs ≡ 3 → ⊥) → refusal None cs ≡ Some fault.Parts
 unfolding refusal
@@ -25,7 +26,7 @@ module _ (cs : List (List ℕ)) (a b c : List ℕ) (is : cs ≡ a ∷ b ∷ c �
   led = some_component has_leading_zero (forms_of None) (a ∷ b ∷ c ∷ [])
 
   abbrev over : Bool
-  over = some_component is_over (forms_of None) (a ∷ b ∷ c ∷ [])
+  over = some_component is_above (forms_of None) (a ∷ b ∷ c ∷ [])
 
   pub digit_first : stray ≡ true → refusal None cs ≡ Some fault.Digit
   unfolding refusal
@@ -61,7 +62,7 @@ as_plain text w n d p narrow e below =
     sym (plain_text text n d.digits d.some p small e)
 
 -- numbers of this many bits are an EPC's
-pub lawful : (m o s : ℕ) → m < 2 ^ 28 → o < 2 ^ 24 → s < 2 ^ 36 → IsLawful (General m o s)
+pub lawful : (m o s : ℕ) → m < 2 ^ 28 → o < 2 ^ 24 → s < 2 ^ 36 → IsLawfulEpc (General m o s)
 lawful m o s a b c = record {
   fields = _;
   has = refl;

@@ -7,6 +7,7 @@ use Rattle.std.specs.Prelude.{◌==◌, ◌&&◌, nat_lt, cond, slice_index, cod
 use Rattle.std.proofs.lemmas.Bool.{cases_lt, eqb-true}
 use Rattle.tag_uri.specs.Hexadecimal.{hexadecimal, is_upper_digit}
 use Rattle.tag_uri.specs.TagText.{AreWordDigits}
+use Rattle.tag_epc.proofs.Soundness.{both}
 
 abbrev pub upper_digits : List ℕ
 upper_digits = codes "0123456789ABCDEF"
@@ -20,10 +21,6 @@ length-hexadecimal (suc k) n = ap suc (length-hexadecimal k n)
 abbrev below : (ℕ → Bool) → ℕ → Bool
 below p zero = true
 below p (suc n) = p n && below p n
-
-both : (a b : Bool) → (a && b) ≡ true → (a ≡ true) × (b ≡ true)
-both true b h = (refl, h)
-both false b h = cc
 
 below-at : (p : ℕ → Bool) (n k : ℕ) → below p n ≡ true → k < n → p k ≡ true
 below-at p zero k h lt = absurd (omega arith)

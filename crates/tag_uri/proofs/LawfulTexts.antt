@@ -11,7 +11,7 @@ use Rattle.tag_epc.specs.declared.scheme.Row.{Row}
 use Rattle.tag_epc.specs.declared.epc.Parts.TheVariants.{Partitioned, General}
 use Rattle.tag_epc.specs.Layout.{Layout, layout_of}
 use Rattle.tag_epc.specs.Calls.Layout.{is_sound}
-use Rattle.tag_epc.specs.LawfulWord.{IsLawful}
+use Rattle.tag_epc.specs.LawfulWord.{IsLawfulEpc}
 use Rattle.tag_epc.proofs.Soundness.{sound as is_sound_layout}
 use Rattle.tag_uri.specs.Calls.Decimal.{AreDigits}
 use Rattle.tag_uri.specs.Decimal.{decimal_value, padded, plain}
@@ -124,7 +124,7 @@ fine_parts l f k c r last sound a =
 pub last_small : (l : Layout) (n : ℕ) → is_sound l ≡ true → l.zero_tail ≡ false → FitsLast l n → n < 2 ^ 64
 last_small l n sound e h = omega (arith, h.bits e, pow-le-pow_right {n = 2} (omega arith) {i = l.last_bits} {j = 64} (omega (arith, (is_sound_layout l sound).last)))
 
-pub lawful_fine : (kind : Kind) (l : Layout) (f k c r last : ℕ) → layout_of kind ≡ Some l → is_sound l ≡ true → IsLawful (Partitioned kind f k c r last) → refusal (Some l) (partitioned_components (Some l) f k c r last) ≡ None
+pub lawful_fine : (kind : Kind) (l : Layout) (f k c r last : ℕ) → layout_of kind ≡ Some l → is_sound l ≡ true → IsLawfulEpc (Partitioned kind f k c r last) → refusal (Some l) (partitioned_components (Some l) f k c r last) ≡ None
 lawful_fine kind l f k c r last known sound h =
     let a = at_row kind l f k c r last known sound h in
     let p = fine_parts l f k c r last sound a in
@@ -135,7 +135,7 @@ lawful_fine kind l f k c r last known sound h =
           ∙ four_fine l (padded 1 f) (padded k c) (padded d r) (plain last) e p (fine last l.last_bits (a.last_fits.bits e) (last_small l last sound e a.last_fits))
     ]
 
-pub general_lawful_fine : (m o s : ℕ) → IsLawful (General m o s) → refusal None (plain m ∷ plain o ∷ plain s ∷ []) ≡ None
+pub general_lawful_fine : (m o s : ℕ) → IsLawfulEpc (General m o s) → refusal None (plain m ∷ plain o ∷ plain s ∷ []) ≡ None
 general_lawful_fine m o s h =
     let b = general_below m o s h in
     general_fine (plain m) (plain o) (plain s) (fine m 28 b.0 (omega (arith, b.0))) (fine o 24 b.1 (omega (arith, b.1))) (fine s 36 b.2 (omega (arith, b.2)))
@@ -188,14 +188,14 @@ same_parts l f k c r last g m d s late sound a b e =
     found l f k c r last sound a = let short = a.short in ap (λ (o : Option ℕ). unwrap_or o 0) (reference_digits-at l k (12 - k) sound (omega arith) ∙ ap (option_map (λ x. x.reference_digits)) a.placed)
 
 -- the components of a kind's lawful EPC determine it
-pub one_partitioned : (kind : Kind) (l : Layout) (f k c r last g m d s late : ℕ) → layout_of kind ≡ Some l → is_sound l ≡ true → IsLawful (Partitioned kind f k c r last) → IsLawful (Partitioned kind g m d s late)
+pub one_partitioned : (kind : Kind) (l : Layout) (f k c r last g m d s late : ℕ) → layout_of kind ≡ Some l → is_sound l ≡ true → IsLawfulEpc (Partitioned kind f k c r last) → IsLawfulEpc (Partitioned kind g m d s late)
     → partitioned_components (Some l) f k c r last ≡ partitioned_components (Some l) g m d s late → Partitioned kind f k c r last ≡ Partitioned kind g m d s late
 one_partitioned kind l f k c r last g m d s late known sound h i e =
     let p = same_parts l f k c r last g m d s late sound (at_row kind l f k c r last known sound h) (at_row kind l g m d s late known sound i) e in
     let e1 = p.same_filter in let e2 = p.same_digits in let e3 = p.same_company in let e4 = p.same_reference in let e5 = p.same_last in
     rw (e1, e2, e3, e4, e5) refl
 
-pub one_general : (m o s n p t : ℕ) → IsLawful (General m o s) → IsLawful (General n p t) → plain m ∷ plain o ∷ plain s ∷ [] ≡ plain n ∷ plain p ∷ plain t ∷ [] → General m o s ≡ General n p t
+pub one_general : (m o s n p t : ℕ) → IsLawfulEpc (General m o s) → IsLawfulEpc (General n p t) → plain m ∷ plain o ∷ plain s ∷ [] ≡ plain n ∷ plain p ∷ plain t ∷ [] → General m o s ≡ General n p t
 one_general m o s n p t h i e =
     let a = general_below m o s h in let b = general_below n p t i in
     let e1 : m ≡ n = decimal_injective m n (omega (arith, a.0)) (omega (arith, b.0)) cc in

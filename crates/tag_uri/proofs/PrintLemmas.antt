@@ -10,9 +10,9 @@ use Rattle.tag_epc.specs.declared.kind.Kind.{Kind}
 use Rattle.tag_epc.specs.declared.kind.Kind.TheVariants.{Sgtin, Gid}
 use Rattle.tag_epc.specs.declared.scheme.Row.{Row}
 use Rattle.tag_epc.specs.declared.epc.Parts.TheVariants.{Partitioned, General}
-use Rattle.tag_epc.specs.Layout.{Layout, layout_of, name_of, row_at, last_segment}
+use Rattle.tag_epc.specs.Layout.{Layout, layout_of, scheme_name, row_at, last_segment}
 use Rattle.tag_epc.specs.Calls.Layout.{is_sound}
-use Rattle.tag_epc.specs.LawfulWord.{IsLawful, Fits}
+use Rattle.tag_epc.specs.LawfulWord.{IsLawfulEpc, Fits}
 use Rattle.tag_uri.specs.Decimal.{padded, plain}
 use Rattle.tag_uri.specs.TagText.{reference_digits, partitioned_components}
 use Rattle.tag_uri.proofs.DecimalLemmas.{plain_is}
@@ -20,7 +20,7 @@ use Rattle.tag_uri.proofs.ReadLemmas.{FitsLast, bool_cases}
 use Rattle.tag_uri.proofs.RowDigits.{row_fits, reference_digits-at}
 
 -- a name has at most eight letters
-pub name_short : (k : Kind) → length (name_of k) ≤ 8
+pub name_short : (k : Kind) → length (scheme_name k) ≤ 8
 name_short Sgtin = lit≤ tt
 name_short _ = lit≤ tt
 
@@ -41,10 +41,10 @@ pub record AtRow (l : Layout) (filter k company reference last : ℕ) : Type 0 w
 fits_last : (l : Layout) (n : ℕ) → Fits (record { segment = last_segment l; number = n }) → FitsLast l n
 fits_last l n f = record { zero = λ e. let d = f.decimals in let z : n < 10 ^ 0 = rw e at d in omega arith; bits = λ e. f.bits }
 
-same_some : {A : Type 0} (a b : A) → ◌≡◌ {A = Option A} (Some a) (Some b) → a ≡ b
+pub same_some : {A : Type 0} (a b : A) → ◌≡◌ {A = Option A} (Some a) (Some b) → a ≡ b
 same_some a b e = cc
 
-pub at_row : (kind : Kind) (l : Layout) (f k c r last : ℕ) → layout_of kind ≡ Some l → is_sound l ≡ true → IsLawful (Partitioned kind f k c r last) → AtRow l f k c r last
+pub at_row : (kind : Kind) (l : Layout) (f k c r last : ℕ) → layout_of kind ≡ Some l → is_sound l ≡ true → IsLawfulEpc (Partitioned kind f k c r last) → AtRow l f k c r last
 at_row kind l f k c r last known sound h =
     let p = h.has in
     let same : p.layout ≡ l = same_some p.layout l (sym p.scheme ∙ known) in
@@ -107,7 +107,7 @@ pub record RowFacts (row : Row) (filter k company reference last : ℕ) : Type 0
   pub reference_fits : reference < 10 ^ row.reference_digits
   pub room : k + row.reference_digits + length (plain last) ≤ 25
 
-pub row_facts : (kind : Kind) (l : Layout) (f k c r last : ℕ) (row : Row) → layout_of kind ≡ Some l → is_sound l ≡ true → IsLawful (Partitioned kind f k c r last) → last < 2 ^ 64 → row_at l (12 - k) ≡ Some row → RowFacts row f k c r last
+pub row_facts : (kind : Kind) (l : Layout) (f k c r last : ℕ) (row : Row) → layout_of kind ≡ Some l → is_sound l ≡ true → IsLawfulEpc (Partitioned kind f k c r last) → last < 2 ^ 64 → row_at l (12 - k) ≡ Some row → RowFacts row f k c r last
 row_facts kind l f k c r last row known sound h small placed =
     let a = at_row kind l f k c r last known sound h in
     let same : a.row ≡ row = same_some a.row row (sym a.placed ∙ placed) in
@@ -122,7 +122,7 @@ row_facts kind l f k c r last row known sound h small placed =
       room = omega (arith, few);
     })
 
-pub has_row : (kind : Kind) (l : Layout) (f k c r last : ℕ) → layout_of kind ≡ Some l → is_sound l ≡ true → IsLawful (Partitioned kind f k c r last) → row_at l (12 - k) ≡ None → ⊥
+pub has_row : (kind : Kind) (l : Layout) (f k c r last : ℕ) → layout_of kind ≡ Some l → is_sound l ≡ true → IsLawfulEpc (Partitioned kind f k c r last) → row_at l (12 - k) ≡ None → ⊥
 has_row kind l f k c r last known sound h none = let a = at_row kind l f k c r last known sound h in let p = a.placed in cc
 
 -- four components, where the last may be missing
@@ -155,14 +155,14 @@ four_parts l row old t1 t2 t3 t4 t5 t6 f k c r last b sound short placed tail e1
     ∙ ap (λ (z : Bool). shape old f k c (unwrap_or (reference_digits l.rows k) 0) r last z) tail
 
 -- the numbers of GID-96
-pub general_below : (m o s : ℕ) → IsLawful (General m o s) → (m < 2 ^ 28) × (o < 2 ^ 24) × (s < 2 ^ 36)
+pub general_below : (m o s : ℕ) → IsLawfulEpc (General m o s) → (m < 2 ^ 28) × (o < 2 ^ 24) × (s < 2 ^ 36)
 general_below m o s h =
     let fit = h.fit in let filled = h.has in
     let all = rw filled at fit in
     (all.1.0.bits, all.1.1.0.bits, all.1.1.1.0.bits)
 
 -- a number of GID-96 has at most this many digits
-pub general_room : (m o s : ℕ) → IsLawful (General m o s) → (length (plain m) ≤ 9) × (length (plain o) ≤ 8) × (length (plain s) ≤ 11)
+pub general_room : (m o s : ℕ) → IsLawfulEpc (General m o s) → (length (plain m) ≤ 9) × (length (plain o) ≤ 8) × (length (plain s) ≤ 11)
 general_room m o s h =
     let fit = h.fit in let filled = h.has in
     let all = rw filled at fit in
@@ -176,5 +176,5 @@ pub three_parts : (old t1 t2 t3 t4 t5 : List ℕ) (m o s : ℕ) → t1 ≡ old +
 three_parts old t1 t2 t3 t4 t5 m o s e1 e2 e3 e4 e5 = joined_three old t1 t2 t3 t4 t5 t5 (plain m) (plain o) (plain s) [] e1 e2 e3 e4 e5 (sym (append-nil t5))
 
 -- GID-96 has no company prefix
-pub no_prefix : (f k c r last : ℕ) → IsLawful (Partitioned Gid f k c r last) → ⊥
+pub no_prefix : (f k c r last : ℕ) → IsLawfulEpc (Partitioned Gid f k c r last) → ⊥
 no_prefix f k c r last h = let s = h.has.scheme in cc

@@ -7,7 +7,7 @@ use Rattle.tag_epc.specs.declared.kind.Kind.TheVariants.{Sgtin, Gid}
 use Rattle.tag_epc.specs.declared.scheme.Row.{Row}
 use Rattle.tag_epc.specs.declared.epc.Parts.{Parts}
 use Rattle.tag_epc.specs.declared.epc.Parts.TheVariants.{Partitioned, General}
-use Rattle.tag_epc.specs.Layout.{Layout, layout_of, name_of, row_at}
+use Rattle.tag_epc.specs.Layout.{Layout, layout_of, scheme_name, row_at}
 use Rattle.tag_epc.specs.Calls.Layout.{is_sound}
 use Rattle.tag_uri.specs.Decimal.{padded, plain}
 use Rattle.tag_uri.specs.TagText.{tag_uri, tag_start, scheme_text}
@@ -15,16 +15,16 @@ use Rattle.tag_uri.proofs.ReadLemmas.{FitsLast}
 use Rattle.tag_uri.proofs.UriLemmas.{name_at, partitioned_uri, general_uri}
 
 -- a name has at least six letters
-name_long : (k : Kind) → 6 ≤ length (name_of k)
+name_long : (k : Kind) → 6 ≤ length (scheme_name k)
 name_long Sgtin = lit≤ tt
 name_long _ = lit≤ tt
 
 -- what follows a scheme's colon
 pub behind_colon : (kind : Kind) (text rest : List ℕ) → text ≡ scheme_text kind rest → (drop (length text - length rest) text ≡ rest) × (7 ≤ length text - length rest)
 behind_colon kind text rest e =
-    let front : List ℕ = name_of kind ++ 58 ∷ [] in
-    let split : text ≡ front ++ rest = e ∙ sym (append_assoc (name_of kind) (58 ∷ []) rest) in
-    let long : length front ≡ length (name_of kind) + 1 = length-append (name_of kind) (58 ∷ []) in
+    let front : List ℕ = scheme_name kind ++ 58 ∷ [] in
+    let split : text ≡ front ++ rest = e ∙ sym (append_assoc (scheme_name kind) (58 ∷ []) rest) in
+    let long : length front ≡ length (scheme_name kind) + 1 = length-append (scheme_name kind) (58 ∷ []) in
     let whole : length text ≡ length front + length rest = ap length split ∙ length-append front rest in
     let place : length text - length rest ≡ length front = omega (arith, whole) in
     (ap (λ (i : ℕ). drop i text) place ∙ ap (λ (x : List ℕ). drop (length front) x) split ∙ drop_at front rest (length front) refl, omega (arith, place, long, name_long kind))
@@ -58,8 +58,8 @@ partitioned_read kind l row f k c r n from p ce q re b text known sound short pl
     let e3 : drop q text ≡ padded row.reference_digits r ++ cond b [] (46 ∷ plain n) = d3 ∙ ap (λ (y : List ℕ). padded row.reference_digits r ++ y) d4 in
     let e1 : drop p text ≡ padded k c ++ 46 ∷ (padded row.reference_digits r ++ cond b [] (46 ∷ plain n)) = d1 ∙ ap (λ (y : List ℕ). padded k c ++ y) (d2 ∙ ap (λ (y : List ℕ). 46 ∷ y) e3) in
     let whole : drop from text ≡ x = d0 ∙ ap (λ (y : List ℕ). (48 + f) ∷ 46 ∷ y) e1 in
-    ap (λ (y : List ℕ). tag_start ++ scheme_text kind y) whole ∙ joined_start (name_of kind) x
-    ∙ partitioned_uri kind l row (name_of kind) f k c r n b known (name_at kind l known) sound short placed tail few
+    ap (λ (y : List ℕ). tag_start ++ scheme_text kind y) whole ∙ joined_start (scheme_name kind) x
+    ∙ partitioned_uri kind l row (scheme_name kind) f k c r n b known (name_at kind l known) sound short placed tail few
 
 -- a text of GID-96
 pub general_read : (m o s from f g : ℕ) (text : List ℕ)
@@ -71,4 +71,4 @@ general_read m o s from f g text d0 d1 d2 d3 d4 =
     let e4 : drop (g + 1) text ≡ plain s = d4 ∙ ap (λ (y : List ℕ). plain s ++ y) (drop-length text) ∙ append-nil (plain s) in
     let e2 : drop (f + 1) text ≡ plain o ++ 46 ∷ plain s = d2 ∙ ap (λ (y : List ℕ). plain o ++ y) (d3 ∙ ap (λ (y : List ℕ). 46 ∷ y) e4) in
     let whole : drop from text ≡ x = d0 ∙ ap (λ (y : List ℕ). plain m ++ y) (d1 ∙ ap (λ (y : List ℕ). 46 ∷ y) e2) in
-    ap (λ (y : List ℕ). tag_start ++ scheme_text Gid y) whole ∙ joined_start (name_of Gid) x ∙ general_uri m o s (name_of Gid) refl
+    ap (λ (y : List ℕ). tag_start ++ scheme_text Gid y) whole ∙ joined_start (scheme_name Gid) x ∙ general_uri m o s (scheme_name Gid) refl

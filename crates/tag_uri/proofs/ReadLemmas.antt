@@ -10,20 +10,16 @@ use Rattle.tag_epc.specs.declared.scheme.Row.{Row}
 use Rattle.tag_epc.specs.declared.epc.Parts.TheVariants.{Partitioned}
 use Rattle.tag_epc.specs.Layout.{Layout, layout_of, number_segments}
 use Rattle.tag_epc.specs.Calls.Layout.{is_sound}
-use Rattle.tag_epc.specs.LawfulWord.{IsLawful, fill, AllFit}
+use Rattle.tag_epc.specs.LawfulWord.{IsLawfulEpc, fill, AllFit}
 use Rattle.tag_epc.proofs.Soundness.{sound as is_sound_layout}
 use Rattle.tag_uri.specs.declared.partitioned.Components.{Components}
 use Rattle.tag_uri.specs.Calls.Decimal.{AreDigits}
 use Rattle.tag_uri.specs.Decimal.{decimal_value, padded, plain}
 use Rattle.tag_uri.specs.TagText.{Number, some_component, is_stray, has_leading_zero, is_strange, is_zero_led, is_no_filter, reference_digits, partitioned_components}
 use Rattle.tag_uri.specs.Private.ComponentForms.{texts_of, forms_with, LastIs}
-use Rattle.tag_uri.proofs.ComponentLemmas.{digits_of_not_strange}
+use Rattle.tag_uri.proofs.ComponentLemmas.{digits_of_not_strange, or_false, not_false}
 use Rattle.tag_uri.proofs.DecimalLemmas.{plain_text}
-use Rattle.tag_uri.proofs.RowDigits.{RowOf, row_fits, reference_digits-at, not_false}
-
-pub or_false : (a b : Bool) → (a || b) ≡ false → (a ≡ false) × (b ≡ false)
-or_false true b h = cc
-or_false false b h = (refl, h)
+use Rattle.tag_uri.proofs.RowDigits.{RowOf, row_fits, reference_digits-at}
 
 pub bool_cases : (b : Bool) → (b ≡ true) ⊎ (b ≡ false)
 bool_cases true = inl refl
@@ -129,7 +125,7 @@ all_fit l r company reference last a b c d h = (
 
 -- numbers that fit are those of a lawful EPC
 pub lawful : (kind : Kind) (l : Layout) (f k m company reference last : ℕ) → layout_of kind ≡ Some l → is_sound l ≡ true → RowOf l k m → f < 8 → company < 10 ^ k → reference < 10 ^ m → FitsLast l last
-    → IsLawful (Partitioned kind f k company reference last)
+    → IsLawfulEpc (Partitioned kind f k company reference last)
 lawful kind l f k m company reference last known sound r small below_company below_reference h =
     let fits = row_fits l sound (12 - k) r.row r.placed in
     let short = r.short in

@@ -7,6 +7,7 @@ use Rattle.tag_epc.specs.Layout.{Layout, row_at}
 use Rattle.tag_epc.specs.Calls.Layout.{is_sound}
 use Rattle.tag_epc.proofs.Soundness.{FitsRow, sound as is_sound_layout}
 use Rattle.tag_uri.specs.TagText.{reference_digits, is_no_row}
+use Rattle.tag_uri.proofs.ComponentLemmas.{not_false}
 
 -- an option is empty or not
 pub option_cases : {A : Type 0} (o : Option A) → (o ≡ None) ⊎ ((x : A) × (o ≡ Some x))
@@ -65,10 +66,6 @@ pub record RowOf (l : Layout) (k m : ℕ) : Type 0 where
   pub short : k ≤ 12
   pub placed : row_at l (12 - k) ≡ Some row
   pub digits : row.reference_digits ≡ m
-
-pub not_false : (b : Bool) → not b ≡ false → b ≡ true
-not_false true h = refl
-not_false false h = cc
 
 -- a reference has at most twelve digits
 pub few_digits : (l : Layout) (k m : ℕ) → is_sound l ≡ true → RowOf l k m → m ≤ 12

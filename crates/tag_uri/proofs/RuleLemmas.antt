@@ -8,7 +8,7 @@ use Rattle.tag_epc.specs.Layout.{Layout, layout_of}
 use Rattle.tag_uri.specs.declared.fault.UriFault.{UriFault}
 use Rattle.tag_uri.specs.declared.fault.UriFault.TheVariants as fault
 use Rattle.tag_uri.specs.declared.partitioned.Components.{Components}
-use Rattle.tag_uri.specs.TagText.{Form, Filter, Company, Reference, Number, forms_of, refusal, first_rule, some_component, is_stray, has_leading_zero, is_wrong_filter, has_wrong_digits, is_over, is_no_filter, is_no_row, is_strange, is_zero_led}
+use Rattle.tag_uri.specs.TagText.{Form, Filter, Company, Reference, Number, forms_of, refusal, first_rule, some_component, is_stray, has_leading_zero, is_wrong_filter, has_wrong_digits, is_above, is_no_filter, is_no_row, is_strange, is_zero_led}
 use Rattle.tag_uri.specs.Decimal.{decimal_value}
 use Rattle.tag_uri.specs.Private.ComponentForms.{texts_of}
 
@@ -28,7 +28,7 @@ rules_at l f c r o =
     ∷ (some_component has_leading_zero (forms o l.last_bits) (texts f c r o), fault.LeadingZero)
     ∷ (is_no_filter f, fault.Filter)
     ∷ (is_no_row l.rows (length c) (length r), fault.Digits)
-    ∷ (some_component is_over (forms o l.last_bits) (texts f c r o), fault.Range)
+    ∷ (some_component is_above (forms o l.last_bits) (texts f c r o), fault.Range)
     ∷ []
 
 abbrev pub rules_with : Layout → Components → List (Bool × UriFault)
@@ -42,7 +42,7 @@ on fs l cs =
     ∷ (some_component has_leading_zero fs cs, fault.LeadingZero)
     ∷ (some_component is_wrong_filter fs cs, fault.Filter)
     ∷ (has_wrong_digits (Some l) cs, fault.Digits)
-    ∷ (some_component is_over fs cs, fault.Range)
+    ∷ (some_component is_above fs cs, fault.Range)
     ∷ []
 
 or_false : (b : Bool) → (b || false) ≡ b

@@ -7,8 +7,8 @@ use Rattle.std.proofs.lemmas.List.Folds.{list_all-append}
 use Rattle.tag_epc.specs.declared.kind.Kind.{Kind}
 use Rattle.tag_epc.specs.declared.kind.Kind.TheVariants.{Sgtin}
 use Rattle.tag_epc.specs.declared.epc.Parts.{Parts}
-use Rattle.tag_epc.specs.Layout.{name_of}
-use Rattle.tag_epc.specs.LawfulWord.{IsLawful, kind_of}
+use Rattle.tag_epc.specs.Layout.{scheme_name}
+use Rattle.tag_epc.specs.LawfulWord.{IsLawfulEpc, kind_of_parts}
 use Rattle.tag_uri.specs.Calls.Decimal.{AreDigits}
 use Rattle.tag_uri.specs.Hexadecimal.{hexadecimal, is_upper_digit}
 use Rattle.tag_uri.specs.TagText.{tag_uri, components_of, raw_uri, IsTextOf}
@@ -35,14 +35,14 @@ joined_visible [] h = refl
 joined_visible (c ∷ []) h = digits_visible c h.0
 joined_visible (c ∷ d ∷ cs) h = append_visible c (46 ∷ join_with_byte 46 (d ∷ cs)) (digits_visible c h.0) (joined_visible (d ∷ cs) h.1)
 
-name_visible : (k : Kind) → visible (name_of k) ≡ true
+name_visible : (k : Kind) → visible (scheme_name k) ≡ true
 name_visible Sgtin = refl
 name_visible _ = refl
 
-pub uri_visible : (epc : Parts) → IsLawful epc → visible (tag_uri epc) ≡ true
+pub uri_visible : (epc : Parts) → IsLawfulEpc epc → visible (tag_uri epc) ≡ true
 uri_visible epc h =
     let components : visible (join_with_byte 46 (components_of epc)) ≡ true = joined_visible (components_of epc) (written epc h).digits in
-    rw (uri_is epc) (append_visible (name_of (kind_of epc)) (58 ∷ join_with_byte 46 (components_of epc)) (name_visible (kind_of epc)) components)
+    rw (uri_is epc) (append_visible (scheme_name (kind_of_parts epc)) (58 ∷ join_with_byte 46 (components_of epc)) (name_visible (kind_of_parts epc)) components)
 
 upper_visible : (cs : List ℕ) → AllPass is_upper_digit cs → visible cs ≡ true
 upper_visible [] h = refl

@@ -10,10 +10,10 @@ use Rattle.tag_epc.specs.declared.kind.Kind.{Kind}
 use Rattle.tag_epc.specs.declared.kind.Kind.TheVariants.{Sgtin, Gid}
 use Rattle.tag_epc.specs.declared.epc.Parts.{Parts}
 use Rattle.tag_epc.specs.declared.epc.Parts.TheVariants.{Partitioned, General}
-use Rattle.tag_epc.specs.Layout.{Layout, layout_of, name_of}
+use Rattle.tag_epc.specs.Layout.{Layout, layout_of, scheme_name}
 use Rattle.tag_epc.specs.Private.Layout.{every_kind}
 use Rattle.tag_epc.specs.Calls.Layout.{is_sound}
-use Rattle.tag_epc.specs.LawfulWord.{IsLawful, HasWord, kind_of}
+use Rattle.tag_epc.specs.LawfulWord.{IsLawfulEpc, HasWord, kind_of_parts}
 use Rattle.tag_bits.specs.Digits.{word_digits}
 use Rattle.tag_epc.proofs.OneReading.{one_word, one_epc}
 use Rattle.tag_uri.specs.declared.fault.UriFault.{UriFault}
@@ -21,7 +21,7 @@ use Rattle.tag_uri.specs.declared.fault.UriFault.TheVariants as fault
 use Rattle.tag_uri.specs.Calls.Decimal.{AreDigits}
 use Rattle.tag_uri.specs.Decimal.{padded, plain}
 use Rattle.tag_uri.specs.Hexadecimal.{hexadecimal}
-use Rattle.tag_uri.specs.TagText.{tag_uri, tag_start, scheme_text, components, components_of, partitioned_components, reference_digits, refusal, first_rule, HasTagFault, HasWrongComponents, raw_uri, raw_start, raw_length, IsTextOf, AreWordDigits, HasRawFault, HasFault}
+use Rattle.tag_uri.specs.TagText.{tag_uri, tag_start, scheme_text, components, components_of, partitioned_components, reference_digits, refusal, first_rule, HasTagFault, HasWrongComponents, raw_uri, raw_start, raw_length, IsTextOf, AreWordDigits, HasRawFault, HasTextFault}
 use Rattle.tag_uri.proofs.ComponentLemmas.{joined}
 use Rattle.tag_uri.proofs.DecimalLemmas.{digits-padded}
 use Rattle.tag_uri.proofs.HexadecimalLemmas.{one_number, word_digits_of}
@@ -34,7 +34,7 @@ use Rattle.tag_uri.proofs.LawfulTexts.{one_partitioned, one_general, lawful_fine
 abbrev colonless : List ℕ → Bool
 colonless x = list_all (λ c. not (c == 58)) x
 
-name_colonless : (k : Kind) → colonless (name_of k) ≡ true
+name_colonless : (k : Kind) → colonless (scheme_name k) ≡ true
 name_colonless Sgtin = refl
 name_colonless _ = refl
 
@@ -60,18 +60,18 @@ at_colon (c ∷ cs) (d ∷ ds) a b h k e =
 
 -- a kind by the sum of its name's letters
 kind_by : ℕ → Option Kind
-kind_by n = find (λ k. sum (name_of k) == n) every_kind
+kind_by n = find (λ k. sum (scheme_name k) == n) every_kind
 
-told : (k : Kind) → kind_by (sum (name_of k)) ≡ Some k
+told : (k : Kind) → kind_by (sum (scheme_name k)) ≡ Some k
 unfolding kind_by
 told Sgtin = refl
 told _ = refl
 
-one_kind : (j k : Kind) → name_of j ≡ name_of k → j ≡ k
+one_kind : (j k : Kind) → scheme_name j ≡ scheme_name k → j ≡ k
 one_kind j k e = let s : Some j ≡ Some k = sym (told j) ∙ ap (λ (x : List ℕ). kind_by (sum x)) e ∙ told k in cc
 
 pub one_scheme : (j k : Kind) (a b : List ℕ) → scheme_text j a ≡ scheme_text k b → (j ≡ k) × (a ≡ b)
-one_scheme j k a b e = let p = at_colon (name_of j) (name_of k) a b (name_colonless j) (name_colonless k) e in (one_kind j k p.0, p.1)
+one_scheme j k a b e = let p = at_colon (scheme_name j) (scheme_name k) a b (name_colonless j) (name_colonless k) e in (one_kind j k p.0, p.1)
 
 -- ---- the components
 
@@ -120,7 +120,7 @@ written_at : (l : Layout) (f k c r last : ℕ) (b : Bool) → (b ≡ false → l
 written_at l f k c r last true small = record { digits = (digits-padded 1 f, (digits-padded k c, (digits-padded (unwrap_or (reference_digits l.rows k) 0) r, tt))); some = omega arith }
 written_at l f k c r last false small = record { digits = (digits-padded 1 f, (digits-padded k c, (digits-padded (unwrap_or (reference_digits l.rows k) 0) r, (digits_of_plain last (small refl), tt)))); some = omega arith }
 
-pub written : (epc : Parts) → IsLawful epc → Written (components_of epc)
+pub written : (epc : Parts) → IsLawfulEpc epc → Written (components_of epc)
 written (Partitioned kind f k c r last) h =
     let l : Layout = h.has.layout in
     let known : layout_of kind ≡ Some l = h.has.scheme in
@@ -132,7 +132,7 @@ written (General m o s) h =
     record { digits = (digits_of_plain m (omega (arith, b.0)), (digits_of_plain o (omega (arith, b.1)), (digits_of_plain s (omega (arith, b.2)), tt))); some = omega arith }
 
 -- no rule refuses the components of a lawful EPC
-fine_epc : (epc : Parts) → IsLawful epc → refusal (layout_of (kind_of epc)) (components_of epc) ≡ None
+fine_epc : (epc : Parts) → IsLawfulEpc epc → refusal (layout_of (kind_of_parts epc)) (components_of epc) ≡ None
 fine_epc (Partitioned kind f k c r last) h =
     let l : Layout = h.has.layout in
     let known : layout_of kind ≡ Some l = h.has.scheme in
@@ -142,45 +142,45 @@ fine_epc (General m o s) h = general_lawful_fine m o s h
 cancel_start : (x y : List ℕ) → tag_start ++ x ≡ tag_start ++ y → x ≡ y
 cancel_start x y e = cc
 
-pub uri_is : (epc : Parts) → tag_uri epc ≡ tag_start ++ scheme_text (kind_of epc) (join_with_byte 46 (components_of epc))
+pub uri_is : (epc : Parts) → tag_uri epc ≡ tag_start ++ scheme_text (kind_of_parts epc) (join_with_byte 46 (components_of epc))
 unfolding tag_uri
 uri_is epc = refl
 
 -- scheme and components of a tag URI
-parts_of_uri : (epc : Parts) (kind : Kind) (rest : List ℕ) → IsLawful epc → tag_uri epc ≡ tag_start ++ scheme_text kind rest → (kind_of epc ≡ kind) × (components rest ≡ components_of epc)
+parts_of_uri : (epc : Parts) (kind : Kind) (rest : List ℕ) → IsLawfulEpc epc → tag_uri epc ≡ tag_start ++ scheme_text kind rest → (kind_of_parts epc ≡ kind) × (components rest ≡ components_of epc)
 parts_of_uri epc kind rest h e =
     let w = written epc h in
-    let p = one_scheme (kind_of epc) kind (join_with_byte 46 (components_of epc)) rest (cancel_start _ _ (sym (uri_is epc) ∙ e)) in
+    let p = one_scheme (kind_of_parts epc) kind (join_with_byte 46 (components_of epc)) rest (cancel_start _ _ (sym (uri_is epc) ∙ e)) in
     (p.0, ap components (sym p.1) ∙ again (components_of epc) w.digits w.some)
 
-same_epc : (d e : Parts) → IsLawful d → IsLawful e → kind_of d ≡ kind_of e → components_of d ≡ components_of e → d ≡ e
+same_epc : (d e : Parts) → IsLawfulEpc d → IsLawfulEpc e → kind_of_parts d ≡ kind_of_parts e → components_of d ≡ components_of e → d ≡ e
 same_epc (Partitioned kind f k c r last) (Partitioned other g m d s late) h i same cs =
     let l : Layout = h.has.layout in
     let known : layout_of kind ≡ Some l = h.has.scheme in
     let to : (j : Kind) → Parts = λ j. Partitioned j g m d s late in
-    let here : IsLawful (Partitioned kind g m d s late) = subst (λ (j : Kind). IsLawful (to j)) (sym same) i in
+    let here : IsLawfulEpc (Partitioned kind g m d s late) = subst (λ (j : Kind). IsLawfulEpc (to j)) (sym same) i in
     let list : partitioned_components (Some l) f k c r last ≡ partitioned_components (Some l) g m d s late =
     ap (λ (o : Option Layout). partitioned_components o f k c r last) (sym known) ∙ cs ∙ ap (λ (j : Kind). partitioned_components (layout_of j) g m d s late) (sym same) ∙ ap (λ (o : Option Layout). partitioned_components o g m d s late) known in
     one_partitioned kind l f k c r last g m d s late known (sound_of kind l known) h here list ∙ ap to same
-same_epc (Partitioned kind f k c r last) (General n p t) h i same cs = absurd (no_prefix f k c r last (subst (λ (j : Kind). IsLawful (Partitioned j f k c r last)) same h))
-same_epc (General m o s) (Partitioned kind f k c r last) h i same cs = absurd (no_prefix f k c r last (subst (λ (j : Kind). IsLawful (Partitioned j f k c r last)) (sym same) i))
+same_epc (Partitioned kind f k c r last) (General n p t) h i same cs = absurd (no_prefix f k c r last (subst (λ (j : Kind). IsLawfulEpc (Partitioned j f k c r last)) same h))
+same_epc (General m o s) (Partitioned kind f k c r last) h i same cs = absurd (no_prefix f k c r last (subst (λ (j : Kind). IsLawfulEpc (Partitioned j f k c r last)) (sym same) i))
 same_epc (General m o s) (General n p t) h i same cs = one_general m o s n p t h i cs
 
-pub one_uri : (d e : Parts) → IsLawful d → IsLawful e → tag_uri d ≡ tag_uri e → d ≡ e
+pub one_uri : (d e : Parts) → IsLawfulEpc d → IsLawfulEpc e → tag_uri d ≡ tag_uri e → d ≡ e
 one_uri d e h i same =
-    let p = parts_of_uri d (kind_of e) (join_with_byte 46 (components_of e)) h (same ∙ uri_is e) in
+    let p = parts_of_uri d (kind_of_parts e) (join_with_byte 46 (components_of e)) h (same ∙ uri_is e) in
     let w = written e i in
     same_epc d e h i p.0 (sym p.1 ∙ again (components_of e) w.digits w.some)
 
-not_wrong : (epc : Parts) (f : UriFault) → IsLawful epc → HasWrongComponents (tag_uri epc) f → ⊥
+not_wrong : (epc : Parts) (f : UriFault) → IsLawfulEpc epc → HasWrongComponents (tag_uri epc) f → ⊥
 not_wrong epc f h w =
     let p = parts_of_uri epc w.kind w.rest h w.named in
-    let r : refusal (layout_of (kind_of epc)) (components_of epc) ≡ Some f = ap (λ (k : Kind). refusal (layout_of k) (components_of epc)) p.0 ∙ ap (refusal (layout_of w.kind)) (sym p.1) ∙ w.refused in
+    let r : refusal (layout_of (kind_of_parts epc)) (components_of epc) ≡ Some f = ap (λ (k : Kind). refusal (layout_of k) (components_of epc)) p.0 ∙ ap (refusal (layout_of w.kind)) (sym p.1) ∙ w.refused in
     let n = fine_epc epc h in cc
 
-pub no_fault : (epc : Parts) (f : UriFault) → IsLawful epc → HasTagFault (tag_uri epc) f → ⊥
+pub no_fault : (epc : Parts) (f : UriFault) → IsLawfulEpc epc → HasTagFault (tag_uri epc) f → ⊥
 no_fault epc fault.Start h w = w _ (uri_is epc)
-no_fault epc fault.Scheme h w = let e = cancel_start w.0 _ (sym w.1 ∙ uri_is epc) in w.2 (kind_of epc) _ e
+no_fault epc fault.Scheme h w = let e = cancel_start w.0 _ (sym w.1 ∙ uri_is epc) in w.2 (kind_of_parts epc) _ e
 no_fault epc fault.Parts h w = not_wrong epc fault.Parts h w
 no_fault epc fault.Digit h w = not_wrong epc fault.Digit h w
 no_fault epc fault.LeadingZero h w = not_wrong epc fault.LeadingZero h w
@@ -233,7 +233,7 @@ raw_fault w text fault.Filter p none e h = h
 raw_fault w text fault.Digits p none e h = h
 raw_fault w text fault.Range p none e h = h
 
-pub text_or_fault : (w : ℕ) (text : List ℕ) (f : UriFault) → w < 2 ^ 96 → IsTextOf w text → HasFault text f → ⊥
+pub text_or_fault : (w : ℕ) (text : List ℕ) (f : UriFault) → w < 2 ^ 96 → IsTextOf w text → HasTextFault text f → ⊥
 text_or_fault w text f p (inl a) (inl h) = not_raw a.0 h.0 (sym a.2 ∙ h.1)
 text_or_fault w text f p (inl a) (inr h) = no_fault a.0 f a.1.lawful (subst (λ (t : List ℕ). HasTagFault t f) a.2 h.1)
 text_or_fault w text f p (inr a) (inl h) = raw_fault w text f p a.0 a.1 h.2
@@ -292,9 +292,9 @@ wrong_components text kind rest fault.RawForm e h = record { kind = kind; rest =
 wrong_components text kind rest fault.RawOfLawful e h = record { kind = kind; rest = rest; named = e; refused = h }
 
 -- the text of the EPC with these components
-pub right_components : (text : List ℕ) (kind : Kind) (rest : List ℕ) (parts : Parts) → text ≡ tag_start ++ scheme_text kind rest → kind_of parts ≡ kind → components rest ≡ components_of parts → text ≡ tag_uri parts
+pub right_components : (text : List ℕ) (kind : Kind) (rest : List ℕ) (parts : Parts) → text ≡ tag_start ++ scheme_text kind rest → kind_of_parts parts ≡ kind → components rest ≡ components_of parts → text ≡ tag_uri parts
 right_components text kind rest parts e k cs =
-    e ∙ ap (λ (j : Kind). tag_start ++ scheme_text j rest) (sym k) ∙ ap (λ (x : List ℕ). tag_start ++ scheme_text (kind_of parts) x) (sym (joined rest) ∙ ap (join_with_byte 46) cs) ∙ sym (uri_is parts)
+    e ∙ ap (λ (j : Kind). tag_start ++ scheme_text j rest) (sym k) ∙ ap (λ (x : List ℕ). tag_start ++ scheme_text (kind_of_parts parts) x) (sym (joined rest) ∙ ap (join_with_byte 46) cs) ∙ sym (uri_is parts)
 
 -- the raw URI of a word with these digits
 pub right_digits : (text rest digits : List ℕ) (w : ℕ) → text ≡ raw_start ++ rest → rest ≡ raw_length ++ digits → digits ≡ hexadecimal 24 w → text ≡ raw_uri w
@@ -370,7 +370,7 @@ one_raw_fault text f g (form e h) (of_lawful d w i) = absurd (h (hexadecimal 24 
 one_raw_fault text f g (of_lawful e w h) (form d i) = absurd (i (hexadecimal 24 w) (h ∙ raw_is w) (word_digits_of w))
 one_raw_fault text f g (of_lawful e w h) (of_lawful d v i) = e ∙ sym d
 
-pub one_fault : (text : List ℕ) (f g : UriFault) → HasFault text f → HasFault text g → f ≡ g
+pub one_fault : (text : List ℕ) (f g : UriFault) → HasTextFault text f → HasTextFault text g → f ≡ g
 one_fault text f g (inl a) (inl b) = one_raw_fault text f g (told_raw text f a.2) (told_raw text g b.2)
 one_fault text f g (inl a) (inr b) = absurd (b.0 a.0 a.1)
 one_fault text f g (inr a) (inl b) = absurd (a.0 b.0 b.1)

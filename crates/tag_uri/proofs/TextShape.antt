@@ -10,8 +10,8 @@ use Rattle.tag_epc.specs.declared.kind.Kind.TheVariants.{Sgtin}
 use Rattle.tag_epc.specs.declared.epc.Parts.{Parts}
 use Rattle.tag_epc.specs.declared.scheme.Row.{Row}
 use Rattle.tag_epc.specs.declared.epc.Parts.TheVariants.{Partitioned, General}
-use Rattle.tag_epc.specs.Layout.{Layout, layout_of, name_of}
-use Rattle.tag_epc.specs.LawfulWord.{IsLawful, kind_of}
+use Rattle.tag_epc.specs.Layout.{Layout, layout_of, scheme_name}
+use Rattle.tag_epc.specs.LawfulWord.{IsLawfulEpc, kind_of_parts}
 use Rattle.tag_uri.specs.Calls.Decimal.{AreDigits}
 use Rattle.tag_uri.specs.Decimal.{padded, plain}
 use Rattle.tag_uri.specs.Hexadecimal.{hexadecimal, is_upper_digit}
@@ -44,7 +44,7 @@ components_visible [] h = refl
 components_visible (c ∷ []) h = digits_visible c h.0
 components_visible (c ∷ d ∷ cs) h = both c (46 ∷ join_with_byte 46 (d ∷ cs)) (digits_visible c h.0) (components_visible (d ∷ cs) h.1)
 
-name_visible : (k : Kind) → are_visible (name_of k) ≡ true
+name_visible : (k : Kind) → are_visible (scheme_name k) ≡ true
 name_visible Sgtin = refl
 name_visible _ = refl
 
@@ -55,9 +55,9 @@ upper_visible (c ∷ cs) h = let t : is_visible c ≡ true = digit c (All-head (
     digit : (c : ℕ) → is_upper_digit c ≡ true → is_visible c ≡ true
     digit c h = grind arith
 
-uri_visible : (epc : Parts) → IsLawful epc → are_visible (tag_uri epc) ≡ true
+uri_visible : (epc : Parts) → IsLawfulEpc epc → are_visible (tag_uri epc) ≡ true
 unfolding tag_uri
-uri_visible epc h = both (name_of (kind_of epc)) (58 ∷ join_with_byte 46 (components_of epc)) (name_visible (kind_of epc)) (components_visible (components_of epc) (written epc h).digits)
+uri_visible epc h = both (scheme_name (kind_of_parts epc)) (58 ∷ join_with_byte 46 (components_of epc)) (name_visible (kind_of_parts epc)) (components_visible (components_of epc) (written epc h).digits)
 
 raw_visible : (w : ℕ) → are_visible (raw_uri w) ≡ true
 unfolding raw_uri
@@ -113,7 +113,7 @@ partitioned_short l f k c r last false few rows small =
     let n : last < 2 ^ 64 = small refl in
     omega (arith, few_reference l.rows k rows, length-padded 1 f, length-padded k c, length-padded m r, length-decimal-le 20 last (omega arith) (omega arith) n, joined_length (padded 1 f) (padded k c) (padded m r ∷ plain last ∷ []), joined_length (padded k c) (padded m r) (plain last ∷ []), joined_length (padded m r) (plain last) [])
 
-components_short : (epc : Parts) → IsLawful epc → length (join_with_byte 46 (components_of epc)) ≤ 60
+components_short : (epc : Parts) → IsLawfulEpc epc → length (join_with_byte 46 (components_of epc)) ≤ 60
 components_short (Partitioned kind f k c r last) h =
     let l : Layout = h.has.layout in
     let known : layout_of kind ≡ Some l = h.has.scheme in
@@ -125,9 +125,9 @@ components_short (General m o s) h =
     let g = general_room m o s h in
     omega (arith, g.0, g.1, g.2, joined_length (plain m) (plain o) (plain s ∷ []), joined_length (plain o) (plain s) [])
 
-uri_short : (epc : Parts) → IsLawful epc → length (tag_uri epc) ≤ 90
+uri_short : (epc : Parts) → IsLawfulEpc epc → length (tag_uri epc) ≤ 90
 unfolding tag_uri
-uri_short epc h = omega (arith, components_short epc h, name_short (kind_of epc), length-append (name_of (kind_of epc)) (58 ∷ join_with_byte 46 (components_of epc)))
+uri_short epc h = omega (arith, components_short epc h, name_short (kind_of_parts epc), length-append (scheme_name (kind_of_parts epc)) (58 ∷ join_with_byte 46 (components_of epc)))
 
 raw_short : (w : ℕ) → length (raw_uri w) ≤ 90
 unfolding raw_uri

@@ -13,11 +13,11 @@ use Rattle.tag_epc.specs.declared.kind.Kind.TheVariants.{Gid}
 use Rattle.tag_epc.specs.declared.scheme.Row.{Row}
 use Rattle.tag_epc.specs.declared.epc.Parts.{Parts}
 use Rattle.tag_epc.specs.declared.epc.Parts.TheVariants.{Partitioned, General}
-use Rattle.tag_epc.specs.Layout.{Layout, layout_of, name_of, row_at}
+use Rattle.tag_epc.specs.Layout.{Layout, layout_of, scheme_name, row_at}
 use Rattle.tag_epc.specs.Calls.Layout.{is_sound}
 use Rattle.tag_uri.specs.Decimal.{padded, plain}
 use Rattle.tag_uri.specs.Room.{HasText}
-use Rattle.tag_epc.specs.LawfulWord.{IsLawful}
+use Rattle.tag_epc.specs.LawfulWord.{IsLawfulEpc}
 use Rattle.tag_uri.specs.TagText.{tag_uri, tag_start, partitioned_components, raw_uri, IsTextOf}
 use Rattle.tag_uri.proofs.TextBytes.{is_visible, visible, text_visible, uri_visible, raw_visible}
 use Rattle.tag_uri.proofs.PrintLemmas.{four_parts, three_parts, name_short, row_facts}
@@ -53,7 +53,7 @@ joined_partitioned l row f k c r last b sound short placed tail few =
     let flat : (48 + f) ∷ 46 ∷ (c1 ++ 46 ∷ (m ++ tl)) ≡ ((((((48 + f) ∷ []) ++ 46 ∷ []) ++ c1) ++ 46 ∷ []) ++ m) ++ tl = simp append_assoc refl in
     flat ∙ ap (λ (x : List ℕ). ((((x ++ 46 ∷ []) ++ c1) ++ 46 ∷ []) ++ m) ++ tl) (sym one) ∙ whole
 
-pub name_at : (kind : Kind) (l : Layout) → layout_of kind ≡ Some l → name_of kind ≡ l.name
+pub name_at : (kind : Kind) (l : Layout) → layout_of kind ≡ Some l → scheme_name kind ≡ l.name
 name_at kind l known = rw known refl
 
 pub name_few : (kind : Kind) (l : Layout) (name : List ℕ) → layout_of kind ≡ Some l → name ≡ l.name → length name ≤ 8
@@ -61,7 +61,7 @@ name_few kind l name known named = subst (λ (x : List ℕ). length x ≤ 8) (na
 
 -- what is in front of the last component is short
 pub front_few : (kind : Kind) (l : Layout) (row : Row) (name : List ℕ) (f k c r last : ℕ) → layout_of kind ≡ Some l → name ≡ l.name → is_sound l ≡ true
-    → IsLawful (Partitioned kind f k c r last) → last < 2 ^ 64 → row_at l (12 - k) ≡ Some row → length name + k + row.reference_digits ≤ 33
+    → IsLawfulEpc (Partitioned kind f k c r last) → last < 2 ^ 64 → row_at l (12 - k) ≡ Some row → length name + k + row.reference_digits ≤ 33
 front_few kind l row name f k c r last known named sound lawful small placed =
     let facts = row_facts kind l f k c r last row known sound lawful small placed in
     omega (arith, facts.room, name_few kind l name known named)
@@ -74,10 +74,10 @@ partitioned_uri kind l row name f k c r last b known named sound short placed ta
     let j = joined_partitioned l row f k c r last b sound short placed tail few in
     let back : join_with_byte 46 (partitioned_components (Some l) f k c r last) ≡ join_with_byte 46 (partitioned_components (layout_of kind) f k c r last) = ap (λ (o : Option Layout). join_with_byte 46 (partitioned_components o f k c r last)) (sym known) in
     let join : List ℕ = join_with_byte 46 (partitioned_components (layout_of kind) f k c r last) in
-    let n : name ≡ name_of kind = named ∙ sym (name_at kind l known) in
-    ap (λ (x : List ℕ). (tag_start ++ (name ++ 58 ∷ [])) ++ x) (j ∙ back) ∙ ap (λ (x : List ℕ). (tag_start ++ (x ++ 58 ∷ [])) ++ join) n ∙ ap (λ (x : List ℕ). tag_start ++ x) (append_assoc (name_of kind) (58 ∷ []) join)
+    let n : name ≡ scheme_name kind = named ∙ sym (name_at kind l known) in
+    ap (λ (x : List ℕ). (tag_start ++ (name ++ 58 ∷ [])) ++ x) (j ∙ back) ∙ ap (λ (x : List ℕ). (tag_start ++ (x ++ 58 ∷ [])) ++ join) n ∙ ap (λ (x : List ℕ). tag_start ++ x) (append_assoc (scheme_name kind) (58 ∷ []) join)
 
-pub general_uri : (m o s : ℕ) (name : List ℕ) → name ≡ name_of Gid
+pub general_uri : (m o s : ℕ) (name : List ℕ) → name ≡ scheme_name Gid
     → (tag_start ++ (name ++ 58 ∷ [])) ++ (plain m ++ 46 ∷ (plain o ++ 46 ∷ plain s)) ≡ tag_uri (General m o s)
 unfolding tag_uri
 general_uri m o s name named =
@@ -92,15 +92,15 @@ text_at_start old new end text h =
     let ends : length text ≡ end = let e = h.ends in omega arith in
     ap (λ (x : List ℕ). take end x) h.octets ∙ take_at text (drop end old) end ends
 
-left : (a b : Bool) → (a && b) ≡ true → a ≡ true
+pub left : (a b : Bool) → (a && b) ≡ true → a ≡ true
 left true b e = refl
 left false b e = e
 
-right : (a b : Bool) → (a && b) ≡ true → b ≡ true
+pub right : (a b : Bool) → (a && b) ≡ true → b ≡ true
 right true b e = e
 right false b e = cc
 
-visible_low : (text : List ℕ) → visible text ≡ true → All (λ b. b < 128) text
+pub visible_low : (text : List ℕ) → visible text ≡ true → All (λ b. b < 128) text
 visible_low [] h = All-nil (λ b. b < 128)
 visible_low (c ∷ text) h = All-cons (λ b. b < 128) c text (low c (left (is_visible c) _ h)) (visible_low text (right (is_visible c) _ h))
   where
@@ -113,7 +113,7 @@ visible_utf8 text h = IsUtf8-from_ascii text (IsAscii-from_all text (visible_low
 pub word_text_utf8 : (w : ℕ) (text : List ℕ) → IsTextOf w text → IsUtf8 text
 word_text_utf8 w text h = visible_utf8 text (text_visible w text h)
 
-pub uri_utf8 : (epc : Parts) → IsLawful epc → IsUtf8 (tag_uri epc)
+pub uri_utf8 : (epc : Parts) → IsLawfulEpc epc → IsUtf8 (tag_uri epc)
 uri_utf8 epc h = visible_utf8 (tag_uri epc) (uri_visible epc h)
 
 pub raw_utf8 : (w : ℕ) → IsUtf8 (raw_uri w)

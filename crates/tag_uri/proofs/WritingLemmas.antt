@@ -9,6 +9,7 @@ use Rattle.std.proofs.Math.Seq.{drop-append-add}
 use Rattle.tag_uri.specs.Decimal.{padded, plain, decimal_value}
 use Rattle.tag_uri.specs.Room.{HasText}
 use Rattle.tag_uri.proofs.DecimalLemmas.{length-padded, plain_is, value-below, value-padded, digits-padded, one_padded, mod_small, ten_pos, only_padded, plain_short}
+use Rattle.tag_uri.proofs.UriLemmas.{left as both_left, right as both_right}
 
 -- ---- pairs of digits
 
@@ -21,14 +22,6 @@ holds n = (slice_index_or table (2 * n) 0 == 48 + n / 10) && (slice_index_or tab
 abbrev all_below : ℕ → Bool
 all_below zero = true
 all_below (suc k) = holds k && all_below k
-
-both_left : (a b : Bool) → (a && b) ≡ true → a ≡ true
-both_left true b e = refl
-both_left false b e = e
-
-both_right : (a b : Bool) → (a && b) ≡ true → b ≡ true
-both_right true b e = e
-both_right false b e = cc
 
 each : (k n : ℕ) → all_below k ≡ true → n < k → holds n ≡ true
 each zero n h below = absurd (omega arith)

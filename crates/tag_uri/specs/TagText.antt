@@ -7,8 +7,8 @@ use Rattle.tag_epc.specs.declared.kind.Kind.{Kind}
 use Rattle.tag_epc.specs.declared.scheme.Row.{Row}
 use Rattle.tag_epc.specs.declared.epc.Parts.{Parts}
 use Rattle.tag_epc.specs.declared.epc.Parts.TheVariants.{Partitioned, General}
-use Rattle.tag_epc.specs.Layout.{Layout, layout_of, name_of, gid_segments}
-use Rattle.tag_epc.specs.LawfulWord.{kind_of, HasWord}
+use Rattle.tag_epc.specs.Layout.{Layout, layout_of, scheme_name, gid_segments}
+use Rattle.tag_epc.specs.LawfulWord.{kind_of_parts, HasWord}
 use Rattle.tag_uri.specs.declared.fault.UriFault.{UriFault}
 use Rattle.tag_uri.specs.declared.fault.UriFault.TheVariants as fault
 use Rattle.tag_uri.specs.Decimal.{decimal_value, padded, plain}
@@ -49,11 +49,11 @@ tag_start = codes "urn:epc:tag:"
 
 -- a scheme's name with its colon (58), then components joined by dots (46)
 abbrev pub scheme_text : Kind → List ℕ → List ℕ
-scheme_text kind rest = name_of kind ++ 58 ∷ rest
+scheme_text kind rest = scheme_name kind ++ 58 ∷ rest
 
 -- the tag URI of an EPC
 unfoldable pub tag_uri : Parts → List ℕ
-tag_uri epc = tag_start ++ scheme_text (kind_of epc) (join_with_byte 46 (components_of epc))
+tag_uri epc = tag_start ++ scheme_text (kind_of_parts epc) (join_with_byte 46 (components_of epc))
 
 -- what each raw URI begins with
 abbrev pub raw_start : List ℕ
@@ -120,9 +120,9 @@ has_wrong_digits (Some l) (filter ∷ company ∷ reference ∷ texts) = is_no_r
 has_wrong_digits l texts = false
 
 -- whether a number has more than its bits
-abbrev pub is_over : Form → List ℕ → Bool
-is_over (Number width) text = nat_le (2 ^ width) (decimal_value text)
-is_over form text = false
+abbrev pub is_above : Form → List ℕ → Bool
+is_above (Number width) text = nat_le (2 ^ width) (decimal_value text)
+is_above form text = false
 
 -- the rules that refuse components, in their order: each a test and the fault that it names
 abbrev pub rules_of : Option Layout → List (List ℕ) → List (Bool × UriFault)
@@ -132,7 +132,7 @@ rules_of l texts =
     ∷ (some_component has_leading_zero (forms_of l) texts, fault.LeadingZero)
     ∷ (some_component is_wrong_filter (forms_of l) texts, fault.Filter)
     ∷ (has_wrong_digits l texts, fault.Digits)
-    ∷ (some_component is_over (forms_of l) texts, fault.Range)
+    ∷ (some_component is_above (forms_of l) texts, fault.Range)
     ∷ []
 
 -- the first rule that applies
@@ -169,8 +169,8 @@ HasRawFault text fault.RawOfLawful = (word : ℕ) × (word < 2 ^ 96) × (text �
 HasRawFault text fault = ⊥
 
 -- the first rule that refuses a text as a word's: those of raw URIs where it begins as one, else those of tag URIs
-abbrev pub HasFault : List ℕ → UriFault → Type 0
-HasFault text fault =
+abbrev pub HasTextFault : List ℕ → UriFault → Type 0
+HasTextFault text fault =
     ((rest : List ℕ) × (text ≡ raw_start ++ rest) × HasRawFault text fault)
     ⊎ (((rest : List ℕ) → text ≡ raw_start ++ rest → ⊥) × HasTagFault text fault)
 

@@ -2,11 +2,11 @@
 
 ghost use Rattle.std.specs.Prelude.{◌≡◌, ℕ, ◌^◌, ◌<◌, ◌≤◌, List};
 ghost use Rattle.tag_epc.specs.declared.epc.Parts.{Parts};
-ghost use Rattle.tag_epc.specs.LawfulWord.{IsLawful};
+ghost use Rattle.tag_epc.specs.LawfulWord.{IsLawfulEpc};
 ghost use Rattle.tag_uri.specs.declared.fault.UriFault.{UriFault};
 ghost use Rattle.tag_uri.specs.Decimal.{padded, plain};
 ghost use Rattle.tag_uri.specs.Calls.Decimal.{IsPadded, IsPlain};
-ghost use Rattle.tag_uri.specs.TagText.{tag_uri, HasTagFault, HasFault, IsTextOf};
+ghost use Rattle.tag_uri.specs.TagText.{tag_uri, HasTagFault, HasTextFault, IsTextOf};
 
 /// A number below 10 ^ k has exactly one text of k digits whose sum of digits times powers of ten
 /// is the number.
@@ -23,8 +23,8 @@ pub fn one_plain_text()
 
 /// Two lawful EPCs have different tag URIs, and no rule refuses one of these.
 pub fn one_tag_uri()
-    ensures one { (d e : Parts) → IsLawful d → IsLawful e → tag_uri d ≡ tag_uri e → d ≡ e }
-    ensures no_fault { (epc : Parts) (fault : UriFault) → IsLawful epc
+    ensures one { (d e : Parts) → IsLawfulEpc d → IsLawfulEpc e → tag_uri d ≡ tag_uri e → d ≡ e }
+    ensures no_fault { (epc : Parts) (fault : UriFault) → IsLawfulEpc epc
         → HasTagFault (tag_uri epc) fault → ⊥ }
 {}
 
@@ -34,12 +34,12 @@ pub fn one_text()
         → IsTextOf w text → v ≡ w }
     ensures same { (w : ℕ) (s t : List ℕ) → IsTextOf w s → IsTextOf w t → s ≡ t }
     ensures no_fault { (w : ℕ) (text : List ℕ) (fault : UriFault) → w < 2 ^ 96 → IsTextOf w text
-        → HasFault text fault → ⊥ }
+        → HasTextFault text fault → ⊥ }
 {}
 
 /// At most one rule is the first to refuse a text.
 pub fn one_fault()
     ensures tag { (text : List ℕ) (f g : UriFault) → HasTagFault text f
         → HasTagFault text g → f ≡ g }
-    ensures any { (text : List ℕ) (f g : UriFault) → HasFault text f → HasFault text g → f ≡ g }
+    ensures any { (text : List ℕ) (f g : UriFault) → HasTextFault text f → HasTextFault text g → f ≡ g }
 {}

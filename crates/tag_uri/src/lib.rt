@@ -4,6 +4,8 @@
 //! [`text_of_word`] and [`word_of_text`] go between words and texts; [`print`] and [`parse`] between EPCs and tag URIs. A
 //! [`UriFault`] names the first rule that refuses a text. No call takes memory.
 //!
+//! The crates above write and read other decimal digits with [`pair`], [`count_of_few`], [`number_of_last`] and [`plain_between`].
+//!
 //! ```
 //! let text = text_of_word(word);       // urn:epc:tag:sgtin-96:3.0614141.812345.6789
 //! let word = word_of_text("urn:epc:raw:96.xE20000000000000000000001")?;
@@ -13,21 +15,22 @@
 mod components;
 mod decimal;
 mod fault;
-mod general;
+mod gid;
 pub mod laws;
-mod parsing;
+mod parse_fast;
+mod parse_uri;
 mod partitioned;
-mod printing;
-mod quick;
-mod raw;
-mod reading;
+mod print_uri;
+mod put_digits;
+mod raw_uri;
+mod read_digits;
 mod rules;
 mod scheme;
-mod word;
-mod writing;
+mod word_text;
 
 pub use fault::UriFault;
-pub use parsing::parse;
-pub use printing::{print, put_tag_uri};
-pub use reading::{number_of_last, plain_between};
-pub use word::{print_raw, put_text_of_word, text_of_word, word_of_text};
+pub use parse_uri::parse;
+pub use print_uri::{print, put_tag_uri};
+pub use put_digits::{count_of_few, pair};
+pub use read_digits::{number_of_last, plain_between};
+pub use word_text::{print_raw, put_text_of_word, text_of_word, word_of_text};

@@ -2,8 +2,8 @@
 
 ghost use Rattle.std.specs.Prelude.{◌≡◌, ◌≢◌, if◌then◌else◌, ℕ, ◌+◌, ◌^◌, ◌<◌, ◌≤◌, not, Some, None, length, false, is_some, is_none, MatchOption, IfOk, IfErr, IfSome, IfNone};
 ghost use Rattle.tag_epc.specs.Layout.{layout_of};
-ghost use Rattle.tag_epc.specs.LawfulWord.{IsLawful, kind_of};
-ghost use Rattle.tag_uri.specs.TagText.{components, components_of, refusal, some_component, is_stray as stray, has_leading_zero as leading_zero, is_over as over};
+ghost use Rattle.tag_epc.specs.LawfulWord.{IsLawfulEpc, kind_of_parts};
+ghost use Rattle.tag_uri.specs.TagText.{components, components_of, refusal, some_component, is_stray as stray, has_leading_zero as leading_zero, is_above as over};
 ghost use Rattle.tag_uri.specs.Private.ComponentForms.{texts_of, forms_with, LastIs};
 
 use crate::components::{four, three};
@@ -15,7 +15,7 @@ use tag_epc::{Kind, Parts};
 
 /// The components of a text; `None` as the last if the scheme's last segment is all zeros.
 #[derive(Clone, Copy)]
-pub struct Components<'a> {
+pub(crate) struct Components<'a> {
     filter: &'a str,
     company: &'a str,
     reference: &'a str,
@@ -91,10 +91,10 @@ impl Components<'_> {
 }
 
 /// The parts of an EPC of a scheme with a company prefix by its components, or the first rule that refuses them.
-pub fn read_partitioned<S: Scheme>(kind: Kind, text: &str) -> Result<Parts, UriFault>
+pub(crate) fn read_partitioned<S: Scheme>(kind: Kind, text: &str) -> Result<Parts, UriFault>
     requires { layout_of kind ≡ Some S.layout }
-    ensures kind { IfOk result (λ parts. kind_of parts ≡ kind) }
-    ensures lawful { IfOk result (λ parts. IsLawful parts) }
+    ensures kind { IfOk result (λ parts. kind_of_parts parts ≡ kind) }
+    ensures lawful { IfOk result (λ parts. IsLawfulEpc parts) }
     ensures ok { IfOk result (λ parts. components text.now ≡ components_of parts) }
     ensures err { IfErr result (λ f. refusal (layout_of kind) (components text.now) ≡ Some f) }
 {

@@ -8,11 +8,11 @@ use Rattle.llrp_schema.specs.declared.kinds.Profile.{Profile}
 use Rattle.llrp_schema.specs.declared.kinds.Profile.TheVariants.{Own}
 use Rattle.llrp_schema.specs.declared.kinds.Field.{Field}
 use Rattle.llrp_schema.specs.declared.kinds.Group.{Group}
-use Rattle.llrp_schema.specs.Schema.{FieldRule, GroupRule, field, signed, reserved, name_of, messages_of, params_of, message_in, tlv_in, tv_in}
+use Rattle.llrp_schema.specs.Schema.{FieldRule, GroupRule, any_field, name_of, messages_of, params_of, message_in, tlv_in, tv_in}
 
 -- what a field of the program says
 abbrev pub field_rule : Field → FieldRule
-field_rule field = record { name = field.name.now; width = field.width; reserved = field.reserved; greatest = field.greatest; signed = field.signed }
+field_rule any_field = record { name = any_field.name.now; width = any_field.width; reserved = any_field.reserved; greatest = any_field.greatest; signed = any_field.signed }
 
 -- what a group of the program says
 abbrev pub group_rule : Group → GroupRule

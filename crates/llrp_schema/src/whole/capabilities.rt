@@ -1,7 +1,7 @@
 //! The rows of the parameters of the whole standard on times and capabilities (LLRP 1.1, section 17.2).
 
 use crate::kinds::{Definition, Field, Group, ParamKind, Profile, Tail};
-use crate::rows::{any_number, at_most_one, field, one, one_or_more, reserved};
+use crate::row_macros::{any_number, at_most_one, field, one, one_or_more, reserved};
 
 pub static UTC_TIMESTAMP: Definition = Definition {
     profile: Profile::Whole,

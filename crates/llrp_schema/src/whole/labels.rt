@@ -1,7 +1,7 @@
 //! The names of the kinds of the whole standard, each in 48 octets.
 
 use crate::kinds::Label;
-use crate::rows::label;
+use crate::row_macros::label;
 
 /// The names of the messages of the whole standard, in the order in which `MsgKind` lists them.
 pub static MESSAGES: [Label; 46] = [

@@ -1,7 +1,7 @@
 //! The rows of the messages of the whole standard (LLRP 1.1, section 17.1).
 
 use crate::kinds::{Definition, Field, Group, ParamKind, Profile, Tail};
-use crate::rows::{any_number, at_most_one, field, one, reserved};
+use crate::row_macros::{any_number, at_most_one, field, one, reserved};
 
 pub static GET_READER_CAPABILITIES: Definition = Definition {
     profile: Profile::Whole,
@@ -454,6 +454,6 @@ pub static CUSTOM_MESSAGE: Definition = Definition {
     number: 1023,
     name: "CUSTOM_MESSAGE",
     fields: &[field!("VendorIdentifier", 32), field!("MessageSubtype", 8)],
-    tail: Tail::Absent,
+    tail: Tail::Data,
     groups: &[],
 };

@@ -1,7 +1,9 @@
 //! The rows of the parameters of the whole standard on reader operation, access and configuration (LLRP 1.1, section 17.2).
 
 use crate::kinds::{Definition, Field, Group, ParamKind, Profile, Tail};
-use crate::rows::{any_number, any_of, at_most_one, field, one, one_or_more, reserved, some_of};
+use crate::row_macros::{
+    any_number, any_of, at_most_one, field, one, one_or_more, reserved, some_of,
+};
 
 pub static RO_SPEC: Definition = Definition {
     profile: Profile::Whole,

@@ -1,7 +1,9 @@
 //! The rows of the parameters of the whole standard on reports, events and errors (LLRP 1.1, section 17.2).
 
 use crate::kinds::{Definition, Field, Group, ParamKind, Profile, Tail};
-use crate::rows::{any_number, any_of, at_most_one, field, one, one_or_more, reserved, signed};
+use crate::row_macros::{
+    any_number, any_of, at_most_one, field, one, one_or_more, reserved, signed,
+};
 
 pub static RO_REPORT_SPEC: Definition = Definition {
     profile: Profile::Whole,

@@ -8,8 +8,8 @@ use Rattle.llrp_tree.specs.declared.fault.Reason.TheVariants.{Short, Count, Utf8
 use Rattle.llrp_tree.specs.Lawful.{count_octets}
 use Rattle.llrp_schema.specs.declared.kinds.Profile.{Profile}
 use Rattle.llrp_tree.specs.OpenTree.{root_profile, Begun, rules, form, plain_values, covers, IsOpenTree}
-use Rattle.llrp_tree.specs.FirstFault.{Turn, ReadField, ReadTail, Close, NoChild, BeginTv, BeginTlv, turn, tail_end, first_failing, header_checks_in, next_fault, BodyFaultIn}
-use Rattle.llrp_tree.specs.Calls.Standing.{Stands}
+use Rattle.llrp_tree.specs.FirstFault.{NextPart, ReadField, ReadTail, Close, NoChild, BeginTv, BeginTlv, next_part, tail_end, first_failing, header_checks_in, next_fault, BodyFaultIn}
+use Rattle.llrp_tree.specs.Calls.Standing.{IsAt}
 
 -- ---- what decides the next checks
 
@@ -22,7 +22,7 @@ deciding_tail Bits fields at stop rest = if nat_le (tail_end Bits fields at stop
 deciding_tail Data fields at stop rest = tail_end Data fields at stop rest
 
 -- the bit up to which what is read next is decided: a field, a tail or the head of a child ends there; nothing more is needed where a node is closed or has no children
-abbrev pub deciding_of : Turn → Begun → (at : ℕ) → List Bool → ℕ
+abbrev pub deciding_of : NextPart → Begun → (at : ℕ) → List Bool → ℕ
 deciding_of (ReadField r) b at rest = if nat_le (at + r.width) b.stop then at + r.width else at
 deciding_of ReadTail b at rest = deciding_tail (form b) (plain_values (rules b) b.fields) at b.stop rest
 deciding_of Close b at rest = at
@@ -33,7 +33,7 @@ deciding_of BeginTlv b at rest = if nat_le (at + 32) b.stop then at + 32 else at
 -- the bit of the frame up to which the next checks of an open tree are decided; `rest` are the digits after the tree
 unfoldable pub deciding : List Begun → List Bool → ℕ
 deciding [] rest = 0
-deciding (b ∷ outer) rest = let at = length (covers (b ∷ outer)) in deciding_of (turn b at rest) b at rest
+deciding (b ∷ outer) rest = let at = length (covers (b ∷ outer)) in deciding_of (next_part b at rest) b at rest
 
 -- A check after the header fails first, and the frame's first octets decide it.
 pub record BodyFailsIn (p : Profile) (limit : ℕ) (frame : List ℕ) (octets : ℕ) : Type 0 where
@@ -55,7 +55,7 @@ failing_tail Count form fields at stop rest = at + 8 * count_octets form
 failing_tail reason form fields at stop rest = at
 
 -- the end of the failing part, by what is read next and the reason: nothing of a field for Short, and else the field; the node for Missing; nothing more for Extra; a child's first octet for Short of its head, and else the head
-abbrev pub failing_part : Turn → Reason → Begun → (at : ℕ) → List Bool → ℕ
+abbrev pub failing_part : NextPart → Reason → Begun → (at : ℕ) → List Bool → ℕ
 failing_part (ReadField r) Short b at rest = at
 failing_part (ReadField r) reason b at rest = at + r.width
 failing_part ReadTail reason b at rest = failing_tail reason (form b) (plain_values (rules b) b.fields) at b.stop rest
@@ -68,7 +68,7 @@ failing_part BeginTlv reason b at rest = at + 32
 -- the bit of the frame at which the failing part ends, where the next checks of an open tree fail for the reason
 unfoldable pub failing_end : Reason → List Begun → List Bool → ℕ
 failing_end reason [] rest = 0
-failing_end reason (b ∷ outer) rest = let at = length (covers (b ∷ outer)) in failing_part (turn b at rest) reason b at rest
+failing_end reason (b ∷ outer) rest = let at = length (covers (b ∷ outer)) in failing_part (next_part b at rest) reason b at rest
 
 -- Where the next checks of an open tree fail, they are decided at the end of the failing part.
 abbrev pub FaultsAreDecided : Type 0
@@ -77,7 +77,7 @@ FaultsAreDecided = (tree : List Begun) (rest : List Bool) (bit : ℕ) (reason : 
 -- Where a frame's first octets do not decide the next checks of an open tree, they decide no fault of the frame.
 abbrev pub NoneIsDecidedBefore : Type 0
 NoneIsDecidedBefore = (p : Profile) (limit : ℕ) (frame : List ℕ) (octets : ℕ) (tree : List Begun) (at : ℕ)
-    → Stands (digits_of_bytes frame) tree at
+    → IsAt (digits_of_bytes frame) tree at
     → root_profile tree ≡ p
     → first_failing (header_checks_in p limit (digits_of_bytes frame)) ≡ None
     → 8 * octets < deciding tree (drop at (digits_of_bytes frame))

@@ -1,5 +1,5 @@
 -- Beside FrameLaws: what contracts say that no promise rests on.
-use Rattle.std.specs.Prelude.{◌≡◌, ℕ, Bool, List, ◌++◌}
+use Rattle.std.specs.Prelude.{◌≡◌, Bool, List, ◌++◌}
 use Rattle.llrp_tree.specs.OpenTree.{Begun, covers, IsOpenTree, root_profile}
 use Rattle.llrp_tree.specs.Calls.OpenTree.{parts}
 

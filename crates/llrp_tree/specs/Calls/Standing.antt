@@ -15,19 +15,19 @@ end_of (b ∷ []) = b.stop
 end_of (b ∷ p ∷ outer) = end_of (p ∷ outer)
 
 -- An open tree covers the digits up to a place, and its message ends where they do.
-pub record Stands (ds : List Bool) (t : List Begun) (at : ℕ) : Type 0 where
+pub record IsAt (ds : List Bool) (t : List Begun) (at : ℕ) : Type 0 where
   pub is_open : IsOpenTree t
   pub covered : covers t ≡ take at ds
   pub within : at ≤ length ds
   pub ends : end_of t ≡ length ds
 
 -- a begun node
-abbrev pub begun : Head → ℕ → List ℕ → Option (List ℕ) → Forest → Begun
-begun h stop fields tail children = record { head = h; stop = stop; fields = fields; tail = tail; children = children }
+abbrev pub begin_node : Head → ℕ → List ℕ → Option (List ℕ) → Forest → Begun
+begin_node h stop fields tail children = record { head = h; stop = stop; fields = fields; tail = tail; children = children }
 
 -- a node of which some fields are read
 abbrev pub leading : Head → ℕ → List ℕ → Begun
-leading h stop fields = begun h stop fields None none
+leading h stop fields = begin_node h stop fields None none
 
 -- The header passes its checks, and says these numbers.
 pub record HeaderSaysIn (p : Profile) (limit : ℕ) (ds : List Bool) (version : ℕ) (kind : MsgKind) (octets id : ℕ) : Type 0 where

@@ -18,23 +18,23 @@ use Rattle.llrp_tree.specs.declared.fault.FrameErr.TheVariants.{Memory, Bad}
 use Rattle.llrp_tree.specs.Tree.{Forest}
 use Rattle.llrp_tree.specs.Lawful.{has_place, count_octets}
 use Rattle.llrp_tree.specs.Spelling.{Head}
-use Rattle.llrp_tree.specs.OpenTree.{root_profile, Begun, kind_of, groups, due, Rest, takes_more, is_enough}
-use Rattle.llrp_tree.specs.FirstFault.{number, tail_at, tail_end, tlv_kind, tlv_octets, Check, first_failing, next_fault, is_over}
-use Rattle.llrp_tree.specs.Calls.Standing.{Stands, leading, HeaderSaysIn}
+use Rattle.llrp_tree.specs.OpenTree.{root_profile, Begun, kind_of_head, groups, due, Rest, takes_more, is_enough}
+use Rattle.llrp_tree.specs.FirstFault.{number, tail_at, tail_end, tlv_kind, tlv_octets, Check, first_failing, next_fault, has_ended}
+use Rattle.llrp_tree.specs.Calls.Standing.{IsAt, leading, HeaderSaysIn}
 
 -- Somewhere in the digits the next checks of an open tree fail, first so.
-pub record HasFault (p : Profile) (ds : List Bool) (bit : ℕ) (reason : Reason) : Type 0 where
+pub record IsFaultOf (p : Profile) (ds : List Bool) (bit : ℕ) (reason : Reason) : Type 0 where
   pub tree : List Begun
   pub at : ℕ
-  pub stands : Stands ds tree at
+  pub stands : IsAt ds tree at
   pub fails : next_fault tree (drop at ds) ≡ Some (bit, reason)
   pub root : root_profile tree ≡ p
 
 -- The innermost node has all its parts, and is at its stop.
 pub record Closes (ds : List Bool) (b : Begun) (outer : List Begun) (at : ℕ) : Type 0 where
-  pub stands : Stands ds (b ∷ outer) at
+  pub stands : IsAt ds (b ∷ outer) at
   pub ready : due b ≡ Rest
-  pub over : is_over b.head (nat_le b.stop at) ≡ true
+  pub over : has_ended b.head (nat_le b.stop at) ≡ true
   pub enough : is_enough (groups b) b.children ≡ true
 
 -- the same of the profile
@@ -49,25 +49,25 @@ FailsFirst checks (Bad fault) = first_failing checks ≡ Some (fault.bit, fault.
 -- the error is the fault of the digits, or says that memory ran out
 abbrev pub Tells : Profile → List Bool → FrameErr → Type 0
 Tells p ds Memory = Unit {0}
-Tells p ds (Bad fault) = HasFault p ds fault.bit fault.reason
+Tells p ds (Bad fault) = IsFaultOf p ds fault.bit fault.reason
 
 -- A node of the kind begins at the octet, this many levels below the message.
 pub record Begins (bytes : List ℕ) (kind : Kind) (level from stop : ℕ) : Type 0 where
   pub head : Head
   pub outer : List Begun
-  pub of_kind : kind_of head ≡ kind
+  pub of_kind : kind_of_head head ≡ kind
   pub at_level : length outer ≡ level
-  pub stands : Stands (digits_of_bytes bytes) (leading head (8 * stop) [] ∷ outer) (8 * from)
+  pub stands : IsAt (digits_of_bytes bytes) (leading head (8 * stop) [] ∷ outer) (8 * from)
 
 -- A child of the kind begins at the octet after these siblings, this many levels below the message.
 pub record BeginsBehind (bytes : List ℕ) (kind : ParamKind) (siblings : Forest) (level from stop : ℕ) : Type 0 where
   pub head : Head
   pub parent : Begun
   pub outer : List Begun
-  pub of_kind : kind_of head ≡ Parameter kind
+  pub of_kind : kind_of_head head ≡ Parameter kind
   pub behind : parent.children ≡ siblings
   pub at_level : length (parent ∷ outer) ≡ level
-  pub stands : Stands (digits_of_bytes bytes) (leading head (8 * stop) [] ∷ parent ∷ outer) (8 * from)
+  pub stands : IsAt (digits_of_bytes bytes) (leading head (8 * stop) [] ∷ parent ∷ outer) (8 * from)
 
 -- A child's kind passes its checks.
 pub record KindPasses (found : Option ParamKind) (groups : List GroupRule) (children : Forest) (level : ℕ) (kind : ParamKind) : Type 0 where

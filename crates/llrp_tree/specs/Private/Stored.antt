@@ -42,11 +42,11 @@ abbrev pub tree_code : Coded Tree
 tree_code = code_by (Own × Forest) (coded× own_code forest_code) (λ t. ((t.kind, (t.fields, t.tail)), t.children)) (λ p. record { kind = p.0.0; fields = p.0.1.0; tail = p.0.1.1; children = p.1 }) (λ _. refl)
 
 abbrev MessageParts : Type 0
-MessageParts = (ℕ × ℕ) × (MsgKind × (List ℕ × Forest))
+MessageParts = (ℕ × ℕ) × (MsgKind × ((List ℕ × List ℕ) × Forest))
 
 abbrev pub message_code : Coded MessageTree
-message_code = code_by MessageParts (coded× (coded× coded_ℕ coded_ℕ) (coded× messages.the_row.coded (coded× (coded_list coded_ℕ) forest_code)))
-    (λ m. ((m.version, m.id), (m.kind, (m.fields, m.children)))) (λ p. record { version = p.0.0; id = p.0.1; kind = p.1.0; fields = p.1.1.0; children = p.1.1.1 }) (λ _. refl)
+message_code = code_by MessageParts (coded× (coded× coded_ℕ coded_ℕ) (coded× messages.the_row.coded (coded× (coded× (coded_list coded_ℕ) (coded_list coded_ℕ)) forest_code)))
+    (λ m. ((m.version, m.id), (m.kind, ((m.fields, m.tail), m.children)))) (λ p. record { version = p.0.0; id = p.0.1; kind = p.1.0; fields = p.1.1.0.0; tail = p.1.1.0.1; children = p.1.1.1 }) (λ _. refl)
 
 -- how many parameters there are
 abbrev pub size : Forest → ℕ

@@ -1,5 +1,5 @@
 -- Beside Calls/Writing: words of private functions.
-use Rattle.std.specs.Prelude.{ℕ, ◌^◌, List, Bool, nat_lt}
+use Rattle.std.specs.Prelude.{◌^◌, List, Bool, nat_lt}
 use Rattle.std.specs.List.{list_all}
 use Rattle.llrp_schema.specs.Schema.{FieldRule}
 

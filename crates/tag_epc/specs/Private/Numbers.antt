@@ -1,7 +1,7 @@
 -- The numbers after a partition value.
 use Rattle.std.specs.Prelude.{ℕ}
-use Rattle.tag_epc.specs.declared.check.Number.{Number}
-use Rattle.tag_epc.specs.declared.check.Number.TheVariants.{Company, Reference, Last}
+use Rattle.tag_epc.specs.declared.lawful_parts.Number.{Number}
+use Rattle.tag_epc.specs.declared.lawful_parts.Number.TheVariants.{Company, Reference, Last}
 
 -- how many of them come before one
 abbrev pub place_of_number : Number → ℕ

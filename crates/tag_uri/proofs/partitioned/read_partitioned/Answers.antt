@@ -1,7 +1,7 @@
 use Rattle.std.proofs.Common.{◌≡◌, not, true, sym, ap, ◌∙◌, arith}
 use Rattle.tag_epc.proofs.Soundness.{sound as is_sound_layout}
 use Rattle.tag_uri.specs.declared.fault.UriFault.TheVariants as fault
-use Rattle.tag_uri.specs.TagText.{some_component, is_over}
+use Rattle.tag_uri.specs.TagText.{some_component, is_above}
 use Rattle.tag_uri.specs.Private.ComponentForms.{forms_with, texts_of, LastIs}
 use Rattle.tag_uri.proofs.RuleLemmas.{refused, wrong_count, digit_first, zero_first, filter_first, digits_first, range_first}
 use Rattle.tag_uri.proofs.ReadLemmas.{no_stray, one_digit, filter_below, fits_last, lawful, same_components}
@@ -45,7 +45,7 @@ last_below-requires-clause-narrow g c =
 pub returns-in_default-last_below-clause-err : goal.returns-in_default-last_below-clause-err
 returns-in_default-last_below-clause-err g c =
     let bits = c.LAST_BITS.ensures ∙ g.met.S.Scheme.last_bits_is in
-    let over : some_component is_over (forms_with c.in-Some.texts g.S.Scheme.layout.last_bits) (texts_of c.in-Some.texts) ≡ true = rw bits at (sym c.in_default-last_below.ensures.over) in
+    let over : some_component is_above (forms_with c.in-Some.texts g.S.Scheme.layout.last_bits) (texts_of c.in-Some.texts) ≡ true = rw bits at (sym c.in_default-last_below.ensures.over) in
     refused c.args.kind g.S.Scheme.layout _ c.in-Some.texts fault.Range c.requires c.in-Some.ensures.some (c.in-Some.ensures.last ∙ ap not (c.ZERO_TAIL.ensures ∙ g.met.S.Scheme.zero_tail_is))
     (range_first _ _ _ _ _ (sym (c.has_stray.ensures g.S.Scheme.layout.last_bits) ∙ c.if-has_stray.false) (sym (c.has_leading_zero.ensures g.S.Scheme.layout.last_bits) ∙ c.if-has_leading_zero.false) (sym c.is_no_filter.ensures ∙ c.if-is_no_filter.false) (sym c.is_no_row.ensures ∙ c.if-is_no_row.false) over)
 

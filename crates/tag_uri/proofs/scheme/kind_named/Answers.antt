@@ -1,7 +1,7 @@
 use Rattle.std.proofs.Common.{◌≡◌, arith}
-use Rattle.tag_epc.specs.Layout.{name_of}
+use Rattle.tag_epc.specs.Layout.{scheme_name}
 use Rattle.tag_epc.proofs.KindLemmas.{every}
 use Rattle.tag_uri.proofs.scheme.kind_named.Goals as goal
 
 pub returns : goal.returns
-returns c = every (λ k. c.args.name.now ≡ name_of k → ⊥) (λ i k below at. c.loop-kind.invariant i k (omega (arith, below)) at)
+returns c = every (λ k. c.args.name.now ≡ scheme_name k → ⊥) (λ i k below at. c.loop-kind.invariant i k (omega (arith, below)) at)

@@ -1,5 +1,0 @@
-use Rattle.std.proofs.Common.{rules}
-use Rattle.llrp_tree.proofs.reading.groups.child_kind.Goals as goal
-
-pub returns-then-level-gt-MAX_DEPTH : goal.returns-then-level-gt-MAX_DEPTH
-returns-then-level-gt-MAX_DEPTH c = search rules

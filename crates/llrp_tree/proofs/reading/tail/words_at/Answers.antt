@@ -1,5 +1,0 @@
-use Rattle.std.proofs.Common.{rules}
-use Rattle.llrp_tree.proofs.reading.tail.words_at.Goals as goal
-
-pub returns-then-stop-at : goal.returns-then-stop-at
-returns-then-stop-at c = search rules

@@ -1,5 +1,0 @@
-use Rattle.tag_epc.proofs.DigitMoves.{none}
-use Rattle.tag_epc.proofs.bits.WordWriter.new.Goals as goal
-
-pub returns : goal.returns
-returns c = none
