@@ -14,7 +14,7 @@ chose_last true b h = absurd (omega arith)
 chose_last false true h = absurd (omega arith)
 chose_last false false h = (refl, refl)
 
-not_less : (a b : ℕ) → nat_lt a b ≡ false → b ≤ a
+pub not_less : (a b : ℕ) → nat_lt a b ≡ false → b ≤ a
 not_less a b h = grind (arith, nat_tests)
 
 -- the ROSpecs of the table fit one message with it

@@ -5,8 +5,8 @@ use Rattle.llrp_schema.specs.Schema.{number_of, rule_of, param_rule, fields_of, 
 use Rattle.llrp_tree.specs.Lawful.{body_octets}
 use Rattle.llrp_session.specs.RoSpec.{rospec_of, report_spec_of}
 use Rattle.llrp_session.specs.Table.{Disabled, Active, change_view, view_without, enter_view, viewed_state}
-use Rattle.llrp_session.specs.Words.{Adding, Enabling, Closing, Accepted, Started, Response, KeepaliveSent, Heard, HeardNotification, HeardKeepalive, Command, Add, Enable, GetReport, Close, Asks, Acknowledges, ClientMessage}
-use Rattle.llrp_session.specs.Calls.Words.{heard}
+use Rattle.llrp_session.specs.Contents.{Adding, Enabling, Closing, Accepted, Started, Response, KeepaliveSent, Heard, HeardNotification, HeardKeepalive, Command, Add, Enable, GetReport, Close, Asks, Acknowledges, ClientMessage}
+use Rattle.llrp_session.specs.Calls.Contents.{heard}
 use Rattle.llrp_session.specs.Refusal.{Refusal, Closed as ClosedRefusal, NotReady, Busy, OverLimit, IdsSpent, Unexpected}
 use Rattle.llrp_session.specs.ClientMachine.{Client, Closed, Taken, Connected, Refused, Reply, Event, Note, Kept, ConnectionEnded, Taking, Sending, new_client, take, command}
 use Rattle.llrp_session.proofs.Examples.{rospec}

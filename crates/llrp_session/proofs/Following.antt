@@ -7,9 +7,9 @@ use Rattle.llrp_tree.specs.Tree.{Tree}
 use Rattle.llrp_session.specs.RoSpec.{RoSpec, ReportSpec, rospec_of}
 use Rattle.llrp_session.specs.Table.{Entry, Inactive, Active, states, listing, change, change_view, without, enter, names, setting, enabling, disabling, active, first_immediate, is_active, is_inactive, state_of}
 use Rattle.llrp_session.specs.TagReport.{Sighting, tag_report}
-use Rattle.llrp_session.specs.Words.{ReaderWord, Response, Listed, Report, KeepaliveSent, Started, Ended, Overflowed, ReaderMessage, Command, Add, Delete, Start, Stop, Enable, Disable, GetRospecs, SetKeepalive, GetReport, Close, requested, Operation, Adding, Deleting, Starting, Stopping, Enabling, Disabling, Listing, Configuring, Closing, keepalive_each, KeepaliveSpec, Config}
-use Rattle.llrp_session.specs.Calls.Words.{heard}
-use Rattle.llrp_session.specs.ReaderMachine.{Reader, Turn, Keepalive, Up, tell, reply, with_reader, with_table, send_held, set_state, start, end, end_if, start_if_idle, serve, see, tick, keep_alive, keepalive_from, configured, is_known, add_status, effective_report, sends_at_end, has_state, is_bad_report, is_bad_keepalive, hold, send_if_enough, is_enough, is_full, is_over, reset_if, set_keepalive, set_report}
+use Rattle.llrp_session.specs.Contents.{ReaderContent, Response, Listed, Report, KeepaliveSent, Started, Ended, Overflowed, ReaderMessage, Command, Add, Delete, Start, Stop, Enable, Disable, GetRospecs, SetKeepalive, GetReport, Close, requested, Operation, Adding, Deleting, Starting, Stopping, Enabling, Disabling, Listing, Configuring, Closing, keepalive_each, KeepaliveSpec, Config}
+use Rattle.llrp_session.specs.Calls.Contents.{heard}
+use Rattle.llrp_session.specs.ReaderMachine.{Reader, Turn, Keepalive, Up, tell, reply, with_reader, with_table, send_held, set_state, start, end, end_if, start_if_idle, serve, see, tick, keep_alive, keepalive_from, configured, is_known, add_status, effective_report, sends_at_end, has_state, is_bad_report, is_bad_keepalive, hold, send_if_enough, is_report_due, is_full, has_run_out, reset_if, set_keepalive, set_report}
 use Rattle.llrp_session.specs.ClientMachine.{Client, Ready, Pending, Taking, Tags, Note, Reply, take, take_in, take_ready, granted, awaited, take_response, replied, takes, unexpected, is_response_to, cleared, answered, listed, moved}
 use Rattle.llrp_session.specs.Calls.Agreement.{taken_in, and_then}
 use Rattle.llrp_session.proofs.States.{states-change, states-without, states-enter}
@@ -27,7 +27,7 @@ pub one_more : (xs : List ReaderMessage) (m : ReaderMessage) (c d : Client) (k :
     → taken_in (xs ++ m ∷ []) c ≡ Some k.client
 one_more xs m c d k e taken = taken_in-append xs (m ∷ []) c d e ∙ ap (λ r. and_then r (taken_in [])) taken
 
-pub when_ready : (d : Client) (id : ℕ) (w : ReaderWord) → d.phase ≡ Ready → take d id (heard w) ≡ take_ready d id (heard w)
+pub when_ready : (d : Client) (id : ℕ) (w : ReaderContent) → d.phase ≡ Ready → take d id (heard w) ≡ take_ready d id (heard w)
 unfolding take
 when_ready d id w ready = ap (λ ph. take_in ph d id (heard w)) ready
 
@@ -42,17 +42,17 @@ pub record Follows (c0 : Client) (p : Option Pending) (t : Turn) : Type 0 where
 
 -- ---- messages that leave the view
 
-pub data IsQuiet : ReaderWord → Type 0 where
+pub data IsQuiet : ReaderContent → Type 0 where
   report : (tags : List Tree) → IsQuiet (Report tags)
   keepalive : IsQuiet KeepaliveSent
   overflow : (now : ℕ) → IsQuiet (Overflowed now)
 
-quietly_taken : (d : Client) (id : ℕ) (w : ReaderWord) → IsQuiet w → (k : Taking) × (take_ready d id (heard w) ≡ Ok k) × (k.client ≡ d)
+quietly_taken : (d : Client) (id : ℕ) (w : ReaderContent) → IsQuiet w → (k : Taking) × (take_ready d id (heard w) ≡ Ok k) × (k.client ≡ d)
 quietly_taken d id w (report tags) = (record { taken = Tags tags; sent = []; client = d }, refl, refl)
 quietly_taken d id w keepalive = (_, refl, refl)
 quietly_taken d id w (overflow now) = (record { taken = Note; sent = []; client = d }, refl, refl)
 
-pub follows-tell : (c0 : Client) (p : Option Pending) (w : ReaderWord) (t : Turn) → IsQuiet w → Follows c0 p t → Follows c0 p (tell w t)
+pub follows-tell : (c0 : Client) (p : Option Pending) (w : ReaderContent) (t : Turn) → IsQuiet w → Follows c0 p t → Follows c0 p (tell w t)
 follows-tell c0 p w t quiet f =
     let k = quietly_taken f.c t.reader.next_id w quiet in
     record {
@@ -202,7 +202,7 @@ follows-listed c0 v id t f =
       up = f.up;
     }
 
-is_zero : (n : ℕ) → (n == 0) ≡ true → n ≡ 0
+pub is_zero : (n : ℕ) → (n == 0) ≡ true → n ≡ 0
 is_zero n h = grind (arith, nat_tests)
 
 -- ---- settings leave the table and the phase
@@ -303,7 +303,7 @@ follows-see now g (Some s) c0 p t f =
     let m : Follows c0 p more = follows-with c0 p t more.reader refl refl f in
     elim (is_full t.reader) as (λ b. Follows c0 p (cond b (tell (Overflowed now) t) (send_if_enough report_spec more))) [
       | true ↦ follows-tell c0 p (Overflowed now) t (overflow now) f
-      | false ↦ elim (is_enough report_spec (length more.reader.held)) as (λ b. Follows c0 p (cond b (send_held more) more)) [ true ↦ follows-send_held c0 p more m | false ↦ m ]
+      | false ↦ elim (is_report_due report_spec (length more.reader.held)) as (λ b. Follows c0 p (cond b (send_held more) more)) [ true ↦ follows-send_held c0 p more m | false ↦ m ]
     ]
 
 follows-keep_alive : (now : ℕ) (o : Option Keepalive) (c0 : Client) (p : Option Pending) (t : Turn) → Follows c0 p t → Follows c0 p (keep_alive now o t)
@@ -318,5 +318,5 @@ follows-keep_alive now (Some k) c0 p t f =
 pub follows-tick : (now : ℕ) (c0 : Client) (p : Option Pending) (t : Turn) → Follows c0 p t → Follows c0 p (tick now t)
 unfolding tick
 follows-tick now c0 p t f =
-    let ended = end_if (is_over now t.reader.started) now (active t.reader.table) t in
-    follows-keep_alive now ended.reader.keepalive c0 p ended (follows-end_if c0 p (is_over now t.reader.started) now (active t.reader.table) t f)
+    let ended = end_if (has_run_out now t.reader.started) now (active t.reader.table) t in
+    follows-keep_alive now ended.reader.keepalive c0 p ended (follows-end_if c0 p (has_run_out now t.reader.started) now (active t.reader.table) t f)

@@ -7,11 +7,11 @@ use Rattle.llrp_session.specs.RoSpec.{RoSpec, rospec_of}
 use Rattle.llrp_session.specs.Table.{RoState, Entry, Inactive, Active, change, without, enter, names, setting, enabling, disabling, active, first_immediate, is_active, is_inactive, state_of, listing, active_count}
 use Rattle.llrp_session.specs.Calls.Table.{IsRising, AllAbove}
 use Rattle.llrp_session.specs.TagReport.{Sighting, tag_report}
-use Rattle.llrp_session.specs.Words.{Response, KeepaliveSent, Overflowed, Ended, ReaderMessage, Adding, Deleting, Starting, Stopping, Enabling, Disabling, Configuring, Request, AddRoSpec, DeleteRoSpec, StartRoSpec, StopRoSpec, EnableRoSpec, DisableRoSpec, GetRoSpecs, SetReaderConfig, GetReports, CloseConnection, NoRequest, Unsupported}
-use Rattle.llrp_session.specs.Calls.Words.{heard}
+use Rattle.llrp_session.specs.Contents.{Response, KeepaliveSent, Overflowed, Ended, ReaderMessage, Adding, Deleting, Starting, Stopping, Enabling, Disabling, Configuring, Request, AddRoSpec, DeleteRoSpec, StartRoSpec, StopRoSpec, EnableRoSpec, DisableRoSpec, GetRoSpecs, SetReaderConfig, GetReports, CloseConnection, NoRequest, Unsupported}
+use Rattle.llrp_session.specs.Calls.Contents.{heard}
 use Rattle.llrp_session.specs.Refusal.{Refusal}
-use Rattle.llrp_session.specs.ReaderMachine.{Reader, Turn, Keepalive, ReaderPhase, Waiting, Up, Down, tell, reply, with_reader, with_table, send_held, set_state, start, end, end_if, start_if_idle, serve, see, tick, keep_alive, keepalive_from, configured, begun, is_known, add_status, is_too_long, effective_report, sends_at_end, has_state, is_bad_report, is_bad_keepalive, hold, send_if_enough, is_enough, is_over, is_full, counting, ReaderEvent, Connect, Take, TakeBad, Seen, Tick, next, next_in, connect}
-use Rattle.llrp_session.specs.Sightings.{tags_in, tags_of, report_by, counted_in, kept_by, dropped_by, History, history, goes_on, extended, no_history}
+use Rattle.llrp_session.specs.ReaderMachine.{Reader, Turn, Keepalive, ReaderPhase, Waiting, Up, Down, tell, reply, with_reader, with_table, send_held, set_state, start, end, end_if, start_if_idle, serve, see, tick, keep_alive, keepalive_from, configured, turn_begun, is_known, add_status, is_too_long, effective_report, sends_at_end, has_state, is_bad_report, is_bad_keepalive, hold, send_if_enough, is_report_due, has_run_out, is_full, counting, ReaderEvent, Connect, Take, TakeBad, Seen, Tick, next, next_in, connect}
+use Rattle.llrp_session.specs.Sightings.{tags_in, tags_of, report_by, counted_in, kept_by, dropped_by, History, history, after_event, extended, no_history}
 use Rattle.llrp_session.specs.Calls.Sightings.{is_overflow, overflows, AfterAllEvents, ReportsInOrder, OverflowsTold, HoldsFewEnough, OneActive}
 use Rattle.llrp_session.specs.World.{table_heard, listed_for, listed_in, listed_by}
 use Rattle.llrp_session.specs.Calls.Agreement.{tables_of}
@@ -220,8 +220,8 @@ kept-keep_alive reports d ls now (Some k) t s =
 kept-tick : (reports : List Tree) (d : ℕ) (ls : List (List Tree)) (now : ℕ) (t : Turn) → IsKept reports d ls t → IsKept reports d ls (tick now t)
 unfolding tick
 kept-tick reports d ls now t s =
-    let ended = end_if (is_over now t.reader.started) now (active t.reader.table) t in
-    kept-keep_alive reports d ls now ended.reader.keepalive ended (kept-end_if reports d ls (is_over now t.reader.started) now (active t.reader.table) t s)
+    let ended = end_if (has_run_out now t.reader.started) now (active t.reader.table) t in
+    kept-keep_alive reports d ls now ended.reader.keepalive ended (kept-end_if reports d ls (has_run_out now t.reader.started) now (active t.reader.table) t s)
 
 -- ---- a sighting
 
@@ -263,7 +263,7 @@ kept-see reports d ls now g (Some p) t s =
             most = let lt = room (length t.reader.held) e in omega (arith, length-append t.reader.held (tag ∷ []));
             table = s.table;
           } in
-          elim (is_enough report_spec (length more.reader.held)) as (λ b. IsKept (reports ++ tag ∷ []) (d + 0) ls (cond b (send_held more) more)) [ true ↦ kept-send_held _ _ _ more m | false ↦ m ]
+          elim (is_report_due report_spec (length more.reader.held)) as (λ b. IsKept (reports ++ tag ∷ []) (d + 0) ls (cond b (send_held more) more)) [ true ↦ kept-send_held _ _ _ more m | false ↦ m ]
     ] refl
 
 -- ---- a step
@@ -276,7 +276,7 @@ quietly : (reports : List Tree) (full : Bool) (ls : List (List Tree)) (t : Turn)
 quietly reports true ls t s = record { tables = s.tables; reports = s.reports ∙ sym (append-nil reports); dropped = s.dropped; most = s.most; table = s.table }
 quietly reports false ls t s = record { tables = s.tables; reports = s.reports ∙ sym (append-nil reports); dropped = s.dropped; most = s.most; table = s.table }
 
-kept-begun : (r : Reader) → length r.held ≤ 64 → IsOrderly r.table → IsKept r.held 0 [] (begun r)
+kept-begun : (r : Reader) → length r.held ≤ 64 → IsOrderly r.table → IsKept r.held 0 [] (turn_begun r)
 unfolding tags_of overflows tables_of
 kept-begun r most orderly = record { reports = refl; dropped = refl; tables = refl; most = most; table = orderly }
 
@@ -288,7 +288,7 @@ same-listed _ r v = refl
 kept-next_in : (ph : ReaderPhase) (now : ℕ) (e : ReaderEvent) (r : Reader) → length r.held ≤ 64 → IsOrderly r.table
     → KeptNext (r.held ++ cond (is_full r) [] (counted_in ph now e r)) (cond (is_full r) (length (counted_in ph now e r)) 0) (listed_in ph e r) (next_in ph now e r)
 kept-next_in Down now e r most orderly = tt
-kept-next_in Waiting now Connect r most orderly = quietly r.held (is_full r) _ (connect now r) (kept-say r.held 0 [] (begun r) _ _ refl refl refl refl orderly (kept-begun r most orderly))
+kept-next_in Waiting now Connect r most orderly = quietly r.held (is_full r) _ (connect now r) (kept-say r.held 0 [] (turn_begun r) _ _ refl refl refl refl orderly (kept-begun r most orderly))
 kept-next_in Waiting now (Take v id q) r most orderly = tt
 kept-next_in Waiting now (TakeBad id reason) r most orderly = tt
 kept-next_in Waiting now (Seen g) r most orderly = tt
@@ -296,12 +296,12 @@ kept-next_in Waiting now Tick r most orderly = tt
 kept-next_in Up now Connect r most orderly = tt
 kept-next_in Up now (Take v id q) r most orderly =
     let taken : Reader = record r { version = v } in
-    quietly r.held (is_full r) _ _ (subst (λ (ls : List (List Tree)). IsKept r.held 0 ls (serve now v id q (begun taken))) (same-listed q r v) (kept-serve r.held 0 now v id q (begun taken) (kept-begun taken most orderly)))
-kept-next_in Up now (TakeBad id reason) r most orderly = quietly r.held (is_full r) _ _ (kept-say r.held 0 [] (begun r) _ _ refl refl refl refl orderly (kept-begun r most orderly))
+    quietly r.held (is_full r) _ _ (subst (λ (ls : List (List Tree)). IsKept r.held 0 ls (serve now v id q (turn_begun taken))) (same-listed q r v) (kept-serve r.held 0 now v id q (turn_begun taken) (kept-begun taken most orderly)))
+kept-next_in Up now (TakeBad id reason) r most orderly = quietly r.held (is_full r) _ _ (kept-say r.held 0 [] (turn_begun r) _ _ refl refl refl refl orderly (kept-begun r most orderly))
 kept-next_in Up now (Seen g) r most orderly =
-    let s = kept-see r.held 0 [] now g (counting g (active r.table)) (begun r) (kept-begun r most orderly) in
+    let s = kept-see r.held 0 [] now g (counting g (active r.table)) (turn_begun r) (kept-begun r most orderly) in
     record { reports = s.reports; dropped = s.dropped ∙ omega arith; tables = s.tables; most = s.most; table = s.table }
-kept-next_in Up now Tick r most orderly = quietly r.held (is_full r) _ _ (kept-tick r.held 0 [] now (begun r) (kept-begun r most orderly))
+kept-next_in Up now Tick r most orderly = quietly r.held (is_full r) _ _ (kept-tick r.held 0 [] now (turn_begun r) (kept-begun r most orderly))
 
 pub kept-next : (now : ℕ) (e : ReaderEvent) (r : Reader) → length r.held ≤ 64 → IsOrderly r.table → KeptNext (r.held ++ kept_by now e r) (dropped_by now e r) (listed_by e r) (next now e r)
 unfolding next
@@ -329,7 +329,7 @@ kept-extended h (Ok t) tags d ls s k =
 kept-history : (es : List (ℕ × ReaderEvent)) (h : History) → IsKeptHistory h → IsKeptHistory (history es h)
 kept-history [] h k = k
 kept-history (e ∷ es) h k =
-    kept-history es (goes_on h e) (kept-extended h (next e.0 e.1 h.reader) (kept_by e.0 e.1 h.reader) (dropped_by e.0 e.1 h.reader) (listed_by e.1 h.reader) (kept-next e.0 e.1 h.reader k.most k.table) k)
+    kept-history es (after_event h e) (kept-extended h (next e.0 e.1 h.reader) (kept_by e.0 e.1 h.reader) (dropped_by e.0 e.1 h.reader) (listed_by e.1 h.reader) (kept-next e.0 e.1 h.reader k.most k.table) k)
 
 kept_always : (limit first_id : ℕ) (es : List (ℕ × ReaderEvent)) → IsKeptHistory (history es (no_history limit first_id))
 unfolding tags_of overflows active_count IsRising AllAbove

@@ -5,17 +5,15 @@ use Rattle.std.proofs.lemmas.Bool.Decides.{nat_tests}
 use Rattle.llrp_tree.specs.Tree.{Tree}
 use Rattle.llrp_tree.specs.Lawful.{tree_octets}
 use Rattle.llrp_session.specs.RoSpec.{rospec_of}
-use Rattle.llrp_session.specs.Words.{Operation, Adding, Deleting, Starting, Stopping, Enabling, Disabling, Listing, Configuring, Closing, Command, Add, Delete, Start, Stop, Enable, Disable, GetRospecs, SetKeepalive, GetReport, Close, Heard, HeardResponse, HeardError, HeardReport, HeardKeepalive, HeardNotification, HeardOther, RoSpecChange}
+use Rattle.llrp_session.specs.Contents.{Operation, Adding, Deleting, Starting, Stopping, Enabling, Disabling, Listing, Configuring, Closing, Command, Add, Delete, Start, Stop, Enable, Disable, GetRospecs, SetKeepalive, GetReport, Close, Heard, HeardResponse, HeardError, HeardReport, HeardKeepalive, HeardNotification, HeardOther, RoSpecChange}
 use Rattle.llrp_session.specs.Refusal.{Refusal, Busy, OverLimit, IdsSpent}
 use Rattle.llrp_session.specs.ClientMachine.{Client, ClientPhase, Fresh, Ready, Closed, Pending, Sending, Taking, command, sent_unless, refused_in, is_over_limit, are_spent, take, take_in, attempted, answered, take_response, failed, notified, is_response_to, unexpected, takes, cleared, closed, Connected, Refused, Reply}
 use Rattle.llrp_session.specs.Calls.LawfulWords.{IsLawfulCommand, IsLawfulClientMessage}
 use Rattle.llrp_session.specs.MessageWorld.{IsGivenCommand}
 use Rattle.llrp_session.specs.Calls.LawfulStates.{AreLawfulClientMessages}
+use Rattle.llrp_session.proofs.Adding.{not_less as not_above}
 
 -- ---- commands
-
-not_above : (a b : ℕ) → nat_lt a b ≡ false → b ≤ a
-not_above a b h = grind (arith, nat_tests)
 
 within : (limit : ℕ) (k : Command) → IsGivenCommand k → is_over_limit limit k ≡ false → IsLawfulCommand limit k
 unfolding rospec_of

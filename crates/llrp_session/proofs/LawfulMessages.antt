@@ -16,11 +16,12 @@ use Rattle.llrp_tree.specs.Lawful.{octets, body_octets, message_octets, has_plac
 use Rattle.llrp_tree.specs.Checks.{all_placed, none_too_many, none_missing, table_tests, first_fault, first_message_fault}
 use Rattle.llrp_tree.proofs.LawLemmas.{lawful_from, message_from}
 use Rattle.llrp_session.specs.Table.{Entry, listing}
-use Rattle.llrp_session.specs.Words.{Operation, Adding, Deleting, Starting, Stopping, Enabling, Disabling, Listing, Configuring, Closing, Add, Delete, Start, Stop, Enable, Disable, GetRospecs, SetKeepalive, GetReport, Close, ReaderWord, Response, Listed, Error, Report, KeepaliveSent, Accepted, Started, Ended, Overflowed, ReaderMessage, ClientWord, Asks, Acknowledges, ClientMessage, KeepaliveSpec, keepalive_each}
+use Rattle.llrp_session.specs.Contents.{Operation, Adding, Deleting, Starting, Stopping, Enabling, Disabling, Listing, Configuring, Closing, Add, Delete, Start, Stop, Enable, Disable, GetRospecs, SetKeepalive, GetReport, Close, ReaderContent, Response, Listed, Error, Report, KeepaliveSent, Accepted, Started, Ended, Overflowed, ReaderMessage, ClientContent, Asks, Acknowledges, ClientMessage, KeepaliveSpec, keepalive_each}
 use Rattle.llrp_session.specs.ReaderMessages.{parameter, status_parameter, notification_data, rospec_event, response_kind, reader_message}
 use Rattle.llrp_session.specs.ClientMessages.{client_message}
 use Rattle.llrp_session.specs.Calls.LawfulWords.{IsSendable, AreReports, AreToldOf, FitsLimit, IsLawfulReaderWord, IsLawfulReaderMessage, IsLawfulRoSpec, IsLawfulClientWord, IsLawfulClientMessage}
 use Rattle.llrp_session.proofs.ListedLemmas.{listing_placed, listing_lawful, listing_octets, statuses-listing}
+use Rattle.llrp_session.proofs.AnswersLawful.{any_version}
 
 -- ---- parameters
 
@@ -68,16 +69,11 @@ overflow_data_lawful now = lawful_from ReaderEventNotificationData [] [] _ tt re
 
 -- ---- messages
 
-any_version : (v : ℕ) → (v ≡ 1) ⊎ (v ≡ 2) → (kind : MsgKind) (values : List ℕ) (f : Forest) → first_message_fault 1 kind values f ≡ None → first_message_fault v kind values f ≡ None
-unfolding first_message_fault
-any_version v (inl e) kind values f h = rw e h
-any_version v (inr e) kind values f h = rw e h
-
-sendable : (v id : ℕ) (kind : MsgKind) (values : List ℕ) (f : Forest) (limit : ℕ) → profile_of (Message kind) ≡ Own → (v ≡ 1) ⊎ (v ≡ 2) → id < 2 ^ 32 → AllLawful f → first_message_fault 1 kind values f ≡ None
-    → message_octets (record { version = v; id = id; kind = kind; fields = values; children = f }) ≤ limit
-    → IsSendable limit (record { version = v; id = id; kind = kind; fields = values; children = f })
+sendable : (v id : ℕ) (kind : MsgKind) (values : List ℕ) (f : Forest) (limit : ℕ) → profile_of (Message kind) ≡ Own → (v ≡ 1) ⊎ (v ≡ 2) → id < 2 ^ 32 → AllLawful f → first_message_fault 1 kind values [] f ≡ None
+    → message_octets (record { version = v; id = id; kind = kind; fields = values; tail = []; children = f }) ≤ limit
+    → IsSendable limit (record { version = v; id = id; kind = kind; fields = values; tail = []; children = f })
 sendable v id kind values f limit own version small children passes short =
-    record { own = own; lawful = message_from v id kind values f small children (any_version v version kind values f passes); within = short }
+    record { own = own; lawful = message_from v id kind values [] f small tt children (any_version v version kind values f passes); within = short }
 
 response_own : (operation : Operation) → profile_of (Message (response_kind operation)) ≡ Own
 unfolding profile_of rule_of message_rule
@@ -91,7 +87,7 @@ response_own Configuring = refl
 response_own Closing = refl
 response_own Listing = refl
 
-response_passes : (operation : Operation) (status : ℕ) → first_message_fault 1 (response_kind operation) [] (forest (status_parameter status ∷ [])) ≡ None
+response_passes : (operation : Operation) (status : ℕ) → first_message_fault 1 (response_kind operation) [] [] (forest (status_parameter status ∷ [])) ≡ None
 unfolding first_message_fault table_tests all_placed none_too_many none_missing rule_of message_rule param_rule number_of key_of profile_of fields_of tail_of groups_of is_tv body_octets
 response_passes Adding status = refl
 response_passes Deleting status = refl
@@ -133,7 +129,7 @@ reports_octets before [] h = omega arith
 reports_octets before (t ∷ ts) h = let ih = reports_octets (add before t) ts h.1 in let s = h.0.short in omega (arith, ih, s)
 
 report_sendable : (v id : ℕ) (tags : List Tree) (limit : ℕ) → 4096 ≤ limit → (v ≡ 1) ⊎ (v ≡ 2) → id < 2 ^ 32 → AreReports tags → length tags ≤ 64
-    → IsSendable limit (record { version = v; id = id; kind = RoAccessReport; fields = []; children = forest tags })
+    → IsSendable limit (record { version = v; id = id; kind = RoAccessReport; fields = []; tail = []; children = forest tags })
 unfolding ArePlaced NoneTooMany NoneMissing rule_of message_rule number_of key_of profile_of fields_of tail_of groups_of body_octets
 report_sendable v id tags limit l version small h few =
     let long = reports_octets none tags h in
@@ -152,7 +148,7 @@ report_sendable v id tags limit l version small h few =
 -- ---- a table
 
 table_sendable : (v id : ℕ) (table : List Entry) (limit : ℕ) → limit ≤ MAX_LIMIT → (v ≡ 1) ⊎ (v ≡ 2) → id < 2 ^ 32 → AreToldOf table → FitsLimit limit table
-    → IsSendable limit (record { version = v; id = id; kind = GetRoSpecsResponse; fields = []; children = forest (status_parameter 0 ∷ listing table) })
+    → IsSendable limit (record { version = v; id = id; kind = GetRoSpecsResponse; fields = []; tail = []; children = forest (status_parameter 0 ∷ listing table) })
 unfolding ArePlaced NoneTooMany NoneMissing count rule_of message_rule param_rule number_of key_of profile_of fields_of tail_of groups_of is_tv body_octets
 table_sendable v id table limit m version small told fits =
     let status : Forest = forest (status_parameter 0 ∷ []) in
@@ -172,7 +168,7 @@ table_sendable v id table limit m version small told fits =
 
 -- ---- the words of a reader
 
-word_sends : (v id : ℕ) (word : ReaderWord) (limit : ℕ) → 4096 ≤ limit → limit ≤ MAX_LIMIT → (v ≡ 1) ⊎ (v ≡ 2) → id < 2 ^ 32 → IsLawfulReaderWord limit word → IsSendable limit (reader_message (record { version = v; id = id; word = word }))
+word_sends : (v id : ℕ) (word : ReaderContent) (limit : ℕ) → 4096 ≤ limit → limit ≤ MAX_LIMIT → (v ≡ 1) ⊎ (v ≡ 2) → id < 2 ^ 32 → IsLawfulReaderWord limit word → IsSendable limit (reader_message (record { version = v; id = id; word = word }))
 unfolding reader_message first_message_fault table_tests all_placed none_too_many none_missing rule_of message_rule param_rule number_of key_of profile_of fields_of tail_of groups_of is_tv body_octets
 word_sends v id (Response operation status) limit l m version small h =
     sendable v id (response_kind operation) [] (forest (status_parameter status ∷ [])) limit (response_own operation) version small (tt, status_lawful status h, tt) (response_passes operation status) (let e = response_octets operation status in omega (arith, e))
@@ -206,7 +202,7 @@ keepalive_fits ms h =
     elim (ms == 0) as (λ b. ((if b then off else on).trigger ≤ 1) × ((if b then off else on).period < 2 ^ 32)) [ true ↦ (omega arith, omega arith) | false ↦ (omega arith, h) ]
 
 add_sendable : (id limit : ℕ) (spec : Tree) → limit ≤ MAX_LIMIT → id < 2 ^ 32 → IsLawfulRoSpec limit spec
-    → IsSendable limit (record { version = 1; id = id; kind = AddRoSpec; fields = []; children = forest (spec ∷ []) })
+    → IsSendable limit (record { version = 1; id = id; kind = AddRoSpec; fields = []; tail = []; children = forest (spec ∷ []) })
 unfolding ArePlaced NoneTooMany NoneMissing count rule_of message_rule param_rule number_of key_of profile_of fields_of tail_of groups_of body_octets
 add_sendable id limit spec l small h =
     let placed : has_place (groups_of (Message AddRoSpec)) spec.kind ≡ true = rw h.kind refl in
@@ -224,11 +220,11 @@ add_sendable id limit spec l small h =
     }
 
 -- a message of one field of 32 bits
-named_sendable : (id limit rospec : ℕ) (kind : MsgKind) → profile_of (Message kind) ≡ Own → 4096 ≤ limit → id < 2 ^ 32 → first_message_fault 1 kind (rospec ∷ []) none ≡ None → body_octets (Message kind) [] ≡ 4
-    → IsSendable limit (record { version = 1; id = id; kind = kind; fields = rospec ∷ []; children = none })
+named_sendable : (id limit rospec : ℕ) (kind : MsgKind) → profile_of (Message kind) ≡ Own → 4096 ≤ limit → id < 2 ^ 32 → first_message_fault 1 kind (rospec ∷ []) [] none ≡ None → body_octets (Message kind) [] ≡ 4
+    → IsSendable limit (record { version = 1; id = id; kind = kind; fields = rospec ∷ []; tail = []; children = none })
 named_sendable id limit rospec kind own l small passes long = sendable 1 id kind (rospec ∷ []) none limit own (inl refl) small tt passes (omega (arith, long))
 
-client_word_sends : (id limit : ℕ) (word : ClientWord) → 4096 ≤ limit → limit ≤ MAX_LIMIT → id < 2 ^ 32 → IsLawfulClientWord limit word → IsSendable limit (client_message (record { id = id; word = word }))
+client_word_sends : (id limit : ℕ) (word : ClientContent) → 4096 ≤ limit → limit ≤ MAX_LIMIT → id < 2 ^ 32 → IsLawfulClientWord limit word → IsSendable limit (client_message (record { id = id; word = word }))
 unfolding client_message first_message_fault table_tests all_placed none_too_many none_missing rule_of message_rule param_rule number_of key_of profile_of fields_of tail_of groups_of is_tv body_octets
 client_word_sends id limit (Asks (Add spec)) l m small h = add_sendable id limit spec m small h
 client_word_sends id limit (Asks (Delete n)) l m small h = let e = le-leb n 4294967295 (omega arith) in named_sendable id limit n DeleteRoSpec refl l small (rw e refl) refl

@@ -18,9 +18,9 @@ no_fault kind fields tail row children fault t r h e =
     let f = sym e ∙ a ∙ b ∙ k in cc
 
 pub no_message_fault : (version id : ℕ) (kind : MsgKind) (fields : List ℕ) (row children : List Tree) (fault : NodeFault) → row ≡ children
-    → IsLawfulMessage (record { version = version; id = id; kind = kind; fields = fields; children = forest children })
-    → first_message_fault version kind fields (forest row) ≡ Some fault → ⊥
+    → IsLawfulMessage (record { version = version; id = id; kind = kind; fields = fields; tail = []; children = forest children })
+    → first_message_fault version kind fields [] (forest row) ≡ Some fault → ⊥
 no_message_fault version id kind fields row children fault r h e =
-    let k = message_to (record { version = version; id = id; kind = kind; fields = fields; children = forest children }) h in
-    let b = ap (λ (x : List Tree). first_message_fault version kind fields (forest x)) r in
+    let k = message_to (record { version = version; id = id; kind = kind; fields = fields; tail = []; children = forest children }) h in
+    let b = ap (λ (x : List Tree). first_message_fault version kind fields [] (forest x)) r in
     let f = sym e ∙ b ∙ k in cc

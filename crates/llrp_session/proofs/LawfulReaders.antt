@@ -8,8 +8,8 @@ use Rattle.llrp_tree.specs.declared.fault.Reason.TheVariants.{Reserved, Version,
 use Rattle.llrp_session.specs.RoSpec.{RoSpec, ReportSpec, ContentSelector, rospec_of}
 use Rattle.llrp_session.specs.Table.{RoState, Entry, Disabled, Inactive, Active, change, without, enter, names, setting, enabling, disabling, active, first_immediate, is_active, is_inactive, is_disabled, state_of, octets_of}
 use Rattle.llrp_session.specs.TagReport.{Sighting, tag_report}
-use Rattle.llrp_session.specs.Words.{ReaderWord, Response, Listed, Error, Report, KeepaliveSent, Accepted, Started, Ended, Overflowed, ReaderMessage, Adding, Deleting, Starting, Stopping, Enabling, Disabling, Listing, Configuring, Closing, Config, KeepaliveSpec, Request, AddRoSpec, DeleteRoSpec, StartRoSpec, StopRoSpec, EnableRoSpec, DisableRoSpec, GetRoSpecs, SetReaderConfig, GetReports, CloseConnection, NoRequest, Unsupported}
-use Rattle.llrp_session.specs.ReaderMachine.{Reader, Turn, Keepalive, ReaderPhase, Waiting, Up, Down, tell, reply, with_reader, with_table, send_held, set_state, start, end, end_if, start_if_idle, serve, see, tick, keep_alive, keepalive_from, configured, begun, is_known, add_status, has_bad_field, is_too_long, effective_report, sends_at_end, has_state, is_bad_report, is_bad_keepalive, hold, send_if_enough, is_enough, is_over, is_full, counting, lists_antenna, following, fault_status, set_keepalive, set_report, reset_if, ReaderEvent, Connect, Take, TakeBad, Seen, Tick, new_reader, next, next_in}
+use Rattle.llrp_session.specs.Contents.{ReaderContent, Response, Listed, Error, Report, KeepaliveSent, Accepted, Started, Ended, Overflowed, ReaderMessage, Adding, Deleting, Starting, Stopping, Enabling, Disabling, Configuring, Closing, Config, KeepaliveSpec, Request, AddRoSpec, DeleteRoSpec, StartRoSpec, StopRoSpec, EnableRoSpec, DisableRoSpec, GetRoSpecs, SetReaderConfig, GetReports, CloseConnection, NoRequest, Unsupported}
+use Rattle.llrp_session.specs.ReaderMachine.{Reader, Turn, Keepalive, ReaderPhase, Waiting, Up, Down, tell, reply, with_reader, with_table, send_held, set_state, start, end, end_if, start_if_idle, serve, see, tick, keep_alive, keepalive_from, configured, turn_begun, is_known, add_status, has_bad_field, is_too_long, effective_report, sends_at_end, has_state, is_bad_report, is_bad_keepalive, hold, send_if_enough, is_report_due, has_run_out, is_full, counting, lists_antenna, following, fault_status, set_keepalive, set_report, reset_if, ReaderEvent, Connect, Take, TakeBad, Seen, Tick, new_reader, next, next_in}
 use Rattle.llrp_session.specs.Refusal.{Refusal}
 use Rattle.llrp_session.proofs.ToldOfLawful.{told_of_lawful}
 use Rattle.llrp_session.proofs.ReportLemmas.{report_of_sighting}
@@ -18,7 +18,7 @@ use Rattle.llrp_session.specs.Calls.LawfulStates.{IsLawfulReader, IsLawfulReques
 use Rattle.llrp_session.specs.MessageWorld.{IsLawfulSighting}
 use Rattle.llrp_session.proofs.TableChanges.{octets-change, octets-without, octets-enter}
 use Rattle.llrp_session.proofs.Adding.{added-fits}
-use Rattle.llrp_session.proofs.Following.{same-configured}
+use Rattle.llrp_session.proofs.Following.{same-configured, is_zero}
 
 -- ---- lists
 
@@ -61,9 +61,6 @@ fits-without limit n t h = let e = octets-without n t in omega (arith, e, h)
 fits-enter : (limit : ℕ) (s : RoSpec) (t : List Entry) → add_status limit t s ≡ 0 → FitsLimit limit t → FitsLimit limit (enter s t)
 fits-enter limit s t status h = let e = octets-enter s t in let g = added-fits limit t s status in omega (arith, e, g, h)
 
-is_zero : (n : ℕ) → (n == 0) ≡ true → n ≡ 0
-is_zero n h = grind (arith, nat_tests)
-
 abbrev IfToldOf : Option RoSpec → Type 0
 IfToldOf None = Unit {0}
 IfToldOf (Some s) = IsToldOf s
@@ -96,7 +93,7 @@ following-fits id h = elim (id == 4294967295) as (λ b. (id == 4294967295) ≡ b
     below_top : (id : ℕ) → id < 2 ^ 32 → (id == 4294967295) ≡ false → id + 1 < 2 ^ 32
     below_top id h e = grind (arith, nat_tests)
 
-lawful-tell : (limit : ℕ) (w : ReaderWord) (t : Turn) → IsLawfulReaderWord limit w → IsLawfulTurn limit t → IsLawfulTurn limit (tell w t)
+lawful-tell : (limit : ℕ) (w : ReaderContent) (t : Turn) → IsLawfulReaderWord limit w → IsLawfulTurn limit t → IsLawfulTurn limit (tell w t)
 lawful-tell limit w t l h =
     let r = h.reader in
     record {
@@ -105,7 +102,7 @@ lawful-tell limit w t l h =
       same = h.same;
     }
 
-lawful-reply : (limit : ℕ) (v id : ℕ) (w : ReaderWord) (t : Turn) → (v ≡ 1) ⊎ (v ≡ 2) → id < 2 ^ 32 → IsLawfulReaderWord limit w → IsLawfulTurn limit t → IsLawfulTurn limit (reply v id w t)
+lawful-reply : (limit : ℕ) (v id : ℕ) (w : ReaderContent) (t : Turn) → (v ≡ 1) ⊎ (v ≡ 2) → id < 2 ^ 32 → IsLawfulReaderWord limit w → IsLawfulTurn limit t → IsLawfulTurn limit (reply v id w t)
 lawful-reply limit v id w t version fits l h = record { sent = messages-append limit t.sent _ h.sent (record { version = version; id = fits; word = l }); reader = h.reader; same = h.same }
 
 lawful-with_table : (limit : ℕ) (table : List Entry) (t : Turn) → AreToldOf table → FitsLimit t.reader.limit table → IsLawfulTurn limit t → IsLawfulTurn limit (with_table table t)
@@ -281,7 +278,7 @@ lawful-see limit reports now g (Some s) t moment l told h =
             };
             same = h.same;
           } in
-          elim (is_enough report_spec (length more.reader.held)) as (λ b. IsLawfulTurn limit (cond b (send_held more) more)) [ true ↦ lawful-send_held limit more held | false ↦ held ]
+          elim (is_report_due report_spec (length more.reader.held)) as (λ b. IsLawfulTurn limit (cond b (send_held more) more)) [ true ↦ lawful-send_held limit more held | false ↦ held ]
     ] refl
 
 lawful-keep_alive : (limit : ℕ) (now : ℕ) (o : Option Keepalive) (t : Turn) → IsLawfulTurn limit t → IsLawfulTurn limit (keep_alive now o t)
@@ -297,8 +294,8 @@ lawful-keep_alive limit now (Some k) t h =
 lawful-tick : (limit : ℕ) (now : ℕ) (t : Turn) → now < 2 ^ 64 → IsLawfulTurn limit t → IsLawfulTurn limit (tick now t)
 unfolding tick
 lawful-tick limit now t moment h =
-    let ended = end_if (is_over now t.reader.started) now (active t.reader.table) t in
-    lawful-keep_alive limit now ended.reader.keepalive ended (lawful-end_if limit (is_over now t.reader.started) now (active t.reader.table) t moment (told-active t.reader.table h.reader.table) h)
+    let ended = end_if (has_run_out now t.reader.started) now (active t.reader.table) t in
+    lawful-keep_alive limit now ended.reader.keepalive ended (lawful-end_if limit (has_run_out now t.reader.started) now (active t.reader.table) t moment (told-active t.reader.table h.reader.table) h)
 
 -- ---- a step
 
@@ -312,13 +309,13 @@ lawful-next : RoSpecsAreTold → SightingsAreReports → (now : ℕ) (e : Reader
 unfolding next
 lawful-next told reports now e r moment l h = in_phase r.phase e l
   where
-    begin : (r : Reader) → IsLawfulReader r → IsLawfulTurn r.limit (begun r)
+    begin : (r : Reader) → IsLawfulReader r → IsLawfulTurn r.limit (turn_begun r)
     begin r h = record { sent = tt; reader = h; same = refl }
 
     in_phase : (ph : ReaderPhase) (e : ReaderEvent) → IsLawfulReaderEvent e → LawfulStep r.limit (next_in ph now e r)
     in_phase Down e l = tt
     in_phase Waiting Connect l =
-        done r.limit _ (lawful-tell r.limit (Accepted now) (begun (record r { phase = Up })) moment (begin (record r { phase = Up }) (record { next_id = h.next_id; version = h.version; held = h.held; few = h.few; table = h.table; fits = h.fits })))
+        done r.limit _ (lawful-tell r.limit (Accepted now) (turn_begun (record r { phase = Up })) moment (begin (record r { phase = Up }) (record { next_id = h.next_id; version = h.version; held = h.held; few = h.few; table = h.table; fits = h.fits })))
     in_phase Waiting (Take v id q) l = tt
     in_phase Waiting (TakeBad id reason) l = tt
     in_phase Waiting (Seen g) l = tt
@@ -326,10 +323,10 @@ lawful-next told reports now e r moment l h = in_phase r.phase e l
     in_phase Up Connect l = tt
     in_phase Up (Take v id q) l =
         let taken : IsLawfulReader (record r { version = v }) = record { next_id = h.next_id; version = l.0; held = h.held; few = h.few; table = h.table; fits = h.fits } in
-        done r.limit _ (lawful-serve r.limit told now v id q (begun (record r { version = v })) moment l.0 l.1 l.2 (begin (record r { version = v }) taken))
-    in_phase Up (TakeBad id reason) l = done r.limit _ (lawful-reply r.limit r.version id (Error (fault_status reason)) (begun r) h.version l (fault_status-fits reason) (begin r h))
-    in_phase Up (Seen g) l = done r.limit _ (lawful-see r.limit reports now g (counting g (active r.table)) (begun r) moment l (told-counting g (active r.table) (told-active r.table h.table)) (begin r h))
-    in_phase Up Tick l = done r.limit _ (lawful-tick r.limit now (begun r) moment (begin r h))
+        done r.limit _ (lawful-serve r.limit told now v id q (turn_begun (record r { version = v })) moment l.0 l.1 l.2 (begin (record r { version = v }) taken))
+    in_phase Up (TakeBad id reason) l = done r.limit _ (lawful-reply r.limit r.version id (Error (fault_status reason)) (turn_begun r) h.version l (fault_status-fits reason) (begin r h))
+    in_phase Up (Seen g) l = done r.limit _ (lawful-see r.limit reports now g (counting g (active r.table)) (turn_begun r) moment l (told-counting g (active r.table) (told-active r.table h.table)) (begin r h))
+    in_phase Up Tick l = done r.limit _ (lawful-tick r.limit now (turn_begun r) moment (begin r h))
 
 pub reader_says_lawful : (now : ℕ) (e : ReaderEvent) (r : Reader) → now < 2 ^ 64 → IsLawfulReaderEvent e → IsLawfulReader r
     → IfOk (next now e r) (λ t. AreLawfulReaderMessages r.limit t.sent × (IsLawfulReader t.reader × (t.reader.limit ≡ r.limit)))

@@ -1,3 +1,4 @@
+pub mod AnswersLawful
 pub mod States
 pub mod Orderly
 pub mod Following

@@ -1,15 +1,14 @@
 -- ROSpecs as they are listed are lawful, and as long as they were.
-use Rattle.std.proofs.Common.{◌≡◌, ℕ, ◌+◌, ◌^◌, ◌<◌, ◌≤◌, refl, sym, ap, subst, ◌∙◌, List, [], ◌∷◌, ◌++◌, length, take, append_assoc, true, arith, get_or}
+use Rattle.std.proofs.Common.{◌≡◌, ℕ, ◌+◌, ◌^◌, ◌<◌, ◌≤◌, refl, sym, ap, subst, ◌∙◌, List, [], ◌∷◌, ◌++◌, length, take, append_assoc, arith, get_or}
 use Rattle.std.proofs.lemmas.List.{take_more}
 use Rattle.std.specs.Prelude.{Some}
 use Rattle.llrp_schema.specs.declared.kinds.MsgKind.TheVariants.{GetRoSpecsResponse}
-use Rattle.llrp_schema.specs.declared.kinds.ParamKind.{ParamKind}
 use Rattle.llrp_schema.specs.declared.kinds.ParamKind.TheVariants.{RoSpec as RoSpecKind, LlrpStatus}
-use Rattle.llrp_schema.specs.declared.kinds.Kind.TheVariants.{Message, Parameter}
-use Rattle.llrp_schema.specs.Schema.{one, number_of, rule_of, message_rule, param_rule, fields_of, plain_fields_of, tail_of, groups_of, is_tv, key_of, profile_of}
+use Rattle.llrp_schema.specs.declared.kinds.Kind.TheVariants.{Message}
+use Rattle.llrp_schema.specs.Schema.{one, number_of, rule_of, message_rule, param_rule, fields_of, tail_of, groups_of, is_tv, key_of, profile_of}
 use Rattle.llrp_tree.specs.Tree.{Forest, Tree, add, add_all}
-use Rattle.llrp_tree.specs.Lawful.{octets, body_octets, tree_octets, count, ArePlaced, AreLawful, AllLawful, IsLawful}
-use Rattle.llrp_session.specs.RoSpec.{field}
+use Rattle.llrp_tree.specs.Lawful.{octets, body_octets, tree_octets, count, ArePlaced, AreLawful, AllLawful, IsLawfulTree}
+use Rattle.llrp_session.specs.RoSpec.{field_of}
 use Rattle.llrp_session.specs.Table.{Entry, RoState, Disabled, Inactive, Active, state_number, as_listed, listing, octets_of}
 use Rattle.llrp_session.specs.Calls.ReadWords.{greatest}
 use Rattle.llrp_session.specs.Calls.LawfulWords.{IsToldOf, AreToldOf}
@@ -22,7 +21,7 @@ state_number-le Active = omega arith
 
 -- ---- one ROSpec
 
-pub priority_fits : (t : Tree) → t.kind ≡ RoSpecKind → IsLawful t → field 1 (Some t) ≤ 7
+pub priority_fits : (t : Tree) → t.kind ≡ RoSpecKind → IsLawfulTree t → field_of 1 (Some t) ≤ 7
 unfolding fields_of rule_of param_rule
 priority_fits t k h = let le : get_or t.fields 1 0 ≤ greatest RoSpecKind 1 = field_within RoSpecKind t 1 k h in le
 
@@ -39,15 +38,15 @@ other_fields fields tail children id priority state h small low known =
     }
 
 -- a ROSpec has no tail
-no_tail : (t : Tree) → t.kind ≡ RoSpecKind → IsLawful t → t.tail ≡ []
+no_tail : (t : Tree) → t.kind ≡ RoSpecKind → IsLawfulTree t → t.tail ≡ []
 unfolding rule_of param_rule tail_of
 no_tail t k h = rw k at h.0.obeys.form
 
-pub listed_lawful : (e : Entry) → IsToldOf e.spec → IsLawful (as_listed e)
+pub listed_lawful : (e : Entry) → IsToldOf e.spec → IsLawfulTree (as_listed e)
 listed_lawful e told =
     let t = e.spec.tree in
     let parts : AreLawful RoSpecKind t.fields t.tail t.children = rw told.kind at told.lawful.0 in
-    (other_fields t.fields t.tail t.children e.spec.id (field 1 (Some t)) (state_number e.state) parts told.id (priority_fits t told.kind told.lawful) (state_number-le e.state), told.lawful.1)
+    (other_fields t.fields t.tail t.children e.spec.id (field_of 1 (Some t)) (state_number e.state) parts told.id (priority_fits t told.kind told.lawful) (state_number-le e.state), told.lawful.1)
 
 same_octets : (t : Tree) → t.kind ≡ RoSpecKind → t.tail ≡ [] → tree_octets t ≡ tree_octets (record { kind = RoSpecKind; fields = []; tail = []; children = t.children })
 same_octets t k e = rw (k, e) refl

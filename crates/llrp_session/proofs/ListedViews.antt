@@ -5,13 +5,10 @@ use Rattle.std.specs.List.{list_any, list_all}
 use Rattle.std.proofs.lemmas.Bool.{eq-eqb}
 use Rattle.std.proofs.lemmas.Bool.Decides.{nat_tests}
 use Rattle.llrp_tree.specs.Tree.{Tree}
-use Rattle.llrp_session.specs.Table.{Entry, Viewed, RoState, states, state_number, as_listed, listing}
+use Rattle.llrp_session.specs.Table.{Entry, Viewed, states, state_number, as_listed, listing}
 use Rattle.llrp_session.specs.Calls.Table.{AllAbove, IsRising}
 use Rattle.llrp_session.specs.ClientMachine.{shows, names_same, names_none_twice, is_view}
-
-and_true : (a b : Bool) → a ≡ true → b ≡ true → (a && b) ≡ true
-and_true true b h g = g
-and_true false b h g = h
+use Rattle.llrp_tree.proofs.LawLemmas.{both_true as and_true}
 
 or_left : (a b : Bool) → a ≡ true → (a || b) ≡ true
 or_left true b h = refl

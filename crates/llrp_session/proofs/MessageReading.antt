@@ -5,10 +5,10 @@ use Rattle.llrp_tree.proofs.TreeLemmas.{trees-forest}
 use Rattle.std.specs.Prelude.{true, filter, find}
 use Rattle.llrp_tree.specs.Tree.{Tree, forest}
 use Rattle.llrp_schema.specs.declared.kinds.ParamKind.TheVariants.{RoSpec, LlrpStatus}
-use Rattle.llrp_session.specs.RoSpec.{is_kind, field}
+use Rattle.llrp_session.specs.RoSpec.{is_kind, field_of}
 use Rattle.llrp_session.specs.Table.{Entry, as_listed, listing}
-use Rattle.llrp_session.specs.Words.{Adding, Deleting, Starting, Stopping, Enabling, Disabling, Listing, Configuring, Closing, Add, Delete, Start, Stop, Enable, Disable, GetRospecs, SetKeepalive, GetReport, Close, ReaderWord, Response, Listed, Error, Report, KeepaliveSent, Accepted, Started, Ended, Overflowed, ReaderMessage, HeardReport, HeardResponse, ClientWord, Asks, Acknowledges, ClientMessage, request}
-use Rattle.llrp_session.specs.Calls.Words.{heard}
+use Rattle.llrp_session.specs.Contents.{Adding, Deleting, Starting, Stopping, Enabling, Disabling, Listing, Configuring, Closing, Add, Delete, Start, Stop, Enable, Disable, GetRospecs, SetKeepalive, GetReport, Close, ReaderContent, Response, Listed, Error, Report, KeepaliveSent, Accepted, Started, Ended, Overflowed, ReaderMessage, HeardReport, HeardResponse, ClientContent, Asks, Acknowledges, ClientMessage, request}
+use Rattle.llrp_session.specs.Calls.Contents.{heard}
 use Rattle.llrp_session.specs.ReaderMessages.{status_parameter, reader_message}
 use Rattle.llrp_session.specs.ClientMessages.{client_message}
 use Rattle.llrp_session.specs.Reading.{request_of, status_in, rospecs_in, heard_of}
@@ -18,7 +18,7 @@ use Rattle.llrp_session.specs.Calls.LawfulWords.{SaysRoSpec}
 
 status_back : (ts : List Tree) → status_in (forest (status_parameter 0 ∷ ts)) ≡ 0
 unfolding number_of key_of profile_of rule_of param_rule
-status_back ts = ap (λ xs. field 0 (find (is_kind LlrpStatus) xs)) (trees-forest (status_parameter 0 ∷ ts))
+status_back ts = ap (λ xs. field_of 0 (find (is_kind LlrpStatus) xs)) (trees-forest (status_parameter 0 ∷ ts))
 
 all_rospecs : (table : List Entry) → filter (is_kind RoSpec) (listing table) ≡ listing table
 unfolding number_of key_of profile_of rule_of param_rule
@@ -31,7 +31,7 @@ rospecs_back table = ap (filter (is_kind RoSpec)) (trees-forest (status_paramete
 
 -- ---- words
 
-word_back : (version id : ℕ) (word : ReaderWord) → heard_of (reader_message (record { version = version; id = id; word = word })) ≡ heard word
+word_back : (version id : ℕ) (word : ReaderContent) → heard_of (reader_message (record { version = version; id = id; word = word })) ≡ heard word
 unfolding heard_of reader_message number_of key_of profile_of rule_of param_rule
 word_back version id (Response Adding status) = refl
 word_back version id (Response Deleting status) = refl
@@ -55,7 +55,7 @@ word_back version id (Overflowed now) = refl
 pub heard_back : (m : ReaderMessage) → heard_of (reader_message m) ≡ heard m.word
 heard_back m = word_back m.version m.id m.word
 
-command_back : (id : ℕ) (word : ClientWord) → SaysRoSpec word → request_of (client_message (record { id = id; word = word })) ≡ request word
+command_back : (id : ℕ) (word : ClientContent) → SaysRoSpec word → request_of (client_message (record { id = id; word = word })) ≡ request word
 unfolding request_of client_message number_of key_of profile_of rule_of param_rule
 command_back id (Asks (Add spec)) h = let is : is_kind RoSpec spec ≡ true = rw h refl in rw is refl
 command_back id (Asks (Delete n)) h = refl

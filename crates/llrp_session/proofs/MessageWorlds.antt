@@ -3,8 +3,8 @@ use Rattle.std.proofs.Common.{◌≡◌, ℕ, List, [], ◌∷◌, ◌++◌, ref
 use Rattle.std.specs.Prelude.{map, Result, Ok, Err, Option, None, Some, if◌then◌else◌, Bool, true, false, ◌==◌}
 use Rattle.std.proofs.lemmas.List.{map-append}
 use Rattle.llrp_tree.specs.Tree.{Tree}
-use Rattle.llrp_session.specs.Words.{Operation, Adding, Deleting, Starting, Stopping, Enabling, Disabling, Listing, Configuring, Closing, Request, RoSpecChange, Command, Response, Listed, Error, Report, KeepaliveSent, Accepted, Started, Ended, Overflowed, ReaderWord, ReaderMessage, ClientMessage, request, Heard, HeardResponse, HeardError, HeardReport, HeardKeepalive, HeardNotification, HeardOther}
-use Rattle.llrp_session.specs.Calls.Words.{heard}
+use Rattle.llrp_session.specs.Contents.{Operation, Adding, Deleting, Starting, Stopping, Enabling, Disabling, Listing, Configuring, Closing, Request, RoSpecChange, Command, Response, Listed, Error, Report, KeepaliveSent, Accepted, Started, Ended, Overflowed, ReaderContent, ReaderMessage, ClientMessage, request, Heard, HeardResponse, HeardError, HeardReport, HeardKeepalive, HeardNotification, HeardOther}
+use Rattle.llrp_session.specs.Calls.Contents.{heard}
 use Rattle.llrp_session.specs.Refusal.{Refusal}
 use Rattle.llrp_session.specs.ReaderMachine.{Turn, ReaderEvent, Connect, Take, Seen, Tick, next}
 use Rattle.llrp_session.specs.Sightings.{tags_in, tags_of, kept_by}
@@ -23,7 +23,7 @@ use Rattle.llrp_session.proofs.MessageReading.{heard_back, request_back}
 
 -- ---- the TagReportData in messages are those of the words
 
-word_tags : (word : ReaderWord) → tags_heard (heard word) ≡ tags_in word
+word_tags : (word : ReaderContent) → tags_heard (heard word) ≡ tags_in word
 word_tags (Response operation status) = refl
 word_tags (Listed table) = refl
 word_tags (Error status) = refl
@@ -61,7 +61,7 @@ commanded_alike : (r : Result Sending Refusal) (w : World) → commanded r (in_m
 commanded_alike (Err refusal) w = refl
 commanded_alike (Ok s) w = rw (map-append client_message w.up (s.message ∷ [])) refl
 
-took_alike : (r : Result Taking Refusal) (w : World) → took r (in_messages w) ≡ in_messages (words.took r w)
+took_alike : (r : Result Taking Refusal) (w : World) → took r (in_messages w) ≡ in_messages (words.word_took r w)
 took_alike (Err refusal) w = refl
 took_alike (Ok k) w = rw (map-append client_message w.up k.sent) refl
 
@@ -154,7 +154,7 @@ pub says_taken : (c : Client) (id : ℕ) (h : Heard) → Says c (take c id h)
 unfolding take
 says_taken c id h = says_in c.phase c id h
 
-took_says : (c : Client) (r : Result Taking Refusal) (w : World) → Says c r → AllSay w.up → AllSay (words.took r w).up
+took_says : (c : Client) (r : Result Taking Refusal) (w : World) → Says c r → AllSay w.up → AllSay (words.word_took r w).up
 took_says c (Err refusal) w s h = h
 took_says c (Ok k) w s h = all_say-append w.up k.sent h s.0
 

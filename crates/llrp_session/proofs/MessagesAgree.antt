@@ -2,8 +2,8 @@
 use Rattle.std.proofs.Common.{◌≡◌, ℕ, List, [], ◌∷◌, ◌++◌, Bool, refl, sym, ap, ◌∙◌, subst, inl, inr}
 use Rattle.std.specs.Prelude.{map, Result, Ok, Err, Option, None, Some, if◌then◌else◌}
 use Rattle.llrp_tree.specs.Tree.{Tree}
-use Rattle.llrp_session.specs.Words.{Add, Delete, Start, Stop, Enable, Disable, GetRospecs, SetKeepalive, GetReport, Close, Request, Heard, Response, Listed, Error, Report, KeepaliveSent, Accepted, Started, Ended, Overflowed, ReaderWord, ReaderMessage, ClientWord, Asks, Acknowledges, ClientMessage, request}
-use Rattle.llrp_session.specs.Calls.Words.{heard}
+use Rattle.llrp_session.specs.Contents.{Add, Delete, Start, Stop, Enable, Disable, GetRospecs, SetKeepalive, GetReport, Close, Request, Heard, Response, Listed, Error, Report, KeepaliveSent, Accepted, Started, Ended, Overflowed, ReaderContent, ReaderMessage, ClientContent, Asks, Acknowledges, ClientMessage, request}
+use Rattle.llrp_session.specs.Calls.Contents.{heard}
 use Rattle.llrp_session.specs.Refusal.{Refusal}
 use Rattle.llrp_session.specs.ClientMachine.{Client, Pending, Taking, take}
 use Rattle.llrp_session.specs.Calls.World.{World, run, opening}
@@ -40,7 +40,7 @@ same_taken_in (m ∷ ms) c =
     ap (λ (h : Heard). and_then (take c m.id h) (messages_taken_in (map reader_message ms))) (heard_back m)
     ∙ and_then_alike (take c m.id (heard m.word)) (messages_taken_in (map reader_message ms)) (taken_in ms) (same_taken_in ms)
 
-is_taken_alike : (r : Result Taking Refusal) (P Q : Client → Type 0) → ((c : Client) → P c → Q c) → IsTaken r P → IsTaken r Q
+pub is_taken_alike : (r : Result Taking Refusal) (P Q : Client → Type 0) → ((c : Client) → P c → Q c) → IsTaken r P → IsTaken r Q
 is_taken_alike (Err refusal) P Q f h = h
 is_taken_alike (Ok k) P Q f h = f k.client h
 
@@ -53,7 +53,7 @@ taken_alike (m ∷ ms) c h =
 
 -- ---- the pending request
 
-word_awaited : (word : ClientWord) (id : ℕ) → as_list (awaited_of id (request word)) ≡ awaited_by word id
+word_awaited : (word : ClientContent) (id : ℕ) → as_list (awaited_of id (request word)) ≡ awaited_by word id
 word_awaited (Asks (Add spec)) id = refl
 word_awaited (Asks (Delete n)) id = refl
 word_awaited (Asks (Start n)) id = refl
@@ -73,7 +73,7 @@ same_requests (m ∷ ms) h =
     let here : as_list (awaited_of m.id (request_of (client_message m))) ≡ awaited_by m.word m.id = ap (λ (q : Request). as_list (awaited_of m.id q)) (request_back m h.0) ∙ word_awaited m.word m.id in
     ap (λ (ps : List Pending). ps ++ requests_in (map client_message ms)) here ∙ ap (λ (ps : List Pending). awaited_by m.word m.id ++ ps) (same_requests ms h.1)
 
-word_response : (word : ReaderWord) → hears_response (heard word) ≡ is_response word
+word_response : (word : ReaderContent) → hears_response (heard word) ≡ is_response word
 word_response (Response operation status) = refl
 word_response (Listed table) = refl
 word_response (Error status) = refl

@@ -5,22 +5,22 @@ use Rattle.llrp_schema.specs.declared.kinds.MsgKind.{MsgKind}
 use Rattle.llrp_schema.specs.declared.kinds.MsgKind.TheVariants as kinds
 use Rattle.llrp_schema.specs.declared.kinds.ParamKind.{ParamKind}
 use Rattle.llrp_schema.specs.declared.kinds.ParamKind.TheVariants.{RoSpec}
-use Rattle.llrp_schema.specs.declared.kinds.Kind.TheVariants.{Message, Parameter}
+use Rattle.llrp_schema.specs.declared.kinds.Kind.TheVariants.{Message}
 use Rattle.llrp_schema.specs.Schema.{GroupRule, one, number_of, rule_of, message_rule, groups_of, fields_of, plain_fields_of, key_of, profile_of}
 use Rattle.llrp_tree.specs.Tree.{Forest, none, and, Tree, MessageTree, trees}
 use Rattle.llrp_tree.specs.Lawful.{is_member, count, ArePlaced, NoneTooMany, NoneMissing, IsLawfulMessage}
 use Rattle.llrp_tree.proofs.LawLemmas.{range_length, same_number}
-use Rattle.llrp_session.specs.Words.{AddRoSpec}
+use Rattle.llrp_session.specs.Contents.{AddRoSpec}
 use Rattle.llrp_session.specs.Reading.{adding, request_in, request_of}
 use Rattle.llrp_session.specs.RoSpec.{is_kind, first_in}
 use Rattle.llrp_session.proofs.ReadFields.{kind_of_test}
 
 -- each of a row is of the one group
-or_none : (b : Bool) → (b || false) ≡ true → b ≡ true
+pub or_none : (b : Bool) → (b || false) ≡ true → b ≡ true
 or_none true e = refl
 or_none false e = absurd cc
 
-all_members : (g : GroupRule) (f : Forest) → ArePlaced (g ∷ []) f → count g f ≡ length (trees f)
+pub all_members : (g : GroupRule) (f : Forest) → ArePlaced (g ∷ []) f → count g f ≡ length (trees f)
 unfolding ArePlaced count
 all_members g none p = refl
 all_members g (and before kind fields tail children) p =
@@ -33,7 +33,7 @@ all_members g (and before kind fields tail children) p =
 abbrev Only : ParamKind → Forest → Type 0
 Only kind f = (t : Tree) × (trees f ≡ t ∷ []) × (t.kind ≡ kind)
 
-nothing : (ts : List Tree) → length ts ≤ 0 → ts ≡ []
+pub nothing : (ts : List Tree) → length ts ≤ 0 → ts ≡ []
 nothing [] h = refl
 nothing (t ∷ ts) h = absurd (omega arith)
 

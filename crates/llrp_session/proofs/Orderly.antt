@@ -47,7 +47,7 @@ lt-true a b h = grind (arith, nat_tests)
 lt-greater : (a b : ℕ) → (a == b) ≡ false → nat_lt a b ≡ false → b < a
 lt-greater a b h g = grind (arith, nat_tests)
 
-eq-true : (a b : ℕ) → (a == b) ≡ true → a ≡ b
+pub eq-true : (a b : ℕ) → (a == b) ≡ true → a ≡ b
 eq-true a b h = grind (arith, nat_tests)
 
 pub AllAbove-enter : (s : RoSpec) (n : ℕ) (t : List Entry) → n < s.id → AllAbove n t → AllAbove n (enter s t)

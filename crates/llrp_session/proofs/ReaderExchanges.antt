@@ -7,7 +7,7 @@ use Rattle.llrp_tree.specs.declared.fault.Reason.TheVariants.{Version, MessageTy
 use Rattle.llrp_session.specs.RoSpec.{rospec_of, report_spec_of}
 use Rattle.llrp_session.specs.Table.{Disabled, Inactive, Active, change, without, enter, state_of, octets_of, active, first_immediate}
 use Rattle.llrp_session.specs.TagReport.{tag_report}
-use Rattle.llrp_session.specs.Words.{Adding, Starting, Stopping, Enabling, Disabling, Configuring, Closing, AddRoSpec, StartRoSpec, StopRoSpec, EnableRoSpec, DisableRoSpec, GetRoSpecs, SetReaderConfig, GetReports, CloseConnection, Unsupported, Response, Listed, Error, Report, KeepaliveSent, Accepted, Started, Ended, Overflowed, ReaderWord, ReaderMessage}
+use Rattle.llrp_session.specs.Contents.{Adding, Starting, Stopping, Enabling, Disabling, Configuring, Closing, AddRoSpec, StartRoSpec, StopRoSpec, EnableRoSpec, DisableRoSpec, GetRoSpecs, SetReaderConfig, GetReports, CloseConnection, Unsupported, Response, Listed, Error, Report, KeepaliveSent, Accepted, Started, Ended, Overflowed, ReaderContent, ReaderMessage}
 use Rattle.llrp_session.specs.Refusal.{Closed, NotConnected, AlreadyUp}
 use Rattle.llrp_session.specs.ReaderMachine.{Reader, ReaderEvent, Connect, Take, TakeBad, Seen, Tick, new_reader, next, serve, end, configured, see, tick}
 use Rattle.llrp_session.specs.Sightings.{history, no_history}
@@ -25,7 +25,7 @@ sent_by events = (history events (no_history 65536 1)).sent
 abbrev after : List (ℕ × ReaderEvent) → Reader
 after events = (history events (no_history 65536 1)).reader
 
-abbrev message : ℕ → ℕ → ReaderWord → ReaderMessage
+abbrev message : ℕ → ℕ → ReaderContent → ReaderMessage
 message version id word = record { version = version; id = id; word = word }
 
 -- the message of the connection

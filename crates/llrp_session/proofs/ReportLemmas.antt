@@ -5,7 +5,7 @@ use Rattle.llrp_schema.specs.declared.kinds.ParamKind.TheVariants.{TagReportData
 use Rattle.llrp_schema.specs.declared.kinds.Kind.TheVariants.{Parameter}
 use Rattle.llrp_schema.specs.Schema.{GroupRule, rule_of, param_rule, number_of, fields_of, tail_of, groups_of, is_tv, key_of, profile_of}
 use Rattle.llrp_tree.specs.Tree.{Forest, none, Tree, add, add_all, forest}
-use Rattle.llrp_tree.specs.Lawful.{levels, octets, tree_octets, body_octets, is_member, count, has_place, ArePlaced, NoneTooMany, NoneMissing, AllLawful, IsLawful}
+use Rattle.llrp_tree.specs.Lawful.{levels, octets, tree_octets, body_octets, is_member, count, has_place, ArePlaced, NoneTooMany, NoneMissing, AllLawful, IsLawfulTree}
 use Rattle.llrp_session.specs.RoSpec.{RoSpec, ContentSelector}
 use Rattle.llrp_session.specs.TagReport.{Sighting, value_parameter, if_selected, report_parts, signed_octet, tag_report}
 use Rattle.llrp_session.specs.Calls.LawfulWords.{IsReport}
@@ -15,7 +15,7 @@ use Rattle.llrp_session.specs.MessageWorld.{IsLawfulSighting}
 -- ---- parts of a TagReportData
 
 pub record IsPart (t : Tree) : Type 0 where
-  pub lawful : IsLawful t
+  pub lawful : IsLawfulTree t
   pub placed : has_place (groups_of (Parameter TagReportData)) t.kind ≡ true
   pub leaf : levels t.children ≡ 0
 

@@ -3,13 +3,13 @@ use Rattle.std.proofs.Common.{◌≡◌, ℕ, ◌<◌, ◌≤◌, ◌^◌, List,
 use Rattle.std.specs.Prelude.{map, Result, Ok, Err, Option, None, Some, IfOk}
 use Rattle.llrp_tree.specs.declared.TheConstants.{MAX_LIMIT}
 use Rattle.llrp_tree.specs.Tree.{Tree}
-use Rattle.llrp_session.specs.Words.{Command, Add, Delete, Start, Stop, Enable, Disable, GetRospecs, SetKeepalive, GetReport, Close, ReaderMessage, ClientMessage, ClientWord, Asks, Acknowledges, request}
-use Rattle.llrp_session.specs.Calls.Words.{heard}
+use Rattle.llrp_session.specs.Contents.{Command, Add, Delete, Start, Stop, Enable, Disable, GetRospecs, SetKeepalive, GetReport, Close, ReaderMessage, ClientMessage, ClientContent, Asks, Acknowledges, request}
+use Rattle.llrp_session.specs.Calls.Contents.{heard}
 use Rattle.llrp_session.specs.Refusal.{Refusal}
 use Rattle.llrp_session.specs.ReaderMachine.{Turn, ReaderEvent, Connect, Take, Seen, Tick, next}
 use Rattle.llrp_session.specs.Sightings.{kept_by}
 use Rattle.llrp_session.specs.ClientMachine.{Client, Sending, Taking, command, take, sent_unless, refused_in}
-use Rattle.llrp_session.specs.Calls.World.{World, stepped, reader_does, commanded, took, delivered_up, delivered_down, happens, run, opening}
+use Rattle.llrp_session.specs.Calls.World.{World, stepped, reader_does, commanded, word_took, delivered_up, delivered_down, happens, run, opening}
 use Rattle.llrp_session.specs.World.{WorldEvent, Connects, Commands, DeliversUp, DeliversDown, Sees, Ticks, listed_by}
 use Rattle.llrp_session.specs.ReaderMessages.{reader_message}
 use Rattle.llrp_session.specs.ClientMessages.{client_message}
@@ -31,11 +31,11 @@ record IsLawfulWorld (limit : ℕ) (w : World) : Type 0 where
   pub up : AreLawfulClientMessages limit w.up
   pub down : AreLawfulReaderMessages limit w.down
 
-reader_messages-append : (limit : ℕ) (xs ys : List ReaderMessage) → AreLawfulReaderMessages limit xs → AreLawfulReaderMessages limit ys → AreLawfulReaderMessages limit (xs ++ ys)
+pub reader_messages-append : (limit : ℕ) (xs ys : List ReaderMessage) → AreLawfulReaderMessages limit xs → AreLawfulReaderMessages limit ys → AreLawfulReaderMessages limit (xs ++ ys)
 reader_messages-append limit [] ys h g = g
 reader_messages-append limit (x ∷ xs) ys h g = (h.0, reader_messages-append limit xs ys h.1 g)
 
-client_messages-append : (limit : ℕ) (xs ys : List ClientMessage) → AreLawfulClientMessages limit xs → AreLawfulClientMessages limit ys → AreLawfulClientMessages limit (xs ++ ys)
+pub client_messages-append : (limit : ℕ) (xs ys : List ClientMessage) → AreLawfulClientMessages limit xs → AreLawfulClientMessages limit ys → AreLawfulClientMessages limit (xs ++ ys)
 client_messages-append limit [] ys h g = g
 client_messages-append limit (x ∷ xs) ys h g = (h.0, client_messages-append limit xs ys h.1 g)
 
@@ -64,14 +64,14 @@ commanded_lawful : (limit : ℕ) (r : Result Sending Refusal) (w : World) → If
 commanded_lawful limit (Err refusal) w l k h = h
 commanded_lawful limit (Ok s) w l k h = record { reader = h.reader; readers = h.readers; client = k; up = client_messages-append limit w.up (s.message ∷ []) h.up (l, tt); down = h.down }
 
-took_lawful : (limit : ℕ) (c : Client) (r : Result Taking Refusal) (w : World) → c.limit ≡ limit → IfOk r (λ k. AreLawfulClientMessages c.limit k.sent) → Says c r → IsLawfulWorld limit w → IsLawfulWorld limit (took r w)
+took_lawful : (limit : ℕ) (c : Client) (r : Result Taking Refusal) (w : World) → c.limit ≡ limit → IfOk r (λ k. AreLawfulClientMessages c.limit k.sent) → Says c r → IsLawfulWorld limit w → IsLawfulWorld limit (word_took r w)
 took_lawful limit c (Err refusal) w e l s h = h
 took_lawful limit c (Ok k) w e l s h =
     record { reader = h.reader; readers = h.readers; client = s.1 ∙ e; up = client_messages-append limit w.up k.sent h.up (subst (λ (n : ℕ). AreLawfulClientMessages n k.sent) e l); down = h.down }
 
 -- ---- a delivery
 
-asked : (limit : ℕ) (word : ClientWord) → IsLawfulClientWord limit word → IsLawfulRequest (request word)
+asked : (limit : ℕ) (word : ClientContent) → IsLawfulClientWord limit word → IsLawfulRequest (request word)
 asked limit (Asks (Add spec)) h = (h.kind, h.lawful)
 asked limit (Asks (Delete id)) h = h
 asked limit (Asks (Start id)) h = h
@@ -122,7 +122,7 @@ down_sendable : (limit : ℕ) (ms : List ReaderMessage) → 4096 ≤ limit → l
 down_sendable limit [] l g h = tt
 down_sendable limit (m ∷ ms) l g h = (reader_sends limit m l g h.0, down_sendable limit ms l g h.1)
 
-up_sendable : (limit : ℕ) (ms : List ClientMessage) → 4096 ≤ limit → limit ≤ MAX_LIMIT → AreLawfulClientMessages limit ms → AreSendable limit (map client_message ms)
+pub up_sendable : (limit : ℕ) (ms : List ClientMessage) → 4096 ≤ limit → limit ≤ MAX_LIMIT → AreLawfulClientMessages limit ms → AreSendable limit (map client_message ms)
 up_sendable limit [] l g h = tt
 up_sendable limit (m ∷ ms) l g h = (client_sends limit m l g h.0, up_sendable limit ms l g h.1)
 

@@ -4,13 +4,13 @@ use Rattle.std.specs.Prelude.{◌+◌, Option, None, Some, is_some, Ok, Err}
 use Rattle.llrp_tree.specs.Tree.{Tree}
 use Rattle.llrp_session.specs.Table.{states, active}
 use Rattle.llrp_session.specs.TagReport.{Sighting}
-use Rattle.llrp_session.specs.Words.{Accepted, ReaderMessage, Command, Add, Delete, Start, Stop, Enable, Disable, GetRospecs, SetKeepalive, GetReport, Close, request, ClientWord, Asks, Acknowledges, ClientMessage, Closing}
-use Rattle.llrp_session.specs.Calls.Words.{heard}
+use Rattle.llrp_session.specs.Contents.{Accepted, ReaderMessage, Command, Add, Delete, Start, Stop, Enable, Disable, GetRospecs, SetKeepalive, GetReport, Close, request, ClientContent, Asks, Acknowledges, ClientMessage, Closing}
+use Rattle.llrp_session.specs.Calls.Contents.{heard}
 use Rattle.llrp_session.specs.Refusal.{Refusal, Busy, OverLimit, IdsSpent}
-use Rattle.llrp_session.specs.ReaderMachine.{Reader, Turn, ReaderPhase, Waiting, Up, Down, ReaderEvent, Connect, Take, Seen, Tick, next, next_in, connect, serve, counting, begun}
+use Rattle.llrp_session.specs.ReaderMachine.{Reader, Turn, ReaderPhase, Waiting, Up, Down, ReaderEvent, Connect, Take, Seen, Tick, next, next_in, connect, serve, counting, turn_begun}
 use Rattle.llrp_session.specs.Sightings.{tags_of, tags_in, kept_by}
 use Rattle.llrp_session.specs.ClientMachine.{Client, ClientPhase, Fresh, Ready, Closed, Pending, sending, command, sent_unless, refused_in, awaited, take, take_in, is_over_limit, are_spent, closed, cleared}
-use Rattle.llrp_session.specs.Calls.World.{World, happens, run, opening, stepped, commanded, took, delivered_up, delivered_down}
+use Rattle.llrp_session.specs.Calls.World.{World, happens, run, opening, stepped, commanded, word_took, delivered_up, delivered_down}
 use Rattle.llrp_session.specs.World.{WorldEvent, Connects, Commands, DeliversUp, DeliversDown, Sees, Ticks, listed_by, tags_handed_out}
 use Rattle.llrp_session.specs.Calls.Agreement.{taken_in, and_then, requests, awaited_by, IsOnTheWay}
 use Rattle.llrp_session.specs.MessageAgreement.{as_list}
@@ -74,7 +74,7 @@ together-turn w kept listed c p t caught_up k asks may_wait reports =
       reports = ap (λ ts. w.handed_out ++ ts) (tags_of-append w.down t.sent) ∙ sym (append_assoc w.handed_out (tags_of w.down) (tags_of t.sent)) ∙ ap (λ ts. ts ++ tags_of t.sent) reports;
     }
 
-follows-begun : (w : World) (a : StandsTogether w) (r : Reader) → r.phase ≡ Up → r.table ≡ w.reader.table → w.reader.phase ≡ Up → Follows a.c a.c.pending (begun r)
+follows-begun : (w : World) (a : StandsTogether w) (r : Reader) → r.phase ≡ Up → r.table ≡ w.reader.table → w.reader.phase ≡ Up → Follows a.c a.c.pending (turn_begun r)
 follows-begun w a r up same was = record { c = a.c; caught_up = refl; view = a.view ∙ ap states (sym same); pending = refl; phase = a.phase ∙ ap client_phase was; up = up }
 
 together-follows : (w : World) (kept : List Tree) (listed : List (List Tree)) (a : StandsTogether w) (t : Turn) → Follows a.c a.c.pending t → StandsTogether (stepped (Ok t) kept listed w)
@@ -105,7 +105,7 @@ unfolding next
 together-sees w kept listed now g a =
     elim (w.reader.phase) as (λ ph. w.reader.phase ≡ ph → StandsTogether (stepped (next_in ph now (Seen g) w.reader) kept listed w)) [
       | Waiting ↦ λ e. a
-      | Up ↦ λ e. together-follows w kept listed a _ (follows-see now g (counting g (active w.reader.table)) a.c a.c.pending (begun w.reader) (follows-begun w a w.reader e refl e))
+      | Up ↦ λ e. together-follows w kept listed a _ (follows-see now g (counting g (active w.reader.table)) a.c a.c.pending (turn_begun w.reader) (follows-begun w a w.reader e refl e))
       | Down ↦ λ e. a
     ] refl
 
@@ -114,7 +114,7 @@ unfolding next
 together-ticks w kept listed now a =
     elim (w.reader.phase) as (λ ph. w.reader.phase ≡ ph → StandsTogether (stepped (next_in ph now Tick w.reader) kept listed w)) [
       | Waiting ↦ λ e. a
-      | Up ↦ λ e. together-follows w kept listed a _ (follows-tick now a.c a.c.pending (begun w.reader) (follows-begun w a w.reader e refl e))
+      | Up ↦ λ e. together-follows w kept listed a _ (follows-tick now a.c a.c.pending (turn_begun w.reader) (follows-begun w a w.reader e refl e))
       | Down ↦ λ e. a
     ] refl
 
@@ -124,7 +124,7 @@ together-down : (w : World) (ms : List ReaderMessage) → w.down ≡ ms → Stan
 unfolding tags_of
 together-down w [] is a = a
 together-down w (m ∷ ms) is a =
-    elim (take w.client m.id (heard m.word)) as (λ r. take w.client m.id (heard m.word) ≡ r → and_then r (taken_in ms) ≡ Some a.c → StandsTogether (took r (record w { down = ms }))) [
+    elim (take w.client m.id (heard m.word)) as (λ r. take w.client m.id (heard m.word) ≡ r → and_then r (taken_in ms) ≡ Some a.c → StandsTogether (word_took r (record w { down = ms }))) [
       | Err refusal ↦ λ e g. cc
       | Ok k ↦ λ e g.
           let h = hands_out m.word w.client m.id k e in
@@ -206,8 +206,8 @@ the_one : (p : Pending) (rest : List Pending) (o : Option Pending) → p ∷ res
 the_one p rest None e = cc
 the_one p rest (Some q) e = (cc, cc)
 
-abbrev served : Reader → ℕ → ℕ → ClientWord → Turn
-served r now id word = serve now 1 id (request word) (begun (record r { version = 1 }))
+abbrev served : Reader → ℕ → ℕ → ClientContent → Turn
+served r now id word = serve now 1 id (request word) (turn_begun (record r { version = 1 }))
 
 -- a request that waits for a response, and does not close
 together-asked : (w : World) (kept : List Tree) (listed : List (List Tree)) (now id : ℕ) (k : Command) (p : Pending) (ms : List ClientMessage) → awaited id k ≡ Some p → ClosesNot k → w.reader.phase ≡ Up
@@ -216,12 +216,12 @@ unfolding requests
 together-asked w kept listed now id k p ms some open_still e is a =
     let r : Reader = record w.reader { version = 1 } in
     let one = the_one p (requests ms) a.c.pending (sym (ap (λ o. as_list o ++ requests ms) some) ∙ sym (ap requests is) ∙ a.asked) in
-    let g : Follows a.c (awaited id k) (begun r) = subst (λ o. Follows a.c o (begun r)) (one.0 ∙ sym some) (follows-begun w a r e refl e) in
-    let f = follows-serve now 1 id k a.c (begun r) open_still g in
+    let g : Follows a.c (awaited id k) (turn_begun r) = subst (λ o. Follows a.c o (turn_begun r)) (one.0 ∙ sym some) (follows-begun w a r e refl e) in
+    let f = follows-serve now 1 id k a.c (turn_begun r) open_still g in
     together-turn (record w { up = ms }) kept listed a.c None _ a.caught_up (catches_up a.c None _ f) one.1 (subst (λ ph. MayWait ph None) (sym f.up) tt) a.reports
 
 -- a reader that is up serves a message
-together-served : (w : World) (kept : List Tree) (listed : List (List Tree)) (now id : ℕ) (word : ClientWord) (ms : List ClientMessage) → w.reader.phase ≡ Up → w.up ≡ record { id = id; word = word } ∷ ms
+together-served : (w : World) (kept : List Tree) (listed : List (List Tree)) (now id : ℕ) (word : ClientContent) (ms : List ClientMessage) → w.reader.phase ≡ Up → w.up ≡ record { id = id; word = word } ∷ ms
     → (a : StandsTogether w) → StandsTogether (stepped (Ok (served w.reader now id word)) kept listed (record w { up = ms }))
 unfolding requests serve take
 together-served w kept listed now id Acknowledges ms e is a =
@@ -229,7 +229,7 @@ together-served w kept listed now id Acknowledges ms e is a =
     (catches_up a.c a.c.pending _ (follows-begun w a (record w.reader { version = 1 }) e refl e)) (sym (ap requests is) ∙ a.asked) (subst (λ ph. MayWait ph a.c.pending) (sym e) tt) a.reports
 together-served w kept listed now id (Asks GetReport) ms e is a =
     let r : Reader = record w.reader { version = 1 } in
-    let f = follows-send_held a.c a.c.pending (begun r) (follows-begun w a r e refl e) in
+    let f = follows-send_held a.c a.c.pending (turn_begun r) (follows-begun w a r e refl e) in
     together-turn (record w { up = ms }) kept listed a.c a.c.pending _ a.caught_up (catches_up a.c a.c.pending _ f) (sym (ap requests is) ∙ a.asked) (subst (λ ph. MayWait ph a.c.pending) (sym f.up) tt) a.reports
 together-served w kept listed now id (Asks Close) ms e is a =
     let one = the_one (request_with id Closing 0) (requests ms) a.c.pending (sym (ap requests is) ∙ a.asked) in

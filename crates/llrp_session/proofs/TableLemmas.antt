@@ -9,15 +9,13 @@ use Rattle.llrp_session.specs.RoSpec.{RoSpec}
 use Rattle.llrp_session.specs.Table.{Entry, Viewed, RoState, Disabled, states, names, state_of, enter, change, without, viewed_state, enter_view, change_view, view_without}
 use Rattle.llrp_session.specs.Calls.TableLaws.{EntersOne, ChangesEach, RemovesThoseNamed, EntersOneInView, ChangesEachInView, RemovesThoseNamedInView, SeesEach}
 use Rattle.llrp_session.proofs.States.{states-enter, states-change, states-without}
+use Rattle.llrp_session.proofs.Orderly.{eq-true}
 
 same_as : (a b c : ℕ) → (a == b) ≡ true → (c == a) ≡ false → (c == b) ≡ false
 same_as a b c h g = grind (arith, nat_tests)
 
 not_both : (a b c : ℕ) → (a == b) ≡ false → (c == b) ≡ true → (c == a) ≡ false
 not_both a b c h g = grind (arith, nat_tests)
-
-eq-true : (a b : ℕ) → (a == b) ≡ true → a ≡ b
-eq-true a b h = grind (arith, nat_tests)
 
 -- ---- the table
 

@@ -1,19 +1,18 @@
 -- The client never takes a table that differs from its view.
-use Rattle.std.proofs.Common.{◌≡◌, ℕ, ◌≤◌, length, refl, sym, ◌∙◌, ap, subst, Bool, true, false, cond, List, [], ◌∷◌, ◌++◌, append_assoc, append-nil}
+use Rattle.std.proofs.Common.{◌≡◌, ℕ, ◌≤◌, length, refl, sym, ◌∙◌, ap, subst, Bool, true, false, cond, List, [], ◌∷◌, ◌++◌, append_assoc}
 use Rattle.std.specs.Prelude.{◌==◌, Option, None, Some, is_some, Result, Ok, Err}
 use Rattle.llrp_tree.specs.Tree.{Tree}
 use Rattle.llrp_session.specs.Table.{Entry, RoState, states, listing}
 use Rattle.llrp_session.specs.Calls.Table.{IsRising}
-use Rattle.llrp_session.specs.Words.{ReaderWord, Response, Listed, Error, Report, KeepaliveSent, Accepted, Started, Ended, Overflowed, ReaderMessage, Operation, Adding, Deleting, Starting, Stopping, Enabling, Disabling, Listing, Configuring, Closing, RoSpecChange, Heard, HeardResponse, HeardError, HeardReport, HeardKeepalive, HeardNotification, HeardOther, GetRoSpecs, Command, Add, Delete, Start, Stop, Enable, Disable, GetRospecs, SetKeepalive, GetReport, Close, ClientWord, Asks, Acknowledges, ClientMessage, request}
-use Rattle.llrp_session.specs.Calls.Words.{heard}
+use Rattle.llrp_session.specs.Contents.{ReaderContent, Response, Listed, Error, Report, KeepaliveSent, Accepted, Started, Ended, Overflowed, ReaderMessage, Operation, Adding, Deleting, Starting, Stopping, Enabling, Disabling, Listing, Configuring, Closing, RoSpecChange, Heard, HeardResponse, HeardError, HeardReport, HeardKeepalive, HeardNotification, HeardOther, GetRoSpecs, Command, Add, Delete, Start, Stop, Enable, Disable, GetRospecs, SetKeepalive, GetReport, Close, ClientContent, Asks, Acknowledges, ClientMessage, request}
+use Rattle.llrp_session.specs.Calls.Contents.{heard}
 use Rattle.llrp_session.specs.Refusal.{Refusal, Busy, OverLimit, IdsSpent}
 use Rattle.llrp_session.specs.ReaderMachine.{Reader, Turn, ReaderPhase, Waiting, Up, Down, ReaderEvent, Connect, Take, TakeBad, Seen, Tick, next, next_in, serve}
 use Rattle.llrp_session.specs.Sightings.{kept_by}
-use Rattle.llrp_session.specs.ClientMachine.{Client, ClientPhase, Fresh, Ready, Closed, Connected, Refused, Reply, Table, Differs, Event, Note, Pending, Sending, Taking, take, take_in, take_response, answered, failed, notified, attempted, event_of, unexpected, is_response_to, is_view, takes, cleared, closed, listed, sending, command, sent_unless, refused_in, is_over_limit, are_spent}
-use Rattle.llrp_session.specs.Calls.World.{World, happens, run, opening, stepped, commanded, took, delivered_up, delivered_down, reader_does}
+use Rattle.llrp_session.specs.ClientMachine.{Client, ClientPhase, Fresh, Ready, Closed, Connected, Refused, Reply, Table, Differs, Pending, Taking, take, take_in, take_response, answered, failed, notified, attempted, event_of, unexpected, is_response_to, is_view, takes, cleared, closed, listed, sending, command, sent_unless, refused_in, is_over_limit, are_spent}
+use Rattle.llrp_session.specs.Calls.World.{World, happens, opening, stepped, commanded, word_took, delivered_up, delivered_down, reader_does}
 use Rattle.llrp_session.specs.World.{WorldEvent, Connects, Commands, DeliversUp, DeliversDown, Sees, Ticks, table_heard, listed_for, listed_in, listed_by, tables_shown, tables_differing}
 use Rattle.llrp_session.specs.Calls.Agreement.{taken_in, and_then, is_response, responses, tables_of}
-use Rattle.llrp_session.proofs.Following.{taken_in-append}
 use Rattle.llrp_session.proofs.TakingIn.{settled}
 use Rattle.llrp_session.proofs.Orderly.{IsOrderly}
 use Rattle.llrp_session.proofs.Keeping.{KeptNext, kept-next, tables_of-append}
@@ -139,7 +138,7 @@ table_shown P Ready c id table e all =
 table_taken : (c : Client) (m : ReaderMessage) (table : List Entry) → m.word ≡ Listed table → c.view ≡ states table → IsRising table → ShowsAll (m ∷ []) c
 unfolding take
 table_taken c m table w v rising =
-    subst (λ (word : ReaderWord). ShowsThen (table_heard (heard word)) (ShowsAll []) (take c m.id (heard word))) (sym w)
+    subst (λ (word : ReaderContent). ShowsThen (table_heard (heard word)) (ShowsAll []) (take c m.id (heard word))) (sym w)
     (table_shown (ShowsAll []) c.phase c m.id table (ap (is_view (listing table)) v ∙ listing_is_view table rising) (λ d. tt))
 
 -- ---- messages one after another
@@ -218,7 +217,7 @@ unlisted Up (Take v id q) r h = h r
 unlisted Waiting e r h = refl
 unlisted Down e r h = refl
 
-agree-word : (w : World) (c : Client) (now id : ℕ) (word : ClientWord) → Knows w c → TablesAgree w → TablesAgree (reader_does now (Take 1 id (request word)) w)
+agree-word : (w : World) (c : Client) (now id : ℕ) (word : ClientContent) → Knows w c → TablesAgree w → TablesAgree (reader_does now (Take 1 id (request word)) w)
 agree-word w c now id (Asks GetRospecs) k h = agree-lists w c now 1 id k h
 agree-word w c now id (Asks (Add spec)) k h = agree-quiet w c now _ (unlisted w.reader.phase (Take 1 id (request (Asks (Add spec)))) w.reader (λ r. refl)) k h
 agree-word w c now id (Asks (Delete n)) k h = agree-quiet w c now _ (unlisted w.reader.phase (Take 1 id (request (Asks (Delete n)))) w.reader (λ r. refl)) k h
@@ -244,7 +243,7 @@ agree-down w c [] is k h = h
 agree-down w c (m ∷ ms) is k h =
     let shows : ShowsAll (m ∷ ms) w.client = subst (λ (d : List ReaderMessage). ShowsAll d w.client) is h.shows in
     let taken : taken_in (m ∷ ms) w.client ≡ Some c = ap (λ (d : List ReaderMessage). taken_in d w.client) (sym is) ∙ k.caught_up in
-    elim (take w.client m.id (heard m.word)) as (λ r. and_then r (taken_in ms) ≡ Some c → ShowsThen (table_heard (heard m.word)) (ShowsAll ms) r → TablesAgree (took r (record w { down = ms }))) [
+    elim (take w.client m.id (heard m.word)) as (λ r. and_then r (taken_in ms) ≡ Some c → ShowsThen (table_heard (heard m.word)) (ShowsAll ms) r → TablesAgree (word_took r (record w { down = ms }))) [
       | Err refusal ↦ λ e s. cc
       | Ok t ↦ λ e s.
           record {
@@ -256,7 +255,7 @@ agree-down w c (m ∷ ms) is k h =
 
 -- ---- the client sends a command
 
-word_quiet : (word : ReaderWord) → is_response word ≡ false → table_heard (heard word) ≡ []
+word_quiet : (word : ReaderContent) → is_response word ≡ false → table_heard (heard word) ≡ []
 word_quiet (Response operation status) e = cc
 word_quiet (Listed table) e = cc
 word_quiet (Error status) e = refl

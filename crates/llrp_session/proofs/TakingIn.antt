@@ -4,8 +4,8 @@ use Rattle.std.specs.Prelude.{◌==◌, Option, None, Some, Result, Ok, Err}
 use Rattle.std.proofs.lemmas.Bool.Decides.{nat_tests}
 use Rattle.llrp_tree.specs.Tree.{Tree}
 use Rattle.llrp_session.specs.Table.{RoState, listing}
-use Rattle.llrp_session.specs.Words.{ReaderWord, Response, Listed, Error, Report, KeepaliveSent, Accepted, Started, Ended, Overflowed, ReaderMessage, Operation, Adding, Deleting, Starting, Stopping, Enabling, Disabling, Listing, Configuring, Closing, RoSpecChange}
-use Rattle.llrp_session.specs.Calls.Words.{heard}
+use Rattle.llrp_session.specs.Contents.{ReaderContent, Response, Listed, Error, Report, KeepaliveSent, Accepted, Started, Ended, Overflowed, ReaderMessage, Operation, Adding, Deleting, Starting, Stopping, Enabling, Disabling, Listing, Configuring, Closing, RoSpecChange}
+use Rattle.llrp_session.specs.Calls.Contents.{heard}
 use Rattle.llrp_session.specs.Refusal.{Refusal}
 use Rattle.llrp_session.specs.Sightings.{tags_in}
 use Rattle.llrp_session.specs.ClientMachine.{Client, ClientPhase, Fresh, Ready, Closed, Pending, Taking, Reply, Table, Differs, is_view, take, take_in, granted, take_response, replied, takes, unexpected, is_response_to, cleared, answered, failed, event_of}
@@ -26,13 +26,13 @@ on_client p n (Ok k) = Ok (record { taken = k.taken; sent = k.sent; client = wit
 -- ---- with nothing pending
 
 -- what holds of a message that is taken while nothing is pending
-record IsUnasked (c : Client) (w : ReaderWord) (id : ℕ) (ph : ClientPhase) (k : Taking) : Type 0 where
+record IsUnasked (c : Client) (w : ReaderContent) (id : ℕ) (ph : ClientPhase) (k : Taking) : Type 0 where
   pub same : (p : Option Pending) (n : ℕ) → take_in ph (with_pending p n c) id (heard w) ≡ on_client p n (Ok k)
   pub none : k.client.pending ≡ None
   pub no_response : is_response w ≡ false
   pub ready : c.phase ≡ Ready → k.client.phase ≡ Ready
 
-unasked_while_ready : (c : Client) (w : ReaderWord) (id : ℕ) (k k2 : Taking) → c.pending ≡ None → take_in Ready c id (heard w) ≡ Ok k → k ≡ k2
+unasked_while_ready : (c : Client) (w : ReaderContent) (id : ℕ) (k k2 : Taking) → c.pending ≡ None → take_in Ready c id (heard w) ≡ Ok k → k ≡ k2
     → ((p : Option Pending) (n : ℕ) → take_in Ready (with_pending p n c) id (heard w) ≡ on_client p n (Ok k2))
     → k2.client.pending ≡ c.pending → k2.client.phase ≡ c.phase → is_response w ≡ false → IsUnasked c w id Ready k
 unasked_while_ready c w id k k2 none taken e same p_same ph_same no_response =
@@ -43,7 +43,7 @@ unasked_while_ready c w id k k2 none taken e same p_same ph_same no_response =
       ready = λ r. ap (λ x. x.client.phase) e ∙ ph_same ∙ r;
     }
 
-unasked : (ph : ClientPhase) (w : ReaderWord) (c : Client) (id : ℕ) (k : Taking) → c.pending ≡ None → take_in ph c id (heard w) ≡ Ok k → IsUnasked c w id ph k
+unasked : (ph : ClientPhase) (w : ReaderContent) (c : Client) (id : ℕ) (k : Taking) → c.pending ≡ None → take_in ph c id (heard w) ≡ Ok k → IsUnasked c w id ph k
 unasked Closed w c id k none h = cc
 unasked Fresh (Response operation status) c id k none h = cc
 unasked Fresh (Listed table) c id k none h = cc
@@ -98,7 +98,7 @@ settled (m ∷ ms) c d none h =
 -- ---- with a request pending
 
 -- either the message is no response and the request stays pending, or it is the response
-abbrev IsAwaited : Pending → ReaderWord → ℕ → Option Pending → Type 0
+abbrev IsAwaited : Pending → ReaderContent → ℕ → Option Pending → Type 0
 IsAwaited p w id after = ((is_response w ≡ false) × (after ≡ Some p)) ⊎ ((is_response w ≡ true) × (id ≡ p.id) × (after ≡ None))
 
 abbrev Clears : Taking → Type 0
@@ -125,15 +125,15 @@ take_response-clears Listing c p status ts k h = let e = same_taking _ k h in (s
 id_of_response : (p : Pending) (id : ℕ) (operation : Operation) → is_response_to p id operation ≡ true → id ≡ p.id
 id_of_response p id operation h = grind (arith, nat_tests)
 
-same_id : (a b : ℕ) → (a == b) ≡ true → b ≡ a
+pub same_id : (a b : ℕ) → (a == b) ≡ true → b ≡ a
 same_id a b h = grind (arith, nat_tests)
 
 -- nothing is asked of the pending request
-stays : (w : ReaderWord) (c : Client) (id : ℕ) (k k2 : Taking) (p : Pending) → c.pending ≡ Some p → k2 ≡ k → k2.client.pending ≡ c.pending → is_response w ≡ false → IsAwaited p w id k.client.pending
+stays : (w : ReaderContent) (c : Client) (id : ℕ) (k k2 : Taking) (p : Pending) → c.pending ≡ Some p → k2 ≡ k → k2.client.pending ≡ c.pending → is_response w ≡ false → IsAwaited p w id k.client.pending
 stays w c id k k2 p some e same no_response = inl (no_response, sym (ap (λ x. x.client.pending) e) ∙ same ∙ some)
 
 -- a response to the pending request
-asked-answered : (w : ReaderWord) (operation : Operation) (c : Client) (id status : ℕ) (ts : List Tree) (k : Taking) (p : Pending) → is_response w ≡ true → c.pending ≡ Some p
+asked-answered : (w : ReaderContent) (operation : Operation) (c : Client) (id status : ℕ) (ts : List Tree) (k : Taking) (p : Pending) → is_response w ≡ true → c.pending ≡ Some p
     → answered c.pending c id operation status ts ≡ Ok k → IsAwaited p w id k.client.pending
 asked-answered w operation c id status ts k p responds some h =
     let g : cond (is_response_to p id operation) (take_response operation c p status ts) unexpected ≡ Ok k = sym (ap (λ o. answered o c id operation status ts) some) ∙ h in
@@ -142,7 +142,7 @@ asked-answered w operation c id status ts k p responds some h =
       | false ↦ λ e r. cc
     ] refl g
 
-asked : (ph : ClientPhase) (w : ReaderWord) (c : Client) (id : ℕ) (k : Taking) (p : Pending) → c.pending ≡ Some p → take_in ph c id (heard w) ≡ Ok k → IsAwaited p w id k.client.pending
+asked : (ph : ClientPhase) (w : ReaderContent) (c : Client) (id : ℕ) (k : Taking) (p : Pending) → c.pending ≡ Some p → take_in ph c id (heard w) ≡ Ok k → IsAwaited p w id k.client.pending
 asked Closed w c id k p some h = cc
 asked Fresh (Response operation status) c id k p some h = cc
 asked Fresh (Listed table) c id k p some h = cc
@@ -189,11 +189,11 @@ awaited_once (m ∷ ms) c d p some h =
 -- ---- what a client sends and delivers
 
 -- no request is sent, and the tags of the message are delivered
-pub record HandsOut (w : ReaderWord) (k : Taking) : Type 0 where
+pub record HandsOut (w : ReaderContent) (k : Taking) : Type 0 where
   pub no_requests : requests k.sent ≡ []
   pub tags : tags_handed_out k.taken ≡ tags_in w
 
-hands_out_by : (w : ReaderWord) (k k2 : Taking) → k2 ≡ k → requests k2.sent ≡ [] → tags_handed_out k2.taken ≡ tags_in w → HandsOut w k
+hands_out_by : (w : ReaderContent) (k k2 : Taking) → k2 ≡ k → requests k2.sent ≡ [] → tags_handed_out k2.taken ≡ tags_in w → HandsOut w k
 hands_out_by w k k2 e none tags = record { no_requests = sym (ap (λ x. requests x.sent) e) ∙ none; tags = sym (ap (λ x. tags_handed_out x.taken) e) ∙ tags }
 
 listed-tags : (b seen : Bool) (ts : List Tree) (status : ℕ) → tags_handed_out (cond b (cond seen (Table ts) (Differs ts)) (Reply status)) ≡ []
@@ -212,7 +212,7 @@ replied-tags Disabling c p status ts k h = sym (ap (λ x. tags_handed_out x.take
 replied-tags Configuring c p status ts k h = sym (ap (λ x. tags_handed_out x.taken) (same_taking _ k h))
 replied-tags Listing c p status ts k h = sym (ap (λ x. tags_handed_out x.taken) (same_taking _ k h)) ∙ listed-tags (status == 0) (is_view ts c.view) ts status
 
-answered-hands_out : (w : ReaderWord) (o : Option Pending) (c : Client) (id : ℕ) (operation : Operation) (status : ℕ) (ts : List Tree) (k : Taking) → tags_in w ≡ [] → answered o c id operation status ts ≡ Ok k → HandsOut w k
+answered-hands_out : (w : ReaderContent) (o : Option Pending) (c : Client) (id : ℕ) (operation : Operation) (status : ℕ) (ts : List Tree) (k : Taking) → tags_in w ≡ [] → answered o c id operation status ts ≡ Ok k → HandsOut w k
 unfolding requests
 answered-hands_out w None c id operation status ts k none h = cc
 answered-hands_out w (Some p) c id operation status ts k none h =
@@ -234,7 +234,7 @@ event_of-tags : (o : Option RoState) (e : RoSpecChange) → tags_handed_out (eve
 event_of-tags None e = refl
 event_of-tags (Some s) e = refl
 
-hands_out_in : (ph : ClientPhase) (w : ReaderWord) (c : Client) (id : ℕ) (k : Taking) → take_in ph c id (heard w) ≡ Ok k → HandsOut w k
+hands_out_in : (ph : ClientPhase) (w : ReaderContent) (c : Client) (id : ℕ) (k : Taking) → take_in ph c id (heard w) ≡ Ok k → HandsOut w k
 unfolding requests
 hands_out_in Closed w c id k h = cc
 hands_out_in Fresh (Response operation status) c id k h = cc
@@ -256,6 +256,6 @@ hands_out_in Ready (Started now i) c id k h = hands_out_by (Started now i) k _ (
 hands_out_in Ready (Ended now i) c id k h = hands_out_by (Ended now i) k _ (same_taking _ k h) refl (event_of-tags _ _)
 hands_out_in Ready (Overflowed now) c id k h = hands_out_by (Overflowed now) k _ (same_taking _ k h) refl refl
 
-pub hands_out : (w : ReaderWord) (c : Client) (id : ℕ) (k : Taking) → take c id (heard w) ≡ Ok k → HandsOut w k
+pub hands_out : (w : ReaderContent) (c : Client) (id : ℕ) (k : Taking) → take c id (heard w) ≡ Ok k → HandsOut w k
 unfolding take
 hands_out w c id k h = hands_out_in c.phase w c id k h

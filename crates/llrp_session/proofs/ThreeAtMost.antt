@@ -4,8 +4,8 @@ use Rattle.std.specs.Prelude.{◌&&◌, ◌||◌, ◌==◌, nat_le, Option, None
 use Rattle.llrp_session.specs.RoSpec.{RoSpec, rospec_of}
 use Rattle.llrp_session.specs.Table.{Inactive, change, without, enter, names, enabling, disabling, active, first_immediate, is_active, is_inactive, state_of}
 use Rattle.llrp_session.specs.TagReport.{Sighting, tag_report}
-use Rattle.llrp_session.specs.Words.{Response, KeepaliveSent, Overflowed, Ended, ReaderMessage, Adding, Deleting, Starting, Stopping, Enabling, Disabling, Configuring, Request, AddRoSpec, DeleteRoSpec, StartRoSpec, StopRoSpec, EnableRoSpec, DisableRoSpec, GetRoSpecs, SetReaderConfig, GetReports, CloseConnection, NoRequest, Unsupported}
-use Rattle.llrp_session.specs.ReaderMachine.{Reader, Turn, Keepalive, ReaderPhase, Waiting, Up, Down, tell, reply, with_reader, with_table, send_held, set_state, start, end, end_if, start_if_idle, serve, see, tick, keep_alive, keepalive_from, configured, begun, is_known, add_status, effective_report, sends_at_end, has_state, is_bad_report, is_bad_keepalive, hold, send_if_enough, is_enough, is_over, is_full, counting, ReaderEvent, Connect, Take, TakeBad, Seen, Tick, next, next_in}
+use Rattle.llrp_session.specs.Contents.{Response, KeepaliveSent, Overflowed, Ended, ReaderMessage, Adding, Deleting, Starting, Stopping, Enabling, Disabling, Configuring, Request, AddRoSpec, DeleteRoSpec, StartRoSpec, StopRoSpec, EnableRoSpec, DisableRoSpec, GetRoSpecs, SetReaderConfig, GetReports, CloseConnection, NoRequest, Unsupported}
+use Rattle.llrp_session.specs.ReaderMachine.{Reader, Turn, Keepalive, ReaderPhase, Waiting, Up, Down, tell, reply, with_reader, with_table, send_held, set_state, start, end, end_if, start_if_idle, serve, see, tick, keep_alive, keepalive_from, configured, turn_begun, is_known, add_status, effective_report, sends_at_end, has_state, is_bad_report, is_bad_keepalive, hold, send_if_enough, is_report_due, has_run_out, is_full, counting, ReaderEvent, Connect, Take, TakeBad, Seen, Tick, next, next_in}
 
 -- at most this many messages were sent
 abbrev SendsUpTo : ℕ → Turn → Type 0
@@ -95,7 +95,7 @@ up_to-see now g (Some s) t h =
     let more = hold (tag_report now s report_spec.selector g) t in
     elim (is_full t.reader) as (λ b. SendsUpTo 3 (cond b (tell (Overflowed now) t) (send_if_enough report_spec more))) [
       | true ↦ alone t.sent _ h
-      | false ↦ elim (is_enough report_spec (length more.reader.held)) as (λ b. SendsUpTo 3 (cond b (send_held more) more)) [ true ↦ alone t.sent _ h | false ↦ omega arith ]
+      | false ↦ elim (is_report_due report_spec (length more.reader.held)) as (λ b. SendsUpTo 3 (cond b (send_held more) more)) [ true ↦ alone t.sent _ h | false ↦ omega arith ]
     ]
 
 up_to-keep_alive : (now : ℕ) (o : Option Keepalive) (t : Turn) → SendsUpTo 2 t → SendsUpTo 3 (keep_alive now o t)
@@ -110,8 +110,8 @@ up_to-keep_alive now (Some k) t h =
 up_to-tick : (now : ℕ) (t : Turn) → SendsUpTo 0 t → SendsUpTo 3 (tick now t)
 unfolding tick
 up_to-tick now t h =
-    let ended = end_if (is_over now t.reader.started) now (active t.reader.table) t in
-    up_to-keep_alive now ended.reader.keepalive ended (up_to-end_if 0 now (is_over now t.reader.started) (active t.reader.table) t h)
+    let ended = end_if (has_run_out now t.reader.started) now (active t.reader.table) t in
+    up_to-keep_alive now ended.reader.keepalive ended (up_to-end_if 0 now (has_run_out now t.reader.started) (active t.reader.table) t h)
 
 up_to-next_in : (ph : ReaderPhase) (now : ℕ) (e : ReaderEvent) (r : Reader) → IfOk (next_in ph now e r) (λ t. length t.sent ≤ 3)
 up_to-next_in Down now e r = tt
@@ -121,10 +121,10 @@ up_to-next_in Waiting now (TakeBad id reason) r = tt
 up_to-next_in Waiting now (Seen g) r = tt
 up_to-next_in Waiting now Tick r = tt
 up_to-next_in Up now Connect r = tt
-up_to-next_in Up now (Take v id q) r = up_to-serve now v id q (begun (record r { version = v })) (omega arith)
+up_to-next_in Up now (Take v id q) r = up_to-serve now v id q (turn_begun (record r { version = v })) (omega arith)
 up_to-next_in Up now (TakeBad id reason) r = omega arith
-up_to-next_in Up now (Seen g) r = up_to-see now g (counting g (active r.table)) (begun r) (omega arith)
-up_to-next_in Up now Tick r = up_to-tick now (begun r) (omega arith)
+up_to-next_in Up now (Seen g) r = up_to-see now g (counting g (active r.table)) (turn_begun r) (omega arith)
+up_to-next_in Up now Tick r = up_to-tick now (turn_begun r) (omega arith)
 
 pub three_at_most : (now : ℕ) (e : ReaderEvent) (r : Reader) → IfOk (next now e r) (λ t. length t.sent ≤ 3)
 unfolding next

@@ -8,8 +8,8 @@ use Rattle.llrp_schema.specs.declared.kinds.Kind.TheVariants.{Parameter}
 use Rattle.llrp_schema.specs.Schema.{FieldRule, rule_of, param_rule, fields_of, plain_fields_of, key_of}
 use Rattle.llrp_schema.proofs.TableLaws.{param_keys}
 use Rattle.llrp_tree.specs.Tree.{Forest, none, and, Tree, trees}
-use Rattle.llrp_tree.specs.Lawful.{AreInRange, AllLawful, IsLawful}
-use Rattle.llrp_session.specs.RoSpec.{is_kind, first_in, first_below, field, rospec_of}
+use Rattle.llrp_tree.specs.Lawful.{AreInRange, AllLawful, IsLawfulTree}
+use Rattle.llrp_session.specs.RoSpec.{is_kind, first_in, first_below, field_of, rospec_of}
 use Rattle.llrp_session.specs.Calls.LawfulWords.{IsToldOf}
 
 -- the greatest value of the first field
@@ -25,7 +25,7 @@ first_in_range (rule ∷ rules) (v ∷ values) h = h.0
 
 abbrev AllAreLawful : List Tree → Type 0
 AllAreLawful [] = Unit {0}
-AllAreLawful (t ∷ ts) = IsLawful t × AllAreLawful ts
+AllAreLawful (t ∷ ts) = IsLawfulTree t × AllAreLawful ts
 
 lawful-append : (xs ys : List Tree) → AllAreLawful xs → AllAreLawful ys → AllAreLawful (xs ++ ys)
 lawful-append [] ys h g = g
@@ -38,7 +38,7 @@ lawful-trees (and before kind fields tail children) h = lawful-append (trees bef
 -- what is found is lawful and of the kind
 abbrev pub IsFound : ParamKind → Option Tree → Type 0
 IsFound kind None = Unit {0}
-IsFound kind (Some t) = (t.kind ≡ kind) × IsLawful t
+IsFound kind (Some t) = (t.kind ≡ kind) × IsLawfulTree t
 
 found-find : (kind : ParamKind) (ts : List Tree) → AllAreLawful ts → IsFound kind (find (is_kind kind) ts)
 found-find kind [] h = tt
@@ -56,7 +56,7 @@ found-first_below outer kind None h = tt
 found-first_below outer kind (Some t) h = found-first_in kind t.children h.1.1
 
 -- the first field of an InventoryParameterSpec has 16 bits
-inventory_fits : (o : Option Tree) → IsFound InventoryParameterSpec o → field 0 o < 2 ^ 16
+inventory_fits : (o : Option Tree) → IsFound InventoryParameterSpec o → field_of 0 o < 2 ^ 16
 unfolding fields_of rule_of param_rule
 inventory_fits None h = omega arith
 inventory_fits (Some t) h =
@@ -64,13 +64,13 @@ inventory_fits (Some t) h =
     omega arith
 
 -- that of a ROSpec has 32
-id_fits : (t : Tree) → t.kind ≡ RoSpecKind → IsLawful t → field 0 (Some t) < 2 ^ 32
+id_fits : (t : Tree) → t.kind ≡ RoSpecKind → IsLawfulTree t → field_of 0 (Some t) < 2 ^ 32
 unfolding fields_of rule_of param_rule
 id_fits t is h =
     let le : get_or t.fields 0 0 ≤ 4294967295 = first_in_range (plain_fields_of (Parameter RoSpecKind)) t.fields (subst (λ (k : ParamKind). AreInRange (plain_fields_of (Parameter k)) t.fields) is h.0.obeys.ranges) in
     omega arith
 
-pub told_of_lawful : (t : Tree) → (t.kind ≡ RoSpecKind) × IsLawful t → IsToldOf (rospec_of t)
+pub told_of_lawful : (t : Tree) → (t.kind ≡ RoSpecKind) × IsLawfulTree t → IsToldOf (rospec_of t)
 unfolding rospec_of
 told_of_lawful t h =
     record {

@@ -7,7 +7,7 @@ use Rattle.llrp_tree.specs.Lawful.{body_octets}
 use Rattle.llrp_session.specs.RoSpec.{rospec_of, report_spec_of}
 use Rattle.llrp_session.specs.Table.{Active, change_view, view_without, enter_view, viewed_state, change, without, enter, state_of, octets_of, active, first_immediate}
 use Rattle.llrp_session.specs.TagReport.{tag_report}
-use Rattle.llrp_session.specs.Words.{Command, Add, Delete, Start, Stop, Enable, GetReport, Close}
+use Rattle.llrp_session.specs.Contents.{Command, Add, Delete, Start, Stop, Enable, GetReport, Close}
 use Rattle.llrp_session.specs.ReaderMachine.{Down, next, serve, end, configured, see, tick}
 use Rattle.llrp_session.specs.ClientMachine.{Closed, take, command}
 use Rattle.llrp_session.specs.Sightings.{tags_of}

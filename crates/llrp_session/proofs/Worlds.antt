@@ -4,13 +4,13 @@ use Rattle.std.specs.Prelude.{Option, None, Some, Result, Ok, Err}
 use Rattle.llrp_tree.specs.Tree.{Tree}
 use Rattle.llrp_session.specs.Calls.Table.{IsRising, AllAbove}
 use Rattle.llrp_session.specs.Table.{active_count}
-use Rattle.llrp_session.specs.Words.{ReaderMessage, ClientMessage, request}
-use Rattle.llrp_session.specs.Calls.Words.{heard}
+use Rattle.llrp_session.specs.Contents.{ReaderMessage, ClientMessage, request}
+use Rattle.llrp_session.specs.Calls.Contents.{heard}
 use Rattle.llrp_session.specs.Refusal.{Refusal}
 use Rattle.llrp_session.specs.ReaderMachine.{Reader, Turn, ReaderEvent, Connect, Take, Seen, Tick, next}
-use Rattle.llrp_session.specs.Sightings.{tags_of, kept_by, dropped_by, History, history, goes_on, extended, no_history}
+use Rattle.llrp_session.specs.Sightings.{tags_of, kept_by, dropped_by, History, history, after_event, extended, no_history}
 use Rattle.llrp_session.specs.ClientMachine.{Client, Pending, Sending, Taking, take, command}
-use Rattle.llrp_session.specs.Calls.World.{World, happens, run, opening, stepped, commanded, took, delivered_up, delivered_down, reader_does}
+use Rattle.llrp_session.specs.Calls.World.{World, happens, run, opening, stepped, commanded, word_took, delivered_up, delivered_down, reader_does}
 use Rattle.llrp_session.specs.World.{WorldEvent, Connects, Commands, DeliversUp, DeliversDown, Sees, Ticks, listed_by}
 use Rattle.llrp_session.specs.Calls.Agreement.{AfterAll, ViewCatchesUp, ViewIsTable, ReportsArrive, ReportsAreKept, ReaderHasHistory, OneActive, NothingIsUnexpected, PendingIsOnTheWay, NothingIsPending, TablesArrive, NoneDiffers, AreTaken, taken_in, and_then, requests, responses, IsOnTheWay}
 use Rattle.llrp_session.specs.MessageAgreement.{IsTaken}
@@ -18,6 +18,7 @@ use Rattle.llrp_session.proofs.StandingTogether.{StandsTogether, together-happen
 use Rattle.llrp_session.proofs.Orderly.{IsOrderly}
 use Rattle.llrp_session.proofs.Keeping.{KeptNext, kept-next}
 use Rattle.llrp_session.proofs.TablesAgree.{TablesAgree, agree-happens, agree-opening}
+use Rattle.llrp_session.proofs.TakingIn.{same_client}
 
 -- ---- the reader's side
 
@@ -42,7 +43,7 @@ keeps-commanded : (w : World) (r : Result Sending Refusal) → KeepsReports w �
 keeps-commanded w (Ok s) h = record { reports = h.reports; most = h.most; table = h.table }
 keeps-commanded w (Err refusal) h = h
 
-keeps-took : (w : World) (r : Result Taking Refusal) → KeepsReports w → KeepsReports (took r w)
+keeps-took : (w : World) (r : Result Taking Refusal) → KeepsReports w → KeepsReports (word_took r w)
 keeps-took w (Err refusal) h = h
 keeps-took w (Ok k) h = record { reports = h.reports; most = h.most; table = h.table }
 
@@ -75,9 +76,9 @@ together limit r c es = together-run es (opening limit r c) (together-opening li
 
 -- ---- the reader's history
 
-history-one_more : (es : List (ℕ × ReaderEvent)) (e : ℕ × ReaderEvent) (h : History) → history (es ++ e ∷ []) h ≡ goes_on (history es h) e
+history-one_more : (es : List (ℕ × ReaderEvent)) (e : ℕ × ReaderEvent) (h : History) → history (es ++ e ∷ []) h ≡ after_event (history es h) e
 history-one_more [] e h = refl
-history-one_more (x ∷ es) e h = history-one_more es e (goes_on h x)
+history-one_more (x ∷ es) e h = history-one_more es e (after_event h x)
 
 -- this history ends with the reader of the world, and with its reports
 record IsHistoryOf (w : World) (h : History) : Type 0 where
@@ -97,8 +98,8 @@ history-stepped w h (Ok t) tags d ls a =
 history-reader : (w : World) (now : ℕ) (e : ReaderEvent) → ReaderHasHistory w → ReaderHasHistory (reader_does now e w)
 history-reader w now e a =
     let h : History = history a.events (no_history a.limit a.first_id) in
-    let more : IsHistoryOf (reader_does now e w) (goes_on h (now, e)) =
-    subst (λ (r : Reader). IsHistoryOf (stepped (next now e r) (kept_by now e r) (listed_by e r) w) (goes_on h (now, e))) a.reader
+    let more : IsHistoryOf (reader_does now e w) (after_event h (now, e)) =
+    subst (λ (r : Reader). IsHistoryOf (stepped (next now e r) (kept_by now e r) (listed_by e r) w) (after_event h (now, e))) a.reader
     (history-stepped w h (next now e h.reader) (kept_by now e h.reader) (dropped_by now e h.reader) (listed_by e h.reader) (record { reader = a.reader; reported = a.reported; kept = a.kept })) in
     let same = history-one_more a.events (now, e) (no_history a.limit a.first_id) in
     record {
@@ -119,8 +120,8 @@ history-commanded : (w : World) (r : Result Sending Refusal) → ReaderHasHistor
 history-commanded w (Ok s) a = history-same w (commanded (Ok s) w) refl refl refl a
 history-commanded w (Err refusal) a = a
 
-history-took : (w : World) (r : Result Taking Refusal) → ReaderHasHistory w → ReaderHasHistory (took r w)
-history-took w (Ok k) a = history-same w (took (Ok k) w) refl refl refl a
+history-took : (w : World) (r : Result Taking Refusal) → ReaderHasHistory w → ReaderHasHistory (word_took r w)
+history-took w (Ok k) a = history-same w (word_took (Ok k) w) refl refl refl a
 history-took w (Err refusal) a = a
 
 history-down : (w : World) (ms : List ReaderMessage) → ReaderHasHistory w → ReaderHasHistory (delivered_down ms w)
@@ -147,9 +148,6 @@ history-run (e ∷ es) w a = history-run es (happens w e) (history-happens w e a
 
 pub view_catches_up : AfterAll ViewCatchesUp
 view_catches_up limit r c es = let a = together limit r c es in (a.c, a.caught_up, a.view)
-
-same_client : (a b : Client) → Some a ≡ Some b → a ≡ b
-same_client a b e = cc
 
 pub view_is_table : AfterAll ViewIsTable
 view_is_table limit r c es none =

@@ -1,6 +1,6 @@
 -- What public contracts say that no promise of README rests on.
 pub mod Table
-pub mod Words
+pub mod Contents
 pub mod Sightings
 pub mod World
 pub mod Agreement
@@ -11,4 +11,5 @@ pub mod MessageWorld
 pub mod ReadWords
 pub mod MessageAgreement
 pub mod ReaderSteps
+pub mod Answers
 pub mod ClientSteps

@@ -2,15 +2,15 @@
 use Rattle.std.specs.Prelude.{ℕ, ◌+◌, ◌==◌, nat_lt, Bool, true, false, ◌&&◌, not, List, [], ◌∷◌, Option, None, Some, is_some, Result, Ok, Err, if◌then◌else◌}
 use Rattle.std.specs.List.{list_any, list_all}
 use Rattle.llrp_tree.specs.Tree.{Tree}
-use Rattle.llrp_session.specs.RoSpec.{rospec_of, field}
+use Rattle.llrp_session.specs.RoSpec.{rospec_of, field_of}
 use Rattle.llrp_session.specs.Table.{Viewed, RoState, Inactive, Active, state_number, enabling, disabling, setting, change_view, view_without, enter_view, viewed_state}
-use Rattle.llrp_session.specs.Words.{Operation, Adding, Deleting, Starting, Stopping, Enabling, Disabling, Listing, Configuring, Closing, Command, Add, Delete, Start, Stop, Enable, Disable, GetRospecs, SetKeepalive, GetReport, Close, RoSpecChange, Heard, HeardResponse, HeardError, HeardReport, HeardKeepalive, HeardNotification, HeardOther, Asks, Acknowledges, ClientMessage}
+use Rattle.llrp_session.specs.Contents.{Operation, Adding, Deleting, Starting, Stopping, Enabling, Disabling, Listing, Configuring, Closing, Command, Add, Delete, Start, Stop, Enable, Disable, GetRospecs, SetKeepalive, GetReport, Close, RoSpecChange, Heard, HeardResponse, HeardError, HeardReport, HeardKeepalive, HeardNotification, HeardOther, Asks, Acknowledges, ClientMessage}
 use Rattle.llrp_session.specs.Refusal.{Refusal, Closed as ClosedRefusal, NotReady, Busy, OverLimit, IdsSpent, Unexpected}
-pub use Rattle.llrp_session.specs.declared.words.ClientPhase.{ClientPhase}
-pub use Rattle.llrp_session.specs.declared.words.ClientPhase.TheVariants.{Fresh, Ready, Closed}
-pub use Rattle.llrp_session.specs.declared.words.Pending.{Pending}
-pub use Rattle.llrp_session.specs.declared.words.Taken.{Taken}
-pub use Rattle.llrp_session.specs.declared.words.Taken.TheVariants.{Connected, Refused, Reply, Tags, Table, Differs, Event, Note, Kept, Closed as ConnectionEnded}
+pub use Rattle.llrp_session.specs.declared.types.ClientPhase.{ClientPhase}
+pub use Rattle.llrp_session.specs.declared.types.ClientPhase.TheVariants.{Fresh, Ready, Closed}
+pub use Rattle.llrp_session.specs.declared.types.Pending.{Pending}
+pub use Rattle.llrp_session.specs.declared.types.Taken.{Taken}
+pub use Rattle.llrp_session.specs.declared.types.Taken.TheVariants.{Connected, Refused, Reply, Tags, Table, Differs, Event, Note, Kept, Closed as ConnectionEnded}
 
 pub record Client : Type 0 where
   pub limit : ℕ  -- the greatest length of a message, in octets
@@ -114,13 +114,9 @@ is_response_to p id operation = (p.id == id) && (operation_number p.operation ==
 abbrev pub granted : Operation → ℕ → List Viewed → List Viewed
 granted Adding n view = enter_view n view
 granted Deleting n view = view_without n view
-granted Starting n view = view
-granted Stopping n view = view
 granted Enabling n view = change_view (enabling n) view
 granted Disabling n view = change_view (disabling n) view
-granted Configuring n view = view
-granted Closing n view = view
-granted Listing n view = view
+granted _ n view = view
 
 -- nothing is pending any more
 abbrev pub cleared : Client → Client
@@ -136,11 +132,11 @@ replied c p status =
 
 -- a ROSpec that is listed has this id and this state
 abbrev pub shows : Tree → Viewed → Bool
-shows t v = (field 0 (Some t) == v.id) && (field 2 (Some t) == state_number v.state)
+shows t v = (field_of 0 (Some t) == v.id) && (field_of 2 (Some t) == state_number v.state)
 
 -- two ROSpecs that are listed have one ROSpecID
 abbrev pub names_same : Tree → Tree → Bool
-names_same t u = field 0 (Some t) == field 0 (Some u)
+names_same t u = field_of 0 (Some t) == field_of 0 (Some u)
 
 -- no ROSpecID is named twice
 unfoldable pub names_none_twice : List Tree → Bool
@@ -163,14 +159,8 @@ listed c status ts = takes (if status == 0 then compared ts c.view else Reply st
 -- CLOSE_CONNECTION's response closes, whatever its status
 abbrev pub take_response : Operation → Client → Pending → ℕ → List Tree → Result Taking Refusal
 take_response Closing c p status ts = takes ConnectionEnded (closed (cleared c))
-take_response Adding c p status ts = replied c p status
-take_response Deleting c p status ts = replied c p status
-take_response Starting c p status ts = replied c p status
-take_response Stopping c p status ts = replied c p status
-take_response Enabling c p status ts = replied c p status
-take_response Disabling c p status ts = replied c p status
-take_response Configuring c p status ts = replied c p status
 take_response Listing c p status ts = listed c status ts
+take_response _ c p status ts = replied c p status
 
 -- the response to the pending request is taken; any other is unexpected
 abbrev pub answered : Option Pending → Client → ℕ → Operation → ℕ → List Tree → Result Taking Refusal

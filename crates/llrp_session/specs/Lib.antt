@@ -1,7 +1,7 @@
 pub mod RoSpec
 pub mod Table
 pub mod TagReport
-pub mod Words
+pub mod Contents
 pub mod Refusal
 pub mod ReaderMachine
 pub mod Sightings

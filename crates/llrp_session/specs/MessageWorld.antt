@@ -1,7 +1,7 @@
 -- The world of both ends in which messages are on the way, and are read where they arrive.
 use Rattle.std.specs.Prelude.{ℕ, ◌<◌, ◌^◌, List, [], ◌∷◌, ◌++◌, map, Result, Ok, Err, ◌≡◌}
 use Rattle.llrp_tree.specs.Tree.{Tree, MessageTree}
-use Rattle.llrp_session.specs.Words.{Heard, HeardReport, Command, Add, Delete, Start, Stop, Enable, Disable, GetRospecs, SetKeepalive, GetReport, Close}
+use Rattle.llrp_session.specs.Contents.{Heard, HeardReport, Command, Add, Delete, Start, Stop, Enable, Disable, GetRospecs, SetKeepalive, GetReport, Close}
 use Rattle.llrp_session.specs.Refusal.{Refusal}
 use Rattle.llrp_session.specs.ReaderMachine.{Reader, Turn, ReaderEvent, Connect, Take, Seen, Tick, next, new_reader}
 use Rattle.llrp_session.specs.Sightings.{kept_by}
@@ -11,11 +11,11 @@ use Rattle.llrp_session.specs.ReaderMessages.{reader_message}
 use Rattle.llrp_session.specs.ClientMessages.{client_message}
 use Rattle.llrp_session.specs.Reading.{request_of, heard_of}
 use Rattle.llrp_schema.specs.declared.kinds.ParamKind.TheVariants.{RoSpec as RoSpecKind}
-use Rattle.llrp_tree.specs.Lawful.{IsLawful}
+use Rattle.llrp_tree.specs.Lawful.{IsLawfulTree}
 use Rattle.llrp_session.specs.TagReport.{Sighting, signed_octet}
 
 abbrev pub IsGivenCommand : Command → Type 0
-IsGivenCommand (Add spec) = (spec.kind ≡ RoSpecKind) × IsLawful spec
+IsGivenCommand (Add spec) = (spec.kind ≡ RoSpecKind) × IsLawfulTree spec
 IsGivenCommand (Delete id) = id < 2 ^ 32
 IsGivenCommand (Start id) = id < 2 ^ 32
 IsGivenCommand (Stop id) = id < 2 ^ 32

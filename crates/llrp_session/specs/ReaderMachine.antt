@@ -7,11 +7,11 @@ use Rattle.llrp_tree.specs.declared.fault.Reason.TheVariants.{Reserved, Version,
 use Rattle.llrp_session.specs.RoSpec.{RoSpec, ReportSpec, rospec_of}
 use Rattle.llrp_session.specs.Table.{Entry, RoState, Inactive, Active, is_inactive, is_active, names, enabling, disabling, setting, change, without, enter, state_of, octets_of, active, first_immediate}
 use Rattle.llrp_session.specs.TagReport.{Sighting, tag_report}
-use Rattle.llrp_session.specs.Words.{Adding, Deleting, Starting, Stopping, Enabling, Disabling, Configuring, Closing, KeepaliveSpec, Config, Request, AddRoSpec, DeleteRoSpec, StartRoSpec, StopRoSpec, EnableRoSpec, DisableRoSpec, GetRoSpecs, SetReaderConfig, GetReports, CloseConnection, NoRequest, Unsupported, ReaderWord, Response, Listed, Error, Report, KeepaliveSent, Accepted, Started, Ended, Overflowed, ReaderMessage}
+use Rattle.llrp_session.specs.Contents.{Adding, Deleting, Starting, Stopping, Enabling, Disabling, Configuring, Closing, KeepaliveSpec, Config, Request, AddRoSpec, DeleteRoSpec, StartRoSpec, StopRoSpec, EnableRoSpec, DisableRoSpec, GetRoSpecs, SetReaderConfig, GetReports, CloseConnection, NoRequest, Unsupported, ReaderContent, Response, Listed, Error, Report, KeepaliveSent, Accepted, Started, Ended, Overflowed, ReaderMessage}
 use Rattle.llrp_session.specs.Refusal.{Refusal, Closed, NotConnected, AlreadyUp}
-pub use Rattle.llrp_session.specs.declared.words.ReaderPhase.{ReaderPhase}
-pub use Rattle.llrp_session.specs.declared.words.ReaderPhase.TheVariants.{Waiting, Up, Down}
-pub use Rattle.llrp_session.specs.declared.words.Keepalive.{Keepalive}
+pub use Rattle.llrp_session.specs.declared.types.ReaderPhase.{ReaderPhase}
+pub use Rattle.llrp_session.specs.declared.types.ReaderPhase.TheVariants.{Waiting, Up, Down}
+pub use Rattle.llrp_session.specs.declared.types.Keepalive.{Keepalive}
 
 pub record Reader : Type 0 where
   pub limit : ℕ  -- the greatest length of a message, in octets
@@ -85,22 +85,22 @@ pub record Turn : Type 0 where
   pub reader : Reader
 
 -- nothing is sent yet
-abbrev pub begun : Reader → Turn
-begun r = record { sent = []; reader = r }
+abbrev pub turn_begun : Reader → Turn
+turn_begun r = record { sent = []; reader = r }
 
 -- own ids go upward, and on from 1
 abbrev pub following : ℕ → ℕ
 following id = if id == 4294967295 then 1 else id + 1
 
 -- one more message, under an own id and with the version of the last message taken
-abbrev pub tell : ReaderWord → Turn → Turn
+abbrev pub tell : ReaderContent → Turn → Turn
 tell word t = record {
   sent = t.sent ++ record { version = t.reader.version; id = t.reader.next_id; word = word } ∷ [];
   reader = record t.reader { next_id = following t.reader.next_id };
 }
 
 -- one more message, under the id and with the version of the message that it answers
-abbrev pub reply : ℕ → ℕ → ReaderWord → Turn → Turn
+abbrev pub reply : ℕ → ℕ → ReaderContent → Turn → Turn
 reply version id word t = record { sent = t.sent ++ record { version = version; id = id; word = word } ∷ []; reader = t.reader }
 
 abbrev pub with_reader : Reader → Turn → Turn
@@ -329,8 +329,8 @@ counting g None = None
 counting g (Some s) = if lists_antenna g.antenna s.antennas then Some s else None
 
 -- enough are held for them to be sent
-abbrev pub is_enough : ReportSpec → ℕ → Bool
-is_enough p count = sends_unasked p && (nat_lt 0 p.n && nat_le p.n count)
+abbrev pub is_report_due : ReportSpec → ℕ → Bool
+is_report_due p count = sends_unasked p && (nat_lt 0 p.n && nat_le p.n count)
 
 abbrev pub is_full : Reader → Bool
 is_full r = nat_le most_held (length r.held)
@@ -340,7 +340,7 @@ hold tag t = with_reader (record t.reader { held = t.reader.held ++ tag ∷ [] }
 
 -- what is held is sent if it is enough
 abbrev pub send_if_enough : ReportSpec → Turn → Turn
-send_if_enough p t = if is_enough p (length t.reader.held) then send_held t else t
+send_if_enough p t = if is_report_due p (length t.reader.held) then send_held t else t
 
 -- a sighting that counts while this ROSpec is active
 unfoldable pub see : ℕ → Sighting → Option RoSpec → Turn → Turn
@@ -354,8 +354,8 @@ see now g (Some s) t =
 -- ---- time passes
 
 -- the active ROSpec has run as long as its stop trigger says
-abbrev pub is_over : ℕ → ℕ → RoSpec → Bool
-is_over now started s = (s.stop_trigger == 1) && nat_le (later started s.duration) now
+abbrev pub has_run_out : ℕ → ℕ → RoSpec → Bool
+has_run_out now started s = (s.stop_trigger == 1) && nat_le (later started s.duration) now
 
 -- a keepalive that is due
 abbrev pub keep_alive : ℕ → Option Keepalive → Turn → Turn
@@ -366,7 +366,7 @@ keep_alive now (Some k) t =
 
 unfoldable pub tick : ℕ → Turn → Turn
 tick now t =
-    let ended = end_if (is_over now t.reader.started) now (active t.reader.table) t in
+    let ended = end_if (has_run_out now t.reader.started) now (active t.reader.table) t in
     keep_alive now ended.reader.keepalive ended
 
 -- ---- events
@@ -380,15 +380,15 @@ pub data ReaderEvent : Type 0 where
 
 -- a client connects
 abbrev pub connect : ℕ → Reader → Turn
-connect now r = tell (Accepted now) (begun (record r { phase = Up }))
+connect now r = tell (Accepted now) (turn_begun (record r { phase = Up }))
 
 -- what happens to a reader whose client is connected
 abbrev pub happen : ℕ → ReaderEvent → Reader → Turn
-happen now Connect r = begun r
-happen now (Take version id request) r = serve now version id request (begun (record r { version = version }))
-happen now (TakeBad id reason) r = reply r.version id (Error (fault_status reason)) (begun r)
-happen now (Seen g) r = see now g (counting g (active r.table)) (begun r)
-happen now Tick r = tick now (begun r)
+happen now Connect r = turn_begun r
+happen now (Take version id request) r = serve now version id request (turn_begun (record r { version = version }))
+happen now (TakeBad id reason) r = reply r.version id (Error (fault_status reason)) (turn_begun r)
+happen now (Seen g) r = see now g (counting g (active r.table)) (turn_begun r)
+happen now Tick r = tick now (turn_begun r)
 
 -- the turn that an event makes in a phase, or why it is refused
 abbrev pub next_in : ReaderPhase → ℕ → ReaderEvent → Reader → Result Turn Refusal

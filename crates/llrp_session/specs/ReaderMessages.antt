@@ -6,7 +6,7 @@ use Rattle.llrp_schema.specs.declared.kinds.ParamKind.{ParamKind}
 use Rattle.llrp_schema.specs.declared.kinds.ParamKind.TheVariants.{LlrpStatus, ReaderEventNotificationData, UtcTimestamp, RoSpecEvent, ReportBufferOverflowErrorEvent, ConnectionAttemptEvent}
 use Rattle.llrp_tree.specs.Tree.{Tree, MessageTree, forest}
 use Rattle.llrp_session.specs.Table.{listing}
-use Rattle.llrp_session.specs.Words.{Operation, Adding, Deleting, Starting, Stopping, Enabling, Disabling, Listing, Configuring, Closing, ReaderWord, Response, Listed, Error, Report, KeepaliveSent, Accepted, Started, Ended, Overflowed, ReaderMessage}
+use Rattle.llrp_session.specs.Contents.{Operation, Adding, Deleting, Starting, Stopping, Enabling, Disabling, Listing, Configuring, Closing, ReaderContent, Response, Listed, Error, Report, KeepaliveSent, Accepted, Started, Ended, Overflowed, ReaderMessage}
 
 -- a parameter of these fields and children; it has no tail, or an empty one
 abbrev pub parameter : ParamKind → List ℕ → List Tree → Tree
@@ -36,7 +36,7 @@ response_kind Listing = GetRoSpecsResponse
 response_kind Configuring = SetReaderConfigResponse
 response_kind Closing = CloseConnectionResponse
 
-abbrev pub reader_kind : ReaderWord → MsgKind
+abbrev pub reader_kind : ReaderContent → MsgKind
 reader_kind (Response operation status) = response_kind operation
 reader_kind (Listed table) = GetRoSpecsResponse
 reader_kind (Error status) = ErrorMessage
@@ -47,7 +47,7 @@ reader_kind (Started now id) = ReaderEventNotification
 reader_kind (Ended now id) = ReaderEventNotification
 reader_kind (Overflowed now) = ReaderEventNotification
 
-abbrev pub reader_parameters : ReaderWord → List Tree
+abbrev pub reader_parameters : ReaderContent → List Tree
 reader_parameters (Response operation status) = status_parameter status ∷ []
 reader_parameters (Listed table) = status_parameter 0 ∷ listing table
 reader_parameters (Error status) = status_parameter status ∷ []
@@ -60,4 +60,4 @@ reader_parameters (Overflowed now) = notification_data now (parameter ReportBuff
 
 -- the message of a reader; none of its messages has a field
 unfoldable pub reader_message : ReaderMessage → MessageTree
-reader_message m = record { version = m.version; id = m.id; kind = reader_kind m.word; fields = []; children = forest (reader_parameters m.word) }
+reader_message m = record { version = m.version; id = m.id; kind = reader_kind m.word; fields = []; tail = []; children = forest (reader_parameters m.word) }

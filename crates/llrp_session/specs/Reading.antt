@@ -4,8 +4,8 @@ use Rattle.llrp_schema.specs.declared.kinds.MsgKind.{MsgKind}
 use Rattle.llrp_schema.specs.declared.kinds.MsgKind.TheVariants as kinds
 use Rattle.llrp_schema.specs.declared.kinds.ParamKind.TheVariants.{RoSpec, KeepaliveSpec as KeepaliveSpecParameter, LlrpStatus, ReaderEventNotificationData, ConnectionAttemptEvent, ConnectionCloseEvent, RoSpecEvent}
 use Rattle.llrp_tree.specs.Tree.{Tree, Forest, MessageTree, trees}
-use Rattle.llrp_session.specs.RoSpec.{first_in, all_in, first_below, field, report_spec_in}
-use Rattle.llrp_session.specs.Words.{Adding, Deleting, Starting, Stopping, Enabling, Disabling, Listing, Configuring, Closing, KeepaliveSpec, Config, Request, AddRoSpec, DeleteRoSpec, StartRoSpec, StopRoSpec, EnableRoSpec, DisableRoSpec, GetRoSpecs, SetReaderConfig, GetReports, CloseConnection, NoRequest, Unsupported, RoSpecChange, Notification, Heard, HeardResponse, HeardError, HeardReport, HeardKeepalive, HeardNotification, HeardOther}
+use Rattle.llrp_session.specs.RoSpec.{first_in, all_in, first_below, field_of, report_spec_in}
+use Rattle.llrp_session.specs.Contents.{Adding, Deleting, Starting, Stopping, Enabling, Disabling, Listing, Configuring, Closing, KeepaliveSpec, Config, Request, AddRoSpec, DeleteRoSpec, StartRoSpec, StopRoSpec, EnableRoSpec, DisableRoSpec, GetRoSpecs, SetReaderConfig, GetReports, CloseConnection, NoRequest, Unsupported, RoSpecChange, Notification, Heard, HeardResponse, HeardError, HeardReport, HeardKeepalive, HeardNotification, HeardOther}
 
 -- ---- what a reader reads
 
@@ -51,7 +51,7 @@ request_of m = request_in m.kind m.fields m.children
 
 -- the status in a response or in ERROR_MESSAGE
 abbrev pub status_in : Forest → ℕ
-status_in row = field 0 (first_in LlrpStatus row)
+status_in row = field_of 0 (first_in LlrpStatus row)
 
 -- the ROSpecs that a response lists
 abbrev pub rospecs_in : Forest → List Tree

@@ -6,8 +6,8 @@ use Rattle.llrp_schema.specs.declared.kinds.ParamKind.TheVariants.{RoBoundarySpe
 use Rattle.llrp_schema.specs.Schema.{key_of}
 use Rattle.llrp_tree.specs.Tree.{Tree, Forest, trees, words_of}
 use Rattle.llrp_tree.specs.Lawful.{tree_octets}
-pub use Rattle.llrp_session.specs.declared.words.ContentSelector.{ContentSelector}
-pub use Rattle.llrp_session.specs.declared.words.ReportSpec.{ReportSpec}
+pub use Rattle.llrp_session.specs.declared.types.ContentSelector.{ContentSelector}
+pub use Rattle.llrp_session.specs.declared.types.ReportSpec.{ReportSpec}
 
 -- ---- the parts of a parameter
 
@@ -31,13 +31,13 @@ abbrev pub first_below : ParamKind → Option Tree → Option Tree
 first_below kind o = option_and_then (first_of kind) o
 
 -- the plain field at a place; 0 where there is none
-abbrev pub field : ℕ → Option Tree → ℕ
-field i None = 0
-field i (Some t) = slice_index t.fields i
+abbrev pub field_of : ℕ → Option Tree → ℕ
+field_of i None = 0
+field_of i (Some t) = slice_index t.fields i
 
 -- a field of one bit
 abbrev pub flag : ℕ → Option Tree → Bool
-flag i o = field i o == 1
+flag i o = field_of i o == 1
 
 -- the words of 16 bits that are in the tail
 abbrev pub words_in : Option Tree → List ℕ
@@ -62,8 +62,8 @@ selector_in o = record {
 -- what is read in a ROReportSpec; AccessSpecID and C1G2EPCMemorySelector are passed over
 unfoldable pub report_spec_of : Tree → ReportSpec
 report_spec_of t = record {
-  trigger = field 0 (Some t);
-  n = field 1 (Some t);
+  trigger = field_of 0 (Some t);
+  n = field_of 1 (Some t);
   selector = selector_in (first_of TagReportContentSelector t);
 }
 
@@ -91,7 +91,7 @@ pub record RoSpec : Type 0 where
   pub octets : ℕ
 
 abbrev pub stops_by_itself : Tree → Bool
-stops_by_itself ai_spec = not (field 0 (first_of AiSpecStopTrigger ai_spec) == 0)
+stops_by_itself ai_spec = not (field_of 0 (first_of AiSpecStopTrigger ai_spec) == 0)
 
 unfoldable pub rospec_of : Tree → RoSpec
 rospec_of t =
@@ -99,14 +99,14 @@ rospec_of t =
     let ai_spec = first_of AiSpec t in
     record {
       tree = t;
-      id = field 0 (Some t);
-      current_state = field 2 (Some t);
-      start_trigger = field 0 (first_below RoSpecStartTrigger boundary);
-      stop_trigger = field 0 (first_below RoSpecStopTrigger boundary);
-      duration = field 1 (first_below RoSpecStopTrigger boundary);
+      id = field_of 0 (Some t);
+      current_state = field_of 2 (Some t);
+      start_trigger = field_of 0 (first_below RoSpecStartTrigger boundary);
+      stop_trigger = field_of 0 (first_below RoSpecStopTrigger boundary);
+      duration = field_of 1 (first_below RoSpecStopTrigger boundary);
       has_ai_stop = list_any stops_by_itself (all_in AiSpec t.children);
       antennas = words_in ai_spec;
-      inventory = field 0 (first_below InventoryParameterSpec ai_spec);
+      inventory = field_of 0 (first_below InventoryParameterSpec ai_spec);
       report = report_spec_in t.children;
       octets = tree_octets t;
     }

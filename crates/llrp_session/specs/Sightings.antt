@@ -4,13 +4,13 @@ use Rattle.llrp_tree.specs.Tree.{Tree}
 use Rattle.llrp_session.specs.RoSpec.{RoSpec}
 use Rattle.llrp_session.specs.Table.{active}
 use Rattle.llrp_session.specs.TagReport.{Sighting, tag_report}
-use Rattle.llrp_session.specs.Words.{ReaderWord, Report, ReaderMessage}
+use Rattle.llrp_session.specs.Contents.{ReaderContent, Report, ReaderMessage}
 use Rattle.llrp_session.specs.Refusal.{Refusal}
 use Rattle.llrp_session.specs.ReaderMachine.{Reader, ReaderPhase, Up, Turn, ReaderEvent, Seen, effective_report, counting, is_full, new_reader, next}
 
 -- ---- what is sent
 
-abbrev pub tags_in : ReaderWord → List Tree
+abbrev pub tags_in : ReaderContent → List Tree
 tags_in (Report tags) = tags
 tags_in _ = []
 
@@ -56,12 +56,12 @@ extended (Ok t) kept dropped h =
     record { reader = t.reader; sent = h.sent ++ t.sent; kept = h.kept ++ kept; dropped = h.dropped + dropped }
 
 -- one more event, at a moment
-abbrev pub goes_on : History → ℕ × ReaderEvent → History
-goes_on h e = extended (next e.0 e.1 h.reader) (kept_by e.0 e.1 h.reader) (dropped_by e.0 e.1 h.reader) h
+abbrev pub after_event : History → ℕ × ReaderEvent → History
+after_event h e = extended (next e.0 e.1 h.reader) (kept_by e.0 e.1 h.reader) (dropped_by e.0 e.1 h.reader) h
 
 abbrev pub history : List (ℕ × ReaderEvent) → History → History
 history [] h = h
-history (e ∷ es) h = history es (goes_on h e)
+history (e ∷ es) h = history es (after_event h e)
 
 abbrev pub no_history : ℕ → ℕ → History
 no_history limit first_id = record { reader = new_reader limit first_id; sent = []; kept = []; dropped = 0 }

@@ -2,11 +2,11 @@
 use Rattle.std.specs.Prelude.{ℕ, suc, ◌+◌, ◌==◌, nat_lt, Bool, true, false, ◌||◌, ◌&&◌, List, [], ◌∷◌, Option, None, Some, if◌then◌else◌}
 use Rattle.llrp_schema.specs.declared.kinds.ParamKind.TheVariants.{RoSpec as RoSpecKind}
 use Rattle.llrp_tree.specs.Tree.{Tree}
-use Rattle.llrp_session.specs.RoSpec.{RoSpec, field}
+use Rattle.llrp_session.specs.RoSpec.{RoSpec, field_of}
 pub use Rattle.llrp_session.specs.declared.reader.table.Entry.{Entry}  -- an entry of a reader's table: a ROSpec and its state
-pub use Rattle.llrp_session.specs.declared.words.RoState.{RoState}
-pub use Rattle.llrp_session.specs.declared.words.RoState.TheVariants.{Disabled, Inactive, Active}
-pub use Rattle.llrp_session.specs.declared.words.Viewed.{Viewed}  -- an entry of a client's view
+pub use Rattle.llrp_session.specs.declared.types.RoState.{RoState}
+pub use Rattle.llrp_session.specs.declared.types.RoState.TheVariants.{Disabled, Inactive, Active}
+pub use Rattle.llrp_session.specs.declared.types.Viewed.{Viewed}  -- an entry of a client's view
 
 -- the states of a table, as a client sees them
 abbrev pub states : List Entry → List Viewed
@@ -38,7 +38,7 @@ state_number Active = 2
 abbrev pub as_listed : Entry → Tree
 as_listed e = record {
   kind = RoSpecKind;
-  fields = e.spec.id ∷ field 1 (Some e.spec.tree) ∷ state_number e.state ∷ [];
+  fields = e.spec.id ∷ field_of 1 (Some e.spec.tree) ∷ state_number e.state ∷ [];
   tail = [];
   children = e.spec.tree.children;
 }

@@ -4,7 +4,7 @@ use Rattle.llrp_schema.specs.declared.kinds.ParamKind.{ParamKind}
 use Rattle.llrp_schema.specs.declared.kinds.ParamKind.TheVariants.{TagReportData, Epc96, RoSpecId, SpecIndex, InventoryParameterSpecId, AntennaId, ChannelIndex, PeakRssi, FirstSeenTimestampUtc, LastSeenTimestampUtc, TagSeenCount}
 use Rattle.llrp_tree.specs.Tree.{Tree, none, forest}
 use Rattle.llrp_session.specs.RoSpec.{RoSpec, ContentSelector}
-pub use Rattle.llrp_session.specs.declared.words.Sighting.{Sighting}
+pub use Rattle.llrp_session.specs.declared.types.Sighting.{Sighting}
 
 -- the octet of a signed number, in two's complement
 abbrev pub signed_octet : ℤ → ℕ

@@ -3,7 +3,7 @@ use Rattle.std.specs.Prelude.{ℕ, ◌==◌, if◌then◌else◌, List, [], ◌�
 use Rattle.llrp_tree.specs.Tree.{Tree}
 use Rattle.llrp_session.specs.TagReport.{Sighting}
 use Rattle.llrp_session.specs.Table.{listing}
-use Rattle.llrp_session.specs.Words.{Listing, Request, GetRoSpecs, Heard, HeardResponse, Command, request}
+use Rattle.llrp_session.specs.Contents.{Listing, Request, GetRoSpecs, Heard, HeardResponse, Command, request}
 use Rattle.llrp_session.specs.ReaderMachine.{Reader, ReaderPhase, Up, ReaderEvent, Take}
 use Rattle.llrp_session.specs.ClientMachine.{Taken, Tags, Table, Differs}
 

@@ -1,7 +1,7 @@
 //! The client: the requests that it sends, and the messages that it takes from its reader.
 
 ghost use Rattle.std.specs.Prelude.{◌≡◌, ◌≤◌, ◌++◌, ◌∷◌, [], map, Ok, OnOk, OnErr, IfOk, IfErr};
-ghost use Rattle.llrp_session.specs.Words.{Asks};
+ghost use Rattle.llrp_session.specs.Contents.{Asks};
 ghost use Rattle.llrp_session.specs.Table.{viewed_state};
 ghost use Rattle.llrp_session.specs.Calls.LawfulWords.{AddsRoSpec};
 ghost use Rattle.llrp_session.specs.ClientMessages.{client_message};
@@ -10,12 +10,12 @@ ghost use Rattle.llrp_session.specs.ClientMachine as machine;
 ghost use Rattle.llrp_session.specs.Calls.ClientSteps.{IsCmdFault, IsTakeFault, sent_by};
 
 mod commands;
-mod comparing;
+mod compare_tables;
 mod refusal;
-mod taking;
+mod take;
 mod view;
 
-use crate::words::{ClientPhase, Command, Pending, RoState, Taken, Viewed};
+use crate::types::{ClientPhase, Command, Pending, RoState, Taken, Viewed};
 use llrp_tree::{MAX_LIMIT, Message};
 pub use refusal::{CmdFault, CmdRefusal, TakeFault, TakeRefusal};
 use std::alloc::Global;

@@ -4,7 +4,7 @@ mod messages;
 
 ghost use Rattle.std.specs.Prelude.{◌≡◌, ℕ, ◌^◌, ◌<◌, ◌≤◌, length, IfOk};
 ghost use Rattle.llrp_session.specs.Calls.Sightings.{AfterAllEvents, ReportsInOrder, OverflowsTold, HoldsFewEnough, OneActive as OneIsActive};
-ghost use Rattle.llrp_session.specs.Words.{Command, Heard};
+ghost use Rattle.llrp_session.specs.Contents.{Command, Heard};
 ghost use Rattle.llrp_session.specs.ReaderMachine.{Reader, ReaderEvent, new_reader, next};
 ghost use Rattle.llrp_session.specs.ClientMachine.{Client, command, take};
 ghost use Rattle.llrp_session.specs.Calls.LawfulWords.{IsLawfulClientMessage};

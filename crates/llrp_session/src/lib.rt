@@ -3,7 +3,8 @@
 //!
 //! Use it to test a client or a reader of your own, message by message, or to build one over a transport of your own. A [`Reader`]
 //! takes what happens at a moment (a [`ReaderIn`]); a [`Client`] takes a [`Command`], or a message of its reader, and says what
-//! that is (a [`Taken`]). Both append the messages that they send. `llrp_endpoints` puts them over bytes.
+//! that is (a [`Taken`]). Both append the messages that they send. `llrp_endpoints` puts them over bytes. Beside the machine stands
+//! [`answer`], for three requests of general clients that are no messages of the profile.
 //!
 //! ```
 //! let mut client = Client::new(alloc, 65_536, 1);
@@ -12,15 +13,22 @@
 //! ```
 #![tactic(auto)]
 
+mod answers;
+mod build;
 mod client;
 pub mod laws;
+mod parse;
 mod reader;
-mod reading;
-mod telling;
-mod words;
+mod types;
 
+pub use answers::answer;
 pub use client::{Client, CmdFault, CmdRefusal, TakeFault, TakeRefusal};
+pub use parse::find::{field, first};
+pub use parse::stored_rospec::RoSpec;
 pub use reader::Reader;
 pub use reader::events::{ReaderIn, StepFault, StepRefusal};
-pub use reading::find::{field, first};
-pub use words::{Command, RoState, Sighting, Taken};
+pub use reader::table::Entry;
+pub use types::{
+    ClientPhase, Command, ContentSelector, Keepalive, Operation, Pending, ReaderPhase, ReportSpec,
+    RoState, Sighting, Taken, Viewed,
+};

@@ -4,33 +4,33 @@
 //! Moments are in microseconds. A step makes everything that takes memory before it changes
 //! anything, so a step that fails changes nothing.
 
-mod ending;
+mod end_rospec;
 pub(crate) mod events;
 mod requests;
 mod rospecs;
-mod sending;
 mod settings;
 mod sightings;
 mod status;
 pub(crate) mod table;
-mod time;
+mod timers;
+mod turn;
 
 ghost use Rattle.std.specs.Prelude.{◌≡◌, ◌≤◌, ◌<◌, OnOk, OnErr, IfErr, vec_len, vec_capacity};
 ghost use Rattle.llrp_tree.specs.declared.TheConstants.{MAX_LIMIT};
 ghost use Rattle.llrp_session.specs.Table.{state_of as the_state_of};
-ghost use Rattle.llrp_session.specs.ReaderMachine.{new_reader, next, happen as the_happening, connect as the_connect, begun, reply, fault_status as the_fault_status};
-ghost use Rattle.llrp_session.specs.Words.{Error};
+ghost use Rattle.llrp_session.specs.ReaderMachine.{new_reader, next, happen as the_happening, connect as the_connect, turn_begun, reply, fault_status as the_fault_status};
+ghost use Rattle.llrp_session.specs.Contents.{Error};
 ghost use Rattle.llrp_session.specs.Calls.ReaderSteps.{event_of, Stands, Turns, IsFault};
 
-use crate::telling::reader as telling;
-use crate::words::{ContentSelector, Keepalive, ReaderPhase, ReportSpec, RoState};
+use crate::build::reader as build;
+use crate::types::{ContentSelector, Keepalive, ReaderPhase, ReportSpec, RoState};
 use events::{ReaderIn, StepFault, StepRefusal};
 use llrp_tree::{Message, Node, Reason};
-use sending::push_within;
 use status::fault_status;
 use std::alloc::{AllocError, Global};
 use std::marker::Model;
 use table::Entry;
+use turn::push_within;
 
 /// A reader that serves one client.
 #[derive(Drop)]
@@ -228,7 +228,7 @@ impl Reader {
         ensures out_unchanged { OnErr result (out.new.items ≡ out.old.items) }
     {
         out.reserve(1)?;
-        let event = telling::accepted(self.alloc, self.version, self.next_id, now)?;
+        let event = build::accepted(self.alloc, self.version, self.next_id, now)?;
         self.phase = ReaderPhase::Up;
         self.tell(event, out);
         Ok(())
@@ -276,11 +276,11 @@ impl Reader {
     ) -> Result<(), AllocError>
         requires { vec_len out.old < vec_capacity out.old }
         ensures ok { OnOk result (Stands out.old.items (reply self.old.version id
-            (Error (the_fault_status reason)) (begun self.old)) out.new.items self.new) }
+            (Error (the_fault_status reason)) (turn_begun self.old)) out.new.items self.new) }
         ensures reader_unchanged { OnErr result (self.new ≡ self.old) }
         ensures out_unchanged { OnErr result (out.new.items ≡ out.old.items) }
     {
-        let message = telling::error(self.alloc, self.version, id, fault_status(reason))?;
+        let message = build::error(self.alloc, self.version, id, fault_status(reason))?;
         push_within(out, message);
         Ok(())
     }

@@ -11,28 +11,29 @@ use Rattle.llrp_schema.specs.Schema.{fields_of, groups_of, is_tv, number_of, par
 use Rattle.llrp_tree.specs.declared.fault.FrameErr.{FrameErr}
 use Rattle.llrp_tree.specs.Tree.{Forest}
 use Rattle.llrp_tree.specs.OpenTree.{Begun}
-use Rattle.llrp_stream.specs.declared.reading.level.Placed.{Placed}
-use Rattle.llrp_stream.specs.declared.reading.level.Child.TheVariants as child
-use Rattle.llrp_stream.specs.declared.reading.reader.Reader.{Reader}
-use Rattle.llrp_stream.specs.declared.reading.reader.Stage.TheVariants as stage
-use Rattle.llrp_stream.specs.Calls.Reading.{AreSeen, Reads}
+use Rattle.llrp_stream.specs.declared.engine.stack.Placed.{Placed}
+use Rattle.llrp_stream.specs.declared.engine.stack.Child.TheVariants as child
+use Rattle.llrp_stream.specs.declared.engine.body_reader.BodyReader.{BodyReader}
+use Rattle.llrp_stream.specs.declared.engine.body_reader.Stage.TheVariants as stage
+use Rattle.llrp_schema.specs.declared.seen.Seen.{Seen}
+use Rattle.llrp_stream.specs.Calls.Reading.{AreSeen, HasReadTo}
 use Rattle.llrp_stream.specs.Private.Reading.{HeadFails, HeadSays, IsBare, Moves, work}
 use Rattle.llrp_stream.proofs.ChildPart.{outer_length}
 use Rattle.llrp_stream.proofs.SeenLemmas.{seen_are}
 
 -- what is known of the head of a child that was found
-pub known_says : (r : Reader) (parent : Kind) (level : ℕ) (octets : List ℕ) (kind : ParamKind) (found : Option (ℕ × ℕ)) (x : ℕ × ℕ)
-    → IfSome found (λ head. (children : Forest) (later : List Bool) → AreSeen (groups_of parent) children r.top.seen → HeadSays (profile_of parent) (groups_of parent) children level (8 * r.at) (8 * r.top.stop) (digits_of_bytes octets ++ later) octets (Ok (child.Long (record { kind = kind; seen = head.0 }) head.1)))
-    → found ≡ Some x → (children : Forest) (later : List Bool) → AreSeen (groups_of parent) children r.top.seen → HeadSays (profile_of parent) (groups_of parent) children level (8 * r.at) (8 * r.top.stop) (digits_of_bytes octets ++ later) octets (Ok (child.Long (record { kind = kind; seen = x.0 }) x.1))
-known_says r parent level octets kind found x h e = subst (λ (y : Option (ℕ × ℕ)). IfSome y (λ head. (children : Forest) (later : List Bool) → AreSeen (groups_of parent) children r.top.seen → HeadSays (profile_of parent) (groups_of parent) children level (8 * r.at) (8 * r.top.stop) (digits_of_bytes octets ++ later) octets (Ok (child.Long (record { kind = kind; seen = head.0 }) head.1)))) e h
+pub known_says : (r : BodyReader) (parent : Kind) (level : ℕ) (octets : List ℕ) (kind : ParamKind) (found : Option (Seen × ℕ)) (x : Seen × ℕ)
+    → IfSome found (λ head. (children : Forest) (later : List Bool) → AreSeen (groups_of parent) children r.top.seen.bits → HeadSays (profile_of parent) (groups_of parent) children level (8 * r.at) (8 * r.top.stop) (digits_of_bytes octets ++ later) octets (Ok (child.Long (record { kind = kind; seen = head.0 }) head.1)))
+    → found ≡ Some x → (children : Forest) (later : List Bool) → AreSeen (groups_of parent) children r.top.seen.bits → HeadSays (profile_of parent) (groups_of parent) children level (8 * r.at) (8 * r.top.stop) (digits_of_bytes octets ++ later) octets (Ok (child.Long (record { kind = kind; seen = x.0 }) x.1))
+known_says r parent level octets kind found x h e = subst (λ (y : Option (Seen × ℕ)). IfSome y (λ head. (children : Forest) (later : List Bool) → AreSeen (groups_of parent) children r.top.seen.bits → HeadSays (profile_of parent) (groups_of parent) children level (8 * r.at) (8 * r.top.stop) (digits_of_bytes octets ++ later) octets (Ok (child.Long (record { kind = kind; seen = head.0 }) head.1)))) e h
 
 -- what is seen of the children of a node of a known kind
-pub seen_at : (r : Reader) (front : List ℕ) (b : Begun) (outer : List Begun) → Reads r front b outer → (parent : Kind) → r.top.kind ≡ parent → AreSeen (groups_of parent) b.children r.top.seen
-seen_at r front b outer rd parent e = subst (λ (k : Kind). AreSeen (groups_of k) b.children r.top.seen) e (seen_are r front b outer rd)
+pub seen_at : (r : BodyReader) (front : List ℕ) (b : Begun) (outer : List Begun) → HasReadTo r front b outer → (parent : Kind) → r.top.kind ≡ parent → AreSeen (groups_of parent) b.children r.top.seen.bits
+seen_at r front b outer rd parent e = subst (λ (k : Kind). AreSeen (groups_of k) b.children r.top.seen.bits) e (seen_are r front b outer rd)
 
 -- what a head says at the first level, said of the node that is innermost
-pub says_long : (r : Reader) (front : List ℕ) (b : Begun) (outer : List Begun) → Reads r front b outer → (parent : Kind) (level : ℕ) → r.top.kind ≡ parent → length r.outer.items + 1 ≡ level → r.stage ≡ stage.Children → (octets : List ℕ) (placed : Placed) (n : ℕ)
-    → ((children : Forest) (later : List Bool) → AreSeen (groups_of parent) children r.top.seen → HeadSays (profile_of parent) (groups_of parent) children level (8 * r.at) (8 * r.top.stop) (digits_of_bytes octets ++ later) octets (Ok (child.Long placed n)))
+pub says_long : (r : BodyReader) (front : List ℕ) (b : Begun) (outer : List Begun) → HasReadTo r front b outer → (parent : Kind) (level : ℕ) → r.top.kind ≡ parent → length r.outer.items + 1 ≡ level → r.stage ≡ stage.Children → (octets : List ℕ) (placed : Placed) (n : ℕ)
+    → ((children : Forest) (later : List Bool) → AreSeen (groups_of parent) children r.top.seen.bits → HeadSays (profile_of parent) (groups_of parent) children level (8 * r.at) (8 * r.top.stop) (digits_of_bytes octets ++ later) octets (Ok (child.Long placed n)))
     → (later : List Bool) → HeadSays (profile_of r.top.kind) (groups_of r.top.kind) b.children (length outer + 1) (8 * r.at) (8 * r.top.stop) (digits_of_bytes octets ++ later) octets (Ok (child.Long placed n))
 says_long r front b outer rd parent level e deep s octets placed n f = λ later.
     let few = outer_length r front b outer rd s in
@@ -42,8 +43,8 @@ says_long r front b outer rd parent level e deep s octets placed n f = λ later.
     (f b.children later (seen_at r front b outer rd parent e)))
 
 -- the same, where it fails
-pub fails_here : (r : Reader) (front : List ℕ) (b : Begun) (outer : List Begun) → Reads r front b outer → (parent : Kind) (level : ℕ) → r.top.kind ≡ parent → length r.outer.items + 1 ≡ level → r.stage ≡ stage.Children → (octets : List ℕ) (e : FrameErr)
-    → ((children : Forest) (later : List Bool) → AreSeen (groups_of parent) children r.top.seen → HeadFails (profile_of parent) (groups_of parent) children level (8 * r.at) (8 * r.top.stop) (digits_of_bytes octets ++ later) e)
+pub fails_here : (r : BodyReader) (front : List ℕ) (b : Begun) (outer : List Begun) → HasReadTo r front b outer → (parent : Kind) (level : ℕ) → r.top.kind ≡ parent → length r.outer.items + 1 ≡ level → r.stage ≡ stage.Children → (octets : List ℕ) (e : FrameErr)
+    → ((children : Forest) (later : List Bool) → AreSeen (groups_of parent) children r.top.seen.bits → HeadFails (profile_of parent) (groups_of parent) children level (8 * r.at) (8 * r.top.stop) (digits_of_bytes octets ++ later) e)
     → (later : List Bool) → HeadFails (profile_of r.top.kind) (groups_of r.top.kind) b.children (length outer + 1) (8 * r.at) (8 * r.top.stop) (digits_of_bytes octets ++ later) e
 fails_here r front b outer rd parent level is deep s octets e f = λ later.
     let few = outer_length r front b outer rd s in
@@ -53,7 +54,7 @@ fails_here r front b outer rd parent level is deep s octets e f = λ later.
     (f b.children later (seen_at r front b outer rd parent is)))
 
 -- a step of some octets, and one of none after it
-pub moved_twice : (b0 s0 begins stands : List Begun → Type 0) (old mid new : Reader) (front octets : List ℕ) (used : ℕ) → Moves b0 s0 old mid front octets used → Moves begins stands mid new front (drop used octets) 0 → Moves begins stands old new front octets used
+pub moved_twice : (b0 s0 begins stands : List Begun → Type 0) (old mid new : BodyReader) (front octets : List ℕ) (used : ℕ) → Moves b0 s0 old mid front octets used → Moves begins stands mid new front (drop used octets) 0 → Moves begins stands old new front octets used
 moved_twice b0 s0 begins stands old mid new front octets used m n =
     let long = length-drop used octets in
     let less = n.less in
@@ -65,6 +66,7 @@ moved_twice b0 s0 begins stands old mid new front octets used m n =
       are = n.are;
       place = omega (arith, m.place, n.place);
       same = n.same ∙ m.same;
+      profile = n.profile ∙ m.profile;
       less = omega (arith, first, second);
     }
 

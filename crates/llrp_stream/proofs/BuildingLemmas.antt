@@ -10,11 +10,11 @@ use Rattle.llrp_schema.proofs.TableLaws.{few_plain_fields}
 use Rattle.llrp_tree.specs.Tree.{Forest, and, MessageTree}
 use Rattle.llrp_tree.specs.Private.Weight.{open_weight}
 use Rattle.llrp_tree.specs.Spelling.{Head, message, tlv, tv}
-use Rattle.llrp_tree.specs.OpenTree.{Begun, kind_of, rules, plain_values}
-use Rattle.llrp_tree.specs.Calls.Standing.{begun}
+use Rattle.llrp_tree.specs.OpenTree.{Begun, kind_of_head, rules, plain_values}
+use Rattle.llrp_tree.specs.Calls.Standing.{begin_node}
 use Rattle.llrp_tree.proofs.Leading.{plain}
-use Rattle.llrp_stream.specs.Calls.Told.{with_field, with_closed, IsNextField, CanClose}
-use Rattle.llrp_stream.specs.Calls.Told.{with_child as with_parameter}
+use Rattle.llrp_stream.specs.Calls.Received.{with_field, with_closed, IsNextField, CanClose}
+use Rattle.llrp_stream.specs.Calls.Received.{with_child as with_parameter}
 use Rattle.llrp_stream.specs.Building.{OpenParts, Building, nodes_weight}
 use Rattle.llrp_stream.specs.Private.Building.{parts_of, IsOf, HasHeader, HasOpen}
 use Rattle.llrp_stream.specs.Private.OpenNodes.{with_value, with_child, nested, AreNested, HasRoom, IsWholeParameter}
@@ -31,18 +31,18 @@ weigh_alike b t h = ap nodes_weight h.nodes ∙ parts_weigh t
 
 -- ---- a field
 
-none_dropped : (vs : List ℕ) (r : FieldRule) (others : List FieldRule) → drop (length vs) [] ≡ r ∷ others → ⊥
+pub none_dropped : (vs : List ℕ) (r : FieldRule) (others : List FieldRule) → drop (length vs) [] ≡ r ∷ others → ⊥
 none_dropped [] r others e = cc
 none_dropped (v ∷ vs) r others e = cc
 
-same_plain : (rs : List FieldRule) (vs : List ℕ) (v : ℕ) (r : FieldRule) (others : List FieldRule) → drop (length vs) rs ≡ r ∷ others → r.reserved ≡ true → plain_values rs (vs ++ v ∷ []) ≡ plain_values rs vs
+pub same_plain : (rs : List FieldRule) (vs : List ℕ) (v : ℕ) (r : FieldRule) (others : List FieldRule) → drop (length vs) rs ≡ r ∷ others → r.reserved ≡ true → plain_values rs (vs ++ v ∷ []) ≡ plain_values rs vs
 same_plain [] vs v r others e f = absurd (none_dropped vs r others e)
 same_plain (s ∷ rs) [] v r others e f = (let same : s ≡ r = cc in let g : s.reserved ≡ true = ap (λ (x : FieldRule). x.reserved) same ∙ f in rw g refl)
 same_plain (s ∷ rs) (u ∷ vs) v r others e f =
     let rest = same_plain rs vs v r others e f in
     elim s.reserved as (λ b. (if b then plain_values rs (vs ++ v ∷ []) else u ∷ plain_values rs (vs ++ v ∷ [])) ≡ (if b then plain_values rs vs else u ∷ plain_values rs vs)) [ true ↦ rest | false ↦ ap (λ (x : List ℕ). u ∷ x) rest ]
 
-more_plain : (rs : List FieldRule) (vs : List ℕ) (v : ℕ) (r : FieldRule) (others : List FieldRule) → drop (length vs) rs ≡ r ∷ others → r.reserved ≡ false → plain_values rs (vs ++ v ∷ []) ≡ plain_values rs vs ++ v ∷ []
+pub more_plain : (rs : List FieldRule) (vs : List ℕ) (v : ℕ) (r : FieldRule) (others : List FieldRule) → drop (length vs) rs ≡ r ∷ others → r.reserved ≡ false → plain_values rs (vs ++ v ∷ []) ≡ plain_values rs vs ++ v ∷ []
 more_plain [] vs v r others e f = absurd (none_dropped vs r others e)
 more_plain (s ∷ rs) [] v r others e f = (let same : s ≡ r = cc in let g : s.reserved ≡ false = ap (λ (x : FieldRule). x.reserved) same ∙ f in rw g refl)
 more_plain (s ∷ rs) (u ∷ vs) v r others e f =
@@ -72,14 +72,14 @@ has_room b t rule h x plain_one =
       node = parts_of n;
       outer = map parts_of x.outer;
       are = h.nodes ∙ ap (λ (u : List Begun). map parts_of u) x.tree_is;
-      few = omega (arith, fewer_plain (rules n) n.fields rule x.others x.next plain_one, few_plain_fields (kind_of n.head));
+      few = omega (arith, fewer_plain (rules n) n.fields rule x.others x.next plain_one, few_plain_fields (kind_of_head n.head));
     }
 
 grown : (version id value : ℕ) (whole : Option MessageTree) (nodes : List OpenParts) (n : Begun) (outer : List Begun) (plains : List ℕ) → plains ≡ plain_values (rules n) (n.fields ++ value ∷ []) → HasHeader version id (n ∷ outer)
     → nodes ≡ record (parts_of n) { fields = plains } ∷ map parts_of outer → HasOpen (record { version = version; id = id; nodes = nodes; done = whole }) (with_field value (n ∷ outer))
 grown version id value whole nodes n outer plains e header are = record {
   nodes = are ∙ ap (λ (x : List ℕ). record (parts_of n) { fields = x } ∷ map parts_of outer) e;
-  header = same_header version id n (begun n.head n.stop (n.fields ++ value ∷ []) n.tail n.children) outer refl header;
+  header = same_header version id n (begin_node n.head n.stop (n.fields ++ value ∷ []) n.tail n.children) outer refl header;
 }
 
 pub plain_field : (b : Building) (t : List Begun) (rule : FieldRule) (value : ℕ) (new : List OpenParts) → HasOpen b t → IsNextField t rule → rule.reserved ≡ false → new ≡ with_value value b.nodes → HasOpen (record b { nodes = new }) (with_field value t)
@@ -113,9 +113,9 @@ can_close b c = record {
   lawful = subst (λ (k : Kind). Rattle.llrp_tree.specs.Lawful.AreLawful c.kind (plain_values (fields_of k) c.node.fields) (unwrap_or c.node.tail []) c.node.children) (sym c.kind_is) c.lawful.0;
 }
 
-child_is : (p : Begun) (h : Head) (fields : List ℕ) (tail : Option (List ℕ)) (children : Forest) (kind : ParamKind) → kind_of h ≡ Parameter kind
-    → with_child (parts_of p) kind (record { kind = kind_of h; fields = plain_values (fields_of (kind_of h)) fields; tail = unwrap_or tail []; children = children })
-    ≡ parts_of (begun p.head p.stop p.fields p.tail (with_parameter p.children h fields tail children))
+child_is : (p : Begun) (h : Head) (fields : List ℕ) (tail : Option (List ℕ)) (children : Forest) (kind : ParamKind) → kind_of_head h ≡ Parameter kind
+    → with_child (parts_of p) kind (record { kind = kind_of_head h; fields = plain_values (fields_of (kind_of_head h)) fields; tail = unwrap_or tail []; children = children })
+    ≡ parts_of (begin_node p.head p.stop p.fields p.tail (with_parameter p.children h fields tail children))
 child_is p (message v k n i) fields tail children kind e = absurd cc
 child_is p (tlv k n) fields tail children kind e =
     let same : kind ≡ k = cc in
@@ -137,11 +137,11 @@ unfolding kind_at
 closed_built b new [] w c h = (let e = sym h.nodes ∙ w.are in absurd cc)
 closed_built b new (x ∷ []) w c h = (let e = sym h.nodes ∙ w.are in absurd cc)
 closed_built b new (x ∷ y ∷ outer) w c h =
-    let kind_is : kind_of x.head ≡ Parameter w.kind = ap (λ (l : List OpenParts). kind_at (Parameter w.kind) l) (sym h.nodes ∙ w.are) ∙ w.kind_is in
+    let kind_is : kind_of_head x.head ≡ Parameter w.kind = ap (λ (l : List OpenParts). kind_at (Parameter w.kind) l) (sym h.nodes ∙ w.are) ∙ w.kind_is in
     let are = c (parts_of x) (parts_of y) (map parts_of outer) w.kind h.nodes kind_is in
     record {
       nodes = are ∙ ap (λ (p : OpenParts). p ∷ map parts_of outer) (child_is y x.head x.fields x.tail x.children w.kind kind_is);
-      header = same_header b.version b.id y (begun y.head y.stop y.fields y.tail (with_parameter y.children x.head x.fields x.tail x.children)) outer refl h.header;
+      header = same_header b.version b.id y (begin_node y.head y.stop y.fields y.tail (with_parameter y.children x.head x.fields x.tail x.children)) outer refl h.header;
     }
 
 pub closed_on_ok : {T E : Type 0} (r : Result T E) (b : Building) (new : List OpenParts) (Ready : List Begun → Type 0) → IsWholeParameter b.nodes

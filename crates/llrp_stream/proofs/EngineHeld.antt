@@ -2,21 +2,20 @@
 use Rattle.std.proofs.Common.{◌≡◌, ℕ, ◌+◌, ◌*◌, ◌<◌, ◌≤◌, List, [], ◌∷◌, ◌++◌, length, drop, refl, sym, ap, subst, ◌∙◌, arith, length-drop}
 use Rattle.std.proofs.lemmas.List.{length-reverse}
 use Rattle.tag_bits.specs.Digits.{digits_of_bytes}
-use Rattle.llrp_tree.specs.OpenTree.{Begun, kind_of}
+use Rattle.llrp_tree.specs.OpenTree.{Begun, kind_of_head}
 use Rattle.llrp_tree.specs.Calls.Deciding.{deciding, FailsIn}
 use Rattle.llrp_tree.specs.Private.Weight.{open_weight}
-use Rattle.llrp_schema.specs.declared.kinds.Profile.TheVariants.{Own}
 use Rattle.llrp_tree.proofs.Undecided.{undecided_until, fails_after_header}
-use Rattle.llrp_stream.specs.declared.reading.body.Body.{Body}
-use Rattle.llrp_stream.specs.declared.reading.reader.Stage.{Stage}
-use Rattle.llrp_stream.specs.declared.reading.frames.Frames.{Frames}
+use Rattle.llrp_stream.specs.declared.engine.body.Body.{Body}
+use Rattle.llrp_stream.specs.declared.engine.body_reader.Stage.{Stage}
+use Rattle.llrp_stream.specs.declared.engine.frames.Frames.{Frames}
 use Rattle.llrp_stream.specs.declared.state.State.{State}
 use Rattle.llrp_stream.specs.declared.state.State.TheVariants as state
 use Rattle.llrp_stream.specs.Cuts.{IsFrame}
-use Rattle.llrp_stream.specs.Calls.Items.{header_fault, HasHeaderFault}
+use Rattle.llrp_stream.specs.Calls.Items.{header_fault_in, HasHeaderFaultIn}
 use Rattle.llrp_stream.specs.Calls.Reading.{settled}
-use Rattle.llrp_stream.specs.Calls.Frames.{IsReading, ComesAt, IsFrontOf, held_at, held_of}
-use Rattle.llrp_stream.specs.Calls.Decoding.{IsDecided}
+use Rattle.llrp_stream.specs.Calls.Frames.{IsReading, ComesAt, IsFrontOf, held_at, held_of, set_of}
+use Rattle.llrp_stream.specs.Calls.Decoding.{IsDecidedIn}
 use Rattle.llrp_stream.proofs.Bounds.{covered_length}
 use Rattle.llrp_stream.proofs.ChildPart.{levels_length}
 use Rattle.llrp_stream.proofs.Reached.{stands_in}
@@ -43,7 +42,7 @@ module _ (begins stands : List Begun → Type 0) where
       let st = r.awaits.stands_for in
       let t : List Begun = st.are.node ∷ st.are.outer in
       let own : open_weight t ≤ body.reader.at = held_within body.reader front st.are.node st.are.outer st.are.reads in
-      let same : length body.reader.outer.items ≡ length st.are.outer = sym (length-reverse body.reader.outer.items) ∙ levels_length _ (kind_of st.are.node.head) st.are.outer st.are.reads.levels in
+      let same : length body.reader.outer.items ≡ length st.are.outer = sym (length-reverse body.reader.outer.items) ∙ levels_length _ (kind_of_head st.are.node.head) st.are.outer st.are.reads.levels in
       let back = ap (λ (x : List ℕ). length x) st.raw in
       record {
         levels = omega (arith, own, same, two_each t);
@@ -53,8 +52,8 @@ module _ (begins stands : List Begun → Type 0) where
         few = st.few;
       }
 
-  pub undecided_reading : (limit id : ℕ) (body : Body) (front more : List ℕ) → IsReading begins stands limit id body front → IsFrame (front ++ more) → FailsIn Own limit (front ++ more) (length front) → ⊥
-  unfolding header_fault
+  pub undecided_reading : (limit id : ℕ) (body : Body) (front more : List ℕ) → IsReading begins stands limit id body front → IsFrame (front ++ more) → FailsIn body.reader.profile limit (front ++ more) (length front) → ⊥
+  unfolding header_fault_in
   undecided_reading limit id body front more r is f =
       let are = r.awaits.stands_for.are in
       let s : Stage = body.reader.stage in
@@ -64,7 +63,7 @@ module _ (begins stands : List Begun → Type 0) where
       let st = stands_in front more body.reader.octets t reach.0 reach.1 long in
       let P : ℕ → Type 0 = λ k. 8 * length front < deciding t (drop k (digits_of_bytes (front ++ more))) in
       let lt : P reach.0 = subst P (covered_length front body.reader.octets t reach.0 reach.1) (r.awaits.short.undecided more long) in
-      undecided_until Own limit (front ++ more) (length front) t reach.0 st reach.1.root (header_fault-append limit front more r.passed.long ∙ r.passed.passes) lt f
+      undecided_until body.reader.profile limit (front ++ more) (length front) t reach.0 st reach.1.root (header_fault-append _ limit front more r.passed.long ∙ r.passed.passes) lt f
 
   pub held_front : (limit : ℕ) (s : State) (body : Body) (front : List ℕ) → ComesAt begins stands limit s body front → held_at s body ≤ length front
   held_front limit state.Between body front k = omega arith
@@ -82,15 +81,15 @@ module _ (begins stands : List Begun → Type 0) where
   held_limit limit state.Broken body front ten k = absurd k
   held_limit limit state.Dead body front ten k = absurd k
 
-  pub held_decided : (limit : ℕ) (s : State) (body : Body) (front : List ℕ) → ComesAt begins stands limit s body front → IsDecided limit front → held_at s body ≡ 0
+  pub held_decided : (limit : ℕ) (s : State) (body : Body) (front : List ℕ) → ComesAt begins stands limit s body front → IsDecidedIn body.reader.profile limit front → held_at s body ≡ 0
   held_decided limit state.Between body front k d = refl
-  held_decided limit state.Header body front k d = absurd (let ten = fails_after_header Own limit (front ++ d.0) (length front) d.2 in omega (arith, k.2))
+  held_decided limit state.Header body front k d = absurd (let ten = fails_after_header body.reader.profile limit (front ++ d.0) (length front) d.2 in omega (arith, k.2))
   held_decided limit (state.Reading id) body front k d = absurd (undecided_reading limit id body front d.0 k d.1 d.2)
   held_decided limit (state.Skipping count header) body front k d = refl
   held_decided limit state.Broken body front k d = refl
   held_decided limit state.Dead body front k d = refl
 
-  pub held_skipped : (limit : ℕ) (s : State) (body : Body) (front : List ℕ) → ComesAt begins stands limit s body front → HasHeaderFault limit front → held_at s body ≡ 0
+  pub held_skipped : (limit : ℕ) (s : State) (body : Body) (front : List ℕ) → ComesAt begins stands limit s body front → HasHeaderFaultIn body.reader.profile limit front → held_at s body ≡ 0
   held_skipped limit state.Between body front k d = refl
   held_skipped limit state.Header body front k d = absurd (omega (arith, k.2, d.0))
   held_skipped limit (state.Reading id) body front k d = absurd (d.1 k.passed.passes)
@@ -103,8 +102,8 @@ pub record Holds (frames : Frames) (n : ℕ) : Type 0 where
   pub weight_is : n ≡ held_of frames
   pub within : (front : List ℕ) → IsFrontOf frames front → 10 ≤ frames.limit → n ≤ frames.limit
   pub front : (front : List ℕ) → IsFrontOf frames front → n ≤ length front
-  pub skipped : (front : List ℕ) → IsFrontOf frames front → HasHeaderFault frames.limit front → n ≡ 0
-  pub decided : (front : List ℕ) → IsFrontOf frames front → IsDecided frames.limit front → n ≡ 0
+  pub skipped : (front : List ℕ) → IsFrontOf frames front → HasHeaderFaultIn (set_of frames) frames.limit front → n ≡ 0
+  pub decided : (front : List ℕ) → IsFrontOf frames front → IsDecidedIn (set_of frames) frames.limit front → n ≡ 0
 
 pub holds : (frames : Frames) (s : State) (n : ℕ) → frames.state ≡ s → n ≡ held_at s frames.body → Holds frames n
 holds frames s n is e =

@@ -10,35 +10,34 @@ use Rattle.llrp_tree.specs.declared.fault.FrameErr.TheVariants as frame_err
 use Rattle.llrp_tree.specs.declared.header.Header.{Header}
 use Rattle.llrp_tree.specs.Tree.{MessageTree}
 use Rattle.llrp_tree.specs.Lawful.{AreOctets}
-use Rattle.llrp_tree.specs.FirstFault.{first_failing}
-use Rattle.llrp_tree.specs.Calls.FirstFault.{header_checks}
+use Rattle.llrp_tree.specs.FirstFault.{first_failing, header_checks_in}
 use Rattle.llrp_tree.specs.OpenTree.{Begun}
-use Rattle.llrp_schema.specs.declared.kinds.Profile.TheVariants.{Own}
+use Rattle.llrp_schema.specs.declared.kinds.Profile.{Profile}
 use Rattle.llrp_tree.proofs.Frames.{fault_of_frame}
 use Rattle.llrp_tree.proofs.OctetLemmas.{octets-append}
 use Rattle.llrp_stream.specs.declared.header.FaultyHeader.{FaultyHeader}
 use Rattle.llrp_stream.specs.declared.item.FeedErr.{FeedErr}
 use Rattle.llrp_stream.specs.declared.item.FeedErr.TheVariants as failure
-use Rattle.llrp_stream.specs.declared.reading.body.Body.{Body}
-use Rattle.llrp_stream.specs.declared.reading.reader.Reader.{Reader}
-use Rattle.llrp_stream.specs.declared.reading.frames.Came.{Came}
-use Rattle.llrp_stream.specs.declared.reading.frames.Frames.{Frames}
-use Rattle.llrp_stream.specs.declared.reading.frames.Outcome.{Outcome}
-use Rattle.llrp_stream.specs.declared.reading.frames.Outcome.TheVariants.{Whole, Bad}
+use Rattle.llrp_stream.specs.declared.engine.body.Body.{Body}
+use Rattle.llrp_stream.specs.declared.engine.body_reader.BodyReader.{BodyReader}
+use Rattle.llrp_stream.specs.declared.engine.frames.Came.{Came}
+use Rattle.llrp_stream.specs.declared.engine.frames.Frames.{Frames}
+use Rattle.llrp_stream.specs.declared.engine.frames.Outcome.{Outcome}
+use Rattle.llrp_stream.specs.declared.engine.frames.Outcome.TheVariants.{Whole, Bad}
 use Rattle.llrp_stream.specs.declared.state.State.{State}
 use Rattle.llrp_stream.specs.declared.state.State.TheVariants as state
 use Rattle.llrp_stream.specs.Cuts.{length_field, IsFrame, IsPartial}
 use Rattle.llrp_stream.specs.Items.{id_field}
-use Rattle.llrp_stream.specs.Calls.Items.{header_fault, IsSkipped}
+use Rattle.llrp_stream.specs.Calls.Items.{header_fault_in, IsSkipped}
 use Rattle.llrp_stream.specs.Private.Headers.{IsFaulty, IsSound}
 use Rattle.llrp_stream.specs.Calls.Front.{Reaches}
 use Rattle.llrp_stream.specs.Private.Front.{TellsAll}
-use Rattle.llrp_stream.specs.declared.reading.reader.Stage.{Stage}
-use Rattle.llrp_stream.specs.declared.reading.reader.Stage.TheVariants as stage
+use Rattle.llrp_stream.specs.declared.engine.body_reader.Stage.{Stage}
+use Rattle.llrp_stream.specs.declared.engine.body_reader.Stage.TheVariants as stage
 use Rattle.llrp_stream.specs.Private.Reading.{IsComplete}
 use Rattle.llrp_stream.specs.Calls.Reading.{IsAtStage, settled}
-use Rattle.llrp_stream.specs.Calls.Pieces.{Stands, Awaits}
-use Rattle.llrp_stream.specs.Calls.Frames.{IsPassed, IsReading, ComesAt, Comes, IsIdle, Gives, TakesOn, is_skipped, Goes, Stops}
+use Rattle.llrp_stream.specs.Calls.Pieces.{BodyStands, Awaits}
+use Rattle.llrp_stream.specs.Calls.Frames.{IsPassed, IsReading, ComesAt, Comes, IsIdle, GivesIn, TakesOn, is_skipped, Goes, Stops}
 use Rattle.llrp_stream.specs.Private.Frames.{IsBegun, GoesOn, Begins, IsSkipping, SkipsTo}
 use Rattle.llrp_stream.proofs.FrontLemmas.{length_field-append, id_field-append, header_fault-append, frame_ends, faulty_is_skipped, skipped-append}
 use Rattle.llrp_stream.proofs.MoreOctets.{whole_ends}
@@ -48,20 +47,20 @@ use Rattle.llrp_stream.proofs.WholeFrames.{header_length}
 -- ---- a frame whose header passes
 
 -- more octets of it
-pub passed_more : (limit id : ℕ) (old new : Body) (front more : List ℕ) → new.reader.octets ≡ old.reader.octets → AreOctets more → IsPassed limit id old front → IsPassed limit id new (front ++ more)
-passed_more limit id old new front more e os p = record {
+pub passed_more : (limit id : ℕ) (old new : Body) (front more : List ℕ) → new.reader.octets ≡ old.reader.octets → new.reader.profile ≡ old.reader.profile → AreOctets more → IsPassed limit id old front → IsPassed limit id new (front ++ more)
+passed_more limit id old new front more e set os p = record {
   long = omega (arith, p.long, length-append front more);
   octets_are = e ∙ p.octets_are ∙ sym (length_field-append front more (omega (arith, p.long)));
   within = omega (arith, e, p.within);
   id_is = p.id_is ∙ sym (id_field-append front more p.long);
-  passes = header_fault-append limit front more p.long ∙ p.passes;
+  passes = subst (λ (q : Profile). header_fault_in q limit (front ++ more) ≡ None) (sym set) (header_fault-append _ limit front more p.long ∙ p.passes);
   octets = octets-append front more p.octets os;
 }
 
 -- its first ten octets
-pub passed_first : (limit : ℕ) (bytes : List ℕ) (header : Header) (body : Body) → length bytes ≡ 10 → IsSound limit bytes header → AreOctets bytes → body.reader.octets ≡ header.octets → IsPassed limit header.id body bytes
-unfolding header_fault length_field id_field
-passed_first limit bytes header body ten s os e =
+pub passed_first : (p : Profile) (limit : ℕ) (bytes : List ℕ) (header : Header) (body : Body) → length bytes ≡ 10 → IsSound p limit bytes header → AreOctets bytes → body.reader.octets ≡ header.octets → body.reader.profile ≡ p → IsPassed limit header.id body bytes
+unfolding header_fault_in length_field id_field
+passed_first p limit bytes header body ten s os e set =
     let l = header_length limit bytes header.version header.kind header.octets header.id ten (λ later. s.says later) in
     let says = s.says [] in
     record {
@@ -69,26 +68,26 @@ passed_first limit bytes header body ten s os e =
       octets_are = e ∙ l.0;
       within = omega (arith, e, l.1);
       id_is = says.id_is ∙ sym (number_ahead bytes [] 48 32 (omega (arith, ten)));
-      passes = subst (λ (x : List Bool). first_failing (header_checks limit x) ≡ None) (append-nil (digits_of_bytes bytes)) says.passes;
+      passes = subst (λ (q : Profile). first_failing (header_checks_in q limit (digits_of_bytes bytes)) ≡ None) (sym set) (subst (λ (x : List Bool). first_failing (header_checks_in p limit x) ≡ None) (append-nil (digits_of_bytes bytes)) says.passes);
       octets = os;
     }
 
 -- they are a frame, where its length is ten
-pub bare_frame : (limit : ℕ) (bytes : List ℕ) (header : Header) → length bytes ≡ 10 → IsSound limit bytes header → header.octets ≡ 10 → IsFrame bytes
+pub bare_frame : {p : Profile} (limit : ℕ) (bytes : List ℕ) (header : Header) → length bytes ≡ 10 → IsSound p limit bytes header → header.octets ≡ 10 → IsFrame bytes
 unfolding length_field
 bare_frame limit bytes header ten s e =
     let l = header_length limit bytes header.version header.kind header.octets header.id ten (λ later. s.says later) in
     record { header = s.long; whole = sym l.0 ∙ e ∙ sym ten }
 
 -- where its message is whole it is a frame
-pub whole_frame : (stands : List Begun → Type 0) (limit id : ℕ) (old : Body) (r : Reader) (front more : List ℕ) → IsPassed limit id old front → r.octets ≡ old.reader.octets → IsComplete stands r (front ++ more) → IsFrame (front ++ more)
+pub whole_frame : (stands : List Begun → Type 0) (limit id : ℕ) (old : Body) (r : BodyReader) (front more : List ℕ) → IsPassed limit id old front → r.octets ≡ old.reader.octets → IsComplete stands r (front ++ more) → IsFrame (front ++ more)
 whole_frame stands limit id old r front more p e w =
     let all = whole_ends stands r (front ++ more) w in
     record { header = omega (arith, p.long, length-append front more); whole = length_field-append front more (omega (arith, p.long)) ∙ sym p.octets_are ∙ sym e ∙ sym all }
 
 -- the fault that is reported is that of each frame that begins so
-pub failed_skipped : (limit id count : ℕ) (body : Body) (front more : List ℕ) (fault : Fault) → IsPassed limit id body front → count ≡ length front + length more → TellsAll (front ++ more) body.reader.octets (frame_err.Bad fault) → IsSkipped limit count body.reader.octets id fault (front ++ more)
-unfolding header_fault
+pub failed_skipped : (limit id count : ℕ) (body : Body) (front more : List ℕ) (fault : Fault) → IsPassed limit id body front → count ≡ length front + length more → TellsAll body.reader.profile (front ++ more) body.reader.octets (frame_err.Bad fault) → IsSkipped body.reader.profile limit count body.reader.octets id fault (front ++ more)
+unfolding header_fault_in
 failed_skipped limit id count body front more fault p e tells =
     let both = length-append front more in
     let ten : 10 ≤ length (front ++ more) = omega (arith, p.long) in
@@ -98,26 +97,26 @@ failed_skipped limit id count body front more fault p e tells =
       id_is = p.id_is ∙ sym (id_field-append front more p.long);
       faulty = λ later is.
           let long : length ((front ++ more) ++ later) ≡ body.reader.octets = sym is.whole ∙ length_field-append (front ++ more) later (omega (arith, ten)) ∙ length_field-append front more (omega (arith, p.long)) ∙ sym p.octets_are in
-          fault_of_frame Own limit ((front ++ more) ++ later) fault.bit fault.reason (header_fault-append limit (front ++ more) later ten ∙ header_fault-append limit front more p.long ∙ p.passes) (tells later long);
+          fault_of_frame body.reader.profile limit ((front ++ more) ++ later) fault.bit fault.reason (header_fault-append _ limit (front ++ more) later ten ∙ header_fault-append _ limit front more p.long ∙ p.passes) (tells later long);
     }
 
 -- ---- a frame that is skipped
 
 -- it goes on past the piece
-pub skip_more : (limit count n : ℕ) (header : FaultyHeader) (front piece : List ℕ) (new : Frames) → 10 ≤ count → n ≡ length piece → n < header.octets - count → new.state ≡ state.Skipping (count + n) header → IsSkipped limit count header.octets header.id header.fault front → SkipsTo limit front piece new n None
-skip_more limit count n header front piece new ten e lt st s =
-    let more : IsSkipping limit (state.Skipping (count + n) header) (front ++ piece) = (skipped-append limit count header.octets header.id n header.fault front piece ten e s, omega arith, omega arith) in
-    (e, subst (λ (x : State). IsSkipping limit x (front ++ piece)) (sym st) more)
+pub skip_more : (p : Profile) (limit count n : ℕ) (header : FaultyHeader) (front piece : List ℕ) (new : Frames) → 10 ≤ count → n ≡ length piece → n < header.octets - count → new.state ≡ state.Skipping (count + n) header → IsSkipped p limit count header.octets header.id header.fault front → SkipsTo p limit front piece new n None
+skip_more p limit count n header front piece new ten e lt st s =
+    let more : IsSkipping p limit (state.Skipping (count + n) header) (front ++ piece) = (skipped-append _ limit count header.octets header.id n header.fault front piece ten e s, omega arith, omega arith) in
+    (e, subst (λ (x : State). IsSkipping p limit x (front ++ piece)) (sym st) more)
 
 -- or ends in it
-pub skip_end : (limit count left : ℕ) (header : FaultyHeader) (front piece : List ℕ) (new : Frames) → 10 ≤ count → count ≤ header.octets → left ≡ header.octets - count → left ≤ length piece → new.state ≡ state.Between → IsSkipped limit count header.octets header.id header.fault front
-    → SkipsTo limit front piece new left (Some (Bad header.id header.fault))
-skip_end limit count left header front piece new ten inside e le st s =
+pub skip_end : (p : Profile) (limit count left : ℕ) (header : FaultyHeader) (front piece : List ℕ) (new : Frames) → 10 ≤ count → count ≤ header.octets → left ≡ header.octets - count → left ≤ length piece → new.state ≡ state.Between → IsSkipped p limit count header.octets header.id header.fault front
+    → SkipsTo p limit front piece new left (Some (Bad header.id header.fault))
+skip_end p limit count left header front piece new ten inside e le st s =
     let is = frame_ends front piece header.octets left (omega (arith, s.count_is)) (omega arith) s.octets_are (omega (arith, s.count_is)) le in
     (le, is, (s.id_is ∙ sym (id_field-append front (take left piece) (omega (arith, s.count_is))), s.faulty (take left piece) is), st)
 
 module _ (begins stands : List Begun → Type 0) where
-  skipping_comes : (limit : ℕ) (s : State) (body : Body) (front : List ℕ) → body.raw.items ≡ [] → stands [] → IsSkipping limit s front → ComesAt begins stands limit s body front
+  skipping_comes : (limit : ℕ) (s : State) (body : Body) (front : List ℕ) → body.raw.items ≡ [] → stands [] → IsSkipping body.reader.profile limit s front → ComesAt begins stands limit s body front
   skipping_comes limit state.Between body front r st k = absurd k
   skipping_comes limit state.Header body front r st k = absurd k
   skipping_comes limit (state.Reading id) body front r st k = absurd k
@@ -146,7 +145,7 @@ header_comes begins stands limit new (x ∷ xs) lt part r st none some = state_c
 
 -- ---- how far a body is read
 
-pub reaches_settled : (s : Stage) (r : Reader) (front : List ℕ) (b : Begun) (outer : List Begun) → IsAtStage s r front b outer → (at : ℕ) × Reaches front r.octets (settled s b ∷ outer) at
+pub reaches_settled : (s : Stage) (r : BodyReader) (front : List ℕ) (b : Begun) (outer : List Begun) → IsAtStage s r front b outer → (at : ℕ) × Reaches r.profile front r.octets (settled s b ∷ outer) at
 reaches_settled (stage.Leading next) r front b outer i = (8 * r.at + r.bit, i.reaches)
 reaches_settled (stage.Tail left) r front b outer i = (8 * i.from, i.reaches)
 reaches_settled stage.Children r front b outer i = (8 * r.at, i.reaches)
@@ -157,7 +156,7 @@ pub record IsWithin (body : Body) (front : List ℕ) : Type 0 where
   pub fits : length front ≤ body.reader.octets
   pub small : body.reader.octets ≤ MAX_LIMIT
 
-pub within : (begins stands : List Begun → Type 0) (body : Body) (front : List ℕ) → Stands begins stands body front → IsWithin body front
+pub within : (begins stands : List Begun → Type 0) (body : Body) (front : List ℕ) → BodyStands begins stands body front → IsWithin body front
 within begins stands body front st =
     let back = ap (λ (x : List ℕ). length x) st.raw in
     let reach = reaches_settled body.reader.stage body.reader front st.are.node st.are.outer st.are.reads.stage in
@@ -176,7 +175,7 @@ octets-take (suc k) (b ∷ bytes) os = (os.0, octets-take k bytes os.1)
 
 module _ (begins stands : List Begun → Type 0) (ends : MessageTree → List ℕ → Type 0) (rests : List ℕ → Type 0) (limit : ℕ) where
   -- what is skipped, where the listener has what it had
-  pub skip_takes : (front piece : List ℕ) (new : Frames) (used : ℕ) (outcome : Option Outcome) → new.body.raw.items ≡ [] → stands [] → SkipsTo limit front piece new used outcome → TakesOn begins stands ends rests limit front piece new used outcome
+  pub skip_takes : (front piece : List ℕ) (new : Frames) (used : ℕ) (outcome : Option Outcome) → new.body.raw.items ≡ [] → stands [] → SkipsTo new.body.reader.profile limit front piece new used outcome → TakesOn begins stands ends rests limit front piece new used outcome
   skip_takes front piece new used None r st s = (s.0, skipping_comes begins stands limit new.state new.body (front ++ piece) r st s.1)
   skip_takes front piece new used (Some Whole) r st s = absurd s.2
   skip_takes front piece new used (Some (Bad id fault)) r st s = (s.0, s.1, (s.2.0, s.2.1, st), (s.3, r))
@@ -192,39 +191,39 @@ module _ (begins stands : List Begun → Type 0) (ends : MessageTree → List �
       let sum : n + used ≡ used + n = omega arith in
       let whole : mid ++ take used rest ≡ front ++ take (used + n) piece =
       ap (λ (x : List ℕ). x ++ take used rest) em ∙ ap (λ (x : List ℕ). (front ++ take n piece) ++ take used x) er ∙ append_assoc front (take n piece) (take used (drop n piece)) ∙ ap (λ (x : List ℕ). front ++ x) (sym (take-add n used piece) ∙ ap (λ (k : ℕ). take k piece) sum) in
-      (let long = ap (λ (x : List ℕ). length x) er in omega (arith, t.0, length-drop n piece), subst (λ (x : List ℕ). IsFrame x) whole t.1, subst (λ (x : List ℕ). Gives stands ends rests limit x outcome) whole t.2, t.3)
+      (let long = ap (λ (x : List ℕ). length x) er in omega (arith, t.0, length-drop n piece), subst (λ (x : List ℕ). IsFrame x) whole t.1, subst (λ (x : List ℕ). GivesIn new.body.reader.profile stands ends rests limit x outcome) whole t.2, t.3)
 
   -- ---- in the body
 
   -- the frame goes on past the piece
   pub goes_on_reading : (id used : ℕ) (old : Body) (new : Frames) (front piece near : List ℕ) → IsPassed limit id old front → AreOctets piece → used ≡ min (length piece) (old.reader.octets - length front) → near ≡ take used piece → new.state ≡ state.Reading id
-      → Awaits begins stands new.body (front ++ near) → new.body.reader.octets ≡ old.reader.octets → TakesOn begins stands ends rests limit front piece new used None
-  goes_on_reading id used old new front piece near p os e en st a same =
+      → Awaits begins stands new.body (front ++ near) → new.body.reader.octets ≡ old.reader.octets → new.body.reader.profile ≡ old.reader.profile → TakesOn begins stands ends rests limit front piece new used None
+  goes_on_reading id used old new front piece near p os e en st a same set =
       let le : used ≤ length piece = omega (arith, e) in
       let long : length near ≡ used = ap (λ (x : List ℕ). length x) en ∙ length-take-le used piece le in
       let both = length-append front near in
       let more : length (front ++ near) < new.body.reader.octets = a.short.more in
       let all : used ≡ length piece = omega (arith, e) in
       let whole : front ++ near ≡ front ++ piece = ap (λ (x : List ℕ). front ++ x) (en ∙ take_all used piece (omega arith)) in
-      let r : IsReading begins stands limit id new.body (front ++ piece) = record { passed = passed_more limit id old new.body front piece same os p; awaits = subst (λ (x : List ℕ). Awaits begins stands new.body x) whole a } in
+      let r : IsReading begins stands limit id new.body (front ++ piece) = record { passed = passed_more limit id old new.body front piece same set os p; awaits = subst (λ (x : List ℕ). Awaits begins stands new.body x) whole a } in
       (all, state_comes begins stands limit (state.Reading id) new.state new.body (front ++ piece) (sym st) r)
 
   -- its message ends
   pub goes_on_end : (used : ℕ) (new : Frames) (front piece near : List ℕ) (result : Result Came FeedErr) → IsFrame (front ++ near) → near ≡ take used piece → used ≤ length piece
-      → IfOk result (λ came. came ≡ record { used = used; outcome = Some Whole }) → IfOk result (λ _. IsIdle new) → IfErr result (λ error. error ≡ failure.Memory) → OnOk result (Gives stands ends rests limit (front ++ near) Whole) → GoesOn begins stands ends rests limit front piece new result
+      → IfOk result (λ came. came ≡ record { used = used; outcome = Some Whole }) → IfOk result (λ _. IsIdle new) → IfErr result (λ error. error ≡ failure.Memory) → OnOk result (GivesIn new.body.reader.profile stands ends rests limit (front ++ near) Whole) → GoesOn begins stands ends rests limit front piece new result
   goes_on_end used new front piece near (Ok came) is en le e idle bad g =
-      let t : TakesOn begins stands ends rests limit front piece new used (Some Whole) = (le, subst (λ (x : List ℕ). IsFrame (front ++ x)) en is, subst (λ (x : List ℕ). Gives stands ends rests limit (front ++ x) Whole) en g, idle) in
+      let t : TakesOn begins stands ends rests limit front piece new used (Some Whole) = (le, subst (λ (x : List ℕ). IsFrame (front ++ x)) en is, subst (λ (x : List ℕ). GivesIn new.body.reader.profile stands ends rests limit (front ++ x) Whole) en g, idle) in
       subst (λ (x : Came). TakesOn begins stands ends rests limit front piece new x.used x.outcome) (sym e) t
   goes_on_end used new front piece near (Err error) is en le e idle bad g = subst (λ (x : FeedErr). GoesOn begins stands ends rests limit front piece new (Err x)) (sym bad) tt
 
   -- a part of it fails
-  pub goes_on_failed : (id count n : ℕ) (body : Body) (new : Frames) (front piece near rest : List ℕ) (fault : Fault) (came : Came) → IsPassed limit id body front → count ≡ length front + n → TellsAll (front ++ near) body.reader.octets (frame_err.Bad fault) → new.body.raw.items ≡ [] → stands []
-      → n ≤ length piece → near ≡ take n piece → rest ≡ drop n piece → ((start : List ℕ) → IsSkipped limit count body.reader.octets id fault start → SkipsTo limit start rest new came.used came.outcome)
+  pub goes_on_failed : (id count n : ℕ) (body : Body) (new : Frames) (front piece near rest : List ℕ) (fault : Fault) (came : Came) → IsPassed limit id body front → count ≡ length front + n → TellsAll body.reader.profile (front ++ near) body.reader.octets (frame_err.Bad fault) → new.body.raw.items ≡ [] → stands []
+      → n ≤ length piece → near ≡ take n piece → rest ≡ drop n piece → new.body.reader.profile ≡ body.reader.profile → ((start : List ℕ) → IsSkipped body.reader.profile limit count body.reader.octets id fault start → SkipsTo body.reader.profile limit start rest new came.used came.outcome)
       → TakesOn begins stands ends rests limit front piece new (came.used + n) came.outcome
-  goes_on_failed id count n body new front piece near rest fault came p e tells r st le en er f =
+  goes_on_failed id count n body new front piece near rest fault came p e tells r st le en er set f =
       let long : length near ≡ n = ap (λ (x : List ℕ). length x) en ∙ length-take-le n piece le in
       let s = f (front ++ near) (failed_skipped limit id count body front near fault p (omega (arith, e)) tells) in
-      takes_behind front piece (front ++ near) rest new came.used n came.outcome le (ap (λ (x : List ℕ). front ++ x) en) er (skip_takes (front ++ near) rest new came.used came.outcome r st s)
+      takes_behind front piece (front ++ near) rest new came.used n came.outcome le (ap (λ (x : List ℕ). front ++ x) en) er (skip_takes (front ++ near) rest new came.used came.outcome r st (subst (λ (q : Profile). SkipsTo q limit (front ++ near) rest new came.used came.outcome) (sym set) s))
 
   -- the answer of a feed in the body, where some octets were taken before
   pub begins_behind : (front piece mid rest : List ℕ) (new : Frames) (n : ℕ) (came : Came) → n ≤ length piece → mid ≡ front ++ take n piece → rest ≡ drop n piece → GoesOn begins stands ends rests limit mid rest new (Ok came)
@@ -249,10 +248,10 @@ module _ (begins stands : List Begun → Type 0) (ends : MessageTree → List �
       (all, subst (λ (x : List ℕ). ComesAt begins stands limit new.state new.body x) whole (header_comes begins stands limit new mid lt part r st none some))
 
   -- a check of it fails
-  pub begins_faulty : (n : ℕ) (new : Frames) (front piece mid rest : List ℕ) (header : FaultyHeader) (came : Came) → n ≤ length piece → mid ≡ front ++ take n piece → rest ≡ drop n piece → length mid ≡ 10 → IsFaulty limit mid header → new.body.raw.items ≡ [] → stands []
-      → ((most : ℕ) (start : List ℕ) → IsSkipped most 10 header.octets header.id header.fault start → SkipsTo most start rest new came.used came.outcome) → TakesOn begins stands ends rests limit front piece new (came.used + n) came.outcome
-  begins_faulty n new front piece mid rest header came le em er ten f r st s =
-      takes_behind front piece mid rest new came.used n came.outcome le em er (skip_takes mid rest new came.used came.outcome r st (s limit mid (faulty_is_skipped limit header mid 10 (sym ten) f)))
+  pub begins_faulty : (p : Profile) (n : ℕ) (new : Frames) (front piece mid rest : List ℕ) (header : FaultyHeader) (came : Came) → n ≤ length piece → mid ≡ front ++ take n piece → rest ≡ drop n piece → length mid ≡ 10 → IsFaulty p limit mid header → new.body.reader.profile ≡ p → new.body.raw.items ≡ [] → stands []
+      → ((q : Profile) (most : ℕ) (start : List ℕ) → IsSkipped q most 10 header.octets header.id header.fault start → SkipsTo q most start rest new came.used came.outcome) → TakesOn begins stands ends rests limit front piece new (came.used + n) came.outcome
+  begins_faulty p n new front piece mid rest header came le em er ten f set r st s =
+      takes_behind front piece mid rest new came.used n came.outcome le em er (skip_takes mid rest new came.used came.outcome r st (subst (λ (q : Profile). SkipsTo q limit mid rest new came.used came.outcome) (sym set) (s p limit mid (faulty_is_skipped limit header mid 10 (sym ten) f))))
 
   -- ---- a frame that ends in a piece has octets of the piece
 

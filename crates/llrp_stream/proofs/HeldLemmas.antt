@@ -1,4 +1,5 @@
 -- The nodes that are begun weigh no more than the octets that are read.
+use Rattle.llrp_schema.specs.declared.kinds.Profile.{Profile}
 use Rattle.std.proofs.Common.{◌≡◌, ℕ, ◌+◌, ◌*◌, ◌≤◌, ◌<◌, Bool, true, List, [], ◌∷◌, ◌++◌, length, drop, Option, Some, None, refl, ap, ◌∙◌, arith, length-append}
 use Rattle.std.specs.Prelude.{unwrap_or}
 use Rattle.std.proofs.lemmas.List.{length-take-le}
@@ -10,19 +11,21 @@ use Rattle.llrp_schema.specs.declared.kinds.Kind.TheVariants.{Parameter}
 use Rattle.llrp_schema.specs.Schema.{fields_of, tail_of, is_tv}
 use Rattle.llrp_tree.specs.Tree.{Forest}
 use Rattle.llrp_tree.specs.Lawful.{head_octets}
-use Rattle.llrp_tree.specs.Spelling.{Head, message, tlv, tv, head_digits, field_digits, tail_digits, spell}
-use Rattle.llrp_tree.specs.OpenTree.{Begun, kind_of, leading_digits, part, covers, Rest, due, tail_due, plain_values, AreLeading, IsHead, IsOpenNode, IsOpenTree}
-use Rattle.llrp_tree.specs.Calls.Standing.{begun, leading}
+use Rattle.llrp_tree.specs.Spelling.{Head, message, tlv, tv, head_digits, field_digits, tail_digits, forest_digits}
+use Rattle.llrp_tree.specs.OpenTree.{Begun, kind_of_head, leading_digits, part, covers, Rest, due, tail_due, plain_values, AreLeading, IsHead, IsOpenNode, IsOpenTree}
+use Rattle.llrp_tree.specs.Calls.Standing.{begin_node, leading}
 use Rattle.llrp_tree.specs.Weight.{weight}
 use Rattle.llrp_tree.specs.Private.Weight.{open_weight}
 use Rattle.llrp_tree.proofs.LengthLemmas.{length-message_head, length-tlv, length-tv, length-tail_digits, length-body_digits, length-spell}
 use Rattle.llrp_tree.proofs.WeightLemmas.{own_octets, weight_within}
 use Rattle.llrp_tree.proofs.WholeNodes.{closed_digits, no_field_due}
-use Rattle.llrp_stream.specs.declared.reading.reader.Reader.{Reader}
-use Rattle.llrp_stream.specs.declared.reading.reader.Stage.{Stage}
-use Rattle.llrp_stream.specs.declared.reading.reader.Stage.TheVariants as stage
+use Rattle.llrp_stream.specs.declared.engine.body_reader.BodyReader.{BodyReader}
+use Rattle.llrp_stream.specs.declared.engine.body_reader.Stage.{Stage}
+use Rattle.llrp_stream.specs.declared.engine.body_reader.Stage.TheVariants as stage
 use Rattle.llrp_stream.specs.Calls.Front.{Reaches}
-use Rattle.llrp_stream.specs.Calls.Reading.{Reads, IsAtStage}
+use Rattle.llrp_stream.specs.Calls.Reading.{HasReadTo, IsAtStage}
+use Rattle.llrp_tree.proofs.Totality.{parent_ready}
+use Rattle.llrp_tree.proofs.Undecided.{part_of as message_bits}
 
 -- ---- one begun node
 
@@ -35,12 +38,12 @@ tail_bits kind fields (Some os) = omega (arith, length-append (field_digits (fie
 own_bits : (b : Begun) → length (head_digits b.head) + 8 * (length (unwrap_or b.tail []) + weight b.children) ≤ length (part b)
 unfolding part
 own_bits b =
-    let lead : List Bool = leading_digits (kind_of b.head) b.fields b.tail in
+    let lead : List Bool = leading_digits (kind_of_head b.head) b.fields b.tail in
     omega (
       arith,
-      length-append (head_digits b.head) (lead ++ spell b.children),
-      length-append lead (spell b.children),
-      tail_bits (kind_of b.head) b.fields b.tail,
+      length-append (head_digits b.head) (lead ++ forest_digits b.children),
+      length-append lead (forest_digits b.children),
+      tail_bits (kind_of_head b.head) b.fields b.tail,
       length-spell b.children,
       weight_within b.children,
     )
@@ -61,34 +64,24 @@ value_bits k fields tail e l d t =
 
 -- ---- the nodes around the innermost one
 
-parent_ready : (h : Head) (stop : ℕ) (p : Begun) (outer : List Begun) → IsHead h stop (p ∷ outer) → due p ≡ Rest
-parent_ready (message v k n id) stop p outer f = absurd f
-parent_ready (tlv k n) stop p outer f = f.may_begin.ready
-parent_ready (tv k) stop p outer f = f.may_begin.ready
-
 -- a parameter of which all but the children is read covers no less than it weighs
-ready_bits : (h : Head) (stop : ℕ) (fields : List ℕ) (tail : Option (List ℕ)) (children : Forest) (q : Begun) (outer : List Begun) → IsOpenNode (begun h stop fields tail children) (q ∷ outer) → due (begun h stop fields tail children) ≡ Rest
-    → 8 * (2 + length (unwrap_or tail []) + weight children) ≤ length (part (begun h stop fields tail children))
+ready_bits : (h : Head) (stop : ℕ) (fields : List ℕ) (tail : Option (List ℕ)) (children : Forest) (q : Begun) (outer : List Begun) → IsOpenNode (begin_node h stop fields tail children) (q ∷ outer) → due (begin_node h stop fields tail children) ≡ Rest
+    → 8 * (2 + length (unwrap_or tail []) + weight children) ≤ length (part (begin_node h stop fields tail children))
 unfolding part due
 ready_bits (message v k n id) stop fields tail children q outer o d = absurd o.head
-ready_bits (tlv k n) stop fields tail children q outer o d = omega (arith, own_bits (begun (tlv k n) stop fields tail children), length-tlv k n)
+ready_bits (tlv k n) stop fields tail children q outer o d = omega (arith, own_bits (begin_node (tlv k n) stop fields tail children), length-tlv k n)
 ready_bits (tv k) stop fields tail children q outer o d =
     let r = no_field_due (drop (length fields) (fields_of (Parameter k))) (tail_due (tail_of (Parameter k)) tail) d in
     let lead : List Bool = leading_digits (Parameter k) fields tail in
     omega (
       arith,
-      length-append (head_digits (tv k)) (lead ++ spell children),
-      length-append lead (spell children),
+      length-append (head_digits (tv k)) (lead ++ forest_digits children),
+      length-append lead (forest_digits children),
       length-tv k,
       value_bits k fields tail o.head.kind_is_tv o.fields r.0 r.1,
       length-spell children,
       weight_within children,
     )
-
-message_bits : (h : Head) (stop : ℕ) → IsHead h stop [] → length (head_digits h) ≡ 80
-message_bits (message v k n id) stop o = length-message_head v k n id
-message_bits (tlv k n) stop o = absurd o
-message_bits (tv k) stop o = absurd o
 
 -- an octet is to spare
 spare : (p : Begun) (outer : List Begun) → IsOpenTree (p ∷ outer) → due p ≡ Rest → 8 * open_weight (p ∷ outer) + 8 ≤ length (covers (p ∷ outer))
@@ -108,12 +101,12 @@ tree_within b (p ∷ outer) o =
     let rest = spare p outer o.1 (parent_ready b.head b.stop p outer o.0.head) in
     omega (arith, rest, own_bits b, some_head b.head, length-append (covers (p ∷ outer)) (part b))
 
-reached : (front : List ℕ) (n : ℕ) (b : Begun) (outer : List Begun) (at : ℕ) → Reaches front n (b ∷ outer) at → 8 * open_weight (b ∷ outer) ≤ at
+reached : {p : Profile} (front : List ℕ) (n : ℕ) (b : Begun) (outer : List Begun) (at : ℕ) → Reaches p front n (b ∷ outer) at → 8 * open_weight (b ∷ outer) ≤ at
 reached front n b outer at r =
     let long : length (covers (b ∷ outer)) ≡ at = ap (λ (x : List Bool). length x) r.covered ∙ length-take-le at (digits_of_bytes front) (omega (arith, length-bytes front, r.within)) in
     omega (arith, long, tree_within b outer r.is_open)
 
-at_stage : (s : Stage) (r : Reader) (front : List ℕ) (b : Begun) (outer : List Begun) → IsAtStage s r front b outer → r.bit < 8 → open_weight (b ∷ outer) ≤ r.at
+at_stage : (s : Stage) (r : BodyReader) (front : List ℕ) (b : Begun) (outer : List Begun) → IsAtStage s r front b outer → r.bit < 8 → open_weight (b ∷ outer) ≤ r.at
 at_stage (stage.Leading next) r front b outer st small = omega (arith, reached front r.octets b outer (8 * r.at + r.bit) st.reaches)
 at_stage (stage.Tail left) r front b outer st small =
     let tail = ap (λ (x : Begun). length (unwrap_or x.tail [])) st.is in
@@ -122,5 +115,5 @@ at_stage (stage.Tail left) r front b outer st small =
 at_stage stage.Children r front b outer st small = omega (arith, reached front r.octets b outer (8 * r.at) st.reaches)
 
 -- in every stage, the octets of a begun tail among it
-pub held_within : (r : Reader) (front : List ℕ) (b : Begun) (outer : List Begun) → Reads r front b outer → open_weight (b ∷ outer) ≤ r.at
+pub held_within : (r : BodyReader) (front : List ℕ) (b : Begun) (outer : List Begun) → HasReadTo r front b outer → open_weight (b ∷ outer) ≤ r.at
 held_within r front b outer rd = at_stage r.stage r front b outer rd.stage rd.bit_small

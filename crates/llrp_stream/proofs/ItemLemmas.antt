@@ -5,56 +5,52 @@ use Rattle.std.proofs.lemmas.List.{take-append-drop, length-take-le, length-drop
 use Rattle.llrp_tree.specs.declared.TheConstants.{MAX_LIMIT}
 use Rattle.llrp_tree.specs.Lawful.{AreOctets}
 use Rattle.llrp_tree.specs.FrameLaws.{IsWhole}
-use Rattle.llrp_schema.specs.declared.kinds.Profile.TheVariants.{Own}
+use Rattle.llrp_schema.specs.declared.kinds.Profile.{Profile}
 use Rattle.llrp_tree.proofs.Totality.{either}
 use Rattle.llrp_stream.specs.declared.item.Item.{Item}
 use Rattle.llrp_stream.specs.declared.item.Item.TheVariants.{Msg, Bad}
 use Rattle.llrp_stream.specs.declared.item.End.{End}
 use Rattle.llrp_stream.specs.declared.item.End.TheVariants.{Clean, Rest, Broken}
-use Rattle.llrp_stream.specs.Cuts.{length_field, IsFrame, Ends, joined}
-use Rattle.llrp_stream.specs.Items.{id_field, IsItemOf, Items}
-use Rattle.llrp_stream.specs.Calls.StreamLaws.{HasOneItem}
-use Rattle.llrp_stream.specs.StreamLaws.{HasOneListing}
+use Rattle.llrp_stream.specs.Cuts.{length_field, IsFrame, EndsStream, joined}
+use Rattle.llrp_stream.specs.Items.{id_field, IsItemIn, ItemsIn}
+use Rattle.llrp_stream.specs.Calls.StreamLaws.{HasOneItemIn}
+use Rattle.llrp_stream.specs.StreamLaws.{HasOneListingIn}
 use Rattle.llrp_stream.proofs.FrontLemmas.{length_field-append}
 use Rattle.llrp_stream.proofs.HeaderLemmas.{octets-drop}
 use Rattle.llrp_stream.proofs.Unique.{same_item, same_items}
+use Rattle.llrp_stream.proofs.FramesLemmas.{octets-take}
 
 pub below_or_not : (a b : ℕ) → (a < b) ⊎ (b ≤ a)
 below_or_not a b =
     (elim (leb b a) as (λ t. leb b a ≡ t → (a < b) ⊎ (b ≤ a)) [ true ↦ λ e. inr (leb-true b a e) | false ↦ λ e. inl (leb-false b a e) ]) refl
 
-octets-take : (k : ℕ) (bytes : List ℕ) → AreOctets bytes → AreOctets (take k bytes)
-octets-take zero bytes os = tt
-octets-take (suc k) [] os = tt
-octets-take (suc k) (b ∷ bytes) os = (os.0, octets-take k bytes os.1)
-
-item_of : (limit : ℕ) (frame : List ℕ) → limit ≤ MAX_LIMIT → AreOctets frame → IsFrame frame → (item : Item) × IsItemOf limit frame item
+item_of : (p : Profile) (limit : ℕ) (frame : List ℕ) → limit ≤ MAX_LIMIT → AreOctets frame → IsFrame frame → (item : Item) × IsItemIn p limit frame item
 unfolding length_field
-item_of limit frame le octets is =
+item_of p limit frame le octets is =
     let whole : IsWhole frame = record { octets = octets; header = is.header; own_length = is.whole } in
-    elim (either Own limit le frame whole) [
+    elim (either p limit le frame whole) [
       | inl lawful ↦ (Msg lawful.0, record { frame = lawful.1; own = lawful.2 })
       | inr faulty ↦ (Bad (id_field frame) (record { bit = faulty.0; reason = faulty.1 }), (refl, faulty.2))
     ]
 
-pub has_one_item : (limit : ℕ) (frame : List ℕ) → limit ≤ MAX_LIMIT → AreOctets frame → IsFrame frame → HasOneItem limit frame
-has_one_item limit frame le octets is =
-    let found = item_of limit frame le octets is in
-    record { item = found.0; is = found.1; only = λ other p. same_item limit frame other found.0 p found.1 }
+pub has_one_item : (p : Profile) (limit : ℕ) (frame : List ℕ) → limit ≤ MAX_LIMIT → AreOctets frame → IsFrame frame → HasOneItemIn p limit frame
+has_one_item p limit frame le octets is =
+    let found = item_of p limit frame le octets is in
+    record { item = found.0; is = found.1; only = λ other q. same_item p limit frame other found.0 q found.1 }
 
 -- the items and the end of a stream
-record Told (limit : ℕ) (stream : List ℕ) : Type 0 where
+record Told (p : Profile) (limit : ℕ) (stream : List ℕ) : Type 0 where
   items : List Item
   end : End
-  are : Items limit stream items end
+  are : ItemsIn p limit stream items end
 
-ended : (limit : ℕ) (stream : List ℕ) (end : End) → Ends stream end → Told limit stream
+ended : {p : Profile} (limit : ℕ) (stream : List ℕ) (end : End) → EndsStream stream end → Told p limit stream
 ended limit stream end ends = record { items = []; end = end; are = record { frames = []; cut = record { tail = stream; whole = refl; each = tt; ends = ends }; each = tt } }
 
 -- a frame before a stream whose items are known
-begun : (limit : ℕ) (frame rest stream : List ℕ) → limit ≤ MAX_LIMIT → AreOctets frame → IsFrame frame → stream ≡ frame ++ rest → Told limit rest → Told limit stream
-begun limit frame rest stream le octets is parts told =
-    let found = item_of limit frame le octets is in
+begun : (p : Profile) (limit : ℕ) (frame rest stream : List ℕ) → limit ≤ MAX_LIMIT → AreOctets frame → IsFrame frame → stream ≡ frame ++ rest → Told p limit rest → Told p limit stream
+begun p limit frame rest stream le octets is parts told =
+    let found = item_of p limit frame le octets is in
     record {
       items = found.0 ∷ told.items;
       end = told.end;
@@ -77,7 +73,7 @@ is_frame n bytes ten le is =
     record { header = omega arith; whole = same ∙ sym is ∙ sym long }
 
 -- what is at the front of a stream: a frame of this many octets, or its end
-front : (stream : List ℕ) → ((n : ℕ) × (10 ≤ n) × (n ≤ length stream) × (n ≡ length_field stream)) ⊎ ((end : End) × Ends stream end)
+front : (stream : List ℕ) → ((n : ℕ) × (10 ≤ n) × (n ≤ length stream) × (n ≡ length_field stream)) ⊎ ((end : End) × EndsStream stream end)
 front [] = inr (Clean, refl)
 front (b ∷ bytes) =
     let stream = b ∷ bytes in
@@ -92,22 +88,22 @@ front (b ∷ bytes) =
       ]
     ]
 
-told : (size limit : ℕ) (stream : List ℕ) → limit ≤ MAX_LIMIT → length stream ≤ size → AreOctets stream → Told limit stream
-told zero limit [] most le octets = ended limit [] Clean refl
-told zero limit (b ∷ bytes) most le octets = absurd (omega arith)
-told (suc size) limit stream most le octets =
+told : (p : Profile) (size limit : ℕ) (stream : List ℕ) → limit ≤ MAX_LIMIT → length stream ≤ size → AreOctets stream → Told p limit stream
+told p zero limit [] most le octets = ended limit [] Clean refl
+told p zero limit (b ∷ bytes) most le octets = absurd (omega arith)
+told p (suc size) limit stream most le octets =
     elim (front stream) [
       | inr last ↦ ended limit stream last.0 last.1
       | inl found ↦
           let n = found.0 in
           let ten = found.1 in
           let shorter : length (drop n stream) ≤ size = omega (arith, length-drop n stream) in
-          begun limit (take n stream) (drop n stream) stream most (octets-take n stream octets) (is_frame n stream found.1 found.2 found.3) (sym (take-append-drop n stream)) (told size limit (drop n stream) most shorter (octets-drop n stream octets))
+          begun p limit (take n stream) (drop n stream) stream most (octets-take n stream octets) (is_frame n stream found.1 found.2 found.3) (sym (take-append-drop n stream)) (told p size limit (drop n stream) most shorter (octets-drop n stream octets))
     ]
 
-pub has_one_listing : (limit : ℕ) (stream : List ℕ) → limit ≤ MAX_LIMIT → AreOctets stream → HasOneListing limit stream
+pub has_one_listing : {p : Profile} (limit : ℕ) (stream : List ℕ) → limit ≤ MAX_LIMIT → AreOctets stream → HasOneListingIn p limit stream
 has_one_listing limit stream most octets =
-    let all = told (length stream) limit stream most (omega arith) octets in
+    let all = told _ (length stream) limit stream most (omega arith) octets in
     record {
       items = all.items;
       end = all.end;

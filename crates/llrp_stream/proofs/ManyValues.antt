@@ -10,15 +10,15 @@ use Rattle.llrp_tree.specs.declared.fault.FrameErr.{FrameErr}
 use Rattle.llrp_tree.specs.declared.fault.FrameErr.TheVariants.{Memory}
 use Rattle.llrp_tree.specs.OpenTree.{Begun}
 use Rattle.llrp_tree.specs.Private.Standing.{is_tv_kind}
-use Rattle.llrp_stream.specs.declared.reading.reader.Reader.{Reader}
+use Rattle.llrp_stream.specs.declared.engine.body_reader.BodyReader.{BodyReader}
 use Rattle.llrp_stream.specs.Calls.Reading.{Are}
-use Rattle.llrp_stream.specs.Private.Reading.{AwaitsValues, KeepsNode, Moves, Takes, TakenSoFar, TakesValues, rank, work}
+use Rattle.llrp_stream.specs.Private.Reading.{AwaitsValues, KeepsNode, Moves, TakesOneValue, TakenSoFar, TakesValues, rank, work}
 use Rattle.llrp_stream.proofs.MoreOctets.{behind_on}
 use Rattle.llrp_stream.proofs.SeenLemmas.{seen_are}
 use Rattle.llrp_stream.proofs.ChildPart.{resting}
 use Rattle.arrayvec.specs.ArrayVec.{ArrayVec}
-use Rattle.llrp_stream.specs.declared.reading.level.Level.{Level}
-use Rattle.llrp_stream.specs.declared.reading.reader.Stage.TheVariants.{Children}
+use Rattle.llrp_stream.specs.declared.engine.stack.StackNode.{StackNode}
+use Rattle.llrp_stream.specs.declared.engine.body_reader.Stage.TheVariants.{Children}
 
 report_long : is_tv_kind (Parameter TagReportData) ≡ false
 unfolding is_tv number_of rule_of param_rule
@@ -35,31 +35,31 @@ own_report k e = ap profile_of e ∙ report_own
 pub long_report : (k : Kind) → k ≡ Parameter TagReportData → is_tv_kind k ≡ false
 long_report k e = ap is_tv_kind e ∙ report_long
 
-pub kept : (r : Reader) → KeepsNode r r
+pub kept : (r : BodyReader) → KeepsNode r r
 kept r = record { stage = refl; kind = refl; stop = refl; outer = refl }
 
-pub kept_on : (a b c : Reader) → KeepsNode a b → KeepsNode b c → KeepsNode a c
+pub kept_on : (a b c : BodyReader) → KeepsNode a b → KeepsNode b c → KeepsNode a c
 kept_on a b c x y = record { stage = y.stage ∙ x.stage; kind = y.kind ∙ x.kind; stop = y.stop ∙ x.stop; outer = y.outer ∙ x.outer }
 
 module _ (begins0 stands0 begins stands : List ℕ → List Begun → Type 0) where
   -- one was taken, or memory ran out
-  pub one_taken : (old new : Reader) (octets : List ℕ) (left n : ℕ) (result : Result ℕ FrameErr) → n ≤ left → KeepsNode old new
-      → OnOk result ((was front : List ℕ) → Are (begins0 was) (stands0 was) old front → drop old.at front ≡ octets → Takes (begins was) (stands was) old new front octets n)
+  pub one_taken : (old new : BodyReader) (octets : List ℕ) (left n : ℕ) (result : Result ℕ FrameErr) → n ≤ left → KeepsNode old new
+      → OnOk result ((was front : List ℕ) → Are (begins0 was) (stands0 was) old front → drop old.at front ≡ octets → TakesOneValue (begins was) (stands was) old new front octets n)
       → IfOk result (λ used. used ≡ n) → IfErr result (λ error. error ≡ Memory) → IfOk result (λ used. new.at ≡ old.at + used)
       → TakesValues begins0 stands0 begins stands old new octets left result
   one_taken old new octets left n (Ok used) fits k t e m p = record {
     keeps = k;
     used = (omega (arith, fits, e), p);
-    takes = λ was front a d. subst (λ (x : ℕ). Takes (begins was) (stands was) old new front octets x) (sym e) (t was front a d);
+    takes = λ was front a d. subst (λ (x : ℕ). TakesOneValue (begins was) (stands was) old new front octets x) (sym e) (t was front a d);
   }
   one_taken old new octets left n (Err error) fits k t e m p = record { keeps = k; used = tt; takes = λ was front a d. m }
 
 -- none was taken
-pub none_taken : (begins stands : List ℕ → List Begun → Type 0) (r : Reader) (octets : List ℕ) (left : ℕ) → TakesValues begins stands begins stands r r octets left (Ok 0)
+pub none_taken : (begins stands : List ℕ → List Begun → Type 0) (r : BodyReader) (octets : List ℕ) (left : ℕ) → TakesValues begins stands begins stands r r octets left (Ok 0)
 none_taken begins stands r octets left = record {
   keeps = kept r;
   used = (omega arith, omega arith);
-  takes = λ was front a d. record { within = omega arith; are = a; place = omega arith; same = refl };
+  takes = λ was front a d. record { within = omega arith; are = a; place = omega arith; same = refl; profile = refl };
 }
 
 pub some_taken : (result : Result ℕ FrameErr) (n : ℕ) → IfOk result (λ used. used ≡ 1 + n) → result ≡ Ok 0 → ⊥
@@ -70,7 +70,7 @@ some_taken (Err error) n e f = absurd cc
 -- ---- one after another
 
 -- what is left, after some were taken
-pub awaits_on : (begins stands : List Begun → Type 0) (old r : Reader) (front octets rest : List ℕ) (near left : ℕ) → AwaitsValues old octets near → KeepsNode old r → left ≤ length rest → r.at + left ≡ old.at + near
+pub awaits_on : (begins stands : List Begun → Type 0) (old r : BodyReader) (front octets rest : List ℕ) (near left : ℕ) → AwaitsValues old octets near → KeepsNode old r → left ≤ length rest → r.at + left ≡ old.at + near
     → Are begins stands r front → AwaitsValues r rest left
 awaits_on begins stands old r front octets rest near left a k within at are = record {
   stage = k.stage ∙ a.stage;
@@ -83,59 +83,61 @@ awaits_on begins stands old r front octets rest near left a k within at are = re
 }
 
 -- one more was taken
-pub one_more : (begins stands b2 s2 : List Begun → Type 0) (old mid new : Reader) (front octets rest back : List ℕ) (used : ℕ) → length rest ≤ length octets → TakenSoFar b2 s2 old mid front octets rest → Takes begins stands mid new front rest used → back ≡ drop used rest → TakenSoFar begins stands old new front octets back
+pub one_more : (begins stands b2 s2 : List Begun → Type 0) (old mid new : BodyReader) (front octets rest back : List ℕ) (used : ℕ) → length rest ≤ length octets → TakenSoFar b2 s2 old mid front octets rest → TakesOneValue begins stands mid new front rest used → back ≡ drop used rest → TakenSoFar begins stands old new front octets back
 one_more begins stands b2 s2 old mid new front octets rest back used le s t e =
     let l = length-drop used rest in
     let m = ap (λ (x : List ℕ). length x) e in
     record {
-      takes = record { within = omega arith; are = t.are; place = omega (arith, l, m, t.place, t.within, s.takes.place, le); same = t.same ∙ s.takes.same };
+      takes = record { within = omega arith; are = t.are; place = omega (arith, l, m, t.place, t.within, s.takes.place, le); same = t.same ∙ s.takes.same; profile = t.profile ∙ s.takes.profile };
       behind = behind_on front rest mid.at used new.at s.behind t.place ∙ sym e;
     }
 
 -- how many octets were taken in all
-pub taken_in_all : (begins stands : List Begun → Type 0) (old new : Reader) (front octets rest : List ℕ) (near left : ℕ) → length rest + near ≡ length octets + left → left ≤ near → TakenSoFar begins stands old new front octets rest → Takes begins stands old new front octets (near - left)
+pub taken_in_all : (begins stands : List Begun → Type 0) (old new : BodyReader) (front octets rest : List ℕ) (near left : ℕ) → length rest + near ≡ length octets + left → left ≤ near → TakenSoFar begins stands old new front octets rest → TakesOneValue begins stands old new front octets (near - left)
 taken_in_all begins stands old new front octets rest near left e le t =
     let same : length octets - length rest ≡ near - left = omega (arith, e, le) in
-    subst (λ (n : ℕ). Takes begins stands old new front octets n) same t.takes
+    subst (λ (n : ℕ). TakesOneValue begins stands old new front octets n) same t.takes
 
 -- ---- a head, and the parameters of type and value after it
 
 -- no more is left to do, where only octets were taken
-work_at_most : (r n : Reader) (left used : ℕ) → used ≤ left → r.bit ≡ 0 → n.bit ≡ 0 → KeepsNode r n → work n (left - used) ≤ work r left
+work_at_most : (r n : BodyReader) (left used : ℕ) → used ≤ left → r.bit ≡ 0 → n.bit ≡ 0 → KeepsNode r n → work n (left - used) ≤ work r left
 unfolding work
-work_at_most r n left used fit b m k = let e = ap rank k.stage in let f = ap (λ (x : ArrayVec Level). length x.items) k.outer in omega arith
+work_at_most r n left used fit b m k = let e = ap rank k.stage in let f = ap (λ (x : ArrayVec StackNode). length x.items) k.outer in omega arith
 
-work_less : (r n : Reader) (left used : ℕ) → 0 < used → used ≤ left → r.bit ≡ 0 → n.bit ≡ 0 → KeepsNode r n → work n (left - used) < work r left
+work_less : (r n : BodyReader) (left used : ℕ) → 0 < used → used ≤ left → r.bit ≡ 0 → n.bit ≡ 0 → KeepsNode r n → work n (left - used) < work r left
 unfolding work
-work_less r n left used some fit b m k = let e = ap rank k.stage in let f = ap (λ (x : ArrayVec Level). length x.items) k.outer in omega arith
+work_less r n left used some fit b m k = let e = ap rank k.stage in let f = ap (λ (x : ArrayVec StackNode). length x.items) k.outer in omega arith
 
 module _ (begins stands : List Begun → Type 0) where
-  aligned_at : (r : Reader) (front : List ℕ) → Are begins stands r front → r.stage ≡ Children → r.bit ≡ 0
+  aligned_at : (r : BodyReader) (front : List ℕ) → Are begins stands r front → r.stage ≡ Children → r.bit ≡ 0
   aligned_at r front a s = (resting r front a.node a.outer a.reads s).aligned
 
 -- What a head is: it was taken, and then there is less to do; or there was none, and nothing changed.
-pub record HeadTaken (begins stands : List Begun → Type 0) (old mid : Reader) (front octets : List ℕ) (head : ℕ) : Type 0 where
+pub record HeadTaken (begins stands : List Begun → Type 0) (old mid : BodyReader) (front octets : List ℕ) (head : ℕ) : Type 0 where
   pub within : head ≤ length octets
   pub are : Are begins stands mid front
   pub place : mid.at ≡ old.at + head
   pub same : mid.octets ≡ old.octets
+  pub profile : mid.profile ≡ old.profile
   pub less : ((0 < head) × (work mid (length octets - head) < work old (length octets))) ⊎ ((head ≡ 0) × (mid ≡ old))
 
-pub head_taken : (head : ℕ) (begins stands : List Begun → Type 0) (old mid : Reader) (front octets : List ℕ) → (0 < head → Moves begins stands old mid front octets head) → (head ≡ 0 → (mid ≡ old) × Are begins stands old front) → HeadTaken begins stands old mid front octets head
+pub head_taken : (head : ℕ) (begins stands : List Begun → Type 0) (old mid : BodyReader) (front octets : List ℕ) → (0 < head → Moves begins stands old mid front octets head) → (head ≡ 0 → (mid ≡ old) × Are begins stands old front) → HeadTaken begins stands old mid front octets head
 head_taken zero begins stands old mid front octets f e =
     let x = e refl in
     record {
       within = omega arith;
-      are = subst (λ (r : Reader). Are begins stands r front) (sym x.0) x.1;
-      place = omega (arith, ap (λ (r : Reader). r.at) x.0);
-      same = ap (λ (r : Reader). r.octets) x.0;
+      are = subst (λ (r : BodyReader). Are begins stands r front) (sym x.0) x.1;
+      place = omega (arith, ap (λ (r : BodyReader). r.at) x.0);
+      same = ap (λ (r : BodyReader). r.octets) x.0;
+      profile = ap (λ (r : BodyReader). r.profile) x.0;
       less = inr (refl, x.0);
     }
 head_taken (suc n) begins stands old mid front octets f e =
     let m = f (omega arith) in
-    record { within = m.within; are = m.are; place = m.place; same = m.same; less = inl (omega arith, m.less) }
+    record { within = m.within; are = m.are; place = m.place; same = m.same; profile = m.profile; less = inl (omega arith, m.less) }
 
-pub moved_on : (b0 s0 begins stands : List Begun → Type 0) (old mid new : Reader) (front octets rest : List ℕ) (head used : ℕ) → rest ≡ drop head octets → HeadTaken b0 s0 old mid front octets head → mid.stage ≡ Children → Takes begins stands mid new front rest used → KeepsNode mid new → 0 < head + used → Moves begins stands old new front octets (head + used)
+pub moved_on : (b0 s0 begins stands : List Begun → Type 0) (old mid new : BodyReader) (front octets rest : List ℕ) (head used : ℕ) → rest ≡ drop head octets → HeadTaken b0 s0 old mid front octets head → mid.stage ≡ Children → TakesOneValue begins stands mid new front rest used → KeepsNode mid new → 0 < head + used → Moves begins stands old new front octets (head + used)
 moved_on b0 s0 begins stands old mid new front octets rest head used e h s t k some =
     let long : length rest ≡ length octets - head = ap (λ (x : List ℕ). length x) e ∙ length-drop head octets in
     let bit = aligned_at b0 s0 mid front h.are s in
@@ -147,8 +149,9 @@ moved_on b0 s0 begins stands old mid new front octets rest head used e h s t k s
       are = t.are;
       place = omega (arith, t.place, h.place);
       same = t.same ∙ h.same;
+      profile = t.profile ∙ h.profile;
       less = elim h.less [
         | inl x ↦ (let m = work_at_most mid new (length rest) used fits bit last k in let y = subst (λ (n : ℕ). work mid n < work old (length octets)) (sym long) x.1 in let z = ap (λ (n : ℕ). work new n) left in omega (arith, m, y, z))
-        | inr x ↦ (let m = work_less mid new (length rest) used (omega (arith, some, x.0)) fits bit last k in let y = ap (λ (r : Reader). work r (length octets)) x.1 in let w = ap (λ (n : ℕ). work mid n) (let q : length rest ≡ length octets = omega (arith, long, x.0) in q) in let z = ap (λ (n : ℕ). work new n) left in omega (arith, m, y, z, w))
+        | inr x ↦ (let m = work_less mid new (length rest) used (omega (arith, some, x.0)) fits bit last k in let y = ap (λ (r : BodyReader). work r (length octets)) x.1 in let w = ap (λ (n : ℕ). work mid n) (let q : length rest ≡ length octets = omega (arith, long, x.0) in q) in let z = ap (λ (n : ℕ). work new n) left in omega (arith, m, y, z, w))
       ];
     }

@@ -6,24 +6,24 @@ use Rattle.std.proofs.lemmas.List.{take-append-le, drop-append-le, drop-drop}
 use Rattle.tag_bits.specs.Digits.{digits_of_bytes}
 use Rattle.tag_bits.proofs.ByteLemmas.{length-bytes, bytes-append}
 use Rattle.llrp_tree.specs.declared.fault.FrameErr.{FrameErr}
-use Rattle.llrp_schema.specs.declared.kinds.Profile.TheVariants.{Own}
+use Rattle.llrp_schema.specs.declared.kinds.Profile.{Profile}
 use Rattle.llrp_tree.specs.Spelling.{Head, message, tlv, tv}
 use Rattle.llrp_tree.specs.OpenTree.{Begun, rules, form, plain_values, IsHead, IsOpenTree}
 use Rattle.llrp_tree.specs.Lawful.{count_octets}
-use Rattle.llrp_tree.specs.FirstFault.{tail_length, octets_at, is_over}
+use Rattle.llrp_tree.specs.FirstFault.{tail_length, octets_at, has_ended}
 use Rattle.llrp_tree.specs.Calls.Standing.{leading, end_of}
 use Rattle.llrp_tree.specs.Private.Standing.{Tells}
 use Rattle.llrp_tree.specs.declared.fault.FrameErr.TheVariants.{Memory, Bad}
-use Rattle.llrp_stream.specs.Private.Told.{Remains}
-use Rattle.llrp_stream.specs.declared.reading.reader.Reader.{Reader}
-use Rattle.llrp_stream.specs.declared.reading.reader.Stage.{Stage}
-use Rattle.llrp_stream.specs.declared.reading.reader.Stage.TheVariants.{Leading, Tail, Children}
+use Rattle.llrp_stream.specs.Private.Received.{Remains}
+use Rattle.llrp_stream.specs.declared.engine.body_reader.BodyReader.{BodyReader}
+use Rattle.llrp_stream.specs.declared.engine.body_reader.Stage.{Stage}
+use Rattle.llrp_stream.specs.declared.engine.body_reader.Stage.TheVariants.{Leading, Tail, Children}
 use Rattle.llrp_stream.specs.Calls.Front.{Reaches}
 use Rattle.llrp_stream.specs.Private.Front.{TellsAll, FailsWith}
-use Rattle.llrp_stream.specs.Calls.Reading.{Reads, Are, IsAtStage}
+use Rattle.llrp_stream.specs.Calls.Reading.{HasReadTo, Are, IsAtStage}
 use Rattle.llrp_stream.specs.Private.Reading.{IsComplete}
 
-pub reaches_more : (front more : List ℕ) (n : ℕ) (t : List Begun) (at : ℕ) → length (front ++ more) ≤ n → Reaches front n t at → Reaches (front ++ more) n t at
+pub reaches_more : {p : Profile} (front more : List ℕ) (n : ℕ) (t : List Begun) (at : ℕ) → length (front ++ more) ≤ n → Reaches p front n t at → Reaches p (front ++ more) n t at
 reaches_more front more n t at le r =
     let long : length (digits_of_bytes front) ≡ 8 * length front = length-bytes front in
     let l = length-append front more in
@@ -36,7 +36,7 @@ reaches_more front more n t at le r =
       root = r.root;
     }
 
-stage_more : (s : Stage) (r : Reader) (front more : List ℕ) (b : Begun) (outer : List Begun) → length (front ++ more) ≤ r.octets → IsAtStage s r front b outer → IsAtStage s r (front ++ more) b outer
+stage_more : (s : Stage) (r : BodyReader) (front more : List ℕ) (b : Begun) (outer : List Begun) → length (front ++ more) ≤ r.octets → IsAtStage s r front b outer → IsAtStage s r (front ++ more) b outer
 stage_more (Leading next) r front more b outer le i = record { bare = i.bare; count = i.count; first_is = i.first_is; reaches = reaches_more front more r.octets (b ∷ outer) (8 * r.at + r.bit) le i.reaches }
 stage_more (Tail left) r front more b outer le i =
     let within = i.reaches.within in
@@ -59,27 +59,27 @@ stage_more (Tail left) r front more b outer le i =
     }
 stage_more Children r front more b outer le i = record { ready = i.ready; aligned = i.aligned; reaches = reaches_more front more r.octets (b ∷ outer) (8 * r.at) le i.reaches }
 
-pub reads_more : (r : Reader) (front more : List ℕ) (b : Begun) (outer : List Begun) → length (front ++ more) ≤ r.octets → Reads r front b outer → Reads r (front ++ more) b outer
+pub reads_more : (r : BodyReader) (front more : List ℕ) (b : Begun) (outer : List Begun) → length (front ++ more) ≤ r.octets → HasReadTo r front b outer → HasReadTo r (front ++ more) b outer
 reads_more r front more b outer le rd =
     let l = length-append front more in
     record { level = rd.level; levels = rd.levels; stage = stage_more r.stage r front more b outer le rd.stage; before = omega (arith, rd.before); small = rd.small; bit_small = rd.bit_small }
 
-module _ (begins stands : List Begun → Type 0) (r : Reader) where
+module _ (begins stands : List Begun → Type 0) (r : BodyReader) where
   pub are_more : (front more : List ℕ) → length (front ++ more) ≤ r.octets → Are begins stands r front → Are begins stands r (front ++ more)
   are_more front more le a = record { node = a.node; outer = a.outer; reads = reads_more r front more a.node a.outer le a.reads; told = a.told }
 
-pub tells_more : (front more : List ℕ) (n : ℕ) (e : FrameErr) → TellsAll front n e → TellsAll (front ++ more) n e
-tells_more front more n e f = λ later long.
+pub tells_more : (p : Profile) (front more : List ℕ) (n : ℕ) (e : FrameErr) → TellsAll p front n e → TellsAll p (front ++ more) n e
+tells_more p front more n e f = λ later long.
     let same = append_assoc front more later in
-    subst (λ (x : List ℕ). Tells Own (digits_of_bytes x) e) (sym same) (f (more ++ later) (sym (ap (λ (x : List ℕ). length x) same) ∙ long))
+    subst (λ (x : List ℕ). Tells p (digits_of_bytes x) e) (sym same) (f (more ++ later) (sym (ap (λ (x : List ℕ). length x) same) ∙ long))
 
-pub fails_with : (begins stands : List Begun → Type 0) (front : List ℕ) (n : ℕ) (e : FrameErr) → TellsAll front n e → Remains begins stands → FailsWith begins stands front n e
-fails_with begins stands front n Memory f r = tt
-fails_with begins stands front n (Bad x) f r = (f, r)
+pub fails_with : (p : Profile) (begins stands : List Begun → Type 0) (front : List ℕ) (n : ℕ) (e : FrameErr) → TellsAll p front n e → Remains begins stands → FailsWith begins stands p front n e
+fails_with p begins stands front n Memory f r = tt
+fails_with p begins stands front n (Bad x) f r = (f, r)
 
-pub fails_more : (begins stands : List Begun → Type 0) (front more : List ℕ) (n : ℕ) (e : FrameErr) → FailsWith begins stands front n e → FailsWith begins stands (front ++ more) n e
-fails_more begins stands front more n Memory f = tt
-fails_more begins stands front more n (Bad x) f = (tells_more front more n (Bad x) f.0, f.1)
+pub fails_more : (p : Profile) (begins stands : List Begun → Type 0) (front more : List ℕ) (n : ℕ) (e : FrameErr) → FailsWith begins stands p front n e → FailsWith begins stands p (front ++ more) n e
+fails_more p begins stands front more n Memory f = tt
+fails_more p begins stands front more n (Bad x) f = (tells_more _ front more n (Bad x) f.0, f.1)
 
 -- octets after a place, with more
 pub behind_more : (front more octets : List ℕ) (at : ℕ) → at ≤ length front → drop at front ≡ octets → drop at (front ++ more) ≡ octets ++ more
@@ -88,21 +88,21 @@ behind_more front more octets at le d = drop-append-le at front more le ∙ ap (
 pub behind_on : (front octets : List ℕ) (at used new : ℕ) → drop at front ≡ octets → new ≡ at + used → drop new front ≡ drop used octets
 behind_on front octets at used new d e = ap (λ (n : ℕ). drop n front) e ∙ (sym (drop-drop used at front ∙ ap (λ (n : ℕ). drop n front) (omega arith)) ∙ ap (λ (x : List ℕ). drop used x) d)
 
-over_message : (h : Head) (stop at : ℕ) → IsHead h stop [] → is_over h (nat_le stop at) ≡ true → stop ≤ at
+over_message : (h : Head) (stop at : ℕ) → IsHead h stop [] → has_ended h (nat_le stop at) ≡ true → stop ≤ at
 over_message (message v k n id) stop at i o = leb-true stop at o
 over_message (tlv k n) stop at i o = absurd i
 over_message (tv k) stop at i o = absurd i
 
-head_alone : (b : Begun) → IsOpenTree (b ∷ []) → IsHead b.head b.stop []
+pub head_alone : (b : Begun) → IsOpenTree (b ∷ []) → IsHead b.head b.stop []
 unfolding IsOpenTree
 head_alone b s = s.0.head
 
-end_alone : (b : Begun) → end_of (b ∷ []) ≡ b.stop
+pub end_alone : (b : Begun) → end_of (b ∷ []) ≡ b.stop
 unfolding end_of
 end_alone b = refl
 
 -- where a message is whole the frame ends
-pub whole_ends : (stands : List Begun → Type 0) (r : Reader) (front : List ℕ) → IsComplete stands r front → length front ≡ r.octets
+pub whole_ends : (stands : List Begun → Type 0) (r : BodyReader) (front : List ℕ) → IsComplete stands r front → length front ≡ r.octets
 whole_ends stands r front w =
     let h = head_alone w.node w.reaches.is_open in
     let o = over_message w.node.head w.node.stop (8 * r.at) h w.over in

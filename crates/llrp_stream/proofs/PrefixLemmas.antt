@@ -1,12 +1,13 @@
 -- A front of a row of frames: the first of them are whole in it, and it ends between two of them or within one.
 use Rattle.std.proofs.Common.{◌≡◌, ℕ, suc, ◌<◌, ◌≤◌, inl, inr, List, [], ◌∷◌, ◌++◌, length, take, drop, refl, sym, ap, subst, ◌∙◌, arith, append_assoc}
+use Rattle.llrp_schema.specs.declared.kinds.Profile.{Profile}
 use Rattle.std.specs.List.{AllByRecursion, AllZip}
 use Rattle.std.proofs.lemmas.List.{take_at, drop_at, length-append, append-nil, take-append-drop, length-take-le}
 use Rattle.llrp_stream.specs.declared.item.Item.{Item}
 use Rattle.llrp_stream.specs.declared.item.End.{End}
 use Rattle.llrp_stream.specs.declared.item.End.TheVariants.{Clean, Rest}
-use Rattle.llrp_stream.specs.Cuts.{IsFrame, IsPartial, Ends, joined}
-use Rattle.llrp_stream.specs.Items.{IsItemOf, Items}
+use Rattle.llrp_stream.specs.Cuts.{IsFrame, IsPartial, EndsStream, joined}
+use Rattle.llrp_stream.specs.Items.{IsItemIn, ItemsIn}
 use Rattle.llrp_stream.specs.Calls.StreamLaws.{EndsWithin, IsFront}
 use Rattle.llrp_stream.proofs.FrontLemmas.{length_field-append}
 use Rattle.llrp_stream.proofs.ItemLemmas.{below_or_not}
@@ -40,13 +41,13 @@ abbrev pub end_of : List ℕ → End
 end_of [] = Clean
 end_of (b ∷ bytes) = Rest (suc (length bytes))
 
-pub ends : (front : List ℕ) → IsPartial front → Ends front (end_of front)
+pub ends : (front : List ℕ) → IsPartial front → EndsStream front (end_of front)
 ends [] p = refl
 ends (b ∷ bytes) p = (refl, omega arith, p)
 
 -- nothing is whole where the front is shorter than the first frame
-none_whole : (limit : ℕ) (item : Item) (items : List Item) (front more : List ℕ) → IsFrame (front ++ more) → IsItemOf limit (front ++ more) item → length front < length (front ++ more) → IsFront limit (item ∷ items) front
-none_whole limit item items front more is of lt = record {
+none_whole : (p : Profile) (limit : ℕ) (item : Item) (items : List Item) (front more : List ℕ) → IsFrame (front ++ more) → IsItemIn p limit (front ++ more) item → length front < length (front ++ more) → IsFront p limit (item ∷ items) front
+none_whole p limit item items front more is of lt = record {
   first = [];
   next = item ∷ items;
   parts = refl;
@@ -55,13 +56,13 @@ none_whole limit item items front more is of lt = record {
   within = within front is of lt;
 }
   where
-    within : (front : List ℕ) → IsFrame (front ++ more) → IsItemOf limit (front ++ more) item → length front < length (front ++ more) → EndsWithin limit (item ∷ items) front (end_of front)
+    within : (front : List ℕ) → IsFrame (front ++ more) → IsItemIn p limit (front ++ more) item → length front < length (front ++ more) → EndsWithin p limit (item ∷ items) front (end_of front)
     within [] is of lt = refl
     within (b ∷ bytes) is of lt = (more, omega (arith, lt, length-append (b ∷ bytes) more), is, of)
 
 -- one more frame is whole
-one_more : (limit : ℕ) (item : Item) (items : List Item) (frame front middle : List ℕ) → IsFrame frame → IsItemOf limit frame item → front ≡ frame ++ middle → IsFront limit items middle → IsFront limit (item ∷ items) front
-one_more limit item items frame front middle is of e more = record {
+one_more : (p : Profile) (limit : ℕ) (item : Item) (items : List Item) (frame front middle : List ℕ) → IsFrame frame → IsItemIn p limit frame item → front ≡ frame ++ middle → IsFront p limit items middle → IsFront p limit (item ∷ items) front
+one_more p limit item items frame front middle is of e more = record {
   first = item ∷ more.first;
   next = more.next;
   parts = ap (λ (xs : List Item). item ∷ xs) more.parts;
@@ -79,21 +80,21 @@ one_more limit item items frame front middle is of e more = record {
   within = more.within;
 }
 
-front_of : (limit : ℕ) (items : List Item) (frames : List (List ℕ)) (front back : List ℕ) → AllByRecursion IsFrame frames → AllZip (IsItemOf limit) frames items → front ++ back ≡ joined frames → IsFront limit items front
-front_of limit [] [] [] back is are e = record { first = []; next = []; parts = refl; end = Clean; are = record { frames = []; cut = record { tail = []; whole = refl; each = tt; ends = refl }; each = tt }; within = refl }
-front_of limit [] [] (b ∷ front) back is are e = absurd (omega (arith, ap length e))
-front_of limit (item ∷ items) [] front back is are e = absurd are
-front_of limit [] (f ∷ frames) front back is are e = absurd are
-front_of limit (item ∷ items) (f ∷ frames) front back is are e = elim (below_or_not (length front) (length f)) [
+front_of : (p : Profile) (limit : ℕ) (items : List Item) (frames : List (List ℕ)) (front back : List ℕ) → AllByRecursion IsFrame frames → AllZip (IsItemIn p limit) frames items → front ++ back ≡ joined frames → IsFront p limit items front
+front_of p limit [] [] [] back is are e = record { first = []; next = []; parts = refl; end = Clean; are = record { frames = []; cut = record { tail = []; whole = refl; each = tt; ends = refl }; each = tt }; within = refl }
+front_of p limit [] [] (b ∷ front) back is are e = absurd (omega (arith, ap length e))
+front_of p limit (item ∷ items) [] front back is are e = absurd are
+front_of p limit [] (f ∷ frames) front back is are e = absurd are
+front_of p limit (item ∷ items) (f ∷ frames) front back is are e = elim (below_or_not (length front) (length f)) [
   | inl shorter ↦
       let c = cut f (joined frames) front back (sym e) (omega (arith, shorter)) in
-      none_whole limit item items front c.middle (subst IsFrame c.first is.0) (subst (λ (x : List ℕ). IsItemOf limit x item) c.first are.0) (omega (arith, shorter, ap length c.first))
+      none_whole p limit item items front c.middle (subst IsFrame c.first is.0) (subst (λ (x : List ℕ). IsItemIn p limit x item) c.first are.0) (omega (arith, shorter, ap length c.first))
   | inr le ↦
       let c = cut front back f (joined frames) e le in
-      one_more limit item items f front c.middle is.0 are.0 c.first (front_of limit items frames c.middle back is.1 are.1 (sym c.second))
+      one_more p limit item items f front c.middle is.0 are.0 c.first (front_of p limit items frames c.middle back is.1 are.1 (sym c.second))
 ]
 
-pub prefix_of_frames : (limit : ℕ) (items : List Item) (front back : List ℕ) → Items limit (front ++ back) items Clean → IsFront limit items front
-prefix_of_frames limit items front back p =
-    let whole : front ++ back ≡ joined p.frames = p.cut.whole ∙ ap (λ (x : List ℕ). joined p.frames ++ x) p.cut.ends ∙ append-nil (joined p.frames) in
-    front_of limit items p.frames front back p.cut.each p.each whole
+pub prefix_of_frames : (p : Profile) (limit : ℕ) (items : List Item) (front back : List ℕ) → ItemsIn p limit (front ++ back) items Clean → IsFront p limit items front
+prefix_of_frames p limit items front back all =
+    let whole : front ++ back ≡ joined all.frames = all.cut.whole ∙ ap (λ (x : List ℕ). joined all.frames ++ x) all.cut.ends ∙ append-nil (joined all.frames) in
+    front_of p limit items all.frames front back all.cut.each all.each whole

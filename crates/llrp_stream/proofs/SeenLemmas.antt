@@ -1,11 +1,11 @@
 -- Children by the bits of their groups.
-use Rattle.std.proofs.Common.{◌≡◌, ◌≢◌, ℕ, zero, suc, ◌+◌, ◌*◌, ◌^◌, ◌%◌, ◌<◌, ◌≤◌, ◌==◌, ◌⊎◌, inl, inr, Bool, true, false, List, [], ◌∷◌, length, get_or, Option, None, refl, sym, ap, subst, ◌∙◌, arith, bit_and, bit_or, eqb-true}
+use Rattle.std.proofs.Common.{◌≡◌, ◌≢◌, ℕ, zero, suc, ◌+◌, ◌<◌, ◌≤◌, ◌==◌, ◌⊎◌, inl, inr, Bool, true, false, List, [], ◌∷◌, length, get_or, Option, None, refl, sym, ap, subst, ◌∙◌, arith, bit_and, eqb-true}
 use Rattle.std.specs.Prelude.{nat_le, min, if◌then◌else◌}
-use Rattle.std.specs.Int.{bit_at, w32}
+use Rattle.std.specs.Int.{bit_at}
 use Rattle.std.specs.List.{list_all}
 use Rattle.std.proofs.lemmas.Bool.{leb-true, leb-false, le-leb, lt-leb, cases_lt, eqb-false}
 use Rattle.std.proofs.lemmas.Bool.Decides.{Decides-eqb}
-use Rattle.std.proofs.lemmas.Nat.Bits.{bit_at_and, bit_at_set_same, bit_at_set_other, same_from_bits}
+use Rattle.std.proofs.lemmas.Nat.Bits.{bit_at_and, same_from_bits}
 use Rattle.llrp_schema.specs.declared.kinds.ParamKind.{ParamKind}
 use Rattle.llrp_schema.specs.declared.kinds.Kind.{Kind}
 use Rattle.llrp_schema.specs.declared.kinds.Kind.TheVariants.{Parameter}
@@ -17,12 +17,12 @@ use Rattle.llrp_tree.specs.Tree.{Forest, none, and}
 use Rattle.llrp_tree.specs.Lawful.{count, is_member}
 use Rattle.llrp_tree.specs.Lawful.{at_most}
 use Rattle.llrp_tree.specs.Spelling.{Head, message, tlv, tv}
-use Rattle.llrp_tree.specs.OpenTree.{Begun, kind_of, takes_more, is_enough}
+use Rattle.llrp_tree.specs.OpenTree.{Begun, kind_of_head, takes_more, is_enough}
 use Rattle.llrp_tree.proofs.LawLemmas.{both}
 use Rattle.llrp_tree.proofs.PlacedLemmas.{elsewhere, takes_in_place}
-use Rattle.llrp_stream.specs.Calls.Told.{with_child}
-use Rattle.llrp_stream.specs.declared.reading.reader.Reader.{Reader}
-use Rattle.llrp_stream.specs.Calls.Reading.{AreSeen, Reads, with_begun}
+use Rattle.llrp_stream.specs.Calls.Received.{with_child}
+use Rattle.llrp_stream.specs.declared.engine.body_reader.BodyReader.{BodyReader}
+use Rattle.llrp_stream.specs.Calls.Reading.{AreSeen, HasReadTo, with_begun}
 
 abbrev no_rule : GroupRule
 no_rule = record { members = []; least = 0; most = None }
@@ -37,13 +37,13 @@ unfolding count
 count_more g before k vs tail cs = refl
 
 -- what a node that is closed adds is what it added when it began
-count_closed : (g : GroupRule) (before : Forest) (h : Head) (vs : List ℕ) (tail : Option (List ℕ)) (cs : Forest) → count g (with_begun before (kind_of h)) ≡ count g (with_child before h vs tail cs)
+count_closed : (g : GroupRule) (before : Forest) (h : Head) (vs : List ℕ) (tail : Option (List ℕ)) (cs : Forest) → count g (with_begun before (kind_of_head h)) ≡ count g (with_child before h vs tail cs)
 unfolding count
 count_closed g before (message v k n id) vs tail cs = refl
 count_closed g before (tlv k n) vs tail cs = refl
 count_closed g before (tv k) vs tail cs = refl
 
-pub seen_closed : (gs : List GroupRule) (before : Forest) (seen : ℕ) (h : Head) (vs : List ℕ) (tail : Option (List ℕ)) (cs : Forest) → AreSeen gs (with_begun before (kind_of h)) seen → AreSeen gs (with_child before h vs tail cs) seen
+pub seen_closed : (gs : List GroupRule) (before : Forest) (seen : ℕ) (h : Head) (vs : List ℕ) (tail : Option (List ℕ)) (cs : Forest) → AreSeen gs (with_begun before (kind_of_head h)) seen → AreSeen gs (with_child before h vs tail cs) seen
 seen_closed gs before seen h vs tail cs are = λ k d lt. are k d lt ∙ ap (λ (n : ℕ). min 1 n) (count_closed (get_or gs k d) before h vs tail cs)
 
 -- what a whole parameter of type and value adds is what it added when it began
@@ -52,8 +52,8 @@ unfolding count
 seen_value gs before kind v seen are = are
 
 -- what the engine keeps of the innermost node
-pub seen_are : (r : Reader) (front : List ℕ) (b : Begun) (outer : List Begun) → Reads r front b outer → AreSeen (groups_of r.top.kind) b.children r.top.seen
-seen_are r front b outer rd = subst (λ (k : Kind). AreSeen (groups_of k) b.children r.top.seen) rd.level.kind rd.level.seen
+pub seen_are : (r : BodyReader) (front : List ℕ) (b : Begun) (outer : List Begun) → HasReadTo r front b outer → AreSeen (groups_of r.top.kind) b.children r.top.seen.bits
+seen_are r front b outer rd = subst (λ (k : Kind). AreSeen (groups_of k) b.children r.top.seen.bits) rd.level.kind rd.level.seen
 
 -- ---- a child begins
 
@@ -86,19 +86,19 @@ module _ (parent : Kind) (kind : ParamKind) (place : Place) (p : IsPlace (groups
   takes_if (inl o) = takes_any o
   takes_if (inr z) = takes_one (λ y. absurd (omega (arith, z, y)))
 
-  pub seen_more : place.index < 32 → (vs tail : List ℕ) (inner : Forest) → AreSeen (groups_of parent) (and cs kind vs tail inner) (bit_or seen (1 * 2 ^ place.index % 2 ^ 32))
-  seen_more small vs tail inner = λ k d lt.
-      (elim (k == place.index) as (λ b. (k == place.index) ≡ b → bit_at (bit_or seen (1 * 2 ^ place.index % 2 ^ 32)) k ≡ min 1 (count (get_or (groups_of parent) k d) (and cs kind vs tail inner))) [
+  pub seen_more : (after : ℕ) → bit_at after place.index ≡ 1 → ((k : ℕ) → k ≢ place.index → bit_at after k ≡ bit_at seen k) → (vs tail : List ℕ) (inner : Forest) → AreSeen (groups_of parent) (and cs kind vs tail inner) after
+  seen_more after one others vs tail inner = λ k d lt.
+      (elim (k == place.index) as (λ b. (k == place.index) ≡ b → bit_at after k ≡ min 1 (count (get_or (groups_of parent) k d) (and cs kind vs tail inner))) [
         | true ↦ λ e.
             let is : k ≡ place.index = eqb-true k place.index e in
             let m : is_member (get_or (groups_of parent) k d) kind ≡ true = subst (λ (j : ℕ). is_member (get_or (groups_of parent) j d) kind ≡ true) (sym is) (p.member d) in
             let more : count (get_or (groups_of parent) k d) (and cs kind vs tail inner) ≡ count (get_or (groups_of parent) k d) cs + 1 = count_more (get_or (groups_of parent) k d) cs kind vs tail inner ∙ ap (λ (b : Bool). bumped b (count (get_or (groups_of parent) k d) cs)) m in
-            ap (λ (j : ℕ). bit_at (bit_or seen (1 * 2 ^ place.index % 2 ^ 32)) j) is ∙ bit_at_set_same w32 seen place.index small ∙ (let z = more in omega (arith, z))
+            ap (λ (j : ℕ). bit_at after j) is ∙ one ∙ (let z = more in omega (arith, z))
         | false ↦ λ e.
             let other : k ≢ place.index = eqb-false k place.index e in
             let m : is_member (get_or (groups_of parent) k d) kind ≡ false = elsewhere (groups_of parent) kind place p k d lt other in
             let same : count (get_or (groups_of parent) k d) (and cs kind vs tail inner) ≡ count (get_or (groups_of parent) k d) cs = count_more (get_or (groups_of parent) k d) cs kind vs tail inner ∙ ap (λ (b : Bool). bumped b (count (get_or (groups_of parent) k d) cs)) m in
-            bit_at_set_other w32 seen place.index small k other ∙ are k d lt ∙ ap (λ (n : ℕ). min 1 n) (sym same)
+            others k other ∙ are k d lt ∙ ap (λ (n : ℕ). min 1 n) (sym same)
       ]) refl
 
 -- ---- enough

@@ -1,16 +1,16 @@
 -- How a stream ends, by the front that came of its current frame.
 use Rattle.std.proofs.Common.{◌≡◌, inl, inr, ℕ, ◌+◌, ◌<◌, List, ◌∷◌, arith, length}
 use Rattle.llrp_tree.specs.OpenTree.{Begun}
-use Rattle.llrp_stream.specs.declared.reading.body.Body.{Body}
-use Rattle.llrp_stream.specs.declared.reading.frames.Frames.{Frames}
-use Rattle.llrp_stream.specs.declared.reading.reader.Reader.{Reader}
-use Rattle.llrp_stream.specs.declared.reading.reader.Stage.{Stage}
-use Rattle.llrp_stream.specs.declared.reading.reader.Stage.TheVariants as stage
+use Rattle.llrp_stream.specs.declared.engine.body.Body.{Body}
+use Rattle.llrp_stream.specs.declared.engine.frames.Frames.{Frames}
+use Rattle.llrp_stream.specs.declared.engine.body_reader.BodyReader.{BodyReader}
+use Rattle.llrp_stream.specs.declared.engine.body_reader.Stage.{Stage}
+use Rattle.llrp_stream.specs.declared.engine.body_reader.Stage.TheVariants as stage
 use Rattle.llrp_stream.specs.declared.state.State.{State}
 use Rattle.llrp_stream.specs.declared.state.State.TheVariants as state
 use Rattle.llrp_stream.specs.Cuts.{IsPartial}
 use Rattle.llrp_stream.specs.Calls.Reading.{Are, Told}
-use Rattle.llrp_stream.specs.Calls.Pieces.{Stands}
+use Rattle.llrp_stream.specs.Calls.Pieces.{BodyStands}
 use Rattle.llrp_stream.specs.Calls.Frames.{IsReading, ComesAt, IsFrontOf}
 use Rattle.llrp_stream.proofs.FramesLemmas.{state_comes, within}
 
@@ -24,10 +24,10 @@ told_any stage.Children t = tt
 
 -- the same, whatever the listener received
 module _ (begins stands : List Begun → Type 0) where
-  abbrev are_any : (r : Reader) (front : List ℕ) → Are begins stands r front → Are any any r front
+  abbrev are_any : (r : BodyReader) (front : List ℕ) → Are begins stands r front → Are any any r front
   are_any r front a = record { node = a.node; outer = a.outer; reads = a.reads; told = told_any r.stage (a.node ∷ a.outer) }
 
-  abbrev stands_any : (body : Body) (front : List ℕ) → Stands begins stands body front → Stands any any body front
+  abbrev stands_any : (body : Body) (front : List ℕ) → BodyStands begins stands body front → BodyStands any any body front
   stands_any body front s = record {
     are = are_any body.reader front s.are;
     raw = s.raw;

@@ -1,4 +1,5 @@
 -- A tail, as a step of the open tree that is read.
+use Rattle.llrp_schema.specs.declared.kinds.Profile.{Profile}
 use Rattle.std.proofs.Common.{◌≡◌, ◌≢◌, ◌⊎◌, inl, inr, ℕ, zero, suc, ◌+◌, ◌-◌, ◌*◌, ◌/◌, ◌<◌, ◌≤◌, Bool, true, false, List, [], ◌∷◌, ◌++◌, length, take, drop, Some, refl, sym, ap, subst, ◌∙◌, arith, append_assoc, length-append, length-drop}
 use Rattle.std.specs.Prelude.{min, nat_le}
 use Rattle.std.specs.Str.{IsUtf8, is_utf8}
@@ -13,17 +14,17 @@ use Rattle.llrp_schema.specs.declared.kinds.Kind.{Kind}
 use Rattle.llrp_schema.specs.declared.kinds.Kind.TheVariants.{Message, Parameter}
 use Rattle.llrp_schema.specs.declared.kinds.Tail.{Tail}
 use Rattle.llrp_schema.specs.declared.kinds.Tail.TheVariants.{Absent, Words, Text, Bits, Data}
-use Rattle.llrp_schema.specs.Schema.{FieldRule, field, bits_of, fields_of, tail_of}
-use Rattle.llrp_schema.proofs.TableLaws.{whole_octets, message_tail, bits_field}
+use Rattle.llrp_schema.specs.Schema.{FieldRule, any_field, bits_of, fields_of, tail_of}
+use Rattle.llrp_schema.proofs.TableLaws.{whole_octets, message_form, bits_field}
 use Rattle.llrp_tree.specs.declared.fault.FrameErr.{FrameErr}
 use Rattle.llrp_tree.specs.declared.fault.FrameErr.TheVariants.{Bad}
 use Rattle.llrp_tree.specs.declared.fault.Reason.TheVariants.{Utf8}
 use Rattle.llrp_tree.specs.Tree.{none}
 use Rattle.llrp_tree.specs.Lawful.{AreOctets, count_octets, first}
-use Rattle.llrp_tree.specs.Spelling.{Head, message, tlv, tv, head_digits, field_digits, spell}
-use Rattle.llrp_tree.specs.OpenTree.{Begun, kind_of, rules, form, leading_digits, part, covers, has_tail, plain_values, due, Rest, IsHead, IsOpenTree}
+use Rattle.llrp_tree.specs.Spelling.{Head, message, tlv, tv, head_digits, field_digits, forest_digits}
+use Rattle.llrp_tree.specs.OpenTree.{Begun, kind_of_head, rules, form, leading_digits, part, covers, has_tail, plain_values, due, Rest, IsHead, IsOpenTree}
 use Rattle.llrp_tree.specs.FirstFault.{octets_at, tail_length, tail_at, tail_end, tail_checks, checks, ReadTail}
-use Rattle.llrp_tree.specs.Calls.Standing.{Stands, begun, leading}
+use Rattle.llrp_tree.specs.Calls.Standing.{IsAt, begin_node, leading}
 use Rattle.llrp_tree.specs.Private.Standing.{FailsFirst}
 use Rattle.llrp_tree.proofs.Leading.{length-fields, drop_all}
 use Rattle.llrp_tree.proofs.LengthLemmas.{length-message_head, length-tlv, length-tv}
@@ -31,20 +32,22 @@ use Rattle.llrp_tree.proofs.ReadDigits.{length-octets_at, number_own, drop_own}
 use Rattle.llrp_tree.proofs.LastPart.{tail_turn}
 use Rattle.llrp_tree.proofs.ReadingLemmas.{tells}
 use Rattle.llrp_tree.proofs.Growing.{grow_tail}
-use Rattle.llrp_stream.specs.declared.reading.reader.Reader.{Reader}
-use Rattle.llrp_stream.specs.declared.reading.reader.Stage.{Stage}
-use Rattle.llrp_stream.specs.declared.reading.reader.Stage.TheVariants as stage
+use Rattle.llrp_stream.specs.declared.engine.body_reader.BodyReader.{BodyReader}
+use Rattle.llrp_stream.specs.declared.engine.body_reader.Stage.{Stage}
+use Rattle.llrp_stream.specs.declared.engine.body_reader.Stage.TheVariants as stage
 use Rattle.llrp_stream.specs.Calls.Front.{Reaches, IsUndecided}
 use Rattle.llrp_stream.specs.Private.Front.{TellsAll}
-use Rattle.llrp_stream.specs.Calls.Told.{AreWhole, IsBeforeTail, IsInTail}
+use Rattle.llrp_stream.specs.Calls.Received.{AreWhole, IsBeforeTail, IsInTail}
 use Rattle.llrp_stream.specs.Private.Tails.{HasWhole}
-use Rattle.llrp_stream.specs.Calls.Reading.{Reads, bit_of, settled, IsAtStage, IsLeading, IsTailing}
+use Rattle.llrp_stream.specs.Calls.Reading.{HasReadTo, bit_of, settled, IsAtStage, IsLeading, IsTailing}
 use Rattle.llrp_stream.specs.Private.Reading.{rank, work}
-use Rattle.llrp_stream.proofs.Reached.{own_tells, stands_in, reaches_in}
+use Rattle.llrp_stream.proofs.Reached.{root_tells, stands_in, reaches_in}
 use Rattle.llrp_stream.proofs.Bounds.{covered_length}
-use Rattle.llrp_stream.proofs.CoveredOctets.{IsOctets, covered_octets, outer_within}
+use Rattle.llrp_stream.proofs.CoveredOctets.{outer_within}
 use Rattle.llrp_stream.proofs.WaitLemmas.{count_waits, tail_waits}
 use Rattle.llrp_stream.proofs.TextLemmas.{take_take, valid_is_text, valid_is, not_text}
+use Rattle.llrp_tree.proofs.Undecided.{header_covered as after_header}
+use Rattle.llrp_tree.proofs.Totality.{IsOctets, covered_octets, parent_ready as head_ready}
 
 -- ---- what is covered before a tail
 
@@ -57,22 +60,17 @@ both_whole : (x y : List Bool) → IsOctets (length x) → IsOctets (length y) �
 both_whole x y a b = (a.0 + b.0, omega (arith, length-append x y, a.1, b.1))
 
 -- a node of which all fields are read
-fields_whole : (h : Head) (stop : ℕ) (vs : List ℕ) → length vs ≡ length (fields_of (kind_of h)) → IsOctets (length (part (leading h stop vs)))
-unfolding part leading_digits spell
+fields_whole : (h : Head) (stop : ℕ) (vs : List ℕ) → length vs ≡ length (fields_of (kind_of_head h)) → IsOctets (length (part (leading h stop vs)))
+unfolding part leading_digits forest_digits
 fields_whole h stop vs e =
-    let rs : List FieldRule = fields_of (kind_of h) in
+    let rs : List FieldRule = fields_of (kind_of_head h) in
     let ds : List Bool = field_digits rs vs in
     let n : length ds ≡ bits_of rs = length-fields rs vs e in
-    let w = whole_octets (kind_of h) in
+    let w = whole_octets (kind_of_head h) in
     let own : IsOctets (length (ds ++ [])) = (bits_of rs / 8, ap (λ (x : List Bool). length x) (append-nil ds) ∙ omega (arith, n, w)) in
     both_whole (head_digits h) ((ds ++ []) ++ []) (head_whole h) (both_whole (ds ++ []) [] own (0, refl))
 
-head_ready : (h : Head) (stop : ℕ) (p : Begun) (outer : List Begun) → IsHead h stop (p ∷ outer) → due p ≡ Rest
-head_ready (message v k n id) stop p outer f = absurd f
-head_ready (tlv k n) stop p outer f = f.may_begin.ready
-head_ready (tv k) stop p outer f = f.may_begin.ready
-
-before_tail : (h : Head) (stop : ℕ) (vs : List ℕ) (outer : List Begun) → IsOpenTree (leading h stop vs ∷ outer) → length vs ≡ length (fields_of (kind_of h)) → IsOctets (length (covers (leading h stop vs ∷ outer)))
+before_tail : (h : Head) (stop : ℕ) (vs : List ℕ) (outer : List Begun) → IsOpenTree (leading h stop vs ∷ outer) → length vs ≡ length (fields_of (kind_of_head h)) → IsOctets (length (covers (leading h stop vs ∷ outer)))
 unfolding IsOpenTree covers
 before_tail h stop vs [] s e = fields_whole h stop vs e
 before_tail h stop vs (p ∷ outer) s e = both_whole (covers (p ∷ outer)) (part (leading h stop vs)) (covered_octets p outer s.1 (head_ready h stop p outer s.0.head)) (fields_whole h stop vs e)
@@ -85,15 +83,9 @@ header_long (tv k) stop f = absurd f
 alone_length : (b : Begun) → length (head_digits b.head) ≤ length (covers (b ∷ []))
 unfolding covers part
 alone_length b =
-    let body : List Bool = leading_digits (kind_of b.head) b.fields b.tail ++ spell b.children in
+    let body : List Bool = leading_digits (kind_of_head b.head) b.fields b.tail ++ forest_digits b.children in
     let a : length (covers (b ∷ [])) ≡ length (head_digits b.head) + length body = length-append (head_digits b.head) body in
     omega (arith, a)
-
--- a message's header is covered
-after_header : (b : Begun) (outer : List Begun) → IsOpenTree (b ∷ outer) → 80 ≤ length (covers (b ∷ outer))
-unfolding IsOpenTree
-after_header b [] s = let a = header_long b.head b.stop s.0.head in let l = alone_length b in omega (arith, a, l)
-after_header b (p ∷ outer) s = let a = after_header p outer s.1 in let l = outer_within b (p ∷ outer) in omega (arith, a, l)
 
 -- ---- the digits after a place
 
@@ -135,13 +127,13 @@ front_at (suc k) (o ∷ os) later h le =
 
 -- ---- a fault of a tail
 
-all_tell : (front : List ℕ) (n : ℕ) (h : Head) (stop : ℕ) (vs : List ℕ) (outer : List Begun) (at : ℕ) (e : FrameErr) → Reaches front n (leading h stop vs ∷ outer) at
-    → drop (length vs) (fields_of (kind_of h)) ≡ [] → has_tail (tail_of (kind_of h)) ≡ true
-    → ((more : List ℕ) → length (front ++ more) ≡ n → FailsFirst (tail_checks (tail_of (kind_of h)) (plain_values (fields_of (kind_of h)) vs) at stop (drop at (digits_of_bytes (front ++ more)))) e) → TellsAll front n e
+all_tell : {p : Profile} (front : List ℕ) (n : ℕ) (h : Head) (stop : ℕ) (vs : List ℕ) (outer : List Begun) (at : ℕ) (e : FrameErr) → Reaches p front n (leading h stop vs ∷ outer) at
+    → drop (length vs) (fields_of (kind_of_head h)) ≡ [] → has_tail (tail_of (kind_of_head h)) ≡ true
+    → ((more : List ℕ) → length (front ++ more) ≡ n → FailsFirst (tail_checks (tail_of (kind_of_head h)) (plain_values (fields_of (kind_of_head h)) vs) at stop (drop at (digits_of_bytes (front ++ more)))) e) → TellsAll p front n e
 unfolding checks
 all_tell front n h stop vs outer at e reach all has f = λ more long.
     let ds : List Bool = digits_of_bytes (front ++ more) in
-    own_tells h outer ds e reach.root (tells ds (leading h stop vs) outer at ReadTail e (stands_in front more n (leading h stop vs ∷ outer) at reach long) (tail_turn h stop vs [] outer [] at (drop at ds) all has) (f more long))
+    root_tells h outer ds e reach.root (tells ds (leading h stop vs) outer at ReadTail e (stands_in front more n (leading h stop vs ∷ outer) at reach long) (tail_turn h stop vs [] outer [] at (drop at ds) all has) (f more long))
 
 text_fails : (fields : List ℕ) (at stop : ℕ) (rest : List Bool) (bit : ℕ) → at + 16 ≤ stop → tail_end Text fields at stop rest ≤ stop → is_utf8 (tail_at Text fields (stop - at) rest) ≡ false
     → at + 16 + 8 * utf8_valid_len (tail_at Text fields (stop - at) rest) ≡ bit → FailsFirst (tail_checks Text fields at stop rest) (Bad (record { bit = bit; reason = Utf8 }))
@@ -194,18 +186,23 @@ few_there Text near there left h e some even text = let t = text refl in (omega 
 few_there Bits near there left h e some even text = (omega (arith, h, e, some), omega (arith, h, e, some))
 few_there Data near there left h e some even text = (omega (arith, h, e, some), omega (arith, h, e, some))
 
-first_one : (vs : List ℕ) → first vs ≡ first (plain_values (field "BitCount" 16 ∷ []) vs)
+first_one : (vs : List ℕ) → first vs ≡ first (plain_values (any_field "BitCount" 16 ∷ []) vs)
 first_one [] = refl
 first_one (v ∷ vs) = refl
 
+-- bits are the tail of no message
+not_bits : (form : Tail) → (form ≡ Absent) ⊎ (form ≡ Data) → form ≡ Bits → ⊥
+not_bits form (inl is) e = absurd (let z : Absent ≡ Bits = sym is ∙ e in cc)
+not_bits form (inr is) e = absurd (let z : Data ≡ Bits = sym is ∙ e in cc)
+
 first_plain : (kind : Kind) (vs : List ℕ) → tail_of kind ≡ Bits → first vs ≡ first (plain_values (fields_of kind) vs)
-first_plain (Message k) vs e = absurd (let z : Absent ≡ Bits = sym (message_tail k) ∙ e in cc)
+first_plain (Message k) vs e = absurd (not_bits (tail_of (Message k)) (message_form k) e)
 first_plain (Parameter k) vs e = first_one vs ∙ ap (λ (rs : List FieldRule). first (plain_values rs vs)) (sym (bits_field k e))
 
 -- ---- a tail begins
 
-module _ (r : Reader) (front : List ℕ) (b : Begun) (outer : List Begun) (shape : Tail)
-    (rd : Reads r front b outer) (s : r.stage ≡ stage.Leading (length (fields_of r.top.kind))) (f : tail_of r.top.kind ≡ shape) (has : has_tail shape ≡ true) where
+module _ (r : BodyReader) (front : List ℕ) (b : Begun) (outer : List Begun) (shape : Tail)
+    (rd : HasReadTo r front b outer) (s : r.stage ≡ stage.Leading (length (fields_of r.top.kind))) (f : tail_of r.top.kind ≡ shape) (has : has_tail shape ≡ true) where
   abbrev pub led : IsLeading (length (fields_of r.top.kind)) r front b outer
   led = subst (λ (x : Stage). IsAtStage x r front b outer) s rd.stage
 
@@ -229,10 +226,10 @@ module _ (r : Reader) (front : List ℕ) (b : Begun) (outer : List Begun) (shape
       let small = rd.bit_small in
       omega (arith, c.1, l, same, small)
 
-  pub bare_reaches : Reaches front r.octets (leading b.head b.stop b.fields ∷ outer) (8 * r.at)
+  pub bare_reaches : Reaches r.profile front r.octets (leading b.head b.stop b.fields ∷ outer) (8 * r.at)
   bare_reaches =
       let place : bit_of r ≡ 8 * r.at = omega (arith, at_octet) in
-      subst (λ (n : ℕ). Reaches front r.octets (leading b.head b.stop b.fields ∷ outer) n) place (subst (λ (x : Begun). Reaches front r.octets (x ∷ outer) (bit_of r)) led.bare led.reaches)
+      subst (λ (n : ℕ). Reaches r.profile front r.octets (leading b.head b.stop b.fields ∷ outer) n) place (subst (λ (x : Begun). Reaches r.profile front r.octets (x ∷ outer) (bit_of r)) led.bare led.reaches)
 
   pub after_two : 2 ≤ r.at
   after_two =
@@ -241,12 +238,12 @@ module _ (r : Reader) (front : List ℕ) (b : Begun) (outer : List Begun) (shape
       omega (arith, a, l, at_octet)
 
   pub known : shape ≡ Bits → r.first ≡ first (plain_values (rules b) b.fields)
-  known e = led.first_is ∙ first_plain (kind_of b.head) b.fields (shape_is ∙ e)
+  known e = led.first_is ∙ first_plain (kind_of_head b.head) b.fields (shape_is ∙ e)
 
   pub is_before_tail : IsBeforeTail (b ∷ outer) shape
   is_before_tail = record { node = b; outer = outer; tree_is = refl; form_is = shape_is; all_fields = all_there; untailed = ap (λ (x : Begun). x.tail) led.bare }
 
-  pub count_tells : (octets : List ℕ) (e : FrameErr) → drop r.at front ≡ octets → ((later : List Bool) → FailsFirst (tail_checks shape (plain_values (rules b) b.fields) (8 * r.at) (8 * r.top.stop) (digits_of_bytes octets ++ later)) e) → TellsAll front r.octets e
+  pub count_tells : (octets : List ℕ) (e : FrameErr) → drop r.at front ≡ octets → ((later : List Bool) → FailsFirst (tail_checks shape (plain_values (rules b) b.fields) (8 * r.at) (8 * r.top.stop) (digits_of_bytes octets ++ later)) e) → TellsAll r.profile front r.octets e
   count_tells octets e d g =
       all_tell front r.octets b.head b.stop b.fields outer (8 * r.at) e bare_reaches none_left has_one (λ more long.
       let x : List Bool = digits_of_bytes octets ++ digits_of_bytes more in
@@ -262,11 +259,11 @@ module _ (r : Reader) (front : List ℕ) (b : Begun) (outer : List Begun) (shape
       let w = count_waits front r.octets b.head b.stop b.fields outer (8 * r.at) bare_reaches none_left has_one (λ e. ne (sym shape_is ∙ e)) (λ e. nd (sym shape_is ∙ e)) (omega (arith, room, stop)) (omega (arith, lo, few)) in
       subst (λ (x : Stage). IsUndecided front r.octets (settled x b ∷ outer)) (sym s) (subst (λ (x : Begun). IsUndecided front r.octets (x ∷ outer)) (sym led.bare) w)
 
-  pub tail_begun : (octets : List ℕ) (now : Reader) (count left : ℕ) → drop r.at front ≡ octets → now.at ≡ r.at + count → now.bit ≡ r.bit → now.octets ≡ r.octets
+  pub tail_begun : (octets : List ℕ) (now : BodyReader) (count left : ℕ) → drop r.at front ≡ octets → now.at ≡ r.at + count → now.bit ≡ r.bit → now.octets ≡ r.octets → now.profile ≡ r.profile
       → count ≡ count_octets shape → count ≤ length octets → 8 * r.at + 8 * (count + left) ≤ 8 * r.top.stop
       → ((later : List Bool) → left ≡ tail_length shape (plain_values (rules b) b.fields) (8 * r.top.stop - 8 * r.at) (digits_of_bytes octets ++ later))
-      → IsTailing left now front (begun b.head b.stop b.fields (Some []) none) outer
-  tail_begun octets now count left d at bit same c fits room many =
+      → IsTailing left now front (begin_node b.head b.stop b.fields (Some []) none) outer
+  tail_begun octets now count left d at bit same set c fits room many =
       let lo : length octets ≡ length front - r.at = sym (ap (λ (x : List ℕ). length x) d) ∙ length-drop r.at front in
       let size : count_octets (form b) ≡ count_octets shape = ap count_octets shape_is in
       let stop = rd.level.stop in
@@ -280,7 +277,7 @@ module _ (r : Reader) (front : List ℕ) (b : Begun) (outer : List Begun) (shape
         has = has_one;
         aligned = bit ∙ at_octet;
         place = at ∙ omega (arith, c, size);
-        reaches = subst (λ (n : ℕ). Reaches front n (leading b.head b.stop b.fields ∷ outer) (8 * r.at)) (sym same) bare_reaches;
+        reaches = subst (λ (q : Profile). Reaches q front now.octets (leading b.head b.stop b.fields ∷ outer) (8 * r.at)) (sym set) (subst (λ (n : ℕ). Reaches r.profile front n (leading b.head b.stop b.fields ∷ outer) (8 * r.at)) (sym same) bare_reaches);
         length_is = λ later. ap (λ (n : ℕ). tail_length (form b) plain (n - 8 * r.at) (drop (8 * r.at) (digits_of_bytes front) ++ later)) stop ∙ ap (λ (x : List Bool). tail_length (form b) plain (8 * r.top.stop - 8 * r.at) (x ++ later)) (drop-bytes r.at front le ∙ ap (λ (x : List ℕ). digits_of_bytes x) d)
             ∙ ap (λ (t : Tail). tail_length t plain (8 * r.top.stop - 8 * r.at) (digits_of_bytes octets ++ later)) shape_is ∙ (sym (many later) ∙ omega arith);
         inside = omega (arith, at, room, stop);
@@ -289,13 +286,13 @@ module _ (r : Reader) (front : List ℕ) (b : Begun) (outer : List Begun) (shape
         units = none_whole (form b) has_one;
       }
 
-pub tail_work : (r n : Reader) (left k : ℕ) → n.bit ≡ r.bit → n.outer ≡ r.outer → rank n.stage < rank r.stage → work n (left - k) < work r left
+pub tail_work : (r n : BodyReader) (left k : ℕ) → n.bit ≡ r.bit → n.outer ≡ r.outer → rank n.stage < rank r.stage → work n (left - k) < work r left
 unfolding work
 tail_work r n left k b o s = let e = ap (λ (x : ArrayVec _). length x.items) o in omega (arith, b, e, s)
 
 -- ---- a tail goes on and ends
 
-module _ (left : ℕ) (r : Reader) (front : List ℕ) (b : Begun) (outer : List Begun) (t : IsTailing left r front b outer) where
+module _ (left : ℕ) (r : BodyReader) (front : List ℕ) (b : Begun) (outer : List Begun) (t : IsTailing left r front b outer) where
   abbrev plain : List ℕ
   plain = plain_values (rules b) b.fields
 
@@ -319,7 +316,7 @@ module _ (left : ℕ) (r : Reader) (front : List ℕ) (b : Begun) (outer : List 
   text_of : form b ≡ Text → IsUtf8 t.so_far
   text_of e = subst (λ (f : Tail). AreWhole f t.so_far) e t.units
 
-  pub ended : left ≡ 0 → Reaches front r.octets (b ∷ outer) (8 * r.at)
+  pub ended : left ≡ 0 → Reaches r.profile front r.octets (b ∷ outer) (8 * r.at)
   ended z =
       let le = t.before in
       reaches_in front r.octets (b ∷ outer) (8 * r.at) t.reaches.fits (omega (arith, le)) t.reaches.root (λ more long.
@@ -331,11 +328,11 @@ module _ (left : ℕ) (r : Reader) (front : List ℕ) (b : Begun) (outer : List 
       let is : tail_at (form b) plain (b.stop - 8 * t.from) rest ≡ t.so_far = ap (λ (k : ℕ). octets_at k (drop (8 * count_octets (form b)) rest)) many ∙ ap (λ (x : List Bool). octets_at (length t.so_far) x) (tail_from more) ∙ t.read (digits_of_bytes more) in
       let inside = t.inside in
       let g = grow_tail b.head b.stop b.fields outer ds (8 * t.from) (stands_in front more r.octets (leading b.head b.stop b.fields ∷ outer) (8 * t.from) t.reaches long) t.all_fields t.has (omega (arith, e, inside)) (λ x. ap is_utf8 is ∙ is_utf8-from_IsUtf8 t.so_far (text_of x)) in
-      subst (λ (x : Begun). Stands ds (x ∷ outer) (8 * r.at)) (sym t.is)
-      (subst (λ (n : ℕ). Stands ds (begun b.head b.stop b.fields (Some t.so_far) none ∷ outer) n) to
-      (subst (λ (x : List ℕ). Stands ds (begun b.head b.stop b.fields (Some x) none ∷ outer) (tail_end (form b) plain (8 * t.from) b.stop rest)) is g)))
+      subst (λ (x : Begun). IsAt ds (x ∷ outer) (8 * r.at)) (sym t.is)
+      (subst (λ (n : ℕ). IsAt ds (begin_node b.head b.stop b.fields (Some t.so_far) none ∷ outer) n) to
+      (subst (λ (x : List ℕ). IsAt ds (begin_node b.head b.stop b.fields (Some x) none ∷ outer) (tail_end (form b) plain (8 * t.from) b.stop rest)) is g)))
 
-  done_due : (os : List ℕ) → due (begun b.head b.stop b.fields (Some os) none) ≡ Rest
+  done_due : (os : List ℕ) → due (begin_node b.head b.stop b.fields (Some os) none) ≡ Rest
   unfolding due
   done_due os = rw none_more refl
 
@@ -372,7 +369,7 @@ module _ (left : ℕ) (r : Reader) (front : List ℕ) (b : Begun) (outer : List 
       ap (λ (k : ℕ). octets_at k (drop c rest)) (long_tail more) ∙ split_at n left (drop c rest) ∙ ap (λ (x : List ℕ). x ++ octets_at left (drop (8 * n) (drop c rest))) a ∙ ap (λ (x : List Bool). t.so_far ++ octets_at left x) far
 
   pub text_tells : (octets near : List ℕ) → drop r.at front ≡ octets → AreOctets octets → near ≡ take (min (length octets) left) octets → form b ≡ Text → 1 ≤ left → utf8_valid_len near ≡ 0 → (length near ≡ left) ⊎ (4 ≤ length near)
-      → TellsAll front r.octets (Bad (record { bit = 8 * r.at; reason = Utf8 }))
+      → TellsAll r.profile front r.octets (Bad (record { bit = 8 * r.at; reason = Utf8 }))
   text_tells octets near d are near_is e some nothing far =
       let le = t.before in
       let k : ℕ = min (length octets) left in
@@ -402,9 +399,9 @@ module _ (left : ℕ) (r : Reader) (front : List ℕ) (b : Begun) (outer : List 
       subst (λ (f : Tail). FailsFirst (tail_checks f plain (8 * t.from) b.stop rest) (Bad (record { bit = 8 * r.at; reason = Utf8 }))) (sym e)
       (text_fails plain (8 * t.from) b.stop rest (8 * r.at) (omega (arith, place, size, inside)) (omega (arith, end, inside)) (ap is_utf8 tail ∙ bad) (omega (arith, valid_len, place, size))))
 
-  pub went_on : (octets near : List ℕ) (now : Reader) (used : ℕ) → drop r.at front ≡ octets → AreOctets octets → near ≡ take (min (length octets) left) octets → HasWhole (form b) near used
-      → now.at ≡ r.at + used → now.bit ≡ r.bit → now.octets ≡ r.octets → IsTailing (left - used) now front (begun b.head b.stop b.fields (Some (t.so_far ++ take used near)) none) outer
-  went_on octets near now used d are near_is h at bit same =
+  pub went_on : (octets near : List ℕ) (now : BodyReader) (used : ℕ) → drop r.at front ≡ octets → AreOctets octets → near ≡ take (min (length octets) left) octets → HasWhole (form b) near used
+      → now.at ≡ r.at + used → now.bit ≡ r.bit → now.octets ≡ r.octets → now.profile ≡ r.profile → IsTailing (left - used) now front (begin_node b.head b.stop b.fields (Some (t.so_far ++ take used near)) none) outer
+  went_on octets near now used d are near_is h at bit same set =
       let k : ℕ = min (length octets) left in
       let long_near : length near ≡ k = ap (λ (x : List ℕ). length x) near_is ∙ length-take-le k octets (omega arith) in
       let fits = used_within (form b) near used h in
@@ -430,7 +427,7 @@ module _ (left : ℕ) (r : Reader) (front : List ℕ) (b : Begun) (outer : List 
         has = t.has;
         aligned = bit ∙ t.aligned;
         place = at ∙ omega (arith, place, total);
-        reaches = subst (λ (m : ℕ). Reaches front m (leading b.head b.stop b.fields ∷ outer) (8 * t.from)) (sym same) t.reaches;
+        reaches = subst (λ (q : Profile). Reaches q front now.octets (leading b.head b.stop b.fields ∷ outer) (8 * t.from)) (sym set) (subst (λ (m : ℕ). Reaches r.profile front m (leading b.head b.stop b.fields ∷ outer) (8 * t.from)) (sym same) t.reaches);
         length_is = λ later. t.length_is later ∙ omega (arith, total, fits, long_near);
         inside = omega (arith, at, inside, fits, long_near);
         before = omega (arith, at, lo, le, fits, long_near);
@@ -447,6 +444,6 @@ module _ (left : ℕ) (r : Reader) (front : List ℕ) (b : Begun) (outer : List 
       let long_near : length near ≡ k = ap (λ (x : List ℕ). length x) near_is ∙ length-take-le k octets (omega arith) in
       few_there (form b) near (length octets) left h long_near some even_left text
 
-pub more_work : (r n : Reader) (left used : ℕ) → 1 ≤ used → used ≤ left → n.bit ≡ 0 → r.bit ≡ 0 → n.outer ≡ r.outer → rank n.stage ≡ rank r.stage → work n (left - used) < work r left
+pub more_work : (r n : BodyReader) (left used : ℕ) → 1 ≤ used → used ≤ left → n.bit ≡ 0 → r.bit ≡ 0 → n.outer ≡ r.outer → rank n.stage ≡ rank r.stage → work n (left - used) < work r left
 unfolding work
 more_work r n left used one le nb rb o s = let e = ap (λ (x : ArrayVec _). length x.items) o in omega (arith, one, le, nb, rb, e, s)

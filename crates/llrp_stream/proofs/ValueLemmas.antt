@@ -11,7 +11,7 @@ use Rattle.llrp_tree.specs.Tree.{none}
 use Rattle.llrp_tree.specs.Lawful.{AreInRange, IsTail, ArePlaced, NoneTooMany, NoneMissing, count_octets, head_octets, body_octets, AreLawful, AllLawful}
 use Rattle.llrp_tree.proofs.Leading.{plain}
 use Rattle.llrp_tree.specs.OpenTree.{Begun}
-use Rattle.llrp_stream.specs.Calls.Told.{with_value, IsNextValue}
+use Rattle.llrp_stream.specs.Calls.Received.{with_value, IsNextValue}
 use Rattle.llrp_stream.specs.Building.{OpenParts, Building}
 use Rattle.llrp_stream.specs.Private.Building.{HasHeader, HasOpen, parts_of}
 use Rattle.llrp_stream.specs.Private.OpenNodes.{with_parameter}

@@ -17,16 +17,16 @@ use Rattle.llrp_tree.specs.Spelling.{tv}
 use Rattle.llrp_tree.specs.OpenTree.{Begun, due, Rest, field_due, tail_due, in_range, plain_values, is_enough, takes_more, MayBegin}
 use Rattle.llrp_tree.specs.Lawful.{has_place}
 use Rattle.llrp_tree.specs.FirstFault.{number, first_digit, tv_kind}
-use Rattle.llrp_tree.specs.Calls.Standing.{Stands, begun, leading}
+use Rattle.llrp_tree.specs.Calls.Standing.{IsAt, begin_node, leading}
 use Rattle.llrp_tree.specs.Private.Standing.{Closes, KindPasses, is_tv_kind}
 use Rattle.llrp_tree.proofs.ChildLemmas.{tv_begun}
 use Rattle.llrp_tree.proofs.ReadingLemmas.{field_grows}
 use Rattle.llrp_tree.proofs.Totality.{child_closes}
-use Rattle.llrp_stream.specs.declared.reading.reader.Reader.{Reader}
-use Rattle.llrp_stream.specs.declared.reading.reader.Stage.TheVariants.{Children}
+use Rattle.llrp_stream.specs.declared.engine.body_reader.BodyReader.{BodyReader}
+use Rattle.llrp_stream.specs.declared.engine.body_reader.Stage.TheVariants.{Children}
 use Rattle.llrp_stream.specs.Calls.Front.{Reaches}
-use Rattle.llrp_stream.specs.Calls.Told.{IsNextValue}
-use Rattle.llrp_stream.specs.Calls.Reading.{Reads}
+use Rattle.llrp_stream.specs.Calls.Received.{IsNextValue}
+use Rattle.llrp_stream.specs.Calls.Reading.{HasReadTo}
 use Rattle.llrp_stream.proofs.Reached.{reaches_in, seen}
 use Rattle.llrp_stream.proofs.ChildPart.{resting, stands_now}
 use Rattle.llrp_stream.proofs.ValueLemmas.{value_in_range}
@@ -93,12 +93,12 @@ module _ (k : ParamKind) (short : is_tv k ≡ true) where
 
   -- ---- it comes next
 
-  module _ (r : Reader) (front : List ℕ) (b : Begun) (outer : List Begun) (rd : Reads r front b outer) (s : r.stage ≡ Children) (octets : List ℕ) (d : drop r.at front ≡ octets) (long : is_tv_kind r.top.kind ≡ false)
+  module _ (r : BodyReader) (front : List ℕ) (b : Begun) (outer : List Begun) (rd : HasReadTo r front b outer) (s : r.stage ≡ Children) (octets : List ℕ) (d : drop r.at front ≡ octets) (long : is_tv_kind r.top.kind ≡ false)
       (passes : (later : List Bool) → (first_digit (digits_of_bytes octets ++ later) ≡ true) × KindPasses (tv_kind (profile_of r.top.kind) (digits_of_bytes octets ++ later)) (groups_of r.top.kind) b.children (length outer + 1) k) where
     here : (more : List ℕ) → drop (8 * r.at) (digits_of_bytes (front ++ more)) ≡ digits_of_bytes octets ++ digits_of_bytes more
     here more = ap (λ (n : ℕ). drop n (digits_of_bytes (front ++ more))) (let z : 8 * r.at ≡ 8 * r.at + 0 = omega arith in z) ∙ seen front more octets r.at 0 rd.before d
 
-    begun_in : (more : List ℕ) → length (front ++ more) ≡ r.octets → 8 * r.at < b.stop → Stands (digits_of_bytes (front ++ more)) (leading (tv k) b.stop [] ∷ b ∷ outer) (8 * r.at + 8)
+    begun_in : (more : List ℕ) → length (front ++ more) ≡ r.octets → 8 * r.at < b.stop → IsAt (digits_of_bytes (front ++ more)) (leading (tv k) b.stop [] ∷ b ∷ outer) (8 * r.at + 8)
     begun_in more long_is lt =
         let ds : List Bool = digits_of_bytes (front ++ more) in
         let P : List Bool → Type 0 = λ rest. (first_digit rest ≡ true) × KindPasses (tv_kind (profile_of r.top.kind) rest) (groups_of r.top.kind) b.children (length outer + 1) k in
@@ -119,15 +119,15 @@ module _ (k : ParamKind) (short : is_tv k ≡ true) where
 
     module _ (v : ℕ) (room : 8 * r.at + 8 + bits_of (fields_of (Parameter k)) ≤ 8 * r.top.stop) (within : 8 + bits_of (fields_of (Parameter k)) ≤ 8 * length octets)
         (is : (later : List Bool) → v ≡ number (digits_of_bytes octets ++ later) 8 (bits_of (fields_of (Parameter k)))) (fits : v < 2 ^ bits_of (fields_of (Parameter k))) where
-      pub value_reaches : Reaches front r.octets (begun b.head b.stop b.fields b.tail (and b.children k (v ∷ []) [] none) ∷ outer) (8 * r.at + 8 + bits_of (fields_of (Parameter k)))
+      pub value_reaches : Reaches r.profile front r.octets (begin_node b.head b.stop b.fields b.tail (and b.children k (v ∷ []) [] none) ∷ outer) (8 * r.at + 8 + bits_of (fields_of (Parameter k)))
       value_reaches =
           let width = bits_are in
           let lo : length octets ≡ length front - r.at = sym (ap (λ (x : List ℕ). length x) d) ∙ length-drop r.at front in
           let fits_rule : v < 2 ^ rule.width = subst (λ (n : ℕ). v < 2 ^ n) width fits in
-          reaches_in front r.octets (begun b.head b.stop b.fields b.tail (and b.children k (v ∷ []) [] none) ∷ outer) (8 * r.at + 8 + bits_of (fields_of (Parameter k))) (resting r front b outer rd s).reaches.fits (omega (arith, rd.before, lo, within)) (resting r front b outer rd s).reaches.root (λ more long_is.
+          reaches_in front r.octets (begin_node b.head b.stop b.fields b.tail (and b.children k (v ∷ []) [] none) ∷ outer) (8 * r.at + 8 + bits_of (fields_of (Parameter k))) (resting r front b outer rd s).reaches.fits (omega (arith, rd.before, lo, within)) (resting r front b outer rd s).reaches.root (λ more long_is.
           let ds : List Bool = digits_of_bytes (front ++ more) in
           let there : drop (8 * r.at + 8) ds ≡ drop 8 (digits_of_bytes octets ++ digits_of_bytes more) = seen front more octets r.at 8 rd.before d in
           let st = field_grows ds (Parameter k) (tv k) b.stop [] (v ∷ []) (b ∷ outer) (8 * r.at + 8) rule [] v refl fields_are (omega (arith, rd.level.stop, room, width)) (is (digits_of_bytes more) ∙ ap (λ (n : ℕ). number (digits_of_bytes octets ++ digits_of_bytes more) 8 n) width ∙ ap (λ (x : List Bool). number x 0 rule.width) (sym there)) (field_in_range v fits_rule) refl (begun_in more long_is (omega (arith, rd.level.stop, room))) in
           let c : Closes ds (leading (tv k) b.stop (v ∷ [])) (b ∷ outer) (8 * r.at + 8 + rule.width) = record { stands = st; ready = value_due b.stop v; over = refl; enough = value_enough } in
           let cl = child_closes ds b.head b.stop b.fields b.tail b.children (v ∷ []) None none outer (8 * r.at + 8 + rule.width) (tv k) b.stop c in
-          subst (λ (n : ℕ). Stands ds (begun b.head b.stop b.fields b.tail (and b.children k (v ∷ []) [] none) ∷ outer) (8 * r.at + 8 + n)) (sym width) (subst (λ (x : List ℕ). Stands ds (begun b.head b.stop b.fields b.tail (and b.children k x [] none) ∷ outer) (8 * r.at + 8 + rule.width)) (plain_is v) cl))
+          subst (λ (n : ℕ). IsAt ds (begin_node b.head b.stop b.fields b.tail (and b.children k (v ∷ []) [] none) ∷ outer) (8 * r.at + 8 + n)) (sym width) (subst (λ (x : List ℕ). IsAt ds (begin_node b.head b.stop b.fields b.tail (and b.children k x [] none) ∷ outer) (8 * r.at + 8 + rule.width)) (plain_is v) cl))

@@ -4,8 +4,10 @@ pub mod Device
 pub mod Frames
 pub mod Front
 pub mod Items
+pub mod Lengths
 pub mod Pieces
+pub mod Progress
 pub mod Reading
 pub mod StreamLaws
-pub mod Told
+pub mod Received
 pub mod Writing

@@ -24,11 +24,11 @@ abbrev pub Breaks : List ℕ → Type 0
 Breaks bytes = (6 ≤ length bytes) × (length_field bytes < 10)
 
 -- how the bytes after the last frame end the stream
-abbrev pub Ends : List ℕ → End → Type 0
-Ends tail Clean = tail ≡ []
-Ends tail (Rest n) = (n ≡ length tail) × (0 < n) × IsPartial tail
-Ends tail Broken = Breaks tail
-Ends tail Dead = ⊥
+abbrev pub EndsStream : List ℕ → End → Type 0
+EndsStream tail Clean = tail ≡ []
+EndsStream tail (Rest n) = (n ≡ length tail) × (0 < n) × IsPartial tail
+EndsStream tail Broken = Breaks tail
+EndsStream tail Dead = ⊥
 
 -- the lists in a row
 abbrev pub joined : List (List ℕ) → List ℕ
@@ -39,4 +39,4 @@ pub record Cuts (stream : List ℕ) (frames : List (List ℕ)) (end : End) : Typ
   pub tail : List ℕ
   pub whole : stream ≡ joined frames ++ tail
   pub each : AllByRecursion IsFrame frames
-  pub ends : Ends tail end
+  pub ends : EndsStream tail end

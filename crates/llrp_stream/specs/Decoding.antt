@@ -1,8 +1,9 @@
 -- What a decoder stands for, whatever it keeps.
 use Rattle.std.specs.Prelude.{◌≡◌, ℕ, ◌+◌, Bool, true, false, List, length}
+use Rattle.llrp_schema.specs.declared.kinds.Profile.{Profile}
 use Rattle.llrp_tree.specs.declared.fault.Fault.{Fault}
-use Rattle.llrp_stream.specs.declared.reading.body.Body.{Body}
 use Rattle.llrp_stream.specs.Building.{Building, nodes_weight}
+use Rattle.llrp_stream.specs.Calls.Progress.{Progress}
 
 -- what a decoder keeps
 pub data Kept : Type 0 where
@@ -10,48 +11,38 @@ pub data Kept : Type 0 where
   between : Kept
   -- the raw bytes of a header that is not whole
   header : (bytes : List ℕ) → Kept
-  -- the id of a frame, how far it is read with the raw bytes of an unfinished part, and its open nodes
-  reading : (id : ℕ) (body : Body) (open_nodes : Building) → Kept
+  -- the id of a frame, the raw bytes of a part that is not whole, how far it is read, and its nodes
+  reading : (id : ℕ) (bytes : List ℕ) (progress : Progress) (nodes : Building) → Kept
   -- of a frame that it skips, how many bytes were taken, its length field, its id and its fault
   skipping : (count octets id : ℕ) (fault : Fault) → Kept
   -- nothing, after a break and after a refused growth
   broken : Kept
   dead : Kept
 
--- a decoder, and the most octets that a frame may have
+-- a decoder, the set of kinds that it knows, and the most octets that a frame may have
 pub record DecoderState : Type 0 where
+  pub profile : Profile
   pub limit : ℕ
   pub kept : Kept
 
 -- how many raw bytes
 abbrev pub raw_octets : Kept → ℕ
-raw_octets between = 0
 raw_octets (header bytes) = length bytes
-raw_octets (reading id body open_nodes) = length body.raw.items
-raw_octets (skipping count octets id fault) = 0
-raw_octets broken = 0
-raw_octets dead = 0
+raw_octets (reading id bytes progress nodes) = length bytes
+raw_octets _ = 0
 
 -- two for each node that is kept, the message and open parents among them, and the octets of their tails, those of a begun one among them
 abbrev pub kept_weight : Kept → ℕ
-kept_weight between = 0
-kept_weight (header bytes) = 0
-kept_weight (reading id body open_nodes) = nodes_weight open_nodes.nodes
-kept_weight (skipping count octets id fault) = 0
-kept_weight broken = 0
-kept_weight dead = 0
+kept_weight (reading id bytes progress nodes) = nodes_weight nodes.nodes
+kept_weight _ = 0
 
 -- what a decoder weighs: its raw bytes and its nodes
-abbrev pub weight : DecoderState → ℕ
-weight decoder = raw_octets decoder.kept + kept_weight decoder.kept
+abbrev pub held_weight : DecoderState → ℕ
+held_weight decoder = raw_octets decoder.kept + kept_weight decoder.kept
 
 abbrev pub is_skipping : Kept → Bool
-is_skipping between = false
-is_skipping (header bytes) = false
-is_skipping (reading id body open_nodes) = false
 is_skipping (skipping count octets id fault) = true
-is_skipping broken = false
-is_skipping dead = false
+is_skipping _ = false
 
 -- the stream broke
 abbrev pub IsBroken : DecoderState → Type 0

@@ -7,7 +7,9 @@ pub mod Headers
 pub mod Keeping
 pub mod OpenNodes
 pub mod Pieces
+pub mod Profile
 pub mod Reading
+pub mod Steps
 pub mod Tails
-pub mod Told
+pub mod Received
 pub mod Writing

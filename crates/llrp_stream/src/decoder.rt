@@ -1,15 +1,17 @@
 //! The decoder.
 
 ghost use Rattle.std.specs.Prelude.{◌≡◌, ◌<◌, ◌≤◌, List, ℕ, [], IfOk, Err, None, Some, length, IsSome};
+ghost use Rattle.llrp_schema.specs.declared.kinds.Profile.{Profile};
 ghost use Rattle.llrp_tree.specs.declared.TheConstants.{MAX_LIMIT};
 ghost use Rattle.llrp_tree.specs.declared.fault.Fault.{Fault};
 ghost use Rattle.llrp_tree.specs.Tree.{MessageTree};
 ghost use Rattle.llrp_stream.specs.declared.item.Item.TheVariants as item;
-ghost use Rattle.llrp_stream.specs.declared.reading.frames.Outcome.TheVariants.{Whole, Bad};
+ghost use Rattle.llrp_stream.specs.declared.engine.frames.Outcome.TheVariants.{Whole, Bad};
 
+use crate::engine::{Builder, Frames, Outcome};
 use crate::item::{End, Fed, FeedErr, Item};
-use crate::reading::{Builder, Frames, Outcome};
 use crate::state::State;
+use llrp_schema::Profile;
 use std::alloc::Global;
 use std::marker::Model;
 
@@ -60,22 +62,33 @@ impl Decoder {
     ghost use Rattle.llrp_tree.specs.declared.TheConstants.{MAX_LIMIT};
     ghost use Rattle.llrp_stream.specs.declared.item.End.TheVariants as at_end;
     ghost use Rattle.llrp_stream.specs.declared.item.FeedErr.TheVariants.{Broken, Dead};
-    ghost use Rattle.llrp_stream.specs.Cuts.{Ends};
-    ghost use Rattle.llrp_stream.specs.Decoding.{IsBroken, IsDead, raw_octets, weight};
-    ghost use Rattle.llrp_stream.specs.Calls.Decoding.{IsDecided, Stands};
-    ghost use Rattle.llrp_stream.specs.Feeding.{Feeds};
-    ghost use Rattle.llrp_stream.specs.Calls.Items.{HasHeaderFault};
+    ghost use Rattle.llrp_stream.specs.Cuts.{EndsStream};
+    ghost use Rattle.llrp_stream.specs.Decoding.{IsBroken, IsDead, raw_octets, held_weight};
+    ghost use Rattle.llrp_stream.specs.Calls.Decoding.{IsDecidedIn, Stands, StandsIn};
+    ghost use Rattle.llrp_stream.specs.Feeding.{Feeds, FeedsIn};
+    ghost use Rattle.llrp_stream.specs.Calls.Items.{HasHeaderFaultIn};
 
-    /// A decoder that was fed nothing; it takes no memory. A frame of more than `limit` octets is
-    /// faulty.
+    /// A decoder of the profile that was fed nothing; it takes no memory. A frame of more than
+    /// `limit` octets is faulty.
     pub fn new(alloc: Global, limit: u32) -> Decoder
         requires least { 10 ≤ limit }
         requires most { limit ≤ MAX_LIMIT }
         ensures stands { Stands result [] }
         ensures limit { result.limit ≡ limit }
     {
+        Decoder::new_in(alloc, Profile::Own, limit)
+    }
+
+    /// A decoder of a set of kinds that was fed nothing; it takes no memory. A frame of more than
+    /// `limit` octets is faulty.
+    pub fn new_in(alloc: Global, profile: Profile, limit: u32) -> Decoder
+        requires least { 10 ≤ limit }
+        requires most { limit ≤ MAX_LIMIT }
+        ensures stands { StandsIn profile result [] }
+        ensures limit { result.limit ≡ limit }
+    {
         Decoder {
-            frames: Frames::new(limit),
+            frames: Frames::new_in(profile, limit),
             builder: Builder::new(alloc),
         }
     }
@@ -88,9 +101,13 @@ impl Decoder {
         // For any bytes that it may have been fed of an unfinished frame, it goes on from them.
         ensures stands { (front : List ℕ) → Stands self.old front
             → Feeds self.old front piece.now self.new result }
+        // The same in the set of kinds that it knows.
+        ensures stands_in { (p : Profile) (front : List ℕ) → StandsIn p self.old front
+            → FeedsIn p self.old front piece.now self.new result }
         ensures broken { IsBroken self.old → (result ≡ Err Broken) × IsBroken self.new }
         ensures dead { IsDead self.old → (result ≡ Err Dead) × IsDead self.new }
 
+        ensures profile { self.new.profile ≡ self.old.profile }
         ensures limit { self.new.limit ≡ self.old.limit }
         ensures within { IfOk result (λ fed. fed.used ≤ length piece.now) }
         ensures progress { IfOk result (λ fed. IsSome fed.item → 0 < fed.used) }
@@ -109,7 +126,9 @@ impl Decoder {
 
     /// How the stream ends if no more bytes follow; `Rest` counts those after the last whole frame.
     pub fn finish(&self) -> End
-        ensures stands { (front : List ℕ) → Stands self.now front → Ends front result }
+        ensures stands { (front : List ℕ) → Stands self.now front → EndsStream front result }
+        ensures stands_in { (p : Profile) (front : List ℕ) → StandsIn p self.now front
+            → EndsStream front result }
         ensures broken { IsBroken self.now → result ≡ at_end.Broken }
         ensures dead { IsDead self.now → result ≡ at_end.Dead }
     {
@@ -120,14 +139,15 @@ impl Decoder {
     /// and the bytes of their tails. This is at most what was fed since the last frame ended, and 0
     /// from the byte on that decides a fault of the frame.
     pub fn held(&self) -> u32
-        ensures weight { result ≡ weight self.now }
+        ensures weight { result ≡ held_weight self.now }
         ensures within { result ≤ self.now.limit }
-        ensures front { (front : List ℕ) → Stands self.now front → result ≤ length front }
+        ensures front { (p : Profile) (front : List ℕ) → StandsIn p self.now front
+            → result ≤ length front }
         ensures raw { raw_octets self.now.kept ≤ 16 }
-        ensures skipped { (front : List ℕ) → Stands self.now front
-            → HasHeaderFault self.now.limit front → result ≡ 0 }
-        ensures decided { (front : List ℕ) → Stands self.now front → IsDecided self.now.limit front
-            → result ≡ 0 }
+        ensures skipped { (p : Profile) (front : List ℕ) → StandsIn p self.now front
+            → HasHeaderFaultIn p self.now.limit front → result ≡ 0 }
+        ensures decided { (p : Profile) (front : List ℕ) → StandsIn p self.now front
+            → IsDecidedIn p self.now.limit front → result ≡ 0 }
     {
         match self.frames.state {
             State::Header => self.frames.raw_octets(),

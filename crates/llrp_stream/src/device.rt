@@ -1,7 +1,7 @@
 //! Sources and sinks: where bytes come from and go to, with a count of what happened to them.
 
-ghost use Rattle.std.specs.Prelude.{◌≡◌, ◌+◌, ◌^◌, ◌<◌, length};
-ghost use Rattle.llrp_stream.specs.Calls.Device.{CanRead, ReadStep, WriteStep, new_sink, new_source};
+ghost use Rattle.std.specs.Prelude.{◌≡◌, ◌<◌, length};
+ghost use Rattle.llrp_stream.specs.Calls.Device.{CanRead, CanWrite, ReadStep, WriteStep, new_sink, new_source};
 ghost use Rattle.llrp_stream.specs.Device.{SinkLog, SourceLog};
 
 use std::io;
@@ -26,7 +26,7 @@ pub trait Sink {
 
     /// Writes the first bytes of `buf`, and returns how many: 0 counts as a failure.
     fn write(&mut self, buf: &[u8]) -> io::Result<usize>
-        requires room { (log self.old).failures + 1 < 2 ^ 64 }
+        requires room { CanWrite (log self.old) }
         requires buffer { 0 < length buf.now }
         ensures { WriteStep (log self.old) (log self.new) result buf.now };
 }

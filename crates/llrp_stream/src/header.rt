@@ -1,12 +1,22 @@
 //! The first octets of a frame.
 
+ghost use Rattle.llrp_stream.specs.Calls.Lengths.{IsFront};
 ghost use Rattle.llrp_stream.specs.Private.Headers.{Starts};
 
 use byteorder::{BigEndian, ByteOrder};
-use llrp_tree::{Fault, Header, read_header};
+use llrp_schema::Profile;
+use llrp_tree::{Fault, HEADER_OCTETS, Header, read_header_in};
 
-/// How many octets a header has.
-pub(crate) const HEADER: usize = 10;
+/// What the length field at the front of a stream says.
+#[derive(Clone, Copy)]
+pub enum Front {
+    /// It is not whole.
+    Short,
+    /// It is below 10, which no frame has.
+    Broken,
+    /// A frame of this many octets begins there.
+    Frame(u32),
+}
 
 /// What is kept of a faulty frame.
 #[derive(Clone, Copy)]
@@ -18,7 +28,7 @@ pub(crate) struct FaultyHeader {
 
 /// What the first octets of a frame say.
 #[derive(Clone, Copy)]
-pub(crate) enum Start {
+pub(crate) enum FrameStart {
     /// The header is not whole.
     Short,
     /// The length field is below 10.
@@ -29,27 +39,37 @@ pub(crate) enum Start {
     Sound(Header),
 }
 
-/// Reads the header at the front of a frame.
+/// Reads the length field at the front of a stream.
 #[inline(always)]
-pub(crate) fn start_of(bytes: &[u8], limit: u32) -> Start
-    ensures { Starts limit bytes.now result }
+pub fn front_of(octets: &[u8]) -> Front
+    ensures { IsFront octets.now result }
 {
-    if bytes.len() < 6 {
-        return Start::Short;
+    if octets.len() < 6 {
+        return Front::Short;
     }
-    let octets = BigEndian::read_u32(&bytes[2..]);
-    if octets < HEADER as u32 {
-        return Start::Breaking;
+    let count = BigEndian::read_u32(&octets[2..]);
+    if count < HEADER_OCTETS as u32 {
+        return Front::Broken;
     }
-    if bytes.len() < HEADER {
-        return Start::Short;
-    }
-    match read_header(bytes, limit) {
-        Ok(header) => Start::Sound(header),
-        Err(fault) => Start::Faulty(FaultyHeader {
-            octets,
-            id: BigEndian::read_u32(&bytes[6..]),
-            fault,
-        }),
+    Front::Frame(count)
+}
+
+/// Reads the header at the front of a frame of a set of kinds.
+#[inline(always)]
+pub(crate) fn start_of(profile: Profile, bytes: &[u8], limit: u32) -> FrameStart
+    ensures { Starts profile limit bytes.now result }
+{
+    match front_of(bytes) {
+        Front::Short => FrameStart::Short,
+        Front::Broken => FrameStart::Breaking,
+        Front::Frame(_) if bytes.len() < HEADER_OCTETS => FrameStart::Short,
+        Front::Frame(octets) => match read_header_in(profile, bytes, limit) {
+            Ok(header) => FrameStart::Sound(header),
+            Err(fault) => FrameStart::Faulty(FaultyHeader {
+                octets,
+                id: BigEndian::read_u32(&bytes[6..]),
+                fault,
+            }),
+        },
     }
 }

@@ -1,17 +1,18 @@
 //! Laws of frames and streams, and of a decoder that is fed one.
 
 ghost use Rattle.std.specs.Prelude.{List, ◌≤◌, ℕ};
+ghost use Rattle.llrp_schema.specs.declared.kinds.Profile.{Profile};
 ghost use Rattle.llrp_tree.specs.Lawful.{AreOctets};
 ghost use Rattle.llrp_tree.specs.declared.TheConstants.{MAX_LIMIT};
 ghost use Rattle.llrp_stream.specs.Cuts.{IsFrame};
-ghost use Rattle.llrp_stream.specs.Calls.StreamLaws.{HasOneItem, IsCutInOneWay, ItemsGrow, PrefixOfFrames};
-ghost use Rattle.llrp_stream.specs.StreamLaws.{HasOneListing, PiecesAreTheStream};
+ghost use Rattle.llrp_stream.specs.Calls.StreamLaws.{HasOneItemIn, IsCutInOneWay, ItemsGrowIn, PrefixOfFrames};
+ghost use Rattle.llrp_stream.specs.StreamLaws.{HasOneListingIn, PiecesAreTheStream};
 
 /// Each frame has one message or exactly one first fault, and never both.
 #[tactic(auto, using(crate::proofs::ItemLemmas::has_one_item))]
 pub fn one_item()
-    ensures { (limit : ℕ) (frame : List ℕ) → limit ≤ MAX_LIMIT → AreOctets frame → IsFrame frame
-        → HasOneItem limit frame }
+    ensures { (p : Profile) (limit : ℕ) (frame : List ℕ) → limit ≤ MAX_LIMIT → AreOctets frame
+        → IsFrame frame → HasOneItemIn p limit frame }
 {}
 
 /// Each stream is cut into frames in one way.
@@ -22,8 +23,8 @@ pub fn one_cut()
 /// Each stream of octets has one list of items, and one end.
 #[tactic(auto, using(crate::proofs::ItemLemmas::has_one_listing))]
 pub fn one_listing()
-    ensures { (limit : ℕ) (stream : List ℕ) → limit ≤ MAX_LIMIT → AreOctets stream
-        → HasOneListing limit stream }
+    ensures { (p : Profile) (limit : ℕ) (stream : List ℕ) → limit ≤ MAX_LIMIT → AreOctets stream
+        → HasOneListingIn p limit stream }
 {}
 
 /// However a stream is cut into pieces, the items that a new decoder returns are those of the
@@ -41,5 +42,5 @@ pub fn prefix_of_frames()
 
 /// More bytes only add items after those so far, for a caller that feeds them as they come.
 pub fn items_grow()
-    ensures { (limit : ℕ) → ItemsGrow limit }
+    ensures { (p : Profile) (limit : ℕ) → ItemsGrowIn p limit }
 {}

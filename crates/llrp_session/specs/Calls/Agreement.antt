@@ -2,8 +2,8 @@
 use Rattle.std.specs.Prelude.{◌≡◌, ◌≤◌, ◌⊎◌, ℕ, Bool, true, false, List, [], ◌∷◌, ◌++◌, Option, None, Some, Result, Ok, Err, if◌then◌else◌}
 use Rattle.llrp_tree.specs.Tree.{Tree}
 use Rattle.llrp_session.specs.Table.{states, active_count}
-use Rattle.llrp_session.specs.Words.{ReaderWord, Response, Listed, Error, ReaderMessage, ClientWord, Asks, Acknowledges, ClientMessage}
-use Rattle.llrp_session.specs.Calls.Words.{heard}
+use Rattle.llrp_session.specs.Contents.{ReaderContent, Response, Listed, Error, ReaderMessage, ClientContent, Asks, Acknowledges, ClientMessage}
+use Rattle.llrp_session.specs.Calls.Contents.{heard}
 use Rattle.llrp_session.specs.Refusal.{Refusal}
 use Rattle.llrp_session.specs.ReaderMachine.{ReaderEvent}
 use Rattle.llrp_session.specs.Sightings.{tags_of, history, no_history}
@@ -67,7 +67,7 @@ NothingIsUnexpected w = AreTaken w.down w.client
 
 -- ---- the pending request
 
-abbrev pub awaited_by : ClientWord → ℕ → List Pending
+abbrev pub awaited_by : ClientContent → ℕ → List Pending
 awaited_by Acknowledges id = []
 awaited_by (Asks k) id = as_list (awaited id k)
 
@@ -76,7 +76,7 @@ unfoldable pub requests : List ClientMessage → List Pending
 requests [] = []
 requests (m ∷ ms) = awaited_by m.word m.id ++ requests ms
 
-abbrev pub is_response : ReaderWord → Bool
+abbrev pub is_response : ReaderContent → Bool
 is_response (Response operation status) = true
 is_response (Listed table) = true
 is_response (Error status) = true

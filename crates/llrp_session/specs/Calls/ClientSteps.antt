@@ -5,7 +5,7 @@ use Rattle.llrp_session.specs.declared.client.refusal.CmdFault.TheVariants as cm
 use Rattle.llrp_session.specs.declared.client.refusal.TakeFault.{TakeFault}
 use Rattle.llrp_session.specs.declared.client.refusal.TakeFault.TheVariants as take
 use Rattle.llrp_session.specs.Refusal.{Refusal, Closed, NotReady, Busy, OverLimit, IdsSpent, Unexpected}
-use Rattle.llrp_session.specs.Words.{ClientMessage}
+use Rattle.llrp_session.specs.Contents.{ClientMessage}
 use Rattle.llrp_session.specs.ClientMachine.{Sending, Taking}
 
 -- why a command is refused: as the machine refuses it; memory can run out only where the machine sends it

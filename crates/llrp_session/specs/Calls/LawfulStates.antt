@@ -1,8 +1,8 @@
 -- Machines whose numbers are those that their types hold, and whose reports may be sent; and the same of what happens to them.
 use Rattle.std.specs.Prelude.{◌≡◌, ◌^◌, ◌<◌, ◌≤◌, ◌⊎◌, ℕ, List, [], ◌∷◌, length}
 use Rattle.llrp_schema.specs.declared.kinds.ParamKind.TheVariants.{RoSpec as RoSpecKind}
-use Rattle.llrp_tree.specs.Lawful.{IsLawful}
-use Rattle.llrp_session.specs.Words.{Request, AddRoSpec, DeleteRoSpec, StartRoSpec, StopRoSpec, EnableRoSpec, DisableRoSpec, GetRoSpecs, SetReaderConfig, GetReports, CloseConnection, NoRequest, Unsupported, ReaderMessage, ClientMessage}
+use Rattle.llrp_tree.specs.Lawful.{IsLawfulTree}
+use Rattle.llrp_session.specs.Contents.{Request, AddRoSpec, DeleteRoSpec, StartRoSpec, StopRoSpec, EnableRoSpec, DisableRoSpec, ReaderMessage, ClientMessage}
 use Rattle.llrp_session.specs.ReaderMachine.{Reader, ReaderEvent, Connect, Take, TakeBad, Seen, Tick, most_held}
 use Rattle.llrp_session.specs.Calls.LawfulWords.{AreReports, AreToldOf, FitsLimit, IsLawfulReaderMessage, IsLawfulClientMessage}
 use Rattle.llrp_session.specs.MessageWorld.{IsLawfulSighting}
@@ -18,18 +18,13 @@ pub record IsLawfulReader (r : Reader) : Type 0 where
   pub fits : FitsLimit r.limit r.table
 
 abbrev pub IsLawfulRequest : Request → Type 0
-IsLawfulRequest (AddRoSpec rospec) = (rospec.kind ≡ RoSpecKind) × IsLawful rospec
+IsLawfulRequest (AddRoSpec rospec) = (rospec.kind ≡ RoSpecKind) × IsLawfulTree rospec
 IsLawfulRequest (DeleteRoSpec id) = id < 2 ^ 32
 IsLawfulRequest (StartRoSpec id) = id < 2 ^ 32
 IsLawfulRequest (StopRoSpec id) = id < 2 ^ 32
 IsLawfulRequest (EnableRoSpec id) = id < 2 ^ 32
 IsLawfulRequest (DisableRoSpec id) = id < 2 ^ 32
-IsLawfulRequest GetRoSpecs = Unit {0}
-IsLawfulRequest (SetReaderConfig config) = Unit {0}
-IsLawfulRequest GetReports = Unit {0}
-IsLawfulRequest CloseConnection = Unit {0}
-IsLawfulRequest NoRequest = Unit {0}
-IsLawfulRequest Unsupported = Unit {0}
+IsLawfulRequest _ = Unit {0}
 
 abbrev pub IsLawfulReaderEvent : ReaderEvent → Type 0
 IsLawfulReaderEvent Connect = Unit {0}

@@ -5,10 +5,10 @@ use Rattle.llrp_schema.specs.declared.kinds.Kind.TheVariants.{Message}
 use Rattle.llrp_schema.specs.declared.kinds.Profile.TheVariants.{Own}
 use Rattle.llrp_schema.specs.Schema.{profile_of}
 use Rattle.llrp_tree.specs.Tree.{Tree, MessageTree}
-use Rattle.llrp_tree.specs.Lawful.{IsLawful, IsLawfulMessage, tree_octets, message_octets}
+use Rattle.llrp_tree.specs.Lawful.{IsLawfulTree, IsLawfulMessage, tree_octets, message_octets}
 use Rattle.llrp_session.specs.RoSpec.{RoSpec as RoSpecRead}
 use Rattle.llrp_session.specs.Table.{Entry, octets_of}
-use Rattle.llrp_session.specs.Words.{Command, Add, Delete, Start, Stop, Enable, Disable, GetRospecs, SetKeepalive, GetReport, Close, ReaderWord, Response, Listed, Error, Report, KeepaliveSent, Accepted, Started, Ended, Overflowed, ReaderMessage, ClientWord, Asks, Acknowledges, ClientMessage}
+use Rattle.llrp_session.specs.Contents.{Command, Add, Delete, Start, Stop, Enable, Disable, GetRospecs, SetKeepalive, GetReport, Close, ReaderContent, Response, Listed, Error, Report, KeepaliveSent, Accepted, Started, Ended, Overflowed, ReaderMessage, ClientContent, Asks, Acknowledges, ClientMessage}
 use Rattle.llrp_session.specs.ReaderMachine.{most_held}
 
 -- a message that may be sent: a lawful one of the profile, within the limit
@@ -25,7 +25,7 @@ longest_report = 57
 
 pub record IsReport (t : Tree) : Type 0 where
   pub kind : t.kind ≡ TagReportData
-  pub lawful : IsLawful t
+  pub lawful : IsLawfulTree t
   pub short : tree_octets t ≤ longest_report
 
 abbrev pub AreReports : List Tree → Type 0
@@ -37,7 +37,7 @@ pub record IsToldOf (s : RoSpecRead) : Type 0 where
   pub id : s.id < 2 ^ 32
   pub inventory : s.inventory < 2 ^ 16
   pub kind : s.tree.kind ≡ RoSpec
-  pub lawful : IsLawful s.tree
+  pub lawful : IsLawfulTree s.tree
   pub octets : s.octets ≡ tree_octets s.tree
 
 abbrev pub AreToldOf : List Entry → Type 0
@@ -48,7 +48,7 @@ AreToldOf (e ∷ es) = IsToldOf e.spec × AreToldOf es
 abbrev pub FitsLimit : ℕ → List Entry → Type 0
 FitsLimit limit table = 18 + octets_of table ≤ limit
 
-abbrev pub IsLawfulReaderWord : ℕ → ReaderWord → Type 0
+abbrev pub IsLawfulReaderWord : ℕ → ReaderContent → Type 0
 IsLawfulReaderWord limit (Response operation status) = status < 2 ^ 16
 IsLawfulReaderWord limit (Listed table) = AreToldOf table × FitsLimit limit table
 IsLawfulReaderWord limit (Error status) = status < 2 ^ 16
@@ -69,7 +69,7 @@ pub record IsLawfulReaderMessage (limit : ℕ) (m : ReaderMessage) : Type 0 wher
 -- a lawful ROSpec whose ADD_ROSPEC is within the limit
 pub record IsLawfulRoSpec (limit : ℕ) (t : Tree) : Type 0 where
   pub kind : t.kind ≡ RoSpec
-  pub lawful : IsLawful t
+  pub lawful : IsLawfulTree t
   pub within : 10 + tree_octets t ≤ limit
 
 abbrev pub IsLawfulCommand : ℕ → Command → Type 0
@@ -84,7 +84,7 @@ IsLawfulCommand limit (SetKeepalive ms) = ms < 2 ^ 32
 IsLawfulCommand limit GetReport = Unit {0}
 IsLawfulCommand limit Close = Unit {0}
 
-abbrev pub IsLawfulClientWord : ℕ → ClientWord → Type 0
+abbrev pub IsLawfulClientWord : ℕ → ClientContent → Type 0
 IsLawfulClientWord limit (Asks k) = IsLawfulCommand limit k
 IsLawfulClientWord limit Acknowledges = Unit {0}
 
@@ -97,6 +97,6 @@ abbrev pub AddsRoSpec : Command → Type 0
 AddsRoSpec (Add spec) = spec.kind ≡ RoSpec
 AddsRoSpec _ = Unit {0}
 
-abbrev pub SaysRoSpec : ClientWord → Type 0
+abbrev pub SaysRoSpec : ClientContent → Type 0
 SaysRoSpec (Asks k) = AddsRoSpec k
 SaysRoSpec Acknowledges = Unit {0}

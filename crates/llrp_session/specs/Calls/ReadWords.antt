@@ -5,7 +5,7 @@ use Rattle.llrp_schema.specs.declared.kinds.ParamKind.{ParamKind}
 use Rattle.llrp_schema.specs.declared.kinds.Kind.TheVariants.{Parameter}
 use Rattle.llrp_schema.specs.Schema.{FieldRule, plain_fields_of}
 use Rattle.llrp_tree.specs.Tree.{Tree}
-use Rattle.llrp_tree.specs.Lawful.{IsLawful}
+use Rattle.llrp_tree.specs.Lawful.{IsLawfulTree}
 
 -- ---- parameters that are looked for
 
@@ -17,7 +17,7 @@ behind (Some b) = Some b.now
 -- a lawful parameter of the kind, if there is one
 abbrev pub IsOfKind : ParamKind → Option Tree → Type 0
 IsOfKind kind None = Unit {0}
-IsOfKind kind (Some t) = (t.kind ≡ kind) × IsLawful t
+IsOfKind kind (Some t) = (t.kind ≡ kind) × IsLawfulTree t
 
 abbrev pub greatest_at : List FieldRule → ℕ → ℕ
 greatest_at [] i = 0

@@ -1,13 +1,13 @@
 -- Beside Sightings: what contracts say that no promise rests on.
-use Rattle.std.specs.Prelude.{◌≡◌, ◌≤◌, ℕ, suc, ◌+◌, Bool, true, false, List, [], ◌∷◌, ◌++◌, length, if◌then◌else◌}
+use Rattle.std.specs.Prelude.{◌≡◌, ◌≤◌, ℕ, suc, Bool, true, false, List, [], ◌∷◌, ◌++◌, length, if◌then◌else◌}
 use Rattle.llrp_session.specs.Table.{active_count}
-use Rattle.llrp_session.specs.Words.{ReaderWord, Overflowed, ReaderMessage}
+use Rattle.llrp_session.specs.Contents.{ReaderContent, Overflowed, ReaderMessage}
 use Rattle.llrp_session.specs.ReaderMachine.{ReaderEvent, most_held}
 use Rattle.llrp_session.specs.Sightings.{tags_of, History, history, no_history}
 
 -- ---- what is sent
 
-abbrev pub is_overflow : ReaderWord → Bool
+abbrev pub is_overflow : ReaderContent → Bool
 is_overflow (Overflowed now) = true
 is_overflow _ = false
 

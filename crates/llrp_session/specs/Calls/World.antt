@@ -1,8 +1,8 @@
 -- Beside World: what contracts say that no promise rests on.
 use Rattle.std.specs.Prelude.{ℕ, List, [], ◌∷◌, ◌++◌, Result, Ok, Err}
 use Rattle.llrp_tree.specs.Tree.{Tree}
-use Rattle.llrp_session.specs.Words.{ReaderMessage, ClientMessage, request}
-use Rattle.llrp_session.specs.Calls.Words.{heard}
+use Rattle.llrp_session.specs.Contents.{ReaderMessage, ClientMessage, request}
+use Rattle.llrp_session.specs.Calls.Contents.{heard}
 use Rattle.llrp_session.specs.Refusal.{Refusal}
 use Rattle.llrp_session.specs.ReaderMachine.{Reader, Turn, ReaderEvent, Connect, Take, Seen, Tick, next, new_reader}
 use Rattle.llrp_session.specs.Sightings.{tags_of, kept_by}
@@ -39,9 +39,9 @@ abbrev pub commanded : Result Sending Refusal → World → World
 commanded (Err refusal) w = w
 commanded (Ok s) w = record w { client = s.client; up = w.up ++ s.message ∷ [] }
 
-abbrev pub took : Result Taking Refusal → World → World
-took (Err refusal) w = w
-took (Ok k) w = record w {
+abbrev pub word_took : Result Taking Refusal → World → World
+word_took (Err refusal) w = w
+word_took (Ok k) w = record w {
   client = k.client;
   up = w.up ++ k.sent;
   handed_out = w.handed_out ++ tags_handed_out k.taken;
@@ -56,7 +56,7 @@ delivered_up now (m ∷ ms) w = reader_does now (Take 1 m.id (request m.word)) (
 
 abbrev pub delivered_down : List ReaderMessage → World → World
 delivered_down [] w = w
-delivered_down (m ∷ ms) w = took (take w.client m.id (heard m.word)) (record w { down = ms })
+delivered_down (m ∷ ms) w = word_took (take w.client m.id (heard m.word)) (record w { down = ms })
 
 abbrev pub happens : World → WorldEvent → World
 happens w (Connects now) = reader_does now Connect w

@@ -1,9 +1,9 @@
 -- Beside Calls/LawfulWords: words of private functions.
-use Rattle.std.specs.Prelude.{◌≡◌, ℕ, ◌+◌, ◌≤◌}
+use Rattle.std.specs.Prelude.{◌≡◌, ◌+◌, ◌≤◌}
 use Rattle.llrp_schema.specs.declared.kinds.ParamKind.TheVariants.{RoSpec}
 use Rattle.llrp_tree.specs.declared.TheConstants.{MAX_LIMIT}
 use Rattle.llrp_tree.specs.Lawful.{tree_octets}
-use Rattle.llrp_session.specs.Words.{Command, Add}
+use Rattle.llrp_session.specs.Contents.{Command, Add}
 
 -- ---- the words of a client
 

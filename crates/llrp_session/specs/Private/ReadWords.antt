@@ -1,18 +1,18 @@
 -- Beside Calls/ReadWords: words of private functions.
-use Rattle.std.specs.Prelude.{◌≡◌, ℕ, Option, None, Some}
+use Rattle.std.specs.Prelude.{◌≡◌, Option, None, Some}
 use Rattle.llrp_tree.specs.Tree.{Tree, MessageTree, trees}
 use Rattle.llrp_session.specs.RoSpec.{rospec_of}
-use Rattle.llrp_session.specs.Words as words
+use Rattle.llrp_session.specs.Contents as words
 use Rattle.llrp_session.specs.Reading.{rospecs_in}
 use Rattle.llrp_session.specs.Private.Settings.{settings_of}
-use Rattle.llrp_session.specs.declared.reading.words.KeepaliveSpec.{KeepaliveSpec}
-use Rattle.llrp_session.specs.declared.reading.words.Config.{Config}
-use Rattle.llrp_session.specs.declared.reading.words.RoSpecChange.{RoSpecChange}
-use Rattle.llrp_session.specs.declared.reading.words.Notification.{Notification}
-use Rattle.llrp_session.specs.declared.reading.words.Request.{Request}
-use Rattle.llrp_session.specs.declared.reading.words.Request.TheVariants.{AddRoSpec, DeleteRoSpec, StartRoSpec, StopRoSpec, EnableRoSpec, DisableRoSpec, GetRoSpecs, SetReaderConfig, GetReports, CloseConnection, NoRequest, Unsupported}
-use Rattle.llrp_session.specs.declared.reading.words.Heard.{Heard}
-use Rattle.llrp_session.specs.declared.reading.words.Heard.TheVariants.{Response, Error, Report, Keepalive, Notified, Other}
+use Rattle.llrp_session.specs.declared.parse.parsed.KeepaliveSpec.{KeepaliveSpec}
+use Rattle.llrp_session.specs.declared.parse.parsed.Config.{Config}
+use Rattle.llrp_session.specs.declared.parse.parsed.RoSpecChange.{RoSpecChange}
+use Rattle.llrp_session.specs.declared.parse.parsed.Notification.{Notification}
+use Rattle.llrp_session.specs.declared.parse.parsed.Request.{Request}
+use Rattle.llrp_session.specs.declared.parse.parsed.Request.TheVariants.{AddRoSpec, DeleteRoSpec, StartRoSpec, StopRoSpec, EnableRoSpec, DisableRoSpec, GetRoSpecs, SetReaderConfig, GetReports, CloseConnection, NoRequest, Unsupported}
+use Rattle.llrp_session.specs.declared.parse.parsed.Heard.{Heard}
+use Rattle.llrp_session.specs.declared.parse.parsed.Heard.TheVariants.{Response, Error, Report, Keepalive, Notified, Other}
 
 -- ---- requests
 

@@ -5,14 +5,14 @@ use Rattle.llrp_tree.specs.Tree.{Tree}
 use Rattle.llrp_session.specs.RoSpec.{RoSpec}
 use Rattle.llrp_session.specs.Table.{Entry, RoState, is_disabled, names, enabling, disabling, setting, active, first_immediate}
 use Rattle.llrp_session.specs.Calls.LawfulWords.{AreReports, FitsLimit}
-use Rattle.llrp_session.specs.Words.{ReaderMessage, Ended}
-use Rattle.llrp_session.specs.ReaderMachine.{Reader, Turn, most_held, following, sends_at_end, begun, end}
+use Rattle.llrp_session.specs.Contents.{ReaderMessage, Ended}
+use Rattle.llrp_session.specs.ReaderMachine.{Reader, Turn, most_held, following, sends_at_end, turn_begun, end}
 use Rattle.llrp_session.specs.ReaderMessages.{reader_message}
 use Rattle.llrp_session.specs.declared.reader.table.StateChange.{StateChange}
 use Rattle.llrp_session.specs.declared.reader.table.StateChange.TheVariants.{Enable, Disable, Set}
-use Rattle.llrp_session.specs.declared.reader.ending.Ending.{Ending}
-use Rattle.llrp_session.specs.declared.reading.words.Request.{Request}
-use Rattle.llrp_session.specs.declared.reading.words.Request.TheVariants.{AddRoSpec}
+use Rattle.llrp_session.specs.declared.reader.end_rospec.Ending.{Ending}
+use Rattle.llrp_session.specs.declared.parse.parsed.Request.{Request}
+use Rattle.llrp_session.specs.declared.parse.parsed.Request.TheVariants.{AddRoSpec}
 
 -- ---- the fields of a reader
 
@@ -76,7 +76,7 @@ IsEndingOf now _ r _ = ⊥
 
 -- a turn begins as a message of this version is taken
 abbrev pub taken : ℕ → Reader → Turn
-taken version r = begun (record r { version = version })
+taken version r = turn_begun (record r { version = version })
 
 -- the ROSpec that an enabling starts: none while one is active
 abbrev pub started_by_enabling : ℕ → List Entry → Option RoSpec

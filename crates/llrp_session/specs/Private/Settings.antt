@@ -1,6 +1,6 @@
 -- What the code reads in a ROSpec, as the definitions have it.
 use Rattle.llrp_session.specs.RoSpec.{RoSpec}
-use Rattle.llrp_session.specs.declared.reading.words.Settings.{Settings}
+use Rattle.llrp_session.specs.declared.parse.parsed.Settings.{Settings}
 
 -- what is read in a ROSpec, all but its antennas
 abbrev pub settings_of : RoSpec → Settings

@@ -1,7 +1,7 @@
 //! The requests that a client sends.
 
 ghost use Rattle.std.specs.Prelude.{◌≡◌, ◌<◌, ◌^◌, ◌++◌, ◌∷◌, [], Ok, OnOk, OnErr, IfNone, IfSome, IfErr, vec_len, vec_capacity};
-ghost use Rattle.llrp_session.specs.Words.{Asks};
+ghost use Rattle.llrp_session.specs.Contents.{Asks};
 ghost use Rattle.llrp_session.specs.RoSpec.{rospec_of};
 ghost use Rattle.llrp_session.specs.Calls.LawfulWords.{AddsRoSpec};
 ghost use Rattle.llrp_session.specs.Private.LawfulWords.{FitsMessage};
@@ -10,10 +10,10 @@ ghost use Rattle.llrp_session.specs.ClientMachine as machine;
 ghost use Rattle.llrp_session.specs.Calls.ClientSteps.{IsCmdFault};
 
 use super::{Client, CmdFault, CmdRefusal};
-use crate::reading::find::field;
-use crate::telling;
-use crate::words::{ClientPhase, Command, Operation, Pending};
-use llrp_tree::{Message, Node, ParamKind};
+use crate::build;
+use crate::parse::find::field;
+use crate::types::{ClientPhase, Command, Operation, Pending};
+use llrp_tree::{HEADER_OCTETS, Message, Node, ParamKind};
 
 impl Client {
     /// Why a command is refused, apart from a lack of memory, which is found later.
@@ -79,7 +79,7 @@ impl Client {
         }
         let id = self.next_id as u32;
         let pending = awaited(id, &command);
-        match telling::client::command(self.alloc, id, command) {
+        match build::client::command(self.alloc, id, command) {
             Ok(message) => {
                 append(out, message);
                 self.pending = pending;
@@ -118,7 +118,7 @@ fn is_over_limit(limit: u32, command: &Command) -> bool
     ensures { result ≡ machine.is_over_limit limit command.now }
 {
     match command {
-        Command::Add { spec } => (limit as u64) < 10 + spec.length() as u64,
+        Command::Add { spec } => (limit as u64) < HEADER_OCTETS as u64 + spec.length() as u64,
         _ => false,
     }
 }

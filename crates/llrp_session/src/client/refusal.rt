@@ -1,6 +1,6 @@
 //! Why a client refuses a command or a message.
 
-use crate::words::Command;
+use crate::types::Command;
 use llrp_tree::Message;
 
 /// Why a client refuses a command; the first in this order that applies.

@@ -4,7 +4,7 @@ ghost use Rattle.std.specs.Prelude.{◌≡◌, ◌<◌, ◌≤◌, length, slice
 ghost use Rattle.std.specs.List.{insert};
 ghost use Rattle.llrp_session.specs.Table as table;
 
-use crate::words::{RoState, Viewed};
+use crate::types::{RoState, Viewed};
 use std::alloc::AllocError;
 
 /// Whether the ROSpecID of a request means this ROSpec: 0 means all.

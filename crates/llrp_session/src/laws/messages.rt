@@ -2,8 +2,8 @@
 
 ghost use Rattle.std.specs.Prelude.{◌≡◌, ◌<◌, ◌≤◌, ◌^◌, ℕ, List};
 ghost use Rattle.llrp_tree.specs.declared.TheConstants.{MAX_LIMIT};
-ghost use Rattle.llrp_session.specs.Words.{ReaderMessage, ClientMessage, request};
-ghost use Rattle.llrp_session.specs.Calls.Words.{heard};
+ghost use Rattle.llrp_session.specs.Contents.{ReaderMessage, ClientMessage, request};
+ghost use Rattle.llrp_session.specs.Calls.Contents.{heard};
 ghost use Rattle.llrp_session.specs.ReaderMessages.{reader_message};
 ghost use Rattle.llrp_session.specs.ClientMessages.{client_message};
 ghost use Rattle.llrp_session.specs.Reading.{request_of, heard_of};

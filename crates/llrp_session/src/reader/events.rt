@@ -1,6 +1,6 @@
 //! What happens to a reader, and why a step is refused.
 
-use crate::words::Sighting;
+use crate::types::Sighting;
 use llrp_tree::{Message, Reason};
 
 /// What happens to a reader.

@@ -2,8 +2,8 @@
 
 ghost use Rattle.std.specs.Prelude.{◌≡◌, ◌≤◌, ◌+◌, ◌⊎◌, Option, OnOk, OnErr, IfErr, vec_len, vec_capacity};
 ghost use Rattle.llrp_session.specs.RoSpec.{RoSpec as TheRoSpec};
-ghost use Rattle.llrp_session.specs.Words as words;
-ghost use Rattle.llrp_session.specs.Words.{Response, Error};
+ghost use Rattle.llrp_session.specs.Contents as words;
+ghost use Rattle.llrp_session.specs.Contents.{Response, Error};
 ghost use Rattle.llrp_session.specs.Reading.{request_of as the_request};
 ghost use Rattle.llrp_session.specs.Private.ReadWords.{IsRequest};
 ghost use Rattle.llrp_session.specs.ReaderMachine as machine;
@@ -12,13 +12,13 @@ ghost use Rattle.llrp_session.specs.Private.ReaderParts.{IsEndingOf, IsOther, en
 ghost use Rattle.llrp_session.specs.Calls.ReaderSteps.{Stands};
 
 use super::Reader;
-use super::ending::Ending;
-use super::sending::push_within;
+use super::end_rospec::Ending;
 use super::status::{SUCCESS, UNSUPPORTED_MESSAGE};
-use crate::reading::request::request_of;
-use crate::reading::words::Request;
-use crate::telling::reader as telling;
-use crate::words::{Operation, ReaderPhase};
+use super::turn::push_within;
+use crate::build::reader as build;
+use crate::parse::for_reader::request_of;
+use crate::parse::parsed::Request;
+use crate::types::{Operation, ReaderPhase};
 use llrp_tree::Message;
 use std::alloc::AllocError;
 
@@ -49,7 +49,7 @@ impl Reader {
         ensures reader_unchanged { OnErr result (self.new ≡ self.old) }
         ensures out_unchanged { OnErr result (out.new.items ≡ out.old.items) }
     {
-        let message = telling::response(self.alloc(), head.version, head.id, operation, status)?;
+        let message = build::response(self.alloc(), head.version, head.id, operation, status)?;
         self.take_version(head.version);
         push_within(out, message);
         Ok(())
@@ -73,7 +73,7 @@ impl Reader {
         ensures reader_unchanged { OnErr result (self.new ≡ self.old) }
         ensures out_unchanged { OnErr result (out.new.items ≡ out.old.items) }
     {
-        let answer = telling::response(self.alloc(), head.version, head.id, operation, SUCCESS)?;
+        let answer = build::response(self.alloc(), head.version, head.id, operation, SUCCESS)?;
         self.take_version(head.version);
         self.end_maybe(ending, out);
         push_within(out, answer);
@@ -103,7 +103,7 @@ impl Reader {
         ensures reader_unchanged { OnErr result (self.new ≡ self.old) }
         ensures out_unchanged { OnErr result (out.new.items ≡ out.old.items) }
     {
-        let message = telling::table(self.alloc(), head.version, head.id, self.table())?;
+        let message = build::table(self.alloc(), head.version, head.id, self.table())?;
         self.take_version(head.version);
         push_within(out, message);
         Ok(())
@@ -119,7 +119,7 @@ impl Reader {
         ensures reader_unchanged { OnErr result (self.new ≡ self.old) }
         ensures out_unchanged { OnErr result (out.new.items ≡ out.old.items) }
     {
-        let message = telling::error(self.alloc(), head.version, head.id, UNSUPPORTED_MESSAGE)?;
+        let message = build::error(self.alloc(), head.version, head.id, UNSUPPORTED_MESSAGE)?;
         self.take_version(head.version);
         push_within(out, message);
         Ok(())

@@ -5,26 +5,26 @@ ghost use Rattle.std.specs.Option.{option_map};
 ghost use Rattle.llrp_tree.specs.Tree.{Tree};
 ghost use Rattle.llrp_session.specs.RoSpec.{RoSpec as TheRoSpec, rospec_of};
 ghost use Rattle.llrp_session.specs.Table.{is_inactive, is_active, without as the_without, state_of as the_state_of, active as the_active, octets_of};
-ghost use Rattle.llrp_session.specs.Words as words;
-ghost use Rattle.llrp_session.specs.Words.{Started};
+ghost use Rattle.llrp_session.specs.Contents as words;
+ghost use Rattle.llrp_session.specs.Contents.{Started};
 ghost use Rattle.llrp_session.specs.Reading.{request_of as the_request};
 ghost use Rattle.llrp_session.specs.Private.Settings.{settings_of};
 ghost use Rattle.llrp_session.specs.ReaderMessages.{reader_message};
 ghost use Rattle.llrp_session.specs.ReaderMachine as machine;
-ghost use Rattle.llrp_session.specs.ReaderMachine.{begun};
+ghost use Rattle.llrp_session.specs.ReaderMachine.{turn_begun};
 ghost use Rattle.llrp_session.specs.Private.ReaderParts.{started_by_enabling, taken};
 ghost use Rattle.llrp_session.specs.Calls.ReaderSteps.{Stands};
 
 use super::Reader;
 use super::requests::Head;
-use super::sending::push_within;
 use super::settings::is_bad_report;
 use super::status::{FIELD_ERROR, PARAMETER_ERROR, SUCCESS};
 use super::table::{self, Entry, StateChange};
-use crate::reading::kept::RoSpec;
-use crate::reading::words::Settings;
-use crate::telling::reader as telling;
-use crate::words::{Operation, RoState};
+use super::turn::push_within;
+use crate::build::reader as build;
+use crate::parse::parsed::Settings;
+use crate::parse::stored_rospec::RoSpec;
+use crate::types::{Operation, RoState};
 use llrp_tree::Message;
 use std::alloc::AllocError;
 
@@ -94,7 +94,7 @@ impl Reader {
                 Err(_) => Err(message),
             };
         }
-        let Ok(response) = telling::response(
+        let Ok(response) = build::response(
             self.alloc(),
             head.version,
             head.id,
@@ -170,7 +170,7 @@ impl Reader {
     /// Starts a ROSpec, which is Active from now on, and sends its event.
     fn start(&mut self, now: u64, rospec: u32, event: Message, out: &mut Vec<Message>)
         requires { vec_len out.old < vec_capacity out.old }
-        ensures reader { self.new ≡ (machine.start now rospec (begun self.old)).reader }
+        ensures reader { self.new ≡ (machine.start now rospec (turn_begun self.old)).reader }
         ensures items { out.new.items ≡ out.old.items ++ event ∷ [] }
     {
         self.change(StateChange::Set(rospec, RoState::Active));
@@ -184,7 +184,7 @@ impl Reader {
         ensures { IfOk result (λ m. m ≡ reader_message (record
             { version = head.version; id = self.now.next_id; word = Started head.moment rospec })) }
     {
-        telling::started(
+        build::started(
             self.alloc(),
             head.version,
             self.next_id(),

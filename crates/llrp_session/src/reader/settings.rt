@@ -8,10 +8,10 @@ ghost use Rattle.llrp_session.specs.Calls.ReaderSteps.{Stands};
 
 use super::requests::Head;
 use super::status::{FIELD_ERROR, SUCCESS};
-use super::time::keepalive_from;
+use super::timers::keepalive_from;
 use super::{FACTORY_REPORT, Reader};
-use crate::reading::words::{Config, KeepaliveSpec};
-use crate::words::{Operation, ReportSpec};
+use crate::parse::parsed::{Config, KeepaliveSpec};
+use crate::types::{Operation, ReportSpec};
 use llrp_tree::Message;
 use std::alloc::AllocError;
 

@@ -4,15 +4,15 @@ ghost use Rattle.std.specs.Prelude.{◌≡◌, ◌<◌, ◌≤◌, ◌+◌, ◌�
 ghost use Rattle.std.specs.Option.{option_copied};
 ghost use Rattle.llrp_session.specs.Calls.LawfulWords.{IsReport};
 ghost use Rattle.llrp_session.specs.Table.{active as the_active};
-ghost use Rattle.llrp_session.specs.Words.{Overflowed};
-ghost use Rattle.llrp_session.specs.ReaderMachine.{begun, tell as the_tell, see, counting as the_counting, is_enough as the_test, most_held, is_full as the_is_full, send_if_enough as the_sending, hold as the_hold};
+ghost use Rattle.llrp_session.specs.Contents.{Overflowed};
+ghost use Rattle.llrp_session.specs.ReaderMachine.{turn_begun, tell as the_tell, see, counting as the_counting, is_report_due as the_test, most_held, is_full as the_is_full, send_if_enough as the_sending, hold as the_hold};
 ghost use Rattle.llrp_session.specs.Calls.ReaderSteps.{Stands};
 
 use super::{Reader, table};
-use crate::reading::kept::RoSpec;
-use crate::telling::reader as telling;
-use crate::telling::report::tag_report;
-use crate::words::{ReportSpec, Sighting};
+use crate::build::reader as build;
+use crate::build::tag_report::tag_report;
+use crate::parse::stored_rospec::RoSpec;
+use crate::types::{ReportSpec, Sighting};
 use llrp_tree::{Message, Node};
 use std::alloc::AllocError;
 
@@ -47,12 +47,12 @@ impl Reader {
     /// Drops a sighting for which there is no room, and sends an overflow event.
     fn overflow(&mut self, now: u64, out: &mut Vec<Message>) -> Result<(), AllocError>
         requires { vec_len out.old < vec_capacity out.old }
-        ensures ok { OnOk result (Stands out.old.items (the_tell (Overflowed now) (begun self.old))
+        ensures ok { OnOk result (Stands out.old.items (the_tell (Overflowed now) (turn_begun self.old))
             out.new.items self.new) }
         ensures reader_unchanged { OnErr result (self.new ≡ self.old) }
         ensures out_unchanged { OnErr result (out.new.items ≡ out.old.items) }
     {
-        let event = telling::overflowed(self.alloc(), self.version(), self.next_id(), now)?;
+        let event = build::overflowed(self.alloc(), self.version(), self.next_id(), now)?;
         self.tell(event, out);
         Ok(())
     }
@@ -61,7 +61,7 @@ impl Reader {
     fn hold(&mut self, tag: Node) -> Result<(), AllocError>
         requires report { IsReport tag }
         requires room { length self.old.held < most_held }
-        ensures ok { OnOk result (self.new ≡ (the_hold tag (begun self.old)).reader) }
+        ensures ok { OnOk result (self.new ≡ (the_hold tag (turn_begun self.old)).reader) }
         ensures err { OnErr result (self.new ≡ self.old) }
     {
         self.held.push(tag)?;
@@ -71,7 +71,7 @@ impl Reader {
     /// Sends the held reports if they are enough.
     fn send_if_enough(&mut self, report: &ReportSpec, out: &mut Vec<Message>)
         requires { vec_len out.old < vec_capacity out.old }
-        ensures { Stands out.old.items (the_sending report.now (begun self.old))
+        ensures { Stands out.old.items (the_sending report.now (turn_begun self.old))
             out.new.items self.new }
     {
         if is_enough(report, self.held.len()) {
@@ -89,7 +89,7 @@ impl Reader {
     ) -> Result<(), AllocError>
         requires { vec_len out.old + 3 ≤ vec_capacity out.old }
         ensures ok { OnOk result (Stands out.old.items (see now sighting.now
-            (the_counting sighting.now (the_active self.old.table)) (begun self.old))
+            (the_counting sighting.now (the_active self.old.table)) (turn_begun self.old))
             out.new.items self.new) }
         ensures reader_unchanged { OnErr result (self.new ≡ self.old) }
         ensures out_unchanged { OnErr result (out.new.items ≡ out.old.items) }

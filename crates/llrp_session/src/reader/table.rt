@@ -6,13 +6,15 @@ ghost use Rattle.llrp_session.specs.ReaderMachine.{is_known as the_is_known};
 ghost use Rattle.llrp_session.specs.Private.ReaderParts.{changing, is_immediate as the_is_immediate, place_of as the_place};
 ghost use Rattle.llrp_session.specs.Table.{names as the_names, enabled as the_enabled, state_of as the_state_of, active as the_active, first_immediate as the_first_immediate, octets_of as the_octets, change as the_change, without as the_without, enter as the_enter};
 
-use crate::reading::kept::RoSpec;
-use crate::words::RoState;
+use crate::parse::stored_rospec::RoSpec;
+use crate::types::RoState;
 
-/// A ROSpec and its state.
+/// A ROSpec of a reader's table, and its state.
 #[derive(Drop)]
-pub(crate) struct Entry {
+pub struct Entry {
+    /// The ROSpec, as it was added.
     pub spec: RoSpec,
+    /// Its state now.
     pub state: RoState,
 }
 

@@ -19,6 +19,10 @@ pub record CanRead (log : SourceLog) : Type 0 where
   pub ends : log.ends + 1 < 2 ^ 64
   pub failures : log.failures + 1 < 2 ^ 64
 
+-- there is room in the count for one more call that fails
+abbrev pub CanWrite : SinkLog → Type 0
+CanWrite log = log.failures + 1 < 2 ^ 64
+
 -- A write that took these bytes. One that took none failed.
 abbrev pub Put : SinkLog → SinkLog → List ℕ → Type 0
 Put old new [] = (new ≡ record old { failures = old.failures + 1; taken = new.taken }) × Appends old.taken new.taken []

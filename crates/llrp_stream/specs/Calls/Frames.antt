@@ -1,21 +1,22 @@
 -- How far the current frame of a stream is read, whichever listener receives its parts.
 use Rattle.std.specs.Prelude.{◌≡◌, ℕ, ◌+◌, ◌*◌, ◌<◌, ◌≤◌, ◌⊎◌, Bool, true, false, List, [], ◌++◌, length, take, Option, Some, None, Result, Ok, Err}
+use Rattle.llrp_schema.specs.declared.kinds.Profile.{Profile}
 use Rattle.llrp_tree.specs.Tree.{MessageTree}
 use Rattle.llrp_tree.specs.Lawful.{AreOctets}
-use Rattle.llrp_tree.specs.FirstFault.{FirstFault}
+use Rattle.llrp_tree.specs.FirstFault.{FirstFaultIn}
 use Rattle.llrp_tree.specs.OpenTree.{Begun}
 use Rattle.llrp_stream.specs.declared.item.FeedErr.{FeedErr}
 use Rattle.llrp_stream.specs.declared.item.FeedErr.TheVariants as failure
-use Rattle.llrp_stream.specs.declared.reading.body.Body.{Body}
-use Rattle.llrp_stream.specs.declared.reading.frames.Came.{Came}
-use Rattle.llrp_stream.specs.declared.reading.frames.Frames.{Frames}
-use Rattle.llrp_stream.specs.declared.reading.frames.Outcome.{Outcome}
-use Rattle.llrp_stream.specs.declared.reading.frames.Outcome.TheVariants.{Whole, Bad}
+use Rattle.llrp_stream.specs.declared.engine.body.Body.{Body}
+use Rattle.llrp_stream.specs.declared.engine.frames.Came.{Came}
+use Rattle.llrp_stream.specs.declared.engine.frames.Frames.{Frames}
+use Rattle.llrp_stream.specs.declared.engine.frames.Outcome.{Outcome}
+use Rattle.llrp_stream.specs.declared.engine.frames.Outcome.TheVariants.{Whole, Bad}
 use Rattle.llrp_stream.specs.declared.state.State.{State}
 use Rattle.llrp_stream.specs.declared.state.State.TheVariants.{Between, Header, Reading, Skipping, Broken, Dead}
 use Rattle.llrp_stream.specs.Cuts.{length_field, IsFrame, IsPartial, Breaks}
-use Rattle.llrp_stream.specs.Items.{FrameOf, id_field}
-use Rattle.llrp_stream.specs.Calls.Items.{header_fault, IsSkipped}
+use Rattle.llrp_stream.specs.Items.{FrameIn, id_field}
+use Rattle.llrp_stream.specs.Calls.Items.{header_fault_in, IsSkipped}
 use Rattle.llrp_stream.specs.Calls.Pieces.{Awaits}
 
 -- The front is of a frame whose header passes its checks and has this id, and the frame's length is known.
@@ -24,7 +25,7 @@ pub record IsPassed (limit id : ℕ) (body : Body) (front : List ℕ) : Type 0 w
   pub octets_are : body.reader.octets ≡ length_field front
   pub within : body.reader.octets ≤ limit
   pub id_is : id ≡ id_field front
-  pub passes : header_fault limit front ≡ None
+  pub passes : header_fault_in body.reader.profile limit front ≡ None
   pub octets : AreOctets front
 
 -- The listener received an open tree, which with the raw octets covers a front of such a frame that is not the whole frame and decides no fault of it.
@@ -37,9 +38,8 @@ abbrev pub ComesAt : (begins stands : List Begun → Type 0) → ℕ → State �
 ComesAt begins stands limit Between body front = (front ≡ []) × (body.raw.items ≡ []) × stands []
 ComesAt begins stands limit Header body front = (body.raw.items ≡ front) × (0 < length front) × (length front < 10) × IsPartial front × stands []
 ComesAt begins stands limit (Reading id) body front = IsReading begins stands limit id body front
-ComesAt begins stands limit (Skipping count header) body front = IsSkipped limit count header.octets header.id header.fault front × (10 ≤ count) × (count < header.octets) × (body.raw.items ≡ []) × stands []
-ComesAt begins stands limit Broken body front = ⊥
-ComesAt begins stands limit Dead body front = ⊥
+ComesAt begins stands limit (Skipping count header) body front = IsSkipped body.reader.profile limit count header.octets header.id header.fault front × (10 ≤ count) × (count < header.octets) × (body.raw.items ≡ []) × stands []
+ComesAt begins stands limit _ body front = ⊥
 
 -- this front came of the current frame of a stream, and the listener received what is whole in it
 abbrev pub ComesTo : (begins stands : List Begun → Type 0) → Frames → List ℕ → Type 0
@@ -53,18 +53,19 @@ Comes begins stands frames = ((was front : List ℕ) × ComesAt (begins was) (st
 abbrev pub limit_of : Frames → ℕ
 limit_of frames = frames.limit
 
+-- the set of kinds whose frames are read
+abbrev pub set_of : Frames → Profile
+set_of frames = frames.body.reader.profile
+
 -- the octets of the current frame that are kept as they are
 abbrev pub raw_of : Frames → List ℕ
 raw_of frames = frames.body.raw.items
 
 -- what is kept of the current frame in each state
 abbrev pub held_at : State → Body → ℕ
-held_at Between body = 0
 held_at Header body = length body.raw.items
 held_at (Reading id) body = length body.raw.items + 2 * (length body.reader.outer.items + 1)
-held_at (Skipping count header) body = 0
-held_at Broken body = 0
-held_at Dead body = 0
+held_at _ body = 0
 
 -- what the engine keeps of the current frame: its raw octets, and two for each open node
 abbrev pub held_of : Frames → ℕ
@@ -87,22 +88,18 @@ abbrev pub IsIdle : Frames → Type 0
 IsIdle frames = (frames.state ≡ Between) × (frames.body.raw.items ≡ [])
 
 -- what became of a frame: the listener received its message, and has that; or it has a fault, and the listener has what it had
-abbrev pub Gives : (stands : List Begun → Type 0) (ends : MessageTree → List ℕ → Type 0) (rests : List ℕ → Type 0) → ℕ → List ℕ → Outcome → Type 0
-Gives stands ends rests limit frame Whole = (m : MessageTree) × FrameOf m frame limit × (now : List ℕ) × ends m now × rests now
-Gives stands ends rests limit frame (Bad id fault) = (id ≡ id_field frame) × FirstFault frame limit fault.bit fault.reason × stands []
+abbrev pub GivesIn : Profile → (stands : List Begun → Type 0) (ends : MessageTree → List ℕ → Type 0) (rests : List ℕ → Type 0) → ℕ → List ℕ → Outcome → Type 0
+GivesIn p stands ends rests limit frame Whole = (m : MessageTree) × FrameIn p m frame limit × (now : List ℕ) × ends m now × rests now
+GivesIn p stands ends rests limit frame (Bad id fault) = (id ≡ id_field frame) × FirstFaultIn p frame limit fault.bit fault.reason × stands []
 
 -- what a feed took: without an outcome the whole piece, which now belongs to the front; with one the bytes up to the frame's end
 abbrev pub TakesOn : (begins stands : List Begun → Type 0) (ends : MessageTree → List ℕ → Type 0) (rests : List ℕ → Type 0) → ℕ → (front piece : List ℕ) → Frames → (used : ℕ) → Option Outcome → Type 0
 TakesOn begins stands ends rests limit front piece new used None = (used ≡ length piece) × ComesAt begins stands limit new.state new.body (front ++ piece)
-TakesOn begins stands ends rests limit front piece new used (Some outcome) = (used ≤ length piece) × IsFrame (front ++ take used piece) × Gives stands ends rests limit (front ++ take used piece) outcome × IsIdle new
+TakesOn begins stands ends rests limit front piece new used (Some outcome) = (used ≤ length piece) × IsFrame (front ++ take used piece) × GivesIn new.body.reader.profile stands ends rests limit (front ++ take used piece) outcome × IsIdle new
 
 abbrev pub is_skipped : State → Bool
-is_skipped Between = false
-is_skipped Header = false
-is_skipped (Reading id) = false
 is_skipped (Skipping count header) = true
-is_skipped Broken = false
-is_skipped Dead = false
+is_skipped _ = false
 
 -- what a feed does where a front came: it takes bytes, or the front with the piece is no front of a frame and the listener has what it had, or a growth was refused (never while it skips)
 abbrev pub Goes : (begins stands : List Begun → Type 0) (ends : MessageTree → List ℕ → Type 0) (rests : List ℕ → Type 0) → (old new : Frames) → (front piece : List ℕ) → Result Came FeedErr → Type 0
@@ -116,3 +113,7 @@ abbrev pub Stops : Frames → FeedErr → Type 0
 Stops frames failure.Broken = (frames.state ≡ Broken) × (frames.body.raw.items ≡ [])
 Stops frames failure.Memory = (frames.state ≡ Dead) × (frames.body.raw.items ≡ [])
 Stops frames failure.Dead = (frames.state ≡ Dead) × (frames.body.raw.items ≡ [])
+
+-- whatever front came, and whatever a listener holds of earlier messages, this is what a feed of the piece does; the first two relations are of what it received before
+abbrev pub GoesFrom : (begins0 stands0 begins stands : List ℕ → List Begun → Type 0) (ends : List ℕ → MessageTree → List ℕ → Type 0) → (old new : Frames) → List ℕ → Result Came FeedErr → Type 0
+GoesFrom begins0 stands0 begins stands ends old new piece result = (was front : List ℕ) → ComesTo (begins0 was) (stands0 was) old front → Goes (begins was) (stands was) (ends was) (λ now. stands now []) old new front piece result

@@ -1,14 +1,14 @@
 -- Beside Building: words of private functions.
 use Rattle.std.specs.Prelude.{◌≡◌, ℕ, List, [], ◌∷◌, map, unwrap_or}
 use Rattle.llrp_tree.specs.Spelling.{Head, message, tlv, tv}
-use Rattle.llrp_tree.specs.OpenTree.{Begun, kind_of, rules, plain_values}
+use Rattle.llrp_tree.specs.OpenTree.{Begun, kind_of_head, rules, plain_values}
 use Rattle.llrp_stream.specs.Building.{OpenParts, Building}
 
 -- ---- what it stands for
 
 -- what is kept of a begun node
 abbrev pub parts_of : Begun → OpenParts
-parts_of b = record { kind = kind_of b.head; fields = plain_values (rules b) b.fields; tail = unwrap_or b.tail []; children = b.children }
+parts_of b = record { kind = kind_of_head b.head; fields = plain_values (rules b) b.fields; tail = unwrap_or b.tail []; children = b.children }
 
 -- a message's head has the version and the identifier
 abbrev pub IsOf : (version id : ℕ) → Head → Type 0

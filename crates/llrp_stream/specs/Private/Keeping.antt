@@ -1,8 +1,8 @@
 -- What the fields of a decoder are, and what they keep.
 use Rattle.std.specs.Prelude.{◌≡◌, ◌≤◌, ◌⊎◌, []}
 use Rattle.llrp_tree.specs.declared.TheConstants.{MAX_LIMIT}
-use Rattle.llrp_stream.specs.declared.reading.body.Body.{Body}
-use Rattle.llrp_stream.specs.declared.reading.frames.Frames.{Frames}
+use Rattle.llrp_stream.specs.declared.engine.body.Body.{Body}
+use Rattle.llrp_stream.specs.declared.engine.frames.Frames.{Frames}
 use Rattle.llrp_stream.specs.declared.state.State.{State}
 use Rattle.llrp_stream.specs.declared.state.State.TheVariants.{Between, Header, Reading, Skipping, Broken, Dead}
 use Rattle.llrp_stream.specs.Building.{Building}
@@ -14,13 +14,13 @@ use Rattle.llrp_stream.specs.Calls.Frames.{Comes}
 abbrev pub kept : State → Body → Building → Kept
 kept Between body building = between
 kept Header body building = header body.raw.items
-kept (Reading id) body building = reading id body building
+kept (Reading id) body building = reading id body.raw.items (record { body = body }) building
 kept (Skipping count faulty) body building = skipping count faulty.octets faulty.id faulty.fault
 kept Broken body building = broken
 kept Dead body building = dead
 
 abbrev pub decoder : Frames → Building → DecoderState
-decoder frames building = record { limit = frames.limit; kept = kept frames.state frames.body building }
+decoder frames building = record { profile = frames.body.reader.profile; limit = frames.limit; kept = kept frames.state frames.body building }
 
 -- What is always so of a decoder's fields: some front came, or it keeps nothing.
 pub record IsKept (frames : Frames) (building : Building) : Type 0 where

@@ -51,7 +51,7 @@ with_child parent kind node = record parent { children = and parent.children kin
 
 -- the message of a node
 abbrev pub message_of : (version id : ℕ) → MsgKind → OpenParts → MessageTree
-message_of version id kind node = record { version = version; id = id; kind = kind; fields = node.fields; children = node.children }
+message_of version id kind node = record { version = version; id = id; kind = kind; fields = node.fields; tail = node.tail; children = node.children }
 
 -- The one open node is a lawful message.
 pub record IsWholeMessage (version id : ℕ) (nodes : List OpenParts) : Type 0 where

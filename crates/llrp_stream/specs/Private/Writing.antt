@@ -1,7 +1,7 @@
 -- Beside Calls/Writing: words of private functions.
 use Rattle.std.specs.Prelude.{ℕ, List, Result, Ok, Err}
-use Rattle.llrp_stream.specs.declared.writing.WriteErr.{WriteErr}
-use Rattle.llrp_stream.specs.declared.writing.WriteErr.TheVariants.{OverLimit, Write}
+use Rattle.llrp_stream.specs.declared.message_writer.WriteErr.{WriteErr}
+use Rattle.llrp_stream.specs.declared.message_writer.WriteErr.TheVariants.{OverLimit, Write}
 use Rattle.llrp_stream.specs.Device.{SinkLog, Wrote}
 use Rattle.llrp_stream.specs.Calls.Writing.{Failed}
 

@@ -1,6 +1,0 @@
-use Rattle.std.proofs.Common.{arith}
-use Rattle.llrp_session.proofs.OnlyRoSpec.{config_fields}
-use Rattle.llrp_session.proofs.reading.request.config.Goals as goal
-
-pub field-requires : goal.field-requires
-field-requires c = let one = config_fields c.args.message.now c.lawful.ensures c.requires in omega (arith, one)
