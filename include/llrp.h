@@ -131,6 +131,20 @@ uint32_t llrp_frame_length(const uint8_t *stream, size_t stream_length, size_t *
  * listing needs; call again with that much, or with fewer octets of the stream. LLRP_MEMORY: nothing is written, both counts are 0. */
 uint32_t llrp_list(const uint8_t *stream, size_t stream_length, uint8_t *listing, size_t listing_room, size_t *used, size_t *written);
 
+/* The same with every message and parameter of LLRP 1.1, as `llrp show --all` lists them, in place of those of the profile. */
+uint32_t llrp_list_all(const uint8_t *stream, size_t stream_length, uint8_t *listing, size_t listing_room, size_t *used, size_t *written);
+
+/* Writes the whole frames of a stream as lines of JSON, as `llrp show --json` prints them (docs/json.md), and all else as llrp_list does
+ * with the listing: a break is the line {"broken":true}.
+ *
+ * lines       room for the lines; octets after them stay as they were
+ * lines_room  how many octets of room there are
+ * written     where the number of octets of the lines is written */
+uint32_t llrp_list_json(const uint8_t *stream, size_t stream_length, uint8_t *lines, size_t lines_room, size_t *used, size_t *written);
+
+/* The same with every message and parameter of LLRP 1.1, as `llrp show --all --json` prints them. */
+uint32_t llrp_list_json_all(const uint8_t *stream, size_t stream_length, uint8_t *lines, size_t lines_room, size_t *used, size_t *written);
+
 /* Writes the octets of the messages of a listing, as `llrp encode` does, to octets, how many they are to *written, and 0 to *line.
  *
  * listing         lines as `llrp show` prints them, each ended by a line feed
@@ -147,6 +161,9 @@ uint32_t llrp_list(const uint8_t *stream, size_t stream_length, uint8_t *listing
  * LLRP_ROOM if there are more octets than the room has: nothing is written to octets, and *written is the room that they need.
  * LLRP_LONG and LLRP_MEMORY: nothing is written, *written and *line are 0. */
 uint32_t llrp_encode(const uint8_t *listing, size_t listing_length, uint8_t *octets, size_t octets_room, size_t *written, uint64_t *line);
+
+/* The same with every message and parameter of LLRP 1.1, as `llrp encode --all` takes them, in place of those of the profile. */
+uint32_t llrp_encode_all(const uint8_t *listing, size_t listing_length, uint8_t *octets, size_t octets_room, size_t *written, uint64_t *line);
 
 /* Writes the name of a status to name, such as LeadingZero or Node Missing, and returns its length. docs/errors.md explains the names.
  *

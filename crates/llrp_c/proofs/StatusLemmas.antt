@@ -1,5 +1,5 @@
 -- What holds of every status.
-use Rattle.std.proofs.Common.{◌≡◌, Some, refl}
+use Rattle.std.proofs.Common.{◌≡◌, ◌≤◌, Some, arith, length, refl}
 use Rattle.tag_epc.specs.declared.fault.WordReason.{WordReason}
 use Rattle.tag_epc.specs.declared.fault.WordReason.TheVariants as word
 use Rattle.tag_uri.specs.declared.fault.UriFault.{UriFault}
@@ -8,7 +8,11 @@ use Rattle.llrp_tree.specs.declared.node.NodeFault.{NodeFault}
 use Rattle.llrp_tree.specs.declared.node.NodeFault.TheVariants as node
 use Rattle.llrp_c.specs.declared.status.Status.{Status}
 use Rattle.llrp_c.specs.declared.status.Status.TheVariants.{Done, Faulty, Broken, Room, Length, Utf8, Long, Memory, Word, Uri, Line, Level, Name, Fields, Number, Tail, OverLimit, Node}
-use Rattle.llrp_c.specs.Status.{code_of, status_with, statuses}
+use Rattle.tag_epc.specs.Faults.{word_fault_name}
+use Rattle.tag_uri.specs.TagText.{fault_name}
+use Rattle.llrp_listing.specs.declared.outcome.Refusal.TheVariants as refusal
+use Rattle.llrp_listing.specs.Refused.{refusal_name}
+use Rattle.llrp_c.specs.Status.{code_of, status_name, status_with, statuses}
 
 word_apart : (x : WordReason) → status_with (code_of (Word x)) ≡ Some (Word x)
 unfolding status_with statuses
@@ -63,3 +67,55 @@ codes_apart OverLimit = refl
 codes_apart (Word reason) = word_apart reason
 codes_apart (Uri fault) = uri_apart fault
 codes_apart (Node fault) = node_apart fault
+
+-- ---- the length of a name
+
+word_short : (x : WordReason) → length (word_fault_name x) ≤ 16
+word_short word.Header = omega arith
+word_short word.Partition = omega arith
+word_short word.Prefix = omega arith
+word_short word.Reference = omega arith
+word_short word.Zeros = omega arith
+
+uri_short : (x : UriFault) → length (fault_name x) ≤ 16
+uri_short uri.Start = omega arith
+uri_short uri.Scheme = omega arith
+uri_short uri.Parts = omega arith
+uri_short uri.Digit = omega arith
+uri_short uri.LeadingZero = omega arith
+uri_short uri.Filter = omega arith
+uri_short uri.Digits = omega arith
+uri_short uri.Range = omega arith
+uri_short uri.RawForm = omega arith
+uri_short uri.RawOfLawful = omega arith
+
+node_short : (x : NodeFault) → length (refusal_name (refusal.Node x)) ≤ 16
+node_short node.FieldCount = omega arith
+node_short node.Value = omega arith
+node_short node.Tail = omega arith
+node_short node.Misplaced = omega arith
+node_short node.TooMany = omega arith
+node_short node.Missing = omega arith
+node_short node.TooDeep = omega arith
+node_short node.TooLong = omega arith
+
+-- no name is longer than 16 octets
+pub short_name : (status : Status) → length (status_name status) ≤ 16
+short_name Done = omega arith
+short_name Faulty = omega arith
+short_name Broken = omega arith
+short_name Room = omega arith
+short_name Length = omega arith
+short_name Utf8 = omega arith
+short_name Long = omega arith
+short_name Memory = omega arith
+short_name Line = omega arith
+short_name Level = omega arith
+short_name Name = omega arith
+short_name Fields = omega arith
+short_name Number = omega arith
+short_name Tail = omega arith
+short_name OverLimit = omega arith
+short_name (Word reason) = word_short reason
+short_name (Uri fault) = uri_short fault
+short_name (Node fault) = node_short fault

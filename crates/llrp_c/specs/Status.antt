@@ -2,14 +2,14 @@
 use Rattle.std.specs.Prelude.{ℕ, ◌==◌, List, [], ◌∷◌, ◌++◌, Option, find, codes}
 use Rattle.tag_epc.specs.declared.fault.WordReason.{WordReason}
 use Rattle.tag_epc.specs.declared.fault.WordReason.TheVariants as word
-use Rattle.tag_epc.specs.Faults.{reason_name}
+use Rattle.tag_epc.specs.Faults.{word_fault_name}
 use Rattle.tag_uri.specs.declared.fault.UriFault.{UriFault}
 use Rattle.tag_uri.specs.declared.fault.UriFault.TheVariants as uri
 use Rattle.tag_uri.specs.TagText.{fault_name}
 use Rattle.llrp_tree.specs.declared.node.NodeFault.{NodeFault}
 use Rattle.llrp_tree.specs.declared.node.NodeFault.TheVariants as node
-use Rattle.llrp_listing.specs.declared.fault.Refusal.{Refusal}
-use Rattle.llrp_listing.specs.declared.fault.Refusal.TheVariants as refusal
+use Rattle.llrp_listing.specs.declared.outcome.Refusal.{Refusal}
+use Rattle.llrp_listing.specs.declared.outcome.Refusal.TheVariants as refusal
 use Rattle.llrp_listing.specs.Refused.{refusal_name}
 use Rattle.llrp_c.specs.declared.status.Status.{Status}
 use Rattle.llrp_c.specs.declared.status.Status.TheVariants.{Done, Faulty, Broken, Room, Length, Utf8, Long, Memory, Word, Uri, Line, Level, Name, Fields, Number, Tail, OverLimit, Node}
@@ -68,25 +68,25 @@ code_of OverLimit = 54
 code_of (Node fault) = node_code fault
 
 -- the name of a status
-abbrev pub name_of : Status → List ℕ
-name_of Done = codes "Ok"
-name_of Faulty = codes "Faulty"
-name_of Broken = codes "Broken"
-name_of Room = codes "Room"
-name_of Length = codes "Length"
-name_of Utf8 = codes "Utf8"
-name_of Long = codes "Long"
-name_of Memory = codes "Memory"
-name_of (Word reason) = reason_name reason
-name_of (Uri fault) = fault_name fault
-name_of Line = codes "Line"
-name_of Level = codes "Level"
-name_of Name = codes "Name"
-name_of Fields = codes "Fields"
-name_of Number = codes "Number"
-name_of Tail = codes "Tail"
-name_of OverLimit = codes "OverLimit"
-name_of (Node fault) = refusal_name (refusal.Node fault)
+abbrev pub status_name : Status → List ℕ
+status_name Done = codes "Ok"
+status_name Faulty = codes "Faulty"
+status_name Broken = codes "Broken"
+status_name Room = codes "Room"
+status_name Length = codes "Length"
+status_name Utf8 = codes "Utf8"
+status_name Long = codes "Long"
+status_name Memory = codes "Memory"
+status_name (Word reason) = word_fault_name reason
+status_name (Uri fault) = fault_name fault
+status_name Line = codes "Line"
+status_name Level = codes "Level"
+status_name Name = codes "Name"
+status_name Fields = codes "Fields"
+status_name Number = codes "Number"
+status_name Tail = codes "Tail"
+status_name OverLimit = codes "OverLimit"
+status_name (Node fault) = refusal_name (refusal.Node fault)
 
 -- the status of a refused line
 abbrev pub status_of : Refusal → Status

@@ -6,7 +6,7 @@ use Rattle.tag_epc.specs.LawfulWord.{IsLawfulWord}
 use Rattle.tag_epc.specs.Faults.{HasWordFault}
 use Rattle.tag_uri.specs.declared.fault.UriFault.{UriFault}
 use Rattle.tag_uri.specs.Room.{HasText}
-use Rattle.tag_uri.specs.TagText.{HasFault, IsTextOf}
+use Rattle.tag_uri.specs.TagText.{HasTextFault, IsTextOf}
 use Rattle.llrp_c.specs.declared.status.Status.{Status}
 use Rattle.llrp_c.specs.declared.status.Status.TheVariants.{Done, Word, Uri}
 
@@ -34,4 +34,4 @@ pub record WritesText (octets old new : List ℕ) (count bit : ℕ) (status : St
 abbrev pub ReadsText : (text old new : List ℕ) → Status → Type 0
 ReadsText text old new status =
     ((word : ℕ) × (status ≡ Done) × IsTextOf word text × AreOctetsOf new word)
-    ⊎ ((fault : UriFault) × (status ≡ Uri fault) × HasFault text fault × (new ≡ old))
+    ⊎ ((fault : UriFault) × (status ≡ Uri fault) × HasTextFault text fault × (new ≡ old))

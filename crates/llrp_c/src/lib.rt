@@ -14,8 +14,10 @@
 mod frames;
 pub mod laws;
 mod listings;
+mod memory_source;
 mod names;
-mod octets;
 mod room;
 mod status;
 mod tags;
+
+pub use status::Status;

@@ -1,17 +1,22 @@
 //! Lists streams and encodes listings.
 
-ghost use Rattle.std.specs.Prelude.{◌≡◌, ◌≤◌, if◌then◌else◌, length, IfSome, MatchResult};
+ghost use Rattle.std.specs.Prelude.{◌≡◌, ◌≤◌, false, if◌then◌else◌, length, true, IfOk, IfSome, MatchResult};
+ghost use Rattle.llrp_schema.specs.declared.kinds.Profile.TheVariants.{Own, Whole};
 ghost use Rattle.llrp_tree.specs.declared.TheConstants.{MAX_LIMIT};
-ghost use Rattle.llrp_listing.specs.Encoding.{Encodes};
+ghost use Rattle.llrp_listing.specs.Encoding.{EncodesIn};
+ghost use Rattle.llrp_listing.specs.Show.{ListedAs};
+ghost use Rattle.llrp_stream.specs.Calls.Device.{CanWrite};
 ghost use Rattle.llrp_c.specs.Private.Parts.{EncodeFails, HasListing, Stops, listed_status};
-ghost use Rattle.llrp_c.specs.Listings.{IsListing, Lists, WritesOctets};
+ghost use Rattle.llrp_c.specs.Listings.{IsListing, ItemTextIn, ListsIn, end_text_in, WritesOctets, WritesOctetsIn};
 
-use crate::frames::{Frames, whole_frames};
-use crate::octets::Octets;
+use crate::frames::{WholeFrames, whole_frames};
+use crate::memory_source::MemorySource;
 use crate::room::put;
 use crate::status::Status;
-use llrp_listing::{ToolErr, Verdict, list_stream, run_encode};
-use llrp_stream::Output;
+use llrp_json::list_stream_json;
+use llrp_listing::{ToolErr, Verdict, list_stream_in, run_encode_in};
+use llrp_schema::Profile;
+use llrp_stream::{Output, Sink};
 use llrp_tree::MAX_LIMIT;
 use std::alloc::Global;
 
@@ -25,7 +30,7 @@ struct Listed {
 
 /// How many octets are listed of a stream with these whole frames: all of them if the stream
 /// breaks.
-fn octets_listed(stream: &[u8], frames: Frames) -> usize
+fn octets_listed(stream: &[u8], frames: WholeFrames) -> usize
     requires { frames.octets ≤ length stream.now }
     ensures { result ≡ (if frames.broken then length stream.now else frames.octets) }
 {
@@ -47,30 +52,76 @@ fn listed_status(broken: bool, verdict: Verdict) -> Status
     }
 }
 
-/// The listing of a stream, or `None` if memory ran out.
-fn listing_of(alloc: Global, stream: &[u8]) -> Option<(Vec<u8>, Verdict)>
-    ensures { IfSome result (λ listing. HasListing stream.now listing.0.items listing.1) }
+/// Writes the listing of a stream in a set of kinds, or its lines of JSON.
+fn write_listing<W: Sink>(
+    alloc: Global,
+    json: bool,
+    set: Profile,
+    stream: &[u8],
+    w: &mut W,
+) -> Result<Verdict, ToolErr>
+    requires { CanWrite (W.log w.old) }
+    ensures { IfOk result (λ verdict. ListedAs (ItemTextIn json) (end_text_in json) set MAX_LIMIT
+        stream.now (W.log w.old) (W.log w.new) verdict) }
+{
+    if json {
+        list_stream_json(alloc, set, stream, w, MAX_LIMIT)
+    } else {
+        list_stream_in(alloc, set, stream, w, MAX_LIMIT)
+    }
+}
+
+/// The listing of a stream in a set of kinds, or its lines of JSON; `None` if memory ran out.
+fn listing_of(alloc: Global, json: bool, set: Profile, stream: &[u8]) -> Option<(Vec<u8>, Verdict)>
+    ensures { IfSome result (λ listing. HasListing json set stream.now listing.0.items listing.1) }
 {
     let mut text = Output::new(Vec::new(alloc));
-    match list_stream(alloc, stream, &mut text, MAX_LIMIT) {
+    match write_listing(alloc, json, set, stream, &mut text) {
         Ok(verdict) => Some((text.into_inner(), verdict)),
         Err(_) => None,
     }
 }
 
-/// The listing of the whole frames of a stream, or `None` if memory ran out.
-fn list_frames(alloc: Global, stream: &[u8]) -> Option<Listed>
-    ensures { IfSome result (λ listed. IsListing stream.now listed.used listed.text.items
+/// The listing of the whole frames of a stream in a set of kinds, or their lines of JSON; `None` if
+/// memory ran out.
+fn list_frames(alloc: Global, json: bool, set: Profile, stream: &[u8]) -> Option<Listed>
+    ensures { IfSome result (λ listed. IsListing json set stream.now listed.used listed.text.items
         listed.status) }
 {
     let frames = whole_frames(stream);
     let used = octets_listed(stream, frames);
-    let (text, verdict) = listing_of(alloc, &stream[..used])?;
+    let (text, verdict) = listing_of(alloc, json, set, &stream[..used])?;
     Some(Listed {
         text,
         used,
         status: listed_status(frames.broken, verdict),
     })
+}
+
+/// The code of `llrp_list` or of `llrp_list_json` in a set of kinds, and what it writes.
+fn list_in(
+    alloc: Global,
+    json: bool,
+    set: Profile,
+    stream: &[u8],
+    listing: &mut [u8],
+    used: &mut usize,
+    written: &mut usize,
+) -> u32
+    ensures { ListsIn json set stream.now listing.old listing.new used.new written.new result }
+{
+    *used = 0;
+    *written = 0;
+    let Some(listed) = list_frames(alloc, json, set, stream) else {
+        return Status::Memory.code();
+    };
+    *written = listed.text.len();
+    if listing.len() < listed.text.len() {
+        return Status::Room.code();
+    }
+    put(listed.text.as_slice(), listing);
+    *used = listed.used;
+    listed.status.code()
 }
 
 /// Writes the listing of the whole frames of a stream to `listing`, its length to `written`, and to
@@ -84,29 +135,66 @@ pub extern "C" fn llrp_list(
     used: &mut usize,
     written: &mut usize,
 ) -> u32
-    ensures { Lists stream.now listing.old listing.new used.new written.new result }
+    ensures { ListsIn false Own stream.now listing.old listing.new used.new written.new result }
 {
-    *used = 0;
-    *written = 0;
-    let Some(listed) = list_frames(alloc, stream) else {
-        return Status::Memory.code();
-    };
-    *written = listed.text.len();
-    if listing.len() < listed.text.len() {
-        return Status::Room.code();
-    }
-    put(listed.text.as_slice(), listing);
-    *used = listed.used;
-    listed.status.code()
+    list_in(alloc, false, Profile::Own, stream, listing, used, written)
 }
 
-/// The octets of a listing, or why it has none.
-fn encoded(alloc: Global, listing: &[u8]) -> Result<Vec<u8>, ToolErr>
-    ensures { MatchResult result (λ octets. Encodes MAX_LIMIT listing.now octets.items)
-        (EncodeFails listing.now) }
+/// The same, with every message and parameter of LLRP 1.1 in place of those of the profile.
+#[unsafe(no_mangle)]
+pub extern "C" fn llrp_list_all(
+    alloc: Global,
+    stream: &[u8],
+    listing: &mut [u8],
+    used: &mut usize,
+    written: &mut usize,
+) -> u32
+    ensures { ListsIn false Whole stream.now listing.old listing.new used.new written.new result }
+{
+    list_in(alloc, false, Profile::Whole, stream, listing, used, written)
+}
+
+/// Writes the whole frames of a stream to `lines` as lines of JSON, and what `llrp_list` writes besides.
+#[unsafe(no_mangle)]
+pub extern "C" fn llrp_list_json(
+    alloc: Global,
+    stream: &[u8],
+    lines: &mut [u8],
+    used: &mut usize,
+    written: &mut usize,
+) -> u32
+    ensures { ListsIn true Own stream.now lines.old lines.new used.new written.new result }
+{
+    list_in(alloc, true, Profile::Own, stream, lines, used, written)
+}
+
+/// The same, with every message and parameter of LLRP 1.1 in place of those of the profile.
+#[unsafe(no_mangle)]
+pub extern "C" fn llrp_list_json_all(
+    alloc: Global,
+    stream: &[u8],
+    lines: &mut [u8],
+    used: &mut usize,
+    written: &mut usize,
+) -> u32
+    ensures { ListsIn true Whole stream.now lines.old lines.new used.new written.new result }
+{
+    list_in(alloc, true, Profile::Whole, stream, lines, used, written)
+}
+
+/// The octets of a listing of a set of kinds, or why it has none.
+fn encoded(alloc: Global, set: Profile, listing: &[u8]) -> Result<Vec<u8>, ToolErr>
+    ensures { MatchResult result (λ octets. EncodesIn set MAX_LIMIT listing.now octets.items)
+        (EncodeFails set listing.now) }
 {
     let mut octets = Output::new(Vec::new(alloc));
-    match run_encode(alloc, &mut Octets::new(listing), &mut octets, MAX_LIMIT) {
+    match run_encode_in(
+        alloc,
+        set,
+        &mut MemorySource::new(listing),
+        &mut octets,
+        MAX_LIMIT,
+    ) {
         Ok(()) => Ok(octets.into_inner()),
         Err(error) => Err(error),
     }
@@ -123,21 +211,20 @@ fn stopped(error: ToolErr) -> (u64, Status)
     }
 }
 
-/// Writes the octets of the messages of a listing to `octets`, how many they are to `written`, and
-/// the line at which the listing is refused to `line`, or 0.
-#[unsafe(no_mangle)]
-pub extern "C" fn llrp_encode(
+/// The code of `llrp_encode` in a set of kinds, and what it writes.
+fn encode_in(
     alloc: Global,
+    set: Profile,
     listing: &[u8],
     octets: &mut [u8],
     written: &mut usize,
     line: &mut u64,
 ) -> u32
-    ensures { WritesOctets listing.now octets.old octets.new written.new line.new result }
+    ensures { WritesOctetsIn set listing.now octets.old octets.new written.new line.new result }
 {
     *written = 0;
     *line = 0;
-    match encoded(alloc, listing) {
+    match encoded(alloc, set, listing) {
         Ok(all) => {
             *written = all.len();
             if octets.len() < all.len() {
@@ -152,4 +239,33 @@ pub extern "C" fn llrp_encode(
             status.code()
         }
     }
+}
+
+/// Writes the octets of the messages of a listing to `octets`, how many they are to `written`, and
+/// the line at which the listing is refused to `line`, or 0.
+#[unsafe(no_mangle)]
+pub extern "C" fn llrp_encode(
+    alloc: Global,
+    listing: &[u8],
+    octets: &mut [u8],
+    written: &mut usize,
+    line: &mut u64,
+) -> u32
+    ensures { WritesOctets listing.now octets.old octets.new written.new line.new result }
+{
+    encode_in(alloc, Profile::Own, listing, octets, written, line)
+}
+
+/// The same, with every message and parameter of LLRP 1.1 in place of those of the profile.
+#[unsafe(no_mangle)]
+pub extern "C" fn llrp_encode_all(
+    alloc: Global,
+    listing: &[u8],
+    octets: &mut [u8],
+    written: &mut usize,
+    line: &mut u64,
+) -> u32
+    ensures { WritesOctetsIn Whole listing.now octets.old octets.new written.new line.new result }
+{
+    encode_in(alloc, Profile::Whole, listing, octets, written, line)
 }

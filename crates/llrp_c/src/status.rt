@@ -1,9 +1,7 @@
 //! How a call ended.
 
-ghost use Rattle.std.specs.Prelude.{◌≡◌, ◌≤◌, length};
-ghost use Rattle.llrp_listing.specs.declared.fault.Refusal.TheVariants as refusal;
-ghost use Rattle.llrp_listing.specs.Refused.{refusal_name};
-ghost use Rattle.llrp_c.specs.Status.{code_of, name_of, node_code, status_of, status_with, uri_code, word_code};
+ghost use Rattle.std.specs.Prelude.{◌≡◌, ◌++◌};
+ghost use Rattle.llrp_c.specs.Status.{code_of, status_name, node_code, status_of, status_with, uri_code, word_code};
 
 use llrp_listing::Refusal;
 use llrp_tree::NodeFault;
@@ -98,23 +96,6 @@ fn node_code(fault: NodeFault) -> u32
     }
 }
 
-/// The name of the fault of a parameter or a message, as an error line has it.
-fn node_name(fault: NodeFault) -> &'static str
-    ensures name { result.now ≡ refusal_name (refusal.Node fault) }
-    ensures most { length result.now ≤ 16 }
-{
-    match fault {
-        NodeFault::FieldCount => "Node FieldCount",
-        NodeFault::Value => "Node Value",
-        NodeFault::Tail => "Node Tail",
-        NodeFault::Misplaced => "Node Misplaced",
-        NodeFault::TooMany => "Node TooMany",
-        NodeFault::Missing => "Node Missing",
-        NodeFault::TooDeep => "Node TooDeep",
-        NodeFault::TooLong => "Node TooLong",
-    }
-}
-
 impl Status {
     /// The status of a refused line.
     pub fn of_refusal(reason: Refusal) -> Status
@@ -159,37 +140,36 @@ impl Status {
         }
     }
 
-    /// The name of the status.
-    pub fn name(self) -> &'static str
-        ensures name { result.now ≡ name_of self }
-        ensures most { length result.now ≤ 16 }
+    /// The name of the status: its own words and, if it has a fault inside, that fault's.
+    pub fn names(self) -> (&'static str, &'static str)
+        ensures { result.0.now ++ result.1.now ≡ status_name self }
     {
         match self {
-            Status::Done => "Ok",
-            Status::Faulty => "Faulty",
-            Status::Broken => "Broken",
-            Status::Room => "Room",
-            Status::Length => "Length",
-            Status::Utf8 => "Utf8",
-            Status::Long => "Long",
-            Status::Memory => "Memory",
-            Status::Word(reason) => reason.name(),
-            Status::Uri(fault) => fault.name(),
-            Status::Line => "Line",
-            Status::Level => "Level",
-            Status::Name => "Name",
-            Status::Fields => "Fields",
-            Status::Number => "Number",
-            Status::Tail => "Tail",
-            Status::OverLimit => "OverLimit",
-            Status::Node(fault) => node_name(fault),
+            Status::Done => ("Ok", ""),
+            Status::Faulty => ("Faulty", ""),
+            Status::Broken => ("Broken", ""),
+            Status::Room => ("Room", ""),
+            Status::Length => ("Length", ""),
+            Status::Utf8 => ("Utf8", ""),
+            Status::Long => ("Long", ""),
+            Status::Memory => ("Memory", ""),
+            Status::Word(reason) => (reason.name(), ""),
+            Status::Uri(fault) => (fault.name(), ""),
+            Status::Line => Refusal::Line.names(),
+            Status::Level => Refusal::Level.names(),
+            Status::Name => Refusal::Name.names(),
+            Status::Fields => Refusal::Fields.names(),
+            Status::Number => Refusal::Number.names(),
+            Status::Tail => Refusal::Tail.names(),
+            Status::OverLimit => Refusal::OverLimit.names(),
+            Status::Node(fault) => Refusal::Node(fault).names(),
         }
     }
 }
 
 /// The status with this code, if there is one.
 #[tactic(auto, unfolding(crate::specs::Status::status_with, crate::specs::Status::statuses))]
-pub fn status_with(code: u32) -> Option<Status>
+pub(crate) fn status_with(code: u32) -> Option<Status>
     ensures { result ≡ status_with code }
 {
     match code {

@@ -11,33 +11,34 @@ use Rattle.llrp_schema.specs.declared.kinds.Kind.{Kind}
 use Rattle.llrp_schema.specs.declared.kinds.Kind.TheVariants.{Message, Parameter}
 use Rattle.llrp_tree.specs.Lawful.{AreOctets, octets}
 use Rattle.llrp_tree.specs.Calls.Lawful.{own_octets}
-use Rattle.llrp_tree.specs.Spelling.{body_digits, head_digits, message, spell}
+use Rattle.llrp_tree.specs.Spelling.{body_digits, head_digits, message, forest_digits}
 use Rattle.llrp_tree.specs.Tree.{MessageTree}
 use Rattle.llrp_tree.proofs.LengthLemmas.{length-body_digits, length-message_head, length-spell}
 use Rattle.llrp_listing.specs.Private.Encoder.{Appended}
-use Rattle.llrp_listing.specs.LineChecks.{IsPlaced}
+use Rattle.llrp_listing.specs.LineChecks.{IsOpenLevel}
 use Rattle.llrp_listing.specs.NodeLine.{NodeLine}
 use Rattle.llrp_listing.specs.Private.OpenLines.{AllClosed, Begins, Closed, Entry, IsSound, entry, lines_below, open_of}
-use Rattle.llrp_listing.specs.OpenText.{covers}
+use Rattle.llrp_listing.specs.OpenText.{lines_covered}
 use Rattle.llrp_listing.specs.Private.OpenTextSteps.{depth, push}
 use Rattle.llrp_listing.proofs.Closings.{all_closed_more, begins_parameter, closed_trans}
 use Rattle.llrp_listing.proofs.Growing.{covers_pop}
-use Rattle.llrp_listing.proofs.Rows.{spells_nothing}
-use Rattle.llrp_listing.specs.declared.encode.lines.Begun.{Begun}
-use Rattle.llrp_listing.specs.declared.encode.rows.Held.{Held}
-use Rattle.llrp_listing.specs.declared.encode.writer.Refused.{Refused}
-use Rattle.llrp_listing.specs.declared.encode.writer.Writer.{Writer}
-use Rattle.llrp_listing.specs.Private.Writer.{CanBegin, CanStandAt, ClosedAll, ClosedTo, Fails, Front, Holds, KeepsFront, BeginsLine, OpensLine, all_kept, cut_to, inner}
+use Rattle.llrp_listing.proofs.Rows.{frames_nothing}
+use Rattle.llrp_listing.specs.declared.encode.line_octets.PutLine.{PutLine}
+use Rattle.llrp_listing.specs.declared.encode.open_lines.LineRecord.{LineRecord}
+use Rattle.llrp_listing.specs.declared.encode.buffer.Refused.{Refused}
+use Rattle.llrp_listing.specs.declared.encode.buffer.EncodeBuffer.{EncodeBuffer}
+use Rattle.llrp_listing.specs.Private.EncodeBuffer.{CanBegin, CanStandAt, ClosedAll, ClosedTo, Fails, Front, Holds, KeepsFront, BeginsLine, OpensLine, all_kept, cut_to, inner}
 use Rattle.llrp_listing.specs.Private.OpenNodes.{AreHeld, AreKept, IsChain, IsDoomed, IsPut, OpenNode, chain_digits, chain_octets, entries, line_digits, new_node, node_digits}
 use Rattle.llrp_schema.specs.declared.kinds.ParamKind.{ParamKind}
-use Rattle.llrp_listing.proofs.Chains.{length-line, octets_append}
+use Rattle.llrp_listing.proofs.Chains.{length-line}
+use Rattle.llrp_tree.proofs.OctetLemmas.{octets-append as octets_append}
 use Rattle.llrp_listing.proofs.LineSteps.{length_entries}
 
 -- ---- how many octets there are
 
 length-line_of : (kind : Kind) (numbers tail : List ℕ) → length (line_digits kind numbers tail) ≡ 8 * own_octets kind tail
 unfolding line_digits
-length-line_of (Message kind) numbers tail = length-append (head_digits (message (get_or numbers 0 0) kind 0 (get_or numbers 1 0))) (body_digits (Message kind) (drop 2 numbers) []) ∙ omega (arith, length-message_head (get_or numbers 0 0) kind 0 (get_or numbers 1 0), length-body_digits (Message kind) (drop 2 numbers) [])
+length-line_of (Message kind) numbers tail = length-append (head_digits (message (get_or numbers 0 0) kind 0 (get_or numbers 1 0))) (body_digits (Message kind) (drop 2 numbers) tail) ∙ omega (arith, length-message_head (get_or numbers 0 0) kind 0 (get_or numbers 1 0), length-body_digits (Message kind) (drop 2 numbers) tail)
 length-line_of (Parameter kind) numbers tail = length-line kind numbers tail
 
 length-chain : (ns : List OpenNode) → length (chain_digits ns) ≡ 8 * chain_octets ns
@@ -45,12 +46,12 @@ unfolding chain_digits chain_octets
 length-chain [] = refl
 length-chain (n ∷ ns) =
     length-append (chain_digits ns) (node_digits n)
-    ∙ omega (arith, length-chain ns, length-append (line_digits n.line.kind n.line.numbers n.line.tail) (spell n.children), length-line_of n.line.kind n.line.numbers n.line.tail, length-spell n.children)
+    ∙ omega (arith, length-chain ns, length-append (line_digits n.line.kind n.line.numbers n.line.tail) (forest_digits n.children), length-line_of n.line.kind n.line.numbers n.line.tail, length-spell n.children)
 
 -- ---- what is kept
 
 chain_more : (ns : List OpenNode) (line : NodeLine) (number : ℕ) → chain_digits (new_node line number ∷ ns) ≡ chain_digits ns ++ line_digits line.kind line.numbers line.tail
-unfolding chain_digits spell
+unfolding chain_digits forest_digits
 chain_more ns line number = ap (λ (z : List Bool). chain_digits ns ++ z) (append-nil (line_digits line.kind line.numbers line.tail))
 
 doomed_more : (limit : ℕ) (ns : List OpenNode) (line : NodeLine) (number : ℕ) → IsDoomed limit ns → IsDoomed limit (new_node line number ∷ ns)
@@ -89,7 +90,7 @@ cut_octets true bytes o = o
 cut_octets false bytes o = tt
 
 -- the line is open
-pub line_begun : (old new : Writer) (at : ℕ) (held : Held) (put kept : Bool) (out more : List ℕ) (ns : List OpenNode) (line : NodeLine) (number octets : ℕ) → Holds old at out more ns → CanBegin held put more line number → IsChain (new_node line number ∷ ns) → length ns ≤ MAX_DEPTH
+pub line_begun : (old new : EncodeBuffer) (at : ℕ) (held : LineRecord) (put kept : Bool) (out more : List ℕ) (ns : List OpenNode) (line : NodeLine) (number octets : ℕ) → Holds old at out more ns → CanBegin held put more line number → IsChain (new_node line number ∷ ns) → length ns ≤ MAX_DEPTH
     → octets ≡ length old.room.items - old.from → kept ≡ all_kept old.kept put octets old.limit → new.room.items ≡ cut_to kept old.from old.room.items → new.from ≡ old.from → new.kept ≡ kept → new.limit ≡ old.limit → inner new.rows ≡ held ∷ inner old.rows
     → Holds new (length new.room.items) out [] (new_node line number ∷ ns)
 line_begun old new at held put kept out more ns line number octets h c chain few count k room from same limit rows =
@@ -105,7 +106,7 @@ line_begun old new at held put kept out more ns line number octets h c chain few
       from = from ∙ h.from;
       ends = ap (λ (x : List ℕ). length x) (is ∙ ap (λ (z : List ℕ). out ++ z) (append-nil bytes)) ∙ length-append out bytes;
       octets = cut_octets kept all (octets_append h.bytes more h.octets c.octets);
-      rows = subst (λ (r : List Held). AreHeld r (new_node line number ∷ ns)) (sym rows) (c.is, h.rows);
+      rows = subst (λ (r : List LineRecord). AreHeld r (new_node line number ∷ ns)) (sym rows) (c.is, h.rows);
       chain = chain;
       few = omega (arith, few);
       kept = subst (λ (b : Bool). AreKept new.limit b bytes (new_node line number ∷ ns)) (sym same) (subst (λ (l : ℕ). AreKept l kept bytes (new_node line number ∷ ns)) (sym limit) (cut_kept old.limit kept all (new_node line number ∷ ns) stays));
@@ -114,9 +115,9 @@ line_begun old new at held put kept out more ns line number octets h c chain few
 -- ---- all lines are closed
 
 nothing_appended : (limit : ℕ) (out : List ℕ) → Appended limit [] out out
-nothing_appended limit out = record { bytes = []; spelled = spells_nothing limit; more = sym (append-nil out) }
+nothing_appended limit out = record { bytes = []; framed = frames_nothing limit; more = sym (append-nil out) }
 
-pub all_closed_none : (limit : ℕ) (writer : Writer) (at : ℕ) (out more : List ℕ) (ns : List OpenNode) → Holds writer at out more ns → length ns ≡ 0 → ClosedAll limit writer at out more ns
+pub all_closed_none : (limit : ℕ) (writer : EncodeBuffer) (at : ℕ) (out more : List ℕ) (ns : List OpenNode) → Holds writer at out more ns → length ns ≡ 0 → ClosedAll limit writer at out more ns
 all_closed_none limit writer at out more [] h e = record {
   now = out;
   messages = [];
@@ -126,7 +127,7 @@ all_closed_none limit writer at out more [] h e = record {
 }
 all_closed_none limit writer at out more (n ∷ ns) h e = absurd (omega (arith, e))
 
-pub all_closed_later : (limit : ℕ) (mid new : Writer) (at : ℕ) (out more : List ℕ) (ns : List OpenNode) → (c : ClosedTo mid at 1 out more ns) → 1 ≤ length ns → ((n : OpenNode) → Holds mid at out more (n ∷ []) → ClosedAll limit new at out more (n ∷ [])) → ClosedAll limit new at out more ns
+pub all_closed_later : (limit : ℕ) (mid new : EncodeBuffer) (at : ℕ) (out more : List ℕ) (ns : List OpenNode) → (c : ClosedTo mid at 1 out more ns) → 1 ≤ length ns → ((n : OpenNode) → Holds mid at out more (n ∷ []) → ClosedAll limit new at out more (n ∷ [])) → ClosedAll limit new at out more ns
 all_closed_later limit mid new at out more ns c some close = on c.left c.holds c.closed (c.are some)
   where
     on : (left : List OpenNode) → Holds mid at out more left → Closed (entries ns) (entries left) → length left ≡ 1 → ClosedAll limit new at out more ns
@@ -134,7 +135,7 @@ all_closed_later limit mid new at out more ns c some close = on c.left c.holds c
     on (n ∷ []) h cl e = let a = close n h in record { now = a.now; messages = a.messages; holds = a.holds; closed = all_closed_more limit (entries ns) (entries (n ∷ [])) a.messages cl a.closed; appended = a.appended }
     on (n ∷ p ∷ outer) h cl e = absurd (omega (arith, e))
 
-pub one_left : (mid : Writer) (at : ℕ) (out more : List ℕ) (ns : List OpenNode) → (c : ClosedTo mid at 1 out more ns) → 1 ≤ length ns → (out more : List ℕ) × (n : OpenNode) × Holds mid at out more (n ∷ [])
+pub one_left : (mid : EncodeBuffer) (at : ℕ) (out more : List ℕ) (ns : List OpenNode) → (c : ClosedTo mid at 1 out more ns) → 1 ≤ length ns → (out more : List ℕ) × (n : OpenNode) × Holds mid at out more (n ∷ [])
 one_left mid at out more ns c some = on c.left c.holds (c.are some)
   where
     on : (left : List OpenNode) → Holds mid at out more left → length left ≡ 1 → (out more : List ℕ) × (n : OpenNode) × Holds mid at out more (n ∷ [])
@@ -142,7 +143,7 @@ one_left mid at out more ns c some = on c.left c.holds (c.are some)
     on (n ∷ []) h e = (out, more, n, h)
     on (n ∷ p ∷ outer) h e = absurd (omega (arith, e))
 
-pub fails_later : (limit : ℕ) (mid : Writer) (at : ℕ) (out more : List ℕ) (ns : List OpenNode) (e : Refused) → (c : ClosedTo mid at 1 out more ns) → 1 ≤ length ns → ((n : OpenNode) → Holds mid at out more (n ∷ []) → Fails limit 0 (n ∷ []) e) → Fails limit 0 ns e
+pub fails_later : (limit : ℕ) (mid : EncodeBuffer) (at : ℕ) (out more : List ℕ) (ns : List OpenNode) (e : Refused) → (c : ClosedTo mid at 1 out more ns) → 1 ≤ length ns → ((n : OpenNode) → Holds mid at out more (n ∷ []) → Fails limit 0 (n ∷ []) e) → Fails limit 0 ns e
 fails_later limit mid at out more ns e c some bad = on c.left c.holds c.closed (c.are some)
   where
     on : (left : List OpenNode) → Holds mid at out more left → Closed (entries ns) (entries left) → length left ≡ 1 → Fails limit 0 ns e
@@ -159,17 +160,17 @@ begins_message : (limit number : ℕ) (line : NodeLine) (old : List Entry) (mess
 begins_message limit number line old messages c = record {
   is = λ done. ap (push line) (sym (c.is done));
   sound = λ done s. (let t = c.sound done s in (t.0, (tt, tt)));
-  numbered = λ done n is. (is ∙ ap (λ (z : List (ℕ × NodeLine)). suc (length z)) (sym (covers_pop (depth (open_of done old) - 0) (open_of done old)) ∙ ap covers (c.is done)), tt);
+  numbered = λ done n is. (is ∙ ap (λ (z : List (ℕ × NodeLine)). suc (length z)) (sym (covers_pop (depth (open_of done old) - 0) (open_of done old)) ∙ ap lines_covered (c.is done)), tt);
 }
 
-is_message : (line : NodeLine) (number : ℕ) → IsPlaced 0 line.kind → IsChain (new_node line number ∷ [])
+is_message : (line : NodeLine) (number : ℕ) → IsOpenLevel 0 line.kind → IsChain (new_node line number ∷ [])
 is_message line number p = on line.kind refl p
   where
-    on : (kind : Kind) → line.kind ≡ kind → IsPlaced 0 kind → IsChain (new_node line number ∷ [])
+    on : (kind : Kind) → line.kind ≡ kind → IsOpenLevel 0 kind → IsChain (new_node line number ∷ [])
     on (Message kind) e q = (kind, e)
     on (Parameter kind) e q = absurd (omega (arith, q))
 
-pub opens_message : (limit : ℕ) (mid new : Writer) (at : ℕ) (held : Held) (put : Bool) (out more : List ℕ) (ns : List OpenNode) (line : NodeLine) (number : ℕ) → ClosedAll limit mid at out more ns → BeginsLine mid new held put → CanBegin held put more line number → CanStandAt 0 (length ns) line → OpensLine limit new out ns 0 line number
+pub opens_message : (limit : ℕ) (mid new : EncodeBuffer) (at : ℕ) (held : LineRecord) (put : Bool) (out more : List ℕ) (ns : List OpenNode) (line : NodeLine) (number : ℕ) → ClosedAll limit mid at out more ns → BeginsLine mid new held put → CanBegin held put more line number → CanStandAt 0 (length ns) line → OpensLine limit new out ns 0 line number
 opens_message limit mid new at held put out more ns line number a b c s = record {
   now = a.now;
   outer = [];
@@ -179,15 +180,15 @@ opens_message limit mid new at held put out more ns line number a b c s = record
   appended = a.appended;
 }
 
-is_parameter : (line : NodeLine) (number level : ℕ) (left : List OpenNode) → IsPlaced level line.kind → length left ≡ level → 1 ≤ level → IsChain left → IsChain (new_node line number ∷ left)
+is_parameter : (line : NodeLine) (number level : ℕ) (left : List OpenNode) → IsOpenLevel level line.kind → length left ≡ level → 1 ≤ level → IsChain left → IsChain (new_node line number ∷ left)
 is_parameter line number level [] p e least c = absurd (omega (arith, e, least))
 is_parameter line number level (n ∷ left) p e least c = (on line.kind refl p, c)
   where
-    on : (kind : Kind) → line.kind ≡ kind → IsPlaced level kind → (k : ParamKind) × (line.kind ≡ Parameter k)
+    on : (kind : Kind) → line.kind ≡ kind → IsOpenLevel level kind → (k : ParamKind) × (line.kind ≡ Parameter k)
     on (Message kind) i q = absurd (omega (arith, q, least))
     on (Parameter kind) i q = (kind, i)
 
-pub opens_parameter : (limit level : ℕ) (mid new : Writer) (at : ℕ) (held : Held) (put : Bool) (out more : List ℕ) (ns : List OpenNode) (line : NodeLine) (number : ℕ) → 1 ≤ level → (t : ClosedTo mid at level out more ns) → BeginsLine mid new held put → CanBegin held put more line number → CanStandAt level (length ns) line → OpensLine limit new out ns level line number
+pub opens_parameter : (limit level : ℕ) (mid new : EncodeBuffer) (at : ℕ) (held : LineRecord) (put : Bool) (out more : List ℕ) (ns : List OpenNode) (line : NodeLine) (number : ℕ) → 1 ≤ level → (t : ClosedTo mid at level out more ns) → BeginsLine mid new held put → CanBegin held put more line number → CanStandAt level (length ns) line → OpensLine limit new out ns level line number
 opens_parameter limit level mid new at held put out more ns line number least t b c s =
     let long : length t.left ≡ level = t.are s.within in
     record {
@@ -202,17 +203,17 @@ opens_parameter limit level mid new at held put out more ns line number least t 
 -- ---- octets that are put after others
 
 -- a line that can begin, by what is kept of it
-pub begun_can : (begun is : Begun) (more : List ℕ) (line : NodeLine) (number : ℕ) → begun ≡ is → CanBegin is.held is.put more line number → CanBegin begun.held begun.put more line number
-begun_can begun is more line number e can = subst (λ (b : Begun). CanBegin b.held b.put more line number) (sym e) can
+pub begun_can : (begun is : PutLine) (more : List ℕ) (line : NodeLine) (number : ℕ) → begun ≡ is → CanBegin is.held is.put more line number → CanBegin begun.held begun.put more line number
+begun_can begun is more line number e can = subst (λ (b : PutLine). CanBegin b.held b.put more line number) (sym e) can
 
-pub put_after : (old mid : Writer) (at : ℕ) (out more : List ℕ) (ns : List OpenNode) → Holds old (length old.room.items) out [] ns → at ≡ length old.room.items → mid.room.items ≡ old.room.items ++ more → mid.from ≡ old.from → mid.kept ≡ old.kept → mid.limit ≡ old.limit → inner mid.rows ≡ inner old.rows → Holds mid at out more ns
+pub put_after : (old mid : EncodeBuffer) (at : ℕ) (out more : List ℕ) (ns : List OpenNode) → Holds old (length old.room.items) out [] ns → at ≡ length old.room.items → mid.room.items ≡ old.room.items ++ more → mid.from ≡ old.from → mid.kept ≡ old.kept → mid.limit ≡ old.limit → inner mid.rows ≡ inner old.rows → Holds mid at out more ns
 put_after old mid at out more ns h e room from kept limit rows = record {
   bytes = h.bytes;
   room = room ∙ ap (λ (z : List ℕ). z ++ more) (h.room ∙ ap (λ (z : List ℕ). out ++ z) (append-nil h.bytes)) ∙ append_assoc out h.bytes more;
   from = from ∙ h.from;
   ends = e ∙ h.ends;
   octets = h.octets;
-  rows = subst (λ (r : List Held). AreHeld r ns) (sym rows) h.rows;
+  rows = subst (λ (r : List LineRecord). AreHeld r ns) (sym rows) h.rows;
   chain = h.chain;
   few = h.few;
   kept = subst (λ (b : Bool). AreKept mid.limit b h.bytes ns) (sym kept) (subst (λ (l : ℕ). AreKept l old.kept h.bytes ns) (sym limit) h.kept);
@@ -220,8 +221,8 @@ put_after old mid at out more ns h e room from kept limit rows = record {
 
 -- ---- the octets of closed messages
 
-pub front_of : (writer : Writer) (at : ℕ) (out more : List ℕ) (ns : List OpenNode) → Holds writer at out more ns → Front writer out
+pub front_of : (writer : EncodeBuffer) (at : ℕ) (out more : List ℕ) (ns : List OpenNode) → Holds writer at out more ns → Front writer out
 front_of writer at out more ns h = record { back = h.bytes ++ more; room = h.room; from = h.from }
 
-pub front_later : (mid new : Writer) (at : ℕ) (out more : List ℕ) (ns : List OpenNode) → (c : ClosedTo mid at 1 out more ns) → KeepsFront mid new at → Front new out
+pub front_later : (mid new : EncodeBuffer) (at : ℕ) (out more : List ℕ) (ns : List OpenNode) → (c : ClosedTo mid at 1 out more ns) → KeepsFront mid new at → Front new out
 front_later mid new at out more ns c k = k out more c.left c.holds

@@ -11,18 +11,18 @@ use Rattle.llrp_schema.specs.declared.kinds.Tail.{Tail}
 use Rattle.llrp_schema.specs.declared.kinds.Tail.TheVariants.{Absent, Words, Text, Bits, Data}
 use Rattle.llrp_schema.specs.Schema.{FieldRule, fields_of, tail_of}
 use Rattle.llrp_schema.specs.Calls.Schema.{field_rule}
-use Rattle.llrp_listing.specs.declared.fault.Refusal.{Refusal}
-use Rattle.llrp_listing.specs.declared.line.LineErr.{LineErr}
-use Rattle.llrp_listing.specs.declared.line.LineErr.TheVariants.{Refused, Memory}
-use Rattle.llrp_listing.specs.declared.line.ParameterLine.{ParameterLine}
-use Rattle.llrp_listing.specs.Checks.{FirstFailing}
-use Rattle.llrp_listing.specs.LineChecks.{IsInForm, AreInForm, body_checks, tail_checks, tail_count}
+use Rattle.llrp_listing.specs.declared.outcome.Refusal.{Refusal}
+use Rattle.llrp_listing.specs.declared.parse_line.LineErr.{LineErr}
+use Rattle.llrp_listing.specs.declared.parse_line.LineErr.TheVariants.{Refused, Memory}
+use Rattle.llrp_listing.specs.declared.parse_line.MessageLine.{MessageLine}
+use Rattle.llrp_listing.specs.declared.parse_line.ParameterLine.{ParameterLine}
+use Rattle.llrp_listing.specs.OrderedChecks.{FirstFailing}
+use Rattle.llrp_listing.specs.LineChecks.{IsInForm, AreInForm, body_checks, tail_word_checks, tail_count}
 use Rattle.llrp_listing.specs.Private.LineChecks.{ReadsNumber}
-use Rattle.llrp_listing.specs.Private.LineReading.{AreRead, IsNoTail, IsParameterRead, IsTailWord, ReadsFields, ReadsMessage, ReadsParameter, ReadsRest, forms_of}
+use Rattle.llrp_listing.specs.Private.LineReading.{AreRead, IsMessageRead, IsNoTail, IsParameterRead, IsTailWord, ReadsFields, ReadsMessage, ReadsParameter, ReadsRest, forms_of}
 use Rattle.llrp_listing.specs.NodeLine.{NumberForm, Version, Id, field_form, number_forms, IsNumberText, AreNumberTexts}
 use Rattle.llrp_listing.specs.Lines.{words}
 use Rattle.llrp_listing.specs.Private.Splits.{words_in}
-use Rattle.llrp_listing.proofs.LineWords.{message_forms}
 use Rattle.llrp_listing.proofs.WordLemmas.{only_word, some_word}
 
 -- one number more is read
@@ -89,38 +89,8 @@ texts_length (f ∷ fs) (n ∷ ns) (w ∷ ws) h = ap suc (texts_length fs ns ws 
 pub read_length : (fs : List NumberForm) (ws : List (List ℕ)) (ns : List ℕ) (rest : List (List ℕ)) → AreRead fs ws ns rest → length ws ≡ length fs + length rest
 read_length fs ws ns rest r = ap length r.words ∙ length-append r.texts rest ∙ ap (λ (n : ℕ). n + length rest) (texts_length fs ns r.texts r.are)
 
-no_rest : (rest : List (List ℕ)) → length rest ≡ 0 → rest ≡ []
-no_rest [] h = refl
-no_rest (w ∷ ws) h = absurd (omega arith)
-
--- ---- messages
-
-pub version_bad : (kind : MsgKind) (v : List ℕ) (ws all : List (List ℕ)) (reason : Refusal) → all ≡ v ∷ ws → ReadsNumber Version v (Err reason) → ReadsMessage kind all (Err reason)
-unfolding number_forms
-version_bad kind v ws all reason e bad = λ tail. rw e (inl bad)
-
-pub id_bad : (kind : MsgKind) (v i : List ℕ) (ws all : List (List ℕ)) (n : ℕ) (reason : Refusal) → all ≡ v ∷ i ∷ ws → ReadsNumber Version v (Ok n) → ReadsNumber Id i (Err reason) → ReadsMessage kind all (Err reason)
-unfolding number_forms
-id_bad kind v i ws all n reason e good bad = λ tail. rw e (inr ((n, good.0, good.1), inl bad))
-
-pub fields_bad : (kind : MsgKind) (v i : List ℕ) (ws all : List (List ℕ)) (n m : ℕ) (old new : List ℕ) (rules : List FieldRule) (reason : Refusal) → all ≡ v ∷ i ∷ ws → ReadsNumber Version v (Ok n) → ReadsNumber Id i (Ok m) → rules ≡ fields_of (Message kind)
-    → ReadsFields (forms_of rules) ws old new (Err reason) → ReadsMessage kind all (Err reason)
-unfolding number_forms
-fields_bad kind v i ws all n m old new rules reason e good fine are bad = λ tail. rw e (inr ((n, good.0, good.1), inr ((m, fine.0, fine.1), subst (λ (r : List FieldRule). FirstFailing (body_checks (forms_of r) tail ws) reason) are (bad tail))))
-
-pub message_read : (kind : MsgKind) (v i : List ℕ) (ws all : List (List ℕ)) (n m : ℕ) (old new : List ℕ) (rules : List FieldRule) (rest : Option (Bor (List ℕ))) → all ≡ v ∷ i ∷ ws → length all ≡ length (number_forms (Message kind)) → ReadsNumber Version v (Ok n) → ReadsNumber Id i (Ok m) → rules ≡ fields_of (Message kind)
-    → old ≡ [] → ReadsFields (forms_of rules) ws old new (Ok rest) → AreRead (number_forms (Message kind)) all (n ∷ m ∷ new) []
-unfolding number_forms
-message_read kind v i ws all n m old new rules rest e count good fine are empty h =
-    let r : AreRead (forms_of (fields_of (Message kind))) ws h.0 (words_in rest) = subst (λ (x : List FieldRule). AreRead (forms_of x) ws h.0 (words_in rest)) are h.1 in
-    let none : words_in rest ≡ [] = no_rest (words_in rest) (omega (arith, count, ap length e, message_forms kind, read_length (forms_of (fields_of (Message kind))) ws h.0 (words_in rest) r)) in
-    let numbers : new ≡ h.0 = h.2 ∙ ap (λ (z : List ℕ). z ++ h.0) empty in
-    rw (e, numbers) (read_one Version (Id ∷ forms_of (fields_of (Message kind))) v (i ∷ ws) n (m ∷ h.0) [] good.0 good.1 (read_one Id (forms_of (fields_of (Message kind))) i ws m h.0 [] fine.0 fine.1 (subst (λ (z : List (List ℕ)). AreRead (forms_of (fields_of (Message kind))) ws h.0 z) none r)))
-
--- ---- parameters
-
 -- a check that fails after numbers that are read
-after_read : (fs : List NumberForm) (form : Tail) (ws : List (List ℕ)) (ns : List ℕ) (rest : List (List ℕ)) (reason : Refusal) → AreRead fs ws ns rest → FirstFailing (tail_checks form rest) reason → FirstFailing (body_checks fs form ws) reason
+after_read : (fs : List NumberForm) (form : Tail) (ws : List (List ℕ)) (ns : List ℕ) (rest : List (List ℕ)) (reason : Refusal) → AreRead fs ws ns rest → FirstFailing (tail_word_checks form rest) reason → FirstFailing (body_checks fs form ws) reason
 after_read fs form ws ns rest reason r bad = rw r.words (on fs ns r.texts r.in_form r.are)
   where
     on : (fs : List NumberForm) (ns : List ℕ) (texts : List (List ℕ)) → AreInForm fs ns → AreNumberTexts fs ns texts → FirstFailing (body_checks fs form (texts ++ rest)) reason
@@ -130,6 +100,50 @@ after_read fs form ws ns rest reason r bad = rw r.words (on fs ns r.texts r.in_f
     on (f ∷ fs) [] texts p q = absurd q
     on (f ∷ fs) (n ∷ ns) [] p q = absurd q
     on (f ∷ fs) (n ∷ ns) (w ∷ texts) p q = inr ((n, p.0, q.0), on fs ns texts p.1 q.1)
+
+-- ---- messages
+
+pub version_bad : (kind : MsgKind) (v : List ℕ) (ws all : List (List ℕ)) (reason : Refusal) → all ≡ v ∷ ws → ReadsNumber Version v (Err reason) → ReadsMessage kind all (Err (Refused reason))
+unfolding number_forms
+version_bad kind v ws all reason e bad = rw e (inl bad)
+
+pub id_bad : (kind : MsgKind) (v i : List ℕ) (ws all : List (List ℕ)) (n : ℕ) (reason : Refusal) → all ≡ v ∷ i ∷ ws → ReadsNumber Version v (Ok n) → ReadsNumber Id i (Err reason) → ReadsMessage kind all (Err (Refused reason))
+unfolding number_forms
+id_bad kind v i ws all n reason e good bad = rw e (inr ((n, good.0, good.1), inl bad))
+
+pub fields_bad : (kind : MsgKind) (v i : List ℕ) (ws all : List (List ℕ)) (n m : ℕ) (old new : List ℕ) (rules : List FieldRule) (reason : Refusal) → all ≡ v ∷ i ∷ ws → ReadsNumber Version v (Ok n) → ReadsNumber Id i (Ok m) → rules ≡ fields_of (Message kind)
+    → ReadsFields (forms_of rules) ws old new (Err reason) → ReadsMessage kind all (Err (Refused reason))
+unfolding number_forms
+fields_bad kind v i ws all n m old new rules reason e good fine are bad =
+    rw e (inr ((n, good.0, good.1), inr ((m, fine.0, fine.1), subst (λ (r : List FieldRule). FirstFailing (body_checks (forms_of r) (tail_of (Message kind)) ws) reason) are (bad (tail_of (Message kind))))))
+
+-- the numbers of a message's line are read, and these words are left
+pub message_numbers : (kind : MsgKind) (v i : List ℕ) (ws all : List (List ℕ)) (n m : ℕ) (old new : List ℕ) (rules : List FieldRule) (rest : Option (Bor (List ℕ))) → all ≡ v ∷ i ∷ ws → ReadsNumber Version v (Ok n) → ReadsNumber Id i (Ok m) → rules ≡ fields_of (Message kind)
+    → old ≡ [] → ReadsFields (forms_of rules) ws old new (Ok rest) → AreRead (number_forms (Message kind)) all (n ∷ m ∷ new) (words_in rest)
+unfolding number_forms
+message_numbers kind v i ws all n m old new rules rest e good fine are empty h =
+    let r : AreRead (forms_of (fields_of (Message kind))) ws h.0 (words_in rest) = subst (λ (x : List FieldRule). AreRead (forms_of x) ws h.0 (words_in rest)) are h.1 in
+    let numbers : new ≡ h.0 = h.2 ∙ ap (λ (z : List ℕ). z ++ h.0) empty in
+    rw (e, numbers) (read_one Version (Id ∷ forms_of (fields_of (Message kind))) v (i ∷ ws) n (m ∷ h.0) (words_in rest) good.0 good.1 (read_one Id (forms_of (fields_of (Message kind))) i ws m h.0 (words_in rest) fine.0 fine.1 r))
+
+-- as many words are left as the tail has
+pub message_rest : (kind : MsgKind) (all : List (List ℕ)) (ns : List ℕ) (rest : Option (Bor (List ℕ))) (form : Tail) → AreRead (number_forms (Message kind)) all ns (words_in rest) → length all ≡ length (number_forms (Message kind)) + tail_count (tail_of (Message kind)) → form ≡ tail_of (Message kind)
+    → length (words_in rest) ≡ tail_count form
+message_rest kind all ns rest form r count is =
+    let n : length (words_in rest) ≡ tail_count (tail_of (Message kind)) = omega (arith, count, read_length (number_forms (Message kind)) all ns (words_in rest) r) in
+    n ∙ ap tail_count (sym is)
+
+pub message_tail_bad : (kind : MsgKind) (all : List (List ℕ)) (ns : List ℕ) (rest : Option (Bor (List ℕ))) (form : Tail) (e : LineErr) → AreRead (number_forms (Message kind)) all ns (words_in rest) → form ≡ tail_of (Message kind) → ReadsRest form (words_in rest) (Err e) → ReadsMessage kind all (Err e)
+message_tail_bad kind all ns rest form Memory r is bad = tt
+message_tail_bad kind all ns rest form (Refused reason) r is bad = after_read (number_forms (Message kind)) (tail_of (Message kind)) all ns (words_in rest) reason r (subst (λ (f : Tail). FirstFailing (tail_word_checks f (words_in rest)) reason) is bad)
+
+pub message_read : (kind : MsgKind) (all : List (List ℕ)) (line : MessageLine) (rest : Option (Bor (List ℕ))) (form : Tail) → line.kind ≡ kind → AreRead (number_forms (Message kind)) all (line.version ∷ line.id ∷ line.fields.items) (words_in rest) → form ≡ tail_of (Message kind)
+    → ReadsRest form (words_in rest) (Ok line.tail) → IsMessageRead kind all line
+message_read kind all line rest form k r is t =
+    let t2 : ReadsRest (tail_of (Message kind)) (words_in rest) (Ok line.tail) = subst (λ (f : Tail). ReadsRest f (words_in rest) (Ok line.tail)) is t in
+    record { kind_is = k; tail = t2.0; numbers = subst (AreRead (number_forms (Message kind)) all (line.version ∷ line.id ∷ line.fields.items)) t2.1 r }
+
+-- ---- parameters
 
 pub parameter_fields_bad : (level : ℕ) (kind : ParamKind) (ws : List (List ℕ)) (old new : List ℕ) (rules : List FieldRule) (reason : Refusal) → rules ≡ fields_of (Parameter kind) → ReadsFields (forms_of rules) ws old new (Err reason) → ReadsParameter level kind ws (Err (Refused reason))
 unfolding number_forms
@@ -153,7 +167,7 @@ pub parameter_tail_bad : (level : ℕ) (kind : ParamKind) (ws : List (List ℕ))
     → ReadsRest form (words_in rest) (Err e) → ReadsParameter level kind ws (Err e)
 parameter_tail_bad level kind ws old new rules rest form Memory are empty h is bad = tt
 parameter_tail_bad level kind ws old new rules rest form (Refused reason) are empty h is bad =
-    after_read (number_forms (Parameter kind)) (tail_of (Parameter kind)) ws new (words_in rest) reason (parameter_numbers kind ws old new rules rest are empty h) (subst (λ (f : Tail). FirstFailing (tail_checks f (words_in rest)) reason) is bad)
+    after_read (number_forms (Parameter kind)) (tail_of (Parameter kind)) ws new (words_in rest) reason (parameter_numbers kind ws old new rules rest are empty h) (subst (λ (f : Tail). FirstFailing (tail_word_checks f (words_in rest)) reason) is bad)
 
 pub parameter_read : (level : ℕ) (kind : ParamKind) (ws : List (List ℕ)) (old : List ℕ) (line : ParameterLine) (rules : List FieldRule) (rest : Option (Bor (List ℕ))) (form : Tail) → rules ≡ fields_of (Parameter kind) → old ≡ [] → ReadsFields (forms_of rules) ws old line.fields.items (Ok rest) → form ≡ tail_of (Parameter kind)
     → ReadsRest form (words_in rest) (Ok line.tail) → line.level ≡ level → line.kind ≡ kind → IsParameterRead level kind ws line

@@ -12,18 +12,15 @@ use Rattle.llrp_schema.specs.declared.kinds.Kind.TheVariants.{Parameter}
 use Rattle.llrp_schema.specs.Schema.{is_tv, number_of}
 use Rattle.llrp_tree.specs.Lawful.{AreOctets, body_octets, head_octets, octets}
 use Rattle.llrp_tree.specs.Calls.Lawful.{own_octets}
-use Rattle.llrp_tree.specs.Spelling.{body_digits, head_digits, head_of, spell, tlv, tv}
+use Rattle.llrp_tree.specs.Spelling.{body_digits, head_digits, head_of, forest_digits, tlv, tv}
 use Rattle.llrp_tree.specs.Tree as tree
 use Rattle.llrp_tree.proofs.LengthLemmas.{length-body_digits, length-head, length-spell}
-use Rattle.llrp_listing.specs.Private.Writer.{settled, with_two}
+use Rattle.llrp_listing.specs.Private.EncodeBuffer.{settled, with_two}
 use Rattle.llrp_listing.specs.Private.OpenNodes.{AreKept, IsDoomed, OpenNode, chain_digits, chain_octets, line_digits, node_digits, node_fault, node_octets, with_child}
 use Rattle.llrp_listing.proofs.NodeFaults.{own_told}
+use Rattle.llrp_tree.proofs.OctetLemmas.{octets-append as octets_append}
 
 -- ---- lists of octets
-
-pub octets_append : (xs ys : List ℕ) → AreOctets xs → AreOctets ys → AreOctets (xs ++ ys)
-octets_append [] ys p q = q
-octets_append (x ∷ xs) ys p q = (p.0, octets_append xs ys p.1 q)
 
 octets_take : (n : ℕ) (xs : List ℕ) → AreOctets xs → AreOctets (take n xs)
 octets_take zero xs p = tt
@@ -101,20 +98,20 @@ module _ (kind : ParamKind) (numbers tail : List ℕ) (children : tree.Forest) w
   size = head_octets kind + body_octets (Parameter kind) tail + octets children
 
   abbrev child_digits : ℕ → List Bool
-  child_digits n = (head_digits (head_of kind n) ++ body_digits (Parameter kind) numbers tail) ++ spell children
+  child_digits n = (head_digits (head_of kind n) ++ body_digits (Parameter kind) numbers tail) ++ forest_digits children
 
   length-child : (n : ℕ) → length (child_digits n) ≡ 8 * size
   length-child n =
-      length-append (head_digits (head_of kind n) ++ body_digits (Parameter kind) numbers tail) (spell children)
+      length-append (head_digits (head_of kind n) ++ body_digits (Parameter kind) numbers tail) (forest_digits children)
       ∙ omega (arith, length-append (head_digits (head_of kind n)) (body_digits (Parameter kind) numbers tail), length-head kind n, length-body_digits (Parameter kind) numbers tail, length-spell children)
 
   -- with a length, where the parameter has one
-  tlv_is : (n : ℕ) → is_tv kind ≡ false → child_digits n ≡ ((digits 6 0 ++ digits 10 (number_of (Parameter kind))) ++ digits 16 n) ++ (body_digits (Parameter kind) numbers tail ++ spell children)
+  tlv_is : (n : ℕ) → is_tv kind ≡ false → child_digits n ≡ ((digits 6 0 ++ digits 10 (number_of (Parameter kind))) ++ digits 16 n) ++ (body_digits (Parameter kind) numbers tail ++ forest_digits children)
   unfolding head_digits
-  tlv_is n e = append_assoc (head_digits (head_of kind n)) (body_digits (Parameter kind) numbers tail) (spell children) ∙ ap (λ (b : Bool). head_digits (if b then tv kind else tlv kind n) ++ (body_digits (Parameter kind) numbers tail ++ spell children)) e
+  tlv_is n e = append_assoc (head_digits (head_of kind n)) (body_digits (Parameter kind) numbers tail) (forest_digits children) ∙ ap (λ (b : Bool). head_digits (if b then tv kind else tlv kind n) ++ (body_digits (Parameter kind) numbers tail ++ forest_digits children)) e
 
   tv_is : (n : ℕ) → is_tv kind ≡ true → child_digits 0 ≡ child_digits n
-  tv_is n e = ap (λ (b : Bool). (head_digits (if b then tv kind else tlv kind 0) ++ body_digits (Parameter kind) numbers tail) ++ spell children) e ∙ ap (λ (b : Bool). (head_digits (if b then tv kind else tlv kind n) ++ body_digits (Parameter kind) numbers tail) ++ spell children) (sym e)
+  tv_is n e = ap (λ (b : Bool). (head_digits (if b then tv kind else tlv kind 0) ++ body_digits (Parameter kind) numbers tail) ++ forest_digits children) e ∙ ap (λ (b : Bool). (head_digits (if b then tv kind else tlv kind n) ++ body_digits (Parameter kind) numbers tail) ++ forest_digits children) (sym e)
 
   -- the octets after others, once the length is written
   settled_digits : (front : List Bool) (bytes : List ℕ) → digits_of_bytes bytes ≡ front ++ child_digits 0 → is_tv kind ≡ false → size < 65536
@@ -125,7 +122,7 @@ module _ (kind : ParamKind) (numbers tail : List ℕ) (children : tree.Forest) w
       let at = length bytes - size + 2 in
       let place : 8 * at ≡ length front + 16 = omega (arith, long) in
       let head = digits 6 0 ++ digits 10 (number_of (Parameter kind)) in
-      let back = body_digits (Parameter kind) numbers tail ++ spell children in
+      let back = body_digits (Parameter kind) numbers tail ++ forest_digits children in
       let whole : digits_of_bytes bytes ≡ front ++ ((head ++ digits 16 0) ++ back) = e ∙ ap (λ (z : List Bool). front ++ z) (tlv_is 0 lengthy) in
       digits_two at size bytes (omega (arith, long, four)) lt
       ∙ ap (λ (z : List Bool). take (8 * at) z ++ (digits 16 size ++ drop (8 * at + 16) z)) whole
@@ -146,17 +143,17 @@ module _ (kind : ParamKind) (n p : OpenNode) (outer : List OpenNode) (is : n.lin
 
   chain_before : chain_digits (n ∷ p ∷ outer) ≡ chain_digits (p ∷ outer) ++ child_digits kind n.line.numbers n.line.tail n.children 0
   unfolding chain_digits line_digits
-  chain_before = ap (λ (k : Kind). (chain_digits outer ++ node_digits p) ++ (line_digits k n.line.numbers n.line.tail ++ spell n.children)) is
+  chain_before = ap (λ (k : Kind). (chain_digits outer ++ node_digits p) ++ (line_digits k n.line.numbers n.line.tail ++ forest_digits n.children)) is
 
   chain_after : chain_digits (with_child kind n p ∷ outer) ≡ chain_digits (p ∷ outer) ++ child_digits kind n.line.numbers n.line.tail n.children own_size
-  unfolding chain_digits spell
+  unfolding chain_digits forest_digits
   chain_after =
       let o = chain_digits outer in
       let l = line_digits p.line.kind p.line.numbers p.line.tail in
-      let s = spell p.children in
+      let s = forest_digits p.children in
       let h = head_digits (head_of kind own_size) in
       let b = body_digits (Parameter kind) n.line.numbers n.line.tail in
-      let c = spell n.children in
+      let c = forest_digits n.children in
       ap (λ (z : List Bool). o ++ (l ++ (s ++ z))) (sym (append_assoc h b c))
       ∙ ap (λ (z : List Bool). o ++ z) (sym (append_assoc l s ((h ++ b) ++ c)))
       ∙ sym (append_assoc o (l ++ s) ((h ++ b) ++ c))

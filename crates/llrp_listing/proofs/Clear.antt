@@ -5,6 +5,7 @@ use Rattle.std.specs.List.{slice_split, join_with_byte}
 use Rattle.hex.specs.Hex.{encode_lower, decode_of}
 use Rattle.hex.specs.declared.error.FromHexError.{FromHexError}
 use Rattle.hex.proofs.HexLemmas.{decode_of-encode_lower}
+use Rattle.llrp_schema.specs.declared.kinds.Profile.{Profile}
 use Rattle.llrp_schema.specs.declared.kinds.Kind.{Kind}
 use Rattle.llrp_schema.specs.declared.kinds.Kind.TheVariants.{Message, Parameter}
 use Rattle.llrp_schema.specs.declared.kinds.Tail.{Tail}
@@ -13,11 +14,11 @@ use Rattle.llrp_schema.specs.Schema.{name_of, tail_of}
 use Rattle.llrp_schema.proofs.TableLaws.{names_in}
 use Rattle.llrp_tree.specs.Lawful.{AreOctets}
 use Rattle.tag_uri.proofs.TextLaws.{one_fault, words_apart}
-use Rattle.llrp_listing.specs.declared.fault.Refusal.{Refusal}
-use Rattle.llrp_listing.specs.declared.fault.Refusal.TheVariants as refusal
-use Rattle.llrp_listing.specs.Checks.{Check, FirstFailing, AllHold}
+use Rattle.llrp_listing.specs.declared.outcome.Refusal.{Refusal}
+use Rattle.llrp_listing.specs.declared.outcome.Refusal.TheVariants as refusal
+use Rattle.llrp_listing.specs.OrderedChecks.{LineCheck, FirstFailing, AllHold}
 use Rattle.llrp_listing.specs.Private.FirstRefusal.{AreClear}
-use Rattle.llrp_listing.specs.LineChecks.{word, IsInForm, AreInForm, IsTailOf, SaysNode, SaysLine, IsName, IsNamed, start_checks, tail_count, word_count, TellsNumber, tail_checks, body_checks, kind_checks, RefusesLineItself}
+use Rattle.llrp_listing.specs.LineChecks.{word, IsInForm, AreInForm, IsTailOf, SaysNode, SaysLine, IsName, IsNamed, start_checks, tail_count, word_count, TellsNumber, tail_word_checks, body_checks, name_checks, RefusesLineItself}
 use Rattle.llrp_listing.specs.Lines.{TextLine, Ended, Unended}
 use Rattle.llrp_listing.specs.ListingRules.{rules_for}
 use Rattle.llrp_tree.specs.Tree.{words_of}
@@ -27,21 +28,21 @@ use Rattle.llrp_listing.proofs.BodyWords.{texts_length}
 use Rattle.llrp_listing.proofs.DecimalWords.{digits_of, one_number}
 use Rattle.llrp_listing.proofs.LineShape.{rest_words, said_words, said_printed}
 use Rattle.llrp_listing.proofs.LineWords.{named_name}
-use Rattle.llrp_listing.proofs.NumberWords.{no_minus, sides, signed_positive, signed_negative}
+use Rattle.llrp_listing.proofs.NumberWords.{no_minus, sides, signed_positive, signed_negative, version_small}
 use Rattle.llrp_listing.proofs.TailWords.{AreSmall, bytes_fit, joined_parts, words_small}
 
 -- ---- checks
 
 -- each check has one reason
-abbrev AllTellOne : List (Check Refusal) → Type 0
+abbrev AllTellOne : List (LineCheck Refusal) → Type 0
 AllTellOne [] = Unit {0}
 AllTellOne (c ∷ cs) = ((a b : Refusal) → c.Tells a → c.Tells b → a ≡ b) × AllTellOne cs
 
-none_failing : (cs : List (Check Refusal)) (r : Refusal) → AllHold cs → FirstFailing cs r → ⊥
+none_failing : (cs : List (LineCheck Refusal)) (r : Refusal) → AllHold cs → FirstFailing cs r → ⊥
 none_failing [] r h f = f
 none_failing (c ∷ cs) r h f = elim f [ inl g ↦ g.0 h.0 | inr g ↦ none_failing cs r h.1 g.1 ]
 
-one_failing : (cs : List (Check Refusal)) (a b : Refusal) → AllTellOne cs → FirstFailing cs a → FirstFailing cs b → a ≡ b
+one_failing : (cs : List (LineCheck Refusal)) (a b : Refusal) → AllTellOne cs → FirstFailing cs a → FirstFailing cs b → a ≡ b
 one_failing [] a b t f g = absurd f
 one_failing (c ∷ cs) a b t f g = elim f [
   | inl p ↦ elim g [ inl q ↦ t.0 a b p.1 q.1 | inr q ↦ absurd (p.0 q.0) ]
@@ -64,25 +65,25 @@ body_tells [] form (w ∷ ws) = (one_told refusal.Tail, tt)
 body_tells (f ∷ fs) form [] = tt
 body_tells (f ∷ fs) form (w ∷ ws) = (number_tells f w, body_tells fs form ws)
 
-start_tells : (d : ℕ) (bytes : List ℕ) → AllTellOne (start_checks d bytes)
-start_tells d bytes = (one_told refusal.Line, (one_told refusal.Level, (one_told refusal.Name, tt)))
+start_tells : (p : Profile) (d : ℕ) (bytes : List ℕ) → AllTellOne (start_checks p d bytes)
+start_tells p d bytes = (one_told refusal.Line, (one_told refusal.Level, (one_told refusal.Name, tt)))
 
 -- ---- the words that a line says
 
-one_kind : (ws : List (List ℕ)) (a b : Kind) → IsNamed ws a → IsNamed ws b → a ≡ b
-one_kind ws a b p q = on (name ws a p) (name ws b q)
+one_kind : (p : Profile) (ws : List (List ℕ)) (a b : Kind) → IsNamed p ws a → IsNamed p ws b → a ≡ b
+one_kind p ws a b m n = on (name ws a m) (name ws b n)
   where
-    name : (ws : List (List ℕ)) (k : Kind) → IsNamed ws k → IsName (word ws 1) k
-    name ws (Message kind) p = p.1
-    name ws (Parameter kind) p = p.1
+    name : (ws : List (List ℕ)) (k : Kind) → IsNamed p ws k → IsName p (word ws 1) k
+    name ws (Message kind) h = h.1
+    name ws (Parameter kind) h = h.1
 
-    on : IsName (word ws 1) a → IsName (word ws 1) b → a ≡ b
-    on m n = names_in a b (m.0 ∙ sym n.0) (sym m.1 ∙ n.1)
+    on : IsName p (word ws 1) a → IsName p (word ws 1) b → a ≡ b
+    on h k = names_in a b (h.0 ∙ sym k.0) (sym h.1 ∙ k.1)
 
 body_holds : (fs : List NumberForm) (form : Tail) (ns : List ℕ) (ws : List (List ℕ)) (tail : List ℕ) → AreInForm fs ns → AreNumberTexts fs ns ws → IsTailOf form tail → AllHold (body_checks fs form (ws ++ tail_texts form tail))
 body_holds [] form [] [] tail p h t = on form t
   where
-    on : (form : Tail) → IsTailOf form tail → AllHold (tail_checks form (tail_texts form tail))
+    on : (form : Tail) → IsTailOf form tail → AllHold (tail_word_checks form (tail_texts form tail))
     on Absent t = tt
     on Words t = ((tail, t, refl), tt)
     on Text t = ((tail, t, refl), tt)
@@ -102,16 +103,16 @@ tail_length Bits tail = refl
 tail_length Data tail = refl
 
 -- a line that says something passes all checks
-record Holds (d : ℕ) (bytes : List ℕ) (kind : Kind) : Type 0 where
-  starts : AllHold (start_checks d bytes)
-  named : IsNamed (words bytes) kind
-  body : AllHold (kind_checks kind (words bytes))
+record Holds (p : Profile) (d : ℕ) (bytes : List ℕ) (kind : Kind) : Type 0 where
+  starts : AllHold (start_checks p d bytes)
+  named : IsNamed p (words bytes) kind
+  body : AllHold (name_checks kind (words bytes))
 
-said_holds : (d : ℕ) (bytes : List ℕ) (level : ℕ) (line : NodeLine) → SaysNode bytes level line → level ≤ d → Holds d bytes line.kind
-said_holds d bytes level line s le =
+said_holds : {p : Profile} (d : ℕ) (bytes : List ℕ) (level : ℕ) (line : NodeLine) → SaysNode p bytes level line → level ≤ d → Holds p d bytes line.kind
+said_holds {p} d bytes level line s le =
     let texts = s.text.numbers in
     let ws = said_words bytes level line s in
-    let named : IsNamed (words bytes) line.kind = subst (λ (z : List (List ℕ)). IsNamed z line.kind) (sym ws) (named_name level (decimal level) (name_of line.kind) (texts ++ tail_texts (tail_of line.kind) line.tail) line.kind refl s.deep s.placed (s.own, refl)) in
+    let named : IsNamed p (words bytes) line.kind = subst (λ (z : List (List ℕ)). IsNamed p z line.kind) (sym ws) (named_name level (decimal level) (name_of line.kind) (texts ++ tail_texts (tail_of line.kind) line.tail) line.kind refl s.deep s.placed (s.own, refl)) in
     let count : length (words bytes) ≡ word_count line.kind = omega (arith, ap length ws, length-append texts (tail_texts (tail_of line.kind) line.tail), texts_length (number_forms line.kind) line.numbers texts s.text.are, tail_length (tail_of line.kind) line.tail) in
     record {
       starts = ((s.short, said_printed bytes level line s), ((level, ap (λ (z : List (List ℕ)). word z 0) ws, s.deep, le), ((line.kind, named), tt)));
@@ -119,23 +120,23 @@ said_holds d bytes level line s le =
       body = (count, subst (λ (z : List (List ℕ)). AllHold (body_checks (number_forms line.kind) (tail_of line.kind) (drop 2 z))) (sym ws) (body_holds (number_forms line.kind) (tail_of line.kind) line.numbers texts line.tail s.numbers s.text.are s.tail));
     }
 
-not_both : (d : ℕ) (x : TextLine) (e : ℕ × NodeLine) (a : Refusal) → SaysLine x e → e.0 ≤ d → RefusesLineItself d x a → ⊥
-not_both d (Unended bytes) e a s le r = s
-not_both d (Ended bytes) e a s le r =
+not_both : (p : Profile) (d : ℕ) (x : TextLine) (e : ℕ × NodeLine) (a : Refusal) → SaysLine p x e → e.0 ≤ d → RefusesLineItself p d x a → ⊥
+not_both p d (Unended bytes) e a s le r = s
+not_both p d (Ended bytes) e a s le r =
     let h = said_holds d bytes e.0 e.1 s le in
     elim r [
-      | inl start ↦ none_failing (start_checks d bytes) a h.starts start
-      | inr body ↦ (let same : body.kind ≡ e.1.kind = one_kind (words bytes) body.kind e.1.kind body.named h.named in none_failing (kind_checks e.1.kind (words bytes)) a h.body (subst (λ (k : Kind). FirstFailing (kind_checks k (words bytes)) a) same body.fails))
+      | inl start ↦ none_failing (start_checks p d bytes) a h.starts start
+      | inr body ↦ (let same : body.kind ≡ e.1.kind = one_kind p (words bytes) body.kind e.1.kind body.named h.named in none_failing (name_checks e.1.kind (words bytes)) a h.body (subst (λ (k : Kind). FirstFailing (name_checks k (words bytes)) a) same body.fails))
     ]
 
-one_reason : (d : ℕ) (x : TextLine) (a b : Refusal) → RefusesLineItself d x a → RefusesLineItself d x b → a ≡ b
-one_reason d (Unended bytes) a b p q = p ∙ sym q
-one_reason d (Ended bytes) a b p q = elim p [
-  | inl f ↦ elim q [ inl g ↦ one_failing (start_checks d bytes) a b (start_tells d bytes) f g | inr g ↦ absurd (none_failing (start_checks d bytes) a g.starts f) ]
-  | inr f ↦ elim q [
-    | inl g ↦ absurd (none_failing (start_checks d bytes) b f.starts g)
-    | inr g ↦ (let same : g.kind ≡ f.kind = one_kind (words bytes) g.kind f.kind g.named f.named in
-        one_failing (kind_checks f.kind (words bytes)) a b (one_told refusal.Fields, body_tells (number_forms f.kind) (tail_of f.kind) (drop 2 (words bytes))) f.fails (subst (λ (k : Kind). FirstFailing (kind_checks k (words bytes)) b) same g.fails))
+one_reason : (p : Profile) (d : ℕ) (x : TextLine) (a b : Refusal) → RefusesLineItself p d x a → RefusesLineItself p d x b → a ≡ b
+one_reason p d (Unended bytes) a b l r = l ∙ sym r
+one_reason p d (Ended bytes) a b l r = elim l [
+  | inl f ↦ elim r [ inl g ↦ one_failing (start_checks p d bytes) a b (start_tells p d bytes) f g | inr g ↦ absurd (none_failing (start_checks p d bytes) a g.starts f) ]
+  | inr f ↦ elim r [
+    | inl g ↦ absurd (none_failing (start_checks p d bytes) b f.starts g)
+    | inr g ↦ (let same : g.kind ≡ f.kind = one_kind p (words bytes) g.kind f.kind g.named f.named in
+        one_failing (name_checks f.kind (words bytes)) a b (one_told refusal.Fields, body_tells (number_forms f.kind) (tail_of f.kind) (drop 2 (words bytes))) f.fails (subst (λ (k : Kind). FirstFailing (name_checks k (words bytes)) b) same g.fails))
   ]
 ]
 
@@ -153,10 +154,6 @@ signed_same m n p q e = elim (sides m) [
         let u : 256 - m ≡ 256 - n = one_number (256 - m) (256 - n) (omega arith) (omega arith) (ap (drop 1) t) in omega arith)
   ]
 ]
-
-version_small : (n : ℕ) → IsInForm Version n → n < 10 ^ 20
-version_small n (inl e) = omega arith
-version_small n (inr e) = omega arith
 
 one_form : (f : NumberForm) (m n : ℕ) (w : List ℕ) → IsInForm f m → IsInForm f n → IsNumberText f m w → IsNumberText f n w → m ≡ n
 one_form Version m n w p q h k = one_number m n (version_small m p) (version_small n q) (sym h ∙ k)
@@ -228,9 +225,9 @@ same_parts (f ∷ fs) form (m ∷ ms) (n ∷ ns) (v ∷ vs) (w ∷ ws) t u p q h
     let rest = same_parts fs form ms ns vs ws t u p.1 q.1 h.1 k.1 a b y in
     (rw one (ap (λ (z : List ℕ). n ∷ z) rest.0), rest.1)
 
-one_said : (x : TextLine) (e f : ℕ × NodeLine) → SaysLine x e → SaysLine x f → e ≡ f
-one_said (Unended bytes) e f p q = absurd p
-one_said (Ended bytes) e f p q =
+one_said : (set : Profile) (x : TextLine) (e f : ℕ × NodeLine) → SaysLine set x e → SaysLine set x f → e ≡ f
+one_said set (Unended bytes) e f p q = absurd p
+one_said set (Ended bytes) e f p q =
     let a = e.1 in
     let b = f.1 in
     let all : decimal e.0 ∷ rest_words a p.text.numbers ≡ decimal f.0 ∷ rest_words b q.text.numbers = sym (said_words bytes e.0 a p) ∙ said_words bytes f.0 b q in
@@ -248,5 +245,5 @@ one_said (Ended bytes) e f p q =
     ap (λ (l : ℕ). (l, a)) level ∙ ap (λ (z : NodeLine). (f.0, z)) same
 
 -- the rules of lines tell lines apart
-pub clear : (limit : ℕ) → AreClear (rules_for limit)
-clear limit = record { one_said = one_said; one_reason = one_reason; not_both = not_both }
+pub clear : (p : Profile) (limit : ℕ) → AreClear (rules_for p limit)
+clear p limit = record { one_said = one_said p; one_reason = one_reason p; not_both = not_both p }

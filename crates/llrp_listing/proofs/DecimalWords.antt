@@ -11,6 +11,7 @@ use Rattle.std.proofs.lemmas.Int.Digits.{digits_value_more}
 use Rattle.std.proofs.lemmas.Fmt.{decimal_digit, decimal_step_wide, decimal_by_steps_wide, decimal_is_IsNumeral_wide, length-decimal-le_wide}
 use Rattle.std.proofs.lemmas.Str.Parse.{digit_at}
 use Rattle.llrp_listing.specs.Private.Numeral.{numeral, is_numeral}
+use Rattle.tag_uri.proofs.UriLemmas.{left, right}
 
 digit : (c : ℕ) → (48 ≤ c) × (c ≤ 57) → digit_value c ≡ c - 48
 digit c r = grind arith
@@ -73,14 +74,6 @@ four false b c d h = cc
 four true false c d h = cc
 four true true false d h = cc
 four true true true false h = cc
-
-pub left : (a b : Bool) → (a && b) ≡ true → a ≡ true
-left true b e = refl
-left false b e = e
-
-pub right : (a b : Bool) → (a && b) ≡ true → b ≡ true
-right true b e = e
-right false b e = cc
 
 in_range : (c : ℕ) → is_ascii_digit c ≡ true → (48 ≤ c) × (c ≤ 57)
 in_range c h = (grind arith, grind arith)

@@ -1,10 +1,10 @@
 -- The digits of numbers.
-use Rattle.std.proofs.Common.{◌≡◌, ℕ, ◌+◌, ◌-◌, ◌*◌, ◌/◌, ◌%◌, ◌^◌, ◌<◌, ◌≤◌, List, [], ◌∷◌, ◌++◌, length, drop, get_or, refl, ap, ◌∙◌, arith, append_assoc}
-use Rattle.std.specs.Prelude.{slice_index_or, decimal}
+use Rattle.std.proofs.Common.{◌≡◌, ℕ, ◌+◌, ◌-◌, ◌/◌, ◌%◌, ◌^◌, ◌<◌, ◌≤◌, List, [], ◌∷◌, ◌++◌, length, drop, get_or, refl, ap, ◌∙◌, arith, append_assoc}
+use Rattle.std.specs.Prelude.{decimal}
 use Rattle.std.proofs.lemmas.Fmt.{decimal_digit, decimal_step}
 use Rattle.tag_uri.specs.Decimal.{padded}
 use Rattle.tag_uri.proofs.DecimalLemmas.{plain_short}
-use Rattle.tag_uri.proofs.WritingLemmas.{padded-drop, padded_plain, pair_ones, pair_tens, table}
+use Rattle.tag_uri.proofs.WritingLemmas.{padded-drop, padded_plain}
 
 pub eight_digits : (n a b c d e f g h : ℕ) → n < 10 ^ 8
     → a ≡ 48 + n / 10000 / 100 / 10 → b ≡ 48 + n / 10000 / 100 % 10 → c ≡ 48 + n / 10000 % 100 / 10 → d ≡ 48 + n / 10000 % 100 % 10
@@ -66,8 +66,13 @@ pub last_digits : (n count : ℕ) → n < 2 ^ 64 → count ≡ length (decimal n
 last_digits n count small e few =
     padded-drop (8 - count) count 8 n (omega arith) ∙ ap (λ (k : ℕ). padded k n) e ∙ padded_plain n small
 
-pub pair_is : (n : ℕ) → n < 100 → slice_index_or table (2 * n) 0 ∷ slice_index_or table (2 * n + 1) 0 ∷ [] ≡ pair_of n
-pair_is n below = rw (pair_tens n below, pair_ones n below) refl
+-- the two digits of a number below 100
+pub as_pair : (n : ℕ) (ds : List ℕ) → n < 100 → ds ≡ padded 2 n → ds ≡ pair_of n
+unfolding padded
+as_pair n ds below e =
+    let tens : n / 10 ^ 1 % 10 ≡ n / 10 = omega arith in
+    let ones : n / 10 ^ 0 % 10 ≡ n % 10 = omega arith in
+    e ∙ (rw (tens, ones) refl)
 
 pub short_two : (n : ℕ) → n < 100 → length (decimal n) ≤ 2
 short_two n below = plain_short 2 n below (omega arith) (omega arith)

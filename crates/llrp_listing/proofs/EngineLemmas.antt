@@ -2,16 +2,16 @@
 use Rattle.std.proofs.Common.{◌≡◌, ◌⊎◌, inl, inr, ℕ, ◌<◌, ◌≤◌, List, [], ◌∷◌, length, refl, sym, ap, arith}
 use Rattle.llrp_tree.specs.OpenTree.{Begun}
 use Rattle.llrp_stream.specs.declared.item.FeedErr.TheVariants as failure
-use Rattle.llrp_stream.specs.declared.reading.body.Body.{Body}
-use Rattle.llrp_stream.specs.declared.reading.reader.Reader.{Reader}
-use Rattle.llrp_stream.specs.declared.reading.reader.Stage.{Stage}
-use Rattle.llrp_stream.specs.declared.reading.reader.Stage.TheVariants as stage
+use Rattle.llrp_stream.specs.declared.engine.body.Body.{Body}
+use Rattle.llrp_stream.specs.declared.engine.body_reader.BodyReader.{BodyReader}
+use Rattle.llrp_stream.specs.declared.engine.body_reader.Stage.{Stage}
+use Rattle.llrp_stream.specs.declared.engine.body_reader.Stage.TheVariants as stage
 use Rattle.llrp_stream.specs.declared.state.State.{State}
 use Rattle.llrp_stream.specs.declared.state.State.TheVariants as state
-use Rattle.llrp_stream.specs.declared.reading.frames.Frames.{Frames}
+use Rattle.llrp_stream.specs.declared.engine.frames.Frames.{Frames}
 use Rattle.llrp_stream.specs.Cuts.{IsPartial}
 use Rattle.llrp_stream.specs.Calls.Frames.{ComesAt, ComesTo, IsIdle, Stops, held_at, held_of, limit_of, raw_of}
-use Rattle.llrp_stream.specs.Calls.Pieces.{Stands, Awaits, IsShort}
+use Rattle.llrp_stream.specs.Calls.Pieces.{BodyStands, Awaits, IsShort}
 use Rattle.llrp_stream.specs.Calls.Reading.{Are, Told}
 use Rattle.llrp_stream.proofs.EngineHeld.{held_limit}
 use Rattle.llrp_stream.proofs.FramesLemmas.{state_comes}
@@ -22,17 +22,17 @@ module _ (b0 s0 b1 s1 : List Begun → Type 0) (begins : (t : List Begun) → b0
   told_so (stage.Tail left) t x = begins t x
   told_so stage.Children t x = stands t x
 
-  are_so : (r : Reader) (front : List ℕ) → Are b0 s0 r front → Are b1 s1 r front
+  are_so : (r : BodyReader) (front : List ℕ) → Are b0 s0 r front → Are b1 s1 r front
   are_so r front a = record { node = a.node; outer = a.outer; reads = a.reads; told = told_so r.stage (a.node ∷ a.outer) a.told }
 
-  short_so : (r : Reader) (front : List ℕ) (a : Are b0 s0 r front) → IsShort b0 s0 r front a → IsShort b1 s1 r front (are_so r front a)
+  short_so : (r : BodyReader) (front : List ℕ) (a : Are b0 s0 r front) → IsShort b0 s0 r front a → IsShort b1 s1 r front (are_so r front a)
   unfolding are_so
   short_so r front a s = record { more = s.more; undecided = s.undecided }
 
   held_so : (body : Body) (front : List ℕ) (a : Are b0 s0 body.reader front) → (body.raw.items ≡ []) ⊎ IsShort b0 s0 body.reader front a → (body.raw.items ≡ []) ⊎ IsShort b1 s1 body.reader front (are_so body.reader front a)
   held_so body front a o = elim o [ inl e ↦ inl e | inr s ↦ inr (short_so body.reader front a s) ]
 
-  stands_so : (body : Body) (front : List ℕ) → Stands b0 s0 body front → Stands b1 s1 body front
+  stands_so : (body : Body) (front : List ℕ) → BodyStands b0 s0 body front → BodyStands b1 s1 body front
   stands_so body front s = record { are = are_so body.reader front s.are; raw = s.raw; few = s.few; held = held_so body front s.are s.held }
 
   awaits_so : (body : Body) (front : List ℕ) → Awaits b0 s0 body front → Awaits b1 s1 body front

@@ -13,9 +13,9 @@ use Rattle.hex.proofs.HexLemmas.{decode_of-ok, decode_sized-ok, decode_sized-twi
 use Rattle.tag_bits.specs.Digits.{digits_of_bytes, word_digits}
 use Rattle.tag_uri.proofs.HexadecimalLemmas.{glyph, length-hexadecimal}
 use Rattle.llrp_stream.specs.Device.{SinkLog}
-use Rattle.llrp_listing.specs.declared.fault.ToolErr.{ToolErr}
-use Rattle.llrp_listing.specs.declared.fault.ToolErr.TheVariants.{Listing, Script, Hex, Read, Write, Bound, Broken, Memory, Peer, Strange, Early}
-use Rattle.llrp_listing.specs.declared.fault.Verdict.{Verdict}
+use Rattle.llrp_listing.specs.declared.outcome.ToolErr.{ToolErr}
+use Rattle.llrp_listing.specs.declared.outcome.ToolErr.TheVariants.{Listing, Script, Hex, Read, Write, Bound, Broken, Memory, Peer, Strange, Early}
+use Rattle.llrp_listing.specs.declared.outcome.Verdict.{Verdict}
 use Rattle.llrp_listing.specs.Calls.Copying.{Writes}
 use Rattle.llrp_listing.specs.Calls.EpcLines.{AreDigitsOf, Prints, PrintsEpc}
 use Rattle.llrp_listing.specs.Calls.Hexadecimal.{IsHexDigit, SpellBytes}

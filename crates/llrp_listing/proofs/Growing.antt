@@ -1,19 +1,19 @@
 -- How an open text grows line by line.
 use Rattle.std.proofs.Common.{◌≡◌, ℕ, zero, suc, ◌+◌, ◌-◌, ◌≤◌, List, [], ◌∷◌, ◌++◌, length, refl, sym, ap, subst, ◌∙◌, arith, append_assoc}
 use Rattle.std.proofs.lemmas.List.{append-nil}
-use Rattle.llrp_listing.specs.OpenText.{Forest, end, node, nodes, Begun, OpenText, chain_nodes, covers}
+use Rattle.llrp_listing.specs.OpenText.{Outline, end, node, nodes, OpenLine, OpenText, chain_nodes, lines_covered}
 use Rattle.llrp_listing.specs.FirstRefusal.{LastOpen, IsLastOpen}
 use Rattle.llrp_listing.specs.Private.OpenTextSteps.{join, text_of, add_to, add, close_in, close, pop, depth, cut, push, put}
 
-pub join_end : {H : Type 0} (f : Forest H) → join f end ≡ f
+pub join_end : {H : Type 0} (f : Outline H) → join f end ≡ f
 join_end end = refl
 join_end (node h below after) = ap (node h below) (join_end after)
 
-pub join_join : {H : Type 0} (f g k : Forest H) → join (join f g) k ≡ join f (join g k)
+pub join_join : {H : Type 0} (f g k : Outline H) → join (join f g) k ≡ join f (join g k)
 join_join end g k = refl
 join_join (node h below after) g k = ap (node h below) (join_join after g k)
 
-pub nodes_join : {H : Type 0} (d : ℕ) (f g : Forest H) → nodes d (join f g) ≡ nodes d f ++ nodes d g
+pub nodes_join : {H : Type 0} (d : ℕ) (f g : Outline H) → nodes d (join f g) ≡ nodes d f ++ nodes d g
 nodes_join d end g = refl
 nodes_join d (node h below after) g = ap (λ (x : List (ℕ × _)). ((d, h) ∷ nodes (suc d) below) ++ x) (nodes_join d after g) ∙ sym (append_assoc ((d, h) ∷ nodes (suc d) below) (nodes d after) (nodes d g))
 
@@ -42,11 +42,11 @@ module _ {H : Type 0} where
   fits_middle o [] ys f = f
   fits_middle o (e ∷ xs) ys f = fits_middle (put o e) xs ys f.1
 
-  pub depth_add : (f whole : Forest H) (chain : List (Begun H)) → depth (add_to f whole chain) ≡ length chain
+  pub depth_add : (f whole : Outline H) (chain : List (OpenLine H)) → depth (add_to f whole chain) ≡ length chain
   depth_add f whole [] = refl
   depth_add f whole (p ∷ outer) = refl
 
-  pub depth_close : (whole : Forest H) (chain : List (Begun H)) → depth (close_in whole chain) ≡ length chain - 1
+  pub depth_close : (whole : Outline H) (chain : List (OpenLine H)) → depth (close_in whole chain) ≡ length chain - 1
   depth_close whole [] = refl
   depth_close whole (b ∷ outer) = depth_add (node b.head b.below end) whole outer ∙ omega arith
 
@@ -73,15 +73,15 @@ module _ {H : Type 0} where
   pub cut_one : (d : ℕ) (o : OpenText H) → depth o ≡ suc d → cut d o ≡ close o
   cut_one d o e = let n : depth o - d ≡ 1 = omega arith in ap (λ (n : ℕ). pop n o) n
 
-  pub add_add : (f g : Forest H) (o : OpenText H) → add g (add f o) ≡ add (join f g) o
+  pub add_add : (f g : Outline H) (o : OpenText H) → add g (add f o) ≡ add (join f g) o
   add_add f g o = on o.whole o.chain
     where
-      on : (whole : Forest H) (chain : List (Begun H)) → add g (add_to f whole chain) ≡ add_to (join f g) whole chain
-      on whole [] = ap (λ (x : Forest H). text_of x []) (join_join whole f g)
-      on whole (p ∷ outer) = ap (λ (x : Forest H). text_of whole (record { head = p.head; below = x } ∷ outer)) (join_join p.below f g)
+      on : (whole : Outline H) (chain : List (OpenLine H)) → add g (add_to f whole chain) ≡ add_to (join f g) whole chain
+      on whole [] = ap (λ (x : Outline H). text_of x []) (join_join whole f g)
+      on whole (p ∷ outer) = ap (λ (x : Outline H). text_of whole (record { head = p.head; below = x } ∷ outer)) (join_join p.below f g)
 
   -- what a row of trees does to an open text
-  pub record Took (o : OpenText H) (d : ℕ) (f : Forest H) : Type 0 where
+  pub record Took (o : OpenText H) (d : ℕ) (f : Outline H) : Type 0 where
     pub deep : d ≤ depth (run o (nodes d f))
     pub fits : Fits o (nodes d f)
     pub is : cut d (run o (nodes d f)) ≡ add f (cut d o)
@@ -89,11 +89,11 @@ module _ {H : Type 0} where
   add_end : (o : OpenText H) → add end o ≡ o
   add_end o = on o.whole o.chain
     where
-      on : (whole : Forest H) (chain : List (Begun H)) → add_to end whole chain ≡ text_of whole chain
-      on whole [] = ap (λ (x : Forest H). text_of x []) (join_end whole)
-      on whole (p ∷ outer) = ap (λ (x : Forest H). text_of whole (record { head = p.head; below = x } ∷ outer)) (join_end p.below)
+      on : (whole : Outline H) (chain : List (OpenLine H)) → add_to end whole chain ≡ text_of whole chain
+      on whole [] = ap (λ (x : Outline H). text_of x []) (join_end whole)
+      on whole (p ∷ outer) = ap (λ (x : Outline H). text_of whole (record { head = p.head; below = x } ∷ outer)) (join_end p.below)
 
-  pub took : (f : Forest H) (d : ℕ) (o : OpenText H) → d ≤ depth o → Took o d f
+  pub took : (f : Outline H) (d : ℕ) (o : OpenText H) → d ≤ depth o → Took o d f
   took end d o le = record { deep = le; fits = tt; is = sym (add_end (cut d o)) }
   took (node h below after) d o le =
       let base = cut d o in
@@ -115,18 +115,18 @@ module _ {H : Type 0} where
 
   -- an open text is what its lines make, cut to its depth
   pub record Made (o : OpenText H) : Type 0 where
-    pub deep : depth o ≤ depth (run empty (covers o))
-    pub fits : Fits empty (covers o)
-    pub is : cut (depth o) (run empty (covers o)) ≡ o
+    pub deep : depth o ≤ depth (run empty (lines_covered o))
+    pub fits : Fits empty (lines_covered o)
+    pub is : cut (depth o) (run empty (lines_covered o)) ≡ o
 
-  made_in : (whole : Forest H) (chain : List (Begun H)) → Made (text_of whole chain)
+  made_in : (whole : Outline H) (chain : List (OpenLine H)) → Made (text_of whole chain)
   made_in whole [] =
       let t = took whole 0 empty (omega arith) in
       let e = append-nil (nodes 0 whole) in
       record { deep = omega arith; fits = rw e t.fits; is = rw e t.is }
   made_in whole (b ∷ outer) =
       let m = made_in whole outer in
-      let front = covers (text_of whole outer) in
+      let front = lines_covered (text_of whole outer) in
       let s = run empty front in
       let n = length outer in
       let p = put s (n, b.head) in
@@ -134,7 +134,7 @@ module _ {H : Type 0} where
       let dp : depth p ≡ suc n = ap depth pis in
       let t = took b.below (suc n) p (omega arith) in
       let back = nodes (suc n) b.below in
-      let all : run empty (covers (text_of whole (b ∷ outer))) ≡ run p back = ap (run empty) (sym (append_assoc (nodes 0 whole) (chain_nodes outer) ((n, b.head) ∷ back))) ∙ run_append empty front ((n, b.head) ∷ back) in
+      let all : run empty (lines_covered (text_of whole (b ∷ outer))) ≡ run p back = ap (run empty) (sym (append_assoc (nodes 0 whole) (chain_nodes outer) ((n, b.head) ∷ back))) ∙ run_append empty front ((n, b.head) ∷ back) in
       let cp : cut (suc n) p ≡ push b.head (text_of whole outer) = ap (λ (k : ℕ). cut k p) (sym dp) ∙ cut_all p ∙ pis in
       record {
         deep = rw all t.deep;
@@ -146,22 +146,22 @@ module _ {H : Type 0} where
   made o = made_in o.whole o.chain
 
   -- where nothing is whole below the last line, none was closed since
-  pub last_open : (o : OpenText H) → IsLastOpen o → run empty (covers o) ≡ o
+  pub last_open : (o : OpenText H) → IsLastOpen o → run empty (lines_covered o) ≡ o
   last_open o e = on o.whole o.chain e
     where
-      on : (whole : Forest H) (chain : List (Begun H)) → LastOpen whole chain → run empty (covers (text_of whole chain)) ≡ text_of whole chain
+      on : (whole : Outline H) (chain : List (OpenLine H)) → LastOpen whole chain → run empty (lines_covered (text_of whole chain)) ≡ text_of whole chain
       on whole [] e = rw e refl
       on whole (b ∷ outer) e =
           let m = made_in whole outer in
           let n = length outer in
-          ap (λ (x : Forest H). run empty (nodes 0 whole ++ (chain_nodes outer ++ ((n, b.head) ∷ nodes (suc n) x)))) e
+          ap (λ (x : Outline H). run empty (nodes 0 whole ++ (chain_nodes outer ++ ((n, b.head) ∷ nodes (suc n) x)))) e
           ∙ ap (run empty) (sym (append_assoc (nodes 0 whole) (chain_nodes outer) ((n, b.head) ∷ [])))
-          ∙ run_append empty (covers (text_of whole outer)) ((n, b.head) ∷ [])
+          ∙ run_append empty (lines_covered (text_of whole outer)) ((n, b.head) ∷ [])
           ∙ ap (push b.head) m.is
-          ∙ ap (λ (x : Forest H). text_of whole (record { head = b.head; below = x } ∷ outer)) (sym e)
+          ∙ ap (λ (x : Outline H). text_of whole (record { head = b.head; below = x } ∷ outer)) (sym e)
 
   -- trees that are added bring their lines
-  covers_add : (f whole : Forest H) (chain : List (Begun H)) → covers (add_to f whole chain) ≡ covers (text_of whole chain) ++ nodes (length chain) f
+  covers_add : (f whole : Outline H) (chain : List (OpenLine H)) → lines_covered (add_to f whole chain) ≡ lines_covered (text_of whole chain) ++ nodes (length chain) f
   covers_add f whole [] =
       append-nil (nodes 0 (join whole f)) ∙ nodes_join 0 whole f ∙ ap (λ (x : List (ℕ × H)). x ++ nodes 0 f) (sym (append-nil (nodes 0 whole)))
   covers_add f whole (p ∷ outer) =
@@ -172,26 +172,26 @@ module _ {H : Type 0} where
       ∙ ap (λ (x : List (ℕ × H)). nodes 0 whole ++ x) (sym (append_assoc (chain_nodes outer) back (nodes (suc n) f)))
       ∙ sym (append_assoc (nodes 0 whole) (chain_nodes outer ++ back) (nodes (suc n) f))
 
-  covers_close_in : (whole : Forest H) (chain : List (Begun H)) → covers (close_in whole chain) ≡ covers (text_of whole chain)
+  covers_close_in : (whole : Outline H) (chain : List (OpenLine H)) → lines_covered (close_in whole chain) ≡ lines_covered (text_of whole chain)
   covers_close_in whole [] = refl
   covers_close_in whole (b ∷ outer) =
       let n = length outer in
       let back = (n, b.head) ∷ nodes (suc n) b.below in
       covers_add (node b.head b.below end) whole outer
-      ∙ ap (λ (x : List (ℕ × H)). covers (text_of whole outer) ++ x) (append-nil back)
+      ∙ ap (λ (x : List (ℕ × H)). lines_covered (text_of whole outer) ++ x) (append-nil back)
       ∙ append_assoc (nodes 0 whole) (chain_nodes outer) back
 
   -- closings change no line
-  pub covers_pop : (n : ℕ) (o : OpenText H) → covers (pop n o) ≡ covers o
+  pub covers_pop : (n : ℕ) (o : OpenText H) → lines_covered (pop n o) ≡ lines_covered o
   covers_pop zero o = refl
   covers_pop (suc n) o = covers_pop n (close o) ∙ covers_close_in o.whole o.chain
 
   -- a line that begins is the next
-  pub covers_put : (o : OpenText H) (e : ℕ × H) → e.0 ≤ depth o → covers (put o e) ≡ covers o ++ (e ∷ [])
+  pub covers_put : (o : OpenText H) (e : ℕ × H) → e.0 ≤ depth o → lines_covered (put o e) ≡ lines_covered o ++ (e ∷ [])
   covers_put o e le =
       let c = cut e.0 o in
       let d : depth c ≡ e.0 = depth_cut e.0 o le in
       let line : (depth c, e.1) ≡ e = ap (λ (n : ℕ). (n, e.1)) d in
       sym (append_assoc (nodes 0 c.whole) (chain_nodes c.chain) ((depth c, e.1) ∷ []))
-      ∙ ap (λ (x : ℕ × H). covers c ++ (x ∷ [])) line
+      ∙ ap (λ (x : ℕ × H). lines_covered c ++ (x ∷ [])) line
       ∙ ap (λ (x : List (ℕ × H)). x ++ (e ∷ [])) (covers_pop (depth o - e.0) o)

@@ -5,23 +5,23 @@ use Rattle.llrp_schema.specs.declared.kinds.ParamKind.{ParamKind}
 use Rattle.llrp_schema.specs.declared.kinds.Kind.TheVariants.{Parameter}
 use Rattle.llrp_schema.specs.Schema.{is_tv}
 use Rattle.llrp_tree.specs.Lawful.{AreLawful, head_octets}
-use Rattle.llrp_listing.specs.declared.encode.rows.Held.{Held}
-use Rattle.llrp_listing.specs.declared.encode.writer.Writer.{Writer}
-use Rattle.llrp_listing.specs.Private.Writer.{Holds, HoldsAbove, inner, settled}
+use Rattle.llrp_listing.specs.declared.encode.open_lines.LineRecord.{LineRecord}
+use Rattle.llrp_listing.specs.declared.encode.buffer.EncodeBuffer.{EncodeBuffer}
+use Rattle.llrp_listing.specs.Private.EncodeBuffer.{Holds, HoldsAbove, inner, settled}
 use Rattle.llrp_listing.specs.Private.OpenNodes.{AreHeld, AreKept, IsChain, IsHeld, OpenNode, node_fault, with_child}
 use Rattle.llrp_listing.proofs.Chains.{kept_closed, kept_within, settled_inside, settled_octets, length-settled, size_is, own_size}
 use Rattle.llrp_listing.proofs.LineSteps.{parameter_lawful}
 
 -- ---- the innermost records
 
-pub held_one : (rows rest : List Held) (top : Held) (n : OpenNode) (outer : List OpenNode) → rows ≡ top ∷ rest → AreHeld rows (n ∷ outer) → IsHeld top n × AreHeld rest outer
-held_one rows rest top n outer e h = subst (λ (r : List Held). AreHeld r (n ∷ outer)) e h
+pub held_one : (rows rest : List LineRecord) (top : LineRecord) (n : OpenNode) (outer : List OpenNode) → rows ≡ top ∷ rest → AreHeld rows (n ∷ outer) → IsHeld top n × AreHeld rest outer
+held_one rows rest top n outer e h = subst (λ (r : List LineRecord). AreHeld r (n ∷ outer)) e h
 
-pub held_two : (rows rest0 rest : List Held) (top parent : Held) (n p : OpenNode) (outer : List OpenNode) → rows ≡ top ∷ rest0 → rest0 ≡ parent ∷ rest → AreHeld rows (n ∷ p ∷ outer) → IsHeld top n × (IsHeld parent p × AreHeld rest outer)
-held_two rows rest0 rest top parent n p outer e f h = subst (λ (r : List Held). AreHeld r (n ∷ p ∷ outer)) (e ∙ ap (λ (r : List Held). top ∷ r) f) h
+pub held_two : (rows rest0 rest : List LineRecord) (top parent : LineRecord) (n p : OpenNode) (outer : List OpenNode) → rows ≡ top ∷ rest0 → rest0 ≡ parent ∷ rest → AreHeld rows (n ∷ p ∷ outer) → IsHeld top n × (IsHeld parent p × AreHeld rest outer)
+held_two rows rest0 rest top parent n p outer e f h = subst (λ (r : List LineRecord). AreHeld r (n ∷ p ∷ outer)) (e ∙ ap (λ (r : List LineRecord). top ∷ r) f) h
 
 -- the two innermost lines
-pub record Two (writer : Writer) (at : ℕ) (top : Held) : Type 0 where
+pub record Two (writer : EncodeBuffer) (at : ℕ) (top : LineRecord) : Type 0 where
   pub out : List ℕ
   pub more : List ℕ
   pub n : OpenNode
@@ -30,7 +30,7 @@ pub record Two (writer : Writer) (at : ℕ) (top : Held) : Type 0 where
   pub holds : Holds writer at out more (n ∷ p ∷ outer)
   pub is_top : IsHeld top n
 
-pub two : (writer : Writer) (at : ℕ) (top : Held) (rest : List Held) → inner writer.rows ≡ top ∷ rest → HoldsAbove writer at 1 → Two writer at top
+pub two : (writer : EncodeBuffer) (at : ℕ) (top : LineRecord) (rest : List LineRecord) → inner writer.rows ≡ top ∷ rest → HoldsAbove writer at 1 → Two writer at top
 two writer at top rest e (out, more, ns, h, lt) = on ns h lt
   where
     on : (ns : List OpenNode) → Holds writer at out more ns → 1 < length ns → Two writer at top
@@ -40,7 +40,7 @@ two writer at top rest e (out, more, ns, h, lt) = on ns h lt
 
 -- ---- the length of a line that is closed
 
-module _ (writer : Writer) (at : ℕ) (out more : List ℕ) (n p : OpenNode) (outer : List OpenNode) (h : Holds writer at out more (n ∷ p ∷ outer)) (top : Held) (t : IsHeld top n) (kind : ParamKind) (is : n.line.kind ≡ Parameter kind) (fine : node_fault n.line n.children ≡ None) where
+module _ (writer : EncodeBuffer) (at : ℕ) (out more : List ℕ) (n p : OpenNode) (outer : List OpenNode) (h : Holds writer at out more (n ∷ p ∷ outer)) (top : LineRecord) (t : IsHeld top n) (kind : ParamKind) (is : n.line.kind ≡ Parameter kind) (fine : node_fault n.line n.children ≡ None) where
   abbrev lawful : AreLawful kind n.line.numbers n.line.tail n.children
   lawful = parameter_lawful top n kind t is fine
 
@@ -72,7 +72,7 @@ module _ (writer : Writer) (at : ℕ) (out more : List ℕ) (n p : OpenNode) (ou
   chain_kept (q ∷ outer) c = c
 
   -- all holds, once the line is closed
-  pub holds_closed : (new : Writer) (tv : Bool) (child : Held) (rest : List Held) → tv ≡ is_tv kind → new.room.items ≡ settled writer.kept tv at top.octets writer.room.items → new.from ≡ writer.from → new.kept ≡ writer.kept → new.limit ≡ writer.limit → inner new.rows ≡ child ∷ rest
+  pub holds_closed : (new : EncodeBuffer) (tv : Bool) (child : LineRecord) (rest : List LineRecord) → tv ≡ is_tv kind → new.room.items ≡ settled writer.kept tv at top.octets writer.room.items → new.from ≡ writer.from → new.kept ≡ writer.kept → new.limit ≡ writer.limit → inner new.rows ≡ child ∷ rest
       → IsHeld child (with_child kind n p) → AreHeld rest outer → Holds new at out more (with_child kind n p ∷ outer)
   holds_closed new tv child rest e room from kept limit rows c others =
       let size = own_size kind n p outer is in
@@ -87,7 +87,7 @@ module _ (writer : Writer) (at : ℕ) (out more : List ℕ) (n p : OpenNode) (ou
         from = from ∙ h.from;
         ends = h.ends ∙ ap (λ (k : ℕ). length out + k) (sym (length-settled writer.kept tv size h.bytes (spare tv e)));
         octets = settled_octets writer.kept tv size h.bytes (spare tv e) h.octets;
-        rows = subst (λ (r : List Held). AreHeld r (with_child kind n p ∷ outer)) (sym rows) (c, others);
+        rows = subst (λ (r : List LineRecord). AreHeld r (with_child kind n p ∷ outer)) (sym rows) (c, others);
         chain = chain_kept outer h.chain.1;
         few = omega (arith, h.few);
         kept = subst (λ (k : Bool). AreKept new.limit k bytes (with_child kind n p ∷ outer)) (sym kept) (subst (λ (l : ℕ). AreKept l writer.kept bytes (with_child kind n p ∷ outer)) (sym limit) (kept_closed kind n p outer is writer.limit writer.kept tv h.bytes fine small e h.kept));

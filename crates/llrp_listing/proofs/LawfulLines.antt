@@ -6,12 +6,12 @@ use Rattle.std.proofs.Math.Nat.{le-max_left, le-max_right, max-le}
 use Rattle.llrp_schema.specs.declared.kinds.Kind.{Kind}
 use Rattle.llrp_schema.specs.declared.kinds.Kind.TheVariants.{Message, Parameter}
 use Rattle.llrp_schema.specs.declared.kinds.Profile.{Profile}
-use Rattle.llrp_schema.specs.declared.kinds.Profile.TheVariants.{Own}
+use Rattle.llrp_schema.specs.declared.kinds.Profile.TheVariants.{Own, Whole}
 use Rattle.llrp_schema.specs.declared.kinds.Tail.{Tail}
 use Rattle.llrp_schema.specs.declared.kinds.Tail.TheVariants.{Absent, Words, Text, Bits, Data}
 use Rattle.llrp_schema.specs.Schema.{FieldRule, fields_of, groups_of, plain_fields_of, profile_of, rule_of, message_rule, param_rule, message_kinds, param_kinds, whole_message_kinds, whole_param_kinds, tail_of}
 use Rattle.llrp_schema.proofs.PlaceLemmas.{child_profile}
-use Rattle.llrp_schema.proofs.TableLaws.{every_rule}
+use Rattle.llrp_schema.proofs.TableLaws.{every_rule, message_tail}
 use Rattle.llrp_tree.specs.declared.TheConstants.{MAX_DEPTH}
 use Rattle.llrp_tree.specs.Tree as tree
 use Rattle.llrp_tree.specs.Tree.{MessageTree}
@@ -19,23 +19,22 @@ use Rattle.llrp_tree.specs.Lawful.{levels, body_octets, AreInRange, AreOctets, A
 use Rattle.llrp_tree.specs.Checks.{first_fault, first_message_fault}
 use Rattle.llrp_tree.proofs.LawLemmas.{lawful_exactly, message_exactly}
 use Rattle.llrp_tree.proofs.LengthLemmas.{frame_length}
-use Rattle.llrp_stream.specs.Items.{FrameOf}
-use Rattle.llrp_listing.specs.declared.fault.Refusal.TheVariants.{OverLimit}
+use Rattle.llrp_stream.specs.Items.{FrameIn}
+use Rattle.llrp_listing.specs.declared.outcome.Refusal.TheVariants.{OverLimit}
 use Rattle.llrp_listing.specs.Encoding.{AreSpelled}
 use Rattle.llrp_listing.specs.FirstRefusal.{AllClose}
 use Rattle.llrp_listing.specs.Calls.FirstRefusal.{Lists}
-use Rattle.llrp_listing.specs.LineChecks.{IsPlaced, IsInForm, AreInForm, IsTailOf, SaysNode, SaysLine}
-use Rattle.llrp_listing.specs.declared.line.TheConstants.{LONGEST_LINE}
+use Rattle.llrp_listing.specs.LineChecks.{IsOpenLevel, IsInForm, AreInForm, IsTailOf, SaysNode, SaysLine, longest}
 use Rattle.llrp_listing.specs.Lines.{TextLine, Ended, lines_of}
 use Rattle.llrp_listing.specs.Calls.ListingLaws.{AreShort}
 use Rattle.llrp_listing.specs.ListingRules.{closing, node_refusal, message_refusal, lines_onto, row, rules_for}
 use Rattle.llrp_listing.specs.MessageListing.{parameter_lines, message_lines, messages_lines, IsListingOf}
 use Rattle.llrp_listing.specs.NodeLine.{NodeLine, NumberForm, Version, Id, Unsigned, Signed, Epc, field_form, number_forms, spaced, message_line, parameter_line, IsLine}
-use Rattle.llrp_listing.specs.OpenText.{Forest, end, node}
+use Rattle.llrp_listing.specs.OpenText.{Outline, end, node}
 use Rattle.llrp_listing.proofs.Cutting.{ended}
-use Rattle.llrp_listing.proofs.DecimalWords.{left, right}
+use Rattle.tag_uri.proofs.UriLemmas.{left, right}
 use Rattle.llrp_listing.proofs.LineShape.{rest_words, rest_visible, level_visible, line_printed, printed_no_lf}
-use Rattle.llrp_listing.proofs.ShortLines.{line_short}
+use Rattle.llrp_listing.proofs.ShortLines.{few_in, line_short, most_octets}
 use Rattle.llrp_listing.proofs.TreeLines.{parameters_back, nodes_row}
 
 -- ---- numbers in their ranges are in their forms
@@ -54,7 +53,7 @@ all_fit : (kind : Kind) → list_all fits (plain_fields_of kind) ≡ true
 unfolding fields_of rule_of message_rule param_rule message_kinds whole_message_kinds param_kinds whole_param_kinds
 all_fit kind = every_rule (λ row. list_all fits (filter (λ field. not field.reserved) row.fields)) (refl, refl) (refl, refl) kind
 
-below : (v g m : ℕ) → nat_lt g m ≡ true → v ≤ g → v < m
+pub below : (v g m : ℕ) → nat_lt g m ≡ true → v ≤ g → v < m
 below v g m h le = grind arith
 
 in_form : (f : NumberForm) (g v : ℕ) → fits_form f g ≡ true → v ≤ g → IsInForm f v
@@ -90,10 +89,10 @@ tail_form Data fields tail t os = os
 -- The parts of a line are in their forms, at a level that may be.
 pub record Well (e : ℕ × NodeLine) : Type 0 where
   deep : e.0 ≤ MAX_DEPTH
-  placed : IsPlaced e.0 e.1.kind
+  placed : IsOpenLevel e.0 e.1.kind
   numbers : AreInForm (number_forms e.1.kind) e.1.numbers
   tail : IsTailOf (tail_of e.1.kind) e.1.tail
-  few : length e.1.tail ≤ 65535
+  few : length e.1.tail ≤ most_octets (profile_of e.1.kind)
 
 abbrev pub AllWell : List (ℕ × NodeLine) → Type 0
 AllWell [] = Unit {0}
@@ -113,7 +112,7 @@ parameter_well level kind fields tail children least deep l = record {
   placed = least;
   numbers = parameter_in_form kind fields l.obeys.ranges;
   tail = tail_form (tail_of (Parameter kind)) fields tail l.obeys.form l.obeys.bytes;
-  few = few_octets kind fields tail children l;
+  few = few_in (profile_of (Parameter kind)) (few_octets kind fields tail children l);
 }
 
 parameters_well : (level : ℕ) (f : tree.Forest) → 1 ≤ level → levels f + level ≤ MAX_DEPTH + 1 → AllLawful f → AllWell (parameter_lines level f)
@@ -128,16 +127,27 @@ few_levels : (f : tree.Forest) → AllLawful f → levels f ≤ MAX_DEPTH
 few_levels tree.none h = omega arith
 few_levels (tree.and before kind fields tail children) h = max-le (few_levels before h.0) h.1.deep
 
+few_data : (m : MessageTree) → IsLawfulMessage m → length m.tail ≤ most_octets (profile_of (Message m.kind))
+unfolding body_octets
+few_data m l = by_set (profile_of (Message m.kind)) refl
+  where
+    none_of : (form : Tail) → form ≡ Absent → IsTail form m.fields m.tail → m.tail ≡ []
+    none_of form e t = subst (λ (f : Tail). IsTail f m.fields m.tail) e t
+
+    by_set : (p : Profile) → profile_of (Message m.kind) ≡ p → length m.tail ≤ most_octets p
+    by_set Own own = omega (arith, ap (λ (x : List ℕ). length x) (none_of (tail_of (Message m.kind)) (message_tail m.kind own) l.obeys.form))
+    by_set Whole own = omega (arith, l.long)
+
 message_well : (m : MessageTree) → IsLawfulMessage m → AllWell (message_lines m)
 message_well m l = (
-  record { deep = omega arith; placed = refl; numbers = message_in_form m l; tail = tail_form (tail_of (Message m.kind)) m.fields [] l.obeys.form l.obeys.bytes; few = omega arith },
+  record { deep = omega arith; placed = refl; numbers = message_in_form m l; tail = tail_form (tail_of (Message m.kind)) m.fields m.tail l.obeys.form l.obeys.bytes; few = few_data m l },
   parameters_well 1 m.children (omega arith) (omega (arith, few_levels m.children l.children)) l.children,
 )
 
 -- ---- they are of one profile
 
 -- each line is of a kind of the profile
-abbrev AreOf : Profile → List (ℕ × NodeLine) → Type 0
+abbrev pub AreOf : Profile → List (ℕ × NodeLine) → Type 0
 AreOf p [] = Unit {0}
 AreOf p (e ∷ es) = (profile_of e.1.kind ≡ p) × AreOf p es
 
@@ -159,9 +169,9 @@ message_of_profile p m is l = (is, parameters_of_profile p 1 (Message m.kind) m.
 
 -- ---- they are said
 
-said_line : (e : ℕ × NodeLine) (t : List ℕ) → (z : IsLine e t) → profile_of e.1.kind ≡ Own → Well e → SaysNode (decimal e.0 ++ spaced (rest_words e.1 z.numbers)) e.0 e.1
+said_line : {p : Profile} (e : ℕ × NodeLine) (t : List ℕ) → (z : IsLine e t) → profile_of e.1.kind ≡ p → Well e → SaysNode p (decimal e.0 ++ spaced (rest_words e.1 z.numbers)) e.0 e.1
 said_line e t z own w = record {
-  short = line_short e.0 e.1 z.numbers w.deep w.numbers z.are w.tail w.few;
+  short = subst (λ (q : Profile). length (decimal e.0 ++ spaced (rest_words e.1 z.numbers)) ≤ longest q) own (line_short e.0 e.1 z.numbers w.deep w.numbers z.are w.tail w.few);
   deep = w.deep;
   placed = w.placed;
   own = own;
@@ -171,29 +181,29 @@ said_line e t z own w = record {
 }
 
 -- a well-formed line is at most so long, with its LF
-pub line_bound : (e : ℕ × NodeLine) (t : List ℕ) → IsLine e t → Well e → length t ≤ suc LONGEST_LINE
+pub line_bound : (e : ℕ × NodeLine) (t : List ℕ) → IsLine e t → Well e → length t ≤ suc (longest (profile_of e.1.kind))
 line_bound e t z w =
     let bytes = decimal e.0 ++ spaced (rest_words e.1 z.numbers) in
     let is : t ≡ bytes ++ (10 ∷ []) = z.text_is ∙ sym (append_assoc (decimal e.0) (spaced (rest_words e.1 z.numbers)) (10 ∷ [])) in
     omega (arith, ap length is, length-append bytes (10 ∷ []), line_short e.0 e.1 z.numbers w.deep w.numbers z.are w.tail w.few)
 
-said_lines : (es : List (ℕ × NodeLine)) (ts : List (List ℕ)) → AllZip IsLine es ts → AreOf Own es → AllWell es → AllZip SaysLine (lines_of (flat_map (λ line. line) ts)) es
+said_lines : (p : Profile) (es : List (ℕ × NodeLine)) (ts : List (List ℕ)) → AllZip IsLine es ts → AreOf p es → AllWell es → AllZip (SaysLine p) (lines_of (flat_map (λ line. line) ts)) es
 unfolding lines_of
-said_lines [] [] z o w = tt
-said_lines [] (t ∷ ts) z o w = absurd z
-said_lines (e ∷ es) [] z o w = absurd z
-said_lines (e ∷ es) (t ∷ ts) z o w =
+said_lines p [] [] z o w = tt
+said_lines p [] (t ∷ ts) z o w = absurd z
+said_lines p (e ∷ es) [] z o w = absurd z
+said_lines p (e ∷ es) (t ∷ ts) z o w =
     let texts = z.0.numbers in
     let bytes = decimal e.0 ++ spaced (rest_words e.1 texts) in
     let more = flat_map (λ (line : List ℕ). line) ts in
     let is : t ≡ bytes ++ (10 ∷ []) = z.0.text_is ∙ sym (append_assoc (decimal e.0) (spaced (rest_words e.1 texts)) (10 ∷ [])) in
     let printed = line_printed (decimal e.0) (rest_words e.1 texts) (level_visible e.0 w.0.deep) (rest_visible e.1 texts w.0.numbers z.0.are w.0.tail) in
     let cut : lines_of (t ++ more) ≡ Ended bytes ∷ lines_of more = ap (λ (x : List ℕ). lines_of (x ++ more)) is ∙ ap lines_of (append_assoc bytes (10 ∷ []) more) ∙ ended bytes more (printed_no_lf bytes printed) in
-    subst (λ (x : List TextLine). AllZip SaysLine x (e ∷ es)) (sym cut) (said_line e t z.0 o.0 w.0, said_lines es ts z.1 o.1 w.1)
+    subst (λ (x : List TextLine). AllZip (SaysLine p) x (e ∷ es)) (sym cut) (said_line e t z.0 o.0 w.0, said_lines p es ts z.1 o.1 w.1)
 
 -- ---- they can be closed
 
-parameters_close : (limit : ℕ) (f : tree.Forest) (after : Forest NodeLine) → AllLawful f → AllClose (closing limit) after → AllClose (closing limit) (lines_onto f after)
+parameters_close : (limit : ℕ) (f : tree.Forest) (after : Outline NodeLine) → AllLawful f → AllClose (closing limit) after → AllClose (closing limit) (lines_onto f after)
 parameters_close limit tree.none after h c = c
 parameters_close limit (tree.and before kind fields tail children) after h c =
     let l = h.1 in
@@ -202,45 +212,45 @@ parameters_close limit (tree.and before kind fields tail children) after h c =
 
 message_closes : (limit : ℕ) (m : MessageTree) → IsLawfulMessage m → message_octets m ≤ limit → closing limit (message_line m) (lines_onto m.children end) ≡ None
 message_closes limit m l le =
-    ap (λ (f : tree.Forest). message_refusal limit (record m { children = f }) (first_message_fault m.version m.kind m.fields f)) (parameters_back m.children)
-    ∙ ap (message_refusal limit m) ((message_exactly m l.id l.children).0 l) ∙ within limit (message_octets m) le
+    ap (λ (f : tree.Forest). message_refusal limit (record m { children = f }) (first_message_fault m.version m.kind m.fields m.tail f)) (parameters_back m.children)
+    ∙ ap (message_refusal limit m) ((message_exactly m l.id l.obeys.bytes l.children).0 l) ∙ within limit (message_octets m) le
   where
     within : (limit n : ℕ) → n ≤ limit → (if nat_lt limit n then Some OverLimit else None) ≡ None
     within limit n le = let f : nat_lt limit n ≡ false = grind arith in rw f refl
 
--- the messages of the profile with these frames
-abbrev Frames : ℕ → List MessageTree → List (List ℕ) → Type 0
-Frames limit ms frames = AllZip (λ m frame. FrameOf m frame limit) ms frames
+-- the messages of a set of kinds with these frames
+abbrev Frames : Profile → ℕ → List MessageTree → List (List ℕ) → Type 0
+Frames p limit ms frames = AllZip (λ m frame. FrameIn p m frame limit) ms frames
 
-row_closes : (limit : ℕ) (ms : List MessageTree) (frames : List (List ℕ)) → Frames limit ms frames → AllClose (closing limit) (row ms)
-row_closes limit [] frames z = tt
-row_closes limit (m ∷ ms) [] z = absurd z
-row_closes limit (m ∷ ms) (b ∷ frames) z =
-    (message_closes limit m z.0.frame.lawful (omega (arith, frame_length m b limit z.0.frame, z.0.frame.short)), parameters_close limit m.children end z.0.frame.lawful.children tt, row_closes limit ms frames z.1)
+row_closes : (p : Profile) (limit : ℕ) (ms : List MessageTree) (frames : List (List ℕ)) → Frames p limit ms frames → AllClose (closing limit) (row ms)
+row_closes p limit [] frames z = tt
+row_closes p limit (m ∷ ms) [] z = absurd z
+row_closes p limit (m ∷ ms) (b ∷ frames) z =
+    (message_closes limit m z.0.frame.lawful (omega (arith, frame_length m b limit z.0.frame, z.0.frame.short)), parameters_close limit m.children end z.0.frame.lawful.children tt, row_closes p limit ms frames z.1)
 
-row_well : (limit : ℕ) (ms : List MessageTree) (frames : List (List ℕ)) → Frames limit ms frames → AllWell (messages_lines ms)
-row_well limit [] frames z = tt
-row_well limit (m ∷ ms) [] z = absurd z
-row_well limit (m ∷ ms) (b ∷ frames) z = well_append (message_lines m) (messages_lines ms) (message_well m z.0.frame.lawful) (row_well limit ms frames z.1)
+row_well : (p : Profile) (limit : ℕ) (ms : List MessageTree) (frames : List (List ℕ)) → Frames p limit ms frames → AllWell (messages_lines ms)
+row_well p limit [] frames z = tt
+row_well p limit (m ∷ ms) [] z = absurd z
+row_well p limit (m ∷ ms) (b ∷ frames) z = well_append (message_lines m) (messages_lines ms) (message_well m z.0.frame.lawful) (row_well p limit ms frames z.1)
 
-row_own : (limit : ℕ) (ms : List MessageTree) (frames : List (List ℕ)) → Frames limit ms frames → AreOf Own (messages_lines ms)
-row_own limit [] frames z = tt
-row_own limit (m ∷ ms) [] z = absurd z
-row_own limit (m ∷ ms) (b ∷ frames) z = of_append Own (message_lines m) (messages_lines ms) (message_of_profile Own m z.0.own z.0.frame.lawful) (row_own limit ms frames z.1)
+row_own : (p : Profile) (limit : ℕ) (ms : List MessageTree) (frames : List (List ℕ)) → Frames p limit ms frames → AreOf p (messages_lines ms)
+row_own p limit [] frames z = tt
+row_own p limit (m ∷ ms) [] z = absurd z
+row_own p limit (m ∷ ms) (b ∷ frames) z = of_append p (message_lines m) (messages_lines ms) (message_of_profile p m z.0.own z.0.frame.lawful) (row_own p limit ms frames z.1)
 
 -- the listing of messages lists their lines
-pub lists : (limit : ℕ) (text bytes : List ℕ) (ms : List MessageTree) → IsListingOf ms text → AreSpelled limit ms bytes → Lists (rules_for limit) (lines_of text) (row ms)
-lists limit text bytes ms l s =
-    let said : AllZip SaysLine (lines_of text) (messages_lines ms) = subst (λ (t : List ℕ). AllZip SaysLine (lines_of t) (messages_lines ms)) (sym l.text_is) (said_lines (messages_lines ms) l.texts l.each (row_own limit ms s.frames s.each) (row_well limit ms s.frames s.each)) in
-    record { says = subst (λ (es : List (ℕ × NodeLine)). AllZip SaysLine (lines_of text) es) (sym (nodes_row ms)) said; close = row_closes limit ms s.frames s.each }
+pub lists : {p : Profile} (limit : ℕ) (text bytes : List ℕ) (ms : List MessageTree) → IsListingOf ms text → AreSpelled p limit ms bytes → Lists (rules_for p limit) (lines_of text) (row ms)
+lists {p} limit text bytes ms l s =
+    let said : AllZip (SaysLine p) (lines_of text) (messages_lines ms) = subst (λ (t : List ℕ). AllZip (SaysLine p) (lines_of t) (messages_lines ms)) (sym l.text_is) (said_lines p (messages_lines ms) l.texts l.each (row_own p limit ms s.frames s.each) (row_well p limit ms s.frames s.each)) in
+    record { says = subst (λ (es : List (ℕ × NodeLine)). AllZip (SaysLine p) (lines_of text) es) (sym (nodes_row ms)) said; close = row_closes p limit ms s.frames s.each }
 
 -- each line is that long at most
-pub lines_bound : (es : List (ℕ × NodeLine)) (ts : List (List ℕ)) → AllZip IsLine es ts → AllWell es → AreShort ts
-lines_bound [] [] z w = tt
-lines_bound [] (t ∷ ts) z w = absurd z
-lines_bound (e ∷ es) [] z w = absurd z
-lines_bound (e ∷ es) (t ∷ ts) z w = (line_bound e t z.0 w.0, lines_bound es ts z.1 w.1)
+pub lines_bound : (p : Profile) (es : List (ℕ × NodeLine)) (ts : List (List ℕ)) → AllZip IsLine es ts → AreOf p es → AllWell es → AreShort p ts
+lines_bound p [] [] z o w = tt
+lines_bound p [] (t ∷ ts) z o w = absurd z
+lines_bound p (e ∷ es) [] z o w = absurd z
+lines_bound p (e ∷ es) (t ∷ ts) z o w = (subst (λ (q : Profile). length t ≤ suc (longest q)) o.0 (line_bound e t z.0 w.0), lines_bound p es ts z.1 o.1 w.1)
 
 -- the lines of a lawful message are short
-pub message_bound : (m : MessageTree) (ts : List (List ℕ)) → IsLawfulMessage m → AllZip IsLine (message_lines m) ts → AreShort ts
-message_bound m ts l z = lines_bound (message_lines m) ts z (message_well m l)
+pub message_bound : (m : MessageTree) (ts : List (List ℕ)) → IsLawfulMessage m → AllZip IsLine (message_lines m) ts → AreShort (profile_of (Message m.kind)) ts
+message_bound m ts l z = lines_bound (profile_of (Message m.kind)) (message_lines m) ts z (message_of_profile (profile_of (Message m.kind)) m refl l) (message_well m l)

@@ -21,12 +21,14 @@ pub mod LineShape
 pub mod LineSteps
 pub mod LineWords
 pub mod Listed
+pub mod Marked
 pub mod MessageSteps
 pub mod NamedLines
 pub mod NearLemmas
 pub mod SpacedNumbers
 pub mod NodeFaults
 pub mod NumberWords
+pub mod OfSet
 pub mod Numerals
 pub mod OneEpcAnswer
 pub mod OneText
@@ -39,6 +41,7 @@ pub mod Records
 pub mod Rows
 pub mod Running
 pub mod ShortLines
+pub mod BareMessages
 pub mod ShortReading
 pub mod ShowAnswers
 pub mod ShowLemmas

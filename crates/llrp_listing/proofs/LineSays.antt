@@ -7,30 +7,27 @@ use Rattle.std.proofs.lemmas.List.{append-nil}
 use Rattle.std.proofs.lemmas.List.Splits.{join_with_byte-slice_split}
 use Rattle.std.proofs.lemmas.Str.{IsUtf8-from_ascii}
 use Rattle.std.proofs.lemmas.Str.Ascii.{IsAscii-nil, IsAscii-cons}
+use Rattle.llrp_schema.specs.declared.kinds.Profile.{Profile}
 use Rattle.llrp_schema.specs.declared.kinds.MsgKind.{MsgKind}
 use Rattle.llrp_schema.specs.declared.kinds.ParamKind.{ParamKind}
 use Rattle.llrp_schema.specs.declared.kinds.Kind.{Kind}
 use Rattle.llrp_schema.specs.declared.kinds.Kind.TheVariants.{Message, Parameter}
-use Rattle.llrp_schema.specs.declared.kinds.Tail.{Tail}
-use Rattle.llrp_schema.specs.declared.kinds.Tail.TheVariants.{Absent}
 use Rattle.llrp_schema.specs.Schema.{name_of, profile_of, tail_of}
-use Rattle.llrp_schema.proofs.TableLaws.{message_tail}
-use Rattle.llrp_listing.specs.declared.fault.Refusal.{Refusal}
-use Rattle.llrp_listing.specs.declared.fault.Refusal.TheVariants as refusal
-use Rattle.llrp_listing.specs.declared.line.Line.TheVariants as said
-use Rattle.llrp_listing.specs.declared.line.LineErr.{LineErr}
-use Rattle.llrp_listing.specs.declared.line.LineErr.TheVariants.{Refused, Memory}
-use Rattle.llrp_listing.specs.declared.line.MessageLine.{MessageLine}
-use Rattle.llrp_listing.specs.declared.line.ParameterLine.{ParameterLine}
-use Rattle.llrp_listing.specs.declared.line.Start.{Start}
-use Rattle.llrp_listing.specs.Checks.{FirstFailing, AllHold}
-use Rattle.llrp_listing.specs.LineChecks.{is_printed, word, body_checks, IsPlaced, IsNamed, IsTailOf, start_checks, tail_count, word_count}
-use Rattle.llrp_listing.specs.declared.line.TheConstants.{LONGEST_LINE}
+use Rattle.llrp_listing.specs.declared.outcome.Refusal.{Refusal}
+use Rattle.llrp_listing.specs.declared.outcome.Refusal.TheVariants as refusal
+use Rattle.llrp_listing.specs.declared.parse_line.Line.TheVariants as said
+use Rattle.llrp_listing.specs.declared.parse_line.LineErr.{LineErr}
+use Rattle.llrp_listing.specs.declared.parse_line.LineErr.TheVariants.{Refused, Memory}
+use Rattle.llrp_listing.specs.declared.parse_line.MessageLine.{MessageLine}
+use Rattle.llrp_listing.specs.declared.parse_line.ParameterLine.{ParameterLine}
+use Rattle.llrp_listing.specs.declared.parse_line.LineStart.{LineStart}
+use Rattle.llrp_listing.specs.OrderedChecks.{FirstFailing, AllHold}
+use Rattle.llrp_listing.specs.LineChecks.{is_printed, word, body_checks, IsOpenLevel, IsNamed, IsTailOf, longest, start_checks, tail_count, word_count}
 use Rattle.llrp_listing.specs.Private.LineReading.{AreRead, ReadsLine, ReadsMessage, ReadsParameter, ReadsStart, Starts}
 use Rattle.llrp_listing.specs.NodeLine.{number_forms, tail_texts, spaced}
 use Rattle.llrp_listing.specs.Lines.{words}
 use Rattle.llrp_listing.specs.Private.Splits.{words_in}
-use Rattle.llrp_listing.proofs.DecimalWords.{left, right}
+use Rattle.tag_uri.proofs.UriLemmas.{left, right}
 use Rattle.llrp_listing.proofs.LineWords.{named_name}
 
 -- ---- printed bytes are text
@@ -58,23 +55,23 @@ line_text bytes w ws e =
 
 -- ---- refusals
 
-pub line_long : (depth : ℕ) (bytes : List ℕ) → LONGEST_LINE < length bytes → ReadsLine depth bytes (Err (Refused refusal.Line))
+pub line_long : {p : Profile} (depth : ℕ) (bytes : List ℕ) → longest p < length bytes → ReadsLine p depth bytes (Err (Refused refusal.Line))
 line_long depth bytes long = inl (inl (λ has. absurd (omega (arith, has.0)), refl))
 
-pub start_bad : (depth : ℕ) (bytes : List ℕ) (reason : Refusal) → length bytes ≤ LONGEST_LINE → is_printed bytes ≡ true → ReadsStart depth bytes (Err reason) → ReadsLine depth bytes (Err (Refused reason))
+pub start_bad : {p : Profile} (depth : ℕ) (bytes : List ℕ) (reason : Refusal) → length bytes ≤ longest p → is_printed bytes ≡ true → ReadsStart p depth bytes (Err reason) → ReadsLine p depth bytes (Err (Refused reason))
 start_bad depth bytes reason short printed h = elim h [
   | inl level ↦ inl (inr ((short, printed), inl (level.0, level.1)))
   | inr name ↦ inl (inr ((short, printed), inr (name.0, inl (name.1, name.2))))
 ]
 
-module _ (depth : ℕ) (bytes : List ℕ) (start : Start) (short : length bytes ≤ LONGEST_LINE) (printed : is_printed bytes ≡ true) (s : Starts depth bytes start) where
+module _ {p : Profile} (depth : ℕ) (bytes : List ℕ) (start : LineStart) (short : length bytes ≤ longest p) (printed : is_printed bytes ≡ true) (s : Starts p depth bytes start) where
   level_word : word (words bytes) 0 ≡ decimal start.level
   level_word = ap (λ (z : List (List ℕ)). word z 0) s.are
 
-  is_named : IsNamed (words bytes) start.kind
-  is_named = subst (λ (z : List (List ℕ)). IsNamed z start.kind) (sym s.are) (named_name start.level (decimal start.level) (name_of start.kind) (words_in start.words) start.kind refl s.deep s.placed (s.own, refl))
+  is_named : IsNamed p (words bytes) start.kind
+  is_named = subst (λ (z : List (List ℕ)). IsNamed p z start.kind) (sym s.are) (named_name start.level (decimal start.level) (name_of start.kind) (words_in start.words) start.kind refl s.deep s.placed (s.own, refl))
 
-  starts : AllHold (start_checks depth bytes)
+  starts : AllHold (start_checks p depth bytes)
   starts = ((short, printed), ((start.level, level_word, s.deep, s.within), ((start.kind, is_named), tt)))
 
   body_words : drop 2 (words bytes) ≡ words_in start.words
@@ -83,52 +80,49 @@ module _ (depth : ℕ) (bytes : List ℕ) (start : Start) (short : length bytes 
   pub rest_length : length (words bytes) ≡ word_count start.kind → length (words_in start.words) + 2 ≡ word_count start.kind
   rest_length count = omega (arith, count, ap length s.are)
 
-  pub count_bad : (length (words bytes) ≡ word_count start.kind → ⊥) → ReadsLine depth bytes (Err (Refused refusal.Fields))
+  pub count_bad : (length (words bytes) ≡ word_count start.kind → ⊥) → ReadsLine p depth bytes (Err (Refused refusal.Fields))
   count_bad other = inr (record { starts = starts; kind = start.kind; named = is_named; fails = inl (other, refl) })
 
-  pub message_bad : (kind : MsgKind) (reason : Refusal) → start.kind ≡ Message kind → length (words bytes) ≡ word_count start.kind → ReadsMessage kind (words_in start.words) (Err reason) → ReadsLine depth bytes (Err (Refused reason))
-  message_bad kind reason is count bad = inr (record {
+  pub message_bad : (kind : MsgKind) (e : LineErr) → start.kind ≡ Message kind → length (words bytes) ≡ word_count start.kind → ReadsMessage kind (words_in start.words) (Err e) → ReadsLine p depth bytes (Err e)
+  message_bad kind Memory is count bad = tt
+  message_bad kind (Refused reason) is count bad = inr (record {
     starts = starts;
     kind = Message kind;
-    named = subst (IsNamed (words bytes)) is is_named;
-    fails = inr (count ∙ ap word_count is, subst (λ (z : List (List ℕ)). FirstFailing (body_checks (number_forms (Message kind)) (tail_of (Message kind)) z) reason) (sym body_words) (bad (tail_of (Message kind))));
+    named = subst (IsNamed p (words bytes)) is is_named;
+    fails = inr (count ∙ ap word_count is, subst (λ (z : List (List ℕ)). FirstFailing (body_checks (number_forms (Message kind)) (tail_of (Message kind)) z) reason) (sym body_words) bad);
   })
 
-  pub parameter_bad : (kind : ParamKind) (level : ℕ) (e : LineErr) → start.kind ≡ Parameter kind → length (words bytes) ≡ word_count start.kind → ReadsParameter level kind (words_in start.words) (Err e) → ReadsLine depth bytes (Err e)
+  pub parameter_bad : (kind : ParamKind) (level : ℕ) (e : LineErr) → start.kind ≡ Parameter kind → length (words bytes) ≡ word_count start.kind → ReadsParameter level kind (words_in start.words) (Err e) → ReadsLine p depth bytes (Err e)
   parameter_bad kind level Memory is count bad = tt
   parameter_bad kind level (Refused reason) is count bad = inr (record {
     starts = starts;
     kind = Parameter kind;
-    named = subst (IsNamed (words bytes)) is is_named;
+    named = subst (IsNamed p (words bytes)) is is_named;
     fails = inr (count ∙ ap word_count is, subst (λ (z : List (List ℕ)). FirstFailing (body_checks (number_forms (Parameter kind)) (tail_of (Parameter kind)) z) reason) (sym body_words) bad);
   })
 
-  no_tail : (form : Tail) → form ≡ Absent → IsTailOf form []
-  no_tail form e = rw e refl
-
-  pub message_said : (kind : MsgKind) (line : MessageLine) → start.kind ≡ Message kind → ReadsMessage kind (words_in start.words) (Ok line) → ReadsLine depth bytes (Ok (said.Message line))
+  pub message_said : (kind : MsgKind) (line : MessageLine) → start.kind ≡ Message kind → ReadsMessage kind (words_in start.words) (Ok line) → ReadsLine p depth bytes (Ok (said.Message line))
   message_said kind line is h =
-      let same : start.kind ≡ Message line.kind = is ∙ ap Message (sym h.0) in
-      let placed : IsPlaced start.level (Message kind) = subst (IsPlaced start.level) is s.placed in
-      let r : AreRead (number_forms (Message line.kind)) (words_in start.words) (line.version ∷ line.id ∷ line.fields.items) [] = subst (λ (k : MsgKind). AreRead (number_forms (Message k)) (words_in start.words) (line.version ∷ line.id ∷ line.fields.items) []) (sym h.0) h.1 in
-      let absent : tail_of (Message line.kind) ≡ Absent = message_tail line.kind in
-      let all : words bytes ≡ decimal 0 ∷ name_of (Message line.kind) ∷ (r.texts ++ tail_texts (tail_of (Message line.kind)) []) =
+      let same : start.kind ≡ Message line.kind = is ∙ ap Message (sym h.kind_is) in
+      let placed : IsOpenLevel start.level (Message kind) = subst (IsOpenLevel start.level) is s.placed in
+      let r : AreRead (number_forms (Message line.kind)) (words_in start.words) (line.version ∷ line.id ∷ line.fields.items) (tail_texts (tail_of (Message line.kind)) line.tail) = subst (λ (k : MsgKind). AreRead (number_forms (Message k)) (words_in start.words) (line.version ∷ line.id ∷ line.fields.items) (tail_texts (tail_of (Message k)) line.tail)) (sym h.kind_is) h.numbers in
+      let all : words bytes ≡ decimal 0 ∷ name_of (Message line.kind) ∷ (r.texts ++ tail_texts (tail_of (Message line.kind)) line.tail) =
       s.are ∙ ap (λ (z : ℕ). decimal z ∷ name_of start.kind ∷ words_in start.words) placed ∙ ap (λ (k : Kind). decimal 0 ∷ name_of k ∷ words_in start.words) same
-      ∙ ap (λ (z : List (List ℕ)). decimal 0 ∷ name_of (Message line.kind) ∷ z) (r.words ∙ ap (λ (f : Tail). r.texts ++ tail_texts f []) (sym absent)) in
+      ∙ ap (λ (z : List (List ℕ)). decimal 0 ∷ name_of (Message line.kind) ∷ z) r.words in
       record {
         short = short;
         deep = omega arith;
         placed = refl;
         own = ap profile_of (sym same) ∙ s.own;
         numbers = r.in_form;
-        tail = no_tail (tail_of (Message line.kind)) absent;
-        text = record { numbers = r.texts; are = r.are; text_is = line_text bytes (decimal 0) (name_of (Message line.kind) ∷ (r.texts ++ tail_texts (tail_of (Message line.kind)) [])) all };
+        tail = subst (λ (k : MsgKind). IsTailOf (tail_of (Message k)) line.tail) (sym h.kind_is) h.tail;
+        text = record { numbers = r.texts; are = r.are; text_is = line_text bytes (decimal 0) (name_of (Message line.kind) ∷ (r.texts ++ tail_texts (tail_of (Message line.kind)) line.tail)) all };
       }
 
-  pub parameter_said : (kind : ParamKind) (line : ParameterLine) → start.kind ≡ Parameter kind → ReadsParameter start.level kind (words_in start.words) (Ok line) → ReadsLine depth bytes (Ok (said.Parameter line))
+  pub parameter_said : (kind : ParamKind) (line : ParameterLine) → start.kind ≡ Parameter kind → ReadsParameter start.level kind (words_in start.words) (Ok line) → ReadsLine p depth bytes (Ok (said.Parameter line))
   parameter_said kind line is h =
       let same : start.kind ≡ Parameter line.kind = is ∙ ap Parameter (sym h.kind_is) in
-      let placed : IsPlaced start.level (Parameter kind) = subst (IsPlaced start.level) is s.placed in
+      let placed : IsOpenLevel start.level (Parameter kind) = subst (IsOpenLevel start.level) is s.placed in
       let level : start.level ≡ line.level = sym h.level_is in
       let r : AreRead (number_forms (Parameter line.kind)) (words_in start.words) line.fields.items (tail_texts (tail_of (Parameter line.kind)) line.tail) =
       subst (λ (k : ParamKind). AreRead (number_forms (Parameter k)) (words_in start.words) line.fields.items (tail_texts (tail_of (Parameter k)) line.tail)) (sym h.kind_is) h.numbers in
@@ -148,8 +142,7 @@ module _ (depth : ℕ) (bytes : List ℕ) (start : Start) (short : length bytes 
       )
 
 -- as many words are after the name as the kind has numbers, and a tail
-pub message_count : (depth : ℕ) (bytes : List ℕ) (start : Start) → Starts depth bytes start → (kind : MsgKind) → start.kind ≡ Message kind → length (words bytes) ≡ word_count start.kind → length (words_in start.words) ≡ length (number_forms (Message kind))
+pub message_count : {p : Profile} (depth : ℕ) (bytes : List ℕ) (start : LineStart) → Starts p depth bytes start → (kind : MsgKind) → start.kind ≡ Message kind → length (words bytes) ≡ word_count start.kind → length (words_in start.words) ≡ length (number_forms (Message kind)) + tail_count (tail_of (Message kind))
 message_count depth bytes start s kind is count =
     let n = ap length s.are in
-    let absent : tail_count (tail_of (Message kind)) ≡ 0 = ap tail_count (message_tail kind) in
-    omega (arith, n, count ∙ ap word_count is, absent)
+    omega (arith, n, count ∙ ap word_count is)

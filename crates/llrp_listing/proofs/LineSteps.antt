@@ -10,17 +10,17 @@ use Rattle.llrp_tree.proofs.LawLemmas.{lawful_from}
 use Rattle.llrp_listing.specs.ListingRules.{closing, kind_closing, lines_onto, node_refusal}
 use Rattle.llrp_listing.specs.NodeLine.{NodeLine, parameter_line}
 use Rattle.llrp_listing.specs.Private.OpenLines.{Closed, Entry, entry, open_over}
-use Rattle.llrp_listing.specs.OpenText.{Forest, end, node}
+use Rattle.llrp_listing.specs.OpenText.{Outline, end, node}
 use Rattle.llrp_listing.specs.Private.OpenTextSteps.{join}
 use Rattle.llrp_listing.proofs.Closings.{close_sound, closed_none, closed_trans, length_chain}
 use Rattle.llrp_listing.proofs.Zips.{zip_length}
 use Rattle.llrp_listing.proofs.Growing.{cut_one}
 use Rattle.llrp_listing.proofs.TreeLines.{lines_join, parameters_back}
-use Rattle.llrp_listing.specs.declared.encode.rows.Held.{Held}
+use Rattle.llrp_listing.specs.declared.encode.open_lines.LineRecord.{LineRecord}
 use Rattle.llrp_listing.specs.Private.OpenNodes.{IsHeld, OpenNode, entries, entry_of, kind_fault, node_fault, with_child}
-use Rattle.llrp_listing.specs.declared.encode.writer.Refused.{Refused}
-use Rattle.llrp_listing.specs.declared.encode.writer.Writer.{Writer}
-use Rattle.llrp_listing.specs.Private.Writer.{ClosedSoFar, ClosesOne, Fails, FailsOne, Holds, inner}
+use Rattle.llrp_listing.specs.declared.encode.buffer.Refused.{Refused}
+use Rattle.llrp_listing.specs.declared.encode.buffer.EncodeBuffer.{EncodeBuffer}
+use Rattle.llrp_listing.specs.Private.EncodeBuffer.{ClosedSoFar, ClosesOne, Fails, FailsOne, Holds, inner}
 use Rattle.llrp_listing.proofs.NodeFaults.{tail_octets}
 
 -- ---- whether a line can be closed
@@ -31,7 +31,7 @@ parameter_closes kind n limit is =
     ∙ ap node_refusal (ap (first_fault kind n.line.numbers n.line.tail) (parameters_back n.children))
     ∙ sym (ap (λ (k : Kind). node_refusal (kind_fault k n.line.numbers n.line.tail n.children)) is)
 
-pub parameter_lawful : (held : Held) (n : OpenNode) (kind : ParamKind) → IsHeld held n → n.line.kind ≡ Parameter kind → node_fault n.line n.children ≡ None → AreLawful kind n.line.numbers n.line.tail n.children
+pub parameter_lawful : (held : LineRecord) (n : OpenNode) (kind : ParamKind) → IsHeld held n → n.line.kind ≡ Parameter kind → node_fault n.line n.children ≡ None → AreLawful kind n.line.numbers n.line.tail n.children
 parameter_lawful held n kind h is fine =
     lawful_from kind n.line.numbers n.line.tail n.children (tail_octets (tail_of n.line.kind) n.line.tail h.said.tail)
     (sym (ap (λ (k : Kind). kind_fault k n.line.numbers n.line.tail n.children) is) ∙ fine)
@@ -51,7 +51,7 @@ line_is kind line is = ap (λ (k : Kind). record line { kind = k }) is
 
 pub closed_line : (kind : ParamKind) (n p : OpenNode) (outer : List OpenNode) → n.line.kind ≡ Parameter kind → node_fault n.line n.children ≡ None → Closed (entries (n ∷ p ∷ outer)) (entries (with_child kind n p ∷ outer))
 closed_line kind n p outer is fine =
-    subst (λ (f : Forest NodeLine). Closed (entries (n ∷ p ∷ outer)) (entry p.line f p.number ∷ entries outer))
+    subst (λ (f : Outline NodeLine). Closed (entries (n ∷ p ∷ outer)) (entry p.line f p.number ∷ entries outer))
     (sym (lines_join p.children end (node n.line (lines_onto n.children end) end)) ∙ ap (λ (l : NodeLine). lines_onto p.children (node l (lines_onto n.children end) end)) (line_is kind n.line is))
     (closed_top (entry_of n) (entry_of p) (entries outer) (λ limit. parameter_closes kind n limit is ∙ ap node_refusal fine))
 
@@ -61,10 +61,10 @@ pub length_entries : (ns : List OpenNode) → length (entries ns) ≡ length ns
 length_entries [] = refl
 length_entries (n ∷ ns) = ap suc (length_entries ns)
 
-pub so_far_none : (writer : Writer) (at depth : ℕ) (out more : List ℕ) (ns : List OpenNode) → Holds writer at out more ns → ClosedSoFar writer at depth out more ns
+pub so_far_none : (writer : EncodeBuffer) (at depth : ℕ) (out more : List ℕ) (ns : List OpenNode) → Holds writer at out more ns → ClosedSoFar writer at depth out more ns
 so_far_none writer at depth out more ns h = record { left = ns; holds = h; closed = closed_none (entries ns); are = λ le. le }
 
-pub so_far_more : (old new : Writer) (at depth : ℕ) (out more : List ℕ) (ns : List OpenNode) → ClosesOne old new at → 1 ≤ depth → (s : ClosedSoFar old at depth out more ns) → depth < length s.left → ClosedSoFar new at depth out more ns
+pub so_far_more : (old new : EncodeBuffer) (at depth : ℕ) (out more : List ℕ) (ns : List OpenNode) → ClosesOne old new at → 1 ≤ depth → (s : ClosedSoFar old at depth out more ns) → depth < length s.left → ClosedSoFar new at depth out more ns
 so_far_more old new at depth out more ns one least s lt = on s.left s.holds s.closed lt
   where
     on : (left : List OpenNode) → Holds old at out more left → Closed (entries ns) (entries left) → depth < length left → ClosedSoFar new at depth out more ns
@@ -81,7 +81,7 @@ so_far_more old new at depth out more ns one least s lt = on s.left s.holds s.cl
           are = λ le. omega (arith, lt);
         }
 
-pub left_shorter : (old new : Writer) (at depth : ℕ) (out more : List ℕ) (left : List OpenNode) → ClosesOne old new at → 1 ≤ depth → Holds old at out more left → depth < length left → length (inner new.rows) < length (inner old.rows)
+pub left_shorter : (old new : EncodeBuffer) (at depth : ℕ) (out more : List ℕ) (left : List OpenNode) → ClosesOne old new at → 1 ≤ depth → Holds old at out more left → depth < length left → length (inner new.rows) < length (inner old.rows)
 left_shorter old new at depth out more [] one least h lt = absurd (omega (arith, lt))
 left_shorter old new at depth out more (n ∷ []) one least h lt = absurd (omega (arith, lt, least))
 left_shorter old new at depth out more (n ∷ p ∷ outer) one least h lt =
@@ -89,7 +89,7 @@ left_shorter old new at depth out more (n ∷ p ∷ outer) one least h lt =
     let r = one out more n p outer kind h h.chain.0.1 in
     omega (arith, zip_length IsHeld (inner old.rows) (n ∷ p ∷ outer) h.rows, zip_length IsHeld (inner new.rows) (with_child kind n p ∷ outer) r.1.rows)
 
-pub stops_at : (old : Writer) (at depth : ℕ) (out more : List ℕ) (ns : List OpenNode) (e : Refused) (limit : ℕ) → FailsOne old at e → 1 ≤ depth → (s : ClosedSoFar old at depth out more ns) → depth < length s.left → Fails limit depth ns e
+pub stops_at : (old : EncodeBuffer) (at depth : ℕ) (out more : List ℕ) (ns : List OpenNode) (e : Refused) (limit : ℕ) → FailsOne old at e → 1 ≤ depth → (s : ClosedSoFar old at depth out more ns) → depth < length s.left → Fails limit depth ns e
 stops_at old at depth out more ns e limit bad least s lt = on s.left s.holds s.closed lt
   where
     on : (left : List OpenNode) → Holds old at out more left → Closed (entries ns) (entries left) → depth < length left → Fails limit depth ns e

@@ -7,37 +7,34 @@ use Rattle.tag_bits.proofs.ByteLemmas.{bytes-nil, length-bytes}
 use Rattle.llrp_schema.specs.declared.kinds.MsgKind.{MsgKind}
 use Rattle.llrp_schema.specs.declared.kinds.Kind.{Kind}
 use Rattle.llrp_schema.specs.declared.kinds.Kind.TheVariants.{Message}
-use Rattle.llrp_schema.specs.declared.kinds.Tail.{Tail}
-use Rattle.llrp_schema.specs.declared.kinds.Tail.TheVariants.{Absent}
-use Rattle.llrp_schema.specs.Schema.{number_of, profile_of, tail_of}
-use Rattle.llrp_schema.proofs.TableLaws.{message_tail}
+use Rattle.llrp_schema.specs.Schema.{number_of, tail_of}
 use Rattle.llrp_tree.specs.declared.TheConstants.{MAX_LIMIT}
 use Rattle.llrp_tree.specs.Checks.{first_message_fault}
 use Rattle.llrp_tree.specs.Frame.{Frame}
 use Rattle.llrp_tree.specs.Lawful.{AreOctets, IsLawfulMessage, message_octets, octets}
 use Rattle.llrp_tree.specs.Calls.Lawful.{own_octets}
-use Rattle.llrp_tree.specs.Spelling.{body_digits, head_digits, message_digits, spell}
+use Rattle.llrp_tree.specs.Spelling.{body_digits, head_digits, message_digits, forest_digits}
 use Rattle.llrp_tree.specs.Tree as tree
 use Rattle.llrp_tree.specs.Tree.{MessageTree, trees}
 use Rattle.llrp_tree.proofs.LawLemmas.{message_from}
 use Rattle.llrp_tree.proofs.LengthLemmas.{spelled_length}
 use Rattle.llrp_tree.proofs.TreeLemmas.{forest-trees}
-use Rattle.llrp_listing.specs.declared.fault.Refusal.TheVariants.{OverLimit}
-use Rattle.llrp_listing.specs.LineChecks.{AreInForm, IsTailOf}
+use Rattle.llrp_listing.specs.declared.outcome.Refusal.TheVariants.{OverLimit}
+use Rattle.llrp_listing.specs.LineChecks.{AreInForm}
 use Rattle.llrp_listing.specs.ListingRules.{closing, kind_closing, lines_onto, message_refusal}
 use Rattle.llrp_listing.specs.NodeLine.{NodeLine, number_forms, message_line}
 use Rattle.llrp_listing.specs.Private.OpenLines.{AllClosed, CanClose, entry, lines_below}
 use Rattle.llrp_listing.specs.OpenText.{end}
 use Rattle.llrp_listing.proofs.Closings.{all_closed_one, closed_none}
-use Rattle.llrp_listing.proofs.Rows.{spells_one}
+use Rattle.llrp_listing.proofs.Rows.{frames_one}
 use Rattle.llrp_listing.proofs.TreeLines.{parameters_back}
-use Rattle.llrp_listing.specs.declared.encode.rows.Held.{Held}
-use Rattle.llrp_listing.specs.declared.encode.writer.Refused.{Refused}
-use Rattle.llrp_listing.specs.declared.encode.writer.Writer.{Writer}
-use Rattle.llrp_listing.specs.Private.Writer.{ClosedAll, Fails, Holds, inner, with_four, with_two}
+use Rattle.llrp_listing.specs.declared.encode.open_lines.LineRecord.{LineRecord}
+use Rattle.llrp_listing.specs.declared.encode.buffer.Refused.{Refused}
+use Rattle.llrp_listing.specs.declared.encode.buffer.EncodeBuffer.{EncodeBuffer}
+use Rattle.llrp_listing.specs.Private.EncodeBuffer.{ClosedAll, Fails, Holds, inner, with_four, with_two}
 use Rattle.llrp_listing.specs.Private.OpenNodes.{AreHeld, AreKept, IsDoomed, IsHeld, IsSaid, OpenNode, chain_digits, chain_octets, entries, entry_of, kind_fault, line_digits, node_fault, node_octets}
 use Rattle.llrp_listing.proofs.Chains.{digits_two, length-two, octets_two, splice, two_inside}
-use Rattle.llrp_listing.proofs.NodeFaults.{own_told}
+use Rattle.llrp_listing.proofs.NodeFaults.{own_told, tail_octets}
 
 -- ---- a length over four octets
 
@@ -86,7 +83,7 @@ digits_four head back number bytes e h lt room =
 
 module _ (kind : MsgKind) (n : OpenNode) (is : n.line.kind ≡ Message kind) where
   abbrev pub of_line : MessageTree
-  of_line = record { version = get_or n.line.numbers 0 0; id = get_or n.line.numbers 1 0; kind = kind; fields = drop 2 n.line.numbers; children = n.children }
+  of_line = record { version = get_or n.line.numbers 0 0; id = get_or n.line.numbers 1 0; kind = kind; fields = drop 2 n.line.numbers; tail = n.line.tail; children = n.children }
 
   pub message_size : node_octets n ≡ message_octets of_line
   message_size = ap (λ (k : Kind). own_octets k n.line.tail + octets n.children) is
@@ -100,25 +97,18 @@ module _ (kind : MsgKind) (n : OpenNode) (is : n.line.kind ≡ Message kind) whe
   in_form : IsSaid n.line → AreInForm (number_forms (Message kind)) n.line.numbers
   in_form s = subst (λ (k : Kind). AreInForm (number_forms k) n.line.numbers) is s.numbers
 
-  tail_is : IsSaid n.line → n.line.tail ≡ []
-  tail_is s = none_of (tail_of (Message kind)) (message_tail kind) (subst (λ (k : Kind). IsTailOf (tail_of k) n.line.tail) is s.tail)
-    where
-      none_of : (f : Tail) → f ≡ Absent → IsTailOf f n.line.tail → n.line.tail ≡ []
-      none_of f e t = subst (λ (x : Tail). IsTailOf x n.line.tail) e t
-
   line_is : IsSaid n.line → n.line ≡ message_line of_line
   line_is s =
       ap (λ (k : Kind). record n.line { kind = k }) is
       ∙ ap (λ (ns : List ℕ). record n.line { kind = Message kind; numbers = ns }) (two_numbers n.line.numbers (in_form s)).0
-      ∙ ap (λ (t : List ℕ). record { kind = Message kind; numbers = get_or n.line.numbers 0 0 ∷ get_or n.line.numbers 1 0 ∷ drop 2 n.line.numbers; tail = t }) (tail_is s)
 
-  fault_is : node_fault n.line n.children ≡ first_message_fault of_line.version kind of_line.fields n.children
+  fault_is : node_fault n.line n.children ≡ first_message_fault of_line.version kind of_line.fields n.line.tail n.children
   fault_is = ap (λ (k : Kind). kind_fault k n.line.numbers n.line.tail n.children) is
 
   pub message_closes : (limit : ℕ) → closing limit n.line (lines_onto n.children end) ≡ message_refusal limit of_line (node_fault n.line n.children)
   message_closes limit =
       ap (λ (k : Kind). kind_closing limit k n.line.numbers n.line.tail (lines_onto n.children end)) is
-      ∙ ap (λ (f : tree.Forest). message_refusal limit (record of_line { children = f }) (first_message_fault of_line.version kind of_line.fields f)) (parameters_back n.children)
+      ∙ ap (λ (f : tree.Forest). message_refusal limit (record of_line { children = f }) (first_message_fault of_line.version kind of_line.fields n.line.tail f)) (parameters_back n.children)
       ∙ ap (message_refusal limit of_line) (sym fault_is)
 
   pub closes_within : (limit : ℕ) → node_fault n.line n.children ≡ None → node_octets n ≤ limit → closing limit n.line (lines_onto n.children end) ≡ None
@@ -138,32 +128,32 @@ module _ (kind : MsgKind) (n : OpenNode) (is : n.line.kind ≡ Message kind) whe
       over l m lt = grind arith
 
   -- the message is lawful
-  message_lawful : (held : Held) → IsHeld held n → node_fault n.line n.children ≡ None → IsLawfulMessage of_line
-  message_lawful held h fine = message_from of_line.version of_line.id kind of_line.fields n.children (two_numbers n.line.numbers (in_form h.said)).1 h.lawful (sym fault_is ∙ fine)
+  message_lawful : (held : LineRecord) → IsHeld held n → node_fault n.line n.children ≡ None → IsLawfulMessage of_line
+  message_lawful held h fine = message_from of_line.version of_line.id kind of_line.fields n.line.tail n.children (two_numbers n.line.numbers (in_form h.said)).1 (tail_octets (tail_of n.line.kind) n.line.tail h.said.tail) h.lawful (sym fault_is ∙ fine)
 
   -- the octets are the message's, once its length is written
-  chain_is : chain_digits (n ∷ []) ≡ (((digits 3 0 ++ digits 3 of_line.version) ++ digits 10 (number_of (Message kind))) ++ digits 32 0) ++ (digits 32 of_line.id ++ (body_digits (Message kind) of_line.fields [] ++ spell n.children))
+  chain_is : chain_digits (n ∷ []) ≡ (((digits 3 0 ++ digits 3 of_line.version) ++ digits 10 (number_of (Message kind))) ++ digits 32 0) ++ (digits 32 of_line.id ++ (body_digits (Message kind) of_line.fields n.line.tail ++ forest_digits n.children))
   unfolding chain_digits line_digits head_digits
   chain_is =
       let front = ((digits 3 0 ++ digits 3 of_line.version) ++ digits 10 (number_of (Message kind))) ++ digits 32 0 in
-      ap (λ (k : Kind). line_digits k n.line.numbers n.line.tail ++ spell n.children) is
-      ∙ append_assoc (front ++ digits 32 of_line.id) (body_digits (Message kind) of_line.fields []) (spell n.children)
-      ∙ append_assoc front (digits 32 of_line.id) (body_digits (Message kind) of_line.fields [] ++ spell n.children)
+      ap (λ (k : Kind). line_digits k n.line.numbers n.line.tail ++ forest_digits n.children) is
+      ∙ append_assoc (front ++ digits 32 of_line.id) (body_digits (Message kind) of_line.fields n.line.tail) (forest_digits n.children)
+      ∙ append_assoc front (digits 32 of_line.id) (body_digits (Message kind) of_line.fields n.line.tail ++ forest_digits n.children)
 
-  message_is : message_digits of_line ≡ (((digits 3 0 ++ digits 3 of_line.version) ++ digits 10 (number_of (Message kind))) ++ digits 32 (message_octets of_line)) ++ (digits 32 of_line.id ++ (body_digits (Message kind) of_line.fields [] ++ spell n.children))
+  message_is : message_digits of_line ≡ (((digits 3 0 ++ digits 3 of_line.version) ++ digits 10 (number_of (Message kind))) ++ digits 32 (message_octets of_line)) ++ (digits 32 of_line.id ++ (body_digits (Message kind) of_line.fields n.line.tail ++ forest_digits n.children))
   unfolding head_digits
   message_is =
       let front = ((digits 3 0 ++ digits 3 of_line.version) ++ digits 10 (number_of (Message kind))) ++ digits 32 (message_octets of_line) in
-      append_assoc front (digits 32 of_line.id) (body_digits (Message kind) of_line.fields [] ++ spell n.children)
+      append_assoc front (digits 32 of_line.id) (body_digits (Message kind) of_line.fields n.line.tail ++ forest_digits n.children)
 
-  pub frame_of : (held : Held) (limit : ℕ) (bytes : List ℕ) → IsHeld held n → node_fault n.line n.children ≡ None → node_octets n ≤ limit → node_octets n < 2 ^ 32 → AreOctets bytes → digits_of_bytes bytes ≡ chain_digits (n ∷ []) → 6 ≤ length bytes
+  pub frame_of : (held : LineRecord) (limit : ℕ) (bytes : List ℕ) → IsHeld held n → node_fault n.line n.children ≡ None → node_octets n ≤ limit → node_octets n < 2 ^ 32 → AreOctets bytes → digits_of_bytes bytes ≡ chain_digits (n ∷ []) → 6 ≤ length bytes
       → Frame of_line (with_four 2 (node_octets n) bytes) limit
   frame_of held limit bytes h fine le lt o e room =
       let head = (digits 3 0 ++ digits 3 of_line.version) ++ digits 10 (number_of (Message kind)) in
       let long : length head ≡ 16 = length-append (digits 3 0 ++ digits 3 of_line.version) (digits 10 (number_of (Message kind))) ∙ omega (arith, length-append (digits 3 0) (digits 3 of_line.version), length-digits 3 0, length-digits 3 of_line.version, length-digits 10 (number_of (Message kind))) in
       let spelled : digits_of_bytes (with_four 2 (node_octets n) bytes) ≡ message_digits of_line =
-      digits_four head (digits 32 of_line.id ++ (body_digits (Message kind) of_line.fields [] ++ spell n.children)) (node_octets n) bytes (e ∙ chain_is) long lt room
-      ∙ ap (λ (m : ℕ). (head ++ digits 32 m) ++ (digits 32 of_line.id ++ (body_digits (Message kind) of_line.fields [] ++ spell n.children))) message_size
+      digits_four head (digits 32 of_line.id ++ (body_digits (Message kind) of_line.fields n.line.tail ++ forest_digits n.children)) (node_octets n) bytes (e ∙ chain_is) long lt room
+      ∙ ap (λ (m : ℕ). (head ++ digits 32 m) ++ (digits 32 of_line.id ++ (body_digits (Message kind) of_line.fields n.line.tail ++ forest_digits n.children))) message_size
       ∙ sym message_is in
       record {
         lawful = message_lawful held h fine;
@@ -185,7 +175,7 @@ module _ (kind : MsgKind) (n : OpenNode) (is : n.line.kind ≡ Message kind) whe
   pub header_room : (bytes : List ℕ) → digits_of_bytes bytes ≡ chain_digits (n ∷ []) → 6 ≤ length bytes
   header_room bytes e =
       let head = (digits 3 0 ++ digits 3 of_line.version) ++ digits 10 (number_of (Message kind)) in
-      let back = body_digits (Message kind) of_line.fields [] ++ spell n.children in
+      let back = body_digits (Message kind) of_line.fields n.line.tail ++ forest_digits n.children in
       let all = ap (λ (x : List Bool). length x) (e ∙ chain_is) in
       omega (
         arith,
@@ -203,10 +193,10 @@ module _ (kind : MsgKind) (n : OpenNode) (is : n.line.kind ≡ Message kind) whe
         length-digits 32 of_line.id,
       )
 
-  pub message_small : (held : Held) → IsHeld held n → node_fault n.line n.children ≡ None → held.octets ≡ node_octets n
+  pub message_small : (held : LineRecord) → IsHeld held n → node_fault n.line n.children ≡ None → held.octets ≡ node_octets n
   message_small held h fine = let l = message_lawful held h fine in omega (arith, h.octets, l.long, message_size)
 
-  pub message_bound : (held : Held) → IsHeld held n → node_fault n.line n.children ≡ None → node_octets n ≤ MAX_LIMIT
+  pub message_bound : (held : LineRecord) → IsHeld held n → node_fault n.line n.children ≡ None → node_octets n ≤ MAX_LIMIT
   message_bound held h fine = let l = message_lawful held h fine in omega (arith, l.long, message_size)
 
   no_bad : node_fault n.line n.children ≡ None → (limit : ℕ) → node_octets n ≤ limit → IsDoomed limit (n ∷ []) → ⊥
@@ -222,16 +212,16 @@ module _ (kind : MsgKind) (n : OpenNode) (is : n.line.kind ≡ Message kind) whe
 
 -- ---- the message is closed
 
-pub message_fails : (writer : Writer) (at : ℕ) (out more : List ℕ) (n : OpenNode) (e : Refused) → e.number ≡ n.number → closing writer.limit n.line (lines_onto n.children end) ≡ Some e.reason → Fails writer.limit 0 (n ∷ []) e
+pub message_fails : (writer : EncodeBuffer) (at : ℕ) (out more : List ℕ) (n : OpenNode) (e : Refused) → e.number ≡ n.number → closing writer.limit n.line (lines_onto n.children end) ≡ Some e.reason → Fails writer.limit 0 (n ∷ []) e
 message_fails writer at out more n e number refused = record { top = entry_of n; outer = []; closed = closed_none (entries (n ∷ [])); reached = omega arith; number_is = number; refused = refused }
 
-none_held : (rest : List Held) → AreHeld rest [] → rest ≡ []
+none_held : (rest : List LineRecord) → AreHeld rest [] → rest ≡ []
 none_held [] h = refl
 none_held (x ∷ rest) h = absurd h
 
-module _ (writer : Writer) (at : ℕ) (out more : List ℕ) (n : OpenNode) (h : Holds writer at out more (n ∷ [])) (top : Held) (rest : List Held) (e : inner writer.rows ≡ top ∷ rest) where
+module _ (writer : EncodeBuffer) (at : ℕ) (out more : List ℕ) (n : OpenNode) (h : Holds writer at out more (n ∷ [])) (top : LineRecord) (rest : List LineRecord) (e : inner writer.rows ≡ top ∷ rest) where
   pub alone : IsHeld top n × AreHeld rest []
-  alone = subst (λ (r : List Held). AreHeld r (n ∷ [])) e h.rows
+  alone = subst (λ (r : List LineRecord). AreHeld r (n ∷ [])) e h.rows
 
   module _ (fine : node_fault n.line n.children ≡ None) (le : top.octets ≤ writer.limit) where
     abbrev kind : MsgKind
@@ -258,7 +248,7 @@ module _ (writer : Writer) (at : ℕ) (out more : List ℕ) (n : OpenNode) (h : 
     pub room_for_four : (writer.from + 2) + 4 ≤ length writer.room.items
     room_for_four = omega (arith, long, h.from, ap (λ (x : List ℕ). length x) h.room, length-append out (h.bytes ++ more), length-append h.bytes more)
 
-    pub message_closed : (new : Writer) → new.room.items ≡ with_four (writer.from + 2) top.octets writer.room.items → new.from ≡ at → new.kept ≡ writer.kept → new.limit ≡ writer.limit → inner new.rows ≡ rest → ClosedAll writer.limit new at out more (n ∷ [])
+    pub message_closed : (new : EncodeBuffer) → new.room.items ≡ with_four (writer.from + 2) top.octets writer.room.items → new.from ≡ at → new.kept ≡ writer.kept → new.limit ≡ writer.limit → inner new.rows ≡ rest → ClosedAll writer.limit new at out more (n ∷ [])
     unfolding chain_digits
     message_closed new room from kept limit rows =
         let same : length frame ≡ length h.bytes = length-four 2 (node_octets n) h.bytes long in
@@ -283,5 +273,5 @@ module _ (writer : Writer) (at : ℕ) (out more : List ℕ) (n : OpenNode) (h : 
             kept = rw (kept, there.0) bytes-nil;
           };
           closed = all_closed kind n is writer.limit alone.0.said fine fits;
-          appended = record { bytes = frame; spelled = spells_one writer.limit (of_line kind n is) frame (record { frame = f; own = ap profile_of (sym is) ∙ alone.0.said.own }); more = refl };
+          appended = record { bytes = frame; framed = frames_one writer.limit (of_line kind n is) frame f; more = refl };
         }

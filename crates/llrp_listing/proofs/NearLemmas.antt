@@ -10,6 +10,8 @@ use Rattle.std.proofs.lemmas.List.{drop-drop, drop_more, length-take, take-appen
 use Rattle.std.proofs.Math.Seq.{take-add}
 use Rattle.std.proofs.lemmas.List.Sums.{prefix_len-le-length, prefix_len_stops}
 use Rattle.llrp_listing.specs.Calls.Splits.{IsSplit, Lacks}
+use Rattle.tag_uri.proofs.ComponentLemmas.{not_false as no_not}
+use Rattle.llrp_stream.proofs.TextLemmas.{take_take as take_taken}
 
 -- no such byte comes before the first one
 before_lacks : (byte : ℕ) (xs : List ℕ) → Lacks byte (take (prefix_len (λ x. not (x == byte)) xs) xs)
@@ -21,16 +23,6 @@ before_lacks byte (x ∷ xs) = on (x == byte) refl (before_lacks byte xs)
     on false e rest =
         let more : suc (prefix_len (λ y. not (y == byte)) xs) ≡ 1 + prefix_len (λ y. not (y == byte)) xs = omega arith in
         subst (λ (n : ℕ). Lacks byte (take n (x ∷ xs))) more (e, rest)
-
-no_not : (b : Bool) → not b ≡ false → b ≡ true
-no_not true e = refl
-no_not false e = absurd (let t : true ≡ false = e in cc)
-
-take_taken : (n m : ℕ) (xs : List ℕ) → n ≤ m → take n (take m xs) ≡ take n xs
-take_taken zero m xs le = refl
-take_taken (suc n) zero xs le = absurd (omega (arith, le))
-take_taken (suc n) (suc m) [] le = refl
-take_taken (suc n) (suc m) (x ∷ xs) le = ap (λ (z : List ℕ). x ∷ z) (take_taken n m xs (omega (arith, le)))
 
 get_taken : (i m : ℕ) (xs : List ℕ) → i < m → get_or (take m xs) i 0 ≡ get_or xs i 0
 get_taken i zero xs lt = absurd (omega (arith, lt))

@@ -27,7 +27,7 @@ use Rattle.llrp_listing.specs.NodeLine.{NodeLine}
 use Rattle.llrp_schema.specs.declared.kinds.Place.{Place}
 use Rattle.llrp_schema.specs.Calls.Places.{IsPlace}
 use Rattle.llrp_listing.proofs.GroupBits.{most_here, most_of, only_here}
-use Rattle.llrp_listing.specs.Private.OpenNodes.{IsCounted, MOST, after_misplaced, after_too_many, early_fault, early_tests, node_fault, own_fault, own_tail, own_tests, size_tests, values_of, version_fits}
+use Rattle.llrp_listing.specs.Private.OpenNodes.{IsCounted, MOST, after_misplaced, after_too_many, early_fault, early_tests, node_fault, own_fault, own_tests, size_tests, values_of, version_fits}
 use Rattle.llrp_stream.specs.Calls.Reading.{AreSeen}
 
 -- ---- all tests
@@ -213,7 +213,7 @@ module _ (line : NodeLine) (before : Forest) (kind : ParamKind) (numbers tail : 
   ranges = version_fits line.kind line.numbers && values_fit (fields_of line.kind) (values_of line.kind line.numbers)
 
   abbrev forms : Bool
-  forms = tail_fits (tail_of line.kind) (values_of line.kind line.numbers) (own_tail line.kind line.tail)
+  forms = tail_fits (tail_of line.kind) (values_of line.kind line.numbers) line.tail
 
   abbrev five_of : Bool → Bool → Option NodeFault
   five_of p m = five counts ranges forms p m

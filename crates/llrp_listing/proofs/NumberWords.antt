@@ -4,8 +4,8 @@ use Rattle.std.proofs.lemmas.List.{take_all}
 use Rattle.std.specs.Prelude.{nat_lt, ◌&&◌}
 use Rattle.std.specs.Char.{is_ascii_digit}
 use Rattle.std.specs.Str.{all_ascii_digits}
-use Rattle.llrp_listing.specs.declared.fault.Refusal.{Refusal}
-use Rattle.llrp_listing.specs.declared.fault.Refusal.TheVariants as refusal
+use Rattle.llrp_listing.specs.declared.outcome.Refusal.{Refusal}
+use Rattle.llrp_listing.specs.declared.outcome.Refusal.TheVariants as refusal
 use Rattle.llrp_listing.specs.LineChecks.{IsInForm}
 use Rattle.llrp_listing.specs.Private.LineChecks.{ReadsNumber}
 use Rattle.llrp_listing.specs.Private.LineReading.{ReadsNegative, ReadsPositive}
@@ -17,7 +17,7 @@ use Rattle.llrp_listing.proofs.DecimalWords.{digits_of, numeral_is, no_text, sam
 wide : (n k : ℕ) → k ≤ 10 ^ 20 → n < k → n < 10 ^ 20
 wide n k le lt = omega arith
 
-version_small : (n : ℕ) → IsInForm Version n → n < 10 ^ 20
+pub version_small : (n : ℕ) → IsInForm Version n → n < 10 ^ 20
 version_small n (inl e) = omega arith
 version_small n (inr e) = omega arith
 

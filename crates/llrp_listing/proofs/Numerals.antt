@@ -14,6 +14,7 @@ use Rattle.std.proofs.lemmas.Str.Parse.{tells_all_ascii_digits}
 use Rattle.tag_uri.specs.Decimal.{padded}
 use Rattle.tag_uri.proofs.DecimalLemmas.{last_part, length-padded, mod_small}
 use Rattle.llrp_listing.specs.Private.Numeral.{ReadsFront}
+use Rattle.llrp_tree.proofs.ChildLemmas.{and_not as and_false}
 
 -- ---- lists of digits
 
@@ -93,11 +94,6 @@ front_all digits rest i n r le =
     let same : take r.count digits ≡ digits = sym (append-nil (take r.count digits)) ∙ ap (λ (z : List ℕ). take r.count digits ++ z) (sym none) ∙ take-append-drop r.count digits in
     let all : all_ascii_digits digits ≡ true = ap (λ (z : List ℕ). all_ascii_digits z) (sym same) ∙ r.all in
     rw all (ap Some (r.value ∙ ap (λ (z : List ℕ). digits_value 10 z) same))
-
--- an octet that is no digit
-and_false : (b : Bool) → (b && false) ≡ false
-and_false true = refl
-and_false false = refl
 
 not_all : (t after : List ℕ) (c : ℕ) → is_ascii_digit c ≡ false → all_ascii_digits (t ++ (c ∷ after)) ≡ false
 not_all [] after c bad = rw bad refl

@@ -4,8 +4,8 @@ use Rattle.tag_epc.proofs.OneFault.{lawful_or_fault, one_word_fault}
 use Rattle.tag_uri.specs.Hexadecimal.{hexadecimal}
 use Rattle.tag_uri.proofs.HexadecimalLemmas.{one_number}
 use Rattle.tag_uri.proofs.TextLaws.{one_fault, text_or_fault, texts_same, words_apart}
-use Rattle.llrp_listing.specs.declared.fault.Verdict.{Verdict}
-use Rattle.llrp_listing.specs.declared.fault.Verdict.TheVariants.{Lawful, Faulty}
+use Rattle.llrp_listing.specs.declared.outcome.Verdict.{Verdict}
+use Rattle.llrp_listing.specs.declared.outcome.Verdict.TheVariants.{Lawful, Faulty}
 use Rattle.llrp_listing.specs.Calls.EpcLines.{AreDigitsOf, AreWordLines, IsRemark, IsTextLine, Prints, line, refusal_line, remark_line}
 
 one_word : (text : List ℕ) (v w : ℕ) → AreDigitsOf text v → AreDigitsOf text w → v ≡ w

@@ -10,10 +10,11 @@ use Rattle.llrp_stream.specs.declared.item.Item.TheVariants.{Msg, Bad}
 use Rattle.llrp_stream.specs.declared.item.End.{End}
 use Rattle.llrp_listing.specs.NodeLine.{NodeLine, NumberForm, Version, Id, Unsigned, Signed, Epc, IsNumberText, AreNumberTexts, number_forms, tail_texts, spaced, IsLine}
 use Rattle.llrp_listing.specs.MessageListing.{AreLines, message_lines}
-use Rattle.llrp_listing.specs.StreamListing.{IsItemText, AreItemTexts, IsStreamListing, end_text}
+use Rattle.llrp_listing.specs.StreamListing.{IsItemText, AreTexts, IsStreamListing, IsStreamText, end_text}
+use Rattle.llrp_listing.specs.Calls.ItemPrinter.{HasOneText}
 use Rattle.llrp_listing.specs.Copying.{IsPrefix}
 
-one_number : (f : NumberForm) (n : ℕ) (v w : List ℕ) → IsNumberText f n v → IsNumberText f n w → v ≡ w
+pub one_number : (f : NumberForm) (n : ℕ) (v w : List ℕ) → IsNumberText f n v → IsNumberText f n w → v ≡ w
 one_number Version n v w p q = p ∙ sym q
 one_number Id n v w p q = p ∙ sym q
 one_number Unsigned n v w p q = p ∙ sym q
@@ -61,13 +62,6 @@ pub one_text_of_item : (item : Item) (s t : List ℕ) → IsItemText item s → 
 one_text_of_item (Msg message) s t p q = one_text_of_lines (message_lines message) s t p q
 one_text_of_item (Bad id fault) s t p q = p ∙ sym q
 
-pub one_text_of_items : (items : List Item) (s t : List ℕ) → AreItemTexts items s → AreItemTexts items t → s ≡ t
-one_text_of_items items s t p q = p.text_is ∙ ap in_row (one_each IsItemText one_text_of_item items p.texts q.texts p.each q.each) ∙ sym q.text_is
-
--- a listing's items and end have one text
-pub one_stream_listing : (items : List Item) (end : End) (s t : List ℕ) → IsStreamListing items end s → IsStreamListing items end t → s ≡ t
-one_stream_listing items end s t p q = p.text_is ∙ ap (λ (x : List ℕ). x ++ end_text end) (one_text_of_items items p.front q.front p.lines q.lines) ∙ sym q.text_is
-
 -- ---- texts of items that are followed by others
 
 record Parts (X : Type 0) (R : X → List ℕ → Type 0) (xs ys : List X) (texts : List (List ℕ)) : Type 0 where
@@ -83,12 +77,24 @@ parts R (x ∷ xs) ys (t ∷ texts) p =
     let more = parts R xs ys texts p.1 in
     record { first = t ∷ more.first; later = more.later; are = ap (λ (z : List (List ℕ)). t ∷ z) more.are; each = (p.0, more.each) }
 
--- the text of the first items begins the listing
-pub begins_listing : (items later : List Item) (end : End) (text whole : List ℕ) → AreItemTexts items text → IsStreamListing (items ++ later) end whole → IsPrefix text whole
-begins_listing items later end text whole p q =
-    let cut = parts IsItemText items later q.lines.texts q.lines.each in
-    let front = in_row cut.first in
-    let back = in_row cut.later in
-    let same : text ≡ front = one_text_of_items items text front p (record { texts = cut.first; each = cut.each; text_is = refl }) in
-    let joined : q.front ≡ front ++ back = q.lines.text_is ∙ ap in_row cut.are ∙ flat_map-append (λ text. text) cut.first cut.later in
-    (back ++ end_text end, q.text_is ∙ ap (λ (x : List ℕ). x ++ end_text end) joined ∙ append_assoc front back (end_text end) ∙ ap (λ (x : List ℕ). x ++ (back ++ end_text end)) (sym same))
+module _ (IsText : Item → List ℕ → Type 0) (one : HasOneText IsText) where
+  one_text_of : (items : List Item) (s t : List ℕ) → AreTexts IsText items s → AreTexts IsText items t → s ≡ t
+  one_text_of items s t p q = p.text_is ∙ ap in_row (one_each IsText one items p.texts q.texts p.each q.each) ∙ sym q.text_is
+
+  -- items and an end have one text
+  pub one_stream_text : (text_of_end : End → List ℕ) (items : List Item) (end : End) (s t : List ℕ) → IsStreamText IsText text_of_end items end s → IsStreamText IsText text_of_end items end t → s ≡ t
+  one_stream_text text_of_end items end s t p q = p.text_is ∙ ap (λ (x : List ℕ). x ++ text_of_end end) (one_text_of items p.front q.front p.lines q.lines) ∙ sym q.text_is
+
+  -- the text of the first items begins that of all
+  pub begins_text : (text_of_end : End → List ℕ) (items later : List Item) (end : End) (text whole : List ℕ) → AreTexts IsText items text → IsStreamText IsText text_of_end (items ++ later) end whole → IsPrefix text whole
+  begins_text text_of_end items later end text whole p q =
+      let cut = parts IsText items later q.lines.texts q.lines.each in
+      let front = in_row cut.first in
+      let back = in_row cut.later in
+      let same : text ≡ front = one_text_of items text front p (record { texts = cut.first; each = cut.each; text_is = refl }) in
+      let joined : q.front ≡ front ++ back = q.lines.text_is ∙ ap in_row cut.are ∙ flat_map-append (λ text. text) cut.first cut.later in
+      (back ++ text_of_end end, q.text_is ∙ ap (λ (x : List ℕ). x ++ text_of_end end) joined ∙ append_assoc front back (text_of_end end) ∙ ap (λ (x : List ℕ). x ++ (back ++ text_of_end end)) (sym same))
+
+-- a listing's items and end have one text
+pub one_stream_listing : (items : List Item) (end : End) (s t : List ℕ) → IsStreamListing items end s → IsStreamListing items end t → s ≡ t
+one_stream_listing items end s t p q = one_stream_text IsItemText one_text_of_item end_text items end s t p q

@@ -9,23 +9,24 @@ use Rattle.llrp_schema.specs.declared.kinds.Kind.{Kind}
 use Rattle.llrp_schema.specs.declared.kinds.Kind.TheVariants.{Message, Parameter}
 use Rattle.llrp_schema.specs.declared.kinds.Tail.{Tail}
 use Rattle.llrp_schema.specs.declared.kinds.Tail.TheVariants.{Absent, Words, Text, Bits, Data}
-use Rattle.llrp_schema.specs.Schema.{FieldRule, fields_of, tail_of, name_of}
+use Rattle.llrp_schema.specs.Schema.{FieldRule, fields_of, name_of}
 use Rattle.llrp_tree.specs.Tree.{Forest, none, MessageTree}
 use Rattle.llrp_tree.specs.Lawful.{AreInRange, AreOctets}
 use Rattle.llrp_tree.proofs.OctetLemmas.{octets-append}
 use Rattle.llrp_tree.specs.Spelling.{Head, message, tlv, tv}
-use Rattle.llrp_tree.specs.OpenTree.{Begun, kind_of, plain_values, rules, form, due, Rest, tail_due, has_tail, AreLeading, IsReadTail, IsHead, IsOpenTree}
+use Rattle.llrp_tree.specs.OpenTree.{Begun, kind_of_head, plain_values, rules, form, due, Rest, tail_due, AreLeading, IsReadTail, IsHead, IsOpenTree}
 use Rattle.llrp_tree.specs.Calls.Standing.{leading}
-use Rattle.llrp_schema.proofs.TableLaws.{message_tail}
 use Rattle.llrp_tree.proofs.Leading.{plain_in_range}
 use Rattle.llrp_tree.proofs.WholeNodes.{no_field_due}
 use Rattle.llrp_listing.specs.NodeLine.{NodeLine, NumberForm, number_forms, field_form, IsNumberText, AreNumberTexts, tail_texts, spaced, IsLine, message_line, parameter_line}
 use Rattle.llrp_listing.specs.MessageListing.{AreLines, parameter_lines, message_lines}
 use Rattle.llrp_listing.specs.Private.Printing.{AppendsLines}
 use Rattle.llrp_listing.proofs.PrintingLemmas.{lines_append}
-use Rattle.llrp_stream.specs.Calls.Told.{with_field, with_child, with_closed, with_value, with_octets, IsNextField, IsNextValue, IsBeforeTail, IsInTail, AreWhole, IsReady, IsMessageOf}
+use Rattle.llrp_stream.specs.Calls.Received.{with_field, with_child, with_closed, with_value, with_octets, IsNextField, IsNextValue, IsBeforeTail, IsInTail, AreWhole, IsReady, IsMessageOf}
 use Rattle.llrp_listing.specs.Private.Tails.{AreTold, MoreTail}
 use Rattle.llrp_listing.specs.Private.OpenListing.{AreFirstTexts, first_numbers, numbers_of, read_texts, IsBegunLine, Opened, Begins}
+use Rattle.llrp_tree.proofs.BodyLemmas.{head_of_tree as head_of_open}
+use Rattle.llrp_stream.proofs.BuildingLemmas.{more_plain, same_plain, none_dropped}
 
 -- ---- a text that grew
 
@@ -56,7 +57,7 @@ message_begins v k n id stop old text o e = (
   e ∙ ap (λ (x : List ℕ). x ++ ((decimal 0 ++ spaced (name_of (Message k) ∷ [])) ++ ((32 ∷ decimal v) ++ (32 ∷ decimal id)))) o,
 )
 
-no_numbers : (h : Head) (k : ParamKind) → kind_of h ≡ Parameter k → first_numbers h [] ≡ []
+no_numbers : (h : Head) (k : ParamKind) → kind_of_head h ≡ Parameter k → first_numbers h [] ≡ []
 no_numbers (message v m n id) k e = absurd cc
 no_numbers (tlv j n) k e = refl
 no_numbers (tv j) k e = refl
@@ -64,14 +65,14 @@ no_numbers (tv j) k e = refl
 no_texts : (forms : List NumberForm) (ns : List ℕ) → ns ≡ [] → AreFirstTexts forms ns []
 no_texts forms ns e = subst (λ (x : List ℕ). AreFirstTexts forms x []) (sym e) tt
 
-pub parameter_begins : (h : Head) (k : ParamKind) (stop level : ℕ) (t : List Begun) (old text : List ℕ) → Opened t old → length t ≡ level → kind_of h ≡ Parameter k → text ≡ old ++ (decimal level ++ spaced (name_of (Parameter k) ∷ []))
+pub parameter_begins : (h : Head) (k : ParamKind) (stop level : ℕ) (t : List Begun) (old text : List ℕ) → Opened t old → length t ≡ level → kind_of_head h ≡ Parameter k → text ≡ old ++ (decimal level ++ spaced (name_of (Parameter k) ∷ []))
     → Begins (leading h stop [] ∷ t) text
 parameter_begins h k stop level t old text o l e is =
     let line : List ℕ = decimal level ++ spaced (name_of (Parameter k) ∷ []) in (
       old,
       line,
       o,
-      record { words = []; are = no_texts (number_forms (kind_of h)) (first_numbers h []) (no_numbers h k e); text_is = ap (λ (m : ℕ). decimal m ++ spaced (name_of (Parameter k) ∷ [])) (sym l) ∙ ap (λ (j : Kind). decimal (length t) ++ spaced (name_of j ∷ [])) (sym e) ∙ sym (append-nil (decimal (length t) ++ spaced (name_of (kind_of h) ∷ []))); told = tt },
+      record { words = []; are = no_texts (number_forms (kind_of_head h)) (first_numbers h []) (no_numbers h k e); text_is = ap (λ (m : ℕ). decimal m ++ spaced (name_of (Parameter k) ∷ [])) (sym l) ∙ ap (λ (j : Kind). decimal (length t) ++ spaced (name_of j ∷ [])) (sym e) ∙ sym (append-nil (decimal (length t) ++ spaced (name_of (kind_of_head h) ∷ []))); told = tt },
       refl,
       is,
     )
@@ -80,24 +81,6 @@ parameter_begins h k stop level t old text o l e is =
 
 abbrev pub plain : List FieldRule → List FieldRule
 plain rules = filter (λ field. not field.reserved) rules
-
-none_dropped : (vs : List ℕ) (r : FieldRule) (others : List FieldRule) → drop (length vs) [] ≡ r ∷ others → ⊥
-none_dropped [] r others e = cc
-none_dropped (v ∷ vs) r others e = cc
-
-same_plain : (rs : List FieldRule) (vs : List ℕ) (v : ℕ) (r : FieldRule) (others : List FieldRule) → drop (length vs) rs ≡ r ∷ others → r.reserved ≡ true → plain_values rs (vs ++ v ∷ []) ≡ plain_values rs vs
-same_plain [] vs v r others e f = absurd (none_dropped vs r others e)
-same_plain (s ∷ rs) [] v r others e f = (let same : s ≡ r = cc in let g : s.reserved ≡ true = ap (λ (x : FieldRule). x.reserved) same ∙ f in rw g refl)
-same_plain (s ∷ rs) (u ∷ vs) v r others e f =
-    let rest = same_plain rs vs v r others e f in
-    elim s.reserved as (λ b. (if b then plain_values rs (vs ++ v ∷ []) else u ∷ plain_values rs (vs ++ v ∷ [])) ≡ (if b then plain_values rs vs else u ∷ plain_values rs vs)) [ true ↦ rest | false ↦ ap (λ (x : List ℕ). u ∷ x) rest ]
-
-more_plain : (rs : List FieldRule) (vs : List ℕ) (v : ℕ) (r : FieldRule) (others : List FieldRule) → drop (length vs) rs ≡ r ∷ others → r.reserved ≡ false → plain_values rs (vs ++ v ∷ []) ≡ plain_values rs vs ++ v ∷ []
-more_plain [] vs v r others e f = absurd (none_dropped vs r others e)
-more_plain (s ∷ rs) [] v r others e f = (let same : s ≡ r = cc in let g : s.reserved ≡ false = ap (λ (x : FieldRule). x.reserved) same ∙ f in rw g refl)
-more_plain (s ∷ rs) (u ∷ vs) v r others e f =
-    let rest = more_plain rs vs v r others e f in
-    elim s.reserved as (λ b. (if b then plain_values rs (vs ++ v ∷ []) else u ∷ plain_values rs (vs ++ v ∷ [])) ≡ (if b then plain_values rs vs else u ∷ plain_values rs vs) ++ v ∷ []) [ true ↦ rest | false ↦ ap (λ (x : List ℕ). u ∷ x) rest ]
 
 -- the form of the next number
 next_form : (rs : List FieldRule) (vs : List ℕ) (r : FieldRule) (others : List FieldRule) → drop (length vs) rs ≡ r ∷ others → r.reserved ≡ false
@@ -121,7 +104,7 @@ numbers_more (message version k n id) ps v = refl
 numbers_more (tlv k n) ps v = refl
 numbers_more (tv k) ps v = refl
 
-forms_from : (h : Head) (ps : List ℕ) (f : NumberForm) (fs : List NumberForm) → drop (length ps) (map field_form (plain (fields_of (kind_of h)))) ≡ f ∷ fs → drop (length (first_numbers h ps)) (number_forms (kind_of h)) ≡ f ∷ fs
+forms_from : (h : Head) (ps : List ℕ) (f : NumberForm) (fs : List NumberForm) → drop (length ps) (map field_form (plain (fields_of (kind_of_head h)))) ≡ f ∷ fs → drop (length (first_numbers h ps)) (number_forms (kind_of_head h)) ≡ f ∷ fs
 unfolding number_forms
 forms_from (message version k n id) ps f fs e = e
 forms_from (tlv k n) ps f fs e = e
@@ -136,17 +119,17 @@ field_begins b outer rule v word old text o nx f t e =
     let same : nx.node ≡ b = (let z = nx.tree_is in cc) in
     let next : drop (length b.fields) (rules b) ≡ rule ∷ nx.others = ap (λ (x : Begun). drop (length x.fields) (rules x)) (sym same) ∙ nx.next in
     let bare : b.tail ≡ None = ap (λ (x : Begun). x.tail) (sym same) ∙ nx.untailed in
-    let start : List ℕ = decimal (length outer) ++ spaced (name_of (kind_of b.head) ∷ []) in
+    let start : List ℕ = decimal (length outer) ++ spaced (name_of (kind_of_head b.head) ∷ []) in
     let forms = forms_from b.head (plain_values (rules b) b.fields) (field_form rule) (map field_form (plain nx.others)) (next_form (rules b) b.fields rule nx.others next f) in
     let l = o.3 in
-    let are = one_text_more (number_forms (kind_of b.head)) (numbers_of b) l.words (field_form rule) (map field_form (plain nx.others)) v word forms l.are t in
+    let are = one_text_more (number_forms (kind_of_head b.head)) (numbers_of b) l.words (field_form rule) (map field_form (plain nx.others)) v word forms l.are t in
     let nums : first_numbers b.head (plain_values (rules b) b.fields) ++ v ∷ [] ≡ first_numbers b.head (plain_values (rules b) (b.fields ++ v ∷ [])) = sym (numbers_more b.head (plain_values (rules b) b.fields) v) ∙ ap (λ (x : List ℕ). first_numbers b.head x) (sym (more_plain (rules b) b.fields v rule nx.others next f)) in (
       o.0,
       o.1 ++ (32 ∷ word),
       o.2,
       record {
         words = l.words ++ word ∷ [];
-        are = subst (λ (x : List ℕ). AreFirstTexts (number_forms (kind_of b.head)) x (l.words ++ word ∷ [])) nums are;
+        are = subst (λ (x : List ℕ). AreFirstTexts (number_forms (kind_of_head b.head)) x (l.words ++ word ∷ [])) nums are;
         text_is = ap (λ (x : List ℕ). x ++ (32 ∷ word)) (l.text_is ∙ ap (λ (x : Option (List ℕ)). start ++ (spaced l.words ++ spaced (read_texts (form b) x))) bare) ∙ more_words start l.words word
             ∙ ap (λ (x : Option (List ℕ)). start ++ (spaced (l.words ++ word ∷ []) ++ spaced (read_texts (form b) x))) (sym bare);
         told = l.told;
@@ -161,7 +144,7 @@ reserved_begins b outer rule v old o nx f =
     let next : drop (length b.fields) (rules b) ≡ rule ∷ nx.others = ap (λ (x : Begun). drop (length x.fields) (rules x)) (sym same) ∙ nx.next in
     let l = o.3 in
     let nums : first_numbers b.head (plain_values (rules b) b.fields) ≡ first_numbers b.head (plain_values (rules b) (b.fields ++ v ∷ [])) = ap (λ (x : List ℕ). first_numbers b.head x) (sym (same_plain (rules b) b.fields v rule nx.others next f)) in
-    (o.0, o.1, o.2, record { words = l.words; are = subst (λ (x : List ℕ). AreFirstTexts (number_forms (kind_of b.head)) x l.words) nums l.are; text_is = l.text_is; told = l.told }, o.4, o.5)
+    (o.0, o.1, o.2, record { words = l.words; are = subst (λ (x : List ℕ). AreFirstTexts (number_forms (kind_of_head b.head)) x l.words) nums l.are; text_is = l.text_is; told = l.told }, o.4, o.5)
 
 -- ---- a line that ends
 
@@ -190,7 +173,7 @@ complete (f ∷ fs) [] ws a l = absurd (omega (arith, l))
 complete (f ∷ fs) (n ∷ ns) [] a l = absurd a
 complete (f ∷ fs) (n ∷ ns) (w ∷ ws) a l = (a.0, complete fs ns ws a.1 (omega (arith, l)))
 
-in_range_length : (rs : List FieldRule) (vs : List ℕ) → AreInRange rs vs → length vs ≡ length rs
+pub in_range_length : (rs : List FieldRule) (vs : List ℕ) → AreInRange rs vs → length vs ≡ length rs
 in_range_length [] [] a = refl
 in_range_length [] (v ∷ vs) a = absurd a
 in_range_length (r ∷ rs) [] a = absurd a
@@ -213,11 +196,11 @@ line_whole level name words tails =
     ∙ rearranged (decimal level) (32 ∷ name) (spaced words) (spaced tails)
     ∙ ap (λ (x : List ℕ). decimal level ++ (((32 ∷ name) ++ x) ++ (10 ∷ []))) (sym (spaced_append words tails))
 
-fields_in : (b : Begun) (outer : List Begun) → IsOpenTree (b ∷ outer) → AreLeading (rules b) b.fields
+pub fields_in : (b : Begun) (outer : List Begun) → IsOpenTree (b ∷ outer) → AreLeading (rules b) b.fields
 unfolding IsOpenTree
 fields_in b outer s = s.0.fields
 
-all_due : (b : Begun) → due b ≡ Rest → (drop (length b.fields) (rules b) ≡ []) × (tail_due (form b) b.tail ≡ Rest)
+pub all_due : (b : Begun) → due b ≡ Rest → (drop (length b.fields) (rules b) ≡ []) × (tail_due (form b) b.tail ≡ Rest)
 unfolding due
 all_due b d = no_field_due (drop (length b.fields) (rules b)) (tail_due (form b) b.tail) d
 
@@ -225,7 +208,7 @@ length-map_forms : (rs : List FieldRule) → length (map field_form rs) ≡ leng
 length-map_forms [] = refl
 length-map_forms (r ∷ rs) = ap suc (length-map_forms rs)
 
-all_numbers : (h : Head) (ps : List ℕ) → length ps ≡ length (plain (fields_of (kind_of h))) → length (first_numbers h ps) ≡ length (number_forms (kind_of h))
+all_numbers : (h : Head) (ps : List ℕ) → length ps ≡ length (plain (fields_of (kind_of_head h))) → length (first_numbers h ps) ≡ length (number_forms (kind_of_head h))
 unfolding number_forms
 all_numbers (message v k n id) ps l = let a = length-map_forms (plain (fields_of (Message k))) in omega (arith, l)
 all_numbers (tlv k n) ps l = l ∙ sym (length-map_forms (plain (fields_of (Parameter k))))
@@ -233,15 +216,15 @@ all_numbers (tv k) ps l = l ∙ sym (length-map_forms (plain (fields_of (Paramet
 
 -- a line of which all is read
 pub whole_line : (level : ℕ) (b : Begun) (outer : List Begun) (line : List ℕ) → IsBegunLine level b line → IsOpenTree (b ∷ outer) → due b ≡ Rest
-    → IsLine (level, record { kind = kind_of b.head; numbers = numbers_of b; tail = unwrap_or b.tail [] }) (line ++ 10 ∷ [])
+    → IsLine (level, record { kind = kind_of_head b.head; numbers = numbers_of b; tail = unwrap_or b.tail [] }) (line ++ 10 ∷ [])
 whole_line level b outer line l o d =
     let r = all_due b d in
     let len = in_range_length (plain (rules b)) (plain_values (rules b) b.fields) (plain_in_range (rules b) b.fields (fields_in b outer o) r.0) in
     record {
       numbers = l.words;
-      are = complete (number_forms (kind_of b.head)) (numbers_of b) l.words l.are (all_numbers b.head (plain_values (rules b) b.fields) len);
-      text_is = ap (λ (x : List ℕ). x ++ 10 ∷ []) (l.text_is ∙ ap (λ (x : List (List ℕ)). (decimal level ++ spaced (name_of (kind_of b.head) ∷ [])) ++ (spaced l.words ++ spaced x)) (whole_texts (form b) b.tail r.1))
-          ∙ line_whole level (name_of (kind_of b.head)) l.words (tail_texts (form b) (unwrap_or b.tail []));
+      are = complete (number_forms (kind_of_head b.head)) (numbers_of b) l.words l.are (all_numbers b.head (plain_values (rules b) b.fields) len);
+      text_is = ap (λ (x : List ℕ). x ++ 10 ∷ []) (l.text_is ∙ ap (λ (x : List (List ℕ)). (decimal level ++ spaced (name_of (kind_of_head b.head) ∷ [])) ++ (spaced l.words ++ spaced x)) (whole_texts (form b) b.tail r.1))
+          ∙ line_whole level (name_of (kind_of_head b.head)) l.words (tail_texts (form b) (unwrap_or b.tail []));
     }
 
 one_line : (x : ℕ × NodeLine) (text : List ℕ) → IsLine x text → AreLines (x ∷ []) text
@@ -249,7 +232,7 @@ one_line x text l = record { texts = text ∷ []; each = (l, tt); text_is = sym 
 
 -- the lines of a child that is closed come last
 child_at : (h : Head) (stop : ℕ) (p : Begun) (outer : List Begun) → IsHead h stop (p ∷ outer) → (level : ℕ) (before : Forest) (vs : List ℕ) (tail : Option (List ℕ)) (cs : Forest) (line above below : List ℕ)
-    → IsLine (level, record { kind = kind_of h; numbers = first_numbers h (plain_values (fields_of (kind_of h)) vs); tail = unwrap_or tail [] }) line
+    → IsLine (level, record { kind = kind_of_head h; numbers = first_numbers h (plain_values (fields_of (kind_of_head h)) vs); tail = unwrap_or tail [] }) line
     → AreLines (parameter_lines level before) above → AreLines (parameter_lines (level + 1) cs) below → AreLines (parameter_lines level (with_child before h vs tail cs)) (above ++ (line ++ below))
 child_at (message version k n id) stop p outer i level before vs tail cs line above below l ab be = absurd i
 child_at (tlv k n) stop p outer i level before vs tail cs line above below l ab be =
@@ -260,10 +243,6 @@ child_at (tv k) stop p outer i level before vs tail cs line above below l ab be 
     let be2 : AreLines (parameter_lines (suc level) cs) below = subst (λ (m : ℕ). AreLines (parameter_lines m cs) below) (let z : level + 1 ≡ suc level = omega arith in z) be in
     lines_append (parameter_lines level before) ((level, parameter_line k (plain_values (fields_of (Parameter k)) vs) (unwrap_or tail [])) ∷ parameter_lines (suc level) cs) above (line ++ below) ab
     (lines_append ((level, parameter_line k (plain_values (fields_of (Parameter k)) vs) (unwrap_or tail [])) ∷ []) (parameter_lines (suc level) cs) line below (one_line (level, parameter_line k (plain_values (fields_of (Parameter k)) vs) (unwrap_or tail [])) line l) be2)
-
-head_of_open : (b : Begun) (outer : List Begun) → IsOpenTree (b ∷ outer) → IsHead b.head b.stop outer
-unfolding IsOpenTree
-head_of_open b outer s = s.0.head
 
 closed_text : (above pline pbelow bline bbelow text inner : List ℕ) → inner ≡ above ++ ((pline ++ 10 ∷ []) ++ pbelow) → text ≡ inner ++ ((bline ++ 10 ∷ []) ++ bbelow)
     → text ≡ above ++ ((pline ++ 10 ∷ []) ++ (pbelow ++ ((bline ++ 10 ∷ []) ++ bbelow)))
@@ -282,7 +261,7 @@ closed_opened (b ∷ p ∷ outer) text o r =
     let l = whole_line (length (p ∷ outer)) b (p ∷ outer) o.1 o.4 r.is_open d in
     let i = head_of_open b (p ∷ outer) r.is_open in
     let lv : length (p ∷ outer) ≡ length outer + 1 = omega arith in
-    let l2 = subst (λ (n : ℕ). IsLine (n, record { kind = kind_of b.head; numbers = numbers_of b; tail = unwrap_or b.tail [] }) (o.1 ++ 10 ∷ [])) lv l in
+    let l2 = subst (λ (n : ℕ). IsLine (n, record { kind = kind_of_head b.head; numbers = numbers_of b; tail = unwrap_or b.tail [] }) (o.1 ++ 10 ∷ [])) lv l in
     let be = subst (λ (n : ℕ). AreLines (parameter_lines (n + 1) b.children) o.2) lv o.5 in (
       u.0,
       u.1,
@@ -293,33 +272,26 @@ closed_opened (b ∷ p ∷ outer) text o r =
       closed_text u.0 u.1 u.2 o.1 o.2 text o.0 u.6 o.6,
     )
 
-message_at : (h : Head) (vs : List ℕ) (tail : Option (List ℕ)) (cs : Forest) (m : MessageTree) (line below : List ℕ) → IsMessageOf h vs cs m → IsLine (0, record { kind = kind_of h; numbers = first_numbers h (plain_values (fields_of (kind_of h)) vs); tail = [] }) line
+message_at : (h : Head) (vs : List ℕ) (tail : Option (List ℕ)) (cs : Forest) (m : MessageTree) (line below : List ℕ) → IsMessageOf h vs tail cs m → IsLine (0, record { kind = kind_of_head h; numbers = first_numbers h (plain_values (fields_of (kind_of_head h)) vs); tail = unwrap_or tail [] }) line
     → AreLines (parameter_lines 1 cs) below → AreLines (message_lines m) (line ++ below)
 message_at (message version k n id) vs tail cs m line below e l be =
     subst (λ (x : MessageTree). AreLines (message_lines x) (line ++ below)) (sym e)
-    (lines_append ((0, message_line (record { version = version; id = id; kind = k; fields = plain_values (fields_of (Message k)) vs; children = cs })) ∷ []) (parameter_lines 1 cs) line below
-    (one_line (0, message_line (record { version = version; id = id; kind = k; fields = plain_values (fields_of (Message k)) vs; children = cs })) line l) be)
+    (lines_append ((0, message_line (record { version = version; id = id; kind = k; fields = plain_values (fields_of (Message k)) vs; tail = unwrap_or tail []; children = cs })) ∷ []) (parameter_lines 1 cs) line below
+    (one_line (0, message_line (record { version = version; id = id; kind = k; fields = plain_values (fields_of (Message k)) vs; tail = unwrap_or tail []; children = cs })) line l) be)
 message_at (tlv k n) vs tail cs m line below e l be = absurd e
 message_at (tv k) vs tail cs m line below e l be = absurd e
 
-no_message_tail : (h : Head) (vs : List ℕ) (cs : Forest) (m : MessageTree) (tail : Option (List ℕ)) → IsMessageOf h vs cs m → IsReadTail (tail_of (kind_of h)) (plain_values (fields_of (kind_of h)) vs) tail → unwrap_or tail [] ≡ []
-no_message_tail (message v k n id) vs cs m None e t = refl
-no_message_tail (message v k n id) vs cs m (Some os) e t = absurd (let z : has_tail Absent ≡ true = ap has_tail (sym (message_tail k)) ∙ t.0 in cc)
-no_message_tail (tlv k n) vs cs m tail e t = absurd e
-no_message_tail (tv k) vs cs m tail e t = absurd e
-
-read_tail_in : (b : Begun) (outer : List Begun) → IsOpenTree (b ∷ outer) → IsReadTail (form b) (plain_values (rules b) b.fields) b.tail
+pub read_tail_in : (b : Begun) (outer : List Begun) → IsOpenTree (b ∷ outer) → IsReadTail (form b) (plain_values (rules b) b.fields) b.tail
 unfolding IsOpenTree
 read_tail_in b outer s = s.0.tail
 
 -- a message that is whole
-pub ended_lines : (b : Begun) (m : MessageTree) (text : List ℕ) → Opened (b ∷ []) text → IsReady (b ∷ []) → IsMessageOf b.head b.fields b.children m → AreLines (message_lines m) text
+pub ended_lines : (b : Begun) (m : MessageTree) (text : List ℕ) → Opened (b ∷ []) text → IsReady (b ∷ []) → IsMessageOf b.head b.fields b.tail b.children m → AreLines (message_lines m) text
 ended_lines b m text o r e =
     let same : r.node ≡ b = (let z = r.tree_is in cc) in
     let d : due b ≡ Rest = ap due (sym same) ∙ r.ready in
     let l = whole_line 0 b [] o.1 o.4 r.is_open d in
-    let l2 = subst (λ (x : List ℕ). IsLine (0, record { kind = kind_of b.head; numbers = numbers_of b; tail = x }) (o.1 ++ 10 ∷ [])) (no_message_tail b.head b.fields b.children m b.tail e (read_tail_in b [] r.is_open)) l in
-    let a = message_at b.head b.fields b.tail b.children m (o.1 ++ 10 ∷ []) o.2 e l2 o.5 in
+    let a = message_at b.head b.fields b.tail b.children m (o.1 ++ 10 ∷ []) o.2 e l o.5 in
     subst (λ (x : List ℕ). AreLines (message_lines m) x) (sym (o.6 ∙ ap (λ (x : List ℕ). x ++ ((o.1 ++ 10 ∷ []) ++ o.2)) o.3)) a
 
 pub field_of : (t : List Begun) (rule : FieldRule) (v : ℕ) (word old text : List ℕ) → Begins t old → IsNextField t rule → rule.reserved ≡ false → IsNumberText (field_form rule) v word → text ≡ old ++ (32 ∷ word) → Begins (with_field v t) text
@@ -330,7 +302,7 @@ pub reserved_of : (t : List Begun) (rule : FieldRule) (v : ℕ) (old : List ℕ)
 reserved_of [] rule v old o nx f = absurd o
 reserved_of (b ∷ outer) rule v old o nx f = reserved_begins b outer rule v old o nx f
 
-nothing_after : (text : List ℕ) (n : ℕ) → n ≡ length text → drop n text ≡ []
+pub nothing_after : (text : List ℕ) (n : ℕ) → n ≡ length text → drop n text ≡ []
 nothing_after text n e = drop_all n text (omega arith)
 
 -- the text of a message that is whole was appended, and nothing follows
@@ -339,7 +311,7 @@ pub appended : (mark new : ℕ) (text was : List ℕ) (b : Begun) (m : MessageTr
 appended mark new text was b m e le w a =
     (text, omega arith, take_all new text (omega arith), nothing_after text new e, (drop mark text, sym (take-append-drop mark text) ∙ ap (λ (x : List ℕ). x ++ drop mark text) w, a))
 
-taken_back : (mark : ℕ) (text cut was : List ℕ) → cut ≡ take mark text → mark ≤ length text → take mark text ≡ was → (mark ≤ length cut) × (take mark cut ≡ was) × Opened [] (drop mark cut)
+pub taken_back : (mark : ℕ) (text cut was : List ℕ) → cut ≡ take mark text → mark ≤ length text → take mark text ≡ was → (mark ≤ length cut) × (take mark cut ≡ was) × Opened [] (drop mark cut)
 taken_back mark text cut was e le w =
     let l : length cut ≡ mark = ap (λ (x : List ℕ). length x) e ∙ length-take-le mark text le in
     (omega arith, take_all mark cut (omega arith) ∙ e ∙ w, drop_all mark cut (omega arith))
@@ -409,7 +381,7 @@ tail_begins (b ∷ outer) f old text o nx e =
     let same : nx.node ≡ b = (let z = nx.tree_is in cc) in
     let bare : b.tail ≡ None = ap (λ (x : Begun). x.tail) (sym same) ∙ nx.untailed in
     let formed : form b ≡ f = ap form (sym same) ∙ nx.form_is in
-    let start : List ℕ = decimal (length outer) ++ spaced (name_of (kind_of b.head) ∷ []) in
+    let start : List ℕ = decimal (length outer) ++ spaced (name_of (kind_of_head b.head) ∷ []) in
     let s : List ℕ = spaced (tail_texts f []) in
     let l = o.3 in (
       o.0,
@@ -438,7 +410,7 @@ octets_begin mark (b ∷ outer) f octets old text le o nx os whole m =
     let same : nx.node ≡ b = (let z = nx.tree_is in cc) in
     let tailed : b.tail ≡ Some nx.so_far = ap (λ (x : Begun). x.tail) (sym same) ∙ nx.tail_is in
     let formed : form b ≡ f = ap form (sym same) ∙ nx.form_is in
-    let start : List ℕ = decimal (length outer) ++ spaced (name_of (kind_of b.head) ∷ []) in
+    let start : List ℕ = decimal (length outer) ++ spaced (name_of (kind_of_head b.head) ∷ []) in
     let l = o.3 in
     let told : AreTold f nx.so_far = told_before (form b) f b.tail nx.so_far tailed formed l.told in
     let w : List ℕ = spaced l.words in

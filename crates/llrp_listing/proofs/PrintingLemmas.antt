@@ -10,7 +10,7 @@ use Rattle.llrp_listing.specs.NodeLine.{NodeLine, IsLine}
 use Rattle.llrp_listing.specs.MessageListing.{AreLines}
 use Rattle.llrp_listing.proofs.Zips.{zip_append}
 
-encode_more : (t xs ys : List ℕ) → encode_with t (xs ++ ys) ≡ encode_with t xs ++ encode_with t ys
+pub encode_more : (t xs ys : List ℕ) → encode_with t (xs ++ ys) ≡ encode_with t xs ++ encode_with t ys
 unfolding encode_with
 encode_more t [] ys = refl
 encode_more t (x ∷ xs) ys = rw (encode_more t xs ys) refl
@@ -36,7 +36,7 @@ other_words octets = flat_map (λ word. 44 ∷ word) (map decimal (words_of octe
 abbrev all_words : List ℕ → List ℕ
 all_words octets = join_with_byte 44 (map decimal (words_of octets))
 
-join_first : (x : List ℕ) (xs : List (List ℕ)) → join_with_byte 44 (x ∷ xs) ≡ x ++ flat_map (λ word. 44 ∷ word) xs
+pub join_first : (x : List ℕ) (xs : List (List ℕ)) → join_with_byte 44 (x ∷ xs) ≡ x ++ flat_map (λ word. 44 ∷ word) xs
 join_first x [] = sym (append-nil x)
 join_first x (y ∷ ys) = ap (λ (z : List ℕ). x ++ (44 ∷ z)) (join_first y ys)
 

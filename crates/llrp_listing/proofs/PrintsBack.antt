@@ -5,11 +5,12 @@ use Rattle.std.proofs.lemmas.List.{append-nil}
 use Rattle.std.proofs.lemmas.List.Concat.{flat_map-append}
 use Rattle.tag_bits.specs.Digits.{digits}
 use Rattle.llrp_schema.specs.declared.kinds.Kind.TheVariants.{Message}
+use Rattle.llrp_schema.specs.declared.kinds.Profile.{Profile}
 use Rattle.llrp_schema.specs.Schema.{number_of}
 use Rattle.llrp_tree.specs.declared.TheConstants.{MAX_LIMIT}
 use Rattle.llrp_tree.specs.Tree.{MessageTree}
 use Rattle.llrp_tree.specs.Lawful.{message_octets}
-use Rattle.llrp_tree.specs.Spelling.{body_digits, spell, message_digits}
+use Rattle.llrp_tree.specs.Spelling.{body_digits, forest_digits, message_digits}
 use Rattle.llrp_tree.specs.Frame.{Frame}
 use Rattle.llrp_tree.specs.FirstFault.{number}
 use Rattle.llrp_tree.proofs.Frames.{header_spread}
@@ -20,12 +21,12 @@ use Rattle.llrp_stream.specs.declared.item.Item.TheVariants.{Msg}
 use Rattle.llrp_stream.specs.declared.item.End.{End}
 use Rattle.llrp_stream.specs.declared.item.End.TheVariants.{Clean}
 use Rattle.llrp_stream.specs.Cuts.{length_field, IsFrame, joined}
-use Rattle.llrp_stream.specs.Items.{IsItemOf, Items}
+use Rattle.llrp_stream.specs.Items.{IsItemIn, ItemsIn}
 use Rattle.llrp_stream.proofs.Unique.{same_items}
 use Rattle.llrp_listing.specs.NodeLine.{NodeLine, IsLine}
 use Rattle.llrp_listing.specs.MessageListing.{AreLines, IsListingOf, messages_lines, message_lines}
-use Rattle.llrp_listing.specs.PrintingLaws.{AreSpellings, IsOnlyListing}
-use Rattle.llrp_listing.specs.StreamListing.{AreItemTexts, IsStreamListing, end_text}
+use Rattle.llrp_listing.specs.PrintingLaws.{AreSpellingsIn, IsOnlyListing}
+use Rattle.llrp_listing.specs.StreamListing.{AreTexts, IsItemText, IsStreamListing, end_text}
 use Rattle.llrp_listing.proofs.OneText.{one_stream_listing}
 
 -- ---- a message's spelling is a frame
@@ -38,7 +39,7 @@ length_after v t n rest fits =
 
 length_spelled : (m : MessageTree) → message_octets m ≤ MAX_LIMIT → number (message_digits m) 16 32 ≡ message_octets m
 length_spelled m long =
-    let body : List Bool = body_digits (Message m.kind) m.fields [] ++ spell m.children in
+    let body : List Bool = body_digits (Message m.kind) m.fields m.tail ++ forest_digits m.children in
     let fits : message_octets m < 2 ^ 32 = omega arith in
     ap (λ (ds : List Bool). number ds 16 32) (header_spread m.version m.kind (message_octets m) m.id body)
     ∙ length_after m.version (number_of (Message m.kind)) (message_octets m) (digits 32 m.id ++ body) fits
@@ -57,17 +58,17 @@ is_frame limit m bytes f =
 abbrev pub as_items : List MessageTree → List Item
 as_items messages = map Msg messages
 
-pub are_frames : (limit : ℕ) (messages : List MessageTree) (frames : List (List ℕ)) → AreSpellings limit messages frames → AllByRecursion IsFrame frames
-are_frames limit [] [] h = tt
-are_frames limit [] (f ∷ frames) h = absurd h
-are_frames limit (m ∷ messages) [] h = absurd h
-are_frames limit (m ∷ messages) (f ∷ frames) h = (is_frame limit m f h.0.frame, are_frames limit messages frames h.1)
+pub are_frames : (p : Profile) (limit : ℕ) (messages : List MessageTree) (frames : List (List ℕ)) → AreSpellingsIn p limit messages frames → AllByRecursion IsFrame frames
+are_frames p limit [] [] h = tt
+are_frames p limit [] (f ∷ frames) h = absurd h
+are_frames p limit (m ∷ messages) [] h = absurd h
+are_frames p limit (m ∷ messages) (f ∷ frames) h = (is_frame limit m f h.0.frame, are_frames p limit messages frames h.1)
 
-pub are_items : (limit : ℕ) (messages : List MessageTree) (frames : List (List ℕ)) → AreSpellings limit messages frames → AllZip (IsItemOf limit) frames (as_items messages)
-are_items limit [] [] h = tt
-are_items limit [] (f ∷ frames) h = absurd h
-are_items limit (m ∷ messages) [] h = absurd h
-are_items limit (m ∷ messages) (f ∷ frames) h = (h.0, are_items limit messages frames h.1)
+pub are_items : (p : Profile) (limit : ℕ) (messages : List MessageTree) (frames : List (List ℕ)) → AreSpellingsIn p limit messages frames → AllZip (IsItemIn p limit) frames (as_items messages)
+are_items p limit [] [] h = tt
+are_items p limit [] (f ∷ frames) h = absurd h
+are_items p limit (m ∷ messages) [] h = absurd h
+are_items p limit (m ∷ messages) (f ∷ frames) h = (h.0, are_items p limit messages frames h.1)
 
 -- ---- a listing of lines, cut
 
@@ -104,7 +105,7 @@ cut_lines a b text h =
     }
 
 -- the listing of messages is that of them as items
-listing_of_items : (messages : List MessageTree) (text : List ℕ) → IsListingOf messages text → AreItemTexts (as_items messages) text
+listing_of_items : (messages : List MessageTree) (text : List ℕ) → IsListingOf messages text → AreTexts IsItemText (as_items messages) text
 listing_of_items [] text h = record { texts = []; each = tt; text_is = no_lines h.texts h.each h.text_is }
   where
     no_lines : (texts : List (List ℕ)) → AllZip IsLine [] texts → text ≡ flat_map (λ line. line) texts → text ≡ []
@@ -119,12 +120,12 @@ clean_end : end_text Clean ≡ []
 unfolding end_text
 clean_end = refl
 
-pub prints_back : (limit : ℕ) (messages : List MessageTree) (text : List ℕ) (frames : List (List ℕ)) → IsListingOf messages text → AreSpellings limit messages frames → IsOnlyListing limit (joined frames) text
-prints_back limit messages text frames listing spelled =
-    let items : Items limit (joined frames) (as_items messages) Clean = record {
+pub prints_back : (p : Profile) (limit : ℕ) (messages : List MessageTree) (text : List ℕ) (frames : List (List ℕ)) → IsListingOf messages text → AreSpellingsIn p limit messages frames → IsOnlyListing p limit (joined frames) text
+prints_back p limit messages text frames listing spelled =
+    let items : ItemsIn p limit (joined frames) (as_items messages) Clean = record {
       frames = frames;
-      cut = record { tail = []; whole = sym (append-nil (joined frames)); each = are_frames limit messages frames spelled; ends = refl };
-      each = are_items limit messages frames spelled;
+      cut = record { tail = []; whole = sym (append-nil (joined frames)); each = are_frames p limit messages frames spelled; ends = refl };
+      each = are_items p limit messages frames spelled;
     } in
     let is : IsStreamListing (as_items messages) Clean text = record { front = text; lines = listing_of_items messages text listing; text_is = sym (append-nil text) ∙ ap (λ (x : List ℕ). text ++ x) (sym clean_end) } in
     record {

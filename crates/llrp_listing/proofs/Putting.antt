@@ -18,10 +18,10 @@ use Rattle.llrp_tree.specs.declared.node.NodeFault.{NodeFault}
 use Rattle.llrp_tree.specs.declared.node.NodeFault.TheVariants.{FieldCount, Value, Tail as BadTail, Misplaced, TooMany}
 use Rattle.llrp_tree.specs.Checks.{all_placed, count_fits, first_failed, members, none_too_many, tail_fits, values_fit}
 use Rattle.llrp_tree.specs.Lawful.{at_most}
-use Rattle.llrp_schema.proofs.TableLaws.{message_tail}
+use Rattle.llrp_tree.proofs.MessageTails.{no_count, uncounted}
 use Rattle.llrp_tree.specs.Lawful.{AreOctets, body_octets, count, count_octets}
 use Rattle.llrp_tree.specs.Calls.Lawful.{own_octets}
-use Rattle.llrp_tree.specs.Calls.Spelled.{all_fields, message_start, parameter_start}
+use Rattle.llrp_tree.specs.Calls.HeadOctets.{all_fields, message_start, parameter_start}
 use Rattle.llrp_tree.specs.Spelling.{body_digits, count_digits, head_digits, head_of, message}
 use Rattle.llrp_tree.specs.Tree as tree
 use Rattle.llrp_tree.specs.Calls.Writing.{Appends}
@@ -29,12 +29,12 @@ use Rattle.llrp_tree.proofs.LawLemmas.{both}
 use Rattle.llrp_tree.proofs.OwnLemmas.{short_message, short_parameter}
 use Rattle.llrp_listing.specs.LineChecks.{AreInForm, IsInForm}
 use Rattle.llrp_listing.specs.NodeLine.{NodeLine, NumberForm, field_form, number_forms}
-use Rattle.llrp_listing.specs.declared.encode.lines.Begun.{Begun}
-use Rattle.llrp_listing.specs.Private.Writer.{CanBegin}
-use Rattle.llrp_listing.specs.Private.OpenNodes.{IsPut, IsSaid, MOST, early_fault, line_digits, own_fault, own_tail, own_tests, values_of, version_fits}
+use Rattle.llrp_listing.specs.declared.encode.line_octets.PutLine.{PutLine}
+use Rattle.llrp_listing.specs.Private.EncodeBuffer.{CanBegin}
+use Rattle.llrp_listing.specs.Private.OpenNodes.{IsPut, IsSaid, MOST, early_fault, line_digits, own_fault, own_tests, values_of, version_fits}
 use Rattle.llrp_stream.specs.Calls.Reading.{AreSeen}
 use Rattle.llrp_listing.specs.Private.LineOctets.{Puts}
-use Rattle.llrp_listing.proofs.Chains.{octets_append}
+use Rattle.llrp_tree.proofs.OctetLemmas.{octets-append as octets_append}
 use Rattle.llrp_listing.proofs.NodeFaults.{tail_octets}
 
 -- ---- a line with nothing below it
@@ -58,18 +58,18 @@ early_none : (line : NodeLine) → early_fault line tree.none ≡ own_fault line
 unfolding early_fault own_fault all_placed
 early_none line =
     ap (λ (b : Bool). first_failed (own_tests line ++ ((true, Misplaced) ∷ (b, TooMany) ∷ []))) (many_none (groups_of line.kind))
-    ∙ three (count_fits (fields_of line.kind) (values_of line.kind line.numbers)) (version_fits line.kind line.numbers && values_fit (fields_of line.kind) (values_of line.kind line.numbers)) (tail_fits (tail_of line.kind) (values_of line.kind line.numbers) (own_tail line.kind line.tail))
+    ∙ three (count_fits (fields_of line.kind) (values_of line.kind line.numbers)) (version_fits line.kind line.numbers && values_fit (fields_of line.kind) (values_of line.kind line.numbers)) (tail_fits (tail_of line.kind) (values_of line.kind line.numbers) line.tail)
 
 none_seen : (gs : List GroupRule) → AreSeen gs tree.none 0
 unfolding count
 none_seen gs k d lt = bit_at-zero k
 
 -- what is kept of it
-can_begin : (line : NodeLine) (number : ℕ) (fault : Option NodeFault) (octets : ℕ) (begun : Begun) (more : List ℕ) → IsSaid line → fault ≡ own_fault line → octets ≡ min (own_octets line.kind line.tail) MOST
+can_begin : (line : NodeLine) (number : ℕ) (fault : Option NodeFault) (octets : ℕ) (begun : PutLine) (more : List ℕ) → IsSaid line → fault ≡ own_fault line → octets ≡ min (own_octets line.kind line.tail) MOST
     → begun ≡ record { held = record { kind = line.kind; number = number; fault = fault; seen = 0; levels = 0; octets = octets }; put = is_none fault }
     → AreOctets more → (fault ≡ None → digits_of_bytes more ≡ line_digits line.kind line.numbers line.tail) → CanBegin begun.held begun.put more line number
 can_begin line number fault octets begun more said f o b os d =
-    subst (λ (x : Begun). CanBegin x.held x.put more line number) (sym b) (record {
+    subst (λ (x : PutLine). CanBegin x.held x.put more line number) (sym b) (record {
       is = record {
         kind = refl;
         number = refl;
@@ -111,15 +111,15 @@ known : (v : ℕ) → IsInForm NumberForm.Version v → ((v == 1) || (v == 2)) �
 known v (inl e) = rw e refl
 known v (inr e) = rw e refl
 
-pub own_message : (kind : MsgKind) (version id : ℕ) (values : List ℕ) → IsSaid (record { kind = Message kind; numbers = version ∷ id ∷ values; tail = [] }) → two_tests (Message kind) values [] ≡ own_fault (record { kind = Message kind; numbers = version ∷ id ∷ values; tail = [] })
+pub own_message : (kind : MsgKind) (version id : ℕ) (values tail : List ℕ) → IsSaid (record { kind = Message kind; numbers = version ∷ id ∷ values; tail = tail }) → two_tests (Message kind) values tail ≡ own_fault (record { kind = Message kind; numbers = version ∷ id ∷ values; tail = tail })
 unfolding own_fault number_forms
-own_message kind version id values s =
-    sym (ap (λ (b : Bool). first_failed ((b, FieldCount) ∷ (((version == 1) || (version == 2)) && values_fit (fields_of (Message kind)) values, Value) ∷ (tail_fits (tail_of (Message kind)) values [], BadTail) ∷ [])) (plain_count (fields_of (Message kind)) values s.numbers.1.1)
-    ∙ ap (λ (b : Bool). first_failed ((b && values_fit (fields_of (Message kind)) values, Value) ∷ (tail_fits (tail_of (Message kind)) values [], BadTail) ∷ [])) (known version s.numbers.0))
+own_message kind version id values tail s =
+    sym (ap (λ (b : Bool). first_failed ((b, FieldCount) ∷ (((version == 1) || (version == 2)) && values_fit (fields_of (Message kind)) values, Value) ∷ (tail_fits (tail_of (Message kind)) values tail, BadTail) ∷ [])) (plain_count (fields_of (Message kind)) values s.numbers.1.1)
+    ∙ ap (λ (b : Bool). first_failed ((b && values_fit (fields_of (Message kind)) values, Value) ∷ (tail_fits (tail_of (Message kind)) values tail, BadTail) ∷ [])) (known version s.numbers.0))
 
-pub small_version : (kind : MsgKind) (version id : ℕ) (values : List ℕ) → IsSaid (record { kind = Message kind; numbers = version ∷ id ∷ values; tail = [] }) → version < 8
+pub small_version : (kind : MsgKind) (version id : ℕ) (values tail : List ℕ) → IsSaid (record { kind = Message kind; numbers = version ∷ id ∷ values; tail = tail }) → version < 8
 unfolding number_forms
-small_version kind version id values s = elim s.numbers.0 [ inl e ↦ omega (arith, e) | inr e ↦ omega (arith, e) ]
+small_version kind version id values tail s = elim s.numbers.0 [ inl e ↦ omega (arith, e) | inr e ↦ omega (arith, e) ]
 
 both_pass : (a b : Bool) → first_failed ((a, Value) ∷ (b, BadTail) ∷ []) ≡ None → (a ≡ true) × (b ≡ true)
 both_pass true true e = (refl, refl)
@@ -141,7 +141,7 @@ pub bare_message : (kind : MsgKind) → fields_of (Message kind) ≡ [] → own_
 unfolding body_octets
 bare_message kind e =
     ap (λ (rules : List FieldRule). 10 + (bits_of rules / 8 + count_octets (tail_of (Message kind)) + 0)) e
-    ∙ ap (λ (t : Tail). 10 + (0 + count_octets t + 0)) (message_tail kind)
+    ∙ ap (λ (n : ℕ). 10 + (0 + n + 0)) (uncounted kind)
 
 pub words_fit : (f : Tail) (values tail : List ℕ) → tail_fits f values tail ≡ true → f ≡ form.Words → length tail / 2 ≤ 65535
 words_fit f values tail e is = let p = both _ (nat_le (length tail / 2) 65535) (sym (ap (λ (x : Tail). tail_fits x values tail) is) ∙ e) in leb-true (length tail / 2) 65535 p.1
@@ -165,20 +165,22 @@ parameter_spelled kind values tail start e =
     let t = digits_of_bytes tail in
     bytes-append start tail ∙ ap (λ (z : List Bool). z ++ t) e ∙ append_assoc h (f ++ c) t ∙ ap (λ (z : List Bool). h ++ z) (append_assoc f c t)
 
-message_spelled : (kind : MsgKind) (version id : ℕ) (values start : List ℕ) → digits_of_bytes start ≡ message_start version kind 0 id values → digits_of_bytes (start ++ []) ≡ line_digits (Message kind) (version ∷ id ∷ values) []
+message_spelled : (kind : MsgKind) (version id : ℕ) (values tail start : List ℕ) → digits_of_bytes start ≡ message_start version kind 0 id values → digits_of_bytes (start ++ tail) ≡ line_digits (Message kind) (version ∷ id ∷ values) tail
 unfolding line_digits body_digits
-message_spelled kind version id values start e =
+message_spelled kind version id values tail start e =
     let h = head_digits (message version kind 0 id) in
     let f = all_fields (fields_of (Message kind)) values in
     let c = count_digits (tail_of (Message kind)) [] in
-    bytes-append start [] ∙ ap (λ (z : List Bool). z ++ digits_of_bytes []) e ∙ append_assoc h (f ++ c) (digits_of_bytes []) ∙ ap (λ (z : List Bool). h ++ z) (append_assoc f c (digits_of_bytes []))
+    let t = digits_of_bytes tail in
+    bytes-append start tail ∙ ap (λ (z : List Bool). z ++ t) e ∙ append_assoc h (f ++ c) t ∙ ap (λ (z : List Bool). h ++ z) (append_assoc f c t)
+    ∙ ap (λ (z : List Bool). h ++ (f ++ (z ++ t))) (no_count kind [] ∙ sym (no_count kind tail))
 
 start_octets : (start : List ℕ) (ds : List Bool) → Appends [] start ds → AreOctets start × (digits_of_bytes start ≡ ds)
 start_octets start ds a = (subst AreOctets (sym a.whole) a.octets, ap digits_of_bytes a.whole ∙ a.spelled)
 
 -- ---- the line can begin
 
-pub puts_parameter : (kind : ParamKind) (values tail start old new : List ℕ) (number : ℕ) (fault : Option NodeFault) (octets : ℕ) (begun : Begun) → IsSaid (record { kind = Parameter kind; numbers = values; tail = tail }) → fault ≡ two_tests (Parameter kind) values tail → octets ≡ min (own_octets (Parameter kind) tail) MOST
+pub puts_parameter : (kind : ParamKind) (values tail start old new : List ℕ) (number : ℕ) (fault : Option NodeFault) (octets : ℕ) (begun : PutLine) → IsSaid (record { kind = Parameter kind; numbers = values; tail = tail }) → fault ≡ two_tests (Parameter kind) values tail → octets ≡ min (own_octets (Parameter kind) tail) MOST
     → begun ≡ record { held = record { kind = Parameter kind; number = number; fault = fault; seen = 0; levels = 0; octets = octets }; put = is_none fault }
     → Appends [] start (parameter_start kind 0 values tail) → new ≡ (old ++ start) ++ tail → Puts old new begun (record { kind = Parameter kind; numbers = values; tail = tail }) number
 puts_parameter kind values tail start old new number fault octets begun said f o b a e =
@@ -190,24 +192,24 @@ puts_parameter kind values tail start old new number fault octets begun said f o
       can = can_begin line number fault octets begun (start ++ tail) said (f ∙ own_parameter kind values tail said) o b (octets_append start tail s.0 (tail_octets (tail_of (Parameter kind)) tail said.tail)) (λ none. parameter_spelled kind values tail start s.1);
     }
 
-pub puts_message : (kind : MsgKind) (version id : ℕ) (values start old new : List ℕ) (number : ℕ) (fault : Option NodeFault) (octets : ℕ) (begun : Begun) → IsSaid (record { kind = Message kind; numbers = version ∷ id ∷ values; tail = [] }) → fault ≡ two_tests (Message kind) values [] → octets ≡ min (own_octets (Message kind) []) MOST
+pub puts_message : (kind : MsgKind) (version id : ℕ) (values tail start old new : List ℕ) (number : ℕ) (fault : Option NodeFault) (octets : ℕ) (begun : PutLine) → IsSaid (record { kind = Message kind; numbers = version ∷ id ∷ values; tail = tail }) → fault ≡ two_tests (Message kind) values tail → octets ≡ min (own_octets (Message kind) tail) MOST
     → begun ≡ record { held = record { kind = Message kind; number = number; fault = fault; seen = 0; levels = 0; octets = octets }; put = is_none fault }
-    → Appends [] start (message_start version kind 0 id values) → new ≡ (old ++ start) ++ [] → Puts old new begun (record { kind = Message kind; numbers = version ∷ id ∷ values; tail = [] }) number
-puts_message kind version id values start old new number fault octets begun said f o b a e =
+    → Appends [] start (message_start version kind 0 id values) → new ≡ (old ++ start) ++ tail → Puts old new begun (record { kind = Message kind; numbers = version ∷ id ∷ values; tail = tail }) number
+puts_message kind version id values tail start old new number fault octets begun said f o b a e =
     let s = start_octets start (message_start version kind 0 id values) a in
-    let line : NodeLine = record { kind = Message kind; numbers = version ∷ id ∷ values; tail = [] } in
+    let line : NodeLine = record { kind = Message kind; numbers = version ∷ id ∷ values; tail = tail } in
     record {
-      more = start ++ [];
-      appended = e ∙ append_assoc old start [];
-      can = can_begin line number fault octets begun (start ++ []) said (f ∙ own_message kind version id values said) o b (octets_append start [] s.0 tt) (λ none. message_spelled kind version id values start s.1);
+      more = start ++ tail;
+      appended = e ∙ append_assoc old start tail;
+      can = can_begin line number fault octets begun (start ++ tail) said (f ∙ own_message kind version id values tail said) o b (octets_append start tail s.0 (tail_octets (tail_of (Message kind)) tail said.tail)) (λ none. message_spelled kind version id values tail start s.1);
     }
 
 -- nothing was put
-pub puts_nothing : (line : NodeLine) (old : List ℕ) (number : ℕ) (fault : Option NodeFault) (octets : ℕ) (begun : Begun) → IsSaid line → fault ≡ own_fault line → octets ≡ min (own_octets line.kind line.tail) MOST
+pub puts_nothing : (line : NodeLine) (old : List ℕ) (number : ℕ) (fault : Option NodeFault) (octets : ℕ) (begun : PutLine) → IsSaid line → fault ≡ own_fault line → octets ≡ min (own_octets line.kind line.tail) MOST
     → begun ≡ record { held = record { kind = line.kind; number = number; fault = fault; seen = 0; levels = 0; octets = octets }; put = is_none fault }
     → begun.put ≡ false → Puts old old begun line number
 puts_nothing line old number fault octets begun said f o b unput = record {
   more = [];
   appended = sym (append-nil old);
-  can = can_begin line number fault octets begun [] said f o b tt (λ none. absurd (let x : true ≡ false = sym (ap is_none none) ∙ sym (ap (λ (y : Begun). y.put) b) ∙ unput in cc));
+  can = can_begin line number fault octets begun [] said f o b tt (λ none. absurd (let x : true ≡ false = sym (ap is_none none) ∙ sym (ap (λ (y : PutLine). y.put) b) ∙ unput in cc));
 }

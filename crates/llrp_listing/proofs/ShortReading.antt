@@ -4,26 +4,27 @@ use Rattle.std.specs.Prelude.{IfSome, ◌⊎◌, ◌==◌, filter, not}
 use Rattle.std.proofs.lemmas.Bool.{ne_eqb}
 use Rattle.std.proofs.lemmas.Fmt.{decimal_digit}
 use Rattle.std.proofs.lemmas.List.{append-nil}
+use Rattle.llrp_schema.specs.declared.kinds.Profile.{Profile}
 use Rattle.llrp_schema.specs.declared.kinds.MsgKind.{MsgKind}
 use Rattle.llrp_schema.specs.declared.kinds.ParamKind.{ParamKind}
 use Rattle.llrp_schema.specs.declared.kinds.Kind.{Kind}
 use Rattle.llrp_schema.specs.declared.kinds.Kind.TheVariants.{Message, Parameter}
-use Rattle.llrp_schema.specs.declared.kinds.Profile.TheVariants.{Own}
 use Rattle.llrp_schema.specs.declared.kinds.Tail.{Tail}
 use Rattle.llrp_schema.specs.declared.kinds.Tail.TheVariants.{Absent}
 use Rattle.llrp_schema.specs.declared.kinds.Field.{Field}
 use Rattle.llrp_schema.specs.Schema.{FieldRule, fields_of, name_of, profile_of, tail_of}
 use Rattle.llrp_schema.specs.Calls.Schema.{field_rule}
-use Rattle.llrp_schema.proofs.TableLaws.{message_tail}
 use Rattle.llrp_tree.specs.declared.TheConstants.{MAX_DEPTH}
 use Rattle.llrp_listing.specs.Private.Encoder.{SaysAt}
 use Rattle.llrp_listing.specs.LineChecks.{AreInForm, IsTailOf}
-use Rattle.llrp_listing.specs.declared.line.TheConstants.{LONGEST_LINE}
+use Rattle.llrp_listing.specs.declared.parse_line.TheConstants.{LONGEST_LINE}
 use Rattle.llrp_listing.specs.Private.LineChecks.{ReadsNumber}
 use Rattle.llrp_listing.specs.NodeLine.{AreNumberTexts, Id, NumberForm, Unsigned, Version, field_form, number_forms, parameter_line, spaced, tail_texts}
 use Rattle.llrp_listing.specs.Private.Numeral.{numeral}
 use Rattle.llrp_listing.specs.Private.ShortLines.{AreAllNumbers}
 use Rattle.llrp_listing.proofs.NumberWords.{unsigned_read}
+use Rattle.llrp_listing.proofs.ShortLines.{in_longest}
+use Rattle.llrp_listing.proofs.BareMessages.{bare_tail}
 
 -- ---- names
 
@@ -84,11 +85,11 @@ line_text kind numbers rest level small absent e =
     ap (λ (z : List ℕ). (48 + level) ∷ (z ++ (10 ∷ []))) (e ∙ sym (ap (λ (z : List (List ℕ)). spaced (name_of kind ∷ z)) tails))
     ∙ sym (ap (λ (d : List ℕ). d ++ (spaced (name_of kind ∷ (numbers ++ tail_texts (tail_of kind) [])) ++ (10 ∷ []))) (decimal_digit level small))
 
-pub parameter_says : (level : ℕ) (kind : ParamKind) (ws : List (List ℕ)) (ns rest : List ℕ) → profile_of (Parameter kind) ≡ Own → 1 ≤ level → level ≤ MAX_DEPTH → level < 10 → 2 + length rest ≤ LONGEST_LINE → AreAllNumbers kind ws ns → 32 ∷ rest ≡ spaced (name_of (Parameter kind) ∷ ws)
-    → SaysAt level ((48 + level) ∷ 32 ∷ rest) level (parameter_line kind ns [])
-parameter_says level kind ws ns rest own least deep one short all e = (
+pub parameter_says : {p : Profile} (level : ℕ) (kind : ParamKind) (ws : List (List ℕ)) (ns rest : List ℕ) → profile_of (Parameter kind) ≡ p → 1 ≤ level → level ≤ MAX_DEPTH → level < 10 → 2 + length rest ≤ LONGEST_LINE → AreAllNumbers kind ws ns → 32 ∷ rest ≡ spaced (name_of (Parameter kind) ∷ ws)
+    → SaysAt p level ((48 + level) ∷ 32 ∷ rest) level (parameter_line kind ns [])
+parameter_says {p} level kind ws ns rest own least deep one short all e = (
   record {
-    short = omega (arith, short);
+    short = in_longest p (omega (arith, short));
     deep = deep;
     placed = least;
     own = own;
@@ -99,14 +100,14 @@ parameter_says level kind ws ns rest own least deep one short all e = (
   omega arith,
 )
 
-pub message_says : (kind : MsgKind) (version id : ℕ) (digits rest : List ℕ) → profile_of (Message kind) ≡ Own → (1 ≤ version) × (version ≤ 2) → id < 2 ^ 32 → digits ≡ decimal id → 2 + length rest ≤ LONGEST_LINE → fields_of (Message kind) ≡ [] → 32 ∷ rest ≡ spaced (name_of (Message kind) ∷ ((48 + version) ∷ []) ∷ digits ∷ [])
-    → SaysAt 0 (48 ∷ 32 ∷ rest) 0 (record { kind = Message kind; numbers = version ∷ id ∷ []; tail = [] })
-message_says kind version id digits rest own known small is short none e =
+pub message_says : {p : Profile} (kind : MsgKind) (version id : ℕ) (digits rest : List ℕ) → profile_of (Message kind) ≡ p → (1 ≤ version) × (version ≤ 2) → id < 2 ^ 32 → digits ≡ decimal id → 2 + length rest ≤ LONGEST_LINE → fields_of (Message kind) ≡ [] → 32 ∷ rest ≡ spaced (name_of (Message kind) ∷ ((48 + version) ∷ []) ∷ digits ∷ [])
+    → SaysAt p 0 (48 ∷ 32 ∷ rest) 0 (record { kind = Message kind; numbers = version ∷ id ∷ []; tail = [] })
+message_says {p} kind version id digits rest own known small is short none e =
     let forms : number_forms (Message kind) ≡ Version ∷ Id ∷ [] = message_forms kind none in
     let ws : List (List ℕ) = ((48 + version) ∷ []) ∷ digits ∷ [] in
-    let absent : tail_of (Message kind) ≡ Absent = message_tail kind in (
+    let absent : tail_of (Message kind) ≡ Absent = bare_tail kind none in (
       record {
-        short = omega (arith, short);
+        short = in_longest p (omega (arith, short));
         deep = omega arith;
         placed = refl;
         own = own;

@@ -1,9 +1,9 @@
 -- The numbers of a line that has several.
 use Rattle.std.proofs.Common.{◌≡◌, ℕ, ◌+◌, ◌^◌, ◌<◌, ◌≤◌, List, [], ◌∷◌, ◌++◌, length, drop, map, decimal, refl, sym, ap, subst, ◌∙◌, append_assoc, arith}
 use Rattle.std.proofs.lemmas.List.{append-nil, drop_all}
+use Rattle.llrp_schema.specs.declared.kinds.Profile.{Profile}
 use Rattle.llrp_schema.specs.declared.kinds.Field.{Field}
 use Rattle.llrp_schema.specs.declared.kinds.ParamKind.{ParamKind}
-use Rattle.llrp_schema.specs.declared.kinds.Profile.TheVariants.{Own}
 use Rattle.llrp_schema.specs.declared.kinds.Tail.TheVariants.{Absent}
 use Rattle.llrp_schema.specs.declared.kinds.Kind.TheVariants.{Parameter}
 use Rattle.llrp_schema.specs.Schema.{FieldRule, fields_of, name_of, profile_of, tail_of}
@@ -11,7 +11,7 @@ use Rattle.llrp_schema.specs.Calls.Schema.{field_rule}
 use Rattle.llrp_tree.specs.declared.TheConstants.{MAX_DEPTH}
 use Rattle.llrp_listing.specs.Private.Encoder.{SaysAt}
 use Rattle.llrp_listing.specs.LineChecks.{AreInForm, IsInForm}
-use Rattle.llrp_listing.specs.declared.line.TheConstants.{LONGEST_LINE}
+use Rattle.llrp_listing.specs.declared.parse_line.TheConstants.{LONGEST_LINE}
 use Rattle.llrp_listing.specs.Private.LineReading.{forms_of}
 use Rattle.llrp_listing.specs.NodeLine.{AreNumberTexts, IsNumberText, NumberForm, Unsigned, number_forms, parameter_line, spaced}
 use Rattle.llrp_listing.specs.Private.ShortLines.{AreAllNumbers, AreSpaced}
@@ -34,10 +34,10 @@ more_spaced form forms all line from mid end n old part new e u lt t p s =
     })
 
 -- the line says these numbers
-pub several_says : (depth level : ℕ) (kind : ParamKind) (rules : List Field) (line : List ℕ) (end stop : ℕ) (old new tail : List ℕ) → profile_of (Parameter kind) ≡ Own → 1 ≤ level → level ≤ MAX_DEPTH → level < 10 → level ≤ depth → length line ≤ LONGEST_LINE → line ≡ (48 + level) ∷ 32 ∷ drop 2 line → drop 2 line ≡ name_of (Parameter kind) ++ drop end line
-    → map field_rule rules ≡ fields_of (Parameter kind) → tail_of (Parameter kind) ≡ Absent → old ≡ [] → AreSpaced (forms_of (map field_rule rules)) line end stop old new → stop ≡ length line → tail ≡ [] → SaysAt depth line level (parameter_line kind new tail)
+pub several_says : {p : Profile} (depth level : ℕ) (kind : ParamKind) (rules : List Field) (line : List ℕ) (end stop : ℕ) (old new tail : List ℕ) → profile_of (Parameter kind) ≡ p → 1 ≤ level → level ≤ MAX_DEPTH → level < 10 → level ≤ depth → length line ≤ LONGEST_LINE → line ≡ (48 + level) ∷ 32 ∷ drop 2 line → drop 2 line ≡ name_of (Parameter kind) ++ drop end line
+    → map field_rule rules ≡ fields_of (Parameter kind) → tail_of (Parameter kind) ≡ Absent → old ≡ [] → AreSpaced (forms_of (map field_rule rules)) line end stop old new → stop ≡ length line → tail ≡ [] → SaysAt p depth line level (parameter_line kind new tail)
 unfolding number_forms
-several_says depth level kind rules line end stop old new tail own least deep one within short starts named fields absent none s last bare =
+several_says {p} depth level kind rules line end stop old new tail own least deep one within short starts named fields absent none s last bare =
     let forms : forms_of (map field_rule rules) ≡ number_forms (Parameter kind) = ap (λ (r : List FieldRule). forms_of r) fields in
     let is : new ≡ s.numbers = s.added ∙ ap (λ (z : List ℕ). z ++ s.numbers) none in
     let all : AreAllNumbers kind s.words s.numbers = record {
@@ -49,4 +49,4 @@ several_says depth level kind rules line end stop old new tail own least deep on
     let rest : drop end line ≡ spaced s.words = s.text ∙ ap (λ (z : List ℕ). spaced s.words ++ z) over ∙ append-nil (spaced s.words) in
     let whole : 32 ∷ drop 2 line ≡ spaced (name_of (Parameter kind) ∷ s.words) = ap (λ (z : List ℕ). 32 ∷ z) (named ∙ ap (λ (z : List ℕ). name_of (Parameter kind) ++ z) rest) in
     let said = (says level kind s.words s.numbers line own least deep one short all starts whole).0 in
-    subst (λ (z : List ℕ). SaysAt depth line level (parameter_line kind new z)) (sym bare) (subst (λ (z : List ℕ). SaysAt depth line level (parameter_line kind z [])) (sym is) (said, within))
+    subst (λ (z : List ℕ). SaysAt p depth line level (parameter_line kind new z)) (sym bare) (subst (λ (z : List ℕ). SaysAt p depth line level (parameter_line kind z [])) (sym is) (said, within))

@@ -10,15 +10,7 @@ use Rattle.std.proofs.lemmas.Slice.Eq.{bytes_eq-Decides}
 use Rattle.llrp_listing.specs.Calls.Splits.{Lacks, IsSplit}
 use Rattle.llrp_listing.specs.Private.Numeral.{numeral}
 use Rattle.llrp_listing.proofs.DecimalWords.{digits_of, numeral_back}
-
--- both of two tests
-pub left : (a b : Bool) → (a && b) ≡ true → a ≡ true
-left true b e = refl
-left false b e = cc
-
-pub right : (a b : Bool) → (a && b) ≡ true → b ≡ true
-right true b e = e
-right false b e = cc
+use Rattle.tag_uri.proofs.UriLemmas.{left, right}
 
 -- what holds where there is nothing
 pub at_none : {A : Type 0} (o : Option A) (P : Type 0) (Q : A → Type 0) → o ≡ None → P → MatchOption o P Q

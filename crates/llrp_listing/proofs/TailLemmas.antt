@@ -13,20 +13,16 @@ use Rattle.llrp_tree.specs.Tree.{words_of}
 use Rattle.llrp_tree.specs.Lawful.{AreOctets}
 use Rattle.llrp_tree.proofs.OctetLemmas.{octets-append}
 use Rattle.llrp_listing.specs.NodeLine.{spaced, tail_texts, word_list_text}
-use Rattle.llrp_listing.proofs.PrintingLemmas.{other_words}
+use Rattle.llrp_listing.proofs.PrintingLemmas.{encode_more, other_words, join_first}
 use Rattle.llrp_listing.specs.Private.Tails.{MoreWords, MoreTail}
 
 -- ---- words
 
-words_append : (a b : List ℕ) (n : ℕ) → length a ≡ 2 * n → words_of (a ++ b) ≡ words_of a ++ words_of b
+pub words_append : (a b : List ℕ) (n : ℕ) → length a ≡ 2 * n → words_of (a ++ b) ≡ words_of a ++ words_of b
 words_append [] b n e = refl
 words_append (x ∷ []) b n e = absurd (omega arith)
 words_append (x ∷ y ∷ a) b zero e = absurd (omega arith)
 words_append (x ∷ y ∷ a) b (suc n) e = ap (λ (z : List ℕ). (256 * x + y) ∷ z) (words_append a b n (omega arith))
-
-join_first : (x : List ℕ) (xs : List (List ℕ)) → join_with_byte 44 (x ∷ xs) ≡ x ++ flat_map (λ word. 44 ∷ word) xs
-join_first x [] = sym (append-nil x)
-join_first x (y ∷ ys) = ap (λ (z : List ℕ). x ++ (44 ∷ z)) (join_first y ys)
 
 other_more : (rest : List ℕ) (high low n : ℕ) → length rest ≡ 2 * n → other_words (rest ++ high ∷ low ∷ []) ≡ other_words rest ++ (44 ∷ decimal (256 * high + low))
 other_more rest high low n e =
@@ -182,11 +178,6 @@ wrapped front w = ap (λ (x : List ℕ). front ++ x) (append-nil (32 ∷ w)) ∙
 pub words_tail : (old new octets : List ℕ) → MoreWords old new octets → MoreTail Words old new octets
 words_tail old new octets m = λ front before told e.
     m (front ++ (32 ∷ [])) before told.1.0 told.0 told.1.1 (e ∙ wrapped front (word_list_text before)) ∙ sym (wrapped front (word_list_text (before ++ octets)))
-
-encode_more : (t xs ys : List ℕ) → encode_with t (xs ++ ys) ≡ encode_with t xs ++ encode_with t ys
-unfolding encode_with
-encode_more t [] ys = refl
-encode_more t (x ∷ xs) ys = rw (encode_more t xs ys) refl
 
 hex_grown : (old new octets front before : List ℕ) → new ≡ old ++ encode_lower octets → old ≡ front ++ spaced ((120 ∷ encode_lower before) ∷ []) → new ≡ front ++ spaced ((120 ∷ encode_lower (before ++ octets)) ∷ [])
 hex_grown old new octets front before f e =

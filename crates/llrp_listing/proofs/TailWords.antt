@@ -12,21 +12,19 @@ use Rattle.hex.proofs.HexLemmas.{decode_of-encode_lower}
 use Rattle.llrp_tree.specs.Lawful.{AreOctets}
 use Rattle.llrp_listing.specs.Calls.Hexadecimal.{IsHexDigit, SpellBytes}
 use Rattle.llrp_schema.specs.declared.kinds.Tail.TheVariants.{Words, Text}
-use Rattle.llrp_listing.specs.declared.fault.Refusal.TheVariants as refusal
-use Rattle.llrp_listing.specs.declared.line.LineErr.{LineErr}
-use Rattle.llrp_listing.specs.declared.line.LineErr.TheVariants.{Refused, Memory}
+use Rattle.llrp_listing.specs.declared.outcome.Refusal.TheVariants as refusal
+use Rattle.llrp_listing.specs.declared.parse_line.LineErr.{LineErr}
+use Rattle.llrp_listing.specs.declared.parse_line.LineErr.TheVariants.{Refused, Memory}
 use Rattle.llrp_listing.specs.Private.LineReading.{AppendsWord, AreDigitsOf, IsNoTail, IsNoWord, IsTailWord, IsWordList, has_capital}
 use Rattle.llrp_tree.specs.Tree.{words_of}
 use Rattle.llrp_listing.specs.Calls.Splits.{Lacks}
-use Rattle.llrp_listing.proofs.DecimalWords.{digits_of, left, right}
+use Rattle.llrp_listing.proofs.DecimalWords.{digits_of}
+use Rattle.tag_uri.proofs.UriLemmas.{left, right}
 use Rattle.llrp_listing.proofs.HexadecimalLemmas.{spelled_if_ok}
 use Rattle.llrp_listing.proofs.WordLemmas.{one_part, first_part}
+use Rattle.tag_uri.proofs.ComponentLemmas.{or_false}
 
 -- ---- hexadecimal digits
-
-or_false : (a b : Bool) → (a || b) ≡ false → (a ≡ false) × (b ≡ false)
-or_false false b h = (refl, h)
-or_false true b h = cc
 
 -- a test of all numbers below a bound
 abbrev pub below : (ℕ → Bool) → ℕ → Bool

@@ -3,29 +3,29 @@ use Rattle.std.proofs.Common.{◌≡◌, ℕ, zero, suc, ◌-◌, ◌<◌, ◌�
 use Rattle.std.specs.List.{AllZip}
 use Rattle.std.proofs.lemmas.List.{append-nil}
 use Rattle.std.proofs.lemmas.Bool.{cases_order}
-use Rattle.llrp_listing.specs.OpenText.{Forest, end, node, nodes, Begun, OpenText, covers}
+use Rattle.llrp_listing.specs.OpenText.{Outline, end, node, nodes, OpenLine, OpenText, lines_covered}
 use Rattle.llrp_listing.specs.FirstRefusal.{Rules, AllClose, Sound, RefusesLine, RefusesClosing, Opens, Refused}
 use Rattle.llrp_listing.specs.Private.FirstRefusal.{AreClear}
 use Rattle.llrp_listing.specs.Calls.FirstRefusal.{Lists, HasOneAnswer}
 use Rattle.llrp_listing.specs.Private.OpenTextSteps.{join, text_of, add_to, close_in, close, pop, depth, cut, put}
 use Rattle.llrp_listing.proofs.Growing.{run, empty, run_append, Fits, fits_middle, cut_cut, made, last_open}
 
-module _ {H R : Type 0} (closing : H → Forest H → Option R) where
-  pub close_parts : (f g : Forest H) → AllClose closing (join f g) → AllClose closing f × AllClose closing g
+module _ {H R : Type 0} (closing : H → Outline H → Option R) where
+  pub close_parts : (f g : Outline H) → AllClose closing (join f g) → AllClose closing f × AllClose closing g
   close_parts end g c = (tt, c)
   close_parts (node h below after) g c = let p = close_parts after g c.2 in ((c.0, c.1, p.0), p.1)
 
-  add_back : (f whole : Forest H) (chain : List (Begun H)) → Sound closing (add_to f whole chain) → AllClose closing f × Sound closing (text_of whole chain)
+  add_back : (f whole : Outline H) (chain : List (OpenLine H)) → Sound closing (add_to f whole chain) → AllClose closing f × Sound closing (text_of whole chain)
   add_back f whole [] s = let p = close_parts whole f s.0 in (p.1, (p.0, tt))
   add_back f whole (b ∷ outer) s = let p = close_parts b.below f s.1.0 in (p.1, (s.0, (p.0, s.1.1)))
 
-  pub close_back : (whole : Forest H) (b : Begun H) (outer : List (Begun H)) → Sound closing (close_in whole (b ∷ outer)) → (closing b.head b.below ≡ None) × Sound closing (text_of whole (b ∷ outer))
+  pub close_back : (whole : Outline H) (b : OpenLine H) (outer : List (OpenLine H)) → Sound closing (close_in whole (b ∷ outer)) → (closing b.head b.below ≡ None) × Sound closing (text_of whole (b ∷ outer))
   close_back whole b outer s = let p = add_back (node b.head b.below end) whole outer s in (p.0.0, (p.1.0, (p.0.1, p.1.1)))
 
   pub any_close_back : (o : OpenText H) → Sound closing (close o) → Sound closing o
   any_close_back o s = on o.whole o.chain s
     where
-      on : (whole : Forest H) (chain : List (Begun H)) → Sound closing (close_in whole chain) → Sound closing (text_of whole chain)
+      on : (whole : Outline H) (chain : List (OpenLine H)) → Sound closing (close_in whole chain) → Sound closing (text_of whole chain)
       on whole [] s = s
       on whole (b ∷ outer) s = (close_back whole b outer s).1
 
@@ -41,7 +41,7 @@ module _ {H R : Type 0} (closing : H → Forest H → Option R) where
   run_back o (e ∷ es) s = pop_back (depth o - e.0) o (put_back o e (run_back (put o e) es s))
 
   -- where closings were made, the first of them could be
-  pub closed_first : (d : ℕ) (whole : Forest H) (b : Begun H) (outer : List (Begun H)) → d ≤ length outer → Sound closing (cut d (text_of whole (b ∷ outer))) → closing b.head b.below ≡ None
+  pub closed_first : (d : ℕ) (whole : Outline H) (b : OpenLine H) (outer : List (OpenLine H)) → d ≤ length outer → Sound closing (cut d (text_of whole (b ∷ outer))) → closing b.head b.below ≡ None
   closed_first d whole b outer le s =
       let n : suc (length outer) - d ≡ suc (length outer - d) = omega arith in
       let t : Sound closing (pop (suc (length outer - d)) (text_of whole (b ∷ outer))) = subst (λ (k : ℕ). Sound closing (pop k (text_of whole (b ∷ outer)))) n s in
@@ -85,27 +85,27 @@ module _ {H X R : Type 0} (rules : Rules H X R) (clear : AreClear rules) where
   Stops o rest (Some a) = RefusesLine rules o rest a.0 a.1 ⊎ RefusesClosing rules o.whole o.chain rest a.0 a.1
 
   -- nothing that could be closed comes next
-  next_line : (o : OpenText H) (x : X) (e : ℕ × H) (more : List X) (n : ℕ) (a : R) → RefusesLine rules o (x ∷ more) n a → rules.Says x e → e.0 ≤ depth (run empty (covers o)) → ⊥
+  next_line : (o : OpenText H) (x : X) (e : ℕ × H) (more : List X) (n : ℕ) (a : R) → RefusesLine rules o (x ∷ more) n a → rules.Says x e → e.0 ≤ depth (run empty (lines_covered o)) → ⊥
   next_line o x e more n a r says le =
-      let s : run empty (covers o) ≡ o = last_open o r.0 in
+      let s : run empty (lines_covered o) ≡ o = last_open o r.0 in
       let le2 : e.0 ≤ depth o = subst (λ (u : OpenText H). e.0 ≤ depth u) s le in
       clear.not_both (depth o) x e a says le2 r.1
 
-  next_closing : (whole : Forest H) (chain : List (Begun H)) (x : X) (e : ℕ × H) (more : List X) (n : ℕ) (a : R) → RefusesClosing rules whole chain (x ∷ more) n a → rules.Says x e → Sound rules.closing (put (run empty (covers (text_of whole chain))) e) → ⊥
+  next_closing : (whole : Outline H) (chain : List (OpenLine H)) (x : X) (e : ℕ × H) (more : List X) (n : ℕ) (a : R) → RefusesClosing rules whole chain (x ∷ more) n a → rules.Says x e → Sound rules.closing (put (run empty (lines_covered (text_of whole chain))) e) → ⊥
   next_closing whole [] x e more n a r says sound = r
   next_closing whole (b ∷ outer) x e more n a r says sound =
       let o = text_of whole (b ∷ outer) in
       let same : r.0.0 ≡ e = clear.one_said x r.0.0 e r.0.1 says in
       let le : e.0 ≤ length outer = subst (λ (f : ℕ × H). f.0 ≤ length outer) same r.0.2 in
       let m = made o in
-      let s = run empty (covers o) in
+      let s = run empty (lines_covered o) in
       let cuts : cut e.0 s ≡ cut e.0 o = sym (cut_cut e.0 (depth o) s (omega arith) m.deep) ∙ ap (cut e.0) m.is in
       let sc : Sound rules.closing (cut e.0 o) = subst (Sound rules.closing) cuts (put_back rules.closing s e sound) in
       let none : rules.closing b.head b.below ≡ None = closed_first rules.closing e.0 whole b outer le sc in
       let some : rules.closing b.head b.below ≡ Some a = r.1 in
       cc
 
-  stops_next : (o : OpenText H) (x : X) (e : ℕ × H) (more : List X) (a : Option (ℕ × R)) → Stops o (x ∷ more) a → rules.Says x e → e.0 ≤ depth (run empty (covers o)) → Sound rules.closing (put (run empty (covers o)) e) → ⊥
+  stops_next : (o : OpenText H) (x : X) (e : ℕ × H) (more : List X) (a : Option (ℕ × R)) → Stops o (x ∷ more) a → rules.Says x e → e.0 ≤ depth (run empty (lines_covered o)) → Sound rules.closing (put (run empty (lines_covered o)) e) → ⊥
   stops_next o x e more None s says le sound = let none : x ∷ more ≡ [] = s.1 in cc
   stops_next o x e more (Some a) s says le sound = elim s [
     | inl r ↦ next_line o x e more a.0 a.1 r says le
@@ -115,28 +115,28 @@ module _ {H X R : Type 0} (rules : Rules H X R) (clear : AreClear rules) where
   -- nor does a reading that stops earlier
   not_later : (text : List X) (o u : OpenText H) (r s : List X) (a : Option (ℕ × R)) → (p : Opens rules text o r) → (q : Opens rules text u s) → Stops o r a → (x : X) (m : List X) → q.front ≡ p.front ++ (x ∷ m) → r ≡ (x ∷ m) ++ s → ⊥
   not_later text o u r s a p q stops x m longer rest =
-      let says : AllZip rules.Says (p.front ++ (x ∷ m)) (covers u) = subst (λ (z : List X). AllZip rules.Says z (covers u)) longer q.says in
-      let t = parts p.front (x ∷ m) (covers o) (covers u) p.says says in
+      let says : AllZip rules.Says (p.front ++ (x ∷ m)) (lines_covered u) = subst (λ (z : List X). AllZip rules.Says z (lines_covered u)) longer q.says in
+      let t = parts p.front (x ∷ m) (lines_covered o) (lines_covered u) p.says says in
       on t.more t.are t.says
     where
-      on : (more : List (ℕ × H)) → covers u ≡ covers o ++ more → AllZip rules.Says (x ∷ m) more → ⊥
+      on : (more : List (ℕ × H)) → lines_covered u ≡ lines_covered o ++ more → AllZip rules.Says (x ∷ m) more → ⊥
       on [] are says = says
       on (e ∷ more) are says =
           let made_u = made u in
-          let state = run empty (covers o) in
-          let fits : Fits state (e ∷ more) = fits_middle empty (covers o) (e ∷ more) (subst (Fits empty) are made_u.fits) in
-          let whole : run empty (covers u) ≡ run (put state e) more = ap (run empty) are ∙ run_append empty (covers o) (e ∷ more) in
-          let sound : Sound rules.closing (run empty (covers u)) = pop_back rules.closing (depth (run empty (covers u)) - depth u) (run empty (covers u)) (subst (Sound rules.closing) (sym made_u.is) q.sound) in
+          let state = run empty (lines_covered o) in
+          let fits : Fits state (e ∷ more) = fits_middle empty (lines_covered o) (e ∷ more) (subst (Fits empty) are made_u.fits) in
+          let whole : run empty (lines_covered u) ≡ run (put state e) more = ap (run empty) are ∙ run_append empty (lines_covered o) (e ∷ more) in
+          let sound : Sound rules.closing (run empty (lines_covered u)) = pop_back rules.closing (depth (run empty (lines_covered u)) - depth u) (run empty (lines_covered u)) (subst (Sound rules.closing) (sym made_u.is) q.sound) in
           let before : Sound rules.closing (put state e) = run_back rules.closing (put state e) more (subst (Sound rules.closing) whole sound) in
           let stops2 : Stops o (x ∷ (m ++ s)) a = subst (λ (z : List X). Stops o z a) rest stops in
           stops_next o x e (m ++ s) a stops2 says.0 fits.0 before
 
   -- over the same nodes, fewer open nodes can't be left where reading stopped
-  not_cut : (o u : OpenText H) (r : List X) (a b : Option (ℕ × R)) → covers o ≡ covers u → Stops o r a → Stops u r b → Sound rules.closing u → depth u < depth o → ⊥
+  not_cut : (o u : OpenText H) (r : List X) (a b : Option (ℕ × R)) → lines_covered o ≡ lines_covered u → Stops o r a → Stops u r b → Sound rules.closing u → depth u < depth o → ⊥
   not_cut o u r a b same so su sound lt = stop a so
     where
       state : OpenText H
-      state = run empty (covers o)
+      state = run empty (lines_covered o)
 
       below_line : (x : X) (more : List X) (n : ℕ) (c : R) → RefusesLine rules o (x ∷ more) n c → (b : Option (ℕ × R)) → Stops u (x ∷ more) b → ⊥
       below_line x more n c l None s = let none : x ∷ more ≡ [] = s.1 in cc
@@ -145,11 +145,11 @@ module _ {H X R : Type 0} (rules : Rules H X R) (clear : AreClear rules) where
         | inr k ↦ closing u.whole u.chain lt k
       ]
         where
-          closing : (whole : Forest H) (chain : List (Begun H)) → length chain < depth o → RefusesClosing rules whole chain (x ∷ more) b.0 b.1 → ⊥
+          closing : (whole : Outline H) (chain : List (OpenLine H)) → length chain < depth o → RefusesClosing rules whole chain (x ∷ more) b.0 b.1 → ⊥
           closing whole [] le k = k
           closing whole (v ∷ outer) le k = clear.not_both (depth o) x k.0.0 c k.0.1 (omega (arith, k.0.2)) l.1
 
-      below_closing : (whole : Forest H) (chain : List (Begun H)) (n : ℕ) (c : R) → depth u < length chain → Sound rules.closing (cut (depth u) (text_of whole chain)) → RefusesClosing rules whole chain r n c → ⊥
+      below_closing : (whole : Outline H) (chain : List (OpenLine H)) (n : ℕ) (c : R) → depth u < length chain → Sound rules.closing (cut (depth u) (text_of whole chain)) → RefusesClosing rules whole chain r n c → ⊥
       below_closing whole [] n c le s k = k
       below_closing whole (v ∷ outer) n c le s k =
           let none : rules.closing v.head v.below ≡ None = closed_first rules.closing (depth u) whole v outer (omega arith) s in
@@ -160,7 +160,7 @@ module _ {H X R : Type 0} (rules : Rules H X R) (clear : AreClear rules) where
       cuts =
           let mo = made o in
           let mu = made u in
-          let s = run empty (covers o) in
+          let s = run empty (lines_covered o) in
           ap (cut (depth u)) (sym mo.is) ∙ cut_cut (depth u) (depth o) s (omega arith) mo.deep ∙ ap (λ (z : List (ℕ × H)). cut (depth u) (run empty z)) same ∙ mu.is
 
       line : (r : List X) (n : ℕ) (c : R) → RefusesLine rules o r n c → Stops u r b → ⊥
@@ -174,11 +174,11 @@ module _ {H X R : Type 0} (rules : Rules H X R) (clear : AreClear rules) where
         | inr k ↦ below_closing o.whole o.chain a.0 a.1 lt (subst (Sound rules.closing) (sym cuts) sound) k
       ]
 
-  same_depth : (o u : OpenText H) → covers o ≡ covers u → depth o ≡ depth u → o ≡ u
+  same_depth : (o u : OpenText H) → lines_covered o ≡ lines_covered u → depth o ≡ depth u → o ≡ u
   same_depth o u same d =
       let mo = made o in
       let mu = made u in
-      sym mo.is ∙ ap (λ (k : ℕ). cut k (run empty (covers o))) d ∙ ap (λ (z : List (ℕ × H)). cut (depth u) (run empty z)) same ∙ mu.is
+      sym mo.is ∙ ap (λ (k : ℕ). cut k (run empty (lines_covered o))) d ∙ ap (λ (z : List (ℕ × H)). cut (depth u) (run empty z)) same ∙ mu.is
 
   -- reading stops at one place
   one_place : (text : List X) (o u : OpenText H) (r s : List X) (a b : Option (ℕ × R)) → (p : Opens rules text o r) → (q : Opens rules text u s) → Stops o r a → Stops u s b → (o ≡ u) × (r ≡ s)
@@ -190,10 +190,10 @@ module _ {H X R : Type 0} (rules : Rules H X R) (clear : AreClear rules) where
       further : (o u : OpenText H) (r s : List X) (a b : Option (ℕ × R)) → (p : Opens rules text o r) → (q : Opens rules text u s) → Stops o r a → Stops u s b → (m : List X) → q.front ≡ p.front ++ m → r ≡ m ++ s → (o ≡ u) × (r ≡ s)
       further o u r s a b p q so su (x ∷ m) longer rest = absurd (not_later text o u r s a p q so x m longer rest)
       further o u r s a b p q so su [] longer rest =
-          let says : AllZip rules.Says (p.front ++ []) (covers u) = subst (λ (z : List X). AllZip rules.Says z (covers u)) longer q.says in
-          let t = parts p.front [] (covers o) (covers u) p.says says in
+          let says : AllZip rules.Says (p.front ++ []) (lines_covered u) = subst (λ (z : List X). AllZip rules.Says z (lines_covered u)) longer q.says in
+          let t = parts p.front [] (lines_covered o) (lines_covered u) p.says says in
           let none : t.more ≡ [] = nothing t.more t.says in
-          let same : covers o ≡ covers u = sym (t.are ∙ ap (λ (z : List (ℕ × H)). covers o ++ z) none ∙ append-nil (covers o)) in
+          let same : lines_covered o ≡ lines_covered u = sym (t.are ∙ ap (λ (z : List (ℕ × H)). lines_covered o ++ z) none ∙ append-nil (lines_covered o)) in
           let su2 : Stops u r b = subst (λ (z : List X). Stops u z b) (sym rest) su in
           elim (cases_order (depth o) (depth u)) [
             | inl d ↦ (same_depth o u same d, rest)
@@ -209,7 +209,7 @@ module _ {H X R : Type 0} (rules : Rules H X R) (clear : AreClear rules) where
   line_or_closing : (o : OpenText H) (x : X) (more : List X) (n m : ℕ) (a c : R) → RefusesLine rules o (x ∷ more) n a → RefusesClosing rules o.whole o.chain (x ∷ more) m c → ⊥
   line_or_closing o x more n m a c l k = on o.whole o.chain refl k
     where
-      on : (whole : Forest H) (chain : List (Begun H)) → depth o ≡ length chain → RefusesClosing rules whole chain (x ∷ more) m c → ⊥
+      on : (whole : Outline H) (chain : List (OpenLine H)) → depth o ≡ length chain → RefusesClosing rules whole chain (x ∷ more) m c → ⊥
       on whole [] d k = k
       on whole (v ∷ outer) d k = clear.not_both (depth o) x k.0.0 a k.0.1 (omega (arith, k.0.2, d)) l.1
 
@@ -217,7 +217,7 @@ module _ {H X R : Type 0} (rules : Rules H X R) (clear : AreClear rules) where
   two_lines o [] n m a c l k = absurd l
   two_lines o (x ∷ more) n m a c l k = (l.2 ∙ sym k.2, clear.one_reason (depth o) x a c l.1 k.1)
 
-  two_closings : (whole : Forest H) (chain : List (Begun H)) (r : List X) (n m : ℕ) (a c : R) → RefusesClosing rules whole chain r n a → RefusesClosing rules whole chain r m c → (n ≡ m) × (a ≡ c)
+  two_closings : (whole : Outline H) (chain : List (OpenLine H)) (r : List X) (n m : ℕ) (a c : R) → RefusesClosing rules whole chain r n a → RefusesClosing rules whole chain r m c → (n ≡ m) × (a ≡ c)
   two_closings whole [] r n m a c l k = absurd l
   two_closings whole (v ∷ outer) r n m a c l k = let e : ◌≡◌ {A = Option R} (Some a) (Some c) = sym l.1 ∙ k.1 in (l.2 ∙ sym k.2, cc)
 
@@ -234,7 +234,7 @@ module _ {H X R : Type 0} (rules : Rules H X R) (clear : AreClear rules) where
     | inr l ↦ elim q [ inl k ↦ absurd (not_line_and_closing o r m n c a k l) | inr k ↦ two_closings o.whole o.chain r n m a c l k ]
   ]
 
-  listed : (text : List X) (f : Forest H) → Lists rules text f → Opens rules text (text_of f []) []
+  listed : (text : List X) (f : Outline H) → Lists rules text f → Opens rules text (text_of f []) []
   listed text f l = record { front = text; lines_are = sym (append-nil text); says = subst (AllZip rules.Says text) (sym (append-nil (nodes 0 f))) l.says; sound = (l.close, tt) }
 
   pub told : (text : List X) → HasOneAnswer rules text
@@ -251,10 +251,10 @@ module _ {H X R : Type 0} (rules : Rules H X R) (clear : AreClear rules) where
       ends : (o : OpenText H) (r : List X) (n : ℕ) (a : R) → o.chain ≡ [] → r ≡ [] → Refuses o r n a → ⊥
       ends o r n a c e s = elim s [
         | inl l ↦ subst (λ (z : List X). RefusesLine rules o z n a) e l
-        | inr k ↦ subst (λ (z : List (Begun H)). RefusesClosing rules o.whole z r n a) c k
+        | inr k ↦ subst (λ (z : List (OpenLine H)). RefusesClosing rules o.whole z r n a) c k
       ]
 
-      neither : (f g : Forest H) (n : ℕ) (a : R) → Lists rules text f → Refused rules text n a g → ⊥
+      neither : (f g : Outline H) (n : ℕ) (a : R) → Lists rules text f → Refused rules text n a g → ⊥
       neither f g n a p q =
           let e = one_place text (text_of f []) q.opened [] q.rest None (Some (n, a)) (listed text f p) q.opens (refl, refl) q.refuses in
           ends q.opened q.rest n a (ap (λ (o : OpenText H). o.chain) (sym e.0)) (sym e.1) q.refuses

@@ -8,7 +8,7 @@ use Rattle.llrp_schema.specs.declared.kinds.Kind.TheVariants.{Message, Parameter
 use Rattle.llrp_listing.specs.ListingRules.{parameters_onto, parameters_of, message_of, lines_onto, row}
 use Rattle.llrp_listing.specs.MessageListing.{parameter_lines, message_lines, messages_lines}
 use Rattle.llrp_listing.specs.NodeLine.{NodeLine, parameter_line, message_line}
-use Rattle.llrp_listing.specs.OpenText.{Forest, end, node, nodes}
+use Rattle.llrp_listing.specs.OpenText.{Outline, end, node, nodes}
 use Rattle.llrp_listing.specs.Private.OpenTextSteps.{join}
 
 -- parameters in a row, and then others
@@ -20,7 +20,7 @@ both_none : (f : tree.Forest) → both tree.none f ≡ f
 both_none tree.none = refl
 both_none (tree.and before kind fields tail children) = ap (λ (z : tree.Forest). tree.and z kind fields tail children) (both_none before)
 
-parameters_back_onto : (b f : tree.Forest) (after : Forest NodeLine) → parameters_onto b (lines_onto f after) ≡ parameters_onto (both b f) after
+parameters_back_onto : (b f : tree.Forest) (after : Outline NodeLine) → parameters_onto b (lines_onto f after) ≡ parameters_onto (both b f) after
 parameters_back_onto b tree.none after = refl
 parameters_back_onto b (tree.and before kind fields tail children) after =
     parameters_back_onto b before (node (parameter_line kind fields tail) (lines_onto children end) after)
@@ -30,7 +30,7 @@ parameters_back_onto b (tree.and before kind fields tail children) after =
 pub parameters_back : (f : tree.Forest) → parameters_of (lines_onto f end) ≡ f
 parameters_back f = parameters_back_onto tree.none f end ∙ both_none f
 
-pub lines_join : (f : tree.Forest) (a b : Forest NodeLine) → lines_onto f (join a b) ≡ join (lines_onto f a) b
+pub lines_join : (f : tree.Forest) (a b : Outline NodeLine) → lines_onto f (join a b) ≡ join (lines_onto f a) b
 lines_join tree.none a b = refl
 lines_join (tree.and before kind fields tail children) a b = lines_join before (node (parameter_line kind fields tail) (lines_onto children end) a) b
 
@@ -43,7 +43,7 @@ row_more [] m = refl
 row_more (n ∷ ms) m = ap (node (message_line n) (lines_onto n.children end)) (row_more ms m)
 
 -- the lines of trees are those of the listing
-nodes_lines : (d : ℕ) (f : tree.Forest) (after : Forest NodeLine) → nodes d (lines_onto f after) ≡ parameter_lines d f ++ nodes d after
+nodes_lines : (d : ℕ) (f : tree.Forest) (after : Outline NodeLine) → nodes d (lines_onto f after) ≡ parameter_lines d f ++ nodes d after
 nodes_lines d tree.none after = refl
 nodes_lines d (tree.and before kind fields tail children) after =
     nodes_lines d before (node (parameter_line kind fields tail) (lines_onto children end) after)
@@ -57,13 +57,13 @@ nodes_row (m ∷ ms) =
     ∙ ap (λ (z : List (ℕ × NodeLine)). message_lines m ++ z) (nodes_row ms)
 
 -- the messages of lines in a row
-abbrev messages_of : Forest NodeLine → List MessageTree
+abbrev messages_of : Outline NodeLine → List MessageTree
 messages_of end = []
-messages_of (node line below after) = one line.kind line.numbers below (messages_of after)
+messages_of (node line below after) = one line.kind line.numbers line.tail below (messages_of after)
   where
-    one : Kind → List ℕ → Forest NodeLine → List MessageTree → List MessageTree
-    one (Message kind) numbers below ms = message_of kind numbers below ∷ ms
-    one (Parameter kind) numbers below ms = ms
+    one : Kind → List ℕ → List ℕ → Outline NodeLine → List MessageTree → List MessageTree
+    one (Message kind) numbers tail below ms = message_of kind numbers tail below ∷ ms
+    one (Parameter kind) numbers tail below ms = ms
 
 messages_back : (ms : List MessageTree) → messages_of (row ms) ≡ ms
 messages_back [] = refl

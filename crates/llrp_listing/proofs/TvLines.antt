@@ -1,6 +1,6 @@
 -- The line of a parameter with a type and a value alone.
-use Rattle.std.proofs.Common.{◌≡◌, ℕ, ◌+◌, ◌-◌, ◌/◌, ◌^◌, ◌<◌, ◌≤◌, Bool, true, false, List, [], ◌∷◌, length, map, get_or, min, Option, Some, None, refl, sym, ap, subst, ◌∙◌, arith}
-use Rattle.std.specs.Prelude.{nat_le, ◌&&◌, is_none}
+use Rattle.std.proofs.Common.{◌≡◌, ℕ, ◌+◌, ◌-◌, ◌/◌, ◌^◌, ◌<◌, ◌≤◌, Bool, true, false, List, [], ◌∷◌, length, map, get_or, min, Option, None, refl, sym, ap, subst, ◌∙◌, arith}
+use Rattle.std.specs.Prelude.{nat_le, ◌&&◌}
 use Rattle.std.proofs.lemmas.Bool.{leb-true}
 use Rattle.std.proofs.Math.Pow.{lt_of_le_ones}
 use Rattle.llrp_schema.specs.declared.kinds.Field.{Field}
@@ -16,7 +16,7 @@ use Rattle.llrp_tree.specs.declared.node.NodeFault.TheVariants.{Tail as BadTail,
 use Rattle.llrp_tree.specs.Checks.{first_failed, tail_fits, values_fit}
 use Rattle.llrp_tree.specs.Lawful.{body_octets, count_octets}
 use Rattle.llrp_tree.specs.Calls.Lawful.{own_octets}
-use Rattle.llrp_tree.specs.Calls.Spelled.{IsOnlyField}
+use Rattle.llrp_tree.specs.Calls.HeadOctets.{IsOnlyField}
 use Rattle.llrp_tree.proofs.TvLemmas.{few_width, field_width, head_bits}
 use Rattle.llrp_listing.specs.Private.OpenNodes.{MOST}
 

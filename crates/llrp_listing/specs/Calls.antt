@@ -4,6 +4,8 @@ pub mod EpcLines
 pub mod Fault
 pub mod FirstRefusal
 pub mod Hexadecimal
+pub mod ItemPrinter
 pub mod ListingLaws
 pub mod PrintingLaws
+pub mod Show
 pub mod Splits

@@ -2,7 +2,7 @@
 use Rattle.std.specs.Prelude.{◌≡◌, ℕ, ◌+◌, ◌<◌, ◌≤◌, List, ◌++◌}
 use Rattle.std.specs.Io.KnownBytes.{IsAtEnd, Consumes}
 use Rattle.llrp_stream.specs.Device.{SourceLog, Gave}
-use Rattle.llrp_listing.specs.declared.copying.TheConstants.{MOST_READS}
+use Rattle.llrp_listing.specs.declared.devices.TheConstants.{MOST_READS}
 
 -- All that the source had left was read, until a read met its end.
 pub record ReadAll (old new : SourceLog) (bytes : List ℕ) : Type 0 where

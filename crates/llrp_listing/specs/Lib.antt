@@ -1,4 +1,4 @@
-pub mod Checks
+pub mod OrderedChecks
 pub mod Copying
 pub mod Encoding
 pub mod FirstRefusal

@@ -11,7 +11,7 @@ use Rattle.llrp_schema.specs.Schema.{FieldRule, name_of, plain_fields_of, tail_o
 use Rattle.llrp_tree.specs.Tree.{MessageTree, words_of}
 use Rattle.tag_uri.specs.TagText.{IsTextOf}
 
--- What is on one line: the kind, the numbers (a message's version and id, and then the plain fields), and the octets of a parameter's tail.
+-- What is on one line: the kind, the numbers (a message's version and id, and then the plain fields), and the octets of the tail.
 pub record NodeLine : Type 0 where
   pub kind : Kind
   pub numbers : List ℕ
@@ -19,7 +19,7 @@ pub record NodeLine : Type 0 where
 
 -- the line of a message
 abbrev pub message_line : MessageTree → NodeLine
-message_line m = record { kind = Message m.kind; numbers = m.version ∷ m.id ∷ m.fields; tail = [] }
+message_line m = record { kind = Message m.kind; numbers = m.version ∷ m.id ∷ m.fields; tail = m.tail }
 
 -- the line of a parameter
 abbrev pub parameter_line : ParamKind → List ℕ → List ℕ → NodeLine

@@ -2,11 +2,12 @@
 pub mod Copying
 pub mod Encoder
 pub mod FirstRefusal
-pub mod Handing
+pub mod Flushing
 pub mod LineChecks
 pub mod LineOctets
 pub mod LineReading
 pub mod Lister
+pub mod ListerCalls
 pub mod Numeral
 pub mod OpenLines
 pub mod OpenNodes
@@ -14,9 +15,10 @@ pub mod OpenListing
 pub mod OpenTextSteps
 pub mod Place
 pub mod Printing
+pub mod Profile
 pub mod ShortLines
 pub mod Splits
-pub mod Standing
-pub mod Taking
-pub mod Writer
+pub mod EncoderState
+pub mod TakingLines
+pub mod EncodeBuffer
 pub mod Tails

@@ -3,8 +3,8 @@ use Rattle.std.specs.Prelude.{ℕ, List, ◌++◌, codes}
 use Rattle.llrp_tree.specs.declared.node.NodeFault.{NodeFault}
 use Rattle.llrp_tree.specs.declared.node.NodeFault.TheVariants as fault
 use Rattle.tag_uri.specs.TagText.{fault_name}
-use Rattle.llrp_listing.specs.declared.fault.Refusal.{Refusal}
-use Rattle.llrp_listing.specs.declared.fault.Refusal.TheVariants as refusal
+use Rattle.llrp_listing.specs.declared.outcome.Refusal.{Refusal}
+use Rattle.llrp_listing.specs.declared.outcome.Refusal.TheVariants as refusal
 
 -- the word for a fault of a parameter or a message
 abbrev pub node_fault_name : NodeFault → List ℕ

@@ -11,26 +11,26 @@ use Rattle.llrp_stream.specs.declared.item.End.TheVariants.{Clean, Rest, Broken,
 use Rattle.llrp_listing.specs.MessageListing.{AreLines, message_lines}
 
 -- the word for a fault
-unfoldable pub reason_name : Reason → List ℕ
-reason_name Reserved = codes "Reserved"
-reason_name Version = codes "Version"
-reason_name MessageType = codes "MessageType"
-reason_name MessageLength = codes "MessageLength"
-reason_name Short = codes "Short"
-reason_name Value = codes "Value"
-reason_name Count = codes "Count"
-reason_name Utf8 = codes "Utf8"
-reason_name ParamType = codes "ParamType"
-reason_name Misplaced = codes "Misplaced"
-reason_name TooMany = codes "TooMany"
-reason_name TooDeep = codes "TooDeep"
-reason_name ParamLength = codes "ParamLength"
-reason_name Extra = codes "Extra"
-reason_name Missing = codes "Missing"
+unfoldable pub frame_fault_name : Reason → List ℕ
+frame_fault_name Reserved = codes "Reserved"
+frame_fault_name Version = codes "Version"
+frame_fault_name MessageType = codes "MessageType"
+frame_fault_name MessageLength = codes "MessageLength"
+frame_fault_name Short = codes "Short"
+frame_fault_name Value = codes "Value"
+frame_fault_name Count = codes "Count"
+frame_fault_name Utf8 = codes "Utf8"
+frame_fault_name ParamType = codes "ParamType"
+frame_fault_name Misplaced = codes "Misplaced"
+frame_fault_name TooMany = codes "TooMany"
+frame_fault_name TooDeep = codes "TooDeep"
+frame_fault_name ParamLength = codes "ParamLength"
+frame_fault_name Extra = codes "Extra"
+frame_fault_name Missing = codes "Missing"
 
 -- the line of a frame that is no message's: its id, and the bit and the word of its first fault
 unfoldable pub fault_text : ℕ → Fault → List ℕ
-fault_text id fault = codes "! " ++ (decimal id ++ (codes " " ++ (decimal fault.bit ++ (codes " " ++ (reason_name fault.reason ++ codes "\n")))))
+fault_text id fault = codes "! " ++ (decimal id ++ (codes " " ++ (decimal fault.bit ++ (codes " " ++ (frame_fault_name fault.reason ++ codes "\n")))))
 
 -- the text of an item
 abbrev pub IsItemText : Item → List ℕ → Type 0
@@ -44,17 +44,21 @@ end_text (Rest n) = codes "? " ++ (decimal n ++ codes "\n")
 end_text Broken = codes "! BROKEN\n"
 end_text Dead = []
 
--- The texts of items, one after another.
-pub record AreItemTexts (items : List Item) (text : List ℕ) : Type 0 where
+-- The texts of items, one after another, where this says what the text of an item is.
+pub record AreTexts (IsText : Item → List ℕ → Type 0) (items : List Item) (text : List ℕ) : Type 0 where
   pub texts : List (List ℕ)
-  pub each : AllZip IsItemText items texts
+  pub each : AllZip IsText items texts
   pub text_is : text ≡ flat_map (λ item. item) texts
 
--- The text is the listing of these items and this end: the items' texts in order, and then the end's line.
-pub record IsStreamListing (items : List Item) (end : End) (text : List ℕ) : Type 0 where
+-- The text of items and of an end: the items' texts in order, and then the end's.
+pub record IsStreamText (IsText : Item → List ℕ → Type 0) (text_of_end : End → List ℕ) (items : List Item) (end : End) (text : List ℕ) : Type 0 where
   pub front : List ℕ
-  pub lines : AreItemTexts items front
-  pub text_is : text ≡ front ++ end_text end
+  pub lines : AreTexts IsText items front
+  pub text_is : text ≡ front ++ text_of_end end
+
+-- the text is the listing of these items and this end
+abbrev pub IsStreamListing : List Item → End → List ℕ → Type 0
+IsStreamListing items end text = IsStreamText IsItemText end_text items end text
 
 -- the item is a message
 abbrev pub is_message : Item → Bool

@@ -4,7 +4,7 @@ ghost use Rattle.std.specs.Prelude.{◌∷◌, ◌≡◌, ◌≤◌, FitsSigned,
 ghost use Rattle.std.specs.Fmt.{signed_decimal};
 ghost use Rattle.std.specs.Int.{w8};
 
-use crate::number::numeral;
+use crate::read_numbers::numeral;
 
 /// The number up to `most` that the word is in decimal, or `None`.
 pub fn number_of(word: &[u8], most: u64) -> Option<u64>

@@ -1,12 +1,13 @@
 //! The command `epc`: from a word's digits to its text, and from a text to its word's digits.
 
-ghost use Rattle.std.specs.Prelude.{◌≡◌, ◌++◌, ◌+◌, ◌^◌, ◌<◌, List, ℕ, IfNone, IfOk, IfSome, OnOk};
+ghost use Rattle.std.specs.Prelude.{◌≡◌, ◌++◌, ◌^◌, ◌<◌, List, ℕ, IfNone, IfOk, IfSome, OnOk};
 ghost use Rattle.tag_bits.specs.Digits.{digits_of_bytes, word_digits};
 ghost use Rattle.tag_uri.specs.Hexadecimal.{hexadecimal};
 ghost use Rattle.llrp_listing.specs.Calls.EpcLines.{AreDigitsOf, AreWordLines, IsRemark, IsTextLine, Prints, PrintsEpc, line, refusal_line, remark_line};
+ghost use Rattle.llrp_stream.specs.Device.{IsFreshSink};
 
-use crate::copying::write_all;
-use crate::fault::{ToolErr, Verdict};
+use crate::devices::write_all;
+use crate::outcome::{ToolErr, Verdict};
 use hex::FromHex;
 use itoa::Buffer;
 use llrp_stream::Sink;
@@ -125,7 +126,7 @@ fn push_answer(alloc: Global, lines: &mut Vec<u8>, text: &str) -> Result<Verdict
 /// Standard 1.13, section 12). The errors are `Memory`, and `Write`, after which some first part of
 /// the lines was written.
 pub fn run_epc<W: Sink>(alloc: Global, text: &str, w: &mut W) -> Result<Verdict, ToolErr>
-    requires { (W.log w.old).failures < 2 ^ 63 }
+    requires { IsFreshSink (W.log w.old) }
     ensures { PrintsEpc text.now (W.log w.old) (W.log w.new) result }
 {
     let mut lines = Vec::new(alloc);

@@ -1,17 +1,18 @@
 //! Laws of listings, and of what `epc` prints.
 
 ghost use Rattle.std.specs.Prelude.{List, ◌≡◌, ℕ};
+ghost use Rattle.llrp_schema.specs.declared.kinds.Profile.{Profile};
 ghost use Rattle.llrp_tree.specs.Tree.{MessageTree};
-ghost use Rattle.llrp_listing.specs.declared.fault.Verdict.{Verdict};
+ghost use Rattle.llrp_listing.specs.declared.outcome.Verdict.{Verdict};
 ghost use Rattle.llrp_listing.specs.Calls.EpcLines.{Prints};
 ghost use Rattle.llrp_listing.specs.Calls.ListingLaws.{HasShortLines, ListedOrRefused};
 ghost use Rattle.llrp_listing.specs.Calls.PrintingLaws.{OneTextOfItems, OneTextOfMessages};
 ghost use Rattle.llrp_listing.specs.PrintingLaws.{PrintsBack};
 
-/// A text is the listing of at most one list of messages within the limit, or has at most one first
-/// refusal, and never both.
+/// In either set of kinds, a text is the listing of at most one list of messages within the limit, or
+/// has at most one first refusal, and never both.
 pub fn listed_or_refused()
-    ensures { (limit : ℕ) (text : List ℕ) → ListedOrRefused limit text }
+    ensures { (p : Profile) (limit : ℕ) (text : List ℕ) → ListedOrRefused p limit text }
 {}
 
 /// No line of a lawful message is longer than a line may be.
@@ -29,8 +30,8 @@ pub fn one_text_of_items()
     ensures { OneTextOfItems }
 {}
 
-/// Where a text is the listing of messages, the stream of their octets has that text as its
-/// listing, and no other.
+/// Where a text is the listing of messages of either set of kinds, the stream of their octets has
+/// that text as its listing, and no other.
 pub fn prints_back()
     ensures { PrintsBack }
 {}

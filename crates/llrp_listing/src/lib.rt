@@ -11,28 +11,34 @@
 //! ```
 #![tactic(auto)]
 
-mod copying;
 mod decimal;
+mod devices;
 mod encode;
 mod epc;
-mod fault;
-mod hexadecimal;
+mod hex_input;
+mod item_printer;
 pub mod laws;
-mod line;
-mod listing;
 mod near;
-mod number;
+mod outcome;
+mod parse_line;
 mod printing;
+mod read_numbers;
+mod read_tail;
+mod reason;
 mod show;
-mod spaced;
-mod tail;
+mod split;
 
-pub use copying::{MOST_READS, READ_SIZE, hand_on, read_all, write_all};
 pub use decimal::{number_of, signed_byte_of};
-pub use encode::run_encode;
+pub use devices::{MOST_READS, Pieces, READ_SIZE, hand_on, read_all, write_all};
+pub use encode::{run_encode, run_encode_in};
 pub use epc::run_epc;
-pub use fault::{Refusal, ToolErr, Verdict, error_of};
-pub use hexadecimal::bytes_of_hex;
-pub use listing::{push_number, push_signed, push_tail};
-pub use show::{list_stream, run_show};
-pub use spaced::split_once;
+pub use hex_input::{bytes_of_hex, push_hexadecimal};
+pub use item_printer::ItemPrinter;
+pub use outcome::{Refusal, ToolErr, Verdict, error_of};
+pub use parse_line::{LONGEST_LINE, LONGEST_WHOLE_LINE};
+pub use printing::Text;
+pub use reason::reason_name;
+pub use show::{
+    list_stream, list_stream_in, list_stream_with, run_show, run_show_in, run_show_with,
+};
+pub use split::split_once;

@@ -4,7 +4,7 @@ ghost use Rattle.std.specs.Prelude.{◌≡◌, ◌≤◌, ◌==◌, ℕ, MatchOp
 ghost use Rattle.std.specs.List.{prefix_len};
 ghost use Rattle.llrp_listing.specs.Calls.Splits.{IsSplit, Lacks};
 
-use crate::spaced::split_once;
+use crate::split::split_once;
 use std::simd::prelude::*;
 
 /// How many octets are looked at.
@@ -28,7 +28,7 @@ fn octets_before(text: &[u8], byte: u8) -> u32
 
 /// How many of the first octets of a text are those of a row.
 #[inline(always)]
-pub fn octets_alike(text: &[u8], row: &[u8]) -> u32
+pub(crate) fn octets_alike(text: &[u8], row: &[u8]) -> u32
     requires text { 32 ≤ length text.now }
     requires row { 32 ≤ length row.now }
     ensures { (k : ℕ) → k ≤ result → take k text.now ≡ take k row.now }
@@ -46,7 +46,7 @@ pub fn octets_alike(text: &[u8], row: &[u8]) -> u32
 /// The bytes before the first such byte and those after it; `None` if there is no such byte. The byte is
 /// likely to be near.
 #[inline(always)]
-pub fn split_near(bytes: &[u8], byte: u8) -> Option<(&[u8], &[u8])>
+pub(crate) fn split_near(bytes: &[u8], byte: u8) -> Option<(&[u8], &[u8])>
     ensures { MatchOption result (Lacks byte bytes.now)
         (λ parts. IsSplit byte bytes.now parts.0.now parts.1.now) }
 {

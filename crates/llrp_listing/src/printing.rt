@@ -1,11 +1,12 @@
 //! Prints what is read, line by line, straight into a text.
 
 mod decimal;
-mod ends;
-mod place;
+mod fault_lines;
+mod lines;
 mod printer;
+mod put;
 mod tails;
 mod text;
-mod words;
 
 pub(crate) use printer::Printer;
+pub use text::Text;

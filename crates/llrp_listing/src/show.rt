@@ -1,15 +1,24 @@
-//! Lists a stream.
-
-ghost use Rattle.std.specs.Prelude.{◌&&◌, ◌+◌, ◌++◌, ◌<◌, ◌^◌, ◌≡◌, ◌≤◌, IfErr, IfOk, List, MatchResult, ℕ};
-ghost use Rattle.llrp_stream.specs.Device.{IsFreshSource, SinkLog};
+ghost use Rattle.std.specs.Prelude.{◌&&◌, ◌≡◌, ◌≤◌, [], IfErr, IfOk, List, OnOk, ℕ};
+ghost use Rattle.llrp_schema.specs.declared.kinds.Profile.{Profile};
+ghost use Rattle.llrp_stream.specs.Device.{IsFreshSink, IsFreshSource, SinkLog};
+ghost use Rattle.llrp_stream.specs.declared.engine.frames.Outcome.TheVariants.{Bad};
 ghost use Rattle.llrp_tree.specs.declared.TheConstants.{MAX_LIMIT};
-ghost use Rattle.llrp_listing.specs.Show.{Listed, Shows, Stopped, verdict_of};
+ghost use Rattle.llrp_tree.specs.OpenTree.{Begun};
+ghost use Rattle.llrp_listing.specs.Calls.Copying.{Writes};
+ghost use Rattle.llrp_listing.specs.Calls.ItemPrinter.{HasOneText, HasText};
+ghost use Rattle.llrp_listing.specs.Calls.Show.{Listed, ListedIn, Stopped, StoppedIn};
+ghost use Rattle.llrp_listing.specs.Private.Lister.{CanGoOn, GoesOn, HandsOnOrFails};
+ghost use Rattle.llrp_listing.specs.Private.ListerCalls.{EndsListing, FeedsPiece, HoldsFew, ListsOutcome};
+ghost use Rattle.llrp_listing.specs.Show.{ListedAs, Shows, ShowsAs, ShowsIn, StoppedAs, verdict_of};
 ghost use Rattle.llrp_listing.specs.StreamListing.{is_clean};
+ghost use Rattle.llrp_stream.specs.Calls.Device.{CanWrite};
 
-use crate::copying::{MOST_READS, READ_SIZE};
-use crate::fault::{ToolErr, Verdict};
+use crate::devices::{PIECE_SIZE, Pieces, write_all};
+use crate::item_printer::ItemPrinter;
+use crate::outcome::{ToolErr, Verdict};
 use crate::printing::Printer;
-use llrp_stream::{Came, End, FeedErr, Frames, Listener, Outcome, Sink, Source};
+use llrp_schema::Profile;
+use llrp_stream::{Came, End, FeedErr, Frames, Outcome, Sink, Source};
 use llrp_tree::Fault;
 use std::alloc::Global;
 
@@ -23,61 +32,88 @@ fn verdict(lawful: bool, end: End) -> Verdict
     }
 }
 
-/// Lists a stream that comes in pieces. It keeps no message: a message's lines go straight into the
-/// text, and are cut off again if its frame turns out to be faulty.
+/// Writes the texts of whole items to the sink, and removes them.
+fn hand_on<P: ItemPrinter, W: Sink>(printer: &mut P, w: &mut W) -> Result<(), ToolErr>
+    requires some { (was : List ℕ) × HasText (P.begins printer.old) (P.stands printer.old) was }
+    requires sink { CanWrite (W.log w.old) }
+    ensures written { (was : List ℕ) → HasText (P.begins printer.old) (P.stands printer.old) was
+        → Writes was (W.log w.old) (W.log w.new) result }
+    ensures begins { OnOk result ((was : List ℕ) (t : List Begun) → P.begins printer.old was t
+        → P.begins printer.new [] t) }
+    ensures stands { OnOk result ((was : List ℕ) (t : List Begun) → P.stands printer.old was t
+        → P.stands printer.new [] t) }
+{
+    write_all(w, printer.whole())?;
+    printer.drop_whole();
+    Ok(())
+}
+
+/// Writes the texts of whole items to the sink once they are 64 KiB.
+#[inline]
+fn hand_on_pieces<P: ItemPrinter, W: Sink>(printer: &mut P, w: &mut W) -> Result<(), ToolErr>
+    requires some { (was : List ℕ) × P.stands printer.old was [] }
+    requires sink { CanWrite (W.log w.old) }
+    ensures { (was : List ℕ) → P.stands printer.old was []
+        → HandsOnOrFails (P.stands printer.new) was (W.log w.old) (W.log w.new) result }
+{
+    if printer.whole().len() < PIECE_SIZE {
+        return Ok(());
+    }
+    hand_on(printer, w)
+}
+
+/// Lists a stream that comes in pieces. It keeps no message: a message's text goes straight to the
+/// printer, and is cut off again if its frame turns out to be faulty.
 #[derive(Drop)]
-pub(crate) struct Lister {
+pub(crate) struct Lister<P: ItemPrinter + Drop> {
     frames: Frames,
-    printer: Printer,
+    printer: P,
     /// Whether each frame so far is a message.
     lawful: bool,
 }
 
-impl Lister {
-    ghost use Rattle.std.specs.Prelude.{[], OnOk, length};
-    ghost use Rattle.llrp_tree.specs.declared.TheConstants.{MAX_LIMIT};
-    ghost use Rattle.llrp_stream.specs.declared.reading.frames.Outcome.TheVariants.{Bad};
-    ghost use Rattle.llrp_listing.specs.Private.Lister.{CanGoOn, Feeds, Finishes, GoesOn, KeepsFew, ListsOrFails, Tells};
-
-    /// A lister of a stream of which nothing was read. Frames longer than `limit` octets are
-    /// faulty.
-    fn new(alloc: Global, limit: u32) -> Lister
+impl<P: ItemPrinter + Drop> Lister<P> {
+    /// A lister of a stream of frames of a set of kinds, of which nothing was read, for a printer
+    /// that holds nothing. Frames longer than `limit` octets are faulty.
+    fn new(printer: P, profile: Profile, limit: u32) -> Lister<P>
+        requires fresh { P.stands printer [] [] }
         requires least { 10 ≤ limit }
         requires most { limit ≤ MAX_LIMIT }
-        ensures { (log : SinkLog) → GoesOn limit [] [] log log result }
+        ensures { (log : SinkLog)
+            → GoesOn P.is_text (P.begins result.printer) (P.stands result.printer) profile limit []
+            [] log log result.frames result.lawful }
     {
         Lister {
-            frames: Frames::new(limit),
-            printer: Printer::new(alloc),
+            frames: Frames::new_in(profile, limit),
+            printer,
             lawful: true,
         }
     }
 
-    /// Appends the line of a faulty frame, and writes the text to the sink once it is long enough.
+    /// Appends the text of a faulty frame, and writes the texts to the sink once they are long enough.
     fn list_fault<W: Sink>(&mut self, id: u32, fault: Fault, w: &mut W) -> Result<(), ToolErr>
-        requires { (W.log w.old).failures + 1 < 2 ^ 64 }
+        requires some { (was : List ℕ) × P.stands self.old.printer was [] }
+        requires sink { CanWrite (W.log w.old) }
         ensures frames { self.new.frames ≡ self.old.frames }
-        ensures lists { (limit : ℕ) (frame was : List ℕ)
-            → Tells self.old.printer was limit frame (Bad id fault)
-            → ListsOrFails limit frame was self.old self.new (W.log w.old) (W.log w.new) result }
+        ensures lists { ListsOutcome P.is_text P.stands P.ends (Bad id fault) self.old self.new
+            (W.log w.old) (W.log w.new) result }
     {
         self.printer.push_fault(id, fault)?;
         self.lawful = false;
-        self.printer.hand_on_pieces(w)
+        hand_on_pieces(&mut self.printer, w)
     }
 
-    /// Appends the line of a frame that ended, if it was faulty, and writes the text to the sink once
-    /// it is long enough.
+    /// Appends the text of a frame that ended, if it was faulty, and writes the texts to the sink
+    /// once they are long enough.
     fn list<W: Sink>(&mut self, outcome: Outcome, w: &mut W) -> Result<(), ToolErr>
-        requires within { self.old.printer.mark ≤ length self.old.printer.text }
-        requires sink { (W.log w.old).failures + 1 < 2 ^ 64 }
+        requires some { (was : List ℕ) × P.stands self.old.printer was [] }
+        requires sink { CanWrite (W.log w.old) }
         ensures frames { self.new.frames ≡ self.old.frames }
-        ensures lists { (limit : ℕ) (frame was : List ℕ)
-            → Tells self.old.printer was limit frame outcome
-            → ListsOrFails limit frame was self.old self.new (W.log w.old) (W.log w.new) result }
+        ensures lists { ListsOutcome P.is_text P.stands P.ends outcome self.old self.new
+            (W.log w.old) (W.log w.new) result }
     {
         match outcome {
-            Outcome::Whole => self.printer.hand_on_pieces(w),
+            Outcome::Whole => hand_on_pieces(&mut self.printer, w),
             Outcome::Bad { id, fault } => self.list_fault(id, fault, w),
         }
     }
@@ -85,15 +121,14 @@ impl Lister {
     /// Writes the text of the frames that end in this piece of the stream. Returns whether the
     /// stream goes on, which it does unless it is broken.
     fn feed<W: Sink>(&mut self, piece: &[u8], w: &mut W) -> Result<bool, ToolErr>
-        requires sink { (W.log w.old).failures + 1 < 2 ^ 64 }
-        requires on { CanGoOn (W.log w.old) self.old }
-        ensures feeds { (limit : ℕ) (bytes gathered : List ℕ) (log : SinkLog)
-            → GoesOn limit bytes gathered log (W.log w.old) self.old
-            → Feeds limit (bytes ++ piece.now) log (W.log w.new) self.new result }
+        requires one { HasOneText P.is_text }
+        requires sink { CanWrite (W.log w.old) }
+        requires on { CanGoOn P.is_text (P.begins self.old.printer) (P.stands self.old.printer) (W.log w.old)
+            self.old.frames self.old.lawful }
+        ensures feeds { FeedsPiece P.is_text P.text_of_end P.begins P.stands piece.now
+            self.old self.new (W.log w.old) (W.log w.new) result }
         // What the engine keeps of a frame is at most 16 octets as they are, and within the limit.
-        ensures held { (limit : ℕ) (bytes gathered : List ℕ) (log : SinkLog)
-            → GoesOn limit bytes gathered log (W.log w.old) self.old → 10 ≤ limit
-            → OnOk result (KeepsFew limit self.new) }
+        ensures held { HoldsFew P.is_text P.begins P.stands self.old self.new (W.log w.old) result }
     {
         let mut rest = piece;
         'frames: loop {
@@ -103,7 +138,7 @@ impl Lister {
                 Err(FeedErr::Memory | FeedErr::Dead) => return Err(ToolErr::Memory),
             };
             let Some(outcome) = outcome else {
-                self.printer.hand_on(w)?;
+                hand_on(&mut self.printer, w)?;
                 return Ok(true);
             };
             self.list(outcome, w)?;
@@ -111,18 +146,18 @@ impl Lister {
         }
     }
 
-    /// Writes the rest of the text, and the line of the stream's end.
+    /// Writes the rest of the texts, and that of the stream's end.
     fn finish<W: Sink>(&mut self, w: &mut W) -> Result<Verdict, ToolErr>
-        requires { (W.log w.old).failures + 1 < 2 ^ 64 }
-        ensures { (limit : ℕ) (bytes : List ℕ) (log : SinkLog)
-            → Finishes limit bytes log (W.log w.old) self.old
-            → MatchResult result (λ verdict. Listed limit bytes log (W.log w.new) verdict)
-            (λ e. Stopped limit bytes log (W.log w.new) e) }
+        requires one { HasOneText P.is_text }
+        requires some { (was : List ℕ) × HasText (P.begins self.old.printer) (P.stands self.old.printer) was }
+        requires sink { CanWrite (W.log w.old) }
+        ensures { EndsListing P.is_text P.text_of_end P.begins P.stands self.old
+            (W.log w.old) (W.log w.new) result }
     {
         let end = self.frames.finish();
         self.printer.give_up();
         self.printer.push_end(end)?;
-        self.printer.hand_on(w)?;
+        hand_on(&mut self.printer, w)?;
         Ok(verdict(self.lawful, end))
     }
 }
@@ -135,14 +170,54 @@ pub fn list_stream<W: Sink>(
     w: &mut W,
     limit: u32,
 ) -> Result<Verdict, ToolErr>
-    requires sink { (W.log w.old).failures + 1 < 2 ^ 64 }
+    requires sink { CanWrite (W.log w.old) }
     requires least { 10 ≤ limit }
     requires most { limit ≤ MAX_LIMIT }
     ensures ok { IfOk result (λ verdict. Listed limit stream.now (W.log w.old)
         (W.log w.new) verdict) }
     ensures err { IfErr result (λ e. Stopped limit stream.now (W.log w.old) (W.log w.new) e) }
 {
-    let mut lister = Lister::new(alloc, limit);
+    list_stream_in(alloc, Profile::Own, stream, w, limit)
+}
+
+/// Writes the listing of a stream of frames of a set of kinds. The errors are `Write` and `Memory`, after which some first part
+/// of the listing was written.
+pub fn list_stream_in<W: Sink>(
+    alloc: Global,
+    profile: Profile,
+    stream: &[u8],
+    w: &mut W,
+    limit: u32,
+) -> Result<Verdict, ToolErr>
+    requires sink { CanWrite (W.log w.old) }
+    requires least { 10 ≤ limit }
+    requires most { limit ≤ MAX_LIMIT }
+    ensures ok { IfOk result (λ verdict. ListedIn profile limit stream.now (W.log w.old)
+        (W.log w.new) verdict) }
+    ensures err { IfErr result (λ e. StoppedIn profile limit stream.now (W.log w.old) (W.log w.new) e) }
+{
+    list_stream_with(Printer::new(alloc), profile, stream, w, limit)
+}
+
+/// The same with the texts of a printer, which holds nothing.
+pub fn list_stream_with<P: ItemPrinter + Drop, W: Sink>(
+    printer: P,
+    profile: Profile,
+    stream: &[u8],
+    w: &mut W,
+    limit: u32,
+) -> Result<Verdict, ToolErr>
+    requires one { HasOneText P.is_text }
+    requires fresh { P.stands printer [] [] }
+    requires sink { CanWrite (W.log w.old) }
+    requires least { 10 ≤ limit }
+    requires most { limit ≤ MAX_LIMIT }
+    ensures ok { IfOk result (λ verdict. ListedAs P.is_text P.text_of_end profile limit stream.now (W.log w.old)
+        (W.log w.new) verdict) }
+    ensures err { IfErr result (λ e. StoppedAs P.is_text P.text_of_end profile limit stream.now (W.log w.old)
+        (W.log w.new) e) }
+{
+    let mut lister = Lister::new(printer, profile, limit);
     let _goes_on = lister.feed(stream, w)?;
     lister.finish(w)
 }
@@ -159,27 +234,59 @@ pub fn run_show<R: Source, W: Sink>(
     limit: u32,
 ) -> Result<Verdict, ToolErr>
     requires source { IsFreshSource (R.log r.old) }
-    requires sink { (W.log w.old).failures < 2 ^ 63 }
+    requires sink { IsFreshSink (W.log w.old) }
     requires least { 10 ≤ limit }
     requires most { limit ≤ MAX_LIMIT }
     // After Ok, the source was read to its end or to a break, and the listing was written; after
     // Err, some first part of it.
     ensures { Shows limit (R.log r.old) (R.log r.new) (W.log w.old) (W.log w.new) result }
 {
-    let mut lister = Lister::new(alloc, limit);
-    let mut buffer = [0u8; READ_SIZE];
-    for _ in 0..MOST_READS {
-        let n = match r.read(&mut buffer) {
-            Ok(n) => n,
-            Err(_) => return Err(ToolErr::Read),
-        };
-        if n == 0 {
-            return lister.finish(w);
-        }
-        let goes_on = lister.feed(&buffer[..n], w)?;
+    run_show_in(alloc, Profile::Own, r, w, limit)
+}
+
+/// The same for frames of a set of kinds.
+pub fn run_show_in<R: Source, W: Sink>(
+    alloc: Global,
+    profile: Profile,
+    r: &mut R,
+    w: &mut W,
+    limit: u32,
+) -> Result<Verdict, ToolErr>
+    requires source { IsFreshSource (R.log r.old) }
+    requires sink { IsFreshSink (W.log w.old) }
+    requires least { 10 ≤ limit }
+    requires most { limit ≤ MAX_LIMIT }
+    // After Ok, the source was read to its end or to a break, and the listing was written; after
+    // Err, some first part of it.
+    ensures { ShowsIn profile limit (R.log r.old) (R.log r.new) (W.log w.old) (W.log w.new) result }
+{
+    run_show_with(Printer::new(alloc), profile, r, w, limit)
+}
+
+/// The same with the texts of a printer, which holds nothing.
+pub fn run_show_with<P: ItemPrinter + Drop, R: Source, W: Sink>(
+    printer: P,
+    profile: Profile,
+    r: &mut R,
+    w: &mut W,
+    limit: u32,
+) -> Result<Verdict, ToolErr>
+    requires one { HasOneText P.is_text }
+    requires fresh { P.stands printer [] [] }
+    requires source { IsFreshSource (R.log r.old) }
+    requires sink { IsFreshSink (W.log w.old) }
+    requires least { 10 ≤ limit }
+    requires most { limit ≤ MAX_LIMIT }
+    ensures { ShowsAs P.is_text P.text_of_end profile limit (R.log r.old) (R.log r.new) (W.log w.old)
+        (W.log w.new) result }
+{
+    let mut lister = Lister::new(printer, profile, limit);
+    let mut pieces = Pieces::new();
+    while let Some(piece) = pieces.next(r)? {
+        let goes_on = lister.feed(piece, w)?;
         if !goes_on {
             return lister.finish(w);
         }
     }
-    Err(ToolErr::Bound)
+    lister.finish(w)
 }

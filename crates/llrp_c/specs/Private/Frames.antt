@@ -2,14 +2,6 @@
 use Rattle.std.specs.Prelude.{◌≡◌, ℕ, ◌≤◌, Bool, true, false, List, length, take}
 use Rattle.std.specs.List.{AllByRecursion}
 use Rattle.llrp_stream.specs.Cuts.{Breaks, IsFrame, IsPartial, joined}
-use Rattle.llrp_c.specs.declared.frames.Next.{Next}
-use Rattle.llrp_c.specs.declared.frames.Next.TheVariants.{Whole, Partial, Break}
-
--- what a stream begins with: a whole frame of this many octets, less than a frame, or what no frame begins with
-abbrev pub BeginsWith : List ℕ → Next → Type 0
-BeginsWith stream (Whole octets) = (octets ≤ length stream) × IsFrame (take octets stream)
-BeginsWith stream Partial = IsPartial stream
-BeginsWith stream Break = Breaks stream
 
 -- what is left after the whole frames of a stream
 abbrev pub IsLeft : Bool → List ℕ → Type 0

@@ -1,27 +1,29 @@
 -- What the calls for listings are made of.
 use Rattle.std.specs.Prelude.{◌≡◌, ℕ, ◌≤◌, Bool, true, false, List, length}
+use Rattle.llrp_schema.specs.declared.kinds.Profile.{Profile}
 use Rattle.llrp_tree.specs.declared.TheConstants.{MAX_LIMIT}
 use Rattle.llrp_stream.specs.declared.item.Item.{Item}
 use Rattle.llrp_stream.specs.declared.item.End.{End}
-use Rattle.llrp_stream.specs.Items.{Items}
-use Rattle.llrp_listing.specs.declared.fault.ToolErr.{ToolErr}
-use Rattle.llrp_listing.specs.declared.fault.ToolErr.TheVariants.{Listing, Script, Hex, Read, Write, Bound, Memory, Broken, Peer, Strange, Early}
-use Rattle.llrp_listing.specs.declared.fault.Verdict.{Verdict}
-use Rattle.llrp_listing.specs.declared.fault.Verdict.TheVariants.{Lawful, Faulty}
-use Rattle.llrp_listing.specs.declared.copying.TheConstants.{MOST_READS}
-use Rattle.llrp_listing.specs.Encoding.{Refuses}
+use Rattle.llrp_stream.specs.Items.{ItemsIn}
+use Rattle.llrp_listing.specs.declared.outcome.ToolErr.{ToolErr}
+use Rattle.llrp_listing.specs.declared.outcome.ToolErr.TheVariants.{Listing, Script, Hex, Read, Write, Bound, Memory, Broken, Peer, Strange, Early}
+use Rattle.llrp_listing.specs.declared.outcome.Verdict.{Verdict}
+use Rattle.llrp_listing.specs.declared.outcome.Verdict.TheVariants.{Lawful, Faulty}
+use Rattle.llrp_listing.specs.declared.devices.TheConstants.{MOST_READS}
+use Rattle.llrp_listing.specs.Encoding.{RefusesIn}
 use Rattle.llrp_listing.specs.Show.{verdict_of}
-use Rattle.llrp_listing.specs.StreamListing.{IsStreamListing, is_lawful}
+use Rattle.llrp_listing.specs.StreamListing.{IsStreamText, is_lawful}
 use Rattle.llrp_c.specs.declared.status.Status.{Status}
 use Rattle.llrp_c.specs.declared.status.Status.TheVariants as status
+use Rattle.llrp_c.specs.Listings.{ItemTextIn, end_text_in}
 use Rattle.llrp_c.specs.Status.{status_of}
 
--- The text is the listing of the stream, and the verdict is the stream's.
-pub record HasListing (stream text : List ℕ) (verdict : Verdict) : Type 0 where
+-- The text is the listing of the stream, or its lines of JSON, and the verdict is the stream's.
+pub record HasListing (json : Bool) (p : Profile) (stream text : List ℕ) (verdict : Verdict) : Type 0 where
   pub items : List Item
   pub end : End
-  pub are : Items MAX_LIMIT stream items end
-  pub is : IsStreamListing items end text
+  pub are : ItemsIn p MAX_LIMIT stream items end
+  pub is : IsStreamText (ItemTextIn json) (end_text_in json) items end text
   pub verdict_is : verdict ≡ verdict_of (is_lawful items end)
 
 -- the status of a listing with this verdict, where the stream breaks after it or goes on
@@ -31,12 +33,12 @@ listed_status false Lawful = status.Done
 listed_status false Faulty = status.Faulty
 
 -- why the octets of a listing in memory are not there; one that is too long has an octet for each of the most reads
-abbrev pub EncodeFails : List ℕ → ToolErr → Type 0
-EncodeFails listing (Listing line reason) = (octets : List ℕ) × Refuses MAX_LIMIT listing line reason octets
-EncodeFails listing Write = Unit {0}
-EncodeFails listing Bound = MOST_READS ≤ length listing
-EncodeFails listing Memory = Unit {0}
-EncodeFails listing _ = ⊥
+abbrev pub EncodeFails : Profile → List ℕ → ToolErr → Type 0
+EncodeFails p listing (Listing line reason) = (octets : List ℕ) × RefusesIn p MAX_LIMIT listing line reason octets
+EncodeFails p listing Write = Unit {0}
+EncodeFails p listing Bound = MOST_READS ≤ length listing
+EncodeFails p listing Memory = Unit {0}
+EncodeFails p listing _ = ⊥
 
 -- the line and the status that say why a listing has no octets
 abbrev pub Stops : ToolErr → ℕ → Status → Type 0

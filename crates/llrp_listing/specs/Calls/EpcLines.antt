@@ -4,14 +4,14 @@ use Rattle.std.specs.Prelude.{◌≡◌, ℕ, ◌^◌, ◌<◌, ◌⊎◌, List,
 use Rattle.std.specs.Char.{to_ascii_uppercase}
 use Rattle.tag_epc.specs.declared.fault.WordFault.{WordFault}
 use Rattle.tag_epc.specs.LawfulWord.{IsLawfulWord}
-use Rattle.tag_epc.specs.Faults.{HasWordFault, reason_name}
+use Rattle.tag_epc.specs.Faults.{HasWordFault, word_fault_name}
 use Rattle.tag_uri.specs.declared.fault.UriFault.{UriFault}
 use Rattle.tag_uri.specs.Hexadecimal.{hexadecimal}
-use Rattle.tag_uri.specs.TagText.{IsTextOf, HasFault, fault_name}
-use Rattle.llrp_listing.specs.declared.fault.ToolErr.{ToolErr}
-use Rattle.llrp_listing.specs.declared.fault.ToolErr.TheVariants.{Write, Memory}
-use Rattle.llrp_listing.specs.declared.fault.Verdict.{Verdict}
-use Rattle.llrp_listing.specs.declared.fault.Verdict.TheVariants.{Lawful, Faulty}
+use Rattle.tag_uri.specs.TagText.{IsTextOf, HasTextFault, fault_name}
+use Rattle.llrp_listing.specs.declared.outcome.ToolErr.{ToolErr}
+use Rattle.llrp_listing.specs.declared.outcome.ToolErr.TheVariants.{Write, Memory}
+use Rattle.llrp_listing.specs.declared.outcome.Verdict.{Verdict}
+use Rattle.llrp_listing.specs.declared.outcome.Verdict.TheVariants.{Lawful, Faulty}
 use Rattle.llrp_listing.specs.Copying.{IsPrefix}
 use Rattle.llrp_stream.specs.Device.{SinkLog, Wrote, WroteAndFailed}
 
@@ -26,7 +26,7 @@ line text = text ++ codes "\n"
 
 -- the line that says why a word has no tag URI: the part that fails, and its first bit
 unfoldable pub remark_line : WordFault → List ℕ
-remark_line fault = codes "# " ++ (reason_name fault.reason ++ (codes " " ++ (decimal fault.bit ++ codes "\n")))
+remark_line fault = codes "# " ++ (word_fault_name fault.reason ++ (codes " " ++ (decimal fault.bit ++ codes "\n")))
 
 -- what follows the line of a word's text: nothing where the word has a tag URI, else the line of its first fault
 abbrev pub IsRemark : ℕ → List ℕ → Type 0
@@ -47,7 +47,7 @@ refusal_line fault = codes "! " ++ (fault_name fault ++ codes "\n")
 -- the line of a text that is no word's digits: the digits of its word, or the first rule that refuses it
 abbrev pub IsTextLine : List ℕ → Verdict → List ℕ → Type 0
 IsTextLine text Lawful lines = (word : ℕ) × (word < 2 ^ 96) × IsTextOf word text × (lines ≡ line (hexadecimal 24 word))
-IsTextLine text Faulty lines = (fault : UriFault) × HasFault text fault × (lines ≡ refusal_line fault)
+IsTextLine text Faulty lines = (fault : UriFault) × HasTextFault text fault × (lines ≡ refusal_line fault)
 
 -- what is printed of a text, and the verdict on it
 abbrev pub Prints : List ℕ → Verdict → List ℕ → Type 0

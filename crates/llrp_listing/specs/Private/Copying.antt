@@ -1,5 +1,5 @@
 -- Beside Copying: words of private functions.
-use Rattle.std.specs.Prelude.{◌≡◌, ℕ, ◌+◌, List, ◌++◌}
+use Rattle.std.specs.Prelude.{◌≡◌, ℕ, List, ◌++◌}
 use Rattle.llrp_stream.specs.Device.{SinkLog, Wrote}
 
 -- a front of the bytes was written, and the others are left

@@ -1,6 +1,6 @@
 -- Beside LineChecks: words of private functions.
 use Rattle.std.specs.Prelude.{ℕ, List, Result, Ok, Err}
-use Rattle.llrp_listing.specs.declared.fault.Refusal.{Refusal}
+use Rattle.llrp_listing.specs.declared.outcome.Refusal.{Refusal}
 use Rattle.llrp_listing.specs.NodeLine.{NumberForm, IsNumberText}
 use Rattle.llrp_listing.specs.LineChecks.{IsInForm, HasNumber, TellsNumber}
 

@@ -3,18 +3,18 @@ use Rattle.std.specs.Prelude.{◌≡◌, ℕ, Bool, List, [], ◌++◌, is_none}
 use Rattle.llrp_schema.specs.declared.kinds.Kind.{Kind}
 use Rattle.llrp_tree.specs.Calls.Writing.{Appends}
 use Rattle.llrp_listing.specs.NodeLine.{NodeLine}
-use Rattle.llrp_listing.specs.declared.encode.lines.Begun.{Begun}
-use Rattle.llrp_listing.specs.declared.encode.lines.Own.{Own}
-use Rattle.llrp_listing.specs.Private.Writer.{CanBegin}
+use Rattle.llrp_listing.specs.declared.encode.line_octets.PutLine.{PutLine}
+use Rattle.llrp_listing.specs.declared.encode.line_octets.Own.{Own}
+use Rattle.llrp_listing.specs.Private.EncodeBuffer.{CanBegin}
 
 -- The line's octets were appended, and it can begin.
-pub record Puts (old new : List ℕ) (begun : Begun) (line : NodeLine) (number : ℕ) : Type 0 where
+pub record Puts (old new : List ℕ) (begun : PutLine) (line : NodeLine) (number : ℕ) : Type 0 where
   pub more : List ℕ
   pub appended : new ≡ old ++ more
   pub can : CanBegin begun.held begun.put more line number
 
 -- what is kept of a line with nothing below it
-abbrev pub begun_line : Kind → ℕ → Own → Begun
+abbrev pub begun_line : Kind → ℕ → Own → PutLine
 begun_line kind number own = record { held = record { kind = kind; number = number; fault = own.fault; seen = 0; levels = 0; octets = own.octets }; put = is_none own.fault }
 
 -- the line's octets were appended, whatever the line's number is

@@ -7,23 +7,23 @@ use Rattle.llrp_schema.specs.declared.kinds.MsgKind.{MsgKind}
 use Rattle.llrp_schema.specs.declared.kinds.ParamKind.{ParamKind}
 use Rattle.llrp_schema.specs.declared.kinds.Kind.{Kind}
 use Rattle.llrp_schema.specs.declared.kinds.Kind.TheVariants.{Message, Parameter}
-use Rattle.llrp_schema.specs.declared.kinds.Profile.TheVariants.{Own}
+use Rattle.llrp_schema.specs.declared.kinds.Profile.{Profile}
 use Rattle.llrp_schema.specs.declared.kinds.Tail.{Tail}
 use Rattle.llrp_schema.specs.declared.kinds.Tail.TheVariants.{Words}
 use Rattle.llrp_schema.specs.Schema.{FieldRule, name_of, profile_of, tail_of}
 use Rattle.llrp_tree.specs.declared.TheConstants.{MAX_DEPTH}
 use Rattle.llrp_tree.specs.Lawful.{AreOctets}
-use Rattle.llrp_listing.specs.declared.fault.Refusal.{Refusal}
-use Rattle.llrp_listing.specs.declared.fault.Refusal.TheVariants as refusal
-use Rattle.llrp_listing.specs.declared.line.Line.{Line}
-use Rattle.llrp_listing.specs.declared.line.Line.TheVariants as said
-use Rattle.llrp_listing.specs.declared.line.LineErr.{LineErr}
-use Rattle.llrp_listing.specs.declared.line.LineErr.TheVariants.{Refused, Memory}
-use Rattle.llrp_listing.specs.declared.line.MessageLine.{MessageLine}
-use Rattle.llrp_listing.specs.declared.line.ParameterLine.{ParameterLine}
-use Rattle.llrp_listing.specs.declared.line.Start.{Start}
-use Rattle.llrp_listing.specs.Checks.{FirstFailing}
-use Rattle.llrp_listing.specs.LineChecks.{SaysNode, IsPlaced, IsName, AreInForm, IsTailOf, HasLevel, HasName, tail_checks, body_checks, RefusesLineItself}
+use Rattle.llrp_listing.specs.declared.outcome.Refusal.{Refusal}
+use Rattle.llrp_listing.specs.declared.outcome.Refusal.TheVariants as refusal
+use Rattle.llrp_listing.specs.declared.parse_line.Line.{Line}
+use Rattle.llrp_listing.specs.declared.parse_line.Line.TheVariants as said
+use Rattle.llrp_listing.specs.declared.parse_line.LineErr.{LineErr}
+use Rattle.llrp_listing.specs.declared.parse_line.LineErr.TheVariants.{Refused, Memory}
+use Rattle.llrp_listing.specs.declared.parse_line.MessageLine.{MessageLine}
+use Rattle.llrp_listing.specs.declared.parse_line.ParameterLine.{ParameterLine}
+use Rattle.llrp_listing.specs.declared.parse_line.LineStart.{LineStart}
+use Rattle.llrp_listing.specs.OrderedChecks.{FirstFailing}
+use Rattle.llrp_listing.specs.LineChecks.{SaysNode, IsOpenLevel, IsName, AreInForm, IsTailOf, HasLevel, HasName, tail_word_checks, body_checks, RefusesLineItself}
 use Rattle.llrp_listing.specs.Lines.{Ended, words}
 use Rattle.llrp_listing.specs.Private.Splits.{words_in}
 use Rattle.llrp_tree.specs.Tree.{words_of}
@@ -39,21 +39,21 @@ abbrev pub IsLevel : ℕ → List ℕ → Option ℕ → Type 0
 IsLevel depth w None = (level : ℕ) → w ≡ decimal level → level ≤ MAX_DEPTH → level ≤ depth → ⊥
 IsLevel depth w (Some level) = (w ≡ decimal level) × (level ≤ MAX_DEPTH) × (level ≤ depth)
 
-abbrev pub IsKindNamed : ℕ → List ℕ → Option Kind → Type 0
-IsKindNamed level name None = (kind : Kind) → IsPlaced level kind → IsName name kind → ⊥
-IsKindNamed level name (Some kind) = IsPlaced level kind × IsName name kind
+abbrev pub IsKindNamed : Profile → ℕ → List ℕ → Option Kind → Type 0
+IsKindNamed p level name None = (kind : Kind) → IsOpenLevel level kind → IsName p name kind → ⊥
+IsKindNamed p level name (Some kind) = IsOpenLevel level kind × IsName p name kind
 
 -- The words begin with a level and a name, and these words follow.
-pub record Starts (depth : ℕ) (bytes : List ℕ) (start : Start) : Type 0 where
+pub record Starts (p : Profile) (depth : ℕ) (bytes : List ℕ) (start : LineStart) : Type 0 where
   pub deep : start.level ≤ MAX_DEPTH
   pub within : start.level ≤ depth
-  pub placed : IsPlaced start.level start.kind
-  pub own : profile_of start.kind ≡ Own
+  pub placed : IsOpenLevel start.level start.kind
+  pub own : profile_of start.kind ≡ p
   pub are : words bytes ≡ decimal start.level ∷ name_of start.kind ∷ words_in start.words
 
-abbrev pub ReadsStart : ℕ → List ℕ → Result Start Refusal → Type 0
-ReadsStart depth bytes (Ok start) = Starts depth bytes start
-ReadsStart depth bytes (Err reason) = (¬ HasLevel depth (words bytes) × (reason ≡ refusal.Level)) ⊎ (HasLevel depth (words bytes) × ¬ HasName (words bytes) × (reason ≡ refusal.Name))
+abbrev pub ReadsStart : Profile → ℕ → List ℕ → Result LineStart Refusal → Type 0
+ReadsStart p depth bytes (Ok start) = Starts p depth bytes start
+ReadsStart p depth bytes (Err reason) = (¬ HasLevel depth (words bytes) × (reason ≡ refusal.Level)) ⊎ (HasLevel depth (words bytes) × ¬ HasName p (words bytes) × (reason ≡ refusal.Name))
 
 -- ---- numbers
 
@@ -120,20 +120,27 @@ IsNoWord w (Refused reason) = (reason ≡ refusal.Tail) × ((n : ℕ) → n < 2 
 abbrev pub ReadsRest : Tail → List (List ℕ) → Result (List ℕ) LineErr → Type 0
 ReadsRest form ws (Ok tail) = IsTailOf form tail × (ws ≡ tail_texts form tail)
 ReadsRest form ws (Err Memory) = Unit {0}
-ReadsRest form ws (Err (Refused reason)) = FirstFailing (tail_checks form ws) reason
+ReadsRest form ws (Err (Refused reason)) = FirstFailing (tail_word_checks form ws) reason
 
 -- ---- lines
 
 -- what is on the line of a message or of a parameter
 abbrev pub message_node : MessageLine → NodeLine
-message_node line = record { kind = Message line.kind; numbers = line.version ∷ line.id ∷ line.fields.items; tail = [] }
+message_node line = record { kind = Message line.kind; numbers = line.version ∷ line.id ∷ line.fields.items; tail = line.tail }
 
 abbrev pub parameter_node : ParameterLine → NodeLine
 parameter_node line = parameter_line line.kind line.fields.items line.tail
 
-abbrev pub ReadsMessage : MsgKind → List (List ℕ) → Result MessageLine Refusal → Type 0
-ReadsMessage kind ws (Ok line) = (line.kind ≡ kind) × AreRead (number_forms (Message kind)) ws (line.version ∷ line.id ∷ line.fields.items) []
-ReadsMessage kind ws (Err reason) = (tail : Tail) → FirstFailing (body_checks (number_forms (Message kind)) tail ws) reason
+-- The words are those of a message's line.
+pub record IsMessageRead (kind : MsgKind) (ws : List (List ℕ)) (line : MessageLine) : Type 0 where
+  pub kind_is : line.kind ≡ kind
+  pub tail : IsTailOf (tail_of (Message kind)) line.tail
+  pub numbers : AreRead (number_forms (Message kind)) ws (line.version ∷ line.id ∷ line.fields.items) (tail_texts (tail_of (Message kind)) line.tail)
+
+abbrev pub ReadsMessage : MsgKind → List (List ℕ) → Result MessageLine LineErr → Type 0
+ReadsMessage kind ws (Ok line) = IsMessageRead kind ws line
+ReadsMessage kind ws (Err Memory) = Unit {0}
+ReadsMessage kind ws (Err (Refused reason)) = FirstFailing (body_checks (number_forms (Message kind)) (tail_of (Message kind)) ws) reason
 
 -- The words are those of a parameter's line.
 pub record IsParameterRead (level : ℕ) (kind : ParamKind) (ws : List (List ℕ)) (line : ParameterLine) : Type 0 where
@@ -148,11 +155,11 @@ ReadsParameter level kind ws (Err Memory) = Unit {0}
 ReadsParameter level kind ws (Err (Refused reason)) = FirstFailing (body_checks (number_forms (Parameter kind)) (tail_of (Parameter kind)) ws) reason
 
 -- what a line says, and that this many open lines allow its level
-abbrev pub SaidIs : ℕ → List ℕ → Line → Type 0
-SaidIs depth bytes (said.Message line) = SaysNode bytes 0 (message_node line)
-SaidIs depth bytes (said.Parameter line) = SaysNode bytes line.level (parameter_node line) × (line.level ≤ depth)
+abbrev pub SaidIs : Profile → ℕ → List ℕ → Line → Type 0
+SaidIs p depth bytes (said.Message line) = SaysNode p bytes 0 (message_node line)
+SaidIs p depth bytes (said.Parameter line) = SaysNode p bytes line.level (parameter_node line) × (line.level ≤ depth)
 
-abbrev pub ReadsLine : ℕ → List ℕ → Result Line LineErr → Type 0
-ReadsLine depth bytes (Ok line) = SaidIs depth bytes line
-ReadsLine depth bytes (Err Memory) = Unit {0}
-ReadsLine depth bytes (Err (Refused reason)) = RefusesLineItself depth (Ended bytes) reason
+abbrev pub ReadsLine : Profile → ℕ → List ℕ → Result Line LineErr → Type 0
+ReadsLine p depth bytes (Ok line) = SaidIs p depth bytes line
+ReadsLine p depth bytes (Err Memory) = Unit {0}
+ReadsLine p depth bytes (Err (Refused reason)) = RefusesLineItself p depth (Ended bytes) reason

@@ -1,10 +1,10 @@
 -- The listing of an open tree: of a message of which not all is read.
-use Rattle.std.specs.Prelude.{◌≡◌, ℕ, ◌+◌, ◌≤◌, List, [], ◌∷◌, ◌++◌, length, take, drop, decimal, Option, Some, None, IfSome}
+use Rattle.std.specs.Prelude.{◌≡◌, ℕ, ◌+◌, List, [], ◌∷◌, ◌++◌, length, decimal, Option, Some, None, IfSome}
 use Rattle.llrp_schema.specs.declared.kinds.Tail.{Tail}
 use Rattle.llrp_schema.specs.Schema.{name_of}
 use Rattle.llrp_tree.specs.Tree.{none}
 use Rattle.llrp_tree.specs.Spelling.{Head, message, tlv, tv}
-use Rattle.llrp_tree.specs.OpenTree.{Begun, kind_of, plain_values, rules, form}
+use Rattle.llrp_tree.specs.OpenTree.{Begun, kind_of_head, plain_values, rules, form}
 use Rattle.llrp_listing.specs.NodeLine.{NumberForm, number_forms, IsNumberText, tail_texts, spaced}
 use Rattle.llrp_listing.specs.MessageListing.{AreLines, parameter_lines}
 use Rattle.llrp_listing.specs.Private.Tails.{AreTold}
@@ -33,8 +33,8 @@ read_texts form (Some octets) = tail_texts form octets
 -- The line of a begun node as far as it is read, without its LF.
 pub record IsBegunLine (level : ℕ) (b : Begun) (text : List ℕ) : Type 0 where
   pub words : List (List ℕ)
-  pub are : AreFirstTexts (number_forms (kind_of b.head)) (numbers_of b) words
-  pub text_is : text ≡ (decimal level ++ spaced (name_of (kind_of b.head) ∷ [])) ++ (spaced words ++ spaced (read_texts (form b) b.tail))
+  pub are : AreFirstTexts (number_forms (kind_of_head b.head)) (numbers_of b) words
+  pub text_is : text ≡ (decimal level ++ spaced (name_of (kind_of_head b.head) ∷ [])) ++ (spaced words ++ spaced (read_texts (form b) b.tail))
   pub told : IfSome b.tail (λ octets. AreTold (form b) octets)
 
 -- the lines of an open tree whose innermost node has its leading parts
@@ -47,7 +47,3 @@ Opened (b ∷ outer) text =
 abbrev pub Begins : List Begun → List ℕ → Type 0
 Begins [] text = ⊥
 Begins (b ∷ outer) text = (above line : List ℕ) × Opened outer above × IsBegunLine (length outer) b line × (b.children ≡ none) × (text ≡ above ++ line)
-
--- up to a mark a text is this, and after it comes such a text
-abbrev pub IsMarked : ℕ → List ℕ → List ℕ → (List ℕ → Type 0) → Type 0
-IsMarked mark text was IsRest = (mark ≤ length text) × (take mark text ≡ was) × IsRest (drop mark text)

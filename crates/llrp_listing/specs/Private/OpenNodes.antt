@@ -5,14 +5,15 @@ use Rattle.tag_bits.specs.Digits.{digits_of_bytes}
 use Rattle.llrp_schema.specs.declared.kinds.ParamKind.{ParamKind}
 use Rattle.llrp_schema.specs.declared.kinds.Kind.{Kind}
 use Rattle.llrp_schema.specs.declared.kinds.Kind.TheVariants.{Message, Parameter}
-use Rattle.llrp_schema.specs.declared.kinds.Profile.TheVariants.{Own}
-use Rattle.llrp_schema.specs.Schema.{fields_of, groups_of, profile_of, tail_of}
+use Rattle.llrp_schema.specs.Schema.{fields_of, groups_of, tail_of}
+use Rattle.llrp_schema.specs.Calls.Places.{IsPlace}
+use Rattle.llrp_schema.specs.declared.kinds.Place.{Place}
 use Rattle.llrp_tree.specs.declared.node.NodeFault.{NodeFault}
 use Rattle.llrp_tree.specs.declared.node.NodeFault.TheVariants.{FieldCount, Value, Tail as BadTail, Misplaced, TooMany, Missing, TooDeep, TooLong}
 use Rattle.llrp_tree.specs.Checks.{count_fits, values_fit, tail_fits, all_placed, none_too_many, first_failed, first_fault, first_message_fault}
-use Rattle.llrp_tree.specs.Lawful.{AllLawful, count, levels, octets}
+use Rattle.llrp_tree.specs.Lawful.{AllLawful, levels, octets}
 use Rattle.llrp_tree.specs.Calls.Lawful.{own_octets}
-use Rattle.llrp_tree.specs.Spelling.{message, head_of, head_digits, body_digits, spell}
+use Rattle.llrp_tree.specs.Spelling.{message, head_of, head_digits, body_digits, forest_digits}
 use Rattle.llrp_tree.specs.Tree as tree
 use Rattle.llrp_tree.specs.Tree.{Tree, trees}
 use Rattle.llrp_stream.specs.Calls.Reading.{AreSeen}
@@ -22,8 +23,8 @@ use Rattle.llrp_listing.specs.NodeLine.{NodeLine, number_forms}
 use Rattle.llrp_listing.specs.Private.OpenLines.{Entry, entry}
 use Rattle.llrp_listing.specs.OpenText.{end}
 use Rattle.llrp_tree.specs.declared.TheConstants.{MAX_DEPTH, MAX_LIMIT, MAX_OCTETS}
-use Rattle.llrp_listing.specs.declared.encode.closing.Count.{Count}
-use Rattle.llrp_listing.specs.declared.encode.rows.Held.{Held}
+use Rattle.llrp_listing.specs.declared.encode.close_line.Count.{Count}
+use Rattle.llrp_listing.specs.declared.encode.open_lines.LineRecord.{LineRecord}
 
 -- A line that is open: what it says, the parameters that are whole below it, and its number.
 pub record OpenNode : Type 0 where
@@ -46,11 +47,6 @@ abbrev pub values_of : Kind → List ℕ → List ℕ
 values_of (Message kind) numbers = drop 2 numbers
 values_of (Parameter kind) numbers = numbers
 
--- the tail of a line, which a message has not
-abbrev pub own_tail : Kind → List ℕ → List ℕ
-own_tail (Message kind) tail = []
-own_tail (Parameter kind) tail = tail
-
 -- a message has a known version
 abbrev pub version_fits : Kind → List ℕ → Bool
 version_fits (Message kind) numbers = (get_or numbers 0 0 == 1) || (get_or numbers 0 0 == 2)
@@ -61,7 +57,7 @@ abbrev pub own_tests : NodeLine → List (Bool × NodeFault)
 own_tests line =
     (count_fits (fields_of line.kind) (values_of line.kind line.numbers), FieldCount)
     ∷ (version_fits line.kind line.numbers && values_fit (fields_of line.kind) (values_of line.kind line.numbers), Value)
-    ∷ (tail_fits (tail_of line.kind) (values_of line.kind line.numbers) (own_tail line.kind line.tail), BadTail)
+    ∷ (tail_fits (tail_of line.kind) (values_of line.kind line.numbers) line.tail, BadTail)
     ∷ []
 
 -- the first of them that fails
@@ -82,7 +78,7 @@ early_fault line children = first_failed (early_tests line (trees children))
 
 -- the first of all tests of a line that comes to its close
 abbrev pub kind_fault : Kind → List ℕ → List ℕ → tree.Forest → Option NodeFault
-kind_fault (Message kind) numbers tail children = first_message_fault (get_or numbers 0 0) kind (drop 2 numbers) children
+kind_fault (Message kind) numbers tail children = first_message_fault (get_or numbers 0 0) kind (drop 2 numbers) tail children
 kind_fault (Parameter kind) numbers tail children = first_fault kind numbers tail children
 
 abbrev pub node_fault : NodeLine → tree.Forest → Option NodeFault
@@ -96,12 +92,12 @@ node_octets n = own_octets n.line.kind n.line.tail + octets n.children
 
 -- the digits of a line alone, with zeros where its length will be
 unfoldable pub line_digits : Kind → List ℕ → List ℕ → List Bool
-line_digits (Message kind) numbers tail = head_digits (message (get_or numbers 0 0) kind 0 (get_or numbers 1 0)) ++ body_digits (Message kind) (drop 2 numbers) []
+line_digits (Message kind) numbers tail = head_digits (message (get_or numbers 0 0) kind 0 (get_or numbers 1 0)) ++ body_digits (Message kind) (drop 2 numbers) tail
 line_digits (Parameter kind) numbers tail = head_digits (head_of kind 0) ++ body_digits (Parameter kind) numbers tail
 
 -- and of the whole parameters below it
 abbrev pub node_digits : OpenNode → List Bool
-node_digits n = line_digits n.line.kind n.line.numbers n.line.tail ++ spell n.children
+node_digits n = line_digits n.line.kind n.line.numbers n.line.tail ++ forest_digits n.children
 
 -- of lines each of which is below the next one, the message's the last
 unfoldable pub chain_digits : List OpenNode → List Bool
@@ -134,12 +130,11 @@ MOST = 2 ^ 32 - 1
 
 -- What a line says may be said.
 pub record IsSaid (line : NodeLine) : Type 0 where
-  pub own : profile_of line.kind ≡ Own
   pub numbers : AreInForm (number_forms line.kind) line.numbers
   pub tail : IsTailOf (tail_of line.kind) line.tail
 
 -- The record is that of an open line.
-pub record IsHeld (held : Held) (n : OpenNode) : Type 0 where
+pub record IsHeld (held : LineRecord) (n : OpenNode) : Type 0 where
   pub kind : held.kind ≡ n.line.kind
   pub number : held.number ≡ n.number
   pub fault : held.fault ≡ early_fault n.line n.children
@@ -149,7 +144,7 @@ pub record IsHeld (held : Held) (n : OpenNode) : Type 0 where
   pub said : IsSaid n.line
   pub lawful : AllLawful n.children
 
-abbrev pub AreHeld : List Held → List OpenNode → Type 0
+abbrev pub AreHeld : List LineRecord → List OpenNode → Type 0
 AreHeld rows ns = AllZip IsHeld rows ns
 
 abbrev pub IsMessage : OpenNode → Type 0
@@ -196,9 +191,29 @@ pub record IsCounted (line : NodeLine) (children : tree.Forest) (count : Count) 
   pub fault : count.fault ≡ early_fault line children
   pub seen : AreSeen (groups_of line.kind) children count.seen
 
+-- whatever line it is and whatever came before, the counts become so with one more child of the group at this place
+abbrev pub CountsAt : Place → Option NodeFault → ℕ → Count → Type 0
+CountsAt place fault seen count =
+    (line : NodeLine) (child : ParamKind) (before : tree.Forest) (numbers tail : List ℕ) (children : tree.Forest)
+    → IsPlace (groups_of line.kind) child place → fault ≡ early_fault line before → AreSeen (groups_of line.kind) before seen
+    → IsCounted line (tree.and before child numbers tail children) count
+
+-- the same of one more child of a kind, below a line of a kind
+abbrev pub CountsChild : Kind → ParamKind → Option NodeFault → ℕ → Count → Type 0
+CountsChild kind child fault seen count =
+    (line : NodeLine) (before : tree.Forest) (numbers tail : List ℕ) (children : tree.Forest)
+    → kind ≡ line.kind → fault ≡ early_fault line before → AreSeen (groups_of line.kind) before seen
+    → IsCounted line (tree.and before child numbers tail children) count
+
 -- the parameter of a line that is closed, last below the next line
 abbrev pub with_child : ParamKind → OpenNode → OpenNode → OpenNode
 with_child kind n p = record p { children = tree.and p.children kind n.line.numbers n.line.tail n.children }
+
+-- the record of the line above becomes so with a closed parameter of this kind as its last child
+abbrev pub AddsChild : ParamKind → LineRecord → LineRecord → LineRecord → Type 0
+AddsChild kind parent child new =
+    (n p : OpenNode) → IsHeld child n → n.line.kind ≡ Parameter kind → node_fault n.line n.children ≡ None
+    → IsHeld parent p → IsHeld new (with_child kind n p)
 
 -- ---- a line that begins
 

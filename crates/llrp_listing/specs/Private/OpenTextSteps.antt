@@ -1,32 +1,32 @@
 -- Steps of an open text: lines are closed, and a line begins.
 use Rattle.std.specs.Prelude.{ℕ, zero, suc, ◌-◌, List, [], ◌∷◌, length}
-use Rattle.llrp_listing.specs.OpenText.{Forest, end, node, Begun, OpenText}
+use Rattle.llrp_listing.specs.OpenText.{Outline, end, node, OpenLine, OpenText}
 
 -- trees, and then others
-abbrev pub join : {H : Type 0} → Forest H → Forest H → Forest H
+abbrev pub join : {H : Type 0} → Outline H → Outline H → Outline H
 join end g = g
 join (node h below after) g = node h below (join after g)
 
 module _ {H : Type 0} where
-  abbrev pub text_of : Forest H → List (Begun H) → OpenText H
+  abbrev pub text_of : Outline H → List (OpenLine H) → OpenText H
   text_of whole chain = record { whole = whole; chain = chain }
 
-  abbrev pub begin : H → Begun H
+  abbrev pub begin : H → OpenLine H
   begin h = record { head = h; below = end }
 
-  abbrev pub more_below : Begun H → Forest H → Begun H
+  abbrev pub more_below : OpenLine H → Outline H → OpenLine H
   more_below b f = record { head = b.head; below = join b.below f }
 
   -- trees go to the innermost open line, or to the whole ones
-  abbrev pub add_to : Forest H → Forest H → List (Begun H) → OpenText H
+  abbrev pub add_to : Outline H → Outline H → List (OpenLine H) → OpenText H
   add_to f whole [] = text_of (join whole f) []
   add_to f whole (p ∷ outer) = text_of whole (more_below p f ∷ outer)
 
-  abbrev pub add : Forest H → OpenText H → OpenText H
+  abbrev pub add : Outline H → OpenText H → OpenText H
   add f o = add_to f o.whole o.chain
 
   -- the innermost open line is closed
-  abbrev pub close_in : Forest H → List (Begun H) → OpenText H
+  abbrev pub close_in : Outline H → List (OpenLine H) → OpenText H
   close_in whole [] = text_of whole []
   close_in whole (b ∷ outer) = add_to (node b.head b.below end) whole outer
 

@@ -4,8 +4,8 @@ use Rattle.llrp_schema.specs.declared.kinds.ParamKind.{ParamKind}
 use Rattle.llrp_schema.specs.declared.kinds.Kind.TheVariants as kinds
 use Rattle.llrp_schema.specs.declared.kinds.Tail.TheVariants.{Absent}
 use Rattle.llrp_schema.specs.Schema.{tail_of}
-use Rattle.llrp_listing.specs.declared.encode.short.ShortLine.{ShortLine}
-use Rattle.llrp_listing.specs.declared.encode.short.ShortLine.TheVariants.{Message, Bare, Number}
+use Rattle.llrp_listing.specs.declared.encode.read_short_line.ShortLine.{ShortLine}
+use Rattle.llrp_listing.specs.declared.encode.read_short_line.ShortLine.TheVariants.{Message, Bare, Number}
 use Rattle.llrp_listing.specs.LineChecks.{AreInForm}
 use Rattle.llrp_listing.specs.NodeLine.{AreNumberTexts, NodeLine, NumberForm, number_forms, parameter_line, spaced}
 

@@ -3,22 +3,24 @@
 
 ghost use Rattle.std.specs.Prelude.{◌≡◌, All};
 ghost use Rattle.llrp_schema.specs.declared.kinds.Kind.TheVariants.{Message, Parameter};
-ghost use Rattle.llrp_schema.specs.declared.kinds.Profile.TheVariants.{Own};
+ghost use Rattle.llrp_schema.specs.declared.kinds.Profile.{Profile};
 ghost use Rattle.llrp_schema.specs.Schema.{profile_of};
 ghost use Rattle.llrp_listing.specs.Private.ShortLines.{short_node};
-ghost use Rattle.llrp_listing.specs.Private.Taking.{line_node};
+ghost use Rattle.llrp_listing.specs.Private.TakingLines.{line_node};
 
-use crate::encode::short::ShortLine;
-use crate::line::Line;
-use llrp_schema::{MsgKind, ParamKind};
+use crate::encode::read_short_line::ShortLine;
+use crate::parse_line::Line;
+use llrp_schema::{MsgKind, ParamKind, Profile};
 use std::marker::Model;
 
 /// How many kinds of parameters there are.
 const KINDS: usize = 177;
 
-/// The kinds of the last lines, and those that came after each, all of the profile.
+/// The kinds of the last lines, and those that came after each, all of one set.
 #[derive(Drop)]
 pub struct Guess {
+    /// The set of kinds that the lines have.
+    set: Profile,
     /// For each kind of a parameter, the one that came after it the last time.
     after: [ParamKind; KINDS],
     /// The last kind of a parameter.
@@ -28,28 +30,60 @@ pub struct Guess {
 }
 
 impl Model for Guess {
-    ghost Value = { Unit {0} };
+    ghost Value = { Profile };
 
-    ghost view = { λ _. tt };
+    ghost view = { λ g. g.set };
 
-    ghost invariant = { λ g. All (λ kind. profile_of (Parameter kind) ≡ Own) g.after
-        × (profile_of (Parameter g.last) ≡ Own) × (profile_of (Message g.message) ≡ Own) };
+    ghost invariant = { λ g. All (λ kind. profile_of (Parameter kind) ≡ g.set) g.after
+        × (profile_of (Parameter g.last) ≡ g.set) × (profile_of (Message g.message) ≡ g.set) };
+}
+
+/// A kind of a parameter of a set.
+fn some_parameter(set: Profile) -> ParamKind
+    ensures { profile_of (Parameter result) ≡ set }
+{
+    match set {
+        Profile::Own => ParamKind::TagReportData,
+        Profile::Whole => ParamKind::WholeTagReportData,
+    }
+}
+
+/// A kind of a message of a set.
+fn some_message(set: Profile) -> MsgKind
+    ensures { profile_of (Message result) ≡ set }
+{
+    match set {
+        Profile::Own => MsgKind::RoAccessReport,
+        Profile::Whole => MsgKind::WholeRoAccessReport,
+    }
 }
 
 impl Guess {
-    /// No line was read yet, so any kinds will do.
-    pub fn new() -> Guess {
+    /// No line was read yet, so any kinds of the set will do.
+    pub fn new(set: Profile) -> Guess
+        ensures { result ≡ set }
+    {
+        let parameter = some_parameter(set);
         Guess {
-            after: [ParamKind::TagReportData; KINDS],
-            last: ParamKind::TagReportData,
-            message: MsgKind::RoAccessReport,
+            set,
+            after: [parameter; KINDS],
+            last: parameter,
+            message: some_message(set),
         }
+    }
+
+    /// The set of kinds that the lines have.
+    #[inline(always)]
+    pub fn set(&self) -> Profile
+        ensures { result ≡ self.now }
+    {
+        self.set
     }
 
     /// The kind that the next line has if it is a message's.
     #[inline(always)]
     pub fn message(&self) -> MsgKind
-        ensures { profile_of (Message result) ≡ Own }
+        ensures { profile_of (Message result) ≡ self.now }
     {
         self.message
     }
@@ -57,7 +91,7 @@ impl Guess {
     /// The kind that the next line has if it is a parameter's.
     #[inline(always)]
     pub fn parameter(&self) -> ParamKind
-        ensures { profile_of (Parameter result) ≡ Own }
+        ensures { profile_of (Parameter result) ≡ self.now }
     {
         self.after[self.last as usize]
     }
@@ -65,7 +99,8 @@ impl Guess {
     /// Keeps the kind of a parameter's line.
     #[inline(always)]
     fn note_parameter(&mut self, kind: ParamKind)
-        requires { profile_of (Parameter kind) ≡ Own }
+        requires { profile_of (Parameter kind) ≡ self.old }
+        ensures { self.new ≡ self.old }
     {
         self.after[self.last as usize] = kind;
         self.last = kind;
@@ -73,7 +108,8 @@ impl Guess {
 
     /// Keeps the kind of a line that was read word by word.
     pub fn note_line(&mut self, line: &Line)
-        requires { profile_of (line_node line.now).kind ≡ Own }
+        requires { profile_of (line_node line.now).kind ≡ self.old }
+        ensures { self.new ≡ self.old }
     {
         match line {
             Line::Message(line) => self.message = line.kind,
@@ -84,7 +120,8 @@ impl Guess {
     /// Keeps the kind of a line that was read by the short way.
     #[inline(always)]
     pub fn note(&mut self, line: &ShortLine)
-        requires { profile_of (short_node line.now).kind ≡ Own }
+        requires { profile_of (short_node line.now).kind ≡ self.old }
+        ensures { self.new ≡ self.old }
     {
         match line {
             ShortLine::Message { kind, .. } => self.message = *kind,

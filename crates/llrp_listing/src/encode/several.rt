@@ -4,18 +4,16 @@
 ghost use Rattle.std.specs.Prelude.{◌≡◌, ◌+◌, ◌^◌, ◌∷◌, ◌++◌, ◌<◌, ◌≤◌, IfSome, decimal, drop, length, map};
 ghost use Rattle.arrayvec.specs.ArrayVec.{array_vec_len};
 ghost use Rattle.llrp_schema.specs.Calls.Schema.{field_rule};
-ghost use Rattle.llrp_schema.specs.Schema.{name_of, profile_of};
-ghost use Rattle.llrp_schema.specs.declared.kinds.Kind.TheVariants.{Parameter};
-ghost use Rattle.llrp_schema.specs.declared.kinds.Profile.TheVariants.{Own};
 ghost use Rattle.llrp_listing.specs.Private.Encoder.{SaysAt};
 ghost use Rattle.llrp_listing.specs.Private.LineReading.{ReadsLine, forms_of, parameter_node};
 ghost use Rattle.llrp_listing.specs.Private.ShortLines.{AreSpaced};
 
-use crate::encode::short::{kind_ahead, level_ahead};
-use crate::line::{LONGEST_LINE, Line, LineErr, ParameterLine, read_line};
-use crate::number::EPC_BITS;
+use crate::encode::guess::Guess;
+use crate::encode::read_short_line::{kind_ahead, level_ahead};
+use crate::parse_line::{LONGEST_LINE, Line, LineErr, ParameterLine, read_line};
+use crate::read_numbers::EPC_BITS;
 use arrayvec::ArrayVec;
-use llrp_schema::{Field, Kind, ParamKind, Tail};
+use llrp_schema::{Field, Kind, Tail};
 use llrp_tree::Octets;
 use std::alloc::Global;
 use tag_uri::plain_between;
@@ -90,20 +88,15 @@ fn numbers_from(
 }
 
 /// Reads the line of a parameter, below this many open lines.
-fn read_several(
-    alloc: Global,
-    line: &[u8],
-    depth: usize,
-    expected: ParamKind,
-) -> Option<ParameterLine>
-    requires { profile_of (Parameter expected) ≡ Own }
-    ensures { IfSome result (λ read. SaysAt depth line.now read.level (parameter_node read)) }
+fn read_several(alloc: Global, line: &[u8], depth: usize, guess: &Guess) -> Option<ParameterLine>
+    ensures { IfSome result (λ read. SaysAt guess.now depth line.now read.level
+        (parameter_node read)) }
 {
     if line.len() > LONGEST_LINE {
         return None;
     }
     let level = level_ahead(line, depth)?;
-    let (kind, end) = kind_ahead(line, line, expected)?;
+    let (kind, end) = kind_ahead(line, line, guess)?;
     let Tail::Absent = llrp_schema::tail(Kind::Parameter(kind)) else {
         return None;
     };
@@ -123,17 +116,11 @@ fn read_several(
 }
 
 /// Reads a whole line, below this many open lines, or returns why it is refused.
-pub fn read_whole(
-    alloc: Global,
-    line: &[u8],
-    depth: usize,
-    expected: ParamKind,
-) -> Result<Line, LineErr>
-    requires { profile_of (Parameter expected) ≡ Own }
-    ensures { ReadsLine depth line.now result }
+pub fn read_whole(alloc: Global, line: &[u8], depth: usize, guess: &Guess) -> Result<Line, LineErr>
+    ensures { ReadsLine guess.now depth line.now result }
 {
-    match read_several(alloc, line, depth, expected) {
+    match read_several(alloc, line, depth, guess) {
         Some(read) => Ok(Line::Parameter(read)),
-        None => read_line(alloc, line, depth),
+        None => read_line(alloc, guess.set(), line, depth),
     }
 }

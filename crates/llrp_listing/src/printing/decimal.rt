@@ -5,22 +5,9 @@ ghost use Rattle.tag_uri.specs.Decimal.{padded};
 ghost use Rattle.llrp_listing.specs.NodeLine.{signed_text};
 ghost use Rattle.llrp_listing.specs.Private.Place.{Puts};
 
-use crate::printing::place::{put_last, put_octet, put_text, put_two};
+use crate::printing::put::{put_last, put_octet, put_text, put_two};
 use itoa::Buffer;
-
-/// The two digits of each number from 0 to 99.
-static PAIRS: [u8; 200] =
-    *b"00010203040506070809101112131415161718192021222324252627282930313233343536373839404142434445464748495051525354555657585960616263646566676869707172737475767778798081828384858687888990919293949596979899";
-
-/// The two digits of a number below 100.
-#[inline(always)]
-fn pair(number: u32) -> [u8; 2]
-    requires { number < 100 }
-    ensures { result ≡ (48 + number / 10) ∷ (48 + number % 10) ∷ [] }
-{
-    let from = 2 * number as usize;
-    [PAIRS[from], PAIRS[from + 1]]
-}
+use tag_uri::{count_of_few, pair};
 
 /// How many hundreds a number below 10,000 has; a product and a shift take its place.
 #[inline(always)]
@@ -93,40 +80,6 @@ fn put_few(room: &mut [u8], at: usize, number: u32) -> usize
     put_two(room, lower_at, pair(number % 100))
 }
 
-/// How many digits a number of at most eight has.
-#[inline(always)]
-fn count_of(number: u32) -> usize
-    requires { number < 10 ^ 8 }
-    ensures count { result ≡ length (decimal number) }
-    ensures few { result ≤ 8 }
-{
-    if number < 10_000 {
-        count_of_few(number)
-    } else if number < 1_000_000 {
-        if number < 100_000 { 5 } else { 6 }
-    } else if number < 10_000_000 {
-        7
-    } else {
-        8
-    }
-}
-
-/// How many digits a number of at most four has.
-#[inline(always)]
-fn count_of_few(number: u32) -> usize
-    requires { number < 10000 }
-    ensures count { result ≡ length (decimal number) }
-    ensures few { result ≤ 4 }
-{
-    if number < 100 {
-        if number < 10 { 1 } else { 2 }
-    } else if number < 1_000 {
-        3
-    } else {
-        4
-    }
-}
-
 /// Puts a number of at most eight digits. Eight octets of the room may change.
 #[inline(always)]
 fn put_short(room: &mut [u8], at: usize, number: u32) -> usize
@@ -138,7 +91,7 @@ fn put_short(room: &mut [u8], at: usize, number: u32) -> usize
     if number >= 10_000_000 {
         return put_eight_digits(room, at, number);
     }
-    put_last(room, at, eight(number), count_of(number))
+    put_last(room, at, eight(number), count_of_few(number as u64))
 }
 
 /// Puts a number of 9 to 20 digits. It stays a call, so that what calls it is small enough to be inlined.

@@ -1,17 +1,12 @@
 //! The listener that prints.
 
-ghost use Rattle.std.specs.Prelude.{◌≡◌, ◌+◌, ◌^◌, ◌<◌, ◌≤◌, ◌++◌, ℕ, List, [], OnOk, IfErr, length, take, drop};
-ghost use Rattle.llrp_listing.specs.Private.Copying.{HandsOn};
-ghost use Rattle.llrp_listing.specs.Calls.Copying.{Writes};
-ghost use Rattle.llrp_listing.specs.Private.OpenListing.{IsMarked, Opened};
-ghost use Rattle.llrp_listing.specs.StreamListing.{end_text, fault_text};
+ghost use Rattle.std.specs.Prelude.{◌≡◌, []};
 
-use crate::copying::{PIECE_SIZE, write_all};
-use crate::fault::ToolErr;
+use crate::item_printer::ItemPrinter;
 use crate::printing::tails::{push_octets, push_tail};
 use crate::printing::text::Text;
 use llrp_schema::{Field, Kind, MsgKind, ParamKind, Tail};
-use llrp_stream::{End, Listener, Sink};
+use llrp_stream::{End, Listener};
 use llrp_tree::Fault;
 use std::alloc::{AllocError, Global};
 
@@ -35,63 +30,12 @@ impl Printer {
             mark: 0,
         }
     }
-
-    /// Appends the line of a faulty frame.
-    pub(crate) fn push_fault(&mut self, id: u32, fault: Fault) -> Result<(), AllocError>
-        ensures text { OnOk result (self.new.text ≡ self.old.text ++ fault_text id fault) }
-        ensures mark { OnOk result (self.new.mark ≡ length self.new.text) }
-    {
-        self.text.push_fault(id, fault)?;
-        self.mark = self.text.len();
-        Ok(())
-    }
-
-    /// Appends the line of a stream's end, if it has one.
-    pub(crate) fn push_end(&mut self, end: End) -> Result<(), AllocError>
-        ensures text { OnOk result (self.new.text ≡ self.old.text ++ end_text end) }
-        ensures mark { OnOk result (self.new.mark ≡ length self.new.text) }
-    {
-        self.text.push_end(end)?;
-        self.mark = self.text.len();
-        Ok(())
-    }
-
-    /// Writes the text of whole frames to the sink.
-    pub(crate) fn hand_on<W: Sink>(&mut self, w: &mut W) -> Result<(), ToolErr>
-        requires within { self.old.mark ≤ length self.old.text }
-        requires sink { (W.log w.old).failures + 1 < 2 ^ 64 }
-        ensures written { Writes (take self.old.mark self.old.text) (W.log w.old) (W.log w.new)
-            result }
-        ensures text { OnOk result (self.new.text ≡ drop self.old.mark self.old.text) }
-        ensures mark { OnOk result (self.new.mark ≡ 0) }
-    {
-        write_all(w, &self.text.as_slice()[..self.mark])?;
-        self.text.drop_front(self.mark);
-        self.mark = 0;
-        Ok(())
-    }
-
-    /// Writes the text of whole frames to the sink once it is 64 KiB.
-    pub(crate) fn hand_on_pieces<W: Sink>(&mut self, w: &mut W) -> Result<(), ToolErr>
-        requires within { self.old.mark ≤ length self.old.text }
-        requires sink { (W.log w.old).failures + 1 < 2 ^ 64 }
-        ensures handed { OnOk result ((was : List ℕ)
-            → IsMarked self.old.mark self.old.text was (Opened [])
-            → (left : List ℕ) × HandsOn was left (W.log w.old) (W.log w.new)
-            × IsMarked self.new.mark self.new.text left (Opened [])) }
-        ensures failed { IfErr result (λ e. Writes (take self.old.mark self.old.text) (W.log w.old)
-            (W.log w.new) result) }
-    {
-        if self.mark < PIECE_SIZE {
-            return Ok(());
-        }
-        self.hand_on(w)
-    }
 }
 
 impl Listener for Printer {
     ghost use Rattle.llrp_listing.specs.MessageListing.{message_lines};
-    ghost use Rattle.llrp_listing.specs.Private.OpenListing.{Begins, IsMarked, Opened};
+    ghost use Rattle.llrp_listing.specs.Calls.ItemPrinter.{IsMarked};
+    ghost use Rattle.llrp_listing.specs.Private.OpenListing.{Begins, Opened};
     ghost use Rattle.llrp_listing.specs.Private.Printing.{AppendsLines};
 
     ghost begins = { λ self was t. IsMarked self.mark self.text was (Begins t) };
@@ -156,4 +100,36 @@ impl Listener for Printer {
     fn give_up(&mut self) {
         self.text.truncate(self.mark);
     }
+}
+
+impl ItemPrinter for Printer {
+    ghost use Rattle.llrp_listing.specs.StreamListing.{IsItemText, end_text};
+
+    ghost is_text = { IsItemText };
+
+    ghost text_of_end = { end_text };
+
+    fn push_fault(&mut self, id: u32, fault: Fault) -> Result<(), AllocError> {
+        self.text.push_fault(id, fault)?;
+        self.mark = self.text.len();
+        Ok(())
+    }
+
+    fn push_end(&mut self, end: End) -> Result<(), AllocError> {
+        self.text.push_end(end)?;
+        self.mark = self.text.len();
+        Ok(())
+    }
+
+    #[inline]
+    fn whole(&self) -> &[u8] {
+        &self.text.as_slice()[..self.mark]
+    }
+
+    fn drop_whole(&mut self) {
+        self.text.drop_front(self.mark);
+        self.mark = 0;
+    }
+
+    ghost message_text = { λ printer was m now appended. appended };
 }

@@ -1,11 +1,10 @@
 //! The word of a tail, appended to a text.
 
 ghost use Rattle.std.specs.Prelude.{◌≡◌, ◌+◌, ◌*◌, ◌++◌, [], ◌∷◌, ℕ, List, OnOk, decimal, length};
-ghost use Rattle.hex.specs.Hex.{encode_lower};
 ghost use Rattle.llrp_schema.specs.declared.kinds.Tail.TheVariants.{Words as InWords};
 ghost use Rattle.llrp_tree.specs.Lawful.{AreOctets};
 ghost use Rattle.llrp_listing.specs.NodeLine.{spaced, tail_texts, word_list_text};
-ghost use Rattle.llrp_stream.specs.Calls.Told.{AreWhole};
+ghost use Rattle.llrp_stream.specs.Calls.Received.{AreWhole};
 ghost use Rattle.llrp_listing.specs.Private.Tails.{MoreWords, MoreTail};
 
 use crate::printing::text::Text;
@@ -43,20 +42,6 @@ fn push_number(text: &mut Text, high: u8, low: u8) -> Result<(), AllocError>
     text.push_decimal(u16::from_be_bytes([high, low]) as u64)
 }
 
-/// Appends octets in lower-case hexadecimal.
-fn push_hexadecimal(text: &mut Text, octets: &[u8]) -> Result<(), AllocError>
-    ensures { OnOk result (text.new ≡ text.old ++ encode_lower octets.now) }
-{
-    for octet in octets {
-        let mut digits = [0; 2];
-        let Ok(()) = hex::encode_to_slice(&[*octet], &mut digits) else {
-            unreachable!()
-        };
-        text.push_two(digits)?;
-    }
-    Ok(())
-}
-
 /// Appends words of two octets in decimal, with a comma before each but the tail's first.
 fn push_words(text: &mut Text, octets: &[u8]) -> Result<(), AllocError>
     ensures { OnOk result ((n : ℕ) → length octets.now ≡ 2 * n
@@ -79,8 +64,8 @@ pub(crate) fn push_octets(text: &mut Text, form: Tail, octets: &[u8]) -> Result<
     match form {
         Tail::Absent => Ok(()),
         Tail::Words => push_words(text, octets),
-        Tail::Text => push_hexadecimal(text, octets),
-        Tail::Bits => push_hexadecimal(text, octets),
-        Tail::Data => push_hexadecimal(text, octets),
+        Tail::Text => text.push_hexadecimal(octets),
+        Tail::Bits => text.push_hexadecimal(octets),
+        Tail::Data => text.push_hexadecimal(octets),
     }
 }

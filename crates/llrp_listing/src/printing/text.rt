@@ -1,17 +1,18 @@
-//! A text that grows at its end.
+//! A text that grows at its end, word by word.
 
 ghost use Rattle.std.specs.Prelude.{◌≡◌, ◌+◌, ◌-◌, ◌^◌, ◌<◌, ◌≤◌, ◌++◌, [], ◌∷◌, ℕ, List, OnOk, true, decimal, length, take, drop, slice_index};
 ghost use Rattle.llrp_tree.specs.declared.TheConstants.{MAX_DEPTH};
 ghost use Rattle.llrp_schema.specs.declared.kinds.Kind.TheVariants.{Message as MessageKind, Parameter as ParameterKind};
 ghost use Rattle.llrp_schema.specs.Calls.Schema.{field_rule};
 ghost use Rattle.llrp_schema.specs.Schema.{name_of, fields_of, bits_of, is_tv};
-ghost use Rattle.llrp_listing.specs.NodeLine.{field_form, parameter_line, spaced, IsLine, IsNumberText};
+ghost use Rattle.hex.specs.Hex.{encode_lower};
+ghost use Rattle.llrp_listing.specs.NodeLine.{field_form, parameter_line, signed_text, spaced, IsLine, IsNumberText};
 ghost use Rattle.llrp_listing.specs.StreamListing.{end_text, fault_text};
 
-use crate::printing::decimal::put_decimal;
-use crate::printing::ends::{put_end, put_fault};
-use crate::printing::place::{move_front, put_octet, put_two};
-use crate::printing::words::{put_field, put_header, put_start, put_value_line};
+use crate::printing::decimal::{put_decimal, put_number, put_signed};
+use crate::printing::fault_lines::{put_end, put_fault};
+use crate::printing::lines::{put_field, put_header, put_start, put_value_line};
+use crate::printing::put::{move_front, put_octet, put_text, put_two};
 use llrp_schema::{Field, Kind, MsgKind, ParamKind};
 use llrp_stream::End;
 use llrp_tree::Fault;
@@ -25,9 +26,9 @@ const ROOM: usize = 1024;
 /// How much room is made when there is too little.
 const MORE_ROOM: usize = 4096;
 
-/// A text, in memory that has room after it.
+/// A text, in memory that has room after it. Contracts see it as its octets.
 #[derive(Drop)]
-pub(crate) struct Text {
+pub struct Text {
     memory: Vec<u8>,
     /// Where the text ends. The bytes of the memory after it have no meaning.
     end: usize,
@@ -55,6 +56,20 @@ fn make_room(memory: &mut Vec<u8>, end: usize) -> Result<(), AllocError>
     grow(memory, end)
 }
 
+/// Makes sure that there is room after a text for this many octets.
+fn make_room_for(memory: &mut Vec<u8>, end: usize, count: usize) -> Result<(), AllocError>
+    requires whole { end ≤ length memory.old.items }
+    requires fits { count < 2 ^ 63 }
+    ensures text { take end memory.new.items ≡ take end memory.old.items }
+    ensures within { end ≤ length memory.new.items }
+    ensures room { OnOk result (end + count ≤ length memory.new.items) }
+{
+    if end + count <= memory.len() {
+        return Ok(());
+    }
+    memory.resize(end + count, 0)
+}
+
 /// Makes room after a text.
 #[inline(never)]
 fn grow(memory: &mut Vec<u8>, end: usize) -> Result<(), AllocError>
@@ -69,7 +84,7 @@ fn grow(memory: &mut Vec<u8>, end: usize) -> Result<(), AllocError>
 
 impl Text {
     /// An empty text, which takes no memory.
-    pub(crate) fn new(alloc: Global) -> Text
+    pub fn new(alloc: Global) -> Text
         ensures { result ≡ [] }
     {
         Text {
@@ -79,7 +94,7 @@ impl Text {
     }
 
     /// The octets of the text.
-    pub(crate) fn as_slice(&self) -> &[u8]
+    pub fn as_slice(&self) -> &[u8]
         ensures { result.now ≡ self.now }
     {
         &self.memory[..self.end]
@@ -202,7 +217,7 @@ impl Text {
 
     /// Appends an octet.
     #[inline(always)]
-    pub(crate) fn push(&mut self, octet: u8) -> Result<(), AllocError>
+    pub fn push(&mut self, octet: u8) -> Result<(), AllocError>
         ensures { OnOk result (self.new ≡ self.old ++ (octet ∷ [])) }
     {
         let end = self.end;
@@ -230,6 +245,53 @@ impl Text {
         let end = self.end;
         make_room(&mut self.memory, end)?;
         self.end = put_decimal(self.memory.as_mut_slice(), end, number);
+        Ok(())
+    }
+
+    /// Appends a text.
+    pub fn push_text(&mut self, text: &[u8]) -> Result<(), AllocError>
+        ensures { OnOk result (self.new ≡ self.old ++ text.now) }
+    {
+        let end = self.end;
+        make_room_for(&mut self.memory, end, text.len())?;
+        self.end = put_text(self.memory.as_mut_slice(), end, text);
+        Ok(())
+    }
+
+    /// Appends a number of any width in decimal.
+    #[inline]
+    pub fn push_number(&mut self, number: u128) -> Result<(), AllocError>
+        ensures { OnOk result (self.new ≡ self.old ++ decimal number) }
+    {
+        let end = self.end;
+        make_room(&mut self.memory, end)?;
+        self.end = put_number(self.memory.as_mut_slice(), end, number);
+        Ok(())
+    }
+
+    /// Appends eight bits as a number in two's complement.
+    #[inline]
+    pub fn push_signed(&mut self, bits: u128) -> Result<(), AllocError>
+        requires { bits < 256 }
+        ensures { OnOk result (self.new ≡ self.old ++ signed_text bits) }
+    {
+        let end = self.end;
+        make_room(&mut self.memory, end)?;
+        self.end = put_signed(self.memory.as_mut_slice(), end, bits as u8);
+        Ok(())
+    }
+
+    /// Appends octets in lower-case hexadecimal.
+    pub fn push_hexadecimal(&mut self, octets: &[u8]) -> Result<(), AllocError>
+        ensures { OnOk result (self.new ≡ self.old ++ encode_lower octets.now) }
+    {
+        for octet in octets {
+            let mut digits = [0; 2];
+            let Ok(()) = hex::encode_to_slice(&[*octet], &mut digits) else {
+                unreachable!()
+            };
+            self.push_two(digits)?;
+        }
         Ok(())
     }
 

@@ -8,8 +8,8 @@ use Rattle.llrp_listing.proofs.TreeLines.{row_same}
 use Rattle.llrp_listing.proofs.laws.listed_or_refused.Goals as goal
 
 pub returns : goal.returns
-returns c = λ limit text.
-    let t : HasOneAnswer (rules_for limit) (lines_of text) = told (rules_for limit) (clear limit) (lines_of text) in
+returns c = λ set limit text.
+    let t : HasOneAnswer (rules_for set limit) (lines_of text) = told (rules_for set limit) (clear set limit) (lines_of text) in
     record {
       one_listing = λ ms ns p q. row_same ms ns (t.one_listing (row ms) (row ns) (lists limit text p.1.0 ms p.0 p.1.1) (lists limit text q.1.0 ns q.0 q.1.1));
       one_refusal = λ m n a b ms ns p q. let e = t.one_refusal (row ms) (row ns) m n a b p q in (e.0, e.1, row_same ms ns e.2);

@@ -1,4 +1,4 @@
-use Rattle.std.proofs.Common.{◌∙◌, arith}
+use Rattle.std.proofs.Common.{arith}
 use Rattle.llrp_listing.proofs.NearLemmas.{later_parts}
 use Rattle.llrp_listing.proofs.near.split_later.Goals as goal
 

@@ -1,5 +1,4 @@
-use Rattle.std.proofs.Common.{◌∷◌, ◌++◌, ℕ, List, ap, sym, ◌∙◌, subst, arith}
-use Rattle.llrp_listing.specs.Calls.Splits.{IsSplit}
+use Rattle.std.proofs.Common.{arith}
 use Rattle.llrp_listing.proofs.NearLemmas.{split_parts}
 use Rattle.llrp_listing.proofs.near.split_near.Goals as goal
 

@@ -3,9 +3,10 @@ use Rattle.std.specs.Prelude.{MatchResult}
 use Rattle.std.proofs.Math.Seq.{take-append_seam}
 use Rattle.std.proofs.lemmas.List.{append-nil}
 use Rattle.std.proofs.lemmas.Result.{err_from_is_err_and}
+use Rattle.llrp_schema.specs.declared.kinds.Profile.{Profile}
 use Rattle.llrp_listing.specs.Private.Encoder.{Stopped}
 use Rattle.llrp_listing.proofs.Standing.{piece_left, piece_parts, stopped_more}
-use Rattle.llrp_listing.specs.Private.Standing.{Stands}
+use Rattle.llrp_listing.specs.Private.EncoderState.{Stands}
 use Rattle.llrp_listing.proofs.encode.Encoder.take_lines.Goals as goal
 
 pub lines-init : goal.lines-init
@@ -14,6 +15,7 @@ lines-init g c = record {
   parts = refl;
   stands = λ start text s. subst (λ (z : List ℕ). Stands start (g.W.Sink.log c.args.w.now) z c.args.self.now) (sym (append-nil text)) s;
   number = omega arith;
+  set = refl;
   limit = refl;
   sink = refl;
 }
@@ -26,10 +28,12 @@ returns-in_err-end_line-clause-stands g c =
     let after = c.in-Some.after.now in
     let now = g.W.Sink.log c.end_line.new.w in
     let e = c.in_err-end_line.field-0.0 in
+    let set = c.args.self.now.guess in
     let limit = c.args.self.now.writer.limit in
     rw (p.1, p.2) (λ start text s.
-    let stop : Stopped limit start now ((text ++ taken) ++ (part ++ (10 ∷ []))) e = subst (λ (l : ℕ). Stopped l start now ((text ++ taken) ++ (part ++ (10 ∷ []))) e) c.lines.invariant.limit (c.in_err-end_line.ensures.stands start (text ++ taken) c.in-Some.ensures.0 (c.lines.invariant.stands start text s)) in
-    subst (λ (z : List ℕ). Stopped limit start now z e) (piece_parts text taken part after c.lines.rest.now c.args.piece.now c.lines.invariant.parts c.in-Some.ensures.1) (stopped_more limit start now ((text ++ taken) ++ (part ++ (10 ∷ []))) after e stop))
+    let stop : Stopped set limit start now ((text ++ taken) ++ (part ++ (10 ∷ []))) e = subst (λ (q : Profile). Stopped q limit start now ((text ++ taken) ++ (part ++ (10 ∷ []))) e) c.lines.invariant.set
+    (subst (λ (l : ℕ). Stopped c.lines.self.guess l start now ((text ++ taken) ++ (part ++ (10 ∷ []))) e) c.lines.invariant.limit (c.in_err-end_line.ensures.stands start (text ++ taken) c.in-Some.ensures.0 (c.lines.invariant.stands start text s))) in
+    subst (λ (z : List ℕ). Stopped set limit start now z e) (piece_parts text taken part after c.lines.rest.now c.args.piece.now c.lines.invariant.parts c.in-Some.ensures.1) (stopped_more set limit start now ((text ++ taken) ++ (part ++ (10 ∷ []))) after e stop))
 
 pub lines-preserved : goal.lines-preserved
 lines-preserved g c =
@@ -43,6 +47,7 @@ lines-preserved g c =
           subst (λ (z : List ℕ). Stands start (g.W.Sink.log c.end_line.new.w) z c.end_line.new.self) (append_assoc text taken (part ++ (10 ∷ [])))
           (c.in_ok-end_line.ensures.stands start (text ++ taken) c.in-Some.ensures.0 (c.lines.invariant.stands start text s));
       number = omega (arith, c.in_ok-end_line.ensures.number, c.lines.invariant.number, length-append taken (part ++ (10 ∷ [])), length-append part (10 ∷ []));
+      set = c.in_ok-end_line.ensures.set ∙ c.lines.invariant.set;
       limit = c.in_ok-end_line.ensures.limit ∙ c.lines.invariant.limit;
       sink = c.in_ok-end_line.ensures.sink ∙ c.lines.invariant.sink;
     }
@@ -52,12 +57,15 @@ returns-clause-stands g c =
     let taken = c.lines.invariant.taken in
     let rest = c.lines.rest.now in
     let now = g.W.Sink.log c.go_on.new.w in
+    let set = c.args.self.now.guess in
     let limit = c.args.self.now.writer.limit in
     let same : (text : List ℕ) → (text ++ taken) ++ rest ≡ text ++ c.args.piece.now = λ text. append_assoc text taken rest ∙ ap (λ (z : List ℕ). text ++ z) (sym c.lines.invariant.parts) in
     λ start text s.
-    subst (λ (z : List ℕ). MatchResult c.go_on.result (λ _. Stands start now z c.go_on.new.self) (Stopped limit start now z)) (same text)
-    (subst (λ (l : ℕ). MatchResult c.go_on.result (λ _. Stands start now ((text ++ taken) ++ rest) c.go_on.new.self) (Stopped l start now ((text ++ taken) ++ rest))) c.lines.invariant.limit
-    (c.go_on.ensures.stands start (text ++ taken) c.in_default.ensures (c.lines.invariant.stands start text s)))
+    let all = (text ++ taken) ++ rest in
+    subst (λ (z : List ℕ). MatchResult c.go_on.result (λ _. Stands start now z c.go_on.new.self) (Stopped set limit start now z)) (same text)
+    (subst (λ (q : Profile). MatchResult c.go_on.result (λ _. Stands start now all c.go_on.new.self) (Stopped q limit start now all)) c.lines.invariant.set
+    (subst (λ (l : ℕ). MatchResult c.go_on.result (λ _. Stands start now all c.go_on.new.self) (Stopped c.lines.self.guess l start now all)) c.lines.invariant.limit
+    (c.go_on.ensures.stands start (text ++ taken) c.in_default.ensures (c.lines.invariant.stands start text s))))
 
 pub end_line-requires-clause-stands : goal.end_line-requires-clause-stands
 end_line-requires-clause-stands g c = let (start, text, s) = c.requires.stands in (start, text ++ c.lines.invariant.taken, c.lines.invariant.stands start text s)

@@ -3,8 +3,8 @@ use Rattle.llrp_listing.specs.Private.Encoder.{SaysAt}
 use Rattle.llrp_listing.specs.NodeLine.{NodeLine}
 use Rattle.llrp_listing.specs.Private.OpenNodes.{IsSaid, entries}
 use Rattle.llrp_listing.specs.Private.ShortLines.{short_level}
-use Rattle.llrp_listing.specs.Private.Standing.{CanTake}
-use Rattle.llrp_listing.specs.Private.Taking.{said_node}
+use Rattle.llrp_listing.specs.Private.EncoderState.{CanTake}
+use Rattle.llrp_listing.specs.Private.TakingLines.{said_node}
 use Rattle.llrp_listing.proofs.encode.Encoder.take_short.Goals as goal
 
 pub take_line-requires-clause-said : goal.take_line-requires-clause-said
@@ -21,4 +21,4 @@ returns-clause-stands g c = λ start text begun part out ns r s n ok.
     let bytes = begun ++ part in
     let depth = length (entries ns) in
     c.take_line.ensures.stands start text begun part out ns r s n
-    (subst (λ (level : ℕ). SaysAt depth bytes level (said_node x.result)) (sym x.ensures.level) (subst (λ (line : NodeLine). SaysAt depth bytes (short_level c.args.line) line) (sym x.ensures.says) ok))
+    (subst (λ (level : ℕ). SaysAt c.args.self.now.guess depth bytes level (said_node x.result)) (sym x.ensures.level) (subst (λ (line : NodeLine). SaysAt c.args.self.now.guess depth bytes (short_level c.args.line) line) (sym x.ensures.says) ok))

@@ -1,4 +1,4 @@
-use Rattle.std.proofs.Common.{ℕ, ◌-◌, List, Option, Some, None, length, map, take, drop, get_or}
+use Rattle.std.proofs.Common.{ℕ, ◌-◌, Option, Some, None, length, map, take, drop, get_or}
 use Rattle.std.specs.Prelude.{IfSome}
 use Rattle.llrp_schema.specs.Calls.Schema.{field_rule}
 use Rattle.llrp_listing.specs.Private.LineReading.{forms_of}

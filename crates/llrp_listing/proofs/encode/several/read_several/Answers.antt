@@ -15,5 +15,5 @@ numbers_from-requires-clause-room c =
 pub returns : goal.returns
 returns c =
     let x = c.in_ok-level in
-    several_says c.args.depth x.level c.in_ok-kind.kind c.fields-rules.result.now c.args.line.now c.in_ok-kind.end c.in_ok-stop.stop c.new-fields.result.items c.numbers_from.new.fields.items c.new-tail.result c.in_ok-kind.ensures.own x.ensures.least x.ensures.deep x.ensures.one x.ensures.open (omega (arith, c.if-line-gt-LONGEST_LINE.false)) x.ensures.starts c.in_ok-kind.ensures.named
+    several_says c.args.depth x.level c.in_ok-kind.kind c.fields-rules.result.now c.args.line.now c.in_ok-kind.end c.in_ok-stop.stop c.new-fields.result.items c.numbers_from.new.fields.items c.new-tail.result c.in_ok-kind.ensures.set x.ensures.least x.ensures.deep x.ensures.one x.ensures.open (omega (arith, c.if-line-gt-LONGEST_LINE.false)) x.ensures.starts c.in_ok-kind.ensures.named
     c.fields-rules.ensures (sym c.in-Absent.ensures) c.new-fields.ensures c.in_ok-stop.ensures.spaced c.if-stop-line.false (c.new-tail.ensures ∙ c.new.ensures.items)

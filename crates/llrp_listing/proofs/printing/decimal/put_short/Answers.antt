@@ -6,7 +6,7 @@ use Rattle.llrp_listing.proofs.printing.decimal.put_short.Goals as goal
 
 pub returns-clause-text : goal.returns-clause-text
 returns-clause-text c =
-    puts_same c.put_last.ensures (ap (λ x. drop (8 - c.count_of.result) x) c.eight.ensures ∙ last_digits c.args.number c.count_of.result (omega arith) c.count_of.ensures.count c.count_of.ensures.few)
+    puts_same c.put_last.ensures (ap (λ x. drop (8 - c.count_of_few.result) x) c.eight.ensures ∙ last_digits c.args.number c.count_of_few.result (omega arith) c.count_of_few.ensures.count (omega (arith, c.count_of_few.ensures.few)))
 
 pub returns-then-number-ge10000000-clause-text : goal.returns-then-number-ge10000000-clause-text
 returns-then-number-ge10000000-clause-text c =

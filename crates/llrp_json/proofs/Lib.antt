@@ -1,0 +1,15 @@
+pub mod HeldItems
+pub mod JsonEnds
+pub mod JsonParts
+pub mod JsonTextLemmas
+pub mod JsonTexts
+pub mod NodeTexts
+pub mod OneJson
+pub mod OpenJsonLemmas
+pub mod PlainNames
+pub mod PlainTexts
+pub mod SameItems
+pub mod SameLines
+pub mod SameParts
+pub mod ValueLemmas
+pub mod ValueParameters

@@ -1,0 +1,5 @@
+-- What public contracts say that no promise of README rests on.
+pub mod JsonLaws
+pub mod JsonTexts
+pub mod OpenJson
+pub mod Show

@@ -1,0 +1,5 @@
+pub mod JsonItems
+pub mod JsonLines
+pub mod JsonValues
+pub mod Calls
+pub mod Private

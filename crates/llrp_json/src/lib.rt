@@ -1,0 +1,22 @@
+//! Messages of LLRP as lines of JSON: a listener that prints the object of each message as its parts are read.
+//!
+//! Use it with `Frames` of `llrp_stream`, to hand what a reader sent on to programs that read JSON. A [`JsonPrinter`] holds the objects
+//! of the messages so far, each with its LF, under the names that the tables have.
+//!
+//! ```
+//! let mut printer = JsonPrinter::new(alloc);
+//! let mut frames = Frames::new(65_536);
+//! frames.feed(&mut printer, piece)?;
+//! let lines = printer.as_slice();  // {"message":"KEEPALIVE","version":2,"id":7}
+//! ```
+#![tactic(auto)]
+
+mod ends;
+pub mod laws;
+mod openings;
+mod printer;
+mod show;
+mod values;
+
+pub use printer::JsonPrinter;
+pub use show::{list_stream_json, run_show_json};

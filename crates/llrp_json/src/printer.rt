@@ -1,0 +1,342 @@
+//! The listener that prints lines of JSON.
+
+ghost use Rattle.std.specs.Prelude.{◌||◌, ◌≡◌, ◌+◌, ◌^◌, ◌<◌, ◌≤◌, ◌++◌, ◌∷◌, ℕ, List, [], OnOk, true, codes, decimal, drop, length};
+ghost use Rattle.llrp_schema.specs.declared.kinds.Kind.TheVariants.{Message as MessageKind, Parameter as ParameterKind};
+ghost use Rattle.std.specs.List.{list_all};
+ghost use Rattle.llrp_schema.specs.Calls.Schema.{field_rule};
+ghost use Rattle.llrp_schema.specs.Schema.{name_of, fields_of, bits_of, is_tv};
+ghost use Rattle.llrp_tree.specs.Spelling.{message};
+ghost use Rattle.llrp_json.specs.JsonValues.{inside, string, member, object};
+ghost use Rattle.llrp_json.specs.JsonItems.{AreFields, AreParameters, field_name};
+ghost use Rattle.llrp_json.specs.Calls.OpenJson.{before_one_more, more_members, opening, tail_begun, tail_end, Holds};
+ghost use Rattle.llrp_json.specs.Private.OpenJson.{at_end, has_any, more_of, one_parameter, Awaits};
+ghost use Rattle.llrp_json.specs.Private.Openings.{first_name, value_opening};
+ghost use Rattle.llrp_json.specs.Private.PlainStrings.{is_plain};
+
+use crate::ends::{push_end as push_end_line, push_fault as push_fault_line};
+use crate::openings::opening;
+use crate::values::{
+    push_decimal, push_field, push_field_name, push_inside, push_text, push_value, push_words,
+};
+use llrp_listing::{ItemPrinter, push_hexadecimal};
+use llrp_schema::{Field, Kind, MsgKind, ParamKind, Tail, fields, name};
+use llrp_stream::{End, Listener};
+use llrp_tree::Fault;
+use std::alloc::{AllocError, Global};
+
+/// Appends the objects of what it receives to a text, and cuts off that of a message that is given up.
+#[derive(Drop)]
+pub struct JsonPrinter {
+    text: Vec<u8>,
+    /// Where the text of the unfinished message begins.
+    mark: usize,
+    /// How many nodes are open.
+    depth: usize,
+    /// Whether the innermost open node has parameters.
+    is_parent: bool,
+    /// Which tail of the innermost node is begun, and whether that has words.
+    tail: Tail,
+    has_words: bool,
+}
+
+/// Appends the members of a message's version and its id.
+fn push_numbers(text: &mut Vec<u8>, version: u8, id: u32) -> Result<(), AllocError>
+    ensures { OnOk result (text.new.items ≡ text.old.items
+        ++ more_members (member (codes "version") (decimal version)
+        ∷ member (codes "id") (decimal id) ∷ [])) }
+{
+    text.extend_from_slice(b",\"version\":")?;
+    push_decimal(text, version as u128)?;
+    text.extend_from_slice(b",\"id\":")?;
+    push_decimal(text, id as u128)
+}
+
+/// Appends what the object of a message begins with, and its name.
+fn push_message_name(text: &mut Vec<u8>, kind: MsgKind) -> Result<(), AllocError>
+    ensures { OnOk result (text.new.items ≡ text.old.items
+        ++ (123 ∷ member (codes "message") (string (name_of (MessageKind kind))))) }
+{
+    text.extend_from_slice(b"{\"message\":\"")?;
+    text.extend_from_slice(name(Kind::Message(kind)).as_bytes())?;
+    push_text(text, b"\"")
+}
+
+/// Appends what the object of a message begins with.
+fn push_message(text: &mut Vec<u8>, version: u8, kind: MsgKind, id: u32) -> Result<(), AllocError>
+    ensures { (octets : ℕ) → OnOk result (text.new.items ≡ text.old.items
+        ++ opening (message version kind octets id)) }
+{
+    push_message_name(text, kind)?;
+    push_numbers(text, version, id)
+}
+
+/// Appends what the object of a parameter begins with.
+fn push_parameter(text: &mut Vec<u8>, kind: ParamKind) -> Result<(), AllocError>
+    ensures { OnOk result (text.new.items ≡ text.old.items
+        ++ (123 ∷ member (codes "parameter") (string (name_of (ParameterKind kind))))) }
+{
+    text.extend_from_slice(b"{\"parameter\":\"")?;
+    text.extend_from_slice(name(Kind::Parameter(kind)).as_bytes())?;
+    push_text(text, b"\"")
+}
+
+/// Appends what comes before a parameter, after others if there are any.
+fn push_separator(text: &mut Vec<u8>, is_parent: bool) -> Result<(), AllocError>
+    ensures { OnOk result (text.new.items ≡ text.old.items ++ before_one_more is_parent) }
+{
+    if is_parent {
+        text.extend_from_slice(b",")
+    } else {
+        text.extend_from_slice(b",\"parameters\":[")
+    }
+}
+
+/// Appends what comes before a parameter where nodes are open, and nothing where none is.
+fn push_separator_below(text: &mut Vec<u8>, depth: usize, is_parent: bool) -> Result<(), AllocError>
+    ensures none { depth ≡ 0 → OnOk result (text.new.items ≡ text.old.items) }
+    ensures some { 0 < depth → OnOk result (text.new.items ≡ text.old.items
+        ++ before_one_more is_parent) }
+{
+    if depth == 0 {
+        return Ok(());
+    }
+    push_separator(text, is_parent)
+}
+
+/// Whether the tail has words, once these octets are appended too.
+fn has_words_after(has_words: bool, octets: &[u8]) -> bool
+    ensures { result ≡ (has_words || has_any octets.now) }
+{
+    match octets {
+        [] => has_words,
+        [_, ..] => true,
+    }
+}
+
+/// Appends what the object of a node ends with.
+fn push_end(text: &mut Vec<u8>, is_parent: bool) -> Result<(), AllocError>
+    ensures { OnOk result (text.new.items ≡ text.old.items ++ at_end is_parent) }
+{
+    if is_parent {
+        text.extend_from_slice(b"]}")
+    } else {
+        text.extend_from_slice(b"}")
+    }
+}
+
+/// Appends what the member of a tail begins with.
+fn push_tail(text: &mut Vec<u8>, form: Tail) -> Result<(), AllocError>
+    ensures { OnOk result (text.new.items ≡ text.old.items ++ tail_begun form []) }
+{
+    match form {
+        Tail::Absent => Ok(()),
+        Tail::Words => push_text(text, b",\"words\":["),
+        Tail::Text => push_text(text, b",\"text\":\""),
+        Tail::Bits => push_text(text, b",\"bits\":\""),
+        Tail::Data => push_text(text, b",\"octets\":\""),
+    }
+}
+
+/// Appends what the member of a tail ends with.
+fn push_tail_end(text: &mut Vec<u8>, form: Tail) -> Result<(), AllocError>
+    ensures { OnOk result (text.new.items ≡ text.old.items ++ tail_end form) }
+{
+    match form {
+        Tail::Absent => Ok(()),
+        Tail::Words => text.extend_from_slice(b"]"),
+        Tail::Text | Tail::Bits | Tail::Data => text.extend_from_slice(b"\""),
+    }
+}
+
+/// Appends octets of a tail, of which there were some words before or none.
+fn push_octets(text: &mut Vec<u8>, form: Tail, some: bool, octets: &[u8]) -> Result<(), AllocError>
+    ensures { OnOk result (text.new.items ≡ text.old.items ++ more_of form some octets.now) }
+{
+    match form {
+        Tail::Absent => Ok(()),
+        Tail::Words => push_words(text, some, octets),
+        Tail::Text => push_inside(text, octets),
+        Tail::Bits | Tail::Data => push_hexadecimal(text, octets),
+    }
+}
+
+/// Appends what the object of a parameter of a type and a value begins with, up to its value.
+fn push_opening(text: &mut Vec<u8>, kind: ParamKind, rule: &Field) -> Result<(), AllocError>
+    requires first { field_name (field_rule rule.now) ≡ first_name (fields_of (ParameterKind kind)) }
+    requires named { list_all is_plain (field_rule rule.now).name ≡ true }
+    ensures { OnOk result (text.new.items ≡ text.old.items ++ value_opening kind) }
+{
+    match opening(kind) {
+        Some(octets) => push_text(text, octets),
+        None => {
+            push_parameter(text, kind)?;
+            push_field_name(text, rule)
+        }
+    }
+}
+
+/// Appends the object of a parameter of a type and a value.
+fn push_value_parameter(text: &mut Vec<u8>, kind: ParamKind, value: u128) -> Result<(), AllocError>
+    requires tv { is_tv kind ≡ true }
+    requires fits { value < 2 ^ bits_of (fields_of (ParameterKind kind)) }
+    ensures { OnOk result ((one : List ℕ)
+        × AreParameters (one_parameter kind value) (one ∷ [])
+        × (text.new.items ≡ text.old.items ++ one)) }
+{
+    let rule = &fields(Kind::Parameter(kind))[0];
+    push_opening(text, kind, rule)?;
+    push_value(text, rule, value)?;
+    push_text(text, b"}")
+}
+
+/// Removes the first octets of a text.
+fn drop_front(text: &mut Vec<u8>, count: usize)
+    requires { count ≤ length text.old.items }
+    ensures { text.new.items ≡ drop count text.old.items }
+{
+    let left = text.len() - count;
+    text.copy_within(count.., 0);
+    text.truncate(left);
+}
+
+impl JsonPrinter {
+    /// A printer that has received nothing; it takes no memory.
+    pub fn new(alloc: Global) -> JsonPrinter
+        ensures { Holds result.mark result.depth result.is_parent result.text.items [] [] }
+    {
+        JsonPrinter {
+            text: Vec::new(alloc),
+            mark: 0,
+            depth: 0,
+            is_parent: false,
+            tail: Tail::Absent,
+            has_words: false,
+        }
+    }
+
+    /// The objects of the messages so far, each with its LF; after them, what is there of one that is
+    /// not whole.
+    pub fn as_slice(&self) -> &[u8]
+        ensures { result.now ≡ self.now.text.items }
+    {
+        self.text.as_slice()
+    }
+}
+
+impl Listener for JsonPrinter {
+    ghost use Rattle.llrp_json.specs.Calls.OpenJson.{Holds};
+    ghost use Rattle.llrp_json.specs.Private.OpenJson.{AppendsMessage, Awaits};
+
+    ghost begins = { λ self was t. Awaits self.mark self.depth self.is_parent self.tail self.has_words
+        self.text.items was t };
+
+    ghost stands = { λ self was t. Holds self.mark self.depth self.is_parent self.text.items was t };
+
+    ghost ends = { λ self was m now. AppendsMessage m was now };
+
+    fn message(
+        &mut self,
+        version: u8,
+        kind: MsgKind,
+        _octets: u32,
+        id: u32,
+    ) -> Result<(), AllocError> {
+        push_message(&mut self.text, version, kind, id)?;
+        self.depth = 1;
+        self.is_parent = false;
+        self.tail = Tail::Absent;
+        Ok(())
+    }
+
+    fn parameter(&mut self, _level: u8, kind: ParamKind) -> Result<(), AllocError> {
+        push_separator_below(&mut self.text, self.depth, self.is_parent)?;
+        push_parameter(&mut self.text, kind)?;
+        self.depth += 1;
+        self.is_parent = false;
+        self.tail = Tail::Absent;
+        Ok(())
+    }
+
+    fn field(&mut self, rule: &Field, value: u128) -> Result<(), AllocError> {
+        if rule.reserved {
+            return Ok(());
+        }
+        push_field(&mut self.text, rule, value)
+    }
+
+    fn tail(&mut self, form: Tail) -> Result<(), AllocError> {
+        push_tail(&mut self.text, form)?;
+        self.tail = form;
+        self.has_words = false;
+        Ok(())
+    }
+
+    fn octets(&mut self, form: Tail, octets: &[u8]) -> Result<(), AllocError> {
+        push_octets(&mut self.text, form, self.has_words, octets)?;
+        self.has_words = has_words_after(self.has_words, octets);
+        Ok(())
+    }
+
+    fn ready(&mut self) -> Result<(), AllocError> {
+        push_tail_end(&mut self.text, self.tail)
+    }
+
+    fn value(&mut self, _level: u8, kind: ParamKind, value: u128) -> Result<(), AllocError> {
+        push_separator(&mut self.text, self.is_parent)?;
+        push_value_parameter(&mut self.text, kind, value)?;
+        self.is_parent = true;
+        Ok(())
+    }
+
+    fn close(&mut self) -> Result<(), AllocError> {
+        push_end(&mut self.text, self.is_parent)?;
+        self.depth -= 1;
+        self.is_parent = true;
+        Ok(())
+    }
+
+    fn end(&mut self) -> Result<(), AllocError> {
+        push_end(&mut self.text, self.is_parent)?;
+        self.text.extend_from_slice(b"\n")?;
+        self.mark = self.text.as_slice().len();
+        self.depth = 0;
+        Ok(())
+    }
+
+    fn give_up(&mut self) {
+        self.text.truncate(self.mark);
+        self.depth = 0;
+    }
+}
+
+impl ItemPrinter for JsonPrinter {
+    ghost use Rattle.std.specs.Prelude.{◌∷◌, ◌++◌, [], refl};
+    ghost use Rattle.llrp_json.specs.JsonLines.{IsItemJson, end_json};
+
+    ghost is_text = { IsItemJson };
+
+    ghost text_of_end = { end_json };
+
+    fn push_fault(&mut self, id: u32, fault: Fault) -> Result<(), AllocError> {
+        push_fault_line(&mut self.text, id, fault)?;
+        self.mark = self.text.as_slice().len();
+        Ok(())
+    }
+
+    fn push_end(&mut self, end: End) -> Result<(), AllocError> {
+        push_end_line(&mut self.text, end)?;
+        self.mark = self.text.as_slice().len();
+        Ok(())
+    }
+
+    fn whole(&self) -> &[u8] {
+        &self.text.as_slice()[..self.mark]
+    }
+
+    fn drop_whole(&mut self) {
+        drop_front(&mut self.text, self.mark);
+        self.mark = 0;
+    }
+
+    ghost message_text = { λ printer was m now appended. (appended.0 ++ 10 ∷ [], appended.2, (appended.0, appended.1, refl)) };
+}

@@ -1,0 +1,56 @@
+//! Lists a stream as lines of JSON.
+
+ghost use Rattle.std.specs.Prelude.{◌≤◌, IfErr, IfOk};
+ghost use Rattle.llrp_schema.specs.declared.kinds.Profile.{Profile};
+ghost use Rattle.llrp_stream.specs.Calls.Device.{CanWrite};
+ghost use Rattle.llrp_stream.specs.Device.{IsFreshSink, IsFreshSource};
+ghost use Rattle.llrp_tree.specs.declared.TheConstants.{MAX_LIMIT};
+ghost use Rattle.llrp_json.specs.Calls.Show.{ListedJson, StoppedJson};
+ghost use Rattle.llrp_json.specs.JsonLines.{ShowsJson};
+
+use crate::printer::JsonPrinter;
+use llrp_listing::{ToolErr, Verdict, list_stream_with, run_show_with};
+use llrp_schema::Profile;
+use llrp_stream::{Sink, Source};
+use std::alloc::Global;
+
+/// Writes the lines of JSON of a stream of frames of a set of kinds. The errors are `Write` and
+/// `Memory`, after which some first part of the lines was written.
+pub fn list_stream_json<W: Sink>(
+    alloc: Global,
+    profile: Profile,
+    stream: &[u8],
+    w: &mut W,
+    limit: u32,
+) -> Result<Verdict, ToolErr>
+    requires sink { CanWrite (W.log w.old) }
+    requires least { 10 ≤ limit }
+    requires most { limit ≤ MAX_LIMIT }
+    ensures ok { IfOk result (λ verdict. ListedJson profile limit stream.now (W.log w.old)
+        (W.log w.new) verdict) }
+    ensures err { IfErr result (λ e. StoppedJson profile limit stream.now (W.log w.old)
+        (W.log w.new) e) }
+{
+    list_stream_with(JsonPrinter::new(alloc), profile, stream, w, limit)
+}
+
+/// Writes a line of JSON for each frame that the source gives, and for an end that is not clean;
+/// returns whether all of it is lawful. It reads and writes as `llrp_listing::run_show_in` does,
+/// with the same errors.
+pub fn run_show_json<R: Source, W: Sink>(
+    alloc: Global,
+    profile: Profile,
+    r: &mut R,
+    w: &mut W,
+    limit: u32,
+) -> Result<Verdict, ToolErr>
+    requires source { IsFreshSource (R.log r.old) }
+    requires sink { IsFreshSink (W.log w.old) }
+    requires least { 10 ≤ limit }
+    requires most { limit ≤ MAX_LIMIT }
+    // After Ok, the source was read to its end or to a break, and the lines were written; after
+    // Err, some first part of them.
+    ensures { ShowsJson profile limit (R.log r.old) (R.log r.new) (W.log w.old) (W.log w.new) result }
+{
+    run_show_with(JsonPrinter::new(alloc), profile, r, w, limit)
+}

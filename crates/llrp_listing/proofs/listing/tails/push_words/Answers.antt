@@ -1,9 +1,0 @@
-use Rattle.llrp_listing.proofs.PrintingLemmas.{words_begun, words_more}
-use Rattle.llrp_listing.proofs.listing.tails.push_words.Goals as goal
-
-pub loop-rest-init : goal.loop-rest-init
-loop-rest-init c = words_begun _ _ c.args.octets.now c.in-len2-up.len_at_least c.in_ok-push_word.ensures
-
-pub loop-rest-preserved : goal.loop-rest-preserved
-loop-rest-preserved c =
-    words_more _ _ _ _ c.loop-rest.rest.now c.in-len2-up-rest.len_at_least c.loop-rest.invariant c.in_ok-extend_from_slice.ensures.items c.in_ok-push_word-2.ensures

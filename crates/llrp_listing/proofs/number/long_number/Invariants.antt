@@ -1,6 +1,0 @@
-use Rattle.std.proofs.Common.{drop}
-use Rattle.llrp_listing.specs.Private.Numeral.{ReadsFront}
-use Rattle.llrp_listing.proofs.number.long_number.Given as goal
-
-abbrev pub invariant-loop-b : goal.invariant-loop-b
-invariant-loop-b l = record { read : ReadsFront l.digits (drop l.b-index l.digits) l.n }
