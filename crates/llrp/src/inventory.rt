@@ -1,11 +1,14 @@
 //! The command `inventory`: follows a plan with a reader over TCP.
 
-ghost use Rattle.std.specs.Prelude.{◌<◌, ◌^◌};
 ghost use Rattle.llrp.specs.Calls.Network.{FollowsPlan, RunsPlan};
+ghost use Rattle.llrp_stream.specs.Device.{IsFreshSink};
 
-use crate::network::{conclude, plan_of};
+use crate::network::conclude;
 use crate::progress::Progress;
-use llrp_tool::{Input, LIMIT, Output, Sink, ToolErr, run_inventory};
+use llrp_commands::LIMIT;
+use llrp_endpoints::{Plan, run_inventory};
+use llrp_listing::ToolErr;
+use llrp_stream::{Input, Output, Sink};
 use std::alloc::Global;
 use std::io::Write;
 use std::net::{Net, TcpListener, TcpStream, ToSocketAddrs};
@@ -20,21 +23,18 @@ pub struct Target<'a> {
     pub timeout: Option<u16>,
 }
 
-/// Follows a plan with these two numbers, with a check or without, with the reader at the other end
-/// of the stream. Writes the lines of tags to `report`.
+/// Follows a plan with the reader at the other end of the stream. Writes the lines of tags to
+/// `report`.
 pub fn take_inventory<W: Sink>(
     alloc: Global,
     stream: &TcpStream,
-    every: u16,
-    polls: u16,
-    check: bool,
+    plan: Plan,
     report: &mut W,
 ) -> Result<(), ToolErr>
-    requires { (W.log report.old).failures < 2 ^ 63 }
-    ensures { FollowsPlan (record { every = every; polls = polls; checked = check })
+    requires { IsFreshSink (W.log report.old) }
+    ensures { FollowsPlan plan
         (W.log report.old) (W.log report.new) result }
 {
-    let plan = plan_of(alloc, every, polls, check)?;
     let mut source = Input::new(stream);
     let mut sink = Output::new(stream);
     run_inventory(alloc, plan, LIMIT, &mut source, &mut sink, report)?;
@@ -58,9 +58,9 @@ fn connect<N: Net<Listener = TcpListener, Stream = TcpStream>>(
     Some(stream)
 }
 
-/// Follows a plan with these two numbers, with a check or without, with the reader, and returns the
-/// exit status: 0 if all is well, 1 if the reader is at fault, 3 if the network, a device or memory
-/// failed. Writes the lines of tags to `report`, and an error as a line to `e`.
+/// Follows a plan with the reader, and returns the exit status: 0 if all is well, 1 if the reader is
+/// at fault, 3 if the network, a device or memory failed. Writes the lines of tags to `report`, and
+/// an error as a line to `e`.
 pub fn inventory<
     N: Net<Listener = TcpListener, Stream = TcpStream>,
     W: Sink + Drop,
@@ -70,22 +70,20 @@ pub fn inventory<
     net: &N,
     alloc: Global,
     target: Target<'_>,
-    every: u16,
-    polls: u16,
-    check: bool,
+    plan: Plan,
     report: &mut Progress<W, T>,
     e: &mut E,
 ) -> Result<u8, ToolErr>
-    requires report { (⟦<Progress<W, T> as Sink>⟧.log report.old).failures < 2 ^ 63 }
-    requires errors { (E.log e.old).failures < 2 ^ 63 }
-    ensures { RunsPlan (record { every = every; polls = polls; checked = check })
+    requires report { IsFreshSink (⟦<Progress<W, T> as Sink>⟧.log report.old) }
+    requires errors { IsFreshSink (E.log e.old) }
+    ensures { RunsPlan plan
         (⟦<Progress<W, T> as Sink>⟧.log report.old) (⟦<Progress<W, T> as Sink>⟧.log report.new)
         (E.log e.old) (E.log e.new) result }
 {
     let outcome = match connect(net, target) {
         Some(stream) => {
             report.show();
-            Some(take_inventory(alloc, &stream, every, polls, check, report))
+            Some(take_inventory(alloc, &stream, plan, report))
         }
         None => None,
     };

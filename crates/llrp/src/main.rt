@@ -1,28 +1,29 @@
 //! The program `llrp`: passes its words and its standard streams to the library of the command
 //! line, and exits with the status that this returns. It runs the commands over sockets itself.
 //!
-//! Read it to see what no contract covers: arguments, terminals, sockets and the exit status. The commands are in `llrp_tool`,
+//! Read it to see what no contract covers: arguments, terminals, sockets and the exit status. The commands are in `llrp_commands`,
 //! the two ends of a connection in `llrp_endpoints`.
 #![tactic(auto)]
 
-mod ending;
+mod both_ends;
 mod inventory;
-mod looping;
 mod network;
+mod out_of_memory;
+mod plan;
 mod progress;
 mod sim;
 
-use ending::end_without_memory;
 use inventory::Target;
-use llrp_tool::{
-    Input, NetworkCommand, Output, ToolErr, USAGE, network_command, reads_input, run_command,
-    write_all,
-};
+use llrp_commands::{NetworkCommand, PlanWords, USAGE, network_command, reads_input, run_command};
+use llrp_listing::{ToolErr, write_all};
+use llrp_stream::{Input, Output};
 use network::{FAILED, conclude};
+use out_of_memory::end_without_memory;
+use plan::{has_every_twice, never_reports, open_plan, refuse};
 use progress::Progress;
 use std::env;
 use std::fs::File;
-use std::io::{ErrorKind, IsTerminal};
+use std::io::{ErrorKind, IsTerminal, Stderr};
 use std::process::ExitCode;
 
 /// What is written if an argument is not UTF-8.
@@ -30,6 +31,33 @@ const NOT_UTF8: &[u8] = b"error: invalid UTF-8 was detected in one or more argum
 
 /// What a person at a terminal reads when a command waits for input.
 const WAITING: &[u8] = b"llrp: waiting for input on this terminal; Ctrl-D ends it\n";
+
+/// What is written if reports are awaited of a ROSpec that reports at its end alone.
+const NEVER_REPORTS: &[u8] =
+    b"error: the argument '--every 0' cannot be used with '--reports <K>'\n\nFor more information, try '--help'.\n";
+
+/// What is written if --every is given beside a ROSpec that says it.
+const EVERY_TWICE: &[u8] =
+    b"error: the argument '--rospec <FILE>' cannot be used with '--every <N>'\n\nFor more information, try '--help'.\n";
+
+/// What the words say of a plan, if the command has one.
+fn plan_in<'a>(command: &NetworkCommand<'a>) -> Option<PlanWords<'a>> {
+    match command {
+        NetworkCommand::Sim { .. } => None,
+        NetworkCommand::Inventory { plan, .. } | NetworkCommand::Loop { plan } => Some(*plan),
+    }
+}
+
+/// What is written if the options of a plan exclude each other.
+fn clash(words: PlanWords<'_>) -> Option<&'static [u8]> {
+    if has_every_twice(words) {
+        return Some(EVERY_TWICE);
+    }
+    if never_reports(words) {
+        return Some(NEVER_REPORTS);
+    }
+    None
+}
 
 /// Opens a directory once for each standard stream. If one of these is closed, a directory gets its
 /// descriptor, which the next socket would otherwise get: so reads and writes of that stream fail,
@@ -41,6 +69,15 @@ fn hold_descriptors(rt: &HostRuntime) -> Option<[File; 3]> {
     Some([first, second, third])
 }
 
+/// The terminal that standard error is, if it is one.
+fn terminal_of(rt: &HostRuntime) -> Option<Stderr> {
+    if rt.stderr().is_terminal() {
+        Some(rt.stderr())
+    } else {
+        None
+    }
+}
+
 /// Runs a command over sockets, and returns its exit status.
 fn run_network(rt: &HostRuntime, command: NetworkCommand<'_>) -> Result<u8, ToolErr> {
     let alloc = rt.alloc();
@@ -49,49 +86,49 @@ fn run_network(rt: &HostRuntime, command: NetworkCommand<'_>) -> Result<u8, Tool
     let Some(_held) = hold_descriptors(rt) else {
         return conclude(None, &mut errors);
     };
-    let terminal = if rt.stderr().is_terminal() {
-        Some(rt.stderr())
-    } else {
-        None
-    };
-    let mut report = Progress::new(Output::new(rt.stdout()), terminal);
+    let mut report = Progress::new(Output::new(rt.stdout()), terminal_of(rt));
+    if let Some(said) = plan_in(&command).and_then(clash) {
+        write_all(&mut errors, said)?;
+        return Ok(USAGE);
+    }
     match command {
-        NetworkCommand::Sim { port } => sim::sim(rt, alloc, port, &mut input, &mut errors),
+        NetworkCommand::Sim { port, all } => sim::sim(
+            rt,
+            alloc,
+            port,
+            all,
+            &mut input,
+            &mut errors,
+        ),
         NetworkCommand::Inventory {
             host,
             port,
-            every,
-            polls,
-            check,
+            plan,
             timeout,
-        } => inventory::inventory(
-            rt,
-            alloc,
-            Target {
+        } => {
+            let target = Target {
                 host,
                 port,
                 timeout,
-            },
-            every,
-            polls,
-            check,
-            &mut report,
-            &mut errors,
-        ),
-        NetworkCommand::Loop {
-            every,
-            polls,
-            check,
-        } => looping::run_both_ends(
-            rt,
-            alloc,
-            every,
-            polls,
-            check,
-            &mut input,
-            &mut report,
-            &mut errors,
-        ),
+            };
+            match open_plan(rt, alloc, plan) {
+                Ok(plan) => {
+                    inventory::inventory(rt, alloc, target, plan, &mut report, &mut errors)
+                }
+                Err(no_plan) => refuse(no_plan, &mut errors),
+            }
+        }
+        NetworkCommand::Loop { plan } => match open_plan(rt, alloc, plan) {
+            Ok(plan) => both_ends::run_both_ends(
+                rt,
+                alloc,
+                plan,
+                &mut input,
+                &mut report,
+                &mut errors,
+            ),
+            Err(no_plan) => refuse(no_plan, &mut errors),
+        },
     }
 }
 

@@ -2,7 +2,7 @@
 
 ghost use Rattle.std.specs.Prelude.{◌≡◌};
 
-use llrp_tool::Sink;
+use llrp_stream::Sink;
 use std::io;
 use std::io::Write;
 

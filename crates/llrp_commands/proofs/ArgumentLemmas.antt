@@ -11,9 +11,9 @@ use Rattle.clap.specs.Values.{IsSignedIn}
 use Rattle.clap.specs.Words.{Row, Text, without_minus}
 use Rattle.clap.proofs.CallerReads.{signed_reads}
 use Rattle.llrp_tree.specs.declared.TheConstants.{MAX_LIMIT}
-use Rattle.llrp_commands.specs.Private.Parse.{HasFlagWord, HasNumberIn, HasStreamWords, HasWord, IsFound, IsNetworkParse, IsParse}
-use Rattle.llrp_commands.specs.Calls.Words.{IsFlag, HasNumber, hex_in, name_in, word_in}
-use Rattle.llrp_commands.specs.Private.Words.{HasFlag}
+use Rattle.llrp_commands.specs.Private.Parse.{HasFlagWord, HasNumberIn, HasNumberWord, HasPlan, HasStreamWords, HasWord, IsFound, IsNetworkParse, IsParse}
+use Rattle.llrp_commands.specs.Calls.Arguments.{IsFlag, HasNumber, hex_in, json_in, name_in, word_in, all_in}
+use Rattle.llrp_commands.specs.Private.Arguments.{HasFlag}
 
 -- two texts that a test distinguishes
 pub differs : (a b : Text) → bytes_eq a b ≡ false → a ≡ b → ⊥
@@ -50,11 +50,25 @@ reads_number E G k low high t r read only fits passed =
 number_of_word : (low high : ℕ) (id name : Text) (rows : List Row) → HasNumberIn low high id rows → (n : ℕ) × HasNumber id (Some (name, rows)) n
 number_of_word low high id name rows h = (digits_value 10 (without_leading_plus (without_minus h.word)), ap (option_map (signed_digits_value 10)) h.given ∙ ap (λ z. Some z) (spelled low high h.word h.spells))
 
--- what is neither sim nor loop is inventory, with its host
-pub inventory_there : (name : Text) (rows : List Row) → IsNetworkParse name rows → (name ≡ codes "sim" → ⊥) → (name ≡ codes "loop" → ⊥) → (name ≡ codes "inventory") × HasWord (codes "HOST") rows
+-- sim has its port and its flag
+pub sim_there : (name : Text) (rows : List Row) → IsNetworkParse name rows → name ≡ codes "sim" → HasNumberWord (codes "PORT") rows × HasFlagWord (codes "all") rows
+sim_there name rows (inl h) e = (h.1, h.2)
+sim_there name rows (inr (inl h)) e = absurd (differs (codes "inventory") (codes "sim") refl (sym h.0 ∙ e))
+sim_there name rows (inr (inr h)) e = absurd (differs (codes "loop") (codes "sim") refl (sym h.0 ∙ e))
+
+-- what is neither sim nor loop is inventory, with its host and its port
+pub inventory_there : (name : Text) (rows : List Row) → IsNetworkParse name rows → (name ≡ codes "sim" → ⊥) → (name ≡ codes "loop" → ⊥)
+    → (name ≡ codes "inventory") × HasWord (codes "HOST") rows × HasNumberWord (codes "PORT") rows
 inventory_there name rows (inl h) no_sim no_loop = absurd (no_sim h.0)
-inventory_there name rows (inr (inl h)) no_sim no_loop = (h.0, h.1)
+inventory_there name rows (inr (inl h)) no_sim no_loop = (h.0, h.1, h.2)
 inventory_there name rows (inr (inr h)) no_sim no_loop = absurd (no_loop h.0)
+
+-- what is none of show, encode and epc is a command that the program runs itself
+pub network_there : (name : Text) (rows : List Row) → IsParse name rows → (name ≡ codes "show" → ⊥) → (name ≡ codes "encode" → ⊥) → (name ≡ codes "epc" → ⊥) → IsNetworkParse name rows
+network_there name rows (inl h) no_show no_encode no_epc = absurd (no_show h.0)
+network_there name rows (inr (inl h)) no_show no_encode no_epc = absurd (no_encode h.0)
+network_there name rows (inr (inr (inl h))) no_show no_encode no_epc = absurd (no_epc h.0)
+network_there name rows (inr (inr (inr h))) no_show no_encode no_epc = h
 
 -- epc has its text
 pub text_of_epc : (name : Text) (rows : List Row) → IsParse name rows → name ≡ codes "epc" → HasWord (codes "TEXT") rows
@@ -78,9 +92,9 @@ pub found_text : (found : Option (Text × List Row)) → IsFound found → name_
 found_text None h e = absurd h
 found_text (Some p) h e = text_of_epc p.0 p.1 h (let same : p.0 ≡ codes "epc" = cc in same)
 
--- show and encode have their flag and their limit
+-- show and encode have their flags and their limit
 pub stream_words_of : (name : Text) (rows : List Row) → IsParse name rows → (name ≡ codes "show") ⊎ (name ≡ codes "encode") → HasStreamWords rows
-stream_words_of name rows (inl h) e = h.1
+stream_words_of name rows (inl h) e = h.1.0
 stream_words_of name rows (inr (inl h)) e = h.1
 stream_words_of name rows (inr (inr (inl h))) (inl e) = absurd (differs (codes "epc") (codes "show") refl (sym h.0 ∙ e))
 stream_words_of name rows (inr (inr (inl h))) (inr e) = absurd (differs (codes "epc") (codes "encode") refl (sym h.0 ∙ e))
@@ -91,23 +105,42 @@ stream_words_of name rows (inr (inr (inr (inr (inl h))))) (inr e) = absurd (diff
 stream_words_of name rows (inr (inr (inr (inr (inr h))))) (inl e) = absurd (differs (codes "loop") (codes "show") refl (sym h.0 ∙ e))
 stream_words_of name rows (inr (inr (inr (inr (inr h))))) (inr e) = absurd (differs (codes "loop") (codes "encode") refl (sym h.0 ∙ e))
 
+-- show has the flag --json
+pub json_word_of : (name : Text) (rows : List Row) → IsParse name rows → name ≡ codes "show" → HasFlagWord (codes "json") rows
+json_word_of name rows (inl h) e = h.1.1
+json_word_of name rows (inr (inl h)) e = absurd (differs (codes "encode") (codes "show") refl (sym h.0 ∙ e))
+json_word_of name rows (inr (inr (inl h))) e = absurd (differs (codes "epc") (codes "show") refl (sym h.0 ∙ e))
+json_word_of name rows (inr (inr (inr (inl h)))) e = absurd (differs (codes "sim") (codes "show") refl (sym h.0 ∙ e))
+json_word_of name rows (inr (inr (inr (inr (inl h))))) e = absurd (differs (codes "inventory") (codes "show") refl (sym h.0 ∙ e))
+json_word_of name rows (inr (inr (inr (inr (inr h))))) e = absurd (differs (codes "loop") (codes "show") refl (sym h.0 ∙ e))
+
+pub found_json : (found : Option (Text × List Row)) → IsFound found → name_in found ≡ Some (codes "show") → (json : Bool) × IsFlag (json_in found) json
+found_json None h e = absurd h
+found_json (Some p) h e = json_word_of p.0 p.1 h (let same : p.0 ≡ codes "show" = cc in same)
+
 -- where show or encode was found its flag is there
 pub found_flag : (found : Option (Text × List Row)) → IsFound found → (name_in found ≡ Some (codes "show")) ⊎ (name_in found ≡ Some (codes "encode")) → (hex : Bool) × IsFlag (hex_in found) hex
 found_flag None h e = absurd h
 found_flag (Some p) h (inl e) = (stream_words_of p.0 p.1 h (inl (let same : p.0 ≡ codes "show" = cc in same))).0
 found_flag (Some p) h (inr e) = (stream_words_of p.0 p.1 h (inr (let same : p.0 ≡ codes "encode" = cc in same))).0
 
+-- and the other
+pub found_all : (found : Option (Text × List Row)) → IsFound found → (name_in found ≡ Some (codes "show")) ⊎ (name_in found ≡ Some (codes "encode")) → (all : Bool) × IsFlag (all_in found) all
+found_all None h e = absurd h
+found_all (Some p) h (inl e) = (stream_words_of p.0 p.1 h (inl (let same : p.0 ≡ codes "show" = cc in same))).1
+found_all (Some p) h (inr e) = (stream_words_of p.0 p.1 h (inr (let same : p.0 ≡ codes "encode" = cc in same))).1
+
 -- and its limit
 pub found_limit : (found : Option (Text × List Row)) → IsFound found → (name_in found ≡ Some (codes "show")) ⊎ (name_in found ≡ Some (codes "encode")) → (limit : ℕ) × HasNumber (codes "limit") found limit
 found_limit None h e = absurd h
-found_limit (Some p) h (inl e) = number_of_word 10 MAX_LIMIT (codes "limit") p.0 p.1 (stream_words_of p.0 p.1 h (inl (let same : p.0 ≡ codes "show" = cc in same))).1
-found_limit (Some p) h (inr e) = number_of_word 10 MAX_LIMIT (codes "limit") p.0 p.1 (stream_words_of p.0 p.1 h (inr (let same : p.0 ≡ codes "encode" = cc in same))).1
+found_limit (Some p) h (inl e) = number_of_word 10 MAX_LIMIT (codes "limit") p.0 p.1 (stream_words_of p.0 p.1 h (inl (let same : p.0 ≡ codes "show" = cc in same))).2
+found_limit (Some p) h (inr e) = number_of_word 10 MAX_LIMIT (codes "limit") p.0 p.1 (stream_words_of p.0 p.1 h (inr (let same : p.0 ≡ codes "encode" = cc in same))).2
 
--- a plan has its flag
-pub flag_of_plan : (name : Text) (rows : List Row) → IsNetworkParse name rows → (name ≡ codes "sim" → ⊥) → HasFlagWord (codes "check") rows
-flag_of_plan name rows (inl h) no_sim = absurd (no_sim h.0)
-flag_of_plan name rows (inr (inl h)) no_sim = h.3.2
-flag_of_plan name rows (inr (inr h)) no_sim = h.1.2
+-- what is not sim has a plan
+pub plan_there : (name : Text) (rows : List Row) → IsNetworkParse name rows → (name ≡ codes "sim" → ⊥) → HasPlan rows
+plan_there name rows (inl h) no_sim = absurd (no_sim h.0)
+plan_there name rows (inr (inl h)) no_sim = h.3
+plan_there name rows (inr (inr h)) no_sim = h.1
 
 -- a flag that reads what it says is what it says
 pub reads_flag : (found : Option Text) (flag : Bool) → HasFlag found flag → (given : Bool) × IsFlag found given → IsFlag found flag

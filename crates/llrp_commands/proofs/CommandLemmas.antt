@@ -7,8 +7,8 @@ use Rattle.clap.specs.Words.{App, Row, Text, is_simple, kind_of, subcommand_of}
 use Rattle.clap.specs.declared.error.Error.{Error}
 use Rattle.clap.specs.declared.error.kind.ErrorKind.TheVariants.{OutOfMemory}
 use Rattle.clap.proofs.SimpleLemmas.{is_nil}
-use Rattle.llrp_commands.specs.Private.Words.{HasFlag}
-use Rattle.llrp_commands.specs.Calls.Words.{command_in, llrp_app, parses}
+use Rattle.llrp_commands.specs.Private.Arguments.{HasFlag}
+use Rattle.llrp_commands.specs.Calls.Arguments.{command_in, llrp_app, parses}
 
 pub is_simple_program : is_simple llrp_app ≡ true
 unfolding llrp_app

@@ -20,8 +20,8 @@ use Rattle.clap.specs.Walk.{subcommand_met, subcommand_or_other, word_met, to_po
 use Rattle.clap.specs.Walk.{one_of, row_text, plain_word, after_flag, long_or_other, short_or_plain}
 use Rattle.clap.proofs.ValueTestLemmas.{accepts-Accepts}
 use Rattle.llrp_tree.specs.declared.TheConstants.{MAX_LIMIT}
-use Rattle.llrp_commands.specs.Private.Parse.{HasFlagWord, HasLimitWord, HasNumberWord, HasStreamWords, HasWord, IsFound, IsParse, MayHaveNumberWord}
-use Rattle.llrp_commands.specs.Calls.Words.{command_in, stream_app, hex_rule, limit_rule, check_rule, host_rule, inventory_app, llrp_app, loop_app, number_rule, port_app, port_rule, text_app, text_rule, top_app, timeout_rule}
+use Rattle.llrp_commands.specs.Private.Parse.{HasFlagWord, HasLimitWord, HasNumberWord, HasShowWords, HasStreamWords, HasWord, IsFound, IsParse, MayHaveNumberWord}
+use Rattle.llrp_commands.specs.Calls.Arguments.{command_in, show_app, stream_app, hex_rule, json_rule, limit_rule, count_rule, flag_rule, host_rule, inventory_app, llrp_app, loop_app, number_rule, port_rule, text_app, text_option_rule, text_rule, top_app, all_rule, sim_app}
 use Rattle.llrp_commands.proofs.ReadRows.{AllFound, AllUsesPass, HasRead, IsAmong, LevelPasses, both, subcommand_there, flag_passes, has_read, help_passes, level_passes, set_passes, uses_pass}
 
 -- ---- a walk without a fault does not stop at help
@@ -176,11 +176,8 @@ the_port place = with_index place (filled port_rule)
 abbrev the_host : Rule
 the_host = with_index 1 (filled host_rule)
 
-abbrev the_number : ℕ → Text → Text → Rule
-the_number place name default = with_index place (filled (number_rule name default))
-
 abbrev the_timeout : Rule
-the_timeout = with_index 3 (filled timeout_rule)
+the_timeout = with_index 3 (filled (count_rule (codes "timeout")))
 
 abbrev the_help : ℕ → Rule
 the_help place = with_index place (filled help_rule)
@@ -226,23 +223,57 @@ built_sub s = built_leaf (inherited top_app.top s)
 abbrev the_hex : Rule
 the_hex = with_index 1 (filled hex_rule)
 
+abbrev the_all : Rule
+the_all = with_index 1 (filled all_rule)
+
+abbrev the_json : Rule
+the_json = with_index 1 (filled json_rule)
+
 abbrev the_limit : Rule
 the_limit = with_index 1 (filled limit_rule)
 
--- show and encode, which have the flag and the limit
-has_stream_words : (s : Shape) → s.rules ≡ the_hex ∷ the_limit ∷ the_help 1 ∷ [] → (words : List Text) → level_fault s [] nothing_held words false [] ≡ [] → HasStreamWords (rows_after s.rules [] words)
-has_stream_words s e words pass =
-    let c : List Rule = the_hex ∷ the_limit ∷ the_help 1 ∷ [] in
-    let uses : AllUsesPass c c = (flag_passes c the_hex refl refl (omega arith), (set_passes c the_limit refl refl refl, (help_passes c (the_help 1) refl, tt))) in
-    let found : AllFound c c = (refl, (refl, (refl, tt))) in
+-- encode, which has two flags and the limit
+has_encode_words : (s : Shape) → s.rules ≡ the_hex ∷ the_all ∷ the_limit ∷ the_help 1 ∷ [] → (words : List Text) → level_fault s [] nothing_held words false [] ≡ [] → HasStreamWords (rows_after s.rules [] words)
+has_encode_words s e words pass =
+    let c : List Rule = the_hex ∷ the_all ∷ the_limit ∷ the_help 1 ∷ [] in
+    let uses : AllUsesPass c c = (flag_passes c the_hex refl refl (omega arith), (flag_passes c the_all refl refl (omega arith), (set_passes c the_limit refl refl refl, (help_passes c (the_help 1) refl, tt)))) in
+    let found : AllFound c c = (refl, (refl, (refl, (refl, tt)))) in
     let all_use : AllUsesPass s.rules s.rules = subst (λ (x : List Rule). AllUsesPass x x) (sym e) uses in
     let all_found : AllFound s.rules s.rules = subst (λ (x : List Rule). AllFound x x) (sym e) found in
     let hex_among : IsAmong the_hex s.rules = subst (IsAmong the_hex) (sym e) (inl refl) in
     let hex_by_id : arg_by_id s.rules the_hex.id ≡ Some the_hex = subst (λ (x : List Rule). arg_by_id x the_hex.id ≡ Some the_hex) (sym e) refl in
-    let limit_among : IsAmong the_limit s.rules = subst (IsAmong the_limit) (sym e) (inr (inl refl)) in
+    let all_among : IsAmong the_all s.rules = subst (IsAmong the_all) (sym e) (inr (inl refl)) in
+    let all_by_id : arg_by_id s.rules the_all.id ≡ Some the_all = subst (λ (x : List Rule). arg_by_id x the_all.id ≡ Some the_all) (sym e) refl in
+    let limit_among : IsAmong the_limit s.rules = subst (IsAmong the_limit) (sym e) (inr (inr (inl refl))) in
     let limit_by_id : arg_by_id s.rules the_limit.id ≡ Some the_limit = subst (λ (x : List Rule). arg_by_id x the_limit.id ≡ Some the_limit) (sym e) refl in (
       flag_word (codes "hex") the_hex (rows_after s.rules [] words) refl refl (default_read s all_use all_found words pass the_hex hex_by_id hex_among (omega arith)),
+      flag_word (codes "all") the_all (rows_after s.rules [] words) refl refl (default_read s all_use all_found words pass the_all all_by_id all_among (omega arith)),
       limit_there the_limit (rows_after s.rules [] words) refl (default_read s all_use all_found words pass the_limit limit_by_id limit_among (omega arith)),
+    )
+
+-- show, which has three flags and the limit
+has_show_words : (s : Shape) → s.rules ≡ the_hex ∷ the_all ∷ the_limit ∷ the_json ∷ the_help 1 ∷ [] → (words : List Text) → level_fault s [] nothing_held words false [] ≡ [] → HasShowWords (rows_after s.rules [] words)
+has_show_words s e words pass =
+    let c : List Rule = the_hex ∷ the_all ∷ the_limit ∷ the_json ∷ the_help 1 ∷ [] in
+    let uses : AllUsesPass c c =
+    (flag_passes c the_hex refl refl (omega arith), (flag_passes c the_all refl refl (omega arith), (set_passes c the_limit refl refl refl, (flag_passes c the_json refl refl (omega arith), (help_passes c (the_help 1) refl, tt))))) in
+    let found : AllFound c c = (refl, (refl, (refl, (refl, (refl, tt))))) in
+    let all_use : AllUsesPass s.rules s.rules = subst (λ (x : List Rule). AllUsesPass x x) (sym e) uses in
+    let all_found : AllFound s.rules s.rules = subst (λ (x : List Rule). AllFound x x) (sym e) found in
+    let hex_among : IsAmong the_hex s.rules = subst (IsAmong the_hex) (sym e) (inl refl) in
+    let hex_by_id : arg_by_id s.rules the_hex.id ≡ Some the_hex = subst (λ (x : List Rule). arg_by_id x the_hex.id ≡ Some the_hex) (sym e) refl in
+    let all_among : IsAmong the_all s.rules = subst (IsAmong the_all) (sym e) (inr (inl refl)) in
+    let all_by_id : arg_by_id s.rules the_all.id ≡ Some the_all = subst (λ (x : List Rule). arg_by_id x the_all.id ≡ Some the_all) (sym e) refl in
+    let limit_among : IsAmong the_limit s.rules = subst (IsAmong the_limit) (sym e) (inr (inr (inl refl))) in
+    let limit_by_id : arg_by_id s.rules the_limit.id ≡ Some the_limit = subst (λ (x : List Rule). arg_by_id x the_limit.id ≡ Some the_limit) (sym e) refl in
+    let json_among : IsAmong the_json s.rules = subst (IsAmong the_json) (sym e) (inr (inr (inr (inl refl)))) in
+    let json_by_id : arg_by_id s.rules the_json.id ≡ Some the_json = subst (λ (x : List Rule). arg_by_id x the_json.id ≡ Some the_json) (sym e) refl in (
+      (
+        flag_word (codes "hex") the_hex (rows_after s.rules [] words) refl refl (default_read s all_use all_found words pass the_hex hex_by_id hex_among (omega arith)),
+        flag_word (codes "all") the_all (rows_after s.rules [] words) refl refl (default_read s all_use all_found words pass the_all all_by_id all_among (omega arith)),
+        limit_there the_limit (rows_after s.rules [] words) refl (default_read s all_use all_found words pass the_limit limit_by_id limit_among (omega arith)),
+      ),
+      flag_word (codes "json") the_json (rows_after s.rules [] words) refl refl (default_read s all_use all_found words pass the_json json_by_id json_among (omega arith)),
     )
 
 epc_gives : Gives (built_sub (text_app (codes "epc")).top)
@@ -251,20 +282,42 @@ epc_gives name words helpless met pass =
     let uses : AllUsesPass s.rules s.rules = (set_passes s.rules the_text refl refl refl, (help_passes s.rules (the_help 2) refl, tt)) in
     inr (inr (inl (refl, word_there the_text _ (required_read s uses (refl, (refl, tt)) words pass refl the_text refl (inl refl) refl))))
 
-sim_gives : Gives (built_sub (port_app (codes "sim")).top)
+abbrev the_all_of_sim : Rule
+the_all_of_sim = with_index 2 (filled all_rule)
+
+sim_gives : Gives (built_sub sim_app.top)
 sim_gives name words helpless met pass =
-    let s = built_sub (port_app (codes "sim")).top in
-    let uses : AllUsesPass s.rules s.rules = (set_passes s.rules (the_port 1) refl refl refl, (help_passes s.rules (the_help 2) refl, tt)) in
-    inr (inr (inr (inl (refl, number_there (the_port 1) _ 1 refl (required_read s uses (refl, (refl, tt)) words pass refl (the_port 1) refl (inl refl) refl)))))
+    let s = built_sub sim_app.top in
+    let c = s.rules in
+    let uses : AllUsesPass c c = (set_passes c (the_port 1) refl refl refl, (flag_passes c the_all_of_sim refl refl (omega arith), (help_passes c (the_help 2) refl, tt))) in
+    let found : AllFound c c = (refl, (refl, (refl, tt))) in
+    let port = required_read s uses found words pass refl (the_port 1) refl (inl refl) refl in
+    let all = default_read s uses found words pass the_all_of_sim refl (inr (inl refl)) (omega arith) in
+    inr (inr (inr (inl (refl, number_there (the_port 1) _ 1 refl port, flag_word (codes "all") the_all_of_sim _ refl refl all))))
+
+abbrev the_rospec : ℕ → Rule
+the_rospec place = with_index place (filled (text_option_rule (codes "rospec")))
 
 abbrev the_every : ℕ → Rule
-the_every place = the_number place (codes "every") (codes "0")
+the_every place = with_index place (filled (number_rule (codes "every")))
 
 abbrev the_polls : ℕ → Rule
-the_polls place = the_number place (codes "polls") (codes "1")
+the_polls place = with_index place (filled (number_rule (codes "polls")))
+
+abbrev the_reports : ℕ → Rule
+the_reports place = with_index place (filled (count_rule (codes "reports")))
 
 abbrev the_check : ℕ → Rule
-the_check place = with_index place (filled check_rule)
+the_check place = with_index place (filled (flag_rule (codes "check")))
+
+abbrev the_clean : ℕ → Rule
+the_clean place = with_index place (filled (flag_rule (codes "clean")))
+
+abbrev the_plan_json : ℕ → Rule
+the_plan_json place = with_index place (filled (flag_rule (codes "json")))
+
+abbrev the_plan_all : ℕ → Rule
+the_plan_all place = with_index place (filled all_rule)
 
 inventory_gives : Gives (built_sub inventory_app.top)
 inventory_gives name words helpless met pass =
@@ -272,20 +325,62 @@ inventory_gives name words helpless met pass =
     let c = s.rules in
     let uses : AllUsesPass c c = (
       set_passes c the_host refl refl refl,
-      (set_passes c (the_port 2) refl refl refl, (set_passes c (the_every 3) refl refl refl, (set_passes c (the_polls 3) refl refl refl, (flag_passes c (the_check 3) refl refl (omega arith), (set_passes c the_timeout refl refl refl, (help_passes c (the_help 3) refl, tt)))))),
+      (
+        set_passes c (the_port 2) refl refl refl,
+        (
+          set_passes c (the_rospec 3) refl refl refl,
+          (
+            set_passes c (the_every 3) refl refl refl,
+            (
+              set_passes c (the_polls 3) refl refl refl,
+              (
+                set_passes c (the_reports 3) refl refl refl,
+                (
+                  flag_passes c (the_check 3) refl refl (omega arith),
+                  (
+                    flag_passes c (the_clean 3) refl refl (omega arith),
+                    (
+                      flag_passes c (the_plan_json 3) refl refl (omega arith),
+                      (
+                        flag_passes c (the_plan_all 3) refl refl (omega arith),
+                        (
+                          set_passes c the_timeout refl refl refl,
+                          (help_passes c (the_help 3) refl, tt),
+                        ),
+                      ),
+                    ),
+                  ),
+                ),
+              ),
+            ),
+          ),
+        ),
+      ),
     ) in
-    let found : AllFound c c = (refl, (refl, (refl, (refl, (refl, (refl, (refl, tt))))))) in
+    let found : AllFound c c = (refl, (refl, (refl, (refl, (refl, (refl, (refl, (refl, (refl, (refl, (refl, (refl, tt)))))))))))) in
     let host = required_read s uses found words pass refl the_host refl (inl refl) refl in
     let port = required_read s uses found words pass refl (the_port 2) refl (inr (inl refl)) refl in
-    let every = default_read s uses found words pass (the_every 3) refl (inr (inr (inl refl))) (omega arith) in
-    let polls = default_read s uses found words pass (the_polls 3) refl (inr (inr (inr (inl refl)))) (omega arith) in
-    let check = default_read s uses found words pass (the_check 3) refl (inr (inr (inr (inr (inl refl))))) (omega arith) in
+    let every = optional_read s uses found words pass (the_every 3) refl in
+    let polls = optional_read s uses found words pass (the_polls 3) refl in
+    let reports = optional_read s uses found words pass (the_reports 3) refl in
+    let check = default_read s uses found words pass (the_check 3) refl (inr (inr (inr (inr (inr (inr (inl refl))))))) (omega arith) in
+    let clean = default_read s uses found words pass (the_clean 3) refl (inr (inr (inr (inr (inr (inr (inr (inl refl)))))))) (omega arith) in
+    let json = default_read s uses found words pass (the_plan_json 3) refl (inr (inr (inr (inr (inr (inr (inr (inr (inl refl))))))))) (omega arith) in
+    let kinds = default_read s uses found words pass (the_plan_all 3) refl (inr (inr (inr (inr (inr (inr (inr (inr (inr (inl refl)))))))))) (omega arith) in
     let timeout = optional_read s uses found words pass the_timeout refl in
     inr (inr (inr (inr (inl (
       refl,
       word_there the_host _ host,
       number_there (the_port 2) _ 1 refl port,
-      (number_there (the_every 3) _ 0 refl every, number_there (the_polls 3) _ 0 refl polls, flag_word (codes "check") (the_check 3) _ refl refl check),
+      (
+        may_number (the_every 3) _ 0 refl every,
+        may_number (the_polls 3) _ 0 refl polls,
+        may_number (the_reports 3) _ 1 refl reports,
+        flag_word (codes "check") (the_check 3) _ refl refl check,
+        flag_word (codes "clean") (the_clean 3) _ refl refl clean,
+        flag_word (codes "json") (the_plan_json 3) _ refl refl json,
+        flag_word (codes "all") (the_plan_all 3) _ refl refl kinds,
+      ),
       may_number the_timeout _ 1 refl timeout,
     )))))
 
@@ -293,19 +388,58 @@ loop_gives : Gives (built_sub loop_app.top)
 loop_gives name words helpless met pass =
     let s = built_sub loop_app.top in
     let c = s.rules in
-    let uses : AllUsesPass c c = (set_passes c (the_every 1) refl refl refl, (set_passes c (the_polls 1) refl refl refl, (flag_passes c (the_check 1) refl refl (omega arith), (help_passes c (the_help 1) refl, tt)))) in
-    let found : AllFound c c = (refl, (refl, (refl, (refl, tt)))) in
-    let every = default_read s uses found words pass (the_every 1) refl (inl refl) (omega arith) in
-    let polls = default_read s uses found words pass (the_polls 1) refl (inr (inl refl)) (omega arith) in
-    let check = default_read s uses found words pass (the_check 1) refl (inr (inr (inl refl))) (omega arith) in
-    inr (inr (inr (inr (inr (refl, (number_there (the_every 1) _ 0 refl every, number_there (the_polls 1) _ 0 refl polls, flag_word (codes "check") (the_check 1) _ refl refl check))))))
+    let uses : AllUsesPass c c = (
+      set_passes c (the_rospec 1) refl refl refl,
+      (
+        set_passes c (the_every 1) refl refl refl,
+        (
+          set_passes c (the_polls 1) refl refl refl,
+          (
+            set_passes c (the_reports 1) refl refl refl,
+            (
+              flag_passes c (the_check 1) refl refl (omega arith),
+              (
+                flag_passes c (the_clean 1) refl refl (omega arith),
+                (
+                  flag_passes c (the_plan_json 1) refl refl (omega arith),
+                  (
+                    flag_passes c (the_plan_all 1) refl refl (omega arith),
+                    (help_passes c (the_help 1) refl, tt),
+                  ),
+                ),
+              ),
+            ),
+          ),
+        ),
+      ),
+    ) in
+    let found : AllFound c c = (refl, (refl, (refl, (refl, (refl, (refl, (refl, (refl, (refl, tt))))))))) in
+    let every = optional_read s uses found words pass (the_every 1) refl in
+    let polls = optional_read s uses found words pass (the_polls 1) refl in
+    let reports = optional_read s uses found words pass (the_reports 1) refl in
+    let check = default_read s uses found words pass (the_check 1) refl (inr (inr (inr (inr (inl refl))))) (omega arith) in
+    let clean = default_read s uses found words pass (the_clean 1) refl (inr (inr (inr (inr (inr (inl refl)))))) (omega arith) in
+    let json = default_read s uses found words pass (the_plan_json 1) refl (inr (inr (inr (inr (inr (inr (inl refl))))))) (omega arith) in
+    let kinds = default_read s uses found words pass (the_plan_all 1) refl (inr (inr (inr (inr (inr (inr (inr (inl refl)))))))) (omega arith) in
+    inr (inr (inr (inr (inr (
+      refl,
+      (
+        may_number (the_every 1) _ 0 refl every,
+        may_number (the_polls 1) _ 0 refl polls,
+        may_number (the_reports 1) _ 1 refl reports,
+        flag_word (codes "check") (the_check 1) _ refl refl check,
+        flag_word (codes "clean") (the_clean 1) _ refl refl clean,
+        flag_word (codes "json") (the_plan_json 1) _ refl refl json,
+        flag_word (codes "all") (the_plan_all 1) _ refl refl kinds,
+      ),
+    )))))
 
 all_give : AllGive (built llrp_app).subs
 unfolding llrp_app
 all_give = (
-  λ name words helpless met pass. inl (refl, has_stream_words (built_sub (stream_app (codes "show")).top) refl words pass),
+  λ name words helpless met pass. inl (refl, has_show_words (built_sub show_app.top) refl words pass),
   (
-    λ name words helpless met pass. inr (inl (refl, has_stream_words (built_sub (stream_app (codes "encode")).top) refl words pass)),
+    λ name words helpless met pass. inr (inl (refl, has_encode_words (built_sub (stream_app (codes "encode")).top) refl words pass)),
     (epc_gives, (sim_gives, (inventory_gives, (loop_gives, (λ name words helpless met pass. absurd (help_gives [] name refl helpless met), tt))))),
   ),
 )

@@ -1,3 +1,3 @@
 -- What public contracts say that no promise of README rests on.
 pub mod Command
-pub mod Words
+pub mod Arguments

@@ -1,20 +1,25 @@
 //! The command line: runs the commands that its words ask for, and gives their exit statuses and
 //! error lines.
 
-ghost use Rattle.std.specs.Prelude.{◌+◌, ◌<◌, ◌≤◌, ◌^◌, ◌≡◌, Bool, IfErr, IfOk, List, MatchResult, codes, map, string_bytes, ℕ};
+ghost use Rattle.std.specs.Prelude.{◌≤◌, ◌≡◌, IfErr, IfOk, MatchResult, map, string_bytes};
 ghost use Rattle.std.specs.List.{flat_map};
+ghost use Rattle.llrp_schema.specs.declared.kinds.Profile.{Profile};
 ghost use Rattle.llrp_tree.specs.declared.TheConstants.{MAX_LIMIT};
-ghost use Rattle.llrp_commands.specs.Calls.Command.{Answers, DoesEncode, DoesShow, EncodesDigits, FailsAsTold, LeftAlone, RanEncode, RanEpc, RanShow, ShowsDigits, digit_line, error_line, error_status, fine_status, status_of, verdict_status};
+ghost use Rattle.llrp_commands.specs.Calls.Command.{Answers, DoesEncode, DoesShow, EncodesDigits, EncodesIfAsked, FailsAsTold, LeftAlone, ListedInForm, PrintsEpcIfAsked, ShowsDigits, ShowsIfAsked, ShowsInForm, StoppedInForm, digit_line, error_line, error_status, fine_status, reason_line, refusal_line, set_of, status_of, verdict_status};
 ghost use Rattle.llrp_commands.specs.Private.Command.{Gathers, memory_error};
 ghost use Rattle.llrp_listing.specs.Calls.Copying.{Writes};
-ghost use Rattle.llrp_stream.specs.Device.{IsFreshSource};
-ghost use Rattle.llrp_commands.specs.Calls.Words.{Asks, AsksElsewhere, AsksEpc};
+ghost use Rattle.llrp_stream.specs.Device.{IsFreshSink, IsFreshSource};
+ghost use Rattle.llrp_commands.specs.Calls.Arguments.{AsksElsewhere};
+ghost use Rattle.llrp_stream.specs.Calls.Device.{CanWrite};
 
-use crate::words::{Request, request_of};
+use crate::arguments::{Request, request_of};
 use itoa::Buffer;
+use llrp_json::{list_stream_json, run_show_json};
 use llrp_listing::{
-    ToolErr, Verdict, bytes_of_hex, list_stream, read_all, run_encode, run_epc, run_show, write_all,
+    Refusal, ToolErr, Verdict, bytes_of_hex, list_stream_in, read_all, run_encode_in, run_epc,
+    run_show_in, write_all,
 };
+use llrp_schema::Profile;
 use llrp_stream::{Output, Sink, Source};
 use std::alloc::{AllocError, Global};
 use std::convert::AsStr;
@@ -26,6 +31,13 @@ pub const LIMIT: u32 = 65_536;
 /// The exit status if the words ask for no command. [`run_command`] also returns it for a command
 /// that the program runs itself.
 pub const USAGE: u8 = 2;
+
+/// The set of kinds that a command takes: that of the profile, or with --all that of the whole standard.
+fn set_of(all: bool) -> Profile
+    ensures { result ≡ set_of all }
+{
+    if all { Profile::Whole } else { Profile::Own }
+}
 
 /// The exit status of a verdict.
 fn status_of(verdict: Verdict) -> u8
@@ -50,7 +62,7 @@ fn error_status(error: ToolErr) -> u8
 
 /// Writes the parts of a text in order.
 fn write_parts<W: Sink>(w: &mut W, parts: &[&[u8]]) -> Result<(), ToolErr>
-    requires { (W.log w.old).failures + 1 < 2 ^ 64 }
+    requires { CanWrite (W.log w.old) }
     ensures { Writes (flat_map (λ part. part.now) parts.now) (W.log w.old) (W.log w.new) result }
 {
     for part in parts {
@@ -59,28 +71,42 @@ fn write_parts<W: Sink>(w: &mut W, parts: &[&[u8]]) -> Result<(), ToolErr>
     Ok(())
 }
 
+/// Writes the number of a line that is refused, and the reason, to the line's end.
+fn write_reason<E: Sink>(e: &mut E, line: u64, reason: Refusal) -> Result<(), ToolErr>
+    requires { CanWrite (E.log e.old) }
+    ensures { Writes (reason_line line reason) (E.log e.old) (E.log e.new) result }
+{
+    let mut digits = Buffer::new();
+    let number = digits.format(line).as_bytes();
+    let (name, inner) = reason.names();
+    write_parts(
+        e,
+        &[number, b": ", name.as_bytes(), inner.as_bytes(), b"\n"],
+    )
+}
+
+/// Writes the line of a refusal: what stands before the number of the line that is refused, that
+/// number, and the reason.
+pub fn write_refusal<E: Sink>(
+    e: &mut E,
+    front: &[u8],
+    line: u64,
+    reason: Refusal,
+) -> Result<(), ToolErr>
+    requires { CanWrite (E.log e.old) }
+    ensures { Writes (refusal_line front.now line reason) (E.log e.old) (E.log e.new) result }
+{
+    write_all(e, front)?;
+    write_reason(e, line, reason)
+}
+
 /// Writes the line of an error.
 fn write_error<E: Sink>(e: &mut E, error: ToolErr) -> Result<(), ToolErr>
-    requires { (E.log e.old).failures + 1 < 2 ^ 64 }
+    requires { CanWrite (E.log e.old) }
     ensures { Writes (error_line error) (E.log e.old) (E.log e.new) result }
 {
     match error {
-        ToolErr::Listing { line, reason } => {
-            let mut digits = Buffer::new();
-            let number = digits.format(line).as_bytes();
-            let (name, inner) = reason.names();
-            write_parts(
-                e,
-                &[
-                    b"llrp: line ",
-                    number,
-                    b": ",
-                    name.as_bytes(),
-                    inner.as_bytes(),
-                    b"\n",
-                ],
-            )
-        }
+        ToolErr::Listing { line, reason } => write_refusal(e, b"llrp: line ", line, reason),
         ToolErr::Script { line } => {
             let mut digits = Buffer::new();
             let number = digits.format(line).as_bytes();
@@ -105,7 +131,7 @@ fn write_error<E: Sink>(e: &mut E, error: ToolErr) -> Result<(), ToolErr>
 /// The exit status of a command that ended like this, after its error, if it has one, was written
 /// as a line.
 pub fn answer<E: Sink>(outcome: Result<u8, ToolErr>, e: &mut E) -> Result<u8, ToolErr>
-    requires { (E.log e.old).failures + 1 < 2 ^ 64 }
+    requires { CanWrite (E.log e.old) }
     ensures { Answers outcome (E.log e.old) (E.log e.new) result }
 {
     match outcome {
@@ -117,9 +143,35 @@ pub fn answer<E: Sink>(outcome: Result<u8, ToolErr>, e: &mut E) -> Result<u8, To
     }
 }
 
-/// Writes the listing of a stream of hexadecimal digits, all of which are read and checked first.
-fn show_digits<R: Source, W: Sink>(
+/// Writes the listing of the bytes of a stream, or with --json their lines.
+fn list_bytes<W: Sink>(
     alloc: Global,
+    json: bool,
+    set: Profile,
+    limit: u32,
+    bytes: &[u8],
+    w: &mut W,
+) -> Result<Verdict, ToolErr>
+    requires least { 10 ≤ limit }
+    requires most { limit ≤ MAX_LIMIT }
+    requires sink { CanWrite (W.log w.old) }
+    ensures ok { IfOk result (λ verdict. ListedInForm json set limit bytes.now (W.log w.old)
+        (W.log w.new) verdict) }
+    ensures err { IfErr result (λ e. StoppedInForm json set limit bytes.now (W.log w.old)
+        (W.log w.new) e) }
+{
+    if json {
+        list_stream_json(alloc, set, bytes, w, limit)
+    } else {
+        list_stream_in(alloc, set, bytes, w, limit)
+    }
+}
+
+/// Writes the listing of all bytes of the source, or with --json their lines.
+fn show_bytes<R: Source, W: Sink>(
+    alloc: Global,
+    json: bool,
+    set: Profile,
     limit: u32,
     r: &mut R,
     w: &mut W,
@@ -127,18 +179,42 @@ fn show_digits<R: Source, W: Sink>(
     requires least { 10 ≤ limit }
     requires most { limit ≤ MAX_LIMIT }
     requires source { IsFreshSource (R.log r.old) }
-    requires sink { (W.log w.old).failures < 2 ^ 63 }
-    ensures { ShowsDigits limit (R.log r.old) (R.log r.new) (W.log w.old) (W.log w.new) result }
+    requires sink { IsFreshSink (W.log w.old) }
+    ensures { ShowsInForm json set limit (R.log r.old) (R.log r.new) (W.log w.old) (W.log w.new) result }
+{
+    if json {
+        run_show_json(alloc, set, r, w, limit)
+    } else {
+        run_show_in(alloc, set, r, w, limit)
+    }
+}
+
+/// The same of a stream of hexadecimal digits, all of which are read and checked first.
+fn show_digits<R: Source, W: Sink>(
+    alloc: Global,
+    json: bool,
+    set: Profile,
+    limit: u32,
+    r: &mut R,
+    w: &mut W,
+) -> Result<Verdict, ToolErr>
+    requires least { 10 ≤ limit }
+    requires most { limit ≤ MAX_LIMIT }
+    requires source { IsFreshSource (R.log r.old) }
+    requires sink { IsFreshSink (W.log w.old) }
+    ensures { ShowsDigits json set limit (R.log r.old) (R.log r.new) (W.log w.old) (W.log w.new) result }
 {
     let text = read_all(alloc, r)?;
     let stream = bytes_of_hex(alloc, text.as_slice())?;
-    list_stream(alloc, stream.as_slice(), w, limit)
+    list_bytes(alloc, json, set, limit, stream.as_slice(), w)
 }
 
 /// The command `show`.
 fn show<R: Source, W: Sink>(
     alloc: Global,
+    json: bool,
     hex: bool,
+    set: Profile,
     limit: u32,
     r: &mut R,
     w: &mut W,
@@ -146,13 +222,13 @@ fn show<R: Source, W: Sink>(
     requires least { 10 ≤ limit }
     requires most { limit ≤ MAX_LIMIT }
     requires source { IsFreshSource (R.log r.old) }
-    requires sink { (W.log w.old).failures < 2 ^ 63 }
-    ensures { DoesShow hex limit (R.log r.old) (R.log r.new) (W.log w.old) (W.log w.new) result }
+    requires sink { IsFreshSink (W.log w.old) }
+    ensures { DoesShow json hex set limit (R.log r.old) (R.log r.new) (W.log w.old) (W.log w.new) result }
 {
     if hex {
-        show_digits(alloc, limit, r, w)
+        show_digits(alloc, json, set, limit, r, w)
     } else {
-        run_show(alloc, r, w, limit)
+        show_bytes(alloc, json, set, limit, r, w)
     }
 }
 
@@ -167,16 +243,21 @@ fn memory_error(error: ToolErr) -> ToolErr
 }
 
 /// The bytes of a listing, kept in memory.
-fn encoded<R: Source>(alloc: Global, limit: u32, r: &mut R) -> Result<Vec<u8>, ToolErr>
+fn encoded<R: Source>(
+    alloc: Global,
+    set: Profile,
+    limit: u32,
+    r: &mut R,
+) -> Result<Vec<u8>, ToolErr>
     requires least { 10 ≤ limit }
     requires most { limit ≤ MAX_LIMIT }
     requires source { IsFreshSource (R.log r.old) }
     ensures { MatchResult result
-        (λ bytes. Gathers limit (R.log r.old) (R.log r.new) (Ok bytes.items))
-        (λ e. Gathers limit (R.log r.old) (R.log r.new) (Err e)) }
+        (λ bytes. Gathers set limit (R.log r.old) (R.log r.new) (Ok bytes.items))
+        (λ e. Gathers set limit (R.log r.old) (R.log r.new) (Err e)) }
 {
     let mut gathered = Output::new(Vec::new(alloc));
-    match run_encode(alloc, r, &mut gathered, limit) {
+    match run_encode_in(alloc, set, r, &mut gathered, limit) {
         Ok(()) => Ok(gathered.into_inner()),
         Err(error) => Err(memory_error(error)),
     }
@@ -197,6 +278,7 @@ fn digit_line(alloc: Global, bytes: &[u8]) -> Result<String, AllocError>
 /// Writes the bytes of a listing as hexadecimal digits, once the whole listing was read.
 fn encode_digits<R: Source, W: Sink>(
     alloc: Global,
+    set: Profile,
     limit: u32,
     r: &mut R,
     w: &mut W,
@@ -204,10 +286,10 @@ fn encode_digits<R: Source, W: Sink>(
     requires least { 10 ≤ limit }
     requires most { limit ≤ MAX_LIMIT }
     requires source { IsFreshSource (R.log r.old) }
-    requires sink { (W.log w.old).failures < 2 ^ 63 }
-    ensures { EncodesDigits limit (R.log r.old) (R.log r.new) (W.log w.old) (W.log w.new) result }
+    requires sink { IsFreshSink (W.log w.old) }
+    ensures { EncodesDigits set limit (R.log r.old) (R.log r.new) (W.log w.old) (W.log w.new) result }
 {
-    let bytes = encoded(alloc, limit, r)?;
+    let bytes = encoded(alloc, set, limit, r)?;
     let line = digit_line(alloc, bytes.as_slice())?;
     write_all(w, line.as_bytes())
 }
@@ -216,6 +298,7 @@ fn encode_digits<R: Source, W: Sink>(
 fn encode<R: Source, W: Sink>(
     alloc: Global,
     hex: bool,
+    set: Profile,
     limit: u32,
     r: &mut R,
     w: &mut W,
@@ -223,13 +306,13 @@ fn encode<R: Source, W: Sink>(
     requires least { 10 ≤ limit }
     requires most { limit ≤ MAX_LIMIT }
     requires source { IsFreshSource (R.log r.old) }
-    requires sink { (W.log w.old).failures < 2 ^ 63 }
-    ensures { DoesEncode hex limit (R.log r.old) (R.log r.new) (W.log w.old) (W.log w.new) result }
+    requires sink { IsFreshSink (W.log w.old) }
+    ensures { DoesEncode hex set limit (R.log r.old) (R.log r.new) (W.log w.old) (W.log w.new) result }
 {
     if hex {
-        encode_digits(alloc, limit, r, w)
+        encode_digits(alloc, set, limit, r, w)
     } else {
-        run_encode(alloc, r, w, limit)
+        run_encode_in(alloc, set, r, w, limit)
     }
 }
 
@@ -266,23 +349,18 @@ pub fn run_command<S: AsStr, R: Source, W: Sink, E: Sink>(
     e: &mut E,
 ) -> Result<u8, ToolErr>
     requires source { IsFreshSource (R.log r.old) }
-    requires sink { (W.log w.old).failures < 2 ^ 63 }
-    requires errors { (E.log e.old).failures < 2 ^ 63 }
+    requires sink { IsFreshSink (W.log w.old) }
+    requires errors { IsFreshSink (E.log e.old) }
 
     // If the words ask for show or encode, it does what that command does.
-    ensures show { (hex : Bool) (limit : ℕ)
-        → Asks (map S.text words.entry.now) (codes "show") hex limit
-        → RanShow hex limit (R.log r.old) (R.log r.new) (W.log w.old) (W.log w.new) (E.log e.old)
-        (E.log e.new) result }
-    ensures encode { (hex : Bool) (limit : ℕ)
-        → Asks (map S.text words.entry.now) (codes "encode") hex limit
-        → RanEncode hex limit (R.log r.old) (R.log r.new) (W.log w.old) (W.log w.new) (E.log e.old)
-        (E.log e.new) result }
+    ensures show { ShowsIfAsked (map S.text words.entry.now) (R.log r.old) (R.log r.new)
+        (W.log w.old) (W.log w.new) (E.log e.old) (E.log e.new) result }
+    ensures encode { EncodesIfAsked (map S.text words.entry.now) (R.log r.old) (R.log r.new)
+        (W.log w.old) (W.log w.new) (E.log e.old) (E.log e.new) result }
 
     // If they ask for epc, it does what epc does with the text.
-    ensures epc { (text : List ℕ) → AsksEpc (map S.text words.entry.now) text
-        → RanEpc text (R.log r.old) (R.log r.new) (W.log w.old) (W.log w.new) (E.log e.old)
-        (E.log e.new) result }
+    ensures epc { PrintsEpcIfAsked (map S.text words.entry.now) (R.log r.old) (R.log r.new)
+        (W.log w.old) (W.log w.new) (E.log e.old) (E.log e.new) result }
 
     // The other commands are left to the program.
     ensures elsewhere { AsksElsewhere (map S.text words.entry.now)
@@ -291,12 +369,17 @@ pub fn run_command<S: AsStr, R: Source, W: Sink, E: Sink>(
     ensures errors { IfErr result (λ error. FailsAsTold (E.log e.old) (E.log e.new) error) }
 {
     match request_of(alloc, words)? {
-        Request::Show { hex, limit } => {
-            let outcome = show(alloc, hex, limit, r, w);
+        Request::Show {
+            hex,
+            all,
+            json,
+            limit,
+        } => {
+            let outcome = show(alloc, json, hex, set_of(all), limit, r, w);
             answer(verdict_status(outcome), e)
         }
-        Request::Encode { hex, limit } => {
-            let outcome = encode(alloc, hex, limit, r, w);
+        Request::Encode { hex, all, limit } => {
+            let outcome = encode(alloc, hex, set_of(all), limit, r, w);
             answer(fine_status(outcome), e)
         }
         Request::Epc { text } => {

@@ -11,9 +11,9 @@
 //! ```
 #![tactic(auto)]
 
+mod arguments;
 mod command;
 pub mod laws;
-mod words;
 
-pub use command::{LIMIT, USAGE, answer, run_command};
-pub use words::{NetworkCommand, network_command, reads_input};
+pub use arguments::{NetworkCommand, PlanWords, network_command, reads_input};
+pub use command::{LIMIT, USAGE, answer, run_command, write_refusal};

@@ -8,9 +8,9 @@ use Rattle.llrp_tree.specs.Lawful.{body_octets}
 use Rattle.llrp_session.specs.RoSpec.{rospec_of, report_spec_of}
 use Rattle.llrp_session.specs.Table.{active_count, is_disabled, change_view, view_without, enter_view, viewed_state, change, without, enter, state_of, octets_of, active, first_immediate}
 use Rattle.llrp_session.specs.TagReport.{tag_report}
-use Rattle.llrp_session.specs.declared.words.Viewed.{Viewed}
-use Rattle.llrp_session.specs.declared.words.Command.{Command}
-use Rattle.llrp_session.specs.declared.words.Command.TheVariants.{Add, Start, Stop, Enable, Disable, GetReport}
+use Rattle.llrp_session.specs.declared.types.Viewed.{Viewed}
+use Rattle.llrp_session.specs.declared.types.Command.{Command}
+use Rattle.llrp_session.specs.declared.types.Command.TheVariants.{Add, Start, Stop, Enable, Disable, GetReport}
 use Rattle.llrp_session.specs.ReaderMachine.{next, serve, end, configured, see, tick}
 use Rattle.llrp_session.specs.ClientMachine.{take, command}
 use Rattle.llrp_session.specs.Sightings.{tags_of}

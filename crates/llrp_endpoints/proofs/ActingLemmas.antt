@@ -10,7 +10,7 @@ use Rattle.llrp_session.specs.ReaderMessages.{reader_message}
 use Rattle.llrp_endpoints.specs.Serving.{Happening, event_in, happening, last_moment, turn_or_none, run, said}
 use Rattle.llrp_endpoints.specs.declared.script.Entry.{Entry}
 use Rattle.llrp_endpoints.specs.Private.Acting.{Did, DidSome, IsDue}
-use Rattle.llrp_listing.specs.declared.fault.ToolErr.{ToolErr}
+use Rattle.llrp_listing.specs.declared.outcome.ToolErr.{ToolErr}
 use Rattle.llrp_endpoints.proofs.SendingLemmas.{adds_more}
 
 -- ---- events one after another

@@ -14,8 +14,7 @@ use Rattle.llrp_session.specs.World.{WorldEvent, Connects, Commands, DeliversUp,
 use Rattle.llrp_session.specs.MessageWorld.{MessageWorld, tags_in_messages, stepped, reader_does, commanded, took, message_happens, run_messages, IsGiven, AreGiven}
 use Rattle.llrp_session.specs.Calls.MessageWorld.{AreSendable}
 use Rattle.llrp_endpoints.specs.Sending.{AreFrames}
-use Rattle.llrp_endpoints.specs.ByteWorld.{Way, ByteWorld, Happens, ReadsUp, ReadsDown, Reads, Sends, Steps, apart, reader_hears, client_hears}
-use Rattle.llrp_endpoints.specs.EndsAgree.{AreOnTheWay, IsInBytes}
+use Rattle.llrp_endpoints.specs.ByteWorld.{Way, ByteWorld, Happens, ReadsUp, ReadsDown, ReadsBytes, Sends, Steps, apart, reader_hears, client_hears}
 use Rattle.llrp_endpoints.proofs.SendingLemmas.{frames_append}
 use Rattle.llrp_endpoints.proofs.FrameFronts.{FrontOf, front_of_frames, read_in_one_way, same_messages}
 
@@ -131,6 +130,12 @@ sends_more a b old new f s =
     append_assoc old.read old.coming s.coming.text ∙ ap (λ (x : List ℕ). old.read ++ x) (sym s.coming.whole) ∙ ap (λ (x : List ℕ). x ++ new.coming) (sym s.read) in
     subst (AreFrames (a ++ b)) whole (frames_append a b (old.read ++ old.coming) s.coming.text f s.coming.frames)
 
+-- the same two ends, and on each way the frames of the same messages
+pub record IsInFrames (m : MessageWorld) (w : ByteWorld) : Type 0 where
+  pub ends : w.ends ≡ apart m
+  pub up : AreFrames m.up (w.up.read ++ w.up.coming)
+  pub down : AreFrames m.down (w.down.read ++ w.down.coming)
+
 -- the messages on the way, once an end read: those that are whole, and those that the bytes begin with now
 pub record HasRead (on_the_way heard : List MessageTree) (new : Way) : Type 0 where
   pub rest : List MessageTree
@@ -138,13 +143,13 @@ pub record HasRead (on_the_way heard : List MessageTree) (new : Way) : Type 0 wh
   pub left : AreFrames rest (new.read ++ new.coming)
 
 -- the messages that are whole once the next n bytes were read
-pub next_bytes : (limit n : ℕ) (messages : List MessageTree) (way : Way) → AreSendable limit messages → AreOnTheWay messages way → FrontOf limit messages (way.read ++ take n way.coming) (drop n way.coming)
+pub next_bytes : (limit n : ℕ) (messages : List MessageTree) (way : Way) → AreSendable limit messages → AreFrames messages (way.read ++ way.coming) → FrontOf limit messages (way.read ++ take n way.coming) (drop n way.coming)
 next_bytes limit n messages way s f =
     let whole : way.read ++ way.coming ≡ (way.read ++ take n way.coming) ++ drop n way.coming =
     ap (λ (x : List ℕ). way.read ++ x) (sym (take-append-drop n way.coming)) ∙ sym (append_assoc way.read (take n way.coming) (drop n way.coming)) in
     front_of_frames limit messages (way.read ++ take n way.coming) (drop n way.coming) s (subst (AreFrames messages) whole f)
 
-pub has_read : (limit n : ℕ) (on_the_way heard : List MessageTree) (old new : Way) → AreSendable limit on_the_way → AreOnTheWay on_the_way old → Reads limit n old new heard → HasRead on_the_way heard new
+pub has_read : (limit n : ℕ) (on_the_way heard : List MessageTree) (old new : Way) → AreSendable limit on_the_way → AreFrames on_the_way (old.read ++ old.coming) → ReadsBytes limit n old new heard → HasRead on_the_way heard new
 has_read limit n on_the_way heard old new s f r =
     let p = next_bytes limit n on_the_way old s f in
     let one = read_in_one_way limit (old.read ++ take n old.coming) (map Msg p.first) (map Msg heard) p.front new.read p.whole p.unfinished r.whole r.unfinished in
@@ -152,29 +157,29 @@ has_read limit n on_the_way heard old new s f r =
     let way : p.front ++ drop n old.coming ≡ new.read ++ new.coming = ap₂ (λ (x y : List ℕ). x ++ y) (sym one.1) (sym r.coming) in
     record { rest = p.rest; parts = p.parts ∙ ap (λ (ms : List MessageTree). ms ++ p.rest) (sym same); left = subst (AreFrames p.rest) way p.left }
 
-pub happens_stands : (e : WorldEvent) (limit : ℕ) (m : MessageWorld) (old new : ByteWorld) → IsInBytes m old → Steps limit (Happens e) old new → IsInBytes (run_messages (own e) m) new
+pub happens_stands : (e : WorldEvent) (limit : ℕ) (m : MessageWorld) (old new : ByteWorld) → IsInFrames m old → Steps limit (Happens e) old new → IsInFrames (run_messages (own e) m) new
 happens_stands e limit m old new h s =
     let said : message_happens old.ends e ≡ message_happens (apart m) e = ap (λ (w : MessageWorld). message_happens w e) h.ends in
     let is = happens_behind e m in
     let up = subst (λ (w : MessageWorld). Sends w.up old.up new.up) said s.1.0 in
     let down = subst (λ (w : MessageWorld). Sends w.down old.down new.down) said s.1.1 in
-    subst (λ (w : MessageWorld). IsInBytes w new) (sym is)
+    subst (λ (w : MessageWorld). IsInFrames w new) (sym is)
     (record { ends = s.0 ∙ ap apart said; up = sends_more m.up _ old.up new.up h.up up; down = sends_more m.down _ old.down new.down h.down down })
 
-pub client_stands : (limit n : ℕ) (m : MessageWorld) (old new : ByteWorld) → AreSendable limit m.down → IsInBytes m old → (s : Steps limit (ReadsDown n) old new) → IsInBytes (run_messages (to_client s.0) m) new
+pub client_stands : (limit n : ℕ) (m : MessageWorld) (old new : ByteWorld) → AreSendable limit m.down → IsInFrames m old → (s : Steps limit (ReadsDown n) old new) → IsInFrames (run_messages (to_client s.0) m) new
 client_stands limit n m old new sendable h s =
     let heard : List MessageTree = s.0 in
     let r = has_read limit n m.down heard old.down new.down sendable h.down s.1.0 in
     let said : client_hears heard old.ends ≡ client_hears heard (apart m) = ap (client_hears heard) h.ends in
     let is = client_after heard r.rest m r.parts in
     let up = subst (λ (w : MessageWorld). Sends w.up old.up new.up) said s.1.1.1 in
-    subst (λ (w : MessageWorld). IsInBytes w new) (sym is) (record { ends = s.1.1.0 ∙ ap apart said; up = sends_more m.up _ old.up new.up h.up up; down = r.left })
+    subst (λ (w : MessageWorld). IsInFrames w new) (sym is) (record { ends = s.1.1.0 ∙ ap apart said; up = sends_more m.up _ old.up new.up h.up up; down = r.left })
 
-pub reader_stands : (limit now n : ℕ) (m : MessageWorld) (old new : ByteWorld) → AreSendable limit m.up → IsInBytes m old → (s : Steps limit (ReadsUp now n) old new) → IsInBytes (run_messages (to_reader now s.0) m) new
+pub reader_stands : (limit now n : ℕ) (m : MessageWorld) (old new : ByteWorld) → AreSendable limit m.up → IsInFrames m old → (s : Steps limit (ReadsUp now n) old new) → IsInFrames (run_messages (to_reader now s.0) m) new
 reader_stands limit now n m old new sendable h s =
     let heard : List MessageTree = s.0 in
     let r = has_read limit n m.up heard old.up new.up sendable h.up s.1.0 in
     let said : reader_hears now heard old.ends ≡ reader_hears now heard (apart m) = ap (reader_hears now heard) h.ends in
     let is = reader_after now heard r.rest m r.parts in
     let down = subst (λ (w : MessageWorld). Sends w.down old.down new.down) said s.1.1.1 in
-    subst (λ (w : MessageWorld). IsInBytes w new) (sym is) (record { ends = s.1.1.0 ∙ ap apart said; up = r.left; down = sends_more m.down _ old.down new.down h.down down })
+    subst (λ (w : MessageWorld). IsInFrames w new) (sym is) (record { ends = s.1.1.0 ∙ ap apart said; up = r.left; down = sends_more m.down _ old.down new.down h.down down })

@@ -27,11 +27,12 @@ use Rattle.llrp_session.proofs.SendableWorlds.{given_events, sent_up, sent_down}
 use Rattle.llrp_session.proofs.MessagesAgree as messages
 use Rattle.llrp_endpoints.specs.Sending.{AreFrames}
 use Rattle.llrp_endpoints.specs.ByteWorld.{Way, ByteWorld, ByteEvent, Happens, ReadsUp, ReadsDown, Sends, Steps, Runs, apart, reader_hears, client_hears, byte_opening, IsGivenEvent, AreGivenEvents}
-use Rattle.llrp_endpoints.specs.EndsAgree.{IsInBytes, Schedule, IsGivenSchedule, RunsTo, AfterAllBytes, EachScheduleRuns, EachEventHappens, BytesAreMessages, IsARunOfMessages, NothingIsUnexpected, ViewIsTable, ViewCatchesUp, AreOnTheWay, ReportsArrive, ReportsAreKept, PendingIsOnTheWay, NothingIsPending, TablesArrive, AreOwn}
+use Rattle.llrp_endpoints.specs.EndsAgree.{Schedule, IsGivenSchedule, RunsTo, AfterAllBytes, EachScheduleRuns, EachEventHappens, BytesAreMessages, IsARunOfMessages, NothingIsUnexpected, ViewIsTable, ViewCatchesUp, AreOnTheWay, ReportsArrive, ReportsAreKept, PendingIsOnTheWay, NothingIsPending, TablesArrive, AreOwn}
 use Rattle.llrp_endpoints.proofs.SendingLemmas.{frames_none}
 use Rattle.llrp_endpoints.proofs.FrameFronts.{no_messages, one_list}
 use Rattle.llrp_endpoints.proofs.WaysOfMessages.{last_sendable, next_are_messages}
-use Rattle.llrp_endpoints.proofs.ByteRuns.{own, own_given, happens_behind, to_client, to_reader, client_after, reader_after, next_bytes, has_read, happens_stands, client_stands, reader_stands}
+use Rattle.llrp_endpoints.proofs.ByteRuns.{IsInFrames, own, own_given, happens_behind, to_client, to_reader, client_after, reader_after, next_bytes, has_read, happens_stands, client_stands, reader_stands}
+use Rattle.llrp_session.proofs.MessagesAgree.{is_taken_alike as taken_weaker}
 
 -- ---- events of whole messages
 
@@ -86,18 +87,18 @@ MaySend limit start = (es : List WorldEvent) → AreGiven es → AreSendable lim
 record Reached (start : MessageWorld) (w : ByteWorld) : Type 0 where
   events : List WorldEvent
   given : AreGiven events
-  in_bytes : IsInBytes (run_messages events start) w
+  in_bytes : IsInFrames (run_messages events start) w
   up : IsPartial w.up.read
   down : IsPartial w.down.read
 
-reach : (start : MessageWorld) (old new : ByteWorld) (r : Reached start old) (es : List WorldEvent) → AreGiven es → IsInBytes (run_messages es (run_messages r.events start)) new
+reach : (start : MessageWorld) (old new : ByteWorld) (r : Reached start old) (es : List WorldEvent) → AreGiven es → IsInFrames (run_messages es (run_messages r.events start)) new
     → IsPartial new.up.read → IsPartial new.down.read → Reached start new
 reach start old new r es g h up down = record {
   events = r.events ++ es;
   given = given_more r.events es r.given g;
   up = up;
   down = down;
-  in_bytes = subst (λ (m : MessageWorld). IsInBytes m new) (sym (run_more r.events es start)) h;
+  in_bytes = subst (λ (m : MessageWorld). IsInFrames m new) (sym (run_more r.events es start)) h;
 }
 
 -- what is sent after leaves what was read
@@ -184,15 +185,22 @@ bytes_are_messages s w g r =
     let may = may_send s g p.events p.given in
     (next_are_messages s.limit _ w.up may.0 p.in_bytes.up, next_are_messages s.limit _ w.down may.1 p.in_bytes.down)
 
+-- messages that may be sent are of the profile
+own_of : (limit : ℕ) (ms : List MessageTree) → AreSendable limit ms → AreOwn ms
+own_of limit [] s = tt
+own_of limit (m ∷ ms) s = (s.0.own, own_of limit ms s.1)
+
 pub is_a_run_of_messages : IsARunOfMessages
-is_a_run_of_messages s w g r = let p = reached s w g r in (p.events, (p.given, p.in_bytes))
+is_a_run_of_messages s w g r =
+    let p = reached s w g r in
+    let may = may_send s g p.events p.given in
+    let m : MessageWorld = run_messages p.events (start_of s) in
+    let up : AreOnTheWay m.up w.up = record { frames = p.in_bytes.up; own = own_of s.limit m.up may.0 } in
+    let down : AreOnTheWay m.down w.down = record { frames = p.in_bytes.down; own = own_of s.limit m.down may.1 } in
+    (p.events, (p.given, record { ends = p.in_bytes.ends; up = up; down = down }))
 
-none_coming : (ms : List MessageTree) (way : Way) → AreOnTheWay ms way → IsPartial way.read → way.coming ≡ [] → ms ≡ []
+none_coming : (ms : List MessageTree) (way : Way) → AreFrames ms (way.read ++ way.coming) → IsPartial way.read → way.coming ≡ [] → ms ≡ []
 none_coming ms way f p e = no_messages ms way.read (subst (AreFrames ms) (ap (λ (x : List ℕ). way.read ++ x) e ∙ append-nil way.read) f) p
-
-taken_weaker : (r : Result Taking Refusal) (P Q : Client → Type 0) → ((c : Client) → P c → Q c) → IsTaken r P → IsTaken r Q
-taken_weaker (Err refusal) P Q k h = h
-taken_weaker (Ok t) P Q k h = k t.client h
 
 first_taken : (heard rest : List MessageTree) (c : Client) → MessagesAreTaken (heard ++ rest) c → MessagesAreTaken heard c
 first_taken [] rest c h = tt
@@ -244,38 +252,34 @@ view_catches_up s w new g r step =
     view_is_table longer new given run (step.1.0.coming ∙ none_behind w.down.coming) ∙ ap (λ (reader : Reader). states reader.table) same
 
 -- the messages on a way are determined
-own_of : (limit : ℕ) (ms : List MessageTree) → AreSendable limit ms → AreOwn ms
-own_of limit [] s = tt
-own_of limit (m ∷ ms) s = (s.0.own, own_of limit ms s.1)
-
-same_way : (a b : List MessageTree) (way : Way) → AreOwn a → AreOwn b → AreOnTheWay a way → AreOnTheWay b way → a ≡ b
-same_way a b way x y p q = one_list a b p.frames q.frames x y p.each q.each (sym p.whole ∙ q.whole)
+same_way : (limit : ℕ) (a b : List MessageTree) (way : Way) → AreSendable limit a → AreFrames a (way.read ++ way.coming) → AreOnTheWay b way → a ≡ b
+same_way limit a b way s p q = one_list a b p.frames q.frames.frames (own_of limit a s) q.own p.each q.frames.each (sym p.whole ∙ q.frames.whole)
 
 pub reports_arrive : AfterAllBytes ReportsArrive
-reports_arrive s w g r down own is =
+reports_arrive s w g r down is =
     let p = reached s w g r in
     let may = may_send s g p.events p.given in
     let m : MessageWorld = run_messages p.events (start_of s) in
     subst (λ (ends : MessageWorld). ends.handed_out ++ tags_in_messages down ≡ ends.reported) (sym p.in_bytes.ends)
-    (subst (λ (ms : List MessageTree). m.handed_out ++ tags_in_messages ms ≡ m.reported) (same_way m.down down w.down (own_of s.limit m.down may.1) own p.in_bytes.down is)
+    (subst (λ (ms : List MessageTree). m.handed_out ++ tags_in_messages ms ≡ m.reported) (same_way s.limit m.down down w.down may.1 p.in_bytes.down is)
     (messages.reports_arrive s.limit s.reader_first s.client_first p.events (given_events p.events p.given)))
 
 pub reports_are_kept : AfterAllBytes ReportsAreKept
-reports_are_kept s w g r down own is =
+reports_are_kept s w g r down is =
     let p = reached s w g r in
     let may = may_send s g p.events p.given in
     let m : MessageWorld = run_messages p.events (start_of s) in
     subst (λ (ends : MessageWorld). (ends.handed_out ++ tags_in_messages down) ++ ends.reader.held ≡ ends.kept) (sym p.in_bytes.ends)
-    (subst (λ (ms : List MessageTree). (m.handed_out ++ tags_in_messages ms) ++ m.reader.held ≡ m.kept) (same_way m.down down w.down (own_of s.limit m.down may.1) own p.in_bytes.down is)
+    (subst (λ (ms : List MessageTree). (m.handed_out ++ tags_in_messages ms) ++ m.reader.held ≡ m.kept) (same_way s.limit m.down down w.down may.1 p.in_bytes.down is)
     (messages.reports_are_kept s.limit s.reader_first s.client_first p.events (given_events p.events p.given)))
 
 pub tables_arrive : AfterAllBytes TablesArrive
-tables_arrive s w g r down own is =
+tables_arrive s w g r down is =
     let p = reached s w g r in
     let may = may_send s g p.events p.given in
     let m : MessageWorld = run_messages p.events (start_of s) in
     subst (λ (ends : MessageWorld). ends.tables ++ tables_in_messages down ≡ ends.listed) (sym p.in_bytes.ends)
-    (subst (λ (ms : List MessageTree). m.tables ++ tables_in_messages ms ≡ m.listed) (same_way m.down down w.down (own_of s.limit m.down may.1) own p.in_bytes.down is)
+    (subst (λ (ms : List MessageTree). m.tables ++ tables_in_messages ms ≡ m.listed) (same_way s.limit m.down down w.down may.1 p.in_bytes.down is)
     (messages.tables_arrive s.limit s.reader_first s.client_first p.events (given_events p.events p.given)))
 
 pub none_differs : AfterAllBytes (λ w. NoneDiffers w.ends)
@@ -295,13 +299,13 @@ one_active s w g r =
     subst OneActive (sym p.in_bytes.ends) (messages.one_active s.limit s.reader_first s.client_first p.events (given_events p.events p.given))
 
 pub pending_is_on_the_way : AfterAllBytes PendingIsOnTheWay
-pending_is_on_the_way s w g r up down own_up own_down goes comes =
+pending_is_on_the_way s w g r up down goes comes =
     let p = reached s w g r in
     let may = may_send s g p.events p.given in
     let m : MessageWorld = run_messages p.events (start_of s) in
     subst (λ (ends : MessageWorld). IsOnTheWay ends.client.pending up down) (sym p.in_bytes.ends)
-    (subst (λ (ms : List MessageTree). IsOnTheWay m.client.pending ms down) (same_way m.up up w.up (own_of s.limit m.up may.0) own_up p.in_bytes.up goes)
-    (subst (λ (ms : List MessageTree). IsOnTheWay m.client.pending m.up ms) (same_way m.down down w.down (own_of s.limit m.down may.1) own_down p.in_bytes.down comes)
+    (subst (λ (ms : List MessageTree). IsOnTheWay m.client.pending ms down) (same_way s.limit m.up up w.up may.0 p.in_bytes.up goes)
+    (subst (λ (ms : List MessageTree). IsOnTheWay m.client.pending m.up ms) (same_way s.limit m.down down w.down may.1 p.in_bytes.down comes)
     (messages.pending_is_on_the_way s.limit s.reader_first s.client_first p.events (given_events p.events p.given))))
 
 pub nothing_is_pending : AfterAllBytes NothingIsPending

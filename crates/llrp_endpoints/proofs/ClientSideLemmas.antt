@@ -2,25 +2,25 @@
 use Rattle.std.proofs.Common.{◌≡◌, ℕ, ◌-◌, ◌≤◌, Bool, true, false, List, [], ◌++◌, length, Result, Ok, Err, refl, sym, ap, subst, ◌∙◌, append_assoc, inl, inr, arith}
 use Rattle.std.proofs.lemmas.List.{append-nil}
 use Rattle.llrp_stream.specs.Device.{SourceLog, SinkLog, Wrote}
-use Rattle.llrp_listing.specs.declared.fault.ToolErr.{ToolErr}
-use Rattle.llrp_listing.specs.declared.fault.ToolErr.TheVariants.{Listing, Script, Hex, Read, Write, Bound, Broken, Memory, Peer, Strange, Early}
+use Rattle.llrp_listing.specs.declared.outcome.ToolErr.{ToolErr}
+use Rattle.llrp_listing.specs.declared.outcome.ToolErr.TheVariants.{Listing, Script, Hex, Read, Write, Bound, Broken, Memory, Peer, Strange, Early}
 use Rattle.llrp_endpoints.specs.declared.gathering.Gathering.{Gathering}
-use Rattle.llrp_endpoints.specs.declared.gathering.Phase.TheVariants.{Open, Closed}
-use Rattle.llrp_listing.specs.Calls.Copying.{Writes}
+use Rattle.llrp_endpoints.specs.declared.course.Phase.TheVariants.{Open, Closed}
+use Rattle.llrp_listing.specs.Calls.Copying.{Given, Writes}
 use Rattle.llrp_listing.specs.Copying.{WasGiven}
-use Rattle.llrp_endpoints.specs.Private.EndsStand.{spoken, heard, ReadsNone, Given, ClientStands, ClientStops}
+use Rattle.llrp_endpoints.specs.Private.EndsStand.{spoken, heard, ReadsNone, ClientStands, ClientStops}
 use Rattle.llrp_endpoints.specs.Gathering.{Course}
 use Rattle.llrp_endpoints.specs.Calls.GatheringStands.{IsOpen, Counts, Moves, MovesSome, Feeds, phase_left}
 use Rattle.llrp_endpoints.specs.Plan.{Plan}
 use Rattle.llrp_endpoints.specs.RunInventory.{Says, Ended, BeginsSaying}
-use Rattle.llrp_endpoints.specs.RunLoop.{Ends, Traffic, SaidAll, ClientAwaits}
-use Rattle.llrp_listing.proofs.DeviceLemmas.{wrote_more, wrote_then_failed}
+use Rattle.llrp_endpoints.specs.RunLoop.{BothEnds, Traffic, SaidAll, ClientAwaits}
+use Rattle.llrp_stream.proofs.WritingLemmas.{wrote_more, wrote_then_failed}
 use Rattle.llrp_endpoints.proofs.HearingLemmas.{Hearing, hearing_none, hearing_more, was_given}
 use Rattle.llrp_endpoints.proofs.InventoryLemmas.{goes_on_saying, says_so_far, awaits, only_write, front_behind}
 
 -- ---- what it says
 
-pub client_awaits : (e : Ends) (down up : Traffic) (p0 p1 : SinkLog) (g : Gathering) (lines : List ℕ) → ClientStands e up.written down.read p0 p1 g up.unwritten lines → ClientAwaits e down up p0 p1
+pub client_awaits : (e : BothEnds) (down up : Traffic) (p0 p1 : SinkLog) (g : Gathering) (lines : List ℕ) → ClientStands e up.written down.read p0 p1 g up.unwritten lines → ClientAwaits e down up p0 p1
 client_awaits e down up p0 p1 g lines h = (h.course, awaits e.limit e.plan down.read h.rest h.course g h.open_still, (h.text, h.says, h.wrote))
 
 -- ---- what a feed adds
@@ -32,6 +32,7 @@ moves_apart c d o0 o1 r0 r1 m = record {
   lines = m.lines;
   sent_are = m.sent_are;
   reports_are = m.reports_are;
+  form_is = m.form_is;
   frames = record { text = m.frames.text; frames = m.frames.frames; whole = refl };
   are = m.are;
   printed = m.printed;
@@ -45,6 +46,7 @@ moves_some_apart c d o0 o1 r0 r1 m = record {
   lines = m.lines;
   sent_are = m.sent_are;
   reports_are = m.reports_are;
+  form_is = m.form_is;
   frames = record { first = m.frames.first; later = m.frames.later; parts = m.frames.parts; adds = record { text = m.frames.adds.text; frames = m.frames.adds.frames; whole = refl } };
   are = m.are;
   printed = m.printed;
@@ -79,37 +81,37 @@ pub record Fed (g new : Gathering) (piece o0 o1 r0 r1 : List ℕ) (answer : Resu
   pub phase : g.phase ≡ Open → new.phase ≡ phase_left answer
 
 -- A piece was fed to a client in this state.
-record Piece (e : Ends) (written read piece : List ℕ) (p0 p1 : SinkLog) (g new : Gathering) (o0 o1 r0 r1 : List ℕ) (answer : Result Bool ToolErr) : Type 0 where
+record Piece (e : BothEnds) (written read piece : List ℕ) (p0 p1 : SinkLog) (g new : Gathering) (o0 o1 r0 r1 : List ℕ) (answer : Result Bool ToolErr) : Type 0 where
   before : ClientStands e written read p0 p1 g o0 r0
   fed : Apart e.limit e.plan (read ++ piece) before.course new o0 o1 r0 r1 answer
   behind : (written ++ o0) ++ fed.more ≡ written ++ o1
 
-piece_fed : (e : Ends) (written read piece : List ℕ) (p0 p1 : SinkLog) (g new : Gathering) (o0 o1 r0 r1 : List ℕ) (answer : Result Bool ToolErr) → ClientStands e written read p0 p1 g o0 r0 → Fed g new piece o0 o1 r0 r1 answer
+piece_fed : (e : BothEnds) (written read piece : List ℕ) (p0 p1 : SinkLog) (g new : Gathering) (o0 o1 r0 r1 : List ℕ) (answer : Result Bool ToolErr) → ClientStands e written read p0 p1 g o0 r0 → Fed g new piece o0 o1 r0 r1 answer
     → Piece e written read piece p0 p1 g new o0 o1 r0 r1 answer
 piece_fed e written read piece p0 p1 g new o0 o1 r0 r1 answer h f =
     let a = apart e.limit e.plan (read ++ piece) h.course new o0 o1 r0 r1 answer (f.feeds e.limit e.plan read h.rest h.course h.open_still) in
     record { before = h; fed = a; behind = append_assoc written o0 a.more ∙ ap (λ (x : List ℕ). written ++ x) (sym a.whole) }
 
-says_on : (e : Ends) (written read piece : List ℕ) (p0 p1 : SinkLog) (g new : Gathering) (o0 o1 r0 r1 : List ℕ) (answer : Result Bool ToolErr) (p : Piece e written read piece p0 p1 g new o0 o1 r0 r1 answer) (d : Course) → Moves p.before.course d [] p.fed.more r0 r1
+says_on : (e : BothEnds) (written read piece : List ℕ) (p0 p1 : SinkLog) (g new : Gathering) (o0 o1 r0 r1 : List ℕ) (answer : Result Bool ToolErr) (p : Piece e written read piece p0 p1 g new o0 o1 r0 r1 answer) (d : Course) → Moves p.before.course d [] p.fed.more r0 r1
     → Says d (written ++ o1) (p.before.text ++ r1)
 says_on e written read piece p0 p1 g new o0 o1 r0 r1 answer p d m =
     let h = p.before in
     subst (λ (x : List ℕ). Says d x (h.text ++ r1)) p.behind (goes_on_saying h.course d (written ++ o0) h.text [] p.fed.more r0 r1 h.says h.open_still.stands.open_is refl h.none_left m)
 
 -- all was said, and the lines were written
-all_said : (e : Ends) (up : Traffic) (read piece : List ℕ) (p0 p1 p2 : SinkLog) (g new : Gathering) (o0 o1 r0 r1 : List ℕ) (answer : Result Bool ToolErr) (p : Piece e up.written read piece p0 p1 g new o0 o1 r0 r1 answer) (d : Course)
+all_said : (e : BothEnds) (up : Traffic) (read piece : List ℕ) (p0 p1 p2 : SinkLog) (g new : Gathering) (o0 o1 r0 r1 : List ℕ) (answer : Result Bool ToolErr) (p : Piece e up.written read piece p0 p1 g new o0 o1 r0 r1 answer) (d : Course)
     → Moves p.before.course d [] p.fed.more r0 r1 → Wrote p1 p2 r1 → SaidAll d (spoken up o1) p0 p2
 all_said e up read piece p0 p1 p2 g new o0 o1 r0 r1 answer p d m w =
     (p.before.text ++ r1, says_on e up.written read piece p0 p1 g new o0 o1 r0 r1 answer p d m, wrote_more p0 p1 p2 p.before.text r1 p.before.wrote w)
 
-begins : (e : Ends) (written read piece : List ℕ) (p0 p1 : SinkLog) (g new : Gathering) (o0 o1 r0 r1 : List ℕ) (answer : Result Bool ToolErr) (p : Piece e written read piece p0 p1 g new o0 o1 r0 r1 answer)
+begins : (e : BothEnds) (written read piece : List ℕ) (p0 p1 : SinkLog) (g new : Gathering) (o0 o1 r0 r1 : List ℕ) (answer : Result Bool ToolErr) (p : Piece e written read piece p0 p1 g new o0 o1 r0 r1 answer)
     → BeginsSaying e.limit e.plan (read ++ piece) (written ++ o1) (p.before.text ++ r1)
 begins e written read piece p0 p1 g new o0 o1 r0 r1 answer p =
     let h = p.before in
     subst (λ (x : List ℕ). BeginsSaying e.limit e.plan (read ++ piece) x (h.text ++ r1)) p.behind
     (says_so_far e.limit e.plan (read ++ piece) h.course new (written ++ o0) h.text [] p.fed.more r0 r1 answer h.says h.open_still.stands.open_is refl h.none_left p.fed.feeds)
 
-pub client_takes : (e : Ends) (written read piece : List ℕ) (p0 p1 p2 : SinkLog) (g new : Gathering) (o0 o1 r0 r1 r2 : List ℕ) → ClientStands e written read p0 p1 g o0 r0 → Fed g new piece o0 o1 r0 r1 (Ok false) → Wrote p1 p2 r1 → r2 ≡ []
+pub client_takes : (e : BothEnds) (written read piece : List ℕ) (p0 p1 p2 : SinkLog) (g new : Gathering) (o0 o1 r0 r1 r2 : List ℕ) → ClientStands e written read p0 p1 g o0 r0 → Fed g new piece o0 o1 r0 r1 (Ok false) → Wrote p1 p2 r1 → r2 ≡ []
     → ClientStands e written (read ++ piece) p0 p2 new o1 r2
 client_takes e written read piece p0 p1 p2 g new o0 o1 r0 r1 r2 h f w none =
     let p = piece_fed e written read piece p0 p1 g new o0 o1 r0 r1 (Ok false) h f in
@@ -125,7 +127,7 @@ client_takes e written read piece p0 p1 p2 g new o0 o1 r0 r1 r2 h f w none =
     }
 
 -- a feed closes it
-pub client_closes : (e : Ends) (up : Traffic) (read piece : List ℕ) (p0 p1 p2 : SinkLog) (g new : Gathering) (o0 o1 r0 r1 : List ℕ) → ClientStands e up.written read p0 p1 g o0 r0 → Fed g new piece o0 o1 r0 r1 (Ok true) → Wrote p1 p2 r1
+pub client_closes : (e : BothEnds) (up : Traffic) (read piece : List ℕ) (p0 p1 p2 : SinkLog) (g new : Gathering) (o0 o1 r0 r1 : List ℕ) → ClientStands e up.written read p0 p1 g o0 r0 → Fed g new piece o0 o1 r0 r1 (Ok true) → Wrote p1 p2 r1
     → (course : Course) × Ended Closed e.limit e.plan (read ++ piece) course × SaidAll course (spoken up o1) p0 p2 × Counts course.reports new
 client_closes e up read piece p0 p1 p2 g new o0 o1 r0 r1 h f w =
     let p = piece_fed e up.written read piece p0 p1 g new o0 o1 r0 r1 (Ok true) h f in
@@ -133,7 +135,7 @@ client_closes e up read piece p0 p1 p2 g new o0 o1 r0 r1 h f w =
     (s.1, (s.0, s.2, s.3), all_said e up read piece p0 p1 p2 g new o0 o1 r0 r1 (Ok true) p s.1 s.5 w, s.4)
 
 -- a feed ends it with an error
-pub client_fails : (e : Ends) (s0 s1 : SourceLog) (down up : Traffic) (read piece : List ℕ) (p0 p1 p2 : SinkLog) (g new : Gathering) (o0 o1 r0 r1 : List ℕ) (error : ToolErr) → ClientStands e up.written read p0 p1 g o0 r0 → Fed g new piece o0 o1 r0 r1 (Err error) → Wrote p1 p2 r1
+pub client_fails : (e : BothEnds) (s0 s1 : SourceLog) (down up : Traffic) (read piece : List ℕ) (p0 p1 p2 : SinkLog) (g new : Gathering) (o0 o1 r0 r1 : List ℕ) (error : ToolErr) → ClientStands e up.written read p0 p1 g o0 r0 → Fed g new piece o0 o1 r0 r1 (Err error) → Wrote p1 p2 r1
     → WasGiven s0 s1 (read ++ piece) → ClientStops e s0 s1 p0 p2 (heard down (read ++ piece)) (spoken up o1) error
 client_fails e s0 s1 down up read piece p0 p1 p2 g new o0 o1 r0 r1 error h f w given = by_error error (piece_fed e up.written read piece p0 p1 g new o0 o1 r0 r1 (Err error) h f)
   where
@@ -154,7 +156,7 @@ client_fails e s0 s1 down up read piece p0 p1 p2 g new o0 o1 r0 r1 error h f w g
     by_error Bound p = absurd p.fed.feeds.3
 
 -- the lines of a feed were not all written
-pub client_unreported : (e : Ends) (s0 s1 : SourceLog) (down up : Traffic) (read piece : List ℕ) (p0 p1 p2 : SinkLog) (g new : Gathering) (o0 o1 r0 r1 : List ℕ) (answer : Result Bool ToolErr) (error : ToolErr) → ClientStands e up.written read p0 p1 g o0 r0 → Fed g new piece o0 o1 r0 r1 answer
+pub client_unreported : (e : BothEnds) (s0 s1 : SourceLog) (down up : Traffic) (read piece : List ℕ) (p0 p1 p2 : SinkLog) (g new : Gathering) (o0 o1 r0 r1 : List ℕ) (answer : Result Bool ToolErr) (error : ToolErr) → ClientStands e up.written read p0 p1 g o0 r0 → Fed g new piece o0 o1 r0 r1 answer
     → Writes r1 p1 p2 (Err error) → WasGiven s0 s1 (read ++ piece) → ClientStops e s0 s1 p0 p2 (heard down (read ++ piece)) (spoken up o1) error
 client_unreported e s0 s1 down up read piece p0 p1 p2 g new o0 o1 r0 r1 answer error h f w given =
     let is = only_write r1 p1 p2 error w in
@@ -166,7 +168,7 @@ client_unreported e s0 s1 down up read piece p0 p1 p2 g new o0 o1 r0 r1 answer e
     )
 
 -- no read gives bytes
-pub client_unread : (e : Ends) (s0 s1 : SourceLog) (down up : Traffic) (p0 p1 : SinkLog) (g : Gathering) (lines : List ℕ) (error : ToolErr) → ClientStands e up.written down.read p0 p1 g up.unwritten lines → ReadsNone s0 s1 down.read error → ClientStops e s0 s1 p0 p1 down up error
+pub client_unread : (e : BothEnds) (s0 s1 : SourceLog) (down up : Traffic) (p0 p1 : SinkLog) (g : Gathering) (lines : List ℕ) (error : ToolErr) → ClientStands e up.written down.read p0 p1 g up.unwritten lines → ReadsNone s0 s1 down.read error → ClientStops e s0 s1 p0 p1 down up error
 client_unread e s0 s1 down up p0 p1 g lines error h n = by_error error n
   where
     by_error : (error : ToolErr) → ReadsNone s0 s1 down.read error → ClientStops e s0 s1 p0 p1 down up error
@@ -185,12 +187,12 @@ client_unread e s0 s1 down up p0 p1 g lines error h n = by_error error n
 -- ---- the loop
 
 -- what it heard so far of this many bytes
-pub record ClientSoFar (e : Ends) (s0 s1 : SourceLog) (p0 p1 : SinkLog) (written read : List ℕ) (count left reads1 : ℕ) (g : Gathering) (out lines : List ℕ) : Type 0 where
+pub record ClientSoFar (e : BothEnds) (s0 s1 : SourceLog) (p0 p1 : SinkLog) (written read : List ℕ) (count left reads1 : ℕ) (g : Gathering) (out lines : List ℕ) : Type 0 where
   pub bytes : List ℕ
   pub hearing : Hearing s0 s1 read bytes count left reads1
   pub stands : ClientStands e written (read ++ bytes) p0 p1 g out lines
 
-pub client_begins : (e : Ends) (s0 s1 : SourceLog) (p0 p1 : SinkLog) (written read : List ℕ) (count reads : ℕ) (g : Gathering) (out lines : List ℕ) → ClientStands e written read p0 p1 g out lines → Given s0 s1 reads read
+pub client_begins : (e : BothEnds) (s0 s1 : SourceLog) (p0 p1 : SinkLog) (written read : List ℕ) (count reads : ℕ) (g : Gathering) (out lines : List ℕ) → ClientStands e written read p0 p1 g out lines → Given s0 s1 reads read
     → ClientSoFar e s0 s1 p0 p1 written read count count reads g out lines
 client_begins e s0 s1 p0 p1 written read count reads g out lines h k = record {
   bytes = [];
@@ -199,24 +201,24 @@ client_begins e s0 s1 p0 p1 written read count reads g out lines h k = record {
 }
 
 -- A piece was read in the loop.
-pub record Heard (e : Ends) (s0 s1 s2 : SourceLog) (p0 p1 : SinkLog) (written read piece : List ℕ) (count left n reads1 reads2 : ℕ) (g : Gathering) (out lines : List ℕ) : Type 0 where
+pub record Heard (e : BothEnds) (s0 s1 s2 : SourceLog) (p0 p1 : SinkLog) (written read piece : List ℕ) (count left n reads1 reads2 : ℕ) (g : Gathering) (out lines : List ℕ) : Type 0 where
   pub before : ClientSoFar e s0 s1 p0 p1 written read count left reads1 g out lines
   pub more : Hearing s0 s2 read (before.bytes ++ piece) count (left - n) reads2
 
-pub client_heard : (e : Ends) (s0 s1 s2 : SourceLog) (p0 p1 : SinkLog) (written read piece : List ℕ) (count left n reads1 reads2 : ℕ) (g : Gathering) (out lines : List ℕ) → ClientSoFar e s0 s1 p0 p1 written read count left reads1 g out lines
+pub client_heard : (e : BothEnds) (s0 s1 s2 : SourceLog) (p0 p1 : SinkLog) (written read piece : List ℕ) (count left n reads1 reads2 : ℕ) (g : Gathering) (out lines : List ℕ) → ClientSoFar e s0 s1 p0 p1 written read count left reads1 g out lines
     → ((s0 : SourceLog) (before : List ℕ) → Given s0 s1 reads1 before → Given s0 s2 reads2 (before ++ piece)) → length piece ≡ n → n ≤ left → Heard e s0 s1 s2 p0 p1 written read piece count left n reads1 reads2 g out lines
 client_heard e s0 s1 s2 p0 p1 written read piece count left n reads1 reads2 g out lines f reads is within = record {
   before = f;
   more = hearing_more s0 s1 s2 read f.bytes piece count left n reads1 reads2 f.hearing (reads s0 (read ++ f.bytes) f.hearing.given) is within;
 }
 
-given_heard : (e : Ends) (s0 s1 s2 : SourceLog) (p0 p1 : SinkLog) (written read piece : List ℕ) (count left n reads1 reads2 : ℕ) (g : Gathering) (out lines : List ℕ) (h : Heard e s0 s1 s2 p0 p1 written read piece count left n reads1 reads2 g out lines)
+given_heard : (e : BothEnds) (s0 s1 s2 : SourceLog) (p0 p1 : SinkLog) (written read piece : List ℕ) (count left n reads1 reads2 : ℕ) (g : Gathering) (out lines : List ℕ) (h : Heard e s0 s1 s2 p0 p1 written read piece count left n reads1 reads2 g out lines)
     → WasGiven s0 s2 ((read ++ h.before.bytes) ++ piece)
 given_heard e s0 s1 s2 p0 p1 written read piece count left n reads1 reads2 g out lines h =
     subst (λ (x : List ℕ). WasGiven s0 s2 x) (sym (append_assoc read h.before.bytes piece)) (was_given s0 s2 reads2 (read ++ (h.before.bytes ++ piece)) h.more.given)
 
 -- it goes on
-pub client_steps : (e : Ends) (s0 s1 s2 : SourceLog) (p0 p1 p2 : SinkLog) (written read piece : List ℕ) (count left n reads1 reads2 : ℕ) (g new : Gathering) (o0 o1 r0 r1 r2 : List ℕ) (b : Bool) → b ≡ false
+pub client_steps : (e : BothEnds) (s0 s1 s2 : SourceLog) (p0 p1 p2 : SinkLog) (written read piece : List ℕ) (count left n reads1 reads2 : ℕ) (g new : Gathering) (o0 o1 r0 r1 r2 : List ℕ) (b : Bool) → b ≡ false
     → Heard e s0 s1 s2 p0 p1 written read piece count left n reads1 reads2 g o0 r0 → Fed g new piece o0 o1 r0 r1 (Ok b) → Wrote p1 p2 r1 → r2 ≡ [] → ClientSoFar e s0 s2 p0 p2 written read count (left - n) reads2 new o1 r2
 client_steps e s0 s1 s2 p0 p1 p2 written read piece count left n reads1 reads2 g new o0 o1 r0 r1 r2 true is h f w none = absurd cc
 client_steps e s0 s1 s2 p0 p1 p2 written read piece count left n reads1 reads2 g new o0 o1 r0 r1 r2 false is h f w none = record {
@@ -226,7 +228,7 @@ client_steps e s0 s1 s2 p0 p1 p2 written read piece count left n reads1 reads2 g
 }
 
 -- it is closed as planned
-pub client_ends : (e : Ends) (s0 s1 s2 : SourceLog) (p0 p1 p2 : SinkLog) (down up : Traffic) (piece : List ℕ) (count left n reads1 reads2 : ℕ) (g new : Gathering) (o0 o1 r0 r1 : List ℕ) (b : Bool) → b ≡ true
+pub client_ends : (e : BothEnds) (s0 s1 s2 : SourceLog) (p0 p1 p2 : SinkLog) (down up : Traffic) (piece : List ℕ) (count left n reads1 reads2 : ℕ) (g new : Gathering) (o0 o1 r0 r1 : List ℕ) (b : Bool) → b ≡ true
     → Heard e s0 s1 s2 p0 p1 up.written down.read piece count left n reads1 reads2 g o0 r0 → Fed g new piece o0 o1 r0 r1 (Ok b) → Wrote p1 p2 r1
     → (bytes : List ℕ) × (length bytes ≤ count) × WasGiven s0 s2 (down.read ++ bytes) × (course : Course) × Ended Closed e.limit e.plan (down.read ++ bytes) course × SaidAll course (spoken up o1) p0 p2 × Counts course.reports new
 client_ends e s0 s1 s2 p0 p1 p2 down up piece count left n reads1 reads2 g new o0 o1 r0 r1 false is h f w = absurd cc
@@ -244,13 +246,13 @@ client_ends e s0 s1 s2 p0 p1 p2 down up piece count left n reads1 reads2 g new o
     )
 
 -- it stops
-pub client_stops_unread : (e : Ends) (s0 s1 s2 : SourceLog) (p0 p1 : SinkLog) (down up : Traffic) (count left reads1 : ℕ) (g : Gathering) (out lines : List ℕ) (error : ToolErr) → ClientSoFar e s0 s1 p0 p1 up.written down.read count left reads1 g out lines
+pub client_stops_unread : (e : BothEnds) (s0 s1 s2 : SourceLog) (p0 p1 : SinkLog) (down up : Traffic) (count left reads1 : ℕ) (g : Gathering) (out lines : List ℕ) (error : ToolErr) → ClientSoFar e s0 s1 p0 p1 up.written down.read count left reads1 g out lines
     → ((s0 : SourceLog) (before : List ℕ) → Given s0 s1 reads1 before → ReadsNone s0 s2 before error) → (bytes : List ℕ) × (length bytes ≤ count) × ClientStops e s0 s2 p0 p1 (heard down (down.read ++ bytes)) (spoken up out) error
 client_stops_unread e s0 s1 s2 p0 p1 down up count left reads1 g out lines error f none =
     let counted = f.hearing.counted in
     (f.bytes, omega arith, client_unread e s0 s2 (heard down (down.read ++ f.bytes)) (spoken up out) p0 p1 g lines error f.stands (none s0 (down.read ++ f.bytes) f.hearing.given))
 
-pub client_stops_unreported : (e : Ends) (s0 s1 s2 : SourceLog) (p0 p1 p2 : SinkLog) (down up : Traffic) (piece : List ℕ) (count left n reads1 reads2 : ℕ) (g new : Gathering) (o0 o1 r0 r1 : List ℕ) (answer : Result Bool ToolErr) (error : ToolErr)
+pub client_stops_unreported : (e : BothEnds) (s0 s1 s2 : SourceLog) (p0 p1 p2 : SinkLog) (down up : Traffic) (piece : List ℕ) (count left n reads1 reads2 : ℕ) (g new : Gathering) (o0 o1 r0 r1 : List ℕ) (answer : Result Bool ToolErr) (error : ToolErr)
     → Heard e s0 s1 s2 p0 p1 up.written down.read piece count left n reads1 reads2 g o0 r0 → Fed g new piece o0 o1 r0 r1 answer → Writes r1 p1 p2 (Err error)
     → (bytes : List ℕ) × (length bytes ≤ count) × ClientStops e s0 s2 p0 p2 (heard down (down.read ++ bytes)) (spoken up o1) error
 client_stops_unreported e s0 s1 s2 p0 p1 p2 down up piece count left n reads1 reads2 g new o0 o1 r0 r1 answer error h f w =
@@ -261,7 +263,7 @@ client_stops_unreported e s0 s1 s2 p0 p1 p2 down up piece count left n reads1 re
           (client_unreported e s0 s2 down up (down.read ++ h.before.bytes) piece p0 p1 p2 g new o0 o1 r0 r1 answer error h.before.stands f w (given_heard e s0 s1 s2 p0 p1 up.written down.read piece count left n reads1 reads2 g o0 r0 h)),
     )
 
-pub client_stops_fed : (e : Ends) (s0 s1 s2 : SourceLog) (p0 p1 p2 : SinkLog) (down up : Traffic) (piece : List ℕ) (count left n reads1 reads2 : ℕ) (g new : Gathering) (o0 o1 r0 r1 : List ℕ) (error : ToolErr)
+pub client_stops_fed : (e : BothEnds) (s0 s1 s2 : SourceLog) (p0 p1 p2 : SinkLog) (down up : Traffic) (piece : List ℕ) (count left n reads1 reads2 : ℕ) (g new : Gathering) (o0 o1 r0 r1 : List ℕ) (error : ToolErr)
     → Heard e s0 s1 s2 p0 p1 up.written down.read piece count left n reads1 reads2 g o0 r0 → Fed g new piece o0 o1 r0 r1 (Err error) → Wrote p1 p2 r1
     → (bytes : List ℕ) × (length bytes ≤ count) × ClientStops e s0 s2 p0 p2 (heard down (down.read ++ bytes)) (spoken up o1) error
 client_stops_fed e s0 s1 s2 p0 p1 p2 down up piece count left n reads1 reads2 g new o0 o1 r0 r1 error h f w =

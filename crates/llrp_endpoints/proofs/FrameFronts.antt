@@ -2,6 +2,7 @@
 use Rattle.std.proofs.Common.{◌≡◌, ℕ, ◌+◌, ◌<◌, inl, inr, List, [], ◌∷◌, ◌++◌, map, length, drop, refl, sym, ap, ap₂, subst, ◌∙◌, arith, append_assoc}
 use Rattle.std.specs.List.{AllZip}
 use Rattle.std.proofs.lemmas.List.{drop_at, length-append, append-nil}
+use Rattle.llrp_schema.specs.declared.kinds.Profile.TheVariants.{Own}
 use Rattle.llrp_tree.specs.declared.TheConstants.{MAX_LIMIT}
 use Rattle.llrp_tree.specs.Tree.{MessageTree}
 use Rattle.llrp_tree.specs.Frame.{Frame}
@@ -10,13 +11,14 @@ use Rattle.llrp_stream.specs.declared.item.Item.{Item}
 use Rattle.llrp_stream.specs.declared.item.Item.TheVariants.{Msg}
 use Rattle.llrp_stream.specs.declared.item.End.TheVariants.{Clean}
 use Rattle.llrp_stream.specs.Cuts.{length_field, IsFrame, IsPartial, joined}
-use Rattle.llrp_stream.specs.Items.{FrameOf, Items, ItemsSoFar}
+use Rattle.llrp_stream.specs.Items.{ItemsSoFar}
+use Rattle.llrp_stream.specs.Private.Profile.{FrameOf, Items}
 use Rattle.llrp_stream.proofs.FrontLemmas.{length_field-append}
 use Rattle.llrp_stream.proofs.ItemLemmas.{below_or_not}
 use Rattle.llrp_stream.proofs.PrefixLemmas.{cut, partial, end_of, ends}
 use Rattle.llrp_stream.proofs.Unique.{one_cut, same_items}
 use Rattle.llrp_session.specs.Calls.MessageWorld.{AreSendable}
-use Rattle.llrp_listing.specs.PrintingLaws.{AreSpellings}
+use Rattle.llrp_listing.specs.Private.Profile.{AreSpellings}
 use Rattle.llrp_listing.proofs.PrintsBack as spellings
 use Rattle.llrp_endpoints.specs.Sending.{AreFrames}
 use Rattle.llrp_endpoints.specs.EndsAgree.{AreOwn}
@@ -131,8 +133,8 @@ one_list a b xs ys own_a own_b p q e =
     clean : (messages : List MessageTree) (frames : List (List ℕ)) → AreOwn messages → AllZip (λ m frame. Frame m frame MAX_LIMIT) messages frames → Items MAX_LIMIT (joined frames) (map Msg messages) Clean
     clean messages frames own each = record {
       frames = frames;
-      cut = record { tail = []; whole = sym (append-nil (joined frames)); each = spellings.are_frames MAX_LIMIT messages frames (are_spelled messages frames own each); ends = refl };
-      each = spellings.are_items MAX_LIMIT messages frames (are_spelled messages frames own each);
+      cut = record { tail = []; whole = sym (append-nil (joined frames)); each = spellings.are_frames Own MAX_LIMIT messages frames (are_spelled messages frames own each); ends = refl };
+      each = spellings.are_items Own MAX_LIMIT messages frames (are_spelled messages frames own each);
     }
 
 -- ---- bytes are read in one way

@@ -7,40 +7,40 @@ use Rattle.llrp_tree.specs.Tree.{Tree}
 use Rattle.llrp_stream.specs.declared.item.Item.{Item}
 use Rattle.llrp_stream.specs.Cuts.{Breaks}
 use Rattle.llrp_stream.specs.Decoding.{DecoderState}
-use Rattle.llrp_stream.specs.Calls.Decoding.{Stands}
+use Rattle.llrp_stream.specs.Calls.Decoding.{StandsIn}
 use Rattle.llrp_stream.specs.declared.item.FeedErr.{FeedErr}
 use Rattle.llrp_stream.specs.declared.item.FeedErr.TheVariants as decoder
-use Rattle.llrp_stream.specs.Feeding.{Takes, Feeds as decoder_feeds}
+use Rattle.llrp_stream.specs.Feeding.{FeedsIn, TakesIn}
 use Rattle.llrp_stream.proofs.RunLemmas.{items_grow}
+use Rattle.llrp_schema.specs.declared.kinds.Profile.{Profile}
 use Rattle.llrp_session.specs.ClientMessages.{client_message}
-use Rattle.llrp_listing.specs.declared.fault.ToolErr.{ToolErr}
-use Rattle.llrp_listing.specs.declared.fault.ToolErr.TheVariants.{Listing, Script, Hex, Read, Write, Bound, Broken, Memory, Peer, Strange, Early}
+use Rattle.llrp_listing.specs.declared.outcome.ToolErr.{ToolErr}
+use Rattle.llrp_listing.specs.declared.outcome.ToolErr.TheVariants.{Listing, Script, Hex, Read, Write, Bound, Broken, Memory, Peer, Strange, Early}
 use Rattle.llrp_endpoints.specs.declared.gathering.Gathering.{Gathering}
-use Rattle.llrp_endpoints.specs.declared.gathering.Phase.{Phase}
+use Rattle.llrp_endpoints.specs.declared.course.Phase.{Phase}
+use Rattle.llrp_endpoints.specs.Heard.{heard}
 use Rattle.llrp_endpoints.specs.Plan.{Plan}
-use Rattle.llrp_endpoints.specs.Gathering.{Course, begun, after_item, goes, follow, Gathers}
+use Rattle.llrp_endpoints.specs.Gathering.{Course, new_course, follow, Gathers}
 use Rattle.llrp_listing.specs.Calls.Fault.{error_by}
 use Rattle.llrp_endpoints.specs.Calls.GatheringStands.{Holds, StandsFor, Stops, Fails, Feeds}
 use Rattle.llrp_endpoints.specs.Private.GatheringStands.{Does}
+use Rattle.llrp_endpoints.proofs.HeardLemmas.{follow_after, heard_after}
 use Rattle.llrp_endpoints.proofs.GatheringLemmas.{open_text, some_all, still, moves_on, stops_after}
 
 -- ---- items
-
-follow_one : (items : List Item) (item : Item) (c : Course) → follow (items ++ item ∷ []) c ≡ goes (follow items c).phase item (follow items c)
-follow_one [] item c = refl
-follow_one (i ∷ items) item c = follow_one items item (goes c.phase i c)
 
 pub gathers_more : (limit : ℕ) (plan : Plan) (bytes rest more : List ℕ) (c : Course) → Gathers limit plan bytes rest c → Gathers limit plan (bytes ++ more) (rest ++ more) c
 gathers_more limit plan bytes rest more c p = record { items = p.items; are = (items_grow limit).by_bytes bytes p.items rest more p.are; course_is = p.course_is }
 
 -- one more item
-gathers_item : (limit : ℕ) (plan : Plan) (bytes rest piece : List ℕ) (c : Course) (g : Gathering) (new : DecoderState) (used : ℕ) (item : Item) → StandsFor limit plan bytes rest c g → Takes limit rest piece new used (Some item)
-    → Gathers limit plan (bytes ++ take used piece) [] (after_item item c)
+gathers_item : (limit : ℕ) (plan : Plan) (bytes rest piece : List ℕ) (c : Course) (g : Gathering) (new : DecoderState) (used : ℕ) (item : Item) → StandsFor limit plan bytes rest c g → TakesIn plan.profile limit rest piece new used (Some item)
+    → Gathers limit plan (bytes ++ take used piece) [] (follow (heard plan.profile (item ∷ [])) c)
 gathers_item limit plan bytes rest piece c g new used item s t =
     let so = s.gathers in
     let grow = items_grow limit in
-    let last : after_item item c ≡ follow (so.items ++ item ∷ []) (begun limit plan) =
-    ap (λ (p : Phase). goes p item c) (sym s.open_is) ∙ ap (λ (d : Course). goes d.phase item d) so.course_is ∙ sym (follow_one so.items item (begun limit plan)) in
+    let one = heard plan.profile (item ∷ []) in
+    let last : follow one c ≡ follow (heard plan.profile (so.items ++ item ∷ [])) (new_course limit plan) =
+    ap (follow one) so.course_is ∙ sym (follow_after (heard plan.profile so.items) one (new_course limit plan)) ∙ ap (λ (is : List Item). follow is (new_course limit plan)) (sym (heard_after plan.profile so.items (item ∷ []))) in
     record {
       items = so.items ++ item ∷ [];
       are = grow.by_a_frame (bytes ++ take used piece) so.items (rest ++ take used piece) item (grow.by_bytes bytes so.items rest (take used piece) so.are) t.1 t.2;
@@ -51,11 +51,11 @@ gathers_item limit plan bytes rest piece c g new used item s t =
 
 pub went_nowhere : (limit : ℕ) (plan : Plan) (bytes rest : List ℕ) (c : Course) (g : Gathering) (o r : List ℕ) → StandsFor limit plan bytes rest c g → Feeds limit plan (bytes ++ []) c g o o r r (Ok false)
 went_nowhere limit plan bytes rest c g o r s =
-    subst (λ (b : List ℕ). Feeds limit plan b c g o o r r (Ok false)) (sym (append-nil bytes)) (rest, c, s, still c c o r refl refl (open_text c.phase c.reports s.open_is))
+    subst (λ (b : List ℕ). Feeds limit plan b c g o o r r (Ok false)) (sym (append-nil bytes)) (rest, c, s, still c c o r refl refl refl (open_text c.form c.phase c.reports s.open_is))
 
 -- no frame ends in what is left of the piece
 pub piece_kept : (limit : ℕ) (plan : Plan) (bytes piece : List ℕ) (c : Course) (g : Gathering) (new : DecoderState) (used : ℕ) (o0 o1 r0 r1 : List ℕ) (w : Feeds limit plan bytes c g o0 o1 r0 r1 (Ok false))
-    → new.limit ≡ g.decoder.limit → Takes g.decoder.limit w.0 piece new used None → Feeds limit plan (bytes ++ piece) c (record g { decoder = new }) o0 o1 r0 r1 (Ok false)
+    → new.limit ≡ g.decoder.limit → TakesIn plan.profile g.decoder.limit w.0 piece new used None → Feeds limit plan (bytes ++ piece) c (record g { decoder = new }) o0 o1 r0 r1 (Ok false)
 piece_kept limit plan bytes piece c g new used o0 o1 r0 r1 w l t =
     let s = w.2 in (
       w.0 ++ piece,
@@ -63,9 +63,10 @@ piece_kept limit plan bytes piece c g new used o0 o1 r0 r1 w l t =
       record {
         gathers = gathers_more limit plan bytes w.0 piece w.1 s.gathers;
         open_is = s.open_is;
-        holds = record { client_is = s.holds.client_is; left_is = s.holds.left_is; awaits_is = s.holds.awaits_is; counts = s.holds.counts };
+        holds = record { client_is = s.holds.client_is; form_is = s.holds.form_is; left_is = s.holds.left_is; awaits_is = s.holds.awaits_is; counts = s.holds.counts };
         decoder = t.1;
         limit_is = l ∙ s.limit_is;
+        profile_is = s.profile_is;
       },
       w.3,
     )
@@ -89,9 +90,10 @@ piece_lost limit plan bytes piece c g o0 o1 r0 r1 w =
         lines = m.lines;
         sent_are = m.sent_are;
         reports_are = m.reports_are ∙ ap (λ (x : List (List Tree)). c.reports ++ x) (sym (append-nil m.reports));
+        form_is = m.form_is;
         frames = some_all (map client_message m.messages) o0 o1 m.frames;
         are = m.are;
-        printed = m.printed ∙ ap (λ (x : List ℕ). r0 ++ (m.lines ++ x)) (open_text w.1.phase w.1.reports w.2.open_is) ∙ ap (λ (x : List ℕ). r0 ++ x) (append-nil m.lines);
+        printed = m.printed ∙ ap (λ (x : List ℕ). r0 ++ (m.lines ++ x)) (open_text c.form w.1.phase w.1.reports w.2.open_is) ∙ ap (λ (x : List ℕ). r0 ++ x) (append-nil m.lines);
       },
     )
 
@@ -114,10 +116,11 @@ behind_item bytes piece used = append_assoc bytes (take used piece) (drop used p
 
 -- an item ends it with an error
 pub item_fails : (limit : ℕ) (plan : Plan) (bytes piece : List ℕ) (c : Course) (g : Gathering) (new : DecoderState) (used : ℕ) (item : Item) (error : ToolErr) (o0 o1 o2 r0 r1 r2 : List ℕ) (w : Feeds limit plan bytes c g o0 o1 r0 r1 (Ok false))
-    → Takes g.decoder.limit w.0 piece new used (Some item) → Stops w.1 (after_item item w.1) o1 o2 r1 r2 error → Fails limit plan (bytes ++ piece) c o0 o2 r0 r2 error
-item_fails limit plan bytes piece c g new used item error o0 o1 o2 r0 r1 r2 w t s =
-    let d = after_item item w.1 in
-    let takes : Takes limit w.0 piece new used (Some item) = subst (λ (n : ℕ). Takes n w.0 piece new used (Some item)) w.2.limit_is t in
+    → TakesIn plan.profile g.decoder.limit w.0 piece new used (Some item) → Stops w.1 (follow (heard g.profile (item ∷ [])) w.1) o1 o2 r1 r2 error → Fails limit plan (bytes ++ piece) c o0 o2 r0 r2 error
+item_fails limit plan bytes piece c g new used item error o0 o1 o2 r0 r1 r2 w t stops =
+    let s : Stops w.1 (follow (heard plan.profile (item ∷ [])) w.1) o1 o2 r1 r2 error = subst (λ (p : Profile). Stops w.1 (follow (heard p (item ∷ [])) w.1) o1 o2 r1 r2 error) w.2.profile_is stops in
+    let d = follow (heard plan.profile (item ∷ [])) w.1 in
+    let takes : TakesIn plan.profile limit w.0 piece new used (Some item) = subst (λ (n : ℕ). TakesIn plan.profile n w.0 piece new used (Some item)) w.2.limit_is t in
     let all : Gathers limit plan (bytes ++ piece) ([] ++ drop used piece) d =
     subst (λ (b : List ℕ). Gathers limit plan b ([] ++ drop used piece) d) (behind_item bytes piece used)
     (gathers_more limit plan (bytes ++ take used piece) [] (drop used piece) d (gathers_item limit plan bytes w.0 piece w.1 g new used item w.2 takes)) in
@@ -125,10 +128,11 @@ item_fails limit plan bytes piece c g new used item error o0 o1 o2 r0 r1 r2 w t 
 
 -- an item ends it well
 pub item_closes : (limit : ℕ) (plan : Plan) (bytes piece : List ℕ) (c : Course) (g h : Gathering) (new : DecoderState) (used : ℕ) (item : Item) (o0 o1 o2 r0 r1 r2 : List ℕ) (w : Feeds limit plan bytes c g o0 o1 r0 r1 (Ok false))
-    → Takes g.decoder.limit w.0 piece new used (Some item) → Does w.1 (after_item item w.1) h o1 o2 r1 r2 (Ok true) → Feeds limit plan (bytes ++ piece) c h o0 o2 r0 r2 (Ok true)
-item_closes limit plan bytes piece c g h new used item o0 o1 o2 r0 r1 r2 w t s =
-    let d = after_item item w.1 in
-    let takes : Takes limit w.0 piece new used (Some item) = subst (λ (n : ℕ). Takes n w.0 piece new used (Some item)) w.2.limit_is t in
+    → TakesIn plan.profile g.decoder.limit w.0 piece new used (Some item) → Does w.1 (follow (heard g.profile (item ∷ [])) w.1) h o1 o2 r1 r2 (Ok true) → Feeds limit plan (bytes ++ piece) c h o0 o2 r0 r2 (Ok true)
+item_closes limit plan bytes piece c g h new used item o0 o1 o2 r0 r1 r2 w t does =
+    let s : Does w.1 (follow (heard plan.profile (item ∷ [])) w.1) h o1 o2 r1 r2 (Ok true) = subst (λ (p : Profile). Does w.1 (follow (heard p (item ∷ [])) w.1) h o1 o2 r1 r2 (Ok true)) w.2.profile_is does in
+    let d = follow (heard plan.profile (item ∷ [])) w.1 in
+    let takes : TakesIn plan.profile limit w.0 piece new used (Some item) = subst (λ (n : ℕ). TakesIn plan.profile n w.0 piece new used (Some item)) w.2.limit_is t in
     let all : Gathers limit plan (bytes ++ piece) ([] ++ drop used piece) d =
     subst (λ (b : List ℕ). Gathers limit plan b ([] ++ drop used piece) d) (behind_item bytes piece used)
     (gathers_more limit plan (bytes ++ take used piece) [] (drop used piece) d (gathers_item limit plan bytes w.0 piece w.1 g new used item w.2 takes)) in
@@ -136,29 +140,31 @@ item_closes limit plan bytes piece c g h new used item o0 o1 o2 r0 r1 r2 w t s =
 
 -- an item leads on
 pub item_goes : (limit : ℕ) (plan : Plan) (bytes piece : List ℕ) (c : Course) (g h : Gathering) (new : DecoderState) (used : ℕ) (item : Item) (o0 o1 o2 r0 r1 r2 : List ℕ) (w : Feeds limit plan bytes c g o0 o1 r0 r1 (Ok false))
-    → new.limit ≡ g.decoder.limit → Takes g.decoder.limit w.0 piece new used (Some item) → h.decoder ≡ new → Does w.1 (after_item item w.1) h o1 o2 r1 r2 (Ok false) → Feeds limit plan (bytes ++ take used piece) c h o0 o2 r0 r2 (Ok false)
-item_goes limit plan bytes piece c g h new used item o0 o1 o2 r0 r1 r2 w l t kept s =
-    let d = after_item item w.1 in
-    let takes : Takes limit w.0 piece new used (Some item) = subst (λ (n : ℕ). Takes n w.0 piece new used (Some item)) w.2.limit_is t in (
+    → new.limit ≡ g.decoder.limit → TakesIn plan.profile g.decoder.limit w.0 piece new used (Some item) → h.decoder ≡ new → h.profile ≡ g.profile → Does w.1 (follow (heard g.profile (item ∷ [])) w.1) h o1 o2 r1 r2 (Ok false) → Feeds limit plan (bytes ++ take used piece) c h o0 o2 r0 r2 (Ok false)
+item_goes limit plan bytes piece c g h new used item o0 o1 o2 r0 r1 r2 w l t kept same does =
+    let s : Does w.1 (follow (heard plan.profile (item ∷ [])) w.1) h o1 o2 r1 r2 (Ok false) = subst (λ (p : Profile). Does w.1 (follow (heard p (item ∷ [])) w.1) h o1 o2 r1 r2 (Ok false)) w.2.profile_is does in
+    let d = follow (heard plan.profile (item ∷ [])) w.1 in
+    let takes : TakesIn plan.profile limit w.0 piece new used (Some item) = subst (λ (n : ℕ). TakesIn plan.profile n w.0 piece new used (Some item)) w.2.limit_is t in (
       [],
       d,
       record {
         gathers = gathers_item limit plan bytes w.0 piece w.1 g new used item w.2 takes;
         open_is = s.0;
         holds = s.1;
-        decoder = subst (λ (k : DecoderState). Stands k []) (sym kept) takes.3;
+        decoder = subst (λ (k : DecoderState). StandsIn plan.profile k []) (sym kept) takes.3;
         limit_is = ap (λ (k : DecoderState). k.limit) kept ∙ l ∙ w.2.limit_is;
+        profile_is = same ∙ w.2.profile_is;
       },
       moves_on c w.1 d o0 o1 o2 r0 r1 r2 w.3 w.2.open_is s.2,
     )
 
 -- the same with its decoder fed
 pub holds_fed : (c : Course) (g : Gathering) (new : DecoderState) → Holds c g → Holds c (record g { decoder = new })
-holds_fed c g new h = record { client_is = h.client_is; left_is = h.left_is; awaits_is = h.awaits_is; counts = h.counts }
+holds_fed c g new h = record { client_is = h.client_is; form_is = h.form_is; left_is = h.left_is; awaits_is = h.awaits_is; counts = h.counts }
 
 -- the decoder takes nothing more
 pub decoder_fails : (limit : ℕ) (plan : Plan) (bytes piece : List ℕ) (c : Course) (g : Gathering) (new : DecoderState) (error : FeedErr) (o0 o1 r0 r1 : List ℕ) (w : Feeds limit plan bytes c g o0 o1 r0 r1 (Ok false))
-    → decoder_feeds g.decoder w.0 piece new (Err error) → Fails limit plan (bytes ++ piece) c o0 o1 r0 r1 (error_by error)
+    → FeedsIn plan.profile g.decoder w.0 piece new (Err error) → Fails limit plan (bytes ++ piece) c o0 o1 r0 r1 (error_by error)
 decoder_fails limit plan bytes piece c g new decoder.Broken o0 o1 r0 r1 w f = piece_breaks limit plan bytes piece c g o0 o1 r0 r1 w f.0
 decoder_fails limit plan bytes piece c g new decoder.Memory o0 o1 r0 r1 w f = piece_lost limit plan bytes piece c g o0 o1 r0 r1 w
 decoder_fails limit plan bytes piece c g new decoder.Dead o0 o1 r0 r1 w f = absurd f
@@ -185,9 +191,10 @@ feeds_phase limit plan bytes c g p o0 o1 r0 r1 (Ok false) f =
       record {
         gathers = s.gathers;
         open_is = s.open_is;
-        holds = record { client_is = s.holds.client_is; left_is = s.holds.left_is; awaits_is = s.holds.awaits_is; counts = s.holds.counts };
+        holds = record { client_is = s.holds.client_is; form_is = s.holds.form_is; left_is = s.holds.left_is; awaits_is = s.holds.awaits_is; counts = s.holds.counts };
         decoder = s.decoder;
         limit_is = s.limit_is;
+        profile_is = s.profile_is;
       },
       f.3,
     )

@@ -4,44 +4,48 @@ use Rattle.std.specs.Prelude.{Result}
 use Rattle.std.proofs.lemmas.List.{append-nil, map-append}
 use Rattle.std.proofs.lemmas.List.Concat.{flat_map-append}
 use Rattle.llrp_tree.specs.Tree.{Tree, MessageTree}
-use Rattle.llrp_session.specs.declared.words.Command.{Command}
+use Rattle.llrp_session.specs.declared.types.Command.{Command}
 use Rattle.llrp_session.specs.declared.client.refusal.CmdFault.{CmdFault}
 use Rattle.llrp_session.specs.declared.client.refusal.CmdFault.TheVariants as cmd
 use Rattle.llrp_session.specs.Calls.ClientSteps.{IsCmdFault}
 use Rattle.llrp_session.specs.ClientMachine.{Client, Sending, command}
 use Rattle.llrp_session.specs.ClientMessages.{client_message}
 use Rattle.llrp_session.specs.Refusal.{Refusal}
-use Rattle.llrp_session.specs.Words.{ClientMessage}
-use Rattle.llrp_listing.specs.declared.fault.ToolErr.{ToolErr}
-use Rattle.llrp_listing.specs.declared.fault.ToolErr.TheVariants.{Listing, Script, Hex, Read, Write, Bound, Broken, Memory, Peer, Strange, Early}
+use Rattle.llrp_session.specs.Contents.{ClientMessage}
+use Rattle.llrp_listing.specs.declared.outcome.ToolErr.{ToolErr}
+use Rattle.llrp_listing.specs.declared.outcome.ToolErr.TheVariants.{Listing, Script, Hex, Read, Write, Bound, Broken, Memory, Peer, Strange, Early}
 use Rattle.llrp_endpoints.specs.declared.gathering.Gathering.{Gathering}
-use Rattle.llrp_endpoints.specs.declared.gathering.left.Left.{Left}
-use Rattle.llrp_endpoints.specs.declared.gathering.Phase.{Phase}
-use Rattle.llrp_endpoints.specs.declared.gathering.Phase.TheVariants.{Open, Failed}
+use Rattle.llrp_endpoints.specs.declared.gathering.remaining.RemainingCommands.{RemainingCommands}
+use Rattle.llrp_endpoints.specs.declared.course.Awaits.TheVariants.{TaggedReport}
+use Rattle.llrp_endpoints.specs.declared.course.Phase.{Phase}
+use Rattle.llrp_endpoints.specs.declared.course.Phase.TheVariants.{Open, Failed}
+use Rattle.llrp_endpoints.specs.declared.course.Step.{Step}
+use Rattle.llrp_endpoints.specs.declared.course.Step.TheVariants.{Send, AwaitTags}
+use Rattle.llrp_endpoints.specs.declared.form.LineForm.{LineForm}
 use Rattle.llrp_endpoints.specs.Sending.{Adds}
 use Rattle.llrp_endpoints.specs.Calls.Sending.{AddsSome}
 use Rattle.llrp_endpoints.specs.TagLines.{AreReports, AreReportLines}
-use Rattle.llrp_endpoints.specs.Gathering.{Course, ends, awaited_after, sends_by, sends, goes_on}
-use Rattle.llrp_endpoints.specs.Calls.GatheringStands.{commands_left, Holds, Moves, MovesSome, Stops}
+use Rattle.llrp_endpoints.specs.Gathering.{Course, ends, sends_by, takes_step, steps_on, send_next}
+use Rattle.llrp_endpoints.specs.Calls.GatheringStands.{steps_left, Holds, Moves, MovesSome, Stops}
 use Rattle.llrp_endpoints.specs.Gathering.{closing_text}
-use Rattle.llrp_endpoints.specs.Private.GatheringStands.{Does, error_by_command}
+use Rattle.llrp_endpoints.specs.Private.GatheringStands.{Does, error_by_command, awaited_after}
 use Rattle.llrp_endpoints.proofs.SendingLemmas.{adds_none, adds_more}
 use Rattle.llrp_listing.proofs.Zips.{zip_append}
 
 -- ---- reports one after another
 
-pub reports_none : AreReports [] []
-reports_none = record { texts = []; each = tt; text_is = refl }
+pub reports_none : (f : LineForm) → AreReports f [] []
+reports_none f = record { texts = []; each = tt; text_is = refl }
 
-pub reports_append : (a b : List (List Tree)) (x y : List ℕ) → AreReports a x → AreReports b y → AreReports (a ++ b) (x ++ y)
-reports_append a b x y p q = record {
+pub reports_append : (f : LineForm) (a b : List (List Tree)) (x y : List ℕ) → AreReports f a x → AreReports f b y → AreReports f (a ++ b) (x ++ y)
+reports_append f a b x y p q = record {
   texts = p.texts ++ q.texts;
-  each = zip_append AreReportLines a b p.texts q.texts p.each q.each;
+  each = zip_append (AreReportLines f) a b p.texts q.texts p.each q.each;
   text_is = rw (p.text_is, q.text_is) (sym (flat_map-append (λ (w : List ℕ). w) p.texts q.texts));
 }
 
-pub reports_one : (tags : List Tree) (text : List ℕ) → AreReportLines tags text → AreReports (tags ∷ []) text
-reports_one tags text p = record { texts = text ∷ []; each = (p, tt); text_is = sym (append-nil text) }
+pub reports_one : (f : LineForm) (tags : List Tree) (text : List ℕ) → AreReportLines f tags text → AreReports f (tags ∷ []) text
+reports_one f tags text p = record { texts = text ∷ []; each = (p, tt); text_is = sym (append-nil text) }
 
 -- ---- frames
 
@@ -62,25 +66,28 @@ some_more a b o0 o1 o2 p q = record {
 -- ---- moves
 
 -- nothing was sent or printed
-pub still : (c d : Course) (o r : List ℕ) → d.sent ≡ c.sent → d.reports ≡ c.reports → closing_text d.phase d.reports ≡ [] → Moves c d o o r r
-still c d o r s p e = record {
+pub still : (c d : Course) (o r : List ℕ) → d.sent ≡ c.sent → d.reports ≡ c.reports → d.form ≡ c.form → closing_text c.form d.phase d.reports ≡ [] → Moves c d o o r r
+still c d o r s p f e = record {
   messages = [];
   reports = [];
   lines = [];
   sent_are = s ∙ sym (append-nil c.sent);
   reports_are = p ∙ sym (append-nil c.reports);
+  form_is = f;
   frames = adds_none o;
-  are = reports_none;
+  are = reports_none c.form;
   printed = sym (append-nil r) ∙ ap (λ (x : List ℕ). r ++ x) (sym e);
 }
 
-pub open_text : (p : Phase) (reports : List (List Tree)) → p ≡ Open → closing_text p reports ≡ []
-open_text p reports e = rw e refl
+pub open_text : (f : LineForm) (p : Phase) (reports : List (List Tree)) → p ≡ Open → closing_text f p reports ≡ []
+open_text f p reports e = rw e refl
 
 pub moves_on : (c d e : Course) (o0 o1 o2 r0 r1 r2 : List ℕ) → Moves c d o0 o1 r0 r1 → d.phase ≡ Open → Moves d e o1 o2 r1 r2 → Moves c e o0 o2 r0 r2
 moves_on c d e o0 o1 o2 r0 r1 r2 p opened q =
-    let before : r1 ≡ r0 ++ p.lines = p.printed ∙ ap (λ (x : List ℕ). r0 ++ (p.lines ++ x)) (open_text d.phase d.reports opened) ∙ ap (λ (x : List ℕ). r0 ++ x) (append-nil p.lines) in
-    let last = closing_text e.phase e.reports in
+    let before : r1 ≡ r0 ++ p.lines = p.printed ∙ ap (λ (x : List ℕ). r0 ++ (p.lines ++ x)) (open_text c.form d.phase d.reports opened) ∙ ap (λ (x : List ℕ). r0 ++ x) (append-nil p.lines) in
+    let last = closing_text c.form e.phase e.reports in
+    let are : AreReports c.form q.reports q.lines = subst (λ (f : LineForm). AreReports f q.reports q.lines) p.form_is q.are in
+    let printed : r2 ≡ r1 ++ (q.lines ++ last) = q.printed ∙ ap (λ (f : LineForm). r1 ++ (q.lines ++ closing_text f e.phase e.reports)) p.form_is in
     record {
       messages = p.messages ++ q.messages;
       reports = p.reports ++ q.reports;
@@ -88,13 +95,14 @@ moves_on c d e o0 o1 o2 r0 r1 r2 p opened q =
       sent_are = q.sent_are ∙ ap (λ (x : List ClientMessage). x ++ q.messages) p.sent_are ∙ append_assoc c.sent p.messages q.messages;
       reports_are = q.reports_are ∙ ap (λ (x : List (List Tree)). x ++ q.reports) p.reports_are ∙ append_assoc c.reports p.reports q.reports;
       frames = rw (map-append client_message p.messages q.messages) (adds_more (map client_message p.messages) (map client_message q.messages) o0 o1 o2 p.frames q.frames);
-      are = reports_append p.reports q.reports p.lines q.lines p.are q.are;
-      printed = q.printed ∙ ap (λ (x : List ℕ). x ++ (q.lines ++ last)) before ∙ append_assoc r0 p.lines (q.lines ++ last) ∙ ap (λ (x : List ℕ). r0 ++ x) (sym (append_assoc p.lines q.lines last));
+      form_is = q.form_is ∙ p.form_is;
+      are = reports_append c.form p.reports q.reports p.lines q.lines p.are are;
+      printed = printed ∙ ap (λ (x : List ℕ). x ++ (q.lines ++ last)) before ∙ append_assoc r0 p.lines (q.lines ++ last) ∙ ap (λ (x : List ℕ). r0 ++ x) (sym (append_assoc p.lines q.lines last));
     }
 
 pub moves_some : (c d e : Course) (o0 o1 o2 r0 r1 r2 : List ℕ) → Moves c d o0 o1 r0 r1 → d.phase ≡ Open → MovesSome d e o1 o2 r1 r2 → MovesSome c e o0 o2 r0 r2
 moves_some c d e o0 o1 o2 r0 r1 r2 p opened q =
-    let before : r1 ≡ r0 ++ p.lines = p.printed ∙ ap (λ (x : List ℕ). r0 ++ (p.lines ++ x)) (open_text d.phase d.reports opened) ∙ ap (λ (x : List ℕ). r0 ++ x) (append-nil p.lines) in
+    let before : r1 ≡ r0 ++ p.lines = p.printed ∙ ap (λ (x : List ℕ). r0 ++ (p.lines ++ x)) (open_text c.form d.phase d.reports opened) ∙ ap (λ (x : List ℕ). r0 ++ x) (append-nil p.lines) in
     record {
       messages = p.messages ++ q.messages;
       reports = p.reports ++ q.reports;
@@ -104,21 +112,23 @@ moves_some c d e o0 o1 o2 r0 r1 r2 p opened q =
       reports_are = q.reports_are ∙ ap (λ (x : List (List Tree)). x ++ (q.reports ++ q.later)) p.reports_are ∙ append_assoc c.reports p.reports (q.reports ++ q.later)
           ∙ ap (λ (x : List (List Tree)). c.reports ++ x) (sym (append_assoc p.reports q.reports q.later));
       frames = rw (map-append client_message p.messages q.messages) (some_more (map client_message p.messages) (map client_message q.messages) o0 o1 o2 p.frames q.frames);
-      are = reports_append p.reports q.reports p.lines q.lines p.are q.are;
+      form_is = q.form_is ∙ p.form_is;
+      are = reports_append c.form p.reports q.reports p.lines q.lines p.are (subst (λ (f : LineForm). AreReports f q.reports q.lines) p.form_is q.are);
       printed = q.printed ∙ ap (λ (x : List ℕ). x ++ q.lines) before ∙ append_assoc r0 p.lines q.lines;
     }
 
 -- memory ran out before anything was appended
-pub none_moved : (c d : Course) (o r : List ℕ) (messages : List ClientMessage) (reports : List (List Tree)) → d.sent ≡ c.sent ++ messages → d.reports ≡ c.reports ++ reports → MovesSome c d o o r r
-none_moved c d o r messages reports s p = record {
+pub none_moved : (c d : Course) (o r : List ℕ) (messages : List ClientMessage) (reports : List (List Tree)) → d.sent ≡ c.sent ++ messages → d.reports ≡ c.reports ++ reports → d.form ≡ c.form → MovesSome c d o o r r
+none_moved c d o r messages reports s p f = record {
   messages = messages;
   reports = [];
   later = reports;
   lines = [];
   sent_are = s;
   reports_are = p;
+  form_is = f;
   frames = some_none (map client_message messages) o;
-  are = reports_none;
+  are = reports_none c.form;
   printed = sym (append-nil r);
 }
 
@@ -141,47 +151,47 @@ does_after c d e g o0 o1 o2 r0 r1 r2 (Ok false) p opened q = (q.0, q.1, moves_on
 does_after c d e g o0 o1 o2 r0 r1 r2 (Ok true) p opened q = (q.0, q.1, moves_on c d e o0 o1 o2 r0 r1 r2 p opened q.2)
 does_after c d e g o0 o1 o2 r0 r1 r2 (Err error) p opened q = stops_after c d e o0 o1 o2 r0 r1 r2 error p opened q
 
--- ---- the next command
+-- ---- the next step
 
--- no command is left
-pub none_left : (c : Course) (g : Gathering) (left : Left) (o r : List ℕ) → Holds c g → c.phase ≡ Open → commands_left g.left ≡ [] → commands_left left ≡ [] → Does c (goes_on c) (record g { left = left }) o o r r (Ok false)
+-- no step is left
+pub none_left : (c : Course) (g : Gathering) (left : RemainingCommands) (o r : List ℕ) → Holds c g → c.phase ≡ Open → steps_left g.left ≡ [] → steps_left left ≡ [] → Does c (send_next c) (record g { left = left }) o o r r (Ok false)
 none_left c g left o r h opened before now =
     let none : c.left ≡ [] = sym h.left_is ∙ before in
-    let same : c ≡ goes_on c = ap (λ (ks : List Command). sends ks c) (sym none) in
+    let same : c ≡ send_next c = ap (λ (ks : List Step). steps_on ks c) (sym none) in
     subst (λ (d : Course). Does c d (record g { left = left }) o o r r (Ok false)) same
-    (opened, record { client_is = h.client_is; left_is = now ∙ sym none; awaits_is = h.awaits_is; counts = h.counts }, still c c o r refl refl (open_text c.phase c.reports opened))
+    (opened, record { client_is = h.client_is; form_is = h.form_is; left_is = now ∙ sym none; awaits_is = h.awaits_is; counts = h.counts }, still c c o r refl refl refl (open_text c.form c.phase c.reports opened))
 
 -- the next command is this one
-next_is : (c : Course) (client : Client) (k : Command) (left : List Command) → client ≡ c.client → c.left ≡ k ∷ left → sends_by (command client k) k left c ≡ goes_on c
-next_is c client k left e l = ap (λ (a : Client). sends_by (command a k) k left c) e ∙ ap (λ (ks : List Command). sends ks c) (sym l)
+next_is : (c : Course) (client : Client) (k : Command) (left : List Step) → client ≡ c.client → c.left ≡ Send k ∷ left → sends_by (command client k) k left c ≡ send_next c
+next_is c client k left e l = ap (λ (a : Client). sends_by (command a k) k left c) e ∙ ap (λ (ks : List Step). steps_on ks c) (sym l)
 
-refused_by : (step : Result Sending Refusal) (fault : CmdFault) (c : Course) (g : Gathering) (k : Command) (left : List Command) (o r : List ℕ) → IsCmdFault step fault → Does c (sends_by step k left c) g o o r r (Err (error_by_command fault))
-refused_by (Ok sending) cmd.Memory c g k left o r h = none_moved c (sends_by (Ok sending) k left c) o r (sending.message ∷ []) [] refl (sym (append-nil c.reports))
+refused_by : (step : Result Sending Refusal) (fault : CmdFault) (c : Course) (g : Gathering) (k : Command) (left : List Step) (o r : List ℕ) → IsCmdFault step fault → Does c (sends_by step k left c) g o o r r (Err (error_by_command fault))
+refused_by (Ok sending) cmd.Memory c g k left o r h = none_moved c (sends_by (Ok sending) k left c) o r (sending.message ∷ []) [] refl (sym (append-nil c.reports)) refl
 refused_by (Ok sending) cmd.Closed c g k left o r h = cc
 refused_by (Ok sending) cmd.NotReady c g k left o r h = cc
 refused_by (Ok sending) cmd.Busy c g k left o r h = cc
 refused_by (Ok sending) cmd.OverLimit c g k left o r h = cc
 refused_by (Ok sending) cmd.IdsSpent c g k left o r h = cc
 refused_by (Err refusal) cmd.Memory c g k left o r h = cc
-refused_by (Err refusal) cmd.Closed c g k left o r h = (refl, still c (ends (Failed Strange) c) o r refl refl refl)
-refused_by (Err refusal) cmd.NotReady c g k left o r h = (refl, still c (ends (Failed Strange) c) o r refl refl refl)
-refused_by (Err refusal) cmd.Busy c g k left o r h = (refl, still c (ends (Failed Strange) c) o r refl refl refl)
-refused_by (Err refusal) cmd.OverLimit c g k left o r h = (refl, still c (ends (Failed Strange) c) o r refl refl refl)
-refused_by (Err refusal) cmd.IdsSpent c g k left o r h = (refl, still c (ends (Failed Strange) c) o r refl refl refl)
+refused_by (Err refusal) cmd.Closed c g k left o r h = (refl, still c (ends (Failed Strange) c) o r refl refl refl refl)
+refused_by (Err refusal) cmd.NotReady c g k left o r h = (refl, still c (ends (Failed Strange) c) o r refl refl refl refl)
+refused_by (Err refusal) cmd.Busy c g k left o r h = (refl, still c (ends (Failed Strange) c) o r refl refl refl refl)
+refused_by (Err refusal) cmd.OverLimit c g k left o r h = (refl, still c (ends (Failed Strange) c) o r refl refl refl refl)
+refused_by (Err refusal) cmd.IdsSpent c g k left o r h = (refl, still c (ends (Failed Strange) c) o r refl refl refl refl)
 
 -- the client refused it
-pub refused : (c : Course) (old new : Gathering) (k : Command) (left : List Command) (fault : CmdFault) (o r : List ℕ) → Holds c old → commands_left old.left ≡ k ∷ left → IsCmdFault (command old.client k) fault
-    → Does c (goes_on c) new o o r r (Err (error_by_command fault))
+pub refused : (c : Course) (old new : Gathering) (k : Command) (left : List Step) (fault : CmdFault) (o r : List ℕ) → Holds c old → steps_left old.left ≡ Send k ∷ left → IsCmdFault (command old.client k) fault
+    → Does c (send_next c) new o o r r (Err (error_by_command fault))
 refused c old new k left fault o r h l e =
     subst (λ (d : Course). Does c d new o o r r (Err (error_by_command fault))) (next_is c old.client k left h.client_is (sym h.left_is ∙ l))
     (refused_by (command old.client k) fault c new k left o r e)
 
-sent_one : (c : Course) (old : Gathering) (k : Command) (left : List Command) (sending : Sending) → Holds c old → commands_left old.left ≡ k ∷ left → command old.client k ≡ Ok sending → sends_by (Ok sending) k left c ≡ goes_on c
+sent_one : (c : Course) (old : Gathering) (k : Command) (left : List Step) (sending : Sending) → Holds c old → steps_left old.left ≡ Send k ∷ left → command old.client k ≡ Ok sending → sends_by (Ok sending) k left c ≡ send_next c
 sent_one c old k left sending h l e = ap (λ (a : Result Sending Refusal). sends_by a k left c) (sym e) ∙ next_is c old.client k left h.client_is (sym h.left_is ∙ l)
 
 -- its frame was appended in part
-pub sent_some : (c : Course) (old new : Gathering) (k : Command) (left : List Command) (sending : Sending) (messages : List MessageTree) (o0 o1 r : List ℕ) → Holds c old → commands_left old.left ≡ k ∷ left → command old.client k ≡ Ok sending
-    → messages ≡ client_message sending.message ∷ [] → AddsSome messages o0 o1 → Does c (goes_on c) new o0 o1 r r (Err Memory)
+pub sent_some : (c : Course) (old new : Gathering) (k : Command) (left : List Step) (sending : Sending) (messages : List MessageTree) (o0 o1 r : List ℕ) → Holds c old → steps_left old.left ≡ Send k ∷ left → command old.client k ≡ Ok sending
+    → messages ≡ client_message sending.message ∷ [] → AddsSome messages o0 o1 → Does c (send_next c) new o0 o1 r r (Err Memory)
 sent_some c old new k left sending messages o0 o1 r h l e m a =
     subst (λ (d : Course). Does c d new o0 o1 r r (Err Memory)) (sent_one c old k left sending h l e)
     (record {
@@ -191,28 +201,48 @@ sent_some c old new k left sending messages o0 o1 r h l e m a =
       lines = [];
       sent_are = refl;
       reports_are = sym (append-nil c.reports);
+      form_is = refl;
       frames = subst (λ (ms : List MessageTree). AddsSome ms o0 o1) m a;
-      are = reports_none;
+      are = reports_none c.form;
       printed = sym (append-nil r);
     })
 
 -- it was sent
-pub sent_all : (c : Course) (old : Gathering) (new : Left) (k : Command) (sending : Sending) (messages : List MessageTree) (o0 o1 r : List ℕ) → Holds c old → c.phase ≡ Open → commands_left old.left ≡ k ∷ commands_left new → command old.client k ≡ Ok sending
+pub sent_all : (c : Course) (old : Gathering) (new : RemainingCommands) (k : Command) (sending : Sending) (messages : List MessageTree) (o0 o1 r : List ℕ) → Holds c old → c.phase ≡ Open → steps_left old.left ≡ Send k ∷ steps_left new → command old.client k ≡ Ok sending
     → messages ≡ client_message sending.message ∷ [] → Adds messages o0 o1
-    → Does c (goes_on c) (record old { left = new; client = sending.client; awaits = awaited_after k }) o0 o1 r r (Ok false)
+    → Does c (send_next c) (record old { left = new; client = sending.client; awaits = awaited_after (Send k) }) o0 o1 r r (Ok false)
 sent_all c old new k sending messages o0 o1 r h opened l e m a =
-    let g = record old { left = new; client = sending.client; awaits = awaited_after k } in
-    subst (λ (d : Course). Does c d (record old { left = new; client = sending.client; awaits = awaited_after k }) o0 o1 r r (Ok false)) (sent_one c old k (commands_left new) sending h l e) (
+    let g = record old { left = new; client = sending.client; awaits = awaited_after (Send k) } in
+    subst (λ (d : Course). Does c d (record old { left = new; client = sending.client; awaits = awaited_after (Send k) }) o0 o1 r r (Ok false)) (sent_one c old k (steps_left new) sending h l e) (
       opened,
-      record { client_is = refl; left_is = refl; awaits_is = refl; counts = h.counts },
+      record { client_is = refl; form_is = h.form_is; left_is = refl; awaits_is = refl; counts = h.counts },
       record {
         messages = sending.message ∷ [];
         reports = [];
         lines = [];
         sent_are = refl;
         reports_are = sym (append-nil c.reports);
+        form_is = refl;
         frames = subst (λ (ms : List MessageTree). Adds ms o0 o1) m a;
-        are = reports_none;
-        printed = sym (append-nil r) ∙ ap (λ (x : List ℕ). r ++ x) (sym (open_text c.phase c.reports opened));
+        are = reports_none c.form;
+        printed = sym (append-nil r) ∙ ap (λ (x : List ℕ). r ++ x) (sym (open_text c.form c.phase c.reports opened));
       },
+    )
+
+-- a step that sends no command awaits a report with a tag
+pub sends_none : (step : Step) → ((k : Command) → step ≡ Send k → ⊥) → step ≡ AwaitTags
+sends_none (Send k) none = absurd (none k refl)
+sends_none AwaitTags none = refl
+
+-- a report with a tag is awaited
+pub awaits_tags : (c : Course) (old : Gathering) (new : RemainingCommands) (step : Step) (o r : List ℕ) → Holds c old → c.phase ≡ Open → steps_left old.left ≡ step ∷ steps_left new → step ≡ AwaitTags
+    → Does c (send_next c) (record old { left = new; awaits = awaited_after step }) o o r r (Ok false)
+awaits_tags c old new step o r h opened l is =
+    let next : c.left ≡ AwaitTags ∷ steps_left new = sym h.left_is ∙ l ∙ ap (λ (x : Step). x ∷ steps_left new) is in
+    let same : takes_step AwaitTags (steps_left new) c ≡ send_next c = ap (λ (ks : List Step). steps_on ks c) (sym next) in
+    let awaits : awaited_after step ≡ TaggedReport = ap awaited_after is in
+    subst (λ (d : Course). Does c d (record old { left = new; awaits = awaited_after step }) o o r r (Ok false)) same (
+      opened,
+      record { client_is = h.client_is; form_is = h.form_is; left_is = refl; awaits_is = awaits; counts = h.counts },
+      still c (takes_step AwaitTags (steps_left new) c) o r refl refl refl (open_text c.form c.phase c.reports opened),
     )

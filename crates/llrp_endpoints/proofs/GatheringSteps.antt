@@ -5,32 +5,34 @@ use Rattle.std.proofs.lemmas.List.{append-nil, map-append, length-append}
 use Rattle.llrp_tree.specs.Tree.{Tree, MessageTree}
 use Rattle.llrp_tree.specs.declared.fault.Reason.{Reason}
 use Rattle.llrp_tree.specs.declared.fault.Reason.TheVariants.{Reserved, Version, MessageType, MessageLength, Short, Value, Count, Utf8, ParamType, Misplaced, TooMany, TooDeep, ParamLength, Extra, Missing}
-use Rattle.llrp_session.specs.declared.words.Command.{Command}
-use Rattle.llrp_session.specs.declared.words.RoState.{RoState}
-use Rattle.llrp_session.specs.declared.words.Taken.{Taken}
-use Rattle.llrp_session.specs.declared.words.Taken.TheVariants.{Connected, Refused, Reply, Tags, Table, Differs, Event, Note, Kept, Closed as ConnectionEnded}
+use Rattle.llrp_session.specs.declared.types.Command.{Command}
+use Rattle.llrp_endpoints.specs.declared.course.Step.{Step}
+use Rattle.llrp_endpoints.specs.declared.course.Step.TheVariants.{Send, AwaitTags}
+use Rattle.llrp_session.specs.declared.types.RoState.{RoState}
+use Rattle.llrp_session.specs.declared.types.Taken.{Taken}
+use Rattle.llrp_session.specs.declared.types.Taken.TheVariants.{Connected, Refused, Reply, Tags, Table, Differs, Event, Note, Kept, Closed as ConnectionEnded}
 use Rattle.llrp_session.specs.declared.client.refusal.TakeFault.{TakeFault}
 use Rattle.llrp_session.specs.declared.client.refusal.TakeFault.TheVariants as tf
 use Rattle.llrp_session.specs.Calls.ClientSteps.{IsTakeFault}
 use Rattle.llrp_session.specs.ClientMachine.{Sending, Taking, command}
 use Rattle.llrp_session.specs.ClientMessages.{client_message}
 use Rattle.llrp_session.specs.Refusal.{Refusal}
-use Rattle.llrp_session.specs.Words.{ClientMessage}
-use Rattle.llrp_listing.specs.declared.fault.ToolErr.{ToolErr}
-use Rattle.llrp_listing.specs.declared.fault.ToolErr.TheVariants.{Memory, Peer, Strange, Early}
-use Rattle.llrp_endpoints.specs.declared.gathering.Awaits.{Awaits}
-use Rattle.llrp_endpoints.specs.declared.gathering.Awaits.TheVariants.{Answer, Report, End}
+use Rattle.llrp_session.specs.Contents.{ClientMessage}
+use Rattle.llrp_listing.specs.declared.outcome.ToolErr.{ToolErr}
+use Rattle.llrp_listing.specs.declared.outcome.ToolErr.TheVariants.{Memory, Peer, Strange, Early}
+use Rattle.llrp_endpoints.specs.declared.course.Awaits.{Awaits}
+use Rattle.llrp_endpoints.specs.declared.course.Awaits.TheVariants.{Answer, TaggedReport, Report, End}
 use Rattle.llrp_endpoints.specs.declared.gathering.Gathering.{Gathering}
 use Rattle.llrp_endpoints.specs.declared.summary.Summary.{Summary}
-use Rattle.llrp_endpoints.specs.declared.gathering.Phase.{Phase}
-use Rattle.llrp_endpoints.specs.declared.gathering.Phase.TheVariants.{Open, Closed, Failed}
+use Rattle.llrp_endpoints.specs.declared.course.Phase.{Phase}
+use Rattle.llrp_endpoints.specs.declared.course.Phase.TheVariants.{Open, Closed, Failed}
 use Rattle.llrp_endpoints.specs.Sending.{Adds}
 use Rattle.llrp_endpoints.specs.Calls.Sending.{AddsSome}
-use Rattle.llrp_endpoints.specs.TagLines.{AreReportLines, tags_in, tag_count, report_count, greatest_count, total_line}
-use Rattle.llrp_endpoints.specs.Gathering.{Course, ends, ended, sends_by, sends, goes_on, reported, after, after_taking, after_bad}
+use Rattle.llrp_endpoints.specs.TagLines.{AreReportLines, tags_of_reports, tag_count, report_count, greatest_count, total_line}
+use Rattle.llrp_endpoints.specs.Gathering.{Course, ends, ended, sends_by, takes_step, steps_on, send_next, reported, after, after_taking, after_bad}
 use Rattle.llrp_endpoints.specs.Calls.GatheringStands.{Holds, Moves, MovesSome}
 use Rattle.llrp_endpoints.specs.Gathering.{closing_text}
-use Rattle.llrp_endpoints.specs.Private.GatheringStands.{Does, error_by_message}
+use Rattle.llrp_endpoints.specs.Private.GatheringStands.{Does, error_by_message, leads_on}
 use Rattle.llrp_endpoints.proofs.SendingLemmas.{adds_none}
 use Rattle.llrp_endpoints.proofs.GatheringLemmas.{reports_none, reports_one, open_text, still, none_moved, does_after}
 
@@ -41,22 +43,29 @@ pub record More (c d : Course) : Type 0 where
   pub reports : List (List Tree)
   pub sent_are : d.sent ≡ c.sent ++ messages
   pub reports_are : d.reports ≡ c.reports ++ reports
+  pub form_is : d.form ≡ c.form
 
 pub no_more : (c : Course) → More c c
-no_more c = record { messages = []; reports = []; sent_are = sym (append-nil c.sent); reports_are = sym (append-nil c.reports) }
+no_more c = record { messages = []; reports = []; sent_are = sym (append-nil c.sent); reports_are = sym (append-nil c.reports); form_is = refl }
 
-sends_by_more : (step : Result Sending Refusal) (k : Command) (left : List Command) (c : Course) → More c (sends_by step k left c)
-sends_by_more (Ok sending) k left c = record { messages = sending.message ∷ []; reports = []; sent_are = refl; reports_are = sym (append-nil c.reports) }
-sends_by_more (Err refusal) k left c = record { messages = []; reports = []; sent_are = sym (append-nil c.sent); reports_are = sym (append-nil c.reports) }
+sends_by_more : (step : Result Sending Refusal) (k : Command) (left : List Step) (c : Course) → More c (sends_by step k left c)
+sends_by_more (Ok sending) k left c = record { messages = sending.message ∷ []; reports = []; sent_are = refl; reports_are = sym (append-nil c.reports); form_is = refl }
+sends_by_more (Err refusal) k left c = record { messages = []; reports = []; sent_are = sym (append-nil c.sent); reports_are = sym (append-nil c.reports); form_is = refl }
 
-sends_more : (ks : List Command) (c : Course) → More c (sends ks c)
-sends_more [] c = no_more c
-sends_more (k ∷ left) c = sends_by_more (command c.client k) k left c
+step_more : (step : Step) (left : List Step) (c : Course) → More c (takes_step step left c)
+step_more (Send k) left c = sends_by_more (command c.client k) k left c
+step_more AwaitTags left c = record { messages = []; reports = []; sent_are = sym (append-nil c.sent); reports_are = sym (append-nil c.reports); form_is = refl }
 
-reported_more : (a : Awaits) (c : Course) → More c (reported a c)
-reported_more Report c = sends_more c.left c
-reported_more Answer c = no_more c
-reported_more End c = no_more c
+steps_more : (ss : List Step) (c : Course) → More c (steps_on ss c)
+steps_more [] c = no_more c
+steps_more (step ∷ left) c = step_more step left c
+
+reported_more : (a : Awaits) (tags : List Tree) (c : Course) → More c (reported a tags c)
+reported_more Report tags c = steps_more c.left c
+reported_more TaggedReport [] c = no_more c
+reported_more TaggedReport (tag ∷ tags) c = steps_more c.left c
+reported_more Answer tags c = no_more c
+reported_more End tags c = no_more c
 
 pub more_more : (c d e : Course) → More c d → More d e → More c e
 more_more c d e p q = record {
@@ -64,35 +73,36 @@ more_more c d e p q = record {
   reports = p.reports ++ q.reports;
   sent_are = q.sent_are ∙ ap (λ (x : List ClientMessage). x ++ q.messages) p.sent_are ∙ append_assoc c.sent p.messages q.messages;
   reports_are = q.reports_are ∙ ap (λ (x : List (List Tree)). x ++ q.reports) p.reports_are ∙ append_assoc c.reports p.reports q.reports;
+  form_is = q.form_is ∙ p.form_is;
 }
 
-tags_more : (tags : List Tree) (c : Course) → More c (reported c.awaits (record c { reports = c.reports ++ tags ∷ [] }))
+tags_more : (tags : List Tree) (c : Course) → More c (reported c.awaits tags (record c { reports = c.reports ++ tags ∷ [] }))
 tags_more tags c =
     let d : Course = record c { reports = c.reports ++ tags ∷ [] } in
-    more_more c d (reported c.awaits d) (record { messages = []; reports = tags ∷ []; sent_are = sym (append-nil c.sent); reports_are = refl }) (reported_more c.awaits d)
+    more_more c d (reported c.awaits tags d) (record { messages = []; reports = tags ∷ []; sent_are = sym (append-nil c.sent); reports_are = refl; form_is = refl }) (reported_more c.awaits tags d)
 
-status_more : (fine : Bool) (status : ℕ) (c : Course) → More c (if fine then goes_on c else ends (Failed (Peer status)) c)
-status_more true status c = sends_more c.left c
-status_more false status c = record { messages = []; reports = []; sent_are = sym (append-nil c.sent); reports_are = sym (append-nil c.reports) }
+status_more : (fine : Bool) (status : ℕ) (c : Course) → More c (if fine then send_next c else ends (Failed (Peer status)) c)
+status_more true status c = steps_more c.left c
+status_more false status c = record { messages = []; reports = []; sent_are = sym (append-nil c.sent); reports_are = sym (append-nil c.reports); form_is = refl }
 
 pub after_more : (taken : Taken) (c : Course) → More c (after taken c)
-after_more Connected c = sends_more c.left c
-after_more (Refused status) c = record { messages = []; reports = []; sent_are = sym (append-nil c.sent); reports_are = sym (append-nil c.reports) }
+after_more Connected c = steps_more c.left c
+after_more (Refused status) c = record { messages = []; reports = []; sent_are = sym (append-nil c.sent); reports_are = sym (append-nil c.reports); form_is = refl }
 after_more (Reply status) c = status_more (status == 0) status c
 after_more (Tags tags) c = tags_more tags c
-after_more (Table rospecs) c = sends_more c.left c
-after_more (Differs rospecs) c = record { messages = []; reports = []; sent_are = sym (append-nil c.sent); reports_are = sym (append-nil c.reports) }
+after_more (Table rospecs) c = steps_more c.left c
+after_more (Differs rospecs) c = record { messages = []; reports = []; sent_are = sym (append-nil c.sent); reports_are = sym (append-nil c.reports); form_is = refl }
 after_more (Event id state) c = no_more c
 after_more Note c = no_more c
 after_more Kept c = no_more c
-after_more ConnectionEnded c = record { messages = []; reports = []; sent_are = sym (append-nil c.sent); reports_are = sym (append-nil c.reports) }
+after_more ConnectionEnded c = record { messages = []; reports = []; sent_are = sym (append-nil c.sent); reports_are = sym (append-nil c.reports); form_is = refl }
 
-out_of_memory : (c d : Course) (o r : List ℕ) → More c d → MovesSome c d o o r r
-out_of_memory c d o r m = none_moved c d o r m.messages m.reports m.sent_are m.reports_are
+pub out_of_memory : (c d : Course) (o r : List ℕ) → More c d → MovesSome c d o o r r
+out_of_memory c d o r m = none_moved c d o r m.messages m.reports m.sent_are m.reports_are m.form_is
 
 -- ---- reports
 
-tags_in-append : (a b : List (List Tree)) → tags_in (a ++ b) ≡ tags_in a + tags_in b
+tags_in-append : (a b : List (List Tree)) → tags_of_reports (a ++ b) ≡ tags_of_reports a + tags_of_reports b
 tags_in-append [] b = omega arith
 tags_in-append (tags ∷ a) b = let ih = tags_in-append a b in omega (arith, ih)
 
@@ -114,57 +124,73 @@ pub counted : (c : Course) (g : Gathering) (list : List Tree) (s : Summary) → 
     → Holds (record c { reports = c.reports ++ list ∷ [] }) (record g { summary = s })
 counted c g list s h a b = record {
   client_is = h.client_is;
+  form_is = h.form_is;
   left_is = h.left_is;
   awaits_is = h.awaits_is;
   counts = same_summary s _ _ (more_tags c.reports list g.summary.tags s.tags (ap (λ (x : Summary). x.tags) h.counts) a) (more_reports c.reports list g.summary.reports s.reports (ap (λ (x : Summary). x.reports) h.counts) b);
 }
 
-lines_printed : (c : Course) (tags : List Tree) (text o r : List ℕ) → c.phase ≡ Open → AreReportLines tags text → Moves c (record c { reports = c.reports ++ tags ∷ [] }) o o r (r ++ text)
+lines_printed : (c : Course) (tags : List Tree) (text o r : List ℕ) → c.phase ≡ Open → AreReportLines c.form tags text → Moves c (record c { reports = c.reports ++ tags ∷ [] }) o o r (r ++ text)
 lines_printed c tags text o r opened are = record {
   messages = [];
   reports = tags ∷ [];
   lines = text;
   sent_are = sym (append-nil c.sent);
   reports_are = refl;
+  form_is = refl;
   frames = adds_none o;
-  are = reports_one tags text are;
-  printed = ap (λ (x : List ℕ). r ++ x) (sym (append-nil text) ∙ ap (λ (x : List ℕ). text ++ x) (sym (open_text c.phase (c.reports ++ tags ∷ []) opened)));
+  are = reports_one c.form tags text are;
+  printed = ap (λ (x : List ℕ). r ++ x) (sym (append-nil text) ∙ ap (λ (x : List ℕ). text ++ x) (sym (open_text c.form c.phase (c.reports ++ tags ∷ []) opened)));
 }
 
+led_here : (a : Awaits) (tags : List Tree) (d : Course) → leads_on a tags ≡ true → send_next d ≡ reported a tags d
+led_here Report tags d e = refl
+led_here TaggedReport [] d e = cc
+led_here TaggedReport (tag ∷ tags) d e = refl
+led_here Answer tags d e = cc
+led_here End tags d e = cc
+
 -- it was awaited
-pub report_leads_on : (c : Course) (g new : Gathering) (tags : List Tree) (text o0 o1 r0 r1 : List ℕ) (answer : Result Bool ToolErr) → Holds c g → c.phase ≡ Open → g.awaits ≡ Report → AreReportLines tags text → r1 ≡ r0 ++ text
-    → Does (record c { reports = c.reports ++ tags ∷ [] }) (goes_on (record c { reports = c.reports ++ tags ∷ [] })) new o0 o1 r1 r1 answer → Does c (after (Tags tags) c) new o0 o1 r0 r1 answer
+pub report_leads_on : (c : Course) (g new : Gathering) (tags : List Tree) (text o0 o1 r0 r1 : List ℕ) (answer : Result Bool ToolErr) → Holds c g → c.phase ≡ Open → leads_on g.awaits tags ≡ true → AreReportLines c.form tags text → r1 ≡ r0 ++ text
+    → Does (record c { reports = c.reports ++ tags ∷ [] }) (send_next (record c { reports = c.reports ++ tags ∷ [] })) new o0 o1 r1 r1 answer → Does c (after (Tags tags) c) new o0 o1 r0 r1 answer
 report_leads_on c g new tags text o0 o1 r0 r1 answer h opened w are printed does =
     let d : Course = record c { reports = c.reports ++ tags ∷ [] } in
-    let same : goes_on d ≡ reported c.awaits d = ap (λ (a : Awaits). reported a d) (sym w ∙ h.awaits_is) in
+    let same : send_next d ≡ reported c.awaits tags d = led_here g.awaits tags d w ∙ ap (λ (a : Awaits). reported a tags d) h.awaits_is in
     let moved : Moves c d o0 o0 r0 r1 = subst (λ (x : List ℕ). Moves c d o0 o0 r0 x) (sym printed) (lines_printed c tags text o0 r0 opened are) in
-    subst (λ (e : Course). Does c e new o0 o1 r0 r1 answer) same (does_after c d (goes_on d) new o0 o0 o1 r0 r1 r1 answer moved opened does)
+    subst (λ (e : Course). Does c e new o0 o1 r0 r1 answer) same (does_after c d (send_next d) new o0 o0 o1 r0 r1 r1 answer moved opened does)
 
-held : (a : Awaits) (d : Course) → (a ≡ Answer) ⊎ (a ≡ End) → d ≡ reported a d
-held a d (inl e) = rw e refl
-held a d (inr e) = rw e refl
+held : (a : Awaits) (tags : List Tree) (d : Course) → leads_on a tags ≡ false → d ≡ reported a tags d
+held Report tags d e = cc
+held TaggedReport [] d e = refl
+held TaggedReport (tag ∷ tags) d e = cc
+held Answer tags d e = refl
+held End tags d e = refl
 
 -- it was not awaited
-pub report_passes : (c : Course) (g new : Gathering) (tags : List Tree) (text o r0 r1 : List ℕ) → Holds c g → c.phase ≡ Open → (g.awaits ≡ Answer) ⊎ (g.awaits ≡ End) → AreReportLines tags text → r1 ≡ r0 ++ text
+pub report_passes : (c : Course) (g new : Gathering) (tags : List Tree) (text o r0 r1 : List ℕ) → Holds c g → c.phase ≡ Open → leads_on g.awaits tags ≡ false → AreReportLines c.form tags text → r1 ≡ r0 ++ text
     → Holds (record c { reports = c.reports ++ tags ∷ [] }) new → Does c (after (Tags tags) c) new o o r0 r1 (Ok false)
 report_passes c g new tags text o r0 r1 h opened w are printed holds =
     let d : Course = record c { reports = c.reports ++ tags ∷ [] } in
-    let same : d ≡ reported c.awaits d = held g.awaits d w ∙ ap (λ (a : Awaits). reported a d) h.awaits_is in
+    let same : d ≡ reported c.awaits tags d = held g.awaits tags d w ∙ ap (λ (a : Awaits). reported a tags d) h.awaits_is in
     let moved : Moves c d o o r0 r1 = subst (λ (x : List ℕ). Moves c d o o r0 x) (sym printed) (lines_printed c tags text o r0 opened are) in
     subst (λ (e : Course). Does c e new o o r0 r1 (Ok false)) same (opened, holds, moved)
 
 -- ---- the end of the connection
 
-early_there : (a : Awaits) → (a ≡ Answer) ⊎ (a ≡ Report) → ended a ≡ Failed Early
-early_there a (inl e) = rw e refl
-early_there a (inr e) = rw e refl
+abbrev pub IsEarlyHere : Awaits → Type 0
+IsEarlyHere a = (a ≡ Answer) ⊎ ((a ≡ TaggedReport) ⊎ (a ≡ Report))
 
-pub ended_early : (c : Course) (g : Gathering) (o r : List ℕ) → Holds c g → (g.awaits ≡ Answer) ⊎ (g.awaits ≡ Report) → Does c (after ConnectionEnded c) g o o r r (Err Early)
+early_there : (a : Awaits) → IsEarlyHere a → ended a ≡ Failed Early
+early_there a (inl e) = rw e refl
+early_there a (inr (inl e)) = rw e refl
+early_there a (inr (inr e)) = rw e refl
+
+pub ended_early : (c : Course) (g : Gathering) (o r : List ℕ) → Holds c g → IsEarlyHere g.awaits → Does c (after ConnectionEnded c) g o o r r (Err Early)
 ended_early c g o r h w =
     let e : ended c.awaits ≡ Failed Early = ap ended (sym h.awaits_is) ∙ early_there g.awaits w in
-    (e, still c (ends (ended c.awaits) c) o r refl refl (ap (λ (p : Phase). closing_text p c.reports) e))
+    (e, still c (ends (ended c.awaits) c) o r refl refl refl (ap (λ (p : Phase). closing_text c.form p c.reports) e))
 
-pub ended_fine : (c : Course) (g : Gathering) (text o r0 r1 : List ℕ) → Holds c g → g.awaits ≡ End → text ≡ total_line c.reports → r1 ≡ r0 ++ text → Does c (after ConnectionEnded c) g o o r0 r1 (Ok true)
+pub ended_fine : (c : Course) (g : Gathering) (text o r0 r1 : List ℕ) → Holds c g → g.awaits ≡ End → text ≡ total_line c.form c.reports → r1 ≡ r0 ++ text → Does c (after ConnectionEnded c) g o o r0 r1 (Ok true)
 ended_fine c g text o r0 r1 h w line printed =
     let e : ended c.awaits ≡ Closed = ap ended (sym h.awaits_is ∙ w) in (
       e,
@@ -175,9 +201,10 @@ ended_fine c g text o r0 r1 h w line printed =
         lines = [];
         sent_are = sym (append-nil c.sent);
         reports_are = sym (append-nil c.reports);
+        form_is = refl;
         frames = adds_none o;
-        are = reports_none;
-        printed = printed ∙ ap (λ (x : List ℕ). r0 ++ x) (line ∙ ap (λ (p : Phase). closing_text p c.reports) (sym e));
+        are = reports_none c.form;
+        printed = printed ∙ ap (λ (x : List ℕ). r0 ++ x) (line ∙ ap (λ (p : Phase). closing_text c.form p c.reports) (sym e));
       },
     )
 
@@ -188,7 +215,7 @@ no_last_line c g o r = out_of_memory c (after ConnectionEnded c) o r (after_more
 
 -- it is passed over
 pub passed : (c : Course) (g : Gathering) (o r : List ℕ) → Holds c g → c.phase ≡ Open → Does c c g o o r r (Ok false)
-passed c g o r h opened = (opened, h, still c c o r refl refl (open_text c.phase c.reports opened))
+passed c g o r h opened = (opened, h, still c c o r refl refl refl (open_text c.form c.phase c.reports opened))
 
 pub passes : (taken : Taken) (c : Course) → ((id : ℕ) × (state : RoState) × (taken ≡ Event id state)) ⊎ ((taken ≡ Note) ⊎ (taken ≡ Kept)) → c ≡ after taken c
 passes taken c (inl e) = rw e.2 refl
@@ -196,10 +223,10 @@ passes taken c (inr (inl e)) = rw e refl
 passes taken c (inr (inr e)) = rw e refl
 
 pub peer : (c : Course) (g : Gathering) (status : ℕ) (o r : List ℕ) → Does c (ends (Failed (Peer status)) c) g o o r r (Err (Peer status))
-peer c g status o r = (refl, still c (ends (Failed (Peer status)) c) o r refl refl refl)
+peer c g status o r = (refl, still c (ends (Failed (Peer status)) c) o r refl refl refl refl)
 
 pub strange : (c : Course) (g : Gathering) (o r : List ℕ) → Does c (ends (Failed Strange) c) g o o r r (Err Strange)
-strange c g o r = (refl, still c (ends (Failed Strange) c) o r refl refl refl)
+strange c g o r = (refl, still c (ends (Failed Strange) c) o r refl refl refl refl)
 
 -- ---- messages
 
@@ -207,7 +234,7 @@ refused_by : (step : Result Taking Refusal) (fault : TakeFault) (c : Course) (g 
 refused_by (Ok taking) tf.Memory c g o r h =
     let d : Course = record c { client = taking.client; sent = c.sent ++ taking.sent } in
     out_of_memory c (after taking.taken d) o r
-    (more_more c d (after taking.taken d) (record { messages = taking.sent; reports = []; sent_are = refl; reports_are = sym (append-nil c.reports) }) (after_more taking.taken d))
+    (more_more c d (after taking.taken d) (record { messages = taking.sent; reports = []; sent_are = refl; reports_are = sym (append-nil c.reports); form_is = refl }) (after_more taking.taken d))
 refused_by (Ok taking) tf.Closed c g o r h = cc
 refused_by (Ok taking) tf.Unexpected c g o r h = cc
 refused_by (Err refusal) tf.Memory c g o r h = cc
@@ -237,8 +264,9 @@ answered_some c g step taking messages o0 o1 r e m a =
       lines = [];
       sent_are = more.sent_are ∙ append_assoc c.sent taking.sent more.messages;
       reports_are = more.reports_are;
+      form_is = more.form_is;
       frames = frames;
-      are = reports_none;
+      are = reports_none c.form;
       printed = sym (append-nil r);
     })
 
@@ -255,14 +283,15 @@ answered_all c new step taking messages o0 o1 o2 r0 r1 answer opened e m a does 
       lines = [];
       sent_are = refl;
       reports_are = sym (append-nil c.reports);
+      form_is = refl;
       frames = subst (λ (ms : List MessageTree). Adds ms o0 o1) m a;
-      are = reports_none;
-      printed = sym (append-nil r0) ∙ ap (λ (x : List ℕ). r0 ++ x) (sym (open_text c.phase c.reports opened));
+      are = reports_none c.form;
+      printed = sym (append-nil r0) ∙ ap (λ (x : List ℕ). r0 ++ x) (sym (open_text c.form c.phase c.reports opened));
     } in
     subst (λ (x : Result Taking Refusal). Does c (after_taking x c) new o0 o2 r0 r1 answer) (sym e) (does_after c d (after taking.taken d) new o0 o1 o2 r0 r0 r1 answer moved opened does)
 
 pub taken_in : (c : Course) (g : Gathering) (taking : Taking) → Holds c g → Holds (record c { client = taking.client; sent = c.sent ++ taking.sent }) (record g { client = taking.client })
-taken_in c g taking h = record { client_is = refl; left_is = h.left_is; awaits_is = h.awaits_is; counts = h.counts }
+taken_in c g taking h = record { client_is = refl; form_is = h.form_is; left_is = h.left_is; awaits_is = h.awaits_is; counts = h.counts }
 
 -- ---- frames that are no messages
 

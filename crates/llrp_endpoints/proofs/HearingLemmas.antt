@@ -3,7 +3,7 @@ use Rattle.std.proofs.Common.{◌≡◌, ℕ, ◌+◌, ◌-◌, ◌≤◌, List,
 use Rattle.std.proofs.lemmas.List.{append-nil}
 use Rattle.llrp_listing.specs.Copying.{WasGiven}
 use Rattle.llrp_stream.specs.Device.{SourceLog}
-use Rattle.llrp_endpoints.specs.Private.EndsStand.{Given}
+use Rattle.llrp_listing.specs.Calls.Copying.{Given}
 
 -- Of this many bytes these were read after others, and this many are left.
 pub record Hearing (r0 r1 : SourceLog) (read bytes : List ℕ) (count left reads1 : ℕ) : Type 0 where

@@ -1,3 +1,10 @@
+pub mod GeneralAsked
+pub mod GeneralFeeds
+pub mod GeneralFronts
+pub mod GeneralGiving
+pub mod GeneralHeld
+pub mod GeneralHolding
+pub mod GeneralParts
 pub mod ActingLemmas
 pub mod ByteRuns
 pub mod ByteSchedules
@@ -6,10 +13,15 @@ pub mod FrameFronts
 pub mod GatheringFeeds
 pub mod GatheringLemmas
 pub mod GatheringSteps
+pub mod HeardFaults
+pub mod HeardLemmas
+pub mod HeardParts
 pub mod HearingLemmas
 pub mod InventoryLemmas
 pub mod LoopLemmas
+pub mod ObjectLemmas
 pub mod OneServing
+pub mod OwnParts
 pub mod PlanAnswers
 pub mod PlanCanEnd
 pub mod PlanClients
@@ -23,6 +35,7 @@ pub mod PlanMeanings
 pub mod PlanRefusals
 pub mod PlanSteps
 pub mod PlanTakings
+pub mod PlanTextLemmas
 pub mod ReadBack
 pub mod ReaderSideLemmas
 pub mod ScriptDeciding
@@ -33,8 +46,10 @@ pub mod ScriptUnique
 pub mod SendingLemmas
 pub mod SentWithinLimit
 pub mod ServeLemmas
+pub mod ServingBegins
 pub mod ServingEvents
 pub mod ServingPieces
+pub mod ServingServer
 pub mod ServingSteps
 pub mod TagLineLemmas
 pub mod WaysOfMessages

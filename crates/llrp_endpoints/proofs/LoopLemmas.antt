@@ -6,23 +6,25 @@ use Rattle.llrp_stream.specs.Device.{SourceLog, SinkLog, IsFreshSource, Wrote, W
 use Rattle.llrp_session.specs.ClientMessages.{client_message}
 use Rattle.llrp_endpoints.specs.declared.both_ends.client_side.ClientSide.{ClientSide}
 use Rattle.llrp_endpoints.specs.declared.both_ends.reader_side.ReaderSide.{ReaderSide}
-use Rattle.llrp_listing.specs.declared.fault.ToolErr.{ToolErr}
-use Rattle.llrp_listing.specs.declared.fault.ToolErr.TheVariants.{Listing, Script, Hex, Read, Write, Bound, Broken, Memory, Peer, Strange, Early}
+use Rattle.llrp_listing.specs.declared.outcome.ToolErr.{ToolErr}
+use Rattle.llrp_listing.specs.declared.outcome.ToolErr.TheVariants.{Listing, Script, Hex, Read, Write, Bound, Broken, Memory, Peer, Strange, Early}
 use Rattle.llrp_endpoints.specs.declared.summary.Summary.{Summary}
 use Rattle.llrp_listing.specs.Copying.{ReadAll, WasGiven}
-use Rattle.llrp_endpoints.specs.Private.EndsStand.{WritesPiece, Given, HasRoom, ReaderStands, ReaderStops, ReaderHears, ClientStands, ClientStops, ClientHears}
+use Rattle.llrp_listing.specs.Calls.Copying.{Given}
+use Rattle.llrp_endpoints.specs.Private.EndsStand.{WritesPiece, HasRoom, ReaderStands, ReaderStops, ReaderHears, ClientStands, ClientStops, ClientHears}
 use Rattle.llrp_endpoints.specs.Calls.GatheringStands.{Counts}
-use Rattle.llrp_endpoints.specs.RunLoop.{Ends, Way, Devices, Traffic, Passed, Fine, GivenAndFailed, GivenByMost, ReaderGoes, ClientAwaits, RunsLoop}
+use Rattle.llrp_endpoints.specs.RunLoop.{BothEnds, DeviceWay, Devices, Traffic, Passed, Fine, GivenAndFailed, GivenByMost, ReaderGoes, ClientAwaits, RunsLoop}
 use Rattle.llrp_endpoints.specs.RunServe.{BeginsFrames}
 use Rattle.llrp_endpoints.specs.Sending.{AreFrames}
 use Rattle.llrp_endpoints.specs.TagLines.{summary_of}
 use Rattle.llrp_endpoints.proofs.ClientSideLemmas.{client_awaits}
-use Rattle.llrp_listing.proofs.DeviceLemmas.{gave_nothing, wrote_nothing, wrote_more, wrote_then_failed}
+use Rattle.llrp_stream.proofs.WritingLemmas.{wrote_nothing, wrote_more, wrote_then_failed}
+use Rattle.llrp_listing.proofs.DeviceLemmas.{gave_nothing}
 use Rattle.llrp_endpoints.proofs.HearingLemmas.{was_given}
 use Rattle.llrp_endpoints.proofs.ReaderSideLemmas.{reader_goes}
 
 -- How far both are, where this many bytes were written down and not read yet, and this many up.
-pub record State (e : Ends) (o : Devices) (down up : Way) (report : SinkLog) (r : ReaderSide) (c : ClientSide) (below above : ℕ) : Type 0 where
+pub record State (e : BothEnds) (o : Devices) (down up : DeviceWay) (report : SinkLog) (r : ReaderSide) (c : ClientSide) (below above : ℕ) : Type 0 where
   pub down_written : List ℕ
   pub down_read : List ℕ
   pub up_written : List ℕ
@@ -36,13 +38,13 @@ pub record State (e : Ends) (o : Devices) (down up : Way) (report : SinkLog) (r 
   pub down_unread : length down_written ≡ length down_read + below
   pub up_unread : length up_written ≡ length up_read + above
 
-abbrev pub down_of : (e : Ends) (o : Devices) (down up : Way) (report : SinkLog) (r : ReaderSide) (c : ClientSide) (below above : ℕ) → State e o down up report r c below above → Traffic
+abbrev pub down_of : (e : BothEnds) (o : Devices) (down up : DeviceWay) (report : SinkLog) (r : ReaderSide) (c : ClientSide) (below above : ℕ) → State e o down up report r c below above → Traffic
 down_of e o down up report r c below above s = record { written = s.down_written; unwritten = r.said.items; read = s.down_read }
 
-abbrev pub up_of : (e : Ends) (o : Devices) (down up : Way) (report : SinkLog) (r : ReaderSide) (c : ClientSide) (below above : ℕ) → State e o down up report r c below above → Traffic
+abbrev pub up_of : (e : BothEnds) (o : Devices) (down up : DeviceWay) (report : SinkLog) (r : ReaderSide) (c : ClientSide) (below above : ℕ) → State e o down up report r c below above → Traffic
 up_of e o down up report r c below above s = record { written = s.up_written; unwritten = c.said.items; read = s.up_read }
 
-pub begins : (e : Ends) (o : Devices) (r : ReaderSide) (c : ClientSide) → ReaderStands e [] [] r.serving r.said.items → ClientStands e [] [] o.report o.report c.gathering c.said.items c.lines.items → r.reads ≡ 0 → c.reads ≡ 0
+pub begins : (e : BothEnds) (o : Devices) (r : ReaderSide) (c : ClientSide) → ReaderStands e [] [] r.serving r.said.items → ClientStands e [] [] o.report o.report c.gathering c.said.items c.lines.items → r.reads ≡ 0 → c.reads ≡ 0
     → State e o o.down o.up o.report r c 0 0
 begins e o r c reader client none_up none_down = record {
   down_written = [];
@@ -67,12 +69,12 @@ fresh_room log reads f none =
     record { few = omega arith; reads_fit = omega arith; ends_fit = omega arith; failures_fit = omega arith }
 
 -- nothing failed on a way
-fine : (old new : Way) (reads : ℕ) (bytes : Traffic) → Wrote old.sink new.sink bytes.written → Given old.source new.source reads bytes.read → length bytes.read ≤ length bytes.written → length bytes.written ≤ length bytes.read + 4096 → Fine old new bytes
+fine : (old new : DeviceWay) (reads : ℕ) (bytes : Traffic) → Wrote old.sink new.sink bytes.written → Given old.source new.source reads bytes.read → length bytes.read ≤ length bytes.written → length bytes.written ≤ length bytes.read + 4096 → Fine old new bytes
 fine old new reads bytes w g more later = record { wrote = w; gave = was_given old.source new.source reads bytes.read g; no_more = more; no_later = later }
 
 -- ---- writes
 
-pub writes_down : (e : Ends) (o : Devices) (down up : Way) (report : SinkLog) (r r' : ReaderSide) (c : ClientSide) (sink : SinkLog) (n : ℕ) → State e o down up report r c 0 0 → WritesPiece r.said.items r'.said.items down.sink sink n → r'.serving ≡ r.serving → r'.reads ≡ r.reads
+pub writes_down : (e : BothEnds) (o : Devices) (down up : DeviceWay) (report : SinkLog) (r r' : ReaderSide) (c : ClientSide) (sink : SinkLog) (n : ℕ) → State e o down up report r c 0 0 → WritesPiece r.said.items r'.said.items down.sink sink n → r'.serving ≡ r.serving → r'.reads ≡ r.reads
     → State e o (record { sink = sink; source = down.source }) up report r' c n 0
 writes_down e o down up report r r' c sink n s w serving reads =
     let before = s.down_unread in
@@ -97,7 +99,7 @@ writes_down e o down up report r r' c sink n s w serving reads =
       up_unread = s.up_unread;
     }
 
-pub writes_up : (e : Ends) (o : Devices) (down up : Way) (report : SinkLog) (r : ReaderSide) (c c' : ClientSide) (sink : SinkLog) (n : ℕ) → State e o down up report r c 0 0 → WritesPiece c.said.items c'.said.items up.sink sink n
+pub writes_up : (e : BothEnds) (o : Devices) (down up : DeviceWay) (report : SinkLog) (r : ReaderSide) (c c' : ClientSide) (sink : SinkLog) (n : ℕ) → State e o down up report r c 0 0 → WritesPiece c.said.items c'.said.items up.sink sink n
     → c'.gathering ≡ c.gathering → c'.lines.items ≡ c.lines.items → c'.reads ≡ c.reads → State e o down (record { sink = sink; source = up.source }) report r c' 0 n
 writes_up e o down up report r c c' sink n s w gathering lines reads =
     let before = s.up_unread in
@@ -134,8 +136,8 @@ writes_up e o down up report r c c' sink n s w gathering lines reads =
 
 -- ---- reads
 
-pub hears_down : (e : Ends) (o : Devices) (down up : Way) (report report' : SinkLog) (r : ReaderSide) (c c' : ClientSide) (source : SourceLog) (n : ℕ) (b : Bool) → b ≡ false → (s : State e o down up report r c n 0)
-    → ((e : Ends) (s0 : SourceLog) (p0 : SinkLog) (below above : Traffic) → ClientStands e above.written below.read p0 report c.gathering c.said.items c.lines.items → Given s0 down.source c.reads below.read → ClientHears e s0 source p0 report' below above n c' (Ok b)) → State e o (record { sink = down.sink; source = source }) up report' r c' 0 0
+pub hears_down : (e : BothEnds) (o : Devices) (down up : DeviceWay) (report report' : SinkLog) (r : ReaderSide) (c c' : ClientSide) (source : SourceLog) (n : ℕ) (b : Bool) → b ≡ false → (s : State e o down up report r c n 0)
+    → ((e : BothEnds) (s0 : SourceLog) (p0 : SinkLog) (below above : Traffic) → ClientStands e above.written below.read p0 report c.gathering c.said.items c.lines.items → Given s0 down.source c.reads below.read → ClientHears e s0 source p0 report' below above n c' (Ok b)) → State e o (record { sink = down.sink; source = source }) up report' r c' 0 0
 hears_down e o down up report report' r c c' source n true is s hears = absurd cc
 hears_down e o down up report report' r c c' source n false is s hears =
     let h = hears e o.down.source o.report (down_of e o down up report r c n 0 s) (up_of e o down up report r c n 0 s) s.client s.down_given in
@@ -157,8 +159,8 @@ hears_down e o down up report report' r c c' source n false is s hears =
       up_unread = s.up_unread;
     }
 
-pub hears_up : (e : Ends) (o : Devices) (down up : Way) (report : SinkLog) (r r' : ReaderSide) (c : ClientSide) (source : SourceLog) (n : ℕ) (u : Unit {0}) (s : State e o down up report r c 0 n)
-    → ((e : Ends) (s0 : SourceLog) (below above : Traffic) → ReaderStands e below.written above.read r.serving r.said.items → Given s0 up.source r.reads above.read → ReaderHears e s0 source below above n r' (Ok u)) → State e o down (record { sink = up.sink; source = source }) report r' c 0 0
+pub hears_up : (e : BothEnds) (o : Devices) (down up : DeviceWay) (report : SinkLog) (r r' : ReaderSide) (c : ClientSide) (source : SourceLog) (n : ℕ) (u : Unit {0}) (s : State e o down up report r c 0 n)
+    → ((e : BothEnds) (s0 : SourceLog) (below above : Traffic) → ReaderStands e below.written above.read r.serving r.said.items → Given s0 up.source r.reads above.read → ReaderHears e s0 source below above n r' (Ok u)) → State e o down (record { sink = up.sink; source = source }) report r' c 0 0
 hears_up e o down up report r r' c source n u s hears =
     let h = hears e o.up.source (down_of e o down up report r c 0 n s) (up_of e o down up report r c 0 n s) s.reader s.up_given in
     let before = s.up_unread in
@@ -182,7 +184,7 @@ hears_up e o down up report r r' c source n u s hears =
 -- ---- ends
 
 -- memory ran out at the start
-pub not_started : (e : Ends) (o : Devices) (c : ClientSide) (text : List ℕ) → ClientStands e [] [] o.report o.report c.gathering c.said.items c.lines.items → BeginsFrames e.reader e.entries [] text → (down up : Traffic) × RunsLoop e o o down up (Err Memory)
+pub not_started : (e : BothEnds) (o : Devices) (c : ClientSide) (text : List ℕ) → ClientStands e [] [] o.report o.report c.gathering c.said.items c.lines.items → BeginsFrames e.reader e.entries [] text → (down up : Traffic) × RunsLoop e o o down up (Err Memory)
 not_started e o c text client begins =
     let down : Traffic = record { written = []; unwritten = text; read = [] } in
     let up : Traffic = record { written = []; unwritten = c.said.items; read = [] } in (
@@ -196,7 +198,7 @@ not_started e o c text client begins =
     )
 
 -- neither end has bytes to send
-pub silent : (e : Ends) (o : Devices) (down up : Way) (report : SinkLog) (r : ReaderSide) (c : ClientSide) → State e o down up report r c 0 0 → r.said.items ≡ [] → c.said.items ≡ [] → (below above : Traffic) × RunsLoop e o (record { down = down; up = up; report = report }) below above (Err Early)
+pub silent : (e : BothEnds) (o : Devices) (down up : DeviceWay) (report : SinkLog) (r : ReaderSide) (c : ClientSide) → State e o down up report r c 0 0 → r.said.items ≡ [] → c.said.items ≡ [] → (below above : Traffic) × RunsLoop e o (record { down = down; up = up; report = report }) below above (Err Early)
 silent e o down up report r c s none_down none_up =
     let below = down_of e o down up report r c 0 0 s in
     let above = up_of e o down up report r c 0 0 s in
@@ -214,7 +216,7 @@ silent e o down up report r c s none_down none_up =
     )
 
 -- a write failed
-pub down_unwritten : (e : Ends) (o : Devices) (down up : Way) (report : SinkLog) (r : ReaderSide) (c : ClientSide) (sink : SinkLog) → State e o down up report r c 0 0 → WroteAndFailed down.sink sink []
+pub down_unwritten : (e : BothEnds) (o : Devices) (down up : DeviceWay) (report : SinkLog) (r : ReaderSide) (c : ClientSide) (sink : SinkLog) → State e o down up report r c 0 0 → WroteAndFailed down.sink sink []
     → (below above : Traffic) × RunsLoop e o (record { down = record { sink = sink; source = down.source }; up = up; report = report }) below above (Err Write)
 down_unwritten e o down up report r c sink s w =
     let below = down_of e o down up report r c 0 0 s in
@@ -238,7 +240,7 @@ down_unwritten e o down up report r c sink s w =
       ),
     )
 
-pub up_unwritten : (e : Ends) (o : Devices) (down up : Way) (report : SinkLog) (r : ReaderSide) (c : ClientSide) (sink : SinkLog) → State e o down up report r c 0 0 → WroteAndFailed up.sink sink []
+pub up_unwritten : (e : BothEnds) (o : Devices) (down up : DeviceWay) (report : SinkLog) (r : ReaderSide) (c : ClientSide) (sink : SinkLog) → State e o down up report r c 0 0 → WroteAndFailed up.sink sink []
     → (below above : Traffic) × RunsLoop e o (record { down = down; up = record { sink = sink; source = up.source }; report = report }) below above (Err Write)
 up_unwritten e o down up report r c sink s w =
     let below = down_of e o down up report r c 0 0 s in
@@ -263,11 +265,11 @@ up_unwritten e o down up report r c sink s w =
     )
 
 -- how the reads of a way ended
-passed : (old new : Way) (bytes : Traffic) → Wrote old.sink new.sink bytes.written → length bytes.read ≤ length bytes.written → length bytes.written ≤ length bytes.read + 4096
+passed : (old new : DeviceWay) (bytes : Traffic) → Wrote old.sink new.sink bytes.written → length bytes.read ≤ length bytes.written → length bytes.written ≤ length bytes.read + 4096
     → (Reads : SourceLog → SourceLog → List ℕ → Type 0) → Reads old.source new.source bytes.read → Passed Wrote Reads old new bytes
 passed old new bytes w more later Reads given = record { wrote = w; gave = given; no_more = more; no_later = later }
 
-client_ends_loop : (e : Ends) (o n : Devices) (below above : Traffic) (error : ToolErr) → ((Reads : SourceLog → SourceLog → List ℕ → Type 0) → Reads o.down.source n.down.source below.read → Passed Wrote Reads o.down n.down below) → Fine o.up n.up above
+client_ends_loop : (e : BothEnds) (o n : Devices) (below above : Traffic) (error : ToolErr) → ((Reads : SourceLog → SourceLog → List ℕ → Type 0) → Reads o.down.source n.down.source below.read → Passed Wrote Reads o.down n.down below) → Fine o.up n.up above
     → ReaderGoes e below above → ClientStops e o.down.source n.down.source o.report n.report below above error → RunsLoop e o n below above (Err error)
 client_ends_loop e o n below above (Peer status) down up goes s = ((down WasGiven s.0, up), goes, s.1)
 client_ends_loop e o n below above Strange down up goes s = ((down WasGiven s.0, up), goes, s.1)
@@ -282,7 +284,7 @@ client_ends_loop e o n below above (Listing line reason) down up goes s = absurd
 client_ends_loop e o n below above (Script line) down up goes s = absurd s
 client_ends_loop e o n below above Hex down up goes s = absurd s
 
-reader_ends_loop : (e : Ends) (o n : Devices) (below above : Traffic) (error : ToolErr) → Fine o.down n.down below → ((Reads : SourceLog → SourceLog → List ℕ → Type 0) → Reads o.up.source n.up.source above.read → Passed Wrote Reads o.up n.up above)
+reader_ends_loop : (e : BothEnds) (o n : Devices) (below above : Traffic) (error : ToolErr) → Fine o.down n.down below → ((Reads : SourceLog → SourceLog → List ℕ → Type 0) → Reads o.up.source n.up.source above.read → Passed Wrote Reads o.up n.up above)
     → ClientAwaits e below above o.report n.report → ReaderStops e o.up.source n.up.source below above error → RunsLoop e o n below above (Err error)
 reader_ends_loop e o n below above Broken down up client s = inr ((down, up WasGiven s.0), s.1, client)
 reader_ends_loop e o n below above Memory down up client s = inr ((down, up WasGiven s.0), s.1, client)
@@ -297,14 +299,14 @@ reader_ends_loop e o n below above (Script line) down up client s = absurd s
 reader_ends_loop e o n below above Hex down up client s = absurd s
 
 -- the client stopped
-pub client_stopped : (e : Ends) (o : Devices) (down up : Way) (report report' : SinkLog) (r : ReaderSide) (c c' : ClientSide) (source : SourceLog) (n : ℕ) (error : ToolErr) (s : State e o down up report r c n 0) → n ≤ 4096
-    → ((e : Ends) (s0 : SourceLog) (p0 : SinkLog) (below above : Traffic) → ClientStands e above.written below.read p0 report c.gathering c.said.items c.lines.items → Given s0 down.source c.reads below.read → ClientHears e s0 source p0 report' below above n c' (Err error))
+pub client_stopped : (e : BothEnds) (o : Devices) (down up : DeviceWay) (report report' : SinkLog) (r : ReaderSide) (c c' : ClientSide) (source : SourceLog) (n : ℕ) (error : ToolErr) (s : State e o down up report r c n 0) → n ≤ 4096
+    → ((e : BothEnds) (s0 : SourceLog) (p0 : SinkLog) (below above : Traffic) → ClientStands e above.written below.read p0 report c.gathering c.said.items c.lines.items → Given s0 down.source c.reads below.read → ClientHears e s0 source p0 report' below above n c' (Err error))
     → (below above : Traffic) × RunsLoop e o (record { down = record { sink = down.sink; source = source }; up = up; report = report' }) below above (Err error)
 client_stopped e o down up report report' r c c' source n error s a_piece hears =
     let h = hears e o.down.source o.report (down_of e o down up report r c n 0 s) (up_of e o down up report r c n 0 s) s.client s.down_given in
     let below : Traffic = record { written = s.down_written; unwritten = r.said.items; read = s.down_read ++ h.0 } in
     let above : Traffic = record { written = s.up_written; unwritten = c'.said.items; read = s.up_read } in
-    let new : Way = record { sink = down.sink; source = source } in
+    let new : DeviceWay = record { sink = down.sink; source = source } in
     let both = length-append s.down_read h.0 in
     let few = h.1 in
     let down_unread = s.down_unread in
@@ -316,15 +318,15 @@ client_stopped e o down up report report' r c c' source n error s a_piece hears 
     )
 
 -- the client closed the connection as planned
-pub client_closed : (e : Ends) (o : Devices) (down up : Way) (report report' : SinkLog) (r : ReaderSide) (c c' : ClientSide) (source : SourceLog) (n : ℕ) (summary : Summary) (b : Bool) → b ≡ true → (s : State e o down up report r c n 0) → n ≤ 4096
-    → ((e : Ends) (s0 : SourceLog) (p0 : SinkLog) (below above : Traffic) → ClientStands e above.written below.read p0 report c.gathering c.said.items c.lines.items → Given s0 down.source c.reads below.read → ClientHears e s0 source p0 report' below above n c' (Ok b)) → ((reports : List (List Tree)) → Counts reports c'.gathering → summary ≡ summary_of reports)
+pub client_closed : (e : BothEnds) (o : Devices) (down up : DeviceWay) (report report' : SinkLog) (r : ReaderSide) (c c' : ClientSide) (source : SourceLog) (n : ℕ) (summary : Summary) (b : Bool) → b ≡ true → (s : State e o down up report r c n 0) → n ≤ 4096
+    → ((e : BothEnds) (s0 : SourceLog) (p0 : SinkLog) (below above : Traffic) → ClientStands e above.written below.read p0 report c.gathering c.said.items c.lines.items → Given s0 down.source c.reads below.read → ClientHears e s0 source p0 report' below above n c' (Ok b)) → ((reports : List (List Tree)) → Counts reports c'.gathering → summary ≡ summary_of reports)
     → (below above : Traffic) × RunsLoop e o (record { down = record { sink = down.sink; source = source }; up = up; report = report' }) below above (Ok summary)
 client_closed e o down up report report' r c c' source n summary false is s a_piece hears told = absurd cc
 client_closed e o down up report report' r c c' source n summary true is s a_piece hears told =
     let h = hears e o.down.source o.report (down_of e o down up report r c n 0 s) (up_of e o down up report r c n 0 s) s.client s.down_given in
     let below : Traffic = record { written = s.down_written; unwritten = r.said.items; read = s.down_read ++ h.0 } in
     let above : Traffic = record { written = s.up_written; unwritten = c'.said.items; read = s.up_read } in
-    let new : Way = record { sink = down.sink; source = source } in
+    let new : DeviceWay = record { sink = down.sink; source = source } in
     let both = length-append s.down_read h.0 in
     let few = h.1 in
     let down_unread = s.down_unread in
@@ -335,14 +337,14 @@ client_closed e o down up report report' r c c' source n summary true is s a_pie
     )
 
 -- the reader stopped
-pub reader_stopped : (e : Ends) (o : Devices) (down up : Way) (report : SinkLog) (r r' : ReaderSide) (c : ClientSide) (source : SourceLog) (n : ℕ) (error : ToolErr) (s : State e o down up report r c 0 n) → n ≤ 4096
-    → ((e : Ends) (s0 : SourceLog) (below above : Traffic) → ReaderStands e below.written above.read r.serving r.said.items → Given s0 up.source r.reads above.read → ReaderHears e s0 source below above n r' (Err error))
+pub reader_stopped : (e : BothEnds) (o : Devices) (down up : DeviceWay) (report : SinkLog) (r r' : ReaderSide) (c : ClientSide) (source : SourceLog) (n : ℕ) (error : ToolErr) (s : State e o down up report r c 0 n) → n ≤ 4096
+    → ((e : BothEnds) (s0 : SourceLog) (below above : Traffic) → ReaderStands e below.written above.read r.serving r.said.items → Given s0 up.source r.reads above.read → ReaderHears e s0 source below above n r' (Err error))
     → (below above : Traffic) × RunsLoop e o (record { down = down; up = record { sink = up.sink; source = source }; report = report }) below above (Err error)
 reader_stopped e o down up report r r' c source n error s a_piece hears =
     let h = hears e o.up.source (down_of e o down up report r c 0 n s) (up_of e o down up report r c 0 n s) s.reader s.up_given in
     let below : Traffic = record { written = s.down_written; unwritten = r'.said.items; read = s.down_read } in
     let above : Traffic = record { written = s.up_written; unwritten = c.said.items; read = s.up_read ++ h.0 } in
-    let new : Way = record { sink = up.sink; source = source } in
+    let new : DeviceWay = record { sink = up.sink; source = source } in
     let both = length-append s.up_read h.0 in
     let few = h.1 in
     let down_unread = s.down_unread in

@@ -13,9 +13,8 @@ use Rattle.llrp_stream.specs.declared.item.Item.{Item}
 use Rattle.llrp_stream.specs.declared.item.Item.TheVariants.{Msg, Bad}
 use Rattle.llrp_stream.specs.declared.item.End.{End}
 use Rattle.llrp_stream.specs.declared.item.End.TheVariants.{Clean, Rest, Broken, Dead}
-use Rattle.llrp_stream.specs.Cuts.{IsFrame, IsPartial, Ends, joined}
-use Rattle.llrp_stream.specs.Items.{IsItemOf, Items}
-use Rattle.llrp_stream.specs.StreamLaws.{HasOneListing}
+use Rattle.llrp_stream.specs.Cuts.{IsFrame, IsPartial, EndsStream, joined}
+use Rattle.llrp_stream.specs.Private.Profile.{HasOneListing, IsItemOf, Items}
 use Rattle.llrp_stream.proofs.ItemLemmas.{has_one_listing}
 use Rattle.llrp_stream.proofs.Unique.{after_front, After}
 use Rattle.llrp_session.specs.ReaderMachine.{Reader}
@@ -102,7 +101,7 @@ EndsSo ended end = end ≡ Clean
 EndsSo early end = (n : ℕ) × (end ≡ Rest n)
 EndsSo broken end = end ≡ Broken
 
-ends_so : (standing : Standing) (rest : List ℕ) → StandsAt standing rest → (end : End) × Ends rest end × EndsSo standing end
+ends_so : (standing : Standing) (rest : List ℕ) → StandsAt standing rest → (end : End) × EndsStream rest end × EndsSo standing end
 ends_so waiting [] h = (Clean, refl, tt)
 ends_so waiting (b ∷ bytes) h = (Rest (length (b ∷ bytes)), (refl, omega arith, h), tt)
 ends_so closed rest h = absurd h
@@ -137,14 +136,14 @@ waits_at (Rest n) h = inr refl
 waits_at Broken h = absurd h
 waits_at Dead h = absurd h
 
-partial_at : (end : End) (rest : List ℕ) → Ends rest end → (standing_at end ≡ ended) ⊎ (standing_at end ≡ early) → IsPartial rest
+partial_at : (end : End) (rest : List ℕ) → EndsStream rest end → (standing_at end ≡ ended) ⊎ (standing_at end ≡ early) → IsPartial rest
 partial_at Clean rest e h = inl (omega (arith, ap length e))
 partial_at (Rest n) rest e h = e.2
 partial_at Broken rest e (inl h) = absurd cc
 partial_at Broken rest e (inr h) = absurd cc
 partial_at Dead rest e h = absurd e
 
-stands_at : (end : End) (rest : List ℕ) → Ends rest end → StandsAt (standing_at end) rest
+stands_at : (end : End) (rest : List ℕ) → EndsStream rest end → StandsAt (standing_at end) rest
 stands_at Clean rest e = e
 stands_at (Rest n) rest e = (e.2, λ none. absurd (omega (arith, ap length none, e.0, e.1)))
 stands_at Broken rest e = e

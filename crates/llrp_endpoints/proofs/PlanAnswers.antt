@@ -1,38 +1,37 @@
 -- A message that is awaited leads on to the next command.
-use Rattle.std.proofs.Common.{◌≡◌, ℕ, ◌+◌, ◌^◌, ◌<◌, ◌≤◌, ◌==◌, Bool, true, false, cond, List, [], ◌∷◌, ◌++◌, length, refl, sym, ap, subst, ◌∙◌, inl, inr, arith}
+use Rattle.std.proofs.Common.{◌≡◌, ℕ, ◌+◌, ◌≤◌, ◌==◌, Bool, true, false, cond, List, [], ◌∷◌, ◌++◌, length, refl, sym, ap, subst, ◌∙◌, inl, inr, arith}
 use Rattle.std.specs.Prelude.{◌≢◌, ◌⊎◌, ◌&&◌, Option, None, Some, Ok}
 use Rattle.std.proofs.lemmas.Bool.{eq-eqb}
-use Rattle.std.proofs.lemmas.List.{length-append}
+use Rattle.std.proofs.lemmas.List.{append_cancel_right}
 use Rattle.llrp_tree.specs.Tree.{Tree, MessageTree}
 use Rattle.llrp_stream.specs.declared.item.Item.TheVariants.{Msg}
-use Rattle.llrp_session.specs.declared.words.ClientPhase.{ClientPhase}
-use Rattle.llrp_session.specs.declared.words.ClientPhase.TheVariants.{Fresh, Ready}
-use Rattle.llrp_session.specs.declared.words.Command.{Command}
-use Rattle.llrp_session.specs.declared.words.Command.TheVariants.{Add, Delete, Start, Stop, Enable, Disable, GetRospecs, SetKeepalive, GetReport, Close}
-use Rattle.llrp_session.specs.declared.words.Operation.{Operation}
-use Rattle.llrp_session.specs.declared.words.Operation.TheVariants.{Adding, Deleting, Starting, Stopping, Enabling, Disabling, Configuring, Closing, Listing}
-use Rattle.llrp_session.specs.declared.words.Pending.{Pending}
-use Rattle.llrp_session.specs.declared.words.Taken.TheVariants.{Connected, Reply, Tags, Table, Differs}
-use Rattle.llrp_session.specs.Words.{Asks, ClientMessage, Heard, HeardResponse, HeardError, HeardReport}
+use Rattle.llrp_session.specs.declared.types.ClientPhase.{ClientPhase}
+use Rattle.llrp_session.specs.declared.types.ClientPhase.TheVariants.{Fresh, Ready}
+use Rattle.llrp_session.specs.declared.types.Command.{Command}
+use Rattle.llrp_session.specs.declared.types.Command.TheVariants.{Add, Delete, Start, Stop, Enable, Disable, GetRospecs, SetKeepalive, GetReport, Close}
+use Rattle.llrp_session.specs.declared.types.Operation.{Operation}
+use Rattle.llrp_session.specs.declared.types.Operation.TheVariants.{Adding, Deleting, Starting, Stopping, Enabling, Disabling, Configuring, Closing, Listing}
+use Rattle.llrp_session.specs.declared.types.Pending.{Pending}
+use Rattle.llrp_session.specs.declared.types.Taken.TheVariants.{Connected, Reply, Tags, Table, Differs}
+use Rattle.llrp_session.specs.Contents.{Heard, HeardResponse, HeardError, HeardReport}
 use Rattle.llrp_session.specs.ClientMachine.{Client, Taking, take, take_in, take_ready, take_response, answered, failed, attempted, takes, unexpected, granted, cleared, listed, awaited, is_response_to, is_view}
 use Rattle.llrp_session.specs.Reading.{heard_of}
 use Rattle.llrp_session.proofs.Following.{LeavesOpen}
-use Rattle.llrp_endpoints.specs.declared.gathering.Awaits.{Awaits}
-use Rattle.llrp_endpoints.specs.declared.gathering.Awaits.TheVariants.{Report}
-use Rattle.llrp_endpoints.specs.declared.gathering.Phase.{Phase}
-use Rattle.llrp_endpoints.specs.declared.gathering.Phase.TheVariants.{Open}
-use Rattle.llrp_endpoints.specs.Plan.{Plan, commands}
-use Rattle.llrp_endpoints.specs.Gathering.{Course, begun, awaited_after, after_item, goes}
-use Rattle.llrp_endpoints.specs.Calls.PlanLaws.{course_of, asked, numbered, SendsInOrder, Accepts, Answers, ListsView, IsAwaitedAfter, SendsOne, SendsWhereAwaited, LeadsOn}
-use Rattle.llrp_endpoints.proofs.PlanCommands.{last_closes, length-numbered, numbered-last, same_last}
-use Rattle.llrp_endpoints.proofs.PlanSteps.{Standing, StandsIn, order_in}
+use Rattle.llrp_endpoints.specs.declared.course.Awaits.{Awaits}
+use Rattle.llrp_endpoints.specs.declared.course.Awaits.TheVariants.{Report}
+use Rattle.llrp_endpoints.specs.declared.course.Phase.{Phase}
+use Rattle.llrp_endpoints.specs.declared.course.Phase.TheVariants.{Open}
+use Rattle.llrp_endpoints.specs.declared.course.Step.{Step}
+use Rattle.llrp_endpoints.specs.declared.course.Step.TheVariants.{Send, AwaitTags}
+use Rattle.llrp_endpoints.specs.Plan.{Plan}
+use Rattle.llrp_endpoints.specs.Calls.Plans.{commands_in}
+use Rattle.llrp_endpoints.specs.Gathering.{Course, new_course, awaited_for, after_item, goes}
+use Rattle.llrp_endpoints.specs.Private.GatheringStands.{awaited_after}
+use Rattle.llrp_endpoints.specs.Calls.PlanLaws.{course_of, IsValid, AwaitsReport, LeadsOn, Accepts, Answers, ListsView, IsAskedBy, IsAwaitedAfter, TakesStep, TakesWhereAwaited}
+use Rattle.llrp_endpoints.proofs.PlanCommands.{last_closes, same_last, same_before}
+use Rattle.llrp_endpoints.proofs.PlanSteps.{Standing, StandsIn, pending_after}
 use Rattle.llrp_endpoints.proofs.PlanFollowing.{Steps, item_so, stands_so, follow-append}
 use Rattle.llrp_endpoints.proofs.PlanLeads.{Led, led, is_granted}
-
--- ---- how many were sent
-
-how_many : (plan : Plan) (c : Course) (s : SendsInOrder plan c) → length (asked c) ≡ length s.first
-how_many plan c s = ap (λ (ms : List ClientMessage). length ms) s.sent_are ∙ length-numbered 1 s.first
 
 -- ---- what the client takes it for
 
@@ -46,7 +45,7 @@ joins d awaits id h fresh (n, is, accepts) =
     let t : Taking = record { taken = Connected; sent = []; client = record d { phase = Ready } } in
     (t, ap (λ (p : ClientPhase). take_in p d id h) fresh ∙ ap (λ (x : Heard). take_in Fresh d id x) is ∙ ap (attempted d) accepts, tt)
 
-reports : (d : Client) (awaits : Awaits) (id : ℕ) (h : Heard) (tags : List Tree) → d.phase ≡ Ready → awaits ≡ Report → h ≡ HeardReport tags → Leads d awaits id h
+reports : (d : Client) (awaits : Awaits) (id : ℕ) (h : Heard) (tags : List Tree) → d.phase ≡ Ready → AwaitsReport awaits tags → h ≡ HeardReport tags → Leads d awaits id h
 unfolding take
 reports d awaits id h tags ready w is =
     let t : Taking = record { taken = Tags tags; sent = []; client = d } in
@@ -149,7 +148,7 @@ leaves_open Configuring k n id p e still r = inl tt
 leaves_open Listing k n id p e still r = inr refl
 leaves_open Closing k n id p e still r = absurd (not_awaited k n id p e still r)
 
-polls : (k : Command) (n : ℕ) → awaited n k ≡ None → awaited_after k ≡ Report
+polls : (k : Command) (n : ℕ) → awaited n k ≡ None → awaited_for k ≡ Report
 polls GetReport n e = refl
 polls (Add spec) n e = cc
 polls (Delete id) n e = cc
@@ -170,79 +169,80 @@ by_operation d awaits p id h operation ts ready waits is same (inr listing) view
     let is_listing : h ≡ HeardResponse Listing 0 ts = is ∙ ap (λ (o : Operation). HeardResponse o 0 ts) listing in
     lists d awaits p id h ts ready waits is_listing (subst (λ (o : Operation). is_response_to p id o ≡ true) listing same) (subst (ListsView d.view) is_listing view)
 
-answered_so : (o : Option Pending) (d : Client) (awaits : Awaits) (n : ℕ) (k : Command) (id : ℕ) (h : Heard) → d.phase ≡ Ready → d.pending ≡ o → awaited n k ≡ o → awaits ≡ awaited_after k → k ≢ Close → Answers o d.view id h → Leads d awaits id h
-answered_so None d awaits n k id h ready waits e w still (tags, is) = reports d awaits id h tags ready (w ∙ polls k n e) is
+answered_so : (o : Option Pending) (d : Client) (awaits : Awaits) (n : ℕ) (k : Command) (id : ℕ) (h : Heard) → d.phase ≡ Ready → d.pending ≡ o → awaited n k ≡ o → awaits ≡ awaited_for k → k ≢ Close → Answers o d.view id h → Leads d awaits id h
+answered_so None d awaits n k id h ready waits e w still (tags, is) = reports d awaits id h tags ready (subst (λ (a : Awaits). AwaitsReport a tags) (sym (w ∙ polls k n e)) tt) is
 answered_so (Some p) d awaits n k id h ready waits e w still (inl r, view) = by_operation d awaits p id h r.0 r.1 ready waits r.2 r.3 (leaves_open r.0 k n id p e still r.3) view
 answered_so (Some p) d awaits n k id h ready waits e w still (inr r, view) = fails d awaits p id h ready waits r.0 r.1
 
-more_than_none : (first before : List Command) (k : Command) → first ≡ before ++ k ∷ [] → length first ≡ 0 → ⊥
-more_than_none first before k e none = absurd (omega (arith, ap (λ (ks : List Command). length ks) e, length-append before (k ∷ [])))
+-- what the last step asks for leads on
+by_step : (step : Step) (d : Client) (awaits : Awaits) (n id : ℕ) (h : Heard) → d.phase ≡ Ready → d.pending ≡ pending_after step n → awaits ≡ awaited_after step → step ≢ Send Close → IsAskedBy step n d.view id h → Leads d awaits id h
+by_step (Send k) d awaits n id h ready waits w still asks = answered_so (awaited n k) d awaits n k id h ready waits refl w (λ e. still (ap (λ (x : Command). Send x) e)) asks
+by_step AwaitTags d awaits n id h ready waits w still (tag, tags, is) = reports d awaits id h (tag ∷ tags) ready (subst (λ (a : Awaits). AwaitsReport a (tag ∷ tags)) (sym w) tt) is
 
-at_first : (limit : ℕ) (plan : Plan) (c : Course) (id : ℕ) (h : Heard) → Standing limit plan c → asked c ≡ [] → Accepts h → Leads c.client c.awaits id h
+none_at_last : (before : List Step) (step : Step) → before ++ step ∷ [] ≡ [] → ⊥
+none_at_last [] step e = cc
+none_at_last (b ∷ before) step e = cc
+
+at_first : (limit : ℕ) (plan : Plan) (c : Course) (id : ℕ) (h : Heard) (s : Standing limit plan c) → s.order.first ≡ [] → Accepts h → Leads c.client c.awaits id h
 at_first limit plan c id h s none accepts =
     elim (s.at) as (λ x. Leads c.client c.awaits id h) [
       | inl b ↦ joins c.client c.awaits id h b.fresh accepts
-      | inr w ↦ absurd (more_than_none s.order.first w.last.before w.last.k w.last.parts (sym (how_many plan c s.order) ∙ ap (λ (ms : List ClientMessage). length ms) none))
+      | inr w ↦ absurd (none_at_last w.last.before w.last.step (sym w.last.parts ∙ none))
     ]
 
-not_none : (ms : List ClientMessage) (m : ClientMessage) → length (ms ++ m ∷ []) ≡ 0 → ⊥
-not_none ms m e = absurd (omega (arith, e, length-append ms (m ∷ [])))
-
-at_last : (limit : ℕ) (plan : Plan) (c : Course) (id : ℕ) (h : Heard) (before : List ClientMessage) (number : ℕ) (k : Command) → Standing limit plan c → c.left ≢ [] → asked c ≡ before ++ record { id = number; word = Asks k } ∷ []
-    → Answers (awaited number k) c.client.view id h → Leads c.client c.awaits id h
-at_last limit plan c id h before number k s left done a =
-    let m : ClientMessage = record { id = number; word = Asks k } in
+at_last : (limit : ℕ) (plan : Plan) (c : Course) (id : ℕ) (h : Heard) (s : Standing limit plan c) (before : List Step) (step : Step) → c.left ≢ [] → s.order.first ≡ before ++ step ∷ []
+    → IsAskedBy step (length (commands_in before) + 1) c.client.view id h → Leads c.client c.awaits id h
+at_last limit plan c id h s before step left done a =
     elim (s.at) as (λ x. Leads c.client c.awaits id h) [
-      | inl b ↦ absurd (not_none before m (ap (λ (ms : List ClientMessage). length ms) (sym done) ∙ how_many plan c s.order ∙ ap (λ (ks : List Command). length ks) b.none))
+      | inl b ↦ absurd (none_at_last before step (sym done ∙ b.none))
       | inr w ↦
-          let own : ClientMessage = record { id = 1 + length w.last.before; word = Asks w.last.k } in
-          let same : m ≡ own = same_last before (numbered 1 w.last.before) m own (sym done ∙ s.order.sent_are ∙ ap (numbered 1) w.last.parts ∙ numbered-last 1 w.last.before w.last.k) in
-          let word : Asks k ≡ Asks w.last.k = ap (λ (x : ClientMessage). x.word) same in
-          let command_is : k ≡ w.last.k = cc in
-          let long : number ≡ length s.order.first = ap (λ (x : ClientMessage). x.id) same ∙ omega (arith, length-append w.last.before (w.last.k ∷ []), ap (λ (ks : List Command). length ks) w.last.parts) in
-          let answers : Answers (awaited (length s.order.first) w.last.k) c.client.view id h = subst (λ (x : Command). Answers (awaited (length s.order.first) x) c.client.view id h) command_is (subst (λ (x : ℕ). Answers (awaited x k) c.client.view id h) long a) in
+          let one : step ≡ w.last.step = same_last before w.last.before step w.last.step (sym done ∙ w.last.parts) in
+          let those : before ≡ w.last.before = same_before before w.last.before step w.last.step (sym done ∙ w.last.parts) in
+          let number : ℕ = length (commands_in w.last.before) + 1 in
+          let asks : IsAskedBy w.last.step number c.client.view id h =
+          subst (λ (x : Step). IsAskedBy x number c.client.view id h) one (subst (λ (x : List Step). IsAskedBy step (length (commands_in x) + 1) c.client.view id h) those a) in
           elim (w.pending) as (λ x. Leads c.client c.awaits id h) [
             | inr p ↦ absurd (left p.1)
             | inl p ↦
-                let still : w.last.k ≢ Close = λ e. left (last_closes plan w.last.before c.left (s.order.parts ∙ ap (λ (ks : List Command). ks ++ c.left) (w.last.parts ∙ ap (λ (x : Command). w.last.before ++ x ∷ []) e))) in
-                answered_so (awaited (length s.order.first) w.last.k) c.client c.awaits (length s.order.first) w.last.k id h w.ready p refl w.last.awaits still answers
+                let still : w.last.step ≢ Send Close = λ e. left (last_closes plan w.last.before c.left (s.order.parts ∙ ap (λ (ks : List Step). ks ++ c.left) (w.last.parts ∙ ap (λ (x : Step). w.last.before ++ x ∷ []) e))) in
+                by_step w.last.step c.client c.awaits number id h w.ready p w.last.awaits still asks
           ]
     ]
 
-leads_if_awaited : (limit : ℕ) (plan : Plan) (c : Course) (id : ℕ) (h : Heard) → Standing limit plan c → c.left ≢ [] → IsAwaitedAfter (asked c) c.client.view id h → Leads c.client c.awaits id h
+leads_if_awaited : (limit : ℕ) (plan : Plan) (c : Course) (id : ℕ) (h : Heard) (s : Standing limit plan c) → c.left ≢ [] → IsAwaitedAfter s.order.first c.client.view id h → Leads c.client c.awaits id h
 leads_if_awaited limit plan c id h s left (inl first) = at_first limit plan c id h s first.0 first.1
-leads_if_awaited limit plan c id h s left (inr last) = at_last limit plan c id h last.before last.number last.k s left last.parts last.answers
+leads_if_awaited limit plan c id h s left (inr last) = at_last limit plan c id h s last.before last.step left last.parts last.is_asked
 
--- ---- it is sent
+-- ---- the step is taken
 
--- where less is left, more was sent
-not_same : (plan : Plan) (c d : Course) (k : Command) (later : List Command) → SendsInOrder plan c → SendsInOrder plan d → c.left ≡ k ∷ later → d.left ≡ later → asked d ≡ asked c → ⊥
-not_same plan c d k later p q l m same =
-    let many : length q.first ≡ length p.first = sym (how_many plan d q) ∙ ap (λ (ms : List ClientMessage). length ms) same ∙ how_many plan c p in
-    let own : length (commands plan) ≡ length p.first + length c.left = ap (λ (ks : List Command). length ks) p.parts ∙ length-append p.first c.left in
-    let new : length (commands plan) ≡ length q.first + length d.left = ap (λ (ks : List Command). length ks) q.parts ∙ length-append q.first d.left in
-    let more : length c.left ≡ length later + 1 = ap (λ (ks : List Command). length ks) l ∙ omega arith in
-    let less : length d.left ≡ length later = ap (λ (ks : List Command). length ks) m in
+-- where less is left, a step was taken
+not_same : (c d : Course) (step : Step) (later : List Step) → c.left ≡ step ∷ later → d.left ≡ later → d.left ≡ c.left → ⊥
+not_same c d step later l m same =
+    let more : length c.left ≡ length later + 1 = ap (λ (ks : List Step). length ks) l ∙ omega arith in
+    let less : length d.left ≡ length later = ap (λ (ks : List Step). length ks) m in
+    let equal : length d.left ≡ length c.left = ap (λ (ks : List Step). length ks) same in
     absurd (omega arith)
 
-sends_next : (left : List Command) (limit : ℕ) (plan : Plan) (c : Course) (m : MessageTree) → 4096 ≤ limit → plan.polls < 2 ^ 16 → Standing limit plan c → c.phase ≡ Open → c.left ≡ left → c.left ≢ [] → IsAwaitedAfter (asked c) c.client.view m.id (heard_of m)
-    → SendsOne c (after_item (Msg m) c) (Msg m)
-sends_next [] limit plan c m least fits s opened l some due = absurd (some l)
-sends_next (k ∷ later) limit plan c m least fits s opened l some due =
+takes_next_step : (left : List Step) (limit : ℕ) (plan : Plan) (c : Course) (m : MessageTree) (s : Standing limit plan c) → 4096 ≤ limit → IsValid plan → c.phase ≡ Open → c.left ≡ left → c.left ≢ []
+    → IsAwaitedAfter s.order.first c.client.view m.id (heard_of m) → TakesStep plan c (after_item (Msg m) c) (Msg m)
+takes_next_step [] limit plan c m s least fits opened l some due = absurd (some l)
+takes_next_step (step ∷ later) limit plan c m s least fits opened l some due =
     let leads = leads_if_awaited limit plan c m.id (heard_of m) s some due in
     let d : Course = after_item (Msg m) c in
-    let so : Led c leads.0.client k later d = led limit plan c m leads.0 k later least fits s opened (record { takes = leads.1; leads = leads.2 }) l in
+    let so : Led leads.0.client step later d = led limit plan c m leads.0 step later least fits s opened (record { takes = leads.1; leads = leads.2 }) l in
     let steps : Steps limit plan c d (Msg m) = item_so limit plan c (Msg m) s opened in
-    elim (steps.sends) as (λ x. SendsOne c d (Msg m)) [
-      | inl none ↦ absurd (not_same plan c d k later s.order (order_in d.phase limit plan d steps.stands) l so.left none)
+    elim (steps.takes) as (λ x. TakesStep plan c d (Msg m)) [
+      | inl none ↦ absurd (not_same c d step later l so.left none.left)
       | inr one ↦ one
     ]
 
-pub sends_where_awaited : (limit : ℕ) (plan : Plan) → 4096 ≤ limit → plan.polls < 2 ^ 16 → SendsWhereAwaited limit plan
-sends_where_awaited limit plan least fits items m opened some due =
+pub takes_where_awaited : (limit : ℕ) (plan : Plan) → 4096 ≤ limit → IsValid plan → TakesWhereAwaited limit plan
+takes_where_awaited limit plan least fits items m done opened some parts due =
     let c : Course = course_of limit plan items in
     let s : Standing limit plan c = subst (λ (p : Phase). StandsIn p limit plan c) opened (stands_so limit plan items) in
-    let one : SendsOne c (after_item (Msg m) c) (Msg m) = sends_next c.left limit plan c m least fits s opened refl some due in
+    let same : done ≡ s.order.first = append_cancel_right done s.order.first c.left (sym parts ∙ s.order.parts) in
+    let one : TakesStep plan c (after_item (Msg m) c) (Msg m) =
+    takes_next_step c.left limit plan c m s least fits opened refl some (subst (λ (x : List Step). IsAwaitedAfter x c.client.view m.id (heard_of m)) same due) in
     let step : after_item (Msg m) c ≡ course_of limit plan (items ++ Msg m ∷ []) =
-    ap (λ (p : Phase). goes p (Msg m) c) (sym opened) ∙ sym (follow-append items (Msg m ∷ []) (begun limit plan)) in
-    subst (λ (d : Course). SendsOne c d (Msg m)) step one
+    ap (λ (p : Phase). goes p (Msg m) c) (sym opened) ∙ sym (follow-append items (Msg m ∷ []) (new_course limit plan)) in
+    subst (λ (d : Course). TakesStep plan c d (Msg m)) step one

@@ -5,17 +5,18 @@ use Rattle.std.specs.List.{filter}
 use Rattle.std.proofs.lemmas.Bool.Decides.{nat_tests}
 use Rattle.llrp_tree.specs.Tree.{Tree}
 use Rattle.llrp_session.specs.Refusal.{Refusal, Unexpected}
-use Rattle.llrp_session.specs.declared.words.ClientPhase.{ClientPhase}
-use Rattle.llrp_session.specs.declared.words.ClientPhase.TheVariants.{Fresh, Ready}
-use Rattle.llrp_session.specs.declared.words.Operation.{Operation}
-use Rattle.llrp_session.specs.declared.words.Operation.TheVariants.{Adding, Deleting, Starting, Stopping, Enabling, Disabling, Configuring, Closing, Listing}
-use Rattle.llrp_session.specs.declared.words.Pending.{Pending}
-use Rattle.llrp_session.specs.declared.words.Taken.{Taken}
-use Rattle.llrp_session.specs.declared.words.Taken.TheVariants.{Connected, Refused, Reply, Tags, Table, Differs, Event, Note, Kept, Closed as ConnectionEnded}
-use Rattle.llrp_session.specs.Words.{RoSpecChange, Heard, HeardResponse, HeardError, HeardReport, HeardKeepalive, HeardNotification, HeardOther, Notification, ClientMessage}
+use Rattle.llrp_session.specs.declared.types.ClientPhase.{ClientPhase}
+use Rattle.llrp_session.specs.declared.types.ClientPhase.TheVariants.{Fresh, Ready}
+use Rattle.llrp_session.specs.declared.types.Operation.{Operation}
+use Rattle.llrp_session.specs.declared.types.Operation.TheVariants.{Adding, Deleting, Starting, Stopping, Enabling, Disabling, Configuring, Closing, Listing}
+use Rattle.llrp_session.specs.declared.types.Pending.{Pending}
+use Rattle.llrp_session.specs.declared.types.Taken.{Taken}
+use Rattle.llrp_session.specs.declared.types.Taken.TheVariants.{Connected, Refused, Reply, Tags, Table, Differs, Event, Note, Kept, Closed as ConnectionEnded}
+use Rattle.llrp_session.specs.Contents.{RoSpecChange, Heard, HeardResponse, HeardError, HeardReport, HeardKeepalive, HeardNotification, HeardOther, Notification, ClientMessage}
 use Rattle.llrp_session.specs.ClientMachine.{Client, Taking, take, take_in, take_ready, take_fresh, attempted, answered, failed, notified, take_response, replied, listed, is_view, takes, unexpected, cleared, closed, granted, is_response_to, event_of, moved}
 use Rattle.llrp_session.specs.Table.{viewed_state}
 use Rattle.llrp_endpoints.specs.Calls.PlanLaws.{is_command, Accepts, Responds, ListsView, Refuses, TellsEnd}
+use Rattle.llrp_session.proofs.TakingIn.{same_id as same_number}
 
 -- ---- the client before and after
 
@@ -135,9 +136,6 @@ by_response (Some p) c id operation status ts ready waits =
       | true ↦ λ e. by_operation operation c p status ts id ready waits (inl (operation, ts, refl, e))
       | false ↦ λ e. refl
     ] refl
-
-same_number : (a b : ℕ) → (a == b) ≡ true → b ≡ a
-same_number a b h = grind (arith, nat_tests)
 
 by_error : (o : Option Pending) (c : Client) (id status : ℕ) → c.phase ≡ Ready → c.pending ≡ o → TakesOr c id (HeardError status) (failed o c id status)
 by_error None c id status ready waits = refl

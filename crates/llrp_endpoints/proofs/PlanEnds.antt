@@ -1,19 +1,19 @@
 -- Where a course ends, and that it ends as Strange exactly at what was strange to its client.
-use Rattle.std.proofs.Common.{◌≡◌, ℕ, ◌^◌, ◌<◌, ◌≤◌, List, [], ◌∷◌, ◌++◌, refl, sym, ap, subst, ◌∙◌}
+use Rattle.std.proofs.Common.{◌≡◌, ℕ, ◌≤◌, List, [], ◌∷◌, ◌++◌, refl, sym, ap, subst, ◌∙◌}
 use Rattle.std.specs.Prelude.{◌≢◌, Result, Ok, Err}
 use Rattle.llrp_stream.specs.declared.item.Item.{Item}
 use Rattle.llrp_stream.specs.declared.item.Item.TheVariants.{Msg, Bad}
 use Rattle.llrp_session.specs.Refusal.{Refusal}
-use Rattle.llrp_session.specs.declared.words.Taken.{Taken}
-use Rattle.llrp_session.specs.declared.words.Taken.TheVariants.{Connected, Refused, Reply, Tags, Table, Differs, Event, Note, Kept, Closed as ConnectionEnded}
+use Rattle.llrp_session.specs.declared.types.Taken.{Taken}
+use Rattle.llrp_session.specs.declared.types.Taken.TheVariants.{Connected, Refused, Reply, Tags, Table, Differs, Event, Note, Kept, Closed as ConnectionEnded}
 use Rattle.llrp_session.specs.ClientMachine.{Taking, take}
 use Rattle.llrp_session.specs.Reading.{heard_of}
-use Rattle.llrp_listing.specs.declared.fault.ToolErr.TheVariants.{Strange}
-use Rattle.llrp_endpoints.specs.declared.gathering.Phase.{Phase}
-use Rattle.llrp_endpoints.specs.declared.gathering.Phase.TheVariants.{Open, Closed, Failed}
+use Rattle.llrp_listing.specs.declared.outcome.ToolErr.TheVariants.{Strange}
+use Rattle.llrp_endpoints.specs.declared.course.Phase.{Phase}
+use Rattle.llrp_endpoints.specs.declared.course.Phase.TheVariants.{Open, Closed, Failed}
 use Rattle.llrp_endpoints.specs.Plan.{Plan}
-use Rattle.llrp_endpoints.specs.Gathering.{Course, begun, after, after_taking, after_item, goes, follow}
-use Rattle.llrp_endpoints.specs.Calls.PlanLaws.{course_of, IsOtherTable, IsTakenStrangely, IsStrangeTo, MetStrange, StrangeIsTheReaders}
+use Rattle.llrp_endpoints.specs.Gathering.{Course, new_course, after, after_taking, after_item, goes, follow}
+use Rattle.llrp_endpoints.specs.Calls.PlanLaws.{course_of, IsValid, IsOtherTable, IsTakenStrangely, IsStrangeTo, MetStrange, StrangeIsTheReaders}
 use Rattle.llrp_endpoints.proofs.GatheringSteps.{bad_is_strange}
 use Rattle.llrp_endpoints.proofs.PlanSteps.{Standing, StandsIn}
 use Rattle.llrp_endpoints.proofs.PlanFollowing.{stands_so, follow-append, stays}
@@ -59,15 +59,15 @@ end_of (item ∷ items) c opened ended =
       | Failed error ↦ λ o. here (not_open d.phase (Failed error) o (λ e. cc))
     ] refl
 
-pub ended_at : (limit : ℕ) (plan : Plan) (items : List Item) → (course_of limit plan items).phase ≢ Open → EndsAt (begun limit plan) items
-ended_at limit plan items ended = end_of items (begun limit plan) refl ended
+pub ended_at : (limit : ℕ) (plan : Plan) (items : List Item) → (course_of limit plan items).phase ≢ Open → EndsAt (new_course limit plan) items
+ended_at limit plan items ended = end_of items (new_course limit plan) refl ended
 
 pub standing : (limit : ℕ) (plan : Plan) (items : List Item) → (course_of limit plan items).phase ≡ Open → Standing limit plan (course_of limit plan items)
 standing limit plan items opened = subst (λ (p : Phase). StandsIn p limit plan (course_of limit plan items)) opened (stands_so limit plan items)
 
 -- ---- what ends as Strange
 
-met : (limit : ℕ) (plan : Plan) (items : List Item) → 4096 ≤ limit → plan.polls < 2 ^ 16 → (course_of limit plan items).phase ≡ Failed Strange → MetStrange limit plan items
+met : (limit : ℕ) (plan : Plan) (items : List Item) → 4096 ≤ limit → IsValid plan → (course_of limit plan items).phase ≡ Failed Strange → MetStrange limit plan items
 met limit plan items least fits z =
     let at = ended_at limit plan items (not_open (course_of limit plan items).phase (Failed Strange) z (λ e. cc)) in
     let c : Course = course_of limit plan at.before in
@@ -108,12 +108,12 @@ met_ends limit plan items m =
     let last : goes c.phase m.item c ≡ d = ap (λ (p : Phase). goes p m.item c) m.open_is in
     let whole : course_of limit plan items ≡ d =
     ap (course_of limit plan) m.parts
-    ∙ follow-append m.before (m.item ∷ m.later) (begun limit plan)
+    ∙ follow-append m.before (m.item ∷ m.later) (new_course limit plan)
     ∙ ap (follow m.later) last
     ∙ stays m.later d (λ e. let no : Failed Strange ≡ Open = sym strange ∙ e in cc) in
     ap (λ (x : Course). x.phase) whole ∙ strange
 
-pub strange_is_the_readers : (limit : ℕ) (plan : Plan) → 4096 ≤ limit → plan.polls < 2 ^ 16 → StrangeIsTheReaders limit plan
+pub strange_is_the_readers : (limit : ℕ) (plan : Plan) → 4096 ≤ limit → IsValid plan → StrangeIsTheReaders limit plan
 strange_is_the_readers limit plan least fits items = (
   λ z. met limit plan items least fits z,
   λ m. met_ends limit plan items m,

@@ -1,30 +1,33 @@
 -- What each end of a course that follows a plan means.
-use Rattle.std.proofs.Common.{◌≡◌, ℕ, ◌==◌, true, false, cond, List, [], ◌∷◌, ◌++◌, length, refl, sym, ap, subst, ◌∙◌, inl, inr}
+use Rattle.std.proofs.Common.{◌≡◌, ℕ, ◌+◌, ◌==◌, true, false, cond, List, [], ◌∷◌, ◌++◌, length, refl, sym, ap, subst, ◌∙◌, inl, inr}
 use Rattle.std.specs.Prelude.{◌≢◌, Option, None, Some, Result, Ok, Err}
-use Rattle.llrp_tree.specs.Tree.{MessageTree}
+use Rattle.llrp_tree.specs.Tree.{Tree, MessageTree}
 use Rattle.llrp_stream.specs.declared.item.Item.{Item}
 use Rattle.llrp_stream.specs.declared.item.Item.TheVariants.{Msg, Bad}
-use Rattle.llrp_session.specs.declared.words.ClientPhase.TheVariants.{Fresh, Ready}
-use Rattle.llrp_session.specs.declared.words.Command.{Command}
-use Rattle.llrp_session.specs.declared.words.Pending.{Pending}
-use Rattle.llrp_session.specs.declared.words.Taken.{Taken}
-use Rattle.llrp_session.specs.declared.words.Taken.TheVariants.{Connected, Refused, Reply, Tags, Table, Differs, Event, Note, Kept, Closed as ConnectionEnded}
+use Rattle.llrp_session.specs.declared.types.ClientPhase.TheVariants.{Fresh, Ready}
+use Rattle.llrp_session.specs.declared.types.Command.{Command}
+use Rattle.llrp_session.specs.declared.types.Pending.{Pending}
+use Rattle.llrp_session.specs.declared.types.Taken.{Taken}
+use Rattle.llrp_session.specs.declared.types.Taken.TheVariants.{Connected, Refused, Reply, Tags, Table, Differs, Event, Note, Kept, Closed as ConnectionEnded}
 use Rattle.llrp_session.specs.Refusal.{Refusal}
-use Rattle.llrp_session.specs.Words.{Asks, ClientMessage, Heard}
+use Rattle.llrp_session.specs.Contents.{Asks, ClientMessage, Heard}
 use Rattle.llrp_session.specs.ClientMachine.{Client, Sending, Taking, command, take, awaited}
 use Rattle.llrp_session.specs.Reading.{heard_of}
-use Rattle.llrp_listing.specs.declared.fault.ToolErr.TheVariants.{Peer, Strange, Early}
-use Rattle.llrp_endpoints.specs.declared.gathering.Awaits.{Awaits}
-use Rattle.llrp_endpoints.specs.declared.gathering.Awaits.TheVariants.{Answer, Report, End}
-use Rattle.llrp_endpoints.specs.declared.gathering.Phase.{Phase}
-use Rattle.llrp_endpoints.specs.declared.gathering.Phase.TheVariants.{Open, Closed, Failed}
-use Rattle.llrp_endpoints.specs.Plan.{Plan, commands}
-use Rattle.llrp_endpoints.specs.Gathering.{Course, ends, ended, awaited_after, sends_by, sends, goes_on, reported, after, after_taking, after_bad, after_item}
-use Rattle.llrp_endpoints.specs.Calls.PlanLaws.{course_of, asked, numbered, RespondsToLast, TellsStatus, TellsEnd, Told, IsDone, IsEarly, EndsMean}
+use Rattle.llrp_listing.specs.declared.outcome.ToolErr.TheVariants.{Peer, Strange, Early}
+use Rattle.llrp_endpoints.specs.declared.course.Awaits.{Awaits}
+use Rattle.llrp_endpoints.specs.declared.course.Awaits.TheVariants.{Answer, TaggedReport, Report, End}
+use Rattle.llrp_endpoints.specs.declared.course.Phase.{Phase}
+use Rattle.llrp_endpoints.specs.declared.course.Phase.TheVariants.{Open, Closed, Failed}
+use Rattle.llrp_endpoints.specs.declared.course.Step.{Step}
+use Rattle.llrp_endpoints.specs.declared.course.Step.TheVariants.{Send, AwaitTags}
+use Rattle.llrp_endpoints.specs.Plan.{Plan, steps}
+use Rattle.llrp_endpoints.specs.Calls.Plans.{commands_in}
+use Rattle.llrp_endpoints.specs.Gathering.{Course, ends, ended, sends_by, takes_step, steps_on, send_next, reported, after, after_taking, after_bad, after_item}
+use Rattle.llrp_endpoints.specs.Private.GatheringStands.{awaited_after}
+use Rattle.llrp_endpoints.specs.Calls.PlanLaws.{course_of, asked, numbered, TakesInOrder, RespondsToLast, TellsStatus, TellsEnd, Told, IsDone, IsEarly, EndsMean}
 use Rattle.llrp_endpoints.proofs.PlanClients.{not_zero, Replies, TakesFor, Takes, TakesOr}
-use Rattle.llrp_endpoints.proofs.PlanCommands.{closes_last}
-use Rattle.llrp_endpoints.proofs.PlanSteps.{Standing}
-use Rattle.llrp_endpoints.proofs.PlanTakings.{last_asked}
+use Rattle.llrp_endpoints.proofs.PlanCommands.{closes_last, some_steps, numbered-last}
+use Rattle.llrp_endpoints.proofs.PlanSteps.{Standing, pending_after}
 use Rattle.llrp_endpoints.proofs.PlanFollowing.{bad_either, takes_so, has_all}
 use Rattle.llrp_endpoints.proofs.PlanEnds.{ended_at, standing}
 
@@ -47,22 +50,28 @@ EndsAs (Event id state) a p = ⊥
 EndsAs Note a p = ⊥
 EndsAs Kept a p = ⊥
 
-not_sent : (p : Phase) (r : Result Sending Refusal) (k : Command) (later : List Command) (e : Course) → e.phase ≡ Open → IsOther p → (sends_by r k later e).phase ≡ p → ⊥
+not_sent : (p : Phase) (r : Result Sending Refusal) (k : Command) (later : List Step) (e : Course) → e.phase ≡ Open → IsOther p → (sends_by r k later e).phase ≡ p → ⊥
 not_sent p (Ok sending) k later e opened o z = o.not_open (sym z ∙ opened)
 not_sent p (Err refusal) k later e opened o z = o.not_strange (sym z)
 
-not_sending : (p : Phase) (ks : List Command) (e : Course) → e.phase ≡ Open → IsOther p → (sends ks e).phase ≡ p → ⊥
-not_sending p [] e opened o z = o.not_open (sym z ∙ opened)
-not_sending p (k ∷ later) e opened o z = not_sent p (command e.client k) k later e opened o z
+not_stepping : (p : Phase) (step : Step) (later : List Step) (e : Course) → e.phase ≡ Open → IsOther p → (takes_step step later e).phase ≡ p → ⊥
+not_stepping p (Send k) later e opened o z = not_sent p (command e.client k) k later e opened o z
+not_stepping p AwaitTags later e opened o z = o.not_open (sym z ∙ opened)
 
-not_reporting : (p : Phase) (a : Awaits) (e : Course) → e.phase ≡ Open → IsOther p → (reported a e).phase ≡ p → ⊥
-not_reporting p Answer e opened o z = o.not_open (sym z ∙ opened)
-not_reporting p End e opened o z = o.not_open (sym z ∙ opened)
-not_reporting p Report e opened o z = not_sending p e.left e opened o z
+not_sending : (p : Phase) (ss : List Step) (e : Course) → e.phase ≡ Open → IsOther p → (steps_on ss e).phase ≡ p → ⊥
+not_sending p [] e opened o z = o.not_open (sym z ∙ opened)
+not_sending p (step ∷ later) e opened o z = not_stepping p step later e opened o z
+
+not_reporting : (p : Phase) (a : Awaits) (tags : List Tree) (e : Course) → e.phase ≡ Open → IsOther p → (reported a tags e).phase ≡ p → ⊥
+not_reporting p Answer tags e opened o z = o.not_open (sym z ∙ opened)
+not_reporting p End tags e opened o z = o.not_open (sym z ∙ opened)
+not_reporting p Report tags e opened o z = not_sending p e.left e opened o z
+not_reporting p TaggedReport [] e opened o z = o.not_open (sym z ∙ opened)
+not_reporting p TaggedReport (tag ∷ tags) e opened o z = not_sending p e.left e opened o z
 
 replied_so : (p : Phase) (status : ℕ) (e : Course) → e.phase ≡ Open → IsOther p → (after (Reply status) e).phase ≡ p → EndsAs (Reply status) e.awaits p × ((after (Reply status) e).left ≡ e.left)
 replied_so p status e opened o =
-    elim (status == 0) as (λ b. (status == 0) ≡ b → (cond b (goes_on e) (ends (Failed (Peer status)) e)).phase ≡ p → EndsAs (Reply status) e.awaits p × ((cond b (goes_on e) (ends (Failed (Peer status)) e)).left ≡ e.left)) [
+    elim (status == 0) as (λ b. (status == 0) ≡ b → (cond b (send_next e) (ends (Failed (Peer status)) e)).phase ≡ p → EndsAs (Reply status) e.awaits p × ((cond b (send_next e) (ends (Failed (Peer status)) e)).left ≡ e.left)) [
       | true ↦ λ w z. absurd (not_sending p e.left e opened o z)
       | false ↦ λ w z. ((not_zero status w, sym z), refl)
     ] refl
@@ -71,7 +80,7 @@ ends_as : (taken : Taken) (p : Phase) (e : Course) → e.phase ≡ Open → IsOt
 ends_as Connected p e opened o z = absurd (not_sending p e.left e opened o z)
 ends_as (Refused status) p e opened o z = (sym z, refl)
 ends_as (Reply status) p e opened o z = replied_so p status e opened o z
-ends_as (Tags tags) p e opened o z = absurd (not_reporting p e.awaits (record e { reports = e.reports ++ tags ∷ [] }) opened o z)
+ends_as (Tags tags) p e opened o z = absurd (not_reporting p e.awaits tags (record e { reports = e.reports ++ tags ∷ [] }) opened o z)
 ends_as (Table rospecs) p e opened o z = absurd (not_sending p e.left e opened o z)
 ends_as (Differs rospecs) p e opened o z = absurd (o.not_strange (sym z))
 ends_as (Event id state) p e opened o z = absurd (o.not_open (sym z ∙ opened))
@@ -135,7 +144,7 @@ ends_there limit plan items p o z =
 no_commands : (limit : ℕ) (plan : Plan) (c : Course) → Standing limit plan c → c.client.phase ≡ Fresh → asked c ≡ []
 no_commands limit plan c s fresh =
     elim (s.at) as (λ x. asked c ≡ []) [
-      | inl b ↦ s.order.sent_are ∙ ap (numbered 1) b.none
+      | inl b ↦ s.order.sent_are ∙ ap (λ (x : List Step). numbered 1 (commands_in x)) b.none
       | inr w ↦ let x = w.ready in let same : Fresh ≡ Ready = cc in absurd cc
     ]
 
@@ -143,13 +152,22 @@ by_pending : (o : Option Pending) (done before : List ClientMessage) (number : �
 by_pending None done before number k status id h e parts r = absurd r
 by_pending (Some p) done before number k status id h e parts r = record { before = before; number = number; k = k; parts = parts; pending = p; waits = e; responds = r }
 
+-- the last step is a command
+by_step : (step : Step) (plan : Plan) (c : Course) (s : TakesInOrder plan c) (before : List Step) (status id : ℕ) (h : Heard) → s.first ≡ before ++ step ∷ [] → Replies (pending_after step (length (commands_in before) + 1)) status id h
+    → RespondsToLast (asked c) status id h
+by_step (Send k) plan c s before status id h parts r =
+    let number : ℕ = length (commands_in before) + 1 in
+    by_pending (awaited number k) (asked c) (numbered 1 (commands_in before)) number k status id h refl
+    (s.sent_are ∙ ap (λ (x : List Step). numbered 1 (commands_in x)) parts ∙ numbered-last before (Send k)) r
+by_step AwaitTags plan c s before status id h parts r = absurd r
+
 responds_to_last : (limit : ℕ) (plan : Plan) (c : Course) (status id : ℕ) (h : Heard) → Standing limit plan c → c.client.phase ≡ Ready → Replies c.client.pending status id h → RespondsToLast (asked c) status id h
 responds_to_last limit plan c status id h s ready r =
     elim (s.at) as (λ x. RespondsToLast (asked c) status id h) [
       | inl b ↦ let x = b.fresh in let same : Fresh ≡ Ready = cc in absurd cc
       | inr w ↦ elim (w.pending) as (λ x. RespondsToLast (asked c) status id h) [
         | inr none ↦ absurd (subst (λ (o : Option Pending). Replies o status id h) none.0 r)
-        | inl p ↦ by_pending (awaited (length s.order.first) w.last.k) (asked c) (numbered 1 w.last.before) (length s.order.first) w.last.k status id h refl (last_asked plan c s.order w.last) (subst (λ (o : Option Pending). Replies o status id h) p r)
+        | inl p ↦ by_step w.last.step plan c s.order w.last.before status id h w.last.parts (subst (λ (o : Option Pending). Replies o status id h) p r)
       ]
     ]
 
@@ -158,6 +176,7 @@ same_status m n e = cc
 
 not_peer : (a : Awaits) (status : ℕ) → Failed (Peer status) ≡ ended a → ⊥
 not_peer Answer status e = cc
+not_peer TaggedReport status e = cc
 not_peer Report status e = cc
 not_peer End status e = cc
 
@@ -224,21 +243,21 @@ unfolding IsNoStatus
 done limit plan items z =
     let all = has_all limit plan items z in
     let at = ends_there limit plan items Closed (record { not_open = λ e. cc; not_strange = λ e. cc }) z in
-    record { sent_are = all.sent_are; polled = all.polled; ended = told_end limit plan items Closed (λ status e. cc) at }
+    record { sent_are = all.sent_are; tagged = all.tagged; polled = all.polled; ended = told_end limit plan items Closed (λ status e. cc) at }
 
--- a client that does not await the end has a command left
+-- a client that does not await the end has a step left
 some_left : (limit : ℕ) (plan : Plan) (c : Course) → Standing limit plan c → c.awaits ≢ End → c.left ≢ []
-unfolding commands
 some_left limit plan c s awaits none =
     elim (s.at) as (λ x. ⊥) [
-      | inl b ↦ let all : commands plan ≡ [] = s.order.parts ∙ ap (λ (ks : List Command). ks ++ c.left) b.none ∙ none in cc
+      | inl b ↦ some_steps plan (s.order.parts ∙ ap (λ (ks : List Step). ks ++ c.left) b.none ∙ none)
       | inr w ↦
-          let parts : commands plan ≡ (w.last.before ++ w.last.k ∷ []) ++ [] = s.order.parts ∙ ap (λ (ks : List Command). ks ++ c.left) w.last.parts ∙ ap (λ (ks : List Command). (w.last.before ++ w.last.k ∷ []) ++ ks) none in
-          awaits (w.last.awaits ∙ ap awaited_after (closes_last plan w.last.before w.last.k parts))
+          let parts : steps plan ≡ (w.last.before ++ w.last.step ∷ []) ++ [] = s.order.parts ∙ ap (λ (ks : List Step). ks ++ c.left) w.last.parts ∙ ap (λ (ks : List Step). (w.last.before ++ w.last.step ∷ []) ++ ks) none in
+          awaits (w.last.awaits ∙ ap awaited_after (closes_last plan w.last.before w.last.step parts))
     ]
 
 not_end : (a : Awaits) → Failed Early ≡ ended a → a ≢ End
 not_end Answer z e = cc
+not_end TaggedReport z e = cc
 not_end Report z e = cc
 not_end End z e = cc
 

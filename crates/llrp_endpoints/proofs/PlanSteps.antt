@@ -2,69 +2,86 @@
 use Rattle.std.proofs.Common.{◌≡◌, ℕ, ◌+◌, ◌≤◌, Bool, true, cond, List, [], ◌∷◌, ◌++◌, length, refl, sym, ap, subst, ◌∙◌, append_assoc, inl, inr, arith}
 use Rattle.std.specs.Prelude.{◌⊎◌, Option, None, Some, Result, Ok, Err}
 use Rattle.std.specs.List.{filter}
-use Rattle.std.proofs.lemmas.List.{length-append}
+use Rattle.std.proofs.lemmas.List.{append-nil, length-append}
 use Rattle.std.proofs.lemmas.List.Elements.{filter-append}
-use Rattle.llrp_session.specs.declared.words.ClientPhase.TheVariants.{Fresh, Ready}
-use Rattle.llrp_session.specs.declared.words.Command.{Command}
+use Rattle.llrp_tree.specs.Tree.{Tree}
+use Rattle.llrp_session.specs.declared.types.ClientPhase.TheVariants.{Fresh, Ready}
+use Rattle.llrp_session.specs.declared.types.Command.{Command}
+use Rattle.llrp_session.specs.declared.types.Pending.{Pending}
 use Rattle.llrp_session.specs.Refusal.{Refusal}
-use Rattle.llrp_session.specs.Words.{Asks, ClientMessage}
+use Rattle.llrp_session.specs.Contents.{Asks, ClientMessage}
 use Rattle.llrp_session.specs.ClientMachine.{Client, Sending, command, sending, sent_unless, refused_in, awaited}
-use Rattle.llrp_listing.specs.declared.fault.ToolErr.TheVariants.{Strange}
-use Rattle.llrp_endpoints.specs.declared.gathering.Awaits.TheVariants.{Answer}
-use Rattle.llrp_endpoints.specs.declared.gathering.Phase.{Phase}
-use Rattle.llrp_endpoints.specs.declared.gathering.Phase.TheVariants.{Open, Closed, Failed}
-use Rattle.llrp_endpoints.specs.Plan.{Plan, commands}
-use Rattle.llrp_endpoints.specs.Gathering.{Course, begun, ends, awaited_after, sends_by, sends, goes_on}
-use Rattle.llrp_endpoints.specs.Calls.PlanLaws.{is_command, asked, numbered, SendsInOrder}
-use Rattle.llrp_endpoints.proofs.PlanCommands.{polls_in, numbered-last}
+use Rattle.llrp_listing.specs.declared.outcome.ToolErr.TheVariants.{Strange}
+use Rattle.llrp_endpoints.specs.declared.course.Awaits.TheVariants.{Answer}
+use Rattle.llrp_endpoints.specs.declared.course.Phase.{Phase}
+use Rattle.llrp_endpoints.specs.declared.course.Phase.TheVariants.{Open, Closed, Failed}
+use Rattle.llrp_endpoints.specs.declared.course.Step.{Step}
+use Rattle.llrp_endpoints.specs.declared.course.Step.TheVariants.{Send, AwaitTags}
+use Rattle.llrp_endpoints.specs.Plan.{Plan, steps}
+use Rattle.llrp_endpoints.specs.Calls.Plans.{commands, commands_in}
+use Rattle.llrp_endpoints.specs.Gathering.{Course, new_course, ends, sends_by, takes_step, steps_on, send_next}
+use Rattle.llrp_endpoints.specs.Private.GatheringStands.{awaited_after}
+use Rattle.llrp_endpoints.specs.Calls.PlanLaws.{is_command, asked, numbered, TakesInOrder, TakesNone, with_tags}
+use Rattle.llrp_endpoints.proofs.PlanCommands.{reports_in, tagged_in, numbered-last, commands_in-append}
 
 -- ---- an open course
 
 -- nothing was sent yet
-pub record Begins (c : Course) (first : List Command) : Type 0 where
+pub record Begins (c : Course) (first : List Step) : Type 0 where
   pub none : first ≡ []
   pub fresh : c.client.phase ≡ Fresh
   pub pending : c.client.pending ≡ None
   pub awaits : c.awaits ≡ Answer
 
--- its last command
-pub record Last (c : Course) (first : List Command) : Type 0 where
-  pub before : List Command
-  pub k : Command
-  pub parts : first ≡ before ++ k ∷ []
-  pub awaits : c.awaits ≡ awaited_after k
-  pub polled : polls_in before ≤ length c.reports
+-- there are the reports that these steps await
+pub record HasReports (first : List Step) (reports : List (List Tree)) : Type 0 where
+  pub polled : reports_in first ≤ length reports
+  pub tagged : tagged_in first ≤ with_tags reports
 
--- it waits for what its last command asks for; or that was CLOSE_CONNECTION, and failed
-pub record Waits (c : Course) (first : List Command) : Type 0 where
+-- its last step
+pub record Last (c : Course) (first : List Step) : Type 0 where
+  pub before : List Step
+  pub step : Step
+  pub parts : first ≡ before ++ step ∷ []
+  pub awaits : c.awaits ≡ awaited_after step
+  pub reports : HasReports before c.reports
+
+-- what waits for a response after a step, the command of which has this number
+abbrev pub pending_after : Step → ℕ → Option Pending
+pending_after (Send k) number = awaited number k
+pending_after AwaitTags number = None
+
+-- it waits for what its last step asks for; or that was CLOSE_CONNECTION, and failed
+pub record Waits (c : Course) (first : List Step) : Type 0 where
   pub last : Last c first
   pub ready : c.client.phase ≡ Ready
-  pub pending : (c.client.pending ≡ awaited (length first) last.k) ⊎ ((c.client.pending ≡ None) × (c.left ≡ []))
+  pub pending : (c.client.pending ≡ pending_after last.step (length (commands_in last.before) + 1)) ⊎ ((c.client.pending ≡ None) × (c.left ≡ []))
 
 -- an open course
 pub record Standing (limit : ℕ) (plan : Plan) (c : Course) : Type 0 where
-  pub order : SendsInOrder plan c
+  pub order : TakesInOrder plan c
   pub limit_is : c.client.limit ≡ limit
-  pub next_id : c.client.next_id ≡ length order.first + 1
+  pub next_id : c.client.next_id ≡ length (commands_in order.first) + 1
   pub at : Begins c order.first ⊎ Waits c order.first
 
--- all commands were sent, and there was a report for each poll
+-- all commands were sent, and there were the reports that are awaited
 pub record HasAll (plan : Plan) (c : Course) : Type 0 where
   pub sent_are : asked c ≡ numbered 1 (commands plan)
-  pub polled : plan.polls ≤ length c.reports
+  pub tagged : plan.reports ≤ with_tags c.reports
+  pub polled : plan.reports + plan.polls ≤ length c.reports
 
 -- a course in this phase
 abbrev pub StandsIn : Phase → ℕ → Plan → Course → Type 0
 StandsIn Open limit plan c = Standing limit plan c
-StandsIn Closed limit plan c = SendsInOrder plan c × HasAll plan c
-StandsIn (Failed error) limit plan c = SendsInOrder plan c
+StandsIn Closed limit plan c = TakesInOrder plan c × HasAll plan c
+StandsIn (Failed error) limit plan c = TakesInOrder plan c
 
-pub order_in : (p : Phase) (limit : ℕ) (plan : Plan) (c : Course) → StandsIn p limit plan c → SendsInOrder plan c
+pub order_in : (p : Phase) (limit : ℕ) (plan : Plan) (c : Course) → StandsIn p limit plan c → TakesInOrder plan c
 order_in Open limit plan c s = s.order
 order_in Closed limit plan c s = s.0
 order_in (Failed error) limit plan c s = s
 
-pub begins : (limit : ℕ) (plan : Plan) → Standing limit plan (begun limit plan)
+pub begins : (limit : ℕ) (plan : Plan) → Standing limit plan (new_course limit plan)
 begins limit plan = record {
   order = record { first = []; parts = refl; sent_are = refl };
   limit_is = refl;
@@ -72,32 +89,35 @@ begins limit plan = record {
   at = inl (record { none = refl; fresh = refl; pending = refl; awaits = refl });
 }
 
--- ---- the next command
+-- ---- the next step
 
--- its client may send the next command
+-- its client may take the next step
 pub record MaySend (limit : ℕ) (plan : Plan) (c : Course) : Type 0 where
-  pub order : SendsInOrder plan c
+  pub order : TakesInOrder plan c
   pub limit_is : c.client.limit ≡ limit
-  pub next_id : c.client.next_id ≡ length order.first + 1
+  pub next_id : c.client.next_id ≡ length (commands_in order.first) + 1
   pub ready : c.client.phase ≡ Ready
   pub pending : c.client.pending ≡ None
-  pub polled : polls_in order.first ≤ length c.reports
+  pub reports : HasReports order.first c.reports
 
-pub record AsksOne (c d : Course) : Type 0 where
-  pub next : ClientMessage
-  pub sent_are : asked d ≡ asked c ++ next ∷ []
+-- from the one to the other the step after these was taken
+pub record StepsOne (plan : Plan) (done : List Step) (c d : Course) : Type 0 where
+  pub parts : steps plan ≡ done ++ c.left
+  pub step : Step
+  pub next : c.left ≡ step ∷ d.left
+  pub sent_are : asked d ≡ asked c ++ numbered (length (commands_in done) + 1) (commands_in (step ∷ []))
 
--- from the one to the other one command was sent at most
-pub record Goes (limit : ℕ) (plan : Plan) (c d : Course) : Type 0 where
+-- from the one to the other one step was taken at most
+pub record Goes (limit : ℕ) (plan : Plan) (done : List Step) (c d : Course) : Type 0 where
   pub stands : StandsIn d.phase limit plan d
-  pub sends : (asked d ≡ asked c) ⊎ AsksOne c d
+  pub takes : TakesNone c d ⊎ StepsOne plan done c d
 
 pub in_phase : (p q : Phase) (limit : ℕ) (plan : Plan) (c : Course) → p ≡ q → StandsIn q limit plan c → StandsIn p limit plan c
 in_phase p q limit plan c e s = subst (λ (x : Phase). StandsIn x limit plan c) (sym e) s
 
 -- an order that only what else the course has leaves
-abbrev pub same_order : (plan : Plan) (c d : Course) (s : SendsInOrder plan c) → d.left ≡ c.left → asked d ≡ asked c → SendsInOrder plan d
-same_order plan c d s l a = record { first = s.first; parts = s.parts ∙ ap (λ (ks : List Command). s.first ++ ks) (sym l); sent_are = a ∙ s.sent_are }
+abbrev pub same_order : (plan : Plan) (c d : Course) (s : TakesInOrder plan c) → d.left ≡ c.left → asked d ≡ asked c → TakesInOrder plan d
+same_order plan c d s l a = record { first = s.first; parts = s.parts ∙ ap (λ (ks : List Step). s.first ++ ks) (sym l); sent_are = a ∙ s.sent_are }
 
 is_sending : (o : Option Refusal) (c : Client) (k : Command) (s : Sending) → sent_unless o c k ≡ Ok s → s ≡ sending c k
 is_sending None c k s e = cc
@@ -111,47 +131,73 @@ sent_last : (c : Course) (m : ClientMessage) → is_command m.word ≡ true → 
 sent_last c m e =
     filter-append (λ (x : ClientMessage). is_command x.word) c.sent (m ∷ []) ∙ ap (λ (b : Bool). asked c ++ cond b (m ∷ []) []) e
 
+-- the order once a step more was taken
+abbrev one_more : (plan : Plan) (c d : Course) (step : Step) (left : List Step) (s : TakesInOrder plan c) → c.left ≡ step ∷ left → d.left ≡ left
+    → asked d ≡ asked c ++ numbered (length (commands_in s.first) + 1) (commands_in (step ∷ [])) → TakesInOrder plan d
+one_more plan c d step left s l m a = record {
+  first = s.first ++ step ∷ [];
+  parts = s.parts ∙ ap (λ (ks : List Step). s.first ++ ks) (l ∙ ap (λ (ks : List Step). step ∷ ks) (sym m)) ∙ sym (append_assoc s.first (step ∷ []) d.left);
+  sent_are = a ∙ ap (λ (ms : List ClientMessage). ms ++ numbered (length (commands_in s.first) + 1) (commands_in (step ∷ []))) s.sent_are ∙ sym (numbered-last s.first step);
+}
+
 -- the client takes the command
-sent_one : (limit : ℕ) (plan : Plan) (c : Course) (k : Command) (left : List Command) → MaySend limit plan c → c.phase ≡ Open → c.left ≡ k ∷ left → Goes limit plan c (sends_by (Ok (sending c.client k)) k left c)
+sent_one : (limit : ℕ) (plan : Plan) (c : Course) (k : Command) (left : List Step) (f : MaySend limit plan c) → c.phase ≡ Open → c.left ≡ Send k ∷ left → Goes limit plan f.order.first c (sends_by (Ok (sending c.client k)) k left c)
 sent_one limit plan c k left f opened l =
     let d : Course = sends_by (Ok (sending c.client k)) k left c in
-    let first : List Command = f.order.first in
+    let first : List Step = f.order.first in
     let m : ClientMessage = record { id = c.client.next_id; word = Asks k } in
     let one : asked d ≡ asked c ++ m ∷ [] = sent_last c m refl in
-    let long : length (first ++ k ∷ []) ≡ length first + 1 = omega (arith, length-append first (k ∷ [])) in
-    let id : c.client.next_id ≡ 1 + length first = f.next_id ∙ omega arith in
-    let parts : commands plan ≡ (first ++ k ∷ []) ++ left = f.order.parts ∙ ap (λ (ks : List Command). first ++ ks) l ∙ sym (append_assoc first (k ∷ []) left) in
-    let sent : asked d ≡ numbered 1 (first ++ k ∷ []) =
-    one ∙ ap (λ (ms : List ClientMessage). ms ++ m ∷ []) f.order.sent_are
-    ∙ ap (λ (n : ℕ). let x : ClientMessage = record { id = n; word = Asks k } in numbered 1 first ++ x ∷ []) id
-    ∙ sym (numbered-last 1 first k) in
+    let numbers : asked d ≡ asked c ++ numbered (length (commands_in first) + 1) (k ∷ []) = one ∙ ap (λ (n : ℕ). let x : ClientMessage = record { id = n; word = Asks k } in asked c ++ x ∷ []) f.next_id in
+    let long : length (commands_in (first ++ Send k ∷ [])) ≡ length (commands_in first) + 1 =
+    ap (λ (ks : List Command). length ks) (commands_in-append first (Send k ∷ [])) ∙ omega (arith, length-append (commands_in first) (k ∷ [])) in
     let standing : Standing limit plan d = record {
-      order = record { first = first ++ k ∷ []; parts = parts; sent_are = sent };
+      order = one_more plan c d (Send k) left f.order l refl numbers;
       limit_is = f.limit_is;
       next_id = omega (arith, f.next_id, long);
       at = inr (record {
-        last = record { before = first; k = k; parts = refl; awaits = refl; polled = f.polled };
+        last = record { before = first; step = Send k; parts = refl; awaits = refl; reports = record { polled = f.reports.polled; tagged = f.reports.tagged } };
         ready = f.ready;
-        pending = inl (ap (λ (n : ℕ). awaited n k) (f.next_id ∙ sym long));
+        pending = inl (ap (λ (n : ℕ). awaited n k) f.next_id);
       });
     } in
-    record { stands = in_phase c.phase Open limit plan d opened standing; sends = inr (record { next = m; sent_are = one }) }
+    record { stands = in_phase c.phase Open limit plan d opened standing; takes = inr (record { parts = f.order.parts; step = Send k; next = l; sent_are = numbers }) }
 
-abbrev pub failed_order : (plan : Plan) (c : Course) (p : Phase) (s : SendsInOrder plan c) → SendsInOrder plan (ends p c)
+-- a report with a tag is awaited
+waits_one : (limit : ℕ) (plan : Plan) (c : Course) (left : List Step) (f : MaySend limit plan c) → c.phase ≡ Open → c.left ≡ AwaitTags ∷ left → Goes limit plan f.order.first c (takes_step AwaitTags left c)
+waits_one limit plan c left f opened l =
+    let d : Course = takes_step AwaitTags left c in
+    let first : List Step = f.order.first in
+    let none : asked d ≡ asked c ++ [] = sym (append-nil (asked c)) in
+    let long : length (commands_in (first ++ AwaitTags ∷ [])) ≡ length (commands_in first) =
+    ap (λ (ks : List Command). length ks) (commands_in-append first (AwaitTags ∷ []) ∙ append-nil (commands_in first)) in
+    let standing : Standing limit plan d = record {
+      order = one_more plan c d AwaitTags left f.order l refl none;
+      limit_is = f.limit_is;
+      next_id = omega (arith, f.next_id, long);
+      at = inr (record {
+        last = record { before = first; step = AwaitTags; parts = refl; awaits = refl; reports = record { polled = f.reports.polled; tagged = f.reports.tagged } };
+        ready = f.ready;
+        pending = inl f.pending;
+      });
+    } in
+    record { stands = in_phase c.phase Open limit plan d opened standing; takes = inr (record { parts = f.order.parts; step = AwaitTags; next = l; sent_are = none }) }
+
+abbrev pub failed_order : (plan : Plan) (c : Course) (p : Phase) (s : TakesInOrder plan c) → TakesInOrder plan (ends p c)
 failed_order plan c p s = same_order plan c (ends p c) s refl refl
 
-sent_by : (limit : ℕ) (plan : Plan) (c : Course) (k : Command) (left : List Command) (r : Result Sending Refusal) → MaySend limit plan c → c.phase ≡ Open → c.left ≡ k ∷ left → command c.client k ≡ r → Goes limit plan c (sends_by r k left c)
-sent_by limit plan c k left (Err refusal) f opened l e = record { stands = failed_order plan c (Failed Strange) f.order; sends = inl refl }
+sent_by : (limit : ℕ) (plan : Plan) (c : Course) (k : Command) (left : List Step) (r : Result Sending Refusal) (f : MaySend limit plan c) → c.phase ≡ Open → c.left ≡ Send k ∷ left → command c.client k ≡ r
+    → Goes limit plan f.order.first c (sends_by r k left c)
+sent_by limit plan c k left (Err refusal) f opened l e = record { stands = failed_order plan c (Failed Strange) f.order; takes = inl (record { left = refl; sent_are = refl }) }
 sent_by limit plan c k left (Ok s) f opened l e =
-    subst (λ (x : Sending). Goes limit plan c (sends_by (Ok x) k left c)) (sym (as_sent c.client k s e)) (sent_one limit plan c k left f opened l)
+    subst (λ (x : Sending). Goes limit plan f.order.first c (sends_by (Ok x) k left c)) (sym (as_sent c.client k s e)) (sent_one limit plan c k left f opened l)
 
-pub sent_next : (limit : ℕ) (plan : Plan) (c : Course) (k : Command) (left : List Command) → MaySend limit plan c → c.phase ≡ Open → c.left ≡ k ∷ left → Goes limit plan c (goes_on c)
-sent_next limit plan c k left f opened l =
-    subst (λ (ks : List Command). Goes limit plan c (sends ks c)) (sym l) (sent_by limit plan c k left (command c.client k) f opened l refl)
+step_taken : (step : Step) (limit : ℕ) (plan : Plan) (c : Course) (left : List Step) (f : MaySend limit plan c) → c.phase ≡ Open → c.left ≡ step ∷ left → Goes limit plan f.order.first c (takes_step step left c)
+step_taken (Send k) limit plan c left f opened l = sent_by limit plan c k left (command c.client k) f opened l refl
+step_taken AwaitTags limit plan c left f opened l = waits_one limit plan c left f opened l
 
--- the next command is sent, or none is left
-pub goes : (limit : ℕ) (plan : Plan) (c : Course) (ks : List Command) (f : MaySend limit plan c) → Last c f.order.first → c.phase ≡ Open → c.left ≡ ks → Goes limit plan c (goes_on c)
-goes limit plan c (k ∷ left) f last opened l = sent_next limit plan c k left f opened l
+-- the next step is taken, or none is left
+pub goes : (limit : ℕ) (plan : Plan) (c : Course) (ss : List Step) (f : MaySend limit plan c) → Last c f.order.first → c.phase ≡ Open → c.left ≡ ss → Goes limit plan f.order.first c (send_next c)
+goes limit plan c (step ∷ left) f last opened l = subst (λ (ks : List Step). Goes limit plan f.order.first c (steps_on ks c)) (sym l) (step_taken step limit plan c left f opened l)
 goes limit plan c [] f last opened l =
     let standing : Standing limit plan c = record {
       order = f.order;
@@ -159,4 +205,10 @@ goes limit plan c [] f last opened l =
       next_id = f.next_id;
       at = inr (record { last = last; ready = f.ready; pending = inr (f.pending, l) });
     } in
-    subst (λ (ks : List Command). Goes limit plan c (sends ks c)) (sym l) (record { stands = in_phase c.phase Open limit plan c opened standing; sends = inl refl })
+    subst (λ (ks : List Step). Goes limit plan f.order.first c (steps_on ks c)) (sym l)
+    (record { stands = in_phase c.phase Open limit plan c opened standing; takes = inl (record { left = refl; sent_are = refl }) })
+
+-- the first step is taken
+pub goes_first : (limit : ℕ) (plan : Plan) (c : Course) (ss : List Step) (f : MaySend limit plan c) → c.phase ≡ Open → c.left ≡ ss → (ss ≡ [] → ⊥) → Goes limit plan f.order.first c (send_next c)
+goes_first limit plan c (step ∷ left) f opened l some = subst (λ (ks : List Step). Goes limit plan f.order.first c (steps_on ks c)) (sym l) (step_taken step limit plan c left f opened l)
+goes_first limit plan c [] f opened l some = absurd (some refl)

@@ -2,6 +2,7 @@
 use Rattle.std.proofs.Common.{ℕ, List, [], ◌∷◌, sym, ◌∙◌, arith}
 use Rattle.std.specs.List.{AllZip}
 use Rattle.std.proofs.lemmas.List.{append-nil}
+use Rattle.llrp_schema.specs.declared.kinds.Profile.TheVariants.{Own}
 use Rattle.llrp_tree.specs.declared.TheConstants.{MAX_LIMIT}
 use Rattle.llrp_tree.specs.Tree.{MessageTree}
 use Rattle.llrp_tree.specs.Frame.{Frame}
@@ -9,7 +10,7 @@ use Rattle.llrp_tree.proofs.LengthLemmas.{spelled_length}
 use Rattle.llrp_stream.specs.Cuts.{joined}
 use Rattle.llrp_stream.specs.Items.{ItemsSoFar}
 use Rattle.llrp_session.specs.Calls.MessageWorld.{AreSendable}
-use Rattle.llrp_listing.specs.PrintingLaws.{AreSpellings}
+use Rattle.llrp_listing.specs.Private.Profile.{AreSpellings}
 use Rattle.llrp_endpoints.specs.Sending.{AreFrames}
 use Rattle.llrp_listing.proofs.PrintsBack.{as_items, are_frames, are_items}
 
@@ -25,4 +26,4 @@ within limit (m ∷ messages) (f ∷ frames) s h =
 pub frames_read_back : (limit : ℕ) (messages : List MessageTree) (bytes : List ℕ) → AreSendable limit messages → AreFrames messages bytes → ItemsSoFar limit bytes (as_items messages) []
 frames_read_back limit messages bytes s p =
     let each = within limit messages p.frames s p.each in
-    record { frames = p.frames; whole = p.whole ∙ sym (append-nil (joined p.frames)); each = are_frames limit messages p.frames each; are = are_items limit messages p.frames each }
+    record { frames = p.frames; whole = p.whole ∙ sym (append-nil (joined p.frames)); each = are_frames Own limit messages p.frames each; are = are_items Own limit messages p.frames each }

@@ -6,12 +6,13 @@ use Rattle.llrp_tree.specs.Tree.{MessageTree}
 use Rattle.llrp_stream.specs.Device.{SourceLog}
 use Rattle.llrp_stream.proofs.RunLemmas.{items_grow}
 use Rattle.llrp_session.specs.ReaderMachine.{Reader}
-use Rattle.llrp_listing.specs.declared.fault.ToolErr.{ToolErr}
-use Rattle.llrp_listing.specs.declared.fault.ToolErr.TheVariants.{Listing, Script, Hex, Read, Write, Bound, Broken, Memory, Peer, Strange, Early}
+use Rattle.llrp_listing.specs.declared.outcome.ToolErr.{ToolErr}
+use Rattle.llrp_listing.specs.declared.outcome.ToolErr.TheVariants.{Listing, Script, Hex, Read, Write, Bound, Broken, Memory, Peer, Strange, Early}
 use Rattle.llrp_endpoints.specs.declared.script.Entry.{Entry}
 use Rattle.llrp_endpoints.specs.declared.serving.Serving.{Serving}
-use Rattle.llrp_endpoints.specs.Private.EndsStand.{spoken, heard, IsServing, ReadsNone, Given, ReaderStands, ReaderStops}
-use Rattle.llrp_endpoints.specs.RunLoop.{Ends, Traffic, ReaderGoes}
+use Rattle.llrp_listing.specs.Calls.Copying.{Given}
+use Rattle.llrp_endpoints.specs.Private.EndsStand.{spoken, heard, IsServing, ReadsNone, ReaderStands, ReaderStops}
+use Rattle.llrp_endpoints.specs.RunLoop.{BothEnds, Traffic, ReaderGoes}
 use Rattle.llrp_endpoints.specs.Sending.{AreFrames, Adds}
 use Rattle.llrp_endpoints.specs.Serving.{HasClosed}
 use Rattle.llrp_endpoints.specs.Calls.ServingStands.{IsOpen, IsClosed, Starts, Feeds}
@@ -24,7 +25,7 @@ frames_behind : (a b : List MessageTree) (written old new : List ℕ) → AreFra
 frames_behind a b written old new p q =
     subst (λ (x : List ℕ). AreFrames (a ++ b) x) (append_assoc written old q.text ∙ ap (λ (x : List ℕ). written ++ x) (sym q.whole)) (frames_append a b (written ++ old) q.text p q.frames)
 
-pub reader_goes : (e : Ends) (down up : Traffic) (s : Serving) → ReaderStands e down.written up.read s down.unwritten → ReaderGoes e down up
+pub reader_goes : (e : BothEnds) (down up : Traffic) (s : Serving) → ReaderStands e down.written up.read s down.unwritten → ReaderGoes e down up
 reader_goes e down up s h = by_serving h.serving
   where
     by_serving : IsServing e.reader e.entries up.read h.messages s → ReaderGoes e down up
@@ -33,7 +34,7 @@ reader_goes e down up s h = by_serving h.serving
 
 -- ---- the start
 
-pub reader_starts : (e : Ends) (core : Reader) (entries : List Entry) (s : Serving) (old out : List ℕ) (u : Unit {0}) → e.reader ≡ core → e.entries ≡ entries → old ≡ [] → Starts core entries s old out (Ok u) → ReaderStands e [] [] s out
+pub reader_starts : (e : BothEnds) (core : Reader) (entries : List Entry) (s : Serving) (old out : List ℕ) (u : Unit {0}) → e.reader ≡ core → e.entries ≡ entries → old ≡ [] → Starts core entries s old out (Ok u) → ReaderStands e [] [] s out
 reader_starts e core entries s old out u is are none h = record {
   messages = h.0;
   serving = rw (is, are) (inl h.2);
@@ -58,7 +59,7 @@ closed_more reader entries bytes more messages h = record {
   messages_are = h.messages_are;
 }
 
-pub reader_takes : (e : Ends) (written read piece old out : List ℕ) (s new : Serving) (b : Bool) → ReaderStands e written read s old → Fed s new piece old out (Ok b) → ReaderStands e written (read ++ piece) new out
+pub reader_takes : (e : BothEnds) (written read piece old out : List ℕ) (s new : Serving) (b : Bool) → ReaderStands e written read s old → Fed s new piece old out (Ok b) → ReaderStands e written (read ++ piece) new out
 reader_takes e written read piece old out s new b h f = by_serving h.serving
   where
     by_answer : (b : Bool) → Feeds e.reader e.entries read h.messages piece new old out (Ok b) → ReaderStands e written (read ++ piece) new out
@@ -76,7 +77,7 @@ reader_takes e written read piece old out s new b h f = by_serving h.serving
         }
 
 -- a feed ends it
-pub reader_fails : (e : Ends) (r0 r1 : SourceLog) (down up : Traffic) (read piece old out : List ℕ) (s new : Serving) (error : ToolErr) → ReaderStands e down.written read s old → Fed s new piece old out (Err error) → WasGiven r0 r1 (read ++ piece)
+pub reader_fails : (e : BothEnds) (r0 r1 : SourceLog) (down up : Traffic) (read piece old out : List ℕ) (s new : Serving) (error : ToolErr) → ReaderStands e down.written read s old → Fed s new piece old out (Err error) → WasGiven r0 r1 (read ++ piece)
     → ReaderStops e r0 r1 (spoken down out) (heard up (read ++ piece)) error
 reader_fails e r0 r1 down up read piece old out s new error h f given = by_serving h.serving
   where
@@ -98,7 +99,7 @@ reader_fails e r0 r1 down up read piece old out s new error h f given = by_servi
     by_serving (inr c) = let never = (f.closed c.0).0 in absurd cc
 
 -- no read gives bytes
-pub reader_unread : (e : Ends) (r0 r1 : SourceLog) (down up : Traffic) (s : Serving) (error : ToolErr) → ReaderStands e down.written up.read s down.unwritten → ReadsNone r0 r1 up.read error → ReaderStops e r0 r1 down up error
+pub reader_unread : (e : BothEnds) (r0 r1 : SourceLog) (down up : Traffic) (s : Serving) (error : ToolErr) → ReaderStands e down.written up.read s down.unwritten → ReadsNone r0 r1 up.read error → ReaderStops e r0 r1 down up error
 reader_unread e r0 r1 down up s error h n = by_error error n
   where
     by_error : (error : ToolErr) → ReadsNone r0 r1 up.read error → ReaderStops e r0 r1 down up error
@@ -117,15 +118,15 @@ reader_unread e r0 r1 down up s error h n = by_error error n
 -- ---- the loop
 
 -- what it heard so far of this many bytes
-pub record ReaderSoFar (e : Ends) (r0 r1 : SourceLog) (written read : List ℕ) (count left reads1 : ℕ) (s : Serving) (out : List ℕ) : Type 0 where
+pub record ReaderSoFar (e : BothEnds) (r0 r1 : SourceLog) (written read : List ℕ) (count left reads1 : ℕ) (s : Serving) (out : List ℕ) : Type 0 where
   pub bytes : List ℕ
   pub hearing : Hearing r0 r1 read bytes count left reads1
   pub stands : ReaderStands e written (read ++ bytes) s out
 
-pub reader_begins : (e : Ends) (r0 r1 : SourceLog) (written read : List ℕ) (count reads : ℕ) (s : Serving) (out : List ℕ) → ReaderStands e written read s out → Given r0 r1 reads read → ReaderSoFar e r0 r1 written read count count reads s out
+pub reader_begins : (e : BothEnds) (r0 r1 : SourceLog) (written read : List ℕ) (count reads : ℕ) (s : Serving) (out : List ℕ) → ReaderStands e written read s out → Given r0 r1 reads read → ReaderSoFar e r0 r1 written read count count reads s out
 reader_begins e r0 r1 written read count reads s out h g = record { bytes = []; hearing = hearing_none r0 r1 read count reads g; stands = subst (λ (x : List ℕ). ReaderStands e written x s out) (sym (append-nil read)) h }
 
-pub reader_steps : (e : Ends) (r0 r1 r2 : SourceLog) (written read piece : List ℕ) (count left n reads1 reads2 : ℕ) (s new : Serving) (old out : List ℕ) (b : Bool) → ReaderSoFar e r0 r1 written read count left reads1 s old
+pub reader_steps : (e : BothEnds) (r0 r1 r2 : SourceLog) (written read piece : List ℕ) (count left n reads1 reads2 : ℕ) (s new : Serving) (old out : List ℕ) (b : Bool) → ReaderSoFar e r0 r1 written read count left reads1 s old
     → ((r0 : SourceLog) (before : List ℕ) → Given r0 r1 reads1 before → Given r0 r2 reads2 (before ++ piece)) → length piece ≡ n → n ≤ left → Fed s new piece old out (Ok b)
     → ReaderSoFar e r0 r2 written read count (left - n) reads2 new out
 reader_steps e r0 r1 r2 written read piece count left n reads1 reads2 s new old out b f reads is within fed = record {
@@ -135,13 +136,13 @@ reader_steps e r0 r1 r2 written read piece count left n reads1 reads2 s new old 
 }
 
 -- it stopped in the loop
-pub reader_stops_unread : (e : Ends) (r0 r1 r2 : SourceLog) (down up : Traffic) (count left reads1 : ℕ) (s : Serving) (out : List ℕ) (error : ToolErr) → ReaderSoFar e r0 r1 down.written up.read count left reads1 s out
+pub reader_stops_unread : (e : BothEnds) (r0 r1 r2 : SourceLog) (down up : Traffic) (count left reads1 : ℕ) (s : Serving) (out : List ℕ) (error : ToolErr) → ReaderSoFar e r0 r1 down.written up.read count left reads1 s out
     → ((r0 : SourceLog) (before : List ℕ) → Given r0 r1 reads1 before → ReadsNone r0 r2 before error) → (bytes : List ℕ) × (length bytes ≤ count) × ReaderStops e r0 r2 (spoken down out) (heard up (up.read ++ bytes)) error
 reader_stops_unread e r0 r1 r2 down up count left reads1 s out error f none =
     let counted = f.hearing.counted in
     (f.bytes, omega arith, reader_unread e r0 r2 (spoken down out) (heard up (up.read ++ f.bytes)) s error f.stands (none r0 (up.read ++ f.bytes) f.hearing.given))
 
-pub reader_stops_fed : (e : Ends) (r0 r1 r2 : SourceLog) (down up : Traffic) (piece : List ℕ) (count left n reads1 reads2 : ℕ) (s new : Serving) (old out : List ℕ) (error : ToolErr) → ReaderSoFar e r0 r1 down.written up.read count left reads1 s old
+pub reader_stops_fed : (e : BothEnds) (r0 r1 r2 : SourceLog) (down up : Traffic) (piece : List ℕ) (count left n reads1 reads2 : ℕ) (s new : Serving) (old out : List ℕ) (error : ToolErr) → ReaderSoFar e r0 r1 down.written up.read count left reads1 s old
     → ((r0 : SourceLog) (before : List ℕ) → Given r0 r1 reads1 before → Given r0 r2 reads2 (before ++ piece)) → length piece ≡ n → n ≤ left → Fed s new piece old out (Err error)
     → (bytes : List ℕ) × (length bytes ≤ count) × ReaderStops e r0 r2 (spoken down out) (heard up (up.read ++ bytes)) error
 reader_stops_fed e r0 r1 r2 down up piece count left n reads1 reads2 s new old out error f reads is within fed =

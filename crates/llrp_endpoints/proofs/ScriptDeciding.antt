@@ -10,12 +10,12 @@ use Rattle.tag_uri.specs.TagText.{IsTextOf}
 use Rattle.tag_uri.proofs.Deciding.{Decided, Below, below, same_text, text_decided, has_text}
 use Rattle.tag_uri.proofs.ReadLemmas.{bool_cases}
 use Rattle.tag_uri.proofs.TextLaws.{texts_same}
-use Rattle.llrp_session.specs.declared.words.Sighting.{Sighting}
+use Rattle.llrp_session.specs.declared.types.Sighting.{Sighting}
 use Rattle.llrp_endpoints.specs.declared.script.Action.{Action}
 use Rattle.llrp_endpoints.specs.declared.script.Action.TheVariants.{Seen, Tick}
 use Rattle.llrp_endpoints.specs.declared.script.Entry.{Entry}
 use Rattle.llrp_listing.specs.Calls.Splits.{Lacks, IsSplit}
-use Rattle.llrp_endpoints.specs.Calls.Script.{IsSightingLine, IsActionLine, IsEntryLine, IsSightingInRange, IsActionInRange, IsInRange, IsTextOfAll, IsLawful, IsScript, Begins, Continues, NoneContinues, IsRefusedAt}
+use Rattle.llrp_endpoints.specs.Calls.Script.{IsSightingLine, IsActionLine, IsEntryLine, IsSightingInRange, IsActionInRange, IsInRange, IsTextOfAll, IsLawfulScript, IsScript, Begins, Continues, NoneContinues, IsRefusedAt}
 use Rattle.llrp_endpoints.specs.declared.script.TheConstants.{MOST_ENTRIES}
 use Rattle.llrp_endpoints.specs.Private.Script.{MayFollow}
 use Rattle.llrp_endpoints.specs.Calls.ScriptLaws.{ScriptOrRefused}
@@ -157,7 +157,7 @@ may_decided entries after now = elim (cases_lt (length entries) MOST_ENTRIES) [
 ]
 
 -- an entry that may follow comes next, or none
-next_decided : (entries : List Entry) (text : List ℕ) → IsLawful entries → ((e : Entry) × (rest : List ℕ) × Continues entries text e rest) ⊎ NoneContinues entries text
+next_decided : (entries : List Entry) (text : List ℕ) → IsLawfulScript entries → ((e : Entry) × (rest : List ℕ) × Continues entries text e rest) ⊎ NoneContinues entries text
 next_decided entries text lawful = elim (cut 10 text) [
   | inl none ↦ inr (no_line entries text none)
   | inr h ↦ elim (entry_decided h.0) [
@@ -207,7 +207,7 @@ texts (e ∷ entries) =
     let line : List ℕ = decimal e.after ++ (32 ∷ (decimal e.now ++ (32 ∷ a.0))) in
     (line ++ (10 ∷ t.0), (line, t.0, (a.0, a.1, refl), refl, t.1))
 
-pub has_script : (entries : List Entry) → IsLawful entries → (text : List ℕ) × IsScript entries text
+pub has_script : (entries : List Entry) → IsLawfulScript entries → (text : List ℕ) × IsScript entries text
 has_script entries lawful = let t = texts entries in (t.0, record { lawful = lawful; lines = t.1 })
 
 same_action : (a : Action) (s t : List ℕ) → IsActionLine a s → IsActionLine a t → s ≡ t

@@ -10,12 +10,12 @@ use Rattle.std.proofs.lemmas.List.Elements.{All-nil, All-push, All-take}
 use Rattle.std.proofs.lemmas.List.Sorted.{IsNonDecreasingBy-short, IsNonDecreasingBy-push, IsNonDecreasingBy-take}
 use Rattle.tag_uri.specs.TagText.{IsTextOf}
 use Rattle.tag_uri.proofs.TextLaws.{words_apart}
-use Rattle.llrp_session.specs.declared.words.Sighting.{Sighting}
+use Rattle.llrp_session.specs.declared.types.Sighting.{Sighting}
 use Rattle.llrp_endpoints.specs.declared.script.Action.{Action}
 use Rattle.llrp_endpoints.specs.declared.script.Action.TheVariants.{Seen, Tick}
 use Rattle.llrp_endpoints.specs.declared.script.Entry.{Entry}
 use Rattle.llrp_listing.specs.Calls.Splits.{Lacks, IsSplit}
-use Rattle.llrp_endpoints.specs.Calls.Script.{IsSightingLine, IsActionLine, IsEntryLine, IsSightingInRange, IsActionInRange, IsInRange, IsLawful, Continues, NoneContinues}
+use Rattle.llrp_endpoints.specs.Calls.Script.{IsSightingLine, IsActionLine, IsEntryLine, IsSightingInRange, IsActionInRange, IsInRange, IsLawfulScript, Continues, NoneContinues}
 use Rattle.llrp_endpoints.specs.declared.script.TheConstants.{MOST_ENTRIES}
 use Rattle.llrp_endpoints.specs.Private.Script.{MayFollow}
 use Rattle.llrp_listing.proofs.SplitWords.{one_split, lacks_not, lacks_append, decimal_lacks, signed_lacks}
@@ -24,7 +24,7 @@ use Rattle.llrp_endpoints.proofs.WordTexts.{text_lacks}
 -- ---- which entries may follow
 
 -- the last of some entries has the greatest AFTER and the greatest NOW
-pub may_follow : (entries : List Entry) (last : Entry) (after now : ℕ) → IsLawful entries → 0 < length entries → ((d : Entry) → last ≡ get_or entries (length entries - 1) d) → last.after ≤ after → last.now ≤ now → length entries < MOST_ENTRIES → MayFollow entries after now
+pub may_follow : (entries : List Entry) (last : Entry) (after now : ℕ) → IsLawfulScript entries → 0 < length entries → ((d : Entry) → last ≡ get_or entries (length entries - 1) d) → last.after ≤ after → last.now ≤ now → length entries < MOST_ENTRIES → MayFollow entries after now
 may_follow entries last after now lawful some is le_after le_now room = record {
   after_rises = λ k d lt. (let up : (get_or entries k d).after ≤ (get_or entries (length entries - 1) d).after = lawful.after k (length entries - 1) d (omega arith) (omega arith) in omega (arith, up, ap (λ (e : Entry). e.after) (is d)));
   now_rises = λ k d lt. (let up : (get_or entries k d).now ≤ (get_or entries (length entries - 1) d).now = lawful.now k (length entries - 1) d (omega arith) (omega arith) in omega (arith, up, ap (λ (e : Entry). e.now) (is d)));
@@ -37,11 +37,11 @@ last_now entries last after now some is may =
     let up : (get_or entries (length entries - 1) last).now ≤ now = may.now_rises (length entries - 1) last (omega arith) in
     omega (arith, up, ap (λ (e : Entry). e.now) (is last))
 
-pub no_entries : IsLawful []
+pub no_entries : IsLawfulScript []
 no_entries = record { in_range = All-nil IsInRange; after = IsNonDecreasingBy-short (λ e. e.after) [] (omega arith); now = IsNonDecreasingBy-short (λ e. e.now) [] (omega arith); few = omega arith }
 
 -- an entry that may follow leaves the entries lawful
-pub lawful_push : (entries : List Entry) (e : Entry) → IsLawful entries → IsInRange e → MayFollow entries e.after e.now → IsLawful (entries ++ e ∷ [])
+pub lawful_push : (entries : List Entry) (e : Entry) → IsLawfulScript entries → IsInRange e → MayFollow entries e.after e.now → IsLawfulScript (entries ++ e ∷ [])
 lawful_push entries e lawful r may =
     let room = may.room in
     record {
@@ -52,7 +52,7 @@ lawful_push entries e lawful r may =
     }
 
 -- the last of lawful entries
-pub lawful_last : (entries : List Entry) (e : Entry) → IsLawful (entries ++ e ∷ []) → IsInRange e × MayFollow entries e.after e.now
+pub lawful_last : (entries : List Entry) (e : Entry) → IsLawfulScript (entries ++ e ∷ []) → IsInRange e × MayFollow entries e.after e.now
 lawful_last entries e lawful =
     let longer : length (entries ++ e ∷ []) ≡ length entries + 1 = length-append entries (e ∷ []) in
     let few = lawful.few in
@@ -73,7 +73,7 @@ lawful_last entries e lawful =
         omega (arith, step, here, there)
 
 -- the first of lawful entries are lawful
-pub lawful_front : (a b : List Entry) → IsLawful (a ++ b) → IsLawful a
+pub lawful_front : (a b : List Entry) → IsLawfulScript (a ++ b) → IsLawfulScript a
 lawful_front a b h =
     let e : take (length a) (a ++ b) ≡ a = take-append_seam a b in
     let few = h.few in

@@ -4,7 +4,7 @@ use Rattle.std.specs.Prelude.{All}
 use Rattle.std.proofs.lemmas.List.{append-nil}
 use Rattle.std.proofs.lemmas.List.Elements.{All-head, All-tail}
 use Rattle.llrp_endpoints.specs.declared.script.Entry.{Entry}
-use Rattle.llrp_endpoints.specs.Calls.Script.{IsEntryLine, IsInRange, IsTextOfAll, IsLawful, IsScript, Begins, NoneContinues, IsRefusedAt}
+use Rattle.llrp_endpoints.specs.Calls.Script.{IsEntryLine, IsInRange, IsTextOfAll, IsLawfulScript, IsScript, Begins, NoneContinues, IsRefusedAt}
 use Rattle.llrp_listing.proofs.SplitWords.{one_split}
 use Rattle.llrp_endpoints.proofs.ScriptEntries.{lawful_front, one_entry, line_lacks}
 
@@ -68,9 +68,9 @@ align : (text : List ℕ) (a b : List Entry) (x y : List ℕ) → Begins text a 
 align text a b x y p q = aligned a b p.front q.front x y p.script.lawful.in_range q.script.lawful.in_range p.script.lines q.script.lines (sym p.text_is ∙ q.text_is)
 
 -- where others go on, an entry that may follow comes next
-goes_on : (a b : List Entry) (rest : List ℕ) → IsLawful b → NoneContinues a rest → GoesOn a b rest → ⊥
+goes_on : (a b : List Entry) (rest : List ℕ) → IsLawfulScript b → NoneContinues a rest → GoesOn a b rest → ⊥
 goes_on a b rest lawful none g =
-    let whole : IsLawful ((a ++ g.entry ∷ []) ++ g.others) = subst IsLawful (g.longer ∙ sym (append_assoc a (g.entry ∷ []) g.others)) lawful in
+    let whole : IsLawfulScript ((a ++ g.entry ∷ []) ++ g.others) = subst IsLawfulScript (g.longer ∙ sym (append_assoc a (g.entry ∷ []) g.others)) lawful in
     none g.entry g.more (record { line = g.line; says = g.says; text_is = g.rest_is; lawful = lawful_front (a ++ g.entry ∷ []) g.others whole })
 
 -- nothing goes on after the end

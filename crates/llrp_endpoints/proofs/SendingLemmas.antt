@@ -35,7 +35,7 @@ adds_more a b x y z p q = record {
   whole = q.whole ∙ ap (λ (w : List ℕ). w ++ q.text) p.whole ∙ append_assoc x p.text q.text;
 }
 
-adds_one : (m : MessageTree) (old new bytes : List ℕ) → Frame m bytes MAX_LIMIT → new ≡ old ++ bytes → Adds (m ∷ []) old new
+pub adds_one : (m : MessageTree) (old new bytes : List ℕ) → Frame m bytes MAX_LIMIT → new ≡ old ++ bytes → Adds (m ∷ []) old new
 adds_one m old new bytes f e = record { text = bytes; frames = record { frames = bytes ∷ []; each = (f, tt); whole = sym (append-nil bytes) }; whole = e }
 
 -- one more message was written

@@ -9,11 +9,12 @@ use Rattle.llrp_stream.specs.declared.item.FeedErr.{FeedErr}
 use Rattle.llrp_stream.specs.declared.item.FeedErr.TheVariants as decoder
 use Rattle.llrp_stream.specs.Decoding.{DecoderState}
 use Rattle.llrp_stream.specs.Calls.Decoding.{Stands}
-use Rattle.llrp_stream.specs.Feeding.{Takes, Feeds}
+use Rattle.llrp_stream.specs.Feeding.{Feeds}
+use Rattle.llrp_stream.specs.Private.Profile.{Takes}
 use Rattle.llrp_stream.specs.Items.{ItemsSoFar}
 use Rattle.llrp_stream.proofs.RunLemmas.{items_grow}
 use Rattle.llrp_session.specs.ReaderMachine.{Reader}
-use Rattle.llrp_listing.specs.declared.fault.ToolErr.{ToolErr}
+use Rattle.llrp_listing.specs.declared.outcome.ToolErr.{ToolErr}
 use Rattle.llrp_endpoints.specs.declared.script.Entry.{Entry}
 use Rattle.llrp_endpoints.specs.declared.serving.scripted.ScriptedReader.{ScriptedReader}
 use Rattle.llrp_endpoints.specs.declared.serving.Serving.{Serving}

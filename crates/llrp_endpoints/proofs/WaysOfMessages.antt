@@ -15,9 +15,11 @@ use Rattle.llrp_stream.proofs.PrefixLemmas.{cut, end_of, ends}
 use Rattle.llrp_stream.proofs.Unique.{After, after_front, none_left}
 use Rattle.llrp_session.specs.Calls.MessageWorld.{AreSendable}
 use Rattle.llrp_endpoints.specs.ByteWorld.{Way}
-use Rattle.llrp_endpoints.specs.EndsAgree.{AreOnTheWay, IsMessage, IsFrontOfMessage, NextAreMessages}
+use Rattle.llrp_endpoints.specs.Sending.{AreFrames}
+use Rattle.llrp_endpoints.specs.EndsAgree.{IsMessage, IsFrontOfMessage, NextAreMessages}
 use Rattle.llrp_endpoints.proofs.FrameFronts.{within, is_frame}
 use Rattle.llrp_endpoints.proofs.ByteRuns.{next_bytes}
+use Rattle.llrp_endpoints.proofs.GeneralFronts.{never_breaks as not_broken}
 
 -- ---- what follows the whole messages
 
@@ -55,10 +57,6 @@ first_are (i ∷ items) more [] e = absurd (omega (arith, ap length e))
 first_are (Msg m ∷ items) more (k ∷ messages) e = let later : map Msg messages ≡ items ++ more = cc in (tt, first_are items more messages later)
 first_are (Bad id fault ∷ items) more (k ∷ messages) e = cc
 
-not_broken : (front : List ℕ) → end_of front ≡ Broken → ⊥
-not_broken [] e = cc
-not_broken (b ∷ front) e = cc
-
 others_are : (limit : ℕ) (bytes : List ℕ) (messages : List MessageTree) (front : List ℕ) → ItemsSoFar limit bytes (map Msg messages) front → IsPartial front
     → (items : List Item) (rest : List ℕ) → ItemsSoFar limit bytes items rest → AllByRecursion IsMessage items × (Breaks rest → ⊥)
 others_are limit bytes messages front h p items rest other =
@@ -68,7 +66,7 @@ others_are limit bytes messages front h p items rest other =
 
 -- ---- a way
 
-pub next_are_messages : (limit : ℕ) (messages : List MessageTree) (way : Way) → AreSendable limit messages → AreOnTheWay messages way → NextAreMessages limit way
+pub next_are_messages : (limit : ℕ) (messages : List MessageTree) (way : Way) → AreSendable limit messages → AreFrames messages (way.read ++ way.coming) → NextAreMessages limit way
 next_are_messages limit messages way s f n =
     let p = next_bytes limit n messages way s f in
     let sendable : AreSendable limit p.rest = last_sendable limit p.first p.rest (subst (AreSendable limit) p.parts s) in

@@ -11,12 +11,13 @@ use Rattle.llrp_tree.proofs.ReadDigits.{value_at}
 use Rattle.llrp_stream.specs.declared.item.Item.{Item}
 use Rattle.llrp_stream.specs.declared.item.Item.TheVariants.{Msg, Bad}
 use Rattle.llrp_stream.specs.Cuts.{IsFrame}
-use Rattle.llrp_stream.specs.Items.{id_field, IsItemOf}
+use Rattle.llrp_stream.specs.Items.{id_field}
+use Rattle.llrp_stream.specs.Private.Profile.{IsItemOf}
 use Rattle.llrp_session.specs.Refusal.{Refusal}
 use Rattle.llrp_session.specs.ReaderMachine.{Reader, Turn, next}
 use Rattle.llrp_session.specs.ReaderMessages.{reader_message}
 use Rattle.llrp_session.specs.TagReport.{signed_octet}
-use Rattle.llrp_session.specs.Words.{ReaderMessage}
+use Rattle.llrp_session.specs.Contents.{ReaderMessage}
 use Rattle.llrp_session.specs.Calls.LawfulStates.{IsLawfulReader, IsLawfulReaderEvent, AreLawfulReaderMessages}
 use Rattle.llrp_session.specs.Calls.MessageWorld.{AreSendable}
 use Rattle.llrp_session.proofs.LawfulReaders.{reader_as_new, reader_says_lawful}
@@ -25,9 +26,10 @@ use Rattle.llrp_session.proofs.LawfulMessages.{reader_sends}
 use Rattle.llrp_endpoints.specs.declared.script.Action.{Action}
 use Rattle.llrp_endpoints.specs.declared.script.Action.TheVariants.{Seen, Tick}
 use Rattle.llrp_endpoints.specs.declared.script.Entry.{Entry}
-use Rattle.llrp_endpoints.specs.Calls.Script.{IsInRange, IsActionInRange, IsLawful}
+use Rattle.llrp_endpoints.specs.Calls.Script.{IsInRange, IsActionInRange, IsLawfulScript}
 use Rattle.llrp_endpoints.specs.Serving.{Happening, event_in, happening, taking, entries_at, last_moment, events_from, events, turn_or_none, run, BeginsServing, IsNewReader}
 use Rattle.llrp_tree.specs.declared.TheConstants.{MAX_LIMIT}
+use Rattle.llrp_session.proofs.SendableWorlds.{reader_messages-append as sent-append}
 
 -- ---- events whose numbers fit
 
@@ -97,10 +99,6 @@ events_fit entries items r l = (
 
 -- ---- what is said
 
-sent-append : (limit : ℕ) (xs ys : List ReaderMessage) → AreLawfulReaderMessages limit xs → AreLawfulReaderMessages limit ys → AreLawfulReaderMessages limit (xs ++ ys)
-sent-append limit [] ys h g = g
-sent-append limit (x ∷ xs) ys h g = (h.0, sent-append limit xs ys h.1 g)
-
 -- what a turn says is lawful, and so is its reader, which has the same limit
 abbrev IsLawfulFor : ℕ → Turn → Type 0
 IsLawfulFor limit t = AreLawfulReaderMessages limit t.sent × (IsLawfulReader t.reader × (t.reader.limit ≡ limit))
@@ -124,7 +122,7 @@ first_sendable : (limit : ℕ) (a b : List MessageTree) → AreSendable limit (a
 first_sendable limit [] b h = tt
 first_sendable limit (m ∷ a) b h = (h.0, first_sendable limit a b h.1)
 
-pub says_within_limit : (reader : Reader) (entries : List Entry) (bytes : List ℕ) (messages : List MessageTree) → IsNewReader reader → reader.next_id < 2 ^ 32 → IsLawful entries
+pub says_within_limit : (reader : Reader) (entries : List Entry) (bytes : List ℕ) (messages : List MessageTree) → IsNewReader reader → reader.next_id < 2 ^ 32 → IsLawfulScript entries
     → BeginsServing reader entries bytes messages → AreSendable reader.limit messages
 says_within_limit reader entries bytes messages new id lawful h =
     let lawful_reader : IsLawfulReader reader = subst IsLawfulReader (sym new.new) (reader_as_new reader.limit reader.next_id new.least id) in

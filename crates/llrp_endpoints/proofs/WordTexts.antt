@@ -12,15 +12,7 @@ use Rattle.std.specs.Borrow.{Bor}
 use Rattle.tag_uri.specs.TagText.{IsTextOf}
 use Rattle.tag_uri.proofs.TextBytes.{is_visible, visible, text_visible}
 use Rattle.llrp_listing.specs.Calls.Splits.{Lacks}
-use Rattle.llrp_listing.proofs.SplitWords.{left, right}
-
--- visible characters are ASCII
-visible_low : (text : List ℕ) → visible text ≡ true → All (λ b. b < 128) text
-visible_low [] h = All-nil (λ b. b < 128)
-visible_low (c ∷ text) h = All-cons (λ b. b < 128) c text (low c (left (is_visible c) _ h)) (visible_low text (right (is_visible c) _ h))
-  where
-    low : (c : ℕ) → is_visible c ≡ true → c < 128
-    low c h = grind arith
+use Rattle.tag_uri.proofs.UriLemmas.{visible_low, word_text_utf8 as utf8_text, left, right}
 
 -- and neither spaces nor line ends
 visible_lacks : (byte : ℕ) (text : List ℕ) → byte < 33 → visible text ≡ true → Lacks byte text
@@ -32,10 +24,6 @@ visible_lacks byte (c ∷ text) low h = (ne_eqb c byte (λ e. apart c (left (is_
 
     apart : (c : ℕ) → is_visible c ≡ true → c ≡ byte → ⊥
     apart c h e = let t = above c h in omega (arith, t, e)
-
--- a word's text is text
-pub utf8_text : (w : ℕ) (text : List ℕ) → IsTextOf w text → IsUtf8 text
-utf8_text w text h = IsUtf8-from_ascii text (IsAscii-from_all text (visible_low text (text_visible w text h)))
 
 -- a word's text has neither spaces nor line ends
 pub text_lacks : (byte w : ℕ) (text : List ℕ) → byte < 33 → IsTextOf w text → Lacks byte text

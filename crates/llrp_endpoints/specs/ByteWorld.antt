@@ -27,7 +27,7 @@ pub data ByteEvent : Type 0 where
   ReadsDown : (n : ℕ) → ByteEvent
 
 -- The next n bytes are read, or those that there are; these messages are whole in what was read, and the rest begins another.
-pub record Reads (limit n : ℕ) (old new : Way) (messages : List MessageTree) : Type 0 where
+pub record ReadsBytes (limit n : ℕ) (old new : Way) (messages : List MessageTree) : Type 0 where
   pub whole : ItemsSoFar limit (old.read ++ take n old.coming) (map Msg messages) new.read
   pub unfinished : IsPartial new.read
   pub coming : new.coming ≡ drop n old.coming
@@ -53,9 +53,9 @@ abbrev pub Steps : ℕ → ByteEvent → ByteWorld → ByteWorld → Type 0
 Steps limit (Happens e) old new =
     (new.ends ≡ apart (message_happens old.ends e)) × (Sends (message_happens old.ends e).up old.up new.up × Sends (message_happens old.ends e).down old.down new.down)
 Steps limit (ReadsUp now n) old new =
-    (messages : List MessageTree) × (Reads limit n old.up new.up messages × ((new.ends ≡ apart (reader_hears now messages old.ends)) × Sends (reader_hears now messages old.ends).down old.down new.down))
+    (messages : List MessageTree) × (ReadsBytes limit n old.up new.up messages × ((new.ends ≡ apart (reader_hears now messages old.ends)) × Sends (reader_hears now messages old.ends).down old.down new.down))
 Steps limit (ReadsDown n) old new =
-    (messages : List MessageTree) × (Reads limit n old.down new.down messages × ((new.ends ≡ apart (client_hears messages old.ends)) × Sends (client_hears messages old.ends).up old.up new.up))
+    (messages : List MessageTree) × (ReadsBytes limit n old.down new.down messages × ((new.ends ≡ apart (client_hears messages old.ends)) × Sends (client_hears messages old.ends).up old.up new.up))
 
 -- the events one after another
 abbrev pub Runs : ℕ → List ByteEvent → ByteWorld → ByteWorld → Type 0

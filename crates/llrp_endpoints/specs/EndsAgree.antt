@@ -16,15 +16,16 @@ use Rattle.llrp_session.specs.World.{WorldEvent}
 use Rattle.llrp_session.specs.MessageAgreement.{MessagesAreTaken, IsOnTheWay}
 use Rattle.llrp_session.specs.MessageWorld.{MessageWorld, tags_in_messages, tables_in_messages, run_messages, message_opening, AreGiven}
 use Rattle.llrp_endpoints.specs.Sending.{AreFrames}
-use Rattle.llrp_endpoints.specs.ByteWorld.{Way, ByteWorld, ByteEvent, ReadsDown, Reads, Steps, Runs, apart, byte_opening, IsGivenEvent, AreGivenEvents}
-
--- the messages that are on a way, those that are half read among them
-abbrev pub AreOnTheWay : List MessageTree → Way → Type 0
-AreOnTheWay messages way = AreFrames messages (way.read ++ way.coming)
+use Rattle.llrp_endpoints.specs.ByteWorld.{Way, ByteWorld, ByteEvent, ReadsDown, ReadsBytes, Steps, Runs, apart, byte_opening, IsGivenEvent, AreGivenEvents}
 
 -- messages of the profile: the octets of some are also those of a message of the whole standard
 abbrev pub AreOwn : List MessageTree → Type 0
 AreOwn messages = AllByRecursion (λ m. profile_of (Message m.kind) ≡ Own) messages
+
+-- The messages of the profile that are on a way, those that are half read among them.
+pub record AreOnTheWay (messages : List MessageTree) (way : Way) : Type 0 where
+  pub frames : AreFrames messages (way.read ++ way.coming)
+  pub own : AreOwn messages
 
 -- The same two ends, and the same messages on the way.
 pub record IsInBytes (m : MessageWorld) (w : ByteWorld) : Type 0 where
@@ -98,7 +99,7 @@ IsARunOfMessages = (s : Schedule) (w : ByteWorld) → IsGivenSchedule s → Runs
 -- the client takes each message that it reads: none is unexpected, and none comes after its closing
 abbrev pub NothingIsUnexpected : Type 0
 NothingIsUnexpected = (s : Schedule) (w : ByteWorld) → IsGivenSchedule s → RunsTo s w
-    → (n : ℕ) (new : Way) (messages : List MessageTree) → Reads s.limit n w.down new messages → MessagesAreTaken messages w.ends.client
+    → (n : ℕ) (new : Way) (messages : List MessageTree) → ReadsBytes s.limit n w.down new messages → MessagesAreTaken messages w.ends.client
 
 -- with no byte on the way down the client's view is the reader's table of states
 abbrev pub ViewIsTable : ByteWorld → Type 0
@@ -111,19 +112,19 @@ ViewCatchesUp = (s : Schedule) (w new : ByteWorld) → IsGivenSchedule s → Run
 
 -- the reports delivered, followed by those on the way down, are the reports sent, in order, each once
 abbrev pub ReportsArrive : ByteWorld → Type 0
-ReportsArrive w = (down : List MessageTree) → AreOwn down → AreOnTheWay down w.down → w.ends.handed_out ++ tags_in_messages down ≡ w.ends.reported
+ReportsArrive w = (down : List MessageTree) → AreOnTheWay down w.down → w.ends.handed_out ++ tags_in_messages down ≡ w.ends.reported
 
 -- with those held they are the reports of the sightings that counted and were not dropped
 abbrev pub ReportsAreKept : ByteWorld → Type 0
-ReportsAreKept w = (down : List MessageTree) → AreOwn down → AreOnTheWay down w.down → (w.ends.handed_out ++ tags_in_messages down) ++ w.ends.reader.held ≡ w.ends.kept
+ReportsAreKept w = (down : List MessageTree) → AreOnTheWay down w.down → (w.ends.handed_out ++ tags_in_messages down) ++ w.ends.reader.held ≡ w.ends.kept
 
 -- the tables that the client took, followed by those on the way down, are the reader's table as it was at each GET_ROSPECS, in order
 abbrev pub TablesArrive : ByteWorld → Type 0
-TablesArrive w = (down : List MessageTree) → AreOwn down → AreOnTheWay down w.down → w.ends.tables ++ tables_in_messages down ≡ w.ends.listed
+TablesArrive w = (down : List MessageTree) → AreOnTheWay down w.down → w.ends.tables ++ tables_in_messages down ≡ w.ends.listed
 
 -- the pending request is on the way up, or its one response on the way down, never both; without one neither way has any
 abbrev pub PendingIsOnTheWay : ByteWorld → Type 0
-PendingIsOnTheWay w = (up down : List MessageTree) → AreOwn up → AreOwn down → AreOnTheWay up w.up → AreOnTheWay down w.down → IsOnTheWay w.ends.client.pending up down
+PendingIsOnTheWay w = (up down : List MessageTree) → AreOnTheWay up w.up → AreOnTheWay down w.down → IsOnTheWay w.ends.client.pending up down
 
 -- with no byte on either way nothing is pending
 abbrev pub NothingIsPending : ByteWorld → Type 0

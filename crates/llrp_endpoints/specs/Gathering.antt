@@ -5,88 +5,101 @@ use Rattle.llrp_tree.specs.declared.fault.Reason.{Reason}
 use Rattle.llrp_tree.specs.declared.fault.Reason.TheVariants.{MessageType, ParamType}
 use Rattle.llrp_stream.specs.declared.item.Item.{Item}
 use Rattle.llrp_stream.specs.declared.item.Item.TheVariants.{Msg, Bad}
-use Rattle.llrp_stream.specs.Items.{ItemsSoFar}
+use Rattle.llrp_stream.specs.Items.{ItemsSoFarIn}
 use Rattle.llrp_session.specs.Refusal.{Refusal}
-use Rattle.llrp_session.specs.declared.words.Command.{Command}
-use Rattle.llrp_session.specs.declared.words.Command.TheVariants.{GetReport, Close}
-use Rattle.llrp_session.specs.declared.words.Taken.{Taken}
-use Rattle.llrp_session.specs.declared.words.Taken.TheVariants.{Connected, Refused, Reply, Tags, Table, Differs, Event, Note, Kept, Closed as ConnectionEnded}
-use Rattle.llrp_session.specs.Words.{ClientMessage}
+use Rattle.llrp_session.specs.declared.types.Command.{Command}
+use Rattle.llrp_session.specs.declared.types.Command.TheVariants.{GetReport, Close}
+use Rattle.llrp_session.specs.declared.types.Taken.{Taken}
+use Rattle.llrp_session.specs.declared.types.Taken.TheVariants.{Connected, Refused, Reply, Tags, Table, Differs, Event, Note, Kept, Closed as ConnectionEnded}
+use Rattle.llrp_session.specs.Contents.{ClientMessage}
 use Rattle.llrp_session.specs.ClientMachine.{Client, Sending, Taking, command, take, new_client}
 use Rattle.llrp_session.specs.Reading.{heard_of}
-use Rattle.llrp_listing.specs.declared.fault.ToolErr.TheVariants.{Peer, Strange, Early}
-use Rattle.llrp_endpoints.specs.declared.gathering.Awaits.{Awaits}
-use Rattle.llrp_endpoints.specs.declared.gathering.Awaits.TheVariants.{Answer, Report, End}
-use Rattle.llrp_endpoints.specs.declared.gathering.Phase.{Phase}
-use Rattle.llrp_endpoints.specs.declared.gathering.Phase.TheVariants.{Open, Closed, Failed}
-use Rattle.llrp_endpoints.specs.Plan.{Plan, commands}
+use Rattle.llrp_listing.specs.declared.outcome.ToolErr.TheVariants.{Peer, Strange, Early}
+use Rattle.llrp_endpoints.specs.declared.course.Awaits.{Awaits}
+use Rattle.llrp_endpoints.specs.declared.course.Awaits.TheVariants.{Answer, TaggedReport, Report, End}
+use Rattle.llrp_endpoints.specs.declared.course.Phase.{Phase}
+use Rattle.llrp_endpoints.specs.declared.course.Phase.TheVariants.{Open, Closed, Failed}
+use Rattle.llrp_endpoints.specs.declared.course.Step.{Step}
+use Rattle.llrp_endpoints.specs.declared.course.Step.TheVariants.{Send, AwaitTags}
+use Rattle.llrp_endpoints.specs.declared.form.LineForm.{LineForm}
+use Rattle.llrp_endpoints.specs.Heard.{heard}
+use Rattle.llrp_endpoints.specs.Plan.{Plan, steps}
 use Rattle.llrp_endpoints.specs.TagLines.{total_line}
 
 -- the last line, where the connection was closed
-abbrev pub closing_text : Phase → List (List Tree) → List ℕ
-closing_text Closed reports = total_line reports
-closing_text Open reports = []
-closing_text (Failed error) reports = []
+abbrev pub closing_text : LineForm → Phase → List (List Tree) → List ℕ
+closing_text form Closed reports = total_line form reports
+closing_text form Open reports = []
+closing_text form (Failed error) reports = []
 
 -- how far it is
 pub record Course : Type 0 where
   pub client : Client
-  pub left : List Command  -- the plan's commands that are not sent yet
+  pub form : LineForm  -- the form of its lines
+  pub left : List Step  -- the plan's steps that are not taken yet
   pub awaits : Awaits  -- what is awaited before the next one
   pub sent : List ClientMessage  -- all that the client has sent
   pub reports : List (List Tree)  -- the TagReportData of each report that came
   pub phase : Phase
 
 -- the reader is connected, and has not accepted the client yet
-abbrev pub begun : ℕ → Plan → Course
-begun limit plan = record { client = new_client limit 1; left = commands plan; awaits = Answer; sent = []; reports = []; phase = Open }
+abbrev pub new_course : ℕ → Plan → Course
+new_course limit plan = record { client = new_client limit 1; form = plan.form; left = steps plan; awaits = Answer; sent = []; reports = []; phase = Open }
 
 -- it ends so
 abbrev pub ends : Phase → Course → Course
 ends phase c = record c { phase = phase }
 
--- ---- the next command
+-- ---- the next step
 
 -- what is awaited after a command: for GET_REPORT a report, for CLOSE_CONNECTION the connection's end, for another its response
-abbrev pub awaited_after : Command → Awaits
-awaited_after GetReport = Report
-awaited_after Close = End
-awaited_after _ = Answer
+abbrev pub awaited_for : Command → Awaits
+awaited_for GetReport = Report
+awaited_for Close = End
+awaited_for _ = Answer
 
 -- the client sends a command; one that it refused would be strange
-abbrev pub sends_by : Result Sending Refusal → Command → List Command → Course → Course
-sends_by (Ok sending) k left c = record c { client = sending.client; left = left; awaits = awaited_after k; sent = c.sent ++ sending.message ∷ [] }
+abbrev pub sends_by : Result Sending Refusal → Command → List Step → Course → Course
+sends_by (Ok sending) k left c = record c { client = sending.client; left = left; awaits = awaited_for k; sent = c.sent ++ sending.message ∷ [] }
 sends_by (Err refusal) k left c = ends (Failed Strange) c
 
-abbrev pub sends : List Command → Course → Course
-sends [] c = c
-sends (k ∷ left) c = sends_by (command c.client k) k left c
+-- a step is taken, and these are left
+abbrev pub takes_step : Step → List Step → Course → Course
+takes_step (Send k) left c = sends_by (command c.client k) k left c
+takes_step AwaitTags left c = record c { left = left; awaits = TaggedReport }
 
--- the next command is sent, if one is left
-abbrev pub goes_on : Course → Course
-goes_on c = sends c.left c
+abbrev pub steps_on : List Step → Course → Course
+steps_on [] c = c
+steps_on (step ∷ left) c = takes_step step left c
+
+-- the next step is taken, if one is left
+abbrev pub send_next : Course → Course
+send_next c = steps_on c.left c
 
 -- ---- messages
 
--- a report that was awaited leads on
-abbrev pub reported : Awaits → Course → Course
-reported Report c = goes_on c
-reported Answer c = c
-reported End c = c
+-- a report that was awaited leads on; one without a tag is not such where a tag is awaited
+abbrev pub reported : Awaits → List Tree → Course → Course
+reported Report tags c = send_next c
+reported TaggedReport [] c = c
+reported TaggedReport (tag ∷ tags) c = send_next c
+reported Answer tags c = c
+reported End tags c = c
 
 -- the end of the connection is fine only where it is awaited
 abbrev pub ended : Awaits → Phase
 ended End = Closed
 ended Answer = Failed Early
+ended TaggedReport = Failed Early
 ended Report = Failed Early
 
 -- the connection, a response of status 0, and a table that is the client's view lead on; one that differs is strange
 abbrev pub after : Taken → Course → Course
-after Connected c = goes_on c
+after Connected c = send_next c
 after (Refused status) c = ends (Failed (Peer status)) c
-after (Reply status) c = if status == 0 then goes_on c else ends (Failed (Peer status)) c
-after (Tags tags) c = reported c.awaits (record c { reports = c.reports ++ tags ∷ [] })
-after (Table rospecs) c = goes_on c
+after (Reply status) c = if status == 0 then send_next c else ends (Failed (Peer status)) c
+after (Tags tags) c = reported c.awaits tags (record c { reports = c.reports ++ tags ∷ [] })
+after (Table rospecs) c = send_next c
 after (Differs rospecs) c = ends (Failed Strange) c
 after (Event id state) c = c
 after Note c = c
@@ -123,5 +136,5 @@ follow (item ∷ items) c = follow items (goes c.phase item c)
 -- A client with this limit that follows the plan is so far once the items of the bytes' first frames came; this is what follows those frames.
 pub record Gathers (limit : ℕ) (plan : Plan) (bytes rest : List ℕ) (course : Course) : Type 0 where
   pub items : List Item
-  pub are : ItemsSoFar limit bytes items rest
-  pub course_is : course ≡ follow items (begun limit plan)
+  pub are : ItemsSoFarIn plan.profile limit bytes items rest
+  pub course_is : course ≡ follow (heard plan.profile items) (new_course limit plan)

@@ -1,6 +1,7 @@
 pub mod ByteWorld
 pub mod EndsAgree
 pub mod Gathering
+pub mod Heard
 pub mod Plan
 pub mod RunInventory
 pub mod RunLoop

@@ -2,5 +2,9 @@
 pub mod Acting
 pub mod EndsStand
 pub mod GatheringStands
+pub mod Heard
+pub mod Objects
 pub mod Script
 pub mod ServingStands
+pub mod General
+pub mod Server

@@ -4,13 +4,13 @@ use Rattle.llrp_tree.specs.Tree.{Tree, MessageTree}
 use Rattle.llrp_stream.specs.Cuts.{IsPartial, Breaks}
 use Rattle.llrp_stream.specs.Device.{SourceLog, SinkLog, Gave, Wrote, WroteAndFailed}
 use Rattle.llrp_session.specs.ClientMessages.{client_message}
-use Rattle.llrp_listing.specs.declared.fault.ToolErr.{ToolErr}
-use Rattle.llrp_listing.specs.declared.fault.ToolErr.TheVariants.{Read, Write, Bound, Broken, Memory, Peer, Strange, Early}
-use Rattle.llrp_endpoints.specs.declared.gathering.Phase.{Phase}
-use Rattle.llrp_endpoints.specs.declared.gathering.Phase.TheVariants.{Open, Closed, Failed}
+use Rattle.llrp_listing.specs.declared.outcome.ToolErr.{ToolErr}
+use Rattle.llrp_listing.specs.declared.outcome.ToolErr.TheVariants.{Read, Write, Bound, Broken, Memory, Peer, Strange, Early}
+use Rattle.llrp_endpoints.specs.declared.course.Phase.{Phase}
+use Rattle.llrp_endpoints.specs.declared.course.Phase.TheVariants.{Open, Closed, Failed}
 use Rattle.llrp_endpoints.specs.declared.summary.Summary.{Summary}
 use Rattle.llrp_listing.specs.Copying.{ReadAll, GaveAndFailed, IsPrefix, WasGiven}
-use Rattle.llrp_listing.specs.declared.copying.TheConstants.{MOST_READS}
+use Rattle.llrp_listing.specs.declared.devices.TheConstants.{MOST_READS}
 use Rattle.llrp_endpoints.specs.Gathering.{Course, Gathers}
 use Rattle.llrp_endpoints.specs.Gathering.{closing_text}
 use Rattle.llrp_endpoints.specs.Plan.{Plan}
@@ -23,8 +23,8 @@ use Rattle.llrp_endpoints.specs.TagLines.{AreReports, summary_of}
 pub record Says (course : Course) (frames text : List ℕ) : Type 0 where
   pub frames_are : AreFrames (map client_message course.sent) frames
   pub lines : List ℕ
-  pub lines_are : AreReports course.reports lines
-  pub text_is : text ≡ lines ++ closing_text course.phase course.reports
+  pub lines_are : AreReports course.form course.reports lines
+  pub text_is : text ≡ lines ++ closing_text course.form course.phase course.reports
 
 -- The frames of the first messages that were sent, and the lines of the first reports.
 pub record SaysSome (course : Course) (frames text : List ℕ) : Type 0 where
@@ -35,13 +35,13 @@ pub record SaysSome (course : Course) (frames text : List ℕ) : Type 0 where
   pub reports : List (List Tree)
   pub later_reports : List (List Tree)
   pub reports_are : course.reports ≡ reports ++ later_reports
-  pub lines_are : AreReports reports text
+  pub lines_are : AreReports course.form reports text
 
 -- ---- how far a course is
 
 -- all items of the bytes' frames were taken, and further bytes are awaited
-abbrev pub Awaits : ℕ → Plan → List ℕ → Course → Type 0
-Awaits limit plan bytes course = (rest : List ℕ) × Gathers limit plan bytes rest course × (course.phase ≡ Open) × IsPartial rest
+abbrev pub AwaitsBytes : ℕ → Plan → List ℕ → Course → Type 0
+AwaitsBytes limit plan bytes course = (rest : List ℕ) × Gathers limit plan bytes rest course × (course.phase ≡ Open) × IsPartial rest
 
 -- all items of the bytes' frames were taken, and then a length field is below 10
 abbrev pub BreaksOff : ℕ → Plan → List ℕ → Course → Type 0
@@ -74,12 +74,12 @@ StoppedWriting frames text w0 w1 t0 t1 =
 abbrev pub RunsInventory : ℕ → Plan → SourceLog → SourceLog → SinkLog → SinkLog → SinkLog → SinkLog → List ℕ → Result Summary ToolErr → Type 0
 RunsInventory limit plan r0 r1 w0 w1 t0 t1 bytes (Ok summary) = WasGiven r0 r1 bytes × (course : Course) × Ended Closed limit plan bytes course × WroteAll course w0 w1 t0 t1 × (summary ≡ summary_of course.reports)
 RunsInventory limit plan r0 r1 w0 w1 t0 t1 bytes (Err Early) =
-    (course : Course) × WroteAll course w0 w1 t0 t1 × ((ReadAll r0 r1 bytes × Awaits limit plan bytes course) ⊎ (WasGiven r0 r1 bytes × Ended (Failed Early) limit plan bytes course))
+    (course : Course) × WroteAll course w0 w1 t0 t1 × ((ReadAll r0 r1 bytes × AwaitsBytes limit plan bytes course) ⊎ (WasGiven r0 r1 bytes × Ended (Failed Early) limit plan bytes course))
 RunsInventory limit plan r0 r1 w0 w1 t0 t1 bytes (Err (Peer status)) = WasGiven r0 r1 bytes × (course : Course) × Ended (Failed (Peer status)) limit plan bytes course × WroteAll course w0 w1 t0 t1
 RunsInventory limit plan r0 r1 w0 w1 t0 t1 bytes (Err Strange) = WasGiven r0 r1 bytes × (course : Course) × Ended (Failed Strange) limit plan bytes course × WroteAll course w0 w1 t0 t1
 RunsInventory limit plan r0 r1 w0 w1 t0 t1 bytes (Err Broken) = WasGiven r0 r1 bytes × (course : Course) × BreaksOff limit plan bytes course × WroteAll course w0 w1 t0 t1
-RunsInventory limit plan r0 r1 w0 w1 t0 t1 bytes (Err Read) = ((n : ℕ) × GaveAndFailed r0 r1 n bytes) × (course : Course) × Awaits limit plan bytes course × WroteAll course w0 w1 t0 t1
-RunsInventory limit plan r0 r1 w0 w1 t0 t1 bytes (Err Bound) = Gave r0 r1 MOST_READS bytes × (course : Course) × Awaits limit plan bytes course × WroteAll course w0 w1 t0 t1
+RunsInventory limit plan r0 r1 w0 w1 t0 t1 bytes (Err Read) = ((n : ℕ) × GaveAndFailed r0 r1 n bytes) × (course : Course) × AwaitsBytes limit plan bytes course × WroteAll course w0 w1 t0 t1
+RunsInventory limit plan r0 r1 w0 w1 t0 t1 bytes (Err Bound) = Gave r0 r1 MOST_READS bytes × (course : Course) × AwaitsBytes limit plan bytes course × WroteAll course w0 w1 t0 t1
 RunsInventory limit plan r0 r1 w0 w1 t0 t1 bytes (Err Write) = WasGiven r0 r1 bytes × (frames text : List ℕ) × BeginsSaying limit plan bytes frames text × StoppedWriting frames text w0 w1 t0 t1
 RunsInventory limit plan r0 r1 w0 w1 t0 t1 bytes (Err Memory) = WasGiven r0 r1 bytes × (frames text : List ℕ) × BeginsSaying limit plan bytes frames text × Wrote w0 w1 frames × Wrote t0 t1 text
 RunsInventory limit plan r0 r1 w0 w1 t0 t1 bytes (Err _) = ⊥

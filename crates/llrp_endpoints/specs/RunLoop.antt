@@ -3,17 +3,18 @@ use Rattle.std.specs.Prelude.{◌≡◌, ℕ, ◌+◌, ◌≤◌, ◌⊎◌, Lis
 use Rattle.llrp_tree.specs.Tree.{MessageTree}
 use Rattle.llrp_stream.specs.Device.{SourceLog, SinkLog, Gave, Wrote, WroteAndFailed}
 use Rattle.llrp_session.specs.ReaderMachine.{Reader}
-use Rattle.llrp_listing.specs.declared.fault.ToolErr.{ToolErr}
-use Rattle.llrp_listing.specs.declared.fault.ToolErr.TheVariants.{Read, Write, Bound, Broken, Memory, Peer, Strange, Early}
-use Rattle.llrp_endpoints.specs.declared.gathering.Phase.{Phase}
-use Rattle.llrp_endpoints.specs.declared.gathering.Phase.TheVariants.{Closed, Failed}
+use Rattle.llrp_listing.specs.declared.outcome.ToolErr.{ToolErr}
+use Rattle.llrp_listing.specs.declared.outcome.ToolErr.TheVariants.{Read, Write, Bound, Broken, Memory, Peer, Strange, Early}
+use Rattle.llrp_endpoints.specs.declared.both_ends.Endpoint.{Endpoint}
+use Rattle.llrp_endpoints.specs.declared.course.Phase.{Phase}
+use Rattle.llrp_endpoints.specs.declared.course.Phase.TheVariants.{Closed, Failed}
 use Rattle.llrp_endpoints.specs.declared.script.Entry.{Entry}
 use Rattle.llrp_endpoints.specs.declared.summary.Summary.{Summary}
 use Rattle.llrp_listing.specs.Copying.{ReadAll, GaveAndFailed, IsPrefix, WasGiven}
-use Rattle.llrp_listing.specs.declared.copying.TheConstants.{MOST_READS}
+use Rattle.llrp_listing.specs.declared.devices.TheConstants.{MOST_READS}
 use Rattle.llrp_endpoints.specs.Gathering.{Course}
 use Rattle.llrp_endpoints.specs.Plan.{Plan}
-use Rattle.llrp_endpoints.specs.RunInventory.{Says, Awaits, BreaksOff, Ended, BeginsSaying}
+use Rattle.llrp_endpoints.specs.RunInventory.{Says, AwaitsBytes, BreaksOff, Ended, BeginsSaying}
 use Rattle.llrp_endpoints.specs.RunServe.{BeginsFrames}
 use Rattle.llrp_endpoints.specs.Sending.{AreFrames}
 use Rattle.llrp_endpoints.specs.Serving.{Standing, waiting, closed, broken, Serves}
@@ -22,22 +23,27 @@ use Rattle.llrp_endpoints.specs.TagLines.{summary_of}
 -- ---- the connection
 
 -- who is at its ends: a reader with its script, and a client with its limit and its plan
-pub record Ends : Type 0 where
+pub record BothEnds : Type 0 where
   pub reader : Reader
   pub entries : List Entry
   pub limit : ℕ
   pub plan : Plan
 
 -- one way of it: the sink that its bytes go into, and the source that they come out of
-pub record Way : Type 0 where
+pub record DeviceWay : Type 0 where
   pub sink : SinkLog
   pub source : SourceLog
 
 -- the way down to the client, the way up to the reader, and where the client reports
 pub record Devices : Type 0 where
-  pub down : Way
-  pub up : Way
+  pub down : DeviceWay
+  pub up : DeviceWay
   pub report : SinkLog
+
+-- these devices by their logs: of the client's end, of the reader's end, and of the report
+abbrev pub devices : {CR CW RR RW P : Type 0} → (CR → SourceLog) → (CW → SinkLog) → (RR → SourceLog) → (RW → SinkLog) → (P → SinkLog) → Endpoint CR CW → Endpoint RR RW → P → Devices
+devices client_reads client_writes reader_reads reader_writes reports client reader report =
+    record { down = record { sink = reader_writes reader.sink; source = client_reads client.source }; up = record { sink = client_writes client.sink; source = reader_reads reader.source }; report = reports report }
 
 -- what was said on a way, of which the first bytes were written and the others not yet, and what was read
 pub record Traffic : Type 0 where
@@ -48,14 +54,14 @@ pub record Traffic : Type 0 where
 -- ---- what the devices of a way did
 
 -- The writes on a way went so, and the reads so. What a write took is read before the next write.
-pub record Passed (Writes : SinkLog → SinkLog → List ℕ → Type 0) (Reads : SourceLog → SourceLog → List ℕ → Type 0) (old new : Way) (bytes : Traffic) : Type 0 where
+pub record Passed (Writes : SinkLog → SinkLog → List ℕ → Type 0) (Reads : SourceLog → SourceLog → List ℕ → Type 0) (old new : DeviceWay) (bytes : Traffic) : Type 0 where
   pub wrote : Writes old.sink new.sink bytes.written
   pub gave : Reads old.source new.source bytes.read
   pub no_more : length bytes.read ≤ length bytes.written
   pub no_later : length bytes.written ≤ length bytes.read + 4096
 
 -- nothing failed on a way
-abbrev pub Fine : Way → Way → Traffic → Type 0
+abbrev pub Fine : DeviceWay → DeviceWay → Traffic → Type 0
 Fine old new bytes = Passed Wrote WasGiven old new bytes
 
 -- nothing failed on either way
@@ -82,17 +88,17 @@ pub record IsSilent (bytes : Traffic) : Type 0 where
 -- ---- what the reader says
 
 -- What was written down are the frames of all that the reader says to the bytes that it read; serving is in this state.
-pub record ReaderSays (e : Ends) (standing : Standing) (down up : Traffic) : Type 0 where
+pub record ReaderSays (e : BothEnds) (standing : Standing) (down up : Traffic) : Type 0 where
   pub messages : List MessageTree
   pub serves : Serves e.reader e.entries up.read messages standing
   pub frames : AreFrames messages (down.written ++ down.unwritten)
 
 -- serving goes on, or the client has closed the connection
-abbrev pub ReaderGoes : Ends → Traffic → Traffic → Type 0
+abbrev pub ReaderGoes : BothEnds → Traffic → Traffic → Type 0
 ReaderGoes e down up = ReaderSays e waiting down up ⊎ ReaderSays e closed down up
 
 -- what was said down are the frames of the first of that
-abbrev pub ReaderBegins : Ends → Traffic → Traffic → Type 0
+abbrev pub ReaderBegins : BothEnds → Traffic → Traffic → Type 0
 ReaderBegins e down up = BeginsFrames e.reader e.entries up.read (down.written ++ down.unwritten)
 
 -- ---- what the client says
@@ -102,31 +108,31 @@ abbrev pub SaidAll : Course → Traffic → SinkLog → SinkLog → Type 0
 SaidAll course up p0 p1 = (lines : List ℕ) × Says course (up.written ++ up.unwritten) lines × Wrote p0 p1 lines
 
 -- the bytes that it read leave it so, and it said all
-abbrev pub ClientAwaits : Ends → Traffic → Traffic → SinkLog → SinkLog → Type 0
-ClientAwaits e down up p0 p1 = (course : Course) × Awaits e.limit e.plan down.read course × SaidAll course up p0 p1
+abbrev pub ClientAwaits : BothEnds → Traffic → Traffic → SinkLog → SinkLog → Type 0
+ClientAwaits e down up p0 p1 = (course : Course) × AwaitsBytes e.limit e.plan down.read course × SaidAll course up p0 p1
 
-abbrev pub ClientBreaksOff : Ends → Traffic → Traffic → SinkLog → SinkLog → Type 0
+abbrev pub ClientBreaksOff : BothEnds → Traffic → Traffic → SinkLog → SinkLog → Type 0
 ClientBreaksOff e down up p0 p1 = (course : Course) × BreaksOff e.limit e.plan down.read course × SaidAll course up p0 p1
 
-abbrev pub ClientEnded : Ends → Phase → Traffic → Traffic → SinkLog → SinkLog → Type 0
+abbrev pub ClientEnded : BothEnds → Phase → Traffic → Traffic → SinkLog → SinkLog → Type 0
 ClientEnded e phase down up p0 p1 = (course : Course) × Ended phase e.limit e.plan down.read course × SaidAll course up p0 p1
 
 -- the connection was closed as planned, and this much was reported
-abbrev pub ClientClosed : Ends → Traffic → Traffic → SinkLog → SinkLog → Summary → Type 0
+abbrev pub ClientClosed : BothEnds → Traffic → Traffic → SinkLog → SinkLog → Summary → Type 0
 ClientClosed e down up p0 p1 summary = (course : Course) × Ended Closed e.limit e.plan down.read course × SaidAll course up p0 p1 × (summary ≡ summary_of course.reports)
 
 -- what was said up are the frames of the first of that, and these are the first lines
-abbrev pub ClientBegins : Ends → Traffic → Traffic → List ℕ → Type 0
+abbrev pub ClientBegins : BothEnds → Traffic → Traffic → List ℕ → Type 0
 ClientBegins e down up lines = BeginsSaying e.limit e.plan down.read (up.written ++ up.unwritten) lines
 
 -- the report failed after a front of them
-abbrev pub ReportFailed : Ends → Traffic → Traffic → SinkLog → SinkLog → Type 0
+abbrev pub ReportFailed : BothEnds → Traffic → Traffic → SinkLog → SinkLog → Type 0
 ReportFailed e down up p0 p1 = (lines front : List ℕ) × ClientBegins e down up lines × IsPrefix front lines × WroteAndFailed p0 p1 front
 
 -- ---- how it ends
 
 -- What both ends did, by the answer. Each says what the definitions give for the bytes that it read itself.
-abbrev pub RunsLoop : Ends → Devices → Devices → Traffic → Traffic → Result Summary ToolErr → Type 0
+abbrev pub RunsLoop : BothEnds → Devices → Devices → Traffic → Traffic → Result Summary ToolErr → Type 0
 RunsLoop e old new down up (Ok summary) = BothFine old new down up × ReaderGoes e down up × ClientClosed e down up old.report new.report summary
 RunsLoop e old new down up (Err (Peer status)) = BothFine old new down up × ReaderGoes e down up × ClientEnded e (Failed (Peer status)) down up old.report new.report
 RunsLoop e old new down up (Err Strange) = BothFine old new down up × ReaderGoes e down up × ClientEnded e (Failed Strange) down up old.report new.report
@@ -146,3 +152,7 @@ RunsLoop e old new down up (Err Memory) =
     (BothFine old new down up × ReaderGoes e down up × ((lines : List ℕ) × ClientBegins e down up lines × Wrote old.report new.report lines))
     ⊎ (BothFine old new down up × ReaderBegins e down up × ClientAwaits e down up old.report new.report)
 RunsLoop e old new down up (Err _) = ⊥
+
+-- What both ends did is so of some bytes on the two ways.
+abbrev pub RunsBothEnds : Reader → List Entry → ℕ → Plan → Devices → Devices → Result Summary ToolErr → Type 0
+RunsBothEnds reader entries limit plan old new answer = (down up : Traffic) × RunsLoop (record { reader = reader; entries = entries; limit = limit; plan = plan }) old new down up answer

@@ -9,7 +9,7 @@ use Rattle.llrp_stream.specs.declared.item.Item.TheVariants.{Msg, Bad}
 use Rattle.llrp_stream.specs.Cuts.{IsPartial, Breaks}
 use Rattle.llrp_stream.specs.Items.{ItemsSoFar}
 use Rattle.llrp_session.specs.Refusal.{Refusal}
-use Rattle.llrp_session.specs.ReaderMachine.{Reader, ReaderEvent, Connect, Take, TakeBad, Turn, begun, next, new_reader}
+use Rattle.llrp_session.specs.ReaderMachine.{Reader, ReaderEvent, Connect, Take, TakeBad, Turn, turn_begun, next, new_reader}
 use Rattle.llrp_session.specs.ReaderMachine as machine
 use Rattle.llrp_session.specs.ReaderMessages.{reader_message}
 use Rattle.llrp_session.specs.Reading.{request_of}
@@ -74,11 +74,11 @@ Closes (Bad id fault) = ⊥
 -- the turn that an event makes; a refused event changes nothing
 abbrev pub turn_or_none : Reader → Result Turn Refusal → Turn
 turn_or_none r (Ok turn) = turn
-turn_or_none r (Err refusal) = begun r
+turn_or_none r (Err refusal) = turn_begun r
 
 -- all that a reader sends in a list of events, and the reader then
 abbrev pub run : Reader → List Happening → Turn
-run r [] = begun r
+run r [] = turn_begun r
 run r (h ∷ hs) =
     let turn = turn_or_none r (next h.now h.event r) in
     let later = run turn.reader hs in

@@ -1,10 +1,13 @@
 -- The lines of tag reports. Texts are lists of ASCII codes.
 use Rattle.std.specs.Prelude.{◌≡◌, ℕ, List, [], ◌∷◌, ◌++◌, ◌+◌, length, min, codes, decimal, slice_index, Option, Some, None}
-use Rattle.std.specs.List.{flat_map, AllZip}
+use Rattle.std.specs.List.{flat_map, join_with_byte, AllZip}
+use Rattle.std.specs.Option.{option_or}
 use Rattle.llrp_schema.specs.declared.kinds.ParamKind.TheVariants.{Epc96, EpcData, AntennaId, PeakRssi}
 use Rattle.llrp_tree.specs.Tree.{Tree}
 use Rattle.llrp_session.specs.RoSpec.{first_of}
 use Rattle.tag_uri.specs.TagText.{IsTextOf}
+use Rattle.llrp_endpoints.specs.declared.form.LineForm.{LineForm}
+use Rattle.llrp_endpoints.specs.declared.form.LineForm.TheVariants.{Words, Json}
 use Rattle.llrp_endpoints.specs.declared.summary.Summary.{Summary}
 use Rattle.llrp_listing.specs.NodeLine.{spaced, signed_text, octets_text}
 
@@ -31,25 +34,42 @@ abbrev pub rssi_text : Option Tree → List ℕ
 rssi_text None = absent
 rssi_text (Some t) = signed_text (slice_index t.fields 0)
 
--- The line of a TagReportData (LLRP 1.1, section 14): its EPC, the antenna, and the greatest RSSI.
-pub record IsTagLine (tag : Tree) (line : List ℕ) : Type 0 where
+-- the member of an object of JSON (RFC 8259): its name and its value; an absent part has none
+abbrev pub member_where : List ℕ → Option Tree → List ℕ → List (List ℕ)
+member_where name None value = []
+member_where name (Some t) value = (codes "\"" ++ (name ++ (codes "\":" ++ value))) ∷ []
+
+-- what is said of a tag, with a comma between two; nothing in the text of an EPC is escaped in a string
+abbrev pub members_text : (epc antenna rssi : Option Tree) → List ℕ → List ℕ
+members_text epc antenna rssi text =
+    join_with_byte 44 (member_where (codes "epc") epc (codes "\"" ++ (text ++ codes "\"")) ++ (member_where (codes "antenna") antenna (antenna_text antenna) ++ member_where (codes "rssi") rssi (rssi_text rssi)))
+
+-- the line of a tag with this text of its EPC, the antenna, and the greatest RSSI
+abbrev pub tag_line : LineForm → Tree → List ℕ → List ℕ
+tag_line Words tag epc = epc ++ (spaced (antenna_text (first_of AntennaId tag) ∷ rssi_text (first_of PeakRssi tag) ∷ []) ++ (10 ∷ []))
+tag_line Json tag epc = codes "{" ++ (members_text (option_or (first_of Epc96 tag) (first_of EpcData tag)) (first_of AntennaId tag) (first_of PeakRssi tag) epc ++ codes "}\n")
+
+-- The line of a TagReportData (LLRP 1.1, section 14).
+pub record IsTagLine (form : LineForm) (tag : Tree) (line : List ℕ) : Type 0 where
   pub epc : List ℕ
   pub epc_is : IsEpcText (first_of Epc96 tag) (first_of EpcData tag) epc
-  pub line_is : line ≡ epc ++ (spaced (antenna_text (first_of AntennaId tag) ∷ rssi_text (first_of PeakRssi tag) ∷ []) ++ (10 ∷ []))
+  pub line_is : line ≡ tag_line form tag epc
 
-abbrev pub count_line : ℕ → List ℕ
-count_line n = codes "= " ++ (decimal n ++ (10 ∷ []))
+-- the line after those of a report's tags: how many there are
+abbrev pub count_line : LineForm → ℕ → List ℕ
+count_line Words n = codes "= " ++ (decimal n ++ (10 ∷ []))
+count_line Json n = codes "{\"report\":" ++ (decimal n ++ codes "}\n")
 
 -- The lines of a report: one for each tag, and then how many there are.
-pub record AreReportLines (tags : List Tree) (text : List ℕ) : Type 0 where
+pub record AreReportLines (form : LineForm) (tags : List Tree) (text : List ℕ) : Type 0 where
   pub lines : List (List ℕ)
-  pub each : AllZip IsTagLine tags lines
-  pub text_is : text ≡ flat_map (λ line. line) lines ++ count_line (length tags)
+  pub each : AllZip (IsTagLine form) tags lines
+  pub text_is : text ≡ flat_map (λ line. line) lines ++ count_line form (length tags)
 
 -- The lines of reports, one after another.
-pub record AreReports (reports : List (List Tree)) (text : List ℕ) : Type 0 where
+pub record AreReports (form : LineForm) (reports : List (List Tree)) (text : List ℕ) : Type 0 where
   pub texts : List (List ℕ)
-  pub each : AllZip AreReportLines reports texts
+  pub each : AllZip (AreReportLines form) reports texts
   pub text_is : text ≡ flat_map (λ report. report) texts
 
 -- the greatest number that is counted to
@@ -57,13 +77,13 @@ abbrev pub greatest_count : ℕ
 greatest_count = 18446744073709551615
 
 -- how many tags are in reports
-abbrev pub tags_in : List (List Tree) → ℕ
-tags_in [] = 0
-tags_in (tags ∷ reports) = length tags + tags_in reports
+abbrev pub tags_of_reports : List (List Tree) → ℕ
+tags_of_reports [] = 0
+tags_of_reports (tags ∷ reports) = length tags + tags_of_reports reports
 
 -- how many tags and how many reports there were, as far as they are counted
 abbrev pub tag_count : List (List Tree) → ℕ
-tag_count reports = min (tags_in reports) greatest_count
+tag_count reports = min (tags_of_reports reports) greatest_count
 
 abbrev pub report_count : List (List Tree) → ℕ
 report_count reports = min (length reports) greatest_count
@@ -72,5 +92,6 @@ abbrev pub summary_of : List (List Tree) → Summary
 summary_of reports = record { tags = tag_count reports; reports = report_count reports }
 
 -- the last line
-unfoldable pub total_line : List (List Tree) → List ℕ
-total_line reports = codes "total" ++ (spaced (decimal (tag_count reports) ∷ decimal (report_count reports) ∷ []) ++ (10 ∷ []))
+unfoldable pub total_line : LineForm → List (List Tree) → List ℕ
+total_line Words reports = codes "total" ++ (spaced (decimal (tag_count reports) ∷ decimal (report_count reports) ∷ []) ++ (10 ∷ []))
+total_line Json reports = codes "{\"tags\":" ++ (decimal (tag_count reports) ++ (codes ",\"reports\":" ++ (decimal (report_count reports) ++ codes "}\n")))

@@ -1,11 +1,11 @@
 //! Runs both ends of one connection: a simulated reader that acts by a script, and a client that
 //! follows a plan.
 
-ghost use Rattle.std.specs.Prelude.{◌<◌, ◌↔◌, ◌≡◌, ◌≤◌, ◌^◌, [], IsTrue};
+ghost use Rattle.std.specs.Prelude.{◌↔◌, ◌≡◌, ◌≤◌, [], IsTrue};
 ghost use Rattle.llrp_tree.specs.declared.TheConstants.{MAX_LIMIT};
-ghost use Rattle.llrp_stream.specs.Device.{IsFreshSource};
-ghost use Rattle.llrp_endpoints.specs.Private.EndsStand.{ClientStands, ReaderStands};
-ghost use Rattle.llrp_endpoints.specs.RunLoop.{Ends, RunsLoop, Traffic};
+ghost use Rattle.llrp_stream.specs.Device.{IsFreshSink, IsFreshSource};
+ghost use Rattle.llrp_endpoints.specs.Private.EndsStand.{RunsFromStart};
+ghost use Rattle.llrp_endpoints.specs.RunLoop.{RunsBothEnds, devices};
 ghost use Rattle.llrp_endpoints.specs.Serving.{IsNewReader};
 ghost use Rattle.llrp_endpoints.specs.Calls.ServingStands.{HasStarted};
 
@@ -53,30 +53,12 @@ fn exchange<CR: Source, CW: Sink, RR: Source, RW: Sink, P: Sink>(
     requires reader_unread { reader.old.reads ≡ 0 }
     requires down_source { IsFreshSource (CR.log client_end.old.source) }
     requires up_source { IsFreshSource (RR.log reader_end.old.source) }
-    requires down_sink { (RW.log reader_end.old.sink).failures < 2 ^ 63 }
-    requires up_sink { (CW.log client_end.old.sink).failures < 2 ^ 63 }
-    requires report { (P.log report.old).failures < 2 ^ 63 }
-    ensures { (e : Ends) → ReaderStands e [] [] reader.old.serving reader.old.said.items
-        → ClientStands e [] [] (P.log report.old) (P.log report.old) client.old.gathering
-        client.old.said.items client.old.lines.items
-        → (down up : Traffic) × RunsLoop e
-        (record {
-          down = record {
-            sink = RW.log reader_end.old.sink;
-            source = CR.log client_end.old.source;
-          };
-          up = record { sink = CW.log client_end.old.sink; source = RR.log reader_end.old.source };
-          report = P.log report.old;
-        })
-        (record {
-          down = record {
-            sink = RW.log reader_end.new.sink;
-            source = CR.log client_end.new.source;
-          };
-          up = record { sink = CW.log client_end.new.sink; source = RR.log reader_end.new.source };
-          report = P.log report.new;
-        })
-        down up result }
+    requires down_sink { IsFreshSink (RW.log reader_end.old.sink) }
+    requires up_sink { IsFreshSink (CW.log client_end.old.sink) }
+    requires report { IsFreshSink (P.log report.old) }
+    ensures { RunsFromStart reader.old client.old
+        (devices CR.log CW.log RR.log RW.log P.log client_end.old reader_end.old report.old)
+        (devices CR.log CW.log RR.log RW.log P.log client_end.new reader_end.new report.new) result }
 {
     while !are_silent(reader, client) {
         let down = write_piece(&mut reader.said, &mut reader_end.sink)?;
@@ -117,28 +99,12 @@ pub fn run_loop<CR: Source, CW: Sink, RR: Source, RW: Sink, P: Sink>(
     requires most { limit ≤ MAX_LIMIT }
     requires down_source { IsFreshSource (CR.log client_end.old.source) }
     requires up_source { IsFreshSource (RR.log reader_end.old.source) }
-    requires down_sink { (RW.log reader_end.old.sink).failures < 2 ^ 63 }
-    requires up_sink { (CW.log client_end.old.sink).failures < 2 ^ 63 }
-    requires report { (P.log report.old).failures < 2 ^ 63 }
-    ensures { (down up : Traffic) × RunsLoop
-        (record { reader = core; entries = script; limit = limit; plan = plan })
-        (record {
-          down = record {
-            sink = RW.log reader_end.old.sink;
-            source = CR.log client_end.old.source;
-          };
-          up = record { sink = CW.log client_end.old.sink; source = RR.log reader_end.old.source };
-          report = P.log report.old;
-        })
-        (record {
-          down = record {
-            sink = RW.log reader_end.new.sink;
-            source = CR.log client_end.new.source;
-          };
-          up = record { sink = CW.log client_end.new.sink; source = RR.log reader_end.new.source };
-          report = P.log report.new;
-        })
-        down up result }
+    requires down_sink { IsFreshSink (RW.log reader_end.old.sink) }
+    requires up_sink { IsFreshSink (CW.log client_end.old.sink) }
+    requires report { IsFreshSink (P.log report.old) }
+    ensures { RunsBothEnds core script limit plan
+        (devices CR.log CW.log RR.log RW.log P.log client_end.old reader_end.old report.old)
+        (devices CR.log CW.log RR.log RW.log P.log client_end.new reader_end.new report.new) result }
 {
     let mut client = ClientSide::new(alloc, plan, limit);
     let mut reader = ReaderSide::new(alloc, core, script)?;

@@ -1,50 +1,32 @@
 //! A client that follows a plan: it takes what its reader sends in pieces of a stream, sends the
 //! plan's commands, and writes a line for each reported tag.
 
-ghost use Rattle.std.specs.Prelude.{◌≡◌, ◌≤◌, ◌++◌, List, Ok, Err, ℕ};
+ghost use Rattle.std.specs.Prelude.{◌≡◌, ◌≤◌, List, Ok, Err, ℕ};
 ghost use Rattle.llrp_tree.specs.declared.TheConstants.{MAX_LIMIT};
 ghost use Rattle.llrp_tree.specs.Tree.{Tree};
-ghost use Rattle.llrp_listing.specs.declared.fault.ToolErr.{ToolErr as Error};
+ghost use Rattle.llrp_listing.specs.declared.outcome.ToolErr.{ToolErr as Error};
 ghost use Rattle.llrp_endpoints.specs.Gathering.{Course};
-ghost use Rattle.llrp_endpoints.specs.Private.GatheringStands.{error_by_command, error_by_message};
+ghost use Rattle.llrp_endpoints.specs.Private.GatheringStands.{error_by_command, error_by_message, leads_on};
 ghost use Rattle.llrp_endpoints.specs.Calls.GatheringStands.{phase_left};
-ghost use Rattle.llrp_endpoints.specs.Plan.{Plan as ThePlan};
 
-mod left;
-mod lines;
+mod objects;
+mod remaining;
+mod tag_lines;
 
+use crate::course::{Awaits, Phase, Step};
+use crate::form::LineForm;
+use crate::frames::append_frames;
+use crate::heard::own_message;
 use crate::plan::Plan;
-use crate::sending::append_frames;
 use crate::summary::Summary;
-use left::{Left, awaited_after};
-use lines::{report_lines, total_line};
 use llrp_listing::{ToolErr, error_of};
+use llrp_schema::Profile;
 use llrp_session::{Client, CmdFault, TakeFault, Taken};
 use llrp_stream::{Decoder, Fed, Item};
 use llrp_tree::{Message, Nodes, Reason};
+use remaining::{RemainingCommands, awaited_after};
 use std::alloc::Global;
-
-/// What has to come before the next command is sent.
-#[derive(Clone, Copy, Debug, PartialEq, Eq)]
-pub(crate) enum Awaits {
-    /// The reader's acceptance of the connection, or its response to a command.
-    Answer,
-    /// A report.
-    Report,
-    /// The end of the connection.
-    End,
-}
-
-/// How far the plan is followed.
-#[derive(Clone, Copy, Debug, PartialEq, Eq)]
-pub(crate) enum Phase {
-    /// It takes bytes.
-    Open,
-    /// The connection was closed as planned.
-    Closed,
-    /// It ended with this error.
-    Failed(ToolErr),
-}
+use tag_lines::{report_lines, total_line};
 
 /// A client that follows a plan. It is given its reader's bytes as they come, and appends the bytes
 /// that the client sends and the lines of reported tags.
@@ -53,18 +35,22 @@ pub struct Gathering {
     alloc: Global,
     client: Client,
     decoder: Decoder,
-    left: Left,
+    form: LineForm,
+    profile: Profile,
+    left: RemainingCommands,
     awaits: Awaits,
     summary: Summary,
     phase: Phase,
 }
 
 impl Gathering {
-    ghost use Rattle.std.specs.Prelude.{[], true};
-    ghost use Rattle.llrp_endpoints.specs.declared.gathering.Phase.TheVariants.{Open};
-    ghost use Rattle.llrp_endpoints.specs.Gathering.{after, after_item, begun, goes_on};
-    ghost use Rattle.llrp_endpoints.specs.Calls.GatheringStands.{Counts, Feeds, HasFailed, Holds, IsClosed, IsConnected, IsLeftBy, IsOpen, StandsFor};
-    ghost use Rattle.llrp_endpoints.specs.Private.GatheringStands.{Does, KeepsOthers};
+    ghost use Rattle.std.specs.Prelude.{[], ◌∷◌, true};
+    ghost use Rattle.llrp_schema.specs.declared.kinds.Profile.TheVariants.{Whole};
+    ghost use Rattle.llrp_endpoints.specs.Heard.{heard};
+    ghost use Rattle.llrp_endpoints.specs.declared.course.Phase.TheVariants.{Open};
+    ghost use Rattle.llrp_endpoints.specs.Gathering.{after, after_item, new_course, follow, send_next};
+    ghost use Rattle.llrp_endpoints.specs.Calls.GatheringStands.{Counts, FeedsPiece, HasFailed, Holds, IsClosed, IsConnected, IsLeftBy, IsOpen};
+    ghost use Rattle.llrp_endpoints.specs.Private.GatheringStands.{Does, GoesTo, KeepsOthers, TakesBad, TakesPiece};
     ghost use Rattle.llrp_endpoints.specs.TagLines.{summary_of};
 
     /// A client at the beginning of a plan. Its first message id is 1, and no frame may be longer
@@ -72,13 +58,15 @@ impl Gathering {
     pub fn new(alloc: Global, plan: Plan, limit: u32) -> Gathering
         requires least { 4096 ≤ limit }
         requires most { limit ≤ MAX_LIMIT }
-        ensures { IsOpen limit plan [] [] (begun limit plan) result }
+        ensures { IsOpen limit plan [] [] (new_course limit plan) result }
     {
         Gathering {
             alloc,
             client: Client::new(alloc, limit, 1),
-            decoder: Decoder::new(alloc, limit),
-            left: Left::Adding(plan),
+            decoder: Decoder::new_in(alloc, plan.profile(), limit),
+            form: plan.form(),
+            profile: plan.profile(),
+            left: RemainingCommands::all(plan),
             awaits: Awaits::Answer,
             summary: Summary::empty(),
             phase: Phase::Open,
@@ -93,16 +81,19 @@ impl Gathering {
         self.summary
     }
 
-    /// Sends the next command, if one is left.
+    /// Takes the next step, if one is left.
     fn go_on(&mut self, out: &mut Vec<u8>) -> Result<bool, ToolErr>
         ensures does { (c : Course) (r : List ℕ) → Holds c self.old → c.phase ≡ Open
-            → Does c (goes_on c) self.new out.old.items out.new.items r r result }
+            → Does c (send_next c) self.new out.old.items out.new.items r r result }
         ensures others { KeepsOthers self.old self.new }
     {
-        let Some(command) = self.left.next() else {
+        let Some(step) = self.left.next() else {
             return Ok(false);
         };
-        self.awaits = awaited_after(&command);
+        self.awaits = awaited_after(&step);
+        let Step::Send(command) = step else {
+            return Ok(false);
+        };
         let mut messages = Vec::new(self.alloc);
         if let Err(refusal) = self.client.command(command, &mut messages) {
             return Err(command_error(refusal.fault));
@@ -118,17 +109,17 @@ impl Gathering {
         out: &mut Vec<u8>,
         report: &mut Vec<u8>,
     ) -> Result<bool, ToolErr>
-        ensures does { (c : Course) → Holds c self.old → c.phase ≡ Open
-            → Does c (after (Taken.Tags tags.now) c) self.new out.old.items out.new.items
-            report.old.items report.new.items result }
+        ensures does { GoesTo (after (Taken.Tags tags.now)) self.old self.new out.old.items
+            out.new.items report.old.items report.new.items result }
         ensures others { KeepsOthers self.old self.new }
     {
-        let lines = report_lines(self.alloc, tags.as_slice())?;
+        let lines = report_lines(self.alloc, self.form, tags.as_slice())?;
         report.extend_from_slice(lines.as_slice())?;
         self.summary = self.summary.with_report(tags.as_slice().len());
-        match self.awaits {
-            Awaits::Report => self.go_on(out),
-            Awaits::Answer | Awaits::End => Ok(false),
+        if leads_on(self.awaits, tags) {
+            self.go_on(out)
+        } else {
+            Ok(false)
         }
     }
 
@@ -139,9 +130,9 @@ impl Gathering {
             → Does c (after Taken.Closed c) self.now o o report.old.items report.new.items result }
     {
         match self.awaits {
-            Awaits::Answer | Awaits::Report => Err(ToolErr::Early),
+            Awaits::Answer | Awaits::TaggedReport | Awaits::Report => Err(ToolErr::Early),
             Awaits::End => {
-                let line = total_line(self.alloc, self.summary)?;
+                let line = total_line(self.alloc, self.form, self.summary)?;
                 report.extend_from_slice(line.as_slice())?;
                 Ok(true)
             }
@@ -169,9 +160,8 @@ impl Gathering {
         out: &mut Vec<u8>,
         report: &mut Vec<u8>,
     ) -> Result<bool, ToolErr>
-        ensures does { (c : Course) → Holds c self.old → c.phase ≡ Open
-            → Does c (after taken c) self.new out.old.items out.new.items report.old.items
-            report.new.items result }
+        ensures does { GoesTo (after taken) self.old self.new out.old.items out.new.items
+            report.old.items report.new.items result }
         ensures others { KeepsOthers self.old self.new }
     {
         match taken {
@@ -193,9 +183,8 @@ impl Gathering {
         out: &mut Vec<u8>,
         report: &mut Vec<u8>,
     ) -> Result<bool, ToolErr>
-        ensures does { (c : Course) → Holds c self.old → c.phase ≡ Open
-            → Does c (after_item (Item.Msg message) c) self.new out.old.items out.new.items
-            report.old.items report.new.items result }
+        ensures does { GoesTo (after_item (Item.Msg message)) self.old self.new out.old.items
+            out.new.items report.old.items report.new.items result }
         ensures others { KeepsOthers self.old self.new }
     {
         let mut answers = Vec::new(self.alloc);
@@ -207,19 +196,45 @@ impl Gathering {
         self.follow(taken, out, report)
     }
 
+    /// Takes what the profile has of a message of the whole standard, if it has anything.
+    fn take_part(
+        &mut self,
+        message: &Message,
+        out: &mut Vec<u8>,
+        report: &mut Vec<u8>,
+    ) -> Result<bool, ToolErr>
+        ensures does { GoesTo (follow (heard Whole (Item.Msg message.now ∷ []))) self.old self.new
+            out.old.items out.new.items report.old.items report.new.items result }
+        ensures others { KeepsOthers self.old self.new }
+    {
+        match own_message(self.alloc, message)? {
+            Some(own) => self.take_message(own, out, report),
+            None => Ok(false),
+        }
+    }
+
     /// Takes an item.
     fn take(&mut self, item: Item, out: &mut Vec<u8>, report: &mut Vec<u8>) -> Result<bool, ToolErr>
-        ensures does { (c : Course) → Holds c self.old → c.phase ≡ Open
-            → Does c (after_item item c) self.new out.old.items out.new.items report.old.items
-            report.new.items result }
+        ensures does { GoesTo (follow (heard self.old.profile (item ∷ []))) self.old self.new
+            out.old.items out.new.items report.old.items report.new.items result }
         ensures others { KeepsOthers self.old self.new }
     {
         match item {
-            Item::Msg(message) => self.take_message(message, out, report),
-            Item::Bad { fault, .. } => match fault.reason {
-                Reason::MessageType | Reason::ParamType => Ok(false),
-                _ => Err(ToolErr::Strange),
+            Item::Msg(message) => match self.profile {
+                Profile::Own => self.take_message(message, out, report),
+                Profile::Whole => self.take_part(&message, out, report),
             },
+            Item::Bad { fault, .. } => self.take_bad(fault.reason),
+        }
+    }
+
+    /// Takes a frame that is no message, for this reason.
+    fn take_bad(&self, reason: Reason) -> Result<bool, ToolErr>
+        ensures { TakesBad reason self.now result }
+    {
+        match reason {
+            Reason::MessageType | Reason::ParamType => Ok(false),
+            _ => Err(ToolErr::Strange),
         }
     }
 
@@ -230,11 +245,8 @@ impl Gathering {
         out: &mut Vec<u8>,
         report: &mut Vec<u8>,
     ) -> Result<bool, ToolErr>
-        ensures { (limit : ℕ) (plan : ThePlan) (bytes rest : List ℕ) (c : Course)
-            → StandsFor limit plan bytes rest c self.old
-            → Feeds limit plan (bytes
-            ++ piece.now) c self.new out.old.items out.new.items report.old.items
-            report.new.items result }
+        ensures { TakesPiece piece.now self.old self.new out.old.items out.new.items
+            report.old.items report.new.items result }
     {
         let mut rest = piece;
         while !rest.is_empty() {
@@ -269,11 +281,8 @@ impl Gathering {
         out: &mut Vec<u8>,
         report: &mut Vec<u8>,
     ) -> Result<bool, ToolErr>
-        ensures feeds { (limit : ℕ) (plan : ThePlan) (bytes rest : List ℕ) (c : Course)
-            → IsOpen limit plan bytes rest c self.old
-            → Feeds limit plan (bytes
-            ++ piece.now) c self.new out.old.items out.new.items report.old.items
-            report.new.items result }
+        ensures feeds { FeedsPiece piece.now self.old self.new out.old.items out.new.items
+            report.old.items report.new.items result }
         ensures phase { IsConnected self.old → IsLeftBy result self.new }
 
         // Once it has ended, nothing changes.
@@ -291,6 +300,17 @@ impl Gathering {
         let outcome = self.take_all(piece, out, report);
         self.phase = phase_after(outcome);
         outcome
+    }
+}
+
+/// Whether a report of these tags is one that is awaited.
+fn leads_on(awaits: Awaits, tags: &Nodes) -> bool
+    ensures { result ≡ leads_on awaits tags.now }
+{
+    match awaits {
+        Awaits::Report => true,
+        Awaits::TaggedReport => !tags.as_slice().is_empty(),
+        Awaits::Answer | Awaits::End => false,
     }
 }
 

@@ -1,17 +1,15 @@
 //! Follows a plan over a source and two sinks.
 
-ghost use Rattle.std.specs.Prelude.{◌≡◌, ◌<◌, ◌≤◌, ◌^◌, [], List, ℕ};
-ghost use Rattle.llrp_stream.specs.Device.{IsFreshSource};
+ghost use Rattle.std.specs.Prelude.{◌≡◌, ◌≤◌, [], List, ℕ};
+ghost use Rattle.llrp_stream.specs.Device.{IsFreshSink, IsFreshSource};
 ghost use Rattle.llrp_tree.specs.declared.TheConstants.{MAX_LIMIT};
-ghost use Rattle.llrp_endpoints.specs.Gathering.{begun};
-ghost use Rattle.llrp_endpoints.specs.Calls.GatheringStands.{IsOpen};
-ghost use Rattle.llrp_endpoints.specs.Plan.{Plan as ThePlan};
+ghost use Rattle.llrp_endpoints.specs.Private.GatheringStands.{GathersFromStart};
 ghost use Rattle.llrp_endpoints.specs.RunInventory.{RunsInventory};
 
 use crate::gathering::Gathering;
 use crate::plan::Plan;
 use crate::summary::Summary;
-use llrp_listing::{MOST_READS, READ_SIZE, ToolErr, hand_on};
+use llrp_listing::{Pieces, ToolErr, hand_on};
 use llrp_stream::{Sink, Source};
 use std::alloc::Global;
 
@@ -28,29 +26,21 @@ fn gather<R: Source, W: Sink, T: Sink>(
     requires no_frames { out.old.items ≡ [] }
     requires no_lines { lines.old.items ≡ [] }
     requires source { IsFreshSource (R.log r.old) }
-    requires sink { (W.log w.old).failures < 2 ^ 63 }
-    requires report { (T.log report.old).failures < 2 ^ 63 }
-    ensures { (limit : ℕ) (plan : ThePlan)
-        → IsOpen limit plan [] [] (begun limit plan) gathering.old
-        → (bytes : List ℕ) × RunsInventory limit plan (R.log r.old) (R.log r.new) (W.log w.old)
-        (W.log w.new) (T.log report.old) (T.log report.new) bytes result }
+    requires sink { IsFreshSink (W.log w.old) }
+    requires report { IsFreshSink (T.log report.old) }
+    ensures { GathersFromStart gathering.old (R.log r.old) (R.log r.new) (W.log w.old)
+        (W.log w.new) (T.log report.old) (T.log report.new) result }
 {
-    let mut buffer = [0u8; READ_SIZE];
-    for _ in 0..MOST_READS {
-        let Ok(n) = r.read(&mut buffer) else {
-            return Err(ToolErr::Read);
-        };
-        if n == 0 {
-            return Err(ToolErr::Early);
-        }
-        let fed = gathering.feed(&buffer[..n], out, lines);
+    let mut pieces = Pieces::new();
+    while let Some(piece) = pieces.next(r)? {
+        let fed = gathering.feed(piece, out, lines);
         hand_on(out, w)?;
         hand_on(lines, report)?;
         if fed? {
             return Ok(gathering.summary());
         }
     }
-    Err(ToolErr::Bound)
+    Err(ToolErr::Early)
 }
 
 /// Follows a plan with the reader whose bytes the source gives. What the client sends is written to
@@ -74,8 +64,8 @@ pub fn run_inventory<R: Source, W: Sink, T: Sink>(
     requires least { 4096 ≤ limit }
     requires most { limit ≤ MAX_LIMIT }
     requires source { IsFreshSource (R.log r.old) }
-    requires sink { (W.log w.old).failures < 2 ^ 63 }
-    requires report { (T.log report.old).failures < 2 ^ 63 }
+    requires sink { IsFreshSink (W.log w.old) }
+    requires report { IsFreshSink (T.log report.old) }
     ensures { (bytes : List ℕ) × RunsInventory limit plan (R.log r.old) (R.log r.new) (W.log w.old)
         (W.log w.new) (T.log report.old) (T.log report.new) bytes result }
 {

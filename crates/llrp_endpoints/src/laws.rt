@@ -8,8 +8,9 @@ ghost use Rattle.llrp_stream.specs.declared.item.Item.{Item};
 ghost use Rattle.llrp_endpoints.specs.EndsAgree.{AfterAllBytes, BytesAreMessages, EachEventHappens, EachScheduleRuns, IsARunOfMessages, NothingIsUnexpected, ViewCatchesUp, ViewIsTable, ReportsArrive, ReportsAreKept, PendingIsOnTheWay, NothingIsPending, TablesArrive};
 ghost use Rattle.llrp_session.specs.MessageAgreement.{ReaderHasHistory, OneActive, NoneDiffers};
 ghost use Rattle.llrp_endpoints.specs.Plan.{Plan};
-ghost use Rattle.llrp_endpoints.specs.Calls.PlanLaws.{course_of, TakesEachCommand, StrangeIsTheReaders, HasOneCourse, CoursesGoOn, SendsInOrder, EndsMean, SendsOneByOne, SendsWhereAwaited, SendsWithinLimit, CanEnd};
-ghost use Rattle.llrp_endpoints.specs.Calls.Script.{IsLawful, IsScript};
+ghost use Rattle.llrp_endpoints.specs.Calls.HeardLaws.{HeardIsLawful};
+ghost use Rattle.llrp_endpoints.specs.Calls.PlanLaws.{course_of, CanEnd, CoursesGoOn, EndsMean, HasOneCourse, IsValid, SendsWithinLimit, StrangeIsTheReaders, TakesEachCommand, TakesInOrder, TakesOneByOne, TakesWhereAwaited};
+ghost use Rattle.llrp_endpoints.specs.Calls.Script.{IsLawfulScript, IsScript};
 ghost use Rattle.llrp_endpoints.specs.Calls.ScriptLaws.{ScriptOrRefused};
 ghost use Rattle.llrp_endpoints.specs.Calls.ServingLaws.{FramesReadBack, IsServedInOneWay, OneTextOfFrames, SaysWithinLimit};
 ghost use Rattle.llrp_endpoints.specs.declared.script.Entry.{Entry};
@@ -17,7 +18,7 @@ ghost use Rattle.llrp_endpoints.specs.declared.script.Entry.{Entry};
 /// Each lawful list of entries has exactly one script, and a text is the script of at most one
 /// list.
 pub fn one_script()
-    ensures is { (entries : List Entry) → IsLawful entries → (text : List ℕ)
+    ensures is { (entries : List Entry) → IsLawfulScript entries → (text : List ℕ)
         × IsScript entries text }
     ensures one_text { (entries : List Entry) (s t : List ℕ) → IsScript entries s
         → IsScript entries t → s ≡ t }
@@ -63,10 +64,16 @@ pub fn sent_within_limit()
 /// as `Strange` exactly if the reader sent a message that was not expected, a table that differs
 /// from the client's view, or a frame with a fault other than an unknown type.
 pub fn plan_is_never_refused()
-    ensures each_command_is_taken { (limit : ℕ) (plan : Plan) → 4096 ≤ limit → plan.polls < 2 ^ 16
+    ensures each_command_is_taken { (limit : ℕ) (plan : Plan) → 4096 ≤ limit → IsValid plan
         → TakesEachCommand limit plan }
-    ensures strange_is_the_readers { (limit : ℕ) (plan : Plan) → 4096 ≤ limit → plan.polls < 2 ^ 16
+    ensures strange_is_the_readers { (limit : ℕ) (plan : Plan) → 4096 ≤ limit → IsValid plan
         → StrangeIsTheReaders limit plan }
+{}
+
+/// What the profile has of a lawful message of the whole standard is a lawful message of the profile
+/// with the same type, version, id and fields.
+pub fn heard_is_lawful()
+    ensures { HeardIsLawful }
 {}
 
 /// All whole frames of some bytes have one course. As more bytes come, what was sent and reported
@@ -77,25 +84,26 @@ pub fn course_is_determined()
     ensures goes_on { (limit : ℕ) (plan : Plan) → CoursesGoOn limit plan }
 {}
 
-/// A client that follows a plan sends its commands in order, with ids from 1 on. It sends each one
-/// as soon as the message that it awaits comes: the first at the connection; one that follows
-/// GET_REPORT at a report that comes after it; any other at the response to the command before,
-/// which for GET_ROSPECS lists the client's view, or at an ERROR_MESSAGE of status 0 under that
-/// command's id.
+/// A client that follows a plan takes its steps in order, and sends their commands with ids from 1
+/// on. It takes each one as soon as the message that it awaits comes: the first at the connection;
+/// one that follows GET_REPORT at a report that comes after it; one that follows the wait for a
+/// report with a tag at such a report; any other at the response to the command before, which for
+/// GET_ROSPECS lists the client's view, or at an ERROR_MESSAGE of status 0 under that command's id.
 pub fn plan_sends_its_commands()
     ensures in_order { (limit : ℕ) (plan : Plan) (items : List Item)
-        → SendsInOrder plan (course_of limit plan items) }
-    ensures one_by_one { (limit : ℕ) (plan : Plan) → SendsOneByOne limit plan }
-    ensures where_awaited { (limit : ℕ) (plan : Plan) → 4096 ≤ limit → plan.polls < 2 ^ 16
-        → SendsWhereAwaited limit plan }
+        → TakesInOrder plan (course_of limit plan items) }
+    ensures one_by_one { (limit : ℕ) (plan : Plan) → TakesOneByOne limit plan }
+    ensures where_awaited { (limit : ℕ) (plan : Plan) → 4096 ≤ limit → IsValid plan
+        → TakesWhereAwaited limit plan }
 {}
 
-/// If a client that follows a plan ends well, all commands were sent and there was a report for
-/// each poll; if it ends as `Early`, a command was left. Both come of a message that ends the
-/// connection, and `Peer` of one that has that status. Each plan can end well.
+/// If a client that follows a plan ends well, all commands were sent, and there were as many
+/// reports with tags as the plan awaits, and one more report for each poll; if it ends as `Early`,
+/// a step was left. Both come of a message that ends the connection, and `Peer` of one that has
+/// that status. Each plan can end well.
 pub fn plan_ends()
     ensures mean { (limit : ℕ) (plan : Plan) (items : List Item) → EndsMean limit plan items }
-    ensures can_end { (limit : ℕ) (plan : Plan) → 4096 ≤ limit → plan.polls < 2 ^ 16
+    ensures can_end { (limit : ℕ) (plan : Plan) → 4096 ≤ limit → IsValid plan
         → CanEnd limit plan }
 {}
 

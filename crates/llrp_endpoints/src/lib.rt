@@ -14,22 +14,30 @@
 #![tactic(auto)]
 
 mod both_ends;
+mod course;
+mod form;
+mod frames;
 mod gathering;
+mod general;
+mod heard;
 mod inventory;
 pub mod laws;
 mod plan;
 mod script;
-mod sending;
 mod serve;
+mod server;
 mod serving;
 mod summary;
 
 pub use both_ends::{Endpoint, run_loop};
+pub use course::{Awaits, Phase, Step};
+pub use form::LineForm;
 pub use gathering::Gathering;
+pub use heard::own_message;
 pub use inventory::run_inventory;
 pub use llrp_session::Sighting;
-pub use plan::{Plan, checked_plan, standard_plan};
+pub use plan::{Plan, PlanErr, PlanFault, checked_plan, standard_plan};
 pub use script::{Action, Entry, Script};
-pub use serve::run_serve;
+pub use serve::{run_serve, run_serve_all};
 pub use serving::Serving;
 pub use summary::Summary;

@@ -1,46 +1,165 @@
 //! The plan of an inventory: what a client asks of its reader.
 
-ghost use Rattle.std.specs.Prelude.{◌≡◌, IfErr, IfOk, true, false, [], ◌∷◌};
-ghost use Rattle.llrp_tree.specs.Tree.{forest};
-ghost use Rattle.llrp_tree.specs.Lawful.{AreLawful};
-ghost use Rattle.llrp_session.specs.ReaderMessages.{parameter as the_parameter};
+ghost use Rattle.std.specs.Prelude.{◌≡◌, ◌≤◌, IfErr, IfNone, IfOk, Some, None, true};
+ghost use Rattle.llrp_tree.specs.Lawful.{tree_octets};
+ghost use Rattle.llrp_session.specs.RoSpec.{is_kind};
 ghost use Rattle.llrp_endpoints.specs.Plan as plan;
-ghost use Rattle.llrp_listing.specs.declared.fault.ToolErr.TheVariants.{Memory};
+ghost use Rattle.llrp_endpoints.specs.Calls.Plans as plans;
+ghost use Rattle.llrp_endpoints.specs.Calls.PlanLaws.{IsValid};
 
-use llrp_listing::ToolErr;
-use llrp_tree::{Node, Nodes, Octets, ParamKind};
-use std::alloc::{AllocError, Global};
+mod standard;
+mod text;
+
+use crate::form::LineForm;
+use llrp_schema::Profile;
+use llrp_session::{field, first};
+use llrp_tree::{Node, ParamKind};
+pub use standard::{checked_plan, standard_plan};
 use std::marker::Model;
+pub use text::PlanErr;
 
-/// What a client does with its reader: it adds a ROSpec, enables and starts it, asks this many
-/// times for the reports that are held, stops and deletes it, and closes the connection (LLRP 1.1,
-/// section 11). A checked plan compares the reader's table with the client's view before it deletes
-/// the ROSpec.
+/// The greatest length of a ROSpec that is given, in octets: a message that adds or lists it alone
+/// has at most 4,096.
+const LONGEST_ROSPEC: u32 = 4_078;
+
+/// Why a parameter is not taken for the ROSpec of a plan; the tests are made in this order.
+#[derive(Clone, Copy, Debug, PartialEq, Eq)]
+pub enum PlanFault {
+    /// It is not a ROSpec.
+    NotRoSpec,
+    /// Its ROSpecID is 0, which stands for all ROSpecs, or its CurrentState is not 0.
+    Value,
+    /// It has more than 4,078 octets.
+    OverLimit,
+}
+
+/// What a client does with its reader: it adds a ROSpec, enables and starts it, awaits some reports
+/// with tags, asks some times for the reports that are held, stops and deletes it, and closes the
+/// connection (LLRP 1.1, section 11). A ROSpec that the reader starts itself is not started. One
+/// that was given is disabled in place of being stopped. A plan that cleans first deletes the
+/// ROSpecs that are there. A checked plan compares the reader's table with the client's view before
+/// it deletes the ROSpec. Its lines are words, unless it is given another form, and the reader's messages are of
+/// the profile, unless it is given the whole standard.
 #[derive(Drop)]
 pub struct Plan {
-    every: u16,
+    rospec: Node,
+    cleans: bool,
+    reports: u16,
     polls: u16,
     checked: bool,
-    rospec: Node,
+    disables: bool,
+    form: LineForm,
+    profile: Profile,
 }
 
 impl Model for Plan {
-    ghost use Rattle.std.specs.Prelude.{◌≡◌};
-    ghost use Rattle.llrp_endpoints.specs.Plan.{Plan as PlanValue, rospec as the_rospec};
+    ghost use Rattle.std.specs.Prelude.{◌≡◌, ◌≤◌};
+    ghost use Rattle.std.specs.Coded.{codes};
+    ghost use Rattle.llrp_tree.specs.Private.Stored.{tree_code};
+    ghost use Rattle.llrp_schema.specs.declared.kinds.ParamKind.TheVariants.{RoSpec};
+    ghost use Rattle.llrp_tree.specs.Lawful.{tree_octets};
+    ghost use Rattle.llrp_session.specs.RoSpec.{is_kind};
+    ghost use Rattle.llrp_endpoints.specs.Plan.{Plan as PlanValue};
+    ghost use Rattle.llrp_endpoints.specs.Calls.Plans.{longest_rospec};
 
     ghost Value = { PlanValue };
 
-    ghost view = { λ p. record { every = p.every; polls = p.polls; checked = p.checked } };
+    ghost coded = { Prim.hlevel (codes, tree_code) };
 
-    ghost invariant = { λ p. p.rospec ≡ the_rospec p.every };
+    ghost view = { λ p. record {
+      rospec = p.rospec;
+      cleans = p.cleans;
+      reports = p.reports;
+      polls = p.polls;
+      checked = p.checked;
+      disables = p.disables;
+      form = p.form;
+      profile = p.profile;
+    } };
+
+    ghost invariant = { λ p. (p.rospec.kind ≡ RoSpec)
+        × (tree_octets p.rospec ≤ longest_rospec) };
 }
 
 impl Plan {
-    /// After how many tags the reader reports; 0 means no number.
-    pub fn every(&self) -> u16
-        ensures { result ≡ self.now.every }
+    /// The plan of an inventory with a ROSpec of one's own. It has no other steps than those of the
+    /// ROSpec, this many polls, and the check if there is one.
+    ///
+    /// The ROSpec has to be one, with an id other than 0 and the CurrentState 0, of at most 4,078
+    /// octets; the first of these that does not hold is the error. It takes no memory.
+    pub fn of(rospec: Node, polls: u16, checked: bool) -> Result<Plan, PlanFault>
+        ensures plan { IfOk result (λ p. p ≡ plans.given rospec polls checked) }
+        ensures taken { IfOk result (λ p. plans.plan_fault rospec ≡ None) }
+        ensures fault { IfErr result (λ fault. plans.plan_fault rospec ≡ Some fault) }
     {
-        self.every
+        if let Some(fault) = fault_of(&rospec) {
+            return Err(fault);
+        }
+        Ok(Plan {
+            rospec,
+            cleans: false,
+            reports: 0,
+            polls,
+            checked,
+            disables: true,
+            form: LineForm::Words,
+            profile: Profile::Own,
+        })
+    }
+
+    /// The same plan, but the reader's ROSpecs are deleted first.
+    pub fn cleaning(self) -> Plan
+        ensures { result ≡ record self { cleans = true } }
+    {
+        Plan {
+            cleans: true,
+            ..self
+        }
+    }
+
+    /// The same plan, but this many reports with at least one tag are awaited before the first
+    /// poll.
+    pub fn awaiting(self, reports: u16) -> Plan
+        ensures { result ≡ record self { reports = reports } }
+    {
+        Plan { reports, ..self }
+    }
+
+    /// The same plan, but its lines are printed in this form.
+    pub fn in_form(self, form: LineForm) -> Plan
+        ensures { result ≡ record self { form = form } }
+    {
+        Plan { form, ..self }
+    }
+
+    /// The same plan, but the reader's messages are read in this set of kinds.
+    pub fn in_profile(self, profile: Profile) -> Plan
+        ensures { result ≡ record self { profile = profile } }
+    {
+        Plan { profile, ..self }
+    }
+
+    /// After how many tags the reader reports; 0 means no number, or that the ROSpec does not say.
+    #[tactic(auto, unfolding(llrp_schema::specs::Schema::fields_of, llrp_schema::specs::Schema::rule_of, llrp_schema::specs::Schema::param_rule))]
+    pub fn every(&self) -> u16
+        ensures { result ≡ plans.every self.now }
+    {
+        let kind = ParamKind::RoReportSpec;
+        field(kind, first(kind, self.rospec.children()), 1) as u16
+    }
+
+    /// Whether the client first deletes the ROSpecs that the reader has.
+    pub fn cleans(&self) -> bool
+        ensures { result ≡ self.now.cleans }
+    {
+        self.cleans
+    }
+
+    /// How many reports with at least one tag are awaited before the first poll.
+    pub fn reports(&self) -> u16
+        ensures { result ≡ self.now.reports }
+    {
+        self.reports
     }
 
     /// How often the client asks for the reports that are held.
@@ -57,121 +176,98 @@ impl Plan {
         self.checked
     }
 
+    /// Whether the ROSpec is disabled at the end, in place of being stopped.
+    pub fn disables(&self) -> bool
+        ensures { result ≡ self.now.disables }
+    {
+        self.disables
+    }
+
+    /// In what form the lines are printed.
+    pub fn form(&self) -> LineForm
+        ensures { result ≡ self.now.form }
+    {
+        self.form
+    }
+
+    /// The set of kinds in which the reader's messages are read.
+    pub fn profile(&self) -> Profile
+        ensures { result ≡ self.now.profile }
+    {
+        self.profile
+    }
+
     /// The ROSpec.
     pub fn rospec(&self) -> &Node
-        ensures { result.now ≡ plan.rospec self.now.every }
+        ensures { result.now ≡ self.now.rospec }
     {
         &self.rospec
     }
 
+    /// Lets a proof use that a plan's ROSpec is lawful and not too long; does nothing at run time.
+    pub fn valid(&self)
+        ensures { IsValid self.now }
+    {
+        self.rospec.lawful();
+        let _ = (self.reports(), self.polls());
+    }
+
+    /// The ROSpec's id.
+    #[tactic(auto, unfolding(llrp_schema::specs::Schema::fields_of, llrp_schema::specs::Schema::rule_of, llrp_schema::specs::Schema::param_rule))]
+    pub(crate) fn rospec_id(&self) -> u32
+        ensures { result ≡ plan.rospec_id self.now }
+    {
+        self.rospec.lawful();
+        field(ParamKind::RoSpec, Some(self.rospec()), 0) as u32
+    }
+
+    /// Whether the client starts the ROSpec.
+    pub(crate) fn is_started(&self) -> bool
+        ensures { result ≡ plan.is_started self.now }
+    {
+        match first(ParamKind::RoBoundarySpec, self.rospec.children()) {
+            Some(boundary) => {
+                let kind = ParamKind::RoSpecStartTrigger;
+                field(kind, first(kind, boundary.children()), 0) == 0
+            }
+            None => true,
+        }
+    }
+
     /// Takes the plan apart and returns the ROSpec.
     pub(crate) fn into_rospec(self) -> Node
-        ensures { result ≡ plan.rospec self.every }
+        ensures rospec { result ≡ self.rospec }
+        ensures kind { result.kind ≡ ParamKind.RoSpec }
     {
         self.rospec
     }
 }
 
-/// A parameter of parts that are proved to be lawful.
-fn parameter(kind: ParamKind, fields: &[u128], tail: Vec<u8>, children: Vec<Node>) -> Node
-    requires { AreLawful kind fields.now tail.items (forest children.items) }
-    ensures { result ≡ record {
-      kind = kind;
-      fields = fields.now;
-      tail = tail.items;
-      children = forest children.items;
-    } }
+/// Whether a parameter is of a kind.
+#[tactic(auto, using(llrp_tree::proofs::KindLemmas::same_by_number))]
+fn is_of_kind(kind: ParamKind, node: &Node) -> bool
+    ensures { result ≡ is_kind kind node.now }
 {
-    match Node::new(kind, fields, Octets::new(tail), Nodes::new(children)) {
-        Ok(node) => node,
-        Err(_) => unreachable!(),
+    kind == node.kind()
+}
+
+/// Why a parameter cannot be the ROSpec of a plan, if it cannot.
+#[tactic(auto, using(llrp_session::proofs::ReadFields::kind_of_test))]
+fn fault_of(rospec: &Node) -> Option<PlanFault>
+    ensures fault { result ≡ plans.plan_fault rospec.now }
+    ensures kind { IfNone result (rospec.now.kind ≡ ParamKind.RoSpec) }
+    ensures short { IfNone result (tree_octets rospec.now ≤ plans.longest_rospec) }
+{
+    if !is_of_kind(ParamKind::RoSpec, rospec) {
+        return Some(PlanFault::NotRoSpec);
     }
-}
-
-/// A parameter with these fields, no tail and no children.
-fn leaf(alloc: Global, kind: ParamKind, fields: &[u128]) -> Node
-    requires { AreLawful kind fields.now [] (forest []) }
-    ensures { result ≡ the_parameter kind fields.now [] }
-{
-    parameter(kind, fields, Vec::new(alloc), Vec::new(alloc))
-}
-
-/// When the ROSpec starts and stops: only on commands.
-fn boundary(alloc: Global) -> Result<Node, AllocError>
-    ensures { IfOk result (λ node. node ≡ plan.boundary) }
-{
-    let start = leaf(alloc, ParamKind::RoSpecStartTrigger, &[0]);
-    let stop = leaf(alloc, ParamKind::RoSpecStopTrigger, &[0, 0]);
-    let triggers = Vec::from_array(alloc, [start, stop])?;
-    Ok(parameter(ParamKind::RoBoundarySpec, &[], Vec::new(alloc), triggers))
-}
-
-/// What the antennas do: all of them take inventory until the ROSpec stops.
-fn antenna_inventory(alloc: Global) -> Result<Node, AllocError>
-    ensures { IfOk result (λ node. node ≡ plan.antenna_inventory) }
-{
-    let stop = leaf(alloc, ParamKind::AiSpecStopTrigger, &[0, 0]);
-    let inventory = leaf(alloc, ParamKind::InventoryParameterSpec, &[1, 1]);
-    let all_antennas = Vec::from_array(alloc, [0, 0])?;
-    let parts = Vec::from_array(alloc, [stop, inventory])?;
-    Ok(parameter(ParamKind::AiSpec, &[], all_antennas, parts))
-}
-
-/// What is reported of each tag, and when: the antenna and the greatest RSSI.
-fn reporting(alloc: Global, every: u16) -> Result<Node, AllocError>
-    ensures { IfOk result (λ node. node ≡ plan.reporting every) }
-{
-    let chosen = [0, 0, 0, 1, 0, 1, 0, 0, 0, 0];
-    let selector = leaf(alloc, ParamKind::TagReportContentSelector, &chosen);
-    let parts = Vec::from_array(alloc, [selector])?;
-    let fields = [2, every as u128];
-    Ok(parameter(ParamKind::RoReportSpec, &fields, Vec::new(alloc), parts))
-}
-
-/// The ROSpec of a plan.
-fn rospec(alloc: Global, every: u16) -> Result<Node, AllocError>
-    ensures { IfOk result (λ node. node ≡ plan.rospec every) }
-{
-    let boundary = boundary(alloc)?;
-    let antennas = antenna_inventory(alloc)?;
-    let reporting = reporting(alloc, every)?;
-    let parts = Vec::from_array(alloc, [boundary, antennas, reporting])?;
-    Ok(parameter(ParamKind::RoSpec, &[1, 0, 0], Vec::new(alloc), parts))
-}
-
-/// A plan, with the check or without it.
-fn plan_of(alloc: Global, every: u16, polls: u16, checked: bool) -> Result<Plan, ToolErr>
-    ensures plan { IfOk result (λ p. p ≡ record {
-      every = every;
-      polls = polls;
-      checked = checked;
-    }) }
-    ensures memory { IfErr result (λ e. e ≡ Memory) }
-{
-    let rospec = rospec(alloc, every)?;
-    Ok(Plan {
-        every,
-        polls,
-        checked,
-        rospec,
-    })
-}
-
-/// The plan of an inventory with all antennas. The reader reports after `every` tags (0 for no
-/// number) and at the end, and is asked `polls` times for the reports that it holds. The only error
-/// is `Memory`.
-pub fn standard_plan(alloc: Global, every: u16, polls: u16) -> Result<Plan, ToolErr>
-    ensures plan { IfOk result (λ p. p ≡ record { every = every; polls = polls; checked = false }) }
-    ensures memory { IfErr result (λ e. e ≡ Memory) }
-{
-    plan_of(alloc, every, polls, false)
-}
-
-/// The same plan with a check: after the ROSpec is stopped, the reader is asked for its ROSpecs,
-/// which have to be those of the client's view, in the same states. The only error is `Memory`.
-pub fn checked_plan(alloc: Global, every: u16, polls: u16) -> Result<Plan, ToolErr>
-    ensures plan { IfOk result (λ p. p ≡ record { every = every; polls = polls; checked = true }) }
-    ensures memory { IfErr result (λ e. e ≡ Memory) }
-{
-    plan_of(alloc, every, polls, true)
+    rospec.lawful();
+    let is_all = field(ParamKind::RoSpec, Some(rospec), 0) == 0;
+    if is_all || field(ParamKind::RoSpec, Some(rospec), 2) != 0 {
+        return Some(PlanFault::Value);
+    }
+    if rospec.length() > LONGEST_ROSPEC {
+        return Some(PlanFault::OverLimit);
+    }
+    None
 }

@@ -2,7 +2,7 @@
 
 ghost use Rattle.std.specs.Prelude.{◌++◌, ◌<◌, ◌^◌, ◌∷◌, ◌≡◌, ◌↔◌, IfErr, IfOk, IsTrue, MatchOption, [], ℕ};
 ghost use Rattle.tag_uri.specs.TagText.{IsTextOf};
-ghost use Rattle.llrp_endpoints.specs.Calls.Script.{Continues, IsActionInRange, IsActionLine, IsEntryLine, IsInRange, IsLawful, IsScript, IsSightingInRange, IsSightingLine, NoneContinues, ParseStopped};
+ghost use Rattle.llrp_endpoints.specs.Calls.Script.{Continues, IsActionInRange, IsActionLine, IsEntryLine, IsInRange, IsLawfulScript, IsScript, IsSightingInRange, IsSightingLine, NoneContinues, ParseStopped};
 ghost use Rattle.llrp_endpoints.specs.Private.Script.{MayFollow};
 
 use llrp_listing::{ToolErr, number_of, signed_byte_of, split_once};
@@ -14,7 +14,7 @@ use tag_bits::Word;
 use tag_uri::word_of_text;
 
 /// The most entries of a script.
-pub const MOST_ENTRIES: usize = 10_000;
+pub(crate) const MOST_ENTRIES: usize = 10_000;
 
 /// What happens to the reader.
 #[derive(Clone, Copy, Debug, PartialEq, Eq)]
@@ -45,13 +45,13 @@ pub struct Script {
 impl Model for Script {
     ghost use Rattle.std.specs.Prelude.{List};
     ghost use Rattle.llrp_endpoints.specs.declared.script.Entry.{Entry};
-    ghost use Rattle.llrp_endpoints.specs.Calls.Script.{IsLawful};
+    ghost use Rattle.llrp_endpoints.specs.Calls.Script.{IsLawfulScript};
 
     ghost Value = { List Entry };
 
     ghost view = { λ s. s.entries.items };
 
-    ghost invariant = { λ s. IsLawful s.entries.items };
+    ghost invariant = { λ s. IsLawfulScript s.entries.items };
 }
 
 impl Script {
@@ -82,7 +82,7 @@ impl Script {
     /// The entries in order.
     pub fn entries(&self) -> &[Entry]
         ensures entries { result.now ≡ self.now }
-        ensures lawful { IsLawful self.now }
+        ensures lawful { IsLawfulScript self.now }
     {
         self.entries.as_slice()
     }
@@ -90,7 +90,7 @@ impl Script {
 
 /// The entry of a text's first line, if it may follow these entries, and the text after that line.
 fn next_entry<'a>(entries: &[Entry], text: &'a [u8]) -> Option<(Entry, &'a [u8])>
-    requires { IsLawful entries.now }
+    requires { IsLawfulScript entries.now }
     ensures { MatchOption result
         (NoneContinues entries.now text.now)
         (λ next. Continues entries.now text.now next.0 next.1.now) }
@@ -106,7 +106,7 @@ fn next_entry<'a>(entries: &[Entry], text: &'a [u8]) -> Option<(Entry, &'a [u8])
 
 /// Whether an entry may follow these: there is room for it, and neither AFTER nor NOW falls.
 fn may_follow(entries: &[Entry], after: u64, now: u64) -> bool
-    requires { IsLawful entries.now }
+    requires { IsLawfulScript entries.now }
     ensures { IsTrue result ↔ MayFollow entries.now after now }
 {
     let Some(last) = entries.last() else {

@@ -1,54 +1,48 @@
 //! Serves one client by a script.
 
-ghost use Rattle.std.specs.Prelude.{◌≡◌, ◌<◌, ◌^◌, [], List, ℕ};
-ghost use Rattle.llrp_session.specs.ReaderMachine.{Reader as Machine};
-ghost use Rattle.llrp_stream.specs.Device.{IsFreshSource};
-ghost use Rattle.llrp_endpoints.specs.declared.script.Entry.{Entry};
+ghost use Rattle.std.specs.Prelude.{◌≡◌, [], List, ℕ};
+ghost use Rattle.llrp_stream.specs.Device.{IsFreshSink, IsFreshSource};
+ghost use Rattle.llrp_endpoints.specs.Calls.General.{RunsServeAll};
+ghost use Rattle.llrp_endpoints.specs.Private.Server.{RunsServer};
 ghost use Rattle.llrp_endpoints.specs.RunServe.{RunsServe};
 ghost use Rattle.llrp_endpoints.specs.Serving.{IsNewReader};
-ghost use Rattle.llrp_endpoints.specs.Calls.ServingStands.{HasNotStarted, IsFresh};
 
+use crate::general::General;
 use crate::script::Script;
+use crate::server::Server;
 use crate::serving::Serving;
-use llrp_listing::{MOST_READS, READ_SIZE, ToolErr, hand_on};
+use llrp_listing::{Pieces, ToolErr, hand_on};
 use llrp_session::Reader;
 use llrp_stream::{Sink, Source};
 use std::alloc::Global;
 
-/// Serves a client with a reader that `Serving::new` made, for [`run_serve`]. What the reader says
-/// is gathered in `out`, which is empty at first.
-fn serve<R: Source, W: Sink>(
-    serving: &mut Serving,
+/// Serves a client by a server that has not started, for [`run_serve`] and [`run_serve_all`]. What it
+/// says is gathered in `out`, which is empty at first.
+fn serve<S: Server, R: Source, W: Sink>(
+    server: &mut S,
     out: &mut Vec<u8>,
     r: &mut R,
     w: &mut W,
 ) -> Result<(), ToolErr>
-    requires first { HasNotStarted serving.old }
+    requires first { S.may_start server.old }
     requires nothing { out.old.items ≡ [] }
     requires source { IsFreshSource (R.log r.old) }
-    requires sink { (W.log w.old).failures < 2 ^ 63 }
-    ensures { (reader : Machine) (entries : List Entry) → IsFresh reader entries serving.old
-        → (bytes : List ℕ) × RunsServe reader entries (R.log r.old) (R.log r.new) (W.log w.old)
-        (W.log w.new) bytes result }
+    requires sink { IsFreshSink (W.log w.old) }
+    ensures { RunsServer S.fresh S.says S.begins server.old (R.log r.old) (R.log r.new)
+        (W.log w.old) (W.log w.new) result }
 {
-    let started = serving.start(out);
+    let started = server.start(out);
     hand_on(out, w)?;
     started?;
-    let mut buffer = [0u8; READ_SIZE];
-    for _ in 0..MOST_READS {
-        let Ok(n) = r.read(&mut buffer) else {
-            return Err(ToolErr::Read);
-        };
-        if n == 0 {
-            return serving.finish();
-        }
-        let fed = serving.feed(&buffer[..n], out);
+    let mut pieces = Pieces::new();
+    while let Some(piece) = pieces.next(r)? {
+        let fed = server.feed(piece, out);
         hand_on(out, w)?;
         if fed? {
             return Ok(());
         }
     }
-    Err(ToolErr::Bound)
+    server.finish()
 }
 
 /// Serves the client whose bytes the source gives: writes the bytes that a simulated reader sends,
@@ -66,11 +60,33 @@ pub fn run_serve<R: Source, W: Sink>(
 ) -> Result<(), ToolErr>
     requires core { IsNewReader core }
     requires source { IsFreshSource (R.log r.old) }
-    requires sink { (W.log w.old).failures < 2 ^ 63 }
+    requires sink { IsFreshSink (W.log w.old) }
     ensures { (bytes : List ℕ) × RunsServe core script (R.log r.old) (R.log r.new) (W.log w.old)
         (W.log w.new) bytes result }
 {
     let mut serving = Serving::new(alloc, core, script);
     let mut out = Vec::new(alloc);
     serve(&mut serving, &mut out, r, w)
+}
+
+/// Serves a general client, as [`run_serve`] does, and answers three requests outside the profile
+/// besides: GET_READER_CAPABILITIES, GET_READER_CONFIG and GET_SUPPORTED_VERSION. They do not come
+/// to the reader, so the script does not count them. Any other message that the profile has not is
+/// refused by the reader.
+pub fn run_serve_all<R: Source, W: Sink>(
+    alloc: Global,
+    core: Reader,
+    script: Script,
+    r: &mut R,
+    w: &mut W,
+) -> Result<(), ToolErr>
+    requires core { IsNewReader core }
+    requires source { IsFreshSource (R.log r.old) }
+    requires sink { IsFreshSink (W.log w.old) }
+    ensures { (bytes : List ℕ) × RunsServeAll core script (R.log r.old) (R.log r.new) (W.log w.old)
+        (W.log w.new) bytes result }
+{
+    let mut general = General::new(alloc, core, script);
+    let mut out = Vec::new(alloc);
+    serve(&mut general, &mut out, r, w)
 }

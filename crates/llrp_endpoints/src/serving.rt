@@ -1,19 +1,18 @@
 //! A simulated reader that serves a client: it takes what comes in pieces of a stream, and acts by
 //! a script.
 
-mod acting;
+mod events;
 mod scripted;
 
-ghost use Rattle.std.specs.Prelude.{◌≡◌, ◌≢◌, ◌≤◌, ◌+◌, ◌↔◌, ◌++◌, [], IfErr, IsTrue, List, OnOk, Ok, Err, length, map, min, true, ℕ};
-ghost use Rattle.llrp_tree.specs.Tree.{MessageTree};
+ghost use Rattle.std.specs.Prelude.{◌≡◌, List, Ok, Err, length, true};
 ghost use Rattle.llrp_session.specs.ReaderMachine.{Reader as Machine};
-ghost use Rattle.llrp_endpoints.specs.Serving.{BeginsServing, Closes, IsNewReader};
+ghost use Rattle.llrp_endpoints.specs.Serving.{BeginsServing, IsNewReader};
 ghost use Rattle.llrp_endpoints.specs.declared.script.Entry.{Entry};
-ghost use Rattle.llrp_listing.specs.declared.fault.ToolErr.{ToolErr as Error};
-ghost use Rattle.llrp_listing.specs.declared.fault.ToolErr.TheVariants.{Memory};
+ghost use Rattle.llrp_listing.specs.declared.outcome.ToolErr.TheVariants.{Memory};
 ghost use Rattle.llrp_endpoints.specs.Calls.Acting.{phase_after as the_phase_after};
 
 use crate::script::Script;
+use crate::server::Server;
 use llrp_listing::{ToolErr, error_of};
 use llrp_session::Reader;
 use llrp_stream::{Decoder, End, Fed};
@@ -54,9 +53,8 @@ fn phase_after(answer: Result<bool, ToolErr>) -> Phase
 }
 
 impl Serving {
-    ghost use Rattle.llrp_endpoints.specs.Sending.{Adds};
-    ghost use Rattle.llrp_endpoints.specs.Calls.ServingStands.{Feeds, Goes, HasFailed, HasNotStarted, HasStarted, IsClosed, IsFresh, IsOpen, StandsFor, Starts};
-    ghost use Rattle.llrp_endpoints.specs.Private.ServingStands.{Finishes};
+    ghost use Rattle.llrp_endpoints.specs.Calls.ServingStands.{FeedsPiece, HasFailed, HasNotStarted, HasStarted, IsClosed, IsFresh, Starts};
+    ghost use Rattle.llrp_endpoints.specs.Private.ServingStands.{TakesPiece};
 
     /// A reader that `Reader::new` made, and its script. It takes no memory.
     pub fn new(alloc: Global, core: Reader, script: Script) -> Serving
@@ -90,10 +88,7 @@ impl Serving {
 
     /// Takes the items of a piece. Returns whether one of them closed the connection.
     fn take_all(&mut self, piece: &[u8], out: &mut Vec<u8>) -> Result<bool, ToolErr>
-        ensures { (reader : Machine) (entries : List Entry) (bytes : List ℕ)
-            (messages : List MessageTree) → StandsFor reader entries bytes messages self.old
-            → (more : List MessageTree) × Adds more out.old.items out.new.items
-            × Goes reader entries (bytes ++ piece.now) (messages ++ more) self.new result }
+        ensures { TakesPiece piece.now self.old self.new out.old.items out.new.items result }
     {
         let mut rest = piece;
         while !rest.is_empty() {
@@ -118,10 +113,7 @@ impl Serving {
     /// error and changes nothing.
     pub fn feed(&mut self, piece: &[u8], out: &mut Vec<u8>) -> Result<bool, ToolErr>
         requires { HasStarted self.old }
-        ensures feeds { (reader : Machine) (entries : List Entry) (bytes : List ℕ)
-            (messages : List MessageTree) → IsOpen reader entries bytes messages self.old
-            → Feeds reader entries bytes messages piece.now self.new out.old.items
-            out.new.items result }
+        ensures feeds { FeedsPiece piece.now self.old self.new out.old.items out.new.items result }
         ensures closed { IsClosed self.old → (result ≡ Ok true) × (self.new ≡ self.old)
             × (out.new.items ≡ out.old.items) }
         ensures failed { (error : ToolErr) → HasFailed error self.old → (result ≡ Err error)
@@ -137,14 +129,33 @@ impl Serving {
         self.phase = phase_after(outcome);
         outcome
     }
+}
 
-    /// How the input ends if no more bytes follow: well after a whole frame, and with `Early`
-    /// otherwise.
-    pub(crate) fn finish(&self) -> Result<(), ToolErr>
-        ensures { (reader : Machine) (entries : List Entry) (bytes : List ℕ)
-            (messages : List MessageTree) → IsOpen reader entries bytes messages self.now
-            → Finishes reader entries bytes messages result }
-    {
+impl Server for Serving {
+    ghost use Rattle.llrp_endpoints.specs.Calls.ServingStands.{HasNotStarted, HasStarted, IsFresh, IsOpen};
+    ghost use Rattle.llrp_endpoints.specs.Serving.{Serves};
+
+    ghost fresh = { IsFresh };
+
+    ghost opened = { IsOpen };
+
+    ghost says = { Serves };
+
+    ghost begins = { BeginsServing };
+
+    ghost may_start = { HasNotStarted };
+
+    ghost may_feed = { HasStarted };
+
+    fn start(&mut self, out: &mut Vec<u8>) -> Result<(), ToolErr> {
+        Serving::start(self, out)
+    }
+
+    fn feed(&mut self, piece: &[u8], out: &mut Vec<u8>) -> Result<bool, ToolErr> {
+        Serving::feed(self, piece, out)
+    }
+
+    fn finish(&self) -> Result<(), ToolErr> {
         match self.decoder.finish() {
             End::Clean => Ok(()),
             End::Rest(_) => Err(ToolErr::Early),

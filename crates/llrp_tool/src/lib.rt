@@ -5,13 +5,15 @@
 pub mod laws;
 
 pub use llrp_commands::{
-    LIMIT, NetworkCommand, USAGE, answer, network_command, reads_input, run_command,
+    LIMIT, NetworkCommand, PlanWords, USAGE, answer, network_command, reads_input, run_command,
 };
 pub use llrp_endpoints::{
-    Action, Endpoint, Entry, Gathering, Plan, Script, Serving, Sighting, Summary, checked_plan,
-    run_inventory, run_loop, run_serve, standard_plan,
+    Action, Endpoint, Entry, Gathering, LineForm, Plan, PlanErr, PlanFault, Script, Serving,
+    Sighting, Summary, checked_plan, own_message, run_inventory, run_loop, run_serve,
+    run_serve_all, standard_plan,
 };
 pub use llrp_listing::{
-    Refusal, ToolErr, Verdict, bytes_of_hex, read_all, run_encode, run_epc, run_show, write_all,
+    Refusal, ToolErr, Verdict, bytes_of_hex, read_all, run_encode, run_encode_in, run_epc,
+    run_show, run_show_in, write_all,
 };
 pub use llrp_stream::{Input, Output, Sink, Source};

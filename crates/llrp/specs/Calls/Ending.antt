@@ -2,7 +2,7 @@
 use Rattle.std.specs.Prelude.{◌≡◌, ℕ, ◌⊎◌, List}
 use Rattle.llrp_stream.specs.Device.{SinkLog, Wrote, WroteAndFailed}
 use Rattle.llrp_listing.specs.Copying.{IsPrefix}
-use Rattle.llrp_listing.specs.declared.fault.ToolErr.TheVariants.{Memory}
+use Rattle.llrp_listing.specs.declared.outcome.ToolErr.TheVariants.{Memory}
 use Rattle.llrp_commands.specs.Calls.Command.{error_line}
 
 -- The exit status is 3. The line of refused memory was written to the sink for errors, or a write failed after a front of it.

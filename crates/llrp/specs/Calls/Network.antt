@@ -1,10 +1,10 @@
 -- How the commands over sockets read their script and end.
-use Rattle.std.specs.Prelude.{◌≡◌, ℕ, ◌⊎◌, List, Option, Some, None, Result, Ok, Err, codes}
+use Rattle.std.specs.Prelude.{◌≡◌, ℕ, ◌⊎◌, Bool, false, true, List, Option, Some, None, Result, Ok, Err, codes}
 use Rattle.llrp_stream.specs.Device.{SourceLog, SinkLog, Wrote, WroteAndFailed}
 use Rattle.llrp_stream.specs.Calls.Device.{new_sink, new_source}
 use Rattle.llrp_session.specs.ReaderMachine.{new_reader}
-use Rattle.llrp_listing.specs.declared.fault.ToolErr.{ToolErr}
-use Rattle.llrp_listing.specs.declared.fault.ToolErr.TheVariants.{Write, Memory}
+use Rattle.llrp_listing.specs.declared.outcome.ToolErr.{ToolErr}
+use Rattle.llrp_listing.specs.declared.outcome.ToolErr.TheVariants.{Write}
 use Rattle.llrp_endpoints.specs.declared.script.Entry.{Entry}
 use Rattle.llrp_endpoints.specs.declared.summary.Summary.{Summary}
 use Rattle.llrp_commands.specs.Calls.Command.{Answers, fine_status}
@@ -13,8 +13,9 @@ use Rattle.llrp_listing.specs.Copying.{IsPrefix, ReadAll}
 use Rattle.llrp_listing.specs.Calls.Copying.{ReadStopped}
 use Rattle.llrp_endpoints.specs.Plan.{Plan}
 use Rattle.llrp_endpoints.specs.RunInventory.{RunsInventory}
-use Rattle.llrp_endpoints.specs.RunLoop.{Devices, Ends, RunsLoop, Traffic, Way}
+use Rattle.llrp_endpoints.specs.RunLoop.{Devices, BothEnds, RunsLoop, Traffic, DeviceWay}
 use Rattle.llrp_endpoints.specs.RunServe.{RunsServe}
+use Rattle.llrp_endpoints.specs.Calls.General.{RunsServeAll}
 use Rattle.llrp_endpoints.specs.Calls.Script.{IsScript, ParseStopped}
 use Rattle.llrp.specs.declared.network.TheConstants.{FIRST_ID}
 
@@ -46,15 +47,23 @@ abbrev pub Serves : List Entry → Result (Unit {0}) ToolErr → Type 0
 Serves entries outcome = (source : SourceLog) × (sink : SinkLog) × (bytes : List ℕ)
     × RunsServe (new_reader LIMIT FIRST_ID) entries (new_source None) source (new_sink None) sink bytes outcome
 
--- A client followed the plan so, over such a source and sink; or there was no memory for the plan. These are the logs of its report.
+-- the same, with three requests outside the profile answered
+abbrev pub ServesAll : List Entry → Result (Unit {0}) ToolErr → Type 0
+ServesAll entries outcome = (source : SourceLog) × (sink : SinkLog) × (bytes : List ℕ)
+    × RunsServeAll (new_reader LIMIT FIRST_ID) entries (new_source None) source (new_sink None) sink bytes outcome
+
+-- with --all, or without
+abbrev pub ServesSo : (all : Bool) → List Entry → Result (Unit {0}) ToolErr → Type 0
+ServesSo true entries outcome = ServesAll entries outcome
+ServesSo false entries outcome = Serves entries outcome
+
+-- A client followed the plan so, over such a source and sink. These are the logs of its report.
 abbrev pub FollowsPlan : Plan → SinkLog → SinkLog → Result (Unit {0}) ToolErr → Type 0
-FollowsPlan plan t0 t1 outcome =
-    ((outcome ≡ Err Memory) × (t1 ≡ t0))
-    ⊎ ((run : Result Summary ToolErr) × (source : SourceLog) × (sink : SinkLog) × (bytes : List ℕ)
-    × RunsInventory LIMIT plan (new_source None) source (new_sink None) sink t0 t1 bytes run × (outcome ≡ unnumbered run))
+FollowsPlan plan t0 t1 outcome = (run : Result Summary ToolErr) × (source : SourceLog) × (sink : SinkLog) × (bytes : List ℕ)
+    × RunsInventory LIMIT plan (new_source None) source (new_sink None) sink t0 t1 bytes run × (outcome ≡ unnumbered run)
 
 -- the ends of the connection of a loop
-abbrev pub both_ends : Plan → List Entry → Ends
+abbrev pub both_ends : Plan → List Entry → BothEnds
 both_ends plan entries = record { reader = new_reader LIMIT FIRST_ID; entries = entries; limit = LIMIT; plan = plan }
 
 -- its two ways, of which nothing was read or written, and the report
@@ -65,13 +74,11 @@ new_devices t0 = record {
   report = t0;
 }
 
--- A reader as new served, by these entries, a client that followed the plan, over such ways; or there was no memory for the plan.
+-- A reader as new served, by these entries, a client that followed the plan, over such ways.
 abbrev pub RunsBoth : Plan → SinkLog → SinkLog → List Entry → Result (Unit {0}) ToolErr → Type 0
-RunsBoth plan t0 t1 entries outcome =
-    ((outcome ≡ Err Memory) × (t1 ≡ t0))
-    ⊎ ((run : Result Summary ToolErr) × (down up : Way) × (said_down said_up : Traffic)
+RunsBoth plan t0 t1 entries outcome = (run : Result Summary ToolErr) × (down up : DeviceWay) × (said_down said_up : Traffic)
     × RunsLoop (both_ends plan entries) (new_devices t0) (record { down = down; up = up; report = t1 }) said_down said_up run
-    × (outcome ≡ unnumbered run))
+    × (outcome ≡ unnumbered run)
 
 -- ---- commands
 
@@ -81,8 +88,8 @@ MayEnd Unrun Run None = Unrun
 MayEnd Unrun Run (Some outcome) = Run outcome
 
 -- The reader served the next client; nothing is said of a network that failed.
-abbrev pub MayServe : List Entry → Option (Result (Unit {0}) ToolErr) → Type 0
-MayServe entries outcome = MayEnd (Unit {0}) (Serves entries) outcome
+abbrev pub MayServe : (all : Bool) → List Entry → Option (Result (Unit {0}) ToolErr) → Type 0
+MayServe all entries outcome = MayEnd (Unit {0}) (ServesSo all entries) outcome
 
 -- The client followed the plan; nothing was reported where the network failed.
 abbrev pub MayFollow : Plan → SinkLog → SinkLog → Option (Result (Unit {0}) ToolErr) → Type 0
@@ -104,8 +111,8 @@ RunsScript Unrun Run r0 r1 e0 e1 answer =
     × ReadsScript r0 r1 read × GoesOnWith Unrun Run read outcome × Concludes outcome e0 e1 answer
 
 -- what `sim` does
-abbrev pub RunsSim : SourceLog → SourceLog → SinkLog → SinkLog → Result ℕ ToolErr → Type 0
-RunsSim r0 r1 e0 e1 answer = RunsScript (Unit {0}) MayServe r0 r1 e0 e1 answer
+abbrev pub RunsSim : (all : Bool) → SourceLog → SourceLog → SinkLog → SinkLog → Result ℕ ToolErr → Type 0
+RunsSim all r0 r1 e0 e1 answer = RunsScript (Unit {0}) (MayServe all) r0 r1 e0 e1 answer
 
 -- what `loop` does
 abbrev pub RunsBothEnds : Plan → SourceLog → SourceLog → (t0 t1 e0 e1 : SinkLog) → Result ℕ ToolErr → Type 0

@@ -1,4 +1,5 @@
 use super::*;
+use llrp_endpoints::standard_plan;
 use std::io::Read;
 use std::net::Shutdown;
 use std::test::Fail;
@@ -33,7 +34,8 @@ fn take(rt: &HostRuntime, said: &[u8]) -> Result<(Result<(), ToolErr>, Vec<u8>, 
     reader.write_all(said)?;
     reader.shutdown(Shutdown::Write)?;
     let mut report = Output::new(Vec::new(alloc));
-    let outcome = take_inventory(alloc, &stream, 0, 1, false, &mut report);
+    let plan = standard_plan(alloc, 0, 1)?;
+    let outcome = take_inventory(alloc, &stream, plan, &mut report);
     stream.shutdown(Shutdown::Write)?;
     let mut sent = Vec::new(alloc);
     reader.read_to_end(&mut sent)?;
@@ -74,9 +76,7 @@ fn no_reader_at_the_port(rt: HostRuntime) -> Result<(), Fail> {
             port,
             timeout: None,
         },
-        0,
-        1,
-        false,
+        standard_plan(alloc, 0, 1)?,
         &mut report,
         &mut errors,
     )?;
@@ -96,7 +96,8 @@ fn a_reader_that_says_nothing(rt: HostRuntime) -> Result<(), Fail> {
     };
     let mut report = Progress::new(Output::new(Vec::new(alloc)), Some(Vec::new(alloc)));
     let mut errors = Output::new(Vec::new(alloc));
-    let found = inventory(&rt, alloc, target, 0, 1, false, &mut report, &mut errors)?;
+    let plan = standard_plan(alloc, 0, 1)?;
+    let found = inventory(&rt, alloc, target, plan, &mut report, &mut errors)?;
     assert!(rt; found == 3);
     assert!(rt; errors.into_inner().as_slice() == b"llrp: read\n".as_slice());
     Ok(())

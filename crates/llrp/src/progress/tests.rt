@@ -1,5 +1,5 @@
 use super::*;
-use llrp_tool::Output;
+use llrp_stream::Output;
 use std::test::Fail;
 
 #[test]

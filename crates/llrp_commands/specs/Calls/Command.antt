@@ -1,19 +1,32 @@
 -- What a command does, and how it is answered: its exit status, and its line for an error.
 use Rattle.std.specs.Prelude.{◌≡◌, ℕ, ◌⊎◌, List, [], ◌∷◌, ◌++◌, Bool, true, false, Result, Ok, Err, codes, decimal}
+use Rattle.clap.specs.Words.{Text}
 use Rattle.hex.specs.Hex.{encode_upper}
-use Rattle.llrp_listing.specs.declared.fault.ToolErr.{ToolErr}
-use Rattle.llrp_listing.specs.declared.fault.ToolErr.TheVariants.{Listing, Script, Hex, Read, Write, Bound, Memory, Broken, Peer, Strange, Early}
-use Rattle.llrp_listing.specs.declared.fault.Verdict.{Verdict}
-use Rattle.llrp_listing.specs.declared.fault.Verdict.TheVariants.{Lawful, Faulty}
+use Rattle.llrp_schema.specs.declared.kinds.Profile.{Profile}
+use Rattle.llrp_schema.specs.declared.kinds.Profile.TheVariants.{Own, Whole}
+use Rattle.llrp_listing.specs.declared.outcome.Refusal.{Refusal}
+use Rattle.llrp_listing.specs.declared.outcome.ToolErr.{ToolErr}
+use Rattle.llrp_listing.specs.declared.outcome.ToolErr.TheVariants.{Listing, Script, Hex, Read, Write, Bound, Memory, Broken, Peer, Strange, Early}
+use Rattle.llrp_listing.specs.declared.outcome.Verdict.{Verdict}
+use Rattle.llrp_listing.specs.declared.outcome.Verdict.TheVariants.{Lawful, Faulty}
 use Rattle.llrp_listing.specs.Copying.{GaveAndFailed, IsPrefix, ReadAll}
-use Rattle.llrp_listing.specs.declared.copying.TheConstants.{MOST_READS}
+use Rattle.llrp_listing.specs.declared.devices.TheConstants.{MOST_READS}
 use Rattle.llrp_listing.specs.Calls.Copying.{ReadStopped}
 use Rattle.llrp_stream.specs.Device.{SourceLog, SinkLog, Gave, Wrote, WroteAndFailed}
-use Rattle.llrp_listing.specs.Encoding.{Encoded, Encodes, EncodeStopped, ListingRefused, WasRead}
+use Rattle.llrp_listing.specs.Encoding.{EncodedIn, EncodesIn, EncodeStoppedIn, ListingRefusedIn, WasRead}
 use Rattle.llrp_listing.specs.Calls.EpcLines.{PrintsEpc}
 use Rattle.llrp_listing.specs.Calls.Hexadecimal.{IsHexOf, IsNoHex}
 use Rattle.llrp_listing.specs.Refused.{refusal_name}
-use Rattle.llrp_listing.specs.Show.{Listed, Shows, Stopped}
+use Rattle.llrp_listing.specs.Calls.Show.{ListedIn, StoppedIn}
+use Rattle.llrp_listing.specs.Show.{ShowsIn}
+use Rattle.llrp_json.specs.Calls.Show.{ListedJson, StoppedJson}
+use Rattle.llrp_json.specs.JsonLines.{ShowsJson}
+use Rattle.llrp_commands.specs.Calls.Arguments.{Asks, AsksEpc, AsksShow}
+
+-- the set of kinds that a command takes, with --all or without
+abbrev pub set_of : Bool → Profile
+set_of false = Own
+set_of true = Whole
 
 -- the exit status of a verdict
 abbrev pub status_of : Verdict → ℕ
@@ -34,9 +47,17 @@ error_status Write = 3
 error_status Bound = 3
 error_status Memory = 3
 
+-- the number of a line that is refused, and the reason, to the line's end
+unfoldable pub reason_line : ℕ → Refusal → List ℕ
+reason_line line reason = decimal line ++ (codes ": " ++ (refusal_name reason ++ codes "\n"))
+
+-- the line of a refusal: what stands before that number, and both
+abbrev pub refusal_line : List ℕ → ℕ → Refusal → List ℕ
+refusal_line front line reason = front ++ reason_line line reason
+
 -- the line of an error
 unfoldable pub error_line : ToolErr → List ℕ
-error_line (Listing line reason) = codes "llrp: line " ++ (decimal line ++ (codes ": " ++ (refusal_name reason ++ codes "\n")))
+error_line (Listing line reason) = refusal_line (codes "llrp: line ") line reason
 error_line (Script line) = codes "llrp: script line " ++ (decimal line ++ codes "\n")
 error_line Hex = codes "llrp: hex\n"
 error_line Read = codes "llrp: read\n"
@@ -55,22 +76,37 @@ Answers (Ok status) e0 e1 answer = (answer ≡ Ok status) × (e1 ≡ e0)
 Answers (Err error) e0 e1 (Ok status) = (status ≡ error_status error) × Wrote e0 e1 (error_line error)
 Answers (Err error) e0 e1 (Err fault) = (fault ≡ Write) × (front : List ℕ) × IsPrefix front (error_line error) × WroteAndFailed e0 e1 front
 
+-- the listing of bytes was written, or with --json their lines
+abbrev pub ListedInForm : Bool → Profile → ℕ → List ℕ → SinkLog → SinkLog → Verdict → Type 0
+ListedInForm false p limit bytes w0 w1 verdict = ListedIn p limit bytes w0 w1 verdict
+ListedInForm true p limit bytes w0 w1 verdict = ListedJson p limit bytes w0 w1 verdict
+
+-- a front of them was
+abbrev pub StoppedInForm : Bool → Profile → ℕ → List ℕ → SinkLog → SinkLog → ToolErr → Type 0
+StoppedInForm false p limit bytes w0 w1 error = StoppedIn p limit bytes w0 w1 error
+StoppedInForm true p limit bytes w0 w1 error = StoppedJson p limit bytes w0 w1 error
+
+-- what show of bytes did, by its answer
+abbrev pub ShowsInForm : Bool → Profile → ℕ → SourceLog → SourceLog → SinkLog → SinkLog → Result Verdict ToolErr → Type 0
+ShowsInForm false p limit r0 r1 w0 w1 outcome = ShowsIn p limit r0 r1 w0 w1 outcome
+ShowsInForm true p limit r0 r1 w0 w1 outcome = ShowsJson p limit r0 r1 w0 w1 outcome
+
 -- Show of hexadecimal digits stopped: while it read, in what it had read, or while it listed the bytes.
-abbrev pub ShowDigitsStopped : ℕ → SourceLog → SourceLog → SinkLog → SinkLog → List ℕ → ToolErr → Type 0
-ShowDigitsStopped limit r0 r1 w0 w1 text error =
+abbrev pub ShowDigitsStopped : Bool → Profile → ℕ → SourceLog → SourceLog → SinkLog → SinkLog → List ℕ → ToolErr → Type 0
+ShowDigitsStopped json p limit r0 r1 w0 w1 text error =
     (ReadStopped r0 r1 text error × (w1 ≡ w0))
     ⊎ (ReadAll r0 r1 text × (w1 ≡ w0) × ((error ≡ Memory) ⊎ ((error ≡ Hex) × IsNoHex text)))
-    ⊎ (ReadAll r0 r1 text × (bytes : List ℕ) × IsHexOf text bytes × Stopped limit bytes w0 w1 error)
+    ⊎ (ReadAll r0 r1 text × (bytes : List ℕ) × IsHexOf text bytes × StoppedInForm json p limit bytes w0 w1 error)
 
 -- What show of hexadecimal digits did, by its answer.
-abbrev pub ShowsDigits : ℕ → SourceLog → SourceLog → SinkLog → SinkLog → Result Verdict ToolErr → Type 0
-ShowsDigits limit r0 r1 w0 w1 (Ok verdict) = (text bytes : List ℕ) × ReadAll r0 r1 text × IsHexOf text bytes × Listed limit bytes w0 w1 verdict
-ShowsDigits limit r0 r1 w0 w1 (Err error) = (text : List ℕ) × ShowDigitsStopped limit r0 r1 w0 w1 text error
+abbrev pub ShowsDigits : Bool → Profile → ℕ → SourceLog → SourceLog → SinkLog → SinkLog → Result Verdict ToolErr → Type 0
+ShowsDigits json p limit r0 r1 w0 w1 (Ok verdict) = (text bytes : List ℕ) × ReadAll r0 r1 text × IsHexOf text bytes × ListedInForm json p limit bytes w0 w1 verdict
+ShowsDigits json p limit r0 r1 w0 w1 (Err error) = (text : List ℕ) × ShowDigitsStopped json p limit r0 r1 w0 w1 text error
 
--- What show did, with --hex or without, by its verdict.
-abbrev pub DoesShow : Bool → (limit : ℕ) → SourceLog → SourceLog → SinkLog → SinkLog → Result Verdict ToolErr → Type 0
-DoesShow false limit r0 r1 w0 w1 outcome = Shows limit r0 r1 w0 w1 outcome
-DoesShow true limit r0 r1 w0 w1 outcome = ShowsDigits limit r0 r1 w0 w1 outcome
+-- What show did in a set of kinds, with --json or without and with --hex or without, by its verdict.
+abbrev pub DoesShow : Bool → Bool → Profile → (limit : ℕ) → SourceLog → SourceLog → SinkLog → SinkLog → Result Verdict ToolErr → Type 0
+DoesShow json false p limit r0 r1 w0 w1 outcome = ShowsInForm json p limit r0 r1 w0 w1 outcome
+DoesShow json true p limit r0 r1 w0 w1 outcome = ShowsDigits json p limit r0 r1 w0 w1 outcome
 
 -- bytes as one line of upper-case digits, and no bytes as nothing
 abbrev pub digit_line : List ℕ → List ℕ
@@ -78,31 +114,31 @@ digit_line [] = []
 digit_line (byte ∷ bytes) = encode_upper (byte ∷ bytes) ++ codes "\n"
 
 -- No encoding was made of what was read, for this reason.
-abbrev pub NotEncoded : ℕ → SourceLog → SourceLog → ToolErr → Type 0
-NotEncoded limit r0 r1 (Listing line reason) = (bytes : List ℕ) × ListingRefused limit r0 r1 line reason bytes
-NotEncoded limit r0 r1 Read = (n : ℕ) × (front : List ℕ) × GaveAndFailed r0 r1 n front
-NotEncoded limit r0 r1 Bound = (front : List ℕ) × Gave r0 r1 MOST_READS front
-NotEncoded limit r0 r1 Memory = (front : List ℕ) × WasRead r0 r1 front
-NotEncoded limit r0 r1 _ = ⊥
+abbrev pub NotEncoded : Profile → ℕ → SourceLog → SourceLog → ToolErr → Type 0
+NotEncoded p limit r0 r1 (Listing line reason) = (bytes : List ℕ) × ListingRefusedIn p limit r0 r1 line reason bytes
+NotEncoded p limit r0 r1 Read = (n : ℕ) × (front : List ℕ) × GaveAndFailed r0 r1 n front
+NotEncoded p limit r0 r1 Bound = (front : List ℕ) × Gave r0 r1 MOST_READS front
+NotEncoded p limit r0 r1 Memory = (front : List ℕ) × WasRead r0 r1 front
+NotEncoded p limit r0 r1 _ = ⊥
 
 -- a front of the digits of the encoding was written, and then a write failed
-abbrev pub DigitsUnwritten : ℕ → SourceLog → SourceLog → SinkLog → SinkLog → Type 0
-DigitsUnwritten limit r0 r1 w0 w1 = (text bytes front : List ℕ) × ReadAll r0 r1 text × Encodes limit text bytes × IsPrefix front (digit_line bytes) × WroteAndFailed w0 w1 front
+abbrev pub DigitsUnwritten : Profile → ℕ → SourceLog → SourceLog → SinkLog → SinkLog → Type 0
+DigitsUnwritten p limit r0 r1 w0 w1 = (text bytes front : List ℕ) × ReadAll r0 r1 text × EncodesIn p limit text bytes × IsPrefix front (digit_line bytes) × WroteAndFailed w0 w1 front
 
 -- What encode to hexadecimal digits did, by its answer.
-abbrev pub EncodesDigits : ℕ → SourceLog → SourceLog → SinkLog → SinkLog → Result (Unit {0}) ToolErr → Type 0
-EncodesDigits limit r0 r1 w0 w1 (Ok u) = (text bytes : List ℕ) × ReadAll r0 r1 text × Encodes limit text bytes × Wrote w0 w1 (digit_line bytes)
-EncodesDigits limit r0 r1 w0 w1 (Err error) = ((w1 ≡ w0) × NotEncoded limit r0 r1 error) ⊎ ((error ≡ Write) × DigitsUnwritten limit r0 r1 w0 w1)
+abbrev pub EncodesDigits : Profile → ℕ → SourceLog → SourceLog → SinkLog → SinkLog → Result (Unit {0}) ToolErr → Type 0
+EncodesDigits p limit r0 r1 w0 w1 (Ok u) = (text bytes : List ℕ) × ReadAll r0 r1 text × EncodesIn p limit text bytes × Wrote w0 w1 (digit_line bytes)
+EncodesDigits p limit r0 r1 w0 w1 (Err error) = ((w1 ≡ w0) × NotEncoded p limit r0 r1 error) ⊎ ((error ≡ Write) × DigitsUnwritten p limit r0 r1 w0 w1)
 
 -- What encode did, by its answer.
-abbrev pub EncodesBytes : ℕ → SourceLog → SourceLog → SinkLog → SinkLog → Result (Unit {0}) ToolErr → Type 0
-EncodesBytes limit r0 r1 w0 w1 (Ok u) = Encoded limit r0 r1 w0 w1
-EncodesBytes limit r0 r1 w0 w1 (Err error) = EncodeStopped limit r0 r1 w0 w1 error
+abbrev pub EncodesBytes : Profile → ℕ → SourceLog → SourceLog → SinkLog → SinkLog → Result (Unit {0}) ToolErr → Type 0
+EncodesBytes p limit r0 r1 w0 w1 (Ok u) = EncodedIn p limit r0 r1 w0 w1
+EncodesBytes p limit r0 r1 w0 w1 (Err error) = EncodeStoppedIn p limit r0 r1 w0 w1 error
 
--- What encode did, with --hex or without.
-abbrev pub DoesEncode : Bool → (limit : ℕ) → SourceLog → SourceLog → SinkLog → SinkLog → Result (Unit {0}) ToolErr → Type 0
-DoesEncode false limit r0 r1 w0 w1 outcome = EncodesBytes limit r0 r1 w0 w1 outcome
-DoesEncode true limit r0 r1 w0 w1 outcome = EncodesDigits limit r0 r1 w0 w1 outcome
+-- What encode did in a set of kinds, with --hex or without.
+abbrev pub DoesEncode : Bool → Profile → (limit : ℕ) → SourceLog → SourceLog → SinkLog → SinkLog → Result (Unit {0}) ToolErr → Type 0
+DoesEncode false p limit r0 r1 w0 w1 outcome = EncodesBytes p limit r0 r1 w0 w1 outcome
+DoesEncode true p limit r0 r1 w0 w1 outcome = EncodesDigits p limit r0 r1 w0 w1 outcome
 
 -- Memory ran out before a command began: nothing was read or written.
 pub record IsNotBegun (r0 r1 : SourceLog) (w0 w1 e0 e1 : SinkLog) (answer : Result ℕ ToolErr) : Type 0 where
@@ -122,22 +158,36 @@ fine_status (Ok u) = Ok 0
 fine_status (Err error) = Err error
 
 -- Show ran to this answer.
-abbrev pub RanShow : Bool → (limit : ℕ) → SourceLog → SourceLog → SinkLog → SinkLog → SinkLog → SinkLog → Result ℕ ToolErr → Type 0
-RanShow hex limit r0 r1 w0 w1 e0 e1 answer =
+abbrev pub RanShow : Bool → Bool → Profile → (limit : ℕ) → SourceLog → SourceLog → SinkLog → SinkLog → SinkLog → SinkLog → Result ℕ ToolErr → Type 0
+RanShow json hex p limit r0 r1 w0 w1 e0 e1 answer =
     IsNotBegun r0 r1 w0 w1 e0 e1 answer
-    ⊎ ((outcome : Result Verdict ToolErr) × DoesShow hex limit r0 r1 w0 w1 outcome × Answers (verdict_status outcome) e0 e1 answer)
+    ⊎ ((outcome : Result Verdict ToolErr) × DoesShow json hex p limit r0 r1 w0 w1 outcome × Answers (verdict_status outcome) e0 e1 answer)
 
 -- Encode ran to this answer.
-abbrev pub RanEncode : Bool → (limit : ℕ) → SourceLog → SourceLog → SinkLog → SinkLog → SinkLog → SinkLog → Result ℕ ToolErr → Type 0
-RanEncode hex limit r0 r1 w0 w1 e0 e1 answer =
+abbrev pub RanEncode : Bool → Profile → (limit : ℕ) → SourceLog → SourceLog → SinkLog → SinkLog → SinkLog → SinkLog → Result ℕ ToolErr → Type 0
+RanEncode hex p limit r0 r1 w0 w1 e0 e1 answer =
     IsNotBegun r0 r1 w0 w1 e0 e1 answer
-    ⊎ ((outcome : Result (Unit {0}) ToolErr) × DoesEncode hex limit r0 r1 w0 w1 outcome × Answers (fine_status outcome) e0 e1 answer)
+    ⊎ ((outcome : Result (Unit {0}) ToolErr) × DoesEncode hex p limit r0 r1 w0 w1 outcome × Answers (fine_status outcome) e0 e1 answer)
 
 -- Epc ran to this answer. It reads nothing.
 abbrev pub RanEpc : List ℕ → SourceLog → SourceLog → SinkLog → SinkLog → SinkLog → SinkLog → Result ℕ ToolErr → Type 0
 RanEpc text r0 r1 w0 w1 e0 e1 answer =
     IsNotBegun r0 r1 w0 w1 e0 e1 answer
     ⊎ ((outcome : Result Verdict ToolErr) × (r1 ≡ r0) × PrintsEpc text w0 w1 outcome × Answers (verdict_status outcome) e0 e1 answer)
+
+-- if the words ask for show, it ran so
+abbrev pub ShowsIfAsked : List Text → SourceLog → SourceLog → SinkLog → SinkLog → SinkLog → SinkLog → Result ℕ ToolErr → Type 0
+ShowsIfAsked words r0 r1 w0 w1 e0 e1 answer =
+    (hex all json : Bool) (limit : ℕ) → AsksShow words hex all json limit → RanShow json hex (set_of all) limit r0 r1 w0 w1 e0 e1 answer
+
+-- the same of encode
+abbrev pub EncodesIfAsked : List Text → SourceLog → SourceLog → SinkLog → SinkLog → SinkLog → SinkLog → Result ℕ ToolErr → Type 0
+EncodesIfAsked words r0 r1 w0 w1 e0 e1 answer =
+    (hex all : Bool) (limit : ℕ) → Asks words (codes "encode") hex all limit → RanEncode hex (set_of all) limit r0 r1 w0 w1 e0 e1 answer
+
+-- the same of epc
+abbrev pub PrintsEpcIfAsked : List Text → SourceLog → SourceLog → SinkLog → SinkLog → SinkLog → SinkLog → Result ℕ ToolErr → Type 0
+PrintsEpcIfAsked words r0 r1 w0 w1 e0 e1 answer = (text : List ℕ) → AsksEpc words text → RanEpc text r0 r1 w0 w1 e0 e1 answer
 
 -- The command is left to the program: nothing was read or written.
 abbrev pub LeftAlone : SourceLog → SourceLog → SinkLog → SinkLog → SinkLog → SinkLog → Result ℕ ToolErr → Type 0

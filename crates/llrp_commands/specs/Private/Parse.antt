@@ -4,9 +4,9 @@ use Rattle.clap.specs.Words.{Row, Text, first_of, without_minus}
 use Rattle.clap.specs.Values.{IsSignedIn}
 use Rattle.clap.specs.Walk.{one_of}
 use Rattle.llrp_tree.specs.declared.TheConstants.{MAX_LIMIT}
-use Rattle.llrp_commands.specs.Calls.Words.{IsFlag}
-use Rattle.llrp_commands.specs.declared.words.Request.{Request}
-use Rattle.llrp_commands.specs.declared.words.Request.TheVariants.{Help, Usage}
+use Rattle.llrp_commands.specs.Calls.Arguments.{IsFlag}
+use Rattle.llrp_commands.specs.declared.arguments.Request.{Request}
+use Rattle.llrp_commands.specs.declared.arguments.Request.TheVariants.{Help, Usage}
 
 -- the argument has a word
 abbrev pub HasWord : Text → List Row → Type 0
@@ -35,25 +35,31 @@ HasFlagWord id rows = (given : Bool) × IsFlag (one_of id rows) given
 abbrev pub MayHaveNumberWord : Text → List Row → Type 0
 MayHaveNumberWord id rows = ((one_of id rows ≡ None) × (first_of id rows ≡ None)) ⊎ HasNumberWord id rows
 
--- both numbers of a plan are there, and its flag
+-- the numbers of a plan may be there, and its flags are
 abbrev pub HasPlan : List Row → Type 0
-HasPlan rows = HasNumberWord (codes "every") rows × HasNumberWord (codes "polls") rows × HasFlagWord (codes "check") rows
+HasPlan rows =
+    MayHaveNumberWord (codes "every") rows × MayHaveNumberWord (codes "polls") rows × MayHaveNumberWord (codes "reports") rows
+    × HasFlagWord (codes "check") rows × HasFlagWord (codes "clean") rows × HasFlagWord (codes "json") rows × HasFlagWord (codes "all") rows
 
 -- sim, inventory or loop, with what they need
 abbrev pub IsNetworkParse : Text → List Row → Type 0
 IsNetworkParse name rows =
-    ((name ≡ codes "sim") × HasNumberWord (codes "PORT") rows)
+    ((name ≡ codes "sim") × HasNumberWord (codes "PORT") rows × HasFlagWord (codes "all") rows)
     ⊎ ((name ≡ codes "inventory") × HasWord (codes "HOST") rows × HasNumberWord (codes "PORT") rows × HasPlan rows × MayHaveNumberWord (codes "timeout") rows)
     ⊎ ((name ≡ codes "loop") × HasPlan rows)
 
--- the flag and the limit of a command over a stream
+-- the flags and the limit of a command over a stream
 abbrev pub HasStreamWords : List Row → Type 0
-HasStreamWords rows = HasFlagWord (codes "hex") rows × HasLimitWord (codes "limit") rows
+HasStreamWords rows = HasFlagWord (codes "hex") rows × HasFlagWord (codes "all") rows × HasLimitWord (codes "limit") rows
+
+-- those of show
+abbrev pub HasShowWords : List Row → Type 0
+HasShowWords rows = HasStreamWords rows × HasFlagWord (codes "json") rows
 
 -- a command, with what it needs
 abbrev pub IsParse : Text → List Row → Type 0
 IsParse name rows =
-    ((name ≡ codes "show") × HasStreamWords rows) ⊎ ((name ≡ codes "encode") × HasStreamWords rows)
+    ((name ≡ codes "show") × HasShowWords rows) ⊎ ((name ≡ codes "encode") × HasStreamWords rows)
     ⊎ ((name ≡ codes "epc") × HasWord (codes "TEXT") rows) ⊎ IsNetworkParse name rows
 
 -- a command was found, with what it needs

@@ -3,15 +3,15 @@ use Rattle.std.specs.Prelude.{ℕ, ◌==◌, List, [], ◌∷◌, reverse, true,
 use Rattle.llrp_tree.specs.Tree.{Tree}
 use Rattle.llrp_session.specs.Refusal.{Refusal}
 use Rattle.llrp_session.specs.Table.{change_view, disabling, first_immediate}
-use Rattle.llrp_session.specs.Words.{Heard, ReaderMessage, ClientMessage, DeleteRoSpec, StopRoSpec, EnableRoSpec, DisableRoSpec, request}
-use Rattle.llrp_session.specs.Calls.Words.{heard}
+use Rattle.llrp_session.specs.Contents.{Heard, ReaderMessage, ClientMessage, DeleteRoSpec, StopRoSpec, EnableRoSpec, DisableRoSpec, request}
+use Rattle.llrp_session.specs.Calls.Contents.{heard}
 use Rattle.llrp_session.specs.ReaderMachine.{Reader, Turn, ReaderEvent, Connect, Take, Seen, Tick, start_if_idle, next}
 use Rattle.llrp_session.specs.Sightings.{kept_by}
 use Rattle.llrp_session.specs.ClientMachine.{Client, Taking, take, command}
-use Rattle.llrp_session.specs.declared.words.Pending.{Pending}
-use Rattle.llrp_session.specs.declared.words.Taken.{Taken}
-use Rattle.llrp_session.specs.declared.words.Taken.TheVariants.{Connected, Refused, Reply, Tags, Table, Differs, Event, Note, Kept, Closed as ConnectionEnded}
-use Rattle.llrp_session.specs.Calls.World.{World, stepped, commanded, took, opening}
+use Rattle.llrp_session.specs.declared.types.Pending.{Pending}
+use Rattle.llrp_session.specs.declared.types.Taken.{Taken}
+use Rattle.llrp_session.specs.declared.types.Taken.TheVariants.{Connected, Refused, Reply, Tags, Table, Differs, Event, Note, Kept, Closed as ConnectionEnded}
+use Rattle.llrp_session.specs.Calls.World.{World, stepped, commanded, word_took, opening}
 use Rattle.llrp_session.specs.World.{WorldEvent, Connects, Commands, DeliversUp, DeliversDown, Sees, Ticks, listed_by}
 
 -- ---- the two ends, by their machines
@@ -34,7 +34,7 @@ delivered_up_by x now (m ∷ ms) w = reader_does_by x now (Take 1 m.id (request 
 
 abbrev pub delivered_down_by : Machines → List ReaderMessage → World → World
 delivered_down_by x [] w = w
-delivered_down_by x (m ∷ ms) w = took (x.client w.client m.id (heard m.word)) (record w { down = ms })
+delivered_down_by x (m ∷ ms) w = word_took (x.client w.client m.id (heard m.word)) (record w { down = ms })
 
 abbrev pub happens_by : Machines → World → WorldEvent → World
 happens_by x w (Connects now) = reader_does_by x now Connect w

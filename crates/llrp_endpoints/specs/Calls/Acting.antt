@@ -1,6 +1,6 @@
 -- What the code that lets a reader act promises.
 use Rattle.std.specs.Prelude.{Result, Ok, Err, Bool, true, false}
-use Rattle.llrp_listing.specs.declared.fault.ToolErr.{ToolErr}
+use Rattle.llrp_listing.specs.declared.outcome.ToolErr.{ToolErr}
 use Rattle.llrp_endpoints.specs.declared.serving.Phase.{Phase}
 use Rattle.llrp_endpoints.specs.declared.serving.Phase.TheVariants.{Open, Closed, Failed}
 

@@ -2,47 +2,62 @@
 use Rattle.std.specs.Prelude.{◌≡◌, ℕ, ◌++◌, List, [], ◌∷◌, map, replicate, Result, Ok, Err, Bool, true, false}
 use Rattle.llrp_tree.specs.Tree.{Tree}
 use Rattle.llrp_stream.specs.Cuts.{Breaks}
-use Rattle.llrp_stream.specs.Calls.Decoding.{Stands}
-use Rattle.llrp_session.specs.declared.words.Command.{Command}
-use Rattle.llrp_session.specs.declared.words.Command.TheVariants.{Enable, Start, GetReport, Stop, Delete, Close}
-use Rattle.llrp_session.specs.Words.{ClientMessage}
+use Rattle.llrp_stream.specs.Calls.Decoding.{StandsIn}
+use Rattle.llrp_session.specs.declared.types.Command.TheVariants.{Add, Enable, Start, GetReport, Delete, Close}
+use Rattle.llrp_session.specs.Contents.{ClientMessage}
 use Rattle.llrp_session.specs.ClientMessages.{client_message}
-use Rattle.llrp_listing.specs.declared.fault.ToolErr.{ToolErr}
-use Rattle.llrp_listing.specs.declared.fault.ToolErr.TheVariants.{Broken, Memory, Peer, Strange, Early}
+use Rattle.llrp_listing.specs.declared.outcome.ToolErr.{ToolErr}
+use Rattle.llrp_listing.specs.declared.outcome.ToolErr.TheVariants.{Broken, Memory, Peer, Strange, Early}
 use Rattle.llrp_endpoints.specs.declared.gathering.Gathering.{Gathering}
-use Rattle.llrp_endpoints.specs.declared.gathering.left.Left.{Left}
-use Rattle.llrp_endpoints.specs.declared.gathering.left.Left.TheVariants.{Adding, Enabling, Starting, Polling, Checking, Deleting, Closing, Nothing}
-use Rattle.llrp_endpoints.specs.Plan.{Plan, checking, commands}
+use Rattle.llrp_endpoints.specs.declared.gathering.remaining.RemainingCommands.{RemainingCommands}
+use Rattle.llrp_endpoints.specs.declared.gathering.remaining.RemainingCommands.TheVariants.{Cleaning, Adding, Enabling, Starting, Awaiting, Checking, Deleting, Closing, Nothing}
+use Rattle.llrp_endpoints.specs.declared.gathering.remaining.Later.{Later}
+use Rattle.llrp_endpoints.specs.declared.course.Step.{Step}
+use Rattle.llrp_endpoints.specs.declared.course.Step.TheVariants.{Send, AwaitTags}
+use Rattle.llrp_endpoints.specs.Plan.{Plan, rospec_id, is_started, starting, ending, checking}
 use Rattle.llrp_endpoints.specs.Sending.{Adds}
 use Rattle.llrp_endpoints.specs.Calls.Sending.{AddsSome}
 use Rattle.llrp_endpoints.specs.TagLines.{AreReports, summary_of}
-use Rattle.llrp_endpoints.specs.declared.gathering.Phase.{Phase}
-use Rattle.llrp_endpoints.specs.declared.gathering.Phase.TheVariants.{Open, Closed, Failed}
+use Rattle.llrp_endpoints.specs.declared.course.Phase.{Phase}
+use Rattle.llrp_endpoints.specs.declared.course.Phase.TheVariants.{Open, Closed, Failed}
 use Rattle.llrp_endpoints.specs.Gathering.{Course, Gathers, closing_text}
 
--- ---- the commands that are left
+-- ---- the steps that are left
 
-abbrev pub closing : List Command
-closing = Close ∷ []
+abbrev pub later_of : Plan → Later
+later_of plan = record { id = rospec_id plan; starts = is_started plan; reports = plan.reports; polls = plan.polls; checked = plan.checked; disables = plan.disables }
 
-abbrev pub deleting : List Command
-deleting = Delete 1 ∷ closing
+abbrev pub closing : List Step
+closing = Send Close ∷ []
 
-abbrev pub checks_then_deletes : Bool → List Command
-checks_then_deletes checked = checking checked ++ deleting
+abbrev pub deleting : ℕ → List Step
+deleting id = Send (Delete id) ∷ closing
 
-abbrev pub polling : ℕ → Bool → List Command
-polling polls checked = replicate polls GetReport ++ Stop 1 ∷ checks_then_deletes checked
+abbrev pub checks_then_deletes : Bool → ℕ → List Step
+checks_then_deletes checked id = checking checked ++ deleting id
 
-abbrev pub commands_left : Left → List Command
-commands_left (Adding plan) = commands plan
-commands_left (Enabling polls checked) = Enable 1 ∷ Start 1 ∷ polling polls checked
-commands_left (Starting polls checked) = Start 1 ∷ polling polls checked
-commands_left (Polling polls checked) = polling polls checked
-commands_left (Checking checked) = checks_then_deletes checked
-commands_left Deleting = deleting
-commands_left Closing = closing
-commands_left Nothing = []
+abbrev pub polling : Later → List Step
+polling l = replicate l.polls (Send GetReport) ++ Send (ending l.disables l.id) ∷ checks_then_deletes l.checked l.id
+
+abbrev pub awaiting : Later → List Step
+awaiting l = replicate l.reports AwaitTags ++ polling l
+
+abbrev pub starts_then_awaits : Later → List Step
+starts_then_awaits l = starting l.starts l.id ++ awaiting l
+
+abbrev pub adding : Plan → List Step
+adding plan = Send (Add plan.rospec) ∷ Send (Enable (rospec_id plan)) ∷ starts_then_awaits (later_of plan)
+
+abbrev pub steps_left : RemainingCommands → List Step
+steps_left (Cleaning plan) = Send (Delete 0) ∷ adding plan
+steps_left (Adding plan) = adding plan
+steps_left (Enabling l) = Send (Enable l.id) ∷ starts_then_awaits l
+steps_left (Starting l) = Send (Start l.id) ∷ awaiting l
+steps_left (Awaiting l) = awaiting l
+steps_left (Checking checked id) = checks_then_deletes checked id
+steps_left (Deleting id) = deleting id
+steps_left Closing = closing
+steps_left Nothing = []
 
 -- ---- the state that it is in
 
@@ -53,7 +68,8 @@ Counts reports g = g.summary ≡ summary_of reports
 -- it is so far
 pub record Holds (course : Course) (g : Gathering) : Type 0 where
   pub client_is : g.client ≡ course.client
-  pub left_is : commands_left g.left ≡ course.left
+  pub form_is : g.form ≡ course.form
+  pub left_is : steps_left g.left ≡ course.left
   pub awaits_is : g.awaits ≡ course.awaits
   pub counts : Counts course.reports g
 
@@ -62,8 +78,9 @@ pub record StandsFor (limit : ℕ) (plan : Plan) (bytes rest : List ℕ) (course
   pub gathers : Gathers limit plan bytes rest course
   pub open_is : course.phase ≡ Open
   pub holds : Holds course g
-  pub decoder : Stands g.decoder rest
+  pub decoder : StandsIn plan.profile g.decoder rest
   pub limit_is : g.decoder.limit ≡ limit
+  pub profile_is : g.profile ≡ plan.profile
 
 -- it takes bytes
 pub record IsOpen (limit : ℕ) (plan : Plan) (bytes rest : List ℕ) (course : Course) (g : Gathering) : Type 0 where
@@ -91,9 +108,10 @@ pub record Moves (old new : Course) (out0 out1 report0 report1 : List ℕ) : Typ
   pub lines : List ℕ
   pub sent_are : new.sent ≡ old.sent ++ messages
   pub reports_are : new.reports ≡ old.reports ++ reports
+  pub form_is : new.form ≡ old.form
   pub frames : Adds (map client_message messages) out0 out1
-  pub are : AreReports reports lines
-  pub printed : report1 ≡ report0 ++ (lines ++ closing_text new.phase new.reports)
+  pub are : AreReports old.form reports lines
+  pub printed : report1 ≡ report0 ++ (lines ++ closing_text old.form new.phase new.reports)
 
 -- Only the frames of the first of these messages and the lines of the first of these reports were appended.
 pub record MovesSome (old new : Course) (out0 out1 report0 report1 : List ℕ) : Type 0 where
@@ -103,8 +121,9 @@ pub record MovesSome (old new : Course) (out0 out1 report0 report1 : List ℕ) :
   pub lines : List ℕ
   pub sent_are : new.sent ≡ old.sent ++ messages
   pub reports_are : new.reports ≡ old.reports ++ (reports ++ later)
+  pub form_is : new.form ≡ old.form
   pub frames : AddsSome (map client_message messages) out0 out1
-  pub are : AreReports reports lines
+  pub are : AreReports old.form reports lines
   pub printed : report1 ≡ report0 ++ lines
 
 -- ---- one step
@@ -129,6 +148,11 @@ abbrev pub Feeds : ℕ → Plan → List ℕ → Course → Gathering → List �
 Feeds limit plan bytes old g o0 o1 r0 r1 (Ok false) = (rest : List ℕ) × (new : Course) × StandsFor limit plan bytes rest new g × Moves old new o0 o1 r0 r1
 Feeds limit plan bytes old g o0 o1 r0 r1 (Ok true) = (rest : List ℕ) × (new : Course) × Gathers limit plan bytes rest new × (new.phase ≡ Closed) × Counts new.reports g × Moves old new o0 o1 r0 r1
 Feeds limit plan bytes old g o0 o1 r0 r1 (Err error) = Fails limit plan bytes old o0 o1 r0 r1 error
+
+-- whatever it was handed before, it took this piece so
+abbrev pub FeedsPiece : List ℕ → Gathering → Gathering → List ℕ → List ℕ → List ℕ → List ℕ → Result Bool ToolErr → Type 0
+FeedsPiece piece old new o0 o1 r0 r1 answer =
+    (limit : ℕ) (plan : Plan) (bytes rest : List ℕ) (c : Course) → IsOpen limit plan bytes rest c old → Feeds limit plan (bytes ++ piece) c new o0 o1 r0 r1 answer
 
 -- the phase that a feed leaves
 abbrev pub phase_left : Result Bool ToolErr → Phase

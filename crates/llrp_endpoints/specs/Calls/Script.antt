@@ -4,9 +4,9 @@ use Rattle.std.specs.Fmt.{signed_decimal}
 use Rattle.std.specs.Int.{w8}
 use Rattle.std.specs.List.Sorted.{IsNonDecreasingBy}
 use Rattle.tag_uri.specs.TagText.{IsTextOf}
-use Rattle.llrp_listing.specs.declared.fault.ToolErr.{ToolErr}
-use Rattle.llrp_listing.specs.declared.fault.ToolErr.TheVariants.{Script, Memory}
-use Rattle.llrp_session.specs.declared.words.Sighting.{Sighting}
+use Rattle.llrp_listing.specs.declared.outcome.ToolErr.{ToolErr}
+use Rattle.llrp_listing.specs.declared.outcome.ToolErr.TheVariants.{Script, Memory}
+use Rattle.llrp_session.specs.declared.types.Sighting.{Sighting}
 use Rattle.llrp_endpoints.specs.declared.script.Action.{Action}
 use Rattle.llrp_endpoints.specs.declared.script.Action.TheVariants.{Seen, Tick}
 use Rattle.llrp_endpoints.specs.declared.script.Entry.{Entry}
@@ -48,7 +48,7 @@ pub record IsInRange (e : Entry) : Type 0 where
   pub action : IsActionInRange e.action
 
 -- Entries whose numbers are in range, in which neither AFTER nor NOW falls, and not too many.
-pub record IsLawful (entries : List Entry) : Type 0 where
+pub record IsLawfulScript (entries : List Entry) : Type 0 where
   pub in_range : All IsInRange entries
   pub after : IsNonDecreasingBy (λ e. e.after) entries
   pub now : IsNonDecreasingBy (λ e. e.now) entries
@@ -56,7 +56,7 @@ pub record IsLawful (entries : List Entry) : Type 0 where
 
 -- The text is the script of these entries.
 pub record IsScript (entries : List Entry) (text : List ℕ) : Type 0 where
-  pub lawful : IsLawful entries
+  pub lawful : IsLawfulScript entries
   pub lines : IsTextOfAll entries text
 
 -- The text begins with the script of these entries, and this is the rest.
@@ -70,7 +70,7 @@ pub record Continues (entries : List Entry) (text : List ℕ) (entry : Entry) (r
   pub line : List ℕ
   pub says : IsEntryLine entry line
   pub text_is : text ≡ line ++ (codes "\n" ++ rest)
-  pub lawful : IsLawful (entries ++ entry ∷ [])
+  pub lawful : IsLawfulScript (entries ++ entry ∷ [])
 
 -- the text begins with the line of no entry that may follow these
 abbrev pub NoneContinues : List Entry → List ℕ → Type 0

@@ -6,7 +6,7 @@ use Rattle.llrp_stream.specs.Items.{ItemsSoFar}
 use Rattle.llrp_session.specs.ReaderMachine.{Reader}
 use Rattle.llrp_session.specs.Calls.MessageWorld.{AreSendable}
 use Rattle.llrp_endpoints.specs.declared.script.Entry.{Entry}
-use Rattle.llrp_endpoints.specs.Calls.Script.{IsLawful}
+use Rattle.llrp_endpoints.specs.Calls.Script.{IsLawfulScript}
 use Rattle.llrp_endpoints.specs.Sending.{AreFrames}
 use Rattle.llrp_endpoints.specs.Serving.{Standing, waiting, ended, early, Serves, BeginsServing, IsNewReader}
 
@@ -31,5 +31,5 @@ FramesReadBack = (limit : ℕ) (messages : List MessageTree) (bytes : List ℕ) 
 
 -- what a new reader says by a script is lawful, and no longer than the reader's own limit
 abbrev pub SaysWithinLimit : Type 0
-SaysWithinLimit = (reader : Reader) (entries : List Entry) (bytes : List ℕ) (messages : List MessageTree) → IsNewReader reader → reader.next_id < 2 ^ 32 → IsLawful entries
+SaysWithinLimit = (reader : Reader) (entries : List Entry) (bytes : List ℕ) (messages : List MessageTree) → IsNewReader reader → reader.next_id < 2 ^ 32 → IsLawfulScript entries
     → BeginsServing reader entries bytes messages → AreSendable reader.limit messages

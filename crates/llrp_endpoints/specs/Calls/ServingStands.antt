@@ -5,13 +5,13 @@ use Rattle.llrp_tree.specs.Tree.{MessageTree}
 use Rattle.llrp_stream.specs.Calls.Decoding.{Stands}
 use Rattle.llrp_stream.specs.declared.item.Item.{Item}
 use Rattle.llrp_session.specs.ReaderMachine.{Reader}
-use Rattle.llrp_listing.specs.declared.fault.ToolErr.{ToolErr}
-use Rattle.llrp_listing.specs.declared.fault.ToolErr.TheVariants.{Broken, Memory}
+use Rattle.llrp_listing.specs.declared.outcome.ToolErr.{ToolErr}
+use Rattle.llrp_listing.specs.declared.outcome.ToolErr.TheVariants.{Broken, Memory}
 use Rattle.llrp_endpoints.specs.declared.script.Entry.{Entry}
 use Rattle.llrp_endpoints.specs.declared.serving.scripted.ScriptedReader.{ScriptedReader}
 use Rattle.llrp_endpoints.specs.declared.serving.Serving.{Serving}
 use Rattle.llrp_endpoints.specs.declared.serving.Phase.TheVariants.{New, Open, Closed, Failed}
-use Rattle.llrp_endpoints.specs.Calls.Script.{IsLawful}
+use Rattle.llrp_endpoints.specs.Calls.Script.{IsLawfulScript}
 use Rattle.llrp_endpoints.specs.Serving.{events, last_moment, run, waiting, closed, broken, StaysOpen, Serves, BeginsServing}
 use Rattle.llrp_endpoints.specs.Sending.{Adds}
 use Rattle.llrp_endpoints.specs.TagLines.{greatest_count}
@@ -22,7 +22,7 @@ pub record HasDone (count : ℕ) (entries : List Entry) (s : ScriptedReader) : T
   pub done : List Entry
   pub left : List Entry
   pub whole : entries ≡ done ++ left
-  pub lawful : IsLawful entries
+  pub lawful : IsLawfulScript entries
   pub script_is : s.script ≡ entries
   pub done_is : s.done ≡ length done
   pub done_are : AllByRecursion (λ e. e.after < count) done
@@ -45,7 +45,7 @@ pub record StandsFor (reader : Reader) (entries : List Entry) (bytes : List ℕ)
 -- this reader with this script, before anything happened
 pub record IsNew (reader : Reader) (entries : List Entry) (s : ScriptedReader) : Type 0 where
   pub reader_is : s.core ≡ reader
-  pub lawful : IsLawful entries
+  pub lawful : IsLawfulScript entries
   pub script_is : s.script ≡ entries
   pub none_done : s.done ≡ 0
   pub none_taken : s.taken ≡ 0
@@ -100,3 +100,9 @@ Goes reader entries bytes messages new (Err error) = Fails reader entries bytes 
 abbrev pub Feeds : Reader → List Entry → List ℕ → List MessageTree → List ℕ → Serving → List ℕ → List ℕ → Result Bool ToolErr → Type 0
 Feeds reader entries bytes messages piece new out0 out1 answer =
     (more : List MessageTree) × Adds more out0 out1 × Goes reader entries (bytes ++ piece) (messages ++ more) new answer × (new.phase ≡ phase_after answer)
+
+-- whoever is served and whatever came before, it took this piece so
+abbrev pub FeedsPiece : List ℕ → Serving → Serving → List ℕ → List ℕ → Result Bool ToolErr → Type 0
+FeedsPiece piece old new out0 out1 answer =
+    (reader : Reader) (entries : List Entry) (bytes : List ℕ) (messages : List MessageTree) → IsOpen reader entries bytes messages old
+    → Feeds reader entries bytes messages piece new out0 out1 answer

@@ -1,10 +1,10 @@
 //! The client's side of a connection.
 
-ghost use Rattle.std.specs.Prelude.{◌≡◌, ◌≤◌, ◌<◌, ◌^◌, [], OnOk};
-ghost use Rattle.llrp_stream.specs.Device.{SinkLog, SourceLog};
+ghost use Rattle.std.specs.Prelude.{◌≡◌, ◌≤◌, ◌<◌, [], OnOk};
+ghost use Rattle.llrp_stream.specs.Device.{IsFreshSink, SinkLog};
 ghost use Rattle.llrp_tree.specs.declared.TheConstants.{MAX_LIMIT};
-ghost use Rattle.llrp_endpoints.specs.Private.EndsStand.{ClientHears, ClientStands, Given, HasRoom};
-ghost use Rattle.llrp_endpoints.specs.RunLoop.{Ends, Traffic};
+ghost use Rattle.llrp_endpoints.specs.Private.EndsStand.{ClientGoesOn, ClientStands, HasRoom};
+ghost use Rattle.llrp_endpoints.specs.RunLoop.{BothEnds};
 
 use super::pieces::read_piece;
 use crate::gathering::Gathering;
@@ -27,10 +27,10 @@ pub(super) struct ClientSide {
 
 impl ClientSide {
     /// A client before any byte came.
-    pub fn new(alloc: Global, plan: Plan, limit: u32) -> ClientSide
+    pub(crate) fn new(alloc: Global, plan: Plan, limit: u32) -> ClientSide
         requires least { 4096 ≤ limit }
         requires most { limit ≤ MAX_LIMIT }
-        ensures stands { (e : Ends) (log : SinkLog) → e.limit ≡ limit → e.plan ≡ plan
+        ensures stands { (e : BothEnds) (log : SinkLog) → e.limit ≡ limit → e.plan ≡ plan
             → ClientStands e [] [] log log result.gathering result.said.items result.lines.items }
         ensures unread { result.reads ≡ 0 }
     {
@@ -45,7 +45,7 @@ impl ClientSide {
     /// Reads this many bytes and takes them as they come; lines of tags are written before the next
     /// read. Returns whether the connection was closed as planned, after which nothing more is
     /// read.
-    pub fn hear<R: Source, P: Sink>(
+    pub(crate) fn hear<R: Source, P: Sink>(
         &mut self,
         count: usize,
         r: &mut R,
@@ -53,16 +53,13 @@ impl ClientSide {
     ) -> Result<bool, ToolErr>
         requires a_piece { count ≤ 4096 }
         requires room { HasRoom (R.log r.old) self.old.reads }
-        requires report { (P.log report.old).failures < 2 ^ 63 }
+        requires report { IsFreshSink (P.log report.old) }
         ensures room { OnOk result (HasRoom (R.log r.new) self.new.reads) }
         ensures report { OnOk result ((P.log report.new).failures ≡ (P.log report.old).failures) }
         ensures counted { OnOk result (0 < count → self.old.reads < self.new.reads) }
         ensures idle { count ≡ 0 → self.new ≡ self.old }
-        ensures hears { (e : Ends) (r0 : SourceLog) (p0 : SinkLog) (down up : Traffic)
-            → ClientStands e up.written down.read p0 (P.log report.old) self.old.gathering
-            self.old.said.items self.old.lines.items
-            → Given r0 (R.log r.old) self.old.reads down.read
-            → ClientHears e r0 (R.log r.new) p0 (P.log report.new) down up count self.new result }
+        ensures hears { ClientGoesOn (R.log r.old) (R.log r.new) (P.log report.old)
+            (P.log report.new) self.old self.new count result }
     {
         let mut buffer = [0u8; READ_SIZE];
         let mut left = count;

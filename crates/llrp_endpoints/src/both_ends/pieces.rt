@@ -1,9 +1,11 @@
 //! One write and one read of a connection.
 
-ghost use Rattle.std.specs.Prelude.{◌≡◌, ◌<◌, ◌≤◌, ◌^◌, ◌+◌, ◌++◌, [], IfErr, IfOk, List, OnOk, drop, length, take, ℕ};
+ghost use Rattle.std.specs.Prelude.{◌≡◌, ◌<◌, ◌≤◌, ◌+◌, ◌++◌, [], IfErr, IfOk, List, OnOk, drop, length, take, ℕ};
 ghost use Rattle.llrp_stream.specs.Device.{SourceLog, WroteAndFailed};
-ghost use Rattle.llrp_endpoints.specs.Private.EndsStand.{Given, HasRoom, ReadsNone, WritesPiece};
-ghost use Rattle.llrp_listing.specs.declared.fault.ToolErr.TheVariants.{Write};
+ghost use Rattle.llrp_listing.specs.Calls.Copying.{Given};
+ghost use Rattle.llrp_endpoints.specs.Private.EndsStand.{HasRoom, ReadsNone, WritesPiece};
+ghost use Rattle.llrp_listing.specs.declared.outcome.ToolErr.TheVariants.{Write};
+ghost use Rattle.llrp_stream.specs.Calls.Device.{CanWrite};
 
 use llrp_listing::{MOST_READS, READ_SIZE, ToolErr};
 use llrp_stream::{Sink, Source};
@@ -21,7 +23,7 @@ fn take_off(bytes: &mut Vec<u8>, count: usize)
 /// Writes the first bytes, at most 4,096, in one call, removes those that the sink took, and
 /// returns how many they were. Nothing is written if there are no bytes. The only error is `Write`.
 pub(super) fn write_piece<W: Sink>(said: &mut Vec<u8>, w: &mut W) -> Result<usize, ToolErr>
-    requires { (W.log w.old).failures + 1 < 2 ^ 64 }
+    requires { CanWrite (W.log w.old) }
     ensures ok { IfOk result (λ n. WritesPiece said.old.items said.new.items (W.log w.old)
         (W.log w.new) n) }
     ensures err { IfErr result (λ e. (e ≡ Write) × WroteAndFailed (W.log w.old) (W.log w.new) []

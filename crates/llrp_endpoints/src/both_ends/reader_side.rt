@@ -1,13 +1,12 @@
 //! The reader's side of a connection.
 
 ghost use Rattle.std.specs.Prelude.{◌≡◌, ◌<◌, ◌≤◌, [], IfErr, IfOk, List, OnOk, ℕ};
-ghost use Rattle.llrp_stream.specs.Device.{SourceLog};
-ghost use Rattle.llrp_endpoints.specs.Private.EndsStand.{Given, HasRoom, ReaderHears, ReaderStands};
-ghost use Rattle.llrp_endpoints.specs.RunLoop.{Ends, Traffic};
+ghost use Rattle.llrp_endpoints.specs.Private.EndsStand.{HasRoom, ReaderGoesOn, ReaderStands};
+ghost use Rattle.llrp_endpoints.specs.RunLoop.{BothEnds};
 ghost use Rattle.llrp_endpoints.specs.RunServe.{BeginsFrames};
 ghost use Rattle.llrp_endpoints.specs.Serving.{IsNewReader};
 ghost use Rattle.llrp_endpoints.specs.Calls.ServingStands.{HasStarted};
-ghost use Rattle.llrp_listing.specs.declared.fault.ToolErr.TheVariants.{Memory};
+ghost use Rattle.llrp_listing.specs.declared.outcome.ToolErr.TheVariants.{Memory};
 
 use super::pieces::read_piece;
 use crate::script::Script;
@@ -29,9 +28,9 @@ pub(super) struct ReaderSide {
 
 impl ReaderSide {
     /// Connects the client. The only error is `Memory`.
-    pub fn new(alloc: Global, core: Reader, script: Script) -> Result<ReaderSide, ToolErr>
+    pub(crate) fn new(alloc: Global, core: Reader, script: Script) -> Result<ReaderSide, ToolErr>
         requires { IsNewReader core }
-        ensures ok { IfOk result (λ s. (e : Ends) → e.reader ≡ core → e.entries ≡ script
+        ensures ok { IfOk result (λ s. (e : BothEnds) → e.reader ≡ core → e.entries ≡ script
             → ReaderStands e [] [] s.serving s.said.items) }
         ensures started { IfOk result (λ s. HasStarted s.serving) }
         ensures unread { IfOk result (λ s. s.reads ≡ 0) }
@@ -50,7 +49,7 @@ impl ReaderSide {
 
     /// Reads this many bytes and takes them as they come. Once the client closed the connection,
     /// they are dropped.
-    pub fn hear<R: Source>(&mut self, count: usize, r: &mut R) -> Result<(), ToolErr>
+    pub(crate) fn hear<R: Source>(&mut self, count: usize, r: &mut R) -> Result<(), ToolErr>
         requires a_piece { count ≤ 4096 }
         requires room { HasRoom (R.log r.old) self.old.reads }
         requires started { HasStarted self.old.serving }
@@ -58,10 +57,7 @@ impl ReaderSide {
         ensures counted { OnOk result (0 < count → self.old.reads < self.new.reads) }
         ensures started { HasStarted self.new.serving }
         ensures idle { count ≡ 0 → self.new ≡ self.old }
-        ensures hears { (e : Ends) (r0 : SourceLog) (down up : Traffic)
-            → ReaderStands e down.written up.read self.old.serving self.old.said.items
-            → Given r0 (R.log r.old) self.old.reads up.read
-            → ReaderHears e r0 (R.log r.new) down up count self.new result }
+        ensures hears { ReaderGoesOn (R.log r.old) (R.log r.new) self.old self.new count result }
     {
         let mut buffer = [0u8; READ_SIZE];
         let mut left = count;

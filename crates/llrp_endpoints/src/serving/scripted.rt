@@ -1,12 +1,12 @@
 //! A simulated reader that acts by a script.
 
-ghost use Rattle.std.specs.Prelude.{◌≡◌, ◌+◌, ◌++◌, ◌≤◌, ◌↔◌, [], IfErr, IsTrue, List, OnOk, length, map, min, ℕ};
+ghost use Rattle.std.specs.Prelude.{◌≡◌, ◌+◌, ◌≤◌, ◌↔◌, [], IfErr, IsTrue, List, OnOk, length};
 ghost use Rattle.llrp_session.specs.ReaderMachine.{Reader as Machine};
 ghost use Rattle.llrp_endpoints.specs.Private.Acting.{DidSome};
-ghost use Rattle.llrp_endpoints.specs.Serving.{Closes, entries_at, events, happening};
+ghost use Rattle.llrp_endpoints.specs.Serving.{Closes, events};
 ghost use Rattle.llrp_endpoints.specs.declared.script.Entry.{Entry};
 
-use super::acting::{due, event_of, happen, happen_all};
+use super::events::{due, event_of, happen, happen_all};
 use crate::script::Script;
 use llrp_listing::ToolErr;
 use llrp_session::{Reader, ReaderIn};
@@ -40,13 +40,11 @@ fn closes(item: &Item) -> bool
 }
 
 impl ScriptedReader {
-    ghost use Rattle.llrp_endpoints.specs.Private.ServingStands.{Connects, DoesEntries, TakesItem};
-    ghost use Rattle.llrp_endpoints.specs.Calls.ServingStands.{HasDone, HasTaken, IsNew};
-    ghost use Rattle.llrp_endpoints.specs.TagLines.{greatest_count};
-    ghost use Rattle.llrp_stream.specs.declared.item.Item.{Item};
+    ghost use Rattle.llrp_endpoints.specs.Private.ServingStands.{Connects, DoesDue, DoesSomeDue, TakesNext};
+    ghost use Rattle.llrp_endpoints.specs.Calls.ServingStands.{IsNew};
 
     /// A new reader and its script.
-    pub fn new(alloc: Global, core: Reader, script: Script) -> ScriptedReader
+    pub(crate) fn new(alloc: Global, core: Reader, script: Script) -> ScriptedReader
         ensures { IsNew core script result }
     {
         script.entries();
@@ -61,7 +59,7 @@ impl ScriptedReader {
     }
 
     /// Connects, and does the entries that happen before any item.
-    pub fn connect(&mut self, out: &mut Vec<u8>) -> Result<(), ToolErr>
+    pub(crate) fn connect(&mut self, out: &mut Vec<u8>) -> Result<(), ToolErr>
         ensures ok { OnOk result ((reader : Machine) (entries : List Entry)
             → IsNew reader entries self.old
             → Connects reader entries self.new out.old.items out.new.items) }
@@ -75,13 +73,8 @@ impl ScriptedReader {
 
     /// Does the entries that are due after the items taken.
     fn happen_due(&mut self, out: &mut Vec<u8>) -> Result<(), ToolErr>
-        ensures ok { OnOk result ((count : ℕ) (entries : List Entry)
-            → HasDone count entries self.old → self.old.taken ≡ min count greatest_count
-            → DoesEntries count entries self.old self.new out.old.items out.new.items) }
-        ensures err { IfErr result (λ e. (count : ℕ) (entries : List Entry)
-            → HasDone count entries self.old → self.old.taken ≡ min count greatest_count
-            → DidSome self.old.core (map happening (entries_at count entries)) e out.old.items
-            out.new.items) }
+        ensures ok { OnOk result (DoesDue self.old self.new out.old.items out.new.items) }
+        ensures err { IfErr result (λ e. DoesSomeDue self.old e out.old.items out.new.items) }
         ensures taken { self.new.taken ≡ self.old.taken }
     {
         let left = &self.script.entries()[self.done..];
@@ -93,10 +86,8 @@ impl ScriptedReader {
 
     /// Takes an item, and then lets the entries happen that are due, unless the item closes the
     /// connection. Returns whether it does.
-    pub fn take(&mut self, item: Item, out: &mut Vec<u8>) -> Result<bool, ToolErr>
-        ensures { (reader : Machine) (entries : List Entry) (items : List Item)
-            → HasTaken reader entries items self.old
-            → TakesItem reader entries items item self.new out.old.items out.new.items result }
+    pub(crate) fn take(&mut self, item: Item, out: &mut Vec<u8>) -> Result<bool, ToolErr>
+        ensures { TakesNext item self.old self.new out.old.items out.new.items result }
     {
         let closing = closes(&item);
         happen(self.alloc, &mut self.core, self.moment, event_of(item), out)?;

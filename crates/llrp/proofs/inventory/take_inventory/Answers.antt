@@ -5,8 +5,8 @@ use Rattle.llrp.proofs.inventory.take_inventory.Goals as goal
 
 pub returns-in_err-run_inventory : goal.returns-in_err-run_inventory
 returns-in_err-run_inventory g c =
-    let p = err_from_is_err_and c.from_residual-in_err-run_inventory.result c.from_residual-in_err-run_inventory.ensures.1 in
-    rw (p.1, p.2) (follows _ c.in_ok-plan.plan _ _ _ _ _ _ c.in_err-run_inventory.ensures.0 (Err c.in_err-run_inventory.field-0.0) c.in_ok-plan.ensures.plan c.new-source.ensures c.new-sink.ensures c.in_err-run_inventory.ensures.1)
+    let p = err_from_is_err_and c.from_residual.result c.from_residual.ensures.1 in
+    rw (p.1, p.2) (follows c.args.plan _ _ _ _ _ _ c.in_err-run_inventory.ensures.0 (Err c.in_err-run_inventory.field-0.0) c.new-source.ensures c.new-sink.ensures c.in_err-run_inventory.ensures.1)
 
 pub returns : goal.returns
-returns g c = follows _ c.in_ok-plan.plan _ _ _ _ _ _ c.in_ok-run_inventory.ensures.0 (Ok c.in_ok-run_inventory.field-0) c.in_ok-plan.ensures.plan c.new-source.ensures c.new-sink.ensures c.in_ok-run_inventory.ensures.1
+returns g c = follows c.args.plan _ _ _ _ _ _ c.in_ok-run_inventory.ensures.0 (Ok c.in_ok-run_inventory.field-0) c.new-source.ensures c.new-sink.ensures c.in_ok-run_inventory.ensures.1

@@ -1,4 +1,4 @@
-use Rattle.llrp_commands.specs.Calls.Words.{command_in}
+use Rattle.llrp_commands.specs.Calls.Arguments.{command_in}
 use Rattle.llrp_commands.proofs.ArgumentLemmas.{found_text}
 use Rattle.llrp_commands.proofs.CommandLemmas.{no_fault}
 use Rattle.llrp_commands.proofs.GivenArguments.{found_if_parsed}

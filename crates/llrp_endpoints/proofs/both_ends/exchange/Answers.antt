@@ -2,8 +2,8 @@ use Rattle.std.proofs.Common.{refl, sym, ap, ◌∙◌, arith}
 use Rattle.std.proofs.lemmas.Result.{err_from_is_err_and}
 use Rattle.llrp_endpoints.specs.declared.both_ends.client_side.ClientSide.{ClientSide}
 use Rattle.llrp_endpoints.specs.declared.both_ends.reader_side.ReaderSide.{ReaderSide}
-use Rattle.llrp_listing.specs.declared.copying.TheConstants.{MOST_READS}
-use Rattle.llrp_listing.proofs.DeviceLemmas.{same_failures}
+use Rattle.llrp_listing.specs.declared.devices.TheConstants.{MOST_READS}
+use Rattle.llrp_stream.proofs.WritingLemmas.{same_failures}
 use Rattle.llrp_endpoints.proofs.LoopLemmas.{begins, fresh_room, silent, not_silent, fewer_left, down_unwritten, up_unwritten, writes_down, writes_up, hears_down, hears_up, client_stopped, client_closed, reader_stopped}
 use Rattle.llrp_endpoints.proofs.both_ends.exchange.Goals as goal
 

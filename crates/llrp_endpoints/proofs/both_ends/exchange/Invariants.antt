@@ -1,14 +1,14 @@
 use Rattle.std.proofs.Common.{◌+◌, ◌-◌, ◌<◌, ◌^◌, ◌≢◌, []}
 use Rattle.llrp_endpoints.specs.declared.serving.Phase.TheVariants.{New}
-use Rattle.llrp_listing.specs.declared.copying.TheConstants.{MOST_READS}
+use Rattle.llrp_listing.specs.declared.devices.TheConstants.{MOST_READS}
 use Rattle.llrp_endpoints.specs.Private.EndsStand.{ClientStands, HasRoom, ReaderStands}
-use Rattle.llrp_endpoints.specs.RunLoop.{Ends}
+use Rattle.llrp_endpoints.specs.RunLoop.{BothEnds}
 use Rattle.llrp_endpoints.proofs.LoopLemmas.{State}
 use Rattle.llrp_endpoints.proofs.both_ends.exchange.Given as goal
 
 abbrev pub invariant-loop-reader : goal.invariant-loop-reader
 invariant-loop-reader g l = record {
-  state : (e : Ends) → ReaderStands e [] [] l.fn.reader.serving l.fn.reader.said.items → ClientStands e [] [] (g.P.Sink.log l.fn.report) (g.P.Sink.log l.fn.report) l.fn.client.gathering l.fn.client.said.items l.fn.client.lines.items
+  state : (e : BothEnds) → ReaderStands e [] [] l.fn.reader.serving l.fn.reader.said.items → ClientStands e [] [] (g.P.Sink.log l.fn.report) (g.P.Sink.log l.fn.report) l.fn.client.gathering l.fn.client.said.items l.fn.client.lines.items
       → State
       e
       (record {

@@ -1,73 +1,67 @@
-use Rattle.std.proofs.Common.{◌≡◌, List, ℕ, [], take, Ok, Err, subst, ap, arith}
-use Rattle.std.proofs.lemmas.List.{length-take}
+use Rattle.std.proofs.Common.{rules, ◌+◌, ◌++◌, Ok, Err}
 use Rattle.std.proofs.lemmas.Result.{err_from_is_err_and}
-use Rattle.llrp_stream.specs.Calls.Device.{Took}
-use Rattle.llrp_listing.proofs.DeviceLemmas.{failed_read}
-use Rattle.llrp_endpoints.proofs.InventoryLemmas.{so_far, read_failed, at_the_end, too_long, piece, sent_in_part, told_in_part, piece_failed, piece_closed, piece_open}
+use Rattle.llrp_listing.specs.Copying.{ReadAll}
+use Rattle.llrp_listing.specs.Calls.Copying.{Given}
+use Rattle.llrp_endpoints.proofs.InventoryLemmas.{begins, so_far, read_none, at_the_end, piece, sent_in_part, told_in_part, piece_failed, piece_closed, piece_open}
 use Rattle.llrp_endpoints.proofs.inventory.gather.Goals as goal
 
-pub returns-in_default : goal.returns-in_default
-returns-in_default g c =
-    λ limit plan opened.
-    let now = so_far limit plan (g.R.Source.log c.args.r.now) (g.R.Source.log c.loop.r) (g.W.Sink.log c.args.w.now) (g.W.Sink.log c.loop.w) (g.T.Sink.log c.args.report.now) (g.T.Sink.log c.loop.report) c.loop.counter c.args.gathering.now c.loop.gathering c.loop.out.items c.loop.lines.items c.loop.invariant opened in
-    read_failed limit plan (g.R.Source.log c.args.r.now) (g.R.Source.log c.loop.r) (g.R.Source.log c.read.new.self) (g.W.Sink.log c.args.w.now) (g.W.Sink.log c.loop.w) (g.T.Sink.log c.args.report.now) (g.T.Sink.log c.loop.report) c.loop.counter c.loop.gathering c.loop.out.items c.loop.lines.items now
-    (λ bytes gave. failed_read (g.R.Source.log c.args.r.now) (g.R.Source.log c.loop.r) (g.R.Source.log c.read.new.self) c.loop.counter bytes gave c.in_default.ensures.0 c.in_default.ensures.1)
+pub loop-piece-init : goal.loop-piece-init
+loop-piece-init g c = begins _ _ _ _ _ _ _ c.new-pieces.ensures c.requires.no_frames c.requires.no_lines
 
-pub returns-then-n-eq0 : goal.returns-then-n-eq0
-returns-then-n-eq0 g c =
+pub returns-in_err-piece : goal.returns-in_err-piece
+returns-in_err-piece g c =
     λ limit plan opened.
-    let now = so_far limit plan (g.R.Source.log c.args.r.now) (g.R.Source.log c.loop.r) (g.W.Sink.log c.args.w.now) (g.W.Sink.log c.loop.w) (g.T.Sink.log c.args.report.now) (g.T.Sink.log c.loop.report) c.loop.counter c.args.gathering.now c.loop.gathering c.loop.out.items c.loop.lines.items c.loop.invariant opened in
-    let none : take c.in-Ok.n c.read.new.buf ≡ [] = ap (λ (n : ℕ). take n c.read.new.buf) c.if-n-eq0.true in
-    at_the_end limit plan (g.R.Source.log c.args.r.now) (g.R.Source.log c.loop.r) (g.R.Source.log c.read.new.self) (g.W.Sink.log c.args.w.now) (g.W.Sink.log c.loop.w) (g.T.Sink.log c.args.report.now) (g.T.Sink.log c.loop.report) c.loop.counter c.loop.gathering c.loop.out.items c.loop.lines.items now c.loop-test.true
-    (subst (λ (x : List ℕ). Took (g.R.Source.log c.loop.r) (g.R.Source.log c.read.new.self) x) none c.in-Ok.ensures.1)
+    let f = c.loop-piece.invariant in
+    let p = err_from_is_err_and c.from_residual.result c.from_residual.ensures.1 in
+    rw (p.1, p.2) (read_none limit plan _ _ f.bytes _ _ _ _ c.loop-piece.gathering c.loop-piece.out.items c.loop-piece.lines.items _ (so_far limit plan _ _ _ _ _ _ _ _ _ _ _ f opened) (c.in_err-piece.ensures.next _ _ f.given))
+
+pub returns : goal.returns
+returns g c =
+    λ limit plan opened.
+    let f = c.loop-piece.invariant in
+    let all : ReadAll (g.R.Source.log c.args.r.now) (g.R.Source.log c.next.new.r) f.bytes = search rules in
+    at_the_end limit plan _ _ f.bytes _ _ _ _ c.loop-piece.gathering c.loop-piece.out.items c.loop-piece.lines.items (so_far limit plan _ _ _ _ _ _ _ _ _ _ _ f opened) all
 
 pub returns-in_err-hand_on : goal.returns-in_err-hand_on
 returns-in_err-hand_on g c =
     λ limit plan opened.
-    let now = so_far limit plan (g.R.Source.log c.args.r.now) (g.R.Source.log c.loop.r) (g.W.Sink.log c.args.w.now) (g.W.Sink.log c.loop.w) (g.T.Sink.log c.args.report.now) (g.T.Sink.log c.loop.report) c.loop.counter c.args.gathering.now c.loop.gathering c.loop.out.items c.loop.lines.items c.loop.invariant opened in
-    let p = err_from_is_err_and c.from_residual.result c.from_residual.ensures.1 in
-    let got = take c.in-Ok.n c.read.new.buf in
-    rw (p.1, p.2) (sent_in_part limit plan (g.R.Source.log c.args.r.now) (g.R.Source.log c.loop.r) (g.R.Source.log c.read.new.self) (g.W.Sink.log c.args.w.now) (g.W.Sink.log c.loop.w) _ (g.T.Sink.log c.args.report.now) (g.T.Sink.log c.loop.report) c.loop.counter c.loop.gathering c.feed-fed.new.self c.loop.out.items c.feed-fed.new.out.items c.loop.lines.items c.feed-fed.new.report.items c.feed-fed.result c.in_err-hand_on.field-0.0
-    (piece limit plan (g.R.Source.log c.args.r.now) (g.R.Source.log c.loop.r) (g.R.Source.log c.read.new.self) (g.W.Sink.log c.args.w.now) (g.W.Sink.log c.loop.w) (g.T.Sink.log c.args.report.now) (g.T.Sink.log c.loop.report) c.loop.counter c.loop.gathering c.feed-fed.new.self c.loop.out.items c.feed-fed.new.out.items c.loop.lines.items c.feed-fed.new.report.items got c.feed-fed.result now c.loop-test.true c.in-Ok.ensures.1 (omega (arith, c.in-Ok.ensures.0, length-take c.in-Ok.n c.read.new.buf)) c.feed-fed.ensures.feeds c.feed-fed.ensures.phase)
+    let f = c.loop-piece.invariant in
+    let p = err_from_is_err_and c.from_residual-in_err-hand_on.result c.from_residual-in_err-hand_on.ensures.1 in
+    let given : Given (g.R.Source.log c.args.r.now) (g.R.Source.log c.next.new.r) (c.loop-piece.pieces.reads + 1) (f.bytes ++ c.in-Some.piece.now) = rw c.in-Some.is at (c.in_ok-piece.ensures.next _ _ f.given) in
+    rw (p.1, p.2) (sent_in_part limit plan _ _ f.bytes c.in-Some.piece.now _ _ _ _ _ c.loop-piece.gathering c.feed-fed.new.self c.loop-piece.out.items c.feed-fed.new.out.items c.loop-piece.lines.items c.feed-fed.new.report.items c.feed-fed.result c.in_err-hand_on.field-0.0
+    (piece limit plan _ _ _ f.bytes c.in-Some.piece.now _ _ _ _ c.loop-piece.gathering c.feed-fed.new.self c.loop-piece.out.items c.feed-fed.new.out.items c.loop-piece.lines.items c.feed-fed.new.report.items c.feed-fed.result (so_far limit plan _ _ _ _ _ _ _ _ _ _ _ f opened) given c.feed-fed.ensures.feeds c.feed-fed.ensures.phase)
     c.in_err-hand_on.ensures.written)
 
 pub returns-in_err-hand_on-2 : goal.returns-in_err-hand_on-2
 returns-in_err-hand_on-2 g c =
     λ limit plan opened.
-    let now = so_far limit plan (g.R.Source.log c.args.r.now) (g.R.Source.log c.loop.r) (g.W.Sink.log c.args.w.now) (g.W.Sink.log c.loop.w) (g.T.Sink.log c.args.report.now) (g.T.Sink.log c.loop.report) c.loop.counter c.args.gathering.now c.loop.gathering c.loop.out.items c.loop.lines.items c.loop.invariant opened in
+    let f = c.loop-piece.invariant in
     let p = err_from_is_err_and c.from_residual-in_err-hand_on-2.result c.from_residual-in_err-hand_on-2.ensures.1 in
-    let got = take c.in-Ok.n c.read.new.buf in
-    rw (p.1, p.2) (told_in_part limit plan (g.R.Source.log c.args.r.now) (g.R.Source.log c.loop.r) (g.R.Source.log c.read.new.self) (g.W.Sink.log c.args.w.now) (g.W.Sink.log c.loop.w) _ (g.T.Sink.log c.args.report.now) (g.T.Sink.log c.loop.report) _ c.loop.counter c.loop.gathering c.feed-fed.new.self c.loop.out.items c.feed-fed.new.out.items c.loop.lines.items c.feed-fed.new.report.items c.feed-fed.result c.in_err-hand_on-2.field-0.0
-    (piece limit plan (g.R.Source.log c.args.r.now) (g.R.Source.log c.loop.r) (g.R.Source.log c.read.new.self) (g.W.Sink.log c.args.w.now) (g.W.Sink.log c.loop.w) (g.T.Sink.log c.args.report.now) (g.T.Sink.log c.loop.report) c.loop.counter c.loop.gathering c.feed-fed.new.self c.loop.out.items c.feed-fed.new.out.items c.loop.lines.items c.feed-fed.new.report.items got c.feed-fed.result now c.loop-test.true c.in-Ok.ensures.1 (omega (arith, c.in-Ok.ensures.0, length-take c.in-Ok.n c.read.new.buf)) c.feed-fed.ensures.feeds c.feed-fed.ensures.phase)
+    let given : Given (g.R.Source.log c.args.r.now) (g.R.Source.log c.next.new.r) (c.loop-piece.pieces.reads + 1) (f.bytes ++ c.in-Some.piece.now) = rw c.in-Some.is at (c.in_ok-piece.ensures.next _ _ f.given) in
+    rw (p.1, p.2) (told_in_part limit plan _ _ f.bytes c.in-Some.piece.now _ _ _ _ _ _ c.loop-piece.gathering c.feed-fed.new.self c.loop-piece.out.items c.feed-fed.new.out.items c.loop-piece.lines.items c.feed-fed.new.report.items c.feed-fed.result c.in_err-hand_on-2.field-0.0
+    (piece limit plan _ _ _ f.bytes c.in-Some.piece.now _ _ _ _ c.loop-piece.gathering c.feed-fed.new.self c.loop-piece.out.items c.feed-fed.new.out.items c.loop-piece.lines.items c.feed-fed.new.report.items c.feed-fed.result (so_far limit plan _ _ _ _ _ _ _ _ _ _ _ f opened) given c.feed-fed.ensures.feeds c.feed-fed.ensures.phase)
     c.in_ok-hand_on.ensures.written c.in_err-hand_on-2.ensures.written)
 
 pub returns-in_err-fed : goal.returns-in_err-fed
 returns-in_err-fed g c =
     λ limit plan opened.
-    let now = so_far limit plan (g.R.Source.log c.args.r.now) (g.R.Source.log c.loop.r) (g.W.Sink.log c.args.w.now) (g.W.Sink.log c.loop.w) (g.T.Sink.log c.args.report.now) (g.T.Sink.log c.loop.report) c.loop.counter c.args.gathering.now c.loop.gathering c.loop.out.items c.loop.lines.items c.loop.invariant opened in
+    let f = c.loop-piece.invariant in
     let p = err_from_is_err_and c.from_residual-in_err-fed.result c.from_residual-in_err-fed.ensures.1 in
-    let got = take c.in-Ok.n c.read.new.buf in
-    rw (p.1, p.2) (piece_failed limit plan (g.R.Source.log c.args.r.now) (g.R.Source.log c.loop.r) (g.R.Source.log c.read.new.self) (g.W.Sink.log c.args.w.now) (g.W.Sink.log c.loop.w) _ (g.T.Sink.log c.args.report.now) (g.T.Sink.log c.loop.report) _ c.loop.counter c.loop.gathering c.feed-fed.new.self c.loop.out.items c.feed-fed.new.out.items c.loop.lines.items c.feed-fed.new.report.items c.in_err-fed.field-0.0
-    (piece limit plan (g.R.Source.log c.args.r.now) (g.R.Source.log c.loop.r) (g.R.Source.log c.read.new.self) (g.W.Sink.log c.args.w.now) (g.W.Sink.log c.loop.w) (g.T.Sink.log c.args.report.now) (g.T.Sink.log c.loop.report) c.loop.counter c.loop.gathering c.feed-fed.new.self c.loop.out.items c.feed-fed.new.out.items c.loop.lines.items c.feed-fed.new.report.items got (Err c.in_err-fed.field-0.0) now c.loop-test.true c.in-Ok.ensures.1 (omega (arith, c.in-Ok.ensures.0, length-take c.in-Ok.n c.read.new.buf)) c.in_err-fed.ensures.feeds c.in_err-fed.ensures.phase)
+    let given : Given (g.R.Source.log c.args.r.now) (g.R.Source.log c.next.new.r) (c.loop-piece.pieces.reads + 1) (f.bytes ++ c.in-Some.piece.now) = rw c.in-Some.is at (c.in_ok-piece.ensures.next _ _ f.given) in
+    rw (p.1, p.2) (piece_failed limit plan _ _ f.bytes c.in-Some.piece.now _ _ _ _ _ _ c.loop-piece.gathering c.feed-fed.new.self c.loop-piece.out.items c.feed-fed.new.out.items c.loop-piece.lines.items c.feed-fed.new.report.items c.in_err-fed.field-0.0
+    (piece limit plan _ _ _ f.bytes c.in-Some.piece.now _ _ _ _ c.loop-piece.gathering c.feed-fed.new.self c.loop-piece.out.items c.feed-fed.new.out.items c.loop-piece.lines.items c.feed-fed.new.report.items (Err c.in_err-fed.field-0.0) (so_far limit plan _ _ _ _ _ _ _ _ _ _ _ f opened) given c.in_err-fed.ensures.feeds c.in_err-fed.ensures.phase)
     c.in_ok-hand_on.ensures.written c.in_ok-hand_on-2.ensures.written)
 
 pub returns-then-branch : goal.returns-then-branch
 returns-then-branch g c =
     λ limit plan opened.
-    let now = so_far limit plan (g.R.Source.log c.args.r.now) (g.R.Source.log c.loop.r) (g.W.Sink.log c.args.w.now) (g.W.Sink.log c.loop.w) (g.T.Sink.log c.args.report.now) (g.T.Sink.log c.loop.report) c.loop.counter c.args.gathering.now c.loop.gathering c.loop.out.items c.loop.lines.items c.loop.invariant opened in
-    let got = take c.in-Ok.n c.read.new.buf in
-    piece_closed limit plan (g.R.Source.log c.args.r.now) (g.R.Source.log c.loop.r) (g.R.Source.log c.read.new.self) (g.W.Sink.log c.args.w.now) (g.W.Sink.log c.loop.w) _ (g.T.Sink.log c.args.report.now) (g.T.Sink.log c.loop.report) _ c.loop.counter c.loop.gathering c.feed-fed.new.self c.loop.out.items c.feed-fed.new.out.items c.loop.lines.items c.feed-fed.new.report.items c.in_ok-fed.field-0 c.summary.result
-    (piece limit plan (g.R.Source.log c.args.r.now) (g.R.Source.log c.loop.r) (g.R.Source.log c.read.new.self) (g.W.Sink.log c.args.w.now) (g.W.Sink.log c.loop.w) (g.T.Sink.log c.args.report.now) (g.T.Sink.log c.loop.report) c.loop.counter c.loop.gathering c.feed-fed.new.self c.loop.out.items c.feed-fed.new.out.items c.loop.lines.items c.feed-fed.new.report.items got (Ok c.in_ok-fed.field-0) now c.loop-test.true c.in-Ok.ensures.1 (omega (arith, c.in-Ok.ensures.0, length-take c.in-Ok.n c.read.new.buf)) c.in_ok-fed.ensures.feeds c.in_ok-fed.ensures.phase)
+    let f = c.loop-piece.invariant in
+    let given : Given (g.R.Source.log c.args.r.now) (g.R.Source.log c.next.new.r) (c.loop-piece.pieces.reads + 1) (f.bytes ++ c.in-Some.piece.now) = rw c.in-Some.is at (c.in_ok-piece.ensures.next _ _ f.given) in
+    piece_closed limit plan _ _ f.bytes c.in-Some.piece.now _ _ _ _ _ _ c.loop-piece.gathering c.feed-fed.new.self c.loop-piece.out.items c.feed-fed.new.out.items c.loop-piece.lines.items c.feed-fed.new.report.items c.in_ok-fed.field-0 c.summary.result
+    (piece limit plan _ _ _ f.bytes c.in-Some.piece.now _ _ _ _ c.loop-piece.gathering c.feed-fed.new.self c.loop-piece.out.items c.feed-fed.new.out.items c.loop-piece.lines.items c.feed-fed.new.report.items (Ok c.in_ok-fed.field-0) (so_far limit plan _ _ _ _ _ _ _ _ _ _ _ f opened) given c.in_ok-fed.ensures.feeds c.in_ok-fed.ensures.phase)
     c.if-branch.true c.in_ok-hand_on.ensures.written c.in_ok-hand_on-2.ensures.written c.summary.ensures
 
-pub loop-preserved : goal.loop-preserved
-loop-preserved g c =
-    piece_open (g.R.Source.log c.args.r.now) (g.R.Source.log c.loop.r) (g.R.Source.log c.read.new.self) (g.W.Sink.log c.args.w.now) (g.W.Sink.log c.loop.w) _ (g.T.Sink.log c.args.report.now) (g.T.Sink.log c.loop.report) _ c.loop.counter c.args.gathering.now c.loop.gathering c.feed-fed.new.self c.loop.out.items c.feed-fed.new.out.items c.hand_on.new.gathered.items c.loop.lines.items c.feed-fed.new.report.items c.hand_on-in-loop.new.gathered.items
-    (take c.in-Ok.n c.read.new.buf) c.in_ok-fed.field-0 c.loop.invariant c.loop-test.true c.in-Ok.ensures.1 (omega (arith, c.in-Ok.ensures.0, length-take c.in-Ok.n c.read.new.buf)) c.in_ok-fed.ensures.feeds c.in_ok-fed.ensures.phase
-    c.if-branch.false c.in_ok-hand_on.ensures.written c.in_ok-hand_on-2.ensures.written c.in_ok-hand_on.ensures.emptied c.in_ok-hand_on-2.ensures.emptied
-
-pub returns : goal.returns
-returns g c =
-    λ limit plan opened.
-    let now = so_far limit plan (g.R.Source.log c.args.r.now) (g.R.Source.log c.loop.r) (g.W.Sink.log c.args.w.now) (g.W.Sink.log c.loop.w) (g.T.Sink.log c.args.report.now) (g.T.Sink.log c.loop.report) c.loop.counter c.args.gathering.now c.loop.gathering c.loop.out.items c.loop.lines.items c.loop.invariant opened in
-    too_long limit plan (g.R.Source.log c.args.r.now) (g.R.Source.log c.loop.r) (g.W.Sink.log c.args.w.now) (g.W.Sink.log c.loop.w) (g.T.Sink.log c.args.report.now) (g.T.Sink.log c.loop.report) c.loop.counter c.loop.gathering c.loop.out.items c.loop.lines.items now (omega arith)
+pub loop-piece-preserved : goal.loop-piece-preserved
+loop-piece-preserved g c =
+    piece_open _ _ _ _ _ _ _ _ _ _ _ c.args.gathering.now c.loop-piece.gathering c.feed-fed.new.self c.loop-piece.out.items c.feed-fed.new.out.items c.hand_on.new.gathered.items c.loop-piece.lines.items c.feed-fed.new.report.items c.hand_on-in-Some.new.gathered.items c.in-Some.piece.now c.in_ok-fed.field-0 c.loop-piece.invariant (search rules)
+    c.in_ok-fed.ensures.feeds c.in_ok-fed.ensures.phase c.if-branch.false c.in_ok-hand_on.ensures.written c.in_ok-hand_on-2.ensures.written c.in_ok-hand_on.ensures.emptied c.in_ok-hand_on-2.ensures.emptied

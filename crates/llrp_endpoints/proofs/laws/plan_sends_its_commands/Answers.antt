@@ -1,4 +1,4 @@
-use Rattle.llrp_endpoints.proofs.PlanAnswers.{sends_where_awaited}
+use Rattle.llrp_endpoints.proofs.PlanAnswers.{takes_where_awaited}
 use Rattle.llrp_endpoints.proofs.PlanFollowing.{in_order, one_by_one}
 use Rattle.llrp_endpoints.proofs.laws.plan_sends_its_commands.Goals as goal
 
@@ -9,4 +9,4 @@ pub returns-clause-one_by_one : goal.returns-clause-one_by_one
 returns-clause-one_by_one c = one_by_one
 
 pub returns-clause-where_awaited : goal.returns-clause-where_awaited
-returns-clause-where_awaited c = sends_where_awaited
+returns-clause-where_awaited c = takes_where_awaited

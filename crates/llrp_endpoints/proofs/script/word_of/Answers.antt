@@ -1,7 +1,8 @@
 use Rattle.std.proofs.Common.{List, ℕ, sym, subst}
 use Rattle.tag_uri.specs.TagText.{IsTextOf}
 use Rattle.llrp_listing.proofs.SplitWords.{at_none}
-use Rattle.llrp_endpoints.proofs.WordTexts.{utf8_text, no_text, that_text}
+use Rattle.llrp_endpoints.proofs.WordTexts.{no_text, that_text}
+use Rattle.tag_uri.proofs.UriLemmas.{word_text_utf8 as utf8_text}
 use Rattle.llrp_endpoints.proofs.script.word_of.Goals as goal
 
 pub returns-in_err-text : goal.returns-in_err-text

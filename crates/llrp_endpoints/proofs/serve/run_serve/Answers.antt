@@ -1,5 +1,4 @@
-use Rattle.std.proofs.Common.{rules}
 use Rattle.llrp_endpoints.proofs.serve.run_serve.Goals as goal
 
 pub returns : goal.returns
-returns c = search rules
+returns g c = c.serve.ensures c.args.core c.args.script c.new-serving.ensures

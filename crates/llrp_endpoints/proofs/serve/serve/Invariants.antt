@@ -1,5 +1,12 @@
+use Rattle.std.proofs.Common.{◌-◌}
+use Rattle.llrp_listing.specs.declared.devices.TheConstants.{MOST_READS}
 use Rattle.llrp_endpoints.proofs.ServeLemmas.{Following}
 use Rattle.llrp_endpoints.proofs.serve.serve.Given as goal
 
-abbrev pub invariant-loop : goal.invariant-loop
-invariant-loop g l = Following (g.R.Source.log l.fn.r) (g.R.Source.log l.r) (g.W.Sink.log l.fn.w) (g.W.Sink.log l.w) l.counter l.fn.serving l.serving l.out.items
+abbrev pub invariant-loop-piece : goal.invariant-loop-piece
+invariant-loop-piece g l =
+    let server = g.S.Server in
+    Following server.may_feed server.fresh server.opened server.says (g.R.Source.log l.fn.r) (g.R.Source.log l.r) (g.W.Sink.log l.fn.w) (g.W.Sink.log l.w) l.pieces.reads l.fn.server l.server l.out.items
+
+abbrev pub decreases-loop-piece : goal.decreases-loop-piece
+decreases-loop-piece g l = MOST_READS - l.pieces.reads

@@ -3,7 +3,7 @@ use Rattle.std.proofs.lemmas.List.{length-take, take-take, take-append-drop}
 use Rattle.llrp_stream.specs.Device.{SinkLog}
 use Rattle.llrp_stream.specs.Calls.Device.{Put}
 use Rattle.llrp_endpoints.specs.Private.EndsStand.{WritesPiece}
-use Rattle.llrp_listing.proofs.DeviceLemmas.{wrote_nothing, write_more}
+use Rattle.llrp_stream.proofs.WritingLemmas.{wrote_nothing, write_more}
 use Rattle.llrp_endpoints.proofs.both_ends.pieces.write_piece.Goals as goal
 
 written_piece : (said new : List ℕ) (k n : ℕ) (w0 w1 : SinkLog) → k ≤ 4096 → n ≤ length (take k said) → Put w0 w1 (take n (take k said)) → (n ≡ 0 → ⊥) → new ≡ drop n said → WritesPiece said new w0 w1 n

@@ -1,5 +1,7 @@
 use Rattle.std.proofs.Common.{◌++◌, ◌∙◌, ap, List, ℕ}
 use Rattle.std.proofs.lemmas.Result.{err_from_is_err_and}
+use Rattle.llrp_endpoints.specs.declared.form.LineForm.{LineForm}
+use Rattle.llrp_endpoints.specs.TagLines.{total_line}
 use Rattle.llrp_endpoints.proofs.GatheringSteps.{ended_early, ended_fine, no_last_line}
 use Rattle.llrp_endpoints.proofs.gathering.Gathering.end.Goals as goal
 
@@ -19,5 +21,5 @@ returns-in-Answer c = λ d o h opened. ended_early d c.args.self.now o c.args.re
 
 pub returns-in_ok-extend_from_slice-in-End : goal.returns-in_ok-extend_from_slice-in-End
 returns-in_ok-extend_from_slice-in-End c = λ d o h opened.
-    ended_fine d c.args.self.now c.in_ok-line-in-End.line.items o c.args.report.now.items c.extend_from_slice.new.self.items h c.in-End.is (c.in_ok-line-in-End.ensures d.reports h.counts)
-    (c.in_ok-extend_from_slice-in-End.ensures.items ∙ ap (λ (x : List ℕ). c.args.report.now.items ++ x) c.as_slice.ensures.value)
+    ended_fine d c.args.self.now c.in_ok-line-in-End.line o c.args.report.now.items c.extend_from_slice.new.self.items h c.in-End.is (c.in_ok-line-in-End.ensures d.reports h.counts ∙ ap (λ (f : LineForm). total_line f d.reports) h.form_is)
+    (c.in_ok-extend_from_slice-in-End.ensures.items ∙ ap (λ (x : List ℕ). c.args.report.now.items ++ x) c.as_slice.ensures)

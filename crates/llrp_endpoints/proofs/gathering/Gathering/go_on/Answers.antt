@@ -1,30 +1,42 @@
 use Rattle.std.proofs.Common.{[], ◌∷◌, ◌++◌, ◌∙◌, ap, List}
 use Rattle.std.proofs.lemmas.Result.{err_from_is_err_and}
 use Rattle.llrp_tree.specs.Tree.{MessageTree}
-use Rattle.llrp_session.specs.Words.{Asks}
+use Rattle.llrp_session.specs.Contents.{Asks}
 use Rattle.llrp_session.specs.ClientMachine.{Sending}
 use Rattle.llrp_session.specs.ClientMessages.{client_message}
-use Rattle.llrp_endpoints.proofs.GatheringLemmas.{none_left, refused, sent_some, sent_all}
+use Rattle.llrp_endpoints.proofs.GatheringLemmas.{none_left, refused, sent_some, sent_all, awaits_tags, sends_none}
+use Rattle.llrp_endpoints.specs.declared.course.Step.{Step}
+use Rattle.llrp_endpoints.specs.Calls.GatheringStands.{steps_left}
+use Rattle.llrp_endpoints.specs.Private.GatheringStands.{awaited_after}
 use Rattle.llrp_endpoints.proofs.gathering.Gathering.go_on.Goals as goal
 
 pub returns-in_default-clause-does : goal.returns-in_default-clause-does
 returns-in_default-clause-does c = λ d r h opened. none_left d c.args.self.now c.next.new.self c.args.out.now.items r h opened c.in_default.ensures.0 c.in_default.ensures.1
 
+pub returns-in_default-step-clause-does : goal.returns-in_default-step-clause-does
+returns-in_default-step-clause-does c = λ d r h opened.
+    rw c.awaited_after-self.ensures
+    (awaits_tags d c.args.self.now c.next.new.self c.in-Some.step c.args.out.now.items r h opened c.in-Some.ensures.0 (sends_none c.in-Some.step (λ k e. c.in_default-step.not-Send k e)))
+
 pub returns-in-Err-clause-does : goal.returns-in-Err-clause-does
 returns-in-Err-clause-does c = λ d r h opened.
-    rw c.command_error.ensures (refused d c.args.self.now c.args.self.now c.in-Some.command _ c.in-Err.refusal.fault c.args.out.now.items r h c.in-Some.ensures.0 c.in-Err.ensures.refused)
+    let first = c.in-Some.ensures.0 ∙ ap (λ (x : Step). x ∷ steps_left c.next.new.self) c.in-Send.is in
+    rw c.command_error.ensures (refused d c.args.self.now c.args.self.now c.in-Send.command _ c.in-Err.refusal.fault c.args.out.now.items r h first c.in-Err.ensures.refused)
 
 pub returns-in_err-append_frames-clause-does : goal.returns-in_err-append_frames-clause-does
 returns-in_err-append_frames-clause-does c = λ d r h opened.
     let p = err_from_is_err_and c.from_residual.result c.from_residual.ensures.1 in
-    let sending : Sending = record { message = record { id = c.args.self.now.client.next_id; word = Asks c.in-Some.command }; client = c.command.new.self } in
+    let first = c.in-Some.ensures.0 ∙ ap (λ (x : Step). x ∷ steps_left c.next.new.self) c.in-Send.is in
+    let sending : Sending = record { message = record { id = c.args.self.now.client.next_id; word = Asks c.in-Send.command }; client = c.command.new.self } in
     let messages = c.as_slice.ensures.value ∙ c.in_default-command.ensures.sent ∙ ap (λ (ms : List MessageTree). ms ++ client_message sending.message ∷ []) c.new-messages.ensures.items in
     rw (p.1, p.2, c.in_err-append_frames.ensures.err.0)
-    (sent_some d c.args.self.now c.args.self.now c.in-Some.command _ sending _ c.args.out.now.items c.append_frames.new.out.items r h c.in-Some.ensures.0 c.in_default-command.ensures.step messages c.in_err-append_frames.ensures.err.1)
+    (sent_some d c.args.self.now c.args.self.now c.in-Send.command _ sending _ c.args.out.now.items c.append_frames.new.out.items r h first c.in_default-command.ensures.step messages c.in_err-append_frames.ensures.err.1)
 
 pub returns-clause-does : goal.returns-clause-does
 returns-clause-does c = λ d r h opened.
-    let sending : Sending = record { message = record { id = c.args.self.now.client.next_id; word = Asks c.in-Some.command }; client = c.command.new.self } in
+    let first = c.in-Some.ensures.0 ∙ ap (λ (x : Step). x ∷ steps_left c.next.new.self) c.in-Send.is in
+    let sending : Sending = record { message = record { id = c.args.self.now.client.next_id; word = Asks c.in-Send.command }; client = c.command.new.self } in
     let messages = c.as_slice.ensures.value ∙ c.in_default-command.ensures.sent ∙ ap (λ (ms : List MessageTree). ms ++ client_message sending.message ∷ []) c.new-messages.ensures.items in
-    rw c.awaited_after-self.ensures
-    (sent_all d c.args.self.now c.next.new.self c.in-Some.command sending _ c.args.out.now.items c.append_frames.new.out.items r h opened c.in-Some.ensures.0 c.in_default-command.ensures.step messages c.in_ok-append_frames.ensures.ok)
+    let awaits = c.awaited_after-self.ensures ∙ ap awaited_after c.in-Send.is in
+    rw awaits
+    (sent_all d c.args.self.now c.next.new.self c.in-Send.command sending _ c.args.out.now.items c.append_frames.new.out.items r h opened first c.in_default-command.ensures.step messages c.in_ok-append_frames.ensures.ok)

@@ -2,7 +2,7 @@ use Rattle.std.proofs.Common.{◌≤◌, take, refl, arith}
 use Rattle.std.proofs.lemmas.List.{length-take}
 use Rattle.std.proofs.lemmas.Result.{err_from_is_err_and}
 use Rattle.llrp_endpoints.proofs.ClientSideLemmas.{client_begins, client_heard, client_steps, client_ends, client_stops_unread, client_stops_unreported, client_stops_fed}
-use Rattle.llrp_listing.proofs.DeviceLemmas.{same_failures}
+use Rattle.llrp_stream.proofs.WritingLemmas.{same_failures}
 use Rattle.llrp_endpoints.proofs.both_ends.client_side.ClientSide.hear.Goals as goal
 
 pub loop-left-init : goal.loop-left-init

@@ -1,4 +1,0 @@
-use Rattle.llrp.proofs.looping.run_script.Goals as goal
-
-pub returns : goal.returns
-returns g c = rw (c.wipe.ensures, ← c.show.ensures) c.run-outcome.ensures

@@ -1,0 +1,85 @@
+-- The plan that the words ask for, and why they have none.
+use Rattle.std.specs.Prelude.{◌≡◌, ℕ, ◌⊎◌, Bool, false, ◌&&◌, ◌||◌, ◌==◌, List, ◌++◌, Option, Some, None, is_some, unwrap_or, Result, Ok, Err, codes, if◌then◌else◌}
+use Rattle.llrp_stream.specs.Device.{SourceLog, SinkLog, Wrote, WroteAndFailed}
+use Rattle.llrp_listing.specs.declared.outcome.ToolErr.{ToolErr}
+use Rattle.llrp_listing.specs.declared.outcome.ToolErr.TheVariants as tool
+use Rattle.llrp_listing.specs.Copying.{IsPrefix, ReadAll}
+use Rattle.llrp_listing.specs.Calls.Copying.{ReadStopped}
+use Rattle.llrp_endpoints.specs.declared.plan.text.PlanErr.TheVariants as text
+use Rattle.llrp_schema.specs.declared.kinds.Profile.{Profile}
+use Rattle.llrp_schema.specs.declared.kinds.Profile.TheVariants.{Own, Whole}
+use Rattle.llrp_endpoints.specs.declared.form.LineForm.{LineForm}
+use Rattle.llrp_endpoints.specs.declared.form.LineForm.TheVariants.{Words, Json}
+use Rattle.llrp_endpoints.specs.Plan.{Plan}
+use Rattle.llrp_endpoints.specs.Calls.Plans.{given, standard}
+use Rattle.llrp_endpoints.specs.Calls.PlanTexts.{ListsRoSpec, RefusesPlan}
+use Rattle.llrp_commands.specs.Calls.Command.{error_line, refusal_line}
+use Rattle.llrp_commands.specs.declared.arguments.PlanWords.{PlanWords}
+use Rattle.llrp.specs.declared.plan.NoPlan.{NoPlan}
+use Rattle.llrp.specs.declared.plan.NoPlan.TheVariants.{Unread, Line, Memory}
+
+-- how many tags make a report: each does where reports are awaited, unless --every says otherwise
+abbrev pub asked_every : PlanWords → ℕ
+asked_every words = unwrap_or words.every (if is_some words.reports then 1 else 0)
+
+-- how often reports are asked for: once, or not at all where reports are awaited, unless --polls says otherwise
+abbrev pub asked_polls : PlanWords → ℕ
+asked_polls words = unwrap_or words.polls (if is_some words.reports then 0 else 1)
+
+-- the form of its lines, and the set of kinds that its reader's messages are read in
+abbrev pub asked_form : PlanWords → LineForm
+asked_form words = if words.json then Json else Words
+
+abbrev pub asked_profile : PlanWords → Profile
+asked_profile words = if words.all then Whole else Own
+
+-- a plan with what the words ask of every plan
+abbrev pub with_options : PlanWords → Plan → Plan
+with_options words plan = record plan { cleans = plan.cleans || words.clean; reports = unwrap_or words.reports 0; form = asked_form words; profile = asked_profile words }
+
+-- the plan with the ROSpec of a standard plan
+abbrev pub asked_plan : PlanWords → Plan
+asked_plan words = with_options words (standard (asked_every words) (asked_polls words) words.check)
+
+-- ---- words that have no plan
+
+-- the number 0 is given
+abbrev pub is_zero : Option ℕ → Bool
+is_zero None = false
+is_zero (Some n) = n == 0
+
+-- reports are awaited of a ROSpec that would report at its end alone
+abbrev pub never_reports : PlanWords → Bool
+never_reports words = is_some words.reports && is_zero words.every
+
+-- ---- a ROSpec that is read
+
+-- Why there is no plan: reading failed or took too many reads; all was read, and a line of it is refused; or memory ran out.
+abbrev pub HasNoPlan : SourceLog → SourceLog → NoPlan → Type 0
+HasNoPlan r0 r1 Unread = (front : List ℕ) × (ReadStopped r0 r1 front tool.Read ⊎ ReadStopped r0 r1 front tool.Bound)
+HasNoPlan r0 r1 (Line line reason) = (bytes : List ℕ) × ReadAll r0 r1 bytes × RefusesPlan bytes (text.Line line reason)
+HasNoPlan r0 r1 Memory = (bytes : List ℕ) × (ReadStopped r0 r1 bytes tool.Memory ⊎ ReadAll r0 r1 bytes)
+
+-- What reading a plan's ROSpec answers: a plan with the ROSpec that all of the source lists, and all else as the words say; or why there is none.
+abbrev pub ReadsPlan : PlanWords → SourceLog → SourceLog → Result Plan NoPlan → Type 0
+ReadsPlan words r0 r1 (Ok plan) =
+    (bytes : List ℕ) × ReadAll r0 r1 bytes × ListsRoSpec bytes plan.rospec
+    × (plan ≡ with_options words (given plan.rospec (asked_polls words) words.check))
+ReadsPlan words r0 r1 (Err no_plan) = HasNoPlan r0 r1 no_plan
+
+-- ---- how a command without a plan ends
+
+abbrev pub no_plan_line : NoPlan → List ℕ
+no_plan_line Unread = codes "llrp: rospec\n"
+no_plan_line (Line line reason) = refusal_line (codes "llrp: rospec line ") line reason
+no_plan_line Memory = error_line tool.Memory
+
+abbrev pub no_plan_status : NoPlan → ℕ
+no_plan_status Unread = 3
+no_plan_status (Line line reason) = 1
+no_plan_status Memory = 3
+
+-- The line was written to the sink for errors, and this is the status; or the Write that stopped the line.
+abbrev pub Refuses : NoPlan → SinkLog → SinkLog → Result ℕ ToolErr → Type 0
+Refuses no_plan e0 e1 (Ok status) = (status ≡ no_plan_status no_plan) × Wrote e0 e1 (no_plan_line no_plan)
+Refuses no_plan e0 e1 (Err fault) = (fault ≡ tool.Write) × (front : List ℕ) × IsPrefix front (no_plan_line no_plan) × WroteAndFailed e0 e1 front

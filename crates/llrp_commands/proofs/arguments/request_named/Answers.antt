@@ -1,0 +1,63 @@
+use Rattle.std.proofs.Common.{rules, inl, inr, ◌≡◌, ◌∙◌, ap, sym, codes, Some, Option, is_some}
+use Rattle.std.specs.Prelude.{option_map}
+use Rattle.std.specs.Borrow.{Bor}
+use Rattle.clap.specs.Words.{Text, found_of, rows_of}
+use Rattle.clap.proofs.CallerLemmas.{some_of_text}
+use Rattle.clap.proofs.WalkLemmas.{first_value-rows, one_text-rows}
+use Rattle.llrp_commands.proofs.ArgumentLemmas.{network_there, stream_words_of, text_of_epc}
+use Rattle.llrp_commands.proofs.CommandLemmas.{has_flag}
+use Rattle.llrp_commands.proofs.arguments.request_named.Goals as goal
+
+pub unwrap-requires : goal.unwrap-requires
+unwrap-requires c =
+    let named : c.args.name.now ≡ codes "epc" = search rules in
+    let text = text_of_epc c.args.name.now (rows_of (found_of c.args.inner.now)) c.requires named in
+    some_of_text _ c.get_str.result _ (c.get_str.ensures ∙ first_value-rows (found_of c.args.inner.now) (codes "TEXT")) (ap (λ (o : Option Text). is_some o) text.1)
+
+pub returns-then-eq-clause-request : goal.returns-then-eq-clause-request
+returns-then-eq-clause-request c =
+    let named : c.args.name.now ≡ codes "epc" = search rules in (
+      ap (λ (n : Text). Some n) named,
+      sym (first_value-rows (found_of c.args.inner.now) (codes "TEXT")) ∙ sym c.get_str.ensures ∙ ap (option_map (λ (s : Bor Text). s.now)) c.unwrap.ensures,
+    )
+
+pub returns-then-eq-2-clause-request : goal.returns-then-eq-2-clause-request
+returns-then-eq-2-clause-request c =
+    let rows = one_text-rows (found_of c.args.inner.now) (codes "hex") in
+    let kinds = one_text-rows (found_of c.args.inner.now) (codes "all") in
+    let form = one_text-rows (found_of c.args.inner.now) (codes "json") in
+    let named : c.args.name.now ≡ codes "show" = search rules in (
+      ap (λ (n : Text). Some n) named,
+      has_flag _ c.get_flag.result (λ h. c.get_flag.ensures.none (rows ∙ h)) (λ h. c.get_flag.ensures.value (rows ∙ h)) (λ h. c.get_flag.ensures.other (rows ∙ h)),
+      has_flag _ c.get_flag-then-eq-2.result (λ h. c.get_flag-then-eq-2.ensures.none (kinds ∙ h)) (λ h. c.get_flag-then-eq-2.ensures.value (kinds ∙ h)) (λ h. c.get_flag-then-eq-2.ensures.other (kinds ∙ h)),
+      has_flag _ c.get_flag-then-eq-2-2.result (λ h. c.get_flag-then-eq-2-2.ensures.none (form ∙ h)) (λ h. c.get_flag-then-eq-2-2.ensures.value (form ∙ h)) (λ h. c.get_flag-then-eq-2-2.ensures.other (form ∙ h)),
+      c.limit.ensures.number c.args.name.now,
+    )
+
+pub returns-then-eq-3-clause-request : goal.returns-then-eq-3-clause-request
+returns-then-eq-3-clause-request c =
+    let rows = one_text-rows (found_of c.args.inner.now) (codes "hex") in
+    let kinds = one_text-rows (found_of c.args.inner.now) (codes "all") in
+    let named : c.args.name.now ≡ codes "encode" = search rules in (
+      ap (λ (n : Text). Some n) named,
+      has_flag _ c.get_flag-then-eq-3.result (λ h. c.get_flag-then-eq-3.ensures.none (rows ∙ h)) (λ h. c.get_flag-then-eq-3.ensures.value (rows ∙ h)) (λ h. c.get_flag-then-eq-3.ensures.other (rows ∙ h)),
+      has_flag _ c.get_flag-then-eq-3-2.result (λ h. c.get_flag-then-eq-3-2.ensures.none (kinds ∙ h)) (λ h. c.get_flag-then-eq-3-2.ensures.value (kinds ∙ h)) (λ h. c.get_flag-then-eq-3-2.ensures.other (kinds ∙ h)),
+      c.limit-then-eq-3.ensures.number c.args.name.now,
+    )
+
+pub limit-requires : goal.limit-requires
+limit-requires c =
+    let named : c.args.name.now ≡ codes "show" = search rules in
+    (stream_words_of c.args.name.now (rows_of (found_of c.args.inner.now)) c.requires (inl named)).2
+
+pub limit-requires-then-eq-3 : goal.limit-requires-then-eq-3
+limit-requires-then-eq-3 c =
+    let named : c.args.name.now ≡ codes "encode" = search rules in
+    (stream_words_of c.args.name.now (rows_of (found_of c.args.inner.now)) c.requires (inr named)).2
+
+pub network_named-requires : goal.network_named-requires
+network_named-requires c =
+    let no_epc : c.args.name.now ≡ codes "epc" → ⊥ = search rules in
+    let no_show : c.args.name.now ≡ codes "show" → ⊥ = search rules in
+    let no_encode : c.args.name.now ≡ codes "encode" → ⊥ = search rules in
+    network_there c.args.name.now (rows_of (found_of c.args.inner.now)) c.requires no_show no_encode no_epc

@@ -1,5 +1,0 @@
-use Rattle.std.proofs.Common.{rules}
-use Rattle.llrp_commands.proofs.words.network_command.Goals as goal
-
-pub returns : goal.returns
-returns c = search rules

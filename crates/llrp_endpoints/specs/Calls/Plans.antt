@@ -1,0 +1,51 @@
+-- The plans that calls make, and what is read in one.
+use Rattle.std.specs.Prelude.{ℕ, ◌==◌, ◌||◌, nat_lt, not, Bool, true, false, List, [], ◌∷◌, Option, None, Some, if◌then◌else◌}
+use Rattle.llrp_schema.specs.declared.kinds.Profile.TheVariants.{Own}
+use Rattle.llrp_schema.specs.declared.kinds.ParamKind.TheVariants.{RoSpec, RoReportSpec}
+use Rattle.llrp_tree.specs.Tree.{Tree}
+use Rattle.llrp_tree.specs.Lawful.{tree_octets}
+use Rattle.llrp_session.specs.RoSpec.{is_kind, first_of, field_of}
+use Rattle.llrp_session.specs.declared.types.Command.{Command}
+use Rattle.llrp_endpoints.specs.declared.plan.PlanFault.{PlanFault}
+use Rattle.llrp_endpoints.specs.declared.plan.PlanFault.TheVariants.{NotRoSpec, Value, OverLimit}
+use Rattle.llrp_endpoints.specs.declared.course.Step.{Step}
+use Rattle.llrp_endpoints.specs.declared.course.Step.TheVariants.{Send, AwaitTags}
+use Rattle.llrp_endpoints.specs.declared.form.LineForm.TheVariants.{Words}
+use Rattle.llrp_endpoints.specs.Plan.{Plan, rospec, steps}
+
+-- the plan of an inventory with the ROSpec of a standard plan
+abbrev pub standard : ℕ → ℕ → Bool → Plan
+standard every polls checked = record { rospec = rospec every; cleans = false; reports = 0; polls = polls; checked = checked; disables = false; form = Words; profile = Own }
+
+-- ---- a ROSpec that is given
+
+-- the greatest length of one, in octets: a message that adds or lists it alone has at most 4,096
+abbrev pub longest_rospec : ℕ
+longest_rospec = 4078
+
+-- the first fault of a parameter that is given as a plan's ROSpec: it is no ROSpec; its id is 0, which stands for all ROSpecs, or its state is not
+-- Disabled; it is too long
+abbrev pub plan_fault : Tree → Option PlanFault
+plan_fault t =
+    if not (is_kind RoSpec t) then Some NotRoSpec
+    else (if (field_of 0 (Some t) == 0) || not (field_of 2 (Some t) == 0) then Some Value
+    else (if nat_lt longest_rospec (tree_octets t) then Some OverLimit else None))
+
+-- the plan of an inventory with it
+abbrev pub given : Tree → ℕ → Bool → Plan
+given t polls checked = record { rospec = t; cleans = false; reports = 0; polls = polls; checked = checked; disables = true; form = Words; profile = Own }
+
+-- ---- what is read in a plan
+
+-- after how many tags the reader reports: N of the ROReportSpec
+abbrev pub every : Plan → ℕ
+every plan = field_of 1 (first_of RoReportSpec plan.rospec)
+
+-- the commands among steps
+abbrev pub commands_in : List Step → List Command
+commands_in [] = []
+commands_in (Send k ∷ steps) = k ∷ commands_in steps
+commands_in (AwaitTags ∷ steps) = commands_in steps
+
+abbrev pub commands : Plan → List Command
+commands plan = commands_in (steps plan)
