@@ -9,8 +9,8 @@ set -eu
 . "$(dirname "$0")/common.sh"
 count="${1:-2100}"
 turns=5
-crate="$top/crates/epc_bench"
-loop="$crate/out/epc_bench"
+crate="$top/crates/bench_epc"
+loop="$crate/out/bench_epc"
 other="${2:-}"
 
 # Words of a kind as lines of 24 digits, with numbers of all lengths: the company prefix has seven digits.

@@ -32,7 +32,7 @@ make_frame() {
 # The processor's seconds in the program and in the kernel, for this many decodes and this many encodes.
 seconds() {
     local TIMEFORMAT='%U %S'
-    { time "$top/crates/tree_bench/out/tree_bench" "$1" "$2" < "$work/frame" > "$work/output"; } 2>&1
+    { time "$top/crates/bench_tree/out/bench_tree" "$1" "$2" < "$work/frame" > "$work/output"; } 2>&1
 }
 
 # A name, how many octets, and the seconds with the work and without.
@@ -55,6 +55,6 @@ measure_frames() {
 }
 
 make_frame short_report 1 44 > "$work/frame"
-build_and_run tree_bench "$work/frame" 1 1
+build_and_run bench_tree "$work/frame" 1 1
 measure_frames full_report 963 68 "$times"
 measure_frames short_report 100 34 "$((20 * times))"

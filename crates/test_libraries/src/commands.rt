@@ -1,0 +1,451 @@
+//! Commands from their words to their exit statuses.
+
+use crate::usage::{
+    ENCODE_HELP, EPC_HELP, HELP, INVENTORY_HELP, LOOP_HELP, NO_COMMAND, NO_PORT, NO_SUCH_COMMAND,
+    NO_SUCH_FLAG, NO_TEXT, PORT_ZERO, SHOW_HELP, SIM_HELP,
+};
+use llrp_tool::{
+    Input, NetworkCommand, Output, PlanWords, ToolErr, network_command, reads_input, run_command,
+};
+use std::alloc::Global;
+use std::test::*;
+
+/// What a command answers, and what it writes to its output and for errors.
+#[derive(Drop)]
+struct Outcome {
+    status: Result<u8, ToolErr>,
+    output: Vec<u8>,
+    errors: Vec<u8>,
+}
+
+fn run(alloc: Global, words: &[&str], input: &[u8]) -> Outcome {
+    let mut r = Input::new(input);
+    let mut w = Output::new(Vec::new(alloc));
+    let mut e = Output::new(Vec::new(alloc));
+    let status = run_command(alloc, words, &mut r, &mut w, &mut e);
+    Outcome {
+        status,
+        output: w.into_inner(),
+        errors: e.into_inner(),
+    }
+}
+
+/// Whether a command without input answers so, and writes this to its output and for errors.
+fn answers(alloc: Global, words: &[&str], status: u8, output: &[u8], errors: &[u8]) -> bool {
+    run(alloc, words, b"").is(status, output, errors)
+}
+
+impl Outcome {
+    /// Whether this was answered, and written to the output and for errors.
+    fn is(&self, status: u8, output: &[u8], errors: &[u8]) -> bool {
+        self.status == Ok(status)
+            && self.output.as_slice() == output
+            && self.errors.as_slice() == errors
+    }
+}
+
+/// Whether words are refused.
+fn is_usage_fault(alloc: Global, words: &[&str]) -> bool {
+    let found = run(alloc, words, b"");
+    found.status == Ok(2)
+        && found.output.is_empty()
+        && found.errors.as_slice().starts_with(b"error: ")
+}
+
+/// The words of a command and its input; the status, the output and the errors that it gives.
+type CommandRow = (
+    &'static [&'static str],
+    &'static [u8],
+    u8,
+    &'static [u8],
+    &'static [u8],
+);
+
+static COMMAND_ROWS: [CommandRow; 22] = [
+    (
+        &["show", "--hex"],
+        b"083E0000000A00000007",
+        0,
+        b"0 KEEPALIVE 2 7\n",
+        b"",
+    ),
+    (
+        &["show", "--hex", "--json"],
+        b"083E0000000A00000007",
+        0,
+        b"{\"message\":\"KEEPALIVE\",\"version\":2,\"id\":7}\n",
+        b"",
+    ),
+    (
+        &["show", "--json"],
+        b"\x08\x3e\0\0\0\x0a\0\0\0\x07\x08",
+        1,
+        b"{\"message\":\"KEEPALIVE\",\"version\":2,\"id\":7}\n{\"rest\":1}\n",
+        b"",
+    ),
+    (
+        &["show", "--all", "--json", "--hex"],
+        b"04010000000B0000000500",
+        0,
+        b"{\"message\":\"GET_READER_CAPABILITIES\",\"version\":1,\"id\":5,\"RequestedData\":0}\n",
+        b"",
+    ),
+    (&["show"], b"\x08\x3e\0\0\0\x09", 1, b"! BROKEN\n", b""),
+    (
+        &["show", "--hex", "--limit", "27"],
+        b"043D0000001B0000000100F000118D3074257BF7194E4000001A85",
+        0,
+        b"0 RO_ACCESS_REPORT 1 1\n1 TagReportData\n2 EPC-96 urn:epc:tag:sgtin-96:3.0614141.812345.6789\n",
+        b"",
+    ),
+    (
+        &["show", "--limit", "26", "--hex"],
+        b"043D0000001B0000000100F000118D3074257BF7194E4000001A85",
+        1,
+        b"! 1 16 MessageLength\n",
+        b"",
+    ),
+    (
+        &["encode", "--limit", "18", "--hex"],
+        b"0 ERROR_MESSAGE 1 9\n1 LLRPStatus 0 x\n",
+        0,
+        b"04640000001200000009011F000800000000\n",
+        b"",
+    ),
+    (
+        &["encode", "--limit", "17"],
+        b"0 ERROR_MESSAGE 1 9\n1 LLRPStatus 0 x\n",
+        1,
+        b"",
+        b"llrp: line 1: OverLimit\n",
+    ),
+    (
+        &["show", "--hex", "--all"],
+        b"04010000000B0000000500",
+        0,
+        b"0 GET_READER_CAPABILITIES 1 5 0\n",
+        b"",
+    ),
+    (
+        &["show", "--hex"],
+        b"04010000000B0000000500",
+        1,
+        b"! 5 6 MessageType\n",
+        b"",
+    ),
+    (
+        &["encode", "--all", "--hex"],
+        b"0 GET_READER_CAPABILITIES 1 5 0\n",
+        0,
+        b"04010000000B0000000500\n",
+        b"",
+    ),
+    (
+        &["encode"],
+        b"0 GET_READER_CAPABILITIES 1 5 0\n",
+        1,
+        b"",
+        b"llrp: line 1: Name\n",
+    ),
+    (&["show", "--hex"], b"083", 1, b"", b"llrp: hex\n"),
+    (
+        &["encode"],
+        b"0 KEEPALIVE 2 7\n",
+        0,
+        b"\x08\x3e\0\0\0\x0a\0\0\0\x07",
+        b"",
+    ),
+    (
+        &["encode", "--hex"],
+        b"0 KEEPALIVE 2 7\n0 GET_REPORT 1 255\n",
+        0,
+        b"083E0000000A00000007043C0000000A000000FF\n",
+        b"",
+    ),
+    (&["encode", "--hex"], b"", 0, b"", b""),
+    (
+        &["encode"],
+        b"0 KEEPALIVE 2 7\n0 KEEPALIVE 2 8\n0 KEEPALIVE 3 9\n",
+        1,
+        b"\x08\x3e\0\0\0\x0a\0\0\0\x07",
+        b"llrp: line 3: Number\n",
+    ),
+    (
+        &["encode", "--hex"],
+        b"0 KEEPALIVE 2 7\n0 KEEPALIVE 2  7\n",
+        1,
+        b"",
+        b"llrp: line 2: Fields\n",
+    ),
+    (
+        &["encode"],
+        b"0 KEEPALIVE 2 7",
+        1,
+        b"",
+        b"llrp: line 1: Line\n",
+    ),
+    (
+        &["epc", "3003A3529440000000000000"],
+        b"",
+        0,
+        b"urn:epc:raw:96.x3003A3529440000000000000\n# Prefix 14\n",
+        b"",
+    ),
+    (&["epc", ""], b"", 1, b"! Start\n", b""),
+];
+
+/// Whether a command gives what its row says.
+fn is_as_said(alloc: Global, row: &CommandRow) -> bool {
+    let (words, input, status, output, errors) = *row;
+    run(alloc, words, input).is(status, output, errors)
+}
+
+#[test]
+fn commands_with_ample_memory(rt: HostRuntime) {
+    for row in &COMMAND_ROWS {
+        assert!(rt; is_as_said(rt.alloc(), row));
+    }
+}
+
+/// Words that ask for help, and what is printed.
+static HELP_ROWS: [(&[&str], &[u8]); 10] = [
+    (&["--version"], b"llrp 0.1.0\n"),
+    (&["-V"], b"llrp 0.1.0\n"),
+    (&["--help"], HELP),
+    (&["help"], HELP),
+    (&["show", "--help"], SHOW_HELP),
+    (&["encode", "-h"], ENCODE_HELP),
+    (&["epc", "--help"], EPC_HELP),
+    (&["sim", "--help"], SIM_HELP),
+    (&["inventory", "--help"], INVENTORY_HELP),
+    (&["help", "loop"], LOOP_HELP),
+];
+
+#[test]
+fn help_goes_to_the_output(rt: HostRuntime) {
+    for (words, text) in &HELP_ROWS {
+        assert!(rt; answers(rt.alloc(), words, 0, text, b""));
+    }
+}
+
+/// Words that are not a command, and what is said of them.
+static FAULT_ROWS: [(&[&str], &[u8]); 6] = [
+    (&[], NO_COMMAND),
+    (&["survey"], NO_SUCH_COMMAND),
+    (&["show", "--bytes"], NO_SUCH_FLAG),
+    (&["epc"], NO_TEXT),
+    (&["sim", "0"], PORT_ZERO),
+    (&["inventory", "localhost"], NO_PORT),
+];
+
+#[test]
+fn usage_faults_go_to_the_errors(rt: HostRuntime) {
+    for (words, text) in &FAULT_ROWS {
+        assert!(rt; answers(rt.alloc(), words, 2, b"", text));
+    }
+}
+
+/// A plan of which the words say nothing.
+const NO_WORDS: PlanWords<'static> = PlanWords {
+    rospec: None,
+    every: None,
+    polls: None,
+    reports: None,
+    check: false,
+    clean: false,
+    json: false,
+    all: false,
+};
+
+/// Words of the commands that the program runs itself, and those commands.
+static NETWORK_ROWS: [(&[&str], NetworkCommand); 12] = [
+    (
+        &["sim", "65535"],
+        NetworkCommand::Sim {
+            port: 65535,
+            all: false,
+        },
+    ),
+    (
+        &["sim", "65535", "--all"],
+        NetworkCommand::Sim {
+            port: 65535,
+            all: true,
+        },
+    ),
+    (
+        &["inventory", "localhost", "5084"],
+        NetworkCommand::Inventory {
+            host: "localhost",
+            port: 5084,
+            plan: NO_WORDS,
+            timeout: None,
+        },
+    ),
+    (
+        &[
+            "inventory",
+            "--polls",
+            "3",
+            "--check",
+            "--timeout",
+            "65535",
+            "::1",
+            "1",
+            "--every=65535",
+            "--reports=65535",
+        ],
+        NetworkCommand::Inventory {
+            host: "::1",
+            port: 1,
+            plan: PlanWords {
+                every: Some(65535),
+                polls: Some(3),
+                reports: Some(65535),
+                check: true,
+                ..NO_WORDS
+            },
+            timeout: Some(65535),
+        },
+    ),
+    (&["loop"], NetworkCommand::Loop { plan: NO_WORDS }),
+    (
+        &["loop", "--every", "2", "--polls", "0"],
+        NetworkCommand::Loop {
+            plan: PlanWords {
+                every: Some(2),
+                polls: Some(0),
+                ..NO_WORDS
+            },
+        },
+    ),
+    (
+        &["loop", "--check", "--every", "2"],
+        NetworkCommand::Loop {
+            plan: PlanWords {
+                every: Some(2),
+                check: true,
+                ..NO_WORDS
+            },
+        },
+    ),
+    (
+        &["loop", "--clean", "--reports", "1"],
+        NetworkCommand::Loop {
+            plan: PlanWords {
+                reports: Some(1),
+                clean: true,
+                ..NO_WORDS
+            },
+        },
+    ),
+    (
+        &["loop", "--rospec", "two antennas.txt"],
+        NetworkCommand::Loop {
+            plan: PlanWords {
+                rospec: Some("two antennas.txt"),
+                ..NO_WORDS
+            },
+        },
+    ),
+    (
+        &["loop", "--json"],
+        NetworkCommand::Loop {
+            plan: PlanWords {
+                json: true,
+                ..NO_WORDS
+            },
+        },
+    ),
+    (
+        &["inventory", "--all", "::1", "1"],
+        NetworkCommand::Inventory {
+            host: "::1",
+            port: 1,
+            plan: PlanWords {
+                all: true,
+                ..NO_WORDS
+            },
+            timeout: None,
+        },
+    ),
+    // both --rospec and --every are read; the program refuses them together
+    (
+        &["inventory", "::1", "1", "--every", "0", "--rospec="],
+        NetworkCommand::Inventory {
+            host: "::1",
+            port: 1,
+            plan: PlanWords {
+                rospec: Some(""),
+                every: Some(0),
+                ..NO_WORDS
+            },
+            timeout: None,
+        },
+    ),
+];
+
+#[test]
+fn commands_of_the_program(rt: HostRuntime) {
+    for (words, command) in &NETWORK_ROWS {
+        assert!(rt; network_command(rt.alloc(), words) == Ok(Some(*command)));
+        assert!(rt; answers(rt.alloc(), words, 2, b"", b""));
+    }
+}
+
+#[test]
+fn other_words_are_no_commands_of_the_program(rt: HostRuntime) {
+    let rows = [
+        ["show"].as_slice(),
+        ["sim", "--help"].as_slice(),
+        ["sim", "65536"].as_slice(),
+        ["inventory", "localhost", "0"].as_slice(),
+        ["inventory", "localhost", "5084", "--timeout", "0"].as_slice(),
+        ["inventory", "localhost", "5084", "--timeout", "65536"].as_slice(),
+        ["loop", "--timeout", "1"].as_slice(),
+        ["loop", "--every", "65536"].as_slice(),
+        ["loop", "--polls", "-1"].as_slice(),
+        ["loop", "--reports", "0"].as_slice(),
+        ["loop", "--rospec"].as_slice(),
+        ["inventory", "localhost", "5084", "--reports", "65536"].as_slice(),
+        ["loop", "--rospec", "one", "--rospec", "two"].as_slice(),
+        ["loop", "script"].as_slice(),
+    ];
+    for words in rows {
+        assert!(rt; network_command(rt.alloc(), words) == Ok(None));
+    }
+}
+
+/// Words, and whether they ask for a command that reads standard input to its end.
+static INPUT_ROWS: [(&[&str], bool); 8] = [
+    (&["show"], true),
+    (&["show", "--hex"], true),
+    (&["encode"], true),
+    (&["show", "--help"], false),
+    (&["show", "--bytes"], false),
+    (&["epc", "show"], false),
+    (&["loop"], false),
+    (&[], false),
+];
+
+#[test]
+fn commands_that_read_input(rt: HostRuntime) {
+    for (words, reads) in &INPUT_ROWS {
+        assert!(rt; reads_input(rt.alloc(), words) == Ok(*reads));
+    }
+}
+
+#[test]
+fn words_that_do_not_fit_are_usage_faults(rt: HostRuntime) {
+    let rows = [
+        ["inventory", "localhost", "5084", "5085"].as_slice(),
+        ["loop", "--polls", "65536"].as_slice(),
+        ["encode", "listing"].as_slice(),
+        ["show", "--limit", "9"].as_slice(),
+        ["show", "--limit", "1048577"].as_slice(),
+        ["encode", "--limit", "-10"].as_slice(),
+    ];
+    for words in rows {
+        assert!(rt; is_usage_fault(rt.alloc(), words));
+    }
+}

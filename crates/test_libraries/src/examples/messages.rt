@@ -1,0 +1,53 @@
+//! The examples of the libraries of tables and of messages.
+
+use crate::octets::spell;
+use llrp_schema::{Kind, fields, param_named};
+use llrp_tree::{
+    EncodeErr, MAX_LIMIT, Message, MsgKind, MsgRefusal, NodeFault, Nodes, ParamKind, encode_into,
+};
+use std::alloc::Global;
+use std::test::Fail;
+
+#[test]
+fn llrp_schema_example(rt: HostRuntime) {
+    assert_eq!(rt; fields(Kind::Parameter(ParamKind::AntennaId)).len(), 1);
+    let kind = Kind::Parameter(ParamKind::AntennaId);
+    let width = fields(kind)[0].width; // 16 bits
+    let found = param_named("AntennaID"); // Some(ParamKind::AntennaId)
+    assert_eq!(rt; width, 16);
+    assert_eq!(rt; found, Some(ParamKind::AntennaId));
+}
+
+/// Why a message is not made, or not encoded.
+#[derive(Clone, Copy, Debug, PartialEq)]
+enum Refused {
+    Message(NodeFault),
+    Encoding(EncodeErr),
+}
+
+impl From<MsgRefusal> for Refused {
+    fn from(refusal: MsgRefusal) -> Refused {
+        Refused::Message(refusal.fault)
+    }
+}
+
+impl From<EncodeErr> for Refused {
+    fn from(error: EncodeErr) -> Refused {
+        Refused::Encoding(error)
+    }
+}
+
+/// The octets of a message.
+fn llrp_tree_message(alloc: Global) -> Result<Vec<u8>, Refused> {
+    let mut bytes = Vec::new(alloc);
+    let keepalive = Message::new(2, 7, MsgKind::Keepalive, &[], Nodes::new(Vec::new(alloc)))?;
+    encode_into(alloc, &keepalive, &mut bytes, MAX_LIMIT)?; // 08 3E 00 00 00 0A 00 00 00 07
+    Ok(bytes)
+}
+
+#[test]
+fn llrp_tree_example(rt: HostRuntime) -> Result<(), Fail> {
+    let bytes = llrp_tree_message(rt.alloc())?;
+    assert!(rt; spell(rt.alloc(), &["083E0000000A00000007"], bytes.as_slice())?);
+    Ok(())
+}

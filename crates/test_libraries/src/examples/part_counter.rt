@@ -1,0 +1,78 @@
+//! A listener that counts the parts of messages.
+
+use llrp_schema::{Field, MsgKind, ParamKind, Tail};
+use llrp_stream::Listener;
+use std::alloc::AllocError;
+
+/// How many messages and parameters came.
+#[derive(Drop)]
+pub struct PartCounter {
+    pub messages: u32,
+    pub parameters: u32,
+}
+
+impl PartCounter {
+    pub fn new() -> PartCounter {
+        PartCounter {
+            messages: 0,
+            parameters: 0,
+        }
+    }
+}
+
+impl Listener for PartCounter {
+    ghost use Rattle.std.specs.Prelude.{◌≡◌};
+
+    ghost begins = { λ self was t. Unit {0} };
+
+    ghost stands = { λ self was t. Unit {0} };
+
+    ghost ends = { λ self was m now. Unit {0} };
+
+    fn message(
+        &mut self,
+        _version: u8,
+        _kind: MsgKind,
+        _octets: u32,
+        _id: u32,
+    ) -> Result<(), AllocError> {
+        self.messages = self.messages.saturating_add(1);
+        Ok(())
+    }
+
+    fn parameter(&mut self, _level: u8, _kind: ParamKind) -> Result<(), AllocError> {
+        self.parameters = self.parameters.saturating_add(1);
+        Ok(())
+    }
+
+    fn field(&mut self, _rule: &Field, _value: u128) -> Result<(), AllocError> {
+        Ok(())
+    }
+
+    fn tail(&mut self, _form: Tail) -> Result<(), AllocError> {
+        Ok(())
+    }
+
+    fn octets(&mut self, _form: Tail, _octets: &[u8]) -> Result<(), AllocError> {
+        Ok(())
+    }
+
+    fn ready(&mut self) -> Result<(), AllocError> {
+        Ok(())
+    }
+
+    fn value(&mut self, _level: u8, _kind: ParamKind, _value: u128) -> Result<(), AllocError> {
+        self.parameters = self.parameters.saturating_add(1);
+        Ok(())
+    }
+
+    fn close(&mut self) -> Result<(), AllocError> {
+        Ok(())
+    }
+
+    fn end(&mut self) -> Result<(), AllocError> {
+        Ok(())
+    }
+
+    fn give_up(&mut self) {}
+}
