@@ -2,9 +2,9 @@
 """Proves the crates of which the program llrp is made, and builds it: crates/llrp/out/llrp.
 
 Crates that do not wait for one another are proved side by side, each by one job, as many as there are processors and memory for
-(at most four). What was proved before is kept, so only crates that changed and those above them are proved. How far it is goes to
-standard error: on a terminal one line that changes, else a line for each crate. The status is 0 where the program is built, 1
-where it is not, and 128 and the signal's number where a signal ends it.
+(at most four); the tables of LLRP, which most crates wait for, by as many jobs as the crates of EPCs leave. What was proved before is kept,
+so only crates that changed and those above them are proved. How far it is goes to standard error: on a terminal one line that changes, else
+a line for each crate. The status is 0 where the program is built, 1 where it is not, and 128 and the signal's number where a signal ends it.
 """
 import os
 import re
@@ -18,6 +18,8 @@ TOP = os.path.dirname(os.path.realpath(__file__))
 PROGRAM = "llrp"
 # More were not tried, and each takes memory.
 MOST_JOBS = 4
+# The crates that are proved first, each with those below it. They share none, so neither waits for the other.
+TABLES, EPCS = "llrp_schema", "tag_uri"
 KILOBYTES_A_JOB = 3_000_000
 # The first line of an error in what a check prints: at a place in a file, or of a function that is not proved.
 ERROR = re.compile(r"^(\S+:\d+:\d+: )?error(\[[\w-]+\])?:|^fn \S+: (not proved|no proof)")
@@ -77,10 +79,13 @@ class Progress:
             self.begun.setdefault(crate, time.monotonic())
 
     def read(self, line):
-        """Takes a line of the check of all crates: a line == and its name comes before what a crate's check wrote."""
+        """Takes a line of a check: a line == and its name comes before what a crate's check wrote where all are checked, and what a check
+        wrote ends in a line on the crate's modules and one that says whether it is proved."""
         if line.startswith("== "):
             self.end(is_new=False)
             self.last = line[3:]
+        elif modules := re.match(r"crate (\w+): modules ", line):
+            self.last = modules[1]
         elif line.startswith("logic=proved"):
             self.end(is_new=True)
         elif line.startswith("logic=not-proved"):
@@ -137,25 +142,16 @@ class Run:
         how = {"cwd": f"{TOP}/crates/{crate}", "stdin": subprocess.DEVNULL}
         how.update(stdout=subprocess.PIPE, stderr=subprocess.STDOUT, start_new_session=True)
         self.process = subprocess.Popen(["rt", *words], **how)
-        self.text = ""
+        self.text, self.rest, self.is_open = "", b"", True
 
-    def lines(self, each_second):
-        """Yields the lines that the command writes, and calls the function while nothing comes, once a second, until the
-        command closes its output or the function returns true."""
-        rest = b""
-        while True:
-            if not select.select([self.process.stdout], [], [], 1)[0]:
-                if each_second():
-                    return
-                continue
-            read = os.read(self.process.stdout.fileno(), 65536)
-            *whole, rest = (rest + read).split(b"\n")
-            for line in whole if read else [rest]:
-                line = line.decode(errors="replace")
-                self.text += line + "\n"
-                yield line
-            if not read:
-                return
+    def read(self):
+        """Returns the lines that the command ended since the last call; of its last line, what is there once it closes its output."""
+        read = os.read(self.process.stdout.fileno(), 65536)
+        self.is_open = bool(read)
+        *whole, self.rest = (self.rest + read).split(b"\n")
+        lines = [line.decode(errors="replace") for line in (whole if read else [self.rest])]
+        self.text += "".join(f"{line}\n" for line in lines)
+        return lines
 
     def end(self):
         return self.process.wait()
@@ -165,6 +161,17 @@ class Run:
         if self.process.poll() is None:
             os.killpg(self.process.pid, signal.SIGTERM)
             self.process.wait()
+
+
+def lines_of(runs, each_second):
+    """Yields the lines that the commands write, and calls the function while nothing comes, once a second, until each closes its output
+    or the function returns true."""
+    while waiting := {it.process.stdout: it for it in runs if it.is_open}:
+        ready = select.select(list(waiting), [], [], 1)[0]
+        if not ready and each_second():
+            return
+        for it in ready:
+            yield from waiting[it].read()
 
 
 def first_error(text):
@@ -187,11 +194,22 @@ def tell_failure(text, progress):
     sys.stderr.writelines(f"{line}\n" for line in first_error(said))
 
 
+def prove_lowest(progress, runs):
+    """Proves the tables beside the crates of EPCs. What fails is said by the check of all crates, which comes next."""
+    lowest = [Run(TABLES, "lib", "--jobs", str(progress.most - 1)), Run(EPCS, "lib", "--jobs", "1")]
+    runs += lowest
+    for line in lines_of(lowest, progress.tick):
+        if not line.startswith("logic=not-proved"):
+            progress.read(line)
+
+
 def build(progress, runs):
     """Proves all crates, then builds the program over them. Returns whether it is built."""
+    if progress.most > 2:
+        prove_lowest(progress, runs)
     proofs = Run(PROGRAM, "all", "check", "--jobs", str(progress.most))
     runs.append(proofs)
-    for line in proofs.lines(progress.tick):
+    for line in lines_of([proofs], progress.tick):
         progress.read(line)
     progress.wipe()
     if progress.failed or proofs.end():
@@ -199,7 +217,7 @@ def build(progress, runs):
         return False
     linking = Run(PROGRAM, "run", "--jobs", "1", "--", "--help")
     runs.append(linking)
-    for _ in linking.lines(progress.show):
+    for _ in lines_of([linking], progress.show):
         pass
     progress.wipe()
     if linking.end() or not os.access(f"{TOP}/crates/{PROGRAM}/out/{PROGRAM}", os.X_OK):

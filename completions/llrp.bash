@@ -4,9 +4,9 @@ _llrp() {
     COMPREPLY=()
     case ${COMP_WORDS[COMP_CWORD - 1]} in
         # a file, which readline completes where nothing is found here
-        *'<' | *'>') return ;;
+        *'<' | *'>' | --rospec) return ;;
         # a number
-        --limit | --every | --polls | --timeout)
+        --limit | --every | --polls | --reports | --timeout)
             compopt +o default
             return
             ;;
@@ -15,10 +15,12 @@ _llrp() {
         words='show encode epc sim inventory loop help --help --version'
     else
         case ${COMP_WORDS[1]} in
-            show | encode) words='--hex --limit --help' ;;
-            inventory) words='--every --polls --check --timeout --help' ;;
-            loop) words='--every --polls --check --help' ;;
-            epc | sim) words='--help' ;;
+            show) words='--hex --all --json --limit --help' ;;
+            encode) words='--hex --all --limit --help' ;;
+            inventory) words='--rospec --every --polls --reports --check --clean --json --all --timeout --help' ;;
+            loop) words='--rospec --every --polls --reports --check --clean --json --all --help' ;;
+            sim) words='--all --help' ;;
+            epc) words='--help' ;;
             help) words='show encode epc sim inventory loop' ;;
         esac
     fi

@@ -14,7 +14,7 @@ import re
 import sys
 
 from counting import finish_results, text_of
-from definitions import Tree
+from definitions import Tree, exports_of
 from refusing import TOP
 
 CALLS, PRIVATE = "Calls", "Private"
@@ -25,19 +25,19 @@ PROMISES = {
     "2 words": "tag_epc::Epc::from_word tag_epc::Epc::to_word tag_epc::laws::one_word_one_epc tag_epc::laws::one_word_fault",
     "3 texts": "tag_uri::text_of_word tag_uri::word_of_text tag_uri::laws::one_text tag_uri::laws::one_fault",
     "4 frames": "llrp_tree::decode_frame llrp_tree::encode_into llrp_tree::laws::frames_apart",
-    "5 show": "llrp_listing::run_show llrp_stream::laws::one_listing",
-    "6 encode": "llrp_listing::run_encode llrp_listing::laws::prints_back",
+    "5 show": "llrp_listing::run_show llrp_listing::run_show_in llrp_json::run_show_json llrp_stream::laws::one_listing",
+    "6 encode": "llrp_listing::run_encode llrp_listing::run_encode_in llrp_listing::laws::prints_back",
     "7 decoder": "llrp_stream::Decoder::new llrp_stream::Decoder::feed llrp_stream::Decoder::finish llrp_stream::laws::pieces_are_the_stream"
                  " llrp_stream::Decoder::held/weight/within/raw",
     "8 both ends": "llrp_endpoints::run_serve llrp_endpoints::run_inventory llrp_endpoints::run_loop",
     "9 agreement": "llrp_endpoints::laws::ends_agree",
-    "10 C": "llrp_c::llrp_text_of_word llrp_c::llrp_word_of_text llrp_c::llrp_list llrp_c::llrp_encode llrp_c::llrp_frame_length"
-            " llrp_c::llrp_name",
+    "10 C": "llrp_c::llrp_text_of_word llrp_c::llrp_word_of_text llrp_c::llrp_list llrp_c::llrp_encode llrp_c::llrp_list_all"
+            " llrp_c::llrp_encode_all llrp_c::llrp_list_json llrp_c::llrp_list_json_all llrp_c::llrp_frame_length llrp_c::llrp_name",
 }
 
-# Relations that a caller only hands from one call to the next: a constructor gives one, and the other calls ask for it. Whatever it
-# says, their contracts say the same of the octets, so what it is made of is not believed.
-HANDED_ON = {("llrp_stream", "Decoding", "Stands")}
+# What a caller only hands from one call to the next, a relation and a value that no believed definition looks into: a constructor gives
+# one, and the other calls ask for it. Whatever it says, their contracts say the same of the octets, so what it is made of is not believed.
+HANDED_ON = {("llrp_stream", "Decoding", "Stands"), ("llrp_stream", "Decoding", "StandsIn"), ("llrp_stream", "Progress", "Progress")}
 
 
 def contract_of(tree, name):
@@ -103,11 +103,20 @@ def print_moves(tree):
             print(f"crates/{crate}/specs/{name.replace('.', '/')}.antt -> specs/{folder}: {what}")
 
 
+def private_names(tree, definitions):
+    """The types and constants of code that these definitions name and that no other crate may name: a reader would have to read the code."""
+    named = set().union(*map(tree.code_named_in, definitions))
+    exports = {crate: exports_of(pathlib.Path(TOP) / "crates" / crate / "src") for crate, _, _ in named}
+    return sorted(f"{crate}::{module}::{name}" for crate, module, name in named if not exports[crate](module, name))
+
+
 def results(tree, count):
     """What is compared of the folders and the pages, and whether it is right."""
     wrong = moves(tree)
     for crate, name in tree.modules:
         yield f"{crate}: {name} has definitions for another folder (--moves)", (crate, name) not in wrong
+    private = private_names(tree, count["1 to 10"].definitions)
+    yield f"believed definitions name what is private in the code: {' '.join(private)}", not private
     page, readme = text_of("docs/believe.md"), " ".join(text_of("README.md").split())
     for title in count:
         yield f"docs/believe.md: no row {count[title].row(title)}", count[title].row(title) in page.split("\n")

@@ -9,7 +9,11 @@ static uint32_t (*const text_of_word)(const uint8_t *, size_t, uint8_t *, size_t
 static uint32_t (*const word_of_text)(const uint8_t *, size_t, uint8_t *, size_t) = llrp_word_of_text;
 static uint32_t (*const frame_length)(const uint8_t *, size_t, size_t *) = llrp_frame_length;
 static uint32_t (*const list)(const uint8_t *, size_t, uint8_t *, size_t, size_t *, size_t *) = llrp_list;
+static uint32_t (*const list_all)(const uint8_t *, size_t, uint8_t *, size_t, size_t *, size_t *) = llrp_list_all;
+static uint32_t (*const list_json)(const uint8_t *, size_t, uint8_t *, size_t, size_t *, size_t *) = llrp_list_json;
+static uint32_t (*const list_json_all)(const uint8_t *, size_t, uint8_t *, size_t, size_t *, size_t *) = llrp_list_json_all;
 static uint32_t (*const encode)(const uint8_t *, size_t, uint8_t *, size_t, size_t *, uint64_t *) = llrp_encode;
+static uint32_t (*const encode_all)(const uint8_t *, size_t, uint8_t *, size_t, size_t *, uint64_t *) = llrp_encode_all;
 static size_t (*const name_of)(uint32_t, uint8_t *, size_t) = llrp_name;
 
 /* The word, its text, two frames and an octet of the next, and their listing. */
@@ -18,7 +22,15 @@ static const char TEXT[] = "urn:epc:tag:sgtin-96:3.0614141.812345.6789";
 static const uint8_t STREAM[] = {8, 0x3E, 0, 0, 0, 10, 0, 0, 0, 7, 8, 0x3E, 0, 0, 0, 10, 0, 0, 0, 8, 8};
 static const char LISTING[] = "0 KEEPALIVE 2 7\n0 KEEPALIVE 2 8\n";
 static const char REFUSED[] = "0 KEEPALIVE 2 7\n0 KEEPALIV 2 7\n";
-enum { TEXT_LENGTH = sizeof TEXT - 1, LISTING_LENGTH = sizeof LISTING - 1, FRAMES_LENGTH = 20, UNTOUCHED = 0xA5 };
+/* A message that the profile leaves out: GET_READER_CAPABILITIES, number 1, of eleven octets, which asks for all. */
+static const uint8_t REQUEST[] = {8, 1, 0, 0, 0, 11, 0, 0, 0, 7, 0};
+static const char FAULT[] = "! 7 6 MessageType\n";
+static const char REQUEST_LISTING[] = "0 GET_READER_CAPABILITIES 2 7 0\n";
+/* The same as lines of JSON. */
+static const char LINES[] = "{\"message\":\"KEEPALIVE\",\"version\":2,\"id\":7}\n{\"message\":\"KEEPALIVE\",\"version\":2,\"id\":8}\n";
+static const char FAULT_LINE[] = "{\"fault\":\"MessageType\",\"id\":7,\"bit\":6}\n";
+static const char REQUEST_LINE[] = "{\"message\":\"GET_READER_CAPABILITIES\",\"version\":2,\"id\":7,\"RequestedData\":0}\n";
+enum { TEXT_LENGTH = sizeof TEXT - 1, LISTING_LENGTH = sizeof LISTING - 1, REQUEST_LENGTH = sizeof REQUEST_LISTING - 1, FRAMES_LENGTH = 20, UNTOUCHED = 0xA5 };
 
 static int passed, failed;
 static uint8_t out[256];
@@ -74,10 +86,41 @@ static void check_streams(void) {
     check("encode, a line that is refused", status == LLRP_NAME && written == 0 && line == 2 && holds("", 0));
 }
 
+static void check_all(void) {
+    size_t used = 99, written = 99;
+    uint64_t line = 99;
+    uint32_t status = list(REQUEST, sizeof REQUEST, out, sizeof out, &used, &written);
+    check("list of another message", status == LLRP_FAULTY && used == sizeof REQUEST && holds(FAULT, sizeof FAULT - 1));
+    status = list_all(REQUEST, sizeof REQUEST, out, REQUEST_LENGTH, &used, &written);
+    check("list all", status == LLRP_OK && used == sizeof REQUEST && written == REQUEST_LENGTH && holds(REQUEST_LISTING, REQUEST_LENGTH));
+    status = list_all(REQUEST, sizeof REQUEST, out, REQUEST_LENGTH - 1, &used, &written);
+    check("list all, too little room", status == LLRP_ROOM && used == 0 && written == REQUEST_LENGTH && holds("", 0));
+    status = encode(octets_of(REQUEST_LISTING), REQUEST_LENGTH, out, sizeof out, &written, &line);
+    check("encode another message", status == LLRP_NAME && written == 0 && line == 1 && holds("", 0));
+    status = encode_all(octets_of(REQUEST_LISTING), REQUEST_LENGTH, out, sizeof REQUEST, &written, &line);
+    check("encode all", status == LLRP_OK && written == sizeof REQUEST && line == 0 && holds(REQUEST, sizeof REQUEST));
+    status = encode_all(octets_of(REQUEST_LISTING), REQUEST_LENGTH, out, sizeof REQUEST - 1, &written, &line);
+    check("encode all, too little room", status == LLRP_ROOM && written == sizeof REQUEST && line == 0 && holds("", 0));
+}
+
+static void check_json(void) {
+    size_t used = 99, written = 99;
+    uint32_t status = list_json(STREAM, sizeof STREAM, out, sizeof out, &used, &written);
+    check("lines of JSON", status == LLRP_OK && used == FRAMES_LENGTH && written == sizeof LINES - 1 && holds(LINES, sizeof LINES - 1));
+    status = list_json(STREAM, sizeof STREAM, out, sizeof LINES - 2, &used, &written);
+    check("lines of JSON, too little room", status == LLRP_ROOM && used == 0 && written == sizeof LINES - 1 && holds("", 0));
+    status = list_json(REQUEST, sizeof REQUEST, out, sizeof out, &used, &written);
+    check("line of another message", status == LLRP_FAULTY && used == sizeof REQUEST && holds(FAULT_LINE, sizeof FAULT_LINE - 1));
+    status = list_json_all(REQUEST, sizeof REQUEST, out, sizeof out, &used, &written);
+    check("lines of JSON of all", status == LLRP_OK && used == sizeof REQUEST && holds(REQUEST_LINE, sizeof REQUEST_LINE - 1));
+}
+
 int main(void) {
     clear();
     check_tags();
     check_streams();
+    check_all();
+    check_json();
     printf("%d passed, %d failed\n", passed, failed);
     return failed > 0;
 }

@@ -1,9 +1,10 @@
 #!/usr/bin/env python3
-"""Reads frames that were cut or damaged, in pieces and octet by octet, and malicious nests.
+"""Reads frames that were cut or damaged, in pieces and octet by octet, and malicious nests. Of all of LLRP 1.1, the frames of
+each row, lawful ones cut anywhere and damaged ones octet by octet.
 
 usage: tests/damage.py [PROGRAM]
 
-PROGRAM is that of the crate `damage`, crates/damage/out/damage where none is given. The last line is `N passed, M failed`;
+PROGRAM is that of the crate `test_damaged_frames`, in its folder out/, where none is given. The last line is `N passed, M failed`;
 the status is 1 if something failed.
 """
 import os
@@ -11,14 +12,16 @@ import subprocess
 import sys
 
 from counting import finish
+from damages import damaged_cases
+from frames import lawful_cases
 from refusing import TOP
 from vectors import octets_of, vectors
 
 # Frames up to this length are cut and changed at each octet, longer ones cut at this many places at each end.
 LONGEST = 100
 PLACES = 40
-# How many rows there are.
-LEAST = 370
+# How many rows there are, and how many of all of LLRP 1.1.
+LEAST = 370 + 40400
 
 
 def header(kind, octets, number):
@@ -112,8 +115,29 @@ def failure(what, octets, wanted, told):
     return None
 
 
+def whole_rows():
+    """Yields the same of frames of all of LLRP 1.1, with the line that the program has to write."""
+    for case in lawful_cases():
+        yield case.what, f"all pieces {case.frame.hex()}", f"pieces {places(len(case.frame))} places"
+        yield case.what, f"all cuts {case.frame.hex()}", f"cuts {len(case.frame)}"
+    for case in damaged_cases():
+        fault = case.listing[0].removeprefix("! ") if case.listing[0].startswith("!") else "message"
+        yield case.what, f"all same {case.frame.hex()}", f"same {fault}, Clean"
+
+
+def whole_results(program):
+    """Yields what was read of all of LLRP 1.1, all by one run, and whether it is right."""
+    wanted = list(whole_rows())
+    given = "".join(line + "\n" for _, line, _ in wanted)
+    done = subprocess.run([program], input=given, capture_output=True, text=True, timeout=600)
+    told = done.stdout.splitlines()
+    yield f"all of LLRP 1.1: status {done.returncode}, {len(told)} lines of {len(wanted)}", (done.returncode, len(told)) == (0, len(wanted))
+    for (name, line, right), found in zip(wanted, [*told, *[""] * len(wanted)]):
+        yield f"{name}, {line[:300]}: {found} in place of {right}", found == right
+
+
 def main():
-    program = sys.argv[1] if len(sys.argv) > 1 else os.path.join(TOP, "crates/damage/out/damage")
+    program = sys.argv[1] if len(sys.argv) > 1 else os.path.join(TOP, "crates/test_damaged_frames/out/test_damaged_frames")
     passed = failed = 0
     for name, what, octets, wanted in rows():
         line = f"{what} {octets.hex()}\n"
@@ -126,6 +150,12 @@ def main():
         else:
             passed += 1
             print(f"{name}: {told[0][:100]}")
+    for what, is_right in whole_results(program):
+        if is_right:
+            passed += 1
+        else:
+            failed += 1
+            print(f"WRONG: {what}")
     return finish(passed, failed, LEAST)
 
 

@@ -144,6 +144,28 @@ class Tree:
                 found |= {self.find(*path), self.find(*path, *rest)}
         return found - {None}
 
+    def code_at(self, path):
+        """The outermost module and the name of the type or constant of code that a path of an import means, with its crate, if it is one."""
+        crate, first, *rest = path
+        if first == "declared":
+            if "TheVariants" in rest:
+                return crate, rest[0], rest[rest.index("TheVariants") - 1]
+            return crate, rest[0], rest[-1]
+        for size in range(1, len(path)):
+            module = self.modules.get((crate, ".".join(path[1:1 + size])))
+            if module and len(path) == size + 2:
+                return next(filter(None, map(self.code_at, module.imports.get(path[-1], ()))), None)
+        return None
+
+    def code_named_in(self, definition):
+        """The types and constants of code that a definition names, each with its crate and outermost module."""
+        module, found = self.modules[definition.crate, definition.module], set()
+        for word in WORD.findall(re.sub(r"(?m)(?:^|(?<= ))--.*", "", "\n".join(definition.lines))):
+            first, *rest = word.split(".")
+            for path in module.imports.get(first, ()):
+                found |= {self.code_at(path), self.code_at((*path, *rest))}
+        return found - {None}
+
     def reached_from(self, contracts, handed_on):
         """All definitions that contracts reach, but for those that are only handed on and what these alone reach."""
         reached, left = set(), set()
@@ -164,7 +186,7 @@ def exports_of(source):
     library = source / "lib.rt"
     root = library.read_text() if library.exists() else ""
     modules = set(re.findall(r"(?m)^pub mod (\w+);", root))
-    names = set(re.findall(r"\w+", " ".join(re.findall(r"(?ms)^pub use ([^;]+);", root))))
+    names = set(re.findall(r"\w+", " ".join(re.findall(r"(?ms)^pub use ([^;]+);", root)))) | set(re.findall(r"(?m)^pub (?:const|enum|struct|trait) (\w+)", root))
     return lambda module, name: not library.exists() or module in modules or name in names
 
 

@@ -1,10 +1,10 @@
 #!/usr/bin/env python3
 """Runs the commands of README.md and of documents under docs/, and compares what they print with what the document shows, and their
-status with what docs/errors.md says.
+status with what docs/errors.md says. Compares the example at the head of each library with the tests that run it.
 
 usage: tests/documents.py [PROGRAM]
 
-PROGRAM is llrp, crates/llrp/out/llrp where none is given. The commands need tshark and text2pcap. The last line is
+PROGRAM is llrp, crates/llrp/out/llrp where none is given. The commands need tshark, text2pcap and jq. The last line is
 `N passed, M failed`; the status is 1 if something failed.
 """
 import os
@@ -19,7 +19,10 @@ from counting import finish, text_of
 from refusing import TOP
 
 # How many commands each document has.
-DOCUMENTS = {"README.md": 8, "docs/capture.md": 5, "docs/sim.md": 9}
+DOCUMENTS = {"README.md": 8, "docs/capture.md": 6, "docs/client.md": 1, "docs/json.md": 3, "docs/sim.md": 15}
+# How many libraries have an example, and where the tests are that run them.
+LIBRARIES = 11
+TESTS = "crates/test_libraries/src/examples"
 # Comes after what a command prints, with its status.
 MARK = "--- status"
 
@@ -58,7 +61,7 @@ def script_of(commands, program, folder):
 
 def wanted_status(wanted):
     """Returns the status of a command that prints these lines: a listing with a frame that is not a message ends with 1."""
-    return 1 if any(line.startswith("! ") for line in wanted) else 0
+    return 1 if any(line.startswith(("! ", '{"fault"')) for line in wanted) else 0
 
 
 def run(block, program):
@@ -79,6 +82,24 @@ def failures(block, program):
         yield block[0][0], f"status {done.returncode} at the end"
 
 
+def squeezed(text):
+    """Returns a text without spaces, and without the commas before a bracket, which the layout adds."""
+    return re.sub(r",(?=[\])}])", "", re.sub(r"\s", "", text))
+
+
+def libraries():
+    """Yields each library that has an example, and whether the tests whose names begin with the library's have its lines in order."""
+    files = sorted(os.listdir(os.path.join(TOP, TESTS)))
+    tests = re.sub(r"(?m)^ *//.*", "", "".join(text_of(f"{TESTS}/{name}") for name in files))
+    for crate in sorted(os.listdir(os.path.join(TOP, "crates"))):
+        path = f"crates/{crate}/src/lib.rt"
+        text = text_of(path) if os.path.exists(os.path.join(TOP, path)) else ""
+        for example in re.findall(r"(?ms)^//! ```\n(.*?)^//! ```$", text):
+            lines = re.sub(r"(?m)^//! ?", "", example).splitlines()
+            found = squeezed("".join(re.findall(rf"(?ms)^fn {crate}_\w+\(.*?^}}", tests)))
+            yield crate, re.search(".*".join(re.escape(squeezed(line)) for line in lines if line), found) is not None
+
+
 def main():
     program = os.path.abspath(sys.argv[1] if len(sys.argv) > 1 else os.path.join(TOP, "crates/llrp/out/llrp"))
     passed = failed = 0
@@ -93,7 +114,11 @@ def main():
             passed, failed = passed + max(len(block) - len(wrong), 0), failed + len(wrong)
             for command, what in wrong:
                 print(f"WRONG: {name}: {command}\n{what}")
-    return finish(passed, failed, sum(DOCUMENTS.values()))
+    for crate, is_run in libraries():
+        passed, failed = passed + is_run, failed + (not is_run)
+        if not is_run:
+            print(f"WRONG: {crate}: its example is not what its test runs")
+    return finish(passed, failed, sum(DOCUMENTS.values()) + LIBRARIES)
 
 
 if __name__ == "__main__":

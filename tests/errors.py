@@ -10,21 +10,22 @@ import os
 import re
 import subprocess
 import sys
+import tempfile
 
 from counting import finish_results, text_of
 from damage import nested_errors
 from failing_devices import ANSWERS, free_port, inventory_from, sim_to
 from refusing import TOP
 
-LEAST = 90
+LEAST = 94
 PAGE = "docs/errors.md"
 # Where the words of each table are: the source, its function, and how many it has.
 LINES = ("crates/llrp_commands/src/command.rt", "write_error", 11)
-REASONS = ("crates/llrp_listing/src/fault.rt", "names", 9)
-NODES = ("crates/llrp_listing/src/fault.rt", "node_fault_name", 8)
+REASONS = ("crates/llrp_listing/src/outcome.rt", "names", 9)
+NODES = ("crates/llrp_listing/src/outcome.rt", "node_fault_name", 8)
 RULES = ("crates/tag_uri/src/fault.rt", "name", 10)
 PARTS = ("crates/tag_epc/src/fault.rt", "name", 5)
-FRAMES = ("crates/llrp_listing/src/printing/ends.rt", "name_of", 15)
+FRAMES = ("crates/llrp_listing/src/reason.rt", "reason_name", 15)
 # The head of each table of the page, and the line before each list of the manual page.
 TABLES = {
     "| Line |": LINES,
@@ -89,10 +90,11 @@ def first_words(names):
 
 
 def checks_of_rows():
-    """Yields whether each table and each list has exactly the words of its source; llrp: network is said by the program itself."""
+    """Yields whether each table and each list has exactly the words of its source; llrp: network and both of llrp: rospec are said by the program
+    itself."""
     for where, names in [(TABLES, lambda head: [row[0] for row in rows(head)]), (LISTS, entries)]:
         for head, source in where.items():
-            wanted = words_of(*source) | ({"network"} if source == LINES else set())
+            wanted = [*words_of(*source), *(["network", "rospec", "rospec"] if source == LINES else [])]
             yield f"the source of {head}", len(wanted) >= source[2]
             yield f"the rows after {head}", first_words(names(head)) == sorted(wanted)
     yield "the exit statuses", [row[0] for row in rows("| Exit status |")] == ["0", "1", "2", "3", "125"]
@@ -161,6 +163,17 @@ def checks_of_frames(program):
         yield f"{reason} is listed by {line}", is_right
 
 
+def checks_of_rospecs(program):
+    """Yields whether the examples of files of `--rospec` are refused before the script is read, and before a connection is made."""
+    told = {row[0].strip("`"): row[2].strip("`") for row in rows("| Line |") if "rospec" in row[0]}
+    with tempfile.NamedTemporaryFile() as file:
+        file.write(told["llrp: rospec line N: REASON"].encode() + b"\n")
+        file.flush()
+        for words in (["loop"], ["inventory", "127.0.0.1", str(free_port())]):
+            yield "a refused ROSpec", run(program, *words, "--rospec", file.name, given="tock") == (1, b"", "llrp: rospec line 1: Fields\n")
+            yield "no such file", run(program, *words, *told["llrp: rospec"].split(), given="tock") == (3, b"", "llrp: rospec\n")
+
+
 def checks_of_lines(program):
     """Yields whether each example of an error of a run ends with its line; `bound` would take a million reads, and `memory` is
     what tests/refuse_program.py is for."""
@@ -184,7 +197,7 @@ def checks_of_lines(program):
 
 def main():
     program = os.path.abspath(sys.argv[1] if len(sys.argv) > 1 else os.path.join(TOP, "crates/llrp/out/llrp"))
-    parts = (checks_of_listings, checks_of_tags, checks_of_frames, checks_of_lines)
+    parts = (checks_of_listings, checks_of_tags, checks_of_frames, checks_of_lines, checks_of_rospecs)
     return finish_results([*checks_of_rows(), *(it for part in parts for it in part(program))], LEAST)
 
 

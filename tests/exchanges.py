@@ -8,7 +8,7 @@ EVENT = r'(Does::Connect|Does::Tick|Does::Seen\(\d+\)|Does::Take\("[^"]*"\)|[A-Z
 STEP = r"CONNECTS|Step::Sends\(Request::\w+(?:\(\w+\))?|Step::Takes\(\w+|Step::Refuses|Step::Faults"
 # How many exchanges each file has.
 EXCHANGES = {"reader.rt": 12, "client.rt": 25}
-# What the program refusals calls the commands whose names it does not take from the tests.
+# What the program test_refused_memory calls the commands whose names it does not take from the tests.
 COMMANDS = {"SetKeepalive": "keepalive", "GetReport": "report", "GetRospecs": "rospecs"}
 
 

@@ -8,7 +8,9 @@ Each run has to end by itself with a documented status, and with one line on sta
 wrote is a front of what it writes without failure, and no tag line is lost or doubled. Build the program first, by
 ./llrp --help. The last line is `N passed, M failed`, and the status is 1 if a run failed.
 """
+import collections
 import concurrent.futures
+import functools
 import itertools
 import os
 import pty
@@ -23,7 +25,7 @@ from counting import finish
 from refusing import TOP
 
 # How many runs there are: with each device, and with a peer that does each of three things after each octet.
-LEAST = 1421
+LEAST = 1958
 # How long a run may take, and how long a peer that pauses does nothing, in seconds.
 LONGEST, PAUSE = 20, 0.02
 # How many connections at a time.
@@ -32,6 +34,8 @@ AT_ONCE = 4
 # An exchange of three sightings, reported after two and when they are asked for (LLRP 1.1, section 17.1).
 with open(os.path.join(TOP, "examples/inventory.script"), "rb") as file:
     SCRIPT = file.read()
+# A ROSpec on two antennas, with a report for each tag.
+ROSPEC = os.path.join(TOP, "examples/two_antennas.rospec")
 FIRST_LINES = b"""\
 urn:epc:tag:sgtin-96:3.0614141.812345.6789 1 -60
 urn:epc:tag:sscc-96:0.0614141.0000000001 1 -61
@@ -40,6 +44,8 @@ urn:epc:tag:sscc-96:0.0614141.0000000001 1 -61
 SECOND_LINES = b"urn:epc:tag:gid-96:1.2.3 2 -62\n= 1\n"
 TOTAL_LINE = b"total 3 2\n"
 LINES = FIRST_LINES + SECOND_LINES + TOTAL_LINE
+# The same sightings where each is awaited by itself.
+AWAITED_LINES = b"".join(line + b"= 1\n" for line in (FIRST_LINES + SECOND_LINES).splitlines(True) if b"=" not in line) + b"total 3 3\n"
 # What the client sends: ADD_ROSPEC, ENABLE_ROSPEC, START_ROSPEC, GET_REPORT, STOP_ROSPEC, DELETE_ROSPEC, CLOSE_CONNECTION.
 REQUESTS = [
     "04140000004B00000001 00B10041000000010000 00B20012 00B3000500 00B600090000000000 00B7001800010000 00B800090000000000"
@@ -76,6 +82,23 @@ def octets(frames):
 
 
 UP, DOWN = octets(REQUESTS), octets(ANSWERS)
+
+# A client of `sim`: the options that it needs, what it sends, what it is answered, and how many frames before any request and
+# after each.
+Client = collections.namedtuple("Client", "options requests answers by_request")
+PLAIN = Client([], REQUESTS, ANSWERS, [1, 1, 1, 3, 1, 2, 1, 1])
+# It begins with GET_SUPPORTED_VERSION and GET_READER_CONFIG, which only `sim --all` answers.
+GENERAL = Client(
+    ["--all"],
+    ["082E0000000A00000007", "0402000000110000000600000000000000", *REQUESTS],
+    [
+        ANSWERS[0],
+        "083800000014000000070202 011F000800000000",
+        "040C0000003300000006 011F000800000000 00DA000F0000080000000000000000 00DD00098000010000 00DD00098000020000",
+        *ANSWERS[1:],
+    ],
+    [1, 1, *PLAIN.by_request],
+)
 
 
 def start(program, words, out=subprocess.PIPE, before=None):
@@ -119,6 +142,8 @@ def stream_commands():
         (["encode", "--hex"], text, report.hex().upper().encode() + b"\n"),
         (["epc", "3074257BF7194E4000001A85"], b"", b"urn:epc:tag:sgtin-96:3.0614141.812345.6789\n"),
         (["loop", "--every", "2"], SCRIPT, LINES),
+        (["loop", "--reports", "3", "--check"], SCRIPT, AWAITED_LINES),
+        (["loop", "--rospec", ROSPEC, "--reports", "3"], SCRIPT, AWAITED_LINES),
     ]
 
 
@@ -247,11 +272,11 @@ def free_port():
                 continue
 
 
-def listening(program):
-    """Returns a run of `sim` and a connection to it; where another process took the port first, with the next one."""
+def listening(program, options=()):
+    """Returns a run of `sim` with these options, and a connection to it; where another process took the port first, with the next one."""
     while True:
         port = free_port()
-        run = start(program, ["sim", str(port)])
+        run = start(program, ["sim", str(port), *options])
         run.stdin.write(SCRIPT)
         run.stdin.close()
         run.stdin = None
@@ -262,11 +287,12 @@ def listening(program):
             raise OSError("sim ended before its client came")
 
 
-def serve(program, count, how):
-    """Runs `sim`; its client sends `count` octets, and then closes, resets or pauses. Returns how it ended, what the
+def serve(client, program, count, how):
+    """Runs `sim`; this client sends `count` octets, and then closes, resets or pauses. Returns how it ended, what the
     client met, and what the script's reader has to say to the whole frames."""
-    run, peer = listening(program)
-    peer.sendall(UP[:count])
+    sent = octets(client.requests)
+    run, peer = listening(program, client.options)
+    peer.sendall(sent[:count])
     if how == "resets":
         time.sleep(PAUSE)
         said = b""
@@ -274,29 +300,28 @@ def serve(program, count, how):
     else:
         if how == "pauses":
             time.sleep(PAUSE)
-            peer.sendall(UP[count:])
+            peer.sendall(sent[count:])
         peer.shutdown(socket.SHUT_WR)
         said = read_to_end(peer)
         peer.close()
     return (*end(run), said)
 
 
-def said_after(count):
+def said_after(client, count):
     """Returns what the reader says to the first `count` octets of a client: its frames by the request that they follow."""
-    by_request = [1, 1, 1, 3, 1, 2, 1, 1]
-    number = whole_frames(REQUESTS, count)
-    return octets(ANSWERS[: sum(by_request[: number + 1])])
+    number = whole_frames(client.requests, count)
+    return octets(client.answers[: sum(client.by_request[: number + 1])])
 
 
-def serves_well(program, count, how):
-    status, out, err, said = serve(program, count, how)
+def serves_well(client, program, count, how):
+    status, out, err, said = serve(client, program, count, how)
     if how == "pauses":
-        return (status, out, err, said) == (0, b"", b"", DOWN)
-    at_frame = count in {len(octets(REQUESTS[:number])) for number in range(len(REQUESTS) + 1)}
+        return (status, out, err, said) == (0, b"", b"", octets(client.answers))
+    at_frame = count in {len(octets(client.requests[:number])) for number in range(len(client.requests) + 1)}
     if how == "closes":
         ended = (0, b"") if at_frame else (1, b"llrp: early\n")
-        return (status, err) == ended and out == b"" and said == said_after(count)
-    return out == b"" and ((status, err) == (0, b"") and count == len(UP) or is_documented(status, err))
+        return (status, err) == ended and out == b"" and said == said_after(client, count)
+    return out == b"" and ((status, err) == (0, b"") and count == len(octets(client.requests)) or is_documented(status, err))
 
 
 def take_inventory(program, count, how):
@@ -369,7 +394,11 @@ def is_well(runs_well, *row):
 
 
 def peer_runs(program):
-    rows = [("sim", serves_well, UP), ("inventory", inventories_well, DOWN)]
+    rows = [
+        ("sim", functools.partial(serves_well, PLAIN), UP),
+        ("sim --all", functools.partial(serves_well, GENERAL), octets(GENERAL.requests)),
+        ("inventory", inventories_well, DOWN),
+    ]
     with concurrent.futures.ThreadPoolExecutor(AT_ONCE) as pool:
         for name, runs_well, stream in rows:
             for how in ("closes", "resets", "pauses"):
@@ -444,9 +473,49 @@ def terminal_runs(program):
     yield "show in a pipe", end(run, digits) == (0, listing, b"")
 
 
+def pipe_with(octets):
+    """Returns the reading end of a pipe that holds these octets, as a path, and the end itself."""
+    reading, writing = os.pipe()
+    os.write(writing, octets)
+    os.close(writing)
+    return f"/dev/fd/{reading}", reading
+
+
+def over_rospec(program, octets):
+    """Runs `loop` with a ROSpec that comes through a pipe and ends after these octets."""
+    path, reading = pipe_with(octets)
+    how = {"input": SCRIPT, "capture_output": True, "timeout": LONGEST, "pass_fds": [reading]}
+    done = subprocess.run([program, "loop", "--rospec", path, "--reports", "3"], **how)
+    os.close(reading)
+    return done.returncode, done.stdout, done.stderr
+
+
+def rospec_runs(program):
+    """Yields whether a file of `--rospec` that cannot be read, or is cut after any octet, ends the command before anything is read or sent."""
+    refused = (3, b"", b"llrp: rospec\n")
+    for path in ("/", "/there/is/no/such/file", ROSPEC + "/file", "", "/proc/self/mem"):
+        run = start(program, ["loop", "--rospec", path])
+        yield f"--rospec {path}", end(run, SCRIPT) == refused
+    run = start(program, ["loop", "--rospec", ROSPEC, "--reports", "3"], None, close_output)
+    yield "--rospec, its descriptor that of a closed standard output", end(run, SCRIPT)[::2] == (3, b"llrp: write\n")
+    run = start(program, ["loop", "--rospec", ROSPEC], before=lambda: os.close(0))
+    yield "--rospec, its descriptor that of a closed standard input", end(run)[::2] == (3, b"llrp: read\n")
+    with open(ROSPEC, "rb") as file:
+        text = file.read()
+    yield "--rospec through a pipe", over_rospec(program, text) == (0, AWAITED_LINES, b"")
+    lines = text.splitlines(True)
+    # what may end the ROSpec: the InventoryParameterSpec and each line of its settings
+    whole = {len(b"".join(lines[:number])) for number in range(7, 12)}
+    for count in sorted(set(range(len(text))) - whole):
+        status, out, err = over_rospec(program, text[:count])
+        is_told = (status, out) == (1, b"") and err.startswith(b"llrp: rospec line ") and err.count(b"\n") == 1
+        yield f"--rospec, cut after {count} octets", is_told
+
+
 def all_runs(program):
     yield from output_runs(program)
     yield from terminal_runs(program)
+    yield from rospec_runs(program)
     for count in (0, 5, len(DOWN) // 2):
         yield f"inventory of a reader that is silent after {count} octets", is_well(inventory_of_silence, program, count)
     for device in ("closed", "full"):

@@ -1,18 +1,20 @@
 #!/usr/bin/env python3
 """Builds the examples for C and Python over the library for C, and runs them on the rows of the tests and on a capture; calls each
-function through the header; and compiles or runs what README.md and docs/library.md show.
+function through the header; and compiles or runs what README.md, docs/library.md and the library's own page show.
 
 usage: tests/library.py
 
 It needs cc and ar beside the toolchain's command rt. The last line is `N passed, M failed`; the status is 1 if something failed.
 """
+import json
 import os
 import re
-import struct
 import subprocess
 import sys
 import tempfile
 
+import json_lines
+from captures import payloads
 from counting import finish_results, text_of
 from refusing import TOP
 from vectors import source, vectors
@@ -23,7 +25,7 @@ import llrp as binding  # noqa: E402  (the module that testers copy)
 CFLAGS = ["-std=c11", "-Wall", "-Wextra", "-Wpedantic", "-Werror", "-g", "-fsanitize=address,undefined", "-fno-sanitize-recover=all"]
 HEADER = "include/llrp.h"
 # How many cases there are: the functions of the header, the rows of the tests' tables, and what is compared of each.
-LEAST = 550
+LEAST = 660
 # How the header writes a parameter of the library's source, without `alloc`, which the toolchain passes.
 IN_C = {
     "&[u8]": "const uint8_t *{0}, size_t {0}_length",
@@ -63,11 +65,11 @@ def declarations():
 def checks_of_calls(folder):
     """Yields whether the header declares what the source has, and whether each function answers through it."""
     declared = declarations()
-    yield "six functions", len(declared) == 6
+    yield "ten functions", len(declared) == 10
     found = re.findall(r"(?m)^\w+ llrp_\w+\(.*\);$", text_of(HEADER))
     yield "the header's declarations", sorted(found) == sorted(declared)
     status, out, err = run(build(folder, "tests/calls.c"))
-    yield f"calls through the header: {out}{err}", (status, out, err) == (0, "13 passed, 0 failed\n", "")
+    yield f"calls through the header: {out}{err}", (status, out, err) == (0, "23 passed, 0 failed\n", "")
 
 
 class Stub:
@@ -124,20 +126,6 @@ def refused_texts():
 def counts_of_rows():
     """Returns how many rows each table of the tests has, by its declaration."""
     return {name: int(count) for name, count in re.findall(r"(?m)^static (\w+): \[[^;]*; (\d+)\]", source("epc.rt"))}
-
-
-def payloads(name):
-    """Yields the source port and the octets of each TCP segment of a capture."""
-    with open(os.path.join(TOP, name), "rb") as file:
-        capture = file.read()
-    order = "<" if capture[:4] in (b"\xd4\xc3\xb2\xa1", b"\x4d\x3c\xb2\xa1") else ">"
-    link = {1: 14, 101: 0, 113: 16, 276: 20}[struct.unpack(order + "I", capture[20:24])[0]]
-    at = 24
-    while at < len(capture):
-        length = struct.unpack(order + "I", capture[at + 8 : at + 12])[0]
-        packet, at = capture[at + 16 + link : at + 16 + length], at + 16 + length
-        tcp = packet[4 * (packet[0] & 15) : struct.unpack(">H", packet[2:4])[0]]
-        yield struct.unpack(">H", tcp[:2])[0], tcp[4 * (tcp[12] >> 4) :]
 
 
 def checks_of_header(llrp):
@@ -200,6 +188,7 @@ def checks_of_streams(llrp, program):
         lawful = not any(line.startswith("!") for line in lines)
         used = len(stream) if broken else whole(stream)
         yield f"{name}: listing", llrp.list(stream) == (frames, used, lawful)
+        yield f"{name}: messages", llrp.messages(stream) == ([json.loads(line) for line in json_lines.lines_of(json_lines.PROFILE, frames)], used)
         yield f"{name}: length", broken or llrp.frame_length(stream) == (int.from_bytes(stream[2:6], "big") if len(stream) >= 6 else 0)
         if lawful and not rest:
             yield f"{name}: octets", llrp.encode(listing) == stream
@@ -252,19 +241,29 @@ def runs_in_python(code, names):
 def checks_of_documents(folder):
     """Yields whether docs/library.md shows the code that the gate builds, and what it and README.md show compiles and runs."""
     shown = re.findall(r"(?s)```rust\n(.*?)```", text_of("docs/library.md"))
-    yield "the code of docs/library.md", shown == [text_of("crates/tag_texts/src/main.rt")]
+    yield "the code of docs/library.md", shown == [text_of("crates/example_tag_texts/src/main.rt")]
     yield from checks_of_c(folder)
     yield from checks_of_python()
 
 
-def checks_of_c(folder):
-    """Yields whether the C of README.md gives the word, and the commands of docs/library.md do as it says."""
-    include, body = snippet("README.md", "In C:").split("\n", 1)
-    path = os.path.join(folder, "readme.c")
+def word_by_c(folder, include, body):
+    """Returns how lines of C end that set `status` and `word`, and what these are then."""
+    path = os.path.join(folder, "snippet.c")
     with open(path, "w", encoding="utf-8") as file:
         file.write(f"{include}\n#include <stdio.h>\n#include <string.h>\nint main(void) {{\n{body}")
         file.write('printf("%u ", status);\nfor (int i = 0; i < 12; i++) printf("%02X", word[i]);\nreturn 0;\n}\n')
-    yield "the C of README.md", run(build(folder, path)) == (0, "0 3074257BF7194E4000001A85", "")
+    return run(build(folder, path))
+
+
+def checks_of_c(folder):
+    """Yields whether the C of README.md and of the library's own page gives the word, and the commands of docs/library.md do as it
+    says."""
+    wanted = (0, "0 3074257BF7194E4000001A85", "")
+    include, body = snippet("README.md", "In C:").split("\n", 1)
+    yield "the C of README.md", word_by_c(folder, include, body) == wanted
+    text = 'const uint8_t text[] = "urn:epc:tag:sgtin-96:3.0614141.812345.6789";\nconst size_t text_length = sizeof text - 1;\n'
+    page = re.search(r"(?ms)^//! ```c\n(.*?)^//! ```$", text_of("crates/llrp_c/src/lib.rt"))[1]
+    yield "the C of crates/llrp_c", word_by_c(folder, include, text + re.sub(r"(?m)^//! ", "", page)) == wanted
     commands = snippet("docs/library.md", "### From C").splitlines()
     yield "the commands of docs/library.md", len(commands) == 3
     wanted = ["", "3074257BF7194E4000001A85 urn:epc:tag:sgtin-96:3.0614141.812345.6789\n", text_of("examples/report.txt")]
@@ -284,7 +283,7 @@ def checks_of_python():
     code = snippet("docs/library.md", "### From Python")
     found = runs_in_python(code, {})
     os.chdir(here)
-    yield "the Python of docs/library.md", len(found) == 3
+    yield "the Python of docs/library.md", len(found) == 5
     for value, comment in found:
         yield f"docs/library.md: {comment}", value == eval(comment)
 

@@ -24,7 +24,10 @@ LEAST = 61
 # What stubs of the toolchain do: each notes where and with which words it is called; then it proves and links, or fails in one of these.
 CALLED = 'echo "${PWD##*/} $*" >>"$(dirname "$0")/calls"\n'
 LINKS = 'mkdir -p out; printf "#!/bin/sh\\necho built \\$*; exit 5" >out/llrp; chmod +x out/llrp'
-PROVES = 'if [ "$1" = all ]; then echo "== tag_bits"; echo "logic=proved"; touch edited.rt; else {}; fi'
+PROVES = (
+    'if [ "$1" = all ]; then echo "== tag_bits"; echo "logic=proved"; touch edited.rt; '
+    'elif [ "$1" = lib ]; then echo "crate ${{PWD##*/}}: modules loaded=1 checked=1"; echo "logic=proved"; else {}; fi'
+)
 REFUSES = 'echo "== tag_bits"; echo "src/lib.rt:1:1: error: no proof"; echo "logic=not-proved"; exit 1'
 FAILURES = {
     "not proved": (REFUSES, "the crate tag_bits is not proved, so the program was not built\nsrc/lib.rt:1:1: error: no proof\n"),
@@ -81,7 +84,7 @@ def octets_of(path):
 
 def checks_of_llrp(program, folder):
     """Yields whether ./llrp runs the program that was built, by its own name and by a link."""
-    version = re.search(r'const VERSION: &str = "([^"]+)"', text_of("crates/llrp_commands/src/words.rt"))[1]
+    version = re.search(r'const VERSION: &str = "([^"]+)"', text_of("crates/llrp_commands/src/arguments.rt"))[1]
     link = os.path.join(folder, "link")
     os.symlink(os.path.join(TOP, "llrp"), link)
     for words in ([program], ["./llrp"], [link]):
@@ -141,9 +144,10 @@ def checks_of_failures(folder):
         for name, status in (("./build.py", 1), ("./llrp", 125)):
             found, out, err = run(name, cwd=copy_of_sources(folder, f"{what} {name[2:]}"), PATH=path)
             yield f"{name}, {what}", (found, out) == (status, "") and told in err
-    waits = Toolchain(folder, 'echo $$ >"$(dirname "$0")/process"; exec sleep 60')
+    waits = Toolchain(folder, 'echo $$ >>"$(dirname "$0")/process"; exec sleep 60')
     yield "./llrp, Ctrl-C", interrupted(copy_of_sources(folder, "interrupted"), waits) == 130
-    yield "what goes on after Ctrl-C", not goes_on(int(octets_of(os.path.join(waits.place, "process"))))
+    began = octets_of(os.path.join(waits.place, "process")).split()
+    yield "what goes on after Ctrl-C", not any([goes_on(int(it)) for it in began])
 
 
 def interrupted(copy, waits):
@@ -169,8 +173,9 @@ def checks_of_build(folder):
     """Yields whether build.py and ./llrp prove and build where the program is missing or a source is newer, and only there."""
     copy, proves, refuses = copy_of_sources(folder, "built"), Toolchain(folder, PROVES.format(LINKS)), Toolchain(folder, REFUSES)
     found, out, err = run("./build.py", cwd=copy, PATH=proves.path)
-    yield "./build.py, proved", (found, out) == (0, "") and "proved crate 1 of 12: tag_bits" in err
-    calls = re.fullmatch("llrp all check --jobs [1-4]\nllrp run --jobs 1 -- --help", "\n".join(proves.calls()))
+    yield "./build.py, proved", (found, out) == (0, "") and bool(re.search(r"proved crate \d of 12: tag_bits", err))
+    lowest = "(llrp_schema lib --jobs [23]\ntag_uri lib --jobs 1\n|tag_uri lib --jobs 1\nllrp_schema lib --jobs [23]\n)?"
+    calls = re.fullmatch(f"{lowest}llrp all check --jobs [1-4]\nllrp run --jobs 1 -- --help", "\n".join(proves.calls()))
     yield "what ./build.py calls", calls is not None
     yield "./llrp runs what is built", run("./llrp", "x", cwd=copy, PATH=refuses.path) == (5, "built x\n", "")
     later(os.path.join(copy, "crates/llrp/out/later.antt"))

@@ -3,7 +3,7 @@
 
 usage: tests/refuse_each.py [PROGRAM]
 
-PROGRAM is that of the crate `refusals`, crates/refusals/out/refusals where none is given. Every such run has to answer what
+PROGRAM is that of the crate `test_refused_memory`, in its folder out/, where none is given. Every such run has to answer what
 the call answers with enough memory, or Memory with what the call promises to leave then; and some run of each call that takes
 memory has to answer Memory. The last line is `N passed, M failed`; the status is 1 if something failed.
 """
@@ -19,15 +19,15 @@ from refusing import TESTS, TOP, build_library, each_refused, run
 from vectors import all_found, vectors
 
 # Calls that write: after Memory a front of what they write with enough memory was written.
-WRITING = ("show", "list", "serve", "inventory", "epc")
+WRITING = ("show", "list", "serve", "serve-all", "inventory", "epc")
 # The other calls: each has to have rows.
-OTHERS = ("decode", "feed", "encode", "clone", "clone-node", "step", "client", "script", "plan", "digits")
+OTHERS = ("decode", "feed", "encode", "clone", "clone-node", "step", "client", "script", "plan", "rospec", "digits")
 # Calls that take no memory.
 WITHOUT_MEMORY = ("write", "skip")
 # Machines over bytes: they answer their error again, and append nothing then.
 ENDS = ("serving", "gathering")
 # How many rows there are: of the vectors, the exchanges and tests/ends.rows. Each has two runs or more.
-ROWS = 932
+ROWS = 945
 
 
 def frame_rows():
@@ -139,7 +139,7 @@ def run_row(library, program, call, words):
 
 
 def main():
-    program = sys.argv[1] if len(sys.argv) > 1 else os.path.join(TOP, "crates/refusals/out/refusals")
+    program = sys.argv[1] if len(sys.argv) > 1 else os.path.join(TOP, "crates/test_refused_memory/out/test_refused_memory")
     calls, total = {}, collections.Counter()
     with tempfile.TemporaryDirectory() as folder:
         library = build_library(folder)

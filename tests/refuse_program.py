@@ -17,6 +17,8 @@ from refusing import TOP, build_library, each_refused, run
 
 KEPT = "as with enough memory"
 REFUSED = "llrp: memory"
+# A ROSpec on two antennas, with a report for each tag.
+ROSPEC = os.path.join(TOP, "examples/two_antennas.rospec")
 # How many runs there are at least: some hundred for each row, one for each request.
 LEAST = 2000
 
@@ -34,6 +36,7 @@ def rows():
         ("no command", [], b""),
         ("help", ["--help"], b""),
         ("help of show", ["show", "--help"], b""),
+        ("help of sim", ["sim", "--all", "--help"], b""),
         ("a wrong word", ["shwo"], b""),
         ("a wrong number", ["inventory", "localhost", "0"], b""),
         ("show, a keepalive", ["show", "--hex"], keepalive),
@@ -47,6 +50,10 @@ def rows():
         ("epc, a text", ["epc", "urn:epc:tag:sgtin-96:3.0614141.812345.6789"], b""),
         ("epc, no text", ["epc", "urn:epc:tag:sgtin-96:3.0614141.812345.x"], b""),
         ("loop", ["loop", "--every", "2"], script),
+        ("loop, reports that are awaited", ["loop", "--reports", "3", "--check"], script),
+        ("loop, a clean start", ["loop", "--clean"], script),
+        ("loop, a ROSpec of its own", ["loop", "--rospec", ROSPEC, "--reports", "3", "--check"], script),
+        ("loop, a ROSpec that is refused", ["loop", "--rospec", os.path.join(TOP, "examples/report.txt")], script),
         ("loop, a script that is refused", ["loop"], b"1 1 tock\n"),
     ]
 

@@ -6,7 +6,7 @@ from typing import NamedTuple
 
 from refusing import TOP
 
-SOURCES = os.path.join(TOP, "crates/llrp_tests/src")
+SOURCES = os.path.join(TOP, "crates/test_libraries/src")
 
 
 class Vector(NamedTuple):

@@ -114,7 +114,7 @@ def checks_of_limits(program):
 
 def checks_of_figures():
     """Yields whether README.md counts the crates of the program and the functions for C as they are."""
-    readme, words = text_of("README.md"), {6: "six", 12: "twelve"}
+    readme, words = text_of("README.md"), {10: "ten", 12: "twelve"}
     sys.path.insert(0, TOP)
     import build  # (the script that knows which crates are below another)
 
@@ -127,7 +127,7 @@ def checks_of_figures():
 
 def checks_of_version(program):
     """Yields whether the version is the source's, and said as help is."""
-    version = re.search(r'const VERSION: &str = "([^"]+)"', text_of("crates/llrp_commands/src/words.rt"))[1]
+    version = re.search(r'const VERSION: &str = "([^"]+)"', text_of("crates/llrp_commands/src/arguments.rt"))[1]
     done = subprocess.run([program, "--version"], capture_output=True, text=True, timeout=60)
     yield "version", (done.returncode, done.stdout, done.stderr) == (0, f"llrp {version}\n", "")
     alone = subprocess.run([program], capture_output=True, text=True, timeout=60)
@@ -146,7 +146,7 @@ def checks_of_script():
     """Yields whether those who cannot read the script of three sightings from its file have its lines."""
     lines = text_of("examples/inventory.script").splitlines()
     yield "three sightings", len(lines) == 3
-    for name in ("crates/test_devices/src/sightings.rt", "crates/llrp/src/looping/tests.rt", "tests/ends.rows"):
+    for name in ("crates/test_devices/src/sightings.rt", "crates/llrp/src/both_ends/tests.rt", "tests/ends.rows"):
         yield f"the three sightings in {name}", all(line in text_of(name) for line in lines)
 
 

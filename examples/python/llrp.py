@@ -8,6 +8,7 @@ docs/library.md says how to make the shared library. This file needs Python 3.8 
 include/llrp.h says what each function does.
 """
 import ctypes
+import json
 
 OK, FAULTY, BROKEN, ROOM, MEMORY = 0, 1, 2, 3, 7
 WORD_OCTETS, TEXT_ROOM, NAME_ROOM = 12, 64, 16
@@ -36,7 +37,11 @@ class Llrp:
             "llrp_word_of_text": (*given, *room),
             "llrp_frame_length": (*given, count),
             "llrp_list": (*given, *room, count, count),
+            "llrp_list_all": (*given, *room, count, count),
+            "llrp_list_json": (*given, *room, count, count),
+            "llrp_list_json_all": (*given, *room, count, count),
             "llrp_encode": (*given, *room, count, pointer(ctypes.c_uint64)),
+            "llrp_encode_all": (*given, *room, count, pointer(ctypes.c_uint64)),
             "llrp_name": (ctypes.c_uint32, *room),
         }.items():
             function = getattr(self.library, name)
@@ -81,27 +86,44 @@ class Llrp:
             raise self.refusal(status)
         return count.value
 
-    def list(self, stream):
-        """Returns the listing of a stream's whole frames, how many octets they have, and whether each is a message.
+    def list(self, stream, all=False):
+        """Returns the listing of a stream's whole frames, how many octets they have, and whether each is a message: of the profile, or of
+        all of LLRP 1.1.
 
         A listing that ends with the line ! BROKEN says that nothing can be found after it."""
+        function = self.library.llrp_list_all if all else self.library.llrp_list
+        listing, used, status = self.listed(function, stream)
+        return listing, used, status == OK
+
+    def messages(self, stream, all=False):
+        """Returns a dict for each of a stream's whole frames, and how many octets they have: messages of the profile, or of all of LLRP
+        1.1, as docs/json.md says, and of a frame that is no message `fault`, `id` and `bit`.
+
+        A last dict with `broken` says that nothing can be found after it."""
+        function = self.library.llrp_list_json_all if all else self.library.llrp_list_json
+        lines, used, _ = self.listed(function, stream)
+        return [json.loads(line) for line in lines.split("\n")[:-1]], used
+
+    def listed(self, function, stream):
+        """Returns what a function writes of a stream, how many octets it used, and the status."""
         used, written, length = ctypes.c_size_t(), ctypes.c_size_t(), 64 * len(stream) + 1
         while True:
             room = ctypes.create_string_buffer(length)
-            status = self.library.llrp_list(stream, len(stream), room, length, ctypes.byref(used), ctypes.byref(written))
+            status = function(stream, len(stream), room, length, ctypes.byref(used), ctypes.byref(written))
             if status != ROOM:
                 break
             length = written.value
         if status not in (OK, FAULTY, BROKEN):
             raise self.refusal(status)
-        return room.raw[: written.value].decode(), used.value, status == OK
+        return room.raw[: written.value].decode(), used.value, status
 
-    def encode(self, listing):
-        """Returns the octets of the messages of a listing."""
+    def encode(self, listing, all=False):
+        """Returns the octets of the messages of a listing: of the profile, or of all of LLRP 1.1."""
+        function = self.library.llrp_encode_all if all else self.library.llrp_encode
         octets, written, line, length = listing.encode(), ctypes.c_size_t(), ctypes.c_uint64(), 4096
         while True:
             room = ctypes.create_string_buffer(length)
-            status = self.library.llrp_encode(octets, len(octets), room, length, ctypes.byref(written), ctypes.byref(line))
+            status = function(octets, len(octets), room, length, ctypes.byref(written), ctypes.byref(line))
             if status != ROOM:
                 break
             length = written.value
