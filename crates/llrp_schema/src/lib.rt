@@ -20,6 +20,7 @@ pub mod laws;
 mod messages;
 mod parameters;
 mod places;
+mod required_groups;
 mod row_macros;
 mod seen;
 mod tables;
@@ -35,6 +36,7 @@ pub use by_number::{
 };
 pub use kinds::{Field, Group, Kind, Label, MsgKind, ParamKind, Place, Profile, Tail};
 pub use labels::label;
-pub use places::{place, required};
+pub use places::place;
+pub use required_groups::required;
 pub use seen::Seen;
 pub use tables::{fields, groups, name, number, profile, tail};

@@ -1,5 +1,8 @@
 //! How far a frame is read.
 
+ghost use Rattle.std.specs.Prelude.{◌≡◌, ◌<◌, [], length};
+ghost use Rattle.llrp_stream.specs.declared.state.State.TheVariants as State;
+
 use crate::header::FaultyHeader;
 
 /// How far a frame is read.
@@ -18,4 +21,17 @@ pub(crate) enum State {
     Broken,
     /// Memory ran out.
     Dead,
+}
+
+/// The state after these octets of a header.
+#[inline(always)]
+pub(crate) fn before_body(octets: &[u8]) -> State
+    ensures none { octets.now ≡ [] → result ≡ State.Between }
+    ensures some { 0 < length octets.now → result ≡ State.Header }
+{
+    if octets.is_empty() {
+        State::Between
+    } else {
+        State::Header
+    }
 }

@@ -23,7 +23,7 @@ use crate::engine::frame::{finish, receive_bare, start};
 use crate::engine::listener::Listener;
 use crate::header::{FaultyHeader, FrameStart, start_of};
 use crate::item::{End, FeedErr};
-use crate::state::State;
+use crate::state::{State, before_body};
 use llrp_schema::Profile;
 use llrp_tree::{Fault, FrameErr, HEADER_OCTETS, Header};
 
@@ -63,19 +63,6 @@ fn after(came: Came, taken: usize) -> Came
     Came {
         used: came.used + taken,
         outcome: came.outcome,
-    }
-}
-
-/// The state after these octets of a header.
-#[inline(always)]
-fn before_body(octets: &[u8]) -> State
-    ensures none { octets.now ≡ [] → result ≡ State.Between }
-    ensures some { 0 < length octets.now → result ≡ State.Header }
-{
-    if octets.is_empty() {
-        State::Between
-    } else {
-        State::Header
     }
 }
 
