@@ -84,7 +84,7 @@ def octets_of(path):
 
 def checks_of_llrp(program, folder):
     """Yields whether ./llrp runs the program that was built, by its own name and by a link."""
-    version = re.search(r'const VERSION: &str = "([^"]+)"', text_of("crates/llrp_commands/src/arguments.rt"))[1]
+    version = re.search(r'const VERSION: &str = "([^"]+)"', text_of("crates/llrp_commands/src/arguments/commands.rt"))[1]
     link = os.path.join(folder, "link")
     os.symlink(os.path.join(TOP, "llrp"), link)
     for words in ([program], ["./llrp"], [link]):

@@ -127,7 +127,7 @@ def checks_of_figures():
 
 def checks_of_version(program):
     """Yields whether the version is the source's, and said as help is."""
-    version = re.search(r'const VERSION: &str = "([^"]+)"', text_of("crates/llrp_commands/src/arguments.rt"))[1]
+    version = re.search(r'const VERSION: &str = "([^"]+)"', text_of("crates/llrp_commands/src/arguments/commands.rt"))[1]
     done = subprocess.run([program, "--version"], capture_output=True, text=True, timeout=60)
     yield "version", (done.returncode, done.stdout, done.stderr) == (0, f"llrp {version}\n", "")
     alone = subprocess.run([program], capture_output=True, text=True, timeout=60)
