@@ -1,10 +1,10 @@
 #!/usr/bin/env python3
 """Proves the crates of which the program llrp is made, and builds it: crates/llrp/out/llrp.
 
-Crates that do not wait for one another are proved side by side, each by one job, as many as there are processors and memory for
-(at most four); the tables of LLRP, which most crates wait for, by as many jobs as the crates of EPCs leave. What was proved before is kept,
-so only crates that changed and those above them are proved. How far it is goes to standard error: on a terminal one line that changes, else
-a line for each crate. The status is 0 where the program is built, 1 where it is not, and 128 and the signal's number where a signal ends it.
+The tables of LLRP, which most crates wait for, are proved beside the crates of EPCs; then one crate after another, each by as many jobs as
+there are processors and memory for (at most four). What was proved before is kept, so only crates that changed and those above them are
+proved. How far it is goes to standard error: on a terminal one line that changes, else a line for each crate. The status is 0 where the
+program is built, 1 where it is not, and 128 and the signal's number where a signal ends it.
 """
 import os
 import re
@@ -42,7 +42,7 @@ def below(crate, uses):
 
 
 def jobs():
-    """Returns how many crates are proved at a time."""
+    """Returns by how many jobs a crate is proved."""
     with open("/proc/meminfo", encoding="utf-8") as lines:
         free = next(int(line.split()[1]) for line in lines if line.startswith("MemAvailable:"))
     return max(1, min(MOST_JOBS, len(os.sched_getaffinity(0)), free // KILOBYTES_A_JOB))
@@ -55,50 +55,42 @@ def clock(seconds):
 class Progress:
     """Says which crates are being proved, and how long each took."""
 
-    def __init__(self, crates, uses, most):
-        # (in this order they are begun)
-        self.crates = sorted(crates, key=lambda it: len(below(it, uses)))
-        self.uses, self.most, self.done = uses, most, []
+    def __init__(self, crates):
+        self.crates, self.done, self.rows = crates, [], []
         self.began, self.begun = time.monotonic(), {}
         self.is_terminal = sys.stderr.isatty()
-        self.shown, self.last, self.failed = "", None, None
-        self.note_begun()
+        self.shown, self.last = "", None
         sys.stderr.write(f"llrp: proving {len(crates)} crates, and building the program\n")
         sys.stderr.write("llrp: meanwhile, in another terminal: ./llrp --unproved WORDS answers without the proofs\n")
         sys.stderr.flush()
-        if self.is_terminal:
-            self.show()
+
+    def begin(self, *rows):
+        """Notes that the crates of each row are proved one after another, and the rows side by side."""
+        self.rows = rows
+        self.note_begun()
+        self.show()
 
     def running(self):
-        """Returns the crates that are being proved: of the first that are not done, those that wait for none."""
-        first = [it for it in self.crates if it not in self.done][: self.most]
-        return [it for it in first if all(used in self.done for used in self.uses[it])]
+        """Returns the crates that are being proved: of each row the first that is not done."""
+        left = ([it for it in row if it not in self.done] for row in self.rows)
+        return [row[0] for row in left if row]
 
     def note_begun(self):
         for crate in self.running():
             self.begun.setdefault(crate, time.monotonic())
 
     def read(self, line):
-        """Takes a line of a check: a line == and its name comes before what a crate's check wrote where all are checked, and what a check
-        wrote ends in a line on the crate's modules and one that says whether it is proved."""
-        if line.startswith("== "):
-            self.end(is_new=False)
-            self.last = line[3:]
-        elif modules := re.match(r"crate (\w+): modules ", line):
+        """Takes a line of a check. What a check writes of a crate ends in a line on its modules and one that says whether it is proved."""
+        if modules := re.match(r"crate (\w+): modules ", line):
             self.last = modules[1]
         elif line.startswith("logic=proved"):
-            self.end(is_new=True)
-        elif line.startswith("logic=not-proved"):
-            self.failed, self.last = self.last, None
-        elif failed := re.match(r"(\w+): failed \(", line):
-            self.failed = self.failed or failed[1]
+            self.end(self.last, is_new=True)
         elif " waiting for " in line and line.startswith("rt: "):
             self.wipe()
             sys.stderr.write(f"llrp: {line.removeprefix('rt: ')}\n")
 
-    def end(self, is_new):
-        """Notes that the crate that was named last is done. Nothing is said of one that had nothing new to prove."""
-        crate, self.last = self.last, None
+    def end(self, crate, is_new):
+        """Notes that a crate is done. Nothing is said of one that had nothing new to prove."""
         if crate not in self.crates or crate in self.done:
             return
         took = time.monotonic() - self.begun.get(crate, self.began)
@@ -107,12 +99,6 @@ class Progress:
         if is_new and not self.is_terminal:
             sys.stderr.write(f"llrp: proved crate {len(self.done)} of {len(self.crates)}: {crate}, in {clock(took)}\n")
             sys.stderr.flush()
-
-    def tick(self):
-        """Shows how far the check is, and returns whether a crate failed."""
-        self.end(is_new=False)
-        self.show()
-        return self.failed is not None
 
     def show(self):
         """Shows on a terminal what is being proved, in the place of what it showed before."""
@@ -164,12 +150,11 @@ class Run:
 
 
 def lines_of(runs, each_second):
-    """Yields the lines that the commands write, and calls the function while nothing comes, once a second, until each closes its output
-    or the function returns true."""
+    """Yields the lines that the commands write, until each closes its output. It calls the function once a second while nothing comes."""
     while waiting := {it.process.stdout: it for it in runs if it.is_open}:
         ready = select.select(list(waiting), [], [], 1)[0]
-        if not ready and each_second():
-            return
+        if not ready:
+            each_second()
         for it in ready:
             yield from waiting[it].read()
 
@@ -184,56 +169,67 @@ def first_error(text):
     return lines[at : min(end, at + 8)]
 
 
-def tell_failure(text, progress):
-    """Names the crate that failed, and shows its first error."""
-    before, *blocks = re.split(r"(?m)^== (\w+)\n", text)
-    said = dict(zip(blocks[::2], blocks[1::2])).get(progress.failed, before)
-    place = re.search(r"/crates/(\w+)/", "\n".join(first_error(said)))
-    crate = progress.failed or (place[1] if place else PROGRAM)
-    sys.stderr.write(f"llrp: the crate {crate} is not proved, so the program was not built\n")
-    sys.stderr.writelines(f"{line}\n" for line in first_error(said))
+def tell_failure(text, crate):
+    """Says that a crate failed, or the one that its first error is in, and shows that error."""
+    place = re.search(r"/crates/(\w+)/", "\n".join(first_error(text)))
+    sys.stderr.write(f"llrp: the crate {place[1] if place else crate} is not proved, so the program was not built\n")
+    sys.stderr.writelines(f"{line}\n" for line in first_error(text))
 
 
-def prove_lowest(progress, runs):
-    """Proves the tables beside the crates of EPCs. What fails is said by the check of all crates, which comes next."""
-    lowest = [Run(TABLES, "lib", "--jobs", str(progress.most - 1)), Run(EPCS, "lib", "--jobs", "1")]
+def prove_lowest(progress, runs, uses, most):
+    """Proves the tables beside the crates of EPCs. What fails is said by the proofs that come next."""
+    progress.begin([TABLES], [*below(EPCS, uses), EPCS])
+    lowest = [Run(TABLES, "lib", "--jobs", str(most - 1)), Run(EPCS, "lib", "--jobs", "1")]
     runs += lowest
-    for line in lines_of(lowest, progress.tick):
-        if not line.startswith("logic=not-proved"):
-            progress.read(line)
+    for line in lines_of(lowest, progress.show):
+        progress.read(line)
 
 
-def build(progress, runs):
-    """Proves all crates, then builds the program over them. Returns whether it is built."""
-    if progress.most > 2:
-        prove_lowest(progress, runs)
-    proofs = Run(PROGRAM, "all", "check", "--jobs", str(progress.most))
+def prove(crate, progress, runs, most):
+    """Proves a crate over those below it, and returns whether it is proved."""
+    progress.begin([crate])
+    proofs = Run(crate, "check" if crate == PROGRAM else "lib", "--jobs", str(most))
     runs.append(proofs)
-    for line in lines_of([proofs], progress.tick):
+    for line in lines_of([proofs], progress.show):
         progress.read(line)
     progress.wipe()
-    if progress.failed or proofs.end():
-        tell_failure(proofs.text, progress)
+    if proofs.end():
+        tell_failure(proofs.text, crate)
         return False
+    progress.end(crate, is_new=False)
+    return True
+
+
+def link(progress, runs):
+    """Builds the program of the crates that are proved, and returns whether it is there."""
+    progress.begin()
     linking = Run(PROGRAM, "run", "--jobs", "1", "--", "--help")
     runs.append(linking)
     for _ in lines_of([linking], progress.show):
         pass
     progress.wipe()
     if linking.end() or not os.access(f"{TOP}/crates/{PROGRAM}/out/{PROGRAM}", os.X_OK):
-        tell_failure(linking.text, progress)
+        tell_failure(linking.text, PROGRAM)
         return False
     return True
 
 
+def build(progress, runs, uses, most):
+    """Proves all crates, then builds the program over them. Returns whether it is built."""
+    if most > 2:
+        prove_lowest(progress, runs, uses, most)
+    left = [it for it in progress.crates if it not in progress.done]
+    return all(prove(it, progress, runs, most) for it in left) and link(progress, runs)
+
+
 def main():
     uses = dependencies()
-    progress = Progress([*below(PROGRAM, uses), PROGRAM], uses, jobs())
+    progress = Progress([*below(PROGRAM, uses), PROGRAM])
     runs = []
     for it in (signal.SIGINT, signal.SIGTERM, signal.SIGHUP):
         signal.signal(it, lambda number, _: sys.exit(128 + number))
     try:
-        return 0 if build(progress, runs) else 1
+        return 0 if build(progress, runs, uses, jobs()) else 1
     except FileNotFoundError as error:
         sys.stderr.write(f"llrp: {error.filename}: not found; the toolchain's command rt builds the program\n")
         return 1
