@@ -7,7 +7,7 @@ use Rattle.llrp_listing.specs.declared.parse_line.Line.TheVariants as line
 use Rattle.llrp_listing.specs.Private.LineReading.{message_node, parameter_node}
 use Rattle.llrp_listing.specs.NodeLine.{NodeLine, parameter_line}
 use Rattle.llrp_listing.specs.declared.encode.take_line.LineContents.{LineContents}
-use Rattle.llrp_listing.specs.declared.encode.take_line.LineContents.TheVariants.{Message, Parameter}
+use Rattle.llrp_listing.specs.declared.encode.take_line.LineContents.TheVariants.{Message, Parameter, Value}
 use Rattle.llrp_listing.specs.declared.encode.take_line.TakeErr.{TakeErr}
 use Rattle.llrp_listing.specs.declared.encode.take_line.TakeErr.TheVariants.{Refuses, Memory}
 use Rattle.llrp_listing.specs.declared.encode.buffer.EncodeBuffer.{EncodeBuffer}
@@ -18,10 +18,12 @@ use Rattle.llrp_listing.specs.Private.OpenNodes.{OpenNode}
 abbrev pub said_level : LineContents → ℕ
 said_level (Message kind version id fields tail) = 0
 said_level (Parameter level kind fields tail) = level
+said_level (Value level kind value) = level
 
 abbrev pub said_node : LineContents → NodeLine
 said_node (Message kind version id fields tail) = record { kind = kinds.Message kind; numbers = version ∷ id ∷ fields.now; tail = tail.now }
 said_node (Parameter level kind fields tail) = parameter_line kind fields.now tail.now
+said_node (Value level kind value) = parameter_line kind (value ∷ []) []
 
 -- the level of a line that is kept, and what it says
 abbrev pub line_level : Line → ℕ

@@ -265,6 +265,19 @@ fn put_tv(room: &mut Vec<u8>, kind: ParamKind, value: u128) -> Result<Own, Alloc
     }
 }
 
+/// Appends the octets of a parameter's line with one number and no tail.
+#[inline(always)]
+pub fn put_value(room: &mut Vec<u8>, kind: ParamKind, value: u128) -> Result<Own, AllocError>
+    requires { IsSaid (record { kind = Parameter kind; numbers = value ∷ []; tail = [] }) }
+    ensures { IfOk result (λ own. PutsOwn room.old.items room.new.items own
+        (record { kind = Parameter kind; numbers = value ∷ []; tail = [] })) }
+{
+    if !llrp_schema::is_tv(kind) {
+        return put_any(room, kind, &[value], &[]);
+    }
+    put_tv(room, kind, value)
+}
+
 /// Appends the octets of a parameter's line.
 #[inline(always)]
 pub fn put_parameter(
@@ -286,12 +299,6 @@ pub fn put_parameter(
                 return put_any(room, kind, values, tail);
             }
             put_bare(room, kind)
-        }
-        [value] => {
-            if !llrp_schema::is_tv(kind) {
-                return put_any(room, kind, values, tail);
-            }
-            put_tv(room, kind, *value)
         }
         _ => put_any(room, kind, values, tail),
     }

@@ -1,18 +1,18 @@
 //! Takes a line that was read: closes the lines at its level or deeper, puts its octets after those
 //! of its parents, and opens it.
 
-ghost use Rattle.std.specs.Prelude.{◌≡◌, ◌∷◌, IfErr, OnOk, []};
-ghost use Rattle.llrp_schema.specs.declared.kinds.Kind.TheVariants.{Message, Parameter};
+ghost use Rattle.std.specs.Prelude.{◌≡◌, IfErr, IfOk, OnOk};
 ghost use Rattle.llrp_listing.specs.Private.OpenNodes.{IsSaid};
+ghost use Rattle.llrp_listing.specs.Private.LineOctets.{PutsOwn};
 ghost use Rattle.llrp_listing.specs.Private.ShortLines.{short_level, short_node};
 ghost use Rattle.llrp_listing.specs.Private.TakingLines.{RestsDeep, TakeFails, Takes, line_level, line_node, said_level, said_node};
 
 use crate::encode::buffer::{EncodeBuffer, Refused};
-use crate::encode::line_octets::{begun_by, put_message, put_parameter};
+use crate::encode::line_octets::{Own, begun_by, put_message, put_parameter, put_value};
 use crate::encode::read_short_line::ShortLine;
 use crate::parse_line::Line;
 use llrp_schema::{Kind, MsgKind, ParamKind};
-use std::slice::from_ref;
+use std::alloc::AllocError;
 
 /// What a line says, wherever it is kept.
 #[derive(Clone, Copy)]
@@ -29,6 +29,12 @@ pub enum LineContents<'a> {
         kind: ParamKind,
         fields: &'a [u128],
         tail: &'a [u8],
+    },
+    /// A parameter's line with one number and no tail.
+    Value {
+        level: usize,
+        kind: ParamKind,
+        value: u128,
     },
 }
 
@@ -56,21 +62,21 @@ pub fn said_by(line: &Line) -> LineContents<'_>
 
 /// What a line that was read by the short way says.
 #[inline(always)]
-pub fn said_short(line: &ShortLine) -> LineContents<'_>
-    ensures level { said_level result ≡ short_level line.now }
-    ensures says { said_node result ≡ short_node line.now }
+pub fn said_short<'a>(line: ShortLine) -> LineContents<'a>
+    ensures level { said_level result ≡ short_level line }
+    ensures says { said_node result ≡ short_node line }
 {
     match line {
         ShortLine::Message { kind, version, id } => LineContents::Message {
-            kind: *kind,
-            version: *version,
-            id: *id,
+            kind,
+            version,
+            id,
             fields: &[],
             tail: &[],
         },
         ShortLine::Bare { level, kind } => LineContents::Parameter {
-            level: *level,
-            kind: *kind,
+            level,
+            kind,
             fields: &[],
             tail: &[],
         },
@@ -78,11 +84,10 @@ pub fn said_short(line: &ShortLine) -> LineContents<'_>
             level,
             kind,
             number,
-        } => LineContents::Parameter {
-            level: *level,
-            kind: *kind,
-            fields: from_ref(number),
-            tail: &[],
+        } => LineContents::Value {
+            level,
+            kind,
+            value: number,
         },
     }
 }
@@ -96,73 +101,51 @@ pub enum TakeErr {
     Memory,
 }
 
-/// Takes a parameter's line.
+/// The kind of a line.
 #[inline(always)]
-pub fn take_parameter(
-    writer: &mut EncodeBuffer,
-    level: usize,
-    number: u64,
-    kind: ParamKind,
-    values: &[u128],
-    tail: &[u8],
-) -> Result<(), TakeErr>
-    requires said { IsSaid (record {
-      kind = Parameter kind;
-      numbers = values.now;
-      tail = tail.now;
-    }) }
-    requires stands { RestsDeep writer.old level }
-    ensures taken { OnOk result (Takes writer.old writer.new level
-        (record { kind = Parameter kind; numbers = values.now; tail = tail.now }) number) }
-    ensures limit { writer.new.limit ≡ writer.old.limit }
-    ensures stopped { IfErr result (TakeFails writer.old writer.new level) }
+fn kind_of(said: LineContents<'_>) -> Kind
+    ensures { result ≡ (said_node said.entry).kind }
 {
-    let at = writer.room.len();
-    match put_parameter(&mut writer.room, kind, values, tail) {
-        Err(_) => Err(TakeErr::Memory),
-        Ok(own) => {
-            let begun = begun_by(Kind::Parameter(kind), number, own);
-            match writer.open_line(level, begun.held, begun.put, at) {
-                Ok(()) => Ok(()),
-                Err(refused) => Err(TakeErr::Refuses(refused)),
-            }
+    match said {
+        LineContents::Message { kind, .. } => Kind::Message(kind),
+        LineContents::Parameter { kind, .. } | LineContents::Value { kind, .. } => {
+            Kind::Parameter(kind)
         }
     }
 }
 
-/// Takes a message's line.
+/// The level of a line.
 #[inline(always)]
-pub fn take_message(
-    writer: &mut EncodeBuffer,
-    number: u64,
-    kind: MsgKind,
-    version: u8,
-    id: u32,
-    values: &[u128],
-    tail: &[u8],
-) -> Result<(), TakeErr>
-    requires said { IsSaid (record {
-      kind = Message kind;
-      numbers = version ∷ id
-          ∷ values.now;
-      tail = tail.now;
-    }) }
-    requires stands { RestsDeep writer.old 0 }
-    ensures taken { OnOk result (Takes writer.old writer.new 0
-        (record { kind = Message kind; numbers = version ∷ id ∷ values.now; tail = tail.now }) number) }
-    ensures limit { writer.new.limit ≡ writer.old.limit }
-    ensures stopped { IfErr result (TakeFails writer.old writer.new 0) }
+fn level_of(said: LineContents<'_>) -> usize
+    ensures { result ≡ said_level said.entry }
 {
-    let at = writer.room.len();
-    match put_message(&mut writer.room, kind, version, id, values, tail) {
-        Err(_) => Err(TakeErr::Memory),
-        Ok(own) => {
-            let begun = begun_by(Kind::Message(kind), number, own);
-            match writer.open_line(0, begun.held, begun.put, at) {
-                Ok(()) => Ok(()),
-                Err(refused) => Err(TakeErr::Refuses(refused)),
-            }
-        }
+    match said {
+        LineContents::Message { .. } => 0,
+        LineContents::Parameter { level, .. } | LineContents::Value { level, .. } => level,
+    }
+}
+
+/// Appends the octets of a line.
+#[inline(always)]
+fn put_line(room: &mut Vec<u8>, said: LineContents<'_>) -> Result<Own, AllocError>
+    requires { IsSaid (said_node said) }
+    ensures { IfOk result (λ own. PutsOwn room.old.items room.new.items own (said_node said.entry)) }
+{
+    match said {
+        LineContents::Message {
+            kind,
+            version,
+            id,
+            fields,
+            tail,
+        } => put_message(room, kind, version, id, fields, tail),
+        LineContents::Parameter {
+            kind,
+            fields,
+            tail,
+            ..
+        } => put_parameter(room, kind, fields, tail),
+        LineContents::Value { kind, value, .. } => put_value(room, kind, value),
     }
 }
 
@@ -176,19 +159,15 @@ pub fn take(writer: &mut EncodeBuffer, number: u64, said: LineContents<'_>) -> R
     ensures limit { writer.new.limit ≡ writer.old.limit }
     ensures stopped { IfErr result (TakeFails writer.old writer.new (said_level said.entry)) }
 {
-    match said {
-        LineContents::Message {
-            kind,
-            version,
-            id,
-            fields,
-            tail,
-        } => take_message(writer, number, kind, version, id, fields, tail),
-        LineContents::Parameter {
-            level,
-            kind,
-            fields,
-            tail,
-        } => take_parameter(writer, level, number, kind, fields, tail),
+    let at = writer.room.len();
+    match put_line(&mut writer.room, said) {
+        Err(_) => Err(TakeErr::Memory),
+        Ok(own) => {
+            let begun = begun_by(kind_of(said), number, own);
+            match writer.open_line(level_of(said), begun.held, begun.put, at) {
+                Ok(()) => Ok(()),
+                Err(refused) => Err(TakeErr::Refuses(refused)),
+            }
+        }
     }
 }
