@@ -1,5 +1,5 @@
 -- How a call of the library ends: the code that it returns, and the name of that code.
-use Rattle.std.specs.Prelude.{ℕ, ◌==◌, List, [], ◌∷◌, ◌++◌, Option, find, codes}
+use Rattle.std.specs.Prelude.{ℕ, ◌==◌, List, [], ◌∷◌, Option, find, codes}
 use Rattle.tag_epc.specs.declared.fault.WordReason.{WordReason}
 use Rattle.tag_epc.specs.declared.fault.WordReason.TheVariants as word
 use Rattle.tag_epc.specs.Faults.{word_fault_name}

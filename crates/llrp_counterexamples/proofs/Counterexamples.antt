@@ -1,7 +1,6 @@
 -- Lists of events that lead two ends with a mistake to where they do not agree, computed on the world: limit 65,536, first ids 1.
 use Rattle.std.proofs.Common.{◌≡◌, ◌≤◌, refl, ap, ◌∙◌, List, [], ◌∷◌, ◌++◌, length, arith}
 use Rattle.std.specs.Prelude.{Bool, true, false, negsuc}
-use Rattle.llrp_schema.specs.declared.kinds.ParamKind.TheVariants.{RoSpec, RoBoundarySpec, RoSpecStartTrigger, RoSpecStopTrigger}
 use Rattle.llrp_schema.specs.Schema.{number_of, rule_of, param_rule, fields_of, tail_of, is_tv, key_of, profile_of}
 use Rattle.llrp_tree.specs.Tree.{Tree}
 use Rattle.llrp_tree.specs.Lawful.{body_octets}
@@ -17,7 +16,7 @@ use Rattle.llrp_session.specs.Sightings.{tags_of}
 use Rattle.llrp_session.specs.Calls.World.{World, run, happens}
 use Rattle.llrp_session.specs.World.{WorldEvent, Connects, Commands, DeliversUp, DeliversDown, Sees, Ticks}
 use Rattle.llrp_session.specs.Calls.Agreement.{OneActive, ReportsArrive, ViewIsTable}
-use Rattle.llrp_session.proofs.Examples.{node, rospec, immediate_rospec, reporting_rospec, sighting_of, first_sighting}
+use Rattle.llrp_session.proofs.Examples.{immediate_rospec, reporting_rospec, sighting_of, first_sighting}
 use Rattle.llrp_counterexamples.specs.Calls.WrongMachines.{AfterAllBy, right, happens_by, run_by, moves_on_failure, hands_out_first, tells_end_last, starts_beside}
 
 -- ---- the same world

@@ -12,7 +12,6 @@ use Rattle.llrp_tree.proofs.LengthLemmas.{length-message_digits}
 use Rattle.llrp_tree.proofs.ReadDigits.{length-octets_at, are_octets_at, octets_spelled}
 use Rattle.llrp_stream.specs.Cuts.{IsPartial}
 use Rattle.llrp_session.specs.Refusal.{Refusal}
-use Rattle.llrp_session.specs.MessageAgreement.{IsTaken}
 use Rattle.llrp_session.specs.MessageAgreement.{MessagesAreTaken, IsOnTheWay, ReaderHasHistory, OneActive, NoneDiffers}
 use Rattle.llrp_session.specs.ClientMachine.{Client, Taking, take as client_takes}
 use Rattle.llrp_session.specs.ReaderMachine.{Reader}

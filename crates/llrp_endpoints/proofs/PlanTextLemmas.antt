@@ -3,7 +3,7 @@ use Rattle.std.proofs.Common.{◌≡◌, ℕ, suc, ◌==◌, ◌<◌, ◌≤◌,
 use Rattle.std.proofs.lemmas.Bool.Decides.{nat_tests}
 use Rattle.std.proofs.lemmas.Fmt.{decimal_digit}
 use Rattle.std.proofs.lemmas.List.{append-nil}
-use Rattle.std.specs.Prelude.{codes, decimal, ◌||◌, Option, Some, None, IfErr}
+use Rattle.std.specs.Prelude.{codes, decimal, Option, Some, None, IfErr}
 use Rattle.std.specs.List.{AllZip, flat_map}
 use Rattle.std.specs.Io.KnownBytes.{Appends, Consumes, IsAtEnd}
 use Rattle.llrp_schema.specs.declared.kinds.MsgKind.{MsgKind}
@@ -11,10 +11,10 @@ use Rattle.llrp_schema.specs.declared.kinds.MsgKind.TheVariants.{AddRoSpec}
 use Rattle.llrp_schema.specs.declared.kinds.ParamKind.TheVariants.{RoSpec}
 use Rattle.llrp_schema.specs.declared.kinds.Kind.TheVariants.{Message}
 use Rattle.llrp_schema.specs.declared.kinds.Profile.TheVariants.{Own}
-use Rattle.llrp_schema.specs.Schema.{GroupRule, one, fields_of, groups_of, rule_of, message_rule, tail_of, profile_of, name_of, number_of, key_of}
+use Rattle.llrp_schema.specs.Schema.{one, fields_of, groups_of, rule_of, message_rule, tail_of, profile_of, name_of, number_of, key_of}
 use Rattle.llrp_tree.specs.declared.fault.Fault.{Fault}
 use Rattle.llrp_tree.specs.Tree.{Forest, none, and, Tree, MessageTree, trees, forest}
-use Rattle.llrp_tree.specs.Lawful.{is_member, count, ArePlaced, NoneTooMany, NoneMissing, IsLawfulMessage}
+use Rattle.llrp_tree.specs.Lawful.{count, ArePlaced, NoneTooMany, NoneMissing, IsLawfulMessage}
 use Rattle.llrp_tree.specs.Frame.{Frame}
 use Rattle.llrp_tree.specs.FirstFault.{FirstFaultIn}
 use Rattle.llrp_tree.proofs.TreeLemmas.{forest-trees}
@@ -24,7 +24,7 @@ use Rattle.llrp_stream.specs.Device.{SourceLog, SinkLog}
 use Rattle.llrp_stream.specs.Items.{FrameIn, id_field}
 use Rattle.llrp_stream.proofs.FrontLemmas.{length_field-append}
 use Rattle.llrp_stream.proofs.Unique.{same_item}
-use Rattle.llrp_session.proofs.OnlyRoSpec.{last_of, or_none, all_members, nothing}
+use Rattle.llrp_session.proofs.OnlyRoSpec.{last_of, all_members, nothing}
 use Rattle.llrp_listing.specs.declared.outcome.Refusal.{Refusal}
 use Rattle.llrp_listing.specs.declared.outcome.ToolErr.{ToolErr}
 use Rattle.llrp_listing.specs.declared.outcome.ToolErr.TheVariants.{Listing}

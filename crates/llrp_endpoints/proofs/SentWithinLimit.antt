@@ -14,7 +14,6 @@ use Rattle.llrp_session.specs.Refusal.{Refusal}
 use Rattle.llrp_session.specs.declared.types.Command.{Command}
 use Rattle.llrp_session.specs.declared.types.Taken.{Taken}
 use Rattle.llrp_session.specs.declared.types.Taken.TheVariants.{Connected, Refused, Reply, Tags, Table, Differs, Event, Note, Kept, Closed as ConnectionEnded}
-use Rattle.llrp_session.specs.Contents.{ClientMessage}
 use Rattle.llrp_session.specs.ClientMachine.{Sending, Taking, command, take}
 use Rattle.llrp_session.specs.ClientMessages.{client_message}
 use Rattle.llrp_session.specs.Reading.{heard_of}
@@ -24,7 +23,6 @@ use Rattle.llrp_session.specs.Calls.ReadWords.{greatest}
 use Rattle.llrp_session.proofs.ReadFields.{field_within}
 use Rattle.llrp_session.specs.Calls.LawfulStates.{AreLawfulClientMessages}
 use Rattle.llrp_session.specs.Calls.MessageWorld.{AreSendable}
-use Rattle.llrp_session.proofs.LawfulMessages.{client_sends}
 use Rattle.llrp_session.proofs.LawfulClients.{command_is_lawful, answer_is_lawful}
 use Rattle.llrp_session.proofs.MessageWorlds.{Says, says_taken}
 use Rattle.llrp_listing.specs.declared.outcome.ToolErr.TheVariants.{Peer, Strange}

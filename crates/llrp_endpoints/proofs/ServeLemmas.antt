@@ -1,5 +1,5 @@
 -- Serving a client over a source and a sink.
-use Rattle.std.proofs.Common.{◌≡◌, ℕ, Bool, true, false, List, [], ◌++◌, Result, Ok, Err, sym, ap, subst, ◌∙◌, append_assoc, inl, inr, arith}
+use Rattle.std.proofs.Common.{◌≡◌, ℕ, Bool, true, false, List, [], ◌++◌, Result, Ok, Err, sym, ap, ◌∙◌, append_assoc, inl, inr, arith}
 use Rattle.llrp_tree.specs.Tree.{MessageTree}
 use Rattle.llrp_stream.specs.Device.{SourceLog, SinkLog, Wrote}
 use Rattle.llrp_session.specs.ReaderMachine.{Reader}
@@ -9,7 +9,7 @@ use Rattle.llrp_endpoints.specs.declared.script.Entry.{Entry}
 use Rattle.llrp_listing.specs.Copying.{ReadAll, WasGiven}
 use Rattle.llrp_listing.specs.Calls.Copying.{Given, GivesNone, Writes}
 use Rattle.llrp_endpoints.specs.Serving.{Standing, waiting}
-use Rattle.llrp_endpoints.specs.Sending.{AreFrames, Adds}
+use Rattle.llrp_endpoints.specs.Sending.{AreFrames}
 use Rattle.llrp_endpoints.specs.Private.Server.{Starts, Feeds, Finishes}
 use Rattle.llrp_endpoints.specs.RunServe.{FirstFrames, RunsSaying, ServedAll}
 use Rattle.llrp_endpoints.proofs.SendingLemmas.{frames_append}

@@ -1,18 +1,14 @@
 -- Bytes as the text of a word.
 use Rattle.std.proofs.Common.{◌≡◌, ℕ, ◌<◌, ◌≤◌, true, List, [], ◌∷◌, Some, None, Ok, Err, ap, ◌∙◌, arith}
 use Rattle.std.specs.Prelude.{Result, MatchResult}
-use Rattle.std.specs.List.{All}
 use Rattle.std.specs.Result.{result_ok}
 use Rattle.std.specs.Str.{IsUtf8}
 use Rattle.std.proofs.lemmas.Bool.{ne_eqb}
-use Rattle.std.proofs.lemmas.List.Elements.{All-nil, All-cons}
-use Rattle.std.proofs.lemmas.Str.{IsUtf8-from_ascii}
-use Rattle.std.proofs.lemmas.Str.Ascii.{IsAscii-from_all}
 use Rattle.std.specs.Borrow.{Bor}
 use Rattle.tag_uri.specs.TagText.{IsTextOf}
 use Rattle.tag_uri.proofs.TextBytes.{is_visible, visible, text_visible}
 use Rattle.llrp_listing.specs.Calls.Splits.{Lacks}
-use Rattle.tag_uri.proofs.UriLemmas.{visible_low, word_text_utf8 as utf8_text, left, right}
+use Rattle.tag_uri.proofs.UriLemmas.{left, right}
 
 -- and neither spaces nor line ends
 visible_lacks : (byte : ℕ) (text : List ℕ) → byte < 33 → visible text ≡ true → Lacks byte text

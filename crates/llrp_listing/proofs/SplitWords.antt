@@ -1,6 +1,6 @@
 -- The words of a line, and what comes before a first byte of a kind.
-use Rattle.std.proofs.Common.{◌≡◌, ℕ, suc, ◌^◌, ◌<◌, ◌≤◌, Bool, true, false, List, [], ◌∷◌, ◌++◌, Option, Some, None, refl, sym, ap, subst, ◌∙◌, arith, decimal, ℤ, pos, negsuc}
-use Rattle.std.specs.Prelude.{◌==◌, ◌&&◌, FitsSigned, MatchOption}
+use Rattle.std.proofs.Common.{◌≡◌, ℕ, suc, ◌^◌, ◌<◌, ◌≤◌, true, false, List, [], ◌∷◌, ◌++◌, Option, Some, None, refl, sym, ap, subst, ◌∙◌, arith, decimal, ℤ, pos, negsuc}
+use Rattle.std.specs.Prelude.{◌==◌, FitsSigned, MatchOption}
 use Rattle.std.specs.Char.{is_ascii_digit}
 use Rattle.std.specs.Fmt.{signed_decimal}
 use Rattle.std.specs.Int.{w8}

@@ -1,7 +1,6 @@
 -- A client that is given what fits sends what fits.
-use Rattle.std.proofs.Common.{◌≡◌, ℕ, ◌+◌, ◌^◌, ◌<◌, ◌≤◌, refl, Bool, true, false, cond, List, arith}
-use Rattle.std.specs.Prelude.{◌==◌, nat_lt, Option, None, Some, is_some, Result, IfOk}
-use Rattle.std.proofs.lemmas.Bool.Decides.{nat_tests}
+use Rattle.std.proofs.Common.{◌≡◌, ℕ, ◌+◌, ◌^◌, ◌<◌, refl, Bool, true, false, cond, List, arith}
+use Rattle.std.specs.Prelude.{◌==◌, Option, None, Some, is_some, Result, IfOk}
 use Rattle.llrp_tree.specs.Tree.{Tree}
 use Rattle.llrp_tree.specs.Lawful.{tree_octets}
 use Rattle.llrp_session.specs.RoSpec.{rospec_of}

@@ -1,5 +1,5 @@
 -- A child that begins, and a node that is closed, as steps of the open tree that is read.
-use Rattle.std.proofs.Common.{◌≡◌, ℕ, suc, ◌+◌, ◌-◌, ◌*◌, ◌<◌, ◌≤◌, ◌⊎◌, inl, inr, Bool, true, false, List, [], ◌∷◌, ◌++◌, length, drop, Option, Some, refl, sym, ap, subst, ◌∙◌, arith, length-drop}
+use Rattle.std.proofs.Common.{◌≡◌, ℕ, suc, ◌+◌, ◌-◌, ◌*◌, ◌<◌, ◌≤◌, ◌⊎◌, inl, inr, Bool, true, false, List, [], ◌∷◌, ◌++◌, length, drop, Option, refl, sym, ap, subst, ◌∙◌, arith, length-drop}
 use Rattle.std.specs.Prelude.{nat_le, reverse}
 use Rattle.std.proofs.lemmas.List.{reverse-append, length-reverse}
 use Rattle.tag_bits.specs.Digits.{digits_of_bytes}
@@ -12,7 +12,7 @@ use Rattle.llrp_tree.specs.declared.fault.Reason.TheVariants.{Missing}
 use Rattle.llrp_tree.specs.Tree.{Forest}
 use Rattle.llrp_tree.specs.Spelling.{Head, message, tlv, tv}
 use Rattle.llrp_tree.specs.OpenTree.{root_of, Begun, kind_of_head, groups, due, Rest, is_enough, IsHead, IsOpenTree}
-use Rattle.llrp_tree.specs.FirstFault.{first_digit, has_none, tv_kind, first_failing, checks, Close, has_ended}
+use Rattle.llrp_tree.specs.FirstFault.{first_digit, has_none, tv_kind, Close, has_ended}
 use Rattle.llrp_tree.specs.Calls.Standing.{IsAt, begin_node, leading}
 use Rattle.llrp_tree.specs.Private.Standing.{Closes, Tells, KindPasses, TlvPasses, is_tv_kind}
 use Rattle.llrp_tree.proofs.Steps.{closed}

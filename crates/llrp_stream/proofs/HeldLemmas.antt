@@ -12,7 +12,7 @@ use Rattle.llrp_schema.specs.Schema.{fields_of, tail_of, is_tv}
 use Rattle.llrp_tree.specs.Tree.{Forest}
 use Rattle.llrp_tree.specs.Lawful.{head_octets}
 use Rattle.llrp_tree.specs.Spelling.{Head, message, tlv, tv, head_digits, field_digits, tail_digits, forest_digits}
-use Rattle.llrp_tree.specs.OpenTree.{Begun, kind_of_head, leading_digits, part, covers, Rest, due, tail_due, plain_values, AreLeading, IsHead, IsOpenNode, IsOpenTree}
+use Rattle.llrp_tree.specs.OpenTree.{Begun, kind_of_head, leading_digits, part, covers, Rest, due, tail_due, plain_values, AreLeading, IsOpenNode, IsOpenTree}
 use Rattle.llrp_tree.specs.Calls.Standing.{begin_node, leading}
 use Rattle.llrp_tree.specs.Weight.{weight}
 use Rattle.llrp_tree.specs.Private.Weight.{open_weight}

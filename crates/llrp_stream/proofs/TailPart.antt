@@ -43,7 +43,6 @@ use Rattle.llrp_stream.specs.Calls.Reading.{HasReadTo, bit_of, settled, IsAtStag
 use Rattle.llrp_stream.specs.Private.Reading.{rank, work}
 use Rattle.llrp_stream.proofs.Reached.{root_tells, stands_in, reaches_in}
 use Rattle.llrp_stream.proofs.Bounds.{covered_length}
-use Rattle.llrp_stream.proofs.CoveredOctets.{outer_within}
 use Rattle.llrp_stream.proofs.WaitLemmas.{count_waits, tail_waits}
 use Rattle.llrp_stream.proofs.TextLemmas.{take_take, valid_is_text, valid_is, not_text}
 use Rattle.llrp_tree.proofs.Undecided.{header_covered as after_header}

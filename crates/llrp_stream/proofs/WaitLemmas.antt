@@ -8,7 +8,7 @@ use Rattle.llrp_schema.specs.declared.kinds.Tail.{Tail}
 use Rattle.llrp_schema.specs.declared.kinds.Tail.TheVariants.{Absent, Words, Text, Bits, Data}
 use Rattle.llrp_schema.specs.Schema.{FieldRule, fields_of, tail_of}
 use Rattle.llrp_tree.specs.Spelling.{Head}
-use Rattle.llrp_tree.specs.OpenTree.{Begun, kind_of_head, groups, has_tail, plain_values, due, Rest, covers}
+use Rattle.llrp_tree.specs.OpenTree.{Begun, kind_of_head, groups, has_tail, plain_values, due, Rest}
 use Rattle.llrp_tree.specs.FirstFault.{NextPart, ReadField, ReadTail, BeginTv, BeginTlv, next_part, turn_of, tail_end, first_digit, has_none, has_ended}
 use Rattle.llrp_tree.specs.Calls.Standing.{leading}
 use Rattle.llrp_tree.proofs.LastPart.{field_turn, tail_turn}

@@ -10,8 +10,8 @@ use Rattle.llrp_tree.specs.Tree.{Forest, MessageTree, none}
 use Rattle.llrp_tree.specs.Lawful.{AreOctets}
 use Rattle.llrp_stream.specs.Items.{FrameIn}
 use Rattle.llrp_tree.specs.Spelling.{Head, message, tlv, tv}
-use Rattle.llrp_tree.specs.OpenTree.{root_of, Begun, plain_values, is_enough, IsHead, IsOpenTree}
-use Rattle.llrp_tree.specs.Calls.Standing.{IsAt, begin_node, end_of}
+use Rattle.llrp_tree.specs.OpenTree.{root_of, Begun, plain_values, is_enough, IsHead}
+use Rattle.llrp_tree.specs.Calls.Standing.{IsAt, begin_node}
 use Rattle.llrp_tree.specs.Private.Standing.{Closes}
 use Rattle.std.proofs.lemmas.Bool.{le-leb, leb-true}
 use Rattle.llrp_tree.specs.Calls.Header.{HasHeaderIn}

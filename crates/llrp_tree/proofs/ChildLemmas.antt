@@ -22,7 +22,7 @@ use Rattle.llrp_tree.specs.declared.fault.FrameErr.TheVariants.{Memory, Bad}
 use Rattle.llrp_tree.specs.Tree.{Forest}
 use Rattle.llrp_tree.specs.Lawful.{AreOctets, has_place}
 use Rattle.llrp_tree.specs.Spelling.{Head, message, tlv, tv}
-use Rattle.llrp_tree.specs.OpenTree.{root_of, Begun, kind_of_head, due, Rest, takes_more, MayBegin, IsHead, IsOpenTree}
+use Rattle.llrp_tree.specs.OpenTree.{root_of, Begun, kind_of_head, due, Rest, takes_more, MayBegin, IsHead}
 use Rattle.llrp_tree.specs.FirstFault.{number, tail_at, tail_end, tv_kind, tlv_kind, tlv_octets, first_digit, Check, first_failing, tail_checks, kind_checks, tlv_checks, checks, NextPart, Close, NoChild, BeginTv, BeginTlv, next_part, has_ended, has_none}
 use Rattle.llrp_tree.specs.Calls.Standing.{IsAt, begin_node, leading}
 use Rattle.llrp_tree.specs.Private.Standing.{FailsFirst, Tells, KindPasses, TlvPasses, TailSpans, is_tv_kind}

@@ -22,7 +22,7 @@ use Rattle.std.specs.Int.{bytes_high_first}
 use Rattle.llrp_schema.specs.Schema.{bits_of, is_tv}
 use Rattle.llrp_tree.proofs.SpellingLemmas.{appends_same, appends_number, whole_number, whole_digits}
 use Rattle.llrp_tree.specs.declared.TheConstants.{LEVELS, MAX_DEPTH}
-use Rattle.llrp_tree.specs.Tree.{Forest, none, and, Tree, MessageTree, add, add_all, forest, trees}
+use Rattle.llrp_tree.specs.Tree.{Forest, none, Tree, MessageTree, add, add_all, forest, trees}
 use Rattle.llrp_tree.specs.Lawful.{octets, head_octets, body_octets, count_octets, levels, AreOctets, AllLawful, tree_octets, message_octets}
 use Rattle.llrp_tree.specs.Calls.Lawful.{own_octets}
 use Rattle.llrp_tree.specs.Spelling.{message, spread, field_digits, count_digits, body_digits, head_of, head_digits, forest_digits, message_digits}

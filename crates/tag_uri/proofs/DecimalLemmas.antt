@@ -3,7 +3,7 @@ use Rattle.std.proofs.Common.{◌≡◌, ℕ, zero, suc, ◌+◌, ◌-◌, ◌*�
 use Rattle.std.specs.Prelude.{decimal}
 use Rattle.std.proofs.Math.Nat.{pow-suc, one-le-pow, mod-eq_of_lt, div-eq_of_lt, pow-le-pow_right}
 use Rattle.std.proofs.Math.Arith.{mod-mul}
-use Rattle.std.proofs.lemmas.Nat.{same_from_place, shr_split, mod_below, pow_pos}
+use Rattle.std.proofs.lemmas.Nat.{same_from_place}
 use Rattle.std.proofs.lemmas.Fmt.{digits_decimal, digits_value-decimal, decimal-digits_value, length-decimal-le, decimal_nonempty}
 use Rattle.std.proofs.lemmas.Str.Parse.{IsDigitsTest, IsNumeralModel, WeighsDigits, numerals_by_weight, digits_value_short, parse_digits}
 use Rattle.std.specs.Str.Parse.{ParsesUnsigned}
@@ -12,7 +12,6 @@ use Rattle.std.specs.Prelude.{replicate, true, false, nat_lt, ◌==◌}
 use Rattle.tag_uri.specs.Calls.Decimal.{AreDigits, IsPadded, IsPlain}
 use Rattle.tag_uri.specs.Decimal.{decimal_value, padded}
 use Rattle.tag_uri.specs.TagText.{is_zero_led}
-use Rattle.tag_epc.proofs.UnfitLemmas.{below_shifted as shifted_below}
 
 weighs : WeighsDigits decimal_value
 unfolding decimal_value

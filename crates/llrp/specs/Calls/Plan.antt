@@ -1,5 +1,5 @@
 -- The plan that the words ask for, and why they have none.
-use Rattle.std.specs.Prelude.{◌≡◌, ℕ, ◌⊎◌, Bool, false, ◌&&◌, ◌||◌, ◌==◌, List, ◌++◌, Option, Some, None, is_some, unwrap_or, Result, Ok, Err, codes, if◌then◌else◌}
+use Rattle.std.specs.Prelude.{◌≡◌, ℕ, ◌⊎◌, Bool, false, ◌&&◌, ◌||◌, ◌==◌, List, Option, Some, None, is_some, unwrap_or, Result, Ok, Err, codes, if◌then◌else◌}
 use Rattle.llrp_stream.specs.Device.{SourceLog, SinkLog, Wrote, WroteAndFailed}
 use Rattle.llrp_listing.specs.declared.outcome.ToolErr.{ToolErr}
 use Rattle.llrp_listing.specs.declared.outcome.ToolErr.TheVariants as tool

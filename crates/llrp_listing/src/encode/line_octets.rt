@@ -213,7 +213,8 @@ fn value_fault(rule: &Field, value: u128) -> Option<NodeFault>
     None
 }
 
-/// Whether the lines of a kind have no field and no tail.
+/// Whether the lines of a kind have no field and no tail. Where this is false a line takes the
+/// general way, so only speed depends on it.
 #[inline(always)]
 pub fn is_bare(kind: Kind) -> bool
     ensures fields { IsTrue result → fields_of kind ≡ [] }

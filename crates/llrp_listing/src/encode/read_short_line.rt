@@ -175,7 +175,8 @@ fn name_end(line: &[u8], text: &[u8], kind: Kind) -> Option<usize>
     Some(end)
 }
 
-/// The level of a parameter's line, which has one digit and a space after it.
+/// The level of a parameter's line, which has one digit and a space after it. A line for which this
+/// is `None` is read word by word.
 #[inline(always)]
 pub fn level_ahead(line: &[u8], depth: usize) -> Option<usize>
     ensures starts { IfSome result (λ level. line.now ≡ (48 + level) ∷ 32 ∷ drop 2 line.now) }
@@ -251,7 +252,7 @@ fn other_kind(set: Profile, line: &[u8]) -> Option<(ParamKind, usize)>
 }
 
 /// The kind of a parameter's line at the start of a text, and the place after its name. The kind
-/// that is expected is tried first.
+/// that is expected is tried first. A line for which this is `None` is read word by word.
 #[inline(always)]
 pub fn kind_ahead(line: &[u8], text: &[u8], guess: &Guess) -> Option<(ParamKind, usize)>
     requires text { take (length line.now) text.now ≡ line.now }

@@ -1,7 +1,7 @@
 -- Beside Decimal: what contracts say that no promise rests on.
 use Rattle.std.specs.Prelude.{◌≡◌, ℕ, ◌^◌, ◌<◌, ◌≤◌, List, [], ◌∷◌, length}
 use Rattle.std.specs.Int.{IsInRange}
-use Rattle.tag_uri.specs.Decimal.{decimal_value, padded}
+use Rattle.tag_uri.specs.Decimal.{decimal_value}
 
 -- characters 0 to 9
 abbrev pub AreDigits : List ℕ → Type 0
