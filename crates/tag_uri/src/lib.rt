@@ -33,4 +33,4 @@ pub use parse_uri::parse;
 pub use print_uri::{print, put_tag_uri};
 pub use put_digits::{count_of_few, pair};
 pub use read_digits::{number_of_last, plain_between};
-pub use word_text::{print_raw, put_text_of_word, text_of_word, word_of_text};
+pub use word_text::{print_raw, put_text_of_word, text_of_word, word_of_octets, word_of_text};

@@ -13,21 +13,62 @@ use tag_epc::kind::{GID_CLASS_BITS, GID_MANAGER_BITS, GID_SERIAL_BITS, KINDS};
 use tag_epc::scheme::Scheme;
 use tag_epc::{Kind, Parts, at_scheme};
 
+/// What follows the start of each tag URI.
+#[inline(always)]
+fn behind_start(text: &[u8]) -> Option<&[u8]>
+    ensures { IfSome result (λ rest. text.now ≡ tag_start ++ rest.now) }
+{
+    let [
+        b'u',
+        b'r',
+        b'n',
+        b':',
+        b'e',
+        b'p',
+        b'c',
+        b':',
+        b't',
+        b'a',
+        b'g',
+        b':',
+        rest @ ..,
+    ] = text
+    else {
+        return None;
+    };
+    Some(rest)
+}
+
+/// What follows the octets with which a text begins.
+#[inline(always)]
+fn behind<'a>(text: &'a [u8], start: &[u8]) -> Option<&'a [u8]>
+    ensures { IfSome result (λ rest. text.now ≡ start.now ++ rest.now) }
+{
+    if text.len() < start.len() {
+        return None;
+    }
+    let (front, rest) = text.split_at(start.len());
+    if front != start {
+        return None;
+    }
+    Some(rest)
+}
+
 /// The parts of the EPC of a tag URI. `None` does not mean that the text is refused: it is then read
 /// by the rules, so only speed depends on when it comes.
 #[inline(always)]
-pub(crate) fn quick_parts(text: &str) -> Option<Parts>
+pub(crate) fn quick_parts(text: &[u8]) -> Option<Parts>
     ensures lawful { IfSome result (λ parts. IsLawfulEpc parts) }
     ensures text { IfSome result (λ parts. text.now ≡ tag_uri parts) }
 {
-    let Some(rest) = text.strip_prefix("urn:epc:tag:") else {
+    let Some(rest) = behind_start(text) else {
         return None;
     };
     let Some((kind, numbers)) = scheme_in_front(rest) else {
         return None;
     };
     let from = rest.len() - numbers.len();
-    let Some(parts) = quick_components(kind, rest.as_bytes(), from) else {
+    let Some(parts) = quick_components(kind, rest, from) else {
         return None;
     };
     Some(parts)
@@ -52,15 +93,15 @@ fn quick_components(kind: Kind, text: &[u8], from: usize) -> Option<Parts>
 /// The scheme at the front of a text, which begins with its name and a colon, and the text after
 /// them.
 #[inline(always)]
-fn scheme_in_front<'a>(text: &'a str) -> Option<(Kind, &'a str)>
+fn scheme_in_front(text: &[u8]) -> Option<(Kind, &[u8])>
     ensures { IfSome result (λ x. text.now ≡ scheme_text x.0 x.1.now) }
 {
     for kind in KINDS {
-        let Some(rest) = text.strip_prefix(kind.name()) else {
+        let Some(rest) = behind(text, kind.name().as_bytes()) else {
             continue;
         };
-        if let Some(rest) = rest.strip_prefix(":") {
-            return Some((kind, rest));
+        if let [b':', numbers @ ..] = rest {
+            return Some((kind, numbers));
         }
     }
     None

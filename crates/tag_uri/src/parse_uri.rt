@@ -34,7 +34,7 @@ fn read(text: &str) -> Result<Parts, UriFault>
     ensures ok { IfOk result (λ parts. text.now ≡ tag_uri parts) }
     ensures err { IfErr result (λ fault. HasTagFault text.now fault) }
 {
-    if let Some(parts) = quick_parts(text) {
+    if let Some(parts) = quick_parts(text.as_bytes()) {
         return Ok(parts);
     }
     match read_by_rules(text) {

@@ -36,7 +36,7 @@ pub fn put_tag_uri(room: &mut [u8], at: usize, epc: &Epc) -> usize
 }
 
 /// Writes the tag URI of the parts of an EPC.
-#[inline]
+#[inline(always)]
 fn put_parts(room: &mut [u8], at: usize, parts: Parts) -> usize
     requires lawful { IsLawfulEpc parts }
     requires room { at + 64 ≤ length room.old }

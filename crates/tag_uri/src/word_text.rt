@@ -1,10 +1,11 @@
 //! Texts of words, and words of texts.
 
-ghost use Rattle.std.specs.Prelude.{◌≡◌, ℕ, ◌+◌, ◌^◌, ◌<◌, ◌≤◌, ◌++◌, List, length, Ok, IfOk, IfErr};
+ghost use Rattle.std.specs.Prelude.{◌≡◌, ℕ, ◌+◌, ◌^◌, ◌<◌, ◌≤◌, ◌++◌, List, length, Ok, IfOk, IfErr, IfSome};
 ghost use Rattle.tag_uri.specs.Room.{HasText};
 ghost use Rattle.tag_uri.specs.TagText.{IsTextOf, HasTextFault, HasRawFault, raw_start, raw_uri};
 
 use crate::fault::UriFault;
+use crate::parse_fast::quick_parts;
 use crate::parse_uri::parse;
 use crate::print_uri::put_tag_uri;
 use crate::put_digits::{put_text, text_before};
@@ -69,6 +70,18 @@ pub fn word_of_text(text: &str) -> Result<Word, UriFault>
         Ok(word) => Ok(word),
         Err(fault) => Err(fault),
     }
+}
+
+/// The word of a tag URI. `None` does not mean that the octets are no text of a word: `word_of_text` then reads them, or says why it
+/// refuses them, so only speed depends on when it comes.
+#[inline(always)]
+pub fn word_of_octets(octets: &[u8]) -> Option<Word>
+    ensures { IfSome result (λ word. IsTextOf word octets.now) }
+{
+    let Some(parts) = quick_parts(octets) else {
+        return None;
+    };
+    Some(Epc::of_parts(parts).to_word())
 }
 
 /// The word of a text, or the first rule that refuses it.

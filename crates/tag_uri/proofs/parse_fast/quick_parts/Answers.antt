@@ -1,7 +1,5 @@
-use Rattle.std.proofs.Common.{arith}
-use Rattle.tag_uri.specs.TagText.{tag_start}
+use Rattle.std.proofs.Common.{arith, refl}
 use Rattle.tag_uri.proofs.QuickLemmas.{behind_colon, whole_read}
-use Rattle.tag_uri.proofs.TextLaws.{begins}
 use Rattle.tag_uri.proofs.parse_fast.quick_parts.Goals as goal
 
 pub overflow_sub-from : goal.overflow_sub-from
@@ -12,5 +10,5 @@ quick_components-requires-clause-ahead c = (behind_colon c.in-Some-scheme_in_fro
 
 pub returns-clause-text : goal.returns-clause-text
 returns-clause-text c =
-    whole_read c.in-Some-scheme_in_front.kind c.args.text.now c.in-Some.rest.now c.as_bytes.result.now c.in-Some-scheme_in_front.numbers.now c.in-Some-quick_components.parts
-    (begins tag_start c.args.text.now c.in-Some.rest.now c.in-Some.ensures.cases) c.in-Some-scheme_in_front.ensures c.as_bytes.ensures.value c.in-Some-quick_components.ensures.text
+    whole_read c.in-Some-scheme_in_front.kind c.args.text.now c.in-Some.rest.now c.in-Some.rest.now c.in-Some-scheme_in_front.numbers.now c.in-Some-quick_components.parts
+    c.in-Some.ensures c.in-Some-scheme_in_front.ensures refl c.in-Some-quick_components.ensures.text

@@ -1,0 +1,4 @@
+pub mod HexLemmas
+pub mod FormLemmas
+pub mod ListLemmas
+pub mod PrefixLemmas

@@ -1,0 +1,10 @@
+pub mod Hexadecimal
+pub mod Forms
+pub mod Faults
+pub mod Answers
+pub mod Objects
+pub mod Wanted
+pub mod Prefixes
+pub mod Company
+pub mod Lists
+pub mod Private

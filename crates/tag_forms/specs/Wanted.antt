@@ -1,0 +1,16 @@
+-- What texts are answered by: the text in a form, or an object of JSON.
+use Rattle.std.specs.Prelude.{ℕ, Bool, List, ◌++◌, codes, Option}
+use Rattle.tag_forms.specs.declared.wanted.Wanted.{Wanted}
+use Rattle.tag_forms.specs.declared.wanted.Wanted.TheVariants.{Text, Object}
+use Rattle.tag_forms.specs.Answers.{IsAnswer}
+use Rattle.tag_forms.specs.Objects.{IsObjectAnswer, refused_as}
+
+-- what is wanted of a text, and whether the text is refused
+abbrev pub IsWantedAnswer : Wanted → ℕ → Option ℕ → List ℕ → Bool → List ℕ → Type 0
+IsWantedAnswer (Text to) filter count text refused answer = IsAnswer to filter count text refused answer
+IsWantedAnswer Object filter count text refused answer = IsObjectAnswer filter count text refused answer
+
+-- what is wanted of a line that is refused by itself, for the reason with this name
+abbrev pub line_refusal : Wanted → List ℕ → List ℕ
+line_refusal (Text to) name = codes "! " ++ name
+line_refusal Object name = refused_as name

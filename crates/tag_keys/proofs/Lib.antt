@@ -1,0 +1,9 @@
+pub mod CheckLemmas
+pub mod FormLemmas
+pub mod PieceLemmas
+pub mod KeyLaws
+pub mod IdLaws
+pub mod BuildLemmas
+pub mod KeyPieces
+pub mod OneFault
+pub mod NumberFaults

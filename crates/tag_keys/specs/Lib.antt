@@ -1,0 +1,5 @@
+pub mod CheckDigit
+pub mod PureIdentity
+pub mod KeyText
+pub mod KeyFaults
+pub mod Private
