@@ -1,3 +1,4 @@
 pub mod SchemaLemmas
 pub mod TableLaws
 pub mod PlaceLemmas
+pub mod ProfileLemmas

@@ -4,13 +4,17 @@ use Rattle.std.proofs.lemmas.Bool.{and_parts, leb-true}
 use Rattle.std.specs.Int.{bit_at}
 use Rattle.std.proofs.lemmas.Nat.Bits.{bit_at_lowest, bit_at-suc, bit_at-zero}
 use Rattle.std.specs.List.{list_all, list_any, All}
+use Rattle.std.specs.Bool.{Decides}
+use Rattle.std.proofs.lemmas.Bool.Decides.{Decides-eqb, Decides-like, same_from_decides}
+use denote.Enum.Bare.{sameb, same_true, true_same}
+use Rattle.llrp_schema.specs.contracts.kinds.ParamKind.{the_type}
 use Rattle.llrp_schema.specs.declared.kinds.ParamKind.{ParamKind}
 use Rattle.llrp_schema.specs.declared.kinds.Kind.{Kind}
 use Rattle.llrp_schema.specs.declared.kinds.Kind.TheVariants.{Parameter}
 use Rattle.llrp_schema.specs.declared.kinds.Place.{Place}
-use Rattle.llrp_schema.specs.declared.kinds.Profile.{Profile}
-use Rattle.llrp_schema.specs.declared.kinds.Profile.TheVariants.{Own, Whole}
-use Rattle.llrp_schema.specs.Schema.{GroupRule, number_of, groups_of, rule_of, message_rule, param_rule, message_kinds, param_kinds, whole_message_kinds, whole_param_kinds, key_of, profile_of}
+use Rattle.llrp_schema.specs.declared.kinds.KindSet.{KindSet}
+use Rattle.llrp_schema.specs.declared.kinds.KindSet.TheVariants.{Profile, Standard}
+use Rattle.llrp_schema.specs.Schema.{GroupRule, number_of, groups_of, rule_of, message_rule, param_rule, message_kinds, param_kinds, whole_message_kinds, whole_param_kinds, key_of, set_of_kind}
 use Rattle.llrp_schema.specs.Schema.{is_member, has_place}
 use Rattle.llrp_schema.specs.Calls.Places.{IsPlace, AreRequired}
 use Rattle.llrp_schema.specs.Private.Places.{further, first_place, least_bits}
@@ -28,7 +32,7 @@ share_none g h = list_all (λ kind. not (is_member h kind)) g.members
 
 -- no two groups of one parent share a kind
 pub parent_apart : (parent : Kind) → pairs_all share_none (groups_of parent) ≡ true
-unfolding groups_of rule_of message_rule param_rule message_kinds param_kinds whole_message_kinds whole_param_kinds number_of key_of profile_of
+unfolding groups_of rule_of message_rule param_rule message_kinds param_kinds whole_message_kinds whole_param_kinds number_of key_of set_of_kind
 parent_apart parent = every_rule (λ row. pairs_all share_none row.groups) (refl, refl) (refl, refl) parent
 
 -- a group that shares none with one that has the kind has it not
@@ -170,37 +174,46 @@ place_some None N P says = tt
 place_some (Some place) N P says = says
 
 -- whether two profiles are the same
-abbrev same_profile : Profile → Profile → Bool
-same_profile Own Own = true
-same_profile Own Whole = false
-same_profile Whole Own = false
-same_profile Whole Whole = true
+abbrev same_set : KindSet → KindSet → Bool
+same_set Profile Profile = true
+same_set Profile Standard = false
+same_set Standard Profile = false
+same_set Standard Standard = true
 
-profiles_same : (p q : Profile) → same_profile p q ≡ true → p ≡ q
-profiles_same Own Own e = refl
-profiles_same Own Whole e = cc e
-profiles_same Whole Own e = cc e
-profiles_same Whole Whole e = refl
+sets_same : (p q : KindSet) → same_set p q ≡ true → p ≡ q
+sets_same Profile Profile e = refl
+sets_same Profile Standard e = cc e
+sets_same Standard Profile e = cc e
+sets_same Standard Standard e = refl
 
-member_profile : (q : Profile) (k : ParamKind) (ms : List ParamKind) → list_all (λ m. same_profile (profile_of (Parameter m)) q) ms ≡ true → list_any (λ m. key_of m == key_of k) ms ≡ true → profile_of (Parameter k) ≡ q
-member_profile q k [] all has = cc has
-member_profile q k (m ∷ ms) all has =
-    let p = and_parts (same_profile (profile_of (Parameter m)) q) (list_all (λ n. same_profile (profile_of (Parameter n)) q) ms) all in
-    (elim (key_of m == key_of k) as (λ b. (key_of m == key_of k) ≡ b → (b || list_any (λ n. key_of n == key_of k) ms) ≡ true → profile_of (Parameter k) ≡ q) [
-      | true ↦ λ e rest. sym (ap (λ x. profile_of (Parameter x)) (param_keys m k (eqb-true (key_of m) (key_of k) e))) ∙ profiles_same (profile_of (Parameter m)) q p.0
-      | false ↦ λ e rest. member_profile q k ms p.1 rest
+member_set : (q : KindSet) (k : ParamKind) (ms : List ParamKind) → list_all (λ m. same_set (set_of_kind (Parameter m)) q) ms ≡ true → list_any (λ m. key_of m == key_of k) ms ≡ true → set_of_kind (Parameter k) ≡ q
+member_set q k [] all has = cc has
+member_set q k (m ∷ ms) all has =
+    let p = and_parts (same_set (set_of_kind (Parameter m)) q) (list_all (λ n. same_set (set_of_kind (Parameter n)) q) ms) all in
+    (elim (key_of m == key_of k) as (λ b. (key_of m == key_of k) ≡ b → (b || list_any (λ n. key_of n == key_of k) ms) ≡ true → set_of_kind (Parameter k) ≡ q) [
+      | true ↦ λ e rest. sym (ap (λ x. set_of_kind (Parameter x)) (param_keys m k (eqb-true (key_of m) (key_of k) e))) ∙ sets_same (set_of_kind (Parameter m)) q p.0
+      | false ↦ λ e rest. member_set q k ms p.1 rest
     ]) refl has
 
-groups_profile : (q : Profile) (k : ParamKind) (gs : List GroupRule) → list_all (λ g. list_all (λ m. same_profile (profile_of (Parameter m)) q) g.members) gs ≡ true → has_place gs k ≡ true → profile_of (Parameter k) ≡ q
-groups_profile q k [] all has = cc has
-groups_profile q k (g ∷ gs) all has =
-    let p = and_parts (list_all (λ m. same_profile (profile_of (Parameter m)) q) g.members) (list_all (λ h. list_all (λ m. same_profile (profile_of (Parameter m)) q) h.members) gs) all in
-    (elim (is_member g k) as (λ b. is_member g k ≡ b → (b || has_place gs k) ≡ true → profile_of (Parameter k) ≡ q) [
-      | true ↦ λ e rest. member_profile q k g.members p.0 e
-      | false ↦ λ e rest. groups_profile q k gs p.1 rest
+groups_set : (q : KindSet) (k : ParamKind) (gs : List GroupRule) → list_all (λ g. list_all (λ m. same_set (set_of_kind (Parameter m)) q) g.members) gs ≡ true → has_place gs k ≡ true → set_of_kind (Parameter k) ≡ q
+groups_set q k [] all has = cc has
+groups_set q k (g ∷ gs) all has =
+    let p = and_parts (list_all (λ m. same_set (set_of_kind (Parameter m)) q) g.members) (list_all (λ h. list_all (λ m. same_set (set_of_kind (Parameter m)) q) h.members) gs) all in
+    (elim (is_member g k) as (λ b. is_member g k ≡ b → (b || has_place gs k) ≡ true → set_of_kind (Parameter k) ≡ q) [
+      | true ↦ λ e rest. member_set q k g.members p.0 e
+      | false ↦ λ e rest. groups_set q k gs p.1 rest
     ]) refl has
 
 -- a child is of its parent's profile
-pub child_profile : (parent : Kind) (k : ParamKind) → has_place (groups_of parent) k ≡ true → profile_of (Parameter k) ≡ profile_of parent
-unfolding groups_of profile_of rule_of message_rule param_rule message_kinds param_kinds whole_message_kinds whole_param_kinds
-child_profile parent k has = groups_profile (profile_of parent) k (groups_of parent) (every_rule (λ row. list_all (λ g. list_all (λ m. same_profile (profile_of (Parameter m)) row.profile) g.members) row.groups) (refl, refl) (refl, refl) parent) has
+pub child_set : (parent : Kind) (k : ParamKind) → has_place (groups_of parent) k ≡ true → set_of_kind (Parameter k) ≡ set_of_kind parent
+unfolding groups_of set_of_kind rule_of message_rule param_rule message_kinds param_kinds whole_message_kinds whole_param_kinds
+child_set parent k has = groups_set (set_of_kind parent) k (groups_of parent) (every_rule (λ row. list_all (λ g. list_all (λ m. same_set (set_of_kind (Parameter m)) row.set) g.members) row.groups) (refl, refl) (refl, refl) parent) has
+
+decides_same : (a b : ParamKind) → Decides (sameb the_type a b) (a ≡ b)
+decides_same a b = (same_true the_type tt a b, true_same the_type a b)
+
+-- two kinds are the same where their keys are
+pub same_by_key : (a b : ParamKind) → sameb the_type a b ≡ (key_of a == key_of b)
+same_by_key a b =
+    same_from_decides _ _ (decides_same a b)
+    (Decides-like _ (param_keys a b) (λ e. ap key_of e) (Decides-eqb (key_of a) (key_of b)))

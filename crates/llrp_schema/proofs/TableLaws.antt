@@ -9,72 +9,72 @@ use Rattle.llrp_schema.specs.declared.kinds.MsgKind.{MsgKind}
 use Rattle.llrp_schema.specs.declared.kinds.MsgKind.TheVariants.{SetReaderConfig}
 use Rattle.llrp_schema.specs.declared.kinds.ParamKind.{ParamKind}
 use Rattle.llrp_schema.specs.declared.kinds.ParamKind.TheVariants.{AntennaId, EpcData, WholeEpcData}
-use Rattle.llrp_schema.specs.declared.kinds.Profile.{Profile}
-use Rattle.llrp_schema.specs.declared.kinds.Profile.TheVariants.{Own, Whole}
+use Rattle.llrp_schema.specs.declared.kinds.KindSet.{KindSet}
+use Rattle.llrp_schema.specs.declared.kinds.KindSet.TheVariants.{Profile, Standard}
 use Rattle.llrp_schema.specs.declared.kinds.Tail.{Tail}
 use Rattle.llrp_schema.specs.declared.kinds.Tail.TheVariants.{Absent, Words, Text, Bits, Data}
 use Rattle.llrp_schema.specs.declared.kinds.Kind.{Kind}
 use Rattle.llrp_schema.specs.declared.kinds.Kind.TheVariants.{Message, Parameter}
-use Rattle.llrp_schema.specs.Schema.{FieldRule, GroupRule, KindRule, any_field, number_of, name_of, fields_of, tail_of, groups_of, rule_of, message_rule, param_rule, message_kinds, param_kinds, is_tv, message_in, tlv_in, tv_in, messages_of, params_of, profile_of, key_of, key_in, whole_message_kinds, whole_param_kinds, bits_of, plain_fields_of}
+use Rattle.llrp_schema.specs.Schema.{FieldRule, GroupRule, KindRule, any_field, number_of, name_of, fields_of, tail_of, groups_of, rule_of, message_rule, param_rule, message_kinds, param_kinds, is_tv, message_in, tlv_in, tv_in, messages_of, params_of, set_of_kind, key_of, key_in, whole_message_kinds, whole_param_kinds, bits_of, plain_fields_of}
 use Rattle.llrp_schema.specs.Calls.Schema.{message_named_in, param_named_in}
 use Rattle.llrp_schema.proofs.SchemaLemmas.{find-all, find-passes, list_all-filter, list_all-thinned, not_true, implied, same_split, All-from_list_all, AllPairs-from_pairs_all, pairs_all}
 
 -- a message is found at its number
-pub message_at_number : (kind : MsgKind) → message_in (profile_of (Message kind)) (number_of (Message kind)) ≡ Some kind
-unfolding profile_of number_of rule_of message_rule message_kinds whole_message_kinds message_in
+pub message_at_number : (kind : MsgKind) → message_in (set_of_kind (Message kind)) (number_of (Message kind)) ≡ Some kind
+unfolding set_of_kind number_of rule_of message_rule message_kinds whole_message_kinds message_in
 message_at_number SetReaderConfig = refl
 message_at_number _ = refl
 
 -- a parameter with type, length and value is found at its number, and no other
-pub tlv_at_number : (kind : ParamKind) → tlv_in (profile_of (Parameter kind)) (number_of (Parameter kind)) ≡ cond (is_tv kind) None (Some kind)
-unfolding profile_of number_of rule_of param_rule param_kinds whole_param_kinds tlv_in is_tv
+pub tlv_at_number : (kind : ParamKind) → tlv_in (set_of_kind (Parameter kind)) (number_of (Parameter kind)) ≡ cond (is_tv kind) None (Some kind)
+unfolding set_of_kind number_of rule_of param_rule param_kinds whole_param_kinds tlv_in is_tv
 tlv_at_number AntennaId = refl
 tlv_at_number _ = refl
 
 -- a parameter with a type and a value alone is found at its number, and no other
-pub tv_at_number : (kind : ParamKind) → tv_in (profile_of (Parameter kind)) (number_of (Parameter kind)) ≡ cond (is_tv kind) (Some kind) None
-unfolding profile_of number_of rule_of param_rule param_kinds whole_param_kinds tv_in is_tv
+pub tv_at_number : (kind : ParamKind) → tv_in (set_of_kind (Parameter kind)) (number_of (Parameter kind)) ≡ cond (is_tv kind) (Some kind) None
+unfolding set_of_kind number_of rule_of param_rule param_kinds whole_param_kinds tv_in is_tv
 tv_at_number AntennaId = refl
 tv_at_number _ = refl
 
 -- a message is found at its name
-pub message_at_name : (kind : MsgKind) → message_named_in (profile_of (Message kind)) (name_of (Message kind)) ≡ Some kind
-unfolding profile_of name_of rule_of message_rule message_kinds whole_message_kinds message_named_in
+pub message_at_name : (kind : MsgKind) → message_named_in (set_of_kind (Message kind)) (name_of (Message kind)) ≡ Some kind
+unfolding set_of_kind name_of rule_of message_rule message_kinds whole_message_kinds message_named_in
 message_at_name SetReaderConfig = refl
 message_at_name _ = refl
 
 -- a parameter is found at its name
-pub param_at_name : (kind : ParamKind) → param_named_in (profile_of (Parameter kind)) (name_of (Parameter kind)) ≡ Some kind
-unfolding profile_of name_of rule_of param_rule param_kinds whole_param_kinds param_named_in
+pub param_at_name : (kind : ParamKind) → param_named_in (set_of_kind (Parameter kind)) (name_of (Parameter kind)) ≡ Some kind
+unfolding set_of_kind name_of rule_of param_rule param_kinds whole_param_kinds param_named_in
 param_at_name AntennaId = refl
 param_at_name _ = refl
 
 -- no message has a parameter's name
-pub no_message_at_name : (p : Profile) (kind : ParamKind) → message_named_in p (name_of (Parameter kind)) ≡ None
+pub no_message_at_name : (p : KindSet) (kind : ParamKind) → message_named_in p (name_of (Parameter kind)) ≡ None
 unfolding name_of rule_of message_rule param_rule message_kinds whole_message_kinds message_named_in
-no_message_at_name Own AntennaId = refl
-no_message_at_name Own _ = refl
-no_message_at_name Whole AntennaId = refl
-no_message_at_name Whole _ = refl
+no_message_at_name Profile AntennaId = refl
+no_message_at_name Profile _ = refl
+no_message_at_name Standard AntennaId = refl
+no_message_at_name Standard _ = refl
 
 -- a test that both lists pass
-both_messages : (test : MsgKind → Bool) → (list_all test message_kinds ≡ true) × (list_all test whole_message_kinds ≡ true) → (p : Profile) → list_all test (messages_of p) ≡ true
-both_messages test pass Own = pass.0
-both_messages test pass Whole = pass.1
+both_messages : (test : MsgKind → Bool) → (list_all test message_kinds ≡ true) × (list_all test whole_message_kinds ≡ true) → (p : KindSet) → list_all test (messages_of p) ≡ true
+both_messages test pass Profile = pass.0
+both_messages test pass Standard = pass.1
 
-both_params : (test : ParamKind → Bool) → (list_all test param_kinds ≡ true) × (list_all test whole_param_kinds ≡ true) → (p : Profile) → list_all test (params_of p) ≡ true
-both_params test pass Own = pass.0
-both_params test pass Whole = pass.1
+both_params : (test : ParamKind → Bool) → (list_all test param_kinds ≡ true) × (list_all test whole_param_kinds ≡ true) → (p : KindSet) → list_all test (params_of p) ≡ true
+both_params test pass Profile = pass.0
+both_params test pass Standard = pass.1
 
 -- a test of rows that passes at every listed message passes at every message
 pub every_message : (test : KindRule → Bool) → (list_all (λ kind. test (rule_of (Message kind))) message_kinds ≡ true) × (list_all (λ kind. test (rule_of (Message kind))) whole_message_kinds ≡ true) → (kind : MsgKind) → test (rule_of (Message kind)) ≡ true
 unfolding message_in
-every_message test pass kind = find-all (λ other. number_of (Message other) == number_of (Message kind)) (λ other. test (rule_of (Message other))) (messages_of (profile_of (Message kind))) kind (both_messages (λ other. test (rule_of (Message other))) pass (profile_of (Message kind))) (message_at_number kind)
+every_message test pass kind = find-all (λ other. number_of (Message other) == number_of (Message kind)) (λ other. test (rule_of (Message other))) (messages_of (set_of_kind (Message kind))) kind (both_messages (λ other. test (rule_of (Message other))) pass (set_of_kind (Message kind))) (message_at_number kind)
 
 -- and one that passes at every listed parameter at every parameter
 pub every_parameter : (test : KindRule → Bool) → (list_all (λ kind. test (rule_of (Parameter kind))) param_kinds ≡ true) × (list_all (λ kind. test (rule_of (Parameter kind))) whole_param_kinds ≡ true) → (kind : ParamKind) → test (rule_of (Parameter kind)) ≡ true
 unfolding param_named_in
-every_parameter test pass kind = find-all (λ other. pointwise nat_eq (name_of (Parameter other)) (name_of (Parameter kind))) (λ other. test (rule_of (Parameter other))) (params_of (profile_of (Parameter kind))) kind (both_params (λ other. test (rule_of (Parameter other))) pass (profile_of (Parameter kind))) (param_at_name kind)
+every_parameter test pass kind = find-all (λ other. pointwise nat_eq (name_of (Parameter other)) (name_of (Parameter kind))) (λ other. test (rule_of (Parameter other))) (params_of (set_of_kind (Parameter kind))) kind (both_params (λ other. test (rule_of (Parameter other))) pass (set_of_kind (Parameter kind))) (param_at_name kind)
 
 -- a test of rows that passes at every listed kind passes at every kind
 pub every_rule : (test : KindRule → Bool) → (list_all (λ kind. test (rule_of (Message kind))) message_kinds ≡ true) × (list_all (λ kind. test (rule_of (Message kind))) whole_message_kinds ≡ true) → (list_all (λ kind. test (rule_of (Parameter kind))) param_kinds ≡ true) × (list_all (λ kind. test (rule_of (Parameter kind))) whole_param_kinds ≡ true) → (kind : Kind) → test (rule_of kind) ≡ true
@@ -82,7 +82,7 @@ every_rule test messages parameters (Message kind) = every_message test messages
 every_rule test messages parameters (Parameter kind) = every_parameter test parameters kind
 
 -- a search by number finds a parameter with a length that has the number
-pub tlv_found_in : (p : Profile) (number : ℕ) (kind : ParamKind) → tlv_in p number ≡ Some kind → (is_tv kind ≡ false) × (number_of (Parameter kind) ≡ number)
+pub tlv_found_in : (p : KindSet) (number : ℕ) (kind : ParamKind) → tlv_in p number ≡ Some kind → (is_tv kind ≡ false) × (number_of (Parameter kind) ≡ number)
 unfolding tlv_in
 tlv_found_in p number kind found = (
   not_true (is_tv kind) (find-all (λ other. number_of (Parameter other) == number) (λ other. not (is_tv other)) (filter (λ other. not (is_tv other)) (params_of p)) kind (list_all-filter (λ other. not (is_tv other)) (params_of p)) found),
@@ -90,130 +90,130 @@ tlv_found_in p number kind found = (
 )
 
 -- and one with a type and a value alone that has the number
-pub tv_found_in : (p : Profile) (number : ℕ) (kind : ParamKind) → tv_in p number ≡ Some kind → (is_tv kind ≡ true) × (number_of (Parameter kind) ≡ number)
+pub tv_found_in : (p : KindSet) (number : ℕ) (kind : ParamKind) → tv_in p number ≡ Some kind → (is_tv kind ≡ true) × (number_of (Parameter kind) ≡ number)
 unfolding tv_in
 tv_found_in p number kind found = (
   find-all (λ other. number_of (Parameter other) == number) is_tv (filter is_tv (params_of p)) kind (list_all-filter is_tv (params_of p)) found,
   eqb-true (number_of (Parameter kind)) number (find-passes (λ other. number_of (Parameter other) == number) (filter is_tv (params_of p)) kind found),
 )
 
-abbrev same_as : Profile → Profile → Bool
-same_as Own Own = true
-same_as Own Whole = false
-same_as Whole Own = false
-same_as Whole Whole = true
+abbrev same_as : KindSet → KindSet → Bool
+same_as Profile Profile = true
+same_as Profile Standard = false
+same_as Standard Profile = false
+same_as Standard Standard = true
 
-same_is : (p q : Profile) → same_as p q ≡ true → p ≡ q
-same_is Own Own e = refl
-same_is Own Whole e = cc e
-same_is Whole Own e = cc e
-same_is Whole Whole e = refl
+same_is : (p q : KindSet) → same_as p q ≡ true → p ≡ q
+same_is Profile Profile e = refl
+same_is Profile Standard e = cc e
+same_is Standard Profile e = cc e
+same_is Standard Standard e = refl
 
-listed_there : (p : Profile) → list_all (λ other. same_as (profile_of (Message other)) p) (messages_of p) ≡ true
-unfolding profile_of rule_of message_rule message_kinds whole_message_kinds
-listed_there Own = refl
-listed_there Whole = refl
+listed_there : (p : KindSet) → list_all (λ other. same_as (set_of_kind (Message other)) p) (messages_of p) ≡ true
+unfolding set_of_kind rule_of message_rule message_kinds whole_message_kinds
+listed_there Profile = refl
+listed_there Standard = refl
 
 -- a search by number finds a message of that profile that has the number
-pub message_found_in : (p : Profile) (number : ℕ) (kind : MsgKind) → message_in p number ≡ Some kind → (profile_of (Message kind) ≡ p) × (number_of (Message kind) ≡ number)
+pub message_found_in : (p : KindSet) (number : ℕ) (kind : MsgKind) → message_in p number ≡ Some kind → (set_of_kind (Message kind) ≡ p) × (number_of (Message kind) ≡ number)
 unfolding message_in
 message_found_in p number kind found = (
-  same_is (profile_of (Message kind)) p (find-all (λ other. number_of (Message other) == number) (λ other. same_as (profile_of (Message other)) p) (messages_of p) kind (listed_there p) found),
+  same_is (set_of_kind (Message kind)) p (find-all (λ other. number_of (Message other) == number) (λ other. same_as (set_of_kind (Message other)) p) (messages_of p) kind (listed_there p) found),
   eqb-true (number_of (Message kind)) number (find-passes (λ other. number_of (Message other) == number) (messages_of p) kind found),
 )
 
 -- each parameter that is listed is of the profile
-params_there : (p : Profile) → list_all (λ other. same_as (profile_of (Parameter other)) p) (params_of p) ≡ true
-unfolding profile_of rule_of param_rule param_kinds whole_param_kinds
-params_there Own = refl
-params_there Whole = refl
+params_there : (p : KindSet) → list_all (λ other. same_as (set_of_kind (Parameter other)) p) (params_of p) ≡ true
+unfolding set_of_kind rule_of param_rule param_kinds whole_param_kinds
+params_there Profile = refl
+params_there Standard = refl
 
--- a search by number finds exactly the message of a profile with the number
-pub message_found : (p : Profile) (number : ℕ) (kind : MsgKind) → (message_in p number ≡ Some kind) ↔ ((profile_of (Message kind) ≡ p) × (number_of (Message kind) ≡ number))
+-- a search by number finds exactly the message of a set of kinds with the number
+pub message_found : (p : KindSet) (number : ℕ) (kind : MsgKind) → (message_in p number ≡ Some kind) ↔ ((set_of_kind (Message kind) ≡ p) × (number_of (Message kind) ≡ number))
 message_found p number kind = (
   message_found_in p number kind,
-  (λ (there, same). ap (λ q. message_in q number) (sym there) ∙ ap (message_in (profile_of (Message kind))) (sym same) ∙ message_at_number kind),
+  (λ (there, same). ap (λ q. message_in q number) (sym there) ∙ ap (message_in (set_of_kind (Message kind))) (sym same) ∙ message_at_number kind),
 )
 
 -- what a search by number finds is of the profile
-tlv_there : (p : Profile) (number : ℕ) (kind : ParamKind) → tlv_in p number ≡ Some kind → profile_of (Parameter kind) ≡ p
+tlv_there : (p : KindSet) (number : ℕ) (kind : ParamKind) → tlv_in p number ≡ Some kind → set_of_kind (Parameter kind) ≡ p
 unfolding tlv_in
-tlv_there p number kind found = same_is (profile_of (Parameter kind)) p (find-all (λ other. number_of (Parameter other) == number) (λ other. same_as (profile_of (Parameter other)) p) (filter (λ other. not (is_tv other)) (params_of p)) kind (list_all-thinned (λ other. same_as (profile_of (Parameter other)) p) (λ other. not (is_tv other)) (params_of p) (params_there p)) found)
+tlv_there p number kind found = same_is (set_of_kind (Parameter kind)) p (find-all (λ other. number_of (Parameter other) == number) (λ other. same_as (set_of_kind (Parameter other)) p) (filter (λ other. not (is_tv other)) (params_of p)) kind (list_all-thinned (λ other. same_as (set_of_kind (Parameter other)) p) (λ other. not (is_tv other)) (params_of p) (params_there p)) found)
 
 -- and among its parameters with a length exactly the one with the number
-pub tlv_found : (p : Profile) (number : ℕ) (kind : ParamKind) → (tlv_in p number ≡ Some kind) ↔ ((profile_of (Parameter kind) ≡ p) × (is_tv kind ≡ false) × (number_of (Parameter kind) ≡ number))
+pub tlv_found : (p : KindSet) (number : ℕ) (kind : ParamKind) → (tlv_in p number ≡ Some kind) ↔ ((set_of_kind (Parameter kind) ≡ p) × (is_tv kind ≡ false) × (number_of (Parameter kind) ≡ number))
 tlv_found p number kind = (
   (λ found. let facts = tlv_found_in p number kind found in (tlv_there p number kind found, facts.0, facts.1)),
-  (λ (there, long, same). ap (λ q. tlv_in q number) (sym there) ∙ ap (tlv_in (profile_of (Parameter kind))) (sym same) ∙ tlv_at_number kind ∙ ap (λ b. cond b None (Some kind)) long),
+  (λ (there, long, same). ap (λ q. tlv_in q number) (sym there) ∙ ap (tlv_in (set_of_kind (Parameter kind))) (sym same) ∙ tlv_at_number kind ∙ ap (λ b. cond b None (Some kind)) long),
 )
 
 -- what a search by number finds is of the profile
-tv_there : (p : Profile) (number : ℕ) (kind : ParamKind) → tv_in p number ≡ Some kind → profile_of (Parameter kind) ≡ p
+tv_there : (p : KindSet) (number : ℕ) (kind : ParamKind) → tv_in p number ≡ Some kind → set_of_kind (Parameter kind) ≡ p
 unfolding tv_in
-tv_there p number kind found = same_is (profile_of (Parameter kind)) p (find-all (λ other. number_of (Parameter other) == number) (λ other. same_as (profile_of (Parameter other)) p) (filter is_tv (params_of p)) kind (list_all-thinned (λ other. same_as (profile_of (Parameter other)) p) is_tv (params_of p) (params_there p)) found)
+tv_there p number kind found = same_is (set_of_kind (Parameter kind)) p (find-all (λ other. number_of (Parameter other) == number) (λ other. same_as (set_of_kind (Parameter other)) p) (filter is_tv (params_of p)) kind (list_all-thinned (λ other. same_as (set_of_kind (Parameter other)) p) is_tv (params_of p) (params_there p)) found)
 
 -- and among those with a type and a value alone exactly the one with the number
-pub tv_found : (p : Profile) (number : ℕ) (kind : ParamKind) → (tv_in p number ≡ Some kind) ↔ ((profile_of (Parameter kind) ≡ p) × (is_tv kind ≡ true) × (number_of (Parameter kind) ≡ number))
+pub tv_found : (p : KindSet) (number : ℕ) (kind : ParamKind) → (tv_in p number ≡ Some kind) ↔ ((set_of_kind (Parameter kind) ≡ p) × (is_tv kind ≡ true) × (number_of (Parameter kind) ≡ number))
 tv_found p number kind = (
   (λ found. let facts = tv_found_in p number kind found in (tv_there p number kind found, facts.0, facts.1)),
-  (λ (there, short, same). ap (λ q. tv_in q number) (sym there) ∙ ap (tv_in (profile_of (Parameter kind))) (sym same) ∙ tv_at_number kind ∙ ap (λ b. cond b (Some kind) None) short),
+  (λ (there, short, same). ap (λ q. tv_in q number) (sym there) ∙ ap (tv_in (set_of_kind (Parameter kind))) (sym same) ∙ tv_at_number kind ∙ ap (λ b. cond b (Some kind) None) short),
 )
 
--- a search by name finds exactly the message of a profile with the name
-pub message_name_found : (p : Profile) (name : List ℕ) (kind : MsgKind) → (message_named_in p name ≡ Some kind) ↔ ((profile_of (Message kind) ≡ p) × (name_of (Message kind) ≡ name))
+-- a search by name finds exactly the message of a set of kinds with the name
+pub message_name_found : (p : KindSet) (name : List ℕ) (kind : MsgKind) → (message_named_in p name ≡ Some kind) ↔ ((set_of_kind (Message kind) ≡ p) × (name_of (Message kind) ≡ name))
 unfolding message_named_in
 message_name_found p name kind = (
   (λ found. (
-    same_is (profile_of (Message kind)) p (find-all (λ other. pointwise nat_eq (name_of (Message other)) name) (λ other. same_as (profile_of (Message other)) p) (messages_of p) kind (listed_there p) found),
+    same_is (set_of_kind (Message kind)) p (find-all (λ other. pointwise nat_eq (name_of (Message other)) name) (λ other. same_as (set_of_kind (Message other)) p) (messages_of p) kind (listed_there p) found),
     same_text (name_of (Message kind)) name (sym (find-passes (λ other. pointwise nat_eq (name_of (Message other)) name) (messages_of p) kind found)),
   )),
-  (λ (there, same). ap (λ q. message_named_in q name) (sym there) ∙ ap (message_named_in (profile_of (Message kind))) (sym same) ∙ message_at_name kind),
+  (λ (there, same). ap (λ q. message_named_in q name) (sym there) ∙ ap (message_named_in (set_of_kind (Message kind))) (sym same) ∙ message_at_name kind),
 )
 
 -- and exactly its parameter with the name
-pub param_name_found : (p : Profile) (name : List ℕ) (kind : ParamKind) → (param_named_in p name ≡ Some kind) ↔ ((profile_of (Parameter kind) ≡ p) × (name_of (Parameter kind) ≡ name))
+pub param_name_found : (p : KindSet) (name : List ℕ) (kind : ParamKind) → (param_named_in p name ≡ Some kind) ↔ ((set_of_kind (Parameter kind) ≡ p) × (name_of (Parameter kind) ≡ name))
 unfolding param_named_in
 param_name_found p name kind = (
   (λ found. (
-    same_is (profile_of (Parameter kind)) p (find-all (λ other. pointwise nat_eq (name_of (Parameter other)) name) (λ other. same_as (profile_of (Parameter other)) p) (params_of p) kind (params_there p) found),
+    same_is (set_of_kind (Parameter kind)) p (find-all (λ other. pointwise nat_eq (name_of (Parameter other)) name) (λ other. same_as (set_of_kind (Parameter other)) p) (params_of p) kind (params_there p) found),
     same_text (name_of (Parameter kind)) name (sym (find-passes (λ other. pointwise nat_eq (name_of (Parameter other)) name) (params_of p) kind found)),
   )),
-  (λ (there, same). ap (λ q. param_named_in q name) (sym there) ∙ ap (param_named_in (profile_of (Parameter kind))) (sym same) ∙ param_at_name kind),
+  (λ (there, same). ap (λ q. param_named_in q name) (sym there) ∙ ap (param_named_in (set_of_kind (Parameter kind))) (sym same) ∙ param_at_name kind),
 )
 
--- no two kinds of one profile have one name
-pub names_in : (a b : Kind) → profile_of a ≡ profile_of b → name_of a ≡ name_of b → a ≡ b
-names_in (Message a) (Message b) there same = ap (λ kind. Message kind) (same_Some a b (sym (message_at_name a) ∙ ap (λ p. message_named_in p (name_of (Message a))) there ∙ ap (message_named_in (profile_of (Message b))) same ∙ message_at_name b))
-names_in (Message a) (Parameter b) there same = absurd (none-some a (sym (no_message_at_name (profile_of (Message a)) b) ∙ ap (message_named_in (profile_of (Message a))) (sym same) ∙ message_at_name a))
-names_in (Parameter a) (Message b) there same = absurd (none-some b (sym (no_message_at_name (profile_of (Message b)) a) ∙ ap (message_named_in (profile_of (Message b))) same ∙ message_at_name b))
-names_in (Parameter a) (Parameter b) there same = ap (λ kind. Parameter kind) (same_Some a b (sym (param_at_name a) ∙ ap (λ p. param_named_in p (name_of (Parameter a))) there ∙ ap (param_named_in (profile_of (Parameter b))) same ∙ param_at_name b))
+-- no two kinds of one set have one name
+pub names_in : (a b : Kind) → set_of_kind a ≡ set_of_kind b → name_of a ≡ name_of b → a ≡ b
+names_in (Message a) (Message b) there same = ap (λ kind. Message kind) (same_Some a b (sym (message_at_name a) ∙ ap (λ p. message_named_in p (name_of (Message a))) there ∙ ap (message_named_in (set_of_kind (Message b))) same ∙ message_at_name b))
+names_in (Message a) (Parameter b) there same = absurd (none-some a (sym (no_message_at_name (set_of_kind (Message a)) b) ∙ ap (message_named_in (set_of_kind (Message a))) (sym same) ∙ message_at_name a))
+names_in (Parameter a) (Message b) there same = absurd (none-some b (sym (no_message_at_name (set_of_kind (Message b)) a) ∙ ap (message_named_in (set_of_kind (Message b))) same ∙ message_at_name b))
+names_in (Parameter a) (Parameter b) there same = ap (λ kind. Parameter kind) (same_Some a b (sym (param_at_name a) ∙ ap (λ p. param_named_in p (name_of (Parameter a))) there ∙ ap (param_named_in (set_of_kind (Parameter b))) same ∙ param_at_name b))
 
--- no two messages of one profile have one number
-pub message_numbers_in : (a b : MsgKind) → profile_of (Message a) ≡ profile_of (Message b) → number_of (Message a) ≡ number_of (Message b) → a ≡ b
-message_numbers_in a b where_ same = same_Some a b (sym (message_at_number a) ∙ ap (λ p. message_in p (number_of (Message a))) where_ ∙ ap (message_in (profile_of (Message b))) same ∙ message_at_number b)
+-- no two messages of one set have one number
+pub message_numbers_in : (a b : MsgKind) → set_of_kind (Message a) ≡ set_of_kind (Message b) → number_of (Message a) ≡ number_of (Message b) → a ≡ b
+message_numbers_in a b where_ same = same_Some a b (sym (message_at_number a) ∙ ap (λ p. message_in p (number_of (Message a))) where_ ∙ ap (message_in (set_of_kind (Message b))) same ∙ message_at_number b)
 
--- no two parameters of one profile have one number
-pub param_numbers_in : (a b : ParamKind) → profile_of (Parameter a) ≡ profile_of (Parameter b) → number_of (Parameter a) ≡ number_of (Parameter b) → a ≡ b
+-- no two parameters of one set have one number
+pub param_numbers_in : (a b : ParamKind) → set_of_kind (Parameter a) ≡ set_of_kind (Parameter b) → number_of (Parameter a) ≡ number_of (Parameter b) → a ≡ b
 param_numbers_in a b where_ same = same_split (is_tv a) (is_tv b) a b
-    (sym (tlv_at_number a) ∙ ap (λ p. tlv_in p (number_of (Parameter a))) where_ ∙ ap (tlv_in (profile_of (Parameter b))) same ∙ tlv_at_number b)
-    (sym (tv_at_number a) ∙ ap (λ p. tv_in p (number_of (Parameter a))) where_ ∙ ap (tv_in (profile_of (Parameter b))) same ∙ tv_at_number b)
+    (sym (tlv_at_number a) ∙ ap (λ p. tlv_in p (number_of (Parameter a))) where_ ∙ ap (tlv_in (set_of_kind (Parameter b))) same ∙ tlv_at_number b)
+    (sym (tv_at_number a) ∙ ap (λ p. tv_in p (number_of (Parameter a))) where_ ∙ ap (tv_in (set_of_kind (Parameter b))) same ∙ tv_at_number b)
 
 -- the number of a parameter fits its header
 small_number : (kind : ParamKind) → number_of (Parameter kind) < 1024
 unfolding number_of rule_of param_rule param_kinds whole_param_kinds
 small_number kind = ltb-true (number_of (Parameter kind)) 1024 (every_parameter (λ row. nat_lt row.number 1024) (refl, refl) kind)
 
-keys_apart : (p q : Profile) (m n : ℕ) → m < 1024 → n < 1024 → key_in p m ≡ key_in q n → (p ≡ q) × (m ≡ n)
-keys_apart Own Own m n small less same = (refl, same)
-keys_apart Own Whole m n small less same = absurd (omega arith)
-keys_apart Whole Own m n small less same = absurd (omega arith)
-keys_apart Whole Whole m n small less same = (refl, omega arith)
+keys_apart : (p q : KindSet) (m n : ℕ) → m < 1024 → n < 1024 → key_in p m ≡ key_in q n → (p ≡ q) × (m ≡ n)
+keys_apart Profile Profile m n small less same = (refl, same)
+keys_apart Profile Standard m n small less same = absurd (omega arith)
+keys_apart Standard Profile m n small less same = absurd (omega arith)
+keys_apart Standard Standard m n small less same = (refl, omega arith)
 
 -- no two parameters have one key
 pub param_keys : (a b : ParamKind) → key_of a ≡ key_of b → a ≡ b
 unfolding key_of
 param_keys a b same =
-    let apart = keys_apart (profile_of (Parameter a)) (profile_of (Parameter b)) (number_of (Parameter a)) (number_of (Parameter b)) (small_number a) (small_number b) same in
+    let apart = keys_apart (set_of_kind (Parameter a)) (set_of_kind (Parameter b)) (number_of (Parameter a)) (number_of (Parameter b)) (small_number a) (small_number b) same in
     param_numbers_in a b apart.0 apart.1
 
 -- the number of a message fits its header
@@ -256,9 +256,9 @@ unfolding name_of rule_of message_rule param_rule message_kinds param_kinds whol
 name_short kind = leb-true (length (name_of kind)) 48 (every_rule (λ row. nat_le (length row.name) 48) (refl, refl) (refl, refl) kind)
 
 -- and 32 at most in the profile
-pub own_name_short : (kind : Kind) → profile_of kind ≡ Own → length (name_of kind) ≤ 32
-unfolding name_of profile_of rule_of message_rule param_rule message_kinds param_kinds whole_message_kinds whole_param_kinds
-own_name_short kind own = leb-true (length (name_of kind)) 32 (implied (same_as (profile_of kind) Own) (nat_le (length (name_of kind)) 32) (every_rule (λ row. not (same_as row.profile Own) || nat_le (length row.name) 32) (refl, refl) (refl, refl) kind) (ap (λ p. same_as p Own) own))
+pub own_name_short : (kind : Kind) → set_of_kind kind ≡ Profile → length (name_of kind) ≤ 32
+unfolding name_of set_of_kind rule_of message_rule param_rule message_kinds param_kinds whole_message_kinds whole_param_kinds
+own_name_short kind own = leb-true (length (name_of kind)) 32 (implied (same_as (set_of_kind kind) Profile) (nat_le (length (name_of kind)) 32) (every_rule (λ row. not (same_as row.set Profile) || nat_le (length row.name) 32) (refl, refl) (refl, refl) kind) (ap (λ p. same_as p Profile) own))
 
 -- the fields of a kind fill whole octets
 pub whole_octets : (kind : Kind) → bits_of (fields_of kind) % 8 ≡ 0
@@ -361,14 +361,14 @@ unfolding is_tv number_of groups_of rule_of param_rule param_kinds whole_param_k
 tv_groups kind short = empty (groups_of (Parameter kind)) (implied (nat_lt (number_of (Parameter kind)) 128) (is_empty (groups_of (Parameter kind))) (every_parameter (λ row. not (nat_lt row.number 128) || is_empty row.groups) (refl, refl) kind) short)
 
 -- whether a rule is of the profile
-abbrev is_own : Profile → Bool
-is_own Own = true
-is_own Whole = false
+abbrev is_own : KindSet → Bool
+is_own Profile = true
+is_own Standard = false
 
 -- a message of the profile has no tail
-pub message_tail : (kind : MsgKind) → profile_of (Message kind) ≡ Own → tail_of (Message kind) ≡ Absent
-unfolding tail_of profile_of rule_of message_rule message_kinds whole_message_kinds
-message_tail kind own = absent (tail_of (Message kind)) (implied (is_own (profile_of (Message kind))) (is_absent (tail_of (Message kind))) (every_message (λ row. not (is_own row.profile) || is_absent row.tail) (refl, refl) kind) (ap is_own own))
+pub message_tail : (kind : MsgKind) → set_of_kind (Message kind) ≡ Profile → tail_of (Message kind) ≡ Absent
+unfolding tail_of set_of_kind rule_of message_rule message_kinds whole_message_kinds
+message_tail kind own = absent (tail_of (Message kind)) (implied (is_own (set_of_kind (Message kind))) (is_absent (tail_of (Message kind))) (every_message (λ row. not (is_own row.set) || is_absent row.tail) (refl, refl) kind) (ap is_own own))
 
 -- the bits of a tail are counted by the one field
 pub bits_field : (kind : ParamKind) → tail_of (Parameter kind) ≡ Bits → fields_of (Parameter kind) ≡ any_field "BitCount" 16 ∷ []
@@ -449,5 +449,5 @@ apart g h test child left right =
 
 -- no kind of child is in two groups of one parent
 pub groups_apart : (kind : Kind) → AllPairs (λ g h. (child : ParamKind) → Contains g.members child → Contains h.members child → ⊥) (groups_of kind)
-unfolding groups_of rule_of message_rule param_rule message_kinds param_kinds number_of key_of profile_of whole_message_kinds whole_param_kinds
+unfolding groups_of rule_of message_rule param_rule message_kinds param_kinds number_of key_of set_of_kind whole_message_kinds whole_param_kinds
 groups_apart kind = AllPairs-from_pairs_all is_apart (λ g h. (child : ParamKind) → Contains g.members child → Contains h.members child → ⊥) apart (groups_of kind) (every_rule (λ row. pairs_all is_apart row.groups) (refl, refl) (refl, refl) kind)

@@ -1,3 +1,4 @@
 -- What public contracts say that no promise of README rests on.
 pub mod Schema
 pub mod Places
+pub mod ProfilePart

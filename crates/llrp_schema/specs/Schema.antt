@@ -1,4 +1,4 @@
--- The messages and parameters of LLRP 1.1 in this profile: each kind's number, name, fields, tail and groups of children, one row a kind.
+-- The messages and parameters of LLRP 1.1, and those of its profile: each kind's number, name, fields, tail and groups of children, one row a kind.
 use Prim.Native.String.{String}
 use Rattle.std.specs.Prelude.{ℕ, Bool, true, false, not, List, [], ◌∷◌, codes, Option, Some, None, filter, find, sum_by, ◌^◌, ◌+◌, ◌-◌, ◌==◌, nat_lt}
 use Rattle.llrp_schema.specs.declared.kinds.MsgKind.{MsgKind}
@@ -7,8 +7,8 @@ use Rattle.llrp_schema.specs.declared.kinds.ParamKind.{ParamKind}
 use Rattle.llrp_schema.specs.declared.kinds.ParamKind.TheVariants.{AntennaId, FirstSeenTimestampUtc, FirstSeenTimestampUptime, LastSeenTimestampUtc, LastSeenTimestampUptime, PeakRssi, ChannelIndex, TagSeenCount, RoSpecId, InventoryParameterSpecId, C1G2Crc, C1G2Pc, Epc96, SpecIndex, AccessSpecId, UtcTimestamp, Uptime, RoSpec, RoBoundarySpec, RoSpecStartTrigger, PeriodicTriggerValue, GpiTriggerValue, RoSpecStopTrigger, AiSpec, AiSpecStopTrigger, TagObservationTrigger, InventoryParameterSpec, KeepaliveSpec, AntennaConfiguration, RfReceiver, RfTransmitter, EventsAndReports, RoReportSpec, TagReportContentSelector, TagReportData, EpcData, ReaderEventNotificationSpec, EventNotificationState, ReaderEventNotificationData, GpiEvent, RoSpecEvent, ReportBufferLevelWarningEvent, ReportBufferOverflowErrorEvent, AiSpecEvent, AntennaEvent, ConnectionAttemptEvent, ConnectionCloseEvent, LlrpStatus, FieldError, ParameterError, C1G2InventoryCommand, C1G2RfControl, C1G2SingulationControl, C1G2EpcMemorySelector, WholeAntennaId, WholeFirstSeenTimestampUtc, WholeFirstSeenTimestampUptime, WholeLastSeenTimestampUtc, WholeLastSeenTimestampUptime, WholePeakRssi, WholeChannelIndex, WholeTagSeenCount, WholeRoSpecId, WholeInventoryParameterSpecId, WholeC1G2Crc, WholeC1G2Pc, WholeEpc96, WholeSpecIndex, WholeClientRequestOpSpecResult, WholeAccessSpecId, WholeOpSpecID, WholeC1G2SingulationDetails, WholeC1g2xpcw1, WholeC1g2xpcw2, WholeUtcTimestamp, WholeUptime, WholeGeneralDeviceCapabilities, WholeReceiveSensitivityTableEntry, WholePerAntennaAirProtocol, WholeGpioCapabilities, WholeLlrpCapabilities, WholeRegulatoryCapabilities, WholeUhfBandCapabilities, WholeTransmitPowerLevelTableEntry, WholeFrequencyInformation, WholeFrequencyHopTable, WholeFixedFrequencyTable, WholePerAntennaReceiveSensitivityRange, WholeRoSpec, WholeRoBoundarySpec, WholeRoSpecStartTrigger, WholePeriodicTriggerValue, WholeGpiTriggerValue, WholeRoSpecStopTrigger, WholeAiSpec, WholeAiSpecStopTrigger, WholeTagObservationTrigger, WholeInventoryParameterSpec, WholeRfSurveySpec, WholeRfSurveySpecStopTrigger, WholeAccessSpec, WholeAccessSpecStopTrigger, WholeAccessCommand, WholeClientRequestOpSpec, WholeClientRequestResponse, WholeLlrpConfigurationStateValue, WholeIdentification, WholeGpoWriteData, WholeKeepaliveSpec, WholeAntennaProperties, WholeAntennaConfiguration, WholeRfReceiver, WholeRfTransmitter, WholeGpiPortCurrentState, WholeEventsAndReports, WholeRoReportSpec, WholeTagReportContentSelector, WholeAccessReportSpec, WholeTagReportData, WholeEpcData, WholeRfSurveyReportData, WholeFrequencyRssiLevelEntry, WholeReaderEventNotificationSpec, WholeEventNotificationState, WholeReaderEventNotificationData, WholeHoppingEvent, WholeGpiEvent, WholeRoSpecEvent, WholeReportBufferLevelWarningEvent, WholeReportBufferOverflowErrorEvent, WholeReaderExceptionEvent, WholeRfSurveyEvent, WholeAiSpecEvent, WholeAntennaEvent, WholeConnectionAttemptEvent, WholeConnectionCloseEvent, WholeLlrpStatus, WholeFieldError, WholeParameterError, WholeC1G2LlrpCapabilities, WholeC1G2UhfRfModeTable, WholeC1G2UhfRfModeTableEntry, WholeC1G2InventoryCommand, WholeC1G2Filter, WholeC1G2TagInventoryMask, WholeC1G2TagInventoryStateAwareFilterAction, WholeC1G2TagInventoryStateUnawareFilterAction, WholeC1G2RfControl, WholeC1G2SingulationControl, WholeC1G2TagInventoryStateAwareSingulationAction, WholeC1G2TagSpec, WholeC1G2TargetTag, WholeC1G2Read, WholeC1G2Write, WholeC1G2Kill, WholeC1G2Lock, WholeC1G2LockPayload, WholeC1G2BlockErase, WholeC1G2BlockWrite, WholeC1G2EpcMemorySelector, WholeC1G2ReadOpSpecResult, WholeC1G2WriteOpSpecResult, WholeC1G2KillOpSpecResult, WholeC1G2LockOpSpecResult, WholeC1G2BlockEraseOpSpecResult, WholeC1G2BlockWriteOpSpecResult, WholeLoopSpec, WholeSpecLoopEvent, WholeC1G2Recommission, WholeC1G2BlockPermalock, WholeC1G2GetBlockPermalockStatus, WholeC1G2RecommissionOpSpecResult, WholeC1G2BlockPermalockOpSpecResult, WholeC1G2GetBlockPermalockStatusOpSpecResult, WholeMaximumReceiveSensitivity, WholeRfSurveyFrequencyCapabilities, WholeCustom}
 use Rattle.llrp_schema.specs.declared.kinds.Kind.{Kind}
 use Rattle.llrp_schema.specs.declared.kinds.Kind.TheVariants.{Message, Parameter}
-use Rattle.llrp_schema.specs.declared.kinds.Profile.{Profile}
-use Rattle.llrp_schema.specs.declared.kinds.Profile.TheVariants.{Own, Whole}
+use Rattle.llrp_schema.specs.declared.kinds.KindSet.{KindSet}
+use Rattle.llrp_schema.specs.declared.kinds.KindSet.TheVariants.{Profile, Standard}
 use Rattle.llrp_schema.specs.declared.kinds.Tail.{Tail}
 use Rattle.llrp_schema.specs.declared.kinds.Tail.TheVariants.{Absent, Words, Text, Bits, Data}
 use Rattle.std.specs.List.{list_any}
@@ -29,7 +29,7 @@ pub record GroupRule : Type 0 where
 
 -- a row of the tables
 pub record KindRule : Type 0 where
-  pub profile : Profile
+  pub set : KindSet
   pub number : ℕ
   pub name : List ℕ
   pub fields : List FieldRule
@@ -82,7 +82,7 @@ any_number kind = record { members = kind ∷ []; least = 0; most = None }
 
 -- a parameter with type, length and value: its number, name, fields, tail and groups
 abbrev tlv : ℕ → String → List FieldRule → Tail → List GroupRule → KindRule
-tlv number name fields tail groups = record { profile = Own; number = number; name = codes name; fields = fields; tail = tail; groups = groups }
+tlv number name fields tail groups = record { set = Profile; number = number; name = codes name; fields = fields; tail = tail; groups = groups }
 
 -- a message: its number, name, fields and groups
 abbrev message : ℕ → String → List FieldRule → List GroupRule → KindRule
@@ -102,7 +102,7 @@ signed_tv number name width = tlv number name (signed name width ∷ []) Absent 
 
 -- a row of the whole standard
 abbrev of_whole : KindRule → KindRule
-of_whole rule = record { profile = Whole; number = rule.number; name = rule.name; fields = rule.fields; tail = rule.tail; groups = rule.groups }
+of_whole rule = record { set = Standard; number = rule.number; name = rule.name; fields = rule.fields; tail = rule.tail; groups = rule.groups }
 
 -- the messages (LLRP 1.1, section 17.1)
 unfoldable pub message_rule : MsgKind → KindRule
@@ -440,7 +440,7 @@ param_rule WholeAccessSpecStopTrigger = of_whole (tlv 208 "AccessSpecStopTrigger
     [])
 param_rule WholeAccessCommand = of_whole (tlv 209 "AccessCommand"
     [] Absent
-    (one WholeC1G2TagSpec ∷ some_of (WholeC1G2Read ∷ WholeC1G2Write ∷ WholeC1G2Kill ∷ WholeC1G2Lock ∷ WholeC1G2BlockErase ∷ WholeC1G2BlockWrite ∷ WholeC1G2Recommission ∷ WholeC1G2BlockPermalock ∷ WholeC1G2GetBlockPermalockStatus ∷ WholeClientRequestOpSpec ∷ []) ∷ any_number WholeCustom ∷ []))
+    (one WholeC1G2TagSpec ∷ some_of (WholeC1G2Read ∷ WholeC1G2Write ∷ WholeC1G2Kill ∷ WholeC1G2Lock ∷ WholeC1G2BlockErase ∷ WholeC1G2BlockWrite ∷ WholeC1G2Recommission ∷ WholeC1G2BlockPermalock ∷ WholeC1G2GetBlockPermalockStatus ∷ WholeClientRequestOpSpec ∷ WholeCustom ∷ []) ∷ []))
 param_rule WholeClientRequestOpSpec = of_whole (tlv 210 "ClientRequestOpSpec"
     (any_field "OpSpecID" 16 ∷ []) Absent
     [])
@@ -670,8 +670,8 @@ rule_of (Message kind) = message_rule kind
 rule_of (Parameter kind) = param_rule kind
 
 -- whether a kind is of the profile or of the whole standard
-unfoldable pub profile_of : Kind → Profile
-profile_of kind = (rule_of kind).profile
+unfoldable pub set_of_kind : Kind → KindSet
+set_of_kind kind = (rule_of kind).set
 
 -- the number that a kind has in a header
 unfoldable pub number_of : Kind → ℕ
@@ -695,11 +695,11 @@ groups_of kind = (rule_of kind).groups
 
 -- the fields that are not reserved
 abbrev pub plain_fields_of : Kind → List FieldRule
-plain_fields_of kind = filter (λ any_field. not any_field.reserved) (fields_of kind)
+plain_fields_of kind = filter (λ rule. not rule.reserved) (fields_of kind)
 
 -- the bits of some fields together
 abbrev pub bits_of : List FieldRule → ℕ
-bits_of fields = sum_by (λ any_field. any_field.width) fields
+bits_of fields = sum_by (λ rule. rule.width) fields
 
 -- whether a parameter has a type and a value alone, with no length: the numbers below 128 are theirs
 unfoldable pub is_tv : ParamKind → Bool
@@ -741,22 +741,22 @@ whole_param_kinds =
     WholeAntennaId ∷ WholeFirstSeenTimestampUtc ∷ WholeFirstSeenTimestampUptime ∷ WholeLastSeenTimestampUtc ∷ WholeLastSeenTimestampUptime ∷ WholePeakRssi ∷ WholeChannelIndex ∷ WholeTagSeenCount ∷ WholeRoSpecId ∷ WholeInventoryParameterSpecId ∷ WholeC1G2Crc ∷ WholeC1G2Pc ∷ WholeEpc96 ∷ WholeSpecIndex ∷ WholeClientRequestOpSpecResult ∷ WholeAccessSpecId ∷ WholeOpSpecID ∷ WholeC1G2SingulationDetails ∷ WholeC1g2xpcw1 ∷ WholeC1g2xpcw2 ∷ WholeUtcTimestamp ∷ WholeUptime ∷ WholeGeneralDeviceCapabilities ∷ WholeReceiveSensitivityTableEntry ∷ WholePerAntennaAirProtocol ∷ WholeGpioCapabilities ∷ WholeLlrpCapabilities ∷ WholeRegulatoryCapabilities ∷ WholeUhfBandCapabilities ∷ WholeTransmitPowerLevelTableEntry ∷ WholeFrequencyInformation ∷ WholeFrequencyHopTable ∷ WholeFixedFrequencyTable ∷ WholePerAntennaReceiveSensitivityRange ∷ WholeRoSpec ∷ WholeRoBoundarySpec ∷ WholeRoSpecStartTrigger ∷ WholePeriodicTriggerValue ∷ WholeGpiTriggerValue ∷ WholeRoSpecStopTrigger ∷ WholeAiSpec ∷ WholeAiSpecStopTrigger ∷ WholeTagObservationTrigger ∷ WholeInventoryParameterSpec ∷ WholeRfSurveySpec ∷ WholeRfSurveySpecStopTrigger ∷ WholeAccessSpec ∷ WholeAccessSpecStopTrigger ∷ WholeAccessCommand ∷ WholeClientRequestOpSpec ∷ WholeClientRequestResponse ∷ WholeLlrpConfigurationStateValue ∷ WholeIdentification ∷ WholeGpoWriteData ∷ WholeKeepaliveSpec ∷ WholeAntennaProperties ∷ WholeAntennaConfiguration ∷ WholeRfReceiver ∷ WholeRfTransmitter ∷ WholeGpiPortCurrentState ∷ WholeEventsAndReports ∷ WholeRoReportSpec ∷ WholeTagReportContentSelector ∷ WholeAccessReportSpec ∷ WholeTagReportData ∷ WholeEpcData ∷ WholeRfSurveyReportData ∷ WholeFrequencyRssiLevelEntry ∷ WholeReaderEventNotificationSpec ∷ WholeEventNotificationState ∷ WholeReaderEventNotificationData ∷ WholeHoppingEvent ∷ WholeGpiEvent ∷ WholeRoSpecEvent ∷ WholeReportBufferLevelWarningEvent ∷ WholeReportBufferOverflowErrorEvent ∷ WholeReaderExceptionEvent ∷ WholeRfSurveyEvent ∷ WholeAiSpecEvent ∷ WholeAntennaEvent ∷ WholeConnectionAttemptEvent ∷ WholeConnectionCloseEvent ∷ WholeLlrpStatus ∷ WholeFieldError ∷ WholeParameterError ∷ WholeC1G2LlrpCapabilities ∷ WholeC1G2UhfRfModeTable ∷ WholeC1G2UhfRfModeTableEntry ∷ WholeC1G2InventoryCommand ∷ WholeC1G2Filter ∷ WholeC1G2TagInventoryMask ∷ WholeC1G2TagInventoryStateAwareFilterAction ∷ WholeC1G2TagInventoryStateUnawareFilterAction ∷ WholeC1G2RfControl ∷ WholeC1G2SingulationControl ∷ WholeC1G2TagInventoryStateAwareSingulationAction ∷ WholeC1G2TagSpec ∷ WholeC1G2TargetTag ∷ WholeC1G2Read ∷ WholeC1G2Write ∷ WholeC1G2Kill ∷ WholeC1G2Lock ∷ WholeC1G2LockPayload ∷ WholeC1G2BlockErase ∷ WholeC1G2BlockWrite ∷ WholeC1G2EpcMemorySelector ∷ WholeC1G2ReadOpSpecResult ∷ WholeC1G2WriteOpSpecResult ∷ WholeC1G2KillOpSpecResult ∷ WholeC1G2LockOpSpecResult ∷ WholeC1G2BlockEraseOpSpecResult ∷ WholeC1G2BlockWriteOpSpecResult ∷ WholeLoopSpec ∷ WholeSpecLoopEvent ∷ WholeC1G2Recommission ∷ WholeC1G2BlockPermalock ∷ WholeC1G2GetBlockPermalockStatus ∷ WholeC1G2RecommissionOpSpecResult ∷ WholeC1G2BlockPermalockOpSpecResult ∷ WholeC1G2GetBlockPermalockStatusOpSpecResult ∷ WholeMaximumReceiveSensitivity ∷ WholeRfSurveyFrequencyCapabilities ∷ WholeCustom ∷ []
 
 -- the messages and the parameters of each
-abbrev pub messages_of : Profile → List MsgKind
-messages_of Own = message_kinds
-messages_of Whole = whole_message_kinds
+abbrev pub messages_of : KindSet → List MsgKind
+messages_of Profile = message_kinds
+messages_of Standard = whole_message_kinds
 
-abbrev pub params_of : Profile → List ParamKind
-params_of Own = param_kinds
-params_of Whole = whole_param_kinds
+abbrev pub params_of : KindSet → List ParamKind
+params_of Profile = param_kinds
+params_of Standard = whole_param_kinds
 
 -- the numbers of the profile stay as they are, those of the whole standard are above them
-abbrev pub key_in : Profile → ℕ → ℕ
-key_in Own number = number
-key_in Whole number = 1024 + number
+abbrev pub key_in : KindSet → ℕ → ℕ
+key_in Profile number = number
+key_in Standard number = 1024 + number
 
 -- a number that no two kinds of parameter share
 unfoldable pub key_of : ParamKind → ℕ
-key_of kind = key_in (profile_of (Parameter kind)) (number_of (Parameter kind))
+key_of kind = key_in (set_of_kind (Parameter kind)) (number_of (Parameter kind))
 
 -- the kind is one of the group's
 abbrev pub is_member : GroupRule → ParamKind → Bool
@@ -767,13 +767,13 @@ abbrev pub has_place : List GroupRule → ParamKind → Bool
 has_place groups kind = list_any (λ g. is_member g kind) groups
 
 -- the message with a number
-unfoldable pub message_in : Profile → ℕ → Option MsgKind
+unfoldable pub message_in : KindSet → ℕ → Option MsgKind
 message_in p number = find (λ kind. number_of (Message kind) == number) (messages_of p)
 
 -- the parameter with type, length and value that has a number
-unfoldable pub tlv_in : Profile → ℕ → Option ParamKind
+unfoldable pub tlv_in : KindSet → ℕ → Option ParamKind
 tlv_in p number = find (λ kind. number_of (Parameter kind) == number) (filter (λ kind. not (is_tv kind)) (params_of p))
 
 -- the parameter with type and value that has a number
-unfoldable pub tv_in : Profile → ℕ → Option ParamKind
+unfoldable pub tv_in : KindSet → ℕ → Option ParamKind
 tv_in p number = find (λ kind. number_of (Parameter kind) == number) (filter is_tv (params_of p))

@@ -1,12 +1,12 @@
-//! Looks up kinds by their names. At most six kinds have names of the same length; these are
-//! compared.
+//! Looks up kinds by their names. At most twelve kinds of a set have names of the same length; these
+//! are compared.
 
 ghost use Rattle.std.specs.Prelude.{◌≡◌, ◌≤◌, ◌==◌, length, filter, find, nat_eq, nat_le, take};
 ghost use Rattle.std.specs.Cmp.Lexicographic.{pointwise};
 ghost use Rattle.llrp_schema.specs.Schema.{name_of, message_kinds, param_kinds, whole_message_kinds, whole_param_kinds};
 ghost use Rattle.llrp_schema.specs.Calls.Schema.{message_with_name, param_with_name, message_named_in, param_named_in};
 
-use crate::kinds::{Kind, MsgKind, ParamKind, Profile};
+use crate::kinds::{Kind, KindSet, MsgKind, ParamKind};
 use crate::labels::label;
 
 /// The message with this name, if the profile has one (LLRP 1.1, section 17.1).
@@ -37,211 +37,24 @@ pub fn param_with_name(name: &[u8]) -> Option<ParamKind>
     first_parameter(parameters_of_length(name.len()), name)
 }
 
-/// The message of a profile with this name, given as octets.
-pub fn msg_with_name_in(profile: Profile, name: &[u8]) -> Option<MsgKind>
-    ensures { result ≡ message_named_in profile name.now }
+/// The message of a set of kinds with this name, given as octets.
+pub fn msg_with_name_in(set: KindSet, name: &[u8]) -> Option<MsgKind>
+    ensures { result ≡ message_named_in set name.now }
 {
-    match profile {
-        Profile::Own => msg_with_name(name),
-        Profile::Whole => first_message(whole_messages(), name),
+    match set {
+        KindSet::Profile => msg_with_name(name),
+        KindSet::Standard => first_message(whole_messages_of_length(name.len()), name),
     }
 }
 
-/// The parameter of a profile with this name, given as octets.
-pub fn param_with_name_in(profile: Profile, name: &[u8]) -> Option<ParamKind>
-    ensures { result ≡ param_named_in profile name.now }
+/// The parameter of a set of kinds with this name, given as octets.
+pub fn param_with_name_in(set: KindSet, name: &[u8]) -> Option<ParamKind>
+    ensures { result ≡ param_named_in set name.now }
 {
-    match profile {
-        Profile::Own => param_with_name(name),
-        Profile::Whole => first_parameter(whole_parameters(), name),
+    match set {
+        KindSet::Profile => param_with_name(name),
+        KindSet::Standard => first_parameter(whole_parameters_of_length(name.len()), name),
     }
-}
-
-/// The messages of the whole standard.
-#[tactic(auto, unfolding(crate::specs::Schema::whole_message_kinds))]
-fn whole_messages() -> &'static [MsgKind]
-    ensures { result.now ≡ whole_message_kinds }
-{
-    &[
-        MsgKind::WholeGetReaderCapabilities,
-        MsgKind::WholeGetReaderConfig,
-        MsgKind::WholeSetReaderConfig,
-        MsgKind::WholeCloseConnectionResponse,
-        MsgKind::WholeGetReaderCapabilitiesResponse,
-        MsgKind::WholeGetReaderConfigResponse,
-        MsgKind::WholeSetReaderConfigResponse,
-        MsgKind::WholeCloseConnection,
-        MsgKind::WholeAddRoSpec,
-        MsgKind::WholeDeleteRoSpec,
-        MsgKind::WholeStartRoSpec,
-        MsgKind::WholeStopRoSpec,
-        MsgKind::WholeEnableRoSpec,
-        MsgKind::WholeDisableRoSpec,
-        MsgKind::WholeGetRoSpecs,
-        MsgKind::WholeAddRoSpecResponse,
-        MsgKind::WholeDeleteRoSpecResponse,
-        MsgKind::WholeStartRoSpecResponse,
-        MsgKind::WholeStopRoSpecResponse,
-        MsgKind::WholeEnableRoSpecResponse,
-        MsgKind::WholeDisableRoSpecResponse,
-        MsgKind::WholeGetRoSpecsResponse,
-        MsgKind::WholeAddAccessSpec,
-        MsgKind::WholeDeleteAccessSpec,
-        MsgKind::WholeEnableAccessSpec,
-        MsgKind::WholeDisableAccessSpec,
-        MsgKind::WholeGetAccessSpecs,
-        MsgKind::WholeClientRequestOp,
-        MsgKind::WholeGetSupportedVersion,
-        MsgKind::WholeSetProtocolVersion,
-        MsgKind::WholeAddAccessSpecResponse,
-        MsgKind::WholeDeleteAccessSpecResponse,
-        MsgKind::WholeEnableAccessSpecResponse,
-        MsgKind::WholeDisableAccessSpecResponse,
-        MsgKind::WholeGetAccessSpecsResponse,
-        MsgKind::WholeClientRequestOpResponse,
-        MsgKind::WholeGetSupportedVersionResponse,
-        MsgKind::WholeSetProtocolVersionResponse,
-        MsgKind::WholeGetReport,
-        MsgKind::WholeRoAccessReport,
-        MsgKind::WholeKeepalive,
-        MsgKind::WholeReaderEventNotification,
-        MsgKind::WholeEnableEventsAndReports,
-        MsgKind::WholeKeepaliveAck,
-        MsgKind::WholeErrorMessage,
-        MsgKind::WholeCustomMessage,
-    ]
-}
-
-/// The parameters of the whole standard.
-#[tactic(auto, unfolding(crate::specs::Schema::whole_param_kinds))]
-fn whole_parameters() -> &'static [ParamKind]
-    ensures { result.now ≡ whole_param_kinds }
-{
-    &[
-        ParamKind::WholeAntennaId,
-        ParamKind::WholeFirstSeenTimestampUtc,
-        ParamKind::WholeFirstSeenTimestampUptime,
-        ParamKind::WholeLastSeenTimestampUtc,
-        ParamKind::WholeLastSeenTimestampUptime,
-        ParamKind::WholePeakRssi,
-        ParamKind::WholeChannelIndex,
-        ParamKind::WholeTagSeenCount,
-        ParamKind::WholeRoSpecId,
-        ParamKind::WholeInventoryParameterSpecId,
-        ParamKind::WholeC1G2Crc,
-        ParamKind::WholeC1G2Pc,
-        ParamKind::WholeEpc96,
-        ParamKind::WholeSpecIndex,
-        ParamKind::WholeClientRequestOpSpecResult,
-        ParamKind::WholeAccessSpecId,
-        ParamKind::WholeOpSpecID,
-        ParamKind::WholeC1G2SingulationDetails,
-        ParamKind::WholeC1g2xpcw1,
-        ParamKind::WholeC1g2xpcw2,
-        ParamKind::WholeUtcTimestamp,
-        ParamKind::WholeUptime,
-        ParamKind::WholeGeneralDeviceCapabilities,
-        ParamKind::WholeReceiveSensitivityTableEntry,
-        ParamKind::WholePerAntennaAirProtocol,
-        ParamKind::WholeGpioCapabilities,
-        ParamKind::WholeLlrpCapabilities,
-        ParamKind::WholeRegulatoryCapabilities,
-        ParamKind::WholeUhfBandCapabilities,
-        ParamKind::WholeTransmitPowerLevelTableEntry,
-        ParamKind::WholeFrequencyInformation,
-        ParamKind::WholeFrequencyHopTable,
-        ParamKind::WholeFixedFrequencyTable,
-        ParamKind::WholePerAntennaReceiveSensitivityRange,
-        ParamKind::WholeRoSpec,
-        ParamKind::WholeRoBoundarySpec,
-        ParamKind::WholeRoSpecStartTrigger,
-        ParamKind::WholePeriodicTriggerValue,
-        ParamKind::WholeGpiTriggerValue,
-        ParamKind::WholeRoSpecStopTrigger,
-        ParamKind::WholeAiSpec,
-        ParamKind::WholeAiSpecStopTrigger,
-        ParamKind::WholeTagObservationTrigger,
-        ParamKind::WholeInventoryParameterSpec,
-        ParamKind::WholeRfSurveySpec,
-        ParamKind::WholeRfSurveySpecStopTrigger,
-        ParamKind::WholeAccessSpec,
-        ParamKind::WholeAccessSpecStopTrigger,
-        ParamKind::WholeAccessCommand,
-        ParamKind::WholeClientRequestOpSpec,
-        ParamKind::WholeClientRequestResponse,
-        ParamKind::WholeLlrpConfigurationStateValue,
-        ParamKind::WholeIdentification,
-        ParamKind::WholeGpoWriteData,
-        ParamKind::WholeKeepaliveSpec,
-        ParamKind::WholeAntennaProperties,
-        ParamKind::WholeAntennaConfiguration,
-        ParamKind::WholeRfReceiver,
-        ParamKind::WholeRfTransmitter,
-        ParamKind::WholeGpiPortCurrentState,
-        ParamKind::WholeEventsAndReports,
-        ParamKind::WholeRoReportSpec,
-        ParamKind::WholeTagReportContentSelector,
-        ParamKind::WholeAccessReportSpec,
-        ParamKind::WholeTagReportData,
-        ParamKind::WholeEpcData,
-        ParamKind::WholeRfSurveyReportData,
-        ParamKind::WholeFrequencyRssiLevelEntry,
-        ParamKind::WholeReaderEventNotificationSpec,
-        ParamKind::WholeEventNotificationState,
-        ParamKind::WholeReaderEventNotificationData,
-        ParamKind::WholeHoppingEvent,
-        ParamKind::WholeGpiEvent,
-        ParamKind::WholeRoSpecEvent,
-        ParamKind::WholeReportBufferLevelWarningEvent,
-        ParamKind::WholeReportBufferOverflowErrorEvent,
-        ParamKind::WholeReaderExceptionEvent,
-        ParamKind::WholeRfSurveyEvent,
-        ParamKind::WholeAiSpecEvent,
-        ParamKind::WholeAntennaEvent,
-        ParamKind::WholeConnectionAttemptEvent,
-        ParamKind::WholeConnectionCloseEvent,
-        ParamKind::WholeLlrpStatus,
-        ParamKind::WholeFieldError,
-        ParamKind::WholeParameterError,
-        ParamKind::WholeC1G2LlrpCapabilities,
-        ParamKind::WholeC1G2UhfRfModeTable,
-        ParamKind::WholeC1G2UhfRfModeTableEntry,
-        ParamKind::WholeC1G2InventoryCommand,
-        ParamKind::WholeC1G2Filter,
-        ParamKind::WholeC1G2TagInventoryMask,
-        ParamKind::WholeC1G2TagInventoryStateAwareFilterAction,
-        ParamKind::WholeC1G2TagInventoryStateUnawareFilterAction,
-        ParamKind::WholeC1G2RfControl,
-        ParamKind::WholeC1G2SingulationControl,
-        ParamKind::WholeC1G2TagInventoryStateAwareSingulationAction,
-        ParamKind::WholeC1G2TagSpec,
-        ParamKind::WholeC1G2TargetTag,
-        ParamKind::WholeC1G2Read,
-        ParamKind::WholeC1G2Write,
-        ParamKind::WholeC1G2Kill,
-        ParamKind::WholeC1G2Lock,
-        ParamKind::WholeC1G2LockPayload,
-        ParamKind::WholeC1G2BlockErase,
-        ParamKind::WholeC1G2BlockWrite,
-        ParamKind::WholeC1G2EpcMemorySelector,
-        ParamKind::WholeC1G2ReadOpSpecResult,
-        ParamKind::WholeC1G2WriteOpSpecResult,
-        ParamKind::WholeC1G2KillOpSpecResult,
-        ParamKind::WholeC1G2LockOpSpecResult,
-        ParamKind::WholeC1G2BlockEraseOpSpecResult,
-        ParamKind::WholeC1G2BlockWriteOpSpecResult,
-        ParamKind::WholeLoopSpec,
-        ParamKind::WholeSpecLoopEvent,
-        ParamKind::WholeC1G2Recommission,
-        ParamKind::WholeC1G2BlockPermalock,
-        ParamKind::WholeC1G2GetBlockPermalockStatus,
-        ParamKind::WholeC1G2RecommissionOpSpecResult,
-        ParamKind::WholeC1G2BlockPermalockOpSpecResult,
-        ParamKind::WholeC1G2GetBlockPermalockStatusOpSpecResult,
-        ParamKind::WholeMaximumReceiveSensitivity,
-        ParamKind::WholeRfSurveyFrequencyCapabilities,
-        ParamKind::WholeCustom,
-    ]
 }
 
 /// Whether the first octets of a text, as many as this, are the name.
@@ -405,6 +218,314 @@ fn longer_parameters(octets: usize) -> &'static [ParamKind]
         ],
         29 => &[ParamKind::ReportBufferLevelWarningEvent],
         30 => &[ParamKind::ReportBufferOverflowErrorEvent],
+        _ => &[],
+    }
+}
+
+/// The messages of the whole standard whose names have this many bytes.
+#[tactic(auto, unfolding(crate::specs::Schema::whole_message_kinds, crate::specs::Schema::name_of, crate::specs::Schema::rule_of, crate::specs::Schema::message_rule))]
+fn whole_messages_of_length(octets: usize) -> &'static [MsgKind]
+    ensures { result.now ≡ filter (λ kind. length (name_of (Kind.Message kind)) == octets)
+        whole_message_kinds }
+{
+    match octets {
+        9 => &[MsgKind::WholeKeepalive],
+        10 => &[MsgKind::WholeAddRoSpec, MsgKind::WholeGetReport],
+        11 => &[MsgKind::WholeStopRoSpec, MsgKind::WholeGetRoSpecs],
+        12 => &[MsgKind::WholeStartRoSpec],
+        13 => &[
+            MsgKind::WholeDeleteRoSpec,
+            MsgKind::WholeEnableRoSpec,
+            MsgKind::WholeKeepaliveAck,
+            MsgKind::WholeErrorMessage,
+        ],
+        14 => &[
+            MsgKind::WholeDisableRoSpec,
+            MsgKind::WholeAddAccessSpec,
+            MsgKind::WholeCustomMessage,
+        ],
+        15 => &[MsgKind::WholeGetAccessSpecs],
+        16 => &[MsgKind::WholeCloseConnection, MsgKind::WholeRoAccessReport],
+        _ => whole_messages_of_length_from_17(octets),
+    }
+}
+
+/// The messages of the whole standard whose names have this many bytes, 17 or more.
+#[tactic(auto, unfolding(crate::specs::Schema::whole_message_kinds, crate::specs::Schema::name_of, crate::specs::Schema::rule_of, crate::specs::Schema::message_rule))]
+fn whole_messages_of_length_from_17(octets: usize) -> &'static [MsgKind]
+    ensures { result.now ≡ filter (λ kind. length (name_of (Kind.Message kind)) == octets)
+        (filter (λ kind. nat_le 17 (length (name_of (Kind.Message kind)))) whole_message_kinds) }
+{
+    match octets {
+        17 => &[
+            MsgKind::WholeGetReaderConfig,
+            MsgKind::WholeSetReaderConfig,
+            MsgKind::WholeDeleteAccessSpec,
+            MsgKind::WholeEnableAccessSpec,
+            MsgKind::WholeClientRequestOp,
+        ],
+        18 => &[MsgKind::WholeDisableAccessSpec],
+        19 => &[MsgKind::WholeAddRoSpecResponse],
+        20 => &[
+            MsgKind::WholeStopRoSpecResponse,
+            MsgKind::WholeGetRoSpecsResponse,
+            MsgKind::WholeSetProtocolVersion,
+        ],
+        21 => &[
+            MsgKind::WholeStartRoSpecResponse,
+            MsgKind::WholeGetSupportedVersion,
+        ],
+        22 => &[
+            MsgKind::WholeDeleteRoSpecResponse,
+            MsgKind::WholeEnableRoSpecResponse,
+        ],
+        23 => &[
+            MsgKind::WholeGetReaderCapabilities,
+            MsgKind::WholeDisableRoSpecResponse,
+            MsgKind::WholeAddAccessSpecResponse,
+        ],
+        24 => &[MsgKind::WholeGetAccessSpecsResponse],
+        25 => &[
+            MsgKind::WholeCloseConnectionResponse,
+            MsgKind::WholeReaderEventNotification,
+            MsgKind::WholeEnableEventsAndReports,
+        ],
+        26 => &[
+            MsgKind::WholeGetReaderConfigResponse,
+            MsgKind::WholeSetReaderConfigResponse,
+            MsgKind::WholeDeleteAccessSpecResponse,
+            MsgKind::WholeEnableAccessSpecResponse,
+            MsgKind::WholeClientRequestOpResponse,
+        ],
+        27 => &[MsgKind::WholeDisableAccessSpecResponse],
+        29 => &[MsgKind::WholeSetProtocolVersionResponse],
+        30 => &[MsgKind::WholeGetSupportedVersionResponse],
+        32 => &[MsgKind::WholeGetReaderCapabilitiesResponse],
+        _ => &[],
+    }
+}
+
+/// The parameters of the whole standard whose names have this many bytes.
+#[tactic(auto, unfolding(crate::specs::Schema::whole_param_kinds, crate::specs::Schema::name_of, crate::specs::Schema::rule_of, crate::specs::Schema::param_rule))]
+fn whole_parameters_of_length(octets: usize) -> &'static [ParamKind]
+    ensures { result.now ≡ filter (λ kind. length (name_of (Kind.Parameter kind)) == octets)
+        whole_param_kinds }
+{
+    match octets {
+        6 => &[
+            ParamKind::WholeEpc96,
+            ParamKind::WholeUptime,
+            ParamKind::WholeRoSpec,
+            ParamKind::WholeAiSpec,
+            ParamKind::WholeCustom,
+        ],
+        7 => &[ParamKind::WholeC1G2Pc, ParamKind::WholeEpcData],
+        8 => &[
+            ParamKind::WholePeakRssi,
+            ParamKind::WholeRoSpecId,
+            ParamKind::WholeC1G2Crc,
+            ParamKind::WholeOpSpecID,
+            ParamKind::WholeGpiEvent,
+            ParamKind::WholeC1G2Read,
+            ParamKind::WholeC1G2Kill,
+            ParamKind::WholeC1G2Lock,
+            ParamKind::WholeLoopSpec,
+        ],
+        9 => &[
+            ParamKind::WholeAntennaId,
+            ParamKind::WholeSpecIndex,
+            ParamKind::WholeC1g2xpcw1,
+            ParamKind::WholeC1g2xpcw2,
+            ParamKind::WholeC1G2Write,
+        ],
+        10 => &[
+            ParamKind::WholeAccessSpec,
+            ParamKind::WholeRfReceiver,
+            ParamKind::WholeLlrpStatus,
+            ParamKind::WholeFieldError,
+            ParamKind::WholeC1G2Filter,
+        ],
+        _ => whole_parameters_of_length_from_11(octets),
+    }
+}
+
+/// The parameters of the whole standard whose names have this many bytes, 11 or more.
+#[tactic(auto, unfolding(crate::specs::Schema::whole_param_kinds, crate::specs::Schema::name_of, crate::specs::Schema::rule_of, crate::specs::Schema::param_rule))]
+fn whole_parameters_of_length_from_11(octets: usize) -> &'static [ParamKind]
+    ensures { result.now ≡ filter (λ kind. length (name_of (Kind.Parameter kind)) == octets)
+        (filter (λ kind. nat_le 11 (length (name_of (Kind.Parameter kind)))) whole_param_kinds) }
+{
+    match octets {
+        11 => &[
+            ParamKind::WholeRoSpecEvent,
+            ParamKind::WholeAiSpecEvent,
+            ParamKind::WholeC1G2TagSpec,
+        ],
+        12 => &[
+            ParamKind::WholeChannelIndex,
+            ParamKind::WholeTagSeenCount,
+            ParamKind::WholeAccessSpecId,
+            ParamKind::WholeUtcTimestamp,
+            ParamKind::WholeRfSurveySpec,
+            ParamKind::WholeGpoWriteData,
+            ParamKind::WholeRoReportSpec,
+            ParamKind::WholeHoppingEvent,
+            ParamKind::WholeAntennaEvent,
+        ],
+        13 => &[
+            ParamKind::WholeAccessCommand,
+            ParamKind::WholeKeepaliveSpec,
+            ParamKind::WholeRfTransmitter,
+            ParamKind::WholeTagReportData,
+            ParamKind::WholeRfSurveyEvent,
+            ParamKind::WholeC1G2RfControl,
+            ParamKind::WholeC1G2TargetTag,
+            ParamKind::WholeSpecLoopEvent,
+        ],
+        14 => &[
+            ParamKind::WholeRoBoundarySpec,
+            ParamKind::WholeIdentification,
+            ParamKind::WholeParameterError,
+            ParamKind::WholeC1G2BlockErase,
+            ParamKind::WholeC1G2BlockWrite,
+        ],
+        _ => whole_parameters_of_length_from_15(octets),
+    }
+}
+
+/// The parameters of the whole standard whose names have this many bytes, 15 or more.
+#[tactic(auto, unfolding(crate::specs::Schema::whole_param_kinds, crate::specs::Schema::name_of, crate::specs::Schema::rule_of, crate::specs::Schema::param_rule))]
+fn whole_parameters_of_length_from_15(octets: usize) -> &'static [ParamKind]
+    ensures { result.now ≡ filter (λ kind. length (name_of (Kind.Parameter kind)) == octets)
+        (filter (λ kind. nat_le 15 (length (name_of (Kind.Parameter kind)))) whole_param_kinds) }
+{
+    match octets {
+        15 => &[
+            ParamKind::WholeGpiTriggerValue,
+            ParamKind::WholeC1G2LockPayload,
+        ],
+        16 => &[
+            ParamKind::WholeGpioCapabilities,
+            ParamKind::WholeLlrpCapabilities,
+            ParamKind::WholeEventsAndReports,
+            ParamKind::WholeAccessReportSpec,
+            ParamKind::WholeC1G2Recommission,
+        ],
+        17 => &[
+            ParamKind::WholeFrequencyHopTable,
+            ParamKind::WholeRoSpecStopTrigger,
+            ParamKind::WholeAiSpecStopTrigger,
+            ParamKind::WholeAntennaProperties,
+        ],
+        18 => &[
+            ParamKind::WholeRoSpecStartTrigger,
+            ParamKind::WholeRfSurveyReportData,
+            ParamKind::WholeC1G2UhfRfModeTable,
+            ParamKind::WholeC1G2BlockPermalock,
+        ],
+        19 => &[
+            ParamKind::WholeUhfBandCapabilities,
+            ParamKind::WholeFixedFrequencyTable,
+            ParamKind::WholeClientRequestOpSpec,
+            ParamKind::WholeGpiPortCurrentState,
+        ],
+        _ => whole_parameters_of_length_from_20(octets),
+    }
+}
+
+/// The parameters of the whole standard whose names have this many bytes, 20 or more.
+#[tactic(auto, unfolding(crate::specs::Schema::whole_param_kinds, crate::specs::Schema::name_of, crate::specs::Schema::rule_of, crate::specs::Schema::param_rule))]
+fn whole_parameters_of_length_from_20(octets: usize) -> &'static [ParamKind]
+    ensures { result.now ≡ filter (λ kind. length (name_of (Kind.Parameter kind)) == octets)
+        (filter (λ kind. nat_le 20 (length (name_of (Kind.Parameter kind)))) whole_param_kinds) }
+{
+    match octets {
+        20 => &[
+            ParamKind::WholeLastSeenTimestampUtc,
+            ParamKind::WholeFrequencyInformation,
+            ParamKind::WholePeriodicTriggerValue,
+            ParamKind::WholeAntennaConfiguration,
+            ParamKind::WholeReaderExceptionEvent,
+            ParamKind::WholeConnectionCloseEvent,
+            ParamKind::WholeC1G2LlrpCapabilities,
+            ParamKind::WholeC1G2InventoryCommand,
+            ParamKind::WholeC1G2TagInventoryMask,
+            ParamKind::WholeC1G2ReadOpSpecResult,
+            ParamKind::WholeC1G2KillOpSpecResult,
+            ParamKind::WholeC1G2LockOpSpecResult,
+        ],
+        21 => &[
+            ParamKind::WholeFirstSeenTimestampUtc,
+            ParamKind::WholePerAntennaAirProtocol,
+            ParamKind::WholeTagObservationTrigger,
+            ParamKind::WholeAccessSpecStopTrigger,
+            ParamKind::WholeClientRequestResponse,
+            ParamKind::WholeC1G2EpcMemorySelector,
+            ParamKind::WholeC1G2WriteOpSpecResult,
+        ],
+        22 => &[
+            ParamKind::WholeC1G2SingulationDetails,
+            ParamKind::WholeRegulatoryCapabilities,
+            ParamKind::WholeInventoryParameterSpec,
+            ParamKind::WholeEventNotificationState,
+            ParamKind::WholeConnectionAttemptEvent,
+            ParamKind::WholeC1G2SingulationControl,
+        ],
+        _ => whole_parameters_of_length_from_23(octets),
+    }
+}
+
+/// The parameters of the whole standard whose names have this many bytes, 23 or more.
+#[tactic(auto, unfolding(crate::specs::Schema::whole_param_kinds, crate::specs::Schema::name_of, crate::specs::Schema::rule_of, crate::specs::Schema::param_rule))]
+fn whole_parameters_of_length_from_23(octets: usize) -> &'static [ParamKind]
+    ensures { result.now ≡ filter (λ kind. length (name_of (Kind.Parameter kind)) == octets)
+        (filter (λ kind. nat_le 23 (length (name_of (Kind.Parameter kind)))) whole_param_kinds) }
+{
+    match octets {
+        23 => &[
+            ParamKind::WholeLastSeenTimestampUptime,
+            ParamKind::WholeRfSurveySpecStopTrigger,
+            ParamKind::WholeFrequencyRssiLevelEntry,
+            ParamKind::WholeC1G2UhfRfModeTableEntry,
+        ],
+        24 => &[
+            ParamKind::WholeFirstSeenTimestampUptime,
+            ParamKind::WholeInventoryParameterSpecId,
+            ParamKind::WholeTagReportContentSelector,
+        ],
+        25 => &[
+            ParamKind::WholeClientRequestOpSpecResult,
+            ParamKind::WholeGeneralDeviceCapabilities,
+            ParamKind::WholeMaximumReceiveSensitivity,
+        ],
+        26 => &[
+            ParamKind::WholeC1G2BlockEraseOpSpecResult,
+            ParamKind::WholeC1G2BlockWriteOpSpecResult,
+        ],
+        27 => &[
+            ParamKind::WholeLlrpConfigurationStateValue,
+            ParamKind::WholeReaderEventNotificationSpec,
+            ParamKind::WholeReaderEventNotificationData,
+            ParamKind::WholeC1G2GetBlockPermalockStatus,
+        ],
+        28 => &[
+            ParamKind::WholeReceiveSensitivityTableEntry,
+            ParamKind::WholeTransmitPowerLevelTableEntry,
+            ParamKind::WholeC1G2RecommissionOpSpecResult,
+        ],
+        29 => &[
+            ParamKind::WholeReportBufferLevelWarningEvent,
+            ParamKind::WholeRfSurveyFrequencyCapabilities,
+        ],
+        30 => &[
+            ParamKind::WholeReportBufferOverflowErrorEvent,
+            ParamKind::WholeC1G2BlockPermalockOpSpecResult,
+        ],
+        33 => &[ParamKind::WholePerAntennaReceiveSensitivityRange],
+        38 => &[ParamKind::WholeC1G2TagInventoryStateAwareFilterAction],
+        39 => &[ParamKind::WholeC1G2GetBlockPermalockStatusOpSpecResult],
+        40 => &[ParamKind::WholeC1G2TagInventoryStateUnawareFilterAction],
+        43 => &[ParamKind::WholeC1G2TagInventoryStateAwareSingulationAction],
         _ => &[],
     }
 }

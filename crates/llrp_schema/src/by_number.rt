@@ -3,13 +3,13 @@
 ghost use Rattle.std.specs.Prelude.{◌≡◌, ◌==◌, not, find, drop, filter};
 ghost use Rattle.llrp_schema.specs.Schema.{number_of, whole_param_kinds, is_tv, message_in, tlv_in, tv_in};
 ghost use Rattle.llrp_schema.specs.Calls.Schema.{message_with_number, tlv_with_number, tv_with_number};
-ghost use Rattle.llrp_schema.specs.declared.kinds.Profile.TheVariants.{Whole};
+ghost use Rattle.llrp_schema.specs.declared.kinds.KindSet.TheVariants.{Standard};
 
-use crate::kinds::{Kind, MsgKind, ParamKind, Profile};
+use crate::kinds::{Kind, KindSet, MsgKind, ParamKind};
 
 /// The message with this number, if the profile has one (LLRP 1.1, section 17.1).
 #[inline(always)]
-#[tactic(auto, unfolding(crate::specs::Schema::message_in, crate::specs::Schema::profile_of, crate::specs::Schema::message_kinds, crate::specs::Schema::number_of, crate::specs::Schema::rule_of, crate::specs::Schema::message_rule))]
+#[tactic(auto, unfolding(crate::specs::Schema::message_in, crate::specs::Schema::set_of_kind, crate::specs::Schema::message_kinds, crate::specs::Schema::number_of, crate::specs::Schema::rule_of, crate::specs::Schema::message_rule))]
 pub fn msg_of(number: u16) -> Option<MsgKind>
     ensures { result ≡ message_with_number number }
 {
@@ -46,7 +46,7 @@ pub fn msg_of(number: u16) -> Option<MsgKind>
 /// The parameter with type, length and value that has this number, if the profile has one (LLRP
 /// 1.1, section 17.2).
 #[inline(always)]
-#[tactic(auto, unfolding(crate::specs::Schema::tlv_in, crate::specs::Schema::profile_of, crate::specs::Schema::param_kinds, crate::specs::Schema::is_tv, crate::specs::Schema::number_of, crate::specs::Schema::rule_of, crate::specs::Schema::param_rule))]
+#[tactic(auto, unfolding(crate::specs::Schema::tlv_in, crate::specs::Schema::set_of_kind, crate::specs::Schema::param_kinds, crate::specs::Schema::is_tv, crate::specs::Schema::number_of, crate::specs::Schema::rule_of, crate::specs::Schema::param_rule))]
 pub fn param_of_tlv(number: u16) -> Option<ParamKind>
     ensures { result ≡ tlv_with_number number }
 {
@@ -97,7 +97,7 @@ pub fn param_of_tlv(number: u16) -> Option<ParamKind>
 /// The parameter with a type and a value alone that has this number, if the profile has one (LLRP
 /// 1.1, section 17.2).
 #[inline(always)]
-#[tactic(auto, unfolding(crate::specs::Schema::tv_in, crate::specs::Schema::profile_of, crate::specs::Schema::param_kinds, crate::specs::Schema::is_tv, crate::specs::Schema::number_of, crate::specs::Schema::rule_of, crate::specs::Schema::param_rule))]
+#[tactic(auto, unfolding(crate::specs::Schema::tv_in, crate::specs::Schema::set_of_kind, crate::specs::Schema::param_kinds, crate::specs::Schema::is_tv, crate::specs::Schema::number_of, crate::specs::Schema::rule_of, crate::specs::Schema::param_rule))]
 pub fn param_of_tv(number: u8) -> Option<ParamKind>
     ensures { result ≡ tv_with_number number }
 {
@@ -137,7 +137,7 @@ pub fn is_tv(kind: ParamKind) -> bool
 #[inline(never)]
 #[tactic(auto, unfolding(crate::specs::Schema::message_in, crate::specs::Schema::whole_message_kinds, crate::specs::Schema::is_tv, crate::specs::Schema::number_of, crate::specs::Schema::rule_of, crate::specs::Schema::message_rule))]
 fn whole_msg_of(number: u16) -> Option<MsgKind>
-    ensures { result ≡ message_in Whole number }
+    ensures { result ≡ message_in Standard number }
 {
     match number {
         1 => Some(MsgKind::WholeGetReaderCapabilities),
@@ -190,14 +190,14 @@ fn whole_msg_of(number: u16) -> Option<MsgKind>
     }
 }
 
-/// The kind of a profile with this number.
+/// The kind of a set with this number.
 #[inline(always)]
-pub fn msg_of_in(profile: Profile, number: u16) -> Option<MsgKind>
-    ensures { result ≡ message_in profile number }
+pub fn msg_of_in(set: KindSet, number: u16) -> Option<MsgKind>
+    ensures { result ≡ message_in set number }
 {
-    match profile {
-        Profile::Own => msg_of(number),
-        Profile::Whole => whole_msg_of(number),
+    match set {
+        KindSet::Profile => msg_of(number),
+        KindSet::Standard => whole_msg_of(number),
     }
 }
 
@@ -205,7 +205,7 @@ pub fn msg_of_in(profile: Profile, number: u16) -> Option<MsgKind>
 #[inline(never)]
 #[tactic(auto, unfolding(crate::specs::Schema::tlv_in, crate::specs::Schema::whole_param_kinds, crate::specs::Schema::is_tv, crate::specs::Schema::number_of, crate::specs::Schema::rule_of, crate::specs::Schema::param_rule))]
 fn whole_param_of_tlv(number: u16) -> Option<ParamKind>
-    ensures { result ≡ tlv_in Whole number }
+    ensures { result ≡ tlv_in Standard number }
 {
     match number {
         128 => Some(ParamKind::WholeUtcTimestamp),
@@ -325,14 +325,14 @@ fn later_whole_tlv(number: u16) -> Option<ParamKind>
     }
 }
 
-/// The kind of a profile with this number.
+/// The kind of a set with this number.
 #[inline(always)]
-pub fn param_of_tlv_in(profile: Profile, number: u16) -> Option<ParamKind>
-    ensures { result ≡ tlv_in profile number }
+pub fn param_of_tlv_in(set: KindSet, number: u16) -> Option<ParamKind>
+    ensures { result ≡ tlv_in set number }
 {
-    match profile {
-        Profile::Own => param_of_tlv(number),
-        Profile::Whole => whole_param_of_tlv(number),
+    match set {
+        KindSet::Profile => param_of_tlv(number),
+        KindSet::Standard => whole_param_of_tlv(number),
     }
 }
 
@@ -340,7 +340,7 @@ pub fn param_of_tlv_in(profile: Profile, number: u16) -> Option<ParamKind>
 #[inline(never)]
 #[tactic(auto, unfolding(crate::specs::Schema::tv_in, crate::specs::Schema::whole_param_kinds, crate::specs::Schema::is_tv, crate::specs::Schema::number_of, crate::specs::Schema::rule_of, crate::specs::Schema::param_rule))]
 fn whole_param_of_tv(number: u8) -> Option<ParamKind>
-    ensures { result ≡ tv_in Whole number }
+    ensures { result ≡ tv_in Standard number }
 {
     match number {
         1 => Some(ParamKind::WholeAntennaId),
@@ -367,13 +367,13 @@ fn whole_param_of_tv(number: u8) -> Option<ParamKind>
     }
 }
 
-/// The kind of a profile with this number.
+/// The kind of a set with this number.
 #[inline(always)]
-pub fn param_of_tv_in(profile: Profile, number: u8) -> Option<ParamKind>
-    ensures { result ≡ tv_in profile number }
+pub fn param_of_tv_in(set: KindSet, number: u8) -> Option<ParamKind>
+    ensures { result ≡ tv_in set number }
 {
-    match profile {
-        Profile::Own => param_of_tv(number),
-        Profile::Whole => whole_param_of_tv(number),
+    match set {
+        KindSet::Profile => param_of_tv(number),
+        KindSet::Standard => whole_param_of_tv(number),
     }
 }

@@ -289,11 +289,11 @@ impl From<ParamKind> for Kind {
 
 /// Which messages and parameters there are.
 #[derive(Clone, Copy, Debug, PartialEq, Eq)]
-pub enum Profile {
+pub enum KindSet {
     /// Those of an inventory with tag reports.
-    Own,
+    Profile,
     /// All of LLRP 1.1.
-    Whole,
+    Standard,
 }
 
 /// What a kind has between its fields and its children.
@@ -355,7 +355,7 @@ pub struct Label {
 /// A row of the tables: everything that they say about a kind.
 #[derive(Clone, Copy, Debug)]
 pub(crate) struct Definition {
-    pub(crate) profile: Profile,
+    pub(crate) set: KindSet,
     pub(crate) number: u16,
     pub(crate) name: &'static str,
     pub(crate) fields: &'static [Field],

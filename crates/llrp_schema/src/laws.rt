@@ -6,55 +6,56 @@ ghost use Rattle.llrp_schema.specs.declared.kinds.ParamKind.{ParamKind};
 ghost use Rattle.llrp_schema.specs.declared.kinds.Kind.{Kind};
 ghost use Rattle.llrp_schema.specs.declared.kinds.Kind.TheVariants.{Message, Parameter};
 ghost use Rattle.llrp_schema.specs.declared.kinds.Tail.TheVariants.{Absent, Bits, Data};
-ghost use Rattle.llrp_schema.specs.declared.kinds.Profile.{Profile};
-ghost use Rattle.llrp_schema.specs.declared.kinds.Profile.TheVariants.{Own};
-ghost use Rattle.llrp_schema.specs.Schema.{FieldRule, number_of, name_of, fields_of, plain_fields_of, bits_of, tail_of, groups_of, is_tv, any_field, profile_of, message_in, tlv_in, tv_in};
+ghost use Rattle.llrp_schema.specs.declared.kinds.KindSet.{KindSet};
+ghost use Rattle.llrp_schema.specs.declared.kinds.KindSet.TheVariants.{Profile};
+ghost use Rattle.llrp_schema.specs.Schema.{FieldRule, number_of, name_of, fields_of, plain_fields_of, bits_of, tail_of, groups_of, is_tv, any_field, set_of_kind, message_in, tlv_in, tv_in};
 ghost use Rattle.llrp_schema.specs.Calls.Schema.{message_named_in, param_named_in};
 ghost use Rattle.llrp_schema.specs.Schema.{has_place};
+ghost use Rattle.llrp_schema.specs.Calls.ProfilePart.{IsPartOfMessage, IsPartOfParameter};
 
-/// No two messages of one profile have the same number, and no two parameters have.
+/// No two messages of one set have the same number, and no two parameters have.
 #[tactic(auto, using(crate::proofs::TableLaws::message_numbers_in, crate::proofs::TableLaws::param_numbers_in))]
 pub fn numbers_are_distinct()
-    ensures message { (a b : MsgKind) → profile_of (Message a) ≡ profile_of (Message b) → number_of (Message a) ≡ number_of (Message b) → a ≡ b }
-    ensures parameter { (a b : ParamKind) → profile_of (Parameter a) ≡ profile_of (Parameter b) → number_of (Parameter a)
+    ensures message { (a b : MsgKind) → set_of_kind (Message a) ≡ set_of_kind (Message b) → number_of (Message a) ≡ number_of (Message b) → a ≡ b }
+    ensures parameter { (a b : ParamKind) → set_of_kind (Parameter a) ≡ set_of_kind (Parameter b) → number_of (Parameter a)
         ≡ number_of (Parameter b) → a ≡ b }
 {}
 
-/// No two kinds of one profile have the same name.
+/// No two kinds of one set have the same name.
 pub fn names_are_distinct()
-    ensures { (a b : Kind) → profile_of a ≡ profile_of b → name_of a ≡ name_of b → a ≡ b }
+    ensures { (a b : Kind) → set_of_kind a ≡ set_of_kind b → name_of a ≡ name_of b → a ≡ b }
 {}
 
 /// A look-up by number finds exactly the kind of the profile with this number.
 pub fn numbers_are_found()
-    ensures message { (profile : Profile) (number : ℕ) (kind : MsgKind) →
-        (message_in profile number ≡ Some kind) ↔
-        ((profile_of (Message kind) ≡ profile) × (number_of (Message kind) ≡ number)) }
-    ensures tlv { (profile : Profile) (number : ℕ) (kind : ParamKind) →
-        (tlv_in profile number ≡ Some kind) ↔
-        ((profile_of (Parameter kind) ≡ profile) × (is_tv kind ≡ false)
+    ensures message { (set : KindSet) (number : ℕ) (kind : MsgKind) →
+        (message_in set number ≡ Some kind) ↔
+        ((set_of_kind (Message kind) ≡ set) × (number_of (Message kind) ≡ number)) }
+    ensures tlv { (set : KindSet) (number : ℕ) (kind : ParamKind) →
+        (tlv_in set number ≡ Some kind) ↔
+        ((set_of_kind (Parameter kind) ≡ set) × (is_tv kind ≡ false)
         × (number_of (Parameter kind) ≡ number)) }
-    ensures tv { (profile : Profile) (number : ℕ) (kind : ParamKind) →
-        (tv_in profile number ≡ Some kind) ↔
-        ((profile_of (Parameter kind) ≡ profile) × (is_tv kind ≡ true)
+    ensures tv { (set : KindSet) (number : ℕ) (kind : ParamKind) →
+        (tv_in set number ≡ Some kind) ↔
+        ((set_of_kind (Parameter kind) ≡ set) × (is_tv kind ≡ true)
         × (number_of (Parameter kind) ≡ number)) }
 {}
 
 /// A look-up by name finds exactly the kind of the profile with this name.
 pub fn names_are_found()
-    ensures message { (profile : Profile) (name : List ℕ) (kind : MsgKind) →
-        (message_named_in profile name ≡ Some kind) ↔
-        ((profile_of (Message kind) ≡ profile) × (name_of (Message kind) ≡ name)) }
-    ensures parameter { (profile : Profile) (name : List ℕ) (kind : ParamKind) →
-        (param_named_in profile name ≡ Some kind) ↔
-        ((profile_of (Parameter kind) ≡ profile) × (name_of (Parameter kind) ≡ name)) }
+    ensures message { (set : KindSet) (name : List ℕ) (kind : MsgKind) →
+        (message_named_in set name ≡ Some kind) ↔
+        ((set_of_kind (Message kind) ≡ set) × (name_of (Message kind) ≡ name)) }
+    ensures parameter { (set : KindSet) (name : List ℕ) (kind : ParamKind) →
+        (param_named_in set name ≡ Some kind) ↔
+        ((set_of_kind (Parameter kind) ≡ set) × (name_of (Parameter kind) ≡ name)) }
 {}
 
-/// A child is of the profile of its parent: no kind of one is a child of a kind of the other.
-#[tactic(auto, using(crate::proofs::PlaceLemmas::child_profile))]
-pub fn children_are_of_one_profile()
+/// A child is of the set of its parent: no kind of one is a child of a kind of the other.
+#[tactic(auto, using(crate::proofs::PlaceLemmas::child_set))]
+pub fn children_are_of_one_set()
     ensures { (parent : Kind) (child : ParamKind) → has_place (groups_of parent) child ≡ true →
-        profile_of (Parameter child) ≡ profile_of parent }
+        set_of_kind (Parameter child) ≡ set_of_kind parent }
 {}
 
 /// The number of a message, or of a parameter with a length, fits the 10 bits of its header. That
@@ -73,7 +74,7 @@ pub fn names_are_words()
         × (first ≤ 90) }
     ensures visible { (kind : Kind) → All (λ c. (33 ≤ c) × (c ≤ 126)) (name_of kind) }
     ensures short { (kind : Kind) → length (name_of kind) ≤ 48 }
-    ensures own { (kind : Kind) → profile_of kind ≡ Own → length (name_of kind) ≤ 32 }
+    ensures own { (kind : Kind) → set_of_kind kind ≡ Profile → length (name_of kind) ≤ 32 }
 {}
 
 /// The fields of a kind fill whole octets, at most twelve, and at most twelve are not reserved.
@@ -88,16 +89,16 @@ pub fn fields_fill_octets()
 /// signed field is not reserved and has 8 bits, all of whose values are lawful.
 #[tactic(auto, using(crate::proofs::TableLaws::field_widths, crate::proofs::TableLaws::field_values, crate::proofs::TableLaws::reserved_fields, crate::proofs::TableLaws::signed_fields))]
 pub fn fields_are_sound()
-    ensures width { (kind : Kind) → All (λ any_field. (1 ≤ any_field.width)
-        × (any_field.width ≤ 96)) (fields_of kind) }
-    ensures value { (kind : Kind) → All (λ any_field. any_field.greatest
-        < 2 ^ any_field.width) (fields_of kind) }
-    ensures reserved { (kind : Kind) → All (λ any_field. any_field.reserved ≡ true
-        → any_field.greatest ≡ 0) (fields_of kind) }
+    ensures width { (kind : Kind) → All (λ rule. (1 ≤ rule.width)
+        × (rule.width ≤ 96)) (fields_of kind) }
+    ensures value { (kind : Kind) → All (λ rule. rule.greatest
+        < 2 ^ rule.width) (fields_of kind) }
+    ensures reserved { (kind : Kind) → All (λ rule. rule.reserved ≡ true
+        → rule.greatest ≡ 0) (fields_of kind) }
     ensures signed { (kind : Kind) →
         All
-        (λ any_field. any_field.signed ≡ true →
-        (any_field.reserved ≡ false) × (any_field.width ≡ 8) × (any_field.greatest ≡ 255))
+        (λ rule. rule.signed ≡ true →
+        (rule.reserved ≡ false) × (rule.width ≡ 8) × (rule.greatest ≡ 255))
         (fields_of kind) }
 {}
 
@@ -106,8 +107,8 @@ pub fn fields_are_sound()
 #[tactic(auto, using(crate::proofs::TableLaws::tv_field, crate::proofs::TableLaws::tv_tail, crate::proofs::TableLaws::tv_groups))]
 pub fn tv_is_one_field()
     ensures field { (kind : ParamKind) → is_tv kind ≡ true →
-        (any_field : FieldRule) × (fields_of (Parameter kind) ≡ any_field ∷ []) ×
-        (any_field.reserved ≡ false) × (any_field.greatest ≡ 2 ^ any_field.width - 1) }
+        (rule : FieldRule) × (fields_of (Parameter kind) ≡ rule ∷ []) ×
+        (rule.reserved ≡ false) × (rule.greatest ≡ 2 ^ rule.width - 1) }
     ensures tail { (kind : ParamKind) → is_tv kind ≡ true → tail_of (Parameter kind) ≡ Absent }
     ensures groups { (kind : ParamKind) → is_tv kind ≡ true → groups_of (Parameter kind) ≡ [] }
 {}
@@ -116,7 +117,7 @@ pub fn tv_is_one_field()
 /// has one field, which counts them; a node whose tail goes up to its end has no children.
 #[tactic(auto, using(crate::proofs::TableLaws::message_tail, crate::proofs::TableLaws::message_form, crate::proofs::TableLaws::bits_field, crate::proofs::TableLaws::data_groups))]
 pub fn tails_are_of_kinds()
-    ensures message { (kind : MsgKind) → profile_of (Message kind) ≡ Own →
+    ensures message { (kind : MsgKind) → set_of_kind (Message kind) ≡ Profile →
         tail_of (Message kind) ≡ Absent }
     ensures form { (kind : MsgKind) →
         (tail_of (Message kind) ≡ Absent) ⊎ (tail_of (Message kind) ≡ Data) }
@@ -138,7 +139,7 @@ pub fn groups_are_sound()
         (groups_of kind) }
 {}
 
-/// A group needs one child or none, and takes at most one or any number. A kind has at most 15
+/// A group needs one child or none, and takes at most one or any number. A kind has at most 18
 /// groups, so 32 bits have room for one bit a group.
 #[tactic(auto, using(crate::proofs::PlaceLemmas::needs_one_at_most, crate::proofs::PlaceLemmas::takes_one_or_any, crate::proofs::PlaceLemmas::few_groups))]
 pub fn groups_are_narrow()
@@ -146,4 +147,12 @@ pub fn groups_are_narrow()
     ensures most { (kind : Kind) →
         All (λ group. (group.most ≡ None) ⊎ (group.most ≡ Some 1)) (groups_of kind) }
     ensures few { (kind : Kind) → length (groups_of kind) ≤ 18 }
+{}
+
+/// The profile is a part of the whole standard: each of its rows is that of the standard without the
+/// kinds that the profile leaves out, but for the names of fields.
+#[tactic(auto, using(crate::proofs::ProfileLemmas::message_part, crate::proofs::ProfileLemmas::param_part))]
+pub fn profile_is_a_part()
+    ensures message { (kind : MsgKind) → IsPartOfMessage kind }
+    ensures parameter { (kind : ParamKind) → IsPartOfParameter kind }
 {}

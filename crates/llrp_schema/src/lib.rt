@@ -1,4 +1,4 @@
-//! The messages and parameters of this profile of LLRP 1.1: each kind's number, name, fields, tail
+//! The messages and parameters of LLRP 1.1: each kind's number, name, fields, tail
 //! and groups of children, one row a kind.
 //!
 //! Use it where code has to know what LLRP's tables say, and nowhere write them again: the crates above are generic over it. A
@@ -34,9 +34,9 @@ pub use by_name::{
 pub use by_number::{
     is_tv, msg_of, msg_of_in, param_of_tlv, param_of_tlv_in, param_of_tv, param_of_tv_in,
 };
-pub use kinds::{Field, Group, Kind, Label, MsgKind, ParamKind, Place, Profile, Tail};
+pub use kinds::{Field, Group, Kind, KindSet, Label, MsgKind, ParamKind, Place, Tail};
 pub use labels::label;
 pub use places::place;
 pub use required_groups::required;
 pub use seen::Seen;
-pub use tables::{fields, groups, name, number, profile, tail};
+pub use tables::{fields, groups, kind_set, name, number, tail};

@@ -4,12 +4,12 @@ ghost use Rattle.std.specs.Prelude.{◌≡◌};
 ghost use Rattle.llrp_schema.specs.Private.Schema.{kind_rule};
 ghost use Rattle.llrp_schema.specs.Schema.{message_rule};
 
-use crate::kinds::{Definition, Field, Group, MsgKind, ParamKind, Profile, Tail};
+use crate::kinds::{Definition, Field, Group, KindSet, MsgKind, ParamKind, Tail};
 use crate::row_macros::{any_number, at_most_one, field, one, reserved};
 use crate::whole;
 
 static SET_READER_CONFIG: Definition = Definition {
-    profile: Profile::Own,
+    set: KindSet::Profile,
     number: 3,
     name: "SET_READER_CONFIG",
     fields: &[field!("ResetToFactoryDefault", 1), reserved!(7)],
@@ -24,7 +24,7 @@ static SET_READER_CONFIG: Definition = Definition {
 };
 
 static CLOSE_CONNECTION_RESPONSE: Definition = Definition {
-    profile: Profile::Own,
+    set: KindSet::Profile,
     number: 4,
     name: "CLOSE_CONNECTION_RESPONSE",
     fields: &[],
@@ -33,7 +33,7 @@ static CLOSE_CONNECTION_RESPONSE: Definition = Definition {
 };
 
 static SET_READER_CONFIG_RESPONSE: Definition = Definition {
-    profile: Profile::Own,
+    set: KindSet::Profile,
     number: 13,
     name: "SET_READER_CONFIG_RESPONSE",
     fields: &[],
@@ -42,7 +42,7 @@ static SET_READER_CONFIG_RESPONSE: Definition = Definition {
 };
 
 static CLOSE_CONNECTION: Definition = Definition {
-    profile: Profile::Own,
+    set: KindSet::Profile,
     number: 14,
     name: "CLOSE_CONNECTION",
     fields: &[],
@@ -51,7 +51,7 @@ static CLOSE_CONNECTION: Definition = Definition {
 };
 
 static ADD_RO_SPEC: Definition = Definition {
-    profile: Profile::Own,
+    set: KindSet::Profile,
     number: 20,
     name: "ADD_ROSPEC",
     fields: &[],
@@ -60,7 +60,7 @@ static ADD_RO_SPEC: Definition = Definition {
 };
 
 static DELETE_RO_SPEC: Definition = Definition {
-    profile: Profile::Own,
+    set: KindSet::Profile,
     number: 21,
     name: "DELETE_ROSPEC",
     fields: &[field!("ROSpecID", 32)],
@@ -69,7 +69,7 @@ static DELETE_RO_SPEC: Definition = Definition {
 };
 
 static START_RO_SPEC: Definition = Definition {
-    profile: Profile::Own,
+    set: KindSet::Profile,
     number: 22,
     name: "START_ROSPEC",
     fields: &[field!("ROSpecID", 32)],
@@ -78,7 +78,7 @@ static START_RO_SPEC: Definition = Definition {
 };
 
 static STOP_RO_SPEC: Definition = Definition {
-    profile: Profile::Own,
+    set: KindSet::Profile,
     number: 23,
     name: "STOP_ROSPEC",
     fields: &[field!("ROSpecID", 32)],
@@ -87,7 +87,7 @@ static STOP_RO_SPEC: Definition = Definition {
 };
 
 static ENABLE_RO_SPEC: Definition = Definition {
-    profile: Profile::Own,
+    set: KindSet::Profile,
     number: 24,
     name: "ENABLE_ROSPEC",
     fields: &[field!("ROSpecID", 32)],
@@ -96,7 +96,7 @@ static ENABLE_RO_SPEC: Definition = Definition {
 };
 
 static DISABLE_RO_SPEC: Definition = Definition {
-    profile: Profile::Own,
+    set: KindSet::Profile,
     number: 25,
     name: "DISABLE_ROSPEC",
     fields: &[field!("ROSpecID", 32)],
@@ -105,7 +105,7 @@ static DISABLE_RO_SPEC: Definition = Definition {
 };
 
 static GET_RO_SPECS: Definition = Definition {
-    profile: Profile::Own,
+    set: KindSet::Profile,
     number: 26,
     name: "GET_ROSPECS",
     fields: &[],
@@ -114,7 +114,7 @@ static GET_RO_SPECS: Definition = Definition {
 };
 
 static ADD_RO_SPEC_RESPONSE: Definition = Definition {
-    profile: Profile::Own,
+    set: KindSet::Profile,
     number: 30,
     name: "ADD_ROSPEC_RESPONSE",
     fields: &[],
@@ -123,7 +123,7 @@ static ADD_RO_SPEC_RESPONSE: Definition = Definition {
 };
 
 static DELETE_RO_SPEC_RESPONSE: Definition = Definition {
-    profile: Profile::Own,
+    set: KindSet::Profile,
     number: 31,
     name: "DELETE_ROSPEC_RESPONSE",
     fields: &[],
@@ -132,7 +132,7 @@ static DELETE_RO_SPEC_RESPONSE: Definition = Definition {
 };
 
 static START_RO_SPEC_RESPONSE: Definition = Definition {
-    profile: Profile::Own,
+    set: KindSet::Profile,
     number: 32,
     name: "START_ROSPEC_RESPONSE",
     fields: &[],
@@ -141,7 +141,7 @@ static START_RO_SPEC_RESPONSE: Definition = Definition {
 };
 
 static STOP_RO_SPEC_RESPONSE: Definition = Definition {
-    profile: Profile::Own,
+    set: KindSet::Profile,
     number: 33,
     name: "STOP_ROSPEC_RESPONSE",
     fields: &[],
@@ -150,7 +150,7 @@ static STOP_RO_SPEC_RESPONSE: Definition = Definition {
 };
 
 static ENABLE_RO_SPEC_RESPONSE: Definition = Definition {
-    profile: Profile::Own,
+    set: KindSet::Profile,
     number: 34,
     name: "ENABLE_ROSPEC_RESPONSE",
     fields: &[],
@@ -159,7 +159,7 @@ static ENABLE_RO_SPEC_RESPONSE: Definition = Definition {
 };
 
 static DISABLE_RO_SPEC_RESPONSE: Definition = Definition {
-    profile: Profile::Own,
+    set: KindSet::Profile,
     number: 35,
     name: "DISABLE_ROSPEC_RESPONSE",
     fields: &[],
@@ -168,7 +168,7 @@ static DISABLE_RO_SPEC_RESPONSE: Definition = Definition {
 };
 
 static GET_RO_SPECS_RESPONSE: Definition = Definition {
-    profile: Profile::Own,
+    set: KindSet::Profile,
     number: 36,
     name: "GET_ROSPECS_RESPONSE",
     fields: &[],
@@ -177,7 +177,7 @@ static GET_RO_SPECS_RESPONSE: Definition = Definition {
 };
 
 static GET_REPORT: Definition = Definition {
-    profile: Profile::Own,
+    set: KindSet::Profile,
     number: 60,
     name: "GET_REPORT",
     fields: &[],
@@ -186,7 +186,7 @@ static GET_REPORT: Definition = Definition {
 };
 
 static RO_ACCESS_REPORT: Definition = Definition {
-    profile: Profile::Own,
+    set: KindSet::Profile,
     number: 61,
     name: "RO_ACCESS_REPORT",
     fields: &[],
@@ -195,7 +195,7 @@ static RO_ACCESS_REPORT: Definition = Definition {
 };
 
 static KEEPALIVE: Definition = Definition {
-    profile: Profile::Own,
+    set: KindSet::Profile,
     number: 62,
     name: "KEEPALIVE",
     fields: &[],
@@ -204,7 +204,7 @@ static KEEPALIVE: Definition = Definition {
 };
 
 static READER_EVENT_NOTIFICATION: Definition = Definition {
-    profile: Profile::Own,
+    set: KindSet::Profile,
     number: 63,
     name: "READER_EVENT_NOTIFICATION",
     fields: &[],
@@ -213,7 +213,7 @@ static READER_EVENT_NOTIFICATION: Definition = Definition {
 };
 
 static ENABLE_EVENTS_AND_REPORTS: Definition = Definition {
-    profile: Profile::Own,
+    set: KindSet::Profile,
     number: 64,
     name: "ENABLE_EVENTS_AND_REPORTS",
     fields: &[],
@@ -222,7 +222,7 @@ static ENABLE_EVENTS_AND_REPORTS: Definition = Definition {
 };
 
 static KEEPALIVE_ACK: Definition = Definition {
-    profile: Profile::Own,
+    set: KindSet::Profile,
     number: 72,
     name: "KEEPALIVE_ACK",
     fields: &[],
@@ -231,7 +231,7 @@ static KEEPALIVE_ACK: Definition = Definition {
 };
 
 static ERROR_MESSAGE: Definition = Definition {
-    profile: Profile::Own,
+    set: KindSet::Profile,
     number: 100,
     name: "ERROR_MESSAGE",
     fields: &[],

@@ -2,16 +2,16 @@
 
 ghost use Rattle.std.specs.Prelude.{◌≡◌, ◌≤◌, ◌<◌, ◌==◌, false, IfNone, IfSome, [], ◌∷◌, length, map};
 ghost use Rattle.std.specs.List.{list_any};
-ghost use Rattle.llrp_schema.specs.declared.kinds.MsgKind.TheVariants.{SetReaderConfig, AddRoSpec, GetRoSpecsResponse, RoAccessReport, ReaderEventNotification};
-ghost use Rattle.llrp_schema.specs.declared.kinds.ParamKind.TheVariants.{RoSpec, RoBoundarySpec, RoSpecStartTrigger, PeriodicTriggerValue, RoSpecStopTrigger, AiSpec, AiSpecStopTrigger, InventoryParameterSpec, AntennaConfiguration, RoReportSpec, TagReportContentSelector, TagReportData, ReaderEventNotificationSpec, ReaderEventNotificationData, LlrpStatus, ParameterError, C1G2InventoryCommand};
+ghost use Rattle.llrp_schema.specs.declared.kinds.MsgKind.TheVariants.{SetReaderConfig, AddRoSpec, GetRoSpecsResponse, RoAccessReport, ReaderEventNotification, WholeRoAccessReport};
+ghost use Rattle.llrp_schema.specs.declared.kinds.ParamKind.TheVariants.{RoSpec, RoBoundarySpec, RoSpecStartTrigger, PeriodicTriggerValue, RoSpecStopTrigger, AiSpec, AiSpecStopTrigger, InventoryParameterSpec, AntennaConfiguration, RoReportSpec, TagReportContentSelector, TagReportData, ReaderEventNotificationSpec, ReaderEventNotificationData, LlrpStatus, ParameterError, C1G2InventoryCommand, WholeTagReportData};
 ghost use Rattle.llrp_schema.specs.Schema.{groups_of, key_of, one};
 ghost use Rattle.llrp_schema.specs.Calls.Schema.{group_rule};
 ghost use Rattle.llrp_schema.specs.Schema.{has_place};
 ghost use Rattle.llrp_schema.specs.Private.Places.{first_place};
 ghost use Rattle.llrp_schema.specs.Calls.Places.{IsPlace};
 
-use crate::kinds::{Group, Kind, MsgKind, ParamKind, Place, Profile};
-use crate::tables::{groups, number, profile};
+use crate::kinds::{Group, Kind, MsgKind, ParamKind, Place};
+use crate::tables::groups;
 
 /// A place in a group that takes one child at most.
 macro_rules! once {
@@ -86,25 +86,20 @@ fn place_among(groups: &[Group], child: ParamKind) -> Option<Place>
     })
 }
 
+/// Whether two kinds are the same.
+#[inline(always)]
+#[tactic(auto, using(crate::proofs::PlaceLemmas::same_by_key))]
+fn is_same(member: ParamKind, child: ParamKind) -> bool
+    ensures { result ≡ (key_of member == key_of child) }
+{
+    member == child
+}
+
 /// Whether a kind is one of some kinds.
 fn has_member(members: &[ParamKind], child: ParamKind) -> bool
     ensures { result ≡ list_any (λ member. key_of member == key_of child) members.now }
 {
-    let wanted = key(child);
-    members.iter().any(|member| key(*member) == wanted)
-}
-
-/// A number that no two kinds of parameter share.
-#[inline(always)]
-#[tactic(auto, unfolding(crate::specs::Schema::key_of), using(crate::proofs::TableLaws::param_number_fits))]
-fn key(kind: ParamKind) -> u16
-    ensures { result ≡ key_of kind }
-{
-    let number = number(Kind::Parameter(kind));
-    match profile(Kind::Parameter(kind)) {
-        Profile::Own => number,
-        Profile::Whole => 1024 + number,
-    }
+    members.iter().any(|member| is_same(*member, child))
 }
 
 /// The place of a child of a message.
@@ -117,6 +112,7 @@ fn in_message(parent: MsgKind, child: ParamKind) -> Option<Place>
         MsgKind::AddRoSpec => in_add_ro_spec(child),
         MsgKind::GetRoSpecsResponse => in_get_ro_specs_response(child),
         MsgKind::RoAccessReport => in_ro_access_report(child),
+        MsgKind::WholeRoAccessReport => in_whole_ro_access_report(child),
         MsgKind::ReaderEventNotification => in_reader_event_notification(child),
         MsgKind::CloseConnectionResponse
         | MsgKind::SetReaderConfigResponse
@@ -150,6 +146,7 @@ fn in_parameter(parent: ParamKind, child: ParamKind) -> Option<Place>
         ParamKind::RoReportSpec => in_ro_report_spec(child),
         ParamKind::TagReportContentSelector => in_tag_report_content_selector(child),
         ParamKind::TagReportData => in_tag_report_data(child),
+        ParamKind::WholeTagReportData => in_whole_tag_report_data(child),
         ParamKind::ReaderEventNotificationSpec => in_reader_event_notification_spec(child),
         ParamKind::ReaderEventNotificationData => in_reader_event_notification_data(child),
         ParamKind::LlrpStatus => in_llrp_status(child),
@@ -160,7 +157,7 @@ fn in_parameter(parent: ParamKind, child: ParamKind) -> Option<Place>
 }
 
 /// The place of a child of a message whose only child is a status.
-#[tactic(auto, unfolding(crate::specs::Schema::groups_of, crate::specs::Schema::rule_of, crate::specs::Schema::param_rule, crate::specs::Schema::number_of, crate::specs::Schema::profile_of, crate::specs::Schema::key_of))]
+#[tactic(auto, unfolding(crate::specs::Schema::groups_of, crate::specs::Schema::rule_of, crate::specs::Schema::param_rule, crate::specs::Schema::number_of, crate::specs::Schema::set_of_kind, crate::specs::Schema::key_of))]
 fn in_response(child: ParamKind) -> Option<Place>
     ensures { result ≡ first_place (one LlrpStatus ∷ []) child }
 {
@@ -171,7 +168,7 @@ fn in_response(child: ParamKind) -> Option<Place>
 }
 
 /// The place of a child of `SetReaderConfig`.
-#[tactic(auto, unfolding(crate::specs::Schema::groups_of, crate::specs::Schema::rule_of, crate::specs::Schema::message_rule, crate::specs::Schema::param_rule, crate::specs::Schema::number_of, crate::specs::Schema::profile_of, crate::specs::Schema::key_of))]
+#[tactic(auto, unfolding(crate::specs::Schema::groups_of, crate::specs::Schema::rule_of, crate::specs::Schema::message_rule, crate::specs::Schema::param_rule, crate::specs::Schema::number_of, crate::specs::Schema::set_of_kind, crate::specs::Schema::key_of))]
 fn in_set_reader_config(child: ParamKind) -> Option<Place>
     ensures { result ≡ first_place (groups_of (Kind.Message SetReaderConfig)) child }
 {
@@ -186,7 +183,7 @@ fn in_set_reader_config(child: ParamKind) -> Option<Place>
 }
 
 /// The place of a child of `AddRoSpec`.
-#[tactic(auto, unfolding(crate::specs::Schema::groups_of, crate::specs::Schema::rule_of, crate::specs::Schema::message_rule, crate::specs::Schema::param_rule, crate::specs::Schema::number_of, crate::specs::Schema::profile_of, crate::specs::Schema::key_of))]
+#[tactic(auto, unfolding(crate::specs::Schema::groups_of, crate::specs::Schema::rule_of, crate::specs::Schema::message_rule, crate::specs::Schema::param_rule, crate::specs::Schema::number_of, crate::specs::Schema::set_of_kind, crate::specs::Schema::key_of))]
 fn in_add_ro_spec(child: ParamKind) -> Option<Place>
     ensures { result ≡ first_place (groups_of (Kind.Message AddRoSpec)) child }
 {
@@ -197,7 +194,7 @@ fn in_add_ro_spec(child: ParamKind) -> Option<Place>
 }
 
 /// The place of a child of `GetRoSpecsResponse`.
-#[tactic(auto, unfolding(crate::specs::Schema::groups_of, crate::specs::Schema::rule_of, crate::specs::Schema::message_rule, crate::specs::Schema::param_rule, crate::specs::Schema::number_of, crate::specs::Schema::profile_of, crate::specs::Schema::key_of))]
+#[tactic(auto, unfolding(crate::specs::Schema::groups_of, crate::specs::Schema::rule_of, crate::specs::Schema::message_rule, crate::specs::Schema::param_rule, crate::specs::Schema::number_of, crate::specs::Schema::set_of_kind, crate::specs::Schema::key_of))]
 fn in_get_ro_specs_response(child: ParamKind) -> Option<Place>
     ensures { result ≡ first_place (groups_of (Kind.Message GetRoSpecsResponse)) child }
 {
@@ -209,7 +206,7 @@ fn in_get_ro_specs_response(child: ParamKind) -> Option<Place>
 }
 
 /// The place of a child of `RoAccessReport`.
-#[tactic(auto, unfolding(crate::specs::Schema::groups_of, crate::specs::Schema::rule_of, crate::specs::Schema::message_rule, crate::specs::Schema::param_rule, crate::specs::Schema::number_of, crate::specs::Schema::profile_of, crate::specs::Schema::key_of))]
+#[tactic(auto, unfolding(crate::specs::Schema::groups_of, crate::specs::Schema::rule_of, crate::specs::Schema::message_rule, crate::specs::Schema::param_rule, crate::specs::Schema::number_of, crate::specs::Schema::set_of_kind, crate::specs::Schema::key_of))]
 fn in_ro_access_report(child: ParamKind) -> Option<Place>
     ensures { result ≡ first_place (groups_of (Kind.Message RoAccessReport)) child }
 {
@@ -220,7 +217,7 @@ fn in_ro_access_report(child: ParamKind) -> Option<Place>
 }
 
 /// The place of a child of `ReaderEventNotification`.
-#[tactic(auto, unfolding(crate::specs::Schema::groups_of, crate::specs::Schema::rule_of, crate::specs::Schema::message_rule, crate::specs::Schema::param_rule, crate::specs::Schema::number_of, crate::specs::Schema::profile_of, crate::specs::Schema::key_of))]
+#[tactic(auto, unfolding(crate::specs::Schema::groups_of, crate::specs::Schema::rule_of, crate::specs::Schema::message_rule, crate::specs::Schema::param_rule, crate::specs::Schema::number_of, crate::specs::Schema::set_of_kind, crate::specs::Schema::key_of))]
 fn in_reader_event_notification(child: ParamKind) -> Option<Place>
     ensures { result ≡ first_place (groups_of (Kind.Message ReaderEventNotification)) child }
 {
@@ -231,7 +228,7 @@ fn in_reader_event_notification(child: ParamKind) -> Option<Place>
 }
 
 /// The place of a child of `RoSpec`.
-#[tactic(auto, unfolding(crate::specs::Schema::groups_of, crate::specs::Schema::rule_of, crate::specs::Schema::param_rule, crate::specs::Schema::number_of, crate::specs::Schema::profile_of, crate::specs::Schema::key_of))]
+#[tactic(auto, unfolding(crate::specs::Schema::groups_of, crate::specs::Schema::rule_of, crate::specs::Schema::param_rule, crate::specs::Schema::number_of, crate::specs::Schema::set_of_kind, crate::specs::Schema::key_of))]
 fn in_ro_spec(child: ParamKind) -> Option<Place>
     ensures { result ≡ first_place (groups_of (Kind.Parameter RoSpec)) child }
 {
@@ -244,7 +241,7 @@ fn in_ro_spec(child: ParamKind) -> Option<Place>
 }
 
 /// The place of a child of `RoBoundarySpec`.
-#[tactic(auto, unfolding(crate::specs::Schema::groups_of, crate::specs::Schema::rule_of, crate::specs::Schema::param_rule, crate::specs::Schema::number_of, crate::specs::Schema::profile_of, crate::specs::Schema::key_of))]
+#[tactic(auto, unfolding(crate::specs::Schema::groups_of, crate::specs::Schema::rule_of, crate::specs::Schema::param_rule, crate::specs::Schema::number_of, crate::specs::Schema::set_of_kind, crate::specs::Schema::key_of))]
 fn in_ro_boundary_spec(child: ParamKind) -> Option<Place>
     ensures { result ≡ first_place (groups_of (Kind.Parameter RoBoundarySpec)) child }
 {
@@ -256,7 +253,7 @@ fn in_ro_boundary_spec(child: ParamKind) -> Option<Place>
 }
 
 /// The place of a child of `RoSpecStartTrigger`.
-#[tactic(auto, unfolding(crate::specs::Schema::groups_of, crate::specs::Schema::rule_of, crate::specs::Schema::param_rule, crate::specs::Schema::number_of, crate::specs::Schema::profile_of, crate::specs::Schema::key_of))]
+#[tactic(auto, unfolding(crate::specs::Schema::groups_of, crate::specs::Schema::rule_of, crate::specs::Schema::param_rule, crate::specs::Schema::number_of, crate::specs::Schema::set_of_kind, crate::specs::Schema::key_of))]
 fn in_ro_spec_start_trigger(child: ParamKind) -> Option<Place>
     ensures { result ≡ first_place (groups_of (Kind.Parameter RoSpecStartTrigger)) child }
 {
@@ -268,7 +265,7 @@ fn in_ro_spec_start_trigger(child: ParamKind) -> Option<Place>
 }
 
 /// The place of a child of `PeriodicTriggerValue`.
-#[tactic(auto, unfolding(crate::specs::Schema::groups_of, crate::specs::Schema::rule_of, crate::specs::Schema::param_rule, crate::specs::Schema::number_of, crate::specs::Schema::profile_of, crate::specs::Schema::key_of))]
+#[tactic(auto, unfolding(crate::specs::Schema::groups_of, crate::specs::Schema::rule_of, crate::specs::Schema::param_rule, crate::specs::Schema::number_of, crate::specs::Schema::set_of_kind, crate::specs::Schema::key_of))]
 fn in_periodic_trigger_value(child: ParamKind) -> Option<Place>
     ensures { result ≡ first_place (groups_of (Kind.Parameter PeriodicTriggerValue)) child }
 {
@@ -279,7 +276,7 @@ fn in_periodic_trigger_value(child: ParamKind) -> Option<Place>
 }
 
 /// The place of a child of `RoSpecStopTrigger`.
-#[tactic(auto, unfolding(crate::specs::Schema::groups_of, crate::specs::Schema::rule_of, crate::specs::Schema::param_rule, crate::specs::Schema::number_of, crate::specs::Schema::profile_of, crate::specs::Schema::key_of))]
+#[tactic(auto, unfolding(crate::specs::Schema::groups_of, crate::specs::Schema::rule_of, crate::specs::Schema::param_rule, crate::specs::Schema::number_of, crate::specs::Schema::set_of_kind, crate::specs::Schema::key_of))]
 fn in_ro_spec_stop_trigger(child: ParamKind) -> Option<Place>
     ensures { result ≡ first_place (groups_of (Kind.Parameter RoSpecStopTrigger)) child }
 {
@@ -290,7 +287,7 @@ fn in_ro_spec_stop_trigger(child: ParamKind) -> Option<Place>
 }
 
 /// The place of a child of `AiSpec`.
-#[tactic(auto, unfolding(crate::specs::Schema::groups_of, crate::specs::Schema::rule_of, crate::specs::Schema::param_rule, crate::specs::Schema::number_of, crate::specs::Schema::profile_of, crate::specs::Schema::key_of))]
+#[tactic(auto, unfolding(crate::specs::Schema::groups_of, crate::specs::Schema::rule_of, crate::specs::Schema::param_rule, crate::specs::Schema::number_of, crate::specs::Schema::set_of_kind, crate::specs::Schema::key_of))]
 fn in_ai_spec(child: ParamKind) -> Option<Place>
     ensures { result ≡ first_place (groups_of (Kind.Parameter AiSpec)) child }
 {
@@ -302,7 +299,7 @@ fn in_ai_spec(child: ParamKind) -> Option<Place>
 }
 
 /// The place of a child of `AiSpecStopTrigger`.
-#[tactic(auto, unfolding(crate::specs::Schema::groups_of, crate::specs::Schema::rule_of, crate::specs::Schema::param_rule, crate::specs::Schema::number_of, crate::specs::Schema::profile_of, crate::specs::Schema::key_of))]
+#[tactic(auto, unfolding(crate::specs::Schema::groups_of, crate::specs::Schema::rule_of, crate::specs::Schema::param_rule, crate::specs::Schema::number_of, crate::specs::Schema::set_of_kind, crate::specs::Schema::key_of))]
 fn in_ai_spec_stop_trigger(child: ParamKind) -> Option<Place>
     ensures { result ≡ first_place (groups_of (Kind.Parameter AiSpecStopTrigger)) child }
 {
@@ -314,7 +311,7 @@ fn in_ai_spec_stop_trigger(child: ParamKind) -> Option<Place>
 }
 
 /// The place of a child of `InventoryParameterSpec`.
-#[tactic(auto, unfolding(crate::specs::Schema::groups_of, crate::specs::Schema::rule_of, crate::specs::Schema::param_rule, crate::specs::Schema::number_of, crate::specs::Schema::profile_of, crate::specs::Schema::key_of))]
+#[tactic(auto, unfolding(crate::specs::Schema::groups_of, crate::specs::Schema::rule_of, crate::specs::Schema::param_rule, crate::specs::Schema::number_of, crate::specs::Schema::set_of_kind, crate::specs::Schema::key_of))]
 fn in_inventory_parameter_spec(child: ParamKind) -> Option<Place>
     ensures { result ≡ first_place (groups_of (Kind.Parameter InventoryParameterSpec)) child }
 {
@@ -325,7 +322,7 @@ fn in_inventory_parameter_spec(child: ParamKind) -> Option<Place>
 }
 
 /// The place of a child of `AntennaConfiguration`.
-#[tactic(auto, unfolding(crate::specs::Schema::groups_of, crate::specs::Schema::rule_of, crate::specs::Schema::param_rule, crate::specs::Schema::number_of, crate::specs::Schema::profile_of, crate::specs::Schema::key_of))]
+#[tactic(auto, unfolding(crate::specs::Schema::groups_of, crate::specs::Schema::rule_of, crate::specs::Schema::param_rule, crate::specs::Schema::number_of, crate::specs::Schema::set_of_kind, crate::specs::Schema::key_of))]
 fn in_antenna_configuration(child: ParamKind) -> Option<Place>
     ensures { result ≡ first_place (groups_of (Kind.Parameter AntennaConfiguration)) child }
 {
@@ -338,7 +335,7 @@ fn in_antenna_configuration(child: ParamKind) -> Option<Place>
 }
 
 /// The place of a child of `RoReportSpec`.
-#[tactic(auto, unfolding(crate::specs::Schema::groups_of, crate::specs::Schema::rule_of, crate::specs::Schema::param_rule, crate::specs::Schema::number_of, crate::specs::Schema::profile_of, crate::specs::Schema::key_of))]
+#[tactic(auto, unfolding(crate::specs::Schema::groups_of, crate::specs::Schema::rule_of, crate::specs::Schema::param_rule, crate::specs::Schema::number_of, crate::specs::Schema::set_of_kind, crate::specs::Schema::key_of))]
 fn in_ro_report_spec(child: ParamKind) -> Option<Place>
     ensures { result ≡ first_place (groups_of (Kind.Parameter RoReportSpec)) child }
 {
@@ -349,7 +346,7 @@ fn in_ro_report_spec(child: ParamKind) -> Option<Place>
 }
 
 /// The place of a child of `TagReportContentSelector`.
-#[tactic(auto, unfolding(crate::specs::Schema::groups_of, crate::specs::Schema::rule_of, crate::specs::Schema::param_rule, crate::specs::Schema::number_of, crate::specs::Schema::profile_of, crate::specs::Schema::key_of))]
+#[tactic(auto, unfolding(crate::specs::Schema::groups_of, crate::specs::Schema::rule_of, crate::specs::Schema::param_rule, crate::specs::Schema::number_of, crate::specs::Schema::set_of_kind, crate::specs::Schema::key_of))]
 fn in_tag_report_content_selector(child: ParamKind) -> Option<Place>
     ensures { result ≡ first_place (groups_of (Kind.Parameter TagReportContentSelector)) child }
 {
@@ -360,7 +357,7 @@ fn in_tag_report_content_selector(child: ParamKind) -> Option<Place>
 }
 
 /// The place of a child of `TagReportData`.
-#[tactic(auto, unfolding(crate::specs::Schema::groups_of, crate::specs::Schema::rule_of, crate::specs::Schema::param_rule, crate::specs::Schema::number_of, crate::specs::Schema::profile_of, crate::specs::Schema::key_of))]
+#[tactic(auto, unfolding(crate::specs::Schema::groups_of, crate::specs::Schema::rule_of, crate::specs::Schema::param_rule, crate::specs::Schema::number_of, crate::specs::Schema::set_of_kind, crate::specs::Schema::key_of))]
 #[inline(always)]
 fn in_tag_report_data(child: ParamKind) -> Option<Place>
     ensures { result ≡ first_place (groups_of (Kind.Parameter TagReportData)) child }
@@ -386,7 +383,7 @@ fn in_tag_report_data(child: ParamKind) -> Option<Place>
 }
 
 /// The place of a child of `ReaderEventNotificationSpec`.
-#[tactic(auto, unfolding(crate::specs::Schema::groups_of, crate::specs::Schema::rule_of, crate::specs::Schema::param_rule, crate::specs::Schema::number_of, crate::specs::Schema::profile_of, crate::specs::Schema::key_of))]
+#[tactic(auto, unfolding(crate::specs::Schema::groups_of, crate::specs::Schema::rule_of, crate::specs::Schema::param_rule, crate::specs::Schema::number_of, crate::specs::Schema::set_of_kind, crate::specs::Schema::key_of))]
 fn in_reader_event_notification_spec(child: ParamKind) -> Option<Place>
     ensures { result ≡ first_place (groups_of (Kind.Parameter ReaderEventNotificationSpec)) child }
 {
@@ -397,7 +394,7 @@ fn in_reader_event_notification_spec(child: ParamKind) -> Option<Place>
 }
 
 /// The place of a child of `ReaderEventNotificationData`.
-#[tactic(auto, unfolding(crate::specs::Schema::groups_of, crate::specs::Schema::rule_of, crate::specs::Schema::param_rule, crate::specs::Schema::number_of, crate::specs::Schema::profile_of, crate::specs::Schema::key_of))]
+#[tactic(auto, unfolding(crate::specs::Schema::groups_of, crate::specs::Schema::rule_of, crate::specs::Schema::param_rule, crate::specs::Schema::number_of, crate::specs::Schema::set_of_kind, crate::specs::Schema::key_of))]
 fn in_reader_event_notification_data(child: ParamKind) -> Option<Place>
     ensures { result ≡ first_place (groups_of (Kind.Parameter ReaderEventNotificationData)) child }
 {
@@ -416,7 +413,7 @@ fn in_reader_event_notification_data(child: ParamKind) -> Option<Place>
 }
 
 /// The place of a child of `LlrpStatus`.
-#[tactic(auto, unfolding(crate::specs::Schema::groups_of, crate::specs::Schema::rule_of, crate::specs::Schema::param_rule, crate::specs::Schema::number_of, crate::specs::Schema::profile_of, crate::specs::Schema::key_of))]
+#[tactic(auto, unfolding(crate::specs::Schema::groups_of, crate::specs::Schema::rule_of, crate::specs::Schema::param_rule, crate::specs::Schema::number_of, crate::specs::Schema::set_of_kind, crate::specs::Schema::key_of))]
 fn in_llrp_status(child: ParamKind) -> Option<Place>
     ensures { result ≡ first_place (groups_of (Kind.Parameter LlrpStatus)) child }
 {
@@ -428,7 +425,7 @@ fn in_llrp_status(child: ParamKind) -> Option<Place>
 }
 
 /// The place of a child of `ParameterError`.
-#[tactic(auto, unfolding(crate::specs::Schema::groups_of, crate::specs::Schema::rule_of, crate::specs::Schema::param_rule, crate::specs::Schema::number_of, crate::specs::Schema::profile_of, crate::specs::Schema::key_of))]
+#[tactic(auto, unfolding(crate::specs::Schema::groups_of, crate::specs::Schema::rule_of, crate::specs::Schema::param_rule, crate::specs::Schema::number_of, crate::specs::Schema::set_of_kind, crate::specs::Schema::key_of))]
 fn in_parameter_error(child: ParamKind) -> Option<Place>
     ensures { result ≡ first_place (groups_of (Kind.Parameter ParameterError)) child }
 {
@@ -440,7 +437,7 @@ fn in_parameter_error(child: ParamKind) -> Option<Place>
 }
 
 /// The place of a child of `C1G2InventoryCommand`.
-#[tactic(auto, unfolding(crate::specs::Schema::groups_of, crate::specs::Schema::rule_of, crate::specs::Schema::param_rule, crate::specs::Schema::number_of, crate::specs::Schema::profile_of, crate::specs::Schema::key_of))]
+#[tactic(auto, unfolding(crate::specs::Schema::groups_of, crate::specs::Schema::rule_of, crate::specs::Schema::param_rule, crate::specs::Schema::number_of, crate::specs::Schema::set_of_kind, crate::specs::Schema::key_of))]
 fn in_c1g2_inventory_command(child: ParamKind) -> Option<Place>
     ensures { result ≡ first_place (groups_of (Kind.Parameter C1G2InventoryCommand)) child }
 {
@@ -448,5 +445,45 @@ fn in_c1g2_inventory_command(child: ParamKind) -> Option<Place>
         ParamKind::C1G2RfControl => once!(0),
         ParamKind::C1G2SingulationControl => once!(1),
         _ => None,
+    }
+}
+
+/// The place of a child of `TagReportData` in the whole standard; that of a value of the profile is found at once.
+#[tactic(auto, unfolding(crate::specs::Schema::groups_of, crate::specs::Schema::rule_of, crate::specs::Schema::param_rule, crate::specs::Schema::number_of, crate::specs::Schema::set_of_kind, crate::specs::Schema::key_of))]
+#[inline(always)]
+fn in_whole_tag_report_data(child: ParamKind) -> Option<Place>
+    ensures { result ≡ first_place (groups_of (Kind.Parameter WholeTagReportData)) child }
+{
+    match child {
+        ParamKind::WholeEpc96 | ParamKind::WholeEpcData => once!(0),
+        ParamKind::WholeAntennaId => once!(1),
+        ParamKind::WholeFirstSeenTimestampUtc => once!(2),
+        ParamKind::WholeFirstSeenTimestampUptime => once!(3),
+        ParamKind::WholeLastSeenTimestampUtc => once!(4),
+        ParamKind::WholeLastSeenTimestampUptime => once!(5),
+        ParamKind::WholePeakRssi => once!(6),
+        ParamKind::WholeChannelIndex => once!(7),
+        ParamKind::WholeTagSeenCount => once!(8),
+        ParamKind::WholeRoSpecId => once!(9),
+        ParamKind::WholeInventoryParameterSpecId => once!(10),
+        ParamKind::WholeSpecIndex => once!(11),
+        ParamKind::WholeAccessSpecId => once!(12),
+        ParamKind::WholeC1G2Crc => often!(13),
+        ParamKind::WholeC1G2Pc => often!(14),
+        ParamKind::WholeC1g2xpcw1 | ParamKind::WholeC1g2xpcw2 => often!(15),
+        ParamKind::WholeCustom => often!(17),
+        _ => place_in_row(Kind::Parameter(ParamKind::WholeTagReportData), child),
+    }
+}
+
+/// The place of a child of `RoAccessReport` in the whole standard; that of a tag report is found at once.
+#[tactic(auto, unfolding(crate::specs::Schema::groups_of, crate::specs::Schema::rule_of, crate::specs::Schema::message_rule, crate::specs::Schema::param_rule, crate::specs::Schema::number_of, crate::specs::Schema::set_of_kind, crate::specs::Schema::key_of))]
+#[inline(always)]
+fn in_whole_ro_access_report(child: ParamKind) -> Option<Place>
+    ensures { result ≡ first_place (groups_of (Kind.Message WholeRoAccessReport)) child }
+{
+    match child {
+        ParamKind::WholeTagReportData => often!(0),
+        _ => place_in_row(Kind::Message(MsgKind::WholeRoAccessReport), child),
     }
 }

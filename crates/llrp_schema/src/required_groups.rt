@@ -1,14 +1,11 @@
 //! The groups of a parent that need a child.
 
-ghost use Rattle.std.specs.Prelude.{◌≡◌, ◌≤◌, ◌<◌, ◌^◌, nat_le, true, length, map};
-ghost use Rattle.std.specs.List.{list_all};
+ghost use Rattle.std.specs.Prelude.{◌≡◌};
 ghost use Rattle.llrp_schema.specs.Schema.{groups_of};
-ghost use Rattle.llrp_schema.specs.Calls.Schema.{group_rule};
 ghost use Rattle.llrp_schema.specs.Private.Places.{least_bits};
 ghost use Rattle.llrp_schema.specs.Calls.Places.{AreRequired};
 
-use crate::kinds::{Group, Kind, MsgKind, ParamKind};
-use crate::tables::groups;
+use crate::kinds::{Kind, MsgKind, ParamKind};
 
 /// Returns the groups of a kind that need a child, as bits: bit k, from the lowest on, is set
 /// exactly if the group with index k needs one, from 0 on in the order of the tables (LLRP 1.1,
@@ -52,9 +49,32 @@ fn message_bits(kind: MsgKind) -> u32
         | MsgKind::DisableRoSpecResponse
         | MsgKind::GetRoSpecsResponse
         | MsgKind::ReaderEventNotification
-        | MsgKind::ErrorMessage => 0b1,
-        _ if (kind as usize) < 25 => 0,
-        _ => bits_in_row(Kind::Message(kind)),
+        | MsgKind::ErrorMessage
+        | MsgKind::WholeCloseConnectionResponse
+        | MsgKind::WholeGetReaderCapabilitiesResponse
+        | MsgKind::WholeGetReaderConfigResponse
+        | MsgKind::WholeSetReaderConfigResponse
+        | MsgKind::WholeAddRoSpec
+        | MsgKind::WholeAddRoSpecResponse
+        | MsgKind::WholeDeleteRoSpecResponse
+        | MsgKind::WholeStartRoSpecResponse
+        | MsgKind::WholeStopRoSpecResponse
+        | MsgKind::WholeEnableRoSpecResponse
+        | MsgKind::WholeDisableRoSpecResponse
+        | MsgKind::WholeGetRoSpecsResponse
+        | MsgKind::WholeAddAccessSpec
+        | MsgKind::WholeClientRequestOp
+        | MsgKind::WholeAddAccessSpecResponse
+        | MsgKind::WholeDeleteAccessSpecResponse
+        | MsgKind::WholeEnableAccessSpecResponse
+        | MsgKind::WholeDisableAccessSpecResponse
+        | MsgKind::WholeGetAccessSpecsResponse
+        | MsgKind::WholeClientRequestOpResponse
+        | MsgKind::WholeGetSupportedVersionResponse
+        | MsgKind::WholeSetProtocolVersionResponse
+        | MsgKind::WholeReaderEventNotification
+        | MsgKind::WholeErrorMessage => 0b1,
+        _ => 0,
     }
 }
 
@@ -65,33 +85,32 @@ fn parameter_bits(kind: ParamKind) -> u32
     ensures { result ≡ least_bits (groups_of (Kind.Parameter kind)) }
 {
     match kind {
-        ParamKind::RoSpec | ParamKind::RoBoundarySpec | ParamKind::AiSpec => 0b11,
+        ParamKind::RoSpec
+        | ParamKind::RoBoundarySpec
+        | ParamKind::AiSpec
+        | ParamKind::WholeRoSpec
+        | ParamKind::WholeRoBoundarySpec
+        | ParamKind::WholeAiSpec
+        | ParamKind::WholeAccessSpec
+        | ParamKind::WholeAccessCommand => 0b11,
         ParamKind::RoReportSpec
         | ParamKind::TagReportData
         | ParamKind::ReaderEventNotificationSpec
-        | ParamKind::ReaderEventNotificationData => 0b1,
-        _ if (kind as usize) < 54 => 0,
-        _ => bits_in_row(Kind::Parameter(kind)),
-    }
-}
-
-/// The least numbers of the groups in a kind's row, each as a bit.
-#[inline(never)]
-fn bits_in_row(kind: Kind) -> u32
-    ensures { result ≡ least_bits (groups_of kind) }
-{
-    least_bits_among(groups(kind))
-}
-
-/// The least numbers of some groups, each as a bit.
-fn least_bits_among(groups: &[Group]) -> u32
-    requires few { length groups.now ≤ 18 }
-    requires narrow { list_all (λ group. nat_le group.least 1) (map group_rule groups.now) ≡ true }
-    ensures bits { result ≡ least_bits (map group_rule groups.now) }
-    ensures within { result < 2 ^ length groups.now }
-{
-    match groups.split_first() {
-        None => 0,
-        Some((group, rest)) => group.least + 2 * least_bits_among(rest),
+        | ParamKind::ReaderEventNotificationData
+        | ParamKind::WholeRfSurveySpec
+        | ParamKind::WholeClientRequestResponse
+        | ParamKind::WholeRoReportSpec
+        | ParamKind::WholeTagReportData
+        | ParamKind::WholeFrequencyRssiLevelEntry
+        | ParamKind::WholeReaderEventNotificationSpec
+        | ParamKind::WholeReaderEventNotificationData
+        | ParamKind::WholeC1G2UhfRfModeTable
+        | ParamKind::WholeC1G2Filter
+        | ParamKind::WholeC1G2TagSpec
+        | ParamKind::WholeC1G2Lock => 0b1,
+        ParamKind::WholeGeneralDeviceCapabilities => 0b1101,
+        ParamKind::WholeUhfBandCapabilities => 0b111,
+        ParamKind::WholeRfSurveyReportData => 0b100,
+        _ => 0,
     }
 }

@@ -91,7 +91,7 @@ macro_rules! any_number {
 macro_rules! tv {
     ($number:literal, $name:literal, $field:expr) => {
         Definition {
-            profile: Profile::Own,
+            set: KindSet::Profile,
             number: $number,
             name: $name,
             fields: &[$field],
@@ -105,7 +105,7 @@ macro_rules! tv {
 macro_rules! whole_tv {
     ($number:literal, $name:literal, $field:expr) => {
         Definition {
-            profile: Profile::Whole,
+            set: KindSet::Standard,
             number: $number,
             name: $name,
             fields: &[$field],

@@ -3,9 +3,9 @@
 ghost use Rattle.std.specs.Prelude.{◌≡◌, map};
 ghost use Rattle.llrp_schema.specs.Calls.Schema.{field_rule, group_rule};
 ghost use Rattle.llrp_schema.specs.Private.Schema.{kind_rule};
-ghost use Rattle.llrp_schema.specs.Schema.{rule_of, number_of, name_of, fields_of, tail_of, groups_of, profile_of};
+ghost use Rattle.llrp_schema.specs.Schema.{rule_of, number_of, name_of, fields_of, tail_of, groups_of, set_of_kind};
 
-use crate::kinds::{Definition, Field, Group, Kind, MsgKind, ParamKind, Profile, Tail};
+use crate::kinds::{Definition, Field, Group, Kind, KindSet, MsgKind, ParamKind, Tail};
 use crate::messages::message;
 use crate::parameters::parameter;
 
@@ -22,40 +22,40 @@ fn definition(kind: Kind) -> &'static Definition
 
 /// Whether a kind is of the profile or of the whole standard.
 #[inline(always)]
-pub fn profile(kind: Kind) -> Profile
-    ensures { result ≡ profile_of kind }
+pub fn kind_set(kind: Kind) -> KindSet
+    ensures { result ≡ set_of_kind kind }
 {
     match kind {
-        Kind::Message(kind) => message_profile(kind),
-        Kind::Parameter(kind) => parameter_profile(kind),
+        Kind::Message(kind) => message_set(kind),
+        Kind::Parameter(kind) => parameter_set(kind),
     }
 }
 
 /// Whether a message is of the profile, whose messages come first.
 #[inline(always)]
-#[tactic(auto, unfolding(crate::specs::Schema::profile_of, crate::specs::Schema::rule_of, crate::specs::Schema::message_rule))]
-fn message_profile(kind: MsgKind) -> Profile
-    ensures { result ≡ profile_of (Kind.Message kind) }
+#[tactic(auto, unfolding(crate::specs::Schema::set_of_kind, crate::specs::Schema::rule_of, crate::specs::Schema::message_rule))]
+fn message_set(kind: MsgKind) -> KindSet
+    ensures { result ≡ set_of_kind (Kind.Message kind) }
 {
     let index = kind as usize;
     if index < 25 {
-        Profile::Own
+        KindSet::Profile
     } else {
-        Profile::Whole
+        KindSet::Standard
     }
 }
 
 /// Whether a parameter is of the profile, whose parameters come first.
 #[inline(always)]
-#[tactic(auto, unfolding(crate::specs::Schema::profile_of, crate::specs::Schema::rule_of, crate::specs::Schema::param_rule))]
-fn parameter_profile(kind: ParamKind) -> Profile
-    ensures { result ≡ profile_of (Kind.Parameter kind) }
+#[tactic(auto, unfolding(crate::specs::Schema::set_of_kind, crate::specs::Schema::rule_of, crate::specs::Schema::param_rule))]
+fn parameter_set(kind: ParamKind) -> KindSet
+    ensures { result ≡ set_of_kind (Kind.Parameter kind) }
 {
     let index = kind as usize;
     if index < 54 {
-        Profile::Own
+        KindSet::Profile
     } else {
-        Profile::Whole
+        KindSet::Standard
     }
 }
 
@@ -83,7 +83,7 @@ pub fn fields(kind: Kind) -> &'static [Field]
     definition(kind).fields
 }
 
-/// What a kind has between its fields and its children; a message has nothing there.
+/// What a kind has between its fields and its children. Of messages only CUSTOM_MESSAGE has something there: its data.
 #[tactic(auto, unfolding(crate::specs::Schema::tail_of))]
 pub fn tail(kind: Kind) -> Tail
     ensures { result ≡ tail_of kind }

@@ -1,10 +1,10 @@
 //! The rows of the parameters with type, length and value (LLRP 1.1, section 17.2).
 
-use crate::kinds::{Definition, Field, Group, ParamKind, Profile, Tail};
+use crate::kinds::{Definition, Field, Group, KindSet, ParamKind, Tail};
 use crate::row_macros::{any_number, at_most_one, field, one, one_or_more, reserved};
 
 pub(crate) static UTC_TIMESTAMP: Definition = Definition {
-    profile: Profile::Own,
+    set: KindSet::Profile,
     number: 128,
     name: "UTCTimestamp",
     fields: &[field!("Microseconds", 64)],
@@ -13,7 +13,7 @@ pub(crate) static UTC_TIMESTAMP: Definition = Definition {
 };
 
 pub(crate) static UPTIME: Definition = Definition {
-    profile: Profile::Own,
+    set: KindSet::Profile,
     number: 129,
     name: "Uptime",
     fields: &[field!("Microseconds", 64)],
@@ -22,7 +22,7 @@ pub(crate) static UPTIME: Definition = Definition {
 };
 
 pub(crate) static RO_SPEC: Definition = Definition {
-    profile: Profile::Own,
+    set: KindSet::Profile,
     number: 177,
     name: "ROSpec",
     fields: &[
@@ -39,7 +39,7 @@ pub(crate) static RO_SPEC: Definition = Definition {
 };
 
 pub(crate) static RO_BOUNDARY_SPEC: Definition = Definition {
-    profile: Profile::Own,
+    set: KindSet::Profile,
     number: 178,
     name: "ROBoundarySpec",
     fields: &[],
@@ -48,7 +48,7 @@ pub(crate) static RO_BOUNDARY_SPEC: Definition = Definition {
 };
 
 pub(crate) static RO_SPEC_START_TRIGGER: Definition = Definition {
-    profile: Profile::Own,
+    set: KindSet::Profile,
     number: 179,
     name: "ROSpecStartTrigger",
     fields: &[field!("Type", 8, 3)],
@@ -60,7 +60,7 @@ pub(crate) static RO_SPEC_START_TRIGGER: Definition = Definition {
 };
 
 pub(crate) static PERIODIC_TRIGGER_VALUE: Definition = Definition {
-    profile: Profile::Own,
+    set: KindSet::Profile,
     number: 180,
     name: "PeriodicTriggerValue",
     fields: &[field!("Offset", 32), field!("Period", 32)],
@@ -69,7 +69,7 @@ pub(crate) static PERIODIC_TRIGGER_VALUE: Definition = Definition {
 };
 
 pub(crate) static GPI_TRIGGER_VALUE: Definition = Definition {
-    profile: Profile::Own,
+    set: KindSet::Profile,
     number: 181,
     name: "GPITriggerValue",
     fields: &[
@@ -83,7 +83,7 @@ pub(crate) static GPI_TRIGGER_VALUE: Definition = Definition {
 };
 
 pub(crate) static RO_SPEC_STOP_TRIGGER: Definition = Definition {
-    profile: Profile::Own,
+    set: KindSet::Profile,
     number: 182,
     name: "ROSpecStopTrigger",
     fields: &[field!("Type", 8, 2), field!("Duration", 32)],
@@ -92,7 +92,7 @@ pub(crate) static RO_SPEC_STOP_TRIGGER: Definition = Definition {
 };
 
 pub(crate) static AI_SPEC: Definition = Definition {
-    profile: Profile::Own,
+    set: KindSet::Profile,
     number: 183,
     name: "AISpec",
     fields: &[],
@@ -104,7 +104,7 @@ pub(crate) static AI_SPEC: Definition = Definition {
 };
 
 pub(crate) static AI_SPEC_STOP_TRIGGER: Definition = Definition {
-    profile: Profile::Own,
+    set: KindSet::Profile,
     number: 184,
     name: "AISpecStopTrigger",
     fields: &[field!("Type", 8, 3), field!("Duration", 32)],
@@ -116,7 +116,7 @@ pub(crate) static AI_SPEC_STOP_TRIGGER: Definition = Definition {
 };
 
 pub(crate) static TAG_OBSERVATION_TRIGGER: Definition = Definition {
-    profile: Profile::Own,
+    set: KindSet::Profile,
     number: 185,
     name: "TagObservationTrigger",
     fields: &[
@@ -132,7 +132,7 @@ pub(crate) static TAG_OBSERVATION_TRIGGER: Definition = Definition {
 };
 
 pub(crate) static INVENTORY_PARAMETER_SPEC: Definition = Definition {
-    profile: Profile::Own,
+    set: KindSet::Profile,
     number: 186,
     name: "InventoryParameterSpec",
     fields: &[field!("ID", 16), field!("ProtocolID", 8)],
@@ -141,7 +141,7 @@ pub(crate) static INVENTORY_PARAMETER_SPEC: Definition = Definition {
 };
 
 pub(crate) static KEEPALIVE_SPEC: Definition = Definition {
-    profile: Profile::Own,
+    set: KindSet::Profile,
     number: 220,
     name: "KeepaliveSpec",
     fields: &[field!("Type", 8, 1), field!("Period", 32)],
@@ -150,7 +150,7 @@ pub(crate) static KEEPALIVE_SPEC: Definition = Definition {
 };
 
 pub(crate) static ANTENNA_CONFIGURATION: Definition = Definition {
-    profile: Profile::Own,
+    set: KindSet::Profile,
     number: 222,
     name: "AntennaConfiguration",
     fields: &[field!("AntennaID", 16)],
@@ -163,7 +163,7 @@ pub(crate) static ANTENNA_CONFIGURATION: Definition = Definition {
 };
 
 pub(crate) static RF_RECEIVER: Definition = Definition {
-    profile: Profile::Own,
+    set: KindSet::Profile,
     number: 223,
     name: "RFReceiver",
     fields: &[field!("Sensitivity", 16)],
@@ -172,7 +172,7 @@ pub(crate) static RF_RECEIVER: Definition = Definition {
 };
 
 pub(crate) static RF_TRANSMITTER: Definition = Definition {
-    profile: Profile::Own,
+    set: KindSet::Profile,
     number: 224,
     name: "RFTransmitter",
     fields: &[
@@ -185,7 +185,7 @@ pub(crate) static RF_TRANSMITTER: Definition = Definition {
 };
 
 pub(crate) static EVENTS_AND_REPORTS: Definition = Definition {
-    profile: Profile::Own,
+    set: KindSet::Profile,
     number: 226,
     name: "EventsAndReports",
     fields: &[field!("Hold", 1), reserved!(7)],
@@ -194,7 +194,7 @@ pub(crate) static EVENTS_AND_REPORTS: Definition = Definition {
 };
 
 pub(crate) static RO_REPORT_SPEC: Definition = Definition {
-    profile: Profile::Own,
+    set: KindSet::Profile,
     number: 237,
     name: "ROReportSpec",
     fields: &[field!("Trigger", 8), field!("N", 16)],
@@ -203,7 +203,7 @@ pub(crate) static RO_REPORT_SPEC: Definition = Definition {
 };
 
 pub(crate) static TAG_REPORT_CONTENT_SELECTOR: Definition = Definition {
-    profile: Profile::Own,
+    set: KindSet::Profile,
     number: 238,
     name: "TagReportContentSelector",
     fields: &[
@@ -224,7 +224,7 @@ pub(crate) static TAG_REPORT_CONTENT_SELECTOR: Definition = Definition {
 };
 
 pub(crate) static TAG_REPORT_DATA: Definition = Definition {
-    profile: Profile::Own,
+    set: KindSet::Profile,
     number: 240,
     name: "TagReportData",
     fields: &[],
@@ -249,7 +249,7 @@ pub(crate) static TAG_REPORT_DATA: Definition = Definition {
 };
 
 pub(crate) static EPC_DATA: Definition = Definition {
-    profile: Profile::Own,
+    set: KindSet::Profile,
     number: 241,
     name: "EPCData",
     fields: &[field!("BitCount", 16)],
@@ -258,7 +258,7 @@ pub(crate) static EPC_DATA: Definition = Definition {
 };
 
 pub(crate) static READER_EVENT_NOTIFICATION_SPEC: Definition = Definition {
-    profile: Profile::Own,
+    set: KindSet::Profile,
     number: 244,
     name: "ReaderEventNotificationSpec",
     fields: &[],
@@ -267,7 +267,7 @@ pub(crate) static READER_EVENT_NOTIFICATION_SPEC: Definition = Definition {
 };
 
 pub(crate) static EVENT_NOTIFICATION_STATE: Definition = Definition {
-    profile: Profile::Own,
+    set: KindSet::Profile,
     number: 245,
     name: "EventNotificationState",
     fields: &[field!("EventType", 16), field!("State", 1), reserved!(7)],
@@ -276,7 +276,7 @@ pub(crate) static EVENT_NOTIFICATION_STATE: Definition = Definition {
 };
 
 pub(crate) static READER_EVENT_NOTIFICATION_DATA: Definition = Definition {
-    profile: Profile::Own,
+    set: KindSet::Profile,
     number: 246,
     name: "ReaderEventNotificationData",
     fields: &[],
@@ -295,7 +295,7 @@ pub(crate) static READER_EVENT_NOTIFICATION_DATA: Definition = Definition {
 };
 
 pub(crate) static GPI_EVENT: Definition = Definition {
-    profile: Profile::Own,
+    set: KindSet::Profile,
     number: 248,
     name: "GPIEvent",
     fields: &[field!("Port", 16), field!("Event", 1), reserved!(7)],
@@ -304,7 +304,7 @@ pub(crate) static GPI_EVENT: Definition = Definition {
 };
 
 pub(crate) static RO_SPEC_EVENT: Definition = Definition {
-    profile: Profile::Own,
+    set: KindSet::Profile,
     number: 249,
     name: "ROSpecEvent",
     fields: &[
@@ -317,7 +317,7 @@ pub(crate) static RO_SPEC_EVENT: Definition = Definition {
 };
 
 pub(crate) static REPORT_BUFFER_LEVEL_WARNING_EVENT: Definition = Definition {
-    profile: Profile::Own,
+    set: KindSet::Profile,
     number: 250,
     name: "ReportBufferLevelWarningEvent",
     fields: &[field!("Percent", 8)],
@@ -326,7 +326,7 @@ pub(crate) static REPORT_BUFFER_LEVEL_WARNING_EVENT: Definition = Definition {
 };
 
 pub(crate) static REPORT_BUFFER_OVERFLOW_ERROR_EVENT: Definition = Definition {
-    profile: Profile::Own,
+    set: KindSet::Profile,
     number: 251,
     name: "ReportBufferOverflowErrorEvent",
     fields: &[],
@@ -335,7 +335,7 @@ pub(crate) static REPORT_BUFFER_OVERFLOW_ERROR_EVENT: Definition = Definition {
 };
 
 pub(crate) static AI_SPEC_EVENT: Definition = Definition {
-    profile: Profile::Own,
+    set: KindSet::Profile,
     number: 254,
     name: "AISpecEvent",
     fields: &[
@@ -348,7 +348,7 @@ pub(crate) static AI_SPEC_EVENT: Definition = Definition {
 };
 
 pub(crate) static ANTENNA_EVENT: Definition = Definition {
-    profile: Profile::Own,
+    set: KindSet::Profile,
     number: 255,
     name: "AntennaEvent",
     fields: &[field!("Type", 8), field!("AntennaID", 16)],
@@ -357,7 +357,7 @@ pub(crate) static ANTENNA_EVENT: Definition = Definition {
 };
 
 pub(crate) static CONNECTION_ATTEMPT_EVENT: Definition = Definition {
-    profile: Profile::Own,
+    set: KindSet::Profile,
     number: 256,
     name: "ConnectionAttemptEvent",
     fields: &[field!("Status", 16, 4)],
@@ -366,7 +366,7 @@ pub(crate) static CONNECTION_ATTEMPT_EVENT: Definition = Definition {
 };
 
 pub(crate) static CONNECTION_CLOSE_EVENT: Definition = Definition {
-    profile: Profile::Own,
+    set: KindSet::Profile,
     number: 257,
     name: "ConnectionCloseEvent",
     fields: &[],
@@ -375,7 +375,7 @@ pub(crate) static CONNECTION_CLOSE_EVENT: Definition = Definition {
 };
 
 pub(crate) static LLRP_STATUS: Definition = Definition {
-    profile: Profile::Own,
+    set: KindSet::Profile,
     number: 287,
     name: "LLRPStatus",
     fields: &[field!("StatusCode", 16)],
@@ -384,7 +384,7 @@ pub(crate) static LLRP_STATUS: Definition = Definition {
 };
 
 pub(crate) static FIELD_ERROR: Definition = Definition {
-    profile: Profile::Own,
+    set: KindSet::Profile,
     number: 288,
     name: "FieldError",
     fields: &[field!("FieldNumber", 16), field!("ErrorCode", 16)],
@@ -393,7 +393,7 @@ pub(crate) static FIELD_ERROR: Definition = Definition {
 };
 
 pub(crate) static PARAMETER_ERROR: Definition = Definition {
-    profile: Profile::Own,
+    set: KindSet::Profile,
     number: 289,
     name: "ParameterError",
     fields: &[field!("ParameterType", 16), field!("ErrorCode", 16)],
@@ -402,7 +402,7 @@ pub(crate) static PARAMETER_ERROR: Definition = Definition {
 };
 
 pub(crate) static C1G2_INVENTORY_COMMAND: Definition = Definition {
-    profile: Profile::Own,
+    set: KindSet::Profile,
     number: 330,
     name: "C1G2InventoryCommand",
     fields: &[field!("StateAware", 1), reserved!(7)],
@@ -414,7 +414,7 @@ pub(crate) static C1G2_INVENTORY_COMMAND: Definition = Definition {
 };
 
 pub(crate) static C1G2_RF_CONTROL: Definition = Definition {
-    profile: Profile::Own,
+    set: KindSet::Profile,
     number: 335,
     name: "C1G2RFControl",
     fields: &[field!("ModeIndex", 16), field!("Tari", 16)],
@@ -423,7 +423,7 @@ pub(crate) static C1G2_RF_CONTROL: Definition = Definition {
 };
 
 pub(crate) static C1G2_SINGULATION_CONTROL: Definition = Definition {
-    profile: Profile::Own,
+    set: KindSet::Profile,
     number: 336,
     name: "C1G2SingulationControl",
     fields: &[
@@ -437,7 +437,7 @@ pub(crate) static C1G2_SINGULATION_CONTROL: Definition = Definition {
 };
 
 pub(crate) static C1G2_EPC_MEMORY_SELECTOR: Definition = Definition {
-    profile: Profile::Own,
+    set: KindSet::Profile,
     number: 348,
     name: "C1G2EPCMemorySelector",
     fields: &[field!("Selector", 8)],

@@ -1,6 +1,6 @@
 //! The rows of the parameters with a type and a value alone (LLRP 1.1, section 17.2).
 
-use crate::kinds::{Definition, Field, Profile, Tail};
+use crate::kinds::{Definition, Field, KindSet, Tail};
 use crate::row_macros::{field, signed, tv};
 
 pub static ANTENNA_ID: Definition = tv!(1, "AntennaID", field!("AntennaID", 16));

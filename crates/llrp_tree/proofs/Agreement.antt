@@ -6,11 +6,11 @@ use Rattle.tag_bits.specs.Digits.{value, digits}
 use Rattle.llrp_schema.specs.declared.kinds.MsgKind.{MsgKind}
 use Rattle.llrp_schema.specs.declared.kinds.ParamKind.{ParamKind}
 use Rattle.llrp_schema.specs.declared.kinds.Kind.TheVariants.{Message}
-use Rattle.llrp_schema.specs.Schema.{number_of, profile_of}
+use Rattle.llrp_schema.specs.Schema.{number_of, set_of_kind}
 use Rattle.llrp_schema.proofs.TableLaws.{message_number_fits, message_numbers_in}
 use Rattle.llrp_tree.specs.Tree.{Forest, none, and}
 use Rattle.llrp_tree.specs.Spelling.{Head, message, tlv, tv, head_digits, forest_digits}
-use Rattle.llrp_tree.specs.OpenTree.{root_profile, Begun, leading_digits, part, covers, due, Rest, IsHeader, IsHead, IsOpenNode, IsOpenTree}
+use Rattle.llrp_tree.specs.OpenTree.{root_set, Begun, leading_digits, part, covers, due, Rest, IsHeader, IsHead, IsOpenNode, IsOpenTree}
 use Rattle.llrp_tree.specs.Calls.OpenTree.{parts, whole_parts, tail_parts}
 use Rattle.llrp_tree.specs.FirstFault.{next_fault}
 use Rattle.llrp_tree.proofs.ReadDigits.{drop_own, number_own}
@@ -83,7 +83,7 @@ regroup : (v : ℕ) (t : MsgKind) (n id : ℕ) (x : List Bool) → head_digits (
 unfolding head_digits
 regroup v t n id x = simp append_assoc
 
-same_message : (v : ℕ) (t : MsgKind) (n id v2 : ℕ) (t2 : MsgKind) (n2 id2 : ℕ) (x y : List Bool) → v < 2 ^ 3 → n < 2 ^ 32 → id < 2 ^ 32 → v2 < 2 ^ 3 → n2 < 2 ^ 32 → id2 < 2 ^ 32 → profile_of (Message t) ≡ profile_of (Message t2)
+same_message : (v : ℕ) (t : MsgKind) (n id v2 : ℕ) (t2 : MsgKind) (n2 id2 : ℕ) (x y : List Bool) → v < 2 ^ 3 → n < 2 ^ 32 → id < 2 ^ 32 → v2 < 2 ^ 3 → n2 < 2 ^ 32 → id2 < 2 ^ 32 → set_of_kind (Message t) ≡ set_of_kind (Message t2)
     → head_digits (message v t n id) ++ x ≡ head_digits (message v2 t2 n2 id2) ++ y → (message v t n id ≡ message v2 t2 n2 id2) × (n ≡ n2)
 same_message v t n id v2 t2 n2 id2 x y lv ln lid lv2 ln2 lid2 p e =
     let e0 = sym (regroup v t n id x) ∙ e ∙ regroup v2 t2 n2 id2 y in
@@ -131,10 +131,10 @@ head_covered h stop = append-nil (head_digits h)
 
 -- ---- agreement
 
-first_root : (t : List Begun) (a : IsFirst t) → root_profile t ≡ profile_of (Message a.kind)
-first_root t a = ap root_profile a.is
+first_root : (t : List Begun) (a : IsFirst t) → root_set t ≡ set_of_kind (Message a.kind)
+first_root t a = ap root_set a.is
 
-pub agree : (n : ℕ) (t u : List Begun) (r s : List Bool) → IsOpenTree t → IsOpenTree u → parts t ≡ suc n → parts u ≡ suc n → root_profile t ≡ root_profile u → covers t ++ r ≡ covers u ++ s → (t ≡ u) × (r ≡ s)
+pub agree : (n : ℕ) (t u : List Begun) (r s : List Bool) → IsOpenTree t → IsOpenTree u → parts t ≡ suc n → parts u ≡ suc n → root_set t ≡ root_set u → covers t ++ r ≡ covers u ++ s → (t ≡ u) × (r ≡ s)
 agree zero t u r s st su pt pu roots e =
     let a = first t st pt in
     let b = first u su pu in
@@ -158,13 +158,13 @@ no_parts [] e = refl
 no_parts (b ∷ outer) e = absurd (omega arith)
 
 -- two open trees with equally many parts are equal
-pub agree_at : (n : ℕ) (t u : List Begun) (r s : List Bool) → IsOpenTree t → IsOpenTree u → parts t ≡ n → parts u ≡ n → root_profile t ≡ root_profile u → covers t ++ r ≡ covers u ++ s → t ≡ u
+pub agree_at : (n : ℕ) (t u : List Begun) (r s : List Bool) → IsOpenTree t → IsOpenTree u → parts t ≡ n → parts u ≡ n → root_set t ≡ root_set u → covers t ++ r ≡ covers u ++ s → t ≡ u
 agree_at zero t u r s st su pt pu roots e = no_parts t pt ∙ sym (no_parts u pu)
 agree_at (suc n) t u r s st su pt pu roots e = (agree n t u r s st su pt pu roots e).0
 
 -- a tree with more parts came by a step from one with fewer
 earlier : (k n : ℕ) (t : List Begun) (r : List Bool) → IsOpenTree t → parts t ≡ suc (suc (k + n))
-    → (tree : List Begun) × (left : List Bool) × (grown : List Begun) × IsOpenTree tree × (parts tree ≡ suc n) × (covers tree ++ left ≡ covers t ++ r) × (next tree left ≡ Grows grown) × (root_profile tree ≡ root_profile t)
+    → (tree : List Begun) × (left : List Bool) × (grown : List Begun) × IsOpenTree tree × (parts tree ≡ suc n) × (covers tree ++ left ≡ covers t ++ r) × (next tree left ≡ Grows grown) × (root_set tree ≡ root_set t)
 earlier zero n t r s e = let a = shrinks t r n s (omega arith) in (a.tree, a.left, t, a.is_open, a.fewer, a.same, a.step, a.root)
 earlier (suc k) n t r s e =
     let a = shrinks t r (suc (k + n)) s (omega arith) in
@@ -181,7 +181,7 @@ unfolding next next_fault parts
 has_part [] r e = absurd e
 has_part (b ∷ outer) r e = (parts outer + (length b.fields + tail_parts b.tail + whole_parts b.children), omega arith)
 
-pub not_both : (t u : List Begun) (r s : List Bool) → IsOpenTree t → IsOpenTree u → root_profile t ≡ root_profile u → covers t ++ r ≡ covers u ++ s → IsEnd (next t r) → parts t < parts u → ⊥
+pub not_both : (t u : List Begun) (r s : List Bool) → IsOpenTree t → IsOpenTree u → root_set t ≡ root_set u → covers t ++ r ≡ covers u ++ s → IsEnd (next t r) → parts t < parts u → ⊥
 not_both t u r s st su roots e end lt =
     let n = has_part t r end in
     let k : ℕ = parts u - parts t - 1 in
@@ -192,7 +192,7 @@ not_both t u r s st su roots e end lt =
     subst IsEnd step end
 
 -- only one open tree is at an end
-pub one_end : (t u : List Begun) (r s : List Bool) → IsOpenTree t → IsOpenTree u → root_profile t ≡ root_profile u → covers t ++ r ≡ covers u ++ s → IsEnd (next t r) → IsEnd (next u s) → (t ≡ u) × (r ≡ s)
+pub one_end : (t u : List Begun) (r s : List Bool) → IsOpenTree t → IsOpenTree u → root_set t ≡ root_set u → covers t ++ r ≡ covers u ++ s → IsEnd (next t r) → IsEnd (next u s) → (t ≡ u) × (r ≡ s)
 one_end t u r s st su roots e et eu =
     elim (cases_order (parts t) (parts u)) [
       | inl same ↦ (let n = has_part t r et in agree n.0 t u r s st su n.1 (sym same ∙ n.1) roots e)

@@ -10,7 +10,7 @@ use Rattle.llrp_schema.specs.declared.kinds.Kind.{Kind}
 use Rattle.llrp_schema.specs.declared.kinds.Kind.TheVariants.{Message, Parameter}
 use Rattle.llrp_schema.specs.declared.kinds.Tail.{Tail}
 use Rattle.llrp_schema.proofs.TableLaws.{message_found_in, tv_tail, tv_groups}
-use Rattle.llrp_schema.specs.Schema.{profile_of, GroupRule, fields_of, tail_of, groups_of, is_tv}
+use Rattle.llrp_schema.specs.Schema.{set_of_kind, GroupRule, fields_of, tail_of, groups_of, is_tv}
 use Rattle.llrp_tree.specs.declared.TheConstants.{MAX_LIMIT}
 use Rattle.llrp_tree.specs.declared.fault.Reason.TheVariants.{Missing}
 use Rattle.llrp_tree.specs.declared.fault.FrameErr.{FrameErr}
@@ -20,7 +20,7 @@ use Rattle.llrp_tree.specs.Lawful.{AreOctets, IsLawfulTree}
 use Rattle.llrp_tree.specs.Checks.{none_missing}
 use Rattle.llrp_tree.specs.Spelling.{Head, message, tlv, tv, spread}
 use Rattle.llrp_tree.specs.Frame.{Frame}
-use Rattle.llrp_schema.specs.declared.kinds.Profile.{Profile}
+use Rattle.llrp_schema.specs.declared.kinds.KindSet.{KindSet}
 use Rattle.llrp_tree.specs.OpenTree.{root_of, Begun, kind_of_head, groups, due, Rest, is_enough, IsHead, IsOpenTree}
 use Rattle.llrp_tree.specs.Calls.OpenTree.{as_read}
 use Rattle.llrp_tree.specs.FirstFault.{number, first_failing, checks, Close, has_ended, header_checks_in}
@@ -132,7 +132,7 @@ tv_stands ds p outer at hb stop k ws os cs no_octets no_child e short l st =
 
 -- ---- the frame
 
-module _ (p : Profile) (bytes : List ℕ) (limit v : ℕ) (k : MsgKind) (n id : ℕ) (s : HeaderSaysIn p limit (digits_of_bytes bytes) v k n id) (own : number (digits_of_bytes bytes) 16 32 ≡ length bytes) (ten : 10 ≤ length bytes) where
+module _ (p : KindSet) (bytes : List ℕ) (limit v : ℕ) (k : MsgKind) (n id : ℕ) (s : HeaderSaysIn p limit (digits_of_bytes bytes) v k n id) (own : number (digits_of_bytes bytes) 16 32 ≡ length bytes) (ten : 10 ≤ length bytes) where
   pub is_length : n ≡ length bytes
   is_length = s.octets_is ∙ own
 
@@ -148,12 +148,12 @@ module _ (p : Profile) (bytes : List ℕ) (limit v : ℕ) (k : MsgKind) (n id : 
   pub within_limit : n ≤ limit
   within_limit = (let a = leb-true (number (digits_of_bytes bytes) 16 32) limit (all_hold (header_checks_in p limit (digits_of_bytes bytes)) s.passes).1.1.1.0 in omega (arith, s.octets_is))
 
-  pub of_profile : profile_of (Message k) ≡ p
-  of_profile = (message_found_in p (number (digits_of_bytes bytes) 6 10) k s.kind_is).0
+  pub of_set : set_of_kind (Message k) ≡ p
+  of_set = (message_found_in p (number (digits_of_bytes bytes) 6 10) k s.kind_is).0
 
-  pub body_tells : (e : FrameErr) → Tells (profile_of (Message k)) (digits_of_bytes bytes) e → IsFirstIn p bytes limit e
+  pub body_tells : (e : FrameErr) → Tells (set_of_kind (Message k)) (digits_of_bytes bytes) e → IsFirstIn p bytes limit e
   body_tells Memory f = tt
-  body_tells (Bad x) f = fault_of_frame p limit bytes x.bit x.reason s.passes (subst (λ (q : Profile). IsFaultOf q (digits_of_bytes bytes) x.bit x.reason) of_profile f)
+  body_tells (Bad x) f = fault_of_frame p limit bytes x.bit x.reason s.passes (subst (λ (q : KindSet). IsFaultOf q (digits_of_bytes bytes) x.bit x.reason) of_set f)
 
   pub body_is_frame : (ws os : List ℕ) (cs : Forest) (at : ℕ) → limit ≤ MAX_LIMIT → AreOctets bytes → length ws ≡ length (plain (fields_of (Message k))) → unwrap_or (as_read (tail_of (Message k)) os) [] ≡ os → Closes (digits_of_bytes bytes) (open_body (message v k n id) (8 * length bytes) (Message k) ws os cs) [] at
       → Frame (record { version = v; id = id; kind = k; fields = ws; tail = os; children = cs }) bytes limit

@@ -10,9 +10,9 @@ use Rattle.tag_bits.specs.Digits.{value, digits_of_bytes, field}
 use Rattle.llrp_schema.specs.declared.kinds.ParamKind.{ParamKind}
 use Rattle.llrp_schema.specs.declared.kinds.Kind.{Kind}
 use Rattle.llrp_schema.specs.declared.kinds.Tail.TheVariants.{Text}
-use Rattle.llrp_schema.specs.declared.kinds.Profile.{Profile}
+use Rattle.llrp_schema.specs.declared.kinds.KindSet.{KindSet}
 use Rattle.llrp_schema.specs.declared.kinds.Group.{Group}
-use Rattle.llrp_schema.specs.Schema.{GroupRule, groups_of, profile_of, is_tv}
+use Rattle.llrp_schema.specs.Schema.{GroupRule, groups_of, set_of_kind, is_tv}
 use Rattle.llrp_schema.specs.Calls.Schema.{group_rule}
 use Rattle.llrp_tree.specs.declared.TheConstants.{MAX_DEPTH}
 use Rattle.llrp_tree.specs.declared.fault.Reason.{Reason}
@@ -71,7 +71,7 @@ pub and_not : (b : Bool) → (b && false) ≡ false
 and_not true = refl
 and_not false = refl
 
-module _ (pr : Profile) (gs : List GroupRule) (cs : Forest) (level at stop : ℕ) (rest : List Bool) (room : at + 32 ≤ stop) (zeros : number rest 0 6 ≡ 0) where
+module _ (pr : KindSet) (gs : List GroupRule) (cs : Forest) (level at stop : ℕ) (rest : List Bool) (room : at + 32 ≤ stop) (zeros : number rest 0 6 ≡ 0) where
   pub kind_fails : (e : FrameErr) → FailsFirst (kind_checks (tlv_kind pr rest) gs cs level at (at + 6)) e → FailsFirst (tlv_checks pr gs cs level at stop rest) e
   kind_fails Memory f = f
   kind_fails (Bad x) f = rw (le-leb (at + 32) stop room, zeros) (first_before (kind_checks (tlv_kind pr rest) gs cs level at (at + 6)) _ (x.bit, x.reason) f)
@@ -146,18 +146,18 @@ module _ (ds : List Bool) (h : Head) (stop : ℕ) (fs : List ℕ) (tl : Option (
   at_level : level + 1 ≡ length (here ∷ outer)
   at_level = omega (arith, l)
 
-  pub tv_tells : (e : FrameErr) → has_none (groups_of parent) ≡ false → first_digit (drop at ds) ≡ true → FailsFirst (kind_checks (tv_kind (profile_of parent) (drop at ds)) (groups_of parent) siblings (level + 1) at (at + 1)) e → Tells (root_of h outer) ds e
+  pub tv_tells : (e : FrameErr) → has_none (groups_of parent) ≡ false → first_digit (drop at ds) ≡ true → FailsFirst (kind_checks (tv_kind (set_of_kind parent) (drop at ds)) (groups_of parent) siblings (level + 1) at (at + 1)) e → Tells (root_of h outer) ds e
   unfolding checks
   tv_tells e g z f =
-      let P : Kind → Type 0 = λ j. FailsFirst (kind_checks (tv_kind (profile_of j) (drop at ds)) (groups_of j) siblings (length (here ∷ outer)) at (at + 1)) e in
-      let Q : ℕ → Type 0 = λ n. FailsFirst (kind_checks (tv_kind (profile_of parent) (drop at ds)) (groups_of parent) siblings n at (at + 1)) e in
+      let P : Kind → Type 0 = λ j. FailsFirst (kind_checks (tv_kind (set_of_kind j) (drop at ds)) (groups_of j) siblings (length (here ∷ outer)) at (at + 1)) e in
+      let Q : ℕ → Type 0 = λ n. FailsFirst (kind_checks (tv_kind (set_of_kind parent) (drop at ds)) (groups_of parent) siblings n at (at + 1)) e in
       tells ds here outer at BeginTv e st (tv_turn g z) (subst P (sym k) (subst Q at_level f))
 
-  pub tlv_tells : (e : FrameErr) → has_none (groups_of parent) ≡ false → first_digit (drop at ds) ≡ false → FailsFirst (tlv_checks (profile_of parent) (groups_of parent) siblings (level + 1) at stop (drop at ds)) e → Tells (root_of h outer) ds e
+  pub tlv_tells : (e : FrameErr) → has_none (groups_of parent) ≡ false → first_digit (drop at ds) ≡ false → FailsFirst (tlv_checks (set_of_kind parent) (groups_of parent) siblings (level + 1) at stop (drop at ds)) e → Tells (root_of h outer) ds e
   unfolding checks
   tlv_tells e g z f =
-      let P : Kind → Type 0 = λ j. FailsFirst (tlv_checks (profile_of j) (groups_of j) siblings (length (here ∷ outer)) at stop (drop at ds)) e in
-      let Q : ℕ → Type 0 = λ n. FailsFirst (tlv_checks (profile_of parent) (groups_of parent) siblings n at stop (drop at ds)) e in
+      let P : Kind → Type 0 = λ j. FailsFirst (tlv_checks (set_of_kind j) (groups_of j) siblings (length (here ∷ outer)) at stop (drop at ds)) e in
+      let Q : ℕ → Type 0 = λ n. FailsFirst (tlv_checks (set_of_kind parent) (groups_of parent) siblings n at stop (drop at ds)) e in
       tells ds here outer at BeginTlv e st (tlv_turn g z) (subst P (sym k) (subst Q at_level f))
 
   may_begin : (found : Option ParamKind) (c : ParamKind) → KindPasses found (groups_of parent) siblings (level + 1) c → MayBegin here c
@@ -166,10 +166,10 @@ module _ (ds : List Bool) (h : Head) (stop : ℕ) (fs : List ℕ) (tl : Option (
       let Q : Kind → Type 0 = λ j. takes_more (groups_of j) c siblings ≡ true in
       record { ready = d; has = subst P (sym k) p.has; more = subst Q (sym k) p.takes }
 
-  pub tv_begun : (c : ParamKind) → first_digit (drop at ds) ≡ true → KindPasses (tv_kind (profile_of parent) (drop at ds)) (groups_of parent) siblings (level + 1) c → IsAt ds (leading (tv c) stop [] ∷ here ∷ outer) (at + 8)
-  tv_begun c z p = grow_tv here outer ds at c st (octet_left ds here outer at st d lt) z (subst (λ (j : Kind). tv_kind (profile_of j) (drop at ds) ≡ Some c) (sym k) p.is) (may_begin (tv_kind (profile_of parent) (drop at ds)) c p) (omega (arith, p.deep, at_level))
+  pub tv_begun : (c : ParamKind) → first_digit (drop at ds) ≡ true → KindPasses (tv_kind (set_of_kind parent) (drop at ds)) (groups_of parent) siblings (level + 1) c → IsAt ds (leading (tv c) stop [] ∷ here ∷ outer) (at + 8)
+  tv_begun c z p = grow_tv here outer ds at c st (octet_left ds here outer at st d lt) z (subst (λ (j : Kind). tv_kind (set_of_kind j) (drop at ds) ≡ Some c) (sym k) p.is) (may_begin (tv_kind (set_of_kind parent) (drop at ds)) c p) (omega (arith, p.deep, at_level))
 
-  pub tlv_begun : (c : ParamKind) (n : ℕ) → TlvPasses (profile_of parent) (groups_of parent) siblings (level + 1) at stop (drop at ds) c n → IsAt ds (leading (tlv c n) (at + 8 * n) [] ∷ here ∷ outer) (at + 32)
+  pub tlv_begun : (c : ParamKind) (n : ℕ) → TlvPasses (set_of_kind parent) (groups_of parent) siblings (level + 1) at stop (drop at ds) c n → IsAt ds (leading (tlv c n) (at + 8 * n) [] ∷ here ∷ outer) (at + 32)
   tlv_begun c n p =
       let P : ℕ → Type 0 = λ m. IsAt ds (leading (tlv c m) (at + 8 * m) [] ∷ here ∷ outer) (at + 32) in
-      subst P (sym p.octets_are) (grow_tlv here outer ds at c st p.room p.zeros (subst (λ (j : Kind). tlv_kind (profile_of j) (drop at ds) ≡ Some c) (sym k) p.placed.is) (may_begin (tlv_kind (profile_of parent) (drop at ds)) c p.placed) (omega (arith, p.placed.deep, at_level)) (omega (arith, p.least, p.octets_are)) (omega (arith, p.most, p.octets_are)))
+      subst P (sym p.octets_are) (grow_tlv here outer ds at c st p.room p.zeros (subst (λ (j : Kind). tlv_kind (set_of_kind j) (drop at ds) ≡ Some c) (sym k) p.placed.is) (may_begin (tlv_kind (set_of_kind parent) (drop at ds)) c p.placed) (omega (arith, p.placed.deep, at_level)) (omega (arith, p.least, p.octets_are)) (omega (arith, p.most, p.octets_are)))

@@ -14,7 +14,7 @@ use Rattle.llrp_tree.specs.declared.fault.Reason.TheVariants.{Reserved, Short, V
 use Rattle.llrp_tree.specs.Tree.{Forest}
 use Rattle.llrp_tree.specs.Lawful.{has_place}
 use Rattle.llrp_tree.specs.Spelling.{Head, message, tlv, tv}
-use Rattle.llrp_tree.specs.OpenTree.{profile, Begun, kind_of_head, groups, covers, Due, AField, ATail, Rest, due, takes_more, is_enough, IsHead, IsOpenTree}
+use Rattle.llrp_tree.specs.OpenTree.{set, Begun, kind_of_head, groups, covers, Due, AField, ATail, Rest, due, takes_more, is_enough, IsHead, IsOpenTree}
 use Rattle.llrp_tree.specs.FirstFault.{check, Check, first_failing, tail_at, tail_end, tlv_kind, tlv_octets, tail_checks, kind_checks, checks, ReadField, BeginTlv, turn_of, next_part, has_ended, has_none, first_digit, next_fault}
 use Rattle.llrp_tree.specs.Calls.Deciding.{deciding_tail, deciding_of, deciding, failing_tail, failing_part, failing_end, FaultsAreDecided}
 use Rattle.llrp_tree.proofs.Openings.{tv_has_none}
@@ -124,8 +124,8 @@ module _ (b : Begun) (outer : List Begun) (rest : List Bool) (bit : ℕ) (reason
   by_turn Rest false true z eo e = refl
   by_turn Rest false false true eo e = refl
   by_turn Rest false false false eo e = (let fits : Bool = nat_le 4 (tlv_octets rest) && nat_le (at + 8 * tlv_octets rest) b.stop in
-      let more : List Check = kind_checks (tlv_kind (profile b) rest) (groups b) b.children (length (b ∷ outer)) at (at + 6) ++ check fits (at + 16) ParamLength ∷ [] in
-      head_decided b at rest _ _ more bit reason (kind_reason (tlv_kind (profile b) rest) (groups b) b.children (length (b ∷ outer)) at (at + 6) fits bit reason) e)
+      let more : List Check = kind_checks (tlv_kind (set b) rest) (groups b) b.children (length (b ∷ outer)) at (at + 6) ++ check fits (at + 16) ParamLength ∷ [] in
+      head_decided b at rest _ _ more bit reason (kind_reason (tlv_kind (set b) rest) (groups b) b.children (length (b ∷ outer)) at (at + 6) fits bit reason) e)
 
 pub faults_are_decided : FaultsAreDecided
 unfolding next_fault deciding failing_end next_part

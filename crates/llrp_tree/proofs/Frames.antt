@@ -8,7 +8,7 @@ use Rattle.tag_bits.specs.Digits.{digits, digits_of_bytes}
 use Rattle.tag_bits.proofs.ByteLemmas.{length-bytes, bytes-append}
 use Rattle.llrp_schema.specs.declared.kinds.MsgKind.{MsgKind}
 use Rattle.llrp_schema.specs.declared.kinds.Kind.TheVariants.{Message}
-use Rattle.llrp_schema.specs.Schema.{profile_of, message_in as find_message, fields_of, tail_of, groups_of, number_of}
+use Rattle.llrp_schema.specs.Schema.{set_of_kind, message_in as find_message, fields_of, tail_of, groups_of, number_of}
 use Rattle.llrp_schema.proofs.TableLaws.{message_at_number, message_found_in, message_number_fits}
 use Rattle.llrp_tree.specs.declared.TheConstants.{MAX_DEPTH, MAX_LIMIT}
 use Rattle.llrp_tree.specs.declared.fault.Reason.{Reason}
@@ -17,7 +17,7 @@ use Rattle.llrp_tree.specs.Tree.{Forest, none, and, MessageTree}
 use Rattle.llrp_tree.specs.Lawful.{levels, message_octets, AreOctets, ArePlaced, AllLawful, IsLawfulMessage}
 use Rattle.llrp_tree.specs.Spelling.{Head, message, tlv, tv, head_digits, spread, body_digits, forest_digits, message_digits}
 use Rattle.llrp_tree.specs.Frame.{Frame}
-use Rattle.llrp_schema.specs.declared.kinds.Profile.{Profile}
+use Rattle.llrp_schema.specs.declared.kinds.KindSet.{KindSet}
 use Rattle.llrp_tree.specs.OpenTree.{Begun, leading_digits, part, covers, Rest, due, plain_values, IsReadTail, IsHeader, IsOpenTree}
 use Rattle.llrp_tree.specs.Calls.OpenTree.{as_read}
 use Rattle.llrp_tree.specs.FirstFault.{number, first_failing, Close, next_fault, header_checks_in, FirstFaultIn}
@@ -36,7 +36,7 @@ use Rattle.llrp_tree.proofs.LawLemmas.{version_from as which_version, version_to
 
 -- ---- headers
 
-passes : (p : Profile) (limit : ℕ) (ds : List Bool) → (number ds 0 3 == 0) ≡ true → ((number ds 3 3 == 1) || (number ds 3 3 == 2)) ≡ true → is_some (find_message p (number ds 6 10)) ≡ true → nat_le (number ds 16 32) limit ≡ true
+passes : (p : KindSet) (limit : ℕ) (ds : List Bool) → (number ds 0 3 == 0) ≡ true → ((number ds 3 3 == 1) || (number ds 3 3 == 2)) ≡ true → is_some (find_message p (number ds 6 10)) ≡ true → nat_le (number ds 16 32) limit ≡ true
     → first_failing (header_checks_in p limit ds) ≡ None
 passes p limit ds a b c d = rw (a, b, c, d) refl
 
@@ -45,7 +45,7 @@ unfolding head_digits
 header_spread v k n id x = simp append_assoc
 
 -- a message's header passes
-header_passes : (p : Profile) (limit v : ℕ) (k : MsgKind) (n id : ℕ) (x : List Bool) → (v ≡ 1) ⊎ (v ≡ 2) → n < 2 ^ 32 → n ≤ limit → profile_of (Message k) ≡ p → first_failing (header_checks_in p limit (head_digits (message v k n id) ++ x)) ≡ None
+header_passes : (p : KindSet) (limit v : ℕ) (k : MsgKind) (n id : ℕ) (x : List Bool) → (v ≡ 1) ⊎ (v ≡ 2) → n < 2 ^ 32 → n ≤ limit → set_of_kind (Message k) ≡ p → first_failing (header_checks_in p limit (head_digits (message v k n id) ++ x)) ≡ None
 header_passes p limit v k n id x lv ln fit own =
     let t : ℕ = number_of (Message k) in
     let e : List Bool = digits 32 id ++ x in
@@ -121,7 +121,7 @@ no_bytes : (bytes : List ℕ) → digits_of_bytes bytes ≡ [] → bytes ≡ []
 no_bytes [] e = refl
 no_bytes (b ∷ bytes) e = absurd (let a = length-bytes (b ∷ bytes) in let z = ap (λ (x : List Bool). length x) e in omega arith)
 
-pub no_prefix : (limit : ℕ) (bytes more : List ℕ) (m k : MessageTree) → profile_of (Message m.kind) ≡ profile_of (Message k.kind) → Frame m bytes limit → Frame k (bytes ++ more) limit → (m ≡ k) × (more ≡ [])
+pub no_prefix : (limit : ℕ) (bytes more : List ℕ) (m k : MessageTree) → set_of_kind (Message m.kind) ≡ set_of_kind (Message k.kind) → Frame m bytes limit → Frame k (bytes ++ more) limit → (m ≡ k) × (more ≡ [])
 no_prefix limit bytes more m k roots f g =
     let x : List Bool = digits_of_bytes more in
     let a = frame_ends m bytes limit x f in
@@ -142,7 +142,7 @@ same_fault a b bit bit2 reason reason2 e x y =
     let z : ◌≡◌ {A = Option (ℕ × Reason)} (Some (bit, reason)) (Some (bit2, reason2)) = sym x ∙ e ∙ y in
     (ap (λ (o : Option (ℕ × Reason)). (fault_in o).0) z, ap (λ (o : Option (ℕ × Reason)). (fault_in o).1) z)
 
-pub one_fault : (p : Profile) (limit : ℕ) (bytes : List ℕ) (bit bit2 : ℕ) (reason reason2 : Reason) → FirstFaultIn p bytes limit bit reason → FirstFaultIn p bytes limit bit2 reason2 → (bit ≡ bit2) × (reason ≡ reason2)
+pub one_fault : (p : KindSet) (limit : ℕ) (bytes : List ℕ) (bit bit2 : ℕ) (reason reason2 : Reason) → FirstFaultIn p bytes limit bit reason → FirstFaultIn p bytes limit bit2 reason2 → (bit ≡ bit2) × (reason ≡ reason2)
 one_fault p limit bytes bit bit2 reason reason2 (inl a) (inl b) = same_fault _ _ bit bit2 reason reason2 refl a b
 one_fault p limit bytes bit bit2 reason reason2 (inl a) (inr b) = absurd (let h = b.header in cc)
 one_fault p limit bytes bit bit2 reason reason2 (inr a) (inl b) = absurd (let h = a.header in cc)
@@ -152,7 +152,7 @@ one_fault p limit bytes bit bit2 reason reason2 (inr a) (inr b) =
     let same = one_end a.tree b.tree a.rest b.rest a.is_open b.is_open (a.root ∙ sym b.root) (a.covered ∙ sym b.covered) (subst IsEnd (sym x) tt) (subst IsEnd (sym y) tt) in
     same_fault (next_fault a.tree a.rest) (next_fault b.tree b.rest) bit bit2 reason reason2 (ap (λ (t : List Begun). next_fault t a.rest) same.0 ∙ ap (λ (r : List Bool). next_fault b.tree r) same.1) a.fails b.fails
 
-pub not_both : (p : Profile) (limit : ℕ) (bytes : List ℕ) (m : MessageTree) (bit : ℕ) (reason : Reason) → profile_of (Message m.kind) ≡ p → Frame m bytes limit → FirstFaultIn p bytes limit bit reason → ⊥
+pub not_both : (p : KindSet) (limit : ℕ) (bytes : List ℕ) (m : MessageTree) (bit : ℕ) (reason : Reason) → set_of_kind (Message m.kind) ≡ p → Frame m bytes limit → FirstFaultIn p bytes limit bit reason → ⊥
 not_both p limit bytes m bit reason own f (inl a) =
     let l = f.lawful in
     let long : length bytes ≡ message_octets m = (let x = length-bytes bytes in let y = ap (λ (x : List Bool). length x) f.spelled in let z = length-message_digits m in omega arith) in
@@ -178,7 +178,7 @@ header_is ds k le z t =
     let e = digits_take 32 (drop 48 ds) (omega (arith, length-drop 48 ds)) in
     rw (a, b, c, d, e) (sym (take-add 48 32 ds ∙ ap (λ (x : List Bool). x ++ take 32 (drop 48 ds)) (take-add 16 32 ds ∙ ap (λ (x : List Bool). x ++ take 32 (drop 16 ds)) (take-add 6 10 ds ∙ ap (λ (x : List Bool). x ++ take 10 (drop 6 ds)) (take-add 3 3 ds)))))
 
-module _ (p : Profile) (limit : ℕ) (ds : List Bool) (v : ℕ) (k : MsgKind) (n id : ℕ) (h : HeaderSaysIn p limit ds v k n id) (long : length ds ≡ 8 * n) (ten : 10 ≤ n) where
+module _ (p : KindSet) (limit : ℕ) (ds : List Bool) (v : ℕ) (k : MsgKind) (n id : ℕ) (h : HeaderSaysIn p limit ds v k n id) (long : length ds ≡ 8 * n) (ten : 10 ≤ n) where
   held : AllHold (header_checks_in p limit ds)
   held = all_hold (header_checks_in p limit ds) h.passes
 
@@ -200,7 +200,7 @@ module _ (p : Profile) (limit : ℕ) (ds : List Bool) (v : ℕ) (k : MsgKind) (n
         ends = sym long;
       }
 
-pub fault_of_frame : (p : Profile) (limit : ℕ) (bytes : List ℕ) (bit : ℕ) (reason : Reason) → first_failing (header_checks_in p limit (digits_of_bytes bytes)) ≡ None → IsFaultOf p (digits_of_bytes bytes) bit reason → FirstFaultIn p bytes limit bit reason
+pub fault_of_frame : (p : KindSet) (limit : ℕ) (bytes : List ℕ) (bit : ℕ) (reason : Reason) → first_failing (header_checks_in p limit (digits_of_bytes bytes)) ≡ None → IsFaultOf p (digits_of_bytes bytes) bit reason → FirstFaultIn p bytes limit bit reason
 fault_of_frame p limit bytes bit reason h x =
     inr (record { header = h; root = x.root; tree = x.tree; rest = drop x.at (digits_of_bytes bytes); is_open = x.stands.is_open; covered = ap (λ (y : List Bool). y ++ drop x.at (digits_of_bytes bytes)) x.stands.covered ∙ take-append-drop x.at (digits_of_bytes bytes); fails = x.fails })
 

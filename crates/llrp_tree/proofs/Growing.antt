@@ -17,7 +17,7 @@ use Rattle.llrp_tree.specs.declared.TheConstants.{MAX_DEPTH, MAX_OCTETS}
 use Rattle.llrp_tree.specs.Tree.{Forest, none, and}
 use Rattle.llrp_tree.specs.Lawful.{levels, octets, head_octets, body_octets, count_octets, first, IsTail, has_place, ArePlaced, NoneTooMany, AreLawful}
 use Rattle.llrp_tree.specs.Spelling.{Head, message, tlv, tv, head_digits, head_of, count_digits, field_digits, tail_digits, body_digits, forest_digits}
-use Rattle.llrp_tree.specs.OpenTree.{profile, Begun, kind_of_head, leading_digits, part, covers, Rest, has_tail, tail_due, due, in_range, AreLeading, plain_values, IsReadTail, is_enough, MayBegin, IsHeader, IsTlvHead, IsTvHead, IsHead, IsOpenTree}
+use Rattle.llrp_tree.specs.OpenTree.{set, Begun, kind_of_head, leading_digits, part, covers, Rest, has_tail, tail_due, due, in_range, AreLeading, plain_values, IsReadTail, is_enough, MayBegin, IsHeader, IsTlvHead, IsTvHead, IsHead, IsOpenTree}
 use Rattle.llrp_tree.specs.FirstFault.{number, tail_length, tail_at, tail_end, tv_kind, tlv_kind, tlv_octets, first_digit}
 use Rattle.llrp_tree.specs.Calls.Standing.{end_of, IsAt, begin_node, leading}
 use Rattle.llrp_tree.proofs.Steps.{begin, with_child}
@@ -194,7 +194,7 @@ module _ (p : Begun) (outer : List Begun) (ds : List Bool) (at : ℕ) where
   unfolding IsOpenTree ArePlaced
   begun_open hb stop_b st f deep inside = (record { head = f; fields = tt; tail = tt; filled = λ e. inl refl; tail_after = inl refl; children_after = inl refl; lawful = tt; placed = tt; most = most_none (groups_of (kind_of_head hb)); deep = omega (arith, deep); inside = inside }, st.is_open)
 
-  pub grow_tlv : (k : ParamKind) → IsAt ds (p ∷ outer) at → at + 32 ≤ p.stop → number (drop at ds) 0 6 ≡ 0 → tlv_kind (profile p) (drop at ds) ≡ Some k → MayBegin p k → length (p ∷ outer) ≤ MAX_DEPTH
+  pub grow_tlv : (k : ParamKind) → IsAt ds (p ∷ outer) at → at + 32 ≤ p.stop → number (drop at ds) 0 6 ≡ 0 → tlv_kind (set p) (drop at ds) ≡ Some k → MayBegin p k → length (p ∷ outer) ≤ MAX_DEPTH
       → 4 ≤ tlv_octets (drop at ds) → at + 8 * tlv_octets (drop at ds) ≤ p.stop
       → IsAt ds (begin (tlv k (tlv_octets (drop at ds))) (at + 8 * tlv_octets (drop at ds)) ∷ p ∷ outer) (at + 32)
   unfolding end_of
@@ -205,7 +205,7 @@ module _ (p : Begun) (outer : List Begun) (ds : List Bool) (at : ℕ) where
       let far = stops_within p outer st.is_open in
       let within : at + 32 ≤ length ds = omega (arith, st.ends) in
       let left : 32 ≤ length rest = omega (arith, length-drop at ds) in
-      let is = tlv_found_in (profile p) (number rest 6 10) k found in
+      let is = tlv_found_in (set p) (number rest 6 10) k found in
       let head = tlv_is_next k rest left zeros is.1 in
       let covered : covers (begin (tlv k n) stop_b ∷ p ∷ outer) ≡ take (at + 32) ds = covers_more (covers (p ∷ outer)) (covers (begin (tlv k n) stop_b ∷ p ∷ outer)) (head_digits (tlv k n)) at 32 ds st.covered (begun_covered p outer [] (tlv k n) stop_b) head in
       let long = length_covered (covers (begin (tlv k n) stop_b ∷ p ∷ outer)) (at + 32) ds covered within in
@@ -218,7 +218,7 @@ module _ (p : Begun) (outer : List Begun) (ds : List Bool) (at : ℕ) where
         ends = st.ends;
       }
 
-  pub grow_tv : (k : ParamKind) → IsAt ds (p ∷ outer) at → at + 8 ≤ p.stop → first_digit (drop at ds) ≡ true → tv_kind (profile p) (drop at ds) ≡ Some k → MayBegin p k → length (p ∷ outer) ≤ MAX_DEPTH
+  pub grow_tv : (k : ParamKind) → IsAt ds (p ∷ outer) at → at + 8 ≤ p.stop → first_digit (drop at ds) ≡ true → tv_kind (set p) (drop at ds) ≡ Some k → MayBegin p k → length (p ∷ outer) ≤ MAX_DEPTH
       → IsAt ds (begin (tv k) p.stop ∷ p ∷ outer) (at + 8)
   unfolding end_of
   grow_tv k st room one found o deep =
@@ -226,7 +226,7 @@ module _ (p : Begun) (outer : List Begun) (ds : List Bool) (at : ℕ) where
       let far = stops_within p outer st.is_open in
       let within : at + 8 ≤ length ds = omega (arith, st.ends) in
       let left : 8 ≤ length rest = omega (arith, length-drop at ds) in
-      let is = tv_found_in (profile p) (number rest 1 7) k found in
+      let is = tv_found_in (set p) (number rest 1 7) k found in
       let head = tv_is_next k rest left one is.1 in
       let covered : covers (begin (tv k) p.stop ∷ p ∷ outer) ≡ take (at + 8) ds = covers_more (covers (p ∷ outer)) (covers (begin (tv k) p.stop ∷ p ∷ outer)) (head_digits (tv k)) at 8 ds st.covered (begun_covered p outer [] (tv k) p.stop) head in
       let long = length_covered (covers (begin (tv k) p.stop ∷ p ∷ outer)) (at + 8) ds covered within in

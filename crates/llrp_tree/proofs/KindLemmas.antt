@@ -8,7 +8,7 @@ use denote.Enum.Bare.{sameb, same_true, true_same}
 use Rattle.llrp_schema.specs.declared.kinds.ParamKind.{ParamKind}
 use Rattle.llrp_schema.specs.contracts.kinds.ParamKind.{the_type}
 use Rattle.llrp_schema.specs.declared.kinds.Kind.{Kind}
-use Rattle.llrp_schema.specs.Schema.{GroupRule, groups_of, number_of, rule_of, message_rule, param_rule, message_kinds, param_kinds, whole_message_kinds, whole_param_kinds, key_of, profile_of}
+use Rattle.llrp_schema.specs.Schema.{GroupRule, groups_of, number_of, rule_of, message_rule, param_rule, message_kinds, param_kinds, whole_message_kinds, whole_param_kinds, key_of, set_of_kind}
 use Rattle.llrp_schema.proofs.SchemaLemmas.{not_true}
 use Rattle.llrp_schema.proofs.TableLaws.{param_keys, every_rule}
 use Rattle.llrp_tree.specs.Tree.{Forest}
@@ -53,7 +53,7 @@ are_apart (g ∷ groups) = list_all (share_none g) groups && are_apart groups
 
 -- no two groups of one parent share a kind
 pub parent_apart : (parent : Kind) → are_apart (groups_of parent) ≡ true
-unfolding groups_of rule_of message_rule param_rule message_kinds param_kinds whole_message_kinds whole_param_kinds number_of key_of profile_of
+unfolding groups_of rule_of message_rule param_rule message_kinds param_kinds whole_message_kinds whole_param_kinds number_of key_of set_of_kind
 parent_apart parent = every_rule (λ row. are_apart row.groups) (refl, refl) (refl, refl) parent
 
 -- a group that shares none with one that has the kind has it not

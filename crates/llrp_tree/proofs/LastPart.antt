@@ -11,14 +11,14 @@ use Rattle.llrp_schema.specs.declared.kinds.Kind.{Kind}
 use Rattle.llrp_schema.specs.declared.kinds.Kind.TheVariants.{Parameter}
 use Rattle.llrp_schema.specs.declared.kinds.Tail.{Tail}
 use Rattle.llrp_schema.specs.declared.kinds.Tail.TheVariants.{Absent, Words, Text, Bits, Data}
-use Rattle.llrp_schema.specs.Schema.{profile_of, FieldRule, fields_of, tail_of, groups_of, is_tv}
+use Rattle.llrp_schema.specs.Schema.{set_of_kind, FieldRule, fields_of, tail_of, groups_of, is_tv}
 use Rattle.llrp_schema.proofs.TableLaws.{tv_tail}
 use Rattle.llrp_tree.specs.declared.TheConstants.{MAX_DEPTH}
 use Rattle.llrp_tree.specs.declared.fault.Reason.{Reason}
 use Rattle.llrp_tree.specs.Tree.{Forest, none, and}
 use Rattle.llrp_tree.specs.Lawful.{levels, octets, head_octets, body_octets, count_octets, AreOctets, IsTail, ArePlaced, Obeys, AreLawful, AllLawful}
 use Rattle.llrp_tree.specs.Spelling.{Head, tlv, tv, head_digits, head_of, spread, field_digits, tail_digits, body_digits, forest_digits}
-use Rattle.llrp_tree.specs.OpenTree.{root_profile, Begun, kind_of_head, form, groups, leading_digits, part, covers, Rest, has_tail, due, in_range, plain_values, is_enough, MayBegin, IsHead, IsOpenNode, IsOpenTree}
+use Rattle.llrp_tree.specs.OpenTree.{root_set, Begun, kind_of_head, form, groups, leading_digits, part, covers, Rest, has_tail, due, in_range, plain_values, is_enough, MayBegin, IsHead, IsOpenNode, IsOpenTree}
 use Rattle.llrp_tree.specs.Calls.OpenTree.{tail_parts, as_read, whole_parts, parts}
 use Rattle.llrp_tree.specs.FirstFault.{number, octets_at, tail_length, tail_at, tail_end, first_failing, tail_checks, checks, NextPart, ReadField, ReadTail, Close, next_part, has_ended, next_fault}
 use Rattle.llrp_tree.proofs.Leading.{last_field, drop_all, length-spread, plain-spread, leading_spread}
@@ -36,14 +36,14 @@ pub record Before (t : List Begun) (rest : List Bool) (n : ℕ) : Type 0 where
   pub same : covers tree ++ left ≡ covers t ++ rest
   pub step : next tree left ≡ Grows t
   pub fewer : parts tree ≡ n
-  pub root : root_profile tree ≡ root_profile t
+  pub root : root_set tree ≡ root_set t
 
 -- the message stays where the innermost node changes
-pub same_root : (b c : Begun) (outer : List Begun) → kind_of_head b.head ≡ kind_of_head c.head → root_profile (b ∷ outer) ≡ root_profile (c ∷ outer)
-same_root b c [] e = ap profile_of e
+pub same_root : (b c : Begun) (outer : List Begun) → kind_of_head b.head ≡ kind_of_head c.head → root_set (b ∷ outer) ≡ root_set (c ∷ outer)
+same_root b c [] e = ap set_of_kind e
 same_root b c (p ∷ outer) e = refl
 
-pub inner_root : (b p : Begun) (outer : List Begun) → root_profile (b ∷ p ∷ outer) ≡ root_profile (p ∷ outer)
+pub inner_root : (b p : Begun) (outer : List Begun) → root_set (b ∷ p ∷ outer) ≡ root_set (p ∷ outer)
 inner_root b p outer = refl
 
 pub next_is : (b : Begun) (outer : List Begun) (rest : List Bool) (tn : NextPart)

@@ -6,13 +6,13 @@ use Rattle.std.proofs.lemmas.Bool.{le-leb, lt-leb}
 use Rattle.tag_bits.specs.Digits.{digits}
 use Rattle.llrp_schema.specs.declared.kinds.ParamKind.{ParamKind}
 use Rattle.llrp_schema.specs.declared.kinds.Kind.TheVariants.{Parameter}
-use Rattle.llrp_schema.specs.Schema.{GroupRule, groups_of, number_of, profile_of, is_tv, tlv_in, tv_in}
+use Rattle.llrp_schema.specs.Schema.{GroupRule, groups_of, number_of, set_of_kind, is_tv, tlv_in, tv_in}
 use Rattle.llrp_schema.proofs.TableLaws.{tlv_at_number, tv_at_number, tv_groups, param_number_fits}
-use Rattle.llrp_schema.proofs.PlaceLemmas.{child_profile}
+use Rattle.llrp_schema.proofs.PlaceLemmas.{child_set}
 use Rattle.llrp_tree.specs.declared.TheConstants.{MAX_DEPTH}
 use Rattle.llrp_tree.specs.Lawful.{has_place}
 use Rattle.llrp_tree.specs.Spelling.{Head, message, tlv, tv, head_digits, forest_digits}
-use Rattle.llrp_tree.specs.OpenTree.{Begun, profile, kind_of_head, leading_digits, part, covers, MayBegin, IsTlvHead, IsTvHead, IsHead, IsOpenTree}
+use Rattle.llrp_tree.specs.OpenTree.{Begun, set, kind_of_head, leading_digits, part, covers, MayBegin, IsTlvHead, IsTvHead, IsHead, IsOpenTree}
 use Rattle.llrp_tree.specs.Calls.OpenTree.{parts}
 use Rattle.llrp_tree.specs.FirstFault.{number, tv_kind, tlv_kind, tlv_octets, first_digit, first_failing, checks, BeginTv, BeginTlv, next_part, has_ended, has_none}
 use Rattle.llrp_tree.proofs.ReadDigits.{number_own, number_behind, length-more}
@@ -32,7 +32,7 @@ starts_one x = refl
 -- what a reader finds in the head of a parameter with type, length and value
 pub record ReadsTlv (k : ParamKind) (n : ℕ) (ds : List Bool) : Type 0 where
   pub zeros : number ds 0 6 ≡ 0
-  pub type : tlv_kind (profile_of (Parameter k)) ds ≡ Some k
+  pub type : tlv_kind (set_of_kind (Parameter k)) ds ≡ Some k
   pub octets : tlv_octets ds ≡ n
   pub first : first_digit ds ≡ false
 
@@ -45,14 +45,14 @@ reads_tlv k n rest f ln =
     let is_type : number ds 6 10 ≡ t = number_behind 6 0 0 10 (digits 10 t ++ (digits 16 n ++ rest)) ∙ number_own 10 t (digits 16 n ++ rest) (param_number_fits k) in
     subst (λ (x : List Bool). ReadsTlv k n x) (sym e) (record {
       zeros = number_own 6 0 (digits 10 t ++ (digits 16 n ++ rest)) (omega arith);
-      type = ap (tlv_in (profile_of (Parameter k))) is_type ∙ tlv_at_number k ∙ (rw f refl);
+      type = ap (tlv_in (set_of_kind (Parameter k))) is_type ∙ tlv_at_number k ∙ (rw f refl);
       octets = number_behind 6 0 10 16 (digits 10 t ++ (digits 16 n ++ rest)) ∙ number_behind 10 t 0 16 (digits 16 n ++ rest) ∙ number_own 16 n rest ln;
       first = starts_zero (digits 10 t ++ (digits 16 n ++ rest));
     })
 
 -- and in that of one with type and value
 pub record ReadsTv (k : ParamKind) (ds : List Bool) : Type 0 where
-  pub type : tv_kind (profile_of (Parameter k)) ds ≡ Some k
+  pub type : tv_kind (set_of_kind (Parameter k)) ds ≡ Some k
   pub first : first_digit ds ≡ true
 
 pub reads_tv : (k : ParamKind) (rest : List Bool) → is_tv k ≡ true → ReadsTv k (head_digits (tv k) ++ rest)
@@ -62,7 +62,7 @@ reads_tv k rest f =
     let ds : List Bool = digits 1 1 ++ (digits 7 t ++ rest) in
     let is_type : number ds 1 7 ≡ t = number_behind 1 1 0 7 (digits 7 t ++ rest) ∙ number_own 7 t rest (tv_number k f) in
     subst (λ (x : List Bool). ReadsTv k x) (sym (append_assoc (digits 1 1) (digits 7 t) rest)) (record {
-      type = ap (tv_in (profile_of (Parameter k))) is_type ∙ tv_at_number k ∙ (rw f refl);
+      type = ap (tv_in (set_of_kind (Parameter k))) is_type ∙ tv_at_number k ∙ (rw f refl);
       first = starts_one (digits 7 t ++ rest);
     })
 
@@ -82,11 +82,11 @@ has_one k [] e = absurd cc
 has_one k (g ∷ gs) e = refl
 
 -- a child that may begin in a node is looked for in the node's profile
-tlv_there : (p : Begun) (k : ParamKind) (n : ℕ) (ds : List Bool) → ReadsTlv k n ds → MayBegin p k → tlv_kind (profile p) ds ≡ Some k
-tlv_there p k n ds r o = ap (λ q. tlv_kind q ds) (sym (child_profile (kind_of_head p.head) k o.has)) ∙ r.type
+tlv_there : (p : Begun) (k : ParamKind) (n : ℕ) (ds : List Bool) → ReadsTlv k n ds → MayBegin p k → tlv_kind (set p) ds ≡ Some k
+tlv_there p k n ds r o = ap (λ q. tlv_kind q ds) (sym (child_set (kind_of_head p.head) k o.has)) ∙ r.type
 
-tv_there : (p : Begun) (k : ParamKind) (ds : List Bool) → ReadsTv k ds → MayBegin p k → tv_kind (profile p) ds ≡ Some k
-tv_there p k ds r o = ap (λ q. tv_kind q ds) (sym (child_profile (kind_of_head p.head) k o.has)) ∙ r.type
+tv_there : (p : Begun) (k : ParamKind) (ds : List Bool) → ReadsTv k ds → MayBegin p k → tv_kind (set p) ds ≡ Some k
+tv_there p k ds r o = ap (λ q. tv_kind q ds) (sym (child_set (kind_of_head p.head) k o.has)) ∙ r.type
 
 module _ (p : Begun) (outer : List Begun) (rest : List Bool) where
   pub begun_covered : (hb : Head) (stop_b : ℕ) → covers (begin hb stop_b ∷ p ∷ outer) ≡ covers (p ∷ outer) ++ head_digits hb

@@ -7,7 +7,7 @@ use Rattle.llrp_schema.specs.Schema.{fields_of}
 use Rattle.llrp_tree.specs.declared.fault.Reason.{Reason}
 use Rattle.llrp_tree.specs.Tree.{Forest, none, and}
 use Rattle.llrp_tree.specs.Spelling.{Head, message, tlv, tv}
-use Rattle.llrp_tree.specs.OpenTree.{Begun, rules, form, profile, covers, plain_values}
+use Rattle.llrp_tree.specs.OpenTree.{Begun, rules, form, set, covers, plain_values}
 use Rattle.llrp_tree.specs.FirstFault.{number, tail_at, tv_kind, tlv_kind, tlv_octets, NextPart, ReadField, ReadTail, Close, NoChild, BeginTv, BeginTlv, next_part, next_fault}
 
 pub data Step : Type 0 where
@@ -45,8 +45,8 @@ grown (ReadField r) b outer at rest = Grows (record b { fields = b.fields ++ num
 grown ReadTail b outer at rest = Grows (record b { tail = Some (tail_at (form b) (plain_values (rules b) b.fields) (b.stop - at) rest) } ∷ outer)
 grown Close b outer at rest = close b outer
 grown NoChild b outer at rest = Ends b
-grown BeginTv b outer at rest = begun_tv (tv_kind (profile b) rest) b outer
-grown BeginTlv b outer at rest = begun_tlv (tlv_kind (profile b) rest) (tlv_octets rest) at b outer
+grown BeginTv b outer at rest = begun_tv (tv_kind (set b) rest) b outer
+grown BeginTlv b outer at rest = begun_tlv (tlv_kind (set b) rest) (tlv_octets rest) at b outer
 
 abbrev pub unless_failed : Option (ℕ × Reason) → Step → Step
 unless_failed None s = s

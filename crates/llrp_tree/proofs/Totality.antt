@@ -9,17 +9,17 @@ use Rattle.llrp_schema.specs.declared.kinds.MsgKind.{MsgKind}
 use Rattle.llrp_schema.specs.declared.kinds.Kind.{Kind}
 use Rattle.llrp_schema.specs.declared.kinds.Tail.{Tail}
 use Rattle.llrp_schema.specs.declared.kinds.Tail.TheVariants.{Absent, Words, Text, Bits, Data}
-use Rattle.llrp_schema.specs.Schema.{FieldRule, fields_of, tail_of, message_in, profile_of}
+use Rattle.llrp_schema.specs.Schema.{FieldRule, fields_of, tail_of, message_in, set_of_kind}
 use Rattle.llrp_tree.specs.declared.TheConstants.{MAX_LIMIT}
 use Rattle.llrp_tree.specs.declared.fault.Reason.{Reason}
 use Rattle.llrp_tree.specs.Tree.{Forest, none, MessageTree}
 use Rattle.llrp_tree.specs.Lawful.{octets, body_octets}
 use Rattle.llrp_tree.specs.Spelling.{Head, message, tlv, tv, head_digits, forest_digits}
 use Rattle.llrp_tree.specs.Frame.{Frame}
-use Rattle.llrp_schema.specs.declared.kinds.Profile.{Profile}
+use Rattle.llrp_schema.specs.declared.kinds.KindSet.{KindSet}
 use Rattle.llrp_schema.proofs.TableLaws.{message_found_in}
 use Rattle.llrp_schema.specs.declared.kinds.Kind.TheVariants.{Message}
-use Rattle.llrp_tree.specs.OpenTree.{root_of, profile, Begun, kind_of_head, groups, leading_digits, part, covers, Due, AField, ATail, Rest, has_tail, tail_due, field_due, due, plain_values, IsHead, IsOpenNode, IsOpenTree}
+use Rattle.llrp_tree.specs.OpenTree.{root_of, set, Begun, kind_of_head, groups, leading_digits, part, covers, Due, AField, ATail, Rest, has_tail, tail_due, field_due, due, plain_values, IsHead, IsOpenNode, IsOpenTree}
 use Rattle.llrp_tree.specs.FirstFault.{number, tail_at, tail_end, tv_kind, tlv_kind, tlv_octets, first_digit, Check, first_failing, kind_checks, checks, ReadField, ReadTail, Close, NoChild, BeginTv, BeginTlv, next_part, turn_of, has_ended, has_none, header_checks_in, FirstFaultIn}
 use Rattle.llrp_tree.specs.Calls.Standing.{IsAt, begin_node, leading, HeaderSaysIn}
 use Rattle.llrp_tree.specs.Private.Standing.{IsFaultOf, Closes}
@@ -149,10 +149,10 @@ abbrev pub pending : List Begun → ℕ
 pending [] = 0
 pending (b ∷ outer) = pending outer + (1 + unread b.tail)
 
-abbrev pub SomeFault : Profile → List Bool → Type 0
+abbrev pub SomeFault : KindSet → List Bool → Type 0
 SomeFault p ds = (bit : ℕ) × (reason : Reason) × IsFaultOf p ds bit reason
 
-abbrev pub Ended : Profile → List Bool → Type 0
+abbrev pub Ended : KindSet → List Bool → Type 0
 Ended p ds = (b : Begun) × (at : ℕ) × Closes ds b [] at × (root_of b.head [] ≡ p)
 
 module _ (ds : List Bool) where
@@ -209,8 +209,8 @@ module _ (ds : List Bool) where
       → AllHold (checks BeginTv (length (b ∷ outer)) b at (drop at ds)) → Ended (root_of b.head outer) ds ⊎ SomeFault (root_of b.head outer) ds
   unfolding checks
   on_tv fuel goes b outer at st lt d before one p =
-      let cs : List Check = kind_checks (tv_kind (profile b) (drop at ds)) (groups b) b.children (length (b ∷ outer)) at (at + 1) in
-      let k = kind_checked (tv_kind (profile b) (drop at ds)) (groups b) b.children (length (b ∷ outer)) at (at + 1) [] (subst AllHold (sym (append-nil cs)) p) in
+      let cs : List Check = kind_checks (tv_kind (set b) (drop at ds)) (groups b) b.children (length (b ∷ outer)) at (at + 1) in
+      let k = kind_checked (tv_kind (set b) (drop at ds)) (groups b) b.children (length (b ∷ outer)) at (at + 1) [] (subst AllHold (sym (append-nil cs)) p) in
       let g = grow_tv b outer ds at k.kind st (octet_left ds b outer at st d before) one k.is (record { ready = d; has = k.has; more = k.takes }) k.deep in
       goes (begin (tv k.kind) b.stop) (b ∷ outer) (at + 8) g (let a = g.within in omega arith)
 
@@ -219,7 +219,7 @@ module _ (ds : List Bool) where
   unfolding checks
   on_tlv fuel goes b outer at st lt d p =
       let n : ℕ = tlv_octets (drop at ds) in
-      let k = kind_checked (tlv_kind (profile b) (drop at ds)) (groups b) b.children (length (b ∷ outer)) at (at + 6) _ p.1.1 in
+      let k = kind_checked (tlv_kind (set b) (drop at ds)) (groups b) b.children (length (b ∷ outer)) at (at + 6) _ p.1.1 in
       let last = both (nat_le 4 n) (nat_le (at + 8 * n) b.stop) k.others.0 in
       let g = grow_tlv b outer ds at k.kind st (leb-true (at + 32) b.stop p.0) (eqb-true (number (drop at ds) 0 6) 0 p.1.0) k.is (record { ready = d; has = k.has; more = k.takes }) k.deep (leb-true 4 n last.0) (leb-true (at + 8 * n) b.stop last.1) in
       goes (begin (tlv k.kind n) (at + 8 * n)) (b ∷ outer) (at + 32) g (let a = g.within in omega arith)
@@ -257,7 +257,7 @@ is_header (Some kind) e = (kind, refl)
 
 -- the message at the end of the digits
 ended_frame : (limit : ℕ) (bytes : List ℕ) (h : Head) (stop : ℕ) (vs : List ℕ) (tail : Option (List ℕ)) (cs : Forest) (at : ℕ) → limit ≤ MAX_LIMIT → IsWhole bytes → length bytes ≤ limit
-    → Closes (digits_of_bytes bytes) (begin_node h stop vs tail cs) [] at → (m : MessageTree) × Frame m bytes limit × (profile_of (Message m.kind) ≡ root_of h [])
+    → Closes (digits_of_bytes bytes) (begin_node h stop vs tail cs) [] at → (m : MessageTree) × Frame m bytes limit × (set_of_kind (Message m.kind) ≡ root_of h [])
 unfolding IsOpenTree Rattle.llrp_tree.specs.Calls.Standing.end_of
 ended_frame limit bytes (message v k n id) stop vs tail cs at le w fit c =
     let s = c.stands.is_open.0.head in
@@ -267,10 +267,10 @@ ended_frame limit bytes (message v k n id) stop vs tail cs at le w fit c =
 ended_frame limit bytes (tlv k n) stop vs tail cs at le w fit c = absurd c.stands.is_open.0.head
 ended_frame limit bytes (tv k) stop vs tail cs at le w fit c = absurd c.stands.is_open.0.head
 
-abbrev Outcome : Profile → (limit : ℕ) → List ℕ → Type 0
-Outcome p limit bytes = ((m : MessageTree) × Frame m bytes limit × (profile_of (Message m.kind) ≡ p)) ⊎ ((bit : ℕ) × (reason : Reason) × FirstFaultIn p bytes limit bit reason)
+abbrev Outcome : KindSet → (limit : ℕ) → List ℕ → Type 0
+Outcome p limit bytes = ((m : MessageTree) × Frame m bytes limit × (set_of_kind (Message m.kind) ≡ p)) ⊎ ((bit : ℕ) × (reason : Reason) × FirstFaultIn p bytes limit bit reason)
 
-behind_header : (p : Profile) (limit : ℕ) (bytes : List ℕ) → limit ≤ MAX_LIMIT → IsWhole bytes → first_failing (header_checks_in p limit (digits_of_bytes bytes)) ≡ None → Outcome p limit bytes
+behind_header : (p : KindSet) (limit : ℕ) (bytes : List ℕ) → limit ≤ MAX_LIMIT → IsWhole bytes → first_failing (header_checks_in p limit (digits_of_bytes bytes)) ≡ None → Outcome p limit bytes
 behind_header p limit bytes le w passes =
     let ds : List Bool = digits_of_bytes bytes in
     let held = all_hold (header_checks_in p limit ds) passes in
@@ -278,15 +278,15 @@ behind_header p limit bytes le w passes =
     let fit : length bytes ≤ limit = (let a = leb-true (number ds 16 32) limit held.1.1.1.0 in omega (arith, w.own_length)) in
     let long : length ds ≡ 8 * number ds 16 32 = length-bytes bytes ∙ ap (λ (n : ℕ). 8 * n) (sym w.own_length) in
     let h : HeaderSaysIn p limit ds (number ds 3 3) found.0 (number ds 16 32) (number ds 48 32) = record { passes = passes; version_is = refl; kind_is = found.1; octets_is = refl; id_is = refl } in
-    let own : profile_of (Message found.0) ≡ p = (message_found_in p (number ds 6 10) found.0 found.1).0 in
+    let own : set_of_kind (Message found.0) ≡ p = (message_found_in p (number ds 6 10) found.0 found.1).0 in
     let b : Begun = leading (message (number ds 3 3) found.0 (number ds 16 32) (number ds 48 32)) (8 * number ds 16 32) [] in
     let st : IsAt ds (b ∷ []) 80 = header_stands p limit ds (number ds 3 3) found.0 (number ds 16 32) (number ds 48 32) h long (omega (arith, w.own_length, w.header)) in
     elim (decides ds (3 * (length ds - 80) + 3) b [] 80 st (omega arith)) [
       | inl e ↦ (let m = ended_frame limit bytes e.0.head e.0.stop e.0.fields e.0.tail e.0.children e.1 le w fit e.2 in inl (m.0, m.1, m.2 ∙ e.3 ∙ own))
-      | inr f ↦ inr (f.0, f.1, fault_of_frame p limit bytes f.0 f.1 passes (subst (λ (q : Profile). IsFaultOf q ds f.0 f.1) own f.2))
+      | inr f ↦ inr (f.0, f.1, fault_of_frame p limit bytes f.0 f.1 passes (subst (λ (q : KindSet). IsFaultOf q ds f.0 f.1) own f.2))
     ]
 
-pub either : (p : Profile) (limit : ℕ) → limit ≤ MAX_LIMIT → (bytes : List ℕ) → IsWhole bytes → ((m : MessageTree) × Frame m bytes limit × (profile_of (Message m.kind) ≡ p)) ⊎ ((bit : ℕ) × (reason : Reason) × FirstFaultIn p bytes limit bit reason)
+pub either : (p : KindSet) (limit : ℕ) → limit ≤ MAX_LIMIT → (bytes : List ℕ) → IsWhole bytes → ((m : MessageTree) × Frame m bytes limit × (set_of_kind (Message m.kind) ≡ p)) ⊎ ((bit : ℕ) × (reason : Reason) × FirstFaultIn p bytes limit bit reason)
 either p limit le bytes w =
     (elim (first_failing (header_checks_in p limit (digits_of_bytes bytes))) as (λ x. first_failing (header_checks_in p limit (digits_of_bytes bytes)) ≡ x → Outcome p limit bytes) [
       | None ↦ λ e. behind_header p limit bytes le w e

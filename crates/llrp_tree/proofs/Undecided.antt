@@ -14,8 +14,8 @@ use Rattle.llrp_tree.specs.declared.fault.Reason.{Reason}
 use Rattle.llrp_tree.specs.Tree.{Forest, none}
 use Rattle.llrp_tree.specs.Lawful.{count_octets}
 use Rattle.llrp_tree.specs.Spelling.{Head, message, tlv, tv, head_digits, field_digits, forest_digits}
-use Rattle.llrp_schema.specs.declared.kinds.Profile.{Profile}
-use Rattle.llrp_tree.specs.OpenTree.{root_profile, profile, Begun, kind_of_head, groups, leading_digits, part, covers, Due, AField, ATail, Rest, due, plain_values, is_enough, IsHead, IsOpenTree}
+use Rattle.llrp_schema.specs.declared.kinds.KindSet.{KindSet}
+use Rattle.llrp_tree.specs.OpenTree.{root_set, set, Begun, kind_of_head, groups, leading_digits, part, covers, Due, AField, ATail, Rest, due, plain_values, is_enough, IsHead, IsOpenTree}
 use Rattle.llrp_tree.specs.Calls.OpenTree.{parts}
 use Rattle.llrp_tree.specs.FirstFault.{number, tail_at, tail_end, tail_length, tv_kind, tlv_kind, tlv_octets, first_digit, first_failing, checks, NextPart, ReadField, ReadTail, Close, NoChild, BeginTv, BeginTlv, turn_of, next_part, has_ended, has_none, next_fault, header_checks_in, FirstFaultIn}
 use Rattle.llrp_tree.specs.Calls.Standing.{end_of, IsAt, begin_node, leading}
@@ -166,8 +166,8 @@ module _ (b : Begun) (outer : List Begun) (rest : List Bool) (u : List Begun) (s
   by_turn ATail o n z ed eo p e = on_tail b outer rest u s ed e
   by_turn Rest true n z ed eo p e = closing b outer rest u s ed eo (enough_of _ _ _ p) e
   by_turn Rest false true z ed eo p e = absurd cc
-  by_turn Rest false false true ed eo p e = on_tv b outer rest u s (tv_kind (profile b) rest) e
-  by_turn Rest false false false ed eo p e = (let far = on_tlv b outer rest u s (tlv_kind (profile b) rest) (tlv_octets rest) e in either_most (nat_le (here + 32) b.stop) (here + 32) (here + 8) (length (covers u)) far (omega arith))
+  by_turn Rest false false true ed eo p e = on_tv b outer rest u s (tv_kind (set b) rest) e
+  by_turn Rest false false false ed eo p e = (let far = on_tlv b outer rest u s (tlv_kind (set b) rest) (tlv_octets rest) e in either_most (nat_le (here + 32) b.stop) (here + 32) (here + 8) (length (covers u)) far (omega arith))
 
   unfailed : (f : Option (ℕ × Reason)) (g : Step) → unless_failed f g ≡ Grows u → (f ≡ None) × (g ≡ Grows u)
   unfailed None g e = (refl, e)
@@ -191,7 +191,7 @@ tree_step [] rest u s e = none_decided rest (length (covers u))
 tree_step (b ∷ outer) rest u s e = step_decided b outer rest u s e
 
 -- an open tree with more parts covers what decides the next checks of one with fewer
-later : (k n : ℕ) (u : List Begun) (after : List Bool) → IsOpenTree u → parts u ≡ suc (suc (k + n)) → (t : List Begun) (rest : List Bool) → IsOpenTree t → parts t ≡ suc n → root_profile t ≡ root_profile u → covers t ++ rest ≡ covers u ++ after → deciding t rest ≤ length (covers u)
+later : (k n : ℕ) (u : List Begun) (after : List Bool) → IsOpenTree u → parts u ≡ suc (suc (k + n)) → (t : List Begun) (rest : List Bool) → IsOpenTree t → parts t ≡ suc n → root_set t ≡ root_set u → covers t ++ rest ≡ covers u ++ after → deciding t rest ≤ length (covers u)
 later zero n u after su pu t rest st pt roots e =
     let a = shrinks u after n su (omega (arith, pu)) in
     let same = agree n t a.tree rest a.left st a.is_open pt a.fewer (roots ∙ sym a.root) (e ∙ sym a.same) in
@@ -210,7 +210,7 @@ some_part (b ∷ outer) rest lt = (parts (b ∷ outer) - 1, omega arith)
 
 -- ---- faults of a frame
 
-module _ (p : Profile) (limit : ℕ) (bytes : List ℕ) (octets : ℕ) (t : List Begun) (at : ℕ) (st : IsAt (digits_of_bytes bytes) t at) (r : root_profile t ≡ p) where
+module _ (p : KindSet) (limit : ℕ) (bytes : List ℕ) (octets : ℕ) (t : List Begun) (at : ℕ) (st : IsAt (digits_of_bytes bytes) t at) (r : root_set t ≡ p) where
   abbrev rest : List Bool
   rest = drop at (digits_of_bytes bytes)
 
@@ -265,12 +265,12 @@ header_decided [] rest bit reason s e = absurd cc
 header_decided (b ∷ outer) rest bit reason s e = (let a = header_covered b outer s in let d = covered_decided (b ∷ outer) rest in omega arith)
 
 -- fewer octets than a header decide no fault
-pub fails_after_header : (p : Profile) (limit : ℕ) (frame : List ℕ) (octets : ℕ) → FailsIn p limit frame octets → 10 ≤ octets
+pub fails_after_header : (p : KindSet) (limit : ℕ) (frame : List ℕ) (octets : ℕ) → FailsIn p limit frame octets → 10 ≤ octets
 fails_after_header p limit frame octets (inl f) = f.1
 fails_after_header p limit frame octets (inr f) = (let d = header_decided f.fault.tree f.fault.rest f.bit f.reason f.fault.is_open f.fault.fails in omega (arith, f.decided))
 
 -- a frame with a fault that is decided has a first fault
-pub fails_first : (p : Profile) (limit : ℕ) (frame : List ℕ) (octets : ℕ) → FailsIn p limit frame octets → (bit : ℕ) × (reason : Reason) × FirstFaultIn p frame limit bit reason
+pub fails_first : (p : KindSet) (limit : ℕ) (frame : List ℕ) (octets : ℕ) → FailsIn p limit frame octets → (bit : ℕ) × (reason : Reason) × FirstFaultIn p frame limit bit reason
 fails_first p limit frame octets (inl f) =
     (elim (first_failing (header_checks_in p limit (digits_of_bytes frame))) as (λ x. first_failing (header_checks_in p limit (digits_of_bytes frame)) ≡ x → (bit : ℕ) × (reason : Reason) × FirstFaultIn p frame limit bit reason) [
       | None ↦ λ e. absurd (f.0 e)

@@ -1,6 +1,6 @@
 -- The first fault of a frame: the checks in the order in which a frame is read, and the first of them that fails.
-use Rattle.llrp_schema.specs.declared.kinds.Profile.{Profile}
-use Rattle.llrp_schema.specs.declared.kinds.Profile.TheVariants.{Own}
+use Rattle.llrp_schema.specs.declared.kinds.KindSet.{KindSet}
+use Rattle.llrp_schema.specs.declared.kinds.KindSet.TheVariants.{Profile}
 use Rattle.std.specs.Prelude.{◌≡◌, ℕ, zero, suc, ◌+◌, ◌-◌, ◌*◌, ◌/◌, ◌⊎◌, Bool, true, false, ◌&&◌, ◌||◌, if◌then◌else◌, nat_le, ◌==◌, is_some, List, [], ◌∷◌, ◌++◌, length, take, drop, Option, Some, None}
 use Rattle.std.specs.Str.{is_utf8}
 use Rattle.std.specs.Str.Lossy.{utf8_valid_len}
@@ -15,7 +15,7 @@ use Rattle.llrp_tree.specs.declared.fault.Reason.TheVariants.{Reserved, Version,
 use Rattle.llrp_tree.specs.Tree.{Forest}
 use Rattle.llrp_tree.specs.Lawful.{first, count_octets, has_place}
 use Rattle.llrp_tree.specs.Spelling.{Head, message, tlv, tv}
-use Rattle.llrp_tree.specs.OpenTree.{root_profile, Begun, rules, form, groups, profile, covers, Due, AField, ATail, Rest, due, in_range, plain_values, takes_more, is_enough, IsOpenTree}
+use Rattle.llrp_tree.specs.OpenTree.{root_set, Begun, rules, form, groups, set, covers, Due, AField, ATail, Rest, due, in_range, plain_values, takes_more, is_enough, IsOpenTree}
 use Rattle.llrp_tree.specs.declared.fault.FrameErr.{FrameErr}
 use Rattle.llrp_tree.specs.declared.fault.FrameErr.TheVariants.{Memory, Bad}
 
@@ -41,10 +41,10 @@ tail_length Data fields room rest = room / 8
 abbrev pub tail_at : Tail → List ℕ → (room : ℕ) → List Bool → List ℕ
 tail_at form fields room rest = octets_at (tail_length form fields room rest) (drop (8 * count_octets form) rest)
 
-abbrev pub tv_kind : Profile → List Bool → Option ParamKind
+abbrev pub tv_kind : KindSet → List Bool → Option ParamKind
 tv_kind p rest = tv_in p (number rest 1 7)
 
-abbrev pub tlv_kind : Profile → List Bool → Option ParamKind
+abbrev pub tlv_kind : KindSet → List Bool → Option ParamKind
 tlv_kind p rest = tlv_in p (number rest 6 10)
 
 abbrev pub tlv_octets : List Bool → ℕ
@@ -103,11 +103,11 @@ kind_checks (Some kind) groups children level at type_at =
     ∷ check (nat_le level MAX_DEPTH) at TooDeep ∷ []
 
 -- a child with type and value
-abbrev pub tv_checks : Profile → List GroupRule → Forest → (level at : ℕ) → List Bool → List Check
+abbrev pub tv_checks : KindSet → List GroupRule → Forest → (level at : ℕ) → List Bool → List Check
 tv_checks p groups children level at rest = kind_checks (tv_kind p rest) groups children level at (at + 1)
 
 -- a child with type, length and value: its head ends before the parent's stop or there, and so does the child
-abbrev pub tlv_checks : Profile → List GroupRule → Forest → (level at stop : ℕ) → List Bool → List Check
+abbrev pub tlv_checks : KindSet → List GroupRule → Forest → (level at stop : ℕ) → List Bool → List Check
 tlv_checks p groups children level at stop rest =
     check (nat_le (at + 32) stop) at Short
     ∷ check (number rest 0 6 == 0) at Reserved
@@ -150,8 +150,8 @@ checks (ReadField r) level b at rest = field_checks r at b.stop rest
 checks ReadTail level b at rest = tail_checks (form b) (plain_values (rules b) b.fields) at b.stop rest
 checks Close level b at rest = check (is_enough (groups b) b.children) b.stop Missing ∷ []
 checks NoChild level b at rest = check false at Extra ∷ []
-checks BeginTv level b at rest = tv_checks (profile b) (groups b) b.children level at rest
-checks BeginTlv level b at rest = tlv_checks (profile b) (groups b) b.children level at b.stop rest
+checks BeginTv level b at rest = tv_checks (set b) (groups b) b.children level at rest
+checks BeginTlv level b at rest = tlv_checks (set b) (groups b) b.children level at b.stop rest
 
 -- the first check that fails of those that are made next in the innermost node of an open tree, with the digits after it
 unfoldable pub next_fault : List Begun → List Bool → Option (ℕ × Reason)
@@ -163,7 +163,7 @@ next_fault (b ∷ outer) rest =
 -- ---- the fault of a frame
 
 -- the checks of a header: no reserved bit is set, the version is 1 or 2, the type is in the table, and the length is within the limit
-abbrev pub header_checks_in : Profile → (limit : ℕ) → List Bool → List Check
+abbrev pub header_checks_in : KindSet → (limit : ℕ) → List Bool → List Check
 header_checks_in p limit ds =
     check (number ds 0 3 == 0) 0 Reserved
     ∷ check ((number ds 3 3 == 1) || (number ds 3 3 == 2)) 3 Version
@@ -171,24 +171,24 @@ header_checks_in p limit ds =
     ∷ check (nat_le (number ds 16 32) limit) 16 MessageLength ∷ []
 
 -- The header passes, and an open tree covers the first digits, whose next checks fail first at the bit, for the reason.
-pub record BodyFaultIn (p : Profile) (ds : List Bool) (limit bit : ℕ) (reason : Reason) : Type 0 where
+pub record BodyFaultIn (p : KindSet) (ds : List Bool) (limit bit : ℕ) (reason : Reason) : Type 0 where
   pub header : first_failing (header_checks_in p limit ds) ≡ None
   pub tree : List Begun
   pub rest : List Bool
   pub is_open : IsOpenTree tree
-  pub root : root_profile tree ≡ p
+  pub root : root_set tree ≡ p
   pub covered : covers tree ++ rest ≡ ds
   pub fails : next_fault tree rest ≡ Some (bit, reason)
 
 -- the bytes of a frame have this first fault, in the header or after it
-abbrev pub FirstFaultIn : Profile → List ℕ → (limit bit : ℕ) → Reason → Type 0
+abbrev pub FirstFaultIn : KindSet → List ℕ → (limit bit : ℕ) → Reason → Type 0
 FirstFaultIn p bytes limit bit reason = (first_failing (header_checks_in p limit (digits_of_bytes bytes)) ≡ Some (bit, reason)) ⊎ BodyFaultIn p (digits_of_bytes bytes) limit bit reason
 
 -- the error is the first fault of a frame, or says that memory ran out
-abbrev pub IsFirstIn : Profile → List ℕ → ℕ → FrameErr → Type 0
+abbrev pub IsFirstIn : KindSet → List ℕ → ℕ → FrameErr → Type 0
 IsFirstIn p bytes limit Memory = Unit {0}
 IsFirstIn p bytes limit (Bad fault) = FirstFaultIn p bytes limit fault.bit fault.reason
 
 -- the same of the profile
 abbrev pub IsFirst : List ℕ → ℕ → FrameErr → Type 0
-IsFirst bytes limit e = IsFirstIn Own bytes limit e
+IsFirst bytes limit e = IsFirstIn Profile bytes limit e

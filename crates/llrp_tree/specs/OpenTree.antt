@@ -1,6 +1,6 @@
 -- Open trees: how far a frame is read.
-use Rattle.llrp_schema.specs.declared.kinds.Profile.{Profile}
-use Rattle.llrp_schema.specs.declared.kinds.Profile.TheVariants.{Own}
+use Rattle.llrp_schema.specs.declared.kinds.KindSet.{KindSet}
+use Rattle.llrp_schema.specs.declared.kinds.KindSet.TheVariants.{Profile}
 use Rattle.std.specs.Prelude.{◌≡◌, ℕ, ◌+◌, ◌*◌, ◌^◌, ◌<◌, ◌≤◌, ◌⊎◌, Bool, true, false, not, ◌||◌, if◌then◌else◌, nat_le, ◌==◌, List, [], ◌∷◌, ◌++◌, length, drop, Option, Some, None}
 use Rattle.std.specs.List.{list_all}
 use Rattle.llrp_schema.specs.declared.kinds.ParamKind.{ParamKind}
@@ -8,7 +8,7 @@ use Rattle.llrp_schema.specs.declared.kinds.Kind.{Kind}
 use Rattle.llrp_schema.specs.declared.kinds.Kind.TheVariants.{Message, Parameter}
 use Rattle.llrp_schema.specs.declared.kinds.Tail.{Tail}
 use Rattle.llrp_schema.specs.declared.kinds.Tail.TheVariants.{Absent, Words, Text, Bits, Data}
-use Rattle.llrp_schema.specs.Schema.{FieldRule, GroupRule, fields_of, tail_of, groups_of, profile_of, is_tv}
+use Rattle.llrp_schema.specs.Schema.{FieldRule, GroupRule, fields_of, tail_of, groups_of, set_of_kind, is_tv}
 use Rattle.llrp_tree.specs.declared.TheConstants.{MAX_DEPTH}
 use Rattle.llrp_tree.specs.Tree.{Forest, none}
 use Rattle.llrp_tree.specs.Lawful.{levels, AreOctets, IsTail, is_member, has_place, count, ArePlaced, NoneTooMany, AllLawful, at_most}
@@ -39,17 +39,17 @@ abbrev pub groups : Begun → List GroupRule
 groups b = groups_of (kind_of_head b.head)
 
 -- whether it is of the profile or of the whole standard
-abbrev pub profile : Begun → Profile
-profile b = profile_of (kind_of_head b.head)
+abbrev pub set : Begun → KindSet
+set b = set_of_kind (kind_of_head b.head)
 
 -- that of the message, which is begun outermost
-abbrev pub root_of : Head → List Begun → Profile
-root_of h [] = profile_of (kind_of_head h)
+abbrev pub root_of : Head → List Begun → KindSet
+root_of h [] = set_of_kind (kind_of_head h)
 root_of h (p ∷ outer) = root_of p.head outer
 
-abbrev pub root_profile : List Begun → Profile
-root_profile [] = Own
-root_profile (b ∷ outer) = root_of b.head outer
+abbrev pub root_set : List Begun → KindSet
+root_set [] = Profile
+root_set (b ∷ outer) = root_of b.head outer
 
 -- ---- what is covered
 

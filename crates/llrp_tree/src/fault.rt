@@ -12,7 +12,7 @@ pub enum Reason {
     Reserved,
     /// A version other than 1 or 2.
     Version,
-    /// A type that no message of this profile has.
+    /// A type that no message of the set has.
     MessageType,
     /// A length above the limit.
     MessageLength,
@@ -24,7 +24,7 @@ pub enum Reason {
     Count,
     /// Text that is not UTF-8.
     Utf8,
-    /// A type that no parameter of this profile has.
+    /// A type that no parameter of the set has.
     ParamType,
     /// A parameter that its parent never has.
     Misplaced,

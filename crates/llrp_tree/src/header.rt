@@ -7,7 +7,7 @@ use crate::child_checks::is_known_version;
 use crate::fault::fault_at;
 use crate::numbers::{from_bit, from_octet};
 use crate::{Fault, HEADER_OCTETS, MsgKind, Reason};
-use llrp_schema::{Profile, msg_of_in};
+use llrp_schema::{KindSet, msg_of_in};
 
 /// What the header of a frame says (LLRP 1.1, section 17.1).
 #[derive(Clone, Copy, Debug)]
@@ -31,15 +31,15 @@ pub fn read_header(bytes: &[u8], limit: u32) -> Result<Header, Fault>
     ensures header { IfOk result (HasHeader limit bytes.now) }
     ensures fault { IfErr result (HasHeaderFault limit bytes.now) }
 {
-    read_header_in(Profile::Own, bytes, limit)
+    read_header_in(KindSet::Profile, bytes, limit)
 }
 
-/// Reads the header of a frame of a profile.
+/// Reads the header of a frame of a set of kinds.
 #[inline(always)]
-pub fn read_header_in(profile: Profile, bytes: &[u8], limit: u32) -> Result<Header, Fault>
+pub fn read_header_in(set: KindSet, bytes: &[u8], limit: u32) -> Result<Header, Fault>
     requires whole { HEADER_OCTETS ≤ length bytes.now }
-    ensures header { IfOk result (HasHeaderIn profile limit bytes.now) }
-    ensures fault { IfErr result (HasHeaderFaultIn profile limit bytes.now) }
+    ensures header { IfOk result (HasHeaderIn set limit bytes.now) }
+    ensures fault { IfErr result (HasHeaderFaultIn set limit bytes.now) }
 {
     let reserved = from_bit(bytes, 0, 3);
     if reserved != 0 {
@@ -51,7 +51,7 @@ pub fn read_header_in(profile: Profile, bytes: &[u8], limit: u32) -> Result<Head
         return Err(fault_at(3, Reason::Version));
     }
     let number = from_bit(bytes, 6, 10) as u16;
-    let Some(kind) = msg_of_in(profile, number) else {
+    let Some(kind) = msg_of_in(set, number) else {
         return Err(fault_at(6, Reason::MessageType));
     };
     let octets = from_octet(bytes, 2, 32) as u32;

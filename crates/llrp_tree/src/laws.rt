@@ -4,10 +4,10 @@ ghost use Rattle.std.specs.Prelude.{◌≡◌, ◌↔◌, ◌^◌, ◌<◌, ◌�
 ghost use Rattle.llrp_schema.specs.declared.kinds.ParamKind.{ParamKind};
 ghost use Rattle.llrp_schema.specs.declared.kinds.MsgKind.{MsgKind};
 ghost use Rattle.llrp_schema.specs.declared.kinds.Kind.TheVariants.{Message, Parameter};
-ghost use Rattle.llrp_schema.specs.declared.kinds.Profile.{Profile};
-ghost use Rattle.llrp_schema.specs.declared.kinds.Profile.TheVariants.{Own};
+ghost use Rattle.llrp_schema.specs.declared.kinds.KindSet.{KindSet};
+ghost use Rattle.llrp_schema.specs.declared.kinds.KindSet.TheVariants.{Profile};
 ghost use Rattle.llrp_schema.specs.declared.kinds.Tail.TheVariants.{Data};
-ghost use Rattle.llrp_schema.specs.Schema.{profile_of, tail_of};
+ghost use Rattle.llrp_schema.specs.Schema.{set_of_kind, tail_of};
 ghost use Rattle.llrp_tree.specs.Tree.{Forest, Tree, MessageTree};
 ghost use Rattle.llrp_tree.specs.Lawful.{AreOctets, AreLawful, AllLawful, IsLawfulMessage, tree_octets, message_octets};
 ghost use Rattle.llrp_tree.specs.Calls.Lawful.{own_octets};
@@ -46,7 +46,7 @@ pub fn open_trees_agree()
 
 /// A frame has one message or one first fault, and no message's octets begin another's.
 pub fn frames_apart()
-    ensures { (p : Profile) (limit : ℕ) → limit ≤ MAX_LIMIT → FramesApart p limit }
+    ensures { (p : KindSet) (limit : ℕ) → limit ≤ MAX_LIMIT → FramesApart p limit }
 {}
 
 /// An open tree grows by a part that passes its checks: a field, a tail, or the head of a child.
@@ -76,10 +76,10 @@ pub fn weights_are_within()
         → message_weight m ≤ length bytes }
 {}
 
-/// A node of the fixed profile has at most sixteen octets before its tail, and no data.
+/// A node of the profile has at most sixteen octets before its tail, and no data.
 #[tactic(auto, using(crate::proofs::OwnLemmas::short_parameter, crate::proofs::OwnLemmas::short_message, crate::proofs::OwnLemmas::no_data))]
 pub fn own_nodes_are_short()
-    ensures parameter { (kind : ParamKind) → profile_of (Parameter kind) ≡ Own → own_octets (Parameter kind) [] ≤ 16 }
-    ensures message { (kind : MsgKind) → profile_of (Message kind) ≡ Own → own_octets (Message kind) [] ≤ 16 }
-    ensures data { (kind : ParamKind) → profile_of (Parameter kind) ≡ Own → tail_of (Parameter kind) ≡ Data → ⊥ }
+    ensures parameter { (kind : ParamKind) → set_of_kind (Parameter kind) ≡ Profile → own_octets (Parameter kind) [] ≤ 16 }
+    ensures message { (kind : MsgKind) → set_of_kind (Message kind) ≡ Profile → own_octets (Message kind) [] ≤ 16 }
+    ensures data { (kind : ParamKind) → set_of_kind (Parameter kind) ≡ Profile → tail_of (Parameter kind) ≡ Data → ⊥ }
 {}

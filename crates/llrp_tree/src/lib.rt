@@ -32,7 +32,7 @@ pub use heads::{
     Front, HeadOctets, bare_front, message_front, message_start, parameter_front, parameter_start,
     tv_front, tv_start,
 };
-pub use llrp_schema::{Kind, MsgKind, ParamKind, Profile, msg_of};
+pub use llrp_schema::{Kind, KindSet, MsgKind, ParamKind, msg_of};
 pub use message::{Message, MsgRefusal};
 pub use node::{Node, NodeFault, NodeRefusal, Nodes, Octets};
 pub use own_parts::{own_fault, own_octets};

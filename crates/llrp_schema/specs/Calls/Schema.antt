@@ -4,8 +4,8 @@ use Rattle.std.specs.Cmp.Lexicographic.{pointwise}
 use Rattle.llrp_schema.specs.declared.kinds.MsgKind.{MsgKind}
 use Rattle.llrp_schema.specs.declared.kinds.ParamKind.{ParamKind}
 use Rattle.llrp_schema.specs.declared.kinds.Kind.TheVariants.{Message, Parameter}
-use Rattle.llrp_schema.specs.declared.kinds.Profile.{Profile}
-use Rattle.llrp_schema.specs.declared.kinds.Profile.TheVariants.{Own}
+use Rattle.llrp_schema.specs.declared.kinds.KindSet.{KindSet}
+use Rattle.llrp_schema.specs.declared.kinds.KindSet.TheVariants.{Profile}
 use Rattle.llrp_schema.specs.declared.kinds.Field.{Field}
 use Rattle.llrp_schema.specs.declared.kinds.Group.{Group}
 use Rattle.llrp_schema.specs.Schema.{FieldRule, GroupRule, any_field, name_of, messages_of, params_of, message_in, tlv_in, tv_in}
@@ -19,25 +19,25 @@ abbrev pub group_rule : Group → GroupRule
 group_rule group = record { members = group.members.now; least = group.least; most = group.most }
 
 -- the message with a name
-unfoldable pub message_named_in : Profile → List ℕ → Option MsgKind
+unfoldable pub message_named_in : KindSet → List ℕ → Option MsgKind
 message_named_in p name = find (λ kind. pointwise nat_eq (name_of (Message kind)) name) (messages_of p)
 
 -- the parameter with a name
-unfoldable pub param_named_in : Profile → List ℕ → Option ParamKind
+unfoldable pub param_named_in : KindSet → List ℕ → Option ParamKind
 param_named_in p name = find (λ kind. pointwise nat_eq (name_of (Parameter kind)) name) (params_of p)
 
 -- the same of the profile
 abbrev pub message_with_number : ℕ → Option MsgKind
-message_with_number number = message_in Own number
+message_with_number number = message_in Profile number
 
 abbrev pub tlv_with_number : ℕ → Option ParamKind
-tlv_with_number number = tlv_in Own number
+tlv_with_number number = tlv_in Profile number
 
 abbrev pub tv_with_number : ℕ → Option ParamKind
-tv_with_number number = tv_in Own number
+tv_with_number number = tv_in Profile number
 
 abbrev pub message_with_name : List ℕ → Option MsgKind
-message_with_name name = message_named_in Own name
+message_with_name name = message_named_in Profile name
 
 abbrev pub param_with_name : List ℕ → Option ParamKind
-param_with_name name = param_named_in Own name
+param_with_name name = param_named_in Profile name

@@ -1,10 +1,10 @@
 //! The rows of the parameters of the whole standard on the air protocol, and those of makers (LLRP 1.1, section 17.2).
 
-use crate::kinds::{Definition, Field, Group, ParamKind, Profile, Tail};
+use crate::kinds::{Definition, Field, Group, KindSet, ParamKind, Tail};
 use crate::row_macros::{any_number, at_most_one, field, one, one_or_more, reserved};
 
 pub static C1G2_LLRP_CAPABILITIES: Definition = Definition {
-    profile: Profile::Whole,
+    set: KindSet::Standard,
     number: 327,
     name: "C1G2LLRPCapabilities",
     fields: &[
@@ -22,7 +22,7 @@ pub static C1G2_LLRP_CAPABILITIES: Definition = Definition {
 };
 
 pub static C1G2_UHF_RF_MODE_TABLE: Definition = Definition {
-    profile: Profile::Whole,
+    set: KindSet::Standard,
     number: 328,
     name: "C1G2UHFRFModeTable",
     fields: &[],
@@ -31,7 +31,7 @@ pub static C1G2_UHF_RF_MODE_TABLE: Definition = Definition {
 };
 
 pub static C1G2_UHF_RF_MODE_TABLE_ENTRY: Definition = Definition {
-    profile: Profile::Whole,
+    set: KindSet::Standard,
     number: 329,
     name: "C1G2UHFRFModeTableEntry",
     fields: &[
@@ -49,7 +49,7 @@ pub static C1G2_UHF_RF_MODE_TABLE_ENTRY: Definition = Definition {
 };
 
 pub static C1G2_INVENTORY_COMMAND: Definition = Definition {
-    profile: Profile::Whole,
+    set: KindSet::Standard,
     number: 330,
     name: "C1G2InventoryCommand",
     fields: &[field!("TagInventoryStateAware", 1), reserved!(7)],
@@ -63,7 +63,7 @@ pub static C1G2_INVENTORY_COMMAND: Definition = Definition {
 };
 
 pub static C1G2_FILTER: Definition = Definition {
-    profile: Profile::Whole,
+    set: KindSet::Standard,
     number: 331,
     name: "C1G2Filter",
     fields: &[field!("T", 2, 2), reserved!(6)],
@@ -76,7 +76,7 @@ pub static C1G2_FILTER: Definition = Definition {
 };
 
 pub static C1G2_TAG_INVENTORY_MASK: Definition = Definition {
-    profile: Profile::Whole,
+    set: KindSet::Standard,
     number: 332,
     name: "C1G2TagInventoryMask",
     fields: &[
@@ -90,7 +90,7 @@ pub static C1G2_TAG_INVENTORY_MASK: Definition = Definition {
 };
 
 pub static C1G2_TAG_INVENTORY_STATE_AWARE_FILTER_ACTION: Definition = Definition {
-    profile: Profile::Whole,
+    set: KindSet::Standard,
     number: 333,
     name: "C1G2TagInventoryStateAwareFilterAction",
     fields: &[field!("Target", 8, 4), field!("Action", 8, 7)],
@@ -99,7 +99,7 @@ pub static C1G2_TAG_INVENTORY_STATE_AWARE_FILTER_ACTION: Definition = Definition
 };
 
 pub static C1G2_TAG_INVENTORY_STATE_UNAWARE_FILTER_ACTION: Definition = Definition {
-    profile: Profile::Whole,
+    set: KindSet::Standard,
     number: 334,
     name: "C1G2TagInventoryStateUnawareFilterAction",
     fields: &[field!("Action", 8, 5)],
@@ -108,7 +108,7 @@ pub static C1G2_TAG_INVENTORY_STATE_UNAWARE_FILTER_ACTION: Definition = Definiti
 };
 
 pub static C1G2_RF_CONTROL: Definition = Definition {
-    profile: Profile::Whole,
+    set: KindSet::Standard,
     number: 335,
     name: "C1G2RFControl",
     fields: &[field!("ModeIndex", 16), field!("Tari", 16)],
@@ -117,7 +117,7 @@ pub static C1G2_RF_CONTROL: Definition = Definition {
 };
 
 pub static C1G2_SINGULATION_CONTROL: Definition = Definition {
-    profile: Profile::Whole,
+    set: KindSet::Standard,
     number: 336,
     name: "C1G2SingulationControl",
     fields: &[
@@ -131,7 +131,7 @@ pub static C1G2_SINGULATION_CONTROL: Definition = Definition {
 };
 
 pub static C1G2_TAG_INVENTORY_STATE_AWARE_SINGULATION_ACTION: Definition = Definition {
-    profile: Profile::Whole,
+    set: KindSet::Standard,
     number: 337,
     name: "C1G2TagInventoryStateAwareSingulationAction",
     fields: &[
@@ -145,7 +145,7 @@ pub static C1G2_TAG_INVENTORY_STATE_AWARE_SINGULATION_ACTION: Definition = Defin
 };
 
 pub static C1G2_TAG_SPEC: Definition = Definition {
-    profile: Profile::Whole,
+    set: KindSet::Standard,
     number: 338,
     name: "C1G2TagSpec",
     fields: &[],
@@ -154,7 +154,7 @@ pub static C1G2_TAG_SPEC: Definition = Definition {
 };
 
 pub static C1G2_TARGET_TAG: Definition = Definition {
-    profile: Profile::Whole,
+    set: KindSet::Standard,
     number: 339,
     name: "C1G2TargetTag",
     fields: &[
@@ -169,7 +169,7 @@ pub static C1G2_TARGET_TAG: Definition = Definition {
 };
 
 pub static C1G2_READ: Definition = Definition {
-    profile: Profile::Whole,
+    set: KindSet::Standard,
     number: 341,
     name: "C1G2Read",
     fields: &[
@@ -185,7 +185,7 @@ pub static C1G2_READ: Definition = Definition {
 };
 
 pub static C1G2_WRITE: Definition = Definition {
-    profile: Profile::Whole,
+    set: KindSet::Standard,
     number: 342,
     name: "C1G2Write",
     fields: &[
@@ -200,7 +200,7 @@ pub static C1G2_WRITE: Definition = Definition {
 };
 
 pub static C1G2_KILL: Definition = Definition {
-    profile: Profile::Whole,
+    set: KindSet::Standard,
     number: 343,
     name: "C1G2Kill",
     fields: &[field!("OpSpecID", 16), field!("KillPassword", 32)],
@@ -209,7 +209,7 @@ pub static C1G2_KILL: Definition = Definition {
 };
 
 pub static C1G2_LOCK: Definition = Definition {
-    profile: Profile::Whole,
+    set: KindSet::Standard,
     number: 344,
     name: "C1G2Lock",
     fields: &[field!("OpSpecID", 16), field!("AccessPassword", 32)],
@@ -218,7 +218,7 @@ pub static C1G2_LOCK: Definition = Definition {
 };
 
 pub static C1G2_LOCK_PAYLOAD: Definition = Definition {
-    profile: Profile::Whole,
+    set: KindSet::Standard,
     number: 345,
     name: "C1G2LockPayload",
     fields: &[field!("Privilege", 8, 3), field!("DataField", 8, 4)],
@@ -227,7 +227,7 @@ pub static C1G2_LOCK_PAYLOAD: Definition = Definition {
 };
 
 pub static C1G2_BLOCK_ERASE: Definition = Definition {
-    profile: Profile::Whole,
+    set: KindSet::Standard,
     number: 346,
     name: "C1G2BlockErase",
     fields: &[
@@ -243,7 +243,7 @@ pub static C1G2_BLOCK_ERASE: Definition = Definition {
 };
 
 pub static C1G2_BLOCK_WRITE: Definition = Definition {
-    profile: Profile::Whole,
+    set: KindSet::Standard,
     number: 347,
     name: "C1G2BlockWrite",
     fields: &[
@@ -258,7 +258,7 @@ pub static C1G2_BLOCK_WRITE: Definition = Definition {
 };
 
 pub static C1G2_EPC_MEMORY_SELECTOR: Definition = Definition {
-    profile: Profile::Whole,
+    set: KindSet::Standard,
     number: 348,
     name: "C1G2EPCMemorySelector",
     fields: &[field!("Selector", 8)],
@@ -267,7 +267,7 @@ pub static C1G2_EPC_MEMORY_SELECTOR: Definition = Definition {
 };
 
 pub static C1G2_READ_OP_SPEC_RESULT: Definition = Definition {
-    profile: Profile::Whole,
+    set: KindSet::Standard,
     number: 349,
     name: "C1G2ReadOpSpecResult",
     fields: &[field!("Result", 8), field!("OpSpecID", 16)],
@@ -276,7 +276,7 @@ pub static C1G2_READ_OP_SPEC_RESULT: Definition = Definition {
 };
 
 pub static C1G2_WRITE_OP_SPEC_RESULT: Definition = Definition {
-    profile: Profile::Whole,
+    set: KindSet::Standard,
     number: 350,
     name: "C1G2WriteOpSpecResult",
     fields: &[
@@ -289,7 +289,7 @@ pub static C1G2_WRITE_OP_SPEC_RESULT: Definition = Definition {
 };
 
 pub static C1G2_KILL_OP_SPEC_RESULT: Definition = Definition {
-    profile: Profile::Whole,
+    set: KindSet::Standard,
     number: 351,
     name: "C1G2KillOpSpecResult",
     fields: &[field!("Result", 8), field!("OpSpecID", 16)],
@@ -298,7 +298,7 @@ pub static C1G2_KILL_OP_SPEC_RESULT: Definition = Definition {
 };
 
 pub static C1G2_LOCK_OP_SPEC_RESULT: Definition = Definition {
-    profile: Profile::Whole,
+    set: KindSet::Standard,
     number: 352,
     name: "C1G2LockOpSpecResult",
     fields: &[field!("Result", 8), field!("OpSpecID", 16)],
@@ -307,7 +307,7 @@ pub static C1G2_LOCK_OP_SPEC_RESULT: Definition = Definition {
 };
 
 pub static C1G2_BLOCK_ERASE_OP_SPEC_RESULT: Definition = Definition {
-    profile: Profile::Whole,
+    set: KindSet::Standard,
     number: 353,
     name: "C1G2BlockEraseOpSpecResult",
     fields: &[field!("Result", 8), field!("OpSpecID", 16)],
@@ -316,7 +316,7 @@ pub static C1G2_BLOCK_ERASE_OP_SPEC_RESULT: Definition = Definition {
 };
 
 pub static C1G2_BLOCK_WRITE_OP_SPEC_RESULT: Definition = Definition {
-    profile: Profile::Whole,
+    set: KindSet::Standard,
     number: 354,
     name: "C1G2BlockWriteOpSpecResult",
     fields: &[
@@ -329,7 +329,7 @@ pub static C1G2_BLOCK_WRITE_OP_SPEC_RESULT: Definition = Definition {
 };
 
 pub static LOOP_SPEC: Definition = Definition {
-    profile: Profile::Whole,
+    set: KindSet::Standard,
     number: 355,
     name: "LoopSpec",
     fields: &[field!("LoopCount", 32)],
@@ -338,7 +338,7 @@ pub static LOOP_SPEC: Definition = Definition {
 };
 
 pub static SPEC_LOOP_EVENT: Definition = Definition {
-    profile: Profile::Whole,
+    set: KindSet::Standard,
     number: 356,
     name: "SpecLoopEvent",
     fields: &[field!("ROSpecID", 32), field!("LoopCount", 32)],
@@ -347,7 +347,7 @@ pub static SPEC_LOOP_EVENT: Definition = Definition {
 };
 
 pub static C1G2_RECOMMISSION: Definition = Definition {
-    profile: Profile::Whole,
+    set: KindSet::Standard,
     number: 357,
     name: "C1G2Recommission",
     fields: &[
@@ -363,7 +363,7 @@ pub static C1G2_RECOMMISSION: Definition = Definition {
 };
 
 pub static C1G2_BLOCK_PERMALOCK: Definition = Definition {
-    profile: Profile::Whole,
+    set: KindSet::Standard,
     number: 358,
     name: "C1G2BlockPermalock",
     fields: &[
@@ -378,7 +378,7 @@ pub static C1G2_BLOCK_PERMALOCK: Definition = Definition {
 };
 
 pub static C1G2_GET_BLOCK_PERMALOCK_STATUS: Definition = Definition {
-    profile: Profile::Whole,
+    set: KindSet::Standard,
     number: 359,
     name: "C1G2GetBlockPermalockStatus",
     fields: &[
@@ -394,7 +394,7 @@ pub static C1G2_GET_BLOCK_PERMALOCK_STATUS: Definition = Definition {
 };
 
 pub static C1G2_RECOMMISSION_OP_SPEC_RESULT: Definition = Definition {
-    profile: Profile::Whole,
+    set: KindSet::Standard,
     number: 360,
     name: "C1G2RecommissionOpSpecResult",
     fields: &[field!("Result", 8), field!("OpSpecID", 16)],
@@ -403,7 +403,7 @@ pub static C1G2_RECOMMISSION_OP_SPEC_RESULT: Definition = Definition {
 };
 
 pub static C1G2_BLOCK_PERMALOCK_OP_SPEC_RESULT: Definition = Definition {
-    profile: Profile::Whole,
+    set: KindSet::Standard,
     number: 361,
     name: "C1G2BlockPermalockOpSpecResult",
     fields: &[field!("Result", 8), field!("OpSpecID", 16)],
@@ -412,7 +412,7 @@ pub static C1G2_BLOCK_PERMALOCK_OP_SPEC_RESULT: Definition = Definition {
 };
 
 pub static C1G2_GET_BLOCK_PERMALOCK_STATUS_OP_SPEC_RESULT: Definition = Definition {
-    profile: Profile::Whole,
+    set: KindSet::Standard,
     number: 362,
     name: "C1G2GetBlockPermalockStatusOpSpecResult",
     fields: &[field!("Result", 8), field!("OpSpecID", 16)],
@@ -421,7 +421,7 @@ pub static C1G2_GET_BLOCK_PERMALOCK_STATUS_OP_SPEC_RESULT: Definition = Definiti
 };
 
 pub static MAXIMUM_RECEIVE_SENSITIVITY: Definition = Definition {
-    profile: Profile::Whole,
+    set: KindSet::Standard,
     number: 363,
     name: "MaximumReceiveSensitivity",
     fields: &[field!("MaximumSensitivityValue", 16)],
@@ -430,7 +430,7 @@ pub static MAXIMUM_RECEIVE_SENSITIVITY: Definition = Definition {
 };
 
 pub static RF_SURVEY_FREQUENCY_CAPABILITIES: Definition = Definition {
-    profile: Profile::Whole,
+    set: KindSet::Standard,
     number: 365,
     name: "RFSurveyFrequencyCapabilities",
     fields: &[
@@ -442,7 +442,7 @@ pub static RF_SURVEY_FREQUENCY_CAPABILITIES: Definition = Definition {
 };
 
 pub static CUSTOM: Definition = Definition {
-    profile: Profile::Whole,
+    set: KindSet::Standard,
     number: 1023,
     name: "Custom",
     fields: &[

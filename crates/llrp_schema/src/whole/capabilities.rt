@@ -1,10 +1,10 @@
 //! The rows of the parameters of the whole standard on times and capabilities (LLRP 1.1, section 17.2).
 
-use crate::kinds::{Definition, Field, Group, ParamKind, Profile, Tail};
+use crate::kinds::{Definition, Field, Group, KindSet, ParamKind, Tail};
 use crate::row_macros::{any_number, at_most_one, field, one, one_or_more, reserved};
 
 pub static UTC_TIMESTAMP: Definition = Definition {
-    profile: Profile::Whole,
+    set: KindSet::Standard,
     number: 128,
     name: "UTCTimestamp",
     fields: &[field!("Microseconds", 64)],
@@ -13,7 +13,7 @@ pub static UTC_TIMESTAMP: Definition = Definition {
 };
 
 pub static UPTIME: Definition = Definition {
-    profile: Profile::Whole,
+    set: KindSet::Standard,
     number: 129,
     name: "Uptime",
     fields: &[field!("Microseconds", 64)],
@@ -22,7 +22,7 @@ pub static UPTIME: Definition = Definition {
 };
 
 pub static GENERAL_DEVICE_CAPABILITIES: Definition = Definition {
-    profile: Profile::Whole,
+    set: KindSet::Standard,
     number: 137,
     name: "GeneralDeviceCapabilities",
     fields: &[
@@ -44,7 +44,7 @@ pub static GENERAL_DEVICE_CAPABILITIES: Definition = Definition {
 };
 
 pub static RECEIVE_SENSITIVITY_TABLE_ENTRY: Definition = Definition {
-    profile: Profile::Whole,
+    set: KindSet::Standard,
     number: 139,
     name: "ReceiveSensitivityTableEntry",
     fields: &[field!("Index", 16), field!("ReceiveSensitivityValue", 16)],
@@ -53,7 +53,7 @@ pub static RECEIVE_SENSITIVITY_TABLE_ENTRY: Definition = Definition {
 };
 
 pub static PER_ANTENNA_AIR_PROTOCOL: Definition = Definition {
-    profile: Profile::Whole,
+    set: KindSet::Standard,
     number: 140,
     name: "PerAntennaAirProtocol",
     fields: &[field!("AntennaID", 16), field!("Count", 16)],
@@ -62,7 +62,7 @@ pub static PER_ANTENNA_AIR_PROTOCOL: Definition = Definition {
 };
 
 pub static GPIO_CAPABILITIES: Definition = Definition {
-    profile: Profile::Whole,
+    set: KindSet::Standard,
     number: 141,
     name: "GPIOCapabilities",
     fields: &[field!("NumGPIs", 16), field!("NumGPOs", 16)],
@@ -71,7 +71,7 @@ pub static GPIO_CAPABILITIES: Definition = Definition {
 };
 
 pub static LLRP_CAPABILITIES: Definition = Definition {
-    profile: Profile::Whole,
+    set: KindSet::Standard,
     number: 142,
     name: "LLRPCapabilities",
     fields: &[
@@ -91,7 +91,7 @@ pub static LLRP_CAPABILITIES: Definition = Definition {
 };
 
 pub static REGULATORY_CAPABILITIES: Definition = Definition {
-    profile: Profile::Whole,
+    set: KindSet::Standard,
     number: 143,
     name: "RegulatoryCapabilities",
     fields: &[
@@ -106,7 +106,7 @@ pub static REGULATORY_CAPABILITIES: Definition = Definition {
 };
 
 pub static UHF_BAND_CAPABILITIES: Definition = Definition {
-    profile: Profile::Whole,
+    set: KindSet::Standard,
     number: 144,
     name: "UHFBandCapabilities",
     fields: &[],
@@ -120,7 +120,7 @@ pub static UHF_BAND_CAPABILITIES: Definition = Definition {
 };
 
 pub static TRANSMIT_POWER_LEVEL_TABLE_ENTRY: Definition = Definition {
-    profile: Profile::Whole,
+    set: KindSet::Standard,
     number: 145,
     name: "TransmitPowerLevelTableEntry",
     fields: &[field!("Index", 16), field!("TransmitPowerValue", 16)],
@@ -129,7 +129,7 @@ pub static TRANSMIT_POWER_LEVEL_TABLE_ENTRY: Definition = Definition {
 };
 
 pub static FREQUENCY_INFORMATION: Definition = Definition {
-    profile: Profile::Whole,
+    set: KindSet::Standard,
     number: 146,
     name: "FrequencyInformation",
     fields: &[field!("Hopping", 1), reserved!(7)],
@@ -141,7 +141,7 @@ pub static FREQUENCY_INFORMATION: Definition = Definition {
 };
 
 pub static FREQUENCY_HOP_TABLE: Definition = Definition {
-    profile: Profile::Whole,
+    set: KindSet::Standard,
     number: 147,
     name: "FrequencyHopTable",
     fields: &[field!("HopTableID", 8), reserved!(8), field!("Count", 16)],
@@ -150,7 +150,7 @@ pub static FREQUENCY_HOP_TABLE: Definition = Definition {
 };
 
 pub static FIXED_FREQUENCY_TABLE: Definition = Definition {
-    profile: Profile::Whole,
+    set: KindSet::Standard,
     number: 148,
     name: "FixedFrequencyTable",
     fields: &[field!("Count", 16)],
@@ -159,7 +159,7 @@ pub static FIXED_FREQUENCY_TABLE: Definition = Definition {
 };
 
 pub static PER_ANTENNA_RECEIVE_SENSITIVITY_RANGE: Definition = Definition {
-    profile: Profile::Whole,
+    set: KindSet::Standard,
     number: 149,
     name: "PerAntennaReceiveSensitivityRange",
     fields: &[

@@ -1,10 +1,10 @@
 //! The rows of the messages of the whole standard (LLRP 1.1, section 17.1).
 
-use crate::kinds::{Definition, Field, Group, ParamKind, Profile, Tail};
+use crate::kinds::{Definition, Field, Group, KindSet, ParamKind, Tail};
 use crate::row_macros::{any_number, at_most_one, field, one, reserved};
 
 pub static GET_READER_CAPABILITIES: Definition = Definition {
-    profile: Profile::Whole,
+    set: KindSet::Standard,
     number: 1,
     name: "GET_READER_CAPABILITIES",
     fields: &[field!("RequestedData", 8, 4)],
@@ -13,7 +13,7 @@ pub static GET_READER_CAPABILITIES: Definition = Definition {
 };
 
 pub static GET_READER_CONFIG: Definition = Definition {
-    profile: Profile::Whole,
+    set: KindSet::Standard,
     number: 2,
     name: "GET_READER_CONFIG",
     fields: &[
@@ -27,7 +27,7 @@ pub static GET_READER_CONFIG: Definition = Definition {
 };
 
 pub static SET_READER_CONFIG: Definition = Definition {
-    profile: Profile::Whole,
+    set: KindSet::Standard,
     number: 3,
     name: "SET_READER_CONFIG",
     fields: &[field!("ResetToFactoryDefault", 1), reserved!(7)],
@@ -47,7 +47,7 @@ pub static SET_READER_CONFIG: Definition = Definition {
 };
 
 pub static CLOSE_CONNECTION_RESPONSE: Definition = Definition {
-    profile: Profile::Whole,
+    set: KindSet::Standard,
     number: 4,
     name: "CLOSE_CONNECTION_RESPONSE",
     fields: &[],
@@ -56,7 +56,7 @@ pub static CLOSE_CONNECTION_RESPONSE: Definition = Definition {
 };
 
 pub static GET_READER_CAPABILITIES_RESPONSE: Definition = Definition {
-    profile: Profile::Whole,
+    set: KindSet::Standard,
     number: 11,
     name: "GET_READER_CAPABILITIES_RESPONSE",
     fields: &[],
@@ -72,7 +72,7 @@ pub static GET_READER_CAPABILITIES_RESPONSE: Definition = Definition {
 };
 
 pub static GET_READER_CONFIG_RESPONSE: Definition = Definition {
-    profile: Profile::Whole,
+    set: KindSet::Standard,
     number: 12,
     name: "GET_READER_CONFIG_RESPONSE",
     fields: &[],
@@ -95,7 +95,7 @@ pub static GET_READER_CONFIG_RESPONSE: Definition = Definition {
 };
 
 pub static SET_READER_CONFIG_RESPONSE: Definition = Definition {
-    profile: Profile::Whole,
+    set: KindSet::Standard,
     number: 13,
     name: "SET_READER_CONFIG_RESPONSE",
     fields: &[],
@@ -104,7 +104,7 @@ pub static SET_READER_CONFIG_RESPONSE: Definition = Definition {
 };
 
 pub static CLOSE_CONNECTION: Definition = Definition {
-    profile: Profile::Whole,
+    set: KindSet::Standard,
     number: 14,
     name: "CLOSE_CONNECTION",
     fields: &[],
@@ -113,7 +113,7 @@ pub static CLOSE_CONNECTION: Definition = Definition {
 };
 
 pub static ADD_RO_SPEC: Definition = Definition {
-    profile: Profile::Whole,
+    set: KindSet::Standard,
     number: 20,
     name: "ADD_ROSPEC",
     fields: &[],
@@ -122,7 +122,7 @@ pub static ADD_RO_SPEC: Definition = Definition {
 };
 
 pub static DELETE_RO_SPEC: Definition = Definition {
-    profile: Profile::Whole,
+    set: KindSet::Standard,
     number: 21,
     name: "DELETE_ROSPEC",
     fields: &[field!("ROSpecID", 32)],
@@ -131,7 +131,7 @@ pub static DELETE_RO_SPEC: Definition = Definition {
 };
 
 pub static START_RO_SPEC: Definition = Definition {
-    profile: Profile::Whole,
+    set: KindSet::Standard,
     number: 22,
     name: "START_ROSPEC",
     fields: &[field!("ROSpecID", 32)],
@@ -140,7 +140,7 @@ pub static START_RO_SPEC: Definition = Definition {
 };
 
 pub static STOP_RO_SPEC: Definition = Definition {
-    profile: Profile::Whole,
+    set: KindSet::Standard,
     number: 23,
     name: "STOP_ROSPEC",
     fields: &[field!("ROSpecID", 32)],
@@ -149,7 +149,7 @@ pub static STOP_RO_SPEC: Definition = Definition {
 };
 
 pub static ENABLE_RO_SPEC: Definition = Definition {
-    profile: Profile::Whole,
+    set: KindSet::Standard,
     number: 24,
     name: "ENABLE_ROSPEC",
     fields: &[field!("ROSpecID", 32)],
@@ -158,7 +158,7 @@ pub static ENABLE_RO_SPEC: Definition = Definition {
 };
 
 pub static DISABLE_RO_SPEC: Definition = Definition {
-    profile: Profile::Whole,
+    set: KindSet::Standard,
     number: 25,
     name: "DISABLE_ROSPEC",
     fields: &[field!("ROSpecID", 32)],
@@ -167,7 +167,7 @@ pub static DISABLE_RO_SPEC: Definition = Definition {
 };
 
 pub static GET_RO_SPECS: Definition = Definition {
-    profile: Profile::Whole,
+    set: KindSet::Standard,
     number: 26,
     name: "GET_ROSPECS",
     fields: &[],
@@ -176,7 +176,7 @@ pub static GET_RO_SPECS: Definition = Definition {
 };
 
 pub static ADD_RO_SPEC_RESPONSE: Definition = Definition {
-    profile: Profile::Whole,
+    set: KindSet::Standard,
     number: 30,
     name: "ADD_ROSPEC_RESPONSE",
     fields: &[],
@@ -185,7 +185,7 @@ pub static ADD_RO_SPEC_RESPONSE: Definition = Definition {
 };
 
 pub static DELETE_RO_SPEC_RESPONSE: Definition = Definition {
-    profile: Profile::Whole,
+    set: KindSet::Standard,
     number: 31,
     name: "DELETE_ROSPEC_RESPONSE",
     fields: &[],
@@ -194,7 +194,7 @@ pub static DELETE_RO_SPEC_RESPONSE: Definition = Definition {
 };
 
 pub static START_RO_SPEC_RESPONSE: Definition = Definition {
-    profile: Profile::Whole,
+    set: KindSet::Standard,
     number: 32,
     name: "START_ROSPEC_RESPONSE",
     fields: &[],
@@ -203,7 +203,7 @@ pub static START_RO_SPEC_RESPONSE: Definition = Definition {
 };
 
 pub static STOP_RO_SPEC_RESPONSE: Definition = Definition {
-    profile: Profile::Whole,
+    set: KindSet::Standard,
     number: 33,
     name: "STOP_ROSPEC_RESPONSE",
     fields: &[],
@@ -212,7 +212,7 @@ pub static STOP_RO_SPEC_RESPONSE: Definition = Definition {
 };
 
 pub static ENABLE_RO_SPEC_RESPONSE: Definition = Definition {
-    profile: Profile::Whole,
+    set: KindSet::Standard,
     number: 34,
     name: "ENABLE_ROSPEC_RESPONSE",
     fields: &[],
@@ -221,7 +221,7 @@ pub static ENABLE_RO_SPEC_RESPONSE: Definition = Definition {
 };
 
 pub static DISABLE_RO_SPEC_RESPONSE: Definition = Definition {
-    profile: Profile::Whole,
+    set: KindSet::Standard,
     number: 35,
     name: "DISABLE_ROSPEC_RESPONSE",
     fields: &[],
@@ -230,7 +230,7 @@ pub static DISABLE_RO_SPEC_RESPONSE: Definition = Definition {
 };
 
 pub static GET_RO_SPECS_RESPONSE: Definition = Definition {
-    profile: Profile::Whole,
+    set: KindSet::Standard,
     number: 36,
     name: "GET_ROSPECS_RESPONSE",
     fields: &[],
@@ -239,7 +239,7 @@ pub static GET_RO_SPECS_RESPONSE: Definition = Definition {
 };
 
 pub static ADD_ACCESS_SPEC: Definition = Definition {
-    profile: Profile::Whole,
+    set: KindSet::Standard,
     number: 40,
     name: "ADD_ACCESSSPEC",
     fields: &[],
@@ -248,7 +248,7 @@ pub static ADD_ACCESS_SPEC: Definition = Definition {
 };
 
 pub static DELETE_ACCESS_SPEC: Definition = Definition {
-    profile: Profile::Whole,
+    set: KindSet::Standard,
     number: 41,
     name: "DELETE_ACCESSSPEC",
     fields: &[field!("AccessSpecID", 32)],
@@ -257,7 +257,7 @@ pub static DELETE_ACCESS_SPEC: Definition = Definition {
 };
 
 pub static ENABLE_ACCESS_SPEC: Definition = Definition {
-    profile: Profile::Whole,
+    set: KindSet::Standard,
     number: 42,
     name: "ENABLE_ACCESSSPEC",
     fields: &[field!("AccessSpecID", 32)],
@@ -266,7 +266,7 @@ pub static ENABLE_ACCESS_SPEC: Definition = Definition {
 };
 
 pub static DISABLE_ACCESS_SPEC: Definition = Definition {
-    profile: Profile::Whole,
+    set: KindSet::Standard,
     number: 43,
     name: "DISABLE_ACCESSSPEC",
     fields: &[field!("AccessSpecID", 32)],
@@ -275,7 +275,7 @@ pub static DISABLE_ACCESS_SPEC: Definition = Definition {
 };
 
 pub static GET_ACCESS_SPECS: Definition = Definition {
-    profile: Profile::Whole,
+    set: KindSet::Standard,
     number: 44,
     name: "GET_ACCESSSPECS",
     fields: &[],
@@ -284,7 +284,7 @@ pub static GET_ACCESS_SPECS: Definition = Definition {
 };
 
 pub static CLIENT_REQUEST_OP: Definition = Definition {
-    profile: Profile::Whole,
+    set: KindSet::Standard,
     number: 45,
     name: "CLIENT_REQUEST_OP",
     fields: &[],
@@ -293,7 +293,7 @@ pub static CLIENT_REQUEST_OP: Definition = Definition {
 };
 
 pub static GET_SUPPORTED_VERSION: Definition = Definition {
-    profile: Profile::Whole,
+    set: KindSet::Standard,
     number: 46,
     name: "GET_SUPPORTED_VERSION",
     fields: &[],
@@ -302,7 +302,7 @@ pub static GET_SUPPORTED_VERSION: Definition = Definition {
 };
 
 pub static SET_PROTOCOL_VERSION: Definition = Definition {
-    profile: Profile::Whole,
+    set: KindSet::Standard,
     number: 47,
     name: "SET_PROTOCOL_VERSION",
     fields: &[field!("ProtocolVersion", 8)],
@@ -311,7 +311,7 @@ pub static SET_PROTOCOL_VERSION: Definition = Definition {
 };
 
 pub static ADD_ACCESS_SPEC_RESPONSE: Definition = Definition {
-    profile: Profile::Whole,
+    set: KindSet::Standard,
     number: 50,
     name: "ADD_ACCESSSPEC_RESPONSE",
     fields: &[],
@@ -320,7 +320,7 @@ pub static ADD_ACCESS_SPEC_RESPONSE: Definition = Definition {
 };
 
 pub static DELETE_ACCESS_SPEC_RESPONSE: Definition = Definition {
-    profile: Profile::Whole,
+    set: KindSet::Standard,
     number: 51,
     name: "DELETE_ACCESSSPEC_RESPONSE",
     fields: &[],
@@ -329,7 +329,7 @@ pub static DELETE_ACCESS_SPEC_RESPONSE: Definition = Definition {
 };
 
 pub static ENABLE_ACCESS_SPEC_RESPONSE: Definition = Definition {
-    profile: Profile::Whole,
+    set: KindSet::Standard,
     number: 52,
     name: "ENABLE_ACCESSSPEC_RESPONSE",
     fields: &[],
@@ -338,7 +338,7 @@ pub static ENABLE_ACCESS_SPEC_RESPONSE: Definition = Definition {
 };
 
 pub static DISABLE_ACCESS_SPEC_RESPONSE: Definition = Definition {
-    profile: Profile::Whole,
+    set: KindSet::Standard,
     number: 53,
     name: "DISABLE_ACCESSSPEC_RESPONSE",
     fields: &[],
@@ -347,7 +347,7 @@ pub static DISABLE_ACCESS_SPEC_RESPONSE: Definition = Definition {
 };
 
 pub static GET_ACCESS_SPECS_RESPONSE: Definition = Definition {
-    profile: Profile::Whole,
+    set: KindSet::Standard,
     number: 54,
     name: "GET_ACCESSSPECS_RESPONSE",
     fields: &[],
@@ -356,7 +356,7 @@ pub static GET_ACCESS_SPECS_RESPONSE: Definition = Definition {
 };
 
 pub static CLIENT_REQUEST_OP_RESPONSE: Definition = Definition {
-    profile: Profile::Whole,
+    set: KindSet::Standard,
     number: 55,
     name: "CLIENT_REQUEST_OP_RESPONSE",
     fields: &[],
@@ -365,7 +365,7 @@ pub static CLIENT_REQUEST_OP_RESPONSE: Definition = Definition {
 };
 
 pub static GET_SUPPORTED_VERSION_RESPONSE: Definition = Definition {
-    profile: Profile::Whole,
+    set: KindSet::Standard,
     number: 56,
     name: "GET_SUPPORTED_VERSION_RESPONSE",
     fields: &[field!("CurrentVersion", 8), field!("SupportedVersion", 8)],
@@ -374,7 +374,7 @@ pub static GET_SUPPORTED_VERSION_RESPONSE: Definition = Definition {
 };
 
 pub static SET_PROTOCOL_VERSION_RESPONSE: Definition = Definition {
-    profile: Profile::Whole,
+    set: KindSet::Standard,
     number: 57,
     name: "SET_PROTOCOL_VERSION_RESPONSE",
     fields: &[],
@@ -383,7 +383,7 @@ pub static SET_PROTOCOL_VERSION_RESPONSE: Definition = Definition {
 };
 
 pub static GET_REPORT: Definition = Definition {
-    profile: Profile::Whole,
+    set: KindSet::Standard,
     number: 60,
     name: "GET_REPORT",
     fields: &[],
@@ -392,7 +392,7 @@ pub static GET_REPORT: Definition = Definition {
 };
 
 pub static RO_ACCESS_REPORT: Definition = Definition {
-    profile: Profile::Whole,
+    set: KindSet::Standard,
     number: 61,
     name: "RO_ACCESS_REPORT",
     fields: &[],
@@ -405,7 +405,7 @@ pub static RO_ACCESS_REPORT: Definition = Definition {
 };
 
 pub static KEEPALIVE: Definition = Definition {
-    profile: Profile::Whole,
+    set: KindSet::Standard,
     number: 62,
     name: "KEEPALIVE",
     fields: &[],
@@ -414,7 +414,7 @@ pub static KEEPALIVE: Definition = Definition {
 };
 
 pub static READER_EVENT_NOTIFICATION: Definition = Definition {
-    profile: Profile::Whole,
+    set: KindSet::Standard,
     number: 63,
     name: "READER_EVENT_NOTIFICATION",
     fields: &[],
@@ -423,7 +423,7 @@ pub static READER_EVENT_NOTIFICATION: Definition = Definition {
 };
 
 pub static ENABLE_EVENTS_AND_REPORTS: Definition = Definition {
-    profile: Profile::Whole,
+    set: KindSet::Standard,
     number: 64,
     name: "ENABLE_EVENTS_AND_REPORTS",
     fields: &[],
@@ -432,7 +432,7 @@ pub static ENABLE_EVENTS_AND_REPORTS: Definition = Definition {
 };
 
 pub static KEEPALIVE_ACK: Definition = Definition {
-    profile: Profile::Whole,
+    set: KindSet::Standard,
     number: 72,
     name: "KEEPALIVE_ACK",
     fields: &[],
@@ -441,7 +441,7 @@ pub static KEEPALIVE_ACK: Definition = Definition {
 };
 
 pub static ERROR_MESSAGE: Definition = Definition {
-    profile: Profile::Whole,
+    set: KindSet::Standard,
     number: 100,
     name: "ERROR_MESSAGE",
     fields: &[],
@@ -450,7 +450,7 @@ pub static ERROR_MESSAGE: Definition = Definition {
 };
 
 pub static CUSTOM_MESSAGE: Definition = Definition {
-    profile: Profile::Whole,
+    set: KindSet::Standard,
     number: 1023,
     name: "CUSTOM_MESSAGE",
     fields: &[field!("VendorIdentifier", 32), field!("MessageSubtype", 8)],

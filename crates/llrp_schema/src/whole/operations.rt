@@ -1,12 +1,12 @@
 //! The rows of the parameters of the whole standard on reader operation, access and configuration (LLRP 1.1, section 17.2).
 
-use crate::kinds::{Definition, Field, Group, ParamKind, Profile, Tail};
+use crate::kinds::{Definition, Field, Group, KindSet, ParamKind, Tail};
 use crate::row_macros::{
     any_number, any_of, at_most_one, field, one, one_or_more, reserved, some_of,
 };
 
 pub static RO_SPEC: Definition = Definition {
-    profile: Profile::Whole,
+    set: KindSet::Standard,
     number: 177,
     name: "ROSpec",
     fields: &[
@@ -23,7 +23,7 @@ pub static RO_SPEC: Definition = Definition {
 };
 
 pub static RO_BOUNDARY_SPEC: Definition = Definition {
-    profile: Profile::Whole,
+    set: KindSet::Standard,
     number: 178,
     name: "ROBoundarySpec",
     fields: &[],
@@ -32,7 +32,7 @@ pub static RO_BOUNDARY_SPEC: Definition = Definition {
 };
 
 pub static RO_SPEC_START_TRIGGER: Definition = Definition {
-    profile: Profile::Whole,
+    set: KindSet::Standard,
     number: 179,
     name: "ROSpecStartTrigger",
     fields: &[field!("ROSpecStartTriggerType", 8, 3)],
@@ -44,7 +44,7 @@ pub static RO_SPEC_START_TRIGGER: Definition = Definition {
 };
 
 pub static PERIODIC_TRIGGER_VALUE: Definition = Definition {
-    profile: Profile::Whole,
+    set: KindSet::Standard,
     number: 180,
     name: "PeriodicTriggerValue",
     fields: &[field!("Offset", 32), field!("Period", 32)],
@@ -53,7 +53,7 @@ pub static PERIODIC_TRIGGER_VALUE: Definition = Definition {
 };
 
 pub static GPI_TRIGGER_VALUE: Definition = Definition {
-    profile: Profile::Whole,
+    set: KindSet::Standard,
     number: 181,
     name: "GPITriggerValue",
     fields: &[
@@ -67,7 +67,7 @@ pub static GPI_TRIGGER_VALUE: Definition = Definition {
 };
 
 pub static RO_SPEC_STOP_TRIGGER: Definition = Definition {
-    profile: Profile::Whole,
+    set: KindSet::Standard,
     number: 182,
     name: "ROSpecStopTrigger",
     fields: &[
@@ -79,7 +79,7 @@ pub static RO_SPEC_STOP_TRIGGER: Definition = Definition {
 };
 
 pub static AI_SPEC: Definition = Definition {
-    profile: Profile::Whole,
+    set: KindSet::Standard,
     number: 183,
     name: "AISpec",
     fields: &[],
@@ -92,7 +92,7 @@ pub static AI_SPEC: Definition = Definition {
 };
 
 pub static AI_SPEC_STOP_TRIGGER: Definition = Definition {
-    profile: Profile::Whole,
+    set: KindSet::Standard,
     number: 184,
     name: "AISpecStopTrigger",
     fields: &[
@@ -107,7 +107,7 @@ pub static AI_SPEC_STOP_TRIGGER: Definition = Definition {
 };
 
 pub static TAG_OBSERVATION_TRIGGER: Definition = Definition {
-    profile: Profile::Whole,
+    set: KindSet::Standard,
     number: 185,
     name: "TagObservationTrigger",
     fields: &[
@@ -123,7 +123,7 @@ pub static TAG_OBSERVATION_TRIGGER: Definition = Definition {
 };
 
 pub static INVENTORY_PARAMETER_SPEC: Definition = Definition {
-    profile: Profile::Whole,
+    set: KindSet::Standard,
     number: 186,
     name: "InventoryParameterSpec",
     fields: &[
@@ -138,7 +138,7 @@ pub static INVENTORY_PARAMETER_SPEC: Definition = Definition {
 };
 
 pub static RF_SURVEY_SPEC: Definition = Definition {
-    profile: Profile::Whole,
+    set: KindSet::Standard,
     number: 187,
     name: "RFSurveySpec",
     fields: &[
@@ -151,7 +151,7 @@ pub static RF_SURVEY_SPEC: Definition = Definition {
 };
 
 pub static RF_SURVEY_SPEC_STOP_TRIGGER: Definition = Definition {
-    profile: Profile::Whole,
+    set: KindSet::Standard,
     number: 188,
     name: "RFSurveySpecStopTrigger",
     fields: &[
@@ -164,7 +164,7 @@ pub static RF_SURVEY_SPEC_STOP_TRIGGER: Definition = Definition {
 };
 
 pub static ACCESS_SPEC: Definition = Definition {
-    profile: Profile::Whole,
+    set: KindSet::Standard,
     number: 207,
     name: "AccessSpec",
     fields: &[
@@ -185,7 +185,7 @@ pub static ACCESS_SPEC: Definition = Definition {
 };
 
 pub static ACCESS_SPEC_STOP_TRIGGER: Definition = Definition {
-    profile: Profile::Whole,
+    set: KindSet::Standard,
     number: 208,
     name: "AccessSpecStopTrigger",
     fields: &[
@@ -197,7 +197,7 @@ pub static ACCESS_SPEC_STOP_TRIGGER: Definition = Definition {
 };
 
 pub static ACCESS_COMMAND: Definition = Definition {
-    profile: Profile::Whole,
+    set: KindSet::Standard,
     number: 209,
     name: "AccessCommand",
     fields: &[],
@@ -214,14 +214,14 @@ pub static ACCESS_COMMAND: Definition = Definition {
             WholeC1G2Recommission,
             WholeC1G2BlockPermalock,
             WholeC1G2GetBlockPermalockStatus,
-            WholeClientRequestOpSpec
+            WholeClientRequestOpSpec,
+            WholeCustom
         ),
-        any_number!(WholeCustom),
     ],
 };
 
 pub static CLIENT_REQUEST_OP_SPEC: Definition = Definition {
-    profile: Profile::Whole,
+    set: KindSet::Standard,
     number: 210,
     name: "ClientRequestOpSpec",
     fields: &[field!("OpSpecID", 16)],
@@ -230,7 +230,7 @@ pub static CLIENT_REQUEST_OP_SPEC: Definition = Definition {
 };
 
 pub static CLIENT_REQUEST_RESPONSE: Definition = Definition {
-    profile: Profile::Whole,
+    set: KindSet::Standard,
     number: 211,
     name: "ClientRequestResponse",
     fields: &[field!("AccessSpecID", 32)],
@@ -252,7 +252,7 @@ pub static CLIENT_REQUEST_RESPONSE: Definition = Definition {
 };
 
 pub static LLRP_CONFIGURATION_STATE_VALUE: Definition = Definition {
-    profile: Profile::Whole,
+    set: KindSet::Standard,
     number: 217,
     name: "LLRPConfigurationStateValue",
     fields: &[field!("LLRPConfigurationStateValue", 32)],
@@ -261,7 +261,7 @@ pub static LLRP_CONFIGURATION_STATE_VALUE: Definition = Definition {
 };
 
 pub static IDENTIFICATION: Definition = Definition {
-    profile: Profile::Whole,
+    set: KindSet::Standard,
     number: 218,
     name: "Identification",
     fields: &[field!("IDType", 8, 1), field!("Count", 16)],
@@ -270,7 +270,7 @@ pub static IDENTIFICATION: Definition = Definition {
 };
 
 pub static GPO_WRITE_DATA: Definition = Definition {
-    profile: Profile::Whole,
+    set: KindSet::Standard,
     number: 219,
     name: "GPOWriteData",
     fields: &[
@@ -283,7 +283,7 @@ pub static GPO_WRITE_DATA: Definition = Definition {
 };
 
 pub static KEEPALIVE_SPEC: Definition = Definition {
-    profile: Profile::Whole,
+    set: KindSet::Standard,
     number: 220,
     name: "KeepaliveSpec",
     fields: &[
@@ -295,7 +295,7 @@ pub static KEEPALIVE_SPEC: Definition = Definition {
 };
 
 pub static ANTENNA_PROPERTIES: Definition = Definition {
-    profile: Profile::Whole,
+    set: KindSet::Standard,
     number: 221,
     name: "AntennaProperties",
     fields: &[
@@ -309,7 +309,7 @@ pub static ANTENNA_PROPERTIES: Definition = Definition {
 };
 
 pub static ANTENNA_CONFIGURATION: Definition = Definition {
-    profile: Profile::Whole,
+    set: KindSet::Standard,
     number: 222,
     name: "AntennaConfiguration",
     fields: &[field!("AntennaID", 16)],
@@ -323,7 +323,7 @@ pub static ANTENNA_CONFIGURATION: Definition = Definition {
 };
 
 pub static RF_RECEIVER: Definition = Definition {
-    profile: Profile::Whole,
+    set: KindSet::Standard,
     number: 223,
     name: "RFReceiver",
     fields: &[field!("ReceiverSensitivity", 16)],
@@ -332,7 +332,7 @@ pub static RF_RECEIVER: Definition = Definition {
 };
 
 pub static RF_TRANSMITTER: Definition = Definition {
-    profile: Profile::Whole,
+    set: KindSet::Standard,
     number: 224,
     name: "RFTransmitter",
     fields: &[
@@ -345,7 +345,7 @@ pub static RF_TRANSMITTER: Definition = Definition {
 };
 
 pub static GPI_PORT_CURRENT_STATE: Definition = Definition {
-    profile: Profile::Whole,
+    set: KindSet::Standard,
     number: 225,
     name: "GPIPortCurrentState",
     fields: &[
@@ -359,7 +359,7 @@ pub static GPI_PORT_CURRENT_STATE: Definition = Definition {
 };
 
 pub static EVENTS_AND_REPORTS: Definition = Definition {
-    profile: Profile::Whole,
+    set: KindSet::Standard,
     number: 226,
     name: "EventsAndReports",
     fields: &[field!("HoldEventsAndReportsUponReconnect", 1), reserved!(7)],

@@ -1,12 +1,12 @@
 //! The rows of the parameters of the whole standard on reports, events and errors (LLRP 1.1, section 17.2).
 
-use crate::kinds::{Definition, Field, Group, ParamKind, Profile, Tail};
+use crate::kinds::{Definition, Field, Group, KindSet, ParamKind, Tail};
 use crate::row_macros::{
     any_number, any_of, at_most_one, field, one, one_or_more, reserved, signed,
 };
 
 pub static RO_REPORT_SPEC: Definition = Definition {
-    profile: Profile::Whole,
+    set: KindSet::Standard,
     number: 237,
     name: "ROReportSpec",
     fields: &[field!("ROReportTrigger", 8), field!("N", 16)],
@@ -18,7 +18,7 @@ pub static RO_REPORT_SPEC: Definition = Definition {
 };
 
 pub static TAG_REPORT_CONTENT_SELECTOR: Definition = Definition {
-    profile: Profile::Whole,
+    set: KindSet::Standard,
     number: 238,
     name: "TagReportContentSelector",
     fields: &[
@@ -39,7 +39,7 @@ pub static TAG_REPORT_CONTENT_SELECTOR: Definition = Definition {
 };
 
 pub static ACCESS_REPORT_SPEC: Definition = Definition {
-    profile: Profile::Whole,
+    set: KindSet::Standard,
     number: 239,
     name: "AccessReportSpec",
     fields: &[field!("AccessReportTrigger", 8, 1)],
@@ -48,7 +48,7 @@ pub static ACCESS_REPORT_SPEC: Definition = Definition {
 };
 
 pub static TAG_REPORT_DATA: Definition = Definition {
-    profile: Profile::Whole,
+    set: KindSet::Standard,
     number: 240,
     name: "TagReportData",
     fields: &[],
@@ -87,7 +87,7 @@ pub static TAG_REPORT_DATA: Definition = Definition {
 };
 
 pub static EPC_DATA: Definition = Definition {
-    profile: Profile::Whole,
+    set: KindSet::Standard,
     number: 241,
     name: "EPCData",
     fields: &[field!("BitCount", 16)],
@@ -96,7 +96,7 @@ pub static EPC_DATA: Definition = Definition {
 };
 
 pub static RF_SURVEY_REPORT_DATA: Definition = Definition {
-    profile: Profile::Whole,
+    set: KindSet::Standard,
     number: 242,
     name: "RFSurveyReportData",
     fields: &[],
@@ -110,7 +110,7 @@ pub static RF_SURVEY_REPORT_DATA: Definition = Definition {
 };
 
 pub static FREQUENCY_RSSI_LEVEL_ENTRY: Definition = Definition {
-    profile: Profile::Whole,
+    set: KindSet::Standard,
     number: 243,
     name: "FrequencyRSSILevelEntry",
     fields: &[
@@ -124,7 +124,7 @@ pub static FREQUENCY_RSSI_LEVEL_ENTRY: Definition = Definition {
 };
 
 pub static READER_EVENT_NOTIFICATION_SPEC: Definition = Definition {
-    profile: Profile::Whole,
+    set: KindSet::Standard,
     number: 244,
     name: "ReaderEventNotificationSpec",
     fields: &[],
@@ -133,7 +133,7 @@ pub static READER_EVENT_NOTIFICATION_SPEC: Definition = Definition {
 };
 
 pub static EVENT_NOTIFICATION_STATE: Definition = Definition {
-    profile: Profile::Whole,
+    set: KindSet::Standard,
     number: 245,
     name: "EventNotificationState",
     fields: &[
@@ -146,7 +146,7 @@ pub static EVENT_NOTIFICATION_STATE: Definition = Definition {
 };
 
 pub static READER_EVENT_NOTIFICATION_DATA: Definition = Definition {
-    profile: Profile::Whole,
+    set: KindSet::Standard,
     number: 246,
     name: "ReaderEventNotificationData",
     fields: &[],
@@ -170,7 +170,7 @@ pub static READER_EVENT_NOTIFICATION_DATA: Definition = Definition {
 };
 
 pub static HOPPING_EVENT: Definition = Definition {
-    profile: Profile::Whole,
+    set: KindSet::Standard,
     number: 247,
     name: "HoppingEvent",
     fields: &[field!("HopTableID", 16), field!("NextChannelIndex", 16)],
@@ -179,7 +179,7 @@ pub static HOPPING_EVENT: Definition = Definition {
 };
 
 pub static GPI_EVENT: Definition = Definition {
-    profile: Profile::Whole,
+    set: KindSet::Standard,
     number: 248,
     name: "GPIEvent",
     fields: &[
@@ -192,7 +192,7 @@ pub static GPI_EVENT: Definition = Definition {
 };
 
 pub static RO_SPEC_EVENT: Definition = Definition {
-    profile: Profile::Whole,
+    set: KindSet::Standard,
     number: 249,
     name: "ROSpecEvent",
     fields: &[
@@ -205,7 +205,7 @@ pub static RO_SPEC_EVENT: Definition = Definition {
 };
 
 pub static REPORT_BUFFER_LEVEL_WARNING_EVENT: Definition = Definition {
-    profile: Profile::Whole,
+    set: KindSet::Standard,
     number: 250,
     name: "ReportBufferLevelWarningEvent",
     fields: &[field!("ReportBufferPercentageFull", 8)],
@@ -214,7 +214,7 @@ pub static REPORT_BUFFER_LEVEL_WARNING_EVENT: Definition = Definition {
 };
 
 pub static REPORT_BUFFER_OVERFLOW_ERROR_EVENT: Definition = Definition {
-    profile: Profile::Whole,
+    set: KindSet::Standard,
     number: 251,
     name: "ReportBufferOverflowErrorEvent",
     fields: &[],
@@ -223,7 +223,7 @@ pub static REPORT_BUFFER_OVERFLOW_ERROR_EVENT: Definition = Definition {
 };
 
 pub static READER_EXCEPTION_EVENT: Definition = Definition {
-    profile: Profile::Whole,
+    set: KindSet::Standard,
     number: 252,
     name: "ReaderExceptionEvent",
     fields: &[],
@@ -240,7 +240,7 @@ pub static READER_EXCEPTION_EVENT: Definition = Definition {
 };
 
 pub static RF_SURVEY_EVENT: Definition = Definition {
-    profile: Profile::Whole,
+    set: KindSet::Standard,
     number: 253,
     name: "RFSurveyEvent",
     fields: &[
@@ -253,7 +253,7 @@ pub static RF_SURVEY_EVENT: Definition = Definition {
 };
 
 pub static AI_SPEC_EVENT: Definition = Definition {
-    profile: Profile::Whole,
+    set: KindSet::Standard,
     number: 254,
     name: "AISpecEvent",
     fields: &[
@@ -266,7 +266,7 @@ pub static AI_SPEC_EVENT: Definition = Definition {
 };
 
 pub static ANTENNA_EVENT: Definition = Definition {
-    profile: Profile::Whole,
+    set: KindSet::Standard,
     number: 255,
     name: "AntennaEvent",
     fields: &[field!("EventType", 8), field!("AntennaID", 16)],
@@ -275,7 +275,7 @@ pub static ANTENNA_EVENT: Definition = Definition {
 };
 
 pub static CONNECTION_ATTEMPT_EVENT: Definition = Definition {
-    profile: Profile::Whole,
+    set: KindSet::Standard,
     number: 256,
     name: "ConnectionAttemptEvent",
     fields: &[field!("Status", 16, 4)],
@@ -284,7 +284,7 @@ pub static CONNECTION_ATTEMPT_EVENT: Definition = Definition {
 };
 
 pub static CONNECTION_CLOSE_EVENT: Definition = Definition {
-    profile: Profile::Whole,
+    set: KindSet::Standard,
     number: 257,
     name: "ConnectionCloseEvent",
     fields: &[],
@@ -293,7 +293,7 @@ pub static CONNECTION_CLOSE_EVENT: Definition = Definition {
 };
 
 pub static LLRP_STATUS: Definition = Definition {
-    profile: Profile::Whole,
+    set: KindSet::Standard,
     number: 287,
     name: "LLRPStatus",
     fields: &[field!("StatusCode", 16)],
@@ -305,7 +305,7 @@ pub static LLRP_STATUS: Definition = Definition {
 };
 
 pub static FIELD_ERROR: Definition = Definition {
-    profile: Profile::Whole,
+    set: KindSet::Standard,
     number: 288,
     name: "FieldError",
     fields: &[field!("FieldNum", 16), field!("ErrorCode", 16)],
@@ -314,7 +314,7 @@ pub static FIELD_ERROR: Definition = Definition {
 };
 
 pub static PARAMETER_ERROR: Definition = Definition {
-    profile: Profile::Whole,
+    set: KindSet::Standard,
     number: 289,
     name: "ParameterError",
     fields: &[field!("ParameterType", 16), field!("ErrorCode", 16)],

@@ -6,8 +6,8 @@ use Rattle.llrp_schema.specs.declared.kinds.Tail.TheVariants.{Absent, Words, Tex
 use Rattle.llrp_tree.specs.declared.fault.Reason.{Reason}
 use Rattle.llrp_tree.specs.declared.fault.Reason.TheVariants.{Short, Count, Utf8}
 use Rattle.llrp_tree.specs.Lawful.{count_octets}
-use Rattle.llrp_schema.specs.declared.kinds.Profile.{Profile}
-use Rattle.llrp_tree.specs.OpenTree.{root_profile, Begun, rules, form, plain_values, covers, IsOpenTree}
+use Rattle.llrp_schema.specs.declared.kinds.KindSet.{KindSet}
+use Rattle.llrp_tree.specs.OpenTree.{root_set, Begun, rules, form, plain_values, covers, IsOpenTree}
 use Rattle.llrp_tree.specs.FirstFault.{NextPart, ReadField, ReadTail, Close, NoChild, BeginTv, BeginTlv, next_part, tail_end, first_failing, header_checks_in, next_fault, BodyFaultIn}
 use Rattle.llrp_tree.specs.Calls.Standing.{IsAt}
 
@@ -36,14 +36,14 @@ deciding [] rest = 0
 deciding (b ∷ outer) rest = let at = length (covers (b ∷ outer)) in deciding_of (next_part b at rest) b at rest
 
 -- A check after the header fails first, and the frame's first octets decide it.
-pub record BodyFailsIn (p : Profile) (limit : ℕ) (frame : List ℕ) (octets : ℕ) : Type 0 where
+pub record BodyFailsIn (p : KindSet) (limit : ℕ) (frame : List ℕ) (octets : ℕ) : Type 0 where
   pub bit : ℕ
   pub reason : Reason
   pub fault : BodyFaultIn p (digits_of_bytes frame) limit bit reason
   pub decided : deciding fault.tree fault.rest ≤ 8 * octets
 
 -- a frame has a fault, and its first octets decide it: the ten of the header for one there
-abbrev pub FailsIn : Profile → (limit : ℕ) → List ℕ → (octets : ℕ) → Type 0
+abbrev pub FailsIn : KindSet → (limit : ℕ) → List ℕ → (octets : ℕ) → Type 0
 FailsIn p limit frame octets = ((first_failing (header_checks_in p limit (digits_of_bytes frame)) ≢ None) × (10 ≤ octets)) ⊎ BodyFailsIn p limit frame octets
 
 -- ---- the same by the reason of the fault
@@ -76,9 +76,9 @@ FaultsAreDecided = (tree : List Begun) (rest : List Bool) (bit : ℕ) (reason : 
 
 -- Where a frame's first octets do not decide the next checks of an open tree, they decide no fault of the frame.
 abbrev pub NoneIsDecidedBefore : Type 0
-NoneIsDecidedBefore = (p : Profile) (limit : ℕ) (frame : List ℕ) (octets : ℕ) (tree : List Begun) (at : ℕ)
+NoneIsDecidedBefore = (p : KindSet) (limit : ℕ) (frame : List ℕ) (octets : ℕ) (tree : List Begun) (at : ℕ)
     → IsAt (digits_of_bytes frame) tree at
-    → root_profile tree ≡ p
+    → root_set tree ≡ p
     → first_failing (header_checks_in p limit (digits_of_bytes frame)) ≡ None
     → 8 * octets < deciding tree (drop at (digits_of_bytes frame))
     → FailsIn p limit frame octets → ⊥

@@ -8,7 +8,7 @@ use Rattle.llrp_schema.specs.Schema.{FieldRule, fields_of, groups_of, tail_of}
 use Rattle.llrp_tree.specs.declared.TheConstants.{MAX_DEPTH}
 use Rattle.llrp_tree.specs.Tree.{Forest, none, and}
 use Rattle.llrp_tree.specs.Spelling.{Head, tlv, tv}
-use Rattle.llrp_tree.specs.OpenTree.{Begun, kind_of_head, Rest, has_tail, due, in_range, plain_values, is_enough, MayBegin, profile}
+use Rattle.llrp_tree.specs.OpenTree.{Begun, kind_of_head, Rest, has_tail, due, in_range, plain_values, is_enough, MayBegin, set}
 use Rattle.llrp_tree.specs.FirstFault.{number, tail_at, tail_end, tv_kind, tlv_kind, tlv_octets, first_digit}
 use Rattle.llrp_tree.specs.Calls.Standing.{IsAt, begin_node, leading}
 
@@ -37,7 +37,7 @@ TlvOpens = (parent : Begun) (outer : List Begun) (ds : List Bool) (at : ℕ) (ki
     → IsAt ds (parent ∷ outer) at
     → at + 32 ≤ parent.stop
     → number (drop at ds) 0 6 ≡ 0
-    → tlv_kind (profile parent) (drop at ds) ≡ Some kind
+    → tlv_kind (set parent) (drop at ds) ≡ Some kind
     → MayBegin parent kind
     → length (parent ∷ outer) ≤ MAX_DEPTH
     → 4 ≤ tlv_octets (drop at ds)
@@ -50,7 +50,7 @@ TvOpens = (parent : Begun) (outer : List Begun) (ds : List Bool) (at : ℕ) (kin
     → IsAt ds (parent ∷ outer) at
     → at + 8 ≤ parent.stop
     → first_digit (drop at ds) ≡ true
-    → tv_kind (profile parent) (drop at ds) ≡ Some kind
+    → tv_kind (set parent) (drop at ds) ≡ Some kind
     → MayBegin parent kind
     → length (parent ∷ outer) ≤ MAX_DEPTH
     → IsAt ds (leading (tv kind) parent.stop [] ∷ parent ∷ outer) (at + 8)

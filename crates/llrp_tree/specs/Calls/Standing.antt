@@ -1,5 +1,5 @@
 -- The place of a reader in the digits of a frame, and what the functions that read it promise.
-use Rattle.llrp_schema.specs.declared.kinds.Profile.{Profile}
+use Rattle.llrp_schema.specs.declared.kinds.KindSet.{KindSet}
 use Rattle.std.specs.Prelude.{◌≡◌, ℕ, ◌≤◌, Bool, List, [], ◌∷◌, length, take, Option, Some, None}
 use Rattle.llrp_schema.specs.declared.kinds.MsgKind.{MsgKind}
 use Rattle.llrp_schema.specs.Schema.{message_in}
@@ -30,7 +30,7 @@ abbrev pub leading : Head → ℕ → List ℕ → Begun
 leading h stop fields = begin_node h stop fields None none
 
 -- The header passes its checks, and says these numbers.
-pub record HeaderSaysIn (p : Profile) (limit : ℕ) (ds : List Bool) (version : ℕ) (kind : MsgKind) (octets id : ℕ) : Type 0 where
+pub record HeaderSaysIn (p : KindSet) (limit : ℕ) (ds : List Bool) (version : ℕ) (kind : MsgKind) (octets id : ℕ) : Type 0 where
   pub passes : first_failing (header_checks_in p limit ds) ≡ None
   pub version_is : version ≡ number ds 3 3
   pub kind_is : message_in p (number ds 6 10) ≡ Some kind

@@ -5,7 +5,7 @@ use Rattle.llrp_schema.specs.declared.kinds.ParamKind.{ParamKind}
 use Rattle.llrp_schema.specs.declared.kinds.Kind.{Kind}
 use Rattle.llrp_schema.specs.declared.kinds.Kind.TheVariants.{Parameter}
 use Rattle.llrp_schema.specs.declared.kinds.Tail.{Tail}
-use Rattle.llrp_schema.specs.Schema.{FieldRule, fields_of, groups_of, profile_of, tail_of}
+use Rattle.llrp_schema.specs.Schema.{FieldRule, fields_of, groups_of, set_of_kind, tail_of}
 use Rattle.llrp_tree.specs.declared.fault.FrameErr.{FrameErr}
 use Rattle.llrp_tree.specs.declared.decode.children.Child.{Child}
 use Rattle.llrp_tree.specs.declared.decode.body.Body.{Body}
@@ -36,8 +36,8 @@ ChecksKind found parent children level at type_at result = MatchResult result (K
 abbrev pub ReadsTlvHead : List ℕ → Kind → Forest → (level at stop : ℕ) → Result (ParamKind × ℕ) FrameErr → Type 0
 ReadsTlvHead bytes parent children level at stop result =
     let rest = drop (8 * at) (digits_of_bytes bytes) in
-    MatchResult result (λ x. TlvPasses (profile_of parent) (groups_of parent) children level (8 * at) (8 * stop) rest x.0 x.1)
-    (FailsFirst (tlv_checks (profile_of parent) (groups_of parent) children level (8 * at) (8 * stop) rest))
+    MatchResult result (λ x. TlvPasses (set_of_kind parent) (groups_of parent) children level (8 * at) (8 * stop) rest x.0 x.1)
+    (FailsFirst (tlv_checks (set_of_kind parent) (groups_of parent) children level (8 * at) (8 * stop) rest))
 
 -- ---- open trees, or the fault of a frame
 

@@ -1,6 +1,6 @@
 -- Beside Calls/Standing: words of private functions.
-use Rattle.llrp_schema.specs.declared.kinds.Profile.{Profile}
-use Rattle.llrp_schema.specs.declared.kinds.Profile.TheVariants.{Own}
+use Rattle.llrp_schema.specs.declared.kinds.KindSet.{KindSet}
+use Rattle.llrp_schema.specs.declared.kinds.KindSet.TheVariants.{Profile}
 use Rattle.std.specs.Prelude.{◌≡◌, ℕ, ◌+◌, ◌-◌, ◌*◌, ◌≤◌, Bool, true, false, nat_le, List, [], ◌∷◌, length, drop, Option, Some}
 use Rattle.std.specs.Str.{is_utf8}
 use Rattle.tag_bits.specs.Digits.{digits_of_bytes}
@@ -18,17 +18,17 @@ use Rattle.llrp_tree.specs.declared.fault.FrameErr.TheVariants.{Memory, Bad}
 use Rattle.llrp_tree.specs.Tree.{Forest}
 use Rattle.llrp_tree.specs.Lawful.{has_place, count_octets}
 use Rattle.llrp_tree.specs.Spelling.{Head}
-use Rattle.llrp_tree.specs.OpenTree.{root_profile, Begun, kind_of_head, groups, due, Rest, takes_more, is_enough}
+use Rattle.llrp_tree.specs.OpenTree.{root_set, Begun, kind_of_head, groups, due, Rest, takes_more, is_enough}
 use Rattle.llrp_tree.specs.FirstFault.{number, tail_at, tail_end, tlv_kind, tlv_octets, Check, first_failing, next_fault, has_ended}
 use Rattle.llrp_tree.specs.Calls.Standing.{IsAt, leading, HeaderSaysIn}
 
 -- Somewhere in the digits the next checks of an open tree fail, first so.
-pub record IsFaultOf (p : Profile) (ds : List Bool) (bit : ℕ) (reason : Reason) : Type 0 where
+pub record IsFaultOf (p : KindSet) (ds : List Bool) (bit : ℕ) (reason : Reason) : Type 0 where
   pub tree : List Begun
   pub at : ℕ
   pub stands : IsAt ds tree at
   pub fails : next_fault tree (drop at ds) ≡ Some (bit, reason)
-  pub root : root_profile tree ≡ p
+  pub root : root_set tree ≡ p
 
 -- The innermost node has all its parts, and is at its stop.
 pub record Closes (ds : List Bool) (b : Begun) (outer : List Begun) (at : ℕ) : Type 0 where
@@ -39,7 +39,7 @@ pub record Closes (ds : List Bool) (b : Begun) (outer : List Begun) (at : ℕ) :
 
 -- the same of the profile
 abbrev pub HeaderSays : ℕ → List Bool → ℕ → MsgKind → ℕ → ℕ → Type 0
-HeaderSays limit ds version kind octets id = HeaderSaysIn Own limit ds version kind octets id
+HeaderSays limit ds version kind octets id = HeaderSaysIn Profile limit ds version kind octets id
 
 -- the error is the first of the checks to fail
 abbrev pub FailsFirst : List Check → FrameErr → Type 0
@@ -47,7 +47,7 @@ FailsFirst checks Memory = ⊥
 FailsFirst checks (Bad fault) = first_failing checks ≡ Some (fault.bit, fault.reason)
 
 -- the error is the fault of the digits, or says that memory ran out
-abbrev pub Tells : Profile → List Bool → FrameErr → Type 0
+abbrev pub Tells : KindSet → List Bool → FrameErr → Type 0
 Tells p ds Memory = Unit {0}
 Tells p ds (Bad fault) = IsFaultOf p ds fault.bit fault.reason
 
@@ -77,7 +77,7 @@ pub record KindPasses (found : Option ParamKind) (groups : List GroupRule) (chil
   pub deep : level ≤ MAX_DEPTH
 
 -- A head of a child with type, length and value passes its checks.
-pub record TlvPasses (p : Profile) (groups : List GroupRule) (children : Forest) (level at stop : ℕ) (rest : List Bool) (kind : ParamKind) (octets : ℕ) : Type 0 where
+pub record TlvPasses (p : KindSet) (groups : List GroupRule) (children : Forest) (level at stop : ℕ) (rest : List Bool) (kind : ParamKind) (octets : ℕ) : Type 0 where
   pub room : at + 32 ≤ stop
   pub zeros : number rest 0 6 ≡ 0
   pub placed : KindPasses (tlv_kind p rest) groups children level kind

@@ -45,9 +45,9 @@ fn tlv_head(
         return Err(bad(bit, Reason::Reserved));
     }
     let number = get(frame, bit + 6, 10) as u16;
-    let profile = llrp_schema::profile(parent);
+    let set = llrp_schema::kind_set(parent);
     let kind = child_kind(
-        param_of_tlv_in(profile, number),
+        param_of_tlv_in(set, number),
         parent,
         siblings,
         level,
@@ -89,9 +89,9 @@ pub(crate) fn begin_child(
     let first = get(frame, bit, 1);
     if first != 0 {
         let number = get(frame, bit + 1, 7) as u8;
-        let profile = llrp_schema::profile(parent);
+        let set = llrp_schema::kind_set(parent);
         let kind = child_kind(
-            param_of_tv_in(profile, number),
+            param_of_tv_in(set, number),
             parent,
             siblings,
             level + 1,
