@@ -26,7 +26,7 @@ impl Listener for Silent {
         Ok(())
     }
 
-    fn parameter(&mut self, _level: u8, _kind: ParamKind) -> Result<(), AllocError> {
+    fn parameter(&mut self, _level: u8, _kind: ParamKind, _stop: u32) -> Result<(), AllocError> {
         Ok(())
     }
 

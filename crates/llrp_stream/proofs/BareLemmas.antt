@@ -5,9 +5,9 @@ use Rattle.tag_bits.specs.Digits.{digits_of_bytes}
 use Rattle.llrp_schema.specs.declared.kinds.Kind.{Kind}
 use Rattle.llrp_schema.specs.declared.kinds.ParamKind.{ParamKind}
 use Rattle.llrp_schema.specs.declared.kinds.Kind.TheVariants.{Message, Parameter}
-use Rattle.llrp_schema.specs.declared.kinds.ParamKind.TheVariants.{ReaderEventNotificationData, RoSpecEvent, TagReportData, UtcTimestamp}
-use Rattle.llrp_schema.specs.declared.kinds.MsgKind.TheVariants.{RoAccessReport, ReaderEventNotification}
-use Rattle.llrp_schema.specs.Schema.{fields_of, groups_of, is_tv, number_of, param_kinds, param_rule, profile_of, message_rule, rule_of, tail_of, tlv_in}
+use Rattle.llrp_schema.specs.declared.kinds.ParamKind.TheVariants.{ReaderEventNotificationData, RoSpecEvent, TagReportData, UtcTimestamp, WholeTagReportData}
+use Rattle.llrp_schema.specs.declared.kinds.MsgKind.TheVariants.{RoAccessReport, ReaderEventNotification, WholeRoAccessReport}
+use Rattle.llrp_schema.specs.Schema.{fields_of, groups_of, is_tv, number_of, param_kinds, param_rule, set_of_kind, message_rule, rule_of, tail_of, tlv_in, whole_param_kinds}
 use Rattle.llrp_tree.specs.declared.fault.FrameErr.{FrameErr}
 use Rattle.llrp_tree.specs.Tree.{Forest}
 use Rattle.llrp_tree.specs.OpenTree.{Begun}
@@ -23,9 +23,9 @@ use Rattle.llrp_stream.proofs.SeenLemmas.{seen_are}
 
 -- what is known of the head of a child that was found
 pub known_says : (r : BodyReader) (parent : Kind) (level : ℕ) (octets : List ℕ) (kind : ParamKind) (found : Option (Seen × ℕ)) (x : Seen × ℕ)
-    → IfSome found (λ head. (children : Forest) (later : List Bool) → AreSeen (groups_of parent) children r.top.seen.bits → HeadSays (profile_of parent) (groups_of parent) children level (8 * r.at) (8 * r.top.stop) (digits_of_bytes octets ++ later) octets (Ok (child.Long (record { kind = kind; seen = head.0 }) head.1)))
-    → found ≡ Some x → (children : Forest) (later : List Bool) → AreSeen (groups_of parent) children r.top.seen.bits → HeadSays (profile_of parent) (groups_of parent) children level (8 * r.at) (8 * r.top.stop) (digits_of_bytes octets ++ later) octets (Ok (child.Long (record { kind = kind; seen = x.0 }) x.1))
-known_says r parent level octets kind found x h e = subst (λ (y : Option (Seen × ℕ)). IfSome y (λ head. (children : Forest) (later : List Bool) → AreSeen (groups_of parent) children r.top.seen.bits → HeadSays (profile_of parent) (groups_of parent) children level (8 * r.at) (8 * r.top.stop) (digits_of_bytes octets ++ later) octets (Ok (child.Long (record { kind = kind; seen = head.0 }) head.1)))) e h
+    → IfSome found (λ head. (children : Forest) (later : List Bool) → AreSeen (groups_of parent) children r.top.seen.bits → HeadSays (set_of_kind parent) (groups_of parent) children level (8 * r.at) (8 * r.top.stop) (digits_of_bytes octets ++ later) octets (Ok (child.Long (record { kind = kind; seen = head.0 }) head.1)))
+    → found ≡ Some x → (children : Forest) (later : List Bool) → AreSeen (groups_of parent) children r.top.seen.bits → HeadSays (set_of_kind parent) (groups_of parent) children level (8 * r.at) (8 * r.top.stop) (digits_of_bytes octets ++ later) octets (Ok (child.Long (record { kind = kind; seen = x.0 }) x.1))
+known_says r parent level octets kind found x h e = subst (λ (y : Option (Seen × ℕ)). IfSome y (λ head. (children : Forest) (later : List Bool) → AreSeen (groups_of parent) children r.top.seen.bits → HeadSays (set_of_kind parent) (groups_of parent) children level (8 * r.at) (8 * r.top.stop) (digits_of_bytes octets ++ later) octets (Ok (child.Long (record { kind = kind; seen = head.0 }) head.1)))) e h
 
 -- what is seen of the children of a node of a known kind
 pub seen_at : (r : BodyReader) (front : List ℕ) (b : Begun) (outer : List Begun) → HasReadTo r front b outer → (parent : Kind) → r.top.kind ≡ parent → AreSeen (groups_of parent) b.children r.top.seen.bits
@@ -33,24 +33,24 @@ seen_at r front b outer rd parent e = subst (λ (k : Kind). AreSeen (groups_of k
 
 -- what a head says at the first level, said of the node that is innermost
 pub says_long : (r : BodyReader) (front : List ℕ) (b : Begun) (outer : List Begun) → HasReadTo r front b outer → (parent : Kind) (level : ℕ) → r.top.kind ≡ parent → length r.outer.items + 1 ≡ level → r.stage ≡ stage.Children → (octets : List ℕ) (placed : Placed) (n : ℕ)
-    → ((children : Forest) (later : List Bool) → AreSeen (groups_of parent) children r.top.seen.bits → HeadSays (profile_of parent) (groups_of parent) children level (8 * r.at) (8 * r.top.stop) (digits_of_bytes octets ++ later) octets (Ok (child.Long placed n)))
-    → (later : List Bool) → HeadSays (profile_of r.top.kind) (groups_of r.top.kind) b.children (length outer + 1) (8 * r.at) (8 * r.top.stop) (digits_of_bytes octets ++ later) octets (Ok (child.Long placed n))
+    → ((children : Forest) (later : List Bool) → AreSeen (groups_of parent) children r.top.seen.bits → HeadSays (set_of_kind parent) (groups_of parent) children level (8 * r.at) (8 * r.top.stop) (digits_of_bytes octets ++ later) octets (Ok (child.Long placed n)))
+    → (later : List Bool) → HeadSays (set_of_kind r.top.kind) (groups_of r.top.kind) b.children (length outer + 1) (8 * r.at) (8 * r.top.stop) (digits_of_bytes octets ++ later) octets (Ok (child.Long placed n))
 says_long r front b outer rd parent level e deep s octets placed n f = λ later.
     let few = outer_length r front b outer rd s in
     let same : level ≡ length outer + 1 = omega (arith, few, deep) in
-    subst (λ (m : ℕ). HeadSays (profile_of r.top.kind) (groups_of r.top.kind) b.children m (8 * r.at) (8 * r.top.stop) (digits_of_bytes octets ++ later) octets (Ok (child.Long placed n))) same
-    (subst (λ (k : Kind). HeadSays (profile_of k) (groups_of k) b.children level (8 * r.at) (8 * r.top.stop) (digits_of_bytes octets ++ later) octets (Ok (child.Long placed n))) (sym e)
+    subst (λ (m : ℕ). HeadSays (set_of_kind r.top.kind) (groups_of r.top.kind) b.children m (8 * r.at) (8 * r.top.stop) (digits_of_bytes octets ++ later) octets (Ok (child.Long placed n))) same
+    (subst (λ (k : Kind). HeadSays (set_of_kind k) (groups_of k) b.children level (8 * r.at) (8 * r.top.stop) (digits_of_bytes octets ++ later) octets (Ok (child.Long placed n))) (sym e)
     (f b.children later (seen_at r front b outer rd parent e)))
 
 -- the same, where it fails
 pub fails_here : (r : BodyReader) (front : List ℕ) (b : Begun) (outer : List Begun) → HasReadTo r front b outer → (parent : Kind) (level : ℕ) → r.top.kind ≡ parent → length r.outer.items + 1 ≡ level → r.stage ≡ stage.Children → (octets : List ℕ) (e : FrameErr)
-    → ((children : Forest) (later : List Bool) → AreSeen (groups_of parent) children r.top.seen.bits → HeadFails (profile_of parent) (groups_of parent) children level (8 * r.at) (8 * r.top.stop) (digits_of_bytes octets ++ later) e)
-    → (later : List Bool) → HeadFails (profile_of r.top.kind) (groups_of r.top.kind) b.children (length outer + 1) (8 * r.at) (8 * r.top.stop) (digits_of_bytes octets ++ later) e
+    → ((children : Forest) (later : List Bool) → AreSeen (groups_of parent) children r.top.seen.bits → HeadFails (set_of_kind parent) (groups_of parent) children level (8 * r.at) (8 * r.top.stop) (digits_of_bytes octets ++ later) e)
+    → (later : List Bool) → HeadFails (set_of_kind r.top.kind) (groups_of r.top.kind) b.children (length outer + 1) (8 * r.at) (8 * r.top.stop) (digits_of_bytes octets ++ later) e
 fails_here r front b outer rd parent level is deep s octets e f = λ later.
     let few = outer_length r front b outer rd s in
     let same : level ≡ length outer + 1 = omega (arith, few, deep) in
-    subst (λ (m : ℕ). HeadFails (profile_of r.top.kind) (groups_of r.top.kind) b.children m (8 * r.at) (8 * r.top.stop) (digits_of_bytes octets ++ later) e) same
-    (subst (λ (k : Kind). HeadFails (profile_of k) (groups_of k) b.children level (8 * r.at) (8 * r.top.stop) (digits_of_bytes octets ++ later) e) (sym is)
+    subst (λ (m : ℕ). HeadFails (set_of_kind r.top.kind) (groups_of r.top.kind) b.children m (8 * r.at) (8 * r.top.stop) (digits_of_bytes octets ++ later) e) same
+    (subst (λ (k : Kind). HeadFails (set_of_kind k) (groups_of k) b.children level (8 * r.at) (8 * r.top.stop) (digits_of_bytes octets ++ later) e) (sym is)
     (f b.children later (seen_at r front b outer rd parent is)))
 
 -- a step of some octets, and one of none after it
@@ -66,18 +66,18 @@ moved_twice b0 s0 begins stands old mid new front octets used m n =
       are = n.are;
       place = omega (arith, m.place, n.place);
       same = n.same ∙ m.same;
-      profile = n.profile ∙ m.profile;
+      set = n.set ∙ m.set;
       less = omega (arith, first, second);
     }
 
 -- ---- the rows of the tables
 
-pub report_number : tlv_in (profile_of (Message RoAccessReport)) 240 ≡ Some TagReportData
-unfolding tlv_in param_kinds is_tv profile_of number_of rule_of message_rule param_rule
+pub report_number : tlv_in (set_of_kind (Message RoAccessReport)) 240 ≡ Some TagReportData
+unfolding tlv_in param_kinds is_tv set_of_kind number_of rule_of message_rule param_rule
 report_number = refl
 
-pub event_number : tlv_in (profile_of (Message ReaderEventNotification)) 246 ≡ Some ReaderEventNotificationData
-unfolding tlv_in param_kinds is_tv profile_of number_of rule_of message_rule param_rule
+pub event_number : tlv_in (set_of_kind (Message ReaderEventNotification)) 246 ≡ Some ReaderEventNotificationData
+unfolding tlv_in param_kinds is_tv set_of_kind number_of rule_of message_rule param_rule
 event_number = refl
 
 pub report_bare : IsBare (Parameter TagReportData)
@@ -88,10 +88,18 @@ pub event_bare : IsBare (Parameter ReaderEventNotificationData)
 unfolding fields_of tail_of rule_of param_rule
 event_bare = record { fields = refl; tail = refl }
 
-pub time_number : tlv_in (profile_of (Parameter ReaderEventNotificationData)) 128 ≡ Some UtcTimestamp
-unfolding tlv_in param_kinds is_tv profile_of number_of rule_of message_rule param_rule
+pub time_number : tlv_in (set_of_kind (Parameter ReaderEventNotificationData)) 128 ≡ Some UtcTimestamp
+unfolding tlv_in param_kinds is_tv set_of_kind number_of rule_of message_rule param_rule
 time_number = refl
 
-pub spec_event_number : tlv_in (profile_of (Parameter ReaderEventNotificationData)) 249 ≡ Some RoSpecEvent
-unfolding tlv_in param_kinds is_tv profile_of number_of rule_of message_rule param_rule
+pub spec_event_number : tlv_in (set_of_kind (Parameter ReaderEventNotificationData)) 249 ≡ Some RoSpecEvent
+unfolding tlv_in param_kinds is_tv set_of_kind number_of rule_of message_rule param_rule
 spec_event_number = refl
+
+pub whole_report_number : tlv_in (set_of_kind (Message WholeRoAccessReport)) 240 ≡ Some WholeTagReportData
+unfolding tlv_in whole_param_kinds is_tv set_of_kind number_of rule_of message_rule param_rule
+whole_report_number = refl
+
+pub whole_report_bare : IsBare (Parameter WholeTagReportData)
+unfolding fields_of tail_of rule_of param_rule
+whole_report_bare = record { fields = refl; tail = refl }

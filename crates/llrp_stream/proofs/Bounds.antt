@@ -1,5 +1,5 @@
 -- What the places of the engine are below.
-use Rattle.llrp_schema.specs.declared.kinds.Profile.{Profile}
+use Rattle.llrp_schema.specs.declared.kinds.KindSet.{KindSet}
 use Rattle.std.proofs.Common.{◌≡◌, ℕ, ◌+◌, ◌*◌, ◌≤◌, List, [], ◌∷◌, length, refl, subst, arith}
 use Rattle.std.specs.Prelude.{nat_le}
 use Rattle.std.proofs.lemmas.Bool.{leb-true}
@@ -23,7 +23,7 @@ pub few_fields : (kind : Kind) → length (fields_of kind) ≤ 16
 unfolding fields_of rule_of message_rule param_rule message_kinds param_kinds whole_message_kinds whole_param_kinds
 few_fields kind = leb-true (length (fields_of kind)) 16 (every_rule (λ row. nat_le (length row.fields) 16) (refl, refl) (refl, refl) kind)
 
-pub covered_length : {p : Profile} (front : List ℕ) (n : ℕ) (t : List Begun) (at : ℕ) → Reaches p front n t at → length (covers t) ≡ at
+pub covered_length : {p : KindSet} (front : List ℕ) (n : ℕ) (t : List Begun) (at : ℕ) → Reaches p front n t at → length (covers t) ≡ at
 covered_length front n t at r = length_covered (covers t) at (digits_of_bytes front) r.covered (let l = length-bytes front in omega (arith, r.within))
 
 inside_of : (b : Begun) (outer : List Begun) → IsOpenTree (b ∷ outer) → length (covers (b ∷ outer)) ≤ b.stop

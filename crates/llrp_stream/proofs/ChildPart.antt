@@ -5,7 +5,7 @@ use Rattle.std.proofs.lemmas.List.{reverse-append, length-reverse}
 use Rattle.tag_bits.specs.Digits.{digits_of_bytes}
 use Rattle.llrp_schema.specs.declared.kinds.Kind.{Kind}
 use Rattle.llrp_schema.specs.declared.kinds.ParamKind.{ParamKind}
-use Rattle.llrp_schema.specs.Schema.{profile_of, groups_of, is_tv}
+use Rattle.llrp_schema.specs.Schema.{set_of_kind, groups_of, is_tv}
 use Rattle.llrp_tree.specs.declared.fault.FrameErr.{FrameErr}
 use Rattle.llrp_tree.specs.declared.fault.FrameErr.TheVariants.{Bad}
 use Rattle.llrp_tree.specs.declared.fault.Reason.TheVariants.{Missing}
@@ -14,26 +14,26 @@ use Rattle.llrp_tree.specs.Spelling.{Head, message, tlv, tv}
 use Rattle.llrp_tree.specs.OpenTree.{root_of, Begun, kind_of_head, groups, due, Rest, is_enough, IsHead, IsOpenTree}
 use Rattle.llrp_tree.specs.FirstFault.{first_digit, has_none, tv_kind, Close, has_ended}
 use Rattle.llrp_tree.specs.Calls.Standing.{IsAt, begin_node, leading}
-use Rattle.llrp_tree.specs.Private.Standing.{Closes, Tells, KindPasses, TlvPasses, is_tv_kind}
+use Rattle.llrp_tree.specs.Private.Standing.{Closes, KindPasses, TlvPasses, is_tv_kind}
 use Rattle.llrp_tree.proofs.Steps.{closed}
-use Rattle.llrp_tree.proofs.Telling.{fault_is}
 use Rattle.llrp_tree.proofs.LastPart.{closing_turn}
 use Rattle.llrp_tree.proofs.BodyLemmas.{over_at, missing_first, head_of_tree as head_in}
-use Rattle.llrp_tree.proofs.ChildLemmas.{extra_tells, tv_tells, tlv_tells, tv_begun, tlv_begun}
+use Rattle.llrp_tree.proofs.ChildLemmas.{tv_begun, tlv_begun}
 use Rattle.llrp_tree.proofs.Totality.{child_closes, parent_ready}
 use Rattle.llrp_stream.specs.declared.engine.stack.StackNode.{StackNode}
 use Rattle.llrp_stream.specs.declared.engine.body_reader.BodyReader.{BodyReader}
 use Rattle.llrp_stream.specs.declared.engine.body_reader.Stage.{Stage}
 use Rattle.llrp_stream.specs.declared.engine.body_reader.Stage.TheVariants.{Children}
 use Rattle.llrp_stream.specs.Calls.Front.{Reaches}
-use Rattle.llrp_stream.specs.Private.Front.{TellsAll}
+use Rattle.llrp_stream.specs.Private.Front.{TellsAt, TellsFor}
 use Rattle.llrp_stream.specs.Calls.Received.{with_child}
 use Rattle.llrp_stream.specs.Calls.Reading.{HasReadTo, IsAtStage, IsResting, IsLevel, AreLevels, with_begun}
 use Rattle.llrp_stream.specs.Private.Reading.{HeadFails}
-use Rattle.llrp_stream.proofs.Reached.{root_tells, stands_in, reaches_in, seen}
+use Rattle.llrp_stream.proofs.Reached.{stands_in, reaches_in, seen}
 use Rattle.std.proofs.lemmas.Bool.{lt-leb}
 use Rattle.llrp_stream.specs.Calls.Front.{IsUndecided}
 use Rattle.llrp_stream.proofs.WaitLemmas.{child_waits}
+use Rattle.llrp_stream.proofs.FaultTrees.{tells_at, extra_tells_at, tv_tells_at, tlv_tells_at}
 
 pub levels_length : (ls : List StackNode) (kind : Kind) (outer : List Begun) → AreLevels ls kind outer → length ls ≡ length outer
 levels_length [] kind [] a = refl
@@ -100,25 +100,30 @@ module _ (r : BodyReader) (front : List ℕ) (b : Begun) (outer : List Begun) (r
     before_stop : 8 * r.at < b.stop
     before_stop = omega (arith, rd.level.stop)
 
-    pub head_tells : (e : FrameErr) → ((later : List Bool) → HeadFails (profile_of r.top.kind) (groups_of r.top.kind) b.children (length outer + 1) (8 * r.at) (8 * r.top.stop) (digits_of_bytes octets ++ later) e) → TellsAll r.profile front r.octets e
-    head_tells e f = λ more long_is.
-        let ds : List Bool = digits_of_bytes (front ++ more) in
-        let P : ℕ → List Bool → Type 0 = λ n rest. HeadFails (profile_of r.top.kind) (groups_of r.top.kind) b.children (length outer + 1) (8 * r.at) n rest e in
-        let g : P b.stop (drop (8 * r.at) ds) = subst (λ (n : ℕ). P n (drop (8 * r.at) ds)) (sym rd.level.stop) (subst (λ (x : List Bool). P (8 * r.top.stop) x) (sym (here more)) (f (digits_of_bytes more))) in
-        let st = stands_now more long_is in
-        elim g [
-          | inl x ↦ root_tells b.head outer ds e resting.reaches.root (extra_tells ds b.head b.stop b.fields b.tail b.children outer (8 * r.at) r.top.kind (length outer) rd.level.kind refl resting.ready st before_stop long e x.0 x.1)
-          | inr y ↦ elim y [
-            | inl x ↦ root_tells b.head outer ds e resting.reaches.root (tv_tells ds b.head b.stop b.fields b.tail b.children outer (8 * r.at) r.top.kind (length outer) rd.level.kind refl resting.ready st before_stop long e x.0 x.1 x.2)
-            | inr x ↦ root_tells b.head outer ds e resting.reaches.root (tlv_tells ds b.head b.stop b.fields b.tail b.children outer (8 * r.at) r.top.kind (length outer) rd.level.kind refl resting.ready st before_stop long e x.0 x.1 x.2)
-          ]
-        ]
+    not_over : has_ended b.head (nat_le b.stop (8 * r.at)) ≡ false
+    not_over = under_at b.head r.top.kind b.stop (8 * r.at) outer rd.level.kind (head_in b outer resting.reaches.is_open) before_stop long
+
+    pub head_tells : (e : FrameErr) → ((later : List Bool) → HeadFails (set_of_kind r.top.kind) (groups_of r.top.kind) b.children (length outer + 1) (8 * r.at) (8 * r.top.stop) (digits_of_bytes octets ++ later) e) → TellsFor r.set (b ∷ outer) front r.octets e
+    head_tells e f = record {
+      tree = b ∷ outer;
+      is = inl refl;
+      root = resting.reaches.root;
+      tells = λ more long_is.
+          let ds : List Bool = digits_of_bytes (front ++ more) in
+          let P : ℕ → List Bool → Type 0 = λ n rest. HeadFails (set_of_kind r.top.kind) (groups_of r.top.kind) b.children (length outer + 1) (8 * r.at) n rest e in
+          let g : P b.stop (drop (8 * r.at) ds) = subst (λ (n : ℕ). P n (drop (8 * r.at) ds)) (sym rd.level.stop) (subst (λ (x : List Bool). P (8 * r.top.stop) x) (sym (here more)) (f (digits_of_bytes more))) in
+          let st = stands_now more long_is in
+          elim g [
+            | inl x ↦ extra_tells_at ds b outer (8 * r.at) r.top.kind rd.level.kind resting.ready st not_over e x.0 x.1
+            | inr y ↦ elim y [
+              | inl x ↦ tv_tells_at ds b outer (8 * r.at) r.top.kind rd.level.kind resting.ready st not_over e x.0 x.1 x.2
+              | inr x ↦ tlv_tells_at ds b outer (8 * r.at) r.top.kind rd.level.kind resting.ready st not_over e x.0 x.1 x.2
+            ]
+          ];
+    }
 
     room_of : length octets ≡ length front - r.at
     room_of = sym (ap (λ (x : List ℕ). length x) d) ∙ length-drop r.at front
-
-    not_over : has_ended b.head (nat_le b.stop (8 * r.at)) ≡ false
-    not_over = under_at b.head r.top.kind b.stop (8 * r.at) outer rd.level.kind (head_in b outer resting.reaches.is_open) before_stop long
 
     pub child_undecided : length octets < 4 → has_none (groups_of r.top.kind) ≡ false → ((later : List Bool) → (octets ≡ []) ⊎ ((first_digit (digits_of_bytes octets ++ later) ≡ false) × (8 * r.at + 32 ≤ 8 * r.top.stop))) → IsUndecided front r.octets (b ∷ outer)
     child_undecided few some f =
@@ -129,21 +134,21 @@ module _ (r : BodyReader) (front : List ℕ) (b : Begun) (outer : List Begun) (r
           | inr w ↦ inr (ap first_digit (here more) ∙ w.0, omega (arith, w.1, rd.level.stop))
         ])
 
-    pub short_reaches : (k : ParamKind) → 1 ≤ length octets → ((later : List Bool) → (first_digit (digits_of_bytes octets ++ later) ≡ true) × KindPasses (tv_kind (profile_of r.top.kind) (digits_of_bytes octets ++ later)) (groups_of r.top.kind) b.children (length outer + 1) k)
-        → Reaches r.profile front r.octets (leading (tv k) b.stop [] ∷ b ∷ outer) (8 * r.at + 8)
+    pub short_reaches : (k : ParamKind) → 1 ≤ length octets → ((later : List Bool) → (first_digit (digits_of_bytes octets ++ later) ≡ true) × KindPasses (tv_kind (set_of_kind r.top.kind) (digits_of_bytes octets ++ later)) (groups_of r.top.kind) b.children (length outer + 1) k)
+        → Reaches r.set front r.octets (leading (tv k) b.stop [] ∷ b ∷ outer) (8 * r.at + 8)
     short_reaches k one f =
         reaches_in front r.octets (leading (tv k) b.stop [] ∷ b ∷ outer) (8 * r.at + 8) resting.reaches.fits (let z = room_of in omega (arith, rd.before)) resting.reaches.root (λ more long_is.
         let ds : List Bool = digits_of_bytes (front ++ more) in
-        let P : List Bool → Type 0 = λ rest. (first_digit rest ≡ true) × KindPasses (tv_kind (profile_of r.top.kind) rest) (groups_of r.top.kind) b.children (length outer + 1) k in
+        let P : List Bool → Type 0 = λ rest. (first_digit rest ≡ true) × KindPasses (tv_kind (set_of_kind r.top.kind) rest) (groups_of r.top.kind) b.children (length outer + 1) k in
         let g : P (drop (8 * r.at) ds) = subst P (sym (here more)) (f (digits_of_bytes more)) in
         tv_begun ds b.head b.stop b.fields b.tail b.children outer (8 * r.at) r.top.kind (length outer) rd.level.kind refl resting.ready (stands_now more long_is) before_stop long k g.0 g.1)
 
-    pub long_reaches : (k : ParamKind) (n : ℕ) → 4 ≤ length octets → ((later : List Bool) → TlvPasses (profile_of r.top.kind) (groups_of r.top.kind) b.children (length outer + 1) (8 * r.at) (8 * r.top.stop) (digits_of_bytes octets ++ later) k n)
-        → Reaches r.profile front r.octets (leading (tlv k n) (8 * r.at + 8 * n) [] ∷ b ∷ outer) (8 * r.at + 32)
+    pub long_reaches : (k : ParamKind) (n : ℕ) → 4 ≤ length octets → ((later : List Bool) → TlvPasses (set_of_kind r.top.kind) (groups_of r.top.kind) b.children (length outer + 1) (8 * r.at) (8 * r.top.stop) (digits_of_bytes octets ++ later) k n)
+        → Reaches r.set front r.octets (leading (tlv k n) (8 * r.at + 8 * n) [] ∷ b ∷ outer) (8 * r.at + 32)
     long_reaches k n four f =
         reaches_in front r.octets (leading (tlv k n) (8 * r.at + 8 * n) [] ∷ b ∷ outer) (8 * r.at + 32) resting.reaches.fits (let z = room_of in omega (arith, rd.before)) resting.reaches.root (λ more long_is.
         let ds : List Bool = digits_of_bytes (front ++ more) in
-        let P : ℕ → List Bool → Type 0 = λ m rest. TlvPasses (profile_of r.top.kind) (groups_of r.top.kind) b.children (length outer + 1) (8 * r.at) m rest k n in
+        let P : ℕ → List Bool → Type 0 = λ m rest. TlvPasses (set_of_kind r.top.kind) (groups_of r.top.kind) b.children (length outer + 1) (8 * r.at) m rest k n in
         let g : P b.stop (drop (8 * r.at) ds) = subst (λ (m : ℕ). P m (drop (8 * r.at) ds)) (sym rd.level.stop) (subst (λ (x : List Bool). P (8 * r.top.stop) x) (sym (here more)) (f (digits_of_bytes more))) in
         tlv_begun ds b.head b.stop b.fields b.tail b.children outer (8 * r.at) r.top.kind (length outer) rd.level.kind refl resting.ready (stands_now more long_is) before_stop long k n g)
 
@@ -156,16 +161,21 @@ module _ (r : BodyReader) (front : List ℕ) (b : Begun) (outer : List Begun) (r
     pub over_is : has_ended b.head (nat_le b.stop (8 * r.at)) ≡ true
     over_is = over_at b.head r.top.kind b.stop (8 * r.at) rd.level.kind at_end outer (head_in b outer resting.reaches.is_open)
 
-    pub missing_tell : (e : FrameErr) → is_enough (groups b) b.children ≡ false → e ≡ Bad (record { bit = 8 * r.top.stop; reason = Missing }) → TellsAll r.profile front r.octets e
-    missing_tell e few told = λ more long_is.
-        let ds : List Bool = digits_of_bytes (front ++ more) in
-        let is : e ≡ Bad (record { bit = b.stop; reason = Missing }) = told ∙ ap (λ (n : ℕ). Bad (record { bit = n; reason = Missing })) (sym rd.level.stop) in
-        subst (Tells r.profile ds) (sym is) (root_tells b.head outer ds (Bad (record { bit = b.stop; reason = Missing })) resting.reaches.root (fault_is ds b outer (8 * r.at) Close b.stop Missing (stands_now more long_is) (closing_turn b (8 * r.at) (drop (8 * r.at) ds) resting.ready over_is) (missing_first b (length (b ∷ outer)) (8 * r.at) (drop (8 * r.at) ds) few)))
+    pub missing_tell : (e : FrameErr) → is_enough (groups b) b.children ≡ false → e ≡ Bad (record { bit = 8 * r.top.stop; reason = Missing }) → TellsFor r.set (b ∷ outer) front r.octets e
+    missing_tell e few told = record {
+      tree = b ∷ outer;
+      is = inl refl;
+      root = resting.reaches.root;
+      tells = λ more long_is.
+          let ds : List Bool = digits_of_bytes (front ++ more) in
+          let is : e ≡ Bad (record { bit = b.stop; reason = Missing }) = told ∙ ap (λ (n : ℕ). Bad (record { bit = n; reason = Missing })) (sym rd.level.stop) in
+          subst (TellsAt ds (b ∷ outer)) (sym is) (tells_at ds b outer (8 * r.at) Close (Bad (record { bit = b.stop; reason = Missing })) (stands_now more long_is) (closing_turn b (8 * r.at) (drop (8 * r.at) ds) resting.ready over_is) (missing_first b (length (b ∷ outer)) (8 * r.at) (drop (8 * r.at) ds) few));
+    }
 
     pub closed_reaches : (p : Begun) (os : List Begun) → outer ≡ p ∷ os → is_enough (groups b) b.children ≡ true
-        → Reaches r.profile front r.octets (begin_node p.head p.stop p.fields p.tail (with_child p.children b.head b.fields b.tail b.children) ∷ os) (8 * r.at)
+        → Reaches r.set front r.octets (begin_node p.head p.stop p.fields p.tail (with_child p.children b.head b.fields b.tail b.children) ∷ os) (8 * r.at)
     closed_reaches p os e enough =
-        reaches_in front r.octets (begin_node p.head p.stop p.fields p.tail (with_child p.children b.head b.fields b.tail b.children) ∷ os) (8 * r.at) resting.reaches.fits (omega (arith, rd.before)) (subst (λ (x : List Begun). root_of b.head x ≡ r.profile) e resting.reaches.root) (λ more long_is.
+        reaches_in front r.octets (begin_node p.head p.stop p.fields p.tail (with_child p.children b.head b.fields b.tail b.children) ∷ os) (8 * r.at) resting.reaches.fits (omega (arith, rd.before)) (subst (λ (x : List Begun). root_of b.head x ≡ r.set) e resting.reaches.root) (λ more long_is.
         let ds : List Bool = digits_of_bytes (front ++ more) in
         let c : Closes ds b (p ∷ os) (8 * r.at) = record { stands = subst (λ (x : List Begun). IsAt ds (b ∷ x) (8 * r.at)) e (stands_now more long_is); ready = resting.ready; over = over_is; enough = enough } in
         subst (λ (x : Forest). IsAt ds (begin_node p.head p.stop p.fields p.tail x ∷ os) (8 * r.at)) (with_child_is p.children b.head b.fields b.tail b.children)

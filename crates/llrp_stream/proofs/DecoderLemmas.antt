@@ -6,7 +6,7 @@ use Rattle.llrp_tree.specs.declared.TheConstants.{MAX_LIMIT}
 use Rattle.llrp_tree.specs.Tree.{MessageTree}
 use Rattle.llrp_tree.specs.OpenTree.{Begun}
 use Rattle.llrp_tree.specs.Private.Weight.{open_weight}
-use Rattle.llrp_schema.specs.declared.kinds.Profile.{Profile}
+use Rattle.llrp_schema.specs.declared.kinds.KindSet.{KindSet}
 use Rattle.llrp_tree.proofs.Undecided.{fails_after_header}
 use Rattle.llrp_stream.specs.declared.item.FeedErr.{FeedErr}
 use Rattle.llrp_stream.specs.declared.item.FeedErr.TheVariants as failure
@@ -37,7 +37,7 @@ use Rattle.llrp_stream.proofs.FramesLemmas.{state_comes}
 
 -- ---- what it stands for
 
-pub comes_at : (limit : ℕ) (s : State) (body : Body) (b : Building) (front other : List ℕ) → ComesAt (HasOpen b) (HasOpen b) limit s body other → Keeps body.reader.profile limit (kept s body b) front → ComesAt (HasOpen b) (HasOpen b) limit s body front
+pub comes_at : (limit : ℕ) (s : State) (body : Body) (b : Building) (front other : List ℕ) → ComesAt (HasOpen b) (HasOpen b) limit s body other → Keeps body.reader.set limit (kept s body b) front → ComesAt (HasOpen b) (HasOpen b) limit s body front
 comes_at limit state.Between body b front other k is = (is, k.1, k.2)
 comes_at limit state.Header body b front other k is =
     let same : other ≡ front = sym k.0 ∙ sym is in
@@ -47,22 +47,22 @@ comes_at limit (state.Skipping count header) body b front other k is = (is, k.1,
 comes_at limit state.Broken body b front other k is = absurd k
 comes_at limit state.Dead body b front other k is = absurd k
 
-none_kept : (limit : ℕ) (s : State) (body : Body) (b : Building) (front : List ℕ) → (s ≡ state.Broken) ⊎ (s ≡ state.Dead) → Keeps body.reader.profile limit (kept s body b) front → ⊥
+none_kept : (limit : ℕ) (s : State) (body : Body) (b : Building) (front : List ℕ) → (s ≡ state.Broken) ⊎ (s ≡ state.Dead) → Keeps body.reader.set limit (kept s body b) front → ⊥
 none_kept limit s body b front o k = elim o [
-  | inl e ↦ subst (λ (x : State). Keeps body.reader.profile limit (kept x body b) front) e k
-  | inr e ↦ subst (λ (x : State). Keeps body.reader.profile limit (kept x body b) front) e k
+  | inl e ↦ subst (λ (x : State). Keeps body.reader.set limit (kept x body b) front) e k
+  | inr e ↦ subst (λ (x : State). Keeps body.reader.set limit (kept x body b) front) e k
 ]
 
-keeps_of : {p : Profile} (frames : Frames) (b : Building) (front : List ℕ) → StandsIn p (decoder frames b) front → Keeps frames.body.reader.profile frames.limit (kept frames.state frames.body b) front
-keeps_of frames b front st = subst (λ (q : Profile). Keeps q frames.limit (kept frames.state frames.body b) front) (sym st.set) st.keeps
+keeps_of : {p : KindSet} (frames : Frames) (b : Building) (front : List ℕ) → StandsIn p (decoder frames b) front → Keeps frames.body.reader.set frames.limit (kept frames.state frames.body b) front
+keeps_of frames b front st = subst (λ (q : KindSet). Keeps q frames.limit (kept frames.state frames.body b) front) (sym st.set) st.keeps
 
-pub kept_comes : {p : Profile} (frames : Frames) (b : Building) (front : List ℕ) → IsKept frames b → StandsIn p (decoder frames b) front → ComesAt (HasOpen b) (HasOpen b) frames.limit frames.state frames.body front
+pub kept_comes : {p : KindSet} (frames : Frames) (b : Building) (front : List ℕ) → IsKept frames b → StandsIn p (decoder frames b) front → ComesAt (HasOpen b) (HasOpen b) frames.limit frames.state frames.body front
 kept_comes frames b front k st = elim k.comes [
   | inl w ↦ comes_at frames.limit frames.state frames.body b front w.1 w.2 (keeps_of frames b front st)
   | inr o ↦ absurd (none_kept frames.limit frames.state frames.body b front o (keeps_of frames b front st))
 ]
 
-pub stands_for : (limit : ℕ) (s : State) (body : Body) (b : Building) (front : List ℕ) → ComesAt (HasOpen b) (HasOpen b) limit s body front → StandsIn body.reader.profile (record { profile = body.reader.profile; limit = limit; kept = kept s body b }) front
+pub stands_for : (limit : ℕ) (s : State) (body : Body) (b : Building) (front : List ℕ) → ComesAt (HasOpen b) (HasOpen b) limit s body front → StandsIn body.reader.set (record { set = body.reader.set; limit = limit; kept = kept s body b }) front
 stands_for limit state.Between body b front k = record { set = refl; unfinished = inl (let none = ap (λ (x : List ℕ). length x) k.0 in omega arith); keeps = k.0 }
 stands_for limit state.Header body b front k = record { set = refl; unfinished = k.3; keeps = sym k.0 }
 stands_for limit (state.Reading id) body b front k =
@@ -95,21 +95,21 @@ module _ (limit : ℕ) (told after : Building) (front piece : List ℕ) (new : F
   taken_comes (Some Whole) same nodes t = ([], idle_comes limit new after t.3 (nodes ∙ t.2.4.nodes))
   taken_comes (Some (Bad id fault)) same nodes t = ([], idle_comes limit new after t.3 (nodes ∙ t.2.2.nodes))
 
-  stands_on : (next : List ℕ) → new.limit ≡ limit → ComesAt (HasOpen after) (HasOpen after) limit new.state new.body next → StandsIn new.body.reader.profile (decoder new after) next
+  stands_on : (next : List ℕ) → new.limit ≡ limit → ComesAt (HasOpen after) (HasOpen after) limit new.state new.body next → StandsIn new.body.reader.set (decoder new after) next
   stands_on next e k = stands_for new.limit new.state new.body after next (subst (λ (n : ℕ). ComesAt (HasOpen after) (HasOpen after) n new.state new.body next) (sym e) k)
 
   pub takes_item : (outcome : Option Outcome) (it : Option Item) → new.limit ≡ limit → (outcome ≡ None → after ≡ told) → after.nodes ≡ told.nodes → (outcome ≡ None → it ≡ None) → ((id : ℕ) (fault : Fault) → outcome ≡ Some (Bad id fault) → it ≡ Some (item.Bad id fault))
-      → ((m : MessageTree) → outcome ≡ Some Whole → told.done ≡ Some m → it ≡ Some (item.Msg m)) → Takings limit told front piece new used outcome → TakesIn new.body.reader.profile limit front piece (decoder new after) used it
+      → ((m : MessageTree) → outcome ≡ Some Whole → told.done ≡ Some m → it ≡ Some (item.Msg m)) → Takings limit told front piece new used outcome → TakesIn new.body.reader.set limit front piece (decoder new after) used it
   takes_item None it e same nodes none bad whole t =
       let k = subst (λ (x : Building). ComesAt (HasOpen x) (HasOpen x) limit new.state new.body (front ++ piece)) (sym (same refl)) t.1 in
-      let is : TakesIn new.body.reader.profile limit front piece (decoder new after) used None = (t.0, stands_on (front ++ piece) e k) in
-      subst (λ (x : Option Item). TakesIn new.body.reader.profile limit front piece (decoder new after) used x) (sym (none refl)) is
+      let is : TakesIn new.body.reader.set limit front piece (decoder new after) used None = (t.0, stands_on (front ++ piece) e k) in
+      subst (λ (x : Option Item). TakesIn new.body.reader.set limit front piece (decoder new after) used x) (sym (none refl)) is
   takes_item (Some Whole) it e same nodes none bad whole t =
-      let is : TakesIn new.body.reader.profile limit front piece (decoder new after) used (Some (item.Msg t.2.0)) = (t.0, t.1, t.2.1, stands_on [] e (idle_comes limit new after t.3 (nodes ∙ t.2.4.nodes))) in
-      subst (λ (x : Option Item). TakesIn new.body.reader.profile limit front piece (decoder new after) used x) (sym (whole t.2.0 refl t.2.3.0)) is
+      let is : TakesIn new.body.reader.set limit front piece (decoder new after) used (Some (item.Msg t.2.0)) = (t.0, t.1, t.2.1, stands_on [] e (idle_comes limit new after t.3 (nodes ∙ t.2.4.nodes))) in
+      subst (λ (x : Option Item). TakesIn new.body.reader.set limit front piece (decoder new after) used x) (sym (whole t.2.0 refl t.2.3.0)) is
   takes_item (Some (Bad id fault)) it e same nodes none bad whole t =
-      let is : TakesIn new.body.reader.profile limit front piece (decoder new after) used (Some (item.Bad id fault)) = (t.0, t.1, (t.2.0, t.2.1), stands_on [] e (idle_comes limit new after t.3 (nodes ∙ t.2.2.nodes))) in
-      subst (λ (x : Option Item). TakesIn new.body.reader.profile limit front piece (decoder new after) used x) (sym (bad id fault refl)) is
+      let is : TakesIn new.body.reader.set limit front piece (decoder new after) used (Some (item.Bad id fault)) = (t.0, t.1, (t.2.0, t.2.1), stands_on [] e (idle_comes limit new after t.3 (nodes ∙ t.2.2.nodes))) in
+      subst (λ (x : Option Item). TakesIn new.body.reader.set limit front piece (decoder new after) used x) (sym (bad id fault refl)) is
 
 -- the fields after a feed that took something
 pub kept_fed : (old new : Frames) (before told after : Building) (piece : List ℕ) (used : ℕ) (outcome : Option Outcome) → IsKept old before → new.limit ≡ old.limit → (outcome ≡ None → after ≡ told) → after.nodes ≡ told.nodes
@@ -143,7 +143,7 @@ skips_alike (state.Skipping count header) body b = refl
 skips_alike state.Broken body b = refl
 skips_alike state.Dead body b = refl
 
-pub feeds_failed : (p : Profile) (old new : Frames) (before told after : Building) (front piece : List ℕ) (error : FeedErr) → Goes (HasOpen told) (HasOpen told) (λ m now. (told.done ≡ Some m) × (told.nodes ≡ [])) (λ now. HasOpen told []) old new front piece (Err error) → Stops new error
+pub feeds_failed : (p : KindSet) (old new : Frames) (before told after : Building) (front piece : List ℕ) (error : FeedErr) → Goes (HasOpen told) (HasOpen told) (λ m now. (told.done ≡ Some m) × (told.nodes ≡ [])) (λ now. HasOpen told []) old new front piece (Err error) → Stops new error
     → FeedsIn p (decoder old before) front piece (decoder new after) (Err error)
 feeds_failed p old new before told after front piece failure.Broken g s = (g.0, ap (λ (x : State). kept x new.body after) s.0)
 feeds_failed p old new before told after front piece failure.Memory g s = (skips_alike old.state old.body before ∙ g, ap (λ (x : State). kept x new.body after) s.0)
@@ -219,15 +219,15 @@ held_limit frames b k = elim k.comes [
 
 -- ---- nothing is kept from the octet on that decides a fault
 
-pub held_decided : (limit : ℕ) (s : State) (body : Body) (b : Building) (front : List ℕ) → ComesAt (HasOpen b) (HasOpen b) limit s body front → IsDecidedIn body.reader.profile limit front → raw_octets (kept s body b) + kept_weight (kept s body b) ≡ 0
+pub held_decided : (limit : ℕ) (s : State) (body : Body) (b : Building) (front : List ℕ) → ComesAt (HasOpen b) (HasOpen b) limit s body front → IsDecidedIn body.reader.set limit front → raw_octets (kept s body b) + kept_weight (kept s body b) ≡ 0
 held_decided limit state.Between body b front k d = refl
-held_decided limit state.Header body b front k d = absurd (let ten = fails_after_header body.reader.profile limit (front ++ d.0) (length front) d.2 in omega (arith, k.2))
+held_decided limit state.Header body b front k d = absurd (let ten = fails_after_header body.reader.set limit (front ++ d.0) (length front) d.2 in omega (arith, k.2))
 held_decided limit (state.Reading id) body b front k d = absurd (undecided_reading (HasOpen b) (HasOpen b) limit id body front d.0 k d.1 d.2)
 held_decided limit (state.Skipping count header) body b front k d = refl
 held_decided limit state.Broken body b front k d = refl
 held_decided limit state.Dead body b front k d = refl
 
-pub held_skipped : (limit : ℕ) (s : State) (body : Body) (b : Building) (front : List ℕ) → ComesAt (HasOpen b) (HasOpen b) limit s body front → HasHeaderFaultIn body.reader.profile limit front → raw_octets (kept s body b) + kept_weight (kept s body b) ≡ 0
+pub held_skipped : (limit : ℕ) (s : State) (body : Body) (b : Building) (front : List ℕ) → ComesAt (HasOpen b) (HasOpen b) limit s body front → HasHeaderFaultIn body.reader.set limit front → raw_octets (kept s body b) + kept_weight (kept s body b) ≡ 0
 held_skipped limit state.Between body b front k d = refl
 held_skipped limit state.Header body b front k d = absurd (omega (arith, k.2, d.0))
 held_skipped limit (state.Reading id) body b front k d = absurd (d.1 k.passed.passes)
@@ -241,10 +241,10 @@ held_skipped limit state.Dead body b front k d = refl
 pub record Holds (frames : Frames) (b : Building) (n : ℕ) : Type 0 where
   pub weight_is : n ≡ held_weight (decoder frames b)
   pub within : n ≤ frames.limit
-  pub front : (p : Profile) (front : List ℕ) → StandsIn p (decoder frames b) front → n ≤ length front
+  pub front : (p : KindSet) (front : List ℕ) → StandsIn p (decoder frames b) front → n ≤ length front
   pub raw : raw_octets (decoder frames b).kept ≤ 16
-  pub skipped : (p : Profile) (front : List ℕ) → StandsIn p (decoder frames b) front → HasHeaderFaultIn p frames.limit front → n ≡ 0
-  pub decided : (p : Profile) (front : List ℕ) → StandsIn p (decoder frames b) front → IsDecidedIn p frames.limit front → n ≡ 0
+  pub skipped : (p : KindSet) (front : List ℕ) → StandsIn p (decoder frames b) front → HasHeaderFaultIn p frames.limit front → n ≡ 0
+  pub decided : (p : KindSet) (front : List ℕ) → StandsIn p (decoder frames b) front → IsDecidedIn p frames.limit front → n ≡ 0
 
 pub holds : (frames : Frames) (b : Building) (n : ℕ) → IsKept frames b → n ≡ held_weight (decoder frames b) → Holds frames b n
 holds frames b n k e =
@@ -254,8 +254,8 @@ holds frames b n k e =
       within = omega (arith, e, most.0);
       front = λ p front st. omega (arith, e, held_front frames.limit frames.state frames.body b front (kept_comes frames b front k st));
       raw = most.1;
-      skipped = λ p front st f. e ∙ held_skipped frames.limit frames.state frames.body b front (kept_comes frames b front k st) (subst (λ (q : Profile). HasHeaderFaultIn q frames.limit front) (sym st.set) f);
-      decided = λ p front st f. e ∙ held_decided frames.limit frames.state frames.body b front (kept_comes frames b front k st) (subst (λ (q : Profile). IsDecidedIn q frames.limit front) (sym st.set) f);
+      skipped = λ p front st f. e ∙ held_skipped frames.limit frames.state frames.body b front (kept_comes frames b front k st) (subst (λ (q : KindSet). HasHeaderFaultIn q frames.limit front) (sym st.set) f);
+      decided = λ p front st f. e ∙ held_decided frames.limit frames.state frames.body b front (kept_comes frames b front k st) (subst (λ (q : KindSet). IsDecidedIn q frames.limit front) (sym st.set) f);
     }
 
 pub weight_is : (frames : Frames) (b : Building) (s : State) → frames.state ≡ s → held_weight (decoder frames b) ≡ raw_octets (kept s frames.body b) + kept_weight (kept s frames.body b)
@@ -268,7 +268,7 @@ kept_reading frames b id k e = elim k.comes [
   | inr (inr x) ↦ absurd (let z = sym e ∙ x in cc)
 ]
 
-pub front_at : {p : Profile} (frames : Frames) (b : Building) (s : State) (front : List ℕ) → IsKept frames b → frames.state ≡ s → StandsIn p (decoder frames b) front → ComesAt (HasOpen b) (HasOpen b) frames.limit s frames.body front
+pub front_at : {p : KindSet} (frames : Frames) (b : Building) (s : State) (front : List ℕ) → IsKept frames b → frames.state ≡ s → StandsIn p (decoder frames b) front → ComesAt (HasOpen b) (HasOpen b) frames.limit s frames.body front
 front_at frames b s front k e st = state_comes (HasOpen b) (HasOpen b) frames.limit frames.state s frames.body front e (kept_comes frames b front k st)
 
 pub kept_new : (frames : Frames) (b : Building) → 10 ≤ frames.limit → frames.limit ≤ MAX_LIMIT → frames.state ≡ state.Between → frames.body.raw.items ≡ [] → b.nodes ≡ [] → IsKept frames b
@@ -276,7 +276,7 @@ kept_new frames b least most s r e =
     let k = idle_comes frames.limit frames b (s, r) e in
     record { least = least; most = most; comes = inl ([], [], k); ended = λ o. absurd (not_ended frames.limit frames.state frames.body b [] k o) }
 
-pub stands_new : (frames : Frames) (b : Building) → frames.state ≡ state.Between → frames.body.raw.items ≡ [] → b.nodes ≡ [] → StandsIn frames.body.reader.profile (decoder frames b) []
+pub stands_new : (frames : Frames) (b : Building) → frames.state ≡ state.Between → frames.body.raw.items ≡ [] → b.nodes ≡ [] → StandsIn frames.body.reader.set (decoder frames b) []
 stands_new frames b s r e = stands_for frames.limit frames.state frames.body b [] (idle_comes frames.limit frames b (s, r) e)
 
 pub some_outcome : (outcome : Option Outcome) (it : Option Item) → (outcome ≡ None → it ≡ None) → IsSome it → IsSome outcome

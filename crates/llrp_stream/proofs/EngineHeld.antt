@@ -52,7 +52,7 @@ module _ (begins stands : List Begun → Type 0) where
         few = st.few;
       }
 
-  pub undecided_reading : (limit id : ℕ) (body : Body) (front more : List ℕ) → IsReading begins stands limit id body front → IsFrame (front ++ more) → FailsIn body.reader.profile limit (front ++ more) (length front) → ⊥
+  pub undecided_reading : (limit id : ℕ) (body : Body) (front more : List ℕ) → IsReading begins stands limit id body front → IsFrame (front ++ more) → FailsIn body.reader.set limit (front ++ more) (length front) → ⊥
   unfolding header_fault_in
   undecided_reading limit id body front more r is f =
       let are = r.awaits.stands_for.are in
@@ -63,7 +63,7 @@ module _ (begins stands : List Begun → Type 0) where
       let st = stands_in front more body.reader.octets t reach.0 reach.1 long in
       let P : ℕ → Type 0 = λ k. 8 * length front < deciding t (drop k (digits_of_bytes (front ++ more))) in
       let lt : P reach.0 = subst P (covered_length front body.reader.octets t reach.0 reach.1) (r.awaits.short.undecided more long) in
-      undecided_until body.reader.profile limit (front ++ more) (length front) t reach.0 st reach.1.root (header_fault-append _ limit front more r.passed.long ∙ r.passed.passes) lt f
+      undecided_until body.reader.set limit (front ++ more) (length front) t reach.0 st reach.1.root (header_fault-append _ limit front more r.passed.long ∙ r.passed.passes) lt f
 
   pub held_front : (limit : ℕ) (s : State) (body : Body) (front : List ℕ) → ComesAt begins stands limit s body front → held_at s body ≤ length front
   held_front limit state.Between body front k = omega arith
@@ -81,15 +81,15 @@ module _ (begins stands : List Begun → Type 0) where
   held_limit limit state.Broken body front ten k = absurd k
   held_limit limit state.Dead body front ten k = absurd k
 
-  pub held_decided : (limit : ℕ) (s : State) (body : Body) (front : List ℕ) → ComesAt begins stands limit s body front → IsDecidedIn body.reader.profile limit front → held_at s body ≡ 0
+  pub held_decided : (limit : ℕ) (s : State) (body : Body) (front : List ℕ) → ComesAt begins stands limit s body front → IsDecidedIn body.reader.set limit front → held_at s body ≡ 0
   held_decided limit state.Between body front k d = refl
-  held_decided limit state.Header body front k d = absurd (let ten = fails_after_header body.reader.profile limit (front ++ d.0) (length front) d.2 in omega (arith, k.2))
+  held_decided limit state.Header body front k d = absurd (let ten = fails_after_header body.reader.set limit (front ++ d.0) (length front) d.2 in omega (arith, k.2))
   held_decided limit (state.Reading id) body front k d = absurd (undecided_reading limit id body front d.0 k d.1 d.2)
   held_decided limit (state.Skipping count header) body front k d = refl
   held_decided limit state.Broken body front k d = refl
   held_decided limit state.Dead body front k d = refl
 
-  pub held_skipped : (limit : ℕ) (s : State) (body : Body) (front : List ℕ) → ComesAt begins stands limit s body front → HasHeaderFaultIn body.reader.profile limit front → held_at s body ≡ 0
+  pub held_skipped : (limit : ℕ) (s : State) (body : Body) (front : List ℕ) → ComesAt begins stands limit s body front → HasHeaderFaultIn body.reader.set limit front → held_at s body ≡ 0
   held_skipped limit state.Between body front k d = refl
   held_skipped limit state.Header body front k d = absurd (omega (arith, k.2, d.0))
   held_skipped limit (state.Reading id) body front k d = absurd (d.1 k.passed.passes)

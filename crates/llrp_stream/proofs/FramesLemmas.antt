@@ -12,7 +12,7 @@ use Rattle.llrp_tree.specs.Tree.{MessageTree}
 use Rattle.llrp_tree.specs.Lawful.{AreOctets}
 use Rattle.llrp_tree.specs.FirstFault.{first_failing, header_checks_in}
 use Rattle.llrp_tree.specs.OpenTree.{Begun}
-use Rattle.llrp_schema.specs.declared.kinds.Profile.{Profile}
+use Rattle.llrp_schema.specs.declared.kinds.KindSet.{KindSet}
 use Rattle.llrp_tree.proofs.Frames.{fault_of_frame}
 use Rattle.llrp_tree.proofs.OctetLemmas.{octets-append}
 use Rattle.llrp_stream.specs.declared.header.FaultyHeader.{FaultyHeader}
@@ -47,18 +47,18 @@ use Rattle.llrp_stream.proofs.WholeFrames.{header_length}
 -- ---- a frame whose header passes
 
 -- more octets of it
-pub passed_more : (limit id : ℕ) (old new : Body) (front more : List ℕ) → new.reader.octets ≡ old.reader.octets → new.reader.profile ≡ old.reader.profile → AreOctets more → IsPassed limit id old front → IsPassed limit id new (front ++ more)
+pub passed_more : (limit id : ℕ) (old new : Body) (front more : List ℕ) → new.reader.octets ≡ old.reader.octets → new.reader.set ≡ old.reader.set → AreOctets more → IsPassed limit id old front → IsPassed limit id new (front ++ more)
 passed_more limit id old new front more e set os p = record {
   long = omega (arith, p.long, length-append front more);
   octets_are = e ∙ p.octets_are ∙ sym (length_field-append front more (omega (arith, p.long)));
   within = omega (arith, e, p.within);
   id_is = p.id_is ∙ sym (id_field-append front more p.long);
-  passes = subst (λ (q : Profile). header_fault_in q limit (front ++ more) ≡ None) (sym set) (header_fault-append _ limit front more p.long ∙ p.passes);
+  passes = subst (λ (q : KindSet). header_fault_in q limit (front ++ more) ≡ None) (sym set) (header_fault-append _ limit front more p.long ∙ p.passes);
   octets = octets-append front more p.octets os;
 }
 
 -- its first ten octets
-pub passed_first : (p : Profile) (limit : ℕ) (bytes : List ℕ) (header : Header) (body : Body) → length bytes ≡ 10 → IsSound p limit bytes header → AreOctets bytes → body.reader.octets ≡ header.octets → body.reader.profile ≡ p → IsPassed limit header.id body bytes
+pub passed_first : (p : KindSet) (limit : ℕ) (bytes : List ℕ) (header : Header) (body : Body) → length bytes ≡ 10 → IsSound p limit bytes header → AreOctets bytes → body.reader.octets ≡ header.octets → body.reader.set ≡ p → IsPassed limit header.id body bytes
 unfolding header_fault_in length_field id_field
 passed_first p limit bytes header body ten s os e set =
     let l = header_length limit bytes header.version header.kind header.octets header.id ten (λ later. s.says later) in
@@ -68,12 +68,12 @@ passed_first p limit bytes header body ten s os e set =
       octets_are = e ∙ l.0;
       within = omega (arith, e, l.1);
       id_is = says.id_is ∙ sym (number_ahead bytes [] 48 32 (omega (arith, ten)));
-      passes = subst (λ (q : Profile). first_failing (header_checks_in q limit (digits_of_bytes bytes)) ≡ None) (sym set) (subst (λ (x : List Bool). first_failing (header_checks_in p limit x) ≡ None) (append-nil (digits_of_bytes bytes)) says.passes);
+      passes = subst (λ (q : KindSet). first_failing (header_checks_in q limit (digits_of_bytes bytes)) ≡ None) (sym set) (subst (λ (x : List Bool). first_failing (header_checks_in p limit x) ≡ None) (append-nil (digits_of_bytes bytes)) says.passes);
       octets = os;
     }
 
 -- they are a frame, where its length is ten
-pub bare_frame : {p : Profile} (limit : ℕ) (bytes : List ℕ) (header : Header) → length bytes ≡ 10 → IsSound p limit bytes header → header.octets ≡ 10 → IsFrame bytes
+pub bare_frame : {p : KindSet} (limit : ℕ) (bytes : List ℕ) (header : Header) → length bytes ≡ 10 → IsSound p limit bytes header → header.octets ≡ 10 → IsFrame bytes
 unfolding length_field
 bare_frame limit bytes header ten s e =
     let l = header_length limit bytes header.version header.kind header.octets header.id ten (λ later. s.says later) in
@@ -86,7 +86,7 @@ whole_frame stands limit id old r front more p e w =
     record { header = omega (arith, p.long, length-append front more); whole = length_field-append front more (omega (arith, p.long)) ∙ sym p.octets_are ∙ sym e ∙ sym all }
 
 -- the fault that is reported is that of each frame that begins so
-pub failed_skipped : (limit id count : ℕ) (body : Body) (front more : List ℕ) (fault : Fault) → IsPassed limit id body front → count ≡ length front + length more → TellsAll body.reader.profile (front ++ more) body.reader.octets (frame_err.Bad fault) → IsSkipped body.reader.profile limit count body.reader.octets id fault (front ++ more)
+pub failed_skipped : (limit id count : ℕ) (body : Body) (front more : List ℕ) (fault : Fault) → IsPassed limit id body front → count ≡ length front + length more → TellsAll body.reader.set (front ++ more) body.reader.octets (frame_err.Bad fault) → IsSkipped body.reader.set limit count body.reader.octets id fault (front ++ more)
 unfolding header_fault_in
 failed_skipped limit id count body front more fault p e tells =
     let both = length-append front more in
@@ -97,26 +97,26 @@ failed_skipped limit id count body front more fault p e tells =
       id_is = p.id_is ∙ sym (id_field-append front more p.long);
       faulty = λ later is.
           let long : length ((front ++ more) ++ later) ≡ body.reader.octets = sym is.whole ∙ length_field-append (front ++ more) later (omega (arith, ten)) ∙ length_field-append front more (omega (arith, p.long)) ∙ sym p.octets_are in
-          fault_of_frame body.reader.profile limit ((front ++ more) ++ later) fault.bit fault.reason (header_fault-append _ limit (front ++ more) later ten ∙ header_fault-append _ limit front more p.long ∙ p.passes) (tells later long);
+          fault_of_frame body.reader.set limit ((front ++ more) ++ later) fault.bit fault.reason (header_fault-append _ limit (front ++ more) later ten ∙ header_fault-append _ limit front more p.long ∙ p.passes) (tells later long);
     }
 
 -- ---- a frame that is skipped
 
 -- it goes on past the piece
-pub skip_more : (p : Profile) (limit count n : ℕ) (header : FaultyHeader) (front piece : List ℕ) (new : Frames) → 10 ≤ count → n ≡ length piece → n < header.octets - count → new.state ≡ state.Skipping (count + n) header → IsSkipped p limit count header.octets header.id header.fault front → SkipsTo p limit front piece new n None
+pub skip_more : (p : KindSet) (limit count n : ℕ) (header : FaultyHeader) (front piece : List ℕ) (new : Frames) → 10 ≤ count → n ≡ length piece → n < header.octets - count → new.state ≡ state.Skipping (count + n) header → IsSkipped p limit count header.octets header.id header.fault front → SkipsTo p limit front piece new n None
 skip_more p limit count n header front piece new ten e lt st s =
     let more : IsSkipping p limit (state.Skipping (count + n) header) (front ++ piece) = (skipped-append _ limit count header.octets header.id n header.fault front piece ten e s, omega arith, omega arith) in
     (e, subst (λ (x : State). IsSkipping p limit x (front ++ piece)) (sym st) more)
 
 -- or ends in it
-pub skip_end : (p : Profile) (limit count left : ℕ) (header : FaultyHeader) (front piece : List ℕ) (new : Frames) → 10 ≤ count → count ≤ header.octets → left ≡ header.octets - count → left ≤ length piece → new.state ≡ state.Between → IsSkipped p limit count header.octets header.id header.fault front
+pub skip_end : (p : KindSet) (limit count left : ℕ) (header : FaultyHeader) (front piece : List ℕ) (new : Frames) → 10 ≤ count → count ≤ header.octets → left ≡ header.octets - count → left ≤ length piece → new.state ≡ state.Between → IsSkipped p limit count header.octets header.id header.fault front
     → SkipsTo p limit front piece new left (Some (Bad header.id header.fault))
 skip_end p limit count left header front piece new ten inside e le st s =
     let is = frame_ends front piece header.octets left (omega (arith, s.count_is)) (omega arith) s.octets_are (omega (arith, s.count_is)) le in
     (le, is, (s.id_is ∙ sym (id_field-append front (take left piece) (omega (arith, s.count_is))), s.faulty (take left piece) is), st)
 
 module _ (begins stands : List Begun → Type 0) where
-  skipping_comes : (limit : ℕ) (s : State) (body : Body) (front : List ℕ) → body.raw.items ≡ [] → stands [] → IsSkipping body.reader.profile limit s front → ComesAt begins stands limit s body front
+  skipping_comes : (limit : ℕ) (s : State) (body : Body) (front : List ℕ) → body.raw.items ≡ [] → stands [] → IsSkipping body.reader.set limit s front → ComesAt begins stands limit s body front
   skipping_comes limit state.Between body front r st k = absurd k
   skipping_comes limit state.Header body front r st k = absurd k
   skipping_comes limit (state.Reading id) body front r st k = absurd k
@@ -145,7 +145,7 @@ header_comes begins stands limit new (x ∷ xs) lt part r st none some = state_c
 
 -- ---- how far a body is read
 
-pub reaches_settled : (s : Stage) (r : BodyReader) (front : List ℕ) (b : Begun) (outer : List Begun) → IsAtStage s r front b outer → (at : ℕ) × Reaches r.profile front r.octets (settled s b ∷ outer) at
+pub reaches_settled : (s : Stage) (r : BodyReader) (front : List ℕ) (b : Begun) (outer : List Begun) → IsAtStage s r front b outer → (at : ℕ) × Reaches r.set front r.octets (settled s b ∷ outer) at
 reaches_settled (stage.Leading next) r front b outer i = (8 * r.at + r.bit, i.reaches)
 reaches_settled (stage.Tail left) r front b outer i = (8 * i.from, i.reaches)
 reaches_settled stage.Children r front b outer i = (8 * r.at, i.reaches)
@@ -175,7 +175,7 @@ octets-take (suc k) (b ∷ bytes) os = (os.0, octets-take k bytes os.1)
 
 module _ (begins stands : List Begun → Type 0) (ends : MessageTree → List ℕ → Type 0) (rests : List ℕ → Type 0) (limit : ℕ) where
   -- what is skipped, where the listener has what it had
-  pub skip_takes : (front piece : List ℕ) (new : Frames) (used : ℕ) (outcome : Option Outcome) → new.body.raw.items ≡ [] → stands [] → SkipsTo new.body.reader.profile limit front piece new used outcome → TakesOn begins stands ends rests limit front piece new used outcome
+  pub skip_takes : (front piece : List ℕ) (new : Frames) (used : ℕ) (outcome : Option Outcome) → new.body.raw.items ≡ [] → stands [] → SkipsTo new.body.reader.set limit front piece new used outcome → TakesOn begins stands ends rests limit front piece new used outcome
   skip_takes front piece new used None r st s = (s.0, skipping_comes begins stands limit new.state new.body (front ++ piece) r st s.1)
   skip_takes front piece new used (Some Whole) r st s = absurd s.2
   skip_takes front piece new used (Some (Bad id fault)) r st s = (s.0, s.1, (s.2.0, s.2.1, st), (s.3, r))
@@ -191,13 +191,13 @@ module _ (begins stands : List Begun → Type 0) (ends : MessageTree → List �
       let sum : n + used ≡ used + n = omega arith in
       let whole : mid ++ take used rest ≡ front ++ take (used + n) piece =
       ap (λ (x : List ℕ). x ++ take used rest) em ∙ ap (λ (x : List ℕ). (front ++ take n piece) ++ take used x) er ∙ append_assoc front (take n piece) (take used (drop n piece)) ∙ ap (λ (x : List ℕ). front ++ x) (sym (take-add n used piece) ∙ ap (λ (k : ℕ). take k piece) sum) in
-      (let long = ap (λ (x : List ℕ). length x) er in omega (arith, t.0, length-drop n piece), subst (λ (x : List ℕ). IsFrame x) whole t.1, subst (λ (x : List ℕ). GivesIn new.body.reader.profile stands ends rests limit x outcome) whole t.2, t.3)
+      (let long = ap (λ (x : List ℕ). length x) er in omega (arith, t.0, length-drop n piece), subst (λ (x : List ℕ). IsFrame x) whole t.1, subst (λ (x : List ℕ). GivesIn new.body.reader.set stands ends rests limit x outcome) whole t.2, t.3)
 
   -- ---- in the body
 
   -- the frame goes on past the piece
   pub goes_on_reading : (id used : ℕ) (old : Body) (new : Frames) (front piece near : List ℕ) → IsPassed limit id old front → AreOctets piece → used ≡ min (length piece) (old.reader.octets - length front) → near ≡ take used piece → new.state ≡ state.Reading id
-      → Awaits begins stands new.body (front ++ near) → new.body.reader.octets ≡ old.reader.octets → new.body.reader.profile ≡ old.reader.profile → TakesOn begins stands ends rests limit front piece new used None
+      → Awaits begins stands new.body (front ++ near) → new.body.reader.octets ≡ old.reader.octets → new.body.reader.set ≡ old.reader.set → TakesOn begins stands ends rests limit front piece new used None
   goes_on_reading id used old new front piece near p os e en st a same set =
       let le : used ≤ length piece = omega (arith, e) in
       let long : length near ≡ used = ap (λ (x : List ℕ). length x) en ∙ length-take-le used piece le in
@@ -210,20 +210,20 @@ module _ (begins stands : List Begun → Type 0) (ends : MessageTree → List �
 
   -- its message ends
   pub goes_on_end : (used : ℕ) (new : Frames) (front piece near : List ℕ) (result : Result Came FeedErr) → IsFrame (front ++ near) → near ≡ take used piece → used ≤ length piece
-      → IfOk result (λ came. came ≡ record { used = used; outcome = Some Whole }) → IfOk result (λ _. IsIdle new) → IfErr result (λ error. error ≡ failure.Memory) → OnOk result (GivesIn new.body.reader.profile stands ends rests limit (front ++ near) Whole) → GoesOn begins stands ends rests limit front piece new result
+      → IfOk result (λ came. came ≡ record { used = used; outcome = Some Whole }) → IfOk result (λ _. IsIdle new) → IfErr result (λ error. error ≡ failure.Memory) → OnOk result (GivesIn new.body.reader.set stands ends rests limit (front ++ near) Whole) → GoesOn begins stands ends rests limit front piece new result
   goes_on_end used new front piece near (Ok came) is en le e idle bad g =
-      let t : TakesOn begins stands ends rests limit front piece new used (Some Whole) = (le, subst (λ (x : List ℕ). IsFrame (front ++ x)) en is, subst (λ (x : List ℕ). GivesIn new.body.reader.profile stands ends rests limit (front ++ x) Whole) en g, idle) in
+      let t : TakesOn begins stands ends rests limit front piece new used (Some Whole) = (le, subst (λ (x : List ℕ). IsFrame (front ++ x)) en is, subst (λ (x : List ℕ). GivesIn new.body.reader.set stands ends rests limit (front ++ x) Whole) en g, idle) in
       subst (λ (x : Came). TakesOn begins stands ends rests limit front piece new x.used x.outcome) (sym e) t
   goes_on_end used new front piece near (Err error) is en le e idle bad g = subst (λ (x : FeedErr). GoesOn begins stands ends rests limit front piece new (Err x)) (sym bad) tt
 
   -- a part of it fails
-  pub goes_on_failed : (id count n : ℕ) (body : Body) (new : Frames) (front piece near rest : List ℕ) (fault : Fault) (came : Came) → IsPassed limit id body front → count ≡ length front + n → TellsAll body.reader.profile (front ++ near) body.reader.octets (frame_err.Bad fault) → new.body.raw.items ≡ [] → stands []
-      → n ≤ length piece → near ≡ take n piece → rest ≡ drop n piece → new.body.reader.profile ≡ body.reader.profile → ((start : List ℕ) → IsSkipped body.reader.profile limit count body.reader.octets id fault start → SkipsTo body.reader.profile limit start rest new came.used came.outcome)
+  pub goes_on_failed : (id count n : ℕ) (body : Body) (new : Frames) (front piece near rest : List ℕ) (fault : Fault) (came : Came) → IsPassed limit id body front → count ≡ length front + n → TellsAll body.reader.set (front ++ near) body.reader.octets (frame_err.Bad fault) → new.body.raw.items ≡ [] → stands []
+      → n ≤ length piece → near ≡ take n piece → rest ≡ drop n piece → new.body.reader.set ≡ body.reader.set → ((start : List ℕ) → IsSkipped body.reader.set limit count body.reader.octets id fault start → SkipsTo body.reader.set limit start rest new came.used came.outcome)
       → TakesOn begins stands ends rests limit front piece new (came.used + n) came.outcome
   goes_on_failed id count n body new front piece near rest fault came p e tells r st le en er set f =
       let long : length near ≡ n = ap (λ (x : List ℕ). length x) en ∙ length-take-le n piece le in
       let s = f (front ++ near) (failed_skipped limit id count body front near fault p (omega (arith, e)) tells) in
-      takes_behind front piece (front ++ near) rest new came.used n came.outcome le (ap (λ (x : List ℕ). front ++ x) en) er (skip_takes (front ++ near) rest new came.used came.outcome r st (subst (λ (q : Profile). SkipsTo q limit (front ++ near) rest new came.used came.outcome) (sym set) s))
+      takes_behind front piece (front ++ near) rest new came.used n came.outcome le (ap (λ (x : List ℕ). front ++ x) en) er (skip_takes (front ++ near) rest new came.used came.outcome r st (subst (λ (q : KindSet). SkipsTo q limit (front ++ near) rest new came.used came.outcome) (sym set) s))
 
   -- the answer of a feed in the body, where some octets were taken before
   pub begins_behind : (front piece mid rest : List ℕ) (new : Frames) (n : ℕ) (came : Came) → n ≤ length piece → mid ≡ front ++ take n piece → rest ≡ drop n piece → GoesOn begins stands ends rests limit mid rest new (Ok came)
@@ -248,10 +248,10 @@ module _ (begins stands : List Begun → Type 0) (ends : MessageTree → List �
       (all, subst (λ (x : List ℕ). ComesAt begins stands limit new.state new.body x) whole (header_comes begins stands limit new mid lt part r st none some))
 
   -- a check of it fails
-  pub begins_faulty : (p : Profile) (n : ℕ) (new : Frames) (front piece mid rest : List ℕ) (header : FaultyHeader) (came : Came) → n ≤ length piece → mid ≡ front ++ take n piece → rest ≡ drop n piece → length mid ≡ 10 → IsFaulty p limit mid header → new.body.reader.profile ≡ p → new.body.raw.items ≡ [] → stands []
-      → ((q : Profile) (most : ℕ) (start : List ℕ) → IsSkipped q most 10 header.octets header.id header.fault start → SkipsTo q most start rest new came.used came.outcome) → TakesOn begins stands ends rests limit front piece new (came.used + n) came.outcome
+  pub begins_faulty : (p : KindSet) (n : ℕ) (new : Frames) (front piece mid rest : List ℕ) (header : FaultyHeader) (came : Came) → n ≤ length piece → mid ≡ front ++ take n piece → rest ≡ drop n piece → length mid ≡ 10 → IsFaulty p limit mid header → new.body.reader.set ≡ p → new.body.raw.items ≡ [] → stands []
+      → ((q : KindSet) (most : ℕ) (start : List ℕ) → IsSkipped q most 10 header.octets header.id header.fault start → SkipsTo q most start rest new came.used came.outcome) → TakesOn begins stands ends rests limit front piece new (came.used + n) came.outcome
   begins_faulty p n new front piece mid rest header came le em er ten f set r st s =
-      takes_behind front piece mid rest new came.used n came.outcome le em er (skip_takes mid rest new came.used came.outcome r st (subst (λ (q : Profile). SkipsTo q limit mid rest new came.used came.outcome) (sym set) (s p limit mid (faulty_is_skipped limit header mid 10 (sym ten) f))))
+      takes_behind front piece mid rest new came.used n came.outcome le em er (skip_takes mid rest new came.used came.outcome r st (subst (λ (q : KindSet). SkipsTo q limit mid rest new came.used came.outcome) (sym set) (s p limit mid (faulty_is_skipped limit header mid 10 (sym ten) f))))
 
   -- ---- a frame that ends in a piece has octets of the piece
 

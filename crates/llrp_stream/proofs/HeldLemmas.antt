@@ -1,5 +1,5 @@
 -- The nodes that are begun weigh no more than the octets that are read.
-use Rattle.llrp_schema.specs.declared.kinds.Profile.{Profile}
+use Rattle.llrp_schema.specs.declared.kinds.KindSet.{KindSet}
 use Rattle.std.proofs.Common.{◌≡◌, ℕ, ◌+◌, ◌*◌, ◌≤◌, ◌<◌, Bool, true, List, [], ◌∷◌, ◌++◌, length, drop, Option, Some, None, refl, ap, ◌∙◌, arith, length-append}
 use Rattle.std.specs.Prelude.{unwrap_or}
 use Rattle.std.proofs.lemmas.List.{length-take-le}
@@ -101,7 +101,7 @@ tree_within b (p ∷ outer) o =
     let rest = spare p outer o.1 (parent_ready b.head b.stop p outer o.0.head) in
     omega (arith, rest, own_bits b, some_head b.head, length-append (covers (p ∷ outer)) (part b))
 
-reached : {p : Profile} (front : List ℕ) (n : ℕ) (b : Begun) (outer : List Begun) (at : ℕ) → Reaches p front n (b ∷ outer) at → 8 * open_weight (b ∷ outer) ≤ at
+reached : {p : KindSet} (front : List ℕ) (n : ℕ) (b : Begun) (outer : List Begun) (at : ℕ) → Reaches p front n (b ∷ outer) at → 8 * open_weight (b ∷ outer) ≤ at
 reached front n b outer at r =
     let long : length (covers (b ∷ outer)) ≡ at = ap (λ (x : List Bool). length x) r.covered ∙ length-take-le at (digits_of_bytes front) (omega (arith, length-bytes front, r.within)) in
     omega (arith, long, tree_within b outer r.is_open)

@@ -5,7 +5,7 @@ use Rattle.std.proofs.lemmas.List.{take-append-drop, length-take-le, length-drop
 use Rattle.llrp_tree.specs.declared.TheConstants.{MAX_LIMIT}
 use Rattle.llrp_tree.specs.Lawful.{AreOctets}
 use Rattle.llrp_tree.specs.FrameLaws.{IsWhole}
-use Rattle.llrp_schema.specs.declared.kinds.Profile.{Profile}
+use Rattle.llrp_schema.specs.declared.kinds.KindSet.{KindSet}
 use Rattle.llrp_tree.proofs.Totality.{either}
 use Rattle.llrp_stream.specs.declared.item.Item.{Item}
 use Rattle.llrp_stream.specs.declared.item.Item.TheVariants.{Msg, Bad}
@@ -24,7 +24,7 @@ pub below_or_not : (a b : ℕ) → (a < b) ⊎ (b ≤ a)
 below_or_not a b =
     (elim (leb b a) as (λ t. leb b a ≡ t → (a < b) ⊎ (b ≤ a)) [ true ↦ λ e. inr (leb-true b a e) | false ↦ λ e. inl (leb-false b a e) ]) refl
 
-item_of : (p : Profile) (limit : ℕ) (frame : List ℕ) → limit ≤ MAX_LIMIT → AreOctets frame → IsFrame frame → (item : Item) × IsItemIn p limit frame item
+item_of : (p : KindSet) (limit : ℕ) (frame : List ℕ) → limit ≤ MAX_LIMIT → AreOctets frame → IsFrame frame → (item : Item) × IsItemIn p limit frame item
 unfolding length_field
 item_of p limit frame le octets is =
     let whole : IsWhole frame = record { octets = octets; header = is.header; own_length = is.whole } in
@@ -33,22 +33,22 @@ item_of p limit frame le octets is =
       | inr faulty ↦ (Bad (id_field frame) (record { bit = faulty.0; reason = faulty.1 }), (refl, faulty.2))
     ]
 
-pub has_one_item : (p : Profile) (limit : ℕ) (frame : List ℕ) → limit ≤ MAX_LIMIT → AreOctets frame → IsFrame frame → HasOneItemIn p limit frame
+pub has_one_item : (p : KindSet) (limit : ℕ) (frame : List ℕ) → limit ≤ MAX_LIMIT → AreOctets frame → IsFrame frame → HasOneItemIn p limit frame
 has_one_item p limit frame le octets is =
     let found = item_of p limit frame le octets is in
     record { item = found.0; is = found.1; only = λ other q. same_item p limit frame other found.0 q found.1 }
 
 -- the items and the end of a stream
-record Told (p : Profile) (limit : ℕ) (stream : List ℕ) : Type 0 where
+record Told (p : KindSet) (limit : ℕ) (stream : List ℕ) : Type 0 where
   items : List Item
   end : End
   are : ItemsIn p limit stream items end
 
-ended : {p : Profile} (limit : ℕ) (stream : List ℕ) (end : End) → EndsStream stream end → Told p limit stream
+ended : {p : KindSet} (limit : ℕ) (stream : List ℕ) (end : End) → EndsStream stream end → Told p limit stream
 ended limit stream end ends = record { items = []; end = end; are = record { frames = []; cut = record { tail = stream; whole = refl; each = tt; ends = ends }; each = tt } }
 
 -- a frame before a stream whose items are known
-begun : (p : Profile) (limit : ℕ) (frame rest stream : List ℕ) → limit ≤ MAX_LIMIT → AreOctets frame → IsFrame frame → stream ≡ frame ++ rest → Told p limit rest → Told p limit stream
+begun : (p : KindSet) (limit : ℕ) (frame rest stream : List ℕ) → limit ≤ MAX_LIMIT → AreOctets frame → IsFrame frame → stream ≡ frame ++ rest → Told p limit rest → Told p limit stream
 begun p limit frame rest stream le octets is parts told =
     let found = item_of p limit frame le octets is in
     record {
@@ -88,7 +88,7 @@ front (b ∷ bytes) =
       ]
     ]
 
-told : (p : Profile) (size limit : ℕ) (stream : List ℕ) → limit ≤ MAX_LIMIT → length stream ≤ size → AreOctets stream → Told p limit stream
+told : (p : KindSet) (size limit : ℕ) (stream : List ℕ) → limit ≤ MAX_LIMIT → length stream ≤ size → AreOctets stream → Told p limit stream
 told p zero limit [] most le octets = ended limit [] Clean refl
 told p zero limit (b ∷ bytes) most le octets = absurd (omega arith)
 told p (suc size) limit stream most le octets =
@@ -101,7 +101,7 @@ told p (suc size) limit stream most le octets =
           begun p limit (take n stream) (drop n stream) stream most (octets-take n stream octets) (is_frame n stream found.1 found.2 found.3) (sym (take-append-drop n stream)) (told p size limit (drop n stream) most shorter (octets-drop n stream octets))
     ]
 
-pub has_one_listing : {p : Profile} (limit : ℕ) (stream : List ℕ) → limit ≤ MAX_LIMIT → AreOctets stream → HasOneListingIn p limit stream
+pub has_one_listing : {p : KindSet} (limit : ℕ) (stream : List ℕ) → limit ≤ MAX_LIMIT → AreOctets stream → HasOneListingIn p limit stream
 has_one_listing limit stream most octets =
     let all = told _ (length stream) limit stream most (omega arith) octets in
     record {

@@ -3,16 +3,16 @@ use Rattle.std.proofs.Common.{◌≡◌, ℕ, ◌+◌, ◌-◌, ◌<◌, ◌≤�
 use Rattle.std.specs.Prelude.{Result, Ok, Err, OnOk, IfOk, IfErr}
 use Rattle.llrp_schema.specs.declared.kinds.Kind.{Kind}
 use Rattle.llrp_schema.specs.declared.kinds.Kind.TheVariants.{Parameter}
-use Rattle.llrp_schema.specs.declared.kinds.ParamKind.TheVariants.{TagReportData}
-use Rattle.llrp_schema.specs.declared.kinds.Profile.TheVariants.{Own}
-use Rattle.llrp_schema.specs.Schema.{is_tv, number_of, rule_of, param_rule, profile_of}
+use Rattle.llrp_schema.specs.declared.kinds.KindSet.{KindSet}
+use Rattle.llrp_schema.specs.declared.kinds.KindSet.TheVariants.{Profile, Standard}
+use Rattle.llrp_schema.specs.Schema.{is_tv, number_of, rule_of, param_rule, set_of_kind}
 use Rattle.llrp_tree.specs.declared.fault.FrameErr.{FrameErr}
 use Rattle.llrp_tree.specs.declared.fault.FrameErr.TheVariants.{Memory}
 use Rattle.llrp_tree.specs.OpenTree.{Begun}
 use Rattle.llrp_tree.specs.Private.Standing.{is_tv_kind}
 use Rattle.llrp_stream.specs.declared.engine.body_reader.BodyReader.{BodyReader}
 use Rattle.llrp_stream.specs.Calls.Reading.{Are}
-use Rattle.llrp_stream.specs.Private.Reading.{AwaitsValues, KeepsNode, Moves, TakesOneValue, TakenSoFar, TakesValues, rank, work}
+use Rattle.llrp_stream.specs.Private.Reading.{AwaitsValues, KeepsNode, Moves, TakesOneValue, TakenSoFar, TakesValues, rank, report_of, work}
 use Rattle.llrp_stream.proofs.MoreOctets.{behind_on}
 use Rattle.llrp_stream.proofs.SeenLemmas.{seen_are}
 use Rattle.llrp_stream.proofs.ChildPart.{resting}
@@ -20,20 +20,22 @@ use Rattle.arrayvec.specs.ArrayVec.{ArrayVec}
 use Rattle.llrp_stream.specs.declared.engine.stack.StackNode.{StackNode}
 use Rattle.llrp_stream.specs.declared.engine.body_reader.Stage.TheVariants.{Children}
 
-report_long : is_tv_kind (Parameter TagReportData) ≡ false
+report_long : (set : KindSet) → is_tv_kind (Parameter (report_of set)) ≡ false
 unfolding is_tv number_of rule_of param_rule
-report_long = refl
+report_long Profile = refl
+report_long Standard = refl
 
--- a TagReportData is of the profile
-report_own : profile_of (Parameter TagReportData) ≡ Own
-unfolding profile_of rule_of param_rule
-report_own = refl
+-- the TagReportData of a set is of that set
+report_there : (set : KindSet) → set_of_kind (Parameter (report_of set)) ≡ set
+unfolding set_of_kind rule_of param_rule
+report_there Profile = refl
+report_there Standard = refl
 
-pub own_report : (k : Kind) → k ≡ Parameter TagReportData → profile_of k ≡ Own
-own_report k e = ap profile_of e ∙ report_own
+pub set_of_report : (set : KindSet) (k : Kind) → k ≡ Parameter (report_of set) → set_of_kind k ≡ set
+set_of_report set k e = ap set_of_kind e ∙ report_there set
 
-pub long_report : (k : Kind) → k ≡ Parameter TagReportData → is_tv_kind k ≡ false
-long_report k e = ap is_tv_kind e ∙ report_long
+pub long_report : (set : KindSet) (k : Kind) → k ≡ Parameter (report_of set) → is_tv_kind k ≡ false
+long_report set k e = ap is_tv_kind e ∙ report_long set
 
 pub kept : (r : BodyReader) → KeepsNode r r
 kept r = record { stage = refl; kind = refl; stop = refl; outer = refl }
@@ -59,7 +61,7 @@ pub none_taken : (begins stands : List ℕ → List Begun → Type 0) (r : BodyR
 none_taken begins stands r octets left = record {
   keeps = kept r;
   used = (omega arith, omega arith);
-  takes = λ was front a d. record { within = omega arith; are = a; place = omega arith; same = refl; profile = refl };
+  takes = λ was front a d. record { within = omega arith; are = a; place = omega arith; same = refl; set = refl };
 }
 
 pub some_taken : (result : Result ℕ FrameErr) (n : ℕ) → IfOk result (λ used. used ≡ 1 + n) → result ≡ Ok 0 → ⊥
@@ -70,9 +72,9 @@ some_taken (Err error) n e f = absurd cc
 -- ---- one after another
 
 -- what is left, after some were taken
-pub awaits_on : (begins stands : List Begun → Type 0) (old r : BodyReader) (front octets rest : List ℕ) (near left : ℕ) → AwaitsValues old octets near → KeepsNode old r → left ≤ length rest → r.at + left ≡ old.at + near
-    → Are begins stands r front → AwaitsValues r rest left
-awaits_on begins stands old r front octets rest near left a k within at are = record {
+pub awaits_on : (begins stands : List Begun → Type 0) (set : KindSet) (old r : BodyReader) (front octets rest : List ℕ) (near left : ℕ) → AwaitsValues set old octets near → KeepsNode old r → left ≤ length rest → r.at + left ≡ old.at + near
+    → Are begins stands r front → AwaitsValues set r rest left
+awaits_on begins stands set old r front octets rest near left a k within at are = record {
   stage = k.stage ∙ a.stage;
   stop = omega (arith, k.stop, a.stop);
   kind = k.kind ∙ a.kind;
@@ -88,7 +90,7 @@ one_more begins stands b2 s2 old mid new front octets rest back used le s t e =
     let l = length-drop used rest in
     let m = ap (λ (x : List ℕ). length x) e in
     record {
-      takes = record { within = omega arith; are = t.are; place = omega (arith, l, m, t.place, t.within, s.takes.place, le); same = t.same ∙ s.takes.same; profile = t.profile ∙ s.takes.profile };
+      takes = record { within = omega arith; are = t.are; place = omega (arith, l, m, t.place, t.within, s.takes.place, le); same = t.same ∙ s.takes.same; set = t.set ∙ s.takes.set };
       behind = behind_on front rest mid.at used new.at s.behind t.place ∙ sym e;
     }
 
@@ -119,7 +121,7 @@ pub record HeadTaken (begins stands : List Begun → Type 0) (old mid : BodyRead
   pub are : Are begins stands mid front
   pub place : mid.at ≡ old.at + head
   pub same : mid.octets ≡ old.octets
-  pub profile : mid.profile ≡ old.profile
+  pub set : mid.set ≡ old.set
   pub less : ((0 < head) × (work mid (length octets - head) < work old (length octets))) ⊎ ((head ≡ 0) × (mid ≡ old))
 
 pub head_taken : (head : ℕ) (begins stands : List Begun → Type 0) (old mid : BodyReader) (front octets : List ℕ) → (0 < head → Moves begins stands old mid front octets head) → (head ≡ 0 → (mid ≡ old) × Are begins stands old front) → HeadTaken begins stands old mid front octets head
@@ -130,12 +132,12 @@ head_taken zero begins stands old mid front octets f e =
       are = subst (λ (r : BodyReader). Are begins stands r front) (sym x.0) x.1;
       place = omega (arith, ap (λ (r : BodyReader). r.at) x.0);
       same = ap (λ (r : BodyReader). r.octets) x.0;
-      profile = ap (λ (r : BodyReader). r.profile) x.0;
+      set = ap (λ (r : BodyReader). r.set) x.0;
       less = inr (refl, x.0);
     }
 head_taken (suc n) begins stands old mid front octets f e =
     let m = f (omega arith) in
-    record { within = m.within; are = m.are; place = m.place; same = m.same; profile = m.profile; less = inl (omega arith, m.less) }
+    record { within = m.within; are = m.are; place = m.place; same = m.same; set = m.set; less = inl (omega arith, m.less) }
 
 pub moved_on : (b0 s0 begins stands : List Begun → Type 0) (old mid new : BodyReader) (front octets rest : List ℕ) (head used : ℕ) → rest ≡ drop head octets → HeadTaken b0 s0 old mid front octets head → mid.stage ≡ Children → TakesOneValue begins stands mid new front rest used → KeepsNode mid new → 0 < head + used → Moves begins stands old new front octets (head + used)
 moved_on b0 s0 begins stands old mid new front octets rest head used e h s t k some =
@@ -149,7 +151,7 @@ moved_on b0 s0 begins stands old mid new front octets rest head used e h s t k s
       are = t.are;
       place = omega (arith, t.place, h.place);
       same = t.same ∙ h.same;
-      profile = t.profile ∙ h.profile;
+      set = t.set ∙ h.set;
       less = elim h.less [
         | inl x ↦ (let m = work_at_most mid new (length rest) used fits bit last k in let y = subst (λ (n : ℕ). work mid n < work old (length octets)) (sym long) x.1 in let z = ap (λ (n : ℕ). work new n) left in omega (arith, m, y, z))
         | inr x ↦ (let m = work_less mid new (length rest) used (omega (arith, some, x.0)) fits bit last k in let y = ap (λ (r : BodyReader). work r (length octets)) x.1 in let w = ap (λ (n : ℕ). work mid n) (let q : length rest ≡ length octets = omega (arith, long, x.0) in q) in let z = ap (λ (n : ℕ). work new n) left in omega (arith, m, y, z, w))

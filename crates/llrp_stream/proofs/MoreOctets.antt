@@ -1,12 +1,12 @@
 -- More octets of a frame.
-use Rattle.std.proofs.Common.{◌≡◌, ℕ, ◌+◌, ◌-◌, ◌*◌, ◌≤◌, Bool, true, List, [], ◌∷◌, ◌++◌, length, take, drop, refl, sym, ap, subst, ◌∙◌, arith, append_assoc, length-append}
+use Rattle.std.proofs.Common.{◌≡◌, ℕ, ◌+◌, ◌-◌, ◌*◌, ◌≤◌, ◌⊎◌, Bool, true, List, [], ◌∷◌, ◌++◌, length, take, drop, refl, sym, ap, subst, ◌∙◌, arith, append_assoc, length-append}
 use Rattle.std.specs.Prelude.{nat_le}
 use Rattle.std.proofs.lemmas.Bool.{leb-true}
 use Rattle.std.proofs.lemmas.List.{take-append-le, drop-append-le, drop-drop}
 use Rattle.tag_bits.specs.Digits.{digits_of_bytes}
 use Rattle.tag_bits.proofs.ByteLemmas.{length-bytes, bytes-append}
 use Rattle.llrp_tree.specs.declared.fault.FrameErr.{FrameErr}
-use Rattle.llrp_schema.specs.declared.kinds.Profile.{Profile}
+use Rattle.llrp_schema.specs.declared.kinds.KindSet.{KindSet}
 use Rattle.llrp_tree.specs.Spelling.{Head, message, tlv, tv}
 use Rattle.llrp_tree.specs.OpenTree.{Begun, rules, form, plain_values, IsHead, IsOpenTree}
 use Rattle.llrp_tree.specs.Lawful.{count_octets}
@@ -14,16 +14,17 @@ use Rattle.llrp_tree.specs.FirstFault.{tail_length, octets_at, has_ended}
 use Rattle.llrp_tree.specs.Calls.Standing.{leading, end_of}
 use Rattle.llrp_tree.specs.Private.Standing.{Tells}
 use Rattle.llrp_tree.specs.declared.fault.FrameErr.TheVariants.{Memory, Bad}
-use Rattle.llrp_stream.specs.Private.Received.{Remains}
+use Rattle.llrp_stream.specs.Calls.Received.{IsFaultIn}
 use Rattle.llrp_stream.specs.declared.engine.body_reader.BodyReader.{BodyReader}
 use Rattle.llrp_stream.specs.declared.engine.body_reader.Stage.{Stage}
 use Rattle.llrp_stream.specs.declared.engine.body_reader.Stage.TheVariants.{Leading, Tail, Children}
 use Rattle.llrp_stream.specs.Calls.Front.{Reaches}
-use Rattle.llrp_stream.specs.Private.Front.{TellsAll, FailsWith}
+use Rattle.llrp_stream.specs.Private.Front.{TellsAll, TellsFor, FailsWith}
+use Rattle.llrp_stream.proofs.FaultTrees.{tells_all, tells_for_more}
 use Rattle.llrp_stream.specs.Calls.Reading.{HasReadTo, Are, IsAtStage}
 use Rattle.llrp_stream.specs.Private.Reading.{IsComplete}
 
-pub reaches_more : {p : Profile} (front more : List ℕ) (n : ℕ) (t : List Begun) (at : ℕ) → length (front ++ more) ≤ n → Reaches p front n t at → Reaches p (front ++ more) n t at
+pub reaches_more : {p : KindSet} (front more : List ℕ) (n : ℕ) (t : List Begun) (at : ℕ) → length (front ++ more) ≤ n → Reaches p front n t at → Reaches p (front ++ more) n t at
 reaches_more front more n t at le r =
     let long : length (digits_of_bytes front) ≡ 8 * length front = length-bytes front in
     let l = length-append front more in
@@ -68,18 +69,21 @@ module _ (begins stands : List Begun → Type 0) (r : BodyReader) where
   pub are_more : (front more : List ℕ) → length (front ++ more) ≤ r.octets → Are begins stands r front → Are begins stands r (front ++ more)
   are_more front more le a = record { node = a.node; outer = a.outer; reads = reads_more r front more a.node a.outer le a.reads; told = a.told }
 
-pub tells_more : (p : Profile) (front more : List ℕ) (n : ℕ) (e : FrameErr) → TellsAll p front n e → TellsAll p (front ++ more) n e
+pub tells_more : (p : KindSet) (front more : List ℕ) (n : ℕ) (e : FrameErr) → TellsAll p front n e → TellsAll p (front ++ more) n e
 tells_more p front more n e f = λ later long.
     let same = append_assoc front more later in
     subst (λ (x : List ℕ). Tells p (digits_of_bytes x) e) (sym same) (f (more ++ later) (sym (ap (λ (x : List ℕ). length x) same) ∙ long))
 
-pub fails_with : (p : Profile) (begins stands : List Begun → Type 0) (front : List ℕ) (n : ℕ) (e : FrameErr) → TellsAll p front n e → Remains begins stands → FailsWith begins stands p front n e
+pub fails_with : (p : KindSet) (begins stands : List Begun → Type 0) (front : List ℕ) (n : ℕ) (e : FrameErr) → {t : List Begun} → TellsFor p t front n e → (begins t) ⊎ (stands t) → FailsWith begins stands p front n e
 fails_with p begins stands front n Memory f r = tt
-fails_with p begins stands front n (Bad x) f r = (f, r)
+fails_with p begins stands front n (Bad x) {t} f r = (tells_all p t front n (Bad x) f, (t, r, record { tree = f.tree; is = f.is; root = f.root; fails = f.tells }))
 
-pub fails_more : (p : Profile) (begins stands : List Begun → Type 0) (front more : List ℕ) (n : ℕ) (e : FrameErr) → FailsWith begins stands p front n e → FailsWith begins stands p (front ++ more) n e
+pub fails_more : (p : KindSet) (begins stands : List Begun → Type 0) (front more : List ℕ) (n : ℕ) (e : FrameErr) → FailsWith begins stands p front n e → FailsWith begins stands p (front ++ more) n e
 fails_more p begins stands front more n Memory f = tt
-fails_more p begins stands front more n (Bad x) f = (tells_more _ front more n (Bad x) f.0, f.1)
+fails_more p begins stands front more n (Bad x) f =
+    let r : IsFaultIn p front n f.1.0 x = f.1.2 in
+    let g : TellsFor p f.1.0 (front ++ more) n (Bad x) = tells_for_more p f.1.0 front more n (Bad x) (record { tree = r.tree; is = r.is; root = r.root; tells = r.fails }) in
+    (tells_more _ front more n (Bad x) f.0, (f.1.0, f.1.1, record { tree = g.tree; is = g.is; root = g.root; fails = g.tells }))
 
 -- octets after a place, with more
 pub behind_more : (front more octets : List ℕ) (at : ℕ) → at ≤ length front → drop at front ≡ octets → drop at (front ++ more) ≡ octets ++ more

@@ -1,5 +1,5 @@
 -- A piece that is read after raw octets.
-use Rattle.llrp_schema.specs.declared.kinds.Profile.{Profile}
+use Rattle.llrp_schema.specs.declared.kinds.KindSet.{KindSet}
 use Rattle.std.proofs.Common.{◌≡◌, ℕ, ◌+◌, ◌<◌, ◌≤◌, inr, List, [], ◌∷◌, ◌++◌, length, take, drop, get_or, refl, sym, ap, subst, ◌∙◌, arith, append_assoc, length-append, length-drop}
 use Rattle.std.proofs.lemmas.List.{append-nil}
 use Rattle.arrayvec.specs.ArrayVec.{ArrayVec}
@@ -57,17 +57,17 @@ module _ (front piece done chunk others : List ℕ) (parts : piece ≡ (done ++ 
   pub chunk_fits : (n m : ℕ) → length (front ++ piece) ≤ n → m ≡ n → length ((front ++ done) ++ chunk) ≤ m
   chunk_fits n m le e = let a = ap (λ (x : List ℕ). length x) joined in let b = length-append ((front ++ done) ++ chunk) others in omega arith
 
-  pub chunk_fed : (begins stands : List Begun → Type 0) (old new : Body) → BodyStands begins stands new ((front ++ done) ++ chunk) → new.reader.octets ≡ old.reader.octets → new.reader.profile ≡ old.reader.profile → FedSoFar begins stands old new front piece others
-  chunk_fed begins stands old new st e set = record { done = done ++ chunk; parts = parts; are = subst (λ (x : List ℕ). BodyStands begins stands new x) (append_assoc front done chunk) st; same = e; profile = set }
+  pub chunk_fed : (begins stands : List Begun → Type 0) (old new : Body) → BodyStands begins stands new ((front ++ done) ++ chunk) → new.reader.octets ≡ old.reader.octets → new.reader.set ≡ old.reader.set → FedSoFar begins stands old new front piece others
+  chunk_fed begins stands old new st e set = record { done = done ++ chunk; parts = parts; are = subst (λ (x : List ℕ). BodyStands begins stands new x) (append_assoc front done chunk) st; same = e; set = set }
 
   pub chunk_whole : (stands : List Begun → Type 0) (r : BodyReader) (n : ℕ) → length (front ++ piece) ≤ n → r.octets ≡ n → IsComplete stands r ((front ++ done) ++ chunk) → IsComplete stands r (front ++ piece)
   chunk_whole stands r n le e w =
       let none : others ≡ [] = none_behind stands r (front ++ done) chunk others w (let a = ap (λ (x : List ℕ). length x) joined in let b = ap (λ (x : List ℕ). length x) (append_assoc (front ++ done) chunk others) in omega arith) in
       subst (λ (x : List ℕ). IsComplete stands r x) (sym (append-nil ((front ++ done) ++ chunk)) ∙ ap (λ (x : List ℕ). ((front ++ done) ++ chunk) ++ x) (sym none) ∙ joined) w
 
-  pub chunk_tells : (begins stands : List Begun → Type 0) (p q : Profile) (n m : ℕ) (e : FrameErr) → p ≡ q → n ≡ m → FailsWith begins stands p ((front ++ done) ++ chunk) n e → FailsWith begins stands q (front ++ piece) m e
+  pub chunk_tells : (begins stands : List Begun → Type 0) (p q : KindSet) (n m : ℕ) (e : FrameErr) → p ≡ q → n ≡ m → FailsWith begins stands p ((front ++ done) ++ chunk) n e → FailsWith begins stands q (front ++ piece) m e
   chunk_tells begins stands p q n m e set same f =
-      subst (λ (x : Profile). FailsWith begins stands x (front ++ piece) m e) set (subst (λ (k : ℕ). FailsWith begins stands p (front ++ piece) k e) same (subst (λ (x : List ℕ). FailsWith begins stands p x n e) joined (fails_more _ begins stands ((front ++ done) ++ chunk) others n e f)))
+      subst (λ (x : KindSet). FailsWith begins stands x (front ++ piece) m e) set (subst (λ (k : ℕ). FailsWith begins stands p (front ++ piece) k e) same (subst (λ (x : List ℕ). FailsWith begins stands p x n e) joined (fails_more _ begins stands ((front ++ done) ++ chunk) others n e f)))
 
 pub head_split : (rest : List ℕ) → 1 ≤ length rest → rest ≡ get_or (take 1 rest) 0 0 ∷ drop 1 rest
 head_split [] le = absurd (omega arith)

@@ -1,6 +1,6 @@
 -- A front of a row of frames: the first of them are whole in it, and it ends between two of them or within one.
 use Rattle.std.proofs.Common.{◌≡◌, ℕ, suc, ◌<◌, ◌≤◌, inl, inr, List, [], ◌∷◌, ◌++◌, length, take, drop, refl, sym, ap, subst, ◌∙◌, arith, append_assoc}
-use Rattle.llrp_schema.specs.declared.kinds.Profile.{Profile}
+use Rattle.llrp_schema.specs.declared.kinds.KindSet.{KindSet}
 use Rattle.std.specs.List.{AllByRecursion, AllZip}
 use Rattle.std.proofs.lemmas.List.{take_at, drop_at, length-append, append-nil, take-append-drop, length-take-le}
 use Rattle.llrp_stream.specs.declared.item.Item.{Item}
@@ -46,7 +46,7 @@ ends [] p = refl
 ends (b ∷ bytes) p = (refl, omega arith, p)
 
 -- nothing is whole where the front is shorter than the first frame
-none_whole : (p : Profile) (limit : ℕ) (item : Item) (items : List Item) (front more : List ℕ) → IsFrame (front ++ more) → IsItemIn p limit (front ++ more) item → length front < length (front ++ more) → IsFront p limit (item ∷ items) front
+none_whole : (p : KindSet) (limit : ℕ) (item : Item) (items : List Item) (front more : List ℕ) → IsFrame (front ++ more) → IsItemIn p limit (front ++ more) item → length front < length (front ++ more) → IsFront p limit (item ∷ items) front
 none_whole p limit item items front more is of lt = record {
   first = [];
   next = item ∷ items;
@@ -61,7 +61,7 @@ none_whole p limit item items front more is of lt = record {
     within (b ∷ bytes) is of lt = (more, omega (arith, lt, length-append (b ∷ bytes) more), is, of)
 
 -- one more frame is whole
-one_more : (p : Profile) (limit : ℕ) (item : Item) (items : List Item) (frame front middle : List ℕ) → IsFrame frame → IsItemIn p limit frame item → front ≡ frame ++ middle → IsFront p limit items middle → IsFront p limit (item ∷ items) front
+one_more : (p : KindSet) (limit : ℕ) (item : Item) (items : List Item) (frame front middle : List ℕ) → IsFrame frame → IsItemIn p limit frame item → front ≡ frame ++ middle → IsFront p limit items middle → IsFront p limit (item ∷ items) front
 one_more p limit item items frame front middle is of e more = record {
   first = item ∷ more.first;
   next = more.next;
@@ -80,7 +80,7 @@ one_more p limit item items frame front middle is of e more = record {
   within = more.within;
 }
 
-front_of : (p : Profile) (limit : ℕ) (items : List Item) (frames : List (List ℕ)) (front back : List ℕ) → AllByRecursion IsFrame frames → AllZip (IsItemIn p limit) frames items → front ++ back ≡ joined frames → IsFront p limit items front
+front_of : (p : KindSet) (limit : ℕ) (items : List Item) (frames : List (List ℕ)) (front back : List ℕ) → AllByRecursion IsFrame frames → AllZip (IsItemIn p limit) frames items → front ++ back ≡ joined frames → IsFront p limit items front
 front_of p limit [] [] [] back is are e = record { first = []; next = []; parts = refl; end = Clean; are = record { frames = []; cut = record { tail = []; whole = refl; each = tt; ends = refl }; each = tt }; within = refl }
 front_of p limit [] [] (b ∷ front) back is are e = absurd (omega (arith, ap length e))
 front_of p limit (item ∷ items) [] front back is are e = absurd are
@@ -94,7 +94,7 @@ front_of p limit (item ∷ items) (f ∷ frames) front back is are e = elim (bel
       one_more p limit item items f front c.middle is.0 are.0 c.first (front_of p limit items frames c.middle back is.1 are.1 (sym c.second))
 ]
 
-pub prefix_of_frames : (p : Profile) (limit : ℕ) (items : List Item) (front back : List ℕ) → ItemsIn p limit (front ++ back) items Clean → IsFront p limit items front
+pub prefix_of_frames : (p : KindSet) (limit : ℕ) (items : List Item) (front back : List ℕ) → ItemsIn p limit (front ++ back) items Clean → IsFront p limit items front
 prefix_of_frames p limit items front back all =
     let whole : front ++ back ≡ joined all.frames = all.cut.whole ∙ ap (λ (x : List ℕ). joined all.frames ++ x) all.cut.ends ∙ append-nil (joined all.frames) in
     front_of p limit items all.frames front back all.cut.each all.each whole

@@ -4,15 +4,15 @@ use Rattle.std.proofs.lemmas.List.{take-append-le, drop-append-le, drop-drop, le
 use Rattle.std.proofs.Math.ListN.{replicate}
 use Rattle.tag_bits.specs.Digits.{digits_of_bytes}
 use Rattle.tag_bits.proofs.ByteLemmas.{length-bytes, bytes-append, drop-bytes}
-use Rattle.llrp_tree.specs.OpenTree.{Begun, root_of, root_profile}
+use Rattle.llrp_tree.specs.OpenTree.{Begun, root_of, root_set}
 use Rattle.llrp_tree.specs.Calls.Standing.{IsAt}
 use Rattle.llrp_tree.specs.Private.Standing.{Tells}
 use Rattle.llrp_tree.specs.Spelling.{Head}
 use Rattle.llrp_tree.specs.declared.fault.FrameErr.{FrameErr}
-use Rattle.llrp_schema.specs.declared.kinds.Profile.{Profile}
+use Rattle.llrp_schema.specs.declared.kinds.KindSet.{KindSet}
 use Rattle.llrp_stream.specs.Calls.Front.{Reaches}
 
-pub stands_in : {p : Profile} (front more : List ℕ) (n : ℕ) (t : List Begun) (at : ℕ) → Reaches p front n t at → length (front ++ more) ≡ n → IsAt (digits_of_bytes (front ++ more)) t at
+pub stands_in : {p : KindSet} (front more : List ℕ) (n : ℕ) (t : List Begun) (at : ℕ) → Reaches p front n t at → length (front ++ more) ≡ n → IsAt (digits_of_bytes (front ++ more)) t at
 stands_in front more n t at r e =
     let long : length (digits_of_bytes front) ≡ 8 * length front = length-bytes front in
     let all : length (digits_of_bytes (front ++ more)) ≡ 8 * length (front ++ more) = length-bytes (front ++ more) in
@@ -25,10 +25,10 @@ stands_in front more n t at r e =
     }
 
 -- a fault of a frame of this set of kinds
-pub root_tells : {p : Profile} (h : Head) (outer : List Begun) (ds : List Bool) (e : FrameErr) → root_of h outer ≡ p → Tells (root_of h outer) ds e → Tells p ds e
-root_tells h outer ds e own t = subst (λ (q : Profile). Tells q ds e) own t
+pub root_tells : {p : KindSet} (h : Head) (outer : List Begun) (ds : List Bool) (e : FrameErr) → root_of h outer ≡ p → Tells (root_of h outer) ds e → Tells p ds e
+root_tells h outer ds e own t = subst (λ (q : KindSet). Tells q ds e) own t
 
-pub reaches_in : {p : Profile} (front : List ℕ) (n : ℕ) (t : List Begun) (at : ℕ) → length front ≤ n → at ≤ 8 * length front → root_profile t ≡ p → ((more : List ℕ) → length (front ++ more) ≡ n → IsAt (digits_of_bytes (front ++ more)) t at) → Reaches p front n t at
+pub reaches_in : {p : KindSet} (front : List ℕ) (n : ℕ) (t : List Begun) (at : ℕ) → length front ≤ n → at ≤ 8 * length front → root_set t ≡ p → ((more : List ℕ) → length (front ++ more) ≡ n → IsAt (digits_of_bytes (front ++ more)) t at) → Reaches p front n t at
 reaches_in front n t at le within own f =
     let more : List ℕ = replicate (n - length front) 0 in
     let e : length (front ++ more) ≡ n = length-append front more ∙ ap (λ (k : ℕ). length front + k) (length-replicate (n - length front) 0) ∙ omega arith in

@@ -1,5 +1,5 @@
 -- A node that has all its leading parts, as a step of the engine.
-use Rattle.llrp_schema.specs.declared.kinds.Profile.{Profile}
+use Rattle.llrp_schema.specs.declared.kinds.KindSet.{KindSet}
 use Rattle.std.proofs.Common.{◌≡◌, ℕ, ◌+◌, ◌-◌, ◌*◌, ◌<◌, List, [], ◌∷◌, Option, None, ap, ◌∙◌, arith, length, drop}
 use Rattle.tag_bits.specs.Digits.{digits_of_bytes}
 use Rattle.tag_bits.proofs.ByteLemmas.{length-bytes}
@@ -23,7 +23,7 @@ resting b kind k t e a =
     ∙ ap (λ (x : List FieldRule). field_due x (tail_due (tail_of kind) b.tail)) e
     ∙ ap (λ (x : Tail). tail_due x b.tail) a ∙ ap (λ (x : Option (List ℕ)). tail_due Absent x) t
 
-pub aligned : {p : Profile} (front : List ℕ) (n : ℕ) (b : Begun) (outer : List Begun) (a bit : ℕ) → Reaches p front n (b ∷ outer) (8 * a + bit) → due b ≡ Rest → bit < 8 → bit ≡ 0
+pub aligned : {p : KindSet} (front : List ℕ) (n : ℕ) (b : Begun) (outer : List Begun) (a bit : ℕ) → Reaches p front n (b ∷ outer) (8 * a + bit) → due b ≡ Rest → bit < 8 → bit ≡ 0
 aligned front n b outer a bit r d lt =
     let c = covered_octets b outer r.is_open d in
     let long = length_covered (covers (b ∷ outer)) (8 * a + bit) (digits_of_bytes front) r.covered (let l = length-bytes front in omega (arith, r.within)) in

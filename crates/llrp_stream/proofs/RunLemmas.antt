@@ -1,6 +1,6 @@
 -- Bytes that come in pieces.
 use Rattle.std.proofs.Common.{◌≡◌, ℕ, List, [], ◌∷◌, ◌++◌, take, drop, Option, Some, None, Result, Ok, Err, refl, sym, ap, subst, ◌∙◌, append_assoc, inl, inr}
-use Rattle.llrp_schema.specs.declared.kinds.Profile.{Profile}
+use Rattle.llrp_schema.specs.declared.kinds.KindSet.{KindSet}
 use Rattle.std.specs.List.{AllByRecursion, AllZip}
 use Rattle.std.proofs.lemmas.List.{append-nil, take-append-drop}
 use Rattle.llrp_stream.specs.declared.item.Item.{Item}
@@ -34,10 +34,10 @@ joined_push (f ∷ frames) frame = ap (λ (x : List ℕ). f ++ x) (joined_push f
 
 -- ---- the items so far
 
-by_bytes : {p : Profile} (limit : ℕ) (bytes : List ℕ) (items : List Item) (front more : List ℕ) → ItemsSoFarIn p limit bytes items front → ItemsSoFarIn p limit (bytes ++ more) items (front ++ more)
+by_bytes : {p : KindSet} (limit : ℕ) (bytes : List ℕ) (items : List Item) (front more : List ℕ) → ItemsSoFarIn p limit bytes items front → ItemsSoFarIn p limit (bytes ++ more) items (front ++ more)
 by_bytes limit bytes items front more so = record { frames = so.frames; whole = ap (λ (x : List ℕ). x ++ more) so.whole ∙ append_assoc (joined so.frames) front more; each = so.each; are = so.are }
 
-by_a_frame : {p : Profile} (limit : ℕ) (bytes : List ℕ) (items : List Item) (front : List ℕ) (item : Item) → ItemsSoFarIn p limit bytes items front → IsFrame front → IsItemIn p limit front item → ItemsSoFarIn p limit bytes (items ++ item ∷ []) []
+by_a_frame : {p : KindSet} (limit : ℕ) (bytes : List ℕ) (items : List Item) (front : List ℕ) (item : Item) → ItemsSoFarIn p limit bytes items front → IsFrame front → IsItemIn p limit front item → ItemsSoFarIn p limit bytes (items ++ item ∷ []) []
 by_a_frame limit bytes items front item so is it = record {
   frames = so.frames ++ front ∷ [];
   whole = so.whole ∙ sym (joined_push so.frames front) ∙ sym (append-nil (joined (so.frames ++ front ∷ [])));
@@ -45,16 +45,16 @@ by_a_frame limit bytes items front item so is it = record {
   are = zip_push (IsItemIn _ limit) so.frames items front item so.are it;
 }
 
-at_the_end : {p : Profile} (limit : ℕ) (bytes : List ℕ) (items : List Item) (front : List ℕ) (end : End) → ItemsSoFarIn p limit bytes items front → EndsStream front end → ItemsIn p limit bytes items end
+at_the_end : {p : KindSet} (limit : ℕ) (bytes : List ℕ) (items : List Item) (front : List ℕ) (end : End) → ItemsSoFarIn p limit bytes items front → EndsStream front end → ItemsIn p limit bytes items end
 at_the_end limit bytes items front end so ends = record { frames = so.frames; cut = record { tail = front; whole = so.whole; each = so.each; ends = ends }; each = so.are }
 
-come_first : {p : Profile} (limit : ℕ) (bytes more : List ℕ) (items others : List Item) (front : List ℕ) (end : End) → ItemsSoFarIn p limit bytes items front → ItemsIn p limit (bytes ++ more) others end → (later : List Item) × (others ≡ items ++ later)
+come_first : {p : KindSet} (limit : ℕ) (bytes more : List ℕ) (items others : List Item) (front : List ℕ) (end : End) → ItemsSoFarIn p limit bytes items front → ItemsIn p limit (bytes ++ more) others end → (later : List Item) × (others ≡ items ++ later)
 come_first limit bytes more items others front end so all =
     let whole : joined so.frames ++ (front ++ more) ≡ joined all.frames ++ all.cut.tail = sym (append_assoc (joined so.frames) front more) ∙ ap (λ (x : List ℕ). x ++ more) (sym so.whole) ∙ all.cut.whole in
     let after = after_front_in _ limit so.frames items (front ++ more) all.frames others all.cut.tail end so.each so.are whole all.cut.ends all.cut.each all.each in
     (after.more, after.are)
 
-pub items_grow : {p : Profile} (limit : ℕ) → ItemsGrowIn p limit
+pub items_grow : {p : KindSet} (limit : ℕ) → ItemsGrowIn p limit
 items_grow limit = record {
   none = record { frames = []; whole = refl; each = tt; are = tt };
   by_bytes = by_bytes limit;
@@ -66,12 +66,12 @@ items_grow limit = record {
 -- ---- a decoder that is fed
 
 -- a decoder stands for what follows the last frame, or met a break there
-data At (p : Profile) (decoder : DecoderState) (bytes : List ℕ) (items : List Item) : Type 0 where
+data At (p : KindSet) (decoder : DecoderState) (bytes : List ℕ) (items : List Item) : Type 0 where
   going : (front : List ℕ) → StandsIn p decoder front → ItemsSoFarIn p decoder.limit bytes items front → At p decoder bytes items
   over : (tail : List ℕ) → IsBroken decoder → Breaks tail → ItemsSoFarIn p decoder.limit bytes items tail → At p decoder bytes items
 
 -- an answer without an item
-by_answer : (p : Profile) (old new : DecoderState) (front piece bytes : List ℕ) (items : List Item) (answer : Result Fed FeedErr) → new.limit ≡ old.limit → ItemsSoFarIn p old.limit bytes items front → GivesNone answer → FeedsIn p old front piece new answer → At p new (bytes ++ piece) items
+by_answer : (p : KindSet) (old new : DecoderState) (front piece bytes : List ℕ) (items : List Item) (answer : Result Fed FeedErr) → new.limit ≡ old.limit → ItemsSoFarIn p old.limit bytes items front → GivesNone answer → FeedsIn p old front piece new answer → At p new (bytes ++ piece) items
 by_answer p old new front piece bytes items (Ok fed) same so none feeds =
     let takes : TakesIn p old.limit front piece new fed.used None = subst (λ (o : Option Item). TakesIn p old.limit front piece new fed.used o) none feeds in
     going (front ++ piece) takes.1 (rw same (by_bytes old.limit bytes items front piece so))
@@ -79,7 +79,7 @@ by_answer p old new front piece bytes items (Err Broken) same so none feeds = ov
 by_answer p old new front piece bytes items (Err Memory) same so none feeds = absurd none
 by_answer p old new front piece bytes items (Err Dead) same so none feeds = absurd none
 
-by_piece : (p : Profile) (old new : DecoderState) (piece bytes : List ℕ) (items first : List Item) → At p old bytes items → TakesPiece old piece first new → At p new (bytes ++ piece) (items ++ first) × (new.limit ≡ old.limit)
+by_piece : (p : KindSet) (old new : DecoderState) (piece bytes : List ℕ) (items first : List Item) → At p old bytes items → TakesPiece old piece first new → At p new (bytes ++ piece) (items ++ first) × (new.limit ≡ old.limit)
 by_piece p old new piece bytes items [] at (inl none) = (rw (none.0, none.1, append-nil bytes, append-nil items) at, ap (λ (d : DecoderState). d.limit) none.1)
 by_piece p old new piece bytes items [] (going front stands so) (inr t) =
     let feed : Feed old piece new t.0 = t.1.1 in
@@ -103,7 +103,7 @@ by_piece p old new piece bytes items (item ∷ first) (over tail broken breaks s
     let no = (feed.broken broken).0 in
     absurd cc
 
-by_pieces : (p : Profile) (old new : DecoderState) (pieces : List (List ℕ)) (bytes : List ℕ) (items more : List Item) → At p old bytes items → TakesPieces old pieces more new → At p new (bytes ++ joined pieces) (items ++ more) × (new.limit ≡ old.limit)
+by_pieces : (p : KindSet) (old new : DecoderState) (pieces : List (List ℕ)) (bytes : List ℕ) (items more : List Item) → At p old bytes items → TakesPieces old pieces more new → At p new (bytes ++ joined pieces) (items ++ more) × (new.limit ≡ old.limit)
 by_pieces p old new [] bytes items more at t = (rw (t.0, t.1, append-nil bytes, append-nil items) at, ap (λ (d : DecoderState). d.limit) t.1)
 by_pieces p old new (piece ∷ pieces) bytes items more at t =
     let first : List Item = t.0 in
@@ -114,11 +114,11 @@ by_pieces p old new (piece ∷ pieces) bytes items more at t =
     let all : (items ++ first) ++ later ≡ items ++ more = append_assoc items first later ∙ ap (λ (x : List Item). items ++ x) (sym t.2.1.0) in
     (subst (λ (x : List ℕ). At p new x (items ++ more)) (append_assoc bytes piece (joined pieces)) (subst (λ (x : List Item). At p new ((bytes ++ piece) ++ joined pieces) x) all next.0), next.1 ∙ one.1)
 
-ends_at : (p : Profile) (decoder : DecoderState) (bytes : List ℕ) (items : List Item) (end : End) → At p decoder bytes items → Finishes decoder end → ItemsIn p decoder.limit bytes items end
+ends_at : (p : KindSet) (decoder : DecoderState) (bytes : List ℕ) (items : List Item) (end : End) → At p decoder bytes items → Finishes decoder end → ItemsIn p decoder.limit bytes items end
 ends_at p decoder bytes items end (going front stands so) f = at_the_end decoder.limit bytes items front end so (f.stands p front stands)
 ends_at p decoder bytes items end (over tail broken breaks so) f = rw (f.broken broken) (at_the_end decoder.limit bytes items tail at_end.Broken so breaks)
 
-pub of_the_stream : (p : Profile) (old new : DecoderState) (pieces : List (List ℕ)) (items : List Item) (end : End) → StandsIn p old [] → TakesPieces old pieces items new → Finishes new end → ItemsIn p old.limit (joined pieces) items end
+pub of_the_stream : (p : KindSet) (old new : DecoderState) (pieces : List (List ℕ)) (items : List Item) (end : End) → StandsIn p old [] → TakesPieces old pieces items new → Finishes new end → ItemsIn p old.limit (joined pieces) items end
 of_the_stream p old new pieces items end stands takes finishes =
     let all = by_pieces p old new pieces [] [] items (going [] stands (record { frames = []; whole = refl; each = tt; are = tt })) takes in
     rw (sym all.1) (ends_at p new (joined pieces) items end all.0 finishes)

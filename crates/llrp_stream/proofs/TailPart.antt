@@ -1,5 +1,5 @@
 -- A tail, as a step of the open tree that is read.
-use Rattle.llrp_schema.specs.declared.kinds.Profile.{Profile}
+use Rattle.llrp_schema.specs.declared.kinds.KindSet.{KindSet}
 use Rattle.std.proofs.Common.{◌≡◌, ◌≢◌, ◌⊎◌, inl, inr, ℕ, zero, suc, ◌+◌, ◌-◌, ◌*◌, ◌/◌, ◌<◌, ◌≤◌, Bool, true, false, List, [], ◌∷◌, ◌++◌, length, take, drop, Some, refl, sym, ap, subst, ◌∙◌, arith, append_assoc, length-append, length-drop}
 use Rattle.std.specs.Prelude.{min, nat_le}
 use Rattle.std.specs.Str.{IsUtf8, is_utf8}
@@ -30,21 +30,21 @@ use Rattle.llrp_tree.proofs.Leading.{length-fields, drop_all}
 use Rattle.llrp_tree.proofs.LengthLemmas.{length-message_head, length-tlv, length-tv}
 use Rattle.llrp_tree.proofs.ReadDigits.{length-octets_at, number_own, drop_own}
 use Rattle.llrp_tree.proofs.LastPart.{tail_turn}
-use Rattle.llrp_tree.proofs.ReadingLemmas.{tells}
 use Rattle.llrp_tree.proofs.Growing.{grow_tail}
 use Rattle.llrp_stream.specs.declared.engine.body_reader.BodyReader.{BodyReader}
 use Rattle.llrp_stream.specs.declared.engine.body_reader.Stage.{Stage}
 use Rattle.llrp_stream.specs.declared.engine.body_reader.Stage.TheVariants as stage
 use Rattle.llrp_stream.specs.Calls.Front.{Reaches, IsUndecided}
-use Rattle.llrp_stream.specs.Private.Front.{TellsAll}
+use Rattle.llrp_stream.specs.Private.Front.{TellsAt, TellsFor}
 use Rattle.llrp_stream.specs.Calls.Received.{AreWhole, IsBeforeTail, IsInTail}
 use Rattle.llrp_stream.specs.Private.Tails.{HasWhole}
 use Rattle.llrp_stream.specs.Calls.Reading.{HasReadTo, bit_of, settled, IsAtStage, IsLeading, IsTailing}
 use Rattle.llrp_stream.specs.Private.Reading.{rank, work}
-use Rattle.llrp_stream.proofs.Reached.{root_tells, stands_in, reaches_in}
+use Rattle.llrp_stream.proofs.Reached.{stands_in, reaches_in}
 use Rattle.llrp_stream.proofs.Bounds.{covered_length}
 use Rattle.llrp_stream.proofs.WaitLemmas.{count_waits, tail_waits}
 use Rattle.llrp_stream.proofs.TextLemmas.{take_take, valid_is_text, valid_is, not_text}
+use Rattle.llrp_stream.proofs.FaultTrees.{tells_at}
 use Rattle.llrp_tree.proofs.Undecided.{header_covered as after_header}
 use Rattle.llrp_tree.proofs.Totality.{IsOctets, covered_octets, parent_ready as head_ready}
 
@@ -126,13 +126,14 @@ front_at (suc k) (o ∷ os) later h le =
 
 -- ---- a fault of a tail
 
-all_tell : {p : Profile} (front : List ℕ) (n : ℕ) (h : Head) (stop : ℕ) (vs : List ℕ) (outer : List Begun) (at : ℕ) (e : FrameErr) → Reaches p front n (leading h stop vs ∷ outer) at
+all_tell : {p : KindSet} (front : List ℕ) (n : ℕ) (h : Head) (stop : ℕ) (vs : List ℕ) (outer : List Begun) (at : ℕ) (e : FrameErr) → Reaches p front n (leading h stop vs ∷ outer) at
     → drop (length vs) (fields_of (kind_of_head h)) ≡ [] → has_tail (tail_of (kind_of_head h)) ≡ true
-    → ((more : List ℕ) → length (front ++ more) ≡ n → FailsFirst (tail_checks (tail_of (kind_of_head h)) (plain_values (fields_of (kind_of_head h)) vs) at stop (drop at (digits_of_bytes (front ++ more)))) e) → TellsAll p front n e
+    → ((more : List ℕ) → length (front ++ more) ≡ n → FailsFirst (tail_checks (tail_of (kind_of_head h)) (plain_values (fields_of (kind_of_head h)) vs) at stop (drop at (digits_of_bytes (front ++ more)))) e)
+    → (more : List ℕ) → length (front ++ more) ≡ n → TellsAt (digits_of_bytes (front ++ more)) (leading h stop vs ∷ outer) e
 unfolding checks
 all_tell front n h stop vs outer at e reach all has f = λ more long.
     let ds : List Bool = digits_of_bytes (front ++ more) in
-    root_tells h outer ds e reach.root (tells ds (leading h stop vs) outer at ReadTail e (stands_in front more n (leading h stop vs ∷ outer) at reach long) (tail_turn h stop vs [] outer [] at (drop at ds) all has) (f more long))
+    tells_at ds (leading h stop vs) outer at ReadTail e (stands_in front more n (leading h stop vs ∷ outer) at reach long) (tail_turn h stop vs [] outer [] at (drop at ds) all has) (f more long)
 
 text_fails : (fields : List ℕ) (at stop : ℕ) (rest : List Bool) (bit : ℕ) → at + 16 ≤ stop → tail_end Text fields at stop rest ≤ stop → is_utf8 (tail_at Text fields (stop - at) rest) ≡ false
     → at + 16 + 8 * utf8_valid_len (tail_at Text fields (stop - at) rest) ≡ bit → FailsFirst (tail_checks Text fields at stop rest) (Bad (record { bit = bit; reason = Utf8 }))
@@ -225,10 +226,10 @@ module _ (r : BodyReader) (front : List ℕ) (b : Begun) (outer : List Begun) (s
       let small = rd.bit_small in
       omega (arith, c.1, l, same, small)
 
-  pub bare_reaches : Reaches r.profile front r.octets (leading b.head b.stop b.fields ∷ outer) (8 * r.at)
+  pub bare_reaches : Reaches r.set front r.octets (leading b.head b.stop b.fields ∷ outer) (8 * r.at)
   bare_reaches =
       let place : bit_of r ≡ 8 * r.at = omega (arith, at_octet) in
-      subst (λ (n : ℕ). Reaches r.profile front r.octets (leading b.head b.stop b.fields ∷ outer) n) place (subst (λ (x : Begun). Reaches r.profile front r.octets (x ∷ outer) (bit_of r)) led.bare led.reaches)
+      subst (λ (n : ℕ). Reaches r.set front r.octets (leading b.head b.stop b.fields ∷ outer) n) place (subst (λ (x : Begun). Reaches r.set front r.octets (x ∷ outer) (bit_of r)) led.bare led.reaches)
 
   pub after_two : 2 ≤ r.at
   after_two =
@@ -242,14 +243,19 @@ module _ (r : BodyReader) (front : List ℕ) (b : Begun) (outer : List Begun) (s
   pub is_before_tail : IsBeforeTail (b ∷ outer) shape
   is_before_tail = record { node = b; outer = outer; tree_is = refl; form_is = shape_is; all_fields = all_there; untailed = ap (λ (x : Begun). x.tail) led.bare }
 
-  pub count_tells : (octets : List ℕ) (e : FrameErr) → drop r.at front ≡ octets → ((later : List Bool) → FailsFirst (tail_checks shape (plain_values (rules b) b.fields) (8 * r.at) (8 * r.top.stop) (digits_of_bytes octets ++ later)) e) → TellsAll r.profile front r.octets e
-  count_tells octets e d g =
-      all_tell front r.octets b.head b.stop b.fields outer (8 * r.at) e bare_reaches none_left has_one (λ more long.
-      let x : List Bool = digits_of_bytes octets ++ digits_of_bytes more in
-      let plain : List ℕ = plain_values (rules b) b.fields in
-      subst (λ (y : List Bool). FailsFirst (tail_checks (form b) plain (8 * r.at) b.stop y) e) (sym (behind front more octets r.at rd.before d))
-      (subst (λ (n : ℕ). FailsFirst (tail_checks (form b) plain (8 * r.at) n x) e) (sym rd.level.stop)
-      (subst (λ (t : Tail). FailsFirst (tail_checks t plain (8 * r.at) (8 * r.top.stop) x) e) (sym shape_is) (g (digits_of_bytes more)))))
+  pub count_tells : (octets : List ℕ) (e : FrameErr) → drop r.at front ≡ octets → ((later : List Bool) → FailsFirst (tail_checks shape (plain_values (rules b) b.fields) (8 * r.at) (8 * r.top.stop) (digits_of_bytes octets ++ later)) e) → TellsFor r.set (b ∷ outer) front r.octets e
+  count_tells octets e d g = record {
+    tree = leading b.head b.stop b.fields ∷ outer;
+    is = inl (ap (λ (x : Begun). x ∷ outer) led.bare);
+    root = bare_reaches.root;
+    tells =
+        all_tell front r.octets b.head b.stop b.fields outer (8 * r.at) e bare_reaches none_left has_one (λ more long.
+        let x : List Bool = digits_of_bytes octets ++ digits_of_bytes more in
+        let plain : List ℕ = plain_values (rules b) b.fields in
+        subst (λ (y : List Bool). FailsFirst (tail_checks (form b) plain (8 * r.at) b.stop y) e) (sym (behind front more octets r.at rd.before d))
+        (subst (λ (n : ℕ). FailsFirst (tail_checks (form b) plain (8 * r.at) n x) e) (sym rd.level.stop)
+        (subst (λ (t : Tail). FailsFirst (tail_checks t plain (8 * r.at) (8 * r.top.stop) x) e) (sym shape_is) (g (digits_of_bytes more)))));
+  }
 
   pub count_undecided : (octets : List ℕ) → drop r.at front ≡ octets → shape ≢ Bits → shape ≢ Data → 8 * r.at + 16 ≤ 8 * r.top.stop → length octets < 2 → IsUndecided front r.octets (settled r.stage b ∷ outer)
   count_undecided octets d ne nd room few =
@@ -258,7 +264,7 @@ module _ (r : BodyReader) (front : List ℕ) (b : Begun) (outer : List Begun) (s
       let w = count_waits front r.octets b.head b.stop b.fields outer (8 * r.at) bare_reaches none_left has_one (λ e. ne (sym shape_is ∙ e)) (λ e. nd (sym shape_is ∙ e)) (omega (arith, room, stop)) (omega (arith, lo, few)) in
       subst (λ (x : Stage). IsUndecided front r.octets (settled x b ∷ outer)) (sym s) (subst (λ (x : Begun). IsUndecided front r.octets (x ∷ outer)) (sym led.bare) w)
 
-  pub tail_begun : (octets : List ℕ) (now : BodyReader) (count left : ℕ) → drop r.at front ≡ octets → now.at ≡ r.at + count → now.bit ≡ r.bit → now.octets ≡ r.octets → now.profile ≡ r.profile
+  pub tail_begun : (octets : List ℕ) (now : BodyReader) (count left : ℕ) → drop r.at front ≡ octets → now.at ≡ r.at + count → now.bit ≡ r.bit → now.octets ≡ r.octets → now.set ≡ r.set
       → count ≡ count_octets shape → count ≤ length octets → 8 * r.at + 8 * (count + left) ≤ 8 * r.top.stop
       → ((later : List Bool) → left ≡ tail_length shape (plain_values (rules b) b.fields) (8 * r.top.stop - 8 * r.at) (digits_of_bytes octets ++ later))
       → IsTailing left now front (begin_node b.head b.stop b.fields (Some []) none) outer
@@ -276,7 +282,7 @@ module _ (r : BodyReader) (front : List ℕ) (b : Begun) (outer : List Begun) (s
         has = has_one;
         aligned = bit ∙ at_octet;
         place = at ∙ omega (arith, c, size);
-        reaches = subst (λ (q : Profile). Reaches q front now.octets (leading b.head b.stop b.fields ∷ outer) (8 * r.at)) (sym set) (subst (λ (n : ℕ). Reaches r.profile front n (leading b.head b.stop b.fields ∷ outer) (8 * r.at)) (sym same) bare_reaches);
+        reaches = subst (λ (q : KindSet). Reaches q front now.octets (leading b.head b.stop b.fields ∷ outer) (8 * r.at)) (sym set) (subst (λ (n : ℕ). Reaches r.set front n (leading b.head b.stop b.fields ∷ outer) (8 * r.at)) (sym same) bare_reaches);
         length_is = λ later. ap (λ (n : ℕ). tail_length (form b) plain (n - 8 * r.at) (drop (8 * r.at) (digits_of_bytes front) ++ later)) stop ∙ ap (λ (x : List Bool). tail_length (form b) plain (8 * r.top.stop - 8 * r.at) (x ++ later)) (drop-bytes r.at front le ∙ ap (λ (x : List ℕ). digits_of_bytes x) d)
             ∙ ap (λ (t : Tail). tail_length t plain (8 * r.top.stop - 8 * r.at) (digits_of_bytes octets ++ later)) shape_is ∙ (sym (many later) ∙ omega arith);
         inside = omega (arith, at, room, stop);
@@ -315,7 +321,7 @@ module _ (left : ℕ) (r : BodyReader) (front : List ℕ) (b : Begun) (outer : L
   text_of : form b ≡ Text → IsUtf8 t.so_far
   text_of e = subst (λ (f : Tail). AreWhole f t.so_far) e t.units
 
-  pub ended : left ≡ 0 → Reaches r.profile front r.octets (b ∷ outer) (8 * r.at)
+  pub ended : left ≡ 0 → Reaches r.set front r.octets (b ∷ outer) (8 * r.at)
   ended z =
       let le = t.before in
       reaches_in front r.octets (b ∷ outer) (8 * r.at) t.reaches.fits (omega (arith, le)) t.reaches.root (λ more long.
@@ -368,38 +374,43 @@ module _ (left : ℕ) (r : BodyReader) (front : List ℕ) (b : Begun) (outer : L
       ap (λ (k : ℕ). octets_at k (drop c rest)) (long_tail more) ∙ split_at n left (drop c rest) ∙ ap (λ (x : List ℕ). x ++ octets_at left (drop (8 * n) (drop c rest))) a ∙ ap (λ (x : List Bool). t.so_far ++ octets_at left x) far
 
   pub text_tells : (octets near : List ℕ) → drop r.at front ≡ octets → AreOctets octets → near ≡ take (min (length octets) left) octets → form b ≡ Text → 1 ≤ left → utf8_valid_len near ≡ 0 → (length near ≡ left) ⊎ (4 ≤ length near)
-      → TellsAll r.profile front r.octets (Bad (record { bit = 8 * r.at; reason = Utf8 }))
+      → TellsFor r.set (b ∷ outer) front r.octets (Bad (record { bit = 8 * r.at; reason = Utf8 }))
   text_tells octets near d are near_is e some nothing far =
       let le = t.before in
       let k : ℕ = min (length octets) left in
       let long_near : length near ≡ k = ap (λ (x : List ℕ). length x) near_is ∙ length-take-le k octets (omega arith) in
-      all_tell front r.octets b.head b.stop b.fields outer (8 * t.from) (Bad (record { bit = 8 * r.at; reason = Utf8 })) t.reaches none_more t.has (λ more long.
-      let ds : List Bool = digits_of_bytes (front ++ more) in
-      let rest : List Bool = drop (8 * t.from) ds in
-      let x : List Bool = digits_of_bytes octets ++ digits_of_bytes more in
-      let there : drop (8 * r.at) ds ≡ x = behind front more octets r.at le d in
-      let others : List ℕ = octets_at left x in
-      let many : length others ≡ left = length-octets_at left x in
-      let q : left ≡ k + (left - k) = omega arith in
-      let parts : others ≡ near ++ octets_at (left - k) (drop (8 * k) x) = ap (λ (m : ℕ). octets_at m x) q ∙ split_at k (left - k) x ∙ ap (λ (y : List ℕ). y ++ octets_at (left - k) (drop (8 * k) x)) (front_at k octets (digits_of_bytes more) are (omega arith) ∙ sym near_is) in
-      let begins : take (length near) others ≡ near = ap (λ (y : List ℕ). take (length near) y) parts ∙ take-append-le (length near) near (octets_at (left - k) (drop (8 * k) x)) (omega arith) ∙ take_all (length near) near (omega arith) in
-      let reached : (near ≡ others) ⊎ (4 ≤ length near) = elim far [ inl same ↦ inl (sym begins ∙ take_all (length near) others (omega (arith, same, many))) | inr four ↦ inr four ] in
-      let valid : IsUtf8 t.so_far = text_of e in
-      let one : 1 ≤ length others = omega (arith, many, some) in
-      let within : length near ≤ length others = omega (arith, many, long_near) in
-      let len = valid_is t.so_far near others valid begins one within nothing reached in
-      let bad = not_text t.so_far near others valid begins one within nothing reached in
-      let tail : tail_at Text plain (b.stop - 8 * t.from) rest ≡ t.so_far ++ others = ap (λ (f : Tail). tail_at f plain (b.stop - 8 * t.from) rest) (sym e) ∙ whole_tail more ∙ ap (λ (y : List Bool). t.so_far ++ octets_at left y) there in
-      let end : tail_end Text plain (8 * t.from) b.stop rest ≡ 8 * (r.at + left) = ap (λ (f : Tail). tail_end f plain (8 * t.from) b.stop rest) (sym e) ∙ end_is more in
-      let size : count_octets (form b) ≡ 2 = ap count_octets e in
-      let place = t.place in
-      let inside = t.inside in
-      let valid_len : utf8_valid_len (tail_at Text plain (b.stop - 8 * t.from) rest) ≡ length t.so_far = ap utf8_valid_len tail ∙ len in
-      subst (λ (f : Tail). FailsFirst (tail_checks f plain (8 * t.from) b.stop rest) (Bad (record { bit = 8 * r.at; reason = Utf8 }))) (sym e)
-      (text_fails plain (8 * t.from) b.stop rest (8 * r.at) (omega (arith, place, size, inside)) (omega (arith, end, inside)) (ap is_utf8 tail ∙ bad) (omega (arith, valid_len, place, size))))
+      record {
+        tree = leading b.head b.stop b.fields ∷ outer;
+        is = inr (refl, refl);
+        root = t.reaches.root;
+        tells = all_tell front r.octets b.head b.stop b.fields outer (8 * t.from) (Bad (record { bit = 8 * r.at; reason = Utf8 })) t.reaches none_more t.has (λ more long.
+            let ds : List Bool = digits_of_bytes (front ++ more) in
+            let rest : List Bool = drop (8 * t.from) ds in
+            let x : List Bool = digits_of_bytes octets ++ digits_of_bytes more in
+            let there : drop (8 * r.at) ds ≡ x = behind front more octets r.at le d in
+            let others : List ℕ = octets_at left x in
+            let many : length others ≡ left = length-octets_at left x in
+            let q : left ≡ k + (left - k) = omega arith in
+            let parts : others ≡ near ++ octets_at (left - k) (drop (8 * k) x) = ap (λ (m : ℕ). octets_at m x) q ∙ split_at k (left - k) x ∙ ap (λ (y : List ℕ). y ++ octets_at (left - k) (drop (8 * k) x)) (front_at k octets (digits_of_bytes more) are (omega arith) ∙ sym near_is) in
+            let begins : take (length near) others ≡ near = ap (λ (y : List ℕ). take (length near) y) parts ∙ take-append-le (length near) near (octets_at (left - k) (drop (8 * k) x)) (omega arith) ∙ take_all (length near) near (omega arith) in
+            let reached : (near ≡ others) ⊎ (4 ≤ length near) = elim far [ inl same ↦ inl (sym begins ∙ take_all (length near) others (omega (arith, same, many))) | inr four ↦ inr four ] in
+            let valid : IsUtf8 t.so_far = text_of e in
+            let one : 1 ≤ length others = omega (arith, many, some) in
+            let within : length near ≤ length others = omega (arith, many, long_near) in
+            let len = valid_is t.so_far near others valid begins one within nothing reached in
+            let bad = not_text t.so_far near others valid begins one within nothing reached in
+            let tail : tail_at Text plain (b.stop - 8 * t.from) rest ≡ t.so_far ++ others = ap (λ (f : Tail). tail_at f plain (b.stop - 8 * t.from) rest) (sym e) ∙ whole_tail more ∙ ap (λ (y : List Bool). t.so_far ++ octets_at left y) there in
+            let end : tail_end Text plain (8 * t.from) b.stop rest ≡ 8 * (r.at + left) = ap (λ (f : Tail). tail_end f plain (8 * t.from) b.stop rest) (sym e) ∙ end_is more in
+            let size : count_octets (form b) ≡ 2 = ap count_octets e in
+            let place = t.place in
+            let inside = t.inside in
+            let valid_len : utf8_valid_len (tail_at Text plain (b.stop - 8 * t.from) rest) ≡ length t.so_far = ap utf8_valid_len tail ∙ len in
+            subst (λ (f : Tail). FailsFirst (tail_checks f plain (8 * t.from) b.stop rest) (Bad (record { bit = 8 * r.at; reason = Utf8 }))) (sym e)
+            (text_fails plain (8 * t.from) b.stop rest (8 * r.at) (omega (arith, place, size, inside)) (omega (arith, end, inside)) (ap is_utf8 tail ∙ bad) (omega (arith, valid_len, place, size))));
+      }
 
   pub went_on : (octets near : List ℕ) (now : BodyReader) (used : ℕ) → drop r.at front ≡ octets → AreOctets octets → near ≡ take (min (length octets) left) octets → HasWhole (form b) near used
-      → now.at ≡ r.at + used → now.bit ≡ r.bit → now.octets ≡ r.octets → now.profile ≡ r.profile → IsTailing (left - used) now front (begin_node b.head b.stop b.fields (Some (t.so_far ++ take used near)) none) outer
+      → now.at ≡ r.at + used → now.bit ≡ r.bit → now.octets ≡ r.octets → now.set ≡ r.set → IsTailing (left - used) now front (begin_node b.head b.stop b.fields (Some (t.so_far ++ take used near)) none) outer
   went_on octets near now used d are near_is h at bit same set =
       let k : ℕ = min (length octets) left in
       let long_near : length near ≡ k = ap (λ (x : List ℕ). length x) near_is ∙ length-take-le k octets (omega arith) in
@@ -426,7 +437,7 @@ module _ (left : ℕ) (r : BodyReader) (front : List ℕ) (b : Begun) (outer : L
         has = t.has;
         aligned = bit ∙ t.aligned;
         place = at ∙ omega (arith, place, total);
-        reaches = subst (λ (q : Profile). Reaches q front now.octets (leading b.head b.stop b.fields ∷ outer) (8 * t.from)) (sym set) (subst (λ (m : ℕ). Reaches r.profile front m (leading b.head b.stop b.fields ∷ outer) (8 * t.from)) (sym same) t.reaches);
+        reaches = subst (λ (q : KindSet). Reaches q front now.octets (leading b.head b.stop b.fields ∷ outer) (8 * t.from)) (sym set) (subst (λ (m : ℕ). Reaches r.set front m (leading b.head b.stop b.fields ∷ outer) (8 * t.from)) (sym same) t.reaches);
         length_is = λ later. t.length_is later ∙ omega (arith, total, fits, long_near);
         inside = omega (arith, at, inside, fits, long_near);
         before = omega (arith, at, lo, le, fits, long_near);

@@ -1,12 +1,12 @@
 -- A stream has one list of items, and one end.
 use Rattle.std.proofs.Common.{◌≡◌, ℕ, List, [], ◌∷◌, ◌++◌, length, take, drop, refl, sym, ap, subst, ◌∙◌, arith, inl, inr, append_assoc}
-use Rattle.llrp_schema.specs.declared.kinds.Profile.{Profile}
+use Rattle.llrp_schema.specs.declared.kinds.KindSet.{KindSet}
 use Rattle.std.specs.List.{AllByRecursion, AllZip}
 use Rattle.std.proofs.lemmas.List.{take_at, drop_at, length-append, append-nil}
 use Rattle.llrp_tree.specs.declared.fault.Fault.{Fault}
 use Rattle.llrp_tree.specs.declared.fault.Reason.{Reason}
 use Rattle.llrp_tree.specs.Frame.{Frame}
-use Rattle.llrp_schema.specs.declared.kinds.Profile.TheVariants.{Own}
+use Rattle.llrp_schema.specs.declared.kinds.KindSet.TheVariants.{Profile}
 use Rattle.llrp_tree.proofs.Frames.{no_prefix, one_fault, not_both}
 use Rattle.llrp_stream.specs.declared.item.Item.{Item}
 use Rattle.llrp_stream.specs.declared.item.Item.TheVariants.{Msg, Bad}
@@ -18,7 +18,7 @@ use Rattle.llrp_stream.specs.Calls.StreamLaws.{IsCutInOneWay}
 use Rattle.llrp_stream.proofs.FrontLemmas.{length_field-append}
 
 -- a frame has one item
-pub same_item : (p : Profile) (limit : ℕ) (frame : List ℕ) (item other : Item) → IsItemIn p limit frame item → IsItemIn p limit frame other → item ≡ other
+pub same_item : (p : KindSet) (limit : ℕ) (frame : List ℕ) (item other : Item) → IsItemIn p limit frame item → IsItemIn p limit frame other → item ≡ other
 same_item set limit frame (Msg m) (Msg k) p q = ap Msg (no_prefix limit frame [] m k (p.own ∙ sym q.own) p.frame (subst (λ (x : List ℕ). Frame k x limit) (sym (append-nil frame)) q.frame)).0
 same_item set limit frame (Msg m) (Bad id fault) p q = absurd (not_both set limit frame m fault.bit fault.reason p.own p.frame q.1)
 same_item set limit frame (Bad id fault) (Msg k) p q = absurd (not_both set limit frame k fault.bit fault.reason q.own q.frame p.1)
@@ -81,16 +81,16 @@ pub one_cut : (stream : List ℕ) → IsCutInOneWay stream
 one_cut stream frames others end last p q = cut_once frames others p.tail q.tail end last p.each q.each (sym p.whole ∙ q.whole) p.ends q.ends
 
 -- what another reading of the same stream has after the frames that were read
-pub record AfterIn (p : Profile) (limit : ℕ) (rest : List ℕ) (items others : List Item) (end : End) : Type 0 where
+pub record AfterIn (p : KindSet) (limit : ℕ) (rest : List ℕ) (items others : List Item) (end : End) : Type 0 where
   pub more : List Item
   pub are : others ≡ items ++ more
   pub next : ItemsIn p limit rest more end
 
 -- the same of the profile
 abbrev pub After : (limit : ℕ) → (rest : List ℕ) → (items others : List Item) → End → Type 0
-After limit rest items others end = AfterIn Own limit rest items others end
+After limit rest items others end = AfterIn Profile limit rest items others end
 
-pub after_front_in : (p : Profile) (limit : ℕ) (frames : List (List ℕ)) (items : List Item) (rest : List ℕ) (gs : List (List ℕ)) (others : List Item) (tail : List ℕ) (end : End)
+pub after_front_in : (p : KindSet) (limit : ℕ) (frames : List (List ℕ)) (items : List Item) (rest : List ℕ) (gs : List (List ℕ)) (others : List Item) (tail : List ℕ) (end : End)
     → AllByRecursion IsFrame frames → AllZip (IsItemIn p limit) frames items → joined frames ++ rest ≡ joined gs ++ tail → EndsStream tail end → AllByRecursion IsFrame gs → AllZip (IsItemIn p limit) gs others
     → AfterIn p limit rest items others end
 after_front_in p limit [] [] rest gs others tail end each are e ends isg areg = record { more = others; are = refl; next = record { frames = gs; cut = record { tail = tail; whole = e; each = isg; ends = ends }; each = areg } }
@@ -108,11 +108,11 @@ after_front_in p limit (f ∷ frames) (i ∷ items) rest (g ∷ gs) (o ∷ other
     record { more = ih.more; are = ap (λ (x : Item). x ∷ others) (sym item) ∙ ap (λ (xs : List Item). i ∷ xs) ih.are; next = ih.next }
 
 pub after_front : (limit : ℕ) (frames : List (List ℕ)) (items : List Item) (rest : List ℕ) (gs : List (List ℕ)) (others : List Item) (tail : List ℕ) (end : End)
-    → AllByRecursion IsFrame frames → AllZip (IsItemIn Own limit) frames items → joined frames ++ rest ≡ joined gs ++ tail → EndsStream tail end → AllByRecursion IsFrame gs → AllZip (IsItemIn Own limit) gs others
+    → AllByRecursion IsFrame frames → AllZip (IsItemIn Profile limit) frames items → joined frames ++ rest ≡ joined gs ++ tail → EndsStream tail end → AllByRecursion IsFrame gs → AllZip (IsItemIn Profile limit) gs others
     → After limit rest items others end
-after_front = after_front_in Own
+after_front = after_front_in Profile
 
-none_of : (p : Profile) (limit : ℕ) (rest : List ℕ) (more : List Item) (a b : End) (frames : List (List ℕ)) (tail : List ℕ) → rest ≡ joined frames ++ tail → AllByRecursion IsFrame frames → EndsStream tail a → AllZip (IsItemIn p limit) frames more → EndsStream rest b → (more ≡ []) × (a ≡ b)
+none_of : (p : KindSet) (limit : ℕ) (rest : List ℕ) (more : List Item) (a b : End) (frames : List (List ℕ)) (tail : List ℕ) → rest ≡ joined frames ++ tail → AllByRecursion IsFrame frames → EndsStream tail a → AllZip (IsItemIn p limit) frames more → EndsStream rest b → (more ≡ []) × (a ≡ b)
 none_of p limit rest [] a b [] tail e each ends are end = (refl, same_end tail a b ends (subst (λ (t : List ℕ). EndsStream t b) e end))
 none_of p limit rest (i ∷ more) a b [] tail e each ends are end = absurd are
 none_of p limit rest [] a b (f ∷ frames) tail e each ends are end = absurd are
@@ -121,11 +121,11 @@ none_of p limit rest (i ∷ more) a b (f ∷ frames) tail e each ends are end =
     absurd (no_end f (joined frames ++ tail) b each.0 (subst (λ (t : List ℕ). EndsStream t b) whole end))
 
 -- nothing more is read where the stream ends
-pub none_left : {p : Profile} (limit : ℕ) (rest : List ℕ) (more : List Item) (a b : End) → ItemsIn p limit rest more a → EndsStream rest b → (more ≡ []) × (a ≡ b)
+pub none_left : {p : KindSet} (limit : ℕ) (rest : List ℕ) (more : List Item) (a b : End) → ItemsIn p limit rest more a → EndsStream rest b → (more ≡ []) × (a ≡ b)
 none_left limit rest more a b items ends = none_of _ limit rest more a b items.frames items.cut.tail items.cut.whole items.cut.each items.cut.ends items.each ends
 
 -- two lists of items of one stream are one
-pub same_items : {p : Profile} (limit : ℕ) (stream : List ℕ) (items others : List Item) (end last : End) → ItemsIn p limit stream items end → ItemsIn p limit stream others last → (others ≡ items) × (last ≡ end)
+pub same_items : {p : KindSet} (limit : ℕ) (stream : List ℕ) (items others : List Item) (end last : End) → ItemsIn p limit stream items end → ItemsIn p limit stream others last → (others ≡ items) × (last ≡ end)
 same_items limit stream items others end last p q =
     let a = after_front_in _ limit p.frames items p.cut.tail q.frames others q.cut.tail last p.cut.each p.each (sym p.cut.whole ∙ q.cut.whole) q.cut.ends q.cut.each q.each in
     let none = none_left limit p.cut.tail a.more last end a.next p.cut.ends in

@@ -9,7 +9,7 @@ use Rattle.llrp_schema.specs.declared.kinds.Kind.{Kind}
 use Rattle.llrp_schema.specs.declared.kinds.Kind.TheVariants.{Parameter}
 use Rattle.llrp_schema.specs.declared.kinds.ParamKind.{ParamKind}
 use Rattle.llrp_schema.specs.declared.kinds.Tail.{Tail}
-use Rattle.llrp_schema.specs.Schema.{profile_of, FieldRule, GroupRule, fields_of, tail_of, groups_of, bits_of, is_tv}
+use Rattle.llrp_schema.specs.Schema.{set_of_kind, FieldRule, GroupRule, fields_of, tail_of, groups_of, bits_of, is_tv}
 use Rattle.llrp_schema.specs.Calls.Schema.{field_rule}
 use Rattle.llrp_schema.proofs.TableLaws.{tv_field, tv_tail, tv_groups, field_widths, whole_octets}
 use Rattle.llrp_tree.specs.Tree.{none, and}
@@ -94,14 +94,14 @@ module _ (k : ParamKind) (short : is_tv k ≡ true) where
   -- ---- it comes next
 
   module _ (r : BodyReader) (front : List ℕ) (b : Begun) (outer : List Begun) (rd : HasReadTo r front b outer) (s : r.stage ≡ Children) (octets : List ℕ) (d : drop r.at front ≡ octets) (long : is_tv_kind r.top.kind ≡ false)
-      (passes : (later : List Bool) → (first_digit (digits_of_bytes octets ++ later) ≡ true) × KindPasses (tv_kind (profile_of r.top.kind) (digits_of_bytes octets ++ later)) (groups_of r.top.kind) b.children (length outer + 1) k) where
+      (passes : (later : List Bool) → (first_digit (digits_of_bytes octets ++ later) ≡ true) × KindPasses (tv_kind (set_of_kind r.top.kind) (digits_of_bytes octets ++ later)) (groups_of r.top.kind) b.children (length outer + 1) k) where
     here : (more : List ℕ) → drop (8 * r.at) (digits_of_bytes (front ++ more)) ≡ digits_of_bytes octets ++ digits_of_bytes more
     here more = ap (λ (n : ℕ). drop n (digits_of_bytes (front ++ more))) (let z : 8 * r.at ≡ 8 * r.at + 0 = omega arith in z) ∙ seen front more octets r.at 0 rd.before d
 
     begun_in : (more : List ℕ) → length (front ++ more) ≡ r.octets → 8 * r.at < b.stop → IsAt (digits_of_bytes (front ++ more)) (leading (tv k) b.stop [] ∷ b ∷ outer) (8 * r.at + 8)
     begun_in more long_is lt =
         let ds : List Bool = digits_of_bytes (front ++ more) in
-        let P : List Bool → Type 0 = λ rest. (first_digit rest ≡ true) × KindPasses (tv_kind (profile_of r.top.kind) rest) (groups_of r.top.kind) b.children (length outer + 1) k in
+        let P : List Bool → Type 0 = λ rest. (first_digit rest ≡ true) × KindPasses (tv_kind (set_of_kind r.top.kind) rest) (groups_of r.top.kind) b.children (length outer + 1) k in
         let g : P (drop (8 * r.at) ds) = subst P (sym (here more)) (passes (digits_of_bytes more)) in
         tv_begun ds b.head b.stop b.fields b.tail b.children outer (8 * r.at) r.top.kind (length outer) rd.level.kind refl (resting r front b outer rd s).ready (stands_now r front b outer rd s more long_is) lt long k g.0 g.1
 
@@ -119,7 +119,7 @@ module _ (k : ParamKind) (short : is_tv k ≡ true) where
 
     module _ (v : ℕ) (room : 8 * r.at + 8 + bits_of (fields_of (Parameter k)) ≤ 8 * r.top.stop) (within : 8 + bits_of (fields_of (Parameter k)) ≤ 8 * length octets)
         (is : (later : List Bool) → v ≡ number (digits_of_bytes octets ++ later) 8 (bits_of (fields_of (Parameter k)))) (fits : v < 2 ^ bits_of (fields_of (Parameter k))) where
-      pub value_reaches : Reaches r.profile front r.octets (begin_node b.head b.stop b.fields b.tail (and b.children k (v ∷ []) [] none) ∷ outer) (8 * r.at + 8 + bits_of (fields_of (Parameter k)))
+      pub value_reaches : Reaches r.set front r.octets (begin_node b.head b.stop b.fields b.tail (and b.children k (v ∷ []) [] none) ∷ outer) (8 * r.at + 8 + bits_of (fields_of (Parameter k)))
       value_reaches =
           let width = bits_are in
           let lo : length octets ≡ length front - r.at = sym (ap (λ (x : List ℕ). length x) d) ∙ length-drop r.at front in

@@ -1,5 +1,5 @@
 -- Where the engine waits for octets, the front does not decide what comes next.
-use Rattle.llrp_schema.specs.declared.kinds.Profile.{Profile}
+use Rattle.llrp_schema.specs.declared.kinds.KindSet.{KindSet}
 use Rattle.std.proofs.Common.{◌≡◌, ◌≢◌, ◌⊎◌, inl, inr, ℕ, ◌+◌, ◌*◌, ◌<◌, ◌≤◌, Bool, true, false, List, [], ◌∷◌, ◌++◌, length, drop, refl, sym, subst, arith}
 use Rattle.std.specs.Prelude.{nat_le, if◌then◌else◌}
 use Rattle.std.proofs.lemmas.Bool.{le-leb}
@@ -18,7 +18,7 @@ use Rattle.llrp_stream.proofs.Bounds.{covered_length}
 use Rattle.llrp_tree.proofs.Undecided.{deciding_is}
 
 -- the front ends before the bit that decides, whatever comes after it
-pub undecided : {p : Profile} (front : List ℕ) (n : ℕ) (b : Begun) (outer : List Begun) (at : ℕ) → Reaches p front n (b ∷ outer) at
+pub undecided : {p : KindSet} (front : List ℕ) (n : ℕ) (b : Begun) (outer : List Begun) (at : ℕ) → Reaches p front n (b ∷ outer) at
     → ((more : List ℕ) → length (front ++ more) ≡ n → (tn : NextPart) × (next_part b at (drop at (digits_of_bytes (front ++ more))) ≡ tn) × (8 * length front < deciding_of tn b at (drop at (digits_of_bytes (front ++ more)))))
     → IsUndecided front n (b ∷ outer)
 undecided front n b outer at r f = λ more long.
@@ -27,7 +27,7 @@ undecided front n b outer at r f = λ more long.
     let P : ℕ → Type 0 = λ k. 8 * length front < deciding (b ∷ outer) (drop k (digits_of_bytes (front ++ more))) in
     subst P (sym c) (subst (λ (k : ℕ). 8 * length front < k) (sym (deciding_is b outer at (drop at (digits_of_bytes (front ++ more))) w.0 c w.1)) w.2)
 
-pub field_waits : {p : Profile} (front : List ℕ) (n : ℕ) (h : Head) (stop : ℕ) (vs : List ℕ) (outer : List Begun) (at : ℕ) (r : FieldRule) (after : List FieldRule) → Reaches p front n (leading h stop vs ∷ outer) at
+pub field_waits : {p : KindSet} (front : List ℕ) (n : ℕ) (h : Head) (stop : ℕ) (vs : List ℕ) (outer : List Begun) (at : ℕ) (r : FieldRule) (after : List FieldRule) → Reaches p front n (leading h stop vs ∷ outer) at
     → drop (length vs) (fields_of (kind_of_head h)) ≡ r ∷ after → at + r.width ≤ stop → 8 * length front < at + r.width → IsUndecided front n (leading h stop vs ∷ outer)
 field_waits front n h stop vs outer at r after reach nx room lt =
     undecided front n (leading h stop vs) outer at reach (λ more long.
@@ -49,7 +49,7 @@ end_bit Text fields at stop rest h le = let a : at + 16 ≤ stop = omega arith i
 end_bit Bits fields at stop rest h le = rw (le-leb (tail_end Bits fields at stop rest) stop le) refl
 end_bit Data fields at stop rest h le = refl
 
-module _ {p : Profile} (front : List ℕ) (n : ℕ) (h : Head) (stop : ℕ) (vs : List ℕ) (outer : List Begun) (at : ℕ) (reach : Reaches p front n (leading h stop vs ∷ outer) at)
+module _ {p : KindSet} (front : List ℕ) (n : ℕ) (h : Head) (stop : ℕ) (vs : List ℕ) (outer : List Begun) (at : ℕ) (reach : Reaches p front n (leading h stop vs ∷ outer) at)
     (all : drop (length vs) (fields_of (kind_of_head h)) ≡ []) (has : has_tail (tail_of (kind_of_head h)) ≡ true) where
   pub count_waits : tail_of (kind_of_head h) ≢ Bits → tail_of (kind_of_head h) ≢ Data → at + 16 ≤ stop → 8 * length front < at + 16 → IsUndecided front n (leading h stop vs ∷ outer)
   count_waits ne nd room lt =
@@ -69,7 +69,7 @@ child_turn : (b : Begun) (at : ℕ) (rest : List Bool) (digit : Bool) → due b 
 unfolding next_part
 child_turn b at rest digit d o g f = rw (d, o, g, f) refl
 
-pub child_waits : {p : Profile} (front : List ℕ) (n : ℕ) (b : Begun) (outer : List Begun) (at : ℕ) → Reaches p front n (b ∷ outer) at → due b ≡ Rest → has_ended b.head (nat_le b.stop at) ≡ false → has_none (groups b) ≡ false
+pub child_waits : {p : KindSet} (front : List ℕ) (n : ℕ) (b : Begun) (outer : List Begun) (at : ℕ) → Reaches p front n (b ∷ outer) at → due b ≡ Rest → has_ended b.head (nat_le b.stop at) ≡ false → has_none (groups b) ≡ false
     → 8 * length front < at + 32 → ((more : List ℕ) → length (front ++ more) ≡ n → (8 * length front ≡ at) ⊎ ((first_digit (drop at (digits_of_bytes (front ++ more))) ≡ false) × (at + 32 ≤ b.stop))) → IsUndecided front n (b ∷ outer)
 child_waits front n b outer at r d o g lt f =
     undecided front n b outer at r (λ more long.

@@ -21,7 +21,7 @@ use Rattle.tag_bits.proofs.ByteLemmas.{length-bytes, bytes-append}
 use Rattle.llrp_schema.specs.declared.kinds.MsgKind.{MsgKind}
 use Rattle.llrp_tree.specs.FirstFault.{number, header_checks_in}
 use Rattle.llrp_schema.proofs.TableLaws.{message_found_in}
-use Rattle.llrp_schema.specs.declared.kinds.Profile.{Profile}
+use Rattle.llrp_schema.specs.declared.kinds.KindSet.{KindSet}
 use Rattle.llrp_tree.specs.Calls.Standing.{leading, HeaderSaysIn}
 use Rattle.llrp_tree.proofs.Telling.{all_hold}
 use Rattle.llrp_stream.specs.Calls.Front.{Reaches}
@@ -34,7 +34,7 @@ use Rattle.llrp_stream.specs.Private.Reading.{IsComplete}
 use Rattle.llrp_stream.proofs.Reached.{stands_in}
 use Rattle.llrp_stream.proofs.MoreOctets.{whole_ends, head_alone, end_alone}
 
-closed_by : {p : Profile} (h : Head) (stop : ℕ) (vs : List ℕ) (tail : Option (List ℕ)) (cs : Forest) (front : List ℕ) (limit at : ℕ) → IsHead h stop [] → root_of h [] ≡ p → stop ≡ 8 * length front → Closes (digits_of_bytes front) (begin_node h stop vs tail cs) [] at → AreOctets front → length front ≤ limit → limit ≤ MAX_LIMIT
+closed_by : {p : KindSet} (h : Head) (stop : ℕ) (vs : List ℕ) (tail : Option (List ℕ)) (cs : Forest) (front : List ℕ) (limit at : ℕ) → IsHead h stop [] → root_of h [] ≡ p → stop ≡ 8 * length front → Closes (digits_of_bytes front) (begin_node h stop vs tail cs) [] at → AreOctets front → length front ≤ limit → limit ≤ MAX_LIMIT
     → (m : MessageTree) × IsMessageOf h vs tail cs m × FrameIn p m front limit
 closed_by (message v k n id) stop vs tail cs front limit at i own e c o le most =
     let size : n ≡ length front = omega (arith, i.stops) in (
@@ -46,7 +46,7 @@ closed_by (tlv k n) stop vs tail cs front limit at i own e c o le most = absurd 
 closed_by (tv k) stop vs tail cs front limit at i own e c o le most = absurd i
 
 pub frame_of : (stands : List Begun → Type 0) (r : BodyReader) (front : List ℕ) (limit : ℕ) (w : IsComplete stands r front) → AreOctets front → r.octets ≤ limit → limit ≤ MAX_LIMIT
-    → (m : MessageTree) × IsMessageOf w.node.head w.node.fields w.node.tail w.node.children m × FrameIn r.profile m front limit
+    → (m : MessageTree) × IsMessageOf w.node.head w.node.fields w.node.tail w.node.children m × FrameIn r.set m front limit
 frame_of stands r front limit w o le most =
     let e = whole_ends stands r front w in
     let st = stands_in front [] r.octets (w.node ∷ []) (8 * r.at) w.reaches (ap (λ (x : List ℕ). length x) (append-nil front) ∙ e) in
@@ -59,10 +59,10 @@ ready_of stands r front w = record { node = w.node; outer = []; tree_is = refl; 
 
 -- ---- a header
 
-within_limit : {p : Profile} (limit : ℕ) (ds : List Bool) (v : ℕ) (k : MsgKind) (n id : ℕ) → HeaderSaysIn p limit ds v k n id → n ≤ limit
+within_limit : {p : KindSet} (limit : ℕ) (ds : List Bool) (v : ℕ) (k : MsgKind) (n id : ℕ) → HeaderSaysIn p limit ds v k n id → n ≤ limit
 within_limit limit ds v k n id s = (let a = leb-true (number ds 16 32) limit (all_hold (header_checks_in _ limit ds) s.passes).1.1.1.0 in omega (arith, s.octets_is))
 
-pub header_reaches : (p : Profile) (limit : ℕ) (header : List ℕ) (v : ℕ) (k : MsgKind) (n id : ℕ) → length header ≡ 10 → 10 ≤ n → ((later : List Bool) → HeaderSaysIn p limit (digits_of_bytes header ++ later) v k n id)
+pub header_reaches : (p : KindSet) (limit : ℕ) (header : List ℕ) (v : ℕ) (k : MsgKind) (n id : ℕ) → length header ≡ 10 → 10 ≤ n → ((later : List Bool) → HeaderSaysIn p limit (digits_of_bytes header ++ later) v k n id)
     → Reaches p header n (leading (message v k n id) (8 * n) [] ∷ []) 80
 header_reaches p limit header v k n id ten least says =
     reaches_in header n (leading (message v k n id) (8 * n) [] ∷ []) 80 (omega (arith, ten)) (omega (arith, ten)) ((message_found_in p (number (digits_of_bytes header ++ []) 6 10) k (says []).kind_is).0) (λ more long.
@@ -70,14 +70,14 @@ header_reaches p limit header v k n id ten least says =
     let h = subst (λ (x : List Bool). HeaderSaysIn p limit x v k n id) (sym (bytes-append header more)) (says (digits_of_bytes more)) in
     header_stands p limit ds v k n id h (length-bytes (header ++ more) ∙ ap (λ (x : ℕ). 8 * x) long) least)
 
-pub header_length : {p : Profile} (limit : ℕ) (header : List ℕ) (v : ℕ) (k : MsgKind) (n id : ℕ) → length header ≡ 10 → ((later : List Bool) → HeaderSaysIn p limit (digits_of_bytes header ++ later) v k n id) → (n ≡ number (digits_of_bytes header) 16 32) × (n ≤ limit)
+pub header_length : {p : KindSet} (limit : ℕ) (header : List ℕ) (v : ℕ) (k : MsgKind) (n id : ℕ) → length header ≡ 10 → ((later : List Bool) → HeaderSaysIn p limit (digits_of_bytes header ++ later) v k n id) → (n ≡ number (digits_of_bytes header) 16 32) × (n ≤ limit)
 header_length limit header v k n id ten says =
     let s = says [] in
     ((says []).octets_is ∙ sym (number_ahead header [] 16 32 (omega (arith, ten))), within_limit limit (digits_of_bytes header ++ []) v k n id s)
 
 -- ---- a message that ends with its header
 
-pub bare_complete : (stands : List Begun → Type 0) (r : BodyReader) (bytes : List ℕ) (limit : ℕ) (h : Header) → h.octets ≡ 10 → length bytes ≡ 10 → HasHeaderIn r.profile limit bytes h → fields_of (Message h.kind) ≡ [] → tail_of (Message h.kind) ≡ Absent → is_enough (groups_of (Message h.kind)) none ≡ true
+pub bare_complete : (stands : List Begun → Type 0) (r : BodyReader) (bytes : List ℕ) (limit : ℕ) (h : Header) → h.octets ≡ 10 → length bytes ≡ 10 → HasHeaderIn r.set limit bytes h → fields_of (Message h.kind) ≡ [] → tail_of (Message h.kind) ≡ Absent → is_enough (groups_of (Message h.kind)) none ≡ true
     → stands (leading (message h.version h.kind h.octets h.id) (8 * h.octets) [] ∷ []) → IsComplete stands (record r { octets = h.octets; at = 10 }) bytes
 bare_complete stands r bytes limit h e ten says fields tail enough told = record {
   node = leading (message h.version h.kind h.octets h.id) (8 * h.octets) [];

@@ -1,6 +1,6 @@
 -- What a decoder stands for, whatever it keeps.
 use Rattle.std.specs.Prelude.{◌≡◌, ℕ, ◌+◌, Bool, true, false, List, length}
-use Rattle.llrp_schema.specs.declared.kinds.Profile.{Profile}
+use Rattle.llrp_schema.specs.declared.kinds.KindSet.{KindSet}
 use Rattle.llrp_tree.specs.declared.fault.Fault.{Fault}
 use Rattle.llrp_stream.specs.Building.{Building, nodes_weight}
 use Rattle.llrp_stream.specs.Calls.Progress.{Progress}
@@ -21,7 +21,7 @@ pub data Kept : Type 0 where
 
 -- a decoder, the set of kinds that it knows, and the most octets that a frame may have
 pub record DecoderState : Type 0 where
-  pub profile : Profile
+  pub set : KindSet
   pub limit : ℕ
   pub kept : Kept
 

@@ -1,7 +1,7 @@
 //! The decoder.
 
 ghost use Rattle.std.specs.Prelude.{◌≡◌, ◌<◌, ◌≤◌, List, ℕ, [], IfOk, Err, None, Some, length, IsSome};
-ghost use Rattle.llrp_schema.specs.declared.kinds.Profile.{Profile};
+ghost use Rattle.llrp_schema.specs.declared.kinds.KindSet.{KindSet};
 ghost use Rattle.llrp_tree.specs.declared.TheConstants.{MAX_LIMIT};
 ghost use Rattle.llrp_tree.specs.declared.fault.Fault.{Fault};
 ghost use Rattle.llrp_tree.specs.Tree.{MessageTree};
@@ -11,7 +11,7 @@ ghost use Rattle.llrp_stream.specs.declared.engine.frames.Outcome.TheVariants.{W
 use crate::engine::{Builder, Frames, Outcome};
 use crate::item::{End, Fed, FeedErr, Item};
 use crate::state::State;
-use llrp_schema::Profile;
+use llrp_schema::KindSet;
 use std::alloc::Global;
 use std::marker::Model;
 
@@ -76,19 +76,19 @@ impl Decoder {
         ensures stands { Stands result [] }
         ensures limit { result.limit ≡ limit }
     {
-        Decoder::new_in(alloc, Profile::Own, limit)
+        Decoder::new_in(alloc, KindSet::Profile, limit)
     }
 
     /// A decoder of a set of kinds that was fed nothing; it takes no memory. A frame of more than
     /// `limit` octets is faulty.
-    pub fn new_in(alloc: Global, profile: Profile, limit: u32) -> Decoder
+    pub fn new_in(alloc: Global, set: KindSet, limit: u32) -> Decoder
         requires least { 10 ≤ limit }
         requires most { limit ≤ MAX_LIMIT }
-        ensures stands { StandsIn profile result [] }
+        ensures stands { StandsIn set result [] }
         ensures limit { result.limit ≡ limit }
     {
         Decoder {
-            frames: Frames::new_in(profile, limit),
+            frames: Frames::new_in(set, limit),
             builder: Builder::new(alloc),
         }
     }
@@ -102,12 +102,12 @@ impl Decoder {
         ensures stands { (front : List ℕ) → Stands self.old front
             → Feeds self.old front piece.now self.new result }
         // The same in the set of kinds that it knows.
-        ensures stands_in { (p : Profile) (front : List ℕ) → StandsIn p self.old front
+        ensures stands_in { (p : KindSet) (front : List ℕ) → StandsIn p self.old front
             → FeedsIn p self.old front piece.now self.new result }
         ensures broken { IsBroken self.old → (result ≡ Err Broken) × IsBroken self.new }
         ensures dead { IsDead self.old → (result ≡ Err Dead) × IsDead self.new }
 
-        ensures profile { self.new.profile ≡ self.old.profile }
+        ensures set { self.new.set ≡ self.old.set }
         ensures limit { self.new.limit ≡ self.old.limit }
         ensures within { IfOk result (λ fed. fed.used ≤ length piece.now) }
         ensures progress { IfOk result (λ fed. IsSome fed.item → 0 < fed.used) }
@@ -127,7 +127,7 @@ impl Decoder {
     /// How the stream ends if no more bytes follow; `Rest` counts those after the last whole frame.
     pub fn finish(&self) -> End
         ensures stands { (front : List ℕ) → Stands self.now front → EndsStream front result }
-        ensures stands_in { (p : Profile) (front : List ℕ) → StandsIn p self.now front
+        ensures stands_in { (p : KindSet) (front : List ℕ) → StandsIn p self.now front
             → EndsStream front result }
         ensures broken { IsBroken self.now → result ≡ at_end.Broken }
         ensures dead { IsDead self.now → result ≡ at_end.Dead }
@@ -141,12 +141,12 @@ impl Decoder {
     pub fn held(&self) -> u32
         ensures weight { result ≡ held_weight self.now }
         ensures within { result ≤ self.now.limit }
-        ensures front { (p : Profile) (front : List ℕ) → StandsIn p self.now front
+        ensures front { (p : KindSet) (front : List ℕ) → StandsIn p self.now front
             → result ≤ length front }
         ensures raw { raw_octets self.now.kept ≤ 16 }
-        ensures skipped { (p : Profile) (front : List ℕ) → StandsIn p self.now front
+        ensures skipped { (p : KindSet) (front : List ℕ) → StandsIn p self.now front
             → HasHeaderFaultIn p self.now.limit front → result ≡ 0 }
-        ensures decided { (p : Profile) (front : List ℕ) → StandsIn p self.now front
+        ensures decided { (p : KindSet) (front : List ℕ) → StandsIn p self.now front
             → IsDecidedIn p self.now.limit front → result ≡ 0 }
     {
         match self.frames.state {

@@ -4,7 +4,7 @@ ghost use Rattle.llrp_stream.specs.Calls.Lengths.{IsFront};
 ghost use Rattle.llrp_stream.specs.Private.Headers.{Starts};
 
 use byteorder::{BigEndian, ByteOrder};
-use llrp_schema::Profile;
+use llrp_schema::KindSet;
 use llrp_tree::{Fault, HEADER_OCTETS, Header, read_header_in};
 
 /// What the length field at the front of a stream says.
@@ -56,14 +56,14 @@ pub fn front_of(octets: &[u8]) -> Front
 
 /// Reads the header at the front of a frame of a set of kinds.
 #[inline(always)]
-pub(crate) fn start_of(profile: Profile, bytes: &[u8], limit: u32) -> FrameStart
-    ensures { Starts profile limit bytes.now result }
+pub(crate) fn start_of(set: KindSet, bytes: &[u8], limit: u32) -> FrameStart
+    ensures { Starts set limit bytes.now result }
 {
     match front_of(bytes) {
         Front::Short => FrameStart::Short,
         Front::Broken => FrameStart::Breaking,
         Front::Frame(_) if bytes.len() < HEADER_OCTETS => FrameStart::Short,
-        Front::Frame(octets) => match read_header_in(profile, bytes, limit) {
+        Front::Frame(octets) => match read_header_in(set, bytes, limit) {
             Ok(header) => FrameStart::Sound(header),
             Err(fault) => FrameStart::Faulty(FaultyHeader {
                 octets,

@@ -1,7 +1,7 @@
 //! Laws of frames and streams, and of a decoder that is fed one.
 
 ghost use Rattle.std.specs.Prelude.{List, ◌≤◌, ℕ};
-ghost use Rattle.llrp_schema.specs.declared.kinds.Profile.{Profile};
+ghost use Rattle.llrp_schema.specs.declared.kinds.KindSet.{KindSet};
 ghost use Rattle.llrp_tree.specs.Lawful.{AreOctets};
 ghost use Rattle.llrp_tree.specs.declared.TheConstants.{MAX_LIMIT};
 ghost use Rattle.llrp_stream.specs.Cuts.{IsFrame};
@@ -11,7 +11,7 @@ ghost use Rattle.llrp_stream.specs.StreamLaws.{HasOneListingIn, PiecesAreTheStre
 /// Each frame has one message or exactly one first fault, and never both.
 #[tactic(auto, using(crate::proofs::ItemLemmas::has_one_item))]
 pub fn one_item()
-    ensures { (p : Profile) (limit : ℕ) (frame : List ℕ) → limit ≤ MAX_LIMIT → AreOctets frame
+    ensures { (p : KindSet) (limit : ℕ) (frame : List ℕ) → limit ≤ MAX_LIMIT → AreOctets frame
         → IsFrame frame → HasOneItemIn p limit frame }
 {}
 
@@ -23,7 +23,7 @@ pub fn one_cut()
 /// Each stream of octets has one list of items, and one end.
 #[tactic(auto, using(crate::proofs::ItemLemmas::has_one_listing))]
 pub fn one_listing()
-    ensures { (p : Profile) (limit : ℕ) (stream : List ℕ) → limit ≤ MAX_LIMIT → AreOctets stream
+    ensures { (p : KindSet) (limit : ℕ) (stream : List ℕ) → limit ≤ MAX_LIMIT → AreOctets stream
         → HasOneListingIn p limit stream }
 {}
 
@@ -42,5 +42,5 @@ pub fn prefix_of_frames()
 
 /// More bytes only add items after those so far, for a caller that feeds them as they come.
 pub fn items_grow()
-    ensures { (p : Profile) (limit : ℕ) → ItemsGrowIn p limit }
+    ensures { (p : KindSet) (limit : ℕ) → ItemsGrowIn p limit }
 {}

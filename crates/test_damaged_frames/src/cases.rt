@@ -2,11 +2,11 @@
 
 use crate::reading::{Cut, found};
 use anyhow::{Context, Result, bail};
-use llrp_tree::Profile;
+use llrp_tree::KindSet;
 use std::alloc::Global;
 
 /// What a stream holds, read at once and octet by octet.
-fn read_both(alloc: Global, set: Profile, stream: &[u8]) -> Result<Vec<u8>> {
+fn read_both(alloc: Global, set: KindSet, stream: &[u8]) -> Result<Vec<u8>> {
     let at_once = found(alloc, set, stream, Cut::Nowhere)?;
     if found(alloc, set, stream, Cut::Everywhere)? != at_once {
         bail!("other items octet by octet than at once");
@@ -22,7 +22,7 @@ fn print_wrong(rt: &HostRuntime, what: &str, stream: &[u8]) -> Result<()> {
 }
 
 /// Prints what a stream holds.
-pub fn same(rt: &HostRuntime, set: Profile, stream: &[u8]) -> Result<()> {
+pub fn same(rt: &HostRuntime, set: KindSet, stream: &[u8]) -> Result<()> {
     match read_both(rt.alloc(), set, stream) {
         Ok(found) => {
             let text = String::from_utf8(found).ok().context("text")?;
@@ -44,7 +44,7 @@ fn is_cut_at(octets: usize, place: usize) -> bool {
 /// Whether a stream in two pieces holds what it holds at once.
 fn is_same_cut_at(
     alloc: Global,
-    set: Profile,
+    set: KindSet,
     stream: &[u8],
     place: usize,
     at_once: &[u8],
@@ -56,7 +56,7 @@ fn is_same_cut_at(
 }
 
 /// Reads a stream that is cut into two at each place.
-pub fn pieces(rt: &HostRuntime, set: Profile, stream: &[u8]) -> Result<()> {
+pub fn pieces(rt: &HostRuntime, set: KindSet, stream: &[u8]) -> Result<()> {
     let at_once = read_both(rt.alloc(), set, stream)?;
     let mut places = 0u32;
     for place in 1..stream.len() {
@@ -82,7 +82,7 @@ fn wanted(alloc: Global, octets: usize) -> Result<String> {
 }
 
 /// Reads each front of a frame that is shorter than the frame.
-pub fn cuts(rt: &HostRuntime, set: Profile, frame: &[u8]) -> Result<()> {
+pub fn cuts(rt: &HostRuntime, set: KindSet, frame: &[u8]) -> Result<()> {
     let alloc = rt.alloc();
     for octets in 0..frame.len() {
         let (front, _) = frame.split_at(octets);
@@ -101,7 +101,7 @@ pub fn cuts(rt: &HostRuntime, set: Profile, frame: &[u8]) -> Result<()> {
 
 /// Reads a stream with the octet at a place changed to each other value, and returns how many of these streams hold
 /// messages alone.
-fn changes_at(rt: &HostRuntime, set: Profile, stream: &mut Vec<u8>, place: usize) -> Result<u32> {
+fn changes_at(rt: &HostRuntime, set: KindSet, stream: &mut Vec<u8>, place: usize) -> Result<u32> {
     let Some(octet) = stream.as_slice().get(place).copied() else {
         return Ok(0);
     };
@@ -132,7 +132,7 @@ fn changes_at(rt: &HostRuntime, set: Profile, stream: &mut Vec<u8>, place: usize
 }
 
 /// Reads a stream with each single octet changed to each other value.
-pub fn changes(rt: &HostRuntime, set: Profile, stream: &[u8]) -> Result<()> {
+pub fn changes(rt: &HostRuntime, set: KindSet, stream: &[u8]) -> Result<()> {
     let mut changed = stream.to_vec(rt.alloc())?;
     let mut lawful = 0u32;
     for place in 0..stream.len() {

@@ -2,7 +2,7 @@
 
 use anyhow::{Result, bail};
 use llrp_stream::Item;
-use llrp_tree::{Fault, FrameErr, MAX_LIMIT, Message, Profile, decode_frame_in, encode_into};
+use llrp_tree::{Fault, FrameErr, KindSet, MAX_LIMIT, Message, decode_frame_in, encode_into};
 use std::alloc::Global;
 use tag_bits::get;
 
@@ -32,7 +32,7 @@ fn text_of_item(alloc: Global, item: Item, frame: &[u8]) -> Result<String> {
 }
 
 /// The text of a whole frame, as `decode_frame_in` reads it.
-fn text_of_frame(alloc: Global, set: Profile, frame: &[u8]) -> Result<String> {
+fn text_of_frame(alloc: Global, set: KindSet, frame: &[u8]) -> Result<String> {
     if frame.len() < 10 || get(frame, 16, 32) != frame.len() as u128 {
         bail!("a frame ends elsewhere than its length field says");
     }
@@ -46,7 +46,7 @@ fn text_of_frame(alloc: Global, set: Profile, frame: &[u8]) -> Result<String> {
 /// Appends the text of an item, which has to be that of the whole frame.
 pub fn push_item(
     alloc: Global,
-    set: Profile,
+    set: KindSet,
     found: &mut Vec<u8>,
     item: Item,
     frame: &[u8],

@@ -22,10 +22,10 @@ mod reading;
 
 use anyhow::{Context, Result, bail};
 use cases::{changes, cuts, pieces, same};
-use llrp_tree::Profile;
+use llrp_tree::KindSet;
 
 /// Does what a line asks for of a stream of a set of kinds.
-fn answer_in(rt: &HostRuntime, set: Profile, line: &str) -> Result<()> {
+fn answer_in(rt: &HostRuntime, set: KindSet, line: &str) -> Result<()> {
     let (what, digits) = line.split_once(' ').context("a word and digits")?;
     let stream = hex::decode(rt.alloc(), digits)?;
     match what {
@@ -40,8 +40,8 @@ fn answer_in(rt: &HostRuntime, set: Profile, line: &str) -> Result<()> {
 /// Does what a line asks for.
 fn answer(rt: &HostRuntime, line: &str) -> Result<()> {
     match line.split_once(' ') {
-        Some(("all", rest)) => answer_in(rt, Profile::Whole, rest),
-        _ => answer_in(rt, Profile::Own, line),
+        Some(("all", rest)) => answer_in(rt, KindSet::Standard, rest),
+        _ => answer_in(rt, KindSet::Profile, line),
     }
 }
 

@@ -3,7 +3,7 @@
 use crate::items::push_item;
 use anyhow::{Result, bail};
 use llrp_stream::{Decoder, FeedErr};
-use llrp_tree::{MAX_LIMIT, Profile};
+use llrp_tree::{KindSet, MAX_LIMIT};
 use std::alloc::Global;
 
 /// Where a stream is cut into pieces.
@@ -35,7 +35,7 @@ fn between(stream: &[u8], from: usize, to: usize) -> &[u8] {
 }
 
 /// What the decoder of a set of kinds finds in a stream that is cut so: each item, and how the stream ends.
-pub fn found(alloc: Global, set: Profile, stream: &[u8], cut: Cut) -> Result<Vec<u8>> {
+pub fn found(alloc: Global, set: KindSet, stream: &[u8], cut: Cut) -> Result<Vec<u8>> {
     let mut decoder = Decoder::new_in(alloc, set, MAX_LIMIT);
     let mut found = Vec::new(alloc);
     let (mut begun, mut at) = (0, 0);

@@ -1,6 +1,6 @@
 -- How far the current frame of a stream is read, whichever listener receives its parts.
 use Rattle.std.specs.Prelude.{◌≡◌, ℕ, ◌+◌, ◌*◌, ◌<◌, ◌≤◌, ◌⊎◌, Bool, true, false, List, [], ◌++◌, length, take, Option, Some, None, Result, Ok, Err}
-use Rattle.llrp_schema.specs.declared.kinds.Profile.{Profile}
+use Rattle.llrp_schema.specs.declared.kinds.KindSet.{KindSet}
 use Rattle.llrp_tree.specs.Tree.{MessageTree}
 use Rattle.llrp_tree.specs.Lawful.{AreOctets}
 use Rattle.llrp_tree.specs.FirstFault.{FirstFaultIn}
@@ -25,7 +25,7 @@ pub record IsPassed (limit id : ℕ) (body : Body) (front : List ℕ) : Type 0 w
   pub octets_are : body.reader.octets ≡ length_field front
   pub within : body.reader.octets ≤ limit
   pub id_is : id ≡ id_field front
-  pub passes : header_fault_in body.reader.profile limit front ≡ None
+  pub passes : header_fault_in body.reader.set limit front ≡ None
   pub octets : AreOctets front
 
 -- The listener received an open tree, which with the raw octets covers a front of such a frame that is not the whole frame and decides no fault of it.
@@ -38,7 +38,7 @@ abbrev pub ComesAt : (begins stands : List Begun → Type 0) → ℕ → State �
 ComesAt begins stands limit Between body front = (front ≡ []) × (body.raw.items ≡ []) × stands []
 ComesAt begins stands limit Header body front = (body.raw.items ≡ front) × (0 < length front) × (length front < 10) × IsPartial front × stands []
 ComesAt begins stands limit (Reading id) body front = IsReading begins stands limit id body front
-ComesAt begins stands limit (Skipping count header) body front = IsSkipped body.reader.profile limit count header.octets header.id header.fault front × (10 ≤ count) × (count < header.octets) × (body.raw.items ≡ []) × stands []
+ComesAt begins stands limit (Skipping count header) body front = IsSkipped body.reader.set limit count header.octets header.id header.fault front × (10 ≤ count) × (count < header.octets) × (body.raw.items ≡ []) × stands []
 ComesAt begins stands limit _ body front = ⊥
 
 -- this front came of the current frame of a stream, and the listener received what is whole in it
@@ -54,8 +54,8 @@ abbrev pub limit_of : Frames → ℕ
 limit_of frames = frames.limit
 
 -- the set of kinds whose frames are read
-abbrev pub set_of : Frames → Profile
-set_of frames = frames.body.reader.profile
+abbrev pub set_of : Frames → KindSet
+set_of frames = frames.body.reader.set
 
 -- the octets of the current frame that are kept as they are
 abbrev pub raw_of : Frames → List ℕ
@@ -88,14 +88,14 @@ abbrev pub IsIdle : Frames → Type 0
 IsIdle frames = (frames.state ≡ Between) × (frames.body.raw.items ≡ [])
 
 -- what became of a frame: the listener received its message, and has that; or it has a fault, and the listener has what it had
-abbrev pub GivesIn : Profile → (stands : List Begun → Type 0) (ends : MessageTree → List ℕ → Type 0) (rests : List ℕ → Type 0) → ℕ → List ℕ → Outcome → Type 0
+abbrev pub GivesIn : KindSet → (stands : List Begun → Type 0) (ends : MessageTree → List ℕ → Type 0) (rests : List ℕ → Type 0) → ℕ → List ℕ → Outcome → Type 0
 GivesIn p stands ends rests limit frame Whole = (m : MessageTree) × FrameIn p m frame limit × (now : List ℕ) × ends m now × rests now
 GivesIn p stands ends rests limit frame (Bad id fault) = (id ≡ id_field frame) × FirstFaultIn p frame limit fault.bit fault.reason × stands []
 
 -- what a feed took: without an outcome the whole piece, which now belongs to the front; with one the bytes up to the frame's end
 abbrev pub TakesOn : (begins stands : List Begun → Type 0) (ends : MessageTree → List ℕ → Type 0) (rests : List ℕ → Type 0) → ℕ → (front piece : List ℕ) → Frames → (used : ℕ) → Option Outcome → Type 0
 TakesOn begins stands ends rests limit front piece new used None = (used ≡ length piece) × ComesAt begins stands limit new.state new.body (front ++ piece)
-TakesOn begins stands ends rests limit front piece new used (Some outcome) = (used ≤ length piece) × IsFrame (front ++ take used piece) × GivesIn new.body.reader.profile stands ends rests limit (front ++ take used piece) outcome × IsIdle new
+TakesOn begins stands ends rests limit front piece new used (Some outcome) = (used ≤ length piece) × IsFrame (front ++ take used piece) × GivesIn new.body.reader.set stands ends rests limit (front ++ take used piece) outcome × IsIdle new
 
 abbrev pub is_skipped : State → Bool
 is_skipped (Skipping count header) = true

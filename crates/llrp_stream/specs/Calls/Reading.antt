@@ -49,7 +49,7 @@ pub record IsLeading (next : ℕ) (r : BodyReader) (front : List ℕ) (b : Begun
   pub bare : b ≡ leading b.head b.stop b.fields
   pub count : length b.fields ≡ next
   pub first_is : r.first ≡ first b.fields
-  pub reaches : Reaches r.profile front r.octets (b ∷ outer) (bit_of r)
+  pub reaches : Reaches r.set front r.octets (b ∷ outer) (bit_of r)
 
 -- Of the tail of the innermost node some octets are read, and this many are left.
 pub record IsTailing (left : ℕ) (r : BodyReader) (front : List ℕ) (b : Begun) (outer : List Begun) : Type 0 where
@@ -60,7 +60,7 @@ pub record IsTailing (left : ℕ) (r : BodyReader) (front : List ℕ) (b : Begun
   pub has : has_tail (form b) ≡ true
   pub aligned : r.bit ≡ 0
   pub place : r.at ≡ from + count_octets (form b) + length so_far
-  pub reaches : Reaches r.profile front r.octets (leading b.head b.stop b.fields ∷ outer) (8 * from)
+  pub reaches : Reaches r.set front r.octets (leading b.head b.stop b.fields ∷ outer) (8 * from)
   pub length_is : (later : List Bool) → tail_length (form b) (plain_values (rules b) b.fields) (b.stop - 8 * from) (drop (8 * from) (digits_of_bytes front) ++ later) ≡ length so_far + left
   pub inside : 8 * (r.at + left) ≤ b.stop
   pub before : r.at ≤ length front
@@ -71,7 +71,7 @@ pub record IsTailing (left : ℕ) (r : BodyReader) (front : List ℕ) (b : Begun
 pub record IsResting (r : BodyReader) (front : List ℕ) (b : Begun) (outer : List Begun) : Type 0 where
   pub ready : due b ≡ Rest
   pub aligned : r.bit ≡ 0
-  pub reaches : Reaches r.profile front r.octets (b ∷ outer) (8 * r.at)
+  pub reaches : Reaches r.set front r.octets (b ∷ outer) (8 * r.at)
 
 abbrev pub IsAtStage : Stage → BodyReader → List ℕ → Begun → List Begun → Type 0
 IsAtStage (Leading next) r front b outer = IsLeading next r front b outer

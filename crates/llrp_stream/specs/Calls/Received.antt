@@ -1,5 +1,5 @@
 -- What a listener receives of a message: an open tree, part by part.
-use Rattle.std.specs.Prelude.{◌≡◌, ℕ, ◌*◌, List, [], ◌∷◌, ◌++◌, length, drop, Option, Some, None, unwrap_or}
+use Rattle.std.specs.Prelude.{◌≡◌, ℕ, ◌*◌, ◌⊎◌, Bool, List, [], ◌∷◌, ◌++◌, length, drop, Option, Some, None, unwrap_or}
 use Rattle.std.specs.Str.{IsUtf8}
 use Rattle.llrp_schema.specs.declared.kinds.ParamKind.{ParamKind}
 use Rattle.llrp_schema.specs.declared.kinds.Kind.TheVariants.{Message, Parameter}
@@ -9,8 +9,14 @@ use Rattle.llrp_schema.specs.Schema.{FieldRule, fields_of, plain_fields_of, tail
 use Rattle.llrp_tree.specs.Tree.{Forest, none, and, Tree, MessageTree}
 use Rattle.llrp_tree.specs.Lawful.{AreInRange, IsLawfulTree, IsLawfulMessage}
 use Rattle.llrp_tree.specs.Spelling.{Head, message, tlv, tv}
-use Rattle.llrp_tree.specs.OpenTree.{Begun, kind_of_head, rules, plain_values, due, Rest, IsOpenTree, MayBegin}
-use Rattle.llrp_tree.specs.Calls.Standing.{begin_node}
+use Rattle.llrp_tree.specs.OpenTree.{Begun, kind_of_head, rules, plain_values, due, Rest, IsOpenTree, MayBegin, root_set}
+use Rattle.tag_bits.specs.Digits.{digits_of_bytes}
+use Rattle.llrp_schema.specs.declared.kinds.KindSet.{KindSet}
+use Rattle.llrp_tree.specs.declared.fault.Fault.{Fault}
+use Rattle.llrp_tree.specs.declared.fault.Reason.{Reason}
+use Rattle.llrp_tree.specs.declared.fault.Reason.TheVariants.{Utf8}
+use Rattle.llrp_tree.specs.FirstFault.{next_fault}
+use Rattle.llrp_tree.specs.Calls.Standing.{IsAt, begin_node, leading}
 
 -- one field more in the innermost node
 abbrev pub with_field : ℕ → List Begun → List Begun
@@ -116,3 +122,23 @@ pub record CanEnd (stands : List Begun → Type 0) : Type 0 where
   pub is : IsMessageOf node.head node.fields node.tail node.children message
   pub lawful : IsLawfulMessage message
   pub told : stands (node ∷ [])
+
+-- ---- a fault
+
+-- the innermost node as it was before its tail
+abbrev pub without_tail : List Begun → List Begun
+without_tail [] = []
+without_tail (b ∷ outer) = leading b.head b.stop b.fields ∷ outer
+
+-- Of the digits an open tree covers the first, and of the checks that come next in it this one fails first.
+pub record FailsAt (ds : List Bool) (t : List Begun) (bit : ℕ) (reason : Reason) : Type 0 where
+  pub at : ℕ
+  pub stands : IsAt ds t at
+  pub fails : next_fault t (drop at ds) ≡ Some (bit, reason)
+
+-- Of each frame of this many octets that begins with the front, the fault is one of this open tree; where text is no UTF-8, of the tree before that text, of which whole characters were received.
+pub record IsFaultIn (p : KindSet) (front : List ℕ) (octets : ℕ) (t : List Begun) (fault : Fault) : Type 0 where
+  pub tree : List Begun
+  pub is : (t ≡ tree) ⊎ ((fault.reason ≡ Utf8) × (without_tail t ≡ tree))
+  pub root : root_set tree ≡ p
+  pub fails : (more : List ℕ) → length (front ++ more) ≡ octets → FailsAt (digits_of_bytes (front ++ more)) tree fault.bit fault.reason

@@ -1,6 +1,6 @@
 -- Beside Calls/Frames: words of private functions.
 use Rattle.std.specs.Prelude.{◌≡◌, ℕ, ◌<◌, ◌≤◌, List, [], ◌++◌, length, take, Option, Some, None, Result, Ok, Err}
-use Rattle.llrp_schema.specs.declared.kinds.Profile.{Profile}
+use Rattle.llrp_schema.specs.declared.kinds.KindSet.{KindSet}
 use Rattle.llrp_tree.specs.declared.TheConstants.{MAX_LIMIT}
 use Rattle.llrp_tree.specs.declared.header.Header.{Header}
 use Rattle.llrp_tree.specs.Tree.{MessageTree}
@@ -45,22 +45,22 @@ Begins begins stands ends rests limit front piece new (Err failure.Memory) = Uni
 Begins begins stands ends rests limit front piece new (Err failure.Dead) = ⊥
 
 -- it skips the rest of a frame that begins so
-abbrev pub IsSkipping : Profile → ℕ → State → List ℕ → Type 0
+abbrev pub IsSkipping : KindSet → ℕ → State → List ℕ → Type 0
 IsSkipping p limit (Skipping count header) front = IsSkipped p limit count header.octets header.id header.fault front × (10 ≤ count) × (count < header.octets)
 IsSkipping p limit _ front = ⊥
 
 -- the frame has the fault
-abbrev pub IsBad : Profile → ℕ → List ℕ → Outcome → Type 0
+abbrev pub IsBad : KindSet → ℕ → List ℕ → Outcome → Type 0
 IsBad p limit frame Whole = ⊥
 IsBad p limit frame (Bad id fault) = (id ≡ id_field frame) × FirstFaultIn p frame limit fault.bit fault.reason
 
 -- what is skipped of a frame that has a fault
-abbrev pub SkipsTo : Profile → ℕ → (front piece : List ℕ) → Frames → (used : ℕ) → Option Outcome → Type 0
+abbrev pub SkipsTo : KindSet → ℕ → (front piece : List ℕ) → Frames → (used : ℕ) → Option Outcome → Type 0
 SkipsTo p limit front piece new used None = (used ≡ length piece) × IsSkipping p limit new.state (front ++ piece)
 SkipsTo p limit front piece new used (Some outcome) = (used ≤ length piece) × IsFrame (front ++ take used piece) × IsBad p limit (front ++ take used piece) outcome × (new.state ≡ Between)
 
 -- of every front that is skipped for the fault of this header, this is what is skipped
-abbrev pub Skips : Profile → ℕ → (count : ℕ) → FaultyHeader → List ℕ → Frames → Came → Type 0
+abbrev pub Skips : KindSet → ℕ → (count : ℕ) → FaultyHeader → List ℕ → Frames → Came → Type 0
 Skips p limit count header piece new came = (front : List ℕ) → IsSkipped p limit count header.octets header.id header.fault front → SkipsTo p limit front piece new came.used came.outcome
 
 -- ---- the same whatever a listener holds of earlier messages
@@ -79,11 +79,11 @@ GoesOnFrom begins0 stands0 begins stands ends id old new piece result = (was fro
 
 -- a body begins with the ten octets of its header
 abbrev pub StartsFrom : (heard begins stands : List ℕ → List Begun → Type 0) → (old new : Body) → Header → Type 0
-StartsFrom heard begins stands old new header = (was bytes : List ℕ) (limit : ℕ) → heard was [] → length bytes ≡ 10 → HasHeaderIn old.reader.profile limit bytes header → limit ≤ MAX_LIMIT
-    → BodyStands (begins was) (stands was) new bytes × (new.reader.octets ≡ header.octets) × (new.reader.profile ≡ old.reader.profile)
+StartsFrom heard begins stands old new header = (was bytes : List ℕ) (limit : ℕ) → heard was [] → length bytes ≡ 10 → HasHeaderIn old.reader.set limit bytes header → limit ≤ MAX_LIMIT
+    → BodyStands (begins was) (stands was) new bytes × (new.reader.octets ≡ header.octets) × (new.reader.set ≡ old.reader.set)
 
 -- the listener receives the message of a frame that is its header
-abbrev pub ReceivesFrom : Profile → (heard stands : List ℕ → List Begun → Type 0) (ends : List ℕ → MessageTree → List ℕ → Type 0) → Header → Type 0
+abbrev pub ReceivesFrom : KindSet → (heard stands : List ℕ → List Begun → Type 0) (ends : List ℕ → MessageTree → List ℕ → Type 0) → Header → Type 0
 ReceivesFrom p heard stands ends header = (was bytes : List ℕ) (limit : ℕ) → heard was [] → length bytes ≡ 10 → HasHeaderIn p limit bytes header → AreOctets bytes → limit ≤ MAX_LIMIT
     → GivesIn p (stands was) (ends was) (λ now. stands now []) limit bytes Whole
 
@@ -94,9 +94,9 @@ IsWithin heard r = (was front : List ℕ) × (limit : ℕ) × IsComplete (heard 
 -- the listener receives every such message
 abbrev pub FinishesFrom : (heard stands : List ℕ → List Begun → Type 0) (ends : List ℕ → MessageTree → List ℕ → Type 0) → BodyReader → Type 0
 FinishesFrom heard stands ends r = (was front : List ℕ) (limit : ℕ) → IsComplete (heard was) r front → AreOctets front → r.octets ≤ limit → limit ≤ MAX_LIMIT
-    → GivesIn r.profile (stands was) (ends was) (λ now. stands now []) limit front Whole
+    → GivesIn r.set (stands was) (ends was) (λ now. stands now []) limit front Whole
 
 -- the listener receives every message that is complete, and whose frame is within the limit of these frames
 abbrev pub EndsFrom : (heard stands : List ℕ → List Begun → Type 0) (ends : List ℕ → MessageTree → List ℕ → Type 0) → (old new : Frames) → Type 0
 EndsFrom heard stands ends old new = (was front : List ℕ) → IsComplete (heard was) old.body.reader front → AreOctets front → old.body.reader.octets ≤ old.limit
-    → GivesIn new.body.reader.profile (stands was) (ends was) (λ now. stands now []) old.limit front Whole
+    → GivesIn new.body.reader.set (stands was) (ends was) (λ now. stands now []) old.limit front Whole

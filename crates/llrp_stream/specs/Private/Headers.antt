@@ -1,6 +1,6 @@
 -- What the decoder reads in the first bytes of a frame.
 use Rattle.std.specs.Prelude.{◌≡◌, ℕ, ◌<◌, ◌≤◌, List, length, Some}
-use Rattle.llrp_schema.specs.declared.kinds.Profile.{Profile}
+use Rattle.llrp_schema.specs.declared.kinds.KindSet.{KindSet}
 use Rattle.llrp_tree.specs.declared.header.Header.{Header}
 use Rattle.llrp_tree.specs.Lawful.{AreOctets}
 use Rattle.llrp_tree.specs.Calls.Header.{HasHeaderIn}
@@ -12,7 +12,7 @@ use Rattle.llrp_stream.specs.Items.{id_field}
 use Rattle.llrp_stream.specs.Calls.Items.{header_fault_in}
 
 -- A whole header that fails a check.
-pub record IsFaulty (p : Profile) (limit : ℕ) (bytes : List ℕ) (header : FaultyHeader) : Type 0 where
+pub record IsFaulty (p : KindSet) (limit : ℕ) (bytes : List ℕ) (header : FaultyHeader) : Type 0 where
   pub long : 10 ≤ length bytes
   pub least : 10 ≤ header.octets
   pub octets_are : header.octets ≡ length_field bytes
@@ -20,14 +20,14 @@ pub record IsFaulty (p : Profile) (limit : ℕ) (bytes : List ℕ) (header : Fau
   pub fault_is : header_fault_in p limit bytes ≡ Some (header.fault.bit, header.fault.reason)
 
 -- A whole header that passes its checks, whatever comes after it.
-pub record IsSound (p : Profile) (limit : ℕ) (bytes : List ℕ) (header : Header) : Type 0 where
+pub record IsSound (p : KindSet) (limit : ℕ) (bytes : List ℕ) (header : Header) : Type 0 where
   pub long : 10 ≤ length bytes
   pub least : 10 ≤ header.octets
   pub says : HasHeaderIn p limit bytes header
   pub octets : AreOctets bytes
 
 -- what the first bytes of a frame say
-abbrev pub Starts : Profile → ℕ → List ℕ → FrameStart → Type 0
+abbrev pub Starts : KindSet → ℕ → List ℕ → FrameStart → Type 0
 Starts p limit bytes Short = (length bytes < 10) × IsPartial bytes
 Starts p limit bytes Breaking = Breaks bytes
 Starts p limit bytes (Faulty header) = IsFaulty p limit bytes header

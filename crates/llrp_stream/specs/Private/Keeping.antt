@@ -20,7 +20,7 @@ kept Broken body building = broken
 kept Dead body building = dead
 
 abbrev pub decoder : Frames → Building → DecoderState
-decoder frames building = record { profile = frames.body.reader.profile; limit = frames.limit; kept = kept frames.state frames.body building }
+decoder frames building = record { set = frames.body.reader.set; limit = frames.limit; kept = kept frames.state frames.body building }
 
 -- What is always so of a decoder's fields: some front came, or it keeps nothing.
 pub record IsKept (frames : Frames) (building : Building) : Type 0 where

@@ -19,18 +19,18 @@ pub record ReadOn (begins stands : List Begun → Type 0) (old new : BodyReader)
   pub are : Are begins stands new front
   pub place : new.at ≡ old.at + used
   pub same : new.octets ≡ old.octets
-  pub profile : new.profile ≡ old.profile
+  pub set : new.set ≡ old.set
   pub undecided : IsUndecided front new.octets (settled new.stage are.node ∷ are.outer)
 
 abbrev pub ReadsOn : (begins stands : List Begun → Type 0) → (old new : BodyReader) → (front octets : List ℕ) → Result ReadParts FrameErr → Type 0
-ReadsOn begins stands old new front octets (Ok read) = (read.whole ≡ false → ReadOn begins stands old new front octets read.used) × (read.whole ≡ true → IsComplete stands new front × (new.octets ≡ old.octets) × (new.profile ≡ old.profile))
-ReadsOn begins stands old new front octets (Err e) = FailsWith begins stands old.profile front old.octets e
+ReadsOn begins stands old new front octets (Ok read) = (read.whole ≡ false → ReadOn begins stands old new front octets read.used) × (read.whole ≡ true → IsComplete stands new front × (new.octets ≡ old.octets) × (new.set ≡ old.set))
+ReadsOn begins stands old new front octets (Err e) = FailsWith begins stands old.set front old.octets e
 
 -- what a feed of a piece does, which goes no further than the frame
 abbrev pub Feeds : (begins stands : List Begun → Type 0) → (old new : Body) → (front piece : List ℕ) → Result Bool FrameErr → Type 0
-Feeds begins stands old new front piece (Ok false) = Awaits begins stands new (front ++ piece) × (new.reader.octets ≡ old.reader.octets) × (new.reader.profile ≡ old.reader.profile)
-Feeds begins stands old new front piece (Ok true) = IsComplete stands new.reader (front ++ piece) × (new.reader.octets ≡ old.reader.octets) × (new.reader.profile ≡ old.reader.profile)
-Feeds begins stands old new front piece (Err e) = FailsWith begins stands old.reader.profile (front ++ piece) old.reader.octets e
+Feeds begins stands old new front piece (Ok false) = Awaits begins stands new (front ++ piece) × (new.reader.octets ≡ old.reader.octets) × (new.reader.set ≡ old.reader.set)
+Feeds begins stands old new front piece (Ok true) = IsComplete stands new.reader (front ++ piece) × (new.reader.octets ≡ old.reader.octets) × (new.reader.set ≡ old.reader.set)
+Feeds begins stands old new front piece (Err e) = FailsWith begins stands old.reader.set (front ++ piece) old.reader.octets e
 
 -- Some parts are read, and these octets are left.
 pub record ReadSoFar (begins stands : List Begun → Type 0) (old new : BodyReader) (front octets rest : List ℕ) : Type 0 where
@@ -39,7 +39,7 @@ pub record ReadSoFar (begins stands : List Begun → Type 0) (old new : BodyRead
   pub place : new.at + length rest ≡ old.at + length octets
   pub within : length rest ≤ length octets
   pub same : new.octets ≡ old.octets
-  pub profile : new.profile ≡ old.profile
+  pub set : new.set ≡ old.set
 
 -- Some octets of a piece are fed, and these are left.
 pub record FedSoFar (begins stands : List Begun → Type 0) (old new : Body) (front piece rest : List ℕ) : Type 0 where
@@ -47,7 +47,7 @@ pub record FedSoFar (begins stands : List Begun → Type 0) (old new : Body) (fr
   pub parts : piece ≡ done ++ rest
   pub are : BodyStands begins stands new (front ++ done)
   pub same : new.reader.octets ≡ old.reader.octets
-  pub profile : new.reader.profile ≡ old.reader.profile
+  pub set : new.reader.set ≡ old.reader.set
 
 -- the engine and its raw octets stand for a front of a frame, and the piece goes no further than the frame
 abbrev pub HasRoomFor : (begins stands : List ℕ → List Begun → Type 0) → Body → List ℕ → Type 0

@@ -1,9 +1,9 @@
 -- Beside Calls/Reading: words of private functions.
 use Rattle.std.specs.Prelude.{Some, nat_le, ◌≡◌, ℕ, ◌+◌, ◌-◌, ◌*◌, ◌/◌, ◌<◌, ◌≤◌, ◌⊎◌, Bool, true, false, List, [], ◌∷◌, ◌++◌, length, drop, Result, Ok, Err, Option, IfOk, MatchResult}
 use Rattle.tag_bits.specs.Digits.{digits_of_bytes}
-use Rattle.llrp_schema.specs.declared.kinds.Profile.{Profile}
-use Rattle.llrp_schema.specs.declared.kinds.Profile.TheVariants.{Own}
-use Rattle.llrp_schema.specs.Schema.{GroupRule, bits_of, fields_of, groups_of, is_tv, profile_of, tail_of}
+use Rattle.llrp_schema.specs.declared.kinds.KindSet.{KindSet}
+use Rattle.llrp_schema.specs.declared.kinds.KindSet.TheVariants.{Profile, Standard}
+use Rattle.llrp_schema.specs.Schema.{GroupRule, bits_of, fields_of, groups_of, is_tv, set_of_kind, tail_of}
 use Rattle.llrp_schema.specs.declared.kinds.Tail.TheVariants.{Absent}
 use Rattle.llrp_tree.specs.declared.TheConstants.{MAX_LIMIT}
 use Rattle.llrp_tree.specs.declared.fault.FrameErr.{FrameErr}
@@ -12,7 +12,7 @@ use Rattle.llrp_schema.specs.declared.kinds.Kind.{Kind}
 use Rattle.llrp_schema.specs.declared.kinds.Kind.TheVariants.{Parameter}
 use Rattle.llrp_stream.specs.declared.engine.stack.Placed.{Placed}
 use Rattle.llrp_schema.specs.declared.kinds.ParamKind.{ParamKind}
-use Rattle.llrp_schema.specs.declared.kinds.ParamKind.TheVariants.{TagReportData}
+use Rattle.llrp_schema.specs.declared.kinds.ParamKind.TheVariants.{TagReportData, WholeTagReportData}
 use Rattle.llrp_tree.specs.declared.fault.FrameErr.TheVariants.{Bad, Memory}
 use Rattle.llrp_tree.specs.declared.fault.Reason.TheVariants.{Extra}
 use Rattle.llrp_tree.specs.FirstFault.{first_digit, tv_kind, kind_checks, tlv_checks, has_none, has_ended}
@@ -33,7 +33,7 @@ use Rattle.llrp_stream.specs.Calls.Reading.{with_begun, AreSeen, settled, Are}
 pub record IsComplete (stands : List Begun → Type 0) (r : BodyReader) (front : List ℕ) : Type 0 where
   pub node : Begun
   pub ready : due node ≡ Rest
-  pub reaches : Reaches r.profile front r.octets (node ∷ []) (8 * r.at)
+  pub reaches : Reaches r.set front r.octets (node ∷ []) (8 * r.at)
   pub over : has_ended node.head (nat_le node.stop (8 * r.at)) ≡ true
   pub enough : is_enough (groups node) node.children ≡ true
   pub told : stands (node ∷ [])
@@ -53,7 +53,7 @@ pub record Moves (begins stands : List Begun → Type 0) (old new : BodyReader) 
   pub are : Are begins stands new front
   pub place : new.at ≡ old.at + used
   pub same : new.octets ≡ old.octets
-  pub profile : new.profile ≡ old.profile
+  pub set : new.set ≡ old.set
   pub less : work new (length octets - used) < work old (length octets)
 
 -- The next part is not whole in the octets.
@@ -62,7 +62,7 @@ pub record Waiting (begins stands : List Begun → Type 0) (old new : BodyReader
   pub are : Are begins stands new front
   pub place : new.at ≡ old.at
   pub same : new.octets ≡ old.octets
-  pub profile : new.profile ≡ old.profile
+  pub set : new.set ≡ old.set
   pub short : old.at + length octets < old.octets
   pub undecided : IsUndecided front new.octets (settled new.stage are.node ∷ are.outer)
 
@@ -70,8 +70,8 @@ pub record Waiting (begins stands : List Begun → Type 0) (old new : BodyReader
 abbrev pub Steps : (begins stands : List Begun → Type 0) → (old new : BodyReader) → (front octets : List ℕ) → Result Step FrameErr → Type 0
 Steps begins stands old new front octets (Ok Waits) = Waiting begins stands old new front octets
 Steps begins stands old new front octets (Ok (Goes used)) = Moves begins stands old new front octets used
-Steps begins stands old new front octets (Ok Ends) = IsComplete stands new front × (new.at ≡ old.at) × (new.octets ≡ old.octets) × (new.profile ≡ old.profile)
-Steps begins stands old new front octets (Err e) = FailsWith begins stands old.profile front old.octets e
+Steps begins stands old new front octets (Ok Ends) = IsComplete stands new front × (new.at ≡ old.at) × (new.octets ≡ old.octets) × (new.set ≡ old.set)
+Steps begins stands old new front octets (Err e) = FailsWith begins stands old.set front old.octets e
 
 -- A child's kind passes its checks, and these are its parent's bits once it has begun.
 pub record MayBeginThere (found : Option ParamKind) (groups : List GroupRule) (children : Forest) (level : ℕ) (placed : Placed) : Type 0 where
@@ -79,7 +79,7 @@ pub record MayBeginThere (found : Option ParamKind) (groups : List GroupRule) (c
   pub seen : AreSeen groups (with_begun children (Parameter placed.kind)) placed.seen.bits
 
 -- a check of a head fails first
-abbrev pub HeadFails : (p : Profile) (groups : List GroupRule) (children : Forest) (level at stop : ℕ) (rest : List Bool) → FrameErr → Type 0
+abbrev pub HeadFails : (p : KindSet) (groups : List GroupRule) (children : Forest) (level at stop : ℕ) (rest : List Bool) → FrameErr → Type 0
 HeadFails p groups children level at stop rest e =
     ((has_none groups ≡ true) × (e ≡ Bad (record { bit = at; reason = Extra })))
     ⊎ ((has_none groups ≡ false) × (first_digit rest ≡ true) × FailsFirst (kind_checks (tv_kind p rest) groups children level at (at + 1)) e)
@@ -91,7 +91,7 @@ pub record TakesOneValue (begins stands : List Begun → Type 0) (old new : Body
   pub are : Are begins stands new front
   pub place : new.at ≡ old.at + used
   pub same : new.octets ≡ old.octets
-  pub profile : new.profile ≡ old.profile
+  pub set : new.set ≡ old.set
 
 -- Some whole parameters of type and value were taken, or none, and these octets are left.
 pub record TakenSoFar (begins stands : List Begun → Type 0) (old new : BodyReader) (front octets rest : List ℕ) : Type 0 where
@@ -102,7 +102,7 @@ pub record TakenSoFar (begins stands : List Begun → Type 0) (old new : BodyRea
 pub record IsWholeValue (r : BodyReader) (octets : List ℕ) (children : Forest) (level : ℕ) (placed : Placed) : Type 0 where
   pub short : is_tv placed.kind ≡ true
   pub digit : (later : List Bool) → first_digit (digits_of_bytes octets ++ later) ≡ true
-  pub may_begin : (later : List Bool) → MayBeginThere (tv_kind (profile_of r.top.kind) (digits_of_bytes octets ++ later)) (groups_of r.top.kind) children level placed
+  pub may_begin : (later : List Bool) → MayBeginThere (tv_kind (set_of_kind r.top.kind) (digits_of_bytes octets ++ later)) (groups_of r.top.kind) children level placed
   pub whole : 8 + bits_of (fields_of (Parameter placed.kind)) ≤ 8 * length octets
   pub inside : 8 * r.at + 8 + bits_of (fields_of (Parameter placed.kind)) ≤ 8 * r.top.stop
 
@@ -123,18 +123,23 @@ pub record IsBare (kind : Kind) : Type 0 where
 
 -- ---- parameters of type and value in a row
 
--- The octets begin with a parameter of type and value, which has this kind.
-pub record BeginsValue (octets : List ℕ) (kind : ParamKind) : Type 0 where
+-- the TagReportData of a set of kinds
+abbrev pub report_of : KindSet → ParamKind
+report_of Profile = TagReportData
+report_of Standard = WholeTagReportData
+
+-- The octets begin with a parameter of type and value of a set, which has this kind.
+pub record BeginsValue (set : KindSet) (octets : List ℕ) (kind : ParamKind) : Type 0 where
   pub some : 1 ≤ length octets
   pub short : is_tv kind ≡ true
   pub digit : (later : List Bool) → first_digit (digits_of_bytes octets ++ later) ≡ true
-  pub found : (later : List Bool) → tv_kind Own (digits_of_bytes octets ++ later) ≡ Some kind
+  pub found : (later : List Bool) → tv_kind set (digits_of_bytes octets ++ later) ≡ Some kind
 
--- Such parameters may come next: the innermost node is a TagReportData of the message and awaits a child or its end, and this many of the octets are in it.
-pub record AwaitsValues (r : BodyReader) (octets : List ℕ) (left : ℕ) : Type 0 where
+-- Such parameters may come next: the innermost node is the set's TagReportData, a child of the message, and awaits a child or its end, and this many of the octets are in it.
+pub record AwaitsValues (set : KindSet) (r : BodyReader) (octets : List ℕ) (left : ℕ) : Type 0 where
   pub stage : r.stage ≡ Children
   pub stop : r.top.stop ≤ MAX_LIMIT
-  pub kind : r.top.kind ≡ Parameter TagReportData
+  pub kind : r.top.kind ≡ Parameter (report_of set)
   pub second : length r.outer.items ≡ 1
   pub within : left ≤ length octets
   pub near : r.at + left ≤ r.top.stop
@@ -156,7 +161,7 @@ pub record TakesValues (begins0 stands0 begins stands : List ℕ → List Begun 
 -- ---- the head of a child
 
 -- what is read of a head
-abbrev pub HeadSays : (p : Profile) (groups : List GroupRule) (children : Forest) (level at stop : ℕ) (rest : List Bool) (octets : List ℕ) → Result Child FrameErr → Type 0
+abbrev pub HeadSays : (p : KindSet) (groups : List GroupRule) (children : Forest) (level at stop : ℕ) (rest : List Bool) (octets : List ℕ) → Result Child FrameErr → Type 0
 HeadSays p groups children level at stop rest octets (Ok child.Unfinished) = (length octets < 4) × (at + 8 * length octets < stop) × (has_none groups ≡ false) × ((octets ≡ []) ⊎ ((first_digit rest ≡ false) × (at + 32 ≤ stop)))
 HeadSays p groups children level at stop rest octets (Ok (child.Short placed)) = (1 ≤ length octets) × (has_none groups ≡ false) × (first_digit rest ≡ true) × KindPasses (tv_kind p rest) groups children level placed.kind × AreSeen groups (with_begun children (Parameter placed.kind)) placed.seen.bits
 HeadSays p groups children level at stop rest octets (Ok (child.Long placed size)) = (4 ≤ length octets) × (has_none groups ≡ false) × (first_digit rest ≡ false) × TlvPasses p groups children level at stop rest placed.kind size × AreSeen groups (with_begun children (Parameter placed.kind)) placed.seen.bits
@@ -164,7 +169,7 @@ HeadSays p groups children level at stop rest octets (Err e) = HeadFails p group
 
 -- whatever children the bits of the groups are of, and whatever comes later, this is read of a head
 abbrev pub HeadIs : Kind → (seen level at stop : ℕ) → List ℕ → Result Child FrameErr → Type 0
-HeadIs parent seen level at stop octets result = (children : Forest) (later : List Bool) → AreSeen (groups_of parent) children seen → HeadSays (profile_of parent) (groups_of parent) children level (8 * at) (8 * stop) (digits_of_bytes octets ++ later) octets result
+HeadIs parent seen level at stop octets result = (children : Forest) (later : List Bool) → AreSeen (groups_of parent) children seen → HeadSays (set_of_kind parent) (groups_of parent) children level (8 * at) (8 * stop) (digits_of_bytes octets ++ later) octets result
 
 -- whatever children they are of, a child of this kind may begin in the parent, or the error is the first check that it fails
 abbrev pub PlacesKind : Option ParamKind → Kind → (seen level at type_at : ℕ) → Result Placed FrameErr → Type 0

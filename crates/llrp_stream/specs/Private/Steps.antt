@@ -47,7 +47,7 @@ MovesOn heard begins stands old new octets used = Wherever heard old octets (λ 
 
 -- wherever it has come, the error is the fault of the frame, or that memory ran out
 abbrev pub FailsOn : (heard begins stands : List ℕ → List Begun → Type 0) → BodyReader → List ℕ → FrameErr → Type 0
-FailsOn heard begins stands old octets error = Wherever heard old octets (λ was front. FailsWith (begins was) (stands was) old.profile front old.octets error)
+FailsOn heard begins stands old octets error = Wherever heard old octets (λ was front. FailsWith (begins was) (stands was) old.set front old.octets error)
 
 -- wherever a field of this rule is the next one, this is what a step does
 abbrev pub StepsOnField : (heard begins stands : List ℕ → List Begun → Type 0) → (old new : BodyReader) → List ℕ → (next : ℕ) → FieldRule → Result Step FrameErr → Type 0
@@ -62,7 +62,7 @@ StepsInto heard begins stands old new child used stop result = (octets was front
     → drop old.at front ≡ octets
     → kind_of_head h ≡ Parameter child.kind
     → AreSeen (groups_of old.top.kind) (with_begun b.children (Parameter child.kind)) child.seen.bits
-    → Reaches old.profile front old.octets (leading h (8 * stop) [] ∷ b ∷ outer) (8 * (old.at + used))
+    → Reaches old.set front old.octets (leading h (8 * stop) [] ∷ b ∷ outer) (8 * (old.at + used))
     → used ≤ length octets
     → Steps (begins was) (stands was) old new front octets result
 

@@ -1,12 +1,13 @@
 //! Begins the most frequent children of messages, which have neither fields nor a tail, in one step.
-//! `Reader::begin` is the general way. Here the kind is known, so the compiler knows its place and its name, and
+//! `BodyReader::begin` is the general way. Here the kind is known, so the compiler knows its place and its name, and
 //! the head, the fields and the tail are one step in place of three.
 
 ghost use Rattle.std.specs.Prelude.{◌≡◌, ◌<◌, ◌≤◌, ℕ, List, IfErr, IfOk, OnOk, Ok, Some, length, true, false};
-ghost use Rattle.llrp_schema.specs.declared.kinds.Kind.TheVariants.{Parameter};
+ghost use Rattle.llrp_schema.specs.declared.kinds.Kind.TheVariants.{Message, Parameter};
+ghost use Rattle.llrp_schema.specs.declared.kinds.MsgKind.TheVariants.{WholeRoAccessReport};
 ghost use Rattle.llrp_schema.specs.declared.kinds.ParamKind.TheVariants.{ReaderEventNotificationData};
 ghost use Rattle.llrp_schema.specs.declared.kinds.Tail.TheVariants.{Absent};
-ghost use Rattle.llrp_schema.specs.Schema.{fields_of, profile_of, tail_of, tlv_in};
+ghost use Rattle.llrp_schema.specs.Schema.{fields_of, set_of_kind, tail_of, tlv_in};
 ghost use Rattle.llrp_tree.specs.declared.TheConstants.{MAX_LIMIT};
 ghost use Rattle.llrp_tree.specs.declared.fault.FrameErr.TheVariants.{Memory};
 ghost use Rattle.llrp_tree.specs.Private.Standing.{is_tv_kind};
@@ -71,7 +72,7 @@ impl BodyReader {
         requires long { is_tv_kind self.old.top.kind ≡ false }
         requires parent { self.old.top.kind ≡ parent }
         requires first { length self.old.outer.items ≡ 0 }
-        requires known { tlv_in (profile_of parent) number ≡ Some kind }
+        requires known { tlv_in (set_of_kind parent) number ≡ Some kind }
         requires few { number < 1024 }
         requires bare { IsBare (Parameter kind) }
         ensures moves { IfOk result (λ used. 0 < used → MovesOn (L.stands listener.old)
@@ -98,6 +99,37 @@ impl BodyReader {
         self.enter(listener, Placed { kind, seen }, 4, stop)?;
         self.bare(listener)?;
         Ok(4)
+    }
+
+    /// Begins a tag report of the whole standard in the same way, by a call, so that the reader of the profile's
+    /// frames stays small.
+    #[inline(never)]
+    fn begin_whole_report<L: Listener>(
+        &mut self,
+        listener: &mut L,
+        octets: &[u8],
+    ) -> Result<usize, FrameErr>
+        requires stage { self.old.stage ≡ Stage.Children }
+        requires stop { self.old.top.stop ≤ MAX_LIMIT }
+        requires some { HasCome (L.stands listener.old) self.old }
+        requires room { self.old.at < self.old.top.stop }
+        requires long { is_tv_kind self.old.top.kind ≡ false }
+        requires parent { self.old.top.kind ≡ Message WholeRoAccessReport }
+        requires first { length self.old.outer.items ≡ 0 }
+        ensures moves { IfOk result (λ used. 0 < used → MovesOn (L.stands listener.old)
+            (L.begins listener.new) (L.stands listener.new) self.old self.new octets.now used) }
+        ensures none { result ≡ Ok 0 → (self.new ≡ self.old) × (listener.new ≡ listener.old) }
+        ensures fails { IfErr result (FailsOn (L.stands listener.old) (L.begins listener.new)
+            (L.stands listener.new) self.old octets.now) }
+        ensures rests { IfOk result (λ used. Rests self.new) }
+    {
+        self.begin_bare(
+            listener,
+            octets,
+            Kind::Message(MsgKind::WholeRoAccessReport),
+            240,
+            ParamKind::WholeTagReportData,
+        )
     }
 
     /// Begins the one child of the most frequent messages, if it comes next, its head is whole and it
@@ -134,6 +166,10 @@ impl BodyReader {
                 240,
                 ParamKind::TagReportData,
             ),
+            MsgKind::WholeRoAccessReport => {
+                let used = self.begin_whole_report(listener, octets)?;
+                Ok(used)
+            }
             MsgKind::ReaderEventNotification => self.begin_bare(
                 listener,
                 octets,
@@ -163,7 +199,7 @@ impl BodyReader {
         requires long { is_tv_kind self.old.top.kind ≡ false }
         requires parent { self.old.top.kind ≡ parent }
         requires second { length self.old.outer.items ≡ 1 }
-        requires known { tlv_in (profile_of parent) number ≡ Some kind }
+        requires known { tlv_in (set_of_kind parent) number ≡ Some kind }
         requires few { number < 1024 }
         ensures moves { IfOk result (λ used. 0 < used → MovesOn (L.stands listener.old)
             (L.begins listener.new) (L.stands listener.new) self.old self.new octets.now used) }
@@ -239,6 +275,7 @@ impl BodyReader {
         if head > 0 {
             return Ok(Step::Goes(head));
         }
-        self.begin(listener, octets)
+        let step = self.begin(listener, octets)?;
+        Ok(step)
     }
 }

@@ -7,7 +7,7 @@ ghost use Rattle.llrp_stream.specs.Private.Pieces.{FeedsFrom, HasRoomFor};
 use crate::engine::body_reader::BodyReader;
 use crate::engine::listener::Listener;
 use arrayvec::ArrayVec;
-use llrp_schema::Profile;
+use llrp_schema::KindSet;
 use llrp_tree::FrameErr;
 
 /// How far the body of a frame was read, and the octets of the part that is not whole yet.
@@ -31,12 +31,12 @@ fn kept(octets: &[u8]) -> ArrayVec<u8, 16>
 
 impl Body {
     /// A body of a frame of a set of kinds, of which nothing was read.
-    pub(crate) fn new(profile: Profile) -> Body
+    pub(crate) fn new(set: KindSet) -> Body
         ensures raw { result.raw.items ≡ [] }
-        ensures profile { result.reader.profile ≡ profile }
+        ensures set { result.reader.set ≡ set }
     {
         Body {
-            reader: BodyReader::new(profile),
+            reader: BodyReader::new(set),
             raw: ArrayVec::new(),
         }
     }

@@ -18,7 +18,7 @@ use crate::engine::listener::Listener;
 use crate::engine::stack::{Child, Placed, StackNode, begun, child_head, is_enough};
 use crate::engine::tail::is_absent;
 use arrayvec::ArrayVec;
-use llrp_schema::{Field, Kind, Profile};
+use llrp_schema::{Field, Kind, KindSet};
 use llrp_tree::numbers::from_bit;
 use llrp_tree::{Fault, FrameErr, LEVELS, Reason};
 
@@ -56,7 +56,7 @@ pub(crate) struct ReadParts {
 #[derive(Drop)]
 pub(crate) struct BodyReader {
     /// The set of kinds that the frame is of.
-    pub(crate) profile: Profile,
+    pub(crate) set: KindSet,
     /// The octets of the frame.
     pub(crate) octets: u32,
     /// The octet at which the next part begins, and the bit in it.
@@ -129,11 +129,11 @@ fn is_tv_kind(kind: Kind) -> bool
 
 impl BodyReader {
     /// A reader of frames of a set of kinds that has read nothing.
-    pub(crate) fn new(profile: Profile) -> BodyReader
-        ensures { result.profile ≡ profile }
+    pub(crate) fn new(set: KindSet) -> BodyReader
+        ensures { result.set ≡ set }
     {
         BodyReader {
-            profile,
+            set,
             octets: 0,
             at: 0,
             bit: 0,
@@ -264,7 +264,7 @@ impl BodyReader {
         ensures place { OnOk result (self.new.at ≡ self.old.at + used) }
     {
         let level = self.outer.len() as u8 + 1;
-        listener.parameter(level, child.kind)?;
+        listener.parameter(level, child.kind, stop)?;
         self.top.seen = child.seen;
         self.outer.push(self.top);
         self.top = begun(Kind::Parameter(child.kind), stop);
@@ -274,8 +274,8 @@ impl BodyReader {
         Ok(Step::Goes(used as usize))
     }
 
-    /// Begins a child of the innermost node.
-    #[inline(always)]
+    /// Begins a child of the innermost node. It is a call, so that `child_or_end` stays small enough to be inlined.
+    #[inline(never)]
     pub(crate) fn begin<L: Listener>(
         &mut self,
         listener: &mut L,

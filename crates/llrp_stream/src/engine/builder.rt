@@ -97,7 +97,7 @@ impl Listener for Builder {
         Ok(())
     }
 
-    fn parameter(&mut self, _level: u8, kind: ParamKind) -> Result<(), AllocError> {
+    fn parameter(&mut self, _level: u8, kind: ParamKind, _stop: u32) -> Result<(), AllocError> {
         self.nodes.begin(self.alloc, Kind::Parameter(kind));
         Ok(())
     }

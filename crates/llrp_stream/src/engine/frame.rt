@@ -43,7 +43,7 @@ pub(crate) fn start<L: Listener>(
     requires least { 10 ≤ header.now.octets }
     requires told { (was : List ℕ) × L.stands listener.old was [] }
     requires raw { body.old.raw.items ≡ [] }
-    ensures profile { body.new.reader.profile ≡ body.old.reader.profile }
+    ensures set { body.new.reader.set ≡ body.old.reader.set }
     ensures stands { OnOk result (StartsFrom (L.stands listener.old) (L.begins listener.new)
         (L.stands listener.new) body.old body.new header.now) }
 {
@@ -89,10 +89,10 @@ pub(crate) fn receive_bare<L: Listener>(
 ) -> Result<bool, AllocError>
     requires told { (was : List ℕ) × L.stands listener.old was [] }
     requires says { (bytes : List ℕ) × (limit : ℕ) × (length bytes ≡ 10)
-        × HasHeaderIn _reader.now.profile limit bytes header.now × AreOctets bytes
+        × HasHeaderIn _reader.now.set limit bytes header.now × AreOctets bytes
         × (limit ≤ MAX_LIMIT) }
     ensures ends { result ≡ Ok true → header.now.octets ≡ 10 }
-    ensures gives { result ≡ Ok true → ReceivesFrom _reader.now.profile (L.stands listener.old)
+    ensures gives { result ≡ Ok true → ReceivesFrom _reader.now.set (L.stands listener.old)
         (L.stands listener.new) (L.ends listener.new) header.now }
     ensures none { result ≡ Ok false → listener.new ≡ listener.old }
 {

@@ -1,8 +1,8 @@
 //! Reads the frames of a stream, one after another, for any listener.
 
 ghost use Rattle.std.specs.Prelude.{◌≡◌, ◌+◌, ◌^◌, ◌<◌, ◌≤◌, ℕ, List, [], Some, Err, IfErr, IfOk, IsSome, OnOk, length};
-ghost use Rattle.llrp_schema.specs.declared.kinds.Profile.{Profile};
-ghost use Rattle.llrp_schema.specs.declared.kinds.Profile.TheVariants.{Own};
+ghost use Rattle.llrp_schema.specs.declared.kinds.KindSet.{KindSet};
+ghost use Rattle.llrp_schema.specs.declared.kinds.KindSet.TheVariants.{Profile};
 ghost use Rattle.llrp_tree.specs.declared.TheConstants.{MAX_LIMIT};
 ghost use Rattle.llrp_stream.specs.declared.item.FeedErr.TheVariants as failure;
 ghost use Rattle.llrp_stream.specs.declared.state.State.TheVariants as State;
@@ -24,7 +24,7 @@ use crate::engine::listener::Listener;
 use crate::header::{FaultyHeader, FrameStart, start_of};
 use crate::item::{End, FeedErr};
 use crate::state::{State, before_body};
-use llrp_schema::Profile;
+use llrp_schema::KindSet;
 use llrp_tree::{Fault, FrameErr, HEADER_OCTETS, Header};
 
 /// What a frame turned out to be.
@@ -69,24 +69,24 @@ fn after(came: Came, taken: usize) -> Came
 impl Frames {
     /// Frames of the profile of which nothing was read. A frame of more than `limit` octets is faulty.
     pub fn new(limit: u32) -> Frames
-        ensures set { set_of result ≡ Own }
+        ensures set { set_of result ≡ Profile }
         ensures limit { limit_of result ≡ limit }
         ensures idle { IsIdle result }
     {
-        Frames::new_in(Profile::Own, limit)
+        Frames::new_in(KindSet::Profile, limit)
     }
 
     /// Frames of a set of kinds of which nothing was read. A frame of more than `limit` octets is
     /// faulty.
-    pub fn new_in(profile: Profile, limit: u32) -> Frames
-        ensures set { set_of result ≡ profile }
+    pub fn new_in(set: KindSet, limit: u32) -> Frames
+        ensures set { set_of result ≡ set }
         ensures limit { limit_of result ≡ limit }
         ensures idle { IsIdle result }
     {
         Frames {
             limit,
             state: State::Between,
-            body: Body::new(profile),
+            body: Body::new(set),
         }
     }
 
@@ -129,7 +129,7 @@ impl Frames {
         ensures progress { count < header.octets → IsSome result.outcome → 0 < result.used }
         ensures limit { self.new.limit ≡ self.old.limit }
         ensures body { self.new.body ≡ self.old.body }
-        ensures skips { (p : Profile) (limit : ℕ) → Skips p limit count header piece.now self.new
+        ensures skips { (p : KindSet) (limit : ℕ) → Skips p limit count header piece.now self.new
             result }
     {
         let left = header.octets - count;
@@ -164,15 +164,15 @@ impl Frames {
         ensures within { result.used ≤ length piece.now }
         ensures progress { count < header.octets → IsSome result.outcome → 0 < result.used }
         ensures limit { self.new.limit ≡ self.old.limit }
-        ensures profile { self.new.body.reader.profile ≡ self.old.body.reader.profile }
+        ensures set { self.new.body.reader.set ≡ self.old.body.reader.set }
         ensures raw { self.new.body.raw.items ≡ [] }
-        ensures skips { (p : Profile) → Skips p self.old.limit count header piece.now self.new
+        ensures skips { (p : KindSet) → Skips p self.old.limit count header piece.now self.new
             result }
-        ensures told { (was : List ℕ)
-            → Remains (L.begins listener.old was) (L.stands listener.old was)
+        ensures told { (was : List ℕ) (p : KindSet) (front : List ℕ) (octets : ℕ)
+            → Remains (L.begins listener.old was) (L.stands listener.old was) p front octets header.fault
             → L.stands listener.new was [] }
     {
-        listener.give_up();
+        listener.fault(header.fault);
         self.body.raw.clear();
         self.skip(count, header, piece)
     }
@@ -190,14 +190,14 @@ impl Frames {
             × IsBegun (L.begins listener.old was) (L.stands listener.old was) self.old.limit id
             self.old.body front }
         ensures limit { self.new.limit ≡ self.old.limit }
-        ensures profile { self.new.body.reader.profile ≡ self.old.body.reader.profile }
+        ensures set { self.new.body.reader.set ≡ self.old.body.reader.set }
         ensures within { IfOk result (λ came. came.used ≤ length piece.now) }
         ensures takes { GoesOnFrom (L.begins listener.old) (L.stands listener.old)
             (L.begins listener.new) (L.stands listener.new) (L.ends listener.new) id self.old
             self.new piece.now result }
     {
         let octets = self.body.reader.octets;
-        let profile = self.body.reader.profile;
+        let set = self.body.reader.set;
         let done = self.body.taken();
         let used = piece.len().min((octets - done) as usize);
         let (near, rest) = piece.split_at(used);
@@ -212,11 +212,11 @@ impl Frames {
             }
             // What a body keeps after an error is not said, but the next frame is of the same set.
             Err(FrameErr::Memory) => {
-                self.body.reader.profile = profile;
+                self.body.reader.set = set;
                 Err(FeedErr::Memory)
             }
             Err(FrameErr::Bad(fault)) => {
-                self.body.reader.profile = profile;
+                self.body.reader.set = set;
                 let header = FaultyHeader { octets, id, fault };
                 let came = self.give_up(listener, done + used as u32, header, rest);
                 Ok(after(came, used))
@@ -232,7 +232,7 @@ impl Frames {
             × IsComplete (L.stands listener.old was) self.old.body.reader front × AreOctets front
             × (self.old.body.reader.octets ≤ self.old.limit) }
         ensures limit { self.new.limit ≡ self.old.limit }
-        ensures profile { self.new.body.reader.profile ≡ self.old.body.reader.profile }
+        ensures set { self.new.body.reader.set ≡ self.old.body.reader.set }
         ensures idle { IfOk result (λ _. IsIdle self.new) }
         ensures came { IfOk result (λ came. came ≡ record {
           used = used;
@@ -261,11 +261,11 @@ impl Frames {
     ) -> Result<Came, FeedErr>
         requires most { self.old.limit ≤ MAX_LIMIT }
         requires whole { length self.old.body.raw.items ≡ 10 }
-        requires sound { IsSound self.old.body.reader.profile self.old.limit self.old.body.raw.items
+        requires sound { IsSound self.old.body.reader.set self.old.limit self.old.body.raw.items
             header }
         requires told { (was : List ℕ) × L.stands listener.old was [] }
         ensures limit { self.new.limit ≡ self.old.limit }
-        ensures profile { self.new.body.reader.profile ≡ self.old.body.reader.profile }
+        ensures set { self.new.body.reader.set ≡ self.old.body.reader.set }
         ensures within { IfOk result (λ came. came.used ≤ length piece.now) }
         ensures takes { OpensFrom (L.stands listener.old) (L.begins listener.new)
             (L.stands listener.new) (L.ends listener.new) self.old.limit self.old.body.raw.items
@@ -282,7 +282,7 @@ impl Frames {
         requires short { length self.old.body.raw.items < 10 }
         requires told { (was : List ℕ) × L.stands listener.old was [] }
         ensures limit { self.new.limit ≡ self.old.limit }
-        ensures profile { self.new.body.reader.profile ≡ self.old.body.reader.profile }
+        ensures set { self.new.body.reader.set ≡ self.old.body.reader.set }
         ensures within { IfOk result (λ came. came.used ≤ length piece.now) }
         ensures progress { IfOk result (λ came. IsSome came.outcome → 0 < came.used) }
         ensures takes { BeginsFrom (L.stands listener.old) (L.begins listener.new)
@@ -292,11 +292,7 @@ impl Frames {
         let used = piece.len().min(HEADER_OCTETS - self.body.raw.len());
         let (near, rest) = piece.split_at(used);
         self.body.keep(near);
-        match start_of(
-            self.body.reader.profile,
-            self.body.raw.as_slice(),
-            self.limit,
-        ) {
+        match start_of(self.body.reader.set, self.body.raw.as_slice(), self.limit) {
             FrameStart::Breaking => Err(FeedErr::Broken),
             FrameStart::Short => {
                 self.state = before_body(self.body.raw.as_slice());
@@ -329,10 +325,10 @@ impl Frames {
         requires most { self.old.limit ≤ MAX_LIMIT }
         requires fresh { self.old.body.raw.items ≡ [] }
         requires whole { length _front.now ≡ 10 }
-        requires sound { IsSound self.old.body.reader.profile self.old.limit _front.now header }
+        requires sound { IsSound self.old.body.reader.set self.old.limit _front.now header }
         requires told { (was : List ℕ) × L.stands listener.old was [] }
         ensures limit { self.new.limit ≡ self.old.limit }
-        ensures profile { self.new.body.reader.profile ≡ self.old.body.reader.profile }
+        ensures set { self.new.body.reader.set ≡ self.old.body.reader.set }
         ensures within { IfOk result (λ came. came.used ≤ length piece.now) }
         ensures takes { OpensFrom (L.stands listener.old) (L.begins listener.new)
             (L.stands listener.new) (L.ends listener.new) self.old.limit _front.now
@@ -358,7 +354,7 @@ impl Frames {
         requires whole { 10 ≤ length piece.now }
         requires told { (was : List ℕ) × L.stands listener.old was [] }
         ensures limit { self.new.limit ≡ self.old.limit }
-        ensures profile { self.new.body.reader.profile ≡ self.old.body.reader.profile }
+        ensures set { self.new.body.reader.set ≡ self.old.body.reader.set }
         ensures within { IfOk result (λ came. came.used ≤ length piece.now) }
         ensures progress { IfOk result (λ came. IsSome came.outcome → 0 < came.used) }
         ensures takes { BeginsFrom (L.stands listener.old) (L.begins listener.new)
@@ -366,7 +362,7 @@ impl Frames {
             piece.now self.new result }
     {
         let (near, rest) = piece.split_at(HEADER_OCTETS);
-        match start_of(self.body.reader.profile, near, self.limit) {
+        match start_of(self.body.reader.set, near, self.limit) {
             FrameStart::Breaking => Err(FeedErr::Broken),
             FrameStart::Short => unreachable!(),
             FrameStart::Faulty(header) => {
@@ -387,7 +383,7 @@ impl Frames {
         requires short { length self.old.body.raw.items < 10 }
         requires told { (was : List ℕ) × L.stands listener.old was [] }
         ensures limit { self.new.limit ≡ self.old.limit }
-        ensures profile { self.new.body.reader.profile ≡ self.old.body.reader.profile }
+        ensures set { self.new.body.reader.set ≡ self.old.body.reader.set }
         ensures within { IfOk result (λ came. came.used ≤ length piece.now) }
         ensures progress { IfOk result (λ came. IsSome came.outcome → 0 < came.used) }
         ensures takes { BeginsFrom (L.stands listener.old) (L.begins listener.new)
@@ -407,7 +403,7 @@ impl Frames {
         requires most { self.old.limit ≤ MAX_LIMIT }
         requires comes { Comes (L.begins listener.old) (L.stands listener.old) self.old }
         ensures limit { self.new.limit ≡ self.old.limit }
-        ensures profile { self.new.body.reader.profile ≡ self.old.body.reader.profile }
+        ensures set { self.new.body.reader.set ≡ self.old.body.reader.set }
         ensures within { IfOk result (λ came. came.used ≤ length piece.now) }
         ensures progress { IfOk result (λ came. IsSome came.outcome → 0 < came.used) }
         ensures takes { GoesFrom (L.begins listener.old) (L.stands listener.old)
@@ -428,7 +424,7 @@ impl Frames {
     /// Drops what is kept, after an error.
     fn stop(&mut self, error: FeedErr)
         ensures limit { self.new.limit ≡ self.old.limit }
-        ensures profile { self.new.body.reader.profile ≡ self.old.body.reader.profile }
+        ensures set { self.new.body.reader.set ≡ self.old.body.reader.set }
         ensures raw { self.new.body.raw.items ≡ [] }
         ensures broken { error ≡ failure.Broken → self.new.state ≡ State.Broken }
         ensures memory { error ≡ failure.Memory → self.new.state ≡ State.Dead }
@@ -451,7 +447,7 @@ impl Frames {
         // The first octets of a frame came, and the listener has what was read of it.
         requires comes { Comes (L.begins listener.old) (L.stands listener.old) self.old }
         ensures limit { limit_of self.new ≡ limit_of self.old }
-        ensures profile { set_of self.new ≡ set_of self.old }
+        ensures set { set_of self.new ≡ set_of self.old }
         ensures within { IfOk result (λ came. came.used ≤ length piece.now) }
         ensures progress { IfOk result (λ came. IsSome came.outcome → 0 < came.used) }
         ensures takes { GoesFrom (L.begins listener.old) (L.stands listener.old)

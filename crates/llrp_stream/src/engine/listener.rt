@@ -6,12 +6,14 @@ ghost use Rattle.llrp_schema.specs.Calls.Schema.{field_rule};
 ghost use Rattle.llrp_tree.specs.declared.TheConstants.{MAX_DEPTH};
 ghost use Rattle.llrp_tree.specs.Tree.{none, MessageTree};
 ghost use Rattle.llrp_tree.specs.Spelling.{Head, message, tlv, tv};
-ghost use Rattle.llrp_tree.specs.OpenTree.{Begun, kind_of_head};
+ghost use Rattle.llrp_tree.specs.OpenTree.{Begun, kind_of_head, IsOpenTree};
 ghost use Rattle.llrp_tree.specs.Calls.Standing.{leading};
 ghost use Rattle.llrp_schema.specs.declared.kinds.Kind.TheVariants.{Parameter};
-ghost use Rattle.llrp_stream.specs.Calls.Received.{with_field, with_octets, with_value, with_closed, AreWhole, CanClose, CanEnd, IsNextField, IsNextValue, IsBeforeTail, IsInTail, IsReady, IsMessageOf};
+ghost use Rattle.llrp_stream.specs.Calls.Received.{with_field, with_octets, with_value, with_closed, AreWhole, CanClose, CanEnd, IsNextField, IsNextValue, IsBeforeTail, IsInTail, IsReady, IsMessageOf, IsFaultIn};
+ghost use Rattle.llrp_schema.specs.declared.kinds.KindSet.{KindSet};
 
 use llrp_schema::{Field, MsgKind, ParamKind, Tail};
+use llrp_tree::Fault;
 use std::alloc::AllocError;
 
 /// Receives the parts of a message, in the order in which they are read.
@@ -40,14 +42,16 @@ pub trait Listener {
             → begins self.new was (leading (message version kind octets id)
             (8 * octets) [] ∷ [])) };
 
-    /// A parameter begins, this many levels below the message.
-    fn parameter(&mut self, level: u8, kind: ParamKind) -> Result<(), AllocError>
+    /// A parameter begins, this many levels below the message. It stops before this octet of the
+    /// frame.
+    fn parameter(&mut self, level: u8, kind: ParamKind, stop: u32) -> Result<(), AllocError>
         requires deep { level ≤ MAX_DEPTH }
         requires some { (was : List ℕ) × (t : List Begun) × stands self.old was t
             × (length t ≡ level) }
-        ensures { OnOk result ((was : List ℕ) (t : List Begun) (h : Head) (stop : ℕ)
+        ensures { OnOk result ((was : List ℕ) (t : List Begun) (h : Head)
             → stands self.old was t → length t ≡ level → kind_of_head h ≡ Parameter kind
-            → begins self.new was (leading h stop [] ∷ t)) };
+            → IsOpenTree (leading h (8 * stop) [] ∷ t)
+            → begins self.new was (leading h (8 * stop) [] ∷ t)) };
 
     /// The next field of the innermost node has this value.
     fn field(&mut self, rule: &Field, value: u128) -> Result<(), AllocError>
@@ -96,6 +100,15 @@ pub trait Listener {
             → stands self.old was (b ∷ []) → IsReady (b ∷ [])
             → IsMessageOf b.head b.fields b.tail b.children m → (now : List ℕ) × stands self.new now []
             × ends self.new was m now) };
+
+    /// The frame has this fault, which is that of the open tree; forgets what was received of it.
+    fn fault(&mut self, _fault: Fault)
+        ensures { (was : List ℕ) (t : List Begun) (p : KindSet) (front : List ℕ) (octets : ℕ)
+            → (begins self.old was t) ⊎ (stands self.old was t)
+            → IsFaultIn p front octets t _fault → stands self.new was [] }
+    {
+        self.give_up();
+    }
 
     /// Forgets what was received of an unfinished message.
     fn give_up(&mut self)

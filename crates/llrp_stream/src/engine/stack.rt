@@ -3,7 +3,7 @@
 ghost use Rattle.std.specs.Prelude.{◌≡◌, ◌<◌, ◌≤◌, IfErr, IfOk, IfSome, Err, Ok, Some};
 ghost use Rattle.llrp_schema.specs.declared.kinds.Kind.TheVariants.{Message};
 ghost use Rattle.llrp_schema.specs.declared.kinds.MsgKind.TheVariants.{Keepalive};
-ghost use Rattle.llrp_schema.specs.Schema.{groups_of, profile_of, tlv_in, tv_in};
+ghost use Rattle.llrp_schema.specs.Schema.{groups_of, set_of_kind, tlv_in, tv_in};
 ghost use Rattle.llrp_schema.specs.Calls.Places.{AreRequired};
 ghost use Rattle.llrp_stream.specs.declared.engine.stack.Child.TheVariants.{Long};
 ghost use Rattle.llrp_tree.specs.declared.TheConstants.{MAX_LIMIT};
@@ -14,7 +14,7 @@ ghost use Rattle.llrp_stream.specs.Private.Reading.{HeadIs, PlacesKind};
 
 use crate::engine::body_reader::bad;
 use llrp_schema::{
-    Kind, MsgKind, ParamKind, Seen, param_of_tlv_in, param_of_tv_in, place, profile, required,
+    Kind, MsgKind, ParamKind, Seen, kind_set, param_of_tlv_in, param_of_tv_in, place, required,
 };
 use llrp_tree::numbers::{octet, word};
 use llrp_tree::{FrameErr, MAX_DEPTH, Reason};
@@ -120,6 +120,9 @@ fn needed(kind: Kind) -> u32
         Kind::Message(_) => required(kind),
         Kind::Parameter(parameter) => match parameter {
             ParamKind::TagReportData => required(Kind::Parameter(ParamKind::TagReportData)),
+            ParamKind::WholeTagReportData => {
+                required(Kind::Parameter(ParamKind::WholeTagReportData))
+            }
             _ => required(kind),
         },
     }
@@ -138,17 +141,17 @@ pub(crate) fn is_enough(parent: Kind, seen: Seen) -> bool
 /// profile.
 #[inline(always)]
 fn short_child(parent: Kind, number: u8) -> Option<ParamKind>
-    ensures { result ≡ tv_in (profile_of parent) number }
+    ensures { result ≡ tv_in (set_of_kind parent) number }
 {
-    param_of_tv_in(profile(parent), number)
+    param_of_tv_in(kind_set(parent), number)
 }
 
 /// The same of a parameter with type, length and value.
 #[inline(always)]
 fn long_child(parent: Kind, number: u16) -> Option<ParamKind>
-    ensures { result ≡ tlv_in (profile_of parent) number }
+    ensures { result ≡ tlv_in (set_of_kind parent) number }
 {
-    param_of_tlv_in(profile(parent), number)
+    param_of_tlv_in(kind_set(parent), number)
 }
 
 /// Reads the head of a child at an octet of a node, this many levels below the message.
@@ -222,7 +225,7 @@ pub(crate) fn known_head(
 ) -> Result<Option<(Seen, usize)>, FrameErr>
     requires before { at < stop }
     requires small { stop ≤ MAX_LIMIT }
-    requires known { tlv_in (profile_of parent) number ≡ Some kind }
+    requires known { tlv_in (set_of_kind parent) number ≡ Some kind }
     requires some { (children : Forest) × AreSeen (groups_of parent) children seen.bits }
     requires few { number < 1024 }
     ensures says { IfOk result (λ found. IfSome found (λ head. HeadIs parent seen.bits level at stop

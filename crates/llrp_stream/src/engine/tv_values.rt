@@ -1,22 +1,23 @@
-//! Reads parameters of type and value, each as one part. By the tables only a TagReportData has such children, and only a message has one.
+//! Reads the parameters of type and value of a TagReportData, each as one part, for both sets of kinds. Such children of other parameters are
+//! read in the general way.
 
 ghost use Rattle.std.specs.Prelude.{◌≡◌, ◌+◌, ◌/◌, ◌≤◌, IfErr, IfOk, IfSome, OnOk, length, true, false, Ok};
 ghost use Rattle.llrp_schema.specs.declared.kinds.Kind.TheVariants.{Parameter};
-ghost use Rattle.llrp_schema.specs.declared.kinds.ParamKind.TheVariants.{TagReportData};
+ghost use Rattle.llrp_schema.specs.declared.kinds.KindSet.TheVariants.{Profile, Standard};
 ghost use Rattle.llrp_schema.specs.Schema.{bits_of, fields_of, groups_of, is_tv};
 ghost use Rattle.llrp_tree.specs.declared.TheConstants.{MAX_LIMIT};
 ghost use Rattle.llrp_tree.specs.declared.fault.FrameErr.TheVariants.{Memory};
 ghost use Rattle.llrp_tree.specs.Tree.{Forest};
 ghost use Rattle.llrp_tree.specs.Private.Standing.{is_tv_kind};
 ghost use Rattle.llrp_stream.specs.Calls.Reading.{AreSeen};
-ghost use Rattle.llrp_stream.specs.Private.Reading.{AwaitsValues, BeginsValue, IsNextWhole, KeepsNode, TakesValues, octets_of_value};
+ghost use Rattle.llrp_stream.specs.Private.Reading.{AwaitsValues, BeginsValue, IsNextWhole, KeepsNode, TakesValues, octets_of_value, report_of};
 ghost use Rattle.llrp_stream.specs.Private.Steps.{AreBefore, TakesAllFrom, TakesFrom};
 ghost use Rattle.llrp_stream.specs.declared.engine.body_reader.Stage.TheVariants as Stage;
 
 use crate::engine::body_reader::BodyReader;
 use crate::engine::listener::Listener;
 use crate::engine::stack::{Placed, child_kind};
-use llrp_schema::{Kind, ParamKind, param_of_tv};
+use llrp_schema::{Kind, KindSet, ParamKind, param_of_tv_in};
 use llrp_tree::FrameErr;
 use llrp_tree::numbers::{from_octet, octet};
 
@@ -28,20 +29,36 @@ fn value_octets(kind: ParamKind) -> usize
     ensures { result ≡ bits_of (fields_of (Parameter kind)) / 8 }
 {
     match kind {
-        ParamKind::PeakRssi => 1,
+        ParamKind::PeakRssi | ParamKind::WholePeakRssi => 1,
         ParamKind::AntennaId
         | ParamKind::ChannelIndex
         | ParamKind::TagSeenCount
         | ParamKind::InventoryParameterSpecId
         | ParamKind::C1G2Crc
         | ParamKind::C1G2Pc
-        | ParamKind::SpecIndex => 2,
-        ParamKind::RoSpecId | ParamKind::AccessSpecId => 4,
+        | ParamKind::SpecIndex
+        | ParamKind::WholeAntennaId
+        | ParamKind::WholeChannelIndex
+        | ParamKind::WholeTagSeenCount
+        | ParamKind::WholeInventoryParameterSpecId
+        | ParamKind::WholeC1G2Crc
+        | ParamKind::WholeC1G2Pc
+        | ParamKind::WholeSpecIndex
+        | ParamKind::WholeC1g2xpcw1
+        | ParamKind::WholeC1g2xpcw2 => 2,
+        ParamKind::RoSpecId
+        | ParamKind::AccessSpecId
+        | ParamKind::WholeRoSpecId
+        | ParamKind::WholeAccessSpecId => 4,
         ParamKind::FirstSeenTimestampUtc
         | ParamKind::FirstSeenTimestampUptime
         | ParamKind::LastSeenTimestampUtc
-        | ParamKind::LastSeenTimestampUptime => 8,
-        ParamKind::Epc96 => 12,
+        | ParamKind::LastSeenTimestampUptime
+        | ParamKind::WholeFirstSeenTimestampUtc
+        | ParamKind::WholeFirstSeenTimestampUptime
+        | ParamKind::WholeLastSeenTimestampUtc
+        | ParamKind::WholeLastSeenTimestampUptime => 8,
+        ParamKind::Epc96 | ParamKind::WholeEpc96 => 12,
         _ => width_octets(kind),
     }
 }
@@ -54,39 +71,51 @@ fn width_octets(kind: ParamKind) -> usize
     llrp_schema::fields(Kind::Parameter(kind))[0].width as usize / 8
 }
 
-/// Whether a node is a TagReportData.
+/// The set of kinds of which a node is the TagReportData.
 #[inline(always)]
-fn is_report(kind: Kind) -> bool
-    ensures { result ≡ true → kind ≡ Parameter TagReportData }
+fn set_of_report(kind: Kind) -> Option<KindSet>
+    ensures { IfSome result (λ set. kind ≡ Parameter (report_of set)) }
 {
     match kind {
-        Kind::Message(_) => false,
+        Kind::Message(_) => None,
         Kind::Parameter(kind) => match kind {
-            ParamKind::TagReportData => true,
-            _ => false,
+            ParamKind::TagReportData => Some(KindSet::Profile),
+            ParamKind::WholeTagReportData => Some(KindSet::Standard),
+            _ => None,
         },
     }
 }
 
-/// The kind of the parameter of type and value with which the octets begin, if they do.
+/// The TagReportData of a set of kinds.
 #[inline(always)]
-fn kind_of_value(octets: &[u8], left: usize) -> Option<ParamKind>
+fn report_of(set: KindSet) -> ParamKind
+    ensures { result ≡ report_of set }
+{
+    match set {
+        KindSet::Profile => ParamKind::TagReportData,
+        KindSet::Standard => ParamKind::WholeTagReportData,
+    }
+}
+
+/// The kind of the parameter of type and value of a set with which the octets begin, if they do.
+#[inline(always)]
+fn kind_of_value(set: KindSet, octets: &[u8], left: usize) -> Option<ParamKind>
     requires { left ≤ length octets.now }
-    ensures { IfSome result (BeginsValue octets.now) }
+    ensures { IfSome result (BeginsValue set octets.now) }
 {
     if left == 0 {
         return None;
     }
     // No type is above 127, so an octet below 128 has none.
-    param_of_tv(octet(octets, 0).wrapping_sub(128))
+    param_of_tv_in(set, octet(octets, 0).wrapping_sub(128))
 }
 
-/// Reads a parameter of a kind by a copy of `value_of` for each kind that a TagReportData may have: in
+/// Reads a parameter of a kind by a copy of `value_of` for each kind of a list: in
 /// such a copy the compiler knows its place, its width and its name.
 macro_rules! at_kind {
-    ($reader:ident, $listener:ident, $octets:ident, $left:ident, $kind:ident, [$($name:ident),*]) => {
+    ($reader:ident, $listener:ident, $set:ident, $octets:ident, $left:ident, $kind:ident, [$($name:ident),*]) => {
         match $kind {
-            $(ParamKind::$name => $reader.value_of($listener, $octets, $left, ParamKind::$name),)*
+            $(ParamKind::$name => $reader.value_of($listener, $set, $octets, $left, ParamKind::$name),)*
             _ => Ok(0),
         }
     };
@@ -96,13 +125,19 @@ impl BodyReader {
     /// The next parameter of type and value, which has this kind, if it is allowed here and is whole in
     /// the octets that are left.
     #[inline(always)]
-    fn next_value(&self, octets: &[u8], left: usize, kind: ParamKind) -> Option<Placed>
-        requires awaits { AwaitsValues self.now octets.now left }
-        requires begins { BeginsValue octets.now kind }
+    fn next_value(
+        &self,
+        set: KindSet,
+        octets: &[u8],
+        left: usize,
+        kind: ParamKind,
+    ) -> Option<Placed>
+        requires awaits { AwaitsValues set self.now octets.now left }
+        requires begins { BeginsValue set octets.now kind }
         ensures next { IfSome result (IsNextWhole self.now octets.now) }
         ensures fits { IfSome result (λ child. octets_of_value child.kind ≤ left) }
     {
-        let parent = Kind::Parameter(ParamKind::TagReportData);
+        let parent = Kind::Parameter(report_of(set));
         let Ok(placed) = child_kind(Some(kind), parent, self.top.seen, 2, 0, 0) else {
             return None;
         };
@@ -151,44 +186,47 @@ impl BodyReader {
     fn value_of<L: Listener>(
         &mut self,
         listener: &mut L,
+        set: KindSet,
         octets: &[u8],
         left: usize,
         kind: ParamKind,
     ) -> Result<usize, FrameErr>
-        requires awaits { AwaitsValues self.old octets.now left }
-        requires begins { BeginsValue octets.now kind }
+        requires awaits { AwaitsValues set self.old octets.now left }
+        requires begins { BeginsValue set octets.now kind }
         ensures takes { TakesValues (L.begins listener.old) (L.stands listener.old)
             (L.begins listener.new) (L.stands listener.new) self.old self.new octets.now left
             result }
         ensures none { result ≡ Ok 0 → (self.new ≡ self.old) × (listener.new ≡ listener.old) }
     {
-        let Some(child) = self.next_value(octets, left, kind) else {
+        let Some(child) = self.next_value(set, octets, left, kind) else {
             return Ok(0);
         };
         self.value(listener, octets, child)
     }
 
-    /// Reads the next parameter of type and value, if one comes that is allowed here and is whole in
-    /// the octets that are left. Returns how many octets it has, or 0.
+    /// Reads the next parameter of type and value of the profile, if one comes that is allowed here and
+    /// is whole in the octets that are left. Returns how many octets it has, or 0.
     #[inline(always)]
-    fn any_value<L: Listener>(
+    fn own_value<L: Listener>(
         &mut self,
         listener: &mut L,
         octets: &[u8],
         left: usize,
     ) -> Result<usize, FrameErr>
-        requires awaits { AwaitsValues self.old octets.now left }
+        requires awaits { AwaitsValues Profile self.old octets.now left }
         ensures takes { TakesValues (L.begins listener.old) (L.stands listener.old)
             (L.begins listener.new) (L.stands listener.new) self.old self.new octets.now left
             result }
         ensures none { result ≡ Ok 0 → (self.new ≡ self.old) × (listener.new ≡ listener.old) }
     {
-        let Some(kind) = kind_of_value(octets, left) else {
+        let set = KindSet::Profile;
+        let Some(kind) = kind_of_value(set, octets, left) else {
             return Ok(0);
         };
         at_kind!(
             self,
             listener,
+            set,
             octets,
             left,
             kind,
@@ -212,16 +250,86 @@ impl BodyReader {
         )
     }
 
+    /// Reads the next parameter of type and value of the whole standard in the same way.
+    #[inline(always)]
+    fn whole_value<L: Listener>(
+        &mut self,
+        listener: &mut L,
+        octets: &[u8],
+        left: usize,
+    ) -> Result<usize, FrameErr>
+        requires awaits { AwaitsValues Standard self.old octets.now left }
+        ensures takes { TakesValues (L.begins listener.old) (L.stands listener.old)
+            (L.begins listener.new) (L.stands listener.new) self.old self.new octets.now left
+            result }
+        ensures none { result ≡ Ok 0 → (self.new ≡ self.old) × (listener.new ≡ listener.old) }
+    {
+        let set = KindSet::Standard;
+        let Some(kind) = kind_of_value(set, octets, left) else {
+            return Ok(0);
+        };
+        at_kind!(
+            self,
+            listener,
+            set,
+            octets,
+            left,
+            kind,
+            [
+                WholeAntennaId,
+                WholeFirstSeenTimestampUtc,
+                WholeFirstSeenTimestampUptime,
+                WholeLastSeenTimestampUtc,
+                WholeLastSeenTimestampUptime,
+                WholePeakRssi,
+                WholeChannelIndex,
+                WholeTagSeenCount,
+                WholeRoSpecId,
+                WholeInventoryParameterSpecId,
+                WholeC1G2Crc,
+                WholeC1G2Pc,
+                WholeEpc96,
+                WholeSpecIndex,
+                WholeAccessSpecId,
+                WholeC1g2xpcw1,
+                WholeC1g2xpcw2
+            ]
+        )
+    }
+
+    /// Reads the next parameter of type and value, if one comes that is allowed here and is whole in
+    /// the octets that are left. Returns how many octets it has, or 0.
+    #[inline(always)]
+    fn any_value<L: Listener>(
+        &mut self,
+        listener: &mut L,
+        set: KindSet,
+        octets: &[u8],
+        left: usize,
+    ) -> Result<usize, FrameErr>
+        requires awaits { AwaitsValues set self.old octets.now left }
+        ensures takes { TakesValues (L.begins listener.old) (L.stands listener.old)
+            (L.begins listener.new) (L.stands listener.new) self.old self.new octets.now left
+            result }
+        ensures none { result ≡ Ok 0 → (self.new ≡ self.old) × (listener.new ≡ listener.old) }
+    {
+        match set {
+            KindSet::Profile => self.own_value(listener, octets, left),
+            KindSet::Standard => self.whole_value(listener, octets, left),
+        }
+    }
+
     /// Reads all parameters of type and value that come next and are whole in the octets that are left,
     /// and returns how many octets they have.
     #[inline(always)]
     fn all_values<L: Listener>(
         &mut self,
         listener: &mut L,
+        set: KindSet,
         octets: &[u8],
         near: usize,
     ) -> Result<usize, FrameErr>
-        requires awaits { AwaitsValues self.old octets.now near }
+        requires awaits { AwaitsValues set self.old octets.now near }
         requires some { AreBefore (L.begins listener.old) (L.stands listener.old) self.old
             octets.now }
         ensures takes { TakesValues (L.begins listener.old) (L.stands listener.old)
@@ -232,13 +340,32 @@ impl BodyReader {
         let mut rest = octets;
         let mut left = near;
         'values: loop {
-            let used = self.any_value(listener, rest, left)?;
+            let used = self.any_value(listener, set, rest, left)?;
             if used == 0 {
                 return Ok(near - left);
             }
             rest = rest.split_at(used).1;
             left -= used;
         }
+    }
+
+    /// The same for the whole standard, by a call, so that the reader of the profile's frames stays small.
+    #[inline(never)]
+    fn whole_values<L: Listener>(
+        &mut self,
+        listener: &mut L,
+        octets: &[u8],
+        near: usize,
+    ) -> Result<usize, FrameErr>
+        requires awaits { AwaitsValues Standard self.old octets.now near }
+        requires some { AreBefore (L.begins listener.old) (L.stands listener.old) self.old
+            octets.now }
+        ensures takes { TakesValues (L.begins listener.old) (L.stands listener.old)
+            (L.begins listener.new) (L.stands listener.new) self.old self.new octets.now near
+            result }
+        ensures none { result ≡ Ok 0 → (self.new ≡ self.old) × (listener.new ≡ listener.old) }
+    {
+        self.all_values(listener, KindSet::Standard, octets, near)
     }
 
     /// Reads all parameters of type and value that come next and are whole in the octets, and
@@ -259,11 +386,19 @@ impl BodyReader {
         ensures none { result ≡ Ok 0 → (self.new ≡ self.old) × (listener.new ≡ listener.old) }
         ensures keeps { KeepsNode self.old self.new }
     {
-        let is_report = is_report(self.top.kind);
-        if !is_report || self.outer.len() != 1 {
+        let Some(set) = set_of_report(self.top.kind) else {
+            return Ok(0);
+        };
+        if self.outer.len() != 1 {
             return Ok(0);
         }
         let near = octets.len().min((self.top.stop - self.at) as usize);
-        self.all_values(listener, octets, near)
+        match set {
+            KindSet::Profile => self.all_values(listener, KindSet::Profile, octets, near),
+            KindSet::Standard => {
+                let used = self.whole_values(listener, octets, near)?;
+                Ok(used)
+            }
+        }
     }
 }

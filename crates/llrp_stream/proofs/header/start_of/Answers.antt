@@ -30,5 +30,5 @@ returns-in-Err c = record {
   least = c.in-Frame.ensures.ten;
   octets_are = c.in-Frame.ensures.octets_are;
   id_is = four_octets c.args.bytes.now 6 c.read_u32.result (are_octets c.args.bytes.now (λ i. c.type_inv.bytes i)) c.if-bytes-lt-HEADER_OCTETS.false c.read_u32.ensures;
-  fault_is = subst (λ (x : List Bool). first_failing (header_checks_in c.args.profile c.args.limit x) ≡ Some (c.in-Err.fault.bit, c.in-Err.fault.reason)) (append-nil (digits_of_bytes c.args.bytes.now)) (c.in-Err.ensures.fault []);
+  fault_is = subst (λ (x : List Bool). first_failing (header_checks_in c.args.set c.args.limit x) ≡ Some (c.in-Err.fault.bit, c.in-Err.fault.reason)) (append-nil (digits_of_bytes c.args.bytes.now)) (c.in-Err.ensures.fault []);
 }

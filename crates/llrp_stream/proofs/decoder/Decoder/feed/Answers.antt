@@ -3,8 +3,8 @@ use Rattle.std.specs.Prelude.{Err}
 use Rattle.llrp_stream.specs.declared.item.FeedErr.TheVariants as failure
 use Rattle.llrp_stream.specs.declared.state.State.{State}
 use Rattle.llrp_stream.specs.Decoding.{DecoderState}
-use Rattle.llrp_schema.specs.declared.kinds.Profile.{Profile}
-use Rattle.llrp_schema.specs.declared.kinds.Profile.TheVariants.{Own}
+use Rattle.llrp_schema.specs.declared.kinds.KindSet.{KindSet}
+use Rattle.llrp_schema.specs.declared.kinds.KindSet.TheVariants.{Profile}
 use Rattle.llrp_stream.specs.Calls.Decoding.{StandsIn}
 use Rattle.llrp_stream.specs.Feeding.{FeedsIn, TakesIn}
 use Rattle.llrp_stream.specs.Private.Keeping.{kept, decoder}
@@ -32,12 +32,12 @@ pub returns-in-Ok-clause-stands_in : goal.returns-in-Ok-clause-stands_in
 returns-in-Ok-clause-stands_in c =
     rw (sym c.self.view_is)
     (λ p front st.
-    subst (λ (q : Profile). TakesIn q c.self.inside.frames.limit front c.args.piece.now (decoder c.feed.new.self c.item_of.new.builder) c.in-Ok.came.used c.item_of.result) (c.in-Ok.ensures.profile ∙ st.set)
+    subst (λ (q : KindSet). TakesIn q c.self.inside.frames.limit front c.args.piece.now (decoder c.feed.new.self c.item_of.new.builder) c.in-Ok.came.used c.item_of.result) (c.in-Ok.ensures.set ∙ st.set)
     (takes_item c.self.inside.frames.limit c.feed.new.listener c.item_of.new.builder front c.args.piece.now c.feed.new.self c.in-Ok.came.used c.in-Ok.came.outcome c.item_of.result c.in-Ok.ensures.limit c.item_of.ensures.same c.item_of.ensures.nodes c.item_of.ensures.none c.item_of.ensures.bad c.item_of.ensures.whole
     (c.in-Ok.ensures.takes [] front (kept_comes c.self.inside.frames c.self.inside.builder front c.self.invariant st))))
 
 pub returns-in-Ok-clause-stands : goal.returns-in-Ok-clause-stands
-returns-in-Ok-clause-stands c = λ front st. returns-in-Ok-clause-stands_in c Own front st
+returns-in-Ok-clause-stands c = λ front st. returns-in-Ok-clause-stands_in c Profile front st
 
 pub returns-in-Ok-clause-broken : goal.returns-in-Ok-clause-broken
 returns-in-Ok-clause-broken c = rw (sym c.self.view_is) (λ e. absurd (let z = (c.in-Ok.ensures.broken (state_broken c.self.inside.frames.state c.self.inside.frames.body c.self.inside.builder e)).0 in cc))
@@ -61,7 +61,7 @@ returns-in-Err-clause-stands_in c = λ p front st.
     (feeds_failed p c.self.inside.frames c.feed.new.self c.self.inside.builder c.feed.new.listener c.clear.new.self front c.args.piece.now c.in-Err.error (c.in-Err.ensures.takes [] front (kept_comes c.self.inside.frames c.self.inside.builder front c.self.invariant is)) c.in-Err.ensures.stops)
 
 pub returns-in-Err-clause-stands : goal.returns-in-Err-clause-stands
-returns-in-Err-clause-stands c = λ front st. returns-in-Err-clause-stands_in c Own front st
+returns-in-Err-clause-stands c = λ front st. returns-in-Err-clause-stands_in c Profile front st
 
 pub returns-in-Err-clause-broken : goal.returns-in-Err-clause-broken
 returns-in-Err-clause-broken c =
@@ -76,8 +76,8 @@ returns-in-Err-clause-dead c =
 pub returns-in-Err-clause-limit : goal.returns-in-Err-clause-limit
 returns-in-Err-clause-limit c = rw (sym c.self.view_is) c.in-Err.ensures.limit
 
-pub returns-in-Ok-clause-profile : goal.returns-in-Ok-clause-profile
-returns-in-Ok-clause-profile c = rw (sym c.self.view_is) c.in-Ok.ensures.profile
+pub returns-in-Ok-clause-set : goal.returns-in-Ok-clause-set
+returns-in-Ok-clause-set c = rw (sym c.self.view_is) c.in-Ok.ensures.set
 
-pub returns-in-Err-clause-profile : goal.returns-in-Err-clause-profile
-returns-in-Err-clause-profile c = rw (sym c.self.view_is) c.in-Err.ensures.profile
+pub returns-in-Err-clause-set : goal.returns-in-Err-clause-set
+returns-in-Err-clause-set c = rw (sym c.self.view_is) c.in-Err.ensures.set

@@ -2,7 +2,7 @@ use Rattle.std.proofs.Common.{◌≡◌, inl, inr, ◌*◌, ◌<◌, ◌≤◌, 
 use Rattle.tag_bits.specs.Digits.{digits_of_bytes}
 use Rattle.llrp_schema.specs.declared.kinds.ParamKind.{ParamKind}
 use Rattle.llrp_schema.specs.declared.kinds.Kind.TheVariants.{Parameter}
-use Rattle.llrp_schema.specs.Schema.{GroupRule, groups_of, profile_of, tlv_in}
+use Rattle.llrp_schema.specs.Schema.{GroupRule, groups_of, set_of_kind, tlv_in}
 use Rattle.llrp_tree.specs.Lawful.{has_place}
 use Rattle.llrp_tree.specs.FirstFault.{has_none, tlv_kind}
 use Rattle.llrp_tree.specs.Private.Standing.{KindPasses}
@@ -30,11 +30,11 @@ returns-then-size-lt4-clause-fails c = λ children later cs.
     let small : c.word-head.result < 1024 = omega (arith, is, c.requires.few) in
     let zeros = reserved_none octets later (omega (arith, four)) c.word-head.result (c.word-head.ensures later) small in
     let no = digit_is_zero rest (sym (long_head octets later (omega (arith, four)) c.word-head.result (c.word-head.ensures later) small)) in
-    let found : Some kind ≡ tlv_kind (profile_of c.args.parent) rest = sym c.requires.known ∙ ap (tlv_in (profile_of c.args.parent)) (sym is ∙ long_type octets later (omega (arith, four)) c.word-head.result (c.word-head.ensures later) small) in
+    let found : Some kind ≡ tlv_kind (set_of_kind c.args.parent) rest = sym c.requires.known ∙ ap (tlv_in (set_of_kind c.args.parent)) (sym is ∙ long_type octets later (omega (arith, four)) c.word-head.result (c.word-head.ensures later) small) in
     let p : MayBeginThere (Some kind) gs children c.args.level c.in-Ok.placed = c.in-Ok.ensures children cs in
     let same : c.in-Ok.placed.kind ≡ kind = sym (some_same kind c.in-Ok.placed.kind p.passes.is) in
     let passes : KindPasses (Some kind) gs children c.args.level kind = subst (λ (k : ParamKind). KindPasses (Some kind) gs children c.args.level k) same p.passes in
-    inr (inr (some_groups gs kind passes.has, no, length_fails (profile_of c.args.parent) gs children c.args.level (8 * c.args.at) (8 * c.args.stop) rest (omega (arith, c.if-stop-at-lt4.false, c.requires.before)) zeros kind (subst (λ (f : Option ParamKind). KindPasses f gs children c.args.level kind) found passes) c.word-size.result (c.word-size.ensures later) c.bad.result (inl c.if-size-lt4.true) c.bad.ensures))
+    inr (inr (some_groups gs kind passes.has, no, length_fails (set_of_kind c.args.parent) gs children c.args.level (8 * c.args.at) (8 * c.args.stop) rest (omega (arith, c.if-stop-at-lt4.false, c.requires.before)) zeros kind (subst (λ (f : Option ParamKind). KindPasses f gs children c.args.level kind) found passes) c.word-size.result (c.word-size.ensures later) c.bad.result (inl c.if-size-lt4.true) c.bad.ensures))
 
 pub returns-then-stop-at-clause-fails : goal.returns-then-stop-at-clause-fails
 returns-then-stop-at-clause-fails c = λ children later cs.
@@ -47,11 +47,11 @@ returns-then-stop-at-clause-fails c = λ children later cs.
     let small : c.word-head.result < 1024 = omega (arith, is, c.requires.few) in
     let zeros = reserved_none octets later (omega (arith, four)) c.word-head.result (c.word-head.ensures later) small in
     let no = digit_is_zero rest (sym (long_head octets later (omega (arith, four)) c.word-head.result (c.word-head.ensures later) small)) in
-    let found : Some kind ≡ tlv_kind (profile_of c.args.parent) rest = sym c.requires.known ∙ ap (tlv_in (profile_of c.args.parent)) (sym is ∙ long_type octets later (omega (arith, four)) c.word-head.result (c.word-head.ensures later) small) in
+    let found : Some kind ≡ tlv_kind (set_of_kind c.args.parent) rest = sym c.requires.known ∙ ap (tlv_in (set_of_kind c.args.parent)) (sym is ∙ long_type octets later (omega (arith, four)) c.word-head.result (c.word-head.ensures later) small) in
     let p : MayBeginThere (Some kind) gs children c.args.level c.in-Ok.placed = c.in-Ok.ensures children cs in
     let same : c.in-Ok.placed.kind ≡ kind = sym (some_same kind c.in-Ok.placed.kind p.passes.is) in
     let passes : KindPasses (Some kind) gs children c.args.level kind = subst (λ (k : ParamKind). KindPasses (Some kind) gs children c.args.level k) same p.passes in
-    inr (inr (some_groups gs kind passes.has, no, length_fails (profile_of c.args.parent) gs children c.args.level (8 * c.args.at) (8 * c.args.stop) rest (omega (arith, c.if-stop-at-lt4.false, c.requires.before)) zeros kind (subst (λ (f : Option ParamKind). KindPasses f gs children c.args.level kind) found passes) c.word-size.result (c.word-size.ensures later) c.bad-then-stop-at.result (inr (omega (arith, c.requires.before, c.if-stop-at.true))) c.bad-then-stop-at.ensures))
+    inr (inr (some_groups gs kind passes.has, no, length_fails (set_of_kind c.args.parent) gs children c.args.level (8 * c.args.at) (8 * c.args.stop) rest (omega (arith, c.if-stop-at-lt4.false, c.requires.before)) zeros kind (subst (λ (f : Option ParamKind). KindPasses f gs children c.args.level kind) found passes) c.word-size.result (c.word-size.ensures later) c.bad-then-stop-at.result (inr (omega (arith, c.requires.before, c.if-stop-at.true))) c.bad-then-stop-at.ensures))
 
 pub returns-clause-says : goal.returns-clause-says
 returns-clause-says c = λ children later cs.
@@ -64,7 +64,7 @@ returns-clause-says c = λ children later cs.
     let small : c.word-head.result < 1024 = omega (arith, is, c.requires.few) in
     let zeros = reserved_none octets later (omega (arith, four)) c.word-head.result (c.word-head.ensures later) small in
     let no = digit_is_zero rest (sym (long_head octets later (omega (arith, four)) c.word-head.result (c.word-head.ensures later) small)) in
-    let found : Some kind ≡ tlv_kind (profile_of c.args.parent) rest = sym c.requires.known ∙ ap (tlv_in (profile_of c.args.parent)) (sym is ∙ long_type octets later (omega (arith, four)) c.word-head.result (c.word-head.ensures later) small) in
+    let found : Some kind ≡ tlv_kind (set_of_kind c.args.parent) rest = sym c.requires.known ∙ ap (tlv_in (set_of_kind c.args.parent)) (sym is ∙ long_type octets later (omega (arith, four)) c.word-head.result (c.word-head.ensures later) small) in
     let p : MayBeginThere (Some kind) gs children c.args.level c.in-Ok.placed = c.in-Ok.ensures children cs in
     let same : c.in-Ok.placed.kind ≡ kind = sym (some_same kind c.in-Ok.placed.kind p.passes.is) in
     let passes : KindPasses (Some kind) gs children c.args.level kind = subst (λ (k : ParamKind). KindPasses (Some kind) gs children c.args.level k) same p.passes in (

@@ -12,14 +12,14 @@ use Rattle.llrp_stream.specs.declared.engine.body.Body.{Body}
 use Rattle.llrp_stream.specs.Private.Pieces.{Feeds}
 use Rattle.llrp_stream.proofs.engine.body.Body.feed.Goals as goal
 
-fed_all : (begins stands : List Begun → Type 0) (start old new : Body) (front piece done rest : List ℕ) (result : Result Bool FrameErr) → piece ≡ done ++ rest → length (front ++ piece) ≤ start.reader.octets → old.reader.octets ≡ start.reader.octets → old.reader.profile ≡ start.reader.profile
+fed_all : (begins stands : List Begun → Type 0) (start old new : Body) (front piece done rest : List ℕ) (result : Result Bool FrameErr) → piece ≡ done ++ rest → length (front ++ piece) ≤ start.reader.octets → old.reader.octets ≡ start.reader.octets → old.reader.set ≡ start.reader.set
     → Feeds begins stands old new (front ++ done) rest result → Feeds begins stands start new front piece result
 fed_all begins stands start old new front piece done rest (Ok false) e le same set f =
     (subst (λ (x : List ℕ). Awaits begins stands new x) (append_assoc front done rest ∙ ap (λ (x : List ℕ). front ++ x) (sym e)) f.0, f.1 ∙ same, f.2 ∙ set)
 fed_all begins stands start old new front piece done rest (Ok true) e le same set f =
     (subst (λ (x : List ℕ). IsComplete stands new.reader x) (append_assoc front done rest ∙ ap (λ (x : List ℕ). front ++ x) (sym e)) f.0, f.1 ∙ same, f.2 ∙ set)
 fed_all begins stands start old new front piece done rest (Err x) e le same set f =
-    chunk_tells front piece done rest [] (parts_last piece done rest e) begins stands old.reader.profile start.reader.profile old.reader.octets start.reader.octets x set same f
+    chunk_tells front piece done rest [] (parts_last piece done rest e) begins stands old.reader.set start.reader.set old.reader.octets start.reader.octets x set same f
 
 at_ok : (begins stands : List Begun → Type 0) (old new : Body) (front piece : List ℕ) (x y : Bool) → x ≡ y → Feeds begins stands old new front piece (Ok x) → Feeds begins stands old new front piece (Ok y)
 at_ok begins stands old new front piece x y e f = subst (λ (z : Bool). Feeds begins stands old new front piece (Ok z)) e f
@@ -46,13 +46,13 @@ empty_raw [] e f = (let z : true ≡ false = f in cc)
 empty_raw (x ∷ xs) e f = cc
 
 pub raw-init : goal.raw-init
-raw-init g c = λ was front st le. record { done = []; parts = refl; are = subst (λ (x : List ℕ). BodyStands (g.L.Listener.begins c.args.listener.now was) (g.L.Listener.stands c.args.listener.now was) c.args.self.now x) (sym (append-nil front)) st; same = refl; profile = refl }
+raw-init g c = λ was front st le. record { done = []; parts = refl; are = subst (λ (x : List ℕ). BodyStands (g.L.Listener.begins c.args.listener.now was) (g.L.Listener.stands c.args.listener.now was) c.args.self.now x) (sym (append-nil front)) st; same = refl; set = refl }
 
 pub returns-then-is_empty : goal.returns-then-is_empty
 returns-then-is_empty g c = λ was front st le.
     let f = c.raw.invariant was front st le in
     let none : c.raw.rest.now ≡ [] = empty_of c.raw.rest.now (sym c.is_empty-in-raw.ensures ∙ c.if-is_empty.true) in
-    (subst (λ (x : List ℕ). Awaits (g.L.Listener.begins c.raw.listener was) (g.L.Listener.stands c.raw.listener was) c.raw.self x) (ap (λ (x : List ℕ). front ++ x) (sym (f.parts ∙ ap (λ (x : List ℕ). f.done ++ x) none ∙ append-nil f.done))) (still_short _ _ c.raw.self (front ++ f.done) f.are (λ z. empty_raw c.raw.self.raw.items z (sym c.is_empty.ensures ∙ c.raw-test.true))), f.same, f.profile)
+    (subst (λ (x : List ℕ). Awaits (g.L.Listener.begins c.raw.listener was) (g.L.Listener.stands c.raw.listener was) c.raw.self x) (ap (λ (x : List ℕ). front ++ x) (sym (f.parts ∙ ap (λ (x : List ℕ). f.done ++ x) none ∙ append-nil f.done))) (still_short _ _ c.raw.self (front ++ f.done) f.are (λ z. empty_raw c.raw.self.raw.items z (sym c.is_empty.ensures ∙ c.raw-test.true))), f.same, f.set)
 
 pub feed_octet-requires-clause-few : goal.feed_octet-requires-clause-few
 feed_octet-requires-clause-few g c = let w = c.requires in (c.raw.invariant w.0 w.1 w.2 w.3).are.few
@@ -73,7 +73,7 @@ returns-in_err-whole g c = λ was front st le.
     let ps = parts_first c.args.piece.now f.done c.raw.rest.now c.split_at.result.1.now x f.parts is in
     let fit = chunk_fits front c.args.piece.now f.done (x ∷ []) c.split_at.result.1.now ps c.args.self.now.reader.octets c.raw.self.reader.octets le f.same in
     let p = err_from_is_err_and c.from_residual.result c.from_residual.ensures.1 in
-    rw (p.1, p.2) (chunk_tells front c.args.piece.now f.done (x ∷ []) c.split_at.result.1.now ps _ _ c.raw.self.reader.profile c.args.self.now.reader.profile c.raw.self.reader.octets c.args.self.now.reader.octets c.in_err-whole.field-0.0 f.profile f.same (c.in_err-whole.ensures was (front ++ f.done) f.are fit))
+    rw (p.1, p.2) (chunk_tells front c.args.piece.now f.done (x ∷ []) c.split_at.result.1.now ps _ _ c.raw.self.reader.set c.args.self.now.reader.set c.raw.self.reader.octets c.args.self.now.reader.octets c.in_err-whole.field-0.0 f.set f.same (c.in_err-whole.ensures was (front ++ f.done) f.are fit))
 
 pub returns-then-whole : goal.returns-then-whole
 returns-then-whole g c = λ was front st le.
@@ -83,7 +83,7 @@ returns-then-whole g c = λ was front st le.
     let ps = parts_first c.args.piece.now f.done c.raw.rest.now c.split_at.result.1.now x f.parts is in
     let fit = chunk_fits front c.args.piece.now f.done (x ∷ []) c.split_at.result.1.now ps c.args.self.now.reader.octets c.raw.self.reader.octets le f.same in
     let w = at_ok _ _ c.raw.self c.feed_octet.new.self (front ++ f.done) (x ∷ []) c.in_ok-whole.whole true c.if-whole.true (c.in_ok-whole.ensures was (front ++ f.done) f.are fit) in
-    (chunk_whole front c.args.piece.now f.done (x ∷ []) c.split_at.result.1.now ps _ c.feed_octet.new.self.reader c.args.self.now.reader.octets le (w.1 ∙ f.same) w.0, w.1 ∙ f.same, w.2 ∙ f.profile)
+    (chunk_whole front c.args.piece.now f.done (x ∷ []) c.split_at.result.1.now ps _ c.feed_octet.new.self.reader c.args.self.now.reader.octets le (w.1 ∙ f.same) w.0, w.1 ∙ f.same, w.2 ∙ f.set)
 
 pub raw-preserved : goal.raw-preserved
 raw-preserved g c = λ was front st le.
@@ -93,7 +93,7 @@ raw-preserved g c = λ was front st le.
     let ps = parts_first c.args.piece.now f.done c.raw.rest.now c.split_at.result.1.now x f.parts is in
     let fit = chunk_fits front c.args.piece.now f.done (x ∷ []) c.split_at.result.1.now ps c.args.self.now.reader.octets c.raw.self.reader.octets le f.same in
     let w = at_ok _ _ c.raw.self c.feed_octet.new.self (front ++ f.done) (x ∷ []) c.in_ok-whole.whole false c.if-whole.false (c.in_ok-whole.ensures was (front ++ f.done) f.are fit) in
-    chunk_fed front c.args.piece.now f.done (x ∷ []) c.split_at.result.1.now ps _ _ c.args.self.now c.feed_octet.new.self w.0.stands_for (w.1 ∙ f.same) (w.2 ∙ f.profile)
+    chunk_fed front c.args.piece.now f.done (x ∷ []) c.split_at.result.1.now ps _ _ c.args.self.now c.feed_octet.new.self w.0.stands_for (w.1 ∙ f.same) (w.2 ∙ f.set)
 
 pub feed_piece-requires-clause-fresh : goal.feed_piece-requires-clause-fresh
 feed_piece-requires-clause-fresh g c = empty_of c.raw.self.raw.items (none_is (length c.raw.self.raw.items) c.raw-test.ensures)
@@ -108,4 +108,4 @@ pub returns : goal.returns
 returns g c = λ was front st le.
     let f = c.raw.invariant was front st le in
     let fit = chunk_fits front c.args.piece.now f.done c.raw.rest.now [] (parts_last c.args.piece.now f.done c.raw.rest.now f.parts) c.args.self.now.reader.octets c.raw.self.reader.octets le f.same in
-    fed_all _ _ c.args.self.now c.raw.self c.feed_piece.new.self front c.args.piece.now f.done c.raw.rest.now c.feed_piece.result f.parts le f.same f.profile (c.feed_piece.ensures was (front ++ f.done) f.are fit)
+    fed_all _ _ c.args.self.now c.raw.self c.feed_piece.new.self front c.args.piece.now f.done c.raw.rest.now c.feed_piece.result f.parts le f.same f.set (c.feed_piece.ensures was (front ++ f.done) f.are fit)

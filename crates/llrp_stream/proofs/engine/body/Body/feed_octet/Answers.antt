@@ -35,4 +35,4 @@ returns g c = λ was front st le.
     let r = (c.in_ok-read.ensures was (front ++ piece) (are_then _ _ c.args.self.now front piece st le) d).0 c.if-read.false in
     let raw : c.kept-left.result.items ≡ drop c.in_ok-read.read.used c.as_slice.result.now = c.kept-left.ensures ∙ (c.split_at.ensures.back ∙ ap (λ (x : List ℕ). drop c.in_ok-read.read.used x) (c.as_slice-2.ensures.value ∙ sym c.as_slice.ensures.value)) in
     let short = short_of _ _ c.args.self.now front piece c.as_slice.result.now st (c.as_slice.ensures.value ∙ c.push.ensures.items) r.short in
-    (stands_on _ _ c.args.self.now.reader c.read.new.self (front ++ piece) c.as_slice.result.now c.in_ok-read.read.used c.kept-left.result d r raw short, r.same, r.profile)
+    (stands_on _ _ c.args.self.now.reader c.read.new.self (front ++ piece) c.as_slice.result.now c.in_ok-read.read.used c.kept-left.result d r raw short, r.same, r.set)

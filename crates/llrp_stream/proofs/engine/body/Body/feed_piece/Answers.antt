@@ -43,4 +43,4 @@ returns g c = λ was front st le.
     let r = (c.in_ok-read.ensures was (front ++ c.args.piece.now) (are_then _ _ c.args.self.now front c.args.piece.now st le) d).0 c.if-read.false in
     let raw : c.kept-left.result.items ≡ drop c.in_ok-read.read.used c.args.piece.now = c.kept-left.ensures ∙ c.split_at.ensures.back in
     let short = short_of _ _ c.args.self.now front c.args.piece.now c.args.piece.now st (ap (λ (x : List ℕ). x ++ c.args.piece.now) (sym c.requires.fresh)) r.short in
-    (stands_on _ _ c.args.self.now.reader c.read.new.self (front ++ c.args.piece.now) c.args.piece.now c.in_ok-read.read.used c.kept-left.result d r raw short, r.same, r.profile)
+    (stands_on _ _ c.args.self.now.reader c.read.new.self (front ++ c.args.piece.now) c.args.piece.now c.in_ok-read.read.used c.kept-left.result d r raw short, r.same, r.set)

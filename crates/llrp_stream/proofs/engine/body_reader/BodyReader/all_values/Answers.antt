@@ -10,7 +10,7 @@ any_value-requires g c =
     let w = c.requires.some in
     let i = c.values.invariant in
     let f = i.6 w.0 w.1 w.2 w.3 in
-    record { awaits = awaits_on _ _ c.args.self.now c.values.self w.1 c.args.octets.now c.values.rest.now c.args.near c.values.left c.requires.awaits i.0 i.2 i.3 f.takes.are }
+    record { awaits = awaits_on _ _ c.args.set c.args.self.now c.values.self w.1 c.args.octets.now c.values.rest.now c.args.near c.values.left c.requires.awaits i.0 i.2 i.3 f.takes.are }
 
 pub returns-in_err-used-clause-takes : goal.returns-in_err-used-clause-takes
 returns-in_err-used-clause-takes g c =

@@ -23,11 +23,11 @@ returns-clause-moves g c = λ octets was front b outer rd told d.
       are = record {
         node = b;
         outer = outer;
-        reads = record { level = rd.level; levels = rd.levels; stage = record { ready = rest; aligned = zero; reaches = subst (λ (n : ℕ). Reaches r.profile front r.octets (b ∷ outer) n) place s.reaches }; before = rd.before; small = rd.small; bit_small = rd.bit_small };
+        reads = record { level = rd.level; levels = rd.levels; stage = record { ready = rest; aligned = zero; reaches = subst (λ (n : ℕ). Reaches r.set front r.octets (b ∷ outer) n) place s.reaches }; before = rd.before; small = rd.small; bit_small = rd.bit_small };
         told = c.in_ok-ready.ensures was (b ∷ outer) told;
       };
       place = omega arith;
       same = refl;
-      profile = refl;
+      set = refl;
       less = ready_work r _ (length octets) refl refl (ap rank c.requires.stage) refl;
     }

@@ -1,7 +1,7 @@
 use Rattle.std.proofs.Common.{◌≡◌, inr, ℕ, ◌+◌, ◌*◌, ◌<◌, Bool, List, [], ◌∷◌, ◌++◌, Ok, refl, sym, subst, arith, length}
 use Rattle.std.proofs.lemmas.Result.{err_from_is_err_and}
 use Rattle.tag_bits.specs.Digits.{digits_of_bytes}
-use Rattle.llrp_schema.specs.Schema.{groups_of, profile_of}
+use Rattle.llrp_schema.specs.Schema.{groups_of, set_of_kind}
 use Rattle.llrp_tree.specs.Tree.{Forest}
 use Rattle.llrp_tree.specs.Spelling.{tlv, tv}
 use Rattle.llrp_tree.specs.OpenTree.{Begun}
@@ -29,11 +29,11 @@ returns-in_err-child g c = λ was front b outer rd told d.
     let few = outer_length c.args.self.now front b outer rd c.requires.stage in
     let is : c.len.result + 1 ≡ length outer + 1 = omega (arith, few, c.len.ensures.value) in
     rw (p.1, p.2) (fails_with _ _ _ front c.args.self.now.octets c.in_err-child.field-0.0 (head_tells c.args.self.now front b outer rd c.requires.stage c.args.octets.now d c.requires.room c.requires.long c.in_err-child.field-0.0
-    (λ later. subst (λ (n : ℕ). HeadFails (profile_of c.args.self.now.top.kind) (groups_of c.args.self.now.top.kind) b.children n (8 * c.args.self.now.at) (8 * c.args.self.now.top.stop) (digits_of_bytes c.args.octets.now ++ later) c.in_err-child.field-0.0) is (c.in_err-child.ensures b.children later (seen_are c.args.self.now front b outer rd)))) (b ∷ outer, inr told))
+    (λ later. subst (λ (n : ℕ). HeadFails (set_of_kind c.args.self.now.top.kind) (groups_of c.args.self.now.top.kind) b.children n (8 * c.args.self.now.at) (8 * c.args.self.now.top.stop) (digits_of_bytes c.args.octets.now ++ later) c.in_err-child.field-0.0) is (c.in_err-child.ensures b.children later (seen_are c.args.self.now front b outer rd)))) (inr told))
 
 says : (r : Rattle.llrp_stream.specs.declared.engine.body_reader.BodyReader.BodyReader) (os : List ℕ) (later : List Bool) (lv : ℕ) (cs : Forest) (x y : Child) → x ≡ y
-    → HeadSays (profile_of r.top.kind) (groups_of r.top.kind) cs lv (8 * r.at) (8 * r.top.stop) (digits_of_bytes os ++ later) os (Ok x) → HeadSays (profile_of r.top.kind) (groups_of r.top.kind) cs lv (8 * r.at) (8 * r.top.stop) (digits_of_bytes os ++ later) os (Ok y)
-says r os later lv cs x y e h = subst (λ (z : Child). HeadSays (profile_of r.top.kind) (groups_of r.top.kind) cs lv (8 * r.at) (8 * r.top.stop) (digits_of_bytes os ++ later) os (Ok z)) e h
+    → HeadSays (set_of_kind r.top.kind) (groups_of r.top.kind) cs lv (8 * r.at) (8 * r.top.stop) (digits_of_bytes os ++ later) os (Ok x) → HeadSays (set_of_kind r.top.kind) (groups_of r.top.kind) cs lv (8 * r.at) (8 * r.top.stop) (digits_of_bytes os ++ later) os (Ok y)
+says r os later lv cs x y e h = subst (λ (z : Child). HeadSays (set_of_kind r.top.kind) (groups_of r.top.kind) cs lv (8 * r.at) (8 * r.top.stop) (digits_of_bytes os ++ later) os (Ok z)) e h
 
 told_of : (r : Rattle.llrp_stream.specs.declared.engine.body_reader.BodyReader.BodyReader) (front : List ℕ) (b : Begun) (outer : List Begun) (rd : HasReadTo r front b outer) → r.stage ≡ stage.Children → length (b ∷ outer) ≡ length r.outer.items + 1
 told_of r front b outer rd s = let few = outer_length r front b outer rd s in omega (arith, few)
@@ -84,7 +84,7 @@ returns-in-Unfinished g c = λ was front b outer rd told d.
       are = record { node = b; outer = outer; reads = rd; told = subst (λ (x : Stage). Told (g.L.Listener.begins c.args.listener.now was) (g.L.Listener.stands c.args.listener.now was) x (b ∷ outer)) (sym c.requires.stage) told };
       place = refl;
       same = refl;
-      profile = refl;
+      set = refl;
       short = within_frame r front b outer rd (length c.args.octets.now) h.1;
       undecided = subst (λ (x : Stage). IsUndecided front r.octets (settled x b ∷ outer)) (sym c.requires.stage)
           (child_undecided r front b outer rd c.requires.stage c.args.octets.now d c.requires.room c.requires.long h.0 h.2 (λ later. (f later).3));
@@ -95,12 +95,12 @@ returns-in-Short g c = λ was front b outer rd told d.
     let r = c.args.self.now in
     let few = outer_length r front b outer rd c.requires.stage in
     let is : c.len.result + 1 ≡ length outer + 1 = omega (arith, few, c.len.ensures.value) in
-    let f = λ (later : List Bool). says r c.args.octets.now later (length outer + 1) b.children c.in_ok-child.child (child.Short c.in-Short.placed) c.in-Short.is (subst (λ (n : ℕ). HeadSays (profile_of r.top.kind) (groups_of r.top.kind) b.children n (8 * r.at) (8 * r.top.stop) (digits_of_bytes c.args.octets.now ++ later) c.args.octets.now (Ok c.in_ok-child.child)) is (c.in_ok-child.ensures b.children later (seen_are r front b outer rd))) in
+    let f = λ (later : List Bool). says r c.args.octets.now later (length outer + 1) b.children c.in_ok-child.child (child.Short c.in-Short.placed) c.in-Short.is (subst (λ (n : ℕ). HeadSays (set_of_kind r.top.kind) (groups_of r.top.kind) b.children n (8 * r.at) (8 * r.top.stop) (digits_of_bytes c.args.octets.now ++ later) c.args.octets.now (Ok c.in_ok-child.child)) is (c.in_ok-child.ensures b.children later (seen_are r front b outer rd))) in
     let k : ParamKind = c.in-Short.placed.kind in
     let rc = short_reaches r front b outer rd c.requires.stage c.args.octets.now d c.requires.room c.requires.long k (f []).0 (λ later. ((f later).2, (f later).3)) in
     let place : 8 * r.at + 8 ≡ 8 * (r.at + 1) = omega arith in
-    let rc2 = subst (λ (n : ℕ). Reaches r.profile front r.octets (leading (tv k) n [] ∷ b ∷ outer) (8 * r.at + 8)) rd.level.stop rc in
-    c.enter.ensures.steps c.args.octets.now was front b outer (tv k) rd told d refl (f []).4 (subst (λ (n : ℕ). Reaches r.profile front r.octets (leading (tv k) (8 * r.top.stop) [] ∷ b ∷ outer) n) place rc2) (f []).0
+    let rc2 = subst (λ (n : ℕ). Reaches r.set front r.octets (leading (tv k) n [] ∷ b ∷ outer) (8 * r.at + 8)) rd.level.stop rc in
+    c.enter.ensures.steps c.args.octets.now was front b outer (tv k) rd told d refl (f []).4 (subst (λ (n : ℕ). Reaches r.set front r.octets (leading (tv k) (8 * r.top.stop) [] ∷ b ∷ outer) n) place rc2) (f []).0
 
 pub returns-in-Long : goal.returns-in-Long
 returns-in-Long g c = λ was front b outer rd told d.
@@ -109,9 +109,9 @@ returns-in-Long g c = λ was front b outer rd told d.
     let is : c.len.result + 1 ≡ length outer + 1 = omega (arith, few, c.len.ensures.value) in
     let k : ParamKind = c.in-Long.placed.kind in
     let n : ℕ = c.in-Long.size in
-    let f = λ (later : List Bool). says r c.args.octets.now later (length outer + 1) b.children c.in_ok-child.child (child.Long c.in-Long.placed c.in-Long.size) c.in-Long.is (subst (λ (m : ℕ). HeadSays (profile_of r.top.kind) (groups_of r.top.kind) b.children m (8 * r.at) (8 * r.top.stop) (digits_of_bytes c.args.octets.now ++ later) c.args.octets.now (Ok c.in_ok-child.child)) is (c.in_ok-child.ensures b.children later (seen_are r front b outer rd))) in
+    let f = λ (later : List Bool). says r c.args.octets.now later (length outer + 1) b.children c.in_ok-child.child (child.Long c.in-Long.placed c.in-Long.size) c.in-Long.is (subst (λ (m : ℕ). HeadSays (set_of_kind r.top.kind) (groups_of r.top.kind) b.children m (8 * r.at) (8 * r.top.stop) (digits_of_bytes c.args.octets.now ++ later) c.args.octets.now (Ok c.in_ok-child.child)) is (c.in_ok-child.ensures b.children later (seen_are r front b outer rd))) in
     let rc = long_reaches r front b outer rd c.requires.stage c.args.octets.now d c.requires.room c.requires.long k n (f []).0 (λ later. (f later).3) in
     let place : 8 * r.at + 32 ≡ 8 * (r.at + 4) = omega arith in
     let end : 8 * r.at + 8 * n ≡ 8 * (r.at + n) = omega arith in
-    let rc2 = subst (λ (m : ℕ). Reaches r.profile front r.octets (leading (tlv k n) m [] ∷ b ∷ outer) (8 * r.at + 32)) end rc in
-    c.enter-in-Long.ensures.steps c.args.octets.now was front b outer (tlv k n) rd told d refl (f []).4 (subst (λ (m : ℕ). Reaches r.profile front r.octets (leading (tlv k n) (8 * (r.at + n)) [] ∷ b ∷ outer) m) place rc2) (f []).0
+    let rc2 = subst (λ (m : ℕ). Reaches r.set front r.octets (leading (tlv k n) m [] ∷ b ∷ outer) (8 * r.at + 32)) end rc in
+    c.enter-in-Long.ensures.steps c.args.octets.now was front b outer (tlv k n) rd told d refl (f []).4 (subst (λ (m : ℕ). Reaches r.set front r.octets (leading (tlv k n) (8 * (r.at + n)) [] ∷ b ∷ outer) m) place rc2) (f []).0

@@ -1,4 +1,4 @@
-use Rattle.std.proofs.Common.{◌≡◌, ℕ, ◌∷◌, Ok, sym, ap, subst, drop, arith}
+use Rattle.std.proofs.Common.{◌≡◌, ℕ, ◌∷◌, Ok, Err, sym, ap, subst, drop, arith}
 use Rattle.std.proofs.lemmas.Result.{err_from_is_err_and}
 use Rattle.llrp_stream.specs.declared.engine.body_reader.BodyReader.{BodyReader}
 use Rattle.llrp_stream.specs.Calls.Reading.{HasReadTo}
@@ -24,5 +24,13 @@ pub returns : goal.returns
 returns g c = λ was front b outer rd told d.
     let zero : c.in_ok-head.head ≡ 0 = omega (arith, c.if-head-gt0.false) in
     let e = c.in_ok-head.ensures.none (ap (λ (n : ℕ). Ok n) zero) in
-    let steps = c.begin.ensures was front b outer (subst (λ (r : BodyReader). HasReadTo r front b outer) (sym e.0) rd) (subst (λ l. g.L.Listener.stands l was (b ∷ outer)) (sym e.1) told) (subst (λ (r : BodyReader). drop r.at front ≡ c.args.octets.now) (sym e.0) d) in
-    subst (λ (r : BodyReader). Steps (g.L.Listener.begins c.begin.new.listener was) (g.L.Listener.stands c.begin.new.listener was) r c.begin.new.self front c.args.octets.now c.begin.result) e.0 steps
+    let steps = c.in_ok-step.ensures was front b outer (subst (λ (r : BodyReader). HasReadTo r front b outer) (sym e.0) rd) (subst (λ l. g.L.Listener.stands l was (b ∷ outer)) (sym e.1) told) (subst (λ (r : BodyReader). drop r.at front ≡ c.args.octets.now) (sym e.0) d) in
+    subst (λ (r : BodyReader). Steps (g.L.Listener.begins c.begin.new.listener was) (g.L.Listener.stands c.begin.new.listener was) r c.begin.new.self front c.args.octets.now (Ok c.in_ok-step.step)) e.0 steps
+
+pub returns-in_err-step : goal.returns-in_err-step
+returns-in_err-step g c = λ was front b outer rd told d.
+    let zero : c.in_ok-head.head ≡ 0 = omega (arith, c.if-head-gt0.false) in
+    let e = c.in_ok-head.ensures.none (ap (λ (n : ℕ). Ok n) zero) in
+    let p = err_from_is_err_and c.from_residual-in_err-step.result c.from_residual-in_err-step.ensures.1 in
+    let steps = c.in_err-step.ensures was front b outer (subst (λ (r : BodyReader). HasReadTo r front b outer) (sym e.0) rd) (subst (λ l. g.L.Listener.stands l was (b ∷ outer)) (sym e.1) told) (subst (λ (r : BodyReader). drop r.at front ≡ c.args.octets.now) (sym e.0) d) in
+    rw (p.1, p.2) (subst (λ (r : BodyReader). Steps (g.L.Listener.begins c.begin.new.listener was) (g.L.Listener.stands c.begin.new.listener was) r c.begin.new.self front c.args.octets.now (Err c.in_err-step.field-0.0)) e.0 steps)

@@ -44,8 +44,8 @@ returns-clause-moves g c = λ _ was front b outer rd told d.
     let rc = long_reaches r front b outer rd c.requires.stage octets d c.requires.room c.requires.long c.args.kind n (f []).0 (λ later. (f later).3) in
     let place : 8 * r.at + 32 ≡ 8 * (r.at + 4) = omega arith in
     let end : 8 * r.at + 8 * n ≡ 8 * (r.at + n) = omega arith in
-    let rc2 = subst (λ (m : ℕ). Reaches r.profile front r.octets (leading (tlv c.args.kind n) m [] ∷ b ∷ outer) (8 * r.at + 32)) end rc in
-    let entered = c.in_ok-enter.ensures.steps octets was front b outer (tlv c.args.kind n) rd told d refl (f []).4 (subst (λ (m : ℕ). Reaches r.profile front r.octets (leading (tlv c.args.kind n) (8 * (r.at + n)) [] ∷ b ∷ outer) m) place rc2) (f []).0 in
+    let rc2 = subst (λ (m : ℕ). Reaches r.set front r.octets (leading (tlv c.args.kind n) m [] ∷ b ∷ outer) (8 * r.at + 32)) end rc in
+    let entered = c.in_ok-enter.ensures.steps octets was front b outer (tlv c.args.kind n) rd told d refl (f []).4 (subst (λ (m : ℕ). Reaches r.set front r.octets (leading (tlv c.args.kind n) (8 * (r.at + n)) [] ∷ b ∷ outer) m) place rc2) (f []).0 in
     subst (λ (x : Step). Steps (g.L.Listener.begins c.enter.new.listener was) (g.L.Listener.stands c.enter.new.listener was) r c.enter.new.self front octets (Ok x)) c.in_ok-enter.ensures.goes entered
 
 pub enter-requires-clause-told : goal.enter-requires-clause-told
@@ -60,4 +60,4 @@ returns-in_err-found-clause-fails g c =
     rw (p.1, p.2) (λ was front b outer rd told d. (
     let r : BodyReader = c.args.self.now in
     fails_with _ _ _ front r.octets c.in_err-found.field-0.0 (head_tells r front b outer rd c.requires.stage c.args.octets.now d c.requires.room c.requires.long c.in_err-found.field-0.0
-    (fails_here r front b outer rd c.args.parent 2 c.requires.parent (omega (arith, c.requires.second)) c.requires.stage c.args.octets.now c.in_err-found.field-0.0 c.in_err-found.ensures.fails)) (b ∷ outer, inr told)))
+    (fails_here r front b outer rd c.args.parent 2 c.requires.parent (omega (arith, c.requires.second)) c.requires.stage c.args.octets.now c.in_err-found.field-0.0 c.in_err-found.ensures.fails)) (inr told)))

@@ -48,7 +48,7 @@ returns-in_err-found g c = λ was front b outer rd told d.
     let e : FrameErr = c.in_err-found.field-0.0 in
     let k = known r front b outer c.args.form rd c.requires.stage c.requires.form c.requires.has in
     rw (p.1, p.2) (fails_with _ (g.L.Listener.begins c.args.listener.now was) (g.L.Listener.stands c.args.listener.now was) front r.octets e
-    (count_tells r front b outer c.args.form rd c.requires.stage c.requires.form c.requires.has c.args.octets.now e d (λ later. c.in_err-found.ensures (plain_values (rules b) b.fields) later k)) (b ∷ outer, inl told))
+    (count_tells r front b outer c.args.form rd c.requires.stage c.requires.form c.requires.has c.args.octets.now e d (λ later. c.in_err-found.ensures (plain_values (rules b) b.fields) later k)) (inl told))
 
 pub returns-in_default : goal.returns-in_default
 returns-in_default g c = λ was front b outer rd told d.
@@ -63,7 +63,7 @@ returns-in_default g c = λ was front b outer rd told d.
       are = record { node = b; outer = outer; reads = rd; told = subst (λ (x : Stage). Told (g.L.Listener.begins c.args.listener.now was) (g.L.Listener.stands c.args.listener.now was) x (b ∷ outer)) (sym c.requires.stage) told };
       place = refl;
       same = refl;
-      profile = refl;
+      set = refl;
       short = omega (arith, h.0, h.3, s);
       undecided = count_undecided r front b outer c.args.form rd c.requires.stage c.requires.form c.requires.has c.args.octets.now d h.1 h.2 h.3 h.0;
     }
@@ -98,7 +98,7 @@ returns g c = λ was front b outer rd told d.
     let l = led r front b outer c.args.form rd c.requires.stage c.requires.form c.requires.has in
     let lo : length c.args.octets.now ≡ length front - r.at = sym (ap (λ (x : List ℕ). length x) d) ∙ length-drop r.at front in
     let le = rd.before in
-    let now : BodyReader = record { profile = r.profile; octets = r.octets; at = r.at + count; bit = r.bit; first = r.first; stage = stage.Tail left; top = r.top; outer = r.outer } in
+    let now : BodyReader = record { set = r.set; octets = r.octets; at = r.at + count; bit = r.bit; first = r.first; stage = stage.Tail left; top = r.top; outer = r.outer } in
     record {
       within = h.1;
       are = record {
@@ -117,6 +117,6 @@ returns g c = λ was front b outer rd told d.
       };
       place = refl;
       same = refl;
-      profile = refl;
+      set = refl;
       less = tail_work r now (length c.args.octets.now) count refl refl (let q = ap rank c.requires.stage in omega (arith, q));
     }

@@ -47,7 +47,7 @@ returns-then-not-enough g c = λ os was front b outer rd told d.
     let r = c.args.self.now in
     let few : c.is_enough-enough.result ≡ false = cc (c.if-not-enough.true) in
     fails_with _ _ _ front r.octets c.bad.result (missing_tell r front b outer rd c.requires.stage c.requires.over c.bad.result
-    (ap (λ (k : Kind). is_enough (groups_of k) b.children) rd.level.kind ∙ sym (c.is_enough-enough.ensures b.children (seen_are r front b outer rd)) ∙ few) c.bad.ensures) (b ∷ outer, inr told)
+    (ap (λ (k : Kind). is_enough (groups_of k) b.children) rd.level.kind ∙ sym (c.is_enough-enough.ensures b.children (seen_are r front b outer rd)) ∙ few) c.bad.ensures) (inr told)
 
 lawful_in : (p : Begun) (outer : List Begun) → IsOpenTree (p ∷ outer) → AllLawful p.children
 unfolding IsOpenTree
@@ -87,7 +87,7 @@ returns-in_default g c = λ os was front b outer rd told d.
       record {
         node = b;
         ready = s.ready;
-        reaches = subst (λ (x : List Begun). Reaches r.profile front r.octets (b ∷ x) (8 * r.at)) is s.reaches;
+        reaches = subst (λ (x : List Begun). Reaches r.set front r.octets (b ∷ x) (8 * r.at)) is s.reaches;
         over = over_is r front b outer rd c.requires.stage c.requires.over;
         enough = ap (λ (k : Kind). is_enough (groups_of k) b.children) rd.level.kind ∙ sym (c.is_enough-enough.ensures b.children (seen_are r front b outer rd)) ∙ all;
         told = subst (λ (x : List Begun). g.L.Listener.stands c.args.listener.now was (b ∷ x)) is told;
@@ -106,7 +106,7 @@ returns g c = λ os was front b outer rd told d.
     let p = popped r.outer.items c.pop.new.self.items c.in-Some.parent (kind_of_head b.head) outer c.in-Some.ensures.items rd.levels in
     let cs : Forest = with_child p.parent.children b.head b.fields b.tail b.children in
     let node : Begun = begin_node p.parent.head p.parent.stop p.parent.fields p.parent.tail cs in
-    let now : BodyReader = record { profile = r.profile; octets = r.octets; at = r.at; bit = r.bit; first = r.first; stage = r.stage; top = c.in-Some.parent; outer = c.pop.new.self } in
+    let now : BodyReader = record { set = r.set; octets = r.octets; at = r.at; bit = r.bit; first = r.first; stage = r.stage; top = c.in-Some.parent; outer = c.pop.new.self } in
     let rest : IsResting now front node p.others = record { ready = parent_due r front b outer rd c.requires.stage c.requires.over p.parent p.others cs p.is; aligned = s.aligned; reaches = closed_reaches r front b outer rd c.requires.stage c.requires.over p.parent p.others p.is enough } in
     let heard : g.L.Listener.stands c.close.new.self was (node ∷ p.others) = subst (λ (x : List Begun). g.L.Listener.stands c.close.new.self was (with_closed (b ∷ x))) p.is (c.in_ok-close.ensures was (b ∷ outer) told (record { node = b; outer = outer; tree_is = refl; ready = s.ready; is_open = s.reaches.is_open })) in
     record {
@@ -126,6 +126,6 @@ returns g c = λ os was front b outer rd told d.
       };
       place = omega arith;
       same = refl;
-      profile = refl;
+      set = refl;
       less = close_work r now (length os) refl c.in-Some.ensures.len refl;
     }

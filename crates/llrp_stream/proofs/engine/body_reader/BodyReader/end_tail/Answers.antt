@@ -20,6 +20,6 @@ returns g c = λ octets was front b outer rd told d.
       };
       place = omega arith;
       same = refl;
-      profile = refl;
+      set = refl;
       less = tail_work r _ (length octets) 0 refl refl (let k = ap rank c.requires.stage in omega (arith, k));
     }

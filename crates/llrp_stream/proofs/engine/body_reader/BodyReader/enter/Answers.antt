@@ -47,15 +47,15 @@ returns-clause-steps g c = λ octets was front b outer h rd told d k placed rc u
         reads = record {
           level = record { kind = k ∙ sym c.begun-self.ensures.kind; stop = ap (λ (n : ℕ). 8 * n) (sym c.begun-self.ensures.stop); seen = subst (λ (x : Kind). AreSeen (groups_of x) none c.begun-self.result.seen.bits) (sym k) c.begun-self.ensures.seen };
           levels = subst (λ (x : List StackNode). AreLevels (reverse x) (kind_of_head h) (b ∷ outer)) (sym c.push.ensures.items) (pushed c.args.self.now.outer.items parent (kind_of_head h) b outer is_parent rd.levels);
-          stage = record { bare = refl; count = refl; first_is = refl; reaches = subst (λ (n : ℕ). Reaches c.args.self.now.profile front c.args.self.now.octets (leading h (8 * c.args.stop) [] ∷ b ∷ outer) n) place rc };
+          stage = record { bare = refl; count = refl; first_is = refl; reaches = subst (λ (n : ℕ). Reaches c.args.self.now.set front c.args.self.now.octets (leading h (8 * c.args.stop) [] ∷ b ∷ outer) n) place rc };
           before = omega (arith, rd.before);
           small = rd.small;
           bit_small = omega (arith, c.requires.aligned);
         };
-        told = c.in_ok-parameter.ensures was (b ∷ outer) h (8 * c.args.stop) told (omega (arith, c.len.ensures.value)) k;
+        told = c.in_ok-parameter.ensures was (b ∷ outer) h told (omega (arith, c.len.ensures.value)) k rc.is_open;
       };
       place = refl;
       same = refl;
-      profile = refl;
+      set = refl;
       less = enter_work c.args.self.now _ (length octets) c.args.used c.requires.some used c.requires.aligned refl c.push.ensures.len refl;
     }

@@ -22,12 +22,12 @@ field_work r n left w one fit b o s = let e = ap (λ (x : ArrayVec StackNode). l
 pub returns-then-stop-at : goal.returns-then-stop-at
 returns-then-stop-at g c = λ was front b outer others rd told d nx.
     fails_with _ _ _ front c.args.self.now.octets c.bad.result (field_all_tell c.args.self.now front b outer c.args.octets.now c.args.next (field_rule c.args.rule.now) others rd c.requires.stage d nx c.bad.result
-    (λ later. short_fails (field_rule c.args.rule.now) _ _ _ c.bad.result (omega (arith, c.if-stop-at.true)) c.bad.ensures)) (b ∷ outer, inl told)
+    (λ later. short_fails (field_rule c.args.rule.now) _ _ _ c.bad.result (omega (arith, c.if-stop-at.true)) c.bad.ensures)) (inl told)
 
 pub returns-in_err-value : goal.returns-in_err-value
 returns-in_err-value g c = λ was front b outer others rd told d nx.
     let p = err_from_is_err_and c.from_residual.result c.from_residual.ensures.1 in
-    rw (p.1, p.2) (fails_with _ _ _ front c.args.self.now.octets c.in_err-value.field-0.0 (field_all_tell c.args.self.now front b outer c.args.octets.now c.args.next (field_rule c.args.rule.now) others rd c.requires.stage d nx c.in_err-value.field-0.0 (λ later. c.in_err-value.ensures later)) (b ∷ outer, inl told))
+    rw (p.1, p.2) (fails_with _ _ _ front c.args.self.now.octets c.in_err-value.field-0.0 (field_all_tell c.args.self.now front b outer c.args.octets.now c.args.next (field_rule c.args.rule.now) others rd c.requires.stage d nx c.in_err-value.field-0.0 (λ later. c.in_err-value.ensures later)) (inl told))
 
 pub field-requires-clause-some : goal.field-requires-clause-some
 field-requires-clause-some g c =
@@ -56,7 +56,7 @@ returns g c = λ was front b outer others rd told d nx.
         reads = record {
           level = record { kind = rd.level.kind; stop = rd.level.stop; seen = subst (λ (x : Begun). AreSeen (groups x) x.children c.args.self.now.top.seen.bits) s.bare rd.level.seen };
           levels = rd.levels;
-          stage = record { bare = refl; count = length-append b.fields (v ∷ []) ∙ ap (λ (n : ℕ). n + 1) s.count; first_is = c.first_of-self.ensures b.fields s.count s.first_is; reaches = subst (λ (n : ℕ). Reaches c.args.self.now.profile front c.args.self.now.octets (leading b.head b.stop (b.fields ++ v ∷ []) ∷ outer) n) place rf };
+          stage = record { bare = refl; count = length-append b.fields (v ∷ []) ∙ ap (λ (n : ℕ). n + 1) s.count; first_is = c.first_of-self.ensures b.fields s.count s.first_is; reaches = subst (λ (n : ℕ). Reaches c.args.self.now.set front c.args.self.now.octets (leading b.head b.stop (b.fields ++ v ∷ []) ∷ outer) n) place rf };
           before = omega arith;
           small = rd.small;
           bit_small = omega arith;
@@ -65,7 +65,7 @@ returns g c = λ was front b outer others rd told d nx.
       };
       place = refl;
       same = refl;
-      profile = refl;
+      set = refl;
       less = field_work c.args.self.now _ (length c.args.octets.now) w c.requires.some enough refl refl (ap rank (sym c.requires.stage));
     }
 
@@ -78,7 +78,7 @@ returns-then-octets-div_ceil g c = λ was front b outer others rd told d nx.
       are = record { node = b; outer = outer; reads = rd; told = stage_told };
       place = refl;
       same = refl;
-      profile = refl;
+      set = refl;
       short = omega (arith, s, c.if-octets-div_ceil.true, c.div_ceil.ensures, c.if-stop-at.false, c.requires.before);
       undecided = subst (λ (x : Stage). IsUndecided front c.args.self.now.octets (settled x b ∷ outer)) (sym c.requires.stage)
           (field_undecided c.args.self.now front b outer c.args.octets.now c.args.next (field_rule c.args.rule.now) others rd c.requires.stage d nx (omega (arith, c.if-stop-at.false, c.requires.before)) (omega (arith, c.if-octets-div_ceil.true, c.div_ceil.ensures)));

@@ -12,7 +12,7 @@ use Rattle.llrp_tree.proofs.OctetLemmas.{are_octets}
 use Rattle.llrp_stream.specs.declared.engine.body_reader.BodyReader.{BodyReader}
 use Rattle.llrp_stream.specs.declared.engine.body_reader.Stage.{Stage}
 use Rattle.llrp_stream.specs.declared.engine.body_reader.Stage.TheVariants as stage
-use Rattle.llrp_stream.specs.Private.Front.{TellsAll}
+use Rattle.llrp_stream.specs.Private.Front.{TellsFor}
 use Rattle.llrp_stream.specs.Calls.Front.{IsUndecided}
 use Rattle.llrp_stream.specs.Calls.Received.{AreWhole}
 use Rattle.llrp_stream.specs.Private.Tails.{HasWhole}
@@ -53,9 +53,9 @@ returns-then-faulty g c = λ was front b outer rd told d.
     let shape : form b ≡ Text = ap tail_of rd.level.kind ∙ sym c.tail-form.ensures ∙ text in
     let near_is : near ≡ take (min (length c.args.octets.now) c.args.left) c.args.octets.now = c.split_at.ensures.front ∙ ap (λ (k : ℕ). take k c.args.octets.now) c.min.ensures in
     let h : HasWhole Text near 0 = subst (λ (n : ℕ). HasWhole Text near n) zero (subst (λ (x : Tail). HasWhole x near c.whole_front-used.result) text c.whole_front-used.ensures) in
-    let tells : TellsAll r.profile front r.octets c.bad.result = subst (λ (e : FrameErr). TellsAll r.profile front r.octets e) (sym c.bad.ensures)
+    let tells : TellsFor r.set (b ∷ outer) front r.octets c.bad.result = subst (λ (e : FrameErr). TellsFor r.set (b ∷ outer) front r.octets e) (sym c.bad.ensures)
     (text_tells c.args.left r front b outer t c.args.octets.now near d (are_octets c.args.octets.now (λ i. c.type_inv.octets i)) near_is shape c.requires.some_left (sym h) (far_of (length near) c.args.left (c.is_faulty-faulty.ensures.many faulty))) in
-    fails_with _ (g.L.Listener.begins c.args.listener.now was) (g.L.Listener.stands c.args.listener.now was) front r.octets c.bad.result tells (b ∷ outer, inl told)
+    fails_with _ (g.L.Listener.begins c.args.listener.now was) (g.L.Listener.stands c.args.listener.now was) front r.octets c.bad.result tells (inl told)
 
 pub returns-then-used-eq0 : goal.returns-then-used-eq0
 returns-then-used-eq0 g c = λ was front b outer rd told d.
@@ -80,7 +80,7 @@ returns-then-used-eq0 g c = λ was front b outer rd told d.
       are = record { node = b; outer = outer; reads = rd; told = subst (λ (x : Stage). Told (g.L.Listener.begins c.args.listener.now was) (g.L.Listener.stands c.args.listener.now was) x (b ∷ outer)) (sym c.requires.stage) told };
       place = refl;
       same = refl;
-      profile = refl;
+      set = refl;
       short = omega (arith, few.0, inside, s, stop);
       undecided = subst (λ (x : Stage). IsUndecided front r.octets (settled x b ∷ outer)) (sym c.requires.stage) u;
     }
@@ -131,7 +131,7 @@ returns g c = λ was front b outer rd told d.
     let lo : length c.args.octets.now ≡ length front - r.at = sym (ap (λ (x : List ℕ). length x) d) ∙ length-drop r.at front in
     let le = t.before in
     let piece : List ℕ = take used near in
-    let now : BodyReader = record { profile = r.profile; octets = r.octets; at = r.at + used; bit = r.bit; first = r.first; stage = stage.Tail (c.args.left - used); top = r.top; outer = r.outer } in
+    let now : BodyReader = record { set = r.set; octets = r.octets; at = r.at + used; bit = r.bit; first = r.first; stage = stage.Tail (c.args.left - used); top = r.top; outer = r.outer } in
     record {
       within = f.0;
       are = record {
@@ -150,6 +150,6 @@ returns g c = λ was front b outer rd told d.
       };
       place = refl;
       same = refl;
-      profile = refl;
+      set = refl;
       less = more_work r now (length c.args.octets.now) used one f.0 t.aligned t.aligned refl (sym (ap rank c.requires.stage));
     }

@@ -1,4 +1,4 @@
-use Rattle.llrp_schema.specs.declared.kinds.Profile.{Profile}
+use Rattle.llrp_schema.specs.declared.kinds.KindSet.{KindSet}
 use Rattle.std.proofs.Common.{◌≡◌, ℕ, ◌-◌, ◌<◌, true, false, List, length, drop, Ok, sym, ap, ◌∙◌, subst, arith, length-drop}
 use Rattle.std.proofs.lemmas.Result.{err_from_is_err_and}
 use Rattle.llrp_tree.specs.OpenTree.{Begun}
@@ -23,7 +23,7 @@ pub returns-in_err-step : goal.returns-in_err-step
 returns-in_err-step g c = λ was front are d.
     let f = c.parts.invariant was front are d in
     let p = err_from_is_err_and c.from_residual.result c.from_residual.ensures.1 in
-    rw (p.1, p.2) (subst (λ (q : Profile). FailsWith (g.L.Listener.begins c.step.new.listener was) (g.L.Listener.stands c.step.new.listener was) q front c.args.self.now.octets c.in_err-step.field-0.0) f.profile (subst (λ (n : ℕ). FailsWith (g.L.Listener.begins c.step.new.listener was) (g.L.Listener.stands c.step.new.listener was) c.parts.self.profile front n c.in_err-step.field-0.0) f.same (c.in_err-step.ensures was front f.are f.behind)))
+    rw (p.1, p.2) (subst (λ (q : KindSet). FailsWith (g.L.Listener.begins c.step.new.listener was) (g.L.Listener.stands c.step.new.listener was) q front c.args.self.now.octets c.in_err-step.field-0.0) f.set (subst (λ (n : ℕ). FailsWith (g.L.Listener.begins c.step.new.listener was) (g.L.Listener.stands c.step.new.listener was) c.parts.self.set front n c.in_err-step.field-0.0) f.same (c.in_err-step.ensures was front f.are f.behind)))
 
 pub overflow_sub-result : goal.overflow_sub-result
 overflow_sub-result g c = let w = c.requires in (c.parts.invariant w.0 w.1 w.2 w.3).within
@@ -35,13 +35,13 @@ pub returns-in-Waits : goal.returns-in-Waits
 returns-in-Waits g c = λ was front are d.
     let f = c.parts.invariant was front are d in
     let s = at_step _ _ c.parts.self c.step.new.self front c.parts.rest.now c.in_ok-step.field-0 Waits c.in-Waits.is (c.in_ok-step.ensures was front f.are f.behind) in
-    (λ e. record { within = omega (arith, f.within); left = omega (arith, s.few, f.within); short = omega (arith, s.short, f.place, f.same); are = s.are; place = omega (arith, s.place, f.place, f.within); same = s.same ∙ f.same; profile = s.profile ∙ f.profile; undecided = s.undecided }, λ e. absurd (let z : false ≡ true = e in cc))
+    (λ e. record { within = omega (arith, f.within); left = omega (arith, s.few, f.within); short = omega (arith, s.short, f.place, f.same); are = s.are; place = omega (arith, s.place, f.place, f.within); same = s.same ∙ f.same; set = s.set ∙ f.set; undecided = s.undecided }, λ e. absurd (let z : false ≡ true = e in cc))
 
 pub returns-in-Ends : goal.returns-in-Ends
 returns-in-Ends g c = λ was front are d.
     let f = c.parts.invariant was front are d in
     let s = at_step _ _ c.parts.self c.step.new.self front c.parts.rest.now c.in_ok-step.field-0 Ends c.in-Ends.is (c.in_ok-step.ensures was front f.are f.behind) in
-    (λ e. absurd (let z : true ≡ false = e in cc), λ e. (s.0, s.2 ∙ f.same, s.3 ∙ f.profile))
+    (λ e. absurd (let z : true ≡ false = e in cc), λ e. (s.0, s.2 ∙ f.same, s.3 ∙ f.set))
 
 pub split_at-requires : goal.split_at-requires
 split_at-requires g c =
@@ -71,5 +71,5 @@ parts-preserved g c = λ was front are d.
       place = omega (arith, s.place, f.place, s.within);
       within = omega (arith, f.within);
       same = s.same ∙ f.same;
-      profile = s.profile ∙ f.profile;
+      set = s.set ∙ f.set;
     }

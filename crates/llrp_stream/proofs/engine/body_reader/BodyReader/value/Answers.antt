@@ -3,7 +3,7 @@ use Rattle.tag_bits.specs.Digits.{digits_of_bytes}
 use Rattle.llrp_schema.specs.declared.kinds.Kind.{Kind}
 use Rattle.llrp_schema.specs.declared.kinds.Kind.TheVariants.{Parameter}
 use Rattle.llrp_schema.specs.declared.kinds.ParamKind.{ParamKind}
-use Rattle.llrp_schema.specs.Schema.{profile_of, bits_of, fields_of, groups_of}
+use Rattle.llrp_schema.specs.Schema.{set_of_kind, bits_of, fields_of, groups_of}
 use Rattle.llrp_tree.specs.Tree.{Forest, none, and}
 use Rattle.llrp_tree.specs.OpenTree.{Begun}
 use Rattle.llrp_tree.specs.Calls.Standing.{begin_node}
@@ -53,7 +53,7 @@ returns-clause-takes g c = λ was front a d.
     let is = λ (later : List Bool). c.from_octet-value.ensures.value later ∙ ap (λ (m : ℕ). number (digits_of_bytes octets ++ later) 8 m) bits in
     let few = outer_length r front b outer rd c.requires.stage in
     let level : length r.outer.items + 1 ≡ length outer + 1 = omega (arith, few) in
-    let passes : (later : List Bool) → (first_digit (digits_of_bytes octets ++ later) ≡ true) × KindPasses (tv_kind (profile_of r.top.kind) (digits_of_bytes octets ++ later)) (groups_of r.top.kind) b.children (length outer + 1) k = λ later. (n.digit later, subst (λ (m : ℕ). KindPasses (tv_kind (profile_of r.top.kind) (digits_of_bytes octets ++ later)) (groups_of r.top.kind) b.children m k) level (n.may_begin later).passes) in
+    let passes : (later : List Bool) → (first_digit (digits_of_bytes octets ++ later) ≡ true) × KindPasses (tv_kind (set_of_kind r.top.kind) (digits_of_bytes octets ++ later)) (groups_of r.top.kind) b.children (length outer + 1) k = λ later. (n.digit later, subst (λ (m : ℕ). KindPasses (tv_kind (set_of_kind r.top.kind) (digits_of_bytes octets ++ later)) (groups_of r.top.kind) b.children m k) level (n.may_begin later).passes) in
     let rc = value_reaches k n.short r front b outer rd c.requires.stage octets d c.requires.long passes v n.inside n.whole is fits in
     let nx = is_next_value k n.short r front b outer rd c.requires.stage octets d c.requires.long passes v fits in
     let told = subst (λ (x : Stage). Told (g.L.Listener.begins c.args.listener.now was) (g.L.Listener.stands c.args.listener.now was) x (b ∷ outer)) c.requires.stage a.told in
@@ -62,9 +62,9 @@ returns-clause-takes g c = λ was front a d.
     let children : Forest = and b.children k (v ∷ []) [] none in
     let node : Begun = begin_node b.head b.stop b.fields b.tail children in
     let used : ℕ = 1 + c.value_octets-end.result in
-    let now : BodyReader = record { profile = r.profile; octets = r.octets; at = r.at + used; bit = r.bit; first = r.first; stage = r.stage; top = record { kind = r.top.kind; stop = r.top.stop; seen = c.args.child.seen }; outer = r.outer } in
+    let now : BodyReader = record { set = r.set; octets = r.octets; at = r.at + used; bit = r.bit; first = r.first; stage = r.stage; top = record { kind = r.top.kind; stop = r.top.stop; seen = c.args.child.seen }; outer = r.outer } in
     let place : 8 * r.at + 8 + bits_of (fields_of (Parameter k)) ≡ 8 * (r.at + used) = omega (arith, bits) in
-    let rest : IsResting now front node outer = record { ready = same_due b children s.ready; aligned = s.aligned; reaches = subst (λ (m : ℕ). Reaches r.profile front r.octets (node ∷ outer) m) place rc } in
+    let rest : IsResting now front node outer = record { ready = same_due b children s.ready; aligned = s.aligned; reaches = subst (λ (m : ℕ). Reaches r.set front r.octets (node ∷ outer) m) place rc } in
     let lo : length octets ≡ length front - r.at = sym (ap (λ (x : List ℕ). length x) d) ∙ length-drop r.at front in
     record {
       within = omega (arith, n.whole);
@@ -83,5 +83,5 @@ returns-clause-takes g c = λ was front a d.
       };
       place = omega (arith, c.value_octets-end.ensures);
       same = refl;
-      profile = refl;
+      set = refl;
     }

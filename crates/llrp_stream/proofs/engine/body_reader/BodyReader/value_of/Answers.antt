@@ -11,7 +11,7 @@ pub value-requires-clause-stop : goal.value-requires-clause-stop
 value-requires-clause-stop g c = c.requires.awaits.stop
 
 pub value-requires-clause-long : goal.value-requires-clause-long
-value-requires-clause-long g c = long_report c.args.self.now.top.kind c.requires.awaits.kind
+value-requires-clause-long g c = long_report c.args.set c.args.self.now.top.kind c.requires.awaits.kind
 
 pub value-requires-clause-second : goal.value-requires-clause-second
 value-requires-clause-second g c = c.requires.awaits.second

@@ -1,5 +1,5 @@
 use Rattle.std.proofs.Common.{subst, [], sym, ap, ◌∙◌, arith, inl, inr}
-use Rattle.llrp_schema.specs.declared.kinds.Profile.{Profile}
+use Rattle.llrp_schema.specs.declared.kinds.KindSet.{KindSet}
 use Rattle.llrp_stream.specs.Private.Frames.{SkipsTo}
 use Rattle.llrp_stream.specs.declared.engine.body.Body.{Body}
 use Rattle.llrp_stream.specs.declared.state.State.{State}
@@ -58,7 +58,7 @@ returns-in-Skipping-clause-progress g c = (let w = came_so (g.L.Listener.begins 
 pub returns-in-Skipping-clause-takes : goal.returns-in-Skipping-clause-takes
 returns-in-Skipping-clause-takes g c = λ was front k.
     let s = state_comes (g.L.Listener.begins c.args.listener.now was) (g.L.Listener.stands c.args.listener.now was) c.args.self.now.limit c.args.self.now.state (state.Skipping c.in-Skipping.count c.in-Skipping.header) c.args.self.now.body front c.in-Skipping.is k in
-    skip_takes (g.L.Listener.begins c.args.listener.now was) (g.L.Listener.stands c.args.listener.now was) (g.L.Listener.ends c.args.listener.now was) (λ now. g.L.Listener.stands c.args.listener.now now []) c.args.self.now.limit front c.args.piece.now c.skip.new.self c.skip.result.used c.skip.result.outcome (ap (λ (x : Body). x.raw.items) c.skip.ensures.body ∙ s.3) s.4 (subst (λ (q : Profile). SkipsTo q c.args.self.now.limit front c.args.piece.now c.skip.new.self c.skip.result.used c.skip.result.outcome) (sym (ap (λ (x : Body). x.reader.profile) c.skip.ensures.body)) (c.skip.ensures.skips c.args.self.now.body.reader.profile c.args.self.now.limit front s.0))
+    skip_takes (g.L.Listener.begins c.args.listener.now was) (g.L.Listener.stands c.args.listener.now was) (g.L.Listener.ends c.args.listener.now was) (λ now. g.L.Listener.stands c.args.listener.now now []) c.args.self.now.limit front c.args.piece.now c.skip.new.self c.skip.result.used c.skip.result.outcome (ap (λ (x : Body). x.raw.items) c.skip.ensures.body ∙ s.3) s.4 (subst (λ (q : KindSet). SkipsTo q c.args.self.now.limit front c.args.piece.now c.skip.new.self c.skip.result.used c.skip.result.outcome) (sym (ap (λ (x : Body). x.reader.set) c.skip.ensures.body)) (c.skip.ensures.skips c.args.self.now.body.reader.set c.args.self.now.limit front s.0))
 
 pub returns-in-Skipping-clause-broken : goal.returns-in-Skipping-clause-broken
 returns-in-Skipping-clause-broken g c = λ e. absurd (let z = sym c.in-Skipping.is ∙ e in cc)

@@ -20,7 +20,7 @@ open-requires-clause-whole g c =
     omega (arith, near, long, raw, c.in-Sound.ensures.long, c.min-used.ensures, c.len.ensures, c.requires.short, length-append c.args.self.now.body.raw.items c.split_at.result.0.now)
 
 pub open-requires-clause-sound : goal.open-requires-clause-sound
-open-requires-clause-sound g c = subst (λ (x : List ℕ). IsSound c.keep.new.self.reader.profile c.args.self.now.limit x c.in-Sound.header) c.as_slice.ensures.value c.in-Sound.ensures
+open-requires-clause-sound g c = subst (λ (x : List ℕ). IsSound c.keep.new.self.reader.set c.args.self.now.limit x c.in-Sound.header) c.as_slice.ensures.value c.in-Sound.ensures
 
 pub returns-in-Breaking-clause-takes : goal.returns-in-Breaking-clause-takes
 returns-in-Breaking-clause-takes g c = λ was st.
@@ -45,7 +45,7 @@ returns-in-Faulty-clause-takes g c = λ was st.
     let near = near_is c.args.piece.now (take c.min-used.result c.args.piece.now) c.min-used.result used refl in
     let long : length c.as_slice.result.now ≡ 10 = (let e = ap (λ (x : List ℕ). length x) mid in omega (arith, c.in-Faulty.ensures.long, c.min-used.ensures, c.len.ensures, near, length-append front (take c.min-used.result c.args.piece.now), c.requires.short)) in
     rw c.after.ensures
-    (begins_faulty (g.L.Listener.begins c.args.listener.now was) (g.L.Listener.stands c.args.listener.now was) (g.L.Listener.ends c.args.listener.now was) (λ now. g.L.Listener.stands c.args.listener.now now []) c.args.self.now.limit c.keep.new.self.reader.profile c.min-used.result c.skip-came.new.self front c.args.piece.now c.as_slice.result.now c.split_at.result.1.now c.in-Faulty.header c.skip-came.result used mid c.split_at.ensures.back long c.in-Faulty.ensures (ap (λ x. x.reader.profile) c.skip-came.ensures.body) (ap (λ x. x.raw.items) c.skip-came.ensures.body ∙ c.clear.ensures) st c.skip-came.ensures.skips)
+    (begins_faulty (g.L.Listener.begins c.args.listener.now was) (g.L.Listener.stands c.args.listener.now was) (g.L.Listener.ends c.args.listener.now was) (λ now. g.L.Listener.stands c.args.listener.now now []) c.args.self.now.limit c.keep.new.self.reader.set c.min-used.result c.skip-came.new.self front c.args.piece.now c.as_slice.result.now c.split_at.result.1.now c.in-Faulty.header c.skip-came.result used mid c.split_at.ensures.back long c.in-Faulty.ensures (ap (λ x. x.reader.set) c.skip-came.ensures.body) (ap (λ x. x.raw.items) c.skip-came.ensures.body ∙ c.clear.ensures) st c.skip-came.ensures.skips)
 
 pub returns-in_err-came-in-Sound-clause-takes : goal.returns-in_err-came-in-Sound-clause-takes
 returns-in_err-came-in-Sound-clause-takes g c = λ was st.

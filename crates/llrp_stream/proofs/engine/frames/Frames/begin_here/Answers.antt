@@ -19,7 +19,7 @@ pub returns-in-Faulty-clause-takes : goal.returns-in-Faulty-clause-takes
 returns-in-Faulty-clause-takes g c = λ was st.
     let near = near_is c.args.piece.now c.split_at.result.0.now 10 c.requires.whole c.split_at.ensures.front in
     rw c.after.ensures
-    (begins_faulty (g.L.Listener.begins c.args.listener.now was) (g.L.Listener.stands c.args.listener.now was) (g.L.Listener.ends c.args.listener.now was) (λ now. g.L.Listener.stands c.args.listener.now now []) c.args.self.now.limit c.args.self.now.body.reader.profile 10 c.skip-came.new.self [] c.args.piece.now c.split_at.result.0.now c.split_at.result.1.now c.in-Faulty.header c.skip-came.result c.requires.whole c.split_at.ensures.front c.split_at.ensures.back near c.in-Faulty.ensures (ap (λ x. x.reader.profile) c.skip-came.ensures.body) (ap (λ x. x.raw.items) c.skip-came.ensures.body ∙ c.requires.fresh) st c.skip-came.ensures.skips)
+    (begins_faulty (g.L.Listener.begins c.args.listener.now was) (g.L.Listener.stands c.args.listener.now was) (g.L.Listener.ends c.args.listener.now was) (λ now. g.L.Listener.stands c.args.listener.now now []) c.args.self.now.limit c.args.self.now.body.reader.set 10 c.skip-came.new.self [] c.args.piece.now c.split_at.result.0.now c.split_at.result.1.now c.in-Faulty.header c.skip-came.result c.requires.whole c.split_at.ensures.front c.split_at.ensures.back near c.in-Faulty.ensures (ap (λ x. x.reader.set) c.skip-came.ensures.body) (ap (λ x. x.raw.items) c.skip-came.ensures.body ∙ c.requires.fresh) st c.skip-came.ensures.skips)
 
 pub returns-in_err-came-in-Sound-clause-takes : goal.returns-in_err-came-in-Sound-clause-takes
 returns-in_err-came-in-Sound-clause-takes g c = λ was st.

@@ -9,4 +9,4 @@ pub returns-clause-skips : goal.returns-clause-skips
 returns-clause-skips g c = λ p front s. c.skip.ensures.skips p c.args.self.now.limit front s
 
 pub returns-clause-told : goal.returns-clause-told
-returns-clause-told g c = λ was r. c.give_up.ensures was r.0 r.1
+returns-clause-told g c = λ was p front octets r. c.fault.ensures was r.0 p front octets r.1 r.2

@@ -74,21 +74,21 @@ returns-in-Err-Bad-clause-takes g c = λ was front b.
     let used : c.min-used.result ≤ length c.args.piece.now = omega (arith, c.min-used.ensures) in
     let near = near_is c.args.piece.now c.split_at.result.0.now c.min-used.result used c.split_at.ensures.front in
     let le : length (front ++ c.split_at.result.0.now) ≤ c.args.self.now.body.reader.octets = omega (arith, near, q.all, q.fits, c.taken-done.ensures, c.min-used.ensures, length-append front c.split_at.result.0.now) in
-    let f = subst (λ (e : FrameErr). FailsWith (g.L.Listener.begins c.feed.new.listener was) (g.L.Listener.stands c.feed.new.listener was) c.args.self.now.body.reader.profile (front ++ c.split_at.result.0.now) c.args.self.now.body.reader.octets e) c.in-Err-Bad.field-0-is (c.in-Err-Bad.ensures was front b.stands_for le) in
+    let f = subst (λ (e : FrameErr). FailsWith (g.L.Listener.begins c.feed.new.listener was) (g.L.Listener.stands c.feed.new.listener was) c.args.self.now.body.reader.set (front ++ c.split_at.result.0.now) c.args.self.now.body.reader.octets e) c.in-Err-Bad.field-0-is (c.in-Err-Bad.ensures was front b.stands_for le) in
     rw c.after.ensures
-    (goes_on_failed (g.L.Listener.begins c.give_up-came.new.listener was) (g.L.Listener.stands c.give_up-came.new.listener was) (g.L.Listener.ends c.give_up-came.new.listener was) (λ now. g.L.Listener.stands c.give_up-came.new.listener now []) c.args.self.now.limit c.args.id (c.taken-done.result + c.min-used.result) c.min-used.result c.args.self.now.body c.give_up-came.new.self front c.args.piece.now c.split_at.result.0.now c.split_at.result.1.now c.in-Err-Bad.fault c.give_up-came.result b.passed (omega (arith, q.all, c.taken-done.ensures)) f.0 c.give_up-came.ensures.raw (c.give_up-came.ensures.told was f.1) used c.split_at.ensures.front c.split_at.ensures.back (c.give_up-came.ensures.profile) (c.give_up-came.ensures.skips c.args.self.now.body.reader.profile))
+    (goes_on_failed (g.L.Listener.begins c.give_up-came.new.listener was) (g.L.Listener.stands c.give_up-came.new.listener was) (g.L.Listener.ends c.give_up-came.new.listener was) (λ now. g.L.Listener.stands c.give_up-came.new.listener now []) c.args.self.now.limit c.args.id (c.taken-done.result + c.min-used.result) c.min-used.result c.args.self.now.body c.give_up-came.new.self front c.args.piece.now c.split_at.result.0.now c.split_at.result.1.now c.in-Err-Bad.fault c.give_up-came.result b.passed (omega (arith, q.all, c.taken-done.ensures)) f.0 c.give_up-came.ensures.raw (c.give_up-came.ensures.told was c.args.self.now.body.reader.set (front ++ c.split_at.result.0.now) c.args.self.now.body.reader.octets f.1) used c.split_at.ensures.front c.split_at.ensures.back (c.give_up-came.ensures.set) (c.give_up-came.ensures.skips c.args.self.now.body.reader.set))
 
-pub returns-in-Ok-true-clause-profile : goal.returns-in-Ok-true-clause-profile
-returns-in-Ok-true-clause-profile g c =
+pub returns-in-Ok-true-clause-set : goal.returns-in-Ok-true-clause-set
+returns-in-Ok-true-clause-set g c =
     let w = c.requires.some in
     let q = within (g.L.Listener.begins c.args.listener.now w.0) (g.L.Listener.stands c.args.listener.now w.0) c.args.self.now.body w.1 w.2.stands_for in
     let near = near_is c.args.piece.now c.split_at.result.0.now c.min-used.result (omega (arith, c.min-used.ensures)) c.split_at.ensures.front in
     let le : length (w.1 ++ c.split_at.result.0.now) ≤ c.args.self.now.body.reader.octets = omega (arith, near, q.all, q.fits, c.taken-done.ensures, c.min-used.ensures, length-append w.1 c.split_at.result.0.now) in
     let f = subst (λ (b : Bool). Feeds (g.L.Listener.begins c.feed.new.listener w.0) (g.L.Listener.stands c.feed.new.listener w.0) c.args.self.now.body c.feed.new.self w.1 c.split_at.result.0.now (Ok b)) c.in-Ok-true.field-0-test (c.in-Ok-true.ensures w.0 w.1 w.2.stands_for le) in
-    c.end.ensures.profile ∙ f.2
+    c.end.ensures.set ∙ f.2
 
-pub returns-in-Ok-false-clause-profile : goal.returns-in-Ok-false-clause-profile
-returns-in-Ok-false-clause-profile g c =
+pub returns-in-Ok-false-clause-set : goal.returns-in-Ok-false-clause-set
+returns-in-Ok-false-clause-set g c =
     let w = c.requires.some in
     let q = within (g.L.Listener.begins c.args.listener.now w.0) (g.L.Listener.stands c.args.listener.now w.0) c.args.self.now.body w.1 w.2.stands_for in
     let near = near_is c.args.piece.now c.split_at.result.0.now c.min-used.result (omega (arith, c.min-used.ensures)) c.split_at.ensures.front in

@@ -7,7 +7,7 @@ go_on-requires-clause-some g c =
     let w = c.requires.told in
     let front = c.args.self.now.body.raw.items in
     let s = c.in_ok-start.ensures.stands w.0 front c.args.self.now.limit w.1 c.requires.whole (λ later. c.requires.sound.says later) c.requires.most in
-    (w.0, front, record { passed = passed_first c.args.self.now.body.reader.profile c.args.self.now.limit front c.args.header c.start.new.body c.requires.whole c.requires.sound c.requires.sound.octets s.1 s.2; stands_for = s.0 })
+    (w.0, front, record { passed = passed_first c.args.self.now.body.reader.set c.args.self.now.limit front c.args.header c.start.new.body c.requires.whole c.requires.sound c.requires.sound.octets s.1 s.2; stands_for = s.0 })
 
 pub returns-in_err-start-clause-takes : goal.returns-in_err-start-clause-takes
 returns-in_err-start-clause-takes g c = λ was st.
@@ -18,4 +18,4 @@ pub returns-clause-takes : goal.returns-clause-takes
 returns-clause-takes g c = λ was st.
     let front = c.args.self.now.body.raw.items in
     let s = c.in_ok-start.ensures.stands was front c.args.self.now.limit st c.requires.whole (λ later. c.requires.sound.says later) c.requires.most in
-    c.go_on.ensures.takes was front (record { passed = passed_first c.args.self.now.body.reader.profile c.args.self.now.limit front c.args.header c.start.new.body c.requires.whole c.requires.sound c.requires.sound.octets s.1 s.2; stands_for = s.0 })
+    c.go_on.ensures.takes was front (record { passed = passed_first c.args.self.now.body.reader.set c.args.self.now.limit front c.args.header c.start.new.body c.requires.whole c.requires.sound c.requires.sound.octets s.1 s.2; stands_for = s.0 })

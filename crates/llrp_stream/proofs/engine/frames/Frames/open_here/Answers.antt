@@ -14,7 +14,7 @@ returns-then-received-clause-takes g c = λ was st.
     let is = ap (λ (x : Bool). Ok x) yes in
     let t = c.in_ok-received.ensures.gives is was front c.args.self.now.limit st c.requires.whole (λ later. c.requires.sound.says later) c.requires.sound.octets c.requires.most in
     let same = sym (append-nil front) in
-    (omega arith, subst IsFrame same (bare_frame c.args.self.now.limit front c.args.header c.requires.whole c.requires.sound (c.in_ok-received.ensures.ends is)), subst (λ (x : List ℕ). GivesIn c.args.self.now.body.reader.profile (g.L.Listener.stands c.receive_bare.new.listener was) (g.L.Listener.ends c.receive_bare.new.listener was) (λ now. g.L.Listener.stands c.receive_bare.new.listener now []) c.args.self.now.limit x Whole) same t, (refl, c.requires.fresh))
+    (omega arith, subst IsFrame same (bare_frame c.args.self.now.limit front c.args.header c.requires.whole c.requires.sound (c.in_ok-received.ensures.ends is)), subst (λ (x : List ℕ). GivesIn c.args.self.now.body.reader.set (g.L.Listener.stands c.receive_bare.new.listener was) (g.L.Listener.ends c.receive_bare.new.listener was) (λ now. g.L.Listener.stands c.receive_bare.new.listener now []) c.args.self.now.limit x Whole) same t, (refl, c.requires.fresh))
 
 pub start-requires-clause-told : goal.start-requires-clause-told
 start-requires-clause-told g c =
@@ -29,7 +29,7 @@ go_on-requires-clause-some g c =
     let told = subst (λ l. g.L.Listener.stands l w.0 []) (sym (c.in_ok-received.ensures.none (ap (λ (x : Bool). Ok x) no))) w.1 in
     let front = c.args._front.now in
     let s = c.in_ok-start.ensures.stands w.0 front c.args.self.now.limit told c.requires.whole (λ later. c.requires.sound.says later) c.requires.most in
-    (w.0, front, record { passed = passed_first c.args.self.now.body.reader.profile c.args.self.now.limit front c.args.header c.start.new.body c.requires.whole c.requires.sound c.requires.sound.octets s.1 s.2; stands_for = s.0 })
+    (w.0, front, record { passed = passed_first c.args.self.now.body.reader.set c.args.self.now.limit front c.args.header c.start.new.body c.requires.whole c.requires.sound c.requires.sound.octets s.1 s.2; stands_for = s.0 })
 
 pub returns-in_err-received-clause-takes : goal.returns-in_err-received-clause-takes
 returns-in_err-received-clause-takes g c = λ was st.
@@ -47,4 +47,4 @@ returns-clause-takes g c = λ was st.
     let told = subst (λ l. g.L.Listener.stands l was []) (sym (c.in_ok-received.ensures.none (ap (λ (x : Bool). Ok x) no))) st in
     let front = c.args._front.now in
     let s = c.in_ok-start.ensures.stands was front c.args.self.now.limit told c.requires.whole (λ later. c.requires.sound.says later) c.requires.most in
-    c.go_on.ensures.takes was front (record { passed = passed_first c.args.self.now.body.reader.profile c.args.self.now.limit front c.args.header c.start.new.body c.requires.whole c.requires.sound c.requires.sound.octets s.1 s.2; stands_for = s.0 })
+    c.go_on.ensures.takes was front (record { passed = passed_first c.args.self.now.body.reader.set c.args.self.now.limit front c.args.header c.start.new.body c.requires.whole c.requires.sound c.requires.sound.octets s.1 s.2; stands_for = s.0 })
