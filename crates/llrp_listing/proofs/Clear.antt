@@ -5,7 +5,7 @@ use Rattle.std.specs.List.{slice_split, join_with_byte}
 use Rattle.hex.specs.Hex.{encode_lower, decode_of}
 use Rattle.hex.specs.declared.error.FromHexError.{FromHexError}
 use Rattle.hex.proofs.HexLemmas.{decode_of-encode_lower}
-use Rattle.llrp_schema.specs.declared.kinds.Profile.{Profile}
+use Rattle.llrp_schema.specs.declared.kinds.KindSet.{KindSet}
 use Rattle.llrp_schema.specs.declared.kinds.Kind.{Kind}
 use Rattle.llrp_schema.specs.declared.kinds.Kind.TheVariants.{Message, Parameter}
 use Rattle.llrp_schema.specs.declared.kinds.Tail.{Tail}
@@ -65,12 +65,12 @@ body_tells [] form (w ∷ ws) = (one_told refusal.Tail, tt)
 body_tells (f ∷ fs) form [] = tt
 body_tells (f ∷ fs) form (w ∷ ws) = (number_tells f w, body_tells fs form ws)
 
-start_tells : (p : Profile) (d : ℕ) (bytes : List ℕ) → AllTellOne (start_checks p d bytes)
+start_tells : (p : KindSet) (d : ℕ) (bytes : List ℕ) → AllTellOne (start_checks p d bytes)
 start_tells p d bytes = (one_told refusal.Line, (one_told refusal.Level, (one_told refusal.Name, tt)))
 
 -- ---- the words that a line says
 
-one_kind : (p : Profile) (ws : List (List ℕ)) (a b : Kind) → IsNamed p ws a → IsNamed p ws b → a ≡ b
+one_kind : (p : KindSet) (ws : List (List ℕ)) (a b : Kind) → IsNamed p ws a → IsNamed p ws b → a ≡ b
 one_kind p ws a b m n = on (name ws a m) (name ws b n)
   where
     name : (ws : List (List ℕ)) (k : Kind) → IsNamed p ws k → IsName p (word ws 1) k
@@ -103,12 +103,12 @@ tail_length Bits tail = refl
 tail_length Data tail = refl
 
 -- a line that says something passes all checks
-record Holds (p : Profile) (d : ℕ) (bytes : List ℕ) (kind : Kind) : Type 0 where
+record Holds (p : KindSet) (d : ℕ) (bytes : List ℕ) (kind : Kind) : Type 0 where
   starts : AllHold (start_checks p d bytes)
   named : IsNamed p (words bytes) kind
   body : AllHold (name_checks kind (words bytes))
 
-said_holds : {p : Profile} (d : ℕ) (bytes : List ℕ) (level : ℕ) (line : NodeLine) → SaysNode p bytes level line → level ≤ d → Holds p d bytes line.kind
+said_holds : {p : KindSet} (d : ℕ) (bytes : List ℕ) (level : ℕ) (line : NodeLine) → SaysNode p bytes level line → level ≤ d → Holds p d bytes line.kind
 said_holds {p} d bytes level line s le =
     let texts = s.text.numbers in
     let ws = said_words bytes level line s in
@@ -120,7 +120,7 @@ said_holds {p} d bytes level line s le =
       body = (count, subst (λ (z : List (List ℕ)). AllHold (body_checks (number_forms line.kind) (tail_of line.kind) (drop 2 z))) (sym ws) (body_holds (number_forms line.kind) (tail_of line.kind) line.numbers texts line.tail s.numbers s.text.are s.tail));
     }
 
-not_both : (p : Profile) (d : ℕ) (x : TextLine) (e : ℕ × NodeLine) (a : Refusal) → SaysLine p x e → e.0 ≤ d → RefusesLineItself p d x a → ⊥
+not_both : (p : KindSet) (d : ℕ) (x : TextLine) (e : ℕ × NodeLine) (a : Refusal) → SaysLine p x e → e.0 ≤ d → RefusesLineItself p d x a → ⊥
 not_both p d (Unended bytes) e a s le r = s
 not_both p d (Ended bytes) e a s le r =
     let h = said_holds d bytes e.0 e.1 s le in
@@ -129,7 +129,7 @@ not_both p d (Ended bytes) e a s le r =
       | inr body ↦ (let same : body.kind ≡ e.1.kind = one_kind p (words bytes) body.kind e.1.kind body.named h.named in none_failing (name_checks e.1.kind (words bytes)) a h.body (subst (λ (k : Kind). FirstFailing (name_checks k (words bytes)) a) same body.fails))
     ]
 
-one_reason : (p : Profile) (d : ℕ) (x : TextLine) (a b : Refusal) → RefusesLineItself p d x a → RefusesLineItself p d x b → a ≡ b
+one_reason : (p : KindSet) (d : ℕ) (x : TextLine) (a b : Refusal) → RefusesLineItself p d x a → RefusesLineItself p d x b → a ≡ b
 one_reason p d (Unended bytes) a b l r = l ∙ sym r
 one_reason p d (Ended bytes) a b l r = elim l [
   | inl f ↦ elim r [ inl g ↦ one_failing (start_checks p d bytes) a b (start_tells p d bytes) f g | inr g ↦ absurd (none_failing (start_checks p d bytes) a g.starts f) ]
@@ -225,7 +225,7 @@ same_parts (f ∷ fs) form (m ∷ ms) (n ∷ ns) (v ∷ vs) (w ∷ ws) t u p q h
     let rest = same_parts fs form ms ns vs ws t u p.1 q.1 h.1 k.1 a b y in
     (rw one (ap (λ (z : List ℕ). n ∷ z) rest.0), rest.1)
 
-one_said : (set : Profile) (x : TextLine) (e f : ℕ × NodeLine) → SaysLine set x e → SaysLine set x f → e ≡ f
+one_said : (set : KindSet) (x : TextLine) (e f : ℕ × NodeLine) → SaysLine set x e → SaysLine set x f → e ≡ f
 one_said set (Unended bytes) e f p q = absurd p
 one_said set (Ended bytes) e f p q =
     let a = e.1 in
@@ -245,5 +245,5 @@ one_said set (Ended bytes) e f p q =
     ap (λ (l : ℕ). (l, a)) level ∙ ap (λ (z : NodeLine). (f.0, z)) same
 
 -- the rules of lines tell lines apart
-pub clear : (p : Profile) (limit : ℕ) → AreClear (rules_for p limit)
+pub clear : (p : KindSet) (limit : ℕ) → AreClear (rules_for p limit)
 clear p limit = record { one_said = one_said p; one_reason = one_reason p; not_both = not_both p }

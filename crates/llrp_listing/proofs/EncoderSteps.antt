@@ -1,7 +1,7 @@
 -- How an encoder goes on that keeps lines as their octets.
 use Rattle.std.proofs.Common.{◌≡◌, ℕ, ◌+◌, ◌≤◌, List, [], ◌∷◌, ◌++◌, length, take, refl, ap, subst, arith, Ok, Err, length-append}
 use Rattle.std.specs.Prelude.{IfErr, IsErrAnd, MatchResult, OnOk, Result}
-use Rattle.llrp_schema.specs.declared.kinds.Profile.{Profile}
+use Rattle.llrp_schema.specs.declared.kinds.KindSet.{KindSet}
 use Rattle.llrp_stream.specs.Device.{SinkLog}
 use Rattle.llrp_listing.specs.declared.outcome.ToolErr.{ToolErr}
 use Rattle.llrp_listing.specs.declared.parse_line.Line.{Line}
@@ -58,28 +58,28 @@ never_ok P B (Err e) w = tt
 -- ---- a line that is read
 
 -- as many lines are open as there are records
-pub read_at : (p : Profile) (writer : EncodeBuffer) (out : List ℕ) (ns : List OpenNode) (bytes : List ℕ) (r : Result Line LineErr) → Rests writer out ns → ReadsLine p (length (inner writer.rows)) bytes r → ReadsLine p (length (entries ns)) bytes r
+pub read_at : (p : KindSet) (writer : EncodeBuffer) (out : List ℕ) (ns : List OpenNode) (bytes : List ℕ) (r : Result Line LineErr) → Rests writer out ns → ReadsLine p (length (inner writer.rows)) bytes r → ReadsLine p (length (entries ns)) bytes r
 read_at p writer out ns bytes r h read =
     let same : length (inner writer.rows) ≡ length (entries ns) = omega (arith, zip_length IsHeld (inner writer.rows) ns h.rows, length_entries ns) in
     subst (λ (depth : ℕ). ReadsLine p depth bytes r) same read
 
-pub says_can : {p : Profile} (ns : List OpenNode) (bytes : List ℕ) (level : ℕ) (line : NodeLine) → SaysAt p (length (entries ns)) bytes level line → CanStandAt level (length ns) line
+pub says_can : {p : KindSet} (ns : List OpenNode) (bytes : List ℕ) (level : ℕ) (line : NodeLine) → SaysAt p (length (entries ns)) bytes level line → CanStandAt level (length ns) line
 says_can ns bytes level line h = record { placed = h.0.placed; within = omega (arith, h.1, length_entries ns); deep = h.0.deep }
 
 -- what a line says may be said
-pub says_said : {p : Profile} (depth : ℕ) (bytes : List ℕ) (level : ℕ) (line : NodeLine) → SaysAt p depth bytes level line → IsSaid line
+pub says_said : {p : KindSet} (depth : ℕ) (bytes : List ℕ) (level : ℕ) (line : NodeLine) → SaysAt p depth bytes level line → IsSaid line
 says_said depth bytes level line h = record { numbers = h.0.numbers; tail = h.0.tail }
 
 -- as many lines are open as there are records
-pub says_entries : {p : Profile} (writer : EncodeBuffer) (out : List ℕ) (ns : List OpenNode) (bytes : List ℕ) (level : ℕ) (line : NodeLine) → Rests writer out ns → SaysAt p (length (inner writer.rows)) bytes level line → SaysAt p (length (entries ns)) bytes level line
+pub says_entries : {p : KindSet} (writer : EncodeBuffer) (out : List ℕ) (ns : List OpenNode) (bytes : List ℕ) (level : ℕ) (line : NodeLine) → Rests writer out ns → SaysAt p (length (inner writer.rows)) bytes level line → SaysAt p (length (entries ns)) bytes level line
 says_entries writer out ns bytes level line h says = (says.0, omega (arith, says.1, zip_length IsHeld (inner writer.rows) ns h.rows, length_entries ns))
 
 -- what is read of a line
-pub read_says : {p : Profile} (depth : ℕ) (bytes : List ℕ) (line : Line) → SaidIs p depth bytes line → SaysAt p depth bytes (line_level line) (line_node line)
+pub read_says : {p : KindSet} (depth : ℕ) (bytes : List ℕ) (line : Line) → SaidIs p depth bytes line → SaysAt p depth bytes (line_level line) (line_node line)
 read_says depth bytes (said.Message line) h = (h, omega arith)
 read_says depth bytes (said.Parameter line) h = h
 
-pub said_says : {p : Profile} (depth : ℕ) (bytes : List ℕ) (line : Line) (s : LineContents) → said_level s ≡ line_level line → said_node s ≡ line_node line → SaidIs p depth bytes line → SaysAt p depth bytes (said_level s) (said_node s)
+pub said_says : {p : KindSet} (depth : ℕ) (bytes : List ℕ) (line : Line) (s : LineContents) → said_level s ≡ line_level line → said_node s ≡ line_node line → SaidIs p depth bytes line → SaysAt p depth bytes (said_level s) (said_node s)
 said_says depth bytes line s level node h = rw (level, node) (read_says depth bytes line h)
 
 -- ---- the encoder goes on
@@ -89,7 +89,7 @@ pub stands_more : {start now : SinkLog} {text : List ℕ} (old new : Encoder) (p
 stands_more old new part s n w k g l = record { out = s.out; ns = s.ns; rests = rw w s.rests; after = rw (g, w, k, l) (goes_on part s.after n) }
 
 -- the begun line ends and is open, and what is gathered may be handed on
-pub stands_taken : {p : Profile} {limit : ℕ} {start mid now : SinkLog} {text : List ℕ} {number : ℕ} {begun out : List ℕ} (opened : EncodeBuffer) (new : Encoder) (ns : List OpenNode) (part : List ℕ) (level : ℕ) (line : NodeLine) → StandsAt p limit start mid text (entries ns) number begun out → Lacks 10 part → SaysAt p (length (entries ns)) (begun ++ part) level line
+pub stands_taken : {p : KindSet} {limit : ℕ} {start mid now : SinkLog} {text : List ℕ} {number : ℕ} {begun out : List ℕ} (opened : EncodeBuffer) (new : Encoder) (ns : List OpenNode) (part : List ℕ) (level : ℕ) (line : NodeLine) → StandsAt p limit start mid text (entries ns) number begun out → Lacks 10 part → SaysAt p (length (entries ns)) (begun ++ part) level line
     → (o : OpensLine limit opened out ns level line (number + 1)) → PassesOn new.writer o.now (new_node line (number + 1) ∷ o.outer) mid now
     → new.guess ≡ p → new.writer.limit ≡ limit → new.number ≡ number + 1 → new.line.items ≡ [] → Stands start now (text ++ (part ++ (10 ∷ []))) new
 stands_taken {number} opened new ns part level line s n ok o p g w k l = record {
@@ -100,7 +100,7 @@ stands_taken {number} opened new ns part level line s n ok o p g w k l = record 
 }
 
 -- it is open, and handing on failed
-pub taken_stops : {p : Profile} {limit : ℕ} {start mid : SinkLog} {text : List ℕ} {number : ℕ} {begun out : List ℕ} (now : SinkLog) (opened : EncodeBuffer) (ns : List OpenNode) (part : List ℕ) (level : ℕ) (line : NodeLine) (e : ToolErr) → StandsAt p limit start mid text (entries ns) number begun out → Lacks 10 part → SaysAt p (length (entries ns)) (begun ++ part) level line
+pub taken_stops : {p : KindSet} {limit : ℕ} {start mid : SinkLog} {text : List ℕ} {number : ℕ} {begun out : List ℕ} (now : SinkLog) (opened : EncodeBuffer) (ns : List OpenNode) (part : List ℕ) (level : ℕ) (line : NodeLine) (e : ToolErr) → StandsAt p limit start mid text (entries ns) number begun out → Lacks 10 part → SaysAt p (length (entries ns)) (begun ++ part) level line
     → (o : OpensLine limit opened out ns level line (number + 1)) → Writes o.now mid now (Err e) → Stopped p limit start now (text ++ (part ++ (10 ∷ []))) e
 taken_stops {number} now opened ns part level line e s n ok o w =
     pieces_stop now part level line (entries (new_node line (number + 1) ∷ o.outer)) o.now e s n ok (record { messages = o.messages; begins = o.begins; appended = o.appended }) w

@@ -5,12 +5,12 @@ use Rattle.std.specs.List.{AllZip, flat_map, list_all}
 use Rattle.std.proofs.Math.Nat.{le-max_left, le-max_right, max-le}
 use Rattle.llrp_schema.specs.declared.kinds.Kind.{Kind}
 use Rattle.llrp_schema.specs.declared.kinds.Kind.TheVariants.{Message, Parameter}
-use Rattle.llrp_schema.specs.declared.kinds.Profile.{Profile}
-use Rattle.llrp_schema.specs.declared.kinds.Profile.TheVariants.{Own, Whole}
+use Rattle.llrp_schema.specs.declared.kinds.KindSet.{KindSet}
+use Rattle.llrp_schema.specs.declared.kinds.KindSet.TheVariants.{Profile, Standard}
 use Rattle.llrp_schema.specs.declared.kinds.Tail.{Tail}
 use Rattle.llrp_schema.specs.declared.kinds.Tail.TheVariants.{Absent, Words, Text, Bits, Data}
-use Rattle.llrp_schema.specs.Schema.{FieldRule, fields_of, groups_of, plain_fields_of, profile_of, rule_of, message_rule, param_rule, message_kinds, param_kinds, whole_message_kinds, whole_param_kinds, tail_of}
-use Rattle.llrp_schema.proofs.PlaceLemmas.{child_profile}
+use Rattle.llrp_schema.specs.Schema.{FieldRule, fields_of, groups_of, plain_fields_of, set_of_kind, rule_of, message_rule, param_rule, message_kinds, param_kinds, whole_message_kinds, whole_param_kinds, tail_of}
+use Rattle.llrp_schema.proofs.PlaceLemmas.{child_set}
 use Rattle.llrp_schema.proofs.TableLaws.{every_rule, message_tail}
 use Rattle.llrp_tree.specs.declared.TheConstants.{MAX_DEPTH}
 use Rattle.llrp_tree.specs.Tree as tree
@@ -92,7 +92,7 @@ pub record Well (e : ℕ × NodeLine) : Type 0 where
   placed : IsOpenLevel e.0 e.1.kind
   numbers : AreInForm (number_forms e.1.kind) e.1.numbers
   tail : IsTailOf (tail_of e.1.kind) e.1.tail
-  few : length e.1.tail ≤ most_octets (profile_of e.1.kind)
+  few : length e.1.tail ≤ most_octets (set_of_kind e.1.kind)
 
 abbrev pub AllWell : List (ℕ × NodeLine) → Type 0
 AllWell [] = Unit {0}
@@ -112,7 +112,7 @@ parameter_well level kind fields tail children least deep l = record {
   placed = least;
   numbers = parameter_in_form kind fields l.obeys.ranges;
   tail = tail_form (tail_of (Parameter kind)) fields tail l.obeys.form l.obeys.bytes;
-  few = few_in (profile_of (Parameter kind)) (few_octets kind fields tail children l);
+  few = few_in (set_of_kind (Parameter kind)) (few_octets kind fields tail children l);
 }
 
 parameters_well : (level : ℕ) (f : tree.Forest) → 1 ≤ level → levels f + level ≤ MAX_DEPTH + 1 → AllLawful f → AllWell (parameter_lines level f)
@@ -127,16 +127,16 @@ few_levels : (f : tree.Forest) → AllLawful f → levels f ≤ MAX_DEPTH
 few_levels tree.none h = omega arith
 few_levels (tree.and before kind fields tail children) h = max-le (few_levels before h.0) h.1.deep
 
-few_data : (m : MessageTree) → IsLawfulMessage m → length m.tail ≤ most_octets (profile_of (Message m.kind))
+few_data : (m : MessageTree) → IsLawfulMessage m → length m.tail ≤ most_octets (set_of_kind (Message m.kind))
 unfolding body_octets
-few_data m l = by_set (profile_of (Message m.kind)) refl
+few_data m l = by_set (set_of_kind (Message m.kind)) refl
   where
     none_of : (form : Tail) → form ≡ Absent → IsTail form m.fields m.tail → m.tail ≡ []
     none_of form e t = subst (λ (f : Tail). IsTail f m.fields m.tail) e t
 
-    by_set : (p : Profile) → profile_of (Message m.kind) ≡ p → length m.tail ≤ most_octets p
-    by_set Own own = omega (arith, ap (λ (x : List ℕ). length x) (none_of (tail_of (Message m.kind)) (message_tail m.kind own) l.obeys.form))
-    by_set Whole own = omega (arith, l.long)
+    by_set : (p : KindSet) → set_of_kind (Message m.kind) ≡ p → length m.tail ≤ most_octets p
+    by_set Profile own = omega (arith, ap (λ (x : List ℕ). length x) (none_of (tail_of (Message m.kind)) (message_tail m.kind own) l.obeys.form))
+    by_set Standard own = omega (arith, l.long)
 
 message_well : (m : MessageTree) → IsLawfulMessage m → AllWell (message_lines m)
 message_well m l = (
@@ -144,34 +144,34 @@ message_well m l = (
   parameters_well 1 m.children (omega arith) (omega (arith, few_levels m.children l.children)) l.children,
 )
 
--- ---- they are of one profile
+-- ---- they are of one set
 
 -- each line is of a kind of the profile
-abbrev pub AreOf : Profile → List (ℕ × NodeLine) → Type 0
+abbrev pub AreOf : KindSet → List (ℕ × NodeLine) → Type 0
 AreOf p [] = Unit {0}
-AreOf p (e ∷ es) = (profile_of e.1.kind ≡ p) × AreOf p es
+AreOf p (e ∷ es) = (set_of_kind e.1.kind ≡ p) × AreOf p es
 
-of_append : (p : Profile) (a b : List (ℕ × NodeLine)) → AreOf p a → AreOf p b → AreOf p (a ++ b)
+of_append : (p : KindSet) (a b : List (ℕ × NodeLine)) → AreOf p a → AreOf p b → AreOf p (a ++ b)
 of_append p [] b h k = k
 of_append p (e ∷ a) b h k = (h.0, of_append p a b h.1 k)
 
 -- parameters are of the profile of what they are below
-parameters_of_profile : (p : Profile) (level : ℕ) (parent : Kind) (f : tree.Forest) → profile_of parent ≡ p → ArePlaced (groups_of parent) f → AllLawful f → AreOf p (parameter_lines level f)
+parameters_of_set : (p : KindSet) (level : ℕ) (parent : Kind) (f : tree.Forest) → set_of_kind parent ≡ p → ArePlaced (groups_of parent) f → AllLawful f → AreOf p (parameter_lines level f)
 unfolding ArePlaced
-parameters_of_profile p level parent tree.none is placed h = tt
-parameters_of_profile p level parent (tree.and before kind fields tail children) is placed h =
-    let here : profile_of (Parameter kind) ≡ p = child_profile parent kind placed.1 ∙ is in
-    of_append p (parameter_lines level before) ((level, parameter_line kind fields tail) ∷ parameter_lines (suc level) children) (parameters_of_profile p level parent before is placed.0 h.0)
-    (here, parameters_of_profile p (suc level) (Parameter kind) children here h.1.obeys.placed h.2)
+parameters_of_set p level parent tree.none is placed h = tt
+parameters_of_set p level parent (tree.and before kind fields tail children) is placed h =
+    let here : set_of_kind (Parameter kind) ≡ p = child_set parent kind placed.1 ∙ is in
+    of_append p (parameter_lines level before) ((level, parameter_line kind fields tail) ∷ parameter_lines (suc level) children) (parameters_of_set p level parent before is placed.0 h.0)
+    (here, parameters_of_set p (suc level) (Parameter kind) children here h.1.obeys.placed h.2)
 
-message_of_profile : (p : Profile) (m : MessageTree) → profile_of (Message m.kind) ≡ p → IsLawfulMessage m → AreOf p (message_lines m)
-message_of_profile p m is l = (is, parameters_of_profile p 1 (Message m.kind) m.children is l.obeys.placed l.children)
+message_of_profile : (p : KindSet) (m : MessageTree) → set_of_kind (Message m.kind) ≡ p → IsLawfulMessage m → AreOf p (message_lines m)
+message_of_profile p m is l = (is, parameters_of_set p 1 (Message m.kind) m.children is l.obeys.placed l.children)
 
 -- ---- they are said
 
-said_line : {p : Profile} (e : ℕ × NodeLine) (t : List ℕ) → (z : IsLine e t) → profile_of e.1.kind ≡ p → Well e → SaysNode p (decimal e.0 ++ spaced (rest_words e.1 z.numbers)) e.0 e.1
+said_line : {p : KindSet} (e : ℕ × NodeLine) (t : List ℕ) → (z : IsLine e t) → set_of_kind e.1.kind ≡ p → Well e → SaysNode p (decimal e.0 ++ spaced (rest_words e.1 z.numbers)) e.0 e.1
 said_line e t z own w = record {
-  short = subst (λ (q : Profile). length (decimal e.0 ++ spaced (rest_words e.1 z.numbers)) ≤ longest q) own (line_short e.0 e.1 z.numbers w.deep w.numbers z.are w.tail w.few);
+  short = subst (λ (q : KindSet). length (decimal e.0 ++ spaced (rest_words e.1 z.numbers)) ≤ longest q) own (line_short e.0 e.1 z.numbers w.deep w.numbers z.are w.tail w.few);
   deep = w.deep;
   placed = w.placed;
   own = own;
@@ -181,13 +181,13 @@ said_line e t z own w = record {
 }
 
 -- a well-formed line is at most so long, with its LF
-pub line_bound : (e : ℕ × NodeLine) (t : List ℕ) → IsLine e t → Well e → length t ≤ suc (longest (profile_of e.1.kind))
+pub line_bound : (e : ℕ × NodeLine) (t : List ℕ) → IsLine e t → Well e → length t ≤ suc (longest (set_of_kind e.1.kind))
 line_bound e t z w =
     let bytes = decimal e.0 ++ spaced (rest_words e.1 z.numbers) in
     let is : t ≡ bytes ++ (10 ∷ []) = z.text_is ∙ sym (append_assoc (decimal e.0) (spaced (rest_words e.1 z.numbers)) (10 ∷ [])) in
     omega (arith, ap length is, length-append bytes (10 ∷ []), line_short e.0 e.1 z.numbers w.deep w.numbers z.are w.tail w.few)
 
-said_lines : (p : Profile) (es : List (ℕ × NodeLine)) (ts : List (List ℕ)) → AllZip IsLine es ts → AreOf p es → AllWell es → AllZip (SaysLine p) (lines_of (flat_map (λ line. line) ts)) es
+said_lines : (p : KindSet) (es : List (ℕ × NodeLine)) (ts : List (List ℕ)) → AllZip IsLine es ts → AreOf p es → AllWell es → AllZip (SaysLine p) (lines_of (flat_map (λ line. line) ts)) es
 unfolding lines_of
 said_lines p [] [] z o w = tt
 said_lines p [] (t ∷ ts) z o w = absurd z
@@ -219,38 +219,38 @@ message_closes limit m l le =
     within limit n le = let f : nat_lt limit n ≡ false = grind arith in rw f refl
 
 -- the messages of a set of kinds with these frames
-abbrev Frames : Profile → ℕ → List MessageTree → List (List ℕ) → Type 0
+abbrev Frames : KindSet → ℕ → List MessageTree → List (List ℕ) → Type 0
 Frames p limit ms frames = AllZip (λ m frame. FrameIn p m frame limit) ms frames
 
-row_closes : (p : Profile) (limit : ℕ) (ms : List MessageTree) (frames : List (List ℕ)) → Frames p limit ms frames → AllClose (closing limit) (row ms)
+row_closes : (p : KindSet) (limit : ℕ) (ms : List MessageTree) (frames : List (List ℕ)) → Frames p limit ms frames → AllClose (closing limit) (row ms)
 row_closes p limit [] frames z = tt
 row_closes p limit (m ∷ ms) [] z = absurd z
 row_closes p limit (m ∷ ms) (b ∷ frames) z =
     (message_closes limit m z.0.frame.lawful (omega (arith, frame_length m b limit z.0.frame, z.0.frame.short)), parameters_close limit m.children end z.0.frame.lawful.children tt, row_closes p limit ms frames z.1)
 
-row_well : (p : Profile) (limit : ℕ) (ms : List MessageTree) (frames : List (List ℕ)) → Frames p limit ms frames → AllWell (messages_lines ms)
+row_well : (p : KindSet) (limit : ℕ) (ms : List MessageTree) (frames : List (List ℕ)) → Frames p limit ms frames → AllWell (messages_lines ms)
 row_well p limit [] frames z = tt
 row_well p limit (m ∷ ms) [] z = absurd z
 row_well p limit (m ∷ ms) (b ∷ frames) z = well_append (message_lines m) (messages_lines ms) (message_well m z.0.frame.lawful) (row_well p limit ms frames z.1)
 
-row_own : (p : Profile) (limit : ℕ) (ms : List MessageTree) (frames : List (List ℕ)) → Frames p limit ms frames → AreOf p (messages_lines ms)
+row_own : (p : KindSet) (limit : ℕ) (ms : List MessageTree) (frames : List (List ℕ)) → Frames p limit ms frames → AreOf p (messages_lines ms)
 row_own p limit [] frames z = tt
 row_own p limit (m ∷ ms) [] z = absurd z
 row_own p limit (m ∷ ms) (b ∷ frames) z = of_append p (message_lines m) (messages_lines ms) (message_of_profile p m z.0.own z.0.frame.lawful) (row_own p limit ms frames z.1)
 
 -- the listing of messages lists their lines
-pub lists : {p : Profile} (limit : ℕ) (text bytes : List ℕ) (ms : List MessageTree) → IsListingOf ms text → AreSpelled p limit ms bytes → Lists (rules_for p limit) (lines_of text) (row ms)
+pub lists : {p : KindSet} (limit : ℕ) (text bytes : List ℕ) (ms : List MessageTree) → IsListingOf ms text → AreSpelled p limit ms bytes → Lists (rules_for p limit) (lines_of text) (row ms)
 lists {p} limit text bytes ms l s =
     let said : AllZip (SaysLine p) (lines_of text) (messages_lines ms) = subst (λ (t : List ℕ). AllZip (SaysLine p) (lines_of t) (messages_lines ms)) (sym l.text_is) (said_lines p (messages_lines ms) l.texts l.each (row_own p limit ms s.frames s.each) (row_well p limit ms s.frames s.each)) in
     record { says = subst (λ (es : List (ℕ × NodeLine)). AllZip (SaysLine p) (lines_of text) es) (sym (nodes_row ms)) said; close = row_closes p limit ms s.frames s.each }
 
 -- each line is that long at most
-pub lines_bound : (p : Profile) (es : List (ℕ × NodeLine)) (ts : List (List ℕ)) → AllZip IsLine es ts → AreOf p es → AllWell es → AreShort p ts
+pub lines_bound : (p : KindSet) (es : List (ℕ × NodeLine)) (ts : List (List ℕ)) → AllZip IsLine es ts → AreOf p es → AllWell es → AreShort p ts
 lines_bound p [] [] z o w = tt
 lines_bound p [] (t ∷ ts) z o w = absurd z
 lines_bound p (e ∷ es) [] z o w = absurd z
-lines_bound p (e ∷ es) (t ∷ ts) z o w = (subst (λ (q : Profile). length t ≤ suc (longest q)) o.0 (line_bound e t z.0 w.0), lines_bound p es ts z.1 o.1 w.1)
+lines_bound p (e ∷ es) (t ∷ ts) z o w = (subst (λ (q : KindSet). length t ≤ suc (longest q)) o.0 (line_bound e t z.0 w.0), lines_bound p es ts z.1 o.1 w.1)
 
 -- the lines of a lawful message are short
-pub message_bound : (m : MessageTree) (ts : List (List ℕ)) → IsLawfulMessage m → AllZip IsLine (message_lines m) ts → AreShort (profile_of (Message m.kind)) ts
-message_bound m ts l z = lines_bound (profile_of (Message m.kind)) (message_lines m) ts z (message_of_profile (profile_of (Message m.kind)) m refl l) (message_well m l)
+pub message_bound : (m : MessageTree) (ts : List (List ℕ)) → IsLawfulMessage m → AllZip IsLine (message_lines m) ts → AreShort (set_of_kind (Message m.kind)) ts
+message_bound m ts l z = lines_bound (set_of_kind (Message m.kind)) (message_lines m) ts z (message_of_profile (set_of_kind (Message m.kind)) m refl l) (message_well m l)

@@ -54,6 +54,7 @@ pub mod Telling
 pub mod TextLemmas
 pub mod TreeLines
 pub mod TvLines
+pub mod ValueSteps
 pub mod WordDigits
 pub mod WordLemmas
 pub mod Zips

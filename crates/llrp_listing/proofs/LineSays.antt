@@ -7,12 +7,12 @@ use Rattle.std.proofs.lemmas.List.{append-nil}
 use Rattle.std.proofs.lemmas.List.Splits.{join_with_byte-slice_split}
 use Rattle.std.proofs.lemmas.Str.{IsUtf8-from_ascii}
 use Rattle.std.proofs.lemmas.Str.Ascii.{IsAscii-nil, IsAscii-cons}
-use Rattle.llrp_schema.specs.declared.kinds.Profile.{Profile}
+use Rattle.llrp_schema.specs.declared.kinds.KindSet.{KindSet}
 use Rattle.llrp_schema.specs.declared.kinds.MsgKind.{MsgKind}
 use Rattle.llrp_schema.specs.declared.kinds.ParamKind.{ParamKind}
 use Rattle.llrp_schema.specs.declared.kinds.Kind.{Kind}
 use Rattle.llrp_schema.specs.declared.kinds.Kind.TheVariants.{Message, Parameter}
-use Rattle.llrp_schema.specs.Schema.{name_of, profile_of, tail_of}
+use Rattle.llrp_schema.specs.Schema.{name_of, set_of_kind, tail_of}
 use Rattle.llrp_listing.specs.declared.outcome.Refusal.{Refusal}
 use Rattle.llrp_listing.specs.declared.outcome.Refusal.TheVariants as refusal
 use Rattle.llrp_listing.specs.declared.parse_line.Line.TheVariants as said
@@ -55,16 +55,16 @@ line_text bytes w ws e =
 
 -- ---- refusals
 
-pub line_long : {p : Profile} (depth : ℕ) (bytes : List ℕ) → longest p < length bytes → ReadsLine p depth bytes (Err (Refused refusal.Line))
+pub line_long : {p : KindSet} (depth : ℕ) (bytes : List ℕ) → longest p < length bytes → ReadsLine p depth bytes (Err (Refused refusal.Line))
 line_long depth bytes long = inl (inl (λ has. absurd (omega (arith, has.0)), refl))
 
-pub start_bad : {p : Profile} (depth : ℕ) (bytes : List ℕ) (reason : Refusal) → length bytes ≤ longest p → is_printed bytes ≡ true → ReadsStart p depth bytes (Err reason) → ReadsLine p depth bytes (Err (Refused reason))
+pub start_bad : {p : KindSet} (depth : ℕ) (bytes : List ℕ) (reason : Refusal) → length bytes ≤ longest p → is_printed bytes ≡ true → ReadsStart p depth bytes (Err reason) → ReadsLine p depth bytes (Err (Refused reason))
 start_bad depth bytes reason short printed h = elim h [
   | inl level ↦ inl (inr ((short, printed), inl (level.0, level.1)))
   | inr name ↦ inl (inr ((short, printed), inr (name.0, inl (name.1, name.2))))
 ]
 
-module _ {p : Profile} (depth : ℕ) (bytes : List ℕ) (start : LineStart) (short : length bytes ≤ longest p) (printed : is_printed bytes ≡ true) (s : Starts p depth bytes start) where
+module _ {p : KindSet} (depth : ℕ) (bytes : List ℕ) (start : LineStart) (short : length bytes ≤ longest p) (printed : is_printed bytes ≡ true) (s : Starts p depth bytes start) where
   level_word : word (words bytes) 0 ≡ decimal start.level
   level_word = ap (λ (z : List (List ℕ)). word z 0) s.are
 
@@ -113,7 +113,7 @@ module _ {p : Profile} (depth : ℕ) (bytes : List ℕ) (start : LineStart) (sho
         short = short;
         deep = omega arith;
         placed = refl;
-        own = ap profile_of (sym same) ∙ s.own;
+        own = ap set_of_kind (sym same) ∙ s.own;
         numbers = r.in_form;
         tail = subst (λ (k : MsgKind). IsTailOf (tail_of (Message k)) line.tail) (sym h.kind_is) h.tail;
         text = record { numbers = r.texts; are = r.are; text_is = line_text bytes (decimal 0) (name_of (Message line.kind) ∷ (r.texts ++ tail_texts (tail_of (Message line.kind)) line.tail)) all };
@@ -133,7 +133,7 @@ module _ {p : Profile} (depth : ℕ) (bytes : List ℕ) (start : LineStart) (sho
           short = short;
           deep = omega (arith, s.deep, level);
           placed = omega (arith, placed, level);
-          own = ap profile_of (sym same) ∙ s.own;
+          own = ap set_of_kind (sym same) ∙ s.own;
           numbers = r.in_form;
           tail = subst (λ (k : ParamKind). IsTailOf (tail_of (Parameter k)) line.tail) (sym h.kind_is) h.tail;
           text = record { numbers = r.texts; are = r.are; text_is = line_text bytes (decimal line.level) (name_of (Parameter line.kind) ∷ (r.texts ++ tail_texts (tail_of (Parameter line.kind)) line.tail)) all };
@@ -142,7 +142,7 @@ module _ {p : Profile} (depth : ℕ) (bytes : List ℕ) (start : LineStart) (sho
       )
 
 -- as many words are after the name as the kind has numbers, and a tail
-pub message_count : {p : Profile} (depth : ℕ) (bytes : List ℕ) (start : LineStart) → Starts p depth bytes start → (kind : MsgKind) → start.kind ≡ Message kind → length (words bytes) ≡ word_count start.kind → length (words_in start.words) ≡ length (number_forms (Message kind)) + tail_count (tail_of (Message kind))
+pub message_count : {p : KindSet} (depth : ℕ) (bytes : List ℕ) (start : LineStart) → Starts p depth bytes start → (kind : MsgKind) → start.kind ≡ Message kind → length (words bytes) ≡ word_count start.kind → length (words_in start.words) ≡ length (number_forms (Message kind)) + tail_count (tail_of (Message kind))
 message_count depth bytes start s kind is count =
     let n = ap length s.are in
     omega (arith, n, count ∙ ap word_count is)

@@ -8,7 +8,7 @@ use Rattle.std.proofs.lemmas.List.{append-nil, append_cancel_right}
 use Rattle.std.proofs.lemmas.List.Elements.{All-head, All-tail}
 use Rattle.std.proofs.lemmas.List.Folds.{list_all-append}
 use Rattle.hex.specs.Hex.{encode_lower, encode_with, lower_digits}
-use Rattle.llrp_schema.specs.declared.kinds.Profile.{Profile}
+use Rattle.llrp_schema.specs.declared.kinds.KindSet.{KindSet}
 use Rattle.llrp_schema.specs.declared.kinds.Kind.{Kind}
 use Rattle.llrp_schema.specs.declared.kinds.Tail.{Tail}
 use Rattle.llrp_schema.specs.declared.kinds.Tail.TheVariants.{Absent, Words, Text, Bits, Data}
@@ -148,11 +148,11 @@ pub level_visible : (level : ℕ) → level ≤ MAX_DEPTH → are_visible (decim
 level_visible level le = decimal_visible level (omega arith)
 
 -- the bytes of a line that is said
-pub said_bytes : {p : Profile} (bytes : List ℕ) (level : ℕ) (line : NodeLine) → (s : SaysNode p bytes level line) → bytes ≡ decimal level ++ spaced (rest_words line s.text.numbers)
+pub said_bytes : {p : KindSet} (bytes : List ℕ) (level : ℕ) (line : NodeLine) → (s : SaysNode p bytes level line) → bytes ≡ decimal level ++ spaced (rest_words line s.text.numbers)
 said_bytes bytes level line s = append_cancel_right bytes (decimal level ++ spaced (rest_words line s.text.numbers)) (10 ∷ []) (s.text.text_is ∙ sym (append_assoc (decimal level) (spaced (rest_words line s.text.numbers)) (10 ∷ [])))
 
-pub said_words : {p : Profile} (bytes : List ℕ) (level : ℕ) (line : NodeLine) → (s : SaysNode p bytes level line) → words bytes ≡ decimal level ∷ rest_words line s.text.numbers
+pub said_words : {p : KindSet} (bytes : List ℕ) (level : ℕ) (line : NodeLine) → (s : SaysNode p bytes level line) → words bytes ≡ decimal level ∷ rest_words line s.text.numbers
 said_words bytes level line s = ap words (said_bytes bytes level line s) ∙ words_back (decimal level) (rest_words line s.text.numbers) (level_visible level s.deep) (rest_visible line s.text.numbers s.numbers s.text.are s.tail)
 
-pub said_printed : {p : Profile} (bytes : List ℕ) (level : ℕ) (line : NodeLine) → (s : SaysNode p bytes level line) → is_printed bytes ≡ true
+pub said_printed : {p : KindSet} (bytes : List ℕ) (level : ℕ) (line : NodeLine) → (s : SaysNode p bytes level line) → is_printed bytes ≡ true
 said_printed bytes level line s = ap is_printed (said_bytes bytes level line s) ∙ line_printed (decimal level) (rest_words line s.text.numbers) (level_visible level s.deep) (rest_visible line s.text.numbers s.numbers s.text.are s.tail)

@@ -1,11 +1,11 @@
 -- A line whose name is compared with that of a kind.
 use Rattle.std.proofs.Common.{◌≡◌, ℕ, ◌+◌, ◌^◌, ◌<◌, ◌≤◌, List, ◌∷◌, ◌++◌, [], length, drop, get_or, decimal, refl, sym, ap, ◌∙◌, subst, arith}
 use Rattle.std.proofs.lemmas.List.{append-nil, drop_all, drop_more}
-use Rattle.llrp_schema.specs.declared.kinds.Profile.{Profile}
+use Rattle.llrp_schema.specs.declared.kinds.KindSet.{KindSet}
 use Rattle.llrp_schema.specs.declared.kinds.MsgKind.{MsgKind}
 use Rattle.llrp_schema.specs.declared.kinds.ParamKind.{ParamKind}
 use Rattle.llrp_schema.specs.declared.kinds.Kind.TheVariants.{Message, Parameter}
-use Rattle.llrp_schema.specs.Schema.{fields_of, name_of, profile_of}
+use Rattle.llrp_schema.specs.Schema.{fields_of, name_of, set_of_kind}
 use Rattle.llrp_tree.specs.declared.TheConstants.{MAX_DEPTH}
 use Rattle.llrp_listing.specs.Private.Encoder.{SaysAt}
 use Rattle.llrp_listing.specs.declared.parse_line.TheConstants.{LONGEST_LINE}
@@ -34,21 +34,21 @@ pub word_follows : (line name : List ℕ) (end : ℕ) → drop 2 line ≡ name +
 word_follows line name end e lt s = e ∙ ap (λ (z : List ℕ). name ++ z) (one_octet line end 32 lt s)
 
 -- a line of a parameter at its level
-pub says : {p : Profile} (level : ℕ) (kind : ParamKind) (ws : List (List ℕ)) (ns line : List ℕ) → profile_of (Parameter kind) ≡ p → 1 ≤ level → level ≤ MAX_DEPTH → level < 10 → length line ≤ LONGEST_LINE → AreAllNumbers kind ws ns → line ≡ (48 + level) ∷ 32 ∷ drop 2 line → 32 ∷ drop 2 line ≡ spaced (name_of (Parameter kind) ∷ ws)
+pub says : {p : KindSet} (level : ℕ) (kind : ParamKind) (ws : List (List ℕ)) (ns line : List ℕ) → set_of_kind (Parameter kind) ≡ p → 1 ≤ level → level ≤ MAX_DEPTH → level < 10 → length line ≤ LONGEST_LINE → AreAllNumbers kind ws ns → line ≡ (48 + level) ∷ 32 ∷ drop 2 line → 32 ∷ drop 2 line ≡ spaced (name_of (Parameter kind) ∷ ws)
     → SaysAt p level line level (parameter_line kind ns [])
 says {p} level kind ws ns line own least deep one short all starts e =
     let long : length line ≡ 2 + length (drop 2 line) = ap (λ (z : List ℕ). length z) starts ∙ omega arith in
     subst (λ (z : List ℕ). SaysAt p level z level (parameter_line kind ns [])) (sym starts) (parameter_says level kind ws ns (drop 2 line) own least deep one (omega (arith, short, long)) all e)
 
-pub bare_says : {p : Profile} (level : ℕ) (kind : ParamKind) (line : List ℕ) → profile_of (Parameter kind) ≡ p → 1 ≤ level → level ≤ MAX_DEPTH → level < 10 → length line ≤ LONGEST_LINE → AreAllNumbers kind [] [] → line ≡ (48 + level) ∷ 32 ∷ drop 2 line → drop 2 line ≡ name_of (Parameter kind)
+pub bare_says : {p : KindSet} (level : ℕ) (kind : ParamKind) (line : List ℕ) → set_of_kind (Parameter kind) ≡ p → 1 ≤ level → level ≤ MAX_DEPTH → level < 10 → length line ≤ LONGEST_LINE → AreAllNumbers kind [] [] → line ≡ (48 + level) ∷ 32 ∷ drop 2 line → drop 2 line ≡ name_of (Parameter kind)
     → SaysAt p level line level (parameter_line kind [] [])
 bare_says level kind line own least deep one short all starts e = says level kind [] [] line own least deep one short all starts (no_words (drop 2 line) (name_of (Parameter kind)) e)
 
-pub number_says : {p : Profile} (level : ℕ) (kind : ParamKind) (word : List ℕ) (n : ℕ) (line : List ℕ) → profile_of (Parameter kind) ≡ p → 1 ≤ level → level ≤ MAX_DEPTH → level < 10 → length line ≤ LONGEST_LINE → AreAllNumbers kind (word ∷ []) (n ∷ []) → line ≡ (48 + level) ∷ 32 ∷ drop 2 line → drop 2 line ≡ name_of (Parameter kind) ++ (32 ∷ word)
+pub number_says : {p : KindSet} (level : ℕ) (kind : ParamKind) (word : List ℕ) (n : ℕ) (line : List ℕ) → set_of_kind (Parameter kind) ≡ p → 1 ≤ level → level ≤ MAX_DEPTH → level < 10 → length line ≤ LONGEST_LINE → AreAllNumbers kind (word ∷ []) (n ∷ []) → line ≡ (48 + level) ∷ 32 ∷ drop 2 line → drop 2 line ≡ name_of (Parameter kind) ++ (32 ∷ word)
     → SaysAt p level line level (parameter_line kind (n ∷ []) [])
 number_says level kind word n line own least deep one short all starts e = says level kind (word ∷ []) (n ∷ []) line own least deep one short all starts (one_word (drop 2 line) (name_of (Parameter kind)) word e)
 
-pub bare_message_says : {p : Profile} (kind : MsgKind) (version id end : ℕ) (line : List ℕ) → profile_of (Message kind) ≡ p → (1 ≤ version) × (version ≤ 2) → id < 2 ^ 32 → drop (end + 3) line ≡ decimal id → length line ≤ LONGEST_LINE → fields_of (Message kind) ≡ [] → line ≡ 48 ∷ 32 ∷ drop 2 line
+pub bare_message_says : {p : KindSet} (kind : MsgKind) (version id end : ℕ) (line : List ℕ) → set_of_kind (Message kind) ≡ p → (1 ≤ version) × (version ≤ 2) → id < 2 ^ 32 → drop (end + 3) line ≡ decimal id → length line ≤ LONGEST_LINE → fields_of (Message kind) ≡ [] → line ≡ 48 ∷ 32 ∷ drop 2 line
     → drop 2 line ≡ name_of (Message kind) ++ drop end line → drop end line ≡ 32 ∷ (48 + version) ∷ 32 ∷ drop (end + 3) line → SaysAt p 0 line 0 (record { kind = Message kind; numbers = version ∷ id ∷ []; tail = [] })
 bare_message_says {p} kind version id end line own known small is short none starts e f =
     let digits = drop (end + 3) line in

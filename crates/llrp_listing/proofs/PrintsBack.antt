@@ -5,7 +5,7 @@ use Rattle.std.proofs.lemmas.List.{append-nil}
 use Rattle.std.proofs.lemmas.List.Concat.{flat_map-append}
 use Rattle.tag_bits.specs.Digits.{digits}
 use Rattle.llrp_schema.specs.declared.kinds.Kind.TheVariants.{Message}
-use Rattle.llrp_schema.specs.declared.kinds.Profile.{Profile}
+use Rattle.llrp_schema.specs.declared.kinds.KindSet.{KindSet}
 use Rattle.llrp_schema.specs.Schema.{number_of}
 use Rattle.llrp_tree.specs.declared.TheConstants.{MAX_LIMIT}
 use Rattle.llrp_tree.specs.Tree.{MessageTree}
@@ -58,13 +58,13 @@ is_frame limit m bytes f =
 abbrev pub as_items : List MessageTree → List Item
 as_items messages = map Msg messages
 
-pub are_frames : (p : Profile) (limit : ℕ) (messages : List MessageTree) (frames : List (List ℕ)) → AreSpellingsIn p limit messages frames → AllByRecursion IsFrame frames
+pub are_frames : (p : KindSet) (limit : ℕ) (messages : List MessageTree) (frames : List (List ℕ)) → AreSpellingsIn p limit messages frames → AllByRecursion IsFrame frames
 are_frames p limit [] [] h = tt
 are_frames p limit [] (f ∷ frames) h = absurd h
 are_frames p limit (m ∷ messages) [] h = absurd h
 are_frames p limit (m ∷ messages) (f ∷ frames) h = (is_frame limit m f h.0.frame, are_frames p limit messages frames h.1)
 
-pub are_items : (p : Profile) (limit : ℕ) (messages : List MessageTree) (frames : List (List ℕ)) → AreSpellingsIn p limit messages frames → AllZip (IsItemIn p limit) frames (as_items messages)
+pub are_items : (p : KindSet) (limit : ℕ) (messages : List MessageTree) (frames : List (List ℕ)) → AreSpellingsIn p limit messages frames → AllZip (IsItemIn p limit) frames (as_items messages)
 are_items p limit [] [] h = tt
 are_items p limit [] (f ∷ frames) h = absurd h
 are_items p limit (m ∷ messages) [] h = absurd h
@@ -120,7 +120,7 @@ clean_end : end_text Clean ≡ []
 unfolding end_text
 clean_end = refl
 
-pub prints_back : (p : Profile) (limit : ℕ) (messages : List MessageTree) (text : List ℕ) (frames : List (List ℕ)) → IsListingOf messages text → AreSpellingsIn p limit messages frames → IsOnlyListing p limit (joined frames) text
+pub prints_back : (p : KindSet) (limit : ℕ) (messages : List MessageTree) (text : List ℕ) (frames : List (List ℕ)) → IsListingOf messages text → AreSpellingsIn p limit messages frames → IsOnlyListing p limit (joined frames) text
 prints_back p limit messages text frames listing spelled =
     let items : ItemsIn p limit (joined frames) (as_items messages) Clean = record {
       frames = frames;

@@ -12,8 +12,8 @@ use Rattle.llrp_schema.specs.declared.kinds.Kind.{Kind}
 use Rattle.llrp_schema.specs.declared.kinds.Kind.TheVariants.{Message, Parameter}
 use Rattle.llrp_schema.specs.declared.kinds.Tail.{Tail}
 use Rattle.llrp_schema.specs.declared.kinds.Tail.TheVariants as form
-use Rattle.llrp_schema.specs.declared.kinds.Profile.TheVariants.{Own}
-use Rattle.llrp_schema.specs.Schema.{GroupRule, FieldRule, bits_of, fields_of, groups_of, profile_of, tail_of}
+use Rattle.llrp_schema.specs.declared.kinds.KindSet.TheVariants.{Profile}
+use Rattle.llrp_schema.specs.Schema.{GroupRule, FieldRule, bits_of, fields_of, groups_of, set_of_kind, tail_of}
 use Rattle.llrp_tree.specs.declared.node.NodeFault.{NodeFault}
 use Rattle.llrp_tree.specs.declared.node.NodeFault.TheVariants.{FieldCount, Value, Tail as BadTail, Misplaced, TooMany}
 use Rattle.llrp_tree.specs.Checks.{all_placed, count_fits, first_failed, members, none_too_many, tail_fits, values_fit}
@@ -152,7 +152,7 @@ text_fits f values tail e is = let p = both (nat_le (length tail) 65535) _ (sym 
 -- ---- its octets
 
 -- those before the tail are sixteen at most in the profile
-pub own_short : (kind : Kind) → profile_of kind ≡ Own → own_octets kind [] ≤ 16
+pub own_short : (kind : Kind) → set_of_kind kind ≡ Profile → own_octets kind [] ≤ 16
 own_short (Message kind) own = short_message kind own
 own_short (Parameter kind) own = short_parameter kind own
 

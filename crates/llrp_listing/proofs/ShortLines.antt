@@ -9,9 +9,9 @@ use Rattle.llrp_schema.specs.declared.kinds.Kind.{Kind}
 use Rattle.llrp_schema.specs.declared.kinds.Kind.TheVariants.{Message, Parameter}
 use Rattle.llrp_schema.specs.declared.kinds.Tail.{Tail}
 use Rattle.llrp_schema.specs.declared.kinds.Tail.TheVariants.{Absent, Words, Text, Bits, Data}
-use Rattle.llrp_schema.specs.declared.kinds.Profile.{Profile}
-use Rattle.llrp_schema.specs.declared.kinds.Profile.TheVariants.{Own, Whole}
-use Rattle.llrp_schema.specs.Schema.{name_of, profile_of, tail_of}
+use Rattle.llrp_schema.specs.declared.kinds.KindSet.{KindSet}
+use Rattle.llrp_schema.specs.declared.kinds.KindSet.TheVariants.{Profile, Standard}
+use Rattle.llrp_schema.specs.Schema.{name_of, set_of_kind, tail_of}
 use Rattle.llrp_schema.proofs.TableLaws.{name_short}
 use Rattle.llrp_tree.specs.declared.TheConstants.{MAX_DEPTH, MAX_LIMIT}
 use Rattle.tag_uri.proofs.TextShape.{text_short}
@@ -80,31 +80,31 @@ tail_short Bits tail h = omega (arith, length-encode_with lower_digits tail)
 tail_short Data tail h = omega (arith, length-encode_with lower_digits tail)
 
 -- the most octets of a tail that a line of a set of kinds has
-abbrev pub most_octets : Profile → ℕ
-most_octets Own = 65535
-most_octets Whole = MAX_LIMIT
+abbrev pub most_octets : KindSet → ℕ
+most_octets Profile = 65535
+most_octets Standard = MAX_LIMIT
 
-pub few_in : (p : Profile) {n : ℕ} → n ≤ 65535 → n ≤ most_octets p
-few_in Own le = le
-few_in Whole le = omega (arith, le)
+pub few_in : (p : KindSet) {n : ℕ} → n ≤ 65535 → n ≤ most_octets p
+few_in Profile le = le
+few_in Standard le = omega (arith, le)
 
-pub in_longest : (p : Profile) {n : ℕ} → n ≤ LONGEST_LINE → n ≤ longest p
-in_longest Own le = le
-in_longest Whole le = omega (arith, le)
+pub in_longest : (p : KindSet) {n : ℕ} → n ≤ LONGEST_LINE → n ≤ longest p
+in_longest Profile le = le
+in_longest Standard le = omega (arith, le)
 
-room_for : (p : Profile) (n m : ℕ) → n ≤ most_octets p → m ≤ 2000 + 3 * n → m ≤ longest p
-room_for Own n m le fits = omega (arith, le, fits)
-room_for Whole n m le fits = omega (arith, le, fits)
+room_for : (p : KindSet) (n m : ℕ) → n ≤ most_octets p → m ≤ 2000 + 3 * n → m ≤ longest p
+room_for Profile n m le fits = omega (arith, le, fits)
+room_for Standard n m le fits = omega (arith, le, fits)
 
 forms_few : (kind : Kind) → length (number_forms kind) ≤ 14
 forms_few (Message kind) = omega (arith, message_forms kind, few_forms (Message kind))
 forms_few (Parameter kind) = omega (arith, parameter_forms kind, few_forms (Parameter kind))
 
 -- a line of numbers in their forms and of a tail that a parameter can have is short
-pub line_short : (level : ℕ) (line : NodeLine) (texts : List (List ℕ)) → level ≤ MAX_DEPTH → AreInForm (number_forms line.kind) line.numbers → AreNumberTexts (number_forms line.kind) line.numbers texts → IsTailOf (tail_of line.kind) line.tail → length line.tail ≤ most_octets (profile_of line.kind)
-    → length (decimal level ++ spaced (rest_words line texts)) ≤ longest (profile_of line.kind)
+pub line_short : (level : ℕ) (line : NodeLine) (texts : List (List ℕ)) → level ≤ MAX_DEPTH → AreInForm (number_forms line.kind) line.numbers → AreNumberTexts (number_forms line.kind) line.numbers texts → IsTailOf (tail_of line.kind) line.tail → length line.tail ≤ most_octets (set_of_kind line.kind)
+    → length (decimal level ++ spaced (rest_words line texts)) ≤ longest (set_of_kind line.kind)
 line_short level line texts deep p h t le =
     let rest = texts ++ tail_texts (tail_of line.kind) line.tail in
     let all : length (decimal level ++ spaced (rest_words line texts)) ≡ length (decimal level) + total (name_of line.kind ∷ rest) = length-append (decimal level) (spaced (rest_words line texts)) ∙ ap (λ (n : ℕ). length (decimal level) + n) (spaced_length (rest_words line texts)) in
-    room_for (profile_of line.kind) (length line.tail) _ le
+    room_for (set_of_kind line.kind) (length line.tail) _ le
     (omega (arith, all, decimal_short level (omega arith), name_short line.kind, total_append texts (tail_texts (tail_of line.kind) line.tail), numbers_short (number_forms line.kind) line.numbers texts p h, forms_few line.kind, tail_short (tail_of line.kind) line.tail t))

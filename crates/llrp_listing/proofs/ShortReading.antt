@@ -4,7 +4,7 @@ use Rattle.std.specs.Prelude.{IfSome, ◌⊎◌, ◌==◌, filter, not}
 use Rattle.std.proofs.lemmas.Bool.{ne_eqb}
 use Rattle.std.proofs.lemmas.Fmt.{decimal_digit}
 use Rattle.std.proofs.lemmas.List.{append-nil}
-use Rattle.llrp_schema.specs.declared.kinds.Profile.{Profile}
+use Rattle.llrp_schema.specs.declared.kinds.KindSet.{KindSet}
 use Rattle.llrp_schema.specs.declared.kinds.MsgKind.{MsgKind}
 use Rattle.llrp_schema.specs.declared.kinds.ParamKind.{ParamKind}
 use Rattle.llrp_schema.specs.declared.kinds.Kind.{Kind}
@@ -12,7 +12,7 @@ use Rattle.llrp_schema.specs.declared.kinds.Kind.TheVariants.{Message, Parameter
 use Rattle.llrp_schema.specs.declared.kinds.Tail.{Tail}
 use Rattle.llrp_schema.specs.declared.kinds.Tail.TheVariants.{Absent}
 use Rattle.llrp_schema.specs.declared.kinds.Field.{Field}
-use Rattle.llrp_schema.specs.Schema.{FieldRule, fields_of, name_of, profile_of, tail_of}
+use Rattle.llrp_schema.specs.Schema.{FieldRule, fields_of, name_of, set_of_kind, tail_of}
 use Rattle.llrp_schema.specs.Calls.Schema.{field_rule}
 use Rattle.llrp_tree.specs.declared.TheConstants.{MAX_DEPTH}
 use Rattle.llrp_listing.specs.Private.Encoder.{SaysAt}
@@ -85,7 +85,7 @@ line_text kind numbers rest level small absent e =
     ap (λ (z : List ℕ). (48 + level) ∷ (z ++ (10 ∷ []))) (e ∙ sym (ap (λ (z : List (List ℕ)). spaced (name_of kind ∷ z)) tails))
     ∙ sym (ap (λ (d : List ℕ). d ++ (spaced (name_of kind ∷ (numbers ++ tail_texts (tail_of kind) [])) ++ (10 ∷ []))) (decimal_digit level small))
 
-pub parameter_says : {p : Profile} (level : ℕ) (kind : ParamKind) (ws : List (List ℕ)) (ns rest : List ℕ) → profile_of (Parameter kind) ≡ p → 1 ≤ level → level ≤ MAX_DEPTH → level < 10 → 2 + length rest ≤ LONGEST_LINE → AreAllNumbers kind ws ns → 32 ∷ rest ≡ spaced (name_of (Parameter kind) ∷ ws)
+pub parameter_says : {p : KindSet} (level : ℕ) (kind : ParamKind) (ws : List (List ℕ)) (ns rest : List ℕ) → set_of_kind (Parameter kind) ≡ p → 1 ≤ level → level ≤ MAX_DEPTH → level < 10 → 2 + length rest ≤ LONGEST_LINE → AreAllNumbers kind ws ns → 32 ∷ rest ≡ spaced (name_of (Parameter kind) ∷ ws)
     → SaysAt p level ((48 + level) ∷ 32 ∷ rest) level (parameter_line kind ns [])
 parameter_says {p} level kind ws ns rest own least deep one short all e = (
   record {
@@ -100,7 +100,7 @@ parameter_says {p} level kind ws ns rest own least deep one short all e = (
   omega arith,
 )
 
-pub message_says : {p : Profile} (kind : MsgKind) (version id : ℕ) (digits rest : List ℕ) → profile_of (Message kind) ≡ p → (1 ≤ version) × (version ≤ 2) → id < 2 ^ 32 → digits ≡ decimal id → 2 + length rest ≤ LONGEST_LINE → fields_of (Message kind) ≡ [] → 32 ∷ rest ≡ spaced (name_of (Message kind) ∷ ((48 + version) ∷ []) ∷ digits ∷ [])
+pub message_says : {p : KindSet} (kind : MsgKind) (version id : ℕ) (digits rest : List ℕ) → set_of_kind (Message kind) ≡ p → (1 ≤ version) × (version ≤ 2) → id < 2 ^ 32 → digits ≡ decimal id → 2 + length rest ≤ LONGEST_LINE → fields_of (Message kind) ≡ [] → 32 ∷ rest ≡ spaced (name_of (Message kind) ∷ ((48 + version) ∷ []) ∷ digits ∷ [])
     → SaysAt p 0 (48 ∷ 32 ∷ rest) 0 (record { kind = Message kind; numbers = version ∷ id ∷ []; tail = [] })
 message_says {p} kind version id digits rest own known small is short none e =
     let forms : number_forms (Message kind) ≡ Version ∷ Id ∷ [] = message_forms kind none in

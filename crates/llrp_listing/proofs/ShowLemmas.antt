@@ -1,6 +1,6 @@
 -- The text of a stream as it comes, whatever the texts of its items are.
 use Rattle.std.proofs.Common.{◌≡◌, ◌⊎◌, ◌≤◌, arith, length, ℕ, Bool, true, false, List, [], ◌∷◌, ◌++◌, take, drop, refl, sym, ap, subst, ◌∙◌, append_assoc, Err, Ok, inl, inr, Some, None}
-use Rattle.llrp_schema.specs.declared.kinds.Profile.{Profile}
+use Rattle.llrp_schema.specs.declared.kinds.KindSet.{KindSet}
 use Rattle.std.specs.Prelude.{◌&&◌, OnOk, Option, Result}
 use Rattle.std.specs.List.{flat_map, list_all}
 use Rattle.std.proofs.lemmas.List.{append-nil, take-append-drop}
@@ -56,7 +56,7 @@ lawful_push (i ∷ items) item = ap (λ (b : Bool). is_message i && b) (lawful_p
 -- ---- what a feed took
 
 -- up to a frame's end
-abbrev pub TakesFrame : (stands : List ℕ → List Begun → Type 0) (ends : List ℕ → MessageTree → List ℕ → Type 0) → (p : Profile) (limit : ℕ) (front gathered piece : List ℕ) → Frames → (used : ℕ) → Outcome → Type 0
+abbrev pub TakesFrame : (stands : List ℕ → List Begun → Type 0) (ends : List ℕ → MessageTree → List ℕ → Type 0) → (p : KindSet) (limit : ℕ) (front gathered piece : List ℕ) → Frames → (used : ℕ) → Outcome → Type 0
 TakesFrame stands ends p limit front gathered piece frames used outcome =
     (used ≤ length piece) × IsFrame (front ++ take used piece) × Tells stands ends p limit (front ++ take used piece) gathered outcome × IsIdle frames
 
@@ -64,11 +64,11 @@ abbrev pub Takings : (begins stands : List ℕ → List Begun → Type 0) (ends 
 Takings begins stands ends gathered limit front piece new used outcome = TakesOn (begins gathered) (stands gathered) (ends gathered) (λ now. stands now []) limit front piece new used outcome
 
 module _ (begins stands : List ℕ → List Begun → Type 0) (ends : List ℕ → MessageTree → List ℕ → Type 0) where
-  pub takes_frame : (p : Profile) (limit other : ℕ) (front gathered piece : List ℕ) (new : Frames) (used : ℕ) (came : Option Outcome) (outcome : Outcome) → set_of new ≡ p → other ≡ limit → came ≡ Some outcome → Takings begins stands ends gathered other front piece new used came
+  pub takes_frame : (p : KindSet) (limit other : ℕ) (front gathered piece : List ℕ) (new : Frames) (used : ℕ) (came : Option Outcome) (outcome : Outcome) → set_of new ≡ p → other ≡ limit → came ≡ Some outcome → Takings begins stands ends gathered other front piece new used came
       → TakesFrame stands ends p limit front gathered piece new used outcome
   takes_frame p limit other front gathered piece new used came outcome set e is t =
       let u = subst (λ (n : ℕ). Takings begins stands ends gathered n front piece new used (Some outcome)) e (subst (λ (o : Option Outcome). Takings begins stands ends gathered other front piece new used o) is t) in
-      (u.0, u.1, subst (λ (q : Profile). Tells stands ends q limit (front ++ take used piece) gathered outcome) set u.2, u.3)
+      (u.0, u.1, subst (λ (q : KindSet). Tells stands ends q limit (front ++ take used piece) gathered outcome) set u.2, u.3)
 
   -- without an outcome, the whole piece
   pub takes_none : (limit : ℕ) (front gathered piece : List ℕ) (new : Frames) (used : ℕ) (came : Option Outcome) → limit_of new ≡ limit → ((x : Outcome) → came ≡ Some x → ⊥) → Takings begins stands ends gathered limit front piece new used came
@@ -77,7 +77,7 @@ module _ (begins stands : List ℕ → List Begun → Type 0) (ends : List ℕ �
   takes_none limit front gathered piece new used (Some outcome) e none t = absurd (none outcome refl)
 
 -- the printer has whole items alone
-pub frame_ends : (stands : List ℕ → List Begun → Type 0) (ends : List ℕ → MessageTree → List ℕ → Type 0) (p : Profile) (limit : ℕ) (front gathered piece : List ℕ) (frames : Frames) (used : ℕ) (outcome : Outcome) → TakesFrame stands ends p limit front gathered piece frames used outcome
+pub frame_ends : (stands : List ℕ → List Begun → Type 0) (ends : List ℕ → MessageTree → List ℕ → Type 0) (p : KindSet) (limit : ℕ) (front gathered piece : List ℕ) (frames : Frames) (used : ℕ) (outcome : Outcome) → TakesFrame stands ends p limit front gathered piece frames used outcome
     → (was : List ℕ) × stands was []
 frame_ends stands ends p limit front gathered piece frames used Whole t = (t.2.2, t.2.4)
 frame_ends stands ends p limit front gathered piece frames used (Bad id fault) t = (gathered, t.2.2)
@@ -99,7 +99,7 @@ module _ (IsText : Item → List ℕ → Type 0) where
     text_is = ap (λ (x : List ℕ). x ++ more) are.text_is ∙ ap (λ (x : List ℕ). flat_map (λ t. t) are.texts ++ x) (sym (append-nil more)) ∙ sym (flat_map-append (λ t. t) are.texts (more ∷ []));
   }
 
-  pub begun : (begins stands : List ℕ → List Begun → Type 0) (p : Profile) (limit : ℕ) (log : SinkLog) (frames : Frames) → set_of frames ≡ p → limit_of frames ≡ limit → IsIdle frames → stands [] [] → GoesOn IsText begins stands p limit [] [] log log frames true
+  pub begun : (begins stands : List ℕ → List Begun → Type 0) (p : KindSet) (limit : ℕ) (log : SinkLog) (frames : Frames) → set_of frames ≡ p → limit_of frames ≡ limit → IsIdle frames → stands [] [] → GoesOn IsText begins stands p limit [] [] log log frames true
   begun begins stands p limit log frames set_is limit_is idle fresh = record {
     front = [];
     listed = record { items = []; sent = []; so_far = (items_grow limit).none; texts = no_items; log = wrote_nothing log; set_is = set_is; limit_is = limit_is; lawful_is = refl };
@@ -107,7 +107,7 @@ module _ (IsText : Item → List ℕ → Type 0) where
   }
 
   -- a frame's item, of which the text was appended
-  pub one_frame_more : (p : Profile) (limit : ℕ) (bytes piece front gathered all : List ℕ) (used : ℕ) (item : Item) (old now : SinkLog) (frames : Frames) (lawful : Bool)
+  pub one_frame_more : (p : KindSet) (limit : ℕ) (bytes piece front gathered all : List ℕ) (used : ℕ) (item : Item) (old now : SinkLog) (frames : Frames) (lawful : Bool)
       → (so : ListedSoFar IsText p limit bytes front gathered old now frames lawful) → IsFrame (front ++ take used piece) → IsItemIn p limit (front ++ take used piece) item → AppendsText IsText item gathered all
       → ItemsSoFarIn p limit (bytes ++ take used piece) (so.items ++ (item ∷ [])) [] × AreTexts IsText (so.items ++ (item ∷ [])) (so.sent ++ all)
   one_frame_more p limit bytes piece front gathered all used item old now frames lawful so frame is_item appends =
@@ -117,7 +117,7 @@ module _ (IsText : Item → List ℕ → Type 0) where
       )
 
   -- the text of a frame was gathered, and perhaps handed on with the text before it
-  pub frame_listed : (begins stands : List ℕ → List Begun → Type 0) (p : Profile) (limit : ℕ) (bytes front gathered piece : List ℕ) (used : ℕ) (old now after : SinkLog) (was told new : Frames) (was_lawful lawful : Bool)
+  pub frame_listed : (begins stands : List ℕ → List Begun → Type 0) (p : KindSet) (limit : ℕ) (bytes front gathered piece : List ℕ) (used : ℕ) (old now after : SinkLog) (was told new : Frames) (was_lawful lawful : Bool)
       → (so : ListedSoFar IsText p limit bytes front gathered old now was was_lawful) → IsFrame (front ++ take used piece) → IsIdle told → set_of told ≡ set_of was → limit_of told ≡ limit_of was → new ≡ told
       → Lists IsText stands p limit (front ++ take used piece) gathered was_lawful lawful now after → (left : List ℕ) × GoesOn IsText begins stands p limit (bytes ++ take used piece) left old after new lawful
   frame_listed begins stands p limit bytes front gathered piece used old now after was told new was_lawful lawful so frame idle set_is limit_is same lists =
@@ -142,7 +142,7 @@ module _ (IsText : Item → List ℕ → Type 0) where
       )
 
   -- the piece ends in a frame, and all text of whole frames was handed on
-  pub piece_listed : (begins stands new_begins new_stands : List ℕ → List Begun → Type 0) (p : Profile) (limit : ℕ) (bytes gathered piece front : List ℕ) (old now after : SinkLog) (was new : Frames) (lawful : Bool)
+  pub piece_listed : (begins stands new_begins new_stands : List ℕ → List Begun → Type 0) (p : KindSet) (limit : ℕ) (bytes gathered piece front : List ℕ) (old now after : SinkLog) (was new : Frames) (lawful : Bool)
       → ListedSoFar IsText p limit bytes front gathered old now was lawful → ComesTo (begins gathered) (stands gathered) new (front ++ piece) → set_of new ≡ set_of was → limit_of new ≡ limit_of was
       → Wrote now after gathered → ((w : List ℕ) (t : List Begun) → begins w t → new_begins [] t) → ((w : List ℕ) (t : List Begun) → stands w t → new_stands [] t)
       → GoesOn IsText new_begins new_stands p limit (bytes ++ piece) [] old after new lawful
@@ -162,7 +162,7 @@ module _ (IsText : Item → List ℕ → Type 0) where
   }
 
   -- the piece breaks the stream
-  pub piece_breaks : (begins stands new_stands : List ℕ → List Begun → Type 0) (p : Profile) (limit : ℕ) (bytes gathered piece : List ℕ) (old now : SinkLog) (was new : Frames) (lawful : Bool) → (goes : GoesOn IsText begins stands p limit bytes gathered old now was lawful)
+  pub piece_breaks : (begins stands new_stands : List ℕ → List Begun → Type 0) (p : KindSet) (limit : ℕ) (bytes gathered piece : List ℕ) (old now : SinkLog) (was new : Frames) (lawful : Bool) → (goes : GoesOn IsText begins stands p limit bytes gathered old now was lawful)
       → Breaks (goes.front ++ piece) → new_stands gathered [] → IsBroken new → set_of new ≡ set_of was → limit_of new ≡ limit_of was
       → IsBrokenOff IsText new_stands p limit (bytes ++ piece) old now new lawful
   piece_breaks begins stands new_stands p limit bytes gathered piece old now was new lawful goes breaks holds broken set_is limit_is =
@@ -186,7 +186,7 @@ module _ (IsText : Item → List ℕ → Type 0) where
       }
 
   -- a broken stream stays so, whatever follows
-  pub broken_off : (stands : List ℕ → List Begun → Type 0) (p : Profile) (limit : ℕ) (bytes more : List ℕ) (old now : SinkLog) (frames : Frames) (lawful : Bool) → IsBrokenOff IsText stands p limit bytes old now frames lawful
+  pub broken_off : (stands : List ℕ → List Begun → Type 0) (p : KindSet) (limit : ℕ) (bytes more : List ℕ) (old now : SinkLog) (frames : Frames) (lawful : Bool) → IsBrokenOff IsText stands p limit bytes old now frames lawful
       → IsBrokenOff IsText stands p limit (bytes ++ more) old now frames lawful
   broken_off stands p limit bytes more old now frames lawful broken =
       let so = broken.listed in
@@ -209,7 +209,7 @@ module _ (IsText : Item → List ℕ → Type 0) where
       }
 
   -- what the engine keeps
-  pub goes_few : (begins stands : List ℕ → List Begun → Type 0) (p : Profile) (limit : ℕ) (bytes gathered : List ℕ) (old now : SinkLog) (frames : Frames) (lawful : Bool) → 10 ≤ limit → GoesOn IsText begins stands p limit bytes gathered old now frames lawful → KeepsFew limit frames
+  pub goes_few : (begins stands : List ℕ → List Begun → Type 0) (p : KindSet) (limit : ℕ) (bytes gathered : List ℕ) (old now : SinkLog) (frames : Frames) (lawful : Bool) → 10 ≤ limit → GoesOn IsText begins stands p limit bytes gathered old now frames lawful → KeepsFew limit frames
   goes_few begins stands p limit bytes gathered old now frames lawful least goes =
       let e = goes.listed.limit_is in
       let k = few_kept (begins gathered) (stands gathered) frames goes.front (omega (arith, e, least)) goes.comes in
@@ -218,7 +218,7 @@ module _ (IsText : Item → List ℕ → Type 0) where
   -- ---- a frame's text
 
   -- the printer received a message with its text
-  pub whole_listed : (stands new_stands : List ℕ → List Begun → Type 0) (ends : List ℕ → MessageTree → List ℕ → Type 0) (p : Profile) (limit : ℕ) (frame was : List ℕ) (lawful : Bool) (w0 w1 : SinkLog) (answer : Result (Unit {0}) ToolErr)
+  pub whole_listed : (stands new_stands : List ℕ → List Begun → Type 0) (ends : List ℕ → MessageTree → List ℕ → Type 0) (p : KindSet) (limit : ℕ) (frame was : List ℕ) (lawful : Bool) (w0 w1 : SinkLog) (answer : Result (Unit {0}) ToolErr)
       → ((before : List ℕ) (m : MessageTree) (now : List ℕ) → ends before m now → AppendsText IsText (of_item.Msg m) before now) → Tells stands ends p limit frame was Whole
       → ((all : List ℕ) → stands all [] → HandsOnOrFails new_stands all w0 w1 answer) → ListsOrFails IsText new_stands p limit frame was lawful lawful w0 w1 answer
   whole_listed stands new_stands ends p limit frame was lawful w0 w1 (Ok u) has_text told handed =
@@ -228,7 +228,7 @@ module _ (IsText : Item → List ℕ → Type 0) where
       inr (of_item.Msg told.0, told.1, (told.2, has_text was told.0 told.2 told.3, handed told.2 told.4))
 
   -- the text of a fault was appended
-  pub fault_listed : (stands mid_stands new_stands : List ℕ → List Begun → Type 0) (ends : List ℕ → MessageTree → List ℕ → Type 0) (p : Profile) (limit id : ℕ) (fault : Fault) (frame was : List ℕ) (lawful : Bool) (w0 w1 : SinkLog) (answer : Result (Unit {0}) ToolErr)
+  pub fault_listed : (stands mid_stands new_stands : List ℕ → List Begun → Type 0) (ends : List ℕ → MessageTree → List ℕ → Type 0) (p : KindSet) (limit id : ℕ) (fault : Fault) (frame was : List ℕ) (lawful : Bool) (w0 w1 : SinkLog) (answer : Result (Unit {0}) ToolErr)
       → ((before : List ℕ) → stands before [] → (text : List ℕ) × IsText (of_item.Bad id fault) text × mid_stands (before ++ text) []) → Tells stands ends p limit frame was (Bad id fault)
       → ((all : List ℕ) → mid_stands all [] → HandsOnOrFails new_stands all w0 w1 answer) → ListsOrFails IsText new_stands p limit frame was lawful false w0 w1 answer
   fault_listed stands mid_stands new_stands ends p limit id fault frame was lawful w0 w1 (Ok u) pushed told handed =
@@ -240,7 +240,7 @@ module _ (IsText : Item → List ℕ → Type 0) where
       inr (of_item.Bad id fault, (told.0, told.1), (was ++ k.0, (k.0, refl, k.1), handed (was ++ k.0) k.2))
 
   -- no write failed
-  pub lists_failures : (stands : List ℕ → List Begun → Type 0) (p : Profile) (limit : ℕ) (frame was : List ℕ) (old_lawful lawful : Bool) (w0 w1 : SinkLog) → Lists IsText stands p limit frame was old_lawful lawful w0 w1 → w1.failures ≡ w0.failures
+  pub lists_failures : (stands : List ℕ → List Begun → Type 0) (p : KindSet) (limit : ℕ) (frame was : List ℕ) (old_lawful lawful : Bool) (w0 w1 : SinkLog) → Lists IsText stands p limit frame was old_lawful lawful w0 w1 → w1.failures ≡ w0.failures
   lists_failures stands p limit frame was old_lawful lawful w0 w1 lists = same_failures w0 w1 lists.handed.0 lists.handed.2
 
 pub broken_few : (limit : ℕ) (frames : Frames) → Stops frames failure.Broken → KeepsFew limit frames
@@ -265,7 +265,7 @@ abbrev pub ToldEnd : Frames → End → Type 0
 ToldEnd frames end = ((front : List ℕ) → IsFrontOf frames front → EndsStream front end) × (IsBroken frames → end ≡ at_end.Broken)
 
 -- A front of a frame ends the stream.
-record Ended (IsText : Item → List ℕ → Type 0) (stands : List ℕ → List Begun → Type 0) (p : Profile) (limit : ℕ) (bytes : List ℕ) (old now : SinkLog) (frames : Frames) (lawful : Bool) (end : End) : Type 0 where
+record Ended (IsText : Item → List ℕ → Type 0) (stands : List ℕ → List Begun → Type 0) (p : KindSet) (limit : ℕ) (bytes : List ℕ) (old now : SinkLog) (frames : Frames) (lawful : Bool) (end : End) : Type 0 where
   front : List ℕ
   gathered : List ℕ
   listed : ListedSoFar IsText p limit bytes front gathered old now frames lawful
@@ -276,7 +276,7 @@ record Ended (IsText : Item → List ℕ → Type 0) (stands : List ℕ → List
 abbrev pub GivesUp : (begins stands new_stands : List ℕ → List Begun → Type 0) → Type 0
 GivesUp begins stands new_stands = (was : List ℕ) (t : List Begun) → (begins was t) ⊎ (stands was t) → new_stands was []
 
-ended : (IsText : Item → List ℕ → Type 0) (begins stands new_stands : List ℕ → List Begun → Type 0) (p : Profile) (limit : ℕ) (bytes : List ℕ) (old now : SinkLog) (frames : Frames) (lawful : Bool) (end : End)
+ended : (IsText : Item → List ℕ → Type 0) (begins stands new_stands : List ℕ → List Begun → Type 0) (p : KindSet) (limit : ℕ) (bytes : List ℕ) (old now : SinkLog) (frames : Frames) (lawful : Bool) (end : End)
     → Finishes IsText begins stands p limit bytes old now frames lawful → ToldEnd frames end → GivesUp begins stands new_stands → Ended IsText new_stands p limit bytes old now frames lawful end
 ended IsText begins stands new_stands p limit bytes old now frames lawful end finishes told gives_up = elim finishes [
   | inl goes ↦ (
@@ -302,7 +302,7 @@ ended IsText begins stands new_stands p limit bytes old now frames lawful end fi
 
 module _ (IsText : Item → List ℕ → Type 0) (text_of_end : End → List ℕ) (one : HasOneText IsText) where
   -- the text of the items so far begins each text of more bytes, and so does a front of that text
-  begins_so_far : (p : Profile) (limit : ℕ) (bytes more front text part : List ℕ) (items : List Item) → ItemsSoFarIn p limit bytes items front → AreTexts IsText items text → IsPrefix part text → BeginsTextIn IsText text_of_end p limit (bytes ++ more) part
+  begins_so_far : (p : KindSet) (limit : ℕ) (bytes more front text part : List ℕ) (items : List Item) → ItemsSoFarIn p limit bytes items front → AreTexts IsText items text → IsPrefix part text → BeginsTextIn IsText text_of_end p limit (bytes ++ more) part
   begins_so_far p limit bytes more front text part items so are part_of others end whole all is =
       let first = (items_grow limit).come_first bytes more items others front end so all in
       let listing : IsStreamText IsText text_of_end (items ++ first.0) end whole = subst (λ (xs : List Item). IsStreamText IsText text_of_end xs end whole) first.1 is in
@@ -310,7 +310,7 @@ module _ (IsText : Item → List ℕ → Type 0) (text_of_end : End → List ℕ
       (part_of.0 ++ begins.0, begins.1 ∙ ap (λ (x : List ℕ). x ++ begins.0) part_of.1 ∙ append_assoc part part_of.0 begins.0)
 
   -- a write of gathered text failed
-  write_stopped : (p : Profile) (limit : ℕ) (bytes sent text : List ℕ) (old now after : SinkLog) (e : ToolErr) → Wrote old now sent → ((part : List ℕ) → IsPrefix part (sent ++ text) → BeginsTextIn IsText text_of_end p limit bytes part)
+  write_stopped : (p : KindSet) (limit : ℕ) (bytes sent text : List ℕ) (old now after : SinkLog) (e : ToolErr) → Wrote old now sent → ((part : List ℕ) → IsPrefix part (sent ++ text) → BeginsTextIn IsText text_of_end p limit bytes part)
       → Writes text now after (Err e) → StoppedAs IsText text_of_end p limit bytes old after e
   write_stopped p limit bytes sent text old now after Write log begins failed = record {
     front = sent ++ failed.0;
@@ -329,7 +329,7 @@ module _ (IsText : Item → List ℕ → Type 0) (text_of_end : End → List ℕ
   write_stopped p limit bytes sent text old now after (Listing line reason) log begins failed = absurd failed.2
 
   -- what was written, before more bytes were listed
-  pub memory_stopped : (p : Profile) (limit : ℕ) (bytes front gathered piece : List ℕ) (old now : SinkLog) (frames : Frames) (lawful : Bool) → ListedSoFar IsText p limit bytes front gathered old now frames lawful
+  pub memory_stopped : (p : KindSet) (limit : ℕ) (bytes front gathered piece : List ℕ) (old now : SinkLog) (frames : Frames) (lawful : Bool) → ListedSoFar IsText p limit bytes front gathered old now frames lawful
       → StoppedAs IsText text_of_end p limit (bytes ++ piece) old now Memory
   memory_stopped p limit bytes front gathered piece old now frames lawful so = record {
     front = so.sent;
@@ -338,7 +338,7 @@ module _ (IsText : Item → List ℕ → Type 0) (text_of_end : End → List ℕ
   }
 
   -- a frame's text was not gathered, or not handed on
-  pub frame_stopped : (stands : List ℕ → List Begun → Type 0) (p : Profile) (limit : ℕ) (bytes front gathered piece : List ℕ) (used : ℕ) (old now after : SinkLog) (frames : Frames) (lawful new_lawful : Bool) (e : ToolErr)
+  pub frame_stopped : (stands : List ℕ → List Begun → Type 0) (p : KindSet) (limit : ℕ) (bytes front gathered piece : List ℕ) (used : ℕ) (old now after : SinkLog) (frames : Frames) (lawful new_lawful : Bool) (e : ToolErr)
       → ListedSoFar IsText p limit bytes front gathered old now frames lawful → IsFrame (front ++ take used piece)
       → ListsOrFails IsText stands p limit (front ++ take used piece) gathered lawful new_lawful now after (Err e) → StoppedAs IsText text_of_end p limit (bytes ++ piece) old after e
   frame_stopped stands p limit bytes front gathered piece used old now after frames lawful new_lawful e so frame lists =
@@ -356,13 +356,13 @@ module _ (IsText : Item → List ℕ → Type 0) (text_of_end : End → List ℕ
       ]
 
   -- the piece ends in a frame, and handing on failed
-  pub piece_stopped : (p : Profile) (limit : ℕ) (bytes gathered piece front : List ℕ) (old now after : SinkLog) (frames : Frames) (lawful : Bool) (e : ToolErr) → ListedSoFar IsText p limit bytes front gathered old now frames lawful
+  pub piece_stopped : (p : KindSet) (limit : ℕ) (bytes gathered piece front : List ℕ) (old now after : SinkLog) (frames : Frames) (lawful : Bool) (e : ToolErr) → ListedSoFar IsText p limit bytes front gathered old now frames lawful
       → Writes gathered now after (Err e) → StoppedAs IsText text_of_end p limit (bytes ++ piece) old after e
   piece_stopped p limit bytes gathered piece front old now after frames lawful e so failed = write_stopped p limit (bytes ++ piece) so.sent gathered old now after e so.log
       (λ part is. begins_so_far p limit bytes piece front (so.sent ++ gathered) part so.items so.so_far so.texts is)
       failed
 
-  module _ (begins stands new_stands : List ℕ → List Begun → Type 0) (p : Profile) (limit : ℕ) (bytes : List ℕ) (old now : SinkLog) (frames : Frames) (lawful : Bool) (end : End) (finishes : Finishes IsText begins stands p limit bytes old now frames lawful) (told : ToldEnd frames end) (gives_up : GivesUp begins stands new_stands) where
+  module _ (begins stands new_stands : List ℕ → List Begun → Type 0) (p : KindSet) (limit : ℕ) (bytes : List ℕ) (old now : SinkLog) (frames : Frames) (lawful : Bool) (end : End) (finishes : Finishes IsText begins stands p limit bytes old now frames lawful) (told : ToldEnd frames end) (gives_up : GivesUp begins stands new_stands) where
     -- the end's text was not gathered
     pub end_not_gathered : StoppedAs IsText text_of_end p limit bytes old now Memory
     end_not_gathered =
@@ -406,7 +406,7 @@ module _ (IsText : Item → List ℕ → Type 0) (text_of_end : End → List ℕ
   -- ---- while it reads
 
   -- the text of each frame that is whole in what was read was written
-  pub frames_written : (begins stands : List ℕ → List Begun → Type 0) (p : Profile) (limit : ℕ) (bytes : List ℕ) (old now : SinkLog) (frames : Frames) (lawful : Bool) → GoesOn IsText begins stands p limit bytes [] old now frames lawful → WroteFramesAs IsText text_of_end p limit bytes old now
+  pub frames_written : (begins stands : List ℕ → List Begun → Type 0) (p : KindSet) (limit : ℕ) (bytes : List ℕ) (old now : SinkLog) (frames : Frames) (lawful : Bool) → GoesOn IsText begins stands p limit bytes [] old now frames lawful → WroteFramesAs IsText text_of_end p limit bytes old now
   frames_written begins stands p limit bytes old now frames lawful goes =
       let so = goes.listed in
       let texts : AreTexts IsText so.items so.sent = subst (AreTexts IsText so.items) (append-nil so.sent) so.texts in
@@ -433,6 +433,6 @@ further done rest piece after used e d =
     e ∙ ap (λ (x : List ℕ). done ++ x) (sym (take-append-drop used rest)) ∙ sym (append_assoc done (take used rest) (drop used rest)) ∙ ap (λ (x : List ℕ). (done ++ take used rest) ++ x) (sym d)
 
 -- a piece stopped listing, as a part of a longer one
-pub stopped_there : (IsText : Item → List ℕ → Type 0) (text_of_end : End → List ℕ) (p : Profile) (limit : ℕ) (bytes done rest piece : List ℕ) (old after : SinkLog) (e : ToolErr) → piece ≡ done ++ rest
+pub stopped_there : (IsText : Item → List ℕ → Type 0) (text_of_end : End → List ℕ) (p : KindSet) (limit : ℕ) (bytes done rest piece : List ℕ) (old after : SinkLog) (e : ToolErr) → piece ≡ done ++ rest
     → StoppedAs IsText text_of_end p limit ((bytes ++ done) ++ rest) old after e → StoppedAs IsText text_of_end p limit (bytes ++ piece) old after e
 stopped_there IsText text_of_end p limit bytes done rest piece old after e parts stopped = subst (λ (x : List ℕ). StoppedAs IsText text_of_end p limit x old after e) (as_far bytes done rest piece parts) stopped

@@ -1,12 +1,12 @@
 -- The numbers of a line that has several.
 use Rattle.std.proofs.Common.{◌≡◌, ℕ, ◌+◌, ◌^◌, ◌<◌, ◌≤◌, List, [], ◌∷◌, ◌++◌, length, drop, map, decimal, refl, sym, ap, subst, ◌∙◌, append_assoc, arith}
 use Rattle.std.proofs.lemmas.List.{append-nil, drop_all}
-use Rattle.llrp_schema.specs.declared.kinds.Profile.{Profile}
+use Rattle.llrp_schema.specs.declared.kinds.KindSet.{KindSet}
 use Rattle.llrp_schema.specs.declared.kinds.Field.{Field}
 use Rattle.llrp_schema.specs.declared.kinds.ParamKind.{ParamKind}
 use Rattle.llrp_schema.specs.declared.kinds.Tail.TheVariants.{Absent}
 use Rattle.llrp_schema.specs.declared.kinds.Kind.TheVariants.{Parameter}
-use Rattle.llrp_schema.specs.Schema.{FieldRule, fields_of, name_of, profile_of, tail_of}
+use Rattle.llrp_schema.specs.Schema.{FieldRule, fields_of, name_of, set_of_kind, tail_of}
 use Rattle.llrp_schema.specs.Calls.Schema.{field_rule}
 use Rattle.llrp_tree.specs.declared.TheConstants.{MAX_DEPTH}
 use Rattle.llrp_listing.specs.Private.Encoder.{SaysAt}
@@ -34,7 +34,7 @@ more_spaced form forms all line from mid end n old part new e u lt t p s =
     })
 
 -- the line says these numbers
-pub several_says : {p : Profile} (depth level : ℕ) (kind : ParamKind) (rules : List Field) (line : List ℕ) (end stop : ℕ) (old new tail : List ℕ) → profile_of (Parameter kind) ≡ p → 1 ≤ level → level ≤ MAX_DEPTH → level < 10 → level ≤ depth → length line ≤ LONGEST_LINE → line ≡ (48 + level) ∷ 32 ∷ drop 2 line → drop 2 line ≡ name_of (Parameter kind) ++ drop end line
+pub several_says : {p : KindSet} (depth level : ℕ) (kind : ParamKind) (rules : List Field) (line : List ℕ) (end stop : ℕ) (old new tail : List ℕ) → set_of_kind (Parameter kind) ≡ p → 1 ≤ level → level ≤ MAX_DEPTH → level < 10 → level ≤ depth → length line ≤ LONGEST_LINE → line ≡ (48 + level) ∷ 32 ∷ drop 2 line → drop 2 line ≡ name_of (Parameter kind) ++ drop end line
     → map field_rule rules ≡ fields_of (Parameter kind) → tail_of (Parameter kind) ≡ Absent → old ≡ [] → AreSpaced (forms_of (map field_rule rules)) line end stop old new → stop ≡ length line → tail ≡ [] → SaysAt p depth line level (parameter_line kind new tail)
 unfolding number_forms
 several_says {p} depth level kind rules line end stop old new tail own least deep one within short starts named fields absent none s last bare =

@@ -6,6 +6,7 @@ pub mod FirstRefusal
 pub mod Hexadecimal
 pub mod ItemPrinter
 pub mod ListingLaws
+pub mod MemoryListing
 pub mod PrintingLaws
 pub mod Show
 pub mod Splits

@@ -3,11 +3,11 @@ use Rattle.std.specs.Prelude.{◌≡◌, ◌≢◌, ◌⊎◌, ◌<◌, ◌≤�
 use Rattle.std.specs.List.{list_all}
 use Rattle.llrp_schema.specs.declared.kinds.Kind.{Kind}
 use Rattle.llrp_schema.specs.declared.kinds.Kind.TheVariants.{Message, Parameter}
-use Rattle.llrp_schema.specs.declared.kinds.Profile.{Profile}
-use Rattle.llrp_schema.specs.declared.kinds.Profile.TheVariants.{Own, Whole}
+use Rattle.llrp_schema.specs.declared.kinds.KindSet.{KindSet}
+use Rattle.llrp_schema.specs.declared.kinds.KindSet.TheVariants.{Profile, Standard}
 use Rattle.llrp_schema.specs.declared.kinds.Tail.{Tail}
 use Rattle.llrp_schema.specs.declared.kinds.Tail.TheVariants.{Absent, Words, Text, Bits, Data}
-use Rattle.llrp_schema.specs.Schema.{name_of, profile_of, tail_of}
+use Rattle.llrp_schema.specs.Schema.{name_of, set_of_kind, tail_of}
 use Rattle.llrp_tree.specs.declared.TheConstants.{MAX_DEPTH}
 use Rattle.llrp_tree.specs.Lawful.{AreOctets}
 use Rattle.tag_uri.specs.declared.fault.UriFault.{UriFault}
@@ -57,22 +57,22 @@ IsTailOf Bits tail = AreOctets tail
 IsTailOf Data tail = AreOctets tail
 
 -- the most bytes of a line before its LF: a message of all of LLRP 1.1 may have data
-abbrev pub longest : Profile → ℕ
-longest Own = LONGEST_LINE
-longest Whole = LONGEST_WHOLE_LINE
+abbrev pub longest : KindSet → ℕ
+longest Profile = LONGEST_LINE
+longest Standard = LONGEST_WHOLE_LINE
 
 -- The bytes, with the LF after them, are the text of a line of a set of kinds at this level.
-pub record SaysNode (p : Profile) (bytes : List ℕ) (level : ℕ) (line : NodeLine) : Type 0 where
+pub record SaysNode (p : KindSet) (bytes : List ℕ) (level : ℕ) (line : NodeLine) : Type 0 where
   pub short : length bytes ≤ longest p
   pub deep : level ≤ MAX_DEPTH
   pub placed : IsOpenLevel level line.kind
-  pub own : profile_of line.kind ≡ p
+  pub own : set_of_kind line.kind ≡ p
   pub numbers : AreInForm (number_forms line.kind) line.numbers
   pub tail : IsTailOf (tail_of line.kind) line.tail
   pub text : IsLine (level, line) (bytes ++ (10 ∷ []))
 
 -- an ended line says a message or a parameter, and its level
-abbrev pub SaysLine : Profile → TextLine → ℕ × NodeLine → Type 0
+abbrev pub SaysLine : KindSet → TextLine → ℕ × NodeLine → Type 0
 SaysLine p (Ended bytes) e = SaysNode p bytes e.0 e.1
 SaysLine p (Unended bytes) e = ⊥
 
@@ -83,19 +83,19 @@ abbrev pub HasLevel : ℕ → List (List ℕ) → Type 0
 HasLevel depth ws = (level : ℕ) × (word ws 0 ≡ decimal level) × (level ≤ MAX_DEPTH) × (level ≤ depth)
 
 -- the word is the name of a kind of the set
-abbrev pub IsName : Profile → List ℕ → Kind → Type 0
-IsName p w kind = (profile_of kind ≡ p) × (w ≡ name_of kind)
+abbrev pub IsName : KindSet → List ℕ → Kind → Type 0
+IsName p w kind = (set_of_kind kind ≡ p) × (w ≡ name_of kind)
 
 -- the second word is the kind's name: at level 0 a message's, and at any other a parameter's
-abbrev pub IsNamed : Profile → List (List ℕ) → Kind → Type 0
+abbrev pub IsNamed : KindSet → List (List ℕ) → Kind → Type 0
 IsNamed p ws (Message kind) = (word ws 0 ≡ decimal 0) × IsName p (word ws 1) (Message kind)
 IsNamed p ws (Parameter kind) = (word ws 0 ≢ decimal 0) × IsName p (word ws 1) (Parameter kind)
 
-abbrev pub HasName : Profile → List (List ℕ) → Type 0
+abbrev pub HasName : KindSet → List (List ℕ) → Type 0
 HasName p ws = (kind : Kind) × IsNamed p ws kind
 
 -- the checks up to the name, where this many lines are open
-abbrev pub start_checks : Profile → ℕ → List ℕ → List (LineCheck Refusal)
+abbrev pub start_checks : KindSet → ℕ → List ℕ → List (LineCheck Refusal)
 start_checks p depth bytes =
     line_check ((length bytes ≤ longest p) × IsTrue (is_printed bytes)) refusal.Line
     ∷ line_check (HasLevel depth (words bytes)) refusal.Level
@@ -150,13 +150,13 @@ abbrev pub name_checks : Kind → List (List ℕ) → List (LineCheck Refusal)
 name_checks kind ws = line_check (length ws ≡ word_count kind) refusal.Fields ∷ body_checks (number_forms kind) (tail_of kind) (drop 2 ws)
 
 -- The line passes the checks up to the name, and fails one after it.
-pub record RefusesBody (p : Profile) (depth : ℕ) (bytes : List ℕ) (reason : Refusal) : Type 0 where
+pub record RefusesBody (p : KindSet) (depth : ℕ) (bytes : List ℕ) (reason : Refusal) : Type 0 where
   pub starts : AllHold (start_checks p depth bytes)
   pub kind : Kind
   pub named : IsNamed p (words bytes) kind
   pub fails : FirstFailing (name_checks kind (words bytes)) reason
 
 -- the line is refused by itself, where this many lines are open
-abbrev pub RefusesLineItself : Profile → ℕ → TextLine → Refusal → Type 0
+abbrev pub RefusesLineItself : KindSet → ℕ → TextLine → Refusal → Type 0
 RefusesLineItself p depth (Ended bytes) reason = FirstFailing (start_checks p depth bytes) reason ⊎ RefusesBody p depth bytes reason
 RefusesLineItself p depth (Unended bytes) reason = reason ≡ refusal.Line

@@ -3,7 +3,7 @@ use Rattle.std.specs.Prelude.{ℕ, nat_lt, if◌then◌else◌, List, [], ◌∷
 use Rattle.llrp_schema.specs.declared.kinds.MsgKind.{MsgKind}
 use Rattle.llrp_schema.specs.declared.kinds.Kind.{Kind}
 use Rattle.llrp_schema.specs.declared.kinds.Kind.TheVariants.{Message, Parameter}
-use Rattle.llrp_schema.specs.declared.kinds.Profile.{Profile}
+use Rattle.llrp_schema.specs.declared.kinds.KindSet.{KindSet}
 use Rattle.llrp_tree.specs.declared.node.NodeFault.{NodeFault}
 use Rattle.llrp_tree.specs.Tree as tree
 use Rattle.llrp_tree.specs.Tree.{MessageTree}
@@ -69,5 +69,5 @@ abbrev pub closing : ℕ → NodeLine → Outline NodeLine → Option Refusal
 closing limit line below = kind_closing limit line.kind line.numbers line.tail below
 
 -- the rules of listings of messages of a set of kinds, of at most this many octets
-abbrev pub rules_for : Profile → ℕ → Rules NodeLine TextLine Refusal
+abbrev pub rules_for : KindSet → ℕ → Rules NodeLine TextLine Refusal
 rules_for p limit = record { Says = SaysLine p; Refuses = RefusesLineItself p; closing = closing limit }

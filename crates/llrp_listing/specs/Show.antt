@@ -1,7 +1,7 @@
 -- What show reads and writes, whatever the texts of items and of ends are.
 use Rattle.std.specs.Prelude.{◌≡◌, ℕ, ◌⊎◌, List, ◌++◌, Bool, true, false, Result, Ok, Err}
-use Rattle.llrp_schema.specs.declared.kinds.Profile.{Profile}
-use Rattle.llrp_schema.specs.declared.kinds.Profile.TheVariants.{Own}
+use Rattle.llrp_schema.specs.declared.kinds.KindSet.{KindSet}
+use Rattle.llrp_schema.specs.declared.kinds.KindSet.TheVariants.{Profile}
 use Rattle.llrp_stream.specs.declared.item.Item.{Item}
 use Rattle.llrp_stream.specs.declared.item.End.{End}
 use Rattle.llrp_stream.specs.Device.{SourceLog, SinkLog, Gave, Wrote, WroteAndFailed}
@@ -22,7 +22,7 @@ verdict_of true = Lawful
 verdict_of false = Faulty
 
 -- The text of the bytes was written, and the verdict is theirs.
-pub record ListedAs (IsText : Item → List ℕ → Type 0) (text_of_end : End → List ℕ) (p : Profile) (limit : ℕ) (bytes : List ℕ) (old new : SinkLog) (verdict : Verdict) : Type 0 where
+pub record ListedAs (IsText : Item → List ℕ → Type 0) (text_of_end : End → List ℕ) (p : KindSet) (limit : ℕ) (bytes : List ℕ) (old new : SinkLog) (verdict : Verdict) : Type 0 where
   pub items : List Item
   pub end : End
   pub text : List ℕ
@@ -32,7 +32,7 @@ pub record ListedAs (IsText : Item → List ℕ → Type 0) (text_of_end : End �
   pub verdict_is : verdict ≡ verdict_of (is_lawful items end)
 
 -- each text of the bytes begins with this one
-abbrev pub BeginsTextIn : (IsText : Item → List ℕ → Type 0) (text_of_end : End → List ℕ) → Profile → ℕ → List ℕ → List ℕ → Type 0
+abbrev pub BeginsTextIn : (IsText : Item → List ℕ → Type 0) (text_of_end : End → List ℕ) → KindSet → ℕ → List ℕ → List ℕ → Type 0
 BeginsTextIn IsText text_of_end p limit bytes front = (items : List Item) (end : End) (text : List ℕ) → ItemsIn p limit bytes items end → IsStreamText IsText text_of_end items end text → IsPrefix front text
 
 -- Listing stopped with this error, after this text.
@@ -42,13 +42,13 @@ ListStopped old new front Memory = Wrote old new front
 ListStopped old new front _ = ⊥
 
 -- A front of the text of the bytes was written.
-pub record StoppedAs (IsText : Item → List ℕ → Type 0) (text_of_end : End → List ℕ) (p : Profile) (limit : ℕ) (bytes : List ℕ) (old new : SinkLog) (error : ToolErr) : Type 0 where
+pub record StoppedAs (IsText : Item → List ℕ → Type 0) (text_of_end : End → List ℕ) (p : KindSet) (limit : ℕ) (bytes : List ℕ) (old new : SinkLog) (error : ToolErr) : Type 0 where
   pub front : List ℕ
   pub begins : BeginsTextIn IsText text_of_end p limit bytes front
   pub log : ListStopped old new front error
 
 -- The text of each frame that is whole in the bytes was written, which begins their text.
-pub record WroteFramesAs (IsText : Item → List ℕ → Type 0) (text_of_end : End → List ℕ) (p : Profile) (limit : ℕ) (bytes : List ℕ) (old new : SinkLog) : Type 0 where
+pub record WroteFramesAs (IsText : Item → List ℕ → Type 0) (text_of_end : End → List ℕ) (p : KindSet) (limit : ℕ) (bytes : List ℕ) (old new : SinkLog) : Type 0 where
   pub items : List Item
   pub front : List ℕ
   pub text : List ℕ
@@ -59,7 +59,7 @@ pub record WroteFramesAs (IsText : Item → List ℕ → Type 0) (text_of_end : 
   pub begins : BeginsTextIn IsText text_of_end p limit bytes text
 
 -- Show stopped with this error: what it had read, and what it had written.
-abbrev pub ShowStoppedAs : (IsText : Item → List ℕ → Type 0) (text_of_end : End → List ℕ) → Profile → ℕ → SourceLog → SourceLog → SinkLog → SinkLog → ToolErr → Type 0
+abbrev pub ShowStoppedAs : (IsText : Item → List ℕ → Type 0) (text_of_end : End → List ℕ) → KindSet → ℕ → SourceLog → SourceLog → SinkLog → SinkLog → ToolErr → Type 0
 ShowStoppedAs IsText text_of_end p limit r0 r1 w0 w1 Read = (n : ℕ) × (bytes : List ℕ) × GaveAndFailed r0 r1 n bytes × WroteFramesAs IsText text_of_end p limit bytes w0 w1
 ShowStoppedAs IsText text_of_end p limit r0 r1 w0 w1 Bound = (bytes : List ℕ) × Gave r0 r1 MOST_READS bytes × WroteFramesAs IsText text_of_end p limit bytes w0 w1
 ShowStoppedAs IsText text_of_end p limit r0 r1 w0 w1 Write = (bytes : List ℕ) × WasRead r0 r1 bytes × StoppedAs IsText text_of_end p limit bytes w0 w1 Write
@@ -67,20 +67,20 @@ ShowStoppedAs IsText text_of_end p limit r0 r1 w0 w1 Memory = (bytes : List ℕ)
 ShowStoppedAs IsText text_of_end p limit r0 r1 w0 w1 _ = ⊥
 
 -- all was read, or a front in which the stream breaks: whatever follows, the text is the same
-abbrev pub ReadEnoughAs : (IsText : Item → List ℕ → Type 0) (text_of_end : End → List ℕ) → Profile → ℕ → SourceLog → SourceLog → SinkLog → SinkLog → Verdict → Type 0
+abbrev pub ReadEnoughAs : (IsText : Item → List ℕ → Type 0) (text_of_end : End → List ℕ) → KindSet → ℕ → SourceLog → SourceLog → SinkLog → SinkLog → Verdict → Type 0
 ReadEnoughAs IsText text_of_end p limit r0 r1 w0 w1 verdict =
     ((bytes : List ℕ) × ReadAll r0 r1 bytes × ListedAs IsText text_of_end p limit bytes w0 w1 verdict)
     ⊎ ((n : ℕ) × (bytes : List ℕ) × Gave r0 r1 n bytes × ((more : List ℕ) → ListedAs IsText text_of_end p limit (bytes ++ more) w0 w1 verdict))
 
 -- What show did between these logs, by its answer.
-abbrev pub ShowsAs : (IsText : Item → List ℕ → Type 0) (text_of_end : End → List ℕ) → Profile → ℕ → SourceLog → SourceLog → SinkLog → SinkLog → Result Verdict ToolErr → Type 0
+abbrev pub ShowsAs : (IsText : Item → List ℕ → Type 0) (text_of_end : End → List ℕ) → KindSet → ℕ → SourceLog → SourceLog → SinkLog → SinkLog → Result Verdict ToolErr → Type 0
 ShowsAs IsText text_of_end p limit r0 r1 w0 w1 (Ok verdict) = ReadEnoughAs IsText text_of_end p limit r0 r1 w0 w1 verdict
 ShowsAs IsText text_of_end p limit r0 r1 w0 w1 (Err error) = ShowStoppedAs IsText text_of_end p limit r0 r1 w0 w1 error
 
 -- ---- the same of listings
 
-abbrev pub ShowsIn : Profile → ℕ → SourceLog → SourceLog → SinkLog → SinkLog → Result Verdict ToolErr → Type 0
+abbrev pub ShowsIn : KindSet → ℕ → SourceLog → SourceLog → SinkLog → SinkLog → Result Verdict ToolErr → Type 0
 ShowsIn p limit r0 r1 w0 w1 answer = ShowsAs IsItemText end_text p limit r0 r1 w0 w1 answer
 
 abbrev pub Shows : ℕ → SourceLog → SourceLog → SinkLog → SinkLog → Result Verdict ToolErr → Type 0
-Shows limit r0 r1 w0 w1 answer = ShowsIn Own limit r0 r1 w0 w1 answer
+Shows limit r0 r1 w0 w1 answer = ShowsIn Profile limit r0 r1 w0 w1 answer

@@ -1,7 +1,7 @@
 //! Laws of listings, and of what `epc` prints.
 
 ghost use Rattle.std.specs.Prelude.{List, ◌≡◌, ℕ};
-ghost use Rattle.llrp_schema.specs.declared.kinds.Profile.{Profile};
+ghost use Rattle.llrp_schema.specs.declared.kinds.KindSet.{KindSet};
 ghost use Rattle.llrp_tree.specs.Tree.{MessageTree};
 ghost use Rattle.llrp_listing.specs.declared.outcome.Verdict.{Verdict};
 ghost use Rattle.llrp_listing.specs.Calls.EpcLines.{Prints};
@@ -12,7 +12,7 @@ ghost use Rattle.llrp_listing.specs.PrintingLaws.{PrintsBack};
 /// In either set of kinds, a text is the listing of at most one list of messages within the limit, or
 /// has at most one first refusal, and never both.
 pub fn listed_or_refused()
-    ensures { (p : Profile) (limit : ℕ) (text : List ℕ) → ListedOrRefused p limit text }
+    ensures { (p : KindSet) (limit : ℕ) (text : List ℕ) → ListedOrRefused p limit text }
 {}
 
 /// No line of a lawful message is longer than a line may be.

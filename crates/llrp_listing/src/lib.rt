@@ -30,6 +30,7 @@ mod split;
 
 pub use decimal::{number_of, signed_byte_of};
 pub use devices::{MOST_READS, Pieces, READ_SIZE, hand_on, read_all, write_all};
+pub use encode::in_memory::encode_listing;
 pub use encode::{run_encode, run_encode_in};
 pub use epc::run_epc;
 pub use hex_input::{bytes_of_hex, push_hexadecimal};

@@ -17,7 +17,7 @@ use crate::read_tail::read_tail;
 use crate::split::{count_words, first_word};
 use arrayvec::ArrayVec;
 use llrp_schema::{
-    Field, Kind, MsgKind, ParamKind, Profile, Tail, msg_with_name_in, param_with_name_in,
+    Field, Kind, KindSet, MsgKind, ParamKind, Tail, msg_with_name_in, param_with_name_in,
 };
 use llrp_tree::{MAX_DEPTH, Octets};
 use std::alloc::{AllocError, AllocFailed, Global};
@@ -31,12 +31,12 @@ pub const LONGEST_WHOLE_LINE: usize = 4_194_304;
 
 /// The most bytes of a line of a set of kinds before its LF.
 #[inline(always)]
-pub(crate) fn longest_line(set: Profile) -> usize
+pub(crate) fn longest_line(set: KindSet) -> usize
     ensures { result ≡ longest set }
 {
     match set {
-        Profile::Own => LONGEST_LINE,
-        Profile::Whole => LONGEST_WHOLE_LINE,
+        KindSet::Profile => LONGEST_LINE,
+        KindSet::Standard => LONGEST_WHOLE_LINE,
     }
 }
 
@@ -113,17 +113,17 @@ fn read_level(word: &str, depth: usize) -> Option<usize>
 }
 
 /// The kind of a set with this name: a message's at level 0, a parameter's at any other.
-fn read_kind(profile: Profile, level: usize, name: &str) -> Option<Kind>
-    ensures { IsKindNamed profile level name.now result }
+fn read_kind(set: KindSet, level: usize, name: &str) -> Option<Kind>
+    ensures { IsKindNamed set level name.now result }
 {
     let octets = name.as_bytes();
     if level == 0 {
-        match msg_with_name_in(profile, octets) {
+        match msg_with_name_in(set, octets) {
             Some(kind) => Some(Kind::Message(kind)),
             None => None,
         }
     } else {
-        match param_with_name_in(profile, octets) {
+        match param_with_name_in(set, octets) {
             Some(kind) => Some(Kind::Parameter(kind)),
             None => None,
         }
@@ -183,8 +183,8 @@ struct LineStart<'a> {
 }
 
 /// Reads a line up to its name, which is that of a kind of a set, below this many open lines.
-fn read_start(profile: Profile, line: &str, depth: usize) -> Result<LineStart<'_>, Refusal>
-    ensures { ReadsStart profile depth line.now result }
+fn read_start(set: KindSet, line: &str, depth: usize) -> Result<LineStart<'_>, Refusal>
+    ensures { ReadsStart set depth line.now result }
 {
     let (level, rest) = first_word(line);
     let Some(level) = read_level(level, depth) else {
@@ -194,7 +194,7 @@ fn read_start(profile: Profile, line: &str, depth: usize) -> Result<LineStart<'_
         return Err(Refusal::Name);
     };
     let (name, words) = first_word(rest);
-    let Some(kind) = read_kind(profile, level, name) else {
+    let Some(kind) = read_kind(set, level, name) else {
         return Err(Refusal::Name);
     };
     Ok(LineStart { level, kind, words })
@@ -289,19 +289,19 @@ fn read_parameter(
 /// Reads a whole line of a kind of a set, below this many open lines, or returns why it is refused.
 pub(crate) fn read_line(
     alloc: Global,
-    profile: Profile,
+    set: KindSet,
     line: &[u8],
     depth: usize,
 ) -> Result<Line, LineErr>
-    ensures { ReadsLine profile depth line.now result }
+    ensures { ReadsLine set depth line.now result }
 {
-    if line.len() > longest_line(profile) || !is_printed(line) {
+    if line.len() > longest_line(set) || !is_printed(line) {
         return Err(LineErr::Refused(Refusal::Line));
     }
     let Ok(text) = str::from_utf8(line) else {
         unreachable!()
     };
-    let start = read_start(profile, text, depth)?;
+    let start = read_start(set, text, depth)?;
     if count_words(line) != word_count(start.kind) {
         return Err(LineErr::Refused(Refusal::Fields));
     }

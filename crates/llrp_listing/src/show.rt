@@ -1,5 +1,5 @@
 ghost use Rattle.std.specs.Prelude.{◌&&◌, ◌≡◌, ◌≤◌, [], IfErr, IfOk, List, OnOk, ℕ};
-ghost use Rattle.llrp_schema.specs.declared.kinds.Profile.{Profile};
+ghost use Rattle.llrp_schema.specs.declared.kinds.KindSet.{KindSet};
 ghost use Rattle.llrp_stream.specs.Device.{IsFreshSink, IsFreshSource, SinkLog};
 ghost use Rattle.llrp_stream.specs.declared.engine.frames.Outcome.TheVariants.{Bad};
 ghost use Rattle.llrp_tree.specs.declared.TheConstants.{MAX_LIMIT};
@@ -17,7 +17,7 @@ use crate::devices::{PIECE_SIZE, Pieces, write_all};
 use crate::item_printer::ItemPrinter;
 use crate::outcome::{ToolErr, Verdict};
 use crate::printing::Printer;
-use llrp_schema::Profile;
+use llrp_schema::KindSet;
 use llrp_stream::{Came, End, FeedErr, Frames, Outcome, Sink, Source};
 use llrp_tree::Fault;
 use std::alloc::Global;
@@ -75,16 +75,16 @@ pub(crate) struct Lister<P: ItemPrinter + Drop> {
 impl<P: ItemPrinter + Drop> Lister<P> {
     /// A lister of a stream of frames of a set of kinds, of which nothing was read, for a printer
     /// that holds nothing. Frames longer than `limit` octets are faulty.
-    fn new(printer: P, profile: Profile, limit: u32) -> Lister<P>
+    fn new(printer: P, set: KindSet, limit: u32) -> Lister<P>
         requires fresh { P.stands printer [] [] }
         requires least { 10 ≤ limit }
         requires most { limit ≤ MAX_LIMIT }
         ensures { (log : SinkLog)
-            → GoesOn P.is_text (P.begins result.printer) (P.stands result.printer) profile limit []
+            → GoesOn P.is_text (P.begins result.printer) (P.stands result.printer) set limit []
             [] log log result.frames result.lawful }
     {
         Lister {
-            frames: Frames::new_in(profile, limit),
+            frames: Frames::new_in(set, limit),
             printer,
             lawful: true,
         }
@@ -177,14 +177,14 @@ pub fn list_stream<W: Sink>(
         (W.log w.new) verdict) }
     ensures err { IfErr result (λ e. Stopped limit stream.now (W.log w.old) (W.log w.new) e) }
 {
-    list_stream_in(alloc, Profile::Own, stream, w, limit)
+    list_stream_in(alloc, KindSet::Profile, stream, w, limit)
 }
 
 /// Writes the listing of a stream of frames of a set of kinds. The errors are `Write` and `Memory`, after which some first part
 /// of the listing was written.
 pub fn list_stream_in<W: Sink>(
     alloc: Global,
-    profile: Profile,
+    set: KindSet,
     stream: &[u8],
     w: &mut W,
     limit: u32,
@@ -192,17 +192,17 @@ pub fn list_stream_in<W: Sink>(
     requires sink { CanWrite (W.log w.old) }
     requires least { 10 ≤ limit }
     requires most { limit ≤ MAX_LIMIT }
-    ensures ok { IfOk result (λ verdict. ListedIn profile limit stream.now (W.log w.old)
+    ensures ok { IfOk result (λ verdict. ListedIn set limit stream.now (W.log w.old)
         (W.log w.new) verdict) }
-    ensures err { IfErr result (λ e. StoppedIn profile limit stream.now (W.log w.old) (W.log w.new) e) }
+    ensures err { IfErr result (λ e. StoppedIn set limit stream.now (W.log w.old) (W.log w.new) e) }
 {
-    list_stream_with(Printer::new(alloc), profile, stream, w, limit)
+    list_stream_with(Printer::new(alloc), set, stream, w, limit)
 }
 
 /// The same with the texts of a printer, which holds nothing.
 pub fn list_stream_with<P: ItemPrinter + Drop, W: Sink>(
     printer: P,
-    profile: Profile,
+    set: KindSet,
     stream: &[u8],
     w: &mut W,
     limit: u32,
@@ -212,12 +212,12 @@ pub fn list_stream_with<P: ItemPrinter + Drop, W: Sink>(
     requires sink { CanWrite (W.log w.old) }
     requires least { 10 ≤ limit }
     requires most { limit ≤ MAX_LIMIT }
-    ensures ok { IfOk result (λ verdict. ListedAs P.is_text P.text_of_end profile limit stream.now (W.log w.old)
+    ensures ok { IfOk result (λ verdict. ListedAs P.is_text P.text_of_end set limit stream.now (W.log w.old)
         (W.log w.new) verdict) }
-    ensures err { IfErr result (λ e. StoppedAs P.is_text P.text_of_end profile limit stream.now (W.log w.old)
+    ensures err { IfErr result (λ e. StoppedAs P.is_text P.text_of_end set limit stream.now (W.log w.old)
         (W.log w.new) e) }
 {
-    let mut lister = Lister::new(printer, profile, limit);
+    let mut lister = Lister::new(printer, set, limit);
     let _goes_on = lister.feed(stream, w)?;
     lister.finish(w)
 }
@@ -241,13 +241,13 @@ pub fn run_show<R: Source, W: Sink>(
     // Err, some first part of it.
     ensures { Shows limit (R.log r.old) (R.log r.new) (W.log w.old) (W.log w.new) result }
 {
-    run_show_in(alloc, Profile::Own, r, w, limit)
+    run_show_in(alloc, KindSet::Profile, r, w, limit)
 }
 
 /// The same for frames of a set of kinds.
 pub fn run_show_in<R: Source, W: Sink>(
     alloc: Global,
-    profile: Profile,
+    set: KindSet,
     r: &mut R,
     w: &mut W,
     limit: u32,
@@ -258,15 +258,15 @@ pub fn run_show_in<R: Source, W: Sink>(
     requires most { limit ≤ MAX_LIMIT }
     // After Ok, the source was read to its end or to a break, and the listing was written; after
     // Err, some first part of it.
-    ensures { ShowsIn profile limit (R.log r.old) (R.log r.new) (W.log w.old) (W.log w.new) result }
+    ensures { ShowsIn set limit (R.log r.old) (R.log r.new) (W.log w.old) (W.log w.new) result }
 {
-    run_show_with(Printer::new(alloc), profile, r, w, limit)
+    run_show_with(Printer::new(alloc), set, r, w, limit)
 }
 
 /// The same with the texts of a printer, which holds nothing.
 pub fn run_show_with<P: ItemPrinter + Drop, R: Source, W: Sink>(
     printer: P,
-    profile: Profile,
+    set: KindSet,
     r: &mut R,
     w: &mut W,
     limit: u32,
@@ -277,10 +277,10 @@ pub fn run_show_with<P: ItemPrinter + Drop, R: Source, W: Sink>(
     requires sink { IsFreshSink (W.log w.old) }
     requires least { 10 ≤ limit }
     requires most { limit ≤ MAX_LIMIT }
-    ensures { ShowsAs P.is_text P.text_of_end profile limit (R.log r.old) (R.log r.new) (W.log w.old)
+    ensures { ShowsAs P.is_text P.text_of_end set limit (R.log r.old) (R.log r.new) (W.log w.old)
         (W.log w.new) result }
 {
-    let mut lister = Lister::new(printer, profile, limit);
+    let mut lister = Lister::new(printer, set, limit);
     let mut pieces = Pieces::new();
     while let Some(piece) = pieces.next(r)? {
         let goes_on = lister.feed(piece, w)?;

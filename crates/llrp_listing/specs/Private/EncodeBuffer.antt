@@ -1,5 +1,5 @@
 -- What represents open lines, and what the steps on them promise.
-use Rattle.std.specs.Prelude.{◌≡◌, ℕ, ◌+◌, ◌-◌, ◌/◌, ◌%◌, ◌<◌, ◌≤◌, Bool, nat_le, not, ◌&&◌, if◌then◌else◌, List, [], ◌∷◌, ◌++◌, length, take, drop, reverse, Some, None}
+use Rattle.std.specs.Prelude.{◌≡◌, ℕ, ◌+◌, ◌-◌, ◌/◌, ◌%◌, ◌<◌, ◌≤◌, Bool, nat_le, not, ◌&&◌, if◌then◌else◌, List, [], ◌∷◌, ◌++◌, length, take, drop, reverse, true, false, Some, None}
 use Rattle.llrp_schema.specs.declared.kinds.ParamKind.{ParamKind}
 use Rattle.llrp_schema.specs.declared.kinds.Kind.TheVariants.{Parameter}
 use Rattle.llrp_tree.specs.Lawful.{AreOctets}
@@ -13,13 +13,27 @@ use Rattle.llrp_listing.specs.Private.OpenLines.{AllClosed, Begins, Closed, Clos
 use Rattle.llrp_listing.specs.OpenText.{end}
 use Rattle.llrp_listing.specs.declared.encode.open_lines.LineRecord.{LineRecord}
 use Rattle.llrp_listing.specs.declared.encode.open_lines.OpenLines.{OpenLines}
+use Rattle.llrp_listing.specs.declared.encode.open_lines.ValueRecord.{ValueRecord}
 use Rattle.llrp_listing.specs.declared.encode.buffer.Refused.{Refused}
 use Rattle.llrp_listing.specs.declared.encode.buffer.EncodeBuffer.{EncodeBuffer}
 use Rattle.llrp_listing.specs.Private.OpenNodes.{AreHeld, AreKept, IsChain, IsHeld, IsPut, OpenNode, entries, new_node, node_fault, with_child}
 
+-- the record of an open line with nothing below it, which passes all tests of its own
+abbrev pub value_record : ValueRecord → LineRecord
+value_record v = record { kind = Parameter v.kind; number = v.number; fault = None; seen = 0; levels = 0; octets = v.octets }
+
+-- such a line, if there is one, before the others
+abbrev pub with_value : Bool → ValueRecord → List LineRecord → List LineRecord
+with_value false v rows = rows
+with_value true v rows = value_record v ∷ rows
+
 -- the records of the open lines, the innermost first
 abbrev pub inner : OpenLines → List LineRecord
-inner rows = reverse rows.items.items
+inner rows = with_value rows.ends_in_value rows.value (reverse rows.items.items)
+
+-- how many of them have a row, and so the level of a line that comes after a value, or below a line that is none
+abbrev pub row_count : OpenLines → ℕ
+row_count rows = length rows.items.items
 
 -- These lines are open: their octets follow those of closed messages, and end at a place, where others begin.
 pub record Holds (writer : EncodeBuffer) (at : ℕ) (out more : List ℕ) (ns : List OpenNode) : Type 0 where

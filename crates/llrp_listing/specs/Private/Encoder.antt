@@ -1,7 +1,7 @@
 -- The state of an encoder after a front of a text, and how it stops.
 use Rattle.std.specs.Prelude.{◌≡◌, ℕ, ◌≤◌, ◌⊎◌, List, ◌++◌, length}
 use Rattle.std.specs.List.{AllZip, flat_map}
-use Rattle.llrp_schema.specs.declared.kinds.Profile.{Profile}
+use Rattle.llrp_schema.specs.declared.kinds.KindSet.{KindSet}
 use Rattle.llrp_tree.specs.Tree.{MessageTree}
 use Rattle.llrp_tree.specs.Frame.{Frame}
 use Rattle.llrp_listing.specs.declared.parse_line.LineErr.{LineErr}
@@ -10,6 +10,7 @@ use Rattle.llrp_listing.specs.declared.outcome.Refusal.{Refusal}
 use Rattle.llrp_listing.specs.declared.outcome.ToolErr.{ToolErr}
 use Rattle.llrp_listing.specs.declared.outcome.ToolErr.TheVariants.{Listing, Write, Memory}
 use Rattle.llrp_listing.specs.Copying.{IsPrefix}
+pub use Rattle.llrp_listing.specs.Calls.MemoryListing.{StoppedAtEnd, WroteEncoding}
 use Rattle.llrp_stream.specs.Device.{SinkLog, Wrote, WroteAndFailed}
 use Rattle.llrp_listing.specs.Encoding.{AreSpelled, BeginsEncoding, EncodesIn, RefusesIn}
 use Rattle.llrp_listing.specs.FirstRefusal.{IsLastOpen}
@@ -21,11 +22,11 @@ use Rattle.llrp_listing.specs.Private.OpenLines.{Entry, open_of, AreNumbered, Is
 use Rattle.llrp_listing.specs.OpenText.{lines_covered}
 
 -- the bytes are a line at a level that this many open lines allow
-abbrev pub SaysAt : Profile → ℕ → List ℕ → ℕ → NodeLine → Type 0
+abbrev pub SaysAt : KindSet → ℕ → List ℕ → ℕ → NodeLine → Type 0
 SaysAt p depth bytes level line = SaysNode p bytes level line × (level ≤ depth)
 
 -- The state of an encoder after a front of a text: these messages are closed, and their bytes were handed on or are gathered in out.
-pub record StandsAt (p : Profile) (limit : ℕ) (start now : SinkLog) (text : List ℕ) (entries : List Entry) (number : ℕ) (line out : List ℕ) : Type 0 where
+pub record StandsAt (p : KindSet) (limit : ℕ) (start now : SinkLog) (text : List ℕ) (entries : List Entry) (number : ℕ) (line out : List ℕ) : Type 0 where
   pub done : List MessageTree
   pub front : List TextLine
   pub cuts : (more : List ℕ) → lines_of (text ++ more) ≡ front ++ lines_of (line ++ more)
@@ -42,22 +43,11 @@ pub record StandsAt (p : Profile) (limit : ℕ) (start now : SinkLog) (text : Li
   pub log : Wrote start now handed
 
 -- the encoder stopped after this front of a text
-abbrev pub Stopped : Profile → ℕ → SinkLog → SinkLog → List ℕ → ToolErr → Type 0
+abbrev pub Stopped : KindSet → ℕ → SinkLog → SinkLog → List ℕ → ToolErr → Type 0
 Stopped p limit w0 w1 front (Listing line reason) = (bytes : List ℕ) × Wrote w0 w1 bytes × ((more : List ℕ) → RefusesIn p limit (front ++ more) line reason bytes)
 Stopped p limit w0 w1 front Write = (bytes : List ℕ) × WroteAndFailed w0 w1 bytes × BeginsEncoding p limit front bytes
 Stopped p limit w0 w1 front Memory = (bytes : List ℕ) × Wrote w0 w1 bytes × BeginsEncoding p limit front bytes
 Stopped p limit w0 w1 front _ = ⊥
-
--- the encoder stopped at the end of this text
-abbrev pub StoppedAtEnd : Profile → ℕ → SinkLog → SinkLog → List ℕ → ToolErr → Type 0
-StoppedAtEnd p limit w0 w1 text (Listing line reason) = (bytes : List ℕ) × Wrote w0 w1 bytes × RefusesIn p limit text line reason bytes
-StoppedAtEnd p limit w0 w1 text Write = (bytes : List ℕ) × WroteAndFailed w0 w1 bytes × (BeginsEncoding p limit text bytes ⊎ ((spellings : List ℕ) × EncodesIn p limit text spellings × IsPrefix bytes spellings))
-StoppedAtEnd p limit w0 w1 text Memory = (bytes : List ℕ) × Wrote w0 w1 bytes × BeginsEncoding p limit text bytes
-StoppedAtEnd p limit w0 w1 text _ = ⊥
-
--- the encoding of the text was written
-abbrev pub WroteEncoding : Profile → ℕ → SinkLog → SinkLog → List ℕ → Type 0
-WroteEncoding p limit w0 w1 text = (bytes : List ℕ) × EncodesIn p limit text bytes × Wrote w0 w1 bytes
 
 -- this line is refused: all that was gathered was written, or a front of it
 abbrev pub Refusing : ℕ → List ℕ → Refusal → SinkLog → SinkLog → ToolErr → Type 0

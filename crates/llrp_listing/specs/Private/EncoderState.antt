@@ -1,5 +1,6 @@
 -- The state of an encoder after a front of a text.
-use Rattle.std.specs.Prelude.{ℕ, List, [], ◌∷◌, ◌++◌, length, MatchResult, Result}
+use Rattle.std.specs.Prelude.{◌≡◌, ◌+◌, ◌≤◌, ℕ, List, [], ◌∷◌, ◌++◌, length, MatchResult, Result, Ok, Err}
+use Rattle.std.specs.Borrow.{Bor}
 use Rattle.llrp_stream.specs.Device.{SinkLog}
 use Rattle.llrp_listing.specs.Private.Encoder.{SaysAt, StandsAt, Stopped, StoppedAtEnd, WroteEncoding}
 use Rattle.llrp_listing.specs.NodeLine.{NodeLine}
@@ -59,3 +60,18 @@ abbrev pub EndsText : SinkLog → SinkLog → Encoder → Result (Unit {0}) Tool
 EndsText w0 w1 encoder answer =
     (start : SinkLog) (text : List ℕ) → Stands start w0 text encoder
     → MatchResult answer (λ _. WroteEncoding encoder.guess encoder.writer.limit start w1 text) (StoppedAtEnd encoder.guess encoder.writer.limit start w1 text)
+
+-- Whole lines at the front of a text were taken, and this is left.
+pub record TakesFront (text rest : List ℕ) (w0 w1 : SinkLog) (old new : Encoder) : Type 0 where
+  pub taken : List ℕ
+  pub parts : text ≡ taken ++ rest
+  pub stands : (start : SinkLog) (before : List ℕ) → Stands start w0 before old → Stands start w1 (before ++ taken) new
+  pub number : new.number ≤ old.number + length taken
+  pub set : new.guess ≡ old.guess
+  pub limit : new.writer.limit ≡ old.writer.limit
+  pub sink : w1.failures ≡ w0.failures
+
+-- after whatever text it stood, it took lines at the front of this one, or stopped in it
+abbrev pub TakesValues : List ℕ → SinkLog → SinkLog → Encoder → Encoder → Result (Bor (List ℕ)) ToolErr → Type 0
+TakesValues text w0 w1 old new (Ok rest) = TakesFront text rest.now w0 w1 old new
+TakesValues text w0 w1 old new (Err e) = (start : SinkLog) (before : List ℕ) → Stands start w0 before old → Stopped old.guess old.writer.limit start w1 (before ++ text) e

@@ -7,10 +7,10 @@ use Rattle.llrp_schema.specs.declared.kinds.MsgKind.{MsgKind}
 use Rattle.llrp_schema.specs.declared.kinds.ParamKind.{ParamKind}
 use Rattle.llrp_schema.specs.declared.kinds.Kind.{Kind}
 use Rattle.llrp_schema.specs.declared.kinds.Kind.TheVariants.{Message, Parameter}
-use Rattle.llrp_schema.specs.declared.kinds.Profile.{Profile}
+use Rattle.llrp_schema.specs.declared.kinds.KindSet.{KindSet}
 use Rattle.llrp_schema.specs.declared.kinds.Tail.{Tail}
 use Rattle.llrp_schema.specs.declared.kinds.Tail.TheVariants.{Words}
-use Rattle.llrp_schema.specs.Schema.{FieldRule, name_of, profile_of, tail_of}
+use Rattle.llrp_schema.specs.Schema.{FieldRule, name_of, set_of_kind, tail_of}
 use Rattle.llrp_tree.specs.declared.TheConstants.{MAX_DEPTH}
 use Rattle.llrp_tree.specs.Lawful.{AreOctets}
 use Rattle.llrp_listing.specs.declared.outcome.Refusal.{Refusal}
@@ -39,19 +39,19 @@ abbrev pub IsLevel : ℕ → List ℕ → Option ℕ → Type 0
 IsLevel depth w None = (level : ℕ) → w ≡ decimal level → level ≤ MAX_DEPTH → level ≤ depth → ⊥
 IsLevel depth w (Some level) = (w ≡ decimal level) × (level ≤ MAX_DEPTH) × (level ≤ depth)
 
-abbrev pub IsKindNamed : Profile → ℕ → List ℕ → Option Kind → Type 0
+abbrev pub IsKindNamed : KindSet → ℕ → List ℕ → Option Kind → Type 0
 IsKindNamed p level name None = (kind : Kind) → IsOpenLevel level kind → IsName p name kind → ⊥
 IsKindNamed p level name (Some kind) = IsOpenLevel level kind × IsName p name kind
 
 -- The words begin with a level and a name, and these words follow.
-pub record Starts (p : Profile) (depth : ℕ) (bytes : List ℕ) (start : LineStart) : Type 0 where
+pub record Starts (p : KindSet) (depth : ℕ) (bytes : List ℕ) (start : LineStart) : Type 0 where
   pub deep : start.level ≤ MAX_DEPTH
   pub within : start.level ≤ depth
   pub placed : IsOpenLevel start.level start.kind
-  pub own : profile_of start.kind ≡ p
+  pub own : set_of_kind start.kind ≡ p
   pub are : words bytes ≡ decimal start.level ∷ name_of start.kind ∷ words_in start.words
 
-abbrev pub ReadsStart : Profile → ℕ → List ℕ → Result LineStart Refusal → Type 0
+abbrev pub ReadsStart : KindSet → ℕ → List ℕ → Result LineStart Refusal → Type 0
 ReadsStart p depth bytes (Ok start) = Starts p depth bytes start
 ReadsStart p depth bytes (Err reason) = (¬ HasLevel depth (words bytes) × (reason ≡ refusal.Level)) ⊎ (HasLevel depth (words bytes) × ¬ HasName p (words bytes) × (reason ≡ refusal.Name))
 
@@ -155,11 +155,11 @@ ReadsParameter level kind ws (Err Memory) = Unit {0}
 ReadsParameter level kind ws (Err (Refused reason)) = FirstFailing (body_checks (number_forms (Parameter kind)) (tail_of (Parameter kind)) ws) reason
 
 -- what a line says, and that this many open lines allow its level
-abbrev pub SaidIs : Profile → ℕ → List ℕ → Line → Type 0
+abbrev pub SaidIs : KindSet → ℕ → List ℕ → Line → Type 0
 SaidIs p depth bytes (said.Message line) = SaysNode p bytes 0 (message_node line)
 SaidIs p depth bytes (said.Parameter line) = SaysNode p bytes line.level (parameter_node line) × (line.level ≤ depth)
 
-abbrev pub ReadsLine : Profile → ℕ → List ℕ → Result Line LineErr → Type 0
+abbrev pub ReadsLine : KindSet → ℕ → List ℕ → Result Line LineErr → Type 0
 ReadsLine p depth bytes (Ok line) = SaidIs p depth bytes line
 ReadsLine p depth bytes (Err Memory) = Unit {0}
 ReadsLine p depth bytes (Err (Refused reason)) = RefusesLineItself p depth (Ended bytes) reason

@@ -1,9 +1,12 @@
 -- Lines that are read once, from left to right.
-use Rattle.std.specs.Prelude.{◌≡◌, ℕ, List, [], ◌∷◌, ◌++◌, drop}
+use Rattle.std.specs.Prelude.{◌≡◌, ◌≤◌, ℕ, List, [], ◌∷◌, ◌++◌, drop}
 use Rattle.llrp_schema.specs.declared.kinds.ParamKind.{ParamKind}
 use Rattle.llrp_schema.specs.declared.kinds.Kind.TheVariants as kinds
 use Rattle.llrp_schema.specs.declared.kinds.Tail.TheVariants.{Absent}
 use Rattle.llrp_schema.specs.Schema.{tail_of}
+use Rattle.llrp_schema.specs.Calls.Schema.{field_rule}
+use Rattle.llrp_tree.specs.Calls.HeadOctets.{IsOnlyField}
+use Rattle.llrp_listing.specs.declared.encode.value_line.ValueLine.{ValueLine}
 use Rattle.llrp_listing.specs.declared.encode.read_short_line.ShortLine.{ShortLine}
 use Rattle.llrp_listing.specs.declared.encode.read_short_line.ShortLine.TheVariants.{Message, Bare, Number}
 use Rattle.llrp_listing.specs.LineChecks.{AreInForm}
@@ -19,6 +22,15 @@ abbrev pub short_node : ShortLine → NodeLine
 short_node (Message kind version id) = record { kind = kinds.Message kind; numbers = version ∷ id ∷ []; tail = [] }
 short_node (Bare level kind) = parameter_line kind [] []
 short_node (Number level kind number) = parameter_line kind (number ∷ []) []
+
+-- what the line of a value says
+abbrev pub value_node : ValueLine → NodeLine
+value_node line = parameter_line line.kind (line.value ∷ []) []
+
+-- The value passes the test of its kind's one field.
+pub record IsFitting (line : ValueLine) : Type 0 where
+  pub rule : IsOnlyField line.kind (field_rule line.rule.now)
+  pub fits : line.value ≤ line.rule.now.greatest
 
 -- The words are the texts of all numbers of a parameter's line, which has no tail.
 pub record AreAllNumbers (kind : ParamKind) (ws : List (List ℕ)) (numbers : List ℕ) : Type 0 where

@@ -3,12 +3,12 @@
 ghost use Rattle.std.specs.Prelude.{◌≡◌, ◌+◌, ◌<◌, ◌≤◌, IfErr, List, OnErr, OnOk, [], length, true, false, ℕ};
 ghost use Rattle.llrp_tree.specs.declared.TheConstants.{MAX_DEPTH};
 ghost use Rattle.llrp_listing.specs.NodeLine.{NodeLine};
-ghost use Rattle.llrp_listing.specs.Private.EncodeBuffer.{BeginsLine, ClosedAll, ClosedTo, ClosesMessage, ClosesOne, Fails, FailsMessage, FailsOne, Holds, HoldsAbove, HoldsDeep, HoldsMessage, HoldsSome, KeepsFront, Opens, all_kept, cut_to, inner, settled, with_four, with_two};
+ghost use Rattle.llrp_listing.specs.Private.EncodeBuffer.{BeginsLine, ClosedAll, ClosedTo, ClosesMessage, ClosesOne, Fails, FailsMessage, FailsOne, Holds, HoldsAbove, HoldsDeep, HoldsMessage, HoldsSome, KeepsFront, Opens, all_kept, cut_to, inner, row_count, settled, value_record, with_four, with_two};
 ghost use Rattle.llrp_listing.specs.Private.OpenNodes.{OpenNode};
 ghost use Rattle.llrp_listing.specs.Private.TakingLines.{Rests};
 
 use crate::encode::close_line::{add_child, fault_of};
-use crate::encode::open_lines::{LineRecord, OpenLines};
+use crate::encode::open_lines::{LineRecord, OpenLines, ValueRecord};
 use crate::outcome::Refusal;
 use llrp_schema::Kind;
 use std::alloc::Global;
@@ -106,6 +106,7 @@ impl EncodeBuffer {
     fn close_top(&mut self, at: usize) -> Result<(), Refused>
         requires { HoldsAbove self.old at 1 }
         ensures closed { OnOk result (ClosesOne self.old self.new at) }
+        ensures plain { OnOk result (self.new.rows.ends_in_value ≡ false) }
         ensures limit { self.new.limit ≡ self.old.limit }
         ensures front { OnErr result (KeepsFront self.old self.new at) }
         ensures stopped { IfErr result (FailsOne self.old at) }
@@ -214,6 +215,59 @@ impl EncodeBuffer {
         cut(&mut self.room, self.from, kept);
         self.kept = kept;
         self.rows.push(held);
+    }
+
+    /// Closes the innermost line if it was opened as one with a value alone.
+    #[inline(always)]
+    fn close_value(&mut self, at: usize) -> Result<(), Refused>
+        requires some { HoldsSome self.old at }
+        requires least { 1 ≤ row_count self.old.rows }
+        ensures closed { OnOk result ((out more : List ℕ) (ns : List OpenNode)
+            → Holds self.old at out more ns
+            → ClosedTo self.new at (row_count self.old.rows) out more ns) }
+        ensures plain { OnOk result (self.new.rows.ends_in_value ≡ false) }
+        ensures limit { self.new.limit ≡ self.old.limit }
+        ensures front { OnErr result (KeepsFront self.old self.new at) }
+        ensures stopped { IfErr result (λ e. (limit : ℕ) (out more : List ℕ) (ns : List OpenNode)
+            → Holds self.old at out more ns → Fails limit (row_count self.old.rows) ns e) }
+    {
+        if self.rows.has_value() {
+            self.close_top(at)?;
+        }
+        Ok(())
+    }
+
+    /// Opens a line with a value alone, whose octets are the last ones.
+    #[inline(always)]
+    fn begin_value(&mut self, value: ValueRecord)
+        requires plain { self.old.rows.ends_in_value ≡ false }
+        requires some { (at : ℕ) × HoldsSome self.old at }
+        ensures begun { BeginsLine self.old self.new (value_record value) true }
+        ensures limit { self.new.limit ≡ self.old.limit }
+    {
+        let octets = self.room.len() - self.from;
+        let kept = is_kept(self.kept, true, octets, self.limit);
+        cut(&mut self.room, self.from, kept);
+        self.kept = kept;
+        self.rows.push_value(value);
+    }
+
+    /// Closes the innermost line if it has a value alone, and opens another such line at its level.
+    #[inline(always)]
+    pub fn open_value(&mut self, value: ValueRecord, at: usize) -> Result<(), Refused>
+        requires some { HoldsDeep self.old at (row_count self.old.rows) }
+        requires least { 1 ≤ row_count self.old.rows }
+        ensures opened { OnOk result (Opens self.old self.new (value_record value) true at
+            (row_count self.old.rows)) }
+        ensures limit { self.new.limit ≡ self.old.limit }
+        ensures front { OnErr result (KeepsFront self.old self.new at) }
+        ensures stopped { IfErr result (λ e. (out more : List ℕ) (ns : List OpenNode)
+            → Holds self.old at out more ns
+            → Fails self.old.limit (row_count self.old.rows) ns e) }
+    {
+        self.close_value(at)?;
+        self.begin_value(value);
+        Ok(())
     }
 
     /// Closes all lines, whose octets end at this place, and opens a message's line.

@@ -3,14 +3,14 @@
 
 ghost use Rattle.std.specs.Prelude.{◌≡◌, All};
 ghost use Rattle.llrp_schema.specs.declared.kinds.Kind.TheVariants.{Message, Parameter};
-ghost use Rattle.llrp_schema.specs.declared.kinds.Profile.{Profile};
-ghost use Rattle.llrp_schema.specs.Schema.{profile_of};
+ghost use Rattle.llrp_schema.specs.declared.kinds.KindSet.{KindSet};
+ghost use Rattle.llrp_schema.specs.Schema.{set_of_kind};
 ghost use Rattle.llrp_listing.specs.Private.ShortLines.{short_node};
 ghost use Rattle.llrp_listing.specs.Private.TakingLines.{line_node};
 
 use crate::encode::read_short_line::ShortLine;
 use crate::parse_line::Line;
-use llrp_schema::{MsgKind, ParamKind, Profile};
+use llrp_schema::{KindSet, MsgKind, ParamKind};
 use std::marker::Model;
 
 /// How many kinds of parameters there are.
@@ -20,7 +20,7 @@ const KINDS: usize = 177;
 #[derive(Drop)]
 pub struct Guess {
     /// The set of kinds that the lines have.
-    set: Profile,
+    set: KindSet,
     /// For each kind of a parameter, the one that came after it the last time.
     after: [ParamKind; KINDS],
     /// The last kind of a parameter.
@@ -30,37 +30,37 @@ pub struct Guess {
 }
 
 impl Model for Guess {
-    ghost Value = { Profile };
+    ghost Value = { KindSet };
 
     ghost view = { λ g. g.set };
 
-    ghost invariant = { λ g. All (λ kind. profile_of (Parameter kind) ≡ g.set) g.after
-        × (profile_of (Parameter g.last) ≡ g.set) × (profile_of (Message g.message) ≡ g.set) };
+    ghost invariant = { λ g. All (λ kind. set_of_kind (Parameter kind) ≡ g.set) g.after
+        × (set_of_kind (Parameter g.last) ≡ g.set) × (set_of_kind (Message g.message) ≡ g.set) };
 }
 
 /// A kind of a parameter of a set.
-fn some_parameter(set: Profile) -> ParamKind
-    ensures { profile_of (Parameter result) ≡ set }
+fn some_parameter(set: KindSet) -> ParamKind
+    ensures { set_of_kind (Parameter result) ≡ set }
 {
     match set {
-        Profile::Own => ParamKind::TagReportData,
-        Profile::Whole => ParamKind::WholeTagReportData,
+        KindSet::Profile => ParamKind::TagReportData,
+        KindSet::Standard => ParamKind::WholeTagReportData,
     }
 }
 
 /// A kind of a message of a set.
-fn some_message(set: Profile) -> MsgKind
-    ensures { profile_of (Message result) ≡ set }
+fn some_message(set: KindSet) -> MsgKind
+    ensures { set_of_kind (Message result) ≡ set }
 {
     match set {
-        Profile::Own => MsgKind::RoAccessReport,
-        Profile::Whole => MsgKind::WholeRoAccessReport,
+        KindSet::Profile => MsgKind::RoAccessReport,
+        KindSet::Standard => MsgKind::WholeRoAccessReport,
     }
 }
 
 impl Guess {
     /// No line was read yet, so any kinds of the set will do.
-    pub fn new(set: Profile) -> Guess
+    pub fn new(set: KindSet) -> Guess
         ensures { result ≡ set }
     {
         let parameter = some_parameter(set);
@@ -74,7 +74,7 @@ impl Guess {
 
     /// The set of kinds that the lines have.
     #[inline(always)]
-    pub fn set(&self) -> Profile
+    pub fn set(&self) -> KindSet
         ensures { result ≡ self.now }
     {
         self.set
@@ -83,7 +83,7 @@ impl Guess {
     /// The kind that the next line has if it is a message's.
     #[inline(always)]
     pub fn message(&self) -> MsgKind
-        ensures { profile_of (Message result) ≡ self.now }
+        ensures { set_of_kind (Message result) ≡ self.now }
     {
         self.message
     }
@@ -91,24 +91,30 @@ impl Guess {
     /// The kind that the next line has if it is a parameter's.
     #[inline(always)]
     pub fn parameter(&self) -> ParamKind
-        ensures { profile_of (Parameter result) ≡ self.now }
+        ensures { set_of_kind (Parameter result) ≡ self.now }
     {
         self.after[self.last as usize]
     }
 
     /// Keeps the kind of a parameter's line.
     #[inline(always)]
-    fn note_parameter(&mut self, kind: ParamKind)
-        requires { profile_of (Parameter kind) ≡ self.old }
+    pub fn note_parameter(&mut self, kind: ParamKind)
+        requires { set_of_kind (Parameter kind) ≡ self.old }
         ensures { self.new ≡ self.old }
     {
         self.after[self.last as usize] = kind;
         self.last = kind;
     }
 
+    /// Whether the next line is likely to be that of a parameter with a type and a value alone.
+    #[inline(always)]
+    pub fn is_value(&self) -> bool {
+        llrp_schema::is_tv(self.parameter())
+    }
+
     /// Keeps the kind of a line that was read word by word.
     pub fn note_line(&mut self, line: &Line)
-        requires { profile_of (line_node line.now).kind ≡ self.old }
+        requires { set_of_kind (line_node line.now).kind ≡ self.old }
         ensures { self.new ≡ self.old }
     {
         match line {
@@ -120,7 +126,7 @@ impl Guess {
     /// Keeps the kind of a line that was read by the short way.
     #[inline(always)]
     pub fn note(&mut self, line: &ShortLine)
-        requires { profile_of (short_node line.now).kind ≡ self.old }
+        requires { set_of_kind (short_node line.now).kind ≡ self.old }
         ensures { self.new ≡ self.old }
     {
         match line {

@@ -9,10 +9,12 @@ ghost use Rattle.llrp_tree.specs.Checks.{first_failed, values_fit};
 ghost use Rattle.llrp_tree.specs.Calls.Lawful.{own_octets};
 ghost use Rattle.llrp_tree.specs.Calls.HeadOctets.{both_halves, message_start, parameter_start};
 ghost use Rattle.llrp_listing.specs.Private.OpenNodes.{IsSaid, MOST};
-ghost use Rattle.llrp_listing.specs.Private.LineOctets.{PutsOwn, PutsStart, begun_line};
+ghost use Rattle.llrp_listing.specs.Private.LineOctets.{PutsOwn, PutsStart, begun_line, own_octets_of};
+ghost use Rattle.llrp_listing.specs.Private.ShortLines.{IsFitting, value_node};
 
 use crate::encode::open_lines::LineRecord;
-use llrp_schema::{Field, Kind, MsgKind, ParamKind, Profile, Tail};
+use crate::encode::value_line::ValueLine;
+use llrp_schema::{Field, Kind, KindSet, MsgKind, ParamKind, Tail};
 use llrp_tree::{
     Front, HEADER_OCTETS, HeadOctets, NodeFault, bare_front, message_front, message_start,
     own_fault, own_octets, parameter_front, parameter_start, tv_front,
@@ -116,9 +118,9 @@ fn append_start(room: &mut Vec<u8>, start: &HeadOctets, tail: &[u8]) -> Result<(
 fn fits_front(kind: Kind) -> bool
     ensures { IsTrue result → own_octets kind [] ≤ 16 }
 {
-    match llrp_schema::profile(kind) {
-        Profile::Own => true,
-        Profile::Whole => own_octets(kind, &[]) <= 16,
+    match llrp_schema::kind_set(kind) {
+        KindSet::Profile => true,
+        KindSet::Standard => own_octets(kind, &[]) <= 16,
     }
 }
 
@@ -264,6 +266,19 @@ fn put_tv(room: &mut Vec<u8>, kind: ParamKind, value: u128) -> Result<Own, Alloc
             Ok(Own { fault, octets })
         }
     }
+}
+
+/// Appends the octets of a parameter that has a type and a value alone, which passes its test, and returns how many there are.
+#[inline(always)]
+pub fn put_fitting(room: &mut Vec<u8>, line: ValueLine) -> Result<u32, AllocError>
+    requires fits { IsFitting line }
+    requires said { IsSaid (value_node line) }
+    ensures { IfOk result (λ octets. PutsOwn room.old.items room.new.items (own_octets_of octets)
+        (value_node line)) }
+{
+    let front = tv_front(line.kind, line.rule, line.value);
+    append_front(room, &front)?;
+    Ok(1 + line.rule.width / 8)
 }
 
 /// Appends the octets of a parameter's line with one number and no tail.

@@ -6,7 +6,7 @@ ghost use Rattle.std.specs.Prelude.{◌≡◌, ◌+◌, ◌∷◌, ◌++◌, ◌
 ghost use Rattle.llrp_schema.specs.declared.kinds.Kind.TheVariants.{Message, Parameter};
 ghost use Rattle.llrp_schema.specs.declared.kinds.Tail.TheVariants.{Absent};
 ghost use Rattle.llrp_schema.specs.Calls.Schema.{field_rule};
-ghost use Rattle.llrp_schema.specs.Schema.{fields_of, name_of, profile_of, tail_of};
+ghost use Rattle.llrp_schema.specs.Schema.{fields_of, name_of, set_of_kind, tail_of};
 ghost use Rattle.llrp_tree.specs.declared.TheConstants.{MAX_DEPTH};
 ghost use Rattle.llrp_listing.specs.Private.Encoder.{SaysAt};
 ghost use Rattle.llrp_listing.specs.declared.parse_line.TheConstants.{LONGEST_LINE};
@@ -22,10 +22,11 @@ use crate::parse_line::LONGEST_LINE;
 use crate::read_numbers::{EPC_BITS, number_from, numeral, read_epc, read_signed, signed_from};
 use crate::split::split_once;
 use llrp_schema::{
-    Field, Kind, Label, MsgKind, ParamKind, Profile, Tail, msg_with_name_in, param_with_name_in,
+    Field, Kind, KindSet, Label, MsgKind, ParamKind, Tail, msg_with_name_in, param_with_name_in,
 };
 use llrp_tree::MAX_DEPTH;
 use std::str;
+use tag_uri::word_of_octets;
 
 /// A line that was read by the short way.
 #[derive(Clone, Copy)]
@@ -48,9 +49,20 @@ pub enum ShortLine {
     },
 }
 
-/// Reads the 96 bits of an EPC.
-#[inline(always)]
+/// Reads the 96 bits of an EPC. It is a call, so that `read_short` stays small enough to be inlined.
+#[inline(never)]
 fn epc_value(word: &[u8]) -> Option<u128>
+    ensures { IfSome result (λ n. ReadsNumber Epc word.now (Ok n)) }
+{
+    match word_of_octets(word) {
+        Some(word) => Some(word.number()),
+        None => other_epc(word),
+    }
+}
+
+/// The same of a text that is not read by the places of its dots. It is a call, since few texts are such ones.
+#[inline(never)]
+fn other_epc(word: &[u8]) -> Option<u128>
     ensures { IfSome result (λ n. ReadsNumber Epc word.now (Ok n)) }
 {
     let Ok(text) = str::from_utf8(word) else {
@@ -73,7 +85,7 @@ fn other_number(word: &[u8]) -> Option<u128>
 
 /// The value of a field that is not reserved, from a place of a line to its end.
 #[inline(always)]
-fn value_from(rule: &Field, line: &[u8], from: usize) -> Option<u128>
+pub fn value_from(rule: &Field, line: &[u8], from: usize) -> Option<u128>
     requires { from < length line.now }
     ensures { IfSome result (λ n. ReadsNumber (field_form (field_rule rule.now))
         (drop from line.now) (Ok n)) }
@@ -202,7 +214,7 @@ fn parameter_after(level: usize, line: &[u8], kind: ParamKind, end: usize) -> Op
     requires starts { line.now ≡ (48 + level) ∷ 32 ∷ drop 2 line.now }
     requires within { end ≤ length line.now }
     requires named { drop 2 line.now ≡ name_of (Parameter kind) ++ drop end line.now }
-    ensures { IfSome result (λ short. SaysAt (profile_of (Parameter kind)) level line.now
+    ensures { IfSome result (λ short. SaysAt (set_of_kind (Parameter kind)) level line.now
         (short_level short) (short_node short)) }
 {
     if end == line.len() {
@@ -226,9 +238,9 @@ fn parameter_after(level: usize, line: &[u8], kind: ParamKind, end: usize) -> Op
 }
 
 /// The kind of a parameter of a set whose name follows the level of a line and its space, whatever follows the name.
-fn kind_named(set: Profile, line: &[u8]) -> Option<ParamKind>
+fn kind_named(set: KindSet, line: &[u8]) -> Option<ParamKind>
     requires { 2 ≤ length line.now }
-    ensures { IfSome result (λ kind. profile_of (Parameter kind) ≡ set) }
+    ensures { IfSome result (λ kind. set_of_kind (Parameter kind) ≡ set) }
 {
     let (_, rest) = line.split_at(2);
     match split_once(rest, b' ') {
@@ -239,9 +251,9 @@ fn kind_named(set: Profile, line: &[u8]) -> Option<ParamKind>
 
 /// The kind of a parameter's line and the place after its name, by the name.
 #[inline(never)]
-fn other_kind(set: Profile, line: &[u8]) -> Option<(ParamKind, usize)>
+fn other_kind(set: KindSet, line: &[u8]) -> Option<(ParamKind, usize)>
     requires { 2 ≤ length line.now }
-    ensures set { IfSome result (λ x. profile_of (Parameter x.0) ≡ set) }
+    ensures set { IfSome result (λ x. set_of_kind (Parameter x.0) ≡ set) }
     ensures within { IfSome result (λ x. x.1 ≤ length line.now) }
     ensures named { IfSome result (λ x. drop 2 line.now ≡ name_of (Parameter x.0)
         ++ drop x.1 line.now) }
@@ -257,7 +269,7 @@ fn other_kind(set: Profile, line: &[u8]) -> Option<(ParamKind, usize)>
 pub fn kind_ahead(line: &[u8], text: &[u8], guess: &Guess) -> Option<(ParamKind, usize)>
     requires text { take (length line.now) text.now ≡ line.now }
     requires long { 2 ≤ length line.now }
-    ensures set { IfSome result (λ x. profile_of (Parameter x.0) ≡ guess.now) }
+    ensures set { IfSome result (λ x. set_of_kind (Parameter x.0) ≡ guess.now) }
     ensures within { IfSome result (λ x. x.1 ≤ length line.now) }
     ensures named { IfSome result (λ x. drop 2 line.now ≡ name_of (Parameter x.0)
         ++ drop x.1 line.now) }
@@ -327,7 +339,7 @@ fn message_named(line: &[u8], text: &[u8], kind: MsgKind) -> Option<ShortLine>
     requires text { take (length line.now) text.now ≡ line.now }
     requires short { length line.now ≤ LONGEST_LINE }
     requires starts { line.now ≡ 48 ∷ 32 ∷ drop 2 line.now }
-    ensures { IfSome result (λ short. SaysAt (profile_of (Message kind)) 0 line.now
+    ensures { IfSome result (λ short. SaysAt (set_of_kind (Message kind)) 0 line.now
         (short_level short) (short_node short)) }
 {
     let end = name_end(line, text, Kind::Message(kind))?;
@@ -348,7 +360,7 @@ fn message_named(line: &[u8], text: &[u8], kind: MsgKind) -> Option<ShortLine>
 
 /// The line of a message of a set, by its name.
 #[inline(never)]
-fn other_message(set: Profile, line: &[u8], text: &[u8]) -> Option<ShortLine>
+fn other_message(set: KindSet, line: &[u8], text: &[u8]) -> Option<ShortLine>
     requires text { take (length line.now) text.now ≡ line.now }
     requires short { length line.now ≤ LONGEST_LINE }
     requires starts { line.now ≡ 48 ∷ 32 ∷ drop 2 line.now }

@@ -1,15 +1,20 @@
 //! Takes a line that was read: closes the lines at its level or deeper, puts its octets after those
 //! of its parents, and opens it.
 
-ghost use Rattle.std.specs.Prelude.{◌≡◌, IfErr, IfOk, OnOk};
+ghost use Rattle.std.specs.Prelude.{◌≡◌, ◌≤◌, IfErr, IfOk, OnOk};
+ghost use Rattle.llrp_listing.specs.Private.EncodeBuffer.{row_count};
 ghost use Rattle.llrp_listing.specs.Private.OpenNodes.{IsSaid};
 ghost use Rattle.llrp_listing.specs.Private.LineOctets.{PutsOwn};
-ghost use Rattle.llrp_listing.specs.Private.ShortLines.{short_level, short_node};
+ghost use Rattle.llrp_listing.specs.Private.ShortLines.{IsFitting, short_level, short_node, value_node};
 ghost use Rattle.llrp_listing.specs.Private.TakingLines.{RestsDeep, TakeFails, Takes, line_level, line_node, said_level, said_node};
 
 use crate::encode::buffer::{EncodeBuffer, Refused};
-use crate::encode::line_octets::{Own, begun_by, put_message, put_parameter, put_value};
+use crate::encode::line_octets::{
+    Own, begun_by, put_fitting, put_message, put_parameter, put_value,
+};
+use crate::encode::open_lines::ValueRecord;
 use crate::encode::read_short_line::ShortLine;
+use crate::encode::value_line::ValueLine;
 use crate::parse_line::Line;
 use llrp_schema::{Kind, MsgKind, ParamKind};
 use std::alloc::AllocError;
@@ -165,6 +170,35 @@ pub fn take(writer: &mut EncodeBuffer, number: u64, said: LineContents<'_>) -> R
         Ok(own) => {
             let begun = begun_by(kind_of(said), number, own);
             match writer.open_line(level_of(said), begun.held, begun.put, at) {
+                Ok(()) => Ok(()),
+                Err(refused) => Err(TakeErr::Refuses(refused)),
+            }
+        }
+    }
+}
+
+/// Takes a line with a value alone, at the level of such lines.
+#[inline(always)]
+pub fn take_value(writer: &mut EncodeBuffer, number: u64, line: ValueLine) -> Result<(), TakeErr>
+    requires fits { IsFitting line }
+    requires said { IsSaid (value_node line) }
+    requires least { 1 ≤ row_count writer.old.rows }
+    requires stands { RestsDeep writer.old (row_count writer.old.rows) }
+    ensures taken { OnOk result (Takes writer.old writer.new (row_count writer.old.rows)
+        (value_node line) number) }
+    ensures limit { writer.new.limit ≡ writer.old.limit }
+    ensures stopped { IfErr result (TakeFails writer.old writer.new (row_count writer.old.rows)) }
+{
+    let at = writer.room.len();
+    match put_fitting(&mut writer.room, line) {
+        Err(_) => Err(TakeErr::Memory),
+        Ok(octets) => {
+            let value = ValueRecord {
+                kind: line.kind,
+                number,
+                octets,
+            };
+            match writer.open_value(value, at) {
                 Ok(()) => Ok(()),
                 Err(refused) => Err(TakeErr::Refuses(refused)),
             }

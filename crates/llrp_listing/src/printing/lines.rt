@@ -92,7 +92,7 @@ pub(crate) fn put_header(room: &mut [u8], at: usize, version: u8, kind: MsgKind,
 
 /// Puts the text of an EPC's word.
 #[inline(always)]
-fn put_epc(room: &mut [u8], at: usize, bits: u128) -> usize
+pub(crate) fn put_epc(room: &mut [u8], at: usize, bits: u128) -> usize
     requires fits { bits < 2 ^ 96 }
     requires room { at + 64 ≤ length room.old }
     ensures text { (word : List ℕ) × IsTextOf bits word × Puts room.old room.new at result word }

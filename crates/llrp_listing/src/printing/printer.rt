@@ -56,7 +56,7 @@ impl Listener for Printer {
     }
 
     #[inline(always)]
-    fn parameter(&mut self, level: u8, kind: ParamKind) -> Result<(), AllocError> {
+    fn parameter(&mut self, level: u8, kind: ParamKind, _stop: u32) -> Result<(), AllocError> {
         self.text.push_start(level, Kind::Parameter(kind))
     }
 

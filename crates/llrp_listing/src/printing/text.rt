@@ -6,12 +6,13 @@ ghost use Rattle.llrp_schema.specs.declared.kinds.Kind.TheVariants.{Message as M
 ghost use Rattle.llrp_schema.specs.Calls.Schema.{field_rule};
 ghost use Rattle.llrp_schema.specs.Schema.{name_of, fields_of, bits_of, is_tv};
 ghost use Rattle.hex.specs.Hex.{encode_lower};
+ghost use Rattle.tag_uri.specs.TagText.{IsTextOf};
 ghost use Rattle.llrp_listing.specs.NodeLine.{field_form, parameter_line, signed_text, spaced, IsLine, IsNumberText};
 ghost use Rattle.llrp_listing.specs.StreamListing.{end_text, fault_text};
 
 use crate::printing::decimal::{put_decimal, put_number, put_signed};
 use crate::printing::fault_lines::{put_end, put_fault};
-use crate::printing::lines::{put_field, put_header, put_start, put_value_line};
+use crate::printing::lines::{put_epc, put_field, put_header, put_start, put_value_line};
 use crate::printing::put::{move_front, put_octet, put_text, put_two};
 use llrp_schema::{Field, Kind, MsgKind, ParamKind};
 use llrp_stream::End;
@@ -57,6 +58,7 @@ fn make_room(memory: &mut Vec<u8>, end: usize) -> Result<(), AllocError>
 }
 
 /// Makes sure that there is room after a text for this many octets.
+#[inline(always)]
 fn make_room_for(memory: &mut Vec<u8>, end: usize, count: usize) -> Result<(), AllocError>
     requires whole { end ≤ length memory.old.items }
     requires fits { count < 2 ^ 63 }
@@ -67,7 +69,20 @@ fn make_room_for(memory: &mut Vec<u8>, end: usize, count: usize) -> Result<(), A
     if end + count <= memory.len() {
         return Ok(());
     }
-    memory.resize(end + count, 0)
+    grow_for(memory, end, count)
+}
+
+/// Makes room after a text for this many octets and more.
+#[inline(never)]
+fn grow_for(memory: &mut Vec<u8>, end: usize, count: usize) -> Result<(), AllocError>
+    requires whole { end ≤ length memory.old.items }
+    requires fits { count < 2 ^ 63 }
+    requires short { length memory.old.items < end + count }
+    ensures text { take end memory.new.items ≡ take end memory.old.items }
+    ensures within { end ≤ length memory.new.items }
+    ensures room { OnOk result (end + count ≤ length memory.new.items) }
+{
+    memory.resize((end + count).saturating_add(MORE_ROOM), 0)
 }
 
 /// Makes room after a text.
@@ -101,14 +116,14 @@ impl Text {
     }
 
     /// How many octets it has.
-    pub(crate) fn len(&self) -> usize
+    pub fn len(&self) -> usize
         ensures { result ≡ length self.now }
     {
         self.end
     }
 
     /// Keeps only the first octets.
-    pub(crate) fn truncate(&mut self, count: usize)
+    pub fn truncate(&mut self, count: usize)
         ensures { self.new ≡ take count self.old }
     {
         if count < self.end {
@@ -117,7 +132,7 @@ impl Text {
     }
 
     /// Removes the first octets and moves those after them to the front.
-    pub(crate) fn drop_front(&mut self, count: usize)
+    pub fn drop_front(&mut self, count: usize)
         requires { count ≤ length self.old }
         ensures { self.new ≡ drop count self.old }
     {
@@ -249,6 +264,7 @@ impl Text {
     }
 
     /// Appends a text.
+    #[inline(always)]
     pub fn push_text(&mut self, text: &[u8]) -> Result<(), AllocError>
         ensures { OnOk result (self.new ≡ self.old ++ text.now) }
     {
@@ -266,6 +282,19 @@ impl Text {
         let end = self.end;
         make_room(&mut self.memory, end)?;
         self.end = put_number(self.memory.as_mut_slice(), end, number);
+        Ok(())
+    }
+
+    /// Appends the text of an EPC's word.
+    #[inline(always)]
+    pub fn push_epc(&mut self, bits: u128) -> Result<(), AllocError>
+        requires { bits < 2 ^ 96 }
+        ensures { OnOk result ((word : List ℕ) × IsTextOf bits word
+            × (self.new ≡ self.old ++ word)) }
+    {
+        let end = self.end;
+        make_room(&mut self.memory, end)?;
+        self.end = put_epc(self.memory.as_mut_slice(), end, bits);
         Ok(())
     }
 

@@ -9,7 +9,7 @@ returns-in-Some c =
     (c.if-level-eq0.true, (named.0, sym c.as_bytes-octets.ensures.value ∙ named.1))
 
 pub returns-in-None : goal.returns-in-None
-returns-in-None c = no_message c.args.level c.args.name.now c.if-level-eq0.true (c.in-None.ensures ∙ ap (message_named_in c.args.profile) c.as_bytes-octets.ensures.value)
+returns-in-None c = no_message c.args.level c.args.name.now c.if-level-eq0.true (c.in-None.ensures ∙ ap (message_named_in c.args.set) c.as_bytes-octets.ensures.value)
 
 pub returns-in-Some-param_with_name_in : goal.returns-in-Some-param_with_name_in
 returns-in-Some-param_with_name_in c =
@@ -17,4 +17,4 @@ returns-in-Some-param_with_name_in c =
     (omega arith, (named.0, sym c.as_bytes-octets.ensures.value ∙ named.1))
 
 pub returns-in-None-param_with_name_in : goal.returns-in-None-param_with_name_in
-returns-in-None-param_with_name_in c = no_parameter c.args.level c.args.name.now (omega arith) (c.in-None-param_with_name_in.ensures ∙ ap (param_named_in c.args.profile) c.as_bytes-octets.ensures.value)
+returns-in-None-param_with_name_in c = no_parameter c.args.level c.args.name.now (omega arith) (c.in-None-param_with_name_in.ensures ∙ ap (param_named_in c.args.set) c.as_bytes-octets.ensures.value)

@@ -8,7 +8,7 @@ abbrev pub invariant-loop-lister : goal.invariant-loop-lister
 invariant-loop-lister g l = record {
   bytes : List ℕ;
   given : Given (g.R.Source.log l.fn.r) (g.R.Source.log l.r) l.pieces.reads bytes;
-  goes : GoesOn g.P.ItemPrinter.is_text (g.P.Listener.begins l.lister.printer) (g.P.Listener.stands l.lister.printer) l.fn.profile l.limit bytes [] (g.W.Sink.log l.fn.w) (g.W.Sink.log l.w) l.lister.frames l.lister.lawful;
+  goes : GoesOn g.P.ItemPrinter.is_text (g.P.Listener.begins l.lister.printer) (g.P.Listener.stands l.lister.printer) l.fn.set l.limit bytes [] (g.W.Sink.log l.fn.w) (g.W.Sink.log l.w) l.lister.frames l.lister.lawful;
 }
 
 abbrev pub decreases-loop-lister : goal.decreases-loop-lister

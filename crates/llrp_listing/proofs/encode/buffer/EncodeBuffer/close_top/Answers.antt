@@ -20,22 +20,22 @@ same_kind top n a b t e f = let x : Parameter a ≡ Parameter b = sym e ∙ t.ki
 
 pub settle-requires-clause-room : goal.settle-requires-clause-room
 settle-requires-clause-room c =
-    let w = two c.args.self.now c.args.at c.in-Some.top (inner c.pop.new.self) c.in-Some.ensures c.requires in
+    let w = two c.args.self.now c.args.at c.in-Some.top (inner c.pop.new.self) c.in-Some.ensures.popped c.requires in
     omega (arith, c.as_mut_slice.ensures.len, ap (λ (x : List ℕ). length x) c.as_mut_slice.ensures.value, within c.args.self.now c.args.at w.out w.more w.n w.p w.outer w.holds c.in-Some.top w.is_top c.in-Parameter.kind (is_kind c.in-Some.top w.n c.in-Parameter.kind w.is_top c.in-Parameter.is) (sym (c.fault_of.ensures w.n w.is_top) ∙ c.in-None.is))
 
 pub returns-in-Some-fault_of-clause-stopped : goal.returns-in-Some-fault_of-clause-stopped
 returns-in-Some-fault_of-clause-stopped c = λ out more n outer kind h is.
-    let t = (held_one (inner c.args.self.now.rows) (inner c.pop.new.self) c.in-Some.top n outer c.in-Some.ensures h.rows).0 in
+    let t = (held_one (inner c.args.self.now.rows) (inner c.pop.new.self) c.in-Some.top n outer c.in-Some.ensures.popped h.rows).0 in
     (t.number, λ limit. parameter_closes kind n limit is ∙ ap node_refusal (sym (c.fault_of.ensures n t) ∙ c.in-Some-fault_of.is))
 
 pub settle-requires-clause-octets : goal.settle-requires-clause-octets
 settle-requires-clause-octets c =
-    let w = two c.args.self.now c.args.at c.in-Some.top (inner c.pop.new.self) c.in-Some.ensures c.requires in
+    let w = two c.args.self.now c.args.at c.in-Some.top (inner c.pop.new.self) c.in-Some.ensures.popped c.requires in
     spare_at c.args.self.now c.args.at w.out w.more w.n w.p w.outer w.holds c.in-Some.top w.is_top c.in-Parameter.kind (is_kind c.in-Some.top w.n c.in-Parameter.kind w.is_top c.in-Parameter.is) (sym (c.fault_of.ensures w.n w.is_top) ∙ c.in-None.is) c.is_tv-tv.result c.is_tv-tv.ensures
 
 pub add_child-parent-requires : goal.add_child-parent-requires
 add_child-parent-requires c =
-    let w = two c.args.self.now c.args.at c.in-Some.top (inner c.pop.new.self) c.in-Some.ensures c.requires in
+    let w = two c.args.self.now c.args.at c.in-Some.top (inner c.pop.new.self) c.in-Some.ensures.popped c.requires in
     few_levels c.args.self.now c.args.at w.out w.more w.n w.p w.outer w.holds c.in-Some.top w.is_top c.in-Parameter.kind (is_kind c.in-Some.top w.n c.in-Parameter.kind w.is_top c.in-Parameter.is) (sym (c.fault_of.ensures w.n w.is_top) ∙ c.in-None.is)
 
 pub set_top-requires-clause-some : goal.set_top-requires-clause-some
@@ -48,7 +48,7 @@ set_top-requires-clause-kind c = λ top rest e.
 
 pub returns-in-None-clause-closed : goal.returns-in-None-clause-closed
 returns-in-None-clause-closed c = λ out more n p outer kind h is.
-    let all = held_two (inner c.args.self.now.rows) (inner c.pop.new.self) (drop 1 (inner c.pop.new.self)) c.in-Some.top c.in-Some-top.parent.now n p outer c.in-Some.ensures c.in-Some-top.ensures h.rows in
+    let all = held_two (inner c.args.self.now.rows) (inner c.pop.new.self) (drop 1 (inner c.pop.new.self)) c.in-Some.top c.in-Some-top.parent.now n p outer c.in-Some.ensures.popped c.in-Some-top.ensures h.rows in
     let fine : node_fault n.line n.children ≡ None = sym (c.fault_of.ensures n all.0) ∙ c.in-None.is in
     let k = same_kind c.in-Some.top n c.in-Parameter.kind kind all.0 c.in-Parameter.is is in
     let own = is_kind c.in-Some.top n c.in-Parameter.kind all.0 c.in-Parameter.is in
@@ -59,5 +59,5 @@ returns-in-None-clause-closed c = λ out more n p outer kind h is.
     ∙ c.settle.ensures ∙ ap (λ (x : List ℕ). settled c.args.self.now.kept c.is_tv-tv.result c.args.at c.in-Some.top.octets x) c.as_mut_slice.ensures.value in (
       fine,
       subst (λ (x : ParamKind). Holds new c.args.at out more (with_child x n p ∷ outer)) k
-          (holds_closed c.args.self.now c.args.at out more n p outer h c.in-Some.top all.0 c.in-Parameter.kind own fine new c.is_tv-tv.result c.add_child-parent.result (drop 1 (inner c.pop.new.self)) c.is_tv-tv.ensures room refl refl refl c.set_top.ensures child all.1.1),
+          (holds_closed c.args.self.now c.args.at out more n p outer h c.in-Some.top all.0 c.in-Parameter.kind own fine new c.is_tv-tv.result c.add_child-parent.result (drop 1 (inner c.pop.new.self)) c.is_tv-tv.ensures room refl refl refl c.set_top.ensures.changed child all.1.1),
     )
