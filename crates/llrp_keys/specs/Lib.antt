@@ -1,0 +1,4 @@
+pub mod TextLines
+pub mod PrefixLines
+pub mod NamedKey
+pub mod ListLines
