@@ -1,8 +1,10 @@
+pub mod EachLine
 pub mod HeldItems
 pub mod JsonEnds
 pub mod JsonParts
 pub mod JsonTextLemmas
 pub mod JsonTexts
+pub mod MemberNames
 pub mod NodeTexts
 pub mod OneJson
 pub mod OpenJsonLemmas

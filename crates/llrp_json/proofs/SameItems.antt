@@ -7,9 +7,9 @@ use Rattle.llrp_schema.specs.declared.kinds.MsgKind.{MsgKind}
 use Rattle.llrp_schema.specs.declared.kinds.ParamKind.{ParamKind}
 use Rattle.llrp_schema.specs.declared.kinds.Kind.{Kind}
 use Rattle.llrp_schema.specs.declared.kinds.Kind.TheVariants.{Message, Parameter}
-use Rattle.llrp_schema.specs.declared.kinds.Profile.{Profile}
-use Rattle.llrp_schema.specs.Schema.{groups_of, name_of, plain_fields_of, profile_of}
-use Rattle.llrp_schema.proofs.PlaceLemmas.{child_profile}
+use Rattle.llrp_schema.specs.declared.kinds.KindSet.{KindSet}
+use Rattle.llrp_schema.specs.Schema.{groups_of, name_of, plain_fields_of, set_of_kind}
+use Rattle.llrp_schema.proofs.PlaceLemmas.{child_set}
 use Rattle.llrp_schema.proofs.TableLaws.{names_in}
 use Rattle.llrp_tree.specs.declared.fault.Fault.{Fault}
 use Rattle.llrp_tree.specs.declared.fault.Reason.{Reason}
@@ -56,7 +56,7 @@ record IsOneObject (k l : ParamKind) (fields others tail last : List ℕ) (ss ts
   octets : tail ≡ last
   below : ss ≡ ts
 
-one_object : (k l : ParamKind) (fields others tail last : List ℕ) (f g : Forest) (ms ls ss ts : List (List ℕ)) → profile_of (Parameter k) ≡ profile_of (Parameter l) → Obeys (Parameter k) fields tail f → Obeys (Parameter l) others last g → AreFields (plain_fields_of (Parameter k)) fields ms → AreFields (plain_fields_of (Parameter l)) others ls
+one_object : (k l : ParamKind) (fields others tail last : List ℕ) (f g : Forest) (ms ls ss ts : List (List ℕ)) → set_of_kind (Parameter k) ≡ set_of_kind (Parameter l) → Obeys (Parameter k) fields tail f → Obeys (Parameter l) others last g → AreFields (plain_fields_of (Parameter k)) fields ms → AreFields (plain_fields_of (Parameter l)) others ls
     → AllByRecursion (IsJson Value) ss → AllByRecursion (IsJson Value) ts → whole k tail ms ss ≡ whole l last ls ts → IsOneObject k l fields others tail last ss ts
 one_object k l fields others tail last f g ms ls ss ts own p q a b i j e =
     let first = objects_same (named k) (named l) (parts (Parameter k) tail ms ss) (parts (Parameter l) last ls ts)
@@ -82,15 +82,15 @@ lasts_same (u ∷ ss) (v ∷ ts) s t e =
     (ap (λ (x : List ℕ). x ∷ ss) parted.0 ∙ ap (λ (x : List (List ℕ)). v ∷ x) more.0, more.1)
 
 -- parameters below nodes of one set of kinds that have the same objects
-forests_same : (p : Profile) (parent other : Kind) (f g : Forest) (ss ts : List (List ℕ)) → profile_of parent ≡ p → profile_of other ≡ p → AllLawful f → AllLawful g → ArePlaced (groups_of parent) f → ArePlaced (groups_of other) g → AreParameters f ss → AreParameters g ts → ss ≡ ts → f ≡ g
+forests_same : (p : KindSet) (parent other : Kind) (f g : Forest) (ss ts : List (List ℕ)) → set_of_kind parent ≡ p → set_of_kind other ≡ p → AllLawful f → AllLawful g → ArePlaced (groups_of parent) f → ArePlaced (groups_of other) g → AreParameters f ss → AreParameters g ts → ss ≡ ts → f ≡ g
 unfolding ArePlaced
 forests_same p parent other none none ss ts u v l m c d a b e = refl
 forests_same p parent other none (and before kind fields tail children) ss ts u v l m c d a b e = absurd (no_last b.0 _ (sym a ∙ e ∙ b.6))
 forests_same p parent other (and before kind fields tail children) none ss ts u v l m c d a b e = absurd (no_last a.0 _ (sym b ∙ sym e ∙ a.6))
 forests_same p parent other (and before k fields tail children) (and earlier n others last below) ss ts u v l m c d a b e =
     let parted = lasts_same a.0 b.0 (whole k tail a.1 a.2) (whole n last b.1 b.2) (sym a.6 ∙ e ∙ b.6) in
-    let own : profile_of (Parameter k) ≡ p = child_profile parent k c.1 ∙ u in
-    let too : profile_of (Parameter n) ≡ p = child_profile other n d.1 ∙ v in
+    let own : set_of_kind (Parameter k) ≡ p = child_set parent k c.1 ∙ u in
+    let too : set_of_kind (Parameter n) ≡ p = child_set other n d.1 ∙ v in
     let one = one_object k n fields others tail last children below a.1 b.1 a.2 b.2 (own ∙ sym too) l.1.obeys m.1.obeys a.4 b.4 (forest_texts children a.2 l.2 a.5) (forest_texts below b.2 m.2 b.5) parted.1 in
     let first : before ≡ earlier = forests_same p parent other before earlier a.0 b.0 u v l.0 m.0 c.0 d.0 a.3 b.3 parted.0 in
     let inner : children ≡ below = forests_same p (Parameter k) (Parameter n) children below a.2 b.2 own too l.2 m.2 l.1.obeys.placed m.1.obeys.placed a.5 b.5 one.below in
@@ -98,7 +98,7 @@ forests_same p parent other (and before k fields tail children) (and earlier n o
 
 -- ---- messages
 
-messages_same : (p : Profile) (m n : MessageTree) (s t : List ℕ) → profile_of (Message m.kind) ≡ p → profile_of (Message n.kind) ≡ p → IsLawfulMessage m → IsLawfulMessage n → IsMessageJson m s → IsMessageJson n t → s ≡ t → m ≡ n
+messages_same : (p : KindSet) (m n : MessageTree) (s t : List ℕ) → set_of_kind (Message m.kind) ≡ p → set_of_kind (Message n.kind) ≡ p → IsLawfulMessage m → IsLawfulMessage n → IsMessageJson m s → IsMessageJson n t → s ≡ t → m ≡ n
 messages_same p m n s t u v l k a b e =
     let first = objects_same (message_first m) (message_first n) (message_more m a.fields a.below) (message_more n b.fields b.below) (message_members m s l a) (message_members n t k b) (sym a.text_is ∙ e ∙ b.text_is) in
     let name : name_of (Message m.kind) ≡ name_of (Message n.kind) = texts_same (codes "message") (name_of (Message m.kind)) (name_of (Message n.kind)) first.0 in
@@ -173,7 +173,7 @@ no_fault : (m : MessageTree) (id : ℕ) (fault : Fault) (text : List ℕ) → Is
 no_fault m id fault text l small few a e = apart 109 102 (codes "essage") (codes "ault") refl (names_same (codes "message") (codes "fault") text (fault_json id fault) (message_named m text l a) (fault_named id fault small few) e)
 
 -- no two items of a set of kinds have one line
-pub items_same : (p : Profile) (a b : Item) (line : List ℕ) → IsLawfulIn p a → IsLawfulIn p b → IsItemJson a line → IsItemJson b line → a ≡ b
+pub items_same : (p : KindSet) (a b : Item) (line : List ℕ) → IsLawfulIn p a → IsLawfulIn p b → IsItemJson a line → IsItemJson b line → a ≡ b
 items_same p (Msg m) (Msg n) line u v a b = ap Msg (messages_same p m n a.0 b.0 u.1 v.1 u.0 v.0 a.1 b.1 (append_cancel_right a.0 b.0 (10 ∷ []) (sym a.2 ∙ b.2)))
 items_same p (Msg m) (Bad id fault) line u v a b = absurd (no_fault m id fault a.0 u.0 v.0 v.1 a.1 (append_cancel_right a.0 (fault_json id fault) (10 ∷ []) (sym a.2 ∙ b)))
 items_same p (Bad id fault) (Msg m) line u v a b = absurd (no_fault m id fault b.0 v.0 u.0 u.1 b.1 (append_cancel_right b.0 (fault_json id fault) (10 ∷ []) (sym b.2 ∙ a)))

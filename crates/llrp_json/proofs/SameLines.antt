@@ -3,7 +3,7 @@ use Rattle.std.proofs.Common.{◌≡◌, ◌⊎◌, inl, inr, ℕ, ◌==◌, Boo
 use Rattle.std.specs.Prelude.{◌||◌, codes, decimal}
 use Rattle.std.specs.List.{AllByRecursion, AllZip, flat_map}
 use Rattle.std.proofs.lemmas.List.{append-nil}
-use Rattle.llrp_schema.specs.declared.kinds.Profile.{Profile}
+use Rattle.llrp_schema.specs.declared.kinds.KindSet.{KindSet}
 use Rattle.llrp_stream.specs.declared.item.Item.{Item}
 use Rattle.llrp_stream.specs.declared.item.Item.TheVariants.{Bad, Msg}
 use Rattle.llrp_stream.specs.declared.item.End.{End}
@@ -31,7 +31,7 @@ record IsLine (of_item : Bool) (line : List ℕ) : Type 0 where
   line_is : line ≡ text ++ 10 ∷ []
   kind : is_item name ≡ of_item
 
-item_line : (p : Profile) (item : Item) (line : List ℕ) → IsLawfulIn p item → IsItemJson item line → IsLine true line
+item_line : (p : KindSet) (item : Item) (line : List ℕ) → IsLawfulIn p item → IsItemJson item line → IsLine true line
 item_line p (Msg m) line l is = record { name = codes "message"; text = is.0; named = message_named m is.0 l.0 is.1; line_is = is.2; kind = refl }
 item_line p (Bad id fault) line l is = record { name = codes "fault"; text = fault_json id fault; named = fault_named id fault l.0 l.1; line_is = is; kind = refl }
 
@@ -83,7 +83,7 @@ no_items s u line l (inr end) e = no_end s line u [] l end (e ∙ sym (append-ni
 abbrev all : List (List ℕ) → List ℕ
 all lines = flat_map (λ item. item) lines
 
-rows_same : (p : Profile) (items others : List Item) (ss ts : List (List ℕ)) (end last : List ℕ) → AllByRecursion (IsLawfulIn p) items → AllByRecursion (IsLawfulIn p) others → AllZip IsItemJson items ss → AllZip IsItemJson others ts → IsEnd end → IsEnd last
+rows_same : (p : KindSet) (items others : List Item) (ss ts : List (List ℕ)) (end last : List ℕ) → AllByRecursion (IsLawfulIn p) items → AllByRecursion (IsLawfulIn p) others → AllZip IsItemJson items ss → AllZip IsItemJson others ts → IsEnd end → IsEnd last
     → all ss ++ end ≡ all ts ++ last → (items ≡ others) × (end ≡ last)
 rows_same p [] [] [] [] end last l m a b c d e = (refl, e)
 rows_same p [] others (s ∷ ss) ts end last l m a b c d e = absurd a
@@ -101,7 +101,7 @@ rows_same p (i ∷ items) (o ∷ others) (s ∷ ss) (t ∷ ts) end last l m a b 
     (ap (λ (x : Item). x ∷ items) item ∙ ap (λ (x : List Item). o ∷ x) more.0, more.1)
 
 -- lines of a stream are those of one list of items and of one line of an end
-pub streams_same : (p : Profile) (items others : List Item) (end last : End) (text : List ℕ) → AllByRecursion (IsLawfulIn p) items → AllByRecursion (IsLawfulIn p) others → IsCounted end → IsCounted last
+pub streams_same : (p : KindSet) (items others : List Item) (end last : End) (text : List ℕ) → AllByRecursion (IsLawfulIn p) items → AllByRecursion (IsLawfulIn p) others → IsCounted end → IsCounted last
     → IsStreamText IsItemJson end_json items end text → IsStreamText IsItemJson end_json others last text → (items ≡ others) × (end_json end ≡ end_json last)
 streams_same p items others end last text l m c d a b =
     rows_same p items others a.lines.texts b.lines.texts (end_json end) (end_json last) l m a.lines.each b.lines.each (end_line end c) (end_line last d)

@@ -1,6 +1,6 @@
 -- The items of a stream and its end as lines of JSON: the object of each, and LF.
 use Rattle.std.specs.Prelude.{◌≡◌, ℕ, List, [], ◌∷◌, ◌++◌, Result, codes, decimal}
-use Rattle.llrp_schema.specs.declared.kinds.Profile.{Profile}
+use Rattle.llrp_schema.specs.declared.kinds.KindSet.{KindSet}
 use Rattle.llrp_schema.specs.declared.kinds.Kind.TheVariants.{Message}
 use Rattle.llrp_schema.specs.Schema.{name_of, plain_fields_of, tail_of}
 use Rattle.llrp_tree.specs.declared.fault.Fault.{Fault}
@@ -42,5 +42,5 @@ end_json Broken = object (member (codes "broken") (codes "true") ∷ []) ++ 10 �
 end_json Dead = []
 
 -- What show did between these logs with lines of JSON, by its answer.
-abbrev pub ShowsJson : Profile → ℕ → SourceLog → SourceLog → SinkLog → SinkLog → Result Verdict ToolErr → Type 0
+abbrev pub ShowsJson : KindSet → ℕ → SourceLog → SourceLog → SinkLog → SinkLog → Result Verdict ToolErr → Type 0
 ShowsJson p limit r0 r1 w0 w1 answer = ShowsAs IsItemJson end_json p limit r0 r1 w0 w1 answer

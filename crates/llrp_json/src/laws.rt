@@ -10,7 +10,7 @@ ghost use Rattle.llrp_stream.specs.declared.item.End.TheVariants.{Broken, Rest};
 ghost use Rattle.llrp_stream.specs.declared.item.Item.TheVariants.{Bad, Msg};
 ghost use Rattle.llrp_listing.specs.Calls.ItemPrinter.{HasOneText};
 ghost use Rattle.tag_uri.specs.TagText.{IsTextOf};
-ghost use Rattle.llrp_json.specs.Calls.JsonLaws.{LinesAreApart, StreamsAreApart};
+ghost use Rattle.llrp_json.specs.Calls.JsonLaws.{EachHasLine, LinesAreApart, NamesAreApart, StreamsAreApart};
 ghost use Rattle.llrp_json.specs.JsonLines.{IsItemJson, end_json};
 ghost use Rattle.llrp_json.specs.JsonValues.{inside};
 ghost use Rattle.llrp_json.specs.Calls.JsonTexts.{IsLineOfJson};
@@ -23,6 +23,12 @@ pub fn lines_are_json()
         → IsItemJson (Bad id fault) line → IsLineOfJson line }
     ensures rest { (octets : ℕ) → octets < 2 ^ 64 → IsLineOfJson (end_json (Rest octets)) }
     ensures broken { IsLineOfJson (end_json Broken) }
+{}
+
+/// Each lawful message and each fault has a line.
+#[tactic(auto, using(crate::proofs::EachLine::each_has_line))]
+pub fn each_has_line()
+    ensures { EachHasLine }
 {}
 
 /// An item has one line.
@@ -42,4 +48,10 @@ pub fn texts_need_no_escape()
     ensures epc { (word : ℕ) (text : List ℕ) → IsTextOf word text → inside text ≡ text }
     ensures kind { (kind : Kind) → inside (name_of kind) ≡ name_of kind }
     ensures field { (kind : Kind) → All (λ field. inside field.name ≡ field.name) (fields_of kind) }
+{}
+
+/// The members of an object have different names (RFC 8259, section 4), whichever of them it has.
+#[tactic(auto, using(crate::proofs::MemberNames::names_are_apart))]
+pub fn names_are_apart()
+    ensures { NamesAreApart }
 {}

@@ -20,3 +20,4 @@ mod values;
 
 pub use printer::JsonPrinter;
 pub use show::{list_stream_json, run_show_json};
+pub use values::push_string;

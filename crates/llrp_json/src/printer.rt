@@ -15,10 +15,8 @@ ghost use Rattle.llrp_json.specs.Private.PlainStrings.{is_plain};
 
 use crate::ends::{push_end as push_end_line, push_fault as push_fault_line};
 use crate::openings::opening;
-use crate::values::{
-    push_decimal, push_field, push_field_name, push_inside, push_text, push_value, push_words,
-};
-use llrp_listing::{ItemPrinter, push_hexadecimal};
+use crate::values::{push_field, push_field_name, push_inside, push_value, push_words};
+use llrp_listing::{ItemPrinter, Text};
 use llrp_schema::{Field, Kind, MsgKind, ParamKind, Tail, fields, name};
 use llrp_stream::{End, Listener};
 use llrp_tree::Fault;
@@ -27,7 +25,7 @@ use std::alloc::{AllocError, Global};
 /// Appends the objects of what it receives to a text, and cuts off that of a message that is given up.
 #[derive(Drop)]
 pub struct JsonPrinter {
-    text: Vec<u8>,
+    text: Text,
     /// Where the text of the unfinished message begins.
     mark: usize,
     /// How many nodes are open.
@@ -40,30 +38,30 @@ pub struct JsonPrinter {
 }
 
 /// Appends the members of a message's version and its id.
-fn push_numbers(text: &mut Vec<u8>, version: u8, id: u32) -> Result<(), AllocError>
-    ensures { OnOk result (text.new.items ≡ text.old.items
+fn push_numbers(text: &mut Text, version: u8, id: u32) -> Result<(), AllocError>
+    ensures { OnOk result (text.new ≡ text.old
         ++ more_members (member (codes "version") (decimal version)
         ∷ member (codes "id") (decimal id) ∷ [])) }
 {
-    text.extend_from_slice(b",\"version\":")?;
-    push_decimal(text, version as u128)?;
-    text.extend_from_slice(b",\"id\":")?;
-    push_decimal(text, id as u128)
+    text.push_text(b",\"version\":")?;
+    text.push_number(version as u128)?;
+    text.push_text(b",\"id\":")?;
+    text.push_number(id as u128)
 }
 
 /// Appends what the object of a message begins with, and its name.
-fn push_message_name(text: &mut Vec<u8>, kind: MsgKind) -> Result<(), AllocError>
-    ensures { OnOk result (text.new.items ≡ text.old.items
+fn push_message_name(text: &mut Text, kind: MsgKind) -> Result<(), AllocError>
+    ensures { OnOk result (text.new ≡ text.old
         ++ (123 ∷ member (codes "message") (string (name_of (MessageKind kind))))) }
 {
-    text.extend_from_slice(b"{\"message\":\"")?;
-    text.extend_from_slice(name(Kind::Message(kind)).as_bytes())?;
-    push_text(text, b"\"")
+    text.push_text(b"{\"message\":\"")?;
+    text.push_text(name(Kind::Message(kind)).as_bytes())?;
+    text.push_text(b"\"")
 }
 
 /// Appends what the object of a message begins with.
-fn push_message(text: &mut Vec<u8>, version: u8, kind: MsgKind, id: u32) -> Result<(), AllocError>
-    ensures { (octets : ℕ) → OnOk result (text.new.items ≡ text.old.items
+fn push_message(text: &mut Text, version: u8, kind: MsgKind, id: u32) -> Result<(), AllocError>
+    ensures { (octets : ℕ) → OnOk result (text.new ≡ text.old
         ++ opening (message version kind octets id)) }
 {
     push_message_name(text, kind)?;
@@ -71,30 +69,31 @@ fn push_message(text: &mut Vec<u8>, version: u8, kind: MsgKind, id: u32) -> Resu
 }
 
 /// Appends what the object of a parameter begins with.
-fn push_parameter(text: &mut Vec<u8>, kind: ParamKind) -> Result<(), AllocError>
-    ensures { OnOk result (text.new.items ≡ text.old.items
+fn push_parameter(text: &mut Text, kind: ParamKind) -> Result<(), AllocError>
+    ensures { OnOk result (text.new ≡ text.old
         ++ (123 ∷ member (codes "parameter") (string (name_of (ParameterKind kind))))) }
 {
-    text.extend_from_slice(b"{\"parameter\":\"")?;
-    text.extend_from_slice(name(Kind::Parameter(kind)).as_bytes())?;
-    push_text(text, b"\"")
+    text.push_text(b"{\"parameter\":\"")?;
+    text.push_text(name(Kind::Parameter(kind)).as_bytes())?;
+    text.push_text(b"\"")
 }
 
 /// Appends what comes before a parameter, after others if there are any.
-fn push_separator(text: &mut Vec<u8>, is_parent: bool) -> Result<(), AllocError>
-    ensures { OnOk result (text.new.items ≡ text.old.items ++ before_one_more is_parent) }
+#[inline(always)]
+fn push_separator(text: &mut Text, is_parent: bool) -> Result<(), AllocError>
+    ensures { OnOk result (text.new ≡ text.old ++ before_one_more is_parent) }
 {
     if is_parent {
-        text.extend_from_slice(b",")
+        text.push_text(b",")
     } else {
-        text.extend_from_slice(b",\"parameters\":[")
+        text.push_text(b",\"parameters\":[")
     }
 }
 
 /// Appends what comes before a parameter where nodes are open, and nothing where none is.
-fn push_separator_below(text: &mut Vec<u8>, depth: usize, is_parent: bool) -> Result<(), AllocError>
-    ensures none { depth ≡ 0 → OnOk result (text.new.items ≡ text.old.items) }
-    ensures some { 0 < depth → OnOk result (text.new.items ≡ text.old.items
+fn push_separator_below(text: &mut Text, depth: usize, is_parent: bool) -> Result<(), AllocError>
+    ensures none { depth ≡ 0 → OnOk result (text.new ≡ text.old) }
+    ensures some { 0 < depth → OnOk result (text.new ≡ text.old
         ++ before_one_more is_parent) }
 {
     if depth == 0 {
@@ -114,60 +113,62 @@ fn has_words_after(has_words: bool, octets: &[u8]) -> bool
 }
 
 /// Appends what the object of a node ends with.
-fn push_end(text: &mut Vec<u8>, is_parent: bool) -> Result<(), AllocError>
-    ensures { OnOk result (text.new.items ≡ text.old.items ++ at_end is_parent) }
+#[inline(always)]
+fn push_end(text: &mut Text, is_parent: bool) -> Result<(), AllocError>
+    ensures { OnOk result (text.new ≡ text.old ++ at_end is_parent) }
 {
     if is_parent {
-        text.extend_from_slice(b"]}")
+        text.push_text(b"]}")
     } else {
-        text.extend_from_slice(b"}")
+        text.push_text(b"}")
     }
 }
 
 /// Appends what the member of a tail begins with.
-fn push_tail(text: &mut Vec<u8>, form: Tail) -> Result<(), AllocError>
-    ensures { OnOk result (text.new.items ≡ text.old.items ++ tail_begun form []) }
+fn push_tail(text: &mut Text, form: Tail) -> Result<(), AllocError>
+    ensures { OnOk result (text.new ≡ text.old ++ tail_begun form []) }
 {
     match form {
         Tail::Absent => Ok(()),
-        Tail::Words => push_text(text, b",\"words\":["),
-        Tail::Text => push_text(text, b",\"text\":\""),
-        Tail::Bits => push_text(text, b",\"bits\":\""),
-        Tail::Data => push_text(text, b",\"octets\":\""),
+        Tail::Words => text.push_text(b",\"words\":["),
+        Tail::Text => text.push_text(b",\"text\":\""),
+        Tail::Bits => text.push_text(b",\"bits\":\""),
+        Tail::Data => text.push_text(b",\"octets\":\""),
     }
 }
 
 /// Appends what the member of a tail ends with.
-fn push_tail_end(text: &mut Vec<u8>, form: Tail) -> Result<(), AllocError>
-    ensures { OnOk result (text.new.items ≡ text.old.items ++ tail_end form) }
+fn push_tail_end(text: &mut Text, form: Tail) -> Result<(), AllocError>
+    ensures { OnOk result (text.new ≡ text.old ++ tail_end form) }
 {
     match form {
         Tail::Absent => Ok(()),
-        Tail::Words => text.extend_from_slice(b"]"),
-        Tail::Text | Tail::Bits | Tail::Data => text.extend_from_slice(b"\""),
+        Tail::Words => text.push_text(b"]"),
+        Tail::Text | Tail::Bits | Tail::Data => text.push_text(b"\""),
     }
 }
 
 /// Appends octets of a tail, of which there were some words before or none.
-fn push_octets(text: &mut Vec<u8>, form: Tail, some: bool, octets: &[u8]) -> Result<(), AllocError>
-    ensures { OnOk result (text.new.items ≡ text.old.items ++ more_of form some octets.now) }
+fn push_octets(text: &mut Text, form: Tail, some: bool, octets: &[u8]) -> Result<(), AllocError>
+    ensures { OnOk result (text.new ≡ text.old ++ more_of form some octets.now) }
 {
     match form {
         Tail::Absent => Ok(()),
         Tail::Words => push_words(text, some, octets),
         Tail::Text => push_inside(text, octets),
-        Tail::Bits | Tail::Data => push_hexadecimal(text, octets),
+        Tail::Bits | Tail::Data => text.push_hexadecimal(octets),
     }
 }
 
 /// Appends what the object of a parameter of a type and a value begins with, up to its value.
-fn push_opening(text: &mut Vec<u8>, kind: ParamKind, rule: &Field) -> Result<(), AllocError>
+#[inline(always)]
+fn push_opening(text: &mut Text, kind: ParamKind, rule: &Field) -> Result<(), AllocError>
     requires first { field_name (field_rule rule.now) ≡ first_name (fields_of (ParameterKind kind)) }
     requires named { list_all is_plain (field_rule rule.now).name ≡ true }
-    ensures { OnOk result (text.new.items ≡ text.old.items ++ value_opening kind) }
+    ensures { OnOk result (text.new ≡ text.old ++ value_opening kind) }
 {
     match opening(kind) {
-        Some(octets) => push_text(text, octets),
+        Some(octets) => text.push_text(octets),
         None => {
             push_parameter(text, kind)?;
             push_field_name(text, rule)
@@ -176,36 +177,27 @@ fn push_opening(text: &mut Vec<u8>, kind: ParamKind, rule: &Field) -> Result<(),
 }
 
 /// Appends the object of a parameter of a type and a value.
-fn push_value_parameter(text: &mut Vec<u8>, kind: ParamKind, value: u128) -> Result<(), AllocError>
+#[inline(always)]
+fn push_value_parameter(text: &mut Text, kind: ParamKind, value: u128) -> Result<(), AllocError>
     requires tv { is_tv kind ≡ true }
     requires fits { value < 2 ^ bits_of (fields_of (ParameterKind kind)) }
     ensures { OnOk result ((one : List ℕ)
         × AreParameters (one_parameter kind value) (one ∷ [])
-        × (text.new.items ≡ text.old.items ++ one)) }
+        × (text.new ≡ text.old ++ one)) }
 {
     let rule = &fields(Kind::Parameter(kind))[0];
     push_opening(text, kind, rule)?;
     push_value(text, rule, value)?;
-    push_text(text, b"}")
-}
-
-/// Removes the first octets of a text.
-fn drop_front(text: &mut Vec<u8>, count: usize)
-    requires { count ≤ length text.old.items }
-    ensures { text.new.items ≡ drop count text.old.items }
-{
-    let left = text.len() - count;
-    text.copy_within(count.., 0);
-    text.truncate(left);
+    text.push_text(b"}")
 }
 
 impl JsonPrinter {
     /// A printer that has received nothing; it takes no memory.
     pub fn new(alloc: Global) -> JsonPrinter
-        ensures { Holds result.mark result.depth result.is_parent result.text.items [] [] }
+        ensures { Holds result.mark result.depth result.is_parent result.text [] [] }
     {
         JsonPrinter {
-            text: Vec::new(alloc),
+            text: Text::new(alloc),
             mark: 0,
             depth: 0,
             is_parent: false,
@@ -217,7 +209,7 @@ impl JsonPrinter {
     /// The objects of the messages so far, each with its LF; after them, what is there of one that is
     /// not whole.
     pub fn as_slice(&self) -> &[u8]
-        ensures { result.now ≡ self.now.text.items }
+        ensures { result.now ≡ self.now.text }
     {
         self.text.as_slice()
     }
@@ -228,9 +220,9 @@ impl Listener for JsonPrinter {
     ghost use Rattle.llrp_json.specs.Private.OpenJson.{AppendsMessage, Awaits};
 
     ghost begins = { λ self was t. Awaits self.mark self.depth self.is_parent self.tail self.has_words
-        self.text.items was t };
+        self.text was t };
 
-    ghost stands = { λ self was t. Holds self.mark self.depth self.is_parent self.text.items was t };
+    ghost stands = { λ self was t. Holds self.mark self.depth self.is_parent self.text was t };
 
     ghost ends = { λ self was m now. AppendsMessage m was now };
 
@@ -248,7 +240,7 @@ impl Listener for JsonPrinter {
         Ok(())
     }
 
-    fn parameter(&mut self, _level: u8, kind: ParamKind) -> Result<(), AllocError> {
+    fn parameter(&mut self, _level: u8, kind: ParamKind, _stop: u32) -> Result<(), AllocError> {
         push_separator_below(&mut self.text, self.depth, self.is_parent)?;
         push_parameter(&mut self.text, kind)?;
         self.depth += 1;
@@ -297,8 +289,8 @@ impl Listener for JsonPrinter {
 
     fn end(&mut self) -> Result<(), AllocError> {
         push_end(&mut self.text, self.is_parent)?;
-        self.text.extend_from_slice(b"\n")?;
-        self.mark = self.text.as_slice().len();
+        self.text.push_text(b"\n")?;
+        self.mark = self.text.len();
         self.depth = 0;
         Ok(())
     }
@@ -319,13 +311,13 @@ impl ItemPrinter for JsonPrinter {
 
     fn push_fault(&mut self, id: u32, fault: Fault) -> Result<(), AllocError> {
         push_fault_line(&mut self.text, id, fault)?;
-        self.mark = self.text.as_slice().len();
+        self.mark = self.text.len();
         Ok(())
     }
 
     fn push_end(&mut self, end: End) -> Result<(), AllocError> {
         push_end_line(&mut self.text, end)?;
-        self.mark = self.text.as_slice().len();
+        self.mark = self.text.len();
         Ok(())
     }
 
@@ -334,7 +326,7 @@ impl ItemPrinter for JsonPrinter {
     }
 
     fn drop_whole(&mut self) {
-        drop_front(&mut self.text, self.mark);
+        self.text.drop_front(self.mark);
         self.mark = 0;
     }
 

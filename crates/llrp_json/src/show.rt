@@ -1,7 +1,7 @@
 //! Lists a stream as lines of JSON.
 
 ghost use Rattle.std.specs.Prelude.{◌≤◌, IfErr, IfOk};
-ghost use Rattle.llrp_schema.specs.declared.kinds.Profile.{Profile};
+ghost use Rattle.llrp_schema.specs.declared.kinds.KindSet.{KindSet};
 ghost use Rattle.llrp_stream.specs.Calls.Device.{CanWrite};
 ghost use Rattle.llrp_stream.specs.Device.{IsFreshSink, IsFreshSource};
 ghost use Rattle.llrp_tree.specs.declared.TheConstants.{MAX_LIMIT};
@@ -10,7 +10,7 @@ ghost use Rattle.llrp_json.specs.JsonLines.{ShowsJson};
 
 use crate::printer::JsonPrinter;
 use llrp_listing::{ToolErr, Verdict, list_stream_with, run_show_with};
-use llrp_schema::Profile;
+use llrp_schema::KindSet;
 use llrp_stream::{Sink, Source};
 use std::alloc::Global;
 
@@ -18,7 +18,7 @@ use std::alloc::Global;
 /// `Memory`, after which some first part of the lines was written.
 pub fn list_stream_json<W: Sink>(
     alloc: Global,
-    profile: Profile,
+    set: KindSet,
     stream: &[u8],
     w: &mut W,
     limit: u32,
@@ -26,12 +26,12 @@ pub fn list_stream_json<W: Sink>(
     requires sink { CanWrite (W.log w.old) }
     requires least { 10 ≤ limit }
     requires most { limit ≤ MAX_LIMIT }
-    ensures ok { IfOk result (λ verdict. ListedJson profile limit stream.now (W.log w.old)
+    ensures ok { IfOk result (λ verdict. ListedJson set limit stream.now (W.log w.old)
         (W.log w.new) verdict) }
-    ensures err { IfErr result (λ e. StoppedJson profile limit stream.now (W.log w.old)
+    ensures err { IfErr result (λ e. StoppedJson set limit stream.now (W.log w.old)
         (W.log w.new) e) }
 {
-    list_stream_with(JsonPrinter::new(alloc), profile, stream, w, limit)
+    list_stream_with(JsonPrinter::new(alloc), set, stream, w, limit)
 }
 
 /// Writes a line of JSON for each frame that the source gives, and for an end that is not clean;
@@ -39,7 +39,7 @@ pub fn list_stream_json<W: Sink>(
 /// with the same errors.
 pub fn run_show_json<R: Source, W: Sink>(
     alloc: Global,
-    profile: Profile,
+    set: KindSet,
     r: &mut R,
     w: &mut W,
     limit: u32,
@@ -50,7 +50,7 @@ pub fn run_show_json<R: Source, W: Sink>(
     requires most { limit ≤ MAX_LIMIT }
     // After Ok, the source was read to its end or to a break, and the lines were written; after
     // Err, some first part of them.
-    ensures { ShowsJson profile limit (R.log r.old) (R.log r.new) (W.log w.old) (W.log w.new) result }
+    ensures { ShowsJson set limit (R.log r.old) (R.log r.new) (W.log w.old) (W.log w.new) result }
 {
-    run_show_with(JsonPrinter::new(alloc), profile, r, w, limit)
+    run_show_with(JsonPrinter::new(alloc), set, r, w, limit)
 }

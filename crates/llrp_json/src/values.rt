@@ -11,38 +11,28 @@ ghost use Rattle.llrp_json.specs.JsonItems.{IsValue, field_name};
 ghost use Rattle.llrp_json.specs.Private.OpenJson.{words_after};
 ghost use Rattle.llrp_json.specs.Private.PlainStrings.{is_plain};
 
-use itoa::Buffer;
-use llrp_listing::push_hexadecimal;
+use llrp_listing::Text;
 use llrp_schema::Field;
 use std::alloc::AllocError;
-use tag_bits::Word;
-use tag_uri::put_text_of_word;
 
 /// How many bits the field of an EPC-96 has; no other field has as many.
 const EPC_BITS: u32 = 96;
 
-/// Appends octets.
-pub(crate) fn push_text(text: &mut Vec<u8>, octets: &[u8]) -> Result<(), AllocError>
-    ensures { OnOk result (text.new.items ≡ text.old.items ++ octets.now) }
-{
-    text.extend_from_slice(octets)
-}
-
 /// Appends an octet of a string.
-fn push_escaped(text: &mut Vec<u8>, octet: u8) -> Result<(), AllocError>
-    ensures { OnOk result (text.new.items ≡ text.old.items ++ escaped octet) }
+fn push_escaped(text: &mut Text, octet: u8) -> Result<(), AllocError>
+    ensures { OnOk result (text.new ≡ text.old ++ escaped octet) }
 {
     if octet == b'"' {
-        return text.extend_from_slice(b"\\\"");
+        return text.push_text(b"\\\"");
     }
     if octet == b'\\' {
-        return text.extend_from_slice(b"\\\\");
+        return text.push_text(b"\\\\");
     }
     if octet >= 32 {
-        return text.extend_from_slice(&[octet]);
+        return text.push_text(&[octet]);
     }
-    text.extend_from_slice(b"\\u00")?;
-    push_hexadecimal(text, &[octet])
+    text.push_text(b"\\u00")?;
+    text.push_hexadecimal(&[octet])
 }
 
 /// Whether an octet of a string stands for itself.
@@ -65,8 +55,8 @@ fn are_plain(octets: &[u8]) -> bool
 }
 
 /// Appends what stands between the quotes of a string, octet by octet.
-fn push_each(text: &mut Vec<u8>, octets: &[u8]) -> Result<(), AllocError>
-    ensures { OnOk result (text.new.items ≡ text.old.items ++ inside octets.now) }
+fn push_each(text: &mut Text, octets: &[u8]) -> Result<(), AllocError>
+    ensures { OnOk result (text.new ≡ text.old ++ inside octets.now) }
 {
     for octet in octets {
         push_escaped(text, *octet)?;
@@ -75,104 +65,74 @@ fn push_each(text: &mut Vec<u8>, octets: &[u8]) -> Result<(), AllocError>
 }
 
 /// Appends what stands between the quotes of a string.
-pub(crate) fn push_inside(text: &mut Vec<u8>, octets: &[u8]) -> Result<(), AllocError>
-    ensures { OnOk result (text.new.items ≡ text.old.items ++ inside octets.now) }
+pub(crate) fn push_inside(text: &mut Text, octets: &[u8]) -> Result<(), AllocError>
+    ensures { OnOk result (text.new ≡ text.old ++ inside octets.now) }
 {
     if are_plain(octets) {
-        return push_text(text, octets);
+        return text.push_text(octets);
     }
     push_each(text, octets)
 }
 
-/// Appends a string.
-pub(crate) fn push_string(text: &mut Vec<u8>, octets: &[u8]) -> Result<(), AllocError>
-    ensures { OnOk result (text.new.items ≡ text.old.items ++ string octets.now) }
+/// Appends a string of UTF-8 between quotes.
+pub fn push_string(text: &mut Text, octets: &[u8]) -> Result<(), AllocError>
+    ensures { OnOk result (text.new ≡ text.old ++ string octets.now) }
 {
-    text.extend_from_slice(b"\"")?;
+    text.push_text(b"\"")?;
     push_inside(text, octets)?;
-    text.extend_from_slice(b"\"")
-}
-
-/// Appends a number in decimal.
-pub(crate) fn push_decimal(text: &mut Vec<u8>, number: u128) -> Result<(), AllocError>
-    ensures { OnOk result (text.new.items ≡ text.old.items ++ decimal number) }
-{
-    let mut digits = Buffer::new();
-    text.extend_from_slice(digits.format(number).as_bytes())
-}
-
-/// Appends eight bits as a number in two's complement.
-fn push_signed(text: &mut Vec<u8>, bits: u128) -> Result<(), AllocError>
-    requires { bits < 256 }
-    ensures { OnOk result (text.new.items ≡ text.old.items ++ signed_text bits) }
-{
-    if bits < 128 {
-        return push_decimal(text, bits);
-    }
-    text.extend_from_slice(b"-")?;
-    push_decimal(text, 256 - bits)
-}
-
-/// Appends octets between quotes.
-fn push_quoted(text: &mut Vec<u8>, octets: &[u8]) -> Result<(), AllocError>
-    ensures { OnOk result (text.new.items ≡ text.old.items ++ quoted octets.now) }
-{
-    text.extend_from_slice(b"\"")?;
-    text.extend_from_slice(octets)?;
-    text.extend_from_slice(b"\"")
+    text.push_text(b"\"")
 }
 
 /// Appends the text of an EPC's word, as a string; no octet of it needs an escape.
-fn push_epc(text: &mut Vec<u8>, bits: u128) -> Result<(), AllocError>
+#[inline(always)]
+fn push_epc(text: &mut Text, bits: u128) -> Result<(), AllocError>
     requires { bits < 2 ^ 96 }
     ensures { OnOk result ((epc : List ℕ) × IsTextOf bits epc
-        × (text.new.items ≡ text.old.items ++ string epc)) }
+        × (text.new ≡ text.old ++ string epc)) }
 {
-    let Some(word) = Word::new(bits) else {
-        unreachable!()
-    };
-    let mut room = [0; 64];
-    let end = put_text_of_word(&mut room, 0, word);
-    push_quoted(text, &room[..end])
+    text.push_text(b"\"")?;
+    text.push_epc(bits)?;
+    text.push_text(b"\"")
 }
 
 /// Appends the value of a field.
-pub(crate) fn push_value(text: &mut Vec<u8>, rule: &Field, number: u128) -> Result<(), AllocError>
+#[inline(always)]
+pub(crate) fn push_value(text: &mut Text, rule: &Field, number: u128) -> Result<(), AllocError>
     requires fits { number < 2 ^ rule.now.width }
     requires signed { rule.now.signed ≡ true → rule.now.width ≡ 8 }
     ensures { OnOk result ((value : List ℕ) × IsValue (field_form (field_rule rule.now)) number value
-        × (text.new.items ≡ text.old.items ++ value)) }
+        × (text.new ≡ text.old ++ value)) }
 {
     if rule.width == EPC_BITS {
         push_epc(text, number)
     } else if rule.signed {
-        push_signed(text, number)
+        text.push_signed(number)
     } else {
-        push_decimal(text, number)
+        text.push_number(number)
     }
 }
 
 /// Appends a comma, and the name of a field with its colon.
-pub(crate) fn push_field_name(text: &mut Vec<u8>, rule: &Field) -> Result<(), AllocError>
+pub(crate) fn push_field_name(text: &mut Text, rule: &Field) -> Result<(), AllocError>
     requires { list_all is_plain (field_rule rule.now).name ≡ true }
-    ensures { OnOk result (text.new.items ≡ text.old.items
+    ensures { OnOk result (text.new ≡ text.old
         ++ (44 ∷ (string (field_name (field_rule rule.now)) ++ 58 ∷ []))) }
 {
     if rule.width == EPC_BITS {
-        return push_text(text, b",\"EPC\":");
+        return text.push_text(b",\"EPC\":");
     }
-    text.extend_from_slice(b",\"")?;
-    text.extend_from_slice(rule.name.as_bytes())?;
-    push_text(text, b"\":")
+    text.push_text(b",\"")?;
+    text.push_text(rule.name.as_bytes())?;
+    text.push_text(b"\":")
 }
 
 /// Appends a comma and the member of a field.
-pub(crate) fn push_field(text: &mut Vec<u8>, rule: &Field, number: u128) -> Result<(), AllocError>
+pub(crate) fn push_field(text: &mut Text, rule: &Field, number: u128) -> Result<(), AllocError>
     requires fits { number < 2 ^ rule.now.width }
     requires signed { rule.now.signed ≡ true → rule.now.width ≡ 8 }
     requires named { list_all is_plain (field_rule rule.now).name ≡ true }
     ensures { OnOk result ((value : List ℕ) × IsValue (field_form (field_rule rule.now)) number value
-        × (text.new.items ≡ text.old.items
+        × (text.new ≡ text.old
         ++ (44 ∷ member (field_name (field_rule rule.now)) value))) }
 {
     push_field_name(text, rule)?;
@@ -180,19 +140,19 @@ pub(crate) fn push_field(text: &mut Vec<u8>, rule: &Field, number: u128) -> Resu
 }
 
 /// Appends a word of two octets in decimal.
-fn push_word(text: &mut Vec<u8>, high: u8, low: u8) -> Result<(), AllocError>
-    ensures { OnOk result (text.new.items ≡ text.old.items ++ decimal (256 * high + low)) }
+fn push_word(text: &mut Text, high: u8, low: u8) -> Result<(), AllocError>
+    ensures { OnOk result (text.new ≡ text.old ++ decimal (256 * high + low)) }
 {
-    push_decimal(text, u16::from_be_bytes([high, low]) as u128)
+    text.push_number(u16::from_be_bytes([high, low]) as u128)
 }
 
 /// Appends words of two octets in decimal, each after a comma.
-fn push_other_words(text: &mut Vec<u8>, octets: &[u8]) -> Result<(), AllocError>
-    ensures { OnOk result (text.new.items ≡ text.old.items ++ words_after true octets.now) }
+fn push_other_words(text: &mut Text, octets: &[u8]) -> Result<(), AllocError>
+    ensures { OnOk result (text.new ≡ text.old ++ words_after true octets.now) }
 {
     let mut rest = octets;
     while let [high, low, others @ ..] = rest {
-        text.extend_from_slice(b",")?;
+        text.push_text(b",")?;
         push_word(text, *high, *low)?;
         rest = others;
     }
@@ -200,8 +160,8 @@ fn push_other_words(text: &mut Vec<u8>, octets: &[u8]) -> Result<(), AllocError>
 }
 
 /// Appends words of two octets in decimal, with a comma before each but the first of an array.
-pub(crate) fn push_words(text: &mut Vec<u8>, some: bool, octets: &[u8]) -> Result<(), AllocError>
-    ensures { OnOk result (text.new.items ≡ text.old.items ++ words_after some octets.now) }
+pub(crate) fn push_words(text: &mut Text, some: bool, octets: &[u8]) -> Result<(), AllocError>
+    ensures { OnOk result (text.new ≡ text.old ++ words_after some octets.now) }
 {
     if some {
         return push_other_words(text, octets);

@@ -7,4 +7,4 @@ loop-rest-init c = refl
 
 pub loop-rest-preserved : goal.loop-rest-preserved
 loop-rest-preserved c =
-    words_more _ _ _ _ c.loop-rest.rest.now c.in-len2-up.len_at_least c.loop-rest.invariant c.in_ok-extend_from_slice.ensures.items c.in_ok-push_word.ensures
+    words_more _ _ _ _ c.loop-rest.rest.now c.in-len2-up.len_at_least c.loop-rest.invariant c.in_ok-push_text.ensures c.in_ok-push_word.ensures

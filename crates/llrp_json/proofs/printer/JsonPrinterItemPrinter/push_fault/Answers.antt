@@ -6,4 +6,4 @@ use Rattle.llrp_json.proofs.printer.JsonPrinterItemPrinter.push_fault.Goals as g
 pub returns : goal.returns
 returns c = λ was h.
     let line : List ℕ = fault_json c.args.id c.args.fault ++ 10 ∷ [] in
-    (line, refl, more_held c.args.self.now.mark _ c.args.self.now.depth c.args.self.now.is_parent c.args.self.now.text.items _ was line h c.in_ok-push_fault.ensures (ap (λ (x : List ℕ). length x) c.as_slice.ensures.value))
+    (line, refl, more_held c.args.self.now.mark _ c.args.self.now.depth c.args.self.now.is_parent c.args.self.now.text _ was line h c.in_ok-push_fault.ensures c.len-self.ensures)

@@ -1,0 +1,11 @@
+pub mod FieldTexts
+pub mod KindNames
+pub mod LineSteps
+pub mod MemberFaults
+pub mod MemberLemmas
+pub mod MessageSteps
+pub mod NumberTexts
+pub mod Parameters
+pub mod ReadableFields
+pub mod SignedTexts
+pub mod WordTexts
