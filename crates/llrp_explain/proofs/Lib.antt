@@ -1,0 +1,2 @@
+pub mod LineDigits
+pub mod KindTextLemmas

@@ -1,0 +1,4 @@
+-- What public contracts say that no promise of README rests on.
+pub mod ExplainLines
+pub mod ExplainText
+pub mod KindTexts

@@ -1,0 +1,24 @@
+//! Laws of the lines of a message and of an open tree.
+
+ghost use Rattle.std.specs.Prelude.{◌≡◌, ℕ, ◌*◌, List, length};
+ghost use Rattle.llrp_tree.specs.Tree.{MessageTree};
+ghost use Rattle.llrp_tree.specs.OpenTree.{Begun, covers};
+ghost use Rattle.llrp_tree.specs.Frame.{Frame};
+ghost use Rattle.llrp_tree.specs.Spelling.{message_digits};
+ghost use Rattle.tag_bits.specs.Digits.{digits_of_bytes};
+ghost use Rattle.llrp_explain.specs.Calls.ExplainLines.{ExplainLine, digits_of_lines, bits_of_lines, message_lines, open_lines};
+
+/// The digits of the lines, joined, are those of the message, and of what an open tree covers.
+pub fn lines_are_digits()
+    ensures message { (m : MessageTree) → digits_of_lines (message_lines m) ≡ message_digits m }
+    ensures open { (t : List Begun) → digits_of_lines (open_lines t) ≡ covers t }
+    ensures widths { (lines : List ExplainLine) → bits_of_lines lines ≡ length (digits_of_lines lines) }
+{}
+
+/// The widths of the lines of a frame's message add up to eight times its octets, and their digits are its digits.
+pub fn lines_are_frame()
+    ensures digits { (m : MessageTree) (bytes : List ℕ) (limit : ℕ) → Frame m bytes limit
+        → digits_of_lines (message_lines m) ≡ digits_of_bytes bytes }
+    ensures bits { (m : MessageTree) (bytes : List ℕ) (limit : ℕ) → Frame m bytes limit
+        → bits_of_lines (message_lines m) ≡ 8 * length bytes }
+{}

@@ -1,0 +1,18 @@
+//! Messages of LLRP with every bit accounted for: a line for each field in the order of a frame's bits. And what the tables say of each
+//! kind, as lines for people.
+//!
+//! Use it where a person asks what a message or parameter is made of: [`line_of`] gives the line of one kind by its name, and [`table`]
+//! those of a set.
+//!
+//! ```
+//! let line = line_of(alloc, KindSet::Profile, b"AntennaID")?; // 1 AntennaID: AntennaID 16; -; in TagReportData
+//! ```
+#![tactic(auto)]
+
+mod kind_texts;
+pub mod laws;
+pub mod push;
+mod rows;
+
+pub use kind_texts::push_kind;
+pub use rows::{kinds_of, line_of, table};
