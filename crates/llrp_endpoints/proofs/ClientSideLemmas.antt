@@ -9,14 +9,14 @@ use Rattle.llrp_endpoints.specs.declared.course.Phase.TheVariants.{Open, Closed}
 use Rattle.llrp_listing.specs.Calls.Copying.{Given, Writes}
 use Rattle.llrp_listing.specs.Copying.{WasGiven}
 use Rattle.llrp_endpoints.specs.Private.EndsStand.{spoken, heard, ReadsNone, ClientStands, ClientStops}
-use Rattle.llrp_endpoints.specs.Gathering.{Course}
+use Rattle.llrp_endpoints.specs.Gathering.{Course, new_course}
 use Rattle.llrp_endpoints.specs.Calls.GatheringStands.{IsOpen, Counts, Moves, MovesSome, Feeds, phase_left}
 use Rattle.llrp_endpoints.specs.Plan.{Plan}
 use Rattle.llrp_endpoints.specs.RunInventory.{Says, Ended, BeginsSaying}
 use Rattle.llrp_endpoints.specs.RunLoop.{BothEnds, Traffic, SaidAll, ClientAwaits}
-use Rattle.llrp_stream.proofs.WritingLemmas.{wrote_more, wrote_then_failed}
+use Rattle.llrp_stream.proofs.WritingLemmas.{wrote_nothing, wrote_more, wrote_then_failed}
 use Rattle.llrp_endpoints.proofs.HearingLemmas.{Hearing, hearing_none, hearing_more, was_given}
-use Rattle.llrp_endpoints.proofs.InventoryLemmas.{goes_on_saying, says_so_far, awaits, only_write, front_behind}
+use Rattle.llrp_endpoints.proofs.InventoryLemmas.{says_nothing, goes_on_saying, says_so_far, awaits, only_write, front_behind}
 
 -- ---- what it says
 
@@ -33,6 +33,7 @@ moves_apart c d o0 o1 r0 r1 m = record {
   sent_are = m.sent_are;
   reports_are = m.reports_are;
   form_is = m.form_is;
+  asides_are = m.asides_are;
   frames = record { text = m.frames.text; frames = m.frames.frames; whole = refl };
   are = m.are;
   printed = m.printed;
@@ -47,6 +48,7 @@ moves_some_apart c d o0 o1 r0 r1 m = record {
   sent_are = m.sent_are;
   reports_are = m.reports_are;
   form_is = m.form_is;
+  asides_are = m.asides_are;
   frames = record { first = m.frames.first; later = m.frames.later; parts = m.frames.parts; adds = record { text = m.frames.adds.text; frames = m.frames.adds.frames; whole = refl } };
   are = m.are;
   printed = m.printed;
@@ -191,6 +193,18 @@ pub record ClientSoFar (e : BothEnds) (s0 s1 : SourceLog) (p0 p1 : SinkLog) (wri
   pub bytes : List ℕ
   pub hearing : Hearing s0 s1 read bytes count left reads1
   pub stands : ClientStands e written (read ++ bytes) p0 p1 g out lines
+
+-- a client before any byte came
+pub client_new : (e : BothEnds) (log : SinkLog) (limit : ℕ) (plan : Plan) (g : Gathering) (said lines : List ℕ) → e.limit ≡ limit → e.plan ≡ plan → IsOpen limit plan [] [] (new_course limit plan) g → said ≡ [] → lines ≡ [] → ClientStands e [] [] log log g said lines
+client_new e log limit plan g said lines p q opened none_said none = record {
+  rest = [];
+  course = new_course e.limit e.plan;
+  open_still = subst (λ (n : ℕ). IsOpen n e.plan [] [] (new_course n e.plan) g) (sym p) (subst (λ (x : Plan). IsOpen limit x [] [] (new_course limit x) g) (sym q) opened);
+  text = [];
+  says = subst (λ (x : List ℕ). Says (new_course e.limit e.plan) x []) (sym none_said) (says_nothing e.limit e.plan);
+  wrote = wrote_nothing log;
+  none_left = none;
+}
 
 pub client_begins : (e : BothEnds) (s0 s1 : SourceLog) (p0 p1 : SinkLog) (written read : List ℕ) (count reads : ℕ) (g : Gathering) (out lines : List ℕ) → ClientStands e written read p0 p1 g out lines → Given s0 s1 reads read
     → ClientSoFar e s0 s1 p0 p1 written read count count reads g out lines

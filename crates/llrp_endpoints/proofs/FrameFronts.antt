@@ -2,7 +2,7 @@
 use Rattle.std.proofs.Common.{◌≡◌, ℕ, ◌+◌, ◌<◌, inl, inr, List, [], ◌∷◌, ◌++◌, map, length, drop, refl, sym, ap, ap₂, subst, ◌∙◌, arith, append_assoc}
 use Rattle.std.specs.List.{AllZip}
 use Rattle.std.proofs.lemmas.List.{drop_at, length-append, append-nil}
-use Rattle.llrp_schema.specs.declared.kinds.Profile.TheVariants.{Own}
+use Rattle.llrp_schema.specs.declared.kinds.KindSet.TheVariants.{Profile}
 use Rattle.llrp_tree.specs.declared.TheConstants.{MAX_LIMIT}
 use Rattle.llrp_tree.specs.Tree.{MessageTree}
 use Rattle.llrp_tree.specs.Frame.{Frame}
@@ -133,8 +133,8 @@ one_list a b xs ys own_a own_b p q e =
     clean : (messages : List MessageTree) (frames : List (List ℕ)) → AreOwn messages → AllZip (λ m frame. Frame m frame MAX_LIMIT) messages frames → Items MAX_LIMIT (joined frames) (map Msg messages) Clean
     clean messages frames own each = record {
       frames = frames;
-      cut = record { tail = []; whole = sym (append-nil (joined frames)); each = spellings.are_frames Own MAX_LIMIT messages frames (are_spelled messages frames own each); ends = refl };
-      each = spellings.are_items Own MAX_LIMIT messages frames (are_spelled messages frames own each);
+      cut = record { tail = []; whole = sym (append-nil (joined frames)); each = spellings.are_frames Profile MAX_LIMIT messages frames (are_spelled messages frames own each); ends = refl };
+      each = spellings.are_items Profile MAX_LIMIT messages frames (are_spelled messages frames own each);
     }
 
 -- ---- bytes are read in one way

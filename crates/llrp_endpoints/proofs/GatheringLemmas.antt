@@ -1,7 +1,7 @@
 -- How a client goes on with its plan.
-use Rattle.std.proofs.Common.{◌≡◌, ℕ, Bool, true, false, List, [], ◌∷◌, ◌++◌, map, refl, sym, ap, subst, ◌∙◌, append_assoc, Err, Ok}
+use Rattle.std.proofs.Common.{◌≡◌, ℕ, Bool, true, false, List, [], ◌∷◌, ◌++◌, refl, sym, ap, subst, ◌∙◌, append_assoc, Err, Ok}
 use Rattle.std.specs.Prelude.{Result}
-use Rattle.std.proofs.lemmas.List.{append-nil, map-append}
+use Rattle.std.proofs.lemmas.List.{append-nil}
 use Rattle.std.proofs.lemmas.List.Concat.{flat_map-append}
 use Rattle.llrp_tree.specs.Tree.{Tree, MessageTree}
 use Rattle.llrp_session.specs.declared.types.Command.{Command}
@@ -10,6 +10,7 @@ use Rattle.llrp_session.specs.declared.client.refusal.CmdFault.TheVariants as cm
 use Rattle.llrp_session.specs.Calls.ClientSteps.{IsCmdFault}
 use Rattle.llrp_session.specs.ClientMachine.{Client, Sending, command}
 use Rattle.llrp_session.specs.ClientMessages.{client_message}
+use Rattle.llrp_endpoints.specs.Asides.{Asides, before, said_for, all_said}
 use Rattle.llrp_session.specs.Refusal.{Refusal}
 use Rattle.llrp_session.specs.Contents.{ClientMessage}
 use Rattle.llrp_listing.specs.declared.outcome.ToolErr.{ToolErr}
@@ -66,14 +67,15 @@ some_more a b o0 o1 o2 p q = record {
 -- ---- moves
 
 -- nothing was sent or printed
-pub still : (c d : Course) (o r : List ℕ) → d.sent ≡ c.sent → d.reports ≡ c.reports → d.form ≡ c.form → closing_text c.form d.phase d.reports ≡ [] → Moves c d o o r r
-still c d o r s p f e = record {
+pub still : (c d : Course) (o r : List ℕ) → d.sent ≡ c.sent → d.reports ≡ c.reports → d.form ≡ c.form → d.asides ≡ c.asides → closing_text c.form d.phase d.reports ≡ [] → Moves c d o o r r
+still c d o r s p f a e = record {
   messages = [];
   reports = [];
   lines = [];
   sent_are = s ∙ sym (append-nil c.sent);
   reports_are = p ∙ sym (append-nil c.reports);
   form_is = f;
+  asides_are = a;
   frames = adds_none o;
   are = reports_none c.form;
   printed = sym (append-nil r) ∙ ap (λ (x : List ℕ). r ++ x) (sym e);
@@ -94,8 +96,9 @@ moves_on c d e o0 o1 o2 r0 r1 r2 p opened q =
       lines = p.lines ++ q.lines;
       sent_are = q.sent_are ∙ ap (λ (x : List ClientMessage). x ++ q.messages) p.sent_are ∙ append_assoc c.sent p.messages q.messages;
       reports_are = q.reports_are ∙ ap (λ (x : List (List Tree)). x ++ q.reports) p.reports_are ∙ append_assoc c.reports p.reports q.reports;
-      frames = rw (map-append client_message p.messages q.messages) (adds_more (map client_message p.messages) (map client_message q.messages) o0 o1 o2 p.frames q.frames);
+      frames = rw (flat_map-append (said_for c.asides) p.messages q.messages) (adds_more (all_said c.asides p.messages) (all_said c.asides q.messages) o0 o1 o2 p.frames (subst (λ (a : Asides). Adds (all_said a q.messages) o1 o2) p.asides_are q.frames));
       form_is = q.form_is ∙ p.form_is;
+      asides_are = q.asides_are ∙ p.asides_are;
       are = reports_append c.form p.reports q.reports p.lines q.lines p.are are;
       printed = printed ∙ ap (λ (x : List ℕ). x ++ (q.lines ++ last)) before ∙ append_assoc r0 p.lines (q.lines ++ last) ∙ ap (λ (x : List ℕ). r0 ++ x) (sym (append_assoc p.lines q.lines last));
     }
@@ -111,15 +114,16 @@ moves_some c d e o0 o1 o2 r0 r1 r2 p opened q =
       sent_are = q.sent_are ∙ ap (λ (x : List ClientMessage). x ++ q.messages) p.sent_are ∙ append_assoc c.sent p.messages q.messages;
       reports_are = q.reports_are ∙ ap (λ (x : List (List Tree)). x ++ (q.reports ++ q.later)) p.reports_are ∙ append_assoc c.reports p.reports (q.reports ++ q.later)
           ∙ ap (λ (x : List (List Tree)). c.reports ++ x) (sym (append_assoc p.reports q.reports q.later));
-      frames = rw (map-append client_message p.messages q.messages) (some_more (map client_message p.messages) (map client_message q.messages) o0 o1 o2 p.frames q.frames);
+      frames = rw (flat_map-append (said_for c.asides) p.messages q.messages) (some_more (all_said c.asides p.messages) (all_said c.asides q.messages) o0 o1 o2 p.frames (subst (λ (a : Asides). AddsSome (all_said a q.messages) o1 o2) p.asides_are q.frames));
       form_is = q.form_is ∙ p.form_is;
+      asides_are = q.asides_are ∙ p.asides_are;
       are = reports_append c.form p.reports q.reports p.lines q.lines p.are (subst (λ (f : LineForm). AreReports f q.reports q.lines) p.form_is q.are);
       printed = q.printed ∙ ap (λ (x : List ℕ). x ++ q.lines) before ∙ append_assoc r0 p.lines q.lines;
     }
 
 -- memory ran out before anything was appended
-pub none_moved : (c d : Course) (o r : List ℕ) (messages : List ClientMessage) (reports : List (List Tree)) → d.sent ≡ c.sent ++ messages → d.reports ≡ c.reports ++ reports → d.form ≡ c.form → MovesSome c d o o r r
-none_moved c d o r messages reports s p f = record {
+pub none_moved : (c d : Course) (o r : List ℕ) (messages : List ClientMessage) (reports : List (List Tree)) → d.sent ≡ c.sent ++ messages → d.reports ≡ c.reports ++ reports → d.form ≡ c.form → d.asides ≡ c.asides → MovesSome c d o o r r
+none_moved c d o r messages reports s p f a = record {
   messages = messages;
   reports = [];
   later = reports;
@@ -127,7 +131,8 @@ none_moved c d o r messages reports s p f = record {
   sent_are = s;
   reports_are = p;
   form_is = f;
-  frames = some_none (map client_message messages) o;
+  asides_are = a;
+  frames = some_none (all_said c.asides messages) o;
   are = reports_none c.form;
   printed = sym (append-nil r);
 }
@@ -151,6 +156,11 @@ does_after c d e g o0 o1 o2 r0 r1 r2 (Ok false) p opened q = (q.0, q.1, moves_on
 does_after c d e g o0 o1 o2 r0 r1 r2 (Ok true) p opened q = (q.0, q.1, moves_on c d e o0 o1 o2 r0 r1 r2 p opened q.2)
 does_after c d e g o0 o1 o2 r0 r1 r2 (Err error) p opened q = stops_after c d e o0 o1 o2 r0 r1 r2 error p opened q
 
+-- ---- what is said besides
+
+said_once : (a : Asides) (m : ClientMessage) → before a m.word ++ client_message m ∷ [] ≡ all_said a (m ∷ [])
+said_once a m = sym (append-nil (before a m.word ++ client_message m ∷ []))
+
 -- ---- the next step
 
 -- no step is left
@@ -159,25 +169,25 @@ none_left c g left o r h opened before now =
     let none : c.left ≡ [] = sym h.left_is ∙ before in
     let same : c ≡ send_next c = ap (λ (ks : List Step). steps_on ks c) (sym none) in
     subst (λ (d : Course). Does c d (record g { left = left }) o o r r (Ok false)) same
-    (opened, record { client_is = h.client_is; form_is = h.form_is; left_is = now ∙ sym none; awaits_is = h.awaits_is; counts = h.counts }, still c c o r refl refl refl (open_text c.form c.phase c.reports opened))
+    (opened, record { client_is = h.client_is; form_is = h.form_is; asides_are = h.asides_are; left_is = now ∙ sym none; awaits_is = h.awaits_is; counts = h.counts }, still c c o r refl refl refl refl (open_text c.form c.phase c.reports opened))
 
 -- the next command is this one
 next_is : (c : Course) (client : Client) (k : Command) (left : List Step) → client ≡ c.client → c.left ≡ Send k ∷ left → sends_by (command client k) k left c ≡ send_next c
 next_is c client k left e l = ap (λ (a : Client). sends_by (command a k) k left c) e ∙ ap (λ (ks : List Step). steps_on ks c) (sym l)
 
 refused_by : (step : Result Sending Refusal) (fault : CmdFault) (c : Course) (g : Gathering) (k : Command) (left : List Step) (o r : List ℕ) → IsCmdFault step fault → Does c (sends_by step k left c) g o o r r (Err (error_by_command fault))
-refused_by (Ok sending) cmd.Memory c g k left o r h = none_moved c (sends_by (Ok sending) k left c) o r (sending.message ∷ []) [] refl (sym (append-nil c.reports)) refl
+refused_by (Ok sending) cmd.Memory c g k left o r h = none_moved c (sends_by (Ok sending) k left c) o r (sending.message ∷ []) [] refl (sym (append-nil c.reports)) refl refl
 refused_by (Ok sending) cmd.Closed c g k left o r h = cc
 refused_by (Ok sending) cmd.NotReady c g k left o r h = cc
 refused_by (Ok sending) cmd.Busy c g k left o r h = cc
 refused_by (Ok sending) cmd.OverLimit c g k left o r h = cc
 refused_by (Ok sending) cmd.IdsSpent c g k left o r h = cc
 refused_by (Err refusal) cmd.Memory c g k left o r h = cc
-refused_by (Err refusal) cmd.Closed c g k left o r h = (refl, still c (ends (Failed Strange) c) o r refl refl refl refl)
-refused_by (Err refusal) cmd.NotReady c g k left o r h = (refl, still c (ends (Failed Strange) c) o r refl refl refl refl)
-refused_by (Err refusal) cmd.Busy c g k left o r h = (refl, still c (ends (Failed Strange) c) o r refl refl refl refl)
-refused_by (Err refusal) cmd.OverLimit c g k left o r h = (refl, still c (ends (Failed Strange) c) o r refl refl refl refl)
-refused_by (Err refusal) cmd.IdsSpent c g k left o r h = (refl, still c (ends (Failed Strange) c) o r refl refl refl refl)
+refused_by (Err refusal) cmd.Closed c g k left o r h = (refl, still c (ends (Failed Strange) c) o r refl refl refl refl refl)
+refused_by (Err refusal) cmd.NotReady c g k left o r h = (refl, still c (ends (Failed Strange) c) o r refl refl refl refl refl)
+refused_by (Err refusal) cmd.Busy c g k left o r h = (refl, still c (ends (Failed Strange) c) o r refl refl refl refl refl)
+refused_by (Err refusal) cmd.OverLimit c g k left o r h = (refl, still c (ends (Failed Strange) c) o r refl refl refl refl refl)
+refused_by (Err refusal) cmd.IdsSpent c g k left o r h = (refl, still c (ends (Failed Strange) c) o r refl refl refl refl refl)
 
 -- the client refused it
 pub refused : (c : Course) (old new : Gathering) (k : Command) (left : List Step) (fault : CmdFault) (o r : List ℕ) → Holds c old → steps_left old.left ≡ Send k ∷ left → IsCmdFault (command old.client k) fault
@@ -191,7 +201,7 @@ sent_one c old k left sending h l e = ap (λ (a : Result Sending Refusal). sends
 
 -- its frame was appended in part
 pub sent_some : (c : Course) (old new : Gathering) (k : Command) (left : List Step) (sending : Sending) (messages : List MessageTree) (o0 o1 r : List ℕ) → Holds c old → steps_left old.left ≡ Send k ∷ left → command old.client k ≡ Ok sending
-    → messages ≡ client_message sending.message ∷ [] → AddsSome messages o0 o1 → Does c (send_next c) new o0 o1 r r (Err Memory)
+    → messages ≡ before c.asides sending.message.word ++ client_message sending.message ∷ [] → AddsSome messages o0 o1 → Does c (send_next c) new o0 o1 r r (Err Memory)
 sent_some c old new k left sending messages o0 o1 r h l e m a =
     subst (λ (d : Course). Does c d new o0 o1 r r (Err Memory)) (sent_one c old k left sending h l e)
     (record {
@@ -202,20 +212,21 @@ sent_some c old new k left sending messages o0 o1 r h l e m a =
       sent_are = refl;
       reports_are = sym (append-nil c.reports);
       form_is = refl;
-      frames = subst (λ (ms : List MessageTree). AddsSome ms o0 o1) m a;
+      asides_are = refl;
+      frames = subst (λ (ms : List MessageTree). AddsSome ms o0 o1) (m ∙ said_once c.asides sending.message) a;
       are = reports_none c.form;
       printed = sym (append-nil r);
     })
 
 -- it was sent
 pub sent_all : (c : Course) (old : Gathering) (new : RemainingCommands) (k : Command) (sending : Sending) (messages : List MessageTree) (o0 o1 r : List ℕ) → Holds c old → c.phase ≡ Open → steps_left old.left ≡ Send k ∷ steps_left new → command old.client k ≡ Ok sending
-    → messages ≡ client_message sending.message ∷ [] → Adds messages o0 o1
+    → messages ≡ before c.asides sending.message.word ++ client_message sending.message ∷ [] → Adds messages o0 o1
     → Does c (send_next c) (record old { left = new; client = sending.client; awaits = awaited_after (Send k) }) o0 o1 r r (Ok false)
 sent_all c old new k sending messages o0 o1 r h opened l e m a =
     let g = record old { left = new; client = sending.client; awaits = awaited_after (Send k) } in
     subst (λ (d : Course). Does c d (record old { left = new; client = sending.client; awaits = awaited_after (Send k) }) o0 o1 r r (Ok false)) (sent_one c old k (steps_left new) sending h l e) (
       opened,
-      record { client_is = refl; form_is = h.form_is; left_is = refl; awaits_is = refl; counts = h.counts },
+      record { client_is = refl; form_is = h.form_is; asides_are = h.asides_are; left_is = refl; awaits_is = refl; counts = h.counts },
       record {
         messages = sending.message ∷ [];
         reports = [];
@@ -223,7 +234,8 @@ sent_all c old new k sending messages o0 o1 r h opened l e m a =
         sent_are = refl;
         reports_are = sym (append-nil c.reports);
         form_is = refl;
-        frames = subst (λ (ms : List MessageTree). Adds ms o0 o1) m a;
+        asides_are = refl;
+        frames = subst (λ (ms : List MessageTree). Adds ms o0 o1) (m ∙ said_once c.asides sending.message) a;
         are = reports_none c.form;
         printed = sym (append-nil r) ∙ ap (λ (x : List ℕ). r ++ x) (sym (open_text c.form c.phase c.reports opened));
       },
@@ -243,6 +255,6 @@ awaits_tags c old new step o r h opened l is =
     let awaits : awaited_after step ≡ TaggedReport = ap awaited_after is in
     subst (λ (d : Course). Does c d (record old { left = new; awaits = awaited_after step }) o o r r (Ok false)) same (
       opened,
-      record { client_is = h.client_is; form_is = h.form_is; left_is = refl; awaits_is = awaits; counts = h.counts },
-      still c (takes_step AwaitTags (steps_left new) c) o r refl refl refl (open_text c.form c.phase c.reports opened),
+      record { client_is = h.client_is; form_is = h.form_is; asides_are = h.asides_are; left_is = refl; awaits_is = awaits; counts = h.counts },
+      still c (takes_step AwaitTags (steps_left new) c) o r refl refl refl refl (open_text c.form c.phase c.reports opened),
     )

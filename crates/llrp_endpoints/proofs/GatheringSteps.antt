@@ -1,7 +1,8 @@
 -- What a client that follows a plan makes of a message.
 use Rattle.std.proofs.Common.{◌≡◌, ℕ, ◌+◌, ◌==◌, Bool, true, false, List, [], ◌∷◌, ◌++◌, length, map, min, refl, inl, inr, sym, ap, subst, ◌∙◌, append_assoc, arith, Err, Ok}
 use Rattle.std.specs.Prelude.{Result, ◌⊎◌, if◌then◌else◌}
-use Rattle.std.proofs.lemmas.List.{append-nil, map-append, length-append}
+use Rattle.std.proofs.lemmas.List.{append-nil, length-append}
+use Rattle.std.proofs.lemmas.List.Concat.{flat_map-append}
 use Rattle.llrp_tree.specs.Tree.{Tree, MessageTree}
 use Rattle.llrp_tree.specs.declared.fault.Reason.{Reason}
 use Rattle.llrp_tree.specs.declared.fault.Reason.TheVariants.{Reserved, Version, MessageType, MessageLength, Short, Value, Count, Utf8, ParamType, Misplaced, TooMany, TooDeep, ParamLength, Extra, Missing}
@@ -16,6 +17,7 @@ use Rattle.llrp_session.specs.declared.client.refusal.TakeFault.TheVariants as t
 use Rattle.llrp_session.specs.Calls.ClientSteps.{IsTakeFault}
 use Rattle.llrp_session.specs.ClientMachine.{Sending, Taking, command}
 use Rattle.llrp_session.specs.ClientMessages.{client_message}
+use Rattle.llrp_endpoints.specs.Asides.{Asides, before, said_for, all_said}
 use Rattle.llrp_session.specs.Refusal.{Refusal}
 use Rattle.llrp_session.specs.Contents.{ClientMessage}
 use Rattle.llrp_listing.specs.declared.outcome.ToolErr.{ToolErr}
@@ -44,17 +46,18 @@ pub record More (c d : Course) : Type 0 where
   pub sent_are : d.sent ≡ c.sent ++ messages
   pub reports_are : d.reports ≡ c.reports ++ reports
   pub form_is : d.form ≡ c.form
+  pub asides_are : d.asides ≡ c.asides
 
 pub no_more : (c : Course) → More c c
-no_more c = record { messages = []; reports = []; sent_are = sym (append-nil c.sent); reports_are = sym (append-nil c.reports); form_is = refl }
+no_more c = record { messages = []; reports = []; sent_are = sym (append-nil c.sent); reports_are = sym (append-nil c.reports); form_is = refl; asides_are = refl }
 
 sends_by_more : (step : Result Sending Refusal) (k : Command) (left : List Step) (c : Course) → More c (sends_by step k left c)
-sends_by_more (Ok sending) k left c = record { messages = sending.message ∷ []; reports = []; sent_are = refl; reports_are = sym (append-nil c.reports); form_is = refl }
-sends_by_more (Err refusal) k left c = record { messages = []; reports = []; sent_are = sym (append-nil c.sent); reports_are = sym (append-nil c.reports); form_is = refl }
+sends_by_more (Ok sending) k left c = record { messages = sending.message ∷ []; reports = []; sent_are = refl; reports_are = sym (append-nil c.reports); form_is = refl; asides_are = refl }
+sends_by_more (Err refusal) k left c = record { messages = []; reports = []; sent_are = sym (append-nil c.sent); reports_are = sym (append-nil c.reports); form_is = refl; asides_are = refl }
 
 step_more : (step : Step) (left : List Step) (c : Course) → More c (takes_step step left c)
 step_more (Send k) left c = sends_by_more (command c.client k) k left c
-step_more AwaitTags left c = record { messages = []; reports = []; sent_are = sym (append-nil c.sent); reports_are = sym (append-nil c.reports); form_is = refl }
+step_more AwaitTags left c = record { messages = []; reports = []; sent_are = sym (append-nil c.sent); reports_are = sym (append-nil c.reports); form_is = refl; asides_are = refl }
 
 steps_more : (ss : List Step) (c : Course) → More c (steps_on ss c)
 steps_more [] c = no_more c
@@ -74,31 +77,32 @@ more_more c d e p q = record {
   sent_are = q.sent_are ∙ ap (λ (x : List ClientMessage). x ++ q.messages) p.sent_are ∙ append_assoc c.sent p.messages q.messages;
   reports_are = q.reports_are ∙ ap (λ (x : List (List Tree)). x ++ q.reports) p.reports_are ∙ append_assoc c.reports p.reports q.reports;
   form_is = q.form_is ∙ p.form_is;
+  asides_are = q.asides_are ∙ p.asides_are;
 }
 
 tags_more : (tags : List Tree) (c : Course) → More c (reported c.awaits tags (record c { reports = c.reports ++ tags ∷ [] }))
 tags_more tags c =
     let d : Course = record c { reports = c.reports ++ tags ∷ [] } in
-    more_more c d (reported c.awaits tags d) (record { messages = []; reports = tags ∷ []; sent_are = sym (append-nil c.sent); reports_are = refl; form_is = refl }) (reported_more c.awaits tags d)
+    more_more c d (reported c.awaits tags d) (record { messages = []; reports = tags ∷ []; sent_are = sym (append-nil c.sent); reports_are = refl; form_is = refl; asides_are = refl }) (reported_more c.awaits tags d)
 
 status_more : (fine : Bool) (status : ℕ) (c : Course) → More c (if fine then send_next c else ends (Failed (Peer status)) c)
 status_more true status c = steps_more c.left c
-status_more false status c = record { messages = []; reports = []; sent_are = sym (append-nil c.sent); reports_are = sym (append-nil c.reports); form_is = refl }
+status_more false status c = record { messages = []; reports = []; sent_are = sym (append-nil c.sent); reports_are = sym (append-nil c.reports); form_is = refl; asides_are = refl }
 
 pub after_more : (taken : Taken) (c : Course) → More c (after taken c)
 after_more Connected c = steps_more c.left c
-after_more (Refused status) c = record { messages = []; reports = []; sent_are = sym (append-nil c.sent); reports_are = sym (append-nil c.reports); form_is = refl }
+after_more (Refused status) c = record { messages = []; reports = []; sent_are = sym (append-nil c.sent); reports_are = sym (append-nil c.reports); form_is = refl; asides_are = refl }
 after_more (Reply status) c = status_more (status == 0) status c
 after_more (Tags tags) c = tags_more tags c
 after_more (Table rospecs) c = steps_more c.left c
-after_more (Differs rospecs) c = record { messages = []; reports = []; sent_are = sym (append-nil c.sent); reports_are = sym (append-nil c.reports); form_is = refl }
+after_more (Differs rospecs) c = record { messages = []; reports = []; sent_are = sym (append-nil c.sent); reports_are = sym (append-nil c.reports); form_is = refl; asides_are = refl }
 after_more (Event id state) c = no_more c
 after_more Note c = no_more c
 after_more Kept c = no_more c
-after_more ConnectionEnded c = record { messages = []; reports = []; sent_are = sym (append-nil c.sent); reports_are = sym (append-nil c.reports); form_is = refl }
+after_more ConnectionEnded c = record { messages = []; reports = []; sent_are = sym (append-nil c.sent); reports_are = sym (append-nil c.reports); form_is = refl; asides_are = refl }
 
 pub out_of_memory : (c d : Course) (o r : List ℕ) → More c d → MovesSome c d o o r r
-out_of_memory c d o r m = none_moved c d o r m.messages m.reports m.sent_are m.reports_are m.form_is
+out_of_memory c d o r m = none_moved c d o r m.messages m.reports m.sent_are m.reports_are m.form_is m.asides_are
 
 -- ---- reports
 
@@ -125,6 +129,7 @@ pub counted : (c : Course) (g : Gathering) (list : List Tree) (s : Summary) → 
 counted c g list s h a b = record {
   client_is = h.client_is;
   form_is = h.form_is;
+  asides_are = h.asides_are;
   left_is = h.left_is;
   awaits_is = h.awaits_is;
   counts = same_summary s _ _ (more_tags c.reports list g.summary.tags s.tags (ap (λ (x : Summary). x.tags) h.counts) a) (more_reports c.reports list g.summary.reports s.reports (ap (λ (x : Summary). x.reports) h.counts) b);
@@ -138,6 +143,7 @@ lines_printed c tags text o r opened are = record {
   sent_are = sym (append-nil c.sent);
   reports_are = refl;
   form_is = refl;
+  asides_are = refl;
   frames = adds_none o;
   are = reports_one c.form tags text are;
   printed = ap (λ (x : List ℕ). r ++ x) (sym (append-nil text) ∙ ap (λ (x : List ℕ). text ++ x) (sym (open_text c.form c.phase (c.reports ++ tags ∷ []) opened)));
@@ -188,7 +194,7 @@ early_there a (inr (inr e)) = rw e refl
 pub ended_early : (c : Course) (g : Gathering) (o r : List ℕ) → Holds c g → IsEarlyHere g.awaits → Does c (after ConnectionEnded c) g o o r r (Err Early)
 ended_early c g o r h w =
     let e : ended c.awaits ≡ Failed Early = ap ended (sym h.awaits_is) ∙ early_there g.awaits w in
-    (e, still c (ends (ended c.awaits) c) o r refl refl refl (ap (λ (p : Phase). closing_text c.form p c.reports) e))
+    (e, still c (ends (ended c.awaits) c) o r refl refl refl refl (ap (λ (p : Phase). closing_text c.form p c.reports) e))
 
 pub ended_fine : (c : Course) (g : Gathering) (text o r0 r1 : List ℕ) → Holds c g → g.awaits ≡ End → text ≡ total_line c.form c.reports → r1 ≡ r0 ++ text → Does c (after ConnectionEnded c) g o o r0 r1 (Ok true)
 ended_fine c g text o r0 r1 h w line printed =
@@ -202,6 +208,7 @@ ended_fine c g text o r0 r1 h w line printed =
         sent_are = sym (append-nil c.sent);
         reports_are = sym (append-nil c.reports);
         form_is = refl;
+        asides_are = refl;
         frames = adds_none o;
         are = reports_none c.form;
         printed = printed ∙ ap (λ (x : List ℕ). r0 ++ x) (line ∙ ap (λ (p : Phase). closing_text c.form p c.reports) (sym e));
@@ -215,7 +222,7 @@ no_last_line c g o r = out_of_memory c (after ConnectionEnded c) o r (after_more
 
 -- it is passed over
 pub passed : (c : Course) (g : Gathering) (o r : List ℕ) → Holds c g → c.phase ≡ Open → Does c c g o o r r (Ok false)
-passed c g o r h opened = (opened, h, still c c o r refl refl refl (open_text c.form c.phase c.reports opened))
+passed c g o r h opened = (opened, h, still c c o r refl refl refl refl (open_text c.form c.phase c.reports opened))
 
 pub passes : (taken : Taken) (c : Course) → ((id : ℕ) × (state : RoState) × (taken ≡ Event id state)) ⊎ ((taken ≡ Note) ⊎ (taken ≡ Kept)) → c ≡ after taken c
 passes taken c (inl e) = rw e.2 refl
@@ -223,10 +230,10 @@ passes taken c (inr (inl e)) = rw e refl
 passes taken c (inr (inr e)) = rw e refl
 
 pub peer : (c : Course) (g : Gathering) (status : ℕ) (o r : List ℕ) → Does c (ends (Failed (Peer status)) c) g o o r r (Err (Peer status))
-peer c g status o r = (refl, still c (ends (Failed (Peer status)) c) o r refl refl refl refl)
+peer c g status o r = (refl, still c (ends (Failed (Peer status)) c) o r refl refl refl refl refl)
 
 pub strange : (c : Course) (g : Gathering) (o r : List ℕ) → Does c (ends (Failed Strange) c) g o o r r (Err Strange)
-strange c g o r = (refl, still c (ends (Failed Strange) c) o r refl refl refl refl)
+strange c g o r = (refl, still c (ends (Failed Strange) c) o r refl refl refl refl refl)
 
 -- ---- messages
 
@@ -234,7 +241,7 @@ refused_by : (step : Result Taking Refusal) (fault : TakeFault) (c : Course) (g 
 refused_by (Ok taking) tf.Memory c g o r h =
     let d : Course = record c { client = taking.client; sent = c.sent ++ taking.sent } in
     out_of_memory c (after taking.taken d) o r
-    (more_more c d (after taking.taken d) (record { messages = taking.sent; reports = []; sent_are = refl; reports_are = sym (append-nil c.reports); form_is = refl }) (after_more taking.taken d))
+    (more_more c d (after taking.taken d) (record { messages = taking.sent; reports = []; sent_are = refl; reports_are = sym (append-nil c.reports); form_is = refl; asides_are = refl }) (after_more taking.taken d))
 refused_by (Ok taking) tf.Closed c g o r h = cc
 refused_by (Ok taking) tf.Unexpected c g o r h = cc
 refused_by (Err refusal) tf.Memory c g o r h = cc
@@ -245,17 +252,17 @@ refused_by (Err refusal) tf.Unexpected c g o r h = strange c g o r
 pub message_refused : (c : Course) (g : Gathering) (step own : Result Taking Refusal) (fault : TakeFault) (o r : List ℕ) → own ≡ step → IsTakeFault own fault → Does c (after_taking step c) g o o r r (Err (error_by_message fault))
 message_refused c g step own fault o r e h = subst (λ (x : Result Taking Refusal). Does c (after_taking x c) g o o r r (Err (error_by_message fault))) e (refused_by own fault c g o r h)
 
-some_of : (a b : List MessageTree) (o0 o1 : List ℕ) → AddsSome a o0 o1 → AddsSome (a ++ b) o0 o1
+pub some_of : (a b : List MessageTree) (o0 o1 : List ℕ) → AddsSome a o0 o1 → AddsSome (a ++ b) o0 o1
 some_of a b o0 o1 p = record { first = p.first; later = p.later ++ b; parts = ap (λ (x : List MessageTree). x ++ b) p.parts ∙ append_assoc p.first p.later b; adds = p.adds }
 
 -- its answer was appended in part
-pub answered_some : (c : Course) (g : Gathering) (step : Result Taking Refusal) (taking : Taking) (messages : List MessageTree) (o0 o1 r : List ℕ) → step ≡ Ok taking → messages ≡ map client_message taking.sent → AddsSome messages o0 o1
+pub answered_some : (c : Course) (g : Gathering) (step : Result Taking Refusal) (taking : Taking) (messages : List MessageTree) (o0 o1 r : List ℕ) → step ≡ Ok taking → messages ≡ all_said c.asides taking.sent → AddsSome messages o0 o1
     → Does c (after_taking step c) g o0 o1 r r (Err Memory)
 answered_some c g step taking messages o0 o1 r e m a =
     let d : Course = record c { client = taking.client; sent = c.sent ++ taking.sent } in
     let more = after_more taking.taken d in
-    let frames : AddsSome (map client_message (taking.sent ++ more.messages)) o0 o1 =
-    rw (map-append client_message taking.sent more.messages) (some_of (map client_message taking.sent) (map client_message more.messages) o0 o1 (subst (λ (ms : List MessageTree). AddsSome ms o0 o1) m a)) in
+    let frames : AddsSome (all_said c.asides (taking.sent ++ more.messages)) o0 o1 =
+    rw (flat_map-append (said_for c.asides) taking.sent more.messages) (some_of (all_said c.asides taking.sent) (all_said c.asides more.messages) o0 o1 (subst (λ (ms : List MessageTree). AddsSome ms o0 o1) m a)) in
     subst (λ (x : Result Taking Refusal). Does c (after_taking x c) g o0 o1 r r (Err Memory)) (sym e)
     (record {
       messages = taking.sent ++ more.messages;
@@ -265,6 +272,7 @@ answered_some c g step taking messages o0 o1 r e m a =
       sent_are = more.sent_are ∙ append_assoc c.sent taking.sent more.messages;
       reports_are = more.reports_are;
       form_is = more.form_is;
+      asides_are = more.asides_are;
       frames = frames;
       are = reports_none c.form;
       printed = sym (append-nil r);
@@ -272,7 +280,7 @@ answered_some c g step taking messages o0 o1 r e m a =
 
 -- its answer was appended, and it was followed
 pub answered_all : (c : Course) (new : Gathering) (step : Result Taking Refusal) (taking : Taking) (messages : List MessageTree) (o0 o1 o2 r0 r1 : List ℕ) (answer : Result Bool ToolErr) → c.phase ≡ Open → step ≡ Ok taking
-    → messages ≡ map client_message taking.sent → Adds messages o0 o1
+    → messages ≡ all_said c.asides taking.sent → Adds messages o0 o1
     → Does (record c { client = taking.client; sent = c.sent ++ taking.sent }) (after taking.taken (record c { client = taking.client; sent = c.sent ++ taking.sent })) new o1 o2 r0 r1 answer
     → Does c (after_taking step c) new o0 o2 r0 r1 answer
 answered_all c new step taking messages o0 o1 o2 r0 r1 answer opened e m a does =
@@ -284,6 +292,7 @@ answered_all c new step taking messages o0 o1 o2 r0 r1 answer opened e m a does 
       sent_are = refl;
       reports_are = sym (append-nil c.reports);
       form_is = refl;
+      asides_are = refl;
       frames = subst (λ (ms : List MessageTree). Adds ms o0 o1) m a;
       are = reports_none c.form;
       printed = sym (append-nil r0) ∙ ap (λ (x : List ℕ). r0 ++ x) (sym (open_text c.form c.phase c.reports opened));
@@ -291,7 +300,7 @@ answered_all c new step taking messages o0 o1 o2 r0 r1 answer opened e m a does 
     subst (λ (x : Result Taking Refusal). Does c (after_taking x c) new o0 o2 r0 r1 answer) (sym e) (does_after c d (after taking.taken d) new o0 o1 o2 r0 r0 r1 answer moved opened does)
 
 pub taken_in : (c : Course) (g : Gathering) (taking : Taking) → Holds c g → Holds (record c { client = taking.client; sent = c.sent ++ taking.sent }) (record g { client = taking.client })
-taken_in c g taking h = record { client_is = refl; form_is = h.form_is; left_is = h.left_is; awaits_is = h.awaits_is; counts = h.counts }
+taken_in c g taking h = record { client_is = refl; form_is = h.form_is; asides_are = h.asides_are; left_is = h.left_is; awaits_is = h.awaits_is; counts = h.counts }
 
 -- ---- frames that are no messages
 

@@ -5,9 +5,9 @@ use Rattle.std.proofs.lemmas.List.{append-nil}
 use Rattle.tag_bits.specs.Digits.{digits, digits_of_bytes}
 use Rattle.llrp_schema.specs.declared.kinds.MsgKind.{MsgKind}
 use Rattle.llrp_schema.specs.declared.kinds.Kind.TheVariants.{Message}
-use Rattle.llrp_schema.specs.declared.kinds.Profile.{Profile}
-use Rattle.llrp_schema.specs.declared.kinds.Profile.TheVariants.{Whole}
-use Rattle.llrp_schema.specs.Schema.{message_in, number_of, profile_of}
+use Rattle.llrp_schema.specs.declared.kinds.KindSet.{KindSet}
+use Rattle.llrp_schema.specs.declared.kinds.KindSet.TheVariants.{Standard}
+use Rattle.llrp_schema.specs.Schema.{message_in, number_of, set_of_kind}
 use Rattle.llrp_schema.proofs.TableLaws.{message_at_number, message_number_fits}
 use Rattle.llrp_tree.specs.declared.fault.Reason.{Reason}
 use Rattle.llrp_tree.specs.declared.fault.Fault.{Fault}
@@ -34,17 +34,17 @@ own_length frame is = is.whole
 
 -- ---- a whole frame
 
-pub answered_or_not : (limit : ℕ) (frame : List ℕ) (m : MessageTree) (answer : Option MessageTree) → Frame m frame limit → profile_of (Message m.kind) ≡ Whole → answer ≡ answer_of m → AnswersFrame limit frame answer
+pub answered_or_not : (limit : ℕ) (frame : List ℕ) (m : MessageTree) (answer : Option MessageTree) → Frame m frame limit → set_of_kind (Message m.kind) ≡ Standard → answer ≡ answer_of m → AnswersFrame limit frame answer
 answered_or_not limit frame m None f own is = λ reply (k, g, e).
     let same = (no_prefix limit frame [] m k (own ∙ sym g.own) f (subst (λ (x : List ℕ). Frame k x limit) (sym (append-nil frame)) g.frame)).0 in
     let none : None ≡ Some reply = is ∙ ap answer_of same ∙ e in cc
 answered_or_not limit frame m (Some reply) f own is = (m, record { frame = f; own = own }, sym is)
 
-pub faulty_is_not : (limit : ℕ) (frame : List ℕ) (bit : ℕ) (reason : Reason) → FirstFaultIn Whole frame limit bit reason → IsNotAnswered limit frame
-faulty_is_not limit frame bit reason fault = λ reply (k, g, e). not_both Whole limit frame k bit reason g.own g.frame fault
+pub faulty_is_not : (limit : ℕ) (frame : List ℕ) (bit : ℕ) (reason : Reason) → FirstFaultIn Standard frame limit bit reason → IsNotAnswered limit frame
+faulty_is_not limit frame bit reason fault = λ reply (k, g, e). not_both Standard limit frame k bit reason g.own g.frame fault
 
-pub faulty_frame : (limit : ℕ) (frame : List ℕ) (e : FrameErr) (fault : Fault) → e ≡ Bad fault → IsFirstIn Whole frame limit e → IsNotAnswered limit frame
-faulty_frame limit frame e fault is f = faulty_is_not limit frame fault.bit fault.reason (subst (λ (x : FrameErr). IsFirstIn Whole frame limit x) is f)
+pub faulty_frame : (limit : ℕ) (frame : List ℕ) (e : FrameErr) (fault : Fault) → e ≡ Bad fault → IsFirstIn Standard frame limit e → IsNotAnswered limit frame
+faulty_frame limit frame e fault is f = faulty_is_not limit frame fault.bit fault.reason (subst (λ (x : FrameErr). IsFirstIn Standard frame limit x) is f)
 
 -- ---- a front
 
@@ -73,8 +73,8 @@ asked_frame : (limit : ℕ) (frame : List ℕ) (reply : MessageTree) → IsAnswe
 unfolding asks
 asked_frame limit frame reply (m, f, e) =
     let type_is : number (digits_of_bytes frame) 6 10 ≡ number_of (Message m.kind) = ap (λ (ds : List Bool). number ds 6 10) f.frame.spelled ∙ type_spelled m in
-    let found : message_in Whole (number_of (Message m.kind)) ≡ Some m.kind = subst (λ (p : Profile). message_in p (number_of (Message m.kind)) ≡ Some m.kind) f.own (message_at_number m.kind) in
-    ap (λ (n : ℕ). is_some (answer_where (message_in Whole n))) type_is ∙ ap (λ (k : Option MsgKind). is_some (answer_where k)) found ∙ asked_message m reply e
+    let found : message_in Standard (number_of (Message m.kind)) ≡ Some m.kind = subst (λ (p : KindSet). message_in p (number_of (Message m.kind)) ≡ Some m.kind) f.own (message_at_number m.kind) in
+    ap (λ (n : ℕ). is_some (answer_where (message_in Standard n))) type_is ∙ ap (λ (k : Option MsgKind). is_some (answer_where k)) found ∙ asked_message m reply e
 
 pub not_asked : (limit : ℕ) (front : List ℕ) (kind : ℕ) → 6 ≤ length front → kind ≡ number (digits_of_bytes front) 6 10 → asks kind ≡ false → NoneIsAnswered limit front
 not_asked limit front kind six is unasked = λ more whole reply a.

@@ -4,7 +4,7 @@ use Rattle.std.specs.Prelude.{IfSome, Option, Some, None, is_none, if◌then◌e
 use Rattle.llrp_schema.specs.declared.kinds.MsgKind.{MsgKind}
 use Rattle.llrp_schema.specs.declared.kinds.ParamKind.{ParamKind}
 use Rattle.llrp_schema.specs.declared.kinds.Kind.TheVariants.{Message}
-use Rattle.llrp_schema.specs.declared.kinds.Profile.TheVariants.{Own}
+use Rattle.llrp_schema.specs.declared.kinds.KindSet.TheVariants.{Profile}
 use Rattle.llrp_schema.specs.Schema.{GroupRule, groups_of, has_place, message_in, number_of}
 use Rattle.llrp_schema.proofs.TableLaws.{message_found_in}
 use Rattle.llrp_tree.specs.declared.node.NodeFault.{NodeFault}
@@ -49,14 +49,14 @@ row_lawful groups (and before kind fields tail children) all =
 abbrev of_row : MessageTree → MsgKind → MessageTree
 of_row m kind = record { version = m.version; id = m.id; kind = kind; fields = m.fields; tail = []; children = own_row (groups_of (Message kind)) m.children }
 
-part_of : (m own : MessageTree) (kind : MsgKind) → IsLawfulMessage m → message_in Own (number_of (Message m.kind)) ≡ Some kind → message_where (of_row m kind) ≡ Some own → IsOwnPart m own
+part_of : (m own : MessageTree) (kind : MsgKind) → IsLawfulMessage m → message_in Profile (number_of (Message m.kind)) ≡ Some kind → message_where (of_row m kind) ≡ Some own → IsOwnPart m own
 part_of m own kind lawful found e = go (first_message_fault m.version kind m.fields [] (own_row (groups_of (Message kind)) m.children)) refl e
   where
     go : (fault : Option NodeFault) → first_message_fault m.version kind m.fields [] (own_row (groups_of (Message kind)) m.children) ≡ fault → (if is_none fault then Some (of_row m kind) else None) ≡ Some own → IsOwnPart m own
     go (Some fault) none_fails e = cc
     go None none_fails e =
         let same : of_row m kind ≡ own = cc in
-        let known = message_found_in Own (number_of (Message m.kind)) kind found in
+        let known = message_found_in Profile (number_of (Message m.kind)) kind found in
         subst (λ (x : MessageTree). IsOwnPart m x) same
         (record {
           of_the_profile = known.0;
@@ -67,10 +67,10 @@ part_of m own kind lawful found e = go (first_message_fault m.version kind m.fie
           lawful = message_from m.version m.id kind m.fields [] (own_row (groups_of (Message kind)) m.children) lawful.id tt (row_lawful (groups_of (Message kind)) m.children lawful.children) none_fails;
         })
 
-where_part : (m own : MessageTree) (kind : Option MsgKind) → IsLawfulMessage m → message_in Own (number_of (Message m.kind)) ≡ kind → own_where kind m ≡ Some own → IsOwnPart m own
+where_part : (m own : MessageTree) (kind : Option MsgKind) → IsLawfulMessage m → message_in Profile (number_of (Message m.kind)) ≡ kind → own_where kind m ≡ Some own → IsOwnPart m own
 where_part m own None lawful found e = cc
 where_part m own (Some kind) lawful found e = part_of m own kind lawful found e
 
 pub heard_is_lawful : HeardIsLawful
 unfolding own_message
-heard_is_lawful m own lawful e = where_part m own (message_in Own (number_of (Message m.kind))) lawful refl e
+heard_is_lawful m own lawful e = where_part m own (message_in Profile (number_of (Message m.kind))) lawful refl e

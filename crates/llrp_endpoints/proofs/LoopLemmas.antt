@@ -3,7 +3,7 @@ use Rattle.std.proofs.Common.{◌≡◌, ℕ, zero, suc, ◌+◌, ◌-◌, ◌<�
 use Rattle.std.proofs.lemmas.List.{append-nil}
 use Rattle.llrp_tree.specs.Tree.{Tree}
 use Rattle.llrp_stream.specs.Device.{SourceLog, SinkLog, IsFreshSource, Wrote, WroteAndFailed}
-use Rattle.llrp_session.specs.ClientMessages.{client_message}
+use Rattle.llrp_endpoints.specs.Asides.{all_said}
 use Rattle.llrp_endpoints.specs.declared.both_ends.client_side.ClientSide.{ClientSide}
 use Rattle.llrp_endpoints.specs.declared.both_ends.reader_side.ReaderSide.{ReaderSide}
 use Rattle.llrp_listing.specs.declared.outcome.ToolErr.{ToolErr}
@@ -118,7 +118,7 @@ writes_up e o down up report r c c' sink n s w gathering lines reads =
         open_still = rw gathering s.client.open_still;
         text = s.client.text;
         says = record {
-          frames_are = subst (λ (x : List ℕ). AreFrames (map client_message s.client.course.sent) x) (ap (λ (x : List ℕ). s.up_written ++ x) w.parts ∙ sym (append_assoc s.up_written w.front c'.said.items)) says.frames_are;
+          frames_are = subst (λ (x : List ℕ). AreFrames (all_said s.client.course.asides s.client.course.sent) x) (ap (λ (x : List ℕ). s.up_written ++ x) w.parts ∙ sym (append_assoc s.up_written w.front c'.said.items)) says.frames_are;
           lines = says.lines;
           lines_are = says.lines_are;
           text_is = says.text_is;

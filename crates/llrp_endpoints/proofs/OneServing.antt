@@ -34,7 +34,7 @@ is_kind_or_not a b =
       | false ↦ λ e. inr (λ k. absurd (let both : true ≡ false = sym (true_same the_type a b k) ∙ e in cc))
     ] refl
 
-closes_or_not : (item : Item) → Closes item ⊎ (Closes item → ⊥)
+pub closes_or_not : (item : Item) → Closes item ⊎ (Closes item → ⊥)
 closes_or_not (Bad id fault) = inr (λ c. c)
 closes_or_not (Msg m) = is_kind_or_not m.kind CloseConnection
 
@@ -111,13 +111,13 @@ ends_so early (b ∷ bytes) h = (Rest (length (b ∷ bytes)), (refl, omega arith
 ends_so broken rest h = (Broken, h, refl)
 
 -- the state of serving where no more comes
-abbrev standing_at : End → Standing
+abbrev pub standing_at : End → Standing
 standing_at Clean = ended
 standing_at (Rest n) = early
 standing_at Broken = broken
 standing_at Dead = broken
 
-not_waiting : (end : End) → standing_at end ≡ waiting → ⊥
+pub not_waiting : (end : End) → standing_at end ≡ waiting → ⊥
 not_waiting Clean e = cc
 not_waiting (Rest n) e = cc
 not_waiting Broken e = cc
@@ -143,7 +143,7 @@ partial_at Broken rest e (inl h) = absurd cc
 partial_at Broken rest e (inr h) = absurd cc
 partial_at Dead rest e h = absurd e
 
-stands_at : (end : End) (rest : List ℕ) → EndsStream rest end → StandsAt (standing_at end) rest
+pub stands_at : (end : End) (rest : List ℕ) → EndsStream rest end → StandsAt (standing_at end) rest
 stands_at Clean rest e = e
 stands_at (Rest n) rest e = (e.2, λ none. absurd (omega (arith, ap length none, e.0, e.1)))
 stands_at Broken rest e = e
@@ -225,7 +225,7 @@ module _ (reader : Reader) (entries : List Entry) (bytes : List ℕ) (l : HasOne
 
   -- ---- both cases
 
-  served_open : NoneCloses l.items → IsServedInOneWay reader entries bytes
+  served_open : NoneCloses l.items → IsServedInOneWay (Serves reader entries bytes)
   served_open none = record {
     messages = all_said;
     standing = standing_at l.end;
@@ -250,7 +250,7 @@ module _ (reader : Reader) (entries : List Entry) (bytes : List ℕ) (l : HasOne
       only_standing others early h w = only_so early l.end (open_is others early h).2 w
       only_standing others broken h w = only_so broken l.end (open_is others broken h).2 w
 
-  served_closed : FirstClosing l.items → IsServedInOneWay reader entries bytes
+  served_closed : FirstClosing l.items → IsServedInOneWay (Serves reader entries bytes)
   served_closed f = record {
     messages = said (run reader (closing_events entries f.before f.last));
     standing = closed;
@@ -279,7 +279,7 @@ module _ (reader : Reader) (entries : List Entry) (bytes : List ℕ) (l : HasOne
       not_open (inl e) = absurd cc
       not_open (inr e) = absurd cc
 
-pub served_in_one_way : (reader : Reader) (entries : List Entry) (bytes : List ℕ) → reader.limit ≤ MAX_LIMIT → AreOctets bytes → IsServedInOneWay reader entries bytes
+pub served_in_one_way : (reader : Reader) (entries : List Entry) (bytes : List ℕ) → reader.limit ≤ MAX_LIMIT → AreOctets bytes → IsServedInOneWay (Serves reader entries bytes)
 served_in_one_way reader entries bytes most octets =
     let l = has_one_listing reader.limit bytes most octets in
     elim (first_closing l.items) [ inl none ↦ served_open reader entries bytes l none | inr f ↦ served_closed reader entries bytes l f ]

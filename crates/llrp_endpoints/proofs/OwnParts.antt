@@ -5,7 +5,7 @@ use Rattle.llrp_schema.specs.declared.kinds.MsgKind.{MsgKind}
 use Rattle.llrp_schema.specs.declared.kinds.ParamKind.{ParamKind}
 use Rattle.llrp_schema.specs.declared.kinds.Kind.TheVariants.{Message, Parameter}
 use Rattle.llrp_schema.specs.Schema.{GroupRule, groups_of, has_place, message_in, number_of}
-use Rattle.llrp_schema.specs.declared.kinds.Profile.TheVariants.{Own}
+use Rattle.llrp_schema.specs.declared.kinds.KindSet.TheVariants.{Profile}
 use Rattle.llrp_tree.specs.Tree.{Forest, none, Tree, MessageTree, add, forest}
 use Rattle.llrp_tree.specs.Lawful.{levels}
 use Rattle.llrp_tree.proofs.SpelledLemmas.{levels_of_first, levels_of_others}
@@ -60,14 +60,14 @@ in_place groups t kind fields tail row e placed f g is =
 
 -- ---- a message
 
-pub no_message : (m : MessageTree) → message_in Own (number_of (Message m.kind)) ≡ None → own_message m ≡ None
+pub no_message : (m : MessageTree) → message_in Profile (number_of (Message m.kind)) ≡ None → own_message m ≡ None
 unfolding own_message
 no_message m e = ap (λ (k : Option MsgKind). own_where k m) e
 
 abbrev with_row : MessageTree → MsgKind → Forest → MessageTree
 with_row m kind row = record { version = m.version; id = m.id; kind = kind; fields = m.fields; tail = []; children = row }
 
-pub message_there : (m : MessageTree) (kind : MsgKind) (row : Forest) → message_in Own (number_of (Message m.kind)) ≡ Some kind → row ≡ own_row (groups_of (Message kind)) m.children → message_where (with_row m kind row) ≡ own_message m
+pub message_there : (m : MessageTree) (kind : MsgKind) (row : Forest) → message_in Profile (number_of (Message m.kind)) ≡ Some kind → row ≡ own_row (groups_of (Message kind)) m.children → message_where (with_row m kind row) ≡ own_message m
 unfolding own_message
 message_there m kind row e is = ap (λ (r : Forest). message_where (with_row m kind r)) is ∙ ap (λ (k : Option MsgKind). own_where k m) (sym e)
 

@@ -8,7 +8,8 @@ use Rattle.llrp_session.specs.declared.types.Command.TheVariants.{Add, Delete, S
 use Rattle.llrp_session.specs.Contents.{Asks, ClientMessage}
 use Rattle.llrp_endpoints.specs.declared.course.Step.{Step}
 use Rattle.llrp_endpoints.specs.declared.course.Step.TheVariants.{Send, AwaitTags}
-use Rattle.llrp_endpoints.specs.Plan.{Plan, rospec_id, is_started, cleaning, starting, ending, checking, steps}
+use Rattle.llrp_tree.specs.Tree.{Tree}
+use Rattle.llrp_endpoints.specs.Plan.{Plan, rospec_id, is_kept, is_started, cleaning, keeping, starting, adding, ending, checking, removing, steps}
 use Rattle.llrp_endpoints.specs.Calls.Plans.{commands, commands_in}
 use Rattle.llrp_endpoints.specs.Calls.PlanLaws.{numbered}
 
@@ -17,32 +18,37 @@ use Rattle.llrp_endpoints.specs.Calls.PlanLaws.{numbered}
 -- all steps but the last one
 but_last : Plan → List Step
 but_last plan =
-    cleaning plan.cleans ++ (Send (Add plan.rospec) ∷ Send (Enable (rospec_id plan)) ∷ (starting (is_started plan) (rospec_id plan)
+    cleaning plan.cleans plan.renews (rospec_id plan) ++ (keeping (is_kept plan) plan.keepalive
+    ++ (adding plan.adds (is_started plan) plan.rospec (rospec_id plan)
     ++ (replicate plan.reports AwaitTags ++ (replicate plan.polls (Send GetReport)
-    ++ Send (ending plan.disables (rospec_id plan)) ∷ (checking plan.checked ++ Send (Delete (rospec_id plan)) ∷ [])))))
+    ++ removing plan.adds plan.disables plan.checked (rospec_id plan)))))
 
 all_steps : (plan : Plan) → steps plan ≡ but_last plan ++ Send Close ∷ []
 unfolding steps but_last
 all_steps plan =
     let id : ℕ = rospec_id plan in
     let last : List Step = Send Close ∷ [] in
-    let checks : List Step = checking plan.checked ++ Send (Delete id) ∷ [] in
-    let polls : List Step = replicate plan.polls (Send GetReport) ++ Send (ending plan.disables id) ∷ checks in
-    let waits : List Step = replicate plan.reports AwaitTags ++ polls in
-    let starts : List Step = starting (is_started plan) id ++ waits in
+    let cleans : List Step = cleaning plan.cleans plan.renews id in
+    let keeps : List Step = keeping (is_kept plan) plan.keepalive in
+    let adds : List Step = adding plan.adds (is_started plan) plan.rospec id in
+    let waits : List Step = replicate plan.reports AwaitTags in
+    let polls : List Step = replicate plan.polls (Send GetReport) in
+    let removes : List Step = removing plan.adds plan.disables plan.checked id in
     sym
-    (append_assoc (cleaning plan.cleans) (Send (Add plan.rospec) ∷ Send (Enable id) ∷ starts) last
-    ∙ ap (λ (x : List Step). cleaning plan.cleans ++ (Send (Add plan.rospec) ∷ Send (Enable id) ∷ x))
-    (append_assoc (starting (is_started plan) id) waits last
-    ∙ ap (λ (x : List Step). starting (is_started plan) id ++ x)
-    (append_assoc (replicate plan.reports AwaitTags) polls last
-    ∙ ap (λ (x : List Step). replicate plan.reports AwaitTags ++ x)
-    (append_assoc (replicate plan.polls (Send GetReport)) (Send (ending plan.disables id) ∷ checks) last
-    ∙ ap (λ (x : List Step). replicate plan.polls (Send GetReport) ++ Send (ending plan.disables id) ∷ x) (append_assoc (checking plan.checked) (Send (Delete id) ∷ []) last)))))
+    (append_assoc cleans (keeps ++ (adds ++ (waits ++ (polls ++ removes)))) last
+    ∙ ap (λ (x : List Step). cleans ++ x)
+    (append_assoc keeps (adds ++ (waits ++ (polls ++ removes))) last
+    ∙ ap (λ (x : List Step). keeps ++ x)
+    (append_assoc adds (waits ++ (polls ++ removes)) last
+    ∙ ap (λ (x : List Step). adds ++ x)
+    (append_assoc waits (polls ++ removes) last
+    ∙ ap (λ (x : List Step). waits ++ x)
+    (append_assoc polls removes last)))))
 
 -- it holds of each step that a plan of this ROSpec can have, but the last one
 pub record OfEach (P : Step → Type 0) (plan : Plan) : Type 0 where
   pub cleans : P (Send (Delete 0))
+  pub keeps : P (Send (SetKeepalive plan.keepalive))
   pub adds : P (Send (Add plan.rospec))
   pub enables : P (Send (Enable (rospec_id plan)))
   pub starts : P (Send (Start (rospec_id plan)))
@@ -61,9 +67,14 @@ all_replicate : (P : Step → Type 0) (n : ℕ) (step : Step) → P step → All
 all_replicate P zero step p = tt
 all_replicate P (suc n) step p = (p, all_replicate P n step p)
 
-all_cleaning : (P : Step → Type 0) (cleans : Bool) → P (Send (Delete 0)) → AllByRecursion P (cleaning cleans)
-all_cleaning P true p = (p, tt)
-all_cleaning P false p = tt
+all_cleaning : (P : Step → Type 0) (cleans renews : Bool) (id : ℕ) → P (Send (Delete 0)) → P (Send (Delete id)) → AllByRecursion P (cleaning cleans renews id)
+all_cleaning P true renews id p q = (p, tt)
+all_cleaning P false true id p q = (q, tt)
+all_cleaning P false false id p q = tt
+
+all_keeping : (P : Step → Type 0) (kept : Bool) (ms : ℕ) → P (Send (SetKeepalive ms)) → AllByRecursion P (keeping kept ms)
+all_keeping P true ms p = (p, tt)
+all_keeping P false ms p = tt
 
 all_starting : (P : Step → Type 0) (starts : Bool) (id : ℕ) → P (Send (Start id)) → AllByRecursion P (starting starts id)
 all_starting P true id p = (p, tt)
@@ -73,24 +84,27 @@ all_checking : (P : Step → Type 0) (checked : Bool) → P (Send GetRospecs) �
 all_checking P true p = (p, tt)
 all_checking P false p = tt
 
+all_adding : (P : Step → Type 0) (adds starts : Bool) (rospec : Tree) (id : ℕ) → P (Send (Add rospec)) → P (Send (Enable id)) → P (Send (Start id)) → AllByRecursion P (adding adds starts rospec id)
+all_adding P true starts rospec id p q r = (p, (q, all_starting P starts id r))
+all_adding P false starts rospec id p q r = tt
+
 of_ending : (P : Step → Type 0) (disables : Bool) (id : ℕ) → P (Send (Disable id)) → P (Send (Stop id)) → P (Send (ending disables id))
 of_ending P true id p q = p
 of_ending P false id p q = q
+
+all_removing : (P : Step → Type 0) (adds : Bool) (plan : Plan) → OfEach P plan → AllByRecursion P (removing adds plan.disables plan.checked (rospec_id plan))
+all_removing P true plan h = (of_ending P plan.disables (rospec_id plan) h.disables h.stops, all_append P (checking plan.checked) _ (all_checking P plan.checked h.checks) (h.deletes, tt))
+all_removing P false plan h = tt
 
 all_but_last : (P : Step → Type 0) (plan : Plan) → OfEach P plan → AllByRecursion P (but_last plan)
 unfolding but_last
 all_but_last P plan h =
     let id : ℕ = rospec_id plan in
-    all_append P (cleaning plan.cleans) _ (all_cleaning P plan.cleans h.cleans) (
-      h.adds,
-      (
-        h.enables,
-        all_append P (starting (is_started plan) id) _ (all_starting P (is_started plan) id h.starts)
-            (all_append P (replicate plan.reports AwaitTags) _ (all_replicate P plan.reports AwaitTags h.awaits)
-            (all_append P (replicate plan.polls (Send GetReport)) _ (all_replicate P plan.polls (Send GetReport) h.polls)
-            (of_ending P plan.disables id h.disables h.stops, all_append P (checking plan.checked) _ (all_checking P plan.checked h.checks) (h.deletes, tt)))),
-      ),
-    )
+    all_append P (cleaning plan.cleans plan.renews id) _ (all_cleaning P plan.cleans plan.renews id h.cleans h.deletes)
+    (all_append P (keeping (is_kept plan) plan.keepalive) _ (all_keeping P (is_kept plan) plan.keepalive h.keeps)
+    (all_append P (adding plan.adds (is_started plan) plan.rospec id) _ (all_adding P plan.adds (is_started plan) plan.rospec id h.adds h.enables h.starts)
+    (all_append P (replicate plan.reports AwaitTags) _ (all_replicate P plan.reports AwaitTags h.awaits)
+    (all_append P (replicate plan.polls (Send GetReport)) _ (all_replicate P plan.polls (Send GetReport) h.polls) (all_removing P plan.adds plan h)))))
 
 pub each_step : (P : Step → Type 0) (plan : Plan) → OfEach P plan → P (Send Close) → AllByRecursion P (steps plan)
 each_step P plan h last =
@@ -129,10 +143,16 @@ how_many [] = refl
 how_many (Send k ∷ ss) = let ih = how_many ss in omega (arith, ih)
 how_many (AwaitTags ∷ ss) = let ih = how_many ss in omega (arith, ih)
 
-one_cleaning : (cleans : Bool) → total sends_of (cleaning cleans) ≤ 1
+one_cleaning : (cleans renews : Bool) (id : ℕ) → total sends_of (cleaning cleans renews id) ≤ 1
 unfolding total
-one_cleaning true = omega arith
-one_cleaning false = omega arith
+one_cleaning true renews id = omega arith
+one_cleaning false true id = omega arith
+one_cleaning false false id = omega arith
+
+one_keeping : (kept : Bool) (ms : ℕ) → total sends_of (keeping kept ms) ≤ 1
+unfolding total
+one_keeping true ms = omega arith
+one_keeping false ms = omega arith
 
 one_start : (starts : Bool) (id : ℕ) → total sends_of (starting starts id) ≤ 1
 unfolding total
@@ -144,27 +164,42 @@ unfolding total
 one_check true = omega arith
 one_check false = omega arith
 
-pub length-commands : (plan : Plan) → length (commands plan) ≤ plan.polls + 8
+few_adding : (adds starts : Bool) (rospec : Tree) (id : ℕ) → total sends_of (adding adds starts rospec id) ≤ 3
+unfolding total
+few_adding true starts rospec id = omega (arith, one_start starts id)
+few_adding false starts rospec id = omega arith
+
+few_removing : (adds disables checked : Bool) (id : ℕ) → total sends_of (removing adds disables checked id) ≤ 3
+unfolding total
+few_removing true disables checked id = omega (arith, total-append sends_of (checking checked) (Send (Delete id) ∷ []), one_check checked)
+few_removing false disables checked id = omega arith
+
+pub length-commands : (plan : Plan) → length (commands plan) ≤ plan.polls + 9
 unfolding steps total
 length-commands plan =
     let id : ℕ = rospec_id plan in
-    let checks : List Step = checking plan.checked ++ Send (Delete id) ∷ Send Close ∷ [] in
-    let polls : List Step = replicate plan.polls (Send GetReport) ++ Send (ending plan.disables id) ∷ checks in
-    let waits : List Step = replicate plan.reports AwaitTags ++ polls in
-    let starts : List Step = starting (is_started plan) id ++ waits in
+    let cleans : List Step = cleaning plan.cleans plan.renews id in
+    let keeps : List Step = keeping (is_kept plan) plan.keepalive in
+    let adds : List Step = adding plan.adds (is_started plan) plan.rospec id in
+    let waits : List Step = replicate plan.reports AwaitTags in
+    let polls : List Step = replicate plan.polls (Send GetReport) in
+    let removes : List Step = removing plan.adds plan.disables plan.checked id in
+    let last : List Step = Send Close ∷ [] in
     omega (
       arith,
       how_many (steps plan),
-      total-append sends_of (cleaning plan.cleans) (Send (Add plan.rospec) ∷ Send (Enable id) ∷ starts),
-      one_cleaning plan.cleans,
-      total-append sends_of (starting (is_started plan) id) waits,
-      one_start (is_started plan) id,
-      total-append sends_of (replicate plan.reports AwaitTags) polls,
+      total-append sends_of cleans (keeps ++ (adds ++ (waits ++ (polls ++ (removes ++ last))))),
+      one_cleaning plan.cleans plan.renews id,
+      total-append sends_of keeps (adds ++ (waits ++ (polls ++ (removes ++ last)))),
+      one_keeping (is_kept plan) plan.keepalive,
+      total-append sends_of adds (waits ++ (polls ++ (removes ++ last))),
+      few_adding plan.adds (is_started plan) plan.rospec id,
+      total-append sends_of waits (polls ++ (removes ++ last)),
       total-none sends_of plan.reports AwaitTags refl,
-      total-append sends_of (replicate plan.polls (Send GetReport)) (Send (ending plan.disables id) ∷ checks),
+      total-append sends_of polls (removes ++ last),
       total-ones sends_of plan.polls (Send GetReport) refl,
-      total-append sends_of (checking plan.checked) (Send (Delete id) ∷ Send Close ∷ []),
-      one_check plan.checked,
+      total-append sends_of removes last,
+      few_removing plan.adds plan.disables plan.checked id,
     )
 
 -- ---- how many reports they await
@@ -226,10 +261,16 @@ one_at_most GetRospecs = omega arith
 one_at_most (SetKeepalive ms) = omega arith
 one_at_most Close = omega arith
 
-none_cleaning : (cleans : Bool) → total report_of (cleaning cleans) ≡ 0
+none_cleaning : (cleans renews : Bool) (id : ℕ) → total report_of (cleaning cleans renews id) ≡ 0
 unfolding total
-none_cleaning true = refl
-none_cleaning false = refl
+none_cleaning true renews id = refl
+none_cleaning false true id = refl
+none_cleaning false false id = refl
+
+none_keeping : (kept : Bool) (ms : ℕ) → total report_of (keeping kept ms) ≡ 0
+unfolding total
+none_keeping true ms = refl
+none_keeping false ms = refl
 
 none_starting : (starts : Bool) (id : ℕ) → total report_of (starting starts id) ≡ 0
 unfolding total
@@ -245,33 +286,54 @@ no_poll_ends : (disables : Bool) (id : ℕ) → poll_of (ending disables id) ≡
 no_poll_ends true id = refl
 no_poll_ends false id = refl
 
+none_adding : (adds starts : Bool) (rospec : Tree) (id : ℕ) → total report_of (adding adds starts rospec id) ≡ 0
+unfolding total
+none_adding true starts rospec id = omega (arith, none_starting starts id)
+none_adding false starts rospec id = refl
+
+none_removing : (adds disables checked : Bool) (id : ℕ) → total report_of (removing adds disables checked id) ≡ 0
+unfolding total
+none_removing true disables checked id =
+    omega (arith, no_poll_ends disables id, total-append report_of (checking checked) (Send (Delete id) ∷ []), none_checking checked)
+none_removing false disables checked id = refl
+
 pub reports_in-steps : (plan : Plan) → reports_in (steps plan) ≡ plan.reports + plan.polls
 unfolding reports_in steps total
 reports_in-steps plan =
     let id : ℕ = rospec_id plan in
-    let checks : List Step = checking plan.checked ++ Send (Delete id) ∷ Send Close ∷ [] in
-    let polls : List Step = replicate plan.polls (Send GetReport) ++ Send (ending plan.disables id) ∷ checks in
-    let waits : List Step = replicate plan.reports AwaitTags ++ polls in
-    let starts : List Step = starting (is_started plan) id ++ waits in
+    let cleans : List Step = cleaning plan.cleans plan.renews id in
+    let keeps : List Step = keeping (is_kept plan) plan.keepalive in
+    let adds : List Step = adding plan.adds (is_started plan) plan.rospec id in
+    let waits : List Step = replicate plan.reports AwaitTags in
+    let polls : List Step = replicate plan.polls (Send GetReport) in
+    let removes : List Step = removing plan.adds plan.disables plan.checked id in
+    let last : List Step = Send Close ∷ [] in
     omega (
       arith,
-      total-append report_of (cleaning plan.cleans) (Send (Add plan.rospec) ∷ Send (Enable id) ∷ starts),
-      none_cleaning plan.cleans,
-      total-append report_of (starting (is_started plan) id) waits,
-      none_starting (is_started plan) id,
-      total-append report_of (replicate plan.reports AwaitTags) polls,
+      total-append report_of cleans (keeps ++ (adds ++ (waits ++ (polls ++ (removes ++ last))))),
+      none_cleaning plan.cleans plan.renews id,
+      total-append report_of keeps (adds ++ (waits ++ (polls ++ (removes ++ last)))),
+      none_keeping (is_kept plan) plan.keepalive,
+      total-append report_of adds (waits ++ (polls ++ (removes ++ last))),
+      none_adding plan.adds (is_started plan) plan.rospec id,
+      total-append report_of waits (polls ++ (removes ++ last)),
       total-ones report_of plan.reports AwaitTags refl,
-      total-append report_of (replicate plan.polls (Send GetReport)) (Send (ending plan.disables id) ∷ checks),
+      total-append report_of polls (removes ++ last),
       total-ones report_of plan.polls (Send GetReport) refl,
-      no_poll_ends plan.disables id,
-      total-append report_of (checking plan.checked) (Send (Delete id) ∷ Send Close ∷ []),
-      none_checking plan.checked,
+      total-append report_of removes last,
+      none_removing plan.adds plan.disables plan.checked id,
     )
 
-untagged_cleaning : (cleans : Bool) → total tagged_of (cleaning cleans) ≡ 0
+untagged_cleaning : (cleans renews : Bool) (id : ℕ) → total tagged_of (cleaning cleans renews id) ≡ 0
 unfolding total
-untagged_cleaning true = refl
-untagged_cleaning false = refl
+untagged_cleaning true renews id = refl
+untagged_cleaning false true id = refl
+untagged_cleaning false false id = refl
+
+untagged_keeping : (kept : Bool) (ms : ℕ) → total tagged_of (keeping kept ms) ≡ 0
+unfolding total
+untagged_keeping true ms = refl
+untagged_keeping false ms = refl
 
 untagged_starting : (starts : Bool) (id : ℕ) → total tagged_of (starting starts id) ≡ 0
 unfolding total
@@ -283,26 +345,41 @@ unfolding total
 untagged_checking true = refl
 untagged_checking false = refl
 
+untagged_adding : (adds starts : Bool) (rospec : Tree) (id : ℕ) → total tagged_of (adding adds starts rospec id) ≡ 0
+unfolding total
+untagged_adding true starts rospec id = omega (arith, untagged_starting starts id)
+untagged_adding false starts rospec id = refl
+
+untagged_removing : (adds disables checked : Bool) (id : ℕ) → total tagged_of (removing adds disables checked id) ≡ 0
+unfolding total
+untagged_removing true disables checked id = omega (arith, total-append tagged_of (checking checked) (Send (Delete id) ∷ []), untagged_checking checked)
+untagged_removing false disables checked id = refl
+
 pub tagged_in-steps : (plan : Plan) → tagged_in (steps plan) ≡ plan.reports
 unfolding tagged_in steps total
 tagged_in-steps plan =
     let id : ℕ = rospec_id plan in
-    let checks : List Step = checking plan.checked ++ Send (Delete id) ∷ Send Close ∷ [] in
-    let polls : List Step = replicate plan.polls (Send GetReport) ++ Send (ending plan.disables id) ∷ checks in
-    let waits : List Step = replicate plan.reports AwaitTags ++ polls in
-    let starts : List Step = starting (is_started plan) id ++ waits in
+    let cleans : List Step = cleaning plan.cleans plan.renews id in
+    let keeps : List Step = keeping (is_kept plan) plan.keepalive in
+    let adds : List Step = adding plan.adds (is_started plan) plan.rospec id in
+    let waits : List Step = replicate plan.reports AwaitTags in
+    let polls : List Step = replicate plan.polls (Send GetReport) in
+    let removes : List Step = removing plan.adds plan.disables plan.checked id in
+    let last : List Step = Send Close ∷ [] in
     omega (
       arith,
-      total-append tagged_of (cleaning plan.cleans) (Send (Add plan.rospec) ∷ Send (Enable id) ∷ starts),
-      untagged_cleaning plan.cleans,
-      total-append tagged_of (starting (is_started plan) id) waits,
-      untagged_starting (is_started plan) id,
-      total-append tagged_of (replicate plan.reports AwaitTags) polls,
+      total-append tagged_of cleans (keeps ++ (adds ++ (waits ++ (polls ++ (removes ++ last))))),
+      untagged_cleaning plan.cleans plan.renews id,
+      total-append tagged_of keeps (adds ++ (waits ++ (polls ++ (removes ++ last)))),
+      untagged_keeping (is_kept plan) plan.keepalive,
+      total-append tagged_of adds (waits ++ (polls ++ (removes ++ last))),
+      untagged_adding plan.adds (is_started plan) plan.rospec id,
+      total-append tagged_of waits (polls ++ (removes ++ last)),
       total-ones tagged_of plan.reports AwaitTags refl,
-      total-append tagged_of (replicate plan.polls (Send GetReport)) (Send (ending plan.disables id) ∷ checks),
+      total-append tagged_of polls (removes ++ last),
       total-none tagged_of plan.polls (Send GetReport) refl,
-      total-append tagged_of (checking plan.checked) (Send (Delete id) ∷ Send Close ∷ []),
-      untagged_checking plan.checked,
+      total-append tagged_of removes last,
+      untagged_removing plan.adds plan.disables plan.checked id,
     )
 
 -- ---- only the last closes
@@ -314,6 +391,7 @@ none_closes : (plan : Plan) → AllByRecursion NotClosing (but_last plan)
 none_closes plan =
     let each : OfEach NotClosing plan = record {
       cleans = λ e. cc;
+      keeps = λ e. cc;
       adds = λ e. cc;
       enables = λ e. cc;
       starts = λ e. cc;

@@ -21,13 +21,12 @@ use Rattle.llrp_session.specs.Reading.{heard_of}
 use Rattle.llrp_listing.specs.declared.outcome.ToolErr.TheVariants.{Strange}
 use Rattle.llrp_endpoints.specs.declared.course.Phase.{Phase}
 use Rattle.llrp_endpoints.specs.declared.course.Phase.TheVariants.{Open, Closed, Failed}
-use Rattle.llrp_endpoints.specs.Heard.{heard}
-use Rattle.llrp_endpoints.specs.Plan.{Plan}
-use Rattle.llrp_endpoints.specs.Gathering.{Course, new_course, ends, after, after_taking, after_bad, after_item, goes, follow}
+use Rattle.llrp_endpoints.specs.Plan.{hearing_of, Plan}
+use Rattle.llrp_endpoints.specs.Gathering.{Course, new_course, ends, after, after_taking, after_bad, after_item, goes, follow, taken}
 use Rattle.llrp_endpoints.specs.Calls.PlanLaws.{course_of, HasNoFrame, HasOneCourse, GoesOn, CoursesGoOn}
 use Rattle.llrp_endpoints.proofs.GatheringSteps.{More, no_more, more_more, after_more}
-use Rattle.llrp_endpoints.proofs.HeardLemmas.{heard_after}
-use Rattle.llrp_endpoints.proofs.PlanFollowing.{bad_either, follow-append, stays}
+use Rattle.llrp_endpoints.proofs.OddLemmas.{taken_then}
+use Rattle.llrp_endpoints.proofs.PlanFollowing.{bad_either, stays}
 
 -- ---- the end of the whole frames
 
@@ -51,12 +50,12 @@ same_rest bytes rest tail frames others e p q =
 
 pub one_course : (limit : ℕ) (plan : Plan) (bytes : List ℕ) → limit ≤ MAX_LIMIT → AreOctets bytes → HasOneCourse limit plan bytes
 one_course limit plan bytes most octets =
-    let all : HasOneListingIn plan.profile limit bytes = has_one_listing limit bytes most octets in
-    let grow : ItemsGrowIn plan.profile limit = items_grow limit in
+    let all : HasOneListingIn plan.set limit bytes = has_one_listing limit bytes most octets in
+    let grow : ItemsGrowIn plan.set limit = items_grow limit in
     let cut = all.are.cut in
     record {
       rest = cut.tail;
-      course = course_of limit plan (heard plan.profile all.items);
+      course = course_of limit plan (taken (hearing_of plan) all.items (new_course limit plan));
       gathers = record { items = all.items; are = record { frames = all.are.frames; whole = cut.whole; each = cut.each; are = all.are.each }; course_is = refl };
       no_frame = ends_no_frame cut.tail all.end cut.ends;
       only = λ tail other g none.
@@ -64,19 +63,19 @@ one_course limit plan bytes most octets =
           let same : g.items ≡ all.items = all.only_items g.items end.0 (grow.at_the_end bytes g.items tail end.0 g.are end.1) in
           let own : Cuts bytes g.are.frames end.0 = record { tail = tail; whole = g.are.whole; each = g.are.each; ends = end.1 } in
           let frames = one_cut bytes g.are.frames all.are.frames end.0 all.end own cut in
-          (same_rest bytes tail cut.tail g.are.frames all.are.frames frames.0 g.are.whole cut.whole, g.course_is ∙ ap (λ (items : List Item). course_of limit plan (heard plan.profile items)) same);
+          (same_rest bytes tail cut.tail g.are.frames all.are.frames frames.0 g.are.whole cut.whole, g.course_is ∙ ap (λ (items : List Item). course_of limit plan (taken (hearing_of plan) items (new_course limit plan))) same);
     }
 
 -- ---- more bytes
 
 taking_more : (r : Result Taking Refusal) (c : Course) → More c (after_taking r c)
-taking_more (Err refusal) c = record { messages = []; reports = []; sent_are = sym (append-nil c.sent); reports_are = sym (append-nil c.reports); form_is = refl }
+taking_more (Err refusal) c = record { messages = []; reports = []; sent_are = sym (append-nil c.sent); reports_are = sym (append-nil c.reports); form_is = refl; asides_are = refl }
 taking_more (Ok t) c =
     let d : Course = record c { client = t.client; sent = c.sent ++ t.sent } in
-    more_more c d (after t.taken d) (record { messages = t.sent; reports = []; sent_are = refl; reports_are = sym (append-nil c.reports); form_is = refl }) (after_more t.taken d)
+    more_more c d (after t.taken d) (record { messages = t.sent; reports = []; sent_are = refl; reports_are = sym (append-nil c.reports); form_is = refl; asides_are = refl }) (after_more t.taken d)
 
 ended_more : (c : Course) → More c (ends (Failed Strange) c)
-ended_more c = record { messages = []; reports = []; sent_are = sym (append-nil c.sent); reports_are = sym (append-nil c.reports); form_is = refl }
+ended_more c = record { messages = []; reports = []; sent_are = sym (append-nil c.sent); reports_are = sym (append-nil c.reports); form_is = refl; asides_are = refl }
 
 bad_more : (reason : Reason) (c : Course) → More c (after_bad reason c)
 bad_more reason c =
@@ -105,11 +104,10 @@ followed later c =
 
 pub courses_go_on : (limit : ℕ) (plan : Plan) → CoursesGoOn limit plan
 courses_go_on limit plan bytes more rest tail old new p q none =
-    let grow : ItemsGrowIn plan.profile limit = items_grow limit in
+    let grow : ItemsGrowIn plan.set limit = items_grow limit in
     let end = ends_some tail none in
     let later = grow.come_first bytes more p.items q.items rest end.0 p.are (grow.at_the_end (bytes ++ more) q.items tail end.0 q.are end.1) in
-    let first = heard plan.profile p.items in
-    let next = heard plan.profile later.0 in
-    let all : heard plan.profile q.items ≡ first ++ next = ap (heard plan.profile) later.1 ∙ heard_after plan.profile p.items later.0 in
-    let new_is : new ≡ follow next old = q.course_is ∙ ap (course_of limit plan) all ∙ follow-append first next (new_course limit plan) ∙ ap (follow next) (sym p.course_is) in
+    let start = new_course limit plan in
+    let next = taken (hearing_of plan) later.0 old in
+    let new_is : new ≡ follow next old = q.course_is ∙ ap (λ (is : List Item). follow (taken (hearing_of plan) is start) start) later.1 ∙ sym (taken_then (hearing_of plan) p.items later.0 start old p.course_is) in
     subst (λ (d : Course). GoesOn old d) (sym new_is) (followed next old)

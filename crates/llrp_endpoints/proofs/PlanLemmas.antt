@@ -4,7 +4,7 @@ use Rattle.std.specs.Prelude.{Some}
 use Rattle.std.proofs.lemmas.Bool.{le-leb}
 use Rattle.llrp_schema.specs.declared.kinds.ParamKind.{ParamKind}
 use Rattle.llrp_schema.specs.declared.kinds.ParamKind.TheVariants.{RoSpec, RoBoundarySpec, RoSpecStartTrigger, RoSpecStopTrigger, AiSpec, AiSpecStopTrigger, InventoryParameterSpec, RoReportSpec, TagReportContentSelector}
-use Rattle.llrp_schema.specs.Schema.{number_of, rule_of, param_rule, fields_of, tail_of, groups_of, is_tv, key_of, profile_of}
+use Rattle.llrp_schema.specs.Schema.{number_of, rule_of, param_rule, fields_of, tail_of, groups_of, is_tv, key_of, set_of_kind}
 use Rattle.llrp_tree.specs.declared.node.NodeFault.{NodeFault}
 use Rattle.llrp_tree.specs.Tree.{Tree, none, forest}
 use Rattle.llrp_tree.specs.Lawful.{body_octets, tree_octets, AllLawful, AreLawful, IsLawfulTree}
@@ -23,53 +23,53 @@ not_refused kind fields tail octets children row fault t r h e =
     let f = sym e ∙ a ∙ b ∙ k in cc
 
 pub start_lawful : AreLawful RoSpecStartTrigger (0 ∷ []) [] none
-unfolding first_fault table_tests all_placed none_too_many none_missing rule_of param_rule number_of key_of profile_of fields_of tail_of groups_of is_tv body_octets
+unfolding first_fault table_tests all_placed none_too_many none_missing rule_of param_rule number_of key_of set_of_kind fields_of tail_of groups_of is_tv body_octets
 start_lawful = lawful_from RoSpecStartTrigger (0 ∷ []) [] none tt refl
 
 pub stop_lawful : AreLawful RoSpecStopTrigger (0 ∷ 0 ∷ []) [] none
-unfolding first_fault table_tests all_placed none_too_many none_missing rule_of param_rule number_of key_of profile_of fields_of tail_of groups_of is_tv body_octets
+unfolding first_fault table_tests all_placed none_too_many none_missing rule_of param_rule number_of key_of set_of_kind fields_of tail_of groups_of is_tv body_octets
 stop_lawful = lawful_from RoSpecStopTrigger (0 ∷ 0 ∷ []) [] none tt refl
 
 pub antenna_stop_lawful : AreLawful AiSpecStopTrigger (0 ∷ 0 ∷ []) [] none
-unfolding first_fault table_tests all_placed none_too_many none_missing rule_of param_rule number_of key_of profile_of fields_of tail_of groups_of is_tv body_octets
+unfolding first_fault table_tests all_placed none_too_many none_missing rule_of param_rule number_of key_of set_of_kind fields_of tail_of groups_of is_tv body_octets
 antenna_stop_lawful = lawful_from AiSpecStopTrigger (0 ∷ 0 ∷ []) [] none tt refl
 
 pub inventory_lawful : AreLawful InventoryParameterSpec (1 ∷ 1 ∷ []) [] none
-unfolding first_fault table_tests all_placed none_too_many none_missing rule_of param_rule number_of key_of profile_of fields_of tail_of groups_of is_tv body_octets
+unfolding first_fault table_tests all_placed none_too_many none_missing rule_of param_rule number_of key_of set_of_kind fields_of tail_of groups_of is_tv body_octets
 inventory_lawful = lawful_from InventoryParameterSpec (1 ∷ 1 ∷ []) [] none tt refl
 
 pub selector_lawful : AreLawful TagReportContentSelector (0 ∷ 0 ∷ 0 ∷ 1 ∷ 0 ∷ 1 ∷ 0 ∷ 0 ∷ 0 ∷ 0 ∷ []) [] none
-unfolding first_fault table_tests all_placed none_too_many none_missing rule_of param_rule number_of key_of profile_of fields_of tail_of groups_of is_tv body_octets
+unfolding first_fault table_tests all_placed none_too_many none_missing rule_of param_rule number_of key_of set_of_kind fields_of tail_of groups_of is_tv body_octets
 selector_lawful = lawful_from TagReportContentSelector (0 ∷ 0 ∷ 0 ∷ 1 ∷ 0 ∷ 1 ∷ 0 ∷ 0 ∷ 0 ∷ 0 ∷ []) [] none tt refl
 
 boundary_lawful : IsLawfulTree boundary
-unfolding first_fault table_tests all_placed none_too_many none_missing rule_of param_rule number_of key_of profile_of fields_of tail_of groups_of is_tv body_octets
+unfolding first_fault table_tests all_placed none_too_many none_missing rule_of param_rule number_of key_of set_of_kind fields_of tail_of groups_of is_tv body_octets
 boundary_lawful =
     let parts : AllLawful boundary.children = ((tt, start_lawful, tt), stop_lawful, tt) in
     (lawful_from RoBoundarySpec [] [] boundary.children tt refl, parts)
 
 antenna_lawful : IsLawfulTree antenna_inventory
-unfolding first_fault table_tests all_placed none_too_many none_missing rule_of param_rule number_of key_of profile_of fields_of tail_of groups_of is_tv body_octets
+unfolding first_fault table_tests all_placed none_too_many none_missing rule_of param_rule number_of key_of set_of_kind fields_of tail_of groups_of is_tv body_octets
 antenna_lawful =
     let parts : AllLawful antenna_inventory.children = ((tt, antenna_stop_lawful, tt), inventory_lawful, tt) in
     (lawful_from AiSpec [] (0 ∷ 0 ∷ []) antenna_inventory.children (lit< tt, (lit< tt, tt)) refl, parts)
 
 reporting_lawful : (every : ℕ) → every < 2 ^ 16 → IsLawfulTree (reporting every)
-unfolding first_fault table_tests all_placed none_too_many none_missing rule_of param_rule number_of key_of profile_of fields_of tail_of groups_of is_tv body_octets
+unfolding first_fault table_tests all_placed none_too_many none_missing rule_of param_rule number_of key_of set_of_kind fields_of tail_of groups_of is_tv body_octets
 reporting_lawful every h =
     let e = le-leb every 65535 (omega arith) in
     let parts : AllLawful (reporting every).children = (tt, selector_lawful, tt) in
     (lawful_from RoReportSpec (2 ∷ every ∷ []) [] (reporting every).children tt (rw e refl), parts)
 
 pub rospec_lawful : (every : ℕ) → every < 2 ^ 16 → IsLawfulTree (rospec every)
-unfolding rospec first_fault table_tests all_placed none_too_many none_missing rule_of param_rule number_of key_of profile_of fields_of tail_of groups_of is_tv body_octets
+unfolding rospec first_fault table_tests all_placed none_too_many none_missing rule_of param_rule number_of key_of set_of_kind fields_of tail_of groups_of is_tv body_octets
 rospec_lawful every h =
     let r = reporting_lawful every h in
     let parts : AllLawful (rospec every).children = (((tt, boundary_lawful.0, boundary_lawful.1), antenna_lawful.0, antenna_lawful.1), r.0, r.1) in
     (lawful_from RoSpec (1 ∷ 0 ∷ 0 ∷ []) [] (forest (boundary ∷ antenna_inventory ∷ reporting every ∷ [])) tt refl, parts)
 
 pub rospec_octets : (every : ℕ) → tree_octets (rospec every) ≡ 65
-unfolding rospec body_octets number_of key_of profile_of rule_of param_rule fields_of is_tv tail_of
+unfolding rospec body_octets number_of key_of set_of_kind rule_of param_rule fields_of is_tv tail_of
 rospec_octets every = refl
 
 pub rospec_kind : (every : ℕ) → (rospec every).kind ≡ RoSpec

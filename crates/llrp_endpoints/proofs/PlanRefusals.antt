@@ -59,6 +59,7 @@ steps_within : (limit : ℕ) (plan : Plan) → 4096 ≤ limit → IsValid plan �
 steps_within limit plan h valid =
     let each : OfEach (StepWithin limit) plan = record {
       cleans = refl;
+      keeps = refl;
       adds = add_within limit plan h valid;
       enables = refl;
       starts = refl;

@@ -10,8 +10,8 @@ use Rattle.llrp_schema.specs.declared.kinds.MsgKind.{MsgKind}
 use Rattle.llrp_schema.specs.declared.kinds.MsgKind.TheVariants.{AddRoSpec}
 use Rattle.llrp_schema.specs.declared.kinds.ParamKind.TheVariants.{RoSpec}
 use Rattle.llrp_schema.specs.declared.kinds.Kind.TheVariants.{Message}
-use Rattle.llrp_schema.specs.declared.kinds.Profile.TheVariants.{Own}
-use Rattle.llrp_schema.specs.Schema.{one, fields_of, groups_of, rule_of, message_rule, tail_of, profile_of, name_of, number_of, key_of}
+use Rattle.llrp_schema.specs.declared.kinds.KindSet.TheVariants.{Profile}
+use Rattle.llrp_schema.specs.Schema.{one, fields_of, groups_of, rule_of, message_rule, tail_of, set_of_kind, name_of, number_of, key_of}
 use Rattle.llrp_tree.specs.declared.fault.Fault.{Fault}
 use Rattle.llrp_tree.specs.Tree.{Forest, none, and, Tree, MessageTree, trees, forest}
 use Rattle.llrp_tree.specs.Lawful.{count, ArePlaced, NoneTooMany, NoneMissing, IsLawfulMessage}
@@ -80,8 +80,8 @@ added_line = record { kind = Message AddRoSpec; numbers = 1 ∷ 1 ∷ []; tail =
 abbrev head : List ℕ
 head = codes "0 ADD_ROSPEC 1 1"
 
-says_head : SaysNode Own head 0 added_line
-unfolding number_forms fields_of rule_of message_rule tail_of profile_of name_of number_of key_of
+says_head : SaysNode Profile head 0 added_line
+unfolding number_forms fields_of rule_of message_rule tail_of set_of_kind name_of number_of key_of
 says_head = record {
   short = omega arith;
   deep = omega arith;
@@ -96,10 +96,10 @@ head_lines : (text : List ℕ) → lines_of (heading ++ text) ≡ Ended head ∷
 head_lines text = ended head text (refl, (refl, (refl, (refl, (refl, (refl, (refl, (refl, (refl, (refl, (refl, (refl, (refl, (refl, (refl, (refl, tt))))))))))))))))
 
 -- the first message is the one of that line
-first_line : (text : List ℕ) (m : MessageTree) (ms : List MessageTree) → AllZip (SaysLine Own) (lines_of (heading ++ text)) (nodes 0 (row (m ∷ ms))) → message_line m ≡ added_line
+first_line : (text : List ℕ) (m : MessageTree) (ms : List MessageTree) → AllZip (SaysLine Profile) (lines_of (heading ++ text)) (nodes 0 (row (m ∷ ms))) → message_line m ≡ added_line
 first_line text m ms says =
-    let all : AllZip (SaysLine Own) (Ended head ∷ lines_of text) (nodes 0 (row (m ∷ ms))) = subst (λ (x : List TextLine). AllZip (SaysLine Own) x (nodes 0 (row (m ∷ ms)))) (head_lines text) says in
-    ap (λ (p : ℕ × NodeLine). p.1) ((clear Own longest_adding).one_said (Ended head) (0, message_line m) (0, added_line) all.0 says_head)
+    let all : AllZip (SaysLine Profile) (Ended head ∷ lines_of text) (nodes 0 (row (m ∷ ms))) = subst (λ (x : List TextLine). AllZip (SaysLine Profile) x (nodes 0 (row (m ∷ ms)))) (head_lines text) says in
+    ap (λ (p : ℕ × NodeLine). p.1) ((clear Profile longest_adding).one_said (Ended head) (0, message_line m) (0, added_line) all.0 says_head)
 
 -- ---- the messages of a listing below the line
 
@@ -109,29 +109,29 @@ pub record First (text bytes : List ℕ) : Type 0 where
   pub ms : List MessageTree
   pub f : List ℕ
   pub fs : List (List ℕ)
-  pub lists : IsListing Own longest_adding (heading ++ text) (m ∷ ms)
-  pub frame : FrameIn Own m f longest_adding
-  pub each : AllZip (λ m frame. FrameIn Own m frame longest_adding) ms fs
+  pub lists : IsListing Profile longest_adding (heading ++ text) (m ∷ ms)
+  pub frame : FrameIn Profile m f longest_adding
+  pub each : AllZip (λ m frame. FrameIn Profile m frame longest_adding) ms fs
   pub bytes_are : bytes ≡ f ++ joined fs
   pub line : message_line m ≡ added_line
 
-first_of : (text bytes : List ℕ) (ms : List MessageTree) (fs : List (List ℕ)) → IsListingOf ms (heading ++ text) → AllZip (λ m frame. FrameIn Own m frame longest_adding) ms fs → bytes ≡ flat_map (λ frame. frame) fs → First text bytes
+first_of : (text bytes : List ℕ) (ms : List MessageTree) (fs : List (List ℕ)) → IsListingOf ms (heading ++ text) → AllZip (λ m frame. FrameIn Profile m frame longest_adding) ms fs → bytes ≡ flat_map (λ frame. frame) fs → First text bytes
 first_of text bytes ms fs l z e =
-    let spelled : AreSpelled Own longest_adding ms bytes = record { frames = fs; each = z; bytes_are = e } in
-    let says : AllZip (SaysLine Own) (lines_of (heading ++ text)) (nodes 0 (row ms)) = (lists longest_adding (heading ++ text) bytes ms l spelled).says in
+    let spelled : AreSpelled Profile longest_adding ms bytes = record { frames = fs; each = z; bytes_are = e } in
+    let says : AllZip (SaysLine Profile) (lines_of (heading ++ text)) (nodes 0 (row ms)) = (lists longest_adding (heading ++ text) bytes ms l spelled).says in
     go ms fs l z e spelled says
   where
-    go : (ms : List MessageTree) (fs : List (List ℕ)) → IsListingOf ms (heading ++ text) → AllZip (λ m frame. FrameIn Own m frame longest_adding) ms fs → bytes ≡ flat_map (λ frame. frame) fs → AreSpelled Own longest_adding ms bytes
-        → AllZip (SaysLine Own) (lines_of (heading ++ text)) (nodes 0 (row ms)) → First text bytes
-    go [] [] l z e s says = absurd (subst (λ (x : List TextLine). AllZip (SaysLine Own) x []) (head_lines text) says)
+    go : (ms : List MessageTree) (fs : List (List ℕ)) → IsListingOf ms (heading ++ text) → AllZip (λ m frame. FrameIn Profile m frame longest_adding) ms fs → bytes ≡ flat_map (λ frame. frame) fs → AreSpelled Profile longest_adding ms bytes
+        → AllZip (SaysLine Profile) (lines_of (heading ++ text)) (nodes 0 (row ms)) → First text bytes
+    go [] [] l z e s says = absurd (subst (λ (x : List TextLine). AllZip (SaysLine Profile) x []) (head_lines text) says)
     go [] (f ∷ fs) l z e s says = absurd z
     go (m ∷ ms) [] l z e s says = absurd z
     go (m ∷ ms) (f ∷ fs) l z e s says = record { m = m; ms = ms; f = f; fs = fs; lists = (l, (bytes, s)); frame = z.0; each = z.1; bytes_are = e; line = first_line text m ms says }
 
-pub first : (text bytes : List ℕ) → EncodesIn Own longest_adding (heading ++ text) bytes → First text bytes
+pub first : (text bytes : List ℕ) → EncodesIn Profile longest_adding (heading ++ text) bytes → First text bytes
 first text bytes e = first_of text bytes e.messages e.spelled.frames e.listing e.spelled.each e.spelled.bytes_are
 
-frame_is : (m : MessageTree) (f : List ℕ) → FrameIn Own m f longest_adding → IsFrame f
+frame_is : (m : MessageTree) (f : List ℕ) → FrameIn Profile m f longest_adding → IsFrame f
 frame_is m f z = spellings.is_frame longest_adding m f z.frame
 
 pub long_enough : (text bytes : List ℕ) → First text bytes → 10 ≤ length bytes
@@ -147,7 +147,7 @@ own_field text bytes x =
 
 -- ---- one message
 
-no_more : (ms : List MessageTree) (fs : List (List ℕ)) → AllZip (λ m frame. FrameIn Own m frame longest_adding) ms fs → length (joined fs) ≡ 0 → (ms ≡ []) × (fs ≡ [])
+no_more : (ms : List MessageTree) (fs : List (List ℕ)) → AllZip (λ m frame. FrameIn Profile m frame longest_adding) ms fs → length (joined fs) ≡ 0 → (ms ≡ []) × (fs ≡ [])
 no_more [] [] z e = (refl, refl)
 no_more [] (f ∷ fs) z e = absurd z
 no_more (m ∷ ms) [] z e = absurd z
@@ -157,7 +157,7 @@ no_more (m ∷ ms) (f ∷ fs) z e = let h = (frame_is m f z.0).header in absurd 
 pub record Only (text bytes : List ℕ) : Type 0 where
   pub m : MessageTree
   pub listing : IsListingOf (m ∷ []) (heading ++ text)
-  pub frame : FrameIn Own m bytes longest_adding
+  pub frame : FrameIn Profile m bytes longest_adding
   pub line : message_line m ≡ added_line
 
 pub only : (text bytes : List ℕ) → First text bytes → length_field bytes ≡ length bytes → Only text bytes
@@ -168,31 +168,31 @@ only text bytes x e =
     record {
       m = x.m;
       listing = subst (λ (ms : List MessageTree). IsListingOf (x.m ∷ ms) (heading ++ text)) none.0 x.lists.0;
-      frame = subst (λ (b : List ℕ). FrameIn Own x.m b longest_adding) (sym same) x.frame;
+      frame = subst (λ (b : List ℕ). FrameIn Profile x.m b longest_adding) (sym same) x.frame;
       line = x.line;
     }
 
 pub more_there : (text bytes : List ℕ) → First text bytes → (length_field bytes ≡ length bytes → ⊥) → HasAnother text
 more_there text bytes x other = go x.ms x.fs x.each x.lists x.bytes_are
   where
-    go : (ms : List MessageTree) (fs : List (List ℕ)) → AllZip (λ m frame. FrameIn Own m frame longest_adding) ms fs → IsListing Own longest_adding (heading ++ text) (x.m ∷ ms) → bytes ≡ x.f ++ joined fs → HasAnother text
+    go : (ms : List MessageTree) (fs : List (List ℕ)) → AllZip (λ m frame. FrameIn Profile m frame longest_adding) ms fs → IsListing Profile longest_adding (heading ++ text) (x.m ∷ ms) → bytes ≡ x.f ++ joined fs → HasAnother text
     go [] [] z l e = absurd (other (own_field text bytes x ∙ ap (λ (b : List ℕ). length b) (sym (append-nil x.f) ∙ sym e)))
     go [] (f ∷ fs) z l e = absurd z
     go (m ∷ ms) fs z l e = inl (x.m, m, ms, l)
 
 -- what is decoded is the message
-pub decoded : (text bytes : List ℕ) (o : Only text bytes) (k : MessageTree) → Frame k bytes longest_adding → profile_of (Message k.kind) ≡ Own → k ≡ o.m
+pub decoded : (text bytes : List ℕ) (o : Only text bytes) (k : MessageTree) → Frame k bytes longest_adding → set_of_kind (Message k.kind) ≡ Profile → k ≡ o.m
 decoded text bytes o k frame own =
-    let same : Msg k ≡ Msg o.m = same_item Own longest_adding bytes (Msg k) (Msg o.m) (record { frame = frame; own = own }) o.frame in cc
+    let same : Msg k ≡ Msg o.m = same_item Profile longest_adding bytes (Msg k) (Msg o.m) (record { frame = frame; own = own }) o.frame in cc
 
-pub not_bad : (text bytes : List ℕ) → Only text bytes → (fault : Fault) → FirstFaultIn Own bytes longest_adding fault.bit fault.reason → ⊥
+pub not_bad : (text bytes : List ℕ) → Only text bytes → (fault : Fault) → FirstFaultIn Profile bytes longest_adding fault.bit fault.reason → ⊥
 not_bad text bytes o fault bad =
-    let same : Msg o.m ≡ Bad (id_field bytes) fault = same_item Own longest_adding bytes (Msg o.m) (Bad (id_field bytes) fault) o.frame (refl, bad) in cc
+    let same : Msg o.m ≡ Bad (id_field bytes) fault = same_item Profile longest_adding bytes (Msg o.m) (Bad (id_field bytes) fault) o.frame (refl, bad) in cc
 
 -- ---- its ROSpec
 
 only_in : (f : Forest) → ArePlaced (groups_of (Message AddRoSpec)) f → NoneTooMany (groups_of (Message AddRoSpec)) f → NoneMissing (groups_of (Message AddRoSpec)) f → (t : Tree) × (trees f ≡ t ∷ [])
-unfolding ArePlaced NoneTooMany NoneMissing count groups_of rule_of message_rule number_of key_of profile_of
+unfolding ArePlaced NoneTooMany NoneMissing count groups_of rule_of message_rule number_of key_of set_of_kind
 only_in none p m l = absurd (omega (arith, l.0))
 only_in (and before kind fields tail children) p m l =
     let t : Tree = record { kind = kind; fields = fields; tail = tail; children = children } in
@@ -240,14 +240,14 @@ at_end : (new : Option (List ℕ)) (back : List ℕ) → new ≡ Some back → I
 at_end None back e a = cc
 at_end (Some xs) back e a = let same : xs ≡ back = cc in sym same ∙ a
 
-refused_all : (r0 r1 : SourceLog) (text bytes : List ℕ) (line : ℕ) (reason : Refusal) → r0.left ≡ Some text → ListingRefusedIn Own longest_adding r0 r1 line reason bytes → RefusesIn Own longest_adding text line reason bytes
+refused_all : (r0 r1 : SourceLog) (text bytes : List ℕ) (line : ℕ) (reason : Refusal) → r0.left ≡ Some text → ListingRefusedIn Profile longest_adding r0 r1 line reason bytes → RefusesIn Profile longest_adding text line reason bytes
 refused_all r0 r1 text bytes line reason e (inl (all, read, refuses)) =
     let c = consumed r0.left r1.left text all e read.bytes_are in
     let none = at_end r1.left c.0 c.2 read.all in
-    subst (λ (x : List ℕ). RefusesIn Own longest_adding x line reason bytes) (sym (c.1 ∙ ap (λ (b : List ℕ). all ++ b) none ∙ append-nil all)) refuses
+    subst (λ (x : List ℕ). RefusesIn Profile longest_adding x line reason bytes) (sym (c.1 ∙ ap (λ (b : List ℕ). all ++ b) none ∙ append-nil all)) refuses
 refused_all r0 r1 text bytes line reason e (inr (n, front, gave, refuses)) =
     let c = consumed r0.left r1.left text front e gave.bytes_are in
-    subst (λ (x : List ℕ). RefusesIn Own longest_adding x line reason bytes) (sym c.1) (refuses c.0)
+    subst (λ (x : List ℕ). RefusesIn Profile longest_adding x line reason bytes) (sym c.1) (refuses c.0)
 
 appended : (old new : Option (List ℕ)) (bytes items : List ℕ) → old ≡ Some [] → Appends old new bytes → Some items ≡ new → items ≡ bytes
 appended None new bytes items e a is = cc
@@ -255,27 +255,27 @@ appended (Some xs) None bytes items e a is = cc
 appended (Some xs) (Some ys) bytes items e a is = let none : xs ≡ [] = cc in let same : items ≡ ys = cc in same ∙ a ∙ ap (λ (x : List ℕ). x ++ bytes) none
 
 pub listing_refused : (result : Result (Unit {0}) ToolErr) (error : ToolErr) (line : ℕ) (reason : Refusal) (r0 r1 : SourceLog) (w0 w1 : SinkLog) (text octets : List ℕ) → result ≡ Err error → error ≡ Listing line reason
-    → IfErr result (λ e. EncodeStopped longest_adding r0 r1 w0 w1 e) → r0.left ≡ Some (heading ++ text) → w0.taken ≡ Some [] → Some octets ≡ w1.taken → RefusesIn Own longest_adding (heading ++ text) line reason octets
+    → IfErr result (λ e. EncodeStopped longest_adding r0 r1 w0 w1 e) → r0.left ≡ Some (heading ++ text) → w0.taken ≡ Some [] → Some octets ≡ w1.taken → RefusesIn Profile longest_adding (heading ++ text) line reason octets
 listing_refused result error line reason r0 r1 w0 w1 text octets e l stopped left taken is =
     let h : EncodeStopped longest_adding r0 r1 w0 w1 (Listing line reason) =
     subst (λ (x : ToolErr). EncodeStopped longest_adding r0 r1 w0 w1 x) l (subst (λ (x : Result (Unit {0}) ToolErr). IfErr x (λ e. EncodeStopped longest_adding r0 r1 w0 w1 e)) e stopped) in
     let same : octets ≡ h.0 = appended w0.taken w1.taken h.0 octets taken h.1.bytes_are is in
-    subst (λ (x : List ℕ). RefusesIn Own longest_adding (heading ++ text) line reason x) (sym same) (refused_all r0 r1 (heading ++ text) h.0 line reason left h.2)
+    subst (λ (x : List ℕ). RefusesIn Profile longest_adding (heading ++ text) line reason x) (sym same) (refused_all r0 r1 (heading ++ text) h.0 line reason left h.2)
 
-none_spelled : (ms : List MessageTree) (fs : List (List ℕ)) (octets : List ℕ) → AllZip (λ m frame. FrameIn Own m frame longest_adding) ms fs → octets ≡ joined fs → (length octets == 0) ≡ true → ms ≡ []
+none_spelled : (ms : List MessageTree) (fs : List (List ℕ)) (octets : List ℕ) → AllZip (λ m frame. FrameIn Profile m frame longest_adding) ms fs → octets ≡ joined fs → (length octets == 0) ≡ true → ms ≡ []
 none_spelled ms fs octets z e empty =
     let zero : length octets ≡ 0 = grind (arith, nat_tests) in
     (no_more ms fs z (ap (λ (x : List ℕ). length x) (sym e) ∙ zero)).0
 
-pub refused_first : (text octets : List ℕ) (number line : ℕ) (reason : Refusal) → RefusesIn Own longest_adding (heading ++ text) number reason octets → (length octets == 0) ≡ true → line ≡ line_below number → IsRefusedFirst text line reason
+pub refused_first : (text octets : List ℕ) (number line : ℕ) (reason : Refusal) → RefusesIn Profile longest_adding (heading ++ text) number reason octets → (length octets == 0) ≡ true → line ≡ line_below number → IsRefusedFirst text line reason
 refused_first text octets number line reason r empty is =
     let none = none_spelled r.messages r.spelled.frames octets r.spelled.each r.spelled.bytes_are empty in
-    (number, subst (λ (ms : List MessageTree). IsRefused Own longest_adding (heading ++ text) number reason ms) none r.refused, is)
+    (number, subst (λ (ms : List MessageTree). IsRefused Profile longest_adding (heading ++ text) number reason ms) none r.refused, is)
 
-pub refused_later : (text octets : List ℕ) (number : ℕ) (reason : Refusal) → RefusesIn Own longest_adding (heading ++ text) number reason octets → (length octets == 0) ≡ false → HasAnother text
+pub refused_later : (text octets : List ℕ) (number : ℕ) (reason : Refusal) → RefusesIn Profile longest_adding (heading ++ text) number reason octets → (length octets == 0) ≡ false → HasAnother text
 refused_later text octets number reason r some = go r.messages r.spelled.frames r.spelled.each r.spelled.bytes_are r.refused
   where
-    go : (ms : List MessageTree) (fs : List (List ℕ)) → AllZip (λ m frame. FrameIn Own m frame longest_adding) ms fs → octets ≡ joined fs → IsRefused Own longest_adding (heading ++ text) number reason ms → HasAnother text
+    go : (ms : List MessageTree) (fs : List (List ℕ)) → AllZip (λ m frame. FrameIn Profile m frame longest_adding) ms fs → octets ≡ joined fs → IsRefused Profile longest_adding (heading ++ text) number reason ms → HasAnother text
     go [] [] z e x = let no : (length octets == 0) ≡ true = ap (λ (b : List ℕ). length b == 0) e in let bad : true ≡ false = sym no ∙ some in cc
     go [] (f ∷ fs) z e x = absurd z
     go (m ∷ ms) fs z e x = inr (m, ms, number, reason, x)

@@ -2,7 +2,7 @@
 use Rattle.std.proofs.Common.{ℕ, List, [], ◌∷◌, sym, ◌∙◌, arith}
 use Rattle.std.specs.List.{AllZip}
 use Rattle.std.proofs.lemmas.List.{append-nil}
-use Rattle.llrp_schema.specs.declared.kinds.Profile.TheVariants.{Own}
+use Rattle.llrp_schema.specs.declared.kinds.KindSet.TheVariants.{Profile}
 use Rattle.llrp_tree.specs.declared.TheConstants.{MAX_LIMIT}
 use Rattle.llrp_tree.specs.Tree.{MessageTree}
 use Rattle.llrp_tree.specs.Frame.{Frame}
@@ -26,4 +26,4 @@ within limit (m ∷ messages) (f ∷ frames) s h =
 pub frames_read_back : (limit : ℕ) (messages : List MessageTree) (bytes : List ℕ) → AreSendable limit messages → AreFrames messages bytes → ItemsSoFar limit bytes (as_items messages) []
 frames_read_back limit messages bytes s p =
     let each = within limit messages p.frames s p.each in
-    record { frames = p.frames; whole = p.whole ∙ sym (append-nil (joined p.frames)); each = are_frames Own limit messages p.frames each; are = are_items Own limit messages p.frames each }
+    record { frames = p.frames; whole = p.whole ∙ sym (append-nil (joined p.frames)); each = are_frames Profile limit messages p.frames each; are = are_items Profile limit messages p.frames each }

@@ -9,7 +9,7 @@ use Rattle.llrp_tree.specs.declared.TheConstants.{MAX_LIMIT}
 use Rattle.llrp_stream.specs.declared.item.Item.{Item}
 use Rattle.llrp_stream.specs.declared.item.Item.TheVariants.{Msg, Bad}
 use Rattle.llrp_stream.specs.Items.{IsItemIn}
-use Rattle.llrp_schema.specs.declared.kinds.Profile.{Profile}
+use Rattle.llrp_schema.specs.declared.kinds.KindSet.{KindSet}
 use Rattle.llrp_session.specs.Refusal.{Refusal}
 use Rattle.llrp_session.specs.declared.types.Command.{Command}
 use Rattle.llrp_session.specs.declared.types.Taken.{Taken}
@@ -32,11 +32,11 @@ use Rattle.llrp_endpoints.specs.declared.course.Phase.{Phase}
 use Rattle.llrp_endpoints.specs.declared.course.Phase.TheVariants.{Open, Closed, Failed}
 use Rattle.llrp_endpoints.specs.declared.course.Step.{Step}
 use Rattle.llrp_endpoints.specs.declared.course.Step.TheVariants.{Send, AwaitTags}
-use Rattle.llrp_endpoints.specs.Heard.{heard}
-use Rattle.llrp_endpoints.proofs.HeardLemmas.{HasId, heard_ids}
-use Rattle.llrp_endpoints.specs.Plan.{Plan, rospec_id, steps}
+use Rattle.llrp_endpoints.proofs.HeardLemmas.{HasId}
+use Rattle.llrp_endpoints.proofs.OddLemmas.{taken_ids}
+use Rattle.llrp_endpoints.specs.Plan.{hearing_of, Plan, rospec_id, steps}
 use Rattle.llrp_endpoints.specs.Calls.PlanLaws.{IsValid}
-use Rattle.llrp_endpoints.specs.Gathering.{Course, new_course, ends, sends_by, takes_step, steps_on, send_next, reported, ended, after, after_taking, after_item, goes, follow, Gathers}
+use Rattle.llrp_endpoints.specs.Gathering.{Course, new_course, ends, sends_by, takes_step, steps_on, send_next, reported, ended, after, after_taking, after_item, goes, follow, Gathers, taken}
 use Rattle.llrp_endpoints.proofs.PlanCommands.{OfEach, each_step}
 use Rattle.llrp_endpoints.proofs.PlanSteps.{as_sent}
 use Rattle.llrp_endpoints.proofs.PlanFollowing.{bad_either}
@@ -120,7 +120,7 @@ follow_fits : (limit : ℕ) (items : List Item) (c : Course) → AllByRecursion 
 follow_fits limit [] c fits h = h
 follow_fits limit (item ∷ items) c fits h = follow_fits limit items (goes c.phase item c) fits.1 (goes_fits c.phase limit item c fits.0 h)
 
-have_ids : (p : Profile) (limit : ℕ) (frames : List (List ℕ)) (items : List Item) → AllZip (IsItemIn p limit) frames items → AllByRecursion HasId items
+have_ids : (p : KindSet) (limit : ℕ) (frames : List (List ℕ)) (items : List Item) → AllZip (IsItemIn p limit) frames items → AllByRecursion HasId items
 have_ids p limit [] [] are = tt
 have_ids p limit [] (i ∷ items) are = absurd are
 have_ids p limit (f ∷ frames) [] are = absurd are
@@ -138,6 +138,7 @@ plan_given plan valid =
     let id : rospec_id plan < 2 ^ 32 = id_fits plan valid in
     let each : OfEach IsGivenStep plan = record {
       cleans = omega arith;
+      keeps = valid.keepalive;
       adds = (valid.kind, valid.lawful);
       enables = id;
       starts = id;
@@ -154,5 +155,5 @@ pub sends_within_limit : (limit : ℕ) (plan : Plan) (bytes rest : List ℕ) (co
     → Gathers limit plan bytes rest course → AreSendable limit (map client_message course.sent)
 sends_within_limit limit plan bytes rest course least most valid g =
     let begins : Fits limit (new_course limit plan) = record { client = refl; left = plan_given plan valid; sent = tt } in
-    let end = follow_fits limit (heard plan.profile g.items) (new_course limit plan) (heard_ids plan.profile g.items (have_ids plan.profile limit g.are.frames g.items g.are.are)) begins in
+    let end = follow_fits limit (taken (hearing_of plan) g.items (new_course limit plan)) (new_course limit plan) (taken_ids (hearing_of plan) g.items (new_course limit plan) (have_ids plan.set limit g.are.frames g.items g.are.are)) begins in
     sendable limit course.sent least most (subst (λ (c : Course). AreLawfulClientMessages limit c.sent) (sym g.course_is) end.sent)

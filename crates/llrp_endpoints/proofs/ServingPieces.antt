@@ -28,7 +28,7 @@ use Rattle.llrp_endpoints.specs.Private.ServingStands.{Connects, TakesItem}
 use Rattle.llrp_endpoints.specs.declared.serving.Phase.TheVariants.{Open}
 use Rattle.llrp_endpoints.proofs.SendingLemmas.{adds_none, adds_more}
 
-none_push : (items : List Item) (item : Item) → AllByRecursion (λ item. Closes item → ⊥) items → (Closes item → ⊥) → AllByRecursion (λ item. Closes item → ⊥) (items ++ item ∷ [])
+pub none_push : (items : List Item) (item : Item) → AllByRecursion (λ item. Closes item → ⊥) items → (Closes item → ⊥) → AllByRecursion (λ item. Closes item → ⊥) (items ++ item ∷ [])
 none_push [] item h c = (c, tt)
 none_push (i ∷ items) item h c = (h.0, none_push items item h.1 c)
 

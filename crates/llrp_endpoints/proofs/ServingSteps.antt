@@ -118,11 +118,11 @@ same_event : (reader : Reader) (entries : List Entry) (items : List Item) (item 
     → ◌≡◌ {A = Happening} (record { now = s.moment; event = event }) (taken_at entries items item)
 same_event reader entries items item s event h by = rw (by, moment_of_done (length items) entries s h.done) refl
 
-closing : (entries : List Entry) (items : List Item) (item : Item) → closing_events entries items item ≡ events entries items ++ taken_at entries items item ∷ []
+pub closing : (entries : List Entry) (items : List Item) (item : Item) → closing_events entries items item ≡ events entries items ++ taken_at entries items item ∷ []
 unfolding closing_events
 closing entries items item = refl
 
-all_events : (entries : List Entry) (items : List Item) (item : Item) → events entries (items ++ item ∷ []) ≡ events entries items ++ (taken_at entries items item ∷ map happening (entries_at (length items + 1) entries))
+pub all_events : (entries : List Entry) (items : List Item) (item : Item) → events entries (items ++ item ∷ []) ≡ events entries items ++ (taken_at entries items item ∷ map happening (entries_at (length items + 1) entries))
 all_events entries items item =
     events-snoc entries items item ∙ ap (λ (hs : List Happening). hs ++ map happening (entries_at (length items + 1) entries)) (closing entries items item)
     ∙ append_assoc (events entries items) (taken_at entries items item ∷ []) (map happening (entries_at (length items + 1) entries))

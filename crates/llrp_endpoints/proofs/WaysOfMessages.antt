@@ -1,6 +1,7 @@
 -- The next bytes on a way of messages are messages, and then nothing or a front of one more.
 use Rattle.std.proofs.Common.{◌≡◌, ℕ, ◌<◌, ◌⊎◌, inl, inr, List, [], ◌∷◌, ◌++◌, map, take, drop, length, refl, sym, ap, subst, ◌∙◌, arith}
 use Rattle.std.specs.List.{AllByRecursion, AllZip}
+use Rattle.llrp_schema.specs.declared.kinds.KindSet.TheVariants.{Profile}
 use Rattle.llrp_tree.specs.declared.TheConstants.{MAX_LIMIT}
 use Rattle.llrp_tree.specs.Tree.{MessageTree}
 use Rattle.llrp_tree.specs.Frame.{Frame}
@@ -8,7 +9,7 @@ use Rattle.llrp_stream.specs.declared.item.Item.{Item}
 use Rattle.llrp_stream.specs.declared.item.Item.TheVariants.{Msg, Bad}
 use Rattle.llrp_stream.specs.declared.item.End.TheVariants.{Broken}
 use Rattle.llrp_stream.specs.Cuts.{length_field, IsPartial, Breaks, joined}
-use Rattle.llrp_stream.specs.Items.{ItemsSoFar}
+use Rattle.llrp_stream.specs.Items.{FrameIn, ItemsSoFar}
 use Rattle.llrp_stream.proofs.FrontLemmas.{length_field-append}
 use Rattle.llrp_stream.proofs.ItemLemmas.{below_or_not}
 use Rattle.llrp_stream.proofs.PrefixLemmas.{cut, end_of, ends}
@@ -43,7 +44,7 @@ front_is limit (m ∷ rest) [] front later s each e p = absurd each
 front_is limit (m ∷ rest) (f ∷ frames) front later s each e p =
     let lt = frame_is_longer m f (joined frames) front later each.0 e p in
     let c = cut f (joined frames) front later (sym e) (omega (arith, lt)) in
-    inr (record { message = m; later = c.middle; frame = subst (λ (x : List ℕ). Frame m x limit) c.first (within limit m f (s.0, tt) each.0).frame; unfinished = p })
+    inr (record { message = m; later = c.middle; frame = subst (λ (x : List ℕ). FrameIn Profile m x limit) c.first (within limit m f (s.0, tt) each.0); unfinished = p })
 
 pub last_sendable : (limit : ℕ) (a b : List MessageTree) → AreSendable limit (a ++ b) → AreSendable limit b
 last_sendable limit [] b s = s

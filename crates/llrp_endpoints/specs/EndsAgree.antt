@@ -2,15 +2,14 @@
 use Rattle.std.specs.Prelude.{◌≡◌, ℕ, ◌<◌, ◌≤◌, ◌^◌, ◌⊎◌, List, [], ◌++◌, length, map, take, None}
 use Rattle.std.specs.List.{AllByRecursion}
 use Rattle.llrp_schema.specs.declared.kinds.Kind.TheVariants.{Message}
-use Rattle.llrp_schema.specs.declared.kinds.Profile.TheVariants.{Own}
-use Rattle.llrp_schema.specs.Schema.{profile_of}
+use Rattle.llrp_schema.specs.declared.kinds.KindSet.TheVariants.{Profile}
+use Rattle.llrp_schema.specs.Schema.{set_of_kind}
 use Rattle.llrp_tree.specs.declared.TheConstants.{MAX_LIMIT}
 use Rattle.llrp_tree.specs.Tree.{MessageTree}
-use Rattle.llrp_tree.specs.Frame.{Frame}
 use Rattle.llrp_stream.specs.declared.item.Item.{Item}
 use Rattle.llrp_stream.specs.declared.item.Item.TheVariants.{Msg, Bad}
 use Rattle.llrp_stream.specs.Cuts.{IsPartial, Breaks}
-use Rattle.llrp_stream.specs.Items.{ItemsSoFar}
+use Rattle.llrp_stream.specs.Items.{FrameIn, ItemsSoFar}
 use Rattle.llrp_session.specs.Table.{states}
 use Rattle.llrp_session.specs.World.{WorldEvent}
 use Rattle.llrp_session.specs.MessageAgreement.{MessagesAreTaken, IsOnTheWay}
@@ -20,7 +19,7 @@ use Rattle.llrp_endpoints.specs.ByteWorld.{Way, ByteWorld, ByteEvent, ReadsDown,
 
 -- messages of the profile: the octets of some are also those of a message of the whole standard
 abbrev pub AreOwn : List MessageTree → Type 0
-AreOwn messages = AllByRecursion (λ m. profile_of (Message m.kind) ≡ Own) messages
+AreOwn messages = AllByRecursion (λ m. set_of_kind (Message m.kind) ≡ Profile) messages
 
 -- The messages of the profile that are on a way, those that are half read among them.
 pub record AreOnTheWay (messages : List MessageTree) (way : Way) : Type 0 where
@@ -66,11 +65,11 @@ abbrev pub IsMessage : Item → Type 0
 IsMessage (Msg m) = Unit {0}
 IsMessage (Bad id fault) = ⊥
 
--- The bytes are a front of a message's frame, and less than the frame.
+-- The bytes are the beginning of a frame of a message of the profile, and less than the frame.
 pub record IsFrontOfMessage (limit : ℕ) (bytes : List ℕ) : Type 0 where
   pub message : MessageTree
   pub later : List ℕ
-  pub frame : Frame message (bytes ++ later) limit
+  pub frame : FrameIn Profile message (bytes ++ later) limit
   pub unfinished : IsPartial bytes
 
 -- The bytes are whole messages, and then nothing or a front of one more. However many of their frames are taken, each is a message's, and what

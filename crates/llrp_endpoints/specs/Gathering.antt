@@ -1,5 +1,5 @@
 -- What the items of a reader make of a client that follows a plan.
-use Rattle.std.specs.Prelude.{◌≡◌, ℕ, ◌==◌, if◌then◌else◌, List, [], ◌∷◌, ◌++◌, Result, Ok, Err}
+use Rattle.std.specs.Prelude.{◌≡◌, ℕ, ◌==◌, ◌&&◌, not, Bool, true, false, if◌then◌else◌, List, [], ◌∷◌, ◌++◌, Option, None, Some, Result, Ok, Err}
 use Rattle.llrp_tree.specs.Tree.{Tree}
 use Rattle.llrp_tree.specs.declared.fault.Reason.{Reason}
 use Rattle.llrp_tree.specs.declared.fault.Reason.TheVariants.{MessageType, ParamType}
@@ -11,7 +11,10 @@ use Rattle.llrp_session.specs.declared.types.Command.{Command}
 use Rattle.llrp_session.specs.declared.types.Command.TheVariants.{GetReport, Close}
 use Rattle.llrp_session.specs.declared.types.Taken.{Taken}
 use Rattle.llrp_session.specs.declared.types.Taken.TheVariants.{Connected, Refused, Reply, Tags, Table, Differs, Event, Note, Kept, Closed as ConnectionEnded}
-use Rattle.llrp_session.specs.Contents.{ClientMessage}
+use Rattle.llrp_session.specs.declared.types.ClientPhase.{ClientPhase}
+use Rattle.llrp_session.specs.declared.types.ClientPhase.TheVariants.{Fresh, Ready, Closed as PhaseClosed}
+use Rattle.llrp_session.specs.declared.types.Pending.{Pending}
+use Rattle.llrp_session.specs.Contents.{ClientMessage, Heard, HeardResponse, HeardError, HeardReport, HeardKeepalive, HeardNotification, HeardOther}
 use Rattle.llrp_session.specs.ClientMachine.{Client, Sending, Taking, command, take, new_client}
 use Rattle.llrp_session.specs.Reading.{heard_of}
 use Rattle.llrp_listing.specs.declared.outcome.ToolErr.TheVariants.{Peer, Strange, Early}
@@ -22,8 +25,10 @@ use Rattle.llrp_endpoints.specs.declared.course.Phase.TheVariants.{Open, Closed,
 use Rattle.llrp_endpoints.specs.declared.course.Step.{Step}
 use Rattle.llrp_endpoints.specs.declared.course.Step.TheVariants.{Send, AwaitTags}
 use Rattle.llrp_endpoints.specs.declared.form.LineForm.{LineForm}
+use Rattle.llrp_endpoints.specs.Asides.{Asides}
 use Rattle.llrp_endpoints.specs.Heard.{heard}
-use Rattle.llrp_endpoints.specs.Plan.{Plan, steps}
+use Rattle.llrp_endpoints.specs.declared.hearing.Hearing.{Hearing}
+use Rattle.llrp_endpoints.specs.Plan.{Plan, hearing_of, steps}
 use Rattle.llrp_endpoints.specs.TagLines.{total_line}
 
 -- the last line, where the connection was closed
@@ -36,6 +41,7 @@ closing_text form (Failed error) reports = []
 pub record Course : Type 0 where
   pub client : Client
   pub form : LineForm  -- the form of its lines
+  pub asides : Asides  -- what it says besides the plan
   pub left : List Step  -- the plan's steps that are not taken yet
   pub awaits : Awaits  -- what is awaited before the next one
   pub sent : List ClientMessage  -- all that the client has sent
@@ -44,7 +50,7 @@ pub record Course : Type 0 where
 
 -- the reader is connected, and has not accepted the client yet
 abbrev pub new_course : ℕ → Plan → Course
-new_course limit plan = record { client = new_client limit 1; form = plan.form; left = steps plan; awaits = Answer; sent = []; reports = []; phase = Open }
+new_course limit plan = record { client = new_client limit 1; form = plan.form; asides = plan.asides; left = steps plan; awaits = Answer; sent = []; reports = []; phase = Open }
 
 -- it ends so
 abbrev pub ends : Phase → Course → Course
@@ -133,8 +139,87 @@ abbrev pub follow : List Item → Course → Course
 follow [] c = c
 follow (item ∷ items) c = follow items (goes c.phase item c)
 
--- A client with this limit that follows the plan is so far once the items of the bytes' first frames came; this is what follows those frames.
-pub record Gathers (limit : ℕ) (plan : Plan) (bytes rest : List ℕ) (course : Course) : Type 0 where
+-- ---- what is passed over
+
+-- the reader has accepted the client, and the connection is up
+abbrev pub is_ready : ClientPhase → Bool
+is_ready Fresh = false
+is_ready Ready = true
+is_ready PhaseClosed = false
+
+-- a request is pending under this id
+abbrev pub is_pending : ℕ → Option Pending → Bool
+is_pending id None = false
+is_pending id (Some p) = p.id == id
+
+-- it is no response, and nothing that a reader says by itself
+abbrev pub is_other : Heard → Bool
+is_other (HeardResponse operation status rospecs) = false
+is_other (HeardError status) = false
+is_other (HeardReport tags) = false
+is_other HeardKeepalive = false
+is_other (HeardNotification n) = false
+is_other HeardOther = true
+
+-- odd to a client that its reader has accepted are such a message, and a frame with a fault that does not have the id of the pending request
+abbrev pub is_odd : Client → Item → Bool
+is_odd a (Msg m) = is_ready a.phase && is_other (heard_of m)
+is_odd a (Bad id fault) = is_ready a.phase && not (is_pending id a.pending)
+
+abbrev pub unless_odd : Bool → Item → List Item
+unless_odd true item = []
+unless_odd false item = item ∷ []
+
+-- of items those that are not odd where they come
+abbrev pub without_odd : List Item → Course → List Item
+without_odd [] c = []
+without_odd (item ∷ items) c = unless_odd (is_odd c.client item) item ++ without_odd items (follow (unless_odd (is_odd c.client item) item) c)
+
+abbrev pub heeded : (passes : Bool) → List Item → Course → List Item
+heeded false items c = items
+heeded true items c = without_odd items c
+
+-- what a client that hears so, and is so far, takes of its reader's items: what is passed over is as if it had not come
+abbrev pub taken : Hearing → List Item → Course → List Item
+taken h items c = heeded h.passes (heard h items) c
+
+-- ---- how far it is
+
+-- how a client begins: its limit, how it hears its reader, and how far it is
+pub record Beginning : Type 0 where
+  pub limit : ℕ
+  pub hearing : Hearing
+  pub course : Course
+
+-- as new, with a plan
+abbrev pub beginning : ℕ → Plan → Beginning
+beginning limit plan = record { limit = limit; hearing = hearing_of plan; course = new_course limit plan }
+
+-- A client that began so is so far once the items of the bytes' first frames came; this is what follows those frames.
+pub record GathersFrom (b : Beginning) (bytes rest : List ℕ) (course : Course) : Type 0 where
   pub items : List Item
-  pub are : ItemsSoFarIn plan.profile limit bytes items rest
-  pub course_is : course ≡ follow (heard plan.profile items) (new_course limit plan)
+  pub are : ItemsSoFarIn b.hearing.set b.limit bytes items rest
+  pub course_is : course ≡ follow (taken b.hearing items b.course) b.course
+
+-- A client with this limit that follows the plan is so far.
+abbrev pub Gathers : (limit : ℕ) → Plan → (bytes rest : List ℕ) → Course → Type 0
+Gathers limit plan bytes rest course = GathersFrom (beginning limit plan) bytes rest course
+
+-- ---- in a hurry
+
+-- the steps without those that only await a report
+abbrev pub without_waits : List Step → List Step
+without_waits [] = []
+without_waits (Send k ∷ left) = Send k ∷ without_waits left
+without_waits (AwaitTags ∷ left) = without_waits left
+
+-- a wait for a report with a tag is over
+abbrev pub pressed : Awaits → Course → Course
+pressed TaggedReport c = send_next c
+pressed Answer c = c
+pressed Report c = c
+pressed End c = c
+
+-- no more reports are awaited, and the plan goes on to its end
+abbrev pub hurried : Course → Course
+hurried c = pressed c.awaits (record c { left = without_waits c.left })

@@ -1,20 +1,26 @@
--- What is heard of the messages of the whole standard: what the profile has of each.
-use Rattle.std.specs.Prelude.{ℕ, if◌then◌else◌, is_none, List, [], ◌∷◌, Option, Some, None}
+-- What is heard of a reader's messages: what the profile has of each, and of an answer that is excused a grant.
+use Rattle.std.specs.Prelude.{ℕ, ◌==◌, ◌&&◌, ◌||◌, Bool, true, false, if◌then◌else◌, is_none, List, [], ◌∷◌, Option, Some, None}
+use Rattle.std.specs.Option.{option_map}
 use Rattle.std.specs.List.{flat_map}
 use Rattle.llrp_schema.specs.declared.kinds.MsgKind.{MsgKind}
+use Rattle.llrp_schema.specs.declared.kinds.MsgKind.TheVariants.{DeleteRoSpecResponse, ErrorMessage}
 use Rattle.llrp_schema.specs.declared.kinds.ParamKind.{ParamKind}
 use Rattle.llrp_schema.specs.declared.kinds.Kind.TheVariants.{Message, Parameter}
-use Rattle.llrp_schema.specs.declared.kinds.Profile.{Profile}
-use Rattle.llrp_schema.specs.declared.kinds.Profile.TheVariants.{Own, Whole}
+use Rattle.llrp_schema.specs.declared.kinds.KindSet.{KindSet}
+use Rattle.llrp_schema.specs.declared.kinds.KindSet.TheVariants.{Profile, Standard}
 use Rattle.llrp_schema.specs.Schema.{GroupRule, groups_of, has_place, is_tv, message_in, number_of, tlv_in, tv_in}
 use Rattle.llrp_tree.specs.Tree.{Forest, none, and, Tree, MessageTree, add}
 use Rattle.llrp_tree.specs.Checks.{first_fault, first_message_fault}
 use Rattle.llrp_stream.specs.declared.item.Item.{Item}
 use Rattle.llrp_stream.specs.declared.item.Item.TheVariants.{Msg, Bad}
+use Rattle.llrp_session.specs.declared.types.Operation.TheVariants.{Deleting}
+use Rattle.llrp_session.specs.Contents.{Response}
+use Rattle.llrp_session.specs.ReaderMessages.{reader_message}
+use Rattle.llrp_endpoints.specs.declared.hearing.Hearing.{Hearing}
 
 -- the profile's kind of a parameter with the same number
 abbrev pub own_kind : ParamKind → Option ParamKind
-own_kind kind = if is_tv kind then tv_in Own (number_of (Parameter kind)) else tlv_in Own (number_of (Parameter kind))
+own_kind kind = if is_tv kind then tv_in Profile (number_of (Parameter kind)) else tlv_in Profile (number_of (Parameter kind))
 
 -- its groups of children
 abbrev pub groups_where : Option ParamKind → List GroupRule
@@ -49,18 +55,45 @@ own_where (Some kind) m = message_where (record { version = m.version; id = m.id
 
 -- what the profile has of a message
 unfoldable pub own_message : MessageTree → Option MessageTree
-own_message m = own_where (message_in Own (number_of (Message m.kind))) m
+own_message m = own_where (message_in Profile (number_of (Message m.kind))) m
+
+abbrev pub part_in : KindSet → MessageTree → Option MessageTree
+part_in Profile m = Some m
+part_in Standard m = own_message m
+
+-- ---- an answer that is excused
+
+-- it has the number of this kind
+abbrev pub is_numbered : MessageTree → MsgKind → Bool
+is_numbered m kind = number_of (Message m.kind) == number_of (Message kind)
+
+-- it may answer the client's first request, which has the id 1, where that is a DELETE_ROSPEC: it is its response or an ERROR_MESSAGE
+abbrev pub answers_first : MessageTree → Bool
+answers_first m = (m.id == 1) && (is_numbered m DeleteRoSpecResponse || is_numbered m ErrorMessage)
+
+-- the response with M_Success, which is heard in its place whatever its status is (LLRP 1.1, section 15)
+abbrev pub granted : MessageTree → MessageTree
+granted m = reader_message (record { version = m.version; id = m.id; word = Response Deleting 0 })
+
+abbrev pub excused : Bool → MessageTree → MessageTree
+excused false m = m
+excused true m = if answers_first m then granted m else m
+
+-- ---- what is heard
+
+-- of a message what the set of kinds has of it; of nothing else is it heard
+abbrev pub heard_message : Hearing → MessageTree → Option MessageTree
+heard_message h m = option_map (excused h.excuses) (part_in h.set m)
 
 abbrev pub item_where : Option MessageTree → List Item
 item_where None = []
 item_where (Some m) = Msg m ∷ []
 
 -- what is heard of an item: all of a frame that is no message
-abbrev pub heard_item : Item → List Item
-heard_item (Msg m) = item_where (own_message m)
-heard_item (Bad id fault) = Bad id fault ∷ []
+abbrev pub heard_item : Hearing → Item → List Item
+heard_item h (Msg m) = item_where (heard_message h m)
+heard_item h (Bad id fault) = Bad id fault ∷ []
 
--- what is heard of items that were read in this set of kinds; a message of which the profile has nothing is passed over
-abbrev pub heard : Profile → List Item → List Item
-heard Own items = items
-heard Whole items = flat_map heard_item items
+-- what is heard of items; a message of which nothing is heard is passed over
+abbrev pub heard : Hearing → List Item → List Item
+heard h items = flat_map (heard_item h) items

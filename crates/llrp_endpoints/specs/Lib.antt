@@ -1,7 +1,10 @@
+pub mod Asides
 pub mod ByteWorld
 pub mod EndsAgree
 pub mod Gathering
 pub mod Heard
+pub mod MarkedLines
+pub mod Moments
 pub mod Plan
 pub mod RunInventory
 pub mod RunLoop
@@ -9,5 +12,6 @@ pub mod RunServe
 pub mod Sending
 pub mod Serving
 pub mod TagLines
+pub mod Watching
 pub mod Calls
 pub mod Private

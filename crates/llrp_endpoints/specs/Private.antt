@@ -1,10 +1,13 @@
 -- Words of private functions: no public contract names one.
 pub mod Acting
+pub mod Asides
 pub mod EndsStand
 pub mod GatheringStands
 pub mod Heard
 pub mod Objects
+pub mod Reads
 pub mod Script
 pub mod ServingStands
 pub mod General
 pub mod Server
+pub mod Watching

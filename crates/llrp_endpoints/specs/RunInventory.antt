@@ -1,16 +1,18 @@
 -- What a client that follows a plan reads and writes.
-use Rattle.std.specs.Prelude.{◌≡◌, ℕ, ◌⊎◌, List, ◌++◌, map, Result, Ok, Err}
+use Rattle.std.specs.Prelude.{◌≡◌, ℕ, ◌⊎◌, ◌+◌, ◌<◌, ◌≤◌, List, ◌++◌, Result, Ok, Err}
+use Rattle.std.specs.Io.KnownBytes.{IsAtEnd, Consumes}
 use Rattle.llrp_tree.specs.Tree.{Tree, MessageTree}
 use Rattle.llrp_stream.specs.Cuts.{IsPartial, Breaks}
 use Rattle.llrp_stream.specs.Device.{SourceLog, SinkLog, Gave, Wrote, WroteAndFailed}
-use Rattle.llrp_session.specs.ClientMessages.{client_message}
 use Rattle.llrp_listing.specs.declared.outcome.ToolErr.{ToolErr}
 use Rattle.llrp_listing.specs.declared.outcome.ToolErr.TheVariants.{Read, Write, Bound, Broken, Memory, Peer, Strange, Early}
 use Rattle.llrp_endpoints.specs.declared.course.Phase.{Phase}
 use Rattle.llrp_endpoints.specs.declared.course.Phase.TheVariants.{Open, Closed, Failed}
 use Rattle.llrp_endpoints.specs.declared.summary.Summary.{Summary}
-use Rattle.llrp_listing.specs.Copying.{ReadAll, GaveAndFailed, IsPrefix, WasGiven}
+use Rattle.llrp_listing.specs.Copying.{GaveAndFailed, IsPrefix}
 use Rattle.llrp_listing.specs.declared.devices.TheConstants.{MOST_READS}
+use Rattle.llrp_endpoints.specs.declared.inventory.TheConstants.{MOST_LASTING_READS}
+use Rattle.llrp_endpoints.specs.Asides.{all_said}
 use Rattle.llrp_endpoints.specs.Gathering.{Course, Gathers}
 use Rattle.llrp_endpoints.specs.Gathering.{closing_text}
 use Rattle.llrp_endpoints.specs.Plan.{Plan}
@@ -21,7 +23,7 @@ use Rattle.llrp_endpoints.specs.TagLines.{AreReports, summary_of}
 
 -- The frames of all that was sent, and the lines of all reports, with the last line where the connection was closed.
 pub record Says (course : Course) (frames text : List ℕ) : Type 0 where
-  pub frames_are : AreFrames (map client_message course.sent) frames
+  pub frames_are : AreFrames (all_said course.asides course.sent) frames
   pub lines : List ℕ
   pub lines_are : AreReports course.form course.reports lines
   pub text_is : text ≡ lines ++ closing_text course.form course.phase course.reports
@@ -30,12 +32,26 @@ pub record Says (course : Course) (frames text : List ℕ) : Type 0 where
 pub record SaysSome (course : Course) (frames text : List ℕ) : Type 0 where
   pub messages : List MessageTree
   pub later_messages : List MessageTree
-  pub sent_are : map client_message course.sent ≡ messages ++ later_messages
+  pub sent_are : all_said course.asides course.sent ≡ messages ++ later_messages
   pub frames_are : AreFrames messages frames
   pub reports : List (List Tree)
   pub later_reports : List (List Tree)
   pub reports_are : course.reports ≡ reports ++ later_reports
   pub lines_are : AreReports course.form reports text
+
+-- ---- what was read
+
+-- at most so many reads gave these bytes
+abbrev pub WasGivenWithin : (most : ℕ) → SourceLog → SourceLog → List ℕ → Type 0
+WasGivenWithin most old new bytes = (n : ℕ) × (n ≤ most) × Gave old new n bytes
+
+-- All that the source had left was read in fewer reads than so many, until a read met its end.
+pub record ReadAllWithin (most : ℕ) (old new : SourceLog) (bytes : List ℕ) : Type 0 where
+  pub reads : ℕ
+  pub few : reads < most
+  pub counts : new ≡ record old { reads = old.reads + reads; ends = old.ends + 1; left = new.left }
+  pub bytes_are : Consumes old.left new.left bytes
+  pub all : IsAtEnd new.left
 
 -- ---- how far a course is
 
@@ -68,18 +84,26 @@ StoppedWriting frames text w0 w1 t0 t1 =
 
 -- ---- a run
 
--- What a run did, by its answer. Ok comes only with the closing that is awaited, and its numbers are those of all reports.
+-- What a run of at most so many reads did, by its answer. Ok comes only with the closing that is awaited, and its numbers are those of all reports.
 -- Early comes where a read met the source's end before, or the connection was closed before. After every read all that the
 -- client says to the bytes so far was written before the next.
+abbrev pub RunsInventoryWithin : (most : ℕ) → ℕ → Plan → SourceLog → SourceLog → SinkLog → SinkLog → SinkLog → SinkLog → List ℕ → Result Summary ToolErr → Type 0
+RunsInventoryWithin most limit plan r0 r1 w0 w1 t0 t1 bytes (Ok summary) = WasGivenWithin most r0 r1 bytes × (course : Course) × Ended Closed limit plan bytes course × WroteAll course w0 w1 t0 t1 × (summary ≡ summary_of course.reports)
+RunsInventoryWithin most limit plan r0 r1 w0 w1 t0 t1 bytes (Err Early) =
+    (course : Course) × WroteAll course w0 w1 t0 t1 × ((ReadAllWithin most r0 r1 bytes × AwaitsBytes limit plan bytes course) ⊎ (WasGivenWithin most r0 r1 bytes × Ended (Failed Early) limit plan bytes course))
+RunsInventoryWithin most limit plan r0 r1 w0 w1 t0 t1 bytes (Err (Peer status)) = WasGivenWithin most r0 r1 bytes × (course : Course) × Ended (Failed (Peer status)) limit plan bytes course × WroteAll course w0 w1 t0 t1
+RunsInventoryWithin most limit plan r0 r1 w0 w1 t0 t1 bytes (Err Strange) = WasGivenWithin most r0 r1 bytes × (course : Course) × Ended (Failed Strange) limit plan bytes course × WroteAll course w0 w1 t0 t1
+RunsInventoryWithin most limit plan r0 r1 w0 w1 t0 t1 bytes (Err Broken) = WasGivenWithin most r0 r1 bytes × (course : Course) × BreaksOff limit plan bytes course × WroteAll course w0 w1 t0 t1
+RunsInventoryWithin most limit plan r0 r1 w0 w1 t0 t1 bytes (Err Read) = ((n : ℕ) × GaveAndFailed r0 r1 n bytes) × (course : Course) × AwaitsBytes limit plan bytes course × WroteAll course w0 w1 t0 t1
+RunsInventoryWithin most limit plan r0 r1 w0 w1 t0 t1 bytes (Err Bound) = Gave r0 r1 most bytes × (course : Course) × AwaitsBytes limit plan bytes course × WroteAll course w0 w1 t0 t1
+RunsInventoryWithin most limit plan r0 r1 w0 w1 t0 t1 bytes (Err Write) = WasGivenWithin most r0 r1 bytes × (frames text : List ℕ) × BeginsSaying limit plan bytes frames text × StoppedWriting frames text w0 w1 t0 t1
+RunsInventoryWithin most limit plan r0 r1 w0 w1 t0 t1 bytes (Err Memory) = WasGivenWithin most r0 r1 bytes × (frames text : List ℕ) × BeginsSaying limit plan bytes frames text × Wrote w0 w1 frames × Wrote t0 t1 text
+RunsInventoryWithin most limit plan r0 r1 w0 w1 t0 t1 bytes (Err _) = ⊥
+
+-- a run of as many reads as a command makes
 abbrev pub RunsInventory : ℕ → Plan → SourceLog → SourceLog → SinkLog → SinkLog → SinkLog → SinkLog → List ℕ → Result Summary ToolErr → Type 0
-RunsInventory limit plan r0 r1 w0 w1 t0 t1 bytes (Ok summary) = WasGiven r0 r1 bytes × (course : Course) × Ended Closed limit plan bytes course × WroteAll course w0 w1 t0 t1 × (summary ≡ summary_of course.reports)
-RunsInventory limit plan r0 r1 w0 w1 t0 t1 bytes (Err Early) =
-    (course : Course) × WroteAll course w0 w1 t0 t1 × ((ReadAll r0 r1 bytes × AwaitsBytes limit plan bytes course) ⊎ (WasGiven r0 r1 bytes × Ended (Failed Early) limit plan bytes course))
-RunsInventory limit plan r0 r1 w0 w1 t0 t1 bytes (Err (Peer status)) = WasGiven r0 r1 bytes × (course : Course) × Ended (Failed (Peer status)) limit plan bytes course × WroteAll course w0 w1 t0 t1
-RunsInventory limit plan r0 r1 w0 w1 t0 t1 bytes (Err Strange) = WasGiven r0 r1 bytes × (course : Course) × Ended (Failed Strange) limit plan bytes course × WroteAll course w0 w1 t0 t1
-RunsInventory limit plan r0 r1 w0 w1 t0 t1 bytes (Err Broken) = WasGiven r0 r1 bytes × (course : Course) × BreaksOff limit plan bytes course × WroteAll course w0 w1 t0 t1
-RunsInventory limit plan r0 r1 w0 w1 t0 t1 bytes (Err Read) = ((n : ℕ) × GaveAndFailed r0 r1 n bytes) × (course : Course) × AwaitsBytes limit plan bytes course × WroteAll course w0 w1 t0 t1
-RunsInventory limit plan r0 r1 w0 w1 t0 t1 bytes (Err Bound) = Gave r0 r1 MOST_READS bytes × (course : Course) × AwaitsBytes limit plan bytes course × WroteAll course w0 w1 t0 t1
-RunsInventory limit plan r0 r1 w0 w1 t0 t1 bytes (Err Write) = WasGiven r0 r1 bytes × (frames text : List ℕ) × BeginsSaying limit plan bytes frames text × StoppedWriting frames text w0 w1 t0 t1
-RunsInventory limit plan r0 r1 w0 w1 t0 t1 bytes (Err Memory) = WasGiven r0 r1 bytes × (frames text : List ℕ) × BeginsSaying limit plan bytes frames text × Wrote w0 w1 frames × Wrote t0 t1 text
-RunsInventory limit plan r0 r1 w0 w1 t0 t1 bytes (Err _) = ⊥
+RunsInventory limit plan r0 r1 w0 w1 t0 t1 bytes answer = RunsInventoryWithin MOST_READS limit plan r0 r1 w0 w1 t0 t1 bytes answer
+
+-- a run that lasts: it makes as many reads as can be counted
+abbrev pub RunsLasting : ℕ → Plan → SourceLog → SourceLog → SinkLog → SinkLog → SinkLog → SinkLog → List ℕ → Result Summary ToolErr → Type 0
+RunsLasting limit plan r0 r1 w0 w1 t0 t1 bytes answer = RunsInventoryWithin MOST_LASTING_READS limit plan r0 r1 w0 w1 t0 t1 bytes answer

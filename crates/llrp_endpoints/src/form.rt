@@ -7,4 +7,8 @@ pub enum LineForm {
     Words,
     /// An object of JSON (RFC 8259).
     Json,
+    /// The same, with all that the reader gives of a tag, and no line but those of tags.
+    Full,
+    /// The words of tags, and no other line.
+    Tags,
 }

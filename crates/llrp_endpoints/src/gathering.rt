@@ -10,22 +10,25 @@ ghost use Rattle.llrp_endpoints.specs.Private.GatheringStands.{error_by_command,
 ghost use Rattle.llrp_endpoints.specs.Calls.GatheringStands.{phase_left};
 
 mod objects;
+mod odd;
 mod remaining;
 mod tag_lines;
 
+use crate::asides::{AsideMessages, aside_before, aside_messages};
 use crate::course::{Awaits, Phase, Step};
 use crate::form::LineForm;
 use crate::frames::append_frames;
-use crate::heard::own_message;
+use crate::hearing::{Hearing, heard_message};
 use crate::plan::Plan;
 use crate::summary::Summary;
 use llrp_listing::{ToolErr, error_of};
-use llrp_schema::Profile;
 use llrp_session::{Client, CmdFault, TakeFault, Taken};
 use llrp_stream::{Decoder, Fed, Item};
 use llrp_tree::{Message, Nodes, Reason};
+use odd::{is_other, is_pending, is_ready};
 use remaining::{RemainingCommands, awaited_after};
 use std::alloc::Global;
+use std::mem;
 use tag_lines::{report_lines, total_line};
 
 /// A client that follows a plan. It is given its reader's bytes as they come, and appends the bytes
@@ -36,21 +39,22 @@ pub struct Gathering {
     client: Client,
     decoder: Decoder,
     form: LineForm,
-    profile: Profile,
+    asides: Option<AsideMessages>,
+    hearing: Hearing,
     left: RemainingCommands,
     awaits: Awaits,
     summary: Summary,
     phase: Phase,
+    passed: u64,
 }
 
 impl Gathering {
-    ghost use Rattle.std.specs.Prelude.{[], ◌∷◌, true};
-    ghost use Rattle.llrp_schema.specs.declared.kinds.Profile.TheVariants.{Whole};
-    ghost use Rattle.llrp_endpoints.specs.Heard.{heard};
+    ghost use Rattle.std.specs.Prelude.{[], ◌&&◌, IfOk, false, true};
+    ghost use Rattle.llrp_tree.specs.declared.fault.Fault.{Fault};
     ghost use Rattle.llrp_endpoints.specs.declared.course.Phase.TheVariants.{Open};
-    ghost use Rattle.llrp_endpoints.specs.Gathering.{after, after_item, new_course, follow, send_next};
-    ghost use Rattle.llrp_endpoints.specs.Calls.GatheringStands.{Counts, FeedsPiece, HasFailed, Holds, IsClosed, IsConnected, IsLeftBy, IsOpen};
-    ghost use Rattle.llrp_endpoints.specs.Private.GatheringStands.{Does, GoesTo, KeepsOthers, TakesBad, TakesPiece};
+    ghost use Rattle.llrp_endpoints.specs.Gathering.{after, after_item, hurried, is_odd, new_course, send_next};
+    ghost use Rattle.llrp_endpoints.specs.Calls.GatheringStands.{Counts, FeedsPiece, FeedsPieceFrom, HasFailed, Holds, Hurries, IsClosed, IsConnected, IsLeftBy, IsOpen};
+    ghost use Rattle.llrp_endpoints.specs.Private.GatheringStands.{Does, GoesTo, KeepsOthers, TakesBad, TakesItem, TakesPiece};
     ghost use Rattle.llrp_endpoints.specs.TagLines.{summary_of};
 
     /// A client at the beginning of a plan. Its first message id is 1, and no frame may be longer
@@ -60,16 +64,20 @@ impl Gathering {
         requires most { limit ≤ MAX_LIMIT }
         ensures { IsOpen limit plan [] [] (new_course limit plan) result }
     {
+        let mut plan = plan;
+        let asides = plan.take_asides();
         Gathering {
             alloc,
             client: Client::new(alloc, limit, 1),
-            decoder: Decoder::new_in(alloc, plan.profile(), limit),
+            decoder: Decoder::new_in(alloc, plan.kind_set(), limit),
             form: plan.form(),
-            profile: plan.profile(),
+            asides,
+            hearing: plan.hearing(),
             left: RemainingCommands::all(plan),
             awaits: Awaits::Answer,
             summary: Summary::empty(),
             phase: Phase::Open,
+            passed: 0,
         }
     }
 
@@ -81,10 +89,43 @@ impl Gathering {
         self.summary
     }
 
+    /// How many frames and messages were passed over, as odd.
+    pub fn passed_over(&self) -> u64
+        ensures { result ≡ self.now.passed }
+    {
+        self.passed
+    }
+
+    /// Whether a message is passed over.
+    fn passes(&self, message: &Message) -> bool
+        ensures { result ≡ (self.now.hearing.passes && is_odd self.now.client
+            (Item.Msg message.now)) }
+    {
+        self.hearing.passes && is_ready(self.client.phase()) && is_other(message)
+    }
+
+    /// Whether a frame with a fault and this id is passed over.
+    fn passes_frame(&self, id: u32) -> bool
+        ensures { (fault : Fault) → result ≡ (self.now.hearing.passes && is_odd self.now.client
+            (Item.Bad id fault)) }
+    {
+        let pending = self.client.pending();
+        self.hearing.passes && is_ready(self.client.phase()) && !is_pending(id, pending)
+    }
+
+    /// Counts what is passed over.
+    fn pass_over(&mut self)
+        ensures holds { (c : Course) → Holds c self.old → Holds c self.new }
+        ensures others { KeepsOthers self.old self.new }
+    {
+        self.passed = self.passed.saturating_add(1);
+    }
+
     /// Takes the next step, if one is left.
     fn go_on(&mut self, out: &mut Vec<u8>) -> Result<bool, ToolErr>
         ensures does { (c : Course) (r : List ℕ) → Holds c self.old → c.phase ≡ Open
             → Does c (send_next c) self.new out.old.items out.new.items r r result }
+        ensures open { IfOk result (λ closed. closed ≡ false) }
         ensures others { KeepsOthers self.old self.new }
     {
         let Some(step) = self.left.next() else {
@@ -94,10 +135,13 @@ impl Gathering {
         let Step::Send(command) = step else {
             return Ok(false);
         };
+        let aside = aside_before(&command);
         let mut messages = Vec::new(self.alloc);
         if let Err(refusal) = self.client.command(command, &mut messages) {
             return Err(command_error(refusal.fault));
         }
+        let asides = aside_messages(&self.asides, aside);
+        append_frames(self.alloc, asides, out)?;
         append_frames(self.alloc, messages.as_slice(), out)?;
         Ok(false)
     }
@@ -196,35 +240,44 @@ impl Gathering {
         self.follow(taken, out, report)
     }
 
-    /// Takes what the profile has of a message of the whole standard, if it has anything.
+    /// Takes what is heard of a message, if anything is.
     fn take_part(
         &mut self,
-        message: &Message,
+        message: Message,
         out: &mut Vec<u8>,
         report: &mut Vec<u8>,
     ) -> Result<bool, ToolErr>
-        ensures does { GoesTo (follow (heard Whole (Item.Msg message.now ∷ []))) self.old self.new
-            out.old.items out.new.items report.old.items report.new.items result }
+        ensures does { TakesItem (Item.Msg message) self.old self.new out.old.items out.new.items
+            report.old.items report.new.items result }
         ensures others { KeepsOthers self.old self.new }
     {
-        match own_message(self.alloc, message)? {
-            Some(own) => self.take_message(own, out, report),
+        match heard_message(self.alloc, self.hearing, message)? {
+            Some(part) => {
+                if self.passes(&part) {
+                    self.pass_over();
+                    return Ok(false);
+                }
+                self.take_message(part, out, report)
+            }
             None => Ok(false),
         }
     }
 
     /// Takes an item.
     fn take(&mut self, item: Item, out: &mut Vec<u8>, report: &mut Vec<u8>) -> Result<bool, ToolErr>
-        ensures does { GoesTo (follow (heard self.old.profile (item ∷ []))) self.old self.new
-            out.old.items out.new.items report.old.items report.new.items result }
+        ensures does { TakesItem item self.old self.new out.old.items out.new.items
+            report.old.items report.new.items result }
         ensures others { KeepsOthers self.old self.new }
     {
         match item {
-            Item::Msg(message) => match self.profile {
-                Profile::Own => self.take_message(message, out, report),
-                Profile::Whole => self.take_part(&message, out, report),
-            },
-            Item::Bad { fault, .. } => self.take_bad(fault.reason),
+            Item::Msg(message) => self.take_part(message, out, report),
+            Item::Bad { id, fault } => {
+                if self.passes_frame(id) {
+                    self.pass_over();
+                    return Ok(false);
+                }
+                self.take_bad(fault.reason)
+            }
         }
     }
 
@@ -283,6 +336,9 @@ impl Gathering {
     ) -> Result<bool, ToolErr>
         ensures feeds { FeedsPiece piece.now self.old self.new out.old.items out.new.items
             report.old.items report.new.items result }
+        // The same from any beginning, as after a hurry.
+        ensures feeds_from { FeedsPieceFrom piece.now self.old self.new out.old.items out.new.items
+            report.old.items report.new.items result }
         ensures phase { IsConnected self.old → IsLeftBy result self.new }
 
         // Once it has ended, nothing changes.
@@ -300,6 +356,50 @@ impl Gathering {
         let outcome = self.take_all(piece, out, report);
         self.phase = phase_after(outcome);
         outcome
+    }
+
+    /// Leaves the waits for reports out of what is left, and ends one that has begun.
+    fn press(&mut self, out: &mut Vec<u8>) -> Result<bool, ToolErr>
+        ensures does { (c : Course) (r : List ℕ) → Holds c self.old → c.phase ≡ Open
+            → Does c (hurried c) self.new out.old.items out.new.items r r result }
+        ensures open { IfOk result (λ closed. closed ≡ false) }
+        ensures others { KeepsOthers self.old self.new }
+    {
+        let left = mem::replace(&mut self.left, RemainingCommands::Nothing);
+        self.left = left.without_waits();
+        match self.awaits {
+            Awaits::TaggedReport => self.go_on(out),
+            _ => Ok(false),
+        }
+    }
+
+    /// Awaits no further reports with tags: the plan goes on to its end, at once if such a report is
+    /// awaited now, and else once what is awaited has come. Appends what the client sends to `out`.
+    /// From then on `feed` does what it does with a plan that awaits none.
+    ///
+    /// The only errors are `Memory`, and what an earlier call returned; once the connection was
+    /// closed as planned it does nothing.
+    pub fn hurry(&mut self, out: &mut Vec<u8>) -> Result<(), ToolErr>
+        ensures hurries { Hurries self.old self.new out.old.items out.new.items result }
+
+        // Once it has ended, nothing changes.
+        ensures closed { IsClosed self.old → (result ≡ Ok tt) × (self.new ≡ self.old) }
+        ensures failed { (error : Error) → HasFailed error self.old → (result ≡ Err error)
+            × (self.new ≡ self.old) }
+        ensures unsent { (IsConnected self.old → ⊥) → out.new.items ≡ out.old.items }
+    {
+        match self.phase {
+            Phase::Open => {}
+            Phase::Closed => return Ok(()),
+            Phase::Failed(error) => return Err(error),
+        }
+        match self.press(out) {
+            Ok(_) => Ok(()),
+            Err(error) => {
+                self.phase = Phase::Failed(error);
+                Err(error)
+            }
+        }
     }
 }
 

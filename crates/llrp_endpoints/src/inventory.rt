@@ -1,21 +1,26 @@
 //! Follows a plan over a source and two sinks.
 
-ghost use Rattle.std.specs.Prelude.{◌≡◌, ◌≤◌, [], List, ℕ};
+ghost use Rattle.std.specs.Prelude.{◌≡◌, ◌<◌, ◌≤◌, ◌^◌, [], List, ℕ};
 ghost use Rattle.llrp_stream.specs.Device.{IsFreshSink, IsFreshSource};
 ghost use Rattle.llrp_tree.specs.declared.TheConstants.{MAX_LIMIT};
 ghost use Rattle.llrp_endpoints.specs.Private.GatheringStands.{GathersFromStart};
-ghost use Rattle.llrp_endpoints.specs.RunInventory.{RunsInventory};
+ghost use Rattle.llrp_endpoints.specs.RunInventory.{RunsInventory, RunsLasting};
 
 use crate::gathering::Gathering;
 use crate::plan::Plan;
+use crate::reads::Reads;
 use crate::summary::Summary;
-use llrp_listing::{Pieces, ToolErr, hand_on};
+use llrp_listing::{MOST_READS, ToolErr, hand_on};
 use llrp_stream::{Sink, Source};
 use std::alloc::Global;
 
-/// Follows the plan of a client that `Gathering::new` made, for [`run_inventory`]. What the client
-/// sends is gathered in `out`, and the lines in `lines`; both are empty at first.
+/// The greatest number of reads of a run that lasts: a million a second for 292,000 years.
+pub const MOST_LASTING_READS: u64 = 9_223_372_036_854_775_807;
+
+/// Follows the plan of a client that `Gathering::new` made, in at most so many reads. What the
+/// client sends is gathered in `out`, and the lines in `lines`; both are empty at first.
 fn gather<R: Source, W: Sink, T: Sink>(
+    most: u64,
     gathering: &mut Gathering,
     out: &mut Vec<u8>,
     lines: &mut Vec<u8>,
@@ -23,16 +28,17 @@ fn gather<R: Source, W: Sink, T: Sink>(
     w: &mut W,
     report: &mut T,
 ) -> Result<Summary, ToolErr>
+    requires most { most < 2 ^ 63 }
     requires no_frames { out.old.items ≡ [] }
     requires no_lines { lines.old.items ≡ [] }
     requires source { IsFreshSource (R.log r.old) }
     requires sink { IsFreshSink (W.log w.old) }
     requires report { IsFreshSink (T.log report.old) }
-    ensures { GathersFromStart gathering.old (R.log r.old) (R.log r.new) (W.log w.old)
+    ensures { GathersFromStart most gathering.old (R.log r.old) (R.log r.new) (W.log w.old)
         (W.log w.new) (T.log report.old) (T.log report.new) result }
 {
-    let mut pieces = Pieces::new();
-    while let Some(piece) = pieces.next(r)? {
+    let mut pieces = Reads::new();
+    while let Some(piece) = pieces.next(most, r)? {
         let fed = gathering.feed(piece, out, lines);
         hand_on(out, w)?;
         hand_on(lines, report)?;
@@ -72,5 +78,38 @@ pub fn run_inventory<R: Source, W: Sink, T: Sink>(
     let mut gathering = Gathering::new(alloc, plan, limit);
     let mut out = Vec::new(alloc);
     let mut lines = Vec::new(alloc);
-    gather(&mut gathering, &mut out, &mut lines, r, w, report)
+    let most = MOST_READS as u64;
+    gather(most, &mut gathering, &mut out, &mut lines, r, w, report)
+}
+
+/// The same without an end to its reads, for a plan that lasts: it reads until the connection ends,
+/// or the plan does. `Bound` comes after 9,223,372,036,854,775,807 reads.
+pub fn run_lasting<R: Source, W: Sink, T: Sink>(
+    alloc: Global,
+    plan: Plan,
+    limit: u32,
+    r: &mut R,
+    w: &mut W,
+    report: &mut T,
+) -> Result<Summary, ToolErr>
+    requires least { 4096 ≤ limit }
+    requires most { limit ≤ MAX_LIMIT }
+    requires source { IsFreshSource (R.log r.old) }
+    requires sink { IsFreshSink (W.log w.old) }
+    requires report { IsFreshSink (T.log report.old) }
+    ensures { (bytes : List ℕ) × RunsLasting limit plan (R.log r.old) (R.log r.new) (W.log w.old)
+        (W.log w.new) (T.log report.old) (T.log report.new) bytes result }
+{
+    let mut gathering = Gathering::new(alloc, plan, limit);
+    let mut out = Vec::new(alloc);
+    let mut lines = Vec::new(alloc);
+    gather(
+        MOST_LASTING_READS,
+        &mut gathering,
+        &mut out,
+        &mut lines,
+        r,
+        w,
+        report,
+    )
 }

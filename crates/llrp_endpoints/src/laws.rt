@@ -8,11 +8,13 @@ ghost use Rattle.llrp_stream.specs.declared.item.Item.{Item};
 ghost use Rattle.llrp_endpoints.specs.EndsAgree.{AfterAllBytes, BytesAreMessages, EachEventHappens, EachScheduleRuns, IsARunOfMessages, NothingIsUnexpected, ViewCatchesUp, ViewIsTable, ReportsArrive, ReportsAreKept, PendingIsOnTheWay, NothingIsPending, TablesArrive};
 ghost use Rattle.llrp_session.specs.MessageAgreement.{ReaderHasHistory, OneActive, NoneDiffers};
 ghost use Rattle.llrp_endpoints.specs.Plan.{Plan};
-ghost use Rattle.llrp_endpoints.specs.Calls.HeardLaws.{HeardIsLawful};
+ghost use Rattle.llrp_endpoints.specs.Calls.General.{ServesAll};
+ghost use Rattle.llrp_endpoints.specs.Calls.HeardLaws.{HeardIsLawful, ProfileIsHeard};
 ghost use Rattle.llrp_endpoints.specs.Calls.PlanLaws.{course_of, CanEnd, CoursesGoOn, EndsMean, HasOneCourse, IsValid, SendsWithinLimit, StrangeIsTheReaders, TakesEachCommand, TakesInOrder, TakesOneByOne, TakesWhereAwaited};
 ghost use Rattle.llrp_endpoints.specs.Calls.Script.{IsLawfulScript, IsScript};
 ghost use Rattle.llrp_endpoints.specs.Calls.ScriptLaws.{ScriptOrRefused};
 ghost use Rattle.llrp_endpoints.specs.Calls.ServingLaws.{FramesReadBack, IsServedInOneWay, OneTextOfFrames, SaysWithinLimit};
+ghost use Rattle.llrp_endpoints.specs.Serving.{Serves};
 ghost use Rattle.llrp_endpoints.specs.declared.script.Entry.{Entry};
 
 /// Each lawful list of entries has exactly one script, and a text is the script of at most one
@@ -36,7 +38,15 @@ pub fn script_or_refused()
 #[tactic(auto, using(crate::proofs::OneServing::served_in_one_way))]
 pub fn one_serving()
     ensures { (reader : Reader) (entries : List Entry) (bytes : List ℕ) → reader.limit ≤ MAX_LIMIT
-        → AreOctets bytes → IsServedInOneWay reader entries bytes }
+        → AreOctets bytes → IsServedInOneWay (Serves reader entries bytes) }
+{}
+
+/// For a given reader, script and octets of a general client, serving with three requests answered
+/// sends one list of messages and ends in one state.
+#[tactic(auto, using(crate::proofs::ServedInOneWay::served_all_in_one_way))]
+pub fn one_serving_all()
+    ensures { (reader : Reader) (entries : List Entry) (bytes : List ℕ) → reader.limit ≤ MAX_LIMIT
+        → AreOctets bytes → IsServedInOneWay (ServesAll reader entries bytes) }
 {}
 
 /// A list of messages has one list of frames, so the messages determine the bytes that serving
@@ -74,6 +84,14 @@ pub fn plan_is_never_refused()
 /// with the same type, version, id and fields.
 pub fn heard_is_lawful()
     ensures { HeardIsLawful }
+{}
+
+/// A frame of a message of the profile is also a frame of a message of the whole standard, of which
+/// the profile has that message: reading the whole standard changes nothing for a reader of the
+/// profile.
+#[tactic(auto, using(crate::proofs::ProfileHeard::profile_is_heard))]
+pub fn profile_is_heard()
+    ensures { ProfileIsHeard }
 {}
 
 /// All whole frames of some bytes have one course. As more bytes come, what was sent and reported

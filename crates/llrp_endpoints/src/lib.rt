@@ -13,6 +13,7 @@
 //! ```
 #![tactic(auto)]
 
+mod asides;
 mod both_ends;
 mod course;
 mod form;
@@ -20,24 +21,33 @@ mod frames;
 mod gathering;
 mod general;
 mod heard;
+mod hearing;
 mod inventory;
 pub mod laws;
+mod marks;
+mod moment;
 mod plan;
+mod reads;
 mod script;
 mod serve;
 mod server;
 mod serving;
 mod summary;
+mod watching;
 
+pub use asides::AsideMessages;
 pub use both_ends::{Endpoint, run_loop};
 pub use course::{Awaits, Phase, Step};
 pub use form::LineForm;
 pub use gathering::Gathering;
 pub use heard::own_message;
-pub use inventory::run_inventory;
+pub use hearing::Hearing;
+pub use inventory::{MOST_LASTING_READS, run_inventory, run_lasting};
 pub use llrp_session::Sighting;
+pub use marks::marked_lines;
 pub use plan::{Plan, PlanErr, PlanFault, checked_plan, standard_plan};
-pub use script::{Action, Entry, Script};
+pub use script::{Action, Entry, LONGEST_ENTRY, MOST_ENTRIES, Script};
 pub use serve::{run_serve, run_serve_all};
 pub use serving::Serving;
 pub use summary::Summary;
+pub use watching::{Watcher, run_watching};

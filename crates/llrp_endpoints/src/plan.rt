@@ -1,8 +1,10 @@
 //! The plan of an inventory: what a client asks of its reader.
 
-ghost use Rattle.std.specs.Prelude.{◌≡◌, ◌≤◌, IfErr, IfNone, IfOk, Some, None, true};
+ghost use Rattle.std.specs.Prelude.{◌≡◌, ◌≤◌, IfErr, IfNone, IfOk, Some, None, false, true};
 ghost use Rattle.llrp_tree.specs.Lawful.{tree_octets};
 ghost use Rattle.llrp_session.specs.RoSpec.{is_kind};
+ghost use Rattle.llrp_endpoints.specs.Asides.{no_asides};
+ghost use Rattle.llrp_endpoints.specs.Calls.Asides.{asides_in};
 ghost use Rattle.llrp_endpoints.specs.Plan as plan;
 ghost use Rattle.llrp_endpoints.specs.Calls.Plans as plans;
 ghost use Rattle.llrp_endpoints.specs.Calls.PlanLaws.{IsValid};
@@ -10,12 +12,16 @@ ghost use Rattle.llrp_endpoints.specs.Calls.PlanLaws.{IsValid};
 mod standard;
 mod text;
 
+use crate::asides::AsideMessages;
 use crate::form::LineForm;
-use llrp_schema::Profile;
+use crate::hearing::Hearing;
+use llrp_schema::KindSet;
 use llrp_session::{field, first};
 use llrp_tree::{Node, ParamKind};
+pub(crate) use standard::leaf;
 pub use standard::{checked_plan, standard_plan};
 use std::marker::Model;
+use std::mem;
 pub use text::PlanErr;
 
 /// The greatest length of a ROSpec that is given, in octets: a message that adds or lists it alone
@@ -37,25 +43,32 @@ pub enum PlanFault {
 /// with tags, asks some times for the reports that are held, stops and deletes it, and closes the
 /// connection (LLRP 1.1, section 11). A ROSpec that the reader starts itself is not started. One
 /// that was given is disabled in place of being stopped. A plan that cleans first deletes the
-/// ROSpecs that are there. A checked plan compares the reader's table with the client's view before
-/// it deletes the ROSpec. Its lines are words, unless it is given another form, and the reader's messages are of
+/// ROSpecs that are there, and one that renews the one with its own id, if there is one. One that
+/// keeps alive then asks for KEEPALIVEs. A checked plan compares the reader's table with the
+/// client's view before it deletes the ROSpec. One that passes over what is odd goes on where another ends. Its lines are words, unless it is given another form, and the reader's messages are of
 /// the profile, unless it is given the whole standard.
 #[derive(Drop)]
 pub struct Plan {
     rospec: Node,
+    asides: Option<AsideMessages>,
     cleans: bool,
-    reports: u16,
+    renews: bool,
+    passes: bool,
+    adds: bool,
+    keepalive: u32,
+    reports: u64,
     polls: u16,
     checked: bool,
     disables: bool,
     form: LineForm,
-    profile: Profile,
+    set: KindSet,
 }
 
 impl Model for Plan {
     ghost use Rattle.std.specs.Prelude.{◌≡◌, ◌≤◌};
     ghost use Rattle.std.specs.Coded.{codes};
-    ghost use Rattle.llrp_tree.specs.Private.Stored.{tree_code};
+    ghost use Rattle.llrp_tree.specs.Private.Stored.{message_code, tree_code};
+    ghost use Rattle.llrp_endpoints.specs.Calls.Asides.{asides_in};
     ghost use Rattle.llrp_schema.specs.declared.kinds.ParamKind.TheVariants.{RoSpec};
     ghost use Rattle.llrp_tree.specs.Lawful.{tree_octets};
     ghost use Rattle.llrp_session.specs.RoSpec.{is_kind};
@@ -64,17 +77,22 @@ impl Model for Plan {
 
     ghost Value = { PlanValue };
 
-    ghost coded = { Prim.hlevel (codes, tree_code) };
+    ghost coded = { Prim.hlevel (codes, message_code, tree_code) };
 
     ghost view = { λ p. record {
       rospec = p.rospec;
+      asides = asides_in p.asides;
       cleans = p.cleans;
+      renews = p.renews;
+      passes = p.passes;
+      adds = p.adds;
+      keepalive = p.keepalive;
       reports = p.reports;
       polls = p.polls;
       checked = p.checked;
       disables = p.disables;
       form = p.form;
-      profile = p.profile;
+      set = p.set;
     } };
 
     ghost invariant = { λ p. (p.rospec.kind ≡ RoSpec)
@@ -97,13 +115,18 @@ impl Plan {
         }
         Ok(Plan {
             rospec,
+            asides: None,
             cleans: false,
+            renews: false,
+            passes: false,
+            adds: true,
+            keepalive: 0,
             reports: 0,
             polls,
             checked,
             disables: true,
             form: LineForm::Words,
-            profile: Profile::Own,
+            set: KindSet::Profile,
         })
     }
 
@@ -117,9 +140,71 @@ impl Plan {
         }
     }
 
+    /// The same plan, but the reader's ROSpec with the id of this one is deleted first. Whatever the
+    /// reader answers to that, the plan goes on.
+    pub fn renewing(self) -> Plan
+        ensures { result ≡ record self { renews = true } }
+    {
+        Plan {
+            renews: true,
+            ..self
+        }
+    }
+
+    /// The same plan, but what is odd is passed over once the reader has accepted the client: a frame
+    /// with a fault, unless it has the id of the pending request, and a lawful message that answers
+    /// nothing and that no reader says by itself. It is as if they had not come.
+    pub fn passing_over(self) -> Plan
+        ensures { result ≡ record self { passes = true } }
+    {
+        Plan {
+            passes: true,
+            ..self
+        }
+    }
+
+    /// The plan that only deletes the reader's ROSpec with the id of this one, whatever the reader
+    /// answers, and closes the connection.
+    pub fn removing(self) -> Plan
+        ensures { result ≡ record self { renews = true; adds = false } }
+    {
+        Plan {
+            renews: true,
+            adds: false,
+            ..self
+        }
+    }
+
+    /// The same plan, but the client says these messages besides: right before it enables its ROSpec,
+    /// and right before it deletes that one. No answer to them is awaited.
+    pub fn saying(self, asides: AsideMessages) -> Plan
+        ensures { result ≡ record self { asides = asides_in (Some asides) } }
+    {
+        Plan {
+            asides: Some(asides),
+            ..self
+        }
+    }
+
+    /// Takes what the client says besides out of the plan.
+    pub(crate) fn take_asides(&mut self) -> Option<AsideMessages>
+        ensures rest { self.new ≡ record self.old { asides = no_asides } }
+        ensures asides { asides_in result ≡ self.old.asides }
+    {
+        mem::replace(&mut self.asides, None)
+    }
+
+    /// The same plan, but the reader is asked for a KEEPALIVE each time this many milliseconds have
+    /// passed; for 0 it is not asked.
+    pub fn keeping(self, keepalive: u32) -> Plan
+        ensures { result ≡ record self { keepalive = keepalive } }
+    {
+        Plan { keepalive, ..self }
+    }
+
     /// The same plan, but this many reports with at least one tag are awaited before the first
-    /// poll.
-    pub fn awaiting(self, reports: u16) -> Plan
+    /// poll. With the greatest number a plan lasts: it ends with the connection.
+    pub fn awaiting(self, reports: u64) -> Plan
         ensures { result ≡ record self { reports = reports } }
     {
         Plan { reports, ..self }
@@ -133,10 +218,10 @@ impl Plan {
     }
 
     /// The same plan, but the reader's messages are read in this set of kinds.
-    pub fn in_profile(self, profile: Profile) -> Plan
-        ensures { result ≡ record self { profile = profile } }
+    pub fn in_set(self, set: KindSet) -> Plan
+        ensures { result ≡ record self { set = set } }
     {
-        Plan { profile, ..self }
+        Plan { set, ..self }
     }
 
     /// After how many tags the reader reports; 0 means no number, or that the ROSpec does not say.
@@ -155,8 +240,47 @@ impl Plan {
         self.cleans
     }
 
+    /// Whether the client first deletes the reader's ROSpec with the id of its own.
+    pub fn renews(&self) -> bool
+        ensures { result ≡ self.now.renews }
+    {
+        self.renews
+    }
+
+    /// Whether what is odd is passed over.
+    pub fn passes(&self) -> bool
+        ensures { result ≡ self.now.passes }
+    {
+        self.passes
+    }
+
+    /// Whether the client adds its ROSpec.
+    pub fn adds(&self) -> bool
+        ensures { result ≡ self.now.adds }
+    {
+        self.adds
+    }
+
+    /// How the client hears its reader: a plan that renews begins with a request that may be refused.
+    pub fn hearing(&self) -> Hearing
+        ensures { result ≡ plan.hearing_of self.now }
+    {
+        Hearing {
+            set: self.set,
+            excuses: self.renews && !self.cleans,
+            passes: self.passes,
+        }
+    }
+
+    /// How many milliseconds pass between two KEEPALIVEs; 0 if none are asked for.
+    pub fn keepalive(&self) -> u32
+        ensures { result ≡ self.now.keepalive }
+    {
+        self.keepalive
+    }
+
     /// How many reports with at least one tag are awaited before the first poll.
-    pub fn reports(&self) -> u16
+    pub fn reports(&self) -> u64
         ensures { result ≡ self.now.reports }
     {
         self.reports
@@ -191,10 +315,10 @@ impl Plan {
     }
 
     /// The set of kinds in which the reader's messages are read.
-    pub fn profile(&self) -> Profile
-        ensures { result ≡ self.now.profile }
+    pub fn kind_set(&self) -> KindSet
+        ensures { result ≡ self.now.set }
     {
-        self.profile
+        self.set
     }
 
     /// The ROSpec.
@@ -209,12 +333,12 @@ impl Plan {
         ensures { IsValid self.now }
     {
         self.rospec.lawful();
-        let _ = (self.reports(), self.polls());
+        let _ = (self.keepalive(), self.reports(), self.polls());
     }
 
     /// The ROSpec's id.
     #[tactic(auto, unfolding(llrp_schema::specs::Schema::fields_of, llrp_schema::specs::Schema::rule_of, llrp_schema::specs::Schema::param_rule))]
-    pub(crate) fn rospec_id(&self) -> u32
+    pub fn rospec_id(&self) -> u32
         ensures { result ≡ plan.rospec_id self.now }
     {
         self.rospec.lawful();

@@ -1,20 +1,29 @@
 //! Scripts of the simulated reader: what its antennas see, and when.
 
-ghost use Rattle.std.specs.Prelude.{◌++◌, ◌<◌, ◌^◌, ◌∷◌, ◌≡◌, ◌↔◌, IfErr, IfOk, IsTrue, MatchOption, [], ℕ};
+ghost use Rattle.std.specs.Prelude.{◌<◌, ◌^◌, ◌≡◌, ◌↔◌, IfErr, IfOk, IsTrue, MatchOption, ℕ};
 ghost use Rattle.tag_uri.specs.TagText.{IsTextOf};
-ghost use Rattle.llrp_endpoints.specs.Calls.Script.{Continues, IsActionInRange, IsActionLine, IsEntryLine, IsInRange, IsLawfulScript, IsScript, IsSightingInRange, IsSightingLine, NoneContinues, ParseStopped};
-ghost use Rattle.llrp_endpoints.specs.Private.Script.{MayFollow};
+ghost use Rattle.llrp_stream.specs.Device.{IsFreshSource};
+ghost use Rattle.llrp_endpoints.specs.Calls.ReadScript.{ReadsScript};
+ghost use Rattle.llrp_endpoints.specs.Calls.Script.{IsActionInRange, IsActionLine, IsEntryLine, IsInRange, IsLawfulScript, IsScript, IsSightingInRange, IsSightingLine, ParseStopped};
+ghost use Rattle.llrp_endpoints.specs.Private.Script.{EndsBy, MayFollow};
 
-use llrp_listing::{ToolErr, number_of, signed_byte_of, split_once};
+mod lines;
+
+use lines::{refusal_after, take_lines, take_piece};
+use llrp_listing::{Pieces, ToolErr, number_of, signed_byte_of, split_once};
 use llrp_session::Sighting;
-use std::alloc::Global;
+use llrp_stream::Source;
+use std::alloc::{AllocError, Global};
 use std::marker::Model;
 use std::str;
 use tag_bits::Word;
 use tag_uri::word_of_text;
 
 /// The most entries of a script.
-pub(crate) const MOST_ENTRIES: usize = 10_000;
+pub const MOST_ENTRIES: usize = 10_000;
+
+/// How many octets of a line without its LF are awaited; an entry's line has no more.
+pub const LONGEST_ENTRY: usize = 128;
 
 /// What happens to the reader.
 #[derive(Clone, Copy, Debug, PartialEq, Eq)]
@@ -55,7 +64,7 @@ impl Model for Script {
 }
 
 impl Script {
-    /// Reads a script: at most 10,000 lines `AFTER NOW seen ANTENNA RSSI TEXT` or `AFTER NOW tick`,
+    /// The script of a text: at most 10,000 lines `AFTER NOW seen ANTENNA RSSI TEXT` or `AFTER NOW tick`,
     /// each ended by LF and with single spaces, in which neither AFTER nor NOW falls from line to
     /// line. The numbers are in decimal without leading zeros; RSSI, in dBm, has a `-` if it is
     /// negative. TEXT is a tag URI or a raw URI (EPC Tag Data Standard 1.13, section 12).
@@ -66,17 +75,37 @@ impl Script {
         ensures stopped { IfErr result (λ e. ParseStopped text.now e) }
     {
         let mut entries = Vec::new(alloc);
-        let mut rest = text;
-        'lines: while !rest.is_empty() {
-            let Some((entry, after)) = next_entry(entries.as_slice(), rest) else {
-                return Err(ToolErr::Script {
-                    line: entries.len() as u64 + 1,
-                });
-            };
-            entries.push(entry)?;
-            rest = after;
+        let rest = take_lines(&mut entries, text)?;
+        at_end(entries, rest)
+    }
+
+    /// The script that a source has, read to its end, or until a line is refused whatever follows: an
+    /// ended line that is no entry's, 129 octets without LF, or an octet after 10,000 lines. So an
+    /// endless input is refused, and no more than a line of it is kept.
+    ///
+    /// The errors are `Script` with the first line that is refused, counted from 1, `Read`, `Memory`,
+    /// and `Bound` after the greatest number of reads.
+    pub fn read<R: Source>(alloc: Global, r: &mut R) -> Result<Script, ToolErr>
+        requires { IsFreshSource (R.log r.old) }
+        ensures { ReadsScript (R.log r.old) (R.log r.new) result }
+    {
+        let mut entries = Vec::new(alloc);
+        let mut line = Vec::new(alloc);
+        let mut pieces = Pieces::new();
+        while let Some(piece) = pieces.next(r)? {
+            line.extend_from_slice(piece)?;
+            line = take_piece(alloc, &mut entries, line.as_slice())?;
         }
-        Ok(Script { entries })
+        at_end(entries, line.as_slice())
+    }
+
+    /// The same script once more. The only error is that memory ran out.
+    pub fn try_clone(&self, alloc: Global) -> Result<Script, AllocError>
+        ensures { IfOk result (λ entries. entries ≡ self.now) }
+    {
+        Ok(Script {
+            entries: self.entries.as_slice().to_vec(alloc)?,
+        })
     }
 
     /// The entries in order.
@@ -88,19 +117,15 @@ impl Script {
     }
 }
 
-/// The entry of a text's first line, if it may follow these entries, and the text after that line.
-fn next_entry<'a>(entries: &[Entry], text: &'a [u8]) -> Option<(Entry, &'a [u8])>
-    requires { IsLawfulScript entries.now }
-    ensures { MatchOption result
-        (NoneContinues entries.now text.now)
-        (λ next. Continues entries.now text.now next.0 next.1.now) }
+/// The script of these entries, after whose lines the text ends so.
+fn at_end(entries: Vec<Entry>, rest: &[u8]) -> Result<Script, ToolErr>
+    requires { IsLawfulScript entries.items }
+    ensures { EndsBy entries.items rest.now result }
 {
-    let (line, rest) = split_once(text, b'\n')?;
-    let entry = entry_of(line)?;
-    if may_follow(entries, entry.after, entry.now) {
-        Some((entry, rest))
+    if rest.is_empty() {
+        Ok(Script { entries })
     } else {
-        None
+        Err(refusal_after(entries.as_slice()))
     }
 }
 

@@ -7,7 +7,7 @@ use Rattle.std.proofs.lemmas.Str.{IsUtf8-nil, is_utf8-from_IsUtf8}
 use Rattle.llrp_schema.specs.declared.kinds.MsgKind.{MsgKind}
 use Rattle.llrp_schema.specs.declared.kinds.ParamKind.{ParamKind}
 use Rattle.llrp_schema.specs.declared.kinds.ParamKind.TheVariants.{WholeLlrpStatus, WholeGeneralDeviceCapabilities, WholeReceiveSensitivityTableEntry, WholePerAntennaAirProtocol, WholeGpioCapabilities, WholeLlrpCapabilities, WholeRegulatoryCapabilities, WholeUhfBandCapabilities, WholeTransmitPowerLevelTableEntry, WholeFrequencyInformation, WholeFixedFrequencyTable, WholeC1G2LlrpCapabilities, WholeC1G2UhfRfModeTable, WholeC1G2UhfRfModeTableEntry, WholeIdentification, WholeAntennaProperties}
-use Rattle.llrp_schema.specs.Schema.{number_of, rule_of, message_rule, param_rule, fields_of, tail_of, groups_of, is_tv, key_of, profile_of}
+use Rattle.llrp_schema.specs.Schema.{number_of, rule_of, message_rule, param_rule, fields_of, tail_of, groups_of, is_tv, key_of, set_of_kind}
 use Rattle.llrp_tree.specs.declared.node.NodeFault.{NodeFault}
 use Rattle.llrp_tree.specs.Tree.{Forest, Tree, MessageTree, none, forest}
 use Rattle.llrp_tree.specs.Lawful.{body_octets, AllLawful, AreLawful, IsLawfulTree, IsLawfulMessage}
@@ -38,77 +38,77 @@ no_text : is_utf8 [] ≡ true
 no_text = is_utf8-from_IsUtf8 [] IsUtf8-nil
 
 pub success_lawful : AreLawful WholeLlrpStatus (0 ∷ []) ([]) none
-unfolding first_fault table_tests all_placed none_too_many none_missing rule_of param_rule number_of key_of profile_of fields_of tail_of groups_of is_tv body_octets
+unfolding first_fault table_tests all_placed none_too_many none_missing rule_of param_rule number_of key_of set_of_kind fields_of tail_of groups_of is_tv body_octets
 success_lawful = lawful_from WholeLlrpStatus (0 ∷ []) [] none tt (rw no_text refl)
 
 pub sensitivity_lawful : AreLawful WholeReceiveSensitivityTableEntry (1 ∷ 0 ∷ []) ([]) none
-unfolding first_fault table_tests all_placed none_too_many none_missing rule_of param_rule number_of key_of profile_of fields_of tail_of groups_of is_tv body_octets
+unfolding first_fault table_tests all_placed none_too_many none_missing rule_of param_rule number_of key_of set_of_kind fields_of tail_of groups_of is_tv body_octets
 sensitivity_lawful = lawful_from WholeReceiveSensitivityTableEntry (1 ∷ 0 ∷ []) ([]) none tt refl
 
 pub ports_lawful : AreLawful WholeGpioCapabilities (0 ∷ 0 ∷ []) ([]) none
-unfolding first_fault table_tests all_placed none_too_many none_missing rule_of param_rule number_of key_of profile_of fields_of tail_of groups_of is_tv body_octets
+unfolding first_fault table_tests all_placed none_too_many none_missing rule_of param_rule number_of key_of set_of_kind fields_of tail_of groups_of is_tv body_octets
 ports_lawful = lawful_from WholeGpioCapabilities (0 ∷ 0 ∷ []) ([]) none tt refl
 
 pub power_lawful : AreLawful WholeTransmitPowerLevelTableEntry (1 ∷ 3000 ∷ []) ([]) none
-unfolding first_fault table_tests all_placed none_too_many none_missing rule_of param_rule number_of key_of profile_of fields_of tail_of groups_of is_tv body_octets
+unfolding first_fault table_tests all_placed none_too_many none_missing rule_of param_rule number_of key_of set_of_kind fields_of tail_of groups_of is_tv body_octets
 power_lawful = lawful_from WholeTransmitPowerLevelTableEntry (1 ∷ 3000 ∷ []) ([]) none tt refl
 
 pub air_lawful : AreLawful WholeC1G2LlrpCapabilities (0 ∷ 0 ∷ 0 ∷ 0 ∷ 0 ∷ 0 ∷ 0 ∷ []) ([]) none
-unfolding first_fault table_tests all_placed none_too_many none_missing rule_of param_rule number_of key_of profile_of fields_of tail_of groups_of is_tv body_octets
+unfolding first_fault table_tests all_placed none_too_many none_missing rule_of param_rule number_of key_of set_of_kind fields_of tail_of groups_of is_tv body_octets
 air_lawful = lawful_from WholeC1G2LlrpCapabilities (0 ∷ 0 ∷ 0 ∷ 0 ∷ 0 ∷ 0 ∷ 0 ∷ []) ([]) none tt refl
 
 pub air_protocol_lawful : (antenna : ℕ) → antenna < 2 ^ 16 → AreLawful WholePerAntennaAirProtocol (antenna ∷ 1 ∷ []) (1 ∷ []) none
-unfolding first_fault table_tests all_placed none_too_many none_missing rule_of param_rule number_of key_of profile_of fields_of tail_of groups_of is_tv body_octets
+unfolding first_fault table_tests all_placed none_too_many none_missing rule_of param_rule number_of key_of set_of_kind fields_of tail_of groups_of is_tv body_octets
 air_protocol_lawful antenna h = let e = le-leb antenna 65535 (omega arith) in lawful_from WholePerAntennaAirProtocol (antenna ∷ 1 ∷ []) (1 ∷ []) none (lit< tt, tt) (rw e refl)
 
 pub of_llrp_lawful : AreLawful WholeLlrpCapabilities (0 ∷ 0 ∷ 0 ∷ 0 ∷ 0 ∷ 8 ∷ 0 ∷ 0 ∷ 0 ∷ []) (0 ∷ 0 ∷ 0 ∷ 0 ∷ 0 ∷ 0 ∷ 0 ∷ 0 ∷ 0 ∷ 0 ∷ 0 ∷ 0 ∷ []) none
-unfolding first_fault table_tests all_placed none_too_many none_missing rule_of param_rule number_of key_of profile_of fields_of tail_of groups_of is_tv body_octets
+unfolding first_fault table_tests all_placed none_too_many none_missing rule_of param_rule number_of key_of set_of_kind fields_of tail_of groups_of is_tv body_octets
 of_llrp_lawful = lawful_from WholeLlrpCapabilities (0 ∷ 0 ∷ 0 ∷ 0 ∷ 0 ∷ 8 ∷ 0 ∷ 0 ∷ 0 ∷ []) (0 ∷ 0 ∷ 0 ∷ 0 ∷ 0 ∷ 0 ∷ 0 ∷ 0 ∷ 0 ∷ 0 ∷ 0 ∷ 0 ∷ []) none (lit< tt, (lit< tt, (lit< tt, (lit< tt, (lit< tt, (lit< tt, (lit< tt, (lit< tt, (lit< tt, (lit< tt, (lit< tt, (lit< tt, tt)))))))))))) refl
 
 pub mode_lawful : AreLawful WholeC1G2UhfRfModeTableEntry (0 ∷ 0 ∷ 0 ∷ 2 ∷ 0 ∷ 0 ∷ 40000 ∷ []) (0 ∷ 0 ∷ 5 ∷ 220 ∷ 0 ∷ 0 ∷ 97 ∷ 168 ∷ 0 ∷ 0 ∷ 97 ∷ 168 ∷ 0 ∷ 0 ∷ 0 ∷ 0 ∷ []) none
-unfolding first_fault table_tests all_placed none_too_many none_missing rule_of param_rule number_of key_of profile_of fields_of tail_of groups_of is_tv body_octets
+unfolding first_fault table_tests all_placed none_too_many none_missing rule_of param_rule number_of key_of set_of_kind fields_of tail_of groups_of is_tv body_octets
 mode_lawful = lawful_from WholeC1G2UhfRfModeTableEntry (0 ∷ 0 ∷ 0 ∷ 2 ∷ 0 ∷ 0 ∷ 40000 ∷ []) (0 ∷ 0 ∷ 5 ∷ 220 ∷ 0 ∷ 0 ∷ 97 ∷ 168 ∷ 0 ∷ 0 ∷ 97 ∷ 168 ∷ 0 ∷ 0 ∷ 0 ∷ 0 ∷ []) none (lit< tt, (lit< tt, (lit< tt, (lit< tt, (lit< tt, (lit< tt, (lit< tt, (lit< tt, (lit< tt, (lit< tt, (lit< tt, (lit< tt, (lit< tt, (lit< tt, (lit< tt, (lit< tt, tt)))))))))))))))) refl
 
 pub fixed_lawful : AreLawful WholeFixedFrequencyTable (1 ∷ []) (0 ∷ 13 ∷ 55 ∷ 252 ∷ []) none
-unfolding first_fault table_tests all_placed none_too_many none_missing rule_of param_rule number_of key_of profile_of fields_of tail_of groups_of is_tv body_octets
+unfolding first_fault table_tests all_placed none_too_many none_missing rule_of param_rule number_of key_of set_of_kind fields_of tail_of groups_of is_tv body_octets
 fixed_lawful = lawful_from WholeFixedFrequencyTable (1 ∷ []) (0 ∷ 13 ∷ 55 ∷ 252 ∷ []) none (lit< tt, (lit< tt, (lit< tt, (lit< tt, tt)))) refl
 
 pub identification_lawful : AreLawful WholeIdentification (0 ∷ 8 ∷ []) (0 ∷ 0 ∷ 0 ∷ 0 ∷ 0 ∷ 0 ∷ 0 ∷ 0 ∷ []) none
-unfolding first_fault table_tests all_placed none_too_many none_missing rule_of param_rule number_of key_of profile_of fields_of tail_of groups_of is_tv body_octets
+unfolding first_fault table_tests all_placed none_too_many none_missing rule_of param_rule number_of key_of set_of_kind fields_of tail_of groups_of is_tv body_octets
 identification_lawful = lawful_from WholeIdentification (0 ∷ 8 ∷ []) (0 ∷ 0 ∷ 0 ∷ 0 ∷ 0 ∷ 0 ∷ 0 ∷ 0 ∷ []) none (lit< tt, (lit< tt, (lit< tt, (lit< tt, (lit< tt, (lit< tt, (lit< tt, (lit< tt, tt)))))))) refl
 
 pub antenna_lawful : (number : ℕ) → number < 2 ^ 16 → AreLawful WholeAntennaProperties (1 ∷ number ∷ 0 ∷ []) ([]) none
-unfolding first_fault table_tests all_placed none_too_many none_missing rule_of param_rule number_of key_of profile_of fields_of tail_of groups_of is_tv body_octets
+unfolding first_fault table_tests all_placed none_too_many none_missing rule_of param_rule number_of key_of set_of_kind fields_of tail_of groups_of is_tv body_octets
 antenna_lawful number h = let e = le-leb number 65535 (omega arith) in lawful_from WholeAntennaProperties (1 ∷ number ∷ 0 ∷ []) [] none tt (rw e refl)
 
 -- ---- parameters with children
 
 general_lawful : IsLawfulTree general
-unfolding general first_fault table_tests all_placed none_too_many none_missing rule_of param_rule number_of key_of profile_of fields_of tail_of groups_of is_tv body_octets
+unfolding general first_fault table_tests all_placed none_too_many none_missing rule_of param_rule number_of key_of set_of_kind fields_of tail_of groups_of is_tv body_octets
 general_lawful =
     let parts : AllLawful general.children = ((((tt, sensitivity_lawful, tt), ports_lawful, tt), air_protocol_lawful 1 (lit< tt), tt), air_protocol_lawful 2 (lit< tt), tt) in
     (lawful_from WholeGeneralDeviceCapabilities (2 ∷ 0 ∷ 1 ∷ 0 ∷ 0 ∷ []) [] general.children tt (rw no_text refl), parts)
 
 modes_lawful : IsLawfulTree modes
-unfolding modes mode first_fault table_tests all_placed none_too_many none_missing rule_of param_rule number_of key_of profile_of fields_of tail_of groups_of is_tv body_octets
+unfolding modes mode first_fault table_tests all_placed none_too_many none_missing rule_of param_rule number_of key_of set_of_kind fields_of tail_of groups_of is_tv body_octets
 modes_lawful =
     let parts : AllLawful modes.children = (tt, mode_lawful, tt) in
     (lawful_from WholeC1G2UhfRfModeTable [] [] modes.children tt refl, parts)
 
 frequencies_lawful : IsLawfulTree frequencies
-unfolding frequencies first_fault table_tests all_placed none_too_many none_missing rule_of param_rule number_of key_of profile_of fields_of tail_of groups_of is_tv body_octets
+unfolding frequencies first_fault table_tests all_placed none_too_many none_missing rule_of param_rule number_of key_of set_of_kind fields_of tail_of groups_of is_tv body_octets
 frequencies_lawful =
     let parts : AllLawful frequencies.children = (tt, fixed_lawful, tt) in
     (lawful_from WholeFrequencyInformation (0 ∷ []) [] frequencies.children tt refl, parts)
 
 band_lawful : IsLawfulTree band
-unfolding band frequencies modes mode first_fault table_tests all_placed none_too_many none_missing rule_of param_rule number_of key_of profile_of fields_of tail_of groups_of is_tv body_octets
+unfolding band frequencies modes mode first_fault table_tests all_placed none_too_many none_missing rule_of param_rule number_of key_of set_of_kind fields_of tail_of groups_of is_tv body_octets
 band_lawful =
     let parts : AllLawful band.children = (((tt, power_lawful, tt), frequencies_lawful.0, frequencies_lawful.1), modes_lawful.0, modes_lawful.1) in
     (lawful_from WholeUhfBandCapabilities [] [] band.children tt refl, parts)
 
 regulatory_lawful : IsLawfulTree regulatory
-unfolding regulatory band frequencies modes mode first_fault table_tests all_placed none_too_many none_missing rule_of param_rule number_of key_of profile_of fields_of tail_of groups_of is_tv body_octets
+unfolding regulatory band frequencies modes mode first_fault table_tests all_placed none_too_many none_missing rule_of param_rule number_of key_of set_of_kind fields_of tail_of groups_of is_tv body_octets
 regulatory_lawful =
     let parts : AllLawful regulatory.children = (tt, band_lawful.0, band_lawful.1) in
     (lawful_from WholeRegulatoryCapabilities (0 ∷ 0 ∷ []) [] regulatory.children tt refl, parts)
@@ -179,19 +179,19 @@ pub message_is : (v id : ℕ) (a : Answer) (items : List Tree) (made : MessageTr
 message_is v id a items made i e = rw (e, i) refl
 
 pub capabilities_lawful : (v id : ℕ) → (v ≡ 1) ⊎ (v ≡ 2) → id < 2 ^ 32 → IsLawfulMessage (message v id capabilities)
-unfolding capabilities general of_llrp regulatory band frequencies modes mode first_message_fault table_tests all_placed none_too_many none_missing rule_of message_rule param_rule number_of key_of profile_of fields_of tail_of groups_of is_tv body_octets
+unfolding capabilities general of_llrp regulatory band frequencies modes mode first_message_fault table_tests all_placed none_too_many none_missing rule_of message_rule param_rule number_of key_of set_of_kind fields_of tail_of groups_of is_tv body_octets
 capabilities_lawful v id version small =
     let parts : AllLawful (forest capabilities.parameters) = (((((tt, success_lawful, tt), general_lawful.0, general_lawful.1), of_llrp_lawful, tt), regulatory_lawful.0, regulatory_lawful.1), air_lawful, tt) in
     is_lawful v id capabilities version small parts refl
 
 pub configuration_lawful : (v id : ℕ) → (v ≡ 1) ⊎ (v ≡ 2) → id < 2 ^ 32 → IsLawfulMessage (message v id configuration)
-unfolding configuration first_message_fault table_tests all_placed none_too_many none_missing rule_of message_rule param_rule number_of key_of profile_of fields_of tail_of groups_of is_tv body_octets
+unfolding configuration first_message_fault table_tests all_placed none_too_many none_missing rule_of message_rule param_rule number_of key_of set_of_kind fields_of tail_of groups_of is_tv body_octets
 configuration_lawful v id version small =
     let parts : AllLawful (forest configuration.parameters) = ((((tt, success_lawful, tt), identification_lawful, tt), antenna_lawful 1 (lit< tt), tt), antenna_lawful 2 (lit< tt), tt) in
     is_lawful v id configuration version small parts refl
 
 pub versions_lawful : (v id : ℕ) → (v ≡ 1) ⊎ (v ≡ 2) → id < 2 ^ 32 → IsLawfulMessage (message v id versions)
-unfolding versions first_message_fault table_tests all_placed none_too_many none_missing rule_of message_rule param_rule number_of key_of profile_of fields_of tail_of groups_of is_tv body_octets
+unfolding versions first_message_fault table_tests all_placed none_too_many none_missing rule_of message_rule param_rule number_of key_of set_of_kind fields_of tail_of groups_of is_tv body_octets
 versions_lawful v id version small =
     let parts : AllLawful (forest versions.parameters) = (tt, success_lawful, tt) in
     is_lawful v id versions version small parts refl

@@ -8,8 +8,8 @@ use Rattle.llrp_schema.specs.declared.kinds.MsgKind.{MsgKind}
 use Rattle.llrp_schema.specs.declared.kinds.MsgKind.TheVariants.{GetRoSpecs, GetRoSpecsResponse, RoAccessReport, Keepalive, ReaderEventNotification, ErrorMessage, AddRoSpec, DeleteRoSpec, StartRoSpec, StopRoSpec, EnableRoSpec, DisableRoSpec, SetReaderConfig, GetReport as GetReportMessage, CloseConnection, KeepaliveAck}
 use Rattle.llrp_schema.specs.declared.kinds.ParamKind.TheVariants.{LlrpStatus, ReaderEventNotificationData, UtcTimestamp, RoSpecEvent, ReportBufferOverflowErrorEvent, ConnectionAttemptEvent, KeepaliveSpec as KeepaliveSpecParameter}
 use Rattle.llrp_schema.specs.declared.kinds.Kind.TheVariants.{Message}
-use Rattle.llrp_schema.specs.declared.kinds.Profile.TheVariants.{Own}
-use Rattle.llrp_schema.specs.Schema.{number_of, rule_of, message_rule, param_rule, fields_of, tail_of, groups_of, is_tv, key_of, profile_of}
+use Rattle.llrp_schema.specs.declared.kinds.KindSet.TheVariants.{Profile}
+use Rattle.llrp_schema.specs.Schema.{number_of, rule_of, message_rule, param_rule, fields_of, tail_of, groups_of, is_tv, key_of, set_of_kind}
 use Rattle.llrp_tree.specs.declared.TheConstants.{MAX_LIMIT}
 use Rattle.llrp_tree.specs.Tree.{Forest, none, Tree, add, add_all, forest}
 use Rattle.llrp_tree.specs.Lawful.{octets, body_octets, message_octets, has_place, count, ArePlaced, NoneTooMany, NoneMissing, AreLawful, AllLawful}
@@ -26,57 +26,57 @@ use Rattle.llrp_session.proofs.AnswersLawful.{any_version}
 -- ---- parameters
 
 pub status_lawful : (status : ℕ) → status < 2 ^ 16 → AreLawful LlrpStatus (status ∷ []) [] none
-unfolding first_fault table_tests all_placed none_too_many none_missing rule_of param_rule number_of key_of profile_of fields_of tail_of groups_of is_tv body_octets
+unfolding first_fault table_tests all_placed none_too_many none_missing rule_of param_rule number_of key_of set_of_kind fields_of tail_of groups_of is_tv body_octets
 status_lawful status h =
     let e = le-leb status 65535 (omega arith) in let u : is_utf8 [] ≡ true = is_utf8-from_IsUtf8 [] IsUtf8-nil in
     lawful_from LlrpStatus (status ∷ []) [] none tt (rw (e, u) refl)
 
 pub time_lawful : (now : ℕ) → now < 2 ^ 64 → AreLawful UtcTimestamp (now ∷ []) [] none
-unfolding first_fault table_tests all_placed none_too_many none_missing rule_of param_rule number_of key_of profile_of fields_of tail_of groups_of is_tv body_octets
+unfolding first_fault table_tests all_placed none_too_many none_missing rule_of param_rule number_of key_of set_of_kind fields_of tail_of groups_of is_tv body_octets
 time_lawful now h = let e = le-leb now 18446744073709551615 (omega arith) in lawful_from UtcTimestamp (now ∷ []) [] none tt (rw e refl)
 
 pub attempt_lawful : AreLawful ConnectionAttemptEvent (0 ∷ []) [] none
-unfolding first_fault table_tests all_placed none_too_many none_missing rule_of param_rule number_of key_of profile_of fields_of tail_of groups_of is_tv body_octets
+unfolding first_fault table_tests all_placed none_too_many none_missing rule_of param_rule number_of key_of set_of_kind fields_of tail_of groups_of is_tv body_octets
 attempt_lawful = lawful_from ConnectionAttemptEvent (0 ∷ []) [] none tt refl
 
 pub overflow_lawful : AreLawful ReportBufferOverflowErrorEvent [] [] none
-unfolding first_fault table_tests all_placed none_too_many none_missing rule_of param_rule number_of key_of profile_of fields_of tail_of groups_of is_tv body_octets
+unfolding first_fault table_tests all_placed none_too_many none_missing rule_of param_rule number_of key_of set_of_kind fields_of tail_of groups_of is_tv body_octets
 overflow_lawful = lawful_from ReportBufferOverflowErrorEvent [] [] none tt refl
 
 pub change_lawful : (event id : ℕ) → event ≤ 2 → id < 2 ^ 32 → AreLawful RoSpecEvent (event ∷ id ∷ 0 ∷ []) [] none
-unfolding first_fault table_tests all_placed none_too_many none_missing rule_of param_rule number_of key_of profile_of fields_of tail_of groups_of is_tv body_octets
+unfolding first_fault table_tests all_placed none_too_many none_missing rule_of param_rule number_of key_of set_of_kind fields_of tail_of groups_of is_tv body_octets
 change_lawful event id h g =
     let e = le-leb event 2 h in let i = le-leb id 4294967295 (omega arith) in
     lawful_from RoSpecEvent (event ∷ id ∷ 0 ∷ []) [] none tt (rw (e, i) refl)
 
 pub keepalive_lawful : (trigger period : ℕ) → trigger ≤ 1 → period < 2 ^ 32 → AreLawful KeepaliveSpecParameter (trigger ∷ period ∷ []) [] none
-unfolding first_fault table_tests all_placed none_too_many none_missing rule_of param_rule number_of key_of profile_of fields_of tail_of groups_of is_tv body_octets
+unfolding first_fault table_tests all_placed none_too_many none_missing rule_of param_rule number_of key_of set_of_kind fields_of tail_of groups_of is_tv body_octets
 keepalive_lawful trigger period h g =
     let e = le-leb trigger 1 h in let i = le-leb period 4294967295 (omega arith) in
     lawful_from KeepaliveSpecParameter (trigger ∷ period ∷ []) [] none tt (rw (e, i) refl)
 
 attempt_data_lawful : (now : ℕ) → AreLawful ReaderEventNotificationData [] [] (notification_data now (parameter ConnectionAttemptEvent (0 ∷ []) [])).children
-unfolding first_fault table_tests all_placed none_too_many none_missing rule_of param_rule number_of key_of profile_of fields_of tail_of groups_of is_tv body_octets
+unfolding first_fault table_tests all_placed none_too_many none_missing rule_of param_rule number_of key_of set_of_kind fields_of tail_of groups_of is_tv body_octets
 attempt_data_lawful now = lawful_from ReaderEventNotificationData [] [] _ tt refl
 
 change_data_lawful : (now event id : ℕ) → AreLawful ReaderEventNotificationData [] [] (notification_data now (rospec_event event id)).children
-unfolding first_fault table_tests all_placed none_too_many none_missing rule_of param_rule number_of key_of profile_of fields_of tail_of groups_of is_tv body_octets
+unfolding first_fault table_tests all_placed none_too_many none_missing rule_of param_rule number_of key_of set_of_kind fields_of tail_of groups_of is_tv body_octets
 change_data_lawful now event id = lawful_from ReaderEventNotificationData [] [] _ tt refl
 
 overflow_data_lawful : (now : ℕ) → AreLawful ReaderEventNotificationData [] [] (notification_data now (parameter ReportBufferOverflowErrorEvent [] [])).children
-unfolding first_fault table_tests all_placed none_too_many none_missing rule_of param_rule number_of key_of profile_of fields_of tail_of groups_of is_tv body_octets
+unfolding first_fault table_tests all_placed none_too_many none_missing rule_of param_rule number_of key_of set_of_kind fields_of tail_of groups_of is_tv body_octets
 overflow_data_lawful now = lawful_from ReaderEventNotificationData [] [] _ tt refl
 
 -- ---- messages
 
-sendable : (v id : ℕ) (kind : MsgKind) (values : List ℕ) (f : Forest) (limit : ℕ) → profile_of (Message kind) ≡ Own → (v ≡ 1) ⊎ (v ≡ 2) → id < 2 ^ 32 → AllLawful f → first_message_fault 1 kind values [] f ≡ None
+sendable : (v id : ℕ) (kind : MsgKind) (values : List ℕ) (f : Forest) (limit : ℕ) → set_of_kind (Message kind) ≡ Profile → (v ≡ 1) ⊎ (v ≡ 2) → id < 2 ^ 32 → AllLawful f → first_message_fault 1 kind values [] f ≡ None
     → message_octets (record { version = v; id = id; kind = kind; fields = values; tail = []; children = f }) ≤ limit
     → IsSendable limit (record { version = v; id = id; kind = kind; fields = values; tail = []; children = f })
 sendable v id kind values f limit own version small children passes short =
     record { own = own; lawful = message_from v id kind values [] f small tt children (any_version v version kind values f passes); within = short }
 
-response_own : (operation : Operation) → profile_of (Message (response_kind operation)) ≡ Own
-unfolding profile_of rule_of message_rule
+response_own : (operation : Operation) → set_of_kind (Message (response_kind operation)) ≡ Profile
+unfolding set_of_kind rule_of message_rule
 response_own Adding = refl
 response_own Deleting = refl
 response_own Starting = refl
@@ -88,7 +88,7 @@ response_own Closing = refl
 response_own Listing = refl
 
 response_passes : (operation : Operation) (status : ℕ) → first_message_fault 1 (response_kind operation) [] [] (forest (status_parameter status ∷ [])) ≡ None
-unfolding first_message_fault table_tests all_placed none_too_many none_missing rule_of message_rule param_rule number_of key_of profile_of fields_of tail_of groups_of is_tv body_octets
+unfolding first_message_fault table_tests all_placed none_too_many none_missing rule_of message_rule param_rule number_of key_of set_of_kind fields_of tail_of groups_of is_tv body_octets
 response_passes Adding status = refl
 response_passes Deleting status = refl
 response_passes Starting status = refl
@@ -100,7 +100,7 @@ response_passes Closing status = refl
 response_passes Listing status = refl
 
 response_octets : (operation : Operation) (status : ℕ) → 10 + body_octets (Message (response_kind operation)) [] + octets (forest (status_parameter status ∷ [])) ≡ 18
-unfolding rule_of message_rule param_rule number_of key_of profile_of fields_of tail_of groups_of is_tv body_octets
+unfolding rule_of message_rule param_rule number_of key_of set_of_kind fields_of tail_of groups_of is_tv body_octets
 response_octets Adding status = refl
 response_octets Deleting status = refl
 response_octets Starting status = refl
@@ -114,7 +114,7 @@ response_octets Listing status = refl
 -- ---- reports
 
 reports_placed : (before : Forest) (ts : List Tree) → ArePlaced (groups_of (Message RoAccessReport)) before → AreReports ts → ArePlaced (groups_of (Message RoAccessReport)) (add_all before ts)
-unfolding ArePlaced rule_of message_rule param_rule number_of key_of profile_of groups_of
+unfolding ArePlaced rule_of message_rule param_rule number_of key_of set_of_kind groups_of
 reports_placed before [] p h = p
 reports_placed before (t ∷ ts) p h =
     let here : has_place (groups_of (Message RoAccessReport)) t.kind ≡ true = rw h.0.kind refl in
@@ -130,7 +130,7 @@ reports_octets before (t ∷ ts) h = let ih = reports_octets (add before t) ts h
 
 report_sendable : (v id : ℕ) (tags : List Tree) (limit : ℕ) → 4096 ≤ limit → (v ≡ 1) ⊎ (v ≡ 2) → id < 2 ^ 32 → AreReports tags → length tags ≤ 64
     → IsSendable limit (record { version = v; id = id; kind = RoAccessReport; fields = []; tail = []; children = forest tags })
-unfolding ArePlaced NoneTooMany NoneMissing rule_of message_rule number_of key_of profile_of fields_of tail_of groups_of body_octets
+unfolding ArePlaced NoneTooMany NoneMissing rule_of message_rule number_of key_of set_of_kind fields_of tail_of groups_of body_octets
 report_sendable v id tags limit l version small h few =
     let long = reports_octets none tags h in
     record {
@@ -149,7 +149,7 @@ report_sendable v id tags limit l version small h few =
 
 table_sendable : (v id : ℕ) (table : List Entry) (limit : ℕ) → limit ≤ MAX_LIMIT → (v ≡ 1) ⊎ (v ≡ 2) → id < 2 ^ 32 → AreToldOf table → FitsLimit limit table
     → IsSendable limit (record { version = v; id = id; kind = GetRoSpecsResponse; fields = []; tail = []; children = forest (status_parameter 0 ∷ listing table) })
-unfolding ArePlaced NoneTooMany NoneMissing count rule_of message_rule param_rule number_of key_of profile_of fields_of tail_of groups_of is_tv body_octets
+unfolding ArePlaced NoneTooMany NoneMissing count rule_of message_rule param_rule number_of key_of set_of_kind fields_of tail_of groups_of is_tv body_octets
 table_sendable v id table limit m version small told fits =
     let status : Forest = forest (status_parameter 0 ∷ []) in
     let long = listing_octets status table told in
@@ -169,7 +169,7 @@ table_sendable v id table limit m version small told fits =
 -- ---- the words of a reader
 
 word_sends : (v id : ℕ) (word : ReaderContent) (limit : ℕ) → 4096 ≤ limit → limit ≤ MAX_LIMIT → (v ≡ 1) ⊎ (v ≡ 2) → id < 2 ^ 32 → IsLawfulReaderWord limit word → IsSendable limit (reader_message (record { version = v; id = id; word = word }))
-unfolding reader_message first_message_fault table_tests all_placed none_too_many none_missing rule_of message_rule param_rule number_of key_of profile_of fields_of tail_of groups_of is_tv body_octets
+unfolding reader_message first_message_fault table_tests all_placed none_too_many none_missing rule_of message_rule param_rule number_of key_of set_of_kind fields_of tail_of groups_of is_tv body_octets
 word_sends v id (Response operation status) limit l m version small h =
     sendable v id (response_kind operation) [] (forest (status_parameter status ∷ [])) limit (response_own operation) version small (tt, status_lawful status h, tt) (response_passes operation status) (let e = response_octets operation status in omega (arith, e))
 word_sends v id (Listed table) limit l m version small h = table_sendable v id table limit m version small h.0 h.1
@@ -203,7 +203,7 @@ keepalive_fits ms h =
 
 add_sendable : (id limit : ℕ) (spec : Tree) → limit ≤ MAX_LIMIT → id < 2 ^ 32 → IsLawfulRoSpec limit spec
     → IsSendable limit (record { version = 1; id = id; kind = AddRoSpec; fields = []; tail = []; children = forest (spec ∷ []) })
-unfolding ArePlaced NoneTooMany NoneMissing count rule_of message_rule param_rule number_of key_of profile_of fields_of tail_of groups_of body_octets
+unfolding ArePlaced NoneTooMany NoneMissing count rule_of message_rule param_rule number_of key_of set_of_kind fields_of tail_of groups_of body_octets
 add_sendable id limit spec l small h =
     let placed : has_place (groups_of (Message AddRoSpec)) spec.kind ≡ true = rw h.kind refl in
     let long = h.within in
@@ -220,12 +220,12 @@ add_sendable id limit spec l small h =
     }
 
 -- a message of one field of 32 bits
-named_sendable : (id limit rospec : ℕ) (kind : MsgKind) → profile_of (Message kind) ≡ Own → 4096 ≤ limit → id < 2 ^ 32 → first_message_fault 1 kind (rospec ∷ []) [] none ≡ None → body_octets (Message kind) [] ≡ 4
+named_sendable : (id limit rospec : ℕ) (kind : MsgKind) → set_of_kind (Message kind) ≡ Profile → 4096 ≤ limit → id < 2 ^ 32 → first_message_fault 1 kind (rospec ∷ []) [] none ≡ None → body_octets (Message kind) [] ≡ 4
     → IsSendable limit (record { version = 1; id = id; kind = kind; fields = rospec ∷ []; tail = []; children = none })
 named_sendable id limit rospec kind own l small passes long = sendable 1 id kind (rospec ∷ []) none limit own (inl refl) small tt passes (omega (arith, long))
 
 client_word_sends : (id limit : ℕ) (word : ClientContent) → 4096 ≤ limit → limit ≤ MAX_LIMIT → id < 2 ^ 32 → IsLawfulClientWord limit word → IsSendable limit (client_message (record { id = id; word = word }))
-unfolding client_message first_message_fault table_tests all_placed none_too_many none_missing rule_of message_rule param_rule number_of key_of profile_of fields_of tail_of groups_of is_tv body_octets
+unfolding client_message first_message_fault table_tests all_placed none_too_many none_missing rule_of message_rule param_rule number_of key_of set_of_kind fields_of tail_of groups_of is_tv body_octets
 client_word_sends id limit (Asks (Add spec)) l m small h = add_sendable id limit spec m small h
 client_word_sends id limit (Asks (Delete n)) l m small h = let e = le-leb n 4294967295 (omega arith) in named_sendable id limit n DeleteRoSpec refl l small (rw e refl) refl
 client_word_sends id limit (Asks (Start n)) l m small h = let e = le-leb n 4294967295 (omega arith) in named_sendable id limit n StartRoSpec refl l small (rw e refl) refl

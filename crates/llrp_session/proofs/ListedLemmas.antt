@@ -5,7 +5,7 @@ use Rattle.std.specs.Prelude.{Some}
 use Rattle.llrp_schema.specs.declared.kinds.MsgKind.TheVariants.{GetRoSpecsResponse}
 use Rattle.llrp_schema.specs.declared.kinds.ParamKind.TheVariants.{RoSpec as RoSpecKind, LlrpStatus}
 use Rattle.llrp_schema.specs.declared.kinds.Kind.TheVariants.{Message}
-use Rattle.llrp_schema.specs.Schema.{one, number_of, rule_of, message_rule, param_rule, fields_of, tail_of, groups_of, is_tv, key_of, profile_of}
+use Rattle.llrp_schema.specs.Schema.{one, number_of, rule_of, message_rule, param_rule, fields_of, tail_of, groups_of, is_tv, key_of, set_of_kind}
 use Rattle.llrp_tree.specs.Tree.{Forest, Tree, add, add_all}
 use Rattle.llrp_tree.specs.Lawful.{octets, body_octets, tree_octets, count, ArePlaced, AreLawful, AllLawful, IsLawfulTree}
 use Rattle.llrp_session.specs.RoSpec.{field_of}
@@ -28,7 +28,7 @@ priority_fits t k h = let le : get_or t.fields 1 0 ≤ greatest RoSpecKind 1 = f
 -- another id, priority and state leave it lawful
 other_fields : (fields tail : List ℕ) (children : Forest) (id priority state : ℕ) → AreLawful RoSpecKind fields tail children → id < 2 ^ 32 → priority ≤ 7 → state ≤ 2
     → AreLawful RoSpecKind (id ∷ priority ∷ state ∷ []) [] children
-unfolding rule_of param_rule number_of key_of profile_of fields_of tail_of is_tv body_octets
+unfolding rule_of param_rule number_of key_of set_of_kind fields_of tail_of is_tv body_octets
 other_fields fields tail children id priority state h small low known =
     let long = h.long in
     record {
@@ -57,7 +57,7 @@ listed_octets e told = sym (told.octets ∙ same_octets e.spec.tree told.kind (n
 -- ---- a row of them
 
 pub listing_placed : (before : Forest) (es : List Entry) → ArePlaced (groups_of (Message GetRoSpecsResponse)) before → ArePlaced (groups_of (Message GetRoSpecsResponse)) (add_all before (listing es))
-unfolding ArePlaced rule_of message_rule param_rule number_of key_of profile_of groups_of
+unfolding ArePlaced rule_of message_rule param_rule number_of key_of set_of_kind groups_of
 listing_placed before [] p = p
 listing_placed before (e ∷ es) p = listing_placed (add before (as_listed e)) es (p, refl)
 
@@ -94,6 +94,6 @@ told_more es i e within is so one = subst AreToldOf (sym (up_to_next es i e with
 
 -- none of them is a status
 pub statuses-listing : (before : Forest) (es : List Entry) → count (one LlrpStatus) (add_all before (listing es)) ≡ count (one LlrpStatus) before
-unfolding count rule_of param_rule number_of key_of profile_of
+unfolding count rule_of param_rule number_of key_of set_of_kind
 statuses-listing before [] = refl
 statuses-listing before (e ∷ es) = statuses-listing (add before (as_listed e)) es

@@ -1,6 +1,6 @@
 -- What is read in the message of a word is that word.
 use Rattle.std.proofs.Common.{◌≡◌, ℕ, List, [], ◌∷◌, refl, ap, ◌∙◌}
-use Rattle.llrp_schema.specs.Schema.{number_of, rule_of, param_rule, key_of, profile_of}
+use Rattle.llrp_schema.specs.Schema.{number_of, rule_of, param_rule, key_of, set_of_kind}
 use Rattle.llrp_tree.proofs.TreeLemmas.{trees-forest}
 use Rattle.std.specs.Prelude.{true, filter, find}
 use Rattle.llrp_tree.specs.Tree.{Tree, forest}
@@ -17,22 +17,22 @@ use Rattle.llrp_session.specs.Calls.LawfulWords.{SaysRoSpec}
 -- ---- the response that lists a table
 
 status_back : (ts : List Tree) → status_in (forest (status_parameter 0 ∷ ts)) ≡ 0
-unfolding number_of key_of profile_of rule_of param_rule
+unfolding number_of key_of set_of_kind rule_of param_rule
 status_back ts = ap (λ xs. field_of 0 (find (is_kind LlrpStatus) xs)) (trees-forest (status_parameter 0 ∷ ts))
 
 all_rospecs : (table : List Entry) → filter (is_kind RoSpec) (listing table) ≡ listing table
-unfolding number_of key_of profile_of rule_of param_rule
+unfolding number_of key_of set_of_kind rule_of param_rule
 all_rospecs [] = refl
 all_rospecs (e ∷ es) = ap (λ rest. as_listed e ∷ rest) (all_rospecs es)
 
 rospecs_back : (table : List Entry) → rospecs_in (forest (status_parameter 0 ∷ listing table)) ≡ listing table
-unfolding number_of key_of profile_of rule_of param_rule
+unfolding number_of key_of set_of_kind rule_of param_rule
 rospecs_back table = ap (filter (is_kind RoSpec)) (trees-forest (status_parameter 0 ∷ listing table)) ∙ all_rospecs table
 
 -- ---- words
 
 word_back : (version id : ℕ) (word : ReaderContent) → heard_of (reader_message (record { version = version; id = id; word = word })) ≡ heard word
-unfolding heard_of reader_message number_of key_of profile_of rule_of param_rule
+unfolding heard_of reader_message number_of key_of set_of_kind rule_of param_rule
 word_back version id (Response Adding status) = refl
 word_back version id (Response Deleting status) = refl
 word_back version id (Response Starting status) = refl
@@ -56,7 +56,7 @@ pub heard_back : (m : ReaderMessage) → heard_of (reader_message m) ≡ heard m
 heard_back m = word_back m.version m.id m.word
 
 command_back : (id : ℕ) (word : ClientContent) → SaysRoSpec word → request_of (client_message (record { id = id; word = word })) ≡ request word
-unfolding request_of client_message number_of key_of profile_of rule_of param_rule
+unfolding request_of client_message number_of key_of set_of_kind rule_of param_rule
 command_back id (Asks (Add spec)) h = let is : is_kind RoSpec spec ≡ true = rw h refl in rw is refl
 command_back id (Asks (Delete n)) h = refl
 command_back id (Asks (Start n)) h = refl

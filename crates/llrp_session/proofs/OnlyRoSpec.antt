@@ -6,7 +6,7 @@ use Rattle.llrp_schema.specs.declared.kinds.MsgKind.TheVariants as kinds
 use Rattle.llrp_schema.specs.declared.kinds.ParamKind.{ParamKind}
 use Rattle.llrp_schema.specs.declared.kinds.ParamKind.TheVariants.{RoSpec}
 use Rattle.llrp_schema.specs.declared.kinds.Kind.TheVariants.{Message}
-use Rattle.llrp_schema.specs.Schema.{GroupRule, one, number_of, rule_of, message_rule, groups_of, fields_of, plain_fields_of, key_of, profile_of}
+use Rattle.llrp_schema.specs.Schema.{GroupRule, one, number_of, rule_of, message_rule, groups_of, fields_of, plain_fields_of, key_of, set_of_kind}
 use Rattle.llrp_tree.specs.Tree.{Forest, none, and, Tree, MessageTree, trees}
 use Rattle.llrp_tree.specs.Lawful.{is_member, count, ArePlaced, NoneTooMany, NoneMissing, IsLawfulMessage}
 use Rattle.llrp_tree.proofs.LawLemmas.{range_length, same_number}
@@ -38,7 +38,7 @@ nothing [] h = refl
 nothing (t ∷ ts) h = absurd (omega arith)
 
 only_in : (f : Forest) → ArePlaced (groups_of (Message kinds.AddRoSpec)) f → NoneTooMany (groups_of (Message kinds.AddRoSpec)) f → NoneMissing (groups_of (Message kinds.AddRoSpec)) f → Only RoSpec f
-unfolding ArePlaced NoneTooMany NoneMissing count groups_of rule_of message_rule number_of key_of profile_of
+unfolding ArePlaced NoneTooMany NoneMissing count groups_of rule_of message_rule number_of key_of set_of_kind
 only_in none p m l = absurd (omega (arith, l.0))
 only_in (and before kind fields tail children) p m l =
     let t : Tree = record { kind = kind; fields = fields; tail = tail; children = children } in

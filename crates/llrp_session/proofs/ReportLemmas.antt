@@ -3,7 +3,7 @@ use Rattle.std.proofs.Common.{◌≡◌, ℕ, ◌+◌, ◌^◌, ◌<◌, ◌≤�
 use Rattle.llrp_schema.specs.declared.kinds.ParamKind.{ParamKind}
 use Rattle.llrp_schema.specs.declared.kinds.ParamKind.TheVariants.{TagReportData, Epc96, RoSpecId, SpecIndex, InventoryParameterSpecId, AntennaId, ChannelIndex, PeakRssi, FirstSeenTimestampUtc, LastSeenTimestampUtc, TagSeenCount}
 use Rattle.llrp_schema.specs.declared.kinds.Kind.TheVariants.{Parameter}
-use Rattle.llrp_schema.specs.Schema.{GroupRule, rule_of, param_rule, number_of, fields_of, tail_of, groups_of, is_tv, key_of, profile_of}
+use Rattle.llrp_schema.specs.Schema.{GroupRule, rule_of, param_rule, number_of, fields_of, tail_of, groups_of, is_tv, key_of, set_of_kind}
 use Rattle.llrp_tree.specs.Tree.{Forest, none, Tree, add, add_all, forest}
 use Rattle.llrp_tree.specs.Lawful.{levels, octets, tree_octets, body_octets, is_member, count, has_place, ArePlaced, NoneTooMany, NoneMissing, AllLawful, IsLawfulTree}
 use Rattle.llrp_session.specs.RoSpec.{RoSpec, ContentSelector}
@@ -26,43 +26,43 @@ AreParts (t ∷ ts) = IsPart t × AreParts ts
 -- ---- the parts one by one
 
 pub epc_part : (v : ℕ) → v < 2 ^ 96 → IsPart (value_parameter Epc96 v)
-unfolding rule_of param_rule number_of key_of profile_of fields_of tail_of groups_of body_octets is_tv ArePlaced NoneTooMany NoneMissing
+unfolding rule_of param_rule number_of key_of set_of_kind fields_of tail_of groups_of body_octets is_tv ArePlaced NoneTooMany NoneMissing
 epc_part v h = record { lawful = (record { obeys = record { ranges = (omega arith, tt); form = refl; bytes = tt; placed = tt; most = tt; least = tt }; deep = lit≤ tt; long = lit≤ tt }, tt); placed = refl; leaf = refl }
 
 pub rospec_id_part : (v : ℕ) → v < 2 ^ 32 → IsPart (value_parameter RoSpecId v)
-unfolding rule_of param_rule number_of key_of profile_of fields_of tail_of groups_of body_octets is_tv ArePlaced NoneTooMany NoneMissing
+unfolding rule_of param_rule number_of key_of set_of_kind fields_of tail_of groups_of body_octets is_tv ArePlaced NoneTooMany NoneMissing
 rospec_id_part v h = record { lawful = (record { obeys = record { ranges = (omega arith, tt); form = refl; bytes = tt; placed = tt; most = tt; least = tt }; deep = lit≤ tt; long = lit≤ tt }, tt); placed = refl; leaf = refl }
 
 pub spec_index_part : (v : ℕ) → v < 2 ^ 16 → IsPart (value_parameter SpecIndex v)
-unfolding rule_of param_rule number_of key_of profile_of fields_of tail_of groups_of body_octets is_tv ArePlaced NoneTooMany NoneMissing
+unfolding rule_of param_rule number_of key_of set_of_kind fields_of tail_of groups_of body_octets is_tv ArePlaced NoneTooMany NoneMissing
 spec_index_part v h = record { lawful = (record { obeys = record { ranges = (omega arith, tt); form = refl; bytes = tt; placed = tt; most = tt; least = tt }; deep = lit≤ tt; long = lit≤ tt }, tt); placed = refl; leaf = refl }
 
 pub inventory_part : (v : ℕ) → v < 2 ^ 16 → IsPart (value_parameter InventoryParameterSpecId v)
-unfolding rule_of param_rule number_of key_of profile_of fields_of tail_of groups_of body_octets is_tv ArePlaced NoneTooMany NoneMissing
+unfolding rule_of param_rule number_of key_of set_of_kind fields_of tail_of groups_of body_octets is_tv ArePlaced NoneTooMany NoneMissing
 inventory_part v h = record { lawful = (record { obeys = record { ranges = (omega arith, tt); form = refl; bytes = tt; placed = tt; most = tt; least = tt }; deep = lit≤ tt; long = lit≤ tt }, tt); placed = refl; leaf = refl }
 
 pub antenna_part : (v : ℕ) → v < 2 ^ 16 → IsPart (value_parameter AntennaId v)
-unfolding rule_of param_rule number_of key_of profile_of fields_of tail_of groups_of body_octets is_tv ArePlaced NoneTooMany NoneMissing
+unfolding rule_of param_rule number_of key_of set_of_kind fields_of tail_of groups_of body_octets is_tv ArePlaced NoneTooMany NoneMissing
 antenna_part v h = record { lawful = (record { obeys = record { ranges = (omega arith, tt); form = refl; bytes = tt; placed = tt; most = tt; least = tt }; deep = lit≤ tt; long = lit≤ tt }, tt); placed = refl; leaf = refl }
 
 pub channel_part : (v : ℕ) → v < 2 ^ 16 → IsPart (value_parameter ChannelIndex v)
-unfolding rule_of param_rule number_of key_of profile_of fields_of tail_of groups_of body_octets is_tv ArePlaced NoneTooMany NoneMissing
+unfolding rule_of param_rule number_of key_of set_of_kind fields_of tail_of groups_of body_octets is_tv ArePlaced NoneTooMany NoneMissing
 channel_part v h = record { lawful = (record { obeys = record { ranges = (omega arith, tt); form = refl; bytes = tt; placed = tt; most = tt; least = tt }; deep = lit≤ tt; long = lit≤ tt }, tt); placed = refl; leaf = refl }
 
 pub rssi_part : (v : ℕ) → v < 2 ^ 8 → IsPart (value_parameter PeakRssi v)
-unfolding rule_of param_rule number_of key_of profile_of fields_of tail_of groups_of body_octets is_tv ArePlaced NoneTooMany NoneMissing
+unfolding rule_of param_rule number_of key_of set_of_kind fields_of tail_of groups_of body_octets is_tv ArePlaced NoneTooMany NoneMissing
 rssi_part v h = record { lawful = (record { obeys = record { ranges = (omega arith, tt); form = refl; bytes = tt; placed = tt; most = tt; least = tt }; deep = lit≤ tt; long = lit≤ tt }, tt); placed = refl; leaf = refl }
 
 pub first_seen_part : (v : ℕ) → v < 2 ^ 64 → IsPart (value_parameter FirstSeenTimestampUtc v)
-unfolding rule_of param_rule number_of key_of profile_of fields_of tail_of groups_of body_octets is_tv ArePlaced NoneTooMany NoneMissing
+unfolding rule_of param_rule number_of key_of set_of_kind fields_of tail_of groups_of body_octets is_tv ArePlaced NoneTooMany NoneMissing
 first_seen_part v h = record { lawful = (record { obeys = record { ranges = (omega arith, tt); form = refl; bytes = tt; placed = tt; most = tt; least = tt }; deep = lit≤ tt; long = lit≤ tt }, tt); placed = refl; leaf = refl }
 
 pub last_seen_part : (v : ℕ) → v < 2 ^ 64 → IsPart (value_parameter LastSeenTimestampUtc v)
-unfolding rule_of param_rule number_of key_of profile_of fields_of tail_of groups_of body_octets is_tv ArePlaced NoneTooMany NoneMissing
+unfolding rule_of param_rule number_of key_of set_of_kind fields_of tail_of groups_of body_octets is_tv ArePlaced NoneTooMany NoneMissing
 last_seen_part v h = record { lawful = (record { obeys = record { ranges = (omega arith, tt); form = refl; bytes = tt; placed = tt; most = tt; least = tt }; deep = lit≤ tt; long = lit≤ tt }, tt); placed = refl; leaf = refl }
 
 pub seen_count_part : (v : ℕ) → v < 2 ^ 16 → IsPart (value_parameter TagSeenCount v)
-unfolding rule_of param_rule number_of key_of profile_of fields_of tail_of groups_of body_octets is_tv ArePlaced NoneTooMany NoneMissing
+unfolding rule_of param_rule number_of key_of set_of_kind fields_of tail_of groups_of body_octets is_tv ArePlaced NoneTooMany NoneMissing
 seen_count_part v h = record { lawful = (record { obeys = record { ranges = (omega arith, tt); form = refl; bytes = tt; placed = tt; most = tt; least = tt }; deep = lit≤ tt; long = lit≤ tt }, tt); placed = refl; leaf = refl }
 
 -- ---- parts in a row
@@ -158,7 +158,7 @@ total-report_parts m now s c g =
 
 -- the octets after the head of the report
 octets_fit : (now : ℕ) (s : RoSpec) (c : ContentSelector) (g : Sighting) → octets (forest (report_parts now s c g)) ≤ 53
-unfolding rule_of param_rule number_of key_of profile_of fields_of tail_of body_octets is_tv
+unfolding rule_of param_rule number_of key_of set_of_kind fields_of tail_of body_octets is_tv
 octets_fit now s c g = let le : total tree_octets (report_parts now s c g) ≤ 53 = total-report_parts tree_octets now s c g in omega (arith, octets-add_all none (report_parts now s c g), le)
 
 few : (now : ℕ) (s : RoSpec) (c : ContentSelector) (g : Sighting) (group : GroupRule) → over_ten (is_of group) now s g ≤ 1 → count group (forest (report_parts now s c g)) ≤ 1
@@ -170,7 +170,7 @@ unfolding count
 enough now s c g group h = omega (arith, count-add_all group none (report_parts now s c g))
 
 pub report_of_sighting : (now : ℕ) (s : RoSpec) (c : ContentSelector) (g : Sighting) → now < 2 ^ 64 → IsToldOf s → IsLawfulSighting g → IsReport (tag_report now s c g)
-unfolding tag_report rule_of param_rule number_of key_of profile_of fields_of tail_of groups_of body_octets is_tv NoneTooMany NoneMissing ArePlaced
+unfolding tag_report rule_of param_rule number_of key_of set_of_kind fields_of tail_of groups_of body_octets is_tv NoneTooMany NoneMissing ArePlaced
 report_of_sighting now s c g moment told l =
     let parts = report_parts now s c g in
     let are = are_parts now s c g moment told l in

@@ -1,7 +1,7 @@
 -- A worked exchange of the two ends, computed on the world: three tags, reported after two and on request.
 use Rattle.std.proofs.Common.{◌≡◌, ℕ, refl, List, [], ◌∷◌, ◌++◌}
 use Rattle.std.specs.Prelude.{Some, negsuc}
-use Rattle.llrp_schema.specs.Schema.{number_of, rule_of, param_rule, fields_of, tail_of, is_tv, key_of, profile_of}
+use Rattle.llrp_schema.specs.Schema.{number_of, rule_of, param_rule, fields_of, tail_of, is_tv, key_of, set_of_kind}
 use Rattle.llrp_tree.specs.Tree.{Tree}
 use Rattle.llrp_tree.specs.Lawful.{body_octets}
 use Rattle.llrp_session.specs.RoSpec.{rospec_of, report_spec_of}
@@ -49,7 +49,7 @@ world_after events = run events (opening 65536 1 1)
 pub first_two : ((world_after (started ++ seen ++ DeliversDown ∷ DeliversDown ∷ [])).handed_out ≡ first_report ∷ second_report ∷ [])
     × ((world_after (started ++ seen ++ DeliversDown ∷ DeliversDown ∷ [])).reader.held ≡ third_report ∷ [])
     × (viewed_state 1 (world_after (started ++ seen ++ DeliversDown ∷ DeliversDown ∷ [])).client.view ≡ Some Active)
-unfolding take command change_view view_without enter_view viewed_state next serve end configured see tick change without enter state_of octets_of active first_immediate rospec_of report_spec_of tag_report number_of key_of profile_of rule_of param_rule fields_of tail_of is_tv body_octets tags_of requests responses
+unfolding take command change_view view_without enter_view viewed_state next serve end configured see tick change without enter state_of octets_of active first_immediate rospec_of report_spec_of tag_report number_of key_of set_of_kind rule_of param_rule fields_of tail_of is_tv body_octets tags_of requests responses
 first_two = (refl, refl, refl)
 
 -- in the end all three are delivered in order, both ends are closed, and nothing is on the way
@@ -58,5 +58,5 @@ pub loop_three_tags : ((world_after (started ++ seen ++ gathered ++ closed_down)
     × ((world_after (started ++ seen ++ gathered ++ closed_down)).reader.phase ≡ Down)
     × ((world_after (started ++ seen ++ gathered ++ closed_down)).up ≡ [])
     × ((world_after (started ++ seen ++ gathered ++ closed_down)).down ≡ [])
-unfolding take command change_view view_without enter_view viewed_state next serve end configured see tick change without enter state_of octets_of active first_immediate rospec_of report_spec_of tag_report number_of key_of profile_of rule_of param_rule fields_of tail_of is_tv body_octets tags_of requests responses
+unfolding take command change_view view_without enter_view viewed_state next serve end configured see tick change without enter state_of octets_of active first_immediate rospec_of report_spec_of tag_report number_of key_of set_of_kind rule_of param_rule fields_of tail_of is_tv body_octets tags_of requests responses
 loop_three_tags = (refl, refl, refl, refl, refl)

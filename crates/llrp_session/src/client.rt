@@ -128,6 +128,20 @@ impl Client {
         }
     }
 
+    /// The state of the connection.
+    pub fn phase(&self) -> ClientPhase
+        ensures { result ≡ self.now.phase }
+    {
+        self.phase
+    }
+
+    /// The request that waits for its response, if there is one.
+    pub fn pending(&self) -> Option<Pending>
+        ensures { result ≡ self.now.pending }
+    {
+        self.pending
+    }
+
     /// The state of a ROSpec that this client added, by its ROSpecID.
     pub fn view(&self, id: u32) -> Option<RoState>
         ensures { result ≡ viewed_state id self.now.view }

@@ -1,31 +1,32 @@
 -- What a `Gathering` stands for, and what its calls make of it.
-use Rattle.std.specs.Prelude.{◌≡◌, ℕ, ◌++◌, List, [], ◌∷◌, map, replicate, Result, Ok, Err, Bool, true, false}
+use Rattle.std.specs.Prelude.{◌≡◌, ℕ, ◌++◌, List, [], ◌∷◌, replicate, Result, Ok, Err, Bool, true, false}
 use Rattle.llrp_tree.specs.Tree.{Tree}
 use Rattle.llrp_stream.specs.Cuts.{Breaks}
 use Rattle.llrp_stream.specs.Calls.Decoding.{StandsIn}
-use Rattle.llrp_session.specs.declared.types.Command.TheVariants.{Add, Enable, Start, GetReport, Delete, Close}
+use Rattle.llrp_session.specs.declared.types.Command.TheVariants.{Add, Enable, Start, SetKeepalive, GetReport, Delete, Close}
 use Rattle.llrp_session.specs.Contents.{ClientMessage}
-use Rattle.llrp_session.specs.ClientMessages.{client_message}
 use Rattle.llrp_listing.specs.declared.outcome.ToolErr.{ToolErr}
 use Rattle.llrp_listing.specs.declared.outcome.ToolErr.TheVariants.{Broken, Memory, Peer, Strange, Early}
 use Rattle.llrp_endpoints.specs.declared.gathering.Gathering.{Gathering}
 use Rattle.llrp_endpoints.specs.declared.gathering.remaining.RemainingCommands.{RemainingCommands}
-use Rattle.llrp_endpoints.specs.declared.gathering.remaining.RemainingCommands.TheVariants.{Cleaning, Adding, Enabling, Starting, Awaiting, Checking, Deleting, Closing, Nothing}
+use Rattle.llrp_endpoints.specs.declared.gathering.remaining.RemainingCommands.TheVariants.{Cleaning, Keeping, Adding, Enabling, Starting, Awaiting, Checking, Deleting, Closing, Nothing}
 use Rattle.llrp_endpoints.specs.declared.gathering.remaining.Later.{Later}
 use Rattle.llrp_endpoints.specs.declared.course.Step.{Step}
 use Rattle.llrp_endpoints.specs.declared.course.Step.TheVariants.{Send, AwaitTags}
-use Rattle.llrp_endpoints.specs.Plan.{Plan, rospec_id, is_started, starting, ending, checking}
+use Rattle.llrp_endpoints.specs.Plan.{Plan, rospec_id, is_kept, is_started, keeping, starting, adding, checking, removing}
 use Rattle.llrp_endpoints.specs.Sending.{Adds}
 use Rattle.llrp_endpoints.specs.Calls.Sending.{AddsSome}
 use Rattle.llrp_endpoints.specs.TagLines.{AreReports, summary_of}
 use Rattle.llrp_endpoints.specs.declared.course.Phase.{Phase}
 use Rattle.llrp_endpoints.specs.declared.course.Phase.TheVariants.{Open, Closed, Failed}
-use Rattle.llrp_endpoints.specs.Gathering.{Course, Gathers, closing_text}
+use Rattle.llrp_endpoints.specs.Asides.{all_said}
+use Rattle.llrp_endpoints.specs.Calls.Asides.{asides_in}
+use Rattle.llrp_endpoints.specs.Gathering.{Beginning, Course, GathersFrom, beginning, closing_text, hurried}
 
 -- ---- the steps that are left
 
 abbrev pub later_of : Plan → Later
-later_of plan = record { id = rospec_id plan; starts = is_started plan; reports = plan.reports; polls = plan.polls; checked = plan.checked; disables = plan.disables }
+later_of plan = record { id = rospec_id plan; starts = is_started plan; reports = plan.reports; polls = plan.polls; adds = plan.adds; checked = plan.checked; disables = plan.disables }
 
 abbrev pub closing : List Step
 closing = Send Close ∷ []
@@ -34,10 +35,10 @@ abbrev pub deleting : ℕ → List Step
 deleting id = Send (Delete id) ∷ closing
 
 abbrev pub checks_then_deletes : Bool → ℕ → List Step
-checks_then_deletes checked id = checking checked ++ deleting id
+checks_then_deletes checked id = (checking checked ++ Send (Delete id) ∷ []) ++ closing
 
 abbrev pub polling : Later → List Step
-polling l = replicate l.polls (Send GetReport) ++ Send (ending l.disables l.id) ∷ checks_then_deletes l.checked l.id
+polling l = replicate l.polls (Send GetReport) ++ (removing l.adds l.disables l.checked l.id ++ closing)
 
 abbrev pub awaiting : Later → List Step
 awaiting l = replicate l.reports AwaitTags ++ polling l
@@ -45,12 +46,16 @@ awaiting l = replicate l.reports AwaitTags ++ polling l
 abbrev pub starts_then_awaits : Later → List Step
 starts_then_awaits l = starting l.starts l.id ++ awaiting l
 
-abbrev pub adding : Plan → List Step
-adding plan = Send (Add plan.rospec) ∷ Send (Enable (rospec_id plan)) ∷ starts_then_awaits (later_of plan)
+abbrev pub adds_then_awaits : Plan → List Step
+adds_then_awaits plan = adding plan.adds (is_started plan) plan.rospec (rospec_id plan) ++ awaiting (later_of plan)
+
+abbrev pub keeps_then_adds : Plan → List Step
+keeps_then_adds plan = keeping (is_kept plan) plan.keepalive ++ adds_then_awaits plan
 
 abbrev pub steps_left : RemainingCommands → List Step
-steps_left (Cleaning plan) = Send (Delete 0) ∷ adding plan
-steps_left (Adding plan) = adding plan
+steps_left (Cleaning id plan) = Send (Delete id) ∷ keeps_then_adds plan
+steps_left (Keeping plan) = Send (SetKeepalive plan.keepalive) ∷ adds_then_awaits plan
+steps_left (Adding plan) = Send (Add plan.rospec) ∷ Send (Enable (rospec_id plan)) ∷ starts_then_awaits (later_of plan)
 steps_left (Enabling l) = Send (Enable l.id) ∷ starts_then_awaits l
 steps_left (Starting l) = Send (Start l.id) ∷ awaiting l
 steps_left (Awaiting l) = awaiting l
@@ -69,23 +74,27 @@ Counts reports g = g.summary ≡ summary_of reports
 pub record Holds (course : Course) (g : Gathering) : Type 0 where
   pub client_is : g.client ≡ course.client
   pub form_is : g.form ≡ course.form
+  pub asides_are : asides_in g.asides ≡ course.asides
   pub left_is : steps_left g.left ≡ course.left
   pub awaits_is : g.awaits ≡ course.awaits
   pub counts : Counts course.reports g
 
--- It was handed these bytes, and is so far; the decoder keeps what follows the frames.
-pub record StandsFor (limit : ℕ) (plan : Plan) (bytes rest : List ℕ) (course : Course) (g : Gathering) : Type 0 where
-  pub gathers : Gathers limit plan bytes rest course
+-- From this beginning on it was handed these bytes, and is so far; the decoder keeps what follows the frames.
+pub record StandsFrom (b : Beginning) (bytes rest : List ℕ) (course : Course) (g : Gathering) : Type 0 where
+  pub gathers : GathersFrom b bytes rest course
   pub open_is : course.phase ≡ Open
   pub holds : Holds course g
-  pub decoder : StandsIn plan.profile g.decoder rest
-  pub limit_is : g.decoder.limit ≡ limit
-  pub profile_is : g.profile ≡ plan.profile
+  pub decoder : StandsIn b.hearing.set g.decoder rest
+  pub limit_is : g.decoder.limit ≡ b.limit
+  pub hearing_is : g.hearing ≡ b.hearing
 
 -- it takes bytes
-pub record IsOpen (limit : ℕ) (plan : Plan) (bytes rest : List ℕ) (course : Course) (g : Gathering) : Type 0 where
-  pub stands : StandsFor limit plan bytes rest course g
+pub record IsOpenFrom (b : Beginning) (bytes rest : List ℕ) (course : Course) (g : Gathering) : Type 0 where
+  pub stands : StandsFrom b bytes rest course g
   pub phase : g.phase ≡ Open
+
+abbrev pub IsOpen : (limit : ℕ) → Plan → (bytes rest : List ℕ) → Course → Gathering → Type 0
+IsOpen limit plan bytes rest course g = IsOpenFrom (beginning limit plan) bytes rest course g
 
 -- the connection is up
 abbrev pub IsConnected : Gathering → Type 0
@@ -109,7 +118,8 @@ pub record Moves (old new : Course) (out0 out1 report0 report1 : List ℕ) : Typ
   pub sent_are : new.sent ≡ old.sent ++ messages
   pub reports_are : new.reports ≡ old.reports ++ reports
   pub form_is : new.form ≡ old.form
-  pub frames : Adds (map client_message messages) out0 out1
+  pub asides_are : new.asides ≡ old.asides
+  pub frames : Adds (all_said old.asides messages) out0 out1
   pub are : AreReports old.form reports lines
   pub printed : report1 ≡ report0 ++ (lines ++ closing_text old.form new.phase new.reports)
 
@@ -122,7 +132,8 @@ pub record MovesSome (old new : Course) (out0 out1 report0 report1 : List ℕ) :
   pub sent_are : new.sent ≡ old.sent ++ messages
   pub reports_are : new.reports ≡ old.reports ++ (reports ++ later)
   pub form_is : new.form ≡ old.form
-  pub frames : AddsSome (map client_message messages) out0 out1
+  pub asides_are : new.asides ≡ old.asides
+  pub frames : AddsSome (all_said old.asides messages) out0 out1
   pub are : AreReports old.form reports lines
   pub printed : report1 ≡ report0 ++ lines
 
@@ -139,20 +150,43 @@ Stops old new o0 o1 r0 r1 _ = ⊥
 -- ---- a feed
 
 -- it ended with an error: the stream broke off, or an item, or want of memory, stopped it
-abbrev pub Fails : ℕ → Plan → List ℕ → Course → List ℕ → List ℕ → List ℕ → List ℕ → ToolErr → Type 0
-Fails limit plan bytes old o0 o1 r0 r1 Broken = (rest : List ℕ) × (new : Course) × Gathers limit plan bytes rest new × (new.phase ≡ Open) × Breaks rest × Moves old new o0 o1 r0 r1
-Fails limit plan bytes old o0 o1 r0 r1 error = (rest : List ℕ) × (new : Course) × Gathers limit plan bytes rest new × Stops old new o0 o1 r0 r1 error
+abbrev pub FailsFrom : Beginning → List ℕ → Course → List ℕ → List ℕ → List ℕ → List ℕ → ToolErr → Type 0
+FailsFrom b bytes old o0 o1 r0 r1 Broken = (rest : List ℕ) × (new : Course) × GathersFrom b bytes rest new × (new.phase ≡ Open) × Breaks rest × Moves old new o0 o1 r0 r1
+FailsFrom b bytes old o0 o1 r0 r1 error = (rest : List ℕ) × (new : Course) × GathersFrom b bytes rest new × Stops old new o0 o1 r0 r1 error
 
 -- What a feed makes of it: it goes on, the connection was closed, or it ended with an error.
+abbrev pub FeedsFrom : Beginning → List ℕ → Course → Gathering → List ℕ → List ℕ → List ℕ → List ℕ → Result Bool ToolErr → Type 0
+FeedsFrom b bytes old g o0 o1 r0 r1 (Ok false) = (rest : List ℕ) × (new : Course) × StandsFrom b bytes rest new g × Moves old new o0 o1 r0 r1
+FeedsFrom b bytes old g o0 o1 r0 r1 (Ok true) = (rest : List ℕ) × (new : Course) × GathersFrom b bytes rest new × (new.phase ≡ Closed) × Counts new.reports g × Moves old new o0 o1 r0 r1
+FeedsFrom b bytes old g o0 o1 r0 r1 (Err error) = FailsFrom b bytes old o0 o1 r0 r1 error
+
+-- from whatever beginning it was handed bytes before, it took this piece so
+abbrev pub FeedsPieceFrom : List ℕ → Gathering → Gathering → List ℕ → List ℕ → List ℕ → List ℕ → Result Bool ToolErr → Type 0
+FeedsPieceFrom piece old new o0 o1 r0 r1 answer =
+    (b : Beginning) (bytes rest : List ℕ) (c : Course) → IsOpenFrom b bytes rest c old → FeedsFrom b (bytes ++ piece) c new o0 o1 r0 r1 answer
+
 abbrev pub Feeds : ℕ → Plan → List ℕ → Course → Gathering → List ℕ → List ℕ → List ℕ → List ℕ → Result Bool ToolErr → Type 0
-Feeds limit plan bytes old g o0 o1 r0 r1 (Ok false) = (rest : List ℕ) × (new : Course) × StandsFor limit plan bytes rest new g × Moves old new o0 o1 r0 r1
-Feeds limit plan bytes old g o0 o1 r0 r1 (Ok true) = (rest : List ℕ) × (new : Course) × Gathers limit plan bytes rest new × (new.phase ≡ Closed) × Counts new.reports g × Moves old new o0 o1 r0 r1
-Feeds limit plan bytes old g o0 o1 r0 r1 (Err error) = Fails limit plan bytes old o0 o1 r0 r1 error
+Feeds limit plan bytes old g o0 o1 r0 r1 answer = FeedsFrom (beginning limit plan) bytes old g o0 o1 r0 r1 answer
 
 -- whatever it was handed before, it took this piece so
 abbrev pub FeedsPiece : List ℕ → Gathering → Gathering → List ℕ → List ℕ → List ℕ → List ℕ → Result Bool ToolErr → Type 0
 FeedsPiece piece old new o0 o1 r0 r1 answer =
     (limit : ℕ) (plan : Plan) (bytes rest : List ℕ) (c : Course) → IsOpen limit plan bytes rest c old → Feeds limit plan (bytes ++ piece) c new o0 o1 r0 r1 answer
+
+-- ---- in a hurry
+
+-- The beginning from which it goes on: the same limit and hearing, but so far already.
+abbrev pub further : Beginning → Course → Beginning
+further b c = record b { course = c }
+
+-- It hurried: from then on it begins anew with what its decoder keeps, or it ended with an error.
+abbrev pub HurriesTo : Beginning → List ℕ → Course → Gathering → List ℕ → List ℕ → Result (Unit {0}) ToolErr → Type 0
+HurriesTo b rest old g o0 o1 (Ok done) = IsOpenFrom (further b (hurried old)) rest rest (hurried old) g × Moves old (hurried old) o0 o1 [] []
+HurriesTo b rest old g o0 o1 (Err error) = (g.phase ≡ Failed error) × Stops old (hurried old) o0 o1 [] [] error
+
+-- from whatever beginning it was handed bytes before, it hurried so
+abbrev pub Hurries : Gathering → Gathering → List ℕ → List ℕ → Result (Unit {0}) ToolErr → Type 0
+Hurries old new o0 o1 answer = (b : Beginning) (bytes rest : List ℕ) (c : Course) → IsOpenFrom b bytes rest c old → HurriesTo b rest c new o0 o1 answer
 
 -- the phase that a feed leaves
 abbrev pub phase_left : Result Bool ToolErr → Phase

@@ -1,7 +1,7 @@
 -- What serving makes of the octets of a general client: three requests outside the profile are answered, and all other frames go to the reader.
 use Rattle.std.specs.Prelude.{◌≡◌, ℕ, ◌++◌, List, [], ◌∷◌, Some, Result}
 use Rattle.std.specs.List.{flat_map, AllByRecursion}
-use Rattle.llrp_schema.specs.declared.kinds.Profile.TheVariants.{Whole}
+use Rattle.llrp_schema.specs.declared.kinds.KindSet.TheVariants.{Standard}
 use Rattle.llrp_tree.specs.Tree.{MessageTree}
 use Rattle.llrp_stream.specs.Cuts.{IsFrame}
 use Rattle.llrp_stream.specs.Device.{SourceLog, SinkLog}
@@ -17,7 +17,7 @@ use Rattle.llrp_endpoints.specs.Serving.{Standing, waiting, closed, ended, early
 
 -- the frame is one of the three requests, and this is its answer
 abbrev pub IsAnswered : (limit : ℕ) → List ℕ → MessageTree → Type 0
-IsAnswered limit frame reply = (m : MessageTree) × FrameIn Whole m frame limit × (answer_of m ≡ Some reply)
+IsAnswered limit frame reply = (m : MessageTree) × FrameIn Standard m frame limit × (answer_of m ≡ Some reply)
 
 abbrev pub IsNotAnswered : (limit : ℕ) → List ℕ → Type 0
 IsNotAnswered limit frame = (reply : MessageTree) → IsAnswered limit frame reply → ⊥

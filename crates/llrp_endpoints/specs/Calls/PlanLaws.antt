@@ -33,12 +33,13 @@ use Rattle.llrp_endpoints.specs.Plan.{Plan, steps}
 use Rattle.llrp_endpoints.specs.Calls.Plans.{longest_rospec, commands, commands_in}
 use Rattle.llrp_endpoints.specs.Gathering.{Course, new_course, follow, Gathers}
 
--- What holds of each plan that a call makes: its ROSpec is a lawful one and not too long, and its numbers fit 16 bits.
+-- What holds of each plan that a call makes: its ROSpec is a lawful one and not too long, and its numbers fit their types.
 pub record IsValid (plan : Plan) : Type 0 where
   pub kind : plan.rospec.kind ≡ RoSpec
   pub lawful : IsLawfulTree plan.rospec
   pub short : tree_octets plan.rospec ≤ longest_rospec
-  pub reports : plan.reports < 2 ^ 16
+  pub keepalive : plan.keepalive < 2 ^ 32
+  pub reports : plan.reports < 2 ^ 64
   pub polls : plan.polls < 2 ^ 16
 
 -- how far a client is after these items

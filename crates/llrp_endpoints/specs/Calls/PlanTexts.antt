@@ -1,7 +1,7 @@
 -- The text of a ROSpec: its lines, as a listing has them below the line of the message that adds it.
 use Rattle.std.specs.Prelude.{◌≡◌, ℕ, suc, ◌+◌, ◌-◌, ◌==◌, ◌⊎◌, max, Bool, if◌then◌else◌, List, [], ◌∷◌, ◌++◌, get_or, codes, Some}
 use Rattle.llrp_schema.specs.declared.kinds.MsgKind.TheVariants.{AddRoSpec}
-use Rattle.llrp_schema.specs.declared.kinds.Profile.TheVariants.{Own}
+use Rattle.llrp_schema.specs.declared.kinds.KindSet.TheVariants.{Profile}
 use Rattle.llrp_tree.specs.Tree.{Tree, MessageTree, forest}
 use Rattle.llrp_tree.specs.declared.node.NodeFault.TheVariants as node
 use Rattle.llrp_listing.specs.declared.outcome.Refusal.{Refusal}
@@ -39,13 +39,13 @@ line_below number = max 1 (number - 1)
 
 -- with that line before it, the text is refused so by the rules of listings, before a message is closed
 abbrev pub IsRefusedFirst : List ℕ → ℕ → Refusal → Type 0
-IsRefusedFirst text line reason = (number : ℕ) × IsRefused Own longest_adding (heading ++ text) number reason [] × (line ≡ line_below number)
+IsRefusedFirst text line reason = (number : ℕ) × IsRefused Profile longest_adding (heading ++ text) number reason [] × (line ≡ line_below number)
 
 -- another message follows the first: the text lists more of them, or the first one is closed before its first refusal
 abbrev pub HasAnother : List ℕ → Type 0
 HasAnother text =
-    ((m n : MessageTree) × (ms : List MessageTree) × IsListing Own longest_adding (heading ++ text) (m ∷ n ∷ ms))
-    ⊎ ((m : MessageTree) × (ms : List MessageTree) × (number : ℕ) × (reason : Refusal) × IsRefused Own longest_adding (heading ++ text) number reason (m ∷ ms))
+    ((m n : MessageTree) × (ms : List MessageTree) × IsListing Profile longest_adding (heading ++ text) (m ∷ n ∷ ms))
+    ⊎ ((m : MessageTree) × (ms : List MessageTree) × (number : ℕ) × (reason : Refusal) × IsRefused Profile longest_adding (heading ++ text) number reason (m ∷ ms))
 
 -- a line begins with 0, the level of a message
 abbrev pub is_top : TextLine → Bool

@@ -1,6 +1,6 @@
 -- The plans that calls make, and what is read in one.
 use Rattle.std.specs.Prelude.{ℕ, ◌==◌, ◌||◌, nat_lt, not, Bool, true, false, List, [], ◌∷◌, Option, None, Some, if◌then◌else◌}
-use Rattle.llrp_schema.specs.declared.kinds.Profile.TheVariants.{Own}
+use Rattle.llrp_schema.specs.declared.kinds.KindSet.TheVariants.{Profile}
 use Rattle.llrp_schema.specs.declared.kinds.ParamKind.TheVariants.{RoSpec, RoReportSpec}
 use Rattle.llrp_tree.specs.Tree.{Tree}
 use Rattle.llrp_tree.specs.Lawful.{tree_octets}
@@ -11,11 +11,12 @@ use Rattle.llrp_endpoints.specs.declared.plan.PlanFault.TheVariants.{NotRoSpec, 
 use Rattle.llrp_endpoints.specs.declared.course.Step.{Step}
 use Rattle.llrp_endpoints.specs.declared.course.Step.TheVariants.{Send, AwaitTags}
 use Rattle.llrp_endpoints.specs.declared.form.LineForm.TheVariants.{Words}
+use Rattle.llrp_endpoints.specs.Asides.{no_asides}
 use Rattle.llrp_endpoints.specs.Plan.{Plan, rospec, steps}
 
 -- the plan of an inventory with the ROSpec of a standard plan
 abbrev pub standard : ℕ → ℕ → Bool → Plan
-standard every polls checked = record { rospec = rospec every; cleans = false; reports = 0; polls = polls; checked = checked; disables = false; form = Words; profile = Own }
+standard every polls checked = record { rospec = rospec every; asides = no_asides; cleans = false; renews = false; passes = false; adds = true; keepalive = 0; reports = 0; polls = polls; checked = checked; disables = false; form = Words; set = Profile }
 
 -- ---- a ROSpec that is given
 
@@ -33,7 +34,7 @@ plan_fault t =
 
 -- the plan of an inventory with it
 abbrev pub given : Tree → ℕ → Bool → Plan
-given t polls checked = record { rospec = t; cleans = false; reports = 0; polls = polls; checked = checked; disables = true; form = Words; profile = Own }
+given t polls checked = record { rospec = t; asides = no_asides; cleans = false; renews = false; passes = false; adds = true; keepalive = 0; reports = 0; polls = polls; checked = checked; disables = true; form = Words; set = Profile }
 
 -- ---- what is read in a plan
 

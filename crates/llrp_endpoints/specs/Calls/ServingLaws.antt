@@ -8,18 +8,18 @@ use Rattle.llrp_session.specs.Calls.MessageWorld.{AreSendable}
 use Rattle.llrp_endpoints.specs.declared.script.Entry.{Entry}
 use Rattle.llrp_endpoints.specs.Calls.Script.{IsLawfulScript}
 use Rattle.llrp_endpoints.specs.Sending.{AreFrames}
-use Rattle.llrp_endpoints.specs.Serving.{Standing, waiting, ended, early, Serves, BeginsServing, IsNewReader}
+use Rattle.llrp_endpoints.specs.Serving.{Standing, waiting, ended, early, BeginsServing, IsNewReader}
 
--- The bytes are served in one way: one list of messages is said, and serving is in one state if no more bytes come. It
--- waits for more exactly where it ends, or would end too early.
-pub record IsServedInOneWay (reader : Reader) (entries : List Entry) (bytes : List ℕ) : Type 0 where
+-- Octets are served in one way, where this is what serving says to them: one list of messages is said, and serving is in one state if
+-- no more octets come. It waits for more exactly where it ends, or would end too early.
+pub record IsServedInOneWay (Says : List MessageTree → Standing → Type 0) : Type 0 where
   pub messages : List MessageTree
   pub standing : Standing
   pub over : standing ≡ waiting → ⊥
-  pub serves : Serves reader entries bytes messages standing
-  pub only_messages : (others : List MessageTree) (other : Standing) → Serves reader entries bytes others other → others ≡ messages
-  pub only_standing : (others : List MessageTree) (other : Standing) → Serves reader entries bytes others other → (other ≡ waiting → ⊥) → other ≡ standing
-  pub waits : Serves reader entries bytes messages waiting ↔ ((standing ≡ ended) ⊎ (standing ≡ early))
+  pub serves : Says messages standing
+  pub only_messages : (others : List MessageTree) (other : Standing) → Says others other → others ≡ messages
+  pub only_standing : (others : List MessageTree) (other : Standing) → Says others other → (other ≡ waiting → ⊥) → other ≡ standing
+  pub waits : Says messages waiting ↔ ((standing ≡ ended) ⊎ (standing ≡ early))
 
 -- messages have one list of frames
 abbrev pub OneTextOfFrames : Type 0

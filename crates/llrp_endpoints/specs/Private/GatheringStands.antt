@@ -3,6 +3,7 @@ use Rattle.std.specs.Prelude.{◌≡◌, ℕ, List, [], ◌∷◌, ◌++◌, Opt
 use Rattle.llrp_tree.specs.declared.fault.Fault.{Fault}
 use Rattle.llrp_tree.specs.declared.fault.Reason.{Reason}
 use Rattle.llrp_tree.specs.Tree.{Tree}
+use Rattle.llrp_stream.specs.declared.item.Item.{Item}
 use Rattle.llrp_stream.specs.declared.item.Item.TheVariants.{Bad}
 use Rattle.llrp_stream.specs.Device.{SourceLog, SinkLog}
 use Rattle.llrp_session.specs.declared.client.refusal.CmdFault.{CmdFault}
@@ -20,11 +21,11 @@ use Rattle.llrp_endpoints.specs.declared.course.Phase.TheVariants.{Open, Closed}
 use Rattle.llrp_endpoints.specs.declared.course.Step.{Step}
 use Rattle.llrp_endpoints.specs.declared.course.Step.TheVariants.{Send, AwaitTags}
 use Rattle.llrp_endpoints.specs.declared.summary.Summary.{Summary}
-use Rattle.llrp_endpoints.specs.Gathering.{Course, awaited_for, new_course, follow}
-use Rattle.llrp_endpoints.specs.Calls.GatheringStands.{steps_left, Counts, Feeds, Holds, IsOpen, Moves, StandsFor, Stops}
+use Rattle.llrp_endpoints.specs.Gathering.{Beginning, Course, awaited_for, new_course, follow, taken}
+use Rattle.llrp_endpoints.specs.Calls.GatheringStands.{steps_left, Counts, FeedsFrom, Holds, IsOpen, Moves, StandsFrom, Stops}
 use Rattle.llrp_endpoints.specs.Heard.{heard}
 use Rattle.llrp_endpoints.specs.Plan.{Plan}
-use Rattle.llrp_endpoints.specs.RunInventory.{RunsInventory}
+use Rattle.llrp_endpoints.specs.RunInventory.{RunsInventoryWithin}
 
 -- ---- the steps that are left
 
@@ -54,7 +55,7 @@ awaited_after AwaitTags = TaggedReport
 pub record KeepsOthers (old new : Gathering) : Type 0 where
   pub decoder : new.decoder ≡ old.decoder
   pub phase : new.phase ≡ old.phase
-  pub profile : new.profile ≡ old.profile
+  pub hearing : new.hearing ≡ old.hearing
 
 -- ---- one step
 
@@ -76,18 +77,22 @@ Does old new g o0 o1 r0 r1 (Err error) = Stops old new o0 o1 r0 r1 error
 abbrev pub GoesTo : (Course → Course) → Gathering → Gathering → List ℕ → List ℕ → List ℕ → List ℕ → Result Bool ToolErr → Type 0
 GoesTo next old new o0 o1 r0 r1 answer = (c : Course) → Holds c old → c.phase ≡ Open → Does c (next c) new o0 o1 r0 r1 answer
 
+-- the same of what it takes of an item
+abbrev pub TakesItem : Item → Gathering → Gathering → List ℕ → List ℕ → List ℕ → List ℕ → Result Bool ToolErr → Type 0
+TakesItem item old new o0 o1 r0 r1 answer = GoesTo (λ c. follow (taken old.hearing (item ∷ []) c) c) old new o0 o1 r0 r1 answer
+
 -- the same at a frame with a fault for this reason, where nothing changes and nothing is appended
 abbrev pub TakesBad : Reason → Gathering → Result Bool ToolErr → Type 0
 TakesBad reason g answer =
     (c : Course) (o r : List ℕ) (id : ℕ) (fault : Fault) → fault.reason ≡ reason → Holds c g → c.phase ≡ Open
-    → Does c (follow (heard g.profile (Bad id fault ∷ [])) c) g o o r r answer
+    → Does c (follow (heard g.hearing (Bad id fault ∷ [])) c) g o o r r answer
 
 -- ---- a feed
 
 -- whatever it was handed before, it took the items of this piece so
 abbrev pub TakesPiece : List ℕ → Gathering → Gathering → List ℕ → List ℕ → List ℕ → List ℕ → Result Bool ToolErr → Type 0
 TakesPiece piece old new o0 o1 r0 r1 answer =
-    (limit : ℕ) (plan : Plan) (bytes rest : List ℕ) (c : Course) → StandsFor limit plan bytes rest c old → Feeds limit plan (bytes ++ piece) c new o0 o1 r0 r1 answer
+    (b : Beginning) (bytes rest : List ℕ) (c : Course) → StandsFrom b bytes rest c old → FeedsFrom b (bytes ++ piece) c new o0 o1 r0 r1 answer
 
 -- the errors of a client that refuses
 abbrev pub error_by_command : CmdFault → ToolErr
@@ -101,6 +106,6 @@ error_by_message _ = Strange
 -- ---- a run
 
 -- at the beginning of whatever plan it was, the run did so
-abbrev pub GathersFromStart : Gathering → SourceLog → SourceLog → SinkLog → SinkLog → SinkLog → SinkLog → Result Summary ToolErr → Type 0
-GathersFromStart g r0 r1 w0 w1 t0 t1 answer =
-    (limit : ℕ) (plan : Plan) → IsOpen limit plan [] [] (new_course limit plan) g → (bytes : List ℕ) × RunsInventory limit plan r0 r1 w0 w1 t0 t1 bytes answer
+abbrev pub GathersFromStart : (most : ℕ) → Gathering → SourceLog → SourceLog → SinkLog → SinkLog → SinkLog → SinkLog → Result Summary ToolErr → Type 0
+GathersFromStart most g r0 r1 w0 w1 t0 t1 answer =
+    (limit : ℕ) (plan : Plan) → IsOpen limit plan [] [] (new_course limit plan) g → (bytes : List ℕ) × RunsInventoryWithin most limit plan r0 r1 w0 w1 t0 t1 bytes answer

@@ -1,7 +1,7 @@
 -- Beside Calls/General: words of private functions.
 use Rattle.std.specs.Prelude.{◌≡◌, ℕ, ◌+◌, ◌≤◌, ◌<◌, ◌++◌, ◌⊎◌, Bool, true, false, is_some, List, [], length, Option, Some, None, Result, Ok, Err}
 use Rattle.llrp_schema.specs.declared.kinds.MsgKind.{MsgKind}
-use Rattle.llrp_schema.specs.declared.kinds.Profile.TheVariants.{Whole}
+use Rattle.llrp_schema.specs.declared.kinds.KindSet.TheVariants.{Standard}
 use Rattle.llrp_schema.specs.Schema.{message_in}
 use Rattle.llrp_tree.specs.declared.TheConstants.{MAX_LIMIT}
 use Rattle.llrp_tree.specs.Tree.{MessageTree}
@@ -29,7 +29,7 @@ answer_where (Some kind) = answer_to kind
 
 -- a message of this type is answered
 unfoldable pub asks : ℕ → Bool
-asks number = is_some (answer_where (message_in Whole number))
+asks number = is_some (answer_where (message_in Standard number))
 
 -- no frame that begins with the front is answered
 abbrev pub NoneIsAnswered : (limit : ℕ) → List ℕ → Type 0

@@ -1,10 +1,10 @@
 -- The members of a tag's object, one after another, and the object of both totals.
 use Rattle.std.specs.Prelude.{◌≡◌, ℕ, Bool, true, false, List, [], ◌++◌, codes, decimal, Option, Some, None}
 use Rattle.std.specs.Option.{option_or}
-use Rattle.llrp_schema.specs.declared.kinds.ParamKind.TheVariants.{Epc96, EpcData}
+use Rattle.llrp_schema.specs.declared.kinds.ParamKind.TheVariants.{Epc96, EpcData, AntennaId, PeakRssi}
 use Rattle.llrp_session.specs.RoSpec.{first_of}
 use Rattle.llrp_tree.specs.Tree.{Tree}
-use Rattle.llrp_endpoints.specs.TagLines.{IsEpcText}
+use Rattle.llrp_endpoints.specs.TagLines.{IsEpcText, members_text}
 
 -- the name of a member, after a comma where others come before
 abbrev pub name_text : Bool → List ℕ → List ℕ
@@ -23,6 +23,10 @@ added begun name (Some t) value = name_text begun name ++ value
 -- the member of the EPC of a tag with this text of it, if it has one
 abbrev pub epc_member : Tree → List ℕ → List ℕ
 epc_member tag epc = added false (codes "epc") (option_or (first_of Epc96 tag) (first_of EpcData tag)) (quoted epc)
+
+-- the members that each object has, of a tag with this text of its EPC
+abbrev pub members_of : Tree → List ℕ → List ℕ
+members_of tag epc = members_text (option_or (first_of Epc96 tag) (first_of EpcData tag)) (first_of AntennaId tag) (first_of PeakRssi tag) epc
 
 -- what is made of the text of a tag's EPC was appended
 abbrev pub AppendsWithEpc : Tree → (List ℕ → List ℕ) → List ℕ → List ℕ → Type 0

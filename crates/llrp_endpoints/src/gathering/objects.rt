@@ -1,16 +1,18 @@
 //! The objects of tags in JSON.
 
 ghost use Rattle.std.specs.Prelude.{◌||◌, ◌≡◌, ◌++◌, OnOk, codes, false};
+ghost use Rattle.std.specs.List.{flat_map};
 ghost use Rattle.std.specs.Option.{option_or};
 ghost use Rattle.llrp_session.specs.Calls.ReadWords.{IsOfKind, behind};
 ghost use Rattle.llrp_session.specs.RoSpec.{first_of};
-ghost use Rattle.llrp_endpoints.specs.declared.form.LineForm.TheVariants.{Json};
-ghost use Rattle.llrp_endpoints.specs.Private.Objects.{AppendsWithEpc, added, epc_member, name_text, totals_object};
-ghost use Rattle.llrp_endpoints.specs.TagLines.{antenna_text, rssi_text, tag_line};
+ghost use Rattle.llrp_endpoints.specs.declared.form.LineForm.TheVariants.{Full, Json};
+ghost use Rattle.llrp_endpoints.specs.Private.Objects.{AppendsWithEpc, added, epc_member, members_of, name_text, totals_object};
+ghost use Rattle.llrp_endpoints.specs.TagLines.{antenna_text, other_member, rssi_text, tag_line};
 
 use super::tag_lines::push_epc;
 use crate::summary::Summary;
 use llrp_listing::Text;
+use llrp_schema::{Kind, name};
 use llrp_session::{field, first};
 use llrp_tree::{Node, ParamKind};
 use std::alloc::AllocError;
@@ -83,17 +85,74 @@ fn push_rssi_member(text: &mut Text, begun: bool, rssi: Option<&Node>) -> Result
     }
 }
 
-/// Appends the line of a tag.
-pub(crate) fn push_object(text: &mut Text, tag: &Node) -> Result<(), AllocError>
-    ensures { OnOk result (AppendsWithEpc tag.now (tag_line Json tag.now) text.old text.new) }
+/// Appends the members that each object has.
+fn push_members(text: &mut Text, tag: &Node) -> Result<(), AllocError>
+    ensures { OnOk result (AppendsWithEpc tag.now (members_of tag.now) text.old text.new) }
 {
-    text.push(b'{')?;
     push_epc_member(text, tag)?;
     let epc = epc_of(tag).is_some();
     let antenna = first(ParamKind::AntennaId, tag.children());
     push_antenna_member(text, epc, antenna)?;
     let begun = epc || antenna.is_some();
-    push_rssi_member(text, begun, first(ParamKind::PeakRssi, tag.children()))?;
+    push_rssi_member(text, begun, first(ParamKind::PeakRssi, tag.children()))
+}
+
+/// Appends the line of a tag.
+pub(crate) fn push_object(text: &mut Text, tag: &Node) -> Result<(), AllocError>
+    ensures { OnOk result (AppendsWithEpc tag.now (tag_line Json tag.now) text.old text.new) }
+{
+    text.push(b'{')?;
+    push_members(text, tag)?;
+    text.push_text(b"}\n")
+}
+
+/// Appends the member of the first part of a kind after others, if it is there.
+fn push_other(text: &mut Text, kind: ParamKind, tag: &Node) -> Result<(), AllocError>
+    ensures { OnOk result (text.new ≡ text.old ++ other_member tag.now kind) }
+{
+    let part = first(kind, tag.children());
+    match part {
+        None => Ok(()),
+        Some(_) => {
+            text.push_text(b",\"")?;
+            text.push_text(name(Kind::Parameter(kind)).as_bytes())?;
+            text.push_text(b"\":")?;
+            text.push_number(field(kind, part, 0))
+        }
+    }
+}
+
+/// Appends the members of parts of these kinds, in their order.
+fn push_others(text: &mut Text, tag: &Node, kinds: &[ParamKind]) -> Result<(), AllocError>
+    ensures { OnOk result (text.new ≡ text.old ++ flat_map (other_member tag.now) kinds.now) }
+{
+    for kind in kinds {
+        push_other(text, *kind, tag)?;
+    }
+    Ok(())
+}
+
+/// Appends the line of a tag with all that the reader gives of it.
+pub(crate) fn push_full(text: &mut Text, tag: &Node) -> Result<(), AllocError>
+    ensures { OnOk result (AppendsWithEpc tag.now (tag_line Full tag.now) text.old text.new) }
+{
+    text.push(b'{')?;
+    push_members(text, tag)?;
+    let others = [
+        ParamKind::FirstSeenTimestampUtc,
+        ParamKind::FirstSeenTimestampUptime,
+        ParamKind::LastSeenTimestampUtc,
+        ParamKind::LastSeenTimestampUptime,
+        ParamKind::TagSeenCount,
+        ParamKind::ChannelIndex,
+        ParamKind::RoSpecId,
+        ParamKind::SpecIndex,
+        ParamKind::InventoryParameterSpecId,
+        ParamKind::AccessSpecId,
+        ParamKind::C1G2Pc,
+        ParamKind::C1G2Crc,
+    ];
+    push_others(text, tag, &others)?;
     text.push_text(b"}\n")
 }
 

@@ -2,8 +2,8 @@
 
 ghost use Rattle.std.specs.Prelude.{◌≡◌, ◌∷◌};
 ghost use Rattle.llrp_endpoints.specs.Private.GatheringStands.{Splits, StepAddsRoSpec, TakesFirst, awaited_after};
-ghost use Rattle.llrp_endpoints.specs.Calls.GatheringStands.{awaiting, checks_then_deletes, later_of, starts_then_awaits, steps_left};
-ghost use Rattle.llrp_endpoints.specs.Gathering.{awaited_for};
+ghost use Rattle.llrp_endpoints.specs.Calls.GatheringStands.{adds_then_awaits, awaiting, checks_then_deletes, keeps_then_adds, later_of, starts_then_awaits, steps_left};
+ghost use Rattle.llrp_endpoints.specs.Gathering.{awaited_for, without_waits};
 ghost use Rattle.llrp_endpoints.specs.Plan.{ending, steps};
 
 use crate::course::{Awaits, Step};
@@ -19,9 +19,11 @@ pub(crate) struct Later {
     /// The client starts the ROSpec.
     pub(crate) starts: bool,
     /// How many reports with tags are still awaited.
-    pub(crate) reports: u16,
+    pub(crate) reports: u64,
     /// How many polls are left.
     pub(crate) polls: u16,
+    /// The ROSpec was added.
+    pub(crate) adds: bool,
     pub(crate) checked: bool,
     /// The ROSpec is disabled at the end, and not stopped.
     pub(crate) disables: bool,
@@ -30,8 +32,10 @@ pub(crate) struct Later {
 /// What is left to do of a plan.
 #[derive(Drop)]
 pub(crate) enum RemainingCommands {
-    /// Deleting the reader's ROSpecs, and what follows.
-    Cleaning(Plan),
+    /// Deleting the reader's ROSpec with this id, or all where it is 0, and what follows.
+    Cleaning { id: u32, plan: Plan },
+    /// Asking for KEEPALIVEs, and what follows.
+    Keeping(Plan),
     /// Adding the ROSpec, and what follows.
     Adding(Plan),
     /// Enabling the ROSpec, and what follows.
@@ -55,9 +59,12 @@ impl RemainingCommands {
         ensures { steps_left result ≡ steps plan }
     {
         if plan.cleans() {
-            RemainingCommands::Cleaning(plan)
+            RemainingCommands::Cleaning { id: 0, plan }
+        } else if plan.renews() {
+            let id = plan.rospec_id();
+            RemainingCommands::Cleaning { id, plan }
         } else {
-            RemainingCommands::Adding(plan)
+            after_cleaning(plan)
         }
     }
 
@@ -66,10 +73,14 @@ impl RemainingCommands {
         ensures { Splits (steps_left self) result }
     {
         match self {
-            RemainingCommands::Cleaning(plan) => {
+            RemainingCommands::Cleaning { id, plan } => {
+                Some((Step::Send(Command::Delete { id }), after_cleaning(plan)))
+            }
+            RemainingCommands::Keeping(plan) => {
+                let ms = plan.keepalive();
                 Some((
-                    Step::Send(Command::Delete { id: 0 }),
-                    RemainingCommands::Adding(plan),
+                    Step::Send(Command::SetKeepalive { ms }),
+                    after_keeping(plan),
                 ))
             }
             RemainingCommands::Adding(plan) => {
@@ -113,6 +124,35 @@ impl RemainingCommands {
         }
     }
 
+    /// The same without the steps that only await a report.
+    pub(crate) fn without_waits(self) -> RemainingCommands
+        ensures { steps_left result ≡ without_waits (steps_left self) }
+    {
+        match self {
+            RemainingCommands::Cleaning { id, plan } => RemainingCommands::Cleaning {
+                id,
+                plan: plan.awaiting(0),
+            },
+            RemainingCommands::Keeping(plan) => RemainingCommands::Keeping(plan.awaiting(0)),
+            RemainingCommands::Adding(plan) => RemainingCommands::Adding(plan.awaiting(0)),
+            RemainingCommands::Enabling(later) => RemainingCommands::Enabling(without_reports(
+                later,
+            )),
+            RemainingCommands::Starting(later) => RemainingCommands::Starting(without_reports(
+                later,
+            )),
+            RemainingCommands::Awaiting(later) => RemainingCommands::Awaiting(without_reports(
+                later,
+            )),
+            RemainingCommands::Checking { checked, id } => {
+                RemainingCommands::Checking { checked, id }
+            }
+            RemainingCommands::Deleting { id } => RemainingCommands::Deleting { id },
+            RemainingCommands::Closing => RemainingCommands::Closing,
+            RemainingCommands::Nothing => RemainingCommands::Nothing,
+        }
+    }
+
     /// Takes the next step, if one is left.
     pub(crate) fn next(&mut self) -> Option<Step>
         ensures { TakesFirst (steps_left self.old) (steps_left self.new) result }
@@ -120,6 +160,38 @@ impl RemainingCommands {
         let (step, left) = mem::replace(self, RemainingCommands::Nothing).split()?;
         *self = left;
         Some(step)
+    }
+}
+
+/// The same, but no reports with tags are awaited.
+fn without_reports(later: Later) -> Later
+    ensures { result ≡ record later { reports = 0 } }
+{
+    Later {
+        reports: 0,
+        ..later
+    }
+}
+
+/// What is left of a plan once the reader's ROSpecs are deleted, if they are.
+fn after_cleaning(plan: Plan) -> RemainingCommands
+    ensures { steps_left result ≡ keeps_then_adds plan }
+{
+    if plan.keepalive() > 0 {
+        RemainingCommands::Keeping(plan)
+    } else {
+        after_keeping(plan)
+    }
+}
+
+/// What is left of a plan once KEEPALIVEs are asked for, if they are.
+fn after_keeping(plan: Plan) -> RemainingCommands
+    ensures { steps_left result ≡ adds_then_awaits plan }
+{
+    if plan.adds() {
+        RemainingCommands::Adding(plan)
+    } else {
+        RemainingCommands::Awaiting(later_of(&plan))
     }
 }
 
@@ -132,6 +204,7 @@ fn later_of(plan: &Plan) -> Later
         starts: plan.is_started(),
         reports: plan.reports(),
         polls: plan.polls(),
+        adds: plan.adds(),
         checked: plan.is_checked(),
         disables: plan.disables(),
     }
@@ -155,6 +228,12 @@ fn await_or_poll(later: Later) -> (Step, RemainingCommands)
     ensures kind { StepAddsRoSpec result.0 }
 {
     match later {
+        Later {
+            reports: 0,
+            polls: 0,
+            adds: false,
+            ..
+        } => (Step::Send(Command::Close), RemainingCommands::Nothing),
         Later {
             reports: 0,
             polls: 0,

@@ -8,7 +8,7 @@ ghost use Rattle.llrp_endpoints.specs.declared.form.LineForm.TheVariants as form
 ghost use Rattle.llrp_endpoints.specs.Private.Objects.{AppendsWithEpc};
 ghost use Rattle.llrp_endpoints.specs.TagLines.{AreReportLines, IsTagLine, antenna_text, count_line, data_text, rssi_text, summary_of, tag_line, total_line as the_total_line};
 
-use super::objects::{push_object, push_totals};
+use super::objects::{push_full, push_object, push_totals};
 use crate::form::LineForm;
 use crate::summary::Summary;
 use llrp_listing::Text;
@@ -102,12 +102,13 @@ fn push_tag(text: &mut Text, form: LineForm, tag: &Node) -> Result<(), AllocErro
         × (text.new ≡ text.old ++ line)) }
 {
     match form {
-        LineForm::Words => push_words(text, tag),
+        LineForm::Words | LineForm::Tags => push_words(text, tag),
         LineForm::Json => push_object(text, tag),
+        LineForm::Full => push_full(text, tag),
     }
 }
 
-/// Appends the line that counts the tags of a report.
+/// Appends the line that counts the tags of a report, if the form has one.
 fn push_count(text: &mut Text, form: LineForm, count: usize) -> Result<(), AllocError>
     ensures { OnOk result (text.new ≡ text.old ++ count_line form count) }
 {
@@ -122,10 +123,11 @@ fn push_count(text: &mut Text, form: LineForm, count: usize) -> Result<(), Alloc
             text.push_number(count as u128)?;
             text.push_text(b"}\n")
         }
+        LineForm::Full | LineForm::Tags => Ok(()),
     }
 }
 
-/// The lines of a report: one for each tag, and one with the number of tags.
+/// The lines of a report: one for each tag, and one with the number of tags if the form has it.
 pub(crate) fn report_lines(alloc: Global, form: LineForm, tags: &[Node]) -> Result<Text, AllocError>
     ensures { IfOk result (λ text. AreReportLines form tags.now text) }
 {
@@ -137,7 +139,7 @@ pub(crate) fn report_lines(alloc: Global, form: LineForm, tags: &[Node]) -> Resu
     Ok(text)
 }
 
-/// Appends the last line.
+/// Appends the last line, if the form has one.
 #[tactic(auto, unfolding(crate::specs::TagLines::total_line))]
 fn push_total(text: &mut Text, form: LineForm, summary: Summary) -> Result<(), AllocError>
     ensures { OnOk result ((told : List (List Tree)) → summary ≡ summary_of told
@@ -152,6 +154,7 @@ fn push_total(text: &mut Text, form: LineForm, summary: Summary) -> Result<(), A
             text.push(b'\n')
         }
         LineForm::Json => push_totals(text, summary),
+        LineForm::Full | LineForm::Tags => Ok(()),
     }
 }
 

@@ -10,7 +10,7 @@ ghost use Rattle.llrp_endpoints.specs.Private.General.{AnswersFrame, GoesThere, 
 use llrp_listing::ToolErr;
 use llrp_session::answer;
 use llrp_stream::{Front, front_of};
-use llrp_tree::{FrameErr, Message, MsgKind, Profile, decode_frame_in};
+use llrp_tree::{FrameErr, KindSet, Message, MsgKind, decode_frame_in};
 use std::alloc::Global;
 use tag_bits::get;
 
@@ -44,7 +44,7 @@ fn is_answered(kind: MsgKind) -> bool
 fn is_asked(number: u16) -> bool
     ensures { result ≡ asks number }
 {
-    match llrp_schema::msg_of_in(Profile::Whole, number) {
+    match llrp_schema::msg_of_in(KindSet::Standard, number) {
         Some(kind) => is_answered(kind),
         None => false,
     }
@@ -71,7 +71,7 @@ pub(crate) fn answer_to(alloc: Global, frame: &[u8], limit: u32) -> Result<Optio
     ensures answer { IfOk result (λ answer. AnswersFrame limit frame.now answer) }
     ensures memory { IfErr result (λ e. e ≡ Memory) }
 {
-    match decode_frame_in(alloc, Profile::Whole, frame, limit) {
+    match decode_frame_in(alloc, KindSet::Standard, frame, limit) {
         Ok(message) => Ok(answer(alloc, &message)?),
         Err(FrameErr::Bad(_)) => Ok(None),
         Err(FrameErr::Memory) => Err(ToolErr::Memory),

@@ -11,7 +11,7 @@ ghost use Rattle.llrp_listing.specs.declared.outcome.ToolErr.TheVariants.{Memory
 use super::Plan;
 use crate::form::LineForm;
 use llrp_listing::ToolErr;
-use llrp_schema::Profile;
+use llrp_schema::KindSet;
 use llrp_tree::{Node, Nodes, Octets, ParamKind};
 use std::alloc::{AllocError, Global};
 
@@ -32,7 +32,7 @@ fn parameter(kind: ParamKind, fields: &[u128], tail: Vec<u8>, children: Vec<Node
 }
 
 /// A parameter with these fields, no tail and no children.
-fn leaf(alloc: Global, kind: ParamKind, fields: &[u128]) -> Node
+pub(crate) fn leaf(alloc: Global, kind: ParamKind, fields: &[u128]) -> Node
     requires { AreLawful kind fields.now [] (forest []) }
     ensures { result ≡ the_parameter kind fields.now [] }
 {
@@ -90,13 +90,18 @@ fn plan_of(alloc: Global, every: u16, polls: u16, checked: bool) -> Result<Plan,
     let rospec = rospec(alloc, every)?;
     Ok(Plan {
         rospec,
+        asides: None,
         cleans: false,
+        renews: false,
+        passes: false,
+        adds: true,
+        keepalive: 0,
         reports: 0,
         polls,
         checked,
         disables: false,
         form: LineForm::Words,
-        profile: Profile::Own,
+        set: KindSet::Profile,
     })
 }
 

@@ -1,7 +1,7 @@
 //! The ROSpec of a text, which lists it as `show` does below ADD_ROSPEC.
 
 ghost use Rattle.std.specs.Prelude.{◌≡◌, ◌++◌, ◌==◌, IfErr, IfOk, get_or};
-ghost use Rattle.llrp_schema.specs.declared.kinds.Profile.TheVariants.{Own};
+ghost use Rattle.llrp_schema.specs.declared.kinds.KindSet.TheVariants.{Profile};
 ghost use Rattle.llrp_tree.specs.Tree.{Tree};
 ghost use Rattle.llrp_stream.specs.Cuts.{length_field};
 ghost use Rattle.llrp_listing.specs.Encoding.{EncodesIn};
@@ -12,7 +12,7 @@ ghost use Rattle.llrp_endpoints.specs.declared.plan.text.PlanErr.TheVariants.{Me
 
 use super::{LONGEST_ROSPEC, Plan, PlanFault};
 use llrp_listing::{Refusal, ToolErr, run_encode, split_once};
-use llrp_schema::Profile;
+use llrp_schema::KindSet;
 use llrp_stream::{Input, Output};
 use llrp_tree::{FrameErr, HEADER_OCTETS, Node, NodeFault, decode_frame_in};
 use std::alloc::{AllocError, Global};
@@ -82,7 +82,7 @@ fn another(text: &[u8]) -> PlanErr
 
 /// The octets of the messages of a text below the line that adds a ROSpec.
 fn encoded(alloc: Global, text: &[u8]) -> Result<Vec<u8>, PlanErr>
-    ensures done { IfOk result (λ octets. EncodesIn Own texts.longest_adding (texts.heading
+    ensures done { IfOk result (λ octets. EncodesIn Profile texts.longest_adding (texts.heading
         ++ text.now) octets.items) }
     ensures refused { IfErr result (texts.RefusesPlan text.now) }
 {
@@ -106,14 +106,14 @@ fn encoded(alloc: Global, text: &[u8]) -> Result<Vec<u8>, PlanErr>
 
 /// The ROSpec of a text whose messages have these octets.
 fn added(alloc: Global, text: &[u8], octets: &[u8]) -> Result<Node, PlanErr>
-    requires { EncodesIn Own texts.longest_adding (texts.heading ++ text.now) octets.now }
+    requires { EncodesIn Profile texts.longest_adding (texts.heading ++ text.now) octets.now }
     ensures rospec { IfOk result (λ t. texts.ListsRoSpec text.now t) }
     ensures refused { IfErr result (texts.RefusesPlan text.now) }
 {
     if get(octets, 16, 32) != octets.len() as u128 {
         return Err(another(text));
     }
-    match decode_frame_in(alloc, Profile::Own, octets, LONGEST_MESSAGE) {
+    match decode_frame_in(alloc, KindSet::Profile, octets, LONGEST_MESSAGE) {
         Ok(message) => match message.into_children().into_vec().pop() {
             Some(rospec) => Ok(rospec),
             None => unreachable!(),

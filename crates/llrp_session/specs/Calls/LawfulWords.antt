@@ -2,8 +2,8 @@
 use Rattle.std.specs.Prelude.{◌≡◌, ℕ, ◌+◌, ◌^◌, ◌<◌, ◌≤◌, ◌⊎◌, List, [], ◌∷◌, length}
 use Rattle.llrp_schema.specs.declared.kinds.ParamKind.TheVariants.{RoSpec, TagReportData}
 use Rattle.llrp_schema.specs.declared.kinds.Kind.TheVariants.{Message}
-use Rattle.llrp_schema.specs.declared.kinds.Profile.TheVariants.{Own}
-use Rattle.llrp_schema.specs.Schema.{profile_of}
+use Rattle.llrp_schema.specs.declared.kinds.KindSet.TheVariants.{Profile}
+use Rattle.llrp_schema.specs.Schema.{set_of_kind}
 use Rattle.llrp_tree.specs.Tree.{Tree, MessageTree}
 use Rattle.llrp_tree.specs.Lawful.{IsLawfulTree, IsLawfulMessage, tree_octets, message_octets}
 use Rattle.llrp_session.specs.RoSpec.{RoSpec as RoSpecRead}
@@ -13,7 +13,7 @@ use Rattle.llrp_session.specs.ReaderMachine.{most_held}
 
 -- a message that may be sent: a lawful one of the profile, within the limit
 pub record IsSendable (limit : ℕ) (m : MessageTree) : Type 0 where
-  pub own : profile_of (Message m.kind) ≡ Own
+  pub own : set_of_kind (Message m.kind) ≡ Profile
   pub lawful : IsLawfulMessage m
   pub within : message_octets m ≤ limit
 

@@ -1,7 +1,7 @@
 use Rattle.std.proofs.Common.{◌∙◌, ℕ, List, [], sym, ap}
 use Rattle.llrp_schema.specs.declared.kinds.MsgKind.{MsgKind}
 use Rattle.llrp_schema.specs.declared.kinds.Kind.TheVariants.{Message}
-use Rattle.llrp_schema.specs.declared.kinds.Profile.TheVariants.{Own}
+use Rattle.llrp_schema.specs.declared.kinds.KindSet.TheVariants.{Profile}
 use Rattle.llrp_schema.specs.Schema.{groups_of, message_in, number_of}
 use Rattle.llrp_tree.specs.Tree.{Tree, forest}
 use Rattle.llrp_tree.proofs.TreeLemmas.{forest-trees}
@@ -11,14 +11,14 @@ use Rattle.llrp_endpoints.proofs.heard.own_message.Goals as goal
 
 pub returns-in_default : goal.returns-in_default
 returns-in_default c =
-    let found = ap (λ (k : MsgKind). message_in Own (number_of (Message k))) (sym c.kind.ensures) ∙ ap (message_in Own) (sym c.number.ensures) ∙ sym c.msg_of.ensures in
+    let found = ap (λ (k : MsgKind). message_in Profile (number_of (Message k))) (sym c.kind.ensures) ∙ ap (message_in Profile) (sym c.number.ensures) ∙ sym c.msg_of.ensures in
     sym (no_message c.args.message.now (found ∙ c.in_default.is))
 
 pub returns : goal.returns
 returns c =
     let m = c.args.message.now in
     let kind = c.in-Some.kind in
-    let found = ap (λ (k : MsgKind). message_in Own (number_of (Message k))) (sym c.kind.ensures) ∙ ap (message_in Own) (sym c.number.ensures) ∙ sym c.msg_of.ensures in
+    let found = ap (λ (k : MsgKind). message_in Profile (number_of (Message k))) (sym c.kind.ensures) ∙ ap (message_in Profile) (sym c.number.ensures) ∙ sym c.msg_of.ensures in
     let row = c.as_slice.ensures ∙ c.children.ensures in
     let is = c.in_ok-children.ensures ∙ ap (λ (ts : List Tree). own_row (groups_of (Message kind)) (forest ts)) row ∙ ap (own_row (groups_of (Message kind))) (forest-trees m.children) in
     c.lawful_message.ensures

@@ -1,5 +1,4 @@
-use Rattle.std.proofs.Common.{rules}
 use Rattle.llrp_endpoints.proofs.inventory.run_inventory.Goals as goal
 
 pub returns : goal.returns
-returns c = search rules
+returns g c = c.gather.ensures c.args.limit c.args.plan c.new-gathering.ensures

@@ -1,10 +1,13 @@
-use Rattle.std.proofs.Common.{[], ◌∷◌, ◌++◌, ◌∙◌, ap, List}
+use Rattle.std.proofs.Common.{[], ◌∷◌, ◌++◌, ◌∙◌, ap, sym, List}
 use Rattle.std.proofs.lemmas.Result.{err_from_is_err_and}
 use Rattle.llrp_tree.specs.Tree.{MessageTree}
 use Rattle.llrp_session.specs.Contents.{Asks}
 use Rattle.llrp_session.specs.ClientMachine.{Sending}
 use Rattle.llrp_session.specs.ClientMessages.{client_message}
-use Rattle.llrp_endpoints.proofs.GatheringLemmas.{none_left, refused, sent_some, sent_all, awaits_tags, sends_none}
+use Rattle.llrp_endpoints.proofs.GatheringLemmas.{none_left, refused, some_more, sent_some, sent_all, awaits_tags, sends_none}
+use Rattle.llrp_endpoints.proofs.GatheringSteps.{some_of}
+use Rattle.llrp_endpoints.proofs.SendingLemmas.{adds_more}
+use Rattle.llrp_endpoints.specs.Private.Asides.{aside_of}
 use Rattle.llrp_endpoints.specs.declared.course.Step.{Step}
 use Rattle.llrp_endpoints.specs.Calls.GatheringStands.{steps_left}
 use Rattle.llrp_endpoints.specs.Private.GatheringStands.{awaited_after}
@@ -26,17 +29,37 @@ returns-in-Err-clause-does c = λ d r h opened.
 pub returns-in_err-append_frames-clause-does : goal.returns-in_err-append_frames-clause-does
 returns-in_err-append_frames-clause-does c = λ d r h opened.
     let p = err_from_is_err_and c.from_residual.result c.from_residual.ensures.1 in
+    let k = c.in-Send.command in
     let first = c.in-Some.ensures.0 ∙ ap (λ (x : Step). x ∷ steps_left c.next.new.self) c.in-Send.is in
-    let sending : Sending = record { message = record { id = c.args.self.now.client.next_id; word = Asks c.in-Send.command }; client = c.command.new.self } in
-    let messages = c.as_slice.ensures.value ∙ c.in_default-command.ensures.sent ∙ ap (λ (ms : List MessageTree). ms ++ client_message sending.message ∷ []) c.new-messages.ensures.items in
+    let sending : Sending = record { message = record { id = c.args.self.now.client.next_id; word = Asks k }; client = c.command.new.self } in
+    let aside = c.aside_messages-asides.ensures ∙ ap (aside_of c.aside_before-aside.result) h.asides_are ∙ sym (c.aside_before-aside.ensures d.asides) in
+    let said = ap (λ (ms : List MessageTree). ms ++ client_message sending.message ∷ []) aside in
     rw (p.1, p.2, c.in_err-append_frames.ensures.err.0)
-    (sent_some d c.args.self.now c.args.self.now c.in-Send.command _ sending _ c.args.out.now.items c.append_frames.new.out.items r h first c.in_default-command.ensures.step messages c.in_err-append_frames.ensures.err.1)
+    (sent_some d c.args.self.now c.args.self.now k _ sending _ c.args.out.now.items c.append_frames.new.out.items r h first c.in_default-command.ensures.step said
+    (some_of c.aside_messages-asides.result.now (client_message sending.message ∷ []) c.args.out.now.items c.append_frames.new.out.items c.in_err-append_frames.ensures.err.1))
+
+pub returns-in_err-append_frames-2-clause-does : goal.returns-in_err-append_frames-2-clause-does
+returns-in_err-append_frames-2-clause-does c = λ d r h opened.
+    let p = err_from_is_err_and c.from_residual-in_err-append_frames-2.result c.from_residual-in_err-append_frames-2.ensures.1 in
+    let k = c.in-Send.command in
+    let first = c.in-Some.ensures.0 ∙ ap (λ (x : Step). x ∷ steps_left c.next.new.self) c.in-Send.is in
+    let sending : Sending = record { message = record { id = c.args.self.now.client.next_id; word = Asks k }; client = c.command.new.self } in
+    let aside = c.aside_messages-asides.ensures ∙ ap (aside_of c.aside_before-aside.result) h.asides_are ∙ sym (c.aside_before-aside.ensures d.asides) in
+    let own = c.as_slice.ensures.value ∙ c.in_default-command.ensures.sent ∙ ap (λ (ms : List MessageTree). ms ++ client_message sending.message ∷ []) c.new-messages.ensures.items in
+    let said = ap (λ (ms : List MessageTree). c.aside_messages-asides.result.now ++ ms) own ∙ ap (λ (ms : List MessageTree). ms ++ client_message sending.message ∷ []) aside in
+    rw (p.1, p.2, c.in_err-append_frames-2.ensures.err.0)
+    (sent_some d c.args.self.now c.args.self.now k _ sending _ c.args.out.now.items c.append_frames-2.new.out.items r h first c.in_default-command.ensures.step said
+    (some_more c.aside_messages-asides.result.now c.as_slice.result.now c.args.out.now.items c.append_frames.new.out.items c.append_frames-2.new.out.items c.in_ok-append_frames.ensures.ok c.in_err-append_frames-2.ensures.err.1))
 
 pub returns-clause-does : goal.returns-clause-does
 returns-clause-does c = λ d r h opened.
+    let k = c.in-Send.command in
     let first = c.in-Some.ensures.0 ∙ ap (λ (x : Step). x ∷ steps_left c.next.new.self) c.in-Send.is in
-    let sending : Sending = record { message = record { id = c.args.self.now.client.next_id; word = Asks c.in-Send.command }; client = c.command.new.self } in
-    let messages = c.as_slice.ensures.value ∙ c.in_default-command.ensures.sent ∙ ap (λ (ms : List MessageTree). ms ++ client_message sending.message ∷ []) c.new-messages.ensures.items in
+    let sending : Sending = record { message = record { id = c.args.self.now.client.next_id; word = Asks k }; client = c.command.new.self } in
+    let aside = c.aside_messages-asides.ensures ∙ ap (aside_of c.aside_before-aside.result) h.asides_are ∙ sym (c.aside_before-aside.ensures d.asides) in
+    let own = c.as_slice.ensures.value ∙ c.in_default-command.ensures.sent ∙ ap (λ (ms : List MessageTree). ms ++ client_message sending.message ∷ []) c.new-messages.ensures.items in
+    let said = ap (λ (ms : List MessageTree). c.aside_messages-asides.result.now ++ ms) own ∙ ap (λ (ms : List MessageTree). ms ++ client_message sending.message ∷ []) aside in
     let awaits = c.awaited_after-self.ensures ∙ ap awaited_after c.in-Send.is in
     rw awaits
-    (sent_all d c.args.self.now c.next.new.self c.in-Send.command sending _ c.args.out.now.items c.append_frames.new.out.items r h opened first c.in_default-command.ensures.step messages c.in_ok-append_frames.ensures.ok)
+    (sent_all d c.args.self.now c.next.new.self k sending _ c.args.out.now.items c.append_frames-2.new.out.items r h opened first c.in_default-command.ensures.step said
+    (adds_more c.aside_messages-asides.result.now c.as_slice.result.now c.args.out.now.items c.append_frames.new.out.items c.append_frames-2.new.out.items c.in_ok-append_frames.ensures.ok c.in_ok-append_frames-2.ensures.ok))

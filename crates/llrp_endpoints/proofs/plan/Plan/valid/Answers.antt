@@ -11,6 +11,7 @@ returns c =
       kind = ap (λ (p : Plan). p.rospec.kind) (sym view) ∙ c.self.invariant.0;
       lawful = subst (λ (p : Plan). IsLawfulTree p.rospec) view c.lawful.ensures;
       short = subst (λ (p : Plan). tree_octets p.rospec ≤ longest_rospec) view c.self.invariant.1;
-      reports = subst (λ (n : ℕ). n < 2 ^ 16) c.reports.ensures (omega arith);
+      keepalive = subst (λ (n : ℕ). n < 2 ^ 32) c.keepalive.ensures (omega arith);
+      reports = subst (λ (n : ℕ). n < 2 ^ 64) c.reports.ensures (omega arith);
       polls = subst (λ (n : ℕ). n < 2 ^ 16) c.polls.ensures (omega arith);
     }

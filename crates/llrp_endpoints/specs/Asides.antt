@@ -1,0 +1,31 @@
+-- What a client says besides its plan, as an AccessSpec that it adds and enables before its ROSpec is enabled, and deletes before that is deleted.
+use Rattle.std.specs.Prelude.{ℕ, ◌==◌, List, [], ◌∷◌, ◌++◌, if◌then◌else◌}
+use Rattle.std.specs.List.{flat_map}
+use Rattle.llrp_tree.specs.Tree.{MessageTree}
+use Rattle.llrp_session.specs.declared.types.Command.{Command}
+use Rattle.llrp_session.specs.declared.types.Command.TheVariants.{Enable, Delete}
+use Rattle.llrp_session.specs.Contents.{ClientContent, Asks, Acknowledges, ClientMessage}
+use Rattle.llrp_session.specs.ClientMessages.{client_message}
+
+pub record Asides : Type 0 where
+  pub enabling : List MessageTree  -- before ENABLE_ROSPEC
+  pub deleting : List MessageTree  -- before the DELETE_ROSPEC that names one ROSpec
+
+abbrev pub no_asides : Asides
+no_asides = record { enabling = []; deleting = [] }
+
+abbrev pub before_command : Asides → Command → List MessageTree
+before_command a (Enable id) = a.enabling
+before_command a (Delete id) = if id == 0 then [] else a.deleting
+before_command a _ = []
+
+abbrev pub before : Asides → ClientContent → List MessageTree
+before a (Asks k) = before_command a k
+before a Acknowledges = []
+
+-- what is said where the client says this
+abbrev pub said_for : Asides → ClientMessage → List MessageTree
+said_for a m = before a m.word ++ client_message m ∷ []
+
+abbrev pub all_said : Asides → List ClientMessage → List MessageTree
+all_said a ms = flat_map (said_for a) ms
