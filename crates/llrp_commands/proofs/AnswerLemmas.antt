@@ -4,7 +4,7 @@ use Rattle.std.specs.Prelude.{Result}
 use Rattle.std.specs.List.{flat_map}
 use Rattle.std.proofs.lemmas.List.{drop_more, take-append-drop}
 use Rattle.std.proofs.lemmas.List.Concat.{flat_map-append}
-use Rattle.llrp_schema.specs.declared.kinds.Profile.{Profile}
+use Rattle.llrp_schema.specs.declared.kinds.KindSet.{KindSet}
 use Rattle.llrp_listing.specs.declared.outcome.ToolErr.{ToolErr}
 use Rattle.llrp_listing.specs.declared.outcome.ToolErr.TheVariants.{Listing, Script, Hex, Read, Write, Bound, Memory, Broken, Peer, Strange, Early}
 use Rattle.llrp_commands.specs.Calls.Command.{NotEncoded}
@@ -48,7 +48,7 @@ parts_stop f parts i d old mid new e lt so stop =
     writes_stop old mid new (flat_map f (take i parts)) (f last) (flat_map f rest) (flat_map f parts) e so (ap (flat_map f) all ∙ flat_map-append f (take i parts) (last ∷ rest)) stop
 
 -- encode stopped over memory
-pub not_encoded : (p : Profile) (limit : ℕ) (r0 r1 : SourceLog) (m0 m1 : SinkLog) (error : ToolErr) → EncodeStoppedIn p limit r0 r1 m0 m1 error → NotEncoded p limit r0 r1 (memory_error error)
+pub not_encoded : (p : KindSet) (limit : ℕ) (r0 r1 : SourceLog) (m0 m1 : SinkLog) (error : ToolErr) → EncodeStoppedIn p limit r0 r1 m0 m1 error → NotEncoded p limit r0 r1 (memory_error error)
 not_encoded p limit r0 r1 m0 m1 (Listing line reason) s = (s.0, s.2)
 not_encoded p limit r0 r1 m0 m1 Read s = (s.0, s.1, s.3)
 not_encoded p limit r0 r1 m0 m1 Bound s = (s.0, s.2)

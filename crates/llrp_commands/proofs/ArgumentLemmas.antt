@@ -11,8 +11,8 @@ use Rattle.clap.specs.Values.{IsSignedIn}
 use Rattle.clap.specs.Words.{Row, Text, without_minus}
 use Rattle.clap.proofs.CallerReads.{signed_reads}
 use Rattle.llrp_tree.specs.declared.TheConstants.{MAX_LIMIT}
-use Rattle.llrp_commands.specs.Private.Parse.{HasFlagWord, HasNumberIn, HasNumberWord, HasPlan, HasStreamWords, HasWord, IsFound, IsNetworkParse, IsParse}
-use Rattle.llrp_commands.specs.Calls.Arguments.{IsFlag, HasNumber, hex_in, json_in, name_in, word_in, all_in}
+use Rattle.llrp_commands.specs.Private.Parse.{HasEpc, HasFlagWord, HasNumberIn, HasNumberWord, HasPlan, HasAsk, HasSim, HasStop, HasStreamWords, HasWatch, HasWord, IsFound, IsNetworkParse, IsParse, MayHaveNumberIn, HasFields}
+use Rattle.llrp_commands.specs.Calls.Arguments.{IsFlag, HasNumber, HasOptionalNumber, flag_in, hex_in, json_in, name_in, all_in}
 use Rattle.llrp_commands.specs.Private.Arguments.{HasFlag}
 
 -- two texts that a test distinguishes
@@ -50,34 +50,85 @@ reads_number E G k low high t r read only fits passed =
 number_of_word : (low high : ℕ) (id name : Text) (rows : List Row) → HasNumberIn low high id rows → (n : ℕ) × HasNumber id (Some (name, rows)) n
 number_of_word low high id name rows h = (digits_value 10 (without_leading_plus (without_minus h.word)), ap (option_map (signed_digits_value 10)) h.given ∙ ap (λ z. Some z) (spelled low high h.word h.spells))
 
--- sim has its port and its flag
-pub sim_there : (name : Text) (rows : List Row) → IsNetworkParse name rows → name ≡ codes "sim" → HasNumberWord (codes "PORT") rows × HasFlagWord (codes "all") rows
-sim_there name rows (inl h) e = (h.1, h.2)
+-- sim has its port and its flags
+pub sim_there : (name : Text) (rows : List Row) → IsNetworkParse name rows → name ≡ codes "sim" → HasSim rows
+sim_there name rows (inl h) e = h.1
 sim_there name rows (inr (inl h)) e = absurd (differs (codes "inventory") (codes "sim") refl (sym h.0 ∙ e))
-sim_there name rows (inr (inr h)) e = absurd (differs (codes "loop") (codes "sim") refl (sym h.0 ∙ e))
+sim_there name rows (inr (inr (inl h))) e = absurd (differs (codes "loop") (codes "sim") refl (sym h.0 ∙ e))
+sim_there name rows (inr (inr (inr (inl h)))) e = absurd (differs (codes "watch") (codes "sim") refl (sym h.0 ∙ e))
+sim_there name rows (inr (inr (inr (inr (inl h))))) e = absurd (differs (codes "stop") (codes "sim") refl (sym h.0 ∙ e))
+sim_there name rows (inr (inr (inr (inr (inr h))))) e = absurd (differs (codes "ask") (codes "sim") refl (sym h.0 ∙ e))
 
--- what is neither sim nor loop is inventory, with its host and its port
-pub inventory_there : (name : Text) (rows : List Row) → IsNetworkParse name rows → (name ≡ codes "sim" → ⊥) → (name ≡ codes "loop" → ⊥)
+-- watch has its reader and its options
+pub watch_there : (name : Text) (rows : List Row) → IsNetworkParse name rows → name ≡ codes "watch" → HasWord (codes "HOST") rows × HasWatch rows
+watch_there name rows (inl h) e = absurd (differs (codes "sim") (codes "watch") refl (sym h.0 ∙ e))
+watch_there name rows (inr (inl h)) e = absurd (differs (codes "inventory") (codes "watch") refl (sym h.0 ∙ e))
+watch_there name rows (inr (inr (inl h))) e = absurd (differs (codes "loop") (codes "watch") refl (sym h.0 ∙ e))
+watch_there name rows (inr (inr (inr (inl h)))) e = (h.1, h.2)
+watch_there name rows (inr (inr (inr (inr (inl h))))) e = absurd (differs (codes "stop") (codes "watch") refl (sym h.0 ∙ e))
+watch_there name rows (inr (inr (inr (inr (inr h))))) e = absurd (differs (codes "ask") (codes "watch") refl (sym h.0 ∙ e))
+
+-- stop has its reader and its options
+pub stop_there : (name : Text) (rows : List Row) → IsNetworkParse name rows → name ≡ codes "stop" → HasWord (codes "HOST") rows × HasStop rows
+stop_there name rows (inl h) e = absurd (differs (codes "sim") (codes "stop") refl (sym h.0 ∙ e))
+stop_there name rows (inr (inl h)) e = absurd (differs (codes "inventory") (codes "stop") refl (sym h.0 ∙ e))
+stop_there name rows (inr (inr (inl h))) e = absurd (differs (codes "loop") (codes "stop") refl (sym h.0 ∙ e))
+stop_there name rows (inr (inr (inr (inl h)))) e = absurd (differs (codes "watch") (codes "stop") refl (sym h.0 ∙ e))
+stop_there name rows (inr (inr (inr (inr (inl h))))) e = (h.1, h.2)
+stop_there name rows (inr (inr (inr (inr (inr h))))) e = absurd (differs (codes "ask") (codes "stop") refl (sym h.0 ∙ e))
+
+-- ask has its reader, its file and its options
+pub ask_there : (name : Text) (rows : List Row) → IsNetworkParse name rows → name ≡ codes "ask" → HasWord (codes "HOST") rows × HasAsk rows
+ask_there name rows (inl h) e = absurd (differs (codes "sim") (codes "ask") refl (sym h.0 ∙ e))
+ask_there name rows (inr (inl h)) e = absurd (differs (codes "inventory") (codes "ask") refl (sym h.0 ∙ e))
+ask_there name rows (inr (inr (inl h))) e = absurd (differs (codes "loop") (codes "ask") refl (sym h.0 ∙ e))
+ask_there name rows (inr (inr (inr (inl h)))) e = absurd (differs (codes "watch") (codes "ask") refl (sym h.0 ∙ e))
+ask_there name rows (inr (inr (inr (inr (inl h))))) e = absurd (differs (codes "stop") (codes "ask") refl (sym h.0 ∙ e))
+ask_there name rows (inr (inr (inr (inr (inr h))))) e = (h.1, h.2)
+
+-- what is none of sim, watch, stop, ask and loop is inventory, with its host and its port
+pub inventory_there : (name : Text) (rows : List Row) → IsNetworkParse name rows → (name ≡ codes "sim" → ⊥) → (name ≡ codes "watch" → ⊥) → (name ≡ codes "stop" → ⊥) → (name ≡ codes "ask" → ⊥) → (name ≡ codes "loop" → ⊥)
     → (name ≡ codes "inventory") × HasWord (codes "HOST") rows × HasNumberWord (codes "PORT") rows
-inventory_there name rows (inl h) no_sim no_loop = absurd (no_sim h.0)
-inventory_there name rows (inr (inl h)) no_sim no_loop = (h.0, h.1, h.2)
-inventory_there name rows (inr (inr h)) no_sim no_loop = absurd (no_loop h.0)
+inventory_there name rows (inl h) no_sim no_watch no_stop no_ask no_loop = absurd (no_sim h.0)
+inventory_there name rows (inr (inl h)) no_sim no_watch no_stop no_ask no_loop = (h.0, h.1, h.2)
+inventory_there name rows (inr (inr (inl h))) no_sim no_watch no_stop no_ask no_loop = absurd (no_loop h.0)
+inventory_there name rows (inr (inr (inr (inl h)))) no_sim no_watch no_stop no_ask no_loop = absurd (no_watch h.0)
+inventory_there name rows (inr (inr (inr (inr (inl h))))) no_sim no_watch no_stop no_ask no_loop = absurd (no_stop h.0)
+inventory_there name rows (inr (inr (inr (inr (inr h))))) no_sim no_watch no_stop no_ask no_loop = absurd (no_ask h.0)
 
--- what is none of show, encode and epc is a command that the program runs itself
-pub network_there : (name : Text) (rows : List Row) → IsParse name rows → (name ≡ codes "show" → ⊥) → (name ≡ codes "encode" → ⊥) → (name ≡ codes "epc" → ⊥) → IsNetworkParse name rows
-network_there name rows (inl h) no_show no_encode no_epc = absurd (no_show h.0)
-network_there name rows (inr (inl h)) no_show no_encode no_epc = absurd (no_encode h.0)
-network_there name rows (inr (inr (inl h))) no_show no_encode no_epc = absurd (no_epc h.0)
-network_there name rows (inr (inr (inr h))) no_show no_encode no_epc = h
+-- what is none of show, encode, epc and fields is a command that the program runs itself
+pub network_there : (name : Text) (rows : List Row) → IsParse name rows → (name ≡ codes "show" → ⊥) → (name ≡ codes "encode" → ⊥) → (name ≡ codes "epc" → ⊥) → (name ≡ codes "fields" → ⊥) → IsNetworkParse name rows
+network_there name rows (inl h) no_show no_encode no_epc no_fields = absurd (no_show h.0)
+network_there name rows (inr (inl h)) no_show no_encode no_epc no_fields = absurd (no_encode h.0)
+network_there name rows (inr (inr (inl (inl h)))) no_show no_encode no_epc no_fields = absurd (no_epc h.0)
+network_there name rows (inr (inr (inl (inr h)))) no_show no_encode no_epc no_fields = absurd (no_fields h.0)
+network_there name rows (inr (inr (inr h))) no_show no_encode no_epc no_fields = h
 
--- epc has its text
-pub text_of_epc : (name : Text) (rows : List Row) → IsParse name rows → name ≡ codes "epc" → HasWord (codes "TEXT") rows
-text_of_epc name rows (inl h) e = absurd (differs (codes "show") (codes "epc") refl (sym h.0 ∙ e))
-text_of_epc name rows (inr (inl h)) e = absurd (differs (codes "encode") (codes "epc") refl (sym h.0 ∙ e))
-text_of_epc name rows (inr (inr (inl h))) e = h.1
-text_of_epc name rows (inr (inr (inr (inl h)))) e = absurd (differs (codes "sim") (codes "epc") refl (sym h.0 ∙ e))
-text_of_epc name rows (inr (inr (inr (inr (inl h))))) e = absurd (differs (codes "inventory") (codes "epc") refl (sym h.0 ∙ e))
-text_of_epc name rows (inr (inr (inr (inr (inr h))))) e = absurd (differs (codes "loop") (codes "epc") refl (sym h.0 ∙ e))
+-- epc has what it needs
+pub epc_there : (name : Text) (rows : List Row) → IsParse name rows → name ≡ codes "epc" → HasEpc rows
+epc_there name rows (inl h) e = absurd (differs (codes "show") (codes "epc") refl (sym h.0 ∙ e))
+epc_there name rows (inr (inl h)) e = absurd (differs (codes "encode") (codes "epc") refl (sym h.0 ∙ e))
+epc_there name rows (inr (inr (inl (inl h)))) e = h.1
+epc_there name rows (inr (inr (inl (inr h)))) e = absurd (differs (codes "fields") (codes "epc") refl (sym h.0 ∙ e))
+epc_there name rows (inr (inr (inr (inl h)))) e = absurd (differs (codes "sim") (codes "epc") refl (sym h.0 ∙ e))
+epc_there name rows (inr (inr (inr (inr (inl h))))) e = absurd (differs (codes "inventory") (codes "epc") refl (sym h.0 ∙ e))
+epc_there name rows (inr (inr (inr (inr (inr (inl h)))))) e = absurd (differs (codes "loop") (codes "epc") refl (sym h.0 ∙ e))
+epc_there name rows (inr (inr (inr (inr (inr (inr (inl h))))))) e = absurd (differs (codes "watch") (codes "epc") refl (sym h.0 ∙ e))
+epc_there name rows (inr (inr (inr (inr (inr (inr (inr (inl h)))))))) e = absurd (differs (codes "stop") (codes "epc") refl (sym h.0 ∙ e))
+epc_there name rows (inr (inr (inr (inr (inr (inr (inr (inr h)))))))) e = absurd (differs (codes "ask") (codes "epc") refl (sym h.0 ∙ e))
+
+-- fields has what it needs
+pub fields_there : (name : Text) (rows : List Row) → IsParse name rows → name ≡ codes "fields" → HasFields rows
+fields_there name rows (inl h) e = absurd (differs (codes "show") (codes "fields") refl (sym h.0 ∙ e))
+fields_there name rows (inr (inl h)) e = absurd (differs (codes "encode") (codes "fields") refl (sym h.0 ∙ e))
+fields_there name rows (inr (inr (inl (inl h)))) e = absurd (differs (codes "epc") (codes "fields") refl (sym h.0 ∙ e))
+fields_there name rows (inr (inr (inl (inr h)))) e = h.1
+fields_there name rows (inr (inr (inr (inl h)))) e = absurd (differs (codes "sim") (codes "fields") refl (sym h.0 ∙ e))
+fields_there name rows (inr (inr (inr (inr (inl h))))) e = absurd (differs (codes "inventory") (codes "fields") refl (sym h.0 ∙ e))
+fields_there name rows (inr (inr (inr (inr (inr (inl h)))))) e = absurd (differs (codes "loop") (codes "fields") refl (sym h.0 ∙ e))
+fields_there name rows (inr (inr (inr (inr (inr (inr (inl h))))))) e = absurd (differs (codes "watch") (codes "fields") refl (sym h.0 ∙ e))
+fields_there name rows (inr (inr (inr (inr (inr (inr (inr (inl h)))))))) e = absurd (differs (codes "stop") (codes "fields") refl (sym h.0 ∙ e))
+fields_there name rows (inr (inr (inr (inr (inr (inr (inr (inr h)))))))) e = absurd (differs (codes "ask") (codes "fields") refl (sym h.0 ∙ e))
 
 -- what was found, by its name and its rows
 pub found_as : (name : Text) (rows : List Row) (found : Option (Text × List Row)) → Some name ≡ option_map (λ p. p.0) found → Some rows ≡ option_map (λ p. p.1) found → found ≡ Some (name, rows)
@@ -87,32 +138,58 @@ found_as name rows (Some p) e f =
     let b : rows ≡ p.1 = cc in
     ap (λ (n : Text). Some (n, p.1)) (sym a) ∙ ap (λ (rs : List Row). Some (name, rs)) (sym b)
 
--- where epc was found its text is there
-pub found_text : (found : Option (Text × List Row)) → IsFound found → name_in found ≡ Some (codes "epc") → (text : Text) × (word_in (codes "TEXT") found ≡ Some text)
-found_text None h e = absurd h
-found_text (Some p) h e = text_of_epc p.0 p.1 h (let same : p.0 ≡ codes "epc" = cc in same)
+-- an option that may be given has a number or none
+optional_of : (low high : ℕ) (id name : Text) (rows : List Row) → MayHaveNumberIn low high id rows → (n : Option ℕ) × HasOptionalNumber id (Some (name, rows)) n
+optional_of low high id name rows (inl none) = (None, none.1)
+optional_of low high id name rows (inr h) = let x = number_of_word low high id name rows h in (Some x.0, x.1)
+
+-- where epc was found its flags and its numbers are there
+pub found_epc : (found : Option (Text × List Row)) → IsFound found → name_in found ≡ Some (codes "epc")
+    → ((forms : Bool) × IsFlag (flag_in (codes "forms") found) forms) × ((list : Bool) × IsFlag (flag_in (codes "list") found) list) × ((json : Bool) × IsFlag (json_in found) json)
+    × ((count : Option ℕ) × HasOptionalNumber (codes "prefix-digits") found count) × ((filter : Option ℕ) × HasOptionalNumber (codes "filter") found filter)
+found_epc None h e = absurd h
+found_epc (Some p) h e =
+    let has = epc_there p.0 p.1 h (let same : p.0 ≡ codes "epc" = cc in same) in
+    (has.0, has.1, has.2, optional_of 6 12 (codes "prefix-digits") p.0 p.1 has.3, optional_of 0 7 (codes "filter") p.0 p.1 has.4)
+
+-- where fields was found its flag is there
+pub found_fields : (found : Option (Text × List Row)) → IsFound found → name_in found ≡ Some (codes "fields") → (all : Bool) × IsFlag (all_in found) all
+found_fields None h e = absurd h
+found_fields (Some p) h e = fields_there p.0 p.1 h (let same : p.0 ≡ codes "fields" = cc in same)
 
 -- show and encode have their flags and their limit
 pub stream_words_of : (name : Text) (rows : List Row) → IsParse name rows → (name ≡ codes "show") ⊎ (name ≡ codes "encode") → HasStreamWords rows
 stream_words_of name rows (inl h) e = h.1.0
 stream_words_of name rows (inr (inl h)) e = h.1
-stream_words_of name rows (inr (inr (inl h))) (inl e) = absurd (differs (codes "epc") (codes "show") refl (sym h.0 ∙ e))
-stream_words_of name rows (inr (inr (inl h))) (inr e) = absurd (differs (codes "epc") (codes "encode") refl (sym h.0 ∙ e))
+stream_words_of name rows (inr (inr (inl (inl h)))) (inl e) = absurd (differs (codes "epc") (codes "show") refl (sym h.0 ∙ e))
+stream_words_of name rows (inr (inr (inl (inr h)))) (inl e) = absurd (differs (codes "fields") (codes "show") refl (sym h.0 ∙ e))
+stream_words_of name rows (inr (inr (inl (inl h)))) (inr e) = absurd (differs (codes "epc") (codes "encode") refl (sym h.0 ∙ e))
+stream_words_of name rows (inr (inr (inl (inr h)))) (inr e) = absurd (differs (codes "fields") (codes "encode") refl (sym h.0 ∙ e))
 stream_words_of name rows (inr (inr (inr (inl h)))) (inl e) = absurd (differs (codes "sim") (codes "show") refl (sym h.0 ∙ e))
 stream_words_of name rows (inr (inr (inr (inl h)))) (inr e) = absurd (differs (codes "sim") (codes "encode") refl (sym h.0 ∙ e))
 stream_words_of name rows (inr (inr (inr (inr (inl h))))) (inl e) = absurd (differs (codes "inventory") (codes "show") refl (sym h.0 ∙ e))
 stream_words_of name rows (inr (inr (inr (inr (inl h))))) (inr e) = absurd (differs (codes "inventory") (codes "encode") refl (sym h.0 ∙ e))
-stream_words_of name rows (inr (inr (inr (inr (inr h))))) (inl e) = absurd (differs (codes "loop") (codes "show") refl (sym h.0 ∙ e))
-stream_words_of name rows (inr (inr (inr (inr (inr h))))) (inr e) = absurd (differs (codes "loop") (codes "encode") refl (sym h.0 ∙ e))
+stream_words_of name rows (inr (inr (inr (inr (inr (inl h)))))) (inl e) = absurd (differs (codes "loop") (codes "show") refl (sym h.0 ∙ e))
+stream_words_of name rows (inr (inr (inr (inr (inr (inr (inl h))))))) (inl e) = absurd (differs (codes "watch") (codes "show") refl (sym h.0 ∙ e))
+stream_words_of name rows (inr (inr (inr (inr (inr (inr (inr (inl h)))))))) (inl e) = absurd (differs (codes "stop") (codes "show") refl (sym h.0 ∙ e))
+stream_words_of name rows (inr (inr (inr (inr (inr (inr (inr (inr h)))))))) (inl e) = absurd (differs (codes "ask") (codes "show") refl (sym h.0 ∙ e))
+stream_words_of name rows (inr (inr (inr (inr (inr (inl h)))))) (inr e) = absurd (differs (codes "loop") (codes "encode") refl (sym h.0 ∙ e))
+stream_words_of name rows (inr (inr (inr (inr (inr (inr (inl h))))))) (inr e) = absurd (differs (codes "watch") (codes "encode") refl (sym h.0 ∙ e))
+stream_words_of name rows (inr (inr (inr (inr (inr (inr (inr (inl h)))))))) (inr e) = absurd (differs (codes "stop") (codes "encode") refl (sym h.0 ∙ e))
+stream_words_of name rows (inr (inr (inr (inr (inr (inr (inr (inr h)))))))) (inr e) = absurd (differs (codes "ask") (codes "encode") refl (sym h.0 ∙ e))
 
 -- show has the flag --json
 pub json_word_of : (name : Text) (rows : List Row) → IsParse name rows → name ≡ codes "show" → HasFlagWord (codes "json") rows
 json_word_of name rows (inl h) e = h.1.1
 json_word_of name rows (inr (inl h)) e = absurd (differs (codes "encode") (codes "show") refl (sym h.0 ∙ e))
-json_word_of name rows (inr (inr (inl h))) e = absurd (differs (codes "epc") (codes "show") refl (sym h.0 ∙ e))
+json_word_of name rows (inr (inr (inl (inl h)))) e = absurd (differs (codes "epc") (codes "show") refl (sym h.0 ∙ e))
+json_word_of name rows (inr (inr (inl (inr h)))) e = absurd (differs (codes "fields") (codes "show") refl (sym h.0 ∙ e))
 json_word_of name rows (inr (inr (inr (inl h)))) e = absurd (differs (codes "sim") (codes "show") refl (sym h.0 ∙ e))
 json_word_of name rows (inr (inr (inr (inr (inl h))))) e = absurd (differs (codes "inventory") (codes "show") refl (sym h.0 ∙ e))
-json_word_of name rows (inr (inr (inr (inr (inr h))))) e = absurd (differs (codes "loop") (codes "show") refl (sym h.0 ∙ e))
+json_word_of name rows (inr (inr (inr (inr (inr (inl h)))))) e = absurd (differs (codes "loop") (codes "show") refl (sym h.0 ∙ e))
+json_word_of name rows (inr (inr (inr (inr (inr (inr (inl h))))))) e = absurd (differs (codes "watch") (codes "show") refl (sym h.0 ∙ e))
+json_word_of name rows (inr (inr (inr (inr (inr (inr (inr (inl h)))))))) e = absurd (differs (codes "stop") (codes "show") refl (sym h.0 ∙ e))
+json_word_of name rows (inr (inr (inr (inr (inr (inr (inr (inr h)))))))) e = absurd (differs (codes "ask") (codes "show") refl (sym h.0 ∙ e))
 
 pub found_json : (found : Option (Text × List Row)) → IsFound found → name_in found ≡ Some (codes "show") → (json : Bool) × IsFlag (json_in found) json
 found_json None h e = absurd h
@@ -136,11 +213,14 @@ found_limit None h e = absurd h
 found_limit (Some p) h (inl e) = number_of_word 10 MAX_LIMIT (codes "limit") p.0 p.1 (stream_words_of p.0 p.1 h (inl (let same : p.0 ≡ codes "show" = cc in same))).2
 found_limit (Some p) h (inr e) = number_of_word 10 MAX_LIMIT (codes "limit") p.0 p.1 (stream_words_of p.0 p.1 h (inr (let same : p.0 ≡ codes "encode" = cc in same))).2
 
--- what is not sim has a plan
-pub plan_there : (name : Text) (rows : List Row) → IsNetworkParse name rows → (name ≡ codes "sim" → ⊥) → HasPlan rows
-plan_there name rows (inl h) no_sim = absurd (no_sim h.0)
-plan_there name rows (inr (inl h)) no_sim = h.3
-plan_there name rows (inr (inr h)) no_sim = h.1
+-- what is none of sim, watch and stop has a plan
+pub plan_there : (name : Text) (rows : List Row) → IsNetworkParse name rows → (name ≡ codes "sim" → ⊥) → (name ≡ codes "watch" → ⊥) → (name ≡ codes "stop" → ⊥) → (name ≡ codes "ask" → ⊥) → HasPlan rows
+plan_there name rows (inl h) no_sim no_watch no_stop no_ask = absurd (no_sim h.0)
+plan_there name rows (inr (inl h)) no_sim no_watch no_stop no_ask = h.3
+plan_there name rows (inr (inr (inl h))) no_sim no_watch no_stop no_ask = h.1
+plan_there name rows (inr (inr (inr (inl h)))) no_sim no_watch no_stop no_ask = absurd (no_watch h.0)
+plan_there name rows (inr (inr (inr (inr (inl h))))) no_sim no_watch no_stop no_ask = absurd (no_stop h.0)
+plan_there name rows (inr (inr (inr (inr (inr h))))) no_sim no_watch no_stop no_ask = absurd (no_ask h.0)
 
 -- a flag that reads what it says is what it says
 pub reads_flag : (found : Option Text) (flag : Bool) → HasFlag found flag → (given : Bool) × IsFlag found given → IsFlag found flag

@@ -20,8 +20,8 @@ use Rattle.clap.specs.Walk.{subcommand_met, subcommand_or_other, word_met, to_po
 use Rattle.clap.specs.Walk.{one_of, row_text, plain_word, after_flag, long_or_other, short_or_plain}
 use Rattle.clap.proofs.ValueTestLemmas.{accepts-Accepts}
 use Rattle.llrp_tree.specs.declared.TheConstants.{MAX_LIMIT}
-use Rattle.llrp_commands.specs.Private.Parse.{HasFlagWord, HasLimitWord, HasNumberWord, HasShowWords, HasStreamWords, HasWord, IsFound, IsParse, MayHaveNumberWord}
-use Rattle.llrp_commands.specs.Calls.Arguments.{command_in, show_app, stream_app, hex_rule, json_rule, limit_rule, count_rule, flag_rule, host_rule, inventory_app, llrp_app, loop_app, number_rule, port_rule, text_app, text_option_rule, text_rule, top_app, all_rule, sim_app}
+use Rattle.llrp_commands.specs.Private.Parse.{HasFlagWord, HasLimitWord, HasNumberIn, HasNumberWord, HasShowWords, HasStreamWords, HasWord, IsFound, IsParse, MayHaveLongCount, MayHaveNumberIn, MayHaveNumberWord}
+use Rattle.llrp_commands.specs.Calls.Arguments.{id_rule, least_longest, long_count_rule, longest_rule, stop_app, watch_app, command_in, show_app, stream_app, hex_rule, json_rule, limit_rule, count_rule, flag_rule, host_rule, inventory_app, llrp_app, loop_app, number_rule, port_rule, epc_app, filter_rule, prefix_digits_rule, text_option_rule, text_rule, top_app, all_rule, sim_app, ask_app, file_rule, fields_app, name_rule}
 use Rattle.llrp_commands.proofs.ReadRows.{AllFound, AllUsesPass, HasRead, IsAmong, LevelPasses, both, subcommand_there, flag_passes, has_read, help_passes, level_passes, set_passes, uses_pass}
 
 -- ---- a walk without a fault does not stop at help
@@ -128,6 +128,15 @@ limit_there a rows is r =
       given = r.given;
       read = r.read ∙ ap (λ (p : Option ValueParser). Some (read_as (reading_of (parser_of_value p)) r.word)) is;
       spells = accepts-Accepts a.ignore_case (Signed (pos 10) (pos MAX_LIMIT)) r.word (ap (λ (p : Option ValueParser). accepts a.ignore_case (parser_of_value p) r.word) (sym is) ∙ r.taken);
+    }
+
+longest_there : (a : Rule) (rows : List Row) → a.parser ≡ Some (Signed (pos least_longest) (pos MAX_LIMIT)) → HasRead a rows → HasNumberIn least_longest MAX_LIMIT a.id rows
+longest_there a rows is r =
+    record {
+      word = r.word;
+      given = r.given;
+      read = r.read ∙ ap (λ (p : Option ValueParser). Some (read_as (reading_of (parser_of_value p)) r.word)) is;
+      spells = accepts-Accepts a.ignore_case (Signed (pos least_longest) (pos MAX_LIMIT)) r.word (ap (λ (p : Option ValueParser). accepts a.ignore_case (parser_of_value p) r.word) (sym is) ∙ r.taken);
     }
 
 may_number : (a : Rule) (rows : List Row) (low : ℕ) → a.parser ≡ Some (Signed (pos low) (pos 65535)) → (find (λ (r : Row). bytes_eq r.id a.id) rows ≡ None) ⊎ HasRead a rows → MayHaveNumberWord a.id rows
@@ -276,24 +285,134 @@ has_show_words s e words pass =
       flag_word (codes "json") the_json (rows_after s.rules [] words) refl refl (default_read s all_use all_found words pass the_json json_by_id json_among (omega arith)),
     )
 
-epc_gives : Gives (built_sub (text_app (codes "epc")).top)
+abbrev the_epc_flag : Text → Rule
+the_epc_flag name = with_index 2 (filled (flag_rule name))
+
+abbrev the_form : Rule
+the_form = with_index 2 (filled (text_option_rule (codes "to")))
+
+abbrev the_prefix_digits : Rule
+the_prefix_digits = with_index 2 (filled prefix_digits_rule)
+
+abbrev the_filter : Rule
+the_filter = with_index 2 (filled filter_rule)
+
+abbrev the_prefixes : Rule
+the_prefixes = with_index 2 (filled (text_option_rule (codes "prefixes")))
+
+number_in_there : (a : Rule) (rows : List Row) (low high : ℕ) → a.parser ≡ Some (Signed (pos low) (pos high)) → (find (λ (r : Row). bytes_eq r.id a.id) rows ≡ None) ⊎ HasRead a rows → MayHaveNumberIn low high a.id rows
+number_in_there a rows low high is (inl none) = inl (ap (option_and_then row_text) none, ap (option_and_then (λ (r : Row). slice_get r.values 0)) none)
+number_in_there a rows low high is (inr r) = inr (record {
+  word = r.word;
+  given = r.given;
+  read = r.read ∙ ap (λ (p : Option ValueParser). Some (read_as (reading_of (parser_of_value p)) r.word)) is;
+  spells = accepts-Accepts a.ignore_case (Signed (pos low) (pos high)) r.word (ap (λ (p : Option ValueParser). accepts a.ignore_case (parser_of_value p) r.word) (sym is) ∙ r.taken);
+})
+
+epc_gives : Gives (built_sub epc_app.top)
 epc_gives name words helpless met pass =
-    let s = built_sub (text_app (codes "epc")).top in
-    let uses : AllUsesPass s.rules s.rules = (set_passes s.rules the_text refl refl refl, (help_passes s.rules (the_help 2) refl, tt)) in
-    inr (inr (inl (refl, word_there the_text _ (required_read s uses (refl, (refl, tt)) words pass refl the_text refl (inl refl) refl))))
+    let s = built_sub epc_app.top in
+    let c = s.rules in
+    let uses : AllUsesPass c c = (
+      set_passes c the_text refl refl refl,
+      (
+        flag_passes c (the_epc_flag (codes "forms")) refl refl (omega arith),
+        (
+          flag_passes c (the_epc_flag (codes "list")) refl refl (omega arith),
+          (
+            flag_passes c (the_epc_flag (codes "json")) refl refl (omega arith),
+            (
+              set_passes c the_form refl refl refl,
+              (
+                set_passes c the_prefix_digits refl refl refl,
+                (
+                  set_passes c the_filter refl refl refl,
+                  (
+                    set_passes c the_prefixes refl refl refl,
+                    (help_passes c (the_help 2) refl, tt),
+                  ),
+                ),
+              ),
+            ),
+          ),
+        ),
+      ),
+    ) in
+    let found : AllFound c c = (refl, (refl, (refl, (refl, (refl, (refl, (refl, (refl, (refl, tt))))))))) in
+    let forms = default_read s uses found words pass (the_epc_flag (codes "forms")) refl (inr (inl refl)) (omega arith) in
+    let list = default_read s uses found words pass (the_epc_flag (codes "list")) refl (inr (inr (inl refl))) (omega arith) in
+    let json = default_read s uses found words pass (the_epc_flag (codes "json")) refl (inr (inr (inr (inl refl)))) (omega arith) in
+    let digits = optional_read s uses found words pass the_prefix_digits refl in
+    let filter = optional_read s uses found words pass the_filter refl in
+    inr (inr (inl (inl (
+      refl,
+      (
+        flag_word (codes "forms") (the_epc_flag (codes "forms")) _ refl refl forms,
+        flag_word (codes "list") (the_epc_flag (codes "list")) _ refl refl list,
+        flag_word (codes "json") (the_epc_flag (codes "json")) _ refl refl json,
+        number_in_there the_prefix_digits _ 6 12 refl digits,
+        number_in_there the_filter _ 0 7 refl filter,
+      ),
+    ))))
 
 abbrev the_all_of_sim : Rule
 the_all_of_sim = with_index 2 (filled all_rule)
+
+abbrev the_name : Rule
+the_name = with_index 1 (filled name_rule)
+
+fields_gives : Gives (built_sub fields_app.top)
+fields_gives name words helpless met pass =
+    let s = built_sub fields_app.top in
+    let c = s.rules in
+    let uses : AllUsesPass c c = (set_passes c the_name refl refl refl, (flag_passes c the_all_of_sim refl refl (omega arith), (help_passes c (the_help 2) refl, tt))) in
+    let found : AllFound c c = (refl, (refl, (refl, tt))) in
+    let all = default_read s uses found words pass the_all_of_sim refl (inr (inl refl)) (omega arith) in
+    inr (inr (inl (inr (refl, flag_word (codes "all") the_all_of_sim _ refl refl all))))
+
+abbrev the_bind : Rule
+the_bind = with_index 2 (filled (text_option_rule (codes "bind")))
+
+abbrev the_clients : Rule
+the_clients = with_index 2 (filled (number_rule (codes "clients")))
+
+abbrev the_ready : Rule
+the_ready = with_index 2 (filled (flag_rule (codes "ready")))
 
 sim_gives : Gives (built_sub sim_app.top)
 sim_gives name words helpless met pass =
     let s = built_sub sim_app.top in
     let c = s.rules in
-    let uses : AllUsesPass c c = (set_passes c (the_port 1) refl refl refl, (flag_passes c the_all_of_sim refl refl (omega arith), (help_passes c (the_help 2) refl, tt))) in
-    let found : AllFound c c = (refl, (refl, (refl, tt))) in
+    let uses : AllUsesPass c c = (
+      set_passes c (the_port 1) refl refl refl,
+      (
+        flag_passes c the_all_of_sim refl refl (omega arith),
+        (
+          set_passes c the_bind refl refl refl,
+          (
+            set_passes c the_clients refl refl refl,
+            (
+              flag_passes c the_ready refl refl (omega arith),
+              (help_passes c (the_help 2) refl, tt),
+            ),
+          ),
+        ),
+      ),
+    ) in
+    let found : AllFound c c = (refl, (refl, (refl, (refl, (refl, (refl, tt)))))) in
     let port = required_read s uses found words pass refl (the_port 1) refl (inl refl) refl in
     let all = default_read s uses found words pass the_all_of_sim refl (inr (inl refl)) (omega arith) in
-    inr (inr (inr (inl (refl, number_there (the_port 1) _ 1 refl port, flag_word (codes "all") the_all_of_sim _ refl refl all))))
+    let clients = optional_read s uses found words pass the_clients refl in
+    let ready = default_read s uses found words pass the_ready refl (inr (inr (inr (inr (inl refl))))) (omega arith) in
+    inr (inr (inr (inl (
+      refl,
+      (
+        number_there (the_port 1) _ 1 refl port,
+        flag_word (codes "all") the_all_of_sim _ refl refl all,
+        may_number the_clients _ 0 refl clients,
+        flag_word (codes "ready") the_ready _ refl refl ready,
+      ),
+    ))))
 
 abbrev the_rospec : ℕ → Rule
 the_rospec place = with_index place (filled (text_option_rule (codes "rospec")))
@@ -421,7 +540,7 @@ loop_gives name words helpless met pass =
     let clean = default_read s uses found words pass (the_clean 1) refl (inr (inr (inr (inr (inr (inl refl)))))) (omega arith) in
     let json = default_read s uses found words pass (the_plan_json 1) refl (inr (inr (inr (inr (inr (inr (inl refl))))))) (omega arith) in
     let kinds = default_read s uses found words pass (the_plan_all 1) refl (inr (inr (inr (inr (inr (inr (inr (inl refl)))))))) (omega arith) in
-    inr (inr (inr (inr (inr (
+    inr (inr (inr (inr (inr (inl (
       refl,
       (
         may_number (the_every 1) _ 0 refl every,
@@ -432,7 +551,189 @@ loop_gives name words helpless met pass =
         flag_word (codes "json") (the_plan_json 1) _ refl refl json,
         flag_word (codes "all") (the_plan_all 1) _ refl refl kinds,
       ),
-    )))))
+    ))))))
+
+abbrev the_long_count : Text → Rule
+the_long_count name = with_index 2 (filled (long_count_rule name))
+
+abbrev the_id : Rule
+the_id = the_long_count (codes "id")
+
+abbrev the_reader : Rule
+the_reader = with_index 2 (filled (text_option_rule (codes "name")))
+
+abbrev the_count : Text → Rule
+the_count name = with_index 2 (filled (count_rule name))
+
+abbrev the_keepalive : Rule
+the_keepalive = with_index 2 (filled (number_rule (codes "keepalive")))
+
+abbrev the_antennas : Rule
+the_antennas = with_index 2 (filled (text_option_rule (codes "antennas")))
+
+abbrev the_longest : Rule
+the_longest = with_index 2 (filled longest_rule)
+
+abbrev the_save : Rule
+the_save = with_index 2 (filled (text_option_rule (codes "save")))
+
+abbrev the_verbose : Rule
+the_verbose = with_index 2 (filled (flag_rule (codes "verbose")))
+
+abbrev the_words : Rule
+the_words = with_index 2 (filled (flag_rule (codes "text")))
+
+long_count_there : (name : Text) (rows : List Row) → (find (λ (r : Row). bytes_eq r.id name) rows ≡ None) ⊎ HasRead (the_long_count name) rows → MayHaveLongCount name rows
+long_count_there name rows (inl none) = inl (ap (option_and_then row_text) none, ap (option_and_then (λ (r : Row). slice_get r.values 0)) none)
+long_count_there name rows (inr r) = inr (record {
+  word = r.word;
+  given = r.given;
+  read = r.read;
+  spells = accepts-Accepts (the_long_count name).ignore_case (Signed (pos 1) (pos 4294967295)) r.word r.taken;
+})
+
+watch_gives : Gives (built_sub watch_app.top)
+watch_gives name words helpless met pass =
+    let s = built_sub watch_app.top in
+    let c = s.rules in
+    let uses : AllUsesPass c c = (
+      set_passes c the_host refl refl refl,
+      (
+        set_passes c (the_rospec 2) refl refl refl,
+        (
+          set_passes c the_id refl refl refl,
+          (
+            set_passes c (the_count (codes "every")) refl refl refl,
+            (
+              set_passes c the_keepalive refl refl refl,
+              (
+                set_passes c (the_count (codes "again")) refl refl refl,
+                (
+                  flag_passes c the_words refl refl (omega arith),
+                  (
+                    set_passes c the_antennas refl refl refl,
+                    (
+                      set_passes c the_longest refl refl refl,
+                      (
+                        set_passes c the_save refl refl refl,
+                        (
+                          flag_passes c the_verbose refl refl (omega arith),
+                          (
+                            set_passes c (the_long_count (codes "for")) refl refl refl,
+                            (
+                              set_passes c the_reader refl refl refl,
+                              (help_passes c (the_help 2) refl, tt),
+                            ),
+                          ),
+                        ),
+                      ),
+                    ),
+                  ),
+                ),
+              ),
+            ),
+          ),
+        ),
+      ),
+    ) in
+    let found : AllFound c c = (refl, (refl, (refl, (refl, (refl, (refl, (refl, (refl, (refl, (refl, (refl, (refl, (refl, (refl, tt)))))))))))))) in
+    let host = required_read s uses found words pass refl the_host refl (inl refl) refl in
+    let id = optional_read s uses found words pass the_id refl in
+    let every = optional_read s uses found words pass (the_count (codes "every")) refl in
+    let keepalive = optional_read s uses found words pass the_keepalive refl in
+    let again = optional_read s uses found words pass (the_count (codes "again")) refl in
+    let text = default_read s uses found words pass the_words refl (inr (inr (inr (inr (inr (inr (inl refl))))))) (omega arith) in
+    let longest = default_read s uses found words pass the_longest refl (inr (inr (inr (inr (inr (inr (inr (inr (inl refl))))))))) (omega arith) in
+    let verbose = default_read s uses found words pass the_verbose refl (inr (inr (inr (inr (inr (inr (inr (inr (inr (inr (inl refl))))))))))) (omega arith) in
+    let seconds = optional_read s uses found words pass (the_long_count (codes "for")) refl in
+    inr (inr (inr (inr (inr (inr (inl (
+      refl,
+      word_there the_host _ host,
+      (
+        long_count_there (codes "id") _ id,
+        may_number (the_count (codes "every")) _ 1 refl every,
+        may_number the_keepalive _ 0 refl keepalive,
+        may_number (the_count (codes "again")) _ 1 refl again,
+        flag_word (codes "text") the_words _ refl refl text,
+        longest_there the_longest _ refl longest,
+        flag_word (codes "verbose") the_verbose _ refl refl verbose,
+        long_count_there (codes "for") _ seconds,
+      ),
+    )))))))
+
+stop_gives : Gives (built_sub stop_app.top)
+stop_gives name words helpless met pass =
+    let s = built_sub stop_app.top in
+    let c = s.rules in
+    let uses : AllUsesPass c c = (
+      set_passes c the_host refl refl refl,
+      (
+        set_passes c (the_rospec 2) refl refl refl,
+        (
+          set_passes c the_id refl refl refl,
+          (
+            set_passes c (the_count (codes "timeout")) refl refl refl,
+            (help_passes c (the_help 2) refl, tt),
+          ),
+        ),
+      ),
+    ) in
+    let found : AllFound c c = (refl, (refl, (refl, (refl, (refl, tt))))) in
+    let host = required_read s uses found words pass refl the_host refl (inl refl) refl in
+    let id = optional_read s uses found words pass the_id refl in
+    let timeout = optional_read s uses found words pass (the_count (codes "timeout")) refl in
+    inr (inr (inr (inr (inr (inr (inr (inl (refl, word_there the_host _ host, (long_count_there (codes "id") _ id, may_number (the_count (codes "timeout")) _ 1 refl timeout)))))))))
+
+abbrev the_file : Rule
+the_file = with_index 2 (filled file_rule)
+
+abbrev the_go_on : Rule
+the_go_on = with_index 3 (filled (flag_rule (codes "go-on")))
+
+abbrev the_raw : Rule
+the_raw = with_index 3 (filled (flag_rule (codes "raw")))
+
+ask_gives : Gives (built_sub ask_app.top)
+ask_gives name words helpless met pass =
+    let s = built_sub ask_app.top in
+    let c = s.rules in
+    let uses : AllUsesPass c c = (
+      set_passes c the_host refl refl refl,
+      (
+        set_passes c the_file refl refl refl,
+        (
+          flag_passes c (the_plan_json 3) refl refl (omega arith),
+          (
+            set_passes c the_timeout refl refl refl,
+            (
+              flag_passes c the_go_on refl refl (omega arith),
+              (
+                flag_passes c the_raw refl refl (omega arith),
+                (help_passes c (the_help 3) refl, tt),
+              ),
+            ),
+          ),
+        ),
+      ),
+    ) in
+    let found : AllFound c c = (refl, (refl, (refl, (refl, (refl, (refl, (refl, tt))))))) in
+    let host = required_read s uses found words pass refl the_host refl (inl refl) refl in
+    let file = required_read s uses found words pass refl the_file refl (inr (inl refl)) refl in
+    let json = default_read s uses found words pass (the_plan_json 3) refl (inr (inr (inl refl))) (omega arith) in
+    let timeout = optional_read s uses found words pass the_timeout refl in
+    let on = default_read s uses found words pass the_go_on refl (inr (inr (inr (inr (inl refl))))) (omega arith) in
+    let raw = default_read s uses found words pass the_raw refl (inr (inr (inr (inr (inr (inl refl)))))) (omega arith) in
+    inr (inr (inr (inr (inr (inr (inr (inr (
+      refl,
+      word_there the_host _ host,
+      (
+        word_there the_file _ file,
+        flag_word (codes "json") (the_plan_json 3) _ refl refl json,
+        may_number the_timeout _ 1 refl timeout,
+        flag_word (codes "go-on") the_go_on _ refl refl on,
+        flag_word (codes "raw") the_raw _ refl refl raw,
+      ),
+    ))))))))
 
 all_give : AllGive (built llrp_app).subs
 unfolding llrp_app
@@ -440,7 +741,7 @@ all_give = (
   λ name words helpless met pass. inl (refl, has_show_words (built_sub show_app.top) refl words pass),
   (
     λ name words helpless met pass. inr (inl (refl, has_encode_words (built_sub (stream_app (codes "encode")).top) refl words pass)),
-    (epc_gives, (sim_gives, (inventory_gives, (loop_gives, (λ name words helpless met pass. absurd (help_gives [] name refl helpless met), tt))))),
+    (epc_gives, (fields_gives, (sim_gives, (inventory_gives, (loop_gives, (watch_gives, (stop_gives, (ask_gives, (λ name words helpless met pass. absurd (help_gives [] name refl helpless met), tt))))))))),
   ),
 )
 

@@ -1,3 +1,5 @@
 -- What public contracts say that no promise of README rests on.
 pub mod Command
 pub mod Arguments
+pub mod Epc
+pub mod Fields

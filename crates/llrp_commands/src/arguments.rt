@@ -1,19 +1,38 @@
 //! What the words of the command line ask for.
 
-ghost use Rattle.std.specs.Prelude.{◌≡◌, ◌↔◌, IfOk, IsTrue, List, Some, codes, false, map, true, ℕ};
+ghost use Rattle.std.specs.Prelude.{◌≡◌, ◌↔◌, IfOk, IfSome, IsTrue, List, Some, codes, false, map, true, ℕ};
 ghost use Rattle.clap.specs.Words.{found_of, rows_of, subcommand_rows_of};
 ghost use Rattle.llrp_commands.specs.Private.Parse.{HasLimitWord, HasNumberWord, IsFound, IsNetworkParse, IsParse, IsText, HasPlan, MayHaveNumberWord};
-ghost use Rattle.llrp_commands.specs.Calls.Arguments.{AsksForInput, HasNumber, HasOptionalNumber, HasOptionalText, IsNetwork, IsPlan, NetworkAsked, command_in, parses};
+ghost use Rattle.llrp_commands.specs.Calls.Arguments.{AsksForInput, HasNumber, HasOptionalNumber, HasOptionalText, IsBounded, IsNetwork, IsPlan, NetworkAsked, command_in, parses};
 ghost use Rattle.llrp_commands.specs.Private.Arguments.{HasLimit, IsLimit, IsRequest};
 
+mod ask_commands;
+mod ask_help;
+mod ask_words;
 mod commands;
+mod epc_commands;
+mod epc_words;
+mod fields_command;
 mod help;
+mod sim_commands;
+mod sim_words;
+mod watch_commands;
+mod watch_help;
+mod watch_words;
 
+pub use ask_words::AskWords;
+use ask_words::ask_words;
 use clap::ArgMatches;
 use clap::error::ErrorKind;
 use commands::llrp_command;
+pub(crate) use epc_words::EpcWords;
+use epc_words::epc_words;
+pub use sim_words::SimWords;
+use sim_words::sim_words;
 use std::alloc::{AllocError, Global};
 use std::convert::AsStr;
+pub use watch_words::{StopWords, WatchWords};
+use watch_words::{host, stop_words, watch_words};
 
 /// What the words say of a plan. What an option gives is `None` if it is left out.
 #[derive(Clone, Copy, Debug, PartialEq, Eq)]
@@ -39,11 +58,9 @@ pub struct PlanWords<'a> {
 /// A command that the program runs itself, over sockets.
 #[derive(Clone, Copy, Debug, PartialEq, Eq)]
 pub enum NetworkCommand<'a> {
-    /// A simulated reader that serves one client on this port, by a script, and answers three requests
-    /// outside the profile or not.
+    /// A simulated reader that serves clients by a script.
     Sim {
-        port: u16,
-        all: bool,
+        words: SimWords<'a>,
     },
     /// An inventory of the reader at this host and port, by this plan. A connection or a read fails
     /// if it gets nothing for this many seconds.
@@ -56,6 +73,21 @@ pub enum NetworkCommand<'a> {
     /// An inventory of a simulated reader, by a script and this plan.
     Loop {
         plan: PlanWords<'a>,
+    },
+    /// What the reader at this host sees, for as long as the connection lasts.
+    Watch {
+        host: &'a str,
+        words: WatchWords<'a>,
+    },
+    /// Deletes the ROSpec that `watch` left on the reader at this host.
+    Stop {
+        host: &'a str,
+        words: StopWords<'a>,
+    },
+    /// Sends the messages of a file to the reader at this host.
+    Ask {
+        host: &'a str,
+        words: AskWords<'a>,
     },
 }
 
@@ -77,9 +109,13 @@ pub(crate) enum Request<'a> {
         all: bool,
         limit: u32,
     },
-    /// Prints the text of a word's digits, or the digits of a word's text.
-    Epc {
-        text: &'a str,
+    /// Prints the text of a word's digits, or the digits of a word's text, or texts in other forms.
+    Epc(EpcWords<'a>),
+    /// Prints what the tables of the profile or of the whole standard say of the kind with this name,
+    /// or of all.
+    Fields {
+        all: bool,
+        name: Option<&'a str>,
     },
     /// A command that the program runs itself.
     Network(NetworkCommand<'a>),
@@ -145,12 +181,30 @@ fn plan_words<'a>(inner: &ArgMatches<'a>) -> PlanWords<'a>
 /// The command with this name, which the program runs itself.
 fn network_named<'a>(name: &str, inner: &ArgMatches<'a>) -> NetworkCommand<'a>
     requires { IsNetworkParse name.now (rows_of (found_of inner.now)) }
-    ensures { IsNetwork (Some (name.now, rows_of (found_of inner.now))) result }
+    ensures command { IsNetwork (Some (name.now, rows_of (found_of inner.now))) result }
+    ensures bounds { IsBounded result }
 {
     if name == "sim" {
         return NetworkCommand::Sim {
-            port: number(inner, "PORT"),
-            all: inner.get_flag("all"),
+            words: sim_words(inner),
+        };
+    }
+    if name == "watch" {
+        return NetworkCommand::Watch {
+            host: host(inner),
+            words: watch_words(inner),
+        };
+    }
+    if name == "stop" {
+        return NetworkCommand::Stop {
+            host: host(inner),
+            words: stop_words(inner),
+        };
+    }
+    if name == "ask" {
+        return NetworkCommand::Ask {
+            host: host(inner),
+            words: ask_words(inner),
         };
     }
     let plan = plan_words(inner);
@@ -158,7 +212,7 @@ fn network_named<'a>(name: &str, inner: &ArgMatches<'a>) -> NetworkCommand<'a>
         return NetworkCommand::Loop { plan };
     }
     NetworkCommand::Inventory {
-        host: inner.get_str("HOST").unwrap(),
+        host: host(inner),
         port: number(inner, "PORT"),
         plan,
         timeout: optional_number(inner, "timeout"),
@@ -172,9 +226,7 @@ fn request_named<'a>(name: &str, inner: &ArgMatches<'a>) -> Request<'a>
     ensures limit { HasLimit result }
 {
     if name == "epc" {
-        return Request::Epc {
-            text: inner.get_str("TEXT").unwrap(),
-        };
+        return Request::Epc(epc_words(inner));
     }
     if name == "show" {
         Request::Show {
@@ -188,6 +240,11 @@ fn request_named<'a>(name: &str, inner: &ArgMatches<'a>) -> Request<'a>
             hex: inner.get_flag("hex"),
             all: inner.get_flag("all"),
             limit: limit(inner),
+        }
+    } else if name == "fields" {
+        Request::Fields {
+            all: inner.get_flag("all"),
+            name: optional_text(inner, "NAME"),
         }
     } else {
         Request::Network(network_named(name, inner))
@@ -238,7 +295,8 @@ pub fn network_command<'a, S: AsStr>(
     alloc: Global,
     words: &'a [S],
 ) -> Result<Option<NetworkCommand<'a>>, AllocError>
-    ensures { IfOk result (λ command. NetworkAsked (map S.text words.entry.now) command) }
+    ensures command { IfOk result (λ command. NetworkAsked (map S.text words.entry.now) command) }
+    ensures bounds { IfOk result (λ command. IfSome command IsBounded) }
 {
     match request_of(alloc, words)? {
         Request::Network(command) => Ok(Some(command)),

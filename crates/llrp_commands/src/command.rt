@@ -1,28 +1,33 @@
 //! The command line: runs the commands that its words ask for, and gives their exit statuses and
 //! error lines.
 
-ghost use Rattle.std.specs.Prelude.{◌≤◌, ◌≡◌, IfErr, IfOk, MatchResult, map, string_bytes};
+ghost use Rattle.std.specs.Prelude.{◌≤◌, ◌≡◌, IfErr, IfOk, MatchResult, false, map, string_bytes};
 ghost use Rattle.std.specs.List.{flat_map};
-ghost use Rattle.llrp_schema.specs.declared.kinds.Profile.{Profile};
+ghost use Rattle.llrp_schema.specs.declared.kinds.KindSet.{KindSet};
 ghost use Rattle.llrp_tree.specs.declared.TheConstants.{MAX_LIMIT};
 ghost use Rattle.llrp_commands.specs.Calls.Command.{Answers, DoesEncode, DoesShow, EncodesDigits, EncodesIfAsked, FailsAsTold, LeftAlone, ListedInForm, PrintsEpcIfAsked, ShowsDigits, ShowsIfAsked, ShowsInForm, StoppedInForm, digit_line, error_line, error_status, fine_status, reason_line, refusal_line, set_of, status_of, verdict_status};
 ghost use Rattle.llrp_commands.specs.Private.Command.{Gathers, memory_error};
 ghost use Rattle.llrp_listing.specs.Calls.Copying.{Writes};
 ghost use Rattle.llrp_stream.specs.Device.{IsFreshSink, IsFreshSource};
-ghost use Rattle.llrp_commands.specs.Calls.Arguments.{AsksElsewhere};
+ghost use Rattle.llrp_commands.specs.Calls.Arguments.{AsksElsewhere, parses};
+ghost use Rattle.llrp_commands.specs.Calls.Epc.{LeavesFileIfAsked, RunsEpcIfAsked};
+ghost use Rattle.llrp_commands.specs.Calls.Fields.{FieldsIfAsked};
 ghost use Rattle.llrp_stream.specs.Calls.Device.{CanWrite};
 
 use crate::arguments::{Request, request_of};
+use crate::epc::{answer_epc, epc, mistake_of};
+use crate::fields::{answer_fields, fields};
 use itoa::Buffer;
 use llrp_json::{list_stream_json, run_show_json};
 use llrp_listing::{
-    Refusal, ToolErr, Verdict, bytes_of_hex, list_stream_in, read_all, run_encode_in, run_epc,
-    run_show_in, write_all,
+    Refusal, ToolErr, Verdict, bytes_of_hex, list_stream_in, read_all, run_encode_in, run_show_in,
+    write_all,
 };
-use llrp_schema::Profile;
+use llrp_schema::KindSet;
 use llrp_stream::{Output, Sink, Source};
 use std::alloc::{AllocError, Global};
 use std::convert::AsStr;
+use tag_forms::Company;
 
 /// The greatest message, in octets, that `sim`, `inventory` and `loop` take and send, and that
 /// `show` and `encode` take without --limit.
@@ -33,10 +38,14 @@ pub const LIMIT: u32 = 65_536;
 pub const USAGE: u8 = 2;
 
 /// The set of kinds that a command takes: that of the profile, or with --all that of the whole standard.
-fn set_of(all: bool) -> Profile
+fn set_of(all: bool) -> KindSet
     ensures { result ≡ set_of all }
 {
-    if all { Profile::Whole } else { Profile::Own }
+    if all {
+        KindSet::Standard
+    } else {
+        KindSet::Profile
+    }
 }
 
 /// The exit status of a verdict.
@@ -61,7 +70,7 @@ fn error_status(error: ToolErr) -> u8
 }
 
 /// Writes the parts of a text in order.
-fn write_parts<W: Sink>(w: &mut W, parts: &[&[u8]]) -> Result<(), ToolErr>
+pub(crate) fn write_parts<W: Sink>(w: &mut W, parts: &[&[u8]]) -> Result<(), ToolErr>
     requires { CanWrite (W.log w.old) }
     ensures { Writes (flat_map (λ part. part.now) parts.now) (W.log w.old) (W.log w.new) result }
 {
@@ -147,7 +156,7 @@ pub fn answer<E: Sink>(outcome: Result<u8, ToolErr>, e: &mut E) -> Result<u8, To
 fn list_bytes<W: Sink>(
     alloc: Global,
     json: bool,
-    set: Profile,
+    set: KindSet,
     limit: u32,
     bytes: &[u8],
     w: &mut W,
@@ -171,7 +180,7 @@ fn list_bytes<W: Sink>(
 fn show_bytes<R: Source, W: Sink>(
     alloc: Global,
     json: bool,
-    set: Profile,
+    set: KindSet,
     limit: u32,
     r: &mut R,
     w: &mut W,
@@ -193,7 +202,7 @@ fn show_bytes<R: Source, W: Sink>(
 fn show_digits<R: Source, W: Sink>(
     alloc: Global,
     json: bool,
-    set: Profile,
+    set: KindSet,
     limit: u32,
     r: &mut R,
     w: &mut W,
@@ -214,7 +223,7 @@ fn show<R: Source, W: Sink>(
     alloc: Global,
     json: bool,
     hex: bool,
-    set: Profile,
+    set: KindSet,
     limit: u32,
     r: &mut R,
     w: &mut W,
@@ -245,7 +254,7 @@ fn memory_error(error: ToolErr) -> ToolErr
 /// The bytes of a listing, kept in memory.
 fn encoded<R: Source>(
     alloc: Global,
-    set: Profile,
+    set: KindSet,
     limit: u32,
     r: &mut R,
 ) -> Result<Vec<u8>, ToolErr>
@@ -278,7 +287,7 @@ fn digit_line(alloc: Global, bytes: &[u8]) -> Result<String, AllocError>
 /// Writes the bytes of a listing as hexadecimal digits, once the whole listing was read.
 fn encode_digits<R: Source, W: Sink>(
     alloc: Global,
-    set: Profile,
+    set: KindSet,
     limit: u32,
     r: &mut R,
     w: &mut W,
@@ -298,7 +307,7 @@ fn encode_digits<R: Source, W: Sink>(
 fn encode<R: Source, W: Sink>(
     alloc: Global,
     hex: bool,
-    set: Profile,
+    set: KindSet,
     limit: u32,
     r: &mut R,
     w: &mut W,
@@ -317,7 +326,7 @@ fn encode<R: Source, W: Sink>(
 }
 
 /// The status of a verdict, or the error.
-fn verdict_status(outcome: Result<Verdict, ToolErr>) -> Result<u8, ToolErr>
+pub(crate) fn verdict_status(outcome: Result<Verdict, ToolErr>) -> Result<u8, ToolErr>
     ensures { result ≡ verdict_status outcome }
 {
     match outcome {
@@ -339,7 +348,7 @@ fn fine_status(outcome: Result<(), ToolErr>) -> Result<u8, ToolErr>
 /// Runs the command that the words after the program's name ask for, and returns its exit status: 0
 /// if all is well, 1 if the input has a fault, 2 if the words ask for no command, and 3 if a device
 /// failed or memory ran out. An error is written to `e` as a line. For a command that the program
-/// runs itself the status is 2, and nothing is read or written. The only errors are `Memory`, and
+/// runs itself, and for `epc` with a file, the status is 2, and nothing is read or written. The only errors are `Memory`, and
 /// `Write` if writing to `e` failed.
 pub fn run_command<S: AsStr, R: Source, W: Sink, E: Sink>(
     alloc: Global,
@@ -362,6 +371,21 @@ pub fn run_command<S: AsStr, R: Source, W: Sink, E: Sink>(
     ensures epc { PrintsEpcIfAsked (map S.text words.entry.now) (R.log r.old) (R.log r.new)
         (W.log w.old) (W.log w.new) (E.log e.old) (E.log e.new) result }
 
+    // With an option or without it does what its options say, if they go together.
+    ensures options { RunsEpcIfAsked (map S.text words.entry.now) (R.log r.old) (R.log r.new)
+        (W.log w.old) (W.log w.new) (E.log e.old) (E.log e.new) result }
+
+    // With a file of company prefixes it is left to the program, which opens that and calls run_epc_by.
+    ensures file { LeavesFileIfAsked (map S.text words.entry.now) (R.log r.old) (R.log r.new)
+        (W.log w.old) (W.log w.new) (E.log e.old) (E.log e.new) result }
+
+    // If they ask for fields, it prints the lines of the tables.
+    ensures fields { FieldsIfAsked (map S.text words.entry.now) (R.log r.old) (R.log r.new)
+        (W.log w.old) (W.log w.new) (E.log e.old) (E.log e.new) result }
+
+    // If they ask for no command, or for help, nothing is read.
+    ensures refused { parses (map S.text words.entry.now) ≡ false → R.log r.new ≡ R.log r.old }
+
     // The other commands are left to the program.
     ensures elsewhere { AsksElsewhere (map S.text words.entry.now)
         → LeftAlone (R.log r.old) (R.log r.new) (W.log w.old) (W.log w.new) (E.log e.old)
@@ -382,9 +406,16 @@ pub fn run_command<S: AsStr, R: Source, W: Sink, E: Sink>(
             let outcome = encode(alloc, hex, set_of(all), limit, r, w);
             answer(fine_status(outcome), e)
         }
-        Request::Epc { text } => {
-            let outcome = run_epc(alloc, text, w);
-            answer(verdict_status(outcome), e)
+        Request::Epc(words) => match words.prefixes {
+            Some(_) => Ok(USAGE),
+            None => {
+                let outcome = epc(alloc, words, Company::Digits(words.company_digits), r, w);
+                answer_epc(outcome, mistake_of(words), e)
+            }
+        },
+        Request::Fields { all, name } => {
+            let outcome = fields(alloc, set_of(all), name, w);
+            answer_fields(outcome, e)
         }
         Request::Network(_) => Ok(USAGE),
         Request::Help(text) => {

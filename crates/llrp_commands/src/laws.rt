@@ -1,12 +1,12 @@
 //! Laws of how the words are parsed.
 
-ghost use Rattle.std.specs.Prelude.{List, Some, codes, true, ◌≡◌, ℕ};
-ghost use Rattle.llrp_commands.specs.Calls.Arguments.{AsksEncodeIfNamed, AsksEpc, AsksShowIfNamed, command_in, name_in, parses};
+ghost use Rattle.std.specs.Prelude.{List, ℕ};
+ghost use Rattle.llrp_commands.specs.Calls.Arguments.{AsksEncodeIfNamed, AsksEpcIfNamed, AsksFieldsIfNamed, AsksShowIfNamed};
 
-/// If the words are parsed and name epc, its text is there.
-pub fn epc_has_text()
-    ensures { (words : List (List ℕ)) → parses words ≡ true
-        → name_in (command_in words) ≡ Some (codes "epc") → (text : List ℕ) × AsksEpc words text }
+/// If the words are parsed and name epc, they ask for it with one text or none, and with each of its
+/// options or without.
+pub fn epc_has_words()
+    ensures { (words : List (List ℕ)) → AsksEpcIfNamed words }
 {}
 
 /// If the words are parsed and name show or encode, they ask for it with --hex or without, with
@@ -14,4 +14,10 @@ pub fn epc_has_text()
 pub fn show_and_encode_have_flag()
     ensures show { (words : List (List ℕ)) → AsksShowIfNamed words }
     ensures encode { (words : List (List ℕ)) → AsksEncodeIfNamed words }
+{}
+
+/// If the words are parsed and name fields, they ask for it with --all or without, and with one name
+/// or none.
+pub fn fields_has_flag()
+    ensures { (words : List (List ℕ)) → AsksFieldsIfNamed words }
 {}

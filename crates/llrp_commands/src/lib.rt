@@ -13,7 +13,15 @@
 
 mod arguments;
 mod command;
+mod epc;
+mod epc_table;
+mod fields;
 pub mod laws;
 
-pub use arguments::{NetworkCommand, PlanWords, network_command, reads_input};
+pub use arguments::{
+    AskWords, NetworkCommand, PlanWords, SimWords, StopWords, WatchWords, network_command,
+    reads_input,
+};
 pub use command::{LIMIT, USAGE, answer, run_command, write_refusal};
+pub use epc_table::{prefixes_file, refuse_table, run_epc_by};
+pub use llrp_keys::TableErr;

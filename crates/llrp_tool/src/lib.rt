@@ -5,7 +5,8 @@
 pub mod laws;
 
 pub use llrp_commands::{
-    LIMIT, NetworkCommand, PlanWords, USAGE, answer, network_command, reads_input, run_command,
+    AskWords, LIMIT, NetworkCommand, PlanWords, SimWords, StopWords, USAGE, WatchWords, answer,
+    network_command, reads_input, run_command,
 };
 pub use llrp_endpoints::{
     Action, Endpoint, Entry, Gathering, LineForm, Plan, PlanErr, PlanFault, Script, Serving,

@@ -1,5 +1,5 @@
 -- The words that the program takes after its name, and the command that they name.
-use Rattle.std.specs.Prelude.{◌≡◌, ◌≢◌, ◌⊎◌, ℕ, pos, List, [], ◌∷◌, Option, Some, None, Bool, true, false, codes, option_map, option_and_then}
+use Rattle.std.specs.Prelude.{◌≡◌, ◌≢◌, ◌⊎◌, ℕ, pos, ◌≤◌, List, [], ◌∷◌, Option, Some, None, Bool, true, false, codes, option_map, option_and_then}
 use Rattle.std.specs.Borrow.{Bor}
 use Rattle.std.specs.Str.Parse.{signed_digits_value}
 use Rattle.clap.specs.Words.{App, Rule, Row, Text, new_app, new_rule, with_rule, with_subcommand, subcommand_of, first_of}
@@ -9,7 +9,11 @@ use Rattle.clap.specs.declared.builder.ArgAction.TheVariants.{SetTrue}
 use Rattle.clap.specs.declared.builder.value_parser.ValueParser.TheVariants.{Signed}
 use Rattle.llrp_tree.specs.declared.TheConstants.{MAX_LIMIT}
 use Rattle.llrp_commands.specs.declared.arguments.NetworkCommand.{NetworkCommand}
-use Rattle.llrp_commands.specs.declared.arguments.NetworkCommand.TheVariants.{Sim, Inventory, Loop}
+use Rattle.llrp_commands.specs.declared.arguments.NetworkCommand.TheVariants.{Sim, Inventory, Loop, Watch, Stop, Ask}
+use Rattle.llrp_commands.specs.declared.arguments.ask_words.AskWords.{AskWords}
+use Rattle.llrp_commands.specs.declared.arguments.sim_words.SimWords.{SimWords}
+use Rattle.llrp_commands.specs.declared.arguments.watch_words.WatchWords.{WatchWords}
+use Rattle.llrp_commands.specs.declared.arguments.watch_words.StopWords.{StopWords}
 use Rattle.llrp_commands.specs.declared.arguments.PlanWords.{PlanWords}
 
 -- a flag
@@ -44,21 +48,20 @@ stream_app name = with_rule (with_rule (hex_app name) all_rule) limit_rule
 abbrev pub show_app : App
 show_app = with_rule (stream_app (codes "show")) json_rule
 
--- the argument TEXT, which must be given
+-- the argument TEXT
 abbrev pub text_rule : Rule
-text_rule = record (new_rule (codes "TEXT")) { required = true }
+text_rule = new_rule (codes "TEXT")
 
--- a command that has only that argument
-abbrev pub text_app : Text → App
-text_app name = with_rule (new_app name) text_rule
+-- the option --prefix-digits, a number from 6 to 12, and --filter, one from 0 to 7
+abbrev pub prefix_digits_rule : Rule
+prefix_digits_rule = record (new_rule (codes "prefix-digits")) { long = Some (codes "prefix-digits"); value_names = 1; parser = Some (Signed (pos 6) (pos 12)) }
+
+abbrev pub filter_rule : Rule
+filter_rule = record (new_rule (codes "filter")) { long = Some (codes "filter"); value_names = 1; parser = Some (Signed (pos 0) (pos 7)) }
 
 -- the argument PORT, a number from 1 to 65,535, which must be given
 abbrev pub port_rule : Rule
 port_rule = record (new_rule (codes "PORT")) { required = true; parser = Some (Signed (pos 1) (pos 65535)) }
-
--- sim PORT, with the flag --all
-abbrev pub sim_app : App
-sim_app = with_rule (with_rule (new_app (codes "sim")) port_rule) all_rule
 
 -- the argument HOST, which must be given
 abbrev pub host_rule : Rule
@@ -75,6 +78,34 @@ count_rule name = record (new_rule name) { long = Some name; value_names = 1; pa
 -- an option with a text
 abbrev pub text_option_rule : Text → Rule
 text_option_rule name = record (new_rule name) { long = Some name; value_names = 1 }
+
+-- a command with what test benches ask for
+abbrev pub with_bench : App → App
+with_bench a = with_rule (with_rule (with_rule a (text_option_rule (codes "bind"))) (number_rule (codes "clients"))) (flag_rule (codes "ready"))
+
+-- sim PORT, with the flag --all
+abbrev pub sim_app : App
+sim_app = with_bench (with_rule (with_rule (new_app (codes "sim")) port_rule) all_rule)
+
+-- a command with the flags --forms, --list and --json, and a form
+abbrev pub with_forms : App → App
+with_forms a = with_rule (with_rule (with_rule (with_rule a (flag_rule (codes "forms"))) (flag_rule (codes "list"))) json_rule) (text_option_rule (codes "to"))
+
+-- a command with what texts do not say
+abbrev pub with_unsaid : App → App
+with_unsaid a = with_rule (with_rule (with_rule a prefix_digits_rule) filter_rule) (text_option_rule (codes "prefixes"))
+
+-- epc, with a text and these options
+abbrev pub epc_app : App
+epc_app = with_unsaid (with_forms (with_rule (new_app (codes "epc")) text_rule))
+
+-- the argument NAME
+abbrev pub name_rule : Rule
+name_rule = new_rule (codes "NAME")
+
+-- fields, with a name and the flag --all
+abbrev pub fields_app : App
+fields_app = with_rule (with_rule (new_app (codes "fields")) name_rule) all_rule
 
 -- a command with the text of a plan and its three numbers
 abbrev pub with_numbers : App → App
@@ -100,17 +131,73 @@ inventory_app = with_rule (with_plan (with_address (new_app (codes "inventory"))
 abbrev pub loop_app : App
 loop_app = with_plan (new_app (codes "loop"))
 
+-- an option with a number from 1 to 4,294,967,295
+abbrev pub long_count_rule : Text → Rule
+long_count_rule name = record (new_rule name) { long = Some name; value_names = 1; parser = Some (Signed (pos 1) (pos 4294967295)) }
+
+-- the option --id, the id of a ROSpec
+abbrev pub id_rule : Rule
+id_rule = long_count_rule (codes "id")
+
+-- a command with the reader, the file of a ROSpec, and the ROSpec's id
+abbrev pub with_target : App → App
+with_target a = with_rule (with_rule (with_rule a host_rule) (text_option_rule (codes "rospec"))) id_rule
+
+-- a command with the three numbers and the flag of a client that lasts
+abbrev pub with_lasting : App → App
+with_lasting a = with_rule (with_rule (with_rule (with_rule a (count_rule (codes "every"))) (number_rule (codes "keepalive"))) (count_rule (codes "again"))) (flag_rule (codes "text"))
+
+-- the least that the longest message of watch may be bounded by: the client adds ROSpecs of so many octets
+abbrev pub least_longest : ℕ
+least_longest = 4096
+
+-- the option --limit of watch, a number from there to the greatest number of octets of a message, which it is where it is not given
+abbrev pub longest_rule : Rule
+longest_rule = record (new_rule (codes "limit")) { long = Some (codes "limit"); value_names = 1; parser = Some (Signed (pos least_longest) (pos MAX_LIMIT)); defaults = codes "1048576" ∷ [] }
+
+-- a command with the antennas of a ROSpec that is made, and the most octets of a message
+abbrev pub with_bounds : App → App
+with_bounds a = with_rule (with_rule a (text_option_rule (codes "antennas"))) longest_rule
+
+-- a command with a file for what the reader sends, and a flag for more to be said
+abbrev pub with_records : App → App
+with_records a = with_rule (with_rule a (text_option_rule (codes "save"))) (flag_rule (codes "verbose"))
+
+-- a command with the seconds after which it ends, and the name of the reader
+abbrev pub with_end : App → App
+with_end a = with_rule (with_rule a (long_count_rule (codes "for"))) (text_option_rule (codes "name"))
+
+-- watch HOST
+abbrev pub watch_app : App
+watch_app = with_end (with_records (with_bounds (with_lasting (with_target (new_app (codes "watch"))))))
+
+-- stop HOST
+abbrev pub stop_app : App
+stop_app = with_rule (with_target (new_app (codes "stop"))) (count_rule (codes "timeout"))
+
+-- the argument FILE, which must be given
+abbrev pub file_rule : Rule
+file_rule = record (new_rule (codes "FILE")) { required = true }
+
+-- ask HOST FILE
+abbrev pub ask_app : App
+ask_app = with_rule (with_rule (with_rule (with_rule (with_rule (with_rule (new_app (codes "ask")) host_rule) file_rule) json_rule) (count_rule (codes "timeout"))) (flag_rule (codes "go-on"))) (flag_rule (codes "raw"))
+
 -- the program before its commands, which has a version
 abbrev pub top_app : App
 top_app = let a = new_app (codes "llrp") in record a { top = record a.top { no_binary_name = true; subcommand_required = true; has_version = true } }
 
 -- the program before the commands that it runs itself
 abbrev pub streams_app : App
-streams_app = with_subcommand (with_subcommand (with_subcommand top_app show_app.top) (stream_app (codes "encode")).top) (text_app (codes "epc")).top
+streams_app = with_subcommand (with_subcommand (with_subcommand (with_subcommand top_app show_app.top) (stream_app (codes "encode")).top) epc_app.top) fields_app.top
 
--- the program: a command is wanted, and there are show, encode, epc, sim, inventory and loop
+-- the program before the commands that last
+abbrev pub runs_app : App
+runs_app = with_subcommand (with_subcommand (with_subcommand streams_app sim_app.top) inventory_app.top) loop_app.top
+
+-- the program: a command is wanted, and there are show, encode, epc, fields, sim, inventory, loop, watch, stop and ask
 unfoldable pub llrp_app : App
-llrp_app = with_subcommand (with_subcommand (with_subcommand streams_app sim_app.top) inventory_app.top) loop_app.top
+llrp_app = with_subcommand (with_subcommand (with_subcommand runs_app watch_app.top) stop_app.top) ask_app.top
 
 -- the parse of the words succeeds: nothing in them is a fault
 unfoldable pub parses : List Text → Bool
@@ -176,12 +263,6 @@ AsksEncodeIfNamed words =
     parses words ≡ true → name_in (command_in words) ≡ Some (codes "encode")
     → (hex : Bool) × (all : Bool) × (limit : ℕ) × Asks words (codes "encode") hex all limit
 
--- The words name epc, with this text.
-pub record AsksEpc (words : List Text) (text : Text) : Type 0 where
-  pub parsed : parses words ≡ true
-  pub named : name_in (command_in words) ≡ Some (codes "epc")
-  pub given : word_in (codes "TEXT") (command_in words) ≡ Some text
-
 -- The words name a command that reads standard input to its end.
 pub record AsksForInput (words : List Text) : Type 0 where
   pub parsed : parses words ≡ true
@@ -193,6 +274,7 @@ pub record AsksElsewhere (words : List Text) : Type 0 where
   pub no_show : name_in (command_in words) ≢ Some (codes "show")
   pub no_encode : name_in (command_in words) ≢ Some (codes "encode")
   pub no_epc : name_in (command_in words) ≢ Some (codes "epc")
+  pub no_fields : name_in (command_in words) ≢ Some (codes "fields")
 
 -- the option was given with a word that spells this number, or it was not given
 abbrev pub HasOptionalNumber : Text → Option (Text × List Row) → Option ℕ → Type 0
@@ -203,6 +285,40 @@ HasOptionalNumber id found None = word_in id found ≡ None
 abbrev pub HasOptionalText : Text → Option (Text × List Row) → Option (Bor Text) → Type 0
 HasOptionalText id found text = word_in id found ≡ option_map (λ t. t.now) text
 
+-- The words name epc, with or without a text, --forms, --list, --json, a form, a number of digits, a filter value and a file of company prefixes.
+pub record AsksEpcWith (words : List Text) (text : Option Text) (forms list json : Bool) (to : Option Text) (count filter : Option ℕ) (file : Option Text) : Type 0 where
+  pub parsed : parses words ≡ true
+  pub named : name_in (command_in words) ≡ Some (codes "epc")
+  pub given : word_in (codes "TEXT") (command_in words) ≡ text
+  pub all : IsFlag (flag_in (codes "forms") (command_in words)) forms
+  pub lines : IsFlag (flag_in (codes "list") (command_in words)) list
+  pub object : IsFlag (json_in (command_in words)) json
+  pub form : word_in (codes "to") (command_in words) ≡ to
+  pub digits : HasOptionalNumber (codes "prefix-digits") (command_in words) count
+  pub value : HasOptionalNumber (codes "filter") (command_in words) filter
+  pub table : word_in (codes "prefixes") (command_in words) ≡ file
+
+-- The words name epc, with this text and no option.
+abbrev pub AsksEpc : List Text → Text → Type 0
+AsksEpc words text = AsksEpcWith words (Some text) false false false None None None None
+
+-- if the words are parsed and name epc, they ask for it with one text or none, and each option or not
+abbrev pub AsksEpcIfNamed : List Text → Type 0
+AsksEpcIfNamed words =
+    parses words ≡ true → name_in (command_in words) ≡ Some (codes "epc")
+    → (text : Option Text) × (forms : Bool) × (list : Bool) × (json : Bool) × (to : Option Text) × (count filter : Option ℕ) × (file : Option Text) × AsksEpcWith words text forms list json to count filter file
+
+-- The words name epc with this file of company prefixes.
+pub record AsksEpcFile (words : List Text) (file : Text) : Type 0 where
+  pub parsed : parses words ≡ true
+  pub named : name_in (command_in words) ≡ Some (codes "epc")
+  pub table : word_in (codes "prefixes") (command_in words) ≡ Some file
+
+-- the file that the words name so, or none where they name none
+abbrev pub FileAsked : List Text → Option (Bor Text) → Type 0
+FileAsked words (Some file) = AsksEpcFile words file.now
+FileAsked words None = (file : Text) → AsksEpcFile words file → ⊥
+
 -- these are the options of a plan
 abbrev pub IsPlan : Option (Text × List Row) → PlanWords → Type 0
 IsPlan found plan =
@@ -211,13 +327,50 @@ IsPlan found plan =
     × IsFlag (flag_in (codes "check") found) plan.check × IsFlag (flag_in (codes "clean") found) plan.clean
     × IsFlag (json_in found) plan.json × IsFlag (all_in found) plan.all
 
+-- these are the port and the options of sim
+abbrev pub IsSim : Option (Text × List Row) → SimWords → Type 0
+IsSim found words =
+    HasNumber (codes "PORT") found words.port × IsFlag (all_in found) words.all
+    × HasOptionalText (codes "bind") found words.bind × HasOptionalNumber (codes "clients") found words.clients
+    × IsFlag (flag_in (codes "ready") found) words.ready
+
+-- these are the options of watch
+abbrev pub IsWatch : Option (Text × List Row) → WatchWords → Type 0
+IsWatch found words =
+    HasOptionalText (codes "rospec") found words.rospec × HasOptionalNumber (codes "id") found words.id
+    × HasOptionalNumber (codes "every") found words.every × HasOptionalNumber (codes "keepalive") found words.keepalive
+    × HasOptionalNumber (codes "again") found words.again × IsFlag (flag_in (codes "text") found) words.text
+    × HasOptionalText (codes "antennas") found words.antennas × HasNumber (codes "limit") found words.limit
+    × HasOptionalText (codes "save") found words.save × IsFlag (flag_in (codes "verbose") found) words.verbose
+    × HasOptionalNumber (codes "for") found words.seconds × HasOptionalText (codes "name") found words.name
+
+-- these are those of stop
+abbrev pub IsStop : Option (Text × List Row) → StopWords → Type 0
+IsStop found words = HasOptionalText (codes "rospec") found words.rospec × HasOptionalNumber (codes "id") found words.id × HasOptionalNumber (codes "timeout") found words.timeout
+
+-- these are those of ask
+abbrev pub IsAsk : Option (Text × List Row) → AskWords → Type 0
+IsAsk found words = (word_in (codes "FILE") found ≡ Some words.file.now) × IsFlag (json_in found) words.json × HasOptionalNumber (codes "timeout") found words.timeout × IsFlag (flag_in (codes "go-on") found) words.goes_on × IsFlag (flag_in (codes "raw") found) words.raw
+
 -- the command that was found is this one, with these arguments
 abbrev pub IsNetwork : Option (Text × List Row) → NetworkCommand → Type 0
-IsNetwork found (Sim port all) = (name_in found ≡ Some (codes "sim")) × HasNumber (codes "PORT") found port × IsFlag (all_in found) all
+IsNetwork found (Sim words) = (name_in found ≡ Some (codes "sim")) × IsSim found words
 IsNetwork found (Inventory host port plan timeout) =
     (name_in found ≡ Some (codes "inventory")) × (word_in (codes "HOST") found ≡ Some host.now) × HasNumber (codes "PORT") found port
     × IsPlan found plan × HasOptionalNumber (codes "timeout") found timeout
 IsNetwork found (Loop plan) = (name_in found ≡ Some (codes "loop")) × IsPlan found plan
+IsNetwork found (Watch host words) = (name_in found ≡ Some (codes "watch")) × (word_in (codes "HOST") found ≡ Some host.now) × IsWatch found words
+IsNetwork found (Ask host words) = (name_in found ≡ Some (codes "ask")) × (word_in (codes "HOST") found ≡ Some host.now) × IsAsk found words
+IsNetwork found (Stop host words) = (name_in found ≡ Some (codes "stop")) × (word_in (codes "HOST") found ≡ Some host.now) × IsStop found words
+
+-- a client can be made with so many octets of a message at most
+abbrev pub IsLongest : ℕ → Type 0
+IsLongest limit = (least_longest ≤ limit) × (limit ≤ MAX_LIMIT)
+
+-- the most octets of a message are so many
+abbrev pub IsBounded : NetworkCommand → Type 0
+IsBounded (Watch host words) = IsLongest words.limit
+IsBounded command = Unit {0}
 
 -- The words name this command, which the program runs itself.
 abbrev pub AsksNetwork : List Text → NetworkCommand → Type 0
@@ -227,3 +380,15 @@ AsksNetwork words command = (parses words ≡ true) × IsNetwork (command_in wor
 abbrev pub NetworkAsked : List Text → Option NetworkCommand → Type 0
 NetworkAsked words (Some command) = AsksNetwork words command
 NetworkAsked words None = (command : NetworkCommand) → AsksNetwork words command → ⊥
+
+-- The words name fields, with --all or without, and with a name or without.
+pub record AsksFields (words : List Text) (all : Bool) (name : Option Text) : Type 0 where
+  pub parsed : parses words ≡ true
+  pub named : name_in (command_in words) ≡ Some (codes "fields")
+  pub kinds : IsFlag (all_in (command_in words)) all
+  pub given : word_in (codes "NAME") (command_in words) ≡ name
+
+-- if the words are parsed and name fields, they ask for it with --all or without, and with one name or none
+abbrev pub AsksFieldsIfNamed : List Text → Type 0
+AsksFieldsIfNamed words =
+    parses words ≡ true → name_in (command_in words) ≡ Some (codes "fields") → (all : Bool) × (name : Option Text) × AsksFields words all name

@@ -2,8 +2,8 @@
 use Rattle.std.specs.Prelude.{◌≡◌, ℕ, ◌⊎◌, List, [], ◌∷◌, ◌++◌, Bool, true, false, Result, Ok, Err, codes, decimal}
 use Rattle.clap.specs.Words.{Text}
 use Rattle.hex.specs.Hex.{encode_upper}
-use Rattle.llrp_schema.specs.declared.kinds.Profile.{Profile}
-use Rattle.llrp_schema.specs.declared.kinds.Profile.TheVariants.{Own, Whole}
+use Rattle.llrp_schema.specs.declared.kinds.KindSet.{KindSet}
+use Rattle.llrp_schema.specs.declared.kinds.KindSet.TheVariants.{Profile, Standard}
 use Rattle.llrp_listing.specs.declared.outcome.Refusal.{Refusal}
 use Rattle.llrp_listing.specs.declared.outcome.ToolErr.{ToolErr}
 use Rattle.llrp_listing.specs.declared.outcome.ToolErr.TheVariants.{Listing, Script, Hex, Read, Write, Bound, Memory, Broken, Peer, Strange, Early}
@@ -24,9 +24,9 @@ use Rattle.llrp_json.specs.JsonLines.{ShowsJson}
 use Rattle.llrp_commands.specs.Calls.Arguments.{Asks, AsksEpc, AsksShow}
 
 -- the set of kinds that a command takes, with --all or without
-abbrev pub set_of : Bool → Profile
-set_of false = Own
-set_of true = Whole
+abbrev pub set_of : Bool → KindSet
+set_of false = Profile
+set_of true = Standard
 
 -- the exit status of a verdict
 abbrev pub status_of : Verdict → ℕ
@@ -77,34 +77,34 @@ Answers (Err error) e0 e1 (Ok status) = (status ≡ error_status error) × Wrote
 Answers (Err error) e0 e1 (Err fault) = (fault ≡ Write) × (front : List ℕ) × IsPrefix front (error_line error) × WroteAndFailed e0 e1 front
 
 -- the listing of bytes was written, or with --json their lines
-abbrev pub ListedInForm : Bool → Profile → ℕ → List ℕ → SinkLog → SinkLog → Verdict → Type 0
+abbrev pub ListedInForm : Bool → KindSet → ℕ → List ℕ → SinkLog → SinkLog → Verdict → Type 0
 ListedInForm false p limit bytes w0 w1 verdict = ListedIn p limit bytes w0 w1 verdict
 ListedInForm true p limit bytes w0 w1 verdict = ListedJson p limit bytes w0 w1 verdict
 
 -- a front of them was
-abbrev pub StoppedInForm : Bool → Profile → ℕ → List ℕ → SinkLog → SinkLog → ToolErr → Type 0
+abbrev pub StoppedInForm : Bool → KindSet → ℕ → List ℕ → SinkLog → SinkLog → ToolErr → Type 0
 StoppedInForm false p limit bytes w0 w1 error = StoppedIn p limit bytes w0 w1 error
 StoppedInForm true p limit bytes w0 w1 error = StoppedJson p limit bytes w0 w1 error
 
 -- what show of bytes did, by its answer
-abbrev pub ShowsInForm : Bool → Profile → ℕ → SourceLog → SourceLog → SinkLog → SinkLog → Result Verdict ToolErr → Type 0
+abbrev pub ShowsInForm : Bool → KindSet → ℕ → SourceLog → SourceLog → SinkLog → SinkLog → Result Verdict ToolErr → Type 0
 ShowsInForm false p limit r0 r1 w0 w1 outcome = ShowsIn p limit r0 r1 w0 w1 outcome
 ShowsInForm true p limit r0 r1 w0 w1 outcome = ShowsJson p limit r0 r1 w0 w1 outcome
 
 -- Show of hexadecimal digits stopped: while it read, in what it had read, or while it listed the bytes.
-abbrev pub ShowDigitsStopped : Bool → Profile → ℕ → SourceLog → SourceLog → SinkLog → SinkLog → List ℕ → ToolErr → Type 0
+abbrev pub ShowDigitsStopped : Bool → KindSet → ℕ → SourceLog → SourceLog → SinkLog → SinkLog → List ℕ → ToolErr → Type 0
 ShowDigitsStopped json p limit r0 r1 w0 w1 text error =
     (ReadStopped r0 r1 text error × (w1 ≡ w0))
     ⊎ (ReadAll r0 r1 text × (w1 ≡ w0) × ((error ≡ Memory) ⊎ ((error ≡ Hex) × IsNoHex text)))
     ⊎ (ReadAll r0 r1 text × (bytes : List ℕ) × IsHexOf text bytes × StoppedInForm json p limit bytes w0 w1 error)
 
 -- What show of hexadecimal digits did, by its answer.
-abbrev pub ShowsDigits : Bool → Profile → ℕ → SourceLog → SourceLog → SinkLog → SinkLog → Result Verdict ToolErr → Type 0
+abbrev pub ShowsDigits : Bool → KindSet → ℕ → SourceLog → SourceLog → SinkLog → SinkLog → Result Verdict ToolErr → Type 0
 ShowsDigits json p limit r0 r1 w0 w1 (Ok verdict) = (text bytes : List ℕ) × ReadAll r0 r1 text × IsHexOf text bytes × ListedInForm json p limit bytes w0 w1 verdict
 ShowsDigits json p limit r0 r1 w0 w1 (Err error) = (text : List ℕ) × ShowDigitsStopped json p limit r0 r1 w0 w1 text error
 
 -- What show did in a set of kinds, with --json or without and with --hex or without, by its verdict.
-abbrev pub DoesShow : Bool → Bool → Profile → (limit : ℕ) → SourceLog → SourceLog → SinkLog → SinkLog → Result Verdict ToolErr → Type 0
+abbrev pub DoesShow : Bool → Bool → KindSet → (limit : ℕ) → SourceLog → SourceLog → SinkLog → SinkLog → Result Verdict ToolErr → Type 0
 DoesShow json false p limit r0 r1 w0 w1 outcome = ShowsInForm json p limit r0 r1 w0 w1 outcome
 DoesShow json true p limit r0 r1 w0 w1 outcome = ShowsDigits json p limit r0 r1 w0 w1 outcome
 
@@ -114,7 +114,7 @@ digit_line [] = []
 digit_line (byte ∷ bytes) = encode_upper (byte ∷ bytes) ++ codes "\n"
 
 -- No encoding was made of what was read, for this reason.
-abbrev pub NotEncoded : Profile → ℕ → SourceLog → SourceLog → ToolErr → Type 0
+abbrev pub NotEncoded : KindSet → ℕ → SourceLog → SourceLog → ToolErr → Type 0
 NotEncoded p limit r0 r1 (Listing line reason) = (bytes : List ℕ) × ListingRefusedIn p limit r0 r1 line reason bytes
 NotEncoded p limit r0 r1 Read = (n : ℕ) × (front : List ℕ) × GaveAndFailed r0 r1 n front
 NotEncoded p limit r0 r1 Bound = (front : List ℕ) × Gave r0 r1 MOST_READS front
@@ -122,21 +122,21 @@ NotEncoded p limit r0 r1 Memory = (front : List ℕ) × WasRead r0 r1 front
 NotEncoded p limit r0 r1 _ = ⊥
 
 -- a front of the digits of the encoding was written, and then a write failed
-abbrev pub DigitsUnwritten : Profile → ℕ → SourceLog → SourceLog → SinkLog → SinkLog → Type 0
+abbrev pub DigitsUnwritten : KindSet → ℕ → SourceLog → SourceLog → SinkLog → SinkLog → Type 0
 DigitsUnwritten p limit r0 r1 w0 w1 = (text bytes front : List ℕ) × ReadAll r0 r1 text × EncodesIn p limit text bytes × IsPrefix front (digit_line bytes) × WroteAndFailed w0 w1 front
 
 -- What encode to hexadecimal digits did, by its answer.
-abbrev pub EncodesDigits : Profile → ℕ → SourceLog → SourceLog → SinkLog → SinkLog → Result (Unit {0}) ToolErr → Type 0
+abbrev pub EncodesDigits : KindSet → ℕ → SourceLog → SourceLog → SinkLog → SinkLog → Result (Unit {0}) ToolErr → Type 0
 EncodesDigits p limit r0 r1 w0 w1 (Ok u) = (text bytes : List ℕ) × ReadAll r0 r1 text × EncodesIn p limit text bytes × Wrote w0 w1 (digit_line bytes)
 EncodesDigits p limit r0 r1 w0 w1 (Err error) = ((w1 ≡ w0) × NotEncoded p limit r0 r1 error) ⊎ ((error ≡ Write) × DigitsUnwritten p limit r0 r1 w0 w1)
 
 -- What encode did, by its answer.
-abbrev pub EncodesBytes : Profile → ℕ → SourceLog → SourceLog → SinkLog → SinkLog → Result (Unit {0}) ToolErr → Type 0
+abbrev pub EncodesBytes : KindSet → ℕ → SourceLog → SourceLog → SinkLog → SinkLog → Result (Unit {0}) ToolErr → Type 0
 EncodesBytes p limit r0 r1 w0 w1 (Ok u) = EncodedIn p limit r0 r1 w0 w1
 EncodesBytes p limit r0 r1 w0 w1 (Err error) = EncodeStoppedIn p limit r0 r1 w0 w1 error
 
 -- What encode did in a set of kinds, with --hex or without.
-abbrev pub DoesEncode : Bool → Profile → (limit : ℕ) → SourceLog → SourceLog → SinkLog → SinkLog → Result (Unit {0}) ToolErr → Type 0
+abbrev pub DoesEncode : Bool → KindSet → (limit : ℕ) → SourceLog → SourceLog → SinkLog → SinkLog → Result (Unit {0}) ToolErr → Type 0
 DoesEncode false p limit r0 r1 w0 w1 outcome = EncodesBytes p limit r0 r1 w0 w1 outcome
 DoesEncode true p limit r0 r1 w0 w1 outcome = EncodesDigits p limit r0 r1 w0 w1 outcome
 
@@ -158,13 +158,13 @@ fine_status (Ok u) = Ok 0
 fine_status (Err error) = Err error
 
 -- Show ran to this answer.
-abbrev pub RanShow : Bool → Bool → Profile → (limit : ℕ) → SourceLog → SourceLog → SinkLog → SinkLog → SinkLog → SinkLog → Result ℕ ToolErr → Type 0
+abbrev pub RanShow : Bool → Bool → KindSet → (limit : ℕ) → SourceLog → SourceLog → SinkLog → SinkLog → SinkLog → SinkLog → Result ℕ ToolErr → Type 0
 RanShow json hex p limit r0 r1 w0 w1 e0 e1 answer =
     IsNotBegun r0 r1 w0 w1 e0 e1 answer
     ⊎ ((outcome : Result Verdict ToolErr) × DoesShow json hex p limit r0 r1 w0 w1 outcome × Answers (verdict_status outcome) e0 e1 answer)
 
 -- Encode ran to this answer.
-abbrev pub RanEncode : Bool → Profile → (limit : ℕ) → SourceLog → SourceLog → SinkLog → SinkLog → SinkLog → SinkLog → Result ℕ ToolErr → Type 0
+abbrev pub RanEncode : Bool → KindSet → (limit : ℕ) → SourceLog → SourceLog → SinkLog → SinkLog → SinkLog → SinkLog → Result ℕ ToolErr → Type 0
 RanEncode hex p limit r0 r1 w0 w1 e0 e1 answer =
     IsNotBegun r0 r1 w0 w1 e0 e1 answer
     ⊎ ((outcome : Result (Unit {0}) ToolErr) × DoesEncode hex p limit r0 r1 w0 w1 outcome × Answers (fine_status outcome) e0 e1 answer)

@@ -1,10 +1,12 @@
 -- Beside Calls/Words: words of private functions.
-use Rattle.std.specs.Prelude.{◌≡◌, ◌≤◌, ℕ, List, Option, Some, Bool, codes}
+use Rattle.std.specs.Prelude.{◌≡◌, ◌<◌, ◌≤◌, ℕ, List, IfSome, Option, Some, Bool, codes}
+use Rattle.std.specs.Int.{IsInRange}
 use Rattle.clap.specs.Words.{Row, Text}
 use Rattle.llrp_tree.specs.declared.TheConstants.{MAX_LIMIT}
 use Rattle.llrp_commands.specs.declared.arguments.Request.{Request}
-use Rattle.llrp_commands.specs.declared.arguments.Request.TheVariants.{Show, Encode, Epc, Network, Help, Usage}
-use Rattle.llrp_commands.specs.Calls.Arguments.{all_in, json_in, name_in, hex_in, word_in, HasNumber, IsFlag, IsNetwork}
+use Rattle.llrp_commands.specs.declared.arguments.epc_words.EpcWords.{EpcWords}
+use Rattle.llrp_commands.specs.declared.arguments.Request.TheVariants.{Show, Encode, Epc, Fields, Network, Help, Usage}
+use Rattle.llrp_commands.specs.Calls.Arguments.{all_in, json_in, name_in, hex_in, flag_in, HasNumber, HasOptionalNumber, HasOptionalText, IsBounded, IsFlag, IsNetwork}
 
 -- the flag is this one, if it says what a flag may say
 abbrev pub HasFlag : Option Text → Bool → Type 0
@@ -14,12 +16,23 @@ HasFlag found hex = (asked : Bool) → IsFlag found asked → hex ≡ asked
 abbrev pub IsLimit : ℕ → Type 0
 IsLimit limit = (10 ≤ limit) × (limit ≤ MAX_LIMIT)
 
--- the limit of what is requested, where it has one, is such a limit
+-- what texts do not say is a number of digits that company prefixes can have, and a filter value
+abbrev pub IsUnsaid : EpcWords → Type 0
+IsUnsaid words = IfSome words.company_digits (λ count. IsInRange 6 12 count) × IfSome words.filter (λ value. value < 8)
+
+-- these are the options of epc
+abbrev pub IsEpc : Option (Text × List Row) → EpcWords → Type 0
+IsEpc found words =
+    HasOptionalText (codes "TEXT") found words.text × IsFlag (flag_in (codes "forms") found) words.forms × IsFlag (flag_in (codes "list") found) words.list
+    × IsFlag (json_in found) words.json × HasOptionalText (codes "to") found words.to × HasOptionalNumber (codes "prefix-digits") found words.company_digits × HasOptionalNumber (codes "filter") found words.filter × HasOptionalText (codes "prefixes") found words.prefixes
+
+-- the limit of what is requested, where it has one, is such a limit, that of watch one of a client, and what texts do not say is as above
 abbrev pub HasLimit : Request → Type 0
 HasLimit (Show hex all json limit) = IsLimit limit
 HasLimit (Encode hex all limit) = IsLimit limit
-HasLimit (Epc text) = Unit {0}
-HasLimit (Network command) = Unit {0}
+HasLimit (Epc words) = IsUnsaid words
+HasLimit (Fields all name) = Unit {0}
+HasLimit (Network command) = IsBounded command
 HasLimit (Help text) = Unit {0}
 HasLimit (Usage text) = Unit {0}
 
@@ -28,6 +41,7 @@ abbrev pub IsRequest : Option (Text × List Row) → Request → Type 0
 IsRequest found (Show hex all json limit) =
     (name_in found ≡ Some (codes "show")) × HasFlag (hex_in found) hex × HasFlag (all_in found) all × HasFlag (json_in found) json × HasNumber (codes "limit") found limit
 IsRequest found (Encode hex all limit) = (name_in found ≡ Some (codes "encode")) × HasFlag (hex_in found) hex × HasFlag (all_in found) all × HasNumber (codes "limit") found limit
-IsRequest found (Epc text) = (name_in found ≡ Some (codes "epc")) × (word_in (codes "TEXT") found ≡ Some text.now)
+IsRequest found (Epc words) = (name_in found ≡ Some (codes "epc")) × IsEpc found words
+IsRequest found (Fields all name) = (name_in found ≡ Some (codes "fields")) × HasFlag (all_in found) all × HasOptionalText (codes "NAME") found name
 IsRequest found (Network command) = IsNetwork found command
 IsRequest found _ = ⊥

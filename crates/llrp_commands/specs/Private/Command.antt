@@ -1,6 +1,6 @@
 -- Beside Calls/Command: words of private functions.
 use Rattle.std.specs.Prelude.{ℕ, List, Result, Ok, Err}
-use Rattle.llrp_schema.specs.declared.kinds.Profile.{Profile}
+use Rattle.llrp_schema.specs.declared.kinds.KindSet.{KindSet}
 use Rattle.llrp_listing.specs.declared.outcome.ToolErr.{ToolErr}
 use Rattle.llrp_listing.specs.declared.outcome.ToolErr.TheVariants.{Listing, Script, Hex, Read, Write, Bound, Memory, Broken, Peer, Strange, Early}
 use Rattle.llrp_listing.specs.Copying.{ReadAll}
@@ -9,7 +9,7 @@ use Rattle.llrp_listing.specs.Encoding.{EncodesIn}
 use Rattle.llrp_commands.specs.Calls.Command.{NotEncoded}
 
 -- the encoding of all that was read, or why there is none
-abbrev pub Gathers : Profile → ℕ → SourceLog → SourceLog → Result (List ℕ) ToolErr → Type 0
+abbrev pub Gathers : KindSet → ℕ → SourceLog → SourceLog → Result (List ℕ) ToolErr → Type 0
 Gathers p limit r0 r1 (Ok bytes) = (text : List ℕ) × ReadAll r0 r1 text × EncodesIn p limit text bytes
 Gathers p limit r0 r1 (Err error) = NotEncoded p limit r0 r1 error
 

@@ -4,7 +4,7 @@ use Rattle.clap.specs.Words.{Row, Text, first_of, without_minus}
 use Rattle.clap.specs.Values.{IsSignedIn}
 use Rattle.clap.specs.Walk.{one_of}
 use Rattle.llrp_tree.specs.declared.TheConstants.{MAX_LIMIT}
-use Rattle.llrp_commands.specs.Calls.Arguments.{IsFlag}
+use Rattle.llrp_commands.specs.Calls.Arguments.{IsFlag, least_longest}
 use Rattle.llrp_commands.specs.declared.arguments.Request.{Request}
 use Rattle.llrp_commands.specs.declared.arguments.Request.TheVariants.{Help, Usage}
 
@@ -27,6 +27,10 @@ HasNumberWord id rows = HasNumberIn 0 65535 id rows
 abbrev pub HasLimitWord : Text → List Row → Type 0
 HasLimitWord id rows = HasNumberIn 10 MAX_LIMIT id rows
 
+-- an option that may be given: it has no word, or one that spells a number in a range
+abbrev pub MayHaveNumberIn : ℕ → ℕ → Text → List Row → Type 0
+MayHaveNumberIn low high id rows = ((one_of id rows ≡ None) × (first_of id rows ≡ None)) ⊎ HasNumberIn low high id rows
+
 -- a flag says that it was given, or that it was not
 abbrev pub HasFlagWord : Text → List Row → Type 0
 HasFlagWord id rows = (given : Bool) × IsFlag (one_of id rows) given
@@ -41,12 +45,42 @@ HasPlan rows =
     MayHaveNumberWord (codes "every") rows × MayHaveNumberWord (codes "polls") rows × MayHaveNumberWord (codes "reports") rows
     × HasFlagWord (codes "check") rows × HasFlagWord (codes "clean") rows × HasFlagWord (codes "json") rows × HasFlagWord (codes "all") rows
 
--- sim, inventory or loop, with what they need
+-- an option that may be given: it has no word, or one that spells a number from 1 to 4,294,967,295
+abbrev pub MayHaveLongCount : Text → List Row → Type 0
+MayHaveLongCount id rows = MayHaveNumberIn 1 4294967295 id rows
+
+-- the numbers of watch may be there, and its flags and its limit are
+abbrev pub HasWatch : List Row → Type 0
+HasWatch rows =
+    MayHaveLongCount (codes "id") rows × MayHaveNumberWord (codes "every") rows × MayHaveNumberWord (codes "keepalive") rows × MayHaveNumberWord (codes "again") rows
+    × HasFlagWord (codes "text") rows × HasNumberIn least_longest MAX_LIMIT (codes "limit") rows
+    × HasFlagWord (codes "verbose") rows × MayHaveLongCount (codes "for") rows
+
+-- the numbers of stop may be there
+abbrev pub HasStop : List Row → Type 0
+HasStop rows = MayHaveLongCount (codes "id") rows × MayHaveNumberWord (codes "timeout") rows
+
+-- the file and the flags of ask are there, and its number may be
+abbrev pub HasAsk : List Row → Type 0
+HasAsk rows = HasWord (codes "FILE") rows × HasFlagWord (codes "json") rows × MayHaveNumberWord (codes "timeout") rows × HasFlagWord (codes "go-on") rows × HasFlagWord (codes "raw") rows
+
+-- the flags of epc are there, and its numbers may be
+abbrev pub HasEpc : List Row → Type 0
+HasEpc rows = HasFlagWord (codes "forms") rows × HasFlagWord (codes "list") rows × HasFlagWord (codes "json") rows × MayHaveNumberIn 6 12 (codes "prefix-digits") rows × MayHaveNumberIn 0 7 (codes "filter") rows
+
+-- the port and the flags of sim are there, and its number may be
+abbrev pub HasSim : List Row → Type 0
+HasSim rows = HasNumberWord (codes "PORT") rows × HasFlagWord (codes "all") rows × MayHaveNumberWord (codes "clients") rows × HasFlagWord (codes "ready") rows
+
+-- sim, inventory, loop, watch, stop or ask, with what they need
 abbrev pub IsNetworkParse : Text → List Row → Type 0
 IsNetworkParse name rows =
-    ((name ≡ codes "sim") × HasNumberWord (codes "PORT") rows × HasFlagWord (codes "all") rows)
+    ((name ≡ codes "sim") × HasSim rows)
     ⊎ ((name ≡ codes "inventory") × HasWord (codes "HOST") rows × HasNumberWord (codes "PORT") rows × HasPlan rows × MayHaveNumberWord (codes "timeout") rows)
     ⊎ ((name ≡ codes "loop") × HasPlan rows)
+    ⊎ ((name ≡ codes "watch") × HasWord (codes "HOST") rows × HasWatch rows)
+    ⊎ ((name ≡ codes "stop") × HasWord (codes "HOST") rows × HasStop rows)
+    ⊎ ((name ≡ codes "ask") × HasWord (codes "HOST") rows × HasAsk rows)
 
 -- the flags and the limit of a command over a stream
 abbrev pub HasStreamWords : List Row → Type 0
@@ -56,11 +90,19 @@ HasStreamWords rows = HasFlagWord (codes "hex") rows × HasFlagWord (codes "all"
 abbrev pub HasShowWords : List Row → Type 0
 HasShowWords rows = HasStreamWords rows × HasFlagWord (codes "json") rows
 
+-- the flag of fields is there
+abbrev pub HasFields : List Row → Type 0
+HasFields rows = HasFlagWord (codes "all") rows
+
+-- epc or fields, with what they need
+abbrev pub IsTextParse : Text → List Row → Type 0
+IsTextParse name rows = ((name ≡ codes "epc") × HasEpc rows) ⊎ ((name ≡ codes "fields") × HasFields rows)
+
 -- a command, with what it needs
 abbrev pub IsParse : Text → List Row → Type 0
 IsParse name rows =
     ((name ≡ codes "show") × HasShowWords rows) ⊎ ((name ≡ codes "encode") × HasStreamWords rows)
-    ⊎ ((name ≡ codes "epc") × HasWord (codes "TEXT") rows) ⊎ IsNetworkParse name rows
+    ⊎ IsTextParse name rows ⊎ IsNetworkParse name rows
 
 -- a command was found, with what it needs
 abbrev pub IsFound : Option (Text × List Row) → Type 0

@@ -3,11 +3,14 @@
 ghost use Rattle.std.specs.Prelude.{◌≡◌, IfOk, codes, false};
 ghost use Rattle.clap.specs.Words.{App, app_of, rule_of, with_rule, with_subcommand};
 ghost use Rattle.clap.specs.declared.builder.command.Command.TheViews.{out-Command};
-ghost use Rattle.llrp_commands.specs.Calls.Arguments.{all_rule, count_rule, flag_rule, hex_app, inventory_app, json_rule, limit_rule, llrp_app, loop_app, number_rule, port_rule, show_app, sim_app, stream_app, streams_app, text_app, text_option_rule, top_app, with_address, with_flags, with_numbers, with_plan};
+ghost use Rattle.llrp_commands.specs.Calls.Arguments.{all_rule, count_rule, flag_rule, hex_app, inventory_app, json_rule, limit_rule, llrp_app, loop_app, number_rule, port_rule, runs_app, show_app, stream_app, streams_app, text_option_rule, top_app, with_address, with_flags, with_numbers, with_plan};
 
-use crate::arguments::help::{
-    ENCODE_HELP, EPC_HELP, INVENTORY_HELP, LOOP_HELP, SHOW_HELP, SIM_HELP,
-};
+use crate::arguments::ask_commands::ask_command;
+use crate::arguments::epc_commands::epc_command;
+use crate::arguments::fields_command::fields_command;
+use crate::arguments::help::{ENCODE_HELP, INVENTORY_HELP, LOOP_HELP, SHOW_HELP};
+use crate::arguments::sim_commands::sim_command;
+use crate::arguments::watch_commands::{stop_command, watch_command};
 use clap::{Arg, ArgAction, Command, value_parser};
 use llrp_tree::MAX_LIMIT;
 use std::alloc::{AllocError, Global};
@@ -37,7 +40,7 @@ fn hex_command<'a>(
 }
 
 /// The flag --all.
-fn all_flag<'a>(alloc: Global, help: &'a str) -> Arg<'a>
+pub(super) fn all_flag<'a>(alloc: Global, help: &'a str) -> Arg<'a>
     ensures rule { rule_of result ≡ all_rule }
     ensures local { result.global ≡ false }
 {
@@ -89,7 +92,7 @@ fn stream_command<'a>(
 }
 
 /// The argument PORT, from 1 to 65,535, which is required.
-fn port_argument<'a>(alloc: Global, port: &'a str) -> Arg<'a>
+pub(super) fn port_argument<'a>(alloc: Global, port: &'a str) -> Arg<'a>
     ensures rule { rule_of result ≡ port_rule }
     ensures local { result.global ≡ false }
 {
@@ -100,7 +103,12 @@ fn port_argument<'a>(alloc: Global, port: &'a str) -> Arg<'a>
 }
 
 /// An option with a number from 0 to 65,535.
-fn number_option<'a>(alloc: Global, name: &'a str, value: &'a str, help: &'a str) -> Arg<'a>
+pub(super) fn number_option<'a>(
+    alloc: Global,
+    name: &'a str,
+    value: &'a str,
+    help: &'a str,
+) -> Arg<'a>
     ensures rule { rule_of result ≡ number_rule name.entry.now }
     ensures local { result.global ≡ false }
 {
@@ -112,7 +120,12 @@ fn number_option<'a>(alloc: Global, name: &'a str, value: &'a str, help: &'a str
 }
 
 /// An option with a number from 1 to 65,535.
-fn count_option<'a>(alloc: Global, name: &'a str, value: &'a str, help: &'a str) -> Arg<'a>
+pub(super) fn count_option<'a>(
+    alloc: Global,
+    name: &'a str,
+    value: &'a str,
+    help: &'a str,
+) -> Arg<'a>
     ensures rule { rule_of result ≡ count_rule name.entry.now }
     ensures local { result.global ≡ false }
 {
@@ -124,7 +137,12 @@ fn count_option<'a>(alloc: Global, name: &'a str, value: &'a str, help: &'a str)
 }
 
 /// An option with a text.
-fn text_option<'a>(alloc: Global, name: &'a str, value: &'a str, help: &'a str) -> Arg<'a>
+pub(super) fn text_option<'a>(
+    alloc: Global,
+    name: &'a str,
+    value: &'a str,
+    help: &'a str,
+) -> Arg<'a>
     ensures rule { rule_of result ≡ text_option_rule name.entry.now }
     ensures local { result.global ≡ false }
 {
@@ -135,7 +153,7 @@ fn text_option<'a>(alloc: Global, name: &'a str, value: &'a str, help: &'a str) 
 }
 
 /// A flag of a plan.
-fn plan_flag<'a>(alloc: Global, name: &'a str, help: &'a str) -> Arg<'a>
+pub(super) fn plan_flag<'a>(alloc: Global, name: &'a str, help: &'a str) -> Arg<'a>
     ensures rule { rule_of result ≡ flag_rule name.entry.now }
     ensures local { result.global ≡ false }
 {
@@ -146,7 +164,7 @@ fn plan_flag<'a>(alloc: Global, name: &'a str, help: &'a str) -> Arg<'a>
 }
 
 /// Adds an argument to the command, if there is one.
-fn with_argument<'a>(
+pub(super) fn with_argument<'a>(
     command: Result<Command<'a>, AllocError>,
     argument: Arg<'a>,
 ) -> Result<Command<'a>, AllocError>
@@ -267,33 +285,6 @@ fn encode_command<'a>(alloc: Global) -> Result<Command<'a>, AllocError>
     )
 }
 
-/// The command `epc` with its one argument TEXT, which is required.
-fn epc_command<'a>(alloc: Global) -> Result<Command<'a>, AllocError>
-    ensures app { IfOk result (λ c. app_of c ≡ text_app (codes "epc")) }
-    ensures local { IfOk result (λ c. (out-Command c).has_globals ≡ false) }
-{
-    let text = Arg::new(alloc, "TEXT")
-        .required(true)
-        .help("24 hexadecimal digits, a tag URI or a raw URI");
-    Command::new(alloc, "epc")
-        .about("Print the text of a tag's word, or the word of a text")
-        .after_help(EPC_HELP)
-        .arg(text)
-}
-
-/// The command `sim`.
-fn sim_command<'a>(alloc: Global) -> Result<Command<'a>, AllocError>
-    ensures app { IfOk result (λ c. app_of c ≡ sim_app) }
-    ensures local { IfOk result (λ c. (out-Command c).has_globals ≡ false) }
-{
-    let command = Command::new(alloc, "sim")
-        .about("Serve one client as a simulated reader, by a script")
-        .after_help(SIM_HELP)
-        .arg(port_argument(alloc, "The port to listen on"));
-    let all = "Answer three requests outside the profile besides";
-    with_argument(command, all_flag(alloc, all))
-}
-
 /// The command `inventory`.
 fn inventory_command<'a>(alloc: Global) -> Result<Command<'a>, AllocError>
     ensures app { IfOk result (λ c. app_of c ≡ inventory_app) }
@@ -336,14 +327,24 @@ fn streams_command<'a>(alloc: Global) -> Result<Command<'a>, AllocError>
 {
     let with_first = with_command(top_command(alloc), show_command(alloc));
     let with_both = with_command(with_first, encode_command(alloc));
-    with_command(with_both, epc_command(alloc))
+    let with_epc = with_command(with_both, epc_command(alloc));
+    with_command(with_epc, fields_command(alloc))
+}
+
+/// The program without the commands that last.
+fn runs_command<'a>(alloc: Global) -> Result<Command<'a>, AllocError>
+    ensures { IfOk result (λ c. app_of c ≡ runs_app) }
+{
+    let with_first = with_command(streams_command(alloc), sim_command(alloc));
+    let with_both = with_command(with_first, inventory_command(alloc));
+    with_command(with_both, loop_command(alloc))
 }
 
 /// The program with all its commands.
 pub(crate) fn llrp_command<'a>(alloc: Global) -> Result<Command<'a>, AllocError>
     ensures { IfOk result (λ c. app_of c ≡ llrp_app) }
 {
-    let with_first = with_command(streams_command(alloc), sim_command(alloc));
-    let with_both = with_command(with_first, inventory_command(alloc));
-    with_command(with_both, loop_command(alloc))
+    let with_first = with_command(runs_command(alloc), watch_command(alloc));
+    let with_both = with_command(with_first, stop_command(alloc));
+    with_command(with_both, ask_command(alloc))
 }

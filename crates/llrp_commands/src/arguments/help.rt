@@ -10,7 +10,7 @@ Reads a stream of LLRP messages on standard input, and prints its listing on sta
   ! BROKEN                   a length below 10, at which the stream breaks off
 docs/errors.md explains each REASON. A frame of more octets than --limit is a fault, where N is 10 to
 1,048,576, and so are parameters nested more than 16 levels deep. So is a message or parameter that
-docs/tables.md leaves out of its profile; with --all they are those of the whole standard. The status
+docs/tables.md leaves out of its set; with --all they are those of the whole standard. The status
 is 0 if all frames are messages and the last one is whole, and 1 if not. With --json each frame is one
 line of JSON in place of its lines, as docs/json.md says.
 
@@ -26,7 +26,7 @@ Reads a listing on standard input, a line 0 NAME VERSION ID for each message, an
 the messages on standard output. A line that is refused ends the command with status 1, and is named
 on standard error with the reason, which docs/errors.md explains; so is a message of more octets than
 --limit, where N is 10 to 1,048,576, or a parameter more than 16 levels deep. The names are those of
-the profile of docs/tables.md, or with --all those of the whole standard.
+the set of docs/tables.md, or with --all those of the whole standard.
 
 Example:
   $ echo 0 KEEPALIVE 2 7 | llrp encode --hex
@@ -40,11 +40,36 @@ Prints the text of a tag's 96-bit word, or the word of a text:
   any other text          the 24 digits of its word; or ! REASON, which is why no word has this text
 docs/errors.md explains each REASON. The status is 1 for a text of no word, and 0 for every other.
 
+With --forms it prints a line FORM TEXT for each form of the word: tag and raw URIs (tag), pure identity
+URIs (pure), element strings (element), Digital Link URIs (link), digits (hex), and keys by name (key).
+With --to it prints the text in that form; docs/tables.md has examples. TEXT may then have any of these
+forms. A pure identity URI and a key do not say the filter value, and a key not how many digits its
+company prefix has, so that no key is read without --prefix-digits or --prefixes. FILE has lines START
+LENGTH, which say that company prefixes that begin with START have LENGTH digits; the longest START that
+fits counts. With --list there is a line for each line of standard input, and the status is 1 if one of
+them is ! REASON. With --json, beside --forms or --list, a line is an object with a member for each form.
+
 Examples:
   $ llrp epc 3074257BF7194E4000001A85
   urn:epc:tag:sgtin-96:3.0614141.812345.6789
   $ llrp epc urn:epc:tag:sgtin-96:3.0614141.812345.6789
+  3074257BF7194E4000001A85
+  $ llrp epc --to hex --prefix-digits 7 --filter 3 '(01)80614141123458(21)6789'
   3074257BF7194E4000001A85";
+
+/// The help of `fields`.
+pub(crate) const FIELDS_HELP: &str = "\
+Prints what the tables say of the message or parameter NAME, or a line for each of them:
+  NUMBER NAME: FIELDS; PARAMETERS; in PLACES
+FIELDS have their names and bits, in the order in which a frame has them, and where not every value is
+lawful the range; words, text, bits and octets stand for what comes after them. Of PARAMETERS one with
+? may be there, one with * any number of times, and one with + at least once; any other is there once.
+PLACES are those that a parameter may stand in. A hyphen stands for none. The tables are those of the
+profile, or with --all of the whole standard. The status is 1 where nothing has the name.
+
+Example:
+  $ llrp fields AISpecStopTrigger
+  184 AISpecStopTrigger: Type 8 (0..3), Duration 32; GPITriggerValue?, TagObservationTrigger?; in AISpec";
 
 /// The help of `sim`.
 pub(crate) const SIM_HELP: &str = "\
@@ -56,6 +81,12 @@ Reads a script of what the reader's antennas see on standard input, to its end. 
 
 With --all it also answers GET_READER_CAPABILITIES, GET_READER_CONFIG and GET_SUPPORTED_VERSION, with
 which general clients begin. A script does not count these.
+
+With --clients N it serves N clients one after another, each as a new reader by the script from its
+beginning; the exit status is the greatest of theirs. With --ready the line
+  llrp: listening on ADDRESS:PORT
+stands on standard error as soon as a client can connect. --bind ADDRESS listens there; LLRP has no
+password, so let it be an address that only your own machines can reach.
 
 Example:
   $ printf '2 5 tick\\n' | llrp sim 5084";
@@ -82,9 +113,9 @@ or with --json an object of JSON for each, a line each:
   {\"report\":K}
   {\"tags\":TAGS,\"reports\":REPORTS}
 
-A message or parameter that docs/tables.md leaves out of its profile is passed over, and a report that
+A message or parameter that docs/tables.md leaves out of its set is passed over, and a report that
 has one as a whole. With --all the reader may send every message and parameter of LLRP 1.1, as makers'
-Custom ones: of each message what the profile has is taken, and so is each tag of a report.
+Custom ones: of each message what the set has is taken, and so is each tag of a report.
 
 With --check it asks the reader for its ROSpecs before it deletes its own. They have to be exactly those
 that it knows of, in the same states; otherwise it ends with the line llrp: strange and status 1. This

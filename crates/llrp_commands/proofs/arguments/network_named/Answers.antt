@@ -1,54 +1,105 @@
-use Rattle.std.proofs.Common.{rules, ◌≡◌, ◌∙◌, ap, sym, codes, Some, Option, is_some}
-use Rattle.std.specs.Prelude.{option_map}
-use Rattle.std.specs.Borrow.{Bor}
+use Rattle.std.proofs.Common.{rules, ◌≡◌, ◌∙◌, ap, codes, Some}
 use Rattle.clap.specs.Words.{Text, found_of, rows_of}
-use Rattle.clap.proofs.CallerLemmas.{some_of_text}
-use Rattle.clap.proofs.WalkLemmas.{first_value-rows, one_text-rows}
-use Rattle.llrp_commands.proofs.ArgumentLemmas.{inventory_there, plan_there, reads_flag, sim_there}
-use Rattle.llrp_commands.proofs.CommandLemmas.{has_flag}
+use Rattle.llrp_commands.proofs.ArgumentLemmas.{ask_there, inventory_there, plan_there, sim_there, stop_there, watch_there}
 use Rattle.llrp_commands.proofs.arguments.network_named.Goals as goal
 
-pub returns-then-eq : goal.returns-then-eq
-returns-then-eq c =
+pub returns-then-eq-clause-command : goal.returns-then-eq-clause-command
+returns-then-eq-clause-command c =
     let named : c.args.name.now ≡ codes "sim" = search rules in
-    let all = one_text-rows (found_of c.args.inner.now) (codes "all") in (
-      ap (λ (n : Text). Some n) named,
-      c.number.ensures c.args.name.now,
-      reads_flag _ c.get_flag.result (has_flag _ c.get_flag.result (λ h. c.get_flag.ensures.none (all ∙ h)) (λ h. c.get_flag.ensures.value (all ∙ h)) (λ h. c.get_flag.ensures.other (all ∙ h)))
-          (sim_there c.args.name.now (rows_of (found_of c.args.inner.now)) c.requires named).1,
-    )
+    (ap (λ (n : Text). Some n) named, c.sim_words.ensures c.args.name.now)
+
+pub sim_words-requires : goal.sim_words-requires
+sim_words-requires c =
+    let named : c.args.name.now ≡ codes "sim" = search rules in
+    sim_there c.args.name.now (rows_of (found_of c.args.inner.now)) c.requires named
+
+pub host-requires : goal.host-requires
+host-requires c =
+    let named : c.args.name.now ≡ codes "watch" = search rules in
+    (watch_there c.args.name.now (rows_of (found_of c.args.inner.now)) c.requires named).0
+
+pub watch_words-requires : goal.watch_words-requires
+watch_words-requires c =
+    let named : c.args.name.now ≡ codes "watch" = search rules in
+    (watch_there c.args.name.now (rows_of (found_of c.args.inner.now)) c.requires named).1
+
+pub returns-then-eq-2-clause-command : goal.returns-then-eq-2-clause-command
+returns-then-eq-2-clause-command c =
+    let named : c.args.name.now ≡ codes "watch" = search rules in
+    (ap (λ (n : Text). Some n) named, c.host.ensures c.args.name.now, c.watch_words.ensures.words c.args.name.now)
+
+pub host-requires-then-eq-3 : goal.host-requires-then-eq-3
+host-requires-then-eq-3 c =
+    let named : c.args.name.now ≡ codes "stop" = search rules in
+    (stop_there c.args.name.now (rows_of (found_of c.args.inner.now)) c.requires named).0
+
+pub stop_words-requires : goal.stop_words-requires
+stop_words-requires c =
+    let named : c.args.name.now ≡ codes "stop" = search rules in
+    (stop_there c.args.name.now (rows_of (found_of c.args.inner.now)) c.requires named).1
+
+pub returns-then-eq-3-clause-command : goal.returns-then-eq-3-clause-command
+returns-then-eq-3-clause-command c =
+    let named : c.args.name.now ≡ codes "stop" = search rules in
+    (ap (λ (n : Text). Some n) named, c.host-then-eq-3.ensures c.args.name.now, c.stop_words.ensures c.args.name.now)
+
+pub host-requires-then-eq-4 : goal.host-requires-then-eq-4
+host-requires-then-eq-4 c =
+    let named : c.args.name.now ≡ codes "ask" = search rules in
+    (ask_there c.args.name.now (rows_of (found_of c.args.inner.now)) c.requires named).0
+
+pub ask_words-requires : goal.ask_words-requires
+ask_words-requires c =
+    let named : c.args.name.now ≡ codes "ask" = search rules in
+    (ask_there c.args.name.now (rows_of (found_of c.args.inner.now)) c.requires named).1
+
+pub returns-then-eq-4-clause-command : goal.returns-then-eq-4-clause-command
+returns-then-eq-4-clause-command c =
+    let named : c.args.name.now ≡ codes "ask" = search rules in
+    (ap (λ (n : Text). Some n) named, c.host-then-eq-4.ensures c.args.name.now, c.ask_words.ensures c.args.name.now)
 
 pub plan_words-plan-requires : goal.plan_words-plan-requires
 plan_words-plan-requires c =
     let no_sim : c.args.name.now ≡ codes "sim" → ⊥ = search rules in
-    plan_there c.args.name.now (rows_of (found_of c.args.inner.now)) c.requires no_sim
+    let no_watch : c.args.name.now ≡ codes "watch" → ⊥ = search rules in
+    let no_stop : c.args.name.now ≡ codes "stop" → ⊥ = search rules in
+    let no_ask : c.args.name.now ≡ codes "ask" → ⊥ = search rules in
+    plan_there c.args.name.now (rows_of (found_of c.args.inner.now)) c.requires no_sim no_watch no_stop no_ask
 
-pub returns-then-eq-2 : goal.returns-then-eq-2
-returns-then-eq-2 c =
+pub returns-then-eq-5-clause-command : goal.returns-then-eq-5-clause-command
+returns-then-eq-5-clause-command c =
     let named : c.args.name.now ≡ codes "loop" = search rules in
     (ap (λ (n : Text). Some n) named, c.plan_words-plan.ensures c.args.name.now)
 
-pub number-requires-2 : goal.number-requires-2
-number-requires-2 c =
+pub host-requires-2 : goal.host-requires-2
+host-requires-2 c =
     let no_sim : c.args.name.now ≡ codes "sim" → ⊥ = search rules in
+    let no_watch : c.args.name.now ≡ codes "watch" → ⊥ = search rules in
+    let no_stop : c.args.name.now ≡ codes "stop" → ⊥ = search rules in
+    let no_ask : c.args.name.now ≡ codes "ask" → ⊥ = search rules in
     let no_loop : c.args.name.now ≡ codes "loop" → ⊥ = search rules in
-    (inventory_there c.args.name.now (rows_of (found_of c.args.inner.now)) c.requires no_sim no_loop).2
+    (inventory_there c.args.name.now (rows_of (found_of c.args.inner.now)) c.requires no_sim no_watch no_stop no_ask no_loop).1
 
-pub unwrap-requires : goal.unwrap-requires
-unwrap-requires c =
+pub number-requires : goal.number-requires
+number-requires c =
     let no_sim : c.args.name.now ≡ codes "sim" → ⊥ = search rules in
+    let no_watch : c.args.name.now ≡ codes "watch" → ⊥ = search rules in
+    let no_stop : c.args.name.now ≡ codes "stop" → ⊥ = search rules in
+    let no_ask : c.args.name.now ≡ codes "ask" → ⊥ = search rules in
     let no_loop : c.args.name.now ≡ codes "loop" → ⊥ = search rules in
-    let host = (inventory_there c.args.name.now (rows_of (found_of c.args.inner.now)) c.requires no_sim no_loop).1 in
-    some_of_text _ c.get_str.result _ (c.get_str.ensures ∙ first_value-rows (found_of c.args.inner.now) (codes "HOST")) (ap (λ (o : Option Text). is_some o) host.1)
+    (inventory_there c.args.name.now (rows_of (found_of c.args.inner.now)) c.requires no_sim no_watch no_stop no_ask no_loop).2
 
-pub returns : goal.returns
-returns c =
+pub returns-clause-command : goal.returns-clause-command
+returns-clause-command c =
     let no_sim : c.args.name.now ≡ codes "sim" → ⊥ = search rules in
+    let no_watch : c.args.name.now ≡ codes "watch" → ⊥ = search rules in
+    let no_stop : c.args.name.now ≡ codes "stop" → ⊥ = search rules in
+    let no_ask : c.args.name.now ≡ codes "ask" → ⊥ = search rules in
     let no_loop : c.args.name.now ≡ codes "loop" → ⊥ = search rules in
-    let there = inventory_there c.args.name.now (rows_of (found_of c.args.inner.now)) c.requires no_sim no_loop in (
+    let there = inventory_there c.args.name.now (rows_of (found_of c.args.inner.now)) c.requires no_sim no_watch no_stop no_ask no_loop in (
       ap (λ (n : Text). Some n) there.0,
-      sym (first_value-rows (found_of c.args.inner.now) (codes "HOST")) ∙ sym c.get_str.ensures ∙ ap (option_map (λ (s : Bor Text). s.now)) c.unwrap.ensures,
-      c.number-2.ensures c.args.name.now,
+      c.host-2.ensures c.args.name.now,
+      c.number.ensures c.args.name.now,
       c.plan_words-plan.ensures c.args.name.now,
       c.optional_number.ensures c.args.name.now,
     )

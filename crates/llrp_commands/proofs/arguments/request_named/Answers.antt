@@ -1,25 +1,19 @@
-use Rattle.std.proofs.Common.{rules, inl, inr, ◌≡◌, ◌∙◌, ap, sym, codes, Some, Option, is_some}
-use Rattle.std.specs.Prelude.{option_map}
-use Rattle.std.specs.Borrow.{Bor}
+use Rattle.std.proofs.Common.{rules, inl, inr, ◌≡◌, ◌∙◌, ap, codes, Some}
 use Rattle.clap.specs.Words.{Text, found_of, rows_of}
-use Rattle.clap.proofs.CallerLemmas.{some_of_text}
-use Rattle.clap.proofs.WalkLemmas.{first_value-rows, one_text-rows}
-use Rattle.llrp_commands.proofs.ArgumentLemmas.{network_there, stream_words_of, text_of_epc}
+use Rattle.clap.proofs.WalkLemmas.{one_text-rows}
+use Rattle.llrp_commands.proofs.ArgumentLemmas.{network_there, stream_words_of, epc_there}
 use Rattle.llrp_commands.proofs.CommandLemmas.{has_flag}
 use Rattle.llrp_commands.proofs.arguments.request_named.Goals as goal
 
-pub unwrap-requires : goal.unwrap-requires
-unwrap-requires c =
+pub epc_words-requires : goal.epc_words-requires
+epc_words-requires c =
     let named : c.args.name.now ≡ codes "epc" = search rules in
-    let text = text_of_epc c.args.name.now (rows_of (found_of c.args.inner.now)) c.requires named in
-    some_of_text _ c.get_str.result _ (c.get_str.ensures ∙ first_value-rows (found_of c.args.inner.now) (codes "TEXT")) (ap (λ (o : Option Text). is_some o) text.1)
+    epc_there c.args.name.now (rows_of (found_of c.args.inner.now)) c.requires named
 
 pub returns-then-eq-clause-request : goal.returns-then-eq-clause-request
 returns-then-eq-clause-request c =
-    let named : c.args.name.now ≡ codes "epc" = search rules in (
-      ap (λ (n : Text). Some n) named,
-      sym (first_value-rows (found_of c.args.inner.now) (codes "TEXT")) ∙ sym c.get_str.ensures ∙ ap (option_map (λ (s : Bor Text). s.now)) c.unwrap.ensures,
-    )
+    let named : c.args.name.now ≡ codes "epc" = search rules in
+    (ap (λ (n : Text). Some n) named, c.epc_words.ensures.words c.args.name.now)
 
 pub returns-then-eq-2-clause-request : goal.returns-then-eq-2-clause-request
 returns-then-eq-2-clause-request c =
@@ -60,4 +54,14 @@ network_named-requires c =
     let no_epc : c.args.name.now ≡ codes "epc" → ⊥ = search rules in
     let no_show : c.args.name.now ≡ codes "show" → ⊥ = search rules in
     let no_encode : c.args.name.now ≡ codes "encode" → ⊥ = search rules in
-    network_there c.args.name.now (rows_of (found_of c.args.inner.now)) c.requires no_show no_encode no_epc
+    let no_fields : c.args.name.now ≡ codes "fields" → ⊥ = search rules in
+    network_there c.args.name.now (rows_of (found_of c.args.inner.now)) c.requires no_show no_encode no_epc no_fields
+
+pub returns-then-eq-4-clause-request : goal.returns-then-eq-4-clause-request
+returns-then-eq-4-clause-request c =
+    let kinds = one_text-rows (found_of c.args.inner.now) (codes "all") in
+    let named : c.args.name.now ≡ codes "fields" = search rules in (
+      ap (λ (n : Text). Some n) named,
+      has_flag _ c.get_flag-then-eq-4.result (λ h. c.get_flag-then-eq-4.ensures.none (kinds ∙ h)) (λ h. c.get_flag-then-eq-4.ensures.value (kinds ∙ h)) (λ h. c.get_flag-then-eq-4.ensures.other (kinds ∙ h)),
+      c.optional_text.ensures c.args.name.now,
+    )

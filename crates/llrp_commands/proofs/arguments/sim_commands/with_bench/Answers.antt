@@ -1,0 +1,20 @@
+use Rattle.std.proofs.Common.{ap, ◌∙◌, codes}
+use Rattle.clap.specs.Words.{Rule, rule_of, with_rule}
+use Rattle.llrp_commands.specs.Calls.Arguments.{number_rule, text_option_rule}
+use Rattle.std.proofs.lemmas.Result.{IfOk-weaker}
+use Rattle.llrp_commands.proofs.arguments.sim_commands.with_bench.Goals as goal
+
+pub returns-clause-app : goal.returns-clause-app
+returns-clause-app c = λ a given.
+    let bind = c.text_option.ensures in
+    let clients = c.number_option.ensures in
+    let ready = c.plan_flag.ensures in
+    let one = c.with_argument-with_bind.ensures.app a given bind.local in
+    let two = c.with_argument-with_clients.ensures.app _ one clients.local in
+    let all = c.with_argument.ensures.app _ two ready.local in
+    IfOk-weaker c.with_argument.result _ _
+    (λ r h.
+    h
+    ∙ ap (λ (x : Rule). with_rule (with_rule (with_rule a x) (rule_of c.number_option.result)) (rule_of c.plan_flag.result)) bind.rule
+    ∙ ap (λ (x : Rule). with_rule (with_rule (with_rule a (text_option_rule (codes "bind"))) x) (rule_of c.plan_flag.result)) clients.rule
+    ∙ ap (λ (x : Rule). with_rule (with_rule (with_rule a (text_option_rule (codes "bind"))) (number_rule (codes "clients"))) x) ready.rule) all

@@ -1,0 +1,14 @@
+use Rattle.std.proofs.Common.{◌≡◌, [], ℕ, List, ◌++◌, ap, subst, ◌∙◌, codes, decimal}
+use Rattle.std.proofs.lemmas.List.{append-nil}
+use Rattle.llrp_listing.specs.Calls.Copying.{Writes}
+use Rattle.llrp_commands.proofs.epc_table.write_table_line.Goals as goal
+
+pub returns : goal.returns
+returns g c =
+    let number : c.as_bytes-number.result.now ≡ decimal c.args.line = c.as_bytes-number.ensures.value ∙ c.format.ensures.text in
+    subst (λ (text : List ℕ). Writes text (g.E.Sink.log c.args.e.now) (g.E.Sink.log c.write_parts.new.w) c.write_parts.result)
+    (
+    ap (λ (n : List ℕ). codes "llrp: prefixes line " ++ (n ++ (c.args.reason.now ++ []))) number
+    ∙ ap (λ (r : List ℕ). codes "llrp: prefixes line " ++ (decimal c.args.line ++ r)) (append-nil c.args.reason.now)
+    )
+    c.write_parts.ensures

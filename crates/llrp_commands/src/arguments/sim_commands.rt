@@ -1,0 +1,45 @@
+//! The command `sim` with its arguments and options.
+
+ghost use Rattle.std.specs.Prelude.{◌≡◌, IfOk, false};
+ghost use Rattle.clap.specs.Words.{App, app_of};
+ghost use Rattle.clap.specs.declared.builder.command.Command.TheViews.{out-Command};
+ghost use Rattle.llrp_commands.specs.Calls.Arguments.{sim_app, with_bench};
+
+use super::commands::{
+    all_flag, number_option, plan_flag, port_argument, text_option, with_argument,
+};
+use super::help::SIM_HELP;
+use clap::Command;
+use std::alloc::{AllocError, Global};
+
+/// Adds what test benches ask for to the command: where it listens, how many clients it serves, and
+/// that it says when it is ready.
+fn with_bench<'a>(
+    alloc: Global,
+    command: Result<Command<'a>, AllocError>,
+) -> Result<Command<'a>, AllocError>
+    ensures app { (a : App) → IfOk command.entry (λ c. app_of c ≡ a)
+        → IfOk result (λ c. app_of c ≡ with_bench a) }
+    ensures local { IfOk command.entry (λ c. (out-Command c).has_globals ≡ false)
+        → IfOk result (λ c. (out-Command c).has_globals ≡ false) }
+{
+    let bind = "The address to listen on; without it 127.0.0.1";
+    let clients = "How many clients to serve, one after another; without it 1, and 0 for no end";
+    let ready = "Say on standard error where it listens, once it does";
+    let with_bind = with_argument(command, text_option(alloc, "bind", "ADDRESS", bind));
+    let with_clients = with_argument(with_bind, number_option(alloc, "clients", "N", clients));
+    with_argument(with_clients, plan_flag(alloc, "ready", ready))
+}
+
+/// The command `sim`.
+pub(super) fn sim_command<'a>(alloc: Global) -> Result<Command<'a>, AllocError>
+    ensures app { IfOk result (λ c. app_of c ≡ sim_app) }
+    ensures local { IfOk result (λ c. (out-Command c).has_globals ≡ false) }
+{
+    let command = Command::new(alloc, "sim")
+        .about("Serve clients as a simulated reader, by a script")
+        .after_help(SIM_HELP)
+        .arg(port_argument(alloc, "The port to listen on"));
+    let all = "Answer three requests outside the set besides";
+    with_bench(alloc, with_argument(command, all_flag(alloc, all)))
+}

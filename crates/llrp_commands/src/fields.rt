@@ -1,0 +1,53 @@
+//! The command `fields`.
+
+ghost use Rattle.std.specs.Prelude.{◌≡◌, Ok, Err, false, option_map, true};
+ghost use Rattle.llrp_commands.specs.Calls.Fields.{AnswersFields, DoesFields};
+ghost use Rattle.llrp_stream.specs.Device.{IsFreshSink};
+ghost use Rattle.llrp_stream.specs.Calls.Device.{CanWrite};
+
+use crate::command::answer;
+use llrp_explain::{line_of, table};
+use llrp_listing::{ToolErr, write_all};
+use llrp_schema::KindSet;
+use llrp_stream::Sink;
+use std::alloc::Global;
+
+/// The exit status where no kind has the name.
+const NO_KIND: u8 = 1;
+
+/// Writes what the tables say of the kind with this name, or with no name of all kinds. Returns
+/// whether there is such a kind.
+pub(crate) fn fields<W: Sink>(
+    alloc: Global,
+    set: KindSet,
+    name: Option<&str>,
+    w: &mut W,
+) -> Result<bool, ToolErr>
+    requires sink { IsFreshSink (W.log w.old) }
+    ensures { DoesFields set (option_map (λ t. t.now) name.entry) (W.log w.old) (W.log w.new) result }
+{
+    let text = match name {
+        Some(name) => line_of(alloc, set, name.as_bytes())?,
+        None => table(alloc, set)?,
+    };
+    write_all(w, text.as_slice())?;
+    Ok(!text.is_empty())
+}
+
+/// The exit status of `fields`, after the line of its error, if it has one, was written.
+pub(crate) fn answer_fields<E: Sink>(
+    outcome: Result<bool, ToolErr>,
+    e: &mut E,
+) -> Result<u8, ToolErr>
+    requires { CanWrite (E.log e.old) }
+    ensures { AnswersFields outcome (E.log e.old) (E.log e.new) result }
+{
+    match outcome {
+        Ok(true) => Ok(0),
+        Ok(false) => {
+            write_all(e, b"llrp: name\n")?;
+            Ok(NO_KIND)
+        }
+        Err(error) => answer(Err(error), e),
+    }
+}
