@@ -1,1 +1,5 @@
+pub mod AskLemmas
+pub mod ClientLemmas
 pub mod NetworkLemmas
+pub mod WatchLemmas
+pub mod WholeFrameLemmas

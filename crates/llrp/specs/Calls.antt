@@ -1,4 +1,9 @@
 -- What public contracts say that no promise of README rests on.
+pub mod Ask
+pub mod Clients
 pub mod Ending
+pub mod Farewell
 pub mod Network
 pub mod Plan
+pub mod Watch
+pub mod WholeFrames

@@ -4,7 +4,7 @@
 ghost use Rattle.llrp_stream.specs.Device.{IsFreshSink, IsFreshSource};
 ghost use Rattle.llrp.specs.Calls.Network.{MayRunBoth, RunsBoth, RunsBothEnds};
 
-use crate::network::{FIRST_ID, conclude, read_script};
+use crate::network::{FIRST_ID, conclude};
 use crate::progress::Progress;
 use llrp_commands::LIMIT;
 use llrp_endpoints::{Endpoint, Plan, Script, run_loop};
@@ -112,7 +112,7 @@ pub fn run_both_ends<
         (R.log r.old) (R.log r.new) (⟦<Progress<W, T> as Sink>⟧.log report.old)
         (⟦<Progress<W, T> as Sink>⟧.log report.new) (E.log e.old) (E.log e.new) result }
 {
-    let outcome = match read_script(alloc, r) {
+    let outcome = match Script::read(alloc, r) {
         Ok(script) => run_script(net, alloc, script, plan, report),
         Err(error) => Some(Err(error)),
     };

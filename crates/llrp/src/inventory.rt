@@ -42,7 +42,8 @@ pub fn take_inventory<W: Sink>(
 }
 
 /// Connects to the first address of the host's name. If there is a timeout, connecting is given up
-/// after it, and so is each read that gets nothing. `None` means that the network failed.
+/// after it, and so is each read that gets nothing and each write that passes nothing on. `None`
+/// means that the network failed.
 fn connect<N: Net<Listener = TcpListener, Stream = TcpStream>>(
     net: &N,
     target: Target<'_>,
@@ -55,6 +56,7 @@ fn connect<N: Net<Listener = TcpListener, Stream = TcpStream>>(
     let timeout = Duration::from_secs(seconds as u64);
     let stream = TcpStream::connect_timeout(net, &first, timeout).ok()?;
     stream.set_read_timeout(Some(timeout)).ok()?;
+    stream.set_write_timeout(Some(timeout)).ok()?;
     Some(stream)
 }
 

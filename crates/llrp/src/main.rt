@@ -5,22 +5,49 @@
 //! the two ends of a connection in `llrp_endpoints`.
 #![tactic(auto)]
 
+ghost use Rattle.llrp_stream.specs.Calls.Device.{CanWrite};
+ghost use Rattle.llrp_commands.specs.Calls.Arguments.{IsBounded};
+
+mod address;
+mod ask;
 mod both_ends;
+mod clients;
+mod deadline;
+mod farewell;
+mod faults;
+mod heard_frames;
+mod hints;
 mod inventory;
 mod network;
+mod noted;
+mod notes;
 mod out_of_memory;
 mod plan;
+mod prefixes;
 mod progress;
+mod refused_words;
+mod saving;
 mod sim;
+mod tag_printer;
+mod timed;
+mod watch;
+mod watch_plan;
+mod whole_frames;
 
+use address::address_of;
+use hints::{Noticing, reading_of};
 use inventory::Target;
-use llrp_commands::{NetworkCommand, PlanWords, USAGE, network_command, reads_input, run_command};
+use llrp_commands::{
+    NetworkCommand, PlanWords, USAGE, network_command, prefixes_file, reads_input, run_command,
+};
 use llrp_listing::{ToolErr, write_all};
-use llrp_stream::{Input, Output};
+use llrp_stream::{Input, Output, Sink, Source};
 use network::{FAILED, conclude};
 use out_of_memory::end_without_memory;
-use plan::{has_every_twice, never_reports, open_plan, refuse};
+use plan::{open_plan, refuse};
+use prefixes::run_epc_by_file;
 use progress::Progress;
+use refused_words::{NO_ADDRESS, plan_clash, stop_clash, watch_clash};
 use std::env;
 use std::fs::File;
 use std::io::{ErrorKind, IsTerminal, Stderr};
@@ -29,34 +56,19 @@ use std::process::ExitCode;
 /// What is written if an argument is not UTF-8.
 const NOT_UTF8: &[u8] = b"error: invalid UTF-8 was detected in one or more arguments\n";
 
+/// The status of a command that refused its input.
+const REFUSED: u8 = 1;
+
 /// What a person at a terminal reads when a command waits for input.
 const WAITING: &[u8] = b"llrp: waiting for input on this terminal; Ctrl-D ends it\n";
-
-/// What is written if reports are awaited of a ROSpec that reports at its end alone.
-const NEVER_REPORTS: &[u8] =
-    b"error: the argument '--every 0' cannot be used with '--reports <K>'\n\nFor more information, try '--help'.\n";
-
-/// What is written if --every is given beside a ROSpec that says it.
-const EVERY_TWICE: &[u8] =
-    b"error: the argument '--rospec <FILE>' cannot be used with '--every <N>'\n\nFor more information, try '--help'.\n";
 
 /// What the words say of a plan, if the command has one.
 fn plan_in<'a>(command: &NetworkCommand<'a>) -> Option<PlanWords<'a>> {
     match command {
-        NetworkCommand::Sim { .. } => None,
+        NetworkCommand::Sim { .. } | NetworkCommand::Watch { .. } => None,
+        NetworkCommand::Stop { .. } | NetworkCommand::Ask { .. } => None,
         NetworkCommand::Inventory { plan, .. } | NetworkCommand::Loop { plan } => Some(*plan),
     }
-}
-
-/// What is written if the options of a plan exclude each other.
-fn clash(words: PlanWords<'_>) -> Option<&'static [u8]> {
-    if has_every_twice(words) {
-        return Some(EVERY_TWICE);
-    }
-    if never_reports(words) {
-        return Some(NEVER_REPORTS);
-    }
-    None
 }
 
 /// Opens a directory once for each standard stream. If one of these is closed, a directory gets its
@@ -78,8 +90,18 @@ fn terminal_of(rt: &HostRuntime) -> Option<Stderr> {
     }
 }
 
+/// Writes why the words ask for nothing, and returns the exit status.
+fn refuse_words<E: Sink>(said: &[u8], errors: &mut E) -> Result<u8, ToolErr>
+    requires { CanWrite (E.log errors.old) }
+{
+    write_all(errors, said)?;
+    Ok(USAGE)
+}
+
 /// Runs a command over sockets, and returns its exit status.
-fn run_network(rt: &HostRuntime, command: NetworkCommand<'_>) -> Result<u8, ToolErr> {
+fn run_network(rt: &HostRuntime, command: NetworkCommand<'_>) -> Result<u8, ToolErr>
+    requires { IsBounded command }
+{
     let alloc = rt.alloc();
     let mut input = Input::new(rt.stdin());
     let mut errors = Output::new(rt.stderr());
@@ -87,19 +109,12 @@ fn run_network(rt: &HostRuntime, command: NetworkCommand<'_>) -> Result<u8, Tool
         return conclude(None, &mut errors);
     };
     let mut report = Progress::new(Output::new(rt.stdout()), terminal_of(rt));
-    if let Some(said) = plan_in(&command).and_then(clash) {
+    if let Some(said) = plan_in(&command).and_then(plan_clash) {
         write_all(&mut errors, said)?;
         return Ok(USAGE);
     }
     match command {
-        NetworkCommand::Sim { port, all } => sim::sim(
-            rt,
-            alloc,
-            port,
-            all,
-            &mut input,
-            &mut errors,
-        ),
+        NetworkCommand::Sim { words } => { sim::sim(rt, alloc, words, &mut input, &mut errors) }
         NetworkCommand::Inventory {
             host,
             port,
@@ -129,6 +144,24 @@ fn run_network(rt: &HostRuntime, command: NetworkCommand<'_>) -> Result<u8, Tool
             ),
             Err(no_plan) => refuse(no_plan, &mut errors),
         },
+        NetworkCommand::Watch { host, words } => match address_of(host) {
+            None => refuse_words(NO_ADDRESS, &mut errors),
+            Some(reader) => match watch_clash(words) {
+                Some(said) => refuse_words(said, &mut errors),
+                None => watch::watch(rt, reader, words),
+            },
+        },
+        NetworkCommand::Stop { host, words } => match address_of(host) {
+            None => refuse_words(NO_ADDRESS, &mut errors),
+            Some(reader) => match stop_clash(words) {
+                Some(said) => refuse_words(said, &mut errors),
+                None => watch::stop(rt, reader, words),
+            },
+        },
+        NetworkCommand::Ask { host, words } => match address_of(host) {
+            None => refuse_words(NO_ADDRESS, &mut errors),
+            Some(reader) => ask::ask(rt, reader, words),
+        },
     }
 }
 
@@ -139,6 +172,20 @@ fn say_waiting(rt: &HostRuntime, words: &[String]) -> Result<(), ToolErr> {
         let _said = write_all(&mut Output::new(rt.stderr()), WAITING);
     }
     Ok(())
+}
+
+/// Says on a terminal what a person can do about an input that was refused, if its first octets show that. If writing that fails, it is
+/// ignored.
+fn say_hint<R: Source + Drop>(rt: &HostRuntime, words: &[String], input: &Noticing<R>) {
+    let Some(reading) = reading_of(words) else {
+        return;
+    };
+    let Some(text) = input.hint(reading) else {
+        return;
+    };
+    let _begun = write_all(&mut Output::new(rt.stderr()), b"llrp: hint: ");
+    let _said = write_all(&mut Output::new(rt.stderr()), text.as_bytes());
+    let _ended = write_all(&mut Output::new(rt.stderr()), b"\n");
 }
 
 /// Runs the command that the program's words ask for, and returns its exit status. The errors are
@@ -158,17 +205,25 @@ fn run(rt: &HostRuntime) -> Result<u8, ToolErr> {
         },
     };
     let words: Vec<String> = arguments.skip(1).collect(alloc)?;
+    if let Some(path) = prefixes_file(alloc, words.as_slice())? {
+        return run_epc_by_file(rt, words.as_slice(), path);
+    }
     match network_command(alloc, words.as_slice())? {
         Some(command) => run_network(rt, command),
         None => {
             say_waiting(rt, words.as_slice())?;
-            run_command(
+            let mut input = Noticing::new(Input::new(rt.stdin()));
+            let status = run_command(
                 alloc,
                 words.as_slice(),
-                &mut Input::new(rt.stdin()),
+                &mut input,
                 &mut Output::new(rt.stdout()),
                 &mut errors,
-            )
+            )?;
+            if status == REFUSED && rt.stderr().is_terminal() {
+                say_hint(rt, words.as_slice(), &input);
+            }
+            Ok(status)
         }
     }
 }

@@ -3,14 +3,14 @@
 ghost use Rattle.std.specs.Prelude.{◌≡◌, ◌&&◌, IfErr, IfOk, is_some, true};
 ghost use Rattle.llrp_stream.specs.Calls.Device.{CanWrite};
 ghost use Rattle.llrp_stream.specs.Device.{IsFreshSource};
-ghost use Rattle.llrp.specs.Calls.Plan.{ReadsPlan, Refuses, asked_form, asked_plan, asked_polls, asked_profile, never_reports, with_options};
+ghost use Rattle.llrp.specs.Calls.Plan.{OpensPlan, ReadsPlan, Refuses, asked_form, asked_plan, asked_polls, asked_set, never_reports, with_options};
 ghost use Rattle.llrp.specs.declared.plan.NoPlan.TheVariants.{Memory};
 
 use crate::network::FAILED;
 use llrp_commands::{PlanWords, answer, write_refusal};
 use llrp_endpoints::{LineForm, Plan, PlanErr, checked_plan, standard_plan};
 use llrp_listing::{Refusal, ToolErr, read_all, write_all};
-use llrp_schema::Profile;
+use llrp_schema::KindSet;
 use llrp_stream::{Input, Sink, Source};
 use std::alloc::Global;
 use std::fs::File;
@@ -68,13 +68,13 @@ fn asked_form(words: PlanWords<'_>) -> LineForm
 }
 
 /// In which set of kinds the reader's messages are read.
-fn asked_profile(words: PlanWords<'_>) -> Profile
-    ensures { result ≡ asked_profile words.entry }
+fn asked_set(words: PlanWords<'_>) -> KindSet
+    ensures { result ≡ asked_set words.entry }
 {
     if words.all {
-        Profile::Whole
+        KindSet::Standard
     } else {
-        Profile::Own
+        KindSet::Profile
     }
 }
 
@@ -83,9 +83,9 @@ fn with_options(words: PlanWords<'_>, plan: Plan) -> Plan
     ensures { result ≡ with_options words.entry plan }
 {
     let plan = plan
-        .awaiting(words.reports.unwrap_or(0))
+        .awaiting(words.reports.unwrap_or(0) as u64)
         .in_form(asked_form(words))
-        .in_profile(asked_profile(words));
+        .in_set(asked_set(words));
     if words.clean { plan.cleaning() } else { plan }
 }
 
@@ -128,7 +128,9 @@ pub fn read_plan<R: Source>(alloc: Global, words: PlanWords<'_>, r: &mut R) -> R
 }
 
 /// The plan that the words ask for, with the ROSpec of the file that they name, if they name one.
-pub fn open_plan<F: Files>(files: &F, alloc: Global, words: PlanWords<'_>) -> Result<Plan, NoPlan> {
+pub fn open_plan<F: Files>(files: &F, alloc: Global, words: PlanWords<'_>) -> Result<Plan, NoPlan>
+    ensures { OpensPlan words.entry result }
+{
     let Some(path) = words.rospec else {
         return plan_of(alloc, words);
     };

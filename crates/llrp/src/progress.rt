@@ -13,7 +13,19 @@ pub struct Progress<W: Sink + Drop, T: Write + Drop> {
     sink: W,
     terminal: Option<T>,
     tags: u64,
-    at_line_start: bool,
+    /// How many bytes of the last line came, or the greatest number.
+    column: u8,
+}
+
+/// Whether a byte at this place of its line shows that the line is that of a tag: the first one in
+/// words (`=` begins a report's count, `t` the total), the third one in an object of JSON (`e` of
+/// `epc`; the others have `report` or `tags` there).
+fn shows_tag(column: u8, byte: u8) -> bool {
+    match column {
+        0 => byte != b'=' && byte != b't' && byte != b'{',
+        2 => byte == b'e',
+        _ => false,
+    }
 }
 
 impl<W: Sink + Drop, T: Write + Drop> Progress<W, T> {
@@ -25,20 +37,23 @@ impl<W: Sink + Drop, T: Write + Drop> Progress<W, T> {
             sink,
             terminal,
             tags: 0,
-            at_line_start: true,
+            column: 0,
         }
     }
 
-    /// Counts the tag lines that begin in these bytes: all lines but those with a report's count
-    /// and with the total.
+    /// Counts the lines of tags in these bytes, each once.
     fn count(&mut self, lines: &[u8])
         ensures { self.new.sink ≡ self.old.sink }
     {
         for &byte in lines {
-            if self.at_line_start && byte != b'=' && byte != b't' {
+            if shows_tag(self.column, byte) {
                 self.tags = self.tags.saturating_add(1);
             }
-            self.at_line_start = byte == b'\n';
+            self.column = if byte == b'\n' {
+                0
+            } else {
+                self.column.saturating_add(1)
+            };
         }
     }
 

@@ -1,10 +1,13 @@
-//! The command `sim`: serves one client over TCP.
+//! The command `sim`: serves clients over TCP.
 
+ghost use Rattle.std.specs.Prelude.{◌≡◌};
 ghost use Rattle.llrp_stream.specs.Device.{IsFreshSink, IsFreshSource};
-ghost use Rattle.llrp.specs.Calls.Network.{MayServe, RunsSim, ServesSo};
+ghost use Rattle.llrp.specs.Calls.Clients.{RunsSim, ServesAt, listens_on};
+ghost use Rattle.llrp.specs.Calls.Network.{MayServe, ServesSo};
 
-use crate::network::{FIRST_ID, conclude, read_script};
-use llrp_commands::LIMIT;
+use crate::clients::{most_clients, say_ready, serve_clients};
+use crate::network::{FIRST_ID, conclude};
+use llrp_commands::{LIMIT, SimWords};
 use llrp_endpoints::{Script, run_serve, run_serve_all};
 use llrp_listing::ToolErr;
 use llrp_session::Reader;
@@ -40,42 +43,59 @@ pub fn serve_next(
     Some(serve_stream(alloc, &stream, script, all))
 }
 
-/// Listens on this port of 127.0.0.1, and serves one client by a script. `None` means that the
-/// network failed.
-fn serve_at<N: Net<Listener = TcpListener, Stream = TcpStream>>(
-    net: &N,
-    alloc: Global,
-    port: u16,
-    script: Script,
-    all: bool,
-) -> Option<Result<(), ToolErr>>
-    ensures { MayServe all script result }
+/// The address to listen on, if no other is named: that of this machine alone.
+const THIS_MACHINE: &str = "127.0.0.1";
+
+/// The address to listen on.
+fn listens_on(bind: Option<&str>) -> &str
+    ensures { result.now ≡ listens_on bind.entry }
 {
-    let listener = TcpListener::bind(net, ("127.0.0.1", port)).ok()?;
-    serve_next(alloc, &listener, script, all)
+    match bind {
+        Some(address) => address,
+        None => THIS_MACHINE,
+    }
 }
 
-/// Reads the script, serves one client on this port of 127.0.0.1, and returns the exit status: 0 if
-/// all is well, 1 if the script or the client is at fault, 3 if the network, a device or memory
-/// failed. With `all` it answers three requests outside the profile besides. Writes an error as a
-/// line to `e`.
+/// Listens where the words say, says so if it is to, and serves clients by a script.
+fn serve_at<N: Net<Listener = TcpListener, Stream = TcpStream>, E: Sink>(
+    net: &N,
+    alloc: Global,
+    words: SimWords<'_>,
+    script: &Script,
+    e: &mut E,
+) -> Result<u8, ToolErr>
+    requires { IsFreshSink (E.log e.old) }
+    ensures { ServesAt words.entry script.now (E.log e.old) (E.log e.new) result }
+{
+    let address = listens_on(words.bind);
+    let Ok(listener) = TcpListener::bind(net, (address, words.port)) else {
+        return conclude(None, e);
+    };
+    if words.ready {
+        say_ready(alloc, address, words.port, e)?;
+    }
+    let most = most_clients(words.clients);
+    serve_clients(alloc, &listener, script, words.all, most, e)
+}
+
+/// Reads the script, serves clients as the words say, and returns the exit status: 0 if all is well,
+/// 1 if the script or a client is at fault, 3 if the network, a device or memory failed. Writes an
+/// error as a line to `e`.
 pub fn sim<N: Net<Listener = TcpListener, Stream = TcpStream>, R: Source, E: Sink>(
     net: &N,
     alloc: Global,
-    port: u16,
-    all: bool,
+    words: SimWords<'_>,
     r: &mut R,
     e: &mut E,
 ) -> Result<u8, ToolErr>
     requires source { IsFreshSource (R.log r.old) }
     requires errors { IsFreshSink (E.log e.old) }
-    ensures { RunsSim all (R.log r.old) (R.log r.new) (E.log e.old) (E.log e.new) result }
+    ensures { RunsSim words.entry (R.log r.old) (R.log r.new) (E.log e.old) (E.log e.new) result }
 {
-    let outcome = match read_script(alloc, r) {
-        Ok(script) => serve_at(net, alloc, port, script, all),
-        Err(error) => Some(Err(error)),
-    };
-    conclude(outcome, e)
+    match Script::read(alloc, r) {
+        Ok(script) => serve_at(net, alloc, words, &script, e),
+        Err(error) => conclude(Some(Err(error)), e),
+    }
 }
 
 #[cfg(test)]

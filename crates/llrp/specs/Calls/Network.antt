@@ -1,5 +1,5 @@
--- How the commands over sockets read their script and end.
-use Rattle.std.specs.Prelude.{◌≡◌, ℕ, ◌⊎◌, Bool, false, true, List, Option, Some, None, Result, Ok, Err, codes}
+-- What the commands over sockets do, and how they end.
+use Rattle.std.specs.Prelude.{◌≡◌, ℕ, Bool, false, true, List, Option, Some, None, Result, Ok, Err, codes}
 use Rattle.llrp_stream.specs.Device.{SourceLog, SinkLog, Wrote, WroteAndFailed}
 use Rattle.llrp_stream.specs.Calls.Device.{new_sink, new_source}
 use Rattle.llrp_session.specs.ReaderMachine.{new_reader}
@@ -9,20 +9,14 @@ use Rattle.llrp_endpoints.specs.declared.script.Entry.{Entry}
 use Rattle.llrp_endpoints.specs.declared.summary.Summary.{Summary}
 use Rattle.llrp_commands.specs.Calls.Command.{Answers, fine_status}
 use Rattle.llrp_commands.specs.declared.command.TheConstants.{LIMIT}
-use Rattle.llrp_listing.specs.Copying.{IsPrefix, ReadAll}
-use Rattle.llrp_listing.specs.Calls.Copying.{ReadStopped}
+use Rattle.llrp_listing.specs.Copying.{IsPrefix}
 use Rattle.llrp_endpoints.specs.Plan.{Plan}
 use Rattle.llrp_endpoints.specs.RunInventory.{RunsInventory}
 use Rattle.llrp_endpoints.specs.RunLoop.{Devices, BothEnds, RunsLoop, Traffic, DeviceWay}
 use Rattle.llrp_endpoints.specs.RunServe.{RunsServe}
 use Rattle.llrp_endpoints.specs.Calls.General.{RunsServeAll}
-use Rattle.llrp_endpoints.specs.Calls.Script.{IsScript, ParseStopped}
+use Rattle.llrp_endpoints.specs.Calls.ReadScript.{ReadsScript}
 use Rattle.llrp.specs.declared.network.TheConstants.{FIRST_ID}
-
--- What reading a script answers: the entries of all that the source gave, or why there are none.
-abbrev pub ReadsScript : SourceLog → SourceLog → Result (List Entry) ToolErr → Type 0
-ReadsScript r0 r1 (Ok entries) = (text : List ℕ) × ReadAll r0 r1 text × IsScript entries text
-ReadsScript r0 r1 (Err error) = (text : List ℕ) × (ReadStopped r0 r1 text error ⊎ (ReadAll r0 r1 text × ParseStopped text error))
 
 -- the line of a network that failed
 abbrev pub network_line : List ℕ
@@ -109,10 +103,6 @@ abbrev pub RunsScript : Type 0 → (List Entry → Option (Result (Unit {0}) Too
 RunsScript Unrun Run r0 r1 e0 e1 answer =
     (read : Result (List Entry) ToolErr) × (outcome : Option (Result (Unit {0}) ToolErr))
     × ReadsScript r0 r1 read × GoesOnWith Unrun Run read outcome × Concludes outcome e0 e1 answer
-
--- what `sim` does
-abbrev pub RunsSim : (all : Bool) → SourceLog → SourceLog → SinkLog → SinkLog → Result ℕ ToolErr → Type 0
-RunsSim all r0 r1 e0 e1 answer = RunsScript (Unit {0}) (MayServe all) r0 r1 e0 e1 answer
 
 -- what `loop` does
 abbrev pub RunsBothEnds : Plan → SourceLog → SourceLog → (t0 t1 e0 e1 : SinkLog) → Result ℕ ToolErr → Type 0

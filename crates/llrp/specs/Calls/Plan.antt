@@ -1,13 +1,13 @@
 -- The plan that the words ask for, and why they have none.
-use Rattle.std.specs.Prelude.{◌≡◌, ℕ, ◌⊎◌, Bool, false, ◌&&◌, ◌||◌, ◌==◌, List, Option, Some, None, is_some, unwrap_or, Result, Ok, Err, codes, if◌then◌else◌}
+use Rattle.std.specs.Prelude.{◌≡◌, ℕ, ◌⊎◌, Bool, false, ◌&&◌, ◌||◌, ◌==◌, List, Option, Some, None, IfSome, IfNone, is_some, unwrap_or, Result, Ok, Err, codes, if◌then◌else◌}
 use Rattle.llrp_stream.specs.Device.{SourceLog, SinkLog, Wrote, WroteAndFailed}
 use Rattle.llrp_listing.specs.declared.outcome.ToolErr.{ToolErr}
 use Rattle.llrp_listing.specs.declared.outcome.ToolErr.TheVariants as tool
 use Rattle.llrp_listing.specs.Copying.{IsPrefix, ReadAll}
 use Rattle.llrp_listing.specs.Calls.Copying.{ReadStopped}
 use Rattle.llrp_endpoints.specs.declared.plan.text.PlanErr.TheVariants as text
-use Rattle.llrp_schema.specs.declared.kinds.Profile.{Profile}
-use Rattle.llrp_schema.specs.declared.kinds.Profile.TheVariants.{Own, Whole}
+use Rattle.llrp_schema.specs.declared.kinds.KindSet.{KindSet}
+use Rattle.llrp_schema.specs.declared.kinds.KindSet.TheVariants.{Profile, Standard}
 use Rattle.llrp_endpoints.specs.declared.form.LineForm.{LineForm}
 use Rattle.llrp_endpoints.specs.declared.form.LineForm.TheVariants.{Words, Json}
 use Rattle.llrp_endpoints.specs.Plan.{Plan}
@@ -30,12 +30,12 @@ asked_polls words = unwrap_or words.polls (if is_some words.reports then 0 else 
 abbrev pub asked_form : PlanWords → LineForm
 asked_form words = if words.json then Json else Words
 
-abbrev pub asked_profile : PlanWords → Profile
-asked_profile words = if words.all then Whole else Own
+abbrev pub asked_set : PlanWords → KindSet
+asked_set words = if words.all then Standard else Profile
 
 -- a plan with what the words ask of every plan
 abbrev pub with_options : PlanWords → Plan → Plan
-with_options words plan = record plan { cleans = plan.cleans || words.clean; reports = unwrap_or words.reports 0; form = asked_form words; profile = asked_profile words }
+with_options words plan = record plan { cleans = plan.cleans || words.clean; reports = unwrap_or words.reports 0; form = asked_form words; set = asked_set words }
 
 -- the plan with the ROSpec of a standard plan
 abbrev pub asked_plan : PlanWords → Plan
@@ -66,6 +66,12 @@ ReadsPlan words r0 r1 (Ok plan) =
     (bytes : List ℕ) × ReadAll r0 r1 bytes × ListsRoSpec bytes plan.rospec
     × (plan ≡ with_options words (given plan.rospec (asked_polls words) words.check))
 ReadsPlan words r0 r1 (Err no_plan) = HasNoPlan r0 r1 no_plan
+
+-- The plan of a command, or why it has none: without a file it is that of the words; with one, what is read in some text.
+abbrev pub OpensPlan : PlanWords → Result Plan NoPlan → Type 0
+OpensPlan words (Ok plan) =
+    IfNone words.rospec (plan ≡ asked_plan words) × IfSome words.rospec (λ path. (r0 r1 : SourceLog) × ReadsPlan words r0 r1 (Ok plan))
+OpensPlan words (Err no_plan) = IfNone words.rospec (no_plan ≡ Memory)
 
 -- ---- how a command without a plan ends
 

@@ -45,7 +45,7 @@ fn options_of_both_plans(rt: HostRuntime) -> Result<(), Fail> {
                 assert!(rt; plan.reports() == awaited && plan.polls() == asked);
                 assert!(rt; plan.is_checked() == flag && plan.cleans() == flag);
                 assert!(rt; (plan.form() == LineForm::Json) == flag);
-                assert!(rt; (plan.profile() == Profile::Whole) == flag);
+                assert!(rt; (plan.kind_set() == KindSet::Standard) == flag);
             }
         }
     }

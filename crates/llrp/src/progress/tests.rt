@@ -3,6 +3,19 @@ use llrp_stream::Output;
 use std::test::Fail;
 
 #[test]
+fn tags_of_json_are_counted(rt: HostRuntime) -> Result<(), Fail> {
+    let lines = Output::new(Vec::new(rt.alloc()));
+    let mut progress = Progress::new(lines, Some(Vec::new(rt.alloc())));
+    let first =
+        b"{\"epc\":\"urn:epc:tag:gid-96:1.2.3\",\"antenna\":1}\n{\"report\":1}\n{\"e".as_slice();
+    assert!(rt; progress.write(first)? == first.len());
+    let second = b"pc\":\"bits 4 xA0\"}\n{\"report\":1}\n{\"tags\":2,\"reports\":2}\n".as_slice();
+    assert!(rt; progress.write(second)? == second.len());
+    assert!(rt; progress.tags == 2);
+    Ok(())
+}
+
+#[test]
 fn tags_are_counted_over_pieces(rt: HostRuntime) -> Result<(), Fail> {
     let lines = Output::new(Vec::new(rt.alloc()));
     let mut progress = Progress::new(lines, Some(Vec::new(rt.alloc())));

@@ -70,7 +70,13 @@ fn ends_and_their_lines(rt: HostRuntime) -> Result<(), Fail> {
 fn a_refused_script_and_a_taken_port(rt: HostRuntime) -> Result<(), Fail> {
     let alloc = rt.alloc();
     let taken = TcpListener::bind(&rt, "127.0.0.1:0")?;
-    let port = taken.local_addr()?.port();
+    let words = SimWords {
+        port: taken.local_addr()?.port(),
+        all: false,
+        bind: None,
+        clients: None,
+        ready: true,
+    };
     for (script, status, line) in [
         (
             b"0 5 tick\n0 4 tick\n".as_slice(),
@@ -80,16 +86,7 @@ fn a_refused_script_and_a_taken_port(rt: HostRuntime) -> Result<(), Fail> {
         (b"".as_slice(), 3, b"llrp: network\n".as_slice()),
     ] {
         let mut errors = Output::new(Vec::new(alloc));
-        assert!(rt;
-            sim(
-                &rt,
-                alloc,
-                port,
-                false,
-                &mut Input::new(script),
-                &mut errors
-            )? == status
-        );
+        assert!(rt; sim(&rt, alloc, words, &mut Input::new(script), &mut errors)? == status);
         assert!(rt; errors.into_inner().as_slice() == line);
     }
     Ok(())

@@ -1,0 +1,80 @@
+//! Words that are read one by one and ask for nothing together.
+
+use crate::plan::{has_every_twice, never_reports};
+use llrp_commands::{PlanWords, StopWords, WatchWords};
+
+/// What is written if reports are awaited of a ROSpec that reports at its end alone.
+const NEVER_REPORTS: &[u8] =
+    b"error: the argument '--every 0' cannot be used with '--reports <K>'\n\nFor more information, try '--help'.\n";
+
+/// What is written if --every is given beside a ROSpec that says it.
+const EVERY_TWICE: &[u8] =
+    b"error: the argument '--rospec <FILE>' cannot be used with '--every <N>'\n\nFor more information, try '--help'.\n";
+
+/// What is written if --id is given beside a ROSpec that says it.
+const ID_TWICE: &[u8] =
+    b"error: the argument '--rospec <FILE>' cannot be used with '--id <N>'\n\nFor more information, try '--help'.\n";
+
+/// What is written if --antennas is given beside a ROSpec that says them.
+const ANTENNAS_TWICE: &[u8] =
+    b"error: the argument '--rospec <FILE>' cannot be used with '--antennas <LIST>'\n\nFor more information, try '--help'.\n";
+
+/// What is written if a list has something else than antennas.
+const NO_ANTENNAS: &[u8] =
+    b"error: invalid value for '--antennas <LIST>': expected numbers from 1 to 65535 with commas between them\n\nFor more information, try '--help'.\n";
+
+/// What is written if HOST is neither a host nor one with a port.
+pub const NO_ADDRESS: &[u8] =
+    b"error: invalid value for '<HOST>': expected HOST, HOST:PORT, [IPV6] or [IPV6]:PORT\n\nFor more information, try '--help'.\n";
+
+/// What is written if the options of a plan exclude each other.
+pub fn plan_clash(words: PlanWords<'_>) -> Option<&'static [u8]> {
+    if has_every_twice(words) {
+        return Some(EVERY_TWICE);
+    }
+    if never_reports(words) {
+        return Some(NEVER_REPORTS);
+    }
+    None
+}
+
+/// Whether a text is the number of an antenna, in digits alone.
+fn is_antenna(text: &str) -> bool {
+    match text.as_bytes() {
+        [b'1'..=b'9', ..] => text.parse::<u16>().is_ok(),
+        _ => false,
+    }
+}
+
+/// Whether a text has the numbers of antennas, with commas between them.
+fn are_antennas(text: &str) -> bool {
+    for part in text.split(',') {
+        if !is_antenna(part) {
+            return false;
+        }
+    }
+    true
+}
+
+/// What is written if the options of `watch` exclude each other, or name no antennas.
+pub fn watch_clash(words: WatchWords<'_>) -> Option<&'static [u8]> {
+    let has_file = words.rospec.is_some();
+    match words.antennas {
+        _ if has_file && words.every.is_some() => Some(EVERY_TWICE),
+        _ if has_file && words.id.is_some() => Some(ID_TWICE),
+        Some(_) if has_file => Some(ANTENNAS_TWICE),
+        Some(antennas) if !are_antennas(antennas) => Some(NO_ANTENNAS),
+        _ => None,
+    }
+}
+
+/// What is written if the options of `stop` exclude each other.
+pub fn stop_clash(words: StopWords<'_>) -> Option<&'static [u8]> {
+    if words.rospec.is_some() && words.id.is_some() {
+        return Some(ID_TWICE);
+    }
+    None
+}
+
+#[cfg(test)]
+mod tests;

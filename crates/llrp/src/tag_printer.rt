@@ -1,0 +1,106 @@
+//! Prints the tags of a client that lasts, each line with the host's time.
+
+ghost use Rattle.std.specs.Prelude.{◌≡◌, IfErr, OnOk};
+ghost use Rattle.std.specs.Io.KnownBytes.{Appends};
+ghost use Rattle.llrp_listing.specs.declared.outcome.ToolErr.TheVariants.{Write as WriteFails};
+
+use crate::deadline::Deadline;
+use llrp_endpoints::{LineForm, Watcher, marked_lines};
+use llrp_listing::ToolErr;
+use std::alloc::Global;
+use std::io::Write;
+use std::time::{Duration, SystemTime};
+
+/// The microseconds since 1970-01-01T00:00:00Z; 0 if the clock cannot be read.
+fn micros_now(rt: &HostRuntime) -> u64 {
+    let Ok(now) = SystemTime::now(rt) else {
+        return 0;
+    };
+    let since = now
+        .duration_since(SystemTime::UNIX_EPOCH)
+        .unwrap_or(Duration::ZERO);
+    u64::try_from(since.as_micros()).unwrap_or(u64::MAX)
+}
+
+/// Prints the lines of the reports that a read completed, with the moment at which the read ended and the
+/// name of the reader, and says whether the time is up.
+#[derive(Drop)]
+pub struct TagPrinter<'a, W: Write + Drop> {
+    rt: &'a HostRuntime,
+    alloc: Global,
+    deadline: &'a Deadline,
+    form: LineForm,
+    name: Option<&'a [u8]>,
+    output: W,
+    has_printed: bool,
+    has_failed: bool,
+}
+
+impl<'a, W: Write + Drop> TagPrinter<'a, W> {
+    /// One that has printed nothing yet.
+    pub fn new(
+        rt: &'a HostRuntime,
+        deadline: &'a Deadline,
+        form: LineForm,
+        name: Option<&'a [u8]>,
+        output: W,
+    ) -> TagPrinter<'a, W>
+        ensures form { result.form ≡ form }
+        ensures name { result.name ≡ name.entry }
+        ensures contents { W.contents result.output ≡ W.contents output }
+    {
+        TagPrinter {
+            rt,
+            alloc: rt.alloc(),
+            deadline,
+            form,
+            name,
+            output,
+            has_printed: false,
+            has_failed: false,
+        }
+    }
+
+    /// Whether something was printed.
+    pub fn has_printed(&self) -> bool {
+        self.has_printed
+    }
+
+    /// Whether printing failed.
+    pub fn has_failed(&self) -> bool {
+        self.has_failed
+    }
+
+    /// Prints a text.
+    fn print(&mut self, text: &[u8]) -> Result<(), ToolErr>
+        ensures printed { OnOk result (Appends (W.contents self.old.output)
+            (W.contents self.new.output) text.now) }
+        ensures write { IfErr result (λ error. error ≡ WriteFails) }
+        ensures form { self.new.form ≡ self.old.form }
+        ensures name { self.new.name ≡ self.old.name }
+    {
+        if self.output.write_all(text).is_err() {
+            self.has_failed = true;
+            return Err(ToolErr::Write);
+        }
+        self.has_printed = self.has_printed || !text.is_empty();
+        Ok(())
+    }
+}
+
+impl<W: Write + Drop> Watcher for TagPrinter<'_, W> {
+    ghost use Rattle.llrp_endpoints.specs.MarkedLines.{name_in};
+    ghost use Rattle.llrp.specs.Calls.Watch.{PrintsTo};
+
+    ghost has = { λ p. PrintsTo p.form (name_in p.name) (W.contents p.output) };
+
+    fn turn(&mut self, _piece: &[u8], lines: &[u8]) -> Result<bool, ToolErr> {
+        let micros = micros_now(self.rt);
+        let text = marked_lines(self.alloc, self.form, micros, self.name, lines)?;
+        self.print(text.as_slice())?;
+        Ok(self.deadline.tell(self.rt))
+    }
+}
+
+#[cfg(test)]
+mod tests;
