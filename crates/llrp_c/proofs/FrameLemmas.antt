@@ -3,7 +3,7 @@ use Rattle.std.proofs.Common.{◌≡◌, ℕ, ◌+◌, ◌-◌, ◌≤◌, Bool,
 use Rattle.std.specs.Prelude.{if◌then◌else◌}
 use Rattle.std.proofs.Math.Seq.{take-add}
 use Rattle.std.proofs.lemmas.List.{append-nil, take-append-drop, take_all, length-take-le, length-drop}
-use Rattle.llrp_schema.specs.declared.kinds.Profile.{Profile}
+use Rattle.llrp_schema.specs.declared.kinds.KindSet.{KindSet}
 use Rattle.llrp_stream.specs.declared.item.End.{End}
 use Rattle.llrp_stream.specs.declared.item.End.TheVariants as at_end
 use Rattle.llrp_stream.specs.Cuts.{Cuts, IsFrame, joined, length_field}
@@ -68,7 +68,7 @@ ends_broken stream piece octets used frames end are left is e cut =
     (one_cut piece frames are.frames end at_end.Broken cut broken).1
 
 -- the listing of the octets that are listed is that of the whole frames
-pub listed : {json : Bool} {p : Profile} (broken : Bool) (stream : List ℕ) (octets used : ℕ) (piece text : List ℕ) (verdict : Verdict) (status : Status) → AreFrames stream octets → IsLeft broken (drop octets stream)
+pub listed : {json : Bool} {p : KindSet} (broken : Bool) (stream : List ℕ) (octets used : ℕ) (piece text : List ℕ) (verdict : Verdict) (status : Status) → AreFrames stream octets → IsLeft broken (drop octets stream)
     → used ≡ (if broken then length stream else octets) → piece ≡ take used stream → HasListing json p piece text verdict → status ≡ listed_status broken verdict → IsListing json p stream used text status
 listed {json} {p} false stream octets used piece text verdict status are left is e has status_is =
     let clean = ends_clean stream piece octets used has.are.frames has.end are is e has.are.cut in

@@ -6,13 +6,15 @@ use Rattle.tag_uri.specs.declared.fault.UriFault.{UriFault}
 use Rattle.tag_uri.specs.declared.fault.UriFault.TheVariants as uri
 use Rattle.llrp_tree.specs.declared.node.NodeFault.{NodeFault}
 use Rattle.llrp_tree.specs.declared.node.NodeFault.TheVariants as node
+use Rattle.llrp_c.specs.declared.status.KeyRule.{KeyRule}
+use Rattle.llrp_c.specs.declared.status.KeyRule.TheVariants as key
 use Rattle.llrp_c.specs.declared.status.Status.{Status}
-use Rattle.llrp_c.specs.declared.status.Status.TheVariants.{Done, Faulty, Broken, Room, Length, Utf8, Long, Memory, Word, Uri, Line, Level, Name, Fields, Number, Tail, OverLimit, Node}
+use Rattle.llrp_c.specs.declared.status.Status.TheVariants.{Done, Faulty, Broken, Room, Length, Utf8, Long, Memory, Word, Uri, Line, Level, Name, Fields, Number, Tail, OverLimit, Node, Key}
 use Rattle.tag_epc.specs.Faults.{word_fault_name}
 use Rattle.tag_uri.specs.TagText.{fault_name}
 use Rattle.llrp_listing.specs.declared.outcome.Refusal.TheVariants as refusal
 use Rattle.llrp_listing.specs.Refused.{refusal_name}
-use Rattle.llrp_c.specs.Status.{code_of, status_name, status_with, statuses}
+use Rattle.llrp_c.specs.Status.{code_of, key_name, status_name, status_with, statuses}
 
 word_apart : (x : WordReason) → status_with (code_of (Word x)) ≡ Some (Word x)
 unfolding status_with statuses
@@ -46,6 +48,14 @@ node_apart node.Missing = refl
 node_apart node.TooDeep = refl
 node_apart node.TooLong = refl
 
+key_apart : (x : KeyRule) → status_with (code_of (Key x)) ≡ Some (Key x)
+unfolding status_with statuses
+key_apart key.Hex = refl
+key_apart key.Prefix = refl
+key_apart key.Length = refl
+key_apart key.Check = refl
+key_apart key.Serial = refl
+
 -- no two statuses have one code
 pub codes_apart : (status : Status) → status_with (code_of status) ≡ Some status
 unfolding status_with statuses
@@ -67,6 +77,7 @@ codes_apart OverLimit = refl
 codes_apart (Word reason) = word_apart reason
 codes_apart (Uri fault) = uri_apart fault
 codes_apart (Node fault) = node_apart fault
+codes_apart (Key rule) = key_apart rule
 
 -- ---- the length of a name
 
@@ -99,6 +110,13 @@ node_short node.Missing = omega arith
 node_short node.TooDeep = omega arith
 node_short node.TooLong = omega arith
 
+key_short : (x : KeyRule) → length (key_name x) ≤ 16
+key_short key.Hex = omega arith
+key_short key.Prefix = omega arith
+key_short key.Length = omega arith
+key_short key.Check = omega arith
+key_short key.Serial = omega arith
+
 -- no name is longer than 16 octets
 pub short_name : (status : Status) → length (status_name status) ≤ 16
 short_name Done = omega arith
@@ -119,3 +137,4 @@ short_name OverLimit = omega arith
 short_name (Word reason) = word_short reason
 short_name (Uri fault) = uri_short fault
 short_name (Node fault) = node_short fault
+short_name (Key rule) = key_short rule

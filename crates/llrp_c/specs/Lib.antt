@@ -1,4 +1,5 @@
 pub mod Listings
 pub mod Status
 pub mod Tags
+pub mod Keys
 pub mod Private

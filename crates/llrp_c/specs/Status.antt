@@ -11,8 +11,10 @@ use Rattle.llrp_tree.specs.declared.node.NodeFault.TheVariants as node
 use Rattle.llrp_listing.specs.declared.outcome.Refusal.{Refusal}
 use Rattle.llrp_listing.specs.declared.outcome.Refusal.TheVariants as refusal
 use Rattle.llrp_listing.specs.Refused.{refusal_name}
+use Rattle.llrp_c.specs.declared.status.KeyRule.{KeyRule}
+use Rattle.llrp_c.specs.declared.status.KeyRule.TheVariants as key
 use Rattle.llrp_c.specs.declared.status.Status.{Status}
-use Rattle.llrp_c.specs.declared.status.Status.TheVariants.{Done, Faulty, Broken, Room, Length, Utf8, Long, Memory, Word, Uri, Line, Level, Name, Fields, Number, Tail, OverLimit, Node}
+use Rattle.llrp_c.specs.declared.status.Status.TheVariants.{Done, Faulty, Broken, Room, Length, Utf8, Long, Memory, Word, Uri, Line, Level, Name, Fields, Number, Tail, OverLimit, Node, Key}
 
 -- the code of the part of a word that fails
 abbrev pub word_code : WordReason → ℕ
@@ -46,6 +48,21 @@ node_code node.Missing = 69
 node_code node.TooDeep = 70
 node_code node.TooLong = 71
 
+-- the code of a rule that refuses a text in a form, and the rule's name
+abbrev pub key_code : KeyRule → ℕ
+key_code key.Hex = 80
+key_code key.Prefix = 81
+key_code key.Length = 82
+key_code key.Check = 83
+key_code key.Serial = 84
+
+abbrev pub key_name : KeyRule → List ℕ
+key_name key.Hex = codes "Hex"
+key_name key.Prefix = codes "Prefix"
+key_name key.Length = codes "Length"
+key_name key.Check = codes "Check"
+key_name key.Serial = codes "Serial"
+
 -- the code of a status
 abbrev pub code_of : Status → ℕ
 code_of Done = 0
@@ -66,6 +83,7 @@ code_of Number = 52
 code_of Tail = 53
 code_of OverLimit = 54
 code_of (Node fault) = node_code fault
+code_of (Key rule) = key_code rule
 
 -- the name of a status
 abbrev pub status_name : Status → List ℕ
@@ -87,6 +105,7 @@ status_name Number = codes "Number"
 status_name Tail = codes "Tail"
 status_name OverLimit = codes "OverLimit"
 status_name (Node fault) = refusal_name (refusal.Node fault)
+status_name (Key rule) = key_name rule
 
 -- the status of a refused line
 abbrev pub status_of : Refusal → Status
@@ -109,7 +128,8 @@ statuses =
     Uri uri.Filter ∷ Uri uri.Digits ∷ Uri uri.Range ∷ Uri uri.RawForm ∷ Uri uri.RawOfLawful ∷
     Line ∷ Level ∷ Name ∷ Fields ∷ Number ∷ Tail ∷ OverLimit ∷
     Node node.FieldCount ∷ Node node.Value ∷ Node node.Tail ∷ Node node.Misplaced ∷
-    Node node.TooMany ∷ Node node.Missing ∷ Node node.TooDeep ∷ Node node.TooLong ∷ []
+    Node node.TooMany ∷ Node node.Missing ∷ Node node.TooDeep ∷ Node node.TooLong ∷
+    Key key.Hex ∷ Key key.Prefix ∷ Key key.Length ∷ Key key.Check ∷ Key key.Serial ∷ []
 
 -- the status with a code
 unfoldable pub status_with : ℕ → Option Status

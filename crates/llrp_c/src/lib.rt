@@ -1,4 +1,4 @@
-//! The static library for C, and for every language that can call C: tags and their texts, listings of streams, and streams of
+//! The static library for C, and for every language that can call C: tags, their texts and their keys, listings of streams, and streams of
 //! listings, on buffers and numbers that the caller passes. No call keeps anything between two calls.
 //!
 //! Use it from any language but Rattle, whose programs call the crates below. `include/llrp.h` declares the functions, and
@@ -12,12 +12,12 @@
 #![tactic(auto)]
 
 mod frames;
+mod keys;
 pub mod laws;
 mod listings;
-mod memory_source;
 mod names;
 mod room;
 mod status;
 mod tags;
 
-pub use status::Status;
+pub use status::{KeyRule, Status};

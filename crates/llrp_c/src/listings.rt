@@ -1,7 +1,7 @@
 //! Lists streams and encodes listings.
 
 ghost use Rattle.std.specs.Prelude.{◌≡◌, ◌≤◌, false, if◌then◌else◌, length, true, IfOk, IfSome, MatchResult};
-ghost use Rattle.llrp_schema.specs.declared.kinds.Profile.TheVariants.{Own, Whole};
+ghost use Rattle.llrp_schema.specs.declared.kinds.KindSet.TheVariants.{Profile, Standard};
 ghost use Rattle.llrp_tree.specs.declared.TheConstants.{MAX_LIMIT};
 ghost use Rattle.llrp_listing.specs.Encoding.{EncodesIn};
 ghost use Rattle.llrp_listing.specs.Show.{ListedAs};
@@ -10,12 +10,11 @@ ghost use Rattle.llrp_c.specs.Private.Parts.{EncodeFails, HasListing, Stops, lis
 ghost use Rattle.llrp_c.specs.Listings.{IsListing, ItemTextIn, ListsIn, end_text_in, WritesOctets, WritesOctetsIn};
 
 use crate::frames::{WholeFrames, whole_frames};
-use crate::memory_source::MemorySource;
 use crate::room::put;
 use crate::status::Status;
 use llrp_json::list_stream_json;
-use llrp_listing::{ToolErr, Verdict, list_stream_in, run_encode_in};
-use llrp_schema::Profile;
+use llrp_listing::{ToolErr, Verdict, encode_listing, list_stream_in};
+use llrp_schema::KindSet;
 use llrp_stream::{Output, Sink};
 use llrp_tree::MAX_LIMIT;
 use std::alloc::Global;
@@ -56,7 +55,7 @@ fn listed_status(broken: bool, verdict: Verdict) -> Status
 fn write_listing<W: Sink>(
     alloc: Global,
     json: bool,
-    set: Profile,
+    set: KindSet,
     stream: &[u8],
     w: &mut W,
 ) -> Result<Verdict, ToolErr>
@@ -72,7 +71,7 @@ fn write_listing<W: Sink>(
 }
 
 /// The listing of a stream in a set of kinds, or its lines of JSON; `None` if memory ran out.
-fn listing_of(alloc: Global, json: bool, set: Profile, stream: &[u8]) -> Option<(Vec<u8>, Verdict)>
+fn listing_of(alloc: Global, json: bool, set: KindSet, stream: &[u8]) -> Option<(Vec<u8>, Verdict)>
     ensures { IfSome result (λ listing. HasListing json set stream.now listing.0.items listing.1) }
 {
     let mut text = Output::new(Vec::new(alloc));
@@ -84,7 +83,7 @@ fn listing_of(alloc: Global, json: bool, set: Profile, stream: &[u8]) -> Option<
 
 /// The listing of the whole frames of a stream in a set of kinds, or their lines of JSON; `None` if
 /// memory ran out.
-fn list_frames(alloc: Global, json: bool, set: Profile, stream: &[u8]) -> Option<Listed>
+fn list_frames(alloc: Global, json: bool, set: KindSet, stream: &[u8]) -> Option<Listed>
     ensures { IfSome result (λ listed. IsListing json set stream.now listed.used listed.text.items
         listed.status) }
 {
@@ -102,7 +101,7 @@ fn list_frames(alloc: Global, json: bool, set: Profile, stream: &[u8]) -> Option
 fn list_in(
     alloc: Global,
     json: bool,
-    set: Profile,
+    set: KindSet,
     stream: &[u8],
     listing: &mut [u8],
     used: &mut usize,
@@ -135,9 +134,17 @@ pub extern "C" fn llrp_list(
     used: &mut usize,
     written: &mut usize,
 ) -> u32
-    ensures { ListsIn false Own stream.now listing.old listing.new used.new written.new result }
+    ensures { ListsIn false Profile stream.now listing.old listing.new used.new written.new result }
 {
-    list_in(alloc, false, Profile::Own, stream, listing, used, written)
+    list_in(
+        alloc,
+        false,
+        KindSet::Profile,
+        stream,
+        listing,
+        used,
+        written,
+    )
 }
 
 /// The same, with every message and parameter of LLRP 1.1 in place of those of the profile.
@@ -149,9 +156,17 @@ pub extern "C" fn llrp_list_all(
     used: &mut usize,
     written: &mut usize,
 ) -> u32
-    ensures { ListsIn false Whole stream.now listing.old listing.new used.new written.new result }
+    ensures { ListsIn false Standard stream.now listing.old listing.new used.new written.new result }
 {
-    list_in(alloc, false, Profile::Whole, stream, listing, used, written)
+    list_in(
+        alloc,
+        false,
+        KindSet::Standard,
+        stream,
+        listing,
+        used,
+        written,
+    )
 }
 
 /// Writes the whole frames of a stream to `lines` as lines of JSON, and what `llrp_list` writes besides.
@@ -163,9 +178,9 @@ pub extern "C" fn llrp_list_json(
     used: &mut usize,
     written: &mut usize,
 ) -> u32
-    ensures { ListsIn true Own stream.now lines.old lines.new used.new written.new result }
+    ensures { ListsIn true Profile stream.now lines.old lines.new used.new written.new result }
 {
-    list_in(alloc, true, Profile::Own, stream, lines, used, written)
+    list_in(alloc, true, KindSet::Profile, stream, lines, used, written)
 }
 
 /// The same, with every message and parameter of LLRP 1.1 in place of those of the profile.
@@ -177,24 +192,18 @@ pub extern "C" fn llrp_list_json_all(
     used: &mut usize,
     written: &mut usize,
 ) -> u32
-    ensures { ListsIn true Whole stream.now lines.old lines.new used.new written.new result }
+    ensures { ListsIn true Standard stream.now lines.old lines.new used.new written.new result }
 {
-    list_in(alloc, true, Profile::Whole, stream, lines, used, written)
+    list_in(alloc, true, KindSet::Standard, stream, lines, used, written)
 }
 
 /// The octets of a listing of a set of kinds, or why it has none.
-fn encoded(alloc: Global, set: Profile, listing: &[u8]) -> Result<Vec<u8>, ToolErr>
+fn encoded(alloc: Global, set: KindSet, listing: &[u8]) -> Result<Vec<u8>, ToolErr>
     ensures { MatchResult result (λ octets. EncodesIn set MAX_LIMIT listing.now octets.items)
         (EncodeFails set listing.now) }
 {
     let mut octets = Output::new(Vec::new(alloc));
-    match run_encode_in(
-        alloc,
-        set,
-        &mut MemorySource::new(listing),
-        &mut octets,
-        MAX_LIMIT,
-    ) {
+    match encode_listing(alloc, set, listing, &mut octets, MAX_LIMIT) {
         Ok(()) => Ok(octets.into_inner()),
         Err(error) => Err(error),
     }
@@ -206,7 +215,6 @@ fn stopped(error: ToolErr) -> (u64, Status)
 {
     match error {
         ToolErr::Listing { line, reason } => (line, Status::of_refusal(reason)),
-        ToolErr::Bound => (0, Status::Long),
         _ => (0, Status::Memory),
     }
 }
@@ -214,7 +222,7 @@ fn stopped(error: ToolErr) -> (u64, Status)
 /// The code of `llrp_encode` in a set of kinds, and what it writes.
 fn encode_in(
     alloc: Global,
-    set: Profile,
+    set: KindSet,
     listing: &[u8],
     octets: &mut [u8],
     written: &mut usize,
@@ -253,7 +261,7 @@ pub extern "C" fn llrp_encode(
 ) -> u32
     ensures { WritesOctets listing.now octets.old octets.new written.new line.new result }
 {
-    encode_in(alloc, Profile::Own, listing, octets, written, line)
+    encode_in(alloc, KindSet::Profile, listing, octets, written, line)
 }
 
 /// The same, with every message and parameter of LLRP 1.1 in place of those of the profile.
@@ -265,7 +273,7 @@ pub extern "C" fn llrp_encode_all(
     written: &mut usize,
     line: &mut u64,
 ) -> u32
-    ensures { WritesOctetsIn Whole listing.now octets.old octets.new written.new line.new result }
+    ensures { WritesOctetsIn Standard listing.now octets.old octets.new written.new line.new result }
 {
-    encode_in(alloc, Profile::Whole, listing, octets, written, line)
+    encode_in(alloc, KindSet::Standard, listing, octets, written, line)
 }

@@ -1,12 +1,27 @@
 //! How a call ended.
 
 ghost use Rattle.std.specs.Prelude.{◌≡◌, ◌++◌};
-ghost use Rattle.llrp_c.specs.Status.{code_of, status_name, node_code, status_of, status_with, uri_code, word_code};
+ghost use Rattle.llrp_c.specs.Status.{code_of, key_code, key_name, status_name, node_code, status_of, status_with, uri_code, word_code};
 
 use llrp_listing::Refusal;
 use llrp_tree::NodeFault;
 use tag_epc::WordReason;
 use tag_uri::UriFault;
+
+/// The rules that refuse a text in a form, besides those of tag URIs.
+#[derive(Clone, Copy)]
+pub enum KeyRule {
+    /// The text begins as no other form, and is not 24 hexadecimal digits.
+    Hex,
+    /// It is not known how many digits the company prefix has.
+    Prefix,
+    /// The key has fewer digits than it has to have.
+    Length,
+    /// The check digit is wrong.
+    Check,
+    /// After the key comes what it does not have there.
+    Serial,
+}
 
 /// How a call ended. Its code is a constant of `include/llrp.h`.
 #[derive(Clone, Copy)]
@@ -47,6 +62,8 @@ pub enum Status {
     OverLimit,
     /// A parameter or message is not lawful, because of this fault.
     Node(NodeFault),
+    /// The text is refused in its form, because of this rule.
+    Key(KeyRule),
 }
 
 /// The code of the part of a word that fails.
@@ -96,6 +113,32 @@ fn node_code(fault: NodeFault) -> u32
     }
 }
 
+/// The code of a rule that refuses a text in a form.
+fn key_code(rule: KeyRule) -> u32
+    ensures { result ≡ key_code rule }
+{
+    match rule {
+        KeyRule::Hex => 80,
+        KeyRule::Prefix => 81,
+        KeyRule::Length => 82,
+        KeyRule::Check => 83,
+        KeyRule::Serial => 84,
+    }
+}
+
+/// The name of a rule that refuses a text in a form.
+fn key_name(rule: KeyRule) -> &'static str
+    ensures { result.now ≡ key_name rule }
+{
+    match rule {
+        KeyRule::Hex => "Hex",
+        KeyRule::Prefix => "Prefix",
+        KeyRule::Length => "Length",
+        KeyRule::Check => "Check",
+        KeyRule::Serial => "Serial",
+    }
+}
+
 impl Status {
     /// The status of a refused line.
     pub fn of_refusal(reason: Refusal) -> Status
@@ -137,6 +180,7 @@ impl Status {
             Status::Tail => 53,
             Status::OverLimit => 54,
             Status::Node(fault) => node_code(fault),
+            Status::Key(rule) => key_code(rule),
         }
     }
 
@@ -163,6 +207,7 @@ impl Status {
             Status::Tail => Refusal::Tail.names(),
             Status::OverLimit => Refusal::OverLimit.names(),
             Status::Node(fault) => Refusal::Node(fault).names(),
+            Status::Key(rule) => (key_name(rule), ""),
         }
     }
 }
@@ -211,6 +256,11 @@ pub(crate) fn status_with(code: u32) -> Option<Status>
         69 => Some(Status::Node(NodeFault::Missing)),
         70 => Some(Status::Node(NodeFault::TooDeep)),
         71 => Some(Status::Node(NodeFault::TooLong)),
+        80 => Some(Status::Key(KeyRule::Hex)),
+        81 => Some(Status::Key(KeyRule::Prefix)),
+        82 => Some(Status::Key(KeyRule::Length)),
+        83 => Some(Status::Key(KeyRule::Check)),
+        84 => Some(Status::Key(KeyRule::Serial)),
         _ => None,
     }
 }

@@ -15,13 +15,13 @@ use tag_epc::Epc;
 use tag_uri::{put_text_of_word, word_of_text};
 
 /// How many octets a tag's word has.
-const WORD_OCTETS: usize = 12;
+pub(crate) const WORD_OCTETS: usize = 12;
 
 /// The room that is enough for each text of a word.
 const TEXT_ROOM: usize = 64;
 
 /// The word of these twelve octets.
-fn word_of(octets: &[u8]) -> Word
+pub(crate) fn word_of(octets: &[u8]) -> Word
     requires { length octets.now ≡ 12 }
     ensures { word_digits result ≡ digits_of_bytes octets.now }
 {

@@ -1,6 +1,6 @@
 -- What the calls for listings are made of.
-use Rattle.std.specs.Prelude.{◌≡◌, ℕ, ◌≤◌, Bool, true, false, List, length}
-use Rattle.llrp_schema.specs.declared.kinds.Profile.{Profile}
+use Rattle.std.specs.Prelude.{◌≡◌, ℕ, Bool, true, false, List}
+use Rattle.llrp_schema.specs.declared.kinds.KindSet.{KindSet}
 use Rattle.llrp_tree.specs.declared.TheConstants.{MAX_LIMIT}
 use Rattle.llrp_stream.specs.declared.item.Item.{Item}
 use Rattle.llrp_stream.specs.declared.item.End.{End}
@@ -9,7 +9,6 @@ use Rattle.llrp_listing.specs.declared.outcome.ToolErr.{ToolErr}
 use Rattle.llrp_listing.specs.declared.outcome.ToolErr.TheVariants.{Listing, Script, Hex, Read, Write, Bound, Memory, Broken, Peer, Strange, Early}
 use Rattle.llrp_listing.specs.declared.outcome.Verdict.{Verdict}
 use Rattle.llrp_listing.specs.declared.outcome.Verdict.TheVariants.{Lawful, Faulty}
-use Rattle.llrp_listing.specs.declared.devices.TheConstants.{MOST_READS}
 use Rattle.llrp_listing.specs.Encoding.{RefusesIn}
 use Rattle.llrp_listing.specs.Show.{verdict_of}
 use Rattle.llrp_listing.specs.StreamListing.{IsStreamText, is_lawful}
@@ -19,7 +18,7 @@ use Rattle.llrp_c.specs.Listings.{ItemTextIn, end_text_in}
 use Rattle.llrp_c.specs.Status.{status_of}
 
 -- The text is the listing of the stream, or its lines of JSON, and the verdict is the stream's.
-pub record HasListing (json : Bool) (p : Profile) (stream text : List ℕ) (verdict : Verdict) : Type 0 where
+pub record HasListing (json : Bool) (p : KindSet) (stream text : List ℕ) (verdict : Verdict) : Type 0 where
   pub items : List Item
   pub end : End
   pub are : ItemsIn p MAX_LIMIT stream items end
@@ -32,11 +31,10 @@ listed_status true verdict = status.Broken
 listed_status false Lawful = status.Done
 listed_status false Faulty = status.Faulty
 
--- why the octets of a listing in memory are not there; one that is too long has an octet for each of the most reads
-abbrev pub EncodeFails : Profile → List ℕ → ToolErr → Type 0
+-- why the octets of a listing in memory are not there
+abbrev pub EncodeFails : KindSet → List ℕ → ToolErr → Type 0
 EncodeFails p listing (Listing line reason) = (octets : List ℕ) × RefusesIn p MAX_LIMIT listing line reason octets
 EncodeFails p listing Write = Unit {0}
-EncodeFails p listing Bound = MOST_READS ≤ length listing
 EncodeFails p listing Memory = Unit {0}
 EncodeFails p listing _ = ⊥
 
@@ -44,7 +42,7 @@ EncodeFails p listing _ = ⊥
 abbrev pub Stops : ToolErr → ℕ → Status → Type 0
 Stops (Listing line reason) at ended = (at ≡ line) × (ended ≡ status_of reason)
 Stops Write at ended = (at ≡ 0) × (ended ≡ status.Memory)
-Stops Bound at ended = (at ≡ 0) × (ended ≡ status.Long)
+Stops Bound at ended = (at ≡ 0) × (ended ≡ status.Memory)
 Stops Memory at ended = (at ≡ 0) × (ended ≡ status.Memory)
 Stops Read at ended = (at ≡ 0) × (ended ≡ status.Memory)
 Stops (Script line) at ended = (at ≡ 0) × (ended ≡ status.Memory)
