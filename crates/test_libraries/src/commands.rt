@@ -5,7 +5,8 @@ use crate::usage::{
     NO_SUCH_FLAG, NO_TEXT, PORT_ZERO, SHOW_HELP, SIM_HELP,
 };
 use llrp_tool::{
-    Input, NetworkCommand, Output, PlanWords, ToolErr, network_command, reads_input, run_command,
+    Input, NetworkCommand, Output, PlanWords, SimWords, ToolErr, network_command, reads_input,
+    run_command,
 };
 use std::alloc::Global;
 use std::test::*;
@@ -31,7 +32,13 @@ fn run(alloc: Global, words: &[&str], input: &[u8]) -> Outcome {
 }
 
 /// Whether a command without input answers so, and writes this to its output and for errors.
-fn answers(alloc: Global, words: &[&str], status: u8, output: &[u8], errors: &[u8]) -> bool {
+pub(super) fn answers(
+    alloc: Global,
+    words: &[&str],
+    status: u8,
+    output: &[u8],
+    errors: &[u8],
+) -> bool {
     run(alloc, words, b"").is(status, output, errors)
 }
 
@@ -61,7 +68,7 @@ type CommandRow = (
     &'static [u8],
 );
 
-static COMMAND_ROWS: [CommandRow; 22] = [
+static COMMAND_ROWS: [CommandRow; 33] = [
     (
         &["show", "--hex"],
         b"083E0000000A00000007",
@@ -192,6 +199,109 @@ static COMMAND_ROWS: [CommandRow; 22] = [
         b"",
     ),
     (&["epc", ""], b"", 1, b"! Start\n", b""),
+    // The forms of SGTIN, SSCC and SGLN of EPC Tag Data Standard 1.13, sections 7 and 14, and appendix E.
+    (
+        &["epc", "--forms", "3074257BF7194E4000001A85"],
+        b"",
+        0,
+        b"tag urn:epc:tag:sgtin-96:3.0614141.812345.6789\n\
+pure urn:epc:id:sgtin:0614141.812345.6789\n\
+element (01)80614141123458(21)6789\n\
+link https://id.gs1.org/01/80614141123458/21/6789\n\
+hex 3074257BF7194E4000001A85\n\
+key gtin 80614141123458 6789\n",
+        b"",
+    ),
+    (
+        &[
+            "epc",
+            "--forms",
+            "--prefix-digits",
+            "7",
+            "--filter",
+            "3",
+            "(00)106141412345678900",
+        ],
+        b"",
+        1,
+        b"! Check 8\n",
+        b"",
+    ),
+    (
+        &["epc", "--forms", "E2 00:000000000000000000 01"],
+        b"",
+        0,
+        b"tag urn:epc:raw:96.xE20000000000000000000001\nhex E20000000000000000000001\n",
+        b"",
+    ),
+    (
+        &[
+            "epc",
+            "--to",
+            "hex",
+            "--prefix-digits",
+            "7",
+            "--filter",
+            "3",
+            "(01)80614141123458(21)6789",
+        ],
+        b"",
+        0,
+        b"3074257BF7194E4000001A85\n",
+        b"",
+    ),
+    (
+        &["epc", "--to", "key", "3274257BF46072000000162E"],
+        b"",
+        0,
+        b"gln 0614141123452 5678\n",
+        b"",
+    ),
+    (
+        &["epc", "--to", "tag", "(01)80614141123458(21)6789"],
+        b"",
+        1,
+        b"! Prefix\n",
+        b"",
+    ),
+    (
+        &["epc", "--to", "pure", "E20000000000000000000001"],
+        b"",
+        1,
+        b"! NoEpc\n",
+        b"",
+    ),
+    (
+        &["epc", "--list", "--to", "key", "--prefix-digits", "7"],
+        b"urn:epc:id:sgtin:0614141.812345.6789\r\n\n(01)80614141123451(21)6789\nsscc 106141412345678908",
+        1,
+        b"gtin 80614141123458 6789\n! Hex\n! Check 8\nsscc 106141412345678908\n",
+        b"",
+    ),
+    (
+        &["epc", "--list", "--json", "--filter", "3"],
+        b"E20000000000000000000001\n\xFF\n(01)80614141123451(21)6789\n",
+        1,
+        b"{\"tag\":\"urn:epc:raw:96.xE20000000000000000000001\",\"reason\":\"Header\",\"bit\":0,\"hex\":\"E20000000000000000000001\"}\n\
+{\"refused\":\"Utf8\"}\n{\"refused\":\"Check\",\"right\":\"8\"}\n",
+        b"",
+    ),
+    (
+        &["epc", "--forms", "--json", "3174257BF4499602D2000000"],
+        b"",
+        0,
+        b"{\"tag\":\"urn:epc:tag:sscc-96:3.0614141.1234567890\",\"pure\":\"urn:epc:id:sscc:0614141.1234567890\",\
+\"element\":\"(00)106141412345678908\",\"link\":\"https://id.gs1.org/00/106141412345678908\",\
+\"hex\":\"3174257BF4499602D2000000\",\"key\":\"sscc 106141412345678908\"}\n",
+        b"",
+    ),
+    (
+        &["epc", "--list", "--to", "link"],
+        b"3074257BF7194E4000001A85\n3174257BF4499602D2000000",
+        0,
+        b"https://id.gs1.org/01/80614141123458/21/6789\nhttps://id.gs1.org/00/106141412345678908\n",
+        b"",
+    ),
 ];
 
 /// Whether a command gives what its row says.
@@ -208,7 +318,7 @@ fn commands_with_ample_memory(rt: HostRuntime) {
 }
 
 /// Words that ask for help, and what is printed.
-static HELP_ROWS: [(&[&str], &[u8]); 10] = [
+static HELP_ROWS: [(&[&str], &[u8]); 7] = [
     (&["--version"], b"llrp 0.1.0\n"),
     (&["-V"], b"llrp 0.1.0\n"),
     (&["--help"], HELP),
@@ -216,6 +326,10 @@ static HELP_ROWS: [(&[&str], &[u8]); 10] = [
     (&["show", "--help"], SHOW_HELP),
     (&["encode", "-h"], ENCODE_HELP),
     (&["epc", "--help"], EPC_HELP),
+];
+
+/// The same for the commands over a network.
+static NETWORK_HELP_ROWS: [(&[&str], &[u8]); 3] = [
     (&["sim", "--help"], SIM_HELP),
     (&["inventory", "--help"], INVENTORY_HELP),
     (&["help", "loop"], LOOP_HELP),
@@ -224,6 +338,9 @@ static HELP_ROWS: [(&[&str], &[u8]); 10] = [
 #[test]
 fn help_goes_to_the_output(rt: HostRuntime) {
     for (words, text) in &HELP_ROWS {
+        assert!(rt; answers(rt.alloc(), words, 0, text, b""));
+    }
+    for (words, text) in &NETWORK_HELP_ROWS {
         assert!(rt; answers(rt.alloc(), words, 0, text, b""));
     }
 }
@@ -262,15 +379,34 @@ static NETWORK_ROWS: [(&[&str], NetworkCommand); 12] = [
     (
         &["sim", "65535"],
         NetworkCommand::Sim {
-            port: 65535,
-            all: false,
+            words: SimWords {
+                port: 65535,
+                all: false,
+                bind: None,
+                clients: None,
+                ready: false,
+            },
         },
     ),
     (
-        &["sim", "65535", "--all"],
+        &[
+            "sim",
+            "65535",
+            "--all",
+            "--bind",
+            "::1",
+            "--clients",
+            "0",
+            "--ready",
+        ],
         NetworkCommand::Sim {
-            port: 65535,
-            all: true,
+            words: SimWords {
+                port: 65535,
+                all: true,
+                bind: Some("::1"),
+                clients: Some(0),
+                ready: true,
+            },
         },
     ),
     (
@@ -444,6 +580,41 @@ fn words_that_do_not_fit_are_usage_faults(rt: HostRuntime) {
         ["show", "--limit", "9"].as_slice(),
         ["show", "--limit", "1048577"].as_slice(),
         ["encode", "--limit", "-10"].as_slice(),
+        ["epc", "--list"].as_slice(),
+        ["epc", "--list", "--to", "hex", "000000000000000000000000"].as_slice(),
+        ["epc", "--list", "--forms"].as_slice(),
+        ["epc", "--forms"].as_slice(),
+        ["epc", "--json", "000000000000000000000000"].as_slice(),
+        ["epc", "--list", "--json", "--to", "hex"].as_slice(),
+        ["epc", "--to", "hex"].as_slice(),
+        ["epc", "--to", "gtin", "000000000000000000000000"].as_slice(),
+        ["epc", "--to", "hex", "--forms", "000000000000000000000000"].as_slice(),
+        ["epc", "--filter", "3", "000000000000000000000000"].as_slice(),
+        ["epc", "--prefix-digits", "7", "000000000000000000000000"].as_slice(),
+        [
+            "epc",
+            "--forms",
+            "--prefix-digits",
+            "5",
+            "000000000000000000000000",
+        ]
+        .as_slice(),
+        [
+            "epc",
+            "--forms",
+            "--prefix-digits",
+            "13",
+            "000000000000000000000000",
+        ]
+        .as_slice(),
+        [
+            "epc",
+            "--forms",
+            "--filter",
+            "8",
+            "000000000000000000000000",
+        ]
+        .as_slice(),
     ];
     for words in rows {
         assert!(rt; is_usage_fault(rt.alloc(), words));

@@ -4,14 +4,13 @@ ghost use Rattle.std.specs.Prelude.{◌≤◌};
 ghost use Rattle.llrp_tree.specs.declared.TheConstants.{MAX_LIMIT};
 
 use crate::encode_cut::encoded_in_pieces;
-use crate::octets::octets;
 use llrp_tool::{Input, Output, Refusal, ToolErr, run_encode};
 use llrp_tree::NodeFault;
 use std::alloc::Global;
 use std::process::Abort;
 use std::test::*;
 use tag_uri::UriFault;
-use test_devices::Taking;
+use test_devices::{Taking, octets};
 
 /// The answer to a listing, and the bytes written.
 fn encoded(alloc: Global, listing: &[u8]) -> (Result<(), ToolErr>, Vec<u8>) {

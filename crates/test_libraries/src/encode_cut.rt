@@ -2,13 +2,12 @@
 
 ghost use Rattle.llrp_stream.specs.Device.{IsFreshSource};
 
-use crate::octets::octets;
 use crate::vectors::{LAWFUL, Vector};
 use llrp_stream::Source;
 use llrp_tool::{Output, ToolErr, run_encode};
 use std::alloc::Global;
 use std::test::*;
-use test_devices::{Dripping, Lines, Pieces};
+use test_devices::{Dripping, Lines, Pieces, octets};
 
 /// The answer to a listing that comes in such pieces, and the octets written.
 pub(crate) fn encoded_in_pieces(

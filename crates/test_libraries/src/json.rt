@@ -1,20 +1,20 @@
 //! The objects of messages in JSON, against lines worked out from the standard.
 
-use crate::octets::octets;
 use llrp_json::{JsonPrinter, list_stream_json, run_show_json};
-use llrp_schema::Profile;
+use llrp_schema::KindSet;
 use llrp_stream::{Came, Frames, Input, Outcome, Output};
 use llrp_tool::Verdict;
 use std::test::*;
+use test_devices::octets;
 
 /// A frame as hexadecimal digits, and the line of its object.
-struct Line {
-    name: &'static str,
-    frame: &'static str,
-    line: &'static str,
+pub struct Line {
+    pub name: &'static str,
+    pub frame: &'static str,
+    pub line: &'static str,
 }
 
-static LINES: [Line; 5] = [
+pub static LINES: [Line; 5] = [
     Line {
         name: "keepalive",
         frame: "083E0000000A00000007",
@@ -89,7 +89,7 @@ fn lines_of_faults_and_ends(rt: HostRuntime) -> Result<(), Fail> {
         let mut listed = Output::new(Vec::new(alloc));
         let verdict = list_stream_json(
             alloc,
-            Profile::Own,
+            KindSet::Profile,
             stream.as_slice(),
             &mut listed,
             65_536,
@@ -102,7 +102,7 @@ fn lines_of_faults_and_ends(rt: HostRuntime) -> Result<(), Fail> {
         );
         let mut source = Input::new(stream.as_slice());
         let mut shown = Output::new(Vec::new(alloc));
-        let verdict = run_show_json(alloc, Profile::Own, &mut source, &mut shown, 65_536)?;
+        let verdict = run_show_json(alloc, KindSet::Profile, &mut source, &mut shown, 65_536)?;
         assert!(rt; verdict == Verdict::Faulty, "{}", line.name);
         assert!(rt;
             shown.into_inner().as_slice() == line.line.as_bytes(),

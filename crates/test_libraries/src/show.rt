@@ -3,11 +3,10 @@
 ghost use Rattle.std.specs.Prelude.{◌≤◌};
 ghost use Rattle.llrp_tree.specs.declared.TheConstants.{MAX_LIMIT};
 
-use crate::octets::octets;
 use llrp_tool::{Input, Output, Refusal, ToolErr, Verdict, run_encode, run_show};
 use std::alloc::Global;
 use std::test::*;
-use test_devices::Pieces;
+use test_devices::{Pieces, octets};
 
 const KEEPALIVE: &[u8] = b"\x08\x3e\0\0\0\x0a\0\0\0\x07";
 

@@ -8,9 +8,13 @@ Commands:
   show       List the messages of a stream of bytes
   encode     Write the bytes of a listing of messages
   epc        Print the text of a tag's word, or the word of a text
-  sim        Serve one client as a simulated reader, by a script
+  fields     Print the fields of a message or parameter, or of all
+  sim        Serve clients as a simulated reader, by a script
   inventory  Print the tags that a reader sees
   loop       Print the tags that a simulated reader sees, by a script
+  watch      Print the tags that a reader sees, day and night
+  stop       Delete the ROSpec that watch left on a reader
+  ask        Send the messages of a file to a reader, and show what comes
   help       Print this message or the help of the given subcommand(s)
 
 Options:
@@ -37,7 +41,7 @@ Reads a stream of LLRP messages on standard input, and prints its listing on sta
   ! BROKEN                   a length below 10, at which the stream breaks off
 docs/errors.md explains each REASON. A frame of more octets than --limit is a fault, where N is 10 to
 1,048,576, and so are parameters nested more than 16 levels deep. So is a message or parameter that
-docs/tables.md leaves out of its profile; with --all they are those of the whole standard. The status
+docs/tables.md leaves out of its set; with --all they are those of the whole standard. The status
 is 0 if all frames are messages and the last one is whole, and 1 if not. With --json each frame is one
 line of JSON in place of its lines, as docs/json.md says.
 
@@ -62,7 +66,7 @@ Reads a listing on standard input, a line 0 NAME VERSION ID for each message, an
 the messages on standard output. A line that is refused ends the command with status 1, and is named
 on standard error with the reason, which docs/errors.md explains; so is a message of more octets than
 --limit, where N is 10 to 1,048,576, or a parameter more than 16 levels deep. The names are those of
-the profile of docs/tables.md, or with --all those of the whole standard.
+the set of docs/tables.md, or with --all those of the whole standard.
 
 Example:
   $ echo 0 KEEPALIVE 2 7 | llrp encode --hex
@@ -71,13 +75,20 @@ Example:
 
 pub const EPC_HELP: &[u8] = b"Print the text of a tag's word, or the word of a text
 
-Usage: llrp epc <TEXT>
+Usage: llrp epc [OPTIONS] [TEXT]
 
 Arguments:
-  <TEXT>  24 hexadecimal digits, a tag URI or a raw URI
+  [TEXT]  24 hexadecimal digits, a tag URI or a raw URI
 
 Options:
-  -h, --help  Print help
+      --forms              Print all forms of the word, a line each
+      --list               Read texts on standard input, a line each
+      --json               Print all forms of each word as an object of JSON
+      --to <FORM>          Print the text in this form: tag, pure, element, link, hex or key
+      --prefix-digits <N>  How many digits the company prefix of a key has
+      --filter <F>         The filter value of a key or pure identity; without it 0
+      --prefixes <FILE>    A file that says how many digits company prefixes have
+  -h, --help               Print help
 
 Prints the text of a tag's 96-bit word, or the word of a text:
   24 hexadecimal digits   the word's tag URI; or its raw URI, and # REASON BIT, which is why it has no
@@ -85,14 +96,25 @@ Prints the text of a tag's 96-bit word, or the word of a text:
   any other text          the 24 digits of its word; or ! REASON, which is why no word has this text
 docs/errors.md explains each REASON. The status is 1 for a text of no word, and 0 for every other.
 
+With --forms it prints a line FORM TEXT for each form of the word: tag and raw URIs (tag), pure identity
+URIs (pure), element strings (element), Digital Link URIs (link), digits (hex), and keys by name (key).
+With --to it prints the text in that form; docs/tables.md has examples. TEXT may then have any of these
+forms. A pure identity URI and a key do not say the filter value, and a key not how many digits its
+company prefix has, so that no key is read without --prefix-digits or --prefixes. FILE has lines START
+LENGTH, which say that company prefixes that begin with START have LENGTH digits; the longest START that
+fits counts. With --list there is a line for each line of standard input, and the status is 1 if one of
+them is ! REASON. With --json, beside --forms or --list, a line is an object with a member for each form.
+
 Examples:
   $ llrp epc 3074257BF7194E4000001A85
   urn:epc:tag:sgtin-96:3.0614141.812345.6789
   $ llrp epc urn:epc:tag:sgtin-96:3.0614141.812345.6789
   3074257BF7194E4000001A85
+  $ llrp epc --to hex --prefix-digits 7 --filter 3 '(01)80614141123458(21)6789'
+  3074257BF7194E4000001A85
 ";
 
-pub const SIM_HELP: &[u8] = b"Serve one client as a simulated reader, by a script
+pub const SIM_HELP: &[u8] = b"Serve clients as a simulated reader, by a script
 
 Usage: llrp sim [OPTIONS] <PORT>
 
@@ -100,8 +122,11 @@ Arguments:
   <PORT>  The port to listen on
 
 Options:
-      --all   Answer three requests outside the profile besides
-  -h, --help  Print help
+      --all             Answer three requests outside the set besides
+      --bind <ADDRESS>  The address to listen on; without it 127.0.0.1
+      --clients <N>     How many clients to serve, one after another; without it 1, and 0 for no end
+      --ready           Say on standard error where it listens, once it does
+  -h, --help            Print help
 
 Reads a script of what the reader's antennas see on standard input, to its end. Then it listens on
 127.0.0.1 and serves one client as an LLRP reader. The lines of a script:
@@ -111,6 +136,12 @@ Reads a script of what the reader's antennas see on standard input, to its end. 
 
 With --all it also answers GET_READER_CAPABILITIES, GET_READER_CONFIG and GET_SUPPORTED_VERSION, with
 which general clients begin. A script does not count these.
+
+With --clients N it serves N clients one after another, each as a new reader by the script from its
+beginning; the exit status is the greatest of theirs. With --ready the line
+  llrp: listening on ADDRESS:PORT
+stands on standard error as soon as a client can connect. --bind ADDRESS listens there; LLRP has no
+password, so let it be an address that only your own machines can reach.
 
 Example:
   $ printf '2 5 tick\\n' | llrp sim 5084
@@ -156,9 +187,9 @@ or with --json an object of JSON for each, a line each:
   {\"report\":K}
   {\"tags\":TAGS,\"reports\":REPORTS}
 
-A message or parameter that docs/tables.md leaves out of its profile is passed over, and a report that
+A message or parameter that docs/tables.md leaves out of its set is passed over, and a report that
 has one as a whole. With --all the reader may send every message and parameter of LLRP 1.1, as makers'
-Custom ones: of each message what the profile has is taken, and so is each tag of a report.
+Custom ones: of each message what the set has is taken, and so is each tag of a report.
 
 With --check it asks the reader for its ROSpecs before it deletes its own. They have to be exactly those
 that it knows of, in the same states; otherwise it ends with the line llrp: strange and status 1. This
@@ -193,6 +224,116 @@ Example:
   total 1 1
 ";
 
+pub const WATCH_HELP: &[u8] = b"Print the tags that a reader sees, day and night
+
+Usage: llrp watch [OPTIONS] <HOST>
+
+Arguments:
+  <HOST>  The reader's name or address, or HOST:PORT; the port is 5084 without one
+
+Options:
+      --rospec <FILE>        Take the ROSpec of this file, in place of one with all antennas
+      --id <N>               The id of its ROSpec; without it 5084
+      --every <N>            How many tags make a report; without it 1
+      --keepalive <SECONDS>  How often the reader shows that it lives; without it 10, and 0 for never
+      --again <SECONDS>      Connect again whenever it ends, after 1, 2, 4 .. SECONDS
+      --text                 Print words in place of JSON
+      --antennas <LIST>      The antennas of its ROSpec, as 1,2; without it all
+      --limit <N>            The most octets that a message may have [default: 1048576]
+      --save <FILE>          Append what the reader sends to this file, frame by frame
+      --verbose              Say more on standard error: what was refused, strange or passed over
+      --for <SECONDS>        End after so many seconds: stop and delete its ROSpec, and close
+      --name <TEXT>          What each line of JSON has as the reader
+  -h, --help                 Print help
+
+Connects to an LLRP reader and prints the tags that it sees for as long as the connection lasts. Each tag
+of each report is an object of JSON with what the reader says of it, a line each. It begins with the
+host's time at which its report was read, and with the TEXT of --name, if that is given:
+  {\"at\":\"2026-01-31T23:59:59.123456Z\",\"reader\":TEXT,\"epc\":..
+With --text the lines are
+  TEXT ANTENNA RSSI TIME   a tag, as inventory prints it, and that time
+The reader may send every message and parameter of LLRP 1.1, as makers' Custom ones; what docs/tables.md
+leaves out of its set is left out.
+
+It first deletes the reader's ROSpec with the id of its own, so that what an earlier run left does not
+hinder it; other ROSpecs stay as they are. The ROSpec is that of FILE, as for inventory, so that --every,
+--id and --antennas cannot be given. Without FILE it is one with the antennas of LIST and the id N, which
+says of each tag its antenna, channel, strength, first and last time, and how often it was seen.
+
+The reader is asked for a KEEPALIVE every so often. If it sends nothing for three times as long, the run
+ends with the line llrp: read and status 3; if it takes nothing for as long, with llrp: write and status
+3. If it closes the connection, the run ends with llrp: early and status 1. With --again the command
+writes that line and connects again: after a second where it printed tags, else after twice the last
+pause, and after no more than SECONDS.
+
+With --for it ends once the seconds have passed: it stops and deletes its ROSpec and closes the
+connection, and the status is 0. A reader of which nothing comes then is not waited for.
+
+Once the reader has accepted the connection, a frame that is no message is passed over, and a line on
+standard error says so, unless it has the id of the request that waits for its response; so is a message
+that answers nothing and that no reader sends by itself.
+
+A signal ends it, and leaves its ROSpec on the reader; stop deletes that.
+
+Example:
+  $ llrp watch reader.example --again 60
+";
+
+pub const STOP_HELP: &[u8] = b"Delete the ROSpec that watch left on a reader
+
+Usage: llrp stop [OPTIONS] <HOST>
+
+Arguments:
+  <HOST>  The reader's name or address, or HOST:PORT; the port is 5084 without one
+
+Options:
+      --rospec <FILE>      Take the ROSpec of this file, in place of one with all antennas
+      --id <N>             The id of its ROSpec; without it 5084
+      --timeout <SECONDS>  How long the reader may be silent; without it 5
+  -h, --help               Print help
+
+Connects to an LLRP reader, deletes the ROSpec with the id N, or with that of FILE, and closes the
+connection. The status is 0 whether the reader had such a ROSpec or not. A reader that refuses the
+connection, as it still has another one, is asked again until SECONDS have passed.
+
+Example:
+  $ llrp stop reader.example
+";
+
+pub const ASK_HELP: &[u8] = b"Send the messages of a file to a reader, and show what comes
+
+Usage: llrp ask [OPTIONS] <HOST> <FILE>
+
+Arguments:
+  <HOST>  The reader's name or address, or HOST:PORT; the port is 5084 without one
+  <FILE>  The file with the messages, and with lines = SECONDSs between them
+
+Options:
+      --json               Write lines of JSON in place of the listing
+      --timeout <SECONDS>  How long to wait for an answer; without it 10
+      --go-on              Go on where the reader refuses a message
+      --raw                Take lines ! HEX too, whose octets are sent as they are
+  -h, --help               Print help
+
+Connects to an LLRP reader, waits until it accepts the connection, and sends the messages of FILE, one
+by one. FILE is a listing as show --all prints it, with every message and parameter of LLRP 1.1. After
+each message that has a response it waits for the message of that kind and id, or an ERROR_MESSAGE of
+that id; a CUSTOM_MESSAGE may stay without an answer. A line between two messages,
+  = 2.5s
+waits that many seconds for what comes. With --raw a line
+  ! 04FE 0000 000A 0000 0001
+sends these octets as they are, a message or not, and waits for nothing. KEEPALIVEs are acknowledged. At
+the end it sends CLOSE_CONNECTION, unless a message of FILE did.
+
+Each message of the reader is printed as show --all does, as soon as it is whole. Where a response has a
+status other than 0 the messages that are left are not sent; with --go-on they are. The line
+llrp: status N names the first such status, and the exit status is 1.
+
+Example:
+  $ echo 0 GET_READER_CAPABILITIES 1 1 0 > capabilities.txt
+  $ llrp ask reader.example capabilities.txt
+";
+
 pub const PORT_ZERO: &[u8] = b"error: invalid value '0' for '<PORT>': 0 is not in 1..=65535
 
 For more information, try '--help'.
@@ -207,7 +348,7 @@ For more information, try '--help'.
 ";
 
 pub const NO_COMMAND: &[u8] = b"error: 'llrp' requires a subcommand but one was not provided
-  [subcommands: show, encode, epc, sim, inventory, loop, help]
+  [subcommands: show, encode, epc, fields, sim, inventory, loop, watch, stop, ask, help]
 
 Usage: llrp <COMMAND>
 

@@ -1,11 +1,11 @@
 //! Conformance vectors: streams as hexadecimal digits, and the listing of each.
 
-use crate::octets::octets;
 use crate::reported_words::WORDS;
 use crate::show::is_listed_cut;
 use llrp_tool::{Input, Output, ToolErr, Verdict, run_encode, run_show};
 use std::alloc::Global;
 use std::test::*;
+use test_devices::octets;
 
 /// A stream and its listing.
 pub struct Vector {

@@ -1,11 +1,10 @@
 //! Streams and listings with messages and parameters that the profile leaves out, in both sets of kinds, cut anywhere.
 
-use crate::octets::octets;
 use llrp_tool::{Output, Refusal, ToolErr, Verdict, run_encode_in, run_show_in};
-use llrp_tree::Profile;
+use llrp_tree::KindSet;
 use std::alloc::Global;
 use std::test::*;
-use test_devices::Pieces;
+use test_devices::{Pieces, octets};
 
 /// A frame, its listing among all of LLRP 1.1 and in the profile, and the line at which the profile refuses the first listing.
 struct Both {
@@ -15,9 +14,9 @@ struct Both {
     refused: u64,
 }
 
-/// A report with a maker's parameter after the EPC, a request for capabilities, a configuration with a maker's parameter, and a
-/// maker's message (LLRP 1.1, section 17). Vendor 25882 is Impinj.
-const BOTH: [Both; 5] = [
+/// A report with a maker's parameter after the EPC, a request for capabilities, a configuration with a maker's parameter, a maker's
+/// message, and an AccessSpec whose only operation is a maker's (LLRP 1.1, section 17). Vendor 25882 is Impinj.
+const BOTH: [Both; 6] = [
     Both {
         frame: "043D0000002900000001 00F0001F 8D3074257BF7194E4000001A85 03FF000E0000651A000000250001",
         whole: "0 RO_ACCESS_REPORT 1 1
@@ -52,12 +51,25 @@ const BOTH: [Both; 5] = [
         own: "! 7 6 MessageType\n",
         refused: 1,
     },
+    Both {
+        frame: "0428000000420000000900CF0038000000090000010000000007 00D00007000000 00D10021 0152000F0153000B60002000000000 03FF000E0000651A000000250001",
+        whole: "0 ADD_ACCESSSPEC 1 9
+1 AccessSpec 9 0 1 0 7
+2 AccessSpecStopTrigger 0 0
+2 AccessCommand
+3 C1G2TagSpec
+4 C1G2TargetTag 1 1 32 0 x0000
+3 Custom 25882 37 x0001
+",
+        own: "! 9 6 MessageType\n",
+        refused: 1,
+    },
 ];
 
 /// Whether a stream that comes in two pieces has this listing in a set of kinds, and this verdict.
 fn is_listed(
     alloc: Global,
-    set: Profile,
+    set: KindSet,
     stream: &[u8],
     first: usize,
     listing: &str,
@@ -72,7 +84,7 @@ fn is_listed(
 /// The answer to a listing that comes in two pieces, in a set of kinds, and the octets written.
 fn encoded(
     alloc: Global,
-    set: Profile,
+    set: KindSet,
     listing: &str,
     first: usize,
 ) -> (Result<(), ToolErr>, Vec<u8>) {
@@ -92,7 +104,7 @@ fn streams_listed_in_both_sets(rt: HostRuntime) -> Result<(), ToolErr> {
             assert!(rt;
                 is_listed(
                     alloc,
-                    Profile::Whole,
+                    KindSet::Standard,
                     stream,
                     first,
                     both.whole,
@@ -102,7 +114,7 @@ fn streams_listed_in_both_sets(rt: HostRuntime) -> Result<(), ToolErr> {
             assert!(rt;
                 is_listed(
                     alloc,
-                    Profile::Own,
+                    KindSet::Profile,
                     stream,
                     first,
                     both.own,
@@ -120,9 +132,9 @@ fn listings_encoded_in_both_sets(rt: HostRuntime) -> Result<(), ToolErr> {
     for both in &BOTH {
         let frame = octets(alloc, &[both.frame])?;
         for first in 1..=both.whole.len() {
-            let (answer, written) = encoded(alloc, Profile::Whole, both.whole, first);
+            let (answer, written) = encoded(alloc, KindSet::Standard, both.whole, first);
             assert!(rt; answer == Ok(()) && written.as_slice() == frame.as_slice());
-            let (answer, written) = encoded(alloc, Profile::Own, both.whole, first);
+            let (answer, written) = encoded(alloc, KindSet::Profile, both.whole, first);
             let refused = ToolErr::Listing {
                 line: both.refused,
                 reason: Refusal::Name,

@@ -1,12 +1,13 @@
 //! The examples of the libraries of tables and of messages.
 
-use crate::octets::spell;
-use llrp_schema::{Kind, fields, param_named};
+use llrp_explain::line_of;
+use llrp_schema::{Kind, KindSet, fields, param_named};
 use llrp_tree::{
     EncodeErr, MAX_LIMIT, Message, MsgKind, MsgRefusal, NodeFault, Nodes, ParamKind, encode_into,
 };
 use std::alloc::Global;
 use std::test::Fail;
+use test_devices::spell;
 
 #[test]
 fn llrp_schema_example(rt: HostRuntime) {
@@ -16,6 +17,14 @@ fn llrp_schema_example(rt: HostRuntime) {
     let found = param_named("AntennaID"); // Some(ParamKind::AntennaId)
     assert_eq!(rt; width, 16);
     assert_eq!(rt; found, Some(ParamKind::AntennaId));
+}
+
+#[test]
+fn llrp_explain_example(rt: HostRuntime) -> Result<(), Fail> {
+    let alloc = rt.alloc();
+    let line = line_of(alloc, KindSet::Profile, b"AntennaID")?; // 1 AntennaID: AntennaID 16; -; in TagReportData
+    assert!(rt; line.as_slice() == b"1 AntennaID: AntennaID 16; -; in TagReportData\n".as_slice());
+    Ok(())
 }
 
 /// Why a message is not made, or not encoded.

@@ -40,7 +40,7 @@ impl Listener for PartCounter {
         Ok(())
     }
 
-    fn parameter(&mut self, _level: u8, _kind: ParamKind) -> Result<(), AllocError> {
+    fn parameter(&mut self, _level: u8, _kind: ParamKind, _stop: u32) -> Result<(), AllocError> {
         self.parameters = self.parameters.saturating_add(1);
         Ok(())
     }
