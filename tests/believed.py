@@ -1,11 +1,12 @@
 #!/usr/bin/env python3
 """Which definitions of crates/*/specs have to be believed, counted from the contracts that README's promises rest on.
 
-A definition is believed if one of these contracts reaches it, itself or by other definitions. It stands in specs/. What only other
-public contracts reach stands in specs/Calls/, and what no public contract reaches in specs/Private/.
+A definition is believed if one of these contracts reaches it, itself or by other definitions. It stands in specs/, or in specs/Calls/ where
+only a contract reaches it that a promise rests on besides, or one on the way from words to calls. What only other public contracts reach
+stands in specs/Calls/, and what no public contract reaches in specs/Private/.
 
-    tests/believed.py           prints what each promise rests on; fails where a module stands in the wrong folder, or where
-                                docs/believe.md and README.md state other numbers
+    tests/believed.py           prints what each promise rests on; fails where a module stands in the wrong folder, where
+                                docs/believe.md and README.md state other numbers, or docs/promises.md a clause that is not there
     tests/believed.py --moves   prints the definitions that stand in the wrong folder, for each module and folder
 """
 
@@ -13,26 +14,55 @@ import pathlib
 import re
 import sys
 
-from counting import finish_results, text_of
-from definitions import Tree, exports_of
-from refusing import TOP
+from parts.counting import finish_results, text_of
+from parts.definitions import Tree, clauses_of, exports_of
+from parts.repository import TOP
 
 CALLS, PRIVATE = "Calls", "Private"
+
+# Its crates came last: what only it rests on may stand in specs/Calls/ of a crate below them.
+KEYS = "11 keys"
 
 # The contracts of each promise of README, with the clauses where not all of them count. Promise 1 has none: a call returns
 # because the toolchain proves it of each call.
 PROMISES = {
     "2 words": "tag_epc::Epc::from_word tag_epc::Epc::to_word tag_epc::laws::one_word_one_epc tag_epc::laws::one_word_fault",
     "3 texts": "tag_uri::text_of_word tag_uri::word_of_text tag_uri::laws::one_text tag_uri::laws::one_fault",
-    "4 frames": "llrp_tree::decode_frame llrp_tree::encode_into llrp_tree::laws::frames_apart",
+    "4 frames": "llrp_tree::decode_frame llrp_tree::decode_frame_in llrp_tree::encode_into llrp_tree::laws::frames_apart",
     "5 show": "llrp_listing::run_show llrp_listing::run_show_in llrp_json::run_show_json llrp_stream::laws::one_listing",
     "6 encode": "llrp_listing::run_encode llrp_listing::run_encode_in llrp_listing::laws::prints_back",
-    "7 decoder": "llrp_stream::Decoder::new llrp_stream::Decoder::feed llrp_stream::Decoder::finish llrp_stream::laws::pieces_are_the_stream"
-                 " llrp_stream::Decoder::held/weight/within/raw",
+    "7 decoder": "llrp_stream::Decoder::new llrp_stream::Decoder::new_in llrp_stream::Decoder::feed llrp_stream::Decoder::finish"
+                 " llrp_stream::laws::pieces_are_the_stream llrp_stream::Decoder::held/weight/within/raw",
     "8 both ends": "llrp_endpoints::run_serve llrp_endpoints::run_inventory llrp_endpoints::run_loop",
     "9 agreement": "llrp_endpoints::laws::ends_agree",
     "10 C": "llrp_c::llrp_text_of_word llrp_c::llrp_word_of_text llrp_c::llrp_list llrp_c::llrp_encode llrp_c::llrp_list_all"
             " llrp_c::llrp_encode_all llrp_c::llrp_list_json llrp_c::llrp_list_json_all llrp_c::llrp_frame_length llrp_c::llrp_name",
+    KEYS: "tag_keys::print_id tag_keys::parse_id tag_keys::print_key tag_keys::parse_key tag_keys::digits_from_company"
+               " tag_keys::laws::one_check_digit"
+               " tag_keys::laws::slips_are_refused tag_keys::laws::one_id_uri tag_keys::laws::one_key_text tag_keys::laws::one_fault"
+               " tag_forms::text_in tag_forms::word_in tag_forms::form_of tag_forms::push_answer tag_forms::push_forms"
+               " tag_forms::push_object_answer tag_forms::push_wanted tag_forms::Company::digits_of"
+               " tag_forms::TextList::take tag_forms::TextList::end tag_forms::Prefixes::add tag_forms::Prefixes::company_digits"
+               " tag_forms::laws::one_text_in_form tag_forms::laws::one_word_in_form tag_forms::laws::one_fault_in_form"
+               " llrp_keys::run_forms llrp_keys::run_answer llrp_keys::run_list llrp_keys::read_prefixes llrp_keys::named_key_of"
+               " llrp_c::llrp_forms llrp_c::llrp_word_of_key",
+}
+
+# What a promise rests on besides: `sim --all`, clients without an end, and what makes a script and a plan.
+BESIDES = {
+    "8 both ends": "llrp_endpoints::run_serve_all llrp_endpoints::run_lasting llrp_endpoints::Script::parse llrp_endpoints::standard_plan"
+                   " llrp_endpoints::checked_plan llrp_endpoints::Plan::parse llrp_endpoints::Plan::of llrp_endpoints::Plan::cleaning"
+                   " llrp_endpoints::Plan::renewing llrp_endpoints::Plan::removing llrp_endpoints::Plan::saying"
+                   " llrp_endpoints::Plan::keeping llrp_endpoints::Plan::awaiting llrp_endpoints::Plan::in_form llrp_endpoints::Plan::in_set"
+                   " llrp_endpoints::Plan::passing_over llrp_endpoints::run_watching llrp_endpoints::Watcher::turn llrp_endpoints::marked_lines",
+}
+
+# From the words of a command to the calls of the promises, and to their exit statuses and error lines.
+WORDS = "words to calls"
+ALL = "1 to 11, and words to calls"
+COMMANDS = {
+    WORDS: "llrp_commands::run_command llrp_commands::network_command llrp_commands::write_refusal llrp::plan_of llrp::read_plan"
+           " llrp::made_plan llrp::watch_plan llrp_endpoints::Script::read",
 }
 
 # What a caller only hands from one call to the next, a relation and a value that no believed definition looks into: a constructor gives
@@ -50,11 +80,17 @@ def contract_of(tree, name):
     return imports, text
 
 
-class Count:
-    """What is believed for some promises."""
+def contracts_of(tree, titles, *tables):
+    """The contracts that tables give for some titles."""
+    names = " ".join(table.get(title, "") for title in titles for table in tables).split()
+    return [contract_of(tree, name) for name in names]
 
-    def __init__(self, tree, names):
-        contracts = [contract_of(tree, name) for promise in names for name in PROMISES[promise].split()]
+
+class Count:
+    """What is believed for some promises, or for the way from words to calls."""
+
+    def __init__(self, tree, titles, *tables):
+        contracts = contracts_of(tree, titles, *(tables or (PROMISES, BESIDES, COMMANDS)))
         self.definitions = tree.reached_from(contracts, HANDED_ON)
         self.lines = sum(len(d.lines) for d in self.definitions)
         self.files = {(d.crate, d.module) for d in self.definitions}
@@ -62,35 +98,46 @@ class Count:
 
     def row(self, title):
         """The row of docs/believe.md."""
-        return f"| {title} | {len(self.definitions)} | {self.lines:,} | {len(self.files)} | {self.file_lines:,} |"
+        return f"| {title} | {len(self.definitions):,} | {self.lines:,} | {len(self.files)} | {self.file_lines:,} |"
 
     def words(self):
         """How README says it."""
-        return f"{len(self.definitions)} definitions of {self.lines:,} lines"
+        return f"{len(self.definitions):,} definitions of {self.lines:,} lines"
 
 
 def counts(tree):
-    """A count of each promise, and of those up to the fourth, the sixth and the last."""
+    """A count of each promise, of those up to the fourth, the sixth and the last, and of these with the way from words to calls."""
     titles = list(PROMISES)
-    found = {title: Count(tree, [title]) for title in titles}
-    return found | {f"1 to {last}": Count(tree, titles[:last - 1]) for last in (4, 6, 10)}
+    found = {title: Count(tree, [title]) for title in [*titles, WORDS]}
+    found |= {f"1 to {last}": Count(tree, titles[:last - 1]) for last in (4, 6, 11)}
+    return found | {ALL: Count(tree, [*titles, WORDS])}
 
 
 def places(tree):
-    """Where each definition has to stand: nothing for specs/ itself, else the folder."""
-    believed = Count(tree, PROMISES).definitions
+    """Where each definition may stand, first where it belongs: nothing for specs/ itself, else the folder."""
+    promised, believed = Count(tree, PROMISES, PROMISES).definitions, Count(tree, [*PROMISES, WORDS]).definitions
+    others = Count(tree, [title for title in PROMISES if title != KEYS], PROMISES).definitions
     public = tree.reached_from(tree.public, HANDED_ON)
-    every = [d for module in tree.modules.values() for d in module.definitions.values()]
-    return {d: "" if d in believed else CALLS if d in public or d.key() in HANDED_ON else PRIVATE for d in every}
+
+    def folders(definition):
+        if definition in others:
+            return [""]
+        if definition in promised:
+            return ["", CALLS]
+        if definition in believed:
+            return [CALLS, ""]
+        return [CALLS] if definition in public or definition.key() in HANDED_ON else [PRIVATE]
+
+    return {d: folders(d) for module in tree.modules.values() for d in module.definitions.values()}
 
 
 def moves(tree):
     """For each module, the definitions that stand in the wrong folder, by the folder that they belong to."""
     found = {}
-    for definition, folder in places(tree).items():
+    for definition, folders in places(tree).items():
         module = tree.modules[definition.crate, definition.module]
-        if module.folder() != folder:
-            found.setdefault((module.crate, module.name), {}).setdefault(folder, []).append(definition)
+        if module.folder() not in folders:
+            found.setdefault((module.crate, module.name), {}).setdefault(folders[0], []).append(definition)
     return found
 
 
@@ -115,14 +162,14 @@ def results(tree, count):
     wrong = moves(tree)
     for crate, name in tree.modules:
         yield f"{crate}: {name} has definitions for another folder (--moves)", (crate, name) not in wrong
-    private = private_names(tree, count["1 to 10"].definitions)
+    private = private_names(tree, count[ALL].definitions)
     yield f"believed definitions name what is private in the code: {' '.join(private)}", not private
     page, readme = text_of("docs/believe.md"), " ".join(text_of("README.md").split())
     for title in count:
         yield f"docs/believe.md: no row {count[title].row(title)}", count[title].row(title) in page.split("\n")
-    for title in ("1 to 4", "1 to 10"):
+    for title in ("1 to 4", "1 to 11", ALL):
         yield f"README.md: promises {title}: not {count[title].words()}", count[title].words() in readme
-    believed = {tree.modules[file].subject() for file in count["1 to 10"].files}
+    believed = {tree.modules[file].subject() for file in count[ALL].files}
     subjects = {module.subject() for module in tree.modules.values()}
     for name in sorted(subjects):
         is_named = f"`{name}`" in page
@@ -130,6 +177,52 @@ def results(tree, count):
             yield f"docs/believe.md: {name} is believed, and not named", is_named
         else:
             yield f"docs/believe.md: {name} is named, and not believed", not is_named
+
+
+def clauses_named(tree, names):
+    """The clauses of all functions that a page calls by one of these names."""
+    found = set()
+    for path, (_, text) in tree.contracts.items():
+        if any(path == name or path.endswith(f"::{name}") for name in names):
+            found |= clauses_of(text)
+    return found
+
+
+def results_of_clauses(tree):
+    """Whether each clause that a row of docs/promises.md names is one of its call's contract, or of the call that is named before it."""
+    calls = []
+    for row in re.findall(r"(?m)^\| (.*?) \| (.*?) \| .*\|$", text_of("docs/promises.md")):
+        first, second = (re.findall(r"`([\w:]+)`", cell) for cell in row)
+        calls = first or calls
+        named = [it for it in second if "::" in it]
+        for clause in (it for it in second if it[0].islower() and "::" not in it):
+            yield f"docs/promises.md: {calls} has no clause {clause}", clause in clauses_named(tree, named or calls)
+
+
+def crates_of(*headings):
+    """The crates below some headings of crates.txt."""
+    parts = re.findall(r"(?ms)^# == (.*?)\n(.*?)(?=^# ==|\Z)", text_of("crates.txt"))
+    return [crate for heading, part in parts if heading.startswith(headings) for crate in re.findall(r"(?m)^(\w+)[^:\n]*:", part)]
+
+
+def sizes():
+    """How many crates the product has, and how many lines of code, definitions and proofs and how many planted mistakes."""
+    folders = [pathlib.Path(TOP) / "crates" / crate for crate in crates_of("Product", "What is built")]
+
+    def lines(part, ending):
+        return sum(path.read_text().count("\n") for folder in folders for path in (folder / part).rglob(f"*{ending}"))
+
+    mistakes = sum(len(list(folder.glob("must-fail/*.edit"))) for folder in folders)
+    return len(folders), lines("src", ".rt"), lines("specs", ".antt"), lines("proofs", ".antt"), mistakes
+
+
+def results_of_sizes(count):
+    """Whether README's table of sizes says what is there, each within a tenth, and what has to be believed."""
+    rows = r"code, in (\d+) crates \| ([\d,]+) \|\n\| definitions \| ([\d,]+), of which ([\d,]+) .*\n\| proofs \| ([\d,]+) \|\n.*\| (\d+) mistakes"
+    crates, code, definitions, believed, proofs, mistakes = (int(it.replace(",", "")) for it in re.search(rows, text_of("README.md")).groups())
+    for stated, found in zip((crates, code, definitions, proofs, mistakes), sizes()):
+        yield f"README.md: the product has {found}, and not about {stated}", abs(stated - found) * 10 <= found
+    yield f"README.md: {count[ALL].lines} lines have to be believed", believed == count[ALL].lines
 
 
 def main():
@@ -141,7 +234,7 @@ def main():
     print("| promises | definitions | lines | files | lines of files |")
     for title in count:
         print(count[title].row(title))
-    return finish_results(list(results(tree, count)), 250)
+    return finish_results([*results(tree, count), *results_of_sizes(count), *results_of_clauses(tree)], 500)
 
 
 if __name__ == "__main__":

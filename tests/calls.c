@@ -14,6 +14,8 @@ static uint32_t (*const list_json)(const uint8_t *, size_t, uint8_t *, size_t, s
 static uint32_t (*const list_json_all)(const uint8_t *, size_t, uint8_t *, size_t, size_t *, size_t *) = llrp_list_json_all;
 static uint32_t (*const encode)(const uint8_t *, size_t, uint8_t *, size_t, size_t *, uint64_t *) = llrp_encode;
 static uint32_t (*const encode_all)(const uint8_t *, size_t, uint8_t *, size_t, size_t *, uint64_t *) = llrp_encode_all;
+static uint32_t (*const forms)(const uint8_t *, size_t, uint8_t *, size_t, size_t *) = llrp_forms;
+static uint32_t (*const word_of_key)(const uint8_t *, size_t, uint32_t, uint32_t, uint8_t *, size_t, uint32_t *) = llrp_word_of_key;
 static size_t (*const name_of)(uint32_t, uint8_t *, size_t) = llrp_name;
 
 /* The word, its text, two frames and an octet of the next, and their listing. */
@@ -22,6 +24,11 @@ static const char TEXT[] = "urn:epc:tag:sgtin-96:3.0614141.812345.6789";
 static const uint8_t STREAM[] = {8, 0x3E, 0, 0, 0, 10, 0, 0, 0, 7, 8, 0x3E, 0, 0, 0, 10, 0, 0, 0, 8, 8};
 static const char LISTING[] = "0 KEEPALIVE 2 7\n0 KEEPALIVE 2 8\n";
 static const char REFUSED[] = "0 KEEPALIVE 2 7\n0 KEEPALIV 2 7\n";
+/* The forms of the word, its key, and the key with a wrong check digit. */
+static const char FORMS[] = "tag urn:epc:tag:sgtin-96:3.0614141.812345.6789\npure urn:epc:id:sgtin:0614141.812345.6789\n"
+                            "element (01)80614141123458(21)6789\nlink https://id.gs1.org/01/80614141123458/21/6789\n"
+                            "hex 3074257BF7194E4000001A85\nkey gtin 80614141123458 6789\n";
+static const char KEY[] = "(01)80614141123458(21)6789", WRONG_KEY[] = "(01)80614141123451(21)6789";
 /* A message that the profile leaves out: GET_READER_CAPABILITIES, number 1, of eleven octets, which asks for all. */
 static const uint8_t REQUEST[] = {8, 1, 0, 0, 0, 11, 0, 0, 0, 7, 0};
 static const char FAULT[] = "! 7 6 MessageType\n";
@@ -30,10 +37,10 @@ static const char REQUEST_LISTING[] = "0 GET_READER_CAPABILITIES 2 7 0\n";
 static const char LINES[] = "{\"message\":\"KEEPALIVE\",\"version\":2,\"id\":7}\n{\"message\":\"KEEPALIVE\",\"version\":2,\"id\":8}\n";
 static const char FAULT_LINE[] = "{\"fault\":\"MessageType\",\"id\":7,\"bit\":6}\n";
 static const char REQUEST_LINE[] = "{\"message\":\"GET_READER_CAPABILITIES\",\"version\":2,\"id\":7,\"RequestedData\":0}\n";
-enum { TEXT_LENGTH = sizeof TEXT - 1, LISTING_LENGTH = sizeof LISTING - 1, REQUEST_LENGTH = sizeof REQUEST_LISTING - 1, FRAMES_LENGTH = 20, UNTOUCHED = 0xA5 };
+enum { TEXT_LENGTH = sizeof TEXT - 1, LISTING_LENGTH = sizeof LISTING - 1, REQUEST_LENGTH = sizeof REQUEST_LISTING - 1, FRAMES_LENGTH = 20, FORMS_LENGTH = sizeof FORMS - 1, KEY_LENGTH = sizeof KEY - 1, UNTOUCHED = 0xA5 };
 
 static int passed, failed;
-static uint8_t out[256];
+static uint8_t out[512];
 
 /* Fills the room, so that what a call writes beyond its answer is seen. */
 static void clear(void) { memset(out, UNTOUCHED, sizeof out); }
@@ -67,6 +74,23 @@ static void check_tags(void) {
     check("word, too little room", status == LLRP_LENGTH && holds("", 0));
     check("name", name_of(LLRP_NODE_MISSING, out, LLRP_NAME_ROOM) == 12 && holds("Node Missing", 12));
     check("name, too little room", name_of(LLRP_NODE_MISSING, out, LLRP_NAME_ROOM - 1) == 0 && holds("", 0));
+}
+
+static void check_keys(void) {
+    size_t written = 99;
+    check("forms", forms(WORD, sizeof WORD, out, FORMS_LENGTH, &written) == LLRP_OK && written == FORMS_LENGTH && holds(FORMS, FORMS_LENGTH));
+    check("forms, too little room", forms(WORD, sizeof WORD, out, FORMS_LENGTH - 1, &written) == LLRP_ROOM && written == FORMS_LENGTH && holds("", 0));
+    check("forms of eleven octets", forms(WORD, sizeof WORD - 1, out, FORMS_LENGTH, &written) == LLRP_LENGTH && written == 0 && holds("", 0));
+    uint32_t right = 99, status = word_of_key(octets_of(KEY), KEY_LENGTH, 3, 7, out, LLRP_WORD_OCTETS, &right);
+    check("word of a key", status == LLRP_OK && right == 0 && holds(WORD, sizeof WORD));
+    status = word_of_key(octets_of(WRONG_KEY), KEY_LENGTH, 3, 7, out, LLRP_WORD_OCTETS, &right);
+    check("a wrong check digit", status == LLRP_KEY_CHECK && right == '8' && holds("", 0));
+    status = word_of_key(octets_of(KEY), KEY_LENGTH, 3, 0, out, LLRP_WORD_OCTETS, &right);
+    check("an unknown company prefix", status == LLRP_KEY_PREFIX && right == 0 && holds("", 0));
+    status = word_of_key(octets_of(KEY), KEY_LENGTH, 8, 7, out, LLRP_WORD_OCTETS, &right);
+    check("no filter value", status == LLRP_FILTER && holds("", 0));
+    status = word_of_key(octets_of(KEY), KEY_LENGTH, 3, 7, out, LLRP_WORD_OCTETS - 1, &right);
+    check("word of a key, too little room", status == LLRP_LENGTH && right == 0 && holds("", 0));
 }
 
 static void check_streams(void) {
@@ -118,6 +142,7 @@ static void check_json(void) {
 int main(void) {
     clear();
     check_tags();
+    check_keys();
     check_streams();
     check_all();
     check_json();

@@ -7,15 +7,14 @@ usage: tests/damage.py [PROGRAM]
 PROGRAM is that of the crate `test_damaged_frames`, in its folder out/, where none is given. The last line is `N passed, M failed`;
 the status is 1 if something failed.
 """
-import os
 import subprocess
 import sys
 
-from counting import finish
-from damages import damaged_cases
-from frames import lawful_cases
-from refusing import TOP
-from vectors import octets_of, vectors
+from parts.counting import finish
+from parts.damages import damaged_cases
+from parts.frames import lawful_cases
+from parts.repository import program_given
+from parts.vectors import octets_of, vectors
 
 # Frames up to this length are cut and changed at each octet, longer ones cut at this many places at each end.
 LONGEST = 100
@@ -137,7 +136,7 @@ def whole_results(program):
 
 
 def main():
-    program = sys.argv[1] if len(sys.argv) > 1 else os.path.join(TOP, "crates/test_damaged_frames/out/test_damaged_frames")
+    program = program_given("test_damaged_frames")
     passed = failed = 0
     for name, what, octets, wanted in rows():
         line = f"{what} {octets.hex()}\n"

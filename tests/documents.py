@@ -10,21 +10,26 @@ PROGRAM is llrp, crates/llrp/out/llrp where none is given. The commands need tsh
 import os
 import re
 import shlex
-import socket
+import signal
 import subprocess
 import sys
 import tempfile
 
-from counting import finish, text_of
-from refusing import TOP
+from parts.counting import finish, text_of
+from parts.ports import free_port
+from parts.repository import TOP, program_given
 
 # How many commands each document has.
 DOCUMENTS = {"README.md": 8, "docs/capture.md": 6, "docs/client.md": 1, "docs/json.md": 3, "docs/sim.md": 15}
 # How many libraries have an example, and where the tests are that run them.
-LIBRARIES = 11
-TESTS = "crates/test_libraries/src/examples"
+LIBRARIES = 13
+TESTS = ("crates/test_libraries/src/examples", "crates/test_ends/src")
 # Comes after what a command prints, with its status.
 MARK = "--- status"
+# How long a block may take, in seconds.
+LONGEST = 120
+# Waits until a command succeeds, for a minute at most.
+AWAIT = 'await() { for ((n = 0; n < 1200; n++)); do "$@" && return; sleep 0.05; done; echo "waited in vain: $*"; }'
 
 
 def examples(name):
@@ -36,22 +41,17 @@ def examples(name):
             yield [(command, wanted) for command, *wanted in commands]
 
 
-def free_port():
-    with socket.create_server(("127.0.0.1", 0)) as listener:
-        return listener.getsockname()[1]
-
-
 def script_of(commands, program, folder):
     """Returns the commands as a script of bash, over the program, with a port that is free. At the end it waits for those that were
     begun in the background, and gives the status of the last one."""
     port = free_port()
     # a reader that is begun in the background is waited for, until it listens
-    listens = f"until grep -q ':{port:04X} 00000000:0000 0A' /proc/net/tcp; do sleep 0.05; done"
-    lines = []
+    listens = f"await grep -q ':{port:04X} 00000000:0000 0A' /proc/net/tcp"
+    lines = [AWAIT]
     for command in commands:
         # what answers without the proofs is the script itself
         ready = re.sub(r"\./llrp(?! --unproved)", lambda _: shlex.quote(program), command)
-        ready = ready.replace("report.pcap", f"{folder}/report.pcap")
+        ready = ready.replace("report.pcap", shlex.quote(f"{folder}/report.pcap"))
         if re.search(r"\b(sim|127\.0\.0\.1)\b", command):
             ready = ready.replace("5084", str(port))
         lines += [ready, listens] if command.endswith("&") else [ready]
@@ -64,22 +64,28 @@ def wanted_status(wanted):
     return 1 if any(line.startswith(("! ", '{"fault"')) for line in wanted) else 0
 
 
-def run(block, program):
-    """Runs a block of commands. Returns what each printed, with the line that has its status, and how the script ended."""
-    with tempfile.TemporaryDirectory() as folder:
-        script = script_of([command for command, _ in block], program, folder)
-        done = subprocess.run(["bash", "-c", script], cwd=TOP, capture_output=True, text=True, timeout=600)
-    return re.findall(rf"(?ms)(.*?^{MARK} \d+\n)", done.stdout), done
+def ended(script):
+    """Runs a script of bash. Returns its status, none where it took too long, what it printed and its errors."""
+    how = {"cwd": TOP, "stdout": subprocess.PIPE, "stderr": subprocess.PIPE, "text": True, "start_new_session": True}
+    process = subprocess.Popen(["bash", "-c", script], **how)
+    try:
+        out, err = process.communicate(timeout=LONGEST)
+        return process.returncode, out, err
+    except subprocess.TimeoutExpired:
+        os.killpg(process.pid, signal.SIGKILL)
+        return None, *process.communicate()
 
 
 def failures(block, program):
     """Yields the commands of a block that do not print what is shown, or end otherwise, and what they printed."""
-    printed, done = run(block, program)
+    with tempfile.TemporaryDirectory(prefix="a space ") as folder:
+        status, out, err = ended(script_of([command for command, _ in block], program, folder))
+    printed = re.findall(rf"(?ms)(.*?^{MARK} \d+\n)", out)
     for (command, wanted), found in zip(block, [*printed, *[""] * len(block)]):
         if found.splitlines() != [*wanted, f"{MARK} {wanted_status(wanted)}"]:
-            yield command, found + done.stderr[-300:]
-    if done.returncode:
-        yield block[0][0], f"status {done.returncode} at the end"
+            yield command, found + err[-300:]
+    if status != 0:
+        yield block[0][0], f"status {status} at the end"
 
 
 def squeezed(text):
@@ -89,8 +95,8 @@ def squeezed(text):
 
 def libraries():
     """Yields each library that has an example, and whether the tests whose names begin with the library's have its lines in order."""
-    files = sorted(os.listdir(os.path.join(TOP, TESTS)))
-    tests = re.sub(r"(?m)^ *//.*", "", "".join(text_of(f"{TESTS}/{name}") for name in files))
+    files = [f"{folder}/{name}" for folder in TESTS for name in sorted(os.listdir(os.path.join(TOP, folder)))]
+    tests = re.sub(r"(?m)^ *//.*", "", "".join(map(text_of, files)))
     for crate in sorted(os.listdir(os.path.join(TOP, "crates"))):
         path = f"crates/{crate}/src/lib.rt"
         text = text_of(path) if os.path.exists(os.path.join(TOP, path)) else ""
@@ -101,7 +107,7 @@ def libraries():
 
 
 def main():
-    program = os.path.abspath(sys.argv[1] if len(sys.argv) > 1 else os.path.join(TOP, "crates/llrp/out/llrp"))
+    program = program_given()
     passed = failed = 0
     for name, count in DOCUMENTS.items():
         blocks = list(examples(name))

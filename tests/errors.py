@@ -11,14 +11,18 @@ import re
 import subprocess
 import sys
 import tempfile
+import threading
 
-from counting import finish_results, text_of
+from parts.counting import finish_results, text_of
 from damage import nested_errors
-from failing_devices import ANSWERS, free_port, inventory_from, sim_to
-from refusing import TOP
+from failing_devices import ANSWERS, inventory_from, sim_to
+from parts.ports import free_port
+from parts.repository import TOP, program_given
 
-LEAST = 94
+LEAST = 128
 PAGE = "docs/errors.md"
+# The most memory that refusing an endless script may take, in kilobytes.
+MOST_MEMORY = 65_536
 # Where the words of each table are: the source, its function, and how many it has.
 LINES = ("crates/llrp_commands/src/command.rt", "write_error", 11)
 REASONS = ("crates/llrp_listing/src/outcome.rt", "names", 9)
@@ -90,11 +94,12 @@ def first_words(names):
 
 
 def checks_of_rows():
-    """Yields whether each table and each list has exactly the words of its source; llrp: network and both of llrp: rospec are said by the program
-    itself."""
+    """Yields whether each table and each list has exactly the words of its source; llrp: file, llrp: name, llrp: network, llrp: save and both of
+    llrp: rospec and of llrp: prefixes are said elsewhere."""
     for where, names in [(TABLES, lambda head: [row[0] for row in rows(head)]), (LISTS, entries)]:
         for head, source in where.items():
-            wanted = [*words_of(*source), *(["network", "rospec", "rospec"] if source == LINES else [])]
+            others = ["file", "name", "network", "prefixes", "prefixes", "rospec", "rospec", "save"] if source == LINES else []
+            wanted = [*words_of(*source), *others]
             yield f"the source of {head}", len(wanted) >= source[2]
             yield f"the rows after {head}", first_words(names(head)) == sorted(wanted)
     yield "the exit statuses", [row[0] for row in rows("| Exit status |")] == ["0", "1", "2", "3", "125"]
@@ -103,6 +108,43 @@ def checks_of_rows():
     yield "the names of the library for C alone", first_words(row[0] for row in rows("| Name |")) == of_calls
     nodes = re.search(r"is not lawful: ([^.]*)\.", text_of("docs/llrp.1").replace("\n", " "))[1]
     yield "the faults after Node in the manual page", set(re.findall(r"[A-Z]\w+", nodes)) == words_of(*NODES)
+
+
+WORDS = "one two three four five six seven eight nine ten".split()
+
+
+def constant(name, source):
+    """Returns a number of a source, as the pages write it."""
+    return f"{int(re.search(rf'const {name}: [a-z0-9]+ = ([0-9_]+);', text_of(source))[1].replace('_', '')):,}"
+
+
+def figures():
+    """Yields what the pages say with a number, and the number: words with a place for it, and what it has to be there."""
+    listing, tree = "crates/llrp_listing/src", "crates/llrp_tree/src/lib.rt"
+    limit = constant("LIMIT", "crates/llrp_commands/src/command.rt")
+    longest, whole = (constant(name, f"{listing}/parse_line.rt") for name in ("LONGEST_LINE", "LONGEST_WHOLE_LINE"))
+    yield r"longer than (\d+(?:,\d{3})*) (?:bytes|octets)(?= \(with| \.Pq)|at most `longest` printed bytes \((\d+(?:,\d{3})*)", longest
+    yield r"with `--all` (\d+(?:,\d{3})*)\)|with Fl -all No (\d+(?:,\d{3})*)|(\d+(?:,\d{3})*) in all of LLRP 1\.1\)", whole
+    yield r"(\d+(?:,\d{3})*) reads", constant("MOST_READS", f"{listing}/devices.rt")
+    yield r"(?:asks for|at most|pieces of|in reads of) (\d,\d{3}) (?:bytes|octets)", constant("READ_SIZE", f"{listing}/devices.rt")
+    yield r"length field(?: is)? below (\d+(?:,\d{3})*)", constant("HEADER_OCTETS", tree)
+    yield r"`(?:--limit|OverLimit)`[^|]*\| the (?:message|frame) is longer than the limit: (\d+(?:,\d{3})*) octets", limit
+    yield r"filter value is not one digit 0 to (\d+)", str(2 ** 3 - 1)
+    yield r"(?:more than|above) (\d+)(?= levels|, or no line)", constant("MAX_DEPTH", tree)
+    yield r"not (?:printable ASCII|a number) or is above (\d+)", constant("MAX_DEPTH", tree)
+    kinds = re.search(r"(?s)pub enum Kind \{(.*?)\n\}", text_of("crates/tag_epc/src/kind.rt"))[1]
+    yield rf"\b({'|'.join(WORDS)}) schemes\b", WORDS[len(re.findall(r"(?m)^    \w+,", kinds)) - 1]
+    yield rf"\b({'|'.join(WORDS)}) for each (?:open )?node", WORDS[1]
+    yield r"or a message than (\d+(?:,\d{3})*)", constant("MAX_LIMIT", tree)
+
+
+def checks_of_figures():
+    """Yields whether each number that stands on the pages is that of the sources, wherever it stands."""
+    names = sorted(it for it in os.listdir(os.path.join(TOP, "docs")) if it.endswith((".md", ".1")))
+    pages = {it: " ".join(text_of(it).replace("\\-", "-").split()) for it in ["README.md", "crates/README.md", *(f"docs/{name}" for name in names)]}
+    for words, number in figures():
+        found = [(page, next(filter(None, it.groups()))) for page, text in pages.items() for it in re.finditer(words, text)]
+        yield f"{words}: {[it for it in found if it[1] != number]} in place of {number}", found and all(it == number for _, it in found)
 
 
 def run(program, *words, given=b""):
@@ -149,6 +191,20 @@ def checks_of_tags(program):
         yield f"{digits} is answered by {line}", line.split()[1] == part.strip("`") and run(program, "epc", digits) == (0, wanted, "")
 
 
+def checks_of_forms(program):
+    """Yields whether the page has the words for texts that are refused in a form, and whether each text is refused by its word."""
+    words = {word.strip("`").split()[0]: example for word, _, example in rows("| Word |")}
+    sources = ("crates/tag_keys/src/fault.rt", *(f"crates/tag_forms/src/{it}.rt" for it in ("fault", "list", "answer")))
+    named = {it for source in sources for it in re.findall(r'(?:=> |b)?"(?:! )?([A-Z]\w+)"', text_of(source))}
+    yield f"the words of forms: {named ^ set(words)}", named == set(words)
+    for word, example in words.items():
+        text, digit = re.match(r"`([^`]+)`", example), re.search(r"D is (\d)", example)
+        wanted = f"! {word} {digit[1]}\n" if digit else f"! {word}\n"
+        form = "pure" if "`--to" in example or "with `--to" in example else "key"
+        if text:
+            yield f"{text[1]} is refused by {word}", run(program, "epc", "--to", form, text[1]) == (1, wanted.encode(), "")
+
+
 def checks_of_frames(program):
     """Yields whether each frame is listed by the line beside it."""
     for reason, _, example in rows("| Reason | What is wrong | A frame"):
@@ -174,6 +230,29 @@ def checks_of_rospecs(program):
             yield "no such file", run(program, *words, *told["llrp: rospec"].split(), given="tock") == (3, b"", "llrp: rospec\n")
 
 
+def checks_of_prefixes(program):
+    """Yields whether the examples of files of `--prefixes` are refused before a list is read, and whether a file is used."""
+    told = {row[0].strip("`"): re.findall(r"`([^`]*)`", row[2]) for row in rows("| Line |") if "prefixes" in row[0]}
+    key, line = "(01)80614141123458(21)6789", "llrp: prefixes line"
+    with tempfile.TemporaryDirectory() as folder:
+        path = os.path.join(folder, "prefixes")
+        example, word = told[f"{line} N: REASON"]
+        for name, number, example in ((word, 1, [example]), ("Two", 3, ["061414 7", "061414 7", "061414 8"])):
+            with open(path, "w", encoding="ascii") as file:
+                file.write("".join(f"{it}\n" for it in example))
+            wanted = (1, b"", f"{line} {number}: {name}\n")
+            yield f"prefixes: {name}", run(program, "epc", "--list", "--to", "hex", "--prefixes", path, given=key) == wanted
+        yield "no such file of prefixes", run(program, "epc", "--forms", *told["llrp: prefixes"][0].split(), key) == (3, b"", "llrp: prefixes\n")
+        with open(path, "w", encoding="ascii") as file:
+            file.write("06 11\n061414 7\n02 0\n")
+        words = ("epc", "--prefixes", path, "--filter", "3")
+        yield "a file of prefixes", run(program, *words, "--to", "hex", key) == (0, b"3074257BF7194E4000001A85\n", "")
+        yield "a list by a file", run(program, *words, "--list", "--to", "pure", given=f"{key}\ngln 0214141123454\n") == (
+            1, b"urn:epc:id:sgtin:0614141.812345.6789\n! Prefix\n", "")
+        status, out, said = run(program, *words, "--prefix-digits", "7", "--to", "hex", key)
+        yield "a file and a number", (status, out) == (2, b"") and said.startswith("error: epc takes")
+
+
 def checks_of_lines(program):
     """Yields whether each example of an error of a run ends with its line; `bound` would take a million reads, and `memory` is
     what tests/refuse_program.py is for."""
@@ -192,13 +271,48 @@ def checks_of_lines(program):
     yield "status", inventory_from(program, [ANSWERS[0], refusal]) == (1, code["status"][0] + "\n")
     yield "strange", inventory_from(program, [*ANSWERS[:2], ANSWERS[1]]) == (1, "llrp: strange\n")
     yield "strange, a reserved bit", inventory_from(program, ["283E0000000A00000007"]) == (1, "llrp: strange\n")
+    longer = "043E0000000B0000000700"
+    for options in ([], ["--all"]):
+        yield f"strange, an octet after the last part, {options}", inventory_from(program, [longer], *options) == (1, "llrp: strange\n")
+    custom = "07FF0000001000000001 0000000105AA"
+    yield "a CUSTOM_MESSAGE with data is ignored", inventory_from(program, [custom, *ANSWERS], "--all") == (0, "")
     yield "early", inventory_from(program, ANSWERS[:1]) == (1, "llrp: early\n")
 
 
+def refusal_of(program, words, source):
+    """Returns the status and the line of a command that reads a source without an end, and whether its memory stayed small."""
+    with subprocess.Popen([program, *words], stdin=source, stdout=subprocess.DEVNULL, stderr=subprocess.PIPE) as process:
+        timer = threading.Timer(60, process.kill)
+        timer.start()
+        said = process.stderr.read().decode()
+        _, status, used = os.wait4(process.pid, 0)
+        process.returncode = os.waitstatus_to_exitcode(status)
+        timer.cancel()
+    return process.returncode, said, used.ru_maxrss < MOST_MEMORY
+
+
+def checks_of_endless_scripts(program):
+    """Yields whether a script without an end is refused at its first line that is, by a process of little memory."""
+    for words in (["loop"], ["sim", str(free_port())]):
+        with open("/dev/zero", "rb") as source:
+            yield f"{words[0]}: no line", refusal_of(program, words, source) == (1, "llrp: script line 1\n", True)
+        for line, number in (("0 5 tock", 1), ("0 0 tick", 10001)):
+            with subprocess.Popen(["yes", line], stdout=subprocess.PIPE) as lines:
+                found = refusal_of(program, words, lines.stdout)
+                lines.stdout.close()
+            yield f"{words[0]}: endless {line}", found == (1, f"llrp: script line {number}\n", True)
+        source, end = os.pipe()
+        os.write(end, b"0 0 tick\n" + b"0" * 129)
+        yield f"{words[0]}: a line of 129 octets", refusal_of(program, words, source) == (1, "llrp: script line 2\n", True)
+        os.close(source)
+        os.close(end)
+
+
 def main():
-    program = os.path.abspath(sys.argv[1] if len(sys.argv) > 1 else os.path.join(TOP, "crates/llrp/out/llrp"))
-    parts = (checks_of_listings, checks_of_tags, checks_of_frames, checks_of_lines, checks_of_rospecs)
-    return finish_results([*checks_of_rows(), *(it for part in parts for it in part(program))], LEAST)
+    program = program_given()
+    parts = (checks_of_listings, checks_of_tags, checks_of_forms, checks_of_frames, checks_of_lines, checks_of_endless_scripts, checks_of_rospecs,
+             checks_of_prefixes)
+    return finish_results([*checks_of_rows(), *checks_of_figures(), *(it for part in parts for it in part(program))], LEAST)
 
 
 if __name__ == "__main__":

@@ -10,10 +10,11 @@ wrote is a front of what it writes without failure, and no tag line is lost or d
 """
 import collections
 import concurrent.futures
+import contextlib
 import functools
-import itertools
 import os
 import pty
+import re
 import socket
 import struct
 import subprocess
@@ -21,11 +22,12 @@ import sys
 import termios
 import time
 
-from counting import finish
-from refusing import TOP
+from parts.counting import finish
+from parts.ports import held_port, listens_at, wait_until
+from parts.repository import TOP, program_given
 
 # How many runs there are: with each device, and with a peer that does each of three things after each octet.
-LEAST = 1958
+LEAST = 2283
 # How long a run may take, and how long a peer that pauses does nothing, in seconds.
 LONGEST, PAUSE = 20, 0.02
 # How many connections at a time.
@@ -73,6 +75,7 @@ ANSWERS = [
     "04040000001200000007 011F000800000000",
 ]
 FIRST_REPORT, SECOND_REPORT = 5, 6
+KEEPALIVES = bytes.fromhex("043E0000000A00000063") * 1000
 # The documented error lines, and their statuses.
 STATUS_OF = {b"llrp: early\n": 1, b"llrp: read\n": 3, b"llrp: write\n": 3, b"llrp: network\n": 3}
 
@@ -245,46 +248,21 @@ def asked_after(count):
 
 
 def connect(port, run):
-    """Connects to a port where a run will listen, or returns None once it has ended."""
-    late = time.monotonic() + LONGEST
-    while time.monotonic() < late:
-        try:
-            return socket.create_connection(("127.0.0.1", port), timeout=LONGEST)
-        except ConnectionRefusedError:
-            if run.poll() is not None:
-                return None
-            time.sleep(0.002)
-    raise TimeoutError("nothing listens")
-
-
-# Ports for `sim`, each used once.
-PORTS = itertools.count(10_000 + os.getpid() % 15_000)
-
-
-def free_port():
-    while True:
-        port = next(PORTS)
-        with socket.socket() as held:
-            try:
-                held.bind(("127.0.0.1", port))
-                return port
-            except OSError:
-                continue
+    """Connects to a port where a run will listen."""
+    wait_until(lambda: listens_at(port) or run.poll() is not None, LONGEST, "sim listens")
+    if run.poll() is not None:
+        raise OSError("sim ended before its client came")
+    return socket.create_connection(("127.0.0.1", port), timeout=LONGEST)
 
 
 def listening(program, options=()):
-    """Returns a run of `sim` with these options, and a connection to it; where another process took the port first, with the next one."""
-    while True:
-        port = free_port()
+    """Returns a run of `sim` with these options, and a connection to it."""
+    with held_port() as port:
         run = start(program, ["sim", str(port), *options])
         run.stdin.write(SCRIPT)
         run.stdin.close()
         run.stdin = None
-        peer = connect(port, run)
-        if peer is not None:
-            return run, peer
-        if end(run) != (3, b"", b"llrp: network\n"):
-            raise OSError("sim ended before its client came")
+        return run, connect(port, run)
 
 
 def serve(client, program, count, how):
@@ -348,10 +326,10 @@ def take_inventory(program, count, how):
         return (*end(run), sent)
 
 
-def inventory_from(program, frames):
-    """Returns the status and the error line of `inventory`, whose reader sends these frames and closes."""
+def inventory_from(program, frames, *options):
+    """Returns the status and the error line of `inventory` with these options, whose reader sends these frames and closes."""
     with socket.create_server(("127.0.0.1", 0)) as listener:
-        run = start(program, ["inventory", "127.0.0.1", str(listener.getsockname()[1]), "--every", "2"])
+        run = start(program, ["inventory", "127.0.0.1", str(listener.getsockname()[1]), "--every", "2", *options])
         listener.settimeout(LONGEST)
         peer, _ = listener.accept()
         with peer:
@@ -440,6 +418,24 @@ def inventory_of_silence(program, count):
         return (status, out, err) == (3, lines_after(count), b"llrp: read\n")
 
 
+def inventory_of_deafness(program):
+    """Runs `inventory --timeout 1` with a reader that sends KEEPALIVEs without an end and reads none of the answers."""
+    with socket.create_server(("127.0.0.1", 0)) as listener:
+        listener.setsockopt(socket.SOL_SOCKET, socket.SO_RCVBUF, 4096)
+        run = start(program, ["inventory", "127.0.0.1", str(listener.getsockname()[1]), "--timeout", "1"])
+        listener.settimeout(LONGEST)
+        peer, _ = listener.accept()
+        with peer:
+            peer.settimeout(LONGEST)
+            try:
+                peer.sendall(octets(ANSWERS[:1]))
+                while run.poll() is None:
+                    peer.sendall(KEEPALIVES)
+            except OSError:
+                pass  # (the client ended, or takes no more)
+            return end(run) == (3, b"", b"llrp: write\n")
+
+
 def in_terminal(program, words, given):
     """Runs the program with a terminal as standard input and standard error, at which somebody types, and returns its status, its
     output, and what the terminal shows but what was typed."""
@@ -468,9 +464,19 @@ def terminal_runs(program):
     yield "show in a terminal", in_terminal(program, ["show", "--hex"], digits) == (0, listing, waiting)
     yield "encode in a terminal", in_terminal(program, ["encode", "--hex"], listing) == (0, digits, waiting)
     yield "loop in a terminal", b"waiting" not in in_terminal(program, ["loop"], b"")[2]
+    yield from (("the count of loop in a terminal" + option, counts_in_terminal(program, option)) for option in ("", " --json"))
     yield "help in a terminal", in_terminal(program, ["show", "--help"], b"")[2] == b""
     run = start(program, ["show", "--hex"])
     yield "show in a pipe", end(run, digits) == (0, listing, b"")
+
+
+def counts_in_terminal(program, option):
+    """Returns whether `loop` shows how many tags it printed so far, from none to all, and wipes that at the end."""
+    status, out, shown = in_terminal(program, f"loop --every 2{option}".split(), SCRIPT)
+    counts = re.findall(rb"\rllrp: connected, (\d+) tags", shown)
+    there = [out[:at].count(b"urn:epc:") for at in (0, len(out))]
+    is_count = counts == sorted(counts) and (counts[:1], counts[-1:]) == ([b"0"], [b"3"])
+    return status == 0 and there == [0, 3] and is_count and shown.endswith(b"\r\x1b[K")
 
 
 def pipe_with(octets):
@@ -512,19 +518,39 @@ def rospec_runs(program):
         yield f"--rospec, cut after {count} octets", is_told
 
 
+def is_served_at_home_only(program):
+    """Returns whether `sim` takes no connection to another address of this machine than 127.0.0.1, and then serves its client."""
+    with held_port() as port:
+        run = start(program, ["sim", str(port)])
+        run.stdin.close()
+        run.stdin = None
+        wait_until(lambda: listens_at(port) or run.poll() is not None, LONGEST, "sim listens")
+        try:
+            socket.create_connection(("127.0.0.2", port), timeout=LONGEST).close()
+            is_taken = True
+        except ConnectionRefusedError:
+            is_taken = False
+        with contextlib.suppress(OSError), connect(port, run) as peer:
+            peer.shutdown(socket.SHUT_WR)
+            read_to_end(peer)
+        return end(run) == (0, b"", b"") and not is_taken
+
+
 def all_runs(program):
     yield from output_runs(program)
     yield from terminal_runs(program)
     yield from rospec_runs(program)
+    yield "sim, a connection to 127.0.0.2", is_well(is_served_at_home_only, program)
     for count in (0, 5, len(DOWN) // 2):
         yield f"inventory of a reader that is silent after {count} octets", is_well(inventory_of_silence, program, count)
+    yield "inventory of a reader that reads nothing", is_well(inventory_of_deafness, program)
     for device in ("closed", "full"):
         yield f"inventory, its output {device}", is_well(inventory_over, program, device)
     yield from peer_runs(program)
 
 
 def main():
-    program = os.path.abspath(sys.argv[1]) if len(sys.argv) > 1 else os.path.join(TOP, "crates/llrp/out/llrp")
+    program = program_given()
     passed = failed = 0
     for name, well in all_runs(program):
         passed, failed = passed + well, failed + (not well)

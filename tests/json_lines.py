@@ -16,13 +16,13 @@ import subprocess
 import sys
 from typing import NamedTuple, Optional
 
-from captures import payloads
-from counting import finish, text_of
-from damages import damaged_cases
-from frames import lawful_cases
-from refusing import TOP
-from standard import LINES, ROWS, message, parameter
-from vectors import vectors
+from parts.captures import payloads
+from parts.counting import finish, text_of
+from parts.damages import damaged_cases
+from parts.frames import lawful_cases
+from parts.repository import TOP, program_given
+from parts.standard import LINES, ROWS, message, parameter
+from parts.vectors import vectors
 
 # How many frames of rows the program reads in one run; how many frames with ids that count up there are, and how many of these in one run.
 MOST_FRAMES = 4000
@@ -31,15 +31,16 @@ NUMBERED_FRAMES = 100_000
 # The greatest number up to which jq has each.
 GREATEST_OF_JQ = 2**53
 # How many cases there are.
-LEAST = 40263
+LEAST = 40376
 TAILS = {"words": "words", "text": "text", "bits": "bits", "data": "octets"}
 # Texts with a quote, a backslash, controls, and characters of two, three and four octets; each is that of an LLRPStatus.
 TEXTS = ["", '"', "\\", 'a"b\\c', "".join(map(chr, range(32))), "\x7f", "aß€", "\U0001f600\U00010000\U0010ffff", "\u2028\u2029\ufeff", "</script>"]
 
 
 def run(program, options, stream):
+    """Returns the status of `show`, with the text of an error if there is one, and what it prints."""
     done = subprocess.run([program, "show", *options], input=stream, capture_output=True, timeout=600)
-    return done.returncode, done.stdout
+    return (done.returncode, done.stderr) if done.stderr else done.returncode, done.stdout
 
 
 def string(text):
@@ -199,11 +200,12 @@ def are_read(kinds, what, out, listing):
 
 def are_lines(program, options, what, stream, listing, ends):
     """Yields whether the lines of a stream are those of its listing, and whether they are read."""
+    kinds = WHOLE if "--all" in options else PROFILE
     status, out = run(program, ["--json", *options], stream)
-    wanted = "".join(line + "\n" for line in lines_of(PROFILE, listing))
+    wanted = "".join(line + "\n" for line in lines_of(kinds, listing))
     yield f"{what}: {out[:1000]} in place of {wanted[:1000].encode()}", out == wanted.encode()
     yield f"{what}: status {status} in place of {ends}", status == ends
-    yield from are_read(PROFILE, what, out, listing)
+    yield from are_read(kinds, what, out, listing)
 
 
 def status_of(listing):
@@ -223,7 +225,8 @@ def case_results(program):
     for at in range(0, len(cases), MOST_FRAMES):
         part = cases[at : at + MOST_FRAMES]
         listing = "".join(line + "\n" for case in part for line in case.listing)
-        _, out = run(program, ["--json", "--all"], b"".join(case.frame for case in part))
+        status, out = run(program, ["--json", "--all"], b"".join(case.frame for case in part))
+        yield f"frames from {at} on: status {status}", status == status_of(listing)
         found = out.decode().split("\n")[:-1]
         yield f"frames from {at} on: {len(found)} lines of {len(part)}", len(found) == len(part)
         for case, line in zip(part, [*found, *[""] * len(part)]):
@@ -273,21 +276,55 @@ def many_results(program):
 
 def limit_results(program):
     frame = error_message(b"a" * 100)
-    yield from are_lines(program, ["--limit", "50"], "a frame above --limit", frame, "! 7 16 MessageLength\n", 1)
+    for all_kinds in ([], ["--all"]):
+        yield from are_lines(program, [*all_kinds, "--limit", "50"], f"a frame above --limit, {all_kinds}", frame, "! 7 16 MessageLength\n", 1)
+
+
+def end_results(program):
+    """Each end of a stream, after a message that both sets have and after nothing, and in digits of both cases."""
+    frame, listing = bytes.fromhex("083E0000000A000000AB"), "0 KEEPALIVE 2 171\n"
+    ends = [("", b"", 0), ("? 4\n", bytes.fromhex("083E0000"), 1), ("! BROKEN\n", bytes.fromhex("083E00000009000000AB") + frame, 1)]
+    for all_kinds in ([], ["--all"]):
+        for line, octets, status in ends:
+            for before, lines in ((b"", ""), (frame, listing)):
+                stream, what = before + octets, f"{lines + line!r} {all_kinds}"
+                yield from are_lines(program, all_kinds, what, stream, lines + line, status)
+                for digits in (stream.hex(), stream.hex().upper()):
+                    found = run(program, ["--json", "--hex", *all_kinds], digits.encode())
+                    yield f"{what}, as digits {digits}", found == run(program, ["--json", *all_kinds], stream)
+
+
+def instructions(program, options, stream):
+    """Counts the instructions of `show` over a stream."""
+    words = ["valgrind", "--tool=callgrind", "--callgrind-out-file=/dev/null", program, "show", *options]
+    done = subprocess.run(words, input=stream, capture_output=True, timeout=600)
+    return int(re.search(rb"Collected : (\d+)", done.stderr)[1])
+
+
+def length_results(program):
+    """Whether an octet of a frame that comes in many reads costs what one of a short frame does, but for one in two."""
+    tag = bytes.fromhex("00F000228D3074257BF7194E4000001A8581000186C4820005AF3107A40000880001")
+    for all_kinds in ([], ["--all"]):
+        options = ["--json", *all_kinds]
+        start = instructions(program, options, b"")
+        short, long = ((instructions(program, options, message(61, 1, tag * tags)) - start) / tags for tags in (100, 1900))
+        yield f"{options}: {short:.0f} instructions a tag in a frame of 3,410 octets, {long:.0f} in one of 64,610", long < 1.5 * short
 
 
 def results(program):
     """Yields what was compared, and whether it is right."""
+    yield from length_results(program)
     yield from vector_results(program)
     yield from text_results(program)
     yield from limit_results(program)
+    yield from end_results(program)
     yield from capture_results(program)
     yield from case_results(program)
     yield from many_results(program)
 
 
 def main():
-    program = sys.argv[1] if len(sys.argv) > 1 else os.path.join(TOP, "crates/llrp/out/llrp")
+    program = program_given()
     passed = failed = 0
     for what, is_right in results(program):
         if is_right:

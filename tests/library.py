@@ -1,10 +1,11 @@
 #!/usr/bin/env python3
-"""Builds the examples for C and Python over the library for C, and runs them on the rows of the tests and on a capture; calls each
-function through the header; and compiles or runs what README.md, docs/library.md and the library's own page show.
+"""Builds the example for C over the library, and runs it and the package for Python on the rows of the tests and on a capture; calls each
+function through the header; compares docs/llrp.3 with the header; and compiles the C that README.md, docs/library.md, docs/llrp.3 and the
+library's own page show.
 
 usage: tests/library.py
 
-It needs cc and ar beside the toolchain's command rt. The last line is `N passed, M failed`; the status is 1 if something failed.
+It needs cc, c++, ar, nm and objcopy beside the toolchain's command rt. The last line is `N passed, M failed`; the status is 1 if something failed.
 """
 import json
 import os
@@ -14,18 +15,23 @@ import sys
 import tempfile
 
 import json_lines
-from captures import payloads
-from counting import finish_results, text_of
-from refusing import TOP
-from vectors import source, vectors
+from parts.captures import payloads
+from parts.counting import finish_results, snippet, text_of
+from parts.frames import lawful_cases
+from parts.refusing import build_library
+from parts.repository import TOP
+from parts.refusing import run as run_refused
+from parts.vectors import source, vectors
 
-sys.path.insert(0, os.path.join(TOP, "examples/python"))
-import llrp as binding  # noqa: E402  (the module that testers copy)
+sys.path.insert(0, os.path.join(TOP, "python"))
+from llrp_epc import Llrp, Refused, _library  # noqa: E402  (the package of this checkout)
 
 CFLAGS = ["-std=c11", "-Wall", "-Wextra", "-Wpedantic", "-Werror", "-g", "-fsanitize=address,undefined", "-fno-sanitize-recover=all"]
 HEADER = "include/llrp.h"
+# How many frames are listed by one call.
+FRAMES_AT_ONCE = 4000
 # How many cases there are: the functions of the header, the rows of the tests' tables, and what is compared of each.
-LEAST = 660
+LEAST = 696
 # How the header writes a parameter of the library's source, without `alloc`, which the toolchain passes.
 IN_C = {
     "&[u8]": "const uint8_t *{0}, size_t {0}_length",
@@ -65,42 +71,122 @@ def declarations():
 def checks_of_calls(folder):
     """Yields whether the header declares what the source has, and whether each function answers through it."""
     declared = declarations()
-    yield "ten functions", len(declared) == 10
+    yield "twelve functions", len(declared) == 12
+    table = text_of("docs/library.md").split("| Function | What it does |")[1].split("\n\n")[0]
+    rows = re.findall(r"(?m)^\| (`[^|]*`) \|", table)
+    named = sorted(re.findall(r"llrp_\w+", "".join(rows)))
+    yield "the functions of docs/library.md", named == sorted(re.search(r"llrp_\w+", it)[0] for it in declared)
+    statuses = {it for page in ("docs/library.md", "docs/errors.md", "README.md") for it in re.findall(r"LLRP_[A-Z_]+", text_of(page))}
+    there = set(re.findall(r"LLRP_[A-Z0-9_]+", text_of(HEADER)))
+    yield f"the names of the header on the pages: {statuses - there}", statuses <= there
     found = re.findall(r"(?m)^\w+ llrp_\w+\(.*\);$", text_of(HEADER))
     yield "the header's declarations", sorted(found) == sorted(declared)
     status, out, err = run(build(folder, "tests/calls.c"))
-    yield f"calls through the header: {out}{err}", (status, out, err) == (0, "23 passed, 0 failed\n", "")
+    yield f"calls through the header: {out}{err}", (status, out, err) == (0, "31 passed, 0 failed\n", "")
+
+
+def checks_of_manual(folder):
+    """Yields whether docs/llrp.3 is what docs/manual.py writes of the header, declares the same functions, and has an example that works."""
+    path, found = os.path.join(folder, "llrp.3"), text_of("docs/llrp.3")
+    subprocess.run(["docs/manual.py", path], cwd=TOP, check=True, timeout=60)
+    yield "docs/llrp.3 is written anew by docs/manual.py", text_of(path) == found
+    parts = re.findall(r'(?m)^\.Ft (\w+)\n\.Fo (\w+)\n((?:\.Fa "[^"]*"\n)*)\.Fc$', found)
+    declared = [f"{result} {name}({', '.join(parameters.split(chr(34))[1::2])});" for result, name, parameters in parts]
+    yield "the declarations of docs/llrp.3", declared == re.findall(r"(?m)^\w+ llrp_\w+\(.*\);$", text_of(HEADER))
+    pairs = re.findall(r"(?m)^\.It Dv (LLRP_\w+)\n(\d+)", found)
+    yield "the numbers of docs/llrp.3", sorted(pairs) == sorted(re.findall(r"(?m)\b(LLRP_\w+)(?: =)? (\d+)\b", text_of(HEADER)))
+    example = re.search(r"(?s)\.Bd -literal -offset indent\n(.*?)\.Ed", found)[1].replace("\\-", "-")
+    yield "the example of docs/llrp.3", word_by_c(folder, '#include "llrp.h"', example) == (0, "0 3074257BF7194E4000001A85", "")
+
+
+def checks_of_names():
+    """Yields whether the libraries have the functions of the header, and no other name that programs see."""
+    wanted = sorted(re.findall(r"(?m)^\w+ (llrp_\w+)\(", text_of(HEADER)))
+    for words in (["nm", "-gj", "--defined-only", "out/libllrp_c.a"], ["nm", "-Dj", "--defined-only", "out/libllrp_c.so.0"]):
+        found = subprocess.run(words, cwd=TOP, capture_output=True, text=True, timeout=60).stdout
+        yield f"{' '.join(words)}\n{found}", sorted(re.findall(r"(?m)^\w+$", found)) == wanted
+
+
+def checks_of_cpp(folder):
+    """Yields whether C++ takes the header, twice in a file, and links the functions by their names in C."""
+    path = os.path.join(folder, "twice.cc")
+    with open(path, "w", encoding="utf-8") as file:
+        file.write('#include "llrp.h"\n#include "llrp.h"\n')
+        file.write("int main() { uint8_t room[LLRP_NAME_ROOM]; return (int)llrp_name(LLRP_OK, room, sizeof room) - 2; }\n")
+    words = ["c++", "-Wall", "-Wextra", "-Werror", "-I", "include", path, "out/libllrp_c.a", "-o", os.path.join(folder, "twice")]
+    done = subprocess.run(words, cwd=TOP, capture_output=True, text=True, timeout=60)
+    yield f"C++ takes the header: {done.stderr}", done.returncode == 0 and run(os.path.join(folder, "twice")) == (0, "", "")
 
 
 class Stub:
-    """A library that has too little room at first, and refuses a line above 2^32."""
+    """A library that has too little room at first, refuses a line above 2^32, and has no memory for a text, nor for all of LLRP 1.1."""
 
     LISTING, LINE = b"0 KEEPALIVE 2 7\n" * 100, 2**32 + 1
 
     def llrp_list(self, _stream, _length, room, length, used, written):
         written._obj.value = len(self.LISTING)
         if length < len(self.LISTING):
-            return binding.ROOM
+            return _library.ROOM
         room.raw, used._obj.value = self.LISTING.ljust(length, b"\0"), 10
-        return binding.OK
+        return _library.OK
 
     def llrp_encode(self, _listing, _length, _octets, length, written, line):
         if length < 5000:
             written._obj.value = 5000
-            return binding.ROOM
+            return _library.ROOM
         line._obj.value = self.LINE
         return 50
 
     def llrp_name(self, status, _name, _room):
         return 0
 
+    def without_memory(self, *_):
+        return _library.MEMORY
+
+    llrp_word_of_text = llrp_list_all = llrp_list_json_all = llrp_encode_all = without_memory
+
+
+def runs_out_of_memory(call, *arguments, **how):
+    """Returns whether a call ends with MemoryError."""
+    try:
+        call(*arguments, **how)
+    except MemoryError:
+        return True
+    except (Refused, AttributeError):
+        return False  # (another answer, or a call of another function)
+    return False
+
 
 def checks_of_binding(llrp):
-    """Yields whether the module for Python calls again with more room, and keeps the number of a line whole."""
+    """Yields whether the package for Python calls again with more room, and keeps the number of a line whole."""
     real, llrp.library = llrp.library, Stub()
     yield "more room for a listing", llrp.list(b"\x08") == (Stub.LISTING.decode(), 10, True)
     yield "a line above 2^32", refused(llrp.encode, "") == ("", Stub.LINE)
+    for call, argument in ((llrp.list, b""), (llrp.messages, b""), (llrp.encode, "")):
+        yield f"{call.__name__} without memory", runs_out_of_memory(call, argument, all=True)
+    yield "word_of_text without memory", runs_out_of_memory(llrp.word_of_text, "")
     llrp.library = real
+    for name, status in (("OK", 0), ("FAULTY", 1), ("BROKEN", 2), ("ROOM", 3), ("MEMORY", 7), ("HEADER", 16), ("ZEROS", 20)):
+        is_right = getattr(_library, name) == status and re.search(rf"(?m)^    LLRP_{name} = {status},", text_of(HEADER))
+        yield f"the package's {name}", is_right is not None
+    for name in ("WORD_OCTETS", "TEXT_ROOM", "NAME_ROOM", "MOST_OCTETS"):
+        yield f"the package's {name}", f"#define LLRP_{name} {getattr(_library, name)}\n" in text_of(HEADER)
+
+
+def checks_of_whole(llrp):
+    """Yields whether all=True takes each message of LLRP 1.1, and without it those of the profile alone are taken."""
+    cases = list(lawful_cases())
+    for at in range(0, len(cases), FRAMES_AT_ONCE):
+        part = cases[at : at + FRAMES_AT_ONCE]
+        stream, listing = b"".join(it.frame for it in part), "".join(line + "\n" for it in part for line in it.listing)
+        yield f"frames from {at} on: listing", llrp.list(stream, all=True) == (listing, len(stream), True)
+        objects = [json.loads(line) for line in json_lines.lines_of(json_lines.WHOLE, listing)]
+        yield f"frames from {at} on: messages", llrp.messages(stream, all=True) == (objects, len(stream))
+        yield f"frames from {at} on: octets", llrp.encode(listing, all=True) == stream
+    custom = bytes.fromhex("0BFF0000001000000007 0000651A 25AA")
+    yield "a CUSTOM_MESSAGE in the profile", llrp.list(custom) == ("! 7 6 MessageType\n", len(custom), False)
+    yield "its object in the profile", llrp.messages(custom) == ([{"fault": "MessageType", "id": 7, "bit": 6}], len(custom))
+    yield "its listing in the profile", refused(llrp.encode, "0 CUSTOM_MESSAGE 2 7 25882 37 xaa\n") == ("Name", 1)
 
 
 def run(program, *words, given=b""):
@@ -131,12 +217,12 @@ def counts_of_rows():
 def checks_of_header(llrp):
     """Yields whether the header's constants are the definitions' codes, and whether their names are those of docs/errors.md."""
     named = dict(re.findall(r"(?m)^    LLRP_([A-Z0-9_]+) = (\d+)", text_of(HEADER)))
-    rows = re.findall(r"(?m)^(word|uri|node|\w*)_?code(?:_of)? (?:\w+\.)?(\w+) = (\d+)$", text_of("crates/llrp_c/specs/Status.antt"))
-    codes = {("node_" if kind == "node" else "") + name: code for kind, name, code in rows}
+    rows = re.findall(r"(?m)^(word|uri|node|key|\w*)_?code(?:_of)? (?:\w+\.)?(\w+) = (\d+)$", text_of("crates/llrp_c/specs/Status.antt"))
+    codes = {(f"{kind}_" if kind in ("node", "key") else "") + name: code for kind, name, code in rows}
     spelled = {re.sub(r"(?<=[a-z])(?=[A-Z])", "_", name).upper().replace("DONE", "OK"): code for name, code in codes.items()}
     yield "the header has each code", spelled == named
     for name, code in named.items():
-        words = name.replace("NODE_", "").title().replace("_", "")
+        words = re.sub("^(NODE|KEY)_", "", name).title().replace("_", "")
         yield f"name of {name}", llrp.name(int(code)) == (f"Node {words}" if name.startswith("NODE_") else words)
     yield "no other status has a name", [code for code in range(256) if llrp.name(code)] == sorted(map(int, named.values()))
 
@@ -162,7 +248,7 @@ def refused(call, argument):
     """Returns the name and the line of a refusal."""
     try:
         call(argument)
-    except binding.Refused as refusal:
+    except Refused as refusal:
         return refusal.name, refusal.line
     return None
 
@@ -205,9 +291,25 @@ def checks_of_refusals(llrp):
     ):
         yield f"refusal {reason}", refused(llrp.encode, listing) == reason
     yield "a word of eleven octets", refused(llrp.text_of_word, bytes(11)) == ("Length", 0)
+    yield "a stream after a break", llrp.list(bytes.fromhex("083E0000000900000007") + bytes(5000))[0] == "! BROKEN\n"
     yield "a break", refused(llrp.frame_length, bytes.fromhex("083E0000000900000007")) == ("Broken", 0)
     yield "many frames", llrp.list(bytes.fromhex("083E0000000A00000007") * 3000)[1:] == (30000, True)
     yield "octets in a larger room", llrp.encode("0 KEEPALIVE 2 7\n" * 3000) == bytes.fromhex("083E0000000A00000007") * 3000
+
+
+def checks_of_example(folder):
+    """Yields whether the example in C stops at a break, whatever follows, and ends with status 3 where a request for memory is refused."""
+    plain = os.path.join(folder, "plain")
+    subprocess.run(["cc", "-std=c11", "-I", "include", "examples/c/tags.c", "out/libllrp_c.a", "-o", plain], cwd=TOP, check=True)
+    frame, broken = bytes.fromhex("083E0000000A00000007"), bytes.fromhex("083E0000000900000007")
+    listed = f"0 KEEPALIVE 2 7\n! BROKEN\n"
+    yield "C: a break and what follows it", run(plain, given=frame + broken + frame * 1000) == (1, listed, "")
+    library, stream = build_library(folder), frame * 500
+    ample = run_refused(library, plain, [], "0", stream, whole=True)
+    yield "C: with memory", ample.status == 0 and ample.requests > 4
+    ends = [run_refused(library, plain, [], f"{number}..", stream, whole=True) for number in range(1, ample.requests + 1)]
+    yield "C: each request for memory refused", all(it.answer == ample.answer or it.status == 3 and ample.out.startswith(it.out) for it in ends)
+    yield "C: the first request for memory refused", ends[0].status == 3
 
 
 def checks_of_capture(llrp, program):
@@ -220,30 +322,11 @@ def checks_of_capture(llrp, program):
         yield f"capture and back, {first}", llrp.encode(listing) == stream
 
 
-def snippet(name, heading):
-    """Returns the indented block of a document after a line."""
-    return re.sub(r"(?m)^    ", "", re.search(r"\n\n((?:    .*\n)+)", text_of(name).split(heading)[1])[1])
-
-
-def runs_in_python(code, names):
-    """Runs lines of Python with these names. Returns what each expression, or the name of an assignment whose comment is a value,
-    gives, and its comment."""
-    found = []
-    for line in code.splitlines():
-        statement, _, comment = re.match(r"(.*?)(\s+# (.*))?$", line).groups()
-        target = re.match(r"([\w, ]+) = ", statement)
-        exec(statement, names)
-        if comment and (target is None or comment.startswith("(")):
-            found.append((eval(target[1] if target else statement, names), comment))
-    return found
-
-
 def checks_of_documents(folder):
-    """Yields whether docs/library.md shows the code that the gate builds, and what it and README.md show compiles and runs."""
+    """Yields whether docs/library.md shows the code that the gate builds, and the C that it and README.md show compiles and runs."""
     shown = re.findall(r"(?s)```rust\n(.*?)```", text_of("docs/library.md"))
     yield "the code of docs/library.md", shown == [text_of("crates/example_tag_texts/src/main.rt")]
     yield from checks_of_c(folder)
-    yield from checks_of_python()
 
 
 def word_by_c(folder, include, body):
@@ -273,34 +356,24 @@ def checks_of_c(folder):
         yield command, (done.returncode, done.stdout, done.stderr) == (0, text, "")
 
 
-def checks_of_python():
-    """Yields whether the Python of README.md runs, and that of docs/library.md gives what its comments say."""
-    here = os.getcwd()
-    os.chdir(TOP)
-    names = {"received": bytes.fromhex("083E0000000A00000007 08")}
-    runs_in_python(snippet("README.md", "In Python, with"), names)
-    yield "the Python of README.md", names["received"] == b"\x08" and names["sent"].hex() == "04480000000a00000007"
-    code = snippet("docs/library.md", "### From Python")
-    found = runs_in_python(code, {})
-    os.chdir(here)
-    yield "the Python of docs/library.md", len(found) == 5
-    for value, comment in found:
-        yield f"docs/library.md: {comment}", value == eval(comment)
-
-
 def main():
     subprocess.run([os.path.join(TOP, "library.sh")], check=True)
     with tempfile.TemporaryDirectory() as folder:
         program = build(folder, "examples/c/tags.c")
-        llrp = binding.Llrp(os.path.join(TOP, "out/libllrp_c.so"))
+        llrp = Llrp(os.path.join(TOP, "out/libllrp_c.so.0"))
         results = [
             *checks_of_calls(folder),
+            *checks_of_names(),
+            *checks_of_manual(folder),
+            *checks_of_cpp(folder),
             *checks_of_header(llrp),
             *checks_of_tags(llrp, program),
             *checks_of_streams(llrp, program),
             *checks_of_refusals(llrp),
             *checks_of_binding(llrp),
+            *checks_of_whole(llrp),
             *checks_of_capture(llrp, program),
+            *checks_of_example(folder),
             *checks_of_documents(folder),
         ]
     return finish_results(results, LEAST)

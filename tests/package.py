@@ -1,21 +1,45 @@
 #!/usr/bin/env python3
-"""Makes the package for Debian, and uses what it holds in an empty root: the program, the library from C, and the module for Python.
+"""Makes the packages for Debian, and uses what they hold in an empty root: the program, the library from C, and the package for Python.
 
 usage: tests/package.py
 
 It needs cc, ar, strip, dpkg-deb, lintian and pkg-config. The last line is `N passed, M failed`; the status is 1 if something failed.
 """
+import gzip
 import os
+import re
 import subprocess
 import sys
 import tempfile
 
-from counting import finish_results
-from refusing import TOP
+from parts.counting import finish_results, text_of
+from parts.repository import TOP
 
 # How many things are checked.
-LEAST = 8
+LEAST = 57
 TAG, WORD = "urn:epc:tag:sgtin-96:3.0614141.812345.6789", "3074257BF7194E4000001A85"
+# The newest version of the C library whose functions may be needed: that of `Depends`.
+GLIBC = (2, 34)
+FIELDS = """\
+Package: {name}
+Source: llrp
+Version: {version}
+Architecture: {architecture}
+Maintainer: {maintainer}
+Installed-Size: {size}
+Priority: optional
+Section: {section}
+Depends: {depends}
+"""
+# Each package: its section, what it depends on, and what is in it besides its documents, where that is not the program's.
+PACKAGES = {
+    "llrp": ("utils", "libc6 (>= 2.34)", None),
+    "libllrp-c0": ("libs", "libc6 (>= 2.34)", r"lib/libllrp_c\.so\.0"),
+    "libllrp-c-dev": ("libdevel", "libllrp-c0 (= {version})", r"include/.*|lib/libllrp_c\.(a|so)|lib/pkgconfig/.*|share/man/man3/.*"),
+    "python3-llrp-epc": ("python", "libllrp-c0 (>= {version}), python3 (>= 3.8)", r"lib/python3/.*"),
+}
+MAINTAINER = "Jukyreva <packages@jukyreva.example>"
+COPYRIGHT = "llrp, by Jukyreva. Copyright 2026 Jukyreva. All rights reserved.\n"
 
 
 def output_of(*words, cwd=TOP, **environment):
@@ -31,22 +55,91 @@ def files_below(root):
     return {os.path.relpath(os.path.join(at, name), root) for at, _, names in os.walk(root) for name in names}
 
 
-def checks(package, folder):
-    """Yields what is checked, and whether it is so."""
-    root, installed = os.path.join(folder, "root"), os.path.join(folder, "installed")
-    yield "lintian finds no error", "E:" not in output_of("lintian", "--allow-root", package)
-    output_of("dpkg-deb", "-x", package, root)
-    output_of("./install.sh", DESTDIR=installed, PREFIX="/usr")
-    unpacked = {it.removesuffix(".gz") if "/man/" in it else it for it in files_below(root)}
-    added = {f"usr/share/doc/llrp/{name}" for name in ("NEWS.gz", "changelog.gz", "copyright")}
-    yield "the package holds what install.sh installs", unpacked == files_below(installed) | added
+def unzipped(path):
+    with gzip.open(path, "rt", encoding="utf-8") as file:
+        return file.read()
 
-    yield "the package needs the C library alone", output_of("dpkg-deb", "-f", package, "Depends") == "libc6"
+
+def checks_of_control(name, package, root):
+    """Yields whether a package says of itself what it has to say, and has no script that runs when it is installed."""
+    version = re.search(r'const VERSION: &str = "([^"]+)"', text_of("crates/llrp_commands/src/arguments/commands.rt"))[1]
+    architecture = "all" if name.startswith("python3-") else output_of("dpkg", "--print-architecture")
+    yield f"the name of {name}", os.path.basename(package) == f"{name}_{version}_{architecture}.deb"
     output_of("dpkg-deb", "-e", package, os.path.join(root, "DEBIAN"))
-    summed = [line.removesuffix(": OK") for line in output_of("md5sum", "-c", "DEBIAN/md5sums", cwd=root).splitlines()]
-    yield "each file has its sum", sorted(summed) == sorted(it for it in files_below(root) if not it.startswith("DEBIAN/"))
+    control = {it: text_of(f"{root}/DEBIAN/{it}") for it in os.listdir(f"{root}/DEBIAN") if it not in ("control", "md5sums")}
+    shared = {"triggers": "activate-noawait ldconfig\n", "shlibs": f"libllrp_c 0 libllrp-c0 (>= {version})\n"}
+    yield f"what {name} has besides its files", control == (shared if name == "libllrp-c0" else {})
+    section, depends, _ = PACKAGES[name]
+    how = {"name": name, "version": version, "architecture": architecture, "maintainer": MAINTAINER, "section": section}
+    wanted = FIELDS.format(**how, depends=depends.format(version=version), size=output_of("du", "-sk", f"{root}/usr").split()[0])
+    lines = [it for it in output_of("dpkg-deb", "-f", package).splitlines() if re.match(r"(?!Suggests|Description)\w", it)]
+    yield f"what {name} says of itself", sorted(lines) == sorted(wanted.splitlines())
+    documents = os.path.join(root, "usr/share/doc", name)
+    license_text = text_of("LICENSE") if os.path.exists(os.path.join(TOP, "LICENSE")) else ""
+    yield f"the copyright of {name}", text_of(f"{documents}/copyright") == COPYRIGHT + license_text
+    changes = unzipped(os.path.join(documents, "changelog.gz")).splitlines()
+    is_right = changes[0] == f"llrp ({version}) unstable; urgency=low" and changes[-1].startswith(f" -- {MAINTAINER}  ")
+    yield f"the changes of {name}", is_right
 
-    version = output_of("dpkg-deb", "-f", package, "Version")
+
+def checks_of_files(name, package, root):
+    """Yields whether a package has the files that it should, whose modes are right, that belong to root, and that are stripped."""
+    files = {it.removeprefix("usr/") for it in files_below(root) if not it.startswith(("DEBIAN/", f"usr/share/doc/{name}/"))}
+    fits = re.compile(PACKAGES[name][2] or f"(?!({'|'.join(it for _, _, it in PACKAGES.values() if it)})$).*")
+    wrong = {it for it in files if not fits.fullmatch(it)}
+    yield f"the files of {name}: {wrong}", files and not wrong
+    listed = [line.split(maxsplit=5) for line in output_of("dpkg-deb", "-c", package).splitlines()]
+    wanted = {"d": "drwxr-xr-x", "x": "-rwxr-xr-x", "l": "lrwxrwxrwx", "-": "-rw-r--r--"}
+    kinds = [("d" if it[-1].endswith("/") else "x" if it[-1] == "./usr/bin/llrp" else "l" if " -> " in it[-1] else "-") for it in listed]
+    wrong = [(mode, it) for kind, (mode, _, _, _, _, it) in zip(kinds, listed) if mode != wanted[kind]]
+    yield f"the modes of the files of {name}: {wrong}", not wrong
+    yield f"the owners of the files of {name}", {owner for _, owner, *_ in listed} == {"root/root"}
+    links = ["./usr/lib/libllrp_c.so -> libllrp_c.so.0"] if name == "libllrp-c-dev" else []
+    yield f"the links of {name}", [it for *_, it in listed if " -> " in it] == links
+    summed = [line.removesuffix(": OK") for line in output_of("md5sum", "-c", "DEBIAN/md5sums", cwd=root).splitlines()]
+    there = [it for it in files_below(root) if not it.startswith("DEBIAN/") and not os.path.islink(os.path.join(root, it))]
+    yield f"each file of {name} has its sum", sorted(summed) == sorted(there)
+
+
+def checks_of_binaries(root):
+    """Yields whether the program and the library are stripped, and need no function of a newer C library than they say."""
+    for name in ("usr/bin/llrp", "usr/lib/libllrp_c.so.0"):
+        path = os.path.join(root, name)
+        yield f"{name} is stripped", ".symtab" not in output_of("readelf", "-SW", path)
+        needs = [tuple(map(int, it.split("."))) for it in re.findall(r"GLIBC_([\d.]+)", output_of("readelf", "-VW", path))]
+        yield f"what {name} needs of the C library: {max(needs)}", max(needs) <= GLIBC
+
+
+def pages_of_help(program):
+    """Returns the pages that the program's help names."""
+    commands = re.findall(r"(?m)^  (\w+) ", output_of(program, "--help").split("Commands:\n")[1].split("\n\n")[0])
+    return set(re.findall(r"docs/(\w+\.md)", "".join(output_of(program, it, "--help") for it in commands if it != "help")))
+
+
+def checks(packages, folder):
+    """Yields what is checked, and whether it is so."""
+    yield "the packages", [os.path.basename(it).split("_")[0] for it in packages] == list(PACKAGES)
+    root, installed = os.path.join(folder, "root"), os.path.join(folder, "installed")
+    output_of("./install.sh", DESTDIR=installed, PREFIX="/usr")
+    for name, package in zip(PACKAGES, packages):
+        told = output_of("lintian", "--allow-root", package)
+        yield f"lintian finds no error of {name}, and its name is right\n{told}", "E:" not in told and "sonames" not in told
+        for to in (root, os.path.join(folder, name)):
+            output_of("dpkg-deb", "-x", package, to)
+        yield from checks_of_control(name, package, os.path.join(folder, name))
+        yield from checks_of_files(name, package, os.path.join(folder, name))
+    unpacked = {it.removesuffix(".gz") if "/man/" in it else it for it in files_below(root)}
+    added = {f"usr/share/doc/{name}/{it}" for name in PACKAGES for it in ("changelog.gz", "copyright")}
+    added |= {f"usr/share/doc/llrp/{it}" for it in ("NEWS.gz", "believe.html")}
+    yield "the packages hold what install.sh installs", unpacked == files_below(installed) | added
+    is_free = os.path.exists(os.path.join(TOP, "LICENSE"))
+    yield "what README.md says of a licence", ("There is no licence yet" in text_of("README.md")) != is_free
+    yield "the news", unzipped(f"{root}/usr/share/doc/llrp/NEWS.gz") == text_of("CHANGELOG.md")
+    yield from checks_of_binaries(root)
+    pages = pages_of_help(f"{root}/usr/bin/llrp")
+    yield f"the pages that the help names: {pages}", pages and pages <= set(os.listdir(f"{root}/usr/share/doc/llrp"))
+
+    version = output_of("dpkg-deb", "-f", packages[0], "Version")
     yield "the program runs", output_of(f"{root}/usr/bin/llrp", "--version") == f"llrp {version}"
     where = {"PKG_CONFIG_PATH": f"{root}/usr/lib/pkgconfig", "PKG_CONFIG_SYSROOT_DIR": root, "PKG_CONFIG_ALLOW_SYSTEM_CFLAGS": "1"}
     yield "pkg-config has the version", output_of("pkg-config", "--modversion", "llrp", **where) == version
@@ -54,15 +147,15 @@ def checks(package, folder):
     program, loaded = os.path.join(folder, "tags"), {"LD_LIBRARY_PATH": f"{root}/usr/lib"}
     output_of("cc", "-std=c11", "-o", program, "examples/c/tags.c", *flags)
     yield "a C program is compiled and runs", WORD in output_of(program, TAG, **loaded).upper()
-    module = f"from llrp import Llrp; print(Llrp('libllrp_c.so').text_of_word(bytes.fromhex('{WORD}')))"
+    module = f"from llrp_epc import Llrp; print(Llrp().text_of_word(bytes.fromhex('{WORD}')))"
     modules = f"{root}/usr/lib/python3/dist-packages"
-    yield "the module is imported", output_of(sys.executable, "-c", module, PYTHONPATH=modules, **loaded) == TAG
+    yield "the package for Python is imported", output_of(sys.executable, "-c", module, PYTHONPATH=modules, **loaded) == TAG
 
 
 def main():
-    package = output_of("./package.sh")
+    packages = output_of("./package.sh").splitlines()
     with tempfile.TemporaryDirectory() as folder:
-        return finish_results(list(checks(package, folder)), LEAST)
+        return finish_results(list(checks(packages, folder)), LEAST)
 
 
 if __name__ == "__main__":

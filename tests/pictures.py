@@ -9,8 +9,8 @@ import os
 import subprocess
 import sys
 
-from counting import finish
-from refusing import TOP
+from parts.counting import finish
+from parts.repository import TOP
 
 # How many pictures there are.
 LEAST = 2

@@ -8,7 +8,9 @@ library.sh and ./llrp call is a stub of the toolchain's command. The last line i
 failed.
 """
 import ctypes
+import io
 import os
+import pty
 import re
 import shutil
 import signal
@@ -17,57 +19,93 @@ import sys
 import tempfile
 import time
 
-from counting import finish_results, text_of
-from refusing import TOP
+from parts.counting import finish_results, text_of
+from parts.repository import TOP, program_given
 
-LEAST = 62
+LEAST = 153
 # What stubs of the toolchain do: each notes where and with which words it is called; then it proves and links, or fails in one of these.
 CALLED = 'echo "${PWD##*/} $*" >>"$(dirname "$0")/calls"\n'
 LINKS = 'mkdir -p out; printf "#!/bin/sh\\necho built \\$*; exit 5" >out/llrp; chmod +x out/llrp'
-PROVES = (
-    'if [ "$1" = run ]; then {}; '
-    'else echo "crate ${{PWD##*/}}: modules loaded=1 checked=1"; echo "logic=proved"; touch edited.rt; fi'
-)
+PROVES = 'echo "crate ${{PWD##*/}}: modules loaded=1 checked=1"; echo "logic=proved"; touch edited.rt; if [ "$1" = run ]; then {}; fi'
 REFUSES = 'echo "src/lib.rt:1:1: error: no proof"; echo "crate ${PWD##*/}: modules loaded=1 checked=1"; echo "logic=not-proved"; exit 1'
 FAILURES = {
-    "not proved": (REFUSES, "the crate tag_bits is not proved, so the program was not built\nsrc/lib.rt:1:1: error: no proof\n"),
-    "an end without a word": (f'if [ "$1" = check ]; then exit 2; else {LINKS}; fi', "the crate llrp is not proved"),
+    "not proved": (REFUSES, " is not proved, so the program was not built\nsrc/lib.rt:1:1: error: no proof\n"),
+    "an end without a word": (f'if [ "$1" = run ]; then exit 2; else {LINKS}; fi', "the crate llrp is not proved"),
     "no program": (PROVES.format("true"), "the crate llrp is not proved"),
     "an end while it links": (PROVES.format(f"{LINKS}; exit 2"), "the crate llrp is not proved"),
 }
 UNPROVED = 'echo "0 KEEPALIVE 2 7"; echo "run=ended status=1 " >&2; exit 1'
 # The library for C that the stub makes of these, and the heap that the toolchain adds.
 LIBRARY = 'if [ "$1" = doc ]; then echo "$(dirname "$0")/page"; else mkdir -p out; cp "$(dirname "$0")/given.a" out/libllrp_c.a; fi'
-ARCHIVES = {"given.a": "int given(void) { return 12; }", "c/liblibc_c.a": "int heap(void) { return 34; }"}
-# Where install.sh puts each file.
+ARCHIVES = {"given.a": "int heap(void); int llrp_given(void) { return heap() + 12; }", "c/liblibc_c.a": "int heap(void) { return 34; }"}
+# A folder's name with what a script has to quote.
+ODD = "a 'b\" $c "
+# How long a script may take until it is where it is interrupted, in seconds.
+LONGEST = 60
+# Where install.sh puts each file, with those of the package for Python.
+PACKAGE = "lib/python3/dist-packages/llrp_epc"
 INSTALLED = {
     "bin/llrp": "crates/llrp/out/llrp",
     "lib/libllrp_c.a": "out/libllrp_c.a",
-    "lib/libllrp_c.so": "out/libllrp_c.so",
-    "lib/python3/dist-packages/llrp.py": "examples/python/llrp.py",
+    "lib/libllrp_c.so": "out/libllrp_c.so.0",
+    "lib/libllrp_c.so.0": "out/libllrp_c.so.0",
+    **{f"{PACKAGE}/{it}": f"python/llrp_epc/{it}" for it in ("__init__.py", "_library.py", "_llrp.py", "py.typed")},
     "include/llrp.h": "include/llrp.h",
     "share/man/man1/llrp.1": "docs/llrp.1",
-    "share/doc/llrp/errors.md": "docs/errors.md",
+    "share/man/man3/llrp.3": "docs/llrp.3",
+    **{f"share/doc/llrp/{it}.md": f"docs/{it}.md" for it in ("client", "errors", "json", "recipes", "sim", "tables")},
     "share/bash-completion/completions/llrp": "completions/llrp.bash",
     "share/zsh/site-functions/_llrp": "completions/_llrp",
     "share/fish/vendor_completions.d/llrp.fish": "completions/llrp.fish",
 }
-# What install.sh writes itself.
-MADE = "lib/pkgconfig/llrp.pc"
+EXAMPLES = (
+    "c/tags.c inventory.pcap inventory.script keepalive.hex python/async_client.py python/client.py report.hex report.txt requests.txt rospec.txt"
+    " seen.awk shift.txt sightings.script two_antennas.rospec"
+)
+INSTALLED |= {f"share/doc/llrp/examples/{it}": f"examples/{it}" for it in EXAMPLES.split()}
+# What install.sh writes itself: what pkg-config says, and the unit with the program's path.
+MADE, UNIT = "lib/pkgconfig/llrp.pc", "lib/systemd/system/llrp-watch@.service"
+CONFIGURATION = """\
+prefix={prefix}
+libdir=${{prefix}}/lib
+includedir=${{prefix}}/include
+
+Name: llrp
+Description: EPC tags, and listings of streams of LLRP
+Version: {version}
+Libs: -L${{libdir}} -lllrp_c
+Cflags: -I${{includedir}}
+"""
 # Each benchmark with its least input, how its lines with figures begin, and the form of the figures.
 HEADING = re.compile(r" {9}|For each octet|\d+ reports, ")
 RATE = r" +[\d.]+ MB/s by wall +[\d.]+ MB/s by processor +[\d.]+ MB of memory"
 KINDS = ["reports", "rich", "keepalives", "events"]
-COSTS = [f"{kind:12} {command:6}" for kind in KINDS for command in ("show", "encode")]
+OPTIONS = ["show --all", "encode --all", "show --json", "show --all --json"]
+COSTS = []
+for kind in KINDS:
+    COSTS += [f"{kind:12} {command:6}" for command in ("show", "encode")]
+    COSTS += [f"{kind:12} {words:18}" for words in OPTIONS if kind != "keepalives"]
 SCHEMES = ["sgtin", "sscc", "sgln", "grai", "gdti", "gsrn", "gid", "raw", "mix"]
 BENCHMARKS = [
     ("show.sh", ["1"], {}, ["cat", "wc -l", "xxd -p", "llrp show", "llrp encode"], RATE),
     ("encode.sh", ["1"], {}, ["cat", "llrp encode", "reports:", "KEEPALIVE lines:"], RATE + r"| [\d.]+ instructions an octet"),
-    ("costs.sh", [], {"MB": "1"}, [*COSTS, f"{'faulty':12} show  "], r" +[\d.]+ +[\d.]+"),
+    ("costs.sh", [], {"MB": "1"}, [*COSTS, f"{'faulty':12} show  "], r" +[\d.]+( +[\d.]+)?"),
     ("tree.sh", ["100"], {}, ["decode_frame", "encode_into"] * 2, r" +[\d.]+ MB/s +[\d.]+ MB/s"),
     ("stream.sh", [], {}, ["reports", "events", "keepalive"], r" +[\d.]+ by a listener that does nothing +[\d.]+ by the decoder"),
     ("epc.sh", ["21"], {}, SCHEMES, r" +\d+ +\d+ +[\d.]+ +[\d.]+"),
+    ("list.sh", ["21"], {}, ["tag", "pure", "element", "link", "key", "hex"], r" +\d+ +\d+"),
 ]
+
+# Runs two functions of the benchmarks over a million octets: two seconds by the wall and four by the processor, 3,000 KB; and three times.
+FIGURES = """
+work=$1
+source <(sed -n '/^measure()/,/^}/p' bench/common.sh; sed -n '/^least()/,/^}/p' bench/costs.sh)
+/usr/bin/time() { echo '2 1 3 3000' > "$4"; }
+head -c 1000000 /dev/zero > "$work/long"
+measure name "$work/long" true
+printf '3\\n1\\n2\\n' > "$work/seconds"
+least "$work/seconds"
+"""
 
 
 def run(*words, cwd=TOP, **environment):
@@ -77,6 +115,11 @@ def run(*words, cwd=TOP, **environment):
     return done.returncode, done.stdout, done.stderr
 
 
+def version():
+    """Returns the version of the sources."""
+    return re.search(r'const VERSION: &str = "([^"]+)"', text_of("crates/llrp_commands/src/arguments/commands.rt"))[1]
+
+
 def octets_of(path):
     with open(path, "rb") as file:
         return file.read()
@@ -84,11 +127,10 @@ def octets_of(path):
 
 def checks_of_llrp(program, folder):
     """Yields whether ./llrp runs the program that was built, by its own name and by a link."""
-    version = re.search(r'const VERSION: &str = "([^"]+)"', text_of("crates/llrp_commands/src/arguments/commands.rt"))[1]
     link = os.path.join(folder, "link")
     os.symlink(os.path.join(TOP, "llrp"), link)
     for words in ([program], ["./llrp"], [link]):
-        yield f"{words} --version", run(*words, "--version") == (0, f"llrp {version}\n", "")
+        yield f"{words} --version", run(*words, "--version") == (0, f"llrp {version()}\n", "")
     yield "./llrp passes its words and its status on", run("./llrp", "epc", "x")[:2] == run(program, "epc", "x")[:2] == (1, "! Start\n")
 
 
@@ -144,20 +186,44 @@ def checks_of_failures(folder):
         for name, status in (("./build.py", 1), ("./llrp", 125)):
             found, out, err = run(name, cwd=copy_of_sources(folder, f"{what} {name[2:]}"), PATH=path)
             yield f"{name}, {what}", (found, out) == (status, "") and told in err
-    waits = Toolchain(folder, 'echo $$ >>"$(dirname "$0")/process"; exec sleep 60')
-    yield "./llrp, Ctrl-C", interrupted(copy_of_sources(folder, "interrupted"), waits) == 130
-    began = octets_of(os.path.join(waits.place, "process")).split()
-    yield "what goes on after Ctrl-C", not any([goes_on(int(it)) for it in began])
 
 
-def interrupted(copy, waits):
-    """Returns the status of ./llrp after Ctrl-C while it proves."""
+def checks_of_signals(folder):
+    """Yields whether ./llrp and build.py end by a signal, to all processes or to one, once or twice, with its status and all that they began."""
+    for name in ("./llrp", "./build.py"):
+        for what, number, to_all, times in [
+            ("Ctrl-C", signal.SIGINT, True, 1),
+            ("SIGTERM", signal.SIGTERM, False, 1),
+            ("SIGTERM twice", signal.SIGTERM, False, 2),
+            ("SIGHUP", signal.SIGHUP, False, 1),
+        ]:
+            waits = Toolchain(folder, 'echo $$ >>"$(dirname "$0")/process"; exec sleep 60')
+            copy = copy_of_sources(folder, f"{name[2:]}, {what}")
+            yield f"{name}, {what}", interrupted(name, copy, waits, number, to_all, times) == 128 + number
+            began = octets_of(os.path.join(waits.place, "process")).split()
+            yield f"{name}, what goes on after {what}", not any([goes_on(int(it)) for it in began])
+
+
+def interrupted(name, copy, waits, number, to_all, times):
+    """Returns the status of a script that gets a signal while it proves; none where it did not begin to."""
     how = {"cwd": copy, "env": {**os.environ, "PATH": waits.path}, "stdin": subprocess.DEVNULL, "stderr": subprocess.DEVNULL}
-    process = subprocess.Popen(["./llrp"], start_new_session=True, **how)
+    process = subprocess.Popen([name], start_new_session=True, **how)
+    late = time.monotonic() + LONGEST
     while not os.path.exists(os.path.join(waits.place, "process")):
+        if time.monotonic() > late:
+            os.killpg(process.pid, signal.SIGKILL)
+            return None
         time.sleep(0.02)
-    os.killpg(process.pid, signal.SIGINT)
-    return process.wait(20)
+    # (both rows of crates have begun by then)
+    time.sleep(0.3)
+    for _ in range(times):
+        (os.killpg if to_all else os.kill)(process.pid, number)
+        time.sleep(0.05)
+    try:
+        return process.wait(20)
+    except subprocess.TimeoutExpired:
+        os.killpg(process.pid, signal.SIGKILL)
+        return None
 
 
 def goes_on(process):
@@ -173,11 +239,11 @@ def checks_of_build(folder):
     """Yields whether build.py and ./llrp prove and build where the program is missing or a source is newer, and only there."""
     copy, proves, refuses = copy_of_sources(folder, "built"), Toolchain(folder, PROVES.format(LINKS)), Toolchain(folder, REFUSES)
     found, out, err = run("./build.py", cwd=copy, PATH=proves.path)
-    yield "./build.py, proved", (found, out) == (0, "") and bool(re.search(r"proved crate \d of 12: tag_bits", err))
-    lowest = "(llrp_schema lib --jobs [23]\ntag_uri lib --jobs 1\n|tag_uri lib --jobs 1\nllrp_schema lib --jobs [23]\n)?"
-    calls = re.fullmatch(f"{lowest}(\\w+ lib --jobs [1-4]\n)+llrp check --jobs [1-4]\nllrp run --jobs 1 -- --help", "\n".join(proves.calls()))
+    yield "./build.py, proved", (found, out) == (0, "") and bool(re.search(r"proved crate \d+ of 18: tag_bits", err))
+    calls = re.fullmatch("(\\w+ lib --jobs [1-3]\n){17}llrp run --jobs [1-4] -- --help", "\n".join(proves.calls()))
     yield "what ./build.py calls", calls is not None
-    yield "which crates ./build.py proves", len({it.split()[0] for it in proves.calls()}) == 12
+    yield "which crates ./build.py proves", len({it.split()[0] for it in proves.calls()}) == 18
+    yield "other words of ./build.py", run("./build.py", "program", cwd=copy, PATH=refuses.path) == (2, "", "usage: build.py [library]\n")
     yield "./llrp runs what is built", run("./llrp", "x", cwd=copy, PATH=refuses.path) == (5, "built x\n", "")
     later(os.path.join(copy, "crates/llrp/out/later.antt"))
     yield "./llrp looks at sources alone", run("./llrp", "x", cwd=copy, PATH=refuses.path) == (5, "built x\n", "")
@@ -188,6 +254,49 @@ def checks_of_build(folder):
     copy = copy_of_sources(folder, "edited")
     yield "./llrp builds and runs", run("./llrp", "x", cwd=copy, PATH=proves.path)[:2] == (5, "built x\n")
     yield "./llrp builds anew after a change during the build", run("./llrp", cwd=copy, PATH=refuses.path)[0] == 125
+
+
+def one_processor():
+    os.sched_setaffinity(0, [min(os.sched_getaffinity(0))])
+
+
+def checks_of_jobs(folder):
+    """Yields whether build.py proves by as many jobs as there are processors and memory for, and says on a terminal what it proves."""
+    copy, proves = copy_of_sources(folder, "one processor"), Toolchain(folder, PROVES.format(LINKS))
+    how = {"cwd": copy, "env": {**os.environ, "PATH": proves.path}, "stdin": subprocess.DEVNULL, "capture_output": True, "timeout": LONGEST}
+    yield "./build.py on one processor", subprocess.run(["./build.py"], preexec_fn=one_processor, **how).returncode == 0
+    crates = len(proves.calls()) - 1
+    calls = re.fullmatch(f"(\\w+ lib --jobs 1\n){{{crates}}}llrp run --jobs 1 -- --help", "\n".join(proves.calls()))
+    yield "what ./build.py calls on one processor", calls is not None
+    sys.path.insert(0, TOP)
+    import build
+
+    for gigabytes, most in ((1, 1), (7, 2), (400, 4)):
+        build.open = lambda *_, size=gigabytes, **__: io.StringIO(f"MemTotal: 1 kB\nMemAvailable: {size * 1_000_000} kB\n")
+        yield f"jobs with {gigabytes} GB", build.jobs() == min(most, len(os.sched_getaffinity(0)))
+    del build.open
+    yield "a clock", [build.clock(it) for it in (9, 61, 3600)] == ["0:09", "1:01", "60:00"]
+    yield from checks_of_terminal(folder)
+
+
+def checks_of_terminal(folder):
+    """Yields whether build.py shows on a terminal one line that changes, and wipes it."""
+    copy, proves = copy_of_sources(folder, "terminal"), Toolchain(folder, f"sleep 0.1; {PROVES.format(LINKS)}")
+    screen, terminal = pty.openpty()
+    how = {"cwd": copy, "env": {**os.environ, "PATH": proves.path}, "stdin": subprocess.DEVNULL, "stdout": subprocess.DEVNULL}
+    process = subprocess.Popen(["./build.py"], stderr=terminal, **how)
+    os.close(terminal)
+    shown = b""
+    try:
+        while piece := os.read(screen, 4096):
+            shown += piece
+    except OSError:
+        pass  # (how a terminal ends that no one else has open)
+    os.close(screen)
+    yield "./build.py at a terminal", process.wait(LONGEST) == 0
+    numbers = [int(it) for it in re.findall(rb"\rllrp: proving crate (\d+) of \d+ \(", shown)]
+    yield "what ./build.py shows at a terminal", numbers == sorted(numbers) and numbers[:1] == [1] and len(set(numbers)) > 5
+    yield "./build.py wipes it", shown.endswith(b"\r\x1b[K") and b"proved crate" not in shown
 
 
 def checks_of_unproved(folder):
@@ -211,12 +320,21 @@ def checks_of_library(folder):
         member = os.path.join(gives.place, os.path.basename(archive).replace(".a", ".o"))
         subprocess.run(["cc", "-fPIC", "-xc", "-c", "-o", member, "-"], input=code.encode(), check=True)
         subprocess.run(["ar", "rc", os.path.join(gives.place, archive), member], check=True)
-    begins = "llrp: proving and building the library for C\n"
-    yield "./library.sh, not proved", run("./library.sh", cwd=copy, PATH=refuses.path)[:2] == (1, "")
-    yield "./library.sh", run("./library.sh", cwd=copy, PATH=gives.path) == (0, "", begins) and gives.calls()[0] == "llrp_c lib"
-    yield "the archive", sorted(run("ar", "t", "out/libllrp_c.a", cwd=copy)[1].split()) == ["given.o", "liblibc_c.o"]
-    library = ctypes.CDLL(os.path.join(copy, "out/libllrp_c.so"))
-    yield "the library that is loaded", (library.given(), library.heap()) == (12, 34)
+    found, out, err = run("./library.sh", cwd=copy, PATH=refuses.path)
+    told = " is not proved, so the library for C was not built\nsrc/lib.rt:1:1: error: no proof\n"
+    yield "./library.sh, not proved", (found, out) == (1, "") and told in err and "--unproved" not in err
+    found, out, err = run("./library.sh", cwd=copy, PATH=gives.path)
+    yield "./library.sh", (found, out) == (0, "") and err.startswith("llrp: proving 11 crates, and building the library for C\n")
+    calls = re.fullmatch("(\\w+ lib --jobs [1-3]\n){10}llrp_c lib --jobs [1-4]\n\\w+ doc", "\n".join(gives.calls()))
+    yield "what ./library.sh calls", calls is not None
+    library = ctypes.CDLL(os.path.join(copy, "out/libllrp_c.so.0"))
+    yield "the library that is loaded", library.llrp_given() == 46
+    for words in (["nm", "-gj", "--defined-only", "out/libllrp_c.a"], ["nm", "-Dj", "--defined-only", "out/libllrp_c.so.0"]):
+        yield f"the names of {' '.join(words)}", re.findall(r"(?m)^\w+$", run(*words, cwd=copy)[1]) == ["llrp_given"]
+    yield "its name", "Library soname: [libllrp_c.so.0]" in run("readelf", "-d", "out/libllrp_c.so.0", cwd=copy)[1]
+    yield "its link", os.readlink(os.path.join(copy, "out/libllrp_c.so")) == "libllrp_c.so.0"
+    yield "what ./library.sh leaves", sorted(os.listdir(os.path.join(copy, "out"))) == ["libllrp_c.a", "libllrp_c.so", "libllrp_c.so.0"]
+    yield from checks_of_half_library(folder, gives)
     yield "./library.sh, built", run("./library.sh", cwd=copy, PATH=refuses.path) == (0, "", "")
     for name in ("crates/llrp_c/later.rt", "crates/tag_bits/later.antt", "crates.txt"):
         later(os.path.join(copy, name))
@@ -224,40 +342,85 @@ def checks_of_library(folder):
         os.utime(os.path.join(copy, name), (1e9, 1e9))
 
 
+def checks_of_half_library(folder, gives):
+    """Yields whether library.sh that fails at its end leaves no library that counts as built, and none of its files."""
+    copy, stops = copy_of_sources(folder, "half a library"), tempfile.mkdtemp(dir=folder)
+    with open(os.path.join(stops, "cc"), "w", encoding="utf-8") as file:
+        file.write("#!/bin/sh\necho no linker >&2; touch libllrp_c.so.0; exit 1\n")
+    os.chmod(os.path.join(stops, "cc"), 0o755)
+    status, out, err = run("./library.sh", cwd=copy, PATH=f"{stops}:{gives.path}")
+    yield "./library.sh without a linker", (status, out) == (1, "") and err.endswith("no linker\n")
+    yield "what it leaves", not os.listdir(os.path.join(copy, "out"))
+
+
+def below(folder):
+    """Returns the paths of the files and folders below a folder, in it."""
+    return {os.path.relpath(os.path.join(at, name), folder) for at, folders, names in os.walk(folder) for name in (*folders, *names)}
+
+
+def wanted_mode(path, name):
+    """Returns the mode that an installed file or folder has to have."""
+    return 0o755 if os.path.isdir(path) or name == "bin/llrp" else 0o644
+
+
 def checks_of_install(folder):
-    """Yields whether install.sh puts each file below PREFIX, as it is, and no other."""
+    """Yields whether install.sh puts each file below PREFIX, as it is and readable for all, and no other, and removes them again."""
     prefix = os.path.join(folder, "prefix")
-    yield "install.sh", run("./install.sh", PREFIX=prefix)[:2] == (0, f"llrp: installed below {prefix}\n")
-    found = {os.path.relpath(os.path.join(at, name), prefix) for at, _, names in os.walk(prefix) for name in names}
-    yield "the files of install.sh", found == {*INSTALLED, MADE}
-    for name in sorted(found & set(INSTALLED)):
+    done = run("bash", "-c", "umask 077; CDPATH=/usr ./install.sh", PREFIX=prefix)
+    yield "install.sh", done[:2] == (0, f"llrp: installed below {prefix}\n")
+    found = below(prefix)
+    files = {it for it in found if not os.path.isdir(os.path.join(prefix, it))}
+    yield f"the files of install.sh: {files ^ {*INSTALLED, MADE, UNIT}}", files == {*INSTALLED, MADE, UNIT}
+    for name in sorted(found):
         path = os.path.join(prefix, name)
-        is_right = os.access(path, os.X_OK) == (name == "bin/llrp") and octets_of(path) == octets_of(os.path.join(TOP, INSTALLED[name]))
-        yield f"installed {name}", is_right
+        is_right = os.stat(path).st_mode & 0o7777 == wanted_mode(path, name)
+        yield f"installed {name}", is_right and (name not in INSTALLED or octets_of(path) == octets_of(os.path.join(TOP, INSTALLED[name])))
+    yield "the installed link", os.readlink(os.path.join(prefix, "lib/libllrp_c.so")) == "libllrp_c.so.0"
+    yield "what pkg-config says", octets_of(os.path.join(prefix, MADE)).decode() == CONFIGURATION.format(prefix=prefix, version=version())
+    unit = text_of("examples/systemd/llrp-watch@.service").replace("/usr/local/bin/llrp", f"{prefix}/bin/llrp")
+    yield "the installed unit", octets_of(os.path.join(prefix, UNIT)).decode() == unit
     yield "the installed program runs", run(os.path.join(prefix, "bin/llrp"), "--version")[0] == 0
     status, out, err = run("./install.sh", PREFIX=os.path.join(prefix, "bin/llrp"))
     yield "install.sh, where PREFIX is no folder", status != 0 and out == "" and err != ""
-    for where, below in (("/usr", "/usr"), ("", "/usr/local")):
+    os.mkdir(f"{prefix}/{PACKAGE}/__pycache__")
+    yield "install.sh --uninstall", run("./install.sh", "--uninstall", PREFIX=prefix) == (0, f"llrp: removed below {prefix}\n", "")
+    left = {it for it in below(prefix) if not os.path.isdir(os.path.join(prefix, it)) or "doc/llrp" in it or PACKAGE in it}
+    yield f"what install.sh --uninstall leaves: {left}", not left
+    for words, where in ((["--remove"], prefix), ([], "usr"), ([], "./usr")):
+        status, out, err = run("./install.sh", *words, PREFIX=where)
+        yield f"install.sh {words} {where}", (status, out, err.count("\n")) == (2, "", 1) and not os.path.exists(os.path.join(TOP, "usr"))
+    for where, below_it in (("/usr", "/usr"), ("", "/usr/local")):
         package = tempfile.mkdtemp(dir=folder)
-        found = run("./install.sh", DESTDIR=package, PREFIX=where)[:2]
-        is_there = os.path.exists(f"{package}{below}/bin/llrp")
-        is_there = is_there and f"prefix={below}\n".encode() in octets_of(f"{package}{below}/{MADE}")
-        yield f"install.sh into a package, below {below}", found == (0, f"llrp: installed below {package}{below}\n") and is_there
+        done = run("./install.sh", DESTDIR=package, PREFIX=where)[:2]
+        is_there = os.path.exists(f"{package}{below_it}/bin/llrp") and f"prefix={below_it}\n".encode() in octets_of(f"{package}{below_it}/{MADE}")
+        yield f"install.sh into a package, below {below_it}", done == (0, f"llrp: installed below {package}{below_it}\n") and is_there
 
 
 def are_right(lines, names, figures):
-    """Whether there is a line for each name, with figures of this form, none of which is 0; no two lines have the same instructions."""
-    rests = [line[len(name) :] for line, name in zip(lines, names) if line.startswith(name)]
+    """Whether there is a line for each name, with figures of this form, none of which is 0; no two lines have the same figures, and where
+    these are one number, no two of a kind."""
+    pairs = [(name.split()[0], line[len(name) :]) for line, name in zip(lines, names) if line.startswith(name)]
+    rests = [rest for _, rest in pairs]
     positive = all(float(it) > 0 for rest in rests for it in re.findall(r"\d[\d.]*", rest))
-    counted = [tuple(it.split()) for it in rests if " MB" not in it]
+    counted = [(kind if len(it.split()) == 1 else "", *it.split()) for kind, it in pairs if " MB" not in it]
     are_apart = len(set(counted)) == len(counted)
     return len(lines) == len(names) == len(rests) and all(re.fullmatch(figures, it) for it in rests) and positive and are_apart
 
 
+def checks_of_figures(folder):
+    """Yields whether the benchmarks work out their figures right, of a million octets, and times and a memory that are given."""
+    work = tempfile.mkdtemp(dir=folder)
+    status, out, err = run("bash", "-c", FIGURES, "figures", work)
+    wanted = ["name", "0.5", "MB/s", "by", "wall", "0.2", "MB/s", "by", "processor", "3.0", "MB", "of", "memory", "1000.00"]
+    yield f"the figures of the benchmarks: {out!r} {err!r}", (status, out.split(), err) == (0, wanted, "")
+
+
 def checks_of_benchmarks(folder):
     """Yields whether each benchmark ends well, with the lines that it should print and figures in each, and leaves no file."""
-    scripts = sorted(name for name in os.listdir(os.path.join(TOP, "bench")) if name != "common.sh")
+    scripts = sorted(name for name in os.listdir(os.path.join(TOP, "bench")) if name not in ("common.sh", "watch.py"))
     yield "all benchmarks", scripts == sorted(name for name, *_ in BENCHMARKS)
+    status, out, err = run("python3", "bench/watch.py", "crates/llrp/out/llrp", "2", "10", "2", cwd=TOP)
+    yield f"bench/watch.py: {out!r} {err!r}", status == 0 and out != ""
     for name, words, environment, names, figures in BENCHMARKS:
         room = tempfile.mkdtemp(dir=folder)
         status, out, err = run(f"bench/{name}", *words, TMPDIR=room, **environment)
@@ -267,10 +430,12 @@ def checks_of_benchmarks(folder):
 
 
 def main():
-    program = os.path.abspath(sys.argv[1] if len(sys.argv) > 1 else os.path.join(TOP, "crates/llrp/out/llrp"))
-    with tempfile.TemporaryDirectory() as folder:
-        parts = (checks_of_failures, checks_of_build, checks_of_unproved, checks_of_library, checks_of_install, checks_of_benchmarks)
-        results = [*checks_of_llrp(program, folder), *(it for part in parts for it in part(folder))]
+    program = program_given()
+    parts = (checks_of_failures, checks_of_signals, checks_of_build, checks_of_jobs, checks_of_unproved, checks_of_library, checks_of_install)
+    with tempfile.TemporaryDirectory(prefix=ODD) as folder:
+        os.environ["TMPDIR"] = room = tempfile.mkdtemp(dir=folder)
+        results = [*checks_of_llrp(program, folder), *(it for part in (*parts, checks_of_figures, checks_of_benchmarks) for it in part(folder))]
+        results.append((f"what the scripts leave in TMPDIR: {os.listdir(room)}", not os.listdir(room)))
     return finish_results(results, LEAST)
 
 

@@ -1,6 +1,6 @@
 #!/usr/bin/env python3
 """Runs `inventory` with its options against a small reader over a socket, which has habits of real ones: it reports late, reports nothing at
-first, has a ROSpec from before, and starts an immediate ROSpec as soon as it is enabled. A file of `--rospec` that is refused is told before a
+first, has a ROSpec from before, and starts an immediate ROSpec as soon as it is enabled. A file of `--rospec` that is refused is named before a
 connection is made.
 
 usage: tests/readers.py [PROGRAM]
@@ -21,11 +21,11 @@ import threading
 import time
 from typing import NamedTuple
 
-from counting import finish
-from refusing import TOP
+from parts.counting import finish
+from parts.repository import program_given
 
 # How many runs there are.
-LEAST = 344
+LEAST = 677
 # How long a run may take, and how late a late reader reports, in seconds.
 LONGEST, LATE = 20, 0.05
 # How many runs at a time.
@@ -364,7 +364,7 @@ def is_cut_well(program, exchange, count):
 
 
 def main():
-    program = os.path.abspath(sys.argv[1]) if len(sys.argv) > 1 else os.path.join(TOP, "crates/llrp/out/llrp")
+    program = program_given()
     write_files()
     refused = [(words, 2, begins) for words, begins in REFUSED]
     refused += [(f"--rospec {name}", 1, f"llrp: rospec {told}\n") for name, (_, told) in NO_ROSPECS.items()]

@@ -1,13 +1,18 @@
 #!/usr/bin/env python3
-"""Runs the recipes of docs/recipes.md, and compares what they print with what the page shows; verifies the unit file for systemd; and
-runs the example of a client in Python with every octet of its connection apart and with a KEEPALIVE between any two frames.
+"""Runs the recipes of docs/recipes.md, and compares what they print with what the page shows; has systemd verify the unit file, and runs
+what it says; and runs the examples of clients in Python with every octet of their connection apart and with a KEEPALIVE between any two
+frames, and against readers that refuse a request.
 
 usage: tests/recipes.py PROGRAM
 
-PROGRAM is llrp. It needs mosquitto, mosquitto-clients, sqlite3, postgresql, parallel, tshark, xxd and systemd. The last line is
-`N passed, M failed`; the status is 1 if something failed or too little was run.
+PROGRAM is llrp. The recipe of live traffic is left out for a user who may not capture. It needs mosquitto, mosquitto-clients, jq, sqlite3,
+postgresql, gnuplot, stunnel4, openssl, parallel, tshark, xxd and systemd. The last line is `N passed, M failed`; the status is 1 if something failed or too little
+was run.
 """
+import contextlib
+import json
 import os
+import re
 import shlex
 import shutil
 import signal
@@ -18,48 +23,54 @@ import tempfile
 import threading
 import time
 
-from counting import finish
-from documents import MARK, examples, free_port
-from refusing import TOP
+from parts.counting import finish, text_of
+from documents import AWAIT, MARK, examples
+from parts.ports import free_port, listens_at, wait_until
+from readers import Habits, Reader, accept, status
+from parts.repository import TOP
 
 PAGE = "docs/recipes.md"
 # How many commands the page has that are run.
-COMMANDS = 27
+COMMANDS = 76
 # How long a recipe may take, in seconds.
 LONGEST = 120
-UNIT = "examples/systemd/llrp@.service"
+UNIT = "examples/systemd/llrp-watch@.service"
 # A KEEPALIVE of the reader, and the answer to it.
 KEEPALIVE, ANSWER = bytes.fromhex("043E0000000A00000063"), bytes.fromhex("04480000000A00000063")
 
 
 def prepare(folder, program):
-    """Puts into a folder what a recipe reads: the program, the examples and the library for C."""
-    shutil.copytree(os.path.join(TOP, "examples"), os.path.join(folder, "examples"))
+    """Puts into a folder what a recipe reads: the program, the examples, the library for C and the package for Python."""
+    for name in ("examples", "python/llrp_epc"):
+        shutil.copytree(os.path.join(TOP, name), os.path.join(folder, name))
     shutil.copy(program, os.path.join(folder, "llrp"))
     os.mkdir(os.path.join(folder, "out"))
-    shutil.copy(os.path.join(TOP, "out/libllrp_c.so"), os.path.join(folder, "out"))
+    shutil.copy(os.path.join(TOP, "out/libllrp_c.so.0"), os.path.join(folder, "out"))
 
 
 def waits_for(command, port, broker):
     """Returns the commands that wait until what a command began in the background is ready."""
-    listens = "until grep -q ':{:04X} 00000000:0000 0A' /proc/net/tcp; do sleep 0.05; done"
+    listens = "await grep -q ':{:04X} 00000000:0000 0A' /proc/net/tcp"
     if command.startswith("mosquitto -p"):
         return [listens.format(broker)]
     if command.startswith("./llrp sim"):
         return [listens.format(port)]
     if command.startswith("mosquitto_sub"):
-        return [f"until grep -q ':{broker:04X} [0-9A-F:]* 01' /proc/net/tcp; do sleep 0.05; done"]
+        return [f"await grep -q ':{broker:04X} [0-9A-F:]* 01' /proc/net/tcp"]
     if command.startswith("tshark"):
-        return ["until grep -sq Capturing tshark.log; do sleep 0.05; done"]
+        return ["await grep -sq Capturing tshark.log"]
     return []
 
 
 def script_of(commands):
     """Returns the commands as a script of bash, with ports that are free."""
     port, broker = free_port(), free_port()
-    lines = []
+    others = {name: str(free_port()) for name in ("5085", "5086")}
+    lines = [AWAIT]
     for command in commands:
         ready = command.replace("5084", str(port)).replace("1883", str(broker))
+        for name, other in others.items():
+            ready = ready.replace(name, other)
         lines += [ready, *(waits_for(command, port, broker) if command.endswith("&") else []), f"printf '%s\\n' {shlex.quote(MARK)}"]
     return "\n".join(lines)
 
@@ -89,14 +100,25 @@ def end_group(group):
         pass
 
 
+def captures(block):
+    """Returns whether the commands of a block capture live traffic."""
+    return any(command.startswith("tshark") for command, _ in block)
+
+
+def may_capture():
+    """Returns whether this user may capture live traffic."""
+    words = ["dumpcap", "-q", "-i", "lo", "-a", "duration:1", "-w", os.devnull]
+    return os.geteuid() == 0 or subprocess.run(words, capture_output=True, timeout=60).returncode == 0
+
+
 def run_page(program):
     """Yields for each command of the page what it is, what it printed and what it has to print."""
-    for block in examples(PAGE):
+    blocks = list(examples(PAGE))
+    for block in blocks if may_capture() else [it for it in blocks if not captures(it)]:
         with tempfile.TemporaryDirectory() as folder:
             prepare(folder, program)
             commands = [command for command, _ in block]
-            is_root = any(it.startswith("tshark") for it in commands)
-            printed = printed_by(script_of(commands), folder, is_root)
+            printed = printed_by(script_of(commands), folder, captures(block))
         for (command, wanted), found in zip(block, [*printed, *[""] * len(block)]):
             yield command, found.splitlines(), wanted
 
@@ -109,6 +131,109 @@ def unit_is_verified():
             copy.write(lines.read().replace("/usr/local/bin/llrp", "/bin/true"))
         done = subprocess.run(["systemd-analyze", "verify", unit], capture_output=True, text=True)
     return done.returncode == 0 and not done.stderr
+
+
+def words_of_unit():
+    """Returns the sections of the unit file, each with its keys and values in order."""
+    sections = re.findall(r"(?ms)^\[(\w+)\]\n(.*?)(?=^\[|\Z)", text_of(UNIT))
+    return {name: [tuple(line.split("=", 1)) for line in body.splitlines() if "=" in line and not line.startswith("#")] for name, body in sections}
+
+
+def unit_is_as_told():
+    """Returns whether the unit file has the keys that it should, and the page says of it what it has."""
+    service = dict(words_of_unit()["Service"])
+    command, stop = service.pop("ExecStart"), service.pop("ExecStopPost")
+    wanted = {"Environment": "ROSPEC=", "EnvironmentFile": "/etc/llrp/%i", "LogsDirectory": "llrp", "DynamicUser": "yes"}
+    wanted |= {"Restart": "always", "RestartSec": "5"}
+    page = " ".join(text_of(PAGE).split())
+    told = ["systemctl enable --now llrp-watch@dock1", "/etc/llrp/dock1", "`/var/log/llrp/dock1` gets its tags"]
+    pause = re.search(r"--again (\d+)|$", command)[1]
+    told += [f"again {wanted['RestartSec']} seconds", f"no later than {pause} seconds"]
+    is_right = '>>"$$LOGS_DIRECTORY/%i"' in command and stop == "/usr/local/bin/llrp stop ${HOST} $ROSPEC"
+    return service == wanted and is_right and all(it in page for it in told)
+
+
+def commands_of_unit(program):
+    """Returns what the unit file runs and runs at the end, with this program, for the instance dock1."""
+    service = dict(words_of_unit()["Service"])
+    words = re.fullmatch(r"/bin/sh -c '(.*)'", service["ExecStart"])[1].replace("$$", "$").replace("%i", "dock1")
+    return [it.replace("/usr/local/bin/llrp", shlex.quote(program)) for it in (words, service["ExecStopPost"])]
+
+
+def unit_works(program):
+    """Returns whether what the unit file runs writes each tag of a simulated reader as a line of JSON into its file, before it ends, and
+    whether what it runs then ends well."""
+    port = free_port()
+    # (DELETE_ROSPEC and SET_READER_CONFIG come before the three requests of `inventory`)
+    script = re.sub(r"(?m)^3 ", "5 ", text_of("examples/inventory.script"))
+    seen = [line.split() for line in script.splitlines()]
+    wanted = [{"epc": text, "antenna": int(antenna), "rssi": int(rssi)} for _, _, _, antenna, rssi, text in seen]
+    with tempfile.TemporaryDirectory() as folder:
+        log = os.path.join(folder, "dock1")
+        reader = simulated(program, port, script)
+        environment = {**os.environ, "HOST": f"127.0.0.1:{port}", "ROSPEC": "", "LOGS_DIRECTORY": folder}
+        start, stop = commands_of_unit(program)
+        run = subprocess.Popen(["/bin/sh", "-c", start], env=environment, stderr=subprocess.PIPE)
+        with contextlib.suppress(TimeoutError):
+            wait_until(lambda: len(lines_of(log)) >= len(wanted) or run.poll() is not None, 20, "the unit's tags")
+        run.terminate()
+        _, err = run.communicate(timeout=LONGEST)
+        reader.kill()
+        reader.wait(LONGEST)
+        written = [json.loads(line) for line in lines_of(log)]
+        reader = simulated(program, port, "")
+        stopped = subprocess.run(["/bin/sh", "-c", stop], env=environment, capture_output=True, timeout=LONGEST)
+        reader.wait(LONGEST)
+    has_all = [{name: it[name] for name in wanted[0]} for it in written] == wanted and all("FirstSeenTimestampUTC" in it for it in written)
+    return (run.returncode, err) == (-signal.SIGTERM, b"") and has_all and (stopped.returncode, stopped.stderr) == (0, b"")
+
+
+def simulated(program, port, script):
+    """Starts a simulated reader with a script, and waits until it listens."""
+    reader = subprocess.Popen([program, "sim", str(port)], stdin=subprocess.PIPE)
+    reader.stdin.write(script.encode())
+    reader.stdin.close()
+    wait_until(lambda: listens_at(port), LONGEST, "sim listens")
+    return reader
+
+
+def lines_of(path):
+    """Returns the lines of a file, none where it is not there yet."""
+    if not os.path.exists(path):
+        return []
+    with open(path, encoding="utf-8") as file:
+        return file.read().splitlines()
+
+
+def filters_at_once():
+    """Returns whether what stands in the page between `inventory` and the broker hands on each tag as it comes."""
+    words = re.search(r"\./llrp inventory [^|]*\| (.*?) \| mosquitto_pub", text_of(PAGE))[1]
+    run = subprocess.Popen(["bash", "-c", words], stdin=subprocess.PIPE, stdout=subprocess.PIPE, start_new_session=True)
+    tag, found = b"urn:epc:tag:gid-96:1.2.3 2 -62\n", []
+    run.stdin.write(tag + b"= 1\n")
+    run.stdin.flush()
+    reading = threading.Thread(target=lambda: found.append(run.stdout.readline()), daemon=True)
+    reading.start()
+    reading.join(10)
+    is_right = found == [tag]
+    end_group(run.pid)
+    run.wait(LONGEST)
+    return is_right
+
+
+def tags_are_rows():
+    """Returns whether examples/seen.awk makes of each tag of a listing its EPC, its antenna and its time."""
+    for name in ("examples/shift.txt", "examples/report.txt"):
+        wanted = []
+        for report in re.split(r"(?m)^1 TagReportData\n", text_of(name))[1:]:
+            has = {line.split(" ")[1]: line.split(" ")[-1] for line in report.splitlines() if line.startswith("2 ")}
+            epc = next(it for kind, it in has.items() if kind.startswith("EPC"))
+            wanted += [f"{epc}|{has.get('AntennaID', '')}|{has['FirstSeenTimestampUTC']}"] if "FirstSeenTimestampUTC" in has else []
+        with open(os.path.join(TOP, name), encoding="utf-8") as listing:
+            done = subprocess.run(["awk", "-f", "examples/seen.awk"], cwd=TOP, stdin=listing, capture_output=True, text=True, timeout=60)
+        if done.stdout.splitlines() != wanted or not wanted:
+            return False
+    return True
 
 
 def next_octet(stream):
@@ -158,28 +283,92 @@ class Apart:
                     self.reader.sendall(bytes([octet]))
 
 
-def client_works(program):
-    """Returns whether the client prints the script's tags and answers each KEEPALIVE, with its connection in single octets."""
+def client_works(program, client):
+    """Returns whether a client prints the script's tags and answers each KEEPALIVE, with its connection in single octets."""
     port = free_port()
+    seen = [line.split() for line in text_of("examples/inventory.script").splitlines()]
     with open(os.path.join(TOP, "examples/inventory.script"), encoding="utf-8") as script:
         reader = subprocess.Popen([program, "sim", str(port)], stdin=script)
-        seen = [line.split() for line in open(script.name, encoding="utf-8")]
-    while not listens_at(port):
-        time.sleep(0.05)
-    way = Apart(port)
-    words = [os.path.join(TOP, it) for it in ("examples/python/client.py", "out/libllrp_c.so")]
-    words += ["127.0.0.1", str(way.listener.getsockname()[1]), os.path.join(TOP, "examples/rospec.txt"), str(len(seen))]
-    done = subprocess.run([sys.executable, *words], capture_output=True, text=True, timeout=LONGEST)
+    try:
+        wait_until(lambda: listens_at(port), LONGEST, "sim listens")
+        way = Apart(port)
+        done = client(way.listener.getsockname()[1], len(seen))
+        ended = reader.wait(LONGEST)
+    except (TimeoutError, subprocess.TimeoutExpired):
+        return False
+    finally:
+        reader.kill()
     tags = [f"{text} {antenna} {rssi}" for _, _, _, antenna, rssi, text in seen]
     # (the last one comes after the client has ended)
     answered = way.asked - 1 <= way.answered > 0
-    return reader.wait(LONGEST) == 0 and done.returncode == 0 and done.stdout.splitlines() == tags and answered
+    return ended == 0 and done.returncode == 0 and done.stdout.splitlines() == tags and answered
 
 
-def listens_at(port):
-    """Returns whether a port of this machine is listened at."""
-    with open("/proc/net/tcp", encoding="ascii") as lines:
-        return f":{port:04X} 00000000:0000 0A" in lines.read()
+def run_python(*words):
+    """Runs an example in Python over the package and the library of this checkout."""
+    environment = {**os.environ, "PYTHONPATH": "python", "LD_LIBRARY_PATH": "out"}
+    return subprocess.run([sys.executable, *words], cwd=TOP, env=environment, capture_output=True, text=True, timeout=20)
+
+
+def run_client(port, count):
+    """Runs the client with a reader at this port until it has this many tags."""
+    return run_python("examples/python/client.py", "127.0.0.1", str(port), "examples/rospec.txt", str(count))
+
+
+def run_async_client(port, count):
+    """Runs the client for several readers with one at this port until it has this many tags."""
+    return run_python("examples/python/async_client.py", "examples/rospec.txt", str(count), f"127.0.0.1:{port}")
+
+
+class Refusing(Reader):
+    """A reader that refuses a request, by its response or by an ERROR_MESSAGE."""
+
+    def __init__(self, peer, refuses, by_error):
+        super().__init__(peer, Habits(tagged=1))
+        self.refuses, self.by_error = refuses, by_error
+
+    def answer(self, kind, number, body):
+        if kind != self.refuses:
+            return super().answer(kind, number, body)
+        self.send(100 if self.by_error else kind + 10, number, status(101))
+        return False
+
+
+def client_with(client, refuses, by_error):
+    """Returns how a client ends with a reader that refuses this request, and what came to the reader."""
+    with socket.create_server(("127.0.0.1", 0)) as listener:
+        came = []
+
+        def serve():
+            with accept(listener) as peer:
+                reader = Refusing(peer, refuses, by_error)
+                try:
+                    reader.serve()
+                except OSError:
+                    pass  # (the client ended)
+                came.extend(reader.came)
+
+        serving = threading.Thread(target=serve, daemon=True)
+        serving.start()
+        try:
+            done = client(listener.getsockname()[1], 1)
+        except subprocess.TimeoutExpired:
+            return None, "", []
+        serving.join(LONGEST)
+        return done.returncode, done.stderr.split(":")[0], came
+
+
+def client_is_refused(client):
+    """Returns whether a client sends its requests in order, and ends at the first one that is refused, in either way."""
+    requests = {20: "ADD", 24: "ENABLE", 22: "START", 21: "DELETE"}
+    if client_with(client, None, False) != (0, "", [*requests.values(), "CLOSE"]):
+        return False
+    for number, (kind, name) in enumerate(requests.items(), 1):
+        for by_error in (False, True):
+            wanted = (1, f"{name}_ROSPEC was refused", list(requests.values())[:number])
+            if client_with(client, kind, by_error) != wanted:
+                return False
+    return True
 
 
 def main():
@@ -187,13 +376,23 @@ def main():
     subprocess.run([os.path.join(TOP, "library.sh")], check=True)
     ran = list(run_page(program))
     wrong = [f"{command}\n" + "\n".join(found) for command, found, wanted in ran if found != wanted]
-    wrong += [f"{len(ran)} commands are run, and not {COMMANDS}"] if len(ran) != COMMANDS else []
-    wrong += [] if unit_is_verified() else [UNIT]
-    wrong += [] if client_works(program) else ["examples/python/client.py"]
+    most = COMMANDS if may_capture() else COMMANDS - sum(len(it) for it in examples(PAGE) if captures(it))
+    wrong += [f"{len(ran)} commands are run, and not {most}"] if len(ran) != most else []
+    others = {
+        "systemd finds a fault in the unit": unit_is_verified(),
+        "the unit, or what the page says of it": unit_is_as_told(),
+        "what the unit runs": unit_works(program),
+        "the filter before the broker": filters_at_once(),
+        "examples/seen.awk": tags_are_rows(),
+        "examples/python/client.py": client_works(program, run_client),
+        "examples/python/client.py, refused": client_is_refused(run_client),
+        "examples/python/async_client.py": client_works(program, run_async_client),
+        "examples/python/async_client.py, refused": client_is_refused(run_async_client),
+    }
+    wrong += [what for what, is_right in others.items() if not is_right]
     for it in wrong:
         print(f"WRONG: {it}")
-    # (the unit file and the client besides)
-    return finish(max(len(ran) + 2 - len(wrong), 0), len(wrong), COMMANDS + 2)
+    return finish(max(len(ran) + len(others) - len(wrong), 0), len(wrong), most + len(others))
 
 
 if __name__ == "__main__":

@@ -13,10 +13,11 @@ import re
 import sys
 import tempfile
 
-from counting import finish
-from exchanges import client_rows, reader_rows
-from refusing import TESTS, TOP, build_library, each_refused, run
-from vectors import all_found, vectors
+from parts.counting import finish
+from parts.exchanges import client_rows, reader_rows
+from parts.refusing import build_library, each_refused, run
+from parts.repository import TESTS, program_given
+from parts.vectors import all_found, vectors
 
 # Calls that write: after Memory a front of what they write with enough memory was written.
 WRITING = ("show", "list", "serve", "serve-all", "inventory", "epc")
@@ -28,6 +29,8 @@ WITHOUT_MEMORY = ("write", "skip")
 ENDS = ("serving", "gathering")
 # How many rows there are: of the vectors, the exchanges and tests/ends.rows. Each has two runs or more.
 ROWS = 945
+# How many runs of them there are.
+LEAST = 7000
 
 
 def frame_rows():
@@ -139,7 +142,7 @@ def run_row(library, program, call, words):
 
 
 def main():
-    program = sys.argv[1] if len(sys.argv) > 1 else os.path.join(TOP, "crates/test_refused_memory/out/test_refused_memory")
+    program = program_given("test_refused_memory")
     calls, total = {}, collections.Counter()
     with tempfile.TemporaryDirectory() as folder:
         library = build_library(folder)
@@ -162,7 +165,7 @@ def main():
             f"{call}: {count['rows']} rows, {count['requests']} requests for memory; "
             f"{count['memory']} runs answered Memory, {count['same']} as with enough memory"
         )
-    return finish(total["passed"], total["failed"], 2 * ROWS)
+    return finish(total["passed"], total["failed"], LEAST)
 
 
 if __name__ == "__main__":

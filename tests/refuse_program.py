@@ -12,15 +12,16 @@ import os
 import sys
 import tempfile
 
-from counting import finish
-from refusing import TOP, build_library, each_refused, run
+from parts.counting import finish
+from parts.refusing import build_library, each_refused, run
+from parts.repository import TOP, program_given
 
 KEPT = "as with enough memory"
 REFUSED = "llrp: memory"
 # A ROSpec on two antennas, with a report for each tag.
 ROSPEC = os.path.join(TOP, "examples/two_antennas.rospec")
 # How many runs there are at least: some hundred for each row, one for each request.
-LEAST = 2000
+LEAST = 7700
 
 
 def example(name):
@@ -67,7 +68,7 @@ def kind_of(ended, ample):
 
 
 def main():
-    program = sys.argv[1] if len(sys.argv) > 1 else os.path.join(TOP, "crates/llrp/out/llrp")
+    program = program_given()
     passed = failed = 0
     with tempfile.TemporaryDirectory() as folder:
         library = build_library(folder)

@@ -5,7 +5,7 @@ import subprocess
 import tempfile
 import xml.etree.ElementTree as ET
 
-from standard import list_octets
+from parts.standard import list_octets
 
 # Rows of which the dissector (Wireshark 4.0) shows something else than the standard has, and what. They are not compared.
 SLIPS = {

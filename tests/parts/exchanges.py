@@ -2,7 +2,7 @@
 import re
 import sys
 
-from vectors import all_found, source
+from parts.vectors import all_found, source
 
 EVENT = r'(Does::Connect|Does::Tick|Does::Seen\(\d+\)|Does::Take\("[^"]*"\)|[A-Z_]+)'
 STEP = r"CONNECTS|Step::Sends\(Request::\w+(?:\(\w+\))?|Step::Takes\(\w+|Step::Refuses|Step::Faults"

@@ -4,8 +4,8 @@ import subprocess
 import tempfile
 from typing import NamedTuple, Optional
 
-TESTS = os.path.dirname(os.path.realpath(__file__))
-TOP = os.path.dirname(TESTS)
+from parts.repository import TESTS
+
 # How long a run may take, in seconds.
 LONGEST = 60
 

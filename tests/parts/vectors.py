@@ -4,9 +4,9 @@ import re
 import sys
 from typing import NamedTuple
 
-from refusing import TOP
+from parts.repository import TOP
 
-SOURCES = os.path.join(TOP, "crates/test_libraries/src")
+SOURCES = [os.path.join(TOP, "crates", crate, "src") for crate in ("test_libraries", "test_ends")]
 
 
 class Vector(NamedTuple):
@@ -34,7 +34,8 @@ class Vector(NamedTuple):
 
 
 def source(name):
-    with open(os.path.join(SOURCES, name), encoding="utf-8") as file:
+    path = next(it for it in (os.path.join(folder, name) for folder in SOURCES) if os.path.exists(it))
+    with open(path, encoding="utf-8") as file:
         return file.read()
 
 

@@ -2,7 +2,7 @@
 import os
 import struct
 
-from refusing import TOP
+from parts.repository import TOP
 
 
 def payloads(name):

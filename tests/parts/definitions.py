@@ -97,6 +97,7 @@ class Tree:
                 if module.definitions:
                     self.modules[module.crate, module.name] = module
         self.contracts = {}  # by their function's path
+        self.sources = {}  # the file of each contract, by the same
         self.public = []
         for source in sorted(root.glob("crates/*/src")):
             if any(crate == source.parent.name for crate, _ in self.modules):
@@ -116,9 +117,11 @@ class Tree:
                         self.public.append((imports, "\n".join(lines[number:lines.index("}", number)])))
                     continue
                 contract = imports, contract_at(lines, number)
-                self.contracts[f"{crate}::{owner or module}::{function[3]}"] = contract
+                names = [f"{crate}::{owner or module}::{function[3]}"]
                 if not owner and module != "laws":
-                    self.contracts[f"{crate}::{function[3]}"] = contract
+                    names.append(f"{crate}::{function[3]}")
+                self.contracts.update((name, contract) for name in names)
+                self.sources.update((name, path) for name in names)
                 is_called = is_exported(module, owner or function[3]) and (function[2] or is_trait)
                 if is_called or 'extern "C"' in lines[number]:
                     self.public.append(contract)
@@ -209,6 +212,11 @@ def plain(header):
     while "<" in header and header != (header := re.sub(r"<[^<>]*>", "", header)):
         pass
     return header.replace("->", "")
+
+
+def clauses_of(text):
+    """The names of a contract's clauses."""
+    return set(re.findall(r"(?m)^ *(?:requires|ensures) (\w+) \{", text))
 
 
 def contract_at(lines, number):

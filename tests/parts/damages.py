@@ -2,8 +2,8 @@
 import sys
 from typing import NamedTuple
 
-from frames import PARENTS, Case, around, least_children, node
-from standard import DEEPEST, LINES, PARAMETERS, ROWS, Frame, message, parameter
+from parts.frames import PARENTS, Case, around, least_children, node
+from parts.standard import DEEPEST, LINES, PARAMETERS, ROWS, Frame, message, parameter
 
 
 class Raw(NamedTuple):

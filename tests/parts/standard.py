@@ -3,7 +3,7 @@ tables: their octets, their lines of a listing, and what a frame is, read by the
 import dataclasses
 from typing import NamedTuple, Optional
 
-from counting import text_of
+from parts.counting import text_of
 
 # The deepest level of a parameter, and the greatest frame.
 DEEPEST = 16

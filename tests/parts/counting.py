@@ -1,12 +1,18 @@
-"""What the scripts share: the text of a file of the repository, and the last line of a script."""
+"""What the scripts share: the text of a file of the repository, a block of a document, and the last line of a script."""
 import os
+import re
 
-from refusing import TOP
+from parts.repository import TOP
 
 
 def text_of(name):
     with open(os.path.join(TOP, name), encoding="utf-8") as file:
         return file.read()
+
+
+def snippet(name, heading):
+    """Returns the indented block of a document after a line."""
+    return re.sub(r"(?m)^    ", "", re.search(r"\n\n((?:    .*\n|\n(?=    ))+)", text_of(name).split(heading)[1])[1])
 
 
 def finish(passed, failed, least):

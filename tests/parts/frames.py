@@ -2,7 +2,7 @@
 import sys
 from typing import NamedTuple
 
-from standard import LINES, MESSAGES, PARAMETERS, ROWS, Frame, Node, message, number_text, tail_text
+from parts.standard import LINES, MESSAGES, PARAMETERS, ROWS, Frame, Node, message, number_text, tail_text
 
 
 class Case(NamedTuple):
@@ -19,7 +19,7 @@ class Case(NamedTuple):
 
 
 def spread(row, place, width):
-    """A number of so many bits that no other field of a row has."""
+    """A number of this many bits that no other field of a row has."""
     return (row.number * 131 + place + 1) * 0x9E3779B97F4A7C15F39CC0605CEDC835 >> 7 & 2**width - 1
 
 

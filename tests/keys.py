@@ -1,0 +1,97 @@
+#!/usr/bin/env python3
+"""Compares the keys that `epc --list` makes of random tag URIs with what Debian's python3-stdnum finds in them: their check digits, and the
+values of their element strings. Each key is also read back to the word of its tag URI.
+
+usage: tests/keys.py [PROGRAM]
+
+PROGRAM is llrp, crates/llrp/out/llrp where none is given. It needs python3-stdnum. The last line is `N passed, M failed`; the status is 1 if something failed or too little was run.
+"""
+import json
+import random
+import subprocess
+import sys
+
+from parts.counting import finish_results
+from parts.repository import program_given
+
+# How many tags of each scheme are compared, and how many cases there are.
+EACH = 300
+LEAST = 6 * EACH * 3
+# The digits of company prefix and reference together, the digits of the reference that come first in the key, the application identifier and
+# what comes before the key, and that of the serial number, by schemes (TDS 1.13, sections 7 and 14).
+SCHEMES = {
+    "sgtin": (13, 1, "(01)", "(21)"),
+    "sscc": (17, 1, "(00)", None),
+    "sgln": (12, 0, "(414)", "(254)"),
+    "grai": (12, 0, "(8003)0", ""),
+    "gdti": (12, 0, "(253)", ""),
+    "gsrn": (17, 0, "(8018)", None),
+}
+# What Debian's Python says of lines: a check digit for digits, and the values of an element string.
+JUDGE = """
+import json, sys
+from stdnum import ean, gs1_128
+for line in sys.stdin:
+    digits, element = json.loads(line)
+    told = gs1_128.info(element) if element else {}
+    print(json.dumps([ean.calc_check_digit(digits), {key: str(value) for key, value in told.items()}]))
+"""
+
+
+def answers(program, texts, *words):
+    """Returns the line of `epc --list` for each text."""
+    done = subprocess.run([program, "epc", "--list", *words], input="\n".join(texts), capture_output=True, text=True, timeout=60)
+    return done.stdout.splitlines()
+
+
+def judged(pairs):
+    """Returns the check digit and the values that Debian's Python finds in each pair of digits and an element string."""
+    lines = "".join(json.dumps(pair) + "\n" for pair in pairs)
+    done = subprocess.run(["/usr/bin/python3", "-c", JUDGE], input=lines, capture_output=True, text=True, timeout=60, check=True)
+    return [json.loads(line) for line in done.stdout.splitlines()]
+
+
+def digits(count):
+    """Returns random digits, as many as `count` says."""
+    return "".join(random.choices("0123456789", k=count))
+
+
+def tags_of(scheme, company_digits):
+    """Returns random tag URIs of a scheme, and for each the digits of its key before the check digit and its serial number."""
+    count, lead, _, serial = SCHEMES[scheme]
+    for _ in range(EACH // 7 + 1):
+        company, reference = digits(company_digits), digits(count - company_digits)
+        number = str(random.randrange(1, 2**38)) if serial is not None else None
+        parts = [str(random.randrange(8)), company, reference, *([number] if number else [])]
+        yield f"urn:epc:tag:{scheme}-96:{'.'.join(parts)}", reference[:lead] + company + reference[lead:], number
+
+
+def words_of(program, tags, elements, company_digits):
+    """Returns the word of each element string, read with the filter value of its tag URI and the number of digits of the company prefix."""
+    words = {}
+    for value in range(8):
+        texts = [element for (tag, _, _), element in zip(tags, elements) if tag.split(":")[4].startswith(f"{value}.")]
+        unsaid = ("--filter", str(value), "--prefix-digits", str(company_digits))
+        words.update({(value, text): word for text, word in zip(texts, answers(program, texts, "--to", "hex", *unsaid))})
+    return [words[int(tag.split(":")[4][0]), element] for (tag, _, _), element in zip(tags, elements)]
+
+
+def checks(program):
+    """Yields whether each key is the one that its tag URI and the judge say, and is read back."""
+    for scheme, (_, _, start, mark) in SCHEMES.items():
+        for company_digits in range(6, 13):
+            tags = list(tags_of(scheme, company_digits))
+            texts = [tag for tag, _, _ in tags]
+            elements, words = (answers(program, texts, "--to", form) for form in ("element", "hex"))
+            # (the judge has no rule for a serial number directly after the check digit)
+            asked = [(front, element if scheme in ("sgtin", "sscc") else "") for (_, front, _), element in zip(tags, elements)]
+            found = zip(tags, elements, words, judged(asked), words_of(program, tags, elements, company_digits))
+            for (tag, front, number), element, word, (digit, told), back in found:
+                yield f"the key of {tag}: {element}", element == start + front + digit + (mark + number if number else "")
+                values = {start[1:3]: front + digit, **({"21": number} if number else {})}
+                yield f"the values of {element}: {told}", not told or told == values
+                yield f"the word of {element}", word == back
+
+
+if __name__ == "__main__":
+    sys.exit(finish_results(list(checks(program_given())), LEAST))

@@ -1,0 +1,586 @@
+#!/usr/bin/env python3
+"""Runs `watch` and `stop` against a reader that behaves as bought ones do: it keeps its ROSpecs between two connections, reports late, adds
+Custom parameters, falls silent, closes, and refuses with a text. It counts the tags that it sent, with which the printed lines are
+compared.
+
+usage: tests/watch.py [PROGRAM]
+
+PROGRAM is llrp, crates/llrp/out/llrp where none is given. The reader is written from LLRP 1.1 only. The last line is `N passed, M failed`;
+the status is 1 if something failed.
+"""
+import datetime
+import json
+import os
+import re
+import socket
+import struct
+import subprocess
+import sys
+import tempfile
+import threading
+import time
+
+from parts.counting import finish_results
+from parts.ports import free_port
+from parts.repository import program_given
+
+# How many comparisons there are.
+LEAST = 128
+# How long a run may take, in seconds.
+LONGEST = 20
+
+ACCEPTED = bytes.fromhex("043F000000200000000100F600160080000C0000000000000000010000060000")
+REFUSED = ACCEPTED[:-1] + b"\x01"
+OWN_ID = 5084
+# The ROSpec that is made, with that id and a report for each tag (LLRP 1.1, sections 11 and 14): ROSpec, ROBoundarySpec with both of its
+# triggers, AISpec of all antennas with its trigger and an InventoryParameterSpec for C1G2, ROReportSpec with its selector.
+MADE = bytes.fromhex(
+    "00B10041000013DC0000 00B20012 00B3000500 00B60009 0000000000 00B70018 00010000 00B800090000000000 00BA0007000101"
+    " 00ED000D020001 00EE00061F80"
+)
+# SET_READER_CONFIG without a reset, and a KeepaliveSpec with a period of ten seconds (section 13).
+KEEPALIVES = bytes.fromhex("00 00DC0009 01 00002710")
+# The same with antennas 1 and 2.
+MADE_OF_TWO = bytes.fromhex(
+    "00B10043000013DC0000 00B20012 00B3000500 00B60009 0000000000 00B7001A 000200010002 00B800090000000000 00BA0007000101"
+    " 00ED000D020001 00EE00061F80"
+)
+# How many reports the reader sends in one write.
+AT_ONCE = 1000
+# After how many tags the memory of a run is read, and how much it may have grown then, in KiB.
+(FEW, MANY) = (72_000, 720_000)
+MOST_GROWTH = 64
+
+# How far the clock of this script may be from that of the program, in seconds.
+CLOCK = 0.1
+
+# message types of LLRP 1.1, section 17.1
+(CLOSE, ADD, DELETE, START, STOP, ENABLE, DISABLE, SET_CONFIG) = (14, 20, 21, 22, 23, 24, 25, 3)
+(REPORT, KEEPALIVE, KEEPALIVE_ACK) = (61, 62, 72)
+RESPONSES = {CLOSE: 4, ADD: 30, DELETE: 31, START: 32, STOP: 33, ENABLE: 34, DISABLE: 35, SET_CONFIG: 13}
+
+
+def frame(kind, number, body=b""):
+    """A message of version 1."""
+    return struct.pack(">HII", 0x0400 | kind, 10 + len(body), number) + body
+
+
+def status_parameter(code, text=""):
+    """LLRPStatus with a text, and for a refusal with a FieldError."""
+    said = text.encode()
+    rest = struct.pack(">HHHH", 288, 8, 0, code) if code else b""
+    return struct.pack(">HHHH", 287, 8 + len(said) + len(rest), code, len(said)) + said + rest
+
+
+def tag_report(number, serial, custom=False, data=b"\xaa\xbb"):
+    """RO_ACCESS_REPORT of one tag with its antenna, RSSI, first time and count, and a maker's Custom parameter or none."""
+    epc = bytes.fromhex("3074257BF7194E40") + struct.pack(">I", serial)
+    parts = b"\x8d" + epc + b"\x81\x00\x01" + b"\x86\xc4" + b"\x82" + struct.pack(">Q", 1600000000000000) + b"\x88\x00\x01"
+    if custom:
+        parts += struct.pack(">HHII", 1023, 12 + len(data), 25882, 37) + data
+    return frame(REPORT, number, struct.pack(">HH", 240, 4 + len(parts)) + parts)
+
+
+# Frames that are odd, without their ids. GET_ROSPECS, which readers do not send, is one of them; the others are no messages, with what show has
+# after the id: a KEEPALIVE with a reserved bit of its header (section 17.1), which is the first octet's second bit, and one with an octet too
+# many.
+RESERVED = (lambda number: b"\x44" + frame(KEEPALIVE, number)[1:], "0 Reserved")
+LONG = (lambda number: frame(KEEPALIVE, number, b"\0"), "80 Extra")
+REQUEST = (lambda number: frame(26, number), None)
+
+
+class Reader:
+    """A reader that serves one connection after another, and keeps its ROSpecs."""
+
+    def __init__(self, tags=3, custom=False, end="close", refusals=0, denied=(), host="127.0.0.1", data=b"\xaa\xbb", odd=None, before=b""):
+        self.tags, self.custom, self.end, self.data = tags, custom, end, data
+        # a frame between the reports, or, with the id of a request, before its response; and one before the connection is accepted
+        self.odd, self.before = odd, before
+        self.refusals, self.denied = refusals, set(denied)
+        self.rospecs, self.asked, self.sent, self.said = set(), [], 0, b""
+        self.socket = socket.create_server((host, 0), family=socket.AF_INET6 if ":" in host else socket.AF_INET)
+        self.port = self.socket.getsockname()[1]
+        threading.Thread(target=self.serve, daemon=True).start()
+
+    def serve(self):
+        """Takes connections until the socket is closed."""
+        while True:
+            try:
+                client, _ = self.socket.accept()
+            except OSError:
+                return
+            with client:
+                try:
+                    self.talk(client)
+                except OSError:
+                    pass
+
+    def talk(self, client):
+        """Answers what one client asks."""
+        if self.refusals:
+            self.refusals -= 1
+            self.say(client, REFUSED)
+            return
+        self.say(client, self.before + ACCEPTED)
+        while True:
+            head = self.read(client, 10)
+            if not head:
+                return
+            kind, length, number = struct.unpack(">HII", head)
+            body = self.read(client, length - 10)
+            kind &= 1023
+            self.asked.append((kind, body))
+            if kind == KEEPALIVE_ACK:
+                continue
+            if self.end == "mute" and kind == DISABLE:
+                continue
+            if self.odd and self.end == "pending" and kind == ADD:
+                self.say(client, self.odd(number))
+            self.say(client, frame(RESPONSES[kind], number, self.answer(kind, body)))
+            if kind == CLOSE:
+                return
+            if kind == START and not self.report(client):
+                return
+
+    def say(self, client, frames):
+        """Sends frames."""
+        self.said += frames
+        client.sendall(frames)
+
+    def answer(self, kind, body):
+        """The LLRPStatus of an answer, and what the request does to the ROSpecs."""
+        if kind in self.denied:
+            return status_parameter(101, "no\x1b[1m")
+        if kind == ADD:
+            rospec = struct.unpack(">I", body[4:8])[0]
+            if rospec in self.rospecs:
+                return status_parameter(101, "there is one")
+            self.rospecs.add(rospec)
+        if kind == DELETE:
+            rospec = struct.unpack(">I", body)[0]
+            if rospec not in self.rospecs:
+                return status_parameter(101, "no such ROSpec")
+            self.rospecs.discard(rospec)
+        return status_parameter(0)
+
+    def report(self, client):
+        """Sends the tags, late, and ends as it is to: closes, falls silent, or goes on."""
+        time.sleep(0.2)
+        for first in range(0, self.tags, AT_ONCE):
+            serials = range(first, min(first + AT_ONCE, self.tags))
+            odd = self.odd(9000) if self.odd and self.end != "pending" else b""
+            self.say(client, odd.join(tag_report(100 + serial, serial, self.custom, self.data) for serial in serials))
+            self.sent += len(serials)
+        if self.end == "silent":
+            time.sleep(60)
+        if self.end in ("busy", "mute"):
+            threading.Thread(target=self.go_on, args=(client,), daemon=True).start()
+        if self.end == "odd":
+            self.say(client, frame(RESPONSES[START], 9999, status_parameter(0)))
+        if self.end == "torn":
+            client.sendall(tag_report(99, 99)[:-1])
+        return self.end not in ("close", "torn")
+
+    def go_on(self, client):
+        """Sends a tag ten times a second until the ROSpec is disabled."""
+        while DISABLE not in [kind for kind, _ in self.asked]:
+            try:
+                self.say(client, tag_report(100 + self.sent, self.sent))
+            except OSError:
+                return
+            self.sent += 1
+            time.sleep(0.1)
+
+    @staticmethod
+    def read(client, size):
+        """The next `size` bytes, or none at the end."""
+        data = b""
+        while len(data) < size:
+            more = client.recv(size - len(data))
+            if not more:
+                return b""
+            data += more
+        return data
+
+
+PROGRAM = program_given()
+NAMES = {
+    CLOSE: "CLOSE", ADD: "ADD", DELETE: "DELETE", START: "START", STOP: "STOP", ENABLE: "ENABLE", DISABLE: "DISABLE", SET_CONFIG: "SET_CONFIG"
+}
+MOMENT = re.compile(r"\d{4}-\d\d-\d\dT\d\d:\d\d:\d\d\.\d{6}Z")
+TEXT_FILE = (
+    "1 ROSpec 7 0 0\n2 ROBoundarySpec\n3 ROSpecStartTrigger 0\n3 ROSpecStopTrigger 0 0\n2 AISpec w1,2\n3 AISpecStopTrigger 0 0\n"
+    "3 InventoryParameterSpec 1 1\n2 ROReportSpec 2 1\n3 TagReportContentSelector 0 0 0 1 0 1 0 0 0 0\n"
+)
+
+
+def run(reader, *words, seconds=LONGEST):
+    """Status, standard output and standard error of a command at a reader; a status of None where it had to be killed."""
+    return run_at(f"127.0.0.1:{reader.port}", *words, seconds=seconds)
+
+
+def run_at(address, *words, seconds=LONGEST):
+    """The same of a command at an address."""
+    command = [PROGRAM, words[0], address, *words[1:]]
+    process = subprocess.Popen(command, stdout=subprocess.PIPE, stderr=subprocess.PIPE, text=True)
+    try:
+        out, err = process.communicate(timeout=seconds)
+        return process.returncode, out, err
+    except subprocess.TimeoutExpired:
+        process.kill()
+        out, err = process.communicate()
+        return None, out, err
+
+
+def epc_text(serial):
+    """The tag URI of a tag of the reader: company prefix and item as in each EPC, and its serial number."""
+    return f"urn:epc:tag:sgtin-96:3.0614141.812345.{serial}"
+
+
+def serials(out):
+    """The EPCs of the printed objects."""
+    return [json.loads(line)["epc"] for line in out.splitlines()]
+
+
+def asked(reader):
+    """The names of the requests that came."""
+    return [NAMES.get(kind, kind) for kind, _ in reader.asked]
+
+
+def bodies(reader, wanted):
+    """What the requests of one kind had after their heads."""
+    return [body for kind, body in reader.asked if kind == wanted]
+
+
+def deleted(reader):
+    """The ids of the ROSpecs that were to be deleted."""
+    return [struct.unpack(">I", body)[0] for body in bodies(reader, DELETE)]
+
+
+def plain_runs():
+    """A reader that sends tags and closes, once and with what an earlier run left."""
+    reader = Reader()
+    for name in ("first", "second"):
+        reader.asked.clear()
+        status, out, err = run(reader, "watch", "--keepalive", "0")
+        yield f"{name}: status and error", (status, err) == (1, "llrp: early\n")
+        yield f"{name}: each tag", serials(out) == [epc_text(serial) for serial in range(reader.tags)]
+        yield f"{name}: the requests", asked(reader) == ["DELETE", "ADD", "ENABLE", "START"]
+        yield f"{name}: the ROSpec that is made", bodies(reader, ADD) == [MADE]
+        yield f"{name}: its own ROSpec", deleted(reader) == [OWN_ID] and reader.rospecs == {OWN_ID}
+    members = json.loads(out.splitlines()[0])
+    yield "the members", list(members) == ["at", "epc", "antenna", "rssi", "FirstSeenTimestampUTC", "TagSeenCount"]
+    members.pop("at", None)
+    yield "their values", members == {
+        "epc": epc_text(0), "antenna": 1, "rssi": -60, "FirstSeenTimestampUTC": 1600000000000000, "TagSeenCount": 1}
+
+
+def seconds_of(moment):
+    """The seconds since 1970 that a line has, or 0 where that is no moment in UTC with six digits of a second."""
+    if not MOMENT.fullmatch(moment):
+        return 0
+    return datetime.datetime.strptime(moment, "%Y-%m-%dT%H:%M:%S.%f%z").timestamp()
+
+
+def moments():
+    """The host's time and the reader's name in each line, with JSON and with words."""
+    for words in ((), ("--text",)):
+        reader = Reader()
+        before = time.time()
+        _, out, _ = run(reader, "watch", *words)
+        after = time.time()
+        texts = [line.split(" ")[3] if words else json.loads(line)["at"] for line in out.splitlines()]
+        times = [seconds_of(text) for text in texts]
+        yield f"the time of each line {words}", len(times) == reader.tags and all(before - CLOCK <= it <= after + CLOCK for it in times)
+        # the reader reports 0.2 seconds after the start
+        yield f"it is that of the report {words}", times == sorted(times) and times[0] >= before + 0.2 - CLOCK
+    for name in ("dock 1", 'dock "1"', "\\\t\x01", "\u00e9\u2028\U0001f600", ""):
+        _, out, _ = run(Reader(tags=2), "watch", "--name", name)
+        lines = [json.loads(line) for line in out.split("\n")[:-1]]
+        yield f"--name {name!r}", [list(it)[:3] for it in lines] == [["at", "reader", "epc"]] * 2 and {it["reader"] for it in lines} == {name}
+    _, out, _ = run(Reader(tags=1), "watch", "--name", "dock", "--text")
+    yield "--name and --text", out.startswith(f"{epc_text(0)} 1 -60 ") and "dock" not in out
+
+
+def ends_by_the_clock():
+    """--for: the plan ends as it does, while tags come and where none come, and the time counts over all connections."""
+    end = ["DISABLE", "DELETE", "CLOSE"]
+    for name, words in (("words", ("--keepalive", "0", "--text")), ("JSON", ())):
+        reader = Reader(end="busy")
+        start = time.monotonic()
+        status, out, err = run(reader, "watch", "--for", "2", *words)
+        took = time.monotonic() - start
+        yield f"--for and {name}: status", (status, err) == (0, "") and 2 <= took < 3
+        yield f"--for and {name}: the requests", asked(reader)[-4:] == ["START", *end] and not reader.rospecs
+        yield f"--for and {name}: each tag", len(out.splitlines()) == reader.sent > 10
+    with tempfile.NamedTemporaryFile("w", suffix=".rospec") as file:
+        file.write(TEXT_FILE)
+        file.flush()
+        reader = Reader(tags=1, end="stay")
+        status, _, err = run(reader, "watch", "--for", "1", "--rospec", file.name)
+        yield "--for and nothing comes", (status, err) == (0, "") and asked(reader)[-4:] == ["START", *end] and not reader.rospecs
+    reader = Reader(end="silent")
+    start = time.monotonic()
+    status, out, err = run(reader, "watch", "--for", "1", "--keepalive", "0")
+    yield "--for and a dead reader", (status, err, len(out.splitlines())) == (3, "llrp: read\n", 3) and time.monotonic() - start < 9
+    reader = Reader(end="mute")
+    start = time.monotonic()
+    status, _, err = run(reader, "watch", "--for", "1", "--keepalive", "1")
+    yield "--for and no response", (status, err) == (3, "llrp: read\n") and time.monotonic() - start < 7
+    reader = Reader(denied=[DISABLE], end="busy")
+    status, _, err = run(reader, "watch", "--for", "1")
+    yield "--for and a refused DISABLE_ROSPEC", (status, err) == (1, "llrp: status 101\n") and not reader.rospecs
+    reader = Reader(tags=1)
+    start = time.monotonic()
+    status, out, err = run(reader, "watch", "--for", "3", "--again", "60")
+    took = time.monotonic() - start
+    yield "--for and --again", status == 1 and set(err.splitlines()) == {"llrp: early"} and 3 <= took < 4
+    yield "--for and --again: more than one connection", len(out.splitlines()) == reader.sent > 1
+    yield "--for and no reader", run_at(f"127.0.0.1:{free_port()}", "watch", "--for", "1") == (3, "", "llrp: network\n")
+    for number in ("0", "4294967296", "x", ""):
+        yield f"--for {number}", run_at("127.0.0.1", "watch", "--for", number)[0] == 2
+
+
+def odd_frames():
+    """Frames that are no messages, and messages that no reader sends: where they are passed over, and where they end the run."""
+    note = "llrp: note: a frame that is no message\nllrp: note:   ! 9000 {}\n"
+    for name, (odd, fault) in {"reserved": RESERVED, "long": LONG, "request": REQUEST}.items():
+        reader = Reader(odd=odd)
+        status, out, err = run(reader, "watch")
+        yield f"odd: {name}: each tag", serials(out) == [epc_text(serial) for serial in range(reader.tags)]
+        said = note.format(fault) * (reader.tags - 1) if fault else ""
+        yield f"odd: {name}: what is said", (status, err) == (1, said + "llrp: early\n")
+        notes, _ = notes_of(Reader(odd=odd))
+        words = "a frame that is no message" if fault else "a message that is passed over"
+        yield f"odd: {name}: --verbose", notes.count(words) == 2
+        # under the id of ADD_ROSPEC, before its response
+        reader = Reader(odd=odd, end="pending")
+        status, out, err = run(reader, "watch")
+        if fault:
+            yield f"odd: {name}: a pending id", (status, out) == (1, "") and err.endswith("\nllrp: strange\n") and asked(reader)[-2:] == ["DELETE", "CLOSE"]
+        else:
+            yield f"odd: {name}: a pending id", len(out.splitlines()) == 3 and err == ""
+        status, out, err = run(Reader(before=odd(1)), "watch")
+        yield f"odd: {name}: before it is accepted", (status, out) == (1, "") and err.endswith("llrp: strange\n")
+    # reports of 64 octets and a limit above that leave the report with more octets than it out
+    reader = Reader(odd=lambda number: frame(KEEPALIVE, number, bytes(4096)))
+    status, out, err = run(reader, "watch", "--limit", "4096")
+    yield "odd: above --limit", len(out.splitlines()) == 3 and err.count("MessageLength") == 2 and "strange" not in err
+
+
+def option_runs():
+    """The options, each with what it changes."""
+    reader = Reader(custom=True)
+    status, out, _ = run(reader, "watch", "--id", "77")
+    yield "KEEPALIVEs are asked for", asked(reader) == ["DELETE", "SET_CONFIG", "ADD", "ENABLE", "START"]
+    yield "how often", bodies(reader, SET_CONFIG) == [KEEPALIVES]
+    yield "--id", deleted(reader) == [77] and reader.rospecs == {77}
+    yield "Custom parameters", serials(out) == [epc_text(serial) for serial in range(reader.tags)]
+    reader.asked.clear()
+    run(reader, "watch", "--antennas", "1,2")
+    yield "--antennas", bodies(reader, ADD) == [MADE_OF_TWO]
+    status, out, _ = run(reader, "watch", "--text")
+    yield "--text", [line.rsplit(" ", 1)[0] for line in out.splitlines()] == [f"{epc_text(serial)} 1 -60" for serial in range(reader.tags)]
+    with tempfile.NamedTemporaryFile("w", suffix=".rospec") as file:
+        file.write(TEXT_FILE)
+        file.flush()
+        run(reader, "watch", "--rospec", file.name)
+        yield "--rospec", 7 in reader.rospecs
+        run(reader, "stop", "--rospec", file.name)
+        yield "stop --rospec", 7 not in reader.rospecs
+    yield "no file", run(reader, "watch", "--rospec", "/nonexistent", "--again", "1")[::2] == (3, "llrp: rospec\n")
+
+
+def bad_ends():
+    """What a reader does that ends a run, and how it ends."""
+    start = time.monotonic()
+    status, out, err = run(Reader(end="silent"), "watch", "--keepalive", "1")
+    yield "silence", (status, err) == (3, "llrp: read\n") and 3 <= time.monotonic() - start < 8
+    yield "the tags before it", len(out.splitlines()) == 3
+    status, _, err = run(Reader(denied=[ADD]), "watch")
+    yield "a refused ADD_ROSPEC", (status, err) == (1, "llrp: status 101\n")
+    status, _, err = run(Reader(denied=[DELETE], tags=1), "watch")
+    yield "a refused DELETE_ROSPEC", (status, err) == (1, "llrp: early\n")
+    status, _, err = run(Reader(refusals=1), "watch")
+    yield "a refused connection", (status, err) == (1, "llrp: status 1\n")
+    # with a Custom parameter of 12 octets and its data a report has 56 and the data
+    for size, limit, tags in ((4096, "4096", 3), (4097, "4096", 0), (4097, "4097", 3)):
+        _, out, _ = run(Reader(custom=True, data=bytes(size - 56)), "watch", "--limit", limit)
+        yield f"--limit {limit} and reports of {size}", len(out.splitlines()) == tags
+    yield "no reader", run_at(f"127.0.0.1:{free_port()}", "watch") == (3, "", "llrp: network\n")
+
+
+def words_that_clash():
+    """Words that ask for nothing, with what is said of them."""
+    for words, said in (
+        (("watch", "--rospec", "x", "--every", "1"), "the argument '--rospec <FILE>' cannot be used with '--every <N>'"),
+        (("watch", "--rospec", "x", "--id", "1"), "the argument '--rospec <FILE>' cannot be used with '--id <N>'"),
+        (("watch", "--rospec", "x", "--antennas", "1"), "the argument '--rospec <FILE>' cannot be used with '--antennas <LIST>'"),
+        (("watch", "--antennas", "1,,2"), "invalid value for '--antennas <LIST>': expected numbers from 1 to 65535 with commas between them"),
+        (("stop", "--rospec", "x", "--id", "1"), "the argument '--rospec <FILE>' cannot be used with '--id <N>'"),
+    ):
+        wanted = (2, "", f"error: {said}\n\nFor more information, try '--help'.\n")
+        yield " ".join(words), run_at("127.0.0.1", *words) == wanted
+    for command in ("watch", "stop"):
+        for address in ("", ":5084", "reader:0", "reader:65536", "[::1"):
+            status, out, err = run_at(address, command)
+            yield f"{command} '{address}'", (status, out) == (2, "") and err.startswith("error: invalid value for '<HOST>': ")
+
+
+def addresses():
+    """An IPv6 address stands in brackets where a port follows."""
+    if os.path.exists("/proc/net/if_inet6"):
+        reader = Reader(host="::1")
+        _, out, _ = run_at(f"[::1]:{reader.port}", "watch")
+        yield "an IPv6 address", serials(out) == [epc_text(serial) for serial in range(reader.tags)]
+
+
+def most_memory(process):
+    """The most memory that a process has had, in KiB."""
+    with open(f"/proc/{process.pid}/status", encoding="ascii") as lines:
+        return next(int(line.split()[1]) for line in lines if line.startswith("VmHWM:"))
+
+
+def long_runs():
+    """Many tags as fast as they go: none is lost, none is printed twice, and memory does not grow with them."""
+    reader = Reader(tags=MANY, end="silent")
+    with subprocess.Popen([PROGRAM, "watch", f"127.0.0.1:{reader.port}"], stdout=subprocess.PIPE) as process:
+        wrong, memory = 0, {}
+        for serial in range(MANY):
+            if f'Z","epc":"{epc_text(serial)}","antenna":1,' not in process.stdout.readline().decode():
+                wrong += 1
+            if serial + 1 in (FEW, MANY):
+                memory[serial + 1] = most_memory(process)
+        process.kill()
+    yield f"each of {MANY} tags", wrong == 0 and reader.sent == MANY
+    yield f"memory after {memory}", memory[MANY] - memory[FEW] <= MOST_GROWTH
+
+
+def ends_of_its_own():
+    """Runs that end by themselves while the reader goes on: the ROSpec is deleted, and the connection closed."""
+    reader = Reader(end="stay", denied=[ENABLE])
+    status, _, err = run(reader, "watch", "--keepalive", "0")
+    yield "a refused ENABLE_ROSPEC", (status, err) == (1, "llrp: status 101\n")
+    yield "the requests then", asked(reader) == ["DELETE", "ADD", "ENABLE", "DELETE", "CLOSE"] and deleted(reader) == [OWN_ID] * 2
+    yield "no ROSpec is left then", not reader.rospecs
+    for words in ((), ("--again", "1")):
+        reader = Reader(end="stay", tags=3 * AT_ONCE)
+        command = [PROGRAM, "watch", f"127.0.0.1:{reader.port}", "--keepalive", "0", *words]
+        with subprocess.Popen(command, stdout=subprocess.PIPE, stderr=subprocess.PIPE, text=True) as process:
+            process.stdout.readline()
+            process.stdout.close()
+            err = process.stderr.read()
+        yield f"standard output is closed {words}", (process.returncode, err) == (3, "llrp: write\n")
+        yield f"the requests then {words}", asked(reader)[-2:] == ["DELETE", "CLOSE"] and asked(reader).count("START") == 1
+        yield f"no ROSpec is left then {words}", not reader.rospecs
+    reader = Reader(end="odd")
+    status, out, err = run(reader, "watch")
+    yield "something strange", (status, err, len(serials(out))) == (1, "llrp: strange\n", reader.tags) and not reader.rospecs
+    reader = Reader(tags=0, end="odd")
+    status, out, err = run(reader, "watch")
+    yield "something strange before a tag", (status, out, err) == (1, "", "llrp: strange\n") and not reader.rospecs
+
+
+def save_runs():
+    """The stream beside the tags: whole frames alone, appended, and what happens where they cannot be."""
+    with tempfile.TemporaryDirectory() as folder:
+        path = os.path.join(folder, "dock.llrp")
+        reader = Reader(tags=2 * AT_ONCE, end="torn")
+        for name in ("first", "second"):
+            _, out, err = run(reader, "watch", "--save", path)
+            with open(path, "rb") as file:
+                yield f"--save: the frames: {name}", file.read() == reader.said and len(out.splitlines()) == reader.tags
+        with open(path, "rb") as file:
+            shown = subprocess.run([PROGRAM, "show", "--all", "--limit", "1048576"], stdin=file, capture_output=True, check=False)
+        yield "--save: it is read through", shown.returncode == 0 and shown.stdout.count(b"EPC-96") == 2 * reader.tags
+        reader = Reader(custom=True, data=bytes(5000))
+        run(reader, "watch", "--limit", "4096", "--save", path + "2")
+        with open(path + "2", "rb") as file:
+            saved = file.read()
+        yield "--save: no long frame", saved == reader.said[: len(saved)] and b"Custom" not in saved and 0 < len(saved) < 4096
+    reader = Reader()
+    yield "--save: no folder", run(reader, "watch", "--save", "/nonexistent/dock") == (3, "", "llrp: save\n") and not reader.asked
+    status, out, err = run(Reader(), "watch", "--save", "/dev/full")
+    yield "--save: a full disk", (status, err) == (1, "llrp: save\nllrp: early\n") and len(out.splitlines()) == 3
+
+
+def notes_of(reader, *words, **how):
+    """The notes of a run, without what stands in front of each, and the other lines."""
+    _, _, err = run(reader, "watch", "--verbose", *words, **how)
+    lines = err.splitlines()
+    return [it.removeprefix("llrp: note: ") for it in lines if it.startswith("llrp: note: ")], [it for it in lines if "note: " not in it]
+
+
+def journal_lines(reader):
+    """The lines of a run whose standard error is named as the journal's."""
+    read, write = os.pipe()
+    data = os.fstat(write)
+    environment = {**os.environ, "JOURNAL_STREAM": f"{data.st_dev}:{data.st_ino}"}
+    command = [PROGRAM, "watch", f"127.0.0.1:{reader.port}", "--verbose"]
+    with subprocess.Popen(command, stdout=subprocess.DEVNULL, stderr=write, env=environment):
+        os.close(write)
+        with os.fdopen(read, encoding="utf-8") as lines:
+            return lines.read().splitlines()
+
+
+def verbose_runs():
+    """What --verbose says of a connection, and nothing without it."""
+    reader = Reader()
+    begin = [f"connected to 127.0.0.1:{reader.port}", "the reader accepted the connection"]
+    notes, others = notes_of(reader)
+    yield "--verbose: connected and accepted", notes[:2] == begin and others == ["llrp: early"]
+    yield "--verbose: no ROSpec was there", notes[2] == "a request was refused: status 101, M_FieldError"
+    yield "--verbose: nothing else", not [it for it in notes[3:] if not it.startswith("  ")]
+    notes, others = notes_of(Reader(refusals=1))
+    said = "the reader refused the connection: ConnectionAttemptEvent 1, a connection that the reader began exists"
+    yield "--verbose: a refused connection", notes[1:] == [said] and others == ["llrp: status 1"]
+    notes, others = notes_of(Reader(denied=[ADD]))
+    at = notes.index("a request was refused: status 101, M_FieldError", 3)
+    yield "--verbose: a refused request", "  0 ADD_ROSPEC_RESPONSE 1 3" in notes[at:] and others == ["llrp: status 101"]
+    yield "--verbose: the reader's own text", "  the reader says: no\\x1b[1m" in notes[at:]
+    yield "--verbose: its text and its field", any("LLRPStatus 101" in it for it in notes[at:]) and any("FieldError" in it for it in notes[at:])
+    yield "--verbose: printable alone", all(it.isprintable() for it in notes)
+    notes, others = notes_of(Reader(end="odd"))
+    yield "--verbose: something strange", "START_ROSPEC_RESPONSE answers no request; pending is none" in notes and others == ["llrp: strange"]
+    yield "--verbose: which message", any(it.startswith("  0 START_ROSPEC_RESPONSE 1 9999") for it in notes)
+    lines = journal_lines(Reader(denied=[ADD]))
+    yield "--verbose: for the journal", lines[0].startswith("<6>llrp: note: connected to ") and any(it.startswith("<4>llrp: note: a req") for it in lines)
+
+
+def again_runs():
+    """Connections one after another, each with a new plan."""
+    reader = Reader(tags=2)
+    status, out, err = run(reader, "watch", "--again", "1", seconds=6)
+    yield "it goes on", status is None and err.count("llrp: early\n") >= 3
+    yield "each tag of each connection", len(serials(out)) == reader.sent
+    starts = asked(reader).count("START")
+    yield "no START without its DELETE", starts >= 3 and asked(reader).count("DELETE") >= starts
+
+
+def stop_runs():
+    """The ROSpec that was left is deleted, and one that is not there too."""
+    reader = Reader()
+    reader.rospecs = {1, OWN_ID}
+    for name in ("left", "none"):
+        reader.asked.clear()
+        yield f"stop: {name}", run(reader, "stop") == (0, "", "")
+        yield f"stop: the requests: {name}", asked(reader) == ["DELETE", "CLOSE"] and reader.rospecs == {1}
+    reader = Reader(refusals=2)
+    yield "stop: a reader that refuses twice", run(reader, "stop") == (0, "", "") and asked(reader) == ["DELETE", "CLOSE"]
+    yield "stop: a reader that refuses", run(Reader(refusals=9), "stop", "--timeout", "1")[::2] == (1, "llrp: status 1\n")
+
+
+PARTS = (
+    plain_runs, option_runs, moments, ends_by_the_clock, odd_frames, addresses, words_that_clash, bad_ends, ends_of_its_own, save_runs,
+    verbose_runs, again_runs, stop_runs, long_runs
+)
+
+
+def main():
+    """Makes all runs."""
+    results = [result for part in PARTS for result in part()]
+    return finish_results(results, LEAST)
+
+
+if __name__ == "__main__":
+    sys.exit(main())
