@@ -59,14 +59,20 @@ def picture(width, height, title, parts):
 
 # The parts of the frame: how many octets each has, what they are, and whether they are a head or a value.
 PARTS = [
-    [(2, "version 1, type 61", HEAD), (4, "length 44", HEAD), (4, "id 1", HEAD)],
-    [(2, "type 240", HEAD), (2, "length 34", HEAD)],
-    [(1, "type 13", HEAD), (12, "the tag's word of 96 bits", VALUE)],
-    [(1, "type 1", HEAD), (2, "antenna", VALUE)],
-    [(1, "type 6", HEAD), (1, "dBm", VALUE)],
-    [(1, "type 2", HEAD), (8, "microseconds", VALUE)],
-    [(1, "type 8", HEAD), (2, "count", VALUE)],
+    [(2, "version {version}, type {message}", HEAD), (4, "length {number}", HEAD), (4, "id {number}", HEAD)],
+    [(2, "type {parameter}", HEAD), (2, "length {number}", HEAD)],
+    [(1, "type {value}", HEAD), (12, "the tag's word of 96 bits", VALUE)],
+    [(1, "type {value}", HEAD), (2, "antenna", VALUE)],
+    [(1, "type {value}", HEAD), (1, "dBm", VALUE)],
+    [(1, "type {value}", HEAD), (8, "microseconds", VALUE)],
+    [(1, "type {value}", HEAD), (2, "count", VALUE)],
 ]
+
+
+def told(what, octets):
+    """Returns what a part is, with the numbers that its octets have there (LLRP 1.1, section 17)."""
+    number = int.from_bytes(octets, "big")
+    return what.format(version=number >> 10 & 7, message=number & 1023, parameter=number & 1023, value=number & 127, number=number)
 
 
 def frame():
@@ -80,7 +86,8 @@ def frame():
         level = int(line[0])
         x = 64 + 24 * level
         parts.append(text(16, y + 15, str(8 * at), "small mono"))
-        for size, what, fill in row:
+        for size, form, fill in row:
+            what = told(form, octets[at : at + size])
             parts.append(text(x, y - 5, what, "small"))
             for octet in octets[at : at + size]:
                 parts += [box(x, y, 26, 22, fill), text(x + 13, y + 15, f"{octet:02X}", "mono middle")]
@@ -96,30 +103,48 @@ def frame():
 
 # ---- the crates, and the way of a frame through them
 
+# What each crate of the product is for, in two or three words.
 CRATES = {
-    "tag_bits": (250, 520, "bit fields"),
-    "tag_epc": (60, 440, "EPCs and words"),
-    "tag_uri": (60, 360, "texts of words"),
-    "llrp_schema": (620, 520, "the tables of LLRP"),
-    "llrp_tree": (430, 440, "messages, frames, faults"),
-    "llrp_stream": (390, 360, "reading streams"),
-    "llrp_session": (640, 280, "reader and client"),
-    "llrp_listing": (250, 280, "show, encode, epc"),
-    "llrp_endpoints": (450, 200, "both ends over bytes"),
-    "llrp_commands": (200, 200, "the command line"),
-    "llrp_tool": (350, 120, "both under one name"),
-    "llrp": (350, 40, "the program"),
-    "llrp_c": (20, 200, "the library for C"),
+    "tag_bits": "bit fields",
+    "tag_epc": "EPCs and words",
+    "tag_uri": "texts of words",
+    "tag_keys": "GS1 keys of EPCs",
+    "tag_forms": "forms of words",
+    "tag_memory": "banks of tags",
+    "llrp_schema": "the tables of LLRP",
+    "llrp_tree": "messages, frames, faults",
+    "llrp_stream": "reading streams",
+    "llrp_session": "reader and client",
+    "llrp_access": "AccessSpecs on tags",
+    "llrp_listing": "show, encode, epc",
+    "llrp_keys": "keys and lists of texts",
+    "llrp_texts": "listings in memory",
+    "llrp_json": "lines of JSON",
+    "llrp_json_read": "JSON read back",
+    "llrp_explain": "a line for each field",
+    "llrp_ask": "a client that asks",
+    "llrp_endpoints": "both ends over bytes",
+    "llrp_commands": "the command line",
+    "llrp_tool": "all under one name",
+    "llrp": "the program",
+    "llrp_c": "the library for C",
 }
 WIDTH, HEIGHT = 160, 44
+# How far apart the rows are, the boxes of a row, and the arrows that go by them.
+ROW, APART, LANE = 84, 24, 16
+# How often the boxes of each row are put above and below those that they are linked with.
+SWEEPS = 24
 # What a frame becomes at each crate that it comes through.
 FRAME = [("octets, read into the parts of a message", "llrp_stream"), ("lines", "llrp_listing")]
 
 
 def uses():
-    """Returns the crates of the picture that each of them uses directly."""
-    rows = [line.split(":") for line in text_of("crates.txt").splitlines() if ":" in line and not line.startswith("#")]
-    return {name.split()[0]: [it for it in used.split() if it in CRATES] for name, used in rows if name.split()[0] in CRATES}
+    """Returns the crates of the product that each of them uses directly, but those that others of these use."""
+    product = text_of("crates.txt").split("# == Tests")[0]
+    rows = [line.split(":") for line in product.splitlines() if ":" in line and not line.startswith("#")]
+    used = {name.split()[0]: names.split() for name, names in rows}
+    used = {name: [it for it in names if it in used] for name, names in used.items()}
+    return {name: [it for it in names if not any(it in below(other, used) for other in names)] for name, names in used.items()}
 
 
 def below(crate, used):
@@ -127,27 +152,83 @@ def below(crate, used):
     return {it for lower in used[crate] for it in (lower, *below(lower, used))}
 
 
-def crates():
-    """Draws each crate above those that it uses. An arrow that others imply is left out."""
-    used, parts = uses(), []
-    assert set(used) == set(CRATES)
+def height(crate, used):
+    """Returns how many rows of crates stand below a crate."""
+    return max((height(it, used) + 1 for it in used[crate]), default=0)
+
+
+def layers(used):
+    """Returns the rows, lowest first, and the links between neighbours in them. An arrow that goes by a row has a place there of its own."""
+    heights = {crate: height(crate, used) for crate in used}
+    rows = [[crate for crate in used if heights[crate] == at] for at in range(max(heights.values()) + 1)]
+    links = []
     for crate, lower in used.items():
         for it in lower:
-            if any(it in below(other, used) for other in lower if other != it):
-                continue
-            (x0, y0, _), (x1, y1, _) = CRATES[crate], CRATES[it]
-            parts.append(f'<path d="M {x0 + WIDTH // 2} {y0 + HEIGHT} L {x1 + WIDTH // 2} {y1}" class="line" marker-end="url(#tip)"/>')
-    for crate, (x, y, what) in CRATES.items():
-        fill = VALUE if crate in ("llrp", "llrp_c") else HEAD
+            way = [it, *((crate, it, at) for at in range(heights[it] + 1, heights[crate])), crate]
+            for at, place in enumerate(way[1:-1], heights[it] + 1):
+                rows[at].append(place)
+            links += zip(way, way[1:])
+    return rows, links
+
+
+def width_of(place):
+    return WIDTH if isinstance(place, str) else LANE
+
+
+def spread(row, wanted):
+    """Returns where the places of a row begin: in the order of where they want to be, as near to that as they can stand apart."""
+    row.sort(key=lambda place: (wanted[place], str(place)))
+    starts, at = {}, 0
+    for place in row:
+        starts[place] = max(at, wanted[place] - width_of(place) / 2)
+        at = starts[place] + width_of(place) + APART
+    at = starts[row[-1]] + width_of(row[-1]) + APART
+    for place in reversed(row):
+        starts[place] = min(starts[place], max(at - APART - width_of(place), 0))
+        at = starts[place]
+    return starts
+
+
+def places(used):
+    """Returns the middle of each place, by rows."""
+    rows, links = layers(used)
+    middles = {place: at * (WIDTH + APART) for row in rows for at, place in enumerate(row)}
+    for sweep in range(SWEEPS):
+        for row in rows if sweep % 2 else reversed(rows):
+            wanted = {}
+            for place in row:
+                ends = [middles[b if a == place else a] for a, b in links if place in (a, b)]
+                wanted[place] = sum(ends) / len(ends) if ends else middles[place]
+            middles |= {place: start + width_of(place) / 2 for place, start in spread(row, wanted).items()}
+    left = min(middle - width_of(place) / 2 for place, middle in middles.items()) - 16
+    return rows, links, {place: round(middle - left) for place, middle in middles.items()}
+
+
+def crates():
+    """Draws each crate above those that it uses. An arrow that others imply is left out, and none crosses a box."""
+    used, parts = uses(), []
+    assert set(used) == set(CRATES), set(used) ^ set(CRATES)
+    rows, links, middles = places(used)
+    top = {place: 16 + ROW * (len(rows) - 1 - at) for at, row in enumerate(rows) for place in row}
+    for lower, upper in links:
+        way, tip = f"M {middles[upper]} {top[upper] + HEIGHT} L {middles[lower]} {top[lower]}", ""
+        if isinstance(lower, str):
+            tip = ' marker-end="url(#tip)"'
+        else:
+            way += f" V {top[lower] + HEIGHT}"
+        parts.append(f'<path d="{way}" class="line"{tip}/>')
+    for crate, what in CRATES.items():
+        x, y, fill = middles[crate] - WIDTH // 2, top[crate], VALUE if crate in ("llrp", "llrp_c") else HEAD
         parts += [box(x, y, WIDTH, HEIGHT, fill), text(x + WIDTH // 2, y + 18, crate, "mono middle"), text(x + WIDTH // 2, y + 35, what, "small middle")]
     for number, (what, crate) in enumerate(FRAME, 1):
-        x, y, _ = CRATES[crate]
-        parts += [f'<circle cx="{x + WIDTH}" cy="{y}" r="10" fill="{WAY}"/>', f'<text x="{x + WIDTH}" y="{y + 5}" class="middle" style="fill: white">{number}</text>']
+        x, y = middles[crate] + WIDTH // 2, top[crate]
+        parts += [f'<circle cx="{x}" cy="{y}" r="10" fill="{WAY}"/>', f'<text x="{x}" y="{y + 5}" class="middle" style="fill: white">{number}</text>']
     way = "; ".join(f"{number} {what} ({crate})" for number, (what, crate) in enumerate(FRAME, 1))
-    parts.append(text(16, 590, "An arrow leads to a crate that is used.", "small"))
-    parts.append(text(16, 606, f"The way of a frame through show: {way}.", "small"))
+    bottom = 16 + ROW * len(rows)
+    parts += [text(16, bottom, "An arrow leads to a crate that is used.", "small"), text(16, bottom + 16, f"The way of a frame through show: {way}.", "small")]
     tip = f'<defs><marker id="tip" viewBox="0 0 10 10" refX="9" refY="5" markerWidth="7" markerHeight="7" orient="auto"><path d="M 0 0 L 10 5 L 0 10 z" fill="{PALE}"/></marker></defs>'
-    return picture(820, 622, "The crates, and the way of a frame through them", [tip, *parts])
+    most = max(middle + width_of(place) // 2 for place, middle in middles.items()) + 16
+    return picture(max(most, 620), bottom + 32, "The crates, and the way of a frame through them", [tip, *parts])
 
 
 def main():
