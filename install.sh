@@ -1,39 +1,105 @@
 #!/usr/bin/env bash
-# Builds llrp and the library for C if need be, and installs below PREFIX (/usr/local) the program, its manual page, completions and
-# the page on errors; the library, its header and what pkg-config says of it; and the module for Python, in the folder where Debian's
-# python3 finds it below /usr.
+# Builds llrp and the library for C if need be, and installs below PREFIX (/usr/local) the program, its manual page, completions, the
+# unit for systemd, the examples, and the pages that its help names; the library, its header, its manual page and what pkg-config says of
+# it; and the package for Python, in the folder where Debian's python3 finds it below /usr. With --uninstall it removes these files.
 #
 #     ./install.sh
 #     PREFIX=~/.local ./install.sh
 #     DESTDIR=package PREFIX=/usr ./install.sh
+#     ./install.sh --uninstall
 set -eu
-top=$(cd "$(dirname "${BASH_SOURCE[0]}")" && pwd)
+unset CDPATH
+umask 022
+top=$(cd -- "$(dirname -- "${BASH_SOURCE[0]}")" && pwd)
 prefix=${PREFIX:-/usr/local}
 to=${DESTDIR:-}$prefix
 
-version=$("$top/llrp" --version)
-version=${version#llrp }
-"$top/library.sh"
-install -D -m 755 "$top/crates/llrp/out/llrp" "$to/bin/llrp"
-install -D -m 644 "$top/out/libllrp_c.a" "$to/lib/libllrp_c.a"
-install -D -m 644 "$top/out/libllrp_c.so" "$to/lib/libllrp_c.so"
-install -D -m 644 "$top/include/llrp.h" "$to/include/llrp.h"
-install -D -m 644 "$top/examples/python/llrp.py" "$to/lib/python3/dist-packages/llrp.py"
-install -D -m 644 "$top/docs/llrp.1" "$to/share/man/man1/llrp.1"
-install -D -m 644 "$top/docs/errors.md" "$to/share/doc/llrp/errors.md"
-install -D -m 644 "$top/completions/llrp.bash" "$to/share/bash-completion/completions/llrp"
-install -D -m 644 "$top/completions/_llrp" "$to/share/zsh/site-functions/_llrp"
-install -D -m 644 "$top/completions/llrp.fish" "$to/share/fish/vendor_completions.d/llrp.fish"
-install -d "$to/lib/pkgconfig"
-cat >"$to/lib/pkgconfig/llrp.pc" <<END
+# Where the package for Python is, below PREFIX.
+package=lib/python3/dist-packages/llrp_epc
+# Each file: its mode, its name here, and its name below PREFIX.
+files=(
+    "755 crates/llrp/out/llrp bin/llrp"
+    "644 out/libllrp_c.a lib/libllrp_c.a"
+    "644 out/libllrp_c.so.0 lib/libllrp_c.so.0"
+    "644 include/llrp.h include/llrp.h"
+    "644 docs/llrp.1 share/man/man1/llrp.1"
+    "644 docs/llrp.3 share/man/man3/llrp.3"
+    "644 completions/llrp.bash share/bash-completion/completions/llrp"
+    "644 completions/_llrp share/zsh/site-functions/_llrp"
+    "644 completions/llrp.fish share/fish/vendor_completions.d/llrp.fish"
+)
+for module in __init__.py _library.py _llrp.py py.typed; do
+    files+=("644 python/llrp_epc/$module $package/$module")
+done
+for page in client errors json recipes sim tables; do
+    files+=("644 docs/$page.md share/doc/llrp/$page.md")
+done
+for example in inventory.pcap inventory.script keepalive.hex report.hex report.txt requests.txt rospec.txt seen.awk shift.txt \
+    sightings.script two_antennas.rospec c/tags.c python/async_client.py python/client.py; do
+    files+=("644 examples/$example share/doc/llrp/examples/$example")
+done
+# The link by which cc finds the library, and what is written anew: what pkg-config says of the library, and the unit, with the program's
+# path.
+link=lib/libllrp_c.so
+configuration=lib/pkgconfig/llrp.pc
+unit=lib/systemd/system/llrp-watch@.service
+
+# Removes what is installed.
+uninstall() {
+    local line name
+    for line in "${files[@]}"; do
+        read -r _ _ name <<<"$line"
+        rm -f "$to/$name"
+    done
+    rm -f "$to/$link" "$to/$configuration" "$to/$unit"
+    # What Python compiled goes too.
+    rm -rf "$to/$package/__pycache__"
+    [ ! -d "$to/$package" ] || rmdir --ignore-fail-on-non-empty "$to/$package"
+    [ ! -d "$to/share/doc/llrp" ] || find "$to/share/doc/llrp" -depth -type d -empty -delete
+    echo "llrp: removed below $to"
+}
+
+# Installs the files.
+install_all() {
+    local line mode from name
+    for line in "${files[@]}"; do
+        read -r mode from name <<<"$line"
+        install -D -m "$mode" "$top/$from" "$to/$name"
+    done
+    ln -sf libllrp_c.so.0 "$to/$link"
+    sed "s|/usr/local/bin/llrp|$prefix/bin/llrp|" "$top/examples/systemd/llrp-watch@.service" | install -D -m 644 /dev/stdin "$to/$unit"
+    install -D -m 644 /dev/stdin "$to/$configuration" <<END
 prefix=$prefix
 libdir=\${prefix}/lib
 includedir=\${prefix}/include
 
 Name: llrp
 Description: EPC tags, and listings of streams of LLRP
-Version: $version
+Version: $1
 Libs: -L\${libdir} -lllrp_c
 Cflags: -I\${includedir}
 END
-echo "llrp: installed below $to"
+    echo "llrp: installed below $to"
+}
+
+case ${1:-} in
+    '' | --uninstall) ;;
+    *)
+        echo "llrp: install.sh takes no word but --uninstall" >&2
+        exit 2
+        ;;
+esac
+case $prefix in
+    /*) ;;
+    *)
+        echo "llrp: PREFIX has to begin with /: $prefix" >&2
+        exit 2
+        ;;
+esac
+if [ "${1:-}" = --uninstall ]; then
+    uninstall
+    exit
+fi
+version=$("$top/llrp" --version)
+"$top/library.sh"
+install_all "${version#llrp }"

@@ -1,32 +1,38 @@
 #!/usr/bin/env bash
-# Proves and builds the library for C: out/libllrp_c.a, which needs the C library alone, and out/libllrp_c.so, for languages
-# that load a library when they run. include/llrp.h declares its functions. Needs cc and ar beside the toolchain's command rt.
+# Proves and builds the library for C: out/libllrp_c.a, which needs the C library alone, and out/libllrp_c.so.0, for languages
+# that load a library when they run, with the link out/libllrp_c.so for cc. include/llrp.h declares its functions. Needs cc, ar and
+# objcopy beside the toolchain's command rt.
 set -eu
-top=$(cd "$(dirname "${BASH_SOURCE[0]}")" && pwd)
-archive=$top/crates/llrp_c/out/libllrp_c.a
+unset CDPATH
+top=$(cd -- "$(dirname -- "${BASH_SOURCE[0]}")" && pwd)
+archive=$top/out/libllrp_c.a
+# Its name, which a program keeps that is linked with it. The number changes where such a program would no longer run.
+name=libllrp_c.so.0
+library=$top/out/$name
 
 # Whether the library is missing, or a source is newer.
 is_stale() {
-    [ ! -e "$top/out/libllrp_c.so" ] || [ -n "$(find "$top/crates" "$top/crates.txt" -name out -prune -o \
-        \( -name '*.rt' -o -name '*.antt' -o -name crates.txt \) -newer "$top/out/libllrp_c.so" -print -quit)" ]
+    [ ! -e "$archive" ] || [ ! -e "$library" ] || [ -n "$(find "$top/crates" "$top/crates.txt" -name out -prune -o \
+        \( -name '*.rt' -o -name '*.antt' -o -name crates.txt \) -newer "$library" -print -quit)" ]
 }
 
 is_stale || exit 0
 began=$(date +%s.%N)
-log=$(mktemp)
-trap 'rm -f "$log"' EXIT
-echo "llrp: proving and building the library for C" >&2
-if ! (cd "$top/crates/llrp_c" && rt lib >"$log" 2>&1); then
-    tail -n 20 "$log" >&2
-    echo "llrp: the library for C was not built" >&2
-    exit 1
-fi
+mkdir -p "$top/out"
+# Here both are made, and moved once they are whole.
+work=$(mktemp -d "$top/out/library.XXXXXX")
+trap 'rm -rf "$work"' EXIT
+"$top/build.py" library || exit 1
 
 # What the library allocates comes from the toolchain's few lines over malloc, which go into the archive too.
-heap=$(dirname "$(rt doc)")/c/liblibc_c.a
-mkdir -p "$top/out"
-rm -f "$top/out/libllrp_c.a"
-printf 'create %s\naddlib %s\naddlib %s\nsave\nend\n' "$top/out/libllrp_c.a" "$archive" "$heap" | ar -M
-cc -shared -Wl,-Bsymbolic -Wl,-soname,libllrp_c.so -o "$top/out/libllrp_c.so" -Wl,--whole-archive "$top/out/libllrp_c.a" -Wl,--no-whole-archive
+cp "$top/crates/llrp_c/out/libllrp_c.a" "$work/proved.a"
+cp "$(dirname "$(rt doc)")/c/liblibc_c.a" "$work/heap.a"
+# One object has both, so that the functions of include/llrp.h are the only names that others see.
+(cd "$work" && cc -r -nostdlib -o llrp_c.o -Wl,--whole-archive proved.a heap.a -Wl,--no-whole-archive)
+(cd "$work" && objcopy --wildcard --keep-global-symbol='llrp_*' llrp_c.o && ar rc libllrp_c.a llrp_c.o)
+(cd "$work" && cc -shared -Wl,-Bsymbolic -Wl,-soname,"$name" -o "$name" llrp_c.o)
 # The moment at which the build began, so that a source that was edited meanwhile is newer.
-touch -d "@$began" "$top/out/libllrp_c.so"
+touch -d "@$began" "$work/$name"
+ln -sf "$name" "$top/out/libllrp_c.so"
+mv "$work/libllrp_c.a" "$archive"
+mv "$work/$name" "$library"

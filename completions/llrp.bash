@@ -4,24 +4,30 @@ _llrp() {
     COMPREPLY=()
     case ${COMP_WORDS[COMP_CWORD - 1]} in
         # a file, which readline completes where nothing is found here
-        *'<' | *'>' | --rospec) return ;;
-        # a number
-        --limit | --every | --polls | --reports | --timeout)
+        *'<' | *'>' | --rospec | --prefixes | --save) return ;;
+        # a number, a text, or a list
+        --limit | --antennas | --every | --polls | --reports | --timeout | --id | --keepalive | --again | --for | --name | --bind | --clients | --prefix-digits | --filter)
             compopt +o default
             return
             ;;
     esac
-    if [ "$COMP_CWORD" -eq 1 ]; then
-        words='show encode epc sim inventory loop help --help --version'
+    if [ "${COMP_WORDS[COMP_CWORD - 1]}" = --to ]; then
+        words='tag pure element link hex key'
+    elif [ "$COMP_CWORD" -eq 1 ]; then
+        words='show encode epc fields sim inventory loop watch stop ask help --help --version'
     else
         case ${COMP_WORDS[1]} in
             show) words='--hex --all --json --limit --help' ;;
             encode) words='--hex --all --limit --help' ;;
             inventory) words='--rospec --every --polls --reports --check --clean --json --all --timeout --help' ;;
             loop) words='--rospec --every --polls --reports --check --clean --json --all --help' ;;
-            sim) words='--all --help' ;;
-            epc) words='--help' ;;
-            help) words='show encode epc sim inventory loop' ;;
+            watch) words='--rospec --id --every --keepalive --again --text --antennas --limit --save --verbose --for --name --help' ;;
+            stop) words='--rospec --id --timeout --help' ;;
+            ask) words='--json --timeout --go-on --raw --help' ;;
+            sim) words='--all --bind --clients --ready --help' ;;
+            fields) words='--all --help' ;;
+            epc) words='--forms --list --json --to --prefix-digits --filter --prefixes --help' ;;
+            help) words='show encode epc fields sim inventory loop watch stop ask' ;;
         esac
     fi
     mapfile -t COMPREPLY < <(compgen -W "$words" -- "$word")

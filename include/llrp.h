@@ -1,6 +1,6 @@
 /* llrp.h: tags of the EPC Tag Data Standard 1.13 and messages of the Low Level Reader Protocol 1.1, as texts and as octets.
  *
- * The functions are those of the static library libllrp_c.a (docs/library.md says how to build and link it). They are proved to do
+ * The functions are those of the library libllrp_c (docs/library.md says how to build and link it). They are proved to do
  * what is said here, for every content of what they are given, if the caller keeps to these rules:
  *
  *  - A pointer that is followed by a length points to that many octets; no pointer is null, not even for a length of 0.
@@ -9,8 +9,8 @@
  *  - During a call nobody else writes to what is passed to it, or reads what it writes to.
  *  - Texts are octets with a length. No zero octet ends them, neither those that are passed nor those that are written.
  *
- * No call keeps anything between two calls, so calls from several threads need no lock. llrp_list and llrp_encode take memory by
- * malloc, and free it before they return; the others take none. Lengths are counted in octets, bits from 0, and bit 0 is the most
+ * No call keeps anything between two calls, so calls from several threads need no lock. The functions of listings and of JSON (llrp_list,
+ * llrp_list_json, llrp_encode and their _all) and llrp_forms take memory by malloc, and free it before they return; the others take none. Lengths are counted in octets, bits from 0, and bit 0 is the most
  * significant one of the first octet.
  */
 #ifndef LLRP_H
@@ -39,7 +39,7 @@ enum llrp_status {
     LLRP_ROOM = 3,   /* the room is too small */
     LLRP_LENGTH = 4, /* an argument does not have the length that the call needs */
     LLRP_UTF8 = 5,   /* the text is not UTF-8 */
-    LLRP_LONG = 6,   /* the listing is too long: 1,000,000 pieces of 4,096 octets, or more */
+    LLRP_LONG = 6,   /* the text has more than 96 octets; only llrp_word_of_key returns it */
     LLRP_MEMORY = 7, /* memory ran out */
 
     /* Why a word has no tag URI: the part that fails (docs/errors.md). */
@@ -78,7 +78,14 @@ enum llrp_status {
     LLRP_NODE_TOO_MANY = 68,
     LLRP_NODE_MISSING = 69,
     LLRP_NODE_TOO_DEEP = 70,
-    LLRP_NODE_TOO_LONG = 71
+    LLRP_NODE_TOO_LONG = 71,
+
+    /* Why llrp_word_of_key refuses a text, besides the rules of tag URIs and LLRP_LONG. */
+    LLRP_KEY_HEX = 80,    /* the text begins as no other form, and is not 24 hexadecimal digits */
+    LLRP_KEY_PREFIX = 81, /* it is not known how many digits the company prefix has */
+    LLRP_KEY_LENGTH = 82, /* the key has fewer digits than it has to have */
+    LLRP_KEY_CHECK = 83,  /* the check digit is wrong */
+    LLRP_KEY_SERIAL = 84  /* after the key comes what it does not have there */
 };
 
 /* Writes the text of a tag's word to text, its length to *count, and 0 to *bit: the tag URI, as
@@ -103,6 +110,36 @@ uint32_t llrp_text_of_word(const uint8_t *word, size_t word_length, uint8_t *tex
  * LLRP_OK, or the first rule that refuses the text, LLRP_START to LLRP_RAW_OF_LAWFUL. LLRP_LENGTH if word_length is not
  * LLRP_WORD_OCTETS, else LLRP_UTF8 if the text is not UTF-8. Nothing is written unless the status is LLRP_OK. */
 uint32_t llrp_word_of_text(const uint8_t *text, size_t text_length, uint8_t *word, size_t word_length);
+
+/* Writes a line for each form of a tag's word to lines, as `llrp epc --forms` prints them, and their length to *written: the name of the
+ * form, a blank and the text. The names are tag, pure, element, link, hex and key (docs/tables.md); a word has tag and hex, and the others
+ * where it has such texts.
+ *
+ * word         the twelve octets of the word, the first the most significant
+ * word_length  LLRP_WORD_OCTETS
+ * lines        room for the lines; octets after them stay as they were
+ * lines_room   how many octets of room there are
+ * written      where the number of octets of the lines is written
+ *
+ * LLRP_OK. LLRP_LENGTH if word_length is wrong: nothing is written to lines, *written is 0. LLRP_ROOM if the lines are longer than the
+ * room: nothing is written to lines, and *written is the room that they need. LLRP_MEMORY: nothing is written, *written is 0. */
+uint32_t llrp_forms(const uint8_t *word, size_t word_length, uint8_t *lines, size_t lines_room, size_t *written);
+
+/* Writes the twelve octets of the word of a text to word, and 0 to *right. The text is read in the form that it begins as (docs/tables.md):
+ * a GS1 key as an element string, as a Digital Link URI or by its name, a pure identity URI, a tag URI, a raw URI or 24 digits.
+ *
+ * text           the text
+ * text_length    how many octets it has
+ * filter         the filter value, 0 to 7, of a key or a pure identity URI, which do not say it
+ * prefix_digits  how many digits the company prefix of a key has, 6 to 12, or 0 if that is not known
+ * word           room for the word
+ * word_length    LLRP_WORD_OCTETS
+ * right          where the right check digit is written, as a character, if the status is LLRP_KEY_CHECK
+ *
+ * LLRP_OK, or the first rule that refuses the text: LLRP_LONG, LLRP_KEY_HEX to LLRP_KEY_SERIAL, or LLRP_START to LLRP_RAW_OF_LAWFUL.
+ * LLRP_LENGTH if word_length is not LLRP_WORD_OCTETS, else LLRP_FILTER if filter is above 7, else LLRP_DIGITS if prefix_digits is neither 0
+ * nor 6 to 12, else LLRP_UTF8 if the text is not UTF-8. Nothing is written to word unless the status is LLRP_OK. */
+uint32_t llrp_word_of_key(const uint8_t *text, size_t text_length, uint32_t filter, uint32_t prefix_digits, uint8_t *word, size_t word_length, uint32_t *right);
 
 /* Writes the length of the first frame of a stream to *count, or 0 if the stream has fewer than the six octets that say so. The
  * frame is whole once the stream has *count octets. A length may be up to 4,294,967,295; a caller that does not want to keep that much
@@ -159,7 +196,7 @@ uint32_t llrp_list_json_all(const uint8_t *stream, size_t stream_length, uint8_t
  * LLRP_NODE_TOO_LONG. LLRP_OVER_LIMIT, LLRP_NODE_FIELD_COUNT and LLRP_NODE_TOO_DEEP never come from here: there is no other limit, and
  * LLRP_FIELDS and LLRP_LEVEL come first.
  * LLRP_ROOM if there are more octets than the room has: nothing is written to octets, and *written is the room that they need.
- * LLRP_LONG and LLRP_MEMORY: nothing is written, *written and *line are 0. */
+ * LLRP_MEMORY: nothing is written, *written and *line are 0. */
 uint32_t llrp_encode(const uint8_t *listing, size_t listing_length, uint8_t *octets, size_t octets_room, size_t *written, uint64_t *line);
 
 /* The same with every message and parameter of LLRP 1.1, as `llrp encode --all` takes them, in place of those of the profile. */

@@ -1,50 +1,48 @@
 #!/usr/bin/env python3
 """Takes inventory of a reader, and prints each tag with its antenna and its signal strength.
 
-usage: examples/python/client.py LIBRARY HOST PORT ROSPEC TAGS
+usage: examples/python/client.py HOST PORT ROSPEC TAGS
 
-LIBRARY is libllrp_c.so, ROSPEC a file with the lines of ROSpec 1, such as examples/rospec.txt. It ends after TAGS tags or more.
+ROSPEC is a file with the lines of ROSpec 1, such as examples/rospec.txt. It ends after TAGS tags or more.
 """
-import re
 import socket
 import sys
 
-from llrp import Llrp
+from llrp_epc import Llrp, Message
+
+PRINTED = ("EPC", "bits", "AntennaID", "PeakRSSI")
 
 
 class Client:
-    def __init__(self, library, host, port):
-        self.llrp, self.connection = Llrp(library), socket.create_connection((host, port))
-        self.received, self.messages, self.requests, self.tags = b"", [], 0, 0
+    def __init__(self, host: str, port: int) -> None:
+        self.llrp, self.connection = Llrp(), socket.create_connection((host, port))
+        self.messages = self.llrp.stream(self.connection.makefile("rb"))
+        self.requests = self.tags = 0
 
-    def take(self):
-        """Waits for the next message and returns its listing. KEEPALIVE is answered, and tags are printed."""
-        while not self.messages:
-            self.received += self.connection.recv(4096) or sys.exit("the reader ended the connection")
-            listing, used, _ = self.llrp.list(self.received)
-            self.received = self.received[used:]
-            self.messages = re.split(r"(?m)^(?=[0!])", listing)[1:]
-        message = self.messages.pop(0)
-        if message.startswith("0 KEEPALIVE "):
-            self.connection.sendall(self.llrp.encode(message.replace("KEEPALIVE", "KEEPALIVE_ACK")))
-        for report in message.split("\n1 TagReportData\n")[1:]:
-            print(*re.findall(r"(?m)^2 (?:EPC-96|EPCData|AntennaID|PeakRSSI) (.*)", report), flush=True)
-            self.tags += 1
+    def take(self) -> Message:
+        """Waits for the next message and returns it. KEEPALIVE is answered, and tags are printed."""
+        message = next(self.messages, None) or sys.exit("the reader ended the connection")
+        if message.get("message") == "KEEPALIVE":
+            self.connection.sendall(self.llrp.encode(f"0 KEEPALIVE_ACK {message['version']} {message['id']}\n"))
+        for report in message.get("parameters", []):
+            if report["parameter"] == "TagReportData":
+                print(*[value for it in report["parameters"] for name, value in it.items() if name in PRINTED], flush=True)
+                self.tags += 1
         return message
 
-    def request(self, name, fields="", below=""):
+    def request(self, name: str, fields: str = "", below: str = "") -> None:
         """Sends a request, and waits for its response."""
         self.requests += 1
         self.connection.sendall(self.llrp.encode(f"0 {name} 1 {self.requests}{fields}\n{below}"))
-        while not re.match(rf"0 ({name}_RESPONSE|ERROR_MESSAGE) \d \d+\n", message := self.take()):
+        while (message := self.take()).get("message") not in (f"{name}_RESPONSE", "ERROR_MESSAGE"):
             pass
-        if not re.search(r"(?m)^1 LLRPStatus 0 ", message):
-            sys.exit(f"{name} was refused:\n{message}")
+        if message["parameters"][0]["StatusCode"] != 0:
+            sys.exit(f"{name} was refused: {message}")
 
 
 if __name__ == "__main__":
-    library, host, port, rospec, tags = sys.argv[1:]
-    client = Client(library, host, int(port))
+    host, port, rospec, tags = sys.argv[1:]
+    client = Client(host, int(port))
     client.take()  # READER_EVENT_NOTIFICATION: the reader took the connection
     with open(rospec, encoding="utf-8") as lines:
         client.request("ADD_ROSPEC", below=lines.read())

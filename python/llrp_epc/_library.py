@@ -1,0 +1,78 @@
+"""The functions of libllrp_c, as ctypes calls them. include/llrp.h says what each one does."""
+import ctypes
+import os
+from typing import Any, Optional, Tuple, Union
+
+# The name of the library's file, as programs that are linked with it have it.
+NAME = "libllrp_c.so.0"
+# Numbers of include/llrp.h: the statuses that the package reads, the first and the last for which a word has no tag URI, and lengths.
+OK, FAULTY, BROKEN, ROOM, MEMORY = 0, 1, 2, 3, 7
+HEADER, ZEROS = 16, 20
+WORD_OCTETS, TEXT_ROOM, NAME_ROOM, MOST_OCTETS = 12, 64, 16, 1048576
+# More than all forms of a word have, so that no call is made twice.
+FORMS_ROOM = 512
+
+Octets = Union[bytes, bytearray, memoryview]
+
+
+def load(path: Optional[str]) -> ctypes.CDLL:
+    """Returns the library at a path. Without one it is the library in the package, or else the one that the system's loader finds."""
+    inside = os.path.join(os.path.dirname(os.path.abspath(__file__)), NAME)
+    library = ctypes.CDLL(path or (inside if os.path.exists(inside) else NAME))
+    declare(library)
+    return library
+
+
+def declare(library: ctypes.CDLL) -> None:
+    """Gives ctypes the types of the library's functions."""
+    size, pointer = ctypes.c_size_t, ctypes.POINTER
+    octets = (ctypes.c_char_p, size)  # (what is read, or room for what is written)
+    listed = (*octets, *octets, pointer(size), pointer(size))
+    encoded = (*octets, *octets, pointer(size), pointer(ctypes.c_uint64))
+    for name, arguments in {
+        "llrp_text_of_word": (*octets, *octets, pointer(size), pointer(ctypes.c_uint32)),
+        "llrp_word_of_text": (*octets, *octets),
+        "llrp_forms": (*octets, *octets, pointer(size)),
+        "llrp_word_of_key": (*octets, ctypes.c_uint32, ctypes.c_uint32, *octets, pointer(ctypes.c_uint32)),
+        "llrp_frame_length": (*octets, pointer(size)),
+        "llrp_list": listed,
+        "llrp_list_all": listed,
+        "llrp_list_json": listed,
+        "llrp_list_json_all": listed,
+        "llrp_encode": encoded,
+        "llrp_encode_all": encoded,
+        "llrp_name": (ctypes.c_uint32, *octets),
+    }.items():
+        function = getattr(library, name)
+        function.argtypes, function.restype = arguments, ctypes.c_uint32
+    library.llrp_name.restype = size
+
+
+def number(value: int) -> int:
+    """Returns how a number is passed to a function: one of 32 bits as it is, and any other as the greatest of those."""
+    return value if 0 <= value < 2**32 else 2**32 - 1
+
+
+def passed(octets: Octets) -> Tuple[Any, int]:
+    """Returns how octets are passed to a function: where they are and how many.
+
+    They are copied only where ctypes cannot say where they are: if they are a memoryview that is read-only or has gaps."""
+    if isinstance(octets, bytes):
+        return octets, len(octets)
+    view = memoryview(octets)
+    if view.readonly or not view.c_contiguous or view.nbytes == 0:
+        return view.tobytes(), view.nbytes
+    return (ctypes.c_char * view.nbytes).from_buffer(view), view.nbytes
+
+
+def filled(function: Any, octets: Octets, room: int, written: ctypes.c_size_t, *numbers: Any) -> Tuple[int, bytes]:
+    """Calls a function that reads octets and writes some to room and some numbers, of which `written` says how much room it used or needs.
+
+    It is called again with more room where it needs it. Returns the status and what is written."""
+    where, length = passed(octets)
+    while True:
+        buffer = ctypes.create_string_buffer(room)
+        status: int = function(where, length, buffer, room, *map(ctypes.byref, numbers))
+        if status != ROOM:
+            return status, ctypes.string_at(buffer, written.value)
+        room = written.value

@@ -1,0 +1,184 @@
+"""The class Llrp, with what it takes, returns and raises."""
+import ctypes
+import json
+from typing import Any, Callable, Dict, Iterator, List, Optional, Protocol, Tuple
+
+from . import _library
+from ._library import Octets
+
+# A message, or a frame that is none, as docs/json.md says.
+Message = Dict[str, Any]
+# How many octets `stream` reads at a time, at most.
+PIECE = 65536
+
+
+class Readable(Protocol):
+    """A file or a connection that is read in binary, such as sys.stdin.buffer or connection.makefile("rb")."""
+
+    def read(self, size: int, /) -> bytes:
+        """Returns at most this many octets, and none at the end."""
+
+
+class Refused(ValueError):
+    """A text, a listing or a stream was refused: `name` says why, `line` at which line of a listing, and `right` the check digit that a key
+    would have."""
+
+    def __init__(self, status: int, name: str, line: int = 0, right: str = "") -> None:
+        super().__init__(status, name, line, right)
+        self.status, self.name, self.line, self.right = status, name, line, right
+
+    def __str__(self) -> str:
+        if self.line:
+            return f"line {self.line}: {self.name}"
+        return f"{self.name} {self.right}" if self.right else self.name
+
+
+class Llrp:
+    """The functions of the library.
+
+    No call keeps anything, so threads may share an object. Octets are bytes, or a bytearray or memoryview that no other thread writes to
+    during the call. With all=True a call knows every message and parameter of LLRP 1.1, in place of those of the profile
+    (docs/tables.md)."""
+
+    def __init__(self, path: Optional[str] = None) -> None:
+        """Loads the library at a path, such as out/libllrp_c.so.0.
+
+        Without a path it is the library in the package, as a wheel has it, or else the one that the system's loader finds."""
+        self.library = _library.load(path)
+
+    # ---- tags
+
+    def text_of_word(self, word: Octets) -> str:
+        """Returns the tag URI of a tag's twelve octets, or their raw URI where they have none."""
+        return self.text_and_fault(word)[0]
+
+    def text_and_fault(self, word: Octets) -> Tuple[str, Optional[Tuple[str, int]]]:
+        """Returns the text of a tag's twelve octets, and None or why it is no tag URI: the name of the part and its first bit."""
+        count, bit = ctypes.c_size_t(), ctypes.c_uint32()
+        status, text = _library.filled(self.library.llrp_text_of_word, word, _library.TEXT_ROOM, count, count, bit)
+        if status != _library.OK and not _library.HEADER <= status <= _library.ZEROS:
+            raise self._refusal(status)
+        return text.decode(), None if status == _library.OK else (self.name(status), bit.value)
+
+    def word_of_text(self, text: str) -> bytes:
+        """Returns the twelve octets of a tag URI or a raw URI."""
+        word = ctypes.c_size_t(_library.WORD_OCTETS)
+        status, octets = _library.filled(self.library.llrp_word_of_text, text.encode(), word.value, word)
+        if status != _library.OK:
+            raise self._refusal(status)
+        return octets
+
+    # ---- keys
+
+    def forms(self, word: Octets) -> Dict[str, str]:
+        """Returns each form of a tag's word by its name, as `llrp epc --forms` prints them: tag and hex, and where the word has them pure,
+        element, link and key."""
+        written = ctypes.c_size_t()
+        status, lines = _library.filled(self.library.llrp_forms, word, _library.FORMS_ROOM, written, written)
+        if status != _library.OK:
+            raise self._refusal(status)
+        return dict(line.split(" ", 1) for line in lines.decode().splitlines())
+
+    def word(self, text: str, filter: int = 0, prefix_digits: Optional[int] = None) -> bytes:
+        """Returns the twelve octets of a text in any form: a GS1 key, a pure identity URI, a tag URI, a raw URI or 24 digits.
+
+        A key and a pure identity URI do not say the filter value, 0 to 7, and a key not how many digits its company prefix has, 6 to 12:
+        without it no key is read. Raises Refused with the first rule that refuses the text; of a wrong check digit `right` is the right
+        one."""
+        octets, word, right = text.encode(), ctypes.create_string_buffer(_library.WORD_OCTETS), ctypes.c_uint32()
+        unsaid = (_library.number(filter), _library.number(prefix_digits or 0))
+        function = self.library.llrp_word_of_key
+        status: int = function(octets, len(octets), *unsaid, word, _library.WORD_OCTETS, ctypes.byref(right))
+        if status != _library.OK:
+            raise self._refusal(status, right=chr(right.value) if right.value else "")
+        return word.raw
+
+    # ---- messages
+
+    def stream(self, readable: Readable, all: bool = False) -> Iterator[Message]:
+        """Yields each message of a stream as soon as it is whole, as a line of `llrp show --json` has it.
+
+        A frame that is no message is a dict with `fault`, `id` and `bit`. The last dict may have `broken`, where nothing can be found after
+        it, or `rest`, the number of octets of an unfinished frame. A frame of more than 1,048,576 octets is not kept: it raises Refused
+        with the name MessageLength."""
+        read: Callable[[int], bytes] = getattr(readable, "read1", readable.read)
+        received = bytearray()
+        while piece := read(PIECE):
+            received += piece
+            if self._has_frame(received):
+                messages, used = self.messages(received, all)
+                del received[:used]
+                yield from messages
+                if "broken" in messages[-1]:
+                    return
+        if received:
+            yield {"rest": len(received)}
+
+    def messages(self, stream: Octets, all: bool = False) -> Tuple[List[Message], int]:
+        """Returns a dict for each of a stream's whole frames, and how many octets they have.
+
+        A frame that is no message is a dict with `fault`, `id` and `bit`. A last dict with `broken` says that nothing can be found after
+        it."""
+        function = self.library.llrp_list_json_all if all else self.library.llrp_list_json
+        lines, used, _ = self._listed(function, stream)
+        return [json.loads(line) for line in lines.split("\n")[:-1]], used
+
+    def list(self, stream: Octets, all: bool = False) -> Tuple[str, int, bool]:
+        """Returns the listing of a stream's whole frames, how many octets they have, and whether each is a message.
+
+        A listing that ends with the line ! BROKEN says that nothing can be found after it."""
+        function = self.library.llrp_list_all if all else self.library.llrp_list
+        listing, used, status = self._listed(function, stream)
+        return listing, used, status == _library.OK
+
+    def encode(self, listing: str, all: bool = False) -> bytes:
+        """Returns the octets of the messages of a listing, or raises Refused with the line and the reason."""
+        function = self.library.llrp_encode_all if all else self.library.llrp_encode
+        written, line = ctypes.c_size_t(), ctypes.c_uint64()
+        status, octets = _library.filled(function, listing.encode(), 4096, written, written, line)
+        if status != _library.OK:
+            raise self._refusal(status, line.value)
+        return octets
+
+    def frame_length(self, stream: Octets) -> int:
+        """Returns the length of the first frame of a stream, or 0 where more octets are wanted."""
+        status, length = self._frame_length(stream)
+        if status != _library.OK:
+            raise self._refusal(status)
+        return length
+
+    # ---- names
+
+    def name(self, status: int) -> str:
+        """Returns the name of a status, as LeadingZero."""
+        room = ctypes.create_string_buffer(_library.NAME_ROOM)
+        length: int = self.library.llrp_name(status, room, _library.NAME_ROOM)
+        return room.raw[:length].decode()
+
+    # ---- what the calls share
+
+    def _refusal(self, status: int, line: int = 0, right: str = "") -> Exception:
+        """Returns the exception for a status."""
+        return MemoryError() if status == _library.MEMORY else Refused(status, self.name(status), line, right)
+
+    def _frame_length(self, stream: Octets) -> Tuple[int, int]:
+        """Returns the status of llrp_frame_length, and the length."""
+        count = ctypes.c_size_t()
+        status: int = self.library.llrp_frame_length(*_library.passed(stream), ctypes.byref(count))
+        return status, count.value
+
+    def _has_frame(self, stream: bytearray) -> bool:
+        """Returns whether a stream begins with a whole frame, or with a break, so that there is a line for it."""
+        status, length = self._frame_length(stream)
+        if length > _library.MOST_OCTETS:
+            raise Refused(_library.FAULTY, "MessageLength")
+        return status == _library.BROKEN or 0 < length <= len(stream)
+
+    def _listed(self, function: Any, stream: Octets) -> Tuple[str, int, int]:
+        """Returns what a function writes of a stream, how many octets it used, and the status."""
+        used, written = ctypes.c_size_t(), ctypes.c_size_t()
+        room = 16 * memoryview(stream).nbytes + 256
+        status, text = _library.filled(function, stream, room, written, used, written)
+        if status not in (_library.OK, _library.FAULTY, _library.BROKEN):
+            raise self._refusal(status)
+        return text.decode(), used.value, status
