@@ -1,3 +1,4 @@
+# shellcheck shell=bash
 # Sourced by the benchmarks: the repository's folder, a folder to work in that is removed at the end, the
 # program, and how a command is measured.
 top="$(cd "$(dirname "$0")/.." && pwd)"
@@ -5,6 +6,7 @@ work="$(mktemp -d)"
 trap 'rm -rf "$work"' EXIT
 
 # The program itself, without the script beside it, once `build` has proved and built it.
+# shellcheck disable=SC2034 # (the benchmarks use it)
 program="$top/crates/llrp/out/llrp"
 
 build() {

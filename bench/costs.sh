@@ -2,12 +2,14 @@
 # Prints what `llrp show` costs for an octet of each kind of frames, and `llrp encode` for an octet of their listing:
 # instructions under callgrind, and nanoseconds of processor time, the kernel's too. The kinds: reports of tags with
 # five parameters, reports of tags with all thirteen, KEEPALIVE messages, events that a ROSpec started, and reports cut
-# short in their last parameter, which `encode` does not take. The instructions are the difference of a process that reads
+# short in their last parameter, which `encode` does not take. Of reports and events also what `--all` and `--json` cost, in
+# instructions only. The instructions are the difference of a process that reads
 # its input three times and one that reads it once, so starting costs nothing; the time is the least of five runs over
 # 50 MB, or as many as the variable MB says. The arguments are another program with the same commands, and words that
 # come before its command: its costs are printed beside ours, run in turn with them, and it is said where what it
 # writes differs.
 set -eu
+# shellcheck source=bench/common.sh
 . "$(dirname "$0")/common.sh"
 other=("$@")
 megabytes="${MB:-50}"
@@ -98,6 +100,19 @@ compared() {
     printf '\n'
 }
 
+# One line: a kind, one of our commands with its options, and its instructions for an octet of a file, which comes second.
+with_options() {
+    printf '%-12s %-18s %s\n' "$1" "${*:3}" "$(an_octet "$2" "$program" "${@:3}")"
+}
+
+# The costs of a kind of frames with `--all` and `--json`, after `cost` of that kind.
+cost_of_options() {
+    with_options "$1" "$work/frames" show --all
+    with_options "$1" "$work/listing" encode --all
+    with_options "$1" "$work/frames" show --json
+    with_options "$1" "$work/frames" show --all --json
+}
+
 # The costs of a kind of frames, of which there are as many as the second argument says.
 cost() {
     digits "$1" "$2" | xxd -r -p > "$work/frames"
@@ -110,7 +125,10 @@ cost() {
 build
 echo "For each octet, instructions and nanoseconds of processor time${other:+, ours and the other}:"
 cost reports 60
+cost_of_options reports
 cost rich 60
+cost_of_options rich
 cost keepalives 20000
 cost events 5000
+cost_of_options events
 cost faulty 8000

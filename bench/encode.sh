@@ -5,6 +5,7 @@
 # of two lengths, so that starting costs nothing. A second argument is another program that takes the word
 # `encode`, whose instructions are printed beside ours.
 set -eu
+# shellcheck source=bench/common.sh
 . "$(dirname "$0")/common.sh"
 size="${1:-100}"
 other="${2:-}"

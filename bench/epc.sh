@@ -6,6 +6,7 @@
 # there are of each kind, 2,100 by default. The texts must give the words back. A second argument is another
 # program that measures the same by itself: what it prints comes last.
 set -eu
+# shellcheck source=bench/common.sh
 . "$(dirname "$0")/common.sh"
 count="${1:-2100}"
 turns=5

@@ -6,6 +6,7 @@
 # read with that limit. A third argument is another program with the same two commands, which is
 # measured in the same run.
 set -eu
+# shellcheck source=bench/common.sh
 . "$(dirname "$0")/common.sh"
 size="${1:-200}"
 kind="${2:-report}"

@@ -4,6 +4,7 @@
 # ROSpec started; and KEEPALIVE messages. First with a listener that does nothing, then by the decoder. It is the difference of
 # a process that reads the stream three times and one that reads it twice, so starting is not in it.
 set -eu
+# shellcheck source=bench/common.sh
 . "$(dirname "$0")/common.sh"
 
 # Reports of 100 tags, as many as the argument says, each of 10 + 100 * 34 octets.

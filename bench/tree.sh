@@ -4,6 +4,7 @@
 # often as the first argument says, and one of 100 tag reports with 5, 3,410 octets, 20 times as often.
 # The first rate is by the processor's seconds in the program, the second with those in the kernel.
 set -eu
+# shellcheck source=bench/common.sh
 . "$(dirname "$0")/common.sh"
 times="${1:-1000}"
 
