@@ -16,7 +16,7 @@ const GRACE: u64 = 1;
 /// For how many seconds the reader may be silent while the plan ends, if it need not show that it lives.
 const PATIENCE: u64 = 5;
 
-/// The moment after which a run of so many seconds ends, if it ends.
+/// The moment after which a run of `seconds` ends, if it ends.
 pub fn end_after(rt: &HostRuntime, seconds: Option<u32>) -> Option<Instant> {
     let seconds = seconds?;
     Instant::now(rt)
@@ -48,7 +48,7 @@ pub fn no_longer(rt: &HostRuntime, pause: Duration, until: Option<Instant>) -> D
     }
 }
 
-/// When a connection is to end, and whether its client was told so.
+/// When a connection is to end, and whether its client knows that.
 #[derive(Drop)]
 pub struct Deadline {
     until: Option<Instant>,
@@ -56,7 +56,7 @@ pub struct Deadline {
 }
 
 impl Deadline {
-    /// One of which nobody was told yet.
+    /// One that its client does not know yet.
     pub fn new(until: Option<Instant>) -> Deadline {
         Deadline {
             until,
@@ -64,7 +64,7 @@ impl Deadline {
         }
     }
 
-    /// Tells the client whether the time is up.
+    /// Whether the time is up, for the client that asks.
     pub fn tell(&self, rt: &HostRuntime) -> bool {
         let is_up = is_past(rt, self.until);
         if is_up {
@@ -73,7 +73,7 @@ impl Deadline {
         is_up
     }
 
-    /// Whether the time is up and nothing came by which the client could be told.
+    /// Whether the time is up and nothing came with which the client could learn it.
     pub fn is_missed(&self, rt: &HostRuntime) -> bool {
         is_past(rt, self.until) && !self.was_told.get()
     }

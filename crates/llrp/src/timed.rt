@@ -1,4 +1,4 @@
-//! A source over a socket that can be told how long to wait.
+//! A source over a socket with a limit on how long a read waits.
 
 ghost use Rattle.std.specs.Prelude.{◌≡◌, ◌≤◌, IfOk, None, length};
 ghost use Rattle.llrp_stream.specs.Calls.Device.{new_source};

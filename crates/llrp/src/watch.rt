@@ -170,7 +170,7 @@ fn say_connected(alloc: Global, notes: &Notes, stream: &TcpStream) {
     }
 }
 
-/// Ends a connection whose client was not told that the time is up, as nothing came: as its plan would,
+/// Ends a connection whose client does not know that the time is up, as nothing came: as its plan would,
 /// without awaiting each response. If the reader then closes it, all is well.
 fn end_in_silence(alloc: Global, stream: &TcpStream, id: u32) -> Result<(), ToolErr> {
     if leave(alloc, stream, true, id) {

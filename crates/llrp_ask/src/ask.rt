@@ -19,7 +19,7 @@ use std::io::ErrorKind;
 /// The greatest number of reads of a run: a million a second for 292,000 years.
 pub const MOST_TURNS: u64 = 9_223_372_036_854_775_807;
 
-/// A source that can be told how long to wait.
+/// A source with a limit on how long a read waits.
 pub trait TimedSource: Source {
     /// From now on reads wait this many milliseconds in all; after that, and where nothing has come by then, they fail as `TimedOut`
     /// or `WouldBlock`.

@@ -34,7 +34,7 @@ pub struct Asking<'a> {
     closing: bool,
     refused: Option<u16>,
     goes_on: bool,
-    /// Nobody was told yet of what it waits for.
+    /// What it waits for was not reported yet.
     is_new: bool,
 }
 

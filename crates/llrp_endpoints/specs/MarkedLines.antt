@@ -46,7 +46,7 @@ marked Full moment name lines = with_heads true (head_text moment name) lines
 abbrev pub name_in : Option (Bor (List ℕ)) → Option (List ℕ)
 name_in name = option_map (λ n. n.now) name
 
--- The lines with the moment so many microseconds after 1970.
+-- The lines with the moment this many microseconds after 1970.
 pub record AreMarked (form : LineForm) (micros : ℕ) (name : Option (List ℕ)) (lines text : List ℕ) : Type 0 where
   pub moment : List ℕ
   pub moment_is : IsMomentText micros moment

@@ -23,7 +23,7 @@ unfoldable pub days_of_months : ℕ → ℕ → ℕ
 days_of_months y zero = 0
 days_of_months y (suc n) = days_of_months y n + days_in_month y (suc n)
 
--- So many days after 1970-01-01, these whole years have passed, and of the year then these whole months, and of the month then these whole days.
+-- This many days after 1970-01-01, these whole years have passed, and of the year then these whole months, and of the month then these whole days.
 pub record IsDate (days years months rest : ℕ) : Type 0 where
   pub days_are : days ≡ days_of_years years + (days_of_months (1970 + years) months + rest)
   pub month_is : months < 12
@@ -49,7 +49,7 @@ clock_text seconds = part_text 84 (seconds / 3600) ++ (part_text 58 (seconds / 6
 abbrev pub fraction_text : ℕ → List ℕ
 fraction_text micros = part_text 46 (micros / 10000) ++ (two_digits (micros / 100 % 100) ++ two_digits (micros % 100))
 
--- The moment so many microseconds after 1970-01-01T00:00:00Z, with no leap seconds.
+-- The moment this many microseconds after 1970-01-01T00:00:00Z, with no leap seconds.
 pub record IsMomentText (micros : ℕ) (text : List ℕ) : Type 0 where
   pub years : ℕ
   pub months : ℕ

@@ -41,11 +41,11 @@ pub record SaysSome (course : Course) (frames text : List ℕ) : Type 0 where
 
 -- ---- what was read
 
--- at most so many reads gave these bytes
+-- at most this many reads gave these bytes
 abbrev pub WasGivenWithin : (most : ℕ) → SourceLog → SourceLog → List ℕ → Type 0
 WasGivenWithin most old new bytes = (n : ℕ) × (n ≤ most) × Gave old new n bytes
 
--- All that the source had left was read in fewer reads than so many, until a read met its end.
+-- All that the source had left was read in fewer reads than `most`, until a read met its end.
 pub record ReadAllWithin (most : ℕ) (old new : SourceLog) (bytes : List ℕ) : Type 0 where
   pub reads : ℕ
   pub few : reads < most
@@ -84,7 +84,7 @@ StoppedWriting frames text w0 w1 t0 t1 =
 
 -- ---- a run
 
--- What a run of at most so many reads did, by its answer. Ok comes only with the closing that is awaited, and its numbers are those of all reports.
+-- What a run of at most this many reads did, by its answer. Ok comes only with the closing that is awaited, and its numbers are those of all reports.
 -- Early comes where a read met the source's end before, or the connection was closed before. After every read all that the
 -- client says to the bytes so far was written before the next.
 abbrev pub RunsInventoryWithin : (most : ℕ) → ℕ → Plan → SourceLog → SourceLog → SinkLog → SinkLog → SinkLog → SinkLog → List ℕ → Result Summary ToolErr → Type 0

@@ -22,11 +22,11 @@ pub record Turn : Type 0 where
   pub lines : List ℕ  -- the lines of the reports that they completed
   pub late : Bool  -- the time was up after it
 
--- What holds of the one state of a watcher, after what it was told and from a log of a sink on, holds of the other with these turns more.
+-- What holds of the one state of a watcher, after the turns before and from a log of a sink on, holds of the other with these turns more.
 abbrev pub Tells : (old new : SinkLog → List Turn → Type 0) → List Turn → Type 0
 Tells old new turns = (base : SinkLog) (before : List Turn) → old base before → new base (before ++ turns)
 
--- it was told of a read; or it failed
+-- it received a read; or it failed
 abbrev pub IsTold : (old new : SinkLog → List Turn → Type 0) → (piece lines : List ℕ) → Result Bool ToolErr → Type 0
 IsTold old new piece lines (Ok late) = Tells old new (record { piece = piece; lines = lines; late = late } ∷ [])
 IsTold old new piece lines (Err error) = (error ≡ Write) ⊎ (error ≡ Memory)
@@ -59,7 +59,7 @@ pub data Leads (b : Beginning) : List Turn → (rest said : List ℕ) → Course
 
 -- ---- a run
 
--- at most so many reads gave these octets
+-- at most this many reads gave these octets
 abbrev pub GivenIn : SourceLog → SourceLog → List ℕ → Type 0
 GivenIn r0 r1 bytes = (n : ℕ) × (n ≤ MOST_LASTING_READS) × Gave r0 r1 n bytes
 

@@ -17,7 +17,7 @@ use std::alloc::Global;
 /// The greatest number of reads of a run that lasts: a million a second for 292,000 years.
 pub const MOST_LASTING_READS: u64 = 9_223_372_036_854_775_807;
 
-/// Follows the plan of a client that `Gathering::new` made, in at most so many reads. What the
+/// Follows the plan of a client that `Gathering::new` made, in at most `most` reads. What the
 /// client sends is gathered in `out`, and the lines in `lines`; both are empty at first.
 fn gather<R: Source, W: Sink, T: Sink>(
     most: u64,

@@ -107,7 +107,7 @@ fn marked_objects(
     Ok(text)
 }
 
-/// The lines of tags that a client printed in this form, each with the moment so many microseconds
+/// The lines of tags that a client printed in this form, each with the moment `micros` microseconds
 /// after 1970-01-01T00:00:00Z. Words have it as one more word, as `2026-01-31T23:59:59.123456Z`. An
 /// object begins with the member `at`, and with `reader` after it if a name is given, which is
 /// UTF-8; lines of objects are whole, and none is empty.

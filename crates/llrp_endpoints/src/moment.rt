@@ -137,7 +137,7 @@ fn push_fraction(text: &mut Text, micros: u64) -> Result<(), AllocError>
     push_two(text, micros % 100)
 }
 
-/// Appends the moment so many microseconds after 1970-01-01T00:00:00Z, as
+/// Appends the moment `micros` microseconds after 1970-01-01T00:00:00Z, as
 /// `2026-01-31T23:59:59.123456Z`.
 pub(crate) fn push_moment(text: &mut Text, micros: u64) -> Result<(), AllocError>
     ensures { OnOk result ((moment : List ℕ) × IsMomentText micros moment

@@ -1,4 +1,4 @@
-//! The bytes of a source, piece by piece, in at most so many reads.
+//! The bytes of a source, piece by piece, in a bounded number of reads.
 
 ghost use Rattle.std.specs.Prelude.{◌≡◌, ◌+◌, ◌<◌, ◌≤◌, IfOk, IfSome, List, OnOk, length, ℕ};
 ghost use Rattle.std.specs.Borrow.{sem};

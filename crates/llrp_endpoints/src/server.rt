@@ -1,4 +1,4 @@
-//! What serves one client, told apart from the loop around it.
+//! What serves one client, apart from the loop around it.
 
 ghost use Rattle.std.specs.Prelude.{◌≡◌, List, Ok, OnOk, false, ℕ};
 ghost use Rattle.llrp_tree.specs.Tree.{MessageTree};

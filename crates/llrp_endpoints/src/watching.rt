@@ -1,4 +1,4 @@
-//! Follows a plan over a source and a sink, and tells a watcher of each read.
+//! Follows a plan over a source and a sink, and reports each read to a watcher.
 
 ghost use Rattle.std.specs.Prelude.{◌≡◌, ◌≤◌, [], List, OnOk, ℕ};
 ghost use Rattle.llrp_stream.specs.Calls.Device.{CanWrite};
@@ -18,9 +18,9 @@ use llrp_listing::{ToolErr, hand_on};
 use llrp_stream::{Sink, Source};
 use std::alloc::Global;
 
-/// Is told of each read of a client that is watched.
+/// Receives each read of a client that is watched.
 pub trait Watcher {
-    /// What holds of it once it was told of these reads, where it began with a sink that had this log;
+    /// What holds of it after these reads, where it began with a sink that had this log;
     /// one that says nothing of itself has a fact that always holds here.
     ghost has: { Self → SinkLog → List Turn → Type 0 };
 
@@ -46,7 +46,7 @@ fn hurry_on<W: Sink>(gathering: &mut Gathering, out: &mut Vec<u8>, w: &mut W) ->
     hurried
 }
 
-/// Takes a piece, tells the watcher of it, and writes what the client says. Returns whether the
+/// Takes a piece, reports it to the watcher, and writes what the client says. Returns whether the
 /// connection was closed as planned.
 fn take_turn<W: Sink, V: Watcher>(
     gathering: &mut Gathering,
@@ -107,8 +107,8 @@ fn watch<R: Source, W: Sink, V: Watcher>(
     Err(ToolErr::Early)
 }
 
-/// Follows a plan with the reader whose bytes the source gives, as `run_lasting` does, and tells a
-/// watcher of each read: of the octets that it gave, and of the lines of the reports that they
+/// Follows a plan with the reader whose bytes the source gives, as `run_lasting` does, and gives a
+/// watcher each read: the octets that it gave, and the lines of the reports that they
 /// completed, before what the client says to them is written to `w`, and before the next read. Once
 /// the watcher says that the time is up, the plan awaits no more reports and goes on to its end.
 ///

@@ -133,7 +133,7 @@ pub struct Pending {
 pub struct Viewed {
     /// Its ROSpecID.
     pub id: u32,
-    /// Its state, as far as the client was told.
+    /// Its state, as far as the client knows.
     pub state: RoState,
 }
 

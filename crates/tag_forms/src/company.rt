@@ -11,7 +11,7 @@ use tag_keys::{Spelling, digits_from_company};
 /// How many digits the company prefixes of keys have.
 #[derive(Clone, Copy)]
 pub enum Company<'a> {
-    /// So many, or it is not known.
+    /// This many, or it is not known.
     Digits(Option<u8>),
     /// As many as the table says, by the digits of a key from its company prefix on.
     Table(&'a Prefixes),

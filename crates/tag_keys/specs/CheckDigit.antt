@@ -19,6 +19,6 @@ is_checked digits = weighed digits % 10 == 0
 abbrev pub check_digit : List ℕ → ℕ
 check_digit digits = 48 + (10 - weighed (digits ++ 48 ∷ []) % 10) % 10
 
--- digits, and their check digit behind them
+-- digits, and their check digit after them
 abbrev pub with_check_digit : List ℕ → List ℕ
 with_check_digit digits = digits ++ check_digit digits ∷ []

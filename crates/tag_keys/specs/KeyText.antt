@@ -11,7 +11,7 @@ use Rattle.tag_keys.specs.declared.spelling.Spelling.{Spelling}
 use Rattle.tag_keys.specs.declared.spelling.Spelling.TheVariants.{Element, Link, Named}
 use Rattle.tag_keys.specs.CheckDigit.{with_check_digit}
 
--- how a key's serial number is written: not at all, behind the check digit, behind a mark, or behind a mark unless it is 0
+-- how a key's serial number is written: not at all, after the check digit, after a mark, or after a mark unless it is 0
 pub data SerialForm : Type 0 where
   Absent : SerialForm
   Joined : SerialForm

@@ -13,11 +13,11 @@ use tag_epc::Kind;
 pub(crate) enum Serial {
     /// Not at all.
     Absent,
-    /// Behind the check digit.
+    /// After the check digit.
     Joined,
-    /// Behind a mark.
+    /// After a mark.
     Marked(&'static str),
-    /// Behind a mark unless it is 0.
+    /// After a mark unless it is 0.
     MarkedUnlessZero(&'static str),
 }
 

@@ -49,7 +49,7 @@ pub(crate) fn form_in_front<'a>(spelling: Spelling, text: &'a str) -> Option<(Ki
 }
 
 /// The pieces of a key: its scheme, the digits of the company prefix, those of the reference in
-/// front of it and behind it, and its serial number.
+/// front of it and after it, and its serial number.
 #[derive(Clone, Copy)]
 pub(crate) struct Pieces<'a> {
     pub(crate) kind: Kind,

@@ -42,7 +42,7 @@ pub(crate) fn read_serial<'a>(text: &'a str, form: Serial) -> Option<Option<&'a 
     }
 }
 
-/// The number behind a mark.
+/// The number after a mark.
 fn marked<'a>(text: &'a str, mark: &str) -> Option<&'a str>
     ensures number { IfSome result (λ x. IsNumber x.now) }
     ensures written { IfSome result (λ x. text.now ≡ mark.now ++ x.now) }

@@ -44,7 +44,7 @@ fn without_filter<'a>(parts: Parts, numbers: &'a str) -> &'a str
     }
 }
 
-/// The components behind the first.
+/// The components after the first.
 fn behind_first<'a>(numbers: &'a str) -> &'a str
     requires { 1 < length (components numbers.now) }
     ensures others { (first : List ℕ) × (components numbers.now ≡ first ∷ components result.now) }

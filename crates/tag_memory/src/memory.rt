@@ -85,7 +85,7 @@ fn may_write(bank: Bank, secured: bool, pointer: u16) -> bool
     }
 }
 
-/// So many words from a place on; 0 are all.
+/// This many words from a place on; a count of 0 means all.
 fn words_from(words: &[u16], pointer: usize, count: usize) -> &[u16]
     requires { pointer + count ≤ length words.now }
     ensures { result.now ≡ memory.words_from words.now pointer count }

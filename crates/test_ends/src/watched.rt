@@ -215,7 +215,7 @@ const REPORT: &str = "043D0000002000000002 00F00016 8D3074257BF7194E4000001A85 8
 
 const LINE: &[u8] = b"urn:epc:tag:sgtin-96:3.0614141.812345.6789 1 -60\n";
 
-/// Counts what it is told of, and says that the time is up after this many octets.
+/// Counts what it receives, and says that the time is up after this many octets.
 #[derive(Drop)]
 struct Shift {
     reads: u64,
@@ -253,7 +253,7 @@ fn watched(
     Ok((ended, shift.octets))
 }
 
-/// A run that is told that the time is up ends as its plan ends, and one that is not ends with its source.
+/// A run that learns that the time is up ends as its plan ends, and one that is not ends with its source.
 #[test]
 fn a_shift(rt: HostRuntime) -> Result<(), Fail> {
     let alloc = rt.alloc();

@@ -24,7 +24,7 @@ pub record IsGreater (a b greater : ℕ) : Type 0 where
   pub second : b ≤ greater
   pub one : (greater ≡ a) ⊎ (greater ≡ b)
 
--- So many clients were served, each by a reader as new and all entries; how each ended was written, and the status is the greatest.
+-- This many clients were served, each by a reader as new and all entries; how each ended was written, and the status is the greatest.
 pub data ServedClients (all : Bool) (entries : List Entry) : ℕ → SinkLog → SinkLog → ℕ → Type 0 where
   none : (e : SinkLog) → ServedClients all entries 0 e e 0
   one_more : (n status ended greater : ℕ) (e0 e1 e2 : SinkLog) (run : Result (Unit {0}) ToolErr) → ServedClients all entries n e0 e1 status → ServesSo all entries run → Concludes (Some run) e1 e2 (Ok ended) → IsGreater status ended greater

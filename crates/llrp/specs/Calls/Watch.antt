@@ -51,7 +51,7 @@ watch_plan words plan =
 
 -- ---- lines
 
--- A printer of this form and with this name, which began where its output had these octets, was told of these turns: of each it appended the lines, with some
+-- A printer of this form and with this name, which began where its output had these octets, received these turns: of each it appended the lines, with some
 -- moment.
 pub data Prints (form : LineForm) (name : Option (List ℕ)) (began : Option (List ℕ)) : List Turn → Option (List ℕ) → Type 0 where
   no_turn : Prints form name began [] began
@@ -63,7 +63,7 @@ PrintsTo form name taken base turns = Prints form name base.taken turns taken
 
 -- ---- runs over sockets
 
--- A client with this limit followed a plan that lasts so, and its printer was told of each read. These are the logs of what it read and sent, and what the
+-- A client with this limit followed a plan that lasts so, and its printer received each read. These are the logs of what it read and sent, and what the
 -- printer says of itself.
 abbrev pub FollowsLasting : ℕ → Plan → SourceLog → SourceLog → SinkLog → SinkLog → (v0 v1 : SinkLog → List Turn → Type 0) → Result (Unit {0}) ToolErr → Type 0
 FollowsLasting limit plan r0 r1 w0 w1 v0 v1 outcome =

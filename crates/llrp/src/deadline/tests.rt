@@ -21,7 +21,7 @@ fn a_run_of_an_hour(rt: HostRuntime) {
     assert!(rt; deadline.patience(&rt, silence) == silence);
 }
 
-/// The client is told of its end once, and then waits for the answers of its reader.
+/// The client learns of its end once, and then waits for the answers of its reader.
 #[test]
 fn a_run_whose_time_is_up(rt: HostRuntime) {
     let until = Instant::now(&rt).ok();

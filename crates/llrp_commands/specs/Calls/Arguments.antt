@@ -147,7 +147,7 @@ with_target a = with_rule (with_rule (with_rule a host_rule) (text_option_rule (
 abbrev pub with_lasting : App → App
 with_lasting a = with_rule (with_rule (with_rule (with_rule a (count_rule (codes "every"))) (number_rule (codes "keepalive"))) (count_rule (codes "again"))) (flag_rule (codes "text"))
 
--- the least that the longest message of watch may be bounded by: the client adds ROSpecs of so many octets
+-- the least that the longest message of watch may be bounded by: the client adds ROSpecs of this many octets
 abbrev pub least_longest : ℕ
 least_longest = 4096
 
@@ -363,11 +363,11 @@ IsNetwork found (Watch host words) = (name_in found ≡ Some (codes "watch")) ×
 IsNetwork found (Ask host words) = (name_in found ≡ Some (codes "ask")) × (word_in (codes "HOST") found ≡ Some host.now) × IsAsk found words
 IsNetwork found (Stop host words) = (name_in found ≡ Some (codes "stop")) × (word_in (codes "HOST") found ≡ Some host.now) × IsStop found words
 
--- a client can be made with so many octets of a message at most
+-- a client can be made with this many octets of a message at most
 abbrev pub IsLongest : ℕ → Type 0
 IsLongest limit = (least_longest ≤ limit) × (limit ≤ MAX_LIMIT)
 
--- the most octets of a message are so many
+-- the most octets of a message are bounded so
 abbrev pub IsBounded : NetworkCommand → Type 0
 IsBounded (Watch host words) = IsLongest words.limit
 IsBounded command = Unit {0}

@@ -1,4 +1,4 @@
--- Reading a source piece by piece, at most so many times.
+-- Reading a source piece by piece, a bounded number of times.
 use Rattle.std.specs.Prelude.{◌≡◌, ◌⊎◌, ℕ, ◌+◌, ◌≤◌, List, ◌++◌, Option, None, Some, Result, Ok, Err}
 use Rattle.std.specs.Borrow.{Bor}
 use Rattle.llrp_stream.specs.Device.{SourceLog, Gave}
