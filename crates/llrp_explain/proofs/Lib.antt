@@ -1,2 +1,5 @@
+pub mod FaultDigits
+pub mod HandedDigits
 pub mod LineDigits
+pub mod RefusedTexts
 pub mod KindTextLemmas

@@ -1,4 +1,6 @@
 -- What public contracts say that no promise of README rests on.
 pub mod ExplainLines
 pub mod ExplainText
+pub mod FaultLines
+pub mod FaultText
 pub mod KindTexts

@@ -1,12 +1,18 @@
 //! Laws of the lines of a message and of an open tree.
 
-ghost use Rattle.std.specs.Prelude.{◌≡◌, ℕ, ◌*◌, List, length};
+ghost use Rattle.std.specs.Prelude.{◌≡◌, ℕ, ◌+◌, ◌*◌, ◌≤◌, ◌++◌, Bool, List, Some, length};
 ghost use Rattle.llrp_tree.specs.Tree.{MessageTree};
 ghost use Rattle.llrp_tree.specs.OpenTree.{Begun, covers};
 ghost use Rattle.llrp_tree.specs.Frame.{Frame};
 ghost use Rattle.llrp_tree.specs.Spelling.{message_digits};
 ghost use Rattle.tag_bits.specs.Digits.{digits_of_bytes};
+ghost use Rattle.llrp_schema.specs.declared.kinds.KindSet.{KindSet};
+ghost use Rattle.llrp_tree.specs.declared.fault.Reason.{Reason};
 ghost use Rattle.llrp_explain.specs.Calls.ExplainLines.{ExplainLine, digits_of_lines, bits_of_lines, message_lines, open_lines};
+ghost use Rattle.llrp_tree.specs.OpenTree.{IsOpenTree};
+ghost use Rattle.llrp_tree.specs.FirstFault.{next_fault};
+ghost use Rattle.llrp_tree.specs.Calls.Deciding.{deciding};
+ghost use Rattle.llrp_explain.specs.Calls.FaultLines.{ExplainsFault, refused_lines};
 
 /// The digits of the lines, joined, are those of the message, and of what an open tree covers.
 pub fn lines_are_digits()
@@ -21,4 +27,20 @@ pub fn lines_are_frame()
         → digits_of_lines (message_lines m) ≡ digits_of_bytes bytes }
     ensures bits { (m : MessageTree) (bytes : List ℕ) (limit : ℕ) → Frame m bytes limit
         → bits_of_lines (message_lines m) ≡ 8 * length bytes }
+{}
+
+/// The digits of the lines of a frame that has a fault, and those of the refused part after them, are its first ones.
+pub fn fault_lines_are_frame()
+    ensures { (p : KindSet) (limit : ℕ) (frame : List ℕ) (bit : ℕ) (reason : Reason)
+        (lines refused : List ExplainLine) → 10 ≤ length frame
+        → ExplainsFault p limit frame bit reason lines refused → (others : List Bool)
+        × (digits_of_bytes frame ≡ digits_of_lines lines ++ (digits_of_lines refused ++ others)) }
+{}
+
+/// The digits that decide a fault have the lines of what is refused, whatever comes after them.
+pub fn refused_lines_are_decided()
+    ensures { (tree : List Begun) (rest more : List Bool) (bit : ℕ) (reason : Reason)
+        → IsOpenTree tree → next_fault tree (rest ++ more) ≡ Some (bit, reason)
+        → deciding tree (rest ++ more) ≤ length (covers tree) + length rest
+        → refused_lines tree reason (rest ++ more) ≡ refused_lines tree reason rest }
 {}

@@ -12,7 +12,9 @@
 mod kind_texts;
 pub mod laws;
 pub mod push;
+pub mod refused;
 mod rows;
+pub mod sentences;
 
 pub use kind_texts::push_kind;
 pub use rows::{kinds_of, line_of, table};

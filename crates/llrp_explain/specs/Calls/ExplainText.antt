@@ -1,5 +1,5 @@
 -- The text of lines: the bit, the width and the level in decimal, the name and what stands there, with spaces (32) between them and LF (10) after them.
-use Rattle.std.specs.Prelude.{ℕ, suc, zero, ◌+◌, List, [], ◌∷◌, ◌++◌, decimal, cond, nat_eq}
+use Rattle.std.specs.Prelude.{ℕ, ◌+◌, List, [], ◌∷◌, ◌++◌, decimal, cond, nat_eq}
 use Rattle.hex.specs.Hex.{encode_lower}
 use Rattle.llrp_explain.specs.Calls.ExplainLines.{Standing, ANumber, Octets, ExplainLine, standing_bits}
 
@@ -13,3 +13,8 @@ words_text bit width level name what = decimal bit ++ (32 ∷ (decimal width ++ 
 
 abbrev pub line_text : ℕ → ExplainLine → List ℕ
 line_text bit l = words_text bit (standing_bits l.bits l.standing) l.level l.name (standing_text l.standing)
+
+-- The text of lines from a bit on. A line of no bits (a tail of no octets) has no text.
+unfoldable pub lines_text : ℕ → List ExplainLine → List ℕ
+lines_text bit [] = []
+lines_text bit (l ∷ lines) = cond (nat_eq (standing_bits l.bits l.standing) 0) (lines_text bit lines) (line_text bit l ++ lines_text (bit + standing_bits l.bits l.standing) lines)

@@ -1,2 +1,0 @@
--- Words of private functions: no public contract names one.
-pub mod ExplainText
