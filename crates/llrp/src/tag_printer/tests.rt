@@ -9,6 +9,17 @@ fn is_moment(text: &[u8]) -> bool {
     }
 }
 
+/// Whether a moment stands in a text at this place.
+fn has_moment(text: &[u8], at: usize) -> bool {
+    let Some((_, rest)) = text.split_at_checked(at) else {
+        return false;
+    };
+    match rest.split_at_checked(27) {
+        Some((moment, _)) => is_moment(moment),
+        None => false,
+    }
+}
+
 #[test]
 fn words_with_a_moment(rt: HostRuntime) -> Result<(), ToolErr> {
     let deadline = Deadline::new(None);
@@ -17,7 +28,7 @@ fn words_with_a_moment(rt: HostRuntime) -> Result<(), ToolErr> {
     assert!(rt; printer.turn(b"x", b"epc 1 -60\n") == Ok(false) && printer.has_printed());
     let text = printer.output.as_slice();
     assert!(rt; text.starts_with(b"epc 1 -60 ") && text.ends_with(b"Z\n") && text.len() == 38);
-    assert!(rt; is_moment(text.split_at(10).1.split_at(27).0));
+    assert!(rt; has_moment(text, 10));
     Ok(())
 }
 
@@ -29,7 +40,7 @@ fn objects_with_a_moment_and_a_name(rt: HostRuntime) -> Result<(), ToolErr> {
     assert!(rt; printer.turn(b"x", b"{\"epc\":\"a\"}\n") == Ok(false) && !printer.has_failed());
     let text = printer.output.as_slice();
     assert!(rt; text.starts_with(b"{\"at\":\""));
-    assert!(rt; is_moment(text.split_at(7).1.split_at(27).0));
+    assert!(rt; has_moment(text, 7));
     let end = b"\",\"reader\":\"dock \\\"1\\\"\",\"epc\":\"a\"}\n";
     assert!(rt; text.ends_with(end) && text.len() == 34 + end.len());
     Ok(())
