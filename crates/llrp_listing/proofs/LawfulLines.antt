@@ -1,21 +1,22 @@
 -- The lines of lawful messages are said, and can be closed.
-use Rattle.std.proofs.Common.{◌≡◌, ℕ, suc, ◌+◌, ◌^◌, ◌<◌, ◌≤◌, Bool, true, false, List, [], ◌∷◌, ◌++◌, map, filter, not, length, None, Some, refl, sym, ap, subst, ◌∙◌, arith, decimal, append_assoc, length-append}
+use Rattle.std.proofs.Common.{◌≡◌, ℕ, suc, ◌+◌, ◌*◌, ◌^◌, ◌<◌, ◌≤◌, Bool, true, false, cond, List, [], ◌∷◌, ◌++◌, map, filter, not, length, None, Some, refl, sym, ap, subst, ◌∙◌, arith, decimal, append_assoc, length-append}
 use Rattle.std.specs.Prelude.{nat_lt, if◌then◌else◌}
 use Rattle.std.specs.List.{AllZip, flat_map, list_all}
 use Rattle.std.proofs.Math.Nat.{le-max_left, le-max_right, max-le}
+use Rattle.std.proofs.lemmas.List.{append-nil}
 use Rattle.llrp_schema.specs.declared.kinds.Kind.{Kind}
 use Rattle.llrp_schema.specs.declared.kinds.Kind.TheVariants.{Message, Parameter}
 use Rattle.llrp_schema.specs.declared.kinds.KindSet.{KindSet}
 use Rattle.llrp_schema.specs.declared.kinds.KindSet.TheVariants.{Profile, Standard}
 use Rattle.llrp_schema.specs.declared.kinds.Tail.{Tail}
 use Rattle.llrp_schema.specs.declared.kinds.Tail.TheVariants.{Absent, Words, Text, Bits, Data}
-use Rattle.llrp_schema.specs.Schema.{FieldRule, fields_of, groups_of, plain_fields_of, set_of_kind, rule_of, message_rule, param_rule, message_kinds, param_kinds, whole_message_kinds, whole_param_kinds, tail_of}
+use Rattle.llrp_schema.specs.Schema.{FieldRule, fields_of, groups_of, is_tv, plain_fields_of, set_of_kind, rule_of, message_rule, param_rule, message_kinds, param_kinds, whole_message_kinds, whole_param_kinds, tail_of}
 use Rattle.llrp_schema.proofs.PlaceLemmas.{child_set}
 use Rattle.llrp_schema.proofs.TableLaws.{every_rule, message_tail}
 use Rattle.llrp_tree.specs.declared.TheConstants.{MAX_DEPTH}
 use Rattle.llrp_tree.specs.Tree as tree
 use Rattle.llrp_tree.specs.Tree.{MessageTree}
-use Rattle.llrp_tree.specs.Lawful.{levels, body_octets, AreInRange, AreOctets, ArePlaced, IsTail, AreLawful, AllLawful, IsLawfulMessage, message_octets}
+use Rattle.llrp_tree.specs.Lawful.{levels, octets, head_octets, body_octets, AreInRange, AreOctets, ArePlaced, IsTail, AreLawful, AllLawful, IsLawfulMessage, message_octets}
 use Rattle.llrp_tree.specs.Checks.{first_fault, first_message_fault}
 use Rattle.llrp_tree.proofs.LawLemmas.{lawful_exactly, message_exactly}
 use Rattle.llrp_tree.proofs.LengthLemmas.{frame_length}
@@ -34,7 +35,7 @@ use Rattle.llrp_listing.specs.OpenText.{Outline, end, node}
 use Rattle.llrp_listing.proofs.Cutting.{ended}
 use Rattle.tag_uri.proofs.UriLemmas.{left, right}
 use Rattle.llrp_listing.proofs.LineShape.{rest_words, rest_visible, level_visible, line_printed, printed_no_lf}
-use Rattle.llrp_listing.proofs.ShortLines.{few_in, line_short, most_octets}
+use Rattle.llrp_listing.proofs.ShortLines.{few_in, line_octets, line_short, most_octets}
 use Rattle.llrp_listing.proofs.TreeLines.{parameters_back, nodes_row}
 
 -- ---- numbers in their ranges are in their forms
@@ -254,3 +255,46 @@ lines_bound p (e ∷ es) (t ∷ ts) z o w = (subst (λ (q : KindSet). length t �
 -- the lines of a lawful message are short
 pub message_bound : (m : MessageTree) (ts : List (List ℕ)) → IsLawfulMessage m → AllZip IsLine (message_lines m) ts → AreShort (set_of_kind (Message m.kind)) ts
 message_bound m ts l z = lines_bound (set_of_kind (Message m.kind)) (message_lines m) ts z (message_of_profile (set_of_kind (Message m.kind)) m refl l) (message_well m l)
+
+-- ---- their octets
+
+-- the most octets of lines, each with its LF
+abbrev most_of : List (ℕ × NodeLine) → ℕ
+most_of [] = 0
+most_of (e ∷ es) = 2001 + 3 * length e.1.tail + most_of es
+
+most_append : (a b : List (ℕ × NodeLine)) → most_of (a ++ b) ≡ most_of a + most_of b
+most_append [] b = omega arith
+most_append (e ∷ a) b = omega (arith, most_append a b)
+
+line_most : (e : ℕ × NodeLine) (t : List ℕ) → IsLine e t → Well e → length t ≤ 2001 + 3 * length e.1.tail
+line_most e t z w =
+    let bytes = decimal e.0 ++ spaced (rest_words e.1 z.numbers) in
+    let is : t ≡ bytes ++ (10 ∷ []) = z.text_is ∙ sym (append_assoc (decimal e.0) (spaced (rest_words e.1 z.numbers)) (10 ∷ [])) in
+    omega (arith, ap length is, length-append bytes (10 ∷ []), line_octets e.0 e.1 z.numbers w.deep w.numbers z.are w.tail)
+
+lines_most : (es : List (ℕ × NodeLine)) (ts : List (List ℕ)) → AllZip IsLine es ts → AllWell es → length (flat_map (λ line. line) ts) ≤ most_of es
+lines_most [] [] z w = omega arith
+lines_most [] (t ∷ ts) z w = absurd z
+lines_most (e ∷ es) [] z w = absurd z
+lines_most (e ∷ es) (t ∷ ts) z w = omega (arith, length-append t (flat_map (λ (line : List ℕ). line) ts), line_most e t z.0 w.0, lines_most es ts z.1 w.1)
+
+one_head : (kind : _) → 1 ≤ head_octets kind
+one_head kind = elim (is_tv kind) as (λ b. 1 ≤ cond b 1 4) [ true ↦ omega arith | false ↦ omega arith ]
+
+forest_most : (level : ℕ) (f : tree.Forest) → most_of (parameter_lines level f) ≤ 2001 * octets f
+unfolding body_octets
+forest_most level tree.none = omega arith
+forest_most level (tree.and before kind fields tail children) =
+    omega (arith, most_append (parameter_lines level before) ((level, parameter_line kind fields tail) ∷ parameter_lines (suc level) children), forest_most level before, one_head kind, forest_most (suc level) children)
+
+message_most : (m : MessageTree) → most_of (message_lines m) ≤ 2001 * message_octets m
+unfolding body_octets
+message_most m = omega (arith, forest_most 1 m.children)
+
+-- the listing of a lawful message has at most 2,001 octets for each of its frame
+pub listing_octets : (m : MessageTree) (text : List ℕ) → IsLawfulMessage m → IsListingOf (m ∷ []) text → length text ≤ 2001 * message_octets m
+listing_octets m text l h =
+    let same : messages_lines (m ∷ []) ≡ message_lines m = append-nil (message_lines m) in
+    let z = subst (λ (es : List (ℕ × NodeLine)). AllZip IsLine es h.texts) same h.each in
+    omega (arith, ap length h.text_is, lines_most (message_lines m) h.texts z (message_well m l), message_most m)

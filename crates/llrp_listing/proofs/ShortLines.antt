@@ -100,11 +100,15 @@ forms_few : (kind : Kind) → length (number_forms kind) ≤ 14
 forms_few (Message kind) = omega (arith, message_forms kind, few_forms (Message kind))
 forms_few (Parameter kind) = omega (arith, parameter_forms kind, few_forms (Parameter kind))
 
+-- a line of numbers in their forms has at most so many octets, and three more for each of its tail
+pub line_octets : (level : ℕ) (line : NodeLine) (texts : List (List ℕ)) → level ≤ MAX_DEPTH → AreInForm (number_forms line.kind) line.numbers → AreNumberTexts (number_forms line.kind) line.numbers texts → IsTailOf (tail_of line.kind) line.tail
+    → length (decimal level ++ spaced (rest_words line texts)) ≤ 2000 + 3 * length line.tail
+line_octets level line texts deep p h t =
+    let rest = texts ++ tail_texts (tail_of line.kind) line.tail in
+    let all : length (decimal level ++ spaced (rest_words line texts)) ≡ length (decimal level) + total (name_of line.kind ∷ rest) = length-append (decimal level) (spaced (rest_words line texts)) ∙ ap (λ (n : ℕ). length (decimal level) + n) (spaced_length (rest_words line texts)) in
+    omega (arith, all, decimal_short level (omega arith), name_short line.kind, total_append texts (tail_texts (tail_of line.kind) line.tail), numbers_short (number_forms line.kind) line.numbers texts p h, forms_few line.kind, tail_short (tail_of line.kind) line.tail t)
+
 -- a line of numbers in their forms and of a tail that a parameter can have is short
 pub line_short : (level : ℕ) (line : NodeLine) (texts : List (List ℕ)) → level ≤ MAX_DEPTH → AreInForm (number_forms line.kind) line.numbers → AreNumberTexts (number_forms line.kind) line.numbers texts → IsTailOf (tail_of line.kind) line.tail → length line.tail ≤ most_octets (set_of_kind line.kind)
     → length (decimal level ++ spaced (rest_words line texts)) ≤ longest (set_of_kind line.kind)
-line_short level line texts deep p h t le =
-    let rest = texts ++ tail_texts (tail_of line.kind) line.tail in
-    let all : length (decimal level ++ spaced (rest_words line texts)) ≡ length (decimal level) + total (name_of line.kind ∷ rest) = length-append (decimal level) (spaced (rest_words line texts)) ∙ ap (λ (n : ℕ). length (decimal level) + n) (spaced_length (rest_words line texts)) in
-    room_for (set_of_kind line.kind) (length line.tail) _ le
-    (omega (arith, all, decimal_short level (omega arith), name_short line.kind, total_append texts (tail_texts (tail_of line.kind) line.tail), numbers_short (number_forms line.kind) line.numbers texts p h, forms_few line.kind, tail_short (tail_of line.kind) line.tail t))
+line_short level line texts deep p h t le = room_for (set_of_kind line.kind) (length line.tail) _ le (line_octets level line texts deep p h t)

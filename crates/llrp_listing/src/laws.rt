@@ -15,7 +15,8 @@ pub fn listed_or_refused()
     ensures { (p : KindSet) (limit : ℕ) (text : List ℕ) → ListedOrRefused p limit text }
 {}
 
-/// No line of a lawful message is longer than a line may be.
+/// No line of a lawful message is longer than a line may be, and its listing has at most 2,001 octets
+/// for each octet of its frame.
 pub fn lines_are_short()
     ensures { (m : MessageTree) → HasShortLines m }
 {}

@@ -1,11 +1,11 @@
 -- The laws of listings.
-use Rattle.std.specs.Prelude.{◌≡◌, ℕ, suc, ◌≤◌, List, [], ◌∷◌, length}
+use Rattle.std.specs.Prelude.{◌≡◌, ℕ, suc, ◌*◌, ◌≤◌, List, [], ◌∷◌, length}
 use Rattle.std.specs.List.{AllZip}
 use Rattle.llrp_schema.specs.declared.kinds.KindSet.{KindSet}
 use Rattle.llrp_schema.specs.declared.kinds.Kind.TheVariants.{Message}
 use Rattle.llrp_schema.specs.Schema.{set_of_kind}
 use Rattle.llrp_tree.specs.Tree.{MessageTree}
-use Rattle.llrp_tree.specs.Lawful.{IsLawfulMessage}
+use Rattle.llrp_tree.specs.Lawful.{IsLawfulMessage, message_octets}
 use Rattle.llrp_listing.specs.declared.outcome.Refusal.{Refusal}
 use Rattle.llrp_listing.specs.Encoding.{AreSpelled}
 use Rattle.llrp_listing.specs.FirstRefusal.{Refused}
@@ -36,6 +36,7 @@ abbrev pub AreShort : KindSet → List (List ℕ) → Type 0
 AreShort p [] = Unit {0}
 AreShort p (line ∷ lines) = (length line ≤ suc (longest p)) × AreShort p lines
 
--- no line of a lawful message is too long
+-- No line of a lawful message is too long, and all of its lines have at most 2,001 octets for each octet of its frame.
 pub record HasShortLines (m : MessageTree) : Type 0 where
   pub short : (texts : List (List ℕ)) → IsLawfulMessage m → AllZip IsLine (message_lines m) texts → AreShort (set_of_kind (Message m.kind)) texts
+  pub whole : (text : List ℕ) → IsLawfulMessage m → IsListingOf (m ∷ []) text → length text ≤ 2001 * message_octets m
