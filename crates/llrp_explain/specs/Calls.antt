@@ -4,3 +4,4 @@ pub mod ExplainText
 pub mod FaultLines
 pub mod FaultText
 pub mod KindTexts
+pub mod Printed

@@ -11,10 +11,14 @@
 
 mod kind_texts;
 pub mod laws;
+mod lines;
 pub mod push;
 pub mod refused;
 mod rows;
 pub mod sentences;
+mod walk;
 
 pub use kind_texts::push_kind;
+pub use lines::Lines;
 pub use rows::{kinds_of, line_of, table};
+pub use walk::push_message;

@@ -1,10 +1,11 @@
 //! Lines, appended to a text.
 
-ghost use Rattle.std.specs.Prelude.{◌≡◌, ◌+◌, ◌++◌, ◌∷◌, [], OnOk, codes, decimal};
+ghost use Rattle.std.specs.Prelude.{◌≡◌, ◌+◌, ◌++◌, ◌∷◌, ◌*◌, [], OnOk, codes, decimal};
 ghost use Rattle.llrp_schema.specs.Calls.Schema.{field_rule};
 ghost use Rattle.llrp_schema.specs.Schema.{number_of};
 ghost use Rattle.llrp_schema.specs.declared.kinds.Kind.TheVariants.{Message};
-ghost use Rattle.llrp_explain.specs.Calls.ExplainLines.{line};
+ghost use Rattle.llrp_explain.specs.Calls.ExplainLines.{line, octets_line};
+ghost use Rattle.hex.specs.Hex.{encode_lower};
 ghost use Rattle.llrp_explain.specs.Calls.ExplainText.{line_text, words_text};
 
 use itoa::Buffer;
@@ -59,4 +60,38 @@ pub fn push_field(
         (line level (field_rule rule.now).name (field_rule rule.now).width value)) }
 {
     push_line(text, bit, rule.width, level, rule.name.as_bytes(), value)
+}
+
+/// Appends octets in lower-case hexadecimal.
+fn push_hexadecimal(text: &mut Vec<u8>, octets: &[u8]) -> Result<(), AllocError>
+    ensures { OnOk result (text.new.items ≡ text.old.items ++ encode_lower octets.now) }
+{
+    for octet in octets {
+        let mut digits = [0; 2];
+        let Ok(()) = hex::encode_to_slice(&[*octet], &mut digits) else {
+            unreachable!()
+        };
+        text.extend_from_slice(&digits)?;
+    }
+    Ok(())
+}
+
+/// Appends the line of octets.
+pub(crate) fn push_octets_line(
+    text: &mut Vec<u8>,
+    bit: u32,
+    level: u8,
+    name: &[u8],
+    octets: &[u8],
+) -> Result<(), AllocError>
+    ensures { OnOk result (text.new.items ≡ text.old.items ++ line_text bit
+        (octets_line level name.now octets.now)) }
+{
+    push_number(text, bit as u128, b' ')?;
+    push_number(text, 8 * octets.len() as u128, b' ')?;
+    push_number(text, level as u128, b' ')?;
+    text.extend_from_slice(name)?;
+    text.extend_from_slice(b" x")?;
+    push_hexadecimal(text, octets)?;
+    text.extend_from_slice(b"\n")
 }

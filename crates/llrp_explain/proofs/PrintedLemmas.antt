@@ -1,0 +1,123 @@
+-- How the text of lines grows.
+use Rattle.std.proofs.Common.{◌≡◌, ℕ, zero, suc, ◌+◌, ◌*◌, ◌<◌, ◌≤◌, List, [], ◌∷◌, ◌++◌, length, take, get_or, true, false, nat_eq, refl, sym, ap, subst, ◌∙◌, arith, append_assoc}
+use Rattle.std.specs.Prelude.{Result, Ok, Err, OnOk, cond, is_ok, if◌then◌else◌}
+use Rattle.std.proofs.lemmas.List.{append-nil, take_more}
+use Rattle.std.proofs.lemmas.Bool.{eqb-true}
+use Rattle.hex.specs.Hex.{encode_with, encode_lower, lower_digits}
+use Rattle.llrp_explain.specs.declared.lines.Lines.{Lines}
+use Rattle.llrp_explain.specs.Calls.ExplainLines.{ExplainLine, bits_of_lines, standing_bits}
+use Rattle.llrp_explain.specs.Calls.ExplainText.{line_text, lines_text}
+use Rattle.llrp_explain.specs.Calls.Printed.{Holds, Adds}
+
+encode_more : (t xs ys : List ℕ) → encode_with t (xs ++ ys) ≡ encode_with t xs ++ encode_with t ys
+unfolding encode_with
+encode_more t [] ys = refl
+encode_more t (x ∷ xs) ys = rw (encode_more t xs ys) refl
+
+encode_none : (t : List ℕ) → encode_with t [] ≡ []
+unfolding encode_with
+encode_none t = refl
+
+pub octets_none : (old : List ℕ) → old ≡ old ++ encode_lower []
+octets_none old = sym (append-nil old) ∙ ap (λ (x : List ℕ). old ++ x) (sym (encode_none lower_digits))
+
+pub octets_more : (old now mid written octets new : List ℕ) (i : ℕ) → i < length octets → now ≡ old ++ encode_lower (take i octets) → written ≡ encode_lower (get_or octets i 0 ∷ []) → new ≡ now ++ written
+    → new ≡ old ++ encode_lower (take (i + 1) octets)
+octets_more old now mid written octets new i lt so is more =
+    more ∙ ap (λ (x : List ℕ). now ++ x) is ∙ ap (λ (x : List ℕ). x ++ encode_lower (get_or octets i 0 ∷ [])) so ∙ append_assoc old (encode_lower (take i octets)) (encode_lower (get_or octets i 0 ∷ []))
+    ∙ ap (λ (x : List ℕ). old ++ x) (sym (encode_more lower_digits (take i octets) (get_or octets i 0 ∷ [])) ∙ ap encode_lower (sym (take_more octets i 0 lt)))
+
+-- ---- text and bits of lines in a row
+
+abbrev bits : ExplainLine → ℕ
+bits l = standing_bits l.bits l.standing
+
+pub bits_append : (xs ys : List ExplainLine) → bits_of_lines (xs ++ ys) ≡ bits_of_lines xs + bits_of_lines ys
+unfolding bits_of_lines
+bits_append [] ys = (let z : bits_of_lines ys ≡ 0 + bits_of_lines ys = omega arith in z)
+bits_append (x ∷ xs) ys = let a = bits_append xs ys in omega arith
+
+zero_of : (n : ℕ) → nat_eq n 0 ≡ true → n ≡ 0
+zero_of n e = eqb-true n 0 e
+
+some_of : (n : ℕ) → 0 < n → nat_eq n 0 ≡ false
+some_of n h = elim (nat_eq n 0) as (λ b. nat_eq n 0 ≡ b → b ≡ false) [ true ↦ λ e. absurd (omega (arith, h, eqb-true n 0 e)) | false ↦ λ e. refl ] refl
+
+text_append : (n : ℕ) (xs ys : List ExplainLine) → lines_text n (xs ++ ys) ≡ lines_text n xs ++ lines_text (n + bits_of_lines xs) ys
+unfolding lines_text bits_of_lines
+text_append n [] ys = ap (λ (m : ℕ). lines_text m ys) (let z : n ≡ n + 0 = omega arith in z)
+text_append n (x ∷ xs) ys =
+    elim (nat_eq (bits x) 0) as (λ b. nat_eq (bits x) 0 ≡ b → cond b (lines_text n (xs ++ ys)) (line_text n x ++ lines_text (n + bits x) (xs ++ ys)) ≡ cond b (lines_text n xs) (line_text n x ++ lines_text (n + bits x) xs) ++ lines_text (n + (bits x + bits_of_lines xs)) ys) [
+      | true ↦ λ z. text_append n xs ys ∙ ap (λ (m : ℕ). lines_text n xs ++ lines_text m ys) (let z2 = zero_of (bits x) z in let z3 : n + bits_of_lines xs ≡ n + (bits x + bits_of_lines xs) = omega arith in z3)
+      | false ↦ λ z. ap (λ (t : List ℕ). line_text n x ++ t) (text_append (n + bits x) xs ys ∙ ap (λ (m : ℕ). lines_text (n + bits x) xs ++ lines_text m ys) (let z3 : n + bits x + bits_of_lines xs ≡ n + (bits x + bits_of_lines xs) = omega arith in z3)) ∙ sym (append_assoc (line_text n x) (lines_text (n + bits x) xs) (lines_text (n + (bits x + bits_of_lines xs)) ys))
+    ] refl
+
+one_text : (n : ℕ) (l : ExplainLine) → nat_eq (bits l) 0 ≡ false → lines_text n (l ∷ []) ≡ line_text n l
+unfolding lines_text
+one_text n l e = rw e (append-nil (line_text n l))
+
+no_text : (n : ℕ) (l : ExplainLine) → bits l ≡ 0 → lines_text n (l ∷ []) ≡ []
+unfolding lines_text
+no_text n l e = rw e refl
+
+one_bits : (l : ExplainLine) → bits_of_lines (l ∷ []) ≡ bits l
+unfolding bits_of_lines
+one_bits l = (let z : bits l + 0 ≡ bits l = omega arith in z)
+
+-- ---- what is added
+
+pub adds_none : (x : Lines) → Adds [] x x
+adds_none x was lines h = subst (λ (ls : List ExplainLine). Holds was ls x) (sym (append-nil lines)) h
+
+pub adds_then : (a b : List ExplainLine) (x y z : Lines) → Adds a x y → Adds b y z → Adds (a ++ b) x z
+adds_then a b x y z f g was lines h = subst (λ (ls : List ExplainLine). Holds was ls z) (append_assoc lines a b) (g was (lines ++ a) (f was lines h))
+
+pub adds_empty : (l : ExplainLine) (x : Lines) → standing_bits l.bits l.standing ≡ 0 → Adds (l ∷ []) x x
+unfolding Holds
+adds_empty l x e was lines h small =
+    let b = bits_append lines (l ∷ []) in
+    let one = one_bits l in
+    let old = h (omega arith) in (
+      old.0 ∙ ap (λ (t : List ℕ). was ++ t) (sym (text_append 0 lines (l ∷ []) ∙ ap (λ (t : List ℕ). lines_text 0 lines ++ t) (no_text (0 + bits_of_lines lines) l e) ∙ append-nil (lines_text 0 lines))),
+      old.1 ∙ (let z : bits_of_lines lines ≡ bits_of_lines (lines ++ l ∷ []) = omega arith in z),
+    )
+
+pub adds_line : (l : ExplainLine) (x y : Lines) → 0 < standing_bits l.bits l.standing → y.text.items ≡ x.text.items ++ line_text x.bit l → (x.bit + standing_bits l.bits l.standing < 4294967296 → y.bit ≡ x.bit + standing_bits l.bits l.standing)
+    → Adds (l ∷ []) x y
+unfolding Holds
+adds_line l x y some t after was lines h small =
+    let b = bits_append lines (l ∷ []) in
+    let one = one_bits l in
+    let old = h (omega arith) in
+    let at = old.1 in
+    let ne : nat_eq (bits l) 0 ≡ false = some_of (bits l) some in
+    let text : lines_text 0 (lines ++ l ∷ []) ≡ lines_text 0 lines ++ line_text x.bit l =
+    text_append 0 lines (l ∷ []) ∙ ap (λ (u : List ℕ). lines_text 0 lines ++ u) (one_text (0 + bits_of_lines lines) l ne ∙ ap (λ (n : ℕ). line_text n l) (let z : 0 + bits_of_lines lines ≡ x.bit = omega (arith, at) in z)) in (
+      t ∙ ap (λ (u : List ℕ). u ++ line_text x.bit l) old.0 ∙ append_assoc was (lines_text 0 lines) (line_text x.bit l) ∙ ap (λ (u : List ℕ). was ++ u) (sym text),
+      after (omega arith) ∙ (let z : x.bit + bits l ≡ bits_of_lines (lines ++ l ∷ []) = omega arith in z),
+    )
+
+-- what follows from what holds of a result that is Ok
+pub on_adds : {T E : Type 0} (r : Result T E) (a b : List ExplainLine) (x y z : Lines) → Adds a x y → OnOk r (Adds b y z) → OnOk r (Adds (a ++ b) x z)
+on_adds (Ok v) a b x y z f g = adds_then a b x y z f g
+on_adds (Err e) a b x y z f g = g
+
+pub moved : {T E : Type 0} (r : Result T E) (a b : List ExplainLine) (x z : Lines) → a ≡ b → OnOk r (Adds a x z) → OnOk r (Adds b x z)
+moved r a b x z e h = subst (λ (ls : List ExplainLine). OnOk r (Adds ls x z)) e h
+
+pub ok_adds : {T E : Type 0} (r : Result T E) (a : List ExplainLine) (x z : Lines) → Adds a x z → OnOk r (Adds a x z)
+ok_adds (Ok v) a x z h = h
+ok_adds (Err e) a x z h = tt
+
+words_joined : (t a b c n h : List ℕ) → ((((((t ++ (a ++ 32 ∷ [])) ++ (b ++ 32 ∷ [])) ++ (c ++ 32 ∷ [])) ++ n) ++ (32 ∷ 120 ∷ [])) ++ h) ++ (10 ∷ []) ≡ t ++ (a ++ (32 ∷ (b ++ (32 ∷ (c ++ (32 ∷ (n ++ (32 ∷ ((120 ∷ h) ++ (10 ∷ []))))))))))
+words_joined t a b c n h = simp append_assoc
+
+-- the line of octets in words
+pub octets_text : (t0 t1 t2 t3 t4 t5 t6 t7 a b c n h : List ℕ) → t1 ≡ t0 ++ (a ++ 32 ∷ []) → t2 ≡ t1 ++ (b ++ 32 ∷ []) → t3 ≡ t2 ++ (c ++ 32 ∷ []) → t4 ≡ t3 ++ n → t5 ≡ t4 ++ (32 ∷ 120 ∷ []) → t6 ≡ t5 ++ h → t7 ≡ t6 ++ (10 ∷ [])
+    → t7 ≡ t0 ++ (a ++ (32 ∷ (b ++ (32 ∷ (c ++ (32 ∷ (n ++ (32 ∷ ((120 ∷ h) ++ (10 ∷ []))))))))))
+octets_text t0 t1 t2 t3 t4 t5 t6 t7 a b c n h e1 e2 e3 e4 e5 e6 e7 = rw (e7, e6, e5, e4, e3, e2, e1) (words_joined t0 a b c n h)
+
+-- what follows from what is written where a result is Ok
+pub on_written : {T E : Type 0} (r : Result T E) (new a b : List ℕ) (Q : Type 0) → new ≡ (if is_ok r then a else b) → (new ≡ a → Q) → OnOk r Q
+on_written (Ok v) new a b Q e f = f e
+on_written (Err x) new a b Q e f = tt
