@@ -1,3 +1,4 @@
+pub mod ExplainedLemmas
 pub mod FaultDigits
 pub mod HandedDigits
 pub mod LineDigits

@@ -43,7 +43,7 @@ zero_of n e = eqb-true n 0 e
 some_of : (n : ℕ) → 0 < n → nat_eq n 0 ≡ false
 some_of n h = elim (nat_eq n 0) as (λ b. nat_eq n 0 ≡ b → b ≡ false) [ true ↦ λ e. absurd (omega (arith, h, eqb-true n 0 e)) | false ↦ λ e. refl ] refl
 
-text_append : (n : ℕ) (xs ys : List ExplainLine) → lines_text n (xs ++ ys) ≡ lines_text n xs ++ lines_text (n + bits_of_lines xs) ys
+pub text_append : (n : ℕ) (xs ys : List ExplainLine) → lines_text n (xs ++ ys) ≡ lines_text n xs ++ lines_text (n + bits_of_lines xs) ys
 unfolding lines_text bits_of_lines
 text_append n [] ys = ap (λ (m : ℕ). lines_text m ys) (let z : n ≡ n + 0 = omega arith in z)
 text_append n (x ∷ xs) ys =
@@ -52,7 +52,7 @@ text_append n (x ∷ xs) ys =
       | false ↦ λ z. ap (λ (t : List ℕ). line_text n x ++ t) (text_append (n + bits x) xs ys ∙ ap (λ (m : ℕ). lines_text (n + bits x) xs ++ lines_text m ys) (let z3 : n + bits x + bits_of_lines xs ≡ n + (bits x + bits_of_lines xs) = omega arith in z3)) ∙ sym (append_assoc (line_text n x) (lines_text (n + bits x) xs) (lines_text (n + (bits x + bits_of_lines xs)) ys))
     ] refl
 
-one_text : (n : ℕ) (l : ExplainLine) → nat_eq (bits l) 0 ≡ false → lines_text n (l ∷ []) ≡ line_text n l
+pub one_text : (n : ℕ) (l : ExplainLine) → nat_eq (bits l) 0 ≡ false → lines_text n (l ∷ []) ≡ line_text n l
 unfolding lines_text
 one_text n l e = rw e (append-nil (line_text n l))
 
@@ -121,3 +121,20 @@ octets_text t0 t1 t2 t3 t4 t5 t6 t7 a b c n h e1 e2 e3 e4 e5 e6 e7 = rw (e7, e6,
 pub on_written : {T E : Type 0} (r : Result T E) (new a b : List ℕ) (Q : Type 0) → new ≡ (if is_ok r then a else b) → (new ≡ a → Q) → OnOk r Q
 on_written (Ok v) new a b Q e f = f e
 on_written (Err x) new a b Q e f = tt
+
+pub with_part : (old new a b : List ℕ) → new ≡ old ++ a → a ≡ b → new ≡ old ++ b
+with_part old new a b p e = p ∙ ap (λ (x : List ℕ). old ++ x) e
+
+-- a text in five parts, and in nine
+five_joined : (t a b c d e : List ℕ) → ((((t ++ a) ++ b) ++ c) ++ d) ++ e ≡ t ++ (a ++ (b ++ (c ++ (d ++ e))))
+five_joined t a b c d e = simp append_assoc
+
+pub five_parts : (t0 t1 t2 t3 t4 t5 a b c d e : List ℕ) → t1 ≡ t0 ++ a → t2 ≡ t1 ++ b → t3 ≡ t2 ++ c → t4 ≡ t3 ++ d → t5 ≡ t4 ++ e → t5 ≡ t0 ++ (a ++ (b ++ (c ++ (d ++ e))))
+five_parts t0 t1 t2 t3 t4 t5 a b c d e e1 e2 e3 e4 e5 = rw (e5, e4, e3, e2, e1) (five_joined t0 a b c d e)
+
+nine_joined : (t a b c d e f g h i : List ℕ) → ((((((((t ++ a) ++ b) ++ c) ++ d) ++ e) ++ f) ++ g) ++ h) ++ i ≡ t ++ ((a ++ (b ++ (c ++ (d ++ e)))) ++ (f ++ (g ++ (h ++ i))))
+nine_joined t a b c d e f g h i = simp append_assoc
+
+pub nine_parts : (t0 t1 t2 t3 t4 t5 t6 t7 t8 t9 a b c d e f g h i : List ℕ) → t1 ≡ t0 ++ a → t2 ≡ t1 ++ b → t3 ≡ t2 ++ c → t4 ≡ t3 ++ d → t5 ≡ t4 ++ e → t6 ≡ t5 ++ f → t7 ≡ t6 ++ g → t8 ≡ t7 ++ h → t9 ≡ t8 ++ i
+    → t9 ≡ t0 ++ ((a ++ (b ++ (c ++ (d ++ e)))) ++ (f ++ (g ++ (h ++ i))))
+nine_parts t0 t1 t2 t3 t4 t5 t6 t7 t8 t9 a b c d e f g h i e1 e2 e3 e4 e5 e6 e7 e8 e9 = rw (e9, e8, e7, e6, e5, e4, e3, e2, e1) (nine_joined t0 a b c d e f g h i)

@@ -9,6 +9,7 @@
 //! ```
 #![tactic(auto)]
 
+mod explained;
 mod kind_texts;
 pub mod laws;
 mod lines;
@@ -18,6 +19,7 @@ mod rows;
 pub mod sentences;
 mod walk;
 
+pub use explained::{StreamText, explain_stream, push_frame};
 pub use kind_texts::push_kind;
 pub use lines::Lines;
 pub use rows::{kinds_of, line_of, table};

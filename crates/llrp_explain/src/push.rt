@@ -63,7 +63,7 @@ pub fn push_field(
 }
 
 /// Appends octets in lower-case hexadecimal.
-fn push_hexadecimal(text: &mut Vec<u8>, octets: &[u8]) -> Result<(), AllocError>
+pub(crate) fn push_hexadecimal(text: &mut Vec<u8>, octets: &[u8]) -> Result<(), AllocError>
     ensures { OnOk result (text.new.items ≡ text.old.items ++ encode_lower octets.now) }
 {
     for octet in octets {
