@@ -44,6 +44,7 @@ pub mod PlanTakings
 pub mod PlanTextLemmas
 pub mod ProfileHeard
 pub mod ReadBack
+pub mod RoSpecTexts
 pub mod ReaderSideLemmas
 pub mod ScriptDeciding
 pub mod ScriptEntries

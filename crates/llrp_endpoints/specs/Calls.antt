@@ -6,6 +6,7 @@ pub mod HeardLaws
 pub mod PlanLaws
 pub mod PlanTexts
 pub mod Plans
+pub mod ReadRoSpec
 pub mod ReadScript
 pub mod Script
 pub mod ScriptLaws

@@ -45,7 +45,9 @@ pub use hearing::Hearing;
 pub use inventory::{MOST_LASTING_READS, run_inventory, run_lasting};
 pub use llrp_session::Sighting;
 pub use marks::marked_lines;
-pub use plan::{Plan, PlanErr, PlanFault, checked_plan, standard_plan};
+pub use plan::{
+    LONGEST_ROSPEC_TEXT, Plan, PlanErr, PlanFault, checked_plan, read_rospec, standard_plan,
+};
 pub use script::{Action, Entry, LONGEST_ENTRY, MOST_ENTRIES, Script};
 pub use serve::{run_serve, run_serve_all};
 pub use serving::Serving;

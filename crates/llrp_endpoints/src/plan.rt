@@ -9,6 +9,7 @@ ghost use Rattle.llrp_endpoints.specs.Plan as plan;
 ghost use Rattle.llrp_endpoints.specs.Calls.Plans as plans;
 ghost use Rattle.llrp_endpoints.specs.Calls.PlanLaws.{IsValid};
 
+mod reading;
 mod standard;
 mod text;
 
@@ -18,6 +19,7 @@ use crate::hearing::Hearing;
 use llrp_schema::KindSet;
 use llrp_session::{field, first};
 use llrp_tree::{Node, ParamKind};
+pub use reading::{LONGEST_ROSPEC_TEXT, read_rospec};
 pub(crate) use standard::leaf;
 pub use standard::{checked_plan, standard_plan};
 use std::marker::Model;
