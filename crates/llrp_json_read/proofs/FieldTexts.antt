@@ -15,8 +15,8 @@ use Rattle.llrp_schema.specs.declared.kinds.Field.{Field}
 use Rattle.llrp_schema.specs.Schema.{FieldRule}
 use Rattle.llrp_schema.specs.Calls.Schema.{field_rule}
 use Rattle.tag_uri.proofs.UriLemmas.{left, right}
-use Rattle.llrp_json_read.specs.Calls.ObjectSays.{SaysField, SaysFields, SaysNumber, text_in}
-use Rattle.llrp_json_read.specs.Calls.ObjectRefused.{Refused, RefusesField, RefusesFields, RefusesText, at_member}
+use Rattle.llrp_json_read.specs.ObjectSays.{SaysField, SaysFields, SaysNumber, text_in}
+use Rattle.llrp_json_read.specs.ObjectRefused.{Refused, RefusesField, RefusesFields, RefusesText, at_member}
 use Rattle.llrp_json_read.specs.Private.Words.{is_greatest, is_readable, plain}
 
 pub said_length : (rules : List FieldRule) (j : Json) (ns : List ℕ) → SaysFields rules j ns → length ns ≡ length rules

@@ -1,5 +1,5 @@
 -- The kind that a member names.
-use Rattle.std.proofs.Common.{◌≡◌, ℕ, List, Option, Some, None, true, false, inl, inr, refl, sym, ap, ◌∙◌}
+use Rattle.std.proofs.Common.{◌≡◌, ℕ, List, Option, Some, None, true, inr, sym, ap, ◌∙◌}
 use Rattle.std.specs.Prelude.{codes, is_some, option_and_then, option_map}
 use Rattle.json.specs.Find.{as_object, as_str, get}
 use Rattle.json.specs.Json.{Json, Members}
@@ -12,8 +12,8 @@ use Rattle.llrp_schema.specs.Schema.{name_of, set_of_kind}
 use Rattle.llrp_schema.specs.Calls.Schema.{message_named_in, param_named_in}
 use Rattle.llrp_schema.proofs.TableLaws.{message_name_found, param_name_found}
 use Rattle.llrp_json_read.specs.declared.refusal.Reason.TheVariants as reason
-use Rattle.llrp_json_read.specs.Calls.ObjectSays.{IsOfKind}
-use Rattle.llrp_json_read.specs.Calls.ObjectRefused.{IsMessage, IsParameter, Refused, RefusesKind, at_member}
+use Rattle.llrp_json_read.specs.ObjectSays.{IsOfKind}
+use Rattle.llrp_json_read.specs.ObjectRefused.{IsMessage, IsParameter, Refused, RefusesKind, at_member}
 
 pub object_there : {X : Type 0} (f : X → Members) (o : Option X) (j : Json) → option_map f o ≡ as_object j → is_some o ≡ true → (ms : Members) × (as_object j ≡ Some ms)
 object_there f (Some x) j e some = (f x, sym e)

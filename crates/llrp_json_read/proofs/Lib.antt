@@ -1,11 +1,15 @@
 pub mod FieldTexts
 pub mod KindNames
+pub mod LineRuns
 pub mod LineSteps
 pub mod MemberFaults
 pub mod MemberLemmas
 pub mod MessageSteps
 pub mod NumberTexts
+pub mod OneMessage
 pub mod Parameters
 pub mod ReadableFields
+pub mod RefusedSaysNone
+pub mod RunSteps
 pub mod SignedTexts
 pub mod WordTexts

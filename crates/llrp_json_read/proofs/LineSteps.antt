@@ -1,5 +1,5 @@
 -- What the value of a line shows of the line.
-use Rattle.std.proofs.Common.{◌≡◌, ℕ, inl, inr, List, Some}
+use Rattle.std.proofs.Common.{◌≡◌, ℕ, inr, List, Some}
 use Rattle.std.specs.Prelude.{Result, Ok, Err, MatchResult}
 use Rattle.std.specs.Str.{IsUtf8}
 use Rattle.json.specs.Json.{Json, document}
@@ -7,9 +7,9 @@ use Rattle.llrp_schema.specs.declared.kinds.KindSet.{KindSet}
 use Rattle.llrp_tree.specs.Tree.{MessageTree}
 use Rattle.llrp_json_read.specs.declared.refusal.ReadErr.{ReadErr}
 use Rattle.llrp_json_read.specs.Calls.ReadErrors.{IsReadErr}
-use Rattle.llrp_json_read.specs.Calls.JsonLine.{RefusesLine, SaysLine}
-use Rattle.llrp_json_read.specs.Calls.ObjectSays.{SaysMessage}
-use Rattle.llrp_json_read.specs.Calls.ObjectRefused.{RefusesMessage}
+use Rattle.llrp_json_read.specs.JsonLine.{RefusesLine, SaysLine}
+use Rattle.llrp_json_read.specs.ObjectSays.{SaysMessage}
+use Rattle.llrp_json_read.specs.ObjectRefused.{RefusesMessage}
 use Rattle.llrp_json_read.proofs.Parameters.{as_error}
 
 pub line_said : (p : KindSet) (line : List ℕ) (j : Json) (result : Result MessageTree ReadErr) → IsUtf8 line → document line ≡ Some j → MatchResult result (SaysMessage p j) (IsReadErr (RefusesMessage p j)) → MatchResult result (SaysLine p line) (IsReadErr (RefusesLine p line))

@@ -1,11 +1,11 @@
 -- The members of an object, one by one.
-use Rattle.std.proofs.Common.{◌≡◌, ℕ, Bool, false, true, cond, List, ◌∷◌, Some, refl, sym, ap, ◌∙◌}
+use Rattle.std.proofs.Common.{◌≡◌, ℕ, Bool, false, true, cond, List, ◌∷◌, Some, sym, ap, ◌∙◌}
 use Rattle.std.specs.Prelude.{bytes_eq, not}
 use Rattle.std.specs.Borrow.{Bor}
 use Rattle.std.specs.List.{list_any}
 use Rattle.json.specs.Value.{members_view}
 use Rattle.json.specs.declared.value.Value.{Value}
-use Rattle.llrp_json_read.specs.Calls.ObjectMembers.{MemberRule, unknown}
+use Rattle.llrp_json_read.specs.ObjectMembers.{MemberRule, unknown}
 
 member_next : {A : Type 0} (m : Bor (List ℕ) × Value A) (ms : List (Bor (List ℕ) × Value A)) (rules : List MemberRule) (known : Bool) → known ≡ list_any (λ rule. bytes_eq rule.name m.0.now) rules
     → unknown (members_view (m ∷ ms)) rules ≡ cond (not known) (Some m.0.now) (unknown (members_view ms) rules)

@@ -1,5 +1,5 @@
 -- What a value says of a message, and why it says none.
-use Rattle.std.proofs.Common.{◌≡◌, ℕ, inl, inr, List, Some, refl, sym, subst}
+use Rattle.std.proofs.Common.{◌≡◌, ℕ, inl, inr, List, Some, sym, subst}
 use Rattle.std.specs.Prelude.{None, Result, Ok, Err, MatchResult, codes}
 use Rattle.json.specs.Find.{as_object}
 use Rattle.json.specs.Json.{Json, Members}
@@ -17,10 +17,10 @@ use Rattle.llrp_listing.specs.NodeLine.{Version, Id}
 use Rattle.llrp_json_read.specs.declared.refusal.ReadErr.{ReadErr}
 use Rattle.llrp_json_read.specs.declared.refusal.Reason.TheVariants as reason
 use Rattle.llrp_json_read.specs.Calls.ReadErrors.{IsReadErr}
-use Rattle.llrp_json_read.specs.Calls.MemberRules.{member_rules}
-use Rattle.llrp_json_read.specs.Calls.ObjectMembers.{member_fault}
-use Rattle.llrp_json_read.specs.Calls.ObjectSays.{IsOfKind, SaysEach, SaysFields, SaysMessage, SaysNumber, SaysParameter, SaysParts, SaysTail, below}
-use Rattle.llrp_json_read.specs.Calls.ObjectRefused.{IsMessage, Refused, RefusesEach, RefusesKind, RefusesMessage, RefusesOwnMessage, RefusesParameter, RefusesStart, RefusesValues, whole}
+use Rattle.llrp_json_read.specs.MemberRules.{member_rules}
+use Rattle.llrp_json_read.specs.ObjectMembers.{member_fault}
+use Rattle.llrp_json_read.specs.ObjectSays.{IsOfKind, SaysEach, SaysFields, SaysMessage, SaysNumber, SaysParameter, SaysTail, below}
+use Rattle.llrp_json_read.specs.ObjectRefused.{IsMessage, RefusesEach, RefusesKind, RefusesMessage, RefusesOwnMessage, RefusesParameter, RefusesStart, RefusesValues, whole}
 use Rattle.llrp_json_read.specs.Private.Words.{MessageParts}
 use Rattle.llrp_json_read.proofs.Parameters.{FaultAt, as_error}
 

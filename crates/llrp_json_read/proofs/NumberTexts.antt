@@ -1,16 +1,15 @@
 -- The texts of members that say numbers.
-use Rattle.std.proofs.Common.{◌≡◌, ℕ, ◌-◌, ◌<◌, ◌≤◌, ◌^◌, inl, inr, List, Option, Some, None, refl, sym, ap, ◌∙◌, subst, arith, decimal}
+use Rattle.std.proofs.Common.{◌≡◌, ℕ, ◌<◌, ◌^◌, inl, inr, List, Some, None, refl, sym, ◌∙◌, subst, arith, decimal}
 use Rattle.std.proofs.lemmas.Fmt.{decimal_injective}
 use Rattle.json.specs.Json.{Json}
 use Rattle.tag_uri.specs.declared.fault.UriFault.{UriFault}
-use Rattle.tag_uri.specs.TagText.{HasTextFault, IsTextOf}
+use Rattle.tag_uri.specs.TagText.{HasTextFault}
 use Rattle.tag_uri.proofs.TextLaws.{text_or_fault}
-use Rattle.llrp_listing.specs.NodeLine.{NumberForm, Version, Id, Unsigned, Signed, Epc, IsNumberText}
+use Rattle.llrp_listing.specs.NodeLine.{NumberForm, Version, Epc, IsNumberText}
 use Rattle.llrp_listing.specs.LineChecks.{IsInForm}
-use Rattle.llrp_json_read.specs.declared.refusal.Reason.{Reason}
 use Rattle.llrp_json_read.specs.declared.refusal.Reason.TheVariants as why
-use Rattle.llrp_json_read.specs.Calls.ObjectSays.{SaysNumber, text_in}
-use Rattle.llrp_json_read.specs.Calls.ObjectRefused.{RefusesText}
+use Rattle.llrp_json_read.specs.ObjectSays.{SaysNumber, text_in}
+use Rattle.llrp_json_read.specs.ObjectRefused.{RefusesText}
 
 -- a member that has no text of the form's type says no number
 pub no_text_says_none : (form : NumberForm) (name : List ℕ) (j : Json) → text_in form name j ≡ None → (n : ℕ) → SaysNumber form name j n → ⊥

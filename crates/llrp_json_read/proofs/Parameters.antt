@@ -1,7 +1,7 @@
 -- What a value says of a parameter, and why it says none.
-use Rattle.std.proofs.Common.{◌≡◌, ℕ, zero, suc, ◌+◌, ◌-◌, ◌<◌, ◌≤◌, inl, inr, List, [], ◌∷◌, ◌++◌, length, None, Some, Option, refl, sym, ap, subst, ◌∙◌, arith, append_assoc, length-append}
+use Rattle.std.proofs.Common.{◌≡◌, ℕ, zero, suc, ◌-◌, ◌<◌, inl, inr, List, [], ◌∷◌, ◌++◌, length, None, Some, Option, sym, ap, subst, ◌∙◌, arith, append_assoc, length-append}
 use Rattle.std.proofs.lemmas.List.{append-nil}
-use Rattle.std.specs.Prelude.{Result, Ok, Err, MatchResult, option_and_then, option_map, unwrap_or, codes}
+use Rattle.std.specs.Prelude.{Result, Ok, Err, MatchResult, option_and_then, unwrap_or, codes}
 use Rattle.json.specs.Find.{as_array, as_object, get}
 use Rattle.json.specs.Json.{Json, Items, no_items, item, Members}
 use Rattle.llrp_schema.specs.declared.kinds.Kind.{Kind}
@@ -12,7 +12,7 @@ use Rattle.llrp_schema.specs.Schema.{plain_fields_of, tail_of}
 use Rattle.llrp_tree.specs.declared.node.NodeFault.{NodeFault}
 use Rattle.llrp_tree.specs.Checks.{first_fault}
 use Rattle.llrp_tree.specs.Lawful.{IsLawfulTree}
-use Rattle.llrp_tree.specs.Tree.{Forest, Tree, forest, trees}
+use Rattle.llrp_tree.specs.Tree.{Tree, forest}
 use Rattle.llrp_tree.proofs.TreeLemmas.{trees-forest}
 use Rattle.llrp_json_read.specs.declared.refusal.ReadErr.{ReadErr}
 use Rattle.llrp_json_read.specs.declared.refusal.ReadErr.TheVariants as error
@@ -20,10 +20,10 @@ use Rattle.llrp_json_read.specs.declared.refusal.Reason.{Reason}
 use Rattle.llrp_json_read.specs.declared.refusal.Reason.TheVariants as reason
 use Rattle.llrp_json_read.specs.Calls.ReadErrors.{IsReadErr, told}
 use Rattle.llrp_json_read.specs.Private.Words.{IsMoved}
-use Rattle.llrp_json_read.specs.Calls.MemberRules.{member_rules}
-use Rattle.llrp_json_read.specs.Calls.ObjectMembers.{member_fault}
-use Rattle.llrp_json_read.specs.Calls.ObjectSays.{IsOfKind, SaysEach, SaysFields, SaysParameter, SaysParts, SaysTail, below}
-use Rattle.llrp_json_read.specs.Calls.ObjectRefused.{IsParameter, Refused, RefusesEach, RefusesKind, RefusesOwnParts, RefusesParameter, RefusesValues, at_member, at_place, whole}
+use Rattle.llrp_json_read.specs.MemberRules.{member_rules}
+use Rattle.llrp_json_read.specs.ObjectMembers.{member_fault}
+use Rattle.llrp_json_read.specs.ObjectSays.{IsOfKind, SaysEach, SaysFields, SaysParameter, SaysParts, SaysTail, below}
+use Rattle.llrp_json_read.specs.ObjectRefused.{IsParameter, Refused, RefusesEach, RefusesKind, RefusesOwnParts, RefusesParameter, RefusesValues, at_member, at_place, whole}
 
 -- what errors say, by what each reason shows
 pub as_error : (P Q : Refused → Type 0) (e : ReadErr) → ((r : Refused) → P r → Q r) → IsReadErr P e → IsReadErr Q e

@@ -1,5 +1,5 @@
 -- The tables' fields can be read.
-use Rattle.std.proofs.Common.{◌≡◌, true, refl, List}
+use Rattle.std.proofs.Common.{◌≡◌, true, refl}
 use Rattle.std.specs.List.{list_all}
 use Rattle.llrp_schema.specs.declared.kinds.Kind.{Kind}
 use Rattle.llrp_schema.specs.Schema.{fields_of, message_kinds, message_rule, param_kinds, param_rule, plain_fields_of, rule_of, whole_message_kinds, whole_param_kinds}

@@ -1,10 +1,10 @@
 -- Arrays of words.
-use Rattle.std.proofs.Common.{◌≡◌, ℕ, ◌+◌, ◌-◌, ◌*◌, ◌^◌, ◌<◌, ◌≤◌, inl, inr, List, [], ◌∷◌, ◌++◌, length, Option, Some, None, refl, sym, ap, subst, ◌∙◌, arith, decimal, length-append}
+use Rattle.std.proofs.Common.{◌≡◌, ℕ, ◌+◌, ◌-◌, ◌*◌, ◌^◌, ◌<◌, ◌≤◌, List, [], ◌∷◌, ◌++◌, length, Some, refl, sym, ap, subst, ◌∙◌, arith, decimal, length-append}
 use Rattle.json.specs.Find.{as_number}
 use Rattle.json.specs.Json.{Json, null, boolean, number, string, array, object, Items, no_items, item}
 use Rattle.llrp_tree.specs.Lawful.{AreOctets}
 use Rattle.llrp_tree.specs.Tree.{words_of}
-use Rattle.llrp_json_read.specs.Calls.ObjectSays.{numbers}
+use Rattle.llrp_json_read.specs.ObjectSays.{numbers}
 use Rattle.llrp_json_read.specs.Private.Words.{AppendsNumber, IsNoNumber, SaysWords, numbers_before}
 use Rattle.llrp_listing.proofs.TailWords.{AreSmall, words_small}
 

@@ -1,2 +1,9 @@
 pub mod Calls
+pub mod JsonLine
+pub mod LinesRead
+pub mod MemberRules
+pub mod ObjectMembers
+pub mod ObjectRefused
+pub mod ObjectSays
+pub mod Path
 pub mod Private

@@ -4,7 +4,7 @@ ghost use Rattle.std.specs.Prelude.{◌≡◌, ◌++◌, ℕ, List, IfErr, Match
 ghost use Rattle.llrp_tree.specs.Frame.{Frame};
 ghost use Rattle.llrp_tree.specs.Tree.{MessageTree};
 ghost use Rattle.llrp_json_read.specs.Calls.ReadErrors.{IsReadErr};
-ghost use Rattle.llrp_json_read.specs.Calls.JsonLine.{RefusesLine, RefusesLineWithin, SaysLine};
+ghost use Rattle.llrp_json_read.specs.JsonLine.{RefusesLine, RefusesLineWithin, SaysLine};
 
 use crate::messages::read_message;
 use crate::refusal::{ReadErr, Reason, whole};

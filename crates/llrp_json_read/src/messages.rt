@@ -6,8 +6,8 @@ ghost use Rattle.llrp_tree.specs.Checks.{first_message_fault};
 ghost use Rattle.llrp_tree.specs.Lawful.{IsLawfulMessage};
 ghost use Rattle.llrp_tree.specs.Tree.{forest};
 ghost use Rattle.llrp_json_read.specs.Calls.ReadErrors.{IsReadErr};
-ghost use Rattle.llrp_json_read.specs.Calls.ObjectRefused.{RefusesMessage, RefusesOwnMessage, whole};
-ghost use Rattle.llrp_json_read.specs.Calls.ObjectSays.{SaysMessage};
+ghost use Rattle.llrp_json_read.specs.ObjectRefused.{RefusesMessage, RefusesOwnMessage, whole};
+ghost use Rattle.llrp_json_read.specs.ObjectSays.{SaysMessage};
 ghost use Rattle.llrp_json_read.specs.Private.Words.{MessageParts};
 
 use crate::nodes::{check_members, message_kind, read_below, read_start, read_values};

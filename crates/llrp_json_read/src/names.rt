@@ -3,7 +3,7 @@
 ghost use Rattle.std.specs.Prelude.{◌≡◌, bytes_eq, map, option_map};
 ghost use Rattle.std.specs.List.{list_any};
 ghost use Rattle.json.specs.Value.{items_view, members_view, value_view};
-ghost use Rattle.llrp_json_read.specs.Calls.ObjectMembers.{are_whole, count_of, has_shape, is_integer, is_whole, member_fault, missing, mistyped, name_in, twice, unknown};
+ghost use Rattle.llrp_json_read.specs.ObjectMembers.{are_whole, count_of, has_shape, is_integer, is_whole, member_fault, missing, mistyped, name_in, twice, unknown};
 ghost use Rattle.llrp_json_read.specs.Private.Words.{member_rule};
 
 use crate::refusal::Reason;
@@ -14,7 +14,7 @@ pub(crate) type Member<'a> = (&'a str, Value<'a>);
 
 /// What the value of a member is.
 #[derive(Clone, Copy, Debug, Default, PartialEq, Eq)]
-pub(crate) enum Shape {
+pub enum Shape {
     /// A string.
     #[default]
     Text,

@@ -10,10 +10,10 @@ ghost use Rattle.llrp_tree.specs.Tree.{forest};
 ghost use Rattle.llrp_tree.specs.Lawful.{IsLawfulTree};
 ghost use Rattle.llrp_listing.specs.NodeLine.{Version, Id};
 ghost use Rattle.llrp_json_read.specs.Calls.ReadErrors.{IsReadErr};
-ghost use Rattle.llrp_json_read.specs.Calls.MemberRules.{member_rules};
-ghost use Rattle.llrp_json_read.specs.Calls.ObjectMembers.{member_fault};
-ghost use Rattle.llrp_json_read.specs.Calls.ObjectRefused.{IsMessage, IsParameter, RefusesEach, RefusesKind, RefusesName, RefusesOwnParts, RefusesParameter, RefusesStart, RefusesValues, at_member, whole};
-ghost use Rattle.llrp_json_read.specs.Calls.ObjectSays.{IsOfKind, SaysEach, SaysFields, SaysNumber, SaysParameter, SaysParts, SaysTail, below};
+ghost use Rattle.llrp_json_read.specs.MemberRules.{member_rules};
+ghost use Rattle.llrp_json_read.specs.ObjectMembers.{member_fault};
+ghost use Rattle.llrp_json_read.specs.ObjectRefused.{IsMessage, IsParameter, RefusesEach, RefusesKind, RefusesName, RefusesOwnParts, RefusesParameter, RefusesStart, RefusesValues, at_member, whole};
+ghost use Rattle.llrp_json_read.specs.ObjectSays.{IsOfKind, SaysEach, SaysFields, SaysNumber, SaysParameter, SaysParts, SaysTail, below};
 
 use crate::members::{array_of, members_of};
 use crate::names::member_fault;

@@ -6,8 +6,8 @@ ghost use Rattle.json.specs.Value.{value_view};
 ghost use Rattle.llrp_schema.specs.Calls.Schema.{field_rule};
 ghost use Rattle.llrp_listing.specs.NodeLine.{Version, Id, Unsigned, Signed, Epc, field_form, signed_text};
 ghost use Rattle.llrp_json.specs.JsonItems.{field_name};
-ghost use Rattle.llrp_json_read.specs.Calls.ObjectSays.{SaysField, SaysFields, SaysNumber, text_in};
-ghost use Rattle.llrp_json_read.specs.Calls.ObjectRefused.{RefusesField, RefusesFields, RefusesText, at_member};
+ghost use Rattle.llrp_json_read.specs.ObjectSays.{SaysField, SaysFields, SaysNumber, text_in};
+ghost use Rattle.llrp_json_read.specs.ObjectRefused.{RefusesField, RefusesFields, RefusesText, at_member};
 ghost use Rattle.std.specs.List.{list_all};
 ghost use Rattle.llrp_json_read.specs.Private.Words.{is_readable, plain};
 

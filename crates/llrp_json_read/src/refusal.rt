@@ -1,9 +1,10 @@
 //! Why a line is refused, and where.
 
-ghost use Rattle.std.specs.Prelude.{◌≡◌};
+ghost use Rattle.std.specs.Prelude.{◌≡◌, ◌++◌};
 ghost use Rattle.llrp_json_read.specs.Calls.ReadErrors.{told};
+ghost use Rattle.llrp_json_read.specs.Path.{reason_name};
 ghost use Rattle.llrp_json_read.specs.Private.Words.{IsMoved};
-ghost use Rattle.llrp_json_read.specs.Calls.ObjectRefused.{at_member, whole};
+ghost use Rattle.llrp_json_read.specs.ObjectRefused.{at_member, whole};
 ghost use Rattle.llrp_json_read.specs.declared.refusal.ReadErr.TheVariants.{Memory};
 
 use llrp_tree::NodeFault;
@@ -13,6 +14,8 @@ use tag_uri::UriFault;
 /// Why a line is refused; the first reason in this order that applies to an object.
 #[derive(Clone, Copy, Debug, PartialEq, Eq)]
 pub enum Reason {
+    /// The line is longer than 64 times what a message may have.
+    Line,
     /// It is not one text of JSON.
     Json,
     /// A member that objects of its kind do not have.
@@ -35,6 +38,27 @@ pub enum Reason {
     OverLimit,
 }
 
+impl Reason {
+    /// The words that an error line has for it: its own name and, if it has a fault inside, that fault's.
+    pub fn names(self) -> (&'static str, &'static str)
+        ensures { result.0.now ++ result.1.now ≡ reason_name self }
+    {
+        match self {
+            Reason::Line => ("Line", ""),
+            Reason::Json => ("Json", ""),
+            Reason::Unknown => ("Unknown", ""),
+            Reason::Missing => ("Missing", ""),
+            Reason::Twice => ("Twice", ""),
+            Reason::Mistyped => ("Mistyped", ""),
+            Reason::Name => ("Name", ""),
+            Reason::Value => ("Value", ""),
+            Reason::Epc(fault) => llrp_listing::Refusal::Epc(fault).names(),
+            Reason::Node(fault) => llrp_listing::Refusal::Node(fault).names(),
+            Reason::OverLimit => ("OverLimit", ""),
+        }
+    }
+}
+
 /// Where a value is refused, and why.
 #[derive(Debug, Drop)]
 pub struct Refusal<'a> {
@@ -43,6 +67,18 @@ pub struct Refusal<'a> {
     pub places: Vec<usize>,
     /// The member of the object at which it is refused, if it is at one.
     pub member: Option<&'a str>,
+    /// The reason.
+    pub reason: Reason,
+}
+
+/// A line that is refused.
+#[derive(Debug, Drop)]
+pub struct RefusedLine {
+    /// Its number, counted from 1.
+    pub number: u64,
+    /// The path of the member at which it is refused, as `parameters[1].AntennaID`; of an object, if it is at no member; empty if it is
+    /// the line as a whole. A character of a name that is not printable ASCII is `\u` and four digits for each unit of UTF-16.
+    pub path: Vec<u8>,
     /// The reason.
     pub reason: Reason,
 }

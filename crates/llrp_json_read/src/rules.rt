@@ -4,10 +4,10 @@ ghost use Rattle.std.specs.Prelude.{◌≡◌, ◌+◌, ◌≤◌, ◌∷◌, �
 ghost use Rattle.arrayvec.specs.ArrayVec.{array_vec_len};
 ghost use Rattle.llrp_schema.specs.Calls.Schema.{field_rule};
 ghost use Rattle.llrp_json.specs.JsonItems.{field_name};
-ghost use Rattle.llrp_json_read.specs.Calls.MemberRules.{field_member, first_rules, member_rules, needed, tail_rules};
+ghost use Rattle.llrp_json_read.specs.MemberRules.{field_member, first_rules, member_rules, needed, tail_rules};
 ghost use Rattle.llrp_json_read.specs.Private.Words.{field_members};
 ghost use Rattle.llrp_json_read.specs.Private.Words.{member_rule};
-ghost use Rattle.llrp_json_read.specs.Calls.ObjectRefused.{tail_member};
+ghost use Rattle.llrp_json_read.specs.ObjectRefused.{tail_member};
 
 use crate::names::{ObjectMember, Shape};
 use arrayvec::ArrayVec;
@@ -95,7 +95,7 @@ fn push_tail(rules: &mut ArrayVec<ObjectMember, 17>, form: Tail)
 }
 
 /// The members of an object of a kind, in the order in which `show` writes them.
-#[tactic(auto, unfolding(crate::specs::Calls::MemberRules::member_rules))]
+#[tactic(auto, unfolding(crate::specs::MemberRules::member_rules))]
 pub(crate) fn member_rules(kind: Kind) -> ArrayVec<ObjectMember, 17>
     ensures { map member_rule result.items ≡ member_rules kind }
 {

@@ -9,8 +9,8 @@ ghost use Rattle.json.specs.Value.{items_view, value_view};
 ghost use Rattle.llrp_tree.specs.Lawful.{AreOctets};
 ghost use Rattle.llrp_tree.specs.Tree.{words_of};
 ghost use Rattle.llrp_listing.specs.LineChecks.{IsTailOf};
-ghost use Rattle.llrp_json_read.specs.Calls.ObjectSays.{SaysTail, numbers};
-ghost use Rattle.llrp_json_read.specs.Calls.ObjectRefused.{tail_member};
+ghost use Rattle.llrp_json_read.specs.ObjectSays.{SaysTail, numbers};
+ghost use Rattle.llrp_json_read.specs.ObjectRefused.{tail_member};
 ghost use Rattle.llrp_json_read.specs.Private.Words.{AppendsNumber, AreDigitsOf, IsNoNumber, SaysWords, has_capital};
 ghost use Rattle.llrp_schema.specs.declared.kinds.Tail.TheVariants.{Words};
 

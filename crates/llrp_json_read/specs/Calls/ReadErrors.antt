@@ -3,7 +3,7 @@ use Rattle.std.specs.Prelude.{option_map}
 use Rattle.llrp_json_read.specs.declared.refusal.ReadErr.{ReadErr}
 use Rattle.llrp_json_read.specs.declared.refusal.ReadErr.TheVariants as error
 use Rattle.llrp_json_read.specs.declared.refusal.Refusal.{Refusal}
-use Rattle.llrp_json_read.specs.Calls.ObjectRefused.{Refused}
+use Rattle.llrp_json_read.specs.ObjectRefused.{Refused}
 
 -- what a refusal says
 abbrev pub told : Refusal → Refused

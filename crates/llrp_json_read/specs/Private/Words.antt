@@ -2,7 +2,7 @@
 use Rattle.llrp_json_read.specs.declared.names.ObjectMember.{ObjectMember}
 use Rattle.llrp_json_read.specs.declared.refusal.ReadErr.{ReadErr}
 use Rattle.llrp_json_read.specs.declared.refusal.ReadErr.TheVariants as error
-use Rattle.llrp_json_read.specs.Calls.ObjectRefused.{at_place}
+use Rattle.llrp_json_read.specs.ObjectRefused.{at_place}
 use Rattle.llrp_json_read.specs.Calls.ReadErrors.{told}
 use Rattle.std.specs.Prelude.{◌≡◌, ℕ, ◌+◌, ◌-◌, ◌*◌, ◌^◌, ◌<◌, ◌==◌, nat_le, nat_lt, not, ◌&&◌, Bool, false, List, [], ◌∷◌, ◌++◌, Some, codes, decimal, filter, map}
 use Rattle.std.specs.List.{list_any}
@@ -12,9 +12,9 @@ use Rattle.json.specs.Json.{Json, number, Items, item}
 use Rattle.llrp_schema.specs.declared.kinds.Tail.TheVariants.{Words}
 use Rattle.llrp_tree.specs.Lawful.{AreOctets}
 use Rattle.llrp_tree.specs.Tree.{words_of}
-use Rattle.llrp_json_read.specs.Calls.MemberRules.{field_member}
-use Rattle.llrp_json_read.specs.Calls.ObjectMembers.{MemberRule}
-use Rattle.llrp_json_read.specs.Calls.ObjectSays.{SaysNumber, SaysParts, numbers}
+use Rattle.llrp_json_read.specs.MemberRules.{field_member}
+use Rattle.llrp_json_read.specs.ObjectMembers.{MemberRule}
+use Rattle.llrp_json_read.specs.ObjectSays.{SaysNumber, SaysParts, numbers}
 use Rattle.llrp_schema.specs.declared.kinds.Kind.TheVariants.{Message}
 use Rattle.llrp_schema.specs.declared.kinds.KindSet.{KindSet}
 use Rattle.llrp_schema.specs.declared.kinds.MsgKind.{MsgKind}

@@ -1,6 +1,6 @@
 use Rattle.std.proofs.Common.{◌≡◌, drop}
 use Rattle.json.specs.Value.{items_view}
-use Rattle.llrp_json_read.specs.Calls.ObjectMembers.{are_whole}
+use Rattle.llrp_json_read.specs.ObjectMembers.{are_whole}
 use Rattle.llrp_json_read.proofs.names.are_whole.Given as goal
 
 abbrev pub invariant-loop-value : goal.invariant-loop-value

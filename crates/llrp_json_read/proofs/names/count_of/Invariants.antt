@@ -1,6 +1,6 @@
 use Rattle.std.proofs.Common.{◌≡◌, ◌+◌, ◌≤◌, drop}
 use Rattle.json.specs.Value.{members_view}
-use Rattle.llrp_json_read.specs.Calls.ObjectMembers.{count_of}
+use Rattle.llrp_json_read.specs.ObjectMembers.{count_of}
 use Rattle.llrp_json_read.proofs.names.count_of.Given as goal
 
 abbrev pub invariant-loop-member : goal.invariant-loop-member

@@ -1,7 +1,7 @@
 use Rattle.std.proofs.Common.{◌≡◌, drop}
 use Rattle.std.specs.Prelude.{map}
 use Rattle.json.specs.Value.{value_view}
-use Rattle.llrp_json_read.specs.Calls.ObjectMembers.{mistyped}
+use Rattle.llrp_json_read.specs.ObjectMembers.{mistyped}
 use Rattle.llrp_json_read.specs.Private.Words.{member_rule}
 use Rattle.llrp_json_read.proofs.names.first_mistyped.Given as goal
 

@@ -1,7 +1,7 @@
 use Rattle.std.proofs.Common.{◌≡◌, drop}
 use Rattle.std.specs.Prelude.{map}
 use Rattle.json.specs.Value.{members_view}
-use Rattle.llrp_json_read.specs.Calls.ObjectMembers.{twice}
+use Rattle.llrp_json_read.specs.ObjectMembers.{twice}
 use Rattle.llrp_json_read.specs.Private.Words.{member_rule}
 use Rattle.llrp_json_read.proofs.names.first_twice.Given as goal
 

@@ -2,7 +2,7 @@ use Rattle.std.proofs.Common.{◌≡◌, ◌+◌, false, true, ◌∷◌, drop, 
 use Rattle.std.specs.Prelude.{map}
 use Rattle.std.proofs.lemmas.List.{drop_more}
 use Rattle.json.specs.Value.{members_view}
-use Rattle.llrp_json_read.specs.Calls.ObjectMembers.{unknown}
+use Rattle.llrp_json_read.specs.ObjectMembers.{unknown}
 use Rattle.llrp_json_read.specs.Private.Words.{member_rule}
 use Rattle.llrp_json_read.proofs.MemberLemmas.{known_here, unknown_here}
 use Rattle.llrp_json_read.proofs.names.first_unknown.Goals as goal

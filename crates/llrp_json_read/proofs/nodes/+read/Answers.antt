@@ -1,8 +1,8 @@
 use Rattle.std.proofs.Common.{◌≡◌, ◌+◌, ℕ, List, [], ◌∷◌, drop, sym, ap, subst, ◌∙◌, arith}
 use Rattle.std.proofs.lemmas.List.{drop_all, drop_more}
 use Rattle.json.specs.Value.{items_view, value_view}
-use Rattle.llrp_json_read.specs.Calls.ObjectRefused.{RefusesParameter}
-use Rattle.llrp_json_read.specs.Calls.ObjectSays.{SaysEach, SaysParameter}
+use Rattle.llrp_json_read.specs.ObjectRefused.{RefusesParameter}
+use Rattle.llrp_json_read.specs.ObjectSays.{SaysEach, SaysParameter}
 use Rattle.llrp_json_read.proofs.Parameters.{EachRead, IsMade, all_read, below_refused, made, one_more, one_refused, own_refused}
 use Rattle.llrp_json_read.proofs.nodes.+read.Goals as goal
 

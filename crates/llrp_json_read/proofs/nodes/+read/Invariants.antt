@@ -1,7 +1,7 @@
 use Rattle.std.proofs.Common.{◌+◌, ◌*◌, drop}
 use Rattle.json.specs.Value.{items_view}
-use Rattle.llrp_json_read.specs.Calls.ObjectRefused.{RefusesParameter}
-use Rattle.llrp_json_read.specs.Calls.ObjectSays.{SaysParameter}
+use Rattle.llrp_json_read.specs.ObjectRefused.{RefusesParameter}
+use Rattle.llrp_json_read.specs.ObjectSays.{SaysParameter}
 use Rattle.llrp_json_read.proofs.Parameters.{EachRead}
 use Rattle.llrp_json_read.proofs.nodes.+read.Given as goal
 

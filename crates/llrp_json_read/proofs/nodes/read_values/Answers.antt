@@ -1,4 +1,4 @@
-use Rattle.std.proofs.Common.{◌≡◌, ◌≤◌, true, List, length, sym, ap, subst}
+use Rattle.std.proofs.Common.{◌≡◌, ◌≤◌, true, List, length, sym, subst}
 use Rattle.std.specs.List.{list_all}
 use Rattle.llrp_schema.specs.Schema.{FieldRule}
 use Rattle.llrp_schema.proofs.TableLaws.{few_plain_fields}

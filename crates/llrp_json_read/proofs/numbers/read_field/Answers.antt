@@ -1,6 +1,6 @@
 use Rattle.json.specs.Value.{value_view}
 use Rattle.llrp_schema.specs.Calls.Schema.{field_rule}
-use Rattle.llrp_json_read.proofs.FieldTexts.{as_epc, as_signed, as_unsigned, small_greatest}
+use Rattle.llrp_json_read.proofs.FieldTexts.{as_epc, as_signed, as_unsigned}
 use Rattle.llrp_json_read.proofs.numbers.read_field.Goals as goal
 
 pub returns-then-rule-eq-EPC_BITS : goal.returns-then-rule-eq-EPC_BITS

@@ -1,4 +1,4 @@
-use Rattle.std.proofs.Common.{sym, ap, ◌∙◌, arith}
+use Rattle.std.proofs.Common.{ap, ◌∙◌, arith}
 use Rattle.json.specs.Value.{value_view}
 use Rattle.llrp_json_read.specs.Private.Words.{is_readable}
 use Rattle.llrp_json_read.proofs.FieldTexts.{field_fits, field_passes, field_refused, field_said, fields_all, reserved_kept}

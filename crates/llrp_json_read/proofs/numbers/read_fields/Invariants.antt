@@ -2,7 +2,7 @@ use Rattle.std.proofs.Common.{◌≡◌, ◌++◌, List, drop, map}
 use Rattle.json.specs.Value.{value_view}
 use Rattle.llrp_schema.specs.Schema.{FieldRule}
 use Rattle.llrp_schema.specs.Calls.Schema.{field_rule}
-use Rattle.llrp_json_read.specs.Calls.ObjectSays.{SaysFields}
+use Rattle.llrp_json_read.specs.ObjectSays.{SaysFields}
 use Rattle.llrp_json_read.specs.Private.Words.{plain}
 use Rattle.llrp_json_read.proofs.numbers.read_fields.Given as goal
 

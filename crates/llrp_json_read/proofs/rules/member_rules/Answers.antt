@@ -1,10 +1,10 @@
-use Rattle.std.proofs.Common.{◌≡◌, ◌≤◌, length, sym, ap, ◌∙◌, subst, arith}
+use Rattle.std.proofs.Common.{◌≡◌, length, ap, ◌∙◌, arith}
 use Rattle.std.specs.Prelude.{map}
 use Rattle.std.proofs.lemmas.List.{length-map}
 use Rattle.llrp_schema.specs.Calls.Schema.{field_rule}
 use Rattle.llrp_schema.specs.Schema.{plain_fields_of}
 use Rattle.llrp_schema.proofs.TableLaws.{few_plain_fields}
-use Rattle.llrp_json_read.specs.Calls.MemberRules.{field_member}
+use Rattle.llrp_json_read.specs.MemberRules.{field_member}
 use Rattle.llrp_json_read.specs.Private.Words.{field_members}
 use Rattle.llrp_json_read.proofs.rules.member_rules.Goals as goal
 

@@ -1,4 +1,4 @@
-use Rattle.std.proofs.Common.{refl, sym, ◌∙◌, inl, inr}
+use Rattle.std.proofs.Common.{sym, ◌∙◌, inl, inr}
 use Rattle.llrp_listing.proofs.TailWords.{digits_read, digits_refused, capital_refused}
 use Rattle.llrp_json_read.proofs.tails.read_digits.Goals as goal
 

@@ -1,6 +1,5 @@
-use Rattle.std.proofs.Common.{◌≡◌, ◌+◌, false, true, [], ◌∷◌, drop, sym, ap, subst, ◌∙◌, arith}
+use Rattle.std.proofs.Common.{◌≡◌, ◌+◌, [], ◌∷◌, drop, sym, ap, subst, ◌∙◌, arith}
 use Rattle.std.proofs.lemmas.List.{drop_all, drop_more}
-use Rattle.json.specs.Json.{Items, no_items, item}
 use Rattle.json.specs.Value.{items_view, value_view}
 use Rattle.llrp_json_read.proofs.WordTexts.{WordsRead, all_read, one_more, word_refused}
 use Rattle.llrp_json_read.proofs.tails.read_words.Goals as goal

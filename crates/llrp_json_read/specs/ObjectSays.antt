@@ -15,8 +15,8 @@ use Rattle.llrp_tree.specs.Tree.{MessageTree, Tree, trees, words_of}
 use Rattle.llrp_listing.specs.NodeLine.{NumberForm, Version, Id, Unsigned, Signed, Epc, field_form, IsNumberText}
 use Rattle.llrp_listing.specs.LineChecks.{IsInForm, IsTailOf}
 use Rattle.llrp_json.specs.JsonItems.{field_name}
-use Rattle.llrp_json_read.specs.Calls.MemberRules.{member_rules}
-use Rattle.llrp_json_read.specs.Calls.ObjectMembers.{member_fault}
+use Rattle.llrp_json_read.specs.MemberRules.{member_rules}
+use Rattle.llrp_json_read.specs.ObjectMembers.{member_fault}
 
 -- ---- members
 

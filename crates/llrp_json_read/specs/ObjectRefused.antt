@@ -17,13 +17,13 @@ use Rattle.llrp_tree.specs.Checks.{first_fault, first_message_fault}
 use Rattle.llrp_tree.specs.Tree.{Tree, forest}
 use Rattle.tag_uri.specs.declared.fault.UriFault.{UriFault}
 use Rattle.tag_uri.specs.TagText.{HasTextFault}
-use Rattle.llrp_listing.specs.NodeLine.{NumberForm, Version, Id, Unsigned, Signed, Epc, field_form}
+use Rattle.llrp_listing.specs.NodeLine.{NumberForm, Version, Id, Epc, field_form}
 use Rattle.llrp_json.specs.JsonItems.{field_name}
 use Rattle.llrp_json_read.specs.declared.refusal.Reason.{Reason}
 use Rattle.llrp_json_read.specs.declared.refusal.Reason.TheVariants as reason
-use Rattle.llrp_json_read.specs.Calls.MemberRules.{member_rules}
-use Rattle.llrp_json_read.specs.Calls.ObjectMembers.{member_fault}
-use Rattle.llrp_json_read.specs.Calls.ObjectSays.{SaysNumber, SaysField, SaysFields, SaysTail, SaysParts, SaysEach, SaysParameter, IsOfKind, below, kind_member, text_in}
+use Rattle.llrp_json_read.specs.MemberRules.{member_rules}
+use Rattle.llrp_json_read.specs.ObjectMembers.{member_fault}
+use Rattle.llrp_json_read.specs.ObjectSays.{SaysNumber, SaysField, SaysFields, SaysTail, SaysParts, SaysEach, SaysParameter, IsOfKind, below, text_in}
 
 -- Where a value is refused: the place of its object among the parameters of its parent, the place of that one, and so on; and the member, if it is refused at one.
 pub record Refused : Type 0 where

@@ -8,7 +8,7 @@ use Rattle.llrp_schema.specs.Schema.{FieldRule, plain_fields_of, tail_of}
 use Rattle.llrp_json.specs.JsonItems.{field_name}
 use Rattle.llrp_json_read.specs.declared.names.Shape.{Shape}
 use Rattle.llrp_json_read.specs.declared.names.Shape.TheVariants as shape
-use Rattle.llrp_json_read.specs.Calls.ObjectMembers.{MemberRule}
+use Rattle.llrp_json_read.specs.ObjectMembers.{MemberRule}
 
 -- a member that is always there
 abbrev pub needed : List ℕ → Shape → MemberRule

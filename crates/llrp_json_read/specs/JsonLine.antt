@@ -6,8 +6,8 @@ use Rattle.llrp_schema.specs.declared.kinds.KindSet.{KindSet}
 use Rattle.llrp_tree.specs.Lawful.{message_octets}
 use Rattle.llrp_tree.specs.Tree.{MessageTree}
 use Rattle.llrp_json_read.specs.declared.refusal.Reason.TheVariants as reason
-use Rattle.llrp_json_read.specs.Calls.ObjectSays.{SaysMessage}
-use Rattle.llrp_json_read.specs.Calls.ObjectRefused.{Refused, RefusesMessage, whole}
+use Rattle.llrp_json_read.specs.ObjectSays.{SaysMessage}
+use Rattle.llrp_json_read.specs.ObjectRefused.{Refused, RefusesMessage, whole}
 
 -- the line is one text of JSON, whose value says a lawful message
 abbrev pub SaysLine : KindSet → List ℕ → MessageTree → Type 0

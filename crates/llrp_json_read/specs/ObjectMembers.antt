@@ -1,5 +1,5 @@
 -- The names and the types of the members of an object, which come in any order (RFC 8259, section 4), and the first member at which an object is refused.
-use Rattle.std.specs.Prelude.{ℕ, ◌==◌, nat_lt, not, ◌&&◌, ◌||◌, is_some, Bool, true, false, List, [], ◌∷◌, Option, Some, None, bytes_eq, count_by, find, option_map, option_and_then, unwrap_or, map}
+use Rattle.std.specs.Prelude.{ℕ, ◌==◌, nat_lt, not, ◌&&◌, ◌||◌, is_some, Bool, true, false, List, [], ◌∷◌, Option, Some, None, bytes_eq, count_by, find, option_map, unwrap_or}
 use Rattle.std.specs.Char.{is_ascii_digit}
 use Rattle.std.specs.List.{list_all, list_any}
 use Rattle.json.specs.Find.{as_array, as_number, as_str, get}
