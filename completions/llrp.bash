@@ -14,7 +14,7 @@ _llrp() {
     if [ "${COMP_WORDS[COMP_CWORD - 1]}" = --to ]; then
         words='tag pure element link hex key'
     elif [ "$COMP_CWORD" -eq 1 ]; then
-        words='show encode epc fields sim inventory loop watch stop ask help --help --version'
+        words='show encode epc fields explain sim inventory loop watch stop ask help --help --version'
     else
         case ${COMP_WORDS[1]} in
             show) words='--hex --all --json --limit --help' ;;
@@ -26,8 +26,9 @@ _llrp() {
             ask) words='--json --timeout --go-on --raw --help' ;;
             sim) words='--all --bind --clients --ready --help' ;;
             fields) words='--all --help' ;;
+            explain) words='--hex --all --limit --help' ;;
             epc) words='--forms --list --json --to --prefix-digits --filter --prefixes --help' ;;
-            help) words='show encode epc fields sim inventory loop watch stop ask' ;;
+            help) words='show encode epc fields explain sim inventory loop watch stop ask' ;;
         esac
     fi
     mapfile -t COMPREPLY < <(compgen -W "$words" -- "$word")

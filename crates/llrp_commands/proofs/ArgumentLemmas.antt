@@ -96,20 +96,22 @@ inventory_there name rows (inr (inr (inr (inl h)))) no_sim no_watch no_stop no_a
 inventory_there name rows (inr (inr (inr (inr (inl h))))) no_sim no_watch no_stop no_ask no_loop = absurd (no_stop h.0)
 inventory_there name rows (inr (inr (inr (inr (inr h))))) no_sim no_watch no_stop no_ask no_loop = absurd (no_ask h.0)
 
--- what is none of show, encode, epc and fields is a command that the program runs itself
-pub network_there : (name : Text) (rows : List Row) → IsParse name rows → (name ≡ codes "show" → ⊥) → (name ≡ codes "encode" → ⊥) → (name ≡ codes "epc" → ⊥) → (name ≡ codes "fields" → ⊥) → IsNetworkParse name rows
-network_there name rows (inl h) no_show no_encode no_epc no_fields = absurd (no_show h.0)
-network_there name rows (inr (inl h)) no_show no_encode no_epc no_fields = absurd (no_encode h.0)
-network_there name rows (inr (inr (inl (inl h)))) no_show no_encode no_epc no_fields = absurd (no_epc h.0)
-network_there name rows (inr (inr (inl (inr h)))) no_show no_encode no_epc no_fields = absurd (no_fields h.0)
-network_there name rows (inr (inr (inr h))) no_show no_encode no_epc no_fields = h
+-- what is none of show, encode, epc, fields and explain is a command that the program runs itself
+pub network_there : (name : Text) (rows : List Row) → IsParse name rows → (name ≡ codes "show" → ⊥) → (name ≡ codes "encode" → ⊥) → (name ≡ codes "epc" → ⊥) → (name ≡ codes "fields" → ⊥) → (name ≡ codes "explain" → ⊥) → IsNetworkParse name rows
+network_there name rows (inl h) no_show no_encode no_epc no_fields no_explain = absurd (no_show h.0)
+network_there name rows (inr (inl h)) no_show no_encode no_epc no_fields no_explain = absurd (no_encode h.0)
+network_there name rows (inr (inr (inl (inl h)))) no_show no_encode no_epc no_fields no_explain = absurd (no_epc h.0)
+network_there name rows (inr (inr (inl (inr (inl h))))) no_show no_encode no_epc no_fields no_explain = absurd (no_fields h.0)
+network_there name rows (inr (inr (inl (inr (inr h))))) no_show no_encode no_epc no_fields no_explain = absurd (no_explain h.0)
+network_there name rows (inr (inr (inr h))) no_show no_encode no_epc no_fields no_explain = h
 
 -- epc has what it needs
 pub epc_there : (name : Text) (rows : List Row) → IsParse name rows → name ≡ codes "epc" → HasEpc rows
 epc_there name rows (inl h) e = absurd (differs (codes "show") (codes "epc") refl (sym h.0 ∙ e))
 epc_there name rows (inr (inl h)) e = absurd (differs (codes "encode") (codes "epc") refl (sym h.0 ∙ e))
 epc_there name rows (inr (inr (inl (inl h)))) e = h.1
-epc_there name rows (inr (inr (inl (inr h)))) e = absurd (differs (codes "fields") (codes "epc") refl (sym h.0 ∙ e))
+epc_there name rows (inr (inr (inl (inr (inl h))))) e = absurd (differs (codes "fields") (codes "epc") refl (sym h.0 ∙ e))
+epc_there name rows (inr (inr (inl (inr (inr h))))) e = absurd (differs (codes "explain") (codes "epc") refl (sym h.0 ∙ e))
 epc_there name rows (inr (inr (inr (inl h)))) e = absurd (differs (codes "sim") (codes "epc") refl (sym h.0 ∙ e))
 epc_there name rows (inr (inr (inr (inr (inl h))))) e = absurd (differs (codes "inventory") (codes "epc") refl (sym h.0 ∙ e))
 epc_there name rows (inr (inr (inr (inr (inr (inl h)))))) e = absurd (differs (codes "loop") (codes "epc") refl (sym h.0 ∙ e))
@@ -122,13 +124,28 @@ pub fields_there : (name : Text) (rows : List Row) → IsParse name rows → nam
 fields_there name rows (inl h) e = absurd (differs (codes "show") (codes "fields") refl (sym h.0 ∙ e))
 fields_there name rows (inr (inl h)) e = absurd (differs (codes "encode") (codes "fields") refl (sym h.0 ∙ e))
 fields_there name rows (inr (inr (inl (inl h)))) e = absurd (differs (codes "epc") (codes "fields") refl (sym h.0 ∙ e))
-fields_there name rows (inr (inr (inl (inr h)))) e = h.1
+fields_there name rows (inr (inr (inl (inr (inl h))))) e = h.1
+fields_there name rows (inr (inr (inl (inr (inr h))))) e = absurd (differs (codes "explain") (codes "fields") refl (sym h.0 ∙ e))
 fields_there name rows (inr (inr (inr (inl h)))) e = absurd (differs (codes "sim") (codes "fields") refl (sym h.0 ∙ e))
 fields_there name rows (inr (inr (inr (inr (inl h))))) e = absurd (differs (codes "inventory") (codes "fields") refl (sym h.0 ∙ e))
 fields_there name rows (inr (inr (inr (inr (inr (inl h)))))) e = absurd (differs (codes "loop") (codes "fields") refl (sym h.0 ∙ e))
 fields_there name rows (inr (inr (inr (inr (inr (inr (inl h))))))) e = absurd (differs (codes "watch") (codes "fields") refl (sym h.0 ∙ e))
 fields_there name rows (inr (inr (inr (inr (inr (inr (inr (inl h)))))))) e = absurd (differs (codes "stop") (codes "fields") refl (sym h.0 ∙ e))
 fields_there name rows (inr (inr (inr (inr (inr (inr (inr (inr h)))))))) e = absurd (differs (codes "ask") (codes "fields") refl (sym h.0 ∙ e))
+
+-- explain has what it needs
+pub explain_there : (name : Text) (rows : List Row) → IsParse name rows → name ≡ codes "explain" → HasStreamWords rows
+explain_there name rows (inl h) e = absurd (differs (codes "show") (codes "explain") refl (sym h.0 ∙ e))
+explain_there name rows (inr (inl h)) e = absurd (differs (codes "encode") (codes "explain") refl (sym h.0 ∙ e))
+explain_there name rows (inr (inr (inl (inl h)))) e = absurd (differs (codes "epc") (codes "explain") refl (sym h.0 ∙ e))
+explain_there name rows (inr (inr (inl (inr (inl h))))) e = absurd (differs (codes "fields") (codes "explain") refl (sym h.0 ∙ e))
+explain_there name rows (inr (inr (inl (inr (inr h))))) e = h.1
+explain_there name rows (inr (inr (inr (inl h)))) e = absurd (differs (codes "sim") (codes "explain") refl (sym h.0 ∙ e))
+explain_there name rows (inr (inr (inr (inr (inl h))))) e = absurd (differs (codes "inventory") (codes "explain") refl (sym h.0 ∙ e))
+explain_there name rows (inr (inr (inr (inr (inr (inl h)))))) e = absurd (differs (codes "loop") (codes "explain") refl (sym h.0 ∙ e))
+explain_there name rows (inr (inr (inr (inr (inr (inr (inl h))))))) e = absurd (differs (codes "watch") (codes "explain") refl (sym h.0 ∙ e))
+explain_there name rows (inr (inr (inr (inr (inr (inr (inr (inl h)))))))) e = absurd (differs (codes "stop") (codes "explain") refl (sym h.0 ∙ e))
+explain_there name rows (inr (inr (inr (inr (inr (inr (inr (inr h)))))))) e = absurd (differs (codes "ask") (codes "explain") refl (sym h.0 ∙ e))
 
 -- what was found, by its name and its rows
 pub found_as : (name : Text) (rows : List Row) (found : Option (Text × List Row)) → Some name ≡ option_map (λ p. p.0) found → Some rows ≡ option_map (λ p. p.1) found → found ≡ Some (name, rows)
@@ -157,14 +174,24 @@ pub found_fields : (found : Option (Text × List Row)) → IsFound found → nam
 found_fields None h e = absurd h
 found_fields (Some p) h e = fields_there p.0 p.1 h (let same : p.0 ≡ codes "fields" = cc in same)
 
+-- where explain was found its flags and its limit are there
+pub found_explain : (found : Option (Text × List Row)) → IsFound found → name_in found ≡ Some (codes "explain")
+    → ((hex : Bool) × IsFlag (hex_in found) hex) × ((all : Bool) × IsFlag (all_in found) all) × ((limit : ℕ) × HasNumber (codes "limit") found limit)
+found_explain None h e = absurd h
+found_explain (Some p) h e =
+    let has = explain_there p.0 p.1 h (let same : p.0 ≡ codes "explain" = cc in same) in
+    (has.0, has.1, number_of_word 10 MAX_LIMIT (codes "limit") p.0 p.1 has.2)
+
 -- show and encode have their flags and their limit
 pub stream_words_of : (name : Text) (rows : List Row) → IsParse name rows → (name ≡ codes "show") ⊎ (name ≡ codes "encode") → HasStreamWords rows
 stream_words_of name rows (inl h) e = h.1.0
 stream_words_of name rows (inr (inl h)) e = h.1
 stream_words_of name rows (inr (inr (inl (inl h)))) (inl e) = absurd (differs (codes "epc") (codes "show") refl (sym h.0 ∙ e))
-stream_words_of name rows (inr (inr (inl (inr h)))) (inl e) = absurd (differs (codes "fields") (codes "show") refl (sym h.0 ∙ e))
+stream_words_of name rows (inr (inr (inl (inr (inl h))))) (inl e) = absurd (differs (codes "fields") (codes "show") refl (sym h.0 ∙ e))
+stream_words_of name rows (inr (inr (inl (inr (inr h))))) (inl e) = absurd (differs (codes "explain") (codes "show") refl (sym h.0 ∙ e))
 stream_words_of name rows (inr (inr (inl (inl h)))) (inr e) = absurd (differs (codes "epc") (codes "encode") refl (sym h.0 ∙ e))
-stream_words_of name rows (inr (inr (inl (inr h)))) (inr e) = absurd (differs (codes "fields") (codes "encode") refl (sym h.0 ∙ e))
+stream_words_of name rows (inr (inr (inl (inr (inl h))))) (inr e) = absurd (differs (codes "fields") (codes "encode") refl (sym h.0 ∙ e))
+stream_words_of name rows (inr (inr (inl (inr (inr h))))) (inr e) = absurd (differs (codes "explain") (codes "encode") refl (sym h.0 ∙ e))
 stream_words_of name rows (inr (inr (inr (inl h)))) (inl e) = absurd (differs (codes "sim") (codes "show") refl (sym h.0 ∙ e))
 stream_words_of name rows (inr (inr (inr (inl h)))) (inr e) = absurd (differs (codes "sim") (codes "encode") refl (sym h.0 ∙ e))
 stream_words_of name rows (inr (inr (inr (inr (inl h))))) (inl e) = absurd (differs (codes "inventory") (codes "show") refl (sym h.0 ∙ e))
@@ -183,7 +210,8 @@ pub json_word_of : (name : Text) (rows : List Row) → IsParse name rows → nam
 json_word_of name rows (inl h) e = h.1.1
 json_word_of name rows (inr (inl h)) e = absurd (differs (codes "encode") (codes "show") refl (sym h.0 ∙ e))
 json_word_of name rows (inr (inr (inl (inl h)))) e = absurd (differs (codes "epc") (codes "show") refl (sym h.0 ∙ e))
-json_word_of name rows (inr (inr (inl (inr h)))) e = absurd (differs (codes "fields") (codes "show") refl (sym h.0 ∙ e))
+json_word_of name rows (inr (inr (inl (inr (inl h))))) e = absurd (differs (codes "fields") (codes "show") refl (sym h.0 ∙ e))
+json_word_of name rows (inr (inr (inl (inr (inr h))))) e = absurd (differs (codes "explain") (codes "show") refl (sym h.0 ∙ e))
 json_word_of name rows (inr (inr (inr (inl h)))) e = absurd (differs (codes "sim") (codes "show") refl (sym h.0 ∙ e))
 json_word_of name rows (inr (inr (inr (inr (inl h))))) e = absurd (differs (codes "inventory") (codes "show") refl (sym h.0 ∙ e))
 json_word_of name rows (inr (inr (inr (inr (inr (inl h)))))) e = absurd (differs (codes "loop") (codes "show") refl (sym h.0 ∙ e))

@@ -368,7 +368,7 @@ fields_gives name words helpless met pass =
     let uses : AllUsesPass c c = (set_passes c the_name refl refl refl, (flag_passes c the_all_of_sim refl refl (omega arith), (help_passes c (the_help 2) refl, tt))) in
     let found : AllFound c c = (refl, (refl, (refl, tt))) in
     let all = default_read s uses found words pass the_all_of_sim refl (inr (inl refl)) (omega arith) in
-    inr (inr (inl (inr (refl, flag_word (codes "all") the_all_of_sim _ refl refl all))))
+    inr (inr (inl (inr (inl (refl, flag_word (codes "all") the_all_of_sim _ refl refl all)))))
 
 abbrev the_bind : Rule
 the_bind = with_index 2 (filled (text_option_rule (codes "bind")))
@@ -735,13 +735,16 @@ ask_gives name words helpless met pass =
       ),
     ))))))))
 
+explain_gives : Gives (built_sub (stream_app (codes "explain")).top)
+explain_gives name words helpless met pass = inr (inr (inl (inr (inr (refl, has_encode_words (built_sub (stream_app (codes "explain")).top) refl words pass)))))
+
 all_give : AllGive (built llrp_app).subs
 unfolding llrp_app
 all_give = (
   λ name words helpless met pass. inl (refl, has_show_words (built_sub show_app.top) refl words pass),
   (
     λ name words helpless met pass. inr (inl (refl, has_encode_words (built_sub (stream_app (codes "encode")).top) refl words pass)),
-    (epc_gives, (fields_gives, (sim_gives, (inventory_gives, (loop_gives, (watch_gives, (stop_gives, (ask_gives, (λ name words helpless met pass. absurd (help_gives [] name refl helpless met), tt))))))))),
+    (epc_gives, (fields_gives, (explain_gives, (sim_gives, (inventory_gives, (loop_gives, (watch_gives, (stop_gives, (ask_gives, (λ name words helpless met pass. absurd (help_gives [] name refl helpless met), tt)))))))))),
   ),
 )
 

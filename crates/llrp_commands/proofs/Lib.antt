@@ -2,5 +2,6 @@ pub mod AnswerLemmas
 pub mod ArgumentLemmas
 pub mod CommandLemmas
 pub mod EpcLemmas
+pub mod ExplainLemmas
 pub mod GivenArguments
 pub mod ReadRows

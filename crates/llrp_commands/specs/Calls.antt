@@ -2,4 +2,5 @@
 pub mod Command
 pub mod Arguments
 pub mod Epc
+pub mod Explain
 pub mod Fields

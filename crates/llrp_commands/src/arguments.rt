@@ -117,6 +117,13 @@ pub(crate) enum Request<'a> {
         all: bool,
         name: Option<&'a str>,
     },
+    /// Explains a stream of bytes, or of hexadecimal digits, field by field, in the profile or in the whole
+    /// standard. A message longer than this many octets is a fault.
+    Explain {
+        hex: bool,
+        all: bool,
+        limit: u32,
+    },
     /// A command that the program runs itself.
     Network(NetworkCommand<'a>),
     /// Prints this help.
@@ -246,6 +253,12 @@ fn request_named<'a>(name: &str, inner: &ArgMatches<'a>) -> Request<'a>
             all: inner.get_flag("all"),
             name: optional_text(inner, "NAME"),
         }
+    } else if name == "explain" {
+        Request::Explain {
+            hex: inner.get_flag("hex"),
+            all: inner.get_flag("all"),
+            limit: limit(inner),
+        }
     } else {
         Request::Network(network_named(name, inner))
     }
@@ -304,11 +317,14 @@ pub fn network_command<'a, S: AsStr>(
     }
 }
 
-/// Whether the words ask for a command that reads standard input to its end, `show` or `encode`.
+/// Whether the words ask for a command that reads standard input to its end, `show`, `encode` or `explain`.
 /// The only error is that memory ran out.
 pub fn reads_input<S: AsStr>(alloc: Global, words: &[S]) -> Result<bool, AllocError>
     ensures { IfOk result (λ reads. IsTrue reads ↔ AsksForInput (map S.text words.entry.now)) }
 {
     let request = request_of(alloc, words)?;
-    Ok(matches!(&request, Request::Show { .. } | Request::Encode { .. }))
+    Ok(matches!(
+        &request,
+        Request::Show { .. } | Request::Encode { .. } | Request::Explain { .. }
+    ))
 }

@@ -11,11 +11,13 @@ ghost use Rattle.llrp_listing.specs.Calls.Copying.{Writes};
 ghost use Rattle.llrp_stream.specs.Device.{IsFreshSink, IsFreshSource};
 ghost use Rattle.llrp_commands.specs.Calls.Arguments.{AsksElsewhere, parses};
 ghost use Rattle.llrp_commands.specs.Calls.Epc.{LeavesFileIfAsked, RunsEpcIfAsked};
+ghost use Rattle.llrp_commands.specs.Calls.Explain.{ExplainsIfAsked};
 ghost use Rattle.llrp_commands.specs.Calls.Fields.{FieldsIfAsked};
 ghost use Rattle.llrp_stream.specs.Calls.Device.{CanWrite};
 
 use crate::arguments::{Request, request_of};
 use crate::epc::{answer_epc, epc, mistake_of};
+use crate::explain::explain;
 use crate::fields::{answer_fields, fields};
 use itoa::Buffer;
 use llrp_json::{list_stream_json, run_show_json};
@@ -383,6 +385,10 @@ pub fn run_command<S: AsStr, R: Source, W: Sink, E: Sink>(
     ensures fields { FieldsIfAsked (map S.text words.entry.now) (R.log r.old) (R.log r.new)
         (W.log w.old) (W.log w.new) (E.log e.old) (E.log e.new) result }
 
+    // If they ask for explain, it explains each frame.
+    ensures explain { ExplainsIfAsked (map S.text words.entry.now) (R.log r.old) (R.log r.new)
+        (W.log w.old) (W.log w.new) (E.log e.old) (E.log e.new) result }
+
     // If they ask for no command, or for help, nothing is read.
     ensures refused { parses (map S.text words.entry.now) ≡ false → R.log r.new ≡ R.log r.old }
 
@@ -416,6 +422,10 @@ pub fn run_command<S: AsStr, R: Source, W: Sink, E: Sink>(
         Request::Fields { all, name } => {
             let outcome = fields(alloc, set_of(all), name, w);
             answer_fields(outcome, e)
+        }
+        Request::Explain { hex, all, limit } => {
+            let outcome = explain(alloc, hex, set_of(all), limit, r, w);
+            answer(verdict_status(outcome), e)
         }
         Request::Network(_) => Ok(USAGE),
         Request::Help(text) => {

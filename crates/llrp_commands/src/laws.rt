@@ -1,7 +1,7 @@
 //! Laws of how the words are parsed.
 
 ghost use Rattle.std.specs.Prelude.{List, ℕ};
-ghost use Rattle.llrp_commands.specs.Calls.Arguments.{AsksEncodeIfNamed, AsksEpcIfNamed, AsksFieldsIfNamed, AsksShowIfNamed};
+ghost use Rattle.llrp_commands.specs.Calls.Arguments.{AsksEncodeIfNamed, AsksEpcIfNamed, AsksExplainIfNamed, AsksFieldsIfNamed, AsksShowIfNamed};
 
 /// If the words are parsed and name epc, they ask for it with one text or none, and with each of its
 /// options or without.
@@ -20,4 +20,10 @@ pub fn show_and_encode_have_flag()
 /// or none.
 pub fn fields_has_flag()
     ensures { (words : List (List ℕ)) → AsksFieldsIfNamed words }
+{}
+
+/// If the words are parsed and name explain, they ask for it with --hex or without, with --all or
+/// without, and with one limit.
+pub fn explain_has_flags()
+    ensures { (words : List (List ℕ)) → AsksExplainIfNamed words }
 {}

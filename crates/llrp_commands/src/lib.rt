@@ -15,6 +15,7 @@ mod arguments;
 mod command;
 mod epc;
 mod epc_table;
+mod explain;
 mod fields;
 pub mod laws;
 

@@ -68,7 +68,38 @@ type CommandRow = (
     &'static [u8],
 );
 
-static COMMAND_ROWS: [CommandRow; 33] = [
+static COMMAND_ROWS: [CommandRow; 36] = [
+    (
+        &["explain", "--hex"],
+        b"083E0000000A00000007",
+        0,
+        b"frame 1, 10 octets
+BIT WIDTH LEVEL FIELD VALUE
+0 3 0 reserved 0
+3 3 0 Version 2
+6 10 0 MessageType 62
+16 32 0 MessageLength 10
+48 32 0 MessageID 7
+",
+        b"",
+    ),
+    (
+        &["explain", "--hex"],
+        b"041E0000000E00000001011F000304",
+        1,
+        b"frame 1, 14 octets
+BIT WIDTH LEVEL FIELD VALUE
+0 3 0 reserved 0
+3 3 0 Version 1
+6 10 0 MessageType 30
+16 32 0 MessageLength 14
+48 32 0 MessageID 1
+fault at bit 96, octet 12: ParamLength: a length below 4, or past the end of the parent; x0003
+? 1
+",
+        b"",
+    ),
+    (&["explain", "--hex"], b"083", 1, b"", b"llrp: hex\n"),
     (
         &["show", "--hex"],
         b"083E0000000A00000007",
@@ -553,10 +584,11 @@ fn other_words_are_no_commands_of_the_program(rt: HostRuntime) {
 }
 
 /// Words, and whether they ask for a command that reads standard input to its end.
-static INPUT_ROWS: [(&[&str], bool); 8] = [
+static INPUT_ROWS: [(&[&str], bool); 9] = [
     (&["show"], true),
     (&["show", "--hex"], true),
     (&["encode"], true),
+    (&["explain", "--all"], true),
     (&["show", "--help"], false),
     (&["show", "--bytes"], false),
     (&["epc", "show"], false),

@@ -23,6 +23,8 @@ mod examples;
 #[cfg(test)]
 mod exchanged;
 #[cfg(test)]
+mod explain_words;
+#[cfg(test)]
 mod fields_words;
 #[cfg(test)]
 mod heard;

@@ -9,6 +9,7 @@ Commands:
   encode     Write the bytes of a listing of messages
   epc        Print the text of a tag's word, or the word of a text
   fields     Print the fields of a message or parameter, or of all
+  explain    Print each field of the messages of a stream, bit by bit
   sim        Serve clients as a simulated reader, by a script
   inventory  Print the tags that a reader sees
   loop       Print the tags that a simulated reader sees, by a script

@@ -189,13 +189,13 @@ top_app = let a = new_app (codes "llrp") in record a { top = record a.top { no_b
 
 -- the program before the commands that it runs itself
 abbrev pub streams_app : App
-streams_app = with_subcommand (with_subcommand (with_subcommand (with_subcommand top_app show_app.top) (stream_app (codes "encode")).top) epc_app.top) fields_app.top
+streams_app = with_subcommand (with_subcommand (with_subcommand (with_subcommand (with_subcommand top_app show_app.top) (stream_app (codes "encode")).top) epc_app.top) fields_app.top) (stream_app (codes "explain")).top
 
 -- the program before the commands that last
 abbrev pub runs_app : App
 runs_app = with_subcommand (with_subcommand (with_subcommand streams_app sim_app.top) inventory_app.top) loop_app.top
 
--- the program: a command is wanted, and there are show, encode, epc, fields, sim, inventory, loop, watch, stop and ask
+-- the program: a command is wanted, and there are show, encode, epc, fields, explain, sim, inventory, loop, watch, stop and ask
 unfoldable pub llrp_app : App
 llrp_app = with_subcommand (with_subcommand (with_subcommand runs_app watch_app.top) stop_app.top) ask_app.top
 
@@ -263,10 +263,16 @@ AsksEncodeIfNamed words =
     parses words ≡ true → name_in (command_in words) ≡ Some (codes "encode")
     → (hex : Bool) × (all : Bool) × (limit : ℕ) × Asks words (codes "encode") hex all limit
 
+-- the same of explain
+abbrev pub AsksExplainIfNamed : List Text → Type 0
+AsksExplainIfNamed words =
+    parses words ≡ true → name_in (command_in words) ≡ Some (codes "explain")
+    → (hex : Bool) × (all : Bool) × (limit : ℕ) × Asks words (codes "explain") hex all limit
+
 -- The words name a command that reads standard input to its end.
 pub record AsksForInput (words : List Text) : Type 0 where
   pub parsed : parses words ≡ true
-  pub named : (name_in (command_in words) ≡ Some (codes "show")) ⊎ (name_in (command_in words) ≡ Some (codes "encode"))
+  pub named : (name_in (command_in words) ≡ Some (codes "show")) ⊎ (name_in (command_in words) ≡ Some (codes "encode")) ⊎ (name_in (command_in words) ≡ Some (codes "explain"))
 
 -- The words name a command that the program runs itself.
 pub record AsksElsewhere (words : List Text) : Type 0 where
@@ -275,6 +281,7 @@ pub record AsksElsewhere (words : List Text) : Type 0 where
   pub no_encode : name_in (command_in words) ≢ Some (codes "encode")
   pub no_epc : name_in (command_in words) ≢ Some (codes "epc")
   pub no_fields : name_in (command_in words) ≢ Some (codes "fields")
+  pub no_explain : name_in (command_in words) ≢ Some (codes "explain")
 
 -- the option was given with a word that spells this number, or it was not given
 abbrev pub HasOptionalNumber : Text → Option (Text × List Row) → Option ℕ → Type 0

@@ -5,7 +5,7 @@ use Rattle.clap.specs.Words.{Row, Text}
 use Rattle.llrp_tree.specs.declared.TheConstants.{MAX_LIMIT}
 use Rattle.llrp_commands.specs.declared.arguments.Request.{Request}
 use Rattle.llrp_commands.specs.declared.arguments.epc_words.EpcWords.{EpcWords}
-use Rattle.llrp_commands.specs.declared.arguments.Request.TheVariants.{Show, Encode, Epc, Fields, Network, Help, Usage}
+use Rattle.llrp_commands.specs.declared.arguments.Request.TheVariants.{Show, Encode, Epc, Fields, Explain, Network, Help, Usage}
 use Rattle.llrp_commands.specs.Calls.Arguments.{all_in, json_in, name_in, hex_in, flag_in, HasNumber, HasOptionalNumber, HasOptionalText, IsBounded, IsFlag, IsNetwork}
 
 -- the flag is this one, if it says what a flag may say
@@ -32,6 +32,7 @@ HasLimit (Show hex all json limit) = IsLimit limit
 HasLimit (Encode hex all limit) = IsLimit limit
 HasLimit (Epc words) = IsUnsaid words
 HasLimit (Fields all name) = Unit {0}
+HasLimit (Explain hex all limit) = IsLimit limit
 HasLimit (Network command) = IsBounded command
 HasLimit (Help text) = Unit {0}
 HasLimit (Usage text) = Unit {0}
@@ -43,5 +44,6 @@ IsRequest found (Show hex all json limit) =
 IsRequest found (Encode hex all limit) = (name_in found ≡ Some (codes "encode")) × HasFlag (hex_in found) hex × HasFlag (all_in found) all × HasNumber (codes "limit") found limit
 IsRequest found (Epc words) = (name_in found ≡ Some (codes "epc")) × IsEpc found words
 IsRequest found (Fields all name) = (name_in found ≡ Some (codes "fields")) × HasFlag (all_in found) all × HasOptionalText (codes "NAME") found name
+IsRequest found (Explain hex all limit) = (name_in found ≡ Some (codes "explain")) × HasFlag (hex_in found) hex × HasFlag (all_in found) all × HasNumber (codes "limit") found limit
 IsRequest found (Network command) = IsNetwork found command
 IsRequest found _ = ⊥

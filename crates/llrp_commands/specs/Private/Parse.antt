@@ -94,9 +94,9 @@ HasShowWords rows = HasStreamWords rows × HasFlagWord (codes "json") rows
 abbrev pub HasFields : List Row → Type 0
 HasFields rows = HasFlagWord (codes "all") rows
 
--- epc or fields, with what they need
+-- epc, fields or explain, with what they need
 abbrev pub IsTextParse : Text → List Row → Type 0
-IsTextParse name rows = ((name ≡ codes "epc") × HasEpc rows) ⊎ ((name ≡ codes "fields") × HasFields rows)
+IsTextParse name rows = ((name ≡ codes "epc") × HasEpc rows) ⊎ ((name ≡ codes "fields") × HasFields rows) ⊎ ((name ≡ codes "explain") × HasStreamWords rows)
 
 -- a command, with what it needs
 abbrev pub IsParse : Text → List Row → Type 0

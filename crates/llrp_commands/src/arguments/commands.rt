@@ -8,7 +8,7 @@ ghost use Rattle.llrp_commands.specs.Calls.Arguments.{all_rule, count_rule, flag
 use crate::arguments::ask_commands::ask_command;
 use crate::arguments::epc_commands::epc_command;
 use crate::arguments::fields_command::fields_command;
-use crate::arguments::help::{ENCODE_HELP, INVENTORY_HELP, LOOP_HELP, SHOW_HELP};
+use crate::arguments::help::{ENCODE_HELP, EXPLAIN_HELP, INVENTORY_HELP, LOOP_HELP, SHOW_HELP};
 use crate::arguments::sim_commands::sim_command;
 use crate::arguments::watch_commands::{stop_command, watch_command};
 use clap::{Arg, ArgAction, Command, value_parser};
@@ -285,6 +285,20 @@ fn encode_command<'a>(alloc: Global) -> Result<Command<'a>, AllocError>
     )
 }
 
+/// The command `explain`.
+fn explain_command<'a>(alloc: Global) -> Result<Command<'a>, AllocError>
+    ensures app { IfOk result (λ c. app_of c ≡ stream_app (codes "explain")) }
+    ensures local { IfOk result (λ c. (out-Command c).has_globals ≡ false) }
+{
+    stream_command(
+        alloc,
+        "explain",
+        "Print each field of the messages of a stream, bit by bit",
+        "Read hexadecimal digits in place of bytes",
+        EXPLAIN_HELP,
+    )
+}
+
 /// The command `inventory`.
 fn inventory_command<'a>(alloc: Global) -> Result<Command<'a>, AllocError>
     ensures app { IfOk result (λ c. app_of c ≡ inventory_app) }
@@ -328,7 +342,8 @@ fn streams_command<'a>(alloc: Global) -> Result<Command<'a>, AllocError>
     let with_first = with_command(top_command(alloc), show_command(alloc));
     let with_both = with_command(with_first, encode_command(alloc));
     let with_epc = with_command(with_both, epc_command(alloc));
-    with_command(with_epc, fields_command(alloc))
+    let with_fields = with_command(with_epc, fields_command(alloc));
+    with_command(with_fields, explain_command(alloc))
 }
 
 /// The program without the commands that last.

@@ -71,6 +71,31 @@ Example:
   $ llrp fields AISpecStopTrigger
   184 AISpecStopTrigger: Type 8 (0..3), Duration 32; GPITriggerValue?, TagObservationTrigger?; in AISpec";
 
+/// The help of `explain`.
+pub(crate) const EXPLAIN_HELP: &str = "\
+Reads a stream of LLRP messages on standard input, to its end, and prints for each frame
+  frame N, OCTETS octets
+  BIT WIDTH LEVEL FIELD VALUE
+and a line for each field of its message in the order of the frame's bits, reserved ones, heads and
+counts too: the bit at which the field begins, how many bits it has, how many levels below the message
+its parameter is, its name, and its value in decimal, or x and the octets of a tail in hexadecimal. Of a
+frame that is not a message there are the lines of its header, and the line of its first fault: its bit,
+the octet that has it, the REASON with what it says, and the octets from there on, 16 at most.
+  ? N                        N bytes of an unfinished frame at the end
+  ! BROKEN                   a length below 10, at which the stream breaks off
+A frame of more octets than --limit is a fault, where N is 10 to 1,048,576. With --all the messages
+and parameters are those of the whole standard. The status is that of show.
+
+Example:
+  $ echo 083E0000000A00000007 | llrp explain --hex
+  frame 1, 10 octets
+  BIT WIDTH LEVEL FIELD VALUE
+  0 3 0 reserved 0
+  3 3 0 Version 2
+  6 10 0 MessageType 62
+  16 32 0 MessageLength 10
+  48 32 0 MessageID 7";
+
 /// The help of `sim`.
 pub(crate) const SIM_HELP: &str = "\
 Reads a script of what the reader's antennas see on standard input, to its end. Then it listens on

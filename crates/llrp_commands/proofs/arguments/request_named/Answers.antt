@@ -1,7 +1,7 @@
 use Rattle.std.proofs.Common.{rules, inl, inr, ◌≡◌, ◌∙◌, ap, codes, Some}
 use Rattle.clap.specs.Words.{Text, found_of, rows_of}
 use Rattle.clap.proofs.WalkLemmas.{one_text-rows}
-use Rattle.llrp_commands.proofs.ArgumentLemmas.{network_there, stream_words_of, epc_there}
+use Rattle.llrp_commands.proofs.ArgumentLemmas.{network_there, stream_words_of, epc_there, explain_there}
 use Rattle.llrp_commands.proofs.CommandLemmas.{has_flag}
 use Rattle.llrp_commands.proofs.arguments.request_named.Goals as goal
 
@@ -55,7 +55,8 @@ network_named-requires c =
     let no_show : c.args.name.now ≡ codes "show" → ⊥ = search rules in
     let no_encode : c.args.name.now ≡ codes "encode" → ⊥ = search rules in
     let no_fields : c.args.name.now ≡ codes "fields" → ⊥ = search rules in
-    network_there c.args.name.now (rows_of (found_of c.args.inner.now)) c.requires no_show no_encode no_epc no_fields
+    let no_explain : c.args.name.now ≡ codes "explain" → ⊥ = search rules in
+    network_there c.args.name.now (rows_of (found_of c.args.inner.now)) c.requires no_show no_encode no_epc no_fields no_explain
 
 pub returns-then-eq-4-clause-request : goal.returns-then-eq-4-clause-request
 returns-then-eq-4-clause-request c =
@@ -65,3 +66,19 @@ returns-then-eq-4-clause-request c =
       has_flag _ c.get_flag-then-eq-4.result (λ h. c.get_flag-then-eq-4.ensures.none (kinds ∙ h)) (λ h. c.get_flag-then-eq-4.ensures.value (kinds ∙ h)) (λ h. c.get_flag-then-eq-4.ensures.other (kinds ∙ h)),
       c.optional_text.ensures c.args.name.now,
     )
+
+pub returns-then-eq-5-clause-request : goal.returns-then-eq-5-clause-request
+returns-then-eq-5-clause-request c =
+    let rows = one_text-rows (found_of c.args.inner.now) (codes "hex") in
+    let kinds = one_text-rows (found_of c.args.inner.now) (codes "all") in
+    let named : c.args.name.now ≡ codes "explain" = search rules in (
+      ap (λ (n : Text). Some n) named,
+      has_flag _ c.get_flag-then-eq-5.result (λ h. c.get_flag-then-eq-5.ensures.none (rows ∙ h)) (λ h. c.get_flag-then-eq-5.ensures.value (rows ∙ h)) (λ h. c.get_flag-then-eq-5.ensures.other (rows ∙ h)),
+      has_flag _ c.get_flag-then-eq-5-2.result (λ h. c.get_flag-then-eq-5-2.ensures.none (kinds ∙ h)) (λ h. c.get_flag-then-eq-5-2.ensures.value (kinds ∙ h)) (λ h. c.get_flag-then-eq-5-2.ensures.other (kinds ∙ h)),
+      c.limit-then-eq-5.ensures.number c.args.name.now,
+    )
+
+pub limit-requires-then-eq-5 : goal.limit-requires-then-eq-5
+limit-requires-then-eq-5 c =
+    let named : c.args.name.now ≡ codes "explain" = search rules in
+    (explain_there c.args.name.now (rows_of (found_of c.args.inner.now)) c.requires named).2
