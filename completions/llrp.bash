@@ -18,7 +18,7 @@ _llrp() {
     else
         case ${COMP_WORDS[1]} in
             show) words='--hex --all --json --limit --help' ;;
-            encode) words='--hex --all --limit --help' ;;
+            encode) words='--hex --all --json --limit --help' ;;
             inventory) words='--rospec --every --polls --reports --check --clean --json --all --timeout --help' ;;
             loop) words='--rospec --every --polls --reports --check --clean --json --all --help' ;;
             watch) words='--rospec --id --every --keepalive --again --text --antennas --limit --save --verbose --for --name --help' ;;

@@ -30,7 +30,8 @@ PROMISES = {
     "3 texts": "tag_uri::text_of_word tag_uri::word_of_text tag_uri::laws::one_text tag_uri::laws::one_fault",
     "4 frames": "llrp_tree::decode_frame llrp_tree::decode_frame_in llrp_tree::encode_into llrp_tree::laws::frames_apart",
     "5 show": "llrp_listing::run_show llrp_listing::run_show_in llrp_json::run_show_json llrp_stream::laws::one_listing",
-    "6 encode": "llrp_listing::run_encode llrp_listing::run_encode_in llrp_listing::laws::prints_back",
+    "6 encode": "llrp_listing::run_encode llrp_listing::run_encode_in llrp_listing::laws::prints_back llrp_json_read::run_encode_json"
+                " llrp_json_read::laws::one_message llrp_json_read::laws::refused_says_none",
     "7 decoder": "llrp_stream::Decoder::new llrp_stream::Decoder::new_in llrp_stream::Decoder::feed llrp_stream::Decoder::finish"
                  " llrp_stream::laws::pieces_are_the_stream llrp_stream::Decoder::held/weight/within/raw",
     "8 both ends": "llrp_endpoints::run_serve llrp_endpoints::run_inventory llrp_endpoints::run_loop",

@@ -37,7 +37,12 @@ MISTAKES = [
     (["encode"], b"# a comment\n0 KEEPALIVE 1 7\n", "comment"),
     (["encode"], KEEPALIVE, "show"),
     (["encode"], b"083E0000000A00000007\n", "show --hex"),
-    (["encode", "--all"], b'{"message":"KEEPALIVE"}\n', "JSON"),
+    (["encode", "--all"], b'{"message":"KEEPALIVE"}\n', "--json"),
+    (["encode", "--json"], b"0 KEEPALIVE 1 7\n", "--json"),
+    (["encode", "--json"], b'[{"message":"KEEPALIVE"}]\n', "jq"),
+    (["encode", "--json", "--all"], b'{\n  "message": "KEEPALIVE"\n}\n', "jq"),
+    (["encode", "--json"], KEEPALIVE, "show --json"),
+    (["encode", "--json"], b'{"message":"KEEPALIVES","version":1,"id":7}\n', None),
     (["encode"], b"0 KEEPALIVES 1 7\n", None),
     (["epc", "x"], b"", None),
 ]

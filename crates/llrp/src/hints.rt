@@ -68,15 +68,19 @@ pub enum Reading {
     Digits,
     /// `encode`.
     Listing,
+    /// `encode` of lines of JSON.
+    Lines,
 }
 
 /// What the words of a command read, if they are those of `show` or `encode`.
 pub fn reading_of(words: &[String]) -> Option<Reading> {
     let first = words.first()?;
     let hex = words.iter().any(|word| word.as_str() == "--hex");
+    let json = words.iter().any(|word| word.as_str() == "--json");
     match first.as_str() {
         "show" if hex => Some(Reading::Digits),
         "show" => Some(Reading::Octets),
+        "encode" if json => Some(Reading::Lines),
         "encode" => Some(Reading::Listing),
         _ => None,
     }
@@ -127,7 +131,7 @@ fn octets_hint(first: &[u8]) -> Option<&'static str> {
             Some("this is not LLRP but another protocol")
         }
         [b'0', b' ', b'A'..=b'Z', ..] => Some("this is a listing; llrp encode makes octets of it"),
-        [b'{', ..] => Some("this is JSON, which show writes and does not read"),
+        [b'{', ..] => Some("this is JSON; llrp encode --json makes octets of it"),
         _ if are_digits(first) => Some("these are hexadecimal digits; add --hex"),
         _ => None,
     }
@@ -152,13 +156,22 @@ fn digits_hint(first: &[u8]) -> Option<&'static str> {
 fn listing_hint(first: &[u8]) -> Option<&'static str> {
     match first {
         [b'1'..=b'9', b' ', ..] => Some("a message comes first: a line that begins with 0"),
-        [b'{', ..] => Some(
-            "this is JSON; encode reads listings as show prints them without --json",
-        ),
+        [b'{', ..] => Some("this is JSON; add --json"),
         [b'#', ..] => Some("a listing has no comments"),
         _ if are_binary(first) => Some("these are octets; llrp show lists them"),
         _ if has_return(first) => Some("lines end with only LF; tr -d '\\r' leaves out the rest"),
         _ if are_digits(first) => Some("these are hexadecimal digits; llrp show --hex lists them"),
+        _ => None,
+    }
+}
+
+/// A hint to what `encode --json` was given in place of lines of JSON.
+fn lines_hint(first: &[u8]) -> Option<&'static str> {
+    match first {
+        [b'0', b' ', b'A'..=b'Z', ..] => Some("this is a listing; leave out --json"),
+        [b'[', ..] => Some("each line is one object; jq -c '.[]' makes lines of an array"),
+        [b'{', b'\n' | b'\r', ..] => Some("each object is one line; jq -c . makes it one"),
+        _ if are_binary(first) => Some("these are octets; llrp show --json makes lines of them"),
         _ => None,
     }
 }
@@ -169,5 +182,6 @@ fn hint(reading: Reading, first: &[u8]) -> Option<&'static str> {
         Reading::Octets => octets_hint(first),
         Reading::Digits => digits_hint(first),
         Reading::Listing => listing_hint(first),
+        Reading::Lines => lines_hint(first),
     }
 }

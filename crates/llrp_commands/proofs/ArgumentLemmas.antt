@@ -11,7 +11,7 @@ use Rattle.clap.specs.Values.{IsSignedIn}
 use Rattle.clap.specs.Words.{Row, Text, without_minus}
 use Rattle.clap.proofs.CallerReads.{signed_reads}
 use Rattle.llrp_tree.specs.declared.TheConstants.{MAX_LIMIT}
-use Rattle.llrp_commands.specs.Private.Parse.{HasEpc, HasFlagWord, HasNumberIn, HasNumberWord, HasPlan, HasAsk, HasSim, HasStop, HasStreamWords, HasWatch, HasWord, IsFound, IsNetworkParse, IsParse, MayHaveNumberIn, HasFields}
+use Rattle.llrp_commands.specs.Private.Parse.{HasEpc, HasFlagWord, HasLimitedWords, HasNumberIn, HasNumberWord, HasPlan, HasAsk, HasSim, HasStop, HasStreamWords, HasWatch, HasWord, IsFound, IsNetworkParse, IsParse, MayHaveNumberIn, HasFields}
 use Rattle.llrp_commands.specs.Calls.Arguments.{IsFlag, HasNumber, HasOptionalNumber, flag_in, hex_in, json_in, name_in, all_in}
 use Rattle.llrp_commands.specs.Private.Arguments.{HasFlag}
 
@@ -134,7 +134,7 @@ fields_there name rows (inr (inr (inr (inr (inr (inr (inr (inl h)))))))) e = abs
 fields_there name rows (inr (inr (inr (inr (inr (inr (inr (inr h)))))))) e = absurd (differs (codes "ask") (codes "fields") refl (sym h.0 ∙ e))
 
 -- explain has what it needs
-pub explain_there : (name : Text) (rows : List Row) → IsParse name rows → name ≡ codes "explain" → HasStreamWords rows
+pub explain_there : (name : Text) (rows : List Row) → IsParse name rows → name ≡ codes "explain" → HasLimitedWords rows
 explain_there name rows (inl h) e = absurd (differs (codes "show") (codes "explain") refl (sym h.0 ∙ e))
 explain_there name rows (inr (inl h)) e = absurd (differs (codes "encode") (codes "explain") refl (sym h.0 ∙ e))
 explain_there name rows (inr (inr (inl (inl h)))) e = absurd (differs (codes "epc") (codes "explain") refl (sym h.0 ∙ e))
@@ -184,7 +184,7 @@ found_explain (Some p) h e =
 
 -- show and encode have their flags and their limit
 pub stream_words_of : (name : Text) (rows : List Row) → IsParse name rows → (name ≡ codes "show") ⊎ (name ≡ codes "encode") → HasStreamWords rows
-stream_words_of name rows (inl h) e = h.1.0
+stream_words_of name rows (inl h) e = h.1
 stream_words_of name rows (inr (inl h)) e = h.1
 stream_words_of name rows (inr (inr (inl (inl h)))) (inl e) = absurd (differs (codes "epc") (codes "show") refl (sym h.0 ∙ e))
 stream_words_of name rows (inr (inr (inl (inr (inl h))))) (inl e) = absurd (differs (codes "fields") (codes "show") refl (sym h.0 ∙ e))
@@ -205,24 +205,6 @@ stream_words_of name rows (inr (inr (inr (inr (inr (inr (inl h))))))) (inr e) = 
 stream_words_of name rows (inr (inr (inr (inr (inr (inr (inr (inl h)))))))) (inr e) = absurd (differs (codes "stop") (codes "encode") refl (sym h.0 ∙ e))
 stream_words_of name rows (inr (inr (inr (inr (inr (inr (inr (inr h)))))))) (inr e) = absurd (differs (codes "ask") (codes "encode") refl (sym h.0 ∙ e))
 
--- show has the flag --json
-pub json_word_of : (name : Text) (rows : List Row) → IsParse name rows → name ≡ codes "show" → HasFlagWord (codes "json") rows
-json_word_of name rows (inl h) e = h.1.1
-json_word_of name rows (inr (inl h)) e = absurd (differs (codes "encode") (codes "show") refl (sym h.0 ∙ e))
-json_word_of name rows (inr (inr (inl (inl h)))) e = absurd (differs (codes "epc") (codes "show") refl (sym h.0 ∙ e))
-json_word_of name rows (inr (inr (inl (inr (inl h))))) e = absurd (differs (codes "fields") (codes "show") refl (sym h.0 ∙ e))
-json_word_of name rows (inr (inr (inl (inr (inr h))))) e = absurd (differs (codes "explain") (codes "show") refl (sym h.0 ∙ e))
-json_word_of name rows (inr (inr (inr (inl h)))) e = absurd (differs (codes "sim") (codes "show") refl (sym h.0 ∙ e))
-json_word_of name rows (inr (inr (inr (inr (inl h))))) e = absurd (differs (codes "inventory") (codes "show") refl (sym h.0 ∙ e))
-json_word_of name rows (inr (inr (inr (inr (inr (inl h)))))) e = absurd (differs (codes "loop") (codes "show") refl (sym h.0 ∙ e))
-json_word_of name rows (inr (inr (inr (inr (inr (inr (inl h))))))) e = absurd (differs (codes "watch") (codes "show") refl (sym h.0 ∙ e))
-json_word_of name rows (inr (inr (inr (inr (inr (inr (inr (inl h)))))))) e = absurd (differs (codes "stop") (codes "show") refl (sym h.0 ∙ e))
-json_word_of name rows (inr (inr (inr (inr (inr (inr (inr (inr h)))))))) e = absurd (differs (codes "ask") (codes "show") refl (sym h.0 ∙ e))
-
-pub found_json : (found : Option (Text × List Row)) → IsFound found → name_in found ≡ Some (codes "show") → (json : Bool) × IsFlag (json_in found) json
-found_json None h e = absurd h
-found_json (Some p) h e = json_word_of p.0 p.1 h (let same : p.0 ≡ codes "show" = cc in same)
-
 -- where show or encode was found its flag is there
 pub found_flag : (found : Option (Text × List Row)) → IsFound found → (name_in found ≡ Some (codes "show")) ⊎ (name_in found ≡ Some (codes "encode")) → (hex : Bool) × IsFlag (hex_in found) hex
 found_flag None h e = absurd h
@@ -234,6 +216,12 @@ pub found_all : (found : Option (Text × List Row)) → IsFound found → (name_
 found_all None h e = absurd h
 found_all (Some p) h (inl e) = (stream_words_of p.0 p.1 h (inl (let same : p.0 ≡ codes "show" = cc in same))).1
 found_all (Some p) h (inr e) = (stream_words_of p.0 p.1 h (inr (let same : p.0 ≡ codes "encode" = cc in same))).1
+
+-- and the form
+pub found_json : (found : Option (Text × List Row)) → IsFound found → (name_in found ≡ Some (codes "show")) ⊎ (name_in found ≡ Some (codes "encode")) → (json : Bool) × IsFlag (json_in found) json
+found_json None h e = absurd h
+found_json (Some p) h (inl e) = (stream_words_of p.0 p.1 h (inl (let same : p.0 ≡ codes "show" = cc in same))).3
+found_json (Some p) h (inr e) = (stream_words_of p.0 p.1 h (inr (let same : p.0 ≡ codes "encode" = cc in same))).3
 
 -- and its limit
 pub found_limit : (found : Option (Text × List Row)) → IsFound found → (name_in found ≡ Some (codes "show")) ⊎ (name_in found ≡ Some (codes "encode")) → (limit : ℕ) × HasNumber (codes "limit") found limit

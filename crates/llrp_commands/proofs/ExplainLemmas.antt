@@ -6,14 +6,13 @@ use Rattle.llrp_listing.specs.declared.outcome.ToolErr.{ToolErr}
 use Rattle.llrp_listing.specs.declared.outcome.Verdict.{Verdict}
 use Rattle.llrp_stream.specs.Device.{SourceLog, SinkLog}
 use Rattle.llrp_commands.specs.declared.arguments.Request.TheVariants.{Explain}
-use Rattle.llrp_commands.specs.Calls.Arguments.{Asks, command_in}
+use Rattle.llrp_commands.specs.Calls.Arguments.{AsksExplain, command_in}
 use Rattle.llrp_commands.specs.Calls.Command.{Answers, set_of, verdict_status}
 use Rattle.llrp_commands.specs.Calls.Explain.{DoesExplain, RanExplain}
 use Rattle.llrp_commands.specs.Private.Arguments.{IsRequest}
-use Rattle.std.specs.Prelude.{codes}
 
 pub ran_explain : (words : List Text) (is_hex is_all hex all : Bool) (bound limit : ℕ) (p : KindSet) (outcome : Result Verdict ToolErr) (status answer : Result ℕ ToolErr) (r0 r1 : SourceLog) (w0 w1 e0 e1 : SinkLog)
-    → IsRequest (command_in words) (Explain is_hex is_all bound) → Asks words (codes "explain") hex all limit → p ≡ set_of is_all → DoesExplain is_hex p bound r0 r1 w0 w1 outcome → status ≡ verdict_status outcome → Answers status e0 e1 answer
+    → IsRequest (command_in words) (Explain is_hex is_all bound) → AsksExplain words hex all limit → p ≡ set_of is_all → DoesExplain is_hex p bound r0 r1 w0 w1 outcome → status ≡ verdict_status outcome → Answers status e0 e1 answer
     → RanExplain hex (set_of all) limit r0 r1 w0 w1 e0 e1 answer
 ran_explain words is_hex is_all hex all bound limit p outcome status answer r0 r1 w0 w1 e0 e1 is asks set does told answers =
     let same_hex : is_hex ≡ hex = is.1 hex asks.flag in

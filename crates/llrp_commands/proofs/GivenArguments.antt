@@ -20,8 +20,8 @@ use Rattle.clap.specs.Walk.{subcommand_met, subcommand_or_other, word_met, to_po
 use Rattle.clap.specs.Walk.{one_of, row_text, plain_word, after_flag, long_or_other, short_or_plain}
 use Rattle.clap.proofs.ValueTestLemmas.{accepts-Accepts}
 use Rattle.llrp_tree.specs.declared.TheConstants.{MAX_LIMIT}
-use Rattle.llrp_commands.specs.Private.Parse.{HasFlagWord, HasLimitWord, HasNumberIn, HasNumberWord, HasShowWords, HasStreamWords, HasWord, IsFound, IsParse, MayHaveLongCount, MayHaveNumberIn, MayHaveNumberWord}
-use Rattle.llrp_commands.specs.Calls.Arguments.{id_rule, least_longest, long_count_rule, longest_rule, stop_app, watch_app, command_in, show_app, stream_app, hex_rule, json_rule, limit_rule, count_rule, flag_rule, host_rule, inventory_app, llrp_app, loop_app, number_rule, port_rule, epc_app, filter_rule, prefix_digits_rule, text_option_rule, text_rule, top_app, all_rule, sim_app, ask_app, file_rule, fields_app, name_rule}
+use Rattle.llrp_commands.specs.Private.Parse.{HasFlagWord, HasLimitWord, HasLimitedWords, HasNumberIn, HasNumberWord, HasStreamWords, HasWord, IsFound, IsParse, MayHaveLongCount, MayHaveNumberIn, MayHaveNumberWord}
+use Rattle.llrp_commands.specs.Calls.Arguments.{id_rule, least_longest, long_count_rule, longest_rule, stop_app, watch_app, command_in, limited_app, stream_app, hex_rule, json_rule, limit_rule, count_rule, flag_rule, host_rule, inventory_app, llrp_app, loop_app, number_rule, port_rule, epc_app, filter_rule, prefix_digits_rule, text_option_rule, text_rule, top_app, all_rule, sim_app, ask_app, file_rule, fields_app, name_rule}
 use Rattle.llrp_commands.proofs.ReadRows.{AllFound, AllUsesPass, HasRead, IsAmong, LevelPasses, both, subcommand_there, flag_passes, has_read, help_passes, level_passes, set_passes, uses_pass}
 
 -- ---- a walk without a fault does not stop at help
@@ -241,9 +241,9 @@ the_json = with_index 1 (filled json_rule)
 abbrev the_limit : Rule
 the_limit = with_index 1 (filled limit_rule)
 
--- encode, which has two flags and the limit
-has_encode_words : (s : Shape) → s.rules ≡ the_hex ∷ the_all ∷ the_limit ∷ the_help 1 ∷ [] → (words : List Text) → level_fault s [] nothing_held words false [] ≡ [] → HasStreamWords (rows_after s.rules [] words)
-has_encode_words s e words pass =
+-- explain, which has two flags and the limit
+has_limited_words : (s : Shape) → s.rules ≡ the_hex ∷ the_all ∷ the_limit ∷ the_help 1 ∷ [] → (words : List Text) → level_fault s [] nothing_held words false [] ≡ [] → HasLimitedWords (rows_after s.rules [] words)
+has_limited_words s e words pass =
     let c : List Rule = the_hex ∷ the_all ∷ the_limit ∷ the_help 1 ∷ [] in
     let uses : AllUsesPass c c = (flag_passes c the_hex refl refl (omega arith), (flag_passes c the_all refl refl (omega arith), (set_passes c the_limit refl refl refl, (help_passes c (the_help 1) refl, tt)))) in
     let found : AllFound c c = (refl, (refl, (refl, (refl, tt)))) in
@@ -260,9 +260,9 @@ has_encode_words s e words pass =
       limit_there the_limit (rows_after s.rules [] words) refl (default_read s all_use all_found words pass the_limit limit_by_id limit_among (omega arith)),
     )
 
--- show, which has three flags and the limit
-has_show_words : (s : Shape) → s.rules ≡ the_hex ∷ the_all ∷ the_limit ∷ the_json ∷ the_help 1 ∷ [] → (words : List Text) → level_fault s [] nothing_held words false [] ≡ [] → HasShowWords (rows_after s.rules [] words)
-has_show_words s e words pass =
+-- show and encode, which have three flags and the limit
+has_stream_words : (s : Shape) → s.rules ≡ the_hex ∷ the_all ∷ the_limit ∷ the_json ∷ the_help 1 ∷ [] → (words : List Text) → level_fault s [] nothing_held words false [] ≡ [] → HasStreamWords (rows_after s.rules [] words)
+has_stream_words s e words pass =
     let c : List Rule = the_hex ∷ the_all ∷ the_limit ∷ the_json ∷ the_help 1 ∷ [] in
     let uses : AllUsesPass c c =
     (flag_passes c the_hex refl refl (omega arith), (flag_passes c the_all refl refl (omega arith), (set_passes c the_limit refl refl refl, (flag_passes c the_json refl refl (omega arith), (help_passes c (the_help 1) refl, tt))))) in
@@ -277,11 +277,9 @@ has_show_words s e words pass =
     let limit_by_id : arg_by_id s.rules the_limit.id ≡ Some the_limit = subst (λ (x : List Rule). arg_by_id x the_limit.id ≡ Some the_limit) (sym e) refl in
     let json_among : IsAmong the_json s.rules = subst (IsAmong the_json) (sym e) (inr (inr (inr (inl refl)))) in
     let json_by_id : arg_by_id s.rules the_json.id ≡ Some the_json = subst (λ (x : List Rule). arg_by_id x the_json.id ≡ Some the_json) (sym e) refl in (
-      (
-        flag_word (codes "hex") the_hex (rows_after s.rules [] words) refl refl (default_read s all_use all_found words pass the_hex hex_by_id hex_among (omega arith)),
-        flag_word (codes "all") the_all (rows_after s.rules [] words) refl refl (default_read s all_use all_found words pass the_all all_by_id all_among (omega arith)),
-        limit_there the_limit (rows_after s.rules [] words) refl (default_read s all_use all_found words pass the_limit limit_by_id limit_among (omega arith)),
-      ),
+      flag_word (codes "hex") the_hex (rows_after s.rules [] words) refl refl (default_read s all_use all_found words pass the_hex hex_by_id hex_among (omega arith)),
+      flag_word (codes "all") the_all (rows_after s.rules [] words) refl refl (default_read s all_use all_found words pass the_all all_by_id all_among (omega arith)),
+      limit_there the_limit (rows_after s.rules [] words) refl (default_read s all_use all_found words pass the_limit limit_by_id limit_among (omega arith)),
       flag_word (codes "json") the_json (rows_after s.rules [] words) refl refl (default_read s all_use all_found words pass the_json json_by_id json_among (omega arith)),
     )
 
@@ -735,15 +733,15 @@ ask_gives name words helpless met pass =
       ),
     ))))))))
 
-explain_gives : Gives (built_sub (stream_app (codes "explain")).top)
-explain_gives name words helpless met pass = inr (inr (inl (inr (inr (refl, has_encode_words (built_sub (stream_app (codes "explain")).top) refl words pass)))))
+explain_gives : Gives (built_sub (limited_app (codes "explain")).top)
+explain_gives name words helpless met pass = inr (inr (inl (inr (inr (refl, has_limited_words (built_sub (limited_app (codes "explain")).top) refl words pass)))))
 
 all_give : AllGive (built llrp_app).subs
 unfolding llrp_app
 all_give = (
-  λ name words helpless met pass. inl (refl, has_show_words (built_sub show_app.top) refl words pass),
+  λ name words helpless met pass. inl (refl, has_stream_words (built_sub (stream_app (codes "show")).top) refl words pass),
   (
-    λ name words helpless met pass. inr (inl (refl, has_encode_words (built_sub (stream_app (codes "encode")).top) refl words pass)),
+    λ name words helpless met pass. inr (inl (refl, has_stream_words (built_sub (stream_app (codes "encode")).top) refl words pass)),
     (epc_gives, (fields_gives, (explain_gives, (sim_gives, (inventory_gives, (loop_gives, (watch_gives, (stop_gives, (ask_gives, (λ name words helpless met pass. absurd (help_gives [] name refl helpless met), tt)))))))))),
   ),
 )

@@ -1,5 +1,7 @@
 -- What public contracts say that no promise of README rests on.
 pub mod Command
+pub mod Encode
+pub mod EncodeJson
 pub mod Arguments
 pub mod Epc
 pub mod Explain

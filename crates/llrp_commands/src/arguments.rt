@@ -102,11 +102,12 @@ pub(crate) enum Request<'a> {
         json: bool,
         limit: u32,
     },
-    /// Writes the bytes of a listing in the profile or in the whole standard, or their hexadecimal
-    /// digits. A message longer than this many octets is refused.
+    /// Writes the bytes of a listing, or of lines of JSON, in the profile or in the whole standard, or
+    /// their hexadecimal digits. A message longer than this many octets is refused.
     Encode {
         hex: bool,
         all: bool,
+        json: bool,
         limit: u32,
     },
     /// Prints the text of a word's digits, or the digits of a word's text, or texts in other forms.
@@ -246,6 +247,7 @@ fn request_named<'a>(name: &str, inner: &ArgMatches<'a>) -> Request<'a>
         Request::Encode {
             hex: inner.get_flag("hex"),
             all: inner.get_flag("all"),
+            json: inner.get_flag("json"),
             limit: limit(inner),
         }
     } else if name == "fields" {

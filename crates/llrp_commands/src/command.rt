@@ -5,7 +5,8 @@ ghost use Rattle.std.specs.Prelude.{◌≤◌, ◌≡◌, IfErr, IfOk, MatchResu
 ghost use Rattle.std.specs.List.{flat_map};
 ghost use Rattle.llrp_schema.specs.declared.kinds.KindSet.{KindSet};
 ghost use Rattle.llrp_tree.specs.declared.TheConstants.{MAX_LIMIT};
-ghost use Rattle.llrp_commands.specs.Calls.Command.{Answers, DoesEncode, DoesShow, EncodesDigits, EncodesIfAsked, FailsAsTold, LeftAlone, ListedInForm, PrintsEpcIfAsked, ShowsDigits, ShowsIfAsked, ShowsInForm, StoppedInForm, digit_line, error_line, error_status, fine_status, reason_line, refusal_line, set_of, status_of, verdict_status};
+ghost use Rattle.llrp_commands.specs.Calls.Command.{Answers, DoesEncode, DoesShow, EncodesDigits, FailsAsTold, LeftAlone, ListedInForm, PrintsEpcIfAsked, ShowsDigits, ShowsIfAsked, ShowsInForm, StoppedInForm, digit_line, error_line, error_status, fine_status, reason_line, refusal_line, set_of, status_of, verdict_status};
+ghost use Rattle.llrp_commands.specs.Calls.Encode.{EncodedTo, EncodesIfAsked};
 ghost use Rattle.llrp_commands.specs.Private.Command.{Gathers, memory_error};
 ghost use Rattle.llrp_listing.specs.Calls.Copying.{Writes};
 ghost use Rattle.llrp_stream.specs.Device.{IsFreshSink, IsFreshSource};
@@ -16,6 +17,7 @@ ghost use Rattle.llrp_commands.specs.Calls.Fields.{FieldsIfAsked};
 ghost use Rattle.llrp_stream.specs.Calls.Device.{CanWrite};
 
 use crate::arguments::{Request, request_of};
+use crate::encode_json::{answer_lines, encode_json};
 use crate::epc::{answer_epc, epc, mistake_of};
 use crate::explain::explain;
 use crate::fields::{answer_fields, fields};
@@ -244,7 +246,7 @@ fn show<R: Source, W: Sink>(
 }
 
 /// The error of writing to memory, which fails only if memory runs out.
-fn memory_error(error: ToolErr) -> ToolErr
+pub(crate) fn memory_error(error: ToolErr) -> ToolErr
     ensures { result ≡ memory_error error }
 {
     match error {
@@ -275,7 +277,7 @@ fn encoded<R: Source>(
 }
 
 /// One line with the bytes in upper-case digits, or nothing if there are no bytes.
-fn digit_line(alloc: Global, bytes: &[u8]) -> Result<String, AllocError>
+pub(crate) fn digit_line(alloc: Global, bytes: &[u8]) -> Result<String, AllocError>
     ensures { IfOk result (λ line. string_bytes line ≡ digit_line bytes.now) }
 {
     if bytes.is_empty() {
@@ -347,6 +349,35 @@ fn fine_status(outcome: Result<(), ToolErr>) -> Result<u8, ToolErr>
     }
 }
 
+/// The command `encode` of a listing, or with --json of lines of JSON, and its exit status.
+fn encode_in_form<R: Source, W: Sink, E: Sink>(
+    alloc: Global,
+    json: bool,
+    hex: bool,
+    set: KindSet,
+    limit: u32,
+    r: &mut R,
+    w: &mut W,
+    e: &mut E,
+) -> Result<u8, ToolErr>
+    requires least { 10 ≤ limit }
+    requires most { limit ≤ MAX_LIMIT }
+    requires source { IsFreshSource (R.log r.old) }
+    requires sink { IsFreshSink (W.log w.old) }
+    requires errors { CanWrite (E.log e.old) }
+    ensures encoded { EncodedTo json hex set limit (R.log r.old) (R.log r.new) (W.log w.old)
+        (W.log w.new) (E.log e.old) (E.log e.new) result }
+    ensures errors { IfErr result (λ error. FailsAsTold (E.log e.old) (E.log e.new) error) }
+{
+    if json {
+        let outcome = encode_json(alloc, hex, set, limit, r, w);
+        answer_lines(outcome, e)
+    } else {
+        let outcome = encode(alloc, hex, set, limit, r, w);
+        answer(fine_status(outcome), e)
+    }
+}
+
 /// Runs the command that the words after the program's name ask for, and returns its exit status: 0
 /// if all is well, 1 if the input has a fault, 2 if the words ask for no command, and 3 if a device
 /// failed or memory ran out. An error is written to `e` as a line. For a command that the program
@@ -408,10 +439,12 @@ pub fn run_command<S: AsStr, R: Source, W: Sink, E: Sink>(
             let outcome = show(alloc, json, hex, set_of(all), limit, r, w);
             answer(verdict_status(outcome), e)
         }
-        Request::Encode { hex, all, limit } => {
-            let outcome = encode(alloc, hex, set_of(all), limit, r, w);
-            answer(fine_status(outcome), e)
-        }
+        Request::Encode {
+            hex,
+            all,
+            json,
+            limit,
+        } => encode_in_form(alloc, json, hex, set_of(all), limit, r, w, e),
         Request::Epc(words) => match words.prefixes {
             Some(_) => Ok(USAGE),
             None => {

@@ -10,7 +10,7 @@ pub fn epc_has_words()
 {}
 
 /// If the words are parsed and name show or encode, they ask for it with --hex or without, with
-/// --all or without, and with one limit; and for show with --json or without.
+/// --all or without, with --json or without, and with one limit.
 pub fn show_and_encode_have_flag()
     ensures show { (words : List (List ℕ)) → AsksShowIfNamed words }
     ensures encode { (words : List (List ℕ)) → AsksEncodeIfNamed words }

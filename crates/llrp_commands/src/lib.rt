@@ -13,6 +13,7 @@
 
 mod arguments;
 mod command;
+mod encode_json;
 mod epc;
 mod epc_table;
 mod explain;

@@ -68,7 +68,7 @@ type CommandRow = (
     &'static [u8],
 );
 
-static COMMAND_ROWS: [CommandRow; 36] = [
+static COMMAND_ROWS: [CommandRow; 40] = [
     (
         &["explain", "--hex"],
         b"083E0000000A00000007",
@@ -221,6 +221,34 @@ fault at bit 96, octet 12: ParamLength: a length below 4, or past the end of the
         1,
         b"",
         b"llrp: line 1: Line\n",
+    ),
+    (
+        &["encode", "--json"],
+        b"{\"id\":7,\"version\":2,\"message\":\"KEEPALIVE\"}",
+        0,
+        b"\x08\x3e\0\0\0\x0a\0\0\0\x07",
+        b"",
+    ),
+    (
+        &["encode", "--json"],
+        b"{\"id\":7,\"version\":2,\"message\":\"KEEPALIVE\"}\n{\"id\":7,\"version\":3,\"message\":\"KEEPALIVE\"}\n",
+        1,
+        b"\x08\x3e\0\0\0\x0a\0\0\0\x07",
+        b"llrp: line 2: version: Value\n",
+    ),
+    (
+        &["encode", "--json", "--hex", "--all"],
+        b"{\"message\":\"GET_READER_CAPABILITIES\",\"version\":1,\"id\":5,\"RequestedData\":0}\n",
+        0,
+        b"04010000000B0000000500\n",
+        b"",
+    ),
+    (
+        &["encode", "--json", "--hex"],
+        b"{\"id\":7,\"version\":2,\"message\":\"KEEPALIVE\"}\n\n",
+        1,
+        b"",
+        b"llrp: line 2: Json\n",
     ),
     (
         &["epc", "3003A3529440000000000000"],

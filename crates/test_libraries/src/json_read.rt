@@ -2,8 +2,9 @@
 
 use crate::json::LINES;
 use json::Scratch;
-use llrp_json_read::{ReadErr, Reason, encode_line, read_line};
+use llrp_json_read::{LinesErr, ReadErr, Reason, encode_line, read_line, run_encode_json};
 use llrp_schema::KindSet;
+use llrp_stream::{Input, Output};
 use std::test::*;
 use test_devices::spell;
 
@@ -91,6 +92,52 @@ fn lines_that_are_no_messages(rt: HostRuntime) {
                 assert!(rt; refusal.member == *member, "{}", line);
             }
             _ => assert!(rt; false, "{}", line),
+        }
+    }
+}
+
+/// Lines of which one is refused, its number, its path and why; a message may have 64 octets.
+static RUNS: [(&str, u64, &str, Reason); 5] = [
+    ("\n", 1, "", Reason::Json),
+    (
+        "{\"message\":\"KEEPALIVE\",\"version\":2,\"id\":7}\n[7]",
+        2,
+        "",
+        Reason::Mistyped,
+    ),
+    (
+        "{\"message\":\"KEEPALIVE\",\"version\":2,\"id\":7,\"parameters\":[3]}",
+        1,
+        "parameters[0]",
+        Reason::Mistyped,
+    ),
+    (
+        "{\"message\":\"RO_ACCESS_REPORT\",\"version\":1,\"id\":1,\"parameters\":[{\"parameter\":\"TagReportData\",\"parameters\":[{\"parameter\":\"AntennaID\",\"AntennaID\":65536}]}]}",
+        1,
+        "parameters[0].parameters[0].AntennaID",
+        Reason::Value,
+    ),
+    (
+        "{\"message\":\"KEEPALIVE\",\"version\":2,\"id\":7,\"\\u00fc\\ud83d\\ude00\\\"~\":1}",
+        1,
+        "\\u00fc\\ud83d\\ude00\\u0022~",
+        Reason::Unknown,
+    ),
+];
+
+#[test]
+fn runs_name_the_line_and_the_path(rt: HostRuntime) {
+    let alloc = rt.alloc();
+    for (text, number, path, reason) in &RUNS {
+        let mut source = Input::new(text.as_bytes());
+        let mut sink = Output::new(Vec::new(alloc));
+        match run_encode_json(alloc, KindSet::Profile, &mut source, &mut sink, 64) {
+            Err(LinesErr::Line(line)) => {
+                assert!(rt; line.number == *number, "{}", text);
+                assert!(rt; line.path.as_slice() == path.as_bytes(), "{}", text);
+                assert!(rt; line.reason == *reason, "{}", text);
+            }
+            _ => assert!(rt; false, "{}", text),
         }
     }
 }

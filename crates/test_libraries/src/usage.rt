@@ -61,16 +61,20 @@ Options:
       --hex        Write hexadecimal digits in place of bytes
       --all        Take every message and parameter of LLRP 1.1
       --limit <N>  The most octets that a message may have [default: 65536]
+      --json       Read lines of JSON in place of a listing
   -h, --help       Print help
 
 Reads a listing on standard input, a line 0 NAME VERSION ID for each message, and writes the bytes of
 the messages on standard output. A line that is refused ends the command with status 1, and is named
 on standard error with the reason, which docs/errors.md explains; so is a message of more octets than
 --limit, where N is 10 to 1,048,576, or a parameter more than 16 levels deep. The names are those of
-the set of docs/tables.md, or with --all those of the whole standard.
+the set of docs/tables.md, or with --all those of the whole standard. With --json it reads lines as
+show --json writes them, with the members of an object in any order; docs/json.md has the reasons.
 
 Example:
   $ echo 0 KEEPALIVE 2 7 | llrp encode --hex
+  083E0000000A00000007
+  $ echo '{\"id\":7,\"version\":2,\"message\":\"KEEPALIVE\"}' | llrp encode --hex --json
   083E0000000A00000007
 ";
 

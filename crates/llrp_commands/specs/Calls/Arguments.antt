@@ -41,12 +41,12 @@ abbrev pub hex_app : Text → App
 hex_app name = with_rule (new_app name) hex_rule
 
 -- a command over a stream, which has that flag, the flag --all and that option
-abbrev pub stream_app : Text → App
-stream_app name = with_rule (with_rule (hex_app name) all_rule) limit_rule
+abbrev pub limited_app : Text → App
+limited_app name = with_rule (with_rule (hex_app name) all_rule) limit_rule
 
--- show, which has the flag --json besides
-abbrev pub show_app : App
-show_app = with_rule (stream_app (codes "show")) json_rule
+-- show and encode, which have the flag --json besides
+abbrev pub stream_app : Text → App
+stream_app name = with_rule (limited_app name) json_rule
 
 -- the argument TEXT
 abbrev pub text_rule : Rule
@@ -189,7 +189,7 @@ top_app = let a = new_app (codes "llrp") in record a { top = record a.top { no_b
 
 -- the program before the commands that it runs itself
 abbrev pub streams_app : App
-streams_app = with_subcommand (with_subcommand (with_subcommand (with_subcommand (with_subcommand top_app show_app.top) (stream_app (codes "encode")).top) epc_app.top) fields_app.top) (stream_app (codes "explain")).top
+streams_app = with_subcommand (with_subcommand (with_subcommand (with_subcommand (with_subcommand top_app (stream_app (codes "show")).top) (stream_app (codes "encode")).top) epc_app.top) fields_app.top) (limited_app (codes "explain")).top
 
 -- the program before the commands that last
 abbrev pub runs_app : App
@@ -238,36 +238,40 @@ abbrev pub IsFlag : Option Text → Bool → Type 0
 IsFlag found true = found ≡ Some (codes "true")
 IsFlag found false = (found ≡ Some (codes "false")) ⊎ (found ≡ None)
 
--- The words name this command, with --hex or without, with --all or without, and with this limit, given by --limit or not.
-pub record Asks (words : List Text) (name : Text) (hex all : Bool) (limit : ℕ) : Type 0 where
+-- The words name this command, with --hex or without, with --all or without, with --json or without, and with this limit, given by --limit or not.
+pub record Asks (words : List Text) (name : Text) (hex all json : Bool) (limit : ℕ) : Type 0 where
   pub parsed : parses words ≡ true
   pub named : name_in (command_in words) ≡ Some name
   pub flag : IsFlag (hex_in (command_in words)) hex
   pub kinds : IsFlag (all_in (command_in words)) all
+  pub form : IsFlag (json_in (command_in words)) json
   pub bound : HasNumber (codes "limit") (command_in words) limit
 
--- The words name show so, with --json or without.
-pub record AsksShow (words : List Text) (hex all json : Bool) (limit : ℕ) : Type 0 where
-  pub asks : Asks words (codes "show") hex all limit
-  pub form : IsFlag (json_in (command_in words)) json
+-- The words name explain, with --hex or without, with --all or without, and with this limit, given by --limit or not.
+pub record AsksExplain (words : List Text) (hex all : Bool) (limit : ℕ) : Type 0 where
+  pub parsed : parses words ≡ true
+  pub named : name_in (command_in words) ≡ Some (codes "explain")
+  pub flag : IsFlag (hex_in (command_in words)) hex
+  pub kinds : IsFlag (all_in (command_in words)) all
+  pub bound : HasNumber (codes "limit") (command_in words) limit
 
 -- if the words are parsed and name show, they ask for it with each flag or without, and with one limit
 abbrev pub AsksShowIfNamed : List Text → Type 0
 AsksShowIfNamed words =
     parses words ≡ true → name_in (command_in words) ≡ Some (codes "show")
-    → (hex : Bool) × (all : Bool) × (json : Bool) × (limit : ℕ) × AsksShow words hex all json limit
+    → (hex : Bool) × (all : Bool) × (json : Bool) × (limit : ℕ) × Asks words (codes "show") hex all json limit
 
 -- the same of encode
 abbrev pub AsksEncodeIfNamed : List Text → Type 0
 AsksEncodeIfNamed words =
     parses words ≡ true → name_in (command_in words) ≡ Some (codes "encode")
-    → (hex : Bool) × (all : Bool) × (limit : ℕ) × Asks words (codes "encode") hex all limit
+    → (hex : Bool) × (all : Bool) × (json : Bool) × (limit : ℕ) × Asks words (codes "encode") hex all json limit
 
 -- the same of explain
 abbrev pub AsksExplainIfNamed : List Text → Type 0
 AsksExplainIfNamed words =
     parses words ≡ true → name_in (command_in words) ≡ Some (codes "explain")
-    → (hex : Bool) × (all : Bool) × (limit : ℕ) × Asks words (codes "explain") hex all limit
+    → (hex : Bool) × (all : Bool) × (limit : ℕ) × AsksExplain words hex all limit
 
 -- The words name a command that reads standard input to its end.
 pub record AsksForInput (words : List Text) : Type 0 where

@@ -21,7 +21,7 @@ use Rattle.llrp_listing.specs.Calls.Show.{ListedIn, StoppedIn}
 use Rattle.llrp_listing.specs.Show.{ShowsIn}
 use Rattle.llrp_json.specs.Calls.Show.{ListedJson, StoppedJson}
 use Rattle.llrp_json.specs.JsonLines.{ShowsJson}
-use Rattle.llrp_commands.specs.Calls.Arguments.{Asks, AsksEpc, AsksShow}
+use Rattle.llrp_commands.specs.Calls.Arguments.{Asks, AsksEpc}
 
 -- the set of kinds that a command takes, with --all or without
 abbrev pub set_of : Bool → KindSet
@@ -163,12 +163,6 @@ RanShow json hex p limit r0 r1 w0 w1 e0 e1 answer =
     IsNotBegun r0 r1 w0 w1 e0 e1 answer
     ⊎ ((outcome : Result Verdict ToolErr) × DoesShow json hex p limit r0 r1 w0 w1 outcome × Answers (verdict_status outcome) e0 e1 answer)
 
--- Encode ran to this answer.
-abbrev pub RanEncode : Bool → KindSet → (limit : ℕ) → SourceLog → SourceLog → SinkLog → SinkLog → SinkLog → SinkLog → Result ℕ ToolErr → Type 0
-RanEncode hex p limit r0 r1 w0 w1 e0 e1 answer =
-    IsNotBegun r0 r1 w0 w1 e0 e1 answer
-    ⊎ ((outcome : Result (Unit {0}) ToolErr) × DoesEncode hex p limit r0 r1 w0 w1 outcome × Answers (fine_status outcome) e0 e1 answer)
-
 -- Epc ran to this answer. It reads nothing.
 abbrev pub RanEpc : List ℕ → SourceLog → SourceLog → SinkLog → SinkLog → SinkLog → SinkLog → Result ℕ ToolErr → Type 0
 RanEpc text r0 r1 w0 w1 e0 e1 answer =
@@ -178,12 +172,7 @@ RanEpc text r0 r1 w0 w1 e0 e1 answer =
 -- if the words ask for show, it ran so
 abbrev pub ShowsIfAsked : List Text → SourceLog → SourceLog → SinkLog → SinkLog → SinkLog → SinkLog → Result ℕ ToolErr → Type 0
 ShowsIfAsked words r0 r1 w0 w1 e0 e1 answer =
-    (hex all json : Bool) (limit : ℕ) → AsksShow words hex all json limit → RanShow json hex (set_of all) limit r0 r1 w0 w1 e0 e1 answer
-
--- the same of encode
-abbrev pub EncodesIfAsked : List Text → SourceLog → SourceLog → SinkLog → SinkLog → SinkLog → SinkLog → Result ℕ ToolErr → Type 0
-EncodesIfAsked words r0 r1 w0 w1 e0 e1 answer =
-    (hex all : Bool) (limit : ℕ) → Asks words (codes "encode") hex all limit → RanEncode hex (set_of all) limit r0 r1 w0 w1 e0 e1 answer
+    (hex all json : Bool) (limit : ℕ) → Asks words (codes "show") hex all json limit → RanShow json hex (set_of all) limit r0 r1 w0 w1 e0 e1 answer
 
 -- the same of epc
 abbrev pub PrintsEpcIfAsked : List Text → SourceLog → SourceLog → SinkLog → SinkLog → SinkLog → SinkLog → Result ℕ ToolErr → Type 0

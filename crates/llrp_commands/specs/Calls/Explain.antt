@@ -1,5 +1,5 @@
 -- What `llrp explain` does.
-use Rattle.std.specs.Prelude.{◌≡◌, ◌⊎◌, ℕ, List, Bool, true, false, Result, Ok, Err, codes}
+use Rattle.std.specs.Prelude.{◌≡◌, ◌⊎◌, ℕ, List, Bool, true, false, Result, Ok, Err}
 use Rattle.clap.specs.Words.{Text}
 use Rattle.llrp_schema.specs.declared.kinds.KindSet.{KindSet}
 use Rattle.llrp_explain.specs.Calls.Explained.{ExplainsStream}
@@ -11,7 +11,7 @@ use Rattle.llrp_listing.specs.Calls.Copying.{ReadStopped}
 use Rattle.llrp_listing.specs.Calls.Hexadecimal.{IsHexOf, IsNoHex}
 use Rattle.llrp_listing.specs.Show.{verdict_of}
 use Rattle.llrp_stream.specs.Device.{SourceLog, SinkLog, Wrote, WroteAndFailed}
-use Rattle.llrp_commands.specs.Calls.Arguments.{Asks}
+use Rattle.llrp_commands.specs.Calls.Arguments.{AsksExplain}
 use Rattle.llrp_commands.specs.Calls.Command.{Answers, IsNotBegun, set_of, verdict_status}
 
 -- the bytes that were read, or with --hex those that their digits spell
@@ -42,4 +42,4 @@ RanExplain hex p limit r0 r1 w0 w1 e0 e1 answer =
 -- if the words ask for explain, it ran so
 abbrev pub ExplainsIfAsked : List Text → SourceLog → SourceLog → SinkLog → SinkLog → SinkLog → SinkLog → Result ℕ ToolErr → Type 0
 ExplainsIfAsked words r0 r1 w0 w1 e0 e1 answer =
-    (hex all : Bool) (limit : ℕ) → Asks words (codes "explain") hex all limit → RanExplain hex (set_of all) limit r0 r1 w0 w1 e0 e1 answer
+    (hex all : Bool) (limit : ℕ) → AsksExplain words hex all limit → RanExplain hex (set_of all) limit r0 r1 w0 w1 e0 e1 answer

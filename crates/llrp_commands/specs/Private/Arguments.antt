@@ -29,7 +29,7 @@ IsEpc found words =
 -- the limit of what is requested, where it has one, is such a limit, that of watch one of a client, and what texts do not say is as above
 abbrev pub HasLimit : Request → Type 0
 HasLimit (Show hex all json limit) = IsLimit limit
-HasLimit (Encode hex all limit) = IsLimit limit
+HasLimit (Encode hex all json limit) = IsLimit limit
 HasLimit (Epc words) = IsUnsaid words
 HasLimit (Fields all name) = Unit {0}
 HasLimit (Explain hex all limit) = IsLimit limit
@@ -41,7 +41,8 @@ HasLimit (Usage text) = Unit {0}
 abbrev pub IsRequest : Option (Text × List Row) → Request → Type 0
 IsRequest found (Show hex all json limit) =
     (name_in found ≡ Some (codes "show")) × HasFlag (hex_in found) hex × HasFlag (all_in found) all × HasFlag (json_in found) json × HasNumber (codes "limit") found limit
-IsRequest found (Encode hex all limit) = (name_in found ≡ Some (codes "encode")) × HasFlag (hex_in found) hex × HasFlag (all_in found) all × HasNumber (codes "limit") found limit
+IsRequest found (Encode hex all json limit) =
+    (name_in found ≡ Some (codes "encode")) × HasFlag (hex_in found) hex × HasFlag (all_in found) all × HasFlag (json_in found) json × HasNumber (codes "limit") found limit
 IsRequest found (Epc words) = (name_in found ≡ Some (codes "epc")) × IsEpc found words
 IsRequest found (Fields all name) = (name_in found ≡ Some (codes "fields")) × HasFlag (all_in found) all × HasOptionalText (codes "NAME") found name
 IsRequest found (Explain hex all limit) = (name_in found ≡ Some (codes "explain")) × HasFlag (hex_in found) hex × HasFlag (all_in found) all × HasNumber (codes "limit") found limit

@@ -83,12 +83,12 @@ IsNetworkParse name rows =
     ⊎ ((name ≡ codes "ask") × HasWord (codes "HOST") rows × HasAsk rows)
 
 -- the flags and the limit of a command over a stream
-abbrev pub HasStreamWords : List Row → Type 0
-HasStreamWords rows = HasFlagWord (codes "hex") rows × HasFlagWord (codes "all") rows × HasLimitWord (codes "limit") rows
+abbrev pub HasLimitedWords : List Row → Type 0
+HasLimitedWords rows = HasFlagWord (codes "hex") rows × HasFlagWord (codes "all") rows × HasLimitWord (codes "limit") rows
 
--- those of show
-abbrev pub HasShowWords : List Row → Type 0
-HasShowWords rows = HasStreamWords rows × HasFlagWord (codes "json") rows
+-- those of show and encode
+abbrev pub HasStreamWords : List Row → Type 0
+HasStreamWords rows = HasFlagWord (codes "hex") rows × HasFlagWord (codes "all") rows × HasLimitWord (codes "limit") rows × HasFlagWord (codes "json") rows
 
 -- the flag of fields is there
 abbrev pub HasFields : List Row → Type 0
@@ -96,12 +96,12 @@ HasFields rows = HasFlagWord (codes "all") rows
 
 -- epc, fields or explain, with what they need
 abbrev pub IsTextParse : Text → List Row → Type 0
-IsTextParse name rows = ((name ≡ codes "epc") × HasEpc rows) ⊎ ((name ≡ codes "fields") × HasFields rows) ⊎ ((name ≡ codes "explain") × HasStreamWords rows)
+IsTextParse name rows = ((name ≡ codes "epc") × HasEpc rows) ⊎ ((name ≡ codes "fields") × HasFields rows) ⊎ ((name ≡ codes "explain") × HasLimitedWords rows)
 
 -- a command, with what it needs
 abbrev pub IsParse : Text → List Row → Type 0
 IsParse name rows =
-    ((name ≡ codes "show") × HasShowWords rows) ⊎ ((name ≡ codes "encode") × HasStreamWords rows)
+    ((name ≡ codes "show") × HasStreamWords rows) ⊎ ((name ≡ codes "encode") × HasStreamWords rows)
     ⊎ IsTextParse name rows ⊎ IsNetworkParse name rows
 
 -- a command was found, with what it needs

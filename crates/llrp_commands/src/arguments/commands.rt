@@ -3,7 +3,7 @@
 ghost use Rattle.std.specs.Prelude.{◌≡◌, IfOk, codes, false};
 ghost use Rattle.clap.specs.Words.{App, app_of, rule_of, with_rule, with_subcommand};
 ghost use Rattle.clap.specs.declared.builder.command.Command.TheViews.{out-Command};
-ghost use Rattle.llrp_commands.specs.Calls.Arguments.{all_rule, count_rule, flag_rule, hex_app, inventory_app, json_rule, limit_rule, llrp_app, loop_app, number_rule, port_rule, runs_app, show_app, stream_app, streams_app, text_option_rule, top_app, with_address, with_flags, with_numbers, with_plan};
+ghost use Rattle.llrp_commands.specs.Calls.Arguments.{all_rule, count_rule, flag_rule, hex_app, inventory_app, json_rule, limit_rule, limited_app, llrp_app, loop_app, number_rule, port_rule, runs_app, stream_app, streams_app, text_option_rule, top_app, with_address, with_flags, with_numbers, with_plan};
 
 use crate::arguments::ask_commands::ask_command;
 use crate::arguments::epc_commands::epc_command;
@@ -51,14 +51,14 @@ pub(super) fn all_flag<'a>(alloc: Global, help: &'a str) -> Arg<'a>
 }
 
 /// The flag --json.
-fn json_flag<'a>(alloc: Global) -> Arg<'a>
+fn json_flag<'a>(alloc: Global, help: &'a str) -> Arg<'a>
     ensures rule { rule_of result ≡ json_rule }
     ensures local { result.global ≡ false }
 {
     Arg::new(alloc, "json")
         .long("json")
         .action(ArgAction::SetTrue)
-        .help("Write lines of JSON in place of the listing")
+        .help(help)
 }
 
 /// The option --limit: from 10 to the greatest number of octets of a message.
@@ -75,20 +75,36 @@ fn limit_option<'a>(alloc: Global) -> Arg<'a>
 }
 
 /// A command over a stream, with --hex, --all and --limit.
-fn stream_command<'a>(
+fn limited_command<'a>(
     alloc: Global,
     name: &'a str,
     about: &'a str,
     flag: &'a str,
     help: &'a str,
 ) -> Result<Command<'a>, AllocError>
-    ensures app { IfOk result (λ c. app_of c ≡ stream_app name.entry.now) }
+    ensures app { IfOk result (λ c. app_of c ≡ limited_app name.entry.now) }
     ensures local { IfOk result (λ c. (out-Command c).has_globals ≡ false) }
 {
     let command = hex_command(alloc, name, about, flag, help);
     let all = "Take every message and parameter of LLRP 1.1";
     let flagged = with_argument(command, all_flag(alloc, all));
     with_argument(flagged, limit_option(alloc))
+}
+
+/// The same with --json.
+fn stream_command<'a>(
+    alloc: Global,
+    name: &'a str,
+    about: &'a str,
+    flag: &'a str,
+    form: &'a str,
+    help: &'a str,
+) -> Result<Command<'a>, AllocError>
+    ensures app { IfOk result (λ c. app_of c ≡ stream_app name.entry.now) }
+    ensures local { IfOk result (λ c. (out-Command c).has_globals ≡ false) }
+{
+    let command = limited_command(alloc, name, about, flag, help);
+    with_argument(command, json_flag(alloc, form))
 }
 
 /// The argument PORT, from 1 to 65,535, which is required.
@@ -258,17 +274,17 @@ fn with_address<'a>(alloc: Global, command: Command<'a>) -> Result<Command<'a>, 
 
 /// The command `show`.
 fn show_command<'a>(alloc: Global) -> Result<Command<'a>, AllocError>
-    ensures app { IfOk result (λ c. app_of c ≡ show_app) }
+    ensures app { IfOk result (λ c. app_of c ≡ stream_app (codes "show")) }
     ensures local { IfOk result (λ c. (out-Command c).has_globals ≡ false) }
 {
-    let command = stream_command(
+    stream_command(
         alloc,
         "show",
         "List the messages of a stream of bytes",
         "Read hexadecimal digits in place of bytes",
+        "Write lines of JSON in place of the listing",
         SHOW_HELP,
-    );
-    with_argument(command, json_flag(alloc))
+    )
 }
 
 /// The command `encode`.
@@ -281,16 +297,17 @@ fn encode_command<'a>(alloc: Global) -> Result<Command<'a>, AllocError>
         "encode",
         "Write the bytes of a listing of messages",
         "Write hexadecimal digits in place of bytes",
+        "Read lines of JSON in place of a listing",
         ENCODE_HELP,
     )
 }
 
 /// The command `explain`.
 fn explain_command<'a>(alloc: Global) -> Result<Command<'a>, AllocError>
-    ensures app { IfOk result (λ c. app_of c ≡ stream_app (codes "explain")) }
+    ensures app { IfOk result (λ c. app_of c ≡ limited_app (codes "explain")) }
     ensures local { IfOk result (λ c. (out-Command c).has_globals ≡ false) }
 {
-    stream_command(
+    limited_command(
         alloc,
         "explain",
         "Print each field of the messages of a stream, bit by bit",

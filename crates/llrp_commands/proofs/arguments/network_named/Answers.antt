@@ -1,4 +1,4 @@
-use Rattle.std.proofs.Common.{rules, ◌≡◌, ◌∙◌, ap, codes, Some}
+use Rattle.std.proofs.Common.{rules, ◌≡◌, ap, codes, Some}
 use Rattle.clap.specs.Words.{Text, found_of, rows_of}
 use Rattle.llrp_commands.proofs.ArgumentLemmas.{ask_there, inventory_there, plan_there, sim_there, stop_there, watch_there}
 use Rattle.llrp_commands.proofs.arguments.network_named.Goals as goal

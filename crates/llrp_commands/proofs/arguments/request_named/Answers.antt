@@ -32,10 +32,12 @@ pub returns-then-eq-3-clause-request : goal.returns-then-eq-3-clause-request
 returns-then-eq-3-clause-request c =
     let rows = one_text-rows (found_of c.args.inner.now) (codes "hex") in
     let kinds = one_text-rows (found_of c.args.inner.now) (codes "all") in
+    let form = one_text-rows (found_of c.args.inner.now) (codes "json") in
     let named : c.args.name.now ≡ codes "encode" = search rules in (
       ap (λ (n : Text). Some n) named,
       has_flag _ c.get_flag-then-eq-3.result (λ h. c.get_flag-then-eq-3.ensures.none (rows ∙ h)) (λ h. c.get_flag-then-eq-3.ensures.value (rows ∙ h)) (λ h. c.get_flag-then-eq-3.ensures.other (rows ∙ h)),
       has_flag _ c.get_flag-then-eq-3-2.result (λ h. c.get_flag-then-eq-3-2.ensures.none (kinds ∙ h)) (λ h. c.get_flag-then-eq-3-2.ensures.value (kinds ∙ h)) (λ h. c.get_flag-then-eq-3-2.ensures.other (kinds ∙ h)),
+      has_flag _ c.get_flag-then-eq-3-3.result (λ h. c.get_flag-then-eq-3-3.ensures.none (form ∙ h)) (λ h. c.get_flag-then-eq-3-3.ensures.value (form ∙ h)) (λ h. c.get_flag-then-eq-3-3.ensures.other (form ∙ h)),
       c.limit-then-eq-3.ensures.number c.args.name.now,
     )
 

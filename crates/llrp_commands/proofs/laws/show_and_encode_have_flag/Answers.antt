@@ -9,13 +9,14 @@ pub returns-clause-show : goal.returns-clause-show
 returns-clause-show c = λ words parsed named.
     let flag = found_flag (command_in words) (found_if_parsed words (no_fault words parsed)) (inl named) in
     let all = found_all (command_in words) (found_if_parsed words (no_fault words parsed)) (inl named) in
-    let json = found_json (command_in words) (found_if_parsed words (no_fault words parsed)) named in
+    let json = found_json (command_in words) (found_if_parsed words (no_fault words parsed)) (inl named) in
     let bound = found_limit (command_in words) (found_if_parsed words (no_fault words parsed)) (inl named) in
-    (flag.0, all.0, json.0, bound.0, record { asks = record { parsed = parsed; named = named; flag = flag.1; kinds = all.1; bound = bound.1 }; form = json.1 })
+    (flag.0, all.0, json.0, bound.0, record { parsed = parsed; named = named; flag = flag.1; kinds = all.1; form = json.1; bound = bound.1 })
 
 pub returns-clause-encode : goal.returns-clause-encode
 returns-clause-encode c = λ words parsed named.
     let flag = found_flag (command_in words) (found_if_parsed words (no_fault words parsed)) (inr named) in
     let all = found_all (command_in words) (found_if_parsed words (no_fault words parsed)) (inr named) in
+    let json = found_json (command_in words) (found_if_parsed words (no_fault words parsed)) (inr named) in
     let bound = found_limit (command_in words) (found_if_parsed words (no_fault words parsed)) (inr named) in
-    (flag.0, all.0, bound.0, record { parsed = parsed; named = named; flag = flag.1; kinds = all.1; bound = bound.1 })
+    (flag.0, all.0, json.0, bound.0, record { parsed = parsed; named = named; flag = flag.1; kinds = all.1; form = json.1; bound = bound.1 })

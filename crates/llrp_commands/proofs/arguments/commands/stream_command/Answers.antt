@@ -1,15 +1,13 @@
-use Rattle.std.proofs.Common.{ap₂, ◌≡◌, ◌∙◌}
+use Rattle.std.proofs.Common.{◌≡◌, ap, ◌∙◌}
 use Rattle.clap.specs.Words.{Rule, app_of, with_rule}
 use Rattle.std.proofs.lemmas.Result.{IfOk-weaker}
-use Rattle.llrp_commands.specs.Calls.Arguments.{hex_app, stream_app}
+use Rattle.llrp_commands.specs.Calls.Arguments.{limited_app, stream_app}
 use Rattle.llrp_commands.proofs.arguments.commands.stream_command.Goals as goal
 
 pub returns-clause-app : goal.returns-clause-app
 returns-clause-app c =
-    let flagged = c.with_argument-flagged.ensures.app (hex_app c.args.name.now) c.hex_command-command.ensures.app c.all_flag.ensures.local in
-    let limited = c.with_argument.ensures.app _ flagged c.limit_option.ensures.local in
-    IfOk-weaker c.with_argument.result _ (λ r. app_of r ≡ stream_app c.args.name.now)
-    (λ r h. h ∙ ap₂ (λ (all rule : Rule). with_rule (with_rule (hex_app c.args.name.now) all) rule) c.all_flag.ensures.rule c.limit_option.ensures.rule) limited
+    let formed = c.with_argument.ensures.app (limited_app c.args.name.now) c.limited_command-command.ensures.app c.json_flag.ensures.local in
+    IfOk-weaker c.with_argument.result _ (λ r. app_of r ≡ stream_app c.args.name.now) (λ r h. h ∙ ap (λ (rule : Rule). with_rule (limited_app c.args.name.now) rule) c.json_flag.ensures.rule) formed
 
 pub returns-clause-local : goal.returns-clause-local
-returns-clause-local c = c.with_argument.ensures.local (c.with_argument-flagged.ensures.local c.hex_command-command.ensures.local c.all_flag.ensures.local) c.limit_option.ensures.local
+returns-clause-local c = c.with_argument.ensures.local c.limited_command-command.ensures.local c.json_flag.ensures.local
