@@ -17,15 +17,15 @@ use Rattle.llrp_explain.specs.Calls.ExplainLines.{ExplainLine, line, bits_of_lin
 use Rattle.llrp_explain.specs.Calls.ExplainText.{line_text, lines_text}
 use Rattle.llrp_explain.specs.Calls.FaultLines.{header_head, taken_lines}
 use Rattle.llrp_explain.specs.Calls.Printed.{Holds, Adds}
-use Rattle.llrp_explain.specs.Calls.Explained.{AreExplained, IsExplained, ExplainsStream, end_line, is_clean, whole_header, header_text, frame_title}
+use Rattle.llrp_explain.specs.Calls.Explained.{AreExplained, IsExplained, ExplainsStream, end_line, is_clean, header_lines, header_text, frame_title}
 use Rattle.llrp_explain.proofs.LineDigits.{frame_bits}
 use Rattle.llrp_explain.proofs.PrintedLemmas.{text_append, one_text}
 
 -- ---- a header
 
-header_lines : (rest : List Bool) → taken_lines 0 whole_header 0 rest ≡ taken_lines 0 header_head 0 rest ++ line 0 (codes "MessageID") 32 (number rest 48 32) ∷ []
-unfolding taken_lines
-header_lines rest = refl
+parts_of_header : (rest : List Bool) → header_lines rest ≡ taken_lines 0 header_head 0 rest ++ line 0 (codes "MessageID") 32 (number rest 48 32) ∷ []
+unfolding header_lines taken_lines
+parts_of_header rest = refl
 
 header_bits : (rest : List Bool) → bits_of_lines (taken_lines 0 header_head 0 rest) ≡ 48
 unfolding bits_of_lines taken_lines
@@ -36,11 +36,11 @@ unfolding header_text
 header_grown frame t0 t1 t2 a b =
     let rest : List Bool = digits_of_bytes frame ++ [] in
     let last : ExplainLine = line 0 (codes "MessageID") 32 (number rest 48 32) in
-    let whole : lines_text 0 (taken_lines 0 whole_header 0 rest) ≡ lines_text 0 (taken_lines 0 header_head 0 rest) ++ line_text 48 last =
-    ap (λ (ls : List ExplainLine). lines_text 0 ls) (header_lines rest) ∙ text_append 0 (taken_lines 0 header_head 0 rest) (last ∷ [])
+    let whole : lines_text 0 (header_lines rest) ≡ lines_text 0 (taken_lines 0 header_head 0 rest) ++ line_text 48 last =
+    ap (λ (ls : List ExplainLine). lines_text 0 ls) (parts_of_header rest) ∙ text_append 0 (taken_lines 0 header_head 0 rest) (last ∷ [])
     ∙ ap (λ (t : List ℕ). lines_text 0 (taken_lines 0 header_head 0 rest) ++ t) (ap (λ (n : ℕ). lines_text n (last ∷ [])) (let h = header_bits rest in let z : 0 + bits_of_lines (taken_lines 0 header_head 0 rest) ≡ 48 = omega (arith, h) in z) ∙ one_text 48 last refl) in
     b ∙ ap (λ (t : List ℕ). t ++ line_text 48 last) a ∙ append_assoc t0 (lines_text 0 (taken_lines 0 header_head 0 rest)) (line_text 48 last) ∙ ap (λ (t : List ℕ). t0 ++ t) (sym whole)
-    ∙ ap (λ (ds : List Bool). t0 ++ lines_text 0 (taken_lines 0 whole_header 0 ds)) (append-nil (digits_of_bytes frame))
+    ∙ ap (λ (ds : List Bool). t0 ++ lines_text 0 (header_lines ds)) (append-nil (digits_of_bytes frame))
 
 -- ---- a message
 

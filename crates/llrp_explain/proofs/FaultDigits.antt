@@ -21,7 +21,8 @@ use Rattle.llrp_tree.proofs.ReadDigits.{length_covered, digits_at}
 use Rattle.llrp_tree.proofs.Growing.{stops_within}
 use Rattle.llrp_tree.proofs.Totality.{covered_octets}
 use Rattle.llrp_explain.specs.Calls.ExplainLines.{ExplainLine, digits_of_lines, open_lines}
-use Rattle.llrp_explain.specs.Calls.FaultLines.{NamedBits, bits_of_fields, taken_lines, header_fields, field_fields, count_fields, tv_fields, tlv_fields, part_fields, part_level, refused_lines, ExplainsFault}
+use Rattle.llrp_explain.specs.Calls.FaultLines.{NamedBits, taken_lines, header_fields, field_fields, count_fields, tv_fields, tlv_fields, part_fields, part_level, refused_lines, ExplainsFault}
+use Rattle.llrp_explain.specs.Private.FieldBits.{bits_of_fields}
 use Rattle.llrp_explain.proofs.LineDigits.{open_is}
 
 -- ---- fields that lie in the digits

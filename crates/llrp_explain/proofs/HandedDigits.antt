@@ -13,7 +13,8 @@ use Rattle.llrp_tree.specs.FirstFault.{number, NextPart, ReadField, ReadTail, Cl
 use Rattle.llrp_tree.specs.Calls.Deciding.{deciding, failing_tail, failing_part, failing_end}
 use Rattle.llrp_tree.proofs.Deciding.{faults_are_decided}
 use Rattle.llrp_explain.specs.Calls.ExplainLines.{ExplainLine, line}
-use Rattle.llrp_explain.specs.Calls.FaultLines.{NamedBits, bits_of_fields, taken_lines, field_fields, count_fields, tlv_fields, part_fields, part_level, refused_lines}
+use Rattle.llrp_explain.specs.Private.FieldBits.{bits_of_fields}
+use Rattle.llrp_explain.specs.Calls.FaultLines.{NamedBits, taken_lines, field_fields, count_fields, tlv_fields, part_fields, part_level, refused_lines}
 use Rattle.llrp_explain.proofs.FaultDigits.{tlv_most, short_tlv}
 
 number_same : (rest more : List Bool) (place width : ℕ) → place + width ≤ length rest → number (rest ++ more) place width ≡ number rest place width

@@ -18,7 +18,8 @@ use Rattle.llrp_tree.proofs.TreeLemmas.{forest-trees, forest-take_more}
 use Rattle.llrp_tree.proofs.SpelledLemmas.{levels_of_first, levels_of_others}
 use Rattle.llrp_explain.specs.declared.lines.Lines.{Lines}
 use Rattle.llrp_explain.specs.Calls.ExplainLines.{ExplainLine, line, octets_line, head_lines, field_lines, tail_lines, forest_lines, message_lines}
-use Rattle.llrp_explain.specs.Calls.Printed.{Adds, tree_lines}
+use Rattle.llrp_explain.specs.Calls.Printed.{Adds}
+use Rattle.llrp_explain.specs.Private.Trees.{tree_lines}
 use Rattle.llrp_explain.proofs.PrintedLemmas.{adds_none, adds_then, on_adds, moved}
 
 -- ---- heads

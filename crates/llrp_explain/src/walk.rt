@@ -7,7 +7,8 @@ ghost use Rattle.llrp_tree.specs.Tree.{forest};
 ghost use Rattle.llrp_tree.specs.Lawful.{first, levels, message_octets, others};
 ghost use Rattle.llrp_tree.specs.Spelling.{head_of, message, spread, tlv, tv};
 ghost use Rattle.llrp_explain.specs.Calls.ExplainLines.{field_lines, forest_lines, head_lines, message_lines, tail_lines};
-ghost use Rattle.llrp_explain.specs.Calls.Printed.{Adds, tree_lines};
+ghost use Rattle.llrp_explain.specs.Calls.Printed.{Adds};
+ghost use Rattle.llrp_explain.specs.Private.Trees.{tree_lines};
 
 use crate::lines::Lines;
 use llrp_schema::{Field, Kind, MsgKind, ParamKind, Tail, fields, is_tv, number, tail};

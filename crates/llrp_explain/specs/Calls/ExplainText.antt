@@ -1,5 +1,5 @@
 -- The text of lines: the bit, the width and the level in decimal, the name and what stands there, with spaces (32) between them and LF (10) after them.
-use Rattle.std.specs.Prelude.{ℕ, ◌+◌, List, [], ◌∷◌, ◌++◌, decimal, cond, nat_eq}
+use Rattle.std.specs.Prelude.{ℕ, ◌+◌, List, [], ◌∷◌, ◌++◌, codes, decimal, cond, nat_eq}
 use Rattle.hex.specs.Hex.{encode_lower}
 use Rattle.llrp_explain.specs.Calls.ExplainLines.{Standing, ANumber, Octets, ExplainLine, standing_bits}
 
@@ -18,3 +18,7 @@ line_text bit l = words_text bit (standing_bits l.bits l.standing) l.level l.nam
 unfoldable pub lines_text : ℕ → List ExplainLine → List ℕ
 lines_text bit [] = []
 lines_text bit (l ∷ lines) = cond (nat_eq (standing_bits l.bits l.standing) 0) (lines_text bit lines) (line_text bit l ++ lines_text (bit + standing_bits l.bits l.standing) lines)
+
+-- the bit of a fault, and the octet that has it
+abbrev pub fault_place : (bit octet : ℕ) → List ℕ
+fault_place bit octet = codes "fault at bit " ++ (decimal bit ++ (codes ", octet " ++ (decimal octet ++ codes ": ")))

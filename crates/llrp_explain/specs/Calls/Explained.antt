@@ -6,15 +6,13 @@ use Rattle.llrp_schema.specs.declared.kinds.KindSet.{KindSet}
 use Rattle.llrp_tree.specs.declared.fault.Reason.{Reason}
 use Rattle.llrp_tree.specs.declared.fault.Reason.TheVariants.{Reserved, Version, MessageType, MessageLength, Short, Value, Count, Utf8, ParamType, Misplaced, TooMany, TooDeep, ParamLength, Extra, Missing}
 use Rattle.llrp_tree.specs.Tree.{MessageTree}
-use Rattle.llrp_tree.specs.FirstFault.{FirstFaultIn}
+use Rattle.llrp_tree.specs.FirstFault.{number, FirstFaultIn}
 use Rattle.llrp_stream.specs.declared.item.End.{End}
 use Rattle.llrp_stream.specs.declared.item.End.TheVariants.{Clean, Rest, Broken, Dead}
 use Rattle.llrp_stream.specs.Cuts.{Cuts}
 use Rattle.llrp_stream.specs.Items.{FrameIn}
-use Rattle.llrp_explain.specs.Calls.ExplainLines.{message_lines}
-use Rattle.llrp_explain.specs.Calls.ExplainText.{lines_text}
-use Rattle.llrp_explain.specs.Calls.FaultLines.{NamedBits, named, header_head, taken_lines}
-use Rattle.llrp_explain.specs.Calls.FaultText.{fault_place}
+use Rattle.llrp_explain.specs.Calls.ExplainLines.{ExplainLine, line, message_lines}
+use Rattle.llrp_explain.specs.Calls.ExplainText.{lines_text, fault_place}
 
 -- the name of a reason, and what it says (LLRP 1.1, section 17)
 unfoldable pub reason_text : Reason → List ℕ
@@ -36,13 +34,14 @@ reason_text Missing = codes "Missing: a message or parameter that ends without o
 
 -- ---- a frame
 
--- the fields of a header
-abbrev pub whole_header : List NamedBits
-whole_header = header_head ++ named (codes "MessageID") 32 ∷ []
+-- the lines of a header, as its digits say
+unfoldable pub header_lines : List Bool → List ExplainLine
+header_lines ds =
+    line 0 (codes "reserved") 3 (number ds 0 3) ∷ line 0 (codes "Version") 3 (number ds 3 3) ∷ line 0 (codes "MessageType") 10 (number ds 6 10) ∷ line 0 (codes "MessageLength") 32 (number ds 16 32) ∷ line 0 (codes "MessageID") 32 (number ds 48 32) ∷ []
 
--- the lines of the header of a frame, as its digits say
+-- those of a frame
 unfoldable pub header_text : List ℕ → List ℕ
-header_text frame = lines_text 0 (taken_lines 0 whole_header 0 (digits_of_bytes frame))
+header_text frame = lines_text 0 (header_lines (digits_of_bytes frame))
 
 -- at most this many octets are shown at a fault
 abbrev pub shown_octets : ℕ

@@ -20,10 +20,6 @@ pub record NamedBits : Type 0 where
 abbrev pub named : List ℕ → ℕ → NamedBits
 named name bits = record { name = name; bits = bits }
 
-unfoldable pub bits_of_fields : List NamedBits → ℕ
-bits_of_fields [] = 0
-bits_of_fields (f ∷ fields) = f.bits + bits_of_fields fields
-
 -- the lines of such fields, which stand in the digits from a place on
 unfoldable pub taken_lines : ℕ → List NamedBits → (place : ℕ) → List Bool → List ExplainLine
 taken_lines level [] place rest = []
