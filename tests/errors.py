@@ -19,9 +19,9 @@ from failing_devices import ANSWERS, inventory_from, sim_to
 from parts.ports import free_port
 from parts.repository import TOP, program_given
 
-LEAST = 128
+LEAST = 144
 PAGE = "docs/errors.md"
-# The most memory that refusing an endless script may take, in kilobytes.
+# The most memory that refusing an endless script or ROSpec may take, in kilobytes.
 MOST_MEMORY = 65_536
 # Where the words of each table are: the source, its function, and how many it has.
 LINES = ("crates/llrp_commands/src/command.rt", "write_error", 11)
@@ -308,10 +308,26 @@ def checks_of_endless_scripts(program):
         os.close(end)
 
 
+def checks_of_endless_rospecs(program):
+    """Yields whether a ROSpec without an end is refused by a process of little memory, before the script is read and before a connection
+    is made."""
+    place = ["127.0.0.1", str(free_port())]
+    spec = "2 AISpec w0\n3 AISpecStopTrigger 0 0\n3 InventoryParameterSpec 1 1"
+    lawful = f"printf '1 ROSpec 1 0 0\\n2 ROBoundarySpec\\n3 ROSpecStartTrigger 0\\n3 ROSpecStopTrigger 0 0\\n'; exec yes '{spec}'"
+    for words in (["loop"], ["inventory", *place], ["watch", ":".join(place)], ["stop", ":".join(place)]):
+        found = refusal_of(program, [*words, "--rospec", "/dev/zero"], subprocess.DEVNULL)
+        yield f"{words[0]}: no line of a ROSpec", found == (1, "llrp: rospec line 1: Line\n", True)
+        for command, wanted in ((["yes"], "1: Level"), (["yes", "1 ROSpec 1 0 0"], "1: Node Missing"), (["sh", "-c", lawful], "[0-9]+: .*")):
+            with subprocess.Popen(command, stdout=subprocess.PIPE) as lines:
+                status, said, small = refusal_of(program, [*words, "--rospec", "/dev/stdin"], lines.stdout)
+                lines.stdout.close()
+            yield f"{words[0]}: an endless ROSpec, {command[-1]}", status == 1 and small and re.fullmatch(f"llrp: rospec line {wanted}\n", said) is not None
+
+
 def main():
     program = program_given()
     parts = (checks_of_listings, checks_of_tags, checks_of_forms, checks_of_frames, checks_of_lines, checks_of_endless_scripts, checks_of_rospecs,
-             checks_of_prefixes)
+             checks_of_endless_rospecs, checks_of_prefixes)
     return finish_results([*checks_of_rows(), *checks_of_figures(), *(it for part in parts for it in part(program))], LEAST)
 
 

@@ -1,5 +1,6 @@
 pub mod AskLemmas
 pub mod ClientLemmas
 pub mod NetworkLemmas
+pub mod PlanLemmas
 pub mod WatchLemmas
 pub mod WholeFrameLemmas

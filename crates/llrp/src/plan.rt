@@ -8,8 +8,8 @@ ghost use Rattle.llrp.specs.declared.plan.NoPlan.TheVariants.{Memory};
 
 use crate::network::FAILED;
 use llrp_commands::{PlanWords, answer, write_refusal};
-use llrp_endpoints::{LineForm, Plan, PlanErr, checked_plan, standard_plan};
-use llrp_listing::{Refusal, ToolErr, read_all, write_all};
+use llrp_endpoints::{LineForm, Plan, PlanErr, checked_plan, read_rospec, standard_plan};
+use llrp_listing::{Refusal, ToolErr, write_all};
 use llrp_schema::KindSet;
 use llrp_stream::{Input, Sink, Source};
 use std::alloc::Global;
@@ -23,7 +23,7 @@ const REFUSED: u8 = 1;
 /// Why the words have no plan.
 #[derive(Clone, Copy, Debug, PartialEq, Eq)]
 pub enum NoPlan {
-    /// The file of the ROSpec cannot be opened, or not read to its end.
+    /// The file of the ROSpec cannot be opened, or not read.
     Unread,
     /// A line of it, counted from 1, is refused.
     Line { line: u64, reason: Refusal },
@@ -110,18 +110,22 @@ pub fn plan_of(alloc: Global, words: PlanWords<'_>) -> Result<Plan, NoPlan>
     }
 }
 
-/// The plan of words whose ROSpec this source has. It is read to its end.
+/// The plan of words whose ROSpec this source has. It is read to its end, or until no plan has a text
+/// that begins so.
 pub fn read_plan<R: Source>(alloc: Global, words: PlanWords<'_>, r: &mut R) -> Result<Plan, NoPlan>
     requires { IsFreshSource (R.log r.old) }
     ensures { ReadsPlan words.entry (R.log r.old) (R.log r.new) result }
 {
-    let text = match read_all(alloc, r) {
+    let text = match read_rospec(alloc, r) {
         Ok(text) => text,
         Err(ToolErr::Memory) => return Err(NoPlan::Memory),
         Err(_) => return Err(NoPlan::Unread),
     };
     match Plan::parse(alloc, text.as_slice(), asked_polls(words), words.check) {
-        Ok(plan) => Ok(with_options(words, plan)),
+        Ok(plan) => {
+            plan.valid();
+            Ok(with_options(words, plan))
+        }
         Err(PlanErr::Line { line, reason }) => Err(NoPlan::Line { line, reason }),
         Err(PlanErr::Memory) => Err(NoPlan::Memory),
     }

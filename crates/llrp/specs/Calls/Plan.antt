@@ -13,6 +13,7 @@ use Rattle.llrp_endpoints.specs.declared.form.LineForm.TheVariants.{Words, Json}
 use Rattle.llrp_endpoints.specs.Plan.{Plan}
 use Rattle.llrp_endpoints.specs.Calls.Plans.{given, standard}
 use Rattle.llrp_endpoints.specs.Calls.PlanTexts.{ListsRoSpec, RefusesPlan}
+use Rattle.llrp_endpoints.specs.Calls.ReadRoSpec.{IsEnough}
 use Rattle.llrp_commands.specs.Calls.Command.{error_line, refusal_line}
 use Rattle.llrp_commands.specs.declared.arguments.PlanWords.{PlanWords}
 use Rattle.llrp.specs.declared.plan.NoPlan.{NoPlan}
@@ -54,11 +55,12 @@ never_reports words = is_some words.reports && is_zero words.every
 
 -- ---- a ROSpec that is read
 
--- Why there is no plan: reading failed or took too many reads; all was read, and a line of it is refused; or memory ran out.
+-- Why there is no plan: reading failed or took too many reads; a line is refused of all that the source gave, or of so much that no text which begins so
+-- has a plan; or memory ran out.
 abbrev pub HasNoPlan : SourceLog → SourceLog → NoPlan → Type 0
 HasNoPlan r0 r1 Unread = (front : List ℕ) × (ReadStopped r0 r1 front tool.Read ⊎ ReadStopped r0 r1 front tool.Bound)
-HasNoPlan r0 r1 (Line line reason) = (bytes : List ℕ) × ReadAll r0 r1 bytes × RefusesPlan bytes (text.Line line reason)
-HasNoPlan r0 r1 Memory = (bytes : List ℕ) × (ReadStopped r0 r1 bytes tool.Memory ⊎ ReadAll r0 r1 bytes)
+HasNoPlan r0 r1 (Line line reason) = (bytes : List ℕ) × IsEnough r0 r1 bytes × RefusesPlan bytes (text.Line line reason)
+HasNoPlan r0 r1 Memory = (bytes : List ℕ) × (ReadStopped r0 r1 bytes tool.Memory ⊎ IsEnough r0 r1 bytes)
 
 -- What reading a plan's ROSpec answers: a plan with the ROSpec that all of the source lists, and all else as the words say; or why there is none.
 abbrev pub ReadsPlan : PlanWords → SourceLog → SourceLog → Result Plan NoPlan → Type 0
