@@ -256,7 +256,7 @@ def checks_of_prefixes(program):
 def checks_of_lines(program):
     """Yields whether each example of an error of a run ends with its line; `bound` would take a million reads, and `memory` is
     what tests/refuse_program.py is for."""
-    example = {row[0].strip("`").split()[1].rstrip(":"): row[2] for row in rows("| Line |")}
+    example = {row[0].strip("`").split()[1].rstrip(":"): row[2] for row in reversed(rows("| Line |"))}
     code = {name: re.findall(r"`([^`]*)`", text) for name, text in example.items()}
     listing = TAG + "2 EPC-96 urn:epc:tag:sgtin-96:3.0614141.812345.007\n"
     yield "line", run(program, "encode", given=listing)[::2] == (1, code["line"][0] + "\n")

@@ -41,7 +41,7 @@ MESSAGES = [
     # a report of a tag with type and value alone, EPC-96
     ("043D 0000001B 00000001 00F0 0011 8D 3074257BF7194E4000001A85", (0, 1, 61, 27, 1), [
         "80 6 1 reserved 0", "86 10 1 ParameterType 240", "96 16 1 ParameterLength 17",
-        "112 1 2 type and value 1", "113 7 2 ParameterType 13", f"120 96 2 EPC {0x3074257BF7194E4000001A85}"]),
+        "112 1 2 type and value 1", "113 7 2 ParameterType 13", f"120 96 2 EPC-96 {0x3074257BF7194E4000001A85}"]),
     # bits: EPCData of 20 bits in three octets
     ("043D 00000017 00000001 00F0 000D 00F1 0009 0014 ABCDE0", (0, 1, 61, 23, 1), [
         "80 6 1 reserved 0", "86 10 1 ParameterType 240", "96 16 1 ParameterLength 13",

@@ -125,7 +125,7 @@ def checks(program):
     """Yields whether the manual page, README.md and each completion have exactly the commands and flags of the program."""
     flags = flags_of(program)
     commands = set(flags) - {""}
-    yield "ten commands", len(commands) == 10
+    yield "eleven commands", len(commands) == 11
     for shell, name in (("bash", "llrp.bash"), ("zsh", "_llrp"), ("fish", "llrp.fish")):
         done = subprocess.run([shell, "-n", f"completions/{name}"], cwd=TOP, capture_output=True, timeout=60)
         yield f"{shell} -n", (done.returncode, done.stderr) == (0, b"")
