@@ -1,10 +1,11 @@
 //! Messages from lines of JSON: those of the standard's objects, members in another order, and lines that are refused.
 
-use crate::json::LINES;
+use crate::json_lines::LINES;
 use json::Scratch;
 use llrp_json_read::{LinesErr, ReadErr, Reason, encode_line, read_line, run_encode_json};
 use llrp_schema::KindSet;
 use llrp_stream::{Input, Output};
+use std::alloc::Global;
 use std::test::*;
 use test_devices::spell;
 
@@ -81,18 +82,23 @@ fn lines_of_objects_are_read_back(rt: HostRuntime) -> Result<(), Fail> {
     Ok(())
 }
 
+/// Whether a line is refused at this member, for this reason.
+fn is_refused(alloc: Global, line: &str, member: Option<&str>, reason: Reason) -> bool {
+    let mut scratch = Scratch::new(alloc);
+    let error = match read_line(alloc, KindSet::Profile, line.as_bytes(), &mut scratch) {
+        Ok(_message) => return false,
+        Err(error) => error,
+    };
+    match error {
+        ReadErr::Refused(refusal) => refusal.reason == reason && refusal.member == member,
+        ReadErr::Memory => false,
+    }
+}
+
 #[test]
 fn lines_that_are_no_messages(rt: HostRuntime) {
-    let alloc = rt.alloc();
     for (line, member, reason) in &REFUSED {
-        let mut scratch = Scratch::new(alloc);
-        match read_line(alloc, KindSet::Profile, line.as_bytes(), &mut scratch) {
-            Err(ReadErr::Refused(refusal)) => {
-                assert!(rt; refusal.reason == *reason, "{}", line);
-                assert!(rt; refusal.member == *member, "{}", line);
-            }
-            _ => assert!(rt; false, "{}", line),
-        }
+        assert!(rt; is_refused(rt.alloc(), line, *member, *reason), "{}", line);
     }
 }
 
@@ -125,19 +131,31 @@ static RUNS: [(&str, u64, &str, Reason); 5] = [
     ),
 ];
 
+/// Whether a run stops at this line, at this path, for this reason.
+fn stops_at(alloc: Global, text: &str, number: u64, path: &str, reason: Reason) -> bool {
+    let mut source = Input::new(text.as_bytes());
+    let mut sink = Output::new(Vec::new(alloc));
+    let error = match run_encode_json(alloc, KindSet::Profile, &mut source, &mut sink, 64) {
+        Ok(()) => return false,
+        Err(error) => error,
+    };
+    match error {
+        LinesErr::Line(line) => {
+            line.number == number
+                && line.path.as_slice() == path.as_bytes()
+                && line.reason == reason
+        }
+        LinesErr::Stopped(_error) => false,
+    }
+}
+
 #[test]
 fn runs_name_the_line_and_the_path(rt: HostRuntime) {
-    let alloc = rt.alloc();
     for (text, number, path, reason) in &RUNS {
-        let mut source = Input::new(text.as_bytes());
-        let mut sink = Output::new(Vec::new(alloc));
-        match run_encode_json(alloc, KindSet::Profile, &mut source, &mut sink, 64) {
-            Err(LinesErr::Line(line)) => {
-                assert!(rt; line.number == *number, "{}", text);
-                assert!(rt; line.path.as_slice() == path.as_bytes(), "{}", text);
-                assert!(rt; line.reason == *reason, "{}", text);
-            }
-            _ => assert!(rt; false, "{}", text),
-        }
+        assert!(rt;
+            stops_at(rt.alloc(), text, *number, path, *reason),
+            "{}",
+            text
+        );
     }
 }

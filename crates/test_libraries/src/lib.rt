@@ -31,7 +31,7 @@ mod heard;
 #[cfg(test)]
 mod hexadecimal;
 #[cfg(test)]
-mod json;
+mod json_lines;
 #[cfg(test)]
 mod json_read;
 #[cfg(test)]

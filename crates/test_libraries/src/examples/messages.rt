@@ -1,6 +1,8 @@
 //! The examples of the libraries of tables and of messages.
 
+use json::Scratch;
 use llrp_explain::line_of;
+use llrp_json_read::read_line;
 use llrp_schema::{Kind, KindSet, fields, param_named};
 use llrp_tree::{
     EncodeErr, MAX_LIMIT, Message, MsgKind, MsgRefusal, NodeFault, Nodes, ParamKind, encode_into,
@@ -24,6 +26,16 @@ fn llrp_explain_example(rt: HostRuntime) -> Result<(), Fail> {
     let alloc = rt.alloc();
     let line = line_of(alloc, KindSet::Profile, b"AntennaID")?; // 1 AntennaID: AntennaID 16; -; in TagReportData
     assert!(rt; line.as_slice() == b"1 AntennaID: AntennaID 16; -; in TagReportData\n".as_slice());
+    Ok(())
+}
+
+#[test]
+fn llrp_json_read_example(rt: HostRuntime) -> Result<(), Fail> {
+    let alloc = rt.alloc();
+    let line = b"{\"id\":7,\"version\":2,\"message\":\"KEEPALIVE\"}".as_slice();
+    let mut scratch = Scratch::new(alloc);
+    let message = read_line(alloc, KindSet::Profile, line, &mut scratch)?; // {"id":7,"version":2,"message":"KEEPALIVE"}
+    assert_eq!(rt; message.id(), 7);
     Ok(())
 }
 
