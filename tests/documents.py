@@ -20,14 +20,14 @@ from parts.ports import free_port
 from parts.repository import TOP, program_given
 
 # How many commands each document has.
-DOCUMENTS = {"README.md": 8, "docs/capture.md": 6, "docs/client.md": 1, "docs/json.md": 3, "docs/sim.md": 15}
+DOCUMENTS = {"README.md": 8, "docs/capture.md": 6, "docs/client.md": 1, "docs/json.md": 4, "docs/sim.md": 19}
 # How many libraries have an example, and where the tests are that run them.
-LIBRARIES = 13
+LIBRARIES = 14
 TESTS = ("crates/test_libraries/src/examples", "crates/test_ends/src")
 # Comes after what a command prints, with its status.
 MARK = "--- status"
 # How long a block may take, in seconds.
-LONGEST = 120
+LONGEST = 300
 # Waits until a command succeeds, for a minute at most.
 AWAIT = 'await() { for ((n = 0; n < 1200; n++)); do "$@" && return; sleep 0.05; done; echo "waited in vain: $*"; }'
 
@@ -51,7 +51,8 @@ def script_of(commands, program, folder):
     for command in commands:
         # what answers without the proofs is the script itself
         ready = re.sub(r"\./llrp(?! --unproved)", lambda _: shlex.quote(program), command)
-        ready = ready.replace("report.pcap", shlex.quote(f"{folder}/report.pcap"))
+        for file in ("report.pcap", "sim.log"):
+            ready = ready.replace(file, shlex.quote(f"{folder}/{file}"))
         if re.search(r"\b(sim|127\.0\.0\.1)\b", command):
             ready = ready.replace("5084", str(port))
         lines += [ready, listens] if command.endswith("&") else [ready]
