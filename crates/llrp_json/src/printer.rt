@@ -226,8 +226,6 @@ impl Listener for JsonPrinter {
 
     ghost ends = { λ self was m now. AppendsMessage m was now };
 
-    ghost faulty = { λ self was t octets fault. Unit {0} };
-
     fn message(
         &mut self,
         version: u8,
@@ -295,10 +293,6 @@ impl Listener for JsonPrinter {
         self.mark = self.text.len();
         self.depth = 0;
         Ok(())
-    }
-
-    fn fault(&mut self, _fault: Fault, _octets: &[u8]) {
-        self.give_up();
     }
 
     fn give_up(&mut self) {

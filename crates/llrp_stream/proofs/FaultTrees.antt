@@ -1,5 +1,5 @@
 -- A fault, with the open tree in which it is found.
-use Rattle.std.proofs.Common.{◌≡◌, inr, ℕ, ◌+◌, ◌*◌, Bool, true, false, List, [], ◌∷◌, ◌++◌, length, drop, Some, refl, sym, ap, subst, ◌∙◌, arith}
+use Rattle.std.proofs.Common.{◌≡◌, ℕ, ◌+◌, Bool, true, false, List, [], ◌∷◌, ◌++◌, length, drop, Some, refl, sym, ap, subst, ◌∙◌, arith, append_assoc}
 use Rattle.std.specs.Prelude.{nat_le}
 use Rattle.tag_bits.specs.Digits.{digits_of_bytes}
 use Rattle.llrp_schema.specs.declared.kinds.Kind.{Kind}
@@ -15,8 +15,9 @@ use Rattle.llrp_tree.specs.Calls.Standing.{IsAt, leading}
 use Rattle.llrp_tree.specs.Private.Standing.{FailsFirst, Tells}
 use Rattle.llrp_tree.proofs.ReadDigits.{length_covered}
 use Rattle.llrp_tree.proofs.LastPart.{field_turn}
-use Rattle.llrp_stream.specs.Calls.Front.{AreDeciding}
-use Rattle.llrp_stream.specs.Private.Front.{IsDecidedFor, TellsAll, TellsAt, TellsFor}
+use Rattle.llrp_stream.specs.Calls.Received.{FailsAt}
+use Rattle.llrp_stream.specs.Private.Front.{TellsAll, TellsAt, TellsFor}
+use Rattle.llrp_stream.specs.Private.Reading.{HeadFails}
 
 -- a check that fails at a reader's place is a fault of its open tree
 pub tells_at : (ds : List Bool) (b : Begun) (outer : List Begun) (at : ℕ) (tn : NextPart) (e : FrameErr) → IsAt ds (b ∷ outer) at → next_part b at (drop at ds) ≡ tn
@@ -84,7 +85,14 @@ module _ (ds : List Bool) (b : Begun) (outer : List Begun) (at : ℕ) (parent : 
       let Q : ℕ → Type 0 = λ n. FailsFirst (tlv_checks (set_of_kind parent) (groups_of parent) b.children n at b.stop (drop at ds)) e in
       tells_at ds b outer at BeginTlv e st (tlv_turn g z) (subst P (sym k) (subst Q at_level f))
 
--- the front decides a fault
-pub decided_for : (t : List Begun) (front : List ℕ) (n : ℕ) (e : FrameErr) → AreDeciding (8 * length front) front n t → IsDecidedFor t front n e
-decided_for t front n Memory d = tt
-decided_for t front n (Bad x) d = inr d
+-- more octets of the front
+pub tells_for_more : (p : KindSet) (t : List Begun) (front more : List ℕ) (n : ℕ) (e : FrameErr) → TellsFor p t front n e → TellsFor p t (front ++ more) n e
+tells_for_more p t front more n e f =
+    record {
+      tree = f.tree;
+      is = f.is;
+      root = f.root;
+      tells = λ later long.
+          let same = append_assoc front more later in
+          subst (λ (x : List ℕ). TellsAt (digits_of_bytes x) f.tree e) (sym same) (f.tells (more ++ later) (sym (ap (λ (x : List ℕ). length x) same) ∙ long));
+    }

@@ -44,8 +44,6 @@ impl Listener for Printer {
 
     ghost ends = { λ self was m now. AppendsLines (message_lines m) was now };
 
-    ghost faulty = { λ self was t octets fault. Unit {0} };
-
     #[inline(always)]
     fn message(
         &mut self,
@@ -97,10 +95,6 @@ impl Listener for Printer {
     fn end(&mut self) -> Result<(), AllocError> {
         self.mark = self.text.len();
         Ok(())
-    }
-
-    fn fault(&mut self, _fault: Fault, _octets: &[u8]) {
-        self.give_up();
     }
 
     fn give_up(&mut self) {

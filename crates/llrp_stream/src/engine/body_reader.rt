@@ -11,7 +11,7 @@ ghost use Rattle.llrp_schema.specs.declared.kinds.Kind.TheVariants.{Parameter};
 ghost use Rattle.llrp_tree.specs.Private.Standing.{is_tv_kind};
 ghost use Rattle.llrp_tree.specs.declared.fault.FrameErr.TheVariants.{Bad, Memory};
 ghost use Rattle.llrp_stream.specs.declared.engine.body_reader.Step.TheVariants as Step;
-ghost use Rattle.llrp_stream.specs.Private.Steps.{AreBefore, FieldSays, HandsFrom, HasCome, HasComeTo, ReadsFrom, StepsFrom, StepsInto, StepsOn, StepsOnField};
+ghost use Rattle.llrp_stream.specs.Private.Steps.{AreBefore, FieldSays, HasCome, HasComeTo, ReadsFrom, StepsFrom, StepsInto, StepsOn, StepsOnField};
 ghost use Rattle.llrp_stream.specs.declared.engine.body_reader.Stage.TheVariants as Stage;
 
 use crate::engine::listener::Listener;
@@ -350,23 +350,6 @@ impl BodyReader {
         }
     }
 
-    /// Does a step, and hands its fault to the listener, with the octets from the part on that has it.
-    #[inline(always)]
-    fn take_part<L: Listener>(&mut self, listener: &mut L, octets: &[u8]) -> Result<Step, FrameErr>
-        requires { AreBefore (L.begins listener.old) (L.stands listener.old) self.old octets.now }
-        ensures { HandsFrom (L.begins listener.old) (L.stands listener.old) (L.begins listener.new)
-            (L.stands listener.new) (L.faulty listener.new) self.old self.new octets.now result }
-    {
-        match self.step(listener, octets) {
-            Ok(step) => Ok(step),
-            Err(FrameErr::Memory) => Err(FrameErr::Memory),
-            Err(FrameErr::Bad(fault)) => {
-                listener.fault(fault, octets);
-                Err(FrameErr::Bad(fault))
-            }
-        }
-    }
-
     /// Reads all parts that are whole in the octets.
     pub(crate) fn read<L: Listener>(
         &mut self,
@@ -375,11 +358,11 @@ impl BodyReader {
     ) -> Result<ReadParts, FrameErr>
         requires { AreBefore (L.begins listener.old) (L.stands listener.old) self.old octets.now }
         ensures { ReadsFrom (L.begins listener.old) (L.stands listener.old) (L.begins listener.new)
-            (L.stands listener.new) (L.faulty listener.new) self.old self.new octets.now result }
+            (L.stands listener.new) self.old self.new octets.now result }
     {
         let mut rest = octets;
         'parts: loop {
-            match self.take_part(listener, rest)? {
+            match self.step(listener, rest)? {
                 Step::Waits => {
                     return Ok(ReadParts {
                         used: octets.len() - rest.len(),

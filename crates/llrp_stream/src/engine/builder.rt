@@ -6,7 +6,7 @@ ghost use Rattle.llrp_stream.specs.Building.{nodes_weight};
 use crate::engine::listener::Listener;
 use crate::engine::open_nodes::OpenNodes;
 use llrp_schema::{Field, Kind, MsgKind, ParamKind, Tail};
-use llrp_tree::{Fault, Message};
+use llrp_tree::Message;
 use std::alloc::{AllocError, Global};
 use std::marker::Model;
 
@@ -83,8 +83,6 @@ impl Listener for Builder {
 
     ghost ends = { λ self was m now. (self.done ≡ Some m) × (self.nodes ≡ []) };
 
-    ghost faulty = { λ self was t octets fault. Unit {0} };
-
     fn message(
         &mut self,
         version: u8,
@@ -134,10 +132,6 @@ impl Listener for Builder {
     fn end(&mut self) -> Result<(), AllocError> {
         self.done = Some(self.nodes.finish(self.version, self.id));
         Ok(())
-    }
-
-    fn fault(&mut self, _fault: Fault, _octets: &[u8]) {
-        self.give_up();
     }
 
     fn give_up(&mut self) {

@@ -9,9 +9,8 @@ ghost use Rattle.llrp_tree.specs.Spelling.{Head, message, tlv, tv};
 ghost use Rattle.llrp_tree.specs.OpenTree.{Begun, kind_of_head, IsOpenTree};
 ghost use Rattle.llrp_tree.specs.Calls.Standing.{leading};
 ghost use Rattle.llrp_schema.specs.declared.kinds.Kind.TheVariants.{Parameter};
-ghost use Rattle.llrp_stream.specs.Calls.Received.{with_field, with_octets, with_value, with_closed, AreWhole, CanClose, CanEnd, IsNextField, IsNextValue, IsBeforeTail, IsInTail, IsReady, IsMessageOf, IsRefusedIn};
+ghost use Rattle.llrp_stream.specs.Calls.Received.{with_field, with_octets, with_value, with_closed, AreWhole, CanClose, CanEnd, IsNextField, IsNextValue, IsBeforeTail, IsInTail, IsReady, IsMessageOf, IsFaultIn};
 ghost use Rattle.llrp_schema.specs.declared.kinds.KindSet.{KindSet};
-ghost use Rattle.llrp_tree.specs.declared.fault.Fault.{Fault};
 
 use llrp_schema::{Field, MsgKind, ParamKind, Tail};
 use llrp_tree::Fault;
@@ -29,10 +28,6 @@ pub trait Listener {
 
     /// Holding this of earlier messages, it received this message, and now it holds that.
     ghost ends: { Self → List ℕ → MessageTree → List ℕ → Type 0 };
-
-    /// Holding this of earlier messages, it received this open tree of a faulty frame, and was handed
-    /// these octets and this fault.
-    ghost faulty: { Self → List ℕ → List Begun → List ℕ → Fault → Type 0 };
 
     /// A message begins.
     fn message(
@@ -106,16 +101,14 @@ pub trait Listener {
             → IsMessageOf b.head b.fields b.tail b.children m → (now : List ℕ) × stands self.new now []
             × ends self.new was m now) };
 
-    /// The frame has this fault, which is that of the open tree, and these octets come after what was
-    /// received; of a fault of the header, nothing was received, and they are the header. Gives up the
-    /// frame.
-    fn fault(&mut self, fault: Fault, octets: &[u8])
-        ensures stands { (was : List ℕ) (t : List Begun) → (begins self.old was t)
-            ⊎ (stands self.old was t) → stands self.new was [] }
-        ensures faulty { (was : List ℕ) (t : List Begun) → (begins self.old was t)
-            ⊎ (stands self.old was t) → (p : KindSet) (limit : ℕ) (front : List ℕ) (size : ℕ)
-            → IsRefusedIn p limit front size t octets.now fault
-            → faulty self.new was t octets.now fault };
+    /// The frame has this fault, which is that of the open tree; forgets what was received of it.
+    fn fault(&mut self, _fault: Fault)
+        ensures { (was : List ℕ) (t : List Begun) (p : KindSet) (front : List ℕ) (octets : ℕ)
+            → (begins self.old was t) ⊎ (stands self.old was t)
+            → IsFaultIn p front octets t _fault → stands self.new was [] }
+    {
+        self.give_up();
+    }
 
     /// Forgets what was received of an unfinished message.
     fn give_up(&mut self)

@@ -1,6 +1,6 @@
 //! An open node, as the engine keeps it.
 
-ghost use Rattle.std.specs.Prelude.{◌≡◌, ◌<◌, ◌≤◌, IfErr, IfOk, IfSome, Err, Ok, Some, length};
+ghost use Rattle.std.specs.Prelude.{◌≡◌, ◌<◌, ◌≤◌, IfErr, IfOk, IfSome, Err, Ok, Some};
 ghost use Rattle.llrp_schema.specs.declared.kinds.Kind.TheVariants.{Message};
 ghost use Rattle.llrp_schema.specs.declared.kinds.MsgKind.TheVariants.{Keepalive};
 ghost use Rattle.llrp_schema.specs.Schema.{groups_of, set_of_kind, tlv_in, tv_in};
@@ -10,7 +10,7 @@ ghost use Rattle.llrp_tree.specs.declared.TheConstants.{MAX_LIMIT};
 ghost use Rattle.llrp_tree.specs.Tree.{Forest, none};
 ghost use Rattle.llrp_tree.specs.OpenTree.{is_enough};
 ghost use Rattle.llrp_stream.specs.Calls.Reading.{AreSeen};
-ghost use Rattle.llrp_stream.specs.Private.Reading.{HasHead, HeadIs, PlacesKind};
+ghost use Rattle.llrp_stream.specs.Private.Reading.{HeadIs, PlacesKind};
 
 use crate::engine::body_reader::bad;
 use llrp_schema::{
@@ -166,8 +166,7 @@ pub(crate) fn child_head(
 ) -> Result<Child, FrameErr>
     requires before { at < stop }
     requires small { stop ≤ MAX_LIMIT }
-    ensures says { HeadIs parent seen.bits level at stop octets.now result }
-    ensures there { IfErr result (λ error. HasHead parent at stop octets.now) }
+    ensures { HeadIs parent seen.bits level at stop octets.now result }
 {
     let bit = 8 * at;
     if llrp_schema::groups(parent).len() == 0 {
@@ -233,7 +232,6 @@ pub(crate) fn known_head(
         octets.now (Ok (Long (record { kind = kind; seen = head.0 }) head.1)))) }
     ensures fails { IfErr result (λ error. HeadIs parent seen.bits level at stop octets.now
         (Err error)) }
-    ensures there { IfErr result (λ error. 4 ≤ length octets.now) }
 {
     if octets.len() < 4 || stop - at < 4 {
         return Ok(None);

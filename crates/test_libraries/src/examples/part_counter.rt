@@ -2,7 +2,6 @@
 
 use llrp_schema::{Field, MsgKind, ParamKind, Tail};
 use llrp_stream::Listener;
-use llrp_tree::Fault;
 use std::alloc::AllocError;
 
 /// How many messages and parameters came.
@@ -29,8 +28,6 @@ impl Listener for PartCounter {
     ghost stands = { λ self was t. Unit {0} };
 
     ghost ends = { λ self was m now. Unit {0} };
-
-    ghost faulty = { λ self was t octets fault. Unit {0} };
 
     fn message(
         &mut self,
@@ -75,10 +72,6 @@ impl Listener for PartCounter {
 
     fn end(&mut self) -> Result<(), AllocError> {
         Ok(())
-    }
-
-    fn fault(&mut self, _fault: Fault, _octets: &[u8]) {
-        self.give_up();
     }
 
     fn give_up(&mut self) {}

@@ -46,7 +46,7 @@ pub returns-then-not-enough : goal.returns-then-not-enough
 returns-then-not-enough g c = λ os was front b outer rd told d.
     let r = c.args.self.now in
     let few : c.is_enough-enough.result ≡ false = cc (c.if-not-enough.true) in
-    fails_with _ _ r front b outer c.bad.result rd (missing_tell r front b outer rd c.requires.stage c.requires.over c.bad.result
+    fails_with _ _ _ front r.octets c.bad.result (missing_tell r front b outer rd c.requires.stage c.requires.over c.bad.result
     (ap (λ (k : Kind). is_enough (groups_of k) b.children) rd.level.kind ∙ sym (c.is_enough-enough.ensures b.children (seen_are r front b outer rd)) ∙ few) c.bad.ensures) (inr told)
 
 lawful_in : (p : Begun) (outer : List Begun) → IsOpenTree (p ∷ outer) → AllLawful p.children

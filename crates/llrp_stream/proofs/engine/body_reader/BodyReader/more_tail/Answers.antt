@@ -55,7 +55,7 @@ returns-then-faulty g c = λ was front b outer rd told d.
     let h : HasWhole Text near 0 = subst (λ (n : ℕ). HasWhole Text near n) zero (subst (λ (x : Tail). HasWhole x near c.whole_front-used.result) text c.whole_front-used.ensures) in
     let tells : TellsFor r.set (b ∷ outer) front r.octets c.bad.result = subst (λ (e : FrameErr). TellsFor r.set (b ∷ outer) front r.octets e) (sym c.bad.ensures)
     (text_tells c.args.left r front b outer t c.args.octets.now near d (are_octets c.args.octets.now (λ i. c.type_inv.octets i)) near_is shape c.requires.some_left (sym h) (far_of (length near) c.args.left (c.is_faulty-faulty.ensures.many faulty))) in
-    fails_with (g.L.Listener.begins c.args.listener.now was) (g.L.Listener.stands c.args.listener.now was) r front b outer c.bad.result rd tells (inl told)
+    fails_with _ (g.L.Listener.begins c.args.listener.now was) (g.L.Listener.stands c.args.listener.now was) front r.octets c.bad.result tells (inl told)
 
 pub returns-then-used-eq0 : goal.returns-then-used-eq0
 returns-then-used-eq0 g c = λ was front b outer rd told d.
