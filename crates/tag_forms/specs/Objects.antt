@@ -61,3 +61,27 @@ abbrev pub IsObjectAnswer : ℕ → Option ℕ → List ℕ → Bool → List �
 IsObjectAnswer filter count text refused answer =
     ((word : ℕ) × (word < 2 ^ 96) × ReadsAs (form_at text) filter count text word × (refused ≡ false) × IsFormObject word answer)
     ⊎ ((f : FormFault) × HasFaultIn (form_at text) filter count text f × (refused ≡ true) × (answer ≡ refusal_object f))
+
+-- what is said of a word without a text in a form; every word has a tag form and hexadecimal digits
+abbrev pub lack_name : Form → List ℕ
+lack_name Pure = codes "NoEpc"
+lack_name Tag = []
+lack_name Hex = []
+lack_name form = codes "NoKey"
+
+-- the members after that of a form: those of a word that carries no EPC after the tag form, and else none
+abbrev pub IsReasonIn : Form → ℕ → List ℕ → Type 0
+IsReasonIn Tag word members = IsReason word members
+IsReasonIn form word members = members ≡ []
+
+-- the object of one form of a word, or one that says that the word has no such text, and whether that is so
+abbrev pub IsMemberObject : Form → ℕ → Bool → List ℕ → Type 0
+IsMemberObject to word false object =
+    (text member why : List ℕ) × IsTextIn to word text × IsFormMember (codes "{\"") to word member × IsReasonIn to word why × (object ≡ member ++ (why ++ codes "}"))
+IsMemberObject to word true object = ((text : List ℕ) → IsTextIn to word text → ⊥) × (object ≡ refused_as (lack_name to))
+
+-- the answer to a text as an object of one form
+abbrev pub IsMemberAnswer : Form → ℕ → Option ℕ → List ℕ → Bool → List ℕ → Type 0
+IsMemberAnswer to filter count text refused answer =
+    ((word : ℕ) × (word < 2 ^ 96) × ReadsAs (form_at text) filter count text word × IsMemberObject to word refused answer)
+    ⊎ ((f : FormFault) × HasFaultIn (form_at text) filter count text f × (refused ≡ true) × (answer ≡ refusal_object f))

@@ -21,6 +21,7 @@ mod form_lines;
 mod hexadecimal;
 pub mod laws;
 mod list;
+mod member;
 mod object;
 mod prefixes;
 mod read_form;

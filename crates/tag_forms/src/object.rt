@@ -15,7 +15,12 @@ use tag_epc::{Epc, WordFault};
 use tag_keys::KeyFault;
 
 /// Appends the member of a form after its front, if the word has such a text.
-fn push_member(object: &mut Vec<u8>, front: &[u8], word: Word, form: Form) -> Result<(), AllocError>
+pub(crate) fn push_member(
+    object: &mut Vec<u8>,
+    front: &[u8],
+    word: Word,
+    form: Form,
+) -> Result<(), AllocError>
     ensures { OnOk result ((member : List ℕ) × IsFormMember front.now form word member
         × (object.new.items ≡ object.old.items ++ member)) }
 {
@@ -41,7 +46,7 @@ fn push_fault(object: &mut Vec<u8>, fault: WordFault) -> Result<(), AllocError>
 }
 
 /// Appends the members that say why a word has no EPC, if it has none.
-fn push_reason(object: &mut Vec<u8>, word: Word) -> Result<(), AllocError>
+pub(crate) fn push_reason(object: &mut Vec<u8>, word: Word) -> Result<(), AllocError>
     ensures { OnOk result ((members : List ℕ) × IsReason word members
         × (object.new.items ≡ object.old.items ++ members)) }
 {
@@ -78,7 +83,7 @@ fn push_right(object: &mut Vec<u8>, fault: FormFault) -> Result<(), AllocError>
 }
 
 /// Appends an object with the rule that refuses a text, and with the right digit where the check digit is wrong.
-fn push_refusal_object(object: &mut Vec<u8>, fault: FormFault) -> Result<(), AllocError>
+pub(crate) fn push_refusal_object(object: &mut Vec<u8>, fault: FormFault) -> Result<(), AllocError>
     ensures { OnOk result (object.new.items ≡ object.old.items ++ refusal_object fault) }
 {
     object.extend_from_slice(b"{\"refused\":\"")?;

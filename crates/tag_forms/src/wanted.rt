@@ -6,6 +6,7 @@ ghost use Rattle.tag_forms.specs.Wanted.{IsWantedAnswer, line_refusal};
 
 use crate::answer::push_answer;
 use crate::form::Form;
+use crate::member::push_member_answer;
 use crate::object::{push_object_answer, push_refused};
 use std::alloc::AllocError;
 
@@ -14,6 +15,8 @@ use std::alloc::AllocError;
 pub enum Wanted {
     /// The text of its word in this form.
     Text(Form),
+    /// An object of JSON with the text of its word in this form.
+    Member(Form),
     /// An object of JSON with all forms of its word.
     Object,
 }
@@ -34,6 +37,7 @@ pub fn push_wanted(
 {
     match wanted {
         Wanted::Text(to) => push_answer(answers, text, to, filter, company_digits),
+        Wanted::Member(to) => push_member_answer(answers, text, to, filter, company_digits),
         Wanted::Object => push_object_answer(answers, text, filter, company_digits),
     }
 }
@@ -51,6 +55,6 @@ pub(crate) fn push_line_refusal(
             answers.extend_from_slice(b"! ")?;
             answers.extend_from_slice(name.as_bytes())
         }
-        Wanted::Object => push_refused(answers, name),
+        Wanted::Member(_) | Wanted::Object => push_refused(answers, name),
     }
 }

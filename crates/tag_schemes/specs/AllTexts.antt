@@ -1,0 +1,44 @@
+-- The texts of words in the set of all schemes, those of tag_epc and the further ones.
+-- Source: EPC Tag Data Standard 1.13, section 12.
+use Rattle.std.specs.Prelude.{◌≡◌, ℕ, ◌^◌, ◌<◌, ◌≤◌, ◌⊎◌, List, ◌++◌, length}
+use Rattle.tag_uri.specs.declared.fault.UriFault.TheVariants as fault
+use Rattle.tag_uri.specs.TagText.{tag_start, raw_uri, IsTextOf, HasTextFault}
+use Rattle.tag_schemes.specs.declared.scheme.Scheme.{Scheme}
+use Rattle.tag_schemes.specs.declared.numbers.Numbers.{Numbers}
+use Rattle.tag_schemes.specs.declared.fault.SchemeFault.{SchemeFault}
+use Rattle.tag_schemes.specs.declared.fault.SchemeFault.TheVariants.{Long, Tag}
+use Rattle.tag_schemes.specs.LawfulWord.{HasWord}
+use Rattle.tag_schemes.specs.Texts.{text_in, uri_in, HasFaultIn}
+
+-- the text of a word: the tag URI of its EPC of a further scheme, or what it is without those schemes
+abbrev pub IsTextInAll : ℕ → List ℕ → Type 0
+IsTextInAll word text =
+    ((epc : Numbers) × HasWord epc word × (text ≡ uri_in epc))
+    ⊎ (((epc : Numbers) → HasWord epc word → ⊥) × IsTextOf word text)
+
+-- a text that begins as a tag URI of a further scheme, and what follows the scheme's colon
+pub record BeginsIn (text : List ℕ) (scheme : Scheme) (rest : List ℕ) : Type 0 where
+  pub begins : text ≡ tag_start ++ text_in scheme rest
+
+-- a text that begins as none of them
+abbrev pub BeginsInNone : List ℕ → Type 0
+BeginsInNone text = (scheme : Scheme) (rest : List ℕ) → BeginsIn text scheme rest → ⊥
+
+-- the raw URI of a word of a further scheme
+pub record IsRawOfFurther (text : List ℕ) : Type 0 where
+  pub word : ℕ
+  pub below : word < 2 ^ 96
+  pub epc : Numbers
+  pub has : HasWord epc word
+  pub raw : text ≡ raw_uri word
+
+-- how many octets a text of a further scheme may have: this project's own bound, above the length of each
+abbrev pub most_octets : ℕ
+most_octets = 96
+
+-- the first rule that refuses a text
+abbrev pub HasFaultInAll : List ℕ → SchemeFault → Type 0
+HasFaultInAll text Long = (scheme : Scheme) × (rest : List ℕ) × BeginsIn text scheme rest × (most_octets < length text)
+HasFaultInAll text (Tag f) =
+    ((scheme : Scheme) × (rest : List ℕ) × BeginsIn text scheme rest × (length text ≤ most_octets) × HasFaultIn scheme rest f)
+    ⊎ (BeginsInNone text × (HasTextFault text f ⊎ ((f ≡ fault.RawOfLawful) × IsRawOfFurther text)))

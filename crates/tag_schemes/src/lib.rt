@@ -1,0 +1,32 @@
+//! Further schemes of 96-bit EPCs, beside those of `tag_epc`: GIAI-96 and GSRNP-96 (EPC Tag Data Standard 1.13).
+//!
+//! Use it where the words of these schemes are to have their tag URIs; without it they have raw URIs, and stay as they are.
+//! [`text_in_all`] and [`word_in_all`] go between words and texts of all schemes; [`numbers_of`] and [`word_of`] between words and
+//! [`Numbers`], the numbers of an EPC of one of the further schemes. No call takes memory.
+//!
+//! ```
+//! let text = text_in_all(word);        // urn:epc:tag:giai-96:3.0614141.5678
+//! let word = word_in_all("urn:epc:tag:giai-96:3.0614141.5678")?;
+//! ```
+#![tactic(auto)]
+
+mod all_texts;
+mod components;
+mod decimal;
+mod fault;
+pub mod laws;
+mod numbers;
+mod read_text;
+mod read_word;
+mod rules;
+mod scheme;
+mod write_text;
+mod write_word;
+
+pub use all_texts::{text_in_all, word_in_all};
+pub use fault::SchemeFault;
+pub use numbers::Numbers;
+pub use read_word::numbers_of;
+pub use scheme::Scheme;
+pub use write_text::print_further;
+pub use write_word::word_of;

@@ -1,0 +1,97 @@
+//! The further schemes, and their rows.
+
+ghost use Rattle.std.specs.Prelude.{◌≡◌, ◌≢◌, MatchOption, slice_get};
+ghost use Rattle.tag_epc.specs.Layout.{partition_table, row_at};
+ghost use Rattle.tag_schemes.specs.Schemes.{layout_in};
+
+use tag_epc::scheme::Row;
+
+/// The further schemes of 96-bit EPCs (EPC Tag Data Standard 1.13, section 14.2).
+#[derive(Clone, Copy, PartialEq, Eq, Debug)]
+pub enum Scheme {
+    /// Individual assets, GIAI-96.
+    Giai,
+    /// Service relations of providers, GSRNP-96.
+    Gsrnp,
+}
+
+/// Bits of the company prefix by partition value, the same in each scheme.
+const COMPANY_BITS: [u32; 7] = [40, 37, 34, 30, 27, 24, 20];
+
+/// The row of a partition value, from the bits and digits of a scheme's references.
+fn row_of(partition: u8, bits: &[u32; 7], digits: &[u32; 7]) -> Option<Row>
+    ensures { result ≡ slice_get (partition_table bits.now digits.now) partition }
+{
+    let at = partition as usize;
+    if at > 6 {
+        return None;
+    }
+    Some(Row {
+        company_bits: COMPANY_BITS[at],
+        company_digits: 12 - partition as u32,
+        reference_bits: bits[at],
+        reference_digits: digits[at],
+    })
+}
+
+impl Scheme {
+    /// The scheme's name in tag URIs, as `giai-96`.
+    pub fn name(self) -> &'static str
+        ensures { result.now ≡ (layout_in self).name }
+    {
+        match self {
+            Scheme::Giai => "giai-96",
+            Scheme::Gsrnp => "gsrnp-96",
+        }
+    }
+
+    /// The first eight bits of each word of the scheme.
+    pub fn header(self) -> u8
+        ensures { result ≡ (layout_in self).header }
+    {
+        match self {
+            Scheme::Giai => 0x34,
+            Scheme::Gsrnp => 0x2E,
+        }
+    }
+
+    /// How many bits the last segment has, which are zeros.
+    pub(crate) fn last_bits(self) -> u32
+        ensures { result ≡ (layout_in self).last_bits }
+    {
+        match self {
+            Scheme::Giai => 0,
+            Scheme::Gsrnp => 24,
+        }
+    }
+
+    /// The row of a partition value, or `None` from 7 on.
+    pub(crate) fn row(self, partition: u8) -> Option<Row>
+        ensures { result ≡ row_at (layout_in self) partition }
+    {
+        match self {
+            Scheme::Giai => row_of(
+                partition,
+                &[42, 45, 48, 52, 55, 58, 62], // bits of the asset reference
+                &[13, 14, 15, 16, 17, 18, 19], // digits that it has at most
+            ),
+            Scheme::Gsrnp => row_of(
+                partition,
+                &[18, 21, 24, 28, 31, 34, 38], // bits of the service reference
+                &[5, 6, 7, 8, 9, 10, 11], // digits of the service reference
+            ),
+        }
+    }
+}
+
+/// The further scheme with that header, the first eight bits of a word.
+pub(crate) fn scheme_with(header: u8) -> Option<Scheme>
+    ensures { MatchOption result ((s : Scheme) → (layout_in s).header ≢ header)
+        (λ s. (layout_in s).header ≡ header) }
+{
+    match header {
+        0x34 => Some(Scheme::Giai),
+        0x2E => Some(Scheme::Gsrnp),
+        _ => None,
+    }
+}
