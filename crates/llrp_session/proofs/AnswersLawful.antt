@@ -1,10 +1,11 @@
 -- The parameters and the messages of the answers are lawful.
 use Rattle.std.proofs.Common.{◌≡◌, ℕ, ◌<◌, ◌^◌, List, [], ◌∷◌, ◌∙◌, true, refl, sym, ap, arith, inl, inr, lit<}
-use Rattle.std.specs.Prelude.{None, Some, ◌⊎◌}
+use Rattle.std.specs.Prelude.{None, Some, ◌⊎◌, Bool, false, ◌==◌, if◌then◌else◌}
 use Rattle.std.specs.Str.{is_utf8}
 use Rattle.std.proofs.lemmas.Bool.{le-leb}
 use Rattle.std.proofs.lemmas.Str.{IsUtf8-nil, is_utf8-from_IsUtf8}
 use Rattle.llrp_schema.specs.declared.kinds.MsgKind.{MsgKind}
+use Rattle.llrp_schema.specs.declared.kinds.MsgKind.TheVariants.{WholeDeleteAccessSpecResponse, WholeEnableAccessSpecResponse, WholeDisableAccessSpecResponse, WholeGetAccessSpecsResponse}
 use Rattle.llrp_schema.specs.declared.kinds.ParamKind.{ParamKind}
 use Rattle.llrp_schema.specs.declared.kinds.ParamKind.TheVariants.{WholeLlrpStatus, WholeGeneralDeviceCapabilities, WholeReceiveSensitivityTableEntry, WholePerAntennaAirProtocol, WholeGpioCapabilities, WholeLlrpCapabilities, WholeRegulatoryCapabilities, WholeUhfBandCapabilities, WholeTransmitPowerLevelTableEntry, WholeFrequencyInformation, WholeFixedFrequencyTable, WholeC1G2LlrpCapabilities, WholeC1G2UhfRfModeTable, WholeC1G2UhfRfModeTableEntry, WholeIdentification, WholeAntennaProperties}
 use Rattle.llrp_schema.specs.Schema.{number_of, rule_of, message_rule, param_rule, fields_of, tail_of, groups_of, is_tv, key_of, set_of_kind}
@@ -14,7 +15,7 @@ use Rattle.llrp_tree.specs.Lawful.{body_octets, AllLawful, AreLawful, IsLawfulTr
 use Rattle.llrp_tree.specs.Checks.{all_placed, none_too_many, none_missing, table_tests, first_fault, first_message_fault}
 use Rattle.llrp_tree.proofs.LawLemmas.{lawful_from, lawful_to, message_from}
 use Rattle.llrp_session.specs.ReaderMessages.{parameter}
-use Rattle.llrp_session.specs.Calls.Answers.{with_tail, success, air_protocol, general, of_llrp, mode, modes, frequencies, band, regulatory, air, identification, antenna, Answer, capabilities, configuration, versions, message}
+use Rattle.llrp_session.specs.Calls.Answers.{with_tail, success, air_protocol, general, of_llrp, mode, modes, frequencies, band, regulatory, air, identification, antenna, Answer, capabilities, configuration, versions, status_of_fields, of_access, message}
 
 -- lawful parts are not refused
 pub not_refused : (kind : ParamKind) (fields tail octets : List ℕ) (row children : List Tree) (fault : NodeFault) → octets ≡ tail → row ≡ children → children ≡ [] → AreLawful kind fields tail none
@@ -40,6 +41,18 @@ no_text = is_utf8-from_IsUtf8 [] IsUtf8-nil
 pub success_lawful : AreLawful WholeLlrpStatus (0 ∷ []) ([]) none
 unfolding first_fault table_tests all_placed none_too_many none_missing rule_of param_rule number_of key_of set_of_kind fields_of tail_of groups_of is_tv body_octets
 success_lawful = lawful_from WholeLlrpStatus (0 ∷ []) [] none tt (rw no_text refl)
+
+none_such_lawful : AreLawful WholeLlrpStatus (101 ∷ []) ([]) none
+unfolding first_fault table_tests all_placed none_too_many none_missing rule_of param_rule number_of key_of set_of_kind fields_of tail_of groups_of is_tv body_octets
+none_such_lawful = lawful_from WholeLlrpStatus (101 ∷ []) [] none tt (rw no_text refl)
+
+status_where : (b : Bool) → AreLawful WholeLlrpStatus ((if b then 0 else 101) ∷ []) [] none
+status_where true = success_lawful
+status_where false = none_such_lawful
+
+pub status_lawful : (fields : List ℕ) → AreLawful WholeLlrpStatus (status_of_fields fields ∷ []) [] none
+status_lawful [] = success_lawful
+status_lawful (id ∷ fields) = status_where (id == 0)
 
 pub sensitivity_lawful : AreLawful WholeReceiveSensitivityTableEntry (1 ∷ 0 ∷ []) ([]) none
 unfolding first_fault table_tests all_placed none_too_many none_missing rule_of param_rule number_of key_of set_of_kind fields_of tail_of groups_of is_tv body_octets
@@ -196,7 +209,35 @@ versions_lawful v id version small =
     let parts : AllLawful (forest versions.parameters) = (tt, success_lawful, tt) in
     is_lawful v id versions version small parts refl
 
+access_lawful : (v id : ℕ) (kind : MsgKind) (fields : List ℕ) → (v ≡ 1) ⊎ (v ≡ 2) → id < 2 ^ 32
+    → first_message_fault 1 kind [] [] (forest ((of_access kind fields).parameters)) ≡ None → IsLawfulMessage (message v id (of_access kind fields))
+unfolding of_access
+access_lawful v id kind fields version small passes =
+    let parts : AllLawful (forest ((of_access kind fields).parameters)) = (tt, status_lawful fields, tt) in
+    is_lawful v id (of_access kind fields) version small parts passes
+
+pub deletion_lawful : (v id : ℕ) (fields : List ℕ) → (v ≡ 1) ⊎ (v ≡ 2) → id < 2 ^ 32 → IsLawfulMessage (message v id (of_access WholeDeleteAccessSpecResponse fields))
+unfolding of_access first_message_fault table_tests all_placed none_too_many none_missing rule_of message_rule param_rule number_of key_of set_of_kind fields_of tail_of groups_of is_tv body_octets
+deletion_lawful v id fields version small = access_lawful v id WholeDeleteAccessSpecResponse fields version small refl
+
+pub enabling_lawful : (v id : ℕ) (fields : List ℕ) → (v ≡ 1) ⊎ (v ≡ 2) → id < 2 ^ 32 → IsLawfulMessage (message v id (of_access WholeEnableAccessSpecResponse fields))
+unfolding of_access first_message_fault table_tests all_placed none_too_many none_missing rule_of message_rule param_rule number_of key_of set_of_kind fields_of tail_of groups_of is_tv body_octets
+enabling_lawful v id fields version small = access_lawful v id WholeEnableAccessSpecResponse fields version small refl
+
+pub disabling_lawful : (v id : ℕ) (fields : List ℕ) → (v ≡ 1) ⊎ (v ≡ 2) → id < 2 ^ 32 → IsLawfulMessage (message v id (of_access WholeDisableAccessSpecResponse fields))
+unfolding of_access first_message_fault table_tests all_placed none_too_many none_missing rule_of message_rule param_rule number_of key_of set_of_kind fields_of tail_of groups_of is_tv body_octets
+disabling_lawful v id fields version small = access_lawful v id WholeDisableAccessSpecResponse fields version small refl
+
+pub listing_lawful : (v id : ℕ) (fields : List ℕ) → (v ≡ 1) ⊎ (v ≡ 2) → id < 2 ^ 32 → IsLawfulMessage (message v id (of_access WholeGetAccessSpecsResponse fields))
+unfolding of_access first_message_fault table_tests all_placed none_too_many none_missing rule_of message_rule param_rule number_of key_of set_of_kind fields_of tail_of groups_of is_tv body_octets
+listing_lawful v id fields version small = access_lawful v id WholeGetAccessSpecsResponse fields version small refl
+
 -- ---- their parts, as the code makes them
+
+pub access_items : (kind : MsgKind) (fields : List ℕ) (status : ℕ) (items : List Tree) (a : Tree) → items ≡ a ∷ [] → a ≡ parameter WholeLlrpStatus (status ∷ []) []
+    → status ≡ status_of_fields fields → items ≡ (of_access kind fields).parameters
+unfolding of_access
+access_items kind fields status items a i p s = rw (i, p, s) refl
 
 pub capabilities_items : (items : List Tree) (a b c d e : Tree) → items ≡ a ∷ b ∷ c ∷ d ∷ e ∷ [] → a ≡ success → b ≡ general → c ≡ of_llrp → d ≡ regulatory → e ≡ air → items ≡ capabilities.parameters
 unfolding capabilities

@@ -2,10 +2,11 @@
 
 ghost use Rattle.std.specs.Prelude.{◌≡◌, ◌⊎◌, IfOk, [], ◌∷◌};
 ghost use Rattle.llrp_tree.specs.Tree.{forest};
-ghost use Rattle.llrp_tree.specs.Lawful.{AreLawful};
+ghost use Rattle.llrp_tree.specs.Lawful.{AreLawful, IsLawfulMessage};
 ghost use Rattle.llrp_session.specs.Calls.Answers as answers;
 
 use crate::build::{leaf, message, only, parameter};
+use crate::reader::status::{FIELD_ERROR, SUCCESS};
 use llrp_tree::{Message, MsgKind, Node, Nodes, Octets, ParamKind};
 use std::alloc::{AllocError, Global};
 
@@ -161,19 +162,83 @@ fn versions(alloc: Global, version: u8, id: u32) -> Result<Message, AllocError>
     Ok(message(version, id, kind, &[2, 2], parts))
 }
 
-/// What a simulated reader answers to a message of the whole standard, if that is one of the three
+/// The status of a request for AccessSpecs with these fields, where there are none.
+fn status_of(fields: &[u128]) -> u128
+    ensures { result ≡ answers.status_of_fields fields.now }
+{
+    match fields.first() {
+        Some(id) if *id != 0 => FIELD_ERROR as u128,
+        _ => SUCCESS as u128,
+    }
+}
+
+/// The response of this kind to a request for AccessSpecs with these fields, where there are none.
+fn of_access(
+    alloc: Global,
+    kind: MsgKind,
+    version: u8,
+    id: u32,
+    fields: &[u128],
+) -> Result<Message, AllocError>
+    requires { IsLawfulMessage (answers.message version id (answers.of_access kind fields.now)) }
+    ensures { IfOk result (λ m. m
+        ≡ answers.message version id (answers.of_access kind fields.now)) }
+{
+    let status = leaf(alloc, ParamKind::WholeLlrpStatus, &[status_of(fields)]);
+    let parts = only(alloc, status)?;
+    Ok(message(version, id, kind, &[], parts))
+}
+
+/// What a simulated reader answers to a message of the whole standard, if that is one of the
 /// requests outside the profile that a general client begins with: GET_READER_CAPABILITIES,
-/// GET_READER_CONFIG and GET_SUPPORTED_VERSION. The answer has the message's version and id, and is
-/// the same whatever part is asked for. The error is that memory ran out.
+/// GET_READER_CONFIG and GET_SUPPORTED_VERSION, the same whatever part is asked for, and
+/// DELETE_ACCESSSPEC, ENABLE_ACCESSSPEC, DISABLE_ACCESSSPEC and GET_ACCESSSPECS, as of a reader that
+/// has no AccessSpecs. The answer has the message's version and id. The error is that memory ran out.
 pub fn answer(alloc: Global, request: &Message) -> Result<Option<Message>, AllocError>
     ensures { IfOk result (λ answer. answer ≡ answers.answer_of request.now) }
 {
     request.lawful();
-    let (version, id) = (request.version(), request.id());
+    let (version, id, fields) = (request.version(), request.id(), request.fields());
     let answer = match request.kind() {
         MsgKind::WholeGetReaderCapabilities => capabilities(alloc, version, id)?,
         MsgKind::WholeGetReaderConfig => configuration(alloc, version, id)?,
         MsgKind::WholeGetSupportedVersion => versions(alloc, version, id)?,
+        MsgKind::WholeDeleteAccessSpec => {
+            of_access(
+                alloc,
+                MsgKind::WholeDeleteAccessSpecResponse,
+                version,
+                id,
+                fields,
+            )?
+        }
+        MsgKind::WholeEnableAccessSpec => {
+            of_access(
+                alloc,
+                MsgKind::WholeEnableAccessSpecResponse,
+                version,
+                id,
+                fields,
+            )?
+        }
+        MsgKind::WholeDisableAccessSpec => {
+            of_access(
+                alloc,
+                MsgKind::WholeDisableAccessSpecResponse,
+                version,
+                id,
+                fields,
+            )?
+        }
+        MsgKind::WholeGetAccessSpecs => {
+            of_access(
+                alloc,
+                MsgKind::WholeGetAccessSpecsResponse,
+                version,
+                id,
+                fields,
+            )?
+        }
         _ => return Ok(None),
     };
     Ok(Some(answer))

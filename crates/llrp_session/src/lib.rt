@@ -4,7 +4,7 @@
 //! Use it to test a client or a reader of your own, message by message, or to build one over a transport of your own. A [`Reader`]
 //! takes what happens at a moment (a [`ReaderIn`]); a [`Client`] takes a [`Command`], or a message of its reader, and says what
 //! that is (a [`Taken`]). Both append the messages that they send. `llrp_endpoints` puts them over bytes. Beside the machine stands
-//! [`answer`], for three requests of general clients that are no messages of the profile.
+//! [`answer`], for requests of general clients that are no messages of the profile.
 //!
 //! ```
 //! let mut client = Client::new(alloc, 65_536, 1);

@@ -10,7 +10,7 @@ mod requests;
 mod rospecs;
 mod settings;
 mod sightings;
-mod status;
+pub(crate) mod status;
 pub(crate) mod table;
 mod timers;
 mod turn;

@@ -1,8 +1,8 @@
--- What a simulated reader answers to the three requests outside the profile that a general client begins with: the least that the tables of the
--- whole standard allow, and the same whatever part is asked for (LLRP 1.1, the chapters on versions, capabilities and configuration).
-use Rattle.std.specs.Prelude.{ℕ, List, [], ◌∷◌, Option, None, Some}
+-- What a simulated reader answers to the requests outside the profile that a general client begins with: the least that the tables of the whole
+-- standard allow, and the same whatever part is asked for (LLRP 1.1, the chapters on versions, capabilities, configuration and AccessSpecs).
+use Rattle.std.specs.Prelude.{ℕ, ◌==◌, if◌then◌else◌, List, [], ◌∷◌, Option, None, Some}
 use Rattle.llrp_schema.specs.declared.kinds.MsgKind.{MsgKind}
-use Rattle.llrp_schema.specs.declared.kinds.MsgKind.TheVariants.{WholeGetReaderCapabilities, WholeGetReaderCapabilitiesResponse, WholeGetReaderConfig, WholeGetReaderConfigResponse, WholeGetSupportedVersion, WholeGetSupportedVersionResponse}
+use Rattle.llrp_schema.specs.declared.kinds.MsgKind.TheVariants.{WholeGetReaderCapabilities, WholeGetReaderCapabilitiesResponse, WholeGetReaderConfig, WholeGetReaderConfigResponse, WholeGetSupportedVersion, WholeGetSupportedVersionResponse, WholeDeleteAccessSpec, WholeDeleteAccessSpecResponse, WholeEnableAccessSpec, WholeEnableAccessSpecResponse, WholeDisableAccessSpec, WholeDisableAccessSpecResponse, WholeGetAccessSpecs, WholeGetAccessSpecsResponse}
 use Rattle.llrp_schema.specs.declared.kinds.ParamKind.{ParamKind}
 use Rattle.llrp_schema.specs.declared.kinds.ParamKind.TheVariants.{WholeLlrpStatus, WholeGeneralDeviceCapabilities, WholeReceiveSensitivityTableEntry, WholePerAntennaAirProtocol, WholeGpioCapabilities, WholeLlrpCapabilities, WholeRegulatoryCapabilities, WholeUhfBandCapabilities, WholeTransmitPowerLevelTableEntry, WholeFrequencyInformation, WholeFixedFrequencyTable, WholeC1G2LlrpCapabilities, WholeC1G2UhfRfModeTable, WholeC1G2UhfRfModeTableEntry, WholeIdentification, WholeAntennaProperties}
 use Rattle.llrp_tree.specs.Tree.{Tree, MessageTree, forest}
@@ -82,11 +82,27 @@ configuration = record { kind = WholeGetReaderConfigResponse; fields = []; param
 unfoldable pub versions : Answer
 versions = record { kind = WholeGetSupportedVersionResponse; fields = 2 ∷ 2 ∷ []; parameters = success ∷ [] }
 
--- the answer to a message of this kind
-abbrev pub answer_to : MsgKind → Option Answer
-answer_to WholeGetReaderCapabilities = Some capabilities
-answer_to WholeGetReaderConfig = Some configuration
-answer_to WholeGetSupportedVersion = Some versions
+-- There are no AccessSpecs. So what is asked of all of them, which is the id 0, is done, with M_Success, and for any other id there is none, which
+-- is M_FieldError, 101.
+abbrev pub status_for : (id : ℕ) → ℕ
+status_for id = if id == 0 then 0 else 101
+
+abbrev pub status_of_fields : List ℕ → ℕ
+status_of_fields [] = 0
+status_of_fields (id ∷ fields) = status_for id
+
+unfoldable pub of_access : MsgKind → List ℕ → Answer
+of_access kind fields = record { kind = kind; fields = []; parameters = parameter WholeLlrpStatus (status_of_fields fields ∷ []) [] ∷ [] }
+
+-- the answer to a message of this kind with these fields
+abbrev pub answer_to : MsgKind → Option (List ℕ → Answer)
+answer_to WholeGetReaderCapabilities = Some (λ fields. capabilities)
+answer_to WholeGetReaderConfig = Some (λ fields. configuration)
+answer_to WholeGetSupportedVersion = Some (λ fields. versions)
+answer_to WholeDeleteAccessSpec = Some (of_access WholeDeleteAccessSpecResponse)
+answer_to WholeEnableAccessSpec = Some (of_access WholeEnableAccessSpecResponse)
+answer_to WholeDisableAccessSpec = Some (of_access WholeDisableAccessSpecResponse)
+answer_to WholeGetAccessSpecs = Some (of_access WholeGetAccessSpecsResponse)
 answer_to _ = None
 
 -- an answer as a message
@@ -94,10 +110,10 @@ abbrev pub message : (version id : ℕ) → Answer → MessageTree
 message version id a = record { version = version; id = id; kind = a.kind; fields = a.fields; tail = []; children = forest a.parameters }
 
 -- with the version and the id of the message that it answers
-abbrev pub answering : MessageTree → Option Answer → Option MessageTree
+abbrev pub answering : MessageTree → Option (List ℕ → Answer) → Option MessageTree
 answering request None = None
-answering request (Some a) = Some (message request.version request.id a)
+answering request (Some a) = Some (message request.version request.id (a request.fields))
 
--- the answer to a message, if it is one of the three
+-- the answer to a message, if it is one of these requests
 unfoldable pub answer_of : MessageTree → Option MessageTree
 answer_of m = answering m (answer_to m.kind)

@@ -1,0 +1,18 @@
+//! Operations on one tag: the AccessSpec that asks a reader for them, and whether what it reports says that they were done (LLRP 1.1,
+//! sections 12, 14 and 16).
+//!
+//! Use it to read, write or lock a tag by ADD_ACCESSSPEC. [`access_spec`] makes the AccessSpec of a [`Request`]: it is for the tags with one
+//! EPC, or for any tag, and ends after the first. [`has_succeeded`] looks at the TagReportData of a tag: there is one result for each operation,
+//! in order, under the id of that AccessSpec and of the operation, and each is 0.
+#![tactic(auto)]
+
+pub mod laws;
+mod operation;
+mod parameters;
+mod request;
+mod results;
+
+pub use operation::{LockField, LockManner, Operation};
+pub use parameters::SpecErr;
+pub use request::{LONGEST_EPC, MOST_OPERATIONS, Request, access_spec};
+pub use results::has_succeeded;
