@@ -1,5 +1,5 @@
 -- Each item of a stream has a line of JSON.
-use Rattle.std.proofs.Common.{◌≡◌, ℕ, ◌≤◌, List, [], ◌∷◌, ◌++◌, refl}
+use Rattle.std.proofs.Common.{ℕ, List, [], ◌∷◌, ◌++◌, refl}
 use Rattle.std.specs.Prelude.{codes, decimal}
 use Rattle.llrp_schema.specs.declared.kinds.Kind.TheVariants.{Message, Parameter}
 use Rattle.llrp_schema.specs.Schema.{FieldRule, name_of, plain_fields_of, tail_of}
@@ -7,12 +7,11 @@ use Rattle.llrp_tree.specs.Tree.{Forest, none, and, MessageTree}
 use Rattle.llrp_tree.specs.Lawful.{AllLawful, AreInRange, IsLawfulMessage}
 use Rattle.llrp_listing.specs.NodeLine.{NumberForm, Version, Id, Epc, Unsigned, Signed, field_form, signed_text}
 use Rattle.tag_uri.proofs.Deciding.{has_text}
-use Rattle.llrp_stream.specs.declared.item.Item.{Item}
 use Rattle.llrp_stream.specs.declared.item.Item.TheVariants.{Msg, Bad}
 use Rattle.llrp_json.specs.JsonValues.{string, member, object}
 use Rattle.llrp_json.specs.JsonItems.{AreFields, AreParameters, IsValue, field_name, parameters_members, tail_members}
-use Rattle.llrp_json.specs.JsonLines.{IsItemJson, IsMessageJson, fault_json}
-use Rattle.llrp_json.specs.Calls.JsonLaws.{EachHasLine, IsLawfulItem}
+use Rattle.llrp_json.specs.JsonLines.{IsMessageJson, fault_json}
+use Rattle.llrp_json.specs.Calls.JsonLaws.{EachHasLine}
 
 value_of : (form : NumberForm) (n : ℕ) → (value : List ℕ) × IsValue form n value
 value_of Epc n = let w = has_text n in (string w.0, (w.0, w.1, refl))

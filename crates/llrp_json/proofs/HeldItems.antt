@@ -8,7 +8,8 @@ use Rattle.llrp_listing.proofs.Marked.{marked_more}
 use Rattle.llrp_listing.proofs.TextLemmas.{grown, grown_thrice}
 use Rattle.llrp_json.specs.JsonValues.{member, object}
 use Rattle.llrp_json.specs.JsonLines.{end_json}
-use Rattle.llrp_json.specs.Calls.OpenJson.{Holds, more_members}
+use Rattle.llrp_json.specs.JsonItems.{more_members}
+use Rattle.llrp_json.specs.Calls.OpenJson.{Holds}
 use Rattle.llrp_json.proofs.NodeTexts.{object_first}
 
 -- an object and LF were appended

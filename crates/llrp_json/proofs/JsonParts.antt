@@ -12,7 +12,7 @@ use Rattle.llrp_listing.proofs.TailWords.{bytes_fit}
 use Rattle.llrp_json.specs.JsonValues as text_of
 use Rattle.llrp_json.specs.JsonValues.{escaped, inside}
 use Rattle.llrp_json.specs.Calls.JsonTexts.{IsJson, Value}
-use Rattle.llrp_json.specs.Calls.OpenJson.{more_members}
+use Rattle.llrp_json.specs.JsonItems.{more_members}
 use Rattle.llrp_json.proofs.JsonEnds.{AreSame, Stops, apart, character_ends, name_and_value, no_quote, opens, string_ends, turned, values_end}
 use Rattle.llrp_json.proofs.JsonTextLemmas.{IsMember, escaped_character, is_string}
 

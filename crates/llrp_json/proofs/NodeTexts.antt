@@ -13,9 +13,9 @@ use Rattle.llrp_tree.specs.OpenTree.{Rest, plain_values, tail_due}
 use Rattle.llrp_listing.specs.NodeLine.{field_form}
 use Rattle.llrp_listing.proofs.PrintingLemmas.{encode_more, join_first, other_words}
 use Rattle.llrp_json.specs.JsonValues.{escaped, inside, member, object}
-use Rattle.llrp_json.specs.JsonItems.{AreFields, AreParameters, IsValue, field_name, parameters_members, tail_members}
-use Rattle.llrp_json.specs.Calls.OpenJson.{AreFirstFields, before_one_more, is_parent, listed, more_members, tail_begun, tail_end, whole_of}
-use Rattle.llrp_json.specs.Private.OpenJson.{at_end, has_any, more_of, words_after}
+use Rattle.llrp_json.specs.JsonItems.{AreFields, AreParameters, IsValue, field_name, more_members, parameters_members, tail_members}
+use Rattle.llrp_json.specs.Calls.OpenJson.{AreFirstFields, before_one_more, has_any, is_parent, listed, tail_begun, tail_end, whole_of}
+use Rattle.llrp_json.specs.Private.OpenJson.{at_end, more_of, words_after}
 use Rattle.llrp_listing.proofs.TailLemmas.{words_append}
 
 -- ---- members

@@ -11,7 +11,7 @@ use Rattle.llrp_schema.specs.declared.kinds.Tail.TheVariants.{Absent, Words}
 use Rattle.llrp_schema.specs.Schema.{FieldRule, fields_of, name_of, plain_fields_of, tail_of}
 use Rattle.llrp_tree.specs.Tree.{Forest, none, and, MessageTree}
 use Rattle.llrp_tree.specs.Spelling.{Head, message, tlv, tv}
-use Rattle.llrp_tree.specs.OpenTree.{Begun, kind_of_head, plain_values, rules, form, due, Rest, IsHead, IsOpenTree}
+use Rattle.llrp_tree.specs.OpenTree.{Begun, kind_of_head, plain_values, rules, form, due, Rest, IsHead}
 use Rattle.llrp_tree.specs.Calls.Standing.{leading}
 use Rattle.llrp_tree.proofs.Leading.{plain_in_range}
 use Rattle.llrp_stream.specs.Calls.Received.{with_field, with_child, with_closed, with_value, with_octets, IsNextField, IsNextValue, IsBeforeTail, IsInTail, AreWhole, IsReady, IsMessageOf}
@@ -20,11 +20,11 @@ use Rattle.llrp_listing.proofs.OpenListingLemmas.{grown_drop, grown_take, grown_
 use Rattle.llrp_stream.proofs.BuildingLemmas.{more_plain, same_plain}
 use Rattle.llrp_tree.proofs.BodyLemmas.{head_of_tree as head_of_open}
 use Rattle.llrp_json.specs.JsonValues.{member, object, string}
-use Rattle.llrp_json.specs.JsonItems.{AreFields, AreParameters, IsValue, field_name, parameters_members, tail_members}
+use Rattle.llrp_json.specs.JsonItems.{AreFields, AreParameters, IsValue, field_name, more_members, parameters_members, tail_members}
 use Rattle.llrp_json.specs.JsonLines.{IsMessageJson}
 use Rattle.llrp_listing.specs.Calls.ItemPrinter.{IsMarked}
-use Rattle.llrp_json.specs.Calls.OpenJson.{AreFirstFields, Holds, IsLead, IsParent, Opened, before_one_more, is_parent, listed, more_members, opening, separator_in, tail_begun, tail_end, whole_of}
-use Rattle.llrp_json.specs.Private.OpenJson.{AppendsMessage, Awaits, Begins, IsTailOf, at_end, has_any, more_of, one_parameter, part_of}
+use Rattle.llrp_json.specs.Calls.OpenJson.{AreFirstFields, Awaits, Begins, Holds, IsLead, IsParent, IsTailOf, Opened, before_one_more, has_any, is_parent, listed, opening, part_of, separator_in, tail_begun, tail_end, whole_of}
+use Rattle.llrp_json.specs.Private.OpenJson.{AppendsMessage, CanBeClosed, IsFull, at_end, more_of, one_parameter}
 use Rattle.llrp_json.proofs.NodeTexts.{members_append, object_first, one_field_more, all_fields, next_plain, whole_tail, more_octets, listed_more, end_text}
 
 -- ---- a text after a mark
@@ -268,49 +268,64 @@ whole_text first members form octets f below tail lead is are e =
     ∙ ap (λ (x : List ℕ). start ++ (x ++ 125 ∷ [])) (sym (members_append members (tail_members form octets ++ parameters_members below)))
     ∙ sym (object_first first (members ++ (tail_members form octets ++ parameters_members below)))
 
--- the fields of a node that is ready
-ready_fields : (b : Begun) (outer : List Begun) (members : List (List ℕ)) → IsOpenTree (b ∷ outer) → due b ≡ Rest → AreFirstFields (plain_fields_of (kind_of_head b.head)) (plain_values (rules b) b.fields) members
+-- a node that is ready has its fields and its tail
+pub ready_full : (b : Begun) (outer : List Begun) → IsReady (b ∷ outer) → IsFull b
+ready_full b outer r =
+    let same : r.node ≡ b = (let z = r.tree_is in cc) in
+    let d : due b ≡ Rest = ap due (sym same) ∙ r.ready in
+    record {
+      ready = d;
+      fields = in_range_length (plain_fields_of (kind_of_head b.head)) (plain_values (rules b) b.fields) (plain_in_range (rules b) b.fields (fields_in b outer r.is_open) (all_due b d).0);
+    }
+
+-- and if it lies in another it is a parameter
+inner_parameter : (h : Head) (stop : ℕ) (p : Begun) (outer : List Begun) → IsHead h stop (p ∷ outer) → (kind : ParamKind) × (kind_of_head h ≡ Parameter kind)
+inner_parameter (message v k n id) stop p outer i = absurd i
+inner_parameter (tlv k n) stop p outer i = (k, refl)
+inner_parameter (tv k) stop p outer i = (k, refl)
+
+pub ready_closed : (t : List Begun) → IsReady t → 2 ≤ length t → CanBeClosed t
+ready_closed [] r two = absurd (omega (arith, two))
+ready_closed (b ∷ []) r two = absurd (omega (arith, two))
+ready_closed (b ∷ p ∷ outer) r two = (ready_full b (p ∷ outer) r, inner_parameter b.head b.stop p outer (head_of_open b (p ∷ outer) r.is_open))
+
+-- the fields of a node that has them all
+full_fields : (b : Begun) (members : List (List ℕ)) → IsFull b → AreFirstFields (plain_fields_of (kind_of_head b.head)) (plain_values (rules b) b.fields) members
     → AreFields (plain_fields_of (kind_of_head b.head)) (plain_values (rules b) b.fields) members
-ready_fields b outer members o d are =
-    let r = all_due b d in
-    all_fields (plain_fields_of (kind_of_head b.head)) (plain_values (rules b) b.fields) members are
-    (in_range_length (plain_fields_of (kind_of_head b.head)) (plain_values (rules b) b.fields) (plain_in_range (rules b) b.fields (fields_in b outer o) r.0))
+full_fields b members f are = all_fields (plain_fields_of (kind_of_head b.head)) (plain_values (rules b) b.fields) members are f.fields
 
 -- ---- a parameter that is whole
 
 -- the last parameter of its parent
-child_last : (h : Head) (stop : ℕ) (p : Begun) (outer : List Begun) → IsHead h stop (p ∷ outer) → (before : Forest) (vs : List ℕ) (tail : Option (List ℕ)) (cs : Forest) (earlier members below : List (List ℕ)) (text : List ℕ)
+child_last : (h : Head) (k : ParamKind) → kind_of_head h ≡ Parameter k → (before : Forest) (vs : List ℕ) (tail : Option (List ℕ)) (cs : Forest) (earlier members below : List (List ℕ)) (text : List ℕ)
     → AreParameters before earlier → AreFields (plain_fields_of (kind_of_head h)) (plain_values (fields_of (kind_of_head h)) vs) members → AreParameters cs below
     → ((first : List ℕ) → opening h ≡ 123 ∷ first → text ≡ object (first ∷ (members ++ (tail_members (tail_of (kind_of_head h)) (unwrap_or tail []) ++ parameters_members below))))
     → AreParameters (with_child before h vs tail cs) (earlier ++ text ∷ [])
-child_last (message v k n id) stop p outer i before vs tail cs earlier members below text are fs bs is = absurd i
-child_last (tlv k n) stop p outer i before vs tail cs earlier members below text are fs bs is =
+child_last (message v m n id) j i before vs tail cs earlier members below text are fs bs is = absurd cc
+child_last (tlv k n) j i before vs tail cs earlier members below text are fs bs is =
     (earlier, members, below, are, fs, bs, ap (λ (x : List ℕ). earlier ++ x ∷ []) (is (member (codes "parameter") (string (name_of (Parameter k)))) refl))
-child_last (tv k) stop p outer i before vs tail cs earlier members below text are fs bs is =
+child_last (tv k) j i before vs tail cs earlier members below text are fs bs is =
     (earlier, members, below, are, fs, bs, ap (λ (x : List ℕ). earlier ++ x ∷ []) (is (member (codes "parameter") (string (name_of (Parameter k)))) refl))
 
-is_parent_now : (before : Forest) (h : Head) (vs : List ℕ) (tail : Option (List ℕ)) (cs : Forest) (stop : ℕ) (p : Begun) (outer : List Begun) → IsHead h stop (p ∷ outer) → true ≡ is_parent (with_child before h vs tail cs)
-is_parent_now before (message v k n id) vs tail cs stop p outer i = absurd i
-is_parent_now before (tlv k n) vs tail cs stop p outer i = refl
-is_parent_now before (tv k) vs tail cs stop p outer i = refl
+is_parent_now : (before : Forest) (h : Head) (vs : List ℕ) (tail : Option (List ℕ)) (cs : Forest) (k : ParamKind) → kind_of_head h ≡ Parameter k → true ≡ is_parent (with_child before h vs tail cs)
+is_parent_now before (message v m n id) vs tail cs k i = absurd cc
+is_parent_now before (tlv j n) vs tail cs k i = refl
+is_parent_now before (tv j) vs tail cs k i = refl
 
 closed_text : (above sep plead pbelow bsep btext old text : List ℕ) → old ≡ (above ++ sep) ++ (plead ++ pbelow) → text ≡ (old ++ bsep) ++ btext → text ≡ (above ++ sep) ++ (plead ++ (pbelow ++ (bsep ++ btext)))
 closed_text above sep plead pbelow bsep btext old text e f =
     f ∙ append_assoc old bsep btext ∙ ap (λ (x : List ℕ). x ++ (bsep ++ btext)) e ∙ append_assoc (above ++ sep) (plead ++ pbelow) (bsep ++ btext) ∙ ap (λ (x : List ℕ). (above ++ sep) ++ x) (append_assoc plead pbelow (bsep ++ btext))
 
 -- the innermost node is closed, and its object ends
-closed_opened : (b p : Begun) (outer : List Begun) (rest : List ℕ) → IsReady (b ∷ p ∷ outer) → Opened (b ∷ p ∷ outer) rest → Opened (with_closed (b ∷ p ∷ outer)) (rest ++ at_end (is_parent b.children))
+closed_opened : (b p : Begun) (outer : List Begun) (rest : List ℕ) → CanBeClosed (b ∷ p ∷ outer) → Opened (b ∷ p ∷ outer) rest → Opened (with_closed (b ∷ p ∷ outer)) (rest ++ at_end (is_parent b.children))
 closed_opened b p outer rest r o =
-    let same : r.node ≡ b = (let z = r.tree_is in cc) in
-    let d : due b ≡ Rest = ap due (sym same) ∙ r.ready in
     let u = o.3 in
     let l = o.4 in
-    let i = head_of_open b (p ∷ outer) r.is_open in
     let e : List ℕ = at_end (is_parent b.children) in
     let whole : List ℕ = (o.1 ++ listed o.2) ++ e in
     let object_is : (first : List ℕ) → opening b.head ≡ 123 ∷ first → whole ≡ object (first ∷ (l.members ++ (tail_members (form b) (unwrap_or b.tail []) ++ parameters_members o.2))) =
-    λ first begins. whole_text first l.members (form b) (unwrap_or b.tail []) b.children o.2 (whole_of (form b) b.tail) o.1 (whole_tail (form b) b.tail (all_due b d).1) o.5 (l.text_is ∙ ap (λ (x : List ℕ). x ++ (more_members l.members ++ whole_of (form b) b.tail)) begins) in
-    let texts = child_last b.head b.stop p outer i p.children b.fields b.tail b.children u.2 l.members o.2 whole u.5 (ready_fields b (p ∷ outer) l.members r.is_open d l.are) o.5 object_is in
+    λ first begins. whole_text first l.members (form b) (unwrap_or b.tail []) b.children o.2 (whole_of (form b) b.tail) o.1 (whole_tail (form b) b.tail (all_due b r.0.ready).1) o.5 (l.text_is ∙ ap (λ (x : List ℕ). x ++ (more_members l.members ++ whole_of (form b) b.tail)) begins) in
+    let texts = child_last b.head r.1.0 r.1.1 p.children b.fields b.tail b.children u.2 l.members o.2 whole u.5 (full_fields b l.members r.0 l.are) o.5 object_is in
     let told : rest ++ e ≡ (o.0 ++ separator_in (p ∷ outer)) ++ whole = ap (λ (x : List ℕ). x ++ e) o.6 ∙ append_assoc (o.0 ++ separator_in (p ∷ outer)) (o.1 ++ listed o.2) e in (
       u.0,
       u.1,
@@ -322,7 +337,7 @@ closed_opened b p outer rest r o =
           ∙ ap (λ (x : List ℕ). (u.0 ++ separator_in outer) ++ (u.1 ++ x)) (sym (listed_more p.children u.2 whole u.5)),
     )
 
-pub close_holds : (mark depth : ℕ) (parent : Bool) (old new was : List ℕ) (t : List Begun) → Holds mark depth parent old was t → 2 ≤ depth → IsReady t → new ≡ old ++ at_end parent → Holds mark (depth - 1) true new was (with_closed t)
+pub close_holds : (mark depth : ℕ) (parent : Bool) (old new was : List ℕ) (t : List Begun) → Holds mark depth parent old was t → 2 ≤ depth → CanBeClosed t → new ≡ old ++ at_end parent → Holds mark (depth - 1) true new was (with_closed t)
 close_holds mark depth parent old new was [] h deep r e = absurd (let z = h.deep in omega (arith, deep))
 close_holds mark depth parent old new was (b ∷ []) h deep r e = absurd (let z = h.deep in omega (arith, deep))
 close_holds mark depth parent old new was (b ∷ p ∷ outer) h deep r e =
@@ -331,7 +346,7 @@ close_holds mark depth parent old new was (b ∷ p ∷ outer) h deep r e =
     record {
       marked = marked mark old new (at_end (is_parent b.children)) was (Opened (b ∷ p ∷ outer)) (Opened (with_closed (b ∷ p ∷ outer))) h.marked whole (λ rest o. closed_opened b p outer rest r o);
       deep = let z = h.deep in omega (arith, deep);
-      parent_is = is_parent_now p.children b.head b.fields b.tail b.children b.stop p outer (head_of_open b (p ∷ outer) r.is_open);
+      parent_is = is_parent_now p.children b.head b.fields b.tail b.children r.1.0 r.1.1;
     }
 
 -- ---- a whole value
@@ -358,10 +373,15 @@ value_opened b outer k v one rest a o =
           ∙ ap (λ (x : List ℕ). (o.0 ++ separator_in outer) ++ (o.1 ++ x)) (sym (listed_more b.children o.2 one o.5)),
     )
 
-pub value_holds : (mark depth : ℕ) (parent : Bool) (old mid new was : List ℕ) (t : List Begun) (k : ParamKind) (v : ℕ) (one : List ℕ) → Holds mark depth parent old was t → IsNextValue t k v → AreParameters (one_parameter k v) (one ∷ [])
+-- a node gets a parameter, so there is one
+pub next_in_some : (t : List Begun) (k : ParamKind) (v : ℕ) → IsNextValue t k v → 0 < length t
+next_in_some [] k v nx = absurd (let z : [] ≡ nx.node ∷ nx.outer = nx.tree_is in cc)
+next_in_some (b ∷ outer) k v nx = omega arith
+
+pub value_holds : (mark depth : ℕ) (parent : Bool) (old mid new was : List ℕ) (t : List Begun) (k : ParamKind) (v : ℕ) (one : List ℕ) → Holds mark depth parent old was t → 0 < length t → AreParameters (one_parameter k v) (one ∷ [])
     → mid ≡ old ++ before_one_more parent → new ≡ mid ++ one → Holds mark depth true new was (with_value k v t)
-value_holds mark depth parent old mid new was [] k v one h nx a e f = absurd (let z : [] ≡ nx.node ∷ nx.outer = nx.tree_is in cc)
-value_holds mark depth parent old mid new was (b ∷ outer) k v one h nx a e f =
+value_holds mark depth parent old mid new was [] k v one h some a e f = absurd (omega (arith, some))
+value_holds mark depth parent old mid new was (b ∷ outer) k v one h some a e f =
     let sep : List ℕ = before_one_more (is_parent b.children) in
     let whole : new ≡ old ++ (sep ++ one) = f ∙ ap (λ (x : List ℕ). x ++ one) (e ∙ ap (λ (x : Bool). old ++ before_one_more x) h.parent_is) ∙ append_assoc old sep one in
     record {
@@ -395,18 +415,16 @@ message_text first more members form octets f below tail lead start is are begin
     ∙ ap (λ (x : List ℕ). (123 ∷ first) ++ x) (sym (append_assoc (more_members more) (more_members members) tail) ∙ ap (λ (x : List ℕ). x ++ tail) (sym (members_append more members))) in
     whole_text first (more ++ members) form octets f below tail lead is are whole
 
-ended : (b : Begun) (m : MessageTree) (rest : List ℕ) → IsReady (b ∷ []) → IsMessageOf b.head b.fields b.tail b.children m → Opened (b ∷ []) rest → IsMessageJson m (rest ++ at_end (is_parent b.children))
+ended : (b : Begun) (m : MessageTree) (rest : List ℕ) → IsFull b → IsMessageOf b.head b.fields b.tail b.children m → Opened (b ∷ []) rest → IsMessageJson m (rest ++ at_end (is_parent b.children))
 ended b m rest r e o =
-    let same : r.node ≡ b = (let z = r.tree_is in cc) in
-    let d : due b ≡ Rest = ap due (sym same) ∙ r.ready in
     let l = o.4 in
     let end : List ℕ = at_end (is_parent b.children) in
     let text : rest ++ end ≡ (o.1 ++ listed o.2) ++ end = ap (λ (x : List ℕ). x ++ end) (o.6 ∙ ap (λ (x : List ℕ). (x ++ []) ++ (o.1 ++ listed o.2)) o.3) in
-    message_object b.head b.fields b.tail b.children m l.members o.2 (rest ++ end) e (ready_fields b [] l.members r.is_open d l.are) o.5
-    (λ first more begins. text ∙ message_text first more l.members (form b) (unwrap_or b.tail []) b.children o.2 (whole_of (form b) b.tail) o.1 (opening b.head) (whole_tail (form b) b.tail (all_due b d).1) o.5 begins l.text_is)
+    message_object b.head b.fields b.tail b.children m l.members o.2 (rest ++ end) e (full_fields b l.members r l.are) o.5
+    (λ first more begins. text ∙ message_text first more l.members (form b) (unwrap_or b.tail []) b.children o.2 (whole_of (form b) b.tail) o.1 (opening b.head) (whole_tail (form b) b.tail (all_due b r.ready).1) o.5 begins l.text_is)
 
 -- the object of a message that is whole was appended, and nothing follows
-pub end_holds : (mark depth : ℕ) (parent : Bool) (old mid new was : List ℕ) (b : Begun) (m : MessageTree) (place : ℕ) → Holds mark depth parent old was (b ∷ []) → IsReady (b ∷ []) → IsMessageOf b.head b.fields b.tail b.children m
+pub end_holds : (mark depth : ℕ) (parent : Bool) (old mid new was : List ℕ) (b : Begun) (m : MessageTree) (place : ℕ) → Holds mark depth parent old was (b ∷ []) → IsFull b → IsMessageOf b.head b.fields b.tail b.children m
     → mid ≡ old ++ at_end parent → new ≡ mid ++ 10 ∷ [] → place ≡ length new → (now : List ℕ) × Holds place 0 parent new now [] × AppendsMessage m was now
 end_holds mark depth parent old mid new was b m place h r e ended_at line at =
     let end : List ℕ = at_end (is_parent b.children) in

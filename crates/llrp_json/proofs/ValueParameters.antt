@@ -12,8 +12,7 @@ use Rattle.llrp_schema.specs.Calls.Schema.{field_rule}
 use Rattle.llrp_schema.proofs.TableLaws.{signed_fields, tv_field, tv_tail}
 use Rattle.llrp_listing.specs.NodeLine.{field_form}
 use Rattle.llrp_json.specs.JsonValues.{member, object, string}
-use Rattle.llrp_json.specs.JsonItems.{AreFields, AreParameters, IsValue, field_name, parameters_members, tail_members}
-use Rattle.llrp_json.specs.Calls.OpenJson.{more_members}
+use Rattle.llrp_json.specs.JsonItems.{AreFields, AreParameters, IsValue, field_name, more_members, parameters_members, tail_members}
 use Rattle.llrp_json.specs.Private.OpenJson.{one_parameter}
 use Rattle.llrp_json.specs.Private.Openings.{first_name, value_opening}
 use Rattle.tag_uri.proofs.UriLemmas.{left}

@@ -2,4 +2,5 @@
 pub mod JsonLaws
 pub mod JsonTexts
 pub mod OpenJson
+pub mod PieceLines
 pub mod Show

@@ -1,5 +1,6 @@
 -- The fields, the tail and the parameters of a message or a parameter as members of its object in JSON, under the tables' names.
 use Rattle.std.specs.Prelude.{◌≡◌, ℕ, ◌==◌, if◌then◌else◌, List, [], ◌∷◌, ◌++◌, codes, decimal, map}
+use Rattle.std.specs.List.{flat_map}
 use Rattle.hex.specs.Hex.{encode_lower}
 use Rattle.llrp_schema.specs.declared.kinds.Kind.TheVariants.{Parameter}
 use Rattle.llrp_schema.specs.declared.kinds.Tail.{Tail}
@@ -41,6 +42,10 @@ tail_members Data tail = member (codes "octets") (quoted (encode_lower tail)) �
 abbrev pub parameters_members : List (List ℕ) → List (List ℕ)
 parameters_members [] = []
 parameters_members (text ∷ texts) = member (codes "parameters") (array (text ∷ texts)) ∷ []
+
+-- members after others, each after a comma
+abbrev pub more_members : List (List ℕ) → List ℕ
+more_members members = flat_map (λ text. 44 ∷ text) members
 
 -- the objects of parameters in a row, one for each
 abbrev pub AreParameters : Forest → List (List ℕ) → Type 0

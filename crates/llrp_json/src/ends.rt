@@ -5,7 +5,7 @@ ghost use Rattle.llrp_stream.specs.declared.item.End.TheVariants.{Broken as Brok
 ghost use Rattle.llrp_listing.specs.StreamListing.{frame_fault_name};
 ghost use Rattle.llrp_json.specs.JsonValues.{member, string};
 ghost use Rattle.llrp_json.specs.JsonLines.{end_json, fault_json};
-ghost use Rattle.llrp_json.specs.Calls.OpenJson.{more_members};
+ghost use Rattle.llrp_json.specs.JsonItems.{more_members};
 
 use crate::values::push_string;
 use llrp_listing::{Text, reason_name};

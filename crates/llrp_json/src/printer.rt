@@ -5,11 +5,16 @@ ghost use Rattle.llrp_schema.specs.declared.kinds.Kind.TheVariants.{Message as M
 ghost use Rattle.std.specs.List.{list_all};
 ghost use Rattle.llrp_schema.specs.Calls.Schema.{field_rule};
 ghost use Rattle.llrp_schema.specs.Schema.{name_of, fields_of, bits_of, is_tv};
-ghost use Rattle.llrp_tree.specs.Spelling.{message};
+ghost use Rattle.llrp_tree.specs.declared.TheConstants.{MAX_DEPTH};
+ghost use Rattle.llrp_tree.specs.Calls.Standing.{leading};
+ghost use Rattle.llrp_tree.specs.OpenTree.{Begun, kind_of_head};
+ghost use Rattle.llrp_tree.specs.Spelling.{Head, message};
+ghost use Rattle.llrp_tree.specs.Tree.{MessageTree};
+ghost use Rattle.llrp_stream.specs.Calls.Received.{IsMessageOf, with_closed, with_value};
 ghost use Rattle.llrp_json.specs.JsonValues.{inside, string, member, object};
-ghost use Rattle.llrp_json.specs.JsonItems.{AreFields, AreParameters, field_name};
-ghost use Rattle.llrp_json.specs.Calls.OpenJson.{before_one_more, more_members, opening, tail_begun, tail_end, Holds};
-ghost use Rattle.llrp_json.specs.Private.OpenJson.{at_end, has_any, more_of, one_parameter, Awaits};
+ghost use Rattle.llrp_json.specs.JsonItems.{AreFields, AreParameters, field_name, more_members};
+ghost use Rattle.llrp_json.specs.Calls.OpenJson.{before_one_more, has_any, opening, tail_begun, tail_end, Awaits, Holds};
+ghost use Rattle.llrp_json.specs.Private.OpenJson.{at_end, more_of, one_parameter, AppendsMessage, CanBeClosed, IsFull};
 ghost use Rattle.llrp_json.specs.Private.Openings.{first_name, value_opening};
 ghost use Rattle.llrp_json.specs.Private.PlainStrings.{is_plain};
 
@@ -69,7 +74,7 @@ fn push_message(text: &mut Text, version: u8, kind: MsgKind, id: u32) -> Result<
 }
 
 /// Appends what the object of a parameter begins with.
-fn push_parameter(text: &mut Text, kind: ParamKind) -> Result<(), AllocError>
+pub(crate) fn push_parameter(text: &mut Text, kind: ParamKind) -> Result<(), AllocError>
     ensures { OnOk result (text.new ≡ text.old
         ++ (123 ∷ member (codes "parameter") (string (name_of (ParameterKind kind))))) }
 {
@@ -80,7 +85,7 @@ fn push_parameter(text: &mut Text, kind: ParamKind) -> Result<(), AllocError>
 
 /// Appends what comes before a parameter, after others if there are any.
 #[inline(always)]
-fn push_separator(text: &mut Text, is_parent: bool) -> Result<(), AllocError>
+pub(crate) fn push_separator(text: &mut Text, is_parent: bool) -> Result<(), AllocError>
     ensures { OnOk result (text.new ≡ text.old ++ before_one_more is_parent) }
 {
     if is_parent {
@@ -114,7 +119,7 @@ fn has_words_after(has_words: bool, octets: &[u8]) -> bool
 
 /// Appends what the object of a node ends with.
 #[inline(always)]
-fn push_end(text: &mut Text, is_parent: bool) -> Result<(), AllocError>
+pub(crate) fn push_end(text: &mut Text, is_parent: bool) -> Result<(), AllocError>
     ensures { OnOk result (text.new ≡ text.old ++ at_end is_parent) }
 {
     if is_parent {
@@ -125,7 +130,7 @@ fn push_end(text: &mut Text, is_parent: bool) -> Result<(), AllocError>
 }
 
 /// Appends what the member of a tail begins with.
-fn push_tail(text: &mut Text, form: Tail) -> Result<(), AllocError>
+pub(crate) fn push_tail(text: &mut Text, form: Tail) -> Result<(), AllocError>
     ensures { OnOk result (text.new ≡ text.old ++ tail_begun form []) }
 {
     match form {
@@ -138,7 +143,7 @@ fn push_tail(text: &mut Text, form: Tail) -> Result<(), AllocError>
 }
 
 /// Appends what the member of a tail ends with.
-fn push_tail_end(text: &mut Text, form: Tail) -> Result<(), AllocError>
+pub(crate) fn push_tail_end(text: &mut Text, form: Tail) -> Result<(), AllocError>
     ensures { OnOk result (text.new ≡ text.old ++ tail_end form) }
 {
     match form {
@@ -149,7 +154,12 @@ fn push_tail_end(text: &mut Text, form: Tail) -> Result<(), AllocError>
 }
 
 /// Appends octets of a tail, of which there were some words before or none.
-fn push_octets(text: &mut Text, form: Tail, some: bool, octets: &[u8]) -> Result<(), AllocError>
+pub(crate) fn push_octets(
+    text: &mut Text,
+    form: Tail,
+    some: bool,
+    octets: &[u8],
+) -> Result<(), AllocError>
     ensures { OnOk result (text.new ≡ text.old ++ more_of form some octets.now) }
 {
     match form {
@@ -206,6 +216,78 @@ impl JsonPrinter {
         }
     }
 
+    /// Appends what the object of a parameter below the open nodes begins with.
+    #[inline(always)]
+    pub(crate) fn open_parameter(&mut self, kind: ParamKind) -> Result<(), AllocError>
+        requires { self.old.depth ≤ MAX_DEPTH }
+        ensures { OnOk result ((was : List ℕ) (t : List Begun) (h : Head) (stop : ℕ)
+            → Holds self.old.mark self.old.depth self.old.is_parent self.old.text was t
+            → kind_of_head h ≡ ParameterKind kind
+            → Awaits self.new.mark self.new.depth self.new.is_parent self.new.tail
+            self.new.has_words self.new.text was (leading h stop [] ∷ t)) }
+    {
+        push_separator_below(&mut self.text, self.depth, self.is_parent)?;
+        push_parameter(&mut self.text, kind)?;
+        self.depth += 1;
+        self.is_parent = false;
+        self.tail = Tail::Absent;
+        Ok(())
+    }
+
+    /// Appends the object of a parameter of a type and a value.
+    #[inline(always)]
+    pub(crate) fn push_parameter_of_value(
+        &mut self,
+        kind: ParamKind,
+        value: u128,
+    ) -> Result<(), AllocError>
+        requires tv { is_tv kind ≡ true }
+        requires fits { value < 2 ^ bits_of (fields_of (ParameterKind kind)) }
+        ensures { OnOk result ((was : List ℕ) (t : List Begun)
+            → Holds self.old.mark self.old.depth self.old.is_parent self.old.text was t
+            → 0 < length t
+            → Holds self.new.mark self.new.depth self.new.is_parent self.new.text was
+            (with_value kind value t)) }
+    {
+        push_separator(&mut self.text, self.is_parent)?;
+        push_value_parameter(&mut self.text, kind, value)?;
+        self.is_parent = true;
+        Ok(())
+    }
+
+    /// Appends what the object of the innermost parameter ends with.
+    #[inline(always)]
+    pub(crate) fn close_parameter(&mut self) -> Result<(), AllocError>
+        requires { 2 ≤ self.old.depth }
+        ensures { OnOk result ((was : List ℕ) (t : List Begun)
+            → Holds self.old.mark self.old.depth self.old.is_parent self.old.text was t
+            → CanBeClosed t
+            → Holds self.new.mark self.new.depth self.new.is_parent self.new.text was
+            (with_closed t)) }
+    {
+        push_end(&mut self.text, self.is_parent)?;
+        self.depth -= 1;
+        self.is_parent = true;
+        Ok(())
+    }
+
+    /// Appends what the line of a message ends with.
+    #[inline(always)]
+    pub(crate) fn end_line(&mut self) -> Result<(), AllocError>
+        ensures { OnOk result ((was : List ℕ) (b : Begun) (m : MessageTree)
+            → Holds self.old.mark self.old.depth self.old.is_parent self.old.text was (b ∷ [])
+            → IsFull b → IsMessageOf b.head b.fields b.tail b.children m
+            → (now : List ℕ)
+            × Holds self.new.mark self.new.depth self.new.is_parent self.new.text now []
+            × AppendsMessage m was now) }
+    {
+        push_end(&mut self.text, self.is_parent)?;
+        self.text.push_text(b"\n")?;
+        self.mark = self.text.len();
+        self.depth = 0;
+        Ok(())
+    }
+
     /// The objects of the messages so far, each with its LF; after them, what is there of one that is
     /// not whole.
     pub fn as_slice(&self) -> &[u8]
@@ -216,8 +298,8 @@ impl JsonPrinter {
 }
 
 impl Listener for JsonPrinter {
-    ghost use Rattle.llrp_json.specs.Calls.OpenJson.{Holds};
-    ghost use Rattle.llrp_json.specs.Private.OpenJson.{AppendsMessage, Awaits};
+    ghost use Rattle.llrp_json.specs.Calls.OpenJson.{Awaits, Holds};
+    ghost use Rattle.llrp_json.specs.Private.OpenJson.{AppendsMessage};
 
     ghost begins = { λ self was t. Awaits self.mark self.depth self.is_parent self.tail self.has_words
         self.text was t };
@@ -241,12 +323,7 @@ impl Listener for JsonPrinter {
     }
 
     fn parameter(&mut self, _level: u8, kind: ParamKind, _stop: u32) -> Result<(), AllocError> {
-        push_separator_below(&mut self.text, self.depth, self.is_parent)?;
-        push_parameter(&mut self.text, kind)?;
-        self.depth += 1;
-        self.is_parent = false;
-        self.tail = Tail::Absent;
-        Ok(())
+        self.open_parameter(kind)
     }
 
     fn field(&mut self, rule: &Field, value: u128) -> Result<(), AllocError> {
@@ -274,25 +351,15 @@ impl Listener for JsonPrinter {
     }
 
     fn value(&mut self, _level: u8, kind: ParamKind, value: u128) -> Result<(), AllocError> {
-        push_separator(&mut self.text, self.is_parent)?;
-        push_value_parameter(&mut self.text, kind, value)?;
-        self.is_parent = true;
-        Ok(())
+        self.push_parameter_of_value(kind, value)
     }
 
     fn close(&mut self) -> Result<(), AllocError> {
-        push_end(&mut self.text, self.is_parent)?;
-        self.depth -= 1;
-        self.is_parent = true;
-        Ok(())
+        self.close_parameter()
     }
 
     fn end(&mut self) -> Result<(), AllocError> {
-        push_end(&mut self.text, self.is_parent)?;
-        self.text.push_text(b"\n")?;
-        self.mark = self.text.len();
-        self.depth = 0;
-        Ok(())
+        self.end_line()
     }
 
     fn give_up(&mut self) {

@@ -1,4 +1,5 @@
 pub mod FieldTexts
+pub mod FilledObjects
 pub mod KindNames
 pub mod LineRuns
 pub mod LineSteps
@@ -8,8 +9,18 @@ pub mod MessageSteps
 pub mod NumberTexts
 pub mod OneMessage
 pub mod Parameters
+pub mod PrintedFields
+pub mod PrintedLengths
+pub mod PrintedMessages
+pub mod PrintedParameters
+pub mod PrintedStreams
+pub mod PrintedStrings
+pub mod PrintedUtf8
+pub mod PrintedValues
 pub mod ReadableFields
 pub mod RefusedSaysNone
 pub mod RunSteps
 pub mod SignedTexts
+pub mod TextSteps
+pub mod ValueTexts
 pub mod WordTexts

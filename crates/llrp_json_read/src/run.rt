@@ -43,7 +43,7 @@ impl From<ToolErr> for LinesErr {
 
 /// Why a piece was not taken to its end.
 #[derive(Debug, Drop)]
-enum TakeErr {
+pub(crate) enum TakeErr {
     /// A line is refused.
     Line(RefusedLine),
     /// Memory ran out.
@@ -84,7 +84,7 @@ fn numbered<'a>(alloc: Global, number: u64, error: ReadErr<'a>) -> TakeErr
 
 /// What is kept of lines that come in pieces: the line that has begun, and how many ended before it.
 #[derive(Drop)]
-struct Lines {
+pub(crate) struct Lines {
     line: Vec<u8>,
     number: u64,
     scratch: Scratch,
@@ -92,7 +92,7 @@ struct Lines {
 
 impl Lines {
     /// No line has begun.
-    fn new(alloc: Global) -> Lines
+    pub(crate) fn new(alloc: Global) -> Lines
         ensures line { result.line.items ≡ [] }
         ensures number { result.number ≡ 0 }
     {
@@ -156,7 +156,7 @@ impl Lines {
     }
 
     /// Appends the frames of the lines that end in a piece.
-    fn take(
+    pub(crate) fn take(
         &mut self,
         alloc: Global,
         set: KindSet,
@@ -181,7 +181,7 @@ impl Lines {
     }
 
     /// Appends the frame of a last line without an LF, if there is one.
-    fn end(
+    pub(crate) fn end(
         &mut self,
         alloc: Global,
         set: KindSet,

@@ -1,6 +1,6 @@
 -- The text of an open tree, whose innermost node has its leading parts.
-use Rattle.std.specs.Prelude.{◌≡◌, ℕ, length, Bool, true, false, List, [], ◌∷◌, ◌++◌, codes, decimal, map, Option, Some, None}
-use Rattle.std.specs.List.{flat_map, join_with_byte}
+use Rattle.std.specs.Prelude.{◌≡◌, ℕ, ◌*◌, length, Bool, true, false, List, [], ◌∷◌, ◌++◌, codes, decimal, map, Option, Some, None}
+use Rattle.std.specs.List.{join_with_byte}
 use Rattle.hex.specs.Hex.{encode_lower}
 use Rattle.llrp_schema.specs.declared.kinds.Kind.TheVariants.{Message, Parameter}
 use Rattle.llrp_schema.specs.declared.kinds.Tail.{Tail}
@@ -12,11 +12,7 @@ use Rattle.llrp_tree.specs.OpenTree.{Begun, kind_of_head, plain_values, rules, f
 use Rattle.llrp_listing.specs.NodeLine.{field_form}
 use Rattle.llrp_listing.specs.Calls.ItemPrinter.{IsMarked}
 use Rattle.llrp_json.specs.JsonValues.{inside, string, member}
-use Rattle.llrp_json.specs.JsonItems.{AreParameters, IsValue, field_name}
-
--- members after others, each after a comma
-abbrev pub more_members : List (List ℕ) → List ℕ
-more_members members = flat_map (λ text. 44 ∷ text) members
+use Rattle.llrp_json.specs.JsonItems.{AreParameters, IsValue, field_name, more_members}
 
 -- what an object begins with
 abbrev pub opening : Head → List ℕ
@@ -92,3 +88,34 @@ pub record Holds (mark depth : ℕ) (parent : Bool) (text was : List ℕ) (t : L
   pub marked : IsMarked mark text was (Opened t)
   pub deep : depth ≡ length t
   pub parent_is : IsParent t parent
+
+-- a tail that is read in part, and one that is whole
+abbrev pub part_of : Tail → Option (List ℕ) → List ℕ
+part_of form None = []
+part_of form (Some octets) = tail_begun form octets
+
+-- the text of an open tree, of which the innermost node is read up to its tail or into it
+abbrev pub Begins : List Begun → List ℕ → Type 0
+Begins [] text = ⊥
+Begins (b ∷ outer) text =
+    (above lead : List ℕ) × Opened outer above × IsLead b (part_of (form b) b.tail) lead × (b.children ≡ none) × (text ≡ (above ++ separator_in outer) ++ lead)
+
+abbrev pub has_any : List ℕ → Bool
+has_any [] = false
+has_any (octet ∷ octets) = true
+
+-- which tail is begun, and whether it has words
+abbrev pub IsTailOf : Tail → Option (List ℕ) → Tail → Bool → Type 0
+IsTailOf form None tail some = tail ≡ Absent
+IsTailOf form (Some octets) tail some = (tail ≡ form) × (form ≡ Words → ((n : ℕ) × (length octets ≡ 2 * n)) × (some ≡ has_any octets))
+
+abbrev pub KnowsTail : List Begun → Tail → Bool → Type 0
+KnowsTail [] tail some = ⊥
+KnowsTail (b ∷ outer) tail some = IsTailOf (form b) b.tail tail some
+
+-- The printer has this text of earlier items, and the text of this open tree, whose innermost node is not read up to its parameters.
+pub record Awaits (mark depth : ℕ) (parent : Bool) (tail : Tail) (some : Bool) (text was : List ℕ) (t : List Begun) : Type 0 where
+  pub marked : IsMarked mark text was (Begins t)
+  pub deep : depth ≡ length t
+  pub none_yet : parent ≡ false
+  pub tail_is : KnowsTail t tail some

@@ -83,3 +83,10 @@ abbrev pub Withdraws : TakeErr → List ℕ → SinkLog → SinkLog → LinesErr
 Withdraws Memory out w0 w1 e = (e ≡ lines.Stopped tool.Memory) × (w1 ≡ w0)
 Withdraws (Line line) out w0 w1 (lines.Line same) = (same ≡ line) × Wrote w0 w1 out
 Withdraws (Line line) out w0 w1 (lines.Stopped e) = Writes out w0 w1 (Err e)
+
+-- ---- the whole text
+
+-- the error of a text that was not taken
+abbrev pub lines_error : TakeErr → LinesErr
+lines_error Memory = lines.Stopped tool.Memory
+lines_error (Line line) = lines.Line line

@@ -1,4 +1,3 @@
-use Rattle.std.proofs.Common.{List, ℕ, ap, length}
 use Rattle.llrp_json.specs.JsonLines.{end_json}
 use Rattle.llrp_json.proofs.HeldItems.{more_held}
 use Rattle.llrp_json.proofs.printer.JsonPrinterItemPrinter.push_end.Goals as goal

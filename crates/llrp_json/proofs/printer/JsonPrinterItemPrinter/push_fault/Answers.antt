@@ -1,4 +1,4 @@
-use Rattle.std.proofs.Common.{List, ℕ, [], ◌∷◌, ◌++◌, ap, length, refl}
+use Rattle.std.proofs.Common.{List, ℕ, [], ◌∷◌, ◌++◌, refl}
 use Rattle.llrp_json.specs.JsonLines.{fault_json}
 use Rattle.llrp_json.proofs.HeldItems.{more_held}
 use Rattle.llrp_json.proofs.printer.JsonPrinterItemPrinter.push_fault.Goals as goal

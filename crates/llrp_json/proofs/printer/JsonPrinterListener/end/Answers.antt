@@ -1,6 +1,7 @@
-use Rattle.std.proofs.Common.{List, ℕ, ap, length}
-use Rattle.llrp_json.proofs.OpenJsonLemmas.{end_holds}
+use Rattle.std.proofs.Common.{[]}
+use Rattle.std.proofs.lemmas.Result.{on_ok_weaker}
+use Rattle.llrp_json.proofs.OpenJsonLemmas.{ready_full}
 use Rattle.llrp_json.proofs.printer.JsonPrinterListener.end.Goals as goal
 
 pub returns : goal.returns
-returns c = λ was b m h r e. end_holds _ _ _ _ _ _ was b m _ h r e c.in_ok-push_end.ensures c.in_ok-push_text.ensures c.len-self.ensures
+returns c = on_ok_weaker c.end_line.result (λ e was b m h r is. e was b m h (ready_full b [] r) is) c.end_line.ensures

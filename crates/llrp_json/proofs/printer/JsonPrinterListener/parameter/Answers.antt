@@ -1,11 +1,6 @@
-use Rattle.std.proofs.Common.{inl, inr, ◌*◌}
-use Rattle.std.proofs.lemmas.Bool.{cases_lt}
-use Rattle.llrp_json.proofs.OpenJsonLemmas.{parameter_awaits, first_awaits}
+use Rattle.std.proofs.Common.{◌*◌}
+use Rattle.std.proofs.lemmas.Result.{on_ok_weaker}
 use Rattle.llrp_json.proofs.printer.JsonPrinterListener.parameter.Goals as goal
 
 pub returns : goal.returns
-returns c = λ was t h holds level kind chain.
-    elim (cases_lt 0 c.args.self.now.depth) [
-      | inl deep ↦ parameter_awaits _ _ (8 * c.args._stop) _ _ _ _ _ was h c.args.kind t holds deep kind (c.in_ok-push_separator_below.ensures.some deep) c.in_ok-push_parameter.ensures
-      | inr shallow ↦ first_awaits _ _ (8 * c.args._stop) _ _ _ _ _ was h c.args.kind t holds shallow kind (c.in_ok-push_separator_below.ensures.none) c.in_ok-push_parameter.ensures
-    ]
+returns c = on_ok_weaker c.open_parameter.result (λ e was t h holds level kind chain. e was t h (8 * c.args._stop) holds kind) c.open_parameter.ensures

@@ -1,5 +1,6 @@
-use Rattle.llrp_json.proofs.OpenJsonLemmas.{value_holds}
+use Rattle.std.proofs.lemmas.Result.{on_ok_weaker}
+use Rattle.llrp_json.proofs.OpenJsonLemmas.{next_in_some}
 use Rattle.llrp_json.proofs.printer.JsonPrinterListener.value.Goals as goal
 
 pub returns : goal.returns
-returns c = λ was t h l nx. value_holds _ _ _ _ _ _ was t c.args.kind c.args.value c.in_ok-push_value_parameter.ensures.0 h nx c.in_ok-push_value_parameter.ensures.1 c.in_ok-push_separator.ensures c.in_ok-push_value_parameter.ensures.2
+returns c = on_ok_weaker c.push_parameter_of_value.result (λ e was t h l nx. e was t h (next_in_some t c.args.kind c.args.value nx)) c.push_parameter_of_value.ensures
