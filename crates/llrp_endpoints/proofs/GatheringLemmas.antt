@@ -10,7 +10,7 @@ use Rattle.llrp_session.specs.declared.client.refusal.CmdFault.TheVariants as cm
 use Rattle.llrp_session.specs.Calls.ClientSteps.{IsCmdFault}
 use Rattle.llrp_session.specs.ClientMachine.{Client, Sending, command}
 use Rattle.llrp_session.specs.ClientMessages.{client_message}
-use Rattle.llrp_endpoints.specs.Asides.{Asides, before, said_for, all_said}
+use Rattle.llrp_endpoints.specs.Asides.{Asides, before, instead, said_for, all_said}
 use Rattle.llrp_session.specs.Refusal.{Refusal}
 use Rattle.llrp_session.specs.Contents.{ClientMessage}
 use Rattle.llrp_listing.specs.declared.outcome.ToolErr.{ToolErr}
@@ -158,8 +158,8 @@ does_after c d e g o0 o1 o2 r0 r1 r2 (Err error) p opened q = stops_after c d e 
 
 -- ---- what is said besides
 
-said_once : (a : Asides) (m : ClientMessage) → before a m.word ++ client_message m ∷ [] ≡ all_said a (m ∷ [])
-said_once a m = sym (append-nil (before a m.word ++ client_message m ∷ []))
+said_once : (a : Asides) (m : ClientMessage) → before a m.word ++ instead a.whole (client_message m) ∷ [] ≡ all_said a (m ∷ [])
+said_once a m = sym (append-nil (before a m.word ++ instead a.whole (client_message m) ∷ []))
 
 -- ---- the next step
 
@@ -201,7 +201,7 @@ sent_one c old k left sending h l e = ap (λ (a : Result Sending Refusal). sends
 
 -- its frame was appended in part
 pub sent_some : (c : Course) (old new : Gathering) (k : Command) (left : List Step) (sending : Sending) (messages : List MessageTree) (o0 o1 r : List ℕ) → Holds c old → steps_left old.left ≡ Send k ∷ left → command old.client k ≡ Ok sending
-    → messages ≡ before c.asides sending.message.word ++ client_message sending.message ∷ [] → AddsSome messages o0 o1 → Does c (send_next c) new o0 o1 r r (Err Memory)
+    → messages ≡ before c.asides sending.message.word ++ instead c.asides.whole (client_message sending.message) ∷ [] → AddsSome messages o0 o1 → Does c (send_next c) new o0 o1 r r (Err Memory)
 sent_some c old new k left sending messages o0 o1 r h l e m a =
     subst (λ (d : Course). Does c d new o0 o1 r r (Err Memory)) (sent_one c old k left sending h l e)
     (record {
@@ -220,7 +220,7 @@ sent_some c old new k left sending messages o0 o1 r h l e m a =
 
 -- it was sent
 pub sent_all : (c : Course) (old : Gathering) (new : RemainingCommands) (k : Command) (sending : Sending) (messages : List MessageTree) (o0 o1 r : List ℕ) → Holds c old → c.phase ≡ Open → steps_left old.left ≡ Send k ∷ steps_left new → command old.client k ≡ Ok sending
-    → messages ≡ before c.asides sending.message.word ++ client_message sending.message ∷ [] → Adds messages o0 o1
+    → messages ≡ before c.asides sending.message.word ++ instead c.asides.whole (client_message sending.message) ∷ [] → Adds messages o0 o1
     → Does c (send_next c) (record old { left = new; client = sending.client; awaits = awaited_after (Send k) }) o0 o1 r r (Ok false)
 sent_all c old new k sending messages o0 o1 r h opened l e m a =
     let g = record old { left = new; client = sending.client; awaits = awaited_after (Send k) } in

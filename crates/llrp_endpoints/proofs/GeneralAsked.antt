@@ -61,7 +61,7 @@ absent : (reply : MessageTree) (found : Option MessageTree) → found ≡ None �
 absent reply found a b = let never : None ≡ Some reply = sym a ∙ b in cc
 
 -- a kind with an answer is asked by its number
-asked_kind : (request : MessageTree) (reply : MessageTree) (a : Option Answer) → answering request a ≡ Some reply → is_some a ≡ true
+asked_kind : (request : MessageTree) (reply : MessageTree) (a : Option (List ℕ → Answer)) → answering request a ≡ Some reply → is_some a ≡ true
 asked_kind request reply None e = absurd (absent reply None refl e)
 asked_kind request reply (Some a) e = refl
 

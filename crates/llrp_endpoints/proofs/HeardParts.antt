@@ -1,19 +1,21 @@
 -- What the profile has of a lawful message is lawful.
 use Rattle.std.proofs.Common.{◌≡◌, ℕ, Bool, true, false, List, [], refl, subst}
-use Rattle.std.specs.Prelude.{IfSome, Option, Some, None, is_none, if◌then◌else◌}
+use Rattle.std.specs.Prelude.{IfSome, Option, Some, None, is_none, if◌then◌else◌, ◌==◌}
 use Rattle.llrp_schema.specs.declared.kinds.MsgKind.{MsgKind}
 use Rattle.llrp_schema.specs.declared.kinds.ParamKind.{ParamKind}
+use Rattle.llrp_schema.specs.declared.kinds.ParamKind.TheVariants.{RoSpec}
 use Rattle.llrp_schema.specs.declared.kinds.Kind.TheVariants.{Message}
 use Rattle.llrp_schema.specs.declared.kinds.KindSet.TheVariants.{Profile}
-use Rattle.llrp_schema.specs.Schema.{GroupRule, groups_of, has_place, message_in, number_of}
+use Rattle.llrp_schema.specs.Schema.{GroupRule, groups_of, has_place, key_of, message_in, number_of}
 use Rattle.llrp_schema.proofs.TableLaws.{message_found_in}
 use Rattle.llrp_tree.specs.declared.node.NodeFault.{NodeFault}
 use Rattle.llrp_tree.specs.Tree.{Forest, none, and, Tree, MessageTree}
 use Rattle.llrp_tree.specs.Lawful.{AllLawful, AreOctets, IsLawfulTree, IsLawfulMessage}
 use Rattle.llrp_tree.specs.Checks.{first_fault, first_message_fault}
 use Rattle.llrp_tree.proofs.LawLemmas.{lawful_from, message_from}
-use Rattle.llrp_endpoints.specs.Heard.{add_where, groups_where, lawful_where, message_where, own_kind, own_message, own_row, own_where, tree_where}
+use Rattle.llrp_endpoints.specs.Heard.{add_where, else_kept, groups_where, lawful_where, message_where, own_kind, own_message, own_row, own_where, tree_where}
 use Rattle.llrp_endpoints.specs.Calls.HeardLaws.{HeardIsLawful, IsOwnPart}
+use Rattle.llrp_endpoints.proofs.PlanLemmas.{kept_parts, kept_parts_lawful}
 
 -- ---- parameters
 
@@ -24,8 +26,16 @@ where_lawful kind fields tail children octets below = go (first_fault kind field
     go (Some fault) e = tt
     go None e = (lawful_from kind fields tail children octets e, below)
 
-placed_lawful : (placed : Bool) (kind : ParamKind) (fields tail : List ℕ) (children : Forest) → AreOctets tail → AllLawful children → IfSome (if placed then lawful_where kind fields tail children else None) IsLawfulTree
-placed_lawful true kind fields tail children octets below = where_lawful kind fields tail children octets below
+kept_is_lawful : (is_rospec : Bool) (fields : List ℕ) → IfSome (if is_rospec then lawful_where RoSpec fields [] kept_parts else None) IsLawfulTree
+kept_is_lawful true fields = where_lawful RoSpec fields [] kept_parts tt kept_parts_lawful
+kept_is_lawful false fields = tt
+
+else_lawful : (kind : ParamKind) (fields : List ℕ) (t : Option Tree) → IfSome t IsLawfulTree → IfSome (else_kept kind fields t) IsLawfulTree
+else_lawful kind fields None one = kept_is_lawful (key_of RoSpec == key_of kind) fields
+else_lawful kind fields (Some t) one = one
+
+placed_lawful : (placed : Bool) (kind : ParamKind) (fields tail : List ℕ) (children : Forest) → AreOctets tail → AllLawful children → IfSome (if placed then else_kept kind fields (lawful_where kind fields tail children) else None) IsLawfulTree
+placed_lawful true kind fields tail children octets below = else_lawful kind fields (lawful_where kind fields tail children) (where_lawful kind fields tail children octets below)
 placed_lawful false kind fields tail children octets below = tt
 
 tree_lawful : (groups : List GroupRule) (kind : Option ParamKind) (fields tail : List ℕ) (children : Forest) → AreOctets tail → AllLawful children → IfSome (tree_where groups kind fields tail children) IsLawfulTree

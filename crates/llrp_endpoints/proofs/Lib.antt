@@ -7,6 +7,7 @@ pub mod GeneralHolding
 pub mod GeneralParts
 pub mod ActingLemmas
 pub mod AsideLemmas
+pub mod AsideSteps
 pub mod ByteRuns
 pub mod ByteSchedules
 pub mod ClientSideLemmas
@@ -63,9 +64,12 @@ pub mod ServingEvents
 pub mod ServingPieces
 pub mod ServingServer
 pub mod ServingSteps
+pub mod TableHeard
 pub mod TagLineLemmas
+pub mod TagListing
 pub mod StandardRows
 pub mod WaysOfMessages
+pub mod WholePlans
 pub mod WithinLimit
 pub mod WordTexts
 pub mod WatchLemmas

@@ -12,8 +12,7 @@ use Rattle.llrp_tree.proofs.SpelledLemmas.{levels_of_first, levels_of_others}
 use Rattle.llrp_tree.proofs.TreeLemmas.{forest-push, forest-take_more}
 use Rattle.llrp_schema.specs.declared.kinds.Place.{Place}
 use Rattle.llrp_schema.specs.Calls.Places.{IsPlace}
-use Rattle.llrp_endpoints.specs.Heard.{lawful_where, groups_where, own_kind, own_row, tree_where, add_where, message_where, own_where, own_message}
-use Rattle.llrp_endpoints.specs.Private.Heard.{own_tree}
+use Rattle.llrp_endpoints.specs.Heard.{else_kept, lawful_where, groups_where, own_kind, own_row, own_tree, tree_where, add_where, message_where, own_where, own_message}
 
 -- ---- rows
 
@@ -45,7 +44,7 @@ no_kind groups t e = ap (of_kind groups t) e
 
 pub no_place : (groups : List GroupRule) (t : Tree) (kind : ParamKind) → own_kind t.kind ≡ Some kind → has_place groups kind ≡ false → own_tree groups t ≡ None
 no_place groups t kind e f =
-    ap (of_kind groups t) e ∙ ap (λ (b : Bool). if b then lawful_where kind t.fields t.tail (own_row (groups_of (Parameter kind)) t.children) else None) f
+    ap (of_kind groups t) e ∙ ap (λ (b : Bool). if b then else_kept kind t.fields (lawful_where kind t.fields t.tail (own_row (groups_of (Parameter kind)) t.children)) else None) f
 
 pub placed_there : (groups : List GroupRule) (kind : ParamKind) (o : Option Place) → IfSome o (λ p. IsPlace groups kind p) → is_some o ≡ true → has_place groups kind ≡ true
 placed_there groups kind (Some p) h e = h.placed
@@ -53,10 +52,10 @@ placed_there groups kind None h e = cc
 
 -- its parts are tested
 pub in_place : (groups : List GroupRule) (t : Tree) (kind : ParamKind) (fields tail : List ℕ) (row : Forest) → own_kind t.kind ≡ Some kind → has_place groups kind ≡ true → fields ≡ t.fields → tail ≡ t.tail → row ≡ own_row (groups_of (Parameter kind)) t.children
-    → lawful_where kind fields tail row ≡ own_tree groups t
+    → else_kept kind fields (lawful_where kind fields tail row) ≡ own_tree groups t
 in_place groups t kind fields tail row e placed f g is =
-    ap (λ (x : List ℕ). lawful_where kind x tail row) f ∙ ap (λ (x : List ℕ). lawful_where kind t.fields x row) g ∙ ap (λ (r : Forest). lawful_where kind t.fields t.tail r) is
-    ∙ ap (λ (b : Bool). if b then lawful_where kind t.fields t.tail (own_row (groups_of (Parameter kind)) t.children) else None) (sym placed) ∙ ap (of_kind groups t) (sym e)
+    ap (λ (x : List ℕ). else_kept kind x (lawful_where kind x tail row)) f ∙ ap (λ (x : List ℕ). else_kept kind t.fields (lawful_where kind t.fields x row)) g ∙ ap (λ (r : Forest). else_kept kind t.fields (lawful_where kind t.fields t.tail r)) is
+    ∙ ap (λ (b : Bool). if b then else_kept kind t.fields (lawful_where kind t.fields t.tail (own_row (groups_of (Parameter kind)) t.children)) else None) (sym placed) ∙ ap (of_kind groups t) (sym e)
 
 -- ---- a message
 

@@ -4,10 +4,11 @@ use Rattle.std.specs.Prelude.{Some}
 use Rattle.std.proofs.lemmas.Bool.{le-leb}
 use Rattle.llrp_schema.specs.declared.kinds.ParamKind.{ParamKind}
 use Rattle.llrp_schema.specs.declared.kinds.ParamKind.TheVariants.{RoSpec, RoBoundarySpec, RoSpecStartTrigger, RoSpecStopTrigger, AiSpec, AiSpecStopTrigger, InventoryParameterSpec, RoReportSpec, TagReportContentSelector}
-use Rattle.llrp_schema.specs.Schema.{number_of, rule_of, param_rule, fields_of, tail_of, groups_of, is_tv, key_of, set_of_kind}
+use Rattle.llrp_schema.specs.declared.kinds.Kind.TheVariants.{Parameter}
+use Rattle.llrp_schema.specs.Schema.{number_of, rule_of, param_rule, fields_of, plain_fields_of, tail_of, groups_of, is_tv, key_of, set_of_kind}
 use Rattle.llrp_tree.specs.declared.node.NodeFault.{NodeFault}
-use Rattle.llrp_tree.specs.Tree.{Tree, none, forest}
-use Rattle.llrp_tree.specs.Lawful.{body_octets, tree_octets, AllLawful, AreLawful, IsLawfulTree}
+use Rattle.llrp_tree.specs.Tree.{Forest, Tree, none, forest}
+use Rattle.llrp_tree.specs.Lawful.{body_octets, tree_octets, AllLawful, AreInRange, AreLawful, IsLawfulTree}
 use Rattle.llrp_tree.specs.Checks.{all_placed, none_too_many, none_missing, table_tests, first_fault}
 use Rattle.llrp_tree.proofs.LawLemmas.{lawful_from, lawful_to}
 use Rattle.llrp_session.specs.ReaderMessages.{parameter}
@@ -67,6 +68,23 @@ rospec_lawful every h =
     let r = reporting_lawful every h in
     let parts : AllLawful (rospec every).children = (((tt, boundary_lawful.0, boundary_lawful.1), antenna_lawful.0, antenna_lawful.1), r.0, r.1) in
     (lawful_from RoSpec (1 ∷ 0 ∷ 0 ∷ []) [] (forest (boundary ∷ antenna_inventory ∷ reporting every ∷ [])) tt refl, parts)
+
+-- with what a standard plan has below it a ROSpec is lawful, whatever its fields are
+abbrev pub kept_parts : Forest
+kept_parts = forest (boundary ∷ antenna_inventory ∷ [])
+
+pub kept_parts_lawful : AllLawful kept_parts
+kept_parts_lawful = ((tt, boundary_lawful.0, boundary_lawful.1), antenna_lawful.0, antenna_lawful.1)
+
+kept_rospec : AreLawful RoSpec (1 ∷ 0 ∷ 0 ∷ []) [] kept_parts
+unfolding first_fault table_tests all_placed none_too_many none_missing rule_of param_rule number_of key_of set_of_kind fields_of tail_of groups_of is_tv body_octets
+kept_rospec = lawful_from RoSpec (1 ∷ 0 ∷ 0 ∷ []) [] kept_parts tt refl
+
+pub kept_lawful : (fields : List ℕ) → AreInRange (plain_fields_of (Parameter RoSpec)) fields → AreLawful RoSpec fields [] kept_parts
+unfolding tail_of rule_of param_rule
+kept_lawful fields ranges =
+    let k = kept_rospec in
+    record { obeys = record { ranges = ranges; form = refl; bytes = tt; placed = k.obeys.placed; most = k.obeys.most; least = k.obeys.least }; deep = k.deep; long = k.long }
 
 pub rospec_octets : (every : ℕ) → tree_octets (rospec every) ≡ 65
 unfolding rospec body_octets number_of key_of set_of_kind rule_of param_rule fields_of is_tv tail_of

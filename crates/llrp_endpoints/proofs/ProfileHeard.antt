@@ -17,14 +17,12 @@ use Rattle.llrp_schema.specs.Schema.{FieldRule, GroupRule, number_of, fields_of,
 use Rattle.llrp_schema.proofs.SchemaLemmas.{implied}
 use Rattle.llrp_schema.proofs.TableLaws.{message_at_number, message_tail}
 use Rattle.llrp_schema.proofs.PlaceLemmas.{child_set}
-use Rattle.llrp_tree.specs.Tree.{Forest, none, and, Tree, MessageTree}
+use Rattle.llrp_tree.specs.Tree.{Forest, none, and, MessageTree}
 use Rattle.llrp_tree.specs.Lawful.{AreInRange, IsTail, count, count_octets, ArePlaced, IsAtMost, NoneTooMany, NoneMissing, Obeys, AreLawful, AllLawful, IsLawfulMessage, levels, octets, head_octets, body_octets, message_octets, first, others}
-use Rattle.llrp_tree.specs.Spelling.{spread, field_digits, count_digits, tail_digits, body_digits, head_digits, head_of, message, tlv, tv, forest_digits, message_digits}
-use Rattle.llrp_tree.specs.Frame.{Frame}
-use Rattle.llrp_tree.specs.Checks.{first_fault, first_message_fault}
+use Rattle.llrp_tree.specs.Spelling.{spread, field_digits, tail_digits, body_digits, head_digits, head_of, tlv, tv, forest_digits, message_digits}
 use Rattle.llrp_tree.proofs.LawLemmas.{lawful_to, message_to}
-use Rattle.llrp_endpoints.specs.Heard.{add_where, groups_where, lawful_where, message_where, own_kind, own_message, own_row, own_where, tree_where}
-use Rattle.llrp_endpoints.specs.Calls.HeardLaws.{IsHeardAs, ProfileIsHeard}
+use Rattle.llrp_endpoints.specs.Heard.{add_where, else_kept, groups_where, lawful_where, message_where, own_kind, own_message, own_row, own_where, tree_where}
+use Rattle.llrp_endpoints.specs.Calls.HeardLaws.{ProfileIsHeard}
 use Rattle.llrp_endpoints.proofs.StandardRows.{Form, form_of, form_in, is_foreign, is_own, is_same, listed, message_form, message_groups, nameless, own_of_standard, param_form, param_groups, same_bool, same_most, standard_kind, standard_message, take_own}
 
 -- ---- fields without their names
@@ -302,7 +300,7 @@ row_lawful (and before kind fields tail children) all lawful =
 
 -- ---- what the profile has of such a row is the row
 
-lawful_where_is : (kind : ParamKind) (fields tail : List ℕ) (children : Forest) → AreLawful kind fields tail children → lawful_where kind fields tail children ≡ Some (record { kind = kind; fields = fields; tail = tail; children = children })
+pub lawful_where_is : (kind : ParamKind) (fields tail : List ℕ) (children : Forest) → AreLawful kind fields tail children → lawful_where kind fields tail children ≡ Some (record { kind = kind; fields = fields; tail = tail; children = children })
 lawful_where_is kind fields tail children lawful = ap (λ fault. if is_none fault then Some (record { kind = kind; fields = fields; tail = tail; children = children }) else None) (lawful_to kind fields tail children lawful)
 
 own_row_is : (parent : Kind) (row : Forest) → ArePlaced (groups_of parent) row → AllOwn row → AllLawful row → own_row (groups_of parent) (standard_row row) ≡ row
@@ -315,9 +313,9 @@ own_row_is parent (and before kind fields tail children) placed all lawful =
     let earlier = own_row_is parent before placed.0 all.0 lawful.0 in
     let tree : tree_where (groups_of parent) (own_kind (standard_kind kind)) fields tail (own_row (groups_where (own_kind (standard_kind kind))) (standard_row children)) ≡ Some (record { kind = kind; fields = fields; tail = tail; children = children })
     = ap (λ own. tree_where (groups_of parent) own fields tail (own_row (groups_where own) (standard_row children))) found
-    ∙ ap (λ b. if b then lawful_where kind fields tail (own_row (groups_of (Parameter kind)) (standard_row children)) else None) placed.1
-    ∙ ap (lawful_where kind fields tail) below
-    ∙ lawful_where_is kind fields tail children one in
+    ∙ ap (λ b. if b then else_kept kind fields (lawful_where kind fields tail (own_row (groups_of (Parameter kind)) (standard_row children))) else None) placed.1
+    ∙ ap (λ row. else_kept kind fields (lawful_where kind fields tail row)) below
+    ∙ ap (else_kept kind fields) (lawful_where_is kind fields tail children one) in
     ap (λ t. add_where (own_row (groups_of parent) (standard_row before)) t) tree ∙ ap (λ b. and b kind fields tail children) earlier
 
 -- ---- messages

@@ -13,4 +13,5 @@ pub mod ScriptLaws
 pub mod Sending
 pub mod ServingLaws
 pub mod ServingStands
+pub mod TagListing
 pub mod General

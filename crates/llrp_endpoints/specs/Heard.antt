@@ -5,11 +5,12 @@ use Rattle.std.specs.List.{flat_map}
 use Rattle.llrp_schema.specs.declared.kinds.MsgKind.{MsgKind}
 use Rattle.llrp_schema.specs.declared.kinds.MsgKind.TheVariants.{DeleteRoSpecResponse, ErrorMessage}
 use Rattle.llrp_schema.specs.declared.kinds.ParamKind.{ParamKind}
+use Rattle.llrp_schema.specs.declared.kinds.ParamKind.TheVariants.{RoSpec}
 use Rattle.llrp_schema.specs.declared.kinds.Kind.TheVariants.{Message, Parameter}
 use Rattle.llrp_schema.specs.declared.kinds.KindSet.{KindSet}
 use Rattle.llrp_schema.specs.declared.kinds.KindSet.TheVariants.{Profile, Standard}
-use Rattle.llrp_schema.specs.Schema.{GroupRule, groups_of, has_place, is_tv, message_in, number_of, tlv_in, tv_in}
-use Rattle.llrp_tree.specs.Tree.{Forest, none, and, Tree, MessageTree, add}
+use Rattle.llrp_schema.specs.Schema.{GroupRule, groups_of, has_place, is_tv, key_of, message_in, number_of, tlv_in, tv_in}
+use Rattle.llrp_tree.specs.Tree.{Forest, none, and, Tree, MessageTree, add, forest}
 use Rattle.llrp_tree.specs.Checks.{first_fault, first_message_fault}
 use Rattle.llrp_stream.specs.declared.item.Item.{Item}
 use Rattle.llrp_stream.specs.declared.item.Item.TheVariants.{Msg, Bad}
@@ -17,6 +18,7 @@ use Rattle.llrp_session.specs.declared.types.Operation.TheVariants.{Deleting}
 use Rattle.llrp_session.specs.Contents.{Response}
 use Rattle.llrp_session.specs.ReaderMessages.{reader_message}
 use Rattle.llrp_endpoints.specs.declared.hearing.Hearing.{Hearing}
+use Rattle.llrp_endpoints.specs.Plan.{boundary, antenna_inventory}
 
 -- the profile's kind of a parameter with the same number
 abbrev pub own_kind : ParamKind → Option ParamKind
@@ -31,10 +33,20 @@ groups_where (Some kind) = groups_of (Parameter kind)
 abbrev pub lawful_where : ParamKind → List ℕ → List ℕ → Forest → Option Tree
 lawful_where kind fields tail children = if is_none (first_fault kind fields tail children) then Some (record { kind = kind; fields = fields; tail = tail; children = children }) else None
 
--- the same below a node of these groups, if one of them has its kind
+-- In place of a ROSpec that is not lawful without what the profile lacks, as one with an RFSurveySpec alone, there is one with its fields, ROSpecID,
+-- Priority and CurrentState, by which a client compares a reader's table with its view, and with the parts of a standard plan's ROSpec. Of no other
+-- kind is one kept.
+abbrev pub kept_where : ParamKind → List ℕ → Option Tree
+kept_where kind fields = if key_of RoSpec == key_of kind then lawful_where RoSpec fields [] (forest (boundary ∷ antenna_inventory ∷ [])) else None
+
+abbrev pub else_kept : ParamKind → List ℕ → Option Tree → Option Tree
+else_kept kind fields None = kept_where kind fields
+else_kept kind fields (Some t) = Some t
+
+-- a parameter of these parts below a node of these groups, if one of them has its kind
 abbrev pub tree_where : List GroupRule → Option ParamKind → List ℕ → List ℕ → Forest → Option Tree
 tree_where groups None fields tail children = None
-tree_where groups (Some kind) fields tail children = if has_place groups kind then lawful_where kind fields tail children else None
+tree_where groups (Some kind) fields tail children = if has_place groups kind then else_kept kind fields (lawful_where kind fields tail children) else None
 
 abbrev pub add_where : Forest → Option Tree → Forest
 add_where before None = before
@@ -44,6 +56,10 @@ add_where before (Some t) = add before t
 unfoldable pub own_row : List GroupRule → Forest → Forest
 own_row groups none = none
 own_row groups (and before kind fields tail children) = add_where (own_row groups before) (tree_where groups (own_kind kind) fields tail (own_row (groups_where (own_kind kind)) children))
+
+-- what the profile has of a parameter below a node of these groups
+abbrev pub own_tree : List GroupRule → Tree → Option Tree
+own_tree groups t = tree_where groups (own_kind t.kind) t.fields t.tail (own_row (groups_where (own_kind t.kind)) t.children)
 
 -- a message of these parts, if they are lawful
 abbrev pub message_where : MessageTree → Option MessageTree

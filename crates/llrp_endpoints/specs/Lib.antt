@@ -6,12 +6,14 @@ pub mod Heard
 pub mod MarkedLines
 pub mod Moments
 pub mod Plan
+pub mod ReportedTags
 pub mod RunInventory
 pub mod RunLoop
 pub mod RunServe
 pub mod Sending
 pub mod Serving
 pub mod TagLines
+pub mod TagPieces
 pub mod Watching
 pub mod Calls
 pub mod Private

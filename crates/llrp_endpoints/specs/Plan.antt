@@ -1,9 +1,9 @@
 -- The plan of an inventory: its ROSpec, and the steps that a client takes in order.
-use Rattle.std.specs.Prelude.{ℕ, ◌==◌, ◌&&◌, not, nat_lt, Bool, true, false, List, [], ◌∷◌, ◌++◌, replicate, Some}
+use Rattle.std.specs.Prelude.{ℕ, ◌&&◌, not, nat_lt, Bool, true, false, List, [], ◌∷◌, ◌++◌, replicate, Some}
 use Rattle.llrp_schema.specs.declared.kinds.KindSet.{KindSet}
 use Rattle.llrp_schema.specs.declared.kinds.ParamKind.TheVariants.{RoSpec, RoBoundarySpec, RoSpecStartTrigger, RoSpecStopTrigger, AiSpec, AiSpecStopTrigger, InventoryParameterSpec, RoReportSpec, TagReportContentSelector}
 use Rattle.llrp_tree.specs.Tree.{Tree, forest}
-use Rattle.llrp_session.specs.RoSpec.{first_of, first_below, field_of}
+use Rattle.llrp_session.specs.RoSpec.{field_of}
 use Rattle.llrp_session.specs.ReaderMessages.{parameter}
 use Rattle.llrp_session.specs.declared.types.Command.{Command}
 use Rattle.llrp_session.specs.declared.types.Command.TheVariants.{Add, Delete, Start, Stop, Enable, Disable, GetRospecs, SetKeepalive, GetReport, Close}
@@ -20,6 +20,7 @@ pub record Plan : Type 0 where
   pub renews : Bool  -- or the one of the same id, whether the reader has it or not
   pub passes : Bool  -- once the reader has accepted the client, what is odd is passed over
   pub adds : Bool  -- it does add it; a plan that doesn't only deletes, and closes the connection
+  pub starts : Bool  -- it starts it, where its start trigger has the type 0; with any other the reader starts it itself once it is enabled
   pub keepalive : ℕ  -- it asks for a KEEPALIVE each time this many milliseconds have passed; 0 where it does not ask
   pub reports : ℕ  -- it awaits this many reports with a tag once the ROSpec was started
   pub polls : ℕ  -- it then asks this many times for the reports that are held
@@ -60,9 +61,8 @@ rospec every = parameter RoSpec (1 ∷ 0 ∷ 0 ∷ []) (boundary ∷ antenna_inv
 abbrev pub rospec_id : Plan → ℕ
 rospec_id plan = field_of 0 (Some plan.rospec)
 
--- a start trigger of type 0 leaves the start to START_ROSPEC; with any other the reader starts the ROSpec itself once it is enabled
 abbrev pub is_started : Plan → Bool
-is_started plan = field_of 0 (first_below RoSpecStartTrigger (first_of RoBoundarySpec plan.rospec)) == 0
+is_started plan = plan.starts
 
 -- the reader is to send KEEPALIVEs
 abbrev pub is_kept : Plan → Bool

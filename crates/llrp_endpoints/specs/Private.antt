@@ -3,11 +3,11 @@ pub mod Acting
 pub mod Asides
 pub mod EndsStand
 pub mod GatheringStands
-pub mod Heard
 pub mod Objects
 pub mod Reads
 pub mod Script
 pub mod ServingStands
+pub mod TagListing
 pub mod General
 pub mod Server
 pub mod Watching

@@ -64,12 +64,16 @@ other_member tag kind = other_where (name_of (Parameter kind)) (first_of kind ta
 abbrev pub words_line : Tree → List ℕ → List ℕ
 words_line tag epc = epc ++ (spaced (antenna_text (first_of AntennaId tag) ∷ rssi_text (first_of PeakRssi tag) ∷ []) ++ (10 ∷ []))
 
+-- the line of a tag with all of its parts that have one number, and with this more at its end
+abbrev pub full_line : Tree → List ℕ → List ℕ → List ℕ
+full_line tag epc more =
+    codes "{" ++ (members_text (option_or (first_of Epc96 tag) (first_of EpcData tag)) (first_of AntennaId tag) (first_of PeakRssi tag) epc ++ (flat_map (other_member tag) other_kinds ++ (more ++ codes "}\n")))
+
 -- the line of a tag
 abbrev pub tag_line : LineForm → Tree → List ℕ → List ℕ
 tag_line Words tag epc = words_line tag epc
 tag_line Json tag epc = codes "{" ++ (members_text (option_or (first_of Epc96 tag) (first_of EpcData tag)) (first_of AntennaId tag) (first_of PeakRssi tag) epc ++ codes "}\n")
-tag_line Full tag epc =
-    codes "{" ++ (members_text (option_or (first_of Epc96 tag) (first_of EpcData tag)) (first_of AntennaId tag) (first_of PeakRssi tag) epc ++ (flat_map (other_member tag) other_kinds ++ codes "}\n"))
+tag_line Full tag epc = full_line tag epc []
 tag_line Tags tag epc = words_line tag epc
 
 -- The line of a TagReportData (LLRP 1.1, section 14).

@@ -9,12 +9,12 @@ ghost use Rattle.llrp_endpoints.specs.Gathering.{Course};
 ghost use Rattle.llrp_endpoints.specs.Private.GatheringStands.{error_by_command, error_by_message, leads_on};
 ghost use Rattle.llrp_endpoints.specs.Calls.GatheringStands.{phase_left};
 
-mod objects;
+pub(crate) mod objects;
 mod odd;
 mod remaining;
-mod tag_lines;
+pub(crate) mod tag_lines;
 
-use crate::asides::{AsideMessages, aside_before, aside_messages};
+use crate::asides::{AsideMessages, aside_before, aside_messages, said_for};
 use crate::course::{Awaits, Phase, Step};
 use crate::form::LineForm;
 use crate::frames::append_frames;
@@ -40,6 +40,8 @@ pub struct Gathering {
     decoder: Decoder,
     form: LineForm,
     asides: Option<AsideMessages>,
+    /// What is said in place of ADD_ROSPEC.
+    whole: Option<Message>,
     hearing: Hearing,
     left: RemainingCommands,
     awaits: Awaits,
@@ -65,13 +67,14 @@ impl Gathering {
         ensures { IsOpen limit plan [] [] (new_course limit plan) result }
     {
         let mut plan = plan;
-        let asides = plan.take_asides();
+        let (asides, whole) = plan.take_asides();
         Gathering {
             alloc,
             client: Client::new(alloc, limit, 1),
             decoder: Decoder::new_in(alloc, plan.kind_set(), limit),
             form: plan.form(),
             asides,
+            whole,
             hearing: plan.hearing(),
             left: RemainingCommands::all(plan),
             awaits: Awaits::Answer,
@@ -142,7 +145,8 @@ impl Gathering {
         }
         let asides = aside_messages(&self.asides, aside);
         append_frames(self.alloc, asides, out)?;
-        append_frames(self.alloc, messages.as_slice(), out)?;
+        let said = said_for(self.alloc, &self.whole, messages)?;
+        append_frames(self.alloc, said.as_slice(), out)?;
         Ok(false)
     }
 

@@ -1,6 +1,6 @@
 //! Serves a general client, which begins with requests outside the profile.
 //!
-//! The frames of three requests are taken out of the client's stream and answered. All other octets go to the simulated reader as
+//! The frames of some requests ([`llrp_session::answer`]) are taken out of the client's stream and answered. All other octets go to the simulated reader as
 //! they come, so its machine, its script and its theorems are those of any client.
 
 mod asked;

@@ -1,11 +1,11 @@
 //! What the profile has of a message of the whole standard.
 
-ghost use Rattle.std.specs.Prelude.{◌≡◌, [], IfOk};
-ghost use Rattle.llrp_schema.specs.Schema.{groups_of};
+ghost use Rattle.std.specs.Prelude.{◌≡◌, ◌==◌, [], IfOk};
+ghost use Rattle.llrp_schema.specs.Schema.{groups_of, key_of};
 ghost use Rattle.llrp_tree.specs.Tree.{forest};
-ghost use Rattle.llrp_endpoints.specs.Heard.{lawful_where, message_where, own_kind, own_message as the_own_message, own_row};
-ghost use Rattle.llrp_endpoints.specs.Private.Heard.{own_tree};
+ghost use Rattle.llrp_endpoints.specs.Heard.{kept_where, lawful_where, message_where, own_kind, own_message as the_own_message, own_row, own_tree};
 
+use crate::plan::{antenna_inventory, boundary};
 use llrp_schema::{Kind, is_tv, msg_of, number, param_of_tlv, param_of_tv, place};
 use llrp_tree::{Message, MsgKind, Node, Nodes, Octets, ParamKind};
 use std::alloc::{AllocError, Global};
@@ -23,10 +23,10 @@ fn own_kind(kind: ParamKind) -> Option<ParamKind>
 }
 
 /// A copy of octets.
-fn copied(alloc: Global, octets: &Octets) -> Result<Octets, AllocError>
+pub(crate) fn copied(alloc: Global, octets: &[u8]) -> Result<Octets, AllocError>
     ensures { IfOk result (λ copy. copy ≡ octets.now) }
 {
-    Ok(Octets::new(octets.as_slice().to_vec(alloc)?))
+    Ok(Octets::new(octets.to_vec(alloc)?))
 }
 
 /// A parameter of these parts, if they are lawful.
@@ -38,6 +38,32 @@ fn lawful_node(kind: ParamKind, fields: &[u128], tail: Octets, children: Nodes) 
         Ok(node) => Some(node),
         Err(_) => None,
     }
+}
+
+/// Whether a kind is that of a ROSpec.
+#[tactic(auto, using(llrp_tree::proofs::KindLemmas::same_by_number))]
+fn is_rospec(kind: ParamKind) -> bool
+    ensures { result ≡ (key_of ParamKind.RoSpec == key_of kind) }
+{
+    ParamKind::RoSpec == kind
+}
+
+/// The ROSpec that is kept of one that is not lawful without what the profile does not have.
+pub(crate) fn kept_rospec(
+    alloc: Global,
+    kind: ParamKind,
+    fields: &[u128],
+) -> Result<Option<Node>, AllocError>
+    ensures { IfOk result (λ kept. kept ≡ kept_where kind fields.now) }
+{
+    if !is_rospec(kind) {
+        return Ok(None);
+    }
+    let boundary = boundary(alloc)?;
+    let inventory = antenna_inventory(alloc)?;
+    let children = Nodes::new(Vec::from_array(alloc, [boundary, inventory])?);
+    let tail = Octets::new(Vec::new(alloc));
+    Ok(lawful_node(ParamKind::RoSpec, fields, tail, children))
 }
 
 /// A message of these parts, if they are lawful.
@@ -66,7 +92,7 @@ fn lawful_message(
 
 /// What the profile has of a parameter below such a parent, if it has it there.
 #[cycle(own)]
-fn own_node(alloc: Global, parent: Kind, node: &Node) -> Result<Option<Node>, AllocError>
+pub(crate) fn own_node(alloc: Global, parent: Kind, node: &Node) -> Result<Option<Node>, AllocError>
     ensures { IfOk result (λ own. own ≡ own_tree (groups_of parent) node.now) }
 {
     let Some(kind) = own_kind(node.kind()) else {
@@ -76,8 +102,11 @@ fn own_node(alloc: Global, parent: Kind, node: &Node) -> Result<Option<Node>, Al
         return Ok(None);
     }
     let children = own_nodes(alloc, Kind::Parameter(kind), node.children().as_slice())?;
-    let tail = copied(alloc, node.tail())?;
-    Ok(lawful_node(kind, node.fields(), tail, Nodes::new(children)))
+    let tail = copied(alloc, node.tail().as_slice())?;
+    match lawful_node(kind, node.fields(), tail, Nodes::new(children)) {
+        Some(own) => Ok(Some(own)),
+        None => kept_rospec(alloc, kind, node.fields()),
+    }
 }
 
 /// Of parameters in a row those that the profile has below such a parent, with what it has of each.
@@ -96,7 +125,9 @@ fn own_nodes(alloc: Global, parent: Kind, nodes: &[Node]) -> Result<Vec<Node>, A
 }
 
 /// What the profile has of a message of the whole standard: parameters that it does not have, or
-/// not there, are left out with all below them, and so is one that is not lawful without them.
+/// not there, are left out with all below them, and so is one that is not lawful without them. But
+/// of such a ROSpec its ROSpecID, Priority and CurrentState are kept, with the parts of a standard
+/// plan's in place of its own.
 /// `None` means that the profile does not have the message, or that it is not lawful without them.
 pub fn own_message(alloc: Global, message: &Message) -> Result<Option<Message>, AllocError>
     ensures { IfOk result (λ own. own ≡ the_own_message message.now) }

@@ -9,7 +9,7 @@ ghost use Rattle.llrp_endpoints.specs.EndsAgree.{AfterAllBytes, BytesAreMessages
 ghost use Rattle.llrp_session.specs.MessageAgreement.{ReaderHasHistory, OneActive, NoneDiffers};
 ghost use Rattle.llrp_endpoints.specs.Plan.{Plan};
 ghost use Rattle.llrp_endpoints.specs.Calls.General.{ServesAll};
-ghost use Rattle.llrp_endpoints.specs.Calls.HeardLaws.{HeardIsLawful, ProfileIsHeard};
+ghost use Rattle.llrp_endpoints.specs.Calls.HeardLaws.{EachRoSpecIsHeard, HeardIsLawful, ProfileIsHeard};
 ghost use Rattle.llrp_endpoints.specs.Calls.PlanLaws.{course_of, CanEnd, CoursesGoOn, EndsMean, HasOneCourse, IsValid, SendsWithinLimit, StrangeIsTheReaders, TakesEachCommand, TakesInOrder, TakesOneByOne, TakesWhereAwaited};
 ghost use Rattle.llrp_endpoints.specs.Calls.Script.{IsLawfulScript, IsScript};
 ghost use Rattle.llrp_endpoints.specs.Calls.ScriptLaws.{ScriptOrRefused};
@@ -41,7 +41,7 @@ pub fn one_serving()
         → AreOctets bytes → IsServedInOneWay (Serves reader entries bytes) }
 {}
 
-/// For a given reader, script and octets of a general client, serving with three requests answered
+/// For a given reader, script and octets of a general client, serving with requests outside the profile answered
 /// sends one list of messages and ends in one state.
 #[tactic(auto, using(crate::proofs::ServedInOneWay::served_all_in_one_way))]
 pub fn one_serving_all()
@@ -92,6 +92,13 @@ pub fn heard_is_lawful()
 #[tactic(auto, using(crate::proofs::ProfileHeard::profile_is_heard))]
 pub fn profile_is_heard()
     ensures { ProfileIsHeard }
+{}
+
+/// Each ROSpec of a reader's table is heard, with its ROSpecID, Priority and CurrentState, also one
+/// that the profile cannot say, and no other is.
+#[tactic(auto, using(crate::proofs::TableHeard::each_rospec_is_heard))]
+pub fn each_rospec_is_heard()
+    ensures { EachRoSpecIsHeard }
 {}
 
 /// All whole frames of some bytes have one course. As more bytes come, what was sent and reported

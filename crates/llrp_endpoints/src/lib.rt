@@ -33,6 +33,7 @@ mod serve;
 mod server;
 mod serving;
 mod summary;
+mod tag_lister;
 mod watching;
 
 pub use asides::AsideMessages;
@@ -52,4 +53,5 @@ pub use script::{Action, Entry, LONGEST_ENTRY, MOST_ENTRIES, Script};
 pub use serve::{run_serve, run_serve_all};
 pub use serving::Serving;
 pub use summary::Summary;
+pub use tag_lister::TagLister;
 pub use watching::{Watcher, run_watching};

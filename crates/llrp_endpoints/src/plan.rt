@@ -1,10 +1,11 @@
 //! The plan of an inventory: what a client asks of its reader.
 
 ghost use Rattle.std.specs.Prelude.{◌≡◌, ◌≤◌, IfErr, IfNone, IfOk, Some, None, false, true};
+ghost use Rattle.llrp_schema.specs.declared.kinds.KindSet.TheVariants.{Profile};
 ghost use Rattle.llrp_tree.specs.Lawful.{tree_octets};
 ghost use Rattle.llrp_session.specs.RoSpec.{is_kind};
 ghost use Rattle.llrp_endpoints.specs.Asides.{no_asides};
-ghost use Rattle.llrp_endpoints.specs.Calls.Asides.{asides_in};
+ghost use Rattle.llrp_endpoints.specs.Calls.Asides.{asides_in, said_in};
 ghost use Rattle.llrp_endpoints.specs.Plan as plan;
 ghost use Rattle.llrp_endpoints.specs.Calls.Plans as plans;
 ghost use Rattle.llrp_endpoints.specs.Calls.PlanLaws.{IsValid};
@@ -18,9 +19,9 @@ use crate::form::LineForm;
 use crate::hearing::Hearing;
 use llrp_schema::KindSet;
 use llrp_session::{field, first};
-use llrp_tree::{Node, ParamKind};
+use llrp_tree::{Message, Node, ParamKind};
 pub use reading::{LONGEST_ROSPEC_TEXT, read_rospec};
-pub(crate) use standard::leaf;
+pub(crate) use standard::{antenna_inventory, boundary, leaf};
 pub use standard::{checked_plan, standard_plan};
 use std::marker::Model;
 use std::mem;
@@ -52,11 +53,14 @@ pub enum PlanFault {
 #[derive(Drop)]
 pub struct Plan {
     rospec: Node,
+    /// What is said in place of the ADD_ROSPEC of this one.
+    whole: Option<Message>,
     asides: Option<AsideMessages>,
     cleans: bool,
     renews: bool,
     passes: bool,
     adds: bool,
+    starts: bool,
     keepalive: u32,
     reports: u64,
     polls: u16,
@@ -70,7 +74,7 @@ impl Model for Plan {
     ghost use Rattle.std.specs.Prelude.{◌≡◌, ◌≤◌};
     ghost use Rattle.std.specs.Coded.{codes};
     ghost use Rattle.llrp_tree.specs.Private.Stored.{message_code, tree_code};
-    ghost use Rattle.llrp_endpoints.specs.Calls.Asides.{asides_in};
+    ghost use Rattle.llrp_endpoints.specs.Calls.Asides.{said_in};
     ghost use Rattle.llrp_schema.specs.declared.kinds.ParamKind.TheVariants.{RoSpec};
     ghost use Rattle.llrp_tree.specs.Lawful.{tree_octets};
     ghost use Rattle.llrp_session.specs.RoSpec.{is_kind};
@@ -83,11 +87,12 @@ impl Model for Plan {
 
     ghost view = { λ p. record {
       rospec = p.rospec;
-      asides = asides_in p.asides;
+      asides = said_in p.asides p.whole;
       cleans = p.cleans;
       renews = p.renews;
       passes = p.passes;
       adds = p.adds;
+      starts = p.starts;
       keepalive = p.keepalive;
       reports = p.reports;
       polls = p.polls;
@@ -109,19 +114,22 @@ impl Plan {
     /// octets; the first of these that does not hold is the error. It takes no memory.
     pub fn of(rospec: Node, polls: u16, checked: bool) -> Result<Plan, PlanFault>
         ensures plan { IfOk result (λ p. p ≡ plans.given rospec polls checked) }
-        ensures taken { IfOk result (λ p. plans.plan_fault rospec ≡ None) }
-        ensures fault { IfErr result (λ fault. plans.plan_fault rospec ≡ Some fault) }
+        ensures taken { IfOk result (λ p. plans.plan_fault Profile rospec ≡ None) }
+        ensures fault { IfErr result (λ fault. plans.plan_fault Profile rospec ≡ Some fault) }
     {
-        if let Some(fault) = fault_of(&rospec) {
+        if let Some(fault) = fault_of(KindSet::Profile, &rospec) {
             return Err(fault);
         }
+        let starts = is_commanded(KindSet::Profile, &rospec);
         Ok(Plan {
             rospec,
+            whole: None,
             asides: None,
             cleans: false,
             renews: false,
             passes: false,
             adds: true,
+            starts,
             keepalive: 0,
             reports: 0,
             polls,
@@ -180,7 +188,10 @@ impl Plan {
     /// The same plan, but the client says these messages besides: right before it enables its ROSpec,
     /// and right before it deletes that one. No answer to them is awaited.
     pub fn saying(self, asides: AsideMessages) -> Plan
-        ensures { result ≡ record self { asides = asides_in (Some asides) } }
+        ensures { result ≡ record self {
+          asides = record (asides_in (Some asides))
+              { whole = self.asides.whole };
+        } }
     {
         Plan {
             asides: Some(asides),
@@ -188,12 +199,29 @@ impl Plan {
         }
     }
 
-    /// Takes what the client says besides out of the plan.
-    pub(crate) fn take_asides(&mut self) -> Option<AsideMessages>
-        ensures rest { self.new ≡ record self.old { asides = no_asides } }
-        ensures asides { asides_in result ≡ self.old.asides }
+    /// The same plan, but this message is said in place of ADD_ROSPEC, and the client starts the
+    /// ROSpec or does not.
+    fn instead(self, whole: Message, starts: bool) -> Plan
+        ensures { result ≡ record self {
+          asides = record self.asides { whole = Some whole };
+          starts = starts;
+        } }
     {
-        mem::replace(&mut self.asides, None)
+        Plan {
+            whole: Some(whole),
+            starts,
+            ..self
+        }
+    }
+
+    /// Takes what the client says besides, and what it says in place of ADD_ROSPEC, out of the plan.
+    pub(crate) fn take_asides(&mut self) -> (Option<AsideMessages>, Option<Message>)
+        ensures rest { self.new ≡ record self.old { asides = no_asides } }
+        ensures asides { said_in result.0 result.1 ≡ self.old.asides }
+    {
+        let asides = mem::replace(&mut self.asides, None);
+        let whole = mem::replace(&mut self.whole, None);
+        (asides, whole)
     }
 
     /// The same plan, but the reader is asked for a KEEPALIVE each time this many milliseconds have
@@ -351,13 +379,7 @@ impl Plan {
     pub(crate) fn is_started(&self) -> bool
         ensures { result ≡ plan.is_started self.now }
     {
-        match first(ParamKind::RoBoundarySpec, self.rospec.children()) {
-            Some(boundary) => {
-                let kind = ParamKind::RoSpecStartTrigger;
-                field(kind, first(kind, boundary.children()), 0) == 0
-            }
-            None => true,
-        }
+        self.starts
     }
 
     /// Takes the plan apart and returns the ROSpec.
@@ -377,19 +399,63 @@ fn is_of_kind(kind: ParamKind, node: &Node) -> bool
     kind == node.kind()
 }
 
+/// The kind of a ROSpec.
+fn rospec_kind(set: KindSet) -> ParamKind
+    ensures { result ≡ plans.rospec_kind set }
+{
+    match set {
+        KindSet::Profile => ParamKind::RoSpec,
+        KindSet::Standard => ParamKind::WholeRoSpec,
+    }
+}
+
+/// The kind of a ROBoundarySpec.
+fn boundary_kind(set: KindSet) -> ParamKind
+    ensures { result ≡ plans.boundary_kind set }
+{
+    match set {
+        KindSet::Profile => ParamKind::RoBoundarySpec,
+        KindSet::Standard => ParamKind::WholeRoBoundarySpec,
+    }
+}
+
+/// The kind of a ROSpecStartTrigger.
+fn start_kind(set: KindSet) -> ParamKind
+    ensures { result ≡ plans.start_kind set }
+{
+    match set {
+        KindSet::Profile => ParamKind::RoSpecStartTrigger,
+        KindSet::Standard => ParamKind::WholeRoSpecStartTrigger,
+    }
+}
+
+/// Whether a ROSpec starts on START_ROSPEC.
+fn is_commanded(set: KindSet, rospec: &Node) -> bool
+    ensures { result ≡ plans.is_commanded set rospec.now }
+{
+    match first(boundary_kind(set), rospec.children()) {
+        Some(boundary) => {
+            let kind = start_kind(set);
+            field(kind, first(kind, boundary.children()), 0) == 0
+        }
+        None => true,
+    }
+}
+
 /// Why a parameter cannot be the ROSpec of a plan, if it cannot.
 #[tactic(auto, using(llrp_session::proofs::ReadFields::kind_of_test))]
-fn fault_of(rospec: &Node) -> Option<PlanFault>
-    ensures fault { result ≡ plans.plan_fault rospec.now }
-    ensures kind { IfNone result (rospec.now.kind ≡ ParamKind.RoSpec) }
+fn fault_of(set: KindSet, rospec: &Node) -> Option<PlanFault>
+    ensures fault { result ≡ plans.plan_fault set rospec.now }
+    ensures kind { IfNone result (rospec.now.kind ≡ plans.rospec_kind set) }
     ensures short { IfNone result (tree_octets rospec.now ≤ plans.longest_rospec) }
 {
-    if !is_of_kind(ParamKind::RoSpec, rospec) {
+    let kind = rospec_kind(set);
+    if !is_of_kind(kind, rospec) {
         return Some(PlanFault::NotRoSpec);
     }
     rospec.lawful();
-    let is_all = field(ParamKind::RoSpec, Some(rospec), 0) == 0;
-    if is_all || field(ParamKind::RoSpec, Some(rospec), 2) != 0 {
+    let is_all = field(kind, Some(rospec), 0) == 0;
+    if is_all || field(kind, Some(rospec), 2) != 0 {
         return Some(PlanFault::Value);
     }
     if rospec.length() > LONGEST_ROSPEC {

@@ -69,9 +69,10 @@ pub fn run_serve<R: Source, W: Sink>(
     serve(&mut serving, &mut out, r, w)
 }
 
-/// Serves a general client, as [`run_serve`] does, and answers three requests outside the profile
-/// besides: GET_READER_CAPABILITIES, GET_READER_CONFIG and GET_SUPPORTED_VERSION. They do not come
-/// to the reader, so the script does not count them. Any other message that the profile has not is
+/// Serves a general client, as [`run_serve`] does, and answers requests outside the profile besides:
+/// GET_READER_CAPABILITIES, GET_READER_CONFIG and GET_SUPPORTED_VERSION, and those that delete,
+/// enable, disable or list AccessSpecs, of which it has none ([`llrp_session::answer`]). They do not
+/// come to the reader, so the script does not count them. Any other message that the profile has not is
 /// refused by the reader.
 pub fn run_serve_all<R: Source, W: Sink>(
     alloc: Global,

@@ -20,7 +20,7 @@ use Rattle.llrp_endpoints.specs.TagLines.{AreReports, summary_of}
 use Rattle.llrp_endpoints.specs.declared.course.Phase.{Phase}
 use Rattle.llrp_endpoints.specs.declared.course.Phase.TheVariants.{Open, Closed, Failed}
 use Rattle.llrp_endpoints.specs.Asides.{all_said}
-use Rattle.llrp_endpoints.specs.Calls.Asides.{asides_in}
+use Rattle.llrp_endpoints.specs.Calls.Asides.{said_in}
 use Rattle.llrp_endpoints.specs.Gathering.{Beginning, Course, GathersFrom, beginning, closing_text, hurried}
 
 -- ---- the steps that are left
@@ -74,7 +74,7 @@ Counts reports g = g.summary ≡ summary_of reports
 pub record Holds (course : Course) (g : Gathering) : Type 0 where
   pub client_is : g.client ≡ course.client
   pub form_is : g.form ≡ course.form
-  pub asides_are : asides_in g.asides ≡ course.asides
+  pub asides_are : said_in g.asides g.whole ≡ course.asides
   pub left_is : steps_left g.left ≡ course.left
   pub awaits_is : g.awaits ≡ course.awaits
   pub counts : Counts course.reports g

@@ -1,4 +1,4 @@
--- What serving makes of the octets of a general client: three requests outside the profile are answered, and all other frames go to the reader.
+-- What serving makes of the octets of a general client: requests outside the profile are answered, and all other frames go to the reader.
 use Rattle.std.specs.Prelude.{◌≡◌, ℕ, ◌++◌, List, [], ◌∷◌, Some, Result}
 use Rattle.std.specs.List.{flat_map, AllByRecursion}
 use Rattle.llrp_schema.specs.declared.kinds.KindSet.TheVariants.{Standard}
@@ -15,7 +15,7 @@ use Rattle.llrp_endpoints.specs.Serving.{Standing, waiting, closed, ended, early
 
 -- ---- the client's frames
 
--- the frame is one of the three requests, and this is its answer
+-- the frame is one of the requests that are answered, and this is its answer
 abbrev pub IsAnswered : (limit : ℕ) → List ℕ → MessageTree → Type 0
 IsAnswered limit frame reply = (m : MessageTree) × FrameIn Standard m frame limit × (answer_of m ≡ Some reply)
 
@@ -91,7 +91,7 @@ pub record HasClosedAll (reader : Reader) (entries : List Entry) (bytes : List �
   pub closes : Serves reader entries (passed heard ++ last) (own heard ++ more) closed
   pub messages_are : messages ≡ said heard ++ more
 
--- a reader and a script, with the three requests answered, say these messages to these bytes, and serving is then in this state
+-- a reader and a script, with these requests answered, say these messages to these bytes, and serving is then in this state
 abbrev pub ServesAll : Reader → List Entry → List ℕ → List MessageTree → Standing → Type 0
 ServesAll reader entries bytes messages waiting = StaysOpenAll reader entries bytes messages waiting
 ServesAll reader entries bytes messages closed = HasClosedAll reader entries bytes messages

@@ -23,7 +23,7 @@ use Rattle.llrp_endpoints.specs.declared.general.asked.Way.TheVariants.{Unknown,
 -- ---- the client's frames
 
 -- the answer to a message of this kind, where there is such a kind
-abbrev pub answer_where : Option MsgKind → Option Answer
+abbrev pub answer_where : Option MsgKind → Option (List ℕ → Answer)
 answer_where None = None
 answer_where (Some kind) = answer_to kind
 

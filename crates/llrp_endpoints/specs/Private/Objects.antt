@@ -1,10 +1,11 @@
 -- The members of a tag's object, one after another, and the object of both totals.
 use Rattle.std.specs.Prelude.{◌≡◌, ℕ, Bool, true, false, List, [], ◌++◌, codes, decimal, Option, Some, None}
+use Rattle.std.specs.List.{flat_map}
 use Rattle.std.specs.Option.{option_or}
 use Rattle.llrp_schema.specs.declared.kinds.ParamKind.TheVariants.{Epc96, EpcData, AntennaId, PeakRssi}
 use Rattle.llrp_session.specs.RoSpec.{first_of}
 use Rattle.llrp_tree.specs.Tree.{Tree}
-use Rattle.llrp_endpoints.specs.TagLines.{IsEpcText, members_text}
+use Rattle.llrp_endpoints.specs.TagLines.{IsEpcText, members_text, other_kinds, other_member}
 
 -- the name of a member, after a comma where others come before
 abbrev pub name_text : Bool → List ℕ → List ℕ
@@ -27,6 +28,10 @@ epc_member tag epc = added false (codes "epc") (option_or (first_of Epc96 tag) (
 -- the members that each object has, of a tag with this text of its EPC
 abbrev pub members_of : Tree → List ℕ → List ℕ
 members_of tag epc = members_text (option_or (first_of Epc96 tag) (first_of EpcData tag)) (first_of AntennaId tag) (first_of PeakRssi tag) epc
+
+-- the line of a tag up to the end of its object
+abbrev pub full_members : Tree → List ℕ → List ℕ
+full_members tag epc = codes "{" ++ (members_of tag epc ++ flat_map (other_member tag) other_kinds)
 
 -- what is made of the text of a tag's EPC was appended
 abbrev pub AppendsWithEpc : Tree → (List ℕ → List ℕ) → List ℕ → List ℕ → Type 0

@@ -1,16 +1,19 @@
 //! The objects of tags in JSON.
 
-ghost use Rattle.std.specs.Prelude.{◌||◌, ◌≡◌, ◌++◌, OnOk, codes, false};
+ghost use Rattle.std.specs.Prelude.{◌||◌, ◌≡◌, ◌++◌, List, OnOk, codes, false, ℕ};
 ghost use Rattle.std.specs.List.{flat_map};
 ghost use Rattle.std.specs.Option.{option_or};
 ghost use Rattle.llrp_session.specs.Calls.ReadWords.{IsOfKind, behind};
 ghost use Rattle.llrp_session.specs.RoSpec.{first_of};
+ghost use Rattle.llrp_tree.specs.Tree.{forest};
+ghost use Rattle.llrp_json.specs.JsonItems.{AreParameters, more_members, parameters_members};
 ghost use Rattle.llrp_endpoints.specs.declared.form.LineForm.TheVariants.{Full, Json};
-ghost use Rattle.llrp_endpoints.specs.Private.Objects.{AppendsWithEpc, added, epc_member, members_of, name_text, totals_object};
-ghost use Rattle.llrp_endpoints.specs.TagLines.{antenna_text, other_member, rssi_text, tag_line};
+ghost use Rattle.llrp_endpoints.specs.Private.Objects.{AppendsWithEpc, added, epc_member, full_members, members_of, name_text, totals_object};
+ghost use Rattle.llrp_endpoints.specs.TagLines.{antenna_text, full_line, other_member, rssi_text, tag_line};
 
 use super::tag_lines::push_epc;
 use crate::summary::Summary;
+use llrp_json::push_parameters;
 use llrp_listing::Text;
 use llrp_schema::{Kind, name};
 use llrp_session::{field, first};
@@ -132,9 +135,9 @@ fn push_others(text: &mut Text, tag: &Node, kinds: &[ParamKind]) -> Result<(), A
     Ok(())
 }
 
-/// Appends the line of a tag with all that the reader gives of it.
-pub(crate) fn push_full(text: &mut Text, tag: &Node) -> Result<(), AllocError>
-    ensures { OnOk result (AppendsWithEpc tag.now (tag_line Full tag.now) text.old text.new) }
+/// Appends the line of a tag with all of its parts that have one number, up to the end of its object.
+fn push_numbers(text: &mut Text, tag: &Node) -> Result<(), AllocError>
+    ensures { OnOk result (AppendsWithEpc tag.now (full_members tag.now) text.old text.new) }
 {
     text.push(b'{')?;
     push_members(text, tag)?;
@@ -152,7 +155,26 @@ pub(crate) fn push_full(text: &mut Text, tag: &Node) -> Result<(), AllocError>
         ParamKind::C1G2Pc,
         ParamKind::C1G2Crc,
     ];
-    push_others(text, tag, &others)?;
+    push_others(text, tag, &others)
+}
+
+/// Appends the line of a tag with all that the profile has of it.
+pub(crate) fn push_full(text: &mut Text, tag: &Node) -> Result<(), AllocError>
+    ensures { OnOk result (AppendsWithEpc tag.now (tag_line Full tag.now) text.old text.new) }
+{
+    push_numbers(text, tag)?;
+    text.push_text(b"}\n")
+}
+
+/// Appends the line of a tag of which the profile has this, with these other parameters.
+pub(crate) fn push_full_with(text: &mut Text, own: &Node, others: &[Node]) -> Result<(), AllocError>
+    ensures { OnOk result ((texts : List (List ℕ)) × AreParameters (forest others.now) texts
+        × AppendsWithEpc own.now
+        (λ epc. full_line own.now epc (more_members (parameters_members texts)))
+        text.old text.new) }
+{
+    push_numbers(text, own)?;
+    push_parameters(text, others)?;
     text.push_text(b"}\n")
 }
 

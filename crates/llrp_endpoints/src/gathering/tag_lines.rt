@@ -97,7 +97,7 @@ fn push_words(text: &mut Text, tag: &Node) -> Result<(), AllocError>
 }
 
 /// Appends the line of a tag.
-fn push_tag(text: &mut Text, form: LineForm, tag: &Node) -> Result<(), AllocError>
+pub(crate) fn push_tag(text: &mut Text, form: LineForm, tag: &Node) -> Result<(), AllocError>
     ensures { OnOk result ((line : List ℕ) × IsTagLine form tag.now line
         × (text.new ≡ text.old ++ line)) }
 {

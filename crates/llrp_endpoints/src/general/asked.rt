@@ -35,6 +35,10 @@ fn is_answered(kind: MsgKind) -> bool
         MsgKind::WholeGetReaderCapabilities => true,
         MsgKind::WholeGetReaderConfig => true,
         MsgKind::WholeGetSupportedVersion => true,
+        MsgKind::WholeDeleteAccessSpec => true,
+        MsgKind::WholeEnableAccessSpec => true,
+        MsgKind::WholeDisableAccessSpec => true,
+        MsgKind::WholeGetAccessSpecs => true,
         _ => false,
     }
 }
@@ -63,7 +67,7 @@ pub(crate) fn way_of(front: &[u8], limit: u32) -> Way
     }
 }
 
-/// The answer to a frame, if it is one of the three requests. The only error is `Memory`.
+/// The answer to a frame, if it is one of the requests that are answered. The only error is `Memory`.
 pub(crate) fn answer_to(alloc: Global, frame: &[u8], limit: u32) -> Result<Option<Message>, ToolErr>
     requires frame { IsFrame frame.now }
     requires least { 10 ≤ limit }

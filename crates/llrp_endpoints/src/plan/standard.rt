@@ -40,7 +40,7 @@ pub(crate) fn leaf(alloc: Global, kind: ParamKind, fields: &[u128]) -> Node
 }
 
 /// When the ROSpec starts and stops: only on commands.
-fn boundary(alloc: Global) -> Result<Node, AllocError>
+pub(crate) fn boundary(alloc: Global) -> Result<Node, AllocError>
     ensures { IfOk result (λ node. node ≡ plan.boundary) }
 {
     let start = leaf(alloc, ParamKind::RoSpecStartTrigger, &[0]);
@@ -50,7 +50,7 @@ fn boundary(alloc: Global) -> Result<Node, AllocError>
 }
 
 /// What the antennas do: all of them take inventory until the ROSpec stops.
-fn antenna_inventory(alloc: Global) -> Result<Node, AllocError>
+pub(crate) fn antenna_inventory(alloc: Global) -> Result<Node, AllocError>
     ensures { IfOk result (λ node. node ≡ plan.antenna_inventory) }
 {
     let stop = leaf(alloc, ParamKind::AiSpecStopTrigger, &[0, 0]);
@@ -90,11 +90,13 @@ fn plan_of(alloc: Global, every: u16, polls: u16, checked: bool) -> Result<Plan,
     let rospec = rospec(alloc, every)?;
     Ok(Plan {
         rospec,
+        whole: None,
         asides: None,
         cleans: false,
         renews: false,
         passes: false,
         adds: true,
+        starts: true,
         keepalive: 0,
         reports: 0,
         polls,
