@@ -1,0 +1,32 @@
+-- Beside Calls/Living: words of private functions.
+use Rattle.std.specs.Prelude.{◌≡◌, ℕ, ◌++◌, Bool, true, false, List, Result, Ok, Err}
+use Rattle.llrp_tree.specs.Tree.{MessageTree}
+use Rattle.llrp_stream.specs.declared.item.Item.{Item}
+use Rattle.llrp_session.specs.ReaderMachine.{Reader, ReaderEvent}
+use Rattle.llrp_listing.specs.declared.outcome.ToolErr.{ToolErr}
+use Rattle.llrp_live.specs.declared.reader.LiveReader.{LiveReader}
+use Rattle.llrp_live.specs.declared.reader.LivePhase.{LivePhase}
+use Rattle.llrp_live.specs.declared.reader.LivePhase.TheVariants.{Open, Closed, Failed}
+use Rattle.llrp_live.specs.Calls.Doings.{Doing, Happens, Dated, doing, once}
+use Rattle.llrp_live.specs.Calls.Living.{Feeds}
+
+-- this was done, and what is said then appended
+pub record Does (d : Dated) (old new : Reader) (out0 out1 : List MessageTree) : Type 0 where
+  pub reader : new ≡ (once old d d.doing).reader
+  pub said : out1 ≡ out0 ++ (once old d d.doing).said
+
+abbrev pub DoesEvent : ℕ → ReaderEvent → Reader → Reader → List MessageTree → List MessageTree → Type 0
+DoesEvent now event old new out0 out1 = Does (record { now = now; doing = Happens event }) old new out0 out1
+
+abbrev pub DoesItem : ℕ → Item → Reader → Reader → List MessageTree → List MessageTree → Type 0
+DoesItem now item old new out0 out1 = Does (record { now = now; doing = doing item }) old new out0 out1
+
+-- the phase that an answer leaves
+abbrev pub phase_after : Result Bool ToolErr → LivePhase
+phase_after (Ok false) = Open
+phase_after (Ok true) = Closed
+phase_after (Err error) = Failed error
+
+-- the items of a piece were taken
+abbrev pub TakesPiece : ℕ → List ℕ → LiveReader → LiveReader → List MessageTree → List MessageTree → Result Bool ToolErr → Type 0
+TakesPiece now piece old new out0 out1 answer = Feeds now piece old new out0 out1 answer

@@ -1,0 +1,18 @@
+//! A simulated reader in real time: each thing that happens to it comes with its moment.
+//!
+//! Use it where time passes by itself, as in a test bench. A [`LiveReader`] is given the client's octets as they come, and other
+//! events ([`llrp_session::ReaderIn`]): that a client connected, that a tag is seen, that time has passed. It appends the messages
+//! that the reader sends. It takes the messages of the whole standard: some requests outside the profile are answered
+//! ([`llrp_session::answer`]), and of every other message the reader takes what the profile has of it.
+//!
+//! ```
+//! let mut reader = LiveReader::new(alloc, Reader::new(alloc, 65_536, 1));
+//! reader.happen(now, ReaderIn::Connect, &mut sent)?;
+//! let has_closed = reader.feed(now, octets, &mut sent)?;
+//! ```
+#![tactic(auto)]
+
+mod doing;
+mod reader;
+
+pub use reader::{LivePhase, LiveReader};

@@ -1,0 +1,187 @@
+//! A simulated reader that serves one client, and is told each moment.
+
+ghost use Rattle.std.specs.Prelude.{◌≡◌, ◌≤◌, [], Bool, List, OnErr, OnOk, Result, ℕ};
+ghost use Rattle.llrp_stream.specs.declared.item.Item.{Item as TheItem};
+ghost use Rattle.llrp_listing.specs.declared.outcome.ToolErr.{ToolErr as TheToolErr};
+ghost use Rattle.llrp_session.specs.Calls.ReaderSteps.{event_of};
+ghost use Rattle.llrp_session.specs.ReaderMachine.{Reader as Machine};
+ghost use Rattle.llrp_tree.specs.declared.TheConstants.{MAX_LIMIT};
+ghost use Rattle.llrp_live.specs.Calls.Doings.{Dated, Happens};
+ghost use Rattle.llrp_live.specs.Private.Living.{DoesEvent, DoesItem, phase_after as the_phase_after};
+
+use crate::doing::{Doing, closes, doing_of};
+use llrp_listing::{ToolErr, error_of};
+use llrp_schema::KindSet;
+use llrp_session::{Reader, ReaderIn, StepFault};
+use llrp_stream::{Decoder, End, Fed, Item};
+use llrp_tree::Message;
+use std::alloc::{AllocError, Global};
+
+/// How far a client is served.
+#[derive(Clone, Copy, Debug, PartialEq, Eq)]
+pub enum LivePhase {
+    /// Its octets are taken.
+    Open,
+    /// It closed the connection.
+    Closed,
+    /// It ended with this error.
+    Failed(ToolErr),
+}
+
+/// A simulated reader that serves one client in real time.
+#[derive(Drop)]
+pub struct LiveReader {
+    alloc: Global,
+    core: Reader,
+    decoder: Decoder,
+    phase: LivePhase,
+}
+
+/// Lets an event happen to the reader at a moment, and appends what it sends; a refused event changes
+/// nothing. The error is that memory ran out, which changes nothing either.
+fn happen(
+    core: &mut Reader,
+    now: u64,
+    event: ReaderIn,
+    out: &mut Vec<Message>,
+) -> Result<(), AllocError>
+    ensures ok { OnOk result (DoesEvent now (event_of event) core.old core.new out.old.items
+        out.new.items) }
+    ensures core_unchanged { OnErr result (core.new ≡ core.old) }
+    ensures out_unchanged { OnErr result (out.new.items ≡ out.old.items) }
+{
+    match core.step(now, event, out) {
+        Ok(()) => Ok(()),
+        Err(refusal) => match refusal.fault {
+            StepFault::Memory => Err(AllocError),
+            StepFault::Closed | StepFault::NotConnected | StepFault::AlreadyUp => Ok(()),
+        },
+    }
+}
+
+/// Does what is to be done for an item, and appends what is sent. The error is that memory ran out,
+/// which changes nothing.
+fn take(
+    alloc: Global,
+    core: &mut Reader,
+    now: u64,
+    item: Item,
+    out: &mut Vec<Message>,
+) -> Result<(), AllocError>
+    ensures ok { OnOk result (DoesItem now item core.old core.new out.old.items
+        out.new.items) }
+    ensures core_unchanged { OnErr result (core.new ≡ core.old) }
+    ensures out_unchanged { OnErr result (out.new.items ≡ out.old.items) }
+{
+    match doing_of(alloc, &item)? {
+        Doing::Answer(reply) => {
+            out.push(reply)?;
+            Ok(())
+        }
+        Doing::Happen(event) => happen(core, now, event, out),
+    }
+}
+
+/// The phase after an answer of `feed`.
+fn phase_after(answer: Result<bool, ToolErr>) -> LivePhase
+    ensures { result ≡ the_phase_after answer }
+{
+    match answer {
+        Ok(true) => LivePhase::Closed,
+        Ok(false) => LivePhase::Open,
+        Err(error) => LivePhase::Failed(error),
+    }
+}
+
+impl LiveReader {
+    ghost use Rattle.llrp_live.specs.Calls.Living.{EndsAll, Feeds, Happened, IsOver, Lives};
+    ghost use Rattle.llrp_live.specs.Private.Living.{TakesPiece};
+
+    /// A reader that `Reader::new` made, of the whole standard, before anything happened. It takes no
+    /// memory.
+    pub fn new(alloc: Global, core: Reader) -> LiveReader
+        requires least { 10 ≤ core.limit }
+        requires most { core.limit ≤ MAX_LIMIT }
+        ensures { Lives core [] [] [] result }
+    {
+        let decoder = Decoder::new_in(alloc, KindSet::Standard, core.limit());
+        LiveReader {
+            alloc,
+            core,
+            decoder,
+            phase: LivePhase::Open,
+        }
+    }
+
+    /// Lets an event happen at the moment `now`, in microseconds, and appends the messages that the
+    /// reader sends, at most three; an event that the reader refuses changes nothing. The error is
+    /// that memory ran out, which changes nothing either.
+    pub fn happen(
+        &mut self,
+        now: u64,
+        event: ReaderIn,
+        out: &mut Vec<Message>,
+    ) -> Result<(), AllocError>
+        ensures happens { OnOk result ((reader : Machine) (before : List Dated) (bytes : List ℕ)
+            (items : List TheItem) → Lives reader before bytes items self.old
+            → Happened (record { now = now; doing = Happens (event_of event) }) reader before bytes
+            items self.old self.new out.old.items out.new.items) }
+        ensures self_unchanged { OnErr result (self.new ≡ self.old) }
+        ensures out_unchanged { OnErr result (out.new.items ≡ out.old.items) }
+    {
+        happen(&mut self.core, now, event, out)?;
+        Ok(())
+    }
+
+    /// Takes the items of a piece at a moment. Returns whether one of them closed the connection.
+    fn take_all(&mut self, now: u64, piece: &[u8], out: &mut Vec<Message>) -> Result<bool, ToolErr>
+        ensures { TakesPiece now piece.now self.old self.new out.old.items out.new.items result }
+    {
+        let mut rest = piece;
+        while !rest.is_empty() {
+            let Fed { used, item } = match self.decoder.feed(rest) {
+                Ok(fed) => fed,
+                Err(error) => return Err(error_of(error)),
+            };
+            let Some(item) = item else {
+                return Ok(false);
+            };
+            let closing = closes(&item);
+            take(self.alloc, &mut self.core, now, item, out)?;
+            if closing {
+                return Ok(true);
+            }
+            rest = rest.split_at(used).1;
+        }
+        Ok(false)
+    }
+
+    /// Takes the next octets of the client at the moment `now`, in microseconds: each frame that they
+    /// complete is answered, or the reader takes what the profile has of it. Appends what is sent.
+    /// Returns true once the client closed the connection; each later call returns true and changes
+    /// nothing. The errors are `Broken` at a length field below 10, and `Memory`; each later call
+    /// returns the same error and changes nothing.
+    pub fn feed(&mut self, now: u64, piece: &[u8], out: &mut Vec<Message>) -> Result<bool, ToolErr>
+        ensures feeds { Feeds now piece.now self.old self.new out.old.items out.new.items result }
+        ensures over { (answer : Result Bool TheToolErr) → IsOver answer self.old
+            → (result ≡ answer) × (self.new ≡ self.old) × (out.new.items ≡ out.old.items) }
+    {
+        match self.phase {
+            LivePhase::Open => {}
+            LivePhase::Closed => return Ok(true),
+            LivePhase::Failed(error) => return Err(error),
+        }
+        let outcome = self.take_all(now, piece, out);
+        self.phase = phase_after(outcome);
+        outcome
+    }
+
+    /// How the client's octets end if no more follow: `Clean` after a whole frame, and `Rest` within
+    /// one.
+    pub fn finish(&self) -> End
+        ensures { (reader : Machine) (before : List Dated) (bytes : List ℕ) (items : List TheItem)
+            → Lives reader before bytes items self.now → EndsAll reader.limit bytes items result }
+    {
+        self.decoder.finish()
+    }
+}
