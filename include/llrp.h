@@ -3,15 +3,17 @@
  * The functions are those of the library libllrp_c (docs/library.md says how to build and link it). They are proved to do
  * what is said here, for every content of what they are given, if the caller keeps to these rules:
  *
- *  - A pointer that is followed by a length points to that many octets; no pointer is null, not even for a length of 0.
+ *  - A pointer that is followed by a length points to that many octets, one to tags to that many structs; no pointer is null, not even for
+ *    a length of 0.
  *  - What a call writes to does not overlap anything else that is passed to it.
- *  - Pointers to a size_t, uint32_t or uint64_t are aligned as their types ask.
+ *  - Pointers to a size_t, uint32_t, uint64_t or struct llrp_tag are aligned as their types ask.
  *  - During a call nobody else writes to what is passed to it, or reads what it writes to.
  *  - Texts are octets with a length. No zero octet ends them, neither those that are passed nor those that are written.
  *
  * No call keeps anything between two calls, so calls from several threads need no lock. The functions of listings and of JSON (llrp_list,
- * llrp_list_json, llrp_encode and their _all) and llrp_forms take memory by malloc, and free it before they return; the others take none. Lengths are counted in octets, bits from 0, and bit 0 is the most
- * significant one of the first octet.
+ * llrp_list_json, llrp_next, llrp_next_json, llrp_encode, llrp_encode_json and their _all), llrp_tags and llrp_forms take memory by malloc,
+ * and free it before they return; the others take none. Lengths are counted in octets, bits from 0, and bit 0 is the most significant one of
+ * the first octet.
  */
 #ifndef LLRP_H
 #define LLRP_H
@@ -31,6 +33,25 @@ extern "C" {
 /* The greatest message: a longer frame is listed as a fault, and a longer message of a listing is refused. */
 #define LLRP_MOST_OCTETS 1048576
 
+/* What a report says of a tag, as bits of a struct llrp_tag's has. */
+#define LLRP_TAG_WORD 1
+#define LLRP_TAG_ANTENNA 2
+#define LLRP_TAG_RSSI 4
+#define LLRP_TAG_FIRST_SEEN 8
+#define LLRP_TAG_COUNT 16
+
+/* What a report says of a tag: a TagReportData of an RO_ACCESS_REPORT. What it does not say is 0. */
+struct llrp_tag {
+    uint64_t first_seen; /* FirstSeenTimestampUTC: microseconds since 1970-01-01T00:00:00Z */
+    uint32_t has;        /* the sum of the bits LLRP_TAG_WORD to LLRP_TAG_COUNT of what is said */
+    uint16_t antenna;    /* AntennaID */
+    uint16_t count;      /* TagSeenCount */
+    int8_t rssi;         /* PeakRSSI, in dBm */
+    uint8_t text_length; /* how many octets the text has */
+    uint8_t word[12];    /* the word of an EPC-96; an EPC of another length, an EPCData, is not said */
+    uint8_t text[64];    /* the text of the word, as llrp_text_of_word writes it, and then zeros */
+};
+
 /* How a call ends. */
 enum llrp_status {
     LLRP_OK = 0,
@@ -41,6 +62,7 @@ enum llrp_status {
     LLRP_UTF8 = 5,   /* the text is not UTF-8 */
     LLRP_LONG = 6,   /* the text has more than 96 octets; only llrp_word_of_key returns it */
     LLRP_MEMORY = 7, /* memory ran out */
+    LLRP_MORE = 8,   /* the stream has less than a frame; only llrp_next and its like return it */
 
     /* Why a word has no tag URI: the part that fails (docs/errors.md). */
     LLRP_HEADER = 16,    /* the first eight bits are not a scheme's */
@@ -85,7 +107,15 @@ enum llrp_status {
     LLRP_KEY_PREFIX = 81, /* it is not known how many digits the company prefix has */
     LLRP_KEY_LENGTH = 82, /* the key has fewer digits than it has to have */
     LLRP_KEY_CHECK = 83,  /* the check digit is wrong */
-    LLRP_KEY_SERIAL = 84  /* after the key comes what it does not have there */
+    LLRP_KEY_SERIAL = 84, /* after the key comes what it does not have there */
+
+    /* Why llrp_encode_json refuses a line, besides LLRP_LINE, LLRP_NAME, the rules of tag URIs, and why a message or parameter is refused. */
+    LLRP_JSON_JSON = 96,      /* the line is not one text of JSON */
+    LLRP_JSON_UNKNOWN = 97,   /* a member that such objects do not have */
+    LLRP_JSON_MISSING = 98,   /* a member is not there */
+    LLRP_JSON_TWICE = 99,     /* a member is there twice or more */
+    LLRP_JSON_MISTYPED = 100, /* a value has another type */
+    LLRP_JSON_VALUE = 101     /* a number is out of its range, or a string is not the digits of octets */
 };
 
 /* Writes the text of a tag's word to text, its length to *count, and 0 to *bit: the tag URI, as
@@ -182,6 +212,51 @@ uint32_t llrp_list_json(const uint8_t *stream, size_t stream_length, uint8_t *li
 /* The same with every message and parameter of LLRP 1.1, as `llrp show --all --json` prints them. */
 uint32_t llrp_list_json_all(const uint8_t *stream, size_t stream_length, uint8_t *lines, size_t lines_room, size_t *used, size_t *written);
 
+/* Writes the listing of the first frame of a stream to listing, as `llrp show` prints it, its length to *written, and how many octets the
+ * frame has to *used. Call it again with the octets after these, so that no frame is read twice.
+ *
+ * stream         octets of a stream, from the first one of a frame on
+ * stream_length  how many there are
+ * listing        room for the listing; octets after it stay as they were
+ * listing_room   how many octets of room there are
+ * used           where the number of octets of the frame is written
+ * written        where the number of octets of the listing is written
+ *
+ * LLRP_OK if the frame is a message, and LLRP_FAULTY if it is not. LLRP_BROKEN if the stream begins with a length field below 10: the
+ * listing is the line ! BROKEN, and all of the stream is used. LLRP_MORE if there is less than a frame: nothing is written, both counts
+ * are 0; call again with the same octets and what comes after them.
+ * LLRP_ROOM if the listing is longer than the room: nothing is written to listing, *used is 0, and *written is the room that the
+ * listing needs. LLRP_MEMORY: nothing is written, both counts are 0. */
+uint32_t llrp_next(const uint8_t *stream, size_t stream_length, uint8_t *listing, size_t listing_room, size_t *used, size_t *written);
+
+/* The same with every message and parameter of LLRP 1.1, as `llrp show --all` lists them, in place of those of the profile. */
+uint32_t llrp_next_all(const uint8_t *stream, size_t stream_length, uint8_t *listing, size_t listing_room, size_t *used, size_t *written);
+
+/* Writes the first frame of a stream as a line of JSON, as `llrp show --json` prints it (docs/json.md), and all else as llrp_next does with
+ * the listing: a break is the line {"broken":true}.
+ *
+ * lines       room for the line; octets after it stay as they were
+ * lines_room  how many octets of room there are
+ * written     where the number of octets of the line is written */
+uint32_t llrp_next_json(const uint8_t *stream, size_t stream_length, uint8_t *lines, size_t lines_room, size_t *used, size_t *written);
+
+/* The same with every message and parameter of LLRP 1.1, as `llrp show --all --json` prints them. */
+uint32_t llrp_next_json_all(const uint8_t *stream, size_t stream_length, uint8_t *lines, size_t lines_room, size_t *used, size_t *written);
+
+/* Writes what a report says of its tags to tags, one for each TagReportData and in their order, and how many they are to *written.
+ *
+ * frame         the octets of one frame, as many as llrp_next used of a stream
+ * frame_length  how many there are
+ * tags          room for the tags; those after them stay as they were
+ * tags_room     how many tags there is room for
+ * written       where the number of tags is written
+ *
+ * LLRP_OK if the frame is a message of LLRP 1.1, of the profile or not; any but an RO_ACCESS_REPORT has no tags. LLRP_LENGTH if the octets
+ * are not exactly one frame, and LLRP_FAULTY if the frame is not a message: nothing is written to tags, *written is 0. LLRP_ROOM if there
+ * are more tags than the room has: nothing is written to tags, and *written is the room that they need.
+ * LLRP_MEMORY: nothing is written, *written is 0. */
+uint32_t llrp_tags(const uint8_t *frame, size_t frame_length, struct llrp_tag *tags, size_t tags_room, size_t *written);
+
 /* Writes the octets of the messages of a listing, as `llrp encode` does, to octets, how many they are to *written, and 0 to *line.
  *
  * listing         lines as `llrp show` prints them, each ended by a line feed
@@ -201,6 +276,30 @@ uint32_t llrp_encode(const uint8_t *listing, size_t listing_length, uint8_t *oct
 
 /* The same with every message and parameter of LLRP 1.1, as `llrp encode --all` takes them, in place of those of the profile. */
 uint32_t llrp_encode_all(const uint8_t *listing, size_t listing_length, uint8_t *octets, size_t octets_room, size_t *written, uint64_t *line);
+
+/* Writes the octets of the messages that lines of JSON say, as `llrp encode --json` does, to octets, how many they are to *written, and 0 to
+ * *line and to *path_written. docs/json.md says what a line may be; the last one may lack its line feed.
+ *
+ * lines         objects of messages as `llrp show --json` prints them, a line each, with the members in any order
+ * lines_length  how many octets the lines have
+ * octets        room for the octets of the messages; octets after them stay as they were
+ * octets_room   how many octets of room there are
+ * written       where the number of octets of the messages is written
+ * line          where the number of the refused line is written
+ * path          room for the path of the member at which a line is refused, as parameters[0].AntennaID
+ * path_room     how many octets of room there are
+ * path_written  where the number of octets of the path is written
+ *
+ * LLRP_OK, or the first reason for which a line is refused: LLRP_LINE if it has more than 64 times LLRP_MOST_OCTETS, LLRP_NAME,
+ * LLRP_JSON_JSON to LLRP_JSON_VALUE, LLRP_START to LLRP_RAW_OF_LAWFUL, or LLRP_OVER_LIMIT to LLRP_NODE_TOO_LONG. Then *line is its number, counted from 1, and
+ * *path_written the length of the path, 0 where the reason concerns the whole line; the path is printable ASCII, and is written where the
+ * room has as many octets; nothing is written to octets, and *written is 0.
+ * LLRP_ROOM if there are more octets than the room has: nothing is written to octets, and *written is the room that they need.
+ * LLRP_MEMORY: nothing is written, *written, *line and *path_written are 0. */
+uint32_t llrp_encode_json(const uint8_t *lines, size_t lines_length, uint8_t *octets, size_t octets_room, size_t *written, uint64_t *line, uint8_t *path, size_t path_room, size_t *path_written);
+
+/* The same with every message and parameter of LLRP 1.1, as `llrp encode --all --json` takes them. */
+uint32_t llrp_encode_json_all(const uint8_t *lines, size_t lines_length, uint8_t *octets, size_t octets_room, size_t *written, uint64_t *line, uint8_t *path, size_t path_room, size_t *path_written);
 
 /* Writes the name of a status to name, such as LeadingZero or Node Missing, and returns its length. docs/errors.md explains the names.
  *

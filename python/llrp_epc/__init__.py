@@ -15,7 +15,7 @@
 A message is a dict, as docs/json.md says. A text or a listing that is refused raises Refused, whose name docs/errors.md explains.
 """
 from ._library import Octets
-from ._llrp import Llrp, Message, Refused
+from ._llrp import Llrp, Message, Refused, Tag
 
-__all__ = ["Llrp", "Message", "Octets", "Refused"]
+__all__ = ["Llrp", "Message", "Octets", "Refused", "Tag"]
 __version__ = "0.1.0"

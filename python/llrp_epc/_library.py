@@ -9,10 +9,27 @@ NAME = "libllrp_c.so.0"
 OK, FAULTY, BROKEN, ROOM, MEMORY = 0, 1, 2, 3, 7
 HEADER, ZEROS = 16, 20
 WORD_OCTETS, TEXT_ROOM, NAME_ROOM, MOST_OCTETS = 12, 64, 16, 1048576
-# More than all forms of a word have, so that no call is made twice.
-FORMS_ROOM = 512
+# More than all forms of a word have, so that no call is made twice; and more than the path of most members has.
+FORMS_ROOM, PATH_ROOM = 512, 256
+# The bits of what a report says of a tag, in the order of TagStruct's members that have their names.
+TAG_WORD, TAG_ANTENNA, TAG_RSSI, TAG_FIRST_SEEN, TAG_COUNT = 1, 2, 4, 8, 16
 
 Octets = Union[bytes, bytearray, memoryview]
+
+
+class TagStruct(ctypes.Structure):
+    """What a report says of a tag: struct llrp_tag."""
+
+    _fields_ = [
+        ("first_seen", ctypes.c_uint64),
+        ("has", ctypes.c_uint32),
+        ("antenna", ctypes.c_uint16),
+        ("count", ctypes.c_uint16),
+        ("rssi", ctypes.c_int8),
+        ("text_length", ctypes.c_uint8),
+        ("word", ctypes.c_uint8 * WORD_OCTETS),
+        ("text", ctypes.c_uint8 * TEXT_ROOM),
+    ]
 
 
 def load(path: Optional[str]) -> ctypes.CDLL:
@@ -29,6 +46,7 @@ def declare(library: ctypes.CDLL) -> None:
     octets = (ctypes.c_char_p, size)  # (what is read, or room for what is written)
     listed = (*octets, *octets, pointer(size), pointer(size))
     encoded = (*octets, *octets, pointer(size), pointer(ctypes.c_uint64))
+    packed = (*encoded, *octets, pointer(size))
     for name, arguments in {
         "llrp_text_of_word": (*octets, *octets, pointer(size), pointer(ctypes.c_uint32)),
         "llrp_word_of_text": (*octets, *octets),
@@ -39,8 +57,11 @@ def declare(library: ctypes.CDLL) -> None:
         "llrp_list_all": listed,
         "llrp_list_json": listed,
         "llrp_list_json_all": listed,
+        "llrp_tags": (*octets, pointer(TagStruct), size, pointer(size)),
         "llrp_encode": encoded,
         "llrp_encode_all": encoded,
+        "llrp_encode_json": packed,
+        "llrp_encode_json_all": packed,
         "llrp_name": (ctypes.c_uint32, *octets),
     }.items():
         function = getattr(library, name)

@@ -1,7 +1,8 @@
 """The class Llrp, with what it takes, returns and raises."""
 import ctypes
 import json
-from typing import Any, Callable, Dict, Iterator, List, Optional, Protocol, Tuple
+from dataclasses import dataclass
+from typing import Any, Callable, Dict, Iterable, Iterator, List, Optional, Protocol, Tuple
 
 from . import _library
 from ._library import Octets
@@ -19,17 +20,32 @@ class Readable(Protocol):
         """Returns at most this many octets, and none at the end."""
 
 
-class Refused(ValueError):
-    """A text, a listing or a stream was refused: `name` says why, `line` at which line of a listing, and `right` the check digit that a key
-    would have."""
+@dataclass(frozen=True)
+class Tag:
+    """What a report says of a tag; None where it does not say it.
 
-    def __init__(self, status: int, name: str, line: int = 0, right: str = "") -> None:
-        super().__init__(status, name, line, right)
-        self.status, self.name, self.line, self.right = status, name, line, right
+    `word` and `text` are those of an EPC-96, `rssi` is in dBm, `first_seen` in microseconds since 1970, and `count` says how often the tag
+    was seen."""
+
+    word: Optional[bytes]
+    text: Optional[str]
+    antenna: Optional[int]
+    rssi: Optional[int]
+    first_seen: Optional[int]
+    count: Optional[int]
+
+
+class Refused(ValueError):
+    """A text, a listing, a message or a stream was refused: `name` says why, `line` at which line of a listing, or which of the messages
+    from 1 on, `path` at which of its members, and `right` the check digit that a key would have."""
+
+    def __init__(self, status: int, name: str, line: int = 0, right: str = "", path: str = "") -> None:
+        super().__init__(status, name, line, right, path)
+        self.status, self.name, self.line, self.right, self.path = status, name, line, right, path
 
     def __str__(self) -> str:
         if self.line:
-            return f"line {self.line}: {self.name}"
+            return f"line {self.line}: {self.path}: {self.name}" if self.path else f"line {self.line}: {self.name}"
         return f"{self.name} {self.right}" if self.right else self.name
 
 
@@ -131,6 +147,22 @@ class Llrp:
         listing, used, status = self._listed(function, stream)
         return listing, used, status == _library.OK
 
+    def tags(self, frame: Octets) -> "List[Tag]":
+        """Returns what the message of one frame says of its tags, in their order: those of an RO_ACCESS_REPORT of LLRP 1.1.
+
+        Raises Refused with the name Length where the octets are not exactly one frame, and Faulty where the frame is no message."""
+        where, length = _library.passed(frame)
+        count, room = ctypes.c_size_t(), 16
+        while True:
+            structs = (_library.TagStruct * room)()
+            status: int = self.library.llrp_tags(where, length, structs, room, ctypes.byref(count))
+            if status != _library.ROOM:
+                break
+            room = count.value
+        if status != _library.OK:
+            raise self._refusal(status)
+        return [_tag_of(structs[at]) for at in range(count.value)]
+
     def encode(self, listing: str, all: bool = False) -> bytes:
         """Returns the octets of the messages of a listing, or raises Refused with the line and the reason."""
         function = self.library.llrp_encode_all if all else self.library.llrp_encode
@@ -139,6 +171,29 @@ class Llrp:
         if status != _library.OK:
             raise self._refusal(status, line.value)
         return octets
+
+    def pack(self, messages: Iterable[Message], all: bool = False) -> bytes:
+        """Returns the octets of messages, which are dicts as `messages` and `stream` give them, with their members in any order.
+
+        Raises Refused for the first that is none, with its number, counted from 1, as `line`, and with the path of the member as `path`,
+        such as parameters[0].AntennaID; docs/json.md explains the names."""
+        function = self.library.llrp_encode_json_all if all else self.library.llrp_encode_json
+        lines = "".join(f"{json.dumps(message)}\n" for message in messages).encode()
+        room, path_room = len(lines), _library.PATH_ROOM
+        while True:
+            octets, path = ctypes.create_string_buffer(room + 1), ctypes.create_string_buffer(path_room)
+            written, line, length = ctypes.c_size_t(), ctypes.c_uint64(), ctypes.c_size_t()
+            counts = (ctypes.byref(written), ctypes.byref(line))
+            status: int = function(lines, len(lines), octets, room, *counts, path, path_room, ctypes.byref(length))
+            if status == _library.ROOM:
+                room = written.value
+            elif length.value > path_room:
+                path_room = length.value
+            else:
+                break
+        if status != _library.OK:
+            raise self._refusal(status, line.value, path=ctypes.string_at(path, length.value).decode())
+        return ctypes.string_at(octets, written.value)
 
     def frame_length(self, stream: Octets) -> int:
         """Returns the length of the first frame of a stream, or 0 where more octets are wanted."""
@@ -157,9 +212,9 @@ class Llrp:
 
     # ---- what the calls share
 
-    def _refusal(self, status: int, line: int = 0, right: str = "") -> Exception:
+    def _refusal(self, status: int, line: int = 0, right: str = "", path: str = "") -> Exception:
         """Returns the exception for a status."""
-        return MemoryError() if status == _library.MEMORY else Refused(status, self.name(status), line, right)
+        return MemoryError() if status == _library.MEMORY else Refused(status, self.name(status), line, right, path)
 
     def _frame_length(self, stream: Octets) -> Tuple[int, int]:
         """Returns the status of llrp_frame_length, and the length."""
@@ -182,3 +237,20 @@ class Llrp:
         if status not in (_library.OK, _library.FAULTY, _library.BROKEN):
             raise self._refusal(status)
         return text.decode(), used.value, status
+
+
+def _tag_of(struct: _library.TagStruct) -> Tag:
+    """Returns what a struct of the library says."""
+
+    def said(bit: int, value: Any) -> Any:
+        return value if struct.has & bit else None
+
+    text = bytes(struct.text)[: struct.text_length].decode()
+    return Tag(
+        said(_library.TAG_WORD, bytes(struct.word)),
+        said(_library.TAG_WORD, text),
+        said(_library.TAG_ANTENNA, struct.antenna),
+        said(_library.TAG_RSSI, struct.rssi),
+        said(_library.TAG_FIRST_SEEN, struct.first_seen),
+        said(_library.TAG_COUNT, struct.count),
+    )

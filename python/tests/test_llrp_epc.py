@@ -7,7 +7,7 @@ from concurrent.futures import ThreadPoolExecutor
 from typing import Callable, Iterator, List, Optional
 
 import pytest
-from llrp_epc import Llrp, Message, Octets, Refused, _library
+from llrp_epc import Llrp, Message, Octets, Refused, Tag, _library
 
 WORD, TEXT = bytes.fromhex("3074257BF7194E4000001A85"), "urn:epc:tag:sgtin-96:3.0614141.812345.6789"
 # Two messages of LLRP 1.1 and one of LLRP 1.0.1, a frame with reserved bits that are not zero, and a length field below 10 (section 16).
@@ -20,6 +20,8 @@ MESSAGES: List[Message] = [
 ]
 # A CUSTOM_MESSAGE (type 1023), which is no message of the profile.
 CUSTOM = bytes.fromhex("0BFF0000001000000007 0000651A 25AA")
+# A TagReportData (type 240) of WORD with antenna 2, -60 dBm, a time and a count of 65,534, and one of an EPCData of eight bits (section 14).
+ALL_SAID, EPC_DATA = bytes.fromhex("00F00022 8D3074257BF7194E4000001A85 810002 86C4 820005AF3107A40000 88FFFE"), bytes.fromhex("00F0000B 00F100070008AB")
 # Each way to hand over octets.
 FORMS: List[Callable[[bytes], Octets]] = [
     bytes,
@@ -174,6 +176,47 @@ def test_listings(llrp: Llrp) -> None:
     assert llrp.encode("0 CUSTOM_MESSAGE 2 7 25882 37 xaa\n", all=True) == CUSTOM
 
 
+# A report of a tag's EPC-96, antenna and signal strength (TDS 1.13, section 6.3.1; LLRP 1.1, section 17.2).
+REPORT = bytes.fromhex("043D0000002000000001 00F00016 8D 3074257BF7194E4000001A85 81 0001 86 C4")
+TAG: Message = {"parameter": "TagReportData", "parameters": [{"parameter": "EPC-96", "EPC": TEXT}, {"AntennaID": 1, "parameter": "AntennaID"}, {"parameter": "PeakRSSI", "PeakRSSI": -60}]}
+SEEN: Message = {"id": 1, "parameters": [TAG], "version": 1, "message": "RO_ACCESS_REPORT"}
+
+
+def test_messages_of_dicts(llrp: Llrp) -> None:
+    assert llrp.pack([]) == b""
+    assert llrp.pack(MESSAGES) == KEEPALIVE + ACK + CLOSE
+    assert llrp.pack(iter([SEEN])) == REPORT
+    assert llrp.pack(llrp.messages(REPORT)[0]) == REPORT
+    assert llrp.pack(llrp.stream(io.BytesIO(KEEPALIVE * 3000))) == KEEPALIVE * 3000
+    assert llrp.pack(llrp.messages(CUSTOM, all=True)[0], all=True) == CUSTOM
+    status: Message = {"parameter": "LLRPStatus", "StatusCode": 100, "text": "a\u00fc\U0001f600\n"}
+    frame = bytes.fromhex("04640000001A00000002 011F0010 0064 0008 61C3BCF09F98800A")
+    assert llrp.pack([{"message": "ERROR_MESSAGE", "version": 1, "id": 2, "parameters": [status]}]) == frame
+
+
+@pytest.mark.parametrize(
+    "wrong, name, path",
+    [
+        ({"rest": 4}, "Missing", "message"),
+        ({**MESSAGES[0], "id": 7.5}, "Mistyped", "id"),
+        ({**MESSAGES[0], "id": float("nan")}, "Json", ""),
+        ({**MESSAGES[0], "version": 3}, "Value", "version"),
+        ({**MESSAGES[0], "ID" * 1000: 7}, "Unknown", "ID" * 1000),
+        ({**MESSAGES[0], "\u00fc": 7}, "Unknown", "\\u00fc"),
+        ({**MESSAGES[0], "message": "KEEPALIV"}, "Name", "message"),
+        ({**SEEN, "parameters": [TAG, {"parameter": "TagReportData"}]}, "Node Missing", "parameters[1]"),
+        ({**SEEN, "parameters": [{**TAG, "parameters": [{"parameter": "EPC-96", "EPC": TEXT[:-4] + "007"}]}]}, "LeadingZero", "parameters[0].parameters[0].EPC"),
+        ({"message": "CUSTOM_MESSAGE", "version": 2, "id": 7, "VendorIdentifier": 25882, "MessageSubtype": 37, "octets": "aa"}, "Name", "message"),
+    ],
+)
+def test_dicts_that_are_no_messages(llrp: Llrp, wrong: Message, name: str, path: str) -> None:
+    with pytest.raises(Refused) as caught:
+        llrp.pack([*MESSAGES, wrong, wrong])
+    for refusal in (caught.value, pickle.loads(pickle.dumps(caught.value))):
+        assert (refusal.name, refusal.line, refusal.path) == (name, 4, path)
+        assert str(refusal) == (f"line 4: {path}: {name}" if path else f"line 4: {name}")
+
+
 @pytest.mark.parametrize("size", range(1, 31))
 def test_a_stream_in_pieces(llrp: Llrp, size: int) -> None:
     stream = KEEPALIVE + ACK + CLOSE
@@ -254,3 +297,26 @@ def test_threads(llrp: Llrp) -> None:
 def test_no_library() -> None:
     with pytest.raises(OSError):
         Llrp("no/such/library.so")
+
+
+def report(*tags: bytes) -> bytes:
+    """Returns the frame of an RO_ACCESS_REPORT (type 61) of version 1."""
+    return bytes.fromhex("043D") + (10 + len(b"".join(tags))).to_bytes(4, "big") + bytes.fromhex("00000001") + b"".join(tags)
+
+
+@pytest.mark.parametrize("count", [0, 1, 16, 17, 500])
+def test_tags(llrp: Llrp, count: int) -> None:
+    said, other = Tag(WORD, TEXT, 2, -60, 1600000000000000, 65534), Tag(None, None, None, None, None, None)
+    assert llrp.tags(report(*[ALL_SAID] * count, EPC_DATA)) == [said] * count + [other]
+
+
+@pytest.mark.parametrize("form", FORMS)
+def test_tags_of_no_report(llrp: Llrp, form: Callable[[bytes], Octets]) -> None:
+    assert llrp.tags(form(KEEPALIVE)) == []
+
+
+@pytest.mark.parametrize("octets, name", [(b"", "Length"), (KEEPALIVE[:9], "Length"), (KEEPALIVE * 2, "Length"), (FAULTY, "Faulty"), (BROKEN, "Length")])
+def test_tags_of_what_is_no_message(llrp: Llrp, octets: bytes, name: str) -> None:
+    with pytest.raises(Refused) as refusal:
+        llrp.tags(octets)
+    assert (refusal.value.name, str(refusal.value)) == (name, name)

@@ -1,28 +1,27 @@
--- Whole frames at the front of a stream, and their listing.
+-- Whole frames at the front of a stream, its first frame, and what is listed of them.
 use Rattle.std.proofs.Common.{◌≡◌, ℕ, ◌+◌, ◌-◌, ◌≤◌, Bool, true, false, List, [], ◌∷◌, ◌++◌, length, take, drop, refl, sym, ap, subst, ◌∙◌, arith}
-use Rattle.std.specs.Prelude.{if◌then◌else◌}
 use Rattle.std.proofs.Math.Seq.{take-add}
 use Rattle.std.proofs.lemmas.List.{append-nil, take-append-drop, take_all, length-take-le, length-drop}
 use Rattle.llrp_schema.specs.declared.kinds.KindSet.{KindSet}
 use Rattle.llrp_stream.specs.declared.item.End.{End}
 use Rattle.llrp_stream.specs.declared.item.End.TheVariants as at_end
-use Rattle.llrp_stream.specs.Cuts.{Cuts, IsFrame, joined, length_field}
+use Rattle.llrp_stream.specs.Cuts.{Breaks, Cuts, IsFrame, joined, length_field}
 use Rattle.llrp_stream.specs.Items.{ItemsIn}
 use Rattle.llrp_stream.specs.Calls.Lengths.{IsLength}
 use Rattle.llrp_stream.proofs.FrontLemmas.{length_field-append}
 use Rattle.llrp_stream.proofs.Unique.{one_cut}
 use Rattle.llrp_tree.specs.declared.TheConstants.{MAX_LIMIT}
-use Rattle.llrp_listing.specs.declared.outcome.Verdict.{Verdict}
 use Rattle.llrp_listing.specs.Show.{verdict_of}
 use Rattle.llrp_listing.specs.StreamListing.{IsStreamText, is_lawful}
 use Rattle.llrp_c.specs.declared.status.Status.{Status}
-use Rattle.llrp_c.specs.Private.Frames.{AreFrames, IsLeft}
+use Rattle.llrp_c.specs.Private.Frames.{AreFrames, IsFirst, IsLeft}
 use Rattle.llrp_c.specs.Listings.{IsListing, ItemTextIn, end_text_in, lawful_status}
-use Rattle.llrp_c.specs.Private.Parts.{HasListing, listed_status}
+use Rattle.llrp_c.specs.Next.{IsNext}
+use Rattle.llrp_c.specs.Private.Parts.{IsPart, listed_status}
 use Rattle.llrp_stream.proofs.RunLemmas.{each_push, joined_push}
 
 -- a length field and as many octets are a frame
-whole_frame : (octets : ℕ) (stream : List ℕ) → IsLength stream octets → octets ≤ length stream → IsFrame (take octets stream)
+pub whole_frame : (octets : ℕ) (stream : List ℕ) → IsLength stream octets → octets ≤ length stream → IsFrame (take octets stream)
 whole_frame octets stream is le =
     let count : length (take octets stream) ≡ octets = length-take-le octets stream le in
     let first : 6 ≤ length (take octets stream) = omega (arith, is.ten, count) in
@@ -68,28 +67,66 @@ ends_broken stream piece octets used frames end are left is e cut =
     (one_cut piece frames are.frames end at_end.Broken cut broken).1
 
 -- the listing of the octets that are listed is that of the whole frames
-pub listed : {json : Bool} {p : KindSet} (broken : Bool) (stream : List ℕ) (octets used : ℕ) (piece text : List ℕ) (verdict : Verdict) (status : Status) → AreFrames stream octets → IsLeft broken (drop octets stream)
-    → used ≡ (if broken then length stream else octets) → piece ≡ take used stream → HasListing json p piece text verdict → status ≡ listed_status broken verdict → IsListing json p stream used text status
-listed {json} {p} false stream octets used piece text verdict status are left is e has status_is =
-    let clean = ends_clean stream piece octets used has.are.frames has.end are is e has.are.cut in
-    let items = subst (λ (x : End). ItemsIn p MAX_LIMIT piece has.items x) clean has.are in
-    let said : verdict ≡ verdict_of (is_lawful has.items at_end.Clean) = has.verdict_is ∙ ap (λ (x : End). verdict_of (is_lawful has.items x)) clean in
+pub listed : {json : Bool} {p : KindSet} (broken : Bool) (stream : List ℕ) (octets used : ℕ) (text : List ℕ) (status : Status) → AreFrames stream octets → IsLeft broken (drop octets stream)
+    → IsPart json p stream broken octets used text status → IsListing json p stream used text status
+listed {json} {p} false stream octets used text status are left part =
+    let has = part.has in
+    let clean = ends_clean stream (take used stream) octets used has.are.frames has.end are part.used_is refl has.are.cut in
+    let said : part.verdict ≡ verdict_of (is_lawful has.items at_end.Clean) = has.verdict_is ∙ ap (λ (x : End). verdict_of (is_lawful has.items x)) clean in
     record {
-      within = omega (arith, are.within, is);
+      within = omega (arith, are.within, part.used_is);
       items = has.items;
       end = at_end.Clean;
-      are = subst (λ (x : List ℕ). ItemsIn p MAX_LIMIT x has.items at_end.Clean) e items;
-      ends = (subst (λ (n : ℕ). IsLeft false (drop n stream)) (sym is) left, status_is ∙ ap (listed_status false) said ∙ clean_status (is_lawful has.items at_end.Clean));
+      are = subst (λ (x : End). ItemsIn p MAX_LIMIT (take used stream) has.items x) clean has.are;
+      ends = (subst (λ (n : ℕ). IsLeft false (drop n stream)) (sym part.used_is) left, part.ended_is ∙ ap (listed_status false) said ∙ clean_status (is_lawful has.items at_end.Clean));
       is = subst (λ (x : End). IsStreamText (ItemTextIn json) (end_text_in json) has.items x text) clean has.is;
     }
-listed {json} {p} true stream octets used piece text verdict status are left is e has status_is =
-    let broken = ends_broken stream piece octets used has.are.frames has.end are left is e has.are.cut in
-    let items = subst (λ (x : End). ItemsIn p MAX_LIMIT piece has.items x) broken has.are in
+listed {json} {p} true stream octets used text status are left part =
+    let has = part.has in
+    let broken = ends_broken stream (take used stream) octets used has.are.frames has.end are left part.used_is refl has.are.cut in
     record {
-      within = omega (arith, is);
+      within = omega (arith, part.used_is);
       items = has.items;
       end = at_end.Broken;
-      are = subst (λ (x : List ℕ). ItemsIn p MAX_LIMIT x has.items at_end.Broken) e items;
-      ends = (is, status_is);
+      are = subst (λ (x : End). ItemsIn p MAX_LIMIT (take used stream) has.items x) broken has.are;
+      ends = (part.used_is, part.ended_is);
+      is = subst (λ (x : End). IsStreamText (ItemTextIn json) (end_text_in json) has.items x text) broken has.is;
+    }
+
+-- ---- the first frame
+
+-- the first frame by itself
+one_frame : (stream : List ℕ) (octets : ℕ) → octets ≤ length stream → IsFrame (take octets stream) → AreFrames stream octets
+one_frame stream octets le is = record { within = le; frames = take octets stream ∷ []; each = (is, tt); joined_are = sym (append-nil (take octets stream)) }
+
+-- no frame
+no_frame : (stream : List ℕ) (octets : ℕ) → octets ≡ 0 → AreFrames stream octets
+no_frame stream octets none = record { within = omega (arith, none); frames = []; each = tt; joined_are = ap (λ (n : ℕ). take n stream) none }
+
+-- what is listed of the first frame is that of it alone
+pub next_listed : {json : Bool} {p : KindSet} (broken : Bool) (stream : List ℕ) (octets used : ℕ) (text : List ℕ) (status : Status) → IsFirst stream octets broken
+    → IsPart json p stream broken octets used text status → IsNext json p stream used text status
+next_listed {json} {p} false stream octets used text status first part =
+    let has = part.has in
+    let clean = ends_clean stream (take used stream) octets used has.are.frames has.end (one_frame stream octets first.0 first.1) part.used_is refl has.are.cut in
+    let said : part.verdict ≡ verdict_of (is_lawful has.items at_end.Clean) = has.verdict_is ∙ ap (λ (x : End). verdict_of (is_lawful has.items x)) clean in
+    record {
+      within = omega (arith, first.0, part.used_is);
+      items = has.items;
+      end = at_end.Clean;
+      are = subst (λ (x : End). ItemsIn p MAX_LIMIT (take used stream) has.items x) clean has.are;
+      one = (subst (λ (n : ℕ). IsFrame (take n stream)) (sym part.used_is) first.1, part.ended_is ∙ ap (listed_status false) said ∙ clean_status (is_lawful has.items at_end.Clean));
+      is = subst (λ (x : End). IsStreamText (ItemTextIn json) (end_text_in json) has.items x text) clean has.is;
+    }
+next_listed {json} {p} true stream octets used text status first part =
+    let has = part.has in
+    let left : Breaks (drop octets stream) = subst (λ (n : ℕ). Breaks (drop n stream)) (sym first.0) first.1 in
+    let broken = ends_broken stream (take used stream) octets used has.are.frames has.end (no_frame stream octets first.0) left part.used_is refl has.are.cut in
+    record {
+      within = omega (arith, part.used_is);
+      items = has.items;
+      end = at_end.Broken;
+      are = subst (λ (x : End). ItemsIn p MAX_LIMIT (take used stream) has.items x) broken has.are;
+      one = (first.1, part.used_is, part.ended_is);
       is = subst (λ (x : End). IsStreamText (ItemTextIn json) (end_text_in json) has.items x text) broken has.is;
     }

@@ -1,2 +1,4 @@
 mod FrameLemmas
+mod PutLemmas
+mod ReportLemmas
 mod StatusLemmas

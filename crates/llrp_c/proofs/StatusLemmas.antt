@@ -6,15 +6,17 @@ use Rattle.tag_uri.specs.declared.fault.UriFault.{UriFault}
 use Rattle.tag_uri.specs.declared.fault.UriFault.TheVariants as uri
 use Rattle.llrp_tree.specs.declared.node.NodeFault.{NodeFault}
 use Rattle.llrp_tree.specs.declared.node.NodeFault.TheVariants as node
+use Rattle.llrp_c.specs.declared.status.JsonRule.{JsonRule}
+use Rattle.llrp_c.specs.declared.status.JsonRule.TheVariants as json
 use Rattle.llrp_c.specs.declared.status.KeyRule.{KeyRule}
 use Rattle.llrp_c.specs.declared.status.KeyRule.TheVariants as key
 use Rattle.llrp_c.specs.declared.status.Status.{Status}
-use Rattle.llrp_c.specs.declared.status.Status.TheVariants.{Done, Faulty, Broken, Room, Length, Utf8, Long, Memory, Word, Uri, Line, Level, Name, Fields, Number, Tail, OverLimit, Node, Key}
+use Rattle.llrp_c.specs.declared.status.Status.TheVariants.{Done, Faulty, Broken, Room, Length, Utf8, Long, Memory, More, Word, Uri, Line, Level, Name, Fields, Number, Tail, OverLimit, Node, Key, Json}
 use Rattle.tag_epc.specs.Faults.{word_fault_name}
 use Rattle.tag_uri.specs.TagText.{fault_name}
 use Rattle.llrp_listing.specs.declared.outcome.Refusal.TheVariants as refusal
 use Rattle.llrp_listing.specs.Refused.{refusal_name}
-use Rattle.llrp_c.specs.Status.{code_of, key_name, status_name, status_with, statuses}
+use Rattle.llrp_c.specs.Status.{code_of, json_name, key_name, status_name, status_with, statuses}
 
 word_apart : (x : WordReason) → status_with (code_of (Word x)) ≡ Some (Word x)
 unfolding status_with statuses
@@ -56,6 +58,15 @@ key_apart key.Length = refl
 key_apart key.Check = refl
 key_apart key.Serial = refl
 
+json_apart : (x : JsonRule) → status_with (code_of (Json x)) ≡ Some (Json x)
+unfolding status_with statuses
+json_apart json.Json = refl
+json_apart json.Unknown = refl
+json_apart json.Missing = refl
+json_apart json.Twice = refl
+json_apart json.Mistyped = refl
+json_apart json.Value = refl
+
 -- no two statuses have one code
 pub codes_apart : (status : Status) → status_with (code_of status) ≡ Some status
 unfolding status_with statuses
@@ -67,6 +78,7 @@ codes_apart Length = refl
 codes_apart Utf8 = refl
 codes_apart Long = refl
 codes_apart Memory = refl
+codes_apart More = refl
 codes_apart Line = refl
 codes_apart Level = refl
 codes_apart Name = refl
@@ -78,6 +90,7 @@ codes_apart (Word reason) = word_apart reason
 codes_apart (Uri fault) = uri_apart fault
 codes_apart (Node fault) = node_apart fault
 codes_apart (Key rule) = key_apart rule
+codes_apart (Json rule) = json_apart rule
 
 -- ---- the length of a name
 
@@ -117,6 +130,14 @@ key_short key.Length = omega arith
 key_short key.Check = omega arith
 key_short key.Serial = omega arith
 
+json_short : (x : JsonRule) → length (json_name x) ≤ 16
+json_short json.Json = omega arith
+json_short json.Unknown = omega arith
+json_short json.Missing = omega arith
+json_short json.Twice = omega arith
+json_short json.Mistyped = omega arith
+json_short json.Value = omega arith
+
 -- no name is longer than 16 octets
 pub short_name : (status : Status) → length (status_name status) ≤ 16
 short_name Done = omega arith
@@ -127,6 +148,7 @@ short_name Length = omega arith
 short_name Utf8 = omega arith
 short_name Long = omega arith
 short_name Memory = omega arith
+short_name More = omega arith
 short_name Line = omega arith
 short_name Level = omega arith
 short_name Name = omega arith
@@ -138,3 +160,4 @@ short_name (Word reason) = word_short reason
 short_name (Uri fault) = uri_short fault
 short_name (Node fault) = node_short fault
 short_name (Key rule) = key_short rule
+short_name (Json rule) = json_short rule

@@ -1,3 +1,5 @@
 -- Words of private functions: no public contract names one.
 pub mod Frames
 pub mod Parts
+pub mod Put
+pub mod Reports

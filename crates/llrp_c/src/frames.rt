@@ -1,9 +1,9 @@
 //! Frames: a stream is cut by their length fields (LLRP 1.1, section 17.1).
 
-ghost use Rattle.std.specs.Prelude.{◌≡◌, ◌<◌, ◌≤◌, drop, length};
-ghost use Rattle.llrp_stream.specs.Cuts.{Breaks, length_field};
+ghost use Rattle.std.specs.Prelude.{◌≡◌, ◌<◌, ◌≤◌, IfNone, IfSome, drop, length};
+ghost use Rattle.llrp_stream.specs.Cuts.{Breaks, IsPartial, length_field};
 ghost use Rattle.llrp_c.specs.declared.status.Status.TheVariants.{Broken, Done};
-ghost use Rattle.llrp_c.specs.Private.Frames.{AreFrames, IsLeft};
+ghost use Rattle.llrp_c.specs.Private.Frames.{AreFrames, IsFirst, IsLeft};
 ghost use Rattle.llrp_c.specs.Status.{code_of};
 
 use crate::status::Status;
@@ -54,4 +54,23 @@ pub(crate) fn whole_frames(stream: &[u8]) -> WholeFrames
         }
     };
     WholeFrames { octets, broken }
+}
+
+/// Finds the first frame of a stream, or that the stream breaks there; `None` if less than a frame is there.
+pub(crate) fn first_frame(stream: &[u8]) -> Option<WholeFrames>
+    ensures found { IfSome result (λ first. IsFirst stream.now first.octets first.broken) }
+    ensures none { IfNone result (IsPartial stream.now) }
+{
+    match front_of(stream) {
+        Front::Short => None,
+        Front::Broken => Some(WholeFrames {
+            octets: 0,
+            broken: true,
+        }),
+        Front::Frame(octets) if stream.len() < octets as usize => None,
+        Front::Frame(octets) => Some(WholeFrames {
+            octets: octets as usize,
+            broken: false,
+        }),
+    }
 }

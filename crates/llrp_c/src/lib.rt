@@ -1,5 +1,6 @@
-//! The static library for C, and for every language that can call C: tags, their texts and their keys, listings of streams, and streams of
-//! listings, on buffers and numbers that the caller passes. No call keeps anything between two calls.
+//! The static library for C, and for every language that can call C: tags, their texts and their keys, listings of streams and of their
+//! frames, what reports say of tags, and streams of listings, on buffers and numbers that the caller passes. No call keeps anything
+//! between two calls.
 //!
 //! Use it from any language but Rattle, whose programs call the crates below. `include/llrp.h` declares the functions, and
 //! docs/library.md says how to link them. C passes a slice as a pointer and then a length, and nothing for an allocator. Each
@@ -12,12 +13,16 @@
 #![tactic(auto)]
 
 mod frames;
+mod json_lines;
 mod keys;
 pub mod laws;
 mod listings;
 mod names;
+mod next;
+mod reports;
 mod room;
 mod status;
 mod tags;
 
-pub use status::{KeyRule, Status};
+pub use reports::Tag;
+pub use status::{JsonRule, KeyRule, Status};

@@ -6,7 +6,8 @@ ghost use Rattle.llrp_tree.specs.declared.TheConstants.{MAX_LIMIT};
 ghost use Rattle.llrp_listing.specs.Encoding.{EncodesIn};
 ghost use Rattle.llrp_listing.specs.Show.{ListedAs};
 ghost use Rattle.llrp_stream.specs.Calls.Device.{CanWrite};
-ghost use Rattle.llrp_c.specs.Private.Parts.{EncodeFails, HasListing, Stops, listed_status};
+ghost use Rattle.llrp_c.specs.Private.Parts.{EncodeFails, HasListing, IsPart, Stops, listed_status};
+ghost use Rattle.llrp_c.specs.Private.Put.{PutsListed};
 ghost use Rattle.llrp_c.specs.Listings.{IsListing, ItemTextIn, ListsIn, end_text_in, WritesOctets, WritesOctetsIn};
 
 use crate::frames::{WholeFrames, whole_frames};
@@ -21,7 +22,7 @@ use std::alloc::Global;
 
 /// The listing of the first octets of a stream.
 #[derive(Drop)]
-struct Listed {
+pub(crate) struct Listed {
     text: Vec<u8>,
     used: usize,
     status: Status,
@@ -81,13 +82,19 @@ fn listing_of(alloc: Global, json: bool, set: KindSet, stream: &[u8]) -> Option<
     }
 }
 
-/// The listing of the whole frames of a stream in a set of kinds, or their lines of JSON; `None` if
-/// memory ran out.
-fn list_frames(alloc: Global, json: bool, set: KindSet, stream: &[u8]) -> Option<Listed>
-    ensures { IfSome result (λ listed. IsListing json set stream.now listed.used listed.text.items
-        listed.status) }
+/// The listing of the first octets of a stream, or their lines of JSON: of these whole frames, or of all if it
+/// breaks after them; `None` if memory ran out.
+pub(crate) fn list_part(
+    alloc: Global,
+    json: bool,
+    set: KindSet,
+    stream: &[u8],
+    frames: WholeFrames,
+) -> Option<Listed>
+    requires { frames.octets ≤ length stream.now }
+    ensures { IfSome result (λ listed. IsPart json set stream.now frames.broken frames.octets
+        listed.used listed.text.items listed.status) }
 {
-    let frames = whole_frames(stream);
     let used = octets_listed(stream, frames);
     let (text, verdict) = listing_of(alloc, json, set, &stream[..used])?;
     Some(Listed {
@@ -95,6 +102,38 @@ fn list_frames(alloc: Global, json: bool, set: KindSet, stream: &[u8]) -> Option
         used,
         status: listed_status(frames.broken, verdict),
     })
+}
+
+/// The listing of the whole frames of a stream in a set of kinds, or their lines of JSON; `None` if
+/// memory ran out.
+fn list_frames(alloc: Global, json: bool, set: KindSet, stream: &[u8]) -> Option<Listed>
+    ensures { IfSome result (λ listed. IsListing json set stream.now listed.used listed.text.items
+        listed.status) }
+{
+    list_part(alloc, json, set, stream, whole_frames(stream))
+}
+
+/// Writes what is listed, if there is room, and returns the code of that.
+pub(crate) fn put_listed(
+    listed: Option<Listed>,
+    listing: &mut [u8],
+    used: &mut usize,
+    written: &mut usize,
+) -> u32
+    ensures { PutsListed listed listing.old listing.new used.new written.new result }
+{
+    *used = 0;
+    *written = 0;
+    let Some(listed) = listed else {
+        return Status::Memory.code();
+    };
+    *written = listed.text.len();
+    if listing.len() < listed.text.len() {
+        return Status::Room.code();
+    }
+    put(listed.text.as_slice(), listing);
+    *used = listed.used;
+    listed.status.code()
 }
 
 /// The code of `llrp_list` or of `llrp_list_json` in a set of kinds, and what it writes.
@@ -109,18 +148,12 @@ fn list_in(
 ) -> u32
     ensures { ListsIn json set stream.now listing.old listing.new used.new written.new result }
 {
-    *used = 0;
-    *written = 0;
-    let Some(listed) = list_frames(alloc, json, set, stream) else {
-        return Status::Memory.code();
-    };
-    *written = listed.text.len();
-    if listing.len() < listed.text.len() {
-        return Status::Room.code();
-    }
-    put(listed.text.as_slice(), listing);
-    *used = listed.used;
-    listed.status.code()
+    put_listed(
+        list_frames(alloc, json, set, stream),
+        listing,
+        used,
+        written,
+    )
 }
 
 /// Writes the listing of the whole frames of a stream to `listing`, its length to `written`, and to

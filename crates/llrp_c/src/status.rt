@@ -1,8 +1,9 @@
 //! How a call ended.
 
 ghost use Rattle.std.specs.Prelude.{◌≡◌, ◌++◌};
-ghost use Rattle.llrp_c.specs.Status.{code_of, key_code, key_name, status_name, node_code, status_of, status_with, uri_code, word_code};
+ghost use Rattle.llrp_c.specs.Status.{code_of, json_code, json_name, key_code, key_name, status_name, node_code, status_of, status_of_member, status_with, uri_code, word_code};
 
+use llrp_json_read::Reason;
 use llrp_listing::Refusal;
 use llrp_tree::NodeFault;
 use tag_epc::WordReason;
@@ -21,6 +22,23 @@ pub enum KeyRule {
     Check,
     /// After the key comes what it does not have there.
     Serial,
+}
+
+/// The rules that refuse a line of JSON, besides those that a listing has too.
+#[derive(Clone, Copy)]
+pub enum JsonRule {
+    /// The line is not one text of JSON.
+    Json,
+    /// It has a member that such objects do not have.
+    Unknown,
+    /// It lacks a member.
+    Missing,
+    /// It has a member twice or more.
+    Twice,
+    /// A value has another type.
+    Mistyped,
+    /// A number is out of its range, or a string is not the digits of octets.
+    Value,
 }
 
 /// How a call ended. Its code is a constant of `include/llrp.h`.
@@ -42,6 +60,8 @@ pub enum Status {
     Long,
     /// Memory ran out.
     Memory,
+    /// The stream has less than a frame.
+    More,
     /// The word has no tag URI, because of this part.
     Word(WordReason),
     /// The text is not a word's, because of this rule.
@@ -64,6 +84,8 @@ pub enum Status {
     Node(NodeFault),
     /// The text is refused in its form, because of this rule.
     Key(KeyRule),
+    /// The line of JSON is refused, because of this rule.
+    Json(JsonRule),
 }
 
 /// The code of the part of a word that fails.
@@ -139,6 +161,34 @@ fn key_name(rule: KeyRule) -> &'static str
     }
 }
 
+/// The code of a rule that refuses a line of JSON.
+fn json_code(rule: JsonRule) -> u32
+    ensures { result ≡ json_code rule }
+{
+    match rule {
+        JsonRule::Json => 96,
+        JsonRule::Unknown => 97,
+        JsonRule::Missing => 98,
+        JsonRule::Twice => 99,
+        JsonRule::Mistyped => 100,
+        JsonRule::Value => 101,
+    }
+}
+
+/// The name of a rule that refuses a line of JSON.
+fn json_name(rule: JsonRule) -> &'static str
+    ensures { result.now ≡ json_name rule }
+{
+    match rule {
+        JsonRule::Json => "Json",
+        JsonRule::Unknown => "Unknown",
+        JsonRule::Missing => "Missing",
+        JsonRule::Twice => "Twice",
+        JsonRule::Mistyped => "Mistyped",
+        JsonRule::Value => "Value",
+    }
+}
+
 impl Status {
     /// The status of a refused line.
     pub fn of_refusal(reason: Refusal) -> Status
@@ -157,6 +207,25 @@ impl Status {
         }
     }
 
+    /// The status of a refused line of JSON.
+    pub fn of_reason(reason: Reason) -> Status
+        ensures { result ≡ status_of_member reason }
+    {
+        match reason {
+            Reason::Line => Status::Line,
+            Reason::Json => Status::Json(JsonRule::Json),
+            Reason::Unknown => Status::Json(JsonRule::Unknown),
+            Reason::Missing => Status::Json(JsonRule::Missing),
+            Reason::Twice => Status::Json(JsonRule::Twice),
+            Reason::Mistyped => Status::Json(JsonRule::Mistyped),
+            Reason::Name => Status::Name,
+            Reason::Value => Status::Json(JsonRule::Value),
+            Reason::Epc(fault) => Status::Uri(fault),
+            Reason::Node(fault) => Status::Node(fault),
+            Reason::OverLimit => Status::OverLimit,
+        }
+    }
+
     /// The code that a call returns.
     pub fn code(self) -> u32
         ensures { result ≡ code_of self }
@@ -170,6 +239,7 @@ impl Status {
             Status::Utf8 => 5,
             Status::Long => 6,
             Status::Memory => 7,
+            Status::More => 8,
             Status::Word(reason) => word_code(reason),
             Status::Uri(fault) => uri_code(fault),
             Status::Line => 48,
@@ -181,6 +251,7 @@ impl Status {
             Status::OverLimit => 54,
             Status::Node(fault) => node_code(fault),
             Status::Key(rule) => key_code(rule),
+            Status::Json(rule) => json_code(rule),
         }
     }
 
@@ -197,6 +268,7 @@ impl Status {
             Status::Utf8 => ("Utf8", ""),
             Status::Long => ("Long", ""),
             Status::Memory => ("Memory", ""),
+            Status::More => ("More", ""),
             Status::Word(reason) => (reason.name(), ""),
             Status::Uri(fault) => (fault.name(), ""),
             Status::Line => Refusal::Line.names(),
@@ -208,6 +280,7 @@ impl Status {
             Status::OverLimit => Refusal::OverLimit.names(),
             Status::Node(fault) => Refusal::Node(fault).names(),
             Status::Key(rule) => (key_name(rule), ""),
+            Status::Json(rule) => (json_name(rule), ""),
         }
     }
 }
@@ -226,6 +299,7 @@ pub(crate) fn status_with(code: u32) -> Option<Status>
         5 => Some(Status::Utf8),
         6 => Some(Status::Long),
         7 => Some(Status::Memory),
+        8 => Some(Status::More),
         16 => Some(Status::Word(WordReason::Header)),
         17 => Some(Status::Word(WordReason::Partition)),
         18 => Some(Status::Word(WordReason::Prefix)),
@@ -261,6 +335,12 @@ pub(crate) fn status_with(code: u32) -> Option<Status>
         82 => Some(Status::Key(KeyRule::Length)),
         83 => Some(Status::Key(KeyRule::Check)),
         84 => Some(Status::Key(KeyRule::Serial)),
+        96 => Some(Status::Json(JsonRule::Json)),
+        97 => Some(Status::Json(JsonRule::Unknown)),
+        98 => Some(Status::Json(JsonRule::Missing)),
+        99 => Some(Status::Json(JsonRule::Twice)),
+        100 => Some(Status::Json(JsonRule::Mistyped)),
+        101 => Some(Status::Json(JsonRule::Value)),
         _ => None,
     }
 }

@@ -14,3 +14,8 @@ pub record AreFrames (stream : List ℕ) (octets : ℕ) : Type 0 where
   pub frames : List (List ℕ)
   pub each : AllByRecursion IsFrame frames
   pub joined_are : take octets stream ≡ joined frames
+
+-- the first frame of a stream has this many octets, or the stream breaks at its first one
+abbrev pub IsFirst : List ℕ → ℕ → Bool → Type 0
+IsFirst stream octets false = (octets ≤ length stream) × IsFrame (take octets stream)
+IsFirst stream octets true = (octets ≡ 0) × Breaks stream
