@@ -24,9 +24,9 @@ pub serves_all : (entries : List Entry) (core : Reader) (r0 r1 : SourceLog) (w0 
     → RunsServeAll core entries r0 r1 w0 w1 bytes outcome → ServesAll entries outcome
 serves_all entries core r0 r1 w0 w1 bytes outcome reader source sink run = (r1, w1, bytes, rw (reader, source, sink) at run)
 
-pub follows : (plan : Plan) (r0 r1 : SourceLog) (w0 w1 t0 t1 : SinkLog) (bytes : List ℕ) (run : Result Summary ToolErr) → r0 ≡ new_source None → w0 ≡ new_sink None
-    → RunsInventory LIMIT plan r0 r1 w0 w1 t0 t1 bytes run → FollowsPlan plan t0 t1 (unnumbered run)
-follows plan r0 r1 w0 w1 t0 t1 bytes run source sink runs = (run, r1, w1, bytes, rw (source, sink) at runs, refl)
+pub follows : (limit : ℕ) (plan : Plan) (r0 r1 : SourceLog) (w0 w1 t0 t1 : SinkLog) (bytes : List ℕ) (run : Result Summary ToolErr) → r0 ≡ new_source None → w0 ≡ new_sink None
+    → RunsInventory limit plan r0 r1 w0 w1 t0 t1 bytes run → FollowsPlan limit plan t0 t1 (unnumbered run)
+follows limit plan r0 r1 w0 w1 t0 t1 bytes run source sink runs = (run, r1, w1, bytes, rw (source, sink) at runs, refl)
 
 pub runs_both : (plan : Plan) (entries : List Entry) (core : Reader) (k m : SinkLog) (r s : SourceLog) (t0 t1 : SinkLog) (down up : DeviceWay) (x y : Traffic) (run : Result Summary ToolErr) → core ≡ new_reader LIMIT FIRST_ID
     → k ≡ new_sink None → r ≡ new_source None → m ≡ new_sink None → s ≡ new_source None

@@ -1,4 +1,5 @@
 -- What public contracts say that no promise of README rests on.
+pub mod Access
 pub mod Ask
 pub mod Clients
 pub mod Ending

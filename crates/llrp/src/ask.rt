@@ -5,9 +5,9 @@ ghost use Rattle.llrp_stream.specs.Device.{IsFreshSink, IsFreshSource};
 ghost use Rattle.llrp.specs.Calls.Ask.{AsksReader, ReadsNoSteps, ReadsSteps};
 
 use crate::address::Address;
+use crate::connecting::connect;
 use crate::network::{FAILED, conclude};
 use crate::timed::Timed;
-use crate::watch::connect;
 use llrp_ask::{Form, Manner, Step, run_ask, steps_of};
 use llrp_commands::{AskWords, answer};
 use llrp_listing::{ToolErr, Verdict, read_all, write_all};

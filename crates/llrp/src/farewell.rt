@@ -5,7 +5,7 @@ ghost use Rattle.llrp_stream.specs.Device.{IsFreshSink};
 ghost use Rattle.llrp.specs.Calls.Farewell.{Leaves, farewell_text, disabling_text};
 
 use llrp_commands::LIMIT;
-use llrp_listing::{Text, ToolErr, encode_listing};
+use llrp_listing::{Text, ToolErr, encode_listing, write_all};
 use llrp_schema::KindSet;
 use llrp_stream::{Output, Sink};
 use std::alloc::{AllocError, Global};
@@ -84,12 +84,14 @@ fn await_end(stream: &TcpStream) -> bool {
 }
 
 /// Deletes the ROSpec with this id, which is disabled first or not, and closes the connection, as far as
-/// the reader takes it. Returns whether the reader then closed the connection.
-pub fn leave(alloc: Global, stream: &TcpStream, disables: bool, id: u32) -> bool {
+/// the reader takes it. The frames in `before` are sent first. Returns whether the reader then closed the
+/// connection.
+pub fn leave(alloc: Global, stream: &TcpStream, before: &[u8], disables: bool, id: u32) -> bool {
     let patience = Some(Duration::from_secs(PATIENCE));
     let is_bounded = stream.set_read_timeout(patience).is_ok()
         && stream.set_write_timeout(patience).is_ok();
     is_bounded
+        && write_all(&mut Output::new(stream), before).is_ok()
         && say_farewell(alloc, disables, id, &mut Output::new(stream)).is_ok()
         && await_end(stream)
 }

@@ -4,11 +4,13 @@ ghost use Rattle.std.specs.Prelude.{◌≡◌, ◌≤◌, IfOk};
 ghost use Rattle.llrp_commands.specs.Calls.Arguments.{IsLongest};
 ghost use Rattle.llrp_listing.specs.StreamListing.{fault_text};
 
+use crate::access::refused_status;
+use crate::deadline::Deadline;
 use crate::notes::{Notes, Urgency};
 use llrp_listing::{Text, reason_name};
 use llrp_schema::KindSet;
 use llrp_stream::{Decoder, Fed, Item};
-use llrp_tree::Fault;
+use llrp_tree::{Fault, Message};
 use std::alloc::{AllocError, Global};
 
 /// The line of a faulty frame, as `show` has it.
@@ -34,12 +36,15 @@ fn say_fault(alloc: Global, notes: &Notes, id: u32, fault: Fault) {
     }
 }
 
-/// Finds the frames that are no messages in octets that come in pieces, and says them.
+/// Finds the frames that are no messages in octets that come in pieces, and says them, if notes are asked
+/// for. It may also find the messages by which a reader refuses what was sent beside a plan.
 #[derive(Drop)]
 pub struct FaultFinder<'a> {
     alloc: Global,
     decoder: Decoder,
     notes: &'a Notes,
+    /// What a refusal ends.
+    ending: Option<&'a Deadline>,
 }
 
 impl<'a> FaultFinder<'a> {
@@ -51,11 +56,37 @@ impl<'a> FaultFinder<'a> {
             alloc,
             decoder: Decoder::new_in(alloc, KindSet::Standard, limit),
             notes,
+            ending: None,
+        }
+    }
+
+    /// The same one, but a connection with messages on AccessSpecs ends by a refusal of one of them.
+    pub fn ending(self, deadline: &'a Deadline) -> FaultFinder<'a> {
+        FaultFinder {
+            ending: Some(deadline),
+            ..self
+        }
+    }
+
+    /// Whether there are messages on AccessSpecs.
+    pub fn heeds_access(&self) -> bool {
+        self.ending.is_some()
+    }
+
+    /// Ends the connection if a message refuses one of those.
+    fn heed(&self, message: &Message) {
+        if let Some(deadline) = self.ending {
+            if let Some(status) = refused_status(message) {
+                deadline.refuse(status);
+            }
         }
     }
 
     /// Takes the next piece, and says each frame that ends in it and is no message.
     pub fn take(&mut self, piece: &[u8]) {
+        if !self.notes.are_asked() && !self.heeds_access() {
+            return;
+        }
         let mut rest = piece;
         for _ in 0..u64::MAX {
             if rest.is_empty() {
@@ -66,7 +97,7 @@ impl<'a> FaultFinder<'a> {
             };
             match item {
                 None => return,
-                Some(Item::Msg(_)) => {}
+                Some(Item::Msg(message)) => self.heed(&message),
                 Some(Item::Bad { id, fault }) => say_fault(self.alloc, self.notes, id, fault),
             }
             rest = rest.split_at(used).1;

@@ -21,6 +21,12 @@ const MOST_TEXT: usize = 200;
 /// The number of KEEPALIVE_ACK, which is no request (LLRP 1.1, section 17).
 const KEEPALIVE_ACK: u16 = 72;
 
+/// Whether a message with this number is on AccessSpecs, and no plan waits for an answer to it: from
+/// ADD_ACCESSSPEC to GET_ACCESSSPECS (LLRP 1.1, section 17).
+fn is_on_access(number: u16) -> bool {
+    40 <= number && number <= 44
+}
+
 /// The request that waits for its response.
 #[derive(Clone, Copy, Debug, PartialEq, Eq)]
 pub struct Request {
@@ -34,7 +40,7 @@ fn request_of(frame: &[u8]) -> Option<Request> {
     match frame {
         [first, second, _, _, _, _, a, b, c, d, ..] => {
             let number = u16::from_be_bytes([*first, *second]) & 1_023;
-            if number == KEEPALIVE_ACK {
+            if number == KEEPALIVE_ACK || is_on_access(number) {
                 return None;
             }
             Some(Request {
@@ -245,12 +251,12 @@ fn say_text(alloc: Global, notes: &Notes, urgency: Urgency, listing: &str) {
     }
 }
 
-/// How urgent it is that a request was refused: not, where it deletes a ROSpec that need not be there.
+/// How urgent it is that a request was refused: not, where it deletes a ROSpec or an AccessSpec that need not
+/// be there.
 fn refusal_urgency(heading: Heading<'_>) -> Urgency {
-    if heading.name == "DELETE_ROSPEC_RESPONSE" {
-        Urgency::Info
-    } else {
-        Urgency::Warning
+    match heading.name {
+        "DELETE_ROSPEC_RESPONSE" | "DELETE_ACCESSSPEC_RESPONSE" => Urgency::Info,
+        _ => Urgency::Warning,
     }
 }
 
@@ -268,6 +274,14 @@ fn say_refused(alloc: Global, notes: &Notes, heading: Heading<'_>, listing: &str
     notes.say_lines(urgency, listing.as_bytes());
 }
 
+/// Says an answer with another status than 0.
+fn say_status(alloc: Global, notes: &Notes, heading: Heading<'_>, listing: &str) {
+    match field_of(listing, "LLRPStatus") {
+        Some("0") | None => {}
+        Some(status) => say_refused(alloc, notes, heading, listing, status),
+    }
+}
+
 /// Says what is wrong with an answer, if something is.
 fn say_answer(
     alloc: Global,
@@ -280,10 +294,7 @@ fn say_answer(
         say_unawaited(notes, heading, listing, pending);
         return;
     }
-    match field_of(listing, "LLRPStatus") {
-        Some("0") | None => {}
-        Some(status) => say_refused(alloc, notes, heading, listing, status),
-    }
+    say_status(alloc, notes, heading, listing);
 }
 
 /// The listing of a frame, as `show --all` has it.
@@ -300,8 +311,15 @@ fn listing_of(alloc: Global, frame: &[u8]) -> Option<String> {
     String::from_utf8(listing.into_inner()).ok()
 }
 
-/// Says of a frame what there is to say. An answer ends the waiting for it.
-fn say_frame(alloc: Global, notes: &Notes, pending: &Cell<Option<Request>>, frame: &[u8]) {
+/// Says of a frame what there is to say. An answer ends the waiting for it, but not one to a message on
+/// AccessSpecs that was sent beside the plan.
+fn say_frame(
+    alloc: Global,
+    notes: &Notes,
+    pending: &Cell<Option<Request>>,
+    heeds_access: bool,
+    frame: &[u8],
+) {
     let Some(text) = listing_of(alloc, frame) else {
         return;
     };
@@ -309,6 +327,9 @@ fn say_frame(alloc: Global, notes: &Notes, pending: &Cell<Option<Request>>, fram
     match heading_of(listing) {
         // `FaultFinder` says a frame that is no message.
         None => {}
+        Some(heading) if heeds_access && heading.name.ends_with("_ACCESSSPEC_RESPONSE") => {
+            say_status(alloc, notes, heading, listing);
+        }
         Some(heading) if is_answer(heading.name) => {
             say_answer(alloc, notes, heading, listing, pending.get());
             pending.set(None);
@@ -380,7 +401,8 @@ impl<'a, R: Source + Drop> Listening<'a, R> {
         };
         let mut rest = frames.as_slice();
         while let Some((frame, others)) = split_frame(rest) {
-            say_frame(self.alloc, self.notes, self.pending, frame);
+            let heeds_access = self.faults.heeds_access();
+            say_frame(self.alloc, self.notes, self.pending, heeds_access, frame);
             rest = others;
         }
     }

@@ -1,15 +1,20 @@
 //! The command `inventory`: follows a plan with a reader over TCP.
 
+ghost use Rattle.llrp_commands.specs.Calls.Arguments.{IsLongest};
 ghost use Rattle.llrp.specs.Calls.Network.{FollowsPlan, RunsPlan};
 ghost use Rattle.llrp_stream.specs.Device.{IsFreshSink};
 
+use crate::connecting::say_connected;
+use crate::faults::FaultFinder;
+use crate::heard_frames::{Asking, Listening};
 use crate::network::conclude;
+use crate::notes::Notes;
 use crate::progress::Progress;
-use llrp_commands::LIMIT;
 use llrp_endpoints::{Plan, run_inventory};
 use llrp_listing::ToolErr;
 use llrp_stream::{Input, Output, Sink};
 use std::alloc::Global;
+use std::cell::Cell;
 use std::io::Write;
 use std::net::{Net, TcpListener, TcpStream, ToSocketAddrs};
 use std::time::Duration;
@@ -21,23 +26,31 @@ pub struct Target<'a> {
     pub port: u16,
     /// For how many seconds it may be silent; `None` means without end.
     pub timeout: Option<u16>,
+    /// The most octets that a message may have.
+    pub limit: u32,
+    /// What --verbose asks for.
+    pub notes: &'a Notes,
 }
 
-/// Follows a plan with the reader at the other end of the stream. Writes the lines of tags to
-/// `report`.
+/// Follows a plan with the reader at the other end of the stream, of whose messages none may be longer
+/// than `limit`. Writes the lines of tags to `report`.
 pub fn take_inventory<W: Sink>(
     alloc: Global,
     stream: &TcpStream,
     plan: Plan,
+    limit: u32,
+    notes: &Notes,
     report: &mut W,
 ) -> Result<(), ToolErr>
-    requires { IsFreshSink (W.log report.old) }
-    ensures { FollowsPlan plan
-        (W.log report.old) (W.log report.new) result }
+    requires limit { IsLongest limit }
+    requires report { IsFreshSink (W.log report.old) }
+    ensures { FollowsPlan limit plan (W.log report.old) (W.log report.new) result }
 {
-    let mut source = Input::new(stream);
-    let mut sink = Output::new(stream);
-    run_inventory(alloc, plan, LIMIT, &mut source, &mut sink, report)?;
+    let pending = Cell::new(None);
+    let faults = FaultFinder::new(alloc, limit, notes);
+    let mut source = Listening::new(alloc, Input::new(stream), faults, notes, &pending);
+    let mut sink = Asking::new(alloc, Output::new(stream), &pending);
+    run_inventory(alloc, plan, limit, &mut source, &mut sink, report)?;
     Ok(())
 }
 
@@ -76,16 +89,19 @@ pub fn inventory<
     report: &mut Progress<W, T>,
     e: &mut E,
 ) -> Result<u8, ToolErr>
+    requires limit { IsLongest target.limit }
     requires report { IsFreshSink (⟦<Progress<W, T> as Sink>⟧.log report.old) }
     requires errors { IsFreshSink (E.log e.old) }
-    ensures { RunsPlan plan
+    ensures { RunsPlan target.entry.limit plan
         (⟦<Progress<W, T> as Sink>⟧.log report.old) (⟦<Progress<W, T> as Sink>⟧.log report.new)
         (E.log e.old) (E.log e.new) result }
 {
     let outcome = match connect(net, target) {
         Some(stream) => {
             report.show();
-            Some(take_inventory(alloc, &stream, plan, report))
+            say_connected(alloc, target.notes, &stream);
+            let (limit, notes) = (target.limit, target.notes);
+            Some(take_inventory(alloc, &stream, plan, limit, notes, report))
         }
         None => None,
     };

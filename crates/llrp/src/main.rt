@@ -8,41 +8,53 @@
 ghost use Rattle.llrp_stream.specs.Calls.Device.{CanWrite};
 ghost use Rattle.llrp_commands.specs.Calls.Arguments.{IsBounded};
 
+mod access;
 mod address;
 mod ask;
 mod both_ends;
 mod clients;
+mod connecting;
 mod deadline;
+mod decibels;
 mod farewell;
 mod faults;
+mod files;
 mod heard_frames;
 mod hints;
 mod inventory;
+mod message_printer;
 mod network;
 mod noted;
 mod notes;
 mod out_of_memory;
 mod plan;
+mod powered;
+mod powers;
 mod prefixes;
+mod printing;
 mod progress;
 mod refused_words;
+mod replayed;
 mod saving;
 mod sim;
 mod tag_printer;
+mod terminal;
 mod timed;
 mod watch;
 mod watch_plan;
 mod whole_frames;
 
 use address::address_of;
-use hints::{Noticing, reading_of};
+use files::run_files;
+use hints::Noticing;
 use inventory::Target;
 use llrp_commands::{
-    NetworkCommand, PlanWords, USAGE, network_command, prefixes_file, reads_input, run_command,
+    NetworkCommand, PlanWords, USAGE, files_asked, network_command, prefixes_file, run_command,
 };
 use llrp_listing::{ToolErr, write_all};
-use llrp_stream::{Input, Output, Sink, Source};
+use llrp_stream::{Input, Output, Sink};
 use network::{FAILED, conclude};
+use notes::Notes;
 use out_of_memory::end_without_memory;
 use plan::{open_plan, refuse};
 use prefixes::run_epc_by_file;
@@ -52,15 +64,10 @@ use std::env;
 use std::fs::File;
 use std::io::{ErrorKind, IsTerminal, Stderr};
 use std::process::ExitCode;
+use terminal::{say_hint, say_waiting};
 
 /// What is written if an argument is not UTF-8.
 const NOT_UTF8: &[u8] = b"error: invalid UTF-8 was detected in one or more arguments\n";
-
-/// The status of a command that refused its input.
-const REFUSED: u8 = 1;
-
-/// What a person at a terminal reads when a command waits for input.
-const WAITING: &[u8] = b"llrp: waiting for input on this terminal; Ctrl-D ends it\n";
 
 /// What the words say of a plan, if the command has one.
 fn plan_in<'a>(command: &NetworkCommand<'a>) -> Option<PlanWords<'a>> {
@@ -120,11 +127,16 @@ fn run_network(rt: &HostRuntime, command: NetworkCommand<'_>) -> Result<u8, Tool
             port,
             plan,
             timeout,
+            limit,
+            verbose,
         } => {
+            let notes = Notes::new(rt, verbose);
             let target = Target {
                 host,
                 port,
                 timeout,
+                limit,
+                notes: &notes,
             };
             match open_plan(rt, alloc, plan) {
                 Ok(plan) => {
@@ -165,29 +177,6 @@ fn run_network(rt: &HostRuntime, command: NetworkCommand<'_>) -> Result<u8, Tool
     }
 }
 
-/// Says on a terminal that a command waits for input, if the input comes from a terminal too and
-/// the words ask for such a command. If writing that fails, it is ignored.
-fn say_waiting(rt: &HostRuntime, words: &[String]) -> Result<(), ToolErr> {
-    if rt.stdin().is_terminal() && rt.stderr().is_terminal() && reads_input(rt.alloc(), words)? {
-        let _said = write_all(&mut Output::new(rt.stderr()), WAITING);
-    }
-    Ok(())
-}
-
-/// Says on a terminal what a person can do about an input that was refused, if its first octets show that. If writing that fails, it is
-/// ignored.
-fn say_hint<R: Source + Drop>(rt: &HostRuntime, words: &[String], input: &Noticing<R>) {
-    let Some(reading) = reading_of(words) else {
-        return;
-    };
-    let Some(text) = input.hint(reading) else {
-        return;
-    };
-    let _begun = write_all(&mut Output::new(rt.stderr()), b"llrp: hint: ");
-    let _said = write_all(&mut Output::new(rt.stderr()), text.as_bytes());
-    let _ended = write_all(&mut Output::new(rt.stderr()), b"\n");
-}
-
 /// Runs the command that the program's words ask for, and returns its exit status. The errors are
 /// `Memory` if memory ran out before the command was known, and `Write` if writing to standard
 /// error failed.
@@ -208,6 +197,10 @@ fn run(rt: &HostRuntime) -> Result<u8, ToolErr> {
     if let Some(path) = prefixes_file(alloc, words.as_slice())? {
         return run_epc_by_file(rt, words.as_slice(), path);
     }
+    let files = files_asked(alloc, words.as_slice())?;
+    if !files.is_empty() {
+        return run_files(rt, words.as_slice(), files.as_slice());
+    }
     match network_command(alloc, words.as_slice())? {
         Some(command) => run_network(rt, command),
         None => {
@@ -220,9 +213,7 @@ fn run(rt: &HostRuntime) -> Result<u8, ToolErr> {
                 &mut Output::new(rt.stdout()),
                 &mut errors,
             )?;
-            if status == REFUSED && rt.stderr().is_terminal() {
-                say_hint(rt, words.as_slice(), &input);
-            }
+            say_hint(rt, words.as_slice(), status, &input);
             Ok(status)
         }
     }

@@ -110,7 +110,7 @@ pub fn plan_of(alloc: Global, words: PlanWords<'_>) -> Result<Plan, NoPlan>
     }
 }
 
-/// The plan of words whose ROSpec this source has. It is read to its end, or until no plan has a text
+/// The plan of words whose ROSpec this source has, with `all` one of the whole standard. It is read to its end, or until no plan has a text
 /// that begins so.
 pub fn read_plan<R: Source>(alloc: Global, words: PlanWords<'_>, r: &mut R) -> Result<Plan, NoPlan>
     requires { IsFreshSource (R.log r.old) }
@@ -121,11 +121,9 @@ pub fn read_plan<R: Source>(alloc: Global, words: PlanWords<'_>, r: &mut R) -> R
         Err(ToolErr::Memory) => return Err(NoPlan::Memory),
         Err(_) => return Err(NoPlan::Unread),
     };
-    match Plan::parse(alloc, text.as_slice(), asked_polls(words), words.check) {
-        Ok(plan) => {
-            plan.valid();
-            Ok(with_options(words, plan))
-        }
+    let (set, polls) = (asked_set(words), asked_polls(words));
+    match Plan::parse_in(alloc, set, text.as_slice(), polls, words.check) {
+        Ok(plan) => Ok(with_options(words, plan)),
         Err(PlanErr::Line { line, reason }) => Err(NoPlan::Line { line, reason }),
         Err(PlanErr::Memory) => Err(NoPlan::Memory),
     }

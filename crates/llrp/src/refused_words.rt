@@ -1,5 +1,6 @@
 //! Words that are read one by one and ask for nothing together.
 
+use crate::decibels::read_power;
 use crate::plan::{has_every_twice, never_reports};
 use llrp_commands::{PlanWords, StopWords, WatchWords};
 
@@ -22,6 +23,18 @@ const ANTENNAS_TWICE: &[u8] =
 /// What is written if a list has something else than antennas.
 const NO_ANTENNAS: &[u8] =
     b"error: invalid value for '--antennas <LIST>': expected numbers from 1 to 65535 with commas between them\n\nFor more information, try '--help'.\n";
+
+/// What is written if --power is given beside a ROSpec that says it.
+const POWER_TWICE: &[u8] =
+    b"error: the argument '--rospec <FILE>' cannot be used with '--power <DBM>'\n\nFor more information, try '--help'.\n";
+
+/// What is written if a power is none.
+const NO_POWER: &[u8] =
+    b"error: invalid value for '--power <DBM>': expected a number from -327.68 to 327.67 with at most two decimals\n\nFor more information, try '--help'.\n";
+
+/// What is written if both forms of lines are asked for.
+const MESSAGES_AS_WORDS: &[u8] =
+    b"error: the argument '--messages' cannot be used with '--text'\n\nFor more information, try '--help'.\n";
 
 /// What is written if HOST is neither a host nor one with a port.
 pub const NO_ADDRESS: &[u8] =
@@ -56,7 +69,16 @@ fn are_antennas(text: &str) -> bool {
     true
 }
 
-/// What is written if the options of `watch` exclude each other, or name no antennas.
+/// What is written if the power of `watch` is none, or its ROSpec says it.
+fn power_clash(words: WatchWords<'_>) -> Option<&'static [u8]> {
+    match words.power {
+        Some(_) if words.rospec.is_some() => Some(POWER_TWICE),
+        Some(text) if read_power(text).is_none() => Some(NO_POWER),
+        _ => None,
+    }
+}
+
+/// What is written if the options of `watch` exclude each other, or name no antennas or no power.
 pub fn watch_clash(words: WatchWords<'_>) -> Option<&'static [u8]> {
     let has_file = words.rospec.is_some();
     match words.antennas {
@@ -64,7 +86,8 @@ pub fn watch_clash(words: WatchWords<'_>) -> Option<&'static [u8]> {
         _ if has_file && words.id.is_some() => Some(ID_TWICE),
         Some(_) if has_file => Some(ANTENNAS_TWICE),
         Some(antennas) if !are_antennas(antennas) => Some(NO_ANTENNAS),
-        _ => None,
+        _ if words.messages && words.text => Some(MESSAGES_AS_WORDS),
+        _ => power_clash(words),
     }
 }
 

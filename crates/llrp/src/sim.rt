@@ -15,7 +15,7 @@ use llrp_stream::{Input, Output, Sink, Source};
 use std::alloc::Global;
 use std::net::{Net, TcpListener, TcpStream};
 
-/// Serves the client of a stream by a script, and answers three requests outside the profile or not.
+/// Serves the client of a stream by a script, and answers requests outside the profile or not.
 fn serve_stream(alloc: Global, stream: &TcpStream, script: Script, all: bool) -> Result<(), ToolErr>
     ensures { ServesSo all script result }
 {

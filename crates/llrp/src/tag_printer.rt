@@ -1,12 +1,14 @@
 //! Prints the tags of a client that lasts, each line with the host's time.
 
-ghost use Rattle.std.specs.Prelude.{◌≡◌, IfErr, OnOk};
+ghost use Rattle.std.specs.Prelude.{◌≡◌, ◌≤◌, [], IfErr, OnOk};
 ghost use Rattle.std.specs.Io.KnownBytes.{Appends};
+ghost use Rattle.llrp_endpoints.specs.Calls.TagListing.{HasTags};
 ghost use Rattle.llrp_listing.specs.declared.outcome.ToolErr.TheVariants.{Write as WriteFails};
+ghost use Rattle.llrp_tree.specs.declared.TheConstants.{MAX_LIMIT};
 
 use crate::deadline::Deadline;
-use llrp_endpoints::{LineForm, Watcher, marked_lines};
-use llrp_listing::ToolErr;
+use llrp_endpoints::{LineForm, TagLister, Watcher, marked_lines};
+use llrp_listing::{Text, ToolErr};
 use std::alloc::Global;
 use std::io::Write;
 use std::time::{Duration, SystemTime};
@@ -22,14 +24,14 @@ fn micros_now(rt: &HostRuntime) -> u64 {
     u64::try_from(since.as_micros()).unwrap_or(u64::MAX)
 }
 
-/// Prints the lines of the reports that a read completed, with the moment at which the read ended and the
-/// name of the reader, and says whether the time is up.
+/// Prints the lines of the tags of the reports that a read completed, with the moment at which the read
+/// ended and the name of the reader, and says whether the time is up.
 #[derive(Drop)]
 pub struct TagPrinter<'a, W: Write + Drop> {
     rt: &'a HostRuntime,
     alloc: Global,
     deadline: &'a Deadline,
-    form: LineForm,
+    lister: TagLister,
     name: Option<&'a [u8]>,
     output: W,
     has_printed: bool,
@@ -37,15 +39,19 @@ pub struct TagPrinter<'a, W: Write + Drop> {
 }
 
 impl<'a, W: Write + Drop> TagPrinter<'a, W> {
-    /// One that has printed nothing yet.
+    /// One of a connection of which nothing was read, where a message has at most `limit` octets.
     pub fn new(
         rt: &'a HostRuntime,
         deadline: &'a Deadline,
         form: LineForm,
         name: Option<&'a [u8]>,
+        limit: u32,
         output: W,
     ) -> TagPrinter<'a, W>
-        ensures form { result.form ≡ form }
+        requires least { 10 ≤ limit }
+        requires most { limit ≤ MAX_LIMIT }
+        ensures lister { HasTags limit [] [] result.lister }
+        ensures form { result.lister.form ≡ form }
         ensures name { result.name ≡ name.entry }
         ensures contents { W.contents result.output ≡ W.contents output }
     {
@@ -53,7 +59,7 @@ impl<'a, W: Write + Drop> TagPrinter<'a, W> {
             rt,
             alloc: rt.alloc(),
             deadline,
-            form,
+            lister: TagLister::new(rt.alloc(), form, limit),
             name,
             output,
             has_printed: false,
@@ -76,7 +82,7 @@ impl<'a, W: Write + Drop> TagPrinter<'a, W> {
         ensures printed { OnOk result (Appends (W.contents self.old.output)
             (W.contents self.new.output) text.now) }
         ensures write { IfErr result (λ error. error ≡ WriteFails) }
-        ensures form { self.new.form ≡ self.old.form }
+        ensures lister { self.new.lister ≡ self.old.lister }
         ensures name { self.new.name ≡ self.old.name }
     {
         if self.output.write_all(text).is_err() {
@@ -92,11 +98,14 @@ impl<W: Write + Drop> Watcher for TagPrinter<'_, W> {
     ghost use Rattle.llrp_endpoints.specs.MarkedLines.{name_in};
     ghost use Rattle.llrp.specs.Calls.Watch.{PrintsTo};
 
-    ghost has = { λ p. PrintsTo p.form (name_in p.name) (W.contents p.output) };
+    ghost has = { λ p. PrintsTo p.lister (name_in p.name) (W.contents p.output) };
 
-    fn turn(&mut self, _piece: &[u8], lines: &[u8]) -> Result<bool, ToolErr> {
+    fn turn(&mut self, piece: &[u8], _lines: &[u8]) -> Result<bool, ToolErr> {
         let micros = micros_now(self.rt);
-        let text = marked_lines(self.alloc, self.form, micros, self.name, lines)?;
+        let mut lines = Text::new(self.alloc);
+        self.lister.feed(piece, &mut lines)?;
+        let form = self.lister.form();
+        let text = marked_lines(self.alloc, form, micros, self.name, lines.as_slice())?;
         self.print(text.as_slice())?;
         Ok(self.deadline.tell(self.rt))
     }

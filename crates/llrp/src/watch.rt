@@ -1,20 +1,28 @@
 //! The commands `watch` and `stop`: a client that lasts, and one that deletes the ROSpec that it
 //! left.
 
+ghost use Rattle.std.specs.Prelude.{◌≡◌, None};
+ghost use Rattle.llrp_stream.specs.Calls.Device.{CanWrite, new_source};
 ghost use Rattle.llrp_stream.specs.Device.{IsFreshSink, IsFreshSource};
 ghost use Rattle.llrp_commands.specs.Calls.Arguments.{IsLongest};
-ghost use Rattle.llrp.specs.Calls.Watch.{FollowsLasting, FollowsStop, PrintsTo};
+ghost use Rattle.llrp.specs.Calls.Watch.{FollowsLasting, FollowsStop, PrintsMessages, PrintsTo};
 ghost use Rattle.llrp_endpoints.specs.MarkedLines.{name_in};
 
+use crate::access::{Access, deletions, refuse_access, saying};
 use crate::address::Address;
+use crate::connecting::{connect, say_connected};
 use crate::deadline::{Deadline, Until, end_after, is_past, no_longer};
+use crate::decibels::read_power;
 use crate::farewell::leave;
 use crate::faults::FaultFinder;
 use crate::heard_frames::{Asking, Listening};
+use crate::message_printer::MessagePrinter;
 use crate::network::{FAILED, conclude};
 use crate::noted::Noted;
-use crate::notes::{Notes, Urgency};
+use crate::notes::Notes;
 use crate::plan::{NoPlan, refuse};
+use crate::powered::{Stopped, Wanted, refuse_power, take_powered};
+use crate::printing::Printing;
 use crate::saving::{SAVE_LINE, Saved, Saving};
 use crate::tag_printer::TagPrinter;
 use crate::watch_plan::{
@@ -28,7 +36,7 @@ use llrp_stream::{Input, Output, Sink, Source};
 use std::alloc::Global;
 use std::cell::Cell;
 use std::io::Write;
-use std::net::{Net, SocketAddr, TcpListener, TcpStream, ToSocketAddrs};
+use std::net::TcpStream;
 use std::thread;
 use std::time::{Duration, Instant};
 
@@ -56,9 +64,30 @@ pub fn take_lasting<R: Source, S: Sink, W: Write + Drop>(
     requires sink { IsFreshSink (S.log sink.old) }
     ensures { FollowsLasting limit plan (R.log source.old) (R.log source.new) (S.log sink.old)
         (S.log sink.new)
-        (PrintsTo printer.old.form (name_in printer.old.name) (W.contents printer.old.output))
-        (PrintsTo printer.new.form (name_in printer.new.name) (W.contents printer.new.output))
+        (PrintsTo printer.old.lister (name_in printer.old.name) (W.contents printer.old.output))
+        (PrintsTo printer.new.lister (name_in printer.new.name) (W.contents printer.new.output))
         result }
+{
+    run_watching(alloc, plan, limit, source, sink, printer)?;
+    Ok(())
+}
+
+/// The same, and prints the reader's messages.
+pub fn take_messages<R: Source, S: Sink, W: Write + Drop>(
+    alloc: Global,
+    plan: Plan,
+    limit: u32,
+    source: &mut R,
+    sink: &mut S,
+    printer: &mut MessagePrinter<'_, W>,
+) -> Result<(), ToolErr>
+    requires limit { IsLongest limit }
+    requires source { IsFreshSource (R.log source.old) }
+    requires sink { IsFreshSink (S.log sink.old) }
+    ensures { FollowsLasting limit plan (R.log source.old) (R.log source.new) (S.log sink.old)
+        (S.log sink.new)
+        (PrintsMessages printer.old.lister (W.contents printer.old.output))
+        (PrintsMessages printer.new.lister (W.contents printer.new.output)) result }
 {
     run_watching(alloc, plan, limit, source, sink, printer)?;
     Ok(())
@@ -80,37 +109,6 @@ pub fn take_stop<W: Sink>(
     Ok(())
 }
 
-/// Connects to an address. If there is a timeout, connecting is given up after it, and so is each
-/// read and each write that moves nothing.
-fn connect_to<N: Net<Listener = TcpListener, Stream = TcpStream>>(
-    net: &N,
-    address: SocketAddr,
-    timeout: Option<Duration>,
-) -> Option<TcpStream> {
-    let Some(timeout) = timeout else {
-        return TcpStream::connect(net, address).ok();
-    };
-    let stream = TcpStream::connect_timeout(net, &address, timeout).ok()?;
-    stream.set_read_timeout(Some(timeout)).ok()?;
-    stream.set_write_timeout(Some(timeout)).ok()?;
-    Some(stream)
-}
-
-/// Connects to the first of the host's addresses that takes a connection.
-pub fn connect<N: Net<Listener = TcpListener, Stream = TcpStream>>(
-    net: &N,
-    reader: Address<'_>,
-    timeout: Option<Duration>,
-) -> Option<TcpStream> {
-    let addresses = (reader.host, reader.port).to_socket_addrs(net).ok()?;
-    for address in addresses {
-        if let Some(stream) = connect_to(net, address, timeout) {
-            return Some(stream);
-        }
-    }
-    None
-}
-
 /// How long the reader may send nothing, and take nothing: for ever if it sends no KEEPALIVEs.
 fn silence(words: WatchWords<'_>) -> Option<Duration> {
     match words.keepalive.unwrap_or(KEEPALIVE) {
@@ -120,12 +118,13 @@ fn silence(words: WatchWords<'_>) -> Option<Duration> {
 }
 
 /// Whether the client ended a run while the connection stands: the lines of tags could not be
-/// written, a request was refused, or something strange came. A reader to which nothing was sent has
-/// not accepted the connection.
-fn is_the_clients_end(outcome: Result<(), ToolErr>, failed: bool, was_accepted: bool) -> bool {
+/// written, a request was refused, something strange came, or the reader has no power that low. A reader
+/// to which nothing was sent has not accepted the connection.
+fn is_the_clients_end(outcome: Result<(), Stopped>, failed: bool, was_accepted: bool) -> bool {
     match outcome {
-        Err(ToolErr::Write) => failed,
-        Err(ToolErr::Peer(_) | ToolErr::Strange) => was_accepted,
+        Err(Stopped::Run(ToolErr::Write)) => failed,
+        Err(Stopped::Run(ToolErr::Peer(_) | ToolErr::Strange)) => was_accepted,
+        Err(Stopped::Power(_)) => true,
         _ => false,
     }
 }
@@ -134,6 +133,8 @@ fn is_the_clients_end(outcome: Result<(), ToolErr>, failed: bool, was_accepted: 
 #[derive(Clone, Copy)]
 struct Watching<'a> {
     words: WatchWords<'a>,
+    /// What is sent beside the plan.
+    access: Option<&'a Access>,
     /// What --verbose asks for.
     notes: &'a Notes,
     /// What is said without it.
@@ -158,39 +159,91 @@ fn rospec_of(words: WatchWords<'_>) -> MadeRoSpec<'_> {
         id: words.id.unwrap_or(OWN_ID),
         antennas: words.antennas.unwrap_or(ALL_ANTENNAS),
         every: words.every.unwrap_or(1),
+        transmitter: None,
     }
 }
 
-/// Says to what the client is connected.
-fn say_connected(alloc: Global, notes: &Notes, stream: &TcpStream) {
-    if let Ok(address) = stream.peer_addr() {
-        if let Ok(text) = address.to_string(alloc) {
-            notes.say_all(Urgency::Info, b"connected to ", text.as_bytes(), b"", b"");
-        }
-    }
+/// What the words want, if they say a power.
+fn wanted_of(watch: Watching<'_>) -> Option<Wanted<'_>> {
+    Some(Wanted {
+        words: watch.words,
+        access: watch.access,
+        made: rospec_of(watch.words),
+        most: read_power(watch.words.power?)?,
+    })
 }
 
 /// Ends a connection whose client does not know that the time is up, as nothing came: as its plan would,
 /// without awaiting each response. If the reader then closes it, all is well.
-fn end_in_silence(alloc: Global, stream: &TcpStream, id: u32) -> Result<(), ToolErr> {
-    if leave(alloc, stream, true, id) {
+fn end_in_silence(
+    alloc: Global,
+    stream: &TcpStream,
+    before: &[u8],
+    id: u32,
+) -> Result<(), Stopped> {
+    if leave(alloc, stream, before, true, id) {
         Ok(())
     } else {
-        Err(ToolErr::Read)
+        Err(Stopped::Run(ToolErr::Read))
     }
 }
 
-/// Prints the tags of the reader at the other end of the stream, and returns how that ended, and
+/// Follows a plan that lasts, or the one with the power that the words want. Returns how that ended, and
+/// the source.
+fn take_wanted<R: Source + Drop, S: Sink, P: Printing>(
+    alloc: Global,
+    plan: Plan,
+    watch: Watching<'_>,
+    source: R,
+    sink: &mut S,
+    printer: &mut P,
+) -> (Result<(), Stopped>, R)
+    requires limit { IsLongest watch.words.limit }
+    requires source { R.log source ≡ new_source None }
+    requires sink { IsFreshSink (S.log sink.old) }
+{
+    let limit = watch.words.limit;
+    if let Some(wanted) = wanted_of(watch) {
+        return take_powered(alloc, wanted, limit, source, sink, printer);
+    }
+    let mut source = source;
+    let outcome = match printer.follow(alloc, plan, limit, &mut source, sink) {
+        Ok(()) => Ok(()),
+        Err(error) => Err(Stopped::Run(error)),
+    };
+    (outcome, source)
+}
+
+/// What finds the faulty frames of a connection, and the refusals of what is sent beside its plan.
+fn finder_of<'a>(alloc: Global, watch: Watching<'a>, deadline: &'a Deadline) -> FaultFinder<'a>
+    requires { IsLongest watch.words.limit }
+{
+    let faults = FaultFinder::new(alloc, watch.words.limit, watch.warnings);
+    match watch.access {
+        Some(_) => faults.ending(deadline),
+        None => faults,
+    }
+}
+
+/// How a connection ended: by a refusal of what was sent beside the plan, or else as its run did.
+fn refused_or(deadline: &Deadline, outcome: Result<(), Stopped>) -> Result<(), Stopped> {
+    match deadline.refused() {
+        Some(status) => Err(Stopped::Run(ToolErr::Peer(status))),
+        None => outcome,
+    }
+}
+
+/// Prints what comes of the reader at the other end of the stream, and returns how that ended, and
 /// where its frames were saved. Where the client ends it, the ROSpec is deleted.
-fn watch_stream<W: Write + Drop>(
+fn watch_stream<P: Printing>(
     rt: &HostRuntime,
     stream: &TcpStream,
     plan: Plan,
     watch: Watching<'_>,
     deadline: &Deadline,
     saving: Saving,
-    printer: &mut TagPrinter<'_, W>,
-) -> (Result<(), ToolErr>, Saving)
+    printer: &mut P,
+) -> (Result<(), Stopped>, Saving)
     requires limit { IsLongest watch.words.limit }
 {
     let alloc = rt.alloc();
@@ -198,14 +251,17 @@ fn watch_stream<W: Write + Drop>(
     let pending = Cell::new(None);
     let reads = Until::new(rt, stream, deadline, silence(watch.words));
     let saved = Saved::new(alloc, limit, reads, saving);
-    let faults = FaultFinder::new(alloc, limit, watch.warnings);
-    let mut source = Listening::new(alloc, saved, faults, watch.notes, &pending);
+    let faults = finder_of(alloc, watch, deadline);
+    let source = Listening::new(alloc, saved, faults, watch.notes, &pending);
     let mut sink = Noted::new(Asking::new(alloc, Output::new(stream), &pending));
-    let mut outcome = take_lasting(alloc, plan, limit, &mut source, &mut sink, printer);
-    if outcome == Err(ToolErr::Read) && sink.took() && deadline.is_missed(rt) {
-        outcome = end_in_silence(alloc, stream, own_id);
+    let (taken, source) = take_wanted(alloc, plan, watch, source, &mut sink, printer);
+    let mut outcome = refused_or(deadline, taken);
+    let is_read = outcome == Err(Stopped::Run(ToolErr::Read));
+    let before = deletions(alloc, watch.access);
+    if is_read && sink.took() && deadline.is_missed(rt) {
+        outcome = end_in_silence(alloc, stream, before.as_slice(), own_id);
     } else if is_the_clients_end(outcome, printer.has_failed(), sink.took()) {
-        leave(alloc, stream, false, own_id);
+        leave(alloc, stream, before.as_slice(), false, own_id);
     }
     (outcome, source.into_source().into_saving())
 }
@@ -218,7 +274,62 @@ fn reader_name<'a>(words: WatchWords<'a>) -> Option<&'a [u8]> {
     }
 }
 
-/// Prints the tags of one connection, and says why it ended.
+/// The exit status of a connection that ended like this, after its error, if it has one, was written to
+/// `errors` as a line. `None` means that the network failed.
+fn conclude_watch<E: Sink>(
+    alloc: Global,
+    outcome: Option<Result<(), Stopped>>,
+    errors: &mut E,
+) -> Result<u8, ToolErr>
+    requires { CanWrite (E.log errors.old) }
+{
+    match outcome {
+        Some(Ok(())) => conclude(Some(Ok(())), errors),
+        Some(Err(Stopped::Run(error))) => conclude(Some(Err(error)), errors),
+        Some(Err(Stopped::Power(least))) => refuse_power(alloc, least, errors),
+        None => conclude(None, errors),
+    }
+}
+
+/// Prints what comes of one connection for a plan, and says why it ended.
+fn watch_connection<P: Printing>(
+    rt: &HostRuntime,
+    reader: Address<'_>,
+    plan: Plan,
+    watch: Watching<'_>,
+    deadline: &Deadline,
+    saving: Saving,
+    printer: &mut P,
+) -> Result<(Ending, Saving), ToolErr>
+    requires { IsLongest watch.words.limit }
+{
+    let (outcome, saving) = match connect(rt, reader, silence(watch.words)) {
+        Some(stream) => {
+            say_connected(rt.alloc(), watch.notes, &stream);
+            let (outcome, saving) = watch_stream(
+                rt, &stream, plan, watch, deadline, saving, printer,
+            );
+            (Some(outcome), saving)
+        }
+        None => (None, saving),
+    };
+    let has_no_power = matches!(outcome, Some(Err(Stopped::Power(_))));
+    let ending = Ending {
+        status: conclude_watch(rt.alloc(), outcome, &mut Output::new(rt.stderr()))?,
+        is_last: has_no_power || printer.has_failed() || is_past(rt, watch.until),
+        took_tags: printer.has_printed_tags(),
+    };
+    Ok((ending, saving))
+}
+
+/// The plan that the words mean, with what is sent beside it.
+fn plan_for(rt: &HostRuntime, watch: Watching<'_>) -> Result<Plan, NoPlan> {
+    let words = watch.words;
+    let plan = open_rospec(rt, rt.alloc(), words.rospec, rospec_of(words))?;
+    saying(rt.alloc(), watch_plan(words, plan), watch.access)
+}
+
+/// Prints the tags of one connection, or the messages, and says why it ended.
 fn watch_once(
     rt: &HostRuntime,
     reader: Address<'_>,
@@ -227,14 +338,12 @@ fn watch_once(
 ) -> Result<(Ending, Saving), ToolErr>
     requires { IsLongest watch.words.limit }
 {
-    let alloc = rt.alloc();
     let words = watch.words;
-    let mut errors = Output::new(rt.stderr());
-    let plan = match open_rospec(rt, alloc, words.rospec, rospec_of(words)) {
-        Ok(plan) => watch_plan(words, plan),
+    let plan = match plan_for(rt, watch) {
+        Ok(plan) => plan,
         Err(no_plan) => {
             let ending = Ending {
-                status: refuse(no_plan, &mut errors)?,
+                status: refuse(no_plan, &mut Output::new(rt.stderr()))?,
                 is_last: true,
                 took_tags: false,
             };
@@ -242,30 +351,14 @@ fn watch_once(
         }
     };
     let deadline = Deadline::new(watch.until);
+    if words.messages {
+        let mut printer = MessagePrinter::new(rt, &deadline, words.limit, rt.stdout());
+        return watch_connection(rt, reader, plan, watch, &deadline, saving, &mut printer);
+    }
     let form = watch_form(words);
-    let mut printer = TagPrinter::new(rt, &deadline, form, reader_name(words), rt.stdout());
-    let (outcome, saving) = match connect(rt, reader, silence(words)) {
-        Some(stream) => {
-            say_connected(alloc, watch.notes, &stream);
-            let (outcome, saving) = watch_stream(
-                rt,
-                &stream,
-                plan,
-                watch,
-                &deadline,
-                saving,
-                &mut printer,
-            );
-            (Some(outcome), saving)
-        }
-        None => (None, saving),
-    };
-    let ending = Ending {
-        status: conclude(outcome, &mut errors)?,
-        is_last: printer.has_failed() || is_past(rt, watch.until),
-        took_tags: printer.has_printed(),
-    };
-    Ok((ending, saving))
+    let name = reader_name(words);
+    let mut printer = TagPrinter::new(rt, &deadline, form, name, words.limit, rt.stdout());
+    watch_connection(rt, reader, plan, watch, &deadline, saving, &mut printer)
 }
 
 /// Prints the tags of one connection after another, and returns the exit status.
@@ -299,19 +392,25 @@ fn watch_all(
 
 /// Prints the tags that the reader sees until the connection ends, or the time is up, and returns the
 /// exit status. With --again it connects again after 1, 2, 4 .. seconds, and after 1 where tags were
-/// printed; only a ROSpec that is refused, a standard output that fails and the time end it.
+/// printed; only a ROSpec that is refused, a power that the reader does not have, a standard output that
+/// fails and the time end it.
 pub fn watch(rt: &HostRuntime, reader: Address<'_>, words: WatchWords<'_>) -> Result<u8, ToolErr>
     requires { IsLongest words.limit }
 {
     let until = end_after(rt, words.seconds);
     let notes = Notes::new(rt, words.verbose);
     let warnings = Notes::new(rt, true);
+    let access = match Access::open(rt, rt.alloc(), words.access) {
+        Ok(access) => access,
+        Err(no_access) => return refuse_access(no_access, &mut Output::new(rt.stderr())),
+    };
     let Ok(saving) = Saving::open(rt, words.save) else {
         write_all(&mut Output::new(rt.stderr()), SAVE_LINE)?;
         return Ok(FAILED);
     };
     let watch = Watching {
         words,
+        access: access.as_ref(),
         notes: &notes,
         warnings: &warnings,
         until,
@@ -325,6 +424,7 @@ fn own_rospec(words: StopWords<'_>) -> MadeRoSpec<'static> {
         id: words.id.unwrap_or(OWN_ID),
         antennas: ALL_ANTENNAS,
         every: 1,
+        transmitter: None,
     }
 }
 

@@ -1,12 +1,13 @@
 //! The plans that the words of `watch` and `stop` ask for.
 
-ghost use Rattle.std.specs.Prelude.{◌≡◌, IfOk};
-ghost use Rattle.llrp.specs.Calls.Watch.{MakesRoSpec, rospec_text, watch_form, watch_plan};
+ghost use Rattle.std.specs.Prelude.{◌≡◌, ◌++◌, IfOk, OnOk, Some};
+ghost use Rattle.llrp.specs.Calls.Watch.{MakesRoSpec, rospec_text, transmitter_text, watch_form, watch_plan};
 
 use crate::plan::{NoPlan, read_plan};
 use llrp_commands::{PlanWords, WatchWords};
 use llrp_endpoints::{LineForm, Plan, PlanErr};
 use llrp_listing::Text;
+use llrp_power::Transmitter;
 use llrp_schema::KindSet;
 use llrp_stream::Input;
 use std::alloc::{AllocError, Global};
@@ -23,7 +24,7 @@ pub const ALL_ANTENNAS: &str = "0";
 /// How many seconds pass between two KEEPALIVEs where nothing is said of them.
 pub const KEEPALIVE: u16 = 10;
 
-/// What the words of `inventory` would say of a ROSpec of a file and nothing else.
+/// What the words of `inventory` would say of a ROSpec of the whole standard in a file, and nothing else.
 const NO_OPTIONS: PlanWords<'static> = PlanWords {
     rospec: None,
     every: None,
@@ -32,7 +33,7 @@ const NO_OPTIONS: PlanWords<'static> = PlanWords {
     check: false,
     clean: false,
     json: false,
-    all: false,
+    all: true,
 };
 
 /// A ROSpec that is made where no file has one.
@@ -44,10 +45,37 @@ pub struct MadeRoSpec<'a> {
     pub antennas: &'a str,
     /// After how many tags the reader reports.
     pub every: u16,
+    /// How its antennas transmit, if that is said.
+    pub transmitter: Option<Transmitter>,
 }
 
-/// The lines of a ROSpec with these antennas, which starts and stops on commands. It reports after
-/// this many tags, of each tag its antenna, channel, strength, both times and its count.
+/// Appends the lines of an AntennaConfiguration of all antennas with this RFTransmitter (LLRP 1.1,
+/// section 16).
+fn push_transmitter(text: &mut Text, transmitter: Transmitter) -> Result<(), AllocError>
+    ensures { OnOk result (text.new ≡ text.old ++ transmitter_text (Some transmitter)) }
+{
+    text.push_text(b"4 AntennaConfiguration 0\n5 RFTransmitter ")?;
+    text.push_number(transmitter.hop_table_id as u128)?;
+    text.push_text(b" ")?;
+    text.push_number(transmitter.channel_index as u128)?;
+    text.push_text(b" ")?;
+    text.push_number(transmitter.transmit_power as u128)?;
+    text.push_text(b"\n")?;
+    Ok(())
+}
+
+/// The same, if there is one.
+fn push_configuration(text: &mut Text, transmitter: Option<Transmitter>) -> Result<(), AllocError>
+    ensures { OnOk result (text.new ≡ text.old ++ transmitter_text transmitter) }
+{
+    match transmitter {
+        Some(transmitter) => push_transmitter(text, transmitter),
+        None => Ok(()),
+    }
+}
+
+/// The lines of a ROSpec with these antennas and this RFTransmitter, which starts and stops on
+/// commands. It reports after this many tags, of each tag its antenna, channel, strength, both times and its count.
 fn rospec_text(alloc: Global, made: MadeRoSpec<'_>) -> Result<Text, AllocError>
     ensures { IfOk result (λ text. text ≡ rospec_text made.entry) }
 {
@@ -58,7 +86,9 @@ fn rospec_text(alloc: Global, made: MadeRoSpec<'_>) -> Result<Text, AllocError>
         b" 0 0\n2 ROBoundarySpec\n3 ROSpecStartTrigger 0\n3 ROSpecStopTrigger 0 0\n2 AISpec w",
     )?;
     text.push_text(made.antennas.as_bytes())?;
-    text.push_text(b"\n3 AISpecStopTrigger 0 0\n3 InventoryParameterSpec 1 1\n2 ROReportSpec 2 ")?;
+    text.push_text(b"\n3 AISpecStopTrigger 0 0\n3 InventoryParameterSpec 1 1\n")?;
+    push_configuration(&mut text, made.transmitter)?;
+    text.push_text(b"2 ROReportSpec 2 ")?;
     text.push_number(made.every as u128)?;
     text.push_text(b"\n3 TagReportContentSelector 0 0 0 1 1 1 1 1 1 0\n")?;
     Ok(text)

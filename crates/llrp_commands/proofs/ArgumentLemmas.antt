@@ -12,7 +12,7 @@ use Rattle.clap.specs.Words.{Row, Text, without_minus}
 use Rattle.clap.proofs.CallerReads.{signed_reads}
 use Rattle.llrp_tree.specs.declared.TheConstants.{MAX_LIMIT}
 use Rattle.llrp_commands.specs.Private.Parse.{HasEpc, HasFlagWord, HasLimitedWords, HasNumberIn, HasNumberWord, HasPlan, HasAsk, HasSim, HasStop, HasStreamWords, HasWatch, HasWord, IsFound, IsNetworkParse, IsParse, MayHaveNumberIn, HasFields}
-use Rattle.llrp_commands.specs.Calls.Arguments.{IsFlag, HasNumber, HasOptionalNumber, flag_in, hex_in, json_in, name_in, all_in}
+use Rattle.llrp_commands.specs.Calls.Arguments.{IsFlag, least_longest, HasNumber, HasOptionalNumber, flag_in, hex_in, json_in, name_in, all_in}
 use Rattle.llrp_commands.specs.Private.Arguments.{HasFlag}
 
 -- two texts that a test distinguishes
@@ -88,9 +88,9 @@ ask_there name rows (inr (inr (inr (inr (inr h))))) e = (h.1, h.2)
 
 -- what is none of sim, watch, stop, ask and loop is inventory, with its host and its port
 pub inventory_there : (name : Text) (rows : List Row) → IsNetworkParse name rows → (name ≡ codes "sim" → ⊥) → (name ≡ codes "watch" → ⊥) → (name ≡ codes "stop" → ⊥) → (name ≡ codes "ask" → ⊥) → (name ≡ codes "loop" → ⊥)
-    → (name ≡ codes "inventory") × HasWord (codes "HOST") rows × HasNumberWord (codes "PORT") rows
+    → (name ≡ codes "inventory") × HasWord (codes "HOST") rows × HasNumberWord (codes "PORT") rows × HasNumberIn least_longest MAX_LIMIT (codes "limit") rows × HasFlagWord (codes "verbose") rows
 inventory_there name rows (inl h) no_sim no_watch no_stop no_ask no_loop = absurd (no_sim h.0)
-inventory_there name rows (inr (inl h)) no_sim no_watch no_stop no_ask no_loop = (h.0, h.1, h.2)
+inventory_there name rows (inr (inl h)) no_sim no_watch no_stop no_ask no_loop = (h.0, h.1, h.2, h.5, h.6)
 inventory_there name rows (inr (inr (inl h))) no_sim no_watch no_stop no_ask no_loop = absurd (no_loop h.0)
 inventory_there name rows (inr (inr (inr (inl h)))) no_sim no_watch no_stop no_ask no_loop = absurd (no_watch h.0)
 inventory_there name rows (inr (inr (inr (inr (inl h))))) no_sim no_watch no_stop no_ask no_loop = absurd (no_stop h.0)

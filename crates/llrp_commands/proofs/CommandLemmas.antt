@@ -1,5 +1,5 @@
 -- What a parse of the words says of the command.
-use Rattle.std.proofs.Common.{◌≡◌, ◌==◌, ◌∙◌, Bool, true, false, List, [], length, Option, Some, None, refl, sym, ap, subst, codes, inl, inr}
+use Rattle.std.proofs.Common.{◌≡◌, ◌==◌, ◌∙◌, Bool, true, false, List, [], length, Option, Some, None, refl, sym, ap, subst, codes, inl, inr, if◌then◌else◌}
 use Rattle.std.specs.Prelude.{option_map}
 use Rattle.clap.specs.Faults.{fault_of, is_simple_and_free}
 use Rattle.clap.specs.Kinds.{HasKind, Kinds}
@@ -8,7 +8,7 @@ use Rattle.clap.specs.declared.error.Error.{Error}
 use Rattle.clap.specs.declared.error.kind.ErrorKind.TheVariants.{OutOfMemory}
 use Rattle.clap.proofs.SimpleLemmas.{is_nil}
 use Rattle.llrp_commands.specs.Private.Arguments.{HasFlag}
-use Rattle.llrp_commands.specs.Calls.Arguments.{command_in, llrp_app, parses}
+use Rattle.llrp_commands.specs.Calls.Arguments.{command_in, files_in, llrp_app, parses}
 
 pub is_simple_program : is_simple llrp_app ≡ true
 unfolding llrp_app
@@ -22,13 +22,26 @@ pub no_fault : (words : List Text) → parses words ≡ true → fault_of llrp_a
 unfolding parses
 no_fault words parsed = is_nil (fault_of llrp_app words) parsed
 
--- words without a fault are parsed
+-- words that are not parsed have a fault
 pub parsed_without_fault : (a : App) (words : List Text) → a ≡ llrp_app → fault_of a words ≡ [] → parses words ≡ false → ⊥
 unfolding parses
 parsed_without_fault a words e none refused =
     let here : fault_of llrp_app words ≡ [] = sym (ap (λ (x : App). fault_of x words) e) ∙ none in
     let bad : true ≡ false = sym (ap (λ (k : Kinds). length k == 0) here) ∙ refused in
     cc
+
+-- words without a fault are parsed
+pub parsed_if_sound : (a : App) (words : List Text) → a ≡ llrp_app → fault_of a words ≡ [] → parses words ≡ true
+unfolding parses
+parsed_if_sound a words e none = ap (λ (k : Kinds). length k == 0) (sym (ap (λ (x : App). fault_of x words) e) ∙ none)
+
+-- words that are not parsed ask for no files
+pub no_files : (words : List Text) → (parses words ≡ true → ⊥) → [] ≡ (if parses words then files_in (command_in words) else [])
+no_files words refused = go (parses words) refl
+  where
+    go : (parsed : Bool) → parses words ≡ parsed → [] ≡ (if parsed then files_in (command_in words) else [])
+    go true is = absurd (refused is)
+    go false is = refl
 
 -- an error of words that are parsed is that of memory
 pub only_memory : (a : App) (words : List Text) (error : Error) → a ≡ llrp_app → parses words ≡ true → HasKind (fault_of a words) error → kind_of error ≡ OutOfMemory

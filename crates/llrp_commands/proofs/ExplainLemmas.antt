@@ -1,5 +1,5 @@
 -- What explain did is what the words ask for.
-use Rattle.std.proofs.Common.{◌≡◌, ℕ, List, Bool, Option, Result, sym, subst, ◌∙◌, inr}
+use Rattle.std.proofs.Common.{◌≡◌, ℕ, List, Bool, Result, sym, subst, ◌∙◌, inr}
 use Rattle.clap.specs.Words.{Text}
 use Rattle.llrp_schema.specs.declared.kinds.KindSet.{KindSet}
 use Rattle.llrp_listing.specs.declared.outcome.ToolErr.{ToolErr}

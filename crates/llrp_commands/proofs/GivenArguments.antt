@@ -21,8 +21,8 @@ use Rattle.clap.specs.Walk.{one_of, row_text, plain_word, after_flag, long_or_ot
 use Rattle.clap.proofs.ValueTestLemmas.{accepts-Accepts}
 use Rattle.llrp_tree.specs.declared.TheConstants.{MAX_LIMIT}
 use Rattle.llrp_commands.specs.Private.Parse.{HasFlagWord, HasLimitWord, HasLimitedWords, HasNumberIn, HasNumberWord, HasStreamWords, HasWord, IsFound, IsParse, MayHaveLongCount, MayHaveNumberIn, MayHaveNumberWord}
-use Rattle.llrp_commands.specs.Calls.Arguments.{id_rule, least_longest, long_count_rule, longest_rule, stop_app, watch_app, command_in, limited_app, stream_app, hex_rule, json_rule, limit_rule, count_rule, flag_rule, host_rule, inventory_app, llrp_app, loop_app, number_rule, port_rule, epc_app, filter_rule, prefix_digits_rule, text_option_rule, text_rule, top_app, all_rule, sim_app, ask_app, file_rule, fields_app, name_rule}
-use Rattle.llrp_commands.proofs.ReadRows.{AllFound, AllUsesPass, HasRead, IsAmong, LevelPasses, both, subcommand_there, flag_passes, has_read, help_passes, level_passes, set_passes, uses_pass}
+use Rattle.llrp_commands.specs.Calls.Arguments.{least_longest, long_count_rule, longest_rule, stop_app, watch_app, command_in, files_rule, limited_app, show_app, stream_app, with_files, hex_rule, json_rule, limit_rule, count_rule, flag_rule, host_rule, inventory_app, llrp_app, loop_app, number_rule, port_rule, epc_app, filter_rule, prefix_digits_rule, text_option_rule, text_rule, top_app, all_rule, sim_app, ask_app, file_rule, fields_app, name_rule}
+use Rattle.llrp_commands.proofs.ReadRows.{AllFound, AllUsesPass, HasRead, IsAmong, LevelPasses, both, append_passes, subcommand_there, flag_passes, has_read, help_passes, level_passes, set_passes, uses_pass}
 
 -- ---- a walk without a fault does not stop at help
 
@@ -241,12 +241,15 @@ the_json = with_index 1 (filled json_rule)
 abbrev the_limit : Rule
 the_limit = with_index 1 (filled limit_rule)
 
--- explain, which has two flags and the limit
-has_limited_words : (s : Shape) → s.rules ≡ the_hex ∷ the_all ∷ the_limit ∷ the_help 1 ∷ [] → (words : List Text) → level_fault s [] nothing_held words false [] ≡ [] → HasLimitedWords (rows_after s.rules [] words)
+abbrev the_files : Rule
+the_files = with_index 1 (filled files_rule)
+
+-- explain, which has two flags, the limit and files
+has_limited_words : (s : Shape) → s.rules ≡ the_hex ∷ the_all ∷ the_limit ∷ the_files ∷ the_help 2 ∷ [] → (words : List Text) → level_fault s [] nothing_held words false [] ≡ [] → HasLimitedWords (rows_after s.rules [] words)
 has_limited_words s e words pass =
-    let c : List Rule = the_hex ∷ the_all ∷ the_limit ∷ the_help 1 ∷ [] in
-    let uses : AllUsesPass c c = (flag_passes c the_hex refl refl (omega arith), (flag_passes c the_all refl refl (omega arith), (set_passes c the_limit refl refl refl, (help_passes c (the_help 1) refl, tt)))) in
-    let found : AllFound c c = (refl, (refl, (refl, (refl, tt)))) in
+    let c : List Rule = the_hex ∷ the_all ∷ the_limit ∷ the_files ∷ the_help 2 ∷ [] in
+    let uses : AllUsesPass c c = (flag_passes c the_hex refl refl (omega arith), (flag_passes c the_all refl refl (omega arith), (set_passes c the_limit refl refl refl, (append_passes c the_files refl refl refl, (help_passes c (the_help 2) refl, tt))))) in
+    let found : AllFound c c = (refl, (refl, (refl, (refl, (refl, tt))))) in
     let all_use : AllUsesPass s.rules s.rules = subst (λ (x : List Rule). AllUsesPass x x) (sym e) uses in
     let all_found : AllFound s.rules s.rules = subst (λ (x : List Rule). AllFound x x) (sym e) found in
     let hex_among : IsAmong the_hex s.rules = subst (IsAmong the_hex) (sym e) (inl refl) in
@@ -260,13 +263,14 @@ has_limited_words s e words pass =
       limit_there the_limit (rows_after s.rules [] words) refl (default_read s all_use all_found words pass the_limit limit_by_id limit_among (omega arith)),
     )
 
--- show and encode, which have three flags and the limit
-has_stream_words : (s : Shape) → s.rules ≡ the_hex ∷ the_all ∷ the_limit ∷ the_json ∷ the_help 1 ∷ [] → (words : List Text) → level_fault s [] nothing_held words false [] ≡ [] → HasStreamWords (rows_after s.rules [] words)
-has_stream_words s e words pass =
-    let c : List Rule = the_hex ∷ the_all ∷ the_limit ∷ the_json ∷ the_help 1 ∷ [] in
-    let uses : AllUsesPass c c =
-    (flag_passes c the_hex refl refl (omega arith), (flag_passes c the_all refl refl (omega arith), (set_passes c the_limit refl refl refl, (flag_passes c the_json refl refl (omega arith), (help_passes c (the_help 1) refl, tt))))) in
-    let found : AllFound c c = (refl, (refl, (refl, (refl, (refl, tt))))) in
+-- the rules of a command with three flags, the limit and more
+abbrev stream_rules : List Rule → List Rule
+stream_rules more = the_hex ∷ the_all ∷ the_limit ∷ the_json ∷ more
+
+-- show and encode, which have three flags, the limit and more
+has_stream_words : (more : List Rule) (s : Shape) → s.rules ≡ stream_rules more → AllUsesPass (stream_rules more) (stream_rules more) → AllFound (stream_rules more) (stream_rules more) → (words : List Text) → level_fault s [] nothing_held words false [] ≡ []
+    → HasStreamWords (rows_after s.rules [] words)
+has_stream_words more s e uses found words pass =
     let all_use : AllUsesPass s.rules s.rules = subst (λ (x : List Rule). AllUsesPass x x) (sym e) uses in
     let all_found : AllFound s.rules s.rules = subst (λ (x : List Rule). AllFound x x) (sym e) found in
     let hex_among : IsAmong the_hex s.rules = subst (IsAmong the_hex) (sym e) (inl refl) in
@@ -282,6 +286,33 @@ has_stream_words s e words pass =
       limit_there the_limit (rows_after s.rules [] words) refl (default_read s all_use all_found words pass the_limit limit_by_id limit_among (omega arith)),
       flag_word (codes "json") the_json (rows_after s.rules [] words) refl refl (default_read s all_use all_found words pass the_json json_by_id json_among (omega arith)),
     )
+
+abbrev the_names : Rule
+the_names = with_index 1 (filled (text_option_rule (codes "names")))
+
+-- show, which has --names too, and files
+show_gives : Gives (built_sub (with_files show_app).top)
+show_gives name words helpless met pass =
+    let c : List Rule = stream_rules (the_names ∷ the_files ∷ the_help 2 ∷ []) in
+    let uses : AllUsesPass c c = (
+      flag_passes c the_hex refl refl (omega arith),
+      (
+        flag_passes c the_all refl refl (omega arith),
+        (set_passes c the_limit refl refl refl, (flag_passes c the_json refl refl (omega arith), (set_passes c the_names refl refl refl, (append_passes c the_files refl refl refl, (help_passes c (the_help 2) refl, tt))))),
+      ),
+    ) in
+    let found : AllFound c c = (refl, (refl, (refl, (refl, (refl, (refl, (refl, tt))))))) in
+    inl (refl, has_stream_words (the_names ∷ the_files ∷ the_help 2 ∷ []) (built_sub (with_files show_app).top) refl uses found words pass)
+
+encode_gives : Gives (built_sub (with_files (stream_app (codes "encode"))).top)
+encode_gives name words helpless met pass =
+    let c : List Rule = stream_rules (the_files ∷ the_help 2 ∷ []) in
+    let uses : AllUsesPass c c = (
+      flag_passes c the_hex refl refl (omega arith),
+      (flag_passes c the_all refl refl (omega arith), (set_passes c the_limit refl refl refl, (flag_passes c the_json refl refl (omega arith), (append_passes c the_files refl refl refl, (help_passes c (the_help 2) refl, tt))))),
+    ) in
+    let found : AllFound c c = (refl, (refl, (refl, (refl, (refl, (refl, tt)))))) in
+    inr (inl (refl, has_stream_words (the_files ∷ the_help 2 ∷ []) (built_sub (with_files (stream_app (codes "encode"))).top) refl uses found words pass))
 
 abbrev the_epc_flag : Text → Rule
 the_epc_flag name = with_index 2 (filled (flag_rule name))
@@ -436,6 +467,12 @@ the_plan_json place = with_index place (filled (flag_rule (codes "json")))
 abbrev the_plan_all : ℕ → Rule
 the_plan_all place = with_index place (filled all_rule)
 
+abbrev the_longest : ℕ → Text → Rule
+the_longest n default = with_index n (filled (longest_rule default))
+
+abbrev the_verbose : ℕ → Rule
+the_verbose n = with_index n (filled (flag_rule (codes "verbose")))
+
 inventory_gives : Gives (built_sub inventory_app.top)
 inventory_gives name words helpless met pass =
     let s = built_sub inventory_app.top in
@@ -462,7 +499,13 @@ inventory_gives name words helpless met pass =
                         flag_passes c (the_plan_all 3) refl refl (omega arith),
                         (
                           set_passes c the_timeout refl refl refl,
-                          (help_passes c (the_help 3) refl, tt),
+                          (
+                            set_passes c (the_longest 3 (codes "65536")) refl refl refl,
+                            (
+                              flag_passes c (the_verbose 3) refl refl (omega arith),
+                              (help_passes c (the_help 3) refl, tt),
+                            ),
+                          ),
                         ),
                       ),
                     ),
@@ -474,7 +517,7 @@ inventory_gives name words helpless met pass =
         ),
       ),
     ) in
-    let found : AllFound c c = (refl, (refl, (refl, (refl, (refl, (refl, (refl, (refl, (refl, (refl, (refl, (refl, tt)))))))))))) in
+    let found : AllFound c c = (refl, (refl, (refl, (refl, (refl, (refl, (refl, (refl, (refl, (refl, (refl, (refl, (refl, (refl, tt)))))))))))))) in
     let host = required_read s uses found words pass refl the_host refl (inl refl) refl in
     let port = required_read s uses found words pass refl (the_port 2) refl (inr (inl refl)) refl in
     let every = optional_read s uses found words pass (the_every 3) refl in
@@ -485,6 +528,8 @@ inventory_gives name words helpless met pass =
     let json = default_read s uses found words pass (the_plan_json 3) refl (inr (inr (inr (inr (inr (inr (inr (inr (inl refl))))))))) (omega arith) in
     let kinds = default_read s uses found words pass (the_plan_all 3) refl (inr (inr (inr (inr (inr (inr (inr (inr (inr (inl refl)))))))))) (omega arith) in
     let timeout = optional_read s uses found words pass the_timeout refl in
+    let longest = default_read s uses found words pass (the_longest 3 (codes "65536")) refl (inr (inr (inr (inr (inr (inr (inr (inr (inr (inr (inr (inl refl)))))))))))) (omega arith) in
+    let verbose = default_read s uses found words pass (the_verbose 3) refl (inr (inr (inr (inr (inr (inr (inr (inr (inr (inr (inr (inr (inl refl))))))))))))) (omega arith) in
     inr (inr (inr (inr (inl (
       refl,
       word_there the_host _ host,
@@ -499,6 +544,8 @@ inventory_gives name words helpless met pass =
         flag_word (codes "all") (the_plan_all 3) _ refl refl kinds,
       ),
       may_number the_timeout _ 1 refl timeout,
+      longest_there (the_longest 3 (codes "65536")) _ refl longest,
+      flag_word (codes "verbose") (the_verbose 3) _ refl refl verbose,
     )))))
 
 loop_gives : Gives (built_sub loop_app.top)
@@ -569,17 +616,20 @@ the_keepalive = with_index 2 (filled (number_rule (codes "keepalive")))
 abbrev the_antennas : Rule
 the_antennas = with_index 2 (filled (text_option_rule (codes "antennas")))
 
-abbrev the_longest : Rule
-the_longest = with_index 2 (filled longest_rule)
+abbrev the_power : Rule
+the_power = with_index 2 (filled (text_option_rule (codes "power")))
+
+abbrev the_access : Rule
+the_access = with_index 2 (filled (text_option_rule (codes "access")))
 
 abbrev the_save : Rule
 the_save = with_index 2 (filled (text_option_rule (codes "save")))
 
-abbrev the_verbose : Rule
-the_verbose = with_index 2 (filled (flag_rule (codes "verbose")))
-
 abbrev the_words : Rule
 the_words = with_index 2 (filled (flag_rule (codes "text")))
+
+abbrev the_messages : Rule
+the_messages = with_index 2 (filled (flag_rule (codes "messages")))
 
 long_count_there : (name : Text) (rows : List Row) → (find (λ (r : Row). bytes_eq r.id name) rows ≡ None) ⊎ HasRead (the_long_count name) rows → MayHaveLongCount name rows
 long_count_there name rows (inl none) = inl (ap (option_and_then row_text) none, ap (option_and_then (λ (r : Row). slice_get r.values 0)) none)
@@ -611,16 +661,19 @@ watch_gives name words helpless met pass =
                   (
                     set_passes c the_antennas refl refl refl,
                     (
-                      set_passes c the_longest refl refl refl,
+                      set_passes c (the_longest 2 (codes "1048576")) refl refl refl,
                       (
                         set_passes c the_save refl refl refl,
                         (
-                          flag_passes c the_verbose refl refl (omega arith),
+                          flag_passes c (the_verbose 2) refl refl (omega arith),
                           (
                             set_passes c (the_long_count (codes "for")) refl refl refl,
                             (
                               set_passes c the_reader refl refl refl,
-                              (help_passes c (the_help 2) refl, tt),
+                              (
+                                set_passes c the_power refl refl refl,
+                                (flag_passes c the_messages refl refl (omega arith), (set_passes c the_access refl refl refl, (help_passes c (the_help 2) refl, tt))),
+                              ),
                             ),
                           ),
                         ),
@@ -634,16 +687,17 @@ watch_gives name words helpless met pass =
         ),
       ),
     ) in
-    let found : AllFound c c = (refl, (refl, (refl, (refl, (refl, (refl, (refl, (refl, (refl, (refl, (refl, (refl, (refl, (refl, tt)))))))))))))) in
+    let found : AllFound c c = (refl, (refl, (refl, (refl, (refl, (refl, (refl, (refl, (refl, (refl, (refl, (refl, (refl, (refl, (refl, (refl, (refl, tt))))))))))))))))) in
     let host = required_read s uses found words pass refl the_host refl (inl refl) refl in
     let id = optional_read s uses found words pass the_id refl in
     let every = optional_read s uses found words pass (the_count (codes "every")) refl in
     let keepalive = optional_read s uses found words pass the_keepalive refl in
     let again = optional_read s uses found words pass (the_count (codes "again")) refl in
     let text = default_read s uses found words pass the_words refl (inr (inr (inr (inr (inr (inr (inl refl))))))) (omega arith) in
-    let longest = default_read s uses found words pass the_longest refl (inr (inr (inr (inr (inr (inr (inr (inr (inl refl))))))))) (omega arith) in
-    let verbose = default_read s uses found words pass the_verbose refl (inr (inr (inr (inr (inr (inr (inr (inr (inr (inr (inl refl))))))))))) (omega arith) in
+    let longest = default_read s uses found words pass (the_longest 2 (codes "1048576")) refl (inr (inr (inr (inr (inr (inr (inr (inr (inl refl))))))))) (omega arith) in
+    let verbose = default_read s uses found words pass (the_verbose 2) refl (inr (inr (inr (inr (inr (inr (inr (inr (inr (inr (inl refl))))))))))) (omega arith) in
     let seconds = optional_read s uses found words pass (the_long_count (codes "for")) refl in
+    let messages = default_read s uses found words pass the_messages refl (inr (inr (inr (inr (inr (inr (inr (inr (inr (inr (inr (inr (inr (inr (inl refl))))))))))))))) (omega arith) in
     inr (inr (inr (inr (inr (inr (inl (
       refl,
       word_there the_host _ host,
@@ -653,9 +707,10 @@ watch_gives name words helpless met pass =
         may_number the_keepalive _ 0 refl keepalive,
         may_number (the_count (codes "again")) _ 1 refl again,
         flag_word (codes "text") the_words _ refl refl text,
-        longest_there the_longest _ refl longest,
-        flag_word (codes "verbose") the_verbose _ refl refl verbose,
+        longest_there (the_longest 2 (codes "1048576")) _ refl longest,
+        flag_word (codes "verbose") (the_verbose 2) _ refl refl verbose,
         long_count_there (codes "for") _ seconds,
+        flag_word (codes "messages") the_messages _ refl refl messages,
       ),
     )))))))
 
@@ -733,15 +788,15 @@ ask_gives name words helpless met pass =
       ),
     ))))))))
 
-explain_gives : Gives (built_sub (limited_app (codes "explain")).top)
-explain_gives name words helpless met pass = inr (inr (inl (inr (inr (refl, has_limited_words (built_sub (limited_app (codes "explain")).top) refl words pass)))))
+explain_gives : Gives (built_sub (with_files (limited_app (codes "explain"))).top)
+explain_gives name words helpless met pass = inr (inr (inl (inr (inr (refl, has_limited_words (built_sub (with_files (limited_app (codes "explain"))).top) refl words pass)))))
 
 all_give : AllGive (built llrp_app).subs
 unfolding llrp_app
 all_give = (
-  λ name words helpless met pass. inl (refl, has_stream_words (built_sub (stream_app (codes "show")).top) refl words pass),
+  show_gives,
   (
-    λ name words helpless met pass. inr (inl (refl, has_stream_words (built_sub (stream_app (codes "encode")).top) refl words pass)),
+    encode_gives,
     (epc_gives, (fields_gives, (explain_gives, (sim_gives, (inventory_gives, (loop_gives, (watch_gives, (stop_gives, (ask_gives, (λ name words helpless met pass. absurd (help_gives [] name refl helpless met), tt)))))))))),
   ),
 )

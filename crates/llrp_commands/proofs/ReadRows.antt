@@ -12,7 +12,7 @@ use Rattle.clap.specs.Values.{read_as, refused_kind}
 use Rattle.clap.specs.declared.error.kind.ErrorKind.TheVariants.{TooManyValues}
 use Rattle.clap.specs.ValueTests.{accepts}
 use Rattle.clap.specs.declared.builder.ArgAction.{ArgAction}
-use Rattle.clap.specs.declared.builder.ArgAction.TheVariants.{Set, SetTrue, Help}
+use Rattle.clap.specs.declared.builder.ArgAction.TheVariants.{Append, Set, SetTrue, Help}
 use Rattle.clap.specs.declared.builder.value_parser.Reading.{Reading}
 use Rattle.clap.specs.declared.parser.matches.ValueSource.{ValueSource}
 use Rattle.clap.specs.declared.parser.matches.ValueSource.TheVariants.{CommandLine, DefaultValue}
@@ -421,6 +421,16 @@ set_passes c a found is one again (v ∷ vs) rows pass sound =
     let values = (both _ (values_fault a (v ∷ vs)) act).1 in
     subst (λ (x : ArgAction). AllPass c (used_as x a.id (reading_by a) (v ∷ vs) rows)) (sym is)
     (with_values_pass c a.id (reading_by a) CommandLine (v ∷ vs) (without a.id rows) (passes_by c a (v ∷ vs) found (omega arith) values) (without_pass c a.id rows sound))
+
+-- an argument all of whose uses count, and that takes a value in each
+pub append_passes : (c : List Rule) (a : Rule) → arg_by_id c a.id ≡ Some a → action_of a ≡ Append → (unwrap_or_range a.range).start_inclusive ≡ 1 → UsePasses c a
+append_passes c a found is one again [] rows pass sound =
+    let none : range_kinds 1 (most_values a) 0 ≡ [] = subst (λ (n : ℕ). range_kinds n (most_values a) 0 ≡ []) one (both (range_kinds (unwrap_or_range a.range).start_inclusive (most_values a) 0) _ pass).0 in
+    cc
+append_passes c a found is one again (v ∷ vs) rows pass sound =
+    let act = subst (λ (x : ArgAction). action_fault x again a (v ∷ vs) rows ≡ []) is (both (range_kinds (unwrap_or_range a.range).start_inclusive (most_values a) (length (v ∷ vs))) _ pass).1 in
+    subst (λ (x : ArgAction). AllPass c (used_as x a.id (reading_by a) (v ∷ vs) rows)) (sym is)
+    (with_values_pass c a.id (reading_by a) CommandLine (v ∷ vs) rows (passes_by c a (v ∷ vs) found (omega arith) act) sound)
 
 -- a flag, which has its one value where it is given
 pub flag_passes : (c : List Rule) (a : Rule) → arg_by_id c a.id ≡ Some a → action_of a ≡ SetTrue → 0 < length a.missing → UsePasses c a

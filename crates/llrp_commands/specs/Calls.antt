@@ -6,3 +6,4 @@ pub mod Arguments
 pub mod Epc
 pub mod Explain
 pub mod Fields
+pub mod ShowNames

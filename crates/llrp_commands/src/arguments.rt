@@ -1,10 +1,10 @@
 //! What the words of the command line ask for.
 
-ghost use Rattle.std.specs.Prelude.{◌≡◌, ◌↔◌, IfOk, IfSome, IsTrue, List, Some, codes, false, map, true, ℕ};
-ghost use Rattle.clap.specs.Words.{found_of, rows_of, subcommand_rows_of};
+ghost use Rattle.std.specs.Prelude.{◌≡◌, ◌↔◌, IfOk, IfSome, IsTrue, List, Some, [], codes, false, map, true, unwrap_or, ℕ};
+ghost use Rattle.clap.specs.Words.{all_of, found_of, rows_of, subcommand_rows_of};
 ghost use Rattle.llrp_commands.specs.Private.Parse.{HasLimitWord, HasNumberWord, IsFound, IsNetworkParse, IsParse, IsText, HasPlan, MayHaveNumberWord};
-ghost use Rattle.llrp_commands.specs.Calls.Arguments.{AsksForInput, HasNumber, HasOptionalNumber, HasOptionalText, IsBounded, IsNetwork, IsPlan, NetworkAsked, command_in, parses};
-ghost use Rattle.llrp_commands.specs.Private.Arguments.{HasLimit, IsLimit, IsRequest};
+ghost use Rattle.llrp_commands.specs.Calls.Arguments.{AsksForInput, FilesAsked, HasNumber, HasOptionalNumber, HasOptionalText, IsBounded, IsNetwork, IsPlan, NetworkAsked, command_in, parses, reads_files};
+ghost use Rattle.llrp_commands.specs.Private.Arguments.{HasLimit, IsFiles, IsLimit, IsRequest};
 
 mod ask_commands;
 mod ask_help;
@@ -32,7 +32,7 @@ use sim_words::sim_words;
 use std::alloc::{AllocError, Global};
 use std::convert::AsStr;
 pub use watch_words::{StopWords, WatchWords};
-use watch_words::{host, stop_words, watch_words};
+use watch_words::{host, longest, stop_words, watch_words};
 
 /// What the words say of a plan. What an option gives is `None` if it is left out.
 #[derive(Clone, Copy, Debug, PartialEq, Eq)]
@@ -63,12 +63,15 @@ pub enum NetworkCommand<'a> {
         words: SimWords<'a>,
     },
     /// An inventory of the reader at this host and port, by this plan. A connection or a read fails
-    /// if it gets nothing for this many seconds.
+    /// if it gets nothing for this many seconds, and a message has at most this many octets. More may
+    /// be said of the connection.
     Inventory {
         host: &'a str,
         port: u16,
         plan: PlanWords<'a>,
         timeout: Option<u16>,
+        limit: u32,
+        verbose: bool,
     },
     /// An inventory of a simulated reader, by a script and this plan.
     Loop {
@@ -95,11 +98,13 @@ pub enum NetworkCommand<'a> {
 #[derive(Drop)]
 pub(crate) enum Request<'a> {
     /// Lists a stream of bytes, or of hexadecimal digits, in the profile or in the whole standard, as a
-    /// listing or as lines of JSON. A message longer than this many octets is a fault.
+    /// listing or as lines of JSON, whose names this word chooses. A message longer than this many octets is
+    /// a fault.
     Show {
         hex: bool,
         all: bool,
         json: bool,
+        names: Option<&'a str>,
         limit: u32,
     },
     /// Writes the bytes of a listing, or of lines of JSON, in the profile or in the whole standard, or
@@ -224,6 +229,8 @@ fn network_named<'a>(name: &str, inner: &ArgMatches<'a>) -> NetworkCommand<'a>
         port: number(inner, "PORT"),
         plan,
         timeout: optional_number(inner, "timeout"),
+        limit: longest(inner),
+        verbose: inner.get_flag("verbose"),
     }
 }
 
@@ -241,6 +248,7 @@ fn request_named<'a>(name: &str, inner: &ArgMatches<'a>) -> Request<'a>
             hex: inner.get_flag("hex"),
             all: inner.get_flag("all"),
             json: inner.get_flag("json"),
+            names: optional_text(inner, "names"),
             limit: limit(inner),
         }
     } else if name == "encode" {
@@ -319,7 +327,69 @@ pub fn network_command<'a, S: AsStr>(
     }
 }
 
-/// Whether the words ask for a command that reads standard input to its end, `show`, `encode` or `explain`.
+/// Whether the command with this name reads files.
+fn reads_files(name: &str) -> bool
+    ensures { result ≡ reads_files (Some name.now) }
+{
+    name == "show" || name == "encode" || name == "explain"
+}
+
+/// The words of the argument FILE.
+fn given_files<'a>(alloc: Global, inner: &ArgMatches<'a>) -> Result<Vec<&'a str>, AllocError>
+    ensures { IfOk result (λ files. map (λ file. file.now) files.items
+        ≡ unwrap_or (all_of (codes "FILE") (rows_of (found_of inner.now))) []) }
+{
+    match inner.get_strs("FILE") {
+        Some(files) => files.to_vec(alloc),
+        None => Ok(Vec::new(alloc)),
+    }
+}
+
+/// The files of a command that was found.
+fn files_of<'a>(
+    alloc: Global,
+    name: &str,
+    inner: &ArgMatches<'a>,
+) -> Result<Vec<&'a str>, AllocError>
+    ensures { IfOk result (λ files. IsFiles (Some (name.now, rows_of (found_of inner.now)))
+        (map (λ file. file.now) files.items)) }
+{
+    if reads_files(name) {
+        given_files(alloc, inner)
+    } else {
+        Ok(Vec::new(alloc))
+    }
+}
+
+/// The files of the command that the words name.
+fn chosen_files<'a>(alloc: Global, matches: &ArgMatches<'a>) -> Result<Vec<&'a str>, AllocError>
+    ensures { IfOk result (λ files. IsFiles (subcommand_rows_of matches.now)
+        (map (λ file. file.now) files.items)) }
+{
+    match matches.subcommand() {
+        Some((name, inner)) => files_of(alloc, name, inner),
+        None => Ok(Vec::new(alloc)),
+    }
+}
+
+/// The files that the words ask `show`, `encode` or `explain` to read, in their order; none where they ask for standard input, or
+/// for no such command. The only error is that memory ran out.
+pub fn files_asked<'a, S: AsStr>(alloc: Global, words: &'a [S]) -> Result<Vec<&'a str>, AllocError>
+    ensures { IfOk result (λ files. FilesAsked (map S.text words.entry.now)
+        (map (λ file. file.now) files.items)) }
+{
+    let command = llrp_command(alloc)?;
+    match command.try_get_matches_from(words) {
+        Ok(matches) => chosen_files(alloc, &matches),
+        Err(error) => match error.kind() {
+            ErrorKind::OutOfMemory => Err(AllocError),
+            _ => Ok(Vec::new(alloc)),
+        },
+    }
+}
+
+/// Whether the words ask for a command that reads its input to its end, `show`, `encode` or `explain`. That is standard input,
+/// unless [`files_asked`] returns files.
 /// The only error is that memory ran out.
 pub fn reads_input<S: AsStr>(alloc: Global, words: &[S]) -> Result<bool, AllocError>
     ensures { IfOk result (λ reads. IsTrue reads ↔ AsksForInput (map S.text words.entry.now)) }

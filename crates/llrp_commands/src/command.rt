@@ -14,6 +14,7 @@ ghost use Rattle.llrp_commands.specs.Calls.Arguments.{AsksElsewhere, parses};
 ghost use Rattle.llrp_commands.specs.Calls.Epc.{LeavesFileIfAsked, RunsEpcIfAsked};
 ghost use Rattle.llrp_commands.specs.Calls.Explain.{ExplainsIfAsked};
 ghost use Rattle.llrp_commands.specs.Calls.Fields.{FieldsIfAsked};
+ghost use Rattle.llrp_commands.specs.Calls.ShowNames.{NamesIfAsked};
 ghost use Rattle.llrp_stream.specs.Calls.Device.{CanWrite};
 
 use crate::arguments::{Request, request_of};
@@ -21,6 +22,7 @@ use crate::encode_json::{answer_lines, encode_json};
 use crate::epc::{answer_epc, epc, mistake_of};
 use crate::explain::explain;
 use crate::fields::{answer_fields, fields};
+use crate::show_names::show_by_names;
 use itoa::Buffer;
 use llrp_json::{list_stream_json, run_show_json};
 use llrp_listing::{
@@ -381,8 +383,8 @@ fn encode_in_form<R: Source, W: Sink, E: Sink>(
 /// Runs the command that the words after the program's name ask for, and returns its exit status: 0
 /// if all is well, 1 if the input has a fault, 2 if the words ask for no command, and 3 if a device
 /// failed or memory ran out. An error is written to `e` as a line. For a command that the program
-/// runs itself, and for `epc` with a file, the status is 2, and nothing is read or written. The only errors are `Memory`, and
-/// `Write` if writing to `e` failed.
+/// runs itself, and for `epc` with a file, the status is 2, and nothing is read or written. Files that the words name are not
+/// opened: `r` stands for one of them. The only errors are `Memory`, and `Write` if writing to `e` failed.
 pub fn run_command<S: AsStr, R: Source, W: Sink, E: Sink>(
     alloc: Global,
     words: &[S],
@@ -398,6 +400,10 @@ pub fn run_command<S: AsStr, R: Source, W: Sink, E: Sink>(
     ensures show { ShowsIfAsked (map S.text words.entry.now) (R.log r.old) (R.log r.new)
         (W.log w.old) (W.log w.new) (E.log e.old) (E.log e.new) result }
     ensures encode { EncodesIfAsked (map S.text words.entry.now) (R.log r.old) (R.log r.new)
+        (W.log w.old) (W.log w.new) (E.log e.old) (E.log e.new) result }
+
+    // With --names its lines have the names that the word says.
+    ensures names { NamesIfAsked (map S.text words.entry.now) (R.log r.old) (R.log r.new)
         (W.log w.old) (W.log w.new) (E.log e.old) (E.log e.new) result }
 
     // If they ask for epc, it does what epc does with the text.
@@ -434,11 +440,15 @@ pub fn run_command<S: AsStr, R: Source, W: Sink, E: Sink>(
             hex,
             all,
             json,
+            names,
             limit,
-        } => {
-            let outcome = show(alloc, json, hex, set_of(all), limit, r, w);
-            answer(verdict_status(outcome), e)
-        }
+        } => match names {
+            Some(word) => show_by_names(alloc, json, word, hex, set_of(all), limit, r, w, e),
+            None => {
+                let outcome = show(alloc, json, hex, set_of(all), limit, r, w);
+                answer(verdict_status(outcome), e)
+            }
+        },
         Request::Encode {
             hex,
             all,

@@ -2,7 +2,7 @@
 
 ghost use Rattle.std.specs.Prelude.{◌≡◌, ◌<◌, Some, None, true, false, option_map};
 ghost use Rattle.tag_forms.specs.Company.{IsUsable};
-ghost use Rattle.llrp_commands.specs.Calls.Epc.{DoesEpc, AnswersEpc, DoesFormOf, DoesListIn, some_of};
+ghost use Rattle.llrp_commands.specs.Calls.Epc.{DoesEpc, AnswersEpc, DoesFormOf, DoesListIn, some_of, wanted_in};
 ghost use Rattle.llrp_commands.specs.Private.Arguments.{IsUnsaid};
 ghost use Rattle.llrp_stream.specs.Device.{IsFreshSink, IsFreshSource};
 ghost use Rattle.llrp_stream.specs.Calls.Device.{CanWrite};
@@ -13,7 +13,7 @@ use llrp_keys::{run_answer, run_forms, run_list};
 use llrp_listing::{ToolErr, Verdict, run_epc, write_all};
 use llrp_stream::{Sink, Source};
 use std::alloc::Global;
-use tag_forms::{Company, Wanted, form_named};
+use tag_forms::{Company, Form, Wanted, form_named};
 
 /// What is written where `epc` has neither a text nor an option.
 const NO_TEXT: &[u8] = b"\
@@ -27,7 +27,7 @@ For more information, try '--help'.
 
 /// What is written where the options of `epc` do not go together.
 const MISMATCH: &[u8] = b"\
-error: epc takes TEXT, --forms TEXT, --to FORM TEXT, --list --to FORM, --forms --json TEXT, or --list --json; FORM is tag, pure, element, link, hex or key
+error: epc takes TEXT, --forms [--json] TEXT, --to FORM [--json] TEXT, --list --to FORM [--json], or --list --json; FORM is tag, pure, element, link, hex or key
 
 For more information, try '--help'.
 ";
@@ -58,11 +58,23 @@ fn some_of(outcome: Result<Verdict, ToolErr>) -> Result<Option<Verdict>, ToolErr
     }
 }
 
+/// What is wanted in a form: its text, or an object of JSON with it.
+fn wanted_in(json: bool, to: Form) -> Wanted
+    ensures { result ≡ wanted_in json to }
+{
+    if json {
+        Wanted::Member(to)
+    } else {
+        Wanted::Text(to)
+    }
+}
+
 /// Answers a text in the form with this name.
 fn answer_in<W: Sink>(
     alloc: Global,
     text: &str,
     name: &str,
+    json: bool,
     filter: u8,
     company: Company<'_>,
     w: &mut W,
@@ -70,10 +82,11 @@ fn answer_in<W: Sink>(
     requires filter { filter < 8 }
     requires company { IsUsable company }
     requires sink { IsFreshSink (W.log w.old) }
-    ensures { DoesFormOf text.now name.now filter company.entry (W.log w.old) (W.log w.new) result }
+    ensures { DoesFormOf text.now name.now json filter company.entry (W.log w.old)
+        (W.log w.new) result }
 {
     match form_named(name) {
-        Some(to) => some_of(run_answer(alloc, text, Wanted::Text(to), filter, company, w)),
+        Some(to) => some_of(run_answer(alloc, text, wanted_in(json, to), filter, company, w)),
         None => Ok(None),
     }
 }
@@ -82,6 +95,7 @@ fn answer_in<W: Sink>(
 fn list_in<R: Source, W: Sink>(
     alloc: Global,
     name: &str,
+    json: bool,
     filter: u8,
     company: Company<'_>,
     r: &mut R,
@@ -91,11 +105,11 @@ fn list_in<R: Source, W: Sink>(
     requires company { IsUsable company }
     requires source { IsFreshSource (R.log r.old) }
     requires sink { IsFreshSink (W.log w.old) }
-    ensures { DoesListIn name.now filter company.entry (R.log r.old) (R.log r.new) (W.log w.old)
+    ensures { DoesListIn name.now json filter company.entry (R.log r.old) (R.log r.new) (W.log w.old)
         (W.log w.new) result }
 {
     match form_named(name) {
-        Some(to) => some_of(run_list(alloc, Wanted::Text(to), filter, company, r, w)),
+        Some(to) => some_of(run_list(alloc, wanted_in(json, to), filter, company, r, w)),
         None => Ok(None),
     }
 }
@@ -128,10 +142,10 @@ pub(crate) fn epc<R: Source, W: Sink>(
         (Some(text), true, false, true, None) => {
             some_of(run_answer(alloc, text, Wanted::Object, filter, company, w))
         }
-        (Some(text), false, false, false, Some(name)) => {
-            answer_in(alloc, text, name, filter, company, w)
+        (Some(text), false, false, json, Some(name)) => {
+            answer_in(alloc, text, name, json, filter, company, w)
         }
-        (None, false, true, false, Some(name)) => list_in(alloc, name, filter, company, r, w),
+        (None, false, true, json, Some(name)) => list_in(alloc, name, json, filter, company, r, w),
         (None, false, true, true, None) => {
             some_of(run_list(alloc, Wanted::Object, filter, company, r, w))
         }

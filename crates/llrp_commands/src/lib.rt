@@ -19,10 +19,11 @@ mod epc_table;
 mod explain;
 mod fields;
 pub mod laws;
+mod show_names;
 
 pub use arguments::{
-    AskWords, NetworkCommand, PlanWords, SimWords, StopWords, WatchWords, network_command,
-    reads_input,
+    AskWords, NetworkCommand, PlanWords, SimWords, StopWords, WatchWords, files_asked,
+    network_command, reads_input,
 };
 pub use command::{LIMIT, USAGE, answer, run_command, write_refusal};
 pub use epc_table::{prefixes_file, refuse_table, run_epc_by};

@@ -6,7 +6,7 @@ pub mod laws;
 
 pub use llrp_commands::{
     AskWords, LIMIT, NetworkCommand, PlanWords, SimWords, StopWords, USAGE, WatchWords, answer,
-    network_command, reads_input, run_command,
+    files_asked, network_command, reads_input, run_command,
 };
 pub use llrp_endpoints::{
     Action, Endpoint, Entry, Gathering, LineForm, Plan, PlanErr, PlanFault, Script, Serving,

@@ -41,7 +41,7 @@ abbrev pub Serves : List Entry → Result (Unit {0}) ToolErr → Type 0
 Serves entries outcome = (source : SourceLog) × (sink : SinkLog) × (bytes : List ℕ)
     × RunsServe (new_reader LIMIT FIRST_ID) entries (new_source None) source (new_sink None) sink bytes outcome
 
--- the same, with three requests outside the profile answered
+-- the same, with requests outside the profile answered
 abbrev pub ServesAll : List Entry → Result (Unit {0}) ToolErr → Type 0
 ServesAll entries outcome = (source : SourceLog) × (sink : SinkLog) × (bytes : List ℕ)
     × RunsServeAll (new_reader LIMIT FIRST_ID) entries (new_source None) source (new_sink None) sink bytes outcome
@@ -52,9 +52,9 @@ ServesSo true entries outcome = ServesAll entries outcome
 ServesSo false entries outcome = Serves entries outcome
 
 -- A client followed the plan so, over such a source and sink. These are the logs of its report.
-abbrev pub FollowsPlan : Plan → SinkLog → SinkLog → Result (Unit {0}) ToolErr → Type 0
-FollowsPlan plan t0 t1 outcome = (run : Result Summary ToolErr) × (source : SourceLog) × (sink : SinkLog) × (bytes : List ℕ)
-    × RunsInventory LIMIT plan (new_source None) source (new_sink None) sink t0 t1 bytes run × (outcome ≡ unnumbered run)
+abbrev pub FollowsPlan : (limit : ℕ) → Plan → SinkLog → SinkLog → Result (Unit {0}) ToolErr → Type 0
+FollowsPlan limit plan t0 t1 outcome = (run : Result Summary ToolErr) × (source : SourceLog) × (sink : SinkLog) × (bytes : List ℕ)
+    × RunsInventory limit plan (new_source None) source (new_sink None) sink t0 t1 bytes run × (outcome ≡ unnumbered run)
 
 -- the ends of the connection of a loop
 abbrev pub both_ends : Plan → List Entry → BothEnds
@@ -86,8 +86,8 @@ abbrev pub MayServe : (all : Bool) → List Entry → Option (Result (Unit {0}) 
 MayServe all entries outcome = MayEnd (Unit {0}) (ServesSo all entries) outcome
 
 -- The client followed the plan; nothing was reported where the network failed.
-abbrev pub MayFollow : Plan → SinkLog → SinkLog → Option (Result (Unit {0}) ToolErr) → Type 0
-MayFollow plan t0 t1 outcome = MayEnd (t1 ≡ t0) (FollowsPlan plan t0 t1) outcome
+abbrev pub MayFollow : (limit : ℕ) → Plan → SinkLog → SinkLog → Option (Result (Unit {0}) ToolErr) → Type 0
+MayFollow limit plan t0 t1 outcome = MayEnd (t1 ≡ t0) (FollowsPlan limit plan t0 t1) outcome
 
 -- Both ends ran; nothing was reported where the network failed.
 abbrev pub MayRunBoth : Plan → SinkLog → SinkLog → List Entry → Option (Result (Unit {0}) ToolErr) → Type 0
@@ -109,5 +109,5 @@ abbrev pub RunsBothEnds : Plan → SourceLog → SourceLog → (t0 t1 e0 e1 : Si
 RunsBothEnds plan r0 r1 t0 t1 e0 e1 answer = RunsScript (t1 ≡ t0) (MayRunBoth plan t0 t1) r0 r1 e0 e1 answer
 
 -- what `inventory` does
-abbrev pub RunsPlan : Plan → (t0 t1 e0 e1 : SinkLog) → Result ℕ ToolErr → Type 0
-RunsPlan plan t0 t1 e0 e1 answer = (outcome : Option (Result (Unit {0}) ToolErr)) × MayFollow plan t0 t1 outcome × Concludes outcome e0 e1 answer
+abbrev pub RunsPlan : (limit : ℕ) → Plan → (t0 t1 e0 e1 : SinkLog) → Result ℕ ToolErr → Type 0
+RunsPlan limit plan t0 t1 e0 e1 answer = (outcome : Option (Result (Unit {0}) ToolErr)) × MayFollow limit plan t0 t1 outcome × Concludes outcome e0 e1 answer

@@ -1,5 +1,6 @@
 -- The plan that the words ask for, and why they have none.
 use Rattle.std.specs.Prelude.{◌≡◌, ℕ, ◌⊎◌, Bool, false, ◌&&◌, ◌||◌, ◌==◌, List, Option, Some, None, IfSome, IfNone, is_some, unwrap_or, Result, Ok, Err, codes, if◌then◌else◌}
+use Rattle.llrp_tree.specs.Tree.{Tree}
 use Rattle.llrp_stream.specs.Device.{SourceLog, SinkLog, Wrote, WroteAndFailed}
 use Rattle.llrp_listing.specs.declared.outcome.ToolErr.{ToolErr}
 use Rattle.llrp_listing.specs.declared.outcome.ToolErr.TheVariants as tool
@@ -11,8 +12,8 @@ use Rattle.llrp_schema.specs.declared.kinds.KindSet.TheVariants.{Profile, Standa
 use Rattle.llrp_endpoints.specs.declared.form.LineForm.{LineForm}
 use Rattle.llrp_endpoints.specs.declared.form.LineForm.TheVariants.{Words, Json}
 use Rattle.llrp_endpoints.specs.Plan.{Plan}
-use Rattle.llrp_endpoints.specs.Calls.Plans.{given, standard}
-use Rattle.llrp_endpoints.specs.Calls.PlanTexts.{ListsRoSpec, RefusesPlan}
+use Rattle.llrp_endpoints.specs.Calls.Plans.{standard}
+use Rattle.llrp_endpoints.specs.Calls.PlanTexts.{ListsRoSpec, RefusesPlan, given_in}
 use Rattle.llrp_endpoints.specs.Calls.ReadRoSpec.{IsEnough}
 use Rattle.llrp_commands.specs.Calls.Command.{error_line, refusal_line}
 use Rattle.llrp_commands.specs.declared.arguments.PlanWords.{PlanWords}
@@ -57,17 +58,17 @@ never_reports words = is_some words.reports && is_zero words.every
 
 -- Why there is no plan: reading failed or took too many reads; a line is refused of all that the source gave, or of so much that no text which begins so
 -- has a plan; or memory ran out.
-abbrev pub HasNoPlan : SourceLog → SourceLog → NoPlan → Type 0
-HasNoPlan r0 r1 Unread = (front : List ℕ) × (ReadStopped r0 r1 front tool.Read ⊎ ReadStopped r0 r1 front tool.Bound)
-HasNoPlan r0 r1 (Line line reason) = (bytes : List ℕ) × IsEnough r0 r1 bytes × RefusesPlan bytes (text.Line line reason)
-HasNoPlan r0 r1 Memory = (bytes : List ℕ) × (ReadStopped r0 r1 bytes tool.Memory ⊎ IsEnough r0 r1 bytes)
+abbrev pub HasNoPlan : KindSet → SourceLog → SourceLog → NoPlan → Type 0
+HasNoPlan set r0 r1 Unread = (front : List ℕ) × (ReadStopped r0 r1 front tool.Read ⊎ ReadStopped r0 r1 front tool.Bound)
+HasNoPlan set r0 r1 (Line line reason) = (bytes : List ℕ) × IsEnough r0 r1 bytes × RefusesPlan set bytes (text.Line line reason)
+HasNoPlan set r0 r1 Memory = (bytes : List ℕ) × (ReadStopped r0 r1 bytes tool.Memory ⊎ IsEnough r0 r1 bytes)
 
--- What reading a plan's ROSpec answers: a plan with the ROSpec that all of the source lists, and all else as the words say; or why there is none.
+-- What reading a plan's ROSpec answers: a plan with the ROSpec that all of the source lists, with --all one of the whole standard, and all else as the words say; or why there is none.
 abbrev pub ReadsPlan : PlanWords → SourceLog → SourceLog → Result Plan NoPlan → Type 0
 ReadsPlan words r0 r1 (Ok plan) =
-    (bytes : List ℕ) × ReadAll r0 r1 bytes × ListsRoSpec bytes plan.rospec
-    × (plan ≡ with_options words (given plan.rospec (asked_polls words) words.check))
-ReadsPlan words r0 r1 (Err no_plan) = HasNoPlan r0 r1 no_plan
+    (bytes : List ℕ) × (t : Tree) × ReadAll r0 r1 bytes × ListsRoSpec (asked_set words) bytes t
+    × (plan ≡ with_options words (given_in (asked_set words) t (asked_polls words) words.check))
+ReadsPlan words r0 r1 (Err no_plan) = HasNoPlan (asked_set words) r0 r1 no_plan
 
 -- The plan of a command, or why it has none: without a file it is that of the words; with one, what is read in some text.
 abbrev pub OpensPlan : PlanWords → Result Plan NoPlan → Type 0

@@ -1,9 +1,9 @@
 -- The plans that the words of watch and stop ask for, and how they run.
-use Rattle.std.specs.Prelude.{◌≡◌, ℕ, ◌*◌, true, false, List, [], ◌∷◌, ◌++◌, if◌then◌else◌, Option, None, unwrap_or, Result, Ok, Err, codes, decimal, ⊤}
+use Rattle.std.specs.Prelude.{◌≡◌, ℕ, ◌*◌, true, false, List, [], ◌∷◌, ◌++◌, if◌then◌else◌, Option, None, Some, unwrap_or, Result, Ok, Err, codes, decimal, ⊤}
 use Rattle.std.specs.Io.KnownBytes.{Appends}
 use Rattle.llrp_stream.specs.Device.{SourceLog, SinkLog}
 use Rattle.llrp_stream.specs.Calls.Device.{new_sink, new_source}
-use Rattle.llrp_schema.specs.declared.kinds.KindSet.TheVariants.{Standard}
+use Rattle.llrp_schema.specs.declared.kinds.KindSet.TheVariants.{Profile, Standard}
 use Rattle.llrp_listing.specs.declared.outcome.ToolErr.{ToolErr}
 use Rattle.llrp_endpoints.specs.declared.form.LineForm.{LineForm}
 use Rattle.llrp_endpoints.specs.declared.form.LineForm.TheVariants.{Tags, Full}
@@ -14,7 +14,13 @@ use Rattle.llrp_endpoints.specs.Calls.Plans.{given}
 use Rattle.llrp_endpoints.specs.Calls.PlanTexts.{ListsRoSpec, RefusesPlan}
 use Rattle.llrp_endpoints.specs.RunInventory.{RunsInventory}
 use Rattle.llrp_endpoints.specs.MarkedLines.{AreMarked}
-use Rattle.llrp_endpoints.specs.Watching.{RunsWatching, Turn}
+use Rattle.llrp_endpoints.specs.ReportedTags.{AreTagsOfStream}
+use Rattle.llrp_endpoints.specs.declared.tag_lister.TagLister.{TagLister}
+use Rattle.llrp_endpoints.specs.Calls.TagListing.{HasTags}
+use Rattle.llrp_endpoints.specs.Watching.{RunsWatching, Turn, pieces_of}
+use Rattle.llrp_power.specs.declared.capabilities.Transmitter.{Transmitter}
+use Rattle.llrp_json.specs.Calls.PieceLines.{HasListed, Listing}
+use Rattle.llrp_stream.specs.Calls.Frames.{limit_of}
 use Rattle.llrp_commands.specs.declared.arguments.watch_words.WatchWords.{WatchWords}
 use Rattle.llrp.specs.declared.plan.NoPlan.{NoPlan}
 use Rattle.llrp.specs.declared.plan.NoPlan.TheVariants.{Line, Memory, Unread}
@@ -25,17 +31,23 @@ use Rattle.llrp.specs.Calls.Network.{unnumbered}
 
 -- ---- the ROSpec
 
+-- an AntennaConfiguration of all antennas, for which 0 stands, with this RFTransmitter, if there is one (LLRP 1.1, section 16)
+abbrev pub transmitter_text : Option Transmitter → List ℕ
+transmitter_text None = []
+transmitter_text (Some t) =
+    codes "4 AntennaConfiguration 0\n5 RFTransmitter " ++ (decimal t.hop_table_id ++ (codes " " ++ (decimal t.channel_index ++ (codes " " ++ (decimal t.transmit_power ++ codes "\n")))))
+
 -- one with these antennas, which starts and stops on commands, and of each tag says antenna, channel, strength, both times and count
 abbrev pub rospec_text : MadeRoSpec → List ℕ
 rospec_text made =
     codes "1 ROSpec " ++ (decimal made.id ++ (codes " 0 0\n2 ROBoundarySpec\n3 ROSpecStartTrigger 0\n3 ROSpecStopTrigger 0 0\n2 AISpec w"
-    ++ (made.antennas.now ++ (codes "\n3 AISpecStopTrigger 0 0\n3 InventoryParameterSpec 1 1\n2 ROReportSpec 2 "
-    ++ (decimal made.every ++ codes "\n3 TagReportContentSelector 0 0 0 1 1 1 1 1 1 0\n")))))
+    ++ (made.antennas.now ++ (codes "\n3 AISpecStopTrigger 0 0\n3 InventoryParameterSpec 1 1\n" ++ (transmitter_text made.transmitter
+    ++ (codes "2 ROReportSpec 2 " ++ (decimal made.every ++ codes "\n3 TagReportContentSelector 0 0 0 1 1 1 1 1 1 0\n")))))))
 
 -- The plan with the ROSpec that these lines list; or the first of them that is refused; or memory ran out.
 abbrev pub MakesRoSpec : MadeRoSpec → Result Plan NoPlan → Type 0
-MakesRoSpec made (Ok plan) = ListsRoSpec (rospec_text made) plan.rospec × (plan ≡ given plan.rospec 0 false)
-MakesRoSpec made (Err (Line line reason)) = RefusesPlan (rospec_text made) (text.Line line reason)
+MakesRoSpec made (Ok plan) = ListsRoSpec Profile (rospec_text made) plan.rospec × (plan ≡ given plan.rospec 0 false)
+MakesRoSpec made (Err (Line line reason)) = RefusesPlan Profile (rospec_text made) (text.Line line reason)
 MakesRoSpec made (Err Memory) = ⊤
 MakesRoSpec made (Err Unread) = ⊥
 
@@ -51,15 +63,21 @@ watch_plan words plan =
 
 -- ---- lines
 
--- A printer of this form and with this name, which began where its output had these octets, received these turns: of each it appended the lines, with some
--- moment.
-pub data Prints (form : LineForm) (name : Option (List ℕ)) (began : Option (List ℕ)) : List Turn → Option (List ℕ) → Type 0 where
-  no_turn : Prints form name began [] began
-  one_more : (turns : List Turn) (taken : Option (List ℕ)) (t : Turn) (micros : ℕ) (text : List ℕ) (next : Option (List ℕ)) → Prints form name began turns taken → AreMarked form micros name t.lines text → Appends taken next text → Prints form name began (turns ++ t ∷ []) next
+-- A printer of this form, limit and name, which began where its output had these octets, received these turns: of each it appended the lines of the tags of
+-- the reports that are whole with its piece, with some moment. These are all lines so far, without their moments.
+pub data Prints (form : LineForm) (limit : ℕ) (name : Option (List ℕ)) (began : Option (List ℕ)) : List Turn → List ℕ → Option (List ℕ) → Type 0 where
+  no_turn : Prints form limit name began [] [] began
+  one_more : (turns : List Turn) (lines : List ℕ) (taken : Option (List ℕ)) (t : Turn) (more : List ℕ) (micros : ℕ) (text : List ℕ) (next : Option (List ℕ)) → Prints form limit name began turns lines taken
+      → AreTagsOfStream form limit (pieces_of (turns ++ t ∷ [])) (lines ++ more) → AreMarked form micros name more text → Appends taken next text → Prints form limit name began (turns ++ t ∷ []) (lines ++ more) next
 
--- what such a printer says of itself, whose output has these octets
-abbrev pub PrintsTo : LineForm → Option (List ℕ) → Option (List ℕ) → SinkLog → List Turn → Type 0
-PrintsTo form name taken base turns = Prints form name base.taken turns taken
+-- what such a printer says of itself, which has this lister and whose output has these octets
+abbrev pub PrintsTo : TagLister → Option (List ℕ) → Option (List ℕ) → SinkLog → List Turn → Type 0
+PrintsTo lister name taken base turns = (lines : List ℕ) × HasTags lister.decoder.limit (pieces_of turns) lines lister × Prints lister.form lister.decoder.limit name base.taken turns lines taken
+
+-- What a printer of messages says of itself, which has this lister and whose output has these octets: of the octets of these turns, read one after another, it
+-- appended the line of each frame that is whole in them, as show --json --all --limit prints it.
+abbrev pub PrintsMessages : Listing → Option (List ℕ) → SinkLog → List Turn → Type 0
+PrintsMessages lister taken base turns = (text : List ℕ) × HasListed (limit_of lister.frames) (pieces_of turns) text lister × Appends base.taken taken text
 
 -- ---- runs over sockets
 

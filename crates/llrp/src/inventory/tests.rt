@@ -1,4 +1,5 @@
 use super::*;
+use llrp_commands::LIMIT;
 use llrp_endpoints::standard_plan;
 use std::io::Read;
 use std::net::Shutdown;
@@ -35,7 +36,14 @@ fn take(rt: &HostRuntime, said: &[u8]) -> Result<(Result<(), ToolErr>, Vec<u8>, 
     reader.shutdown(Shutdown::Write)?;
     let mut report = Output::new(Vec::new(alloc));
     let plan = standard_plan(alloc, 0, 1)?;
-    let outcome = take_inventory(alloc, &stream, plan, &mut report);
+    let outcome = take_inventory(
+        alloc,
+        &stream,
+        plan,
+        LIMIT,
+        &Notes::new(rt, false),
+        &mut report,
+    );
     stream.shutdown(Shutdown::Write)?;
     let mut sent = Vec::new(alloc);
     reader.read_to_end(&mut sent)?;
@@ -66,6 +74,7 @@ fn a_reader_that_ends_after_it_accepted(rt: HostRuntime) -> Result<(), Fail> {
 fn no_reader_at_the_port(rt: HostRuntime) -> Result<(), Fail> {
     let alloc = rt.alloc();
     let port = TcpListener::bind(&rt, "127.0.0.1:0")?.local_addr()?.port();
+    let notes = Notes::new(&rt, false);
     let mut report = Progress::new(Output::new(Vec::new(alloc)), Some(Vec::new(alloc)));
     let mut errors = Output::new(Vec::new(alloc));
     let found = inventory(
@@ -75,6 +84,8 @@ fn no_reader_at_the_port(rt: HostRuntime) -> Result<(), Fail> {
             host: "127.0.0.1",
             port,
             timeout: None,
+            limit: LIMIT,
+            notes: &notes,
         },
         standard_plan(alloc, 0, 1)?,
         &mut report,
@@ -89,10 +100,13 @@ fn no_reader_at_the_port(rt: HostRuntime) -> Result<(), Fail> {
 fn a_reader_that_says_nothing(rt: HostRuntime) -> Result<(), Fail> {
     let alloc = rt.alloc();
     let listener = TcpListener::bind(&rt, "127.0.0.1:0")?;
+    let notes = Notes::new(&rt, false);
     let target = Target {
         host: "127.0.0.1",
         port: listener.local_addr()?.port(),
         timeout: Some(1),
+        limit: LIMIT,
+        notes: &notes,
     };
     let mut report = Progress::new(Output::new(Vec::new(alloc)), Some(Vec::new(alloc)));
     let mut errors = Output::new(Vec::new(alloc));

@@ -15,6 +15,9 @@ const NO_WORDS: WatchWords<'static> = WatchWords {
     verbose: false,
     seconds: None,
     name: None,
+    power: None,
+    messages: false,
+    access: None,
 };
 
 /// What is made without an option.
@@ -22,6 +25,7 @@ const MADE: MadeRoSpec<'static> = MadeRoSpec {
     id: OWN_ID,
     antennas: ALL_ANTENNAS,
     every: 1,
+    transmitter: None,
 };
 
 #[test]
@@ -31,6 +35,25 @@ fn the_rospec_that_is_made(rt: HostRuntime) {
     if let Some(plan) = plan {
         assert!(rt; plan.rospec().length() == 65 && plan.every() == 1 && plan.adds());
         assert!(rt; !plan.renews());
+    }
+}
+
+#[test]
+fn the_rospec_with_a_power(rt: HostRuntime) {
+    let transmitter = Some(Transmitter {
+        hop_table_id: 1,
+        channel_index: 0,
+        transmit_power: 61,
+    });
+    let made = MadeRoSpec {
+        transmitter,
+        ..MADE
+    };
+    let plan = open_rospec(&rt, rt.alloc(), None, made).ok();
+    assert!(rt; plan.is_some());
+    if let Some(plan) = plan {
+        // AntennaConfiguration of 6 octets with an RFTransmitter of 10.
+        assert!(rt; plan.rospec().length() == 65 + 16);
     }
 }
 

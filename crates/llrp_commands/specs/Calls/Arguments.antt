@@ -1,11 +1,12 @@
 -- The words that the program takes after its name, and the command that they name.
-use Rattle.std.specs.Prelude.{◌≡◌, ◌≢◌, ◌⊎◌, ℕ, pos, ◌≤◌, List, [], ◌∷◌, Option, Some, None, Bool, true, false, codes, option_map, option_and_then}
+use Rattle.std.specs.Prelude.{◌≡◌, ◌≢◌, ◌⊎◌, ◌||◌, ℕ, pos, ◌≤◌, List, [], ◌∷◌, Option, Some, None, Bool, true, false, if◌then◌else◌, unwrap_or, codes, option_map, option_and_then}
+use Rattle.std.specs.Str.{bytes_eq}
 use Rattle.std.specs.Borrow.{Bor}
 use Rattle.std.specs.Str.Parse.{signed_digits_value}
-use Rattle.clap.specs.Words.{App, Rule, Row, Text, new_app, new_rule, with_rule, with_subcommand, subcommand_of, first_of}
+use Rattle.clap.specs.Words.{App, Rule, Row, Text, new_app, new_rule, with_rule, with_subcommand, subcommand_of, first_of, all_of}
 use Rattle.clap.specs.Faults.{fault_of}
 use Rattle.clap.specs.Walk.{is_empty, one_of}
-use Rattle.clap.specs.declared.builder.ArgAction.TheVariants.{SetTrue}
+use Rattle.clap.specs.declared.builder.ArgAction.TheVariants.{Append, SetTrue}
 use Rattle.clap.specs.declared.builder.value_parser.ValueParser.TheVariants.{Signed}
 use Rattle.llrp_tree.specs.declared.TheConstants.{MAX_LIMIT}
 use Rattle.llrp_commands.specs.declared.arguments.NetworkCommand.{NetworkCommand}
@@ -48,6 +49,22 @@ limited_app name = with_rule (with_rule (hex_app name) all_rule) limit_rule
 abbrev pub stream_app : Text → App
 stream_app name = with_rule (limited_app name) json_rule
 
+-- an option with a text
+abbrev pub text_option_rule : Text → Rule
+text_option_rule name = record (new_rule name) { long = Some name; value_names = 1 }
+
+-- show, which has the option --names too
+abbrev pub show_app : App
+show_app = with_rule (stream_app (codes "show")) (text_option_rule (codes "names"))
+
+-- the argument FILE, of which there may be several
+abbrev pub files_rule : Rule
+files_rule = record (new_rule (codes "FILE")) { action = Some Append }
+
+-- a command that reads files
+abbrev pub with_files : App → App
+with_files a = with_rule a files_rule
+
 -- the argument TEXT
 abbrev pub text_rule : Rule
 text_rule = new_rule (codes "TEXT")
@@ -74,10 +91,6 @@ number_rule name = record (new_rule name) { long = Some name; value_names = 1; p
 -- an option with a number from 1 to 65,535
 abbrev pub count_rule : Text → Rule
 count_rule name = record (new_rule name) { long = Some name; value_names = 1; parser = Some (Signed (pos 1) (pos 65535)) }
-
--- an option with a text
-abbrev pub text_option_rule : Text → Rule
-text_option_rule name = record (new_rule name) { long = Some name; value_names = 1 }
 
 -- a command with what test benches ask for
 abbrev pub with_bench : App → App
@@ -123,9 +136,21 @@ with_plan a = with_flags (with_numbers a)
 abbrev pub with_address : App → App
 with_address a = with_rule (with_rule a host_rule) port_rule
 
--- inventory HOST PORT, with a plan and a timeout
+-- the least that the longest message of a client may be bounded by: it adds ROSpecs of so many octets
+abbrev pub least_longest : ℕ
+least_longest = 4096
+
+-- the option --limit of a client, a number from there to the greatest number of octets of a message, and what it is where it is not given
+abbrev pub longest_rule : Text → Rule
+longest_rule default = record (new_rule (codes "limit")) { long = Some (codes "limit"); value_names = 1; parser = Some (Signed (pos least_longest) (pos MAX_LIMIT)); defaults = default ∷ [] }
+
+-- a command with a timeout, the most octets of a message, and a flag for more to be said
+abbrev pub with_hearing : App → App
+with_hearing a = with_rule (with_rule (with_rule a (count_rule (codes "timeout"))) (longest_rule (codes "65536"))) (flag_rule (codes "verbose"))
+
+-- inventory HOST PORT, with a plan and these
 abbrev pub inventory_app : App
-inventory_app = with_rule (with_plan (with_address (new_app (codes "inventory")))) (count_rule (codes "timeout"))
+inventory_app = with_hearing (with_plan (with_address (new_app (codes "inventory"))))
 
 -- loop, with a plan
 abbrev pub loop_app : App
@@ -147,17 +172,9 @@ with_target a = with_rule (with_rule (with_rule a host_rule) (text_option_rule (
 abbrev pub with_lasting : App → App
 with_lasting a = with_rule (with_rule (with_rule (with_rule a (count_rule (codes "every"))) (number_rule (codes "keepalive"))) (count_rule (codes "again"))) (flag_rule (codes "text"))
 
--- the least that the longest message of watch may be bounded by: the client adds ROSpecs of this many octets
-abbrev pub least_longest : ℕ
-least_longest = 4096
-
--- the option --limit of watch, a number from there to the greatest number of octets of a message, which it is where it is not given
-abbrev pub longest_rule : Rule
-longest_rule = record (new_rule (codes "limit")) { long = Some (codes "limit"); value_names = 1; parser = Some (Signed (pos least_longest) (pos MAX_LIMIT)); defaults = codes "1048576" ∷ [] }
-
 -- a command with the antennas of a ROSpec that is made, and the most octets of a message
 abbrev pub with_bounds : App → App
-with_bounds a = with_rule (with_rule a (text_option_rule (codes "antennas"))) longest_rule
+with_bounds a = with_rule (with_rule a (text_option_rule (codes "antennas"))) (longest_rule (codes "1048576"))
 
 -- a command with a file for what the reader sends, and a flag for more to be said
 abbrev pub with_records : App → App
@@ -167,9 +184,13 @@ with_records a = with_rule (with_rule a (text_option_rule (codes "save"))) (flag
 abbrev pub with_end : App → App
 with_end a = with_rule (with_rule a (long_count_rule (codes "for"))) (text_option_rule (codes "name"))
 
+-- a command with the power of a ROSpec that is made
+abbrev pub with_power : App → App
+with_power a = with_rule a (text_option_rule (codes "power"))
+
 -- watch HOST
 abbrev pub watch_app : App
-watch_app = with_end (with_records (with_bounds (with_lasting (with_target (new_app (codes "watch"))))))
+watch_app = with_rule (with_rule (with_power (with_end (with_records (with_bounds (with_lasting (with_target (new_app (codes "watch")))))))) (flag_rule (codes "messages"))) (text_option_rule (codes "access"))
 
 -- stop HOST
 abbrev pub stop_app : App
@@ -189,7 +210,7 @@ top_app = let a = new_app (codes "llrp") in record a { top = record a.top { no_b
 
 -- the program before the commands that it runs itself
 abbrev pub streams_app : App
-streams_app = with_subcommand (with_subcommand (with_subcommand (with_subcommand (with_subcommand top_app (stream_app (codes "show")).top) (stream_app (codes "encode")).top) epc_app.top) fields_app.top) (limited_app (codes "explain")).top
+streams_app = with_subcommand (with_subcommand (with_subcommand (with_subcommand (with_subcommand top_app (with_files show_app).top) (with_files (stream_app (codes "encode"))).top) epc_app.top) fields_app.top) (with_files (limited_app (codes "explain"))).top
 
 -- the program before the commands that last
 abbrev pub runs_app : App
@@ -278,6 +299,19 @@ pub record AsksForInput (words : List Text) : Type 0 where
   pub parsed : parses words ≡ true
   pub named : (name_in (command_in words) ≡ Some (codes "show")) ⊎ (name_in (command_in words) ≡ Some (codes "encode")) ⊎ (name_in (command_in words) ≡ Some (codes "explain"))
 
+-- a command that reads files
+abbrev pub reads_files : Option Text → Bool
+reads_files None = false
+reads_files (Some name) = bytes_eq name (codes "show") || (bytes_eq name (codes "encode") || bytes_eq name (codes "explain"))
+
+-- the words of the argument FILE of such a command, in their order; none where it was not given
+abbrev pub files_in : Option (Text × List Row) → List Text
+files_in found = if reads_files (name_in found) then unwrap_or (option_and_then (λ p. all_of (codes "FILE") p.1) found) [] else []
+
+-- the files that the words ask a command to read; none where they ask for none
+abbrev pub FilesAsked : List Text → List Text → Type 0
+FilesAsked words files = files ≡ (if parses words then files_in (command_in words) else [])
+
 -- The words name a command that the program runs itself.
 pub record AsksElsewhere (words : List Text) : Type 0 where
   pub parsed : parses words ≡ true
@@ -354,6 +388,8 @@ IsWatch found words =
     × HasOptionalText (codes "antennas") found words.antennas × HasNumber (codes "limit") found words.limit
     × HasOptionalText (codes "save") found words.save × IsFlag (flag_in (codes "verbose") found) words.verbose
     × HasOptionalNumber (codes "for") found words.seconds × HasOptionalText (codes "name") found words.name
+    × HasOptionalText (codes "power") found words.power × IsFlag (flag_in (codes "messages") found) words.messages
+    × HasOptionalText (codes "access") found words.access
 
 -- these are those of stop
 abbrev pub IsStop : Option (Text × List Row) → StopWords → Type 0
@@ -366,9 +402,10 @@ IsAsk found words = (word_in (codes "FILE") found ≡ Some words.file.now) × Is
 -- the command that was found is this one, with these arguments
 abbrev pub IsNetwork : Option (Text × List Row) → NetworkCommand → Type 0
 IsNetwork found (Sim words) = (name_in found ≡ Some (codes "sim")) × IsSim found words
-IsNetwork found (Inventory host port plan timeout) =
+IsNetwork found (Inventory host port plan timeout limit verbose) =
     (name_in found ≡ Some (codes "inventory")) × (word_in (codes "HOST") found ≡ Some host.now) × HasNumber (codes "PORT") found port
-    × IsPlan found plan × HasOptionalNumber (codes "timeout") found timeout
+    × IsPlan found plan × HasOptionalNumber (codes "timeout") found timeout × HasNumber (codes "limit") found limit
+    × IsFlag (flag_in (codes "verbose") found) verbose
 IsNetwork found (Loop plan) = (name_in found ≡ Some (codes "loop")) × IsPlan found plan
 IsNetwork found (Watch host words) = (name_in found ≡ Some (codes "watch")) × (word_in (codes "HOST") found ≡ Some host.now) × IsWatch found words
 IsNetwork found (Ask host words) = (name_in found ≡ Some (codes "ask")) × (word_in (codes "HOST") found ≡ Some host.now) × IsAsk found words
@@ -381,6 +418,7 @@ IsLongest limit = (least_longest ≤ limit) × (limit ≤ MAX_LIMIT)
 -- the most octets of a message are bounded so
 abbrev pub IsBounded : NetworkCommand → Type 0
 IsBounded (Watch host words) = IsLongest words.limit
+IsBounded (Inventory host port plan timeout limit verbose) = IsLongest limit
 IsBounded command = Unit {0}
 
 -- The words name this command, which the program runs itself.

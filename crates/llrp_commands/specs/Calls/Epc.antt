@@ -6,6 +6,7 @@ use Rattle.tag_forms.specs.declared.company.Company.{Company}
 use Rattle.tag_forms.specs.declared.company.Company.TheVariants.{Digits, Table}
 use Rattle.tag_forms.specs.declared.form.Form.{Form}
 use Rattle.tag_forms.specs.declared.prefixes.Prefixes.{Prefixes}
+use Rattle.tag_forms.specs.declared.wanted.Wanted.{Wanted}
 use Rattle.tag_forms.specs.declared.wanted.Wanted.TheVariants as wanted
 use Rattle.tag_forms.specs.Forms.{form_name}
 use Rattle.llrp_listing.specs.declared.outcome.ToolErr.{ToolErr}
@@ -32,16 +33,21 @@ some_of (Err error) = Err error
 abbrev pub IsMistaken : SinkLog → SinkLog → Result (Option Verdict) ToolErr → Type 0
 IsMistaken w0 w1 outcome = (outcome ≡ Ok None) × (w1 ≡ w0)
 
+-- what is wanted in a form: its text, or with --json an object with it
+abbrev pub wanted_in : Bool → Form → Wanted
+wanted_in false to = wanted.Text to
+wanted_in true to = wanted.Member to
+
 -- a text was answered in the form with this name, if there is one
-abbrev pub DoesFormOf : Text → Text → ℕ → Company → SinkLog → SinkLog → Result (Option Verdict) ToolErr → Type 0
-DoesFormOf text name filter company w0 w1 outcome =
-    ((to : Form) × (v : Result Verdict ToolErr) × (name ≡ form_name to) × Prints (AreAnswersOf (wanted.Text to) filter company text) w0 w1 v × (outcome ≡ some_of v))
+abbrev pub DoesFormOf : Text → Text → Bool → ℕ → Company → SinkLog → SinkLog → Result (Option Verdict) ToolErr → Type 0
+DoesFormOf text name json filter company w0 w1 outcome =
+    ((to : Form) × (v : Result Verdict ToolErr) × (name ≡ form_name to) × Prints (AreAnswersOf (wanted_in json to) filter company text) w0 w1 v × (outcome ≡ some_of v))
     ⊎ (((to : Form) → name ≡ form_name to → ⊥) × IsMistaken w0 w1 outcome)
 
 -- the same of a list of texts
-abbrev pub DoesListIn : Text → ℕ → Company → SourceLog → SourceLog → SinkLog → SinkLog → Result (Option Verdict) ToolErr → Type 0
-DoesListIn name filter company r0 r1 w0 w1 outcome =
-    ((to : Form) × (v : Result Verdict ToolErr) × (name ≡ form_name to) × AnswersList (wanted.Text to) filter company r0 r1 w0 w1 v × (outcome ≡ some_of v))
+abbrev pub DoesListIn : Text → Bool → ℕ → Company → SourceLog → SourceLog → SinkLog → SinkLog → Result (Option Verdict) ToolErr → Type 0
+DoesListIn name json filter company r0 r1 w0 w1 outcome =
+    ((to : Form) × (v : Result Verdict ToolErr) × (name ≡ form_name to) × AnswersList (wanted_in json to) filter company r0 r1 w0 w1 v × (outcome ≡ some_of v))
     ⊎ (((to : Form) → name ≡ form_name to → ⊥) × (r1 ≡ r0) × IsMistaken w0 w1 outcome)
 
 -- What epc did, by its text, --forms, --list, --json, the form, what is known of company prefixes, and the filter value, which is 0 where it is not given. Only a list is read.
@@ -49,8 +55,8 @@ abbrev pub DoesEpc : Option Text → Bool → Bool → Bool → Option Text → 
 DoesEpc (Some text) false false false None (Digits None) None r0 r1 w0 w1 outcome = (v : Result Verdict ToolErr) × (r1 ≡ r0) × PrintsEpc text w0 w1 v × (outcome ≡ some_of v)
 DoesEpc (Some text) true false false None company filter r0 r1 w0 w1 outcome = (v : Result Verdict ToolErr) × (r1 ≡ r0) × Prints (AreFormsOf (unwrap_or filter 0) company text) w0 w1 v × (outcome ≡ some_of v)
 DoesEpc (Some text) true false true None company filter r0 r1 w0 w1 outcome = (v : Result Verdict ToolErr) × (r1 ≡ r0) × Prints (AreAnswersOf wanted.Object (unwrap_or filter 0) company text) w0 w1 v × (outcome ≡ some_of v)
-DoesEpc (Some text) false false false (Some name) company filter r0 r1 w0 w1 outcome = (r1 ≡ r0) × DoesFormOf text name (unwrap_or filter 0) company w0 w1 outcome
-DoesEpc None false true false (Some name) company filter r0 r1 w0 w1 outcome = DoesListIn name (unwrap_or filter 0) company r0 r1 w0 w1 outcome
+DoesEpc (Some text) false false json (Some name) company filter r0 r1 w0 w1 outcome = (r1 ≡ r0) × DoesFormOf text name json (unwrap_or filter 0) company w0 w1 outcome
+DoesEpc None false true json (Some name) company filter r0 r1 w0 w1 outcome = DoesListIn name json (unwrap_or filter 0) company r0 r1 w0 w1 outcome
 DoesEpc None false true true None company filter r0 r1 w0 w1 outcome = (v : Result Verdict ToolErr) × AnswersList wanted.Object (unwrap_or filter 0) company r0 r1 w0 w1 v × (outcome ≡ some_of v)
 DoesEpc text forms list json to company filter r0 r1 w0 w1 outcome = (r1 ≡ r0) × IsMistaken w0 w1 outcome
 

@@ -6,7 +6,7 @@ use Rattle.llrp_tree.specs.declared.TheConstants.{MAX_LIMIT}
 use Rattle.llrp_commands.specs.declared.arguments.Request.{Request}
 use Rattle.llrp_commands.specs.declared.arguments.epc_words.EpcWords.{EpcWords}
 use Rattle.llrp_commands.specs.declared.arguments.Request.TheVariants.{Show, Encode, Epc, Fields, Explain, Network, Help, Usage}
-use Rattle.llrp_commands.specs.Calls.Arguments.{all_in, json_in, name_in, hex_in, flag_in, HasNumber, HasOptionalNumber, HasOptionalText, IsBounded, IsFlag, IsNetwork}
+use Rattle.llrp_commands.specs.Calls.Arguments.{all_in, json_in, name_in, hex_in, flag_in, files_in, HasNumber, HasOptionalNumber, HasOptionalText, IsBounded, IsFlag, IsNetwork}
 
 -- the flag is this one, if it says what a flag may say
 abbrev pub HasFlag : Option Text → Bool → Type 0
@@ -28,7 +28,7 @@ IsEpc found words =
 
 -- the limit of what is requested, where it has one, is such a limit, that of watch one of a client, and what texts do not say is as above
 abbrev pub HasLimit : Request → Type 0
-HasLimit (Show hex all json limit) = IsLimit limit
+HasLimit (Show hex all json names limit) = IsLimit limit
 HasLimit (Encode hex all json limit) = IsLimit limit
 HasLimit (Epc words) = IsUnsaid words
 HasLimit (Fields all name) = Unit {0}
@@ -37,10 +37,14 @@ HasLimit (Network command) = IsBounded command
 HasLimit (Help text) = Unit {0}
 HasLimit (Usage text) = Unit {0}
 
+-- the files are those of the command that was found
+abbrev pub IsFiles : Option (Text × List Row) → List Text → Type 0
+IsFiles found files = files ≡ files_in found
+
 -- what is requested is the command found, with its arguments
 abbrev pub IsRequest : Option (Text × List Row) → Request → Type 0
-IsRequest found (Show hex all json limit) =
-    (name_in found ≡ Some (codes "show")) × HasFlag (hex_in found) hex × HasFlag (all_in found) all × HasFlag (json_in found) json × HasNumber (codes "limit") found limit
+IsRequest found (Show hex all json names limit) =
+    (name_in found ≡ Some (codes "show")) × HasFlag (hex_in found) hex × HasFlag (all_in found) all × HasFlag (json_in found) json × HasNumber (codes "limit") found limit × HasOptionalText (codes "names") found names
 IsRequest found (Encode hex all json limit) =
     (name_in found ≡ Some (codes "encode")) × HasFlag (hex_in found) hex × HasFlag (all_in found) all × HasFlag (json_in found) json × HasNumber (codes "limit") found limit
 IsRequest found (Epc words) = (name_in found ≡ Some (codes "epc")) × IsEpc found words

@@ -54,7 +54,7 @@ abbrev pub HasWatch : List Row → Type 0
 HasWatch rows =
     MayHaveLongCount (codes "id") rows × MayHaveNumberWord (codes "every") rows × MayHaveNumberWord (codes "keepalive") rows × MayHaveNumberWord (codes "again") rows
     × HasFlagWord (codes "text") rows × HasNumberIn least_longest MAX_LIMIT (codes "limit") rows
-    × HasFlagWord (codes "verbose") rows × MayHaveLongCount (codes "for") rows
+    × HasFlagWord (codes "verbose") rows × MayHaveLongCount (codes "for") rows × HasFlagWord (codes "messages") rows
 
 -- the numbers of stop may be there
 abbrev pub HasStop : List Row → Type 0
@@ -76,7 +76,8 @@ HasSim rows = HasNumberWord (codes "PORT") rows × HasFlagWord (codes "all") row
 abbrev pub IsNetworkParse : Text → List Row → Type 0
 IsNetworkParse name rows =
     ((name ≡ codes "sim") × HasSim rows)
-    ⊎ ((name ≡ codes "inventory") × HasWord (codes "HOST") rows × HasNumberWord (codes "PORT") rows × HasPlan rows × MayHaveNumberWord (codes "timeout") rows)
+    ⊎ ((name ≡ codes "inventory") × HasWord (codes "HOST") rows × HasNumberWord (codes "PORT") rows × HasPlan rows × MayHaveNumberWord (codes "timeout") rows
+    × HasNumberIn least_longest MAX_LIMIT (codes "limit") rows × HasFlagWord (codes "verbose") rows)
     ⊎ ((name ≡ codes "loop") × HasPlan rows)
     ⊎ ((name ≡ codes "watch") × HasWord (codes "HOST") rows × HasWatch rows)
     ⊎ ((name ≡ codes "stop") × HasWord (codes "HOST") rows × HasStop rows)

@@ -3,14 +3,14 @@
 ghost use Rattle.std.specs.Prelude.{◌≡◌, IfOk, codes, false};
 ghost use Rattle.clap.specs.Words.{App, app_of, rule_of, with_rule, with_subcommand};
 ghost use Rattle.clap.specs.declared.builder.command.Command.TheViews.{out-Command};
-ghost use Rattle.llrp_commands.specs.Calls.Arguments.{all_rule, count_rule, flag_rule, hex_app, inventory_app, json_rule, limit_rule, limited_app, llrp_app, loop_app, number_rule, port_rule, runs_app, stream_app, streams_app, text_option_rule, top_app, with_address, with_flags, with_numbers, with_plan};
+ghost use Rattle.llrp_commands.specs.Calls.Arguments.{all_rule, count_rule, files_rule, flag_rule, hex_app, inventory_app, json_rule, limit_rule, limited_app, llrp_app, loop_app, number_rule, port_rule, runs_app, show_app, stream_app, streams_app, text_option_rule, top_app, with_address, with_files, with_flags, with_hearing, with_numbers, with_plan};
 
 use crate::arguments::ask_commands::ask_command;
 use crate::arguments::epc_commands::epc_command;
 use crate::arguments::fields_command::fields_command;
 use crate::arguments::help::{ENCODE_HELP, EXPLAIN_HELP, INVENTORY_HELP, LOOP_HELP, SHOW_HELP};
 use crate::arguments::sim_commands::sim_command;
-use crate::arguments::watch_commands::{stop_command, watch_command};
+use crate::arguments::watch_commands::{longest_option, stop_command, watch_command};
 use clap::{Arg, ArgAction, Command, value_parser};
 use llrp_tree::MAX_LIMIT;
 use std::alloc::{AllocError, Global};
@@ -105,6 +105,17 @@ fn stream_command<'a>(
 {
     let command = limited_command(alloc, name, about, flag, help);
     with_argument(command, json_flag(alloc, form))
+}
+
+/// The argument FILE, of which there may be several.
+fn files_argument<'a>(alloc: Global) -> Arg<'a>
+    ensures rule { rule_of result ≡ files_rule }
+    ensures local { result.global ≡ false }
+{
+    let files = "The files to read; without one, and for -, standard input";
+    Arg::new(alloc, "FILE")
+        .action(ArgAction::Append)
+        .help(files)
 }
 
 /// The argument PORT, from 1 to 65,535, which is required.
@@ -274,46 +285,68 @@ fn with_address<'a>(alloc: Global, command: Command<'a>) -> Result<Command<'a>, 
 
 /// The command `show`.
 fn show_command<'a>(alloc: Global) -> Result<Command<'a>, AllocError>
-    ensures app { IfOk result (λ c. app_of c ≡ stream_app (codes "show")) }
+    ensures app { IfOk result (λ c. app_of c ≡ with_files show_app) }
     ensures local { IfOk result (λ c. (out-Command c).has_globals ≡ false) }
 {
-    stream_command(
+    let names = "The names of fields with --json: those of the profile, or of the standard";
+    let command = stream_command(
         alloc,
         "show",
         "List the messages of a stream of bytes",
         "Read hexadecimal digits in place of bytes",
         "Write lines of JSON in place of the listing",
         SHOW_HELP,
-    )
+    );
+    let named = with_argument(command, text_option(alloc, "names", "SET", names));
+    with_argument(named, files_argument(alloc))
 }
 
 /// The command `encode`.
 fn encode_command<'a>(alloc: Global) -> Result<Command<'a>, AllocError>
-    ensures app { IfOk result (λ c. app_of c ≡ stream_app (codes "encode")) }
+    ensures app { IfOk result (λ c. app_of c ≡ with_files (stream_app (codes "encode"))) }
     ensures local { IfOk result (λ c. (out-Command c).has_globals ≡ false) }
 {
-    stream_command(
+    let command = stream_command(
         alloc,
         "encode",
         "Write the bytes of a listing of messages",
         "Write hexadecimal digits in place of bytes",
         "Read lines of JSON in place of a listing",
         ENCODE_HELP,
-    )
+    );
+    with_argument(command, files_argument(alloc))
 }
 
 /// The command `explain`.
 fn explain_command<'a>(alloc: Global) -> Result<Command<'a>, AllocError>
-    ensures app { IfOk result (λ c. app_of c ≡ limited_app (codes "explain")) }
+    ensures app { IfOk result (λ c. app_of c ≡ with_files (limited_app (codes "explain"))) }
     ensures local { IfOk result (λ c. (out-Command c).has_globals ≡ false) }
 {
-    limited_command(
+    let command = limited_command(
         alloc,
         "explain",
         "Print each field of the messages of a stream, bit by bit",
         "Read hexadecimal digits in place of bytes",
         EXPLAIN_HELP,
-    )
+    );
+    with_argument(command, files_argument(alloc))
+}
+
+/// Adds a timeout, the most octets of a message, and the flag for more to be said, to the command.
+fn with_hearing<'a>(
+    alloc: Global,
+    command: Result<Command<'a>, AllocError>,
+) -> Result<Command<'a>, AllocError>
+    ensures app { (a : App) → IfOk command.entry (λ c. app_of c ≡ a)
+        → IfOk result (λ c. app_of c ≡ with_hearing a) }
+    ensures local { IfOk command.entry (λ c. (out-Command c).has_globals ≡ false)
+        → IfOk result (λ c. (out-Command c).has_globals ≡ false) }
+{
+    let timeout = "How long the reader may be silent; without it, for ever";
+    let verbose = "Say more on standard error: what was refused, strange or passed over";
+    let with_timeout = with_argument(command, count_option(alloc, "timeout", "SECONDS", timeout));
+    let with_limit = with_argument(with_timeout, longest_option(alloc, "65536"));
+    with_argument(with_limit, plan_flag(alloc, "verbose", verbose))
 }
 
 /// The command `inventory`.
@@ -324,9 +357,7 @@ fn inventory_command<'a>(alloc: Global) -> Result<Command<'a>, AllocError>
     let command = Command::new(alloc, "inventory")
         .about("Print the tags that a reader sees")
         .after_help(INVENTORY_HELP);
-    let planned = with_plan(alloc, with_address(alloc, command));
-    let timeout = "How long the reader may be silent; without it, for ever";
-    with_argument(planned, count_option(alloc, "timeout", "SECONDS", timeout))
+    with_hearing(alloc, with_plan(alloc, with_address(alloc, command)))
 }
 
 /// The command `loop`.

@@ -2,7 +2,8 @@
 
 /// The help of `show`.
 pub(crate) const SHOW_HELP: &str = "\
-Reads a stream of LLRP messages on standard input, and prints its listing on standard output:
+Reads a stream of LLRP messages on standard input, or each FILE as a stream by itself, and prints its
+listing on standard output:
   0 NAME VERSION ID FIELDS   a message
   LEVEL NAME FIELDS TAIL     a parameter, one level below its parent
   ! ID BIT REASON            a frame that is not a message: its id, its first fault and the fault's bit
@@ -12,7 +13,9 @@ docs/errors.md explains each REASON. A frame of more octets than --limit is a fa
 1,048,576, and so are parameters nested more than 16 levels deep. So is a message or parameter that
 docs/tables.md leaves out of its set; with --all they are those of the whole standard. The status
 is 0 if all frames are messages and the last one is whole, and 1 if not. With --json each frame is one
-line of JSON in place of its lines, as docs/json.md says.
+line of JSON in place of its lines, as docs/json.md says; with --names standard its fields have the
+names that they have with --all, and with --names profile, or without it, those of their own set.
+Of several files the greatest status counts; that of a file that cannot be read is 3.
 
 Example:
   $ echo 083E0000000A00000007 | llrp show --hex
@@ -22,12 +25,13 @@ Example:
 
 /// The help of `encode`.
 pub(crate) const ENCODE_HELP: &str = "\
-Reads a listing on standard input, a line 0 NAME VERSION ID for each message, and writes the bytes of
-the messages on standard output. A line that is refused ends the command with status 1, and is named
-on standard error with the reason, which docs/errors.md explains; so is a message of more octets than
---limit, where N is 10 to 1,048,576, or a parameter more than 16 levels deep. The names are those of
-the set of docs/tables.md, or with --all those of the whole standard. With --json it reads lines as
-show --json writes them, with the members of an object in any order; docs/json.md has the reasons.
+Reads a listing on standard input, or each FILE as a listing by itself, a line 0 NAME VERSION ID for
+each message, and writes the bytes of the messages on standard output. A line that is refused ends its
+listing with status 1, and is named on standard error with the reason, which docs/errors.md explains;
+so is a message of more octets than --limit, where N is 10 to 1,048,576, or a parameter more than
+16 levels deep. The names are those of the set of docs/tables.md, or with --all those of the whole
+standard. With --json it reads lines as show --json writes them, with the members of an object in any
+order; docs/json.md has the reasons. Of several files the greatest status counts, as for show.
 
 Example:
   $ echo 0 KEEPALIVE 2 7 | llrp encode --hex
@@ -50,7 +54,8 @@ forms. A pure identity URI and a key do not say the filter value, and a key not 
 company prefix has, so that no key is read without --prefix-digits or --prefixes. FILE has lines START
 LENGTH, which say that company prefixes that begin with START have LENGTH digits; the longest START that
 fits counts. With --list there is a line for each line of standard input, and the status is 1 if one of
-them is ! REASON. With --json, beside --forms or --list, a line is an object with a member for each form.
+them is ! REASON. With --json, beside --forms or --list, a line is an object with a member for each form,
+and beside --to with that of the form.
 
 Examples:
   $ llrp epc 3074257BF7194E4000001A85
@@ -76,7 +81,7 @@ Example:
 
 /// The help of `explain`.
 pub(crate) const EXPLAIN_HELP: &str = "\
-Reads a stream of LLRP messages on standard input, to its end, and prints for each frame
+Reads a stream of LLRP messages on standard input, or each FILE, to its end, and prints of each frame
   frame N, OCTETS octets
   BIT WIDTH LEVEL FIELD VALUE
 and a line for each field of its message in the order of the frame's bits, reserved ones, heads and
@@ -108,7 +113,8 @@ Reads a script of what the reader's antennas see on standard input, to its end. 
   AFTER NOW tick                     time goes on to NOW
 
 With --all it also answers GET_READER_CAPABILITIES, GET_READER_CONFIG and GET_SUPPORTED_VERSION, with
-which general clients begin. A script does not count these.
+which general clients begin, and DELETE_ACCESSSPEC, ENABLE_ACCESSSPEC, DISABLE_ACCESSSPEC and
+GET_ACCESSSPECS, as a reader that has no AccessSpecs. A script does not count these.
 
 With --clients N it serves N clients one after another, each as a new reader by the script from its
 beginning; the exit status is the greatest of theirs. With --ready the line

@@ -40,6 +40,6 @@ pub(super) fn sim_command<'a>(alloc: Global) -> Result<Command<'a>, AllocError>
         .about("Serve clients as a simulated reader, by a script")
         .after_help(SIM_HELP)
         .arg(port_argument(alloc, "The port to listen on"));
-    let all = "Answer three requests outside the set besides";
+    let all = "Answer requests of general clients outside the set besides";
     with_bench(alloc, with_argument(command, all_flag(alloc, all)))
 }

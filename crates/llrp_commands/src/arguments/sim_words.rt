@@ -13,7 +13,7 @@ use clap::ArgMatches;
 pub struct SimWords<'a> {
     /// The port to listen on.
     pub port: u16,
-    /// Whether three requests outside the profile are answered.
+    /// Whether requests of general clients outside the profile are answered.
     pub all: bool,
     /// The address to listen on.
     pub bind: Option<&'a str>,

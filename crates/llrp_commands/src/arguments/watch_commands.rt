@@ -3,7 +3,7 @@
 ghost use Rattle.std.specs.Prelude.{◌≡◌, IfOk, false};
 ghost use Rattle.clap.specs.Words.{App, app_of, rule_of};
 ghost use Rattle.clap.specs.declared.builder.command.Command.TheViews.{out-Command};
-ghost use Rattle.llrp_commands.specs.Calls.Arguments.{host_rule, long_count_rule, longest_rule, stop_app, watch_app, with_bounds, with_end, with_lasting, with_records, with_target};
+ghost use Rattle.llrp_commands.specs.Calls.Arguments.{host_rule, long_count_rule, longest_rule, stop_app, watch_app, with_bounds, with_end, with_lasting, with_power, with_records, with_target};
 
 use super::commands::{count_option, number_option, plan_flag, text_option, with_argument};
 use super::watch_help::{STOP_HELP, WATCH_HELP};
@@ -33,17 +33,16 @@ fn long_count_option<'a>(alloc: Global, name: &'a str, value: &'a str, help: &'a
         .help(help)
 }
 
-/// The option --limit of `watch`: from what its client needs to the greatest number of octets of a
-/// message.
-fn longest_option<'a>(alloc: Global) -> Arg<'a>
-    ensures rule { rule_of result ≡ longest_rule }
+/// The option --limit of a client: from what it needs to the greatest number of octets of a message.
+pub(super) fn longest_option<'a>(alloc: Global, default: &'a str) -> Arg<'a>
+    ensures rule { rule_of result ≡ longest_rule default.entry.now }
     ensures local { result.global ≡ false }
 {
     Arg::new(alloc, "limit")
         .long("limit")
         .value_name("N")
         .value_parser(value_parser!(u32).range(4096..=MAX_LIMIT as i64))
-        .default_value("1048576")
+        .default_value(default)
         .help("The most octets that a message may have")
 }
 
@@ -101,7 +100,7 @@ fn with_bounds<'a>(
     let antennas = "The antennas of its ROSpec, as 1,2; without it all";
     let chosen = text_option(alloc, "antennas", "LIST", antennas);
     let with_antennas = with_argument(command, chosen);
-    with_argument(with_antennas, longest_option(alloc))
+    with_argument(with_antennas, longest_option(alloc, "1048576"))
 }
 
 /// Adds the file for what the reader sends, and the flag for more to be said, to the command.
@@ -138,6 +137,20 @@ fn with_end<'a>(
     with_argument(with_seconds, text_option(alloc, "name", "TEXT", name))
 }
 
+/// Adds the power of a ROSpec that is made to the command.
+fn with_power<'a>(
+    alloc: Global,
+    command: Result<Command<'a>, AllocError>,
+) -> Result<Command<'a>, AllocError>
+    ensures app { (a : App) → IfOk command.entry (λ c. app_of c ≡ a)
+        → IfOk result (λ c. app_of c ≡ with_power a) }
+    ensures local { IfOk command.entry (λ c. (out-Command c).has_globals ≡ false)
+        → IfOk result (λ c. (out-Command c).has_globals ≡ false) }
+{
+    let power = "The most power of its ROSpec, in dBm, as 25.5; without it the reader's own";
+    with_argument(command, text_option(alloc, "power", "DBM", power))
+}
+
 /// The command `watch`.
 pub(super) fn watch_command<'a>(alloc: Global) -> Result<Command<'a>, AllocError>
     ensures app { IfOk result (λ c. app_of c ≡ watch_app) }
@@ -148,7 +161,12 @@ pub(super) fn watch_command<'a>(alloc: Global) -> Result<Command<'a>, AllocError
         .after_help(WATCH_HELP);
     let targeted = with_target(alloc, Ok(command));
     let lasting = with_bounds(alloc, with_lasting(alloc, targeted));
-    with_end(alloc, with_records(alloc, lasting))
+    let ending = with_end(alloc, with_records(alloc, lasting));
+    let powered = with_power(alloc, ending);
+    let messages = "Print each message of the reader as a line of JSON, in place of tags";
+    let with_messages = with_argument(powered, plan_flag(alloc, "messages", messages));
+    let access = "Send the messages on AccessSpecs of this file too";
+    with_argument(with_messages, text_option(alloc, "access", "FILE", access))
 }
 
 /// The command `stop`.

@@ -8,13 +8,24 @@ host's time at which its report was read, and with the TEXT of --name, if that i
   {\"at\":\"2026-01-31T23:59:59.123456Z\",\"reader\":TEXT,\"epc\":..
 With --text the lines are
   TEXT ANTENNA RSSI TIME   a tag, as inventory prints it, and that time
+With --messages they are not of tags: each message of the reader, and the fault of each frame that is no
+message, is a line as show --json --all prints it with the same --limit. It cannot be given with --text.
 The reader may send every message and parameter of LLRP 1.1, as makers' Custom ones; what docs/tables.md
 leaves out of its set is left out.
 
 It first deletes the reader's ROSpec with the id of its own, so that what an earlier run left does not
 hinder it; other ROSpecs stay as they are. The ROSpec is that of FILE, as for inventory, so that --every,
---id and --antennas cannot be given. Without FILE it is one with the antennas of LIST and the id N, which
-says of each tag its antenna, channel, strength, first and last time, and how often it was seen.
+--id, --antennas and --power cannot be given. Without FILE it is one with the antennas of LIST and the id
+N, which says of each tag its antenna, channel, strength, first and last time, and how often it was seen.
+
+With --power the reader is first asked for its capabilities, and the ROSpec takes the greatest power of
+its table that is not above DBM, a number with at most two decimals; write a negative one as --power=-1.
+If the table has none that low, the run ends with the line llrp: power least N, of the least that it has,
+and status 1.
+
+With --access the messages on AccessSpecs that its FILE lists, as show --all prints them, are sent besides:
+those that delete one AccessSpec before each DELETE_ROSPEC, and all others before ENABLE_ROSPEC. If the
+reader refuses to add, enable or disable one, the run ends with the line llrp: status N and status 1.
 
 The reader is asked for a KEEPALIVE every so often. If it sends nothing for three times as long, the run
 ends with the line llrp: read and status 3; if it takes nothing for as long, with llrp: write and status

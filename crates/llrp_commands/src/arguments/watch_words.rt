@@ -37,6 +37,12 @@ pub struct WatchWords<'a> {
     pub seconds: Option<u32>,
     /// The reader's name, which each object of JSON has.
     pub name: Option<&'a str>,
+    /// The most power of the ROSpec that is made, in dBm, as it was written.
+    pub power: Option<&'a str>,
+    /// Whether the reader's messages are printed, in place of tags.
+    pub messages: bool,
+    /// The path of the file with messages on AccessSpecs.
+    pub access: Option<&'a str>,
 }
 
 /// What the words say of a ROSpec that is to be deleted.
@@ -70,7 +76,7 @@ fn optional_long_count(inner: &ArgMatches<'_>, id: &str) -> Option<u32>
 }
 
 /// The most octets of a message, which the parse has checked.
-fn longest(inner: &ArgMatches<'_>) -> u32
+pub(super) fn longest(inner: &ArgMatches<'_>) -> u32
     requires { HasNumberIn least_longest MAX_LIMIT (codes "limit") (rows_of (found_of inner.now)) }
     ensures number { (name : List ℕ) → HasNumber (codes "limit")
         (Some (name, rows_of (found_of inner.now))) result }
@@ -98,6 +104,9 @@ pub(super) fn watch_words<'a>(inner: &ArgMatches<'a>) -> WatchWords<'a>
         verbose: inner.get_flag("verbose"),
         seconds: optional_long_count(inner, "for"),
         name: optional_text(inner, "name"),
+        power: optional_text(inner, "power"),
+        messages: inner.get_flag("messages"),
+        access: optional_text(inner, "access"),
     }
 }
 

@@ -1,6 +1,8 @@
-use Rattle.std.proofs.Common.{rules, ◌≡◌, ap, codes, Some}
+use Rattle.std.proofs.Common.{◌∙◌, rules, ◌≡◌, ap, codes, Some}
 use Rattle.clap.specs.Words.{Text, found_of, rows_of}
-use Rattle.llrp_commands.proofs.ArgumentLemmas.{ask_there, inventory_there, plan_there, sim_there, stop_there, watch_there}
+use Rattle.clap.proofs.WalkLemmas.{one_text-rows}
+use Rattle.llrp_commands.proofs.ArgumentLemmas.{ask_there, inventory_there, plan_there, reads_flag, sim_there, stop_there, watch_there}
+use Rattle.llrp_commands.proofs.CommandLemmas.{has_flag}
 use Rattle.llrp_commands.proofs.arguments.network_named.Goals as goal
 
 pub returns-then-eq-clause-command : goal.returns-then-eq-clause-command
@@ -96,10 +98,22 @@ returns-clause-command c =
     let no_stop : c.args.name.now ≡ codes "stop" → ⊥ = search rules in
     let no_ask : c.args.name.now ≡ codes "ask" → ⊥ = search rules in
     let no_loop : c.args.name.now ≡ codes "loop" → ⊥ = search rules in
-    let there = inventory_there c.args.name.now (rows_of (found_of c.args.inner.now)) c.requires no_sim no_watch no_stop no_ask no_loop in (
+    let there = inventory_there c.args.name.now (rows_of (found_of c.args.inner.now)) c.requires no_sim no_watch no_stop no_ask no_loop in
+    let verbose = one_text-rows (found_of c.args.inner.now) (codes "verbose") in (
       ap (λ (n : Text). Some n) there.0,
       c.host-2.ensures c.args.name.now,
       c.number.ensures c.args.name.now,
       c.plan_words-plan.ensures c.args.name.now,
       c.optional_number.ensures c.args.name.now,
+      c.longest.ensures.number c.args.name.now,
+      reads_flag _ c.get_flag.result (has_flag _ c.get_flag.result (λ h. c.get_flag.ensures.none (verbose ∙ h)) (λ h. c.get_flag.ensures.value (verbose ∙ h)) (λ h. c.get_flag.ensures.other (verbose ∙ h))) there.4,
     )
+
+pub longest-requires : goal.longest-requires
+longest-requires c =
+    let no_sim : c.args.name.now ≡ codes "sim" → ⊥ = search rules in
+    let no_watch : c.args.name.now ≡ codes "watch" → ⊥ = search rules in
+    let no_stop : c.args.name.now ≡ codes "stop" → ⊥ = search rules in
+    let no_ask : c.args.name.now ≡ codes "ask" → ⊥ = search rules in
+    let no_loop : c.args.name.now ≡ codes "loop" → ⊥ = search rules in
+    (inventory_there c.args.name.now (rows_of (found_of c.args.inner.now)) c.requires no_sim no_watch no_stop no_ask no_loop).3

@@ -26,6 +26,7 @@ returns-then-eq-2-clause-request c =
       has_flag _ c.get_flag-then-eq-2.result (λ h. c.get_flag-then-eq-2.ensures.none (kinds ∙ h)) (λ h. c.get_flag-then-eq-2.ensures.value (kinds ∙ h)) (λ h. c.get_flag-then-eq-2.ensures.other (kinds ∙ h)),
       has_flag _ c.get_flag-then-eq-2-2.result (λ h. c.get_flag-then-eq-2-2.ensures.none (form ∙ h)) (λ h. c.get_flag-then-eq-2-2.ensures.value (form ∙ h)) (λ h. c.get_flag-then-eq-2-2.ensures.other (form ∙ h)),
       c.limit.ensures.number c.args.name.now,
+      c.optional_text.ensures c.args.name.now,
     )
 
 pub returns-then-eq-3-clause-request : goal.returns-then-eq-3-clause-request
@@ -66,7 +67,7 @@ returns-then-eq-4-clause-request c =
     let named : c.args.name.now ≡ codes "fields" = search rules in (
       ap (λ (n : Text). Some n) named,
       has_flag _ c.get_flag-then-eq-4.result (λ h. c.get_flag-then-eq-4.ensures.none (kinds ∙ h)) (λ h. c.get_flag-then-eq-4.ensures.value (kinds ∙ h)) (λ h. c.get_flag-then-eq-4.ensures.other (kinds ∙ h)),
-      c.optional_text.ensures c.args.name.now,
+      c.optional_text-then-eq-4.ensures c.args.name.now,
     )
 
 pub returns-then-eq-5-clause-request : goal.returns-then-eq-5-clause-request

@@ -6,12 +6,12 @@ use Rattle.llrp_commands.proofs.command.run_command.Goals as goal
 pub returns-in-Network-clause-elsewhere : goal.returns-in-Network-clause-elsewhere
 returns-in-Network-clause-elsewhere g c asked = inr (refl, refl, refl, refl)
 
-pub returns-in-None-clause-options : goal.returns-in-None-clause-options
-returns-in-None-clause-options g c = λ text to forms list json count filter asks.
+pub returns-in-None-prefixes-clause-options : goal.returns-in-None-prefixes-clause-options
+returns-in-None-prefixes-clause-options g c = λ text to forms list json count filter asks.
     ran_with (map g.S.AsStr.text c.args.words.now) c.in-Epc.words text to forms list json count filter None _ _ _ _ _ _ _ (rw c.in-Epc.is at (c.in_ok-hex.ensures.named asks.parsed)).1 asks (inr (c.epc-outcome.result, c.epc-outcome.ensures, c.answer_epc.ensures))
 
-pub returns-in-None-clause-epc : goal.returns-in-None-clause-epc
-returns-in-None-clause-epc g c = λ text asks.
+pub returns-in-None-prefixes-clause-epc : goal.returns-in-None-prefixes-clause-epc
+returns-in-None-prefixes-clause-epc g c = λ text asks.
     ran_plain text _ _ _ _ _ _ _
     (ran_with (map g.S.AsStr.text c.args.words.now) c.in-Epc.words (Some text) None false false false None None None _ _ _ _ _ _ _ (rw c.in-Epc.is at (c.in_ok-hex.ensures.named asks.parsed)).1 asks (inr (c.epc-outcome.result, c.epc-outcome.ensures, c.answer_epc.ensures)))
 

@@ -8,7 +8,8 @@ use Rattle.llrp_commands.proofs.arguments.watch_words.watch_words.Goals as goal
 pub returns-clause-words : goal.returns-clause-words
 returns-clause-words c = λ name.
     let text = one_text-rows (found_of c.args.inner.now) (codes "text") in
-    let verbose = one_text-rows (found_of c.args.inner.now) (codes "verbose") in (
+    let verbose = one_text-rows (found_of c.args.inner.now) (codes "verbose") in
+    let messages = one_text-rows (found_of c.args.inner.now) (codes "messages") in (
       c.optional_text.ensures name,
       c.optional_long_count.ensures name,
       c.optional_number.ensures name,
@@ -21,4 +22,7 @@ returns-clause-words c = λ name.
       reads_flag _ c.get_flag-2.result (has_flag _ c.get_flag-2.result (λ h. c.get_flag-2.ensures.none (verbose ∙ h)) (λ h. c.get_flag-2.ensures.value (verbose ∙ h)) (λ h. c.get_flag-2.ensures.other (verbose ∙ h))) c.requires.6,
       c.optional_long_count-2.ensures name,
       c.optional_text-4.ensures name,
+      c.optional_text-5.ensures name,
+      reads_flag _ c.get_flag-3.result (has_flag _ c.get_flag-3.result (λ h. c.get_flag-3.ensures.none (messages ∙ h)) (λ h. c.get_flag-3.ensures.value (messages ∙ h)) (λ h. c.get_flag-3.ensures.other (messages ∙ h))) c.requires.8,
+      c.optional_text-6.ensures name,
     )

@@ -1,0 +1,13 @@
+use Rattle.std.proofs.Common.{◌≡◌, ap, ◌∙◌, codes}
+use Rattle.clap.specs.Words.{Rule, app_of, with_rule}
+use Rattle.std.proofs.lemmas.Result.{IfOk-weaker}
+use Rattle.llrp_commands.specs.Calls.Arguments.{limited_app, with_files}
+use Rattle.llrp_commands.proofs.arguments.commands.explain_command.Goals as goal
+
+pub returns-clause-app : goal.returns-clause-app
+returns-clause-app c =
+    let formed = c.with_argument.ensures.app (limited_app (codes "explain")) c.limited_command-command.ensures.app c.files_argument.ensures.local in
+    IfOk-weaker c.with_argument.result _ (λ r. app_of r ≡ with_files (limited_app (codes "explain"))) (λ r h. h ∙ ap (λ (rule : Rule). with_rule (limited_app (codes "explain")) rule) c.files_argument.ensures.rule) formed
+
+pub returns-clause-local : goal.returns-clause-local
+returns-clause-local c = c.with_argument.ensures.local c.limited_command-command.ensures.local c.files_argument.ensures.local
