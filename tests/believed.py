@@ -31,16 +31,20 @@ PROMISES = {
     "4 frames": "llrp_tree::decode_frame llrp_tree::decode_frame_in llrp_tree::encode_into llrp_tree::laws::frames_apart",
     "5 show": "llrp_listing::run_show llrp_listing::run_show_in llrp_json::run_show_json llrp_stream::laws::one_listing",
     "6 encode": "llrp_listing::run_encode llrp_listing::run_encode_in llrp_listing::laws::prints_back llrp_json_read::run_encode_json"
-                " llrp_json_read::laws::one_message llrp_json_read::laws::refused_says_none",
+                " llrp_json_read::laws::one_message llrp_json_read::laws::refused_says_none"
+                " llrp_json_read::laws::prints_back",
     "7 decoder": "llrp_stream::Decoder::new llrp_stream::Decoder::new_in llrp_stream::Decoder::feed llrp_stream::Decoder::finish"
                  " llrp_stream::laws::pieces_are_the_stream llrp_stream::Decoder::held/weight/within/raw",
     "8 both ends": "llrp_endpoints::run_serve llrp_endpoints::run_inventory llrp_endpoints::run_loop",
     "9 agreement": "llrp_endpoints::laws::ends_agree",
     "10 C": "llrp_c::llrp_text_of_word llrp_c::llrp_word_of_text llrp_c::llrp_list llrp_c::llrp_encode llrp_c::llrp_list_all"
-            " llrp_c::llrp_encode_all llrp_c::llrp_list_json llrp_c::llrp_list_json_all llrp_c::llrp_frame_length llrp_c::llrp_name",
+            " llrp_c::llrp_encode_all llrp_c::llrp_list_json llrp_c::llrp_list_json_all llrp_c::llrp_encode_json llrp_c::llrp_encode_json_all llrp_c::llrp_frame_length llrp_c::llrp_name"
+            " llrp_c::llrp_next llrp_c::llrp_next_all llrp_c::llrp_next_json llrp_c::llrp_next_json_all llrp_c::llrp_tags",
     KEYS: "tag_keys::print_id tag_keys::parse_id tag_keys::print_key tag_keys::parse_key tag_keys::digits_from_company"
                " tag_keys::laws::one_check_digit"
                " tag_keys::laws::slips_are_refused tag_keys::laws::one_id_uri tag_keys::laws::one_key_text tag_keys::laws::one_fault"
+               " tag_schemes::numbers_of tag_schemes::word_of tag_schemes::print_further tag_schemes::text_in_all tag_schemes::word_in_all"
+               " tag_schemes::laws::sets_are_apart tag_schemes::laws::one_further_epc tag_schemes::laws::one_text_in_all"
                " tag_forms::text_in tag_forms::word_in tag_forms::form_of tag_forms::push_answer tag_forms::push_forms"
                " tag_forms::push_object_answer tag_forms::push_wanted tag_forms::Company::digits_of"
                " tag_forms::TextList::take tag_forms::TextList::end tag_forms::Prefixes::add tag_forms::Prefixes::company_digits"
@@ -55,7 +59,8 @@ BESIDES = {
                    " llrp_endpoints::checked_plan llrp_endpoints::Plan::parse llrp_endpoints::Plan::of llrp_endpoints::Plan::cleaning"
                    " llrp_endpoints::Plan::renewing llrp_endpoints::Plan::removing llrp_endpoints::Plan::saying"
                    " llrp_endpoints::Plan::keeping llrp_endpoints::Plan::awaiting llrp_endpoints::Plan::in_form llrp_endpoints::Plan::in_set"
-                   " llrp_endpoints::Plan::passing_over llrp_endpoints::run_watching llrp_endpoints::Watcher::turn llrp_endpoints::marked_lines",
+                   " llrp_endpoints::Plan::passing_over llrp_endpoints::run_watching llrp_endpoints::Watcher::turn llrp_endpoints::marked_lines"
+                   " llrp_endpoints::TagLister::new llrp_endpoints::TagLister::feed llrp_json::push_parameters",
 }
 
 # From the words of a command to the calls of the promises, and to their exit statuses and error lines.
@@ -68,7 +73,8 @@ COMMANDS = {
 
 # What a caller only hands from one call to the next, a relation and a value that no believed definition looks into: a constructor gives
 # one, and the other calls ask for it. Whatever it says, their contracts say the same of the octets, so what it is made of is not believed.
-HANDED_ON = {("llrp_stream", "Decoding", "Stands"), ("llrp_stream", "Decoding", "StandsIn"), ("llrp_stream", "Progress", "Progress")}
+HANDED_ON = {("llrp_stream", "Decoding", "Stands"), ("llrp_stream", "Decoding", "StandsIn"), ("llrp_stream", "Progress", "Progress"),
+             ("llrp_endpoints", "TagListing", "HasTags")}
 
 
 def contract_of(tree, name):

@@ -12,8 +12,15 @@ static uint32_t (*const list)(const uint8_t *, size_t, uint8_t *, size_t, size_t
 static uint32_t (*const list_all)(const uint8_t *, size_t, uint8_t *, size_t, size_t *, size_t *) = llrp_list_all;
 static uint32_t (*const list_json)(const uint8_t *, size_t, uint8_t *, size_t, size_t *, size_t *) = llrp_list_json;
 static uint32_t (*const list_json_all)(const uint8_t *, size_t, uint8_t *, size_t, size_t *, size_t *) = llrp_list_json_all;
+static uint32_t (*const next)(const uint8_t *, size_t, uint8_t *, size_t, size_t *, size_t *) = llrp_next;
+static uint32_t (*const next_all)(const uint8_t *, size_t, uint8_t *, size_t, size_t *, size_t *) = llrp_next_all;
+static uint32_t (*const next_json)(const uint8_t *, size_t, uint8_t *, size_t, size_t *, size_t *) = llrp_next_json;
+static uint32_t (*const next_json_all)(const uint8_t *, size_t, uint8_t *, size_t, size_t *, size_t *) = llrp_next_json_all;
+static uint32_t (*const tags)(const uint8_t *, size_t, struct llrp_tag *, size_t, size_t *) = llrp_tags;
 static uint32_t (*const encode)(const uint8_t *, size_t, uint8_t *, size_t, size_t *, uint64_t *) = llrp_encode;
 static uint32_t (*const encode_all)(const uint8_t *, size_t, uint8_t *, size_t, size_t *, uint64_t *) = llrp_encode_all;
+static uint32_t (*const encode_json)(const uint8_t *, size_t, uint8_t *, size_t, size_t *, uint64_t *, uint8_t *, size_t, size_t *) = llrp_encode_json;
+static uint32_t (*const encode_json_all)(const uint8_t *, size_t, uint8_t *, size_t, size_t *, uint64_t *, uint8_t *, size_t, size_t *) = llrp_encode_json_all;
 static uint32_t (*const forms)(const uint8_t *, size_t, uint8_t *, size_t, size_t *) = llrp_forms;
 static uint32_t (*const word_of_key)(const uint8_t *, size_t, uint32_t, uint32_t, uint8_t *, size_t, uint32_t *) = llrp_word_of_key;
 static size_t (*const name_of)(uint32_t, uint8_t *, size_t) = llrp_name;
@@ -37,6 +44,16 @@ static const char REQUEST_LISTING[] = "0 GET_READER_CAPABILITIES 2 7 0\n";
 static const char LINES[] = "{\"message\":\"KEEPALIVE\",\"version\":2,\"id\":7}\n{\"message\":\"KEEPALIVE\",\"version\":2,\"id\":8}\n";
 static const char FAULT_LINE[] = "{\"fault\":\"MessageType\",\"id\":7,\"bit\":6}\n";
 static const char REQUEST_LINE[] = "{\"message\":\"GET_READER_CAPABILITIES\",\"version\":2,\"id\":7,\"RequestedData\":0}\n";
+/* A report of a tag of which all is said that a struct llrp_tag has, with a custom parameter, and of one of which only an EPCData of
+ * eight bits is. */
+static const uint8_t REPORT[] = {4, 61, 0, 0, 0, 70, 0, 0, 0, 1,
+                                 0, 240, 0, 49, 0x8D, 0x30, 0x74, 0x25, 0x7B, 0xF7, 0x19, 0x4E, 0x40, 0, 0, 0x1A, 0x85, 0x81, 0, 2,
+                                 0x86, 0xC4, 0x82, 0, 5, 0xAF, 0x31, 7, 0xA4, 0, 0, 0x88, 0xFF, 0xFE,
+                                 3, 255, 0, 15, 0, 0, 0x65, 0x1A, 0, 0, 0, 1, 1, 2, 3,
+                                 0, 240, 0, 11, 0, 241, 0, 7, 0, 8, 0xAB};
+/* Lines of which the second has a member that a KEEPALIVE does not have, its name, and room for more of a path. */
+static const char WRONG_LINES[] = "{\"id\":7,\"version\":2,\"message\":\"KEEPALIVE\"}\n{\"message\":\"KEEPALIVE\",\"version\":2,\"id\":8,\"Seen\":1}\n";
+static uint8_t path[8] = "........";
 enum { TEXT_LENGTH = sizeof TEXT - 1, LISTING_LENGTH = sizeof LISTING - 1, REQUEST_LENGTH = sizeof REQUEST_LISTING - 1, FRAMES_LENGTH = 20, FORMS_LENGTH = sizeof FORMS - 1, KEY_LENGTH = sizeof KEY - 1, UNTOUCHED = 0xA5 };
 
 static int passed, failed;
@@ -139,6 +156,72 @@ static void check_json(void) {
     check("lines of JSON of all", status == LLRP_OK && used == sizeof REQUEST && holds(REQUEST_LINE, sizeof REQUEST_LINE - 1));
 }
 
+/* The first frame and its end are the parts of what list says of both. */
+static void check_next(void) {
+    const size_t first = strchr(LISTING, '\n') - LISTING + 1, first_line = strchr(LINES, '\n') - LINES + 1;
+    const uint8_t broken[] = {8, 0x3E, 0, 0, 0, 9, 0, 0, 0, 7, 8};
+    size_t used = 99, written = 99;
+    uint32_t status = next(STREAM, sizeof STREAM, out, first, &used, &written);
+    check("next", status == LLRP_OK && used == 10 && written == first && holds(LISTING, first));
+    status = next(STREAM, sizeof STREAM, out, first - 1, &used, &written);
+    check("next, too little room", status == LLRP_ROOM && used == 0 && written == first && holds("", 0));
+    status = next(STREAM, 9, out, sizeof out, &used, &written);
+    check("next of nine octets", status == LLRP_MORE && used == 0 && written == 0 && holds("", 0));
+    status = next(STREAM + FRAMES_LENGTH, 1, out, sizeof out, &used, &written);
+    check("next of one octet", status == LLRP_MORE && used == 0 && written == 0 && holds("", 0));
+    status = next(broken, sizeof broken, out, sizeof out, &used, &written);
+    check("next of a break", status == LLRP_BROKEN && used == sizeof broken && written == 9 && holds("! BROKEN\n", 9));
+    status = next(REQUEST, sizeof REQUEST, out, sizeof out, &used, &written);
+    check("next, another message", status == LLRP_FAULTY && used == sizeof REQUEST && holds(FAULT, sizeof FAULT - 1));
+    status = next_all(REQUEST, sizeof REQUEST, out, sizeof out, &used, &written);
+    check("next of all", status == LLRP_OK && used == sizeof REQUEST && holds(REQUEST_LISTING, REQUEST_LENGTH));
+    status = next_json(STREAM, sizeof STREAM, out, sizeof out, &used, &written);
+    check("next in JSON", status == LLRP_OK && used == 10 && written == first_line && holds(LINES, first_line));
+    status = next_json_all(REQUEST, sizeof REQUEST, out, sizeof out, &used, &written);
+    check("next of all in JSON", status == LLRP_OK && used == sizeof REQUEST && holds(REQUEST_LINE, sizeof REQUEST_LINE - 1));
+}
+
+/* Whether two structs of a tag say the same. */
+static int same_tag(const struct llrp_tag *a, const struct llrp_tag *b) {
+    return a->has == b->has && a->first_seen == b->first_seen && a->antenna == b->antenna && a->count == b->count && a->rssi == b->rssi
+        && a->text_length == b->text_length && memcmp(a->word, b->word, sizeof a->word) == 0 && memcmp(a->text, b->text, sizeof a->text) == 0;
+}
+
+static void check_reports(void) {
+    const struct llrp_tag none = {0}, before = {9, 9, 9, 9, 9, 9, {9}, {9}};
+    struct llrp_tag seen = {1600000000000000, 31, 2, 65534, -60, TEXT_LENGTH, {0}, {0}}, room[3] = {before, before, before};
+    size_t written = 99;
+    memcpy(seen.word, WORD, sizeof WORD);
+    memcpy(seen.text, TEXT, TEXT_LENGTH);
+    check("tags, too little room", tags(REPORT, sizeof REPORT, room, 1, &written) == LLRP_ROOM && written == 2 && same_tag(room, &before));
+    check("tags of less than a frame", tags(REPORT, sizeof REPORT - 1, room, 3, &written) == LLRP_LENGTH && written == 0 && same_tag(room, &before));
+    check("tags of more than a frame", tags(STREAM, FRAMES_LENGTH, room, 3, &written) == LLRP_LENGTH && written == 0 && same_tag(room, &before));
+    const uint8_t faulty[] = {8, 0x3E, 0, 0, 0, 11, 0, 0, 0, 7, 0};
+    check("tags of a fault", tags(faulty, sizeof faulty, room, 3, &written) == LLRP_FAULTY && written == 0 && same_tag(room, &before));
+    check("tags of another message", tags(REQUEST, sizeof REQUEST, room, 3, &written) == LLRP_OK && written == 0 && same_tag(room, &before));
+    check("tags", tags(REPORT, sizeof REPORT, room, 3, &written) == LLRP_OK && written == 2 && same_tag(room, &seen));
+    check("a tag of another length", same_tag(room + 1, &none));
+    check("the room after the tags", same_tag(room + 2, &before));
+    check("the bits of a tag", LLRP_TAG_WORD + LLRP_TAG_ANTENNA + LLRP_TAG_RSSI + LLRP_TAG_FIRST_SEEN + LLRP_TAG_COUNT == 31);
+}
+
+static void check_octets_of_json(void) {
+    size_t written = 99, length = 99;
+    uint64_t line = 99;
+    uint32_t status = encode_json(octets_of(LINES), sizeof LINES - 1, out, FRAMES_LENGTH, &written, &line, path, sizeof path, &length);
+    check("octets of JSON", status == LLRP_OK && written == FRAMES_LENGTH && line == 0 && length == 0 && holds(STREAM, FRAMES_LENGTH));
+    status = encode_json(octets_of(LINES), sizeof LINES - 1, out, FRAMES_LENGTH - 1, &written, &line, path, sizeof path, &length);
+    check("octets of JSON, too little room", status == LLRP_ROOM && written == FRAMES_LENGTH && line == 0 && length == 0 && holds("", 0));
+    status = encode_json(octets_of(WRONG_LINES), sizeof WRONG_LINES - 1, out, sizeof out, &written, &line, path, 3, &length);
+    check("a path, too little room", status == LLRP_JSON_UNKNOWN && line == 2 && length == 4 && memcmp(path, "........", 8) == 0 && holds("", 0));
+    status = encode_json(octets_of(WRONG_LINES), sizeof WRONG_LINES - 1, out, sizeof out, &written, &line, path, 4, &length);
+    check("a member that is refused", status == LLRP_JSON_UNKNOWN && written == 0 && line == 2 && length == 4 && memcmp(path, "Seen....", 8) == 0 && holds("", 0));
+    status = encode_json(octets_of(REQUEST_LINE), sizeof REQUEST_LINE - 1, out, sizeof out, &written, &line, path, sizeof path, &length);
+    check("JSON of another message", status == LLRP_NAME && line == 1 && length == 7 && memcmp(path, "message.", 8) == 0 && holds("", 0));
+    status = encode_json_all(octets_of(REQUEST_LINE), sizeof REQUEST_LINE - 2, out, sizeof out, &written, &line, path, sizeof path, &length);
+    check("octets of JSON of all", status == LLRP_OK && written == sizeof REQUEST && line == 0 && length == 0 && holds(REQUEST, sizeof REQUEST));
+}
+
 int main(void) {
     clear();
     check_tags();
@@ -146,6 +229,9 @@ int main(void) {
     check_streams();
     check_all();
     check_json();
+    check_next();
+    check_reports();
+    check_octets_of_json();
     printf("%d passed, %d failed\n", passed, failed);
     return failed > 0;
 }

@@ -200,7 +200,7 @@ def are_read(kinds, what, out, listing):
 
 def are_lines(program, options, what, stream, listing, ends):
     """Yields whether the lines of a stream are those of its listing, and whether they are read."""
-    kinds = WHOLE if "--all" in options else PROFILE
+    kinds = WHOLE if "--all" in options or "standard" in options else PROFILE
     status, out = run(program, ["--json", *options], stream)
     wanted = "".join(line + "\n" for line in lines_of(kinds, listing))
     yield f"{what}: {out[:1000]} in place of {wanted[:1000].encode()}", out == wanted.encode()
@@ -233,6 +233,26 @@ def case_results(program):
             wanted = lines_of(WHOLE, "\n".join(case.listing))[0]
             yield f"{case.what}: {line[:1000]} in place of {wanted[:1000]}", line == wanted
         yield from are_read(WHOLE, f"frames from {at} on", out, listing)
+
+
+def name_results(program):
+    """Lines under the names of the standard: those of vectors, and of each row's frames, a message of the profile has the line of --all."""
+    for it in vectors():
+        yield from are_lines(program, ["--names", "standard"], f"vector {it.name}, standard names", it.stream, it.listing, status_of(it.listing))
+        for options, others in ((["--names", "profile"], []), (["--all", "--names", "standard"], ["--all"]), (["--all", "--names", "profile"], ["--all"])):
+            same = run(program, ["--json", *options], it.stream) == run(program, ["--json", *others], it.stream)
+            yield f"vector {it.name}: {options} in place of {others}", same
+    cases = [*lawful_cases(), *damaged_cases()]
+    for at in range(0, len(cases), MOST_FRAMES):
+        part = cases[at : at + MOST_FRAMES]
+        stream = b"".join(case.frame for case in part)
+        own, named = (run(program, ["--json", *options], stream)[1].decode().split("\n")[:-1] for options in ([], ["--names", "standard"]))
+        wanted = [line if line.startswith('{"fault"') else lines_of(WHOLE, "\n".join(case.listing))[0] for case, line in zip(part, own)]
+        yield f"frames from {at} on, standard names", len(named) == len(part) and named == wanted
+    frame = bytes.fromhex("083E0000000A00000007")
+    for options in (["--names", "standard"], ["--json", "--names", "whole"], ["--json", "--names", ""], ["--names", "profile", "--all"]):
+        status, out = run(program, options, frame)
+        yield f"{options}: {status}", status[0] == 2 and b"--json --names standard" in status[1] and out == b""
 
 
 def error_message(text):
@@ -315,6 +335,7 @@ def results(program):
     """Yields what was compared, and whether it is right."""
     yield from length_results(program)
     yield from vector_results(program)
+    yield from name_results(program)
     yield from text_results(program)
     yield from limit_results(program)
     yield from end_results(program)

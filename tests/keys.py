@@ -1,6 +1,6 @@
 #!/usr/bin/env python3
 """Compares the keys that `epc --list` makes of random tag URIs with what Debian's python3-stdnum finds in them: their check digits, and the
-values of their element strings. Each key is also read back to the word of its tag URI.
+values of their element strings. Each key is also read back to the word of its tag URI, and some are answered as objects of JSON.
 
 usage: tests/keys.py [PROGRAM]
 
@@ -16,7 +16,9 @@ from parts.repository import program_given
 
 # How many tags of each scheme are compared, and how many cases there are.
 EACH = 300
-LEAST = 6 * EACH * 3
+# How many of them are answered as objects of JSON, for each length of the company prefix.
+OBJECTS = 3
+LEAST = 6 * EACH * 3 + 6 * 7 * OBJECTS * 2
 # The digits of company prefix and reference together, the digits of the reference that come first in the key, the application identifier and
 # what comes before the key, and that of the serial number, by schemes (TDS 1.13, sections 7 and 14).
 SCHEMES = {
@@ -76,6 +78,20 @@ def words_of(program, tags, elements, company_digits):
     return [words[int(tag.split(":")[4][0]), element] for (tag, _, _), element in zip(tags, elements)]
 
 
+def objects(program, company_digits, elements, told):
+    """Yields whether the first element strings are answered as objects of JSON with their one form, and with the right digit where the check
+    digit is another."""
+    options = ("--to", "element", "--json", "--prefix-digits", str(company_digits))
+    scheme = next(start for _, _, start, _ in SCHEMES.values() if elements[0].startswith(start))
+    count = next(digits for digits, _, start, _ in SCHEMES.values() if start == scheme)
+    for element, (digit, _) in list(zip(elements, told))[:OBJECTS]:
+        at = len(scheme) + count
+        wrong = element[:at] + str((int(digit) + 1) % 10) + element[at + 1 :]
+        right, refused = (json.loads(line) for line in answers(program, [element, wrong], *options))
+        yield f"the object of {element}: {right}", right == {"element": element}
+        yield f"the object of {wrong}: {refused}", refused == {"refused": "Check", "right": digit}
+
+
 def checks(program):
     """Yields whether each key is the one that its tag URI and the judge say, and is read back."""
     for scheme, (_, _, start, mark) in SCHEMES.items():
@@ -91,6 +107,7 @@ def checks(program):
                 values = {start[1:3]: front + digit, **({"21": number} if number else {})}
                 yield f"the values of {element}: {told}", not told or told == values
                 yield f"the word of {element}", word == back
+            yield from objects(program, company_digits, elements, judged(asked))
 
 
 if __name__ == "__main__":

@@ -7,6 +7,7 @@ usage: tests/library.py
 
 It needs cc, c++, ar, nm and objcopy beside the toolchain's command rt. The last line is `N passed, M failed`; the status is 1 if something failed.
 """
+import dataclasses
 import json
 import os
 import re
@@ -31,13 +32,14 @@ HEADER = "include/llrp.h"
 # How many frames are listed by one call.
 FRAMES_AT_ONCE = 4000
 # How many cases there are: the functions of the header, the rows of the tests' tables, and what is compared of each.
-LEAST = 696
+LEAST = 930
 # How the header writes a parameter of the library's source, without `alloc`, which the toolchain passes.
 IN_C = {
     "&[u8]": "const uint8_t *{0}, size_t {0}_length",
     "&mut usize": "size_t *{0}",
     "&mut u32": "uint32_t *{0}",
     "&mut u64": "uint64_t *{0}",
+    "&mut [Tag]": "struct llrp_tag *{0}, size_t {0}_room",
     "u32": "uint32_t {0}",
 }
 RESULTS = {"u32": "uint32_t", "usize": "size_t"}
@@ -71,7 +73,7 @@ def declarations():
 def checks_of_calls(folder):
     """Yields whether the header declares what the source has, and whether each function answers through it."""
     declared = declarations()
-    yield "twelve functions", len(declared) == 12
+    yield "nineteen functions", len(declared) == 19
     table = text_of("docs/library.md").split("| Function | What it does |")[1].split("\n\n")[0]
     rows = re.findall(r"(?m)^\| (`[^|]*`) \|", table)
     named = sorted(re.findall(r"llrp_\w+", "".join(rows)))
@@ -82,7 +84,7 @@ def checks_of_calls(folder):
     found = re.findall(r"(?m)^\w+ llrp_\w+\(.*\);$", text_of(HEADER))
     yield "the header's declarations", sorted(found) == sorted(declared)
     status, out, err = run(build(folder, "tests/calls.c"))
-    yield f"calls through the header: {out}{err}", (status, out, err) == (0, "31 passed, 0 failed\n", "")
+    yield f"calls through the header: {out}{err}", (status, out, err) == (0, "55 passed, 0 failed\n", "")
 
 
 def checks_of_manual(folder):
@@ -143,7 +145,13 @@ class Stub:
     def without_memory(self, *_):
         return _library.MEMORY
 
-    llrp_word_of_text = llrp_list_all = llrp_list_json_all = llrp_encode_all = without_memory
+    def llrp_encode_json(self, _lines, _length, room, length, written, line, path, path_length, path_written):
+        path_written._obj.value = 300
+        if path_length == 300:
+            path.raw, line._obj.value = b"a" * 300, self.LINE
+        return 97
+
+    llrp_word_of_text = llrp_list_all = llrp_list_json_all = llrp_encode_all = llrp_encode_json_all = without_memory
 
 
 def runs_out_of_memory(call, *arguments, **how):
@@ -162,14 +170,15 @@ def checks_of_binding(llrp):
     real, llrp.library = llrp.library, Stub()
     yield "more room for a listing", llrp.list(b"\x08") == (Stub.LISTING.decode(), 10, True)
     yield "a line above 2^32", refused(llrp.encode, "") == ("", Stub.LINE)
-    for call, argument in ((llrp.list, b""), (llrp.messages, b""), (llrp.encode, "")):
+    yield "more room for a path", refused(llrp.pack, []) == ("", Stub.LINE)
+    for call, argument in ((llrp.list, b""), (llrp.messages, b""), (llrp.encode, ""), (llrp.pack, [])):
         yield f"{call.__name__} without memory", runs_out_of_memory(call, argument, all=True)
     yield "word_of_text without memory", runs_out_of_memory(llrp.word_of_text, "")
     llrp.library = real
     for name, status in (("OK", 0), ("FAULTY", 1), ("BROKEN", 2), ("ROOM", 3), ("MEMORY", 7), ("HEADER", 16), ("ZEROS", 20)):
         is_right = getattr(_library, name) == status and re.search(rf"(?m)^    LLRP_{name} = {status},", text_of(HEADER))
         yield f"the package's {name}", is_right is not None
-    for name in ("WORD_OCTETS", "TEXT_ROOM", "NAME_ROOM", "MOST_OCTETS"):
+    for name in ("WORD_OCTETS", "TEXT_ROOM", "NAME_ROOM", "MOST_OCTETS", "TAG_WORD", "TAG_ANTENNA", "TAG_RSSI", "TAG_FIRST_SEEN", "TAG_COUNT"):
         yield f"the package's {name}", f"#define LLRP_{name} {getattr(_library, name)}\n" in text_of(HEADER)
 
 
@@ -183,6 +192,7 @@ def checks_of_whole(llrp):
         objects = [json.loads(line) for line in json_lines.lines_of(json_lines.WHOLE, listing)]
         yield f"frames from {at} on: messages", llrp.messages(stream, all=True) == (objects, len(stream))
         yield f"frames from {at} on: octets", llrp.encode(listing, all=True) == stream
+        yield f"frames from {at} on: octets of messages", llrp.pack(objects, all=True) == stream
     custom = bytes.fromhex("0BFF0000001000000007 0000651A 25AA")
     yield "a CUSTOM_MESSAGE in the profile", llrp.list(custom) == ("! 7 6 MessageType\n", len(custom), False)
     yield "its object in the profile", llrp.messages(custom) == ([{"fault": "MessageType", "id": 7, "bit": 6}], len(custom))
@@ -217,12 +227,12 @@ def counts_of_rows():
 def checks_of_header(llrp):
     """Yields whether the header's constants are the definitions' codes, and whether their names are those of docs/errors.md."""
     named = dict(re.findall(r"(?m)^    LLRP_([A-Z0-9_]+) = (\d+)", text_of(HEADER)))
-    rows = re.findall(r"(?m)^(word|uri|node|key|\w*)_?code(?:_of)? (?:\w+\.)?(\w+) = (\d+)$", text_of("crates/llrp_c/specs/Status.antt"))
-    codes = {(f"{kind}_" if kind in ("node", "key") else "") + name: code for kind, name, code in rows}
+    rows = re.findall(r"(?m)^(word|uri|node|key|json|\w*)_?code(?:_of)? (?:\w+\.)?(\w+) = (\d+)$", text_of("crates/llrp_c/specs/Status.antt"))
+    codes = {(f"{kind}_" if kind in ("node", "key", "json") else "") + name: code for kind, name, code in rows}
     spelled = {re.sub(r"(?<=[a-z])(?=[A-Z])", "_", name).upper().replace("DONE", "OK"): code for name, code in codes.items()}
     yield "the header has each code", spelled == named
     for name, code in named.items():
-        words = re.sub("^(NODE|KEY)_", "", name).title().replace("_", "")
+        words = re.sub("^(NODE|KEY|JSON)_", "", name).title().replace("_", "")
         yield f"name of {name}", llrp.name(int(code)) == (f"Node {words}" if name.startswith("NODE_") else words)
     yield "no other status has a name", [code for code in range(256) if llrp.name(code)] == sorted(map(int, named.values()))
 
@@ -278,6 +288,7 @@ def checks_of_streams(llrp, program):
         yield f"{name}: length", broken or llrp.frame_length(stream) == (int.from_bytes(stream[2:6], "big") if len(stream) >= 6 else 0)
         if lawful and not rest:
             yield f"{name}: octets", llrp.encode(listing) == stream
+            yield f"{name}: octets of messages", llrp.pack(llrp.messages(stream)[0]) == stream
         yield f"C: {name}", run(program, given=stream) == (0 if lawful and not rest else 1, listing, "")
 
 
@@ -295,6 +306,51 @@ def checks_of_refusals(llrp):
     yield "a break", refused(llrp.frame_length, bytes.fromhex("083E0000000900000007")) == ("Broken", 0)
     yield "many frames", llrp.list(bytes.fromhex("083E0000000A00000007") * 3000)[1:] == (30000, True)
     yield "octets in a larger room", llrp.encode("0 KEEPALIVE 2 7\n" * 3000) == bytes.fromhex("083E0000000A00000007") * 3000
+
+
+def lawful_messages():
+    """Yields the frame and the listing of each message of the tests' tables whose stream has nothing else."""
+    rows = [(it.frame, [line + "\n" for line in it.listing]) for it in lawful_cases()]
+    rows += [(stream, listing.splitlines(keepends=True)) for _, stream, listing in vectors() if not re.search("(?m)^[!?]", listing)]
+    for stream, lines in rows:
+        starts = [at for at, line in enumerate(lines) if line.startswith("0 ")]
+        for first, end in zip(starts, [*starts[1:], len(lines)]):
+            length = int.from_bytes(stream[2:6], "big")
+            yield stream[:length], lines[first:end]
+            stream = stream[length:]
+
+
+def tags_of_listing(lines):
+    """Yields what the listing of a message says of each tag, by the words of its lines: all but the word."""
+    for report in re.findall(r"(?m)^1 TagReportData\n((?:[2-9] .*\n)*)", "".join(lines)):
+        said = dict(re.findall(r"(?m)^2 (\S+) (.*)$", report))
+        numbers = (int(said[name]) if name in said else None for name in ("AntennaID", "PeakRSSI", "FirstSeenTimestampUTC", "TagSeenCount"))
+        yield (said.get("EPC-96"), *numbers)
+
+
+def line_of_tag(text, antenna, rssi, *_):
+    """Returns how the example in C prints a tag."""
+    words = (text or "-", f" antenna {antenna}" if antenna is not None else "", f" {rssi} dBm" if rssi is not None else "")
+    return "".join(words) + "\n"
+
+
+def checks_of_reports(llrp, folder):
+    """Yields whether the tags of messages are those that their listings have, and whether the example in C prints them."""
+    program, stream, lines = build(folder, "examples/c/seen.c"), b"", []
+    for frame, listing in lawful_messages():
+        wanted, found = list(tags_of_listing(listing)), llrp.tags(frame)
+        stream, lines = stream + frame, lines + [line_of_tag(*it) for it in wanted]
+        if wanted or found:
+            words = [it.word in frame if it.text else it.word is None for it in found]
+            yield f"tags of {listing}", [dataclasses.astuple(it)[1:] for it in found] == wanted and all(words)
+    yield "messages have tags", len(lines) > 20
+    yield "C: tags of a stream", run(program, given=stream) == (0, "".join(lines), "")
+    yield "C: tags of a stream that is cut", run(program, given=stream + bytes(5)) == (1, "".join(lines), "")
+    fault, broken = bytes.fromhex("083E0000000B0000000700"), bytes.fromhex("083E0000000900000007")
+    yield "C: tags after a fault", run(program, given=fault + stream) == (1, "".join(["! 7 80 Extra\n", *lines]), "")
+    yield "C: tags before a break", run(program, given=stream + broken + stream) == (1, "".join([*lines, "! BROKEN\n"]), "")
+    for octets, name in ((frame[:-1], "Length"), (frame + bytes(1), "Length"), (b"", "Length"), (fault, "Faulty")):
+        yield f"tags of what is {name}", refused(llrp.tags, octets) == (name, 0)
 
 
 def checks_of_example(folder):
@@ -320,6 +376,7 @@ def checks_of_capture(llrp, program):
         yield f"capture, {first}", lawful and used == len(stream) and listing.startswith(first + "\n")
         yield f"C: capture, {first}", run(program, given=stream) == (0, listing, "")
         yield f"capture and back, {first}", llrp.encode(listing) == stream
+        yield f"capture and back by JSON, {first}", llrp.pack(llrp.messages(stream)[0]) == stream
 
 
 def checks_of_documents(folder):
@@ -373,6 +430,7 @@ def main():
             *checks_of_binding(llrp),
             *checks_of_whole(llrp),
             *checks_of_capture(llrp, program),
+            *checks_of_reports(llrp, folder),
             *checks_of_example(folder),
             *checks_of_documents(folder),
         ]

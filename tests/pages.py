@@ -82,7 +82,7 @@ def block_after(page, words):
 
 def checks_of_blocks(program):
     """Yields whether the blocks without a command have what the program answers, and what the file has."""
-    shown = block_after("docs/sim.md", "the same whatever part is asked for:").replace("\n\n", "\n")
+    shown = block_after("docs/sim.md", "each the same\nwhatever part is asked for:").replace("\n\n", "\n")
     yield "docs/sim.md: the answers of sim --all", shown == "".join(answered_by_sim(program))
     with general_reader(program) as port:
         script = block_after("docs/client.md", "HOST is the reader's address:").replace("/dev/tcp/HOST/5084", f"/dev/tcp/127.0.0.1/{port}")
@@ -92,6 +92,8 @@ def checks_of_blocks(program):
     yield "docs/client.md: the powers of a reader", done.stdout.splitlines() == wanted != []
     rospec = block_after("docs/client.md", "`examples/two_antennas.rospec` is one")
     yield "docs/client.md: examples/two_antennas.rospec", rospec == text_of("examples/two_antennas.rospec")
+    access = block_after("docs/client.md", "`examples/tid.access` reads")
+    yield "docs/client.md: examples/tid.access", access == text_of("examples/tid.access")
 
 
 def checks_of_json(program):

@@ -60,7 +60,7 @@ INSTALLED = {
 }
 EXAMPLES = (
     "c/tags.c inventory.pcap inventory.script keepalive.hex python/async_client.py python/client.py report.hex report.txt requests.txt rospec.txt"
-    " seen.awk shift.txt sightings.script two_antennas.rospec"
+    " seen.awk shift.txt sightings.script tid.access two_antennas.rospec"
 )
 INSTALLED |= {f"share/doc/llrp/examples/{it}": f"examples/{it}" for it in EXAMPLES.split()}
 # What install.sh writes itself: what pkg-config says, and the unit with the program's path.
@@ -132,6 +132,16 @@ def checks_of_llrp(program, folder):
     for words in ([program], ["./llrp"], [link]):
         yield f"{words} --version", run(*words, "--version") == (0, f"llrp {version()}\n", "")
     yield "./llrp passes its words and its status on", run("./llrp", "epc", "x")[:2] == run(program, "epc", "x")[:2] == (1, "! Start\n")
+
+
+def crates_of(last):
+    """Returns a crate of crates.txt, and all of that file's that it stands on."""
+    rows = dict(re.findall(r"(?m)^(\w+)[^:#\n]*:(.*)$", text_of("crates.txt")))
+    found, left = set(), [last]
+    while left:
+        found.add(crate := left.pop())
+        left += [it for it in rows[crate].split() if it in rows and it not in found]
+    return found
 
 
 def copy_of_sources(folder, name):
@@ -238,11 +248,12 @@ def goes_on(process):
 def checks_of_build(folder):
     """Yields whether build.py and ./llrp prove and build where the program is missing or a source is newer, and only there."""
     copy, proves, refuses = copy_of_sources(folder, "built"), Toolchain(folder, PROVES.format(LINKS)), Toolchain(folder, REFUSES)
+    crates = crates_of("llrp")
     found, out, err = run("./build.py", cwd=copy, PATH=proves.path)
-    yield "./build.py, proved", (found, out) == (0, "") and bool(re.search(r"proved crate \d+ of 19: tag_bits", err))
-    calls = re.fullmatch("(\\w+ lib --jobs [1-3]\n){18}llrp run --jobs [1-4] -- --help", "\n".join(proves.calls()))
+    yield "./build.py, proved", (found, out) == (0, "") and f" of {len(crates)}: tag_bits" in err
+    calls = re.fullmatch(f"(\\w+ lib --jobs [1-3]\n){{{len(crates) - 1}}}llrp run --jobs [1-4] -- --help", "\n".join(proves.calls()))
     yield "what ./build.py calls", calls is not None
-    yield "which crates ./build.py proves", len({it.split()[0] for it in proves.calls()}) == 19
+    yield "which crates ./build.py proves", {it.split()[0] for it in proves.calls()} == crates
     yield "other words of ./build.py", run("./build.py", "program", cwd=copy, PATH=refuses.path) == (2, "", "usage: build.py [library]\n")
     yield "./llrp runs what is built", run("./llrp", "x", cwd=copy, PATH=refuses.path) == (5, "built x\n", "")
     later(os.path.join(copy, "crates/llrp/out/later.antt"))
@@ -324,8 +335,9 @@ def checks_of_library(folder):
     told = " is not proved, so the library for C was not built\nsrc/lib.rt:1:1: error: no proof\n"
     yield "./library.sh, not proved", (found, out) == (1, "") and told in err and "--unproved" not in err
     found, out, err = run("./library.sh", cwd=copy, PATH=gives.path)
-    yield "./library.sh", (found, out) == (0, "") and err.startswith("llrp: proving 11 crates, and building the library for C\n")
-    calls = re.fullmatch("(\\w+ lib --jobs [1-3]\n){10}llrp_c lib --jobs [1-4]\n\\w+ doc", "\n".join(gives.calls()))
+    crates = crates_of("llrp_c")
+    yield "./library.sh", (found, out) == (0, "") and err.startswith(f"llrp: proving {len(crates)} crates, and building the library for C\n")
+    calls = re.fullmatch(f"(\\w+ lib --jobs [1-3]\n){{{len(crates) - 1}}}llrp_c lib --jobs [1-4]\n\\w+ doc", "\n".join(gives.calls()))
     yield "what ./library.sh calls", calls is not None
     library = ctypes.CDLL(os.path.join(copy, "out/libllrp_c.so.0"))
     yield "the library that is loaded", library.llrp_given() == 46

@@ -8,16 +8,17 @@ PROGRAM is llrp, crates/llrp/out/llrp where none is given. What a reader says fi
 `N passed, M failed`; the status is 1 if something failed.
 """
 import contextlib
+import os
 import socket
 import subprocess
 import sys
 
 from parts.counting import finish_results, text_of
 from parts.ports import held_port, listens_at, wait_until
-from parts.repository import program_given
+from parts.repository import TOP, program_given
 
 # How many comparisons there are.
-LEAST = 47
+LEAST = 48
 # How long a run may take, in seconds.
 LONGEST = 60
 
@@ -160,8 +161,16 @@ def refusals():
             yield " ".join(words), status == 2 and said.startswith("error: ")
 
 
+def examples():
+    """The example of a test by pytest passes, each test with a reader of its own."""
+    words = ["pytest-3", "-q", "-p", "no:cacheprovider", os.path.join(TOP, "examples/python/test_client.py")]
+    environment = {**os.environ, "LLRP": PROGRAM, "PYTHONDONTWRITEBYTECODE": "1"}
+    done = subprocess.run(words, capture_output=True, text=True, timeout=LONGEST, check=False, env=environment)
+    yield "examples/python/test_client.py", done.returncode == 0 and "2 passed" in done.stdout
+
+
 def main():
-    results = [it for rows in (ready, one_after_another, whole_scripts, addresses, refusals) for it in rows()]
+    results = [it for rows in (ready, one_after_another, whole_scripts, addresses, refusals, examples) for it in rows()]
     return finish_results(results, LEAST)
 
 

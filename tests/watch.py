@@ -22,10 +22,10 @@ import time
 
 from parts.counting import finish_results
 from parts.ports import free_port
-from parts.repository import program_given
+from parts.repository import TOP, program_given
 
 # How many comparisons there are.
-LEAST = 128
+LEAST = 229
 # How long a run may take, in seconds.
 LONGEST = 20
 
@@ -55,9 +55,11 @@ MOST_GROWTH = 64
 CLOCK = 0.1
 
 # message types of LLRP 1.1, section 17.1
-(CLOSE, ADD, DELETE, START, STOP, ENABLE, DISABLE, SET_CONFIG) = (14, 20, 21, 22, 23, 24, 25, 3)
+(CLOSE, ADD, DELETE, START, STOP, ENABLE, DISABLE, SET_CONFIG, CAPABILITIES) = (14, 20, 21, 22, 23, 24, 25, 3, 1)
 (REPORT, KEEPALIVE, KEEPALIVE_ACK) = (61, 62, 72)
-RESPONSES = {CLOSE: 4, ADD: 30, DELETE: 31, START: 32, STOP: 33, ENABLE: 34, DISABLE: 35, SET_CONFIG: 13}
+(ADD_ACCESS, DELETE_ACCESS, ENABLE_ACCESS, DISABLE_ACCESS) = (40, 41, 42, 43)
+RESPONSES = {CLOSE: 4, ADD: 30, DELETE: 31, START: 32, STOP: 33, ENABLE: 34, DISABLE: 35, SET_CONFIG: 13, CAPABILITIES: 11}
+RESPONSES |= {ADD_ACCESS: 50, DELETE_ACCESS: 51, ENABLE_ACCESS: 52, DISABLE_ACCESS: 53}
 
 
 def frame(kind, number, body=b""):
@@ -72,10 +74,13 @@ def status_parameter(code, text=""):
     return struct.pack(">HHHH", 287, 8 + len(said) + len(rest), code, len(said)) + said + rest
 
 
-def tag_report(number, serial, custom=False, data=b"\xaa\xbb"):
-    """RO_ACCESS_REPORT of one tag with its antenna, RSSI, first time and count, and a maker's Custom parameter or none."""
+def tag_report(number, serial, custom=False, data=b"\xaa\xbb", result=False):
+    """RO_ACCESS_REPORT of one tag with its antenna, RSSI, first time and count, with the result of a read of two words (section 16.2.1.5,
+    C1G2ReadOpSpecResult) or none, and with a maker's Custom parameter or none."""
     epc = bytes.fromhex("3074257BF7194E40") + struct.pack(">I", serial)
     parts = b"\x8d" + epc + b"\x81\x00\x01" + b"\x86\xc4" + b"\x82" + struct.pack(">Q", 1600000000000000) + b"\x88\x00\x01"
+    if result:
+        parts += struct.pack(">HHBHH", 349, 13, 0, 1, 2) + b"\xe2\x00\x34\x12"
     if custom:
         parts += struct.pack(">HHII", 1023, 12 + len(data), 25882, 37) + data
     return frame(REPORT, number, struct.pack(">HH", 240, 4 + len(parts)) + parts)
@@ -89,15 +94,61 @@ LONG = (lambda number: frame(KEEPALIVE, number, b"\0"), "80 Extra")
 REQUEST = (lambda number: frame(26, number), None)
 
 
+def parameter(kind, body):
+    """A parameter of type, length and value."""
+    return struct.pack(">HH", kind, 4 + len(body)) + body
+
+
+# A power table, as pairs of an index and hundredths of a dBm; not in order, and with two entries of one power.
+POWERS = ((1, 1000), (5, 3000), (2, 1500), (3, 2550), (4, 2575), (6, 2550))
+# FrequencyHopTable: HopTableID, 8 reserved bits, and the frequencies in kHz (section 17.2.3); FixedFrequencyTable has the latter alone.
+HOPS = b"\x80" + b"".join(parameter(147, struct.pack(">BBHII", number, 0, 2, 902750, 903250)) for number in (7, 1))
+CHANNELS = b"\x00" + parameter(148, struct.pack(">HII", 2, 865700, 866300))
+
+
+def regulatory(powers=POWERS, information=HOPS):
+    """RegulatoryCapabilities of a reader in the United States: its UHF band with the power table, FrequencyInformation, and C1G2UHFRFModeTable with
+    one entry (section 17.2.3)."""
+    band = b"".join(parameter(145, struct.pack(">Hh", index, power)) for index, power in powers) + parameter(146, information)
+    mode = parameter(329, struct.pack(">IBBBBIIIII", 1, 0x80, 0, 2, 2, 64000, 2000, 12500, 25000, 0))
+    return parameter(143, struct.pack(">HH", 840, 1) + parameter(144, band + parameter(328, mode)))
+
+
+def made_with(hop_table, channel, power):
+    """The ROSpec that is made, with an AntennaConfiguration of all antennas whose RFTransmitter has these fields (section 17.2.5)."""
+    transmitter = parameter(222, struct.pack(">H", 0) + parameter(224, struct.pack(">HHH", hop_table, channel, power)))
+    made = MADE.replace(bytes.fromhex("00BA0007000101"), bytes.fromhex("00BA0017000101") + transmitter)
+    return made.replace(bytes.fromhex("00B70018"), bytes.fromhex("00B70028")).replace(bytes.fromhex("00B10041"), bytes.fromhex("00B10051"))
+
+
+def whole_rospec():
+    """The ROSpec of WHOLE_FILE (LLRP 1.1, section 17.2): of fields of less than an octet the bits come first."""
+    mask = parameter(332, struct.pack(">BHH", 1 << 6, 32, 16) + b"\x30\x74")
+    filters = parameter(331, bytes([1 << 6]) + mask + parameter(334, b"\0"))
+    command = parameter(330, b"\0" + parameter(335, struct.pack(">HH", 1000, 0)) + filters)
+    configuration = parameter(222, struct.pack(">H", 1) + command)
+    inventory = parameter(186, struct.pack(">HB", 1, 1) + configuration)
+    makers = parameter(1023, struct.pack(">II", 25882, 37) + b"\xaa\xbb")
+    antennas = parameter(183, struct.pack(">HH", 1, 1) + parameter(184, struct.pack(">BI", 0, 0)) + inventory + makers)
+    boundary = parameter(178, parameter(179, b"\0") + parameter(182, struct.pack(">BI", 0, 0)))
+    reporting = parameter(237, struct.pack(">BH", 2, 1) + parameter(238, b"\x14\x00"))
+    return parameter(177, struct.pack(">IBB", 9, 0, 0) + boundary + antennas + reporting)
+
+
 class Reader:
     """A reader that serves one connection after another, and keeps its ROSpecs."""
 
-    def __init__(self, tags=3, custom=False, end="close", refusals=0, denied=(), host="127.0.0.1", data=b"\xaa\xbb", odd=None, before=b""):
-        self.tags, self.custom, self.end, self.data = tags, custom, end, data
+    def __init__(
+            self, tags=3, custom=False, end="close", refusals=0, denied=(), host="127.0.0.1", data=b"\xaa\xbb", odd=None, before=b"",
+            offers=b"", beside=(b"", b""), result=False):
+        self.tags, self.custom, self.end, self.data, self.result = tags, custom, end, data, result
         # a frame between the reports, or, with the id of a request, before its response; and one before the connection is accepted
         self.odd, self.before = odd, before
+        # what its capabilities have after LLRPStatus, and the frames in front of that answer and after it
+        self.offers, self.beside = offers, beside
         self.refusals, self.denied = refusals, set(denied)
         self.rospecs, self.asked, self.sent, self.said = set(), [], 0, b""
+        self.accesses = set()
         self.socket = socket.create_server((host, 0), family=socket.AF_INET6 if ":" in host else socket.AF_INET)
         self.port = self.socket.getsockname()[1]
         threading.Thread(target=self.serve, daemon=True).start()
@@ -136,7 +187,10 @@ class Reader:
                 continue
             if self.odd and self.end == "pending" and kind == ADD:
                 self.say(client, self.odd(number))
-            self.say(client, frame(RESPONSES[kind], number, self.answer(kind, body)))
+            said = frame(RESPONSES[kind], number, self.answer(kind, body))
+            if kind == CAPABILITIES:
+                said = self.beside[0] + said + self.beside[1]
+            self.say(client, said)
             if kind == CLOSE:
                 return
             if kind == START and not self.report(client):
@@ -151,6 +205,10 @@ class Reader:
         """The LLRPStatus of an answer, and what the request does to the ROSpecs."""
         if kind in self.denied:
             return status_parameter(101, "no\x1b[1m")
+        if kind == CAPABILITIES:
+            return status_parameter(0) + self.offers
+        if kind in (ADD_ACCESS, DELETE_ACCESS, ENABLE_ACCESS, DISABLE_ACCESS):
+            return self.answer_access(kind, body)
         if kind == ADD:
             rospec = struct.unpack(">I", body[4:8])[0]
             if rospec in self.rospecs:
@@ -163,13 +221,24 @@ class Reader:
             self.rospecs.discard(rospec)
         return status_parameter(0)
 
+    def answer_access(self, kind, body):
+        """The same of a request on AccessSpecs, of which the id 0 means all (section 12)."""
+        number = struct.unpack(">I", body[4:8] if kind == ADD_ACCESS else body)[0]
+        if (number in self.accesses) == (kind == ADD_ACCESS) and number:
+            return status_parameter(101, "there is one" if kind == ADD_ACCESS else "no such AccessSpec")
+        if kind == ADD_ACCESS:
+            self.accesses.add(number)
+        if kind == DELETE_ACCESS:
+            self.accesses -= {number} if number else set(self.accesses)
+        return status_parameter(0)
+
     def report(self, client):
         """Sends the tags, late, and ends as it is to: closes, falls silent, or goes on."""
         time.sleep(0.2)
         for first in range(0, self.tags, AT_ONCE):
             serials = range(first, min(first + AT_ONCE, self.tags))
             odd = self.odd(9000) if self.odd and self.end != "pending" else b""
-            self.say(client, odd.join(tag_report(100 + serial, serial, self.custom, self.data) for serial in serials))
+            self.say(client, odd.join(tag_report(100 + serial, serial, self.custom, self.data, self.result) for serial in serials))
             self.sent += len(serials)
         if self.end == "silent":
             time.sleep(60)
@@ -205,9 +274,18 @@ class Reader:
 
 PROGRAM = program_given()
 NAMES = {
-    CLOSE: "CLOSE", ADD: "ADD", DELETE: "DELETE", START: "START", STOP: "STOP", ENABLE: "ENABLE", DISABLE: "DISABLE", SET_CONFIG: "SET_CONFIG"
+    CLOSE: "CLOSE", ADD: "ADD", DELETE: "DELETE", START: "START", STOP: "STOP", ENABLE: "ENABLE", DISABLE: "DISABLE", SET_CONFIG: "SET_CONFIG",
+    CAPABILITIES: "CAPABILITIES", KEEPALIVE_ACK: "ACK", ADD_ACCESS: "ADD_ACCESS", DELETE_ACCESS: "DELETE_ACCESS", ENABLE_ACCESS: "ENABLE_ACCESS",
+    DISABLE_ACCESS: "DISABLE_ACCESS"
 }
 MOMENT = re.compile(r"\d{4}-\d\d-\d\dT\d\d:\d\d:\d\d\.\d{6}Z")
+# A ROSpec of the whole standard: a filter of tags whose EPC begins with 3074 (hexadecimal), and a maker's parameter of an AISpec.
+WHOLE_FILE = (
+    "1 ROSpec 9 0 0\n2 ROBoundarySpec\n3 ROSpecStartTrigger 0\n3 ROSpecStopTrigger 0 0\n2 AISpec w1\n3 AISpecStopTrigger 0 0\n"
+    "3 InventoryParameterSpec 1 1\n4 AntennaConfiguration 1\n5 C1G2InventoryCommand 0\n6 C1G2RFControl 1000 0\n6 C1G2Filter 1\n"
+    "7 C1G2TagInventoryMask 1 32 16 x3074\n7 C1G2TagInventoryStateUnawareFilterAction 0\n3 Custom 25882 37 xaabb\n2 ROReportSpec 2 1\n"
+    "3 TagReportContentSelector 0 0 0 1 0 1 0 0 0 0\n"
+)
 TEXT_FILE = (
     "1 ROSpec 7 0 0\n2 ROBoundarySpec\n3 ROSpecStartTrigger 0\n3 ROSpecStopTrigger 0 0\n2 AISpec w1,2\n3 AISpecStopTrigger 0 0\n"
     "3 InventoryParameterSpec 1 1\n2 ROReportSpec 2 1\n3 TagReportContentSelector 0 0 0 1 0 1 0 0 0 0\n"
@@ -275,11 +353,79 @@ def plain_runs():
         "epc": epc_text(0), "antenna": 1, "rssi": -60, "FirstSeenTimestampUTC": 1600000000000000, "TagSeenCount": 1}
 
 
+def all_of_a_tag():
+    """What the profile of LLRP has no name for in a tag is under `parameters`, as `show --json --all` has it; --text has none of it."""
+    read = {"parameter": "C1G2ReadOpSpecResult", "Result": 0, "OpSpecID": 1, "words": [0xE200, 0x3412]}
+    custom = {"parameter": "Custom", "VendorIdentifier": 25882, "ParameterSubtype": 37, "octets": "aabb"}
+    for name, words, others in (
+            ("a result and Custom", {"result": True, "custom": True}, [read, custom]), ("a result", {"result": True}, [read]),
+            ("Custom", {"custom": True}, [custom])):
+        reader = Reader(**words)
+        _, out, _ = run(reader, "watch")
+        lines = [json.loads(line) for line in out.splitlines()]
+        yield f"{name}: the other parameters", [it.get("parameters") for it in lines] == [others] * reader.tags
+        yield f"{name}: the last member", {list(it)[-1] for it in lines} == {"parameters"}
+        reports = [json.loads(line) for line in shown(reader.said).splitlines() if "RO_ACCESS_REPORT" in line]
+        tags = [report["parameters"][0]["parameters"] for report in reports]
+        yield f"{name}: as show has them", [tag[-len(others):] for tag in tags] == [others] * reader.tags
+    _, out, _ = run(Reader(tags=1, result=True, custom=True), "watch", "--text")
+    yield "--text has no other parameters", out.startswith(f"{epc_text(0)} 1 -60 ") and len(out.split()) == 4
+
+
 def seconds_of(moment):
     """The seconds since 1970 that a line has, or 0 where that is no moment in UTC with six digits of a second."""
     if not MOMENT.fullmatch(moment):
         return 0
     return datetime.datetime.strptime(moment, "%Y-%m-%dT%H:%M:%S.%f%z").timestamp()
+
+
+def shown(octets):
+    """What `show` prints of octets, with the limit of `watch`."""
+    words = [PROGRAM, "show", "--json", "--all", "--limit", "1048576"]
+    return subprocess.run(words, input=octets, capture_output=True, check=False).stdout.decode()
+
+
+def messages_runs():
+    """--messages: what show prints of the octets that the reader sent, a connection by itself; the last one's end is cut off."""
+    for name, how in {
+        "plain": {}, "Custom parameters": {"custom": True}, "a result": {"result": True}, "long ones": {"custom": True, "data": bytes(60000)},
+        "a reserved bit": {"odd": RESERVED[0]}, "an octet too many": {"odd": LONG[0]}, "a request": {"odd": REQUEST[0]},
+        "many": {"tags": 3 * AT_ONCE},
+    }.items():
+        reader = Reader(**how)
+        status, out, err = run(reader, "watch", "--messages")
+        yield f"--messages: {name}", out == shown(reader.said) and len(out.splitlines()) > reader.tags
+        yield f"--messages: {name}: its end", status == 1 and err.endswith("llrp: early\n")
+        kinds = [json.loads(line).get("message") for line in out.splitlines()]
+        yield f"--messages: {name}: the reports", kinds.count("RO_ACCESS_REPORT") == reader.tags
+    reader = Reader(end="torn")
+    _, out, _ = run(reader, "watch", "--messages")
+    yield "--messages: a torn frame has no line", out == shown(reader.said)
+    reader = Reader(custom=True, data=bytes(5000))
+    _, out, _ = run(reader, "watch", "--messages", "--limit", "4096")
+    lines = [json.loads(line) for line in out.splitlines()]
+    yield "--messages: above --limit", [it["fault"] for it in lines if "fault" in it] == ["MessageLength"] * reader.tags
+    reader = Reader(before=bytes.fromhex("043F00000009"))
+    status, out, err = run(reader, "watch", "--messages")
+    yield "--messages: a length field of 9", (status, out) == (1, "") and err.endswith("llrp: broken\n")
+    reader = Reader(tags=2)
+    status, out, _ = run(reader, "watch", "--messages", "--again", "1", seconds=4)
+    yield "--messages and --again", status is None and shown(reader.said).startswith(out) and out.count("RO_ACCESS_REPORT") > reader.tags
+    reader = Reader(end="busy")
+    status, out, err = run(reader, "watch", "--messages", "--for", "1")
+    yield "--messages and --for", (status, err) == (0, "") and out == shown(reader.said) and reader.sent > 5
+    reader = Reader(end="stay", tags=3 * AT_ONCE)
+    command = [PROGRAM, "watch", f"127.0.0.1:{reader.port}", "--messages"]
+    with subprocess.Popen(command, stdout=subprocess.PIPE, stderr=subprocess.PIPE, text=True) as process:
+        process.stdout.readline()
+        process.stdout.close()
+        err = process.stderr.read()
+    yield "--messages and standard output is closed", (process.returncode, err) == (3, "llrp: write\n") and not reader.rospecs
+    for words in ((), ("--name", "dock")):
+        reader = Reader(refusals=9)
+        _, out, err = run(reader, "watch", "--messages", "--again", "60", *words, seconds=4)
+        # after 0, 1 and 3 seconds: what a connection that was refused says is no tag
+        yield f"--messages: the pauses {words}", len(out.splitlines()) == err.count("status 1") == 3 and "dock" not in out
 
 
 def moments():
@@ -388,7 +534,159 @@ def option_runs():
         yield "--rospec", 7 in reader.rospecs
         run(reader, "stop", "--rospec", file.name)
         yield "stop --rospec", 7 not in reader.rospecs
+    reader.asked.clear()
+    with tempfile.NamedTemporaryFile("w", suffix=".rospec") as file:
+        file.write(WHOLE_FILE)
+        file.flush()
+        status, out, _ = run(reader, "watch", "--keepalive", "0", "--rospec", file.name)
+        yield "--rospec of the whole standard", bodies(reader, ADD) == [whole_rospec()] and asked(reader) == ["DELETE", "ADD", "ENABLE", "START"]
+        yield "its id and its tags", deleted(reader) == [9] and 9 in reader.rospecs and len(serials(out)) == reader.tags
+        run(reader, "stop", "--rospec", file.name)
+        yield "stop --rospec of the whole standard", 9 not in reader.rospecs
     yield "no file", run(reader, "watch", "--rospec", "/nonexistent", "--again", "1")[::2] == (3, "llrp: rospec\n")
+
+
+def powers():
+    """--power: which entry of the power table is taken, and what is asked and done besides."""
+    for power, fields in (
+        ("25.5", (7, 0, 3)), ("25.50", (7, 0, 3)), ("25.74", (7, 0, 3)), ("25.75", (7, 0, 4)), ("+29.99", (7, 0, 4)), ("30", (7, 0, 5)), ("327.67", (7, 0, 5)),
+        ("10", (7, 0, 1)), ("14.99", (7, 0, 1))
+    ):
+        reader = Reader(offers=regulatory())
+        status, out, err = run(reader, "watch", "--keepalive", "0", "--power", power)
+        yield f"--power {power}", bodies(reader, ADD) == [made_with(*fields)] and (status, err, len(out.splitlines())) == (1, "llrp: early\n", 3)
+    yield "--power: the requests", asked(reader) == ["CAPABILITIES", "DELETE", "ADD", "ENABLE", "START"]
+    yield "--power: what is asked for", bodies(reader, CAPABILITIES) == [b"\x03"]
+    reader = Reader(offers=regulatory(((1, -250), (2, -150)), CHANNELS))
+    run(reader, "watch", "--power=-2")
+    yield "--power: a fixed channel and a negative power", bodies(reader, ADD) == [made_with(0, 1, 1)]
+    for words in ((), ("--again", "1")):
+        reader = Reader(offers=regulatory())
+        yield f"--power: none that low {words}", run(reader, "watch", "--power", "9.99", *words) == (1, "", "llrp: power least 10.00\n")
+        yield f"--power: what is said then {words}", asked(reader) == ["CAPABILITIES", "DELETE", "CLOSE"]
+    yield "--power: a negative least", run(Reader(offers=regulatory(((1, -105),))), "watch", "--power=-1.06")[2] == "llrp: power least -1.05\n"
+    yield "--power: no power table", run(Reader(), "watch", "--power", "30") == (1, "", "llrp: power\n")
+    reader = Reader(denied=[CAPABILITIES])
+    yield "--power: a refused request", run(reader, "watch", "--power", "30") == (1, "", "llrp: status 101\n")
+    yield "--power: what is said after it", asked(reader) == ["CAPABILITIES", "DELETE", "CLOSE"]
+    yield "--power: a refused connection", run(Reader(refusals=1), "watch", "--power", "30") == (1, "", "llrp: status 1\n")
+    # KEEPALIVEs in front of the answer and after it, in one write with it
+    reader = Reader(offers=regulatory(), beside=(frame(KEEPALIVE, 900), frame(KEEPALIVE, 901)))
+    status, out, err = run(reader, "watch", "--power", "30", "--keepalive", "0")
+    yield "--power: KEEPALIVEs beside the answer", sorted(asked(reader)) == sorted(["ACK", "ACK", "CAPABILITIES", "DELETE", "ADD", "ENABLE", "START"])
+    yield "--power: each tag then", len(out.splitlines()) == reader.tags
+    with tempfile.TemporaryDirectory() as folder:
+        reader = Reader(offers=regulatory())
+        run(reader, "watch", "--power", "30", "--save", os.path.join(folder, "dock"))
+        with open(os.path.join(folder, "dock"), "rb") as file:
+            yield "--power and --save", file.read() == reader.said
+    reader = Reader(offers=regulatory(), end="busy")
+    status, out, err = run(reader, "watch", "--power", "30", "--for", "1")
+    yield "--power and --for", (status, err) == (0, "") and len(out.splitlines()) == reader.sent and not reader.rospecs
+    reader = Reader(offers=regulatory(), tags=1)
+    status, out, err = run(reader, "watch", "--power", "30", "--again", "1", seconds=4)
+    yield "--power and --again", asked(reader).count("CAPABILITIES") >= 2 and set(bodies(reader, ADD)) == {made_with(7, 0, 5)}
+    notes, _ = notes_of(Reader(offers=regulatory()), "--power", "30")
+    yield "--power and --verbose", notes[1] == "the reader accepted the connection" and notes.count(notes[1]) == 1
+
+
+# The AccessSpec of examples/tid.access (LLRP 1.1, sections 12 and 16): AccessSpec 9 for all antennas, C1G2 and ROSpec 5084, its stop trigger,
+# AccessCommand with a C1G2TagSpec for each tag and a C1G2Read of six words of bank 2, and AccessReportSpec.
+READ_TID = bytes.fromhex(
+    "00CF003E 00000009 0000 01 00 000013DC 00D00007 00 0000 00D10022 0152000F 0153000B 60 0020 0000 0000 0155000F 0001 00000000 80 0000 0006"
+    " 00EF0005 00"
+)
+TID_FILE = os.path.join(TOP, "examples/tid.access")
+# What is sent with that file, up to the first report, and at the end.
+BEGINNING = ["DELETE_ACCESS", "DELETE", "ADD", "ADD_ACCESS", "ENABLE_ACCESS", "ENABLE", "START"]
+LEAVING = ["DELETE_ACCESS", "DELETE", "CLOSE"]
+
+
+def access_runs():
+    """--access: what is sent beside the plan, and where."""
+    words = ("--keepalive", "0", "--access", TID_FILE)
+    reader = Reader()
+    for name in ("first", "second"):
+        reader.asked.clear()
+        status, out, err = run(reader, "watch", *words)
+        yield f"--access: {name}: the requests", asked(reader) == BEGINNING and bodies(reader, ADD_ACCESS) == [READ_TID]
+        yield f"--access: {name}: the end", (status, err, len(out.splitlines())) == (1, "llrp: early\n", 3) and reader.accesses == {9}
+    reader = Reader(end="busy")
+    status, out, err = run(reader, "watch", *words, "--for", "1")
+    yield "--access and --for", (status, err) == (0, "") and len(out.splitlines()) == reader.sent
+    yield "--access and --for: the requests", asked(reader) == [*BEGINNING, "DISABLE", *LEAVING] and not reader.accesses | reader.rospecs
+    reader = Reader(end="silent")
+    status, out, err = run(reader, "watch", "--access", TID_FILE, "--for", "2")
+    yield "--access, --for and silence: tags", (err, len(out.splitlines())) == ("llrp: read\n", 3)
+    reader = Reader(tags=1)
+    status, out, err = run(reader, "watch", *words, "--again", "1", seconds=4)
+    again = asked(reader)
+    yield "--access and --again", again.count("START") >= 2 and again[: 2 * len(BEGINNING)] == 2 * BEGINNING
+    reader = Reader(offers=regulatory())
+    run(reader, "watch", *words, "--power", "30")
+    yield "--access and --power", asked(reader) == ["CAPABILITIES", *BEGINNING]
+    reader = Reader(result=True)
+    _, out, _ = run(reader, "watch", *words, "--messages")
+    yield "--access and --messages", out == shown(reader.said) and out.count("C1G2ReadOpSpecResult") == reader.tags
+    reader = Reader(end="busy")
+    with subprocess.Popen([PROGRAM, "watch", f"127.0.0.1:{reader.port}", *words], stdout=subprocess.PIPE, stderr=subprocess.PIPE) as process:
+        process.stdout.readline()
+        process.stdout.close()
+        err = process.stderr.read()
+    yield "--access and standard output is closed", err == b"llrp: write\n" and asked(reader)[-3:] == LEAVING and not reader.accesses
+    with tempfile.TemporaryDirectory() as folder:
+        path = os.path.join(folder, "all.access")
+        with open(path, "w", encoding="ascii") as file, open(TID_FILE, encoding="ascii") as read:
+            file.write("0 DELETE_ACCESSSPEC 1 4294967289 0\n" + read.read())
+        reader = Reader(tags=1)
+        reader.accesses = {8}
+        run(reader, "watch", "--keepalive", "0", "--access", path)
+        yield "--access: the deletion of all", asked(reader) == [*BEGINNING[:3], "DELETE_ACCESS", *BEGINNING[3:]] and reader.accesses == {9}
+
+
+def access_refusals():
+    """--access: what a reader refuses, and what is said of it."""
+    words = ("--keepalive", "0", "--access", TID_FILE)
+    for name, kind in (("ADD", ADD_ACCESS), ("ENABLE", ENABLE_ACCESS)):
+        reader = Reader(end="stay", denied=[kind])
+        start = time.monotonic()
+        status, _, err = run(reader, "watch", *words)
+        yield f"--access: a refused {name}_ACCESSSPEC", (status, err) == (1, "llrp: status 101\n") and time.monotonic() - start < 5
+        yield f"--access: the requests then: {name}", asked(reader)[-3:] == LEAVING and not reader.accesses | reader.rospecs
+    reader = Reader(end="stay", denied=[ADD_ACCESS])
+    status, _, err = run(reader, "watch", *words, "--again", "1", seconds=4)
+    yield "--access: a refusal and --again", status is None and err.count("llrp: status 101\n") >= 2
+    status, out, err = run(Reader(denied=[DELETE_ACCESS]), "watch", *words)
+    yield "--access: a refused DELETE_ACCESSSPEC", (status, err, len(out.splitlines())) == (1, "llrp: early\n", 3)
+    refusal = lambda number: frame(RESPONSES[ADD_ACCESS], number, status_parameter(101))
+    status, out, err = run(Reader(odd=refusal), "watch", "--keepalive", "0")
+    yield "without --access: its responses", (status, err, len(out.splitlines())) == (1, "llrp: early\n", 3)
+    notes, _ = notes_of(Reader(), *words)
+    yield "--access and --verbose", not [it for it in notes if "answers no request" in it]
+    notes, others = notes_of(Reader(end="stay", denied=[ADD_ACCESS]), *words)
+    at = notes.index("  0 ADD_ACCESSSPEC_RESPONSE 1 4294967290")
+    yield "--access and --verbose: a refusal", "a request was refused: status 101, M_FieldError" in notes[:at] and others == ["llrp: status 101"]
+
+
+def access_files():
+    """--access: files that are refused, of which nothing is sent."""
+    with open(TID_FILE, encoding="ascii") as file:
+        lines = file.read().splitlines(keepends=True)
+    reader = Reader()
+    for name, text, said in (
+        ("another message", "".join([*lines[:8], "0 KEEPALIVE_ACK 1 7\n", *lines[8:]]), "line 9: Name"),
+        ("another one first", "0 GET_ACCESSSPECS 1 7\n" + "".join(lines), "line 1: Name"),
+        ("a line that is none", "".join(lines).replace("C1G2Read 1 0 2", "C1G2Read 1 0 4"), "line 7: Node Value"),
+        ("no line feed", "".join(lines)[:-1], "line 10: Line"),
+    ):
+        with tempfile.TemporaryDirectory() as folder:
+            path = os.path.join(folder, "some.access")
+            with open(path, "w", encoding="ascii") as file:
+                file.write(text)
+            yield f"--access: {name}", run(reader, "watch", "--access", path, "--again", "1") == (1, "", f"llrp: access {said}\n")
+    yield "--access: no file", run(reader, "watch", "--access", "/nonexistent/tid") == (3, "", "llrp: access\n")
+    yield "--access: a folder", run(reader, "watch", "--access", "/") == (3, "", "llrp: access\n")
+    yield "--access: nothing is sent", not reader.asked
 
 
 def bad_ends():
@@ -416,6 +714,9 @@ def words_that_clash():
         (("watch", "--rospec", "x", "--every", "1"), "the argument '--rospec <FILE>' cannot be used with '--every <N>'"),
         (("watch", "--rospec", "x", "--id", "1"), "the argument '--rospec <FILE>' cannot be used with '--id <N>'"),
         (("watch", "--rospec", "x", "--antennas", "1"), "the argument '--rospec <FILE>' cannot be used with '--antennas <LIST>'"),
+        (("watch", "--rospec", "x", "--power", "1"), "the argument '--rospec <FILE>' cannot be used with '--power <DBM>'"),
+        (("watch", "--power", "25.555"), "invalid value for '--power <DBM>': expected a number from -327.68 to 327.67 with at most two decimals"),
+        (("watch", "--messages", "--text"), "the argument '--messages' cannot be used with '--text'"),
         (("watch", "--antennas", "1,,2"), "invalid value for '--antennas <LIST>': expected numbers from 1 to 65535 with commas between them"),
         (("stop", "--rospec", "x", "--id", "1"), "the argument '--rospec <FILE>' cannot be used with '--id <N>'"),
     ):
@@ -571,8 +872,8 @@ def stop_runs():
 
 
 PARTS = (
-    plain_runs, option_runs, moments, ends_by_the_clock, odd_frames, addresses, words_that_clash, bad_ends, ends_of_its_own, save_runs,
-    verbose_runs, again_runs, stop_runs, long_runs
+    plain_runs, all_of_a_tag, option_runs, powers, access_runs, access_refusals, access_files, messages_runs, moments, ends_by_the_clock, odd_frames,
+    addresses, words_that_clash, bad_ends, ends_of_its_own, save_runs, verbose_runs, again_runs, stop_runs, long_runs
 )
 
 

@@ -21,7 +21,7 @@ from parts.counting import finish, snippet, text_of
 from parts.repository import TOP
 
 # How many things are checked, and how many tests the package has.
-LEAST, TESTS = 27, 80
+LEAST, TESTS = 29, 111
 # The Python for which Debian has pip, pytest and mypy.
 PYTHON = "/usr/bin/python3"
 LIBRARY = "libllrp_c.so.0"
@@ -73,7 +73,7 @@ def checks_of_types(folder):
     words, how = ["mypy", "--strict", "--cache-dir", f"{folder}/mypy"], {"cwd": TOP, "MYPYPATH": "python"}
     status, told = run(*words, "python/llrp_epc", "python/tests", "examples/python", **how)
     yield f"mypy finds nothing\n{told}", status == 0
-    for wrong in ("Llrp().encode(b'')", "Llrp().text_of_word('')", "list(Llrp().stream(''))", "Llrp().word_of_text('').format()"):
+    for wrong in ("Llrp().encode(b'')", "Llrp().text_of_word('')", "list(Llrp().stream(''))", "Llrp().word_of_text('').format()", "Llrp().pack('')"):
         status, told = run(*words, "-c", f"from llrp_epc import Llrp\n{wrong}", **how)
         yield f"mypy refuses {wrong}\n{told}", status == 1 and told.endswith("Found 1 error in 1 file (checked 1 source file)\n")
 
@@ -107,7 +107,7 @@ def checks_of_documents(installed):
     runs_in_python(snippet("README.md", "of it with the library inside:"), names)
     yield "the Python of README.md", names["received"] == b"\x08" and names["sent"].hex() == "04480000000a00000007"
     found = runs_in_python(snippet("docs/library.md", "Then, in Python:"), {})
-    yield "the Python of docs/library.md", len(found) == 7
+    yield "the Python of docs/library.md", len(found) == 8
     for value, comment in found:
         yield f"docs/library.md: {comment}", value == eval(comment)
 

@@ -19,7 +19,7 @@ import sys
 from parts.counting import finish_results, text_of
 from parts.repository import TOP, program_given
 
-LEAST = 184
+LEAST = 228
 BASH = """
 source completions/llrp.bash
 compopt() {{ echo "compopt $*"; }}
@@ -37,8 +37,8 @@ words=(llrp {command} '')
 CURRENT=$#words
 source completions/_llrp
 """
-# The forms of a word's text.
-FORMS = "tag pure element link hex key"
+# The words that flags with such a value take: the forms of a word's text, and the sets of names.
+CHOICES = {"FORM": "tag pure element link hex key", "SET": "profile standard"}
 # What each shell says of the program's completion, once it has read the file as it does where that is installed.
 BOUND = {
     "bash": ("source completions/llrp.bash; complete -p llrp", "complete -o default -F _llrp llrp"),
@@ -76,24 +76,24 @@ def values_in(text):
     return dict(re.findall(r"(?m)^ +(?:-\w, )?(--[\w-]+) <(\w+)>", text))
 
 
-def forms_completed(shell, words):
-    """Returns what a shell offers after a flag with a form."""
+def choices_completed(shell, words):
+    """Returns what a shell offers after a flag that takes one of some words."""
     if shell == "bash":
         return set(output("bash", "-c", BASH.format(command=words)).split())
     if shell == "zsh":
         command, flag = words.split()
         spec = next(it for it in output("zsh", "-fc", ZSH.format(command=command)).splitlines() if it.startswith(f"{flag}["))
-        return set(re.search(r":FORM:\(([a-z ]+)\)$", spec)[1].split())
+        return set(re.search(r":[A-Z]+:\(([a-z ]+)\)$", spec)[1].split())
     offered = output("fish", "--no-config", "-c", f"source completions/llrp.fish; complete -C 'llrp {words} '").splitlines()
     return {it.split("\t")[0] for it in offered}
 
 
 def is_value_completed(shell, command, flag, value):
-    """Returns whether a shell offers files after a flag with a file, forms after one with a form, and nothing after one with a number."""
+    """Returns whether a shell offers files after a flag with a file, the words after one that takes some, and nothing after one with a number."""
     is_file = value == "FILE"
     words = f"{command} {flag}"
-    if value == "FORM":
-        return forms_completed(shell, words) == set(FORMS.split())
+    if value in CHOICES:
+        return choices_completed(shell, words) == set(CHOICES[value].split())
     if shell == "bash":
         return output("bash", "-c", BASH.format(command=words)).split("\n") == (["", ""] if is_file else ["compopt +o default", "", ""])
     if shell == "zsh":
@@ -165,6 +165,20 @@ def checks_of_pages(flags):
     yield "the entries of options", options == sorted(set.union(*flags.values()))
 
 
+def checks_of_files_read(program):
+    """Yields whether the manual page, README.md, zsh and fish know which commands read files."""
+    manual, readme = text_of("docs/llrp.1").split(".Sh DESCRIPTION")[0], text_of("README.md")
+    for command in sorted(commands_in(output(program, "--help")) - {"help"}):
+        reads = "[FILE]..." in output(program, command, "--help")
+        synopsis = manual.split(f"\n.Cm {command}\n")[1].split("\n.Nm\n")[0]
+        yield f"the files of {command} in the manual page", (".Op Ar FILE ..." in synopsis) == reads
+        yield f"the files of {command} in README.md", bool(re.search(rf"(?m)^\| `llrp {command}\b[^`]* \[FILE\]\.\.`", readme)) == reads
+        specs = output("zsh", "-fc", ZSH.format(command=command)).splitlines()
+        yield f"zsh completes the files of {command}", ("*:file:_files" in specs) == reads
+        offered = output("fish", "--no-config", "-c", f"source completions/llrp.fish; complete -C 'llrp {command} READ'")
+        yield f"fish completes the files of {command}", ("README.md" in offered) == (reads or command == "ask")
+
+
 def entries_of_options():
     """Returns the text of each option of the manual page, on one line."""
     options = text_of("docs/llrp.1").replace("\\-", "-").split("The options are as follows:")[1].split("\n.El\n")[0]
@@ -182,7 +196,7 @@ def checks_of_bounds(program):
         for flag, value in values_in(output(program, command, "--help")).items():
             done = subprocess.run([program, command, flag, "4294967296"], capture_output=True, text=True, timeout=60)
             bounds = re.search(r"is not in (\d+)\.\.=(\d+)", done.stderr)
-            if value not in ("ADDRESS", "FILE", "FORM", "LIST", "TEXT") and (flag, bounds and bounds.groups()) not in found:
+            if value not in ("ADDRESS", "DBM", "FILE", "FORM", "LIST", "SET", "TEXT") and (flag, bounds and bounds.groups()) not in found:
                 found.add((flag, bounds and bounds.groups()))
                 low, high = map(with_commas, bounds.groups())
                 yield f"the bounds of {flag} in the manual page", f"from {low} to {high}" in entries[flag.removeprefix("-")]
@@ -291,7 +305,7 @@ def checks_of_limits(program):
 
 def checks_of_figures():
     """Yields whether README.md counts the crates of the program and the functions for C as they are."""
-    readme, words = text_of("README.md"), {10: "ten", 12: "twelve", 19: "nineteen"}
+    readme, words = text_of("README.md"), {10: "ten", 12: "twelve", 19: "nineteen", 20: "twenty"}
     sys.path.insert(0, TOP)
     import build  # (the script that knows which crates are below another)
 
@@ -350,7 +364,7 @@ def checks_of_manual():
 
 def main():
     program = program_given()
-    parts = (checks, checks_of_version, checks_of_arguments, checks_of_limits, checks_of_bounds, checks_of_examples)
+    parts = (checks, checks_of_files_read, checks_of_version, checks_of_arguments, checks_of_limits, checks_of_bounds, checks_of_examples)
     others = (checks_of_statuses, checks_of_toolchain, checks_of_figures, checks_of_script, checks_of_files, checks_of_manual)
     results = [*(it for part in parts for it in part(program)), *(it for part in others for it in part())]
     return finish_results(results, LEAST)

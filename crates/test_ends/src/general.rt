@@ -35,7 +35,21 @@ struct Row {
     end: Result<(), ToolErr>,
 }
 
-static ROWS: [Row; 5] = [
+/// DELETE_ACCESSSPEC of all, ENABLE_ACCESSSPEC and DISABLE_ACCESSSPEC of AccessSpec 7, GET_ACCESSSPECS, and the answers of a reader that has
+/// no AccessSpecs: M_Success, M_FieldError twice, and M_Success with no AccessSpec (LLRP 1.1, sections 12 and 15).
+const OF_ACCESS: &str =
+    "04290000000E0000000100000000 042A0000000E0000000200000007 042B0000000E0000000300000007 042C0000000A00000004";
+
+const NO_ACCESS: &str =
+    "04330000001200000001 011F000800000000 04340000001200000002 011F000800650000 04350000001200000003 011F000800650000 04360000001200000004 011F000800000000";
+
+static ROWS: [Row; 6] = [
+    Row {
+        name: "requests for AccessSpecs, and the script's next message",
+        up: &[OF_ACCESS, ADD],
+        down: &[CONNECTED, NO_ACCESS, ADDED],
+        end: Ok(()),
+    },
     Row {
         name: "requests among those of the set",
         up: &[GET_VERSION, GET_CONFIG, ADD, GET_VERSION, ENABLE],

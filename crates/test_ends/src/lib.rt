@@ -21,6 +21,8 @@ mod general;
 #[cfg(test)]
 mod inventory;
 #[cfg(test)]
+mod live;
+#[cfg(test)]
 mod plans;
 #[cfg(test)]
 mod reader;

@@ -4,7 +4,7 @@ ghost use Rattle.std.specs.Prelude.{◌≤◌};
 
 use crate::gathering::CONNECTED;
 use llrp_tool::{Gathering, Plan, PlanErr, PlanFault, Refusal, ToolErr, standard_plan};
-use llrp_tree::{Node, NodeFault};
+use llrp_tree::{KindSet, Node, NodeFault};
 use std::alloc::Global;
 use std::test::*;
 use test_devices::{decoded, octets};
@@ -348,6 +348,34 @@ fn the_plan_of_a_text(rt: HostRuntime) -> Result<(), Fail> {
         assert!(rt; !plan.cleans() && plan.reports() == 0);
         assert!(rt; plan.rospec().length() == 67);
     }
+    Ok(())
+}
+
+/// The lines of a ROSpec that only the whole standard has, with an RFSurveySpec in place of an AISpec, and the ADD_ROSPEC of it.
+const SURVEY: &[u8] =
+    b"1 ROSpec 9 3 0\n2 ROBoundarySpec\n3 ROSpecStartTrigger 0\n3 ROSpecStopTrigger 0 0\n\
+2 RFSurveySpec 1 865700 866300\n3 RFSurveySpecStopTrigger 0 0 0\n";
+
+const SURVEY_ADDED: &str =
+    "0414 00000041 00000001 00B1003700000009 0300 00B20012 00B3000500 00B600090000000000 00BB001B0001000D35A4000D37FC 00BC000D000000000000000000";
+
+#[test]
+fn the_plan_of_a_text_of_the_whole_standard(rt: HostRuntime) -> Result<(), Fail> {
+    let alloc = rt.alloc();
+    let parsed = Plan::parse_in(alloc, KindSet::Standard, SURVEY, 0, true).ok();
+    assert!(rt; parsed.is_some());
+    if let Some(plan) = parsed {
+        assert!(rt; plan.rospec_id() == 9 && plan.is_checked() && plan.disables());
+        let mut gathering = Gathering::new(alloc, plan, 65_536);
+        let (mut out, mut report) = (Vec::new(alloc), Vec::new(alloc));
+        let connected = octets(alloc, &[CONNECTED])?;
+        let fed = gathering.feed(connected.as_slice(), &mut out, &mut report);
+        assert!(rt; fed == Ok(false) && report.as_slice().is_empty());
+        assert!(rt; out.as_slice() == octets(alloc, &[SURVEY_ADDED])?.as_slice());
+    }
+    let refused = Plan::parse(alloc, SURVEY, 0, true).err();
+    let reason = Refusal::Name;
+    assert!(rt; refused == Some(PlanErr::Line { line: 5, reason }));
     Ok(())
 }
 

@@ -1,7 +1,8 @@
 //! A client that runs day and night: lines with the host's time, what is odd, and the end of the time.
 
 use crate::gathering::{CONNECTED, ENABLE};
-use llrp_endpoints::{Watcher, marked_lines, run_watching};
+use llrp_endpoints::{TagLister, Watcher, marked_lines, run_watching};
+use llrp_listing::Text;
 use llrp_tool::{Gathering, LineForm, Output, Plan, Summary, ToolErr, standard_plan};
 use std::alloc::{AllocError, Global};
 use std::test::*;
@@ -86,6 +87,46 @@ fn objects_with_a_moment(rt: HostRuntime) -> Result<(), Fail> {
     assert!(rt; text.as_slice() == MARKED);
     let bare = marked_lines(rt.alloc(), LineForm::Full, 0, None, b"{\"epc\":\"a\"}\n")?;
     assert!(rt; bare.as_slice() == BARE);
+    Ok(())
+}
+
+/// A report of a tag with C1G2-PC, the result of a read and a maker's Custom parameter, beside one of the report's own, in two pieces; a frame
+/// with an octet too many and a report with no tag; a report of a tag without such; and a length field of 9, after which nothing is read.
+static REPORTED: [(&str, &str, &str); 6] = [
+    ("043D00000047", "", ""),
+    (
+        "00000001 00F00031 8D3074257BF7194E4000001A85 810001 86C4 8C3000 015D000B 00 0001 0001 E200 03FF000D 0000651A 00000025 AA 03FF000C 0000651A 00000026",
+        "{\"epc\":\"urn:epc:tag:sgtin-96:3.0614141.812345.6789\",\"antenna\":1,\"rssi\":-60,\"C1G2-PC\":12288,\"parameters\":[{\"parameter\":\"C1G2ReadOpSpecResult\",\"Result\":0,\"OpSpecID\":1,\"words\":[57856]},{\"parameter\":\"Custom\",\"VendorIdentifier\":25882,\"ParameterSubtype\":37,\"octets\":\"aa\"}]}\n",
+        "urn:epc:tag:sgtin-96:3.0614141.812345.6789 1 -60\n",
+    ),
+    ("043E0000000B0000000900 043D0000000A00000002", "", ""),
+    (
+        "043D0000001E00000003 00F00014 8D3074257BF7194E4000001A85 810001",
+        "{\"epc\":\"urn:epc:tag:sgtin-96:3.0614141.812345.6789\",\"antenna\":1}\n",
+        "urn:epc:tag:sgtin-96:3.0614141.812345.6789 1 -\n",
+    ),
+    ("043D00000009", "", ""),
+    (
+        "043D0000001E00000003 00F00014 8D3074257BF7194E4000001A85 810001",
+        "",
+        "",
+    ),
+];
+
+#[test]
+fn all_of_the_tags_of_a_stream(rt: HostRuntime) -> Result<(), Fail> {
+    let alloc = rt.alloc();
+    let mut full = TagLister::new(alloc, LineForm::Full, 65_536);
+    let mut words = TagLister::new(alloc, LineForm::Tags, 65_536);
+    assert!(rt; full.form() == LineForm::Full && words.form() == LineForm::Tags);
+    for (piece, objects, texts) in &REPORTED {
+        let piece = octets(alloc, &[*piece])?;
+        let (mut lines, mut others) = (Text::new(alloc), Text::new(alloc));
+        full.feed(piece.as_slice(), &mut lines)?;
+        words.feed(piece.as_slice(), &mut others)?;
+        assert!(rt; lines.as_slice() == objects.as_bytes(), "{objects}");
+        assert!(rt; others.as_slice() == texts.as_bytes(), "{texts}");
+    }
     Ok(())
 }
 

@@ -1,4 +1,4 @@
-//! Tests of `tag_keys` and `tag_forms`: worked examples of the EPC Tag Data Standard, and texts that a rule refuses.
+//! Tests of `tag_keys`, `tag_schemes` and `tag_forms`: worked examples of the EPC Tag Data Standard, and texts that a rule refuses.
 #![tactic(auto)]
 
 #[cfg(test)]
@@ -7,3 +7,5 @@ mod forms;
 mod keys;
 #[cfg(test)]
 mod lists;
+#[cfg(test)]
+mod schemes;

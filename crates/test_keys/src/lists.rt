@@ -131,3 +131,49 @@ fn objects_of_texts(rt: HostRuntime) -> Result<(), Fail> {
     }
     Ok(())
 }
+
+/// Texts, forms, and the objects of these forms: of words with and without the form, of a word without an EPC, and of texts that are
+/// refused.
+const MEMBERS: [(&str, Form, &str); 6] = [
+    (
+        "3074257BF7194E4000001A85",
+        Form::Key,
+        "{\"key\":\"gtin 80614141123458 6789\"}",
+    ),
+    (
+        "(01)80614141123458(21)6789",
+        Form::Hex,
+        "{\"hex\":\"3074257BF7194E4000001A85\"}",
+    ),
+    (
+        "340000000000000000000000",
+        Form::Tag,
+        "{\"tag\":\"urn:epc:raw:96.x340000000000000000000000\",\"reason\":\"Header\",\"bit\":0}",
+    ),
+    (
+        "340000000000000000000000",
+        Form::Pure,
+        "{\"refused\":\"NoEpc\"}",
+    ),
+    (
+        "340000000000000000000000",
+        Form::Key,
+        "{\"refused\":\"NoKey\"}",
+    ),
+    (
+        "(01)80614141123451(21)6789",
+        Form::Hex,
+        "{\"refused\":\"Check\",\"right\":\"8\"}",
+    ),
+];
+
+#[test]
+fn objects_of_forms(rt: HostRuntime) -> Result<(), Fail> {
+    for (text, form, object) in MEMBERS {
+        let mut answers = Vec::new(rt.alloc());
+        let refused = push_wanted(&mut answers, text, Wanted::Member(form), 3, Some(7))?;
+        assert_eq!(rt; answers.as_slice(), object.as_bytes());
+        assert_eq!(rt; refused, object.as_bytes().starts_with(b"{\"refused"));
+    }
+    Ok(())
+}

@@ -1,12 +1,12 @@
 //! Commands from their words to their exit statuses.
 
 use crate::usage::{
-    ENCODE_HELP, EPC_HELP, HELP, INVENTORY_HELP, LOOP_HELP, NO_COMMAND, NO_PORT, NO_SUCH_COMMAND,
-    NO_SUCH_FLAG, NO_TEXT, PORT_ZERO, SHOW_HELP, SIM_HELP,
+    ENCODE_HELP, EPC_HELP, HELP, INVENTORY_HELP, LOOP_HELP, NO_COMMAND, NO_JSON, NO_PORT,
+    NO_SUCH_COMMAND, NO_SUCH_FLAG, NO_TEXT, PORT_ZERO, SHOW_HELP, SIM_HELP,
 };
 use llrp_tool::{
-    Input, NetworkCommand, Output, PlanWords, SimWords, ToolErr, network_command, reads_input,
-    run_command,
+    Input, NetworkCommand, Output, PlanWords, SimWords, ToolErr, files_asked, network_command,
+    reads_input, run_command,
 };
 use std::alloc::Global;
 use std::test::*;
@@ -68,7 +68,7 @@ type CommandRow = (
     &'static [u8],
 );
 
-static COMMAND_ROWS: [CommandRow; 40] = [
+static COMMAND_ROWS: [CommandRow; 43] = [
     (
         &["explain", "--hex"],
         b"083E0000000A00000007",
@@ -116,6 +116,27 @@ fault at bit 96, octet 12: ParamLength: a length below 4, or past the end of the
     ),
     (
         &["show", "--json"],
+        b"\x08\x3e\0\0\0\x0a\0\0\0\x07\x08",
+        1,
+        b"{\"message\":\"KEEPALIVE\",\"version\":2,\"id\":7}\n{\"rest\":1}\n",
+        b"",
+    ),
+    (
+        &["show", "--names", "standard", "--hex", "--json"],
+        b"04030000001400000006 80 00DC0009 01 00000064",
+        0,
+        b"{\"message\":\"SET_READER_CONFIG\",\"version\":1,\"id\":6,\"ResetToFactoryDefault\":1,\"parameters\":[{\"parameter\":\"KeepaliveSpec\",\"KeepaliveTriggerType\":1,\"PeriodicTriggerValue\":100}]}\n",
+        b"",
+    ),
+    (
+        &["show", "--json", "--hex", "--names", "profile"],
+        b"04030000001400000006 80 00DC0009 01 00000064",
+        0,
+        b"{\"message\":\"SET_READER_CONFIG\",\"version\":1,\"id\":6,\"ResetToFactoryDefault\":1,\"parameters\":[{\"parameter\":\"KeepaliveSpec\",\"Type\":1,\"Period\":100}]}\n",
+        b"",
+    ),
+    (
+        &["show", "--json", "--names", "standard"],
         b"\x08\x3e\0\0\0\x0a\0\0\0\x07\x08",
         1,
         b"{\"message\":\"KEEPALIVE\",\"version\":2,\"id\":7}\n{\"rest\":1}\n",
@@ -405,10 +426,12 @@ fn help_goes_to_the_output(rt: HostRuntime) {
 }
 
 /// Words that are not a command, and what is said of them.
-static FAULT_ROWS: [(&[&str], &[u8]); 6] = [
+static FAULT_ROWS: [(&[&str], &[u8]); 8] = [
     (&[], NO_COMMAND),
     (&["survey"], NO_SUCH_COMMAND),
     (&["show", "--bytes"], NO_SUCH_FLAG),
+    (&["show", "--names", "standard"], NO_JSON),
+    (&["show", "--json", "--names", "Standard"], NO_JSON),
     (&["epc"], NO_TEXT),
     (&["sim", "0"], PORT_ZERO),
     (&["inventory", "localhost"], NO_PORT),
@@ -475,6 +498,8 @@ static NETWORK_ROWS: [(&[&str], NetworkCommand); 12] = [
             port: 5084,
             plan: NO_WORDS,
             timeout: None,
+            limit: 65_536,
+            verbose: false,
         },
     ),
     (
@@ -489,6 +514,8 @@ static NETWORK_ROWS: [(&[&str], NetworkCommand); 12] = [
             "1",
             "--every=65535",
             "--reports=65535",
+            "--limit=4096",
+            "--verbose",
         ],
         NetworkCommand::Inventory {
             host: "::1",
@@ -501,6 +528,8 @@ static NETWORK_ROWS: [(&[&str], NetworkCommand); 12] = [
                 ..NO_WORDS
             },
             timeout: Some(65535),
+            limit: 4_096,
+            verbose: true,
         },
     ),
     (&["loop"], NetworkCommand::Loop { plan: NO_WORDS }),
@@ -562,6 +591,8 @@ static NETWORK_ROWS: [(&[&str], NetworkCommand); 12] = [
                 ..NO_WORDS
             },
             timeout: None,
+            limit: 65_536,
+            verbose: false,
         },
     ),
     // both --rospec and --every are read; the program refuses them together
@@ -576,6 +607,8 @@ static NETWORK_ROWS: [(&[&str], NetworkCommand); 12] = [
                 ..NO_WORDS
             },
             timeout: None,
+            limit: 65_536,
+            verbose: false,
         },
     ),
 ];
@@ -631,12 +664,38 @@ fn commands_that_read_input(rt: HostRuntime) {
     }
 }
 
+/// Words, and the files that they ask a command to read.
+static FILE_ROWS: [(&[&str], &[&str]); 10] = [
+    (&["show", "a"], &["a"]),
+    (
+        &[
+            "show", "a", "--hex", "-", "--limit", "20", "b", "--", "--json",
+        ],
+        &["a", "-", "b", "--json"],
+    ),
+    (&["show", "--json", "--names", "standard", "a"], &["a"]),
+    (&["encode", "--limit=20", "a", "a"], &["a", "a"]),
+    (&["explain", "--all", "a"], &["a"]),
+    (&["show"], &[]),
+    (&["show", "a", "--bytes"], &[]),
+    (&["show", "a", "--help"], &[]),
+    (&["ask", "localhost", "a"], &[]),
+    (&["epc", "show"], &[]),
+];
+
+#[test]
+fn files_that_commands_read(rt: HostRuntime) {
+    for (words, files) in &FILE_ROWS {
+        let asked = files_asked(rt.alloc(), words);
+        assert!(rt; asked.is_ok_and(|asked| asked.as_slice() == *files));
+    }
+}
+
 #[test]
 fn words_that_do_not_fit_are_usage_faults(rt: HostRuntime) {
     let rows = [
         ["inventory", "localhost", "5084", "5085"].as_slice(),
         ["loop", "--polls", "65536"].as_slice(),
-        ["encode", "listing"].as_slice(),
         ["show", "--limit", "9"].as_slice(),
         ["show", "--limit", "1048577"].as_slice(),
         ["encode", "--limit", "-10"].as_slice(),
@@ -645,7 +704,6 @@ fn words_that_do_not_fit_are_usage_faults(rt: HostRuntime) {
         ["epc", "--list", "--forms"].as_slice(),
         ["epc", "--forms"].as_slice(),
         ["epc", "--json", "000000000000000000000000"].as_slice(),
-        ["epc", "--list", "--json", "--to", "hex"].as_slice(),
         ["epc", "--to", "hex"].as_slice(),
         ["epc", "--to", "gtin", "000000000000000000000000"].as_slice(),
         ["epc", "--to", "hex", "--forms", "000000000000000000000000"].as_slice(),

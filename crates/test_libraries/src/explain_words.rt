@@ -6,7 +6,10 @@ use std::test::*;
 /// What `explain --help` prints.
 const EXPLAIN_HELP: &[u8] = b"Print each field of the messages of a stream, bit by bit
 
-Usage: llrp explain [OPTIONS]
+Usage: llrp explain [OPTIONS] [FILE]...
+
+Arguments:
+  [FILE]...  The files to read; without one, and for -, standard input
 
 Options:
       --hex        Read hexadecimal digits in place of bytes
@@ -14,7 +17,7 @@ Options:
       --limit <N>  The most octets that a message may have [default: 65536]
   -h, --help       Print help
 
-Reads a stream of LLRP messages on standard input, to its end, and prints for each frame
+Reads a stream of LLRP messages on standard input, or each FILE, to its end, and prints of each frame
   frame N, OCTETS octets
   BIT WIDTH LEVEL FIELD VALUE
 and a line for each field of its message in the order of the frame's bits, reserved ones, heads and

@@ -2,12 +2,14 @@
 
 use crate::json_lines::LINES;
 use json::Scratch;
-use llrp_json_read::{LinesErr, ReadErr, Reason, encode_line, read_line, run_encode_json};
+use llrp_json_read::{
+    LinesErr, ReadErr, Reason, encode_line, encode_lines, read_line, run_encode_json,
+};
 use llrp_schema::KindSet;
 use llrp_stream::{Input, Output};
 use std::alloc::Global;
 use std::test::*;
-use test_devices::spell;
+use test_devices::{octets, spell};
 
 /// Lines with their members in another order, white space and escapes, and their frames.
 static OTHERWISE: [(&str, &str); 3] = [
@@ -131,22 +133,28 @@ static RUNS: [(&str, u64, &str, Reason); 5] = [
     ),
 ];
 
-/// Whether a run stops at this line, at this path, for this reason.
-fn stops_at(alloc: Global, text: &str, number: u64, path: &str, reason: Reason) -> bool {
-    let mut source = Input::new(text.as_bytes());
-    let mut sink = Output::new(Vec::new(alloc));
-    let error = match run_encode_json(alloc, KindSet::Profile, &mut source, &mut sink, 64) {
-        Ok(()) => return false,
-        Err(error) => error,
-    };
-    match error {
-        LinesErr::Line(line) => {
+/// Whether an outcome is that of this line, at this path, for this reason.
+fn is_of_line(outcome: Result<(), LinesErr>, number: u64, path: &str, reason: Reason) -> bool {
+    match outcome {
+        Err(LinesErr::Line(line)) => {
             line.number == number
                 && line.path.as_slice() == path.as_bytes()
                 && line.reason == reason
         }
-        LinesErr::Stopped(_error) => false,
+        _ => false,
     }
+}
+
+/// Whether a run stops at this line, at this path, for this reason, and encoding the text in memory too.
+fn stops_at(alloc: Global, text: &str, number: u64, path: &str, reason: Reason) -> bool {
+    let mut source = Input::new(text.as_bytes());
+    let mut sink = Output::new(Vec::new(alloc));
+    let ran = run_encode_json(alloc, KindSet::Profile, &mut source, &mut sink, 64);
+    let mut frames = Vec::new(alloc);
+    let encoded = encode_lines(alloc, KindSet::Profile, text.as_bytes(), &mut frames, 64);
+    is_of_line(ran, number, path, reason)
+        && is_of_line(encoded, number, path, reason)
+        && sink.into_inner().as_slice() == frames.as_slice()
 }
 
 #[test]
@@ -158,4 +166,21 @@ fn runs_name_the_line_and_the_path(rt: HostRuntime) {
             text
         );
     }
+}
+
+#[test]
+fn lines_in_memory_with_ample_memory(rt: HostRuntime) -> Result<(), Fail> {
+    let alloc = rt.alloc();
+    let mut frames = Vec::new(alloc);
+    frames.push(7)?;
+    let text =
+        b"{\"id\":7,\"version\":2,\"message\":\"KEEPALIVE\"}\r\n{\"message\":\"GET_REPORT\",\"version\":1,\"id\":2}";
+    let first = encode_lines(alloc, KindSet::Profile, text, &mut frames, 10);
+    assert!(rt; first.is_ok());
+    let wanted = octets(alloc, &["07 083E0000000A00000007 043C0000000A00000002"])?;
+    assert!(rt; frames.as_slice() == wanted.as_slice());
+    let none = encode_lines(alloc, KindSet::Standard, b"", &mut frames, 10);
+    assert!(rt; none.is_ok());
+    assert!(rt; frames.as_slice() == wanted.as_slice());
+    Ok(())
 }

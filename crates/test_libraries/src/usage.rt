@@ -25,16 +25,21 @@ Options:
 
 pub const SHOW_HELP: &[u8] = b"List the messages of a stream of bytes
 
-Usage: llrp show [OPTIONS]
+Usage: llrp show [OPTIONS] [FILE]...
+
+Arguments:
+  [FILE]...  The files to read; without one, and for -, standard input
 
 Options:
-      --hex        Read hexadecimal digits in place of bytes
-      --all        Take every message and parameter of LLRP 1.1
-      --limit <N>  The most octets that a message may have [default: 65536]
-      --json       Write lines of JSON in place of the listing
-  -h, --help       Print help
+      --hex          Read hexadecimal digits in place of bytes
+      --all          Take every message and parameter of LLRP 1.1
+      --limit <N>    The most octets that a message may have [default: 65536]
+      --json         Write lines of JSON in place of the listing
+      --names <SET>  The names of fields with --json: those of the profile, or of the standard
+  -h, --help         Print help
 
-Reads a stream of LLRP messages on standard input, and prints its listing on standard output:
+Reads a stream of LLRP messages on standard input, or each FILE as a stream by itself, and prints its
+listing on standard output:
   0 NAME VERSION ID FIELDS   a message
   LEVEL NAME FIELDS TAIL     a parameter, one level below its parent
   ! ID BIT REASON            a frame that is not a message: its id, its first fault and the fault's bit
@@ -44,7 +49,9 @@ docs/errors.md explains each REASON. A frame of more octets than --limit is a fa
 1,048,576, and so are parameters nested more than 16 levels deep. So is a message or parameter that
 docs/tables.md leaves out of its set; with --all they are those of the whole standard. The status
 is 0 if all frames are messages and the last one is whole, and 1 if not. With --json each frame is one
-line of JSON in place of its lines, as docs/json.md says.
+line of JSON in place of its lines, as docs/json.md says; with --names standard its fields have the
+names that they have with --all, and with --names profile, or without it, those of their own set.
+Of several files the greatest status counts; that of a file that cannot be read is 3.
 
 Example:
   $ echo 083E0000000A00000007 | llrp show --hex
@@ -55,7 +62,10 @@ Example:
 
 pub const ENCODE_HELP: &[u8] = b"Write the bytes of a listing of messages
 
-Usage: llrp encode [OPTIONS]
+Usage: llrp encode [OPTIONS] [FILE]...
+
+Arguments:
+  [FILE]...  The files to read; without one, and for -, standard input
 
 Options:
       --hex        Write hexadecimal digits in place of bytes
@@ -64,12 +74,13 @@ Options:
       --json       Read lines of JSON in place of a listing
   -h, --help       Print help
 
-Reads a listing on standard input, a line 0 NAME VERSION ID for each message, and writes the bytes of
-the messages on standard output. A line that is refused ends the command with status 1, and is named
-on standard error with the reason, which docs/errors.md explains; so is a message of more octets than
---limit, where N is 10 to 1,048,576, or a parameter more than 16 levels deep. The names are those of
-the set of docs/tables.md, or with --all those of the whole standard. With --json it reads lines as
-show --json writes them, with the members of an object in any order; docs/json.md has the reasons.
+Reads a listing on standard input, or each FILE as a listing by itself, a line 0 NAME VERSION ID for
+each message, and writes the bytes of the messages on standard output. A line that is refused ends its
+listing with status 1, and is named on standard error with the reason, which docs/errors.md explains;
+so is a message of more octets than --limit, where N is 10 to 1,048,576, or a parameter more than
+16 levels deep. The names are those of the set of docs/tables.md, or with --all those of the whole
+standard. With --json it reads lines as show --json writes them, with the members of an object in any
+order; docs/json.md has the reasons. Of several files the greatest status counts, as for show.
 
 Example:
   $ echo 0 KEEPALIVE 2 7 | llrp encode --hex
@@ -108,7 +119,8 @@ forms. A pure identity URI and a key do not say the filter value, and a key not 
 company prefix has, so that no key is read without --prefix-digits or --prefixes. FILE has lines START
 LENGTH, which say that company prefixes that begin with START have LENGTH digits; the longest START that
 fits counts. With --list there is a line for each line of standard input, and the status is 1 if one of
-them is ! REASON. With --json, beside --forms or --list, a line is an object with a member for each form.
+them is ! REASON. With --json, beside --forms or --list, a line is an object with a member for each form,
+and beside --to with that of the form.
 
 Examples:
   $ llrp epc 3074257BF7194E4000001A85
@@ -127,7 +139,7 @@ Arguments:
   <PORT>  The port to listen on
 
 Options:
-      --all             Answer three requests outside the set besides
+      --all             Answer requests of general clients outside the set besides
       --bind <ADDRESS>  The address to listen on; without it 127.0.0.1
       --clients <N>     How many clients to serve, one after another; without it 1, and 0 for no end
       --ready           Say on standard error where it listens, once it does
@@ -140,7 +152,8 @@ Reads a script of what the reader's antennas see on standard input, to its end. 
   AFTER NOW tick                     time goes on to NOW
 
 With --all it also answers GET_READER_CAPABILITIES, GET_READER_CONFIG and GET_SUPPORTED_VERSION, with
-which general clients begin. A script does not count these.
+which general clients begin, and DELETE_ACCESSSPEC, ENABLE_ACCESSSPEC, DISABLE_ACCESSSPEC and
+GET_ACCESSSPECS, as a reader that has no AccessSpecs. A script does not count these.
 
 With --clients N it serves N clients one after another, each as a new reader by the script from its
 beginning; the exit status is the greatest of theirs. With --ready the line
@@ -170,6 +183,8 @@ Options:
       --json               Print an object of JSON for each tag and report
       --all                Take every message and parameter of LLRP 1.1
       --timeout <SECONDS>  How long the reader may be silent; without it, for ever
+      --limit <N>          The most octets that a message may have [default: 65536]
+      --verbose            Say more on standard error: what was refused, strange or passed over
   -h, --help               Print help
 
 Connects to an LLRP reader and asks it for its tags: it adds a ROSpec, enables and starts it, polls for
@@ -249,6 +264,9 @@ Options:
       --verbose              Say more on standard error: what was refused, strange or passed over
       --for <SECONDS>        End after so many seconds: stop and delete its ROSpec, and close
       --name <TEXT>          What each line of JSON has as the reader
+      --power <DBM>          The most power of its ROSpec, in dBm, as 25.5; without it the reader's own
+      --messages             Print each message of the reader as a line of JSON, in place of tags
+      --access <FILE>        Send the messages on AccessSpecs of this file too
   -h, --help                 Print help
 
 Connects to an LLRP reader and prints the tags that it sees for as long as the connection lasts. Each tag
@@ -257,13 +275,24 @@ host's time at which its report was read, and with the TEXT of --name, if that i
   {\"at\":\"2026-01-31T23:59:59.123456Z\",\"reader\":TEXT,\"epc\":..
 With --text the lines are
   TEXT ANTENNA RSSI TIME   a tag, as inventory prints it, and that time
+With --messages they are not of tags: each message of the reader, and the fault of each frame that is no
+message, is a line as show --json --all prints it with the same --limit. It cannot be given with --text.
 The reader may send every message and parameter of LLRP 1.1, as makers' Custom ones; what docs/tables.md
 leaves out of its set is left out.
 
 It first deletes the reader's ROSpec with the id of its own, so that what an earlier run left does not
 hinder it; other ROSpecs stay as they are. The ROSpec is that of FILE, as for inventory, so that --every,
---id and --antennas cannot be given. Without FILE it is one with the antennas of LIST and the id N, which
-says of each tag its antenna, channel, strength, first and last time, and how often it was seen.
+--id, --antennas and --power cannot be given. Without FILE it is one with the antennas of LIST and the id
+N, which says of each tag its antenna, channel, strength, first and last time, and how often it was seen.
+
+With --power the reader is first asked for its capabilities, and the ROSpec takes the greatest power of
+its table that is not above DBM, a number with at most two decimals; write a negative one as --power=-1.
+If the table has none that low, the run ends with the line llrp: power least N, of the least that it has,
+and status 1.
+
+With --access the messages on AccessSpecs that its FILE lists, as show --all prints them, are sent besides:
+those that delete one AccessSpec before each DELETE_ROSPEC, and all others before ENABLE_ROSPEC. If the
+reader refuses to add, enable or disable one, the run ends with the line llrp: status N and status 1.
 
 The reader is asked for a KEEPALIVE every so often. If it sends nothing for three times as long, the run
 ends with the line llrp: read and status 3; if it takes nothing for as long, with llrp: write and status
@@ -375,9 +404,16 @@ Usage: llrp epc <TEXT>
 For more information, try '--help'.
 ";
 
+pub const NO_JSON: &[u8] = b"error: show takes --json --names profile, or --json --names standard
+
+For more information, try '--help'.
+";
+
 pub const NO_SUCH_FLAG: &[u8] = b"error: unexpected argument '--bytes' found
 
-Usage: llrp show [OPTIONS]
+  tip: to pass '--bytes' as a value, use '-- --bytes'
+
+Usage: llrp show [OPTIONS] [FILE]...
 
 For more information, try '--help'.
 ";

@@ -19,6 +19,9 @@ const NO_WORDS: WatchWords<'static> = WatchWords {
     verbose: false,
     seconds: None,
     name: None,
+    power: None,
+    messages: false,
+    access: None,
 };
 
 /// Words of `watch` and `stop`, and those commands.
@@ -50,6 +53,10 @@ static ROWS: [(&[&str], NetworkCommand); 5] = [
             "--for=4294967295",
             "--name",
             "dock \"1\"",
+            "--power=-0.5",
+            "--messages",
+            "--access",
+            "tid.access",
         ],
         NetworkCommand::Watch {
             host: "[::1]:5085",
@@ -66,6 +73,9 @@ static ROWS: [(&[&str], NetworkCommand); 5] = [
                 verbose: true,
                 seconds: Some(4294967295),
                 name: Some("dock \"1\""),
+                power: Some("-0.5"),
+                messages: true,
+                access: Some("tid.access"),
             },
         },
     ),
