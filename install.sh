@@ -35,7 +35,7 @@ for page in client errors json recipes sim tables; do
     files+=("644 docs/$page.md share/doc/llrp/$page.md")
 done
 for example in inventory.pcap inventory.script keepalive.hex report.hex report.txt requests.txt rospec.txt seen.awk shift.txt \
-    sightings.script two_antennas.rospec c/tags.c python/async_client.py python/client.py; do
+    sightings.script tid.access two_antennas.rospec c/tags.c python/async_client.py python/client.py; do
     files+=("644 examples/$example share/doc/llrp/examples/$example")
 done
 # The link by which cc finds the library, and what is written anew: what pkg-config says of the library, and the unit, with the program's

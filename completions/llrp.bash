@@ -4,24 +4,26 @@ _llrp() {
     COMPREPLY=()
     case ${COMP_WORDS[COMP_CWORD - 1]} in
         # a file, which readline completes where nothing is found here
-        *'<' | *'>' | --rospec | --prefixes | --save) return ;;
+        *'<' | *'>' | --rospec | --prefixes | --save | --access) return ;;
         # a number, a text, or a list
-        --limit | --antennas | --every | --polls | --reports | --timeout | --id | --keepalive | --again | --for | --name | --bind | --clients | --prefix-digits | --filter)
+        --limit | --antennas | --every | --polls | --reports | --timeout | --id | --keepalive | --again | --for | --name | --power | --bind | --clients | --prefix-digits | --filter)
             compopt +o default
             return
             ;;
     esac
     if [ "${COMP_WORDS[COMP_CWORD - 1]}" = --to ]; then
         words='tag pure element link hex key'
+    elif [ "${COMP_WORDS[COMP_CWORD - 1]}" = --names ]; then
+        words='profile standard'
     elif [ "$COMP_CWORD" -eq 1 ]; then
         words='show encode epc fields explain sim inventory loop watch stop ask help --help --version'
     else
         case ${COMP_WORDS[1]} in
-            show) words='--hex --all --json --limit --help' ;;
+            show) words='--hex --all --json --names --limit --help' ;;
             encode) words='--hex --all --json --limit --help' ;;
-            inventory) words='--rospec --every --polls --reports --check --clean --json --all --timeout --help' ;;
+            inventory) words='--rospec --every --polls --reports --check --clean --json --all --timeout --limit --verbose --help' ;;
             loop) words='--rospec --every --polls --reports --check --clean --json --all --help' ;;
-            watch) words='--rospec --id --every --keepalive --again --text --antennas --limit --save --verbose --for --name --help' ;;
+            watch) words='--rospec --id --every --keepalive --again --text --antennas --limit --save --verbose --for --name --power --messages --access --help' ;;
             stop) words='--rospec --id --timeout --help' ;;
             ask) words='--json --timeout --go-on --raw --help' ;;
             sim) words='--all --bind --clients --ready --help' ;;

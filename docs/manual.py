@@ -31,6 +31,7 @@ cc program.c $(pkg\-config \-\-cflags \-\-libs llrp)
 COMMENT = r"/\* ((?:(?!\*/)[\s\S])*?)\s*\*/\n"
 FUNCTION = re.compile(COMMENT + r"(\w+) (llrp_\w+)\(([^)]*)\);")
 CONSTANTS = re.compile(COMMENT + r"((?:#define LLRP_\w+ \d+\n)+)")
+STRUCT = re.compile(COMMENT + r"(struct llrp_\w+) \{\n([^}]*)\};")
 
 
 def text(words):
@@ -102,6 +103,14 @@ def constants(header):
         yield from (".Pp", *text(about), *tagged(((f"Dv {name}", number) for name, number in rows), "LLRP_WORD_OCTETS"))
 
 
+def structs(header):
+    """Returns the structs, with what the header says of each and of its members."""
+    for about, name, members in STRUCT.findall(header):
+        rows = re.findall(r"(?m)^ +(\w+) (\w+)(\[\d+\])?; +/\* (.*) \*/$", members)
+        entries = ((f"Vt {kind} {member}{count}", words) for kind, member, count, words in rows)
+        yield from (f".Ss {name}", *section([".Pp", *text(about)]), *tagged(entries, "uint64_t_first_seen"))
+
+
 def page(header):
     """Returns the manual page for a header."""
     functions = FUNCTION.findall(header)
@@ -111,7 +120,7 @@ def page(header):
     lines += [f".Nd {about}", ".Sh SYNOPSIS", ".In llrp.h", *synopsis(functions), ".Sh DESCRIPTION", *described(rules)]
     for comment, _, name, _ in functions:
         lines += [f".Ss {name}", *described(comment)]
-    lines += [".Ss Constants", *section(constants(header)), ".Sh RETURN VALUES", "How a call ends:", *statuses(header), *END]
+    lines += [*structs(header), ".Ss Constants", *section(constants(header)), ".Sh RETURN VALUES", "How a call ends:", *statuses(header), *END]
     return "\n".join(lines) + "\n"
 
 
