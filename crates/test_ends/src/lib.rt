@@ -9,6 +9,8 @@ mod answers;
 #[cfg(test)]
 mod both_ends;
 #[cfg(test)]
+mod canned;
+#[cfg(test)]
 mod client;
 #[cfg(test)]
 mod client_steps;

@@ -1,0 +1,4 @@
+pub mod AnswerLemmas
+pub mod FileLemmas
+pub mod FormLemmas
+pub mod LineLemmas
