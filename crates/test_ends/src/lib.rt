@@ -37,4 +37,6 @@ mod serve;
 #[cfg(test)]
 mod serve_devices;
 #[cfg(test)]
+mod versions;
+#[cfg(test)]
 mod watched;
