@@ -3,6 +3,7 @@
 
 mod access;
 mod asking;
+mod captures;
 mod messages;
 mod part_counter;
 mod streams;

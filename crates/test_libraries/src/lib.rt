@@ -9,6 +9,8 @@ mod ask_words;
 #[cfg(test)]
 mod asking;
 #[cfg(test)]
+mod captures;
+#[cfg(test)]
 mod commands;
 #[cfg(test)]
 mod devices;

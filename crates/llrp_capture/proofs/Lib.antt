@@ -1,0 +1,4 @@
+pub mod WindowLemmas
+pub mod SideLemmas
+pub mod RowLemmas
+pub mod LawLemmas

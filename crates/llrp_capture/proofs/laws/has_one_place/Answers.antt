@@ -1,0 +1,5 @@
+use Rattle.llrp_capture.proofs.LawLemmas.{has_one_place}
+use Rattle.llrp_capture.proofs.laws.has_one_place.Goals as goal
+
+pub returns : goal.returns
+returns c = has_one_place
