@@ -1,0 +1,3 @@
+pub mod VisibleTexts
+pub mod LineLemmas
+pub mod TextSteps

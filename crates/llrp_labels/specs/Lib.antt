@@ -1,0 +1,3 @@
+pub mod LabelledLines
+pub mod LabelledTexts
+pub mod Private
