@@ -1,3 +1,4 @@
 pub mod LabelledLines
 pub mod LabelledTexts
+pub mod LabelledRuns
 pub mod Private

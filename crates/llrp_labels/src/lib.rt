@@ -1,8 +1,9 @@
 //! Listings with labels: the texts of words in the set of all schemes, and the keys of EPCs after them (EPC Tag Data Standard 1.13,
 //! sections 7 and 12).
 //!
-//! Use it to show what a stock system knows beside a reader's words, and to read such a listing back. [`list_labelled`] writes the
-//! listing of a stream with labels; [`label_text`] labels a listing, and [`plain_text`] takes the labels off, line by line.
+//! Use it to show what a stock system knows beside a reader's words, and to read such a listing back. [`list_labelled`] and
+//! [`run_show_labelled`] write the listing of a stream with labels; [`label_text`] labels a listing, [`plain_text`] takes the labels
+//! off, line by line, and [`read_plain`] those of a listing that a source gives.
 //!
 //! ```
 //! let labels = Labels { schemes: false, keys: true };
@@ -18,10 +19,12 @@ mod last_word;
 pub mod laws;
 mod listing;
 mod plain;
+mod runs;
 mod texts;
 mod word;
 
-pub use fault::{LabelFault, PlainErr};
+pub use fault::{LabelErr, LabelFault, PlainErr};
 pub use labels::Labels;
 pub use listing::list_labelled;
+pub use runs::{read_plain, run_show_labelled};
 pub use texts::{label_text, plain_text};
