@@ -1,10 +1,10 @@
 -- Results that say that their operations were done.
-use Rattle.std.proofs.Common.{◌≡◌, ◌∙◌, ℕ, zero, suc, List, [], ◌∷◌, Bool, true, false, if◌then◌else◌, ◌&&◌, ◌+◌, ◌≤◌, drop, length, nat_eq, refl, sym, ap, subst, rules, filter, arith}
+use Rattle.std.proofs.Common.{◌≡◌, ◌∙◌, ℕ, zero, suc, List, [], ◌∷◌, Bool, true, false, if◌then◌else◌, ◌&&◌, ◌+◌, ◌≤◌, drop, length, nat_eq, refl, sym, subst, rules, filter, arith}
 use Rattle.std.proofs.lemmas.List.{at_drop_all}
 use Rattle.llrp_tree.specs.Tree.{Tree, trees}
 use Rattle.llrp_operations.specs.declared.operation.Operation.{Operation}
-use Rattle.llrp_operations.specs.Calls.Results.{are_of, field_at, has_succeeded, is_none_left, is_parameter, is_result, result_kind, say_done, says_done}
-use Rattle.llrp_operations.specs.Calls.Laws.{AreDone, IsDone, SaysWhatSucceeds, Succeeds}
+use Rattle.llrp_operations.specs.Calls.Results.{are_of, is_none_left, is_result, say_done, says_done}
+use Rattle.llrp_operations.specs.Calls.Laws.{AreDone, IsDone, SaysWhatSucceeds}
 
 -- ---- one result
 
@@ -25,7 +25,7 @@ none_done id [] h = tt
 none_done id (o ∷ os) h = absurd (search (rules, h))
 
 -- what is said of a parameter that is a result or not, and of those after it
-abbrev kept : Bool → Tree → List Tree → List Tree
+abbrev pub kept : Bool → Tree → List Tree → List Tree
 kept true t ts = t ∷ ts
 kept false t ts = ts
 
@@ -58,7 +58,7 @@ said_is : (id : ℕ) (os : List Operation) (t : Tree) (ts : List Tree) → say_d
 said_is id [] t ts = said_none (is_result t) id t ts
 said_is id (o ∷ os) t ts = said_some (is_result t) id o os t ts
 
-kept_is : (t : Tree) (ts : List Tree) → filter is_result (t ∷ ts) ≡ kept (is_result t) t (filter is_result ts)
+pub kept_is : (t : Tree) (ts : List Tree) → filter is_result (t ∷ ts) ≡ kept (is_result t) t (filter is_result ts)
 kept_is t ts = kept_by (is_result t) t (filter is_result ts)
 
 sound : (id : ℕ) (os : List Operation) (ts : List Tree) → say_done id os ts ≡ true → AreDone id os (filter is_result ts)

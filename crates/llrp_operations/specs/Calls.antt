@@ -1,4 +1,9 @@
 -- What public contracts say that no promise of README rests on.
+pub mod Changes
+pub mod Course
+pub mod Inventory
 pub mod Laws
 pub mod Operations
+pub mod ResultNames
 pub mod Results
+pub mod Words

@@ -6,13 +6,25 @@
 //! in order, under the id of that AccessSpec and of the operation, and each is 0.
 #![tactic(auto)]
 
+mod change;
+mod course;
+mod inventory;
 pub mod laws;
+mod names;
 mod operation;
 mod parameters;
 mod request;
 mod results;
+mod verified;
+mod word;
 
+pub use change::{change_tag, epc_write, with_checks};
+pub use course::{Course, Demand, Heard, Outcome, Saying, Stage};
+pub use inventory::inventory_spec;
+pub use names::result_name;
 pub use operation::{LockField, LockManner, Operation};
 pub use parameters::SpecErr;
 pub use request::{LONGEST_EPC, MOST_OPERATIONS, Request, access_spec};
 pub use results::has_succeeded;
+pub use verified::is_done;
+pub use word::{WordErr, lock_of, read_of, write_of};

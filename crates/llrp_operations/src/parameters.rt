@@ -11,6 +11,10 @@ use std::alloc::{AllocError, AllocFailed, Global};
 /// Why there is no AccessSpec.
 #[derive(Clone, Copy, Debug, PartialEq, Eq)]
 pub enum SpecErr {
+    /// The EPC has more than 62 octets.
+    Epc,
+    /// There are more than 65,535 operations.
+    Operations,
     /// One of its parameters would not be lawful.
     Node(NodeFault),
     /// Memory ran out.

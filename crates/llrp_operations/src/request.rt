@@ -1,6 +1,6 @@
 //! The AccessSpec of a request.
 
-ghost use Rattle.std.specs.Prelude.{◌≡◌, ◌≤◌, ◌++◌, IfOk, OnOk, length};
+ghost use Rattle.std.specs.Prelude.{◌≡◌, ◌<◌, ◌≤◌, ◌++◌, Err, IfOk, OnOk, length};
 ghost use Rattle.llrp_operations.specs.Calls.Operations as operations;
 ghost use Rattle.llrp_operations.specs.declared.request.TheConstants.{LONGEST_EPC, MOST_OPERATIONS};
 
@@ -138,13 +138,20 @@ fn access_command(alloc: Global, request: Request<'_>) -> Result<Node, SpecErr>
 }
 
 /// The AccessSpec of a request. It is disabled at first, is for C1G2 tags that have the EPC in whole, ends after the first of them, and is
-/// reported with the tag. The OpSpecIDs of its operations count from 1. The errors are the first fault of a parameter, as of an AccessSpec
-/// without an operation, and `Memory`.
+/// reported with the tag. The OpSpecIDs of its operations count from 1. The errors are `Epc` and `Operations` for more of them than an AccessSpec
+/// can have, the first fault of a parameter, as of an AccessSpec without an operation, and `Memory`.
 pub fn access_spec(alloc: Global, request: Request<'_>) -> Result<Node, SpecErr>
-    requires epc { length request.epc.now ≤ LONGEST_EPC }
-    requires operations { length request.operations.now ≤ MOST_OPERATIONS }
-    ensures { IfOk result (λ node. node ≡ operations.access_spec request.entry) }
+    ensures spec { IfOk result (λ node. node ≡ operations.access_spec request.entry) }
+    ensures epc { LONGEST_EPC < length request.entry.epc.now → result ≡ Err SpecErr.Epc }
+    ensures operations { length request.entry.epc.now ≤ LONGEST_EPC
+        → MOST_OPERATIONS < length request.entry.operations.now → result ≡ Err SpecErr.Operations }
 {
+    if request.epc.len() > LONGEST_EPC {
+        return Err(SpecErr::Epc);
+    }
+    if request.operations.len() > MOST_OPERATIONS {
+        return Err(SpecErr::Operations);
+    }
     let stop = leaf(alloc, ParamKind::WholeAccessSpecStopTrigger, &[1, 1])?;
     let command = access_command(alloc, request)?;
     let report = leaf(alloc, ParamKind::WholeAccessReportSpec, &[0])?;

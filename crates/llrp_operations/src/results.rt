@@ -22,7 +22,7 @@ fn field_at(node: &Node, place: usize) -> u128
 }
 
 /// Whether a parameter is the result of a read, a write or a lock.
-fn is_result(node: &Node) -> bool
+pub(crate) fn is_result(node: &Node) -> bool
     ensures { result ≡ results.is_result node.now }
 {
     let reads = is_parameter(ParamKind::WholeC1G2ReadOpSpecResult, node);

@@ -1,6 +1,3 @@
-ghost use Rattle.std.specs.Prelude.{◌≤◌, length};
-ghost use Rattle.llrp_operations.specs.declared.request.TheConstants.{LONGEST_EPC, MOST_OPERATIONS};
-
 use super::*;
 use llrp_tree::{MAX_LIMIT, Message, MsgKind, Nodes, Octets, encode_into};
 use std::test::*;
@@ -22,10 +19,7 @@ const ADDED: [u8; 108] = [
 ];
 
 /// The octets of ADD_ACCESSSPEC with the AccessSpec of a request.
-fn octets_of(alloc: Global, request: Request<'_>) -> Option<Vec<u8>>
-    requires epc { length request.epc.now ≤ LONGEST_EPC }
-    requires operations { length request.operations.now ≤ MOST_OPERATIONS }
-{
+fn octets_of(alloc: Global, request: Request<'_>) -> Option<Vec<u8>> {
     let spec = access_spec(alloc, request).ok()?;
     let parts = Vec::from_array(alloc, [spec]).ok()?;
     let kind = MsgKind::WholeAddAccessSpec;

@@ -1,0 +1,71 @@
+-- Operations that follow from others, and what a tag says when they are verified.
+use Rattle.std.specs.Prelude.{◌≡◌, ℕ, ◌*◌, ◌==◌, ◌&&◌, min, Bool, true, false, if◌then◌else◌, List, [], ◌∷◌, ◌++◌, length, drop, filter, Option, Some, None}
+use Rattle.std.specs.List.{flat_map}
+use Rattle.std.specs.Str.{bytes_eq}
+use Rattle.tag_memory.specs.declared.bank.Bank.TheVariants.{Epc}
+use Rattle.llrp_tree.specs.Tree.{Tree, trees}
+use Rattle.llrp_operations.specs.declared.operation.Operation.{Operation}
+use Rattle.llrp_operations.specs.declared.operation.Operation.TheVariants.{Read, Write, Lock}
+use Rattle.llrp_operations.specs.Calls.Operations.{words_octets}
+use Rattle.llrp_operations.specs.Calls.Results.{has_succeeded, is_result}
+
+-- ---- a new EPC (EPC C1G2, section 6.3.2.1): in the EPC bank the checksum is word 0, the protocol control word 1, and the EPC begins at word 2
+
+-- the protocol control word of an EPC: its five highest bits count the EPC's words of two octets, and its others are 0
+abbrev pub control_octets : List ℕ → List ℕ
+control_octets epc = (4 * length epc) ∷ 0 ∷ []
+
+-- where writing begins, and what is written, in place of an old EPC
+abbrev pub epc_pointer : (old epc : List ℕ) → ℕ
+epc_pointer old epc = if length old == length epc then 2 else 1
+
+abbrev pub epc_octets : (old epc : List ℕ) → List ℕ
+epc_octets old epc = if length old == length epc then epc else (control_octets epc ++ epc)
+
+abbrev pub IsEpcWrite : (old epc : List ℕ) → Operation → Type 0
+IsEpcWrite old epc (Read _ _ _) = ⊥
+IsEpcWrite old epc (Write bank pointer words) = (bank ≡ Epc) × (pointer ≡ epc_pointer old epc) × (words_octets words.items ≡ epc_octets old epc)
+IsEpcWrite old epc (Lock _ _) = ⊥
+
+-- ---- verifying
+
+-- it writes or locks
+abbrev pub changes : Operation → Bool
+changes (Read _ _ _) = false
+changes (Write _ _ _) = true
+changes (Lock _ _) = true
+
+-- the read of what an operation writes
+abbrev pub check_of : Operation → List Operation
+check_of (Read _ _ _) = []
+check_of (Write bank pointer words) = Read bank pointer (min (length words.items) 65535) ∷ []
+check_of (Lock _ _) = []
+
+abbrev pub checks : List Operation → List Operation
+checks os = flat_map check_of os
+
+abbrev pub IsCheckOf : Operation → Option Operation → Type 0
+IsCheckOf o None = check_of o ≡ []
+IsCheckOf o (Some check) = check_of o ≡ check ∷ []
+
+-- each write has one of these results, in order, whose words are those that it wrote
+abbrev pub say_words : List Operation → List Tree → Bool
+say_words [] ts = true
+say_words (Read _ _ _ ∷ os) ts = say_words os ts
+say_words (Lock _ _ ∷ os) ts = say_words os ts
+say_words (Write bank pointer words ∷ os) [] = false
+say_words (Write bank pointer words ∷ os) (t ∷ ts) = bytes_eq t.tail (words_octets words.items) && say_words os ts
+
+-- after the results of these operations come those of their checks, with the words that were written
+abbrev pub is_verified : List Operation → Tree → Bool
+is_verified os tag = say_words os (drop (length os) (filter is_result (trees tag.children)))
+
+-- what is sent: the operations asked for, and where it verifies, their checks
+abbrev pub all_sent : (verifies : Bool) → List Operation → List Operation
+all_sent false os = os
+all_sent true os = os ++ checks os
+
+-- all that was asked for was done: the operations, and where it is verified, their checks, whose words are those that were written
+abbrev pub is_done : (verifies : Bool) → ℕ → List Operation → Tree → Bool
+is_done false id os tag = has_succeeded id os tag
+is_done true id os tag = has_succeeded id (os ++ checks os) tag && is_verified os tag

@@ -1,0 +1,83 @@
+//! Whether all that was asked for was done, and the words that a tag gave back.
+
+ghost use Rattle.std.specs.Prelude.{◌≡◌, ◌++◌, IfOk, drop, filter, length};
+ghost use Rattle.std.specs.Str.{bytes_eq};
+ghost use Rattle.llrp_operations.specs.Calls.Changes.{all_sent, is_done, is_verified};
+ghost use Rattle.llrp_operations.specs.Calls.Operations.{words_octets as the_octets};
+ghost use Rattle.llrp_operations.specs.Calls.Results as results;
+ghost use Rattle.llrp_operations.specs.Private.Results.{IsHeadAt};
+ghost use Rattle.llrp_tree.specs.Tree.{trees};
+
+use crate::operation::Operation;
+use crate::parameters::{SpecErr, words_octets};
+use crate::results::{has_succeeded, is_result};
+use llrp_tree::Node;
+use std::alloc::Global;
+
+/// The result that comes after so many others among parameters.
+pub(crate) fn result_at(nodes: &[Node], place: usize) -> Option<&Node>
+    ensures { IsHeadAt place (filter results.is_result nodes.now) result }
+{
+    let mut left = place;
+    for node in nodes {
+        if is_result(node) {
+            if left == 0 {
+                return Some(node);
+            }
+            left -= 1;
+        }
+    }
+    None
+}
+
+/// Whether the tail of a parameter is these words.
+fn has_words(alloc: Global, node: &Node, words: &[u16]) -> Result<bool, SpecErr>
+    ensures { IfOk result (λ has. has ≡ bytes_eq node.now.tail (the_octets words.now)) }
+{
+    let octets = words_octets(alloc, words)?;
+    Ok(node.tail().as_slice() == octets.as_slice())
+}
+
+/// Whether TagReportData gives back, after the results of these operations, the words that each of them wrote, in order.
+fn are_verified(alloc: Global, operations: &[Operation], tag: &Node) -> Result<bool, SpecErr>
+    ensures { IfOk result (λ are. are ≡ is_verified operations.now tag.now) }
+{
+    let said = tag.children().as_slice();
+    let mut place = operations.len();
+    for operation in operations {
+        if let Operation::Write { words, .. } = operation {
+            let Some(node) = result_at(said, place) else {
+                return Ok(false);
+            };
+            if !has_words(alloc, node, words.as_slice())? {
+                return Ok(false);
+            }
+            place += 1;
+        }
+    }
+    Ok(true)
+}
+
+/// Whether TagReportData says that the AccessSpec with this id did all that was asked for. `sent` are its operations: those asked for, and
+/// where it verifies, their checks ([`crate::with_checks`]), whose words then have to be those that were written. The error is that memory
+/// ran out.
+pub fn is_done(
+    alloc: Global,
+    id: u32,
+    asked: &[Operation],
+    sent: &[Operation],
+    verifies: bool,
+    tag: &Node,
+) -> Result<bool, SpecErr>
+    requires { sent.now ≡ all_sent verifies asked.now }
+    ensures { IfOk result (λ is. is ≡ is_done verifies id asked.now tag.now) }
+{
+    if !has_succeeded(id, sent, tag) {
+        return Ok(false);
+    }
+    if verifies {
+        are_verified(alloc, asked, tag)
+    } else {
+        Ok(true)
+    }
+}
