@@ -3,6 +3,7 @@ pub mod Changes
 pub mod Course
 pub mod Inventory
 pub mod Laws
+pub mod Messages
 pub mod Operations
 pub mod ResultNames
 pub mod Results

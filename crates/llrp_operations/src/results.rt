@@ -8,14 +8,14 @@ use llrp_schema::{Kind, number};
 use llrp_tree::{Node, ParamKind};
 
 /// Whether a parameter is of a kind.
-fn is_parameter(kind: ParamKind, node: &Node) -> bool
+pub(crate) fn is_parameter(kind: ParamKind, node: &Node) -> bool
     ensures { result ≡ results.is_parameter kind node.now }
 {
     number(Kind::Parameter(node.kind())) == number(Kind::Parameter(kind))
 }
 
 /// The field at a place of a parameter; 0 if it has none.
-fn field_at(node: &Node, place: usize) -> u128
+pub(crate) fn field_at(node: &Node, place: usize) -> u128
     ensures { result ≡ results.field_at place node.now }
 {
     node.fields().get(place).copied().unwrap_or(0)
@@ -67,7 +67,7 @@ fn say_done(operations: &[Operation], nodes: &[Node]) -> bool
 }
 
 /// Whether these parameters are of an AccessSpec with this id, by the first that says one.
-fn are_of(id: u32, nodes: &[Node]) -> bool
+pub(crate) fn are_of(id: u32, nodes: &[Node]) -> bool
     ensures { result ≡ results.are_of id nodes.now }
 {
     for node in nodes {
